@@ -1,0 +1,6 @@
+pub mod Content
+pub mod Moments
+pub mod Cause
+pub mod Crash
+pub mod Order
+pub mod Tree

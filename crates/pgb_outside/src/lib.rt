@@ -1,0 +1,16 @@
+//! The outside: the objects that are handed to the program, and what their calls mean.
+#![tactic(auto)]
+
+mod devices;
+mod disk;
+mod not_there;
+mod sink;
+mod stop;
+mod tree;
+
+pub use devices::{Aside, Clock, Files, Link, Locks, Source, Take, TurnStop, Turns, Wire};
+pub use disk::{Disk, Found};
+pub use not_there::NotThere;
+pub use sink::Sink;
+pub use stop::Stop;
+pub use tree::{Known, Node, Seen, Tree};

@@ -1,0 +1,164 @@
+// An object that isn't there: each call that can fail does, and raises its count.
+ghost use Rattle.std.specs.Prelude.{None, false, []};
+
+use crate::{Aside, Clock, Disk, Files, Found, Link, Locks, Source, Stop, Take, TurnStop, Wire};
+use std::alloc::Global;
+
+/// Stands for an object that no command calls.
+#[derive(Drop)]
+pub struct NotThere {
+    faults: u64,
+}
+
+impl NotThere {
+    ghost use Rattle.std.specs.Prelude.{◌≡◌, ◌≤◌};
+    ghost use Rattle.pgb_outside.specs.Cause.{Rises};
+
+    pub fn new() -> Self {
+        NotThere { faults: 0 }
+    }
+
+    fn fail<T>(&mut self) -> Result<T, Stop>
+        ensures later { self.old.faults ≤ self.new.faults }
+        ensures rises { Rises self.old.faults self.new.faults }
+        ensures failed { result ≡ Err Stop.Failed }
+    {
+        self.faults = self.faults.saturating_add(1);
+        Err(Stop::Failed)
+    }
+}
+
+impl Disk for NotThere {
+    ghost view = { λ _. record { now = None; moment = 0; kept = λ _ _ _. ⊥; loose = λ _ _. false } };
+
+    ghost faults = { λ it. it.faults };
+
+    ghost misuses = { λ _. 0 };
+
+    ghost place = { λ _. [] };
+
+    ghost now_may_be_left = { λ d n v h. absurd h };
+
+    fn open(&mut self, _path: &str) -> Result<(), Stop> {
+        self.fail()
+    }
+
+    fn names(&mut self, _alloc: Global, _folder: &str) -> Result<Vec<Found>, Stop> {
+        self.fail()
+    }
+
+    fn read(&mut self, _name: &str, _at: u64, _buf: &mut [u8]) -> Result<Option<usize>, Stop> {
+        self.fail()
+    }
+
+    fn begin(&mut self, _name: &str) -> Result<(), Stop> {
+        self.fail()
+    }
+
+    fn append(&mut self, _name: &str, _bytes: &[u8]) -> Result<(), Stop> {
+        self.fail()
+    }
+
+    fn sync(&mut self, _name: &str) -> Result<(), Stop> {
+        self.fail()
+    }
+
+    fn rename(&mut self, _from: &str, _to: &str) -> Result<(), Stop> {
+        self.fail()
+    }
+
+    fn remove(&mut self, _name: &str) -> Result<(), Stop> {
+        self.fail()
+    }
+
+    fn settle(&mut self, _folder: &str) -> Result<(), Stop> {
+        self.fail()
+    }
+}
+
+impl Wire for NotThere {
+    ghost faults = { λ it. it.faults };
+
+    fn open(&mut self, _path: &str) -> Result<(), Stop> {
+        self.fail()
+    }
+
+    fn send(&mut self, _bytes: &[u8]) -> Result<(), Stop> {
+        self.fail()
+    }
+
+    fn receive(&mut self, _buf: &mut [u8]) -> Result<usize, Stop> {
+        self.fail()
+    }
+}
+
+impl Link for NotThere {
+    ghost faults = { λ it. it.faults };
+
+    fn send(&mut self, _bytes: &[u8]) -> Result<(), Stop> {
+        self.fail()
+    }
+
+    fn receive(&mut self, _buf: &mut [u8]) -> Result<usize, Stop> {
+        self.fail()
+    }
+}
+
+impl Clock for NotThere {
+    ghost faults = { λ it. it.faults };
+
+    fn now(&mut self) -> Result<u64, Stop> {
+        self.fail()
+    }
+
+    fn wait_past(&mut self, _second: u64) -> Result<(), Stop> {
+        self.fail()
+    }
+}
+
+impl Locks for NotThere {
+    ghost faults = { λ it. it.faults };
+
+    fn take(&mut self, _folder: &str, _name: &str) -> Result<Take, Stop> {
+        self.fail()
+    }
+
+    fn release(&mut self, _name: &str) {}
+}
+
+impl Source for NotThere {
+    ghost faults = { λ it. it.faults };
+
+    fn open(&mut self, _path: &str) -> Result<bool, Stop> {
+        self.fail()
+    }
+
+    fn read(&mut self, _buf: &mut [u8]) -> Result<usize, Stop> {
+        self.fail()
+    }
+}
+
+impl Files for NotThere {
+    ghost faults = { λ it. it.faults };
+
+    fn open(&mut self, _root: &str) -> Result<(), Stop> {
+        self.fail()
+    }
+
+    fn read(&mut self, _name: &str, _at: u64, _buf: &mut [u8]) -> Result<Option<usize>, Stop> {
+        self.fail()
+    }
+}
+
+impl<D: Disk, S: Disk> Aside<D, S> for NotThere {
+    ghost faults = { λ it. it.faults };
+
+    fn turn(&mut self, _repo: &mut D, _spool: &mut S) -> Result<(), TurnStop> {
+        self.faults = self.faults.saturating_add(1);
+        Err(TurnStop::NoMemory)
+    }
+
+    fn start(&mut self, _words: &[String]) -> Result<(), Stop> {
+        self.fail()
+    }
+}
