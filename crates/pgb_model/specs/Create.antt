@@ -1,5 +1,5 @@
 -- The writes of a new stanza.
-use Rattle.std.specs.Prelude.{◌≡◌, List, [], ◌∷◌, Option, Some, None, Bool, ◌&&◌, is_none}
+use Rattle.std.specs.Prelude.{List, [], ◌∷◌, Bool, ◌&&◌, is_none}
 use Rattle.pgb_outside.specs.Content.{Content}
 use Rattle.pgb_outside.specs.Crash.{Write}
 use Rattle.pgb_model.specs.declared.clusters.Cluster.{Cluster}
@@ -10,11 +10,12 @@ use Rattle.pgb_model.specs.InfoFiles.{archive_sections, backup_sections}
 use Rattle.pgb_model.specs.Values.{ArchiveInfo, BackupInfo}
 use Rattle.pgb_model.specs.Repository.{identity_of}
 
+-- the values of the two pairs: the stanza's one cluster has number 1
 abbrev pub first_archive : Cluster → ArchiveInfo
-first_archive c = record { current = c.id; history = identity_of c ∷ [] }
+first_archive c = record { current = 1; history = identity_of c ∷ [] }
 
 abbrev pub first_backup : Cluster → BackupInfo
-first_backup c = record { current = c.id; history = c ∷ []; backups = [] }
+first_backup c = record { current = 1; history = c ∷ []; backups = [] }
 
 unfoldable pub first_archive_text : Cluster → Text
 first_archive_text c = info_text (archive_sections (first_archive c))

@@ -1,5 +1,5 @@
 -- Logs of commands, the repositories that they reach, and the disks that keep them.
-use Rattle.std.specs.Prelude.{◌≡◌, ◌⊎◌, ℕ, ◌<◌, ◌≤◌, Bool, true, false, List, [], ◌∷◌, ◌++◌, Option, Some, None}
+use Rattle.std.specs.Prelude.{◌≡◌, ◌⊎◌, ◌<◌, Bool, true, false, List, [], ◌∷◌, ◌++◌, Some, None}
 use Rattle.pgb_text.specs.Sum.{IsSum, sum_text}
 use Rattle.pgb_outside.specs.Content.{Content}
 use Rattle.pgb_outside.specs.Moments.{View, is_loose}
@@ -13,7 +13,7 @@ use Rattle.pgb_model.specs.InfoFiles.{IsBackupText}
 use Rattle.pgb_model.specs.ManifestText.{IsManifestText}
 use Rattle.pgb_model.specs.Pair.{PairIs}
 use Rattle.pgb_model.specs.Place.{place}
-use Rattle.pgb_model.specs.Repository.{Drained, Stanza, Repository, IsSound}
+use Rattle.pgb_model.specs.Repository.{Repository, IsSound}
 use Rattle.pgb_model.specs.Stands.{Stands, IsArchiveFile, IsWalName}
 use Rattle.pgb_model.specs.Steps.{Step, Move, Command, after, all_of, IsPartOf, steps_of}
 

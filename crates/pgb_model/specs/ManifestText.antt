@@ -1,6 +1,5 @@
 -- The text of a manifest (pgBackRest user guide, "Backup"; the complete list of keys is this project's own).
-use Rattle.std.specs.Prelude.{◌≡◌, ◌≢◌, ◌⊎◌, ℕ, ◌+◌, ◌-◌, ◌*◌, ◌/◌, ◌%◌, ◌<◌, ◌≤◌, ◌^◌, Bool, true, false, List, [], ◌∷◌, ◌++◌, length, map, sum_by, Option, Some, None, IfSome, IsSome, is_some, codes}
-use Rattle.std.specs.List.{AllByRecursion}
+use Rattle.std.specs.Prelude.{◌≡◌, ◌≢◌, ℕ, ◌+◌, ◌*◌, ◌/◌, ◌%◌, ◌<◌, ◌≤◌, ◌^◌, true, List, [], ◌∷◌, ◌++◌, length, map, sum_by, Option, Some, None, IfSome, IsSome, is_some, codes}
 use Rattle.sha1.specs.Sha1.{sha1}
 use Rattle.serde_json.specs.Data.{Data, boolean, string, no_members, object}
 use Rattle.pgb_text.specs.Sum.{IsSum, sum_text}
@@ -8,7 +7,7 @@ use Rattle.pgb_outside.specs.Order.{are_in_order}
 use Rattle.pgb_outside.specs.Crash.{IsTemporary}
 use Rattle.pgb_model.specs.declared.labels.Label.{Label}
 use Rattle.pgb_model.specs.declared.labels.Kind.{Kind}
-use Rattle.pgb_model.specs.declared.labels.Kind.TheVariants.{Full, Diff, Incr}
+use Rattle.pgb_model.specs.declared.labels.Kind.TheVariants.{Full}
 use Rattle.pgb_model.specs.declared.wal.Segment.{Segment}
 use Rattle.pgb_model.specs.declared.wal.WalPart.{WalPart}
 use Rattle.pgb_model.specs.declared.files.Bundled.{Bundled}

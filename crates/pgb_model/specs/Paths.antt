@@ -1,6 +1,6 @@
 -- Paths in a data folder that a backup may hold.
-use Rattle.std.specs.Prelude.{◌≡◌, ◌≢◌, ℕ, ◌<◌, ◌≤◌, ◌==◌, ◌&&◌, not, nat_lt, Bool, true, false, List, [], ◌∷◌, ◌++◌, length, codes, IsUtf8, bytes_eq}
-use Rattle.std.specs.List.{AllByRecursion, slice_split, list_all}
+use Rattle.std.specs.Prelude.{◌≡◌, ℕ, ◌≤◌, ◌==◌, ◌&&◌, not, nat_lt, Bool, true, false, List, [], ◌∷◌, length, codes, IsUtf8, bytes_eq}
+use Rattle.std.specs.List.{slice_split, list_all}
 use Rattle.pgb_model.specs.Text.{Text}
 
 -- what the slashes separate

@@ -1,0 +1,4 @@
+pub mod NameLemmas
+pub mod Temporary
+pub mod Frame
+pub mod Created
