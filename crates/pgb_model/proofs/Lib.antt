@@ -2,4 +2,5 @@ pub mod NameLemmas
 pub mod Temporary
 pub mod Frame
 pub mod Created
+pub mod Made
 mod Worked
