@@ -1,5 +1,5 @@
 -- The status and the output of each answer (own).
-use Rattle.std.specs.Prelude.{◌≡◌, ℕ, List, [], ◌∷◌, ◌++◌, Option, Some, None, codes, decimal}
+use Rattle.std.specs.Prelude.{◌≡◌, ◌⊎◌, ◌≤◌, ⊤, ℕ, List, [], ◌∷◌, ◌++◌, Option, Some, None, codes, decimal}
 use Rattle.pgb_model.specs.Text.{Text}
 use Rattle.pgb_command.specs.declared.fault.Unbuilt.{Unbuilt}
 use Rattle.pgb_command.specs.declared.fault.Unbuilt.TheVariants.{CommandLine, ExistingStanza}
@@ -37,3 +37,19 @@ error_line NoMemory = codes "ERROR: [090]: out of memory\n"
 abbrev pub status : Option Fault → ℕ
 status None = 0
 status (Some fault) = status_of fault
+
+-- this holds where the fault is what was found, and no failure of an object
+abbrev pub OnFinding : Fault → Type 0 → Type 0
+OnFinding (NotBuilt what) P = P
+OnFinding (ControlMissing file) P = P
+OnFinding (ControlShort length) P = P
+OnFinding VersionText P = P
+OnFinding (VersionUnsupported version) P = P
+OnFinding Disk P = ⊤
+OnFinding Tree P = ⊤
+OnFinding Sink P = ⊤
+OnFinding NoMemory P = ⊤
+
+-- the statuses of such faults
+abbrev pub IsFinding : ℕ → Type 0
+IsFinding status = (status ≡ 100) ⊎ ((25 ≤ status) × (status ≤ 28))

@@ -1,8 +1,13 @@
 //! The commands, from words to a status.
 #![tactic(auto)]
 
+mod cluster;
+mod create;
 mod fault;
+mod outside;
 mod output;
+mod reading;
+mod top;
 mod words;
 
 pub use fault::{ControlFile, Fault, Unbuilt};

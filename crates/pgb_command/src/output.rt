@@ -1,12 +1,39 @@
 // The output is written.
 ghost use Rattle.std.specs.Prelude.{◌≡◌, ◌≤◌, ◌++◌, codes, IfOk, OnOk, OnErr, option_map, string_bytes};
-ghost use Rattle.pgb_outside.specs.Cause.{HasCause};
+ghost use Rattle.pgb_outside.specs.Cause.{HasCause, Rises};
 ghost use Rattle.pgb_command.specs.Answers.{error_line};
-ghost use Rattle.pgb_command.specs.Output.{IsFrontWritten};
+ghost use Rattle.pgb_command.specs.Output.{IsFrontWritten, IsTold};
 
 use crate::fault::{ControlFile, Fault, Unbuilt};
 use pgb_outside::{Sink, Stop};
 use std::alloc::{AllocError, Global};
+
+/// Writes the line of a fault, and answers the fault that is told: another one where the output fails or memory runs out.
+pub(crate) fn tell<O: Sink>(alloc: Global, out: &mut O, fault: Fault) -> Fault
+    ensures told { IsTold (O.written out.old) fault (O.written out.new) (Rises (O.faults out.old) (O.faults out.new)) result }
+    ensures later { O.faults out.old ≤ O.faults out.new }
+{
+    match line(alloc, fault) {
+        Ok(text) => tell_text(out, fault, text.as_bytes()),
+        Err(_) => tell_text(out, Fault::NoMemory, OUT_OF_MEMORY),
+    }
+}
+
+// Told where there is no memory for another line.
+const OUT_OF_MEMORY: &[u8] = b"ERROR: [090]: out of memory\n";
+
+// Writes the line of a fault.
+fn tell_text<O: Sink>(out: &mut O, fault: Fault, text: &[u8]) -> Fault
+    requires { text.now ≡ error_line fault }
+    ensures told { IsTold (O.written out.old) fault (O.written out.new) (Rises (O.faults out.old) (O.faults out.new)) result }
+    ensures later { O.faults out.old ≤ O.faults out.new }
+{
+    match write_all(out, text) {
+        Ok(()) => fault,
+        Err(Stop::Failed) => Fault::Sink,
+        Err(Stop::NoMemory) => Fault::NoMemory,
+    }
+}
 
 /// Writes all of the bytes, or a first part of them where the sink stops.
 pub(crate) fn write_all<O: Sink>(out: &mut O, bytes: &[u8]) -> Result<(), Stop>

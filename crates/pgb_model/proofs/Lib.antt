@@ -3,4 +3,5 @@ pub mod Temporary
 pub mod Frame
 pub mod Created
 pub mod Made
+pub mod Done
 mod Worked
