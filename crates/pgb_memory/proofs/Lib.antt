@@ -1,0 +1,9 @@
+pub mod Time
+pub mod Calls
+pub mod Maps
+pub mod Given
+pub mod Results
+pub mod Noted
+pub mod Tells
+pub mod Listing
+pub mod Below

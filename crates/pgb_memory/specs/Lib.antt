@@ -1,0 +1,5 @@
+pub mod Counts
+pub mod State
+pub mod Agrees
+pub mod Held
+pub mod Fair
