@@ -6,4 +6,11 @@ pub mod Results
 pub mod Noted
 pub mod Tells
 pub mod Listing
-pub mod Below
+pub mod NamesBelow
+pub mod Folders
+pub mod Rooted
+pub mod Trees
+pub mod Slashes
+pub mod Found
+pub mod Bare
+pub mod TreeTells

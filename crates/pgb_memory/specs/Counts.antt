@@ -1,5 +1,5 @@
 -- How a device in memory counts its calls.
-use Rattle.std.specs.Prelude.{◌≡◌, ℕ, ◌+◌, ◌-◌, ◌^◌, min, Bool, true, ◌||◌, nat_eq, if◌then◌else◌, Result, IsErr, IsErrOf}
+use Rattle.std.specs.Prelude.{◌≡◌, ℕ, ◌+◌, ◌-◌, ◌^◌, min, Bool, true, ◌||◌, ◌&&◌, nat_eq, if◌then◌else◌, Result, IsErr, IsErrOf}
 use Rattle.std.specs.List.{list_any}
 use Rattle.pgb_outside.specs.declared.stop.Stop.{Stop}
 use Rattle.pgb_outside.specs.declared.stop.Stop.TheVariants.{Failed}
@@ -29,3 +29,11 @@ tried proper f = if is_to_fail f || proper then counted f else misused (counted 
 pub record FailsWhere {T : Type 0} (b : Bool) (result : Result T Stop) : Type 0 where
   pub always : b ≡ true → IsErr result
   pub only : IsErrOf result Failed → b ≡ true
+
+-- after a call that failed though it was proper
+abbrev pub faulted : Failing → Failing
+faulted f = record f { faults = risen f.faults }
+
+-- after a call that is faulty where the first is false, and that fails where the second is
+abbrev pub tried_on : Bool → Bool → Failing → Failing
+tried_on proper takes f = if is_to_fail f || (proper && takes) then counted f else (if proper then faulted (counted f) else misused (counted f))

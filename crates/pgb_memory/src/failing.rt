@@ -15,7 +15,7 @@ impl Failing {
     ghost use Rattle.std.specs.Prelude.{◌≡◌, ◌≤◌, IsTrue};
     ghost use Rattle.pgb_outside.specs.Cause.{Rises};
     ghost use Rattle.pgb_outside.specs.declared.stop.Stop.TheVariants.{Failed};
-    ghost use Rattle.pgb_memory.specs.Counts.{is_to_fail, counted, misused};
+    ghost use Rattle.pgb_memory.specs.Counts.{is_to_fail, counted, misused, faulted};
 
     pub(crate) fn new(fail: Vec<u64>) -> Self
         ensures { result ≡ record { fail = fail; calls = 0; faults = 0; misuses = 0 } }
@@ -68,6 +68,18 @@ impl Failing {
         let misuses = self.misuses;
         self.faults = faults.saturating_add(1);
         self.misuses = misuses.saturating_add(1);
+        Stop::Failed
+    }
+
+    /// Counts a fault of a call that wasn't faulty.
+    pub(crate) fn fault(&mut self) -> Stop
+        ensures stop { result ≡ Failed }
+        ensures counts { self.new ≡ faulted self.old }
+        ensures later { self.old.faults ≤ self.new.faults }
+        ensures rises { Rises self.old.faults self.new.faults }
+    {
+        let faults = self.faults;
+        self.faults = faults.saturating_add(1);
         Stop::Failed
     }
 }

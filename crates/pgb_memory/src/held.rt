@@ -1,10 +1,12 @@
 // What a disk in memory holds, beside the record of the changes that made it.
 ghost use Rattle.std.specs.Prelude.{◌≡◌, ◌≤◌, ◌&&◌, ◌↔◌, [], ℕ, List, length, IfSome, IfOk, OnOk, OnErr, IsTrue, IsSome, Some, None, not, bytes_eq, if◌then◌else◌, is_some, option_map, map, string_bytes};
-ghost use Rattle.pgb_outside.specs.Content.{IsListing, Reads, ReadsPart, put, lengthened, moved};
+ghost use Rattle.pgb_outside.specs.Content.{IsListing, Reads, put, lengthened, moved};
 ghost use Rattle.pgb_memory.specs.Agrees.{Agrees, bytes_at};
 ghost use Rattle.pgb_memory.specs.State.{given_at};
 
+use crate::below::lies_below;
 use crate::change::Change;
+use crate::copy::copy_part;
 use pgb_outside::Found;
 use std::alloc::{AllocError, Global};
 use std::collections::BTreeMap;
@@ -174,11 +176,9 @@ fn names_of(alloc: Global, given: &[(String, Vec<u8>)]) -> Result<Names, AllocEr
 fn names_below(alloc: Global, names: &Names, folder: &str) -> Result<Vec<Found>, AllocError>
     ensures { IfOk result (λ found. IsListing folder.now (bytes_at names.now) (map (λ x. (string_bytes x.name, x.size)) found.items)) }
 {
-    let mut front = Vec::from_slice(alloc, folder.as_bytes())?;
-    front.push(b'/')?;
     let mut found = Vec::new(alloc);
     for (name, bytes) in names {
-        if name.as_bytes().starts_with(&front) {
+        if lies_below(name, folder) {
             found.push(Found {
                 name: name.clone()?,
                 size: bytes.len() as u64,
@@ -244,18 +244,4 @@ fn move_value(alloc: Global, names: &mut Names, from: &str, to: &str) -> Result<
     set(alloc, names, to, value)?;
     drop_other(names, from, to);
     Ok(())
-}
-
-// Copies bytes from a place on, as many as there is room for.
-fn copy_part(bytes: &[u8], at: u64, buf: &mut [u8]) -> usize
-    ensures part { ReadsPart bytes.now at (length buf.old) buf.new result }
-    ensures room { result ≤ length buf.old }
-{
-    if at >= bytes.len() as u64 {
-        return 0;
-    }
-    let rest = &bytes[at as usize..];
-    let n = rest.len().min(buf.len());
-    buf[..n].copy_from_slice(&rest[..n]);
-    n
 }

@@ -1,7 +1,7 @@
 use Rattle.std.proofs.Common.{◌≡◌, List, ℕ, Some, ap, ◌∙◌, rules, ◌++◌}
 use Rattle.pgb_outside.specs.Content.{put}
 use Rattle.pgb_memory.specs.Agrees.{bytes_at}
-use Rattle.pgb_memory.proofs.Maps.{bytes_set, put_held, lengthened_some}
+use Rattle.pgb_memory.proofs.Maps.{bytes_set, set_held, lengthened_some}
 use Rattle.pgb_memory.proofs.Results.{on_err}
 use Rattle.pgb_memory.proofs.held.extend.Goals as goal
 
@@ -23,4 +23,4 @@ returns-in_err-extend_from_slice-in-Some-clause-err c =
     let same : w.items ≡ c.in-Some.value.now.items = search rules in
     on_err c.from_residual.result (bytes_set c.args.names.now (c.get_mut.follows.lender w) c.args.name.now (Some w) ((c.get_mut.follows.holds w).3 (search rules))
     ∙ ap (λ (l : List ℕ). put c.args.name.now (Some l) f) same
-    ∙ put_held c.args.name.now (Some c.in-Some.value.now.items) f had)
+    ∙ set_held c.args.name.now (Some c.in-Some.value.now.items) f had)

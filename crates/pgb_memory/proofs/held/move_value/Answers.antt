@@ -1,4 +1,4 @@
-use Rattle.std.proofs.Common.{bytes_eq, cond, None, ap, sym, ◌∙◌}
+use Rattle.std.proofs.Common.{None, bytes_eq, cond, None, ap, sym, ◌∙◌}
 use Rattle.pgb_outside.specs.Content.{Content, Value, put}
 use Rattle.pgb_memory.specs.Agrees.{bytes_at}
 use Rattle.pgb_memory.proofs.Maps.{moved_split}
@@ -11,4 +11,4 @@ returns-clause-ok c =
     let f = bytes_at c.args.names.now in
     c.drop_other.ensures
     ∙ ap (λ (g : Content). cond (bytes_eq from to) g (put from None g)) (c.in_ok-set.ensures.ok ∙ ap (λ (v : Value). put to v f) (sym c.in_ok-value.ensures))
-    ∙ moved_split from to f
+    ∙ moved_split None from to f

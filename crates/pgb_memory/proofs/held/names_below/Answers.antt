@@ -3,7 +3,7 @@ use Rattle.std.specs.String.{string_cmp}
 use Rattle.std.specs.BTreeMap.{IsOrdered}
 use Rattle.pgb_outside.specs.Content.{Name, IsListing}
 use Rattle.pgb_memory.specs.Agrees.{bytes_at}
-use Rattle.pgb_memory.proofs.Below.{below_listed, below_listing}
+use Rattle.pgb_memory.proofs.NamesBelow.{below_listed, below_listing}
 use Rattle.pgb_memory.proofs.held.names_below.Goals as goal
 
 pub returns : goal.returns

@@ -1,7 +1,7 @@
 use Rattle.std.proofs.Common.{◌≡◌, ◌++◌, map, string_bytes, length}
 use Rattle.pgb_outside.specs.Content.{is_below}
 use Rattle.pgb_memory.proofs.Listing.{listed}
-use Rattle.pgb_memory.proofs.Below.{below_listed}
+use Rattle.pgb_memory.proofs.NamesBelow.{below_listed}
 use Rattle.pgb_memory.proofs.held.names_below.Given as goal
 
 abbrev pub invariant-loop-name : goal.invariant-loop-name
