@@ -1,0 +1,66 @@
+// All that stands below a folder, in byte order.
+use crate::place::{Place, no_memory, unless_absent};
+use pgb_outside::{Node, Seen};
+use std::alloc::Global;
+use std::fs::Metadata;
+use std::os::unix::fs::MetadataExt;
+use std::{fs, io};
+
+/// Every node at any depth, by its path from the root; no link is followed below the folder. What goes away in the
+/// meantime is left out. A name that isn't UTF-8 is an error.
+pub fn nodes_below(alloc: Global, place: &Place, folder: &str) -> io::Result<Vec<Seen>> {
+    let mut seen = Vec::new(alloc);
+    add_nodes(alloc, place, folder, &mut seen)?;
+    for at in 0..usize::MAX {
+        let Some(next) = seen.get(at) else {
+            break;
+        };
+        if next.node == Node::Folder {
+            let folder = next.path.clone()?;
+            add_nodes(alloc, place, &folder, &mut seen)?;
+        }
+    }
+    seen.sort_by(|a, b| a.path.cmp(&b.path))?;
+    Ok(seen)
+}
+
+// Adds the nodes that stand in a folder.
+fn add_nodes(alloc: Global, place: &Place, folder: &str, seen: &mut Vec<Seen>) -> io::Result<()> {
+    let path = place.path_of(folder)?;
+    let Some(entries) = unless_absent(fs::read_dir(&place.rt, path.as_str()))? else {
+        return Ok(());
+    };
+    for entry in entries {
+        let entry = entry?;
+        if let Some(told) = unless_absent(entry.metadata())? {
+            let path = joined(alloc, folder, entry.file_name())?;
+            let node = node_of(&told);
+            seen.push(Seen { path, node }).map_err(no_memory)?;
+        }
+    }
+    Ok(())
+}
+
+fn joined(alloc: Global, folder: &str, name: &str) -> io::Result<String> {
+    if folder.is_empty() {
+        Ok(String::from_str(alloc, name)?)
+    } else {
+        Ok(format!(in alloc; "{folder}/{name}")?)
+    }
+}
+
+fn node_of(told: &Metadata) -> Node {
+    if told.is_file() {
+        let time = u64::try_from(told.mtime()).unwrap_or(0);
+        Node::File {
+            size: told.len(),
+            time,
+        }
+    } else if told.is_dir() {
+        Node::Folder
+    } else if told.is_symlink() {
+        Node::Link
+    } else {
+        Node::Other
+    }
+}
