@@ -114,10 +114,13 @@ fn begin_in_folders(place: &Place, handles: &mut Handles, name: &str) -> io::Res
 
 fn rename_into_folders(place: &Place, from: &str, to: &str) -> io::Result<()> {
     match place.rename(from, to) {
-        Err(e) if e.kind() == ErrorKind::NotFound && place.is_file(from)? => {
+        Err(e) if e.kind() == ErrorKind::NotFound => {
             place.make_folders_for(to)?;
             place.rename(from, to)
         }
         done => done,
     }
 }
+
+#[cfg(test)]
+mod tests;

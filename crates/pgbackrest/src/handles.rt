@@ -1,5 +1,5 @@
 // The files that stay open between calls: the last one that was written and the last one that was read.
-ghost use Rattle.std.specs.Prelude.{◌≤◌, IfOk, IfSome, length};
+ghost use Rattle.std.specs.Prelude.{◌≡◌, ◌↔◌, ◌<◌, ◌≤◌, None, IfOk, IfSome, IsSomeAnd, IsTrue, length, string_bytes};
 
 use crate::place::Place;
 use std::fs::File;
@@ -29,7 +29,10 @@ impl Handles {
     }
 
     /// Closes both, since a name may come to mean another file.
-    pub fn forget(&mut self) {
+    pub fn forget(&mut self)
+        ensures writing { self.new.writing ≡ None }
+        ensures reading { self.new.reading ≡ None }
+    {
         self.writing = None;
         self.reading = None;
     }
@@ -70,7 +73,9 @@ impl Handles {
 
     /// Whether a read at this place goes on in the file that is open. At its start a name is opened anew, so that
     /// all of one reading comes from the file that stood there at the start.
-    pub fn goes_on(&self, name: &str, at: u64) -> bool {
+    pub fn goes_on(&self, name: &str, at: u64) -> bool
+        ensures { IsTrue result ↔ ((0 < at) × IsSomeAnd self.now.reading (λ kept. string_bytes kept.name ≡ name.now)) }
+    {
         at > 0 && is_of(&self.reading, name)
     }
 
@@ -103,7 +108,9 @@ fn keep(place: &Place, name: &str, file: File) -> io::Result<Kept> {
     Ok(Kept { name, file })
 }
 
-fn is_of(kept: &Option<Kept>, name: &str) -> bool {
+fn is_of(kept: &Option<Kept>, name: &str) -> bool
+    ensures { IsTrue result ↔ IsSomeAnd kept.now (λ kept. string_bytes kept.name ≡ name.now) }
+{
     match kept {
         Some(kept) => kept.name.as_str() == name,
         None => false,

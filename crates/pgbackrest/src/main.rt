@@ -5,6 +5,8 @@ mod disk;
 mod faults;
 mod handles;
 mod place;
+#[cfg(test)]
+mod scratch;
 mod settle;
 mod sink;
 mod tree;

@@ -1,5 +1,5 @@
 // A folder of the system's files, and what stands below it by name.
-ghost use Rattle.std.specs.Prelude.{◌≡◌, OnOk, string_bytes};
+ghost use Rattle.std.specs.Prelude.{◌≡◌, ◌∷◌, ◌++◌, IfOk, OnOk, string_bytes};
 
 use std::fs::{DirBuilder, File, Metadata, OpenOptions};
 use std::io::ErrorKind;
@@ -35,7 +35,9 @@ impl Place {
         }
     }
 
-    pub fn path_of(&self, name: &str) -> io::Result<String> {
+    pub fn path_of(&self, name: &str) -> io::Result<String>
+        ensures { IfOk result (λ path. string_bytes path ≡ string_bytes self.now.root ++ 47 ∷ name.now) }
+    {
         let root = self.root.as_str();
         Ok(format!(in self.rt.alloc(); "{root}/{name}")?)
     }

@@ -124,3 +124,6 @@ fn remove_node(place: &Place, path: &str) -> io::Result<()> {
         _ => place.remove(path),
     }
 }
+
+#[cfg(test)]
+mod tests;

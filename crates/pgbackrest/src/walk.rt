@@ -1,4 +1,6 @@
 // All that stands below a folder, in byte order.
+ghost use Rattle.std.specs.Prelude.{◌≡◌, ◌≢◌, [], ◌∷◌, ◌++◌, IfOk, string_bytes};
+
 use crate::place::{Place, no_memory, unless_absent};
 use pgb_outside::{Node, Seen};
 use std::alloc::Global;
@@ -41,7 +43,10 @@ fn add_nodes(alloc: Global, place: &Place, folder: &str, seen: &mut Vec<Seen>) -
     Ok(())
 }
 
-fn joined(alloc: Global, folder: &str, name: &str) -> io::Result<String> {
+fn joined(alloc: Global, folder: &str, name: &str) -> io::Result<String>
+    ensures root { folder.now ≡ [] → IfOk result (λ path. string_bytes path ≡ name.now) }
+    ensures below { folder.now ≢ [] → IfOk result (λ path. string_bytes path ≡ folder.now ++ 47 ∷ name.now) }
+{
     if folder.is_empty() {
         Ok(String::from_str(alloc, name)?)
     } else {
