@@ -1,5 +1,5 @@
 // The repository, on the system's files.
-ghost use Rattle.std.specs.Prelude.{None, false, string_bytes};
+ghost use Rattle.std.specs.Prelude.{◌≡◌, None, false, string_bytes};
 
 use crate::faults::Faults;
 use crate::handles::Handles;
@@ -20,7 +20,9 @@ pub struct RealDisk {
 }
 
 impl RealDisk {
-    pub fn new(rt: HostRuntime) -> Self {
+    pub fn new(rt: HostRuntime) -> Self
+        ensures { result.faults.count ≡ 0 }
+    {
         RealDisk {
             place: Place::new(rt),
             handles: Handles::new(),

@@ -53,7 +53,7 @@ impl Handles {
         }
     }
 
-    /// Makes the bytes of a file that is there last.
+    /// Makes the bytes durable of a file that is there.
     pub fn sync(&mut self, place: &Place, name: &str) -> io::Result<()> {
         self.reach_end(place, name)?;
         match &self.writing {

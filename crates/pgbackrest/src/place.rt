@@ -1,5 +1,6 @@
 // A folder of the system's files, and what stands below it by name.
-ghost use Rattle.std.specs.Prelude.{◌≡◌, ◌∷◌, ◌++◌, IfOk, OnOk, string_bytes};
+ghost use Rattle.std.specs.Prelude.{◌≡◌, ◌≢◌, ◌⊎◌, ◌∷◌, ◌++◌, Result, Ok, Err, None, Some, IfErr, IfOk, OnOk, string_bytes};
+ghost use Rattle.std.specs.IoError.{error_kind};
 
 use std::fs::{DirBuilder, File, Metadata, OpenOptions};
 use std::io::ErrorKind;
@@ -31,7 +32,7 @@ impl Place {
         if is_folder(&self.rt, path) {
             Ok(())
         } else {
-            make_lasting(&self.rt, path)
+            make_durable(&self.rt, path)
         }
     }
 
@@ -105,14 +106,13 @@ impl Place {
 
     /// Makes a folder, unless it is there; the folder that holds it is.
     pub fn make_folder(&self, name: &str) -> io::Result<()> {
+        if self.look_at(name)?.is_some_and(|seen| seen.is_dir()) {
+            return Ok(());
+        }
         let path = self.path_of(name)?;
-        match DirBuilder::new()
+        DirBuilder::new()
             .mode(FOLDER_MODE)
             .create(&self.rt, path.as_str())
-        {
-            Err(_) if is_folder(&self.rt, &path) => Ok(()),
-            done => done,
-        }
     }
 
     /// Makes the folder that holds a name, and those that hold that.
@@ -125,7 +125,7 @@ impl Place {
     }
 }
 
-/// Makes what a folder holds last, where the folder is there.
+/// Makes the names in a folder durable, where the folder is there.
 pub fn sync_folder(rt: &HostRuntime, path: &str) -> io::Result<()> {
     match unless_absent(File::open(rt, path))? {
         Some(folder) => folder.sync_all(),
@@ -134,7 +134,11 @@ pub fn sync_folder(rt: &HostRuntime, path: &str) -> io::Result<()> {
 }
 
 /// None where a name is absent; a path through a file leads to no name.
-pub fn unless_absent<T: Drop>(done: io::Result<T>) -> io::Result<Option<T>> {
+pub fn unless_absent<T: Drop>(done: io::Result<T>) -> io::Result<Option<T>>
+    ensures there { IfOk done (λ v. result ≡ Ok (Some v)) }
+    ensures absent { IfErr done (λ e. (error_kind e ≡ ErrorKind.NotFound) ⊎ (error_kind e ≡ ErrorKind.NotADirectory) → result ≡ Ok None) }
+    ensures error { IfErr done (λ e. error_kind e ≢ ErrorKind.NotFound → error_kind e ≢ ErrorKind.NotADirectory → result ≡ Err e) }
+{
     match done {
         Ok(value) => Ok(Some(value)),
         Err(e) if e.kind() == ErrorKind::NotFound => Ok(None),
@@ -143,7 +147,9 @@ pub fn unless_absent<T: Drop>(done: io::Result<T>) -> io::Result<Option<T>> {
     }
 }
 
-pub fn no_memory<T: Drop>(_: T) -> io::Error {
+pub fn no_memory<T: Drop>(_: T) -> io::Error
+    ensures { error_kind result ≡ ErrorKind.OutOfMemory }
+{
     io::Error::from(ErrorKind::OutOfMemory)
 }
 
@@ -162,19 +168,19 @@ fn folder_of(path: &str) -> &str {
     }
 }
 
-// Makes a folder and those that hold it, each with a name that lasts: no later call comes back to these.
-fn make_lasting(rt: &HostRuntime, path: &str) -> io::Result<()> {
+// Makes a folder and those that hold it, each with a durable name: no later call comes back to these.
+fn make_durable(rt: &HostRuntime, path: &str) -> io::Result<()> {
     for end in 1..path.len() {
         if let Some((above, rest)) = path.split_at_checked(end) {
             if rest.starts_with('/') {
-                make_one_lasting(rt, above)?;
+                make_one_durable(rt, above)?;
             }
         }
     }
-    make_one_lasting(rt, path)
+    make_one_durable(rt, path)
 }
 
-fn make_one_lasting(rt: &HostRuntime, path: &str) -> io::Result<()> {
+fn make_one_durable(rt: &HostRuntime, path: &str) -> io::Result<()> {
     match DirBuilder::new().mode(FOLDER_MODE).create(rt, path) {
         Ok(()) => sync_folder(rt, folder_of(path)),
         Err(_) if is_folder(rt, path) => Ok(()),

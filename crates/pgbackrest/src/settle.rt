@@ -1,4 +1,4 @@
-// Makes the names below a folder last.
+// Makes the names below a folder durable.
 use crate::place::{Place, no_memory, sync_folder, unless_absent};
 use std::fs::Metadata;
 use std::os::unix::fs::MetadataExt;
@@ -101,7 +101,7 @@ fn lie_on_one_device(folders: &[Folder]) -> bool {
     }
 }
 
-// Whether the system's own `sync` made the root's whole file system last.
+// Whether the system's own `sync` made the root's whole file system durable.
 fn sync_file_system(place: &Place) -> bool {
     match run_sync(place) {
         Ok(ended_well) => ended_well,

@@ -14,7 +14,9 @@ pub struct RealSink {
 }
 
 impl RealSink {
-    pub fn new(rt: HostRuntime) -> Self {
+    pub fn new(rt: HostRuntime) -> Self
+        ensures { result.faults.count ≡ 0 }
+    {
         RealSink {
             rt,
             faults: Faults::new(),

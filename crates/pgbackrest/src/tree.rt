@@ -19,7 +19,9 @@ pub struct RealTree {
 }
 
 impl RealTree {
-    pub fn new(rt: HostRuntime) -> Self {
+    pub fn new(rt: HostRuntime) -> Self
+        ensures { result.faults.count ≡ 0 }
+    {
         RealTree {
             place: Place::new(rt),
             handles: Handles::new(),

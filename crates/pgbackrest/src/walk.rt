@@ -1,5 +1,6 @@
 // All that stands below a folder, in byte order.
-ghost use Rattle.std.specs.Prelude.{◌≡◌, ◌≢◌, [], ◌∷◌, ◌++◌, IfOk, string_bytes};
+ghost use Rattle.std.specs.Prelude.{◌≡◌, ◌≢◌, [], ◌∷◌, ◌++◌, ℕ, IfOk, string_bytes};
+ghost use Rattle.std.specs.Fs.{metadata_len, file_type, IsFile, IsDir, IsSymlink};
 
 use crate::place::{Place, no_memory, unless_absent};
 use pgb_outside::{Node, Seen};
@@ -54,7 +55,11 @@ fn joined(alloc: Global, folder: &str, name: &str) -> io::Result<String>
     }
 }
 
-fn node_of(told: &Metadata) -> Node {
+fn node_of(told: &Metadata) -> Node
+    ensures file { IsFile (file_type told.now) → (time : ℕ) × (result ≡ Node.File (metadata_len told.now) time) }
+    ensures folder { IsDir (file_type told.now) → result ≡ Node.Folder }
+    ensures link { IsSymlink (file_type told.now) → result ≡ Node.Link }
+{
     if told.is_file() {
         let time = u64::try_from(told.mtime()).unwrap_or(0);
         Node::File {
