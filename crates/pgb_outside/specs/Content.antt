@@ -1,5 +1,5 @@
 -- What a disk holds: a value for each name, bytes or nothing.
-use Rattle.std.specs.Prelude.{true, ◌≡◌, ◌≢◌, ◌⊎◌, ◌<◌, ◌≤◌, ◌+◌, ◌-◌, ℕ, Bool, List, [], ◌∷◌, ◌++◌, length, take, drop, map, Option, Result, Some, None, option_map, IfSome, IsSome, IsSomeAnd, MatchResult, MatchOption, IsTrue, bytes_eq, if◌then◌else◌, nat_eq, Contains, ◌↔◌}
+use Rattle.std.specs.Prelude.{true, ◌≡◌, ◌≢◌, ◌⊎◌, ◌≤◌, ◌-◌, ℕ, Bool, List, [], ◌∷◌, ◌++◌, length, take, drop, map, Option, Result, Some, None, option_map, IfSome, IsSome, IsSomeAnd, MatchResult, IsTrue, bytes_eq, if◌then◌else◌, nat_eq, Contains}
 use Rattle.std.specs.List.{starts_with}
 use Rattle.pgb_outside.specs.Order.{are_in_order}
 

@@ -1,5 +1,5 @@
 -- What a data folder holds: a node for each path below its root, and what calls do to it.
-use Rattle.std.specs.Prelude.{◌≡◌, ◌⊎◌, ℕ, Bool, true, List, [], ◌∷◌, ◌++◌, length, map, codes, Option, Some, None, Result, option_map, MatchResult, Contains, IfSome, IsSome, string_bytes}
+use Rattle.std.specs.Prelude.{◌≡◌, ℕ, true, List, ◌∷◌, ◌++◌, length, map, codes, Option, Some, None, Result, option_map, MatchResult, Contains, IfSome, IsSome, string_bytes}
 use Rattle.pgb_outside.specs.Content.{Name, Value, set_at, SameBut}
 use Rattle.pgb_outside.specs.Order.{are_in_order}
 use Rattle.pgb_outside.specs.declared.tree.Node.{Node}

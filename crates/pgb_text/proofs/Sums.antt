@@ -1,12 +1,12 @@
 -- A sum's text reads back as it, and as no other.
 use Rattle.std.proofs.Common.{◌≡◌, ℕ, ◌*◌, ◌%◌, ◌/◌, List, length, Result, Ok, sym, ap, ◌∙◌, subst, refl, arith}
 use Rattle.std.specs.Result.{result_unwrap_or}
-use Rattle.hex.specs.Hex.{decode_sized, decode_of, decode_pairs, encode_lower, lower_digits}
+use Rattle.hex.specs.Hex.{decode_sized, decode_pairs, lower_digits}
 use Rattle.hex.specs.declared.error.FromHexError.{FromHexError}
 use Rattle.std.proofs.lemmas.Bool.{eqb-true}
 use Rattle.hex.specs.declared.error.FromHexError.TheVariants.{OddLength, InvalidStringLength}
 use Rattle.hex.proofs.HexLemmas.{length-encode_with, decode_pairs-encode_with, IsDigits-lower_digits}
-use Rattle.std.specs.Prelude.{Option, option_and_then, bytes_eq, Bool, true, false, ◌==◌, if◌then◌else◌, Some, None, Err}
+use Rattle.std.specs.Prelude.{option_and_then, bytes_eq, Bool, true, false, ◌==◌, if◌then◌else◌, Some, None, Err}
 use Rattle.std.specs.Result.{result_ok}
 use Rattle.std.proofs.lemmas.Option.{cond_some}
 use Rattle.std.proofs.lemmas.Slice.Eq.{bytes_eq-Decides}

@@ -1,5 +1,4 @@
-use Rattle.std.proofs.Common.{◌≡◌, ◌<◌, ℕ, sym, ap, ◌∙◌, subst, true, false, arith}
-use Rattle.std.specs.Fmt.{decimal}
+use Rattle.std.proofs.Common.{◌≡◌, sym, ap, ◌∙◌, subst, true, arith}
 use Rattle.std.specs.Str.{IsUtf8}
 use Rattle.pgb_text.specs.Decimal.{is_plain}
 use Rattle.pgb_text.proofs.Decimals.{is_plain-decimal, IsUtf8-decimal, read_is, read_none}

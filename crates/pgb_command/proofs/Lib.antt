@@ -1,0 +1,2 @@
+mod SixWords
+mod Written

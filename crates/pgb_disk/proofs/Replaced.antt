@@ -1,0 +1,116 @@
+-- Bytes that are staged and then given a name.
+use Rattle.std.specs.Prelude.{◌≡◌, ◌≢◌, ◌⊎◌, ℕ, false, List, [], ◌∷◌, ◌++◌, Option, Result, Some, None, Ok, Err, IsSome, refl, option_map}
+use Rattle.std.proofs.Common.{sym, ◌∙◌, ap, subst, inl, inr, arith, ⊎_elim}
+use Rattle.pgb_outside.specs.Content.{Name, Value, Content, put, moved, Holds, Changes, SameBut, at}
+use Rattle.pgb_outside.specs.Moments.{View, Goes, is_loose, MayKeep}
+use Rattle.pgb_outside.specs.Crash.{IsTemporary, Alike, Crash, Ends, NowGoes, AllOf, FirstOf}
+use Rattle.pgb_outside.proofs.Steps.{goes_on, goes_wide}
+use Rattle.pgb_disk.proofs.Images.{Law, by_name, put_other, put_same, apart_from, Added, Loosened, stays_tight, crash_of, ends_of}
+
+-- a disk that tells still does
+told_same : (temp : Name) (old new : Option Content) → SameBut temp old new → IsSome old → IsSome new
+told_same temp None new same s = cc
+told_same temp (Some f) (Some g) same s = refl
+told_same temp (Some f) None same s = let e : ◌≡◌ {A = Option Value} None (Some (f (temp ++ 0 ∷ []))) = same (temp ++ 0 ∷ []) (longer temp) in cc
+  where
+    longer : (t : Name) → t ++ 0 ∷ [] ≢ t
+    longer [] e = cc
+    longer (x ∷ t) e = longer t (ap rest e)
+      where
+        rest : Name → Name
+        rest [] = []
+        rest (y ∷ ys) = ys
+
+alike_same : (temp : Name) (old new : Option Content) → IsTemporary temp → SameBut temp old new → (f g : Content) → old ≡ Some f → new ≡ Some g → Alike f g
+alike_same temp old new is_temp same f g is now = record { same = λ n apart. some (same n (apart_from temp is_temp n apart)) }
+  where
+    some : {n : Name} → at n new ≡ at n old → g n ≡ f n
+    some {n} e = let u : ◌≡◌ {A = Option Value} (Some (g n)) (Some (f n)) = sym (ap (at n) now) ∙ e ∙ ap (at n) is in cc
+
+-- what the staged name holds
+holds_staged : (temp : Name) (bytes : List ℕ) (o o1 : Option Content) (s : Name) → o1 ≡ option_map (put temp (Some bytes)) o → s ≡ temp → (v : Value) → Holds o1 s v → v ≡ Some bytes
+holds_staged temp bytes None o1 s is e v h = let x : Holds None s v = subst (λ (q : Option Content). Holds q s v) is h in absurd x
+holds_staged temp bytes (Some f) o1 s is e v h =
+    let x : Holds (Some (put temp (Some bytes) f)) s v = subst (λ (q : Option Content). Holds q s v) is h in
+    x ∙ ap (put temp (Some bytes) f) e ∙ put_same temp (Some bytes) f
+
+module _ (temp name : Name) (bytes : List ℕ) (is_temp : IsTemporary temp) (lasting : ¬ IsTemporary name) where
+  -- staged but not published
+  staged_alike : (f : Content) → Alike f (put temp (Some bytes) f)
+  staged_alike f = record { same = λ n apart. put_other temp (Some bytes) f n (apart_from temp is_temp n apart) }
+
+  published_alike : (f : Content) (s : Name) → s ≡ temp → Alike (put name (Some bytes) f) (moved s name (put temp (Some bytes) f))
+  published_alike f s e = record {
+    same = λ n apart. by_name name n (λ (v : Value). put name (put temp (Some bytes) f s) (put s None (put temp (Some bytes) f)) n ≡ v) (Some bytes) (f n)
+        (λ (p : name ≡ n). ap (put name (put temp (Some bytes) f s) (put s None (put temp (Some bytes) f))) (sym p) ∙ put_same name (put temp (Some bytes) f s) (put s None (put temp (Some bytes) f)) ∙ ap (put temp (Some bytes) f) e ∙ put_same temp (Some bytes) f)
+        (λ off. put_other name _ (put s None (put temp (Some bytes) f)) n off ∙ put_other s None (put temp (Some bytes) f) n (λ q. apart_from temp is_temp n apart (q ∙ e)) ∙ put_other temp (Some bytes) f n (apart_from temp is_temp n apart));
+  }
+
+  now_is : (o o1 : Option Content) (f g : Content) (change : Content → Content) → o1 ≡ option_map change o → o ≡ Some f → o1 ≡ Some g → g ≡ change f
+  now_is o o1 f g change is old new = let e : ◌≡◌ {A = Option Content} (Some g) (Some (change f)) = sym new ∙ is ∙ ap (option_map change) old in cc
+
+  alike_at : (f g h : Content) → Alike f g → h ≡ g → Alike f h
+  alike_at f g h p e = subst (λ (x : Content). Alike f x) (sym e) p
+
+  -- what was staged, and then moved
+  whole_now : (old mid new : Option Content) (s : Name) → s ≡ temp → mid ≡ option_map (put temp (Some bytes)) old → new ≡ option_map (moved s name) mid → (f g : Content) → old ≡ Some f → new ≡ Some g → Alike (put name (Some bytes) f) g
+  whole_now old mid new s e is ch f g was now =
+      let m : mid ≡ Some (put temp (Some bytes) f) = is ∙ ap (option_map (put temp (Some bytes))) was in
+      alike_at (put name (Some bytes) f) (moved s name (put temp (Some bytes) f)) g (published_alike f s e) (now_is mid new (put temp (Some bytes) f) g (moved s name) ch m now)
+
+  told_map : (change : Content → Content) (old new : Option Content) → new ≡ option_map change old → IsSome old → IsSome new
+  told_map change None new is some = cc
+  told_map change (Some f) new is some = subst (λ (o : Option Content). IsSome o) (sym is) refl
+
+  pub published_whole : (old mid new : Option Content) (s : Name) → s ≡ temp → mid ≡ option_map (put temp (Some bytes)) old → new ≡ option_map (moved s name) mid → NowGoes (AllOf ((name, bytes) ∷ [])) old new
+  published_whole old mid new s e is ch = record {
+    told = λ some. told_map (moved s name) mid new ch (told_map (put temp (Some bytes)) old mid is some);
+    goes = whole_now old mid new s e is ch;
+  }
+
+  some_whole : (old new : Option Content) → NowGoes (AllOf ((name, bytes) ∷ [])) old new → NowGoes (FirstOf ((name, bytes) ∷ [])) old new
+  some_whole old new p = record { told = p.told; goes = λ f g was now. inr (p.goes f g was now) }
+
+  pub published_now : {T E : Type 0} (r : Result T E) (old mid new : Option Content) (s : Name) → s ≡ temp → mid ≡ option_map (put temp (Some bytes)) old → Changes r (moved s name) mid new → NowGoes (FirstOf ((name, bytes) ∷ [])) old new
+  published_now (Ok y) old mid new s e is ch = some_whole old new (published_whole old mid new s e is ch)
+  published_now (Err y) old mid new s e is (inr ch) = some_whole old new (published_whole old mid new s e is ch)
+  published_now (Err y) old mid new s e is (inl ch) = record {
+    told = λ some. told_map (put temp (Some bytes)) old new (ch ∙ is) some;
+    goes = λ f g was now. inl (alike_at f (put temp (Some bytes) f) g (staged_alike f) (now_is old new f g (put temp (Some bytes)) (ch ∙ is) was now));
+  }
+
+  -- staged at most
+  pub staged_now : (old new : Option Content) → SameBut temp old new → NowGoes (FirstOf ((name, bytes) ∷ [])) old new
+  staged_now old new same = record {
+    told = told_same temp old new same;
+    goes = λ f g was now. inl (alike_same temp old new is_temp same f g was now);
+  }
+
+  -- the time of the first call, and of both
+  staged_go : (a b : View) → Goes (λ n _. n ≡ temp) (λ n. n ≡ temp) a b → Goes (Added temp name bytes) (Loosened temp name bytes) a b
+  staged_go a b p = goes_wide (λ n _. n ≡ temp) (Added temp name bytes) (λ n. n ≡ temp) (Loosened temp name bytes) a b (λ n v x. inr x) (λ n x. x) p
+
+  module _ (a b c : View) (s : Name) (e : s ≡ temp) (is : b.now ≡ option_map (put temp (Some bytes)) a.now)
+      (p : Goes (λ n _. n ≡ temp) (λ n. n ≡ temp) a b)
+      (q : Goes (λ n v. ((n ≡ name) × Holds b.now s v) ⊎ ((n ≡ s) × (v ≡ None))) (λ _. ⊥) b c) where
+    both_go : Goes (Added temp name bytes) (Loosened temp name bytes) a c
+    both_go = goes_on (Added temp name bytes) (Loosened temp name bytes) a b c
+        (staged_go a b p)
+        (goes_wide (λ n v. ((n ≡ name) × Holds b.now s v) ⊎ ((n ≡ s) × (v ≡ None))) (Added temp name bytes) (λ _. ⊥) (Loosened temp name bytes) b c
+        (λ n v x. ⊎_elim (λ (y : (n ≡ name) × Holds b.now s v). inl (y.0, holds_staged temp bytes a.now b.now s is e v y.1)) (λ (y : (n ≡ s) × (v ≡ None)). inr (y.0 ∙ e)) x) (λ n x. absurd x) q)
+
+    module _ (law : Law a) (tight : is_loose a name ≡ false) where
+      pub published_crash : {T E : Type 0} (r : Result T E) → Changes r (moved s name) b.now c.now → Crash (FirstOf ((name, bytes) ∷ [])) a c
+      published_crash r ch = crash_of temp name bytes a c is_temp lasting law both_go tight (published_now r a.now b.now c.now s e is ch)
+
+      pub published_ends : c.now ≡ option_map (moved s name) b.now → (is_loose b name ≡ false → (v : Value) → MayKeep c name v → Holds b.now s v) → Ends (AllOf ((name, bytes) ∷ [])) a c
+      published_ends ch only = ends_of temp name bytes a c is_temp lasting law both_go tight
+          (λ v k. holds_staged temp bytes a.now b.now s is e v (only still v k)) (published_whole a.now b.now c.now s e is ch)
+        where
+          still : is_loose b name ≡ false
+          still = stays_tight temp name bytes a b is_temp lasting law (staged_go a b p) tight b.moment name p.later (omega arith) lasting tight
+
+  pub staged_crash : (a b : View) → Law a → is_loose a name ≡ false → Goes (λ n _. n ≡ temp) (λ n. n ≡ temp) a b → SameBut temp a.now b.now → Crash (FirstOf ((name, bytes) ∷ [])) a b
+  staged_crash a b law tight p same = crash_of temp name bytes a b is_temp lasting law
+      (staged_go a b p)
+      tight (staged_now a.now b.now same)

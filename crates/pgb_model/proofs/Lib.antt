@@ -1,0 +1,6 @@
+pub mod NameLemmas
+pub mod Temporary
+pub mod Frame
+pub mod Created
+pub mod Made
+mod Worked

@@ -1,0 +1,13 @@
+//! The values that a repository's texts and names are of; beside them, in `specs`, what a repository is.
+#![tactic(auto)]
+
+mod clusters;
+mod files;
+mod labels;
+mod wal;
+
+pub use clusters::{ArchiveInfo, BackupInfo, Cluster, ClusterId};
+pub use files::{Bundled, FileEntry, Manifest};
+pub use labels::{Choices, Entry, Kind, Label, Later};
+pub use pgb_text::Sum;
+pub use wal::{ArchiveId, ArchiveName, Lsn, SegSize, Segment, Span, WalPart};

@@ -1,0 +1,2 @@
+pub mod ControlFile
+pub mod Fault
