@@ -18,7 +18,10 @@ struct Folder {
 /// The names below a folder lie in it, in the folders below it, and, where folders were made, in those that hold it.
 pub fn settle(place: &Place, folder: &str) -> io::Result<()> {
     let folders = folders_of(place, folder)?;
-    if folders.len() > FEW && lie_on_one_device(&folders) && sync_file_system(place) {
+    let is_synced = folders.len() > FEW
+        && lie_on_one_device(&folders)
+        && sync_file_system(place).unwrap_or(false);
+    if is_synced {
         return Ok(());
     }
     for folder in &folders {
@@ -27,7 +30,7 @@ pub fn settle(place: &Place, folder: &str) -> io::Result<()> {
     Ok(())
 }
 
-// The folders that hold the folder, from the root on, the folder and those below it.
+// The folders that hold the folder, up to the root, the folder itself and those below it.
 fn folders_of(place: &Place, folder: &str) -> io::Result<Vec<Folder>> {
     let mut folders = Vec::new(place.rt.alloc());
     let mut above = folder;
@@ -101,15 +104,8 @@ fn lie_on_one_device(folders: &[Folder]) -> bool {
     }
 }
 
-// Whether the system's own `sync` made the root's whole file system durable.
-fn sync_file_system(place: &Place) -> bool {
-    match run_sync(place) {
-        Ok(ended_well) => ended_well,
-        Err(_) => false,
-    }
-}
-
-fn run_sync(place: &Place) -> io::Result<bool> {
+// Runs the system's own `sync` on the root's whole file system, and answers whether it ended well.
+fn sync_file_system(place: &Place) -> io::Result<bool> {
     let mut command = Command::new(place.rt.alloc(), "sync")?;
     command.arg("-f")?.arg(place.root.as_str())?;
     command.stdin(Stdio::null());
