@@ -1,0 +1,4 @@
+pub mod Heads
+pub mod Rules
+pub mod Built
+pub mod Keys
