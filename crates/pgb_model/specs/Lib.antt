@@ -6,3 +6,12 @@ pub mod InfoText
 pub mod Values
 pub mod Fields
 pub mod InfoFiles
+pub mod Paths
+pub mod ManifestText
+pub mod Pair
+pub mod Place
+pub mod Repository
+pub mod Stands
+pub mod Steps
+pub mod Log
+pub mod Create

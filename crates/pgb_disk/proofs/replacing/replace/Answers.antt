@@ -1,0 +1,26 @@
+use Rattle.pgb_disk.proofs.Replaced.{staged_crash, staged_now, published_crash, published_now, published_ends, published_whole}
+use Rattle.pgb_disk.proofs.replacing.replace.Goals as goal
+
+pub returns-in_err-staged-clause-crash : goal.returns-in_err-staged-clause-crash
+returns-in_err-staged-clause-crash g c = λ tight. staged_crash c.args.temp.now c.args.name.now c.args.bytes.now c.requires.temporary c.requires.lasting _ _ (g.met.D.Disk.now_may_be_left c.args.d.now) tight c.stage.ensures.time c.stage.ensures.others
+
+pub returns-in_err-publish-clause-crash : goal.returns-in_err-publish-clause-crash
+returns-in_err-publish-clause-crash g c = λ tight. published_crash c.args.temp.now c.args.name.now c.args.bytes.now c.requires.temporary c.requires.lasting _ _ _ _ c.in_ok-staged.ensures.name c.in_ok-staged.ensures.now c.stage.ensures.time c.publish.ensures.time (g.met.D.Disk.now_may_be_left c.args.d.now) tight c.publish.result c.publish.ensures.now
+
+pub returns-clause-crash : goal.returns-clause-crash
+returns-clause-crash g c = λ tight. published_crash c.args.temp.now c.args.name.now c.args.bytes.now c.requires.temporary c.requires.lasting _ _ _ _ c.in_ok-staged.ensures.name c.in_ok-staged.ensures.now c.stage.ensures.time c.publish.ensures.time (g.met.D.Disk.now_may_be_left c.args.d.now) tight c.publish.result c.publish.ensures.now
+
+pub returns-clause-whole : goal.returns-clause-whole
+returns-clause-whole g c = λ tight. published_ends c.args.temp.now c.args.name.now c.args.bytes.now c.requires.temporary c.requires.lasting _ _ _ _ c.in_ok-staged.ensures.name c.in_ok-staged.ensures.now c.stage.ensures.time c.publish.ensures.time (g.met.D.Disk.now_may_be_left c.args.d.now) tight c.in_ok-publish.ensures.now c.in_ok-publish.ensures.published
+
+pub returns-in_err-staged-clause-now_part : goal.returns-in_err-staged-clause-now_part
+returns-in_err-staged-clause-now_part g c = staged_now c.args.temp.now c.args.name.now c.args.bytes.now c.requires.temporary c.requires.lasting _ _ c.stage.ensures.others
+
+pub returns-in_err-publish-clause-now_part : goal.returns-in_err-publish-clause-now_part
+returns-in_err-publish-clause-now_part g c = published_now c.args.temp.now c.args.name.now c.args.bytes.now c.requires.temporary c.requires.lasting c.publish.result _ _ _ _ c.in_ok-staged.ensures.name c.in_ok-staged.ensures.now c.publish.ensures.now
+
+pub returns-clause-now_part : goal.returns-clause-now_part
+returns-clause-now_part g c = published_now c.args.temp.now c.args.name.now c.args.bytes.now c.requires.temporary c.requires.lasting c.publish.result _ _ _ _ c.in_ok-staged.ensures.name c.in_ok-staged.ensures.now c.publish.ensures.now
+
+pub returns-clause-now_whole : goal.returns-clause-now_whole
+returns-clause-now_whole g c = published_whole c.args.temp.now c.args.name.now c.args.bytes.now c.requires.temporary c.requires.lasting _ _ _ _ c.in_ok-staged.ensures.name c.in_ok-staged.ensures.now c.in_ok-publish.ensures.now

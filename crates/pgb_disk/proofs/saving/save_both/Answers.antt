@@ -1,0 +1,29 @@
+use Rattle.std.proofs.Common.{[], ◌∷◌}
+use Rattle.pgb_outside.proofs.Crashes.{writes_on, writes_end, writes_part}
+use Rattle.pgb_outside.proofs.Lasting.{still_tight}
+use Rattle.pgb_outside.proofs.Nows.{now_writes_on, now_writes_end}
+use Rattle.pgb_disk.proofs.saving.save_both.Goals as goal
+
+pub returns-in_err-replace-clause-crash : goal.returns-in_err-replace-clause-crash
+returns-in_err-replace-clause-crash g c = λ main copy. writes_part ((c.args.main.now, c.args.bytes.now) ∷ []) ((c.args.copy.now, c.args.bytes.now) ∷ []) _ _ (c.replace.ensures.crash main)
+
+pub returns-in_err-replace-2-clause-crash : goal.returns-in_err-replace-2-clause-crash
+returns-in_err-replace-2-clause-crash g c = λ main copy. let first = c.replace.ensures.crash main in
+    writes_on ((c.args.main.now, c.args.bytes.now) ∷ []) ((c.args.copy.now, c.args.bytes.now) ∷ []) _ _ _ first (c.in_ok-replace.ensures.whole main) (c.replace-2.ensures.crash (still_tight _ _ _ _ first c.requires.copy_lasts copy))
+
+pub returns-clause-crash : goal.returns-clause-crash
+returns-clause-crash g c = λ main copy. let first = c.replace.ensures.crash main in
+    writes_on ((c.args.main.now, c.args.bytes.now) ∷ []) ((c.args.copy.now, c.args.bytes.now) ∷ []) _ _ _ first (c.in_ok-replace.ensures.whole main) (c.replace-2.ensures.crash (still_tight _ _ _ _ first c.requires.copy_lasts copy))
+
+pub returns-clause-whole : goal.returns-clause-whole
+returns-clause-whole g c = λ main copy. let first = c.replace.ensures.crash main in
+    writes_end ((c.args.main.now, c.args.bytes.now) ∷ []) ((c.args.copy.now, c.args.bytes.now) ∷ []) _ _ _ first (c.in_ok-replace.ensures.whole main) (c.in_ok-replace-2.ensures.whole (still_tight _ _ _ _ first c.requires.copy_lasts copy))
+
+pub returns-in_err-replace-2-clause-now_part : goal.returns-in_err-replace-2-clause-now_part
+returns-in_err-replace-2-clause-now_part g c = now_writes_on ((c.args.main.now, c.args.bytes.now) ∷ []) ((c.args.copy.now, c.args.bytes.now) ∷ []) _ _ _ c.in_ok-replace.ensures.now_whole c.replace-2.ensures.now_part
+
+pub returns-clause-now_part : goal.returns-clause-now_part
+returns-clause-now_part g c = now_writes_on ((c.args.main.now, c.args.bytes.now) ∷ []) ((c.args.copy.now, c.args.bytes.now) ∷ []) _ _ _ c.in_ok-replace.ensures.now_whole c.replace-2.ensures.now_part
+
+pub returns-clause-now_whole : goal.returns-clause-now_whole
+returns-clause-now_whole g c = now_writes_end ((c.args.main.now, c.args.bytes.now) ∷ []) ((c.args.copy.now, c.args.bytes.now) ∷ []) _ _ _ c.in_ok-replace.ensures.now_whole c.in_ok-replace-2.ensures.now_whole

@@ -1,0 +1,29 @@
+// What is settled before a command looks at a stanza.
+ghost use Rattle.std.specs.Prelude.{◌≡◌, ◌≤◌, ℕ, List, Option, false, IfErr, OnOk, IsErrOf, IsTrue};
+ghost use Rattle.pgb_outside.specs.Content.{Name, Value, Content, Holds};
+ghost use Rattle.pgb_outside.specs.Moments.{Rests, MayKeep, is_loose};
+ghost use Rattle.pgb_outside.specs.Cause.{Rises};
+ghost use Rattle.pgb_model.specs.Names.{is_of_stanza};
+ghost use Rattle.pgb_disk.specs.Fault.{IsStop};
+
+use crate::fault::StoreFault;
+use pgb_outside::Disk;
+use std::alloc::Global;
+
+/// Settles the stanza's folders, so that a crash leaves what each name there holds, unless it is loose.
+pub fn begin<D: Disk>(alloc: Global, d: &mut D, stanza: &str) -> Result<(), StoreFault>
+    ensures now { (D.view d.new).now ≡ (D.view d.old).now }
+    ensures settled { OnOk result ((n : Name) (v : Value) → IsTrue (is_of_stanza stanza.now n) → is_loose (D.view d.old) n ≡ false → MayKeep (D.view d.new) n v → Holds (D.view d.old).now n v) }
+    ensures time { Rests (D.view d.old) (D.view d.new) }
+    ensures place { D.place d.new ≡ D.place d.old }
+    ensures proper { D.misuses d.new ≡ D.misuses d.old }
+    ensures later { D.faults d.old ≤ D.faults d.new }
+    ensures cause { IsErrOf result StoreFault.Disk → Rises (D.faults d.old) (D.faults d.new) }
+    ensures refusals { IfErr result IsStop }
+{
+    let archive = format!(in alloc; "archive/{stanza}")?;
+    let backup = format!(in alloc; "backup/{stanza}")?;
+    d.settle(&archive)?;
+    d.settle(&backup)?;
+    Ok(())
+}

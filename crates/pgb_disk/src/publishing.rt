@@ -1,0 +1,62 @@
+// Staged bytes that are given a name.
+ghost use Rattle.std.specs.Prelude.{◌≡◌, ◌≢◌, ◌⊎◌, ◌≤◌, ℕ, List, Option, None, false, IfErr, OnOk, IsErrOf, IsTrue};
+ghost use Rattle.pgb_outside.specs.Content.{Name, Value, Content, moved, is_below, Holds, IsThere, Changes};
+ghost use Rattle.pgb_outside.specs.Moments.{Goes, MayKeep, is_loose};
+ghost use Rattle.pgb_outside.specs.Cause.{Rises};
+ghost use Rattle.pgb_disk.specs.Fault.{IsStop};
+ghost use Rattle.pgb_disk.specs.Staged.{staged_name};
+ghost use Rattle.pgb_disk.specs.Store.{LiesIn};
+
+use crate::fault::StoreFault;
+use crate::staging::Staged;
+use pgb_outside::Disk;
+
+/// Gives the staged bytes the name, so that a crash leaves what the name had or these bytes whole.
+pub fn publish<D: Disk>(d: &mut D, staged: Staged, name: &str) -> Result<(), StoreFault>
+    requires folder { (folder : Name) × LiesIn folder (staged_name staged) × LiesIn folder name.now }
+    requires other { staged_name staged ≢ name.now }
+    requires synced { is_loose (D.view d.old) (staged_name staged) ≡ false }
+    requires there { IsThere (D.view d.old).now (staged_name staged) }
+    ensures now { Changes result (moved (staged_name staged) name.now) (D.view d.old).now (D.view d.new).now }
+    ensures published { OnOk result (is_loose (D.view d.old) name.now ≡ false → (v : Value) → MayKeep (D.view d.new) name.now v → Holds (D.view d.old).now (staged_name staged) v) }
+    ensures time { Goes (λ n v. ((n ≡ name.now) × Holds (D.view d.old).now (staged_name staged) v) ⊎ ((n ≡ staged_name staged) × (v ≡ None))) (λ _. ⊥) (D.view d.old) (D.view d.new) }
+    ensures place { D.place d.new ≡ D.place d.old }
+    ensures proper { D.misuses d.new ≡ D.misuses d.old }
+    ensures later { D.faults d.old ≤ D.faults d.new }
+    ensures cause { IsErrOf result StoreFault.Disk → Rises (D.faults d.old) (D.faults d.new) }
+    ensures refusals { IfErr result IsStop }
+{
+    let folder = folder_of(name);
+    publish_in(d, staged.name(), name, folder)
+}
+
+// The folder of a name that lies in one.
+fn folder_of(name: &str) -> &str
+    requires { (folder : Name) × LiesIn folder name.now }
+    ensures { IsTrue (is_below result.now name.now) }
+{
+    match name.rsplit_once('/') {
+        Some((folder, _)) => folder,
+        None => name,
+    }
+}
+
+// Moves the bytes to the name and settles its folder, since a crash may undo a rename until then.
+fn publish_in<D: Disk>(d: &mut D, from: &str, name: &str, folder: &str) -> Result<(), StoreFault>
+    requires below { IsTrue (is_below folder.now name.now) }
+    requires other { from.now ≢ name.now }
+    requires synced { is_loose (D.view d.old) from.now ≡ false }
+    requires there { IsThere (D.view d.old).now from.now }
+    ensures now { Changes result (moved from.now name.now) (D.view d.old).now (D.view d.new).now }
+    ensures published { OnOk result (is_loose (D.view d.old) name.now ≡ false → (v : Value) → MayKeep (D.view d.new) name.now v → Holds (D.view d.old).now from.now v) }
+    ensures time { Goes (λ n v. ((n ≡ name.now) × Holds (D.view d.old).now from.now v) ⊎ ((n ≡ from.now) × (v ≡ None))) (λ _. ⊥) (D.view d.old) (D.view d.new) }
+    ensures place { D.place d.new ≡ D.place d.old }
+    ensures proper { D.misuses d.new ≡ D.misuses d.old }
+    ensures later { D.faults d.old ≤ D.faults d.new }
+    ensures cause { IsErrOf result StoreFault.Disk → Rises (D.faults d.old) (D.faults d.new) }
+    ensures refusals { IfErr result IsStop }
+{
+    d.rename(from, name)?;
+    d.settle(folder)?;
+    Ok(())
+}

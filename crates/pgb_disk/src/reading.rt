@@ -1,0 +1,43 @@
+// All the bytes of a name.
+ghost use Rattle.std.specs.Prelude.{◌≡◌, ◌≤◌, ◌<◌, ℕ, List, Option, option_map, IfOk, IfErr, IsErrOf, IfSome, IsSomeAnd, Vec, length};
+ghost use Rattle.std.specs.declared.alloc.Global.{Global};
+ghost use Rattle.pgb_outside.specs.Content.{Name, Value, Content};
+ghost use Rattle.pgb_outside.specs.Moments.{Rests};
+ghost use Rattle.pgb_outside.specs.Cause.{Rises};
+ghost use Rattle.pgb_disk.specs.Fault.{IfTooLong};
+
+use crate::fault::StoreFault;
+use pgb_outside::Disk;
+use std::alloc::Global;
+
+/// All the bytes of a name, at most `limit`; None where it is absent.
+pub fn read_whole<D: Disk>(
+    alloc: Global,
+    d: &mut D,
+    name: &str,
+    limit: u64,
+) -> Result<Option<Vec<u8>>, StoreFault>
+    ensures bytes { IfOk result (λ r. IfSome (D.view d.old).now (λ f. (option_map (λ (v : Vec ℕ Global). v.items) r ≡ f name.now) × IfSome (f name.now) (λ b. length b ≤ limit))) }
+    ensures told { IfErr result (λ e. IfTooLong e (λ n l. (n ≡ name.now) × (l ≡ limit))) }
+    ensures too_long { IfErr result (λ e. IfTooLong e (λ _ _. IfSome (D.view d.old).now (λ f. IsSomeAnd (f name.now) (λ b. limit < length b)))) }
+    ensures now { (D.view d.new).now ≡ (D.view d.old).now }
+    ensures time { Rests (D.view d.old) (D.view d.new) }
+    ensures place { D.place d.new ≡ D.place d.old }
+    ensures proper { D.misuses d.new ≡ D.misuses d.old }
+    ensures later { D.faults d.old ≤ D.faults d.new }
+    ensures cause { IsErrOf result StoreFault.Disk → Rises (D.faults d.old) (D.faults d.new) }
+{
+    let mut bytes = Vec::new(alloc);
+    let mut buf = [0u8; 32768];
+    while bytes.len() as u64 <= limit {
+        match d.read(name, bytes.len() as u64, &mut buf)? {
+            None => return Ok(None),
+            Some(0) => return Ok(Some(bytes)),
+            Some(n) => bytes.extend_from_slice(&buf[..n])?,
+        }
+    }
+    Err(StoreFault::TooLong {
+        name: String::from_str(alloc, name)?,
+        limit,
+    })
+}

@@ -1,0 +1,42 @@
+// Bytes that are kept at two names.
+ghost use Rattle.std.specs.Prelude.{◌≡◌, ◌≤◌, [], ◌∷◌, ℕ, List, Option, false, IfErr, OnOk, IsErrOf};
+ghost use Rattle.pgb_outside.specs.Content.{Name, Value, Content};
+ghost use Rattle.pgb_outside.specs.Moments.{is_loose};
+ghost use Rattle.pgb_outside.specs.Crash.{IsTemporary, Crash, Ends, NowGoes, FirstOf, AllOf};
+ghost use Rattle.pgb_outside.specs.Cause.{Rises};
+ghost use Rattle.pgb_disk.specs.Fault.{IsStop};
+ghost use Rattle.pgb_disk.specs.Store.{LiesIn};
+
+use crate::fault::StoreFault;
+use crate::replacing::replace;
+use pgb_outside::Disk;
+use std::alloc::Global;
+
+/// Saves the main name whole before its copy, so that at each moment a crash leaves one of the two whole.
+pub fn save_both<D: Disk>(
+    alloc: Global,
+    d: &mut D,
+    temp: &str,
+    main: &str,
+    copy: &str,
+    bytes: &[u8],
+) -> Result<(), StoreFault>
+    requires main_folder { (folder : Name) × LiesIn folder temp.now × LiesIn folder main.now }
+    requires copy_folder { (folder : Name) × LiesIn folder temp.now × LiesIn folder copy.now }
+    requires temporary { IsTemporary temp.now }
+    requires main_lasts { ¬ IsTemporary main.now }
+    requires copy_lasts { ¬ IsTemporary copy.now }
+    ensures crash { is_loose (D.view d.old) main.now ≡ false → is_loose (D.view d.old) copy.now ≡ false → Crash (FirstOf ((main.now, bytes.now) ∷ (copy.now, bytes.now) ∷ [])) (D.view d.old) (D.view d.new) }
+    ensures whole { OnOk result (is_loose (D.view d.old) main.now ≡ false → is_loose (D.view d.old) copy.now ≡ false → Ends (AllOf ((main.now, bytes.now) ∷ (copy.now, bytes.now) ∷ [])) (D.view d.old) (D.view d.new)) }
+    ensures now_part { NowGoes (FirstOf ((main.now, bytes.now) ∷ (copy.now, bytes.now) ∷ [])) (D.view d.old).now (D.view d.new).now }
+    ensures now_whole { OnOk result (NowGoes (AllOf ((main.now, bytes.now) ∷ (copy.now, bytes.now) ∷ [])) (D.view d.old).now (D.view d.new).now) }
+    ensures place { D.place d.new ≡ D.place d.old }
+    ensures proper { D.misuses d.new ≡ D.misuses d.old }
+    ensures later { D.faults d.old ≤ D.faults d.new }
+    ensures cause { IsErrOf result StoreFault.Disk → Rises (D.faults d.old) (D.faults d.new) }
+    ensures refusals { IfErr result IsStop }
+{
+    replace(alloc, d, temp, main, bytes)?;
+    replace(alloc, d, temp, copy, bytes)?;
+    Ok(())
+}

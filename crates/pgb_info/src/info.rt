@@ -1,0 +1,24 @@
+// What is kept in an info file.
+ghost use Rattle.std.specs.Prelude.{◌≡◌, List, IfOk};
+ghost use Rattle.pgb_ini.specs.Parts.{sections_of};
+ghost use Rattle.pgb_model.specs.InfoText.{Section, IsInfo};
+
+use pgb_ini::Part;
+use pgb_text::NoMemory;
+use std::alloc::Global;
+
+/// A value that has an info text.
+pub trait Info {
+    /// The sections of its text.
+    ghost sections: { Self → List Section };
+
+    /// The rules of its kind.
+    ghost is_valid: { Self → Type 0 };
+
+    fn parts(&self, alloc: Global) -> Result<Vec<Part>, NoMemory>
+        requires { is_valid self.now }
+        ensures { IfOk result (λ parts. sections_of parts.items ≡ sections self.now) };
+
+    /// A value within the rules has a text.
+    ghost is_info: { (v : Self) → is_valid v → IsInfo (sections v) };
+}

@@ -1,0 +1,48 @@
+// The two members of an info file are written.
+ghost use Rattle.std.specs.Prelude.{◌≡◌, ◌≤◌, ◌++◌, codes, false, IfOk, OnOk, IsErrOf, string_bytes};
+ghost use Rattle.pgb_outside.specs.Moments.{is_loose};
+ghost use Rattle.pgb_outside.specs.Crash.{Crash, Ends, NowGoes, FirstOf, AllOf};
+ghost use Rattle.pgb_outside.specs.Cause.{Rises};
+ghost use Rattle.pgb_model.specs.Names.{copy_of};
+ghost use Rattle.pgb_model.specs.Create.{member_writes};
+ghost use Rattle.pgb_info.specs.Member.{IsInfoName};
+
+use crate::fault::InfoFault;
+use pgb_disk::save_both;
+use pgb_outside::Disk;
+use std::alloc::{AllocError, Global};
+
+fn copy_name(alloc: Global, name: &str) -> Result<String, AllocError>
+    ensures { IfOk result (λ copy. string_bytes copy ≡ copy_of name.now) }
+{
+    format!(in alloc; "{name}.copy")
+}
+
+fn temporary_name(alloc: Global, name: &str) -> Result<String, AllocError>
+    ensures { IfOk result (λ temporary. string_bytes temporary ≡ name.now ++ codes ".pgbackrest.tmp") }
+{
+    format!(in alloc; "{name}.pgbackrest.tmp")
+}
+
+/// Saves the text at an info file's name, then at its copy.
+pub(crate) fn save_members<D: Disk>(
+    alloc: Global,
+    d: &mut D,
+    name: &str,
+    text: &[u8],
+) -> Result<(), InfoFault>
+    requires { IsInfoName name.now }
+    ensures crash { is_loose (D.view d.old) name.now ≡ false → is_loose (D.view d.old) (copy_of name.now) ≡ false → Crash (FirstOf (member_writes name.now text.now)) (D.view d.old) (D.view d.new) }
+    ensures whole { OnOk result (is_loose (D.view d.old) name.now ≡ false → is_loose (D.view d.old) (copy_of name.now) ≡ false → Ends (AllOf (member_writes name.now text.now)) (D.view d.old) (D.view d.new)) }
+    ensures now_part { NowGoes (FirstOf (member_writes name.now text.now)) (D.view d.old).now (D.view d.new).now }
+    ensures now_whole { OnOk result (NowGoes (AllOf (member_writes name.now text.now)) (D.view d.old).now (D.view d.new).now) }
+    ensures place { D.place d.new ≡ D.place d.old }
+    ensures proper { D.misuses d.new ≡ D.misuses d.old }
+    ensures later { D.faults d.old ≤ D.faults d.new }
+    ensures cause { IsErrOf result InfoFault.Disk → Rises (D.faults d.old) (D.faults d.new) }
+{
+    let copy = copy_name(alloc, name)?;
+    let temporary = temporary_name(alloc, name)?;
+    save_both(alloc, d, temporary.as_str(), name, copy.as_str(), text)?;
+    Ok(())
+}

@@ -1,0 +1,51 @@
+// An info file is saved.
+ghost use Rattle.std.specs.Prelude.{◌≡◌, ◌≤◌, false, IfOk, OnOk, IsErrOf, length};
+ghost use Rattle.pgb_outside.specs.Moments.{is_loose};
+ghost use Rattle.pgb_outside.specs.Crash.{Crash, Ends, NowGoes, FirstOf, AllOf};
+ghost use Rattle.pgb_outside.specs.Cause.{Rises};
+ghost use Rattle.pgb_model.specs.Names.{copy_of};
+ghost use Rattle.pgb_model.specs.InfoText.{info_text};
+ghost use Rattle.pgb_model.specs.InfoFiles.{info_limit};
+ghost use Rattle.pgb_model.specs.Create.{member_writes};
+ghost use Rattle.pgb_info.specs.Member.{IsInfoName};
+
+use crate::fault::InfoFault;
+use crate::info::Info;
+use crate::members::save_members;
+use pgb_ini::write_info_text;
+use pgb_outside::Disk;
+use pgb_text::NoMemory;
+use std::alloc::Global;
+
+// The text of a value.
+fn text_of<I: Info>(alloc: Global, value: &I) -> Result<Vec<u8>, NoMemory>
+    requires { I.is_valid value.now }
+    ensures { IfOk result (λ text. text.items ≡ info_text (I.sections value.now)) }
+{
+    let parts = value.parts(alloc)?;
+    write_info_text(alloc, &parts)
+}
+
+/// Saves the value's text at the main member's name, then at its copy's.
+pub fn save_pair<D: Disk, I: Info>(
+    alloc: Global,
+    d: &mut D,
+    name: &str,
+    value: &I,
+) -> Result<(), InfoFault>
+    requires named { IsInfoName name.now }
+    requires valid { I.is_valid value.now }
+    requires within { length (info_text (I.sections value.now)) ≤ info_limit }
+    ensures crash { is_loose (D.view d.old) name.now ≡ false → is_loose (D.view d.old) (copy_of name.now) ≡ false → Crash (FirstOf (member_writes name.now (info_text (I.sections value.now)))) (D.view d.old) (D.view d.new) }
+    ensures whole { OnOk result (is_loose (D.view d.old) name.now ≡ false → is_loose (D.view d.old) (copy_of name.now) ≡ false → Ends (AllOf (member_writes name.now (info_text (I.sections value.now)))) (D.view d.old) (D.view d.new)) }
+    ensures now_part { NowGoes (FirstOf (member_writes name.now (info_text (I.sections value.now)))) (D.view d.old).now (D.view d.new).now }
+    ensures now_whole { OnOk result (NowGoes (AllOf (member_writes name.now (info_text (I.sections value.now)))) (D.view d.old).now (D.view d.new).now) }
+    ensures place { D.place d.new ≡ D.place d.old }
+    ensures proper { D.misuses d.new ≡ D.misuses d.old }
+    ensures later { D.faults d.old ≤ D.faults d.new }
+    ensures cause { IsErrOf result InfoFault.Disk → Rises (D.faults d.old) (D.faults d.new) }
+{
+    let text = text_of(alloc, value)?;
+    save_members(alloc, d, name, &text)?;
+    Ok(())
+}

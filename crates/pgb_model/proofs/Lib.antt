@@ -1,0 +1,5 @@
+pub mod NameLemmas
+pub mod Temporary
+pub mod Frame
+pub mod Created
+mod Worked

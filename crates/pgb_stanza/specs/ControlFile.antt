@@ -1,0 +1,41 @@
+-- What a data folder's two files tell of its cluster (PostgreSQL manual, "Database File Layout" and "pg_controldata").
+use Rattle.std.specs.Prelude.{◌≡◌, ◌≢◌, ◌⊎◌, ℕ, ◌+◌, ◌*◌, ◌<◌, ◌≤◌, ◌^◌, List, [], ◌∷◌, ◌++◌, length, take, drop, decimal}
+use Rattle.pgb_model.specs.Text.{Text}
+use Rattle.pgb_model.specs.declared.clusters.Cluster.{Cluster}
+use Rattle.pgb_stanza.specs.declared.control.Control.{Control}
+use Rattle.pgb_stanza.specs.declared.control.ControlFault.{ControlFault}
+use Rattle.pgb_stanza.specs.declared.control.ControlFault.TheVariants.{ControlShort, VersionText, VersionUnsupported}
+
+-- the number of these bytes, the lowest first
+abbrev pub little_endian : Text → ℕ
+little_endian [] = 0
+little_endian (b ∷ bs) = b + 256 * little_endian bs
+
+-- a number in decimal and a newline
+abbrev pub IsVersionText : ℕ → Text → Type 0
+IsVersionText n text = text ≡ decimal n ++ 10 ∷ []
+
+-- the files `global/pg_control` and `PG_VERSION` tell this
+pub record Tells (control version : Text) (c : Control) : Type 0 where
+  pub long : 16 ≤ length control
+  pub system : c.system ≡ little_endian (take 8 control)
+  pub control_version : c.control ≡ little_endian (take 4 (drop 8 control))
+  pub catalog : c.catalog ≡ little_endian (take 4 (drop 12 control))
+  pub version_text : IsVersionText c.version version
+  pub supported : (15 ≤ c.version) × (c.version ≤ 17)
+
+-- why the version file tells none that is supported
+abbrev pub IsVersionRefused : Text → ControlFault → Type 0
+IsVersionRefused version (ControlShort n) = ⊥
+IsVersionRefused version VersionText = (n : ℕ) → n < 2 ^ 64 → ¬ IsVersionText n version
+IsVersionRefused version (VersionUnsupported n) = (n < 2 ^ 64) × IsVersionText n version × ((n < 15) ⊎ (17 < n))
+
+-- why the two files tell nothing: a short control file comes first
+abbrev pub IsRefused : Text → Text → ControlFault → Type 0
+IsRefused control version (ControlShort n) = (n ≡ length control) × (length control < 16)
+IsRefused control version VersionText = (16 ≤ length control) × IsVersionRefused version VersionText
+IsRefused control version (VersionUnsupported n) = (16 ≤ length control) × IsVersionRefused version (VersionUnsupported n)
+
+-- the cluster of a new stanza
+abbrev pub first_cluster : Control → Cluster
+first_cluster c = record { id = 1; system = c.system; version = c.version; control = c.control; catalog = c.catalog }
