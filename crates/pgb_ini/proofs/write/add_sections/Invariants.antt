@@ -1,8 +1,4 @@
-<<<<<<< HEAD
 use Rattle.std.proofs.Common.{◌≡◌, ◌++◌, drop, true}
-=======
-use Rattle.std.proofs.Common.{◌≡◌, ◌++◌, map, drop, true}
->>>>>>> e91a8bf6ab6adca0b164c554535a25238c8c4a1a
 use Rattle.std.specs.List.{flat_map}
 use Rattle.serde_json.specs.Written.{members_text}
 use Rattle.pgb_model.specs.InfoText.{section_text, sections_from}
