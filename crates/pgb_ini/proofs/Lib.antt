@@ -2,3 +2,4 @@ pub mod Heads
 pub mod Rules
 pub mod Built
 pub mod Keys
+pub mod Sizes
