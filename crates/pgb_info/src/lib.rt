@@ -1,6 +1,8 @@
 //! Info files: their values, and the two members in which each is kept.
 #![tactic(auto)]
 
+mod archive_info;
+mod by_key;
 mod fault;
 mod info;
 mod members;
