@@ -4,3 +4,4 @@ pub mod KeyNames
 pub mod Found
 pub mod ByKey
 pub mod ArchiveRules
+pub mod Dates

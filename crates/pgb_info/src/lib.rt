@@ -5,9 +5,12 @@ mod archive_info;
 mod by_key;
 mod fault;
 mod info;
+mod labels;
 mod members;
 mod saving;
+mod stamps;
 
 pub use fault::InfoFault;
 pub use info::Info;
+pub use labels::label_text;
 pub use saving::save_pair;
