@@ -5,3 +5,4 @@ pub mod Found
 pub mod ByKey
 pub mod ArchiveRules
 pub mod Dates
+pub mod Hexadecimal
