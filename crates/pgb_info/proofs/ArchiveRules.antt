@@ -42,7 +42,7 @@ key_rules c h = IsKey-built (decimal c.id) (cluster_id_field c).1 (is_key-decima
 small : (c : ClusterId) → IsClusterId c → c.id < 2 ^ 64
 small c h = omega arith
 
-some_section : (name : Text) (ks : List Field) → has_keys ks ≡ true → section name ks ≡ record { name = name; keys = ks } ∷ []
+pub some_section : (name : Text) (ks : List Field) → has_keys ks ≡ true → section name ks ≡ record { name = name; keys = ks } ∷ []
 some_section name [] h = cc h
 some_section name (k ∷ ks) h = refl
 

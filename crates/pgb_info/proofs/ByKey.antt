@@ -28,7 +28,7 @@ by_order a b apart Greater e h = ap (λ o. match_ordering o true false false) (n
 other_first : (a b : Text) → a ≢ b → is_before a b ≡ false → is_before b a ≡ true
 other_first a b apart h = by_order a b apart (slice_cmp nat_cmp a b) refl h
 
-both : (a b : Bool) → a ≡ true → b ≡ true → (a && b) ≡ true
+pub both : (a b : Bool) → a ≡ true → b ≡ true → (a && b) ≡ true
 both true b h g = g
 both false b h g = cc h
 
@@ -86,7 +86,7 @@ below_more : (n : ℕ) (ks : List Field) → AllByRecursion (IsBelow n) ks → A
 below_more n [] h = tt
 below_more n (x ∷ ks) h = let (m, less, name) = h.0 in ((m, omega arith, name), below_more n ks h.1)
 
-after_nothing : (name : Text) → 0 < length name → is_before [] name ≡ true
+pub after_nothing : (name : Text) → 0 < length name → is_before [] name ≡ true
 after_nothing [] h = absurd (omega arith)
 after_nothing (c ∷ cs) h = refl
 

@@ -6,3 +6,6 @@ pub mod ByKey
 pub mod ArchiveRules
 pub mod Dates
 pub mod Hexadecimal
+pub mod PlainTexts
+pub mod Entries
+pub mod BackupRules

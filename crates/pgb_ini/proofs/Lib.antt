@@ -3,3 +3,4 @@ pub mod Rules
 pub mod Built
 pub mod Keys
 pub mod Sizes
+pub mod Objects
