@@ -12,7 +12,7 @@ use crate::replacing::replace;
 use pgb_outside::Disk;
 use std::alloc::Global;
 
-/// Saves the main name whole before its copy, so that at each moment a crash leaves one of the two whole.
+/// Gives both names these bytes, the main name whole before its copy.
 pub fn save_both<D: Disk>(
     alloc: Global,
     d: &mut D,

@@ -2,4 +2,6 @@ pub mod NameLemmas
 pub mod Temporary
 pub mod Frame
 pub mod Created
+pub mod Made
+pub mod Done
 mod Worked

@@ -15,3 +15,4 @@ pub mod Stands
 pub mod Steps
 pub mod Log
 pub mod Create
+pub mod Now

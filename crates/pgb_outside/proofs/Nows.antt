@@ -6,7 +6,7 @@ use Rattle.pgb_outside.specs.Crash.{NowGoes, Write, AllOf, FirstOf}
 use Rattle.pgb_outside.proofs.Crashes.{all_all, all_first, first_first, first_none, Step}
 
 -- a content that is told
-told_as : (o : Option Content) → IsSome o → (f : Content) × (o ≡ Some f)
+pub told_as : (o : Option Content) → IsSome o → (f : Content) × (o ≡ Some f)
 told_as None some = cc
 told_as (Some f) some = (f, refl)
 

@@ -1,1 +1,2 @@
 pub mod ControlFile
+pub mod Fault

@@ -2,5 +2,11 @@
 #![tactic(auto)]
 
 mod control;
+mod creating;
+mod fault;
+mod names;
+mod saving;
 
 pub use control::{Control, ControlFault, read_control};
+pub use creating::{Created, create, is_new};
+pub use fault::StanzaFault;

@@ -20,5 +20,5 @@ loop-buf-preserved g c =
       place = c.read.ensures.place ∙ i.place;
       proper = c.read.ensures.proper ∙ i.proper;
       later = omega arith;
-      front = inr (front_more (g.D.Disk.view c.args.d.now).now name bytes.items c.read.new.buf c.extend_from_slice.new.self.items (vec_len bytes) c.in-Some.n (length c.loop-buf.buf) (vec_len c.extend_from_slice.new.self) reads i.front (grind (arith, common_steps)) more (grind (arith, common_steps)));
+      front = inr (front_more (g.D.Disk.view c.args.d.now).now (λ (f : Content). f name) bytes.items c.read.new.buf c.extend_from_slice.new.self.items (vec_len bytes) c.in-Some.n (length c.loop-buf.buf) (vec_len c.extend_from_slice.new.self) reads i.front (grind (arith, common_steps)) more (grind (arith, common_steps)));
     }

@@ -1,0 +1,126 @@
+#!/usr/bin/env bash
+# stanza-create on a cluster that PostgreSQL 15's initdb made: what it writes, and what it refuses.
+set -euo pipefail
+cd "$(dirname "$0")/.."
+tools=/usr/lib/postgresql/15/bin
+
+if [ ! -x "$tools/initdb" ] && [ "$(id -u)" = 0 ]; then
+    DEBIAN_FRONTEND=noninteractive timeout 300 apt-get install -y --no-install-recommends postgresql-15 >/dev/null 2>&1 || true
+fi
+if [ ! -x "$tools/initdb" ]; then
+    printf 'PostgreSQL 15 is not here: skipped\n'
+    exit 77
+fi
+
+./build
+program=$PWD/bin/pgbackrest
+room=$(mktemp -d)
+trap 'rm -rf "$room"' EXIT
+chmod 711 "$room"
+checks/cluster "$room/pg"
+cd "$room"
+
+wrong=0
+complain() {
+    printf 'wrong: %s\n' "$*"
+    wrong=1
+}
+
+# want STATUS OUTPUT WORD..: the program ends so, and writes that and nothing else.
+want() {
+    local status=0 wanted=$1 output=$2
+    shift 2
+    "$program" "$@" >output 2>errors || status=$?
+    [ "$status" = "$wanted" ] || complain "$* ended with $status and not $wanted"
+    printf '%s' "$output" | cmp -s - output || complain "$* wrote '$(cat output)' and not '$output'"
+    [ ! -s errors ] || complain "$* wrote to standard error: $(cat errors)"
+}
+
+# create STATUS OUTPUT REPOSITORY: stanza-create there.
+create() {
+    want "$1" "$2" --stanza=demo --pg1-path="$room/pg" --repo1-path="$room/$3" --lock-path="$room/lock" --no-online stanza-create
+}
+
+# refuse STATUS OUTPUT: stanza-create in a new repository, which writes nothing.
+refuse() {
+    create "$1" "$2" refused
+    [ -z "$(find refused -type f 2>/dev/null)" ] || complain "files were written at status $1"
+}
+
+# info MEMBERS JSON LINES: the text of an info file, with its checksum over the JSON object of all sections.
+info() {
+    local sum
+    sum=$(printf '%s' "$1" | sha1sum | cut -d' ' -f1)
+    printf '[backrest]\nbackrest-format=5\n\n%s\n\n[backrest]\nbackrest-checksum="%s"\n' "$2" "$sum"
+}
+
+told() {
+    LC_ALL=C "$tools/pg_controldata" pg | sed -n "s/^$1: *//p"
+}
+
+create 0 '' repo
+files=$(find repo -type f 2>/dev/null | LC_ALL=C sort) || true
+[ "$files" = 'repo/archive/demo/archive.info
+repo/archive/demo/archive.info.copy
+repo/backup/demo/backup.info
+repo/backup/demo/backup.info.copy' ] || complain "the repository has '$files'"
+
+system=$(told 'Database system identifier')
+control=$(told 'pg_control version number')
+catalog=$(told 'Catalog version number')
+archive="\"db-system-id\":$system,\"db-version\":\"15\""
+backup="\"db-catalog-version\":$catalog,\"db-control-version\":$control"
+info "{\"backrest\":{\"backrest-format\":5},\"db\":{\"db-id\":1,$archive},\"db:history\":{\"1\":{$archive}}}" \
+    "[db]
+db-id=1
+db-system-id=$system
+db-version=\"15\"
+
+[db:history]
+1={$archive}" >archive.wanted
+info "{\"backrest\":{\"backrest-format\":5},\"db\":{$backup,\"db-id\":1,$archive},\"db:history\":{\"1\":{$backup,$archive}}}" \
+    "[db]
+db-catalog-version=$catalog
+db-control-version=$control
+db-id=1
+db-system-id=$system
+db-version=\"15\"
+
+[db:history]
+1={$backup,$archive}" >backup.wanted
+for kind in archive backup; do
+    for name in "$kind.info" "$kind.info.copy"; do
+        cmp -s "$kind.wanted" "repo/$kind/demo/$name" || complain "$name isn't what pg_controldata tells"
+    done
+done
+[ -z "$(find repo -type f ! -perm 600 2>/dev/null)" ] || complain 'a file has another mode than 600'
+[ -z "$(find repo -type d ! -perm 700 2>/dev/null)" ] || complain 'a folder has another mode than 700'
+
+create 100 "ERROR: [100]: 'existing stanza' is not built yet
+" repo
+for kind in archive backup; do
+    cmp -s "$kind.wanted" "repo/$kind/demo/$kind.info" || complain "$kind.info changed"
+done
+
+mv pg/PG_VERSION version
+refuse 28 "ERROR: [028]: 'PG_VERSION' is missing
+"
+printf 15 >pg/PG_VERSION
+refuse 26 'ERROR: [026]: PG_VERSION is not valid
+'
+printf '14\n' >pg/PG_VERSION
+refuse 27 'ERROR: [027]: version 14 is not supported
+'
+mv version pg/PG_VERSION
+cp pg/global/pg_control kept
+head -c 15 kept >pg/global/pg_control
+refuse 25 'ERROR: [025]: control file has 15 bytes
+'
+rm pg/global/pg_control
+refuse 28 "ERROR: [028]: 'global/pg_control' is missing
+"
+want 100 "ERROR: [100]: 'command line' is not built yet
+" --stanza=demo stanza-create
+want 100 "ERROR: [100]: 'command line' is not built yet
+"
+exit "$wrong"

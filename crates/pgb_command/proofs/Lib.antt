@@ -1,0 +1,6 @@
+mod SixWords
+mod Written
+mod Told
+mod Fronts
+mod Creates
+mod Causes

@@ -1,0 +1,18 @@
+use Rattle.std.proofs.Common.{◌∙◌, sym, Some, None, refl}
+use Rattle.pgb_outside.specs.Cause.{Rises}
+use Rattle.pgb_command.proofs.Causes.{with_sink, not_zero, told_cause, found}
+use Rattle.pgb_command.proofs.top.run.Goals as goal
+
+pub returns-in-Err-clause-done : goal.returns-in-Err-clause-done
+returns-in-Err-clause-done g c = λ zero. absurd (not_zero c.tell.result (sym c.status.ensures ∙ zero))
+
+pub returns-in-Ok-clause-answered : goal.returns-in-Ok-clause-answered
+returns-in-Ok-clause-answered g c = (None, refl, with_sink _ _ _ _ _ _ None c.in-Ok.ensures.made, refl)
+
+pub returns-in-Err-clause-answered : goal.returns-in-Err-clause-answered
+returns-in-Err-clause-answered g c =
+    let both = told_cause _ _ _ _ _ (Rises (g.O.Sink.faults c.args.outside.now.out) (g.O.Sink.faults c.tell.new.out)) (g.O.Sink.written c.args.outside.now.out) (g.O.Sink.written c.tell.new.out) c.in-Err.fault c.tell.result c.in-Err.ensures.cause c.tell.ensures.told in
+    (Some c.tell.result, c.status.ensures, both.0, both.1)
+
+pub returns-in-Err-clause-refused : goal.returns-in-Err-clause-refused
+returns-in-Err-clause-refused g c = λ finding. found _ c.in-Err.fault _ _ c.tell.result c.status.result _ c.tell.ensures.told c.status.ensures finding c.in-Err.ensures.refused

@@ -1,0 +1,137 @@
+// stanza-create.
+ghost use Rattle.std.specs.Prelude.{◌≡◌, ◌≤◌, ◌⊎◌, true, false, None, Some, ℕ, List, Option, OnOk, IfErr, IfSome, IsSome, IsSomeAnd, IsErrOf};
+ghost use Rattle.pgb_outside.specs.Cause.{Rises};
+ghost use Rattle.pgb_model.specs.declared.clusters.Cluster.{Cluster};
+ghost use Rattle.pgb_model.specs.Repository.{Repository};
+ghost use Rattle.pgb_model.specs.Steps.{step, Create, StanzaCreate};
+ghost use Rattle.pgb_model.specs.Create.{lacks_pairs};
+ghost use Rattle.pgb_model.specs.Now.{NowStands, HasNewPairs, NowDoes};
+ghost use Rattle.pgb_stanza.specs.ControlFile.{first_cluster};
+ghost use Rattle.pgb_command.specs.Cluster.{IsClusterOf};
+ghost use Rattle.pgb_command.specs.Causes.{CreateCause, TellsSome};
+ghost use Rattle.pgb_command.specs.Answers.{OnFinding};
+ghost use Rattle.pgb_command.specs.Making.{MakeCause, DeviceCause};
+
+use crate::cluster::read_cluster;
+use crate::fault::{Fault, Unbuilt};
+use crate::words::Settings;
+use pgb_disk::{StoreFault, begin};
+use pgb_outside::{Disk, Stop, Tree};
+use pgb_stanza::{Control, create, is_new};
+use std::alloc::Global;
+
+fn open_tree<T: Tree>(tree: &mut T, path: &str) -> Result<(), Fault>
+    ensures place { OnOk result (T.place tree.new ≡ path.now) }
+    ensures nodes { T.nodes tree.new ≡ T.nodes tree.old }
+    ensures later { T.faults tree.old ≤ T.faults tree.new }
+    ensures cause { IfErr result (DeviceCause ⊥ (Rises (T.faults tree.old) (T.faults tree.new))) }
+{
+    match tree.open(path) {
+        Ok(()) => Ok(()),
+        Err(Stop::Failed) => Err(Fault::Tree),
+        Err(Stop::NoMemory) => Err(Fault::NoMemory),
+    }
+}
+
+fn open_repo<D: Disk>(repo: &mut D, path: &str) -> Result<(), Fault>
+    ensures place { OnOk result (D.place repo.new ≡ path.now) }
+    ensures now { (D.view repo.new).now ≡ (D.view repo.old).now }
+    ensures later { D.faults repo.old ≤ D.faults repo.new }
+    ensures cause { IfErr result (DeviceCause (Rises (D.faults repo.old) (D.faults repo.new)) ⊥) }
+{
+    match repo.open(path) {
+        Ok(()) => Ok(()),
+        Err(Stop::Failed) => Err(Fault::Disk),
+        Err(Stop::NoMemory) => Err(Fault::NoMemory),
+    }
+}
+
+fn settle<D: Disk>(alloc: Global, repo: &mut D, stanza: &str) -> Result<(), Fault>
+    ensures now { (D.view repo.new).now ≡ (D.view repo.old).now }
+    ensures place { D.place repo.new ≡ D.place repo.old }
+    ensures later { D.faults repo.old ≤ D.faults repo.new }
+    ensures cause { IfErr result (DeviceCause (Rises (D.faults repo.old) (D.faults repo.new)) ⊥) }
+{
+    match begin(alloc, repo, stanza) {
+        Ok(()) => Ok(()),
+        Err(StoreFault::Disk) => Err(Fault::Disk),
+        Err(StoreFault::TooLong { .. } | StoreFault::NoMemory) => Err(Fault::NoMemory),
+    }
+}
+
+// Opens the data folder and the repository, and settles the stanza there.
+fn prepare<D: Disk, T: Tree>(
+    alloc: Global,
+    repo: &mut D,
+    tree: &mut T,
+    settings: &Settings,
+) -> Result<(), Fault>
+    ensures places { OnOk result ((T.place tree.new ≡ settings.now.pg1_path.now) × (D.place repo.new ≡ settings.now.repo1_path.now)) }
+    ensures now { (D.view repo.new).now ≡ (D.view repo.old).now }
+    ensures nodes { T.nodes tree.new ≡ T.nodes tree.old }
+    ensures repo_later { D.faults repo.old ≤ D.faults repo.new }
+    ensures tree_later { T.faults tree.old ≤ T.faults tree.new }
+    ensures cause { IfErr result (DeviceCause (Rises (D.faults repo.old) (D.faults repo.new)) (Rises (T.faults tree.old) (T.faults tree.new))) }
+{
+    open_tree(tree, settings.pg1_path)?;
+    open_repo(repo, settings.repo1_path)?;
+    settle(alloc, repo, settings.stanza)?;
+    Ok(())
+}
+
+// Makes the stanza, unless one of its info files is there.
+fn make<D: Disk>(
+    alloc: Global,
+    repo: &mut D,
+    stanza: &str,
+    told: &Control,
+) -> Result<(), Fault>
+    ensures part { (r : Repository) → IsSome (D.view repo.old).now → NowStands stanza.now r (D.view repo.old).now
+        → NowStands stanza.now r (D.view repo.new).now ⊎ NowStands stanza.now (step r (Create (first_cluster told.now))) (D.view repo.new).now }
+    ensures done { OnOk result ((r : Repository) → IsSome (D.view repo.old).now → NowStands stanza.now r (D.view repo.old).now
+        → (r ≡ None) × NowStands stanza.now (step r (Create (first_cluster told.now))) (D.view repo.new).now) }
+    ensures fresh { OnOk result (IfSome (D.view repo.old).now (λ f. lacks_pairs stanza.now f ≡ true)) }
+    ensures members { OnOk result (IsSome (D.view repo.old).now → IfSome (D.view repo.new).now (HasNewPairs stanza.now (first_cluster told.now))) }
+    ensures told { IsSome (D.view repo.old).now → IsSome (D.view repo.new).now }
+    ensures place { D.place repo.new ≡ D.place repo.old }
+    ensures later { D.faults repo.old ≤ D.faults repo.new }
+    ensures refused { IfErr result (λ e. OnFinding e ((D.view repo.new).now ≡ (D.view repo.old).now)) }
+    ensures cause { IfErr result (MakeCause stanza.now (D.view repo.old).now (Rises (D.faults repo.old) (D.faults repo.new))) }
+{
+    if !is_new(alloc, repo, stanza)? {
+        return Err(Fault::NotBuilt {
+            what: Unbuilt::ExistingStanza,
+        });
+    }
+    create(alloc, repo, stanza, told)?;
+    Ok(())
+}
+
+/// Makes the stanza of the cluster that the data folder tells.
+pub(crate) fn create_stanza<D: Disk, T: Tree>(
+    alloc: Global,
+    repo: &mut D,
+    tree: &mut T,
+    settings: &Settings,
+) -> Result<(), Fault>
+    // At Ok all of the command's steps are done, and after every answer a part of them.
+    ensures done { OnOk result ((cluster : Option Cluster) → IsSomeAnd (T.nodes tree.old) (λ f. IsClusterOf f cluster)
+        → NowDoes settings.now.stanza.now (StanzaCreate cluster) true (D.view repo.old).now (D.view repo.new).now) }
+    ensures part { (cluster : Option Cluster) → IsSomeAnd (T.nodes tree.old) (λ f. IsClusterOf f cluster)
+        → NowDoes settings.now.stanza.now (StanzaCreate cluster) false (D.view repo.old).now (D.view repo.new).now }
+    ensures members { OnOk result ((c : Cluster) → IsSomeAnd (T.nodes tree.old) (λ f. IsClusterOf f (Some c)) → IsSome (D.view repo.old).now
+        → IfSome (D.view repo.new).now (HasNewPairs settings.now.stanza.now c)) }
+    ensures fresh { OnOk result (IfSome (D.view repo.old).now (λ f. lacks_pairs settings.now.stanza.now f ≡ true)) }
+    ensures tells { OnOk result (TellsSome (T.nodes tree.old)) }
+    ensures places { OnOk result ((T.place tree.new ≡ settings.now.pg1_path.now) × (D.place repo.new ≡ settings.now.repo1_path.now)) }
+    ensures nodes { T.nodes tree.new ≡ T.nodes tree.old }
+    ensures repo_later { D.faults repo.old ≤ D.faults repo.new }
+    ensures tree_later { T.faults tree.old ≤ T.faults tree.new }
+    ensures refused { IfErr result (λ e. OnFinding e ((D.view repo.new).now ≡ (D.view repo.old).now)) }
+    ensures cause { IfErr result (CreateCause settings.now.stanza.now (D.view repo.old).now (T.nodes tree.old) (Rises (D.faults repo.old) (D.faults repo.new)) (Rises (T.faults tree.old) (T.faults tree.new))) }
+{
+    prepare(alloc, repo, tree, settings)?;
+    let told = read_cluster(alloc, tree)?;
+    make(alloc, repo, settings.stanza, &told)?;
+    Ok(())
+}

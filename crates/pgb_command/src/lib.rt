@@ -1,0 +1,14 @@
+//! The commands, from words to a status.
+#![tactic(auto)]
+
+mod cluster;
+mod create;
+mod fault;
+mod outside;
+mod output;
+mod reading;
+mod top;
+mod words;
+
+pub use fault::{ControlFile, Fault, Unbuilt};
+pub use words::Settings;

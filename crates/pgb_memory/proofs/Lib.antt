@@ -1,0 +1,16 @@
+pub mod Time
+pub mod Calls
+pub mod Maps
+pub mod Given
+pub mod Results
+pub mod Noted
+pub mod Tells
+pub mod Listing
+pub mod NamesBelow
+pub mod Folders
+pub mod Rooted
+pub mod Trees
+pub mod Slashes
+pub mod Found
+pub mod Bare
+pub mod TreeTells

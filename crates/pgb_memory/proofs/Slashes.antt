@@ -1,0 +1,39 @@
+-- What lies below a folder begins with it and a slash.
+use Rattle.std.proofs.Common.{◌≡◌, ◌≢◌, Bool, true, false, ◌&&◌, [], ◌∷◌, ◌++◌, length, take, drop, nat_eq, refl, sym, ◌∙◌, ap, append_assoc, bytes_eq, take-append-drop}
+use Rattle.std.proofs.Math.Seq.{take-append_seam}
+use Rattle.std.proofs.lemmas.Bool.{false≢true}
+use Rattle.std.specs.List.{starts_with}
+use Rattle.std.proofs.lemmas.Bool.Decides.{Decides-eqb}
+use Rattle.std.proofs.lemmas.Slice.Eq.{starts_is, bytes_eq-Decides}
+use Rattle.pgb_outside.specs.Content.{Name, is_below}
+
+pub below_front : (folder x : Name) → is_below folder (folder ++ x) ≡ starts_with nat_eq x (47 ∷ [])
+below_front [] x = refl
+below_front (f ∷ fs) x = ap (λ b. b && is_below fs (fs ++ x)) ((Decides-eqb f f).1 refl) ∙ below_front fs x
+
+pub below_is : (folder path : Name) → is_below folder path ≡ true → (rest : Name) × (path ≡ folder ++ 47 ∷ rest)
+below_is folder path below =
+    let front = folder ++ 47 ∷ [] in
+    (drop (length front) path, (starts_is Decides-eqb path front (is_below folder path) refl).0 below ∙ append_assoc folder (47 ∷ []) (drop (length front) path))
+
+pub below_of : (folder rest : Name) → is_below folder (folder ++ 47 ∷ rest) ≡ true
+below_of folder rest = below_front folder (47 ∷ rest)
+
+pub not_below : (folder path : Name) → ((rest : Name) → path ≢ folder ++ rest) → is_below folder path ≡ false
+not_below folder path apart = at (is_below folder path) refl
+  where
+    at : (b : Bool) → is_below folder path ≡ b → b ≡ false
+    at false is = refl
+    at true is = let s = below_is folder path is in absurd (apart (47 ∷ s.0) s.1)
+
+-- what is left of a path after the folder, by the test that strips it
+pub below_stripped : (folder path rest : Name) → bytes_eq (take (length folder) path) folder ≡ true → rest ≡ drop (length folder) path → starts_with nat_eq rest (47 ∷ []) ≡ is_below folder path
+below_stripped folder path rest front is =
+    let same : take (length folder) path ≡ folder = (bytes_eq-Decides (take (length folder) path) folder).0 front in
+    let whole : folder ++ rest ≡ path = ap (λ f. f ++ rest) (sym same) ∙ ap (λ r. take (length folder) path ++ r) is ∙ take-append-drop (length folder) path in
+    sym (below_front folder rest) ∙ ap (is_below folder) whole
+
+pub below_other : (folder path : Name) → bytes_eq (take (length folder) path) folder ≡ false → is_below folder path ≡ false
+below_other folder path apart = not_below folder path (λ rest is.
+    let same : bytes_eq (take (length folder) path) folder ≡ true = (bytes_eq-Decides (take (length folder) path) folder).1 (ap (take (length folder)) is ∙ take-append_seam folder rest) in
+    false≢true (sym apart ∙ same))

@@ -1,0 +1,88 @@
+-- What a call of a disk in memory did, as it is told.
+use Rattle.std.proofs.Common.{◌≡◌, ◌⊎◌, inl, inr, ℕ, Bool, true, false, cond, List, [], ◌∷◌, take, length, Result, Ok, Err, None, refl, sym, ◌∙◌, ap, subst, arith}
+use Rattle.std.specs.Prelude.{OnOk, OnErr, IsErrOf, IsTrue, ◌&&◌, not}
+use Rattle.pgb_outside.specs.declared.stop.Stop.{Stop}
+use Rattle.pgb_outside.specs.declared.stop.Stop.TheVariants.{Failed, NoMemory}
+use Rattle.pgb_outside.specs.Content.{Name, Value, Holds, is_below}
+use Rattle.pgb_outside.specs.Moments.{Goes, Rests, MayKeep, is_loose}
+use Rattle.pgb_memory.specs.declared.held.Held.{Held}
+use Rattle.pgb_memory.specs.State.{State, after, first_state, Among, view_at, begun, appended, synced, renamed, removed, settled}
+use Rattle.pgb_memory.specs.Held.{state_of, view_of, Notes, IsAsBefore, FailsAt}
+use Rattle.pgb_memory.specs.Fair.{fair_after, fair_first, set_same}
+use Rattle.pgb_memory.proofs.Time.{whole}
+use Rattle.pgb_memory.proofs.Calls.{goes_same, goes_loosened, goes_begun, goes_appended, goes_synced, goes_renamed, goes_removed, goes_settled}
+
+module _ (old new : Held) where
+  abbrev first : State
+  first = first_state old.given.items
+
+  -- the view, told from what the old disk started with
+  abbrev Lifted : (Name → Value → Type 0) → (Name → Type 0) → Type 0
+  Lifted A L = Goes A L (view_of old) (view_at first new.changes.items)
+
+  lift : (A : Name → Value → Type 0) (L : Name → Type 0) → new.given.items ≡ old.given.items → Lifted A L → Goes A L (view_of old) (view_of new)
+  lift A L given goes = subst (λ g. Goes A L (view_of old) (view_at (first_state g) new.changes.items)) (sym given) goes
+
+  pub now_next : (next : State → State) → Notes next old new → state_of new ≡ next (state_of old)
+  now_next next n = ap (λ g. after (first_state g) new.changes.items) n.given ∙ n.adds.last
+
+  pub now_same : IsAsBefore old new → state_of new ≡ state_of old
+  now_same s = ap (λ g. after (first_state g) new.changes.items) s.given ∙ ap (after first) s.changes
+
+  pub as_before : (A : Name → Value → Type 0) (L : Name → Type 0) → IsAsBefore old new → Goes A L (view_of old) (view_of new)
+  as_before A L s = lift A L s.given (goes_same first old.changes.items new.changes.items A L s.changes)
+
+  -- a begin, an append or a sync
+  pub loosening : {T : Type 0} (A : Name → Value → Type 0) (name : Name) (b : Bool) (next : State → State) (result : Result T Stop)
+      → (Notes next old new → Goes A (λ q. q ≡ name) (view_of old) (view_of new))
+      → OnOk result (Notes next old new) → (IsErrOf result Failed → FailsAt name b old new) → (IsErrOf result NoMemory → IsAsBefore old new)
+      → Goes A (λ q. q ≡ name) (view_of old) (view_of new)
+  loosening A name b next (Ok x) goes ok failed memory = goes ok
+  loosening A name true next (Err Failed) goes ok failed memory = let n = failed refl in lift A (λ q. q ≡ name) n.given (goes_loosened first old.changes.items new.changes.items name n.adds A)
+  loosening A name false next (Err Failed) goes ok failed memory = as_before A (λ q. q ≡ name) (failed refl)
+  loosening A name b next (Err NoMemory) goes ok failed memory = as_before A (λ q. q ≡ name) (memory refl)
+
+  -- another call that changes something
+  pub changing : {T : Type 0} (A : Name → Value → Type 0) (L : Name → Type 0) (next : State → State) (result : Result T Stop)
+      → (Notes next old new → Goes A L (view_of old) (view_of new))
+      → OnOk result (Notes next old new) → OnErr result (IsAsBefore old new) → Goes A L (view_of old) (view_of new)
+  changing A L next (Ok x) goes ok err = goes ok
+  changing A L next (Err e) goes ok err = as_before A L err
+
+  pub begun_goes : (n : Name) → Notes (begun n) old new → Goes (λ _ _. ⊥) (λ q. q ≡ n) (view_of old) (view_of new)
+  begun_goes n notes = lift (λ _ _. ⊥) (λ q. q ≡ n) notes.given (goes_begun first old.changes.items new.changes.items n notes.adds)
+
+  pub appended_goes : (n : Name) (bytes : List ℕ) → Notes (appended n bytes) old new → Goes (λ _ _. ⊥) (λ q. q ≡ n) (view_of old) (view_of new)
+  appended_goes n bytes notes = lift (λ _ _. ⊥) (λ q. q ≡ n) notes.given (goes_appended first old.changes.items new.changes.items n bytes notes.adds)
+
+  pub synced_goes : (n : Name) → Notes (synced n) old new → Goes (λ q v. (q ≡ n) × Holds (view_of old).now q v) (λ q. q ≡ n) (view_of old) (view_of new)
+  synced_goes n notes = lift _ (λ q. q ≡ n) notes.given (goes_synced first old.changes.items new.changes.items n notes.adds)
+
+  pub renamed_goes : (a b : Name) → Notes (renamed a b) old new → Goes (λ n v. ((n ≡ b) × Holds (view_of old).now a v) ⊎ ((n ≡ a) × (v ≡ None))) (λ n. (n ≡ b) × IsTrue (is_loose (view_of old) a)) (view_of old) (view_of new)
+  renamed_goes a b notes = lift _ _ notes.given (goes_renamed first old.changes.items new.changes.items a b notes.adds)
+
+  pub removed_goes : (n : Name) → Notes (removed n) old new → Goes (λ q v. (q ≡ n) × (v ≡ None)) (λ _. ⊥) (view_of old) (view_of new)
+  removed_goes n notes = lift _ (λ _. ⊥) notes.given (goes_removed first old.changes.items new.changes.items n notes.adds)
+
+  pub settled_goes : (folder : Name) → Notes (settled folder) old new → Rests (view_of old) (view_of new)
+  settled_goes folder notes = lift (λ _ _. ⊥) (λ _. ⊥) notes.given (goes_settled first old.changes.items new.changes.items (fair_after old.changes.items first (fair_first old.given.items)) folder notes.adds)
+
+  -- the state at the end of the new disk's moments
+  at_end : (next : State → State) → Notes next old new → after (first_state new.given.items) (take (length new.changes.items) new.changes.items) ≡ next (state_of old)
+  at_end next notes = whole (first_state new.given.items) new.changes.items (length new.changes.items) (omega arith) ∙ now_next next notes
+
+  pub synced_tight : (n : Name) → Notes (synced n) old new → is_loose (view_of new) n ≡ false
+  synced_tight n notes = ap (λ (s : State). s.loose n) (at_end (synced n) notes) ∙ set_same n false (state_of old).loose
+
+  -- what is loose at the end of the old disk's moments
+  was_loose : (n : Name) → is_loose (view_of old) n ≡ (state_of old).loose n
+  was_loose n = ap (λ (s : State). s.loose n) (whole first old.changes.items (length old.changes.items) (omega arith))
+
+  pub settled_settles : (folder : Name) → Notes (settled folder) old new → (n : Name) (v : Value) → IsTrue (is_below folder n) → is_loose (view_of old) n ≡ false → MayKeep (view_of new) n v → Holds (view_of old).now n v
+  settled_settles folder notes n v below tight may = one (is_below folder n) ((state_of old).loose n) below (sym (was_loose n) ∙ tight) (subst (λ (s : State). Among v (s.kept n)) (at_end (settled folder) notes) may)
+    where
+      one : (a b : Bool) → a ≡ true → b ≡ false → Among v (cond (a && not b) ((state_of old).now n ∷ []) ((state_of old).kept n)) → v ≡ (state_of old).now n
+      one true false below tight (inl is) = is
+      one true false below tight (inr none) = absurd none
+      one true true below tight h = cc
+      one false b below tight h = cc

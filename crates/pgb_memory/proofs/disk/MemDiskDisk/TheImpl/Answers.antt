@@ -1,0 +1,96 @@
+use Rattle.std.proofs.Common.{rules, ◌≡◌, ◌⊎◌, None}
+use Rattle.std.specs.Prelude.{IsTrue}
+use Rattle.pgb_outside.specs.Content.{Holds}
+use Rattle.pgb_outside.specs.Moments.{is_loose}
+use Rattle.pgb_memory.specs.Counts.{is_to_fail}
+use Rattle.pgb_memory.specs.State.{begun, appended, synced, renamed, removed, settled}
+use Rattle.pgb_memory.specs.Held.{view_of}
+use Rattle.pgb_memory.proofs.Tells.{loosening, changing, begun_goes, appended_goes, synced_goes, renamed_goes, removed_goes, settled_goes, synced_tight, settled_settles}
+use Rattle.std.proofs.lemmas.Result.{on_ok_weaker}
+use Rattle.pgb_memory.proofs.disk.MemDiskDisk.TheImpl.Goals as goal
+
+pub begin-tells : goal.begin-tells
+begin-tells c =
+    let old = c.args.self.now.held in
+    let new = c.new.self.now.held in
+    let name = c.args.name.now in
+    record {
+      now = search rules;
+      time = loosening old new (λ _ _. ⊥) name (is_to_fail c.args.self.now.failing) (begun name) c.result (begun_goes old new name) c.ensures.ok c.ensures.failed c.ensures.memory;
+      proper = search rules;
+      place = c.ensures.place;
+      cause = c.ensures.cause;
+    }
+
+pub append-tells : goal.append-tells
+append-tells c =
+    let old = c.args.self.now.held in
+    let new = c.new.self.now.held in
+    let name = c.args.name.now in
+    let bytes = c.args.bytes.now in
+    record {
+      now = search rules;
+      time = loosening old new (λ _ _. ⊥) name (is_to_fail c.args.self.now.failing) (appended name bytes) c.result (appended_goes old new name bytes) c.ensures.ok c.ensures.failed c.ensures.memory;
+      there = search rules;
+      proper = search rules;
+      place = c.ensures.place;
+      cause = c.ensures.cause;
+    }
+
+pub sync-tells : goal.sync-tells
+sync-tells c =
+    let old = c.args.self.now.held in
+    let new = c.new.self.now.held in
+    let name = c.args.name.now in
+    record {
+      now = search rules;
+      time = loosening old new (λ n v. (n ≡ name) × Holds (view_of old).now n v) name (is_to_fail c.args.self.now.failing) (synced name) c.result (synced_goes old new name) c.ensures.ok c.ensures.failed c.ensures.memory;
+      tight = on_ok_weaker c.result (synced_tight old new name) c.ensures.ok;
+      there = search rules;
+      proper = search rules;
+      place = c.ensures.place;
+      cause = c.ensures.cause;
+    }
+
+pub rename-tells : goal.rename-tells
+rename-tells c =
+    let old = c.args.self.now.held in
+    let new = c.new.self.now.held in
+    let from = c.args.from.now in
+    let to = c.args.to.now in
+    record {
+      now = search rules;
+      time = changing old new (λ n v. ((n ≡ to) × Holds (view_of old).now from v) ⊎ ((n ≡ from) × (v ≡ None))) (λ n. (n ≡ to) × IsTrue (is_loose (view_of old) from)) (renamed from to) c.result
+          (renamed_goes old new from to) c.ensures.ok c.ensures.err;
+      there = search rules;
+      proper = search rules;
+      place = c.ensures.place;
+      cause = c.ensures.cause;
+    }
+
+pub remove-tells : goal.remove-tells
+remove-tells c =
+    let old = c.args.self.now.held in
+    let new = c.new.self.now.held in
+    let name = c.args.name.now in
+    record {
+      now = search rules;
+      time = changing old new (λ n v. (n ≡ name) × (v ≡ None)) (λ _. ⊥) (removed name) c.result (removed_goes old new name) c.ensures.ok c.ensures.err;
+      proper = search rules;
+      place = c.ensures.place;
+      cause = c.ensures.cause;
+    }
+
+pub settle-tells : goal.settle-tells
+settle-tells c =
+    let old = c.args.self.now.held in
+    let new = c.new.self.now.held in
+    let folder = c.args.folder.now in
+    record {
+      now = search rules;
+      time = changing old new (λ _ _. ⊥) (λ _. ⊥) (settled folder) c.result (settled_goes old new folder) c.ensures.ok c.ensures.err;
+      settled = on_ok_weaker c.result (settled_settles old new folder) c.ensures.ok;
+      proper = search rules;
+      place = c.ensures.place;
+      cause = c.ensures.cause;
+    }

@@ -1,0 +1,12 @@
+use Rattle.std.proofs.Common.{refl, ap}
+use Rattle.std.specs.Prelude.{is_ok}
+use Rattle.pgb_memory.specs.declared.change.Change.TheVariants.{Loosened}
+use Rattle.pgb_memory.specs.State.{loosened}
+use Rattle.pgb_memory.proofs.Noted.{noted, agreed_still}
+use Rattle.pgb_memory.proofs.held.Held.loosen.Goals as goal
+
+pub invariant_of-self : goal.invariant_of-self
+invariant_of-self c = record { agrees = agreed_still c.args.self.now.given.items c.args.self.now.names c.args.self.now.changes.items c.push.new.self.items (Loosened c.in_ok-noted.noted) (is_ok c.push.result) (λ s. refl) c.push.ensures.items c.args.self.now.agrees }
+
+pub returns-clause-ok : goal.returns-clause-ok
+returns-clause-ok c = noted c.args.self.now _ (Loosened c.in_ok-noted.noted) (loosened c.args.name.now) refl c.in_ok-push.ensures.items (ap loosened c.in_ok-noted.ensures.ok)

@@ -1,0 +1,233 @@
+// A disk in memory, with the record of what was done to it.
+ghost use Rattle.std.specs.Prelude.{◌≡◌, ◌≤◌, ◌||◌, [], ℕ, map, not, IsSomeAnd, length, string_bytes, is_some, option_map, IfOk, IfSome, OnOk, OnErr, IsErrOf};
+ghost use Rattle.pgb_outside.specs.Cause.{HasCause};
+ghost use Rattle.pgb_outside.specs.Content.{IsListing, Reads};
+ghost use Rattle.pgb_outside.specs.declared.stop.Stop.TheVariants.{Failed, NoMemory};
+ghost use Rattle.pgb_memory.specs.Counts.{is_to_fail, counted, tried, FailsWhere};
+ghost use Rattle.pgb_memory.specs.State.{first_state, given_at, begun, appended, synced, renamed, removed, settled};
+ghost use Rattle.pgb_memory.specs.Held.{StartsWith, state_of, view_of, Notes, IsAsBefore, FailsAt};
+ghost use Rattle.pgb_memory.specs.Fair.{may_be_left, fair_first};
+
+use crate::failing::Failing;
+use crate::held::Held;
+use pgb_outside::{Disk, Found, Stop};
+use std::alloc::{AllocError, Global};
+
+/// A disk that tells what it holds and what a crash may leave, at each moment since it was made.
+#[derive(Drop)]
+pub struct MemDisk {
+    alloc: Global,
+    held: Held,
+    failing: Failing,
+    place: String,
+}
+
+impl MemDisk {
+    /// A disk with these names, each of which keeps its bytes alone; of a name that is given twice the last one counts.
+    /// `fail` has the numbers of the calls that are to fail, the first being 0.
+    pub fn new(
+        alloc: Global,
+        names: Vec<(String, Vec<u8>)>,
+        fail: Vec<u64>,
+    ) -> Result<Self, AllocError>
+        ensures view { IfOk result (λ d. StartsWith (given_at names.items) (⟦<MemDisk as Disk>⟧.view d)) }
+        ensures counts { IfOk result (λ d. d.failing ≡ record { fail = fail; calls = 0; faults = 0; misuses = 0 }) }
+        ensures place { IfOk result (λ d. ⟦<MemDisk as Disk>⟧.place d ≡ []) }
+    {
+        Ok(MemDisk {
+            alloc,
+            held: Held::new(alloc, names)?,
+            failing: Failing::new(fail),
+            place: String::new(alloc),
+        })
+    }
+
+    /// The bytes that a name holds, where it is there.
+    pub fn bytes(&self, name: &str) -> Option<&[u8]>
+        ensures { IsSomeAnd (⟦<MemDisk as Disk>⟧.view self.now).now (λ f. option_map (λ b. b.now) result ≡ f name.now) }
+    {
+        self.held.bytes(name)
+    }
+
+    /// How often a call failed.
+    pub fn faults(&self) -> u64
+        ensures { result ≡ ⟦<MemDisk as Disk>⟧.faults self.now }
+    {
+        self.failing.faults()
+    }
+
+    /// How many calls were faulty: an append, a sync or a rename of an absent name.
+    pub fn misuses(&self) -> u64
+        ensures { result ≡ ⟦<MemDisk as Disk>⟧.misuses self.now }
+    {
+        self.failing.misuses()
+    }
+
+    /// The place that was opened last.
+    pub fn place(&self) -> &str
+        ensures { result.now ≡ ⟦<MemDisk as Disk>⟧.place self.now }
+    {
+        &self.place
+    }
+}
+
+impl Disk for MemDisk {
+    ghost view = { λ d. view_of d.held };
+
+    ghost faults = { λ d. d.failing.faults };
+
+    ghost misuses = { λ d. d.failing.misuses };
+
+    ghost place = { λ d. string_bytes d.place };
+
+    ghost now_may_be_left = { λ d n v holds. may_be_left (first_state d.held.given.items) (fair_first d.held.given.items) d.held.changes.items n v holds };
+
+    fn open(&mut self, path: &str) -> Result<(), Stop>
+        ensures ok { OnOk result (string_bytes self.new.place ≡ path.now) }
+        ensures err { OnErr result (string_bytes self.new.place ≡ string_bytes self.old.place) }
+        ensures same { IsAsBefore self.old.held self.new.held }
+        ensures fails { FailsWhere (is_to_fail self.old.failing) result }
+        ensures counts { self.new.failing ≡ counted self.old.failing }
+        ensures cause { HasCause self.old.failing.faults self.new.failing.faults result }
+    {
+        if self.failing.fails() {
+            return Err(Stop::Failed);
+        }
+        self.place = String::from_str(self.alloc, path)?;
+        Ok(())
+    }
+
+    fn names(&mut self, alloc: Global, folder: &str) -> Result<Vec<Found>, Stop>
+        ensures listing { IfOk result (λ found. IsListing folder.now (state_of self.old.held).now (map (λ x. (string_bytes x.name, x.size)) found.items)) }
+        ensures same { IsAsBefore self.old.held self.new.held }
+        ensures fails { FailsWhere (is_to_fail self.old.failing) result }
+        ensures counts { self.new.failing ≡ counted self.old.failing }
+        ensures place { string_bytes self.new.place ≡ string_bytes self.old.place }
+        ensures cause { HasCause self.old.failing.faults self.new.failing.faults result }
+    {
+        if self.failing.fails() {
+            return Err(Stop::Failed);
+        }
+        Ok(self.held.below(alloc, folder)?)
+    }
+
+    fn read(&mut self, name: &str, at: u64, buf: &mut [u8]) -> Result<Option<usize>, Stop>
+        ensures bytes { IfOk result (λ n. Reads ((state_of self.old.held).now name.now) at (length buf.old) buf.new n) }
+        ensures room { IfOk result (λ n. IfSome n (λ n. n ≤ length buf.old)) }
+        ensures same { IsAsBefore self.old.held self.new.held }
+        ensures fails { FailsWhere (is_to_fail self.old.failing) result }
+        ensures counts { self.new.failing ≡ counted self.old.failing }
+        ensures place { string_bytes self.new.place ≡ string_bytes self.old.place }
+        ensures cause { HasCause self.old.failing.faults self.new.failing.faults result }
+    {
+        if self.failing.fails() {
+            return Err(Stop::Failed);
+        }
+        Ok(self.held.read(name, at, buf))
+    }
+
+    fn begin(&mut self, name: &str) -> Result<(), Stop>
+        ensures ok { OnOk result (Notes (begun name.now) self.old.held self.new.held) }
+        ensures failed { IsErrOf result Failed → FailsAt name.now (is_to_fail self.old.failing) self.old.held self.new.held }
+        ensures memory { IsErrOf result NoMemory → IsAsBefore self.old.held self.new.held }
+        ensures fails { FailsWhere (is_to_fail self.old.failing) result }
+        ensures counts { self.new.failing ≡ counted self.old.failing }
+        ensures place { string_bytes self.new.place ≡ string_bytes self.old.place }
+        ensures cause { HasCause self.old.failing.faults self.new.failing.faults result }
+    {
+        if self.failing.fails() {
+            self.held.loosen(name)?;
+            return Err(Stop::Failed);
+        }
+        self.held.begin(name)?;
+        Ok(())
+    }
+
+    fn append(&mut self, name: &str, bytes: &[u8]) -> Result<(), Stop>
+        ensures ok { OnOk result (Notes (appended name.now bytes.now) self.old.held self.new.held) }
+        ensures failed { IsErrOf result Failed → FailsAt name.now (is_to_fail self.old.failing) self.old.held self.new.held }
+        ensures memory { IsErrOf result NoMemory → IsAsBefore self.old.held self.new.held }
+        ensures fails { FailsWhere (is_to_fail self.old.failing || not (is_some ((state_of self.old.held).now name.now))) result }
+        ensures counts { self.new.failing ≡ tried (is_some ((state_of self.old.held).now name.now)) self.old.failing }
+        ensures place { string_bytes self.new.place ≡ string_bytes self.old.place }
+        ensures cause { HasCause self.old.failing.faults self.new.failing.faults result }
+    {
+        if self.failing.fails() {
+            self.held.loosen(name)?;
+            return Err(Stop::Failed);
+        }
+        if !self.held.has(name) {
+            return Err(self.failing.misuse());
+        }
+        self.held.append(name, bytes)?;
+        Ok(())
+    }
+
+    fn sync(&mut self, name: &str) -> Result<(), Stop>
+        ensures ok { OnOk result (Notes (synced name.now) self.old.held self.new.held) }
+        ensures failed { IsErrOf result Failed → FailsAt name.now (is_to_fail self.old.failing) self.old.held self.new.held }
+        ensures memory { IsErrOf result NoMemory → IsAsBefore self.old.held self.new.held }
+        ensures fails { FailsWhere (is_to_fail self.old.failing || not (is_some ((state_of self.old.held).now name.now))) result }
+        ensures counts { self.new.failing ≡ tried (is_some ((state_of self.old.held).now name.now)) self.old.failing }
+        ensures place { string_bytes self.new.place ≡ string_bytes self.old.place }
+        ensures cause { HasCause self.old.failing.faults self.new.failing.faults result }
+    {
+        if self.failing.fails() {
+            self.held.loosen(name)?;
+            return Err(Stop::Failed);
+        }
+        if !self.held.has(name) {
+            return Err(self.failing.misuse());
+        }
+        self.held.sync(name)?;
+        Ok(())
+    }
+
+    fn rename(&mut self, from: &str, to: &str) -> Result<(), Stop>
+        ensures ok { OnOk result (Notes (renamed from.now to.now) self.old.held self.new.held) }
+        ensures err { OnErr result (IsAsBefore self.old.held self.new.held) }
+        ensures fails { FailsWhere (is_to_fail self.old.failing || not (is_some ((state_of self.old.held).now from.now))) result }
+        ensures counts { self.new.failing ≡ tried (is_some ((state_of self.old.held).now from.now)) self.old.failing }
+        ensures place { string_bytes self.new.place ≡ string_bytes self.old.place }
+        ensures cause { HasCause self.old.failing.faults self.new.failing.faults result }
+    {
+        if self.failing.fails() {
+            return Err(Stop::Failed);
+        }
+        if !self.held.has(from) {
+            return Err(self.failing.misuse());
+        }
+        self.held.rename(from, to)?;
+        Ok(())
+    }
+
+    fn remove(&mut self, name: &str) -> Result<(), Stop>
+        ensures ok { OnOk result (Notes (removed name.now) self.old.held self.new.held) }
+        ensures err { OnErr result (IsAsBefore self.old.held self.new.held) }
+        ensures fails { FailsWhere (is_to_fail self.old.failing) result }
+        ensures counts { self.new.failing ≡ counted self.old.failing }
+        ensures place { string_bytes self.new.place ≡ string_bytes self.old.place }
+        ensures cause { HasCause self.old.failing.faults self.new.failing.faults result }
+    {
+        if self.failing.fails() {
+            return Err(Stop::Failed);
+        }
+        self.held.remove(name)?;
+        Ok(())
+    }
+
+    fn settle(&mut self, folder: &str) -> Result<(), Stop>
+        ensures ok { OnOk result (Notes (settled folder.now) self.old.held self.new.held) }
+        ensures err { OnErr result (IsAsBefore self.old.held self.new.held) }
+        ensures fails { FailsWhere (is_to_fail self.old.failing) result }
+        ensures counts { self.new.failing ≡ counted self.old.failing }
+        ensures place { string_bytes self.new.place ≡ string_bytes self.old.place }
+        ensures cause { HasCause self.old.failing.faults self.new.failing.faults result }
+    {
+        if self.failing.fails() {
+            return Err(Stop::Failed);
+        }
+        self.held.settle(folder)?;
+        Ok(())
+    }
+}

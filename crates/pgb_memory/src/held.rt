@@ -1,0 +1,247 @@
+// What a disk in memory holds, beside the record of the changes that made it.
+ghost use Rattle.std.specs.Prelude.{◌≡◌, ◌≤◌, ◌&&◌, ◌↔◌, [], ℕ, List, length, IfSome, IfOk, OnOk, OnErr, IsTrue, IsSome, Some, None, not, bytes_eq, if◌then◌else◌, is_some, option_map, map, string_bytes};
+ghost use Rattle.pgb_outside.specs.Content.{IsListing, Reads, put, lengthened, moved};
+ghost use Rattle.pgb_memory.specs.Agrees.{Agrees, bytes_at};
+ghost use Rattle.pgb_memory.specs.State.{given_at};
+
+use crate::below::lies_below;
+use crate::change::Change;
+use crate::copy::copy_part;
+use pgb_outside::Found;
+use std::alloc::{AllocError, Global};
+use std::collections::BTreeMap;
+
+type Names = BTreeMap<String, Vec<u8>>;
+
+/// The bytes of each name, and how they came about.
+#[derive(Drop)]
+pub(crate) struct Held {
+    alloc: Global,
+    given: Vec<(String, Vec<u8>)>,
+    names: BTreeMap<String, Vec<u8>>,
+    changes: Vec<Change>,
+    ghost agrees: { Agrees given.items names changes.items },
+}
+
+impl Held {
+    ghost use Rattle.pgb_memory.specs.State.{begun, appended, loosened, synced, renamed, removed, settled};
+    ghost use Rattle.pgb_memory.specs.Held.{state_of, Notes, IsAsBefore};
+
+    pub(crate) fn new(alloc: Global, given: Vec<(String, Vec<u8>)>) -> Result<Self, AllocError>
+        ensures given { IfOk result (λ h. h.given.items ≡ given.items) }
+        ensures changes { IfOk result (λ h. h.changes.items ≡ []) }
+    {
+        let names = names_of(alloc, &given)?;
+        Ok(Held {
+            alloc,
+            given,
+            names,
+            changes: Vec::new(alloc),
+        })
+    }
+
+    /// The bytes of a name, where it is there.
+    pub(crate) fn bytes(&self, name: &str) -> Option<&[u8]>
+        ensures { option_map (λ b. b.now) result ≡ (state_of self.now).now name.now }
+    {
+        match self.names.get(name) {
+            Some(bytes) => Some(bytes),
+            None => None,
+        }
+    }
+
+    pub(crate) fn has(&self, name: &str) -> bool
+        ensures { result ≡ is_some ((state_of self.now).now name.now) }
+    {
+        self.names.contains_key(name)
+    }
+
+    /// Reads bytes of a name from a place on.
+    pub(crate) fn read(&self, name: &str, at: u64, buf: &mut [u8]) -> Option<usize>
+        ensures reads { Reads ((state_of self.now).now name.now) at (length buf.old) buf.new result }
+        ensures room { IfSome result (λ n. n ≤ length buf.old) }
+    {
+        match self.names.get(name) {
+            Some(bytes) => Some(copy_part(bytes, at, buf)),
+            None => None,
+        }
+    }
+
+    /// Every name at any depth below the folder, with the length of its bytes, in byte order.
+    pub(crate) fn below(&self, alloc: Global, folder: &str) -> Result<Vec<Found>, AllocError>
+        ensures { IfOk result (λ found. IsListing folder.now (state_of self.now).now (map (λ x. (string_bytes x.name, x.size)) found.items)) }
+    {
+        names_below(alloc, &self.names, folder)
+    }
+
+    /// Makes the name hold no bytes.
+    pub(crate) fn begin(&mut self, name: &str) -> Result<(), AllocError>
+        ensures ok { OnOk result (Notes (begun name.now) self.old self.new) }
+        ensures err { OnErr result (IsAsBefore self.old self.new) }
+    {
+        let noted = String::from_str(self.alloc, name)?;
+        self.changes.push(Change::Begun(noted))?;
+        if set(self.alloc, &mut self.names, name, Vec::new(self.alloc)).is_err() {
+            let _ = self.changes.pop();
+            return Err(AllocError);
+        }
+        Ok(())
+    }
+
+    /// Adds bytes at the end of a name that is there.
+    pub(crate) fn append(&mut self, name: &str, bytes: &[u8]) -> Result<(), AllocError>
+        ensures ok { OnOk result (Notes (appended name.now bytes.now) self.old self.new) }
+        ensures err { OnErr result (IsAsBefore self.old self.new) }
+    {
+        let noted = String::from_str(self.alloc, name)?;
+        let added = Vec::from_slice(self.alloc, bytes)?;
+        self.changes.push(Change::Appended(noted, added))?;
+        if extend(&mut self.names, name, bytes).is_err() {
+            let _ = self.changes.pop();
+            return Err(AllocError);
+        }
+        Ok(())
+    }
+
+    /// Notes that the name was synced.
+    pub(crate) fn sync(&mut self, name: &str) -> Result<(), AllocError>
+        ensures ok { OnOk result (Notes (synced name.now) self.old self.new) }
+        ensures err { OnErr result (IsAsBefore self.old self.new) }
+    {
+        let noted = String::from_str(self.alloc, name)?;
+        self.changes.push(Change::Synced(noted))?;
+        Ok(())
+    }
+
+    /// Moves the value of a name that is there to another.
+    pub(crate) fn rename(&mut self, from: &str, to: &str) -> Result<(), AllocError>
+        requires { IsSome ((state_of self.old).now from.now) }
+        ensures ok { OnOk result (Notes (renamed from.now to.now) self.old self.new) }
+        ensures err { OnErr result (IsAsBefore self.old self.new) }
+    {
+        let noted_from = String::from_str(self.alloc, from)?;
+        let noted_to = String::from_str(self.alloc, to)?;
+        self.changes.push(Change::Renamed(noted_from, noted_to))?;
+        if move_value(self.alloc, &mut self.names, from, to).is_err() {
+            let _ = self.changes.pop();
+            return Err(AllocError);
+        }
+        Ok(())
+    }
+
+    /// Takes the name away.
+    pub(crate) fn remove(&mut self, name: &str) -> Result<(), AllocError>
+        ensures ok { OnOk result (Notes (removed name.now) self.old self.new) }
+        ensures err { OnErr result (IsAsBefore self.old self.new) }
+    {
+        let noted = String::from_str(self.alloc, name)?;
+        self.changes.push(Change::Removed(noted))?;
+        let _ = self.names.remove(name);
+        Ok(())
+    }
+
+    /// Notes that the folder was settled.
+    pub(crate) fn settle(&mut self, folder: &str) -> Result<(), AllocError>
+        ensures ok { OnOk result (Notes (settled folder.now) self.old self.new) }
+        ensures err { OnErr result (IsAsBefore self.old self.new) }
+    {
+        let noted = String::from_str(self.alloc, folder)?;
+        self.changes.push(Change::Settled(noted))?;
+        Ok(())
+    }
+
+    /// Notes that the name may be left with any bytes.
+    pub(crate) fn loosen(&mut self, name: &str) -> Result<(), AllocError>
+        ensures ok { OnOk result (Notes (loosened name.now) self.old self.new) }
+        ensures err { OnErr result (IsAsBefore self.old self.new) }
+    {
+        let noted = String::from_str(self.alloc, name)?;
+        self.changes.push(Change::Loosened(noted))?;
+        Ok(())
+    }
+}
+
+// A map of names with their bytes, the last of each counting.
+fn names_of(alloc: Global, given: &[(String, Vec<u8>)]) -> Result<Names, AllocError>
+    ensures { IfOk result (λ m. bytes_at m ≡ given_at given.now) }
+{
+    let mut names = BTreeMap::new(alloc);
+    for (name, bytes) in given {
+        set(alloc, &mut names, name, bytes.to_vec(alloc)?)?;
+    }
+    Ok(names)
+}
+
+// The names of a map that lie below the folder.
+fn names_below(alloc: Global, names: &Names, folder: &str) -> Result<Vec<Found>, AllocError>
+    ensures { IfOk result (λ found. IsListing folder.now (bytes_at names.now) (map (λ x. (string_bytes x.name, x.size)) found.items)) }
+{
+    let mut found = Vec::new(alloc);
+    for (name, bytes) in names {
+        if lies_below(name, folder) {
+            found.push(Found {
+                name: name.clone()?,
+                size: bytes.len() as u64,
+            })?;
+        }
+    }
+    Ok(found)
+}
+
+// Gives the name this value.
+fn set(alloc: Global, names: &mut Names, name: &str, value: Vec<u8>) -> Result<(), AllocError>
+    ensures ok { OnOk result (bytes_at names.new ≡ put name.now (Some value.items) (bytes_at names.old)) }
+    ensures err { OnErr result (bytes_at names.new ≡ bytes_at names.old) }
+{
+    let key = String::from_str(alloc, name)?;
+    match names.insert(key, value) {
+        Ok(_) => Ok(()),
+        Err(_) => Err(AllocError),
+    }
+}
+
+// Adds bytes at the end of a name that is there.
+fn extend(names: &mut Names, name: &str, bytes: &[u8]) -> Result<(), AllocError>
+    ensures ok { OnOk result (bytes_at names.new ≡ lengthened name.now bytes.now (bytes_at names.old)) }
+    ensures err { OnErr result (bytes_at names.new ≡ bytes_at names.old) }
+{
+    match names.get_mut(name) {
+        Some(value) => {
+            value.extend_from_slice(bytes)?;
+            Ok(())
+        }
+        None => Ok(()),
+    }
+}
+
+// The bytes of a name that is there.
+fn copy_of(alloc: Global, names: &Names, name: &str) -> Result<Vec<u8>, AllocError>
+    requires { IsSome (bytes_at names.now name.now) }
+    ensures { IfOk result (λ v. bytes_at names.now name.now ≡ Some v.items) }
+{
+    match names.get(name) {
+        Some(bytes) => Ok(bytes.to_vec(alloc)?),
+        None => Ok(Vec::new(alloc)),
+    }
+}
+
+// Takes a name away, but not where it is the other one.
+fn drop_other(names: &mut Names, from: &str, to: &str)
+    ensures { bytes_at names.new ≡ (if bytes_eq from.now to.now then bytes_at names.old else put from.now None (bytes_at names.old)) }
+{
+    if from != to {
+        let _ = names.remove(from);
+    }
+}
+
+// Moves the value of a name that is there to another.
+fn move_value(alloc: Global, names: &mut Names, from: &str, to: &str) -> Result<(), AllocError>
+    requires { IsSome (bytes_at names.old from.now) }
+    ensures ok { OnOk result (bytes_at names.new ≡ moved from.now to.now (bytes_at names.old)) }
+    ensures err { OnErr result (bytes_at names.new ≡ bytes_at names.old) }
+{
+    let value = copy_of(alloc, names, from)?;
+    set(alloc, names, to, value)?;
+    drop_other(names, from, to);
+    Ok(())
+}

@@ -1,0 +1,17 @@
+//! Devices in memory, which meet the traits of the outside: tests run the program over them.
+#![tactic(auto)]
+
+mod below;
+mod change;
+mod copy;
+mod disk;
+mod failing;
+mod held;
+mod nodes;
+mod sink;
+mod tree;
+
+pub use disk::MemDisk;
+pub use nodes::MemNode;
+pub use sink::MemSink;
+pub use tree::{MemTree, TreeFault};

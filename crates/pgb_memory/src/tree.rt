@@ -1,0 +1,262 @@
+// A data folder in memory.
+ghost use Rattle.std.specs.Prelude.{◌≡◌, ◌≤◌, ◌||◌, ◌&&◌, [], ℕ, map, not, IsSomeAnd, length, string_bytes, option_map, Some, None, IfOk, IfErr, IfSome, OnOk, OnErr};
+ghost use Rattle.pgb_outside.specs.Cause.{HasCause};
+ghost use Rattle.pgb_outside.specs.Content.{Reads};
+ghost use Rattle.pgb_outside.specs.Tree.{file, folder as folder_node, IsTreeListing, known_path, file_bytes, with_node, moved_node};
+ghost use Rattle.pgb_memory.specs.Nodes.{node_of, nodes_at, tree_at, is_file, is_folder, is_placed, takes_file, takes_folder, holds_nothing, longer_node, Rooted};
+ghost use Rattle.pgb_memory.specs.Counts.{is_to_fail, counted, tried, tried_on, FailsWhere};
+
+use crate::failing::Failing;
+use crate::nodes::{
+    MemNode, extend_file, first_lost, has_file, has_folder, has_its_folder, is_bare, list_nodes,
+    map_of, may_put_file, may_put_folder, move_file, put_node, read_known, take_node,
+};
+use pgb_outside::{Known, Seen, Stop, Tree};
+use std::alloc::{AllocError, Global};
+use std::collections::BTreeMap;
+
+/// Why no tree was made of some nodes.
+#[derive(Debug, Drop)]
+pub enum TreeFault {
+    /// A node lies in a folder that isn't among them.
+    NoFolder { path: String },
+    NoMemory,
+}
+
+impl From<AllocError> for TreeFault {
+    ghost use Rattle.pgb_memory.specs.declared.tree.TreeFault.TheVariants.{NoMemory};
+
+    ghost from_gives = { λ _ e. e ≡ NoMemory };
+
+    fn from(_: AllocError) -> Self {
+        TreeFault::NoMemory
+    }
+}
+
+/// A data folder that tells its nodes.
+#[derive(Drop)]
+pub struct MemTree {
+    alloc: Global,
+    nodes: BTreeMap<String, MemNode>,
+    failing: Failing,
+    place: String,
+    ghost rooted: { Rooted (nodes_at nodes) },
+}
+
+impl MemTree {
+    ghost use Rattle.pgb_memory.specs.TreeFault.{Names};
+
+    /// A tree with these nodes, each folder on a path among them; of a path that is given twice the last node counts.
+    /// `fail` has the numbers of the calls that are to fail, the first being 0.
+    pub fn new(
+        alloc: Global,
+        nodes: Vec<(String, MemNode)>,
+        fail: Vec<u64>,
+    ) -> Result<Self, TreeFault>
+        ensures nodes { IfOk result (λ t. ⟦<MemTree as Tree>⟧.nodes t ≡ Some (tree_at nodes.items)) }
+        ensures counts { IfOk result (λ t. t.failing ≡ record { fail = fail; calls = 0; faults = 0; misuses = 0 }) }
+        ensures place { IfOk result (λ t. ⟦<MemTree as Tree>⟧.place t ≡ []) }
+        ensures lost { IfErr result (λ e. Names (tree_at nodes.items) e) }
+        ensures rooted { OnOk result (Rooted (tree_at nodes.items)) }
+    {
+        let nodes = map_of(alloc, nodes)?;
+        if let Some(path) = first_lost(&nodes) {
+            let path = String::from_str(alloc, path)?;
+            return Err(TreeFault::NoFolder { path });
+        }
+        Ok(MemTree {
+            alloc,
+            nodes,
+            failing: Failing::new(fail),
+            place: String::new(alloc),
+        })
+    }
+
+    /// What stands at a path.
+    pub fn node(&self, path: &str) -> Option<&MemNode>
+        ensures { IsSomeAnd (⟦<MemTree as Tree>⟧.nodes self.now) (λ f. option_map (λ n. node_of n.now) result ≡ f path.now) }
+    {
+        self.nodes.get(path)
+    }
+
+    /// How often a call failed.
+    pub fn faults(&self) -> u64
+        ensures { result ≡ ⟦<MemTree as Tree>⟧.faults self.now }
+    {
+        self.failing.faults()
+    }
+
+    /// How many calls were faulty: an append or a rename of what is no file, a make, a begin or a rename to a path whose
+    /// folder isn't there, a remove of a folder that isn't empty.
+    pub fn misuses(&self) -> u64
+        ensures { result ≡ ⟦<MemTree as Tree>⟧.misuses self.now }
+    {
+        self.failing.misuses()
+    }
+
+    /// The place that was opened last.
+    pub fn place(&self) -> &str
+        ensures { result.now ≡ ⟦<MemTree as Tree>⟧.place self.now }
+    {
+        &self.place
+    }
+}
+
+impl Tree for MemTree {
+    ghost nodes = { λ t. Some (nodes_at t.nodes) };
+
+    ghost faults = { λ t. t.failing.faults };
+
+    ghost misuses = { λ t. t.failing.misuses };
+
+    ghost place = { λ t. string_bytes t.place };
+
+    fn open(&mut self, path: &str) -> Result<(), Stop>
+        ensures ok { OnOk result (string_bytes self.new.place ≡ path.now) }
+        ensures err { OnErr result (string_bytes self.new.place ≡ string_bytes self.old.place) }
+        ensures same { nodes_at self.new.nodes ≡ nodes_at self.old.nodes }
+        ensures fails { FailsWhere (is_to_fail self.old.failing) result }
+        ensures counts { self.new.failing ≡ counted self.old.failing }
+        ensures cause { HasCause self.old.failing.faults self.new.failing.faults result }
+    {
+        if self.failing.fails() {
+            return Err(Stop::Failed);
+        }
+        self.place = String::from_str(self.alloc, path)?;
+        Ok(())
+    }
+
+    fn list(&mut self, alloc: Global) -> Result<Vec<Seen>, Stop>
+        ensures listing { IfOk result (λ seen. IsTreeListing (nodes_at self.old.nodes) (map (λ s. (string_bytes s.path, s.node)) seen.items)) }
+        ensures same { nodes_at self.new.nodes ≡ nodes_at self.old.nodes }
+        ensures fails { FailsWhere (is_to_fail self.old.failing) result }
+        ensures counts { self.new.failing ≡ counted self.old.failing }
+        ensures place { string_bytes self.new.place ≡ string_bytes self.old.place }
+        ensures cause { HasCause self.old.failing.faults self.new.failing.faults result }
+    {
+        if self.failing.fails() {
+            return Err(Stop::Failed);
+        }
+        Ok(list_nodes(alloc, &self.nodes)?)
+    }
+
+    fn read(&mut self, what: &Known, at: u64, buf: &mut [u8]) -> Result<Option<usize>, Stop>
+        ensures bytes { IfOk result (λ n. Reads (file_bytes (nodes_at self.old.nodes (known_path what.now))) at (length buf.old) buf.new n) }
+        ensures room { IfOk result (λ n. IfSome n (λ n. n ≤ length buf.old)) }
+        ensures same { nodes_at self.new.nodes ≡ nodes_at self.old.nodes }
+        ensures fails { FailsWhere (is_to_fail self.old.failing) result }
+        ensures counts { self.new.failing ≡ counted self.old.failing }
+        ensures place { string_bytes self.new.place ≡ string_bytes self.old.place }
+        ensures cause { HasCause self.old.failing.faults self.new.failing.faults result }
+    {
+        if self.failing.fails() {
+            return Err(Stop::Failed);
+        }
+        Ok(read_known(self.alloc, &self.nodes, what, at, buf)?)
+    }
+
+    fn make(&mut self, folder: &str) -> Result<(), Stop>
+        ensures ok { OnOk result (nodes_at self.new.nodes ≡ with_node folder.now (Some folder_node) (nodes_at self.old.nodes)) }
+        ensures err { OnErr result (nodes_at self.new.nodes ≡ nodes_at self.old.nodes) }
+        ensures fails { FailsWhere (is_to_fail self.old.failing || not (is_placed (nodes_at self.old.nodes) folder.now && takes_folder (nodes_at self.old.nodes folder.now))) result }
+        ensures counts { self.new.failing ≡ tried_on (is_placed (nodes_at self.old.nodes) folder.now) (takes_folder (nodes_at self.old.nodes folder.now)) self.old.failing }
+        ensures place { string_bytes self.new.place ≡ string_bytes self.old.place }
+        ensures cause { HasCause self.old.failing.faults self.new.failing.faults result }
+    {
+        if self.failing.fails() {
+            return Err(Stop::Failed);
+        }
+        if !has_its_folder(&self.nodes, folder) {
+            return Err(self.failing.misuse());
+        }
+        if !may_put_folder(&self.nodes, folder) {
+            return Err(self.failing.fault());
+        }
+        put_node(self.alloc, &mut self.nodes, folder, MemNode::Folder)?;
+        Ok(())
+    }
+
+    fn begin(&mut self, path: &str) -> Result<(), Stop>
+        // A file that is begun has time 0.
+        ensures ok { OnOk result (nodes_at self.new.nodes ≡ with_node path.now (Some (file [] 0)) (nodes_at self.old.nodes)) }
+        ensures err { OnErr result (nodes_at self.new.nodes ≡ nodes_at self.old.nodes) }
+        ensures fails { FailsWhere (is_to_fail self.old.failing || not (is_placed (nodes_at self.old.nodes) path.now && takes_file (nodes_at self.old.nodes path.now))) result }
+        ensures counts { self.new.failing ≡ tried_on (is_placed (nodes_at self.old.nodes) path.now) (takes_file (nodes_at self.old.nodes path.now)) self.old.failing }
+        ensures place { string_bytes self.new.place ≡ string_bytes self.old.place }
+        ensures cause { HasCause self.old.failing.faults self.new.failing.faults result }
+    {
+        if self.failing.fails() {
+            return Err(Stop::Failed);
+        }
+        if !has_its_folder(&self.nodes, path) {
+            return Err(self.failing.misuse());
+        }
+        if !may_put_file(&self.nodes, path) {
+            return Err(self.failing.fault());
+        }
+        let empty = MemNode::File {
+            bytes: Vec::new(self.alloc),
+            time: 0,
+        };
+        put_node(self.alloc, &mut self.nodes, path, empty)?;
+        Ok(())
+    }
+
+    fn append(&mut self, path: &str, bytes: &[u8]) -> Result<(), Stop>
+        // The file's time stays.
+        ensures ok { OnOk result (nodes_at self.new.nodes ≡ with_node path.now (option_map (longer_node bytes.now) (nodes_at self.old.nodes path.now)) (nodes_at self.old.nodes)) }
+        ensures err { OnErr result (nodes_at self.new.nodes ≡ nodes_at self.old.nodes) }
+        ensures fails { FailsWhere (is_to_fail self.old.failing || not (is_file (nodes_at self.old.nodes path.now))) result }
+        ensures counts { self.new.failing ≡ tried (is_file (nodes_at self.old.nodes path.now)) self.old.failing }
+        ensures place { string_bytes self.new.place ≡ string_bytes self.old.place }
+        ensures cause { HasCause self.old.failing.faults self.new.failing.faults result }
+    {
+        if self.failing.fails() {
+            return Err(Stop::Failed);
+        }
+        if !has_file(&self.nodes, path) {
+            return Err(self.failing.misuse());
+        }
+        extend_file(&mut self.nodes, path, bytes)?;
+        Ok(())
+    }
+
+    fn rename(&mut self, from: &str, to: &str) -> Result<(), Stop>
+        ensures ok { OnOk result (nodes_at self.new.nodes ≡ moved_node from.now to.now (nodes_at self.old.nodes)) }
+        ensures err { OnErr result (nodes_at self.new.nodes ≡ nodes_at self.old.nodes) }
+        ensures fails { FailsWhere (is_to_fail self.old.failing || not (is_file (nodes_at self.old.nodes from.now) && is_placed (nodes_at self.old.nodes) to.now && not (is_folder (nodes_at self.old.nodes to.now)))) result }
+        ensures counts { self.new.failing ≡ tried_on (is_file (nodes_at self.old.nodes from.now) && is_placed (nodes_at self.old.nodes) to.now) (not (is_folder (nodes_at self.old.nodes to.now))) self.old.failing }
+        ensures place { string_bytes self.new.place ≡ string_bytes self.old.place }
+        ensures cause { HasCause self.old.failing.faults self.new.failing.faults result }
+    {
+        if self.failing.fails() {
+            return Err(Stop::Failed);
+        }
+        if !has_file(&self.nodes, from) || !has_its_folder(&self.nodes, to) {
+            return Err(self.failing.misuse());
+        }
+        if has_folder(&self.nodes, to) {
+            return Err(self.failing.fault());
+        }
+        move_file(self.alloc, &mut self.nodes, from, to)?;
+        Ok(())
+    }
+
+    fn remove(&mut self, path: &str) -> Result<(), Stop>
+        ensures ok { OnOk result (nodes_at self.new.nodes ≡ with_node path.now None (nodes_at self.old.nodes)) }
+        ensures err { OnErr result (nodes_at self.new.nodes ≡ nodes_at self.old.nodes) }
+        ensures fails { FailsWhere (is_to_fail self.old.failing || not (holds_nothing path.now self.old.nodes)) result }
+        ensures counts { self.new.failing ≡ tried (holds_nothing path.now self.old.nodes) self.old.failing }
+        ensures place { string_bytes self.new.place ≡ string_bytes self.old.place }
+        ensures cause { HasCause self.old.failing.faults self.new.failing.faults result }
+    {
+        if self.failing.fails() {
+            return Err(Stop::Failed);
+        }
+        if !is_bare(&self.nodes, path) {
+            return Err(self.failing.misuse());
+        }
+        take_node(&mut self.nodes, path);
+        Ok(())
+    }
+}

@@ -1,0 +1,50 @@
+-- Steps that are done.
+use Rattle.std.proofs.Common.{◌≡◌, ◌⊎◌, ⊎_elim, inl, inr, List, [], ◌∷◌, Option, Some, None, Bool, true, false, refl, sym, subst, ap, ◌∙◌}
+use Rattle.std.specs.Prelude.{IsSome}
+use Rattle.pgb_outside.specs.Content.{Content}
+use Rattle.pgb_model.specs.declared.clusters.Cluster.{Cluster}
+use Rattle.pgb_model.specs.Text.{Text}
+use Rattle.pgb_model.specs.Repository.{Repository}
+use Rattle.pgb_model.specs.Steps.{Step, Create, Move, One, Any, Command, StanzaCreate, IsPartOf, IsSomeOf, step, after, steps_of}
+use Rattle.pgb_model.specs.Log.{IsDone}
+use Rattle.pgb_model.specs.Now.{NowStands, NowDoes}
+
+nothing_of : (groups : List (List Step)) → IsSomeOf [] groups
+nothing_of [] = refl
+nothing_of (g ∷ groups) = inl (nothing_of groups)
+
+-- nothing is a part of any moves
+pub part_none : (moves : List Move) → IsPartOf [] moves
+part_none [] = refl
+part_none (One t ∷ moves) = inl refl
+part_none (Any groups ∷ moves) = inl (nothing_of groups)
+
+-- what stays as it was has done nothing of a command
+pub nothing_done : (stanza : Text) (command : Command) (old new : Option Content) → new ≡ old → NowDoes stanza command false old new
+nothing_done stanza command old new same = record {
+    told = λ s. subst (λ (o : Option Content). IsSome o) (sym same) s;
+    does = λ r some now. ([], part_none (steps_of command r), subst (λ (o : Option Content). NowStands stanza r o) (sym same) now);
+  }
+
+module _ (stanza : Text) (c : Cluster) (old mid new : Option Content) (same : mid ≡ old) (told : IsSome mid → IsSome new) where
+  from_mid : (r : Repository) → NowStands stanza r old → NowStands stanza r mid
+  from_mid r now = subst (λ (o : Option Content). NowStands stanza r o) (sym same) now
+
+  some_mid : IsSome old → IsSome mid
+  some_mid s = subst (λ (o : Option Content). IsSome o) (sym same) s
+
+  -- a stanza that may have been made
+  pub create_part : ((r : Repository) → IsSome mid → NowStands stanza r mid → NowStands stanza r new ⊎ NowStands stanza (step r (Create c)) new) → NowDoes stanza (StanzaCreate (Some c)) false old new
+  create_part part = record { told = λ s. told (some_mid s); does = does }
+    where
+      does : (r : Repository) → IsSome old → NowStands stanza r old → (done : List Step) × IsPartOf done (steps_of (StanzaCreate (Some c)) r) × NowStands stanza (after r done) new
+      does None some now = ⊎_elim (λ s. ([], inl refl, s)) (λ s. (Create c ∷ [], inr ([], refl, refl), s)) (part None (some_mid some) (from_mid None now))
+      does (Some s) some now = ([], refl, ⊎_elim (λ x. x) (λ x. x) (part (Some s) (some_mid some) (from_mid (Some s) now)))
+
+  -- a stanza that was made
+  pub create_whole : ((r : Repository) → IsSome mid → NowStands stanza r mid → (r ≡ None) × NowStands stanza (step r (Create c)) new) → NowDoes stanza (StanzaCreate (Some c)) true old new
+  create_whole whole = record { told = λ s. told (some_mid s); does = does }
+    where
+      does : (r : Repository) → IsSome old → NowStands stanza r old → (done : List Step) × IsDone true done (steps_of (StanzaCreate (Some c)) r) × NowStands stanza (after r done) new
+      does None some now = (Create c ∷ [], refl, (whole None (some_mid some) (from_mid None now)).1)
+      does (Some s) some now = ([], refl, (whole (Some s) (some_mid some) (from_mid (Some s) now)).1)

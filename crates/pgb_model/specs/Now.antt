@@ -1,0 +1,27 @@
+-- What a disk that tells what it holds stands for.
+use Rattle.std.specs.Prelude.{◌≡◌, Bool, List, Option, Some, IsSome}
+use Rattle.pgb_outside.specs.Content.{Content}
+use Rattle.pgb_model.specs.declared.clusters.Cluster.{Cluster}
+use Rattle.pgb_model.specs.Text.{Text}
+use Rattle.pgb_model.specs.Names.{archive_info, backup_info, copy_of}
+use Rattle.pgb_model.specs.Repository.{Repository}
+use Rattle.pgb_model.specs.Stands.{Stands}
+use Rattle.pgb_model.specs.Create.{first_archive_text, first_backup_text}
+use Rattle.pgb_model.specs.Steps.{Command, Step, after, steps_of}
+use Rattle.pgb_model.specs.Log.{IsDone}
+
+-- what the disk holds, where it is told, stands for r
+pub record NowStands (stanza : Text) (r : Repository) (now : Option Content) : Type 0 where
+  pub stands : (f : Content) → now ≡ Some f → Stands stanza f r
+
+-- both members of both pairs have the texts of a new stanza of this cluster
+pub record HasNewPairs (stanza : Text) (c : Cluster) (f : Content) : Type 0 where
+  pub archive : f (archive_info stanza) ≡ Some (first_archive_text c)
+  pub archive_copy : f (copy_of (archive_info stanza)) ≡ Some (first_archive_text c)
+  pub backup : f (backup_info stanza) ≡ Some (first_backup_text c)
+  pub backup_copy : f (copy_of (backup_info stanza)) ≡ Some (first_backup_text c)
+
+-- From old to new the disk goes by all of the command's steps, or by a part of them, whatever repository it stood for.
+pub record NowDoes (stanza : Text) (command : Command) (whole : Bool) (old new : Option Content) : Type 0 where
+  pub told : IsSome old → IsSome new
+  pub does : (r : Repository) → IsSome old → NowStands stanza r old → (done : List Step) × IsDone whole done (steps_of command r) × NowStands stanza (after r done) new

@@ -1,0 +1,62 @@
+//! The program: the system's files and output, handed to the commands.
+#![tactic(auto)]
+
+mod disk;
+mod faults;
+mod handles;
+mod place;
+#[cfg(test)]
+mod scratch;
+mod settle;
+mod sink;
+mod tree;
+mod turns;
+mod walk;
+
+use disk::RealDisk;
+use pgb_command::{Outside, run};
+use pgb_outside::{Link, NotThere};
+use sink::RealSink;
+use std::io::ErrorKind;
+use std::process::ExitCode;
+use std::{env, io};
+use tree::RealTree;
+use turns::RoundRobin;
+
+const NOT_UTF8: u8 = 13;
+
+const NO_MEMORY: u8 = 90;
+
+fn main(rt: HostRuntime) -> ExitCode {
+    match words(&rt) {
+        Ok(words) => ExitCode::from(status_of(rt, &words)),
+        Err(e) if e.kind() == ErrorKind::OutOfMemory => ExitCode::from(NO_MEMORY),
+        Err(_) => ExitCode::from(NOT_UTF8),
+    }
+}
+
+// The arguments after the program's own name. They fail as a whole where one isn't UTF-8.
+fn words(rt: &HostRuntime) -> io::Result<Vec<String>> {
+    let mut words = Vec::new(rt.alloc());
+    for word in env::args(rt)?.skip(1) {
+        words.push(word).map_err(place::no_memory)?;
+    }
+    Ok(words)
+}
+
+fn status_of(rt: HostRuntime, words: &[String]) -> u8 {
+    let mut outside = Outside {
+        repo: RealDisk::new(rt),
+        spool: NotThere::new(),
+        tree: RealTree::new(rt),
+        server: NotThere::new(),
+        aside: NotThere::new(),
+        clock: NotThere::new(),
+        locks: NotThere::new(),
+        config: NotThere::new(),
+        out: RealSink::new(rt),
+    };
+    let mut links: Vec<Box<dyn Link>> = Vec::new(rt.alloc());
+    let mut turns = RoundRobin::new();
+    run(rt.alloc(), words, &mut outside, &mut links, &mut turns)
+}

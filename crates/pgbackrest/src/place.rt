@@ -1,0 +1,189 @@
+// A folder of the system's files, and what stands below it by name.
+ghost use Rattle.std.specs.Prelude.{◌≡◌, ◌≢◌, ◌⊎◌, ◌∷◌, ◌++◌, Result, Ok, Err, None, Some, IfErr, IfOk, OnOk, string_bytes};
+ghost use Rattle.std.specs.IoError.{error_kind};
+
+use std::fs::{DirBuilder, File, Metadata, OpenOptions};
+use std::io::ErrorKind;
+use std::os::unix::fs::{DirBuilderExt, OpenOptionsExt};
+use std::{fs, io};
+
+const FILE_MODE: u32 = 0o600;
+
+const FOLDER_MODE: u32 = 0o700;
+
+/// The folder that was opened last. A name's elements have `/` between them.
+#[derive(Drop)]
+pub struct Place {
+    pub rt: HostRuntime,
+    pub root: String,
+}
+
+impl Place {
+    pub fn new(rt: HostRuntime) -> Self {
+        let root = String::new(rt.alloc());
+        Place { rt, root }
+    }
+
+    /// Takes a folder as the root, and makes it where it is absent.
+    pub fn open(&mut self, path: &str) -> io::Result<()>
+        ensures { OnOk result (string_bytes self.new.root ≡ path.now) }
+    {
+        self.root = String::from_str(self.rt.alloc(), path)?;
+        if is_folder(&self.rt, path) {
+            Ok(())
+        } else {
+            make_durable(&self.rt, path)
+        }
+    }
+
+    pub fn path_of(&self, name: &str) -> io::Result<String>
+        ensures { IfOk result (λ path. string_bytes path ≡ string_bytes self.now.root ++ 47 ∷ name.now) }
+    {
+        let root = self.root.as_str();
+        Ok(format!(in self.rt.alloc(); "{root}/{name}")?)
+    }
+
+    /// Makes the name an empty file; the folder that holds it is there.
+    pub fn create(&self, name: &str) -> io::Result<File> {
+        let path = self.path_of(name)?;
+        let mut how = OpenOptions::new();
+        how.write(true).create(true).truncate(true).mode(FILE_MODE);
+        how.open(&self.rt, path.as_str())
+    }
+
+    /// Opens a file that is there to write at its end.
+    pub fn open_end(&self, name: &str) -> io::Result<File> {
+        self.demand_file(name)?;
+        let path = self.path_of(name)?;
+        let mut how = OpenOptions::new();
+        how.append(true).open(&self.rt, path.as_str())
+    }
+
+    /// Opens a name to read it: None where it is absent.
+    pub fn open_start(&self, name: &str) -> io::Result<Option<File>> {
+        let path = self.path_of(name)?;
+        unless_absent(File::open(&self.rt, path.as_str()))
+    }
+
+    /// What stands at the name itself, where that is a link: None where nothing does.
+    pub fn look_at(&self, name: &str) -> io::Result<Option<Metadata>> {
+        let path = self.path_of(name)?;
+        unless_absent(fs::symlink_metadata(&self.rt, path.as_str()))
+    }
+
+    pub fn is_file(&self, name: &str) -> io::Result<bool> {
+        Ok(self.look_at(name)?.is_some_and(|seen| seen.is_file()))
+    }
+
+    fn demand_file(&self, name: &str) -> io::Result<()> {
+        if self.is_file(name)? {
+            Ok(())
+        } else {
+            Err(io::Error::from(ErrorKind::NotFound))
+        }
+    }
+
+    /// Moves a file that is there.
+    pub fn rename(&self, from: &str, to: &str) -> io::Result<()> {
+        self.demand_file(from)?;
+        let source = self.path_of(from)?;
+        let target = self.path_of(to)?;
+        fs::rename(&self.rt, source.as_str(), target.as_str())
+    }
+
+    /// Takes a file or a link away, where it is there.
+    pub fn remove(&self, name: &str) -> io::Result<()> {
+        let path = self.path_of(name)?;
+        unless_absent(fs::remove_file(&self.rt, path.as_str()))?;
+        Ok(())
+    }
+
+    /// Takes an empty folder away.
+    pub fn remove_folder(&self, name: &str) -> io::Result<()> {
+        let path = self.path_of(name)?;
+        fs::remove_dir(&self.rt, path.as_str())
+    }
+
+    /// Makes a folder, unless it is there; the folder that holds it is.
+    pub fn make_folder(&self, name: &str) -> io::Result<()> {
+        if self.look_at(name)?.is_some_and(|seen| seen.is_dir()) {
+            return Ok(());
+        }
+        let path = self.path_of(name)?;
+        DirBuilder::new()
+            .mode(FOLDER_MODE)
+            .create(&self.rt, path.as_str())
+    }
+
+    /// Makes the folder that holds a name, and those that hold that.
+    pub fn make_folders_for(&self, name: &str) -> io::Result<()> {
+        let path = self.path_of(name)?;
+        let mut how = DirBuilder::new();
+        how.mode(FOLDER_MODE)
+            .recursive(true)
+            .create(&self.rt, folder_of(&path))
+    }
+}
+
+/// Makes the names in a folder durable, where the folder is there.
+pub fn sync_folder(rt: &HostRuntime, path: &str) -> io::Result<()> {
+    match unless_absent(File::open(rt, path))? {
+        Some(folder) => folder.sync_all(),
+        None => Ok(()),
+    }
+}
+
+/// None where a name is absent; a path through a file leads to no name.
+pub fn unless_absent<T: Drop>(done: io::Result<T>) -> io::Result<Option<T>>
+    ensures there { IfOk done (λ v. result ≡ Ok (Some v)) }
+    ensures absent { IfErr done (λ e. (error_kind e ≡ ErrorKind.NotFound) ⊎ (error_kind e ≡ ErrorKind.NotADirectory) → result ≡ Ok None) }
+    ensures error { IfErr done (λ e. error_kind e ≢ ErrorKind.NotFound → error_kind e ≢ ErrorKind.NotADirectory → result ≡ Err e) }
+{
+    match done {
+        Ok(value) => Ok(Some(value)),
+        Err(e) if e.kind() == ErrorKind::NotFound => Ok(None),
+        Err(e) if e.kind() == ErrorKind::NotADirectory => Ok(None),
+        Err(e) => Err(e),
+    }
+}
+
+pub fn no_memory<T: Drop>(_: T) -> io::Error
+    ensures { error_kind result ≡ ErrorKind.OutOfMemory }
+{
+    io::Error::from(ErrorKind::OutOfMemory)
+}
+
+fn is_folder(rt: &HostRuntime, path: &str) -> bool {
+    match fs::metadata(rt, path) {
+        Ok(seen) => seen.is_dir(),
+        Err(_) => false,
+    }
+}
+
+fn folder_of(path: &str) -> &str {
+    match path.rsplit_once('/') {
+        Some(("", _)) => "/",
+        Some((folder, _)) => folder,
+        None => ".",
+    }
+}
+
+// Makes a folder and those that hold it, each with a durable name: no later call comes back to these.
+fn make_durable(rt: &HostRuntime, path: &str) -> io::Result<()> {
+    for end in 1..path.len() {
+        if let Some((above, rest)) = path.split_at_checked(end) {
+            if rest.starts_with('/') {
+                make_one_durable(rt, above)?;
+            }
+        }
+    }
+    make_one_durable(rt, path)
+}
+
+fn make_one_durable(rt: &HostRuntime, path: &str) -> io::Result<()> {
+    match DirBuilder::new().mode(FOLDER_MODE).create(rt, path) {
+        Ok(()) => sync_folder(rt, folder_of(path)),
+        Err(_) if is_folder(rt, path) => Ok(()),
+        Err(e) => Err(e),
+    }
+}

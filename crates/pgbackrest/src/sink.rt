@@ -1,0 +1,52 @@
+// The standard output.
+ghost use Rattle.std.specs.Prelude.{◌≡◌, ◌<◌, ◌≤◌, None, IfOk, length};
+
+use crate::faults::Faults;
+use pgb_outside::{Sink, Stop};
+use std::io;
+use std::io::{ErrorKind, Write};
+
+/// Each piece goes to the system at once. It tells nothing of what was written.
+#[derive(Drop)]
+pub struct RealSink {
+    rt: HostRuntime,
+    faults: Faults,
+}
+
+impl RealSink {
+    pub fn new(rt: HostRuntime) -> Self
+        ensures { result.faults.count ≡ 0 }
+    {
+        RealSink {
+            rt,
+            faults: Faults::new(),
+        }
+    }
+}
+
+impl Sink for RealSink {
+    ghost written = { λ _. None };
+
+    ghost faults = { λ s. s.faults.count };
+
+    fn write(&mut self, bytes: &[u8]) -> Result<usize, Stop> {
+        let done = write_some(&self.rt, bytes);
+        self.faults.told(done)
+    }
+}
+
+// Writes again where a signal came. An output that takes nothing of a piece that has bytes fails.
+fn write_some(rt: &HostRuntime, bytes: &[u8]) -> io::Result<usize>
+    ensures room { IfOk result (λ n. n ≤ length bytes.now) }
+    ensures some { IfOk result (λ n. 0 < length bytes.now → 0 < n) }
+{
+    let mut out = rt.stdout();
+    for _ in 0..u64::MAX {
+        match out.write(bytes) {
+            Err(e) if e.kind() == ErrorKind::Interrupted => {}
+            Ok(0) if !bytes.is_empty() => return Err(io::Error::from(ErrorKind::WriteZero)),
+            done => return done,
+        }
+    }
+    Err(io::Error::from(ErrorKind::Interrupted))
+}
