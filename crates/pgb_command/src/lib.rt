@@ -4,11 +4,11 @@
 mod cluster;
 mod create;
 mod fault;
-mod output;
 mod outside;
+mod output;
 mod reading;
 mod top;
 mod words;
 
-pub use fault::{ControlFile, Fault, Unbuilt};
-pub use words::Settings;
+pub use outside::Outside;
+pub use top::run;
