@@ -231,3 +231,6 @@ impl Disk for MemDisk {
         Ok(())
     }
 }
+
+#[cfg(test)]
+mod tests;

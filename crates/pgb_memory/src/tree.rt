@@ -260,3 +260,6 @@ impl Tree for MemTree {
         Ok(())
     }
 }
+
+#[cfg(test)]
+mod tests;
