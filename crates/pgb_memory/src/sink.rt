@@ -18,7 +18,7 @@ impl MemSink {
     /// A sink with nothing written. `fail` has the numbers of the writes that are to fail, the first being 0.
     pub fn new(alloc: Global, fail: Vec<u64>) -> Self
         ensures written { ⟦<MemSink as Sink>⟧.written result ≡ Some [] }
-        ensures faults { ⟦<MemSink as Sink>⟧.faults result ≡ 0 }
+        ensures counts { result.failing ≡ record { fail = fail; calls = 0; faults = 0; misuses = 0 } }
     {
         MemSink {
             text: Vec::new(alloc),

@@ -36,27 +36,22 @@ fn file(alloc: Global, text: &str, time: u64) -> Result<MemNode, AllocError> {
     Ok(MemNode::File { bytes, time })
 }
 
-// A small data folder.
-fn cluster(alloc: Global, fail: &[u64]) -> Result<MemTree, TreeFault> {
+// The nodes of a small data folder, in no order.
+fn cluster_nodes(alloc: Global) -> Result<Vec<(String, MemNode)>, AllocError> {
     let mut nodes = Vec::new(alloc);
-    let _ = nodes
-        .push((String::from_str(alloc, "pg_wal/1")?, file(alloc, "seg", 7)?))
-        .is_ok();
-    let _ = nodes
-        .push((String::from_str(alloc, "pg_wal")?, MemNode::Folder))
-        .is_ok();
-    let _ = nodes
-        .push((
-            String::from_str(alloc, "PG_VERSION")?,
-            file(alloc, "16", 5)?,
-        ))
-        .is_ok();
-    let _ = nodes
-        .push((String::from_str(alloc, "pg_tblspc")?, MemNode::Folder))
-        .is_ok();
-    let _ = nodes
-        .push((String::from_str(alloc, "pg_tblspc/9")?, MemNode::Link))
-        .is_ok();
+    nodes.push((String::from_str(alloc, "pg_wal/1")?, file(alloc, "seg", 7)?))?;
+    nodes.push((String::from_str(alloc, "pg_wal")?, MemNode::Folder))?;
+    nodes.push((
+        String::from_str(alloc, "PG_VERSION")?,
+        file(alloc, "16", 5)?,
+    ))?;
+    nodes.push((String::from_str(alloc, "pg_tblspc")?, MemNode::Folder))?;
+    nodes.push((String::from_str(alloc, "pg_tblspc/9")?, MemNode::Link))?;
+    Ok(nodes)
+}
+
+fn cluster(alloc: Global, fail: &[u64]) -> Result<MemTree, TreeFault> {
+    let nodes = cluster_nodes(alloc)?;
     MemTree::new(alloc, nodes, Vec::from_slice(alloc, fail)?)
 }
 
