@@ -1,2 +1,4 @@
 pub mod Fault
 pub mod Member
+pub mod Calendar
+pub mod Entries

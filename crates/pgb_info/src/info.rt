@@ -15,10 +15,9 @@ pub trait Info {
     /// The rules of its kind.
     ghost is_valid: { Self → Type 0 };
 
+    /// The sections, as a program holds them. A value within the rules has a text.
     fn parts(&self, alloc: Global) -> Result<Vec<Part>, NoMemory>
         requires { is_valid self.now }
-        ensures { IfOk result (λ parts. sections_of parts.items ≡ sections self.now) };
-
-    /// A value within the rules has a text.
-    ghost is_info: { (v : Self) → is_valid v → IsInfo (sections v) };
+        ensures sections { IfOk result (λ parts. sections_of parts.items ≡ sections self.now) }
+        ensures rules { IsInfo (sections self.now) };
 }

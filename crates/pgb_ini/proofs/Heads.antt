@@ -1,14 +1,11 @@
 -- The first section, spelled out.
-use Rattle.std.proofs.Common.{◌≡◌, ℕ, List, [], ◌∷◌, ◌++◌, refl, sym, ap, ◌∙◌, arith, codes, true, append_assoc}
+use Rattle.std.proofs.Common.{◌≡◌, ℕ, List, [], ◌∷◌, ◌++◌, sym, ap, ◌∙◌, arith, codes, true, append_assoc}
 use Rattle.std.specs.List.{flat_map}
 use Rattle.std.specs.Fmt.{decimal}
 use Rattle.std.proofs.lemmas.Fmt.{decimal_digit}
-use Rattle.json.specs.Print.{quoted, escape_byte}
-use Rattle.serde_json.specs.Data.{object}
-use Rattle.serde_json.specs.Written.{compact_text, members_text}
-use Rattle.sha1.specs.Sha1.{sha1}
-use Rattle.pgb_text.specs.Sum.{sum_text}
-use Rattle.pgb_model.specs.InfoText.{Section, head, section_text, sections_from, signed_text, info_text, text_with}
+use Rattle.json.specs.Print.{escape_byte}
+use Rattle.serde_json.specs.Written.{members_text}
+use Rattle.pgb_model.specs.InfoText.{Section, head, section_text, sections_from, signed_text, text_with}
 
 pub five : decimal 5 ≡ 53 ∷ []
 five = decimal_digit 5 (omega arith)

@@ -1,11 +1,11 @@
 -- What the rules give a writer.
-use Rattle.std.proofs.Common.{◌≡◌, ℕ, List, [], ◌∷◌, map, String}
+use Rattle.std.proofs.Common.{List, [], ◌∷◌, map, String}
 use Rattle.std.specs.List.{AllByRecursion}
 use Rattle.std.specs.declared.alloc.Global.{Global}
 use Rattle.serde_json.specs.declared.value.Value.{Value}
 use Rattle.pgb_model.specs.InfoText.{IsKey, IsSection, IsInfo}
 use Rattle.pgb_ini.specs.declared.part.Part.{Part}
-use Rattle.pgb_ini.specs.Parts.{NoFloats, key_of, section_of, sections_of}
+use Rattle.pgb_ini.specs.Parts.{NoFloats, key_of, sections_of}
 
 keys_no_floats : (ks : List (String Global × Value)) → AllByRecursion IsKey (map key_of ks) → NoFloats ks
 keys_no_floats [] h = tt

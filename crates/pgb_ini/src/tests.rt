@@ -29,8 +29,10 @@ backrest-checksum=\"5ab4590d6c21779f8a41b4a22f28e5f580cee6ee\"
 ";
 
 fn db(alloc: Global) -> Result<Part, NoMemory>
-    ensures { IfOk result (λ p. section_of p ≡ record { name = codes "db";
-        keys = (codes "db-id", whole 1) ∷ (codes "db-system-id", whole 6917529027641081857) ∷ (codes "db-version", string (codes "16")) ∷ [] }) }
+    ensures { IfOk result (λ p. section_of p ≡ record {
+      name = codes "db";
+      keys = (codes "db-id", whole 1) ∷ (codes "db-system-id", whole 6917529027641081857) ∷ (codes "db-version", string (codes "16")) ∷ [];
+    }) }
 {
     let mut part = Part::new(alloc, "db")?;
     part.add(alloc, "db-id", Value::from(1u64))?;
@@ -46,8 +48,10 @@ fn cluster(alloc: Global) -> Result<Value, NoMemory>
 }
 
 fn history(alloc: Global) -> Result<Part, NoMemory>
-    ensures { IfOk result (λ p. section_of p ≡ record { name = codes "db:history";
-        keys = (codes "1", fields ((codes "db-id", whole 6917529027641081857) ∷ (codes "db-version", string (codes "16")) ∷ [])) ∷ [] }) }
+    ensures { IfOk result (λ p. section_of p ≡ record {
+      name = codes "db:history";
+      keys = (codes "1", fields ((codes "db-id", whole 6917529027641081857) ∷ (codes "db-version", string (codes "16")) ∷ [])) ∷ [];
+    }) }
 {
     let mut part = Part::new(alloc, "db:history")?;
     part.add(alloc, "1", cluster(alloc)?)?;

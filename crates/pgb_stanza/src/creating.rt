@@ -105,5 +105,7 @@ pub fn create<D: Disk>(
     ensures later { D.faults d.old ≤ D.faults d.new }
     ensures cause { IsErrOf result StanzaFault.Disk → Rises (D.faults d.old) (D.faults d.new) }
 {
-    Err(StanzaFault::NoMemory)
+    let cluster = first_cluster(control);
+    save_pairs(alloc, d, stanza, &cluster)?;
+    Ok(Created::New)
 }

@@ -1,15 +1,41 @@
 // The pairs of a new stanza are saved.
-ghost use Rattle.std.specs.Prelude.{◌≡◌, ◌≤◌, OnOk, IsErrOf};
+ghost use Rattle.std.specs.Prelude.{◌≡◌, ◌≤◌, IfOk, OnOk, IsErrOf};
 ghost use Rattle.pgb_outside.specs.Crash.{NowGoes, FirstOf, AllOf};
 ghost use Rattle.pgb_outside.specs.Cause.{Rises};
 ghost use Rattle.pgb_model.specs.Names.{archive_info, backup_info};
 ghost use Rattle.pgb_model.specs.InfoFiles.{IsCluster};
-ghost use Rattle.pgb_model.specs.Create.{first_archive_text, first_backup_text, member_writes, pair_writes};
+ghost use Rattle.pgb_model.specs.Values.{archive_info_of, backup_info_of};
+ghost use Rattle.pgb_model.specs.Create.{first_archive, first_backup, first_archive_text, first_backup_text, member_writes, pair_writes};
 
-use pgb_info::InfoFault;
-use pgb_model::Cluster;
+use crate::names::{archive_info_name, backup_info_name};
+use pgb_info::{InfoFault, save_pair};
+use pgb_model::{ArchiveInfo, BackupInfo, Cluster, ClusterId};
 use pgb_outside::Disk;
-use std::alloc::Global;
+use std::alloc::{AllocError, Global};
+
+fn first_backup(alloc: Global, cluster: &Cluster) -> Result<BackupInfo, AllocError>
+    ensures { IfOk result (λ v. backup_info_of v ≡ first_backup cluster.now) }
+{
+    Ok(BackupInfo {
+        current: 1,
+        history: Vec::from_slice(alloc, &[*cluster])?,
+        backups: Vec::new(alloc),
+    })
+}
+
+fn first_archive(alloc: Global, cluster: &Cluster) -> Result<ArchiveInfo, AllocError>
+    ensures { IfOk result (λ v. archive_info_of v ≡ first_archive cluster.now) }
+{
+    let identity = ClusterId {
+        id: cluster.id,
+        system: cluster.system,
+        version: cluster.version,
+    };
+    Ok(ArchiveInfo {
+        current: 1,
+        history: Vec::from_slice(alloc, &[identity])?,
+    })
+}
 
 // Saves the backup pair of a new stanza.
 fn save_backup<D: Disk>(
@@ -19,6 +45,7 @@ fn save_backup<D: Disk>(
     cluster: &Cluster,
 ) -> Result<(), InfoFault>
     requires first { cluster.now.id ≡ 1 }
+    requires is_cluster { IsCluster cluster.now }
     ensures now_part { NowGoes (FirstOf (member_writes (backup_info stanza.now) (first_backup_text cluster.now))) (D.view d.old).now (D.view d.new).now }
     ensures now_whole { OnOk result (NowGoes (AllOf (member_writes (backup_info stanza.now) (first_backup_text cluster.now))) (D.view d.old).now (D.view d.new).now) }
     ensures place { D.place d.new ≡ D.place d.old }
@@ -26,7 +53,10 @@ fn save_backup<D: Disk>(
     ensures later { D.faults d.old ≤ D.faults d.new }
     ensures cause { IsErrOf result InfoFault.Disk → Rises (D.faults d.old) (D.faults d.new) }
 {
-    Err(InfoFault::NoMemory)
+    let name = backup_info_name(alloc, stanza)?;
+    let value = first_backup(alloc, cluster)?;
+    save_pair(alloc, d, name.as_str(), &value)?;
+    Ok(())
 }
 
 // Saves the archive pair of a new stanza.
@@ -37,6 +67,7 @@ fn save_archive<D: Disk>(
     cluster: &Cluster,
 ) -> Result<(), InfoFault>
     requires first { cluster.now.id ≡ 1 }
+    requires is_cluster { IsCluster cluster.now }
     ensures now_part { NowGoes (FirstOf (member_writes (archive_info stanza.now) (first_archive_text cluster.now))) (D.view d.old).now (D.view d.new).now }
     ensures now_whole { OnOk result (NowGoes (AllOf (member_writes (archive_info stanza.now) (first_archive_text cluster.now))) (D.view d.old).now (D.view d.new).now) }
     ensures place { D.place d.new ≡ D.place d.old }
@@ -44,7 +75,10 @@ fn save_archive<D: Disk>(
     ensures later { D.faults d.old ≤ D.faults d.new }
     ensures cause { IsErrOf result InfoFault.Disk → Rises (D.faults d.old) (D.faults d.new) }
 {
-    Err(InfoFault::NoMemory)
+    let name = archive_info_name(alloc, stanza)?;
+    let value = first_archive(alloc, cluster)?;
+    save_pair(alloc, d, name.as_str(), &value)?;
+    Ok(())
 }
 
 /// Saves the backup pair, then the archive pair, whose main member makes the stanza.
@@ -55,6 +89,7 @@ pub(crate) fn save_pairs<D: Disk>(
     cluster: &Cluster,
 ) -> Result<(), InfoFault>
     requires first { cluster.now.id ≡ 1 }
+    requires is_cluster { IsCluster cluster.now }
     ensures now_part { NowGoes (FirstOf (pair_writes stanza.now cluster.now)) (D.view d.old).now (D.view d.new).now }
     ensures now_whole { OnOk result (NowGoes (AllOf (pair_writes stanza.now cluster.now)) (D.view d.old).now (D.view d.new).now) }
     ensures place { D.place d.new ≡ D.place d.old }

@@ -1,9 +1,9 @@
-use Rattle.std.proofs.Common.{◌≡◌, ℕ, ◌≤◌, ◌<◌, ◌^◌, refl, sym, ap, ap₂, ◌∙◌, subst, codes, List, [], ◌∷◌, ◌++◌, true, IsUtf8, arith, lit<, lit≤, map}
+use Rattle.std.proofs.Common.{◌≡◌, refl, sym, ap, ap₂, ◌∙◌, subst, codes, [], ◌∷◌, ◌++◌, lit<, lit≤}
 use Rattle.json.proofs.Printed.Utf8.{IsUtf8-are_ascii}
 use Rattle.serde_json.specs.Data.{Data, string}
 use Rattle.pgb_model.specs.Fields.{whole, fields}
 use Rattle.pgb_model.specs.InfoText.{Section, IsSection, IsInfo}
-use Rattle.pgb_ini.specs.Parts.{section_of, sections_of}
+use Rattle.pgb_ini.specs.Parts.{sections_of}
 use Rattle.pgb_ini.proofs.Keys.{IsKey-built}
 use Rattle.pgb_ini.proofs.tests.parts.Goals as goal
 
@@ -30,7 +30,6 @@ db_rules = record {
   );
   order = refl;
 }
-
 
 history_rules : IsSection history
 history_rules = record {

@@ -1,4 +1,4 @@
-use Rattle.std.proofs.Common.{◌≡◌, ◌++◌, map, drop, true}
+use Rattle.std.proofs.Common.{◌≡◌, ◌++◌, drop, true}
 use Rattle.std.specs.List.{flat_map}
 use Rattle.serde_json.specs.Written.{members_text}
 use Rattle.pgb_model.specs.InfoText.{section_text, sections_from}

@@ -1,11 +1,11 @@
-use Rattle.std.proofs.Common.{◌≡◌, ℕ, List, [], ◌∷◌, ◌++◌, sym, ap, ◌∙◌, codes, true, string_bytes}
+use Rattle.std.proofs.Common.{◌≡◌, [], ◌∷◌, ◌++◌, sym, ap, ◌∙◌, true, string_bytes}
 use Rattle.sha1.specs.Sha1.{sha1}
 use Rattle.pgb_text.specs.Sum.{sum_text}
 use Rattle.std.specs.List.{flat_map}
 use Rattle.serde_json.specs.Written.{members_text}
-use Rattle.pgb_model.specs.InfoText.{section_text, sections_from, info_text, text_with, signed_text}
+use Rattle.pgb_model.specs.InfoText.{section_text, sections_from, text_with, signed_text}
 use Rattle.pgb_ini.specs.Parts.{sections_of}
-use Rattle.pgb_ini.proofs.Heads.{last, text_is, signed_head}
+use Rattle.pgb_ini.proofs.Heads.{text_is, signed_head}
 use Rattle.pgb_ini.proofs.Rules.{no_floats}
 use Rattle.pgb_ini.proofs.write.write_info_text.Goals as goal
 

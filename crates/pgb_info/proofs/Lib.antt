@@ -1,0 +1,12 @@
+pub mod Clusters
+pub mod First
+pub mod KeyNames
+pub mod Found
+pub mod ByKey
+pub mod ArchiveRules
+pub mod Dates
+pub mod Hexadecimal
+pub mod PlainTexts
+pub mod EntryRules
+pub mod BackupRules
+pub mod PartLists
