@@ -1,7 +1,7 @@
 // What else a disk may hold as a stanza is made.
 use crate::fixture::{
-    EXISTING, Folder, MADE, NEVER, SAMPLE, Stands, WORDS, holds, listing, output, room, run_words,
-    tree,
+    EXISTING, Folder, MADE, NAMES, NEVER, SAMPLE, Stands, WORDS, holds, listing, output, room,
+    run_words, tree,
 };
 use crate::texts::{ARCHIVE_16, ARCHIVE_17, BACKUP_16, BACKUP_17};
 use std::test::Fail;
@@ -17,7 +17,10 @@ const OTHERS: [(&'static str, &'static str); 15] = [
     ("archive/demo/Archive.info", "d"),
     ("archive/demo/archive.info.bak", "e"),
     ("archive/demo/backup.info", "f"),
-    ("archive/demo/16-1/0000000100000000/000000010000000000000001-5ab4590d6c21779f8a41b4a22f28e5f580cee6ee", "wal"),
+    (
+        "archive/demo/16-1/0000000100000000/000000010000000000000001-5ab4590d6c21779f8a41b4a22f28e5f580cee6ee",
+        "wal",
+    ),
     ("backup/demo/archive.info", "g"),
     ("backup/demo/backup.info.copy.copy", "h"),
     ("backup/demo/20240102-030405F/backup.manifest", "i"),
@@ -33,6 +36,25 @@ fn leaves_other_names(rt: HostRuntime) -> Result<(), Fail> {
     assert_eq!(rt; output(&room), Some(""));
     assert!(rt; holds(&room.repo, &OTHERS));
     assert!(rt; holds(&room.repo, &MADE));
+    Ok(())
+}
+
+// What a run that ended early left at the temporary names.
+const LEFT: [(&'static str, &'static str); 2] = [
+    (
+        "archive/demo/archive.info.pgbackrest.tmp",
+        "[backrest]\nbackrest-fo",
+    ),
+    ("backup/demo/backup.info.pgbackrest.tmp", ""),
+];
+
+#[test]
+fn takes_what_was_left_away(rt: HostRuntime) -> Result<(), Fail> {
+    let alloc = rt.alloc();
+    let mut room = room(alloc, &LEFT, SAMPLE, NEVER)?;
+    assert_eq!(rt; run_words(alloc, &WORDS, &mut room)?, 0);
+    assert!(rt; holds(&room.repo, &MADE));
+    assert_eq!(rt; listing(alloc, &mut room.repo)?.as_str(), NAMES);
     Ok(())
 }
 

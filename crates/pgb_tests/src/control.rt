@@ -3,7 +3,8 @@ use pgb_stanza::{Control, ControlFault, read_control};
 
 const FRONT: &[u8] = b"\x01\x00\x00\x00\x00\x00\x00\x60\x14\x05\x00\x00\xff\xf5\x0e\x0c";
 
-const LONGER: &[u8] = b"\x01\x00\x00\x00\x00\x00\x00\x60\x14\x05\x00\x00\xff\xf5\x0e\x0c\x07\x00\x00\x00\xff";
+const LONGER: &[u8] =
+    b"\x01\x00\x00\x00\x00\x00\x00\x60\x14\x05\x00\x00\xff\xf5\x0e\x0c\x07\x00\x00\x00\xff";
 
 const SHORT: &[u8] = b"\x01\x00\x00\x00\x00\x00\x00\x60\x14\x05\x00\x00\xff\xf5\x0e";
 
@@ -61,11 +62,27 @@ const REFUSED: [(&'static [u8], &'static [u8], ControlFault); 20] = [
     // a minor version, as it was until 9.6
     (FRONT, b"9.6\n", ControlFault::VersionText),
     (FRONT, b"16\n16\n", ControlFault::VersionText),
-    (FRONT, b"111111111111111111111111111111111\n", ControlFault::VersionText),
+    (
+        FRONT,
+        b"111111111111111111111111111111111\n",
+        ControlFault::VersionText,
+    ),
     (FRONT, b"18446744073709551616\n", ControlFault::VersionText),
-    (FRONT, b"0\n", ControlFault::VersionUnsupported { version: 0 }),
-    (FRONT, b"14\n", ControlFault::VersionUnsupported { version: 14 }),
-    (FRONT, b"18\n", ControlFault::VersionUnsupported { version: 18 }),
+    (
+        FRONT,
+        b"0\n",
+        ControlFault::VersionUnsupported { version: 0 },
+    ),
+    (
+        FRONT,
+        b"14\n",
+        ControlFault::VersionUnsupported { version: 14 },
+    ),
+    (
+        FRONT,
+        b"18\n",
+        ControlFault::VersionUnsupported { version: 18 },
+    ),
     (
         FRONT,
         b"18446744073709551615\n",
@@ -78,9 +95,17 @@ const REFUSED: [(&'static [u8], &'static [u8], ControlFault); 20] = [
 #[test]
 fn tells_a_cluster(rt: HostRuntime) {
     for (control, version, wanted) in TOLD {
-        assert_eq!(rt; read_control(control, version), Ok(wanted), "{control:?} {version:?}");
+        assert_eq!(rt;
+            read_control(control, version),
+            Ok(wanted),
+            "{control:?} {version:?}"
+        );
     }
     for (control, version, wanted) in REFUSED {
-        assert_eq!(rt; read_control(control, version), Err(wanted), "{control:?} {version:?}");
+        assert_eq!(rt;
+            read_control(control, version),
+            Err(wanted),
+            "{control:?} {version:?}"
+        );
     }
 }

@@ -1,10 +1,9 @@
 // A stanza is made, and then it is there.
 use crate::fixture::{
-    EXISTING, Folder, NAMES, NEVER, SAMPLE, Stands, WORDS, listing, output, room, run_words, text_at,
+    EXISTING, Folder, NAMES, NEVER, SAMPLE, Stands, WORDS, listing, output, room, run_words,
+    text_at,
 };
-use crate::texts::{
-    ARCHIVE_16, ARCHIVE_17, ARCHIVE_LARGEST, BACKUP_16, BACKUP_17, BACKUP_LARGEST,
-};
+use crate::texts::{ARCHIVE_16, ARCHIVE_17, ARCHIVE_LARGEST, BACKUP_16, BACKUP_17, BACKUP_LARGEST};
 use pgb_memory::MemSink;
 use std::test::Fail;
 
@@ -44,10 +43,22 @@ fn makes_a_stanza_once(rt: HostRuntime) -> Result<(), Fail> {
             assert_eq!(rt; run_words(alloc, &WORDS, &mut room)?, status, "{folder:?}");
             assert_eq!(rt; output(&room), Some(line));
             assert_eq!(rt; listing(alloc, &mut room.repo)?.as_str(), NAMES);
-            assert_eq!(rt; text_at(&room.repo, "archive/demo/archive.info"), Some(archive));
-            assert_eq!(rt; text_at(&room.repo, "archive/demo/archive.info.copy"), Some(archive));
-            assert_eq!(rt; text_at(&room.repo, "backup/demo/backup.info"), Some(backup));
-            assert_eq!(rt; text_at(&room.repo, "backup/demo/backup.info.copy"), Some(backup));
+            assert_eq!(rt;
+                text_at(&room.repo, "archive/demo/archive.info"),
+                Some(archive)
+            );
+            assert_eq!(rt;
+                text_at(&room.repo, "archive/demo/archive.info.copy"),
+                Some(archive)
+            );
+            assert_eq!(rt;
+                text_at(&room.repo, "backup/demo/backup.info"),
+                Some(backup)
+            );
+            assert_eq!(rt;
+                text_at(&room.repo, "backup/demo/backup.info.copy"),
+                Some(backup)
+            );
             assert_eq!(rt; room.repo.place(), "repo");
             assert_eq!(rt; room.tree.place(), "pg");
             assert_eq!(rt; room.repo.misuses(), 0);

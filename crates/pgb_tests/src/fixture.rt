@@ -7,8 +7,17 @@ use std::alloc::{AllocError, Global};
 use std::test::Fail;
 
 /// What a run is handed.
-pub(crate) type Room<O> =
-    Outside<MemDisk, NotThere, MemTree, NotThere, NotThere, NotThere, NotThere, NotThere, O>;
+pub(crate) type Room<O> = Outside<
+    MemDisk,
+    NotThere,
+    MemTree,
+    NotThere,
+    NotThere,
+    NotThere,
+    NotThere,
+    NotThere,
+    O,
+>;
 
 /// Names with their texts.
 pub(crate) type Held<'a> = &'a [(&'a str, &'a str)];

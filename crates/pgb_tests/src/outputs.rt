@@ -43,8 +43,10 @@ impl Sink for Narrow {
     }
 }
 
-const LINES: [(&'static [&'static str], Held<'static>, &'static str); 2] =
-    [(&WORDS, &MADE, EXISTING), (&[], &[], UNKNOWN)];
+const LINES: [(&'static [&'static str], Held<'static>, &'static str); 2] = [
+    (&WORDS, &MADE, EXISTING),
+    (&[], &[], UNKNOWN),
+];
 
 #[test]
 fn writes_what_the_output_takes(rt: HostRuntime) -> Result<(), Fail> {
@@ -55,7 +57,10 @@ fn writes_what_the_output_takes(rt: HostRuntime) -> Result<(), Fail> {
             let mut room = room_with(alloc, held, SAMPLE, NEVER, out)?;
             let status = if limit < line.len() { 87 } else { 100 };
             assert_eq!(rt; run_words(alloc, words, &mut room)?, status, "{limit}");
-            assert_eq!(rt; Some(room.out.text.as_slice()), line.as_bytes().get(..limit));
+            assert_eq!(rt;
+                Some(room.out.text.as_slice()),
+                line.as_bytes().get(..limit)
+            );
         }
     }
     Ok(())
@@ -67,7 +72,16 @@ fn tells_the_last_fault(rt: HostRuntime) -> Result<(), Fail> {
     let alloc = rt.alloc();
     let first: &[u64] = &[0];
     for (disk, tree) in [(first, NEVER.tree), (NEVER.disk, first), (first, first)] {
-        let mut room = room(alloc, &[], SAMPLE, Fails { disk, tree, out: first })?;
+        let mut room = room(
+            alloc,
+            &[],
+            SAMPLE,
+            Fails {
+                disk,
+                tree,
+                out: first,
+            },
+        )?;
         assert_eq!(rt; run_words(alloc, &WORDS, &mut room)?, 87);
         assert_eq!(rt; output(&room), Some(""));
     }

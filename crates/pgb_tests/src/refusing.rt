@@ -96,7 +96,11 @@ fn refuses_a_data_folder(rt: HostRuntime) -> Result<(), Fail> {
         let mut made = room(alloc, &MADE, folder, NEVER)?;
         assert_eq!(rt; run_words(alloc, &WORDS, &mut made)?, status, "{folder:?}");
         assert_eq!(rt; output(&made), Some(line), "{folder:?}");
-        assert_eq!(rt; listing(alloc, &mut made.repo)?.as_str(), NAMES, "{folder:?}");
+        assert_eq!(rt;
+            listing(alloc, &mut made.repo)?.as_str(),
+            NAMES,
+            "{folder:?}"
+        );
         assert!(rt; holds(&made.repo, &MADE), "{folder:?}");
     }
     Ok(())

@@ -11,18 +11,82 @@ const OTHERS: [&'static [&'static str]; 13] = [
     &["--stanza=demo", "stanza-create"],
     &["--version"],
     // without the last, and without the first
-    &["--stanza=demo", "--pg1-path=pg", "--repo1-path=repo", "--lock-path=lock", "--no-online"],
-    &["--pg1-path=pg", "--repo1-path=repo", "--lock-path=lock", "--no-online", "stanza-create"],
+    &[
+        "--stanza=demo",
+        "--pg1-path=pg",
+        "--repo1-path=repo",
+        "--lock-path=lock",
+        "--no-online",
+    ],
+    &[
+        "--pg1-path=pg",
+        "--repo1-path=repo",
+        "--lock-path=lock",
+        "--no-online",
+        "stanza-create",
+    ],
     // one more
-    &["--stanza=demo", "--pg1-path=pg", "--repo1-path=repo", "--lock-path=lock", "--no-online", "stanza-create", ""],
-    &["--stanza=demo", "--pg1-path=pg", "--repo1-path=repo", "--lock-path=lock", "--no-online", "stanza-create", "stanza-create"],
+    &[
+        "--stanza=demo",
+        "--pg1-path=pg",
+        "--repo1-path=repo",
+        "--lock-path=lock",
+        "--no-online",
+        "stanza-create",
+        "",
+    ],
+    &[
+        "--stanza=demo",
+        "--pg1-path=pg",
+        "--repo1-path=repo",
+        "--lock-path=lock",
+        "--no-online",
+        "stanza-create",
+        "stanza-create",
+    ],
     // another order
-    &["stanza-create", "--stanza=demo", "--pg1-path=pg", "--repo1-path=repo", "--lock-path=lock", "--no-online"],
-    &["--pg1-path=pg", "--stanza=demo", "--repo1-path=repo", "--lock-path=lock", "--no-online", "stanza-create"],
-    &["--stanza=demo", "--repo1-path=repo", "--pg1-path=pg", "--lock-path=lock", "--no-online", "stanza-create"],
-    &["--stanza=demo", "--pg1-path=pg", "--repo1-path=repo", "--no-online", "--lock-path=lock", "stanza-create"],
+    &[
+        "stanza-create",
+        "--stanza=demo",
+        "--pg1-path=pg",
+        "--repo1-path=repo",
+        "--lock-path=lock",
+        "--no-online",
+    ],
+    &[
+        "--pg1-path=pg",
+        "--stanza=demo",
+        "--repo1-path=repo",
+        "--lock-path=lock",
+        "--no-online",
+        "stanza-create",
+    ],
+    &[
+        "--stanza=demo",
+        "--repo1-path=repo",
+        "--pg1-path=pg",
+        "--lock-path=lock",
+        "--no-online",
+        "stanza-create",
+    ],
+    &[
+        "--stanza=demo",
+        "--pg1-path=pg",
+        "--repo1-path=repo",
+        "--no-online",
+        "--lock-path=lock",
+        "stanza-create",
+    ],
     // a value in a word of its own
-    &["--stanza", "demo", "--pg1-path=pg", "--repo1-path=repo", "--lock-path=lock", "--no-online", "stanza-create"],
+    &[
+        "--stanza",
+        "demo",
+        "--pg1-path=pg",
+        "--repo1-path=repo",
+        "--lock-path=lock",
+        "--no-online",
+        "stanza-create",
+    ],
 ];
 
 // One of the six words in another spelling: its place, and whether it is known.
@@ -93,16 +157,13 @@ const LENGTHS: [(usize, &'static str, usize, bool); 8] = [
 
 // The names of a new stanza, a line each.
 fn names_of(alloc: Global, stanza: &str) -> Result<String, AllocError> {
-    format!(in alloc; "archive/{stanza}/archive.info\narchive/{stanza}/archive.info.copy\nbackup/{stanza}/backup.info\nbackup/{stanza}/backup.info.copy\n")
+    format!(in alloc;
+        "archive/{stanza}/archive.info\narchive/{stanza}/archive.info.copy\nbackup/{stanza}/backup.info\nbackup/{stanza}/backup.info.copy\n"
+    )
 }
 
 // Runs the words in a new room: they make that stanza, or they aren't known.
-fn check(
-    rt: &impl Abort,
-    alloc: Global,
-    words: &[&str],
-    stanza: Option<&str>,
-) -> Result<(), Fail> {
+fn check(rt: &impl Abort, alloc: Global, words: &[&str], stanza: Option<&str>) -> Result<(), Fail> {
     let mut room = room(alloc, &[], SAMPLE, NEVER)?;
     let status = run_words(alloc, words, &mut room)?;
     let names = listing(alloc, &mut room.repo)?;
