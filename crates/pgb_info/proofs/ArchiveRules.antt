@@ -7,11 +7,12 @@ use Rattle.pgb_model.specs.InfoText.{Section, IsKey, IsSection, IsInfo, has_keys
 use Rattle.pgb_model.specs.Fields.{Field, by_key, section, at_number, whole}
 use Rattle.pgb_model.specs.InfoFiles.{IsClusterId, cluster_id_fields, cluster_id_field, version_value, archive_sections, IsArchiveInfo}
 use Rattle.pgb_model.specs.Values.{ArchiveInfo}
+use Rattle.pgb_text.proofs.Decimals.{IsUtf8-decimal}
 use Rattle.pgb_ini.proofs.Keys.{IsKey-built}
 use Rattle.pgb_info.proofs.ByKey.{history_rules, some_key}
-use Rattle.pgb_info.proofs.Clusters.{IsUtf8-decimal, built_identity_fields, built_identity}
+use Rattle.pgb_info.proofs.Clusters.{built_identity_fields, built_identity}
 use Rattle.pgb_info.proofs.Found.{found}
-use Rattle.pgb_info.proofs.KeyNames.{is_key-decimal}
+use Rattle.pgb_info.proofs.PlainTexts.{is_key-decimal}
 
 abbrev pub db : ClusterId → Section
 db c = record { name = codes "db"; keys = cluster_id_fields c }

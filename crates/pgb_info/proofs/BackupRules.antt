@@ -8,13 +8,14 @@ use Rattle.pgb_model.specs.Fields.{by_key, section, at_number, whole}
 use Rattle.pgb_model.specs.InfoFiles.{IsCluster, cluster_fields, cluster_field, version_value, entry_field, AreListed, backup_sections, IsBackupInfo}
 use Rattle.pgb_model.specs.Names.{label_text}
 use Rattle.pgb_model.specs.Values.{Entry, BackupInfo}
+use Rattle.pgb_text.proofs.Decimals.{IsUtf8-decimal}
 use Rattle.pgb_ini.proofs.Keys.{IsKey-built}
 use Rattle.pgb_info.proofs.ArchiveRules.{some_section}
 use Rattle.pgb_info.proofs.ByKey.{history_rules, some_key}
-use Rattle.pgb_info.proofs.Clusters.{IsUtf8-decimal, built_cluster_fields, built_cluster}
+use Rattle.pgb_info.proofs.Clusters.{built_cluster_fields, built_cluster}
 use Rattle.pgb_info.proofs.EntryRules.{listed_rules}
 use Rattle.pgb_info.proofs.Found.{found}
-use Rattle.pgb_info.proofs.KeyNames.{is_key-decimal}
+use Rattle.pgb_info.proofs.PlainTexts.{is_key-decimal}
 
 abbrev pub listed : List Entry → List Section
 listed es = section (codes "backup:current") (map entry_field es)

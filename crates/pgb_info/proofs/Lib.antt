@@ -1,6 +1,5 @@
 pub mod Clusters
 pub mod First
-pub mod KeyNames
 pub mod Found
 pub mod ByKey
 pub mod ArchiveRules

@@ -1,7 +1,10 @@
--- Labels and segments are of digits, capital letters, dashes and underlines.
-use Rattle.std.proofs.Common.{◌≡◌, ℕ, zero, suc, ◌+◌, ◌-◌, ◌/◌, ◌%◌, ◌<◌, ◌≤◌, true, nat_lt, List, [], ◌∷◌, ◌++◌, length, Option, Some, None, IsUtf8, refl, arith, inl, inr, length-append}
+-- Numbers, labels and segments are of digits, capital letters, dashes and underlines.
+use Rattle.std.proofs.Common.{◌≡◌, ℕ, zero, suc, ◌+◌, ◌-◌, ◌/◌, ◌%◌, ◌<◌, ◌≤◌, ◌^◌, decimal, true, nat_lt, List, [], ◌∷◌, ◌++◌, length, Option, Some, None, IsUtf8, refl, arith, inl, inr, length-append}
 use Rattle.std.specs.List.{AllByRecursion, list_all}
+use Rattle.std.specs.Str.Parse.{AllDigits}
 use Rattle.std.proofs.lemmas.Bool.{cases_lt}
+use Rattle.std.proofs.lemmas.Fmt.{decimal_is_IsNumeral}
+use Rattle.std.proofs.lemmas.Str.Parse.{digit_from_value}
 use Rattle.std.proofs.lemmas.Bool.Decides.{nat_tests}
 use Rattle.std.specs.Prelude.{IfSome}
 use Rattle.json.proofs.Printed.Utf8.{are_ascii, IsUtf8-are_ascii}
@@ -60,6 +63,15 @@ plain_utf8 cs h = IsUtf8-are_ascii cs (ascii cs h)
 
 digit : (n : ℕ) → n ≤ 9 → IsPlain (48 + n)
 digit n h = record { from = omega arith; before = omega arith; no_equals = λ e. omega arith; no_bracket = λ e. omega arith }
+
+digits_plain : (ds : List ℕ) → AllDigits 10 ds → ArePlain ds
+digits_plain [] h = tt
+digits_plain (c ∷ cs) h =
+    let r = digit_from_value c h.0 in
+    (record { from = omega arith; before = omega arith; no_equals = λ e. omega arith; no_bracket = λ e. omega arith }, digits_plain cs h.1)
+
+pub is_key-decimal : (n : ℕ) → n < 2 ^ 64 → is_key (decimal n) ≡ true
+is_key-decimal n h = let d = (decimal_is_IsNumeral n h).0 in plain_key (decimal n) d.0 (digits_plain (decimal n) d.1)
 
 two_plain : (n : ℕ) → n < 100 → ArePlain (two n)
 two_plain n h = (digit (n / 10) (omega arith), (digit (n % 10) (omega arith), tt))

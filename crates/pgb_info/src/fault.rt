@@ -5,8 +5,10 @@ ghost use Rattle.pgb_info.specs.declared.fault.InfoFault.TheVariants.{NoMemory a
 use pgb_disk::StoreFault;
 use std::alloc::AllocError;
 
+/// Why an info file was not saved.
 #[derive(Clone, Copy, Debug, PartialEq, Eq)]
 pub enum InfoFault {
+    /// the disk's count of faults rose
     Disk,
     NoMemory,
 }
