@@ -12,7 +12,7 @@ use Rattle.pgb_ini.proofs.Keys.{IsKey-built}
 use Rattle.pgb_info.proofs.ArchiveRules.{some_section}
 use Rattle.pgb_info.proofs.ByKey.{history_rules, some_key}
 use Rattle.pgb_info.proofs.Clusters.{IsUtf8-decimal, built_cluster_fields, built_cluster}
-use Rattle.pgb_info.proofs.Entries.{listed_rules}
+use Rattle.pgb_info.proofs.EntryRules.{listed_rules}
 use Rattle.pgb_info.proofs.Found.{found}
 use Rattle.pgb_info.proofs.KeyNames.{is_key-decimal}
 

@@ -7,5 +7,6 @@ pub mod ArchiveRules
 pub mod Dates
 pub mod Hexadecimal
 pub mod PlainTexts
-pub mod Entries
+pub mod EntryRules
 pub mod BackupRules
+pub mod PartLists

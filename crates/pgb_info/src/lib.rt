@@ -2,7 +2,9 @@
 #![tactic(auto)]
 
 mod archive_info;
+mod backup_info;
 mod by_key;
+mod entries;
 mod fault;
 mod info;
 mod labels;

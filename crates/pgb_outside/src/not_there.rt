@@ -14,7 +14,9 @@ impl NotThere {
     ghost use Rattle.std.specs.Prelude.{◌≡◌, ◌≤◌};
     ghost use Rattle.pgb_outside.specs.Cause.{Rises};
 
-    pub fn new() -> Self {
+    pub fn new() -> Self
+        ensures { result.faults ≡ 0 }
+    {
         NotThere { faults: 0 }
     }
 
@@ -154,7 +156,7 @@ impl<D: Disk, S: Disk> Aside<D, S> for NotThere {
     ghost faults = { λ it. it.faults };
 
     fn turn(&mut self, _repo: &mut D, _spool: &mut S) -> Result<(), TurnStop> {
-        self.faults = self.faults.saturating_add(1);
+        let _failed: Result<(), Stop> = self.fail();
         Err(TurnStop::NoMemory)
     }
 

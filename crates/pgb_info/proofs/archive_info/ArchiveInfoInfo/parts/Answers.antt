@@ -1,15 +1,11 @@
-use Rattle.std.proofs.Common.{◌≡◌, ◌-◌, ◌<◌, List, [], ◌∷◌, ◌++◌, length, Some, refl, sym, ap, ap₂, ◌∙◌, arith}
+use Rattle.std.proofs.Common.{◌≡◌, ◌-◌, ◌<◌, [], length, Some, refl, sym, ap, ◌∙◌, arith}
 use Rattle.std.proofs.lemmas.Option.{slice_get_read}
-use Rattle.pgb_model.specs.InfoText.{Section}
 use Rattle.pgb_model.specs.Fields.{at_number}
 use Rattle.pgb_model.specs.Values.{archive_info_of}
-use Rattle.pgb_ini.specs.declared.part.Part.{Part}
-use Rattle.pgb_ini.specs.Parts.{section_of, sections_of}
+use Rattle.pgb_ini.specs.Parts.{sections_of}
 use Rattle.pgb_info.proofs.ArchiveRules.{db, history, archive_sections_are}
+use Rattle.pgb_info.proofs.PartLists.{two_more}
 use Rattle.pgb_info.proofs.archive_info.ArchiveInfoInfo.parts.Goals as goal
-
-two_sections : (none one two : List Part) (a b : Part) (s t : Section) → none ≡ [] → one ≡ none ++ a ∷ [] → two ≡ one ++ b ∷ [] → section_of a ≡ s → section_of b ≡ t → sections_of two ≡ s ∷ t ∷ []
-two_sections none one two a b s t e f g h k = rw (g, f, e) (ap₂ (λ x y. x ∷ y ∷ []) h k)
 
 pub returns-clause-sections : goal.returns-clause-sections
 returns-clause-sections c =
@@ -18,5 +14,5 @@ returns-clause-sections c =
     let current = c.index-current.result.now in
     let at : at_number v.current clusters ≡ Some current = slice_get_read clusters (length clusters) (v.current - 1) current refl (omega arith) c.index-current.ensures in
     let kept : 0 < length clusters = omega arith in
-    two_sections _ _ _ _ _ (db current) (history clusters) c.new-parts.ensures.items c.in_ok-push.ensures.items c.in_ok-push-2.ensures.items c.in_ok-current_part.ensures (c.in_ok-history_part.ensures ∙ ap history c.deref.ensures.value)
+    two_more c.new-parts.result.items _ _ _ _ [] (db current) (history clusters) (ap sections_of c.new-parts.ensures.items) c.in_ok-push.ensures.items c.in_ok-push-2.ensures.items c.in_ok-current_part.ensures (c.in_ok-history_part.ensures ∙ ap history c.deref.ensures.value)
     ∙ sym (archive_sections_are (archive_info_of v) current kept at)
