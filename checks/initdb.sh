@@ -70,14 +70,15 @@ control=$(told 'pg_control version number')
 catalog=$(told 'Catalog version number')
 archive="\"db-system-id\":$system,\"db-version\":\"15\""
 backup="\"db-catalog-version\":$catalog,\"db-control-version\":$control"
-info "{\"backrest\":{\"backrest-format\":5},\"db\":{\"db-id\":1,$archive},\"db:history\":{\"1\":{$archive}}}" \
+identity="\"db-id\":$system,\"db-version\":\"15\""
+info "{\"backrest\":{\"backrest-format\":5},\"db\":{\"db-id\":1,$archive},\"db:history\":{\"1\":{$identity}}}" \
     "[db]
 db-id=1
 db-system-id=$system
 db-version=\"15\"
 
 [db:history]
-1={$archive}" >archive.wanted
+1={$identity}" >archive.wanted
 info "{\"backrest\":{\"backrest-format\":5},\"db\":{$backup,\"db-id\":1,$archive},\"db:history\":{\"1\":{$backup,$archive}}}" \
     "[db]
 db-catalog-version=$catalog

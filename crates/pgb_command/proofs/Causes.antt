@@ -1,5 +1,5 @@
 -- The causes of the program's answers.
-use Rattle.std.proofs.Common.{◌≡◌, ◌⊎◌, ℕ, ◌≤◌, arith, inl, inr, ⊎_elim, List, Option, Some, None, Result, Ok, Err, IfErr, true, refl, sym, subst, ap, ◌∙◌}
+use Rattle.std.proofs.Common.{◌≡◌, ◌⊎◌, ℕ, ◌≤◌, arith, inl, inr, ⊎_elim, List, Option, Some, None, Result, Ok, Err, IfErr, true, refl, sym, subst}
 use Rattle.std.specs.Prelude.{IfSome, OnOk}
 use Rattle.pgb_outside.specs.Content.{Content}
 use Rattle.pgb_outside.specs.Tree.{Nodes}
@@ -10,7 +10,7 @@ use Rattle.pgb_command.specs.declared.fault.Fault.TheVariants.{NotBuilt, Control
 use Rattle.pgb_command.specs.Words.{Asked, Asks}
 use Rattle.pgb_command.specs.Answers.{error_line, status_of, OnFinding, IsFinding}
 use Rattle.pgb_command.specs.Causes.{CreateCause, Cause, Creating, Made, Unasked, Output, Memory, TellsSome}
-use Rattle.pgb_command.specs.Output.{IsFrontWritten, IsTold, Whole, Cut, Starved, Wordless, Wrote}
+use Rattle.pgb_command.specs.Output.{IsTold, Whole, Cut, Starved, Wordless, Wrote}
 use Rattle.pgb_command.proofs.Written.{more}
 use Rattle.pgb_command.proofs.Told.{front_whole}
 

@@ -1,12 +1,11 @@
 -- stanza-create by its parts.
-use Rattle.std.proofs.Common.{◌≡◌, ◌⊎◌, inl, inr, ⊎_elim, ℕ, ◌<◌, ◌≤◌, ◌^◌, [], ◌∷◌, ◌++◌, Option, Some, None, Result, Ok, Err, IfErr, IfOk, Bool, true, false, refl, sym, ap, ◌∙◌, subst, arith}
+use Rattle.std.proofs.Common.{◌≡◌, ◌⊎◌, ℕ, [], ◌∷◌, Option, Some, None, true, false, sym, ap, ◌∙◌, subst, arith}
 use Rattle.std.specs.Prelude.{IfSome, IsSome, IsSomeAnd}
 use Rattle.pgb_outside.specs.Content.{Content}
 use Rattle.pgb_outside.specs.Tree.{Nodes}
 use Rattle.pgb_model.specs.declared.clusters.Cluster.{Cluster}
 use Rattle.pgb_model.specs.Text.{Text}
 use Rattle.pgb_model.specs.Repository.{Repository}
-use Rattle.pgb_model.specs.Create.{lacks_pairs}
 use Rattle.pgb_model.specs.Steps.{step, Create, StanzaCreate}
 use Rattle.pgb_model.specs.Now.{NowStands, NowDoes, HasNewPairs}
 use Rattle.pgb_model.proofs.Done.{create_part, create_whole}
@@ -14,13 +13,7 @@ use Rattle.pgb_stanza.specs.declared.control.Control.{Control}
 use Rattle.pgb_stanza.specs.ControlFile.{Tells, first_cluster}
 use Rattle.std.proofs.lemmas.List.{append_cancel_right}
 use Rattle.std.proofs.lemmas.Fmt.{decimal_injective}
-use Rattle.pgb_command.specs.declared.fault.Unbuilt.TheVariants.{CommandLine, ExistingStanza}
-use Rattle.pgb_command.specs.declared.fault.ControlFile.TheVariants as files
-use Rattle.pgb_command.specs.declared.fault.Fault.{Fault}
-use Rattle.pgb_command.specs.declared.fault.Fault.TheVariants.{NotBuilt, ControlMissing, ControlShort, VersionText, VersionUnsupported, Disk, Tree, Sink, NoMemory}
-use Rattle.pgb_command.specs.Cluster.{control_bytes, version_bytes, OfBoth, FolderTells, IsClusterOf, ClusterCause}
-use Rattle.pgb_command.specs.Causes.{CreateCause, TellsSome}
-use Rattle.pgb_command.specs.Making.{MakeCause, DeviceCause}
+use Rattle.pgb_command.specs.Cluster.{control_bytes, version_bytes, FolderTells, IsClusterOf}
 
 -- ---- one cluster
 
@@ -35,7 +28,7 @@ same_control control version a b p q =
     let texts = append_cancel_right _ _ (10 ∷ []) (sym p.version_text ∙ q.version_text) in
     let v : a.version ≡ b.version = decimal_injective a.version b.version (omega (arith, p.supported.1)) (omega (arith, q.supported.1)) texts in
     ap (λ (x : ℕ). made x a.control a.catalog a.version) s ∙ ap (λ (x : ℕ). made b.system x a.catalog a.version) c
-      ∙ ap (λ (x : ℕ). made b.system b.control x a.version) k ∙ ap (λ (x : ℕ). made b.system b.control b.catalog x) v
+    ∙ ap (λ (x : ℕ). made b.system b.control x a.version) k ∙ ap (λ (x : ℕ). made b.system b.control b.catalog x) v
 
 same_told : (f : Nodes) (a b : Control) → FolderTells f a → FolderTells f b → a ≡ b
 same_told f a b = go (control_bytes f) (version_bytes f)

@@ -1,6 +1,6 @@
 -- What the fronts of the two files tell is what the files tell.
-use Rattle.std.proofs.Common.{◌≡◌, ◌≢◌, ◌⊎◌, ℕ, ◌+◌, ◌-◌, ◌<◌, ◌≤◌, ◌^◌, min, List, [], ◌∷◌, ◌++◌, length, take, drop, Option, Some, None, Result, Ok, Err, IfErr, IfOk, option_map, refl, sym, ap, ◌∙◌, subst, arith, length-append}
-use Rattle.std.specs.Prelude.{IfSome, IsSome, IsSomeAnd, IsErrAnd, decimal}
+use Rattle.std.proofs.Common.{◌≡◌, ℕ, ◌+◌, ◌<◌, ◌≤◌, ◌^◌, [], ◌∷◌, length, take, drop, Option, Some, None, Result, Ok, Err, IfErr, option_map, sym, ap, ◌∙◌, subst, arith, length-append}
+use Rattle.std.specs.Prelude.{IfSome, IsSomeAnd, IsErrAnd, decimal}
 use Rattle.std.proofs.lemmas.List.{take-take, drop-take, take_all, length-take}
 use Rattle.std.proofs.lemmas.Fmt.{length-decimal-le}
 use Rattle.pgb_outside.specs.Tree.{Nodes}
@@ -35,13 +35,13 @@ front_of_front k m c le =
 
 pub tells_front : (control version : Text) (told : Control) → Tells (take 16 control) (take 33 version) told → Tells control version told
 tells_front c v told t = record {
-    long = omega (arith, t.long, length-take 16 c);
-    system = t.system ∙ ap little_endian (take-take 8 16 c (omega arith));
-    control_version = t.control_version ∙ ap little_endian (front_of_front 8 4 c (omega arith));
-    catalog = t.catalog ∙ ap little_endian (front_of_front 12 4 c (omega arith));
-    version_text = from_front told.version v (omega (arith, t.supported.1)) t.version_text;
-    supported = t.supported;
-  }
+  long = omega (arith, t.long, length-take 16 c);
+  system = t.system ∙ ap little_endian (take-take 8 16 c (omega arith));
+  control_version = t.control_version ∙ ap little_endian (front_of_front 8 4 c (omega arith));
+  catalog = t.catalog ∙ ap little_endian (front_of_front 12 4 c (omega arith));
+  version_text = from_front told.version v (omega (arith, t.supported.1)) t.version_text;
+  supported = t.supported;
+}
 
 long_front : (c : Text) → 16 ≤ length (take 16 c) → 16 ≤ length c
 long_front c long = omega (arith, long, length-take 16 c)
@@ -79,5 +79,5 @@ pub folder_refuses : {T : Type 0} (result : Result T Fault) (nodes : Option Node
 folder_refuses (Ok x) nodes rose cf vf e from control version refused = tt
 folder_refuses (Err fault) nodes rose cf vf e from control version refused =
     let all = of_both nodes cf vf (λ c v. IsRefused c v e) control version
-        (λ c v p q. refused_front c v e (subst (λ (x : Text). IsRefused x (take 33 v) e) (sym p) (subst (λ (x : Text). IsRefused cf x e) (sym q) refused))) in
+    (λ c v p q. refused_front c v e (subst (λ (x : Text). IsRefused x (take 33 v) e) (sym p) (subst (λ (x : Text). IsRefused cf x e) (sym q) refused))) in
     subst (ClusterCause nodes rose) (sym from) (folder_refuses_by nodes rose e all)

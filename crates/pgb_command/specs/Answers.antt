@@ -1,9 +1,7 @@
 -- The status and the output of each answer (own).
-use Rattle.std.specs.Prelude.{◌≡◌, ◌⊎◌, ◌≤◌, ⊤, ℕ, List, [], ◌∷◌, ◌++◌, Option, Some, None, codes, decimal}
+use Rattle.std.specs.Prelude.{◌≡◌, ◌⊎◌, ◌≤◌, ⊤, ℕ, [], ◌++◌, Option, Some, None, codes, decimal}
 use Rattle.pgb_model.specs.Text.{Text}
-use Rattle.pgb_command.specs.declared.fault.Unbuilt.{Unbuilt}
 use Rattle.pgb_command.specs.declared.fault.Unbuilt.TheVariants.{CommandLine, ExistingStanza}
-use Rattle.pgb_command.specs.declared.fault.ControlFile.{ControlFile}
 use Rattle.pgb_command.specs.declared.fault.ControlFile.TheVariants.{Control, Version}
 use Rattle.pgb_command.specs.declared.fault.Fault.{Fault}
 use Rattle.pgb_command.specs.declared.fault.Fault.TheVariants.{NotBuilt, ControlMissing, ControlShort, VersionText, VersionUnsupported, Disk, Tree, Sink, NoMemory}

@@ -1,5 +1,5 @@
 -- Why the program gives an answer.
-use Rattle.std.specs.Prelude.{◌≡◌, ◌⊎◌, ℕ, List, true, false, Option, Some, None, IfSome}
+use Rattle.std.specs.Prelude.{◌≡◌, List, true, false, Option, Some, None, IfSome}
 use Rattle.pgb_outside.specs.Content.{Content}
 use Rattle.pgb_outside.specs.Tree.{Nodes}
 use Rattle.pgb_model.specs.Text.{Text}

@@ -1,5 +1,5 @@
 -- What a data folder tells of its cluster.
-use Rattle.std.specs.Prelude.{◌≡◌, ◌⊎◌, ℕ, List, Option, Some, None, IfSome, IsSome, IsSomeAnd}
+use Rattle.std.specs.Prelude.{◌≡◌, Option, Some, None, IfSome, IsSome, IsSomeAnd}
 use Rattle.pgb_outside.specs.Content.{Value}
 use Rattle.pgb_outside.specs.Tree.{Nodes, file_bytes, known_path}
 use Rattle.pgb_outside.specs.declared.tree.Known.TheVariants.{Control as ControlName, Version as VersionName}

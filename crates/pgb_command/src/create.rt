@@ -80,12 +80,7 @@ fn prepare<D: Disk, T: Tree>(
 }
 
 // Makes the stanza, unless one of its info files is there.
-fn make<D: Disk>(
-    alloc: Global,
-    repo: &mut D,
-    stanza: &str,
-    told: &Control,
-) -> Result<(), Fault>
+fn make<D: Disk>(alloc: Global, repo: &mut D, stanza: &str, told: &Control) -> Result<(), Fault>
     ensures part { (r : Repository) → IsSome (D.view repo.old).now → NowStands stanza.now r (D.view repo.old).now
         → NowStands stanza.now r (D.view repo.new).now ⊎ NowStands stanza.now (step r (Create (first_cluster told.now))) (D.view repo.new).now }
     ensures done { OnOk result ((r : Repository) → IsSome (D.view repo.old).now → NowStands stanza.now r (D.view repo.old).now

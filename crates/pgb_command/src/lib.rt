@@ -10,5 +10,5 @@ mod reading;
 mod top;
 mod words;
 
-pub use fault::{ControlFile, Fault, Unbuilt};
-pub use words::Settings;
+pub use outside::Outside;
+pub use top::run;

@@ -57,12 +57,24 @@ fn line(alloc: Global, fault: Fault) -> Result<String, AllocError>
     ensures { IfOk result (λ text. string_bytes text ≡ error_line fault) }
 {
     match fault {
-        Fault::ControlShort { length } => format!(in alloc; "ERROR: [025]: control file has {length} bytes\n"),
-        Fault::VersionUnsupported { version } => format!(in alloc; "ERROR: [027]: version {version} is not supported\n"),
-        Fault::NotBuilt { what: Unbuilt::CommandLine } => text_of(alloc, "ERROR: [100]: 'command line' is not built yet\n"),
-        Fault::NotBuilt { what: Unbuilt::ExistingStanza } => text_of(alloc, "ERROR: [100]: 'existing stanza' is not built yet\n"),
-        Fault::ControlMissing { file: ControlFile::Control } => text_of(alloc, "ERROR: [028]: 'global/pg_control' is missing\n"),
-        Fault::ControlMissing { file: ControlFile::Version } => text_of(alloc, "ERROR: [028]: 'PG_VERSION' is missing\n"),
+        Fault::ControlShort { length } => format!(in alloc;
+            "ERROR: [025]: control file has {length} bytes\n"
+        ),
+        Fault::VersionUnsupported { version } => format!(in alloc;
+            "ERROR: [027]: version {version} is not supported\n"
+        ),
+        Fault::NotBuilt {
+            what: Unbuilt::CommandLine,
+        } => text_of(alloc, "ERROR: [100]: 'command line' is not built yet\n"),
+        Fault::NotBuilt {
+            what: Unbuilt::ExistingStanza,
+        } => text_of(alloc, "ERROR: [100]: 'existing stanza' is not built yet\n"),
+        Fault::ControlMissing {
+            file: ControlFile::Control,
+        } => text_of(alloc, "ERROR: [028]: 'global/pg_control' is missing\n"),
+        Fault::ControlMissing {
+            file: ControlFile::Version,
+        } => text_of(alloc, "ERROR: [028]: 'PG_VERSION' is missing\n"),
         Fault::VersionText => text_of(alloc, "ERROR: [026]: PG_VERSION is not valid\n"),
         Fault::Disk => text_of(alloc, "ERROR: [080]: repository failed\n"),
         Fault::Tree => text_of(alloc, "ERROR: [082]: data folder failed\n"),

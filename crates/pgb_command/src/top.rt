@@ -14,8 +14,8 @@ ghost use Rattle.pgb_command.specs.Output.{Wrote};
 
 use crate::create::create_stanza;
 use crate::fault::{Fault, Unbuilt, status};
-use crate::outside::Outside;
 use crate::output::tell;
+use crate::outside::Outside;
 use crate::words::read_words;
 use pgb_outside::{Aside, Clock, Disk, Link, Locks, Sink, Source, Tree, Turns, Wire};
 use std::alloc::Global;
@@ -87,10 +87,10 @@ pub fn run<
     // Each answer has its cause, and the output is the answer's.
     ensures answered { (answer : Option Fault) × (result ≡ status_at answer)
         × Cause (map string_bytes words.now) (D.view outside.old.repo).now (T.nodes outside.old.tree)
-            (Rises (D.faults outside.old.repo) (D.faults outside.new.repo)) (Rises (T.faults outside.old.tree) (T.faults outside.new.tree)) (Rises (O.faults outside.old.out) (O.faults outside.new.out)) answer
+        (Rises (D.faults outside.old.repo) (D.faults outside.new.repo)) (Rises (T.faults outside.old.tree) (T.faults outside.new.tree)) (Rises (O.faults outside.old.out) (O.faults outside.new.out)) answer
         × Wrote (λ e. Cause (map string_bytes words.now) (D.view outside.old.repo).now (T.nodes outside.old.tree)
-            (Rises (D.faults outside.old.repo) (D.faults outside.new.repo)) (Rises (T.faults outside.old.tree) (T.faults outside.new.tree)) (Rises (O.faults outside.old.out) (O.faults outside.new.out)) (Some e))
-            (O.written outside.old.out) answer (O.written outside.new.out) }
+        (Rises (D.faults outside.old.repo) (D.faults outside.new.repo)) (Rises (T.faults outside.old.tree) (T.faults outside.new.tree)) (Rises (O.faults outside.old.out) (O.faults outside.new.out)) (Some e))
+        (O.written outside.old.out) answer (O.written outside.new.out) }
 
     // What the command doesn't use stays, and the data folder with it.
     ensures nodes { T.nodes outside.new.tree ≡ T.nodes outside.old.tree }

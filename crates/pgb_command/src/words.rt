@@ -127,7 +127,14 @@ pub(crate) fn read_words(words: &[String]) -> Option<Settings>
     let second = words[1].as_str();
     let third = words[2].as_str();
     let fourth = words[3].as_str();
-    let Some(settings) = split_six(first, second, third, fourth, words[4].as_str(), words[5].as_str()) else {
+    let Some(settings) = split_six(
+        first,
+        second,
+        third,
+        fourth,
+        words[4].as_str(),
+        words[5].as_str(),
+    ) else {
         return None;
     };
     if is_within(&settings) {

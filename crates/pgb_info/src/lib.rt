@@ -18,3 +18,6 @@ pub use info::Info;
 pub use labels::label_text;
 pub use saving::save_pair;
 pub use segments::segment_text;
+
+#[cfg(test)]
+mod tests;

@@ -18,7 +18,7 @@ use pgb_text::NoMemory;
 use std::alloc::Global;
 
 // The text of a value.
-fn text_of<I: Info>(alloc: Global, value: &I) -> Result<Vec<u8>, NoMemory>
+pub(crate) fn text_of<I: Info>(alloc: Global, value: &I) -> Result<Vec<u8>, NoMemory>
     requires { I.is_valid value.now }
     ensures { IfOk result (λ text. text.items ≡ info_text (I.sections value.now)) }
 {

@@ -14,3 +14,4 @@ pub mod Slashes
 pub mod Found
 pub mod Bare
 pub mod TreeTells
+pub mod WorkedExample

@@ -1,7 +1,7 @@
 -- A tree in memory: nodes by path, each in a folder that is there.
 use Rattle.std.specs.declared.alloc.Global.{Global}
 use Rattle.std.specs.BTreeMap.{BTreeMap, get_by_text}
-use Rattle.std.specs.Prelude.{◌≡◌, ℕ, Bool, true, false, not, nat_eq, if◌then◌else◌, List, [], ◌∷◌, ◌++◌, String, string_bytes, Option, Some, None, option_map, IsSome, fold}
+use Rattle.std.specs.Prelude.{◌≡◌, ℕ, Bool, true, false, not, ◌&&◌, nat_eq, if◌then◌else◌, List, [], ◌∷◌, ◌++◌, String, string_bytes, Option, Some, None, option_map, IsSome, fold}
 use Rattle.std.specs.List.{list_any}
 use Rattle.pgb_outside.specs.Content.{Name, is_below}
 use Rattle.pgb_outside.specs.Tree.{Held, file, folder, link, other, Nodes, with_node}
@@ -57,6 +57,16 @@ is_in nodes (Some front) = is_folder (nodes front)
 
 abbrev pub is_placed : Nodes → Name → Bool
 is_placed nodes path = is_in nodes (folder_of path)
+
+-- where a make, a begin and a rename succeed
+abbrev pub may_make : Nodes → Name → Bool
+may_make nodes path = is_placed nodes path && takes_folder (nodes path)
+
+abbrev pub may_begin : Nodes → Name → Bool
+may_begin nodes path = is_placed nodes path && takes_file (nodes path)
+
+abbrev pub may_move : Nodes → Name → Name → Bool
+may_move nodes from to = (is_file (nodes from) && is_placed nodes to) && not (is_folder (nodes to))
 
 -- each node is in a folder that is there
 abbrev pub Rooted : Nodes → Type 0

@@ -1,5 +1,5 @@
 // A disk in memory, with the record of what was done to it.
-ghost use Rattle.std.specs.Prelude.{◌≡◌, ◌≤◌, ◌||◌, [], ℕ, map, not, IsSomeAnd, length, string_bytes, is_some, option_map, IfOk, IfSome, OnOk, OnErr, IsErrOf};
+ghost use Rattle.std.specs.Prelude.{◌≡◌, ◌≤◌, ◌||◌, [], map, not, IsSomeAnd, length, string_bytes, is_some, option_map, IfOk, IfSome, OnOk, OnErr, IsErrOf};
 ghost use Rattle.pgb_outside.specs.Cause.{HasCause};
 ghost use Rattle.pgb_outside.specs.Content.{IsListing, Reads};
 ghost use Rattle.pgb_outside.specs.declared.stop.Stop.TheVariants.{Failed, NoMemory};
@@ -231,3 +231,6 @@ impl Disk for MemDisk {
         Ok(())
     }
 }
+
+#[cfg(test)]
+mod tests;

@@ -1,5 +1,5 @@
 // What a disk in memory holds, beside the record of the changes that made it.
-ghost use Rattle.std.specs.Prelude.{◌≡◌, ◌≤◌, ◌&&◌, ◌↔◌, [], ℕ, List, length, IfSome, IfOk, OnOk, OnErr, IsTrue, IsSome, Some, None, not, bytes_eq, if◌then◌else◌, is_some, option_map, map, string_bytes};
+ghost use Rattle.std.specs.Prelude.{◌≡◌, ◌≤◌, [], length, IfSome, IfOk, OnOk, OnErr, IsSome, Some, None, not, bytes_eq, if◌then◌else◌, is_some, option_map, map, string_bytes};
 ghost use Rattle.pgb_outside.specs.Content.{IsListing, Reads, put, lengthened, moved};
 ghost use Rattle.pgb_memory.specs.Agrees.{Agrees, bytes_at};
 ghost use Rattle.pgb_memory.specs.State.{given_at};

@@ -1,9 +1,7 @@
 // A map of paths to nodes, in which each path's folder is there.
-ghost use Rattle.std.specs.Prelude.{◌≡◌, ◌≤◌, [], ℕ, List, Option, Some, None, length, map, option_map, string_bytes, true, bytes_eq, if◌then◌else◌, MatchOption, IfOk, OnOk, OnErr, IfSome, IsSome, not};
-ghost use Rattle.std.specs.String.{string_cmp};
-ghost use Rattle.std.specs.BTreeMap.{IsOrdered, get_by_text};
+ghost use Rattle.std.specs.Prelude.{◌≡◌, ◌≤◌, [], Option, Some, None, length, map, option_map, string_bytes, true, bytes_eq, if◌then◌else◌, MatchOption, IfOk, OnOk, OnErr, IfSome, not};
 ghost use Rattle.pgb_outside.specs.Content.{Reads};
-ghost use Rattle.pgb_outside.specs.Tree.{IsTreeListing, known_path, file_bytes, with_node, lengthened_file, moved_node, shown};
+ghost use Rattle.pgb_outside.specs.Tree.{file, IsTreeListing, known_path, file_bytes, with_node, moved_node, shown};
 ghost use Rattle.pgb_memory.specs.Nodes.{nodes_at, node_of, folder_of, is_file, is_folder, is_placed, takes_file, takes_folder, holds_nothing, longer_node, Rooted, IsLost, tree_at};
 
 use crate::below::lies_below;
@@ -189,6 +187,16 @@ pub(crate) fn take_node(nodes: &mut Nodes, path: &str)
     ensures { nodes_at nodes.new ≡ with_node path.now None (nodes_at nodes.old) }
 {
     let _ = nodes.remove(path);
+}
+
+/// A file as it is begun.
+pub(crate) fn empty_file(alloc: Global) -> MemNode
+    ensures { node_of result ≡ file [] 0 }
+{
+    MemNode::File {
+        bytes: Vec::new(alloc),
+        time: 0,
+    }
 }
 
 /// Adds bytes at the end of a file, whose time stays.

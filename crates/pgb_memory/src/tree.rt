@@ -1,15 +1,15 @@
 // A data folder in memory.
-ghost use Rattle.std.specs.Prelude.{◌≡◌, ◌≤◌, ◌||◌, ◌&&◌, [], ℕ, map, not, IsSomeAnd, length, string_bytes, option_map, Some, None, IfOk, IfErr, IfSome, OnOk, OnErr};
+ghost use Rattle.std.specs.Prelude.{◌≡◌, ◌≤◌, ◌||◌, ◌&&◌, [], map, not, IsSomeAnd, length, string_bytes, option_map, Some, None, IfOk, IfErr, IfSome, OnOk, OnErr};
 ghost use Rattle.pgb_outside.specs.Cause.{HasCause};
 ghost use Rattle.pgb_outside.specs.Content.{Reads};
 ghost use Rattle.pgb_outside.specs.Tree.{file, folder as folder_node, IsTreeListing, known_path, file_bytes, with_node, moved_node};
-ghost use Rattle.pgb_memory.specs.Nodes.{node_of, nodes_at, tree_at, is_file, is_folder, is_placed, takes_file, takes_folder, holds_nothing, longer_node, Rooted};
+ghost use Rattle.pgb_memory.specs.Nodes.{node_of, nodes_at, tree_at, is_file, is_folder, is_placed, takes_file, takes_folder, may_make, may_begin, may_move, holds_nothing, longer_node, Rooted};
 ghost use Rattle.pgb_memory.specs.Counts.{is_to_fail, counted, tried, tried_on, FailsWhere};
 
 use crate::failing::Failing;
 use crate::nodes::{
-    MemNode, extend_file, first_lost, has_file, has_folder, has_its_folder, is_bare, list_nodes,
-    map_of, may_put_file, may_put_folder, move_file, put_node, read_known, take_node,
+    MemNode, empty_file, extend_file, first_lost, has_file, has_folder, has_its_folder, is_bare,
+    list_nodes, map_of, may_put_file, may_put_folder, move_file, put_node, read_known, take_node,
 };
 use pgb_outside::{Known, Seen, Stop, Tree};
 use std::alloc::{AllocError, Global};
@@ -158,8 +158,8 @@ impl Tree for MemTree {
     fn make(&mut self, folder: &str) -> Result<(), Stop>
         ensures ok { OnOk result (nodes_at self.new.nodes ≡ with_node folder.now (Some folder_node) (nodes_at self.old.nodes)) }
         ensures err { OnErr result (nodes_at self.new.nodes ≡ nodes_at self.old.nodes) }
-        ensures fails { FailsWhere (is_to_fail self.old.failing || not (is_placed (nodes_at self.old.nodes) folder.now && takes_folder (nodes_at self.old.nodes folder.now))) result }
-        ensures counts { self.new.failing ≡ tried_on (is_placed (nodes_at self.old.nodes) folder.now) (takes_folder (nodes_at self.old.nodes folder.now)) self.old.failing }
+        ensures fails { FailsWhere (is_to_fail self.old.failing || not (may_make (nodes_at self.old.nodes) folder.now)) result }
+        ensures counts { let t = nodes_at self.old.nodes in self.new.failing ≡ tried_on (is_placed t folder.now) (takes_folder (t folder.now)) self.old.failing }
         ensures place { string_bytes self.new.place ≡ string_bytes self.old.place }
         ensures cause { HasCause self.old.failing.faults self.new.failing.faults result }
     {
@@ -180,8 +180,8 @@ impl Tree for MemTree {
         // A file that is begun has time 0.
         ensures ok { OnOk result (nodes_at self.new.nodes ≡ with_node path.now (Some (file [] 0)) (nodes_at self.old.nodes)) }
         ensures err { OnErr result (nodes_at self.new.nodes ≡ nodes_at self.old.nodes) }
-        ensures fails { FailsWhere (is_to_fail self.old.failing || not (is_placed (nodes_at self.old.nodes) path.now && takes_file (nodes_at self.old.nodes path.now))) result }
-        ensures counts { self.new.failing ≡ tried_on (is_placed (nodes_at self.old.nodes) path.now) (takes_file (nodes_at self.old.nodes path.now)) self.old.failing }
+        ensures fails { FailsWhere (is_to_fail self.old.failing || not (may_begin (nodes_at self.old.nodes) path.now)) result }
+        ensures counts { let t = nodes_at self.old.nodes in self.new.failing ≡ tried_on (is_placed t path.now) (takes_file (t path.now)) self.old.failing }
         ensures place { string_bytes self.new.place ≡ string_bytes self.old.place }
         ensures cause { HasCause self.old.failing.faults self.new.failing.faults result }
     {
@@ -194,10 +194,7 @@ impl Tree for MemTree {
         if !may_put_file(&self.nodes, path) {
             return Err(self.failing.fault());
         }
-        let empty = MemNode::File {
-            bytes: Vec::new(self.alloc),
-            time: 0,
-        };
+        let empty = empty_file(self.alloc);
         put_node(self.alloc, &mut self.nodes, path, empty)?;
         Ok(())
     }
@@ -224,8 +221,8 @@ impl Tree for MemTree {
     fn rename(&mut self, from: &str, to: &str) -> Result<(), Stop>
         ensures ok { OnOk result (nodes_at self.new.nodes ≡ moved_node from.now to.now (nodes_at self.old.nodes)) }
         ensures err { OnErr result (nodes_at self.new.nodes ≡ nodes_at self.old.nodes) }
-        ensures fails { FailsWhere (is_to_fail self.old.failing || not (is_file (nodes_at self.old.nodes from.now) && is_placed (nodes_at self.old.nodes) to.now && not (is_folder (nodes_at self.old.nodes to.now)))) result }
-        ensures counts { self.new.failing ≡ tried_on (is_file (nodes_at self.old.nodes from.now) && is_placed (nodes_at self.old.nodes) to.now) (not (is_folder (nodes_at self.old.nodes to.now))) self.old.failing }
+        ensures fails { FailsWhere (is_to_fail self.old.failing || not (may_move (nodes_at self.old.nodes) from.now to.now)) result }
+        ensures counts { let t = nodes_at self.old.nodes in self.new.failing ≡ tried_on (is_file (t from.now) && is_placed t to.now) (not (is_folder (t to.now))) self.old.failing }
         ensures place { string_bytes self.new.place ≡ string_bytes self.old.place }
         ensures cause { HasCause self.old.failing.faults self.new.failing.faults result }
     {
@@ -260,3 +257,6 @@ impl Tree for MemTree {
         Ok(())
     }
 }
+
+#[cfg(test)]
+mod tests;

@@ -61,7 +61,26 @@ pub fn read_control(control: &[u8], version: &[u8]) -> Result<Control, ControlFa
     ensures told { IfOk result (Tells control.now version.now) }
     ensures refused { IfErr result (IsRefused control.now version.now) }
 {
-    let [s0, s1, s2, s3, s4, s5, s6, s7, p0, p1, p2, p3, c0, c1, c2, c3, ..] = control else {
+    let [
+        s0,
+        s1,
+        s2,
+        s3,
+        s4,
+        s5,
+        s6,
+        s7,
+        p0,
+        p1,
+        p2,
+        p3,
+        c0,
+        c1,
+        c2,
+        c3,
+        ..
+    ] = control
+    else {
         return Err(ControlFault::ControlShort {
             length: control.len() as u64,
         });

@@ -2,6 +2,7 @@
 ghost use Rattle.std.specs.Prelude.{◌≡◌, ◌≤◌, ◌⊎◌, true, None, OnOk, IfOk, IfSome, IsSome, IsErrOf, is_some, ◌||◌};
 ghost use Rattle.pgb_outside.specs.Moments.{Rests};
 ghost use Rattle.pgb_outside.specs.Cause.{Rises};
+ghost use Rattle.pgb_model.specs.InfoFiles.{IsCluster};
 ghost use Rattle.pgb_model.specs.Names.{copy_of};
 ghost use Rattle.pgb_model.specs.Repository.{Repository};
 ghost use Rattle.pgb_model.specs.Steps.{step, Create};
@@ -73,8 +74,9 @@ pub fn is_new<D: Disk>(alloc: Global, d: &mut D, stanza: &str) -> Result<bool, S
     Ok(!has_archive && !has_backup)
 }
 
-fn first_cluster(control: &Control) -> Cluster
-    ensures { result ≡ first_cluster control.now }
+fn first_cluster(control: Control) -> Cluster
+    ensures value { result ≡ first_cluster control }
+    ensures is_cluster { IsCluster result }
 {
     Cluster {
         id: 1,
@@ -105,7 +107,7 @@ pub fn create<D: Disk>(
     ensures later { D.faults d.old ≤ D.faults d.new }
     ensures cause { IsErrOf result StanzaFault.Disk → Rises (D.faults d.old) (D.faults d.new) }
 {
-    let cluster = first_cluster(control);
+    let cluster = first_cluster(*control);
     save_pairs(alloc, d, stanza, &cluster)?;
     Ok(Created::New)
 }

@@ -1,4 +1,4 @@
-use Rattle.std.proofs.Common.{◌≡◌, Option, Some, ℕ, List, option_map, take, sym, ap, ◌∙◌, subst, refl}
+use Rattle.std.proofs.Common.{◌≡◌, Option, Some, ℕ, List, option_map, take, sym, subst, refl}
 use Rattle.std.specs.Prelude.{IfSome}
 use Rattle.pgb_outside.specs.Tree.{Nodes}
 use Rattle.pgb_outside.specs.Cause.{Rises}

@@ -1,4 +1,4 @@
-use Rattle.std.proofs.Common.{◌∙◌, Option, subst}
+use Rattle.std.proofs.Common.{Option, subst}
 use Rattle.std.specs.Prelude.{IfSome}
 use Rattle.pgb_outside.specs.Tree.{Nodes}
 use Rattle.pgb_command.specs.Cluster.{FolderTells}

@@ -1,4 +1,4 @@
-use Rattle.std.proofs.Common.{◌≡◌, ◌≤◌, ◌+◌, ◌-◌, ◌∙◌, ap, List, ℕ, length, take, drop, arith, refl, length-drop}
+use Rattle.std.proofs.Common.{◌≡◌, ◌-◌, ◌∙◌, ap, List, ℕ, length, take, drop, arith, refl, length-drop}
 use Rattle.std.proofs.lemmas.List.{take_all}
 use Rattle.pgb_command.proofs.Written.{more, more_written}
 use Rattle.pgb_command.proofs.output.write_all.Goals as goal

@@ -1,4 +1,4 @@
-use Rattle.std.proofs.Common.{◌≡◌, ◌≤◌, ◌+◌, ◌-◌, ◌⊎◌, vec_len, take, length}
+use Rattle.std.proofs.Common.{◌≡◌, ◌≤◌, ◌-◌, ◌⊎◌, vec_len}
 use Rattle.std.specs.Prelude.{IfSome}
 use Rattle.pgb_outside.specs.Tree.{file_bytes, known_path}
 use Rattle.pgb_disk.proofs.Read.{IsFrontOf}

@@ -1,4 +1,3 @@
-use Rattle.std.proofs.Common.{◌≡◌, List, ℕ}
 use Rattle.pgb_command.proofs.words.split_six.Goals as goal
 
 pub returns-in_default-value_of-clause-none : goal.returns-in_default-value_of-clause-none

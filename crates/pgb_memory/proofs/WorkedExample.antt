@@ -1,0 +1,44 @@
+-- The disk model's table, computed on a worked example: a file that is staged, synced, renamed and settled.
+use Rattle.std.proofs.Common.{◌≡◌, true, false, [], ◌∷◌, Some, None, refl}
+use Rattle.std.specs.Prelude.{codes}
+use Rattle.pgb_outside.specs.Content.{Name, Value}
+use Rattle.pgb_memory.specs.State.{State, first_state, begun, appended, synced, renamed, settled}
+
+abbrev x : Name
+x = codes "archive/demo/x"
+
+abbrev y : Name
+y = codes "archive/demo/y"
+
+abbrev a : Value
+a = Some (97 ∷ [])
+
+abbrev appended_x : State
+appended_x = appended x (97 ∷ []) (begun x (first_state []))
+
+abbrev synced_x : State
+synced_x = synced x appended_x
+
+abbrev renamed_x : State
+renamed_x = renamed x y synced_x
+
+abbrev settled_x : State
+settled_x = settled (codes "archive/demo") renamed_x
+
+appended_loose : appended_x.loose x ≡ true
+appended_loose = refl
+
+synced_tight : synced_x.loose x ≡ false
+synced_tight = refl
+
+synced_kept : synced_x.kept x ≡ None ∷ a ∷ []
+synced_kept = refl
+
+renamed_now : (renamed_x.now x ≡ None) × (renamed_x.now y ≡ a)
+renamed_now = (refl, refl)
+
+renamed_kept : (renamed_x.kept x ≡ None ∷ a ∷ None ∷ []) × (renamed_x.kept y ≡ None ∷ a ∷ [])
+renamed_kept = (refl, refl)
+
+settled_kept : (settled_x.kept x ≡ None ∷ []) × (settled_x.kept y ≡ a ∷ [])
+settled_kept = (refl, refl)

@@ -1,0 +1,32 @@
+use Rattle.std.proofs.Common.{refl, subst}
+use Rattle.pgb_outside.specs.Crash.{NowGoes, FirstOf, AllOf}
+use Rattle.pgb_model.specs.declared.clusters.Cluster.{Cluster}
+use Rattle.pgb_model.specs.InfoFiles.{IsCluster}
+use Rattle.pgb_model.specs.Create.{pair_writes}
+use Rattle.pgb_model.proofs.Made.{made_part, made_whole, made_members}
+use Rattle.pgb_info.proofs.First.{first_archive_is, first_backup_is}
+use Rattle.pgb_stanza.specs.ControlFile.{first_cluster}
+use Rattle.pgb_stanza.proofs.creating.create.Goals as goal
+
+pub returns-in_err-save_pairs-clause-part : goal.returns-in_err-save_pairs-clause-part
+returns-in_err-save_pairs-clause-part g c =
+    let of = subst IsCluster c.first_cluster-cluster.ensures.value c.first_cluster-cluster.ensures.is_cluster in
+    made_part c.args.stanza.now (first_cluster c.args.control.now) (first_archive_is _ of refl) (first_backup_is _ of refl) _ _ c.requires
+    (subst (λ (x : Cluster). NowGoes (FirstOf (pair_writes c.args.stanza.now x)) (g.D.Disk.view c.args.d.now).now (g.D.Disk.view c.save_pairs.new.d).now) c.first_cluster-cluster.ensures.value c.save_pairs.ensures.now_part)
+
+pub returns-clause-part : goal.returns-clause-part
+returns-clause-part g c =
+    let of = subst IsCluster c.first_cluster-cluster.ensures.value c.first_cluster-cluster.ensures.is_cluster in
+    made_part c.args.stanza.now (first_cluster c.args.control.now) (first_archive_is _ of refl) (first_backup_is _ of refl) _ _ c.requires
+    (subst (λ (x : Cluster). NowGoes (FirstOf (pair_writes c.args.stanza.now x)) (g.D.Disk.view c.args.d.now).now (g.D.Disk.view c.save_pairs.new.d).now) c.first_cluster-cluster.ensures.value c.save_pairs.ensures.now_part)
+
+pub returns-clause-done : goal.returns-clause-done
+returns-clause-done g c =
+    let of = subst IsCluster c.first_cluster-cluster.ensures.value c.first_cluster-cluster.ensures.is_cluster in
+    made_whole c.args.stanza.now (first_cluster c.args.control.now) (first_archive_is _ of refl) (first_backup_is _ of refl) _ _ c.requires
+    (subst (λ (x : Cluster). NowGoes (AllOf (pair_writes c.args.stanza.now x)) (g.D.Disk.view c.args.d.now).now (g.D.Disk.view c.save_pairs.new.d).now) c.first_cluster-cluster.ensures.value c.in_ok-save_pairs.ensures.now_whole)
+
+pub returns-clause-members : goal.returns-clause-members
+returns-clause-members g c = λ some.
+    made_members c.args.stanza.now (first_cluster c.args.control.now) _ _ some
+    (subst (λ (x : Cluster). NowGoes (AllOf (pair_writes c.args.stanza.now x)) (g.D.Disk.view c.args.d.now).now (g.D.Disk.view c.save_pairs.new.d).now) c.first_cluster-cluster.ensures.value c.in_ok-save_pairs.ensures.now_whole)

@@ -1,0 +1,19 @@
+use Rattle.std.proofs.Common.{◌∙◌}
+use Rattle.pgb_stanza.proofs.Saves.{archive_name_is, archive_valid, archive_within, archive_spelled, part_as, whole_as}
+use Rattle.pgb_stanza.proofs.saving.save_archive.Goals as goal
+
+pub save_pair-requires : goal.save_pair-requires
+save_pair-requires g c = record {
+  named = archive_name_is c.args.stanza.now _ (c.as_str.ensures.value ∙ c.in_ok-name.ensures);
+  valid = archive_valid c.args.cluster.now c.requires.is_cluster c.requires.first _ c.in_ok-value.ensures;
+  within = archive_within c.args.cluster.now _ c.requires.is_cluster c.requires.first c.in_ok-value.ensures;
+}
+
+pub returns-in_err-save_pair-clause-now_part : goal.returns-in_err-save_pair-clause-now_part
+returns-in_err-save_pair-clause-now_part g c = part_as _ _ _ _ _ _ (c.as_str.ensures.value ∙ c.in_ok-name.ensures) (archive_spelled c.args.cluster.now _ c.in_ok-value.ensures) c.save_pair.ensures.now_part
+
+pub returns-clause-now_part : goal.returns-clause-now_part
+returns-clause-now_part g c = part_as _ _ _ _ _ _ (c.as_str.ensures.value ∙ c.in_ok-name.ensures) (archive_spelled c.args.cluster.now _ c.in_ok-value.ensures) c.save_pair.ensures.now_part
+
+pub returns-clause-now_whole : goal.returns-clause-now_whole
+returns-clause-now_whole g c = whole_as _ _ _ _ _ _ (c.as_str.ensures.value ∙ c.in_ok-name.ensures) (archive_spelled c.args.cluster.now _ c.in_ok-value.ensures) c.in_ok-save_pair.ensures.now_whole

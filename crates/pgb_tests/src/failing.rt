@@ -1,0 +1,197 @@
+// Each call of a device fails in turn, and the same words are given again.
+use crate::fixture::{
+    EXISTING, Fails, Held, MADE, NAMES, NEVER, Room, SAMPLE, UNKNOWN, WORDS, holds, listing,
+    output, room, run_words, text_at,
+};
+use pgb_memory::{MemDisk, MemSink};
+use std::alloc::Global;
+use std::process::Abort;
+use std::test::Fail;
+
+#[derive(Clone, Copy, Debug)]
+enum Device {
+    Disk,
+    Tree,
+    Sink,
+}
+
+// Words over what a disk holds, and the answer.
+#[derive(Clone, Copy, Debug)]
+struct Run {
+    words: &'static [&'static str],
+    held: Held<'static>,
+    status: u8,
+    line: &'static str,
+}
+
+const MAKING: Run = Run {
+    words: &WORDS,
+    held: &[],
+    status: 0,
+    line: "",
+};
+
+const MADE_BEFORE: Run = Run {
+    words: &WORDS,
+    held: &MADE,
+    status: 100,
+    line: EXISTING,
+};
+
+const NOT_KNOWN: Run = Run {
+    words: &["stanza-create"],
+    held: &[],
+    status: 100,
+    line: UNKNOWN,
+};
+
+// How many of the four members are there after each failing call, from the first on, each number once.
+const FAILED: [(Run, Device, &'static [usize]); 9] = [
+    (MAKING, Device::Disk, &[0, 1, 2, 3, 4]),
+    (MAKING, Device::Tree, &[0]),
+    (MAKING, Device::Sink, &[]),
+    (MADE_BEFORE, Device::Disk, &[4]),
+    (MADE_BEFORE, Device::Tree, &[4]),
+    (MADE_BEFORE, Device::Sink, &[4]),
+    (NOT_KNOWN, Device::Disk, &[]),
+    (NOT_KNOWN, Device::Tree, &[]),
+    (NOT_KNOWN, Device::Sink, &[0]),
+];
+
+// More calls than any run makes.
+const CALLS: u64 = 200;
+
+fn faults(room: &Room<MemSink>, device: Device) -> u64 {
+    match device {
+        Device::Disk => room.repo.faults(),
+        Device::Tree => room.tree.faults(),
+        Device::Sink => room.out.faults(),
+    }
+}
+
+fn failing_room(
+    alloc: Global,
+    held: Held,
+    device: Device,
+    number: u64,
+) -> Result<Room<MemSink>, Fail> {
+    let numbers = [number];
+    let fails = match device {
+        Device::Disk => Fails {
+            disk: &numbers,
+            ..NEVER
+        },
+        Device::Tree => Fails {
+            tree: &numbers,
+            ..NEVER
+        },
+        Device::Sink => Fails {
+            out: &numbers,
+            ..NEVER
+        },
+    };
+    room(alloc, held, SAMPLE, fails)
+}
+
+// The answer where a device fails.
+fn answer_of(device: Device) -> (u8, &'static str) {
+    match device {
+        Device::Disk => (80, "ERROR: [080]: repository failed\n"),
+        Device::Tree => (82, "ERROR: [082]: data folder failed\n"),
+        Device::Sink => (87, ""),
+    }
+}
+
+// How many of the four members are there.
+fn count_members(disk: &MemDisk) -> usize {
+    MADE.iter()
+        .filter(|(name, _)| disk.bytes(name).is_some())
+        .count()
+}
+
+// Each member is whole where it is there, and the archive's main member is there after both of the backup's.
+fn check_members(rt: &impl Abort, disk: &MemDisk) {
+    for (name, text) in MADE {
+        if disk.bytes(name).is_some() {
+            assert_eq!(rt; text_at(disk, name), Some(text), "{name}");
+        }
+    }
+    if disk.bytes("archive/demo/archive.info").is_some() {
+        assert!(rt; disk.bytes("backup/demo/backup.info").is_some());
+        assert!(rt; disk.bytes("backup/demo/backup.info.copy").is_some());
+    }
+}
+
+// The same words on what a failed run left: they end well, or the stanza is there.
+fn check_again(
+    rt: &impl Abort,
+    alloc: Global,
+    run: Run,
+    room: &mut Room<MemSink>,
+) -> Result<(), Fail> {
+    let count = count_members(&room.repo);
+    let faults = (room.repo.faults(), room.tree.faults());
+    room.out = MemSink::new(alloc, Vec::new(alloc));
+    let status = run_words(alloc, run.words, room)?;
+    assert_eq!(rt; (room.repo.faults(), room.tree.faults()), faults);
+    check_members(rt, &room.repo);
+    if count > 0 {
+        assert_eq!(rt; status, 100);
+        assert_eq!(rt; output(room), Some(EXISTING));
+        assert_eq!(rt; count_members(&room.repo), count);
+        return Ok(());
+    }
+    assert_eq!(rt; status, run.status);
+    assert_eq!(rt; output(room), Some(run.line));
+    let names = if status == 0 { NAMES } else { "" };
+    assert_eq!(rt; listing(alloc, &mut room.repo)?.as_str(), names);
+    Ok(())
+}
+
+// The run with that call failing: how many members are there then, or none where so many calls aren't made.
+fn check_failing(
+    rt: &impl Abort,
+    alloc: Global,
+    run: Run,
+    device: Device,
+    number: u64,
+) -> Result<Option<usize>, Fail> {
+    let mut room = failing_room(alloc, run.held, device, number)?;
+    let status = run_words(alloc, run.words, &mut room)?;
+    if faults(&room, device) == 0 {
+        assert_eq!(rt; status, run.status);
+        assert_eq!(rt; output(&room), Some(run.line));
+        return Ok(None);
+    }
+    let (failed, line) = answer_of(device);
+    assert_eq!(rt; status, failed, "{device:?} {number}");
+    assert_eq!(rt; output(&room), Some(line), "{device:?} {number}");
+    assert!(rt; holds(&room.repo, run.held), "{device:?} {number}");
+    check_members(rt, &room.repo);
+    let count = count_members(&room.repo);
+    check_again(rt, alloc, run, &mut room)?;
+    assert_eq!(rt; room.repo.misuses(), 0);
+    assert_eq!(rt; room.tree.misuses(), 0);
+    Ok(Some(count))
+}
+
+#[test]
+fn answers_each_failing_call(rt: HostRuntime) -> Result<(), Fail> {
+    let alloc = rt.alloc();
+    for (run, device, wanted) in FAILED {
+        let mut counts = Vec::new(alloc);
+        let mut ended = false;
+        for number in 0..CALLS {
+            let Some(count) = check_failing(&rt, alloc, run, device, number)? else {
+                ended = true;
+                break;
+            };
+            if counts.last() != Some(&count) {
+                counts.push(count)?;
+            }
+        }
+        assert!(rt; ended, "{run:?} {device:?}");
+        assert_eq!(rt; counts.as_slice(), wanted, "{run:?} {device:?}");
+    }
+    Ok(())
+}

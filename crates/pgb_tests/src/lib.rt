@@ -1,0 +1,21 @@
+//! Tests of what crosses crates: the commands over devices in memory, by values from outside.
+#![tactic(auto)]
+
+#[cfg(test)]
+mod beside;
+#[cfg(test)]
+mod control;
+#[cfg(test)]
+mod creating;
+#[cfg(test)]
+mod failing;
+#[cfg(test)]
+mod fixture;
+#[cfg(test)]
+mod outputs;
+#[cfg(test)]
+mod refusing;
+#[cfg(test)]
+mod texts;
+#[cfg(test)]
+mod words;
