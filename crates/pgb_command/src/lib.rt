@@ -4,8 +4,8 @@
 mod cluster;
 mod create;
 mod fault;
-mod outside;
 mod output;
+mod outside;
 mod reading;
 mod top;
 mod words;

@@ -27,9 +27,9 @@ none_stored stanza name bytes found none = (λ is. let e : ◌≡◌ {A = Option
 
 none_of : (stanza : Text) (f : Content) (c : Cluster) → HasStanza stanza f (new_stanza c) → (name : Text) → IsArchiveFile stanza name → f name ≡ None
 none_of stanza f c h name file = elim (f name) as (λ found. f name ≡ found → found ≡ None) [
-    | None ↦ λ e. refl
-    | Some bytes ↦ λ e. let a : (a : Archived) × In a [] × (name ≡ stored_name stanza a) × (bytes ≡ a.bytes) = (h.archived name bytes file).0 e in absurd a.1
-  ] refl
+  | None ↦ λ e. refl
+  | Some bytes ↦ λ e. let a : (a : Archived) × In a [] × (name ≡ stored_name stanza a) × (bytes ≡ a.bytes) = (h.archived name bytes file).0 e in absurd a.1
+] refl
 
 module _ (stanza : Text) (c : Cluster) (archive_is : IsArchiveText (first_archive c) (first_archive_text c)) (backup_is : IsBackupText (first_backup c) (first_backup_text c)) where
   abbrev archive : Text
@@ -42,8 +42,9 @@ module _ (stanza : Text) (c : Cluster) (archive_is : IsArchiveText (first_archiv
   backup_saved : (f : Content) → IsVacant stanza f → IsVacant stanza (put (backup_info stanza) (Some backup) f)
   backup_saved f v = record {
     archive_pair = (
-        put_other (backup_info stanza) (Some backup) f _ (pairs_apart stanza) ∙ v.archive_pair.0,
-        put_other (backup_info stanza) (Some backup) f _ (archive_copy_backup_apart stanza) ∙ v.archive_pair.1);
+      put_other (backup_info stanza) (Some backup) f _ (pairs_apart stanza) ∙ v.archive_pair.0,
+      put_other (backup_info stanza) (Some backup) f _ (archive_copy_backup_apart stanza) ∙ v.archive_pair.1,
+    );
     backup_pair = inr (first_backup c, inl (backup, put_same (backup_info stanza) (Some backup) f, backup_is), refl);
     archived = λ name file. put_other (backup_info stanza) (Some backup) f _ (file_backup_apart stanza name file) ∙ v.archived name file;
   }
@@ -52,8 +53,9 @@ module _ (stanza : Text) (c : Cluster) (archive_is : IsArchiveText (first_archiv
   backup_copy_saved : (f : Content) → IsVacant stanza f → f (backup_info stanza) ≡ Some backup → IsVacant stanza (put (copy_of (backup_info stanza)) (Some backup) f)
   backup_copy_saved f v main = record {
     archive_pair = (
-        put_other (copy_of (backup_info stanza)) (Some backup) f _ (archive_backup_copy_apart stanza) ∙ v.archive_pair.0,
-        put_other (copy_of (backup_info stanza)) (Some backup) f _ (copies_apart stanza) ∙ v.archive_pair.1);
+      put_other (copy_of (backup_info stanza)) (Some backup) f _ (archive_backup_copy_apart stanza) ∙ v.archive_pair.0,
+      put_other (copy_of (backup_info stanza)) (Some backup) f _ (copies_apart stanza) ∙ v.archive_pair.1,
+    );
     backup_pair = inr (first_backup c, inl (backup, put_other (copy_of (backup_info stanza)) (Some backup) f _ (copy_apart (backup_info stanza)) ∙ main, backup_is), refl);
     archived = λ name file. put_other (copy_of (backup_info stanza)) (Some backup) f _ (file_backup_copy_apart stanza name file) ∙ v.archived name file;
   }
@@ -119,11 +121,11 @@ module _ (stanza : Text) (c : Cluster) (archive_is : IsArchiveText (first_archiv
     -- none of the writes or some leave the stanza out or whole
     pub created_part : (g : Content) → FirstOf (pair_writes stanza c) f g → Stands stanza g None ⊎ Stands stanza g (Some (new_stanza c))
     created_part g w =
-      ⊎_elim (λ a. inl (alike_stands stanza f g None a v))
-      (⊎_elim (λ a. inl (alike_stands stanza f1 g None a s1))
-      (⊎_elim (λ a. inl (alike_stands stanza f2 g None a s2))
-      (⊎_elim (λ a. inr (alike_stands stanza f3 g (Some (new_stanza c)) a s3))
-      (λ a. inr (alike_stands stanza f4 g (Some (new_stanza c)) a s4))))) w
+        ⊎_elim (λ a. inl (alike_stands stanza f g None a v))
+        (⊎_elim (λ a. inl (alike_stands stanza f1 g None a s1))
+        (⊎_elim (λ a. inl (alike_stands stanza f2 g None a s2))
+        (⊎_elim (λ a. inr (alike_stands stanza f3 g (Some (new_stanza c)) a s3))
+        (λ a. inr (alike_stands stanza f4 g (Some (new_stanza c)) a s4))))) w
 
     pub created_whole : (g : Content) → AllOf (pair_writes stanza c) f g → Stands stanza g (Some (new_stanza c))
     created_whole g w = alike_stands stanza f4 g (Some (new_stanza c)) w s4

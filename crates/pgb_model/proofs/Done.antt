@@ -22,9 +22,9 @@ part_none (Any groups ∷ moves) = inl (nothing_of groups)
 -- what stays as it was has done nothing of a command
 pub nothing_done : (stanza : Text) (command : Command) (old new : Option Content) → new ≡ old → NowDoes stanza command false old new
 nothing_done stanza command old new same = record {
-    told = λ s. subst (λ (o : Option Content). IsSome o) (sym same) s;
-    does = λ r some now. ([], part_none (steps_of command r), subst (λ (o : Option Content). NowStands stanza r o) (sym same) now);
-  }
+  told = λ s. subst (λ (o : Option Content). IsSome o) (sym same) s;
+  does = λ r some now. ([], part_none (steps_of command r), subst (λ (o : Option Content). NowStands stanza r o) (sym same) now);
+}
 
 module _ (stanza : Text) (c : Cluster) (old mid new : Option Content) (same : mid ≡ old) (told : IsSome mid → IsSome new) where
   from_mid : (r : Repository) → NowStands stanza r old → NowStands stanza r mid

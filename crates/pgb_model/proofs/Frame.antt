@@ -69,7 +69,10 @@ module _ (stanza : Text) (f g : Content) (agrees : AgreesBeside stanza f g) wher
     listed = (p.listed.0, pair_same IsBackupText g f (backup_info stanza) p.listed.0 (sym backup_main) (sym backup_copy) p.listed.1, p.listed.2);
     manifest = p.manifest;
     reads = pair_same IsManifestText g f (manifest_name stanza p.label) p.manifest (sym (agrees.listed _ (p.label, inl refl))) (sym (agrees.listed _ (p.label, inr refl))) p.reads;
-    entry = p.entry; of_it = p.of_it; filled = p.filled; is = p.is;
+    entry = p.entry;
+    of_it = p.of_it;
+    filled = p.filled;
+    is = p.is;
   }
 
   module _ (s : Stanza) (h : HasStanza stanza f s) where
@@ -94,13 +97,29 @@ module _ (stanza : Text) (f g : Content) (agrees : AgreesBeside stanza f g) wher
 
       manifest_same : (b : Backup) → In b s.backups → (m : Manifest) → PairIs IsManifestText f (manifest_name stanza b.entry.label) m → IsManifestOf stanza f s b m → IsManifestOf stanza g s2 b m
       manifest_same b at m reads of = record {
-          label = of.label; kind = of.kind; prior = of.prior; start = of.start; stop = of.stop; cluster = of.cluster; wal = of.wal;
-          choices = of.choices; folders = of.folders; paths = of.paths; references = of.references; ancestors = of.ancestors;
-          files = λ e in_m. let x = of.files e in_m in (x.0, x.1, record {
-            size = x.2.size; time = x.2.time; sum = x.2.sum;
+        label = of.label;
+        kind = of.kind;
+        prior = of.prior;
+        start = of.start;
+        stop = of.stop;
+        cluster = of.cluster;
+        wal = of.wal;
+        choices = of.choices;
+        folders = of.folders;
+        paths = of.paths;
+        references = of.references;
+        ancestors = of.ancestors;
+        files = λ e in_m. let x = of.files e in_m in (
+          x.0,
+          x.1,
+          record {
+            size = x.2.size;
+            time = x.2.time;
+            sum = x.2.sum;
             stored = λ filled. let y = x.2.stored filled in (y.0, agrees.places _ (record { label = b.entry.label; listed = lists b at; manifest = m; reads = reads; entry = e; of_it = in_m; filled = filled; is = refl }) ∙ y.1, y.2);
-          });
-        }
+          },
+        );
+      }
 
       -- with other archived files
       pub stanza_beside : ((a : Archived) → In a files → IsArchivePlace a.id a.name (sha1 a.bytes)) → ((name bytes : Text) → IsArchiveFile stanza name → (g name ≡ Some bytes) ↔ ((a : Archived) × In a files × (name ≡ stored_name stanza a) × (bytes ≡ a.bytes))) → HasStanza stanza g s2
@@ -110,15 +129,19 @@ module _ (stanza : Text) (f g : Content) (agrees : AgreesBeside stanza f g) wher
         archive_pair = pair_same IsArchiveText f g (archive_info stanza) _ archive_main archive_copy h.archive_pair;
         pending = h.pending;
         backup_pair = pair_same IsBackupText f g (backup_info stanza) _ backup_main backup_copy (let P : BackupInfo → Type 0 = λ v. PairIs IsBackupText f (backup_info stanza) v in subst P (value_same h.pending) h.backup_pair);
-        manifests = λ b at. let x = h.manifests b at in (x.0, pair_same IsManifestText f g (manifest_name stanza b.entry.label) x.0
-            (agrees.listed _ (b.entry.label, inl refl)) (agrees.listed _ (b.entry.label, inr refl)) x.1, manifest_same b at x.0 x.1 x.2);
+        manifests = λ b at. let x = h.manifests b at in (
+          x.0,
+          pair_same IsManifestText f g (manifest_name stanza b.entry.label) x.0
+              (agrees.listed _ (b.entry.label, inl refl)) (agrees.listed _ (b.entry.label, inr refl)) x.1,
+          manifest_same b at x.0 x.1 x.2,
+        );
         archived = archived;
       }
 
 pub stands_same : (stanza : Text) (f g : Content) → Agrees stanza f g → (r : Repository) → Stands stanza f r → Stands stanza g r
 stands_same stanza f g a None v = vacant_beside stanza f g (beside stanza f g a) v (λ name file. a.fixed name (FileName file) ∙ v.archived name file)
 stands_same stanza f g a (Some s) h = stanza_beside stanza f g (beside stanza f g a) s h s.archived h.named (λ name bytes file. let e = a.fixed name (FileName file) in
-          ((λ is. (h.archived name bytes file).0 (sym e ∙ is)), (λ x. e ∙ (h.archived name bytes file).1 x)))
+    ((λ is. (h.archived name bytes file).0 (sym e ∙ is)), (λ x. e ∙ (h.archived name bytes file).1 x)))
 
 -- no place of a label that is listed is temporary
 pub place_lasts : (stanza : Text) (f : Content) (n : Text) → IsPlaceOf stanza f n → ¬ IsTemporary n

@@ -51,9 +51,9 @@ module _ (stanza : Text) (c : Cluster) (archive_is : IsArchiveText (first_archiv
       let g = told_as new (goes.told some) in
       let none = no_stanza stanza f.0 r (lacks_at old f.0 stanza f.1 lacks) (now.stands f.0 f.1) in
       ⊎_elim
-        (λ (s : Stands stanza g.0 None). inl (subst (λ (x : Repository). NowStands stanza x new) (sym none) (now_of stanza None new g.0 g.1 s)))
-        (λ (s : Stands stanza g.0 (Some (new_stanza c))). inr (subst (λ (x : Repository). NowStands stanza (step x (Create c)) new) (sym none) (now_of stanza (Some (new_stanza c)) new g.0 g.1 s)))
-        (created_part stanza c archive_is backup_is f.0 (vacant stanza f.0 r (now.stands f.0 f.1) none) g.0 (goes.goes f.0 g.0 f.1 g.1))
+      (λ (s : Stands stanza g.0 None). inl (subst (λ (x : Repository). NowStands stanza x new) (sym none) (now_of stanza None new g.0 g.1 s)))
+      (λ (s : Stands stanza g.0 (Some (new_stanza c))). inr (subst (λ (x : Repository). NowStands stanza (step x (Create c)) new) (sym none) (now_of stanza (Some (new_stanza c)) new g.0 g.1 s)))
+      (created_part stanza c archive_is backup_is f.0 (vacant stanza f.0 r (now.stands f.0 f.1) none) g.0 (goes.goes f.0 g.0 f.1 g.1))
 
   -- all of them make it
   pub made_whole : NowGoes (AllOf (pair_writes stanza c)) old new → (r : Repository) → IsSome old → NowStands stanza r old → (r ≡ None) × NowStands stanza (step r (Create c)) new
@@ -84,19 +84,19 @@ module _ (stanza : Text) (c : Cluster) (f g : Content) where
   members_of : AllOf (pair_writes stanza c) f g → HasNewPairs stanza c g
   members_of w = record {
     archive = w.same (archive_info stanza) (pair_lasts stanza _ (inl refl))
-      ∙ put_other (copy_of (archive_info stanza)) archive f3 (archive_info stanza) (copy_apart (archive_info stanza))
-      ∙ put_same (archive_info stanza) archive f2;
+        ∙ put_other (copy_of (archive_info stanza)) archive f3 (archive_info stanza) (copy_apart (archive_info stanza))
+        ∙ put_same (archive_info stanza) archive f2;
     archive_copy = w.same (copy_of (archive_info stanza)) (pair_lasts stanza _ (inr (inl refl)))
-      ∙ put_same (copy_of (archive_info stanza)) archive f3;
+        ∙ put_same (copy_of (archive_info stanza)) archive f3;
     backup = w.same (backup_info stanza) (pair_lasts stanza _ (inr (inr (inl refl))))
-      ∙ put_other (copy_of (archive_info stanza)) archive f3 (backup_info stanza) (λ e. archive_copy_backup_apart stanza (sym e))
-      ∙ put_other (archive_info stanza) archive f2 (backup_info stanza) (λ e. pairs_apart stanza (sym e))
-      ∙ put_other (copy_of (backup_info stanza)) backup f1 (backup_info stanza) (copy_apart (backup_info stanza))
-      ∙ put_same (backup_info stanza) backup f;
+        ∙ put_other (copy_of (archive_info stanza)) archive f3 (backup_info stanza) (λ e. archive_copy_backup_apart stanza (sym e))
+        ∙ put_other (archive_info stanza) archive f2 (backup_info stanza) (λ e. pairs_apart stanza (sym e))
+        ∙ put_other (copy_of (backup_info stanza)) backup f1 (backup_info stanza) (copy_apart (backup_info stanza))
+        ∙ put_same (backup_info stanza) backup f;
     backup_copy = w.same (copy_of (backup_info stanza)) (pair_lasts stanza _ (inr (inr (inr refl))))
-      ∙ put_other (copy_of (archive_info stanza)) archive f3 (copy_of (backup_info stanza)) (λ e. copies_apart stanza (sym e))
-      ∙ put_other (archive_info stanza) archive f2 (copy_of (backup_info stanza)) (λ e. archive_backup_copy_apart stanza (sym e))
-      ∙ put_same (copy_of (backup_info stanza)) backup f1;
+        ∙ put_other (copy_of (archive_info stanza)) archive f3 (copy_of (backup_info stanza)) (λ e. copies_apart stanza (sym e))
+        ∙ put_other (archive_info stanza) archive f2 (copy_of (backup_info stanza)) (λ e. archive_backup_copy_apart stanza (sym e))
+        ∙ put_same (copy_of (backup_info stanza)) backup f1;
   }
 
 pub made_members : (stanza : Text) (c : Cluster) (old new : Option Content) → IsSome old → NowGoes (AllOf (pair_writes stanza c)) old new → IfSome new (HasNewPairs stanza c)

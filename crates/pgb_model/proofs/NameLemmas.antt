@@ -49,7 +49,7 @@ below_apart stanza name other file large e =
     let below = append_cancel_left (archive_folder stanza) (47 ∷ (id_text file.id ⫽ archive_text file.file (sum_text file.sum))) (47 ∷ other) (sym file.is ∙ e) in
     let first : get_or (id_text file.id ⫽ archive_text file.file (sum_text file.sum)) 0 0 ≡ get_or other 0 0 = ap (λ t. get_or t 1 0) below in
     let whole : id_text file.id ⫽ archive_text file.file (sum_text file.sum) ≡ decimal file.id.version ++ ((45 ∷ decimal file.id.number) ++ 47 ∷ archive_text file.file (sum_text file.sum))
-        = append_assoc (decimal file.id.version) (45 ∷ decimal file.id.number) (47 ∷ archive_text file.file (sum_text file.sum)) in
+    = append_assoc (decimal file.id.version) (45 ∷ decimal file.id.number) (47 ∷ archive_text file.file (sum_text file.sum)) in
     absurd (omega (arith, first, ap (λ t. get_or t 0 0) whole, begins file.id.version ((45 ∷ decimal file.id.number) ++ 47 ∷ archive_text file.file (sum_text file.sum)) (omega (arith, file.fits.version))))
 
 pub file_info_apart : (stanza name : Text) → IsArchiveFile stanza name → name ≢ archive_info stanza

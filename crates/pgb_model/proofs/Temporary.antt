@@ -87,7 +87,7 @@ sum_last [] n p h is = absurd (omega (arith, h.0))
 sum_last (b ∷ s) n p h is =
     let all = low_text (b ∷ s) in
     apart_by n p 45 (slice_index lower_digits (b / 16)) (slice_index lower_digits (b % 16) ∷ sum_text s) is
-      (λ e. let m = low_last (slice_index lower_digits (b % 16) ∷ sum_text s) 45 (slice_index lower_digits (b / 16)) (lit≤ tt) all.0 all.1 in omega (arith, m))
+    (λ e. let m = low_last (slice_index lower_digits (b % 16) ∷ sum_text s) 45 (slice_index lower_digits (b / 16)) (lit≤ tt) all.0 all.1 in omega (arith, m))
 
 -- the name ends so
 abbrev EndsIn : Text → Text → Type 0
@@ -112,11 +112,11 @@ file_lasts_by stanza id (Whole s) sum h =
     sum_last sum _ x.0 h x.1
 file_lasts_by stanza id (Partial s) sum h =
     let x = file_ends (45 ∷ sum_text sum) stanza id (archive_text (Partial s) (sum_text sum)) (below (45 ∷ sum_text sum) (segment_folder s) (segment_text s ++ codes ".partial-" ++ sum_text sum)
-        (segment_text s ++ codes ".partial", append_assoc (segment_text s) (codes ".partial-") (sum_text sum) ∙ sym (append_assoc (segment_text s) (codes ".partial") (45 ∷ sum_text sum)))) in
+    (segment_text s ++ codes ".partial", append_assoc (segment_text s) (codes ".partial-") (sum_text sum) ∙ sym (append_assoc (segment_text s) (codes ".partial") (45 ∷ sum_text sum)))) in
     sum_last sum _ x.0 h x.1
 file_lasts_by stanza id (Backup s number) sum h =
     let x = file_ends (codes "backup") stanza id (archive_text (Backup s number) (sum_text sum)) (below (codes "backup") (segment_folder s) (segment_text s ++ 46 ∷ hex_upper 8 number ++ codes ".backup")
-        (in_front (codes "backup") (segment_text s ++ 46 ∷ hex_upper 8 number) (codes ".backup") (itself (codes "backup") (46 ∷ [])))) in
+    (in_front (codes "backup") (segment_text s ++ 46 ∷ hex_upper 8 number) (codes ".backup") (itself (codes "backup") (46 ∷ [])))) in
     apart_by _ x.0 98 97 (codes "ckup") x.1 (λ e. let h : ◌≡◌ {A = ℕ} 117 109 = e in omega arith)
 file_lasts_by stanza id (History timeline) sum h =
     let x = file_ends (codes "history") stanza id (archive_text (History timeline) (sum_text sum)) (in_front (codes "history") (hex_upper 8 timeline) (codes ".history") (itself (codes "history") (46 ∷ []))) in
@@ -143,7 +143,7 @@ behind : (a p s q : Text) → AllByRecursion (λ c. c ≢ 47) s → a ++ s ≡ p
 behind [] p s q plain e = absurd (slash p s q plain e)
   where
     slash : (p s q : Text) → AllByRecursion (λ c. c ≢ 47) s → s ≡ p ++ 47 ∷ q → ⊥
-    slash p [] q plain e = elim p as (λ p. [] ≡ p ++ 47 ∷ q → ⊥) [ | [] ↦ λ e. cc | z ∷ p ↦ λ e. cc ] e
+    slash p [] q plain e = elim p as (λ p. [] ≡ p ++ 47 ∷ q → ⊥) [ [] ↦ λ e. cc | z ∷ p ↦ λ e. cc ] e
     slash [] (c ∷ s) q plain e = plain.0 (let h : c ≡ 47 = cc in h)
     slash (z ∷ p) (c ∷ s) q plain e = slash p s q plain.1 (let h : s ≡ p ++ 47 ∷ q = cc in h)
 behind (c ∷ a) [] s q plain e = (a, let h : q ≡ a ++ s = cc in h)
@@ -176,7 +176,7 @@ bundle_name_lasts stanza l number small = cases (decimal number) refl
     cases (c ∷ ds) e = apart_by (bundle_name stanza l number) (label_folder stanza l ++ codes "/bundle") 47 c ds
         (ap (λ (d : Text). label_folder stanza l ++ (codes "/bundle/" ++ d)) e ∙ sym (append_assoc (label_folder stanza l) (codes "/bundle") (47 ∷ c ∷ ds)))
         (λ h. let all : AllByRecursion (λ c. c ≤ 57) (c ∷ ds) = subst (λ (t : Text). AllByRecursion (λ c. c ≤ 57) t) e (digits number (omega arith)) in
-            let k = digits_last ds 47 c (lit< tt) all.0 all.1 in omega arith)
+        let k = digits_last ds 47 c (lit< tt) all.0 all.1 in omega arith)
 
 place_lasts_by : (stanza : Text) (l : Label) (e : FileEntry) (b : Option Bundled) → ¬ IsTemporary e.path → IfSome b (λ b. b.number < 2 ^ 32) → ¬ IsTemporary (place_by stanza l e b).0
 place_lasts_by stanza l e None lasting small = file_name_lasts stanza (holder l e) e.path lasting

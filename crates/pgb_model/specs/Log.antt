@@ -92,4 +92,4 @@ pub record Keeps (stanza : Text) (q : Repository) (log : List Done) (repo spool 
   pub stands : (f : Content) → Leaves repo repo.moment f → StandsAfter stanza q log f
   pub receipts_fixed : (name : ArchiveName) → IsWalName name → is_loose spool (receipt_name stanza name) ≡ false
   pub receipts : (f : Content) → Leaves spool spool.moment f → (name : ArchiveName) (sum : Text) → IsWalName name → HasReceipt stanza f name sum →
-    (r : Repository) × Reaches q log r × IsDrained r name sum
+      (r : Repository) × Reaches q log r × IsDrained r name sum

@@ -86,7 +86,7 @@ pub record IsManifestOf (stanza : Text) (f : Content) (s : Stanza) (b : Backup) 
 pub record IsVacant (stanza : Text) (f : Content) : Type 0 where
   pub archive_pair : PairAbsent f (archive_info stanza)
   pub backup_pair : PairAbsent f (backup_info stanza)
-    ⊎ ((v : BackupInfo) × PairIs IsBackupText f (backup_info stanza) v × (v.backups ≡ []))
+      ⊎ ((v : BackupInfo) × PairIs IsBackupText f (backup_info stanza) v × (v.backups ≡ []))
   pub archived : (name : Text) → IsArchiveFile stanza name → f name ≡ None
 
 -- the value of the archive pair
@@ -110,7 +110,7 @@ pub record HasStanza (stanza : Text) (f : Content) (s : Stanza) : Type 0 where
   pub backup_pair : PairIs IsBackupText f (backup_info stanza) (backup_value s pending)
   pub manifests : (b : Backup) → In b s.backups → (m : Manifest) × PairIs IsManifestText f (manifest_name stanza b.entry.label) m × IsManifestOf stanza f s b m
   pub archived : (name bytes : Text) → IsArchiveFile stanza name →
-    (f name ≡ Some bytes) ↔ ((a : Archived) × In a s.archived × (name ≡ stored_name stanza a) × (bytes ≡ a.bytes))
+      (f name ≡ Some bytes) ↔ ((a : Archived) × In a s.archived × (name ≡ stored_name stanza a) × (bytes ≡ a.bytes))
   pub named : (a : Archived) → In a s.archived → IsArchivePlace a.id a.name (sha1 a.bytes)
 
 -- what f stands for; all other names are ignored
