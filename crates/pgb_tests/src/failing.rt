@@ -127,24 +127,28 @@ fn check_again(
     rt: &impl Abort,
     alloc: Global,
     run: Run,
-    room: &mut Room<MemSink>,
+    mut room: Room<MemSink>,
 ) -> Result<(), Fail> {
     let count = count_members(&room.repo);
     let faults = (room.repo.faults(), room.tree.faults());
     room.out = MemSink::new(alloc, Vec::new(alloc));
-    let status = run_words(alloc, run.words, room)?;
+    let status = run_words(alloc, run.words, &mut room)?;
+    let (wanted, line) = if count > 0 {
+        (100, EXISTING)
+    } else {
+        (run.status, run.line)
+    };
+    assert_eq!(rt; status, wanted);
+    assert_eq!(rt; output(&room), Some(line));
     assert_eq!(rt; (room.repo.faults(), room.tree.faults()), faults);
+    assert_eq!(rt; (room.repo.misuses(), room.tree.misuses()), (0, 0));
     check_members(rt, &room.repo);
-    if count > 0 {
-        assert_eq!(rt; status, 100);
-        assert_eq!(rt; output(room), Some(EXISTING));
+    if status == 0 {
+        let names = String::from_str(alloc, NAMES)?;
+        assert_eq!(rt; listing(alloc, &mut room.repo)?, names);
+    } else {
         assert_eq!(rt; count_members(&room.repo), count);
-        return Ok(());
     }
-    assert_eq!(rt; status, run.status);
-    assert_eq!(rt; output(room), Some(run.line));
-    let names = if status == 0 { NAMES } else { "" };
-    assert_eq!(rt; listing(alloc, &mut room.repo)?.as_str(), names);
     Ok(())
 }
 
@@ -169,9 +173,7 @@ fn check_failing(
     assert!(rt; holds(&room.repo, run.held), "{device:?} {number}");
     check_members(rt, &room.repo);
     let count = count_members(&room.repo);
-    check_again(rt, alloc, run, &mut room)?;
-    assert_eq!(rt; room.repo.misuses(), 0);
-    assert_eq!(rt; room.tree.misuses(), 0);
+    check_again(rt, alloc, run, room)?;
     Ok(Some(count))
 }
 

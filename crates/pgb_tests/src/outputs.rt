@@ -1,4 +1,6 @@
 // Outputs that take little of what is written.
+ghost use Rattle.std.specs.Prelude.{None};
+
 use crate::fixture::{
     EXISTING, Fails, Held, MADE, NEVER, SAMPLE, UNKNOWN, WORDS, output, room, room_with, run_words,
 };
