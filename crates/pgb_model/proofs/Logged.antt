@@ -22,6 +22,14 @@ KeepsSound command = (r : Repository) (whole : Bool) (done : List Step) → IsSo
 abbrev pub IsPart : Text → Command → Repository → Content → Type 0
 IsPart stanza command r g = (done : List Step) × IsPartOf done (steps_of command r) × Stands stanza g (after r done)
 
+-- reading calls leave a disk that keeps a log as it is
+pub rests_still : (stanza : Text) (q : Repository) (log : List Done) (a b : View) → Rests a b → b.now ≡ a.now → KeepsRepository stanza q log a → KeepsRepository stanza q log b
+rests_still stanza q log a b rests same keeps = record {
+  fixed = λ n h. still_tight a b rests n (keeps.fixed n h);
+  places = λ f leaves n h. still_tight a b rests n (keeps.places f (old_leaves a b rests f same leaves) n h);
+  stands = λ f leaves. keeps.stands f (old_leaves a b rests f same leaves);
+}
+
 module _ (stanza : Text) (command : Command) (q : Repository) (log : List Done) where
   abbrev undone : Done
   undone = record { command = command; acknowledged = false }
@@ -35,11 +43,7 @@ module _ (stanza : Text) (command : Command) (q : Repository) (log : List Done) 
   -- where nothing was done
   module _ (a b : View) (rests : Rests a b) (same : b.now ≡ a.now) (keeps : KeepsRepository stanza q log a) where
     pub rests_keeps : KeepsRepository stanza q (undone ∷ log) b
-    rests_keeps = record {
-      fixed = λ n h. still_tight a b rests n (keeps.fixed n h);
-      places = λ f leaves n h. still_tight a b rests n (keeps.places f (old_leaves a b rests f same leaves) n h);
-      stands = λ f leaves. still_after f (keeps.stands f (old_leaves a b rests f same leaves));
-    }
+    rests_keeps = let k = rests_still stanza q log a b rests same keeps in record { fixed = k.fixed; places = k.places; stands = λ f leaves. still_after f (k.stands f leaves) }
 
     -- an image of a moment between is one of old
     between_image : (t : ℕ) (f : Content) → a.moment ≤ t → t ≤ b.moment → IsImage b t f → IsImage a a.moment f

@@ -45,6 +45,29 @@ rests_moves stanza r P a b rests same s told part = record {
       (λ l. ⊎_elim (λ o. inr (o, l.1)) (λ x. absurd x) (rests.loosens t n lo hi l.0)) (image n)))) leaves);
 }
 
+-- reading calls before a command's way are part of it
+module _ (stanza : Text) (r : Repository) (P : Content → Type 0) (a b d : View) (rests : Rests a b) (steady : IsSteady stanza r a) (part : (g : Content) → Stands stanza g r → P g) (moves : Moves stanza P b d) where
+  -- an image of the time before is one of old
+  first_image : (t : ℕ) (g : Content) → a.moment ≤ t → t ≤ b.moment → IsImage d t g → IsImage a a.moment g
+  first_image t g lo hi image n = ⊎_elim
+      (λ k. ⊎_elim (λ o. inl o) (λ x. absurd x) (rests.grows t n (g n) lo hi (moves.past t n (g n) hi k)))
+      (λ l. ⊎_elim (λ o. inr (o, l.1)) (λ x. absurd x) (rests.loosens t n lo hi (sym (moves.past_loose t n hi) ∙ l.0))) (image n)
+
+  either : (t s : ℕ) → (t ≤ s) ⊎ (s ≤ t)
+  either t s = grind arith
+
+  pub front_moves : Moves stanza P a d
+  front_moves = record {
+    later = omega (arith, rests.later, moves.later);
+    past = λ t n v le k. rests.same t n v le (moves.past t n v (omega (arith, le, rests.later)) k);
+    past_loose = λ t n le. moves.past_loose t n (omega (arith, le, rests.later)) ∙ rests.same_loose t n le;
+    told = moves.told;
+    fixed = moves.fixed;
+    places = moves.places;
+    leaves = λ t g lo hi leaves. ⊎_elim (λ now. moves.leaves d.moment g moves.later (omega arith) (inl now))
+        (λ image. ⊎_elim (λ (le : t ≤ b.moment). part g (steady.stands g (inr (first_image t g lo le image)))) (λ (ge : b.moment ≤ t). moves.leaves t g ge hi (inr image)) (either t b.moment)) leaves;
+  }
+
 one_member : (f : Content) (name : Text) (v w : BackupInfo) → MemberIs IsBackupText f name v → MemberIs IsBackupText f name w → mark v.backups ≡ mark w.backups
 one_member f name v w m n =
     let e : ◌≡◌ {A = Option Text} (Some m.0) (Some n.0) = sym m.1 ∙ n.1 in
@@ -82,53 +105,31 @@ no_place_new : (stanza : Text) (f : Content) (n : Text) (c : Cluster) → HasSta
 no_place_new stanza f n c h p = none_in p.listed.2.0 p.listed.0.backups
     (one_value f (backup_info stanza) p.listed.0 (backup_value (new_stanza c) h.pending) p.listed.1 h.backup_pair ∙ no_entries c h.pending) p.listed.2.1
 
-module _ (stanza : Text) (c : Cluster) (archive_is : IsArchiveText (first_archive c) (first_archive_text c)) (backup_is : IsBackupText (first_backup c) (first_backup_text c)) (a b d : View) (rests : Rests a b) (same : b.now ≡ a.now) (steady : IsSteady stanza None a) (told : IsSome a.now) where
-  told_b : IsSome b.now
-  told_b = subst (λ (o : Option Content). IsSome o) (sym same) told
+module _ (stanza : Text) (c : Cluster) (archive_is : IsArchiveText (first_archive c) (first_archive_text c)) (backup_is : IsBackupText (first_backup c) (first_backup_text c)) (a d : View) (steady : IsSteady stanza None a) (told : IsSome a.now)
+    (crash : Crash (FirstOf (pair_writes stanza c)) a d) where
+  part : (t : ℕ) (g : Content) → a.moment ≤ t → t ≤ d.moment → Leaves d t g → Stands stanza g None ⊎ Stands stanza g (Some (new_stanza c))
+  part t g lo hi leaves = let x = crash.comes told t g lo hi leaves in created_part stanza c archive_is backup_is x.0 (steady.stands x.0 x.1) g x.2
 
-  steady_b : IsSteady stanza None b
-  steady_b = steady_rests stanza None a b rests same steady
+  tight_fixed : (n : Text) → IsFixed stanza n → is_loose d n ≡ false
+  tight_fixed n h = crash.tight d.moment n crash.later (omega arith) (fixed_lasts stanza n h) (steady.fixed n h)
 
-  IsPart : Content → Type 0
-  IsPart g = Stands stanza g None ⊎ Stands stanza g (Some (new_stanza c))
+  pub created_moves : Moves stanza (λ g. Stands stanza g None ⊎ Stands stanza g (Some (new_stanza c))) a d
+  created_moves = record {
+    later = crash.later;
+    past = crash.past;
+    past_loose = crash.past_loose;
+    told = crash.told told;
+    fixed = tight_fixed;
+    places = λ f leaves n h. absurd (⊎_elim (λ v. no_place_vacant stanza f n v h) (λ s. no_place_new stanza f n c s h) (part d.moment f crash.later (omega arith) leaves));
+    leaves = part;
+  }
 
-  module _ (crash : Crash (FirstOf (pair_writes stanza c)) b d) where
-    part : (t : ℕ) (g : Content) → b.moment ≤ t → t ≤ d.moment → Leaves d t g → Stands stanza g None ⊎ Stands stanza g (Some (new_stanza c))
-    part t g lo hi leaves = let x = crash.comes told_b t g lo hi leaves in created_part stanza c archive_is backup_is x.0 (steady_b.stands x.0 x.1) g x.2
-
-    -- an image of the time before is one of old
-    first_image : (t : ℕ) (g : Content) → a.moment ≤ t → t ≤ b.moment → IsImage d t g → IsImage a a.moment g
-    first_image t g lo hi image n = ⊎_elim
-        (λ k. ⊎_elim (λ o. inl o) (λ x. absurd x) (rests.grows t n (g n) lo hi (crash.past t n (g n) hi k)))
-        (λ l. ⊎_elim (λ o. inr (o, l.1)) (λ x. absurd x) (rests.loosens t n lo hi (sym (crash.past_loose t n hi) ∙ l.0))) (image n)
-
-    either : (t s : ℕ) → (t ≤ s) ⊎ (s ≤ t)
-    either t s = grind arith
-
-    each : (t : ℕ) (g : Content) → a.moment ≤ t → t ≤ d.moment → Leaves d t g → Stands stanza g None ⊎ Stands stanza g (Some (new_stanza c))
-    each t g lo hi leaves = ⊎_elim (λ now. part d.moment g crash.later (omega arith) (inl now))
-        (λ image. ⊎_elim (λ (le : t ≤ b.moment). inl (steady.stands g (inr (first_image t g lo le image)))) (λ (ge : b.moment ≤ t). part t g ge hi (inr image)) (either t b.moment)) leaves
-
-    tight_fixed : (n : Text) → IsFixed stanza n → is_loose d n ≡ false
-    tight_fixed n h = crash.tight d.moment n crash.later (omega arith) (fixed_lasts stanza n h) (steady_b.fixed n h)
-
-    pub created_moves : Moves stanza (λ g. Stands stanza g None ⊎ Stands stanza g (Some (new_stanza c))) a d
-    created_moves = record {
-      later = omega (arith, rests.later, crash.later);
-      past = λ t n v le k. rests.same t n v le (crash.past t n v (omega (arith, le, rests.later)) k);
-      past_loose = λ t n le. crash.past_loose t n (omega (arith, le, rests.later)) ∙ rests.same_loose t n le;
-      told = crash.told told_b;
-      fixed = tight_fixed;
-      places = λ f leaves n h. absurd (⊎_elim (λ v. no_place_vacant stanza f n v h) (λ s. no_place_new stanza f n c s h) (part d.moment f crash.later (omega arith) leaves));
-      leaves = each;
-    }
-
-    pub created_steady : Ends (AllOf (pair_writes stanza c)) b d → IsSteady stanza (Some (new_stanza c)) d
-    created_steady ends = record {
-      fixed = tight_fixed;
-      places = λ f leaves n h. absurd (no_place_new stanza f n c (whole f leaves) h);
-      stands = whole;
-    }
-      where
-        whole : (f : Content) → Leaves d d.moment f → Stands stanza f (Some (new_stanza c))
-        whole f leaves = let x = ends.comes told_b f leaves in created_whole stanza c archive_is backup_is x.0 (steady_b.stands x.0 x.1) f x.2
+  pub created_steady : Ends (AllOf (pair_writes stanza c)) a d → IsSteady stanza (Some (new_stanza c)) d
+  created_steady ends = record {
+    fixed = tight_fixed;
+    places = λ f leaves n h. absurd (no_place_new stanza f n c (whole f leaves) h);
+    stands = whole;
+  }
+    where
+      whole : (f : Content) → Leaves d d.moment f → Stands stanza f (Some (new_stanza c))
+      whole f leaves = let x = ends.comes told f leaves in created_whole stanza c archive_is backup_is x.0 (steady.stands x.0 x.1) f x.2
