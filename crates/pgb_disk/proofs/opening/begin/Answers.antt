@@ -1,4 +1,3 @@
-use Rattle.std.proofs.Common.{Result, Ok, Err}
 use Rattle.pgb_model.specs.Names.{is_of_stanza}
 use Rattle.pgb_model.proofs.Begun.{begun}
 use Rattle.pgb_model.proofs.Below.{fixed_of, places_of}
