@@ -43,7 +43,7 @@ cluster_by f told None tells none = absurd (none told tells)
 cluster_by f told (Some c) tells some = ap Some (some.2 ∙ ap first_cluster (same_told f some.0 told some.1 tells))
 
 -- the cluster of the folder is that of what it tells
-cluster_is : (nodes : Option Nodes) (told : Control) (cluster : Option Cluster) → IfSome nodes (λ f. FolderTells f told) → IsSomeAnd nodes (λ f. IsClusterOf f cluster) → cluster ≡ Some (first_cluster told)
+pub cluster_is : (nodes : Option Nodes) (told : Control) (cluster : Option Cluster) → IfSome nodes (λ f. FolderTells f told) → IsSomeAnd nodes (λ f. IsClusterOf f cluster) → cluster ≡ Some (first_cluster told)
 cluster_is None told cluster tells some = absurd some
 cluster_is (Some f) told cluster tells some = cluster_by f told cluster tells some
 

@@ -4,3 +4,4 @@ mod Told
 mod Fronts
 mod Creates
 mod Causes
+mod Carries

@@ -1,9 +1,13 @@
 // stanza-create.
 ghost use Rattle.std.specs.Prelude.{◌≡◌, ◌≤◌, ◌⊎◌, true, false, None, Some, ℕ, List, Option, OnOk, IfErr, IfSome, IsSome, IsSomeAnd, IsErrOf};
+ghost use Rattle.pgb_outside.specs.Moments.{Rests};
 ghost use Rattle.pgb_outside.specs.Cause.{Rises};
 ghost use Rattle.pgb_model.specs.declared.clusters.Cluster.{Cluster};
 ghost use Rattle.pgb_model.specs.Repository.{Repository};
+ghost use Rattle.pgb_model.specs.Stands.{Stands};
 ghost use Rattle.pgb_model.specs.Steps.{step, Create, StanzaCreate};
+ghost use Rattle.pgb_model.specs.Log.{Done, KeepsRepository};
+ghost use Rattle.pgb_model.specs.Steady.{IsSteady, IsBegun, Moves, CarriesOn, PassesOnly};
 ghost use Rattle.pgb_model.specs.Create.{lacks_pairs};
 ghost use Rattle.pgb_model.specs.Now.{NowStands, HasNewPairs, NowDoes};
 ghost use Rattle.pgb_stanza.specs.ControlFile.{first_cluster};
@@ -36,6 +40,7 @@ fn open_tree<T: Tree>(tree: &mut T, path: &str) -> Result<(), Fault>
 fn open_repo<D: Disk>(repo: &mut D, path: &str) -> Result<(), Fault>
     ensures place { OnOk result (D.place repo.new ≡ path.now) }
     ensures now { (D.view repo.new).now ≡ (D.view repo.old).now }
+    ensures time { Rests (D.view repo.old) (D.view repo.new) }
     ensures later { D.faults repo.old ≤ D.faults repo.new }
     ensures cause { IfErr result (DeviceCause (Rises (D.faults repo.old) (D.faults repo.new)) ⊥) }
 {
@@ -47,7 +52,9 @@ fn open_repo<D: Disk>(repo: &mut D, path: &str) -> Result<(), Fault>
 }
 
 fn settle<D: Disk>(alloc: Global, repo: &mut D, stanza: &str) -> Result<(), Fault>
+    ensures begun { OnOk result ((q : Repository) (log : List Done) → KeepsRepository stanza.now q log (D.view repo.old) → IsSome (D.view repo.old).now → IsBegun stanza.now q log (D.view repo.new)) }
     ensures now { (D.view repo.new).now ≡ (D.view repo.old).now }
+    ensures time { Rests (D.view repo.old) (D.view repo.new) }
     ensures place { D.place repo.new ≡ D.place repo.old }
     ensures later { D.faults repo.old ≤ D.faults repo.new }
     ensures cause { IfErr result (DeviceCause (Rises (D.faults repo.old) (D.faults repo.new)) ⊥) }
@@ -67,7 +74,9 @@ fn prepare<D: Disk, T: Tree>(
     settings: &Settings,
 ) -> Result<(), Fault>
     ensures places { OnOk result ((T.place tree.new ≡ settings.now.pg1_path.now) × (D.place repo.new ≡ settings.now.repo1_path.now)) }
+    ensures begun { OnOk result ((q : Repository) (log : List Done) → KeepsRepository settings.now.stanza.now q log (D.view repo.old) → IsSome (D.view repo.old).now → IsBegun settings.now.stanza.now q log (D.view repo.new)) }
     ensures now { (D.view repo.new).now ≡ (D.view repo.old).now }
+    ensures time { Rests (D.view repo.old) (D.view repo.new) }
     ensures nodes { T.nodes tree.new ≡ T.nodes tree.old }
     ensures repo_later { D.faults repo.old ≤ D.faults repo.new }
     ensures tree_later { T.faults tree.old ≤ T.faults tree.new }
@@ -85,6 +94,10 @@ fn make<D: Disk>(alloc: Global, repo: &mut D, stanza: &str, told: &Control) -> R
         → NowStands stanza.now r (D.view repo.new).now ⊎ NowStands stanza.now (step r (Create (first_cluster told.now))) (D.view repo.new).now }
     ensures done { OnOk result ((r : Repository) → IsSome (D.view repo.old).now → NowStands stanza.now r (D.view repo.old).now
         → (r ≡ None) × NowStands stanza.now (step r (Create (first_cluster told.now))) (D.view repo.new).now) }
+    ensures moves { (r : Repository) → IsSteady stanza.now r (D.view repo.old) → IsSome (D.view repo.old).now
+        → Moves stanza.now (λ g. Stands stanza.now g r ⊎ Stands stanza.now g (step r (Create (first_cluster told.now)))) (D.view repo.old) (D.view repo.new) }
+    ensures made { OnOk result ((r : Repository) → IsSteady stanza.now r (D.view repo.old) → IsSome (D.view repo.old).now
+        → IsSteady stanza.now (step r (Create (first_cluster told.now))) (D.view repo.new)) }
     ensures fresh { OnOk result (IfSome (D.view repo.old).now (λ f. lacks_pairs stanza.now f ≡ true)) }
     ensures members { OnOk result (IsSome (D.view repo.old).now → IfSome (D.view repo.new).now (HasNewPairs stanza.now (first_cluster told.now))) }
     ensures told { IsSome (D.view repo.old).now → IsSome (D.view repo.new).now }
@@ -114,6 +127,14 @@ pub(crate) fn create_stanza<D: Disk, T: Tree>(
         → NowDoes settings.now.stanza.now (StanzaCreate cluster) true (D.view repo.old).now (D.view repo.new).now) }
     ensures part { (cluster : Option Cluster) → IsSomeAnd (T.nodes tree.old) (λ f. IsClusterOf f cluster)
         → NowDoes settings.now.stanza.now (StanzaCreate cluster) false (D.view repo.old).now (D.view repo.new).now }
+
+    // The same of all that a stop leaves: the log goes on by the command, and at each of its moments by a part of it.
+    ensures carried { OnOk result ((cluster : Option Cluster) → IsSomeAnd (T.nodes tree.old) (λ f. IsClusterOf f cluster)
+        → CarriesOn settings.now.stanza.now (StanzaCreate cluster) true (D.view repo.old) (D.view repo.new)) }
+    ensures carries { (cluster : Option Cluster) → IsSomeAnd (T.nodes tree.old) (λ f. IsClusterOf f cluster)
+        → CarriesOn settings.now.stanza.now (StanzaCreate cluster) false (D.view repo.old) (D.view repo.new) }
+    ensures between { (cluster : Option Cluster) → IsSomeAnd (T.nodes tree.old) (λ f. IsClusterOf f cluster)
+        → PassesOnly settings.now.stanza.now (StanzaCreate cluster) (D.view repo.old) (D.view repo.new) }
     ensures members { OnOk result ((c : Cluster) → IsSomeAnd (T.nodes tree.old) (λ f. IsClusterOf f (Some c)) → IsSome (D.view repo.old).now
         → IfSome (D.view repo.new).now (HasNewPairs settings.now.stanza.now c)) }
     ensures fresh { OnOk result (IfSome (D.view repo.old).now (λ f. lacks_pairs settings.now.stanza.now f ≡ true)) }

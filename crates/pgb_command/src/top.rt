@@ -4,6 +4,7 @@ ghost use Rattle.pgb_outside.specs.Cause.{Rises};
 ghost use Rattle.pgb_model.specs.declared.clusters.Cluster.{Cluster};
 ghost use Rattle.pgb_model.specs.Steps.{StanzaCreate};
 ghost use Rattle.pgb_model.specs.Create.{lacks_pairs};
+ghost use Rattle.pgb_model.specs.Steady.{CarriesOn, PassesOnly, KeepsOn};
 ghost use Rattle.pgb_model.specs.Now.{HasNewPairs, NowDoes};
 ghost use Rattle.pgb_command.specs.declared.fault.Fault.{Fault};
 ghost use Rattle.pgb_command.specs.Words.{Asked, Asks};
@@ -31,7 +32,13 @@ fn serve<D: Disk, T: Tree>(
         → NowDoes a.stanza (StanzaCreate cluster) true (D.view repo.old).now (D.view repo.new).now) }
     ensures part { (a : Asked) → Asks (map string_bytes words.now) a → (cluster : Option Cluster) → IsSomeAnd (T.nodes tree.old) (λ f. IsClusterOf f cluster)
         → NowDoes a.stanza (StanzaCreate cluster) false (D.view repo.old).now (D.view repo.new).now }
-    ensures unasked { ((a : Asked) → ¬ Asks (map string_bytes words.now) a) → (D.view repo.new).now ≡ (D.view repo.old).now }
+    ensures carried { OnOk result ((a : Asked) → Asks (map string_bytes words.now) a → (cluster : Option Cluster) → IsSomeAnd (T.nodes tree.old) (λ f. IsClusterOf f cluster)
+        → CarriesOn a.stanza (StanzaCreate cluster) true (D.view repo.old) (D.view repo.new)) }
+    ensures carries { (a : Asked) → Asks (map string_bytes words.now) a → (cluster : Option Cluster) → IsSomeAnd (T.nodes tree.old) (λ f. IsClusterOf f cluster)
+        → CarriesOn a.stanza (StanzaCreate cluster) false (D.view repo.old) (D.view repo.new) }
+    ensures between { (a : Asked) → Asks (map string_bytes words.now) a → (cluster : Option Cluster) → IsSomeAnd (T.nodes tree.old) (λ f. IsClusterOf f cluster)
+        → PassesOnly a.stanza (StanzaCreate cluster) (D.view repo.old) (D.view repo.new) }
+    ensures unasked { ((a : Asked) → ¬ Asks (map string_bytes words.now) a) → repo.new ≡ repo.old }
     ensures members { OnOk result ((a : Asked) → Asks (map string_bytes words.now) a → (c : Cluster) → IsSomeAnd (T.nodes tree.old) (λ f. IsClusterOf f (Some c)) → IsSome (D.view repo.old).now
         → IfSome (D.view repo.new).now (HasNewPairs a.stanza c)) }
     ensures places { OnOk result ((a : Asked) → Asks (map string_bytes words.now) a → (T.place tree.new ≡ a.data_folder) × (D.place repo.new ≡ a.repository)) }
@@ -74,7 +81,18 @@ pub fn run<
         → NowDoes a.stanza (StanzaCreate cluster) true (D.view outside.old.repo).now (D.view outside.new.repo).now }
     ensures part { (a : Asked) → Asks (map string_bytes words.now) a → (cluster : Option Cluster) → IsSomeAnd (T.nodes outside.old.tree) (λ f. IsClusterOf f cluster)
         → NowDoes a.stanza (StanzaCreate cluster) false (D.view outside.old.repo).now (D.view outside.new.repo).now }
-    ensures unasked { ((a : Asked) → ¬ Asks (map string_bytes words.now) a) → (D.view outside.new.repo).now ≡ (D.view outside.old.repo).now }
+
+    // The same of all that a stop leaves. A disk that keeps a log keeps it with the command: all of it at 0, and a part after
+    // every answer; and whatever a stop at any moment between leaves stands for the log with a part of the command.
+    ensures kept { result ≡ 0 → (a : Asked) → Asks (map string_bytes words.now) a → (cluster : Option Cluster) → IsSomeAnd (T.nodes outside.old.tree) (λ f. IsClusterOf f cluster)
+        → KeepsOn a.stanza (StanzaCreate cluster) true (D.view outside.old.repo) (S.view outside.old.spool) (D.view outside.new.repo) (S.view outside.new.spool) }
+    ensures keeps { (a : Asked) → Asks (map string_bytes words.now) a → (cluster : Option Cluster) → IsSomeAnd (T.nodes outside.old.tree) (λ f. IsClusterOf f cluster)
+        → KeepsOn a.stanza (StanzaCreate cluster) false (D.view outside.old.repo) (S.view outside.old.spool) (D.view outside.new.repo) (S.view outside.new.spool) }
+    ensures between { (a : Asked) → Asks (map string_bytes words.now) a → (cluster : Option Cluster) → IsSomeAnd (T.nodes outside.old.tree) (λ f. IsClusterOf f cluster)
+        → PassesOnly a.stanza (StanzaCreate cluster) (D.view outside.old.repo) (D.view outside.new.repo) }
+
+    // Words that ask for nothing do nothing.
+    ensures unasked { ((a : Asked) → ¬ Asks (map string_bytes words.now) a) → outside.new.repo ≡ outside.old.repo }
 
     // A refusal for what was found changes nothing.
     ensures refused { IsFinding result → (D.view outside.new.repo).now ≡ (D.view outside.old.repo).now }

@@ -5,3 +5,9 @@ pub mod Created
 pub mod Made
 pub mod Done
 mod Worked
+pub mod Below
+pub mod Begun
+pub mod Marked
+pub mod Steady
+pub mod Logged
+pub mod Reopened

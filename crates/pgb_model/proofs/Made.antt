@@ -1,6 +1,6 @@
 -- From the writes of a new stanza to its Create.
-use Rattle.std.proofs.Common.{◌≡◌, ◌≢◌, ◌⊎◌, ⊎_elim, inl, inr, ℕ, List, [], ◌∷◌, Option, Some, None, refl, ap, ◌∙◌, sym, subst, arith, Bool, true, false, is_none}
-use Rattle.std.specs.Prelude.{IsSome, IfSome, ◌&&◌}
+use Rattle.std.proofs.Common.{◌≡◌, ◌⊎◌, ⊎_elim, inl, inr, Option, Some, None, refl, ◌∙◌, sym, subst, arith, true, is_none}
+use Rattle.std.specs.Prelude.{IsSome, IfSome}
 use Rattle.std.proofs.lemmas.Grind.{common_steps}
 use Rattle.pgb_outside.specs.Content.{Content, put}
 use Rattle.pgb_outside.specs.Crash.{FirstOf, AllOf, NowGoes}
@@ -10,8 +10,8 @@ use Rattle.pgb_model.specs.Text.{Text}
 use Rattle.pgb_model.specs.Names.{archive_info, backup_info, copy_of}
 use Rattle.pgb_model.specs.InfoFiles.{IsArchiveText, IsBackupText}
 use Rattle.pgb_model.specs.Pair.{MemberIs}
-use Rattle.pgb_model.specs.Repository.{Stanza, Repository}
-use Rattle.pgb_model.specs.Stands.{Stands, IsVacant, HasStanza}
+use Rattle.pgb_model.specs.Repository.{Repository}
+use Rattle.pgb_model.specs.Stands.{Stands, IsVacant}
 use Rattle.pgb_model.specs.Steps.{step, Create, new_stanza}
 use Rattle.pgb_model.specs.Create.{first_archive, first_backup, first_archive_text, first_backup_text, pair_writes, lacks_pairs}
 use Rattle.pgb_model.specs.Now.{NowStands, HasNewPairs}

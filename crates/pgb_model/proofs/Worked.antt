@@ -1,11 +1,11 @@
 -- The definitions on worked examples.
-use Rattle.std.specs.Prelude.{◌≡◌, ℕ, List, [], ◌∷◌, Option, Some, None, refl, codes, decimal}
+use Rattle.std.specs.Prelude.{◌≡◌, [], Some, None, refl, codes}
 use Rattle.std.proofs.Common.{arith}
 use Rattle.std.proofs.lemmas.Fmt.{decimal_digit}
 use Rattle.pgb_model.specs.declared.labels.Label.{Label}
 use Rattle.pgb_model.specs.declared.labels.Kind.TheVariants.{Diff}
 use Rattle.pgb_model.specs.declared.wal.ArchiveName.TheVariants.{Segment as Whole, History}
-use Rattle.pgb_model.specs.Text.{Text, hex_upper}
+use Rattle.pgb_model.specs.Text.{hex_upper}
 use Rattle.pgb_model.specs.Dates.{date_after, stamp}
 use Rattle.pgb_model.specs.Names.{label_text, wal_text}
 use Rattle.pgb_model.specs.ManifestText.{lsn_text}

@@ -16,3 +16,4 @@ pub mod Steps
 pub mod Log
 pub mod Create
 pub mod Now
+pub mod Steady

@@ -85,11 +85,18 @@ IsDrained (Some s) name sum = In (record { name = name; sum = sum }) s.drained
 
 -- ---- keeps
 
--- The repository's disk, and all that a crash now leaves of it, stand, each by itself, for a sound repository that the log reaches from q, and the names that are looked at aren't loose. Each receipt that the spool's disk has or a crash leaves is of a file that such a repository has stored, and no receipt is loose.
+-- The repository's disk, and all that a crash now leaves of it, stand, each by itself, for a sound repository that the log reaches from q, and the names that are looked at aren't loose.
+pub record KeepsRepository (stanza : Text) (q : Repository) (log : List Done) (v : View) : Type 0 where
+  pub fixed : (name : Text) → IsFixed stanza name → is_loose v name ≡ false
+  pub places : (f : Content) → Leaves v v.moment f → (name : Text) → IsPlaceOf stanza f name → is_loose v name ≡ false
+  pub stands : (f : Content) → Leaves v v.moment f → StandsAfter stanza q log f
+
+-- Each receipt that the spool's disk has, or a crash now leaves, is by itself of a file that such a repository has stored, and no receipt is loose.
+pub record KeepsSpool (stanza : Text) (q : Repository) (log : List Done) (v : View) : Type 0 where
+  pub fixed : (name : ArchiveName) → IsWalName name → is_loose v (receipt_name stanza name) ≡ false
+  pub receipts : (f : Content) → Leaves v v.moment f → (name : ArchiveName) (sum : Text) → IsWalName name → HasReceipt stanza f name sum → (r : Repository) × Reaches q log r × IsDrained r name sum
+
+-- the two disks keep the log
 pub record Keeps (stanza : Text) (q : Repository) (log : List Done) (repo spool : View) : Type 0 where
-  pub fixed : (name : Text) → IsFixed stanza name → is_loose repo name ≡ false
-  pub places : (f : Content) → Leaves repo repo.moment f → (name : Text) → IsPlaceOf stanza f name → is_loose repo name ≡ false
-  pub stands : (f : Content) → Leaves repo repo.moment f → StandsAfter stanza q log f
-  pub receipts_fixed : (name : ArchiveName) → IsWalName name → is_loose spool (receipt_name stanza name) ≡ false
-  pub receipts : (f : Content) → Leaves spool spool.moment f → (name : ArchiveName) (sum : Text) → IsWalName name → HasReceipt stanza f name sum →
-      (r : Repository) × Reaches q log r × IsDrained r name sum
+  pub repository : KeepsRepository stanza q log repo
+  pub receipts : KeepsSpool stanza q log spool

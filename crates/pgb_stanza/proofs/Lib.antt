@@ -1,2 +1,3 @@
 mod Refused
 mod Saves
+mod Creates

@@ -1,10 +1,11 @@
 -- The pairs of a new stanza as they are saved.
-use Rattle.std.proofs.Common.{◌≡◌, ◌≤◌, length, codes, Option, refl, sym, ap, subst, rules}
+use Rattle.std.proofs.Common.{◌≡◌, ◌≤◌, length, codes, Option, refl, sym, ap, subst, rules, false}
 use Rattle.pgb_outside.specs.Content.{Content}
-use Rattle.pgb_outside.specs.Crash.{NowGoes, FirstOf, AllOf}
+use Rattle.pgb_outside.specs.Moments.{View, is_loose}
+use Rattle.pgb_outside.specs.Crash.{Crash, Ends, NowGoes, FirstOf, AllOf}
 use Rattle.pgb_model.specs.declared.clusters.Cluster.{Cluster}
 use Rattle.pgb_model.specs.Text.{Text}
-use Rattle.pgb_model.specs.Names.{archive_info, backup_info, archive_folder, backup_folder}
+use Rattle.pgb_model.specs.Names.{archive_info, backup_info, archive_folder, backup_folder, copy_of}
 use Rattle.pgb_model.specs.Values.{ArchiveInfo, BackupInfo}
 use Rattle.pgb_model.specs.InfoText.{info_text}
 use Rattle.pgb_model.specs.InfoFiles.{archive_sections, backup_sections, info_limit, IsCluster, IsArchiveInfo, IsBackupInfo}
@@ -45,9 +46,24 @@ archive_within c v h one is = subst (λ (t : Text). length t ≤ info_limit) (sy
 pub backup_within : (c : Cluster) (v : BackupInfo) → IsCluster c → c.id ≡ 1 → v ≡ first_backup c → length (info_text (backup_sections v)) ≤ info_limit
 backup_within c v h one is = subst (λ (t : Text). length t ≤ info_limit) (sym (backup_spelled c v is)) (first_backup_is c h one).within
 
+-- what holds of a name and a text holds of what they are equal to
+under : (P : Text → Text → Type 0) (n m t u : Text) → n ≡ m → t ≡ u → P n t → P m u
+under P n m t u named spelled p = subst (λ (x : Text). P x u) named (subst (λ (x : Text). P n x) spelled p)
+
 module _ (n m t u : Text) (old new : Option Content) (named : n ≡ m) (spelled : t ≡ u) where
   pub part_as : NowGoes (FirstOf (member_writes n t)) old new → NowGoes (FirstOf (member_writes m u)) old new
-  part_as goes = subst (λ (x : Text). NowGoes (FirstOf (member_writes x u)) old new) named (subst (λ (x : Text). NowGoes (FirstOf (member_writes n x)) old new) spelled goes)
+  part_as goes = under (λ x y. NowGoes (FirstOf (member_writes x y)) old new) n m t u named spelled goes
 
   pub whole_as : NowGoes (AllOf (member_writes n t)) old new → NowGoes (AllOf (member_writes m u)) old new
-  whole_as goes = subst (λ (x : Text). NowGoes (AllOf (member_writes x u)) old new) named (subst (λ (x : Text). NowGoes (AllOf (member_writes n x)) old new) spelled goes)
+  whole_as goes = under (λ x y. NowGoes (AllOf (member_writes x y)) old new) n m t u named spelled goes
+
+-- where neither member is loose
+abbrev Tightly : Type 0 → Text → View → Type 0
+Tightly P n old = is_loose old n ≡ false → is_loose old (copy_of n) ≡ false → P
+
+module _ (n m t u : Text) (old new : View) (named : n ≡ m) (spelled : t ≡ u) where
+  pub crash_as : Tightly (Crash (FirstOf (member_writes n t)) old new) n old → Tightly (Crash (FirstOf (member_writes m u)) old new) m old
+  crash_as goes = under (λ x y. Tightly (Crash (FirstOf (member_writes x y)) old new) x old) n m t u named spelled goes
+
+  pub ends_as : Tightly (Ends (AllOf (member_writes n t)) old new) n old → Tightly (Ends (AllOf (member_writes m u)) old new) m old
+  ends_as goes = under (λ x y. Tightly (Ends (AllOf (member_writes x y)) old new) x old) n m t u named spelled goes

@@ -1,2 +1,3 @@
 pub mod ControlFile
 pub mod Fault
+pub mod Tight

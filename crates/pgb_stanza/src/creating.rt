@@ -5,7 +5,9 @@ ghost use Rattle.pgb_outside.specs.Cause.{Rises};
 ghost use Rattle.pgb_model.specs.InfoFiles.{IsCluster};
 ghost use Rattle.pgb_model.specs.Names.{copy_of};
 ghost use Rattle.pgb_model.specs.Repository.{Repository};
+ghost use Rattle.pgb_model.specs.Stands.{Stands};
 ghost use Rattle.pgb_model.specs.Steps.{step, Create};
+ghost use Rattle.pgb_model.specs.Steady.{IsSteady, Moves};
 ghost use Rattle.pgb_model.specs.Create.{lacks_pairs};
 ghost use Rattle.pgb_model.specs.Now.{NowStands, HasNewPairs};
 ghost use Rattle.pgb_stanza.specs.ControlFile.{first_cluster};
@@ -95,12 +97,16 @@ pub fn create<D: Disk>(
     control: &Control,
 ) -> Result<Created, StanzaFault>
     requires { IfSome (D.view d.old).now (λ f. lacks_pairs stanza.now f ≡ true) }
-    // After every answer the stanza is as before or made, and at Ok it is made.
+    // After every answer, and after every stop, the stanza is as before or made, and at Ok it is made.
     ensures part { (r : Repository) → IsSome (D.view d.old).now → NowStands stanza.now r (D.view d.old).now
         → NowStands stanza.now r (D.view d.new).now ⊎ NowStands stanza.now (step r (Create (first_cluster control.now))) (D.view d.new).now }
     ensures done { OnOk result ((r : Repository) → IsSome (D.view d.old).now → NowStands stanza.now r (D.view d.old).now
         → (r ≡ None) × NowStands stanza.now (step r (Create (first_cluster control.now))) (D.view d.new).now) }
     ensures members { OnOk result (IsSome (D.view d.old).now → IfSome (D.view d.new).now (HasNewPairs stanza.now (first_cluster control.now))) }
+    ensures moves { (r : Repository) → IsSteady stanza.now r (D.view d.old) → IsSome (D.view d.old).now
+        → Moves stanza.now (λ g. Stands stanza.now g r ⊎ Stands stanza.now g (step r (Create (first_cluster control.now)))) (D.view d.old) (D.view d.new) }
+    ensures made { OnOk result ((r : Repository) → IsSteady stanza.now r (D.view d.old) → IsSome (D.view d.old).now
+        → (r ≡ None) × IsSteady stanza.now (step r (Create (first_cluster control.now))) (D.view d.new)) }
     ensures told { IsSome (D.view d.old).now → IsSome (D.view d.new).now }
     ensures place { D.place d.new ≡ D.place d.old }
     ensures proper { D.misuses d.new ≡ D.misuses d.old }

@@ -1,10 +1,12 @@
 // The pairs of a new stanza are saved.
-ghost use Rattle.std.specs.Prelude.{◌≡◌, ◌≤◌, IfOk, OnOk, IsErrOf};
-ghost use Rattle.pgb_outside.specs.Crash.{NowGoes, FirstOf, AllOf};
+ghost use Rattle.std.specs.Prelude.{◌≡◌, ◌≤◌, false, IfOk, OnOk, IsErrOf};
+ghost use Rattle.pgb_outside.specs.Moments.{is_loose};
+ghost use Rattle.pgb_outside.specs.Crash.{Crash, Ends, NowGoes, FirstOf, AllOf};
 ghost use Rattle.pgb_outside.specs.Cause.{Rises};
-ghost use Rattle.pgb_model.specs.Names.{archive_info, backup_info};
+ghost use Rattle.pgb_model.specs.Names.{archive_info, backup_info, copy_of};
 ghost use Rattle.pgb_model.specs.InfoFiles.{IsCluster};
 ghost use Rattle.pgb_model.specs.Values.{archive_info_of, backup_info_of};
+ghost use Rattle.pgb_stanza.specs.Tight.{AreTight};
 ghost use Rattle.pgb_model.specs.Create.{first_archive, first_backup, first_archive_text, first_backup_text, member_writes, pair_writes};
 
 use crate::names::{archive_info_name, backup_info_name};
@@ -46,6 +48,8 @@ fn save_backup<D: Disk>(
 ) -> Result<(), InfoFault>
     requires first { cluster.now.id ≡ 1 }
     requires is_cluster { IsCluster cluster.now }
+    ensures crash { is_loose (D.view d.old) (backup_info stanza.now) ≡ false → is_loose (D.view d.old) (copy_of (backup_info stanza.now)) ≡ false → Crash (FirstOf (member_writes (backup_info stanza.now) (first_backup_text cluster.now))) (D.view d.old) (D.view d.new) }
+    ensures whole { OnOk result (is_loose (D.view d.old) (backup_info stanza.now) ≡ false → is_loose (D.view d.old) (copy_of (backup_info stanza.now)) ≡ false → Ends (AllOf (member_writes (backup_info stanza.now) (first_backup_text cluster.now))) (D.view d.old) (D.view d.new)) }
     ensures now_part { NowGoes (FirstOf (member_writes (backup_info stanza.now) (first_backup_text cluster.now))) (D.view d.old).now (D.view d.new).now }
     ensures now_whole { OnOk result (NowGoes (AllOf (member_writes (backup_info stanza.now) (first_backup_text cluster.now))) (D.view d.old).now (D.view d.new).now) }
     ensures place { D.place d.new ≡ D.place d.old }
@@ -68,6 +72,8 @@ fn save_archive<D: Disk>(
 ) -> Result<(), InfoFault>
     requires first { cluster.now.id ≡ 1 }
     requires is_cluster { IsCluster cluster.now }
+    ensures crash { is_loose (D.view d.old) (archive_info stanza.now) ≡ false → is_loose (D.view d.old) (copy_of (archive_info stanza.now)) ≡ false → Crash (FirstOf (member_writes (archive_info stanza.now) (first_archive_text cluster.now))) (D.view d.old) (D.view d.new) }
+    ensures whole { OnOk result (is_loose (D.view d.old) (archive_info stanza.now) ≡ false → is_loose (D.view d.old) (copy_of (archive_info stanza.now)) ≡ false → Ends (AllOf (member_writes (archive_info stanza.now) (first_archive_text cluster.now))) (D.view d.old) (D.view d.new)) }
     ensures now_part { NowGoes (FirstOf (member_writes (archive_info stanza.now) (first_archive_text cluster.now))) (D.view d.old).now (D.view d.new).now }
     ensures now_whole { OnOk result (NowGoes (AllOf (member_writes (archive_info stanza.now) (first_archive_text cluster.now))) (D.view d.old).now (D.view d.new).now) }
     ensures place { D.place d.new ≡ D.place d.old }
@@ -90,6 +96,8 @@ pub(crate) fn save_pairs<D: Disk>(
 ) -> Result<(), InfoFault>
     requires first { cluster.now.id ≡ 1 }
     requires is_cluster { IsCluster cluster.now }
+    ensures crash { AreTight stanza.now (D.view d.old) → Crash (FirstOf (pair_writes stanza.now cluster.now)) (D.view d.old) (D.view d.new) }
+    ensures whole { OnOk result (AreTight stanza.now (D.view d.old) → Ends (AllOf (pair_writes stanza.now cluster.now)) (D.view d.old) (D.view d.new)) }
     ensures now_part { NowGoes (FirstOf (pair_writes stanza.now cluster.now)) (D.view d.old).now (D.view d.new).now }
     ensures now_whole { OnOk result (NowGoes (AllOf (pair_writes stanza.now cluster.now)) (D.view d.old).now (D.view d.new).now) }
     ensures place { D.place d.new ≡ D.place d.old }

@@ -3,6 +3,8 @@ use Rattle.std.specs.Prelude.{IfSome}
 use Rattle.pgb_outside.specs.Tree.{Nodes}
 use Rattle.pgb_command.specs.Cluster.{FolderTells}
 use Rattle.pgb_command.proofs.Creates.{does_part, does_whole, has_members}
+use Rattle.pgb_model.specs.Steps.{StanzaCreate}
+use Rattle.pgb_command.proofs.Carries.{rests_carry, rests_pass, carries_part, passes_part, carries_whole}
 use Rattle.pgb_command.proofs.create.create_stanza.Goals as goal
 
 pub returns-in_err-make-clause-part : goal.returns-in_err-make-clause-part
@@ -20,3 +22,35 @@ returns-clause-done g c = does_whole c.args.settings.now.stanza.now (g.T.Tree.no
 pub returns-clause-members : goal.returns-clause-members
 returns-clause-members g c = has_members c.args.settings.now.stanza.now (g.T.Tree.nodes c.args.tree.now) c.in_ok-told.told
     (subst (λ (o : Option Nodes). IfSome o (λ f. FolderTells f c.in_ok-told.told)) c.prepare.ensures.nodes c.in_ok-told.ensures.told) _ _ _ c.prepare.ensures.now c.make.ensures.told c.in_ok-make.ensures.members
+
+pub returns-in_err-prepare-clause-carries : goal.returns-in_err-prepare-clause-carries
+returns-in_err-prepare-clause-carries g c = λ cluster is. rests_carry c.args.settings.now.stanza.now (StanzaCreate cluster) _ _ c.prepare.ensures.time c.prepare.ensures.now
+
+pub returns-in_err-prepare-clause-between : goal.returns-in_err-prepare-clause-between
+returns-in_err-prepare-clause-between g c = λ cluster is. rests_pass c.args.settings.now.stanza.now (StanzaCreate cluster) _ _ c.prepare.ensures.time c.prepare.ensures.now
+
+pub returns-in_err-told-clause-carries : goal.returns-in_err-told-clause-carries
+returns-in_err-told-clause-carries g c = λ cluster is. rests_carry c.args.settings.now.stanza.now (StanzaCreate cluster) _ _ c.prepare.ensures.time c.prepare.ensures.now
+
+pub returns-in_err-told-clause-between : goal.returns-in_err-told-clause-between
+returns-in_err-told-clause-between g c = λ cluster is. rests_pass c.args.settings.now.stanza.now (StanzaCreate cluster) _ _ c.prepare.ensures.time c.prepare.ensures.now
+
+pub returns-in_err-make-clause-carries : goal.returns-in_err-make-clause-carries
+returns-in_err-make-clause-carries g c = carries_part c.args.settings.now.stanza.now (g.T.Tree.nodes c.args.tree.now) c.in_ok-told.told
+    (subst (λ (o : Option Nodes). IfSome o (λ f. FolderTells f c.in_ok-told.told)) c.prepare.ensures.nodes c.in_ok-told.ensures.told) _ _ _ c.prepare.ensures.time c.prepare.ensures.now c.in_ok-prepare.ensures.begun c.make.ensures.moves
+
+pub returns-in_err-make-clause-between : goal.returns-in_err-make-clause-between
+returns-in_err-make-clause-between g c = passes_part c.args.settings.now.stanza.now (g.T.Tree.nodes c.args.tree.now) c.in_ok-told.told
+    (subst (λ (o : Option Nodes). IfSome o (λ f. FolderTells f c.in_ok-told.told)) c.prepare.ensures.nodes c.in_ok-told.ensures.told) _ _ _ c.prepare.ensures.time c.prepare.ensures.now c.in_ok-prepare.ensures.begun c.make.ensures.moves
+
+pub returns-clause-carries : goal.returns-clause-carries
+returns-clause-carries g c = carries_part c.args.settings.now.stanza.now (g.T.Tree.nodes c.args.tree.now) c.in_ok-told.told
+    (subst (λ (o : Option Nodes). IfSome o (λ f. FolderTells f c.in_ok-told.told)) c.prepare.ensures.nodes c.in_ok-told.ensures.told) _ _ _ c.prepare.ensures.time c.prepare.ensures.now c.in_ok-prepare.ensures.begun c.make.ensures.moves
+
+pub returns-clause-between : goal.returns-clause-between
+returns-clause-between g c = passes_part c.args.settings.now.stanza.now (g.T.Tree.nodes c.args.tree.now) c.in_ok-told.told
+    (subst (λ (o : Option Nodes). IfSome o (λ f. FolderTells f c.in_ok-told.told)) c.prepare.ensures.nodes c.in_ok-told.ensures.told) _ _ _ c.prepare.ensures.time c.prepare.ensures.now c.in_ok-prepare.ensures.begun c.make.ensures.moves
+
+pub returns-clause-carried : goal.returns-clause-carried
+returns-clause-carried g c = carries_whole c.args.settings.now.stanza.now (g.T.Tree.nodes c.args.tree.now) c.in_ok-told.told
+    (subst (λ (o : Option Nodes). IfSome o (λ f. FolderTells f c.in_ok-told.told)) c.prepare.ensures.nodes c.in_ok-told.ensures.told) _ _ _ c.prepare.ensures.time c.prepare.ensures.now c.in_ok-prepare.ensures.begun c.make.ensures.moves c.in_ok-make.ensures.made

@@ -1,5 +1,8 @@
 use Rattle.std.proofs.Common.{◌∙◌}
-use Rattle.pgb_stanza.proofs.Saves.{archive_name_is, archive_valid, archive_within, archive_spelled, part_as, whole_as}
+use Rattle.pgb_outside.proofs.Crashes.{crash_none}
+use Rattle.pgb_model.specs.Names.{archive_info}
+use Rattle.pgb_model.specs.Create.{member_writes, first_archive_text}
+use Rattle.pgb_stanza.proofs.Saves.{archive_name_is, archive_valid, archive_within, archive_spelled, part_as, whole_as, crash_as, ends_as}
 use Rattle.pgb_stanza.proofs.saving.save_archive.Goals as goal
 
 pub save_pair-requires : goal.save_pair-requires
@@ -17,3 +20,18 @@ returns-clause-now_part g c = part_as _ _ _ _ _ _ (c.as_str.ensures.value ∙ c.
 
 pub returns-clause-now_whole : goal.returns-clause-now_whole
 returns-clause-now_whole g c = whole_as _ _ _ _ _ _ (c.as_str.ensures.value ∙ c.in_ok-name.ensures) (archive_spelled c.args.cluster.now _ c.in_ok-value.ensures) c.in_ok-save_pair.ensures.now_whole
+
+pub returns-in_err-name-clause-crash : goal.returns-in_err-name-clause-crash
+returns-in_err-name-clause-crash g c = λ main copy. crash_none (member_writes (archive_info c.args.stanza.now) (first_archive_text c.args.cluster.now)) _
+
+pub returns-in_err-value-clause-crash : goal.returns-in_err-value-clause-crash
+returns-in_err-value-clause-crash g c = λ main copy. crash_none (member_writes (archive_info c.args.stanza.now) (first_archive_text c.args.cluster.now)) _
+
+pub returns-in_err-save_pair-clause-crash : goal.returns-in_err-save_pair-clause-crash
+returns-in_err-save_pair-clause-crash g c = crash_as _ _ _ _ _ _ (c.as_str.ensures.value ∙ c.in_ok-name.ensures) (archive_spelled c.args.cluster.now _ c.in_ok-value.ensures) c.save_pair.ensures.crash
+
+pub returns-clause-crash : goal.returns-clause-crash
+returns-clause-crash g c = crash_as _ _ _ _ _ _ (c.as_str.ensures.value ∙ c.in_ok-name.ensures) (archive_spelled c.args.cluster.now _ c.in_ok-value.ensures) c.save_pair.ensures.crash
+
+pub returns-clause-whole : goal.returns-clause-whole
+returns-clause-whole g c = ends_as _ _ _ _ _ _ (c.as_str.ensures.value ∙ c.in_ok-name.ensures) (archive_spelled c.args.cluster.now _ c.in_ok-value.ensures) c.in_ok-save_pair.ensures.whole

@@ -1,3 +1,7 @@
+use Rattle.std.proofs.Common.{inl, inr, refl}
+use Rattle.pgb_outside.proofs.Crashes.{writes_on, writes_end, writes_part}
+use Rattle.pgb_outside.proofs.Lasting.{still_tight}
+use Rattle.pgb_model.proofs.Temporary.{pair_lasts}
 use Rattle.pgb_outside.proofs.Nows.{now_writes_on, now_writes_end, now_writes_part}
 use Rattle.pgb_model.specs.Names.{archive_info, backup_info}
 use Rattle.pgb_model.specs.Create.{member_writes, first_archive_text, first_backup_text}
@@ -14,3 +18,18 @@ returns-clause-now_part g c = now_writes_on (member_writes (backup_info c.args.s
 
 pub returns-clause-now_whole : goal.returns-clause-now_whole
 returns-clause-now_whole g c = now_writes_end (member_writes (backup_info c.args.stanza.now) (first_backup_text c.args.cluster.now)) (member_writes (archive_info c.args.stanza.now) (first_archive_text c.args.cluster.now)) _ _ _ c.in_ok-save_backup.ensures.now_whole c.in_ok-save_archive.ensures.now_whole
+
+pub returns-in_err-save_backup-clause-crash : goal.returns-in_err-save_backup-clause-crash
+returns-in_err-save_backup-clause-crash g c = λ t. writes_part (member_writes (backup_info c.args.stanza.now) (first_backup_text c.args.cluster.now)) (member_writes (archive_info c.args.stanza.now) (first_archive_text c.args.cluster.now)) _ _ (c.save_backup.ensures.crash t.backup t.backup_copy)
+
+pub returns-in_err-save_archive-clause-crash : goal.returns-in_err-save_archive-clause-crash
+returns-in_err-save_archive-clause-crash g c = λ t. let first = c.save_backup.ensures.crash t.backup t.backup_copy in
+    writes_on (member_writes (backup_info c.args.stanza.now) (first_backup_text c.args.cluster.now)) (member_writes (archive_info c.args.stanza.now) (first_archive_text c.args.cluster.now)) _ _ _ first (c.in_ok-save_backup.ensures.whole t.backup t.backup_copy) (c.save_archive.ensures.crash (still_tight _ _ _ _ first (pair_lasts c.args.stanza.now _ (inl refl)) t.archive) (still_tight _ _ _ _ first (pair_lasts c.args.stanza.now _ (inr (inl refl))) t.archive_copy))
+
+pub returns-clause-crash : goal.returns-clause-crash
+returns-clause-crash g c = λ t. let first = c.save_backup.ensures.crash t.backup t.backup_copy in
+    writes_on (member_writes (backup_info c.args.stanza.now) (first_backup_text c.args.cluster.now)) (member_writes (archive_info c.args.stanza.now) (first_archive_text c.args.cluster.now)) _ _ _ first (c.in_ok-save_backup.ensures.whole t.backup t.backup_copy) (c.save_archive.ensures.crash (still_tight _ _ _ _ first (pair_lasts c.args.stanza.now _ (inl refl)) t.archive) (still_tight _ _ _ _ first (pair_lasts c.args.stanza.now _ (inr (inl refl))) t.archive_copy))
+
+pub returns-clause-whole : goal.returns-clause-whole
+returns-clause-whole g c = λ t. let first = c.save_backup.ensures.crash t.backup t.backup_copy in
+    writes_end (member_writes (backup_info c.args.stanza.now) (first_backup_text c.args.cluster.now)) (member_writes (archive_info c.args.stanza.now) (first_archive_text c.args.cluster.now)) _ _ _ first (c.in_ok-save_backup.ensures.whole t.backup t.backup_copy) (c.in_ok-save_archive.ensures.whole (still_tight _ _ _ _ first (pair_lasts c.args.stanza.now _ (inl refl)) t.archive) (still_tight _ _ _ _ first (pair_lasts c.args.stanza.now _ (inr (inl refl))) t.archive_copy))

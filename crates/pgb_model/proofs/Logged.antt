@@ -1,0 +1,147 @@
+-- A log goes on by a command.
+use Rattle.std.proofs.Common.{◌≡◌, ◌⊎◌, ⊎_elim, inl, inr, ℕ, ◌≤◌, List, [], ◌∷◌, Option, Some, None, refl, ap, ◌∙◌, sym, subst, arith, Bool, true, false}
+use Rattle.std.specs.Prelude.{IfSome}
+use Rattle.pgb_outside.specs.Content.{Content}
+use Rattle.pgb_outside.specs.Moments.{View, Rests, IsImage}
+use Rattle.pgb_model.specs.declared.clusters.Cluster.{Cluster}
+use Rattle.pgb_model.specs.declared.wal.ArchiveName.{ArchiveName}
+use Rattle.pgb_model.specs.Text.{Text}
+use Rattle.pgb_model.specs.Repository.{Stanza, Repository, IsSound, IsSoundStanza}
+use Rattle.pgb_model.specs.Stands.{Stands}
+use Rattle.pgb_model.specs.Steps.{Step, One, Command, StanzaCreate, Create, IsPartOf, all_of, after, step, steps_of, new_stanza}
+use Rattle.pgb_model.specs.Log.{Done, KeepsRepository, KeepsSpool, StandsAfter, Reaches, IsDone, IsDrained}
+use Rattle.pgb_model.specs.Steady.{IsSteady, IsBegun, Moves, LeavesOnly}
+use Rattle.pgb_model.proofs.Done.{part_none}
+use Rattle.pgb_model.proofs.Begun.{old_leaves, still_tight}
+
+-- what a command's moves lead to is sound
+abbrev pub KeepsSound : Command → Type 0
+KeepsSound command = (r : Repository) (whole : Bool) (done : List Step) → IsSound r → IsDone whole done (steps_of command r) → IsSound (after r done)
+
+-- g stands for r after a part of the command's steps
+abbrev pub IsPart : Text → Command → Repository → Content → Type 0
+IsPart stanza command r g = (done : List Step) × IsPartOf done (steps_of command r) × Stands stanza g (after r done)
+
+-- reading calls leave a disk that keeps a log as it is
+pub rests_still : (stanza : Text) (q : Repository) (log : List Done) (a b : View) → Rests a b → b.now ≡ a.now → KeepsRepository stanza q log a → KeepsRepository stanza q log b
+rests_still stanza q log a b rests same keeps = record {
+  fixed = λ n h. still_tight a b rests n (keeps.fixed n h);
+  places = λ f leaves n h. still_tight a b rests n (keeps.places f (old_leaves a b rests f same leaves) n h);
+  stands = λ f leaves. keeps.stands f (old_leaves a b rests f same leaves);
+}
+
+module _ (stanza : Text) (command : Command) (q : Repository) (log : List Done) where
+  abbrev undone : Done
+  undone = record { command = command; acknowledged = false }
+
+  abbrev acknowledged : Done
+  acknowledged = record { command = command; acknowledged = true }
+
+  still_after : (f : Content) → StandsAfter stanza q log f → StandsAfter stanza q (undone ∷ log) f
+  still_after f s = record { repository = s.repository; reached = (s.repository, s.reached, ([], refl, part_none (steps_of command s.repository))); sound = s.sound; stands = s.stands }
+
+  -- where nothing was done
+  module _ (a b : View) (rests : Rests a b) (same : b.now ≡ a.now) (keeps : KeepsRepository stanza q log a) where
+    pub rests_keeps : KeepsRepository stanza q (undone ∷ log) b
+    rests_keeps = let k = rests_still stanza q log a b rests same keeps in record { fixed = k.fixed; places = k.places; stands = λ f leaves. still_after f (k.stands f leaves) }
+
+    -- an image of a moment between is one of old
+    between_image : (t : ℕ) (f : Content) → a.moment ≤ t → t ≤ b.moment → IsImage b t f → IsImage a a.moment f
+    between_image t f lo hi image n = ⊎_elim
+        (λ k. ⊎_elim (λ o. inl o) (λ x. absurd x) (rests.grows t n (f n) lo hi k))
+        (λ l. ⊎_elim (λ o. inr (o, l.1)) (λ x. absurd x) (rests.loosens t n lo hi l.0)) (image n)
+
+    pub rests_between : LeavesOnly (StandsAfter stanza q (undone ∷ log)) a b
+    rests_between t f lo hi leaves = still_after f (keeps.stands f (⊎_elim (λ (now : b.now ≡ Some f). inl (sym same ∙ now)) (λ image. inr (between_image t f lo hi image)) leaves))
+
+    either : (t s : ℕ) → (t ≤ s) ⊎ (s ≤ t)
+    either t s = grind arith
+
+    module _ (begun : IsBegun stanza q log b) (keeps_sound : KeepsSound command) (P : Content → Type 0) (part : (g : Content) → P g → IsPart stanza command begun.repository g)
+        (d : View) (moves : Moves stanza P b d) where
+      by_part : (g : Content) → P g → StandsAfter stanza q (undone ∷ log) g
+      by_part g p = let x = part g p in record {
+        repository = after begun.repository x.0;
+        reached = (begun.repository, begun.reached, (x.0, refl, x.1));
+        sound = keeps_sound begun.repository false x.0 begun.sound x.1;
+        stands = x.2;
+      }
+
+      pub moves_keep : KeepsRepository stanza q (undone ∷ log) d
+      moves_keep = record { fixed = moves.fixed; places = moves.places; stands = λ f leaves. by_part f (moves.leaves d.moment f moves.later (omega arith) leaves) }
+
+      pub moves_between : LeavesOnly (StandsAfter stanza q (undone ∷ log)) a d
+      moves_between t f lo hi leaves = ⊎_elim
+          (λ (now : d.now ≡ Some f). by_part f (moves.leaves d.moment f moves.later (omega arith) (inl now)))
+          (λ (image : IsImage d t f). ⊎_elim
+          (λ (le : t ≤ b.moment). still_after f (keeps.stands f (inr (between_image t f lo le (λ n. ⊎_elim (λ k. inl (moves.past t n (f n) le k)) (λ l. inr (sym (moves.past_loose t n le) ∙ l.0, l.1)) (image n))))))
+          (λ (ge : b.moment ≤ t). by_part f (moves.leaves t f ge hi (inr image)))
+          (either t b.moment)) leaves
+
+      pub moves_done : IsSteady stanza (after begun.repository (all_of (steps_of command begun.repository))) d → KeepsRepository stanza q (acknowledged ∷ log) d
+      moves_done s = record {
+        fixed = s.fixed;
+        places = s.places;
+        stands = λ f leaves. record {
+          repository = after begun.repository (all_of (steps_of command begun.repository));
+          reached = (begun.repository, begun.reached, (all_of (steps_of command begun.repository), refl, refl));
+          sound = keeps_sound begun.repository true (all_of (steps_of command begun.repository)) begun.sound refl;
+          stands = s.stands f leaves;
+        };
+      }
+
+-- stanza-create
+one_part : (t : Step) (done : List Step) → IsPartOf done (One t ∷ []) → (done ≡ []) ⊎ (done ≡ t ∷ [])
+one_part t done p = ⊎_elim inl (λ (q : (rest : List Step) × (done ≡ t ∷ rest) × (rest ≡ [])). inr (q.1 ∙ ap (λ x. t ∷ x) q.2)) p
+
+no_step : (r : Repository) (done : List Step) → IsSound r → done ≡ [] → IsSound (after r done)
+no_step r done sound none = subst (λ d. IsSound (after r d)) (sym none) sound
+
+new_is_sound : (c : Cluster) → c.id ≡ 1 → IsSoundStanza (new_stanza c)
+new_is_sound c first = record {
+  some = omega arith;
+  numbers = (first, tt);
+  neighbours = tt;
+  ids = λ a at. absurd at;
+  apart = tt;
+  backups = tt;
+}
+
+created : (c : Cluster) (done : List Step) → c.id ≡ 1 → done ≡ Create c ∷ [] → IsSound (after None done)
+created c done first is = subst (λ d. IsSound (after None d)) (sym is) (new_is_sound c first)
+
+pub create_sound : (cluster : Option Cluster) → IfSome cluster (λ c. c.id ≡ 1) → KeepsSound (StanzaCreate cluster)
+create_sound None first r true done sound is = no_step r done sound is
+create_sound None first r false done sound is = no_step r done sound is
+create_sound (Some c) first None true done sound is = created c done first is
+create_sound (Some c) first None false done sound is = ⊎_elim (no_step None done sound) (created c done first) (one_part (Create c) done is)
+create_sound (Some c) first (Some s) true done sound is = no_step (Some s) done sound is
+create_sound (Some c) first (Some s) false done sound is = no_step (Some s) done sound is
+
+pub create_part : (stanza : Text) (c : Cluster) (r : Repository) (g : Content) → Stands stanza g r ⊎ Stands stanza g (step r (Create c)) → IsPart stanza (StanzaCreate (Some c)) r g
+create_part stanza c None g p = ⊎_elim (λ s. ([], inl refl, s)) (λ s. (Create c ∷ [], inr ([], refl, refl), s)) p
+create_part stanza c (Some s) g p = ⊎_elim (λ h. ([], refl, h)) (λ h. ([], refl, h)) p
+
+pub create_whole : (stanza : Text) (c : Cluster) (r : Repository) (d : View) → IsSteady stanza (step r (Create c)) d → IsSteady stanza (after r (all_of (steps_of (StanzaCreate (Some c)) r))) d
+create_whole stanza c None d s = s
+create_whole stanza c (Some s) d h = h
+
+-- ---- the spool
+
+-- stanza-create stores no file, and takes none away
+in_a_stanza : (cluster : Option Cluster) (s : Stanza) (whole : Bool) → IsDone whole [] (steps_of (StanzaCreate cluster) (Some s))
+in_a_stanza None s true = refl
+in_a_stanza None s false = refl
+in_a_stanza (Some c) s true = refl
+in_a_stanza (Some c) s false = refl
+
+still_drained : (cluster : Option Cluster) (whole : Bool) (q : Repository) (log : List Done) (name : ArchiveName) (sum : Text) (r : Repository) → Reaches q log r → IsDrained r name sum →
+    (x : Repository) × Reaches q (record { command = StanzaCreate cluster; acknowledged = whole } ∷ log) x × IsDrained x name sum
+still_drained cluster whole q log name sum None reached drained = absurd drained
+still_drained cluster whole q log name sum (Some s) reached drained = (Some s, (Some s, reached, ([], refl, in_a_stanza cluster s whole)), drained)
+
+pub create_spool : (stanza : Text) (cluster : Option Cluster) (whole : Bool) (q : Repository) (log : List Done) (v : View) → KeepsSpool stanza q log v → KeepsSpool stanza q (record { command = StanzaCreate cluster; acknowledged = whole } ∷ log) v
+create_spool stanza cluster whole q log v keeps = record {
+  fixed = keeps.fixed;
+  receipts = λ f leaves name sum fits receipt. let x = keeps.receipts f leaves name sum fits receipt in still_drained cluster whole q log name sum x.0 x.1 x.2;
+}

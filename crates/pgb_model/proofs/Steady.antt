@@ -1,0 +1,135 @@
+-- Commands on a disk that stands for one repository.
+use Rattle.std.proofs.Common.{◌≡◌, ◌⊎◌, ⊎_elim, inl, inr, ℕ, ◌≤◌, List, [], ◌∷◌, Option, Some, None, refl, ap, ◌∙◌, sym, subst, arith, false}
+use Rattle.std.specs.Prelude.{IsSome}
+use Rattle.pgb_outside.specs.Content.{Content}
+use Rattle.pgb_outside.specs.Moments.{View, IsImage, Rests, is_loose}
+use Rattle.pgb_outside.specs.Crash.{Leaves, Crash, Ends, FirstOf, AllOf}
+use Rattle.pgb_model.specs.declared.clusters.Cluster.{Cluster}
+use Rattle.pgb_model.specs.Names.{backup_info, copy_of}
+use Rattle.pgb_model.specs.Pair.{PairIs, MemberIs, PairAbsent}
+use Rattle.pgb_model.specs.Text.{Text, In}
+use Rattle.pgb_model.specs.Values.{Entry, BackupInfo}
+use Rattle.pgb_model.specs.InfoFiles.{IsArchiveText, IsBackupText}
+use Rattle.pgb_model.specs.Repository.{Repository}
+use Rattle.pgb_model.specs.Stands.{Stands, IsVacant, HasStanza, backup_value}
+use Rattle.pgb_model.specs.Steps.{new_stanza}
+use Rattle.pgb_model.specs.Create.{pair_writes, first_archive, first_backup, first_archive_text, first_backup_text}
+use Rattle.pgb_model.specs.Log.{IsFixed, IsPlaceOf}
+use Rattle.pgb_model.specs.Steady.{IsSteady, Moves}
+use Rattle.pgb_model.proofs.Marked.{mark, one_mark}
+use Rattle.pgb_model.proofs.Temporary.{fixed_lasts}
+use Rattle.pgb_model.proofs.Begun.{old_leaves, still_tight}
+use Rattle.pgb_model.proofs.Created.{created_part, created_whole}
+
+-- calls that only read leave it so
+pub steady_rests : (stanza : Text) (r : Repository) (a b : View) → Rests a b → b.now ≡ a.now → IsSteady stanza r a → IsSteady stanza r b
+steady_rests stanza r a b rests same s = record {
+  fixed = λ n h. still_tight a b rests n (s.fixed n h);
+  places = λ f leaves n h. still_tight a b rests n (s.places f (old_leaves a b rests f same leaves) n h);
+  stands = λ f leaves. s.stands f (old_leaves a b rests f same leaves);
+}
+
+-- what was said of reading calls, as a command's way
+pub rests_moves : (stanza : Text) (r : Repository) (P : Content → Type 0) (a b : View) → Rests a b → b.now ≡ a.now → IsSteady stanza r a → IsSome a.now → ((g : Content) → Stands stanza g r → P g) → Moves stanza P a b
+rests_moves stanza r P a b rests same s told part = record {
+  later = rests.later;
+  past = rests.same;
+  past_loose = rests.same_loose;
+  told = subst (λ (o : Option Content). IsSome o) (sym same) told;
+  fixed = (steady_rests stanza r a b rests same s).fixed;
+  places = (steady_rests stanza r a b rests same s).places;
+  leaves = λ t g lo hi leaves. part g (⊎_elim
+      (λ (now : b.now ≡ Some g). s.stands g (inl (sym same ∙ now)))
+      (λ image. s.stands g (inr (λ n. ⊎_elim
+      (λ k. ⊎_elim (λ o. inl o) (λ x. absurd x) (rests.grows t n (g n) lo hi k))
+      (λ l. ⊎_elim (λ o. inr (o, l.1)) (λ x. absurd x) (rests.loosens t n lo hi l.0)) (image n)))) leaves);
+}
+
+-- reading calls before a command's way are part of it
+module _ (stanza : Text) (r : Repository) (P : Content → Type 0) (a b d : View) (rests : Rests a b) (steady : IsSteady stanza r a) (part : (g : Content) → Stands stanza g r → P g) (moves : Moves stanza P b d) where
+  -- an image of the time before is one of old
+  first_image : (t : ℕ) (g : Content) → a.moment ≤ t → t ≤ b.moment → IsImage d t g → IsImage a a.moment g
+  first_image t g lo hi image n = ⊎_elim
+      (λ k. ⊎_elim (λ o. inl o) (λ x. absurd x) (rests.grows t n (g n) lo hi (moves.past t n (g n) hi k)))
+      (λ l. ⊎_elim (λ o. inr (o, l.1)) (λ x. absurd x) (rests.loosens t n lo hi (sym (moves.past_loose t n hi) ∙ l.0))) (image n)
+
+  either : (t s : ℕ) → (t ≤ s) ⊎ (s ≤ t)
+  either t s = grind arith
+
+  pub front_moves : Moves stanza P a d
+  front_moves = record {
+    later = omega (arith, rests.later, moves.later);
+    past = λ t n v le k. rests.same t n v le (moves.past t n v (omega (arith, le, rests.later)) k);
+    past_loose = λ t n le. moves.past_loose t n (omega (arith, le, rests.later)) ∙ rests.same_loose t n le;
+    told = moves.told;
+    fixed = moves.fixed;
+    places = moves.places;
+    leaves = λ t g lo hi leaves. ⊎_elim (λ now. moves.leaves d.moment g moves.later (omega arith) (inl now))
+        (λ image. ⊎_elim (λ (le : t ≤ b.moment). part g (steady.stands g (inr (first_image t g lo le image)))) (λ (ge : b.moment ≤ t). moves.leaves t g ge hi (inr image)) (either t b.moment)) leaves;
+  }
+
+one_member : (f : Content) (name : Text) (v w : BackupInfo) → MemberIs IsBackupText f name v → MemberIs IsBackupText f name w → mark v.backups ≡ mark w.backups
+one_member f name v w m n =
+    let e : ◌≡◌ {A = Option Text} (Some m.0) (Some n.0) = sym m.1 ∙ n.1 in
+    let d : m.0 ≡ n.0 = cc in one_mark v w n.0 (subst (λ (b : Text). IsBackupText v b) d m.2) n.2
+
+one_value : (f : Content) (name : Text) (v w : BackupInfo) → PairIs IsBackupText f name v → PairIs IsBackupText f name w → mark v.backups ≡ mark w.backups
+one_value f name v w (inl m) (inl n) = one_member f name v w m n
+one_value f name v w (inl m) (inr n) = absurd (n.0 v m)
+one_value f name v w (inr m) (inl n) = absurd (m.0 w n)
+one_value f name v w (inr m) (inr n) = one_member f (copy_of name) v w m.1 n.1
+
+absent_pair : (f : Content) (name : Text) (v : BackupInfo) → PairAbsent f name → PairIs IsBackupText f name v → ⊥
+absent_pair f name v p (inl m) = let e : ◌≡◌ {A = Option Text} None (Some m.0) = sym p.0 ∙ m.1 in cc
+absent_pair f name v p (inr m) = let e : ◌≡◌ {A = Option Text} None (Some m.1.0) = sym p.1 ∙ m.1.1 in cc
+
+none_in : (e : Entry) (es : List Entry) → mark es ≡ 100 → In e es → ⊥
+none_in e [] h at = at
+none_in e (x ∷ es) h at = let k : ◌≡◌ {A = ℕ} 98 100 = h in absurd (omega arith)
+
+mark_none : (es : List Entry) → es ≡ [] → mark es ≡ 100
+mark_none es e = ap mark e
+
+-- neither of a new stanza's two repositories lists a backup
+no_place_vacant : (stanza : Text) (f : Content) (n : Text) → IsVacant stanza f → IsPlaceOf stanza f n → ⊥
+no_place_vacant stanza f n v p = ⊎_elim
+    (λ (a : PairAbsent f (backup_info stanza)). absent_pair f (backup_info stanza) p.listed.0 a p.listed.1)
+    (λ (x : (v : BackupInfo) × PairIs IsBackupText f (backup_info stanza) v × (v.backups ≡ [])).
+    none_in p.listed.2.0 p.listed.0.backups (one_value f (backup_info stanza) p.listed.0 x.0 p.listed.1 x.1 ∙ mark_none x.0.backups x.2) p.listed.2.1) v.backup_pair
+
+no_entries : (c : Cluster) (pending : Option Cluster) → mark (backup_value (new_stanza c) pending).backups ≡ 100
+no_entries c None = refl
+no_entries c (Some d) = refl
+
+no_place_new : (stanza : Text) (f : Content) (n : Text) (c : Cluster) → HasStanza stanza f (new_stanza c) → IsPlaceOf stanza f n → ⊥
+no_place_new stanza f n c h p = none_in p.listed.2.0 p.listed.0.backups
+    (one_value f (backup_info stanza) p.listed.0 (backup_value (new_stanza c) h.pending) p.listed.1 h.backup_pair ∙ no_entries c h.pending) p.listed.2.1
+
+module _ (stanza : Text) (c : Cluster) (archive_is : IsArchiveText (first_archive c) (first_archive_text c)) (backup_is : IsBackupText (first_backup c) (first_backup_text c)) (a d : View) (steady : IsSteady stanza None a) (told : IsSome a.now)
+    (crash : Crash (FirstOf (pair_writes stanza c)) a d) where
+  part : (t : ℕ) (g : Content) → a.moment ≤ t → t ≤ d.moment → Leaves d t g → Stands stanza g None ⊎ Stands stanza g (Some (new_stanza c))
+  part t g lo hi leaves = let x = crash.comes told t g lo hi leaves in created_part stanza c archive_is backup_is x.0 (steady.stands x.0 x.1) g x.2
+
+  tight_fixed : (n : Text) → IsFixed stanza n → is_loose d n ≡ false
+  tight_fixed n h = crash.tight d.moment n crash.later (omega arith) (fixed_lasts stanza n h) (steady.fixed n h)
+
+  pub created_moves : Moves stanza (λ g. Stands stanza g None ⊎ Stands stanza g (Some (new_stanza c))) a d
+  created_moves = record {
+    later = crash.later;
+    past = crash.past;
+    past_loose = crash.past_loose;
+    told = crash.told told;
+    fixed = tight_fixed;
+    places = λ f leaves n h. absurd (⊎_elim (λ v. no_place_vacant stanza f n v h) (λ s. no_place_new stanza f n c s h) (part d.moment f crash.later (omega arith) leaves));
+    leaves = part;
+  }
+
+  pub created_steady : Ends (AllOf (pair_writes stanza c)) a d → IsSteady stanza (Some (new_stanza c)) d
+  created_steady ends = record {
+    fixed = tight_fixed;
+    places = λ f leaves n h. absurd (no_place_new stanza f n c (whole f leaves) h);
+    stands = whole;
+  }
+    where
+      whole : (f : Content) → Leaves d d.moment f → Stands stanza f (Some (new_stanza c))
+      whole f leaves = let x = ends.comes told f leaves in created_whole stanza c archive_is backup_is x.0 (steady.stands x.0 x.1) f x.2
