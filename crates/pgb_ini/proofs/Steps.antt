@@ -17,9 +17,8 @@ use Rattle.pgb_text.specs.Sum.{IsSum}
 use Rattle.pgb_outside.specs.Order.{is_before, are_after}
 use Rattle.pgb_model.specs.InfoText.{Section, head_name, is_key, is_name, has_keys, IsKey, IsSection, IsInfo}
 use Rattle.pgb_model.specs.Json.{IsOneLine, IsValue}
-use Rattle.pgb_ini.specs.Reading.{value_of}
 use Rattle.pgb_ini.specs.Form.{syntax}
-use Rattle.pgb_ini.specs.Reading.{cut_at, name_in, sum_in, State, start, format, gap, between, within, check, closing, over, last_name, last_key, opened, closed, more, step, run}
+use Rattle.pgb_ini.specs.Reading.{value_of, cut_at, name_in, sum_in, State, start, format, gap, between, within, check, closing, over, last_name, last_key, opened, closed, more, step, run}
 use Rattle.pgb_ini.proofs.Orders.{end_of, are_after_push}
 use Rattle.pgb_ini.proofs.Pieces.{name_piece, key_piece, sum_piece, name_in-is, sum_in-is, cut_at-is}
 use Rattle.pgb_ini.proofs.ReadValues.{value_of-is, value_of-same}

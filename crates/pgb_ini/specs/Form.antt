@@ -24,10 +24,18 @@ pub record CanBegin (ps : List (List ℕ)) : Type 0 where
   pub rest : List (List ℕ)
   pub begins : pieces text ≡ ps ++ rest
 
--- The line before which all is well, and with which no text of the form begins; or the last line, where the text ends too soon.
+-- with this line no text of the form goes on
+abbrev pub IsRefused : List ℕ → ℕ → Type 0
+IsRefused bytes line = CanBegin (take line (pieces bytes)) → ⊥
+
+-- this line is the last, some text of the form goes on behind it, and the bytes are none themselves
+abbrev pub EndsTooSoon : List ℕ → ℕ → Type 0
+EndsTooSoon bytes line = (line ≡ length (pieces bytes)) × CanBegin (pieces bytes) × (HasForm bytes → ⊥)
+
+-- The first line at which the bytes lose the form: all is well before it.
 pub record IsFirstFault (bytes : List ℕ) (line : ℕ) : Type 0 where
   pub before : CanBegin (take (line - 1) (pieces bytes))
-  pub here : (CanBegin (take line (pieces bytes)) → ⊥) ⊎ ((line ≡ length (pieces bytes)) × CanBegin (pieces bytes) × (HasForm bytes → ⊥))
+  pub here : IsRefused bytes line ⊎ EndsTooSoon bytes line
 
 -- the text has the form, and tells a sum that isn't its own
 pub record IsWrongSum (bytes told found : List ℕ) : Type 0 where
@@ -43,6 +51,7 @@ pub data Fault : Type 0 where
   syntax : (line : ℕ) → Fault
   sum : (told found : List ℕ) → Fault
 
+-- the fault is that of these bytes
 abbrev pub IsFault : List ℕ → Fault → Type 0
 IsFault bytes (syntax line) = IsFirstFault bytes line
 IsFault bytes (sum told found) = IsWrongSum bytes told found

@@ -14,8 +14,8 @@ use pgb_text::NoMemory;
 use serde_json::Value;
 use std::alloc::Global;
 
-fn last_name(parts: &Vec<Part>) -> &[u8]
-    ensures { result.now ≡ last_name (sections_of parts.now.items) }
+fn last_name(parts: &[Part]) -> &[u8]
+    ensures { result.now ≡ last_name (sections_of parts.now) }
 {
     match parts.last() {
         Some(part) => part.name.as_bytes(),
@@ -23,8 +23,8 @@ fn last_name(parts: &Vec<Part>) -> &[u8]
     }
 }
 
-fn last_key(keys: &Vec<(String, Value)>) -> &[u8]
-    ensures { result.now ≡ last_key (map key_of keys.now.items) }
+fn last_key(keys: &[(String, Value)]) -> &[u8]
+    ensures { result.now ≡ last_key (map key_of keys.now) }
 {
     match keys.last() {
         Some(key) => key.0.as_bytes(),

@@ -24,8 +24,8 @@ fn has_float(value: &Value) -> bool
 }
 
 #[cycle(floats)]
-fn items_have_float(items: &Vec<Value>) -> bool
-    ensures { result ≡ items_have_float (items_view items.now.items) }
+fn items_have_float(items: &[Value]) -> bool
+    ensures { result ≡ items_have_float (items_view items.now) }
 {
     for item in items {
         if has_float(item) {
