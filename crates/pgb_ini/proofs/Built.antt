@@ -1,5 +1,5 @@
 -- A value that is built of 64-bit integers, UTF-8 and keys in order is what its own text reads as.
-use Rattle.std.proofs.Common.{◌≡◌, ℕ, zero, suc, ◌<◌, ◌≤◌, max, ◌||◌, ◌&&◌, ◌==◌, not, ne_eqb, inl, inr, subst, Bool, true, false, List, [], ◌∷◌, ◌++◌, Option, Some, option_map, option_and_then, pos, negsuc, IsUtf8, decimal, refl, sym, ap, ap₂, ◌∙◌, arith, append-nil}
+use Rattle.std.proofs.Common.{◌≡◌, ℕ, zero, suc, ◌<◌, ◌≤◌, max, ◌||◌, ◌&&◌, ne_eqb, inl, inr, subst, Bool, true, false, List, [], ◌∷◌, ◌++◌, Option, Some, option_map, option_and_then, pos, negsuc, IsUtf8, decimal, refl, sym, ap, ap₂, ◌∙◌, arith, append-nil}
 use Rattle.std.proofs.lemmas.Str.{IsUtf8-append, IsUtf8-from_ascii}
 use Rattle.std.proofs.lemmas.Fmt.{IsAscii-decimal, IsAscii-signed}
 use Rattle.json.specs.Json as json
@@ -8,7 +8,6 @@ use Rattle.json.specs.Token.{Token}
 use Rattle.json.specs.Print.{quoted, escape, escape_byte}
 use Rattle.json.proofs.Printed.Strings.{escape_byte_plain}
 use Rattle.std.proofs.lemmas.Bool.{and_parts, cases_eq, cases_lt}
-use Rattle.std.proofs.lemmas.List.Elements.{All-nil, All-cons, All-append}
 use Rattle.std.specs.Str.Parse.{AllDigits}
 use Rattle.std.proofs.lemmas.Str.Parse.{digit_from_value}
 use Rattle.std.proofs.lemmas.Fmt.{decimal_is_IsNumeral}
@@ -23,6 +22,7 @@ use Rattle.serde_json.specs.Written.{number_text, compact_text, items_text, memb
 use Rattle.serde_json.proofs.Numbers.{number_of-decimal, number_of-negative}
 use Rattle.serde_json.proofs.Texts.{print-outline}
 use Rattle.pgb_model.specs.Json.{IsOneLine, IsValue}
+use Rattle.pgb_ini.proofs.OneLine.{line_nil, line_then, line_append, no_break, line_by}
 use Rattle.pgb_ini.specs.Built.{IsBuiltNum, IsAfterAll, AreAfter, IsBuilt, AreBuilt, MembersAreBuilt}
 
 -- ---- numbers
@@ -181,30 +181,6 @@ mutual
       IsUtf8-append _ _ (comma_utf8 later) (IsUtf8-append _ _ (IsUtf8-quoted k h.0) (byte_then 58 _ (IsUtf8-are_ascii (58 ∷ []) refl) (IsUtf8-append _ _ (is_text d h.1) (members_text_utf8 true ms h.3))))
 
 -- ---- no newline
-
-abbrev other : ℕ → Type 0
-other b = (b == 10) ≡ false
-
-line_nil : IsOneLine []
-line_nil = All-nil other
-
-line_then : (b : ℕ) (xs : List ℕ) → (b == 10) ≡ false → IsOneLine xs → IsOneLine (b ∷ xs)
-line_then b xs h g = All-cons other b xs h g
-
-line_append : (xs ys : List ℕ) → IsOneLine xs → IsOneLine ys → IsOneLine (xs ++ ys)
-line_append xs ys h g = All-append other xs ys h g
-
-abbrev no_break : List ℕ → Bool
-no_break [] = true
-no_break (b ∷ bs) = not (b == 10) && no_break bs
-
-not_true : (b : Bool) → not b ≡ true → b ≡ false
-not_true true h = cc h
-not_true false h = refl
-
-line_by : (xs : List ℕ) → no_break xs ≡ true → IsOneLine xs
-line_by [] h = line_nil
-line_by (x ∷ xs) h = let p = and_parts (not (x == 10)) (no_break xs) h in line_then x xs (not_true (x == 10) p.0) (line_by xs p.1)
 
 -- the escapes of the bytes below n
 abbrev breaks_below : ℕ → Bool

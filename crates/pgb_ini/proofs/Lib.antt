@@ -1,6 +1,17 @@
 pub mod Heads
 pub mod Rules
+pub mod OneLine
 pub mod Built
 pub mod Keys
 pub mod Sizes
+pub mod Orders
 pub mod Objects
+pub mod ReadValues
+pub mod Pieces
+pub mod Steps
+pub mod Runs
+pub mod Splits
+pub mod Laws
+pub mod Faults
+pub mod FirstPiece
+pub mod Ends

@@ -1,12 +1,12 @@
 -- An object of built values is built, where its keys stand in order.
-use Rattle.std.proofs.Common.{◌≡◌, ◌&&◌, ℕ, Bool, true, false, List, Ordering, Less, Equal, Greater, nat_cmp, ap, ◌∙◌}
-use Rattle.std.specs.Cmp.Lexicographic.{slice_cmp}
-use Rattle.std.specs.Ordering.{match_ordering, ordering_reverse}
+use Rattle.std.proofs.Common.{◌≡◌, ◌&&◌, ℕ, Bool, true, false, List, ap, ◌∙◌}
+use Rattle.std.specs.Ordering.{ordering_reverse}
 use Rattle.std.proofs.lemmas.Bool.{and_parts}
 use Rattle.std.proofs.lemmas.Cmp.{nat_list_cmp_total}
 use Rattle.json.proofs.Printed.Utf8.{are_ascii, IsUtf8-are_ascii}
 use Rattle.serde_json.specs.Data.{Data, null, boolean, number, string, array, object, Members, no_members, member}
 use Rattle.pgb_outside.specs.Order.{is_before}
+use Rattle.pgb_ini.proofs.Orders.{less_from}
 use Rattle.pgb_ini.specs.Built.{IsBuilt, AreAfter, MembersAreBuilt}
 
 abbrev pub comes_first : List ℕ → Members → Bool
@@ -30,16 +30,11 @@ abbrev pub HasBuilt : Data → Type 0
 HasBuilt (object ms) = ValuesAreBuilt ms
 HasBuilt d = ⊥
 
-is_less : (o : Ordering) → match_ordering o true false false ≡ true → o ≡ Less
-is_less Less h = cc
-is_less Equal h = cc h
-is_less Greater h = cc h
-
 after_one : (k : List ℕ) (d : Data) (ms : Members) → comes_first k ms ≡ true → AreAfter (member k d no_members) ms
 after_one k d no_members h = tt
 after_one k d (member l e ms) h =
     let p = and_parts (is_before k l) (comes_first k ms) h in
-    ((nat_list_cmp_total.antisymm l k ∙ ap ordering_reverse (is_less (slice_cmp nat_cmp k l) p.0), tt), after_one k d ms p.1)
+    ((nat_list_cmp_total.antisymm l k ∙ ap ordering_reverse (less_from k l p.0), tt), after_one k d ms p.1)
 
 members_built : (ms : Members) → members_in_order ms ≡ true → ValuesAreBuilt ms → MembersAreBuilt ms
 members_built no_members h g = tt

@@ -1,2 +1,6 @@
 pub mod Parts
 pub mod Built
+pub mod Form
+pub mod Answers
+pub mod Reading
+pub mod States

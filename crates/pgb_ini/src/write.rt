@@ -115,6 +115,18 @@ const HEAD_JSON: &[u8; 33] = b"{\"backrest\":{\"backrest-format\":5}";
 
 const LAST: &[u8; 30] = b"[backrest]\nbackrest-checksum=\"";
 
+// What the checksum is taken of.
+pub(crate) fn signed(alloc: Global, parts: &[Part]) -> Result<Vec<u8>, AllocError>
+    requires { AllByRecursion (λ p. NoFloats p.keys.items) parts.now }
+    ensures { IfOk result (λ json. json.items ≡ signed_text (sections_of parts.now)) }
+{
+    // The same walk writes the text, which is not wanted here.
+    let mut aside = Vec::new(alloc);
+    let mut json = Vec::from_slice(alloc, HEAD_JSON.as_slice())?;
+    add_sections(alloc, parts, &mut aside, &mut json)?;
+    Ok(json)
+}
+
 /// The text of the sections, which is the only one that they have.
 pub fn write_info_text(alloc: Global, parts: &[Part]) -> Result<Vec<u8>, NoMemory>
     requires { IsInfo (sections_of parts.now) }

@@ -1,0 +1,66 @@
+//! The parts of a line.
+
+ghost use Rattle.std.specs.Prelude.{◌≡◌, ◌==◌, option_map, position, if◌then◌else◌};
+ghost use Rattle.std.specs.Str.{is_utf8};
+ghost use Rattle.pgb_ini.specs.Reading.{cut_at, name_in, sum_in};
+
+use pgb_text::Sum;
+
+fn place_of(at: u8, bytes: &[u8]) -> Option<usize>
+    ensures { result ≡ position (λ b. b == at) bytes.now }
+{
+    bytes.iter().position(|b| *b == at)
+}
+
+// What stands before the first such byte, and after it.
+pub(crate) fn cut_at(at: u8, bytes: &[u8]) -> Option<(&[u8], &[u8])>
+    ensures { option_map (λ p. (p.0.now, p.1.now)) result ≡ cut_at at bytes.now }
+{
+    match place_of(at, bytes) {
+        Some(place) => {
+            let (front, rest) = bytes.split_at(place);
+            Some((front, &rest[1..]))
+        }
+        None => None,
+    }
+}
+
+// The name of `[name]`.
+pub(crate) fn name_in(piece: &[u8]) -> Option<&[u8]>
+    ensures { option_map (λ n. n.now) result ≡ name_in piece.now }
+{
+    let len = piece.len();
+    if len > 1 && piece[0] == b'[' && piece[len - 1] == b']' {
+        Some(&piece[1..len - 1])
+    } else {
+        None
+    }
+}
+
+const CHECK: &[u8; 19] = b"backrest-checksum=\"";
+
+// The sum of the last line.
+pub(crate) fn sum_in(piece: &[u8]) -> Option<Sum>
+    ensures { option_map (λ s. s.0) result ≡ sum_in piece.now }
+{
+    if piece.len() != 60 {
+        return None;
+    }
+    if &piece[..19] != CHECK.as_slice() {
+        return None;
+    }
+    if piece[59] != b'"' {
+        return None;
+    }
+    Sum::read(&piece[19..59])
+}
+
+// The bytes as a text, where they are UTF-8.
+pub(crate) fn text_of(bytes: &[u8]) -> Option<&str>
+    ensures { option_map (λ t. t.now) result ≡ (if is_utf8 bytes.now then Some bytes.now else None) }
+{
+    match str::from_utf8(bytes) {
+        Ok(text) => Some(text),
+        Err(_) => None,
+    }
+}
