@@ -4,11 +4,11 @@ use Rattle.std.specs.Prelude.{IfSome, IsSomeAnd, IsErrAnd, decimal}
 use Rattle.std.proofs.lemmas.List.{take-take, drop-take, take_all, length-take}
 use Rattle.std.proofs.lemmas.Fmt.{length-decimal-le}
 use Rattle.pgb_outside.specs.Tree.{Nodes}
-use Rattle.pgb_model.specs.Text.{Text}
+use Rattle.pgb_model.specs.Text.{Text, little_endian}
 use Rattle.pgb_stanza.specs.declared.control.Control.{Control}
 use Rattle.pgb_stanza.specs.declared.control.ControlFault.{ControlFault}
 use Rattle.pgb_stanza.specs.declared.control.ControlFault.TheVariants.{ControlShort, VersionText, VersionUnsupported}
-use Rattle.pgb_stanza.specs.ControlFile.{Tells, IsRefused, IsVersionText, little_endian}
+use Rattle.pgb_stanza.specs.ControlFile.{Tells, IsRefused, IsVersionText}
 use Rattle.pgb_command.specs.declared.fault.Fault.{Fault}
 use Rattle.pgb_command.specs.Faults.{of_control}
 use Rattle.pgb_command.specs.Cluster.{control_bytes, version_bytes, OfBoth, FolderTells, ClusterCause}

@@ -4,7 +4,6 @@ pub mod Found
 pub mod ByKey
 pub mod ArchiveRules
 pub mod Dates
-pub mod Hexadecimal
 pub mod PlainTexts
 pub mod EntryRules
 pub mod BackupRules

@@ -9,9 +9,9 @@ ghost use Rattle.pgb_model.specs.Values.{entry_of};
 ghost use Rattle.pgb_info.specs.Entries.{HasLabels};
 
 use crate::labels::label_text;
-use crate::segments::segment_text;
 use pgb_model::{Entry, Kind, Label, Span};
 use pgb_text::NoMemory;
+use pgb_wal::segment_text;
 use serde_json::{Map, Value, put};
 use std::alloc::Global;
 

@@ -10,14 +10,12 @@ mod info;
 mod labels;
 mod members;
 mod saving;
-mod segments;
 mod stamps;
 
 pub use fault::InfoFault;
 pub use info::Info;
 pub use labels::label_text;
 pub use saving::save_pair;
-pub use segments::segment_text;
 
 #[cfg(test)]
 mod tests;

@@ -4,8 +4,8 @@ ghost use Rattle.std.specs.Prelude.{◌≡◌, [], ◌∷◌, length, IfOk};
 ghost use Rattle.pgb_model.specs.InfoFiles.{IsArchiveInfo, IsBackupInfo, IsLabel, IsListedEntry};
 ghost use Rattle.pgb_model.specs.Values.{archive_info_of, backup_info_of, entry_of, Entry as SpecEntry};
 
+use crate::label_text;
 use crate::saving::text_of;
-use crate::{label_text, segment_text};
 use pgb_model::{
     ArchiveInfo, BackupInfo, Cluster, ClusterId, Entry, Kind, Label, Later, Segment, Span,
 };
@@ -282,40 +282,6 @@ fn backup_texts(rt: HostRuntime) -> Result<(), Fail> {
     assert_eq!(rt; str::from_utf8(&text).ok(), Some(BACKUP));
     let text = text_of(alloc, &two_backups(alloc)?)?;
     assert_eq!(rt; str::from_utf8(&text).ok(), Some(TWO_BACKUPS));
-    Ok(())
-}
-
-#[test]
-fn segment_names(rt: HostRuntime) -> Result<(), Fail> {
-    let names = [
-        (
-            Segment {
-                timeline: 1,
-                log: 0,
-                seg: 3,
-            },
-            "000000010000000000000003",
-        ),
-        (
-            Segment {
-                timeline: 10,
-                log: 0xABCDEF,
-                seg: 255,
-            },
-            "0000000A00ABCDEF000000FF",
-        ),
-        (
-            Segment {
-                timeline: u32::MAX,
-                log: 0,
-                seg: 0,
-            },
-            "FFFFFFFF0000000000000000",
-        ),
-    ];
-    for (segment, name) in names {
-        assert_eq!(rt; segment_text(rt.alloc(), &segment)?.as_str(), name);
-    }
     Ok(())
 }
 

@@ -1,5 +1,5 @@
 -- Texts and contents, both as lists of bytes, and maps by them.
-use Rattle.std.specs.Prelude.{◌≡◌, ◌⊎◌, ℕ, zero, suc, ◌+◌, ◌-◌, ◌/◌, ◌%◌, ◌==◌, nat_lt, List, [], ◌∷◌, ◌++◌, if◌then◌else◌}
+use Rattle.std.specs.Prelude.{◌≡◌, ◌⊎◌, ℕ, zero, suc, ◌+◌, ◌-◌, ◌*◌, ◌/◌, ◌%◌, ◌==◌, nat_lt, List, [], ◌∷◌, ◌++◌, if◌then◌else◌}
 use Rattle.std.specs.declared.cmp.Ordering.{Ordering}
 use Rattle.std.specs.Ordering.{nat_cmp}
 use Rattle.std.specs.Cmp.Lexicographic.{slice_cmp}
@@ -35,6 +35,11 @@ hex_digit n = if nat_lt n 10 then 48 + n else 65 + (n - 10)
 unfoldable pub hex_upper : ℕ → ℕ → Text
 hex_upper zero v = []
 hex_upper (suc n) v = hex_upper n (v / 16) ++ hex_digit (v % 16) ∷ []
+
+-- the number of these bytes, the lowest first
+abbrev pub little_endian : Text → ℕ
+little_endian [] = 0
+little_endian (b ∷ bs) = b + 256 * little_endian bs
 
 -- without the zeros in front, but with one digit
 abbrev pub without_zeros : Text → Text

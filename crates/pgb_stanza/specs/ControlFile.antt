@@ -1,15 +1,10 @@
 -- What a data folder's two files tell of its cluster (PostgreSQL manual, "Database File Layout" and "pg_controldata").
-use Rattle.std.specs.Prelude.{◌≡◌, ◌⊎◌, ℕ, ◌+◌, ◌*◌, ◌<◌, ◌≤◌, ◌^◌, [], ◌∷◌, ◌++◌, length, take, drop, decimal}
-use Rattle.pgb_model.specs.Text.{Text}
+use Rattle.std.specs.Prelude.{◌≡◌, ◌⊎◌, ℕ, ◌<◌, ◌≤◌, ◌^◌, [], ◌∷◌, ◌++◌, length, take, drop, decimal}
+use Rattle.pgb_model.specs.Text.{Text, little_endian}
 use Rattle.pgb_model.specs.declared.clusters.Cluster.{Cluster}
 use Rattle.pgb_stanza.specs.declared.control.Control.{Control}
 use Rattle.pgb_stanza.specs.declared.control.ControlFault.{ControlFault}
 use Rattle.pgb_stanza.specs.declared.control.ControlFault.TheVariants.{ControlShort, VersionText, VersionUnsupported}
-
--- the number of these bytes, the lowest first
-abbrev pub little_endian : Text → ℕ
-little_endian [] = 0
-little_endian (b ∷ bs) = b + 256 * little_endian bs
 
 -- a number in decimal and a newline
 abbrev pub IsVersionText : ℕ → Text → Type 0

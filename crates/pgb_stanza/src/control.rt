@@ -25,7 +25,8 @@ pub enum ControlFault {
 }
 
 ghost use Rattle.std.specs.Prelude.{◌≡◌, ◌≤◌, ◌<◌, ◌⊎◌, ◌^◌, ℕ, IfOk, IfErr, length, take, drop, MatchResult};
-ghost use Rattle.pgb_stanza.specs.ControlFile.{little_endian, IsVersionText, Tells, IsVersionRefused, IsRefused};
+ghost use Rattle.pgb_model.specs.Text.{little_endian};
+ghost use Rattle.pgb_stanza.specs.ControlFile.{IsVersionText, Tells, IsVersionRefused, IsRefused};
 
 // The number of eight bytes, the lowest first.
 fn read_u64(bytes: [u8; 8]) -> u64

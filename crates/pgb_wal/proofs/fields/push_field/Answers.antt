@@ -1,7 +1,7 @@
 use Rattle.std.proofs.Common.{◌++◌, ap, ◌∙◌, string_bytes}
 use Rattle.hex.specs.Hex.{encode_upper}
-use Rattle.pgb_info.proofs.Hexadecimal.{encode_upper-word}
-use Rattle.pgb_info.proofs.segments.push_field.Goals as goal
+use Rattle.pgb_wal.proofs.Hexadecimal.{encode_upper-word}
+use Rattle.pgb_wal.proofs.fields.push_field.Goals as goal
 
 pub returns : goal.returns
 returns c =

@@ -1,0 +1,42 @@
+-- What the long header of a segment's first page tells (PostgreSQL manual, "WAL Internals"; the bytes: PostgreSQL's `xlog_internal.h`).
+use Rattle.std.specs.Prelude.{◌≡◌, ◌≢◌, ℕ, ◌≤◌, nat_lt, length, take, drop, if◌then◌else◌}
+use Rattle.std.specs.Int.{IsBitSet}
+use Rattle.pgb_model.specs.Text.{Text, little_endian}
+use Rattle.pgb_model.specs.ManifestText.{IsSegSize}
+use Rattle.pgb_wal.specs.declared.header.HeaderFault.{HeaderFault}
+use Rattle.pgb_wal.specs.declared.header.HeaderFault.TheVariants.{Form, Size, System}
+
+-- the number of so many bytes from a place on
+abbrev pub number_at : ℕ → ℕ → Text → ℕ
+number_at place count bytes = little_endian (take count (drop place bytes))
+
+-- the page's flags, and none where the bytes end before
+abbrev pub page_info : Text → ℕ
+page_info bytes = if nat_lt (length bytes) 4 then 0 else number_at 2 2 bytes
+
+abbrev pub told_system : Text → ℕ
+told_system = number_at 24 8
+
+abbrev pub told_size : Text → ℕ
+told_size = number_at 32 4
+
+-- the page begins with a long header, whose flag is 0x0002
+abbrev pub HasLongHeader : Text → Type 0
+HasLongHeader bytes = (40 ≤ length bytes) × IsBitSet (page_info bytes) 1
+
+-- the told size is a segment's, and that of these bytes
+abbrev pub HasToldSize : Text → Type 0
+HasToldSize bytes = IsSegSize (told_size bytes) × (told_size bytes ≡ length bytes)
+
+-- the bytes are a segment of this size, of the cluster with this system identifier
+pub record IsOfSystem (bytes : Text) (system size : ℕ) : Type 0 where
+  pub long : HasLongHeader bytes
+  pub whole : HasToldSize bytes
+  pub told : size ≡ told_size bytes
+  pub same : told_system bytes ≡ system
+
+-- why they are none: the form comes first, then the size
+abbrev pub IsRefused : Text → ℕ → HeaderFault → Type 0
+IsRefused bytes system (Form found info) = (found ≡ length bytes) × (info ≡ page_info bytes) × ¬ HasLongHeader bytes
+IsRefused bytes system (Size told found) = HasLongHeader bytes × (told ≡ told_size bytes) × (found ≡ length bytes) × ¬ HasToldSize bytes
+IsRefused bytes system (System kept found) = HasLongHeader bytes × HasToldSize bytes × (kept ≡ system) × (found ≡ told_system bytes) × (found ≢ kept)

@@ -1,0 +1,94 @@
+// The long header of a segment's first page (PostgreSQL manual, "WAL Internals").
+use crate::sizes::read_seg_size;
+use pgb_model::SegSize;
+use thiserror::Error;
+
+/// Why bytes aren't a segment of a cluster.
+#[derive(Clone, Copy, Debug, PartialEq, Eq, Error)]
+pub enum HeaderFault {
+    /// There are fewer than 40 bytes, or no flag of a long header; with fewer than 4 bytes, `info` is 0.
+    #[error("WAL header is not valid")]
+    Form { length: u64, info: u16 },
+    /// The told size is no segment's, or not the number of bytes.
+    #[error("segment size {told}, found {found} bytes")]
+    Size { told: u32, found: u64 },
+    /// The system identifier isn't the one that was asked for.
+    #[error("stanza has system {kept}, WAL has system {found}")]
+    System { kept: u64, found: u64 },
+}
+
+ghost use Rattle.std.specs.Prelude.{◌≡◌, ◌+◌, ◌≤◌, length, take, drop, IfOk, IfErr};
+ghost use Rattle.pgb_wal.specs.Header.{number_at, page_info, IsOfSystem, IsRefused};
+
+const LONG_HEADER: u16 = 0x0002;
+
+// The number of two bytes from a place on, the lowest first.
+fn u16_at(bytes: &[u8], place: usize) -> u16
+    requires { place + 2 ≤ length bytes.now }
+    ensures { result ≡ number_at place 2 bytes.now }
+{
+    u16::from_le_bytes([bytes[place], bytes[place + 1]])
+}
+
+fn u32_at(bytes: &[u8], place: usize) -> u32
+    requires { place + 4 ≤ length bytes.now }
+    ensures { result ≡ number_at place 4 bytes.now }
+{
+    u32::from_le_bytes([
+        bytes[place],
+        bytes[place + 1],
+        bytes[place + 2],
+        bytes[place + 3],
+    ])
+}
+
+fn u64_at(bytes: &[u8], place: usize) -> u64
+    requires { place + 8 ≤ length bytes.now }
+    ensures { result ≡ number_at place 8 bytes.now }
+{
+    u64::from_le_bytes([
+        bytes[place],
+        bytes[place + 1],
+        bytes[place + 2],
+        bytes[place + 3],
+        bytes[place + 4],
+        bytes[place + 5],
+        bytes[place + 6],
+        bytes[place + 7],
+    ])
+}
+
+// The page's flags.
+fn page_info(bytes: &[u8]) -> u16
+    ensures { result ≡ page_info bytes.now }
+{
+    if bytes.len() < 4 { 0 } else { u16_at(bytes, 2) }
+}
+
+/// The size of the segment whose bytes these are, of the cluster with this system identifier.
+pub fn check_header(bytes: &[u8], system: u64) -> Result<SegSize, HeaderFault>
+    ensures valid { IfOk result (λ size. IsOfSystem bytes.now system size.0) }
+    ensures refused { IfErr result (IsRefused bytes.now system) }
+{
+    let length = bytes.len() as u64;
+    let info = page_info(bytes);
+    if bytes.len() < 40 || info & LONG_HEADER == 0 {
+        return Err(HeaderFault::Form { length, info });
+    }
+    let told = u32_at(bytes, 32);
+    let size = match read_seg_size(u64::from(told)) {
+        Some(size) if u64::from(told) == length => size,
+        _ => return Err(HeaderFault::Size {
+            told,
+            found: length,
+        }),
+    };
+    let found = u64_at(bytes, 24);
+    if found != system {
+        return Err(HeaderFault::System {
+            kept: system,
+            found,
+        });
+    }
+    Ok(size)
+}
