@@ -13,6 +13,6 @@ pub record IsNext (size : ℕ) (a b : Segment) : Type 0 where
   pub of_log : IsOfLog size b
   pub place : position size b ≡ position size a + 1
 
--- all of a timeline's segments come before the one that would follow
+-- none follows: a timeline has 2^32 logs
 abbrev pub IsLast : ℕ → Segment → Type 0
 IsLast size s = position size s + 1 ≡ 2 ^ 32 * segments_per_log size
