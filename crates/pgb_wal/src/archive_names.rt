@@ -1,6 +1,6 @@
 // The names of the files that a server archives (PostgreSQL manual, "Continuous Archiving and Point-in-Time Recovery").
 ghost use Rattle.std.specs.Prelude.{◌≡◌, ◌≢◌, ℕ, ◌<◌, ◌^◌, ◌∷◌, ◌++◌, codes, IfSome, IfNone, IfOk, string_bytes};
-ghost use Rattle.pgb_model.specs.declared.wal.ArchiveName.{ArchiveName as AName};
+ghost use Rattle.pgb_model.specs.declared.wal.ArchiveName.{ArchiveName};
 ghost use Rattle.pgb_model.specs.Names.{wal_text};
 ghost use Rattle.pgb_model.specs.Stands.{IsWalName};
 ghost use Rattle.pgb_model.specs.Text.{hex_upper};
@@ -43,7 +43,7 @@ fn read_offset(text: &[u8]) -> Option<u32>
 /// The file of which this is the name.
 pub fn read_archive_name(text: &[u8]) -> Option<ArchiveName>
     ensures value { IfSome result (λ name. text.now ≡ wal_text name) }
-    ensures none { IfNone result ((name : AName) → IsWalName name → text.now ≢ wal_text name) }
+    ensures none { IfNone result ((name : ArchiveName) → IsWalName name → text.now ≢ wal_text name) }
 {
     if let Some(timeline) = read_history(text) {
         return Some(ArchiveName::History(timeline));

@@ -1,6 +1,6 @@
 // The order of segments (PostgreSQL manual, "WAL Internals").
 ghost use Rattle.std.specs.Prelude.{◌≡◌, IfSome, IfNone};
-ghost use Rattle.pgb_model.specs.declared.wal.Segment.{Segment as ASegment};
+ghost use Rattle.pgb_model.specs.declared.wal.Segment.{Segment};
 ghost use Rattle.pgb_model.specs.ManifestText.{IsSegSize};
 ghost use Rattle.pgb_model.specs.Names.{segment_text};
 ghost use Rattle.pgb_model.specs.Text.{text_cmp};
@@ -16,7 +16,7 @@ pub fn next(segment: &Segment, size: SegSize) -> Option<Segment>
     requires of_log { IsOfLog size.0 segment.now }
     ensures next { IfSome result (IsNext size.0 segment.now) }
     ensures of_one { IfSome result
-        (λ s. (other : ASegment) → IsOfLog size.0 other → IsNext size.0 other s → other ≡ segment.now) }
+        (λ s. (other : Segment) → IsOfLog size.0 other → IsNext size.0 other s → other ≡ segment.now) }
     ensures none { IfNone result (IsLast size.0 segment.now) }
 {
     let Segment { timeline, log, seg } = *segment;

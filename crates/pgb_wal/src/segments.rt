@@ -1,6 +1,6 @@
 // The names of segments (PostgreSQL manual, "WAL Internals").
 ghost use Rattle.std.specs.Prelude.{◌≡◌, ◌≢◌, List, ℕ, ◌++◌, IfSome, IfNone, IfOk, OnOk, string_bytes};
-ghost use Rattle.pgb_model.specs.declared.wal.Segment.{Segment as ASegment};
+ghost use Rattle.pgb_model.specs.declared.wal.Segment.{Segment};
 ghost use Rattle.pgb_model.specs.InfoFiles.{IsSegment};
 ghost use Rattle.pgb_model.specs.Names.{segment_text, segment_folder};
 
@@ -12,7 +12,7 @@ use std::alloc::Global;
 /// A segment's name in front, and what follows it.
 pub(crate) fn split_segment(text: &[u8]) -> Option<(Segment, &[u8])>
     ensures value { IfSome result (λ p. text.now ≡ segment_text p.0 ++ p.1.now) }
-    ensures none { IfNone result ((s : ASegment) (rest : List ℕ) → text.now ≢ segment_text s ++ rest) }
+    ensures none { IfNone result ((s : Segment) (rest : List ℕ) → text.now ≢ segment_text s ++ rest) }
 {
     let (timeline, rest) = split_field(text)?;
     let (log, rest) = split_field(rest)?;
@@ -23,7 +23,7 @@ pub(crate) fn split_segment(text: &[u8]) -> Option<(Segment, &[u8])>
 /// The segment of which this is the name.
 pub fn read_segment(text: &[u8]) -> Option<Segment>
     ensures value { IfSome result (λ s. text.now ≡ segment_text s) }
-    ensures none { IfNone result ((s : ASegment) → IsSegment s → text.now ≢ segment_text s) }
+    ensures none { IfNone result ((s : Segment) → IsSegment s → text.now ≢ segment_text s) }
 {
     let (segment, rest) = split_segment(text)?;
     if rest.is_empty() { Some(segment) } else { None }
