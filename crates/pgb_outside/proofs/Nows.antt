@@ -2,8 +2,8 @@
 use Rattle.std.specs.Prelude.{◌≡◌, List, ◌++◌, Option, Some, None, IsSome, refl}
 use Rattle.std.proofs.Common.{sym, ◌∙◌, subst}
 use Rattle.pgb_outside.specs.Content.{Content}
-use Rattle.pgb_outside.specs.Crash.{NowGoes, Write, AllOf, FirstOf}
-use Rattle.pgb_outside.proofs.Crashes.{all_all, all_first, first_first, first_none, Step}
+use Rattle.pgb_outside.specs.Crash.{NowGoes, Write, AllOf, FirstOf, SomeOf}
+use Rattle.pgb_outside.proofs.Crashes.{all_all, all_first, first_first, first_none, some_some, untold, Step}
 
 -- a content that is told
 pub told_as : (o : Option Content) → IsSome o → (f : Content) × (o ≡ Some f)
@@ -37,4 +37,25 @@ pub now_none : (ws : List Write) (a b : Option Content) → b ≡ a → NowGoes 
 now_none ws a b same = record {
   told = λ s. subst (λ (o : Option Content). IsSome o) (sym same) s;
   goes = λ f g is is'. subst (λ (h : Content). FirstOf ws f h) (some_is f g a is (sym same ∙ is')) (first_none ws f);
+}
+
+pub now_somes_on : (vs ws : List Write) (a b c : Option Content) → NowGoes (SomeOf vs) a b → NowGoes (SomeOf ws) b c → NowGoes (SomeOf (vs ++ ws)) a c
+now_somes_on vs ws a b c p q = now_on (SomeOf vs) (SomeOf ws) (SomeOf (vs ++ ws)) a b c p q (some_some vs ws)
+
+-- the same, by a wider Step
+pub now_as : (S T : Step) (a b : Option Content) → ((f g : Content) → S f g → T f g) → NowGoes S a b → NowGoes T a b
+now_as S T a b wider p = record { told = p.told; goes = λ f g is is'. wider f g (p.goes f g is is') }
+
+-- the disk holds what it held
+pub now_rests : (S : Step) (a b : Option Content) → ((f : Content) → S f f) → b ≡ a → NowGoes S a b
+now_rests S a b every same = record {
+  told = λ s. subst (λ (o : Option Content). IsSome o) (sym same) s;
+  goes = λ f g is is'. subst (λ (h : Content). S f h) (some_is f g a is (sym same ∙ is')) (every f);
+}
+
+-- what it held isn't told
+pub now_untold : (S : Step) (a b : Option Content) → a ≡ None → NowGoes S a b
+now_untold S a b none = record {
+  told = λ s. absurd (untold a none s);
+  goes = λ f g is is'. absurd (untold a none (subst (λ (o : Option Content). IsSome o) (sym is) refl));
 }

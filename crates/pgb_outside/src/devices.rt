@@ -1,8 +1,8 @@
 // The other objects that are handed in: their calls and counts of faults.
-ghost use Rattle.std.specs.Prelude.{◌≡◌, ◌≤◌, ℕ, IsErrOf};
-ghost use Rattle.pgb_outside.specs.Cause.{HasCause, Rises};
+ghost use Rattle.std.specs.Prelude.{◌≡◌, ℕ};
+ghost use Rattle.pgb_outside.specs.Cause.{HasCause};
 
-use crate::{Disk, Stop};
+use crate::Stop;
 
 /// The configuration file.
 pub trait Source {
@@ -93,29 +93,4 @@ pub trait Locks {
 /// Chooses which of the busy workers is heard next.
 pub trait Turns {
     fn pick(&mut self, count: u64) -> u64;
-}
-
-/// Whose fault ended a turn.
-#[derive(Clone, Copy, Debug, PartialEq, Eq)]
-pub enum TurnStop {
-    Repo,
-    Spool,
-    NoMemory,
-}
-
-/// What other processes do to the repository and the spool while this one waits.
-pub trait Aside<D: Disk, S: Disk> {
-    /// How often it failed.
-    ghost faults: { Self → ℕ };
-
-    fn turn(&mut self, repo: &mut D, spool: &mut S) -> Result<(), TurnStop>
-        ensures repo_later { D.faults repo.old ≤ D.faults repo.new }
-        ensures spool_later { S.faults spool.old ≤ S.faults spool.new }
-        ensures repo { IsErrOf result TurnStop.Repo → Rises (D.faults repo.old) (D.faults repo.new) }
-        ensures spool { IsErrOf result TurnStop.Spool → Rises (S.faults spool.old) (S.faults spool.new) }
-        ensures later { faults self.old ≤ faults self.new };
-
-    /// Starts this program with these words.
-    fn start(&mut self, words: &[String]) -> Result<(), Stop>
-        ensures { HasCause (faults self.old) (faults self.new) result };
 }

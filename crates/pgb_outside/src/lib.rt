@@ -8,7 +8,7 @@ mod sink;
 mod stop;
 mod tree;
 
-pub use devices::{Aside, Clock, Files, Link, Locks, Source, Take, TurnStop, Turns, Wire};
+pub use devices::{Clock, Files, Link, Locks, Source, Take, Turns, Wire};
 pub use disk::{Disk, Found};
 pub use not_there::NotThere;
 pub use sink::Sink;

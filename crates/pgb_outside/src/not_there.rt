@@ -1,7 +1,7 @@
 // An object that isn't there: each call that can fail does, and raises its count.
 ghost use Rattle.std.specs.Prelude.{None, false, []};
 
-use crate::{Aside, Clock, Disk, Files, Found, Link, Locks, Source, Stop, Take, TurnStop, Wire};
+use crate::{Clock, Disk, Files, Found, Link, Locks, Source, Stop, Take, Wire};
 use std::alloc::Global;
 
 /// Stands for an object that no command calls.
@@ -20,7 +20,8 @@ impl NotThere {
         NotThere { faults: 0 }
     }
 
-    fn fail<T>(&mut self) -> Result<T, Stop>
+    /// Fails.
+    pub fn fail<T>(&mut self) -> Result<T, Stop>
         ensures later { self.old.faults ≤ self.new.faults }
         ensures rises { Rises self.old.faults self.new.faults }
         ensures failed { result ≡ Err Stop.Failed }
@@ -148,19 +149,6 @@ impl Files for NotThere {
     }
 
     fn read(&mut self, _name: &str, _at: u64, _buf: &mut [u8]) -> Result<Option<usize>, Stop> {
-        self.fail()
-    }
-}
-
-impl<D: Disk, S: Disk> Aside<D, S> for NotThere {
-    ghost faults = { λ it. it.faults };
-
-    fn turn(&mut self, _repo: &mut D, _spool: &mut S) -> Result<(), TurnStop> {
-        let _failed: Result<(), Stop> = self.fail();
-        Err(TurnStop::NoMemory)
-    }
-
-    fn start(&mut self, _words: &[String]) -> Result<(), Stop> {
         self.fail()
     }
 }
