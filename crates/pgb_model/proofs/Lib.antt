@@ -8,6 +8,13 @@ mod Worked
 pub mod Below
 pub mod Begun
 pub mod Marked
+pub mod Passing
 pub mod Steady
+pub mod Healed
+pub mod ArchiveNames
+pub mod Pushed
+pub mod Segments
 pub mod Logged
+pub mod PushSound
+pub mod PushDone
 pub mod Reopened

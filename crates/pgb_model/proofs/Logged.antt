@@ -91,10 +91,10 @@ module _ (stanza : Text) (command : Command) (q : Repository) (log : List Done) 
       }
 
 -- stanza-create
-one_part : (t : Step) (done : List Step) → IsPartOf done (One t ∷ []) → (done ≡ []) ⊎ (done ≡ t ∷ [])
+pub one_part : (t : Step) (done : List Step) → IsPartOf done (One t ∷ []) → (done ≡ []) ⊎ (done ≡ t ∷ [])
 one_part t done p = ⊎_elim inl (λ (q : (rest : List Step) × (done ≡ t ∷ rest) × (rest ≡ [])). inr (q.1 ∙ ap (λ x. t ∷ x) q.2)) p
 
-no_step : (r : Repository) (done : List Step) → IsSound r → done ≡ [] → IsSound (after r done)
+pub no_step : (r : Repository) (done : List Step) → IsSound r → done ≡ [] → IsSound (after r done)
 no_step r done sound none = subst (λ d. IsSound (after r d)) (sym none) sound
 
 new_is_sound : (c : Cluster) → c.id ≡ 1 → IsSoundStanza (new_stanza c)

@@ -33,7 +33,7 @@ no_stanza stanza f (Some s) lacks stands =
 vacant : (stanza : Text) (f : Content) (r : Repository) → Stands stanza f r → r ≡ None → IsVacant stanza f
 vacant stanza f r stands e = let P : Repository → Type 0 = λ x. Stands stanza f x in subst P e stands
 
-now_of : (stanza : Text) (r : Repository) (o : Option Content) (g : Content) → o ≡ Some g → Stands stanza g r → NowStands stanza r o
+pub now_of : (stanza : Text) (r : Repository) (o : Option Content) (g : Content) → o ≡ Some g → Stands stanza g r → NowStands stanza r o
 now_of stanza r o g is stands = record { stands = λ f is'. subst (λ (h : Content). Stands stanza h r) (some_is f is') stands }
   where
     some_is : (f : Content) → o ≡ Some f → g ≡ f

@@ -14,11 +14,11 @@ use Rattle.pgb_model.specs.Repository.{Repository}
 use Rattle.pgb_model.specs.Stands.{Stands, IsVacant, HasStanza, backup_value}
 use Rattle.pgb_model.specs.Steps.{new_stanza}
 use Rattle.pgb_model.specs.Create.{pair_writes, first_archive, first_backup, first_archive_text, first_backup_text}
-use Rattle.pgb_model.specs.Log.{IsFixed, IsPlaceOf}
+use Rattle.pgb_model.specs.Log.{IsPlaceOf}
 use Rattle.pgb_model.specs.Steady.{IsSteady, Moves}
 use Rattle.pgb_model.proofs.Marked.{mark, one_mark}
-use Rattle.pgb_model.proofs.Temporary.{fixed_lasts}
 use Rattle.pgb_model.proofs.Begun.{old_leaves, still_tight}
+use Rattle.pgb_model.proofs.Passing.{crash_moves, crash_steady}
 use Rattle.pgb_model.proofs.Created.{created_part, created_whole}
 
 -- calls that only read leave it so
@@ -107,29 +107,16 @@ no_place_new stanza f n c h p = none_in p.listed.2.0 p.listed.0.backups
 
 module _ (stanza : Text) (c : Cluster) (archive_is : IsArchiveText (first_archive c) (first_archive_text c)) (backup_is : IsBackupText (first_backup c) (first_backup_text c)) (a d : View) (steady : IsSteady stanza None a) (told : IsSome a.now)
     (crash : Crash (FirstOf (pair_writes stanza c)) a d) where
-  part : (t : ℕ) (g : Content) → a.moment ≤ t → t ≤ d.moment → Leaves d t g → Stands stanza g None ⊎ Stands stanza g (Some (new_stanza c))
-  part t g lo hi leaves = let x = crash.comes told t g lo hi leaves in created_part stanza c archive_is backup_is x.0 (steady.stands x.0 x.1) g x.2
+  part : (f g : Content) → Stands stanza f None → FirstOf (pair_writes stanza c) f g → Stands stanza g None ⊎ Stands stanza g (Some (new_stanza c))
+  part f g vacant w = created_part stanza c archive_is backup_is f vacant g w
 
-  tight_fixed : (n : Text) → IsFixed stanza n → is_loose d n ≡ false
-  tight_fixed n h = crash.tight d.moment n crash.later (omega arith) (fixed_lasts stanza n h) (steady.fixed n h)
+  -- neither lists a backup
+  no_places : (g : Content) → Leaves d d.moment g → (n : Text) → IsPlaceOf stanza g n → is_loose d n ≡ false
+  no_places g leaves n p = let x = crash.comes told d.moment g crash.later (omega arith) leaves in
+      absurd (⊎_elim (λ v. no_place_vacant stanza g n v p) (λ s. no_place_new stanza g n c s p) (part x.0 g (steady.stands x.0 x.1) x.2))
 
   pub created_moves : Moves stanza (λ g. Stands stanza g None ⊎ Stands stanza g (Some (new_stanza c))) a d
-  created_moves = record {
-    later = crash.later;
-    past = crash.past;
-    past_loose = crash.past_loose;
-    told = crash.told told;
-    fixed = tight_fixed;
-    places = λ f leaves n h. absurd (⊎_elim (λ v. no_place_vacant stanza f n v h) (λ s. no_place_new stanza f n c s h) (part d.moment f crash.later (omega arith) leaves));
-    leaves = part;
-  }
+  created_moves = crash_moves stanza None (FirstOf (pair_writes stanza c)) a d steady told crash (λ g. Stands stanza g None ⊎ Stands stanza g (Some (new_stanza c))) part no_places
 
   pub created_steady : Ends (AllOf (pair_writes stanza c)) a d → IsSteady stanza (Some (new_stanza c)) d
-  created_steady ends = record {
-    fixed = tight_fixed;
-    places = λ f leaves n h. absurd (no_place_new stanza f n c (whole f leaves) h);
-    stands = whole;
-  }
-    where
-      whole : (f : Content) → Leaves d d.moment f → Stands stanza f (Some (new_stanza c))
-      whole f leaves = let x = ends.comes told f leaves in created_whole stanza c archive_is backup_is x.0 (steady.stands x.0 x.1) f x.2
+  created_steady ends = crash_steady stanza None (FirstOf (pair_writes stanza c)) a d steady told crash (AllOf (pair_writes stanza c)) ends (Some (new_stanza c)) (λ f g vacant w. created_whole stanza c archive_is backup_is f vacant g w) no_places
