@@ -5,7 +5,7 @@ use Rattle.std.proofs.lemmas.List.Sums.{fold_more}
 use Rattle.pgb_outside.specs.Content.{Name, Content, put}
 use Rattle.pgb_memory.specs.State.{given_at}
 
-abbrev Given : Type 0
+abbrev pub Given : Type 0
 Given = String Global × Vec ℕ Global
 
 -- the next of them is put where the earlier ones are

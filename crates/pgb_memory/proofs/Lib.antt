@@ -14,4 +14,7 @@ pub mod Slashes
 pub mod Found
 pub mod Bare
 pub mod TreeTells
+pub mod Replayed
+pub mod Left
+pub mod Images
 pub mod WorkedExample

@@ -3,5 +3,7 @@ pub mod State
 pub mod Agrees
 pub mod Held
 pub mod Fair
+pub mod Replay
+pub mod Image
 pub mod Nodes
 pub mod TreeFault

@@ -1,15 +1,19 @@
 // A disk in memory, with the record of what was done to it.
-ghost use Rattle.std.specs.Prelude.{◌≡◌, ◌≤◌, ◌||◌, [], map, not, IsSomeAnd, length, string_bytes, is_some, option_map, IfOk, IfSome, OnOk, OnErr, IsErrOf};
+ghost use Rattle.std.specs.Prelude.{◌↔◌, true, false, ℕ, List, Option, Contains, ◌≡◌, ◌≤◌, ◌||◌, [], map, not, IsSomeAnd, length, string_bytes, is_some, option_map, IfOk, IfSome, OnOk, OnErr, IsErrOf};
 ghost use Rattle.pgb_outside.specs.Cause.{HasCause};
 ghost use Rattle.pgb_outside.specs.Content.{IsListing, Reads};
 ghost use Rattle.pgb_outside.specs.declared.stop.Stop.TheVariants.{Failed, NoMemory};
+ghost use Rattle.pgb_outside.specs.Moments.{IsImage};
+ghost use Rattle.pgb_memory.specs.Replay.{value_of};
+ghost use Rattle.pgb_memory.specs.Image.{states_then, image_of, are_loose, are_kept};
 ghost use Rattle.pgb_memory.specs.Counts.{is_to_fail, counted, tried, FailsWhere};
-ghost use Rattle.pgb_memory.specs.State.{first_state, given_at, begun, appended, synced, renamed, removed, settled};
+ghost use Rattle.pgb_memory.specs.State.{Among, first_state, given_at, begun, appended, synced, renamed, removed, settled};
 ghost use Rattle.pgb_memory.specs.Held.{StartsWith, state_of, view_of, Notes, IsAsBefore, FailsAt};
 ghost use Rattle.pgb_memory.specs.Fair.{may_be_left, fair_first};
 
 use crate::failing::Failing;
 use crate::held::Held;
+use crate::image::{ImageFault, image_in, kept_in, loose_in};
 use pgb_outside::{Disk, Found, Stop};
 use std::alloc::{AllocError, Global};
 
@@ -47,6 +51,55 @@ impl MemDisk {
         ensures { IsSomeAnd (⟦<MemDisk as Disk>⟧.view self.now).now (λ f. option_map (λ b. b.now) result ≡ f name.now) }
     {
         self.held.bytes(name)
+    }
+
+    /// The moment, which is the number of its changes so far.
+    pub fn moment(&self) -> u64
+        ensures { result ≡ (⟦<MemDisk as Disk>⟧.view self.now).moment }
+    {
+        self.held.moment()
+    }
+
+    /// The names at which a stop at that moment may leave any bytes.
+    pub fn loose(&self, alloc: Global, moment: u64) -> Result<Vec<String>, AllocError>
+        ensures { IfOk result (λ names. (n : List ℕ) → Contains (map string_bytes names.items) n ↔ ((⟦<MemDisk as Disk>⟧.view self.now).loose moment n ≡ true)) }
+    {
+        let traces = self.held.traces(alloc, moment)?;
+        loose_in(alloc, &traces)
+    }
+
+    /// The values of which a stop at that moment leaves one at a name that isn't loose, the first of them first.
+    pub fn kept(
+        &self,
+        alloc: Global,
+        moment: u64,
+        name: &str,
+    ) -> Result<Vec<Option<Vec<u8>>>, AllocError>
+        ensures values { IfOk result (λ values. map value_of values.items ≡ (states_then self.now.held moment name.now).kept) }
+        ensures kept { IfOk result (λ values. (v : Option (List ℕ)) → Among v (map value_of values.items) ↔ (⟦<MemDisk as Disk>⟧.view self.now).kept moment name.now v) }
+    {
+        let traces = self.held.traces(alloc, moment)?;
+        kept_in(alloc, &traces, name)
+    }
+
+    /// The names with bytes that a stop at that moment leaves: a name in `loose` has the bytes given there, any other has
+    /// the kept value at its position in `choice`, or its last one. Of a name that is given twice the last one counts.
+    pub fn image(
+        &self,
+        alloc: Global,
+        moment: u64,
+        choice: &[(String, u32)],
+        loose: &[(String, Vec<u8>)],
+    ) -> Result<Vec<(String, Vec<u8>)>, ImageFault>
+        ensures image { IfOk result (λ names. IsImage (⟦<MemDisk as Disk>⟧.view self.now) moment (given_at names.items)) }
+        ensures content { IfOk result (λ names. given_at names.items ≡ image_of (states_then self.now.held moment) choice.now loose.now) }
+        ensures loose { OnOk result (are_loose (states_then self.now.held moment) loose.now ≡ true) }
+        ensures kept { OnOk result (are_kept (states_then self.now.held moment) choice.now ≡ true) }
+        ensures not_loose { IsErrOf result ImageFault.NotLoose → are_loose (states_then self.now.held moment) loose.now ≡ false }
+        ensures position { IsErrOf result ImageFault.Position → are_kept (states_then self.now.held moment) choice.now ≡ false }
+    {
+        let traces = self.held.traces(alloc, moment)?;
+        image_in(alloc, &traces, choice, loose)
     }
 
     /// How often a call failed.

@@ -7,11 +7,12 @@ ghost use Rattle.pgb_memory.specs.State.{given_at};
 use crate::below::lies_below;
 use crate::change::Change;
 use crate::copy::copy_part;
+use crate::replay::{Traces, traces_after};
 use pgb_outside::Found;
 use std::alloc::{AllocError, Global};
 use std::collections::BTreeMap;
 
-type Names = BTreeMap<String, Vec<u8>>;
+pub(crate) type Names = BTreeMap<String, Vec<u8>>;
 
 /// The bytes of each name, and how they came about.
 #[derive(Drop)]
@@ -26,6 +27,8 @@ pub(crate) struct Held {
 impl Held {
     ghost use Rattle.pgb_memory.specs.State.{begun, appended, loosened, synced, renamed, removed, settled};
     ghost use Rattle.pgb_memory.specs.Held.{state_of, Notes, IsAsBefore};
+    ghost use Rattle.pgb_memory.specs.Replay.{states_in};
+    ghost use Rattle.pgb_memory.specs.Image.{states_then};
 
     pub(crate) fn new(alloc: Global, given: Vec<(String, Vec<u8>)>) -> Result<Self, AllocError>
         ensures given { IfOk result (λ h. h.given.items ≡ given.items) }
@@ -72,6 +75,21 @@ impl Held {
         ensures { IfOk result (λ found. IsListing folder.now (state_of self.now).now (map (λ x. (string_bytes x.name, x.size)) found.items)) }
     {
         names_below(alloc, &self.names, folder)
+    }
+
+    /// The moment, each change being one.
+    pub(crate) fn moment(&self) -> u64
+        ensures { result ≡ length self.now.changes.items }
+    {
+        self.changes.len() as u64
+    }
+
+    /// What the changes up to a moment left at each name.
+    pub(crate) fn traces(&self, alloc: Global, moment: u64) -> Result<Traces, AllocError>
+        ensures { IfOk result (λ t. states_in t ≡ states_then self.now moment) }
+    {
+        let count = moment.min(self.changes.len() as u64) as usize;
+        traces_after(alloc, &self.given, &self.changes[..count])
     }
 
     /// Makes the name hold no bytes.
@@ -161,8 +179,8 @@ impl Held {
     }
 }
 
-// A map of names with their bytes, the last of each counting.
-fn names_of(alloc: Global, given: &[(String, Vec<u8>)]) -> Result<Names, AllocError>
+/// A map of names with their bytes, the last of each counting.
+pub(crate) fn names_of(alloc: Global, given: &[(String, Vec<u8>)]) -> Result<Names, AllocError>
     ensures { IfOk result (λ m. bytes_at m ≡ given_at given.now) }
 {
     let mut names = BTreeMap::new(alloc);

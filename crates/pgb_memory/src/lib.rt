@@ -7,11 +7,17 @@ mod copy;
 mod disk;
 mod failing;
 mod held;
+mod image;
+mod named;
 mod nodes;
+mod replay;
 mod sink;
+mod trace;
 mod tree;
 
 pub use disk::MemDisk;
+pub use image::ImageFault;
+pub use named::named_bytes;
 pub use nodes::MemNode;
 pub use sink::MemSink;
 pub use tree::{MemTree, TreeFault};

@@ -1,5 +1,6 @@
 // A disk in memory against the disk model's worked example, and with each of its calls failing in turn.
 use super::*;
+use crate::{ImageFault, named_bytes};
 use std::test::Fail;
 
 const FOLDER: &str = "archive/demo";
@@ -33,16 +34,8 @@ fn run<D: Disk>(disk: &mut D, call: &Call) -> Result<(), Stop> {
 }
 
 // A disk with these names.
-fn disk_of(
-    alloc: Global,
-    names: &[(&'static str, &'static str)],
-    fail: &[u64],
-) -> Result<MemDisk, AllocError> {
-    let mut given = Vec::new(alloc);
-    for (name, text) in names {
-        let name = String::from_str(alloc, name)?;
-        given.push((name, Vec::from_slice(alloc, text.as_bytes())?))?;
-    }
+fn disk_of(alloc: Global, names: &[(&str, &[u8])], fail: &[u64]) -> Result<MemDisk, AllocError> {
+    let given = named_bytes(alloc, names)?;
     MemDisk::new(alloc, given, Vec::from_slice(alloc, fail)?)
 }
 
@@ -59,6 +52,64 @@ fn listed<D: Disk>(alloc: Global, disk: &mut D, folder: &str) -> Result<String, 
     let mut text = String::new(alloc);
     for found in disk.names(alloc, folder)? {
         let line = format!(in alloc; "{}:{} ", found.name, found.size)?;
+        text.push_str(&line)?;
+    }
+    Ok(text)
+}
+
+// The loose names at a moment.
+fn loose_then(alloc: Global, disk: &MemDisk, moment: u64) -> Result<String, AllocError> {
+    let mut text = String::new(alloc);
+    for name in &disk.loose(alloc, moment)? {
+        text.push_str(name)?;
+        text.push(' ')?;
+    }
+    Ok(text)
+}
+
+// What a name keeps at a moment, `-` for nothing and else the bytes.
+fn kept_then(alloc: Global, disk: &MemDisk, moment: u64, name: &str) -> Result<String, AllocError> {
+    let mut text = String::new(alloc);
+    for value in &disk.kept(alloc, moment, name)? {
+        match value {
+            Some(bytes) => {
+                for byte in bytes {
+                    text.push(*byte as char)?;
+                }
+            }
+            None => text.push('-')?,
+        }
+        text.push(' ')?;
+    }
+    Ok(text)
+}
+
+// The positions of kept values, and the bytes of loose names.
+#[derive(Clone, Copy)]
+struct Choice {
+    positions: &'static [(&'static str, u32)],
+    loose: &'static [(&'static str, &'static str)],
+}
+
+// The image at a moment, as `name:byte` for each byte of each name.
+fn image_then(
+    alloc: Global,
+    disk: &MemDisk,
+    moment: u64,
+    choice: &Choice,
+) -> Result<String, ImageFault> {
+    let mut positions = Vec::new(alloc);
+    for (name, position) in choice.positions {
+        positions.push((String::from_str(alloc, name)?, *position))?;
+    }
+    let mut loose = Vec::new(alloc);
+    for (name, bytes) in choice.loose {
+        let name = String::from_str(alloc, name)?;
+        loose.push((name, Vec::from_slice(alloc, bytes.as_bytes())?))?;
+    }
+    let mut text = String::new(alloc);
+    for (name, bytes) in &disk.image(alloc, moment, &positions, &loose)? {
+        let line = format!(in alloc; "{}:{} ", name, bytes.len())?;
         text.push_str(&line)?;
     }
     Ok(text)
@@ -110,15 +161,140 @@ fn worked_example(rt: HostRuntime) -> Result<(), Fail> {
     Ok(())
 }
 
+// The worked example's calls, made on an empty disk.
+fn worked_disk(alloc: Global) -> Result<MemDisk, Stop> {
+    let mut disk = disk_of(alloc, &[], &[])?;
+    for call in &[
+        Call::Begin(X),
+        Call::Append(X, "a"),
+        Call::Sync(X),
+        Call::Rename(X, Y),
+        Call::Settle(FOLDER),
+    ] {
+        run(&mut disk, call)?;
+    }
+    Ok(disk)
+}
+
+#[test]
+fn what_moments_keep(rt: HostRuntime) -> Result<(), Fail> {
+    let alloc = rt.alloc();
+    let disk = worked_disk(alloc)?;
+    assert_eq!(rt; disk.moment(), 5);
+    let table = [
+        (0, "", "- ", "- "),
+        (1, "archive/demo/x ", "- ", "- "),
+        (2, "archive/demo/x ", "- ", "- "),
+        (3, "", "- a ", "- "),
+        (4, "", "- a - ", "- a "),
+        (5, "", "- ", "a "),
+        (6, "", "- ", "a "),
+    ];
+    for (moment, loose, x, y) in &table {
+        assert_eq!(rt; loose_then(alloc, &disk, *moment)?.as_str(), *loose);
+        assert_eq!(rt; kept_then(alloc, &disk, *moment, X)?.as_str(), *x);
+        assert_eq!(rt; kept_then(alloc, &disk, *moment, Y)?.as_str(), *y);
+    }
+    Ok(())
+}
+
+#[test]
+fn images(rt: HostRuntime) -> Result<(), Fail> {
+    let alloc = rt.alloc();
+    let disk = worked_disk(alloc)?;
+    let table = [
+        (
+            4,
+            Choice {
+                positions: &[(Y, 0), (X, 1)],
+                loose: &[],
+            },
+            Ok("archive/demo/x:1 "),
+        ),
+        (
+            4,
+            Choice {
+                positions: &[],
+                loose: &[],
+            },
+            Ok("archive/demo/y:1 "),
+        ),
+        (
+            4,
+            Choice {
+                positions: &[(X, 1)],
+                loose: &[],
+            },
+            Ok("archive/demo/x:1 archive/demo/y:1 "),
+        ),
+        (
+            4,
+            Choice {
+                positions: &[(X, 1), (X, 2), (Y, 0)],
+                loose: &[],
+            },
+            Ok(""),
+        ),
+        (
+            2,
+            Choice {
+                positions: &[],
+                loose: &[(X, "torn")],
+            },
+            Ok("archive/demo/x:4 "),
+        ),
+        (
+            2,
+            Choice {
+                positions: &[],
+                loose: &[],
+            },
+            Ok(""),
+        ),
+        (
+            4,
+            Choice {
+                positions: &[(X, 3)],
+                loose: &[],
+            },
+            Err(ImageFault::Position),
+        ),
+        (
+            4,
+            Choice {
+                positions: &[(Z, 1)],
+                loose: &[],
+            },
+            Err(ImageFault::Position),
+        ),
+        (
+            4,
+            Choice {
+                positions: &[],
+                loose: &[(X, "torn")],
+            },
+            Err(ImageFault::NotLoose),
+        ),
+    ];
+    for (moment, choice, want) in &table {
+        match (image_then(alloc, &disk, *moment, choice), want) {
+            (Ok(text), Ok(names)) => assert_eq!(rt; text.as_str(), *names),
+            (Err(fault), Err(other)) => assert_eq!(rt; fault, *other),
+            _ => assert!(rt; false, "at moment {moment}"),
+        }
+    }
+    Ok(())
+}
+
 #[test]
 fn given_names(rt: HostRuntime) -> Result<(), Fail> {
     let alloc = rt.alloc();
-    let names = [
-        ("b/c", "one"),
-        ("b", "two"),
-        ("b/a/z", "three"),
-        ("b-x", "four"),
-        ("b/c", "fifth"),
+    let names: [(&str, &[u8]); 5] = [
+        ("b/c", b"one"),
+        ("b", b"two"),
+        ("b/a/z", b"three"),
+        ("b-x", b"four"),
+        ("b/c", b"fifth"),
     ];
     let mut disk = disk_of(alloc, &names, &[])?;
     assert!(rt; holds(&disk, "b/c", Some("fifth")));
@@ -154,7 +330,7 @@ fn each_call_fails(rt: HostRuntime) -> Result<(), Fail> {
         (6, [None, Some("a"), None], 0, 0),
     ];
     for (fail, names, faults, misuses) in &table {
-        let mut disk = disk_of(alloc, &[(Z, "z")], &[*fail])?;
+        let mut disk = disk_of(alloc, &[(Z, b"z")], &[*fail])?;
         for (number, call) in calls.iter().enumerate() {
             let answer = run(&mut disk, call);
             if number as u64 == *fail {
@@ -173,7 +349,7 @@ fn each_call_fails(rt: HostRuntime) -> Result<(), Fail> {
 #[test]
 fn reads_fail(rt: HostRuntime) -> Result<(), Fail> {
     let alloc = rt.alloc();
-    let mut disk = disk_of(alloc, &[(X, "a")], &[0, 2, 4])?;
+    let mut disk = disk_of(alloc, &[(X, b"a")], &[0, 2, 4])?;
     assert_eq!(rt; disk.open("repo"), Err(Stop::Failed));
     assert_eq!(rt; disk.place(), "");
     disk.open("repo")?;
