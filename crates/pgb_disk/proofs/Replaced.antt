@@ -21,6 +21,17 @@ told_same temp (Some f) None same s = let e : ◌≡◌ {A = Option Value} None 
         rest [] = []
         rest (y ∷ ys) = ys
 
+-- a disk that tells nothing goes on so
+pub untold_same : (temp : Name) (old new : Option Content) → SameBut temp old new → old ≡ None → new ≡ None
+untold_same temp old None same none = refl
+untold_same temp None (Some g) same none = let s = told_same temp (Some g) None (λ q apart. sym (same q apart)) refl in cc
+untold_same temp (Some f) (Some g) same none = cc
+
+pub untold_on : {T E : Type 0} (result : Result T E) (change : Content → Content) (mid new : Option Content) → mid ≡ None → Changes result change mid new → new ≡ None
+untold_on (Ok x) change mid new none is = is ∙ ap (option_map change) none
+untold_on (Err e) change mid new none (inl is) = is ∙ none
+untold_on (Err e) change mid new none (inr is) = is ∙ ap (option_map change) none
+
 alike_same : (temp : Name) (old new : Option Content) → IsTemporary temp → SameBut temp old new → (f g : Content) → old ≡ Some f → new ≡ Some g → Alike f g
 alike_same temp old new is_temp same f g is now = record { same = λ n apart. some (same n (apart_from temp is_temp n apart)) }
   where

@@ -1,7 +1,18 @@
--- Names whose bytes are on the disk.
-use Rattle.std.specs.Prelude.{string_bytes}
-use Rattle.pgb_outside.specs.Content.{Name}
+-- Names whose bytes are on the disk, and names at which bytes are being put.
+use Rattle.std.specs.Prelude.{◌≡◌, ℕ, Option, length, string_bytes, IfSome, IsSomeAnd}
+use Rattle.pgb_outside.specs.Content.{Name, Content}
 use Rattle.pgb_disk.specs.declared.staging.Staged.{Staged}
+use Rattle.pgb_disk.specs.declared.staging.Staging.{Staging}
 
 abbrev pub staged_name : Staged → Name
 staged_name s = string_bytes s.name
+
+abbrev pub staging_name : Staging → Name
+staging_name s = string_bytes s.name
+
+abbrev pub staging_length : Staging → ℕ
+staging_length s = s.length
+
+-- the name holds so many bytes, where that is told
+abbrev pub HasLength : Option Content → Name → ℕ → Type 0
+HasLength content name n = IfSome content (λ f. IsSomeAnd (f name) (λ b. length b ≡ n))

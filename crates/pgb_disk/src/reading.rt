@@ -18,6 +18,7 @@ pub fn read_whole<D: Disk>(
     limit: u64,
 ) -> Result<Option<Vec<u8>>, StoreFault>
     ensures bytes { IfOk result (λ r. IfSome (D.view d.old).now (λ f. (option_map (λ (v : Vec ℕ Global). v.items) r ≡ f name.now) × IfSome (f name.now) (λ b. length b ≤ limit))) }
+    ensures within { IfOk result (λ r. IfSome r (λ v. length v.items ≤ limit)) }
     ensures named { IfErr result (λ e. IfTooLong e (λ n l. (n ≡ name.now) × (l ≡ limit))) }
     ensures too_long { IfErr result (λ e. IfTooLong e (λ _ _. IfSome (D.view d.old).now (λ f. IsSomeAnd (f name.now) (λ b. limit < length b)))) }
     ensures now { (D.view d.new).now ≡ (D.view d.old).now }

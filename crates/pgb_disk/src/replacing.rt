@@ -1,5 +1,5 @@
 // Bytes that take the place of a name's.
-ghost use Rattle.std.specs.Prelude.{◌≡◌, ◌≤◌, [], ◌∷◌, ℕ, List, Option, false, IfErr, OnOk, IsErrOf};
+ghost use Rattle.std.specs.Prelude.{◌≡◌, ◌≤◌, [], ◌∷◌, ℕ, List, Option, None, false, IfErr, OnOk, IsErrOf};
 ghost use Rattle.pgb_outside.specs.Content.{Name, Value, Content};
 ghost use Rattle.pgb_outside.specs.Moments.{is_loose};
 ghost use Rattle.pgb_outside.specs.Crash.{IsTemporary, Crash, Ends, NowGoes, FirstOf, AllOf};
@@ -28,6 +28,7 @@ pub fn replace<D: Disk>(
     ensures whole { OnOk result (is_loose (D.view d.old) name.now ≡ false → Ends (AllOf ((name.now, bytes.now) ∷ [])) (D.view d.old) (D.view d.new)) }
     ensures now_part { NowGoes (FirstOf ((name.now, bytes.now) ∷ [])) (D.view d.old).now (D.view d.new).now }
     ensures now_whole { OnOk result (NowGoes (AllOf ((name.now, bytes.now) ∷ [])) (D.view d.old).now (D.view d.new).now) }
+    ensures untold { (D.view d.old).now ≡ None → (D.view d.new).now ≡ None }
     ensures place { D.place d.new ≡ D.place d.old }
     ensures proper { D.misuses d.new ≡ D.misuses d.old }
     ensures later { D.faults d.old ≤ D.faults d.new }

@@ -1,10 +1,10 @@
 // Bytes that are put at a name of their own, before another name takes them.
-ghost use Rattle.std.specs.Prelude.{◌≡◌, ◌≤◌, ℕ, List, Option, Some, false, option_map, IfOk, IfErr, OnOk, IsErrOf};
-ghost use Rattle.pgb_outside.specs.Content.{Name, Value, Content, put, SameBut};
+ghost use Rattle.std.specs.Prelude.{◌≡◌, ◌≤◌, ◌<◌, ◌+◌, ◌^◌, ℕ, List, [], Option, Some, false, length, option_map, IfOk, IfErr, OnOk, IsErrOf};
+ghost use Rattle.pgb_outside.specs.Content.{Name, Value, Content, put, Appends, Holds, IsThere, SameBut};
 ghost use Rattle.pgb_outside.specs.Moments.{Goes, is_loose};
 ghost use Rattle.pgb_outside.specs.Cause.{Rises};
 ghost use Rattle.pgb_disk.specs.Fault.{IsStop};
-ghost use Rattle.pgb_disk.specs.Staged.{staged_name};
+ghost use Rattle.pgb_disk.specs.Staged.{staged_name, staging_name, staging_length, HasLength};
 
 use crate::fault::StoreFault;
 use pgb_outside::Disk;
@@ -22,6 +22,89 @@ impl Staged {
     {
         self.name.as_str()
     }
+}
+
+/// A name at which bytes are being put, piece by piece.
+#[derive(Drop)]
+pub struct Staging {
+    name: String,
+    length: u64,
+}
+
+impl Staging {
+    pub fn name(&self) -> &str
+        ensures { result.now ≡ staging_name self.now }
+    {
+        self.name.as_str()
+    }
+
+    /// How many bytes were put there.
+    pub fn length(&self) -> u64
+        ensures { result ≡ staging_length self.now }
+    {
+        self.length
+    }
+}
+
+/// Makes the name hold no bytes, so that bytes can be added.
+pub fn start_stage<D: Disk>(alloc: Global, d: &mut D, name: &str) -> Result<Staging, StoreFault>
+    ensures name { IfOk result (λ staging. staging_name staging ≡ name.now) }
+    ensures length { IfOk result (λ staging. staging_length staging ≡ 0) }
+    ensures now { OnOk result ((D.view d.new).now ≡ option_map (put name.now (Some [])) (D.view d.old).now) }
+    ensures holds { OnOk result (HasLength (D.view d.new).now name.now 0) }
+    ensures others { SameBut name.now (D.view d.old).now (D.view d.new).now }
+    ensures time { Goes (λ _ _. ⊥) (λ n. n ≡ name.now) (D.view d.old) (D.view d.new) }
+    ensures place { D.place d.new ≡ D.place d.old }
+    ensures proper { D.misuses d.new ≡ D.misuses d.old }
+    ensures later { D.faults d.old ≤ D.faults d.new }
+    ensures cause { IsErrOf result StoreFault.Disk → Rises (D.faults d.old) (D.faults d.new) }
+    ensures refusals { IfErr result IsStop }
+{
+    let kept_name = String::from_str(alloc, name)?;
+    d.begin(name)?;
+    Ok(Staging {
+        name: kept_name,
+        length: 0,
+    })
+}
+
+/// Adds bytes at the end of what was put there. After a refusal the name may hold a part of them, so the `Staging` is given up.
+pub fn add_stage<D: Disk>(d: &mut D, staging: &mut Staging, bytes: &[u8]) -> Result<(), StoreFault>
+    requires holds { HasLength (D.view d.old).now (staging_name staging.old) (staging_length staging.old) }
+    requires room { staging_length staging.old + length bytes.now < 2 ^ 64 }
+    ensures name { staging_name staging.new ≡ staging_name staging.old }
+    ensures length { OnOk result (staging_length staging.new ≡ staging_length staging.old + length bytes.now) }
+    ensures now { Appends result (staging_name staging.old) bytes.now (D.view d.old).now (D.view d.new).now }
+    ensures holds { OnOk result (HasLength (D.view d.new).now (staging_name staging.new) (staging_length staging.new)) }
+    ensures others { SameBut (staging_name staging.old) (D.view d.old).now (D.view d.new).now }
+    ensures time { Goes (λ _ _. ⊥) (λ n. n ≡ staging_name staging.old) (D.view d.old) (D.view d.new) }
+    ensures place { D.place d.new ≡ D.place d.old }
+    ensures proper { D.misuses d.new ≡ D.misuses d.old }
+    ensures later { D.faults d.old ≤ D.faults d.new }
+    ensures cause { IsErrOf result StoreFault.Disk → Rises (D.faults d.old) (D.faults d.new) }
+    ensures refusals { IfErr result IsStop }
+{
+    d.append(&staging.name, bytes)?;
+    staging.length += bytes.len() as u64;
+    Ok(())
+}
+
+/// Syncs what was put there, so that a crash leaves it whole or what the name kept before.
+pub fn end_stage<D: Disk>(d: &mut D, staging: Staging) -> Result<Staged, StoreFault>
+    requires { HasLength (D.view d.old).now (staging_name staging) (staging_length staging) }
+    ensures name { IfOk result (λ staged. staged_name staged ≡ staging_name staging) }
+    ensures now { (D.view d.new).now ≡ (D.view d.old).now }
+    ensures there { OnOk result (IsThere (D.view d.new).now (staging_name staging)) }
+    ensures tight { OnOk result (is_loose (D.view d.new) (staging_name staging) ≡ false) }
+    ensures time { Goes (λ n v. (n ≡ staging_name staging) × Holds (D.view d.old).now n v) (λ n. n ≡ staging_name staging) (D.view d.old) (D.view d.new) }
+    ensures place { D.place d.new ≡ D.place d.old }
+    ensures proper { D.misuses d.new ≡ D.misuses d.old }
+    ensures later { D.faults d.old ≤ D.faults d.new }
+    ensures cause { IsErrOf result StoreFault.Disk → Rises (D.faults d.old) (D.faults d.new) }
+    ensures refusals { IfErr result IsStop }
+{
+    d.sync(&staging.name)?;
+    Ok(Staged { name: staging.name })
 }
 
 /// Puts the bytes at the name, in place of what it held, and syncs it.
@@ -42,9 +125,7 @@ pub fn stage<D: Disk>(
     ensures cause { IsErrOf result StoreFault.Disk → Rises (D.faults d.old) (D.faults d.new) }
     ensures refusals { IfErr result IsStop }
 {
-    let kept_name = String::from_str(alloc, name)?;
-    d.begin(name)?;
-    d.append(name, bytes)?;
-    d.sync(name)?;
-    Ok(Staged { name: kept_name })
+    let mut staging = start_stage(alloc, d, name)?;
+    add_stage(d, &mut staging, bytes)?;
+    end_stage(d, staging)
 }

@@ -1,4 +1,4 @@
-use Rattle.pgb_disk.proofs.Replaced.{staged_crash, staged_now, published_crash, published_now, published_ends, published_whole}
+use Rattle.pgb_disk.proofs.Replaced.{staged_crash, staged_now, published_crash, published_now, published_ends, published_whole, untold_same, untold_on}
 use Rattle.pgb_disk.proofs.replacing.replace.Goals as goal
 
 pub returns-in_err-staged-clause-crash : goal.returns-in_err-staged-clause-crash
@@ -24,3 +24,12 @@ returns-clause-now_part g c = published_now c.args.temp.now c.args.name.now c.ar
 
 pub returns-clause-now_whole : goal.returns-clause-now_whole
 returns-clause-now_whole g c = published_whole c.args.temp.now c.args.name.now c.args.bytes.now c.requires.temporary c.requires.lasting _ _ _ _ c.in_ok-staged.ensures.name c.in_ok-staged.ensures.now c.in_ok-publish.ensures.now
+
+pub returns-in_err-staged-clause-untold : goal.returns-in_err-staged-clause-untold
+returns-in_err-staged-clause-untold g c = untold_same c.args.temp.now _ _ c.stage.ensures.others
+
+pub returns-in_err-publish-clause-untold : goal.returns-in_err-publish-clause-untold
+returns-in_err-publish-clause-untold g c = λ none. untold_on c.publish.result _ _ _ (untold_same c.args.temp.now _ _ c.stage.ensures.others none) c.publish.ensures.now
+
+pub returns-clause-untold : goal.returns-clause-untold
+returns-clause-untold g c = λ none. untold_on c.publish.result _ _ _ (untold_same c.args.temp.now _ _ c.stage.ensures.others none) c.publish.ensures.now
