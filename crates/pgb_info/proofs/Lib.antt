@@ -8,3 +8,14 @@ pub mod PlainTexts
 pub mod EntryRules
 pub mod BackupRules
 pub mod PartLists
+pub mod Causes
+pub mod ArchiveTexts
+pub mod Mends
+pub mod Sorted
+pub mod Seeking
+pub mod Identities
+pub mod Keyed
+pub mod CurrentRules
+pub mod HistoryRules
+pub mod ArchiveForms
+pub mod OneArchive

@@ -2,3 +2,6 @@ pub mod Fault
 pub mod Member
 pub mod Calendar
 pub mod Entries
+pub mod Causes
+pub mod Reading
+pub mod ArchiveForm

@@ -15,7 +15,7 @@ use serde_json::{Value, json};
 use std::alloc::Global;
 
 // A cluster of the history, under its number.
-fn cluster_value(alloc: Global, c: &ClusterId) -> Result<Value, NoMemory>
+pub(crate) fn cluster_value(alloc: Global, c: &ClusterId) -> Result<Value, NoMemory>
     ensures { IfOk result (λ v. view v ≡ (cluster_id_field c.now).1) }
 {
     let version = decimal(alloc, u64::from(c.version))?;

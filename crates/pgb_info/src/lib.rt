@@ -1,20 +1,32 @@
 //! Info files: their values, and the two members in which each is kept.
 #![tactic(auto)]
 
+mod archive_current;
+mod archive_history;
 mod archive_info;
+mod archive_reading;
 mod backup_info;
 mod by_key;
+mod cluster_ids;
 mod entries;
 mod fault;
+mod finding;
+mod healing;
 mod info;
 mod labels;
+mod loading;
 mod members;
+mod read_info;
 mod saving;
 mod stamps;
+mod texts;
 
-pub use fault::InfoFault;
+pub use fault::{InfoFault, MemberFault, SaveFault};
+pub use healing::heal_pair;
 pub use info::Info;
 pub use labels::label_text;
+pub use loading::load_pair;
+pub use read_info::ReadInfo;
 pub use saving::save_pair;
 
 #[cfg(test)]

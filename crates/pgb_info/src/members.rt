@@ -7,18 +7,18 @@ ghost use Rattle.pgb_model.specs.Names.{copy_of};
 ghost use Rattle.pgb_model.specs.Create.{member_writes};
 ghost use Rattle.pgb_info.specs.Member.{IsInfoName};
 
-use crate::fault::InfoFault;
+use crate::fault::SaveFault;
 use pgb_disk::save_both;
 use pgb_outside::Disk;
 use std::alloc::{AllocError, Global};
 
-fn copy_name(alloc: Global, name: &str) -> Result<String, AllocError>
+pub(crate) fn copy_name(alloc: Global, name: &str) -> Result<String, AllocError>
     ensures { IfOk result (λ copy. string_bytes copy ≡ copy_of name.now) }
 {
     format!(in alloc; "{name}.copy")
 }
 
-fn temporary_name(alloc: Global, name: &str) -> Result<String, AllocError>
+pub(crate) fn temporary_name(alloc: Global, name: &str) -> Result<String, AllocError>
     ensures { IfOk result (λ temporary. string_bytes temporary ≡ name.now ++ codes ".pgbackrest.tmp") }
 {
     format!(in alloc; "{name}.pgbackrest.tmp")
@@ -30,7 +30,7 @@ pub(crate) fn save_members<D: Disk>(
     d: &mut D,
     name: &str,
     text: &[u8],
-) -> Result<(), InfoFault>
+) -> Result<(), SaveFault>
     requires { IsInfoName name.now }
     ensures crash { is_loose (D.view d.old) name.now ≡ false → is_loose (D.view d.old) (copy_of name.now) ≡ false → Crash (FirstOf (member_writes name.now text.now)) (D.view d.old) (D.view d.new) }
     ensures whole { OnOk result (is_loose (D.view d.old) name.now ≡ false → is_loose (D.view d.old) (copy_of name.now) ≡ false → Ends (AllOf (member_writes name.now text.now)) (D.view d.old) (D.view d.new)) }
@@ -39,7 +39,7 @@ pub(crate) fn save_members<D: Disk>(
     ensures place { D.place d.new ≡ D.place d.old }
     ensures proper { D.misuses d.new ≡ D.misuses d.old }
     ensures later { D.faults d.old ≤ D.faults d.new }
-    ensures cause { IsErrOf result InfoFault.Disk → Rises (D.faults d.old) (D.faults d.new) }
+    ensures cause { IsErrOf result SaveFault.Disk → Rises (D.faults d.old) (D.faults d.new) }
 {
     let copy = copy_name(alloc, name)?;
     let temporary = temporary_name(alloc, name)?;

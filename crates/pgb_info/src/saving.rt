@@ -9,7 +9,7 @@ ghost use Rattle.pgb_model.specs.InfoFiles.{info_limit};
 ghost use Rattle.pgb_model.specs.Create.{member_writes};
 ghost use Rattle.pgb_info.specs.Member.{IsInfoName};
 
-use crate::fault::InfoFault;
+use crate::fault::SaveFault;
 use crate::info::Info;
 use crate::members::save_members;
 use pgb_ini::write_info_text;
@@ -32,7 +32,7 @@ pub fn save_pair<D: Disk, I: Info>(
     d: &mut D,
     name: &str,
     value: &I,
-) -> Result<(), InfoFault>
+) -> Result<(), SaveFault>
     requires named { IsInfoName name.now }
     requires valid { I.is_valid value.now }
     requires within { length (info_text (I.sections value.now)) ≤ info_limit }
@@ -43,7 +43,7 @@ pub fn save_pair<D: Disk, I: Info>(
     ensures place { D.place d.new ≡ D.place d.old }
     ensures proper { D.misuses d.new ≡ D.misuses d.old }
     ensures later { D.faults d.old ≤ D.faults d.new }
-    ensures cause { IsErrOf result InfoFault.Disk → Rises (D.faults d.old) (D.faults d.new) }
+    ensures cause { IsErrOf result SaveFault.Disk → Rises (D.faults d.old) (D.faults d.new) }
 {
     let text = text_of(alloc, value)?;
     save_members(alloc, d, name, &text)?;

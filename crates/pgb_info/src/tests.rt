@@ -4,8 +4,8 @@ ghost use Rattle.std.specs.Prelude.{◌≡◌, [], ◌∷◌, length, IfOk};
 ghost use Rattle.pgb_model.specs.InfoFiles.{IsArchiveInfo, IsBackupInfo, IsLabel, IsListedEntry};
 ghost use Rattle.pgb_model.specs.Values.{archive_info_of, backup_info_of, entry_of, Entry as SpecEntry};
 
-use crate::label_text;
 use crate::saving::text_of;
+use crate::{MemberFault, ReadInfo, label_text};
 use pgb_model::{
     ArchiveInfo, BackupInfo, Cluster, ClusterId, Entry, Kind, Label, Later, Segment, Span,
 };
@@ -349,5 +349,175 @@ fn label_texts(rt: HostRuntime) -> Result<(), Fail> {
         later: Some(incr),
     };
     label_is(&rt, alloc, label, "20240102-030405F_20240102-030505I")?;
+    Ok(())
+}
+
+fn read(alloc: Global, text: &str) -> Result<Result<ArchiveInfo, MemberFault>, NoMemory> {
+    if text.len() > 67_108_864 {
+        return Ok(Err(MemberFault::TooLong));
+    }
+    ArchiveInfo::read(alloc, text.as_bytes())
+}
+
+fn ids(alloc: Global, info: &ArchiveInfo) -> Result<Vec<u32>, NoMemory> {
+    let mut ids = Vec::new(alloc);
+    for c in &info.history {
+        ids.push(c.id)?;
+    }
+    Ok(ids)
+}
+
+#[test]
+fn archive_texts_are_read(rt: HostRuntime) -> Result<(), Fail> {
+    let alloc = rt.alloc();
+    let info = read(alloc, ARCHIVE)?.ok().expect(&rt, "a value");
+    assert_eq!(rt; info.current, 1);
+    assert_eq!(rt; info.history.len(), 1);
+    assert_eq!(rt; info.history[0].id, 1);
+    assert_eq!(rt; info.history[0].system, SYSTEM);
+    assert_eq!(rt; info.history[0].version, 16);
+    let info = read(alloc, LONG_HISTORY)?.ok().expect(&rt, "a value");
+    assert_eq!(rt; info.current, 11);
+    assert_eq!(rt;
+        ids(alloc, &info)?.as_slice(),
+        [1, 2, 3, 4, 5, 6, 7, 8, 9, 10, 11].as_slice()
+    );
+    Ok(())
+}
+
+// The sections of a text, its checksum, and the section and the key at which they break the rules.
+const MISFITS: [(&'static str, &'static str, &'static str, &'static str); 14] = [
+    (
+        "",
+        "a3765a8c2c1e5d35274a0b0ce118f4031faff0bd",
+        "db",
+        "db-id",
+    ),
+    (
+        "[db:history]\n1={\"db-id\":7,\"db-version\":\"16\"}\n\n",
+        "d015d858e3f0cd296b36b012f4bc2886d5423ace",
+        "db",
+        "db-id",
+    ),
+    (
+        "[db]\ndb-id=1\ndb-system-id=7\ndb-version=\"16\"\n\n",
+        "60c38adaac2ae9b690cb0cc812441d0ef1ea3e43",
+        "db:history",
+        "1",
+    ),
+    (
+        "[db]\ndb-id=\"1\"\ndb-system-id=7\ndb-version=\"16\"\n\n[db:history]\n1={\"db-id\":7,\"db-version\":\"16\"}\n\n",
+        "1b989506e243f0e351feca1a5744af753a5fc3ca",
+        "db",
+        "db-id",
+    ),
+    (
+        "[db]\ndb-id=0\ndb-system-id=7\ndb-version=\"16\"\n\n[db:history]\n1={\"db-id\":7,\"db-version\":\"16\"}\n\n",
+        "a33c0476bc0903551b8e07130b64b1912ac5457c",
+        "db",
+        "db-id",
+    ),
+    (
+        "[db]\ndb-id=1\ndb-version=\"16\"\n\n[db:history]\n1={\"db-id\":7,\"db-version\":\"16\"}\n\n",
+        "6182772f4c248c14c5ca07355d2025c81cbd5228",
+        "db",
+        "db-system-id",
+    ),
+    (
+        "[db]\ndb-id=1\ndb-system-id=7\ndb-version=\"016\"\n\n[db:history]\n1={\"db-id\":7,\"db-version\":\"16\"}\n\n",
+        "2fba0c066b377dda43cf0dbe25739470fabde5b2",
+        "db",
+        "db-version",
+    ),
+    (
+        "[db]\ndb-id=1\ndb-system-id=7\ndb-version=\"16\"\ndb-when=1\n\n[db:history]\n1={\"db-id\":7,\"db-version\":\"16\"}\n\n",
+        "642c7e408344e7fd7cc2aca142e06bdb37a126bf",
+        "db",
+        "db-when",
+    ),
+    (
+        "[backup]\na=1\n\n[db]\ndb-id=1\ndb-system-id=7\ndb-version=\"16\"\n\n[db:history]\n1={\"db-id\":7,\"db-version\":\"16\"}\n\n",
+        "f16efbe7767648250e4d481caeb8ef961a5695a7",
+        "backup",
+        "a",
+    ),
+    (
+        "[db]\ndb-id=1\ndb-system-id=7\ndb-version=\"16\"\n\n[db:history]\n01={\"db-id\":7,\"db-version\":\"16\"}\n1={\"db-id\":7,\"db-version\":\"16\"}\n\n",
+        "478cdb3d9b2652b8d7e74ca44f5eb1d3b0a4d59f",
+        "db:history",
+        "01",
+    ),
+    (
+        "[db]\ndb-id=1\ndb-system-id=7\ndb-version=\"16\"\n\n[db:history]\n1={\"db-id\":7,\"db-more\":1,\"db-version\":\"16\"}\n\n",
+        "35fb3fb8c88561c2cc0b8c31d171caa497592b1e",
+        "db:history",
+        "1",
+    ),
+    (
+        "[db]\ndb-id=1\ndb-system-id=7\ndb-version=\"16\"\n\n[db:history]\n1={\"db-id\":8,\"db-version\":\"16\"}\n\n",
+        "70732d17e4eef2c6ed26a4bea57bbe324d00f2ed",
+        "db:history",
+        "1",
+    ),
+    (
+        "[db]\ndb-id=1\ndb-system-id=7\ndb-version=\"16\"\n\n[db:history]\n1={\"db-id\":7,\"db-version\":\"16\"}\n3={\"db-id\":7,\"db-version\":\"16\"}\n\n",
+        "04a0413822b41aa83d8015e875265a04f7b6b60e",
+        "db:history",
+        "2",
+    ),
+    (
+        "[db]\ndb-id=2\ndb-system-id=7\ndb-version=\"16\"\n\n[db:history]\n1={\"db-id\":7,\"db-version\":\"16\"}\n\n",
+        "50ea5c196fc87fb1dea72fb68d93a19ebb534b6d",
+        "db:history",
+        "2",
+    ),
+];
+
+fn fault_text(alloc: Global, fault: &MemberFault) -> Result<String, NoMemory> {
+    let text = match fault {
+        MemberFault::Absent => "absent".to_string(alloc)?,
+        MemberFault::TooLong => "too long".to_string(alloc)?,
+        MemberFault::Syntax { line } => format!(in alloc; "line {line}")?,
+        MemberFault::Sum { told, found } => {
+            let told = told.hex(alloc)?;
+            let found = found.hex(alloc)?;
+            format!(in alloc; "{told} for {found}")?
+        }
+        MemberFault::Form { section, key } => format!(in alloc; "{section} {key}")?,
+    };
+    Ok(text)
+}
+
+fn told(alloc: Global, text: &str) -> Result<String, NoMemory> {
+    let read = read(alloc, text)?;
+    match read {
+        Ok(_value) => Ok("value".to_string(alloc)?),
+        Err(fault) => fault_text(alloc, &fault),
+    }
+}
+
+#[test]
+fn misfits(rt: HostRuntime) -> Result<(), Fail> {
+    let alloc = rt.alloc();
+    for (body, sum, section, key) in MISFITS {
+        let text = format!(in alloc;
+            "[backrest]\nbackrest-format=5\n\n{body}[backrest]\nbackrest-checksum=\"{sum}\"\n"
+        )?;
+        let wanted = format!(in alloc; "{section} {key}")?;
+        assert_eq!(rt; told(alloc, text.as_str())?, wanted);
+    }
+    Ok(())
+}
+
+#[test]
+fn damaged_texts(rt: HostRuntime) -> Result<(), Fail> {
+    let alloc = rt.alloc();
+    let other =
+        "5ab4590d6c21779f8a41b4a22f28e5f580cee6ef for 5ab4590d6c21779f8a41b4a22f28e5f580cee6ee";
+    let half = &ARCHIVE[..ARCHIVE.len() / 2];
+    let wrong = ARCHIVE.replace(alloc, "e6ee", "e6ef")?;
+    for (text, wanted) in [("", "line 1"), (half, "line 10"), (wrong.as_str(), other)] {
+        assert_eq!(rt; told(alloc, text)?.as_str(), wanted);
+    }
     Ok(())
 }

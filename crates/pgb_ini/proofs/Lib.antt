@@ -15,3 +15,4 @@ pub mod Laws
 pub mod Faults
 pub mod FirstPiece
 pub mod Ends
+pub mod OneText

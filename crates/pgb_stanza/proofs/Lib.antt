@@ -1,3 +1,3 @@
 mod Refused
-mod Saves
+pub mod Saves
 mod Creates

@@ -1,5 +1,5 @@
 // Why a call on a stanza is refused.
-use pgb_info::InfoFault;
+use pgb_info::SaveFault;
 use pgb_outside::Stop;
 use std::alloc::AllocError;
 
@@ -23,16 +23,16 @@ impl From<Stop> for StanzaFault {
     }
 }
 
-impl From<InfoFault> for StanzaFault {
+impl From<SaveFault> for StanzaFault {
     ghost use Rattle.std.specs.Prelude.{◌≡◌};
     ghost use Rattle.pgb_stanza.specs.Fault.{fault_of};
 
     ghost from_gives = { λ s e. e ≡ fault_of s };
 
-    fn from(fault: InfoFault) -> Self {
+    fn from(fault: SaveFault) -> Self {
         match fault {
-            InfoFault::Disk => StanzaFault::Disk,
-            InfoFault::NoMemory => StanzaFault::NoMemory,
+            SaveFault::Disk => StanzaFault::Disk,
+            SaveFault::NoMemory => StanzaFault::NoMemory,
         }
     }
 }

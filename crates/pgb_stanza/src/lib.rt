@@ -10,3 +10,4 @@ mod saving;
 pub use control::{Control, ControlFault, read_control};
 pub use creating::{Created, create, is_new};
 pub use fault::StanzaFault;
+pub use names::archive_info_name;

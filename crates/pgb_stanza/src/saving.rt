@@ -10,7 +10,7 @@ ghost use Rattle.pgb_stanza.specs.Tight.{AreTight};
 ghost use Rattle.pgb_model.specs.Create.{first_archive, first_backup, first_archive_text, first_backup_text, member_writes, pair_writes};
 
 use crate::names::{archive_info_name, backup_info_name};
-use pgb_info::{InfoFault, save_pair};
+use pgb_info::{SaveFault, save_pair};
 use pgb_model::{ArchiveInfo, BackupInfo, Cluster, ClusterId};
 use pgb_outside::Disk;
 use std::alloc::{AllocError, Global};
@@ -45,7 +45,7 @@ fn save_backup<D: Disk>(
     d: &mut D,
     stanza: &str,
     cluster: &Cluster,
-) -> Result<(), InfoFault>
+) -> Result<(), SaveFault>
     requires first { cluster.now.id ≡ 1 }
     requires is_cluster { IsCluster cluster.now }
     ensures crash { is_loose (D.view d.old) (backup_info stanza.now) ≡ false → is_loose (D.view d.old) (copy_of (backup_info stanza.now)) ≡ false → Crash (FirstOf (member_writes (backup_info stanza.now) (first_backup_text cluster.now))) (D.view d.old) (D.view d.new) }
@@ -55,7 +55,7 @@ fn save_backup<D: Disk>(
     ensures place { D.place d.new ≡ D.place d.old }
     ensures proper { D.misuses d.new ≡ D.misuses d.old }
     ensures later { D.faults d.old ≤ D.faults d.new }
-    ensures cause { IsErrOf result InfoFault.Disk → Rises (D.faults d.old) (D.faults d.new) }
+    ensures cause { IsErrOf result SaveFault.Disk → Rises (D.faults d.old) (D.faults d.new) }
 {
     let name = backup_info_name(alloc, stanza)?;
     let value = first_backup(alloc, cluster)?;
@@ -69,7 +69,7 @@ fn save_archive<D: Disk>(
     d: &mut D,
     stanza: &str,
     cluster: &Cluster,
-) -> Result<(), InfoFault>
+) -> Result<(), SaveFault>
     requires first { cluster.now.id ≡ 1 }
     requires is_cluster { IsCluster cluster.now }
     ensures crash { is_loose (D.view d.old) (archive_info stanza.now) ≡ false → is_loose (D.view d.old) (copy_of (archive_info stanza.now)) ≡ false → Crash (FirstOf (member_writes (archive_info stanza.now) (first_archive_text cluster.now))) (D.view d.old) (D.view d.new) }
@@ -79,7 +79,7 @@ fn save_archive<D: Disk>(
     ensures place { D.place d.new ≡ D.place d.old }
     ensures proper { D.misuses d.new ≡ D.misuses d.old }
     ensures later { D.faults d.old ≤ D.faults d.new }
-    ensures cause { IsErrOf result InfoFault.Disk → Rises (D.faults d.old) (D.faults d.new) }
+    ensures cause { IsErrOf result SaveFault.Disk → Rises (D.faults d.old) (D.faults d.new) }
 {
     let name = archive_info_name(alloc, stanza)?;
     let value = first_archive(alloc, cluster)?;
@@ -93,7 +93,7 @@ pub(crate) fn save_pairs<D: Disk>(
     d: &mut D,
     stanza: &str,
     cluster: &Cluster,
-) -> Result<(), InfoFault>
+) -> Result<(), SaveFault>
     requires first { cluster.now.id ≡ 1 }
     requires is_cluster { IsCluster cluster.now }
     ensures crash { AreTight stanza.now (D.view d.old) → Crash (FirstOf (pair_writes stanza.now cluster.now)) (D.view d.old) (D.view d.new) }
@@ -103,7 +103,7 @@ pub(crate) fn save_pairs<D: Disk>(
     ensures place { D.place d.new ≡ D.place d.old }
     ensures proper { D.misuses d.new ≡ D.misuses d.old }
     ensures later { D.faults d.old ≤ D.faults d.new }
-    ensures cause { IsErrOf result InfoFault.Disk → Rises (D.faults d.old) (D.faults d.new) }
+    ensures cause { IsErrOf result SaveFault.Disk → Rises (D.faults d.old) (D.faults d.new) }
 {
     save_backup(alloc, d, stanza, cluster)?;
     save_archive(alloc, d, stanza, cluster)?;

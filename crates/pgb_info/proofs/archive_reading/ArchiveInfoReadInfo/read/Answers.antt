@@ -1,0 +1,18 @@
+use Rattle.std.proofs.Common.{List, subst}
+use Rattle.std.specs.Prelude.{string_bytes}
+use Rattle.pgb_ini.specs.declared.part.Part.{Part}
+use Rattle.pgb_ini.specs.Parts.{sections_of}
+use Rattle.pgb_info.specs.ArchiveForm.{IsArchiveForm}
+use Rattle.pgb_info.proofs.ArchiveTexts.{unread, misfit}
+use Rattle.pgb_info.proofs.archive_reading.ArchiveInfoReadInfo.read.Goals as goal
+
+pub returns-in-Err-clause-gives : goal.returns-in-Err-clause-gives
+returns-in-Err-clause-gives c = unread c.args.bytes.now c.in-Err.fault (rw c.in-Err.is at c.in_ok-parts.ensures)
+
+pub returns-in-Err-Form-clause-gives : goal.returns-in-Err-Form-clause-gives
+returns-in-Err-Form-clause-gives c =
+    let read = rw c.in-Ok.is at c.in_ok-parts.ensures in
+    let section = string_bytes c.in-Err-Form.section in
+    let key = string_bytes c.in-Err-Form.key in
+    let form = subst (λ (ps : List Part). IsArchiveForm (sections_of ps) section key) c.deref.ensures.value (rw c.in-Err-Form.field-0-is at c.in-Err-Form.ensures.fault) in
+    misfit c.args.bytes.now (sections_of c.in-Ok.parts.items) section key read.0 read.1 form

@@ -1,0 +1,100 @@
+// The current cluster of `archive.info`, as its section `db` tells it.
+ghost use Rattle.std.specs.Prelude.{◌≡◌, ◌<◌, ◌≤◌, ◌^◌, ℕ, map, true, false, IfOk, IfErr, IfSome, IfNone, string_bytes};
+ghost use Rattle.serde_json.specs.Data.{Data};
+ghost use Rattle.pgb_model.specs.Text.{In};
+ghost use Rattle.pgb_model.specs.InfoText.{IsSection};
+ghost use Rattle.pgb_model.specs.Fields.{Field, whole};
+ghost use Rattle.pgb_model.specs.InfoFiles.{IsClusterId, cluster_id_fields, version_value};
+ghost use Rattle.pgb_ini.specs.Parts.{key_of, keys_of, section_of};
+ghost use Rattle.pgb_info.specs.Fault.{IfForm};
+ghost use Rattle.pgb_info.specs.ArchiveForm.{db, cluster_keys, IsOrdered, IsWrongCurrent};
+
+use crate::cluster_ids::{number_of, version_of, whole_of};
+use crate::fault::PartsFault;
+use crate::finding::{find, form};
+use pgb_ini::Part;
+use pgb_model::ClusterId;
+use serde_json::Value;
+use std::alloc::Global;
+
+// The number of 64 bits at a key.
+fn whole_at(keys: &[(String, Value)], key: &str) -> Option<u64>
+    requires { IsOrdered (map key_of keys.now) }
+    ensures some { IfSome result (λ n. In (key.now, whole n) (map key_of keys.now)) }
+    ensures none { IfNone result ((n : ℕ) → ¬ In (key.now, whole n) (map key_of keys.now)) }
+{
+    match find(keys, key) {
+        Some(value) => whole_of(value),
+        None => None,
+    }
+}
+
+// The history number at a key.
+fn number_at(keys: &[(String, Value)], key: &str) -> Option<u32>
+    requires { IsOrdered (map key_of keys.now) }
+    ensures some { IfSome result (λ n. (1 ≤ n) × In (key.now, whole n) (map key_of keys.now)) }
+    ensures none { IfNone result ((n : ℕ) → n < 2 ^ 32 → 1 ≤ n → ¬ In (key.now, whole n) (map key_of keys.now)) }
+{
+    match find(keys, key) {
+        Some(value) => number_of(value),
+        None => None,
+    }
+}
+
+// The version at a key.
+fn version_at(keys: &[(String, Value)], key: &str) -> Option<u32>
+    requires { IsOrdered (map key_of keys.now) }
+    ensures some { IfSome result (λ n. In (key.now, version_value n) (map key_of keys.now)) }
+    ensures none { IfNone result ((n : ℕ) → n < 2 ^ 32 → ¬ In (key.now, version_value n) (map key_of keys.now)) }
+{
+    match find(keys, key) {
+        Some(value) => version_of(value),
+        None => None,
+    }
+}
+
+fn is_cluster_key(key: &str) -> bool
+    ensures known { result ≡ true → In key.now cluster_keys }
+    ensures other { result ≡ false → ¬ In key.now cluster_keys }
+{
+    key == "db-id" || key == "db-system-id" || key == "db-version"
+}
+
+// The first key that no cluster has.
+fn foreign_key<'a>(keys: &'a [(String, Value)]) -> Option<&'a str>
+    ensures some { IfSome result (λ k. ((d : Data) × In (k.now, d) (map key_of keys.now)) × ¬ In k.now cluster_keys) }
+    ensures none { IfNone result ((k : Field) → In k (map key_of keys.now) → In k.0 cluster_keys) }
+{
+    for k in keys {
+        if !is_cluster_key(k.0.as_str()) {
+            return Some(k.0.as_str());
+        }
+    }
+    None
+}
+
+/// The cluster that the section tells.
+pub(crate) fn current_of(alloc: Global, part: &Part) -> Result<ClusterId, PartsFault>
+    requires { IsSection (section_of part.now) }
+    ensures cluster { IfOk result (λ c. IsClusterId c × (1 ≤ c.id) × (keys_of part.now ≡ cluster_id_fields c)) }
+    ensures fault { IfErr result (λ e. IfForm e (λ section key. (section ≡ db) × IsWrongCurrent (keys_of part.now) key)) }
+{
+    let keys = &part.keys;
+    let Some(id) = number_at(keys, "db-id") else {
+        return Err(form(alloc, "db", "db-id"));
+    };
+    let Some(system) = whole_at(keys, "db-system-id") else {
+        return Err(form(alloc, "db", "db-system-id"));
+    };
+    let Some(version) = version_at(keys, "db-version") else {
+        return Err(form(alloc, "db", "db-version"));
+    };
+    if let Some(key) = foreign_key(keys) {
+        return Err(form(alloc, "db", key));
+    }
+    Ok(ClusterId {
+        id,
+        system,
+        version,
+    })
+}

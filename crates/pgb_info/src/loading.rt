@@ -1,0 +1,98 @@
+// A pair is read.
+ghost use Rattle.std.specs.Prelude.{◌≡◌, ◌≤◌, IfOk, IfErr, IfSome, IsErrOf, length};
+ghost use Rattle.pgb_outside.specs.Moments.{Rests};
+ghost use Rattle.pgb_outside.specs.Cause.{Rises};
+ghost use Rattle.pgb_model.specs.InfoFiles.{info_limit};
+ghost use Rattle.pgb_model.specs.Pair.{PairIs};
+ghost use Rattle.pgb_info.specs.Causes.{PairCause};
+ghost use Rattle.pgb_info.specs.Reading.{BytesAre, MemberGives, of_both};
+
+use crate::fault::{InfoFault, MemberFault, SaveFault};
+use crate::members::copy_name;
+use crate::read_info::ReadInfo;
+use pgb_disk::{StoreFault, read_whole};
+use pgb_outside::Disk;
+use std::alloc::Global;
+
+// An info text has at most 64 MiB.
+const LIMIT: u64 = 67_108_864;
+
+// The bytes of a member.
+pub(crate) fn read_bytes<D: Disk>(
+    alloc: Global,
+    d: &mut D,
+    name: &str,
+) -> Result<Result<Vec<u8>, MemberFault>, SaveFault>
+    ensures bytes { IfOk result (λ r. IfSome (D.view d.old).now (λ f. BytesAre (f name.now) r)) }
+    ensures within { IfOk result (λ r. IfOk r (λ b. length b.items ≤ info_limit)) }
+    ensures now { (D.view d.new).now ≡ (D.view d.old).now }
+    ensures time { Rests (D.view d.old) (D.view d.new) }
+    ensures place { D.place d.new ≡ D.place d.old }
+    ensures proper { D.misuses d.new ≡ D.misuses d.old }
+    ensures later { D.faults d.old ≤ D.faults d.new }
+    ensures cause { IsErrOf result SaveFault.Disk → Rises (D.faults d.old) (D.faults d.new) }
+{
+    match read_whole(alloc, d, name, LIMIT) {
+        Ok(Some(bytes)) => Ok(Ok(bytes)),
+        Ok(None) => Ok(Err(MemberFault::Absent)),
+        Err(StoreFault::TooLong { .. }) => Ok(Err(MemberFault::TooLong)),
+        Err(StoreFault::Disk) => Err(SaveFault::Disk),
+        Err(StoreFault::NoMemory) => Err(SaveFault::NoMemory),
+    }
+}
+
+// The value of a member.
+fn read_member<D: Disk, I: ReadInfo>(
+    alloc: Global,
+    d: &mut D,
+    name: &str,
+) -> Result<Result<I, MemberFault>, SaveFault>
+    ensures gives { IfOk result (λ r. IfSome (D.view d.old).now (λ f. MemberGives I.IsText I.IsForm I.value f name.now r)) }
+    ensures valid { IfOk result (λ r. IfOk r I.is_valid) }
+    ensures within { IfOk result (λ r. IfOk r (λ v. length (I.text (I.value v)) ≤ info_limit)) }
+    ensures now { (D.view d.new).now ≡ (D.view d.old).now }
+    ensures time { Rests (D.view d.old) (D.view d.new) }
+    ensures place { D.place d.new ≡ D.place d.old }
+    ensures proper { D.misuses d.new ≡ D.misuses d.old }
+    ensures later { D.faults d.old ≤ D.faults d.new }
+    ensures cause { IsErrOf result SaveFault.Disk → Rises (D.faults d.old) (D.faults d.new) }
+{
+    match read_bytes(alloc, d, name)? {
+        Ok(bytes) => Ok(I::read(alloc, &bytes)?),
+        Err(fault) => Ok(Err(fault)),
+    }
+}
+
+// The fault of a pair whose members have these.
+fn of_both(main: MemberFault, copy: MemberFault) -> InfoFault
+    ensures { result ≡ of_both main copy }
+{
+    match (main, copy) {
+        (MemberFault::Absent, MemberFault::Absent) => InfoFault::Missing,
+        (main, copy) => InfoFault::Damaged { main, copy },
+    }
+}
+
+/// The value of the main member where that is the text of one, else of the copy.
+pub fn load_pair<D: Disk, I: ReadInfo>(alloc: Global, d: &mut D, name: &str) -> Result<I, InfoFault>
+    ensures found { IfOk result (λ v. IfSome (D.view d.old).now (λ f. PairIs I.IsText f name.now (I.value v))) }
+    ensures valid { IfOk result (λ v. I.is_valid v) }
+    ensures within { IfOk result (λ v. length (I.text (I.value v)) ≤ info_limit) }
+    ensures now { (D.view d.new).now ≡ (D.view d.old).now }
+    ensures time { Rests (D.view d.old) (D.view d.new) }
+    ensures place { D.place d.new ≡ D.place d.old }
+    ensures proper { D.misuses d.new ≡ D.misuses d.old }
+    ensures later { D.faults d.old ≤ D.faults d.new }
+    ensures cause { IfErr result (PairCause I.IsText I.IsForm name.now (D.view d.old).now (Rises (D.faults d.old) (D.faults d.new))) }
+{
+    let copy_name = copy_name(alloc, name)?;
+    let main = match read_member(alloc, d, name)? {
+        Ok(value) => return Ok(value),
+        Err(fault) => fault,
+    };
+    let copy = match read_member(alloc, d, copy_name.as_str())? {
+        Ok(value) => return Ok(value),
+        Err(fault) => fault,
+    };
+    Err(of_both(main, copy))
+}
