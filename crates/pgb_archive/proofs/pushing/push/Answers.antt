@@ -1,0 +1,72 @@
+use Rattle.pgb_model.proofs.Segments.{still_moves}
+use Rattle.pgb_archive.specs.Stored.{archived_segment}
+use Rattle.pgb_archive.proofs.Placed.{none_moves, shown_free, shown_one, temporary_of, lies_of, lasting_of, put_part, put_done, put_moves, put_steady, kept_done, kept_steady}
+use Rattle.pgb_archive.proofs.pushing.push.Goals as goal
+
+pub returns-in_err-check_header-clause-moves : goal.returns-in_err-check_header-clause-moves
+returns-in_err-check_header-clause-moves g c =
+    λ s steady told. none_moves c.args.stanza.now c.args.id.now c.args.segment.now c.args.bytes.now s (g.D.Disk.view c.args.d.now) steady told
+
+pub returns-in_err-names-clause-moves : goal.returns-in_err-names-clause-moves
+returns-in_err-names-clause-moves g c =
+    λ s steady told. none_moves c.args.stanza.now c.args.id.now c.args.segment.now c.args.bytes.now s (g.D.Disk.view c.args.d.now) steady told
+
+pub returns-in_err-look_for-clause-moves : goal.returns-in_err-look_for-clause-moves
+returns-in_err-look_for-clause-moves g c =
+    λ s steady told. still_moves c.args.stanza.now s (archived_segment c.args.id.now c.args.segment.now c.args.bytes.now) (g.D.Disk.view c.args.d.now) _ steady told c.look_for.ensures.time c.look_for.ensures.now
+
+pub returns-in-One-clause-moves : goal.returns-in-One-clause-moves
+returns-in-One-clause-moves g c =
+    λ s steady told. still_moves c.args.stanza.now s (archived_segment c.args.id.now c.args.segment.now c.args.bytes.now) (g.D.Disk.view c.args.d.now) _ steady told c.look_for.ensures.time c.look_for.ensures.now
+
+pub returns-in-One-2-clause-moves : goal.returns-in-One-2-clause-moves
+returns-in-One-2-clause-moves g c =
+    λ s steady told. still_moves c.args.stanza.now s (archived_segment c.args.id.now c.args.segment.now c.args.bytes.now) (g.D.Disk.view c.args.d.now) _ steady told c.look_for.ensures.time c.look_for.ensures.now
+
+pub returns-clause-moves : goal.returns-clause-moves
+returns-clause-moves g c =
+    λ s steady told. still_moves c.args.stanza.now s (archived_segment c.args.id.now c.args.segment.now c.args.bytes.now) (g.D.Disk.view c.args.d.now) _ steady told c.look_for.ensures.time c.look_for.ensures.now
+
+pub put_at-requires-clause-folder : goal.put_at-requires-clause-folder
+put_at-requires-clause-folder g c =
+    lies_of c.args.stanza.now c.args.id.now c.args.segment.now c.in_ok-names.names c.in_ok-names.ensures.names c.of-sum.result.0
+
+pub put_at-requires-clause-temporary : goal.put_at-requires-clause-temporary
+put_at-requires-clause-temporary g c =
+    temporary_of c.args.stanza.now c.args.id.now c.args.segment.now c.in_ok-names.names c.in_ok-names.ensures.names
+
+pub put_at-requires-clause-lasting : goal.put_at-requires-clause-lasting
+put_at-requires-clause-lasting g c =
+    lasting_of c.args.stanza.now c.args.id.now c.args.segment.now c.in_ok-names.names c.in_ok-names.ensures.names c.segment_names.ensures.place c.args.bytes.now c.of-sum.result.0 c.of-sum.ensures
+
+pub returns-in_err-put_at-in-Free-clause-part : goal.returns-in_err-put_at-in-Free-clause-part
+returns-in_err-put_at-in-Free-clause-part g c =
+    λ s some now. put_part c.args.stanza.now c.args.id.now c.args.segment.now c.in_ok-names.names c.in_ok-names.ensures.names c.segment_names.ensures.place c.args.bytes.now c.of-sum.result.0 c.of-sum.ensures s (g.D.Disk.view c.args.d.now).now _ _ some (shown_free c.args.stanza.now c.args.id.now c.args.segment.now c.in_ok-names.names c.in_ok-names.ensures.names (g.D.Disk.view c.args.d.now).now _ c.in-Free.is c.in_ok-look_for.ensures.shows) c.look_for.ensures.now c.put_at.ensures.now_part now
+
+pub returns-in-Free-clause-part : goal.returns-in-Free-clause-part
+returns-in-Free-clause-part g c =
+    λ s some now. put_part c.args.stanza.now c.args.id.now c.args.segment.now c.in_ok-names.names c.in_ok-names.ensures.names c.segment_names.ensures.place c.args.bytes.now c.of-sum.result.0 c.of-sum.ensures s (g.D.Disk.view c.args.d.now).now _ _ some (shown_free c.args.stanza.now c.args.id.now c.args.segment.now c.in_ok-names.names c.in_ok-names.ensures.names (g.D.Disk.view c.args.d.now).now _ c.in-Free.is c.in_ok-look_for.ensures.shows) c.look_for.ensures.now c.put_at.ensures.now_part now
+
+pub returns-in_err-put_at-in-Free-clause-moves : goal.returns-in_err-put_at-in-Free-clause-moves
+returns-in_err-put_at-in-Free-clause-moves g c =
+    λ s steady told. put_moves c.args.stanza.now c.args.id.now c.args.segment.now c.in_ok-names.names c.in_ok-names.ensures.names c.segment_names.ensures.place c.args.bytes.now c.of-sum.result.0 c.of-sum.ensures s (g.D.Disk.view c.args.d.now) _ c.look_for.ensures.time c.look_for.ensures.now steady told _ (shown_free c.args.stanza.now c.args.id.now c.args.segment.now c.in_ok-names.names c.in_ok-names.ensures.names (g.D.Disk.view c.args.d.now).now _ c.in-Free.is c.in_ok-look_for.ensures.shows) c.put_at.ensures.crash
+
+pub returns-in-Free-clause-moves : goal.returns-in-Free-clause-moves
+returns-in-Free-clause-moves g c =
+    λ s steady told. put_moves c.args.stanza.now c.args.id.now c.args.segment.now c.in_ok-names.names c.in_ok-names.ensures.names c.segment_names.ensures.place c.args.bytes.now c.of-sum.result.0 c.of-sum.ensures s (g.D.Disk.view c.args.d.now) _ c.look_for.ensures.time c.look_for.ensures.now steady told _ (shown_free c.args.stanza.now c.args.id.now c.args.segment.now c.in_ok-names.names c.in_ok-names.ensures.names (g.D.Disk.view c.args.d.now).now _ c.in-Free.is c.in_ok-look_for.ensures.shows) c.put_at.ensures.crash
+
+pub returns-in-Free-clause-done : goal.returns-in-Free-clause-done
+returns-in-Free-clause-done g c =
+    λ s some now. put_done c.args.stanza.now c.args.id.now c.args.segment.now c.in_ok-names.names c.in_ok-names.ensures.names c.segment_names.ensures.place c.args.bytes.now c.of-sum.result.0 c.of-sum.ensures s (g.D.Disk.view c.args.d.now).now _ _ some (shown_free c.args.stanza.now c.args.id.now c.args.segment.now c.in_ok-names.names c.in_ok-names.ensures.names (g.D.Disk.view c.args.d.now).now _ c.in-Free.is c.in_ok-look_for.ensures.shows) c.look_for.ensures.now c.in_ok-put_at-in-Free.ensures.now_whole now
+
+pub returns-in-Free-clause-stored : goal.returns-in-Free-clause-stored
+returns-in-Free-clause-stored g c =
+    λ s steady told. put_steady c.args.stanza.now c.args.id.now c.args.segment.now c.in_ok-names.names c.in_ok-names.ensures.names c.segment_names.ensures.place c.args.bytes.now c.of-sum.result.0 c.of-sum.ensures s (g.D.Disk.view c.args.d.now) _ c.look_for.ensures.time c.look_for.ensures.now steady told _ (shown_free c.args.stanza.now c.args.id.now c.args.segment.now c.in_ok-names.names c.in_ok-names.ensures.names (g.D.Disk.view c.args.d.now).now _ c.in-Free.is c.in_ok-look_for.ensures.shows) c.put_at.ensures.crash c.in_ok-put_at-in-Free.ensures.whole
+
+pub returns-in-One-clause-done : goal.returns-in-One-clause-done
+returns-in-One-clause-done g c =
+    λ s some now. kept_done c.args.stanza.now c.args.id.now c.args.segment.now c.in_ok-names.names c.in_ok-names.ensures.names c.segment_names.ensures.place c.args.bytes.now c.of-sum.result.0 c.of-sum.ensures s (g.D.Disk.view c.args.d.now).now _ some (shown_one c.args.stanza.now c.args.id.now c.args.segment.now c.in_ok-names.names c.in_ok-names.ensures.names (g.D.Disk.view c.args.d.now).now _ _ c.in-One.is c.in_ok-look_for.ensures.shows) c.look_for.ensures.now now
+
+pub returns-in-One-clause-stored : goal.returns-in-One-clause-stored
+returns-in-One-clause-stored g c =
+    λ s steady told. kept_steady c.args.stanza.now c.args.id.now c.args.segment.now c.in_ok-names.names c.in_ok-names.ensures.names c.segment_names.ensures.place c.args.bytes.now c.of-sum.result.0 c.of-sum.ensures s (g.D.Disk.view c.args.d.now) _ c.look_for.ensures.time c.look_for.ensures.now steady told (shown_one c.args.stanza.now c.args.id.now c.args.segment.now c.in_ok-names.names c.in_ok-names.ensures.names (g.D.Disk.view c.args.d.now).now _ _ c.in-One.is c.in_ok-look_for.ensures.shows)

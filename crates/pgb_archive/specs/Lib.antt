@@ -1,0 +1,4 @@
+pub mod Stored
+pub mod Causes
+pub mod Fault
+pub mod Looks

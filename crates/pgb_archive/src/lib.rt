@@ -1,0 +1,15 @@
+//! The archive of a stanza: segments are stored in it.
+#![tactic(auto)]
+
+mod aside;
+mod fault;
+mod looking;
+mod names;
+mod pushing;
+
+pub use aside::{Aside, TurnStop};
+pub use fault::ArchiveFault;
+pub use pushing::{Pushed, push};
+
+#[cfg(test)]
+mod tests;
