@@ -1,5 +1,5 @@
 -- stanza-create by its parts.
-use Rattle.std.proofs.Common.{◌≡◌, ◌⊎◌, ℕ, [], ◌∷◌, Option, Some, None, true, false, sym, ap, ◌∙◌, subst, arith}
+use Rattle.std.proofs.Common.{◌≡◌, ◌⊎◌, ℕ, [], ◌∷◌, Option, Some, None, true, false, refl, sym, ap, ◌∙◌, subst, arith}
 use Rattle.std.specs.Prelude.{IfSome, IsSome, IsSomeAnd}
 use Rattle.pgb_outside.specs.Content.{Content}
 use Rattle.pgb_outside.specs.Tree.{Nodes}
@@ -13,6 +13,7 @@ use Rattle.pgb_stanza.specs.declared.control.Control.{Control}
 use Rattle.pgb_stanza.specs.ControlFile.{Tells, first_cluster}
 use Rattle.std.proofs.lemmas.List.{append_cancel_right}
 use Rattle.std.proofs.lemmas.Fmt.{decimal_injective}
+use Rattle.pgb_command.specs.Storing.{AgreesAtPair}
 use Rattle.pgb_command.specs.Cluster.{control_bytes, version_bytes, FolderTells, IsClusterOf}
 
 -- ---- one cluster
@@ -63,3 +64,8 @@ module _ (stanza : Text) (nodes : Option Nodes) (told : Control) (tells : IfSome
       let e : ◌≡◌ {A = Option Cluster} (Some c) (Some (first_cluster told)) = cluster_is nodes told (Some c) tells is in
       let same_cluster : c ≡ first_cluster told = cc in
       subst (λ (x : Cluster). IfSome new (HasNewPairs stanza x)) (sym same_cluster) (members (subst (λ (o : Option Content). IsSome o) (sym same) some))
+
+-- the members of a new stanza's archive pair agree
+pub agrees_new : (stanza : Text) (c : Cluster) (now : Option Content) → IfSome now (HasNewPairs stanza c) → IfSome now (AgreesAtPair stanza)
+agrees_new stanza c None h = tt
+agrees_new stanza c (Some f) h = (h.archive_copy ∙ sym h.archive, subst (λ (v : Option Text). IsSome v) (sym h.archive) refl)

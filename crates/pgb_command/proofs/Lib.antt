@@ -1,7 +1,13 @@
-mod SixWords
 mod Written
 mod Told
 mod Fronts
 mod Creates
-mod Causes
+mod WalNames
 mod Carries
+mod Chains
+mod Heals
+mod Stores
+mod StoreCauses
+mod Pushes
+mod Causes
+mod Asked

@@ -1,53 +1,119 @@
 -- The status and the output of each answer (own).
-use Rattle.std.specs.Prelude.{◌≡◌, ◌⊎◌, ◌≤◌, ⊤, ℕ, [], ◌++◌, Option, Some, None, codes, decimal}
+use Rattle.std.specs.Prelude.{◌≡◌, ◌⊎◌, ◌≤◌, ⊤, ℕ, ◌||◌, ◌==◌, nat_lt, [], ◌++◌, map, codes, decimal, string_bytes, if◌then◌else◌}
+use Rattle.pgb_text.specs.Sum.{sum_text}
 use Rattle.pgb_model.specs.Text.{Text}
-use Rattle.pgb_command.specs.declared.fault.Unbuilt.TheVariants.{CommandLine, ExistingStanza}
+use Rattle.pgb_info.specs.declared.fault.MemberFault.{MemberFault}
+use Rattle.pgb_info.specs.declared.fault.MemberFault.TheVariants.{Absent, TooLong as LongMember, Syntax, Sum, Form}
+use Rattle.pgb_command.specs.declared.fault.Unbuilt.{Unbuilt}
+use Rattle.pgb_command.specs.declared.fault.Unbuilt.TheVariants.{CommandLine, ExistingStanza, ArchiveFile}
+use Rattle.pgb_command.specs.declared.fault.ControlFile.{ControlFile}
 use Rattle.pgb_command.specs.declared.fault.ControlFile.TheVariants.{Control, Version}
+use Rattle.pgb_command.specs.declared.fault.Identity.{Identity}
 use Rattle.pgb_command.specs.declared.fault.Fault.{Fault}
-use Rattle.pgb_command.specs.declared.fault.Fault.TheVariants.{NotBuilt, ControlMissing, ControlShort, VersionText, VersionUnsupported, Disk, Tree, Sink, NoMemory}
+use Rattle.pgb_command.specs.declared.fault.Fault.TheVariants.{NotBuilt, SegmentName, PathOutside, ControlMissing, ControlShort, VersionText, VersionUnsupported, StanzaMissing, InfoDamaged, StanzaMismatch, SegmentMissing, TooLong, HeaderForm, SegmentSize, HeaderMismatch, Ambiguous, Duplicate, Disk, Tree, Sink, NoMemory}
 
 abbrev pub status_of : Fault → ℕ
 status_of (NotBuilt what) = 100
+status_of (SegmentName name) = 30
+status_of (PathOutside path) = 12
 status_of (ControlMissing file) = 28
 status_of (ControlShort length) = 25
 status_of VersionText = 26
 status_of (VersionUnsupported version) = 27
+status_of (StanzaMissing stanza) = 21
+status_of (InfoDamaged name main copy) = 22
+status_of (StanzaMismatch kept found) = 23
+status_of (SegmentMissing path) = 37
+status_of (TooLong name limit) = 70
+status_of (HeaderForm info) = 32
+status_of (SegmentSize told found) = 31
+status_of (HeaderMismatch kept found) = 33
+status_of (Ambiguous first second) = 36
+status_of (Duplicate kept found) = 34
 status_of Disk = 80
 status_of Tree = 82
 status_of Sink = 87
 status_of NoMemory = 90
 
+-- a word as a line shows it: `?` for each control character
+abbrev pub shown_byte : ℕ → ℕ
+shown_byte c = if nat_lt c 32 || (c == 127) then 63 else c
+
+abbrev pub shown : Text → Text
+shown = map shown_byte
+
+abbrev pub part_name : Unbuilt → Text
+part_name CommandLine = codes "command line"
+part_name ExistingStanza = codes "existing stanza"
+part_name ArchiveFile = codes "archive file"
+
+abbrev pub file_text : ControlFile → Text
+file_text Control = codes "global/pg_control"
+file_text Version = codes "PG_VERSION"
+
+abbrev pub member_text : MemberFault → Text
+member_text Absent = codes "absent"
+member_text LongMember = codes "too long"
+member_text (Syntax line) = codes "line " ++ decimal line
+member_text (Sum told found) = codes "checksum"
+member_text (Form section key) = codes "key " ++ string_bytes key
+
+unfoldable pub damage_text : MemberFault → MemberFault → Text
+damage_text main copy = codes "' is damaged: " ++ (member_text main ++ (codes " / " ++ (member_text copy ++ codes "\n")))
+
+abbrev pub identity_text : Identity → Text
+identity_text i = codes "system " ++ (decimal i.system ++ (codes " version " ++ decimal i.version))
+
 -- the last line of the output
 abbrev pub error_line : Fault → Text
-error_line (NotBuilt CommandLine) = codes "ERROR: [100]: 'command line' is not built yet\n"
-error_line (NotBuilt ExistingStanza) = codes "ERROR: [100]: 'existing stanza' is not built yet\n"
-error_line (ControlMissing Control) = codes "ERROR: [028]: 'global/pg_control' is missing\n"
-error_line (ControlMissing Version) = codes "ERROR: [028]: 'PG_VERSION' is missing\n"
+error_line (NotBuilt what) = codes "ERROR: [100]: '" ++ (part_name what ++ codes "' is not built yet\n")
+error_line (SegmentName name) = codes "ERROR: [030]: '" ++ (shown (string_bytes name) ++ codes "' is no WAL file name\n")
+error_line (PathOutside path) = codes "ERROR: [012]: path '" ++ (shown (string_bytes path) ++ codes "' is outside the data folder\n")
+error_line (ControlMissing file) = codes "ERROR: [028]: '" ++ (file_text file ++ codes "' is missing\n")
 error_line (ControlShort length) = codes "ERROR: [025]: control file has " ++ (decimal length ++ codes " bytes\n")
 error_line VersionText = codes "ERROR: [026]: PG_VERSION is not valid\n"
 error_line (VersionUnsupported version) = codes "ERROR: [027]: version " ++ (decimal version ++ codes " is not supported\n")
+error_line (StanzaMissing stanza) = codes "ERROR: [021]: stanza '" ++ (string_bytes stanza ++ codes "' does not exist\n")
+error_line (InfoDamaged name main copy) = codes "ERROR: [022]: info '" ++ (string_bytes name ++ damage_text main copy)
+error_line (StanzaMismatch kept found) = codes "ERROR: [023]: stanza has " ++ (identity_text kept ++ (codes ", data folder has " ++ (identity_text found ++ codes "\n")))
+error_line (SegmentMissing path) = codes "ERROR: [037]: '" ++ (shown (string_bytes path) ++ codes "' is missing\n")
+error_line (TooLong name limit) = codes "ERROR: [070]: '" ++ (string_bytes name ++ (codes "' is longer than " ++ (decimal limit ++ codes "\n")))
+error_line (HeaderForm info) = codes "ERROR: [032]: WAL header is not valid\n"
+error_line (SegmentSize told found) = codes "ERROR: [031]: segment size " ++ (decimal told ++ (codes ", found " ++ (decimal found ++ codes " bytes\n")))
+error_line (HeaderMismatch kept found) = codes "ERROR: [033]: stanza has system " ++ (decimal kept ++ (codes ", WAL has system " ++ (decimal found ++ codes "\n")))
+error_line (Ambiguous first second) = codes "ERROR: [036]: '" ++ (string_bytes first ++ (codes "' and '" ++ (string_bytes second ++ codes "' are both stored\n")))
+error_line (Duplicate kept found) = codes "ERROR: [034]: archived with checksum " ++ (sum_text kept.0 ++ (codes ", now " ++ (sum_text found.0 ++ codes "\n")))
 error_line Disk = codes "ERROR: [080]: repository failed\n"
 error_line Tree = codes "ERROR: [082]: data folder failed\n"
 error_line Sink = []
 error_line NoMemory = codes "ERROR: [090]: out of memory\n"
 
--- an answer: none is a fault
-abbrev pub status : Option Fault → ℕ
-status None = 0
-status (Some fault) = status_of fault
+-- the warning of a push that finds its bytes stored
+abbrev pub same_line : Text → Text
+same_line name = codes "WARN: " ++ (name ++ codes " is already in the archive with the same checksum\n")
 
--- this holds where the fault is what was found, and no failure of an object
+-- Ok with its lines, or a refusal
+pub data Answer : Type 0 where
+  finished : (lines : Text) → Answer
+  refused : (fault : Fault) → Answer
+
+abbrev pub status : Answer → ℕ
+status (finished lines) = 0
+status (refused fault) = status_of fault
+
+-- what is written of it
+abbrev pub lines_of : Answer → Text
+lines_of (finished lines) = lines
+lines_of (refused fault) = error_line fault
+
+-- the statuses of faults that are what was found, and no failure of an object and no want of memory
+abbrev pub IsFinding : ℕ → Type 0
+IsFinding status = (status ≡ 100) ⊎ ((1 ≤ status) × (status ≤ 72))
+
+-- this holds where the fault is one of those
 abbrev pub OnFinding : Fault → Type 0 → Type 0
-OnFinding (NotBuilt what) P = P
-OnFinding (ControlMissing file) P = P
-OnFinding (ControlShort length) P = P
-OnFinding VersionText P = P
-OnFinding (VersionUnsupported version) P = P
 OnFinding Disk P = ⊤
 OnFinding Tree P = ⊤
 OnFinding Sink P = ⊤
 OnFinding NoMemory P = ⊤
-
--- the statuses of such faults
-abbrev pub IsFinding : ℕ → Type 0
-IsFinding status = (status ≡ 100) ⊎ ((25 ≤ status) × (status ≤ 28))
+OnFinding other P = P

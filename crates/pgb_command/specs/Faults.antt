@@ -1,17 +1,18 @@
 -- Which answer a fault below is.
-use Rattle.pgb_disk.specs.declared.fault.StoreFault.{StoreFault}
-use Rattle.pgb_disk.specs.declared.fault.StoreFault.TheVariants.{Disk as StoreDisk, TooLong, NoMemory as StoreNoMemory}
+use Rattle.pgb_outside.specs.declared.stop.Stop.{Stop}
+use Rattle.pgb_outside.specs.declared.stop.Stop.TheVariants.{Failed, NoMemory as StopNoMemory}
 use Rattle.pgb_stanza.specs.declared.fault.StanzaFault.{StanzaFault}
 use Rattle.pgb_stanza.specs.declared.fault.StanzaFault.TheVariants.{Disk as StanzaDisk, NoMemory as StanzaNoMemory}
 use Rattle.pgb_stanza.specs.declared.control.ControlFault.{ControlFault}
 use Rattle.pgb_stanza.specs.declared.control.ControlFault.TheVariants.{ControlShort as ShortControl, VersionText as NoVersion, VersionUnsupported as OtherVersion}
+use Rattle.pgb_archive.specs.declared.fault.ArchiveFault.{ArchiveFault}
+use Rattle.pgb_archive.specs.declared.fault.ArchiveFault.TheVariants.{HeaderForm as FormOf, SegmentSize as SizeOf, HeaderMismatch as MismatchOf, Ambiguous as AmbiguousOf, Duplicate as DuplicateOf, Disk as ArchiveDisk, NoMemory as ArchiveNoMemory}
 use Rattle.pgb_command.specs.declared.fault.Fault.{Fault}
-use Rattle.pgb_command.specs.declared.fault.Fault.TheVariants.{ControlShort, VersionText, VersionUnsupported, Disk, NoMemory}
+use Rattle.pgb_command.specs.declared.fault.Fault.TheVariants.{ControlShort, VersionText, VersionUnsupported, HeaderForm, SegmentSize, HeaderMismatch, Ambiguous, Duplicate, Disk, Tree, NoMemory}
 
-abbrev pub of_store : StoreFault → Fault
-of_store StoreDisk = Disk
-of_store (TooLong name limit) = NoMemory
-of_store StoreNoMemory = NoMemory
+abbrev pub of_tree : Stop → Fault
+of_tree Failed = Tree
+of_tree StopNoMemory = NoMemory
 
 abbrev pub of_stanza : StanzaFault → Fault
 of_stanza StanzaDisk = Disk
@@ -21,3 +22,12 @@ abbrev pub of_control : ControlFault → Fault
 of_control (ShortControl n) = ControlShort n
 of_control NoVersion = VersionText
 of_control (OtherVersion n) = VersionUnsupported n
+
+abbrev pub of_archive : ArchiveFault → Fault
+of_archive (FormOf info) = HeaderForm info
+of_archive (SizeOf told found) = SegmentSize told found
+of_archive (MismatchOf kept found) = HeaderMismatch kept found
+of_archive (AmbiguousOf first second) = Ambiguous first second
+of_archive (DuplicateOf kept found) = Duplicate kept found
+of_archive ArchiveDisk = Disk
+of_archive ArchiveNoMemory = NoMemory

@@ -1,7 +1,12 @@
 pub mod Words
 pub mod Faults
 pub mod Answers
+pub mod Outcomes
 pub mod Output
 pub mod Cluster
+pub mod WalPath
+pub mod WalCause
+pub mod Commands
+pub mod Storing
 pub mod Causes
 pub mod Making

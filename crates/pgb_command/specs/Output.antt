@@ -1,25 +1,27 @@
 -- What was written.
-use Rattle.std.specs.Prelude.{◌≡◌, ◌⊎◌, ℕ, ◌++◌, take, Option, Some, None, option_map}
+use Rattle.std.specs.Prelude.{◌≡◌, ◌⊎◌, ℕ, ◌++◌, take, Option, option_map}
 use Rattle.pgb_model.specs.Text.{Text}
-use Rattle.pgb_command.specs.declared.fault.Fault.{Fault}
 use Rattle.pgb_command.specs.declared.fault.Fault.TheVariants.{Sink, NoMemory}
-use Rattle.pgb_command.specs.Answers.{error_line}
+use Rattle.pgb_command.specs.Answers.{Answer, refused, lines_of, error_line}
 
 -- some first part of the bytes was written, where that is told
 pub record IsFrontWritten (old : Option Text) (bytes : Text) (new : Option Text) : Type 0 where
   pub count : ℕ
   pub is : new ≡ option_map (λ (text : Text). text ++ take count bytes) old
 
--- How a fault may be told: by its own line; or the sink failed behind a first part of that line, or memory did; or there was no memory for the line.
-pub data IsTold (old : Option Text) (fault : Fault) (new : Option Text) (rose : Type 0) : Fault → Type 0 where
-  Whole : new ≡ option_map (λ (text : Text). text ++ error_line fault) old → IsTold old fault new rose fault
-  Cut : rose → IsFrontWritten old (error_line fault) new → IsTold old fault new rose Sink
-  Starved : (line : Fault) → (line ≡ fault) ⊎ (line ≡ NoMemory) → IsFrontWritten old (error_line line) new → IsTold old fault new rose NoMemory
-  Wordless : rose → IsFrontWritten old (error_line NoMemory) new → IsTold old fault new rose Sink
+-- How an answer may be told: by its own lines; or the sink failed behind a first part of these, or memory did; or there was no memory for the lines.
+pub data IsTold (old : Option Text) (answer : Answer) (new : Option Text) (rose : Type 0) : Answer → Type 0 where
+  Whole : new ≡ option_map (λ (text : Text). text ++ lines_of answer) old → IsTold old answer new rose answer
+  Cut : rose → IsFrontWritten old (lines_of answer) new → IsTold old answer new rose (refused Sink)
+  Starved : (line : Answer) → (line ≡ answer) ⊎ (line ≡ refused NoMemory) → IsFrontWritten old (lines_of line) new → IsTold old answer new rose (refused NoMemory)
+  Wordless : rose → IsFrontWritten old (error_line NoMemory) new → IsTold old answer new rose (refused Sink)
 
--- The line that tells the answer was written, and nothing else; where the sink failed, or memory did, a first part of the line of a fault that has its cause.
-abbrev pub Wrote : (Fault → Type 0) → Option Text → Option Fault → Option Text → Type 0
-Wrote Has old None new = new ≡ old
-Wrote Has old (Some Sink) new = (fault : Fault) × Has fault × IsFrontWritten old (error_line fault) new
-Wrote Has old (Some NoMemory) new = (fault : Fault) × Has fault × IsFrontWritten old (error_line fault) new
-Wrote Has old (Some fault) new = new ≡ option_map (λ (text : Text). text ++ error_line fault) old
+-- The lines of an answer that has its cause were written in part.
+abbrev pub WroteFront : (Answer → Type 0) → Option Text → Option Text → Type 0
+WroteFront Has old new = (answer : Answer) × Has answer × IsFrontWritten old (lines_of answer) new
+
+-- The answer's lines were written, and nothing else; where the sink failed, or memory did, a first part of the lines of an answer that has its cause.
+abbrev pub Wrote : (Answer → Type 0) → Option Text → Answer → Option Text → Type 0
+Wrote Has old (refused Sink) new = WroteFront Has old new
+Wrote Has old (refused NoMemory) new = WroteFront Has old new
+Wrote Has old other new = new ≡ option_map (λ (text : Text). text ++ lines_of other) old

@@ -4,9 +4,9 @@ ghost use Rattle.std.specs.declared.alloc.Global.{Global};
 ghost use Rattle.pgb_outside.specs.Cause.{Rises};
 ghost use Rattle.pgb_command.specs.Cluster.{control_bytes, version_bytes, FolderTells, ClusterCause};
 
-use crate::fault::{ControlFile, Fault};
+use crate::fault::{ControlFile, Fault, of_tree};
 use crate::reading::read_front;
-use pgb_outside::{Known, Stop, Tree};
+use pgb_outside::{Known, Tree};
 use pgb_stanza::{Control, read_control};
 use std::alloc::Global;
 
@@ -28,8 +28,7 @@ fn read_control_file<T: Tree>(alloc: Global, tree: &mut T) -> Result<Vec<u8>, Fa
         Ok(None) => Err(Fault::ControlMissing {
             file: ControlFile::Control,
         }),
-        Err(Stop::Failed) => Err(Fault::Tree),
-        Err(Stop::NoMemory) => Err(Fault::NoMemory),
+        Err(stop) => Err(of_tree(stop)),
     }
 }
 
@@ -46,8 +45,7 @@ fn read_version_file<T: Tree>(alloc: Global, tree: &mut T) -> Result<Vec<u8>, Fa
         Ok(None) => Err(Fault::ControlMissing {
             file: ControlFile::Version,
         }),
-        Err(Stop::Failed) => Err(Fault::Tree),
-        Err(Stop::NoMemory) => Err(Fault::NoMemory),
+        Err(stop) => Err(of_tree(stop)),
     }
 }
 

@@ -5,88 +5,24 @@ ghost use Rattle.pgb_outside.specs.Cause.{Rises};
 ghost use Rattle.pgb_model.specs.declared.clusters.Cluster.{Cluster};
 ghost use Rattle.pgb_model.specs.Repository.{Repository};
 ghost use Rattle.pgb_model.specs.Stands.{Stands};
-ghost use Rattle.pgb_model.specs.Steps.{step, Create, StanzaCreate};
-ghost use Rattle.pgb_model.specs.Log.{Done, KeepsRepository};
-ghost use Rattle.pgb_model.specs.Steady.{IsSteady, IsBegun, Moves, CarriesOn, PassesOnly};
+ghost use Rattle.pgb_model.specs.Steps.{step, Create, StanzaCreate, Reading};
+ghost use Rattle.pgb_model.specs.Steady.{IsSteady, Moves, CarriesOn, PassesOnly};
 ghost use Rattle.pgb_model.specs.Create.{lacks_pairs};
 ghost use Rattle.pgb_model.specs.Now.{NowStands, HasNewPairs, NowDoes};
 ghost use Rattle.pgb_stanza.specs.ControlFile.{first_cluster};
 ghost use Rattle.pgb_command.specs.Cluster.{IsClusterOf};
 ghost use Rattle.pgb_command.specs.Causes.{CreateCause, TellsSome};
 ghost use Rattle.pgb_command.specs.Answers.{OnFinding};
-ghost use Rattle.pgb_command.specs.Making.{MakeCause, DeviceCause};
+ghost use Rattle.pgb_command.specs.Making.{MakeCause};
+ghost use Rattle.pgb_command.specs.Storing.{AgreesAtPair};
 
 use crate::cluster::read_cluster;
 use crate::fault::{Fault, Unbuilt};
+use crate::opening::prepare;
 use crate::words::Settings;
-use pgb_disk::{StoreFault, begin};
-use pgb_outside::{Disk, Stop, Tree};
+use pgb_outside::{Disk, Tree};
 use pgb_stanza::{Control, create, is_new};
 use std::alloc::Global;
-
-fn open_tree<T: Tree>(tree: &mut T, path: &str) -> Result<(), Fault>
-    ensures place { OnOk result (T.place tree.new ≡ path.now) }
-    ensures nodes { T.nodes tree.new ≡ T.nodes tree.old }
-    ensures later { T.faults tree.old ≤ T.faults tree.new }
-    ensures cause { IfErr result (DeviceCause ⊥ (Rises (T.faults tree.old) (T.faults tree.new))) }
-{
-    match tree.open(path) {
-        Ok(()) => Ok(()),
-        Err(Stop::Failed) => Err(Fault::Tree),
-        Err(Stop::NoMemory) => Err(Fault::NoMemory),
-    }
-}
-
-fn open_repo<D: Disk>(repo: &mut D, path: &str) -> Result<(), Fault>
-    ensures place { OnOk result (D.place repo.new ≡ path.now) }
-    ensures now { (D.view repo.new).now ≡ (D.view repo.old).now }
-    ensures time { Rests (D.view repo.old) (D.view repo.new) }
-    ensures later { D.faults repo.old ≤ D.faults repo.new }
-    ensures cause { IfErr result (DeviceCause (Rises (D.faults repo.old) (D.faults repo.new)) ⊥) }
-{
-    match repo.open(path) {
-        Ok(()) => Ok(()),
-        Err(Stop::Failed) => Err(Fault::Disk),
-        Err(Stop::NoMemory) => Err(Fault::NoMemory),
-    }
-}
-
-fn settle<D: Disk>(alloc: Global, repo: &mut D, stanza: &str) -> Result<(), Fault>
-    ensures begun { OnOk result ((q : Repository) (log : List Done) → KeepsRepository stanza.now q log (D.view repo.old) → IsSome (D.view repo.old).now → IsBegun stanza.now q log (D.view repo.new)) }
-    ensures now { (D.view repo.new).now ≡ (D.view repo.old).now }
-    ensures time { Rests (D.view repo.old) (D.view repo.new) }
-    ensures place { D.place repo.new ≡ D.place repo.old }
-    ensures later { D.faults repo.old ≤ D.faults repo.new }
-    ensures cause { IfErr result (DeviceCause (Rises (D.faults repo.old) (D.faults repo.new)) ⊥) }
-{
-    match begin(alloc, repo, stanza) {
-        Ok(()) => Ok(()),
-        Err(StoreFault::Disk) => Err(Fault::Disk),
-        Err(StoreFault::TooLong { .. } | StoreFault::NoMemory) => Err(Fault::NoMemory),
-    }
-}
-
-// Opens the data folder and the repository, and settles the stanza there.
-fn prepare<D: Disk, T: Tree>(
-    alloc: Global,
-    repo: &mut D,
-    tree: &mut T,
-    settings: &Settings,
-) -> Result<(), Fault>
-    ensures places { OnOk result ((T.place tree.new ≡ settings.now.pg1_path.now) × (D.place repo.new ≡ settings.now.repo1_path.now)) }
-    ensures begun { OnOk result ((q : Repository) (log : List Done) → KeepsRepository settings.now.stanza.now q log (D.view repo.old) → IsSome (D.view repo.old).now → IsBegun settings.now.stanza.now q log (D.view repo.new)) }
-    ensures now { (D.view repo.new).now ≡ (D.view repo.old).now }
-    ensures time { Rests (D.view repo.old) (D.view repo.new) }
-    ensures nodes { T.nodes tree.new ≡ T.nodes tree.old }
-    ensures repo_later { D.faults repo.old ≤ D.faults repo.new }
-    ensures tree_later { T.faults tree.old ≤ T.faults tree.new }
-    ensures cause { IfErr result (DeviceCause (Rises (D.faults repo.old) (D.faults repo.new)) (Rises (T.faults tree.old) (T.faults tree.new))) }
-{
-    open_tree(tree, settings.pg1_path)?;
-    open_repo(repo, settings.repo1_path)?;
-    settle(alloc, repo, settings.stanza)?;
-    Ok(())
-}
 
 // Makes the stanza, unless one of its info files is there.
 fn make<D: Disk>(alloc: Global, repo: &mut D, stanza: &str, told: &Control) -> Result<(), Fault>
@@ -104,6 +40,7 @@ fn make<D: Disk>(alloc: Global, repo: &mut D, stanza: &str, told: &Control) -> R
     ensures place { D.place repo.new ≡ D.place repo.old }
     ensures later { D.faults repo.old ≤ D.faults repo.new }
     ensures refused { IfErr result (λ e. OnFinding e ((D.view repo.new).now ≡ (D.view repo.old).now)) }
+    ensures rests { IfErr result (λ e. OnFinding e (Rests (D.view repo.old) (D.view repo.new))) }
     ensures cause { IfErr result (MakeCause stanza.now (D.view repo.old).now (Rises (D.faults repo.old) (D.faults repo.new))) }
 {
     if !is_new(alloc, repo, stanza)? {
@@ -137,6 +74,7 @@ pub(crate) fn create_stanza<D: Disk, T: Tree>(
         → PassesOnly settings.now.stanza.now (StanzaCreate cluster) (D.view repo.old) (D.view repo.new) }
     ensures members { OnOk result ((c : Cluster) → IsSomeAnd (T.nodes tree.old) (λ f. IsClusterOf f (Some c)) → IsSome (D.view repo.old).now
         → IfSome (D.view repo.new).now (HasNewPairs settings.now.stanza.now c)) }
+    ensures agrees { OnOk result (IsSome (D.view repo.old).now → IfSome (D.view repo.new).now (AgreesAtPair settings.now.stanza.now)) }
     ensures fresh { OnOk result (IfSome (D.view repo.old).now (λ f. lacks_pairs settings.now.stanza.now f ≡ true)) }
     ensures tells { OnOk result (TellsSome (T.nodes tree.old)) }
     ensures places { OnOk result ((T.place tree.new ≡ settings.now.pg1_path.now) × (D.place repo.new ≡ settings.now.repo1_path.now)) }
@@ -144,6 +82,7 @@ pub(crate) fn create_stanza<D: Disk, T: Tree>(
     ensures repo_later { D.faults repo.old ≤ D.faults repo.new }
     ensures tree_later { T.faults tree.old ≤ T.faults tree.new }
     ensures refused { IfErr result (λ e. OnFinding e ((D.view repo.new).now ≡ (D.view repo.old).now)) }
+    ensures stays { IfErr result (λ e. OnFinding e (CarriesOn settings.now.stanza.now Reading true (D.view repo.old) (D.view repo.new))) }
     ensures cause { IfErr result (CreateCause settings.now.stanza.now (D.view repo.old).now (T.nodes tree.old) (Rises (D.faults repo.old) (D.faults repo.new)) (Rises (T.faults tree.old) (T.faults tree.new))) }
 {
     prepare(alloc, repo, tree, settings)?;

@@ -1,9 +1,13 @@
 // What a command answers in place of Ok.
 ghost use Rattle.std.specs.Prelude.{◌≡◌};
 ghost use Rattle.pgb_command.specs.Answers.{status_of};
+ghost use Rattle.pgb_command.specs.Faults.{of_tree};
 
-use pgb_disk::StoreFault;
+use pgb_archive::ArchiveFault;
+use pgb_info::MemberFault;
+use pgb_outside::Stop;
 use pgb_stanza::{ControlFault, StanzaFault};
+use pgb_text::{NoMemory, Sum};
 use std::alloc::AllocError;
 
 /// A part of the program that comes later.
@@ -13,6 +17,8 @@ pub enum Unbuilt {
     CommandLine,
     /// stanza-create where one of the info files is there
     ExistingStanza,
+    /// archive-push of a file that is no whole segment
+    ArchiveFile,
 }
 
 /// A file that tells the cluster.
@@ -22,15 +28,85 @@ pub enum ControlFile {
     Version,
 }
 
-/// Why a command is refused, in the order in which refusals come.
+/// A cluster by its system identifier and its major version.
 #[derive(Clone, Copy, Debug, PartialEq, Eq)]
+pub struct Identity {
+    pub system: u64,
+    pub version: u32,
+}
+
+/// Why a command is refused, in the order in which refusals come.
+#[derive(Debug, Drop)]
 pub enum Fault {
-    NotBuilt { what: Unbuilt },
-    ControlMissing { file: ControlFile },
+    NotBuilt {
+        what: Unbuilt,
+    },
+    /// The path's last element is no name of a file that a server archives.
+    SegmentName {
+        name: String,
+    },
+    /// The path isn't that of a file in the data folder's `pg_wal`.
+    PathOutside {
+        path: String,
+    },
+    ControlMissing {
+        file: ControlFile,
+    },
     /// The control file has fewer than 16 bytes.
-    ControlShort { length: u64 },
+    ControlShort {
+        length: u64,
+    },
     VersionText,
-    VersionUnsupported { version: u64 },
+    VersionUnsupported {
+        version: u64,
+    },
+    /// Neither member of the archive pair is there.
+    StanzaMissing {
+        stanza: String,
+    },
+    /// Neither member of the info pair can be read.
+    InfoDamaged {
+        name: String,
+        main: MemberFault,
+        copy: MemberFault,
+    },
+    /// The stanza's current cluster isn't the data folder's.
+    StanzaMismatch {
+        kept: Identity,
+        found: Identity,
+    },
+    SegmentMissing {
+        path: String,
+    },
+    /// The file has more than `limit` bytes.
+    TooLong {
+        name: String,
+        limit: u64,
+    },
+    /// The segment's first page has no long header.
+    HeaderForm {
+        info: u16,
+    },
+    /// The segment's header tells another size than the file has, or none that a segment has.
+    SegmentSize {
+        told: u32,
+        found: u64,
+    },
+    /// The segment is of another cluster than the stanza.
+    HeaderMismatch {
+        kept: u64,
+        found: u64,
+    },
+    /// The segment is stored under two names.
+    Ambiguous {
+        first: String,
+        second: String,
+    },
+    /// The segment is stored with other bytes.
+    Duplicate {
+        kept: Sum,
+        found: Sum,
+    },
     /// The repository failed.
     Disk,
     /// The data folder failed.
@@ -42,27 +118,23 @@ pub enum Fault {
 
 impl From<AllocError> for Fault {
     ghost use Rattle.std.specs.Prelude.{◌≡◌};
-    ghost use Rattle.pgb_command.specs.declared.fault.Fault.TheVariants.{NoMemory};
+    ghost use Rattle.pgb_command.specs.declared.fault.Fault.TheVariants.{NoMemory as WithoutMemory};
 
-    ghost from_gives = { λ _ e. e ≡ NoMemory };
+    ghost from_gives = { λ _ e. e ≡ WithoutMemory };
 
     fn from(_: AllocError) -> Self {
         Fault::NoMemory
     }
 }
 
-impl From<StoreFault> for Fault {
+impl From<NoMemory> for Fault {
     ghost use Rattle.std.specs.Prelude.{◌≡◌};
-    ghost use Rattle.pgb_command.specs.Faults.{of_store};
+    ghost use Rattle.pgb_command.specs.declared.fault.Fault.TheVariants.{NoMemory as WithoutMemory};
 
-    ghost from_gives = { λ s e. e ≡ of_store s };
+    ghost from_gives = { λ _ e. e ≡ WithoutMemory };
 
-    fn from(fault: StoreFault) -> Self {
-        match fault {
-            StoreFault::Disk => Fault::Disk,
-            StoreFault::TooLong { .. } => Fault::NoMemory,
-            StoreFault::NoMemory => Fault::NoMemory,
-        }
+    fn from(_: NoMemory) -> Self {
+        Fault::NoMemory
     }
 }
 
@@ -95,16 +167,57 @@ impl From<ControlFault> for Fault {
     }
 }
 
+impl From<ArchiveFault> for Fault {
+    ghost use Rattle.std.specs.Prelude.{◌≡◌};
+    ghost use Rattle.pgb_command.specs.Faults.{of_archive};
+
+    ghost from_gives = { λ s e. e ≡ of_archive s };
+
+    fn from(fault: ArchiveFault) -> Self {
+        match fault {
+            ArchiveFault::HeaderForm { info } => Fault::HeaderForm { info },
+            ArchiveFault::SegmentSize { told, found } => Fault::SegmentSize { told, found },
+            ArchiveFault::HeaderMismatch { kept, found } => Fault::HeaderMismatch { kept, found },
+            ArchiveFault::Ambiguous { first, second } => Fault::Ambiguous { first, second },
+            ArchiveFault::Duplicate { kept, found } => Fault::Duplicate { kept, found },
+            ArchiveFault::Disk => Fault::Disk,
+            ArchiveFault::NoMemory => Fault::NoMemory,
+        }
+    }
+}
+
+/// What a stop of the data folder is.
+pub(crate) fn of_tree(stop: Stop) -> Fault
+    ensures { result ≡ of_tree stop }
+{
+    match stop {
+        Stop::Failed => Fault::Tree,
+        Stop::NoMemory => Fault::NoMemory,
+    }
+}
+
 /// The status that the program ends with.
-pub(crate) fn status(fault: Fault) -> u8
-    ensures { result ≡ status_of fault }
+pub(crate) fn status(fault: &Fault) -> u8
+    ensures { result ≡ status_of fault.now }
 {
     match fault {
         Fault::NotBuilt { .. } => 100,
+        Fault::SegmentName { .. } => 30,
+        Fault::PathOutside { .. } => 12,
         Fault::ControlMissing { .. } => 28,
         Fault::ControlShort { .. } => 25,
         Fault::VersionText => 26,
         Fault::VersionUnsupported { .. } => 27,
+        Fault::StanzaMissing { .. } => 21,
+        Fault::InfoDamaged { .. } => 22,
+        Fault::StanzaMismatch { .. } => 23,
+        Fault::SegmentMissing { .. } => 37,
+        Fault::TooLong { .. } => 70,
+        Fault::HeaderForm { .. } => 32,
+        Fault::SegmentSize { .. } => 31,
+        Fault::HeaderMismatch { .. } => 33,
+        Fault::Ambiguous { .. } => 36,
+        Fault::Duplicate { .. } => 34,
         Fault::Disk => 80,
         Fault::Tree => 82,
         Fault::Sink => 87,

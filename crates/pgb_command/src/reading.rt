@@ -22,7 +22,7 @@ pub(crate) fn read_front<T: Tree>(
     ensures cause { HasCause (T.faults tree.old) (T.faults tree.new) result }
 {
     let mut bytes = Vec::new(alloc);
-    let mut buf = [0u8; 64];
+    let mut buf = [0u8; 32768];
     while bytes.len() < limit {
         match tree.read(what, bytes.len() as u64, &mut buf)? {
             None => return Ok(None),

@@ -2,7 +2,15 @@
 ghost use Rattle.std.specs.Prelude.{◌≡◌, ◌≢◌, ◌++◌, ◌∷◌, [], true, map, codes, IfSome, IfNone, IfOk, string_bytes, length};
 ghost use Rattle.std.specs.List.{list_all};
 ghost use Rattle.pgb_model.specs.Text.{Text};
-ghost use Rattle.pgb_command.specs.Words.{Asked, Asks, asked_of, words_of, is_within, is_stanza, is_stanza_byte, begins_stanza, is_value};
+ghost use Rattle.pgb_command.specs.Words.{Asked, Request, Asks, asked_of, request_of, request_words, words_of, is_within, is_stanza, is_stanza_byte, begins_stanza, is_value};
+
+/// Which command the words ask for.
+#[derive(Clone, Copy)]
+pub enum Asking<'a> {
+    StanzaCreate,
+    /// The file that is to be stored, as the server names it.
+    ArchivePush { path: &'a str },
+}
 
 /// What the words ask for.
 #[derive(Clone, Copy)]
@@ -11,6 +19,7 @@ pub struct Settings<'a> {
     pub pg1_path: &'a str,
     pub repo1_path: &'a str,
     pub lock_path: &'a str,
+    pub request: Asking<'a>,
 }
 
 // What follows the front of a word.
@@ -61,24 +70,34 @@ fn is_value(text: &str) -> bool
     0 < text.len() && text.len() <= 1024
 }
 
-// The values of six words.
-fn split_six<'a>(
-    first: &'a str,
-    second: &'a str,
-    third: &'a str,
-    fourth: &'a str,
-    fifth: &str,
-    sixth: &str,
-) -> Option<Settings<'a>>
-    ensures some { IfSome result (λ s. (first.now ∷ second.now ∷ third.now ∷ fourth.now ∷ fifth.now ∷ sixth.now ∷ []) ≡ words_of (asked_of s)) }
-    ensures none { IfNone result ((a : Asked) → (first.now ∷ second.now ∷ third.now ∷ fourth.now ∷ fifth.now ∷ sixth.now ∷ []) ≢ words_of a) }
+// The command that the last two words ask for.
+fn asking_of<'a>(fifth: &str, sixth: &'a str) -> Option<Asking<'a>>
+    ensures some { IfSome result (λ r. (fifth.now ∷ sixth.now ∷ []) ≡ request_words (request_of r)) }
+    ensures none { IfNone result ((r : Request) → (fifth.now ∷ sixth.now ∷ []) ≢ request_words r) }
 {
+    if fifth == "archive-push" {
+        return Some(Asking::ArchivePush { path: sixth });
+    }
     if fifth != "--no-online" {
         return None;
     }
     if sixth != "stanza-create" {
         return None;
     }
+    Some(Asking::StanzaCreate)
+}
+
+// The values of six words.
+fn split_six<'a>(
+    first: &'a str,
+    second: &'a str,
+    third: &'a str,
+    fourth: &'a str,
+    request: Asking<'a>,
+) -> Option<Settings<'a>>
+    ensures some { IfSome result (λ s. (s.request ≡ request.entry) × ((first.now ∷ second.now ∷ third.now ∷ fourth.now ∷ request_words (request_of request.entry)) ≡ words_of (asked_of s))) }
+    ensures none { IfNone result ((a : Asked) → (first.now ∷ second.now ∷ third.now ∷ fourth.now ∷ request_words a.request) ≢ words_of a) }
+{
     let Some(stanza) = value_of(first, "--stanza=") else {
         return None;
     };
@@ -96,6 +115,7 @@ fn split_six<'a>(
         pg1_path,
         repo1_path,
         lock_path,
+        request,
     })
 }
 
@@ -115,7 +135,7 @@ fn is_within(settings: &Settings) -> bool
     is_value(settings.lock_path)
 }
 
-/// What the words ask for, where they are the six that are known.
+/// What the words ask for, where they are six that are known.
 pub(crate) fn read_words(words: &[String]) -> Option<Settings>
     ensures some { IfSome result (λ s. Asks (map string_bytes words.now) (asked_of s)) }
     ensures none { IfNone result ((a : Asked) → ¬ Asks (map string_bytes words.now) a) }
@@ -127,14 +147,10 @@ pub(crate) fn read_words(words: &[String]) -> Option<Settings>
     let second = words[1].as_str();
     let third = words[2].as_str();
     let fourth = words[3].as_str();
-    let Some(settings) = split_six(
-        first,
-        second,
-        third,
-        fourth,
-        words[4].as_str(),
-        words[5].as_str(),
-    ) else {
+    let Some(request) = asking_of(words[4].as_str(), words[5].as_str()) else {
+        return None;
+    };
+    let Some(settings) = split_six(first, second, third, fourth, request) else {
         return None;
     };
     if is_within(&settings) {

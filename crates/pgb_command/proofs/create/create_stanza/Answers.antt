@@ -1,8 +1,10 @@
-use Rattle.std.proofs.Common.{Option, subst}
-use Rattle.std.specs.Prelude.{IfSome}
+use Rattle.std.proofs.Common.{Option, ◌∙◌, sym, subst}
+use Rattle.std.specs.Prelude.{IfSome, IsSome}
+use Rattle.pgb_outside.specs.Content.{Content}
+use Rattle.pgb_command.proofs.Pushes.{finding_all, finding_both, rests_carried, rests_rests}
 use Rattle.pgb_outside.specs.Tree.{Nodes}
 use Rattle.pgb_command.specs.Cluster.{FolderTells}
-use Rattle.pgb_command.proofs.Creates.{does_part, does_whole, has_members}
+use Rattle.pgb_command.proofs.Creates.{does_part, does_whole, has_members, agrees_new}
 use Rattle.pgb_model.specs.Steps.{StanzaCreate}
 use Rattle.pgb_command.proofs.Carries.{rests_carry, rests_pass, carries_part, passes_part, carries_whole}
 use Rattle.pgb_command.proofs.create.create_stanza.Goals as goal
@@ -54,3 +56,13 @@ returns-clause-between g c = passes_part c.args.settings.now.stanza.now (g.T.Tre
 pub returns-clause-carried : goal.returns-clause-carried
 returns-clause-carried g c = carries_whole c.args.settings.now.stanza.now (g.T.Tree.nodes c.args.tree.now) c.in_ok-told.told
     (subst (λ (o : Option Nodes). IfSome o (λ f. FolderTells f c.in_ok-told.told)) c.prepare.ensures.nodes c.in_ok-told.ensures.told) _ _ _ c.prepare.ensures.time c.prepare.ensures.now c.in_ok-prepare.ensures.begun c.make.ensures.moves c.in_ok-make.ensures.made
+
+pub returns-in_err-told-clause-stays : goal.returns-in_err-told-clause-stays
+returns-in_err-told-clause-stays g c = finding_all c.from_residual-in_err-told.result _ (rests_carried c.args.settings.now.stanza.now _ _ c.prepare.ensures.time c.prepare.ensures.now)
+
+pub returns-in_err-make-clause-stays : goal.returns-in_err-make-clause-stays
+returns-in_err-make-clause-stays g c = finding_both c.from_residual-in_err-make.result c.in_err-make.field-0.0 _ _ _ c.from_residual-in_err-make.ensures.1
+    (λ same rests. rests_carried c.args.settings.now.stanza.now (g.D.Disk.view c.args.repo.now) (g.D.Disk.view c.make.new.repo) (rests_rests _ _ _ c.prepare.ensures.time rests) (same ∙ c.prepare.ensures.now)) c.in_err-make.ensures.refused c.in_err-make.ensures.rests
+
+pub returns-clause-agrees : goal.returns-clause-agrees
+returns-clause-agrees g c = λ some. agrees_new c.args.settings.now.stanza.now _ _ (c.in_ok-make.ensures.members (subst (λ (o : Option Content). IsSome o) (sym c.prepare.ensures.now) some))

@@ -1,0 +1,149 @@
+-- Why a segment isn't stored, and what is told where it is.
+use Rattle.std.proofs.Common.{◌≡◌, ◌⊎◌, inl, inr, ◌<◌, ◌^◌, [], Option, Some, None, Result, Ok, Err, IfErr, refl, ap, ◌∙◌, sym, subst}
+use Rattle.std.specs.Prelude.{IfSome, IsSome, IsErrAnd, string_bytes}
+use Rattle.sha1.specs.Sha1.{sha1}
+use Rattle.pgb_text.specs.Sum.{IsSum}
+use Rattle.pgb_outside.specs.Content.{Content}
+use Rattle.pgb_outside.specs.Tree.{Nodes, file_bytes}
+use Rattle.pgb_model.specs.declared.clusters.ClusterId.{ClusterId}
+use Rattle.pgb_model.specs.declared.wal.ArchiveId.{ArchiveId}
+use Rattle.pgb_model.specs.declared.wal.ArchiveName.TheVariants.{Segment as Whole}
+use Rattle.pgb_model.specs.declared.wal.Segment.{Segment}
+use Rattle.pgb_model.specs.Text.{Text}
+use Rattle.pgb_model.specs.Names.{segment_text}
+use Rattle.pgb_model.specs.InfoFiles.{IsSegment}
+use Rattle.pgb_model.specs.Stands.{IsArchiveFile}
+use Rattle.pgb_stanza.specs.declared.control.Control.{Control}
+use Rattle.pgb_archive.specs.declared.fault.ArchiveFault.{ArchiveFault}
+use Rattle.pgb_archive.specs.declared.fault.ArchiveFault.TheVariants.{HeaderForm, SegmentSize, HeaderMismatch, Ambiguous, Duplicate, Disk, NoMemory}
+use Rattle.pgb_archive.specs.declared.pushing.Pushed.{Pushed}
+use Rattle.pgb_archive.specs.declared.pushing.Pushed.TheVariants.{New, Same}
+use Rattle.pgb_archive.specs.Stored.{Stores, StoresNone, StoresOnly, StoresTwo, segment_name}
+use Rattle.pgb_archive.specs.Causes.{IsSegmentOf, PushCause, OnFinding as OnArchiveFinding}
+use Rattle.pgb_command.specs.declared.fault.Fault.{Fault}
+use Rattle.pgb_command.specs.Faults.{of_archive}
+use Rattle.pgb_command.specs.Answers.{OnFinding, same_line}
+use Rattle.pgb_command.specs.Outcomes.{pushed_lines}
+use Rattle.pgb_command.specs.Storing.{SameFiles, id_kept}
+use Rattle.pgb_command.specs.WalPath.{IsWalPath, HasWal, wal_path}
+use Rattle.pgb_command.specs.Causes.{IsReady, IsRefusedSegment, IsStored, PushFileCause}
+
+-- the file that was read
+pub has_wal : (nodes mid : Option Nodes) (folder path name : Text) (segment : Segment) (items bytes : Text) → mid ≡ nodes → name ≡ segment_text segment → bytes ≡ items → IsWalPath folder path (Whole segment)
+    → IfSome mid (λ f. file_bytes (f (wal_path name)) ≡ Some items) → IfSome nodes (λ f. HasWal f folder path (Whole segment) bytes)
+has_wal nodes mid folder path name segment items bytes same named is path_is h =
+    let there : IfSome nodes (λ f. file_bytes (f (wal_path name)) ≡ Some items) = subst (λ (o : Option Nodes). IfSome o (λ f. file_bytes (f (wal_path name)) ≡ Some items)) same h in
+    go nodes (subst (λ (b : Text). IfSome nodes (λ f. file_bytes (f (wal_path name)) ≡ Some b)) (sym is) there)
+  where
+    go : (o : Option Nodes) → IfSome o (λ f. file_bytes (f (wal_path name)) ≡ Some bytes) → IfSome o (λ f. HasWal f folder path (Whole segment) bytes)
+    go None k = tt
+    go (Some f) k = record { named = path_is; is = subst (λ (n : Text). file_bytes (f (wal_path n)) ≡ Some bytes) named k }
+
+-- what holds of a finding of the archive
+finding_of : (e : ArchiveFault) (P Q : Type 0) → (P → Q) → OnArchiveFinding e P → OnFinding (of_archive e) Q
+finding_of (HeaderForm info) P Q to h = to h
+finding_of (SegmentSize told found) P Q to h = to h
+finding_of (HeaderMismatch kept found) P Q to h = to h
+finding_of (Ambiguous first second) P Q to h = to h
+finding_of (Duplicate kept found) P Q to h = to h
+finding_of Disk P Q to h = tt
+finding_of NoMemory P Q to h = tt
+
+pub finding_err : {T : Type 0} (result : Result T Fault) (e : ArchiveFault) (P Q : Type 0) → IsErrAnd result (λ fault. fault ≡ of_archive e) → (P → Q) → OnArchiveFinding e P → IfErr result (λ f. OnFinding f Q)
+finding_err (Ok x) e P Q is to h = tt
+finding_err (Err f) e P Q is to h = subst (λ (x : Fault). OnFinding x Q) (sym is) (finding_of e P Q to h)
+
+-- ---- what is stored of a segment, before and after the healing
+
+pub file_of : (stanza : Text) (id : ArchiveId) (segment : Segment) (sum : Text) → id.version < 2 ^ 32 → id.number < 2 ^ 32 → IsSegment segment → IsSum sum → IsArchiveFile stanza (segment_name stanza id segment sum)
+file_of stanza id segment sum version number fits is_sum = record { id = id; file = Whole segment; sum = sum; fits = record { version = version; number = number; fits = fits; digest = is_sum }; is = refl }
+
+module _ (stanza : Text) (id : ArchiveId) (segment : Segment) (version : id.version < 2 ^ 32) (number : id.number < 2 ^ 32) (fits : IsSegment segment) where
+  abbrev Alike : Content → Content → Type 0
+  Alike f g = (name : Text) → IsArchiveFile stanza name → g name ≡ f name
+
+  back : (f g : Content) → Alike f g → (sum : Text) → Stores stanza id segment g sum → Stores stanza id segment f sum
+  back f g alike sum h = (h.0, subst (λ (v : Option Text). IsSome v) (alike (segment_name stanza id segment sum) (file_of stanza id segment sum version number fits h.0)) h.1)
+
+  forth : (f g : Content) → Alike f g → (sum : Text) → Stores stanza id segment f sum → Stores stanza id segment g sum
+  forth f g alike sum h = (h.0, subst (λ (v : Option Text). IsSome v) (sym (alike (segment_name stanza id segment sum) (file_of stanza id segment sum version number fits h.0))) h.1)
+
+  only_back : (f g : Content) → Alike f g → (sum : Text) → StoresOnly stanza id segment g sum → StoresOnly stanza id segment f sum
+  only_back f g alike sum h = record { stored = back f g alike sum h.stored; only = λ other s. h.only other (forth f g alike other s) }
+
+  two_back : (f g : Content) → Alike f g → (first second : Text) → StoresTwo stanza id segment g first second → StoresTwo stanza id segment f first second
+  two_back f g alike first second h = record {
+    first_sum = h.first_sum;
+    second_sum = h.second_sum;
+    first_stored = back f g alike h.first_sum h.first_stored;
+    second_stored = back f g alike h.second_sum h.second_stored;
+    first_is = h.first_is;
+    second_is = h.second_is;
+    order = h.order;
+    before = λ sum s lower. h.before sum (forth f g alike sum s) lower;
+  }
+
+  none_back : (f g : Content) → Alike f g → StoresNone stanza id segment g → StoresNone stanza id segment f
+  none_back f g alike h = λ sum s. h sum (forth f g alike sum s)
+
+  -- what held behind the healing held before
+  to_old : (P : Content → Type 0) (old mid : Option Content) → (IsSome old → IsSome mid) → (IsSome old → SameFiles stanza old mid) → ((f g : Content) → Alike f g → P g → P f) → IfSome mid P → IfSome old P
+  to_old P None mid told same on h = tt
+  to_old P (Some f) mid told same on h = go mid (told refl) (same refl) h
+    where
+      go : (o : Option Content) → IsSome o → SameFiles stanza (Some f) o → IfSome o P → P f
+      go None some files k = cc
+      go (Some g) some files k = on f g (λ name file. let e : ◌≡◌ {A = Option (Option Text)} (Some (g name)) (Some (f name)) = files name file in cc) k
+
+module _ (stanza folder path : Text) (repo mid : Option Content) (nodes : Option Nodes) (segment : Segment) (bytes : Text) (told : Control) (c : ClusterId) (ready : IsReady stanza folder path repo nodes segment bytes told c)
+    (version : (id_kept c).version < 2 ^ 32) (number : (id_kept c).number < 2 ^ 32) (fits : IsSegment segment) (kept : IsSome repo → IsSome mid) (same : IsSome repo → SameFiles stanza repo mid) where
+  refused : (e : ArchiveFault) → PushCause stanza (id_kept c) segment told.system bytes repo ⊥ e → IsRefusedSegment stanza folder path repo nodes e
+  refused e cause = record { segment = segment; bytes = bytes; told = told; current = c; ready = ready; cause = cause }
+
+  cause_of : (d t rose : Type 0) → (rose → d) → (e : ArchiveFault) → PushCause stanza (id_kept c) segment told.system bytes mid rose e → PushFileCause stanza folder path repo nodes d t (of_archive e)
+  cause_of d t rose to (HeaderForm info) h = refused (HeaderForm info) h
+  cause_of d t rose to (SegmentSize said found) h = refused (SegmentSize said found) h
+  cause_of d t rose to (HeaderMismatch one found) h = refused (HeaderMismatch one found) h
+  cause_of d t rose to (Ambiguous first second) h = refused (Ambiguous first second) (
+    h.0,
+    to_old stanza (id_kept c) segment version number fits (λ f. StoresTwo stanza (id_kept c) segment f (string_bytes first) (string_bytes second)) repo mid kept same
+        (λ f g alike. two_back stanza (id_kept c) segment version number fits f g alike (string_bytes first) (string_bytes second)) h.1,
+  )
+  cause_of d t rose to (Duplicate one found) h = refused (Duplicate one found) (
+    h.0,
+    h.1,
+    h.2,
+    to_old stanza (id_kept c) segment version number fits (λ f. StoresOnly stanza (id_kept c) segment f one.0) repo mid kept same
+        (λ f g alike. only_back stanza (id_kept c) segment version number fits f g alike one.0) h.3,
+  )
+  cause_of d t rose to Disk h = to h.1
+  cause_of d t rose to NoMemory h = tt
+
+  pub cause_err : {T : Type 0} (result : Result T Fault) (d t rose : Type 0) (e : ArchiveFault) → (rose → d) → IsErrAnd result (λ fault. fault ≡ of_archive e) → PushCause stanza (id_kept c) segment told.system bytes mid rose e →
+      IfErr result (PushFileCause stanza folder path repo nodes d t)
+  cause_err (Ok x) d t rose e to is h = tt
+  cause_err (Err f) d t rose e to is h = subst (PushFileCause stanza folder path repo nodes d t) (sym is) (cause_of d t rose to e h)
+
+  -- what is told at Ok
+  lines_for : (pushed : Pushed) → (pushed ≡ New → IfSome mid (StoresNone stanza (id_kept c) segment)) → (pushed ≡ Same → IfSome mid (λ f. StoresOnly stanza (id_kept c) segment f (sha1 bytes))) →
+      ((pushed_lines pushed (segment_text segment) ≡ []) × IfSome repo (λ f. StoresNone stanza (id_kept c) segment f))
+      ⊎ ((pushed_lines pushed (segment_text segment) ≡ same_line (segment_text segment)) × IfSome repo (λ f. StoresOnly stanza (id_kept c) segment f (sha1 bytes)))
+  lines_for New new one = inl (refl, to_old stanza (id_kept c) segment version number fits (StoresNone stanza (id_kept c) segment) repo mid kept same (λ f g alike. none_back stanza (id_kept c) segment version number fits f g alike) (new refl))
+  lines_for Same new one = inr (
+    refl,
+    to_old stanza (id_kept c) segment version number fits (λ f. StoresOnly stanza (id_kept c) segment f (sha1 bytes)) repo mid kept same
+        (λ f g alike. only_back stanza (id_kept c) segment version number fits f g alike (sha1 bytes)) (one refl),
+  )
+
+  pub stored_as : (lines name : Text) (pushed : Pushed) → name ≡ segment_text segment → lines ≡ pushed_lines pushed name → IsSegmentOf bytes told.system →
+      (pushed ≡ New → IfSome mid (StoresNone stanza (id_kept c) segment)) → (pushed ≡ Same → IfSome mid (λ f. StoresOnly stanza (id_kept c) segment f (sha1 bytes))) → IsStored stanza folder path repo nodes lines
+  stored_as lines name pushed named is valid new one = record {
+    segment = segment;
+    bytes = bytes;
+    told = told;
+    current = c;
+    ready = ready;
+    valid = valid;
+    told_by = subst (λ (l : Text). ((l ≡ []) × IfSome repo (λ f. StoresNone stanza (id_kept c) segment f)) ⊎ ((l ≡ same_line (segment_text segment)) × IfSome repo (λ f. StoresOnly stanza (id_kept c) segment f (sha1 bytes))))
+        (sym (is ∙ ap (pushed_lines pushed) named)) (lines_for pushed new one);
+  }

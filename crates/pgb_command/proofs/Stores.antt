@@ -1,0 +1,179 @@
+-- A push behind the healing of the archive pair.
+use Rattle.std.proofs.Common.{◌≡◌, ◌≢◌, ◌⊎◌, ⊎_elim, inl, inr, List, [], ◌∷◌, Option, Some, None, refl, ap, ◌∙◌, sym, subst, true, false}
+use Rattle.std.specs.Prelude.{IfSome, IsSome, IsSomeAnd}
+use Rattle.pgb_outside.specs.Content.{Content, put}
+use Rattle.pgb_outside.specs.Moments.{View}
+use Rattle.pgb_outside.specs.Crash.{Alike, IsTemporary, FirstOf, NowGoes}
+use Rattle.pgb_outside.specs.Tree.{Nodes, file_bytes}
+use Rattle.pgb_outside.proofs.Nows.{told_as}
+use Rattle.pgb_model.specs.declared.clusters.Cluster.{Cluster}
+use Rattle.pgb_model.specs.declared.clusters.ClusterId.{ClusterId}
+use Rattle.pgb_model.specs.declared.wal.ArchiveId.{ArchiveId}
+use Rattle.pgb_model.specs.declared.wal.ArchiveName.{ArchiveName}
+use Rattle.pgb_model.specs.declared.wal.ArchiveName.TheVariants.{Segment as Whole}
+use Rattle.pgb_model.specs.declared.wal.Segment.{Segment}
+use Rattle.pgb_model.specs.Text.{Text}
+use Rattle.pgb_model.specs.Names.{archive_info, copy_of, wal_text}
+use Rattle.pgb_model.specs.Fields.{at_number}
+use Rattle.pgb_model.specs.Repository.{Archived, Stanza, Repository, id_of, identity_of, current_number}
+use Rattle.pgb_model.specs.Stands.{Stands, archive_value, IsArchiveFile}
+use Rattle.pgb_model.specs.Steps.{Step, Command, ArchivePush, Reading, Named, after, after_all, all_of, steps_of, push_of, archived_of}
+use Rattle.pgb_model.specs.Log.{IsDone}
+use Rattle.pgb_model.specs.Now.{NowStands, NowDoes}
+use Rattle.pgb_model.specs.Steady.{IsSteady, Moves}
+use Rattle.pgb_model.proofs.Created.{put_other}
+use Rattle.pgb_model.proofs.NameLemmas.{file_info_apart, file_info_copy_apart}
+use Rattle.pgb_model.proofs.Temporary.{pair_lasts}
+use Rattle.pgb_model.proofs.PushDone.{stanza_of, current_of, push_is_part, push_is_whole, now_part, now_whole}
+use Rattle.pgb_model.proofs.Segments.{IsPartOfPush, NowPartOfPush}
+use Rattle.pgb_info.proofs.OneArchive.{one_archive_pair}
+use Rattle.pgb_command.specs.Commands.{IsPushOf, IsPart, Goes, Ends}
+use Rattle.pgb_command.specs.Storing.{HasCurrent, id_kept, AgreesAtPair}
+use Rattle.pgb_command.specs.WalPath.{HasWal, wal_path}
+use Rattle.pgb_command.proofs.Chains.{moves_as, moves_then, stays_at, reads_part}
+use Rattle.pgb_command.proofs.WalNames.{one_name}
+
+-- ---- the command
+
+abbrev named : Segment → Text → Named
+named segment bytes = record { name = Whole segment; bytes = bytes }
+
+same_file : (f : Nodes) (folder path : Text) (segment : Segment) (bytes : Text) (n : Named) → HasWal f folder path (Whole segment) bytes → HasWal f folder path n.name n.bytes → n ≡ record { name = Whole segment; bytes = bytes }
+same_file f folder path segment bytes n has other =
+    let e : n.name ≡ Whole segment = one_name folder path n.name segment other.named has.named in
+    let there : file_bytes (f (wal_path (wal_text (Whole segment)))) ≡ Some n.bytes = subst (λ (name : ArchiveName). file_bytes (f (wal_path (wal_text name))) ≡ Some n.bytes) e other.is in
+    let h : ◌≡◌ {A = Option Text} (Some n.bytes) (Some bytes) = sym there ∙ has.is in
+    let b : n.bytes ≡ bytes = cc in
+    ap (λ (name : ArchiveName). record { name = name; bytes = n.bytes }) e ∙ ap (λ (t : Text). record { name = Whole segment; bytes = t }) b
+
+-- the file that was read is the command's
+pub push_is : (nodes : Option Nodes) (folder path : Text) (segment : Segment) (bytes : Text) (command : Command) → IfSome nodes (λ f. HasWal f folder path (Whole segment) bytes) → IsSomeAnd nodes (λ f. IsPushOf f folder path command)
+    → command ≡ ArchivePush (record { name = Whole segment; bytes = bytes })
+push_is None folder path segment bytes command has is = absurd is
+push_is (Some f) folder path segment bytes command has (inl x) = x.2 ∙ ap ArchivePush (same_file f folder path segment bytes x.0 has x.1)
+push_is (Some f) folder path segment bytes command has (inr x) = absurd (x.0 (record { name = Whole segment; bytes = bytes }) has)
+
+-- ---- the current cluster
+
+-- the stanza that the disk stands for, and its current cluster
+pub current_at : (stanza : Text) (f : Content) (r : Repository) (c : ClusterId) → HasCurrent stanza f c → Stands stanza f r → (s : Stanza) × (r ≡ Some s) × ((d : Cluster) × (at_number (current_number s) s.history ≡ Some d) × (c ≡ identity_of d))
+current_at stanza f r c has stands =
+    let x = stanza_of stanza f has.0 r has.1 stands in
+    let h : Stands stanza f (Some x.0) = subst (Stands stanza f) x.1 stands in
+    (x.0, x.1, current_of x.0 has.0 c (one_archive_pair f (archive_info stanza) has.0 (archive_value x.0) has.1 h.archive_pair) has.2)
+
+current_told : (stanza : Text) (now : Option Content) (c : ClusterId) (f : Content) → now ≡ Some f → IfSome now (λ f. HasCurrent stanza f c) → HasCurrent stanza f c
+current_told stanza now c f is h = subst (λ (o : Option Content). IfSome o (λ f. HasCurrent stanza f c)) is h
+
+-- ---- what it does
+
+module _ (stanza : Text) (n : Named) (c : ClusterId) (old mid new : View) (current : IfSome old.now (λ f. HasCurrent stanza f c)) where
+  abbrev pushed : Archived
+  pushed = record { id = id_kept c; name = n.name; bytes = n.bytes }
+
+  module _ (stays : NowDoes stanza Reading true old.now mid.now) (kept : IsSome mid.now → IsSome new.now) where
+    some_mid : IsSome old.now → IsSome mid.now
+    some_mid some = stays.told some
+
+    part_at : ((s : Stanza) → IsSome mid.now → NowStands stanza (Some s) mid.now → NowPartOfPush stanza s (record { id = id_kept c; name = n.name; bytes = n.bytes }) new.now) →
+        (r : Repository) → IsSome old.now → NowStands stanza r old.now → (done : List Step) × IsDone false done (steps_of (ArchivePush n) r) × NowStands stanza (after r done) new.now
+    part_at part r some now =
+        let f = told_as old.now some in
+        let x = current_at stanza f.0 r c (current_told stanza old.now c f.0 f.1 current) (now.stands f.0 f.1) in
+        let mid_now : NowStands stanza (Some x.0) mid.now = subst (λ (q : Repository). NowStands stanza q mid.now) x.1 (stays_at stanza old.now mid.now stays r some now) in
+        let p : NowPartOfPush stanza x.0 (archived_of (id_of x.2.0) n) new.now = subst (λ (k : ClusterId). NowPartOfPush stanza x.0 (record { id = id_kept k; name = n.name; bytes = n.bytes }) new.now) x.2.2 (part x.0 (some_mid some) mid_now) in
+        subst (λ (q : Repository). (done : List Step) × IsDone false done (steps_of (ArchivePush n) q) × NowStands stanza (after q done) new.now) (sym x.1) (now_part n x.0 x.2.0 x.2.1 stanza new.now p)
+
+    whole_at : ((s : Stanza) → IsSome mid.now → NowStands stanza (Some s) mid.now → NowStands stanza (Some (after_all s (push_of s (record { id = id_kept c; name = n.name; bytes = n.bytes })))) new.now) →
+        (r : Repository) → IsSome old.now → NowStands stanza r old.now → (done : List Step) × IsDone true done (steps_of (ArchivePush n) r) × NowStands stanza (after r done) new.now
+    whole_at whole r some now =
+        let f = told_as old.now some in
+        let x = current_at stanza f.0 r c (current_told stanza old.now c f.0 f.1 current) (now.stands f.0 f.1) in
+        let mid_now : NowStands stanza (Some x.0) mid.now = subst (λ (q : Repository). NowStands stanza q mid.now) x.1 (stays_at stanza old.now mid.now stays r some now) in
+        let p : NowStands stanza (Some (after_all x.0 (push_of x.0 (archived_of (id_of x.2.0) n)))) new.now = subst (λ (k : ClusterId). NowStands stanza (Some (after_all x.0 (push_of x.0 (record { id = id_kept k; name = n.name; bytes = n.bytes })))) new.now) x.2.2 (whole x.0 (some_mid some) mid_now) in
+        subst (λ (q : Repository). (done : List Step) × IsDone true done (steps_of (ArchivePush n) q) × NowStands stanza (after q done) new.now) (sym x.1) (now_whole n x.0 x.2.0 x.2.1 stanza new.now p)
+
+    pub stores_part : ((s : Stanza) → IsSome mid.now → NowStands stanza (Some s) mid.now → NowPartOfPush stanza s (record { id = id_kept c; name = n.name; bytes = n.bytes }) new.now) → NowDoes stanza (ArchivePush n) false old.now new.now
+    stores_part part = record { told = λ some. kept (some_mid some); does = part_at part }
+
+    pub stores_whole : ((s : Stanza) → IsSome mid.now → NowStands stanza (Some s) mid.now → NowStands stanza (Some (after_all s (push_of s (record { id = id_kept c; name = n.name; bytes = n.bytes })))) new.now) → NowDoes stanza (ArchivePush n) true old.now new.now
+    stores_whole whole = record { told = λ some. kept (some_mid some); does = whole_at whole }
+
+  module _ (stays : NowDoes stanza Reading true old.now mid.now) (ends : Ends stanza Reading old mid) where
+    steady_at : (r : Repository) → IsSteady stanza r old → IsSome old.now → (s : Stanza) × (r ≡ Some s) × ((d : Cluster) × (at_number (current_number s) s.history ≡ Some d) × (c ≡ identity_of d))
+    steady_at r steady some = let f = told_as old.now some in current_at stanza f.0 r c (current_told stanza old.now c f.0 f.1 current) (steady.stands f.0 (inl f.1))
+
+    pub stores_goes : Goes stanza Reading old mid →
+        ((s : Stanza) → IsSteady stanza (Some s) mid → IsSome mid.now → Moves stanza (IsPartOfPush stanza s (record { id = id_kept c; name = n.name; bytes = n.bytes })) mid new) → Goes stanza (ArchivePush n) old new
+    stores_goes goes moves = record {
+      goes = λ r steady some.
+          let x = steady_at r steady some in
+          let here : IsSteady stanza (Some x.0) mid = subst (λ (q : Repository). IsSteady stanza q mid) x.1 (ends.ends r steady some) in
+          let first : Moves stanza (IsPart stanza Reading (Some x.0)) old mid = subst (λ (q : Repository). Moves stanza (IsPart stanza Reading q) old mid) x.1 (goes.goes r steady some) in
+          let next : Moves stanza (IsPartOfPush stanza x.0 (archived_of (id_of x.2.0) n)) mid new = subst (λ (k : ClusterId). Moves stanza (IsPartOfPush stanza x.0 (record { id = id_kept k; name = n.name; bytes = n.bytes })) mid new) x.2.2 (moves x.0 here (stays.told some)) in
+          subst (λ (q : Repository). Moves stanza (IsPart stanza (ArchivePush n) q) old new) (sym x.1)
+          (moves_then stanza (IsPart stanza Reading (Some x.0)) (IsPart stanza (ArchivePush n) (Some x.0)) old mid new (reads_part stanza (ArchivePush n) (Some x.0)) first
+          (moves_as stanza (IsPartOfPush stanza x.0 (archived_of (id_of x.2.0) n)) (IsPart stanza (ArchivePush n) (Some x.0)) mid new (push_is_part n x.0 x.2.0 x.2.1 stanza) next));
+    }
+
+    pub stores_ends : ((s : Stanza) → IsSteady stanza (Some s) mid → IsSome mid.now → IsSteady stanza (Some (after_all s (push_of s (record { id = id_kept c; name = n.name; bytes = n.bytes })))) new) → Ends stanza (ArchivePush n) old new
+    stores_ends stored = record {
+      ends = λ r steady some.
+          let x = steady_at r steady some in
+          let here : IsSteady stanza (Some x.0) mid = subst (λ (q : Repository). IsSteady stanza q mid) x.1 (ends.ends r steady some) in
+          let done : IsSteady stanza (Some (after_all x.0 (push_of x.0 (archived_of (id_of x.2.0) n)))) new = subst (λ (k : ClusterId). IsSteady stanza (Some (after_all x.0 (push_of x.0 (record { id = id_kept k; name = n.name; bytes = n.bytes })))) new) x.2.2 (stored x.0 here (stays.told some)) in
+          subst (λ (q : Repository). IsSteady stanza (after q (all_of (steps_of (ArchivePush n) q))) new) (sym x.1) (push_is_whole n x.0 x.2.0 x.2.1 stanza new done);
+    }
+
+-- ---- the pair behind the push
+
+pair_apart : (stanza name q : Text) → IsArchiveFile stanza name → (q ≡ archive_info stanza) ⊎ (q ≡ copy_of (archive_info stanza)) → q ≢ name
+pair_apart stanza name q file (inl e) k = file_info_apart stanza name file (sym k ∙ e)
+pair_apart stanza name q file (inr e) k = file_info_copy_apart stanza name file (sym k ∙ e)
+
+kept_at : (stanza name bytes q : Text) (f g : Content) → IsArchiveFile stanza name → (q ≡ archive_info stanza) ⊎ (q ≡ copy_of (archive_info stanza)) → ¬ IsTemporary q → FirstOf ((name, bytes) ∷ []) f g → g q ≡ f q
+kept_at stanza name bytes q f g file is lasting w = ⊎_elim (λ (a : Alike f g). a.same q lasting) (λ (a : Alike (put name (Some bytes) f) g). a.same q lasting ∙ put_other name (Some bytes) f q (pair_apart stanza name q file is)) w
+
+-- the push leaves the pair as it is
+pub agrees_on : (stanza name bytes : Text) (mid new : Option Content) → IsArchiveFile stanza name → NowGoes (FirstOf ((name, bytes) ∷ [])) mid new → IsSome mid → IfSome mid (AgreesAtPair stanza) → IfSome new (AgreesAtPair stanza)
+agrees_on stanza name bytes mid new file goes some agrees =
+    let f = told_as mid some in
+    let g = told_as new (goes.told some) in
+    let w = goes.goes f.0 g.0 f.1 g.1 in
+    let main = kept_at stanza name bytes (archive_info stanza) f.0 g.0 file (inl refl) (pair_lasts stanza (archive_info stanza) (inl refl)) w in
+    let copy = kept_at stanza name bytes (copy_of (archive_info stanza)) f.0 g.0 file (inr refl) (pair_lasts stanza (copy_of (archive_info stanza)) (inr (inl refl))) w in
+    let h : AgreesAtPair stanza f.0 = subst (λ (o : Option Content). IfSome o (AgreesAtPair stanza)) f.1 agrees in
+    subst (λ (o : Option Content). IfSome o (AgreesAtPair stanza)) (sym g.1) (copy ∙ h.0 ∙ sym main, subst (λ (v : Option Text). IsSome v) (sym main) h.1)
+
+-- ---- from the words' file and the id
+
+module _ (stanza folder path : Text) (nodes : Option Nodes) (segment : Segment) (bytes : Text) (has : IfSome nodes (λ f. HasWal f folder path (Whole segment) bytes)) (id : ArchiveId) (c : ClusterId) (is : id ≡ id_kept c) (old mid new : View)
+    (current : IfSome old.now (λ f. HasCurrent stanza f c)) (stays : NowDoes stanza Reading true old.now mid.now) where
+  abbrev the_push : Command
+  the_push = ArchivePush (record { name = Whole segment; bytes = bytes })
+
+  abbrev as_pushed : ArchiveId → Archived
+  as_pushed i = record { id = i; name = Whole segment; bytes = bytes }
+
+  pub store_part : (IsSome mid.now → IsSome new.now) → ((s : Stanza) → IsSome mid.now → NowStands stanza (Some s) mid.now → NowPartOfPush stanza s (record { id = id; name = Whole segment; bytes = bytes }) new.now)
+      → (command : Command) → IsSomeAnd nodes (λ f. IsPushOf f folder path command) → NowDoes stanza command false old.now new.now
+  store_part kept part command asked = subst (λ (k : Command). NowDoes stanza k false old.now new.now) (sym (push_is nodes folder path segment bytes command has asked))
+      (stores_part stanza (named segment bytes) c old mid new current stays kept (subst (λ (i : ArchiveId). (s : Stanza) → IsSome mid.now → NowStands stanza (Some s) mid.now → NowPartOfPush stanza s (as_pushed i) new.now) is part))
+
+  pub store_whole : (IsSome mid.now → IsSome new.now) → ((s : Stanza) → IsSome mid.now → NowStands stanza (Some s) mid.now → NowStands stanza (Some (after_all s (push_of s (record { id = id; name = Whole segment; bytes = bytes })))) new.now)
+      → (command : Command) → IsSomeAnd nodes (λ f. IsPushOf f folder path command) → NowDoes stanza command true old.now new.now
+  store_whole kept whole command asked = subst (λ (k : Command). NowDoes stanza k true old.now new.now) (sym (push_is nodes folder path segment bytes command has asked))
+      (stores_whole stanza (named segment bytes) c old mid new current stays kept
+      (subst (λ (i : ArchiveId). (s : Stanza) → IsSome mid.now → NowStands stanza (Some s) mid.now → NowStands stanza (Some (after_all s (push_of s (as_pushed i)))) new.now) is whole))
+
+  pub store_goes : Goes stanza Reading old mid → Ends stanza Reading old mid → ((s : Stanza) → IsSteady stanza (Some s) mid → IsSome mid.now → Moves stanza (IsPartOfPush stanza s (record { id = id; name = Whole segment; bytes = bytes })) mid new)
+      → (command : Command) → IsSomeAnd nodes (λ f. IsPushOf f folder path command) → Goes stanza command old new
+  store_goes goes ends moves command asked = subst (λ (k : Command). Goes stanza k old new) (sym (push_is nodes folder path segment bytes command has asked))
+      (stores_goes stanza (named segment bytes) c old mid new current stays ends goes
+      (subst (λ (i : ArchiveId). (s : Stanza) → IsSteady stanza (Some s) mid → IsSome mid.now → Moves stanza (IsPartOfPush stanza s (as_pushed i)) mid new) is moves))
+
+  pub store_ends : Ends stanza Reading old mid → ((s : Stanza) → IsSteady stanza (Some s) mid → IsSome mid.now → IsSteady stanza (Some (after_all s (push_of s (record { id = id; name = Whole segment; bytes = bytes })))) new)
+      → (command : Command) → IsSomeAnd nodes (λ f. IsPushOf f folder path command) → Ends stanza command old new
+  store_ends ends stored command asked = subst (λ (k : Command). Ends stanza k old new) (sym (push_is nodes folder path segment bytes command has asked))
+      (stores_ends stanza (named segment bytes) c old mid new current stays ends
+      (subst (λ (i : ArchiveId). (s : Stanza) → IsSteady stanza (Some s) mid → IsSome mid.now → IsSteady stanza (Some (after_all s (push_of s (as_pushed i)))) new) is stored))

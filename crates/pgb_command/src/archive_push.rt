@@ -1,0 +1,119 @@
+// archive-push.
+ghost use Rattle.std.specs.Prelude.{◌≡◌, ◌≤◌, true, false, OnOk, IfOk, IfErr, IfSome, IsSome, IsSomeAnd, string_bytes};
+ghost use Rattle.pgb_outside.specs.Cause.{Rises};
+ghost use Rattle.pgb_model.specs.declared.wal.ArchiveName.TheVariants.{Segment as Whole};
+ghost use Rattle.pgb_model.specs.Names.{segment_text};
+ghost use Rattle.pgb_model.specs.Now.{NowDoes};
+ghost use Rattle.pgb_model.specs.Steps.{Command, Reading};
+ghost use Rattle.pgb_model.specs.Steady.{CarriesOn, PassesOnly};
+ghost use Rattle.pgb_command.specs.Answers.{OnFinding};
+ghost use Rattle.pgb_command.specs.Causes.{IsStored, PushFileCause};
+ghost use Rattle.pgb_command.specs.Commands.{IsPushOf, Goes, Ends};
+ghost use Rattle.pgb_command.specs.Outcomes.{lines_by, pushed_lines};
+ghost use Rattle.pgb_command.specs.Storing.{AgreesAtPair};
+ghost use Rattle.pgb_command.specs.WalPath.{IsWalPath};
+
+use crate::cluster::read_cluster;
+use crate::current::current_id;
+use crate::fault::Fault;
+use crate::opening::prepare;
+use crate::outcome::Outcome;
+use crate::wal_file::{WalFile, read_segment_file, segment_at};
+use crate::words::Settings;
+use pgb_archive::{Pushed, push};
+use pgb_outside::{Disk, Tree};
+use std::alloc::Global;
+
+// A segment has at most 1 GiB.
+const SEGMENT_LIMIT: usize = 1 << 30;
+
+// What a push did, as the output tells it.
+fn outcome_of(pushed: Pushed, name: String) -> Outcome
+    ensures { lines_by result ≡ pushed_lines pushed (string_bytes name) }
+{
+    match pushed {
+        Pushed::New => Outcome::Silent,
+        Pushed::Same => Outcome::SameStored { name },
+    }
+}
+
+// Stores the segment under the id of the current cluster.
+fn store<D: Disk, T: Tree>(
+    alloc: Global,
+    repo: &mut D,
+    tree: &mut T,
+    settings: &Settings,
+    path: &str,
+    file: WalFile,
+) -> Result<Outcome, Fault>
+    requires { IsWalPath settings.now.pg1_path.now path.now (Whole file.segment) × (string_bytes file.name ≡ segment_text file.segment) }
+    ensures done { OnOk result ((command : Command) → IsSomeAnd (T.nodes tree.old) (λ f. IsPushOf f settings.now.pg1_path.now path.now command)
+        → NowDoes settings.now.stanza.now command true (D.view repo.old).now (D.view repo.new).now) }
+    ensures part { (command : Command) → IsSomeAnd (T.nodes tree.old) (λ f. IsPushOf f settings.now.pg1_path.now path.now command)
+        → NowDoes settings.now.stanza.now command false (D.view repo.old).now (D.view repo.new).now }
+    ensures goes { (command : Command) → IsSomeAnd (T.nodes tree.old) (λ f. IsPushOf f settings.now.pg1_path.now path.now command)
+        → Goes settings.now.stanza.now command (D.view repo.old) (D.view repo.new) }
+    ensures ends { OnOk result ((command : Command) → IsSomeAnd (T.nodes tree.old) (λ f. IsPushOf f settings.now.pg1_path.now path.now command)
+        → Ends settings.now.stanza.now command (D.view repo.old) (D.view repo.new)) }
+    ensures stays { IfErr result (λ e. OnFinding e (NowDoes settings.now.stanza.now Reading true (D.view repo.old).now (D.view repo.new).now × Ends settings.now.stanza.now Reading (D.view repo.old) (D.view repo.new))) }
+    ensures agrees { OnOk result (IsSome (D.view repo.old).now → IfSome (D.view repo.new).now (AgreesAtPair settings.now.stanza.now)) }
+    ensures stored { IfOk result (λ outcome. IsStored settings.now.stanza.now settings.now.pg1_path.now path.now (D.view repo.old).now (T.nodes tree.old) (lines_by outcome)) }
+    ensures cause { IfErr result (PushFileCause settings.now.stanza.now settings.now.pg1_path.now path.now (D.view repo.old).now (T.nodes tree.old) (Rises (D.faults repo.old) (D.faults repo.new)) (Rises (T.faults tree.old) (T.faults tree.new))) }
+    ensures nodes { T.nodes tree.new ≡ T.nodes tree.old }
+    ensures tree_place { T.place tree.new ≡ T.place tree.old }
+    ensures repo_place { D.place repo.new ≡ D.place repo.old }
+    ensures repo_later { D.faults repo.old ≤ D.faults repo.new }
+    ensures tree_later { T.faults tree.old ≤ T.faults tree.new }
+{
+    let told = read_cluster(alloc, tree)?;
+    let id = current_id(alloc, repo, settings.stanza, &told)?;
+    let bytes = read_segment_file(alloc, tree, path, &file.name, SEGMENT_LIMIT)?;
+    let pushed = push(
+        alloc,
+        repo,
+        settings.stanza,
+        &id,
+        &file.segment,
+        told.system,
+        &bytes,
+    )?;
+    Ok(outcome_of(pushed, file.name))
+}
+
+/// Stores the segment that the path names.
+pub(crate) fn push_file<D: Disk, T: Tree>(
+    alloc: Global,
+    repo: &mut D,
+    tree: &mut T,
+    settings: &Settings,
+    path: &str,
+) -> Result<Outcome, Fault>
+    // At Ok all of the command's steps are done, and after every answer a part of them.
+    ensures done { OnOk result ((command : Command) → IsSomeAnd (T.nodes tree.old) (λ f. IsPushOf f settings.now.pg1_path.now path.now command)
+        → NowDoes settings.now.stanza.now command true (D.view repo.old).now (D.view repo.new).now) }
+    ensures part { (command : Command) → IsSomeAnd (T.nodes tree.old) (λ f. IsPushOf f settings.now.pg1_path.now path.now command)
+        → NowDoes settings.now.stanza.now command false (D.view repo.old).now (D.view repo.new).now }
+
+    // The same of all that a stop leaves: the log goes on by the command, and at each of its moments by a part of it.
+    ensures carried { OnOk result ((command : Command) → IsSomeAnd (T.nodes tree.old) (λ f. IsPushOf f settings.now.pg1_path.now path.now command)
+        → CarriesOn settings.now.stanza.now command true (D.view repo.old) (D.view repo.new)) }
+    ensures carries { (command : Command) → IsSomeAnd (T.nodes tree.old) (λ f. IsPushOf f settings.now.pg1_path.now path.now command)
+        → CarriesOn settings.now.stanza.now command false (D.view repo.old) (D.view repo.new) }
+    ensures between { (command : Command) → IsSomeAnd (T.nodes tree.old) (λ f. IsPushOf f settings.now.pg1_path.now path.now command)
+        → PassesOnly settings.now.stanza.now command (D.view repo.old) (D.view repo.new) }
+
+    // A refusal for what was found takes no step.
+    ensures stays { IfErr result (λ e. OnFinding e (NowDoes settings.now.stanza.now Reading true (D.view repo.old).now (D.view repo.new).now × CarriesOn settings.now.stanza.now Reading true (D.view repo.old) (D.view repo.new))) }
+    ensures agrees { OnOk result (IsSome (D.view repo.old).now → IfSome (D.view repo.new).now (AgreesAtPair settings.now.stanza.now)) }
+    ensures stored { IfOk result (λ outcome. IsStored settings.now.stanza.now settings.now.pg1_path.now path.now (D.view repo.old).now (T.nodes tree.old) (lines_by outcome)) }
+    ensures cause { IfErr result (PushFileCause settings.now.stanza.now settings.now.pg1_path.now path.now (D.view repo.old).now (T.nodes tree.old) (Rises (D.faults repo.old) (D.faults repo.new)) (Rises (T.faults tree.old) (T.faults tree.new))) }
+    ensures places { OnOk result ((T.place tree.new ≡ settings.now.pg1_path.now) × (D.place repo.new ≡ settings.now.repo1_path.now)) }
+    ensures nodes { T.nodes tree.new ≡ T.nodes tree.old }
+    ensures repo_later { D.faults repo.old ≤ D.faults repo.new }
+    ensures tree_later { T.faults tree.old ≤ T.faults tree.new }
+{
+    let file = segment_at(alloc, settings.pg1_path, path)?;
+    prepare(alloc, repo, tree, settings)?;
+    let outcome = store(alloc, repo, tree, settings, path, file)?;
+    Ok(outcome)
+}
