@@ -4,7 +4,7 @@ ghost use Rattle.std.specs.Prelude.{◌≡◌, None, false, string_bytes};
 use crate::faults::Faults;
 use crate::handles::Handles;
 use crate::place::{Place, no_memory};
-use crate::settle::settle;
+use crate::settle::{Settled, settle};
 use crate::walk::nodes_below;
 use pgb_outside::{Disk, Found, Node, Seen, Stop};
 use std::alloc::Global;
@@ -16,6 +16,7 @@ use std::io::ErrorKind;
 pub struct RealDisk {
     place: Place,
     handles: Handles,
+    settled: Settled,
     faults: Faults,
 }
 
@@ -24,6 +25,7 @@ impl RealDisk {
         ensures { result.faults.count ≡ 0 }
     {
         RealDisk {
+            settled: Settled::new(&rt),
             place: Place::new(rt),
             handles: Handles::new(),
             faults: Faults::new(),
@@ -44,6 +46,7 @@ impl Disk for RealDisk {
 
     fn open(&mut self, path: &str) -> Result<(), Stop> {
         self.handles.forget();
+        self.settled.forget();
         let done = self.place.open(path);
         self.faults.told(done)
     }
@@ -59,7 +62,7 @@ impl Disk for RealDisk {
     }
 
     fn begin(&mut self, name: &str) -> Result<(), Stop> {
-        let done = begin_in_folders(&self.place, &mut self.handles, name);
+        let done = begin_in_folders(&self.place, &mut self.handles, &mut self.settled, name);
         self.faults.told(done)
     }
 
@@ -75,7 +78,7 @@ impl Disk for RealDisk {
 
     fn rename(&mut self, from: &str, to: &str) -> Result<(), Stop> {
         self.handles.forget();
-        let done = rename_into_folders(&self.place, from, to);
+        let done = rename_into_folders(&self.place, &mut self.settled, from, to);
         self.faults.told(done)
     }
 
@@ -86,7 +89,7 @@ impl Disk for RealDisk {
     }
 
     fn settle(&mut self, folder: &str) -> Result<(), Stop> {
-        let done = settle(&self.place, folder);
+        let done = settle(&self.place, &mut self.settled, folder);
         self.faults.told(done)
     }
 }
@@ -104,9 +107,15 @@ fn names_below(alloc: Global, place: &Place, folder: &str) -> io::Result<Vec<Fou
 }
 
 // Folders are there by their names alone, so those that lack are made.
-fn begin_in_folders(place: &Place, handles: &mut Handles, name: &str) -> io::Result<()> {
+fn begin_in_folders(
+    place: &Place,
+    handles: &mut Handles,
+    settled: &mut Settled,
+    name: &str,
+) -> io::Result<()> {
     match handles.begin(place, name) {
         Err(e) if e.kind() == ErrorKind::NotFound => {
+            settled.forget();
             place.make_folders_for(name)?;
             handles.begin(place, name)
         }
@@ -114,9 +123,15 @@ fn begin_in_folders(place: &Place, handles: &mut Handles, name: &str) -> io::Res
     }
 }
 
-fn rename_into_folders(place: &Place, from: &str, to: &str) -> io::Result<()> {
+fn rename_into_folders(
+    place: &Place,
+    settled: &mut Settled,
+    from: &str,
+    to: &str,
+) -> io::Result<()> {
     match place.rename(from, to) {
         Err(e) if e.kind() == ErrorKind::NotFound => {
+            settled.forget();
             place.make_folders_for(to)?;
             place.rename(from, to)
         }

@@ -15,37 +15,84 @@ struct Folder {
     may_hold_folders: bool,
 }
 
+/// The folders that were synced since a folder was made last: the folders in them have durable names.
+#[derive(Drop)]
+pub struct Settled {
+    paths: Vec<String>,
+}
+
+impl Settled {
+    pub fn new(rt: &HostRuntime) -> Self {
+        Settled {
+            paths: Vec::new(rt.alloc()),
+        }
+    }
+
+    /// A folder was made, or another root is opened.
+    pub fn forget(&mut self) {
+        self.paths.clear();
+    }
+
+    fn has(&self, path: &str) -> bool {
+        self.paths.iter().any(|settled| settled.as_str() == path)
+    }
+
+    fn note(&mut self, folders: Vec<Folder>) -> io::Result<()> {
+        for folder in folders {
+            self.paths.push(folder.path).map_err(no_memory)?;
+        }
+        Ok(())
+    }
+}
+
 /// The names below a folder lie in it, in the folders below it, and, where folders were made, in those that hold it.
-pub fn settle(place: &Place, folder: &str) -> io::Result<()> {
-    let folders = folders_of(place, folder)?;
+pub fn settle(place: &Place, settled: &mut Settled, folder: &str) -> io::Result<()> {
+    let folders = folders_of(place, settled, folder)?;
     let is_synced = folders.len() > FEW
         && lie_on_one_device(&folders)
         && sync_file_system(place).unwrap_or(false);
-    if is_synced {
-        return Ok(());
+    if !is_synced {
+        sync_each(place, &folders)?;
     }
-    for folder in &folders {
+    settled.note(folders)
+}
+
+fn sync_each(place: &Place, folders: &[Folder]) -> io::Result<()> {
+    for folder in folders {
         sync_folder(&place.rt, &folder.path)?;
     }
     Ok(())
 }
 
-// The folders that hold the folder, up to the root, the folder itself and those below it.
-fn folders_of(place: &Place, folder: &str) -> io::Result<Vec<Folder>> {
+// The folders that hold the folder, up to the root, but for those that are settled; the folder itself and those below it.
+fn folders_of(place: &Place, settled: &Settled, folder: &str) -> io::Result<Vec<Folder>> {
     let mut folders = Vec::new(place.rt.alloc());
     let mut above = folder;
     for _ in 0..folder.len() {
         let Some((outer, _)) = above.rsplit_once('/') else {
             break;
         };
-        add_folder(place, place.path_of(outer)?, &mut folders)?;
+        add_above(place, settled, place.path_of(outer)?, &mut folders)?;
         above = outer;
     }
-    add_folder(place, place.root.clone()?, &mut folders)?;
+    add_above(place, settled, place.root.clone()?, &mut folders)?;
     let first = folders.len();
     add_folder(place, place.path_of(folder)?, &mut folders)?;
     add_folders_below(place, first, &mut folders)?;
     Ok(folders)
+}
+
+fn add_above(
+    place: &Place,
+    settled: &Settled,
+    path: String,
+    folders: &mut Vec<Folder>,
+) -> io::Result<()> {
+    if settled.has(&path) {
+        Ok(())
+    } else {
+        add_folder(place, path, folders)
+    }
 }
 
 fn add_folder(place: &Place, path: String, folders: &mut Vec<Folder>) -> io::Result<()> {
