@@ -120,7 +120,16 @@ fn node(alloc: Global, stands: Stands) -> Result<Option<MemNode>, AllocError> {
 
 /// A data folder that holds this; those of its calls fail.
 pub(crate) fn tree(alloc: Global, folder: Folder, fail: &[u64]) -> Result<MemTree, Fail> {
-    let mut nodes = Vec::new(alloc);
+    tree_with(alloc, folder, Vec::new(alloc), fail)
+}
+
+/// A data folder that holds this and these nodes; those of its calls fail.
+pub(crate) fn tree_with(
+    alloc: Global,
+    folder: Folder,
+    mut nodes: Vec<(String, MemNode)>,
+    fail: &[u64],
+) -> Result<MemTree, Fail> {
     nodes.push((String::from_str(alloc, "global")?, MemNode::Folder))?;
     if let Some(control) = node(alloc, folder.control)? {
         nodes.push((String::from_str(alloc, "global/pg_control")?, control))?;
@@ -131,7 +140,8 @@ pub(crate) fn tree(alloc: Global, folder: Folder, fail: &[u64]) -> Result<MemTre
     Ok(MemTree::new(alloc, nodes, fail.to_vec(alloc)?)?)
 }
 
-fn disk(alloc: Global, held: Held, fail: &[u64]) -> Result<MemDisk, AllocError> {
+/// A disk that holds this; those of its calls fail.
+pub(crate) fn disk(alloc: Global, held: Held, fail: &[u64]) -> Result<MemDisk, AllocError> {
     let mut names = Vec::new(alloc);
     for (name, text) in held {
         let name = String::from_str(alloc, name)?;
@@ -203,6 +213,11 @@ pub(crate) fn holds(disk: &MemDisk, held: Held) -> bool {
 /// What was written.
 pub(crate) fn output(room: &Room<MemSink>) -> Option<&str> {
     str::from_utf8(room.out.written()).ok()
+}
+
+/// Gives the run a new output.
+pub(crate) fn renew_output(alloc: Global, room: &mut Room<MemSink>) {
+    room.out = MemSink::new(alloc, Vec::new(alloc));
 }
 
 /// The names on the disk below what may be folders of its root, a line each.

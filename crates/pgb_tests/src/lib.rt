@@ -2,6 +2,8 @@
 #![tactic(auto)]
 
 #[cfg(test)]
+mod archiving;
+#[cfg(test)]
 mod beside;
 #[cfg(test)]
 mod control;
@@ -12,9 +14,17 @@ mod failing;
 #[cfg(test)]
 mod fixture;
 #[cfg(test)]
+mod images;
+#[cfg(test)]
 mod outputs;
 #[cfg(test)]
+mod pairs;
+#[cfg(test)]
+mod pushing;
+#[cfg(test)]
 mod refusing;
+#[cfg(test)]
+mod storing;
 #[cfg(test)]
 mod texts;
 #[cfg(test)]
