@@ -4,3 +4,5 @@ pub mod Cause
 pub mod Crash
 pub mod Order
 pub mod Tree
+pub mod Streams
+pub mod Locking

@@ -3,13 +3,15 @@
 
 mod devices;
 mod disk;
+mod locks;
 mod not_there;
 mod sink;
 mod stop;
 mod tree;
 
-pub use devices::{Clock, Files, Link, Locks, Source, Take, Turns, Wire};
+pub use devices::{Clock, Files, Link, Source, Turns, Wire};
 pub use disk::{Disk, Found};
+pub use locks::{Locks, Take};
 pub use not_there::NotThere;
 pub use sink::Sink;
 pub use stop::Stop;

@@ -80,6 +80,12 @@ impl Disk for NotThere {
 }
 
 impl Wire for NotThere {
+    ghost pending = { λ _. None };
+
+    ghost sent = { λ _. None };
+
+    ghost place = { λ _. [] };
+
     ghost faults = { λ it. it.faults };
 
     fn open(&mut self, _path: &str) -> Result<(), Stop> {
@@ -120,6 +126,14 @@ impl Clock for NotThere {
 }
 
 impl Locks for NotThere {
+    ghost taken = { λ _. [] };
+
+    ghost took = { λ _. None };
+
+    ghost others = { λ _. None };
+
+    ghost refusals = { λ _. 0 };
+
     ghost faults = { λ it. it.faults };
 
     fn take(&mut self, _folder: &str, _name: &str) -> Result<Take, Stop> {
@@ -130,6 +144,12 @@ impl Locks for NotThere {
 }
 
 impl Source for NotThere {
+    ghost files = { λ _. None };
+
+    ghost left = { λ _. None };
+
+    ghost place = { λ _. [] };
+
     ghost faults = { λ it. it.faults };
 
     fn open(&mut self, _path: &str) -> Result<bool, Stop> {
