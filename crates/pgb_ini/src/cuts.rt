@@ -1,7 +1,6 @@
 //! The parts of a line.
 
-ghost use Rattle.std.specs.Prelude.{◌≡◌, ◌==◌, option_map, position, if◌then◌else◌};
-ghost use Rattle.std.specs.Str.{is_utf8};
+ghost use Rattle.std.specs.Prelude.{◌≡◌, ◌==◌, option_map, position};
 ghost use Rattle.pgb_ini.specs.Reading.{cut_at, name_in, sum_in};
 
 use pgb_text::Sum;
@@ -53,14 +52,4 @@ pub(crate) fn sum_in(piece: &[u8]) -> Option<Sum>
         return None;
     }
     Sum::read(&piece[19..59])
-}
-
-// The bytes as a text, where they are UTF-8.
-pub(crate) fn text_of(bytes: &[u8]) -> Option<&str>
-    ensures { option_map (λ t. t.now) result ≡ (if is_utf8 bytes.now then Some bytes.now else None) }
-{
-    match str::from_utf8(bytes) {
-        Ok(text) => Some(text),
-        Err(_) => None,
-    }
 }

@@ -5,12 +5,12 @@ ghost use Rattle.pgb_ini.specs.Parts.{key_of, keys_of, sections_of};
 ghost use Rattle.pgb_ini.specs.Reading.{step, opened, closed, more, last_name, last_key};
 ghost use Rattle.pgb_ini.specs.States.{state_of};
 
-use crate::cuts::{cut_at, name_in, sum_in, text_of};
+use crate::cuts::{cut_at, name_in, sum_in};
 use crate::names::{is_before, is_key, is_name};
 use crate::part::Part;
 use crate::state::State;
 use crate::values::value_of;
-use pgb_text::NoMemory;
+use pgb_text::{NoMemory, text_of};
 use serde_json::Value;
 use std::alloc::Global;
 

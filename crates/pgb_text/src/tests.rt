@@ -1,6 +1,6 @@
 //! Digests and digits from outside: of FIPS 180's examples and by hand.
 
-use crate::{Sum, decimal, read_decimal};
+use crate::{Sum, decimal, read_decimal, text_of};
 use std::test::Fail;
 
 #[test]
@@ -56,4 +56,17 @@ fn writes_digits(rt: HostRuntime) -> Result<(), Fail> {
         assert_eq!(rt; decimal(rt.alloc(), number)?.as_str(), text);
     }
     Ok(())
+}
+
+#[test]
+fn tells_texts(rt: HostRuntime) {
+    let texts: [(&[u8], Option<&str>); 4] = [
+        (b"", Some("")),
+        (b"a\xc3\xa9", Some("a\u{e9}")),
+        (b"a\xc3", None),
+        (b"\xed\xa0\x80", None),
+    ];
+    for (bytes, text) in texts {
+        assert_eq!(rt; text_of(bytes), text);
+    }
 }

@@ -1,7 +1,7 @@
 use Rattle.std.proofs.Common.{◌≡◌, ℕ, List, Bool, true, false, refl}
 use Rattle.std.specs.Str.{IsUtf8, is_utf8}
 use Rattle.std.proofs.lemmas.Str.{IsUtf8-from_is_utf8, is_utf8-from_IsUtf8}
-use Rattle.pgb_ini.proofs.cuts.text_of.Goals as goal
+use Rattle.pgb_text.proofs.utf8.text_of.Goals as goal
 
 not_utf8 : (bs : List ℕ) (b : Bool) → is_utf8 bs ≡ b → (IsUtf8 bs → ⊥) → is_utf8 bs ≡ false
 not_utf8 bs true e h = absurd (h (IsUtf8-from_is_utf8 bs e))
