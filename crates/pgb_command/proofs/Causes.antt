@@ -1,5 +1,5 @@
 -- The causes of the program's answers.
-use Rattle.std.proofs.Common.{◌≡◌, ◌⊎◌, ℕ, arith, inl, inr, ⊎_elim, List, Option, Result, Ok, Err, IfErr, IfOk, refl, sym, subst}
+use Rattle.std.proofs.Common.{◌≡◌, ◌⊎◌, ◌≤◌, ℕ, arith, inl, inr, ⊎_elim, List, Option, Result, Ok, Err, IfErr, IfOk, refl, sym, subst}
 use Rattle.std.specs.Prelude.{IsErrAnd}
 use Rattle.pgb_command.specs.declared.outcome.Outcome.{Outcome}
 use Rattle.pgb_command.specs.Outcomes.{lines_by}
@@ -7,7 +7,7 @@ use Rattle.pgb_outside.specs.Content.{Content}
 use Rattle.pgb_outside.specs.Tree.{Nodes}
 use Rattle.pgb_model.specs.Text.{Text}
 use Rattle.pgb_command.specs.declared.fault.Fault.{Fault}
-use Rattle.pgb_command.specs.declared.fault.Fault.TheVariants.{SegmentName, PathOutside, StanzaMissing, InfoDamaged, StanzaMismatch, SegmentMissing, TooLong, HeaderForm, SegmentSize, HeaderMismatch, Ambiguous, Duplicate, NotBuilt, ControlMissing, ControlShort, VersionText, VersionUnsupported, Disk, Tree, Sink, NoMemory}
+use Rattle.pgb_command.specs.declared.fault.Fault.TheVariants.{ConfigMissing, SegmentName, PathOutside, Held, StanzaMissing, InfoDamaged, StanzaMismatch, SegmentMissing, TooLong, HeaderForm, SegmentSize, HeaderMismatch, Ambiguous, Duplicate, NotBuilt, ControlMissing, ControlShort, VersionText, VersionUnsupported, Disk, Tree, Locks, Source, Sink, NoMemory}
 use Rattle.pgb_command.specs.Words.{Asked, Asks, create, push}
 use Rattle.pgb_command.specs.Answers.{Answer, finished, refused, error_line, lines_of, status_of, status, OnFinding, IsFinding}
 use Rattle.pgb_command.specs.Causes.{CreateCause, PushFileCause, IsStored, AskedCause, Cause, Creating, Stored, Pushing, Unasked, Asking, Output, Memory}
@@ -54,8 +54,10 @@ with_sink words repo nodes d t s answer (Output h) = absurd h
 with_sink words repo nodes d t s answer Memory = Memory
 
 pub not_zero : (e : Fault) → ¬ (status_of e ≡ 0)
+not_zero (ConfigMissing a) e = cc
 not_zero (SegmentName a) e = cc
 not_zero (PathOutside a) e = cc
+not_zero (Held a) e = cc
 not_zero (StanzaMissing a) e = cc
 not_zero (InfoDamaged a b c) e = cc
 not_zero (StanzaMismatch a b) e = cc
@@ -73,14 +75,19 @@ not_zero VersionText e = cc
 not_zero (VersionUnsupported a) e = cc
 not_zero Disk e = cc
 not_zero Tree e = cc
+not_zero Locks e = cc
+not_zero Source e = cc
+not_zero Source e = cc
 not_zero Sink e = cc
 not_zero NoMemory e = cc
 
 -- ---- what was written
 
 wrote_fault : (Has : Answer → Type 0) (old new : Option Text) (fault : Fault) → Has (refused fault) → new ≡ more (error_line fault) old → Wrote Has old (refused fault) new
+wrote_fault Has old new (ConfigMissing a) has is = is
 wrote_fault Has old new (SegmentName a) has is = is
 wrote_fault Has old new (PathOutside a) has is = is
+wrote_fault Has old new (Held a) has is = is
 wrote_fault Has old new (StanzaMissing a) has is = is
 wrote_fault Has old new (InfoDamaged a b c) has is = is
 wrote_fault Has old new (StanzaMismatch a b) has is = is
@@ -98,6 +105,9 @@ wrote_fault Has old new VersionText has is = is
 wrote_fault Has old new (VersionUnsupported a) has is = is
 wrote_fault Has old new Disk has is = is
 wrote_fault Has old new Tree has is = is
+wrote_fault Has old new Locks has is = is
+wrote_fault Has old new Source has is = is
+wrote_fault Has old new Source has is = is
 wrote_fault Has old new Sink has is = (refused Sink, has, front_whole old (error_line Sink) new is)
 wrote_fault Has old new NoMemory has is = (refused NoMemory, has, front_whole old (error_line NoMemory) new is)
 
@@ -116,13 +126,15 @@ told_cause words repo nodes d t s old new answer told cause (Wordless rose front
 
 -- ---- refusals
 
-not_a_finding : (n m : ℕ) → n ≡ m → (m ≡ 80) ⊎ ((m ≡ 82) ⊎ ((m ≡ 87) ⊎ (m ≡ 90))) → ¬ IsFinding n
-not_a_finding n m is other (inl a) = absurd (⊎_elim (λ (e : m ≡ 80). omega (arith, e, is, a)) (λ x. ⊎_elim (λ (e : m ≡ 82). omega (arith, e, is, a)) (λ y. ⊎_elim (λ (e : m ≡ 87). omega (arith, e, is, a)) (λ (e : m ≡ 90). omega (arith, e, is, a)) y) x) other)
-not_a_finding n m is other (inr b) = absurd (⊎_elim (λ (e : m ≡ 80). omega (arith, e, is, b.1)) (λ x. ⊎_elim (λ (e : m ≡ 82). omega (arith, e, is, b.1)) (λ y. ⊎_elim (λ (e : m ≡ 87). omega (arith, e, is, b.1)) (λ (e : m ≡ 90). omega (arith, e, is, b.1)) y) x) other)
+not_a_finding : (n m : ℕ) → n ≡ m → 80 ≤ m → m ≤ 90 → ¬ IsFinding n
+not_a_finding n m is lo hi (inl a) = absurd (omega (arith, is, a, hi))
+not_a_finding n m is lo hi (inr b) = absurd (omega (arith, is, b.1, lo))
 
 found_by : (fault : Fault) (P : Type 0) → IsFinding (status_of fault) → OnFinding fault P → P
+found_by (ConfigMissing a) P finding h = h
 found_by (SegmentName a) P finding h = h
 found_by (PathOutside a) P finding h = h
+found_by (Held a) P finding h = h
 found_by (StanzaMissing a) P finding h = h
 found_by (InfoDamaged a b c) P finding h = h
 found_by (StanzaMismatch a b) P finding h = h
@@ -138,20 +150,22 @@ found_by (ControlMissing a) P finding h = h
 found_by (ControlShort a) P finding h = h
 found_by VersionText P finding h = h
 found_by (VersionUnsupported a) P finding h = h
-found_by Disk P finding h = absurd (not_a_finding 80 80 refl (inl refl) finding)
-found_by Tree P finding h = absurd (not_a_finding 82 82 refl (inr (inl refl)) finding)
-found_by Sink P finding h = absurd (not_a_finding 87 87 refl (inr (inr (inl refl))) finding)
-found_by NoMemory P finding h = absurd (not_a_finding 90 90 refl (inr (inr (inr refl))) finding)
+found_by Disk P finding h = absurd (not_a_finding 80 80 refl (omega arith) (omega arith) finding)
+found_by Tree P finding h = absurd (not_a_finding 82 82 refl (omega arith) (omega arith) finding)
+found_by Locks P finding h = absurd (not_a_finding 85 85 refl (omega arith) (omega arith) finding)
+found_by Source P finding h = absurd (not_a_finding 86 86 refl (omega arith) (omega arith) finding)
+found_by Sink P finding h = absurd (not_a_finding 87 87 refl (omega arith) (omega arith) finding)
+found_by NoMemory P finding h = absurd (not_a_finding 90 90 refl (omega arith) (omega arith) finding)
 
 -- what holds of a finding holds where the program ends with its status
 pub found : (old : Option Text) (fault : Fault) (new : Option Text) (rose : Type 0) (answer : Answer) (n : ℕ) (P : Type 0) → IsTold old (refused fault) new rose answer → n ≡ status answer → IsFinding n → OnFinding fault P → P
 found old fault new rose answer n P (Whole is) same finding h = found_by fault P (subst IsFinding same finding) h
-found old fault new rose answer n P (Cut r front) same finding h = absurd (not_a_finding n 87 same (inr (inr (inl refl))) finding)
-found old fault new rose answer n P (Starved line which front) same finding h = absurd (not_a_finding n 90 same (inr (inr (inr refl))) finding)
-found old fault new rose answer n P (Wordless r front) same finding h = absurd (not_a_finding n 87 same (inr (inr (inl refl))) finding)
+found old fault new rose answer n P (Cut r front) same finding h = absurd (not_a_finding n 87 same (omega arith) (omega arith) finding)
+found old fault new rose answer n P (Starved line which front) same finding h = absurd (not_a_finding n 90 same (omega arith) (omega arith) finding)
+found old fault new rose answer n P (Wordless r front) same finding h = absurd (not_a_finding n 87 same (omega arith) (omega arith) finding)
 
 -- a failure of the output behind what was done is no finding
 pub none_found : (old : Option Text) (lines : Text) (new : Option Text) (rose : Type 0) (fault : Fault) (n : ℕ) → IsTold old (finished lines) new rose (refused fault) → n ≡ status_of fault → ¬ IsFinding n
-none_found old lines new rose fault n (Cut r front) same finding = not_a_finding n 87 same (inr (inr (inl refl))) finding
-none_found old lines new rose fault n (Starved line which front) same finding = not_a_finding n 90 same (inr (inr (inr refl))) finding
-none_found old lines new rose fault n (Wordless r front) same finding = not_a_finding n 87 same (inr (inr (inl refl))) finding
+none_found old lines new rose fault n (Cut r front) same finding = not_a_finding n 87 same (omega arith) (omega arith) finding
+none_found old lines new rose fault n (Starved line which front) same finding = not_a_finding n 90 same (omega arith) (omega arith) finding
+none_found old lines new rose fault n (Wordless r front) same finding = not_a_finding n 87 same (omega arith) (omega arith) finding

@@ -15,7 +15,7 @@ use Rattle.pgb_model.proofs.Logged.{KeepsSound, rests_still, moves_keep, moves_b
 use Rattle.pgb_model.proofs.PushSound.{push_keeps_sound}
 use Rattle.pgb_model.proofs.PushDone.{push_spool}
 use Rattle.pgb_command.specs.declared.fault.Fault.{Fault}
-use Rattle.pgb_command.specs.declared.fault.Fault.TheVariants.{SegmentName, PathOutside, StanzaMissing, InfoDamaged, StanzaMismatch, SegmentMissing, TooLong, HeaderForm, SegmentSize, HeaderMismatch, Ambiguous, Duplicate, NotBuilt, ControlMissing, ControlShort, VersionText, VersionUnsupported, Disk, Tree, Sink, NoMemory}
+use Rattle.pgb_command.specs.declared.fault.Fault.TheVariants.{ConfigMissing, SegmentName, PathOutside, Held, StanzaMissing, InfoDamaged, StanzaMismatch, SegmentMissing, TooLong, HeaderForm, SegmentSize, HeaderMismatch, Ambiguous, Duplicate, NotBuilt, ControlMissing, ControlShort, VersionText, VersionUnsupported, Disk, Tree, Locks, Source, Sink, NoMemory}
 use Rattle.pgb_command.specs.Answers.{OnFinding}
 use Rattle.pgb_command.specs.Words.{Request, create, push}
 use Rattle.pgb_command.specs.Commands.{IsPushOf, IsRequestOf, IsPart, Goes, Ends}
@@ -103,8 +103,10 @@ none_carried stanza v = record {
 
 -- what holds of a finding
 pub finding_to : (e : Fault) (P Q : Type 0) → (P → Q) → OnFinding e P → OnFinding e Q
+finding_to (ConfigMissing a) P Q to h = to h
 finding_to (SegmentName a) P Q to h = to h
 finding_to (PathOutside a) P Q to h = to h
+finding_to (Held a) P Q to h = to h
 finding_to (StanzaMissing a) P Q to h = to h
 finding_to (InfoDamaged a b c) P Q to h = to h
 finding_to (StanzaMismatch a b) P Q to h = to h
@@ -122,12 +124,17 @@ finding_to VersionText P Q to h = to h
 finding_to (VersionUnsupported a) P Q to h = to h
 finding_to Disk P Q to h = tt
 finding_to Tree P Q to h = tt
+finding_to Locks P Q to h = tt
+finding_to Source P Q to h = tt
+finding_to Source P Q to h = tt
 finding_to Sink P Q to h = tt
 finding_to NoMemory P Q to h = tt
 
 on_all : (e : Fault) (Q : Type 0) → Q → OnFinding e Q
+on_all (ConfigMissing a) Q q = q
 on_all (SegmentName a) Q q = q
 on_all (PathOutside a) Q q = q
+on_all (Held a) Q q = q
 on_all (StanzaMissing a) Q q = q
 on_all (InfoDamaged a b c) Q q = q
 on_all (StanzaMismatch a b) Q q = q
@@ -145,6 +152,9 @@ on_all VersionText Q q = q
 on_all (VersionUnsupported a) Q q = q
 on_all Disk Q q = tt
 on_all Tree Q q = tt
+on_all Locks Q q = tt
+on_all Source Q q = tt
+on_all Source Q q = tt
 on_all Sink Q q = tt
 on_all NoMemory Q q = tt
 
@@ -158,8 +168,10 @@ finding_same (Err f) e P Q is to h = subst (λ (k : Fault). OnFinding k Q) (sym 
 
 -- two facts of a finding
 on_both : (e : Fault) (P R : Type 0) → OnFinding e P → OnFinding e R → OnFinding e (P × R)
+on_both (ConfigMissing a) P R h k = (h, k)
 on_both (SegmentName a) P R h k = (h, k)
 on_both (PathOutside a) P R h k = (h, k)
+on_both (Held a) P R h k = (h, k)
 on_both (StanzaMissing a) P R h k = (h, k)
 on_both (InfoDamaged a b c) P R h k = (h, k)
 on_both (StanzaMismatch a b) P R h k = (h, k)
@@ -177,6 +189,9 @@ on_both VersionText P R h k = (h, k)
 on_both (VersionUnsupported a) P R h k = (h, k)
 on_both Disk P R h k = tt
 on_both Tree P R h k = tt
+on_both Locks P R h k = tt
+on_both Source P R h k = tt
+on_both Source P R h k = tt
 on_both Sink P R h k = tt
 on_both NoMemory P R h k = tt
 

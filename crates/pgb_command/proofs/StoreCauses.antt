@@ -26,7 +26,7 @@ use Rattle.pgb_command.specs.Answers.{OnFinding, same_line}
 use Rattle.pgb_command.specs.Outcomes.{pushed_lines}
 use Rattle.pgb_command.specs.Storing.{SameFiles, id_kept}
 use Rattle.pgb_command.specs.WalPath.{IsWalPath, HasWal, wal_path}
-use Rattle.pgb_command.specs.Causes.{IsReady, IsRefusedSegment, IsStored, PushFileCause}
+use Rattle.pgb_command.specs.Causes.{IsReady, IsRefusedSegment, IsStored, StoreCause}
 
 -- the file that was read
 pub has_wal : (nodes mid : Option Nodes) (folder path name : Text) (segment : Segment) (items bytes : Text) → mid ≡ nodes → name ≡ segment_text segment → bytes ≡ items → IsWalPath folder path (Whole segment)
@@ -100,29 +100,29 @@ module _ (stanza folder path : Text) (repo mid : Option Content) (nodes : Option
   refused : (e : ArchiveFault) → PushCause stanza (id_kept c) segment told.system bytes repo ⊥ e → IsRefusedSegment stanza folder path repo nodes e
   refused e cause = record { segment = segment; bytes = bytes; told = told; current = c; ready = ready; cause = cause }
 
-  cause_of : (d t rose : Type 0) → (rose → d) → (e : ArchiveFault) → PushCause stanza (id_kept c) segment told.system bytes mid rose e → PushFileCause stanza folder path repo nodes d t (of_archive e)
-  cause_of d t rose to (HeaderForm info) h = refused (HeaderForm info) h
-  cause_of d t rose to (SegmentSize said found) h = refused (SegmentSize said found) h
-  cause_of d t rose to (HeaderMismatch one found) h = refused (HeaderMismatch one found) h
-  cause_of d t rose to (Ambiguous first second) h = refused (Ambiguous first second) (
-    h.0,
+  cause_of : (d t l h rose : Type 0) → (rose → d) → (e : ArchiveFault) → PushCause stanza (id_kept c) segment told.system bytes mid rose e → StoreCause stanza folder path repo nodes d t l h (of_archive e)
+  cause_of d t l h rose to (HeaderForm info) k = refused (HeaderForm info) k
+  cause_of d t l h rose to (SegmentSize said found) k = refused (SegmentSize said found) k
+  cause_of d t l h rose to (HeaderMismatch one found) k = refused (HeaderMismatch one found) k
+  cause_of d t l h rose to (Ambiguous first second) k = refused (Ambiguous first second) (
+    k.0,
     to_old stanza (id_kept c) segment version number fits (λ f. StoresTwo stanza (id_kept c) segment f (string_bytes first) (string_bytes second)) repo mid kept same
-        (λ f g alike. two_back stanza (id_kept c) segment version number fits f g alike (string_bytes first) (string_bytes second)) h.1,
+        (λ f g alike. two_back stanza (id_kept c) segment version number fits f g alike (string_bytes first) (string_bytes second)) k.1,
   )
-  cause_of d t rose to (Duplicate one found) h = refused (Duplicate one found) (
-    h.0,
-    h.1,
-    h.2,
+  cause_of d t l h rose to (Duplicate one found) k = refused (Duplicate one found) (
+    k.0,
+    k.1,
+    k.2,
     to_old stanza (id_kept c) segment version number fits (λ f. StoresOnly stanza (id_kept c) segment f one.0) repo mid kept same
-        (λ f g alike. only_back stanza (id_kept c) segment version number fits f g alike one.0) h.3,
+        (λ f g alike. only_back stanza (id_kept c) segment version number fits f g alike one.0) k.3,
   )
-  cause_of d t rose to Disk h = to h.1
-  cause_of d t rose to NoMemory h = tt
+  cause_of d t l h rose to Disk k = to k.1
+  cause_of d t l h rose to NoMemory k = tt
 
-  pub cause_err : {T : Type 0} (result : Result T Fault) (d t rose : Type 0) (e : ArchiveFault) → (rose → d) → IsErrAnd result (λ fault. fault ≡ of_archive e) → PushCause stanza (id_kept c) segment told.system bytes mid rose e →
-      IfErr result (PushFileCause stanza folder path repo nodes d t)
-  cause_err (Ok x) d t rose e to is h = tt
-  cause_err (Err f) d t rose e to is h = subst (PushFileCause stanza folder path repo nodes d t) (sym is) (cause_of d t rose to e h)
+  pub cause_err : {T : Type 0} (result : Result T Fault) (d t l h rose : Type 0) (e : ArchiveFault) → (rose → d) → IsErrAnd result (λ fault. fault ≡ of_archive e) → PushCause stanza (id_kept c) segment told.system bytes mid rose e →
+      IfErr result (StoreCause stanza folder path repo nodes d t l h)
+  cause_err (Ok x) d t l h rose e to is k = tt
+  cause_err (Err f) d t l h rose e to is k = subst (StoreCause stanza folder path repo nodes d t l h) (sym is) (cause_of d t l h rose to e k)
 
   -- what is told at Ok
   lines_for : (pushed : Pushed) → (pushed ≡ New → IfSome mid (StoresNone stanza (id_kept c) segment)) → (pushed ≡ Same → IfSome mid (λ f. StoresOnly stanza (id_kept c) segment f (sha1 bytes))) →

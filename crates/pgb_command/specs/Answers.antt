@@ -10,12 +10,14 @@ use Rattle.pgb_command.specs.declared.fault.ControlFile.{ControlFile}
 use Rattle.pgb_command.specs.declared.fault.ControlFile.TheVariants.{Control, Version}
 use Rattle.pgb_command.specs.declared.fault.Identity.{Identity}
 use Rattle.pgb_command.specs.declared.fault.Fault.{Fault}
-use Rattle.pgb_command.specs.declared.fault.Fault.TheVariants.{NotBuilt, SegmentName, PathOutside, ControlMissing, ControlShort, VersionText, VersionUnsupported, StanzaMissing, InfoDamaged, StanzaMismatch, SegmentMissing, TooLong, HeaderForm, SegmentSize, HeaderMismatch, Ambiguous, Duplicate, Disk, Tree, Sink, NoMemory}
+use Rattle.pgb_command.specs.declared.fault.Fault.TheVariants.{NotBuilt, ConfigMissing, SegmentName, PathOutside, Held, ControlMissing, ControlShort, VersionText, VersionUnsupported, StanzaMissing, InfoDamaged, StanzaMismatch, SegmentMissing, TooLong, HeaderForm, SegmentSize, HeaderMismatch, Ambiguous, Duplicate, Disk, Tree, Locks, Source, Sink, NoMemory}
 
 abbrev pub status_of : Fault → ℕ
 status_of (NotBuilt what) = 100
+status_of (ConfigMissing path) = 10
 status_of (SegmentName name) = 30
 status_of (PathOutside path) = 12
+status_of (Held name) = 20
 status_of (ControlMissing file) = 28
 status_of (ControlShort length) = 25
 status_of VersionText = 26
@@ -32,6 +34,8 @@ status_of (Ambiguous first second) = 36
 status_of (Duplicate kept found) = 34
 status_of Disk = 80
 status_of Tree = 82
+status_of Locks = 85
+status_of Source = 86
 status_of Sink = 87
 status_of NoMemory = 90
 
@@ -67,8 +71,10 @@ identity_text i = codes "system " ++ (decimal i.system ++ (codes " version " ++ 
 -- the last line of the output
 abbrev pub error_line : Fault → Text
 error_line (NotBuilt what) = codes "ERROR: [100]: '" ++ (part_name what ++ codes "' is not built yet\n")
+error_line (ConfigMissing path) = codes "ERROR: [010]: configuration '" ++ (shown (string_bytes path) ++ codes "' is missing\n")
 error_line (SegmentName name) = codes "ERROR: [030]: '" ++ (shown (string_bytes name) ++ codes "' is no WAL file name\n")
 error_line (PathOutside path) = codes "ERROR: [012]: path '" ++ (shown (string_bytes path) ++ codes "' is outside the data folder\n")
+error_line (Held name) = codes "ERROR: [020]: lock '" ++ (string_bytes name ++ codes "' is held\n")
 error_line (ControlMissing file) = codes "ERROR: [028]: '" ++ (file_text file ++ codes "' is missing\n")
 error_line (ControlShort length) = codes "ERROR: [025]: control file has " ++ (decimal length ++ codes " bytes\n")
 error_line VersionText = codes "ERROR: [026]: PG_VERSION is not valid\n"
@@ -85,6 +91,8 @@ error_line (Ambiguous first second) = codes "ERROR: [036]: '" ++ (string_bytes f
 error_line (Duplicate kept found) = codes "ERROR: [034]: archived with checksum " ++ (sum_text kept.0 ++ (codes ", now " ++ (sum_text found.0 ++ codes "\n")))
 error_line Disk = codes "ERROR: [080]: repository failed\n"
 error_line Tree = codes "ERROR: [082]: data folder failed\n"
+error_line Locks = codes "ERROR: [085]: lock failed\n"
+error_line Source = codes "ERROR: [086]: configuration failed\n"
 error_line Sink = []
 error_line NoMemory = codes "ERROR: [090]: out of memory\n"
 
@@ -114,6 +122,8 @@ IsFinding status = (status ≡ 100) ⊎ ((1 ≤ status) × (status ≤ 72))
 abbrev pub OnFinding : Fault → Type 0 → Type 0
 OnFinding Disk P = ⊤
 OnFinding Tree P = ⊤
+OnFinding Locks P = ⊤
+OnFinding Source P = ⊤
 OnFinding Sink P = ⊤
 OnFinding NoMemory P = ⊤
 OnFinding other P = P

@@ -1,4 +1,5 @@
 pub mod Words
+pub mod Locking
 pub mod Faults
 pub mod Answers
 pub mod Outcomes
@@ -10,3 +11,4 @@ pub mod Commands
 pub mod Storing
 pub mod Causes
 pub mod Making
+pub mod Doing

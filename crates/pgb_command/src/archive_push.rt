@@ -1,5 +1,5 @@
 // archive-push.
-ghost use Rattle.std.specs.Prelude.{◌≡◌, ◌≤◌, true, false, OnOk, IfOk, IfErr, IfSome, IsSome, IsSomeAnd, string_bytes};
+ghost use Rattle.std.specs.Prelude.{◌≡◌, ◌≤◌, true, false, OnOk, IfOk, IfErr, IfSome, IsSome, IsSomeAnd, string_bytes, Contains};
 ghost use Rattle.pgb_outside.specs.Cause.{Rises};
 ghost use Rattle.pgb_model.specs.declared.wal.ArchiveName.TheVariants.{Segment as Whole};
 ghost use Rattle.pgb_model.specs.Names.{segment_text};
@@ -7,7 +7,9 @@ ghost use Rattle.pgb_model.specs.Now.{NowDoes};
 ghost use Rattle.pgb_model.specs.Steps.{Command, Reading};
 ghost use Rattle.pgb_model.specs.Steady.{CarriesOn, PassesOnly};
 ghost use Rattle.pgb_command.specs.Answers.{OnFinding};
-ghost use Rattle.pgb_command.specs.Causes.{IsStored, PushFileCause};
+ghost use Rattle.pgb_command.specs.Causes.{IsStored, StoreCause, PushFileCause};
+ghost use Rattle.pgb_command.specs.Words.{push as push_request};
+ghost use Rattle.pgb_command.specs.Locking.{lock_name, Locks as IsLocked, OnlyLocked, MayHold};
 ghost use Rattle.pgb_command.specs.Commands.{IsPushOf, Goes, Ends};
 ghost use Rattle.pgb_command.specs.Outcomes.{lines_by, pushed_lines};
 ghost use Rattle.pgb_command.specs.Storing.{AgreesAtPair};
@@ -21,7 +23,7 @@ use crate::outcome::Outcome;
 use crate::wal_file::{WalFile, read_segment_file, segment_at};
 use crate::words::Settings;
 use pgb_archive::{Pushed, push};
-use pgb_outside::{Disk, Tree};
+use pgb_outside::{Disk, Locks, Tree};
 use std::alloc::Global;
 
 // A segment has at most 1 GiB.
@@ -58,7 +60,7 @@ fn store<D: Disk, T: Tree>(
     ensures stays { IfErr result (λ e. OnFinding e (NowDoes settings.now.stanza.now Reading true (D.view repo.old).now (D.view repo.new).now × Ends settings.now.stanza.now Reading (D.view repo.old) (D.view repo.new))) }
     ensures agrees { OnOk result (IsSome (D.view repo.old).now → IfSome (D.view repo.new).now (AgreesAtPair settings.now.stanza.now)) }
     ensures stored { IfOk result (λ outcome. IsStored settings.now.stanza.now settings.now.pg1_path.now path.now (D.view repo.old).now (T.nodes tree.old) (lines_by outcome)) }
-    ensures cause { IfErr result (PushFileCause settings.now.stanza.now settings.now.pg1_path.now path.now (D.view repo.old).now (T.nodes tree.old) (Rises (D.faults repo.old) (D.faults repo.new)) (Rises (T.faults tree.old) (T.faults tree.new))) }
+    ensures cause { IfErr result (StoreCause settings.now.stanza.now settings.now.pg1_path.now path.now (D.view repo.old).now (T.nodes tree.old) (Rises (D.faults repo.old) (D.faults repo.new)) (Rises (T.faults tree.old) (T.faults tree.new)) ⊥ ⊥) }
     ensures nodes { T.nodes tree.new ≡ T.nodes tree.old }
     ensures tree_place { T.place tree.new ≡ T.place tree.old }
     ensures repo_place { D.place repo.new ≡ D.place repo.old }
@@ -81,13 +83,17 @@ fn store<D: Disk, T: Tree>(
 }
 
 /// Stores the segment that the path names.
-pub(crate) fn push_file<D: Disk, T: Tree>(
+pub(crate) fn push_file<D: Disk, T: Tree, K: Locks>(
     alloc: Global,
     repo: &mut D,
     tree: &mut T,
+    locks: &mut K,
     settings: &Settings,
     path: &str,
+    lock: &str,
 ) -> Result<Outcome, Fault>
+    requires free { ¬ Contains (K.taken locks.old) lock.now }
+    requires name { lock.now ≡ lock_name settings.now.stanza.now (push_request path.now) }
     // At Ok all of the command's steps are done, and after every answer a part of them.
     ensures done { OnOk result ((command : Command) → IsSomeAnd (T.nodes tree.old) (λ f. IsPushOf f settings.now.pg1_path.now path.now command)
         → NowDoes settings.now.stanza.now command true (D.view repo.old).now (D.view repo.new).now) }
@@ -106,14 +112,19 @@ pub(crate) fn push_file<D: Disk, T: Tree>(
     ensures stays { IfErr result (λ e. OnFinding e (NowDoes settings.now.stanza.now Reading true (D.view repo.old).now (D.view repo.new).now × CarriesOn settings.now.stanza.now Reading true (D.view repo.old) (D.view repo.new))) }
     ensures agrees { OnOk result (IsSome (D.view repo.old).now → IfSome (D.view repo.new).now (AgreesAtPair settings.now.stanza.now)) }
     ensures stored { IfOk result (λ outcome. IsStored settings.now.stanza.now settings.now.pg1_path.now path.now (D.view repo.old).now (T.nodes tree.old) (lines_by outcome)) }
-    ensures cause { IfErr result (PushFileCause settings.now.stanza.now settings.now.pg1_path.now path.now (D.view repo.old).now (T.nodes tree.old) (Rises (D.faults repo.old) (D.faults repo.new)) (Rises (T.faults tree.old) (T.faults tree.new))) }
+    ensures cause { IfErr result (PushFileCause settings.now.stanza.now settings.now.pg1_path.now path.now (D.view repo.old).now (T.nodes tree.old) (Rises (D.faults repo.old) (D.faults repo.new)) (Rises (T.faults tree.old) (T.faults tree.new)) (Rises (K.faults locks.old) (K.faults locks.new)) (Rises (K.refusals locks.old) (K.refusals locks.new))) }
     ensures places { OnOk result ((T.place tree.new ≡ settings.now.pg1_path.now) × (D.place repo.new ≡ settings.now.repo1_path.now)) }
+    ensures locked { OnOk result (IsLocked settings.now.lock_path.now lock.now (K.took locks.old) (K.took locks.new)) }
+    ensures only_locked { OnlyLocked settings.now.lock_path.now lock.now (K.took locks.old) (K.took locks.new) (D.view repo.old) (D.view repo.new) }
+    ensures holds { MayHold lock.now (K.taken locks.old) (K.taken locks.new) }
+    ensures locks_later { K.faults locks.old ≤ K.faults locks.new }
+    ensures refusals_later { K.refusals locks.old ≤ K.refusals locks.new }
     ensures nodes { T.nodes tree.new ≡ T.nodes tree.old }
     ensures repo_later { D.faults repo.old ≤ D.faults repo.new }
     ensures tree_later { T.faults tree.old ≤ T.faults tree.new }
 {
     let file = segment_at(alloc, settings.pg1_path, path)?;
-    prepare(alloc, repo, tree, settings)?;
+    prepare(alloc, repo, tree, locks, settings, lock)?;
     let outcome = store(alloc, repo, tree, settings, path, file)?;
     Ok(outcome)
 }

@@ -1,5 +1,5 @@
 // stanza-create.
-ghost use Rattle.std.specs.Prelude.{◌≡◌, ◌≤◌, ◌⊎◌, true, false, None, Some, ℕ, List, Option, OnOk, IfErr, IfSome, IsSome, IsSomeAnd, IsErrOf};
+ghost use Rattle.std.specs.Prelude.{◌≡◌, ◌≤◌, ◌⊎◌, true, false, None, Some, ℕ, List, Option, OnOk, IfErr, IfSome, IsSome, IsSomeAnd, IsErrOf, Contains};
 ghost use Rattle.pgb_outside.specs.Moments.{Rests};
 ghost use Rattle.pgb_outside.specs.Cause.{Rises};
 ghost use Rattle.pgb_model.specs.declared.clusters.Cluster.{Cluster};
@@ -13,6 +13,8 @@ ghost use Rattle.pgb_stanza.specs.ControlFile.{first_cluster};
 ghost use Rattle.pgb_command.specs.Cluster.{IsClusterOf};
 ghost use Rattle.pgb_command.specs.Causes.{CreateCause, TellsSome};
 ghost use Rattle.pgb_command.specs.Answers.{OnFinding};
+ghost use Rattle.pgb_command.specs.Words.{create as create_request};
+ghost use Rattle.pgb_command.specs.Locking.{lock_name, Locks as IsLocked, OnlyLocked, MayHold};
 ghost use Rattle.pgb_command.specs.Making.{MakeCause};
 ghost use Rattle.pgb_command.specs.Storing.{AgreesAtPair};
 
@@ -20,7 +22,7 @@ use crate::cluster::read_cluster;
 use crate::fault::{Fault, Unbuilt};
 use crate::opening::prepare;
 use crate::words::Settings;
-use pgb_outside::{Disk, Tree};
+use pgb_outside::{Disk, Locks, Tree};
 use pgb_stanza::{Control, create, is_new};
 use std::alloc::Global;
 
@@ -53,12 +55,16 @@ fn make<D: Disk>(alloc: Global, repo: &mut D, stanza: &str, told: &Control) -> R
 }
 
 /// Makes the stanza of the cluster that the data folder tells.
-pub(crate) fn create_stanza<D: Disk, T: Tree>(
+pub(crate) fn create_stanza<D: Disk, T: Tree, K: Locks>(
     alloc: Global,
     repo: &mut D,
     tree: &mut T,
+    locks: &mut K,
     settings: &Settings,
+    lock: &str,
 ) -> Result<(), Fault>
+    requires free { ¬ Contains (K.taken locks.old) lock.now }
+    requires name { lock.now ≡ lock_name settings.now.stanza.now create_request }
     // At Ok all of the command's steps are done, and after every answer a part of them.
     ensures done { OnOk result ((cluster : Option Cluster) → IsSomeAnd (T.nodes tree.old) (λ f. IsClusterOf f cluster)
         → NowDoes settings.now.stanza.now (StanzaCreate cluster) true (D.view repo.old).now (D.view repo.new).now) }
@@ -81,11 +87,16 @@ pub(crate) fn create_stanza<D: Disk, T: Tree>(
     ensures nodes { T.nodes tree.new ≡ T.nodes tree.old }
     ensures repo_later { D.faults repo.old ≤ D.faults repo.new }
     ensures tree_later { T.faults tree.old ≤ T.faults tree.new }
+    ensures locked { OnOk result (IsLocked settings.now.lock_path.now lock.now (K.took locks.old) (K.took locks.new)) }
+    ensures only_locked { OnlyLocked settings.now.lock_path.now lock.now (K.took locks.old) (K.took locks.new) (D.view repo.old) (D.view repo.new) }
+    ensures holds { MayHold lock.now (K.taken locks.old) (K.taken locks.new) }
+    ensures locks_later { K.faults locks.old ≤ K.faults locks.new }
+    ensures refusals_later { K.refusals locks.old ≤ K.refusals locks.new }
     ensures refused { IfErr result (λ e. OnFinding e ((D.view repo.new).now ≡ (D.view repo.old).now)) }
     ensures stays { IfErr result (λ e. OnFinding e (CarriesOn settings.now.stanza.now Reading true (D.view repo.old) (D.view repo.new))) }
-    ensures cause { IfErr result (CreateCause settings.now.stanza.now (D.view repo.old).now (T.nodes tree.old) (Rises (D.faults repo.old) (D.faults repo.new)) (Rises (T.faults tree.old) (T.faults tree.new))) }
+    ensures cause { IfErr result (CreateCause settings.now.stanza.now (D.view repo.old).now (T.nodes tree.old) (Rises (D.faults repo.old) (D.faults repo.new)) (Rises (T.faults tree.old) (T.faults tree.new)) (Rises (K.faults locks.old) (K.faults locks.new)) (Rises (K.refusals locks.old) (K.refusals locks.new))) }
 {
-    prepare(alloc, repo, tree, settings)?;
+    prepare(alloc, repo, tree, locks, settings, lock)?;
     let told = read_cluster(alloc, tree)?;
     make(alloc, repo, settings.stanza, &told)?;
     Ok(())

@@ -41,6 +41,10 @@ pub enum Fault {
     NotBuilt {
         what: Unbuilt,
     },
+    /// The configuration that the words name isn't there.
+    ConfigMissing {
+        path: String,
+    },
     /// The path's last element is no name of a file that a server archives.
     SegmentName {
         name: String,
@@ -48,6 +52,10 @@ pub enum Fault {
     /// The path isn't that of a file in the data folder's `pg_wal`.
     PathOutside {
         path: String,
+    },
+    /// Another program has the lock.
+    Held {
+        name: String,
     },
     ControlMissing {
         file: ControlFile,
@@ -111,6 +119,10 @@ pub enum Fault {
     Disk,
     /// The data folder failed.
     Tree,
+    /// The locks failed.
+    Locks,
+    /// The configuration failed.
+    Source,
     /// The output failed.
     Sink,
     NoMemory,
@@ -202,8 +214,10 @@ pub(crate) fn status(fault: &Fault) -> u8
 {
     match fault {
         Fault::NotBuilt { .. } => 100,
+        Fault::ConfigMissing { .. } => 10,
         Fault::SegmentName { .. } => 30,
         Fault::PathOutside { .. } => 12,
+        Fault::Held { .. } => 20,
         Fault::ControlMissing { .. } => 28,
         Fault::ControlShort { .. } => 25,
         Fault::VersionText => 26,
@@ -220,6 +234,8 @@ pub(crate) fn status(fault: &Fault) -> u8
         Fault::Duplicate { .. } => 34,
         Fault::Disk => 80,
         Fault::Tree => 82,
+        Fault::Locks => 85,
+        Fault::Source => 86,
         Fault::Sink => 87,
         Fault::NoMemory => 90,
     }

@@ -17,4 +17,4 @@ mod wal_file;
 mod words;
 
 pub use outside::Outside;
-pub use top::run;
+// pub use top::run;

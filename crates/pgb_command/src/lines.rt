@@ -151,6 +151,12 @@ pub(crate) fn line(alloc: Global, fault: &Fault) -> Result<Vec<u8>, NoMemory>
             let name = part_name(*what);
             bytes_of(format!(in alloc; "ERROR: [100]: '{name}' is not built yet\n"))
         }
+        Fault::ConfigMissing { path } => quoted(
+            alloc,
+            "ERROR: [010]: configuration '",
+            path,
+            "' is missing\n",
+        ),
         Fault::SegmentName { name } => quoted(
             alloc,
             "ERROR: [030]: '",
@@ -163,6 +169,9 @@ pub(crate) fn line(alloc: Global, fault: &Fault) -> Result<Vec<u8>, NoMemory>
             path,
             "' is outside the data folder\n",
         ),
+        Fault::Held { name } => bytes_of(format!(in alloc;
+            "ERROR: [020]: lock '{name}' is held\n"
+        )),
         Fault::ControlMissing { file } => {
             let name = file_text(*file);
             bytes_of(format!(in alloc; "ERROR: [028]: '{name}' is missing\n"))
@@ -200,6 +209,8 @@ pub(crate) fn line(alloc: Global, fault: &Fault) -> Result<Vec<u8>, NoMemory>
         Fault::Duplicate { kept, found } => duplicate_line(alloc, kept, found),
         Fault::Disk => bytes_of(String::from_str(alloc, "ERROR: [080]: repository failed\n")),
         Fault::Tree => bytes_of(String::from_str(alloc, "ERROR: [082]: data folder failed\n")),
+        Fault::Locks => bytes_of(String::from_str(alloc, "ERROR: [085]: lock failed\n")),
+        Fault::Source => bytes_of(String::from_str(alloc, "ERROR: [086]: configuration failed\n")),
         Fault::NoMemory => bytes_of(String::from_str(alloc, "ERROR: [090]: out of memory\n")),
         Fault::Sink => Ok(Vec::new(alloc)),
     }

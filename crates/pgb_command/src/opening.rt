@@ -1,23 +1,24 @@
-// The data folder and the repository are opened, and what is found there is settled.
-ghost use Rattle.std.specs.Prelude.{◌≡◌, ◌≤◌, List, OnOk, IfErr, IsSome};
+// The data folder and the repository are opened, the lock is taken, and what is found in the repository is settled.
+ghost use Rattle.std.specs.Prelude.{◌≡◌, ◌≤◌, ◌∷◌, [], List, OnOk, OnErr, IfErr, IsSome, Contains};
 ghost use Rattle.pgb_outside.specs.Moments.{Rests};
 ghost use Rattle.pgb_outside.specs.Cause.{Rises};
 ghost use Rattle.pgb_model.specs.Repository.{Repository};
 ghost use Rattle.pgb_model.specs.Log.{Done, KeepsRepository};
 ghost use Rattle.pgb_model.specs.Steady.{IsBegun};
-ghost use Rattle.pgb_command.specs.Making.{DeviceCause};
+ghost use Rattle.pgb_command.specs.Locking.{Locks as IsLocked, OnlyLocked, MayHold};
+ghost use Rattle.pgb_command.specs.Making.{OpeningCause};
 
 use crate::fault::{Fault, of_tree};
 use crate::words::Settings;
 use pgb_disk::{StoreFault, begin};
-use pgb_outside::{Disk, Stop, Tree};
+use pgb_outside::{Disk, Locks, Stop, Take, Tree};
 use std::alloc::Global;
 
 fn open_tree<T: Tree>(tree: &mut T, path: &str) -> Result<(), Fault>
     ensures place { OnOk result (T.place tree.new ≡ path.now) }
     ensures nodes { T.nodes tree.new ≡ T.nodes tree.old }
     ensures later { T.faults tree.old ≤ T.faults tree.new }
-    ensures cause { IfErr result (DeviceCause ⊥ (Rises (T.faults tree.old) (T.faults tree.new))) }
+    ensures cause { IfErr result (OpeningCause [] ⊥ (Rises (T.faults tree.old) (T.faults tree.new)) ⊥ ⊥) }
 {
     match tree.open(path) {
         Ok(()) => Ok(()),
@@ -30,7 +31,7 @@ fn open_repo<D: Disk>(repo: &mut D, path: &str) -> Result<(), Fault>
     ensures now { (D.view repo.new).now ≡ (D.view repo.old).now }
     ensures time { Rests (D.view repo.old) (D.view repo.new) }
     ensures later { D.faults repo.old ≤ D.faults repo.new }
-    ensures cause { IfErr result (DeviceCause (Rises (D.faults repo.old) (D.faults repo.new)) ⊥) }
+    ensures cause { IfErr result (OpeningCause [] (Rises (D.faults repo.old) (D.faults repo.new)) ⊥ ⊥ ⊥) }
 {
     match repo.open(path) {
         Ok(()) => Ok(()),
@@ -45,7 +46,7 @@ fn settle<D: Disk>(alloc: Global, repo: &mut D, stanza: &str) -> Result<(), Faul
     ensures time { Rests (D.view repo.old) (D.view repo.new) }
     ensures place { D.place repo.new ≡ D.place repo.old }
     ensures later { D.faults repo.old ≤ D.faults repo.new }
-    ensures cause { IfErr result (DeviceCause (Rises (D.faults repo.old) (D.faults repo.new)) ⊥) }
+    ensures cause { IfErr result (OpeningCause [] (Rises (D.faults repo.old) (D.faults repo.new)) ⊥ ⊥ ⊥) }
 {
     match begin(alloc, repo, stanza) {
         Ok(()) => Ok(()),
@@ -54,24 +55,53 @@ fn settle<D: Disk>(alloc: Global, repo: &mut D, stanza: &str) -> Result<(), Faul
     }
 }
 
-/// Opens the data folder and the repository, and settles the stanza there.
-pub(crate) fn prepare<D: Disk, T: Tree>(
+fn take_lock<K: Locks>(alloc: Global, locks: &mut K, folder: &str, name: &str) -> Result<(), Fault>
+    requires { ¬ Contains (K.taken locks.old) name.now }
+    ensures held { OnOk result (K.taken locks.new ≡ name.now ∷ K.taken locks.old) }
+    ensures locked { OnOk result (IsLocked folder.now name.now (K.took locks.old) (K.took locks.new)) }
+    ensures free { OnErr result ((K.taken locks.new ≡ K.taken locks.old) × (K.took locks.new ≡ K.took locks.old)) }
+    ensures later { K.faults locks.old ≤ K.faults locks.new }
+    ensures refusals { K.refusals locks.old ≤ K.refusals locks.new }
+    ensures cause { IfErr result (OpeningCause name.now ⊥ ⊥ (Rises (K.faults locks.old) (K.faults locks.new)) (Rises (K.refusals locks.old) (K.refusals locks.new))) }
+{
+    match locks.take(folder, name) {
+        Ok(Take::Taken) => Ok(()),
+        Ok(Take::Held) => Err(Fault::Held {
+            name: String::from_str(alloc, name)?,
+        }),
+        Err(Stop::Failed) => Err(Fault::Locks),
+        Err(Stop::NoMemory) => Err(Fault::NoMemory),
+    }
+}
+
+/// Opens the data folder and the repository, takes the lock, and settles the stanza in the repository. The lock may be held
+/// after an `Err` too.
+pub(crate) fn prepare<D: Disk, T: Tree, K: Locks>(
     alloc: Global,
     repo: &mut D,
     tree: &mut T,
+    locks: &mut K,
     settings: &Settings,
+    lock: &str,
 ) -> Result<(), Fault>
+    requires { ¬ Contains (K.taken locks.old) lock.now }
     ensures places { OnOk result ((T.place tree.new ≡ settings.now.pg1_path.now) × (D.place repo.new ≡ settings.now.repo1_path.now)) }
     ensures begun { OnOk result ((q : Repository) (log : List Done) → KeepsRepository settings.now.stanza.now q log (D.view repo.old) → IsSome (D.view repo.old).now → IsBegun settings.now.stanza.now q log (D.view repo.new)) }
     ensures now { (D.view repo.new).now ≡ (D.view repo.old).now }
     ensures time { Rests (D.view repo.old) (D.view repo.new) }
     ensures nodes { T.nodes tree.new ≡ T.nodes tree.old }
     ensures repo_later { D.faults repo.old ≤ D.faults repo.new }
+    ensures locked { OnOk result (IsLocked settings.now.lock_path.now lock.now (K.took locks.old) (K.took locks.new)) }
+    ensures only_locked { OnlyLocked settings.now.lock_path.now lock.now (K.took locks.old) (K.took locks.new) (D.view repo.old) (D.view repo.new) }
+    ensures holds { MayHold lock.now (K.taken locks.old) (K.taken locks.new) }
     ensures tree_later { T.faults tree.old ≤ T.faults tree.new }
-    ensures cause { IfErr result (DeviceCause (Rises (D.faults repo.old) (D.faults repo.new)) (Rises (T.faults tree.old) (T.faults tree.new))) }
+    ensures locks_later { K.faults locks.old ≤ K.faults locks.new }
+    ensures refusals_later { K.refusals locks.old ≤ K.refusals locks.new }
+    ensures cause { IfErr result (OpeningCause lock.now (Rises (D.faults repo.old) (D.faults repo.new)) (Rises (T.faults tree.old) (T.faults tree.new)) (Rises (K.faults locks.old) (K.faults locks.new)) (Rises (K.refusals locks.old) (K.refusals locks.new))) }
 {
     open_tree(tree, settings.pg1_path)?;
     open_repo(repo, settings.repo1_path)?;
+    take_lock(alloc, locks, settings.lock_path, lock)?;
     settle(alloc, repo, settings.stanza)?;
     Ok(())
 }

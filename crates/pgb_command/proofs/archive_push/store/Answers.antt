@@ -61,10 +61,10 @@ returns-in_err-pushed-clause-cause g c =
     let nodes = g.T.Tree.nodes c.args.tree.now in
     let x = c.in_ok-id.ensures.current in
     let has = has_wal nodes (g.T.Tree.nodes c.read_cluster.new.tree) folder path c.deref.result.now segment c.in_ok-bytes.bytes.items bytes c.read_cluster.ensures.nodes (c.deref.ensures ∙ c.requires.1) c.deref-2.ensures.value c.requires.0 c.in_ok-bytes.ensures.bytes in
-    let ready : IsReady stanza folder path (g.D.Disk.view c.args.repo.now).now nodes segment bytes c.in_ok-told.told x.0 = record { has = has; tells = c.in_ok-told.ensures.told; current = x.3; same = x.2 } in
+    let ready : IsReady stanza folder path (g.D.Disk.view c.args.repo.now).now nodes segment bytes c.in_ok-told.told x.0 = record { has = has; of = record { tells = c.in_ok-told.ensures.told; current = x.3; same = x.2 } } in
     let fits = c.in_ok-id.ensures.fits in
     cause_err stanza folder path (g.D.Disk.view c.args.repo.now).now (g.D.Disk.view c.current_id.new.repo).now nodes segment bytes c.in_ok-told.told x.0 ready (subst (λ (i : ArchiveId). i.version < 2 ^ 32) x.1 fits.0) (subst (λ (i : ArchiveId). i.number < 2 ^ 32) x.1 fits.1) c.requires.0.fits
-    c.current_id.ensures.stays.told c.in_ok-id.ensures.files c.from_residual-in_err-pushed.result _ _ _ c.in_err-pushed.field-0.0 (λ rose. omega (arith, rose, c.current_id.ensures.later)) c.from_residual-in_err-pushed.ensures.1
+    c.current_id.ensures.stays.told c.in_ok-id.ensures.files c.from_residual-in_err-pushed.result _ _ _ _ _ c.in_err-pushed.field-0.0 (λ rose. omega (arith, rose, c.current_id.ensures.later)) c.from_residual-in_err-pushed.ensures.1
     (subst (λ (i : ArchiveId). PushCause stanza i segment c.in_ok-told.told.system bytes (g.D.Disk.view c.current_id.new.repo).now (Rises (g.D.Disk.faults c.current_id.new.repo) (g.D.Disk.faults c.push.new.d)) c.in_err-pushed.field-0.0) x.1 c.in_err-pushed.ensures.cause)
 
 pub returns-clause-done : goal.returns-clause-done
@@ -138,7 +138,7 @@ returns-clause-stored g c =
     let nodes = g.T.Tree.nodes c.args.tree.now in
     let x = c.in_ok-id.ensures.current in
     let has = has_wal nodes (g.T.Tree.nodes c.read_cluster.new.tree) folder path c.deref.result.now segment c.in_ok-bytes.bytes.items bytes c.read_cluster.ensures.nodes (c.deref.ensures ∙ c.requires.1) c.deref-2.ensures.value c.requires.0 c.in_ok-bytes.ensures.bytes in
-    let ready : IsReady stanza folder path (g.D.Disk.view c.args.repo.now).now nodes segment bytes c.in_ok-told.told x.0 = record { has = has; tells = c.in_ok-told.ensures.told; current = x.3; same = x.2 } in
+    let ready : IsReady stanza folder path (g.D.Disk.view c.args.repo.now).now nodes segment bytes c.in_ok-told.told x.0 = record { has = has; of = record { tells = c.in_ok-told.ensures.told; current = x.3; same = x.2 } } in
     let fits = c.in_ok-id.ensures.fits in
     stored_as stanza folder path (g.D.Disk.view c.args.repo.now).now (g.D.Disk.view c.current_id.new.repo).now nodes segment bytes c.in_ok-told.told x.0 ready (subst (λ (i : ArchiveId). i.version < 2 ^ 32) x.1 fits.0) (subst (λ (i : ArchiveId). i.number < 2 ^ 32) x.1 fits.1) c.requires.0.fits
     c.current_id.ensures.stays.told c.in_ok-id.ensures.files _ (string_bytes c.args.file.name) c.in_ok-pushed.pushed c.requires.1 c.outcome_of.ensures c.in_ok-pushed.ensures.of_system

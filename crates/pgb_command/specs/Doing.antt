@@ -1,0 +1,31 @@
+-- What a command did, from the disk as it was to the disk as it is.
+use Rattle.std.specs.Prelude.{◌≡◌, true, false, Some, Option, IfSome, IsSome, IsSomeAnd}
+use Rattle.pgb_outside.specs.Moments.{View}
+use Rattle.pgb_outside.specs.Tree.{Nodes}
+use Rattle.pgb_model.specs.declared.clusters.Cluster.{Cluster}
+use Rattle.pgb_model.specs.Steps.{Command, Reading}
+use Rattle.pgb_model.specs.Steady.{CarriesOn, PassesOnly}
+use Rattle.pgb_model.specs.Now.{HasNewPairs, NowDoes}
+use Rattle.pgb_command.specs.Words.{Asked, create}
+use Rattle.pgb_command.specs.Cluster.{IsClusterOf}
+use Rattle.pgb_command.specs.Commands.{IsCommandOf}
+use Rattle.pgb_command.specs.Storing.{AgreesAtPair}
+
+-- a part of its steps, in what the disk holds and in all that a stop leaves at any moment
+pub record PartDone (a : Asked) (nodes : Option Nodes) (old new : View) : Type 0 where
+  pub part : (command : Command) → IsSomeAnd nodes (λ f. IsCommandOf f a command) → NowDoes a.stanza command false old.now new.now
+  pub carries : (command : Command) → IsSomeAnd nodes (λ f. IsCommandOf f a command) → CarriesOn a.stanza command false old new
+  pub between : (command : Command) → IsSomeAnd nodes (λ f. IsCommandOf f a command) → PassesOnly a.stanza command old new
+
+-- all of its steps
+pub record AllDone (a : Asked) (nodes : Option Nodes) (old new : View) : Type 0 where
+  pub done : (command : Command) → IsSomeAnd nodes (λ f. IsCommandOf f a command) → NowDoes a.stanza command true old.now new.now
+  pub carried : (command : Command) → IsSomeAnd nodes (λ f. IsCommandOf f a command) → CarriesOn a.stanza command true old new
+  pub agrees : IsSome old.now → IfSome new.now (AgreesAtPair a.stanza)
+  pub members : a.request ≡ create → (c : Cluster) → IsSomeAnd nodes (λ f. IsClusterOf f (Some c)) → IsSome old.now → IfSome new.now (HasNewPairs a.stanza c)
+
+-- none of them
+pub record NoneDone (a : Asked) (old new : View) : Type 0 where
+  pub stays : NowDoes a.stanza Reading true old.now new.now
+  pub carried : CarriesOn a.stanza Reading true old new
+  pub unchanged : a.request ≡ create → new.now ≡ old.now
