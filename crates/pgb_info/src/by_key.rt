@@ -6,19 +6,9 @@ ghost use Rattle.pgb_outside.specs.Order.{is_before};
 ghost use Rattle.pgb_model.specs.Fields.{with_field};
 ghost use Rattle.pgb_ini.specs.Parts.{key_of};
 
+use pgb_ini::is_before;
 use pgb_text::NoMemory;
 use serde_json::Value;
-use std::cmp::Ordering;
-
-fn is_before(a: &[u8], b: &[u8]) -> bool
-    ensures { result ≡ is_before a.now b.now }
-{
-    match a.cmp(&b) {
-        Ordering::Less => true,
-        Ordering::Equal => false,
-        Ordering::Greater => false,
-    }
-}
 
 // The place of the first key that comes after this one, or the end.
 fn place_of(keys: &[(String, Value)], key: &str) -> usize

@@ -4,3 +4,5 @@ pub mod Form
 pub mod Answers
 pub mod Reading
 pub mod States
+pub mod Config
+pub mod Views

@@ -1,7 +1,9 @@
 //! The parts of a line.
 
-ghost use Rattle.std.specs.Prelude.{◌≡◌, ◌==◌, option_map, position};
-ghost use Rattle.pgb_ini.specs.Reading.{cut_at, name_in, sum_in};
+ghost use Rattle.std.specs.Prelude.{◌≡◌, ◌==◌, ◌∷◌, option_map, position};
+ghost use Rattle.pgb_ini.specs.Config.{is_blank, trim_start, trim_end};
+ghost use Rattle.pgb_ini.specs.Form.{pieces};
+ghost use Rattle.pgb_ini.specs.Reading.{rest_pieces, cut_at, name_in, sum_in};
 
 use pgb_text::Sum;
 
@@ -21,6 +23,16 @@ pub(crate) fn cut_at(at: u8, bytes: &[u8]) -> Option<(&[u8], &[u8])>
             Some((front, &rest[1..]))
         }
         None => None,
+    }
+}
+
+// The first line, and what stands behind its newline.
+pub(crate) fn next_piece(bytes: &[u8]) -> (&[u8], Option<&[u8]>)
+    ensures { pieces bytes.now ≡ result.0.now ∷ rest_pieces result.1 }
+{
+    match cut_at(b'\n', bytes) {
+        Some((piece, rest)) => (piece, Some(rest)),
+        None => (bytes, None),
     }
 }
 
@@ -52,4 +64,36 @@ pub(crate) fn sum_in(piece: &[u8]) -> Option<Sum>
         return None;
     }
     Sum::read(&piece[19..59])
+}
+
+fn is_blank(b: u8) -> bool
+    ensures { result ≡ is_blank b }
+{
+    b == b' ' || b == b'\t'
+}
+
+pub(crate) fn trim_start(text: &[u8]) -> &[u8]
+    ensures { result.now ≡ trim_start text.now }
+{
+    let mut rest = text;
+    while let [b, after @ ..] = rest {
+        if !is_blank(*b) {
+            return rest;
+        }
+        rest = after;
+    }
+    rest
+}
+
+pub(crate) fn trim_end(text: &[u8]) -> &[u8]
+    ensures { result.now ≡ trim_end text.now }
+{
+    let mut rest = text;
+    while let [before @ .., b] = rest {
+        if !is_blank(*b) {
+            return rest;
+        }
+        rest = before;
+    }
+    rest
 }

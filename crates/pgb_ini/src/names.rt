@@ -7,7 +7,8 @@ ghost use Rattle.pgb_model.specs.InfoText.{is_key, is_key_byte, begins_well, is_
 
 use std::cmp::Ordering;
 
-pub(crate) fn is_before(a: &[u8], b: &[u8]) -> bool
+/// Whether the one comes before the other in byte order.
+pub fn is_before(a: &[u8], b: &[u8]) -> bool
     ensures { result ≡ is_before a.now b.now }
 {
     match a.cmp(&b) {

@@ -1,16 +1,16 @@
 //! From an info text to its sections.
 
-ghost use Rattle.std.specs.Prelude.{◌≡◌, ◌≢◌, ◌<◌, ◌^◌, ◌+◌, ◌∷◌, List, ℕ, length, IfOk, IfErr, Ok, Err};
+ghost use Rattle.std.specs.Prelude.{◌≡◌, ◌≢◌, ◌<◌, ◌^◌, ◌+◌, List, ℕ, length, IfOk, IfErr, Ok, Err};
 ghost use Rattle.sha1.specs.Sha1.{sha1};
 ghost use Rattle.pgb_text.specs.Sum.{IsSum, sum_text};
 ghost use Rattle.pgb_model.specs.InfoText.{Section, IsInfo, info_text, text_with, signed_text};
 ghost use Rattle.pgb_ini.specs.Parts.{sections_of};
 ghost use Rattle.pgb_ini.specs.Form.{pieces, sum};
 ghost use Rattle.pgb_ini.specs.Answers.{Gives, IsFaultOf};
-ghost use Rattle.pgb_ini.specs.Reading.{start, rest_pieces, run, ended, read_text};
+ghost use Rattle.pgb_ini.specs.Reading.{start, run, ended, read_text};
 ghost use Rattle.pgb_ini.specs.States.{state_of, EndsWhole};
 
-use crate::cuts::cut_at;
+use crate::cuts::next_piece;
 use crate::fault::IniFault;
 use crate::part::Part;
 use crate::state::State;
@@ -18,16 +18,6 @@ use crate::step::step;
 use crate::write::signed;
 use pgb_text::Sum;
 use std::alloc::Global;
-
-// The first line, and what stands behind its newline.
-fn next_piece(bytes: &[u8]) -> (&[u8], Option<&[u8]>)
-    ensures { pieces bytes.now ≡ result.0.now ∷ rest_pieces result.1 }
-{
-    match cut_at(b'\n', bytes) {
-        Some((piece, rest)) => (piece, Some(rest)),
-        None => (bytes, None),
-    }
-}
 
 // The state after the last line, and how many lines there are.
 fn run_pieces(alloc: Global, bytes: &[u8]) -> Result<(State, u32), IniFault>
