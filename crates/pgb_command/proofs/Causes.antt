@@ -77,7 +77,6 @@ not_zero Disk e = cc
 not_zero Tree e = cc
 not_zero Locks e = cc
 not_zero Source e = cc
-not_zero Source e = cc
 not_zero Sink e = cc
 not_zero NoMemory e = cc
 
@@ -106,7 +105,6 @@ wrote_fault Has old new (VersionUnsupported a) has is = is
 wrote_fault Has old new Disk has is = is
 wrote_fault Has old new Tree has is = is
 wrote_fault Has old new Locks has is = is
-wrote_fault Has old new Source has is = is
 wrote_fault Has old new Source has is = is
 wrote_fault Has old new Sink has is = (refused Sink, has, front_whole old (error_line Sink) new is)
 wrote_fault Has old new NoMemory has is = (refused NoMemory, has, front_whole old (error_line NoMemory) new is)

@@ -26,7 +26,12 @@ use Rattle.pgb_command.specs.Answers.{OnFinding, same_line}
 use Rattle.pgb_command.specs.Outcomes.{pushed_lines}
 use Rattle.pgb_command.specs.Storing.{SameFiles, id_kept}
 use Rattle.pgb_command.specs.WalPath.{IsWalPath, HasWal, wal_path}
-use Rattle.pgb_command.specs.Causes.{IsReady, IsRefusedSegment, IsStored, StoreCause}
+use Rattle.pgb_command.specs.Causes.{IsReady, IsRefusedSegment, IsStored, StoreCause, PushFileCause}
+use Rattle.pgb_command.specs.declared.fault.ControlFile.TheVariants.{Control as ControlName, Version as VersionName}
+use Rattle.pgb_command.specs.declared.fault.Fault.TheVariants as faults
+use Rattle.pgb_command.specs.Locking.{lock_name}
+use Rattle.pgb_command.specs.Making.{OpeningCause}
+use Rattle.pgb_command.specs.Words.{push}
 
 -- the file that was read
 pub has_wal : (nodes mid : Option Nodes) (folder path name : Text) (segment : Segment) (items bytes : Text) → mid ≡ nodes → name ≡ segment_text segment → bytes ≡ items → IsWalPath folder path (Whole segment)
@@ -147,3 +152,47 @@ module _ (stanza folder path : Text) (repo mid : Option Content) (nodes : Option
     told_by = subst (λ (l : Text). ((l ≡ []) × IfSome repo (λ f. StoresNone stanza (id_kept c) segment f)) ⊎ ((l ≡ same_line (segment_text segment)) × IfSome repo (λ f. StoresOnly stanza (id_kept c) segment f (sha1 bytes))))
         (sym (is ∙ ap (pushed_lines pushed) named)) (lines_for pushed new one);
   }
+
+-- ---- of a push, with the openings before
+
+module _ (stanza folder path : Text) (segment : Segment) (named : IsWalPath folder path (Whole segment)) where
+  opened : (name : Text) → name ≡ lock_name stanza (push path) → (repo : Option Content) (nodes : Option Nodes) (d t l h : Type 0) (e : Fault) → OpeningCause name d t l h e → StoreCause stanza folder path repo nodes d t l h e
+  opened name is repo nodes d t l h (faults.Held word) cause = (cause.0 ∙ is, cause.1)
+  opened name is repo nodes d t l h faults.Disk cause = cause
+  opened name is repo nodes d t l h faults.Tree cause = cause
+  opened name is repo nodes d t l h faults.Locks cause = cause
+  opened name is repo nodes d t l h faults.NoMemory cause = tt
+
+  pub opening_err : (name : Text) → name ≡ lock_name stanza (push path) → (repo : Option Content) (nodes : Option Nodes) (d t l h : Type 0) {T : Type 0} (result : Result T Fault) (e : Fault) → IsErrAnd result (λ f. f ≡ e) → OpeningCause name d t l h e → IfErr result (PushFileCause stanza folder path repo nodes d t l h)
+  opening_err name is repo nodes d t l h (Ok x) e same cause = tt
+  opening_err name is repo nodes d t l h (Err f) e same cause = subst (PushFileCause stanza folder path repo nodes d t l h) (sym same) (inr ((segment, named), opened name is repo nodes d t l h e cause))
+
+  wider : (repo : Option Content) (nodes : Option Nodes) (d t x y l h : Type 0) → (d → x) → (t → y) → (e : Fault) → StoreCause stanza folder path repo nodes d t ⊥ ⊥ e → StoreCause stanza folder path repo nodes x y l h e
+  wider repo nodes d t x y l h a b (faults.StanzaMissing w) cause = cause
+  wider repo nodes d t x y l h a b (faults.InfoDamaged n m c) cause = cause
+  wider repo nodes d t x y l h a b (faults.StanzaMismatch k f) cause = cause
+  wider repo nodes d t x y l h a b (faults.SegmentMissing w) cause = cause
+  wider repo nodes d t x y l h a b (faults.TooLong w m) cause = cause
+  wider repo nodes d t x y l h a b (faults.HeaderForm i) cause = cause
+  wider repo nodes d t x y l h a b (faults.SegmentSize k f) cause = cause
+  wider repo nodes d t x y l h a b (faults.HeaderMismatch k f) cause = cause
+  wider repo nodes d t x y l h a b (faults.Ambiguous k f) cause = cause
+  wider repo nodes d t x y l h a b (faults.Duplicate k f) cause = cause
+  wider repo nodes d t x y l h a b (faults.ControlMissing ControlName) cause = cause
+  wider repo nodes d t x y l h a b (faults.ControlMissing VersionName) cause = cause
+  wider repo nodes d t x y l h a b (faults.ControlShort n) cause = cause
+  wider repo nodes d t x y l h a b faults.VersionText cause = cause
+  wider repo nodes d t x y l h a b (faults.VersionUnsupported v) cause = cause
+  wider repo nodes d t x y l h a b faults.Disk cause = a cause
+  wider repo nodes d t x y l h a b faults.Tree cause = b cause
+  wider repo nodes d t x y l h a b faults.NoMemory cause = tt
+  wider repo nodes d t x y l h a b (faults.Held w) cause = absurd cause.1
+  wider repo nodes d t x y l h a b faults.Locks cause = absurd cause
+
+  pub storing_err : (repo mid : Option Content) (nodes seen : Option Nodes) (d t x y l h : Type 0) → mid ≡ repo → seen ≡ nodes → (d → x) → (t → y) → {T : Type 0} (result : Result T Fault) (e : Fault) → IsErrAnd result (λ f. f ≡ e) → StoreCause stanza folder path mid seen d t ⊥ ⊥ e →
+      IfErr result (PushFileCause stanza folder path repo nodes x y l h)
+  storing_err repo mid nodes seen d t x y l h same_repo same_nodes a b (Ok v) e same cause = tt
+  storing_err repo mid nodes seen d t x y l h same_repo same_nodes a b (Err f) e same cause =
+      let first = subst (λ (o : Option Content). StoreCause stanza folder path o seen d t ⊥ ⊥ e) same_repo cause in
+      let then = subst (λ (o : Option Nodes). StoreCause stanza folder path repo o d t ⊥ ⊥ e) same_nodes first in
+      subst (PushFileCause stanza folder path repo nodes x y l h) (sym same) (inr ((segment, named), wider repo nodes d t x y l h a b e then))

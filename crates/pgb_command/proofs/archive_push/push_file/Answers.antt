@@ -2,8 +2,9 @@ use Rattle.pgb_model.specs.Steps.{Reading}
 use Rattle.pgb_model.proofs.Done.{nothing_done}
 use Rattle.pgb_command.proofs.Carries.{rests_carry, rests_pass}
 use Rattle.pgb_command.proofs.Chains.{still_does, rests_none}
-use Rattle.std.proofs.Common.{refl, true, false}
-use Rattle.pgb_command.proofs.Pushes.{push_sound, push_carries, push_passes, push_carried, reading_carried, none_carried, finding_all, finding_same, does_from, asked_on}
+use Rattle.std.proofs.Common.{refl, true, false, arith}
+use Rattle.pgb_command.proofs.Pushes.{push_sound, push_carries, push_passes, push_carried, reading_carried, none_carried, finding_all, finding_same, does_from, asked_on, rests_carried}
+use Rattle.pgb_command.proofs.StoreCauses.{opening_err, storing_err}
 use Rattle.pgb_command.proofs.archive_push.push_file.Goals as goal
 
 pub returns-in_err-file-clause-carries : goal.returns-in_err-file-clause-carries
@@ -51,3 +52,13 @@ returns-in_err-prepare-clause-part g c = λ command asked. nothing_done c.args.s
 pub returns-in_err-outcome-clause-stays : goal.returns-in_err-outcome-clause-stays
 returns-in_err-outcome-clause-stays g c = finding_same c.from_residual-in_err-outcome.result c.in_err-outcome.field-0.0 _ _ c.from_residual-in_err-outcome.ensures.1
     (λ still. (does_from c.args.settings.now.stanza.now Reading true _ _ _ c.prepare.ensures.now still.0, reading_carried c.args.settings.now.stanza.now (g.D.Disk.view c.args.repo.now) (g.D.Disk.view c.prepare.new.repo) (g.D.Disk.view c.store.new.repo) c.prepare.ensures.time c.prepare.ensures.now c.in_ok-prepare.ensures.begun still.1)) c.in_err-outcome.ensures.stays
+
+pub returns-in_err-prepare-clause-stays : goal.returns-in_err-prepare-clause-stays
+returns-in_err-prepare-clause-stays g c = finding_all c.from_residual-in_err-prepare.result _ (still_does c.args.settings.now.stanza.now _ _ c.prepare.ensures.now, rests_carried c.args.settings.now.stanza.now _ _ c.prepare.ensures.time c.prepare.ensures.now)
+
+pub returns-in_err-prepare-clause-cause : goal.returns-in_err-prepare-clause-cause
+returns-in_err-prepare-clause-cause g c = opening_err c.args.settings.now.stanza.now c.args.settings.now.pg1_path.now c.args.path.now c.in_ok-file.file.segment c.in_ok-file.ensures.named.0 c.args.lock.now c.requires.name _ _ _ _ _ _ c.from_residual-in_err-prepare.result c.in_err-prepare.field-0.0 c.from_residual-in_err-prepare.ensures.1 c.in_err-prepare.ensures.cause
+
+pub returns-in_err-outcome-clause-cause : goal.returns-in_err-outcome-clause-cause
+returns-in_err-outcome-clause-cause g c = storing_err c.args.settings.now.stanza.now c.args.settings.now.pg1_path.now c.args.path.now c.in_ok-file.file.segment c.in_ok-file.ensures.named.0 _ _ _ _ _ _ _ _ _ _ c.prepare.ensures.now c.prepare.ensures.nodes
+    (λ rose. omega (arith, rose, c.prepare.ensures.repo_later)) (λ rose. omega (arith, rose, c.prepare.ensures.tree_later)) c.from_residual-in_err-outcome.result c.in_err-outcome.field-0.0 c.from_residual-in_err-outcome.ensures.1 c.in_err-outcome.ensures.cause

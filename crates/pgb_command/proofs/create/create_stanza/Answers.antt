@@ -66,3 +66,6 @@ returns-in_err-make-clause-stays g c = finding_both c.from_residual-in_err-make.
 
 pub returns-clause-agrees : goal.returns-clause-agrees
 returns-clause-agrees g c = λ some. agrees_new c.args.settings.now.stanza.now _ _ (c.in_ok-make.ensures.members (subst (λ (o : Option Content). IsSome o) (sym c.prepare.ensures.now) some))
+
+pub returns-in_err-prepare-clause-stays : goal.returns-in_err-prepare-clause-stays
+returns-in_err-prepare-clause-stays g c = finding_all c.from_residual.result _ (rests_carried c.args.settings.now.stanza.now _ _ c.prepare.ensures.time c.prepare.ensures.now)
