@@ -1,0 +1,20 @@
+-- Why words or a configuration are refused.
+use Rattle.std.specs.Prelude.{ℕ, List, Result, Ok, Err}
+use Rattle.pgb_model.specs.Text.{Text}
+
+pub data Fault : Type 0 where
+  command_missing : Fault
+  command_unknown : (word : Text) → Fault
+  option_unknown : (word : Text) → Fault
+  option_repeated : (name : Text) → Fault
+  option_value : (name : Text) → Fault
+  option_missing : (name : Text) → Fault
+  option_not_for : (name : Text) → Fault
+  config_syntax : (line : ℕ) → Fault
+  parameter_count : (given : ℕ) → Fault
+  parameter_utf8 : Fault
+
+infixl 10 ◌>>=◌
+abbrev pub ◌>>=◌ : {A B : Type 0} → Result A Fault → (A → Result B Fault) → Result B Fault
+(Ok x) >>= f = f x
+(Err e) >>= f = Err e

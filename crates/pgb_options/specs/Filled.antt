@@ -1,0 +1,93 @@
+-- The fields of the options, each as the value in force of its option.
+use Rattle.std.specs.Prelude.{◌≡◌, ℕ, List, [], codes, bytes_eq, Bool, false, Option, Some, None, option_map, string_bytes, if◌then◌else◌}
+use Rattle.pgb_model.specs.Text.{Text}
+use Rattle.pgb_options.specs.declared.options.Options.{Options}
+use Rattle.pgb_options.specs.declared.options.KindWord.{KindWord}
+use Rattle.pgb_options.specs.declared.options.KindWord.TheVariants as kinds
+use Rattle.pgb_options.specs.declared.options.RestoreWord.{RestoreWord}
+use Rattle.pgb_options.specs.declared.options.RestoreWord.TheVariants as restores
+use Rattle.pgb_options.specs.declared.options.OutputWord.{OutputWord}
+use Rattle.pgb_options.specs.declared.options.OutputWord.TheVariants as outputs
+use Rattle.pgb_options.specs.declared.table.Opt.{Opt}
+use Rattle.pgb_options.specs.declared.table.Opt.TheVariants.{Pg1Path, Pg1Port, Pg1SocketPath, Pg1User, Pg1Database, Repo1Path, Repo1RetentionFull, Repo1RetentionDiff, Repo1RetentionArchive, Repo1RetentionArchiveType, Repo1Bundle, Repo1BundleSize, Repo1BundleLimit, ProcessMax, BackupType, RestoreType, Delta, Online, StartFast, ArchiveTimeout, ArchiveAsync, ArchiveGetQueueMax, SpoolPath, LockPath, Set, ExpireAuto, Output, Number, Config}
+use Rattle.pgb_options.specs.Values.{Value, absent, flag, number, amount_of, text}
+
+abbrev pub text_in : Option Value → Option Text
+text_in None = None
+text_in (Some absent) = None
+text_in (Some (flag b)) = None
+text_in (Some (number n)) = None
+text_in (Some (amount_of n)) = None
+text_in (Some (text t)) = Some t
+
+abbrev pub number_in : Option Value → Option ℕ
+number_in None = None
+number_in (Some absent) = None
+number_in (Some (flag b)) = None
+number_in (Some (number n)) = Some n
+number_in (Some (amount_of n)) = None
+number_in (Some (text t)) = None
+
+abbrev pub amount_in : Option Value → Option ℕ
+amount_in None = None
+amount_in (Some absent) = None
+amount_in (Some (flag b)) = None
+amount_in (Some (number n)) = None
+amount_in (Some (amount_of n)) = Some n
+amount_in (Some (text t)) = None
+
+abbrev pub flag_in : Option Value → Option Bool
+flag_in None = None
+flag_in (Some absent) = None
+flag_in (Some (flag b)) = Some b
+flag_in (Some (number n)) = None
+flag_in (Some (amount_of n)) = None
+flag_in (Some (text t)) = None
+
+abbrev pub or_else : {A : Type 0} → A → Option A → A
+or_else d None = d
+or_else d (Some x) = x
+
+abbrev pub kind_word : Text → KindWord
+kind_word t = if bytes_eq t (codes "full") then kinds.Full else if bytes_eq t (codes "diff") then kinds.Diff else kinds.Incr
+
+abbrev pub restore_word : Text → RestoreWord
+restore_word t = if bytes_eq t (codes "none") then restores.Plain else restores.Default
+
+abbrev pub output_word : Text → OutputWord
+output_word t = if bytes_eq t (codes "json") then outputs.Json else outputs.Text
+
+abbrev pub word_in : Option Value → Text
+word_in v = or_else [] (text_in v)
+
+-- each field has the value in force of its option
+pub record AreOptions (o : Options) (value : Opt → Option Value) : Type 0 where
+  pub pg1_path : option_map string_bytes o.pg1_path ≡ text_in (value Pg1Path)
+  pub pg1_port : o.pg1_port ≡ or_else 0 (number_in (value Pg1Port))
+  pub pg1_socket_path : string_bytes o.pg1_socket_path ≡ or_else [] (text_in (value Pg1SocketPath))
+  pub pg1_user : string_bytes o.pg1_user ≡ or_else [] (text_in (value Pg1User))
+  pub pg1_database : string_bytes o.pg1_database ≡ or_else [] (text_in (value Pg1Database))
+  pub repo1_path : string_bytes o.repo1_path ≡ or_else [] (text_in (value Repo1Path))
+  pub repo1_retention_full : o.repo1_retention_full ≡ number_in (value Repo1RetentionFull)
+  pub repo1_retention_diff : o.repo1_retention_diff ≡ number_in (value Repo1RetentionDiff)
+  pub repo1_retention_archive : o.repo1_retention_archive ≡ number_in (value Repo1RetentionArchive)
+  pub repo1_retention_archive_type : o.repo1_retention_archive_type ≡ kind_word (word_in (value Repo1RetentionArchiveType))
+  pub repo1_bundle : o.repo1_bundle ≡ or_else false (flag_in (value Repo1Bundle))
+  pub repo1_bundle_size : o.repo1_bundle_size ≡ or_else 0 (amount_in (value Repo1BundleSize))
+  pub repo1_bundle_limit : o.repo1_bundle_limit ≡ or_else 0 (amount_in (value Repo1BundleLimit))
+  pub process_max : o.process_max ≡ or_else 0 (number_in (value ProcessMax))
+  pub backup_type : o.backup_type ≡ kind_word (word_in (value BackupType))
+  pub restore_type : o.restore_type ≡ restore_word (word_in (value RestoreType))
+  pub delta : o.delta ≡ or_else false (flag_in (value Delta))
+  pub online : o.online ≡ or_else false (flag_in (value Online))
+  pub start_fast : o.start_fast ≡ or_else false (flag_in (value StartFast))
+  pub archive_timeout : o.archive_timeout ≡ or_else 0 (amount_in (value ArchiveTimeout))
+  pub archive_async : o.archive_async ≡ or_else false (flag_in (value ArchiveAsync))
+  pub archive_get_queue_max : o.archive_get_queue_max ≡ or_else 0 (amount_in (value ArchiveGetQueueMax))
+  pub spool_path : string_bytes o.spool_path ≡ or_else [] (text_in (value SpoolPath))
+  pub lock_path : string_bytes o.lock_path ≡ or_else [] (text_in (value LockPath))
+  pub set : option_map string_bytes o.set ≡ text_in (value Set)
+  pub expire_auto : o.expire_auto ≡ or_else false (flag_in (value ExpireAuto))
+  pub output : o.output ≡ output_word (word_in (value Output))
+  pub number_of : o.number ≡ number_in (value Number)
+  pub config : option_map string_bytes o.config ≡ text_in (value Config)

@@ -1,0 +1,99 @@
+-- What the code's values stand for.
+use Rattle.std.specs.Prelude.{◌≡◌, ℕ, List, map, Option, option_map, string_bytes, Result, Ok, Err}
+use Rattle.pgb_options.specs.declared.words.Style as code_style
+use Rattle.pgb_options.specs.declared.words.Style.TheVariants as styles
+use Rattle.pgb_options.specs.declared.words.Token as code_token
+use Rattle.pgb_options.specs.declared.words.Token.TheVariants as tokens
+use Rattle.pgb_options.specs.declared.words.Shape as code_shape
+use Rattle.pgb_options.specs.declared.words.Shape.TheVariants as shapes
+use Rattle.pgb_options.specs.declared.words.Given as code_given
+use Rattle.pgb_options.specs.declared.words.Words as code_words
+use Rattle.pgb_options.specs.declared.usage.Usage.{Usage}
+use Rattle.pgb_options.specs.declared.usage.Usage.TheVariants as usages
+use Rattle.pgb_options.specs.Faults.{Fault, command_missing, command_unknown, option_unknown, option_repeated, option_value, option_missing, option_not_for, config_syntax, parameter_count, parameter_utf8}
+use Rattle.pgb_options.specs.Words.{Style, switch, valued, deniable, Token, unknown, gives, denies, plain, Shape, done, wants, Words}
+use Rattle.pgb_options.specs.declared.path.ConfigPath.{ConfigPath}
+use Rattle.pgb_options.specs.declared.path.ConfigPath.TheVariants as paths
+use Rattle.pgb_options.specs.Paths.{Path, nowhere, usual, named}
+use Rattle.pgb_options.specs.declared.table.Row as code_row
+use Rattle.pgb_options.specs.declared.table.Kind as code_kind
+use Rattle.pgb_options.specs.declared.table.Kind.TheVariants as kinds
+use Rattle.pgb_options.specs.declared.table.Fallback as code_fallback
+use Rattle.pgb_options.specs.declared.table.Fallback.TheVariants as fallbacks
+use Rattle.pgb_options.specs.declared.value.Value as code_value
+use Rattle.pgb_options.specs.declared.value.Value.TheVariants as held
+use Rattle.pgb_options.specs.Table.{Kind, Fallback, Row, stanza, path, text, anything, file, number, size, time, flag, words, required, unset, is}
+use Rattle.pgb_options.specs.Values as values
+use Rattle.pgb_options.specs.Values.{Value}
+
+abbrev pub kind_view : code_kind.Kind → Kind
+kind_view kinds.Stanza = stanza
+kind_view kinds.Path = path
+kind_view kinds.Text = text
+kind_view kinds.Anything = anything
+kind_view kinds.File = file
+kind_view (kinds.Number least most) = number least most
+kind_view (kinds.Size least most) = size least most
+kind_view (kinds.Time least most) = time least most
+kind_view kinds.Flag = flag
+kind_view (kinds.Words allowed) = words (map (λ w. w.now) allowed.now)
+
+abbrev pub fallback_view : code_fallback.Fallback → Fallback
+fallback_view fallbacks.Required = required
+fallback_view fallbacks.Unset = unset
+fallback_view (fallbacks.Is value) = is value.now
+
+abbrev pub row_view : code_row.Row → Row
+row_view r = record { name = r.name.now; commands = r.commands.now; place = r.place; kind = kind_view r.kind; fallback = fallback_view r.fallback }
+
+abbrev pub value_view : code_value.Value → Value
+value_view held.Absent = values.absent
+value_view (held.Flag b) = values.flag b
+value_view (held.Number n) = values.number n
+value_view (held.Amount n) = values.amount_of n
+value_view (held.Text t) = values.text t.now
+
+abbrev pub style_view : code_style.Style → Style
+style_view styles.Switch = switch
+style_view styles.Valued = valued
+style_view styles.Deniable = deniable
+
+abbrev pub token_view : code_token.Token → Token
+token_view (tokens.Unknown word) = unknown word.now
+token_view (tokens.Gives name value) = gives name.now value.now
+token_view (tokens.Denies name) = denies name.now
+token_view (tokens.Plain word) = plain word.now
+
+abbrev pub shape_view : code_shape.Shape → Shape
+shape_view (shapes.Done t) = done (token_view t)
+shape_view (shapes.Wants name) = wants name.now
+
+abbrev pub given_view : code_given.Given → List ℕ × List ℕ
+given_view g = (string_bytes g.name, string_bytes g.value)
+
+abbrev pub words_view : code_words.Words → Words
+words_view w = record { command = option_map string_bytes w.command; parameters = map string_bytes w.parameters.items; given = map given_view w.given.items }
+
+abbrev pub path_view : ConfigPath → Path
+path_view paths.Nowhere = nowhere
+path_view (paths.Usual place) = usual (string_bytes place)
+path_view (paths.Named place) = named (string_bytes place)
+
+-- the fault is the definition's, unless memory ran out
+abbrev pub Fails : {Y : Type 0} → Usage → Result Y Fault → Type 0
+Fails usages.NoMemory read = Unit {0}
+Fails usages.CommandMissing read = read ≡ Err command_missing
+Fails (usages.CommandUnknown word) read = read ≡ Err (command_unknown (string_bytes word))
+Fails (usages.OptionUnknown word) read = read ≡ Err (option_unknown (string_bytes word))
+Fails (usages.OptionRepeated name) read = read ≡ Err (option_repeated (string_bytes name))
+Fails (usages.OptionValue name) read = read ≡ Err (option_value (string_bytes name))
+Fails (usages.OptionMissing name) read = read ≡ Err (option_missing (string_bytes name))
+Fails (usages.OptionNotFor name) read = read ≡ Err (option_not_for (string_bytes name))
+Fails (usages.ConfigSyntax line) read = read ≡ Err (config_syntax line)
+Fails (usages.ParameterCount given) read = read ≡ Err (parameter_count given)
+Fails usages.ParameterUtf8 read = read ≡ Err parameter_utf8
+
+-- the result is the definition's, unless memory ran out
+abbrev pub Gives : {X Y : Type 0} → (X → Y) → Result X Usage → Result Y Fault → Type 0
+Gives view (Ok x) read = read ≡ Ok (view x)
+Gives view (Err e) read = Fails e read

@@ -1,0 +1,107 @@
+//! From words and a configuration to a command.
+
+ghost use Rattle.std.specs.Prelude.{◌≡◌, ◌<◌, ◌+◌, ◌^◌, map, string_bytes, length};
+ghost use Rattle.pgb_ini.specs.Config.{settings};
+ghost use Rattle.pgb_ini.specs.Views.{settings_of};
+ghost use Rattle.pgb_options.specs.Settings.{settle, settled_words, syntax_of};
+ghost use Rattle.pgb_options.specs.Commands.{settled_view, GivesCommand};
+ghost use Rattle.pgb_options.specs.Views.{Gives};
+
+use crate::options::{Options, fill};
+use crate::rules::{
+    command_of, count_of, each_is_for, none_lacking, none_twice, none_wrong, sections_of,
+    source_of, stanza_of, unknown_keys, utf8_of,
+};
+use crate::source::Source;
+use crate::table::{Opt, TABLE, VERBS, Verb};
+use crate::usage::Usage;
+use crate::words::read_words;
+use pgb_ini::{ConfigLine, IniFault, read_config};
+use std::alloc::Global;
+
+#[derive(Drop)]
+pub(crate) struct Settled {
+    stanza: String,
+    parameters: Vec<String>,
+    source: Source,
+    warnings: Vec<String>,
+}
+
+/// What is to be done.
+#[derive(Debug, Drop)]
+pub struct Command {
+    pub verb: Verb,
+    /// 1 to 64 letters, digits, `_` or `-`, and no `-` in front.
+    pub stanza: String,
+    /// The parameters, which stand behind the command: as many as the command has.
+    pub given: Vec<String>,
+    pub options: Options,
+    /// The keys of the configuration that no option has, in the order in which they stand in sections that count.
+    pub warnings: Vec<String>,
+}
+
+fn lines_of(alloc: Global, config: &[u8]) -> Result<Vec<ConfigLine>, Usage>
+    requires { length config.now + 1 < 2 ^ 32 }
+    ensures { Gives (λ v. settings_of v.items) result (syntax_of (settings config.now)) }
+{
+    match read_config(alloc, config) {
+        Ok(lines) => Ok(lines),
+        Err(IniFault::NoMemory) => Err(Usage::NoMemory),
+        Err(IniFault::Syntax { line }) => Err(Usage::ConfigSyntax { line }),
+        // a configuration has no sum
+        Err(IniFault::Sum { told: _, found: _ }) => unreachable!(),
+    }
+}
+
+#[tactic(auto, unfolding(crate::specs::Settings::settle))]
+pub(crate) fn settle(
+    alloc: Global,
+    verbs: &[Verb],
+    table: &[Opt],
+    words: &[String],
+    config: &[u8],
+) -> Result<Settled, Usage>
+    requires { length config.now + 1 < 2 ^ 32 }
+    ensures { Gives settled_view result (settle verbs.now table.now (map string_bytes words.now) config.now) }
+{
+    let read = read_words(alloc, table, words)?;
+    let verb = command_of(alloc, verbs, &read.command)?;
+    each_is_for(alloc, table, verb, &read.given)?;
+    let stanza = stanza_of(alloc, &read.given)?;
+    utf8_of(config)?;
+    let lines = lines_of(alloc, config)?;
+    none_twice(alloc, table, &lines)?;
+    let sections = sections_of(alloc, stanza.as_str(), verb)?;
+    let warnings = unknown_keys(alloc, table, &sections, &lines)?;
+    let source = source_of(table, verb, read.given, sections, lines);
+    none_wrong(alloc, &source, table)?;
+    none_lacking(alloc, &source, table)?;
+    count_of(verb, read.parameters.len())?;
+    Ok(Settled {
+        stanza,
+        parameters: read.parameters,
+        source,
+        warnings,
+    })
+}
+
+/// The command that the words of a command line and the bytes of a configuration ask for.
+///
+/// Else the first fault. It is looked for in this order: the words from left to right, the command, its options, the stanza,
+/// the configuration's form, a key that stands twice in a section of it, the values in force, options without a value, the
+/// parameters.
+#[tactic(auto, unfolding(crate::specs::Settings::settled_words))]
+pub fn settle_words(alloc: Global, words: &[String], config: &[u8]) -> Result<Command, Usage>
+    requires { length config.now + 1 < 2 ^ 32 }
+    ensures { GivesCommand result (settled_words (map string_bytes words.now) config.now) }
+{
+    let settled = settle(alloc, &VERBS, &TABLE, words, config)?;
+    let options = fill(alloc, &settled.source)?;
+    Ok(Command {
+        verb: settled.source.verb,
+        stanza: settled.stanza,
+        given: settled.parameters,
+        options,
+        warnings: settled.warnings,
+    })
+}
