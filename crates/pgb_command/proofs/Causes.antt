@@ -1,59 +1,36 @@
 -- The causes of the program's answers.
-use Rattle.std.proofs.Common.{◌≡◌, ◌⊎◌, ◌≤◌, ℕ, arith, inl, inr, ⊎_elim, List, Option, Result, Ok, Err, IfErr, IfOk, refl, sym, subst}
-use Rattle.std.specs.Prelude.{IsErrAnd}
+use Rattle.std.proofs.Common.{◌≡◌, ◌⊎◌, ◌≤◌, ℕ, arith, inl, inr, ⊎_elim, List, [], Option, Result, Ok, Err, IfErr, IfOk, refl, sym, ◌∙◌, ap, subst}
+use Rattle.std.specs.Prelude.{◌≢◌, OnOk}
+use Rattle.pgb_options.specs.declared.usage.Usage.{Usage}
+use Rattle.pgb_options.specs.declared.usage.Usage.TheVariants.{CommandMissing, CommandUnknown, OptionUnknown, OptionRepeated, OptionValue, OptionMissing, OptionNotFor, ConfigSyntax, ParameterCount, ParameterUtf8, NoMemory as UsageNoMemory}
 use Rattle.pgb_command.specs.declared.outcome.Outcome.{Outcome}
-use Rattle.pgb_command.specs.Outcomes.{lines_by}
+use Rattle.pgb_command.specs.Outcomes.{lines_by, ending_of}
 use Rattle.pgb_outside.specs.Content.{Content}
 use Rattle.pgb_outside.specs.Tree.{Nodes}
 use Rattle.pgb_model.specs.Text.{Text}
 use Rattle.pgb_command.specs.declared.fault.Fault.{Fault}
-use Rattle.pgb_command.specs.declared.fault.Fault.TheVariants.{ConfigMissing, SegmentName, PathOutside, Held, StanzaMissing, InfoDamaged, StanzaMismatch, SegmentMissing, TooLong, HeaderForm, SegmentSize, HeaderMismatch, Ambiguous, Duplicate, NotBuilt, ControlMissing, ControlShort, VersionText, VersionUnsupported, Disk, Tree, Locks, Source, Sink, NoMemory}
-use Rattle.pgb_command.specs.Words.{Asked, Asks, create, push}
-use Rattle.pgb_command.specs.Answers.{Answer, finished, refused, error_line, lines_of, status_of, status, OnFinding, IsFinding}
-use Rattle.pgb_command.specs.Causes.{CreateCause, PushFileCause, IsStored, AskedCause, Cause, Creating, Stored, Pushing, Unasked, Asking, Output, Memory}
-use Rattle.pgb_command.specs.Output.{IsTold, Whole, Cut, Starved, Wordless, Wrote}
+use Rattle.pgb_command.specs.declared.fault.Fault.TheVariants.{Settings, ConfigMissing, SegmentName, PathOutside, Held, StanzaMissing, InfoDamaged, StanzaMismatch, SegmentMissing, TooLong, HeaderForm, SegmentSize, HeaderMismatch, Ambiguous, Duplicate, NotBuilt, ControlMissing, ControlShort, VersionText, VersionUnsupported, Disk, Tree, Locks, Source, Sink, NoMemory}
+use Rattle.pgb_command.specs.Answers.{Ending, finished, refused, Answer, error_line, lines_of, ending_lines, usage_status, status_of, status, OnFinding, IsFinding}
+use Rattle.pgb_command.specs.Causes.{Cause, Refused, Unknown, Asking, Output, Memory}
+use Rattle.pgb_command.specs.Output.{IsFrontWritten, IsTold, Whole, Cut, Starved, Wordless, WroteLines, Wrote}
 use Rattle.pgb_command.proofs.Written.{more}
-use Rattle.pgb_command.proofs.Told.{front_whole}
+use Rattle.pgb_command.proofs.Told.{front_whole, front_as}
 
--- ---- of a command
-
--- a refusal of stanza-create
-pub creating : {T : Type 0} (result : Result T Fault) (a : Asked) (repo : Option Content) (nodes : Option Nodes) (d t : Type 0) → a.request ≡ create → IfErr result (CreateCause a.stanza repo nodes d t) → IfErr result (λ e. AskedCause a repo nodes d t (refused e))
-creating (Ok x) a repo nodes d t is h = tt
-creating (Err e) a repo nodes d t is h = Creating e is h
-
--- and of archive-push
-pub pushing : {T : Type 0} (result : Result T Fault) (a : Asked) (path : Text) (repo : Option Content) (nodes : Option Nodes) (d t : Type 0) → a.request ≡ push path → IfErr result (PushFileCause a.stanza a.data_folder path repo nodes d t) → IfErr result (λ e. AskedCause a repo nodes d t (refused e))
-pushing (Ok x) a path repo nodes d t is h = tt
-pushing (Err e) a path repo nodes d t is h = Pushing path e is h
-
-pub cause_same : {T : Type 0} (result : Result T Fault) (e : Fault) (P : Fault → Type 0) → IsErrAnd result (λ f. f ≡ e) → P e → IfErr result P
-cause_same (Ok x) e P is h = tt
-cause_same (Err f) e P is h = subst P (sym is) h
-
--- the lines of a segment that is stored
-pub stored_lines : (result : Result Outcome Fault) (a : Asked) (path : Text) (repo : Option Content) (nodes : Option Nodes) (d t : Type 0) → a.request ≡ push path → IfOk result (λ x. IsStored a.stanza a.data_folder path repo nodes (lines_by x)) → IfOk result (λ x. AskedCause a repo nodes d t (finished (lines_by x)))
-stored_lines (Ok x) a path repo nodes d t is h = Stored path (lines_by x) is h
-stored_lines (Err e) a path repo nodes d t is h = tt
-
--- a command's cause is the program's
-pub asking : {T : Type 0} (result : Result T Fault) (words : List Text) (a : Asked) (repo : Option Content) (nodes : Option Nodes) (d t : Type 0) → Asks words a → IfErr result (λ e. AskedCause a repo nodes d t (refused e)) → IfErr result (λ e. Cause words repo nodes d t ⊥ (refused e))
-asking (Ok x) words a repo nodes d t asks h = tt
-asking (Err e) words a repo nodes d t asks h = Asking a (refused e) asks h
-
-pub asking_ok : {T : Type 0} (lines : T → Text) (result : Result T Fault) (words : List Text) (a : Asked) (repo : Option Content) (nodes : Option Nodes) (d t : Type 0) → Asks words a → IfOk result (λ x. AskedCause a repo nodes d t (finished (lines x)))
-    → IfOk result (λ x. Cause words repo nodes d t ⊥ (finished (lines x)))
-asking_ok lines (Ok x) words a repo nodes d t asks h = Asking a (finished (lines x)) asks h
-asking_ok lines (Err e) words a repo nodes d t asks h = tt
-
--- a cause before the output was written
-pub with_sink : (words : List Text) (repo : Option Content) (nodes : Option Nodes) (d t s : Type 0) (answer : Answer) → Cause words repo nodes d t ⊥ answer → Cause words repo nodes d t s answer
-with_sink words repo nodes d t s answer (Unasked h) = Unasked h
-with_sink words repo nodes d t s answer (Asking a given asks h) = Asking a given asks h
-with_sink words repo nodes d t s answer (Output h) = absurd h
-with_sink words repo nodes d t s answer Memory = Memory
+usage_not_zero : (u : Usage) → ¬ (usage_status u ≡ 0)
+usage_not_zero CommandMissing e = cc
+usage_not_zero (CommandUnknown a) e = cc
+usage_not_zero (OptionUnknown a) e = cc
+usage_not_zero (OptionRepeated a) e = cc
+usage_not_zero (OptionValue a) e = cc
+usage_not_zero (OptionMissing a) e = cc
+usage_not_zero (OptionNotFor a) e = cc
+usage_not_zero (ConfigSyntax a) e = cc
+usage_not_zero (ParameterCount a) e = cc
+usage_not_zero ParameterUtf8 e = cc
+usage_not_zero UsageNoMemory e = cc
 
 pub not_zero : (e : Fault) → ¬ (status_of e ≡ 0)
+not_zero (Settings u) e = usage_not_zero u e
 not_zero (ConfigMissing a) e = cc
 not_zero (SegmentName a) e = cc
 not_zero (PathOutside a) e = cc
@@ -82,45 +59,70 @@ not_zero NoMemory e = cc
 
 -- ---- what was written
 
-wrote_fault : (Has : Answer → Type 0) (old new : Option Text) (fault : Fault) → Has (refused fault) → new ≡ more (error_line fault) old → Wrote Has old (refused fault) new
-wrote_fault Has old new (ConfigMissing a) has is = is
-wrote_fault Has old new (SegmentName a) has is = is
-wrote_fault Has old new (PathOutside a) has is = is
-wrote_fault Has old new (Held a) has is = is
-wrote_fault Has old new (StanzaMissing a) has is = is
-wrote_fault Has old new (InfoDamaged a b c) has is = is
-wrote_fault Has old new (StanzaMismatch a b) has is = is
-wrote_fault Has old new (SegmentMissing a) has is = is
-wrote_fault Has old new (TooLong a b) has is = is
-wrote_fault Has old new (HeaderForm a) has is = is
-wrote_fault Has old new (SegmentSize a b) has is = is
-wrote_fault Has old new (HeaderMismatch a b) has is = is
-wrote_fault Has old new (Ambiguous a b) has is = is
-wrote_fault Has old new (Duplicate a b) has is = is
-wrote_fault Has old new (NotBuilt a) has is = is
-wrote_fault Has old new (ControlMissing a) has is = is
-wrote_fault Has old new (ControlShort a) has is = is
-wrote_fault Has old new VersionText has is = is
-wrote_fault Has old new (VersionUnsupported a) has is = is
-wrote_fault Has old new Disk has is = is
-wrote_fault Has old new Tree has is = is
-wrote_fault Has old new Locks has is = is
-wrote_fault Has old new Source has is = is
-wrote_fault Has old new Sink has is = (refused Sink, has, front_whole old (error_line Sink) new is)
-wrote_fault Has old new NoMemory has is = (refused NoMemory, has, front_whole old (error_line NoMemory) new is)
+abbrev As : List Text → Ending → Answer
+As u ending = record { unknown = u; ending = ending }
 
-wrote_whole : (Has : Answer → Type 0) (old new : Option Text) (answer : Answer) → Has answer → new ≡ more (lines_of answer) old → Wrote Has old answer new
-wrote_whole Has old new (finished lines) has is = is
-wrote_whole Has old new (refused fault) has is = wrote_fault Has old new fault has is
+wrote_fault : (Has : Answer → Type 0) (old new : Option Text) (u : List Text) (fault : Fault) → Has (As u (refused fault)) → new ≡ more (lines_of (As u (refused fault))) old → WroteLines Has old (lines_of (As u (refused fault))) (refused fault) new
+wrote_fault Has old new u (Settings usage) has is = is
+wrote_fault Has old new u (ConfigMissing a) has is = is
+wrote_fault Has old new u (SegmentName a) has is = is
+wrote_fault Has old new u (PathOutside a) has is = is
+wrote_fault Has old new u (Held a) has is = is
+wrote_fault Has old new u (StanzaMissing a) has is = is
+wrote_fault Has old new u (InfoDamaged a b c) has is = is
+wrote_fault Has old new u (StanzaMismatch a b) has is = is
+wrote_fault Has old new u (SegmentMissing a) has is = is
+wrote_fault Has old new u (TooLong a b) has is = is
+wrote_fault Has old new u (HeaderForm a) has is = is
+wrote_fault Has old new u (SegmentSize a b) has is = is
+wrote_fault Has old new u (HeaderMismatch a b) has is = is
+wrote_fault Has old new u (Ambiguous a b) has is = is
+wrote_fault Has old new u (Duplicate a b) has is = is
+wrote_fault Has old new u (NotBuilt a) has is = is
+wrote_fault Has old new u (ControlMissing a) has is = is
+wrote_fault Has old new u (ControlShort a) has is = is
+wrote_fault Has old new u VersionText has is = is
+wrote_fault Has old new u (VersionUnsupported a) has is = is
+wrote_fault Has old new u Disk has is = is
+wrote_fault Has old new u Tree has is = is
+wrote_fault Has old new u Locks has is = is
+wrote_fault Has old new u Source has is = is
+wrote_fault Has old new u Sink has is = (record { unknown = u; ending = refused Sink }, has, front_whole old _ new is)
+wrote_fault Has old new u NoMemory has is = (record { unknown = u; ending = refused NoMemory }, has, front_whole old _ new is)
 
--- the answer that is told has its cause, and the output is its own
-pub told_cause : (words : List Text) (repo : Option Content) (nodes : Option Nodes) (d t s : Type 0) (old new : Option Text) (answer told : Answer) → Cause words repo nodes d t ⊥ answer → IsTold old answer new s told →
-    Cause words repo nodes d t s told × Wrote (λ given. Cause words repo nodes d t s given) old told new
-told_cause words repo nodes d t s old new answer told cause (Whole is) = let c = with_sink words repo nodes d t s answer cause in (c, wrote_whole (λ given. Cause words repo nodes d t s given) old new answer c is)
-told_cause words repo nodes d t s old new answer told cause (Cut rose front) = (Output rose, (answer, with_sink words repo nodes d t s answer cause, front))
-told_cause words repo nodes d t s old new answer told cause (Starved line which front) =
-    (Memory, (line, ⊎_elim (λ (e : line ≡ answer). subst (λ (x : Answer). Cause words repo nodes d t s x) (sym e) (with_sink words repo nodes d t s answer cause)) (λ (e : line ≡ refused NoMemory). subst (λ (x : Answer). Cause words repo nodes d t s x) (sym e) Memory) which, front))
-told_cause words repo nodes d t s old new answer told cause (Wordless rose front) = (Output rose, (refused NoMemory, Memory, front))
+wrote_whole : (Has : Answer → Type 0) (old new : Option Text) (u : List Text) (ending : Ending) → Has (As u ending) → new ≡ more (lines_of (As u ending)) old → Wrote Has old (As u ending) new
+wrote_whole Has old new u (finished lines) has is = is
+wrote_whole Has old new u (refused fault) has is = wrote_fault Has old new u fault has is
+
+module _ (words : List Text) (files repo : Option Content) (nodes : Option Nodes) (d t l h i s : Type 0) where
+  abbrev Has : Answer → Type 0
+  Has answer = Cause words files repo nodes d t l h i s answer
+
+  -- a cause before the output was written
+  with_sink : (answer : Answer) → Cause words files repo nodes d t l h i ⊥ answer → Has answer
+  with_sink answer (Refused fault c) = Refused fault c
+  with_sink answer (Unknown set what settles is) = Unknown set what settles is
+  with_sink answer (Asking set a ending settles is c) = Asking set a ending settles is c
+  with_sink answer (Output u c) = absurd c
+  with_sink answer (Memory u) = Memory u
+
+  starved : (old new : Option Text) (answer : Answer) → Cause words files repo nodes d t l h i ⊥ answer → (lines : Text) → (lines ≡ lines_of answer) ⊎ (lines ≡ error_line NoMemory) → IsFrontWritten old lines new →
+      (given : Answer) × Has given × IsFrontWritten old (lines_of given) new
+  starved old new answer cause lines (inl e) front = (answer, with_sink answer cause, front_as old lines (lines_of answer) new e front)
+  starved old new answer cause lines (inr e) front = (As [] (refused NoMemory), Memory [], front_as old lines (error_line NoMemory) new e front)
+
+  -- the answer that is told has its cause, and the output is its own
+  pub told_cause : (old new : Option Text) (answer : Answer) (told : Ending) → Cause words files repo nodes d t l h i ⊥ answer → IsTold old answer new s told →
+      (given : Answer) × (given.ending ≡ told) × Has given × Wrote Has old given new
+  told_cause old new answer told cause (Whole ending same is) = (answer, sym same, with_sink answer cause, wrote_whole Has old new answer.unknown answer.ending (with_sink answer cause) is)
+  told_cause old new answer told cause (Cut rose front) = (As answer.unknown (refused Sink), refl, Output answer.unknown rose, (answer, with_sink answer cause, front))
+  told_cause old new answer told cause (Starved lines which front) = (
+    As answer.unknown (refused NoMemory),
+    refl,
+    Memory answer.unknown,
+    starved old new answer cause lines which front,
+  )
+  told_cause old new answer told cause (Wordless rose front) = (As answer.unknown (refused Sink), refl, Output answer.unknown rose, (As [] (refused NoMemory), Memory [], front))
 
 -- ---- refusals
 
@@ -129,6 +131,7 @@ not_a_finding n m is lo hi (inl a) = absurd (omega (arith, is, a, hi))
 not_a_finding n m is lo hi (inr b) = absurd (omega (arith, is, b.1, lo))
 
 found_by : (fault : Fault) (P : Type 0) → IsFinding (status_of fault) → OnFinding fault P → P
+found_by (Settings u) P finding h = h
 found_by (ConfigMissing a) P finding h = h
 found_by (SegmentName a) P finding h = h
 found_by (PathOutside a) P finding h = h
@@ -155,15 +158,42 @@ found_by Source P finding h = absurd (not_a_finding 86 86 refl (omega arith) (om
 found_by Sink P finding h = absurd (not_a_finding 87 87 refl (omega arith) (omega arith) finding)
 found_by NoMemory P finding h = absurd (not_a_finding 90 90 refl (omega arith) (omega arith) finding)
 
--- what holds of a finding holds where the program ends with its status
-pub found : (old : Option Text) (fault : Fault) (new : Option Text) (rose : Type 0) (answer : Answer) (n : ℕ) (P : Type 0) → IsTold old (refused fault) new rose answer → n ≡ status answer → IsFinding n → OnFinding fault P → P
-found old fault new rose answer n P (Whole is) same finding h = found_by fault P (subst IsFinding same finding) h
-found old fault new rose answer n P (Cut r front) same finding h = absurd (not_a_finding n 87 same (omega arith) (omega arith) finding)
-found old fault new rose answer n P (Starved line which front) same finding h = absurd (not_a_finding n 90 same (omega arith) (omega arith) finding)
-found old fault new rose answer n P (Wordless r front) same finding h = absurd (not_a_finding n 87 same (omega arith) (omega arith) finding)
+abbrev At : Result Outcome Fault → List Text → Answer
+At result u = As u (ending_of result)
 
--- a failure of the output behind what was done is no finding
-pub none_found : (old : Option Text) (lines : Text) (new : Option Text) (rose : Type 0) (fault : Fault) (n : ℕ) → IsTold old (finished lines) new rose (refused fault) → n ≡ status_of fault → ¬ IsFinding n
-none_found old lines new rose fault n (Cut r front) same finding = not_a_finding n 87 same (omega arith) (omega arith) finding
-none_found old lines new rose fault n (Starved line which front) same finding = not_a_finding n 90 same (omega arith) (omega arith) finding
-none_found old lines new rose fault n (Wordless r front) same finding = not_a_finding n 87 same (omega arith) (omega arith) finding
+-- what holds at Ok holds where the program ends with 0
+pub at_zero : (P : Type 0) (result : Result Outcome Fault) (u : List Text) (old new : Option Text) (rose : Type 0) (told : Ending) (n : ℕ) → IsTold old (At result u) new rose told → n ≡ status told → n ≡ 0 → OnOk result P → P
+at_zero P (Ok x) u old new rose told n is same zero h = h
+at_zero P (Err e) u old new rose told n (Whole ending end is) same zero h = absurd (not_zero e (sym (ap status end) ∙ sym same ∙ zero))
+at_zero P (Err e) u old new rose told n (Cut r front) same zero h = absurd (omega (arith, same, zero))
+at_zero P (Err e) u old new rose told n (Starved lines which front) same zero h = absurd (omega (arith, same, zero))
+at_zero P (Err e) u old new rose told n (Wordless r front) same zero h = absurd (omega (arith, same, zero))
+
+no_finding : (n : ℕ) → n ≡ 0 → ¬ IsFinding n
+no_finding n is (inl a) = absurd (omega (arith, is, a))
+no_finding n is (inr b) = absurd (omega (arith, is, b.0))
+
+-- what holds of a finding holds where the program ends with its status
+pub at_finding : (P : Type 0) (result : Result Outcome Fault) (u : List Text) (old new : Option Text) (rose : Type 0) (told : Ending) (n : ℕ) → IsTold old (At result u) new rose told → n ≡ status told → IsFinding n → IfErr result (λ e. OnFinding e P) → P
+at_finding P (Ok x) u old new rose told n (Whole ending end is) same finding h = absurd (no_finding n (same ∙ ap status end) finding)
+at_finding P (Err e) u old new rose told n (Whole ending end is) same finding h = found_by e P (subst IsFinding (same ∙ ap status end) finding) h
+at_finding P result u old new rose told n (Cut r front) same finding h = absurd (not_a_finding n 87 same (omega arith) (omega arith) finding)
+at_finding P result u old new rose told n (Starved lines which front) same finding h = absurd (not_a_finding n 90 same (omega arith) (omega arith) finding)
+at_finding P result u old new rose told n (Wordless r front) same finding h = absurd (not_a_finding n 87 same (omega arith) (omega arith) finding)
+
+-- ---- where no cause of a refusal holds
+
+is_ninety : (m : ℕ) → (m ≡ 90) ⊎ (m ≢ 90)
+is_ninety m = grind arith
+
+completes_as : (Holds : Answer → Type 0) (u : List Text) (ending : Ending) (n : ℕ) → Holds (As u ending) → ((v : List Text) (fault : Fault) → status (refused fault) ≢ 90 → ¬ Holds (As v (refused fault))) → n ≡ status ending → (n ≡ 0) ⊎ (n ≡ 90)
+completes_as Holds u (finished lines) n has none is = inl is
+completes_as Holds u (refused fault) n has none is = go (is_ninety (status_of fault))
+  where
+    go : (status_of fault ≡ 90) ⊎ (status_of fault ≢ 90) → (n ≡ 0) ⊎ (n ≡ 90)
+    go (inl e) = inr (is ∙ e)
+    go (inr e) = absurd (none u fault e has)
+
+pub completes : (words : List Text) (files repo : Option Content) (nodes : Option Nodes) (d t l h i s : Type 0) (answer : Answer) (n : ℕ) → Cause words files repo nodes d t l h i s answer →
+    ((v : List Text) (fault : Fault) → status (refused fault) ≢ 90 → ¬ Cause words files repo nodes d t l h i s (As v (refused fault))) → n ≡ status answer.ending → (n ≡ 0) ⊎ (n ≡ 90)
+completes words files repo nodes d t l h i s answer n has none is = completes_as (Cause words files repo nodes d t l h i s) answer.unknown answer.ending n has none is

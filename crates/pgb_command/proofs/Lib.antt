@@ -11,3 +11,6 @@ mod StoreCauses
 mod Pushes
 mod Causes
 mod Asked
+mod Doings
+mod Configured
+mod Served

@@ -15,9 +15,9 @@ use Rattle.pgb_model.proofs.Logged.{KeepsSound, rests_still, moves_keep, moves_b
 use Rattle.pgb_model.proofs.PushSound.{push_keeps_sound}
 use Rattle.pgb_model.proofs.PushDone.{push_spool}
 use Rattle.pgb_command.specs.declared.fault.Fault.{Fault}
-use Rattle.pgb_command.specs.declared.fault.Fault.TheVariants.{ConfigMissing, SegmentName, PathOutside, Held, StanzaMissing, InfoDamaged, StanzaMismatch, SegmentMissing, TooLong, HeaderForm, SegmentSize, HeaderMismatch, Ambiguous, Duplicate, NotBuilt, ControlMissing, ControlShort, VersionText, VersionUnsupported, Disk, Tree, Locks, Source, Sink, NoMemory}
+use Rattle.pgb_command.specs.declared.fault.Fault.TheVariants.{Settings, ConfigMissing, SegmentName, PathOutside, Held, StanzaMissing, InfoDamaged, StanzaMismatch, SegmentMissing, TooLong, HeaderForm, SegmentSize, HeaderMismatch, Ambiguous, Duplicate, NotBuilt, ControlMissing, ControlShort, VersionText, VersionUnsupported, Disk, Tree, Locks, Source, Sink, NoMemory}
 use Rattle.pgb_command.specs.Answers.{OnFinding}
-use Rattle.pgb_command.specs.Words.{Request, create, push}
+use Rattle.pgb_command.specs.Asked.{Request, create, push}
 use Rattle.pgb_command.specs.Commands.{IsPushOf, IsRequestOf, IsPart, Goes, Ends}
 use Rattle.pgb_command.proofs.Carries.{with_spool}
 
@@ -103,6 +103,7 @@ none_carried stanza v = record {
 
 -- what holds of a finding
 pub finding_to : (e : Fault) (P Q : Type 0) → (P → Q) → OnFinding e P → OnFinding e Q
+finding_to (Settings u) P Q to h = to h
 finding_to (ConfigMissing a) P Q to h = to h
 finding_to (SegmentName a) P Q to h = to h
 finding_to (PathOutside a) P Q to h = to h
@@ -130,6 +131,7 @@ finding_to Sink P Q to h = tt
 finding_to NoMemory P Q to h = tt
 
 on_all : (e : Fault) (Q : Type 0) → Q → OnFinding e Q
+on_all (Settings u) Q q = q
 on_all (ConfigMissing a) Q q = q
 on_all (SegmentName a) Q q = q
 on_all (PathOutside a) Q q = q
@@ -166,6 +168,7 @@ finding_same (Err f) e P Q is to h = subst (λ (k : Fault). OnFinding k Q) (sym 
 
 -- two facts of a finding
 on_both : (e : Fault) (P R : Type 0) → OnFinding e P → OnFinding e R → OnFinding e (P × R)
+on_both (Settings u) P R h k = (h, k)
 on_both (ConfigMissing a) P R h k = (h, k)
 on_both (SegmentName a) P R h k = (h, k)
 on_both (PathOutside a) P R h k = (h, k)

@@ -31,7 +31,7 @@ use Rattle.pgb_command.specs.declared.fault.ControlFile.TheVariants.{Control as 
 use Rattle.pgb_command.specs.declared.fault.Fault.TheVariants as faults
 use Rattle.pgb_command.specs.Locking.{lock_name}
 use Rattle.pgb_command.specs.Making.{OpeningCause}
-use Rattle.pgb_command.specs.Words.{push}
+use Rattle.pgb_command.specs.Asked.{push}
 
 -- the file that was read
 pub has_wal : (nodes mid : Option Nodes) (folder path name : Text) (segment : Segment) (items bytes : Text) → mid ≡ nodes → name ≡ segment_text segment → bytes ≡ items → IsWalPath folder path (Whole segment)
@@ -162,6 +162,27 @@ module _ (stanza folder path : Text) (segment : Segment) (named : IsWalPath fold
   opened name is repo nodes d t l h faults.Tree cause = cause
   opened name is repo nodes d t l h faults.Locks cause = cause
   opened name is repo nodes d t l h faults.NoMemory cause = tt
+  opened name is repo nodes d t l h (faults.Settings u) cause = absurd cause
+  opened name is repo nodes d t l h (faults.NotBuilt w) cause = absurd cause
+  opened name is repo nodes d t l h (faults.ConfigMissing p) cause = absurd cause
+  opened name is repo nodes d t l h (faults.SegmentName n) cause = absurd cause
+  opened name is repo nodes d t l h (faults.PathOutside p) cause = absurd cause
+  opened name is repo nodes d t l h (faults.ControlMissing f) cause = absurd cause
+  opened name is repo nodes d t l h (faults.ControlShort n) cause = absurd cause
+  opened name is repo nodes d t l h faults.VersionText cause = absurd cause
+  opened name is repo nodes d t l h (faults.VersionUnsupported v) cause = absurd cause
+  opened name is repo nodes d t l h (faults.StanzaMissing s) cause = absurd cause
+  opened name is repo nodes d t l h (faults.InfoDamaged n m c) cause = absurd cause
+  opened name is repo nodes d t l h (faults.StanzaMismatch k f) cause = absurd cause
+  opened name is repo nodes d t l h (faults.SegmentMissing p) cause = absurd cause
+  opened name is repo nodes d t l h (faults.TooLong n m) cause = absurd cause
+  opened name is repo nodes d t l h (faults.HeaderForm i) cause = absurd cause
+  opened name is repo nodes d t l h (faults.SegmentSize k f) cause = absurd cause
+  opened name is repo nodes d t l h (faults.HeaderMismatch k f) cause = absurd cause
+  opened name is repo nodes d t l h (faults.Ambiguous k f) cause = absurd cause
+  opened name is repo nodes d t l h (faults.Duplicate k f) cause = absurd cause
+  opened name is repo nodes d t l h faults.Source cause = absurd cause
+  opened name is repo nodes d t l h faults.Sink cause = absurd cause
 
   pub opening_err : (name : Text) → name ≡ lock_name stanza (push path) → (repo : Option Content) (nodes : Option Nodes) (d t l h : Type 0) {T : Type 0} (result : Result T Fault) (e : Fault) → IsErrAnd result (λ f. f ≡ e) → OpeningCause name d t l h e → IfErr result (PushFileCause stanza folder path repo nodes d t l h)
   opening_err name is repo nodes d t l h (Ok x) e same cause = tt
@@ -188,6 +209,13 @@ module _ (stanza folder path : Text) (segment : Segment) (named : IsWalPath fold
   wider repo nodes d t x y l h a b faults.NoMemory cause = tt
   wider repo nodes d t x y l h a b (faults.Held w) cause = absurd cause.1
   wider repo nodes d t x y l h a b faults.Locks cause = absurd cause
+  wider repo nodes d t x y l h a b (faults.Settings u) cause = absurd cause
+  wider repo nodes d t x y l h a b (faults.NotBuilt w) cause = absurd cause
+  wider repo nodes d t x y l h a b (faults.ConfigMissing p) cause = absurd cause
+  wider repo nodes d t x y l h a b (faults.SegmentName n) cause = absurd cause
+  wider repo nodes d t x y l h a b (faults.PathOutside p) cause = absurd cause
+  wider repo nodes d t x y l h a b faults.Source cause = absurd cause
+  wider repo nodes d t x y l h a b faults.Sink cause = absurd cause
 
   pub storing_err : (repo mid : Option Content) (nodes seen : Option Nodes) (d t x y l h : Type 0) → mid ≡ repo → seen ≡ nodes → (d → x) → (t → y) → {T : Type 0} (result : Result T Fault) (e : Fault) → IsErrAnd result (λ f. f ≡ e) → StoreCause stanza folder path mid seen d t ⊥ ⊥ e →
       IfErr result (PushFileCause stanza folder path repo nodes x y l h)

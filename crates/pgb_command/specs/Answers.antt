@@ -1,18 +1,37 @@
 -- The status and the output of each answer (own).
-use Rattle.std.specs.Prelude.{◌≡◌, ◌⊎◌, ◌≤◌, ⊤, ℕ, ◌||◌, ◌==◌, nat_lt, [], ◌++◌, map, codes, decimal, string_bytes, if◌then◌else◌}
+use Rattle.std.specs.Prelude.{◌≡◌, ◌⊎◌, ◌≤◌, ⊤, ℕ, ◌||◌, ◌==◌, nat_lt, List, [], ◌++◌, map, codes, decimal, string_bytes, if◌then◌else◌}
+use Rattle.std.specs.List.{flat_map}
 use Rattle.pgb_text.specs.Sum.{sum_text}
 use Rattle.pgb_model.specs.Text.{Text}
 use Rattle.pgb_info.specs.declared.fault.MemberFault.{MemberFault}
 use Rattle.pgb_info.specs.declared.fault.MemberFault.TheVariants.{Absent, TooLong as LongMember, Syntax, Sum, Form}
+use Rattle.pgb_options.specs.declared.usage.Usage.{Usage}
+use Rattle.pgb_options.specs.declared.usage.Usage.TheVariants.{CommandMissing, CommandUnknown, OptionUnknown, OptionRepeated, OptionValue, OptionMissing, OptionNotFor, ConfigSyntax, ParameterCount, ParameterUtf8, NoMemory as UsageNoMemory}
+use Rattle.pgb_options.specs.Table.{verb_word}
 use Rattle.pgb_command.specs.declared.fault.Unbuilt.{Unbuilt}
-use Rattle.pgb_command.specs.declared.fault.Unbuilt.TheVariants.{CommandLine, ExistingStanza, ArchiveFile}
+use Rattle.pgb_command.specs.declared.fault.Unbuilt.TheVariants.{Command, Server, Background, ExistingStanza, ArchiveFile}
 use Rattle.pgb_command.specs.declared.fault.ControlFile.{ControlFile}
 use Rattle.pgb_command.specs.declared.fault.ControlFile.TheVariants.{Control, Version}
 use Rattle.pgb_command.specs.declared.fault.Identity.{Identity}
 use Rattle.pgb_command.specs.declared.fault.Fault.{Fault}
-use Rattle.pgb_command.specs.declared.fault.Fault.TheVariants.{NotBuilt, ConfigMissing, SegmentName, PathOutside, Held, ControlMissing, ControlShort, VersionText, VersionUnsupported, StanzaMissing, InfoDamaged, StanzaMismatch, SegmentMissing, TooLong, HeaderForm, SegmentSize, HeaderMismatch, Ambiguous, Duplicate, Disk, Tree, Locks, Source, Sink, NoMemory}
+use Rattle.pgb_command.specs.declared.fault.Fault.TheVariants.{Settings, NotBuilt, ConfigMissing, SegmentName, PathOutside, Held, ControlMissing, ControlShort, VersionText, VersionUnsupported, StanzaMissing, InfoDamaged, StanzaMismatch, SegmentMissing, TooLong, HeaderForm, SegmentSize, HeaderMismatch, Ambiguous, Duplicate, Disk, Tree, Locks, Source, Sink, NoMemory}
+
+-- of words and a configuration that are refused
+abbrev pub usage_status : Usage → ℕ
+usage_status CommandMissing = 2
+usage_status (CommandUnknown word) = 3
+usage_status (OptionUnknown word) = 4
+usage_status (OptionRepeated name) = 5
+usage_status (OptionValue name) = 6
+usage_status (OptionMissing name) = 7
+usage_status (OptionNotFor name) = 8
+usage_status (ConfigSyntax line) = 9
+usage_status (ParameterCount given) = 11
+usage_status ParameterUtf8 = 13
+usage_status UsageNoMemory = 90
 
 abbrev pub status_of : Fault → ℕ
+status_of (Settings usage) = usage_status usage
 status_of (NotBuilt what) = 100
 status_of (ConfigMissing path) = 10
 status_of (SegmentName name) = 30
@@ -47,7 +66,9 @@ abbrev pub shown : Text → Text
 shown = map shown_byte
 
 abbrev pub part_name : Unbuilt → Text
-part_name CommandLine = codes "command line"
+part_name (Command verb) = verb_word verb
+part_name Server = codes "online"
+part_name Background = codes "archive-async"
 part_name ExistingStanza = codes "existing stanza"
 part_name ArchiveFile = codes "archive file"
 
@@ -68,8 +89,23 @@ damage_text main copy = codes "' is damaged: " ++ (member_text main ++ (codes " 
 abbrev pub identity_text : Identity → Text
 identity_text i = codes "system " ++ (decimal i.system ++ (codes " version " ++ decimal i.version))
 
+-- the last line where words or a configuration are refused
+abbrev pub usage_line : Usage → Text
+usage_line CommandMissing = codes "ERROR: [002]: no command found\n"
+usage_line (CommandUnknown word) = codes "ERROR: [003]: unknown command '" ++ (shown (string_bytes word) ++ codes "'\n")
+usage_line (OptionUnknown word) = codes "ERROR: [004]: unknown option '" ++ (shown (string_bytes word) ++ codes "'\n")
+usage_line (OptionRepeated name) = codes "ERROR: [005]: option '" ++ (shown (string_bytes name) ++ codes "' is repeated\n")
+usage_line (OptionValue name) = codes "ERROR: [006]: option '" ++ (shown (string_bytes name) ++ codes "' has no valid value\n")
+usage_line (OptionMissing name) = codes "ERROR: [007]: option '" ++ (shown (string_bytes name) ++ codes "' is missing\n")
+usage_line (OptionNotFor name) = codes "ERROR: [008]: option '" ++ (shown (string_bytes name) ++ codes "' is not for this command\n")
+usage_line (ConfigSyntax line) = codes "ERROR: [009]: configuration line " ++ (decimal line ++ codes " is not valid\n")
+usage_line (ParameterCount given) = codes "ERROR: [011]: " ++ (decimal given ++ codes " parameters given\n")
+usage_line ParameterUtf8 = codes "ERROR: [013]: configuration is not UTF-8\n"
+usage_line UsageNoMemory = codes "ERROR: [090]: out of memory\n"
+
 -- the last line of the output
 abbrev pub error_line : Fault → Text
+error_line (Settings usage) = usage_line usage
 error_line (NotBuilt what) = codes "ERROR: [100]: '" ++ (part_name what ++ codes "' is not built yet\n")
 error_line (ConfigMissing path) = codes "ERROR: [010]: configuration '" ++ (shown (string_bytes path) ++ codes "' is missing\n")
 error_line (SegmentName name) = codes "ERROR: [030]: '" ++ (shown (string_bytes name) ++ codes "' is no WAL file name\n")
@@ -83,7 +119,7 @@ error_line (StanzaMissing stanza) = codes "ERROR: [021]: stanza '" ++ (string_by
 error_line (InfoDamaged name main copy) = codes "ERROR: [022]: info '" ++ (string_bytes name ++ damage_text main copy)
 error_line (StanzaMismatch kept found) = codes "ERROR: [023]: stanza has " ++ (identity_text kept ++ (codes ", data folder has " ++ (identity_text found ++ codes "\n")))
 error_line (SegmentMissing path) = codes "ERROR: [037]: '" ++ (shown (string_bytes path) ++ codes "' is missing\n")
-error_line (TooLong name limit) = codes "ERROR: [070]: '" ++ (string_bytes name ++ (codes "' is longer than " ++ (decimal limit ++ codes "\n")))
+error_line (TooLong name limit) = codes "ERROR: [070]: '" ++ (shown (string_bytes name) ++ (codes "' is longer than " ++ (decimal limit ++ codes "\n")))
 error_line (HeaderForm info) = codes "ERROR: [032]: WAL header is not valid\n"
 error_line (SegmentSize told found) = codes "ERROR: [031]: segment size " ++ (decimal told ++ (codes ", found " ++ (decimal found ++ codes " bytes\n")))
 error_line (HeaderMismatch kept found) = codes "ERROR: [033]: stanza has system " ++ (decimal kept ++ (codes ", WAL has system " ++ (decimal found ++ codes "\n")))
@@ -100,19 +136,31 @@ error_line NoMemory = codes "ERROR: [090]: out of memory\n"
 abbrev pub same_line : Text → Text
 same_line name = codes "WARN: " ++ (name ++ codes " is already in the archive with the same checksum\n")
 
--- Ok with its lines, or a refusal
-pub data Answer : Type 0 where
-  finished : (lines : Text) → Answer
-  refused : (fault : Fault) → Answer
+-- the warning of a key that is no option
+abbrev pub unknown_line : Text → Text
+unknown_line key = codes "WARN: configuration file contains unknown option '" ++ (shown key ++ codes "'\n")
 
-abbrev pub status : Answer → ℕ
+-- Ok with its lines, or a refusal
+pub data Ending : Type 0 where
+  finished : (lines : Text) → Ending
+  refused : (fault : Fault) → Ending
+
+abbrev pub status : Ending → ℕ
 status (finished lines) = 0
 status (refused fault) = status_of fault
 
+abbrev pub ending_lines : Ending → Text
+ending_lines (finished lines) = lines
+ending_lines (refused fault) = error_line fault
+
+-- what a command says: the keys of the configuration that are no options, and then how it ended
+pub record Answer : Type 0 where
+  pub unknown : List Text
+  pub ending : Ending
+
 -- what is written of it
 abbrev pub lines_of : Answer → Text
-lines_of (finished lines) = lines
-lines_of (refused fault) = error_line fault
+lines_of a = flat_map unknown_line a.unknown ++ ending_lines a.ending
 
 -- the statuses of faults that are what was found, and no failure of an object and no want of memory
 abbrev pub IsFinding : ℕ → Type 0

@@ -1,5 +1,5 @@
 -- Why the program gives an answer.
-use Rattle.std.specs.Prelude.{◌≡◌, ◌⊎◌, [], List, true, false, Option, IfSome, string_bytes}
+use Rattle.std.specs.Prelude.{◌≡◌, ◌⊎◌, [], List, true, false, Option, Ok, Err, IfSome, string_bytes}
 use Rattle.sha1.specs.Sha1.{sha1}
 use Rattle.pgb_outside.specs.Content.{Content}
 use Rattle.pgb_outside.specs.Tree.{Nodes}
@@ -14,12 +14,15 @@ use Rattle.pgb_archive.specs.declared.fault.ArchiveFault.{ArchiveFault}
 use Rattle.pgb_archive.specs.declared.fault.ArchiveFault.TheVariants.{HeaderForm as FormOf, SegmentSize as SizeOf, HeaderMismatch as MismatchOf, Ambiguous as AmbiguousOf, Duplicate as DuplicateOf}
 use Rattle.pgb_archive.specs.Causes.{IsSegmentOf, PushCause}
 use Rattle.pgb_archive.specs.Stored.{StoresNone, StoresOnly}
-use Rattle.pgb_command.specs.declared.fault.Unbuilt.TheVariants.{CommandLine, ExistingStanza}
+use Rattle.pgb_options.specs.Settings.{Settled}
+use Rattle.pgb_command.specs.declared.fault.Unbuilt.{Unbuilt}
+use Rattle.pgb_command.specs.declared.fault.Unbuilt.TheVariants.{ExistingStanza}
 use Rattle.pgb_command.specs.declared.fault.Fault.{Fault}
 use Rattle.pgb_command.specs.declared.fault.Fault.TheVariants.{NotBuilt, Held, StanzaMissing, InfoDamaged, StanzaMismatch, SegmentMissing, TooLong, HeaderForm, SegmentSize, HeaderMismatch, Ambiguous, Duplicate, Disk, Locks, Sink, NoMemory}
-use Rattle.pgb_command.specs.Words.{Asked, Asks, create, push}
+use Rattle.pgb_command.specs.Asked.{Asked, create, push, Settles, requested, IsAsked}
+use Rattle.pgb_command.specs.Configuring.{ConfigCause}
 use Rattle.pgb_command.specs.Locking.{lock_name}
-use Rattle.pgb_command.specs.Answers.{Answer, finished, refused, same_line}
+use Rattle.pgb_command.specs.Answers.{Ending, finished, refused, Answer, same_line}
 use Rattle.pgb_command.specs.Cluster.{FolderTells, ClusterCause}
 use Rattle.pgb_command.specs.WalPath.{segment_limit, IsWalPath, HasWal}
 use Rattle.pgb_command.specs.WalCause.{WordCause, FileCause}
@@ -104,7 +107,7 @@ pub record IsStored (stanza folder path : Text) (repo : Option Content) (nodes :
 -- ---- all
 
 -- Why a command answers so.
-pub data AskedCause (a : Asked) (repo : Option Content) (nodes : Option Nodes) (disk_rose tree_rose lock_rose held : Type 0) : Answer → Type 0 where
+pub data AskedCause (a : Asked) (repo : Option Content) (nodes : Option Nodes) (disk_rose tree_rose lock_rose held : Type 0) : Ending → Type 0 where
   -- the stanza is made
   Made : a.request ≡ create → IfSome repo (λ f. lacks_pairs a.stanza f ≡ true) → TellsSome nodes → AskedCause a repo nodes disk_rose tree_rose lock_rose held (finished [])
   -- the segment is stored
@@ -114,13 +117,17 @@ pub data AskedCause (a : Asked) (repo : Option Content) (nodes : Option Nodes) (
   -- archive-push is refused
   Pushing : (path : Text) (fault : Fault) → a.request ≡ push path → PushFileCause a.stanza a.data_folder path repo nodes disk_rose tree_rose lock_rose held fault → AskedCause a repo nodes disk_rose tree_rose lock_rose held (refused fault)
 
--- Why the program answers so.
-pub data Cause (words : List Text) (repo : Option Content) (nodes : Option Nodes) (disk_rose tree_rose sink_rose : Type 0) : Answer → Type 0 where
-  -- the words ask for nothing that is known
-  Unasked : ((a : Asked) → ¬ Asks words a) → Cause words repo nodes disk_rose tree_rose sink_rose (refused (NotBuilt CommandLine))
+-- Why the program answers so. The counts that may have risen are those of the repository, the data folder, the locks, the locks that were held, the configuration and the output.
+pub data Cause (words : List Text) (files : Option Content) (repo : Option Content) (nodes : Option Nodes) (disk_rose tree_rose lock_rose held source_rose sink_rose : Type 0) : Answer → Type 0 where
+  -- the words or their configuration are refused
+  Refused : (fault : Fault) → ConfigCause words files source_rose fault → Cause words files repo nodes disk_rose tree_rose lock_rose held source_rose sink_rose (record { unknown = []; ending = refused fault })
+  -- they ask for what isn't built
+  Unknown : (s : Settled) (what : Unbuilt) → Settles words files (Ok s) → requested s ≡ Err what →
+      Cause words files repo nodes disk_rose tree_rose lock_rose held source_rose sink_rose (record { unknown = s.warnings; ending = refused (NotBuilt what) })
   -- the command's answer
-  Asking : (a : Asked) (answer : Answer) → Asks words a → AskedCause a repo nodes disk_rose tree_rose answer → Cause words repo nodes disk_rose tree_rose sink_rose answer
+  Asking : (s : Settled) (a : Asked) (ending : Ending) → Settles words files (Ok s) → IsAsked s a → AskedCause a repo nodes disk_rose tree_rose lock_rose held ending →
+      Cause words files repo nodes disk_rose tree_rose lock_rose held source_rose sink_rose (record { unknown = s.warnings; ending = ending })
   -- the output failed
-  Output : sink_rose → Cause words repo nodes disk_rose tree_rose sink_rose (refused Sink)
+  Output : (unknown : List Text) → sink_rose → Cause words files repo nodes disk_rose tree_rose lock_rose held source_rose sink_rose (record { unknown = unknown; ending = refused Sink })
   -- want of memory
-  Memory : Cause words repo nodes disk_rose tree_rose sink_rose (refused NoMemory)
+  Memory : (unknown : List Text) → Cause words files repo nodes disk_rose tree_rose lock_rose held source_rose sink_rose (record { unknown = unknown; ending = refused NoMemory })

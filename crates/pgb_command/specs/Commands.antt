@@ -9,7 +9,7 @@ use Rattle.pgb_model.specs.Repository.{Repository}
 use Rattle.pgb_model.specs.Stands.{Stands}
 use Rattle.pgb_model.specs.Steps.{Step, Command, StanzaCreate, ArchivePush, Reading, Named, IsPartOf, after, all_of, steps_of}
 use Rattle.pgb_model.specs.Steady.{IsSteady, Moves}
-use Rattle.pgb_command.specs.Words.{Request, create, push, Asked}
+use Rattle.pgb_command.specs.Asked.{Request, create, push, Asked}
 use Rattle.pgb_command.specs.Cluster.{IsClusterOf}
 use Rattle.pgb_command.specs.WalPath.{HasWal}
 

@@ -6,7 +6,7 @@ use Rattle.pgb_model.specs.declared.clusters.Cluster.{Cluster}
 use Rattle.pgb_model.specs.Steps.{Command, Reading}
 use Rattle.pgb_model.specs.Steady.{CarriesOn, PassesOnly}
 use Rattle.pgb_model.specs.Now.{HasNewPairs, NowDoes}
-use Rattle.pgb_command.specs.Words.{Asked, create}
+use Rattle.pgb_command.specs.Asked.{Asked, create}
 use Rattle.pgb_command.specs.Cluster.{IsClusterOf}
 use Rattle.pgb_command.specs.Commands.{IsCommandOf}
 use Rattle.pgb_command.specs.Storing.{AgreesAtPair}

@@ -7,12 +7,22 @@ use Rattle.pgb_stanza.specs.declared.control.ControlFault.{ControlFault}
 use Rattle.pgb_stanza.specs.declared.control.ControlFault.TheVariants.{ControlShort as ShortControl, VersionText as NoVersion, VersionUnsupported as OtherVersion}
 use Rattle.pgb_archive.specs.declared.fault.ArchiveFault.{ArchiveFault}
 use Rattle.pgb_archive.specs.declared.fault.ArchiveFault.TheVariants.{HeaderForm as FormOf, SegmentSize as SizeOf, HeaderMismatch as MismatchOf, Ambiguous as AmbiguousOf, Duplicate as DuplicateOf, Disk as ArchiveDisk, NoMemory as ArchiveNoMemory}
+use Rattle.pgb_options.specs.declared.usage.Usage.{Usage}
+use Rattle.pgb_options.specs.declared.usage.Usage.TheVariants.{NoMemory as UsageNoMemory}
 use Rattle.pgb_command.specs.declared.fault.Fault.{Fault}
-use Rattle.pgb_command.specs.declared.fault.Fault.TheVariants.{ControlShort, VersionText, VersionUnsupported, HeaderForm, SegmentSize, HeaderMismatch, Ambiguous, Duplicate, Disk, Tree, NoMemory}
+use Rattle.pgb_command.specs.declared.fault.Fault.TheVariants.{Settings, ControlShort, VersionText, VersionUnsupported, HeaderForm, SegmentSize, HeaderMismatch, Ambiguous, Duplicate, Disk, Tree, Source, NoMemory}
 
 abbrev pub of_tree : Stop → Fault
 of_tree Failed = Tree
 of_tree StopNoMemory = NoMemory
+
+abbrev pub of_source : Stop → Fault
+of_source Failed = Source
+of_source StopNoMemory = NoMemory
+
+abbrev pub of_usage : Usage → Fault
+of_usage UsageNoMemory = NoMemory
+of_usage usage = Settings usage
 
 abbrev pub of_stanza : StanzaFault → Fault
 of_stanza StanzaDisk = Disk

@@ -1,4 +1,6 @@
-pub mod Words
+pub mod Asked
+pub mod Told
+pub mod Configuring
 pub mod Locking
 pub mod Faults
 pub mod Answers

@@ -2,7 +2,7 @@
 use Rattle.std.specs.Prelude.{◌≡◌, ◌⊎◌, List, ◌∷◌, ◌++◌, codes, Option, option_map, string_bytes}
 use Rattle.pgb_outside.specs.Moments.{View, Rests}
 use Rattle.pgb_model.specs.Text.{Text}
-use Rattle.pgb_command.specs.Words.{Asked, Request, create, push}
+use Rattle.pgb_command.specs.Asked.{Asked, Request, create, push}
 
 -- commands that write backups, and commands that write the archive
 abbrev pub lock_name : Text → Request → Text

@@ -1,10 +1,11 @@
 // What a command answers in place of Ok.
 ghost use Rattle.std.specs.Prelude.{◌≡◌};
-ghost use Rattle.pgb_command.specs.Answers.{status_of};
-ghost use Rattle.pgb_command.specs.Faults.{of_tree};
+ghost use Rattle.pgb_command.specs.Answers.{status_of, usage_status};
+ghost use Rattle.pgb_command.specs.Faults.{of_tree, of_source};
 
 use pgb_archive::ArchiveFault;
 use pgb_info::MemberFault;
+use pgb_options::{Usage, Verb};
 use pgb_outside::Stop;
 use pgb_stanza::{ControlFault, StanzaFault};
 use pgb_text::{NoMemory, Sum};
@@ -13,8 +14,12 @@ use std::alloc::AllocError;
 /// A part of the program that comes later.
 #[derive(Clone, Copy, Debug, PartialEq, Eq)]
 pub enum Unbuilt {
-    /// words other than the known ones
-    CommandLine,
+    /// a command
+    Command(Verb),
+    /// stanza-create with a server
+    Server,
+    /// archive-push in the background
+    Background,
     /// stanza-create where one of the info files is there
     ExistingStanza,
     /// archive-push of a file that is no whole segment
@@ -38,6 +43,8 @@ pub struct Identity {
 /// Why a command is refused, in the order in which refusals come.
 #[derive(Debug, Drop)]
 pub enum Fault {
+    /// The words or their configuration are refused.
+    Settings(Usage),
     NotBuilt {
         what: Unbuilt,
     },
@@ -150,6 +157,20 @@ impl From<NoMemory> for Fault {
     }
 }
 
+impl From<Usage> for Fault {
+    ghost use Rattle.std.specs.Prelude.{◌≡◌};
+    ghost use Rattle.pgb_command.specs.Faults.{of_usage};
+
+    ghost from_gives = { λ u e. e ≡ of_usage u };
+
+    fn from(usage: Usage) -> Self {
+        match usage {
+            Usage::NoMemory => Fault::NoMemory,
+            usage => Fault::Settings(usage),
+        }
+    }
+}
+
 impl From<StanzaFault> for Fault {
     ghost use Rattle.std.specs.Prelude.{◌≡◌};
     ghost use Rattle.pgb_command.specs.Faults.{of_stanza};
@@ -208,11 +229,41 @@ pub(crate) fn of_tree(stop: Stop) -> Fault
     }
 }
 
+/// What a stop of the configuration is.
+pub(crate) fn of_source(stop: Stop) -> Fault
+    ensures { result ≡ of_source stop }
+{
+    match stop {
+        Stop::Failed => Fault::Source,
+        Stop::NoMemory => Fault::NoMemory,
+    }
+}
+
+// The status of words or a configuration that are refused.
+fn usage_status(usage: &Usage) -> u8
+    ensures { result ≡ usage_status usage.now }
+{
+    match usage {
+        Usage::CommandMissing => 2,
+        Usage::CommandUnknown { .. } => 3,
+        Usage::OptionUnknown { .. } => 4,
+        Usage::OptionRepeated { .. } => 5,
+        Usage::OptionValue { .. } => 6,
+        Usage::OptionMissing { .. } => 7,
+        Usage::OptionNotFor { .. } => 8,
+        Usage::ConfigSyntax { .. } => 9,
+        Usage::ParameterCount { .. } => 11,
+        Usage::ParameterUtf8 => 13,
+        Usage::NoMemory => 90,
+    }
+}
+
 /// The status that the program ends with.
 pub(crate) fn status(fault: &Fault) -> u8
     ensures { result ≡ status_of fault.now }
 {
     match fault {
+        Fault::Settings(usage) => usage_status(usage),
         Fault::NotBuilt { .. } => 100,
         Fault::ConfigMissing { .. } => 10,
         Fault::SegmentName { .. } => 30,

@@ -3,6 +3,7 @@
 
 mod archive_push;
 mod cluster;
+mod config;
 mod create;
 mod current;
 mod fault;
@@ -12,9 +13,9 @@ mod outcome;
 mod output;
 mod outside;
 mod reading;
+mod settings;
 mod top;
 mod wal_file;
-mod words;
 
 pub use outside::Outside;
-// pub use top::run;
+pub use top::run;

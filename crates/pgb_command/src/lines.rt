@@ -1,10 +1,11 @@
 // The lines that tell an answer.
 ghost use Rattle.std.specs.Prelude.{◌≡◌, ◌++◌, codes, decimal, IfOk, IsOkAnd, OnOk, string_bytes};
 ghost use Rattle.pgb_text.specs.Sum.{sum_text};
-ghost use Rattle.pgb_command.specs.Answers.{error_line, same_line, shown, shown_byte, part_name, file_text, member_text, damage_text, identity_text};
+ghost use Rattle.pgb_command.specs.Answers.{error_line, usage_line, same_line, unknown_line, shown, shown_byte, part_name, file_text, member_text, damage_text, identity_text};
 
 use crate::fault::{ControlFile, Fault, Identity, Unbuilt};
 use pgb_info::MemberFault;
+use pgb_options::{Usage, verb_word};
 use pgb_text::{NoMemory, Sum};
 use std::alloc::{AllocError, Global};
 
@@ -12,7 +13,9 @@ fn part_name(what: Unbuilt) -> &'static str
     ensures { result.now ≡ part_name what }
 {
     match what {
-        Unbuilt::CommandLine => "command line",
+        Unbuilt::Command(verb) => verb_word(verb),
+        Unbuilt::Server => "online",
+        Unbuilt::Background => "archive-async",
         Unbuilt::ExistingStanza => "existing stanza",
         Unbuilt::ArchiveFile => "archive file",
     }
@@ -100,10 +103,10 @@ fn damaged_line(
 
 // The line of a file that is too long.
 fn long_line(alloc: Global, name: &str, limit: u64) -> Result<Vec<u8>, NoMemory>
-    ensures { IfOk result (λ line. line.items ≡ codes "ERROR: [070]: '" ++ (name.now ++ (codes "' is longer than " ++ (decimal limit ++ codes "\n")))) }
+    ensures { IfOk result (λ line. line.items ≡ codes "ERROR: [070]: '" ++ (shown name.now ++ (codes "' is longer than " ++ (decimal limit ++ codes "\n")))) }
 {
     let end = format!(in alloc; "' is longer than {limit}\n")?;
-    joined(alloc, "ERROR: [070]: '", name, &end)
+    quoted(alloc, "ERROR: [070]: '", name, &end)
 }
 
 // The line of a data folder of another cluster.
@@ -142,11 +145,71 @@ fn bytes_of(line: Result<String, AllocError>) -> Result<Vec<u8>, NoMemory>
     Ok(line?.into_bytes())
 }
 
+// The line of words or a configuration that are refused.
+fn usage_line(alloc: Global, usage: &Usage) -> Result<Vec<u8>, NoMemory>
+    ensures { IfOk result (λ line. line.items ≡ usage_line usage.now) }
+{
+    match usage {
+        Usage::CommandMissing => bytes_of(String::from_str(
+            alloc,
+            "ERROR: [002]: no command found\n",
+        )),
+        Usage::CommandUnknown { word } => quoted(
+            alloc,
+            "ERROR: [003]: unknown command '",
+            word,
+            "'\n",
+        ),
+        Usage::OptionUnknown { word } => quoted(
+            alloc,
+            "ERROR: [004]: unknown option '",
+            word,
+            "'\n",
+        ),
+        Usage::OptionRepeated { name } => quoted(
+            alloc,
+            "ERROR: [005]: option '",
+            name,
+            "' is repeated\n",
+        ),
+        Usage::OptionValue { name } => quoted(
+            alloc,
+            "ERROR: [006]: option '",
+            name,
+            "' has no valid value\n",
+        ),
+        Usage::OptionMissing { name } => quoted(
+            alloc,
+            "ERROR: [007]: option '",
+            name,
+            "' is missing\n",
+        ),
+        Usage::OptionNotFor { name } => quoted(
+            alloc,
+            "ERROR: [008]: option '",
+            name,
+            "' is not for this command\n",
+        ),
+        Usage::ConfigSyntax { line } => bytes_of(format!(in alloc;
+            "ERROR: [009]: configuration line {line} is not valid\n"
+        )),
+        Usage::ParameterCount { given } => bytes_of(format!(in alloc;
+            "ERROR: [011]: {given} parameters given\n"
+        )),
+        Usage::ParameterUtf8 => bytes_of(String::from_str(
+            alloc,
+            "ERROR: [013]: configuration is not UTF-8\n",
+        )),
+        Usage::NoMemory => bytes_of(String::from_str(alloc, "ERROR: [090]: out of memory\n")),
+    }
+}
+
 /// The line of a fault.
 pub(crate) fn line(alloc: Global, fault: &Fault) -> Result<Vec<u8>, NoMemory>
     ensures { IfOk result (λ line. line.items ≡ error_line fault.now) }
 {
     match fault {
+        Fault::Settings(usage) => usage_line(alloc, usage),
         Fault::NotBuilt { what } => {
             let name = part_name(*what);
             bytes_of(format!(in alloc; "ERROR: [100]: '{name}' is not built yet\n"))
@@ -221,4 +284,14 @@ pub(crate) fn same_line(alloc: Global, name: &str) -> Result<Vec<u8>, NoMemory>
     ensures { IfOk result (λ line. line.items ≡ same_line name.now) }
 {
     bytes_of(format!(in alloc; "WARN: {name} is already in the archive with the same checksum\n"))
+}
+
+/// Adds the warning of a key that is no option.
+pub(crate) fn push_unknown(text: &mut Vec<u8>, key: &str) -> Result<(), NoMemory>
+    ensures { OnOk result (text.new.items ≡ text.old.items ++ unknown_line key.now) }
+{
+    text.extend_from_slice("WARN: configuration file contains unknown option '".as_bytes())?;
+    push_shown(text, key)?;
+    text.extend_from_slice("'\n".as_bytes())?;
+    Ok(())
 }

@@ -9,7 +9,7 @@ ghost use Rattle.pgb_command.specs.Locking.{Locks as IsLocked, OnlyLocked, MayHo
 ghost use Rattle.pgb_command.specs.Making.{OpeningCause};
 
 use crate::fault::{Fault, of_tree};
-use crate::words::Settings;
+use crate::settings::Settings;
 use pgb_disk::{StoreFault, begin};
 use pgb_outside::{Disk, Locks, Stop, Take, Tree};
 use std::alloc::Global;

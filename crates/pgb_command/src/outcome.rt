@@ -1,4 +1,6 @@
-// What a command did that ended well.
+// What a command did.
+
+use crate::fault::Fault;
 
 /// What was done, as the output tells it.
 #[derive(Debug, Drop)]
@@ -7,4 +9,11 @@ pub enum Outcome {
     Silent,
     /// The segment of this name was stored already, with the same sum.
     SameStored { name: String },
+}
+
+/// How a command ended, and the keys of its configuration that are no options.
+#[derive(Debug, Drop)]
+pub struct Served {
+    pub unknown: Vec<String>,
+    pub ending: Result<Outcome, Fault>,
 }

@@ -1,68 +1,80 @@
 // The output is written.
-ghost use Rattle.std.specs.Prelude.{◌≡◌, ◌≤◌, ◌++◌, codes, OnOk, OnErr, IfErr, option_map, string_bytes};
+ghost use Rattle.std.specs.Prelude.{◌≡◌, ◌≤◌, ◌++◌, [], ◌∷◌, map, OnOk, OnErr, IfOk, IfErr, option_map, string_bytes};
+ghost use Rattle.std.specs.List.{flat_map};
 ghost use Rattle.pgb_outside.specs.Cause.{HasCause, Rises};
-ghost use Rattle.pgb_command.specs.Answers.{Answer, finished, refused, lines_of, error_line};
+ghost use Rattle.pgb_model.specs.Text.{Text};
+ghost use Rattle.pgb_command.specs.declared.fault.Fault.TheVariants.{NoMemory as OutOfMemory};
+ghost use Rattle.pgb_command.specs.Answers.{Ending, refused, status, Answer, ending_lines, lines_of, unknown_line, error_line};
 ghost use Rattle.pgb_command.specs.Output.{IsFrontWritten, IsTold};
-ghost use Rattle.pgb_command.specs.Outcomes.{lines_by};
+ghost use Rattle.pgb_command.specs.Outcomes.{lines_by, ending_of, answer_of};
 
-use crate::fault::Fault;
-use crate::lines::{line, same_line};
-use crate::outcome::Outcome;
+use crate::fault::{Fault, status};
+use crate::lines::{line, push_unknown, same_line};
+use crate::outcome::{Outcome, Served};
 use pgb_outside::{Sink, Stop};
+use pgb_text::NoMemory;
 use std::alloc::Global;
-
-/// Writes the line of a fault, and answers the fault that is told: another one where the output fails or memory runs out.
-pub(crate) fn tell<O: Sink>(alloc: Global, out: &mut O, fault: Fault) -> Fault
-    ensures told { IsTold (O.written out.old) (refused fault) (O.written out.new) (Rises (O.faults out.old) (O.faults out.new)) (refused result) }
-    ensures later { O.faults out.old ≤ O.faults out.new }
-{
-    match line(alloc, &fault) {
-        Ok(text) => tell_text(out, fault, &text),
-        Err(_) => tell_text(out, Fault::NoMemory, OUT_OF_MEMORY),
-    }
-}
 
 // Told where there is no memory for another line.
 const OUT_OF_MEMORY: &[u8] = b"ERROR: [090]: out of memory\n";
 
-// Writes the line of a fault.
-fn tell_text<O: Sink>(out: &mut O, fault: Fault, text: &[u8]) -> Fault
-    requires { text.now ≡ error_line fault }
-    ensures told { IsTold (O.written out.old) (refused fault) (O.written out.new) (Rises (O.faults out.old) (O.faults out.new)) (refused result) }
-    ensures later { O.faults out.old ≤ O.faults out.new }
+// The lines of the keys that are no options.
+fn unknown_lines(alloc: Global, keys: &[String]) -> Result<Vec<u8>, NoMemory>
+    ensures { IfOk result (λ text. text.items ≡ flat_map unknown_line (map string_bytes keys.now)) }
 {
-    match write_all(out, text) {
-        Ok(()) => fault,
-        Err(Stop::Failed) => Fault::Sink,
-        Err(Stop::NoMemory) => Fault::NoMemory,
+    let mut text = Vec::new(alloc);
+    for key in keys {
+        push_unknown(&mut text, key)?;
+    }
+    Ok(text)
+}
+
+// The lines of how a command ended.
+fn lines_at_end(alloc: Global, ending: &Result<Outcome, Fault>) -> Result<Vec<u8>, NoMemory>
+    ensures { IfOk result (λ text. text.items ≡ ending_lines (ending_of ending.now)) }
+{
+    match ending {
+        Ok(Outcome::Silent) => Ok(Vec::new(alloc)),
+        Ok(Outcome::SameStored { name }) => same_line(alloc, name),
+        Err(fault) => line(alloc, fault),
     }
 }
 
-/// Writes the lines of what was done, and answers the fault that is told where that fails.
-pub(crate) fn report<O: Sink>(alloc: Global, out: &mut O, outcome: &Outcome) -> Result<(), Fault>
-    ensures told { OnOk result (IsTold (O.written out.old) (finished (lines_by outcome.now)) (O.written out.new) (Rises (O.faults out.old) (O.faults out.new)) (finished (lines_by outcome.now))) }
-    ensures failed { IfErr result (λ e. IsTold (O.written out.old) (finished (lines_by outcome.now)) (O.written out.new) (Rises (O.faults out.old) (O.faults out.new)) (refused e)) }
-    ensures later { O.faults out.old ≤ O.faults out.new }
+// All lines.
+fn lines(alloc: Global, served: &Served) -> Result<Vec<u8>, NoMemory>
+    ensures { IfOk result (λ text. text.items ≡ lines_of (answer_of served.now)) }
 {
-    match outcome {
-        Outcome::Silent => Ok(()),
-        Outcome::SameStored { name } => match same_line(alloc, name) {
-            Ok(text) => report_text(out, &text),
-            Err(_) => Err(tell_text(out, Fault::NoMemory, OUT_OF_MEMORY)),
+    let mut text = unknown_lines(alloc, &served.unknown)?;
+    let end = lines_at_end(alloc, &served.ending)?;
+    text.extend_from_slice(&end)?;
+    Ok(text)
+}
+
+// The status of a command whose lines were written.
+fn status_at_end(ending: &Result<Outcome, Fault>) -> u8
+    ensures { result ≡ status (ending_of ending.now) }
+{
+    match ending {
+        Ok(_) => 0,
+        Err(fault) => status(fault),
+    }
+}
+
+/// Writes what is told of a command, and answers the status: another one where the output fails or memory runs out.
+pub(crate) fn answer<O: Sink>(alloc: Global, out: &mut O, served: &Served) -> u8
+    ensures told { (ending : Ending) × (result ≡ status ending) × IsTold (O.written out.old) (answer_of served.now) (O.written out.new) (Rises (O.faults out.old) (O.faults out.new)) ending }
+{
+    match lines(alloc, served) {
+        Ok(text) => match write_all(out, &text) {
+            Ok(()) => status_at_end(&served.ending),
+            Err(Stop::Failed) => status(&Fault::Sink),
+            Err(Stop::NoMemory) => status(&Fault::NoMemory),
         },
-    }
-}
-
-// Writes the lines of what was done.
-fn report_text<O: Sink>(out: &mut O, text: &[u8]) -> Result<(), Fault>
-    ensures told { OnOk result (IsTold (O.written out.old) (finished text.now) (O.written out.new) (Rises (O.faults out.old) (O.faults out.new)) (finished text.now)) }
-    ensures failed { IfErr result (λ e. IsTold (O.written out.old) (finished text.now) (O.written out.new) (Rises (O.faults out.old) (O.faults out.new)) (refused e)) }
-    ensures later { O.faults out.old ≤ O.faults out.new }
-{
-    match write_all(out, text) {
-        Ok(()) => Ok(()),
-        Err(Stop::Failed) => Err(Fault::Sink),
-        Err(Stop::NoMemory) => Err(Fault::NoMemory),
+        Err(_) => match write_all(out, OUT_OF_MEMORY) {
+            Ok(()) => status(&Fault::NoMemory),
+            Err(Stop::Failed) => status(&Fault::Sink),
+            Err(Stop::NoMemory) => status(&Fault::NoMemory),
+        },
     }
 }
 

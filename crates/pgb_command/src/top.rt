@@ -1,1 +1,245 @@
 // The top call.
+ghost use Rattle.std.specs.Prelude.{◌≡◌, ◌≤◌, ◌⊎◌, ◌≢◌, [], true, false, Some, ℕ, List, Option, map, IfErr, IfSome, IsSome, IsSomeAnd, OnOk, IfOk, Contains, string_bytes};
+ghost use Rattle.pgb_outside.specs.Cause.{Rises};
+ghost use Rattle.pgb_model.specs.declared.clusters.Cluster.{Cluster};
+ghost use Rattle.pgb_model.specs.Text.{Text};
+ghost use Rattle.pgb_model.specs.Steps.{Command, Reading};
+ghost use Rattle.pgb_model.specs.Steady.{PassesOnly, KeepsOn};
+ghost use Rattle.pgb_model.specs.Now.{HasNewPairs, NowDoes};
+ghost use Rattle.pgb_command.specs.Asked.{Asked, create, MayAsk, Asks};
+ghost use Rattle.pgb_command.specs.Answers.{Answer, refused, status, OnFinding, IsFinding};
+ghost use Rattle.pgb_command.specs.Cluster.{IsClusterOf};
+ghost use Rattle.pgb_command.specs.Commands.{IsCommandOf};
+ghost use Rattle.pgb_command.specs.Causes.{AskedCause, Cause};
+ghost use Rattle.pgb_command.specs.Doing.{PartDone, AllDone, NoneDone};
+ghost use Rattle.pgb_command.specs.Locking.{lock_of, Locks as IsLocked, OnlyLocked, MayHold};
+ghost use Rattle.pgb_command.specs.Outcomes.{ending_of, answer_of};
+ghost use Rattle.pgb_command.specs.Output.{Wrote};
+ghost use Rattle.pgb_command.specs.Storing.{AgreesAtPair};
+ghost use Rattle.pgb_command.specs.Told.{asked_of};
+
+use crate::archive_push::push_file;
+use crate::config::read_command;
+use crate::create::create_stanza;
+use crate::fault::Fault;
+use crate::outcome::{Outcome, Served};
+use crate::output::answer;
+use crate::outside::Outside;
+use crate::settings::{Asking, Settings, settings_of};
+use pgb_archive::Aside;
+use pgb_outside::{Clock, Disk, Link, Locks, Sink, Source, Tree, Turns, Wire};
+use std::alloc::{AllocError, Global};
+
+// Does what the settings ask for, under the lock of this name, which may be held afterwards.
+fn perform<D: Disk, T: Tree, K: Locks>(
+    alloc: Global,
+    settings: &Settings,
+    repo: &mut D,
+    tree: &mut T,
+    locks: &mut K,
+    lock: &str,
+) -> Result<Outcome, Fault>
+    requires free { ¬ Contains (K.taken locks.old) lock.now }
+    requires name { lock.now ≡ lock_of (asked_of settings.now) }
+    ensures part { PartDone (asked_of settings.now) (T.nodes tree.old) (D.view repo.old) (D.view repo.new) }
+    ensures done { OnOk result (AllDone (asked_of settings.now) (T.nodes tree.old) (D.view repo.old) (D.view repo.new)) }
+    ensures none { IfErr result (λ e. OnFinding e (NoneDone (asked_of settings.now) (D.view repo.old) (D.view repo.new))) }
+    ensures answered { AskedCause (asked_of settings.now) (D.view repo.old).now (T.nodes tree.old) (Rises (D.faults repo.old) (D.faults repo.new)) (Rises (T.faults tree.old) (T.faults tree.new)) (Rises (K.faults locks.old) (K.faults locks.new)) (Rises (K.refusals locks.old) (K.refusals locks.new)) (ending_of result) }
+    ensures places { OnOk result ((T.place tree.new ≡ settings.now.pg1_path.now) × (D.place repo.new ≡ settings.now.repo1_path.now)) }
+    ensures nodes { T.nodes tree.new ≡ T.nodes tree.old }
+    ensures locked { OnOk result (IsLocked settings.now.lock_path.now lock.now (K.took locks.old) (K.took locks.new)) }
+    ensures only_locked { OnlyLocked settings.now.lock_path.now lock.now (K.took locks.old) (K.took locks.new) (D.view repo.old) (D.view repo.new) }
+    ensures holds { MayHold lock.now (K.taken locks.old) (K.taken locks.new) }
+    ensures repo_later { D.faults repo.old ≤ D.faults repo.new }
+    ensures tree_later { T.faults tree.old ≤ T.faults tree.new }
+    ensures locks_later { K.faults locks.old ≤ K.faults locks.new }
+    ensures refusals_later { K.refusals locks.old ≤ K.refusals locks.new }
+{
+    match settings.request {
+        Asking::StanzaCreate => match create_stanza(alloc, repo, tree, locks, settings, lock) {
+            Ok(()) => Ok(Outcome::Silent),
+            Err(fault) => Err(fault),
+        },
+        Asking::ArchivePush { path } => push_file(alloc, repo, tree, locks, settings, path, lock),
+    }
+}
+
+// The name of the lock that the settings ask for.
+fn lock_name(alloc: Global, settings: &Settings) -> Result<String, AllocError>
+    ensures { IfOk result (λ name. string_bytes name ≡ lock_of (asked_of settings.now)) }
+{
+    let stanza = settings.stanza;
+    match settings.request {
+        Asking::StanzaCreate => format!(in alloc; "{stanza}-backup.lock"),
+        Asking::ArchivePush { .. } => format!(in alloc; "{stanza}-archive.lock"),
+    }
+}
+
+// Does what the settings ask for, under its lock, which is released afterwards.
+fn carry<D: Disk, T: Tree, K: Locks>(
+    alloc: Global,
+    settings: &Settings,
+    repo: &mut D,
+    tree: &mut T,
+    locks: &mut K,
+) -> Result<Outcome, Fault>
+    requires free { K.taken locks.old ≡ [] }
+    ensures part { PartDone (asked_of settings.now) (T.nodes tree.old) (D.view repo.old) (D.view repo.new) }
+    ensures done { OnOk result (AllDone (asked_of settings.now) (T.nodes tree.old) (D.view repo.old) (D.view repo.new)) }
+    ensures none { IfErr result (λ e. OnFinding e (NoneDone (asked_of settings.now) (D.view repo.old) (D.view repo.new))) }
+    ensures answered { AskedCause (asked_of settings.now) (D.view repo.old).now (T.nodes tree.old) (Rises (D.faults repo.old) (D.faults repo.new)) (Rises (T.faults tree.old) (T.faults tree.new)) (Rises (K.faults locks.old) (K.faults locks.new)) (Rises (K.refusals locks.old) (K.refusals locks.new)) (ending_of result) }
+    ensures places { OnOk result ((T.place tree.new ≡ settings.now.pg1_path.now) × (D.place repo.new ≡ settings.now.repo1_path.now)) }
+    ensures nodes { T.nodes tree.new ≡ T.nodes tree.old }
+    ensures locked { OnOk result (IsLocked settings.now.lock_path.now (lock_of (asked_of settings.now)) (K.took locks.old) (K.took locks.new)) }
+    ensures only_locked { OnlyLocked settings.now.lock_path.now (lock_of (asked_of settings.now)) (K.took locks.old) (K.took locks.new) (D.view repo.old) (D.view repo.new) }
+    ensures released { K.taken locks.new ≡ [] }
+    ensures repo_later { D.faults repo.old ≤ D.faults repo.new }
+    ensures tree_later { T.faults tree.old ≤ T.faults tree.new }
+    ensures locks_later { K.faults locks.old ≤ K.faults locks.new }
+    ensures refusals_later { K.refusals locks.old ≤ K.refusals locks.new }
+{
+    let lock = match lock_name(alloc, settings) {
+        Ok(lock) => lock,
+        Err(_) => return Err(Fault::NoMemory),
+    };
+    let done = perform(alloc, settings, repo, tree, locks, &lock);
+    locks.release(&lock);
+    done
+}
+
+// Does what the words and their configuration ask for.
+fn serve<D: Disk, T: Tree, K: Locks, I: Source>(
+    alloc: Global,
+    words: &[String],
+    config: &mut I,
+    repo: &mut D,
+    tree: &mut T,
+    locks: &mut K,
+) -> Served
+    requires free { K.taken locks.old ≡ [] }
+    ensures part { (a : Asked) → Asks (map string_bytes words.now) (I.files config.old) a → PartDone a (T.nodes tree.old) (D.view repo.old) (D.view repo.new) }
+    ensures done { OnOk result.ending ((a : Asked) → Asks (map string_bytes words.now) (I.files config.old) a → AllDone a (T.nodes tree.old) (D.view repo.old) (D.view repo.new)) }
+    ensures none { IfErr result.ending (λ e. OnFinding e ((a : Asked) → Asks (map string_bytes words.now) (I.files config.old) a → NoneDone a (D.view repo.old) (D.view repo.new))) }
+    ensures answered { Cause (map string_bytes words.now) (I.files config.old) (D.view repo.old).now (T.nodes tree.old) (Rises (D.faults repo.old) (D.faults repo.new)) (Rises (T.faults tree.old) (T.faults tree.new)) (Rises (K.faults locks.old) (K.faults locks.new)) (Rises (K.refusals locks.old) (K.refusals locks.new)) (Rises (I.faults config.old) (I.faults config.new)) ⊥ (answer_of result) }
+    ensures unasked { ((a : Asked) → ¬ MayAsk (map string_bytes words.now) (I.files config.old) a) → (repo.new ≡ repo.old) × (tree.new ≡ tree.old) × (locks.new ≡ locks.old) }
+    ensures places { OnOk result.ending ((a : Asked) → Asks (map string_bytes words.now) (I.files config.old) a → (T.place tree.new ≡ a.data_folder) × (D.place repo.new ≡ a.repository)) }
+    ensures locked { OnOk result.ending ((a : Asked) → Asks (map string_bytes words.now) (I.files config.old) a → IsLocked a.lock_folder (lock_of a) (K.took locks.old) (K.took locks.new)) }
+    ensures only_locked { (a : Asked) → Asks (map string_bytes words.now) (I.files config.old) a → OnlyLocked a.lock_folder (lock_of a) (K.took locks.old) (K.took locks.new) (D.view repo.old) (D.view repo.new) }
+    ensures released { K.taken locks.new ≡ [] }
+    ensures nodes { T.nodes tree.new ≡ T.nodes tree.old }
+    ensures files { I.files config.new ≡ I.files config.old }
+{
+    let command = match read_command(alloc, words, config) {
+        Ok(command) => command,
+        Err(fault) => {
+            return Served {
+                unknown: Vec::new(alloc),
+                ending: Err(fault),
+            };
+        }
+    };
+    let settings = match settings_of(&command) {
+        Ok(settings) => settings,
+        Err(what) => {
+            return Served {
+                unknown: command.warnings,
+                ending: Err(Fault::NotBuilt { what }),
+            };
+        }
+    };
+    let ending = carry(alloc, &settings, repo, tree, locks);
+    Served {
+        unknown: command.warnings,
+        ending,
+    }
+}
+
+/// Does what the words and their configuration ask for, writes the output, and answers the status that the program ends with.
+pub fn run<
+    D: Disk,
+    S: Disk,
+    T: Tree,
+    V: Wire,
+    A: Aside<D, S>,
+    C: Clock,
+    K: Locks,
+    I: Source,
+    O: Sink,
+    U: Turns,
+>(
+    alloc: Global,
+    words: &[String],
+    outside: &mut Outside<D, S, T, V, A, C, K, I, O>,
+    links: &mut Vec<Box<dyn Link>>,
+    turns: &mut U,
+) -> u8
+    requires free { K.taken outside.old.locks ≡ [] }
+
+    // At 0 all of the command's steps are done, and after every answer a part of them.
+    ensures done { result ≡ 0 → (a : Asked) → Asks (map string_bytes words.now) (I.files outside.old.config) a → (command : Command) → IsSomeAnd (T.nodes outside.old.tree) (λ f. IsCommandOf f a command)
+        → NowDoes a.stanza command true (D.view outside.old.repo).now (D.view outside.new.repo).now }
+    ensures part { (a : Asked) → Asks (map string_bytes words.now) (I.files outside.old.config) a → (command : Command) → IsSomeAnd (T.nodes outside.old.tree) (λ f. IsCommandOf f a command)
+        → NowDoes a.stanza command false (D.view outside.old.repo).now (D.view outside.new.repo).now }
+
+    // The same of all that a stop leaves. A disk that keeps a log keeps it with the command: all of it at 0, and a part after
+    // every answer; and whatever a stop at any moment between leaves stands for the log with a part of the command.
+    ensures kept { result ≡ 0 → (a : Asked) → Asks (map string_bytes words.now) (I.files outside.old.config) a → (command : Command) → IsSomeAnd (T.nodes outside.old.tree) (λ f. IsCommandOf f a command)
+        → KeepsOn a.stanza command true (D.view outside.old.repo) (S.view outside.old.spool) (D.view outside.new.repo) (S.view outside.new.spool) }
+    ensures keeps { (a : Asked) → Asks (map string_bytes words.now) (I.files outside.old.config) a → (command : Command) → IsSomeAnd (T.nodes outside.old.tree) (λ f. IsCommandOf f a command)
+        → KeepsOn a.stanza command false (D.view outside.old.repo) (S.view outside.old.spool) (D.view outside.new.repo) (S.view outside.new.spool) }
+    ensures between { (a : Asked) → Asks (map string_bytes words.now) (I.files outside.old.config) a → (command : Command) → IsSomeAnd (T.nodes outside.old.tree) (λ f. IsCommandOf f a command)
+        → PassesOnly a.stanza command (D.view outside.old.repo) (D.view outside.new.repo) }
+
+    // Words that ask for nothing do nothing.
+    ensures unasked { ((a : Asked) → ¬ MayAsk (map string_bytes words.now) (I.files outside.old.config) a) → (outside.new.repo ≡ outside.old.repo) × (outside.new.tree ≡ outside.old.tree) × (outside.new.locks ≡ outside.old.locks) }
+
+    // A refusal for what was found takes no step; of stanza-create it changes nothing at all.
+    ensures stays { IsFinding result → (a : Asked) → Asks (map string_bytes words.now) (I.files outside.old.config) a → NowDoes a.stanza Reading true (D.view outside.old.repo).now (D.view outside.new.repo).now
+        × KeepsOn a.stanza Reading true (D.view outside.old.repo) (S.view outside.old.spool) (D.view outside.new.repo) (S.view outside.new.spool) }
+    ensures refused { IsFinding result → (a : Asked) → Asks (map string_bytes words.now) (I.files outside.old.config) a → a.request ≡ create → (D.view outside.new.repo).now ≡ (D.view outside.old.repo).now }
+
+    // At 0 the members of the archive pair agree, and all four info files of a new stanza are those of the cluster. The opened
+    // places are those of the words.
+    ensures agrees { result ≡ 0 → (a : Asked) → Asks (map string_bytes words.now) (I.files outside.old.config) a → IsSome (D.view outside.old.repo).now → IfSome (D.view outside.new.repo).now (AgreesAtPair a.stanza) }
+    ensures members { result ≡ 0 → (a : Asked) → Asks (map string_bytes words.now) (I.files outside.old.config) a → a.request ≡ create → (c : Cluster) → IsSomeAnd (T.nodes outside.old.tree) (λ f. IsClusterOf f (Some c)) → IsSome (D.view outside.old.repo).now
+        → IfSome (D.view outside.new.repo).now (HasNewPairs a.stanza c) }
+    ensures places { result ≡ 0 → (a : Asked) → Asks (map string_bytes words.now) (I.files outside.old.config) a → (T.place outside.new.tree ≡ a.data_folder) × (D.place outside.new.repo ≡ a.repository) }
+
+    // At 0 the command's lock was taken, and without it nothing is done. No lock is held afterwards.
+    ensures locked { result ≡ 0 → (a : Asked) → Asks (map string_bytes words.now) (I.files outside.old.config) a → IsLocked a.lock_folder (lock_of a) (K.took outside.old.locks) (K.took outside.new.locks) }
+    ensures only_locked { (a : Asked) → Asks (map string_bytes words.now) (I.files outside.old.config) a → OnlyLocked a.lock_folder (lock_of a) (K.took outside.old.locks) (K.took outside.new.locks) (D.view outside.old.repo) (D.view outside.new.repo) }
+    ensures released { K.taken outside.new.locks ≡ [] }
+
+    // Each answer has its cause, and the output is the answer's. Where no cause of a refusal holds the answer is Ok, or want of memory.
+    ensures answered { (answer : Answer) × (result ≡ status answer.ending)
+        × Cause (map string_bytes words.now) (I.files outside.old.config) (D.view outside.old.repo).now (T.nodes outside.old.tree)
+        (Rises (D.faults outside.old.repo) (D.faults outside.new.repo)) (Rises (T.faults outside.old.tree) (T.faults outside.new.tree)) (Rises (K.faults outside.old.locks) (K.faults outside.new.locks))
+        (Rises (K.refusals outside.old.locks) (K.refusals outside.new.locks)) (Rises (I.faults outside.old.config) (I.faults outside.new.config)) (Rises (O.faults outside.old.out) (O.faults outside.new.out)) answer
+        × Wrote (λ given. Cause (map string_bytes words.now) (I.files outside.old.config) (D.view outside.old.repo).now (T.nodes outside.old.tree)
+        (Rises (D.faults outside.old.repo) (D.faults outside.new.repo)) (Rises (T.faults outside.old.tree) (T.faults outside.new.tree)) (Rises (K.faults outside.old.locks) (K.faults outside.new.locks))
+        (Rises (K.refusals outside.old.locks) (K.refusals outside.new.locks)) (Rises (I.faults outside.old.config) (I.faults outside.new.config)) (Rises (O.faults outside.old.out) (O.faults outside.new.out)) given)
+        (O.written outside.old.out) answer (O.written outside.new.out) }
+    ensures complete { ((unknown : List Text) (fault : Fault) → status (refused fault) ≢ 90 → ¬ Cause (map string_bytes words.now) (I.files outside.old.config) (D.view outside.old.repo).now (T.nodes outside.old.tree)
+        (Rises (D.faults outside.old.repo) (D.faults outside.new.repo)) (Rises (T.faults outside.old.tree) (T.faults outside.new.tree)) (Rises (K.faults outside.old.locks) (K.faults outside.new.locks))
+        (Rises (K.refusals outside.old.locks) (K.refusals outside.new.locks)) (Rises (I.faults outside.old.config) (I.faults outside.new.config)) (Rises (O.faults outside.old.out) (O.faults outside.new.out)) (record { unknown = unknown; ending = refused fault }))
+        → (result ≡ 0) ⊎ (result ≡ 90) }
+
+    // What the command doesn't use stays, and the data folder and the configuration with it.
+    ensures nodes { T.nodes outside.new.tree ≡ T.nodes outside.old.tree }
+    ensures files { I.files outside.new.config ≡ I.files outside.old.config }
+    ensures untouched { outside.new ≡ record outside.old { repo = outside.new.repo; tree = outside.new.tree; locks = outside.new.locks; config = outside.new.config; out = outside.new.out } }
+    ensures links { links.new ≡ links.old }
+    ensures turns { turns.new ≡ turns.old }
+{
+    let _ = links;
+    let _ = turns;
+    let served = serve(
+        alloc,
+        words,
+        &mut outside.config,
+        &mut outside.repo,
+        &mut outside.tree,
+        &mut outside.locks,
+    );
+    answer(alloc, &mut outside.out, &served)
+}

@@ -16,5 +16,5 @@ mod words;
 pub use options::{KindWord, Options, OutputWord, RestoreWord};
 pub use path::{ConfigPath, config_path};
 pub use settle::{Command, settle_words};
-pub use table::Verb;
+pub use table::{Opt, Verb, verb_word};
 pub use usage::Usage;

@@ -22,7 +22,7 @@ pub enum Verb {
 
 // An option that some command has. Two commands have an option `type`, each with words of its own.
 #[derive(Clone, Copy, Debug, PartialEq, Eq)]
-pub(crate) enum Opt {
+pub enum Opt {
     Stanza,
     Pg1Path,
     Pg1Port,
@@ -593,7 +593,8 @@ pub(crate) fn row_for(option: Opt) -> Row
     }
 }
 
-pub(crate) fn verb_word(verb: Verb) -> &'static str
+/// The word of a command, as it is spelled in the words.
+pub fn verb_word(verb: Verb) -> &'static str
     ensures { result.now ≡ verb_word verb }
 {
     match verb {

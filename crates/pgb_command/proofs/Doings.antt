@@ -1,0 +1,114 @@
+-- What a command did, whichever it is.
+use Rattle.std.proofs.Common.{◌≡◌, inl, Option, Some, None, Result, Ok, Err, IfOk, IfErr, true, false, refl, sym, ◌∙◌, subst}
+use Rattle.std.specs.Prelude.{IfSome, IsSome, IsSomeAnd, OnOk}
+use Rattle.pgb_outside.specs.Content.{Content}
+use Rattle.pgb_outside.specs.Moments.{View, Rests}
+use Rattle.pgb_outside.specs.Tree.{Nodes}
+use Rattle.pgb_model.specs.declared.clusters.Cluster.{Cluster}
+use Rattle.pgb_model.specs.Text.{Text}
+use Rattle.pgb_model.specs.Steps.{Command, StanzaCreate, Reading}
+use Rattle.pgb_model.specs.Steady.{CarriesOn, PassesOnly}
+use Rattle.pgb_model.specs.Now.{HasNewPairs, NowDoes}
+use Rattle.pgb_model.proofs.Done.{nothing_done}
+use Rattle.pgb_command.specs.declared.fault.Fault.{Fault}
+use Rattle.pgb_command.specs.declared.fault.Fault.TheVariants.{NoMemory}
+use Rattle.pgb_command.specs.declared.outcome.Outcome.{Outcome}
+use Rattle.pgb_command.specs.Answers.{finished, refused}
+use Rattle.pgb_command.specs.Asked.{Request, create, push, Asked}
+use Rattle.pgb_command.specs.Causes.{CreateCause, PushFileCause, IsStored, AskedCause, Creating, Stored, Pushing}
+use Rattle.pgb_command.specs.Cluster.{IsClusterOf}
+use Rattle.pgb_command.specs.Commands.{IsPushOf, IsRequestOf, IsCommandOf}
+use Rattle.pgb_command.specs.Doing.{PartDone, AllDone, NoneDone}
+use Rattle.pgb_command.specs.Outcomes.{lines_by, ending_of}
+use Rattle.pgb_command.specs.Storing.{AgreesAtPair}
+use Rattle.pgb_command.proofs.Carries.{rests_carry, rests_pass}
+use Rattle.pgb_command.proofs.Chains.{rests_none, still_does}
+use Rattle.pgb_command.proofs.Pushes.{as_push, none_carried}
+
+-- ---- nothing was done
+
+pub none_part : (a : Asked) (nodes : Option Nodes) (v : View) → PartDone a nodes v v
+none_part a nodes v = record {
+  part = λ command asked. nothing_done a.stanza command v.now v.now refl;
+  carries = λ command asked. rests_carry a.stanza command v v (rests_none v) refl;
+  between = λ command asked. rests_pass a.stanza command v v (rests_none v) refl;
+}
+
+pub none_done : (a : Asked) (v : View) → NoneDone a v v
+none_done a v = record { stays = still_does a.stanza v.now v.now refl; carried = none_carried a.stanza v; unchanged = λ is. refl }
+
+-- ---- stanza-create
+
+as_create : (nodes : Option Nodes) (folder : Text) (request : Request) (Q : Command → Type 0) → request ≡ create → ((cluster : Option Cluster) → IsSomeAnd nodes (λ f. IsClusterOf f cluster) → Q (StanzaCreate cluster)) →
+    (command : Command) → IsSomeAnd nodes (λ f. IsRequestOf f folder request command) → Q command
+as_create None folder request Q is all command asked = absurd asked
+as_create (Some f) folder request Q is all command asked =
+    let x = subst (λ (r : Request). IsRequestOf f folder r command) is asked in
+    subst Q (sym x.2) (all x.0 x.1)
+
+module _ (a : Asked) (nodes : Option Nodes) (old new : View) (is : a.request ≡ create) where
+  pub create_part : ((cluster : Option Cluster) → IsSomeAnd nodes (λ f. IsClusterOf f cluster) → NowDoes a.stanza (StanzaCreate cluster) false old.now new.now) →
+      ((cluster : Option Cluster) → IsSomeAnd nodes (λ f. IsClusterOf f cluster) → CarriesOn a.stanza (StanzaCreate cluster) false old new) →
+      ((cluster : Option Cluster) → IsSomeAnd nodes (λ f. IsClusterOf f cluster) → PassesOnly a.stanza (StanzaCreate cluster) old new) → PartDone a nodes old new
+  create_part part carries between = record {
+    part = as_create nodes a.data_folder a.request (λ k. NowDoes a.stanza k false old.now new.now) is part;
+    carries = as_create nodes a.data_folder a.request (λ k. CarriesOn a.stanza k false old new) is carries;
+    between = as_create nodes a.data_folder a.request (λ k. PassesOnly a.stanza k old new) is between;
+  }
+
+  pub create_done : ((cluster : Option Cluster) → IsSomeAnd nodes (λ f. IsClusterOf f cluster) → NowDoes a.stanza (StanzaCreate cluster) true old.now new.now) →
+      ((cluster : Option Cluster) → IsSomeAnd nodes (λ f. IsClusterOf f cluster) → CarriesOn a.stanza (StanzaCreate cluster) true old new) →
+      (IsSome old.now → IfSome new.now (AgreesAtPair a.stanza)) →
+      ((c : Cluster) → IsSomeAnd nodes (λ f. IsClusterOf f (Some c)) → IsSome old.now → IfSome new.now (HasNewPairs a.stanza c)) → AllDone a nodes old new
+  create_done done carried agrees members = record {
+    done = as_create nodes a.data_folder a.request (λ k. NowDoes a.stanza k true old.now new.now) is done;
+    carried = as_create nodes a.data_folder a.request (λ k. CarriesOn a.stanza k true old new) is carried;
+    agrees = agrees;
+    members = λ same. members;
+  }
+
+pub create_none : (a : Asked) (old new : View) → new.now ≡ old.now → CarriesOn a.stanza Reading true old new → NoneDone a old new
+create_none a old new same carried = record { stays = still_does a.stanza old.now new.now same; carried = carried; unchanged = λ is. same }
+
+-- ---- archive-push
+
+not_both : {P : Type 0} (request : Request) (path : Text) → request ≡ push path → request ≡ create → P
+not_both request path is other = let e : ◌≡◌ {A = Request} create (push path) = sym other ∙ is in cc
+
+module _ (a : Asked) (path : Text) (nodes : Option Nodes) (old new : View) (is : a.request ≡ push path) where
+  pub push_part : ((command : Command) → IsSomeAnd nodes (λ f. IsPushOf f a.data_folder path command) → NowDoes a.stanza command false old.now new.now) →
+      ((command : Command) → IsSomeAnd nodes (λ f. IsPushOf f a.data_folder path command) → CarriesOn a.stanza command false old new) →
+      ((command : Command) → IsSomeAnd nodes (λ f. IsPushOf f a.data_folder path command) → PassesOnly a.stanza command old new) → PartDone a nodes old new
+  push_part part carries between = record {
+    part = λ command asked. part command (as_push nodes a.data_folder path a.request command is asked);
+    carries = λ command asked. carries command (as_push nodes a.data_folder path a.request command is asked);
+    between = λ command asked. between command (as_push nodes a.data_folder path a.request command is asked);
+  }
+
+  pub push_done : {T E : Type 0} (result : Result T E) → OnOk result ((command : Command) → IsSomeAnd nodes (λ f. IsPushOf f a.data_folder path command) → NowDoes a.stanza command true old.now new.now) →
+      OnOk result ((command : Command) → IsSomeAnd nodes (λ f. IsPushOf f a.data_folder path command) → CarriesOn a.stanza command true old new) →
+      OnOk result (IsSome old.now → IfSome new.now (AgreesAtPair a.stanza)) → OnOk result (AllDone a nodes old new)
+  push_done (Ok x) done carried agrees = record {
+    done = λ command asked. done command (as_push nodes a.data_folder path a.request command is asked);
+    carried = λ command asked. carried command (as_push nodes a.data_folder path a.request command is asked);
+    agrees = agrees;
+    members = λ other. not_both a.request path is other;
+  }
+  push_done (Err e) done carried agrees = tt
+
+  pub push_none : NowDoes a.stanza Reading true old.now new.now × CarriesOn a.stanza Reading true old new → NoneDone a old new
+  push_none x = record { stays = x.0; carried = x.1; unchanged = λ other. not_both a.request path is other }
+
+  pub push_answer : (result : Result Outcome Fault) (repo : Option Content) (d t l h : Type 0) → IfOk result (λ x. IsStored a.stanza a.data_folder path repo nodes (lines_by x)) →
+      IfErr result (PushFileCause a.stanza a.data_folder path repo nodes d t l h) → AskedCause a repo nodes d t l h (ending_of result)
+  push_answer (Ok x) repo d t l h stored cause = Stored path (lines_by x) is stored
+  push_answer (Err e) repo d t l h stored cause = Pushing path e is cause
+
+-- ---- want of memory
+
+pub starved : (a : Asked) (repo : Option Content) (nodes : Option Nodes) (d t l h : Type 0) → AskedCause a repo nodes d t l h (refused NoMemory)
+starved a repo nodes d t l h = go a.request refl
+  where
+    go : (request : Request) → a.request ≡ request → AskedCause a repo nodes d t l h (refused NoMemory)
+    go create is = Creating NoMemory is tt
+    go (push path) is = Pushing path NoMemory is (inl tt)

@@ -1,0 +1,61 @@
+use Rattle.std.proofs.Common.{◌∙◌, ap, sym, true, false}
+use Rattle.pgb_command.specs.Answers.{Answer, status}
+use Rattle.pgb_command.specs.Outcomes.{answer_of}
+use Rattle.pgb_command.proofs.Causes.{told_cause, at_zero, at_finding, completes}
+use Rattle.pgb_command.proofs.Pushes.{command_keeps, reading_keeps}
+use Rattle.pgb_command.proofs.top.run.Goals as goal
+
+pub returns-clause-done : goal.returns-clause-done
+returns-clause-done g c = λ zero a asks command asked. let t = c.answer.ensures.told in
+    let all = at_zero _ c.serve-served.result.ending _ _ _ _ t.0 _ t.2 t.1 zero c.serve-served.ensures.done in
+    (all a asks).done command asked
+
+pub returns-clause-part : goal.returns-clause-part
+returns-clause-part g c = λ a asks command asked. (c.serve-served.ensures.part a asks).part command asked
+
+pub returns-clause-kept : goal.returns-clause-kept
+returns-clause-kept g c = λ zero a asks command asked. let t = c.answer.ensures.told in
+    let all = at_zero _ c.serve-served.result.ending _ _ _ _ t.0 _ t.2 t.1 zero c.serve-served.ensures.done in
+    command_keeps a.stanza (g.T.Tree.nodes c.args.outside.now.tree) a.data_folder a.request command true _ _ _ asked ((all a asks).carried command asked)
+
+pub returns-clause-keeps : goal.returns-clause-keeps
+returns-clause-keeps g c = λ a asks command asked. command_keeps a.stanza (g.T.Tree.nodes c.args.outside.now.tree) a.data_folder a.request command false _ _ _ asked ((c.serve-served.ensures.part a asks).carries command asked)
+
+pub returns-clause-between : goal.returns-clause-between
+returns-clause-between g c = λ a asks command asked. (c.serve-served.ensures.part a asks).between command asked
+
+pub returns-clause-stays : goal.returns-clause-stays
+returns-clause-stays g c = λ finding a asks. let t = c.answer.ensures.told in
+    let none = at_finding _ c.serve-served.result.ending _ _ _ _ t.0 _ t.2 t.1 finding c.serve-served.ensures.none in
+    ((none a asks).stays, reading_keeps a.stanza _ _ _ (none a asks).carried)
+
+pub returns-clause-refused : goal.returns-clause-refused
+returns-clause-refused g c = λ finding a asks. let t = c.answer.ensures.told in
+    let none = at_finding _ c.serve-served.result.ending _ _ _ _ t.0 _ t.2 t.1 finding c.serve-served.ensures.none in
+    (none a asks).unchanged
+
+pub returns-clause-agrees : goal.returns-clause-agrees
+returns-clause-agrees g c = λ zero a asks. let t = c.answer.ensures.told in
+    let all = at_zero _ c.serve-served.result.ending _ _ _ _ t.0 _ t.2 t.1 zero c.serve-served.ensures.done in
+    (all a asks).agrees
+
+pub returns-clause-members : goal.returns-clause-members
+returns-clause-members g c = λ zero a asks. let t = c.answer.ensures.told in
+    let all = at_zero _ c.serve-served.result.ending _ _ _ _ t.0 _ t.2 t.1 zero c.serve-served.ensures.done in
+    (all a asks).members
+
+pub returns-clause-places : goal.returns-clause-places
+returns-clause-places g c = λ zero. let t = c.answer.ensures.told in at_zero _ c.serve-served.result.ending _ _ _ _ t.0 _ t.2 t.1 zero c.serve-served.ensures.places
+
+pub returns-clause-locked : goal.returns-clause-locked
+returns-clause-locked g c = λ zero. let t = c.answer.ensures.told in at_zero _ c.serve-served.result.ending _ _ _ _ t.0 _ t.2 t.1 zero c.serve-served.ensures.locked
+
+pub returns-clause-answered : goal.returns-clause-answered
+returns-clause-answered g c = let t = c.answer.ensures.told in
+    let b = told_cause _ _ _ _ _ _ _ _ _ _ _ _ (answer_of c.serve-served.result) t.0 c.serve-served.ensures.answered t.2 in
+    (b.0, t.1 ∙ ap status (sym b.1), b.2, b.3)
+
+pub returns-clause-complete : goal.returns-clause-complete
+returns-clause-complete g c = λ none. let t = c.answer.ensures.told in
+    let b = told_cause _ _ _ _ _ _ _ _ _ _ _ _ (answer_of c.serve-served.result) t.0 c.serve-served.ensures.answered t.2 in
+    completes _ _ _ _ _ _ _ _ _ _ b.0 _ b.2 none (t.1 ∙ ap status (sym b.1))

@@ -1,0 +1,120 @@
+use Rattle.std.proofs.Common.{◌≡◌, ap, map, string_bytes, true, false, Err}
+use Rattle.pgb_command.specs.declared.outcome.Outcome.{Outcome}
+use Rattle.pgb_command.specs.Asked.{Asked}
+use Rattle.pgb_command.specs.Doing.{PartDone, AllDone, NoneDone}
+use Rattle.pgb_command.specs.Locking.{lock_of, Locks as IsLocked, OnlyLocked}
+use Rattle.pgb_command.specs.Outcomes.{ending_of}
+use Rattle.pgb_command.specs.Told.{asked_of}
+use Rattle.pgb_command.proofs.Asked.{may_ask, for_asked, ok_as}
+use Rattle.pgb_command.proofs.Doings.{none_part, none_done}
+use Rattle.pgb_command.proofs.Pushes.{finding_all, finding_as}
+use Rattle.pgb_command.proofs.Served.{refused_as, unknown_as, asking_as}
+use Rattle.pgb_command.proofs.top.serve.Goals as goal
+
+pub returns-in-Err-clause-part : goal.returns-in-Err-clause-part
+returns-in-Err-clause-part g c = λ a asks. none_part a (g.T.Tree.nodes c.args.tree.now) (g.D.Disk.view c.args.repo.now)
+
+pub returns-in-Err-clause-none : goal.returns-in-Err-clause-none
+returns-in-Err-clause-none g c = finding_all {T = Outcome} (Err c.in-Err.fault) _ (λ a asks. none_done a (g.D.Disk.view c.args.repo.now))
+
+pub returns-in-Err-clause-answered : goal.returns-in-Err-clause-answered
+returns-in-Err-clause-answered g c = refused_as _ _ _ _ _ _ _ _ _ _ c.in-Err.fault (ap (map string_bytes) c.new.ensures.items) c.in-Err.ensures.cause
+
+pub returns-in-Err-settings_of-clause-part : goal.returns-in-Err-settings_of-clause-part
+returns-in-Err-settings_of-clause-part g c = λ a asks. none_part a (g.T.Tree.nodes c.args.tree.now) (g.D.Disk.view c.args.repo.now)
+
+pub returns-in-Err-settings_of-clause-none : goal.returns-in-Err-settings_of-clause-none
+returns-in-Err-settings_of-clause-none g c = λ a asks. none_done a (g.D.Disk.view c.args.repo.now)
+
+pub returns-in-Err-settings_of-clause-answered : goal.returns-in-Err-settings_of-clause-answered
+returns-in-Err-settings_of-clause-answered g c =
+    let x = c.in-Ok.ensures.command in
+    unknown_as _ _ _ _ _ _ _ _ _ _ x.0 c.in-Err-settings_of.what x.2.warnings x.1 (c.in-Err-settings_of.ensures.unbuilt x.0 x.2)
+
+pub returns-clause-part : goal.returns-clause-part
+returns-clause-part g c =
+    let x = c.in-Ok.ensures.command in
+    let words = map string_bytes c.args.words.now in
+    let files = g.I.Source.files c.args.config.now in
+    let nodes = g.T.Tree.nodes c.args.tree.now in
+    let old = g.D.Disk.view c.args.repo.now in
+    let new = g.D.Disk.view c.carry-ending.new.repo in
+    let may = may_ask words files x.0 x.1 (asked_of c.in-Ok-settings_of.settings) (c.in-Ok-settings_of.ensures.asked x.0 x.2) in
+    for_asked words files (λ (a : Asked). PartDone a nodes old new) (asked_of c.in-Ok-settings_of.settings) may c.carry-ending.ensures.part
+
+pub returns-clause-done : goal.returns-clause-done
+returns-clause-done g c =
+    let x = c.in-Ok.ensures.command in
+    let words = map string_bytes c.args.words.now in
+    let files = g.I.Source.files c.args.config.now in
+    let nodes = g.T.Tree.nodes c.args.tree.now in
+    let old = g.D.Disk.view c.args.repo.now in
+    let new = g.D.Disk.view c.carry-ending.new.repo in
+    let may = may_ask words files x.0 x.1 (asked_of c.in-Ok-settings_of.settings) (c.in-Ok-settings_of.ensures.asked x.0 x.2) in
+    ok_as c.carry-ending.result _ _ (for_asked words files (λ (a : Asked). AllDone a nodes old new) (asked_of c.in-Ok-settings_of.settings) may) c.carry-ending.ensures.done
+
+pub returns-clause-none : goal.returns-clause-none
+returns-clause-none g c =
+    let x = c.in-Ok.ensures.command in
+    let words = map string_bytes c.args.words.now in
+    let files = g.I.Source.files c.args.config.now in
+    let nodes = g.T.Tree.nodes c.args.tree.now in
+    let old = g.D.Disk.view c.args.repo.now in
+    let new = g.D.Disk.view c.carry-ending.new.repo in
+    let may = may_ask words files x.0 x.1 (asked_of c.in-Ok-settings_of.settings) (c.in-Ok-settings_of.ensures.asked x.0 x.2) in
+    finding_as c.carry-ending.result _ _ (for_asked words files (λ (a : Asked). NoneDone a old new) (asked_of c.in-Ok-settings_of.settings) may) c.carry-ending.ensures.none
+
+pub returns-clause-answered : goal.returns-clause-answered
+returns-clause-answered g c =
+    let x = c.in-Ok.ensures.command in
+    let words = map string_bytes c.args.words.now in
+    let files = g.I.Source.files c.args.config.now in
+    let nodes = g.T.Tree.nodes c.args.tree.now in
+    let old = g.D.Disk.view c.args.repo.now in
+    let new = g.D.Disk.view c.carry-ending.new.repo in
+    let may = may_ask words files x.0 x.1 (asked_of c.in-Ok-settings_of.settings) (c.in-Ok-settings_of.ensures.asked x.0 x.2) in
+    asking_as _ _ _ _ _ _ _ _ _ _ x.0 (asked_of c.in-Ok-settings_of.settings) (ending_of c.carry-ending.result) x.2.warnings x.1 (c.in-Ok-settings_of.ensures.asked x.0 x.2) c.carry-ending.ensures.answered
+
+pub returns-clause-unasked : goal.returns-clause-unasked
+returns-clause-unasked g c =
+    let x = c.in-Ok.ensures.command in
+    let words = map string_bytes c.args.words.now in
+    let files = g.I.Source.files c.args.config.now in
+    let nodes = g.T.Tree.nodes c.args.tree.now in
+    let old = g.D.Disk.view c.args.repo.now in
+    let new = g.D.Disk.view c.carry-ending.new.repo in
+    let may = may_ask words files x.0 x.1 (asked_of c.in-Ok-settings_of.settings) (c.in-Ok-settings_of.ensures.asked x.0 x.2) in
+    λ none. absurd (none (asked_of c.in-Ok-settings_of.settings) may)
+
+pub returns-clause-places : goal.returns-clause-places
+returns-clause-places g c =
+    let x = c.in-Ok.ensures.command in
+    let words = map string_bytes c.args.words.now in
+    let files = g.I.Source.files c.args.config.now in
+    let nodes = g.T.Tree.nodes c.args.tree.now in
+    let old = g.D.Disk.view c.args.repo.now in
+    let new = g.D.Disk.view c.carry-ending.new.repo in
+    let may = may_ask words files x.0 x.1 (asked_of c.in-Ok-settings_of.settings) (c.in-Ok-settings_of.ensures.asked x.0 x.2) in
+    ok_as c.carry-ending.result _ _ (for_asked words files (λ (a : Asked). (g.T.Tree.place c.carry-ending.new.tree ≡ a.data_folder) × (g.D.Disk.place c.carry-ending.new.repo ≡ a.repository)) (asked_of c.in-Ok-settings_of.settings) may) c.carry-ending.ensures.places
+
+pub returns-clause-locked : goal.returns-clause-locked
+returns-clause-locked g c =
+    let x = c.in-Ok.ensures.command in
+    let words = map string_bytes c.args.words.now in
+    let files = g.I.Source.files c.args.config.now in
+    let nodes = g.T.Tree.nodes c.args.tree.now in
+    let old = g.D.Disk.view c.args.repo.now in
+    let new = g.D.Disk.view c.carry-ending.new.repo in
+    let may = may_ask words files x.0 x.1 (asked_of c.in-Ok-settings_of.settings) (c.in-Ok-settings_of.ensures.asked x.0 x.2) in
+    ok_as c.carry-ending.result _ _ (for_asked words files (λ (a : Asked). IsLocked a.lock_folder (lock_of a) (g.K.Locks.took c.args.locks.now) (g.K.Locks.took c.carry-ending.new.locks)) (asked_of c.in-Ok-settings_of.settings) may) c.carry-ending.ensures.locked
+
+pub returns-clause-only_locked : goal.returns-clause-only_locked
+returns-clause-only_locked g c =
+    let x = c.in-Ok.ensures.command in
+    let words = map string_bytes c.args.words.now in
+    let files = g.I.Source.files c.args.config.now in
+    let nodes = g.T.Tree.nodes c.args.tree.now in
+    let old = g.D.Disk.view c.args.repo.now in
+    let new = g.D.Disk.view c.carry-ending.new.repo in
+    let may = may_ask words files x.0 x.1 (asked_of c.in-Ok-settings_of.settings) (c.in-Ok-settings_of.ensures.asked x.0 x.2) in
+    for_asked words files (λ (a : Asked). OnlyLocked a.lock_folder (lock_of a) (g.K.Locks.took c.args.locks.now) (g.K.Locks.took c.carry-ending.new.locks) old new) (asked_of c.in-Ok-settings_of.settings) may c.carry-ending.ensures.only_locked

@@ -1,0 +1,88 @@
+-- What a command is told by its words and its configuration (pgBackRest command reference and configuration reference).
+use Rattle.std.specs.Prelude.{◌≡◌, ◌≤◌, ℕ, ◌^◌, Bool, false, List, [], ◌∷◌, length, Option, Some, None, Result, Ok, Err, IfSome, IsSome, if◌then◌else◌}
+use Rattle.pgb_outside.specs.Content.{Content}
+use Rattle.pgb_model.specs.Text.{Text}
+use Rattle.pgb_options.specs.declared.table.Opt.{Opt}
+use Rattle.pgb_options.specs.declared.table.Opt.TheVariants.{Pg1Path, Repo1Path, LockPath, Online, ArchiveAsync}
+use Rattle.pgb_options.specs.declared.table.Verb.{Verb}
+use Rattle.pgb_options.specs.declared.table.Verb.TheVariants.{StanzaCreate, ArchivePush}
+use Rattle.pgb_options.specs.Faults.{Fault}
+use Rattle.pgb_options.specs.Filled.{text_in, flag_in, or_else}
+use Rattle.pgb_options.specs.Paths.{Path, nowhere, usual, named, path_of_words}
+use Rattle.pgb_options.specs.Settings.{Source, Settled, value, settled_words}
+use Rattle.pgb_command.specs.declared.fault.Unbuilt.{Unbuilt}
+use Rattle.pgb_command.specs.declared.fault.Unbuilt.TheVariants.{Command, Server, Background}
+
+-- ---- the configuration
+
+-- it has at most 1 MiB (own)
+abbrev pub config_limit : ℕ
+config_limit = 2 ^ 20
+
+-- The bytes of the configuration that is named, as far as the files are told: none where there is none to read, or where the usual file isn't there.
+abbrev pub MayHave : Option Content → Path → Text → Type 0
+MayHave files nowhere bytes = bytes ≡ []
+MayHave files (usual path) bytes = IfSome files (λ f. or_else [] (f path) ≡ bytes)
+MayHave files (named path) bytes = IfSome files (λ f. f path ≡ Some bytes)
+
+-- what the words and their configuration settle: settings, or the first fault
+pub record Settles (words : List Text) (files : Option Content) (read : Result Settled Fault) : Type 0 where
+  pub path : Path
+  pub is_path : path_of_words words ≡ Ok path
+  pub bytes : Text
+  pub has : MayHave files path bytes
+  pub fits : length bytes ≤ config_limit
+  pub settled : settled_words words bytes ≡ read
+
+-- ---- what is asked
+
+-- which command, and the file that archive-push is to store
+pub data Request : Type 0 where
+  create : Request
+  push : (path : Text) → Request
+
+abbrev pub first_of : List Text → Text
+first_of [] = []
+first_of (x ∷ xs) = x
+
+-- what a verb asks for, with a server or in the background where that is in force, and its parameters; or what isn't built
+abbrev pub request_by : Verb → Bool → Bool → List Text → Result Request Unbuilt
+request_by StanzaCreate online background given = if online then Err Server else Ok create
+request_by ArchivePush online background given = if background then Err Background else Ok (push (first_of given))
+request_by verb online background given = Err (Command verb)
+
+abbrev pub path_in : Source → Opt → Text
+path_in source option = or_else [] (text_in (value source option))
+
+abbrev pub is_on : Source → Opt → Bool
+is_on source option = or_else false (flag_in (value source option))
+
+abbrev pub requested : Settled → Result Request Unbuilt
+requested s = request_by s.source.verb (is_on s.source Online) (is_on s.source ArchiveAsync) s.parameters
+
+-- what a command is told: the stanza, the data folder, the repository's folder and that of the locks, and what it is to do
+pub record Asked : Type 0 where
+  pub stanza : Text
+  pub data_folder : Text
+  pub repository : Text
+  pub lock_folder : Text
+  pub request : Request
+
+-- the settings ask for this
+pub record IsAsked (s : Settled) (a : Asked) : Type 0 where
+  pub stanza : a.stanza ≡ s.stanza
+  pub data_folder : a.data_folder ≡ path_in s.source Pg1Path
+  pub repository : a.repository ≡ path_in s.source Repo1Path
+  pub lock_folder : a.lock_folder ≡ path_in s.source LockPath
+  pub request : requested s ≡ Ok a.request
+
+-- the words ask for this, as far as the configuration is told
+pub record MayAsk (words : List Text) (files : Option Content) (a : Asked) : Type 0 where
+  pub settings : Settled
+  pub settles : Settles words files (Ok settings)
+  pub is : IsAsked settings a
+
+-- the words ask for this
+pub record Asks (words : List Text) (files : Option Content) (a : Asked) : Type 0 where
+  pub told : IsSome files
+  pub asks : MayAsk words files a

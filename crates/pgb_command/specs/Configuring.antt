@@ -1,0 +1,31 @@
+-- Why the words and their configuration give no command.
+use Rattle.std.specs.Prelude.{◌≡◌, ◌⊎◌, ◌<◌, ℕ, List, length, Option, Some, None, Result, Ok, IfSome, IsSomeAnd, string_bytes}
+use Rattle.pgb_outside.specs.Content.{Content}
+use Rattle.pgb_model.specs.Text.{Text}
+use Rattle.pgb_options.specs.Faults.{Fault as Refusal}
+use Rattle.pgb_options.specs.Paths.{Path, nowhere, usual, named, path_of_words}
+use Rattle.pgb_options.specs.Settings.{Settled}
+use Rattle.pgb_options.specs.Views.{Fails}
+use Rattle.pgb_command.specs.declared.fault.Fault.{Fault}
+use Rattle.pgb_command.specs.declared.fault.Fault.TheVariants.{Settings, ConfigMissing, TooLong, Source, NoMemory}
+use Rattle.pgb_command.specs.Asked.{config_limit, Settles}
+
+-- the path of a configuration that is read
+abbrev pub IsPathOf : Path → Text → Type 0
+IsPathOf nowhere path = ⊥
+IsPathOf (usual text) path = path ≡ text
+IsPathOf (named text) path = path ≡ text
+
+-- a file at this path isn't there, or is too long, or its source failed
+abbrev pub SourceCause : Text → ℕ → Option Content → Type 0 → Fault → Type 0
+SourceCause path limit files rose (TooLong name most) = (string_bytes name ≡ path) × (most ≡ limit) × IfSome files (λ f. IsSomeAnd (f path) (λ b. limit < length b))
+SourceCause path limit files rose Source = rose
+SourceCause path limit files rose NoMemory = Unit {0}
+SourceCause path limit files rose other = ⊥
+
+-- what the words say of the configuration is refused, or what the two settle is, or the configuration can't be had
+abbrev pub ConfigCause : List Text → Option Content → Type 0 → Fault → Type 0
+ConfigCause words files rose (Settings usage) = Fails usage (path_of_words words) ⊎ ((read : Result Settled Refusal) × Settles words files read × Fails usage read)
+ConfigCause words files rose (ConfigMissing path) = (path_of_words words ≡ Ok (named (string_bytes path))) × IfSome files (λ f. f (string_bytes path) ≡ None)
+ConfigCause words files rose NoMemory = Unit {0}
+ConfigCause words files rose other = (p : Path) × (path : Text) × (path_of_words words ≡ Ok p) × IsPathOf p path × SourceCause path config_limit files rose other

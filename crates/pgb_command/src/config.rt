@@ -1,0 +1,112 @@
+// The words and their configuration are read.
+ghost use Rattle.std.specs.Prelude.{◌≡◌, ◌≤◌, ◌<◌, ◌+◌, ◌^◌, ℕ, List, Option, option_map, Result, Ok, map, take, length, IfOk, IfErr, IfSome, Vec, string_bytes};
+ghost use Rattle.std.specs.declared.alloc.Global.{Global};
+ghost use Rattle.pgb_outside.specs.Cause.{HasCause, Rises};
+ghost use Rattle.pgb_options.specs.Commands.{IsCommand};
+ghost use Rattle.pgb_options.specs.Paths.{Path, path_of_words};
+ghost use Rattle.pgb_options.specs.Settings.{Settled};
+ghost use Rattle.pgb_command.specs.Asked.{MayHave, Settles, config_limit};
+ghost use Rattle.pgb_command.specs.Configuring.{SourceCause, ConfigCause};
+
+use crate::fault::{Fault, of_source};
+use pgb_options::{Command, ConfigPath, config_path, settle_words};
+use pgb_outside::{Source, Stop};
+use std::alloc::Global;
+
+// A configuration has at most 1 MiB.
+const CONFIG_LIMIT: usize = 1 << 20;
+
+// The first bytes that are left, at most `limit`.
+fn read_front<I: Source>(alloc: Global, config: &mut I, limit: usize) -> Result<Vec<u8>, Stop>
+    ensures bytes { IfOk result (λ v. IfSome (I.left config.old) (λ bytes. v.items ≡ take limit bytes)) }
+    ensures files { I.files config.new ≡ I.files config.old }
+    ensures cause { HasCause (I.faults config.old) (I.faults config.new) result }
+{
+    let mut bytes = Vec::new(alloc);
+    let mut buf = [0u8; 32768];
+    while bytes.len() < limit {
+        let count = config.read(&mut buf)?;
+        if count == 0 {
+            return Ok(bytes);
+        }
+        bytes.extend_from_slice(&buf[..count])?;
+    }
+    bytes.truncate(limit);
+    Ok(bytes)
+}
+
+// The bytes of the file at this path, at most as many as the limit; None where it isn't there.
+fn read_file<I: Source>(
+    alloc: Global,
+    config: &mut I,
+    path: &str,
+    limit: usize,
+) -> Result<Option<Vec<u8>>, Fault>
+    requires { limit + 1 < 2 ^ 63 }
+    ensures bytes { IfOk result (λ r. IfSome (I.files config.old) (λ f. option_map (λ (v : Vec ℕ Global). v.items) r ≡ f path.now)) }
+    ensures fits { IfOk result (λ r. IfSome r (λ (v : Vec ℕ Global). length v.items ≤ limit)) }
+    ensures cause { IfErr result (SourceCause path.now limit (I.files config.old) (Rises (I.faults config.old) (I.faults config.new))) }
+    ensures later { I.faults config.old ≤ I.faults config.new }
+    ensures files { I.files config.new ≡ I.files config.old }
+{
+    match config.open(path) {
+        Ok(true) => {}
+        Ok(false) => return Ok(None),
+        Err(stop) => return Err(of_source(stop)),
+    }
+    match read_front(alloc, config, limit + 1) {
+        Ok(bytes) => {
+            if bytes.len() <= limit {
+                return Ok(Some(bytes));
+            }
+            Err(Fault::TooLong {
+                name: String::from_str(alloc, path)?,
+                limit: limit as u64,
+            })
+        }
+        Err(stop) => Err(of_source(stop)),
+    }
+}
+
+// The bytes of the configuration that the words name.
+fn configuration<I: Source>(
+    alloc: Global,
+    words: &[String],
+    config: &mut I,
+    limit: usize,
+) -> Result<Vec<u8>, Fault>
+    requires { limit ≡ config_limit }
+    ensures bytes { IfOk result (λ v. (path : Path) × (path_of_words (map string_bytes words.now) ≡ Ok path) × MayHave (I.files config.old) path v.items) }
+    ensures fits { IfOk result (λ v. length v.items ≤ limit) }
+    ensures cause { IfErr result (ConfigCause (map string_bytes words.now) (I.files config.old) (Rises (I.faults config.old) (I.faults config.new))) }
+    ensures later { I.faults config.old ≤ I.faults config.new }
+    ensures files { I.files config.new ≡ I.files config.old }
+{
+    match config_path(alloc, words)? {
+        ConfigPath::Nowhere => Ok(Vec::new(alloc)),
+        ConfigPath::Usual(path) => match read_file(alloc, config, &path, limit)? {
+            Some(bytes) => Ok(bytes),
+            None => Ok(Vec::new(alloc)),
+        },
+        ConfigPath::Named(path) => match read_file(alloc, config, &path, limit)? {
+            Some(bytes) => Ok(bytes),
+            None => Err(Fault::ConfigMissing { path }),
+        },
+    }
+}
+
+/// The command that the words and their configuration tell.
+pub(crate) fn read_command<I: Source>(
+    alloc: Global,
+    words: &[String],
+    config: &mut I,
+) -> Result<Command, Fault>
+    ensures command { IfOk result (λ c. (s : Settled) × Settles (map string_bytes words.now) (I.files config.old) (Ok s) × IsCommand c s) }
+    ensures cause { IfErr result (ConfigCause (map string_bytes words.now) (I.files config.old) (Rises (I.faults config.old) (I.faults config.new))) }
+    ensures later { I.faults config.old ≤ I.faults config.new }
+    ensures files { I.files config.new ≡ I.files config.old }
+{
+    let bytes = configuration(alloc, words, config, CONFIG_LIMIT)?;
+    let command = settle_words(alloc, words, &bytes)?;
+    Ok(command)
+}

@@ -1,0 +1,87 @@
+// What a command is told, from its options.
+ghost use Rattle.std.specs.Prelude.{◌≡◌, [], List, Ok, Err, map, IfOk, IfErr, Result, MatchResult, option_map, string_bytes};
+ghost use Rattle.pgb_options.specs.Commands.{IsCommand};
+ghost use Rattle.pgb_options.specs.Filled.{or_else};
+ghost use Rattle.pgb_options.specs.Settings.{Settled};
+ghost use Rattle.pgb_command.specs.Asked.{request_by, first_of, requested, IsAsked};
+ghost use Rattle.pgb_command.specs.Told.{request_of, asked_of};
+
+use crate::fault::Unbuilt;
+use pgb_options::{Command, Verb};
+
+/// Which command is asked for.
+#[derive(Clone, Copy)]
+pub enum Asking<'a> {
+    StanzaCreate,
+    /// The file that is to be stored, as the server names it.
+    ArchivePush { path: &'a str },
+}
+
+/// What a command is told.
+#[derive(Clone, Copy)]
+pub struct Settings<'a> {
+    pub stanza: &'a str,
+    pub pg1_path: &'a str,
+    pub repo1_path: &'a str,
+    pub lock_path: &'a str,
+    pub request: Asking<'a>,
+}
+
+// The first parameter.
+fn first_of(given: &[String]) -> &str
+    ensures { result.now ≡ first_of (map string_bytes given.now) }
+{
+    match given.first() {
+        Some(first) => first.as_str(),
+        None => "",
+    }
+}
+
+// A path, or nothing.
+fn path_of(path: &Option<String>) -> &str
+    ensures { result.now ≡ or_else [] (option_map string_bytes path.now) }
+{
+    match path {
+        Some(path) => path.as_str(),
+        None => "",
+    }
+}
+
+// What the command is to do, where that is built.
+fn request_of(command: &Command) -> Result<Asking<'_>, Unbuilt>
+    ensures asked { IfOk result (λ r. request_by command.now.verb command.now.options.online command.now.options.archive_async (map string_bytes command.now.given.items) ≡ Ok (request_of r)) }
+    ensures unbuilt { IfErr result (λ what. request_by command.now.verb command.now.options.online command.now.options.archive_async (map string_bytes command.now.given.items) ≡ Err what) }
+{
+    match command.verb {
+        Verb::StanzaCreate => {
+            if command.options.online {
+                return Err(Unbuilt::Server);
+            }
+            Ok(Asking::StanzaCreate)
+        }
+        Verb::ArchivePush => {
+            if command.options.archive_async {
+                return Err(Unbuilt::Background);
+            }
+            Ok(Asking::ArchivePush {
+                path: first_of(&command.given),
+            })
+        }
+        verb => Err(Unbuilt::Command(verb)),
+    }
+}
+
+/// What the command is told, where it is built.
+pub(crate) fn settings_of(command: &Command) -> Result<Settings<'_>, Unbuilt>
+    ensures asked { IfOk result (λ x. (s : Settled) → IsCommand command.now s → IsAsked s (asked_of x)) }
+    ensures unbuilt { IfErr result (λ what. (s : Settled) → IsCommand command.now s → requested s ≡ Err what) }
+{
+    let request = request_of(command)?;
+    Ok(Settings {
+        stanza: &command.stanza,
+        pg1_path: path_of(&command.options.pg1_path),
+        repo1_path: &command.options.repo1_path,
+        lock_path: &command.options.lock_path,
+        request,
+    })
+}
