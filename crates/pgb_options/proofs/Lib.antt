@@ -1,4 +1,5 @@
 pub mod Lists
+pub mod Listed
 pub mod Numbers
 pub mod Repeats
 pub mod Texts

@@ -4,6 +4,7 @@ pub mod Faults
 pub mod Filled
 pub mod Paths
 pub mod Settings
+pub mod Sound
 pub mod Sources
 pub mod Table
 pub mod Values

@@ -2,8 +2,10 @@
 #![tactic(auto)]
 
 mod amount;
+mod laws;
 mod options;
 mod path;
+mod rows;
 mod rules;
 mod settle;
 mod source;
@@ -15,6 +17,7 @@ mod words;
 
 pub use options::{KindWord, Options, OutputWord, RestoreWord};
 pub use path::{ConfigPath, config_path};
+pub use rows::row_for;
 pub use settle::{Command, settle_words};
-pub use table::{Opt, Verb, verb_word};
+pub use table::{Fallback, Kind, Opt, Place, Row, TABLE, VERBS, Verb, verb_word};
 pub use usage::Usage;

@@ -7,7 +7,8 @@ ghost use Rattle.pgb_options.specs.Settings.{value_given, value_in, value_among,
 ghost use Rattle.pgb_options.specs.Views.{given_view, fallback_view, value_view};
 ghost use Rattle.pgb_options.specs.Sources.{source_view};
 
-use crate::table::{Fallback, Opt, Place, Verb, row_for};
+use crate::rows::row_for;
+use crate::table::{Fallback, Opt, Place, Verb};
 use crate::value::{Value, value_of};
 use crate::words::Given;
 use pgb_ini::ConfigLine;
