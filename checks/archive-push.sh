@@ -1,19 +1,6 @@
 #!/usr/bin/env bash
 # archive-push of the segments that a server of PostgreSQL 15 writes: each stored file is the server's, byte by byte.
-set -euo pipefail
-cd "$(dirname "$0")/.."
-tools=/usr/lib/postgresql/15/bin
-
-if [ ! -x "$tools/postgres" ] && [ "$(id -u)" = 0 ]; then
-    DEBIAN_FRONTEND=noninteractive timeout 300 apt-get install -y --no-install-recommends postgresql-15 >/dev/null 2>&1 || true
-fi
-if [ ! -x "$tools/postgres" ]; then
-    printf 'PostgreSQL 15 is not here: skipped\n'
-    exit 77
-fi
-
-./build
-room=$(mktemp -d)
+. "$(dirname "$0")/common"
 as=()
 stop_server() {
     if [ -f "$room/pg/postmaster.pid" ]; then
@@ -21,48 +8,24 @@ stop_server() {
     fi
 }
 trap 'stop_server immediate || true; rm -rf "$room"' EXIT
-chmod 711 "$room"
 # the server's user can't reach the repository's own folder
-install -m 755 bin/pgbackrest "$room/pgbackrest"
-checks/cluster "$room/pg"
-cd "$room"
+install -m 755 "$top/bin/pgbackrest" pgbackrest
 
 # What the server does is done as the user whose the cluster is.
 if [ "$(id -u)" = 0 ]; then
     as=(setpriv --reuid=65534 --regid=65534 --clear-groups)
-    install -d -o 65534 -g 65534 repo socket
+    install -d -o 65534 -g 65534 repo lock socket
 else
-    mkdir repo socket
+    mkdir repo lock socket
 fi
 folders=(--stanza=demo --pg1-path="$room/pg" --repo1-path="$room/repo" --lock-path="$room/lock")
 
-wrong=0
-complain() {
-    printf 'wrong: %s\n' "$*"
-    wrong=1
-}
-
-# want STATUS OUTPUT WORD..: the program ends so, and writes that and nothing else.
-want() {
-    local status=0 wanted=$1 output=$2
-    shift 2
-    (cd pg && "${as[@]}" ../pgbackrest "${folders[@]}" "$@") >output 2>errors || status=$?
-    [ "$status" = "$wanted" ] || complain "$* ended with $status and not $wanted"
-    printf '%s' "$output" | cmp -s - output || complain "$* wrote '$(cat output)' and not '$output'"
-    [ ! -s errors ] || complain "$* wrote to standard error: $(cat errors)"
+program() {
+    (cd pg && "${as[@]}" ../pgbackrest "${folders[@]}" "$@")
 }
 
 ask() {
     "${as[@]}" "$tools/psql" -h "$room/socket" -U postgres -AtXq -c "$1"
-}
-
-sum_of() {
-    sha1sum "$1" | cut -d' ' -f1
-}
-
-# The file at which a segment with these bytes is stored.
-stored_at() {
-    printf 'repo/archive/demo/15-1/%s/%s-%s' "${1:0:16}" "$1" "$(sum_of "$2")"
 }
 
 want 0 '' --no-online stanza-create

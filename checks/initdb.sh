@@ -1,39 +1,9 @@
 #!/usr/bin/env bash
 # stanza-create on a cluster that PostgreSQL 15's initdb made: what it writes, and what it refuses.
-set -euo pipefail
-cd "$(dirname "$0")/.."
-tools=/usr/lib/postgresql/15/bin
+. "$(dirname "$0")/common"
 
-if [ ! -x "$tools/initdb" ] && [ "$(id -u)" = 0 ]; then
-    DEBIAN_FRONTEND=noninteractive timeout 300 apt-get install -y --no-install-recommends postgresql-15 >/dev/null 2>&1 || true
-fi
-if [ ! -x "$tools/initdb" ]; then
-    printf 'PostgreSQL 15 is not here: skipped\n'
-    exit 77
-fi
-
-./build
-program=$PWD/bin/pgbackrest
-room=$(mktemp -d)
-trap 'rm -rf "$room"' EXIT
-chmod 711 "$room"
-checks/cluster "$room/pg"
-cd "$room"
-
-wrong=0
-complain() {
-    printf 'wrong: %s\n' "$*"
-    wrong=1
-}
-
-# want STATUS OUTPUT WORD..: the program ends so, and writes that and nothing else.
-want() {
-    local status=0 wanted=$1 output=$2
-    shift 2
-    "$program" "$@" >output 2>errors || status=$?
-    [ "$status" = "$wanted" ] || complain "$* ended with $status and not $wanted"
-    printf '%s' "$output" | cmp -s - output || complain "$* wrote '$(cat output)' and not '$output'"
-    [ ! -s errors ] || complain "$* wrote to standard error: $(cat errors)"
+program() {
+    "$top/bin/pgbackrest" "$@"
 }
 
 # create STATUS OUTPUT REPOSITORY: stanza-create there.

@@ -17,4 +17,5 @@ pub mod TreeTells
 pub mod Replayed
 pub mod Left
 pub mod Images
+pub mod Names
 pub mod WorkedExample

@@ -7,3 +7,5 @@ pub mod Replay
 pub mod Image
 pub mod Nodes
 pub mod TreeFault
+pub mod Source
+pub mod Locks

@@ -4,19 +4,23 @@
 mod disk;
 mod faults;
 mod handles;
+mod locks;
 mod place;
 #[cfg(test)]
 mod scratch;
 mod settle;
 mod sink;
+mod source;
 mod tree;
 mod turns;
 mod walk;
 
 use disk::RealDisk;
+use locks::RealLocks;
 use pgb_command::{Outside, run};
 use pgb_outside::{Link, NotThere};
 use sink::RealSink;
+use source::RealSource;
 use std::io::ErrorKind;
 use std::process::ExitCode;
 use std::{env, io};
@@ -52,8 +56,8 @@ fn status_of(rt: HostRuntime, words: &[String]) -> u8 {
         server: NotThere::new(),
         aside: NotThere::new(),
         clock: NotThere::new(),
-        locks: NotThere::new(),
-        config: NotThere::new(),
+        locks: RealLocks::new(rt),
+        config: RealSource::new(rt),
         out: RealSink::new(rt),
     };
     let mut links: Vec<Box<dyn Link>> = Vec::new(rt.alloc());

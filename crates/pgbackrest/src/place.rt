@@ -7,7 +7,7 @@ use std::io::ErrorKind;
 use std::os::unix::fs::{DirBuilderExt, OpenOptionsExt};
 use std::{fs, io};
 
-const FILE_MODE: u32 = 0o600;
+pub const FILE_MODE: u32 = 0o600;
 
 const FOLDER_MODE: u32 = 0o700;
 
@@ -118,11 +118,14 @@ impl Place {
     /// Makes the folder that holds a name, and those that hold that.
     pub fn make_folders_for(&self, name: &str) -> io::Result<()> {
         let path = self.path_of(name)?;
-        let mut how = DirBuilder::new();
-        how.mode(FOLDER_MODE)
-            .recursive(true)
-            .create(&self.rt, folder_of(&path))
+        make_folders(&self.rt, folder_of(&path))
     }
+}
+
+/// Makes a folder and those that hold it, where they are absent.
+pub fn make_folders(rt: &HostRuntime, path: &str) -> io::Result<()> {
+    let mut how = DirBuilder::new();
+    how.mode(FOLDER_MODE).recursive(true).create(rt, path)
 }
 
 /// Makes the names in a folder durable, where the folder is there.

@@ -1,0 +1,231 @@
+// Locks in memory.
+ghost use Rattle.std.specs.Prelude.{◌≡◌, ◌≤◌, ◌↔◌, ◌∷◌, [], IsTrue, Some, Contains, IfOk, OnOk, OnErr, bytes_eq, string_bytes};
+ghost use Rattle.std.specs.List.{list_any};
+ghost use Rattle.pgb_outside.specs.Cause.{HasCause, Rises};
+ghost use Rattle.pgb_outside.specs.Locking.{with_lock, without};
+ghost use Rattle.pgb_outside.specs.declared.locks.Take.TheVariants.{Held};
+ghost use Rattle.pgb_memory.specs.Counts.{is_to_fail, counted, FailsWhere};
+ghost use Rattle.pgb_memory.specs.Locks.{names_in, locks_in, refused};
+
+use crate::failing::Failing;
+use pgb_outside::{Locks, Stop, Take};
+use std::alloc::{AllocError, Global};
+
+/// Locks that others hold or that were taken here, by their names.
+#[derive(Drop)]
+pub struct MemLocks {
+    alloc: Global,
+    others: Vec<String>,
+    // the last one first
+    taken: Vec<String>,
+    // folder and name of each lock, the last one first
+    took: Vec<(String, String)>,
+    refusals: u64,
+    failing: Failing,
+}
+
+impl MemLocks {
+    /// Locks of which others hold those of the names in `held`. `fail` has the numbers of the takes that are to fail, the
+    /// first being 0.
+    pub fn new(alloc: Global, held: Vec<String>, fail: Vec<u64>) -> Self
+        ensures taken { ⟦<MemLocks as Locks>⟧.taken result ≡ [] }
+        ensures took { ⟦<MemLocks as Locks>⟧.took result ≡ Some [] }
+        ensures others { ⟦<MemLocks as Locks>⟧.others result ≡ Some (names_in held.items) }
+        ensures refusals { ⟦<MemLocks as Locks>⟧.refusals result ≡ 0 }
+        ensures counts { result.failing ≡ record { fail = fail; calls = 0; faults = 0; misuses = 0 } }
+    {
+        MemLocks {
+            alloc,
+            others: held,
+            taken: Vec::new(alloc),
+            took: Vec::new(alloc),
+            refusals: 0,
+            failing: Failing::new(fail),
+        }
+    }
+
+    /// Whether the lock was taken and not released.
+    pub fn has(&self, name: &str) -> bool
+        ensures { IsTrue result ↔ Contains (⟦<MemLocks as Locks>⟧.taken self.now) name.now }
+    {
+        has_name(&self.taken, name)
+    }
+
+    /// Folder and name of each lock that was ever taken, the last one first.
+    pub fn took(&self) -> &[(String, String)]
+        ensures { ⟦<MemLocks as Locks>⟧.took self.now ≡ Some (locks_in result.now) }
+    {
+        &self.took
+    }
+
+    /// The names that were taken and not released, the last one first.
+    pub fn taken(&self) -> &[String]
+        ensures { ⟦<MemLocks as Locks>⟧.taken self.now ≡ names_in result.now }
+    {
+        &self.taken
+    }
+
+    /// How often a lock was held by others.
+    pub fn refusals(&self) -> u64
+        ensures { result ≡ ⟦<MemLocks as Locks>⟧.refusals self.now }
+    {
+        self.refusals
+    }
+
+    /// How often a take failed.
+    pub fn faults(&self) -> u64
+        ensures { result ≡ ⟦<MemLocks as Locks>⟧.faults self.now }
+    {
+        self.failing.faults()
+    }
+
+    // Notes a lock that was taken.
+    fn note(&mut self, folder: &str, name: &str) -> Result<(), AllocError>
+        ensures taken { OnOk result (names_in self.new.taken.items ≡ name.now ∷ names_in self.old.taken.items) }
+        ensures took { OnOk result (locks_in self.new.took.items ≡ (folder.now, name.now) ∷ locks_in self.old.took.items) }
+        ensures err { OnErr result ((self.new.taken.items ≡ self.old.taken.items) × (self.new.took.items ≡ self.old.took.items)) }
+        ensures others { self.new.others ≡ self.old.others }
+        ensures refusals { self.new.refusals ≡ self.old.refusals }
+        ensures counts { self.new.failing ≡ self.old.failing }
+    {
+        let of_taken = String::from_str(self.alloc, name)?;
+        let of_folder = String::from_str(self.alloc, folder)?;
+        let of_took = String::from_str(self.alloc, name)?;
+        self.taken.insert(0, of_taken)?;
+        if self.took.insert(0, (of_folder, of_took)).is_err() {
+            let _ = self.taken.remove(0);
+            return Err(AllocError);
+        }
+        Ok(())
+    }
+}
+
+impl Locks for MemLocks {
+    ghost taken = { λ l. names_in l.taken.items };
+
+    ghost took = { λ l. Some (locks_in l.took.items) };
+
+    ghost others = { λ l. Some (names_in l.others.items) };
+
+    ghost refusals = { λ l. l.refusals };
+
+    ghost faults = { λ l. l.failing.faults };
+
+    fn take(&mut self, folder: &str, name: &str) -> Result<Take, Stop>
+        requires { ¬ Contains (names_in self.old.taken.items) name.now }
+        ensures taken { IfOk result (λ t. names_in self.new.taken.items ≡ with_lock t name.now (names_in self.old.taken.items)) }
+        ensures took { IfOk result (λ t. locks_in self.new.took.items ≡ with_lock t (folder.now, name.now) (locks_in self.old.took.items)) }
+        ensures told { IfOk result (λ t. (t ≡ Held) ↔ Contains (names_in self.old.others.items) name.now) }
+        ensures held { IfOk result (λ t. t ≡ Held → Rises self.old.refusals self.new.refusals) }
+        ensures later { self.old.refusals ≤ self.new.refusals }
+        ensures refusals { IfOk result (λ t. self.new.refusals ≡ refused t self.old.refusals) }
+        ensures err { OnErr result ((self.new.taken.items ≡ self.old.taken.items) × (self.new.took.items ≡ self.old.took.items)) }
+        ensures err_refusals { OnErr result (self.new.refusals ≡ self.old.refusals) }
+        ensures others { self.new.others ≡ self.old.others }
+        ensures fails { FailsWhere (is_to_fail self.old.failing) result }
+        ensures counts { self.new.failing ≡ counted self.old.failing }
+        ensures cause { HasCause self.old.failing.faults self.new.failing.faults result }
+    {
+        if self.failing.fails() {
+            return Err(Stop::Failed);
+        }
+        if has_name(&self.others, name) {
+            let refusals = self.refusals;
+            self.refusals = refusals.saturating_add(1);
+            return Ok(Take::Held);
+        }
+        self.note(folder, name)?;
+        Ok(Take::Taken)
+    }
+
+    fn release(&mut self, name: &str)
+        ensures taken { names_in self.new.taken.items ≡ without name.now (names_in self.old.taken.items) }
+        ensures took { self.new.took ≡ self.old.took }
+        ensures others { self.new.others ≡ self.old.others }
+        ensures refusals { self.new.refusals ≡ self.old.refusals }
+        ensures failing { self.new.failing ≡ self.old.failing }
+    {
+        drop_name(&mut self.taken, name);
+    }
+}
+
+fn has_name(names: &[String], name: &str) -> bool
+    ensures { result ≡ list_any (λ x. bytes_eq (string_bytes x) name.now) names.now }
+{
+    names.iter().any(|other| other.as_str() == name)
+}
+
+fn drop_name(names: &mut Vec<String>, name: &str)
+    ensures { names_in names.new.items ≡ without name.now (names_in names.old.items) }
+{
+    names.retain(|other| other.as_str() != name);
+}
+
+#[cfg(test)]
+mod tests {
+    use super::*;
+    use std::test::Fail;
+
+    fn take_by<L: Locks>(locks: &mut L, folder: &str, name: &str) -> Result<Take, Stop>
+        requires { ¬ Contains (L.taken locks.old) name.now }
+    {
+        locks.take(folder, name)
+    }
+
+    fn release_by<L: Locks>(locks: &mut L, name: &str) {
+        locks.release(name);
+    }
+
+    // None where the lock was taken already.
+    fn take(locks: &mut MemLocks, folder: &str, name: &str) -> Option<Result<Take, Stop>> {
+        if locks.has(name) {
+            return None;
+        }
+        Some(take_by(locks, folder, name))
+    }
+
+    // What was taken, and behind it all that ever was, the last one first.
+    fn told(alloc: Global, locks: &MemLocks) -> Result<String, AllocError> {
+        let mut text = String::new(alloc);
+        for name in locks.taken() {
+            write!(text, "{name} ")?;
+        }
+        for (folder, name) in locks.took() {
+            write!(text, "{folder}/{name} ")?;
+        }
+        Ok(text)
+    }
+
+    #[test]
+    fn takes(rt: HostRuntime) -> Result<(), Fail> {
+        let alloc = rt.alloc();
+        let held = vec![in alloc; String::from_str(alloc, "held")?]?;
+        let mut locks = MemLocks::new(alloc, held, vec![in alloc; 3]?);
+        let rows = [
+            ("/l", "one", Some(Ok(Take::Taken))),
+            ("/l", "held", Some(Ok(Take::Held))),
+            ("/l", "one", None),
+            ("/m", "two", Some(Ok(Take::Taken))),
+            ("/m", "three", Some(Err(Stop::Failed))),
+            ("/m", "three", Some(Ok(Take::Taken))),
+            ("/m", "held", Some(Ok(Take::Held))),
+        ];
+        for (folder, name, answer) in rows {
+            assert_eq!(rt; take(&mut locks, folder, name), answer, "{name}");
+        }
+        assert_eq!(rt;
+            told(alloc, &locks)?.as_str(),
+            "three two one /m/three /m/two /l/one "
+        );
+        release_by(&mut locks, "two");
+        release_by(&mut locks, "none");
+        assert_eq!(rt; take(&mut locks, "/l", "two"), Some(Ok(Take::Taken)));
+        assert_eq!(rt;
+            told(alloc, &locks)?.as_str(),
+            "two three one /l/two /m/three /m/two /l/one "
+        );
+        assert_eq!(rt; locks.refusals(), 2);
+        assert_eq!(rt; locks.faults(), 1);
+        Ok(())
+    }
+}

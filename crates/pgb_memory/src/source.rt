@@ -1,0 +1,190 @@
+// A configuration file in memory.
+ghost use Rattle.std.specs.Prelude.{◌≡◌, [], Some, IfOk, OnOk, OnErr, length, min, take, is_some, string_bytes};
+ghost use Rattle.pgb_outside.specs.Cause.{HasCause};
+ghost use Rattle.pgb_outside.specs.Streams.{Gives};
+ghost use Rattle.pgb_memory.specs.Counts.{is_to_fail, counted, FailsWhere};
+ghost use Rattle.pgb_memory.specs.Replay.{value_of};
+
+use crate::copy::copy_part;
+use crate::failing::Failing;
+use pgb_outside::{Source, Stop};
+use std::alloc::Global;
+
+/// One file, the same at every path, or none. Before it is opened nothing is left of it. A read gives as many bytes as fit.
+#[derive(Drop)]
+pub struct MemSource {
+    alloc: Global,
+    file: Option<Vec<u8>>,
+    // how many of its bytes were read
+    at: usize,
+    place: String,
+    failing: Failing,
+}
+
+impl MemSource {
+    ghost use Rattle.pgb_memory.specs.Source.{left_of};
+
+    /// A file of these bytes, or none. `fail` has the numbers of the calls that are to fail, the first being 0.
+    pub fn new(alloc: Global, file: Option<Vec<u8>>, fail: Vec<u64>) -> Self
+        ensures files { ⟦<MemSource as Source>⟧.files result ≡ Some (λ _. value_of file) }
+        ensures left { ⟦<MemSource as Source>⟧.left result ≡ Some [] }
+        ensures place { ⟦<MemSource as Source>⟧.place result ≡ [] }
+        ensures counts { result.failing ≡ record { fail = fail; calls = 0; faults = 0; misuses = 0 } }
+    {
+        let at = match &file {
+            Some(bytes) => bytes.len(),
+            None => 0,
+        };
+        MemSource {
+            alloc,
+            file,
+            at,
+            place: String::new(alloc),
+            failing: Failing::new(fail),
+        }
+    }
+
+    /// The path that was opened last.
+    pub fn place(&self) -> &str
+        ensures { result.now ≡ ⟦<MemSource as Source>⟧.place self.now }
+    {
+        &self.place
+    }
+
+    /// How often a call failed.
+    pub fn faults(&self) -> u64
+        ensures { result ≡ ⟦<MemSource as Source>⟧.faults self.now }
+    {
+        self.failing.faults()
+    }
+}
+
+impl Source for MemSource {
+    ghost use Rattle.pgb_memory.specs.Source.{left_of};
+
+    ghost files = { λ s. Some (λ _. value_of s.file) };
+
+    ghost left = { λ s. Some (left_of s) };
+
+    ghost place = { λ s. string_bytes s.place };
+
+    ghost faults = { λ s. s.failing.faults };
+
+    fn open(&mut self, path: &str) -> Result<bool, Stop>
+        ensures there { IfOk result (λ there. there ≡ is_some (value_of self.old.file)) }
+        ensures start { OnOk result (self.new.at ≡ 0) }
+        ensures place { OnOk result (string_bytes self.new.place ≡ path.now) }
+        ensures same { OnErr result ((self.new.at ≡ self.old.at) × (string_bytes self.new.place ≡ string_bytes self.old.place)) }
+        ensures file { self.new.file ≡ self.old.file }
+        ensures fails { FailsWhere (is_to_fail self.old.failing) result }
+        ensures counts { self.new.failing ≡ counted self.old.failing }
+        ensures cause { HasCause self.old.failing.faults self.new.failing.faults result }
+    {
+        if self.failing.fails() {
+            return Err(Stop::Failed);
+        }
+        self.place = String::from_str(self.alloc, path)?;
+        self.at = 0;
+        Ok(self.file.is_some())
+    }
+
+    fn read(&mut self, buf: &mut [u8]) -> Result<usize, Stop>
+        ensures count { IfOk result (λ n. n ≡ min (length (left_of self.old)) (length buf.old)) }
+        ensures gives { IfOk result (λ n. Gives (Some (left_of self.old)) (take n buf.new) (Some (left_of self.new))) }
+        ensures same { OnErr result (self.new.at ≡ self.old.at) }
+        ensures file { self.new.file ≡ self.old.file }
+        ensures place { string_bytes self.new.place ≡ string_bytes self.old.place }
+        ensures fails { FailsWhere (is_to_fail self.old.failing) result }
+        ensures counts { self.new.failing ≡ counted self.old.failing }
+        ensures cause { HasCause self.old.failing.faults self.new.failing.faults result }
+    {
+        if self.failing.fails() {
+            return Err(Stop::Failed);
+        }
+        let Some(bytes) = &self.file else {
+            return Ok(0);
+        };
+        let n = copy_part(bytes, self.at as u64, buf);
+        self.at += n;
+        Ok(n)
+    }
+}
+
+#[cfg(test)]
+mod tests {
+    use super::*;
+    use std::alloc::AllocError;
+    use std::test::Fail;
+
+    fn open<S: Source>(source: &mut S, path: &str) -> Result<bool, Stop> {
+        source.open(path)
+    }
+
+    // The sizes of the next reads, with their bytes, into this much room.
+    fn pieces<S: Source>(alloc: Global, source: &mut S, room: usize) -> Result<String, Stop> {
+        let mut buf = vec![in alloc; 0; room]?;
+        let mut text = String::new(alloc);
+        for _ in 0..3 {
+            let n = source.read(&mut buf)?;
+            for byte in buf.iter().take(n) {
+                text.push(char::from(*byte))?;
+            }
+            text.push('|')?;
+        }
+        Ok(text)
+    }
+
+    fn file(alloc: Global, text: &str) -> Result<Option<Vec<u8>>, AllocError> {
+        Ok(Some(Vec::from_slice(alloc, text.as_bytes())?))
+    }
+
+    #[test]
+    fn reads_in_pieces(rt: HostRuntime) -> Result<(), Fail> {
+        let alloc = rt.alloc();
+        let rows = [
+            ("[a]", 2, "[a|]||"),
+            ("[a]", 3, "[a]|||"),
+            ("[a]", 1, "[|a|]|"),
+            ("[a]", 0, "|||"),
+            ("", 5, "|||"),
+        ];
+        for (text, room, given) in rows {
+            let mut source = MemSource::new(alloc, file(alloc, text)?, Vec::new(alloc));
+            assert_eq!(rt;
+                pieces(alloc, &mut source, room)?.as_str(),
+                "|||",
+                "before it is opened"
+            );
+            assert_eq!(rt; open(&mut source, "/etc/c"), Ok(true));
+            assert_eq!(rt;
+                pieces(alloc, &mut source, room)?.as_str(),
+                given,
+                "{text} by {room}"
+            );
+            assert_eq!(rt; open(&mut source, "/etc/d"), Ok(true));
+            assert_eq!(rt;
+                pieces(alloc, &mut source, room)?.as_str(),
+                given,
+                "opened again"
+            );
+            assert_eq!(rt; source.place(), "/etc/d");
+        }
+        Ok(())
+    }
+
+    #[test]
+    fn absent_and_failing(rt: HostRuntime) -> Result<(), Fail> {
+        let alloc = rt.alloc();
+        let mut absent = MemSource::new(alloc, None, Vec::new(alloc));
+        assert_eq!(rt; open(&mut absent, "/etc/c"), Ok(false));
+        assert_eq!(rt; pieces(alloc, &mut absent, 4)?.as_str(), "|||");
+        let mut failing = MemSource::new(alloc, file(alloc, "ab")?, vec![in alloc; 0, 3]?);
+        assert_eq!(rt; open(&mut failing, "/etc/c"), Err(Stop::Failed));
+        assert_eq!(rt; failing.place(), "");
+        assert_eq!(rt; open(&mut failing, "/etc/c"), Ok(true));
+        assert_eq!(rt; pieces(alloc, &mut failing, 1).is_err(), true);
+        assert_eq!(rt; pieces(alloc, &mut failing, 1)?.as_str(), "b|||");
+        assert_eq!(rt; failing.faults(), 2);
+        Ok(())
+    }
+}

@@ -1,0 +1,149 @@
+// The locks, as files of the system.
+ghost use Rattle.std.specs.Prelude.{◌≡◌, ◌≤◌, ◌∷◌, [], None, IfOk, OnErr, map, string_bytes};
+ghost use Rattle.pgb_outside.specs.Cause.{Rises};
+ghost use Rattle.pgb_outside.specs.Locking.{with_lock, without};
+ghost use Rattle.pgb_outside.specs.declared.locks.Take.TheVariants.{Held};
+
+use crate::faults::Faults;
+use crate::place::{FILE_MODE, make_folders, no_memory};
+use pgb_outside::{Locks, Stop, Take};
+use std::fs::{File, OpenOptions, TryLockError};
+use std::io;
+use std::os::unix::fs::OpenOptionsExt;
+
+/// A lock that was taken. It ends as its file is closed, at the latest with the process, and no child inherits it.
+#[derive(Drop)]
+struct Lock {
+    name: String,
+    file: File,
+}
+
+/// Locks by the files of their names. A file is never removed: who opened it before would hold another lock than who
+/// makes it anew.
+#[derive(Drop)]
+pub struct RealLocks {
+    rt: HostRuntime,
+    // the last one first
+    taken: Vec<Lock>,
+    refusals: u64,
+    faults: Faults,
+}
+
+impl RealLocks {
+    pub fn new(rt: HostRuntime) -> Self
+        ensures taken { ⟦<RealLocks as Locks>⟧.taken result ≡ [] }
+        ensures faults { result.faults.count ≡ 0 }
+    {
+        RealLocks {
+            taken: Vec::new(rt.alloc()),
+            rt,
+            refusals: 0,
+            faults: Faults::new(),
+        }
+    }
+
+    fn take_file(&mut self, folder: &str, name: &str) -> io::Result<Take>
+        ensures taken { IfOk result (λ t. map (λ x. string_bytes x.name) self.new.taken.items ≡ with_lock t name.now (map (λ x. string_bytes x.name) self.old.taken.items)) }
+        ensures err { OnErr result (self.new.taken.items ≡ self.old.taken.items) }
+        ensures held { IfOk result (λ t. t ≡ Held → Rises self.old.refusals self.new.refusals) }
+        ensures later { self.old.refusals ≤ self.new.refusals }
+        ensures faults { self.new.faults ≡ self.old.faults }
+    {
+        let file = open_lock(&self.rt, folder, name)?;
+        match file.try_lock() {
+            Ok(()) => {
+                let name = String::from_str(self.rt.alloc(), name)?;
+                let lock = Lock { name, file };
+                self.taken.insert(0, lock).map_err(no_memory)?;
+                Ok(Take::Taken)
+            }
+            Err(TryLockError::WouldBlock) => {
+                let refusals = self.refusals;
+                self.refusals = refusals.saturating_add(1);
+                Ok(Take::Held)
+            }
+            Err(TryLockError::Error(e)) => Err(e),
+        }
+    }
+}
+
+impl Locks for RealLocks {
+    ghost taken = { λ l. map (λ x. string_bytes x.name) l.taken.items };
+
+    ghost took = { λ _. None };
+
+    ghost others = { λ _. None };
+
+    ghost refusals = { λ l. l.refusals };
+
+    ghost faults = { λ l. l.faults.count };
+
+    fn take(&mut self, folder: &str, name: &str) -> Result<Take, Stop> {
+        let done = self.take_file(folder, name);
+        self.faults.told(done)
+    }
+
+    fn release(&mut self, name: &str) {
+        self.taken.retain(|lock| lock.name.as_str() != name);
+    }
+}
+
+// The file stays as it is where it is there.
+fn open_lock(rt: &HostRuntime, folder: &str, name: &str) -> io::Result<File> {
+    make_folders(rt, folder)?;
+    let path = format!(in rt.alloc(); "{folder}/{name}")?;
+    let mut how = OpenOptions::new();
+    how.write(true).create(true).mode(FILE_MODE);
+    how.open(rt, path.as_str())
+}
+
+#[cfg(test)]
+mod tests {
+    use super::*;
+    use crate::scratch::Scratch;
+    use std::test::Fail;
+
+    // What a taking of one lock by a program of its own answers, with the counts of refusals and faults.
+    fn take_anew(rt: HostRuntime, folder: &str, name: &str) -> (Result<Take, Stop>, u64, u64) {
+        let mut locks = RealLocks::new(rt);
+        let answer = locks.take(folder, name);
+        (answer, locks.refusals, locks.faults.count)
+    }
+
+    const TAKEN: (Result<Take, Stop>, u64, u64) = (Ok(Take::Taken), 0, 0);
+
+    const HELD: (Result<Take, Stop>, u64, u64) = (Ok(Take::Held), 1, 0);
+
+    const FAULT: (Result<Take, Stop>, u64, u64) = (Err(Stop::Failed), 0, 1);
+
+    #[test]
+    fn takes_and_releases(rt: HostRuntime) -> Result<(), Fail> {
+        let scratch = Scratch::new(rt, "locks")?;
+        let folder = scratch.below("a/b")?;
+        let mut first = RealLocks::new(rt);
+        assert_eq!(rt; first.take(&folder, "one.lock"), Ok(Take::Taken));
+        for (name, wanted) in [
+            ("one.lock", HELD),
+            ("two.lock", TAKEN),
+            // the one before ended with its owner
+            ("two.lock", TAKEN),
+            // a folder is no lock's file
+            ("..", FAULT),
+        ] {
+            assert_eq!(rt; take_anew(rt, &folder, name), wanted, "{name}");
+        }
+        assert_eq!(rt; take_anew(rt, &scratch.path, "one.lock"), TAKEN);
+        assert!(rt; scratch.shell(MODES)?);
+        first.release("two.lock");
+        assert_eq!(rt; take_anew(rt, &folder, "one.lock"), HELD);
+        first.release("one.lock");
+        assert_eq!(rt; take_anew(rt, &folder, "one.lock"), TAKEN);
+        let file = scratch.below("one.lock")?;
+        assert_eq!(rt; take_anew(rt, &file, "one.lock"), FAULT);
+        scratch.remove()?;
+        Ok(())
+    }
+
+    const MODES: &'static str =
+        "[ \"$(stat -c %a a a/b a/b/one.lock | tr '\\n' ' ')\" = '700 700 600 ' ]";
+}
