@@ -2,7 +2,6 @@
 use Rattle.std.proofs.Common.{◌≡◌, List, Result, Ok, refl, sym, ◌∙◌}
 use Rattle.pgb_model.specs.InfoText.{Section, IsInfo, info_text}
 use Rattle.pgb_ini.specs.Form.{Fault}
-use Rattle.pgb_ini.specs.Reading.{read_text}
 use Rattle.pgb_ini.proofs.Laws.{read_text-only}
 
 pub one_sections : (ss ts : List Section) → IsInfo ss → IsInfo ts → info_text ss ≡ info_text ts → ss ≡ ts

@@ -1,5 +1,5 @@
 -- Why words or a configuration are refused.
-use Rattle.std.specs.Prelude.{ℕ, List, Result, Ok, Err}
+use Rattle.std.specs.Prelude.{ℕ, Result, Ok, Err}
 use Rattle.pgb_model.specs.Text.{Text}
 
 pub data Fault : Type 0 where

@@ -1,5 +1,5 @@
--- The fields of the options, each as the value in force of its option.
-use Rattle.std.specs.Prelude.{◌≡◌, ℕ, List, [], codes, bytes_eq, Bool, false, Option, Some, None, option_map, string_bytes, if◌then◌else◌}
+-- The fields of `Options`, each with the value in force of its option.
+use Rattle.std.specs.Prelude.{◌≡◌, ℕ, [], codes, bytes_eq, Bool, false, Option, Some, None, option_map, string_bytes, if◌then◌else◌}
 use Rattle.pgb_model.specs.Text.{Text}
 use Rattle.pgb_options.specs.declared.options.Options.{Options}
 use Rattle.pgb_options.specs.declared.options.KindWord.{KindWord}
@@ -12,6 +12,7 @@ use Rattle.pgb_options.specs.declared.table.Opt.{Opt}
 use Rattle.pgb_options.specs.declared.table.Opt.TheVariants.{Pg1Path, Pg1Port, Pg1SocketPath, Pg1User, Pg1Database, Repo1Path, Repo1RetentionFull, Repo1RetentionDiff, Repo1RetentionArchive, Repo1RetentionArchiveType, Repo1Bundle, Repo1BundleSize, Repo1BundleLimit, ProcessMax, BackupType, RestoreType, Delta, Online, StartFast, ArchiveTimeout, ArchiveAsync, ArchiveGetQueueMax, SpoolPath, LockPath, Set, ExpireAuto, Output, Number, Config}
 use Rattle.pgb_options.specs.Values.{Value, absent, flag, number, amount_of, text}
 
+-- a text, where there is one
 abbrev pub text_in : Option Value → Option Text
 text_in None = None
 text_in (Some absent) = None
@@ -20,6 +21,7 @@ text_in (Some (number n)) = None
 text_in (Some (amount_of n)) = None
 text_in (Some (text t)) = Some t
 
+-- a whole number
 abbrev pub number_in : Option Value → Option ℕ
 number_in None = None
 number_in (Some absent) = None
@@ -28,6 +30,7 @@ number_in (Some (number n)) = Some n
 number_in (Some (amount_of n)) = None
 number_in (Some (text t)) = None
 
+-- a size or a time
 abbrev pub amount_in : Option Value → Option ℕ
 amount_in None = None
 amount_in (Some absent) = None
@@ -36,6 +39,7 @@ amount_in (Some (number n)) = None
 amount_in (Some (amount_of n)) = Some n
 amount_in (Some (text t)) = None
 
+-- y or n
 abbrev pub flag_in : Option Value → Option Bool
 flag_in None = None
 flag_in (Some absent) = None
@@ -48,6 +52,7 @@ abbrev pub or_else : {A : Type 0} → A → Option A → A
 or_else d None = d
 or_else d (Some x) = x
 
+-- the words of `type`, `repo1-retention-archive-type` and `output`
 abbrev pub kind_word : Text → KindWord
 kind_word t = if bytes_eq t (codes "full") then kinds.Full else if bytes_eq t (codes "diff") then kinds.Diff else kinds.Incr
 

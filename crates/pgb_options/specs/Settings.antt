@@ -17,6 +17,7 @@ use Rattle.pgb_options.specs.Table.{Fallback, required, unset, is, row, verb_wor
 use Rattle.pgb_options.specs.Values.{Value, value_of}
 use Rattle.pgb_options.specs.Words.{Words, read_words}
 
+-- a number for each command
 abbrev pub verb_code : Verb → ℕ
 verb_code StanzaCreate = 0
 verb_code ArchivePush = 1

@@ -1,6 +1,6 @@
 -- What holds of the table as a whole.
 use Rattle.std.specs.Prelude.{Bool, true, ◌&&◌, ◌||◌, not, List, [], ◌∷◌, map, bytes_eq, is_none, is_some, option_and_then}
-use Rattle.std.specs.List.{list_all, list_any, filter, Contains}
+use Rattle.std.specs.List.{list_any, filter, Contains}
 use Rattle.pgb_model.specs.Text.{Text}
 use Rattle.pgb_options.specs.declared.table.TheConstants.{TABLE}
 use Rattle.pgb_options.specs.declared.table.Opt.{Opt}

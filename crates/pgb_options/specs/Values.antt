@@ -1,5 +1,5 @@
 -- What a text stands for, as a value of a kind.
-use Rattle.std.specs.Prelude.{ℕ, ◌&&◌, ◌||◌, ◌==◌, nat_le, nat_lt, Bool, true, false, not, List, [], ◌∷◌, length, codes, bytes_eq, Option, Some, None, option_map, if◌then◌else◌}
+use Rattle.std.specs.Prelude.{ℕ, ◌&&◌, ◌||◌, ◌==◌, nat_le, nat_lt, Bool, true, false, not, [], ◌∷◌, length, codes, bytes_eq, Option, Some, None, option_map, if◌then◌else◌}
 use Rattle.pgb_model.specs.Text.{Text}
 use Rattle.std.specs.List.{list_any, list_all}
 use Rattle.pgb_options.specs.declared.amount.Units.TheVariants.{Plain, Sizes, Times}
@@ -7,6 +7,7 @@ use Rattle.pgb_options.specs.Amounts.{amount}
 use Rattle.pgb_options.specs.Table as table
 use Rattle.pgb_options.specs.Table.{Kind}
 
+-- none, as by `--no-config`; y or n; a whole number; a size in bytes or a time in seconds; a text
 pub data Value : Type 0 where
   absent : Value
   flag : Bool → Value
@@ -21,9 +22,11 @@ abbrev pub begins_with_dash : Text → Bool
 begins_with_dash [] = false
 begins_with_dash (b ∷ bs) = b == 45
 
+-- 1 to 64 letters, digits, `_` or `-`, and no `-` in front
 abbrev pub is_stanza : Text → Bool
 is_stanza t = nat_lt 0 (length t) && nat_le (length t) 64 && list_all is_stanza_byte t && not (begins_with_dash t)
 
+-- 1 to 1,024 bytes
 abbrev pub is_text : Text → Bool
 is_text t = nat_lt 0 (length t) && nat_le (length t) 1024
 
@@ -33,6 +36,7 @@ flag_of t = if bytes_eq t (codes "y") then Some (flag true) else if bytes_eq t (
 abbrev pub text_where : Bool → Text → Option Value
 text_where holds t = if holds then Some (text t) else None
 
+-- the value, where the text is one of this kind
 abbrev pub value_of : Kind → Text → Option Value
 value_of table.stanza t = text_where (is_stanza t) t
 value_of table.path t = text_where (is_text t) t

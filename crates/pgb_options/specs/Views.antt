@@ -1,5 +1,5 @@
 -- What the code's values stand for.
-use Rattle.std.specs.Prelude.{◌≡◌, ℕ, List, map, Option, option_map, string_bytes, Result, Ok, Err}
+use Rattle.std.specs.Prelude.{◌≡◌, ℕ, List, map, option_map, string_bytes, Result, Ok, Err}
 use Rattle.pgb_options.specs.declared.words.Style as code_style
 use Rattle.pgb_options.specs.declared.words.Style.TheVariants as styles
 use Rattle.pgb_options.specs.declared.words.Token as code_token

@@ -1,5 +1,5 @@
--- Words: options, the command, parameters.
-use Rattle.std.specs.Prelude.{ℕ, ◌+◌, ◌-◌, ◌&&◌, ◌||◌, ◌==◌, nat_eq, nat_lt, nat_le, Bool, true, false, not, List, [], ◌∷◌, ◌++◌, length, take, drop, codes, bytes_eq, is_some, Option, Some, None, option_map, Result, Ok, Err, if◌then◌else◌}
+-- The words of a command line: options, the command, its parameters.
+use Rattle.std.specs.Prelude.{◌==◌, nat_eq, nat_lt, nat_le, Bool, true, not, List, [], ◌∷◌, ◌++◌, length, drop, codes, bytes_eq, Option, Some, None, option_map, Result, Ok, Err, if◌then◌else◌}
 use Rattle.pgb_model.specs.Text.{Text}
 use Rattle.std.specs.List.{list_any, find, starts_with, position_or_len, before_first, after_first}
 use Rattle.std.specs.Option.{option_map_or}
@@ -30,6 +30,7 @@ style_of (table.words allowed) = valued
 abbrev pub style_named : List Opt → Text → Option Style
 style_named table name = option_map (λ o. style_of (row o).kind) (find (λ o. bytes_eq (row o).name name) table)
 
+-- what one or two words say: a word that begins with `-` and is no option; an option with its value; `--no-config`; any other word
 pub data Token : Type 0 where
   unknown : (word : Text) → Token
   gives : (name value : Text) → Token
@@ -41,9 +42,11 @@ pub data Shape : Type 0 where
   done : Token → Shape
   wants : (name : Text) → Shape
 
+-- the text behind the prefix, where it begins so
 abbrev pub after_prefix : Text → Text → Option Text
 after_prefix prefix t = if starts_with nat_eq t prefix then Some (drop (length prefix) t) else None
 
+-- the two sides of the first `=`
 abbrev pub split_equals : Text → Option (Text × Text)
 split_equals t = if nat_lt (position_or_len (λ b. b == 61) t) (length t) then Some (before_first (λ b. b == 61) t, after_first (λ b. b == 61) t) else None
 
@@ -72,21 +75,24 @@ bare_shape None table word body = other_shape table word body
 abbrev pub option_shape : List Opt → Text → Text → Shape
 option_shape table word body = option_map_or (λ p. given_shape (style_named table p.0) word p.0 p.1) (split_equals body) (bare_shape (style_named table body) table word body)
 
+-- no `-` stands in front
 abbrev pub is_plain : Text → Bool
 is_plain [] = true
 is_plain (b ∷ bs) = not (b == 45)
 
+-- what stands behind `--`, where something does
 abbrev pub body_of : Text → Option Text
 body_of word = if nat_le (length word) 2 then None else after_prefix (codes "--") word
 
+-- what a word says by itself
 abbrev pub shape : List Opt → Text → Shape
 shape table word = if is_plain word then done (plain word) else option_map_or (option_shape table word) (body_of word) (done (unknown word))
 
--- the tokens of the words, after an option that waits for its value or none
 abbrev pub shaped : Shape → (Option Text → List Token) → List Token
 shaped (done t) rest = t ∷ rest None
 shaped (wants name) rest = rest (Some name)
 
+-- the tokens of the words, where an option waits for its value or none does; a missing value is an empty one
 abbrev pub tokens_after : Option Text → List Opt → List Text → List Token
 tokens_after None table [] = []
 tokens_after (Some name) table [] = gives name [] ∷ []
@@ -111,6 +117,7 @@ is_given given name = list_any (λ g. bytes_eq g.0 name) given
 abbrev pub with_option : Words → Text → Text → Words
 with_option w name value = record { command = w.command; parameters = w.parameters; given = w.given ++ (name, value) ∷ [] }
 
+-- the first plain word is the command, the others are parameters
 abbrev pub with_word : Words → Option Text → Text → Words
 with_word w None word = record { command = Some word; parameters = w.parameters; given = w.given }
 with_word w (Some c) word = record { command = Some c; parameters = w.parameters ++ word ∷ []; given = w.given }

@@ -51,12 +51,9 @@ fn is_known(table: &[Opt], name: &str) -> bool
 fn is_known_for(table: &[Opt], verb: Verb, name: &str) -> bool
     ensures { result ≡ is_known_for table.now verb name.now }
 {
-    for o in table {
-        if row_for(*o).name == name && is_for(verb, *o) {
-            return true;
-        }
-    }
-    false
+    table
+        .iter()
+        .any(|o| row_for(*o).name == name && is_for(verb, *o))
 }
 
 pub(crate) fn each_is_for(

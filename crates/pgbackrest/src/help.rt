@@ -1,0 +1,118 @@
+// What `--help` and `--version` print.
+use pgb_options::{Fallback, Kind, Opt, Row, TABLE, VERBS, Verb, row_for, verb_word};
+use std::alloc::{AllocError, Global};
+
+const VERSION: &str = "pgbackrest 0.1, repository format 5\n";
+
+const USAGE: &str = "
+usage: pgbackrest [options] command [parameters]
+
+A value is told as --name=value or --name value, y and n also as --name and --no-name. A configuration
+tells values too, as name=value below [stanza:command], [stanza], [global:command] or [global]; the
+command line comes first, then these sections in this order.
+";
+
+const WITHOUT_EFFECT: &str = "\nTaken and not used:";
+
+/// The text that the words ask for, where they are `help` or `version`, alone, with or without `--` in front.
+pub fn asked_for(alloc: Global, words: &[String]) -> Result<Option<String>, AllocError> {
+    let [word] = words else {
+        return Ok(None);
+    };
+    match word.as_str() {
+        "help" | "--help" => Ok(Some(help(alloc)?)),
+        "version" | "--version" => Ok(Some(String::from_str(alloc, VERSION)?)),
+        _ => Ok(None),
+    }
+}
+
+fn help(alloc: Global) -> Result<String, AllocError> {
+    let mut text = String::from_str(alloc, VERSION)?;
+    text.push_str(USAGE)?;
+    text.push_str("\nCommands:\n")?;
+    for verb in VERBS {
+        if let Some(purpose) = purpose_of(verb) {
+            text.push_str(&format!(in alloc; "  {}{}\n", verb_word(verb), purpose)?)?;
+        }
+    }
+    text.push_str("\nOptions:\n")?;
+    for option in TABLE {
+        if has_effect(option) {
+            add_option(alloc, &mut text, row_for(option))?;
+        }
+    }
+    text.push_str(WITHOUT_EFFECT)?;
+    for option in TABLE {
+        if !has_effect(option) {
+            text.push_str(" --")?;
+            text.push_str(row_for(option).name)?;
+        }
+    }
+    text.push_str("\n")?;
+    Ok(text)
+}
+
+// The parameters of a command and what it does. The program starts the asynchronous forms itself.
+fn purpose_of(verb: Verb) -> Option<&'static str> {
+    match verb {
+        Verb::StanzaCreate => Some(": makes a stanza in the repository"),
+        Verb::ArchivePush => Some(
+            " PATH: stores a file of the write-ahead log, for archive_command",
+        ),
+        Verb::ArchiveGet => Some(
+            " NAME PATH: fetches a file of the write-ahead log, for restore_command",
+        ),
+        Verb::Backup => Some(": makes a full, differential or incremental backup"),
+        Verb::Expire => Some(": removes what the retention no longer keeps"),
+        Verb::Restore => Some(": makes the data folder of a backup"),
+        Verb::Verify => Some(": looks for damage in the repository"),
+        Verb::Info => Some(": tells which backups there are"),
+        Verb::Rehearse => Some(": tries all of it on empty folders"),
+        Verb::ArchivePushAsync | Verb::ArchiveGetAsync => None,
+    }
+}
+
+fn has_effect(option: Opt) -> bool {
+    match option {
+        Opt::LogTimestamp | Opt::ArchiveModeCheck => false,
+        _ => !matches!(row_for(option).kind, Kind::Anything),
+    }
+}
+
+fn add_option(alloc: Global, text: &mut String, row: Row) -> Result<(), AllocError> {
+    let values = values_of(alloc, row.kind)?;
+    text.push_str(&format!(in alloc; "  --{}: {}", row.name, values.as_str())?)?;
+    match row.fallback {
+        Fallback::Required => text.push_str("; required")?,
+        Fallback::Unset => {}
+        Fallback::Is(value) => text.push_str(&format!(in alloc; "; {value} by default")?)?,
+    }
+    if row.commands.len() < VERBS.len() {
+        text.push_str("; for")?;
+        for verb in row.commands {
+            if purpose_of(*verb).is_some() {
+                text.push_str(" ")?;
+                text.push_str(verb_word(*verb))?;
+            }
+        }
+    }
+    text.push_str("\n")
+}
+
+fn values_of(alloc: Global, kind: Kind) -> Result<String, AllocError> {
+    match kind {
+        Kind::Stanza => String::from_str(alloc, "1 to 64 letters, digits, _ or -"),
+        Kind::Path | Kind::File => String::from_str(alloc, "path"),
+        Kind::Text => String::from_str(alloc, "text"),
+        Kind::Anything => String::from_str(alloc, "any"),
+        Kind::Number { least, most } => format!(in alloc; "{least} to {most}"),
+        Kind::Size { least, most } => format!(in alloc;
+            "{least} to {most} bytes, or with K, M or G"
+        ),
+        Kind::Time { least, most } => format!(in alloc;
+            "{least} to {most} seconds, or with m, h or d"
+        ),
+        Kind::Flag => String::from_str(alloc, "y or n"),
+        Kind::Words(words) => words.join(alloc, " or "),
+    }
+}
