@@ -1,6 +1,11 @@
 // What other processes do to the repository and the spool while this one waits.
-ghost use Rattle.std.specs.Prelude.{◌≡◌, ◌≤◌, ℕ, Err, IsErrOf};
+ghost use Rattle.std.specs.Prelude.{◌≡◌, ◌≤◌, ◌+◌, ◌-◌, ◌^◌, ◌∷◌, ◌++◌, [], ℕ, List, Option, None, Err, IsErrOf, OnOk, OnErr, is_ok, min, map, option_map, string_bytes};
 ghost use Rattle.pgb_outside.specs.Cause.{HasCause, Rises};
+ghost use Rattle.pgb_model.specs.Text.{Text};
+ghost use Rattle.pgb_model.specs.Now.{NowDoes};
+ghost use Rattle.pgb_model.specs.Steady.{CarriesOn, PassesOnly};
+ghost use Rattle.pgb_archive.specs.Stored.{ChangesArchive};
+ghost use Rattle.pgb_archive.specs.Turns.{Account, GoesOn, OnTurn, command_of, KeepsHistory, GivesReceipts, LeavesMarks};
 
 use pgb_outside::{Disk, NotThere, Stop};
 
@@ -12,29 +17,74 @@ pub enum TurnStop {
     NoMemory,
 }
 
-/// What other processes do to the repository and the spool while this one waits.
+/// What other processes do to the repository and the spool while this one waits: they push files of one stanza.
 pub trait Aside<D: Disk, S: Disk> {
+    /// The turns so far, where it tells them. It may end telling, and doesn't begin.
+    ghost account: { Self → Option Account };
+
+    /// How many turns ended well.
+    ghost turns: { Self → ℕ };
+
+    /// The words of each start, where it tells them.
+    ghost started: { Self → Option (List (List Text)) };
+
     /// How often it failed.
     ghost faults: { Self → ℕ };
 
+    /// Waits for a turn of other processes.
     fn turn(&mut self, repo: &mut D, spool: &mut S) -> Result<(), TurnStop>
-        ensures repo_later { D.faults repo.old ≤ D.faults repo.new }
-        ensures spool_later { S.faults spool.old ≤ S.faults spool.new }
+        ensures account { GoesOn (is_ok result) (account self.old) (account self.new) }
+
+        // The repository goes as by a command that does what the turn does: at Ok by all of its pushes, after a refusal by any of
+        // those that it tried. Each is whole, whatever a stop leaves.
+        ensures does { OnTurn (account self.old) (account self.new) (λ stanza t. NowDoes stanza (command_of t) t.turn.ended (D.view repo.old).now (D.view repo.new).now) }
+        ensures carries { OnTurn (account self.old) (account self.new) (λ stanza t. CarriesOn stanza (command_of t) t.turn.ended (D.view repo.old) (D.view repo.new)) }
+        ensures between { OnTurn (account self.old) (account self.new) (λ stanza t. PassesOnly stanza (command_of t) (D.view repo.old) (D.view repo.new)) }
+        ensures history { OnTurn (account self.old) (account self.new) (λ stanza t. KeepsHistory stanza t.turn (D.view repo.old).now) }
+
+        // A receipt that it gives is of a file that it stored before.
+        ensures receipts { OnTurn (account self.old) (account self.new) (λ stanza t. GivesReceipts stanza t.turn (D.view repo.old) (D.view repo.new) (S.view spool.old) (S.view spool.new)) }
+        ensures marks { OnOk result (OnTurn (account self.old) (account self.new) (λ stanza t. LeavesMarks stanza t.marks (S.view spool.old).now (S.view spool.new).now)) }
+
+        // It changes nothing else.
+        ensures repo_only { OnTurn (account self.old) (account self.new) (λ stanza t. ChangesArchive stanza (D.view repo.old) (D.view repo.new)) }
+        ensures spool_only { OnTurn (account self.old) (account self.new) (λ stanza t. ChangesArchive stanza (S.view spool.old) (S.view spool.new)) }
+        ensures repo_place { D.place repo.new ≡ D.place repo.old }
+        ensures spool_place { S.place spool.new ≡ S.place spool.old }
+        ensures repo_proper { D.misuses repo.new ≡ D.misuses repo.old }
+        ensures spool_proper { S.misuses spool.new ≡ S.misuses spool.old }
+        ensures started { started self.new ≡ started self.old }
+
+        // It is counted, and each refusal has its cause.
+        ensures counted { OnOk result (turns self.new ≡ min (turns self.old + 1) (2 ^ 64 - 1)) }
+        ensures uncounted { OnErr result (turns self.new ≡ turns self.old) }
         ensures repo { IsErrOf result TurnStop.Repo → Rises (D.faults repo.old) (D.faults repo.new) }
         ensures spool { IsErrOf result TurnStop.Spool → Rises (S.faults spool.old) (S.faults spool.new) }
+        ensures repo_later { D.faults repo.old ≤ D.faults repo.new }
+        ensures spool_later { S.faults spool.old ≤ S.faults spool.new }
         ensures later { faults self.old ≤ faults self.new };
 
     /// Starts this program with these words.
     fn start(&mut self, words: &[String]) -> Result<(), Stop>
-        ensures { HasCause (faults self.old) (faults self.new) result };
+        ensures started { OnOk result (started self.new ≡ option_map (λ past. past ++ map string_bytes words.now ∷ []) (started self.old)) }
+        ensures refused { OnErr result (started self.new ≡ started self.old) }
+        ensures account { account self.new ≡ account self.old }
+        ensures turns { turns self.new ≡ turns self.old }
+        ensures cause { HasCause (faults self.old) (faults self.new) result };
 }
 
 impl<D: Disk, S: Disk> Aside<D, S> for NotThere {
+    ghost account = { λ _. None };
+
+    ghost turns = { λ _. 0 };
+
+    ghost started = { λ _. None };
+
     ghost faults = { λ it. it.faults };
 
     fn turn(&mut self, _repo: &mut D, _spool: &mut S) -> Result<(), TurnStop>
-        ensures repo { D.faults _repo.new ≡ D.faults _repo.old }
-        ensures spool { S.faults _spool.new ≡ S.faults _spool.old }
+        ensures repo { _repo.new ≡ _repo.old }
+        ensures spool { _spool.new ≡ _spool.old }
         ensures later { self.old.faults ≤ self.new.faults }
         ensures never { result ≡ Err TurnStop.NoMemory }
     {
