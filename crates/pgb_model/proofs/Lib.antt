@@ -18,3 +18,4 @@ pub mod Logged
 pub mod PushSound
 pub mod PushDone
 pub mod Reopened
+pub mod Turned
