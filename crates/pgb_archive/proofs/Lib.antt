@@ -1,3 +1,5 @@
 pub mod Kept
 pub mod Looked
 pub mod Placed
+pub mod OnePushed
+pub mod Receipts

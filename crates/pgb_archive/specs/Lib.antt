@@ -3,3 +3,4 @@ pub mod Causes
 pub mod Fault
 pub mod Looks
 pub mod Turns
+pub mod OnePush

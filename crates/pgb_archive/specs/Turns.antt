@@ -12,9 +12,10 @@ use Rattle.pgb_model.specs.Text.{Text, ◌⫽◌, In}
 use Rattle.pgb_model.specs.Names.{archive_folder, archive_name, receipt_name, wal_text}
 use Rattle.pgb_model.specs.Repository.{Repository, IsSound, id_of}
 use Rattle.pgb_model.specs.Stands.{IsWalName}
-use Rattle.pgb_model.specs.Steps.{Turn, Named, Command, ArchivePushAsync}
+use Rattle.pgb_model.specs.Steps.{Turn, Named, ArchivePushAsync}
 use Rattle.pgb_model.specs.Log.{Done, Keeps, HasReceipt}
-use Rattle.pgb_model.specs.Now.{NowStands}
+use Rattle.pgb_model.specs.Now.{NowStands, NowDoes}
+use Rattle.pgb_model.specs.Steady.{CarriesOn, PassesOnly}
 
 -- ---- what is told
 
@@ -44,18 +45,17 @@ OnTurn old new P = (stanza : Text) (t : Turned) → GoesOnBy t stanza old new �
 
 -- ---- what it does to the repository
 
--- a command that does what the turn does
-abbrev pub command_of : Turned → Command
-command_of t = ArchivePushAsync (t.turn ∷ [])
-
--- it pushes nothing, or under an id of the repository's history
+-- it pushed nothing, or under an id of the repository's history
 abbrev pub IsUnder : Repository → Turn → Type 0
 IsUnder None t = t.pushed ≡ []
 IsUnder (Some s) t = (t.pushed ≡ []) ⊎ ((c : Cluster) × In c s.history × (t.id ≡ id_of c))
 
--- so it does where the disk stands for a sound repository
-pub record KeepsHistory (stanza : Text) (t : Turn) (now : Option Content) : Type 0 where
-  pub under : (r : Repository) → IsSome now → IsSound r → NowStands stanza r now → IsUnder r t
+-- The repository goes as by a command that waits for this turn alone: by all of the pushes of a turn that ended well, by any of those that a refused one tried, and at each moment by a part. Each push is whole, whatever a stop leaves.
+pub record GoesByTurn (stanza : Text) (t : Turn) (old new : View) : Type 0 where
+  pub does : NowDoes stanza (ArchivePushAsync (t ∷ [])) t.ended old.now new.now
+  pub carries : CarriesOn stanza (ArchivePushAsync (t ∷ [])) t.ended old new
+  pub between : PassesOnly stanza (ArchivePushAsync (t ∷ [])) old new
+  pub under : (r : Repository) → IsSome old.now → IsSound r → NowStands stanza r old.now → IsUnder r t
 
 -- ---- what it does to the spool
 
