@@ -19,3 +19,4 @@ pub mod PushSound
 pub mod PushDone
 pub mod Reopened
 pub mod Turned
+pub mod Waited
