@@ -3,3 +3,4 @@ pub mod Looked
 pub mod Placed
 pub mod OnePushed
 pub mod Receipts
+pub mod Waiting

@@ -38,20 +38,20 @@ after_behind : (r : Repository) (xs ys : List Step) → after r (xs ++ ys) ≡ a
 after_behind r [] ys = refl
 after_behind r (t ∷ xs) ys = after_behind (step r t) xs ys
 
-all_after : (s : Stanza) (xs ys : List Step) → after_all s (xs ++ ys) ≡ after_all (after_all s xs) ys
+pub all_after : (s : Stanza) (xs ys : List Step) → after_all s (xs ++ ys) ≡ after_all (after_all s xs) ys
 all_after s [] ys = refl
 all_after s (t ∷ xs) ys = all_after (changed t s) xs ys
 
 -- ---- turns behind turns
 
 module _ (s : Stanza) (t : Turn) where
-  abbrev steps : List Step
+  abbrev pub steps : List Step
   steps = flat_map (λ g. g) (stores_of s t.id t.pushed)
 
-  abbrev own : List Move
+  abbrev pub own : List Move
   own = if t.ended then map One steps else Any (stores_of s t.id t.pushed) ∷ []
 
-  own_all : all_of own ≡ steps
+  pub own_all : all_of own ≡ steps
   own_all = by t.ended
     where
       by : (ended : Bool) → all_of (if ended then map One steps else Any (stores_of s t.id t.pushed) ∷ []) ≡ steps
