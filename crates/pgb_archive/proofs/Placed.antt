@@ -1,17 +1,20 @@
 -- A segment that is put at its name.
-use Rattle.std.proofs.Common.{◌≡◌, inl, ℕ, true, false, [], ◌∷◌, ◌++◌, Option, Some, None, refl, ap, ◌∙◌, sym, subst, arith, append_assoc}
-use Rattle.std.specs.Prelude.{IfSome, IsSome, codes, string_bytes}
+use Rattle.std.proofs.Common.{◌≡◌, ◌⊎◌, ⊎_elim, inl, ℕ, true, false, [], ◌∷◌, ◌++◌, Option, Some, None, refl, ap, ◌∙◌, sym, subst, arith, append_assoc}
+use Rattle.std.specs.Prelude.{IfSome, IsSome, IsTrue, codes, string_bytes}
 use Rattle.sha1.specs.Sha1.{sha1}
 use Rattle.pgb_text.specs.Sum.{IsSum, sum_text}
 use Rattle.pgb_text.proofs.Digests.{IsSum-sha1}
-use Rattle.pgb_outside.specs.Content.{Name, Content}
+use Rattle.pgb_outside.specs.Content.{Name, Content, is_below}
 use Rattle.pgb_outside.specs.Moments.{View, Rests, is_loose}
 use Rattle.pgb_outside.specs.Crash.{IsTemporary, Crash, Ends, NowGoes, FirstOf, AllOf}
+use Rattle.pgb_disk.specs.Store.{ChangesOnly}
+use Rattle.pgb_disk.proofs.Below.{below_front}
+use Rattle.pgb_disk.proofs.Changes.{only_rests, only_on, only_wide}
 use Rattle.pgb_model.specs.declared.wal.ArchiveId.{ArchiveId}
 use Rattle.pgb_model.specs.declared.wal.Segment.{Segment}
 use Rattle.pgb_model.specs.declared.wal.ArchiveName.TheVariants.{Segment as Whole}
-use Rattle.pgb_model.specs.Text.{Text}
-use Rattle.pgb_model.specs.Names.{segment_text}
+use Rattle.pgb_model.specs.Text.{Text, ◌⫽◌}
+use Rattle.pgb_model.specs.Names.{archive_folder, archive_text, id_text, segment_folder, segment_text}
 use Rattle.pgb_model.specs.Repository.{Stanza}
 use Rattle.pgb_model.specs.Stands.{IsArchivePlace, IsArchiveFile}
 use Rattle.pgb_model.specs.Steps.{after_all, push_of}
@@ -25,7 +28,7 @@ use Rattle.pgb_model.proofs.Segments.{IsPartOfPush, NowPartOfPush, still_moves, 
 use Rattle.pgb_archive.specs.declared.looking.Look.{Look}
 use Rattle.pgb_archive.specs.declared.looking.Look.TheVariants.{Free, One}
 use Rattle.pgb_archive.specs.declared.names.SegmentNames.{SegmentNames}
-use Rattle.pgb_archive.specs.Stored.{archived_segment, segment_name, StoresNone, StoresOnly}
+use Rattle.pgb_archive.specs.Stored.{archived_segment, segment_name, StoresNone, StoresOnly, ChangesArchive}
 use Rattle.pgb_archive.specs.Looks.{segment_place, AreNamesOf, Shows}
 use Rattle.pgb_archive.proofs.Looked.{in_place, with_front}
 
@@ -42,6 +45,13 @@ rests_none a = record {
 
 pub none_moves : (stanza : Text) (id : ArchiveId) (segment : Segment) (bytes : Text) (s : Stanza) (v : View) → IsSteady stanza (Some s) v → IsSome v.now → Moves stanza (IsPartOfPush stanza s (archived_segment id segment bytes)) v v
 none_moves stanza id segment bytes s v steady told = still_moves stanza s (archived_segment id segment bytes) v v steady told (rests_none v) refl
+
+-- nothing was changed
+pub still_only : (stanza : Text) (v b : View) → Rests v b → b.now ≡ v.now → ChangesArchive stanza v b
+still_only stanza v b rests same = only_rests (λ n. IsTrue (is_below (archive_folder stanza) n)) v b rests same
+
+pub none_only : (stanza : Text) (v : View) → ChangesArchive stanza v v
+none_only stanza v = still_only stanza v v (rests_none v) refl
 
 -- what a look that the disk tells of showed
 abbrev pub Told : Option Content → SegmentNames → Look → Type 0
@@ -65,6 +75,20 @@ module _ (stanza : Text) (id : ArchiveId) (segment : Segment) (names : SegmentNa
 
   pub lies_of : (sum : Text) → (folder : Name) × ((rest : Name) × (string_bytes names.temporary ≡ folder ++ 47 ∷ rest)) × ((rest : Name) × (string_bytes names.front ++ sum_text sum ≡ folder ++ 47 ∷ rest))
   lies_of sum = (segment_place stanza id segment, (codes ".pgbackrest.tmp", of.temporary), (segment_text segment ++ 45 ∷ sum_text sum, name_of sum ∙ in_place stanza id segment sum))
+
+  temporary_below : is_below (archive_folder stanza) (string_bytes names.temporary) ≡ true
+  temporary_below = below_front (archive_folder stanza) (id_text id ⫽ segment_folder segment ⫽ codes ".pgbackrest.tmp") (string_bytes names.temporary)
+      (of.temporary ∙ append_assoc (archive_folder stanza) (47 ∷ (id_text id ⫽ segment_folder segment)) (47 ∷ codes ".pgbackrest.tmp")
+      ∙ ap (λ (t : Text). archive_folder stanza ++ 47 ∷ t) (append_assoc (id_text id) (47 ∷ segment_folder segment) (47 ∷ codes ".pgbackrest.tmp")))
+
+  name_below : (sum : Text) → is_below (archive_folder stanza) (string_bytes names.front ++ sum_text sum) ≡ true
+  name_below sum = below_front (archive_folder stanza) (id_text id ⫽ archive_text (Whole segment) (sum_text sum)) (string_bytes names.front ++ sum_text sum) (name_of sum)
+
+  -- what was read, and then put
+  pub put_only : (sum : Text) (v b d : View) → Rests v b → b.now ≡ v.now → ChangesOnly (λ n. (n ≡ string_bytes names.temporary) ⊎ (n ≡ string_bytes names.front ++ sum_text sum)) b d → ChangesArchive stanza v d
+  put_only sum v b d rests same only = only_on (λ n. IsTrue (is_below (archive_folder stanza) n)) v b d (still_only stanza v b rests same)
+      (only_wide (λ n. (n ≡ string_bytes names.temporary) ⊎ (n ≡ string_bytes names.front ++ sum_text sum)) (λ n. IsTrue (is_below (archive_folder stanza) n)) b d
+      (λ n h. ⊎_elim (λ (e : n ≡ string_bytes names.temporary). ap (is_below (archive_folder stanza)) e ∙ temporary_below) (λ (e : n ≡ string_bytes names.front ++ sum_text sum). ap (is_below (archive_folder stanza)) e ∙ name_below sum) h) only)
 
   module _ (place : (sum : Text) → IsSum sum → IsArchivePlace id (Whole segment) sum) (bytes sum : Text) (is_sum : sum ≡ sha1 bytes) where
     fits : IsArchivePlace id (Whole segment) (sha1 bytes)

@@ -2,3 +2,5 @@ pub mod Stored
 pub mod Causes
 pub mod Fault
 pub mod Looks
+pub mod Turns
+pub mod OnePush

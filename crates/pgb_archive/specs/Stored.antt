@@ -1,13 +1,15 @@
--- Under which names a segment is stored.
-use Rattle.std.specs.Prelude.{◌≡◌, true, IsSome}
+-- Under which names a segment is stored, and which names a push changes.
+use Rattle.std.specs.Prelude.{◌≡◌, true, IsSome, IsTrue}
 use Rattle.pgb_text.specs.Sum.{IsSum, sum_text}
-use Rattle.pgb_outside.specs.Content.{Content}
+use Rattle.pgb_outside.specs.Content.{Content, is_below}
+use Rattle.pgb_outside.specs.Moments.{View}
 use Rattle.pgb_outside.specs.Order.{is_before}
+use Rattle.pgb_disk.specs.Store.{ChangesOnly}
 use Rattle.pgb_model.specs.declared.wal.ArchiveId.{ArchiveId}
 use Rattle.pgb_model.specs.declared.wal.Segment.{Segment}
 use Rattle.pgb_model.specs.declared.wal.ArchiveName.TheVariants.{Segment as Whole}
 use Rattle.pgb_model.specs.Text.{Text}
-use Rattle.pgb_model.specs.Names.{archive_name}
+use Rattle.pgb_model.specs.Names.{archive_folder, archive_name}
 use Rattle.pgb_model.specs.Repository.{Archived}
 
 -- the segment as a file of the archive
@@ -41,3 +43,7 @@ pub record StoresTwo (stanza : Text) (id : ArchiveId) (segment : Segment) (f : C
   pub second_is : second ≡ segment_name stanza id segment second_sum
   pub order : is_before first second ≡ true
   pub before : (sum : Text) → Stores stanza id segment f sum → is_before (segment_name stanza id segment sum) second ≡ true → sum ≡ first_sum
+
+-- only names below the stanza's folder of the archive change, and only temporary ones become loose
+abbrev pub ChangesArchive : Text → View → View → Type 0
+ChangesArchive stanza old new = ChangesOnly (λ n. IsTrue (is_below (archive_folder stanza) n)) old new

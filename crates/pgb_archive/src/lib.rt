@@ -5,6 +5,7 @@ mod aside;
 mod fault;
 mod looking;
 mod names;
+mod one_push;
 mod pushing;
 
 pub use aside::{Aside, TurnStop};

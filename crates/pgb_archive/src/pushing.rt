@@ -1,17 +1,17 @@
 // A segment is stored.
-ghost use Rattle.std.specs.Prelude.{◌≡◌, ◌≤◌, ◌∷◌, [], false, Some, List, map, IfOk, IfErr, IfSome, IsSome, IsErrOf, OnOk, string_bytes};
+ghost use Rattle.std.specs.Prelude.{◌≡◌, ◌⊎◌, ◌≤◌, ◌∷◌, [], false, Some, List, map, IfOk, IfErr, IfSome, IsSome, IsErrOf, OnOk, string_bytes};
 ghost use Rattle.sha1.specs.Sha1.{sha1};
 ghost use Rattle.pgb_outside.specs.Content.{Name};
 ghost use Rattle.pgb_outside.specs.Moments.{Rests, is_loose};
 ghost use Rattle.pgb_outside.specs.Cause.{Rises};
 ghost use Rattle.pgb_outside.specs.Crash.{IsTemporary, Crash, Ends, NowGoes, FirstOf, AllOf};
-ghost use Rattle.pgb_disk.specs.Store.{LiesIn};
+ghost use Rattle.pgb_disk.specs.Store.{LiesIn, ChangesOnly};
 ghost use Rattle.pgb_model.specs.Repository.{Stanza};
 ghost use Rattle.pgb_model.specs.Stands.{Stands};
 ghost use Rattle.pgb_model.specs.Now.{NowStands};
 ghost use Rattle.pgb_model.specs.Steps.{Step, One, IsPartOf, after, after_all, push_of};
 ghost use Rattle.pgb_model.specs.Steady.{IsSteady, Moves};
-ghost use Rattle.pgb_archive.specs.Stored.{archived_segment, segment_name, StoresNone, StoresOnly};
+ghost use Rattle.pgb_archive.specs.Stored.{archived_segment, segment_name, StoresNone, StoresOnly, ChangesArchive};
 ghost use Rattle.pgb_archive.specs.Causes.{IsSegmentOf, PushCause, OnFinding};
 ghost use Rattle.pgb_archive.specs.Looks.{IsStop, name_with};
 
@@ -49,6 +49,7 @@ fn put_at<D: Disk>(
     ensures whole { OnOk result (is_loose (D.view d.old) (name_with names.now sum.now.0) ≡ false → Ends (AllOf ((name_with names.now sum.now.0, bytes.now) ∷ [])) (D.view d.old) (D.view d.new)) }
     ensures now_part { NowGoes (FirstOf ((name_with names.now sum.now.0, bytes.now) ∷ [])) (D.view d.old).now (D.view d.new).now }
     ensures now_whole { OnOk result (NowGoes (AllOf ((name_with names.now sum.now.0, bytes.now) ∷ [])) (D.view d.old).now (D.view d.new).now) }
+    ensures only { ChangesOnly (λ n. (n ≡ string_bytes names.now.temporary) ⊎ (n ≡ name_with names.now sum.now.0)) (D.view d.old) (D.view d.new) }
     ensures place { D.place d.new ≡ D.place d.old }
     ensures proper { D.misuses d.new ≡ D.misuses d.old }
     ensures later { D.faults d.old ≤ D.faults d.new }
@@ -82,7 +83,8 @@ pub fn push<D: Disk>(
     ensures stored { OnOk result ((s : Stanza) → IsSteady stanza.now (Some s) (D.view d.old) → IsSome (D.view d.old).now
         → IsSteady stanza.now (Some (after_all s (push_of s (archived_segment id.now segment.now bytes.now)))) (D.view d.new)) }
 
-    // Only the segment's name and temporary ones change.
+    // Only the segment's name and temporary ones change, none outside the stanza's folder of the archive.
+    ensures only { ChangesArchive stanza.now (D.view d.old) (D.view d.new) }
     ensures writes { NowGoes (FirstOf ((segment_name stanza.now id.now segment.now (sha1 bytes.now), bytes.now) ∷ [])) (D.view d.old).now (D.view d.new).now }
     ensures written { IfOk result (λ p. p ≡ Pushed.New → NowGoes (AllOf ((segment_name stanza.now id.now segment.now (sha1 bytes.now), bytes.now) ∷ [])) (D.view d.old).now (D.view d.new).now) }
 

@@ -5,6 +5,7 @@ use Rattle.pgb_outside.specs.Content.{Name, Value, Content, put, moved, Holds, C
 use Rattle.pgb_outside.specs.Moments.{View, Goes, is_loose, MayKeep}
 use Rattle.pgb_outside.specs.Crash.{IsTemporary, Alike, Crash, Ends, NowGoes, AllOf, FirstOf}
 use Rattle.pgb_outside.proofs.Steps.{goes_on, goes_wide}
+use Rattle.pgb_disk.specs.Store.{ChangesOnly}
 use Rattle.pgb_disk.proofs.Images.{Law, by_name, put_other, put_same, apart_from, Added, Loosened, stays_tight, crash_of, ends_of}
 
 -- a disk that tells still does
@@ -125,3 +126,34 @@ module _ (temp name : Name) (bytes : List ℕ) (is_temp : IsTemporary temp) (las
   staged_crash a b law tight p same = crash_of temp name bytes a b is_temp lasting law
       (staged_go a b p)
       tight (staged_now a.now b.now same)
+
+  -- ---- the names that change
+
+  -- the temporary name and the other one
+  abbrev These : Name → Type 0
+  These n = (n ≡ temp) ⊎ (n ≡ name)
+
+  staged_time : (a b : View) → Goes (λ n _. n ≡ temp) (λ n. n ≡ temp) a b → Goes (λ n _. These n) (λ n. These n × IsTemporary n) a b
+  staged_time a b p = goes_wide (λ n _. n ≡ temp) (λ n _. These n) (λ n. n ≡ temp) (λ n. These n × IsTemporary n) a b
+      (λ n v e. inl e) (λ n e. (inl e, subst (λ (k : Name). IsTemporary k) (sym e) is_temp)) p
+
+  pub staged_only : (a b : View) → Goes (λ n _. n ≡ temp) (λ n. n ≡ temp) a b → SameBut temp a.now b.now → ChangesOnly (λ n. (n ≡ temp) ⊎ (n ≡ name)) a b
+  staged_only a b p same = record { now = λ n off. same n (λ e. off (inl e)); time = staged_time a b p }
+
+  moved_other : (s n : Name) (o : Option Content) → n ≢ s → n ≢ name → at n (option_map (moved s name) o) ≡ at n o
+  moved_other s n None off_from off_to = refl
+  moved_other s n (Some f) off_from off_to = ap (λ (v : Value). Some v) (put_other name (f s) (put s None f) n off_to ∙ put_other s None f n off_from)
+
+  changed_other : {T E : Type 0} (r : Result T E) (s n : Name) (mid new : Option Content) → n ≢ s → n ≢ name → Changes r (moved s name) mid new → at n new ≡ at n mid
+  changed_other (Ok y) s n mid new off_from off_to is = ap (at n) is ∙ moved_other s n mid off_from off_to
+  changed_other (Err y) s n mid new off_from off_to (inl is) = ap (at n) is
+  changed_other (Err y) s n mid new off_from off_to (inr is) = ap (at n) is ∙ moved_other s n mid off_from off_to
+
+  pub published_only : {T E : Type 0} (r : Result T E) (a b c : View) (s : Name) → s ≡ temp → Goes (λ n _. n ≡ temp) (λ n. n ≡ temp) a b → SameBut temp a.now b.now
+      → Goes (λ n v. ((n ≡ name) × Holds b.now s v) ⊎ ((n ≡ s) × (v ≡ None))) (λ _. ⊥) b c → Changes r (moved s name) b.now c.now → ChangesOnly (λ n. (n ≡ temp) ⊎ (n ≡ name)) a c
+  published_only r a b c s e p same q ch = record {
+    now = λ n off. changed_other r s n b.now c.now (λ h. off (inl (h ∙ e))) (λ h. off (inr h)) ch ∙ same n (λ h. off (inl h));
+    time = goes_on (λ n _. These n) (λ n. These n × IsTemporary n) a b c (staged_time a b p)
+        (goes_wide (λ n v. ((n ≡ name) × Holds b.now s v) ⊎ ((n ≡ s) × (v ≡ None))) (λ n _. These n) (λ _. ⊥) (λ n. These n × IsTemporary n) b c
+        (λ n v x. ⊎_elim (λ (y : (n ≡ name) × Holds b.now s v). inr y.0) (λ (y : (n ≡ s) × (v ≡ None)). inl (y.0 ∙ e)) x) (λ n x. absurd x) q);
+  }

@@ -1,8 +1,9 @@
 -- What the names of archive files tell.
-use Rattle.std.proofs.Common.{◌≡◌, ◌≢◌, ℕ, zero, suc, ◌/◌, ◌%◌, ◌<◌, ◌==◌, [], ◌∷◌, ◌++◌, length, length-append, drop, ◌*◌, refl, ap, ◌∙◌, sym, arith, Bool, true, false, if◌then◌else◌}
+use Rattle.std.proofs.Common.{◌≡◌, ◌≢◌, ℕ, zero, suc, ◌/◌, ◌%◌, ◌<◌, ◌^◌, ◌==◌, [], ◌∷◌, ◌++◌, length, length-append, drop, ◌*◌, refl, ap, ap₂, ◌∙◌, sym, arith, Bool, true, false, if◌then◌else◌}
 use Rattle.std.specs.Prelude.{codes, decimal}
 use Rattle.std.specs.List.{AllByRecursion}
 use Rattle.std.specs.Fmt.{digits, digits_onto, digit_glyph}
+use Rattle.std.proofs.lemmas.Fmt.{decimal_injective}
 use Rattle.std.proofs.lemmas.List.{append_cancel_left}
 use Rattle.std.proofs.lemmas.Slice.Eq.{bytes_eq-Decides}
 use Rattle.std.proofs.lemmas.Grind.{common_steps}
@@ -18,42 +19,43 @@ use Rattle.pgb_model.specs.Repository.{Archived}
 use Rattle.pgb_model.specs.Stands.{IsArchivePlace}
 use Rattle.pgb_model.specs.Steps.{is_same_file}
 
--- ---- texts without a slash
+-- ---- texts without a slash or a dash
 
-abbrev IsPlain : Text → Type 0
-IsPlain text = AllByRecursion (λ c. c ≢ 47) text
+-- no byte is this one
+abbrev Lacks : ℕ → Text → Type 0
+Lacks c text = AllByRecursion (λ b. b ≢ c) text
 
-digit_plain : (d : ℕ) → d < 10 → digit_glyph false d ≢ 47
-digit_plain d small e = grind (arith, common_steps)
+digit_lacks : (c d : ℕ) → c < 48 → d < 10 → digit_glyph false d ≢ c
+digit_lacks c d low small e = grind (arith, common_steps)
 
-onto_plain : (k n : ℕ) (rest : Text) → IsPlain rest → IsPlain (digits_onto k 10 false n rest)
-onto_plain zero n rest h = h
-onto_plain (suc k) n rest h = by (n / 10 == 0) (onto_plain k (n / 10) (digit_glyph false (n % 10) ∷ rest) (digit_plain (n % 10) (omega arith), h))
+onto_lacks : (c k n : ℕ) (rest : Text) → c < 48 → Lacks c rest → Lacks c (digits_onto k 10 false n rest)
+onto_lacks c zero n rest low h = h
+onto_lacks c (suc k) n rest low h = by (n / 10 == 0) (onto_lacks c k (n / 10) (digit_glyph false (n % 10) ∷ rest) low (digit_lacks c (n % 10) low (omega arith), h))
   where
-    by : (last : Bool) → IsPlain (digits_onto k 10 false (n / 10) (digit_glyph false (n % 10) ∷ rest)) → IsPlain (if last then digit_glyph false (n % 10) ∷ rest else digits_onto k 10 false (n / 10) (digit_glyph false (n % 10) ∷ rest))
-    by true more = (digit_plain (n % 10) (omega arith), h)
+    by : (last : Bool) → Lacks c (digits_onto k 10 false (n / 10) (digit_glyph false (n % 10) ∷ rest)) → Lacks c (if last then digit_glyph false (n % 10) ∷ rest else digits_onto k 10 false (n / 10) (digit_glyph false (n % 10) ∷ rest))
+    by true more = (digit_lacks c (n % 10) low (omega arith), h)
     by false more = more
 
-decimal_plain : (n : ℕ) → IsPlain (decimal n)
+decimal_lacks : (c n : ℕ) → c < 48 → Lacks c (decimal n)
 unfolding digits
-decimal_plain n = onto_plain 64 n [] tt
+decimal_lacks c n low = onto_lacks c 64 n [] low tt
 
-plain_append : (a b : Text) → IsPlain a → IsPlain b → IsPlain (a ++ b)
-plain_append [] b p q = q
-plain_append (c ∷ a) b p q = (p.0, plain_append a b p.1 q)
+lacks_append : (c : ℕ) (a b : Text) → Lacks c a → Lacks c b → Lacks c (a ++ b)
+lacks_append c [] b p q = q
+lacks_append c (d ∷ a) b p q = (p.0, lacks_append c a b p.1 q)
 
-id_plain : (id : ArchiveId) → IsPlain (id_text id)
-id_plain id = plain_append (decimal id.version) (45 ∷ decimal id.number) (decimal_plain id.version) (λ e. let h : ◌≡◌ {A = ℕ} 45 47 = e in omega arith, decimal_plain id.number)
+id_plain : (id : ArchiveId) → Lacks 47 (id_text id)
+id_plain id = lacks_append 47 (decimal id.version) (45 ∷ decimal id.number) (decimal_lacks 47 id.version (omega arith)) (λ e. let h : ◌≡◌ {A = ℕ} 45 47 = e in omega arith, decimal_lacks 47 id.number (omega arith))
 
--- the first slash divides a text
-divided : (a b x y : Text) → IsPlain a → IsPlain b → a ++ 47 ∷ x ≡ b ++ 47 ∷ y → (a ≡ b) × (x ≡ y)
-divided [] [] x y p q e = (refl, cc)
-divided [] (d ∷ b) x y p q e = absurd (q.0 (let h : d ≡ 47 = cc in h))
-divided (c ∷ a) [] x y p q e = absurd (p.0 (let h : c ≡ 47 = cc in h))
-divided (c ∷ a) (d ∷ b) x y p q e =
+-- the first byte of a kind divides a text
+divided : (s : ℕ) (a b x y : Text) → Lacks s a → Lacks s b → a ++ s ∷ x ≡ b ++ s ∷ y → (a ≡ b) × (x ≡ y)
+divided s [] [] x y p q e = (refl, cc)
+divided s [] (d ∷ b) x y p q e = absurd (q.0 (let h : d ≡ s = cc in h))
+divided s (c ∷ a) [] x y p q e = absurd (p.0 (let h : c ≡ s = cc in h))
+divided s (c ∷ a) (d ∷ b) x y p q e =
     let k : c ≡ d = cc in
-    let r = divided a b x y p.1 q.1 (let h : a ++ 47 ∷ x ≡ b ++ 47 ∷ y = cc in h) in
-    let s : a ≡ b = r.0 in (cc, r.1)
+    let r = divided s a b x y p.1 q.1 (let h : a ++ s ∷ x ≡ b ++ s ∷ y = cc in h) in
+    let t : a ≡ b = r.0 in (cc, r.1)
 
 -- ---- texts of one length in front
 
@@ -95,7 +97,7 @@ whole_of (History timeline) segment e = absurd (omega (arith, ap length e, lengt
 
 named_alike : (stanza : Text) (i j : ArchiveId) (name : ArchiveName) (segment : Segment) (sum : Text) → id_text i ⫽ wal_text name ≡ id_text j ⫽ segment_text segment → archive_name stanza i name sum ≡ archive_name stanza j (Whole segment) sum
 named_alike stanza i j name segment sum e =
-    let x = divided (id_text i) (id_text j) (wal_text name) (segment_text segment) (id_plain i) (id_plain j) e in
+    let x = divided 47 (id_text i) (id_text j) (wal_text name) (segment_text segment) (id_plain i) (id_plain j) e in
     let w = whole_of name segment x.1 in
     ap (λ (t : Text). archive_folder stanza ⫽ t ⫽ archive_text name sum) x.0
     ∙ ap (λ (t : Text). archive_folder stanza ⫽ id_text j ⫽ t) (ap (λ (n : ArchiveName). archive_text n sum) w.1 ∙ same_whole w.0 segment sum w.2)
@@ -131,7 +133,7 @@ told_by : (stanza : Text) (i j : ArchiveId) (name : ArchiveName) (segment : Segm
     (id_text i ⫽ wal_text name ≡ id_text j ⫽ segment_text segment) × (found ≡ sum)
 told_by stanza i j name segment found sum p q e =
     let below = append_cancel_left (archive_folder stanza) (47 ∷ (id_text i ⫽ archive_text name (sum_text found))) (47 ∷ (id_text j ⫽ archive_text (Whole segment) (sum_text sum))) e in
-    let x = divided (id_text i) (id_text j) (archive_text name (sum_text found)) (archive_text (Whole segment) (sum_text sum)) (id_plain i) (id_plain j) (ap (drop 1) below) in
+    let x = divided 47 (id_text i) (id_text j) (archive_text name (sum_text found)) (archive_text (Whole segment) (sum_text sum)) (id_plain i) (id_plain j) (ap (drop 1) below) in
     let y = stored_of name segment found sum p q x.1 in
     (ap (λ (t : Text). t ⫽ wal_text name) x.0 ∙ ap (λ (t : Text). id_text j ⫽ t) y.0, y.1)
 
@@ -144,3 +146,18 @@ same_file stanza x id segment bytes found sum p q e =
 pub same_sum : (stanza : Text) (x : Archived) (id : ArchiveId) (segment : Segment) (found sum : Text) → IsArchivePlace x.id x.name found → IsArchivePlace id (Whole segment) sum
     → archive_name stanza x.id x.name (sum_text found) ≡ archive_name stanza id (Whole segment) (sum_text sum) → found ≡ sum
 same_sum stanza x id segment found sum p q e = (told_by stanza x.id id x.name segment found sum p.digest q.digest e).1
+
+-- the text of an id is that of no other
+id_of_text : (i j : ArchiveId) → i.version < 2 ^ 32 → i.number < 2 ^ 32 → j.version < 2 ^ 32 → j.number < 2 ^ 32 → id_text i ≡ id_text j → i ≡ j
+id_of_text i j iv im jv jn e =
+    let x = divided 45 (decimal i.version) (decimal j.version) (decimal i.number) (decimal j.number) (decimal_lacks 45 i.version (omega arith)) (decimal_lacks 45 j.version (omega arith)) e in
+    let version : i.version ≡ j.version = decimal_injective i.version j.version (omega arith) (omega arith) x.0 in
+    let number : i.number ≡ j.number = decimal_injective i.number j.number (omega arith) (omega arith) x.1 in
+    ap₂ (λ (v n : ℕ). let k : ArchiveId = record { version = v; number = n } in k) version number
+
+-- a file that lies at a name of a whole segment is of its id
+pub same_id : (stanza : Text) (x : Archived) (id : ArchiveId) (segment : Segment) (found sum : Text) → IsArchivePlace x.id x.name found → IsArchivePlace id (Whole segment) sum
+    → archive_name stanza x.id x.name (sum_text found) ≡ archive_name stanza id (Whole segment) (sum_text sum) → x.id ≡ id
+same_id stanza x id segment found sum p q e =
+    let alike = (told_by stanza x.id id x.name segment found sum p.digest q.digest e).0 in
+    id_of_text x.id id p.version p.number q.version q.number (divided 47 (id_text x.id) (id_text id) (wal_text x.name) (segment_text segment) (id_plain x.id) (id_plain id) alike).0

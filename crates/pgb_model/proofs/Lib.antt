@@ -18,3 +18,5 @@ pub mod Logged
 pub mod PushSound
 pub mod PushDone
 pub mod Reopened
+pub mod Turned
+pub mod Waited

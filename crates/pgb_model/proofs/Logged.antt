@@ -57,38 +57,54 @@ module _ (stanza : Text) (command : Command) (q : Repository) (log : List Done) 
     either : (t s : ℕ) → (t ≤ s) ⊎ (s ≤ t)
     either t s = grind arith
 
-    module _ (begun : IsBegun stanza q log b) (keeps_sound : KeepsSound command) (P : Content → Type 0) (part : (g : Content) → P g → IsPart stanza command begun.repository g)
-        (d : View) (moves : Moves stanza P b d) where
+    -- a part of the command, or all of it, where that keeps the repository sound
+    module _ (begun : IsBegun stanza q log b) (sound : (whole : Bool) (done : List Step) → IsDone whole done (steps_of command begun.repository) → IsSound (after begun.repository done))
+        (P : Content → Type 0) (part : (g : Content) → P g → IsPart stanza command begun.repository g) (d : View) (moves : Moves stanza P b d) where
       by_part : (g : Content) → P g → StandsAfter stanza q (undone ∷ log) g
       by_part g p = let x = part g p in record {
         repository = after begun.repository x.0;
         reached = (begun.repository, begun.reached, (x.0, refl, x.1));
-        sound = keeps_sound begun.repository false x.0 begun.sound x.1;
+        sound = sound false x.0 x.1;
         stands = x.2;
       }
 
-      pub moves_keep : KeepsRepository stanza q (undone ∷ log) d
-      moves_keep = record { fixed = moves.fixed; places = moves.places; stands = λ f leaves. by_part f (moves.leaves d.moment f moves.later (omega arith) leaves) }
+      pub part_keeps : KeepsRepository stanza q (undone ∷ log) d
+      part_keeps = record { fixed = moves.fixed; places = moves.places; stands = λ f leaves. by_part f (moves.leaves d.moment f moves.later (omega arith) leaves) }
 
-      pub moves_between : LeavesOnly (StandsAfter stanza q (undone ∷ log)) a d
-      moves_between t f lo hi leaves = ⊎_elim
+      pub part_between : LeavesOnly (StandsAfter stanza q (undone ∷ log)) a d
+      part_between t f lo hi leaves = ⊎_elim
           (λ (now : d.now ≡ Some f). by_part f (moves.leaves d.moment f moves.later (omega arith) (inl now)))
           (λ (image : IsImage d t f). ⊎_elim
           (λ (le : t ≤ b.moment). still_after f (keeps.stands f (inr (between_image t f lo le (λ n. ⊎_elim (λ k. inl (moves.past t n (f n) le k)) (λ l. inr (sym (moves.past_loose t n le) ∙ l.0, l.1)) (image n))))))
           (λ (ge : b.moment ≤ t). by_part f (moves.leaves t f ge hi (inr image)))
           (either t b.moment)) leaves
 
-      pub moves_done : IsSteady stanza (after begun.repository (all_of (steps_of command begun.repository))) d → KeepsRepository stanza q (acknowledged ∷ log) d
-      moves_done s = record {
+      pub whole_keeps : IsSteady stanza (after begun.repository (all_of (steps_of command begun.repository))) d → KeepsRepository stanza q (acknowledged ∷ log) d
+      whole_keeps s = record {
         fixed = s.fixed;
         places = s.places;
         stands = λ f leaves. record {
           repository = after begun.repository (all_of (steps_of command begun.repository));
           reached = (begun.repository, begun.reached, (all_of (steps_of command begun.repository), refl, refl));
-          sound = keeps_sound begun.repository true (all_of (steps_of command begun.repository)) begun.sound refl;
+          sound = sound true (all_of (steps_of command begun.repository)) refl;
           stands = s.stands f leaves;
         };
       }
+
+    -- the same of a command that keeps every repository sound
+    module _ (begun : IsBegun stanza q log b) (keeps_sound : KeepsSound command) (P : Content → Type 0) (part : (g : Content) → P g → IsPart stanza command begun.repository g)
+        (d : View) (moves : Moves stanza P b d) where
+      sound_here : (whole : Bool) (done : List Step) → IsDone whole done (steps_of command begun.repository) → IsSound (after begun.repository done)
+      sound_here whole done is = keeps_sound begun.repository whole done begun.sound is
+
+      pub moves_keep : KeepsRepository stanza q (undone ∷ log) d
+      moves_keep = part_keeps begun sound_here P part d moves
+
+      pub moves_between : LeavesOnly (StandsAfter stanza q (undone ∷ log)) a d
+      moves_between = part_between begun sound_here P part d moves
+
+      pub moves_done : IsSteady stanza (after begun.repository (all_of (steps_of command begun.repository))) d → KeepsRepository stanza q (acknowledged ∷ log) d
+      moves_done s = whole_keeps begun sound_here P part d moves s
 
 -- stanza-create
 pub one_part : (t : Step) (done : List Step) → IsPartOf done (One t ∷ []) → (done ≡ []) ⊎ (done ≡ t ∷ [])

@@ -47,11 +47,11 @@ current_of s v i same at = identity_at (at_number (current_number s) s.history) 
 
 -- ---- its steps
 
-all_one : (steps : List Step) → all_of (map One steps) ≡ steps
+pub all_one : (steps : List Step) → all_of (map One steps) ≡ steps
 all_one [] = refl
 all_one (t ∷ steps) = ap (λ (x : List Step). t ∷ x) (all_one steps)
 
-after_some : (s : Stanza) (steps : List Step) → after (Some s) steps ≡ Some (after_all s steps)
+pub after_some : (s : Stanza) (steps : List Step) → after (Some s) steps ≡ Some (after_all s steps)
 after_some s [] = refl
 after_some s (t ∷ steps) = after_some (changed t s) steps
 

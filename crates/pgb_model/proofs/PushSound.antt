@@ -59,7 +59,7 @@ module _ (s : Stanza) (a : Archived) where
     backups = backups_more [] s.backups h.backups;
   }
 
-  pushed : (whole : Bool) (done : List Step) → IsSoundStanza s → (c : Cluster) → In c s.history → a.id ≡ id_of c → IsDone whole done (map One (push_of s a)) → IsSound (after (Some s) done)
+  pub pushed : (whole : Bool) (done : List Step) → IsSoundStanza s → (c : Cluster) → In c s.history → a.id ≡ id_of c → IsDone whole done (map One (push_of s a)) → IsSound (after (Some s) done)
   pushed whole done h c at id is = go (is_archived a s.archived) refl whole is
     where
       with_it : (is_archived a s.archived ≡ true → ⊥) → done ≡ Push a ∷ [] → IsSound (after (Some s) done)

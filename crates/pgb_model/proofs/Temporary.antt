@@ -10,7 +10,7 @@ use Rattle.pgb_model.specs.declared.wal.ArchiveId.{ArchiveId}
 use Rattle.pgb_model.specs.declared.wal.ArchiveName.{ArchiveName}
 use Rattle.pgb_model.specs.declared.wal.ArchiveName.TheVariants.{Segment as Whole, Partial, History, Backup}
 use Rattle.pgb_model.specs.Text.{Text, ◌⫽◌, hex_upper}
-use Rattle.pgb_model.specs.Names.{copy_of, archive_info, backup_info, archive_folder, backup_folder, archive_name, id_text, archive_text, manifest_name, label_folder, file_name, bundle_name, segment_folder, segment_text}
+use Rattle.pgb_model.specs.Names.{copy_of, archive_info, backup_info, archive_folder, backup_folder, archive_name, id_text, archive_text, manifest_name, label_folder, file_name, bundle_name, segment_folder, segment_text, receipt_name, wal_text}
 use Rattle.std.specs.Prelude.{slice_index}
 use Rattle.hex.specs.Hex.{encode_with, lower_digits}
 use Rattle.pgb_text.specs.Sum.{IsSum, sum_text}
@@ -121,6 +121,16 @@ file_lasts_by stanza id (Backup s number) sum h =
 file_lasts_by stanza id (History timeline) sum h =
     let x = file_ends (codes "history") stanza id (archive_text (History timeline) (sum_text sum)) (in_front (codes "history") (hex_upper 8 timeline) (codes ".history") (itself (codes "history") (46 ∷ []))) in
     apart_by _ x.0 104 105 (codes "story") x.1 (λ e. let h : ◌≡◌ {A = ℕ} 114 109 = e in omega arith)
+
+-- a mark in the spool
+marked_ends : (stanza text e : Text) → EndsIn e (archive_folder stanza ⫽ codes "out" ⫽ (text ++ e))
+marked_ends stanza text e = below e (archive_folder stanza) (codes "out" ⫽ (text ++ e)) (below e (codes "out") (text ++ e) (itself e text))
+
+pub receipt_lasts : (stanza : Text) (name : ArchiveName) → ¬ IsTemporary (receipt_name stanza name)
+receipt_lasts stanza name = let x = marked_ends stanza (wal_text name) (codes ".ok") in apart_by _ x.0 46 111 (codes "k") x.1 (λ e. let h : ◌≡◌ {A = ℕ} 111 109 = e in omega arith)
+
+pub refusal_lasts : (stanza text : Text) → ¬ IsTemporary (archive_folder stanza ⫽ codes "out" ⫽ (text ++ codes ".error"))
+refusal_lasts stanza text = let x = marked_ends stanza text (codes ".error") in apart_by _ x.0 46 101 (codes "rror") x.1 (λ e. let h : ◌≡◌ {A = ℕ} 111 109 = e in omega arith)
 
 pub info_lasts : (folder info name : Text) → name ≡ folder ⫽ (info ++ codes ".info") → ¬ IsTemporary name
 info_lasts folder info name is =

@@ -1,6 +1,6 @@
 use Rattle.pgb_model.proofs.Segments.{still_moves}
 use Rattle.pgb_archive.specs.Stored.{archived_segment}
-use Rattle.pgb_archive.proofs.Placed.{none_moves, shown_free, shown_one, temporary_of, lies_of, lasting_of, put_part, put_done, put_moves, put_steady, kept_done, kept_steady}
+use Rattle.pgb_archive.proofs.Placed.{none_moves, none_only, still_only, put_only, shown_free, shown_one, temporary_of, lies_of, lasting_of, put_part, put_done, put_moves, put_steady, kept_done, kept_steady}
 use Rattle.pgb_archive.proofs.pushing.push.Goals as goal
 
 pub returns-in_err-check_header-clause-moves : goal.returns-in_err-check_header-clause-moves
@@ -70,3 +70,29 @@ returns-in-One-clause-done g c =
 pub returns-in-One-clause-stored : goal.returns-in-One-clause-stored
 returns-in-One-clause-stored g c =
     λ s steady told. kept_steady c.args.stanza.now c.args.id.now c.args.segment.now c.in_ok-names.names c.in_ok-names.ensures.names c.segment_names.ensures.place c.args.bytes.now c.of-sum.result.0 c.of-sum.ensures s (g.D.Disk.view c.args.d.now) _ c.look_for.ensures.time c.look_for.ensures.now steady told (shown_one c.args.stanza.now c.args.id.now c.args.segment.now c.in_ok-names.names c.in_ok-names.ensures.names (g.D.Disk.view c.args.d.now).now _ _ c.in-One.is c.in_ok-look_for.ensures.shows)
+
+pub returns-in_err-check_header-clause-only : goal.returns-in_err-check_header-clause-only
+returns-in_err-check_header-clause-only g c = none_only c.args.stanza.now (g.D.Disk.view c.args.d.now)
+
+pub returns-in_err-names-clause-only : goal.returns-in_err-names-clause-only
+returns-in_err-names-clause-only g c = none_only c.args.stanza.now (g.D.Disk.view c.args.d.now)
+
+pub returns-in_err-look_for-clause-only : goal.returns-in_err-look_for-clause-only
+returns-in_err-look_for-clause-only g c = still_only c.args.stanza.now (g.D.Disk.view c.args.d.now) _ c.look_for.ensures.time c.look_for.ensures.now
+
+pub returns-in-One-clause-only : goal.returns-in-One-clause-only
+returns-in-One-clause-only g c = still_only c.args.stanza.now (g.D.Disk.view c.args.d.now) _ c.look_for.ensures.time c.look_for.ensures.now
+
+pub returns-in-One-2-clause-only : goal.returns-in-One-2-clause-only
+returns-in-One-2-clause-only g c = still_only c.args.stanza.now (g.D.Disk.view c.args.d.now) _ c.look_for.ensures.time c.look_for.ensures.now
+
+pub returns-clause-only : goal.returns-clause-only
+returns-clause-only g c = still_only c.args.stanza.now (g.D.Disk.view c.args.d.now) _ c.look_for.ensures.time c.look_for.ensures.now
+
+pub returns-in_err-put_at-in-Free-clause-only : goal.returns-in_err-put_at-in-Free-clause-only
+returns-in_err-put_at-in-Free-clause-only g c =
+    put_only c.args.stanza.now c.args.id.now c.args.segment.now c.in_ok-names.names c.in_ok-names.ensures.names c.of-sum.result.0 (g.D.Disk.view c.args.d.now) _ _ c.look_for.ensures.time c.look_for.ensures.now c.put_at.ensures.only
+
+pub returns-in-Free-clause-only : goal.returns-in-Free-clause-only
+returns-in-Free-clause-only g c =
+    put_only c.args.stanza.now c.args.id.now c.args.segment.now c.in_ok-names.names c.in_ok-names.ensures.names c.of-sum.result.0 (g.D.Disk.view c.args.d.now) _ _ c.look_for.ensures.time c.look_for.ensures.now c.put_at.ensures.only

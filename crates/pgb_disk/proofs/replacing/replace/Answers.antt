@@ -1,4 +1,4 @@
-use Rattle.pgb_disk.proofs.Replaced.{staged_crash, staged_now, published_crash, published_now, published_ends, published_whole, untold_same, untold_on}
+use Rattle.pgb_disk.proofs.Replaced.{staged_crash, staged_now, published_crash, published_now, published_ends, published_whole, staged_only, published_only, untold_same, untold_on}
 use Rattle.pgb_disk.proofs.replacing.replace.Goals as goal
 
 pub returns-in_err-staged-clause-crash : goal.returns-in_err-staged-clause-crash
@@ -33,3 +33,12 @@ returns-in_err-publish-clause-untold g c = λ none. untold_on c.publish.result _
 
 pub returns-clause-untold : goal.returns-clause-untold
 returns-clause-untold g c = λ none. untold_on c.publish.result _ _ _ (untold_same c.args.temp.now _ _ c.stage.ensures.others none) c.publish.ensures.now
+
+pub returns-in_err-staged-clause-only : goal.returns-in_err-staged-clause-only
+returns-in_err-staged-clause-only g c = staged_only c.args.temp.now c.args.name.now c.args.bytes.now c.requires.temporary c.requires.lasting _ _ c.stage.ensures.time c.stage.ensures.others
+
+pub returns-in_err-publish-clause-only : goal.returns-in_err-publish-clause-only
+returns-in_err-publish-clause-only g c = published_only c.args.temp.now c.args.name.now c.args.bytes.now c.requires.temporary c.requires.lasting c.publish.result _ _ _ _ c.in_ok-staged.ensures.name c.stage.ensures.time c.stage.ensures.others c.publish.ensures.time c.publish.ensures.now
+
+pub returns-clause-only : goal.returns-clause-only
+returns-clause-only g c = published_only c.args.temp.now c.args.name.now c.args.bytes.now c.requires.temporary c.requires.lasting c.publish.result _ _ _ _ c.in_ok-staged.ensures.name c.stage.ensures.time c.stage.ensures.others c.publish.ensures.time c.publish.ensures.now

@@ -1,0 +1,28 @@
+-- Calls that change only some names.
+use Rattle.std.proofs.Common.{◌≡◌, ap, ◌∙◌}
+use Rattle.pgb_outside.specs.Content.{Name, at}
+use Rattle.pgb_outside.specs.Moments.{View, Rests}
+use Rattle.pgb_outside.specs.Crash.{IsTemporary}
+use Rattle.pgb_outside.proofs.Steps.{goes_on, goes_wide}
+use Rattle.pgb_disk.specs.Store.{ChangesOnly}
+
+-- a call that only reads
+pub only_rests : (these : Name → Type 0) (a b : View) → Rests a b → b.now ≡ a.now → ChangesOnly these a b
+only_rests these a b rests same = record {
+  now = λ n off. ap (at n) same;
+  time = goes_wide (λ _ _. ⊥) (λ n _. these n) (λ _. ⊥) (λ n. these n × IsTemporary n) a b (λ n v h. absurd h) (λ n h. absurd h) rests;
+}
+
+-- one call after another
+pub only_on : (these : Name → Type 0) (a b c : View) → ChangesOnly these a b → ChangesOnly these b c → ChangesOnly these a c
+only_on these a b c p q = record {
+  now = λ n off. q.now n off ∙ p.now n off;
+  time = goes_on (λ n _. these n) (λ n. these n × IsTemporary n) a b c p.time q.time;
+}
+
+-- a call that changes fewer
+pub only_wide : (these those : Name → Type 0) (a b : View) → ((n : Name) → these n → those n) → ChangesOnly these a b → ChangesOnly those a b
+only_wide these those a b wider p = record {
+  now = λ n off. p.now n (λ h. off (wider n h));
+  time = goes_wide (λ n _. these n) (λ n _. those n) (λ n. these n × IsTemporary n) (λ n. those n × IsTemporary n) a b (λ n v h. wider n h) (λ n h. (wider n h.0, h.1)) p.time;
+}
