@@ -30,11 +30,9 @@ fn help(alloc: Global) -> Result<String, AllocError> {
     let mut text = String::from_str(alloc, VERSION)?;
     text.push_str(USAGE)?;
     text.push_str("\nCommands:\n")?;
-    for verb in VERBS {
-        if let Some(purpose) = purpose_of(verb) {
-            text.push_str(&format!(in alloc; "  {}{}\n", verb_word(verb), purpose)?)?;
-        }
-    }
+    add_commands(alloc, &mut text, true)?;
+    text.push_str("\nCommands that are not built yet:\n")?;
+    add_commands(alloc, &mut text, false)?;
     text.push_str("\nOptions:\n")?;
     for option in TABLE {
         if has_effect(option) {
@@ -50,6 +48,22 @@ fn help(alloc: Global) -> Result<String, AllocError> {
     }
     text.push_str("\n")?;
     Ok(text)
+}
+
+// The commands that are built, or the others, a line each.
+fn add_commands(alloc: Global, text: &mut String, built: bool) -> Result<(), AllocError> {
+    for verb in VERBS {
+        if let Some(purpose) = purpose_of(verb) {
+            if is_built(verb) == built {
+                text.push_str(&format!(in alloc; "  {}{}\n", verb_word(verb), purpose)?)?;
+            }
+        }
+    }
+    Ok(())
+}
+
+fn is_built(verb: Verb) -> bool {
+    matches!(verb, Verb::StanzaCreate | Verb::ArchivePush)
 }
 
 // The parameters of a command and what it does. The program starts the asynchronous forms itself.

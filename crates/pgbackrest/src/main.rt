@@ -4,6 +4,7 @@
 mod disk;
 mod faults;
 mod handles;
+mod help;
 mod locks;
 mod place;
 #[cfg(test)]
@@ -16,6 +17,7 @@ mod turns;
 mod walk;
 
 use disk::RealDisk;
+use help::asked_for;
 use locks::RealLocks;
 use pgb_command::{Outside, run};
 use pgb_outside::{Link, NotThere};
@@ -29,13 +31,27 @@ use turns::RoundRobin;
 
 const NOT_UTF8: u8 = 13;
 
+const NO_OUTPUT: u8 = 87;
+
 const NO_MEMORY: u8 = 90;
 
 fn main(rt: HostRuntime) -> ExitCode {
-    match words(&rt) {
-        Ok(words) => ExitCode::from(status_of(rt, &words)),
-        Err(e) if e.kind() == ErrorKind::OutOfMemory => ExitCode::from(NO_MEMORY),
-        Err(_) => ExitCode::from(NOT_UTF8),
+    let words = match words(&rt) {
+        Ok(words) => words,
+        Err(e) if e.kind() == ErrorKind::OutOfMemory => return ExitCode::from(NO_MEMORY),
+        Err(_) => return ExitCode::from(NOT_UTF8),
+    };
+    match asked_for(rt.alloc(), &words) {
+        Ok(Some(text)) => ExitCode::from(show(rt, &text)),
+        Ok(None) => ExitCode::from(status_of(rt, &words)),
+        Err(_) => ExitCode::from(NO_MEMORY),
+    }
+}
+
+fn show(rt: HostRuntime, text: &str) -> u8 {
+    match print!(rt; "{text}") {
+        Ok(()) => 0,
+        Err(_) => NO_OUTPUT,
     }
 }
 
