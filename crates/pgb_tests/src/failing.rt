@@ -1,7 +1,7 @@
 // Each call of a device fails in turn, and the same words are given again.
 use crate::fixture::{
-    EXISTING, Fails, Held, MADE, NAMES, NEVER, Room, SAMPLE, UNKNOWN, WORDS, holds, listing,
-    output, room, run_words, text_at,
+    Around, EXISTING, Fails, Held, MADE, NAMES, NEVER, NO_COMMAND, NOTHING, Room, SAMPLE, WORDS,
+    holds, listing, output, room, run_with, run_words, text_at,
 };
 use pgb_memory::{MemDisk, MemSink};
 use std::alloc::Global;
@@ -12,13 +12,16 @@ use std::test::Fail;
 enum Device {
     Disk,
     Tree,
+    Locks,
+    Source,
     Sink,
 }
 
-// Words over what a disk holds, and the answer.
+// Words and a configuration over what a disk holds, and the answer.
 #[derive(Clone, Copy, Debug)]
 struct Run {
     words: &'static [&'static str],
+    config: Option<&'static [u8]>,
     held: Held<'static>,
     status: u8,
     line: &'static str,
@@ -26,6 +29,7 @@ struct Run {
 
 const MAKING: Run = Run {
     words: &WORDS,
+    config: Some(b"[global]\ndelta=y\n"),
     held: &[],
     status: 0,
     line: "",
@@ -33,29 +37,35 @@ const MAKING: Run = Run {
 
 const MADE_BEFORE: Run = Run {
     words: &WORDS,
+    config: None,
     held: &MADE,
     status: 100,
     line: EXISTING,
 };
 
-const NOT_KNOWN: Run = Run {
-    words: &["stanza-create"],
+const WITHOUT_COMMAND: Run = Run {
+    words: &["--stanza=demo"],
+    config: None,
     held: &[],
-    status: 100,
-    line: UNKNOWN,
+    status: 2,
+    line: NO_COMMAND,
 };
 
 // How many of the four members are there after each failing call, from the first on, each number once.
-const FAILED: [(Run, Device, &'static [usize]); 9] = [
+const FAILED: [(Run, Device, &'static [usize]); 13] = [
     (MAKING, Device::Disk, &[0, 1, 2, 3, 4]),
     (MAKING, Device::Tree, &[0]),
+    (MAKING, Device::Locks, &[0]),
+    (MAKING, Device::Source, &[0]),
     (MAKING, Device::Sink, &[]),
     (MADE_BEFORE, Device::Disk, &[4]),
     (MADE_BEFORE, Device::Tree, &[4]),
+    (MADE_BEFORE, Device::Locks, &[4]),
+    (MADE_BEFORE, Device::Source, &[4]),
     (MADE_BEFORE, Device::Sink, &[4]),
-    (NOT_KNOWN, Device::Disk, &[]),
-    (NOT_KNOWN, Device::Tree, &[]),
-    (NOT_KNOWN, Device::Sink, &[0]),
+    (WITHOUT_COMMAND, Device::Disk, &[]),
+    (WITHOUT_COMMAND, Device::Locks, &[]),
+    (WITHOUT_COMMAND, Device::Sink, &[0]),
 ];
 
 // More calls than any run makes.
@@ -65,32 +75,35 @@ fn faults(room: &Room<MemSink>, device: Device) -> u64 {
     match device {
         Device::Disk => room.repo.faults(),
         Device::Tree => room.tree.faults(),
+        Device::Locks => room.locks.faults(),
+        Device::Source => room.config.faults(),
         Device::Sink => room.out.faults(),
     }
 }
 
-fn failing_room(
+// Runs the words with that call failing, in a new room.
+fn run_failing(
     alloc: Global,
-    held: Held,
+    run: Run,
     device: Device,
     number: u64,
-) -> Result<Room<MemSink>, Fail> {
-    let numbers = [number];
-    let fails = match device {
-        Device::Disk => Fails {
-            disk: &numbers,
-            ..NEVER
-        },
-        Device::Tree => Fails {
-            tree: &numbers,
-            ..NEVER
-        },
-        Device::Sink => Fails {
-            out: &numbers,
-            ..NEVER
-        },
+) -> Result<(u8, Room<MemSink>), Fail> {
+    let numbers: &[u64] = &[number];
+    let mut fails = NEVER;
+    let mut around = Around {
+        config: run.config,
+        ..NOTHING
     };
-    room(alloc, held, SAMPLE, fails)
+    match device {
+        Device::Disk => fails.disk = numbers,
+        Device::Tree => fails.tree = numbers,
+        Device::Locks => around.lock_fails = numbers,
+        Device::Source => around.source_fails = numbers,
+        Device::Sink => fails.out = numbers,
+    }
+    let mut room = room(alloc, run.held, SAMPLE, fails)?;
+    let status = run_with(alloc, run.words, around, &mut room)?;
+    Ok((status, room))
 }
 
 // The answer where a device fails.
@@ -98,6 +111,8 @@ fn answer_of(device: Device) -> (u8, &'static str) {
     match device {
         Device::Disk => (80, "ERROR: [080]: repository failed\n"),
         Device::Tree => (82, "ERROR: [082]: data folder failed\n"),
+        Device::Locks => (85, "ERROR: [085]: lock failed\n"),
+        Device::Source => (86, "ERROR: [086]: configuration failed\n"),
         Device::Sink => (87, ""),
     }
 }
@@ -160,8 +175,7 @@ fn check_failing(
     device: Device,
     number: u64,
 ) -> Result<Option<usize>, Fail> {
-    let mut room = failing_room(alloc, run.held, device, number)?;
-    let status = run_words(alloc, run.words, &mut room)?;
+    let (status, room) = run_failing(alloc, run, device, number)?;
     if faults(&room, device) == 0 {
         assert_eq!(rt; status, run.status);
         assert_eq!(rt; output(&room), Some(run.line));

@@ -1,7 +1,7 @@
 // The program over devices in memory.
 use crate::texts::{ARCHIVE_16, BACKUP_16};
 use pgb_command::{Outside, run};
-use pgb_memory::{MemDisk, MemNode, MemSink, MemTree};
+use pgb_memory::{MemDisk, MemLocks, MemNode, MemSink, MemSource, MemTree};
 use pgb_outside::{Disk, Found, Link, NotThere, Sink, Stop, Turns};
 use std::alloc::{AllocError, Global};
 use std::test::Fail;
@@ -14,8 +14,8 @@ pub(crate) type Room<O> = Outside<
     NotThere,
     NotThere,
     NotThere,
-    NotThere,
-    NotThere,
+    MemLocks,
+    MemSource,
     O,
 >;
 
@@ -54,6 +54,23 @@ pub(crate) const NEVER: Fails<'static> = Fails {
     out: &[],
 };
 
+/// What a run finds beside its room: the configuration, the names of the locks that others hold, and the numbers of the calls
+/// that are to fail.
+#[derive(Clone, Copy, Debug)]
+pub(crate) struct Around<'a> {
+    pub config: Option<&'a [u8]>,
+    pub held: &'a [&'a str],
+    pub source_fails: &'a [u64],
+    pub lock_fails: &'a [u64],
+}
+
+pub(crate) const NOTHING: Around<'static> = Around {
+    config: None,
+    held: &[],
+    source_fails: &[],
+    lock_fails: &[],
+};
+
 /// System 6917529027641081857, control file 1300, catalog 202307071.
 pub(crate) const CONTROL: &[u8] =
     b"\x01\x00\x00\x00\x00\x00\x00\x60\x14\x05\x00\x00\xff\xf5\x0e\x0c";
@@ -72,8 +89,8 @@ pub(crate) const WORDS: [&'static str; 6] = [
     "stanza-create",
 ];
 
-/// The line where the words aren't known.
-pub(crate) const UNKNOWN: &str = "ERROR: [100]: 'command line' is not built yet\n";
+/// The line where no word is a command.
+pub(crate) const NO_COMMAND: &str = "ERROR: [002]: no command found\n";
 
 /// The line where the stanza is there.
 pub(crate) const EXISTING: &str = "ERROR: [100]: 'existing stanza' is not built yet\n";
@@ -165,8 +182,8 @@ pub(crate) fn room_with<O: Sink + Drop>(
         server: NotThere::new(),
         aside: NotThere::new(),
         clock: NotThere::new(),
-        locks: NotThere::new(),
-        config: NotThere::new(),
+        locks: MemLocks::new(alloc, Vec::new(alloc), Vec::new(alloc)),
+        config: MemSource::new(alloc, None, Vec::new(alloc)),
         out,
     })
 }
@@ -182,18 +199,40 @@ pub(crate) fn room(
     room_with(alloc, held, folder, fails, out)
 }
 
-/// Runs the program with these words.
+fn owned(alloc: Global, words: &[&str]) -> Result<Vec<String>, AllocError> {
+    let mut owned = Vec::new(alloc);
+    for word in words {
+        owned.push(String::from_str(alloc, word)?)?;
+    }
+    Ok(owned)
+}
+
+/// Runs the program with these words, new locks and a new configuration.
+pub(crate) fn run_with<O: Sink>(
+    alloc: Global,
+    words: &[&str],
+    around: Around,
+    room: &mut Room<O>,
+) -> Result<u8, AllocError> {
+    let words = owned(alloc, words)?;
+    let file = match around.config {
+        Some(bytes) => Some(bytes.to_vec(alloc)?),
+        None => None,
+    };
+    let held = owned(alloc, around.held)?;
+    room.config = MemSource::new(alloc, file, around.source_fails.to_vec(alloc)?);
+    room.locks = MemLocks::new(alloc, held, around.lock_fails.to_vec(alloc)?);
+    let mut links: Vec<Box<dyn Link>> = Vec::new(alloc);
+    Ok(run(alloc, &words, room, &mut links, &mut First))
+}
+
+/// Runs the program with these words, without a configuration, where no lock is held.
 pub(crate) fn run_words<O: Sink>(
     alloc: Global,
     words: &[&str],
     room: &mut Room<O>,
 ) -> Result<u8, AllocError> {
-    let mut owned = Vec::new(alloc);
-    for word in words {
-        owned.push(String::from_str(alloc, word)?)?;
-    }
-    let mut links: Vec<Box<dyn Link>> = Vec::new(alloc);
-    Ok(run(alloc, &owned, room, &mut links, &mut First))
+    run_with(alloc, words, NOTHING, room)
 }
 
 /// The text that a name holds.

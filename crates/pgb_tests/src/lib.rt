@@ -16,6 +16,8 @@ mod fixture;
 #[cfg(test)]
 mod images;
 #[cfg(test)]
+mod locks;
+#[cfg(test)]
 mod outputs;
 #[cfg(test)]
 mod pairs;
@@ -24,8 +26,8 @@ mod pushing;
 #[cfg(test)]
 mod refusing;
 #[cfg(test)]
+mod settings;
+#[cfg(test)]
 mod storing;
 #[cfg(test)]
 mod texts;
-#[cfg(test)]
-mod words;

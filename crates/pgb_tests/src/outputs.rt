@@ -2,7 +2,8 @@
 ghost use Rattle.std.specs.Prelude.{None};
 
 use crate::fixture::{
-    EXISTING, Fails, Held, MADE, NEVER, SAMPLE, UNKNOWN, WORDS, output, room, room_with, run_words,
+    Around, Fails, Held, MADE, NEVER, NO_COMMAND, NOTHING, SAMPLE, WORDS, output, room, room_with,
+    run_with, run_words,
 };
 use pgb_outside::{Sink, Stop};
 use std::alloc::Global;
@@ -45,20 +46,45 @@ impl Sink for Narrow {
     }
 }
 
-const LINES: [(&'static [&'static str], Held<'static>, &'static str); 2] = [
-    (&WORDS, &MADE, EXISTING),
-    (&[], &[], UNKNOWN),
+// A configuration, words over what a disk holds, and the answer.
+const LINES: [(
+    Option<&'static [u8]>,
+    &'static [&'static str],
+    Held<'static>,
+    u8,
+    &'static str,
+); 3] = [
+    (
+        Some(b"[demo]\nx=1\n"),
+        &WORDS,
+        &[],
+        0,
+        "WARN: configuration file contains unknown option 'x'\n",
+    ),
+    (
+        Some(b"[demo]\nx=1\n"),
+        &WORDS,
+        &MADE,
+        100,
+        "WARN: configuration file contains unknown option 'x'\nERROR: [100]: 'existing stanza' is not built yet\n",
+    ),
+    (None, &[], &[], 2, NO_COMMAND),
 ];
 
 #[test]
 fn writes_what_the_output_takes(rt: HostRuntime) -> Result<(), Fail> {
     let alloc = rt.alloc();
-    for (words, held, line) in LINES {
+    for (config, words, held, status, line) in LINES {
+        let around = Around { config, ..NOTHING };
         for limit in 0..=line.len() {
             let out = Narrow::new(alloc, limit);
             let mut room = room_with(alloc, held, SAMPLE, NEVER, out)?;
-            let status = if limit < line.len() { 87 } else { 100 };
-            assert_eq!(rt; run_words(alloc, words, &mut room)?, status, "{limit}");
+            let status = if limit < line.len() { 87 } else { status };
+            assert_eq!(rt;
+                run_with(alloc, words, around, &mut room)?,
+                status,
+                "{limit}"
+            );
             assert_eq!(rt;
                 Some(room.out.text.as_slice()),
                 line.as_bytes().get(..limit)

@@ -96,16 +96,20 @@ pub(crate) fn log_room(
     Ok(room)
 }
 
+/// The words of archive-push, with the path of the file.
+pub(crate) const PUSH: [&'static str; 6] = [
+    "--stanza=demo",
+    "--pg1-path=/pg",
+    "--repo1-path=repo",
+    "--lock-path=lock",
+    "archive-push",
+    PATH,
+];
+
 /// Runs archive-push with this path.
 pub(crate) fn push(alloc: Global, path: &str, room: &mut Room<MemSink>) -> Result<u8, AllocError> {
-    let words = [
-        "--stanza=demo",
-        "--pg1-path=/pg",
-        "--repo1-path=repo",
-        "--lock-path=lock",
-        "archive-push",
-        path,
-    ];
+    let mut words: [&str; 6] = PUSH;
+    words[5] = path;
     run_words(alloc, &words, room)
 }
 
