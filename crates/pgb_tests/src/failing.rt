@@ -1,14 +1,14 @@
 // Each call of a device fails in turn, and the same words are given again.
 use crate::fixture::{
-    Around, EXISTING, Fails, Held, MADE, NAMES, NEVER, NO_COMMAND, NOTHING, Room, SAMPLE, WORDS,
-    holds, listing, output, room, run_with, run_words, text_at,
+    Around, EXISTING, Fails, Held, MADE, NAMES, NEVER, NO_COMMAND, Room, SAMPLE, WORDS, holds,
+    listing, output, room, run_with, run_words, text_at,
 };
 use pgb_memory::{MemDisk, MemSink};
 use std::alloc::Global;
 use std::process::Abort;
 use std::test::Fail;
 
-#[derive(Clone, Copy, Debug)]
+#[derive(Clone, Copy, Debug, PartialEq, Eq)]
 enum Device {
     Disk,
     Tree,
@@ -81,6 +81,11 @@ fn faults(room: &Room<MemSink>, device: Device) -> u64 {
     }
 }
 
+// These numbers, where this device is the failing one.
+fn numbers_of(device: Device, failing: Device, numbers: &[u64]) -> &[u64] {
+    if device == failing { numbers } else { &[] }
+}
+
 // Runs the words with that call failing, in a new room.
 fn run_failing(
     alloc: Global,
@@ -88,19 +93,18 @@ fn run_failing(
     device: Device,
     number: u64,
 ) -> Result<(u8, Room<MemSink>), Fail> {
-    let numbers: &[u64] = &[number];
-    let mut fails = NEVER;
-    let mut around = Around {
-        config: run.config,
-        ..NOTHING
+    let numbers = [number];
+    let fails = Fails {
+        disk: numbers_of(Device::Disk, device, &numbers),
+        tree: numbers_of(Device::Tree, device, &numbers),
+        out: numbers_of(Device::Sink, device, &numbers),
     };
-    match device {
-        Device::Disk => fails.disk = numbers,
-        Device::Tree => fails.tree = numbers,
-        Device::Locks => around.lock_fails = numbers,
-        Device::Source => around.source_fails = numbers,
-        Device::Sink => fails.out = numbers,
-    }
+    let around = Around {
+        config: run.config,
+        held: &[],
+        source_fails: numbers_of(Device::Source, device, &numbers),
+        lock_fails: numbers_of(Device::Locks, device, &numbers),
+    };
     let mut room = room(alloc, run.held, SAMPLE, fails)?;
     let status = run_with(alloc, run.words, around, &mut room)?;
     Ok((status, room))
