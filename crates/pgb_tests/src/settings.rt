@@ -353,40 +353,50 @@ fn makes_a_stanza_where_it_is_told(rt: HostRuntime) -> Result<(), Fail> {
     Ok(())
 }
 
-const MAKE: &str = "--stanza=demo --pg1-path=pg --no-online stanza-create";
-
-// Words, which file is read as their configuration, the number of its bytes, and the answer.
+// Words, the path that is read, the number of bytes there, and the answer.
 const READ: [(&'static str, &'static str, usize, u8, &'static str); 4] = [
-    ("", "/etc/pgbackrest/pgbackrest.conf", 1048576, 0, ""),
     (
+        "--stanza=demo --pg1-path=pg --no-online stanza-create",
+        "/etc/pgbackrest/pgbackrest.conf",
+        1048576,
+        0,
         "",
+    ),
+    (
+        "--stanza=demo --pg1-path=pg --no-online stanza-create",
         "/etc/pgbackrest/pgbackrest.conf",
         1048577,
         70,
         "ERROR: [070]: '/etc/pgbackrest/pgbackrest.conf' is longer than 1048576\n",
     ),
     (
-        "--config=/etc/own.conf",
+        "--stanza=demo --pg1-path=pg --no-online stanza-create --config=/etc/own.conf",
         "/etc/own.conf",
         1048577,
         70,
         "ERROR: [070]: '/etc/own.conf' is longer than 1048576\n",
     ),
-    ("--no-config", "", 1048577, 0, ""),
+    (
+        "--stanza=demo --pg1-path=pg --no-online stanza-create --no-config",
+        "",
+        1048577,
+        0,
+        "",
+    ),
 ];
 
 #[test]
 fn reads_one_mebibyte(rt: HostRuntime) -> Result<(), Fail> {
     let alloc = rt.alloc();
-    for (option, path, length, status, told) in READ {
+    for (words, path, length, status, told) in READ {
         let mut config = Vec::new(alloc);
         config.resize(length, b'#')?;
-        let words = format!(in alloc; "{MAKE} {option}")?;
+        let config = Some(config.as_slice());
         let mut room = room(alloc, &[], SAMPLE, NEVER)?;
         assert_eq!(rt;
-            run_line(alloc, &words, Some(&config), &mut room)?,
+            run_line(alloc, words, config, &mut room)?,
             status,
-            "{path}"
+            "{words}"
         );
         assert_eq!(rt; output(&room), Some(told));
         assert_eq!(rt; room.config.place(), path);
