@@ -90,8 +90,14 @@ refuse 25 'ERROR: [025]: control file has 15 bytes
 rm pg/global/pg_control
 refuse 28 "ERROR: [028]: 'global/pg_control' is missing
 "
-want 100 "ERROR: [100]: 'command line' is not built yet
+want 7 "ERROR: [007]: option 'pg1-path' is missing
 " --stanza=demo stanza-create
-want 100 "ERROR: [100]: 'command line' is not built yet
-"
+want 2 'ERROR: [002]: no command found
+'
+want 100 "ERROR: [100]: 'online' is not built yet
+" --stanza=demo --pg1-path=pg stanza-create
+program --help >help
+program version >version
+head -n 1 help | cmp -s - version || complain 'the help and the version tell different versions'
+grep -q '^  archive-push PATH: ' help || complain 'the help has no archive-push'
 exit "$wrong"
