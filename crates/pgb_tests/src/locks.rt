@@ -123,11 +123,7 @@ fn takes_its_lock_once(rt: HostRuntime) -> Result<(), Fail> {
             lock_fails,
             ..NOTHING
         };
-        assert_eq!(rt;
-            run_with(alloc, words, around, &mut room)?,
-            status,
-            "{wanted}"
-        );
+        assert_eq!(rt; run_with(alloc, words, around, &mut room)?, status);
         assert_eq!(rt; took(alloc, &room)?.as_str(), wanted);
         assert!(rt; room.locks.taken().is_empty());
         assert_eq!(rt; room.locks.refusals(), 0);
