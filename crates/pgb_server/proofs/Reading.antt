@@ -33,7 +33,7 @@ fails_bind faults.NoMemory read next h = tt
 fails_bind faults.Wire read next h = tt
 fails_bind (faults.ServerSaid code text) read next h = ap (λ r. r >>= next) h
 fails_bind (faults.AuthUnsupported code) read next h = ap (λ r. r >>= next) h
-fails_bind (faults.SystemMismatch kept found) read next h = absurd h
+fails_bind (faults.SystemMismatch kept found) read next h = ap (λ r. r >>= next) h
 fails_bind (faults.ServerForm at) read next h = ap (λ r. r >>= next) h
 fails_bind (faults.ServerEnded at) read next h = ap (λ r. r >>= next) h
 fails_bind (faults.TooLong length) read next h = ap (λ r. r >>= next) h

@@ -10,6 +10,7 @@ pub data Fault : Type 0 where
   too_many : (limit : ℕ) → Fault
   said : (code text : Text) → Fault
   auth : (code : ℕ) → Fault
+  mismatch : (kept found : ℕ) → Fault
 
 -- one reading after another: the first fault is told
 infixl 10 ◌>>=◌

@@ -4,6 +4,7 @@ pub mod Fields
 pub mod Cells
 pub mod Talk
 pub mod Session
+pub mod Rows
 pub mod Sends
 pub mod Views
 pub mod Reads

@@ -3,7 +3,7 @@ use Rattle.std.specs.Prelude.{◌≡◌, ◌≤◌, ℕ, List, Option, option_ma
 use Rattle.pgb_outside.specs.Cause.{Rises}
 use Rattle.pgb_server.specs.declared.fault.ServerFault.{ServerFault}
 use Rattle.pgb_server.specs.declared.fault.ServerFault.TheVariants as faults
-use Rattle.pgb_server.specs.Fault.{Fault, ended, form, too_long, too_many, said, auth}
+use Rattle.pgb_server.specs.Fault.{Fault, ended, form, too_long, too_many, said, auth, mismatch}
 
 -- a fault of the server's is the reading's own, with its place
 abbrev pub Fails : {Y : Type 0} → ServerFault → Result Y Fault → Type 0
@@ -13,7 +13,7 @@ Fails (faults.ServerSaid code text) read = read ≡ Err (said (string_bytes code
 Fails (faults.AuthUnsupported code) read = read ≡ Err (auth code)
 Fails (faults.ServerForm at) read = read ≡ Err (form at)
 Fails (faults.ServerEnded at) read = read ≡ Err (ended at)
-Fails (faults.SystemMismatch kept found) read = ⊥
+Fails (faults.SystemMismatch kept found) read = read ≡ Err (mismatch kept found)
 Fails (faults.TooLong length) read = read ≡ Err (too_long length)
 Fails (faults.TooMany limit) read = read ≡ Err (too_many limit)
 

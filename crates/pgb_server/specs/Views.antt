@@ -6,7 +6,9 @@ use Rattle.pgb_server.specs.declared.cells.Left as code_left
 use Rattle.pgb_server.specs.declared.message.Message as code_message
 use Rattle.pgb_server.specs.declared.talk.Talk as code_talk
 use Rattle.pgb_server.specs.declared.session.Session as code_session
+use Rattle.pgb_server.specs.declared.told.Stopped as code_stopped
 use Rattle.pgb_server.specs.Cells.{Left}
+use Rattle.pgb_server.specs.Rows.{Stop}
 use Rattle.pgb_server.specs.Message.{Message}
 use Rattle.pgb_server.specs.Talk.{Talk, Taken}
 
@@ -24,3 +26,6 @@ session_view s = record { bytes = s.taken; messages = s.messages }
 
 abbrev pub talk_view : code_talk.Talk → Talk
 talk_view t = record { phase = t.phase; row = cells_view t.row.items; row_end = t.row_end; taken = session_view t.session }
+
+abbrev pub stopped_view : code_stopped.Stopped → Stop
+stopped_view s = record { lsn = s.lsn.0; segment = s.segment; label_file = string_bytes s.label_file; map_file = string_bytes s.map_file }
