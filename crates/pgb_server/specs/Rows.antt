@@ -1,5 +1,5 @@
 -- What the rows of the queries tell (PostgreSQL manual, "System Information Functions" and "System Administration Functions").
-use Rattle.std.specs.Prelude.{◌≡◌, ◌≢◌, ◌<◌, ◌^◌, ℕ, Bool, true, false, List, [], ◌∷◌, Option, Some, None, unwrap_or, IfSome, Result, Ok, Err, codes, decimal}
+use Rattle.std.specs.Prelude.{◌≡◌, ◌≢◌, ◌<◌, ◌^◌, ◌⊎◌, ℕ, Bool, true, false, List, [], ◌∷◌, Option, Some, None, unwrap_or, IfSome, Result, Ok, Err, codes, decimal}
 use Rattle.pgb_model.specs.Text.{Text}
 use Rattle.pgb_model.specs.declared.wal.Segment.{Segment}
 use Rattle.pgb_model.specs.ManifestText.{IsSegSize}
@@ -10,7 +10,7 @@ use Rattle.pgb_server.specs.declared.told.Started.{Started}
 use Rattle.pgb_server.specs.declared.fault.ServerFault.{ServerFault}
 use Rattle.pgb_server.specs.Fault.{Fault, form, mismatch}
 use Rattle.pgb_server.specs.Talk.{Talk, Taken}
-use Rattle.pgb_server.specs.Reads.{Fails}
+use Rattle.pgb_server.specs.Reads.{Fails, IsOutside}
 
 -- the server's system and the size of its segments
 abbrev pub system_query : Text
@@ -54,14 +54,12 @@ pub record Stop : Type 0 where
   pub label_file : Text
   pub map_file : Text
 
--- four columns, of which the last may be NULL: then it is the empty text
-abbrev pub AreStopColumns : List (Option Text) → Text → Text → Text → Text → Type 0
-AreStopColumns row lsn segment label tablespaces = (last : Option Text) × (row ≡ Some lsn ∷ Some segment ∷ Some label ∷ last ∷ []) × (unwrap_or last [] ≡ tablespaces)
-
--- a position, the name of its segment, and the contents of two files
+-- a position, the name of its segment, and the contents of two files, of which the second may be NULL
 pub record IsStopRow (t : Talk) (s : Stop) : Type 0 where
   pub lsn : Text
-  pub columns : AreStopColumns t.row lsn (segment_text s.segment) s.label_file s.map_file
+  pub last : Option Text
+  pub columns : t.row ≡ Some lsn ∷ Some (segment_text s.segment) ∷ Some s.label_file ∷ last ∷ []
+  pub map : s.map_file ≡ unwrap_or last []
   pub position : IsLsn lsn s.lsn
   pub named : IsSegment s.segment
 
@@ -69,10 +67,10 @@ pub data StopOutcome (t : Talk) : Result Stop Fault → Type 0 where
   stopped : (s : Stop) → IsStopRow t s → StopOutcome t (Ok s)
   unstopped : ((s : Stop) → ¬ IsStopRow t s) → StopOutcome t (Err (form t.row_end))
 
--- an answer is one that the row allows
+-- an answer is one that the row allows, unless memory ran out
 abbrev pub Told : {X Y : Type 0} → (X → Y) → Result X ServerFault → (Result Y Fault → Type 0) → Type 0
 Told view (Ok x) Tells = Tells (Ok (view x))
-Told {Y} view (Err e) Tells = (outcome : Result Y Fault) × Tells outcome × Fails e outcome
+Told {Y} view (Err e) Tells = IsOutside e ⊎ ((outcome : Result Y Fault) × Tells outcome × Fails e outcome)
 
 -- a fault of the talk, or one that its row tells
 pub data Refuses {Y : Type 0} (e : ServerFault) (read : Result (Talk × List ℕ) Fault) (Tells : Talk → Result Y Fault → Type 0) : Type 0 where

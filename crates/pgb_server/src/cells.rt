@@ -34,7 +34,11 @@ fn text_cell<'a>(
     match text_of(text) {
         Some(text) => {
             left.cells.push(Some(String::from_str(alloc, text)?))?;
-            Ok(Left { cells: left.cells, at: left.at + 4 + text.len() as u64, rest })
+            Ok(Left {
+                cells: left.cells,
+                at: left.at + 4 + text.len() as u64,
+                rest,
+            })
         }
         None => Err(ServerFault::ServerForm { at: left.at + 4 }),
     }
@@ -53,7 +57,11 @@ fn next_cell<'a>(alloc: Global, mut left: Left<'a>) -> Result<Left<'a>, ServerFa
     let count = u32::from_be_bytes([front[0], front[1], front[2], front[3]]);
     if count == NULL {
         left.cells.push(None)?;
-        return Ok(Left { cells: left.cells, at: left.at + 4, rest });
+        return Ok(Left {
+            cells: left.cells,
+            at: left.at + 4,
+            rest,
+        });
     }
     match rest.split_at_checked(count as usize) {
         Some((text, after)) => text_cell(alloc, left, text, after),
@@ -80,7 +88,11 @@ pub(crate) fn cells(
         },
         _ => return Err(ServerFault::ServerForm { at }),
     };
-    let mut left = Left { cells: Vec::new(alloc), at: at + 2, rest };
+    let mut left = Left {
+        cells: Vec::new(alloc),
+        at: at + 2,
+        rest,
+    };
     for i in 0..columns {
         left = match next_cell(alloc, left) {
             Ok(next) => next,

@@ -5,7 +5,7 @@ ghost use Rattle.pgb_server.specs.declared.fault.ServerFault.TheVariants.{NoMemo
 use std::alloc::{AllocError, AllocFailed};
 
 /// Why a talk ended before its end. Places count the server's bytes, the first being 0.
-#[derive(Debug, Drop)]
+#[derive(Debug, PartialEq, Eq, Drop)]
 pub enum ServerFault {
     NoMemory,
     /// The connection failed.

@@ -46,7 +46,8 @@ pub fn check_system<V: Wire>(
     ensures place { V.place wire.new ≡ V.place wire.old }
     ensures cause { HasCause (V.faults wire.old) (V.faults wire.new) result }
 {
-    let text = "select system_identifier::text, (select setting from pg_catalog.pg_settings where name = 'wal_segment_size') from pg_catalog.pg_control_system()";
+    let text =
+        "select system_identifier::text, (select setting from pg_catalog.pg_settings where name = 'wal_segment_size') from pg_catalog.pg_control_system()";
     let talk = match ask(alloc, wire, session, text, 2) {
         Ok(talk) => talk,
         Err(fault) => return Err(fault),
@@ -130,7 +131,8 @@ pub fn stop_backup<V: Wire>(
     ensures place { V.place wire.new ≡ V.place wire.old }
     ensures cause { HasCause (V.faults wire.old) (V.faults wire.new) result }
 {
-    let text = "select lsn::text, pg_catalog.pg_walfile_name(lsn), labelfile, spcmapfile from pg_catalog.pg_backup_stop(false)";
+    let text =
+        "select lsn::text, pg_catalog.pg_walfile_name(lsn), labelfile, spcmapfile from pg_catalog.pg_backup_stop(false)";
     let talk = match ask(alloc, wire, session, text, 4) {
         Ok(talk) => talk,
         Err(fault) => return Err(fault),

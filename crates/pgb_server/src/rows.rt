@@ -1,5 +1,5 @@
 // What rows tell.
-ghost use Rattle.std.specs.Prelude.{◌≡◌, ◌≢◌, ◌<◌, ◌^◌, ◌∷◌, [], ℕ, Some, IfSome, IfNone, IfOk, decimal};
+ghost use Rattle.std.specs.Prelude.{◌≡◌, ◌≢◌, ◌<◌, ◌^◌, ◌∷◌, [], ℕ, Some, IfSome, IfNone, IfOk, decimal, Option, option_map, unwrap_or, string_bytes};
 ghost use Rattle.pgb_model.specs.declared.wal.Segment.{Segment};
 ghost use Rattle.pgb_model.specs.InfoFiles.{IsSegment};
 ghost use Rattle.pgb_model.specs.ManifestText.{IsSegSize};
@@ -7,7 +7,7 @@ ghost use Rattle.pgb_model.specs.Names.{segment_text};
 ghost use Rattle.pgb_model.specs.Text.{Text};
 ghost use Rattle.pgb_wal.specs.Lsn.{IsLsn};
 ghost use Rattle.pgb_server.specs.declared.told.Started.{Started};
-ghost use Rattle.pgb_server.specs.Rows.{IsSystemRow, IsStartRow, AreStopColumns, IsStopRow, Stop};
+ghost use Rattle.pgb_server.specs.Rows.{IsSystemRow, IsStartRow, IsStopRow, Stop};
 ghost use Rattle.pgb_server.specs.Views.{cells_view, talk_view, stopped_view};
 
 use crate::talk::Talk;
@@ -49,8 +49,12 @@ fn read_place(lsn: &str, segment: &str) -> Option<(Lsn, Segment)>
     ensures value { IfSome result (λ p. IsLsn lsn.now p.0.0 × IsSegment p.1 × (segment.now ≡ segment_text p.1)) }
     ensures none { IfNone result ((at : ℕ) (s : Segment) → IsLsn lsn.now at → IsSegment s → segment.now ≢ segment_text s) }
 {
-    let lsn = read_lsn(lsn.as_bytes())?;
-    let segment = read_segment(segment.as_bytes())?;
+    let Some(lsn) = read_lsn(lsn.as_bytes()) else {
+        return None;
+    };
+    let Some(segment) = read_segment(segment.as_bytes()) else {
+        return None;
+    };
     Some((lsn, segment))
 }
 
@@ -70,19 +74,32 @@ pub(crate) fn start_row(talk: &Talk) -> Option<Started>
     ensures value { IfSome result (λ s. IsStartRow (talk_view talk.now) s) }
     ensures none { IfNone result ((s : Started) → ¬ IsStartRow (talk_view talk.now) s) }
 {
-    let (lsn, segment) = two_texts(&talk.row)?;
-    let (lsn, segment) = read_place(lsn, segment)?;
+    let Some((first, second)) = two_texts(&talk.row) else {
+        return None;
+    };
+    let Some((lsn, segment)) = read_place(first, second) else {
+        return None;
+    };
     Some(Started { lsn, segment })
 }
 
-fn four_texts(row: &[Option<String>]) -> Option<(&str, &str, &str, &str)>
-    ensures value { IfSome result (λ p. AreStopColumns (cells_view row.now) p.0.now p.1.now p.2.now p.3.now) }
-    ensures none { IfNone result ((a b c d : Text) → ¬ AreStopColumns (cells_view row.now) a b c d) }
+fn four_texts(row: &[Option<String>]) -> Option<(&str, &str, &str, &Option<String>)>
+    ensures value { IfSome result (λ p. cells_view row.now ≡ Some p.0.now ∷ Some p.1.now ∷ Some p.2.now ∷ option_map string_bytes p.3.now ∷ []) }
+    ensures none { IfNone result ((a b c : Text) (d : Option Text) → cells_view row.now ≢ Some a ∷ Some b ∷ Some c ∷ d ∷ []) }
 {
     match row {
-        [Some(lsn), Some(segment), Some(label), Some(map)] => Some((lsn, segment, label, map)),
-        [Some(lsn), Some(segment), Some(label), None] => Some((lsn, segment, label, "")),
+        [Some(first), Some(second), Some(third), last] => Some((first, second, third, last)),
         _ => None,
+    }
+}
+
+// NULL is the empty text.
+fn text_or_empty(cell: &Option<String>) -> &str
+    ensures { result.now ≡ unwrap_or (option_map string_bytes cell.now) [] }
+{
+    match cell {
+        Some(text) => text,
+        None => "",
     }
 }
 
@@ -91,16 +108,16 @@ pub(crate) fn stop_row(alloc: Global, talk: &Talk) -> Result<Option<Stopped>, Al
     ensures value { IfOk result (λ o. IfSome o (λ s. IsStopRow (talk_view talk.now) (stopped_view s))) }
     ensures none { IfOk result (λ o. IfNone o ((s : Stop) → ¬ IsStopRow (talk_view talk.now) s)) }
 {
-    let Some((lsn, segment, label, map)) = four_texts(&talk.row) else {
+    let Some((first, second, label, map)) = four_texts(&talk.row) else {
         return Ok(None);
     };
-    let Some((lsn, segment)) = read_place(lsn, segment) else {
+    let Some((lsn, segment)) = read_place(first, second) else {
         return Ok(None);
     };
     Ok(Some(Stopped {
         lsn,
         segment,
         label_file: String::from_str(alloc, label)?,
-        map_file: String::from_str(alloc, map)?,
+        map_file: String::from_str(alloc, text_or_empty(map))?,
     }))
 }

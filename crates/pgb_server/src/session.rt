@@ -19,14 +19,20 @@ impl Session {
     pub(crate) fn new() -> Session
         ensures { session_view result ≡ record { bytes = 0; messages = 0 } }
     {
-        Session { taken: 0, messages: 0 }
+        Session {
+            taken: 0,
+            messages: 0,
+        }
     }
 
     /// The same once more.
     pub(crate) fn same(&self) -> Session
         ensures { result ≡ self.now }
     {
-        Session { taken: self.taken, messages: self.messages }
+        Session {
+            taken: self.taken,
+            messages: self.messages,
+        }
     }
 
     /// How many bytes were taken: fewer than 2^50.

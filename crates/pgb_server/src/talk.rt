@@ -61,12 +61,7 @@ fn hear_grant(talk: Talk, body: &[u8]) -> Result<Talk, ServerFault>
 }
 
 // A row of so many columns.
-fn hear_row(
-    alloc: Global,
-    columns: u16,
-    talk: Talk,
-    body: &[u8],
-) -> Result<Talk, ServerFault>
+fn hear_row(alloc: Global, columns: u16, talk: Talk, body: &[u8]) -> Result<Talk, ServerFault>
     requires few { talk.session.messages < 1000000 }
     requires short { length body.now ≤ 16777216 }
     ensures value { Gives talk_view result (hear_due columns Row (talk_view talk) (record { kind = 68; body = body.now })) }
@@ -86,7 +81,13 @@ fn hear_row(
     })
 }
 
-fn hear_due(alloc: Global, columns: u16, talk: Talk, body: &[u8], kind: u8) -> Result<Talk, ServerFault>
+fn hear_due(
+    alloc: Global,
+    columns: u16,
+    talk: Talk,
+    body: &[u8],
+    kind: u8,
+) -> Result<Talk, ServerFault>
     requires few { talk.session.messages < 1000000 }
     requires short { length body.now ≤ 16777216 }
     ensures value { Gives talk_view result (hear_due columns talk.phase (talk_view talk) (record { kind = kind; body = body.now })) }

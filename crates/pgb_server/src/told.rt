@@ -10,7 +10,7 @@ pub struct Started {
 
 /// Where a backup stops, and the contents of its `backup_label` and `tablespace_map`, the second empty where there is
 /// none.
-#[derive(Debug, Drop)]
+#[derive(Debug, PartialEq, Eq, Drop)]
 pub struct Stopped {
     pub lsn: Lsn,
     pub segment: Segment,
