@@ -1,5 +1,5 @@
 -- Readings of what is pending, one after another.
-use Rattle.std.proofs.Common.{◌≡◌, ℕ, List, take, drop, Option, Some, None, option_map, Result, Ok, Err, refl, sym, subst, ap, IfSome, IfOk, IfErr, OnOk, ◌∙◌, ◌+◌, ◌≤◌, ◌++◌, length, length-drop, arith}
+use Rattle.std.proofs.Common.{◌≡◌, ℕ, List, take, drop, Option, Some, None, option_map, Result, Ok, Err, refl, sym, subst, ap, IfSome, IfOk, IfErr, OnOk, ◌∙◌, ◌+◌, ◌≤◌, ◌⊎◌, inl, inr, ◌++◌, length, length-drop, arith}
 use Rattle.std.proofs.lemmas.List.{length-take-le, drop-drop, take-append-drop}
 use Rattle.std.proofs.Math.Seq.{take-append_seam}
 use Rattle.pgb_server.specs.declared.fault.ServerFault.{ServerFault}
@@ -23,6 +23,11 @@ outside_fails (faults.TooMany limit) read h = absurd h
 pub outside_all : {Y : Type 0} (e : ServerFault) (o : Option (Result Y Fault)) → IsOutside e → IfSome o (Fails e)
 outside_all e None h = tt
 outside_all e (Some r) h = outside_fails e r h
+
+-- memory that runs out afterwards says nothing of the reading
+pub fails_parted : {Y : Type 0} (o : Option (Result Y Fault)) (told fault : ServerFault) → (told ≡ fault) ⊎ (told ≡ faults.NoMemory) → IfSome o (Fails fault) → IfSome o (Fails told)
+fails_parted o told fault (inl same) h = subst (λ e. IfSome o (Fails e)) (sym same) h
+fails_parted o told fault (inr none) h = subst (λ e. IfSome o (Fails e)) (sym none) (outside_all faults.NoMemory o tt)
 
 pub taken : (n : ℕ) (bytes : List ℕ) (old new : Option (List ℕ)) → IfSome old (λ s. bytes ≡ take n s) → new ≡ option_map (drop n) old → option_map (take_at n) old ≡ option_map (λ rest. Ok (bytes, rest)) new
 taken n bytes None new b r = ap (option_map (λ rest. Ok (bytes, rest))) (sym r)

@@ -1,8 +1,8 @@
 -- Steps of the talk.
-use Rattle.std.proofs.Common.{◌≡◌, ◌<◌, ℕ, zero, suc, ◌-◌, ◌+◌, List, true, false, Option, Some, None, option_map, Result, Ok, Err, refl, sym, ap, subst, IfSome, ◌∙◌, arith}
+use Rattle.std.proofs.Common.{◌≡◌, ◌<◌, ℕ, zero, suc, ◌-◌, ◌+◌, List, true, false, Option, Some, None, option_map, Ok, Err, refl, sym, ap, subst, IfSome, ◌∙◌, arith}
 use Rattle.pgb_server.specs.declared.fault.ServerFault.{ServerFault}
 use Rattle.pgb_server.specs.declared.fault.ServerFault.TheVariants as faults
-use Rattle.pgb_server.specs.Fault.{Fault, too_many, ◌>>=◌}
+use Rattle.pgb_server.specs.Fault.{too_many, ◌>>=◌}
 use Rattle.pgb_server.specs.Message.{Message, message_at}
 use Rattle.pgb_server.specs.Talk.{Talk, hear, is_over, run}
 use Rattle.pgb_server.specs.Reads.{Fails}

@@ -1,8 +1,8 @@
 -- From a talk's row to what it tells.
-use Rattle.std.proofs.Common.{◌≡◌, ℕ, List, Option, Some, None, option_map, Result, Ok, Err, refl, sym, subst, ◌∙◌, ◌⊎◌, inl, inr, [], ◌∷◌, ◌≢◌, IfSome}
+use Rattle.std.proofs.Common.{◌≡◌, ℕ, List, Option, Some, None, option_map, Result, Ok, refl, sym, subst, ◌∙◌, ◌⊎◌, inl, inr, [], ◌∷◌, ◌≢◌, IfSome}
 use Rattle.pgb_server.specs.declared.fault.ServerFault.{ServerFault}
 use Rattle.pgb_server.specs.Fault.{Fault}
-use Rattle.pgb_server.specs.Talk.{Talk, Taken}
+use Rattle.pgb_server.specs.Talk.{Talk}
 use Rattle.pgb_server.specs.Reads.{Fails, IsOutside}
 use Rattle.pgb_model.specs.declared.wal.Segment.{Segment}
 use Rattle.pgb_model.specs.InfoFiles.{IsSegment}

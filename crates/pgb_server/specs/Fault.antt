@@ -1,5 +1,5 @@
 -- Why a talk ends before its end (PostgreSQL manual, "Message Flow").
-use Rattle.std.specs.Prelude.{ℕ, List, Result, Ok, Err}
+use Rattle.std.specs.Prelude.{ℕ, Result, Ok, Err}
 use Rattle.pgb_model.specs.Text.{Text}
 
 -- a place is counted in bytes from the server's first

@@ -1,5 +1,5 @@
 -- What an answer says of the bytes that were pending.
-use Rattle.std.specs.Prelude.{◌≡◌, ◌≤◌, ℕ, List, Option, option_map, IfSome, string_bytes, Result, Ok, Err, IsErrOf}
+use Rattle.std.specs.Prelude.{◌≡◌, ◌≤◌, ◌⊎◌, ◌++◌, ℕ, List, Option, option_map, IfSome, string_bytes, Result, Ok, Err, IsErrOf}
 use Rattle.pgb_outside.specs.Cause.{Rises}
 use Rattle.pgb_server.specs.declared.fault.ServerFault.{ServerFault}
 use Rattle.pgb_server.specs.declared.fault.ServerFault.TheVariants as faults
@@ -43,3 +43,7 @@ Reads view (Err e) old new read = IfSome (option_map read old) (Fails e)
 pub record HasCause {T : Type 0} (before now : ℕ) (result : Result T ServerFault) : Type 0 where
   pub later : before ≤ now
   pub failed : IsErrOf result faults.Wire → Rises before now
+
+-- these bytes were sent, or the connection's count of faults rose
+abbrev pub Sends : ℕ → ℕ → Option (List ℕ) → Option (List ℕ) → List ℕ → Type 0
+Sends before now old new bytes = (new ≡ option_map (λ s. s ++ bytes) old) ⊎ Rises before now

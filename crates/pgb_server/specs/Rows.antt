@@ -1,5 +1,5 @@
 -- What the rows of the queries tell (PostgreSQL manual, "System Information Functions" and "System Administration Functions").
-use Rattle.std.specs.Prelude.{◌≡◌, ◌≢◌, ◌<◌, ◌^◌, ◌⊎◌, ℕ, Bool, true, false, List, [], ◌∷◌, Option, Some, None, unwrap_or, IfSome, Result, Ok, Err, codes, decimal}
+use Rattle.std.specs.Prelude.{◌≡◌, ◌≢◌, ◌<◌, ◌^◌, ◌⊎◌, ℕ, Bool, true, false, List, [], ◌∷◌, Option, Some, unwrap_or, IfSome, Result, Ok, Err, codes, decimal}
 use Rattle.pgb_model.specs.Text.{Text}
 use Rattle.pgb_model.specs.declared.wal.Segment.{Segment}
 use Rattle.pgb_model.specs.ManifestText.{IsSegSize}

@@ -1,5 +1,5 @@
 -- What the code's values stand for.
-use Rattle.std.specs.Prelude.{ℕ, List, map, Option, option_map, string_bytes, String}
+use Rattle.std.specs.Prelude.{List, map, Option, option_map, string_bytes, String}
 use Rattle.std.specs.declared.alloc.Global.{Global}
 use Rattle.pgb_model.specs.Text.{Text}
 use Rattle.pgb_server.specs.declared.cells.Left as code_left

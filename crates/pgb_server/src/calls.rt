@@ -5,11 +5,11 @@ ghost use Rattle.pgb_server.specs.Sends.{startup_of, query_of, closing};
 ghost use Rattle.pgb_server.specs.Session.{start_at, row_at};
 ghost use Rattle.pgb_server.specs.Talk.{talk_at};
 ghost use Rattle.pgb_server.specs.Views.{session_view, cells_view, talk_view};
-ghost use Rattle.pgb_server.specs.Reads.{IsOutside, Reads, HasCause};
+ghost use Rattle.pgb_server.specs.Reads.{IsOutside, Reads, HasCause, Sends};
 
 use crate::fault::ServerFault;
 use crate::phase::Phase;
-use crate::sends::{open_wire, query, send, startup};
+use crate::sends::{open_wire, part, query, send, startup};
 use crate::session::Session;
 use crate::talk::{Talk, run};
 use pgb_outside::Wire;
@@ -38,7 +38,7 @@ fn hear_out<V: Wire>(
     run(alloc, wire, limit, columns, start)
 }
 
-/// Opens the server's socket and starts a session of this user in this database.
+/// Opens the server's socket and starts a session of this user in this database. A session that is refused is ended.
 pub fn open<V: Wire>(
     alloc: Global,
     wire: &mut V,
@@ -49,6 +49,7 @@ pub fn open<V: Wire>(
     requires { length user.now + length database.now + 26 < 2 ^ 32 }
     ensures read { Reads session_view result (V.pending wire.old) (V.pending wire.new) start_at }
     ensures sent { OnOk result (V.sent wire.new ≡ option_map (λ s. s ++ startup_of user.now database.now) (V.sent wire.old)) }
+    ensures parted { IfErr result (λ e. ¬ IsOutside e → Sends (V.faults wire.old) (V.faults wire.new) (V.sent wire.old) (V.sent wire.new) (startup_of user.now database.now ++ closing)) }
     ensures place { OnOk result (V.place wire.new ≡ path.now) }
     ensures cause { HasCause (V.faults wire.old) (V.faults wire.new) result }
 {
@@ -57,7 +58,7 @@ pub fn open<V: Wire>(
     send(wire, &message)?;
     match hear_out(alloc, wire, Phase::Granted, 0, Session::new()) {
         Ok(talk) => Ok(talk.session),
-        Err(fault) => Err(fault),
+        Err(fault) => Err(part(wire, fault)),
     }
 }
 

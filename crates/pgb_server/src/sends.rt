@@ -1,7 +1,8 @@
 // What is sent to a server.
-ghost use Rattle.std.specs.Prelude.{◌≡◌, ◌<◌, ◌+◌, ◌^◌, ◌++◌, length, IfOk, IfErr, OnOk, option_map};
-ghost use Rattle.pgb_server.specs.Sends.{startup_of, query_of};
-ghost use Rattle.pgb_server.specs.Reads.{IsOutside, HasCause};
+ghost use Rattle.std.specs.Prelude.{◌≡◌, ◌≢◌, ◌≤◌, ◌⊎◌, ◌<◌, ◌+◌, ◌^◌, ◌++◌, length, IfOk, IfErr, OnOk, option_map};
+ghost use Rattle.pgb_server.specs.declared.fault.ServerFault.TheVariants.{NoMemory};
+ghost use Rattle.pgb_server.specs.Sends.{startup_of, query_of, closing};
+ghost use Rattle.pgb_server.specs.Reads.{IsOutside, HasCause, Sends};
 
 use crate::fault::ServerFault;
 use pgb_outside::{Stop, Wire};
@@ -52,6 +53,19 @@ pub(crate) fn send<V: Wire>(wire: &mut V, bytes: &[u8]) -> Result<(), ServerFaul
         Ok(()) => Ok(()),
         Err(Stop::Failed) => Err(ServerFault::Wire),
         Err(Stop::NoMemory) => Err(ServerFault::NoMemory),
+    }
+}
+
+/// Ends a session that was refused. That this failed isn't told, but for want of memory.
+pub(crate) fn part<V: Wire>(wire: &mut V, fault: ServerFault) -> ServerFault
+    ensures fault { (result ≡ fault) ⊎ (result ≡ NoMemory) }
+    ensures sent { result ≢ NoMemory → Sends (V.faults wire.old) (V.faults wire.new) (V.sent wire.old) (V.sent wire.new) closing }
+    ensures later { V.faults wire.old ≤ V.faults wire.new }
+{
+    match wire.send(b"X\0\0\0\x04".as_slice()) {
+        Ok(()) => fault,
+        Err(Stop::Failed) => fault,
+        Err(Stop::NoMemory) => ServerFault::NoMemory,
     }
 }
 

@@ -1,4 +1,4 @@
-use Rattle.std.proofs.Common.{Ok, Err, ◌≡◌, subst, sym, Result, List, ℕ}
+use Rattle.std.proofs.Common.{Ok, Err, ◌≡◌, subst, sym, List, ℕ}
 use Rattle.pgb_server.specs.Fault.{◌>>=◌}
 use Rattle.pgb_server.specs.Message.{take_at, header_of, message_of, message_at}
 use Rattle.pgb_server.specs.Views.{message_view}

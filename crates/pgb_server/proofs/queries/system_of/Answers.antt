@@ -1,6 +1,6 @@
-use Rattle.std.proofs.Common.{◌≡◌, ℕ, Ok, Err, inr, refl, subst}
+use Rattle.std.proofs.Common.{ℕ, Err, inr, refl, subst}
 use Rattle.pgb_server.specs.Fault.{form, mismatch}
-use Rattle.pgb_server.specs.Rows.{SystemOutcome, IsSystemRow, same, other, wrong}
+use Rattle.pgb_server.specs.Rows.{IsSystemRow, same, other, wrong}
 use Rattle.pgb_server.specs.Views.{talk_view}
 use Rattle.pgb_server.proofs.queries.system_of.Goals as goal
 

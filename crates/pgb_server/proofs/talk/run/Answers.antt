@@ -1,6 +1,6 @@
-use Rattle.std.proofs.Common.{◌≡◌, ◌-◌, ◌+◌, ◌≤◌, ◌*◌, sym, ◌∙◌, subst, option_map, false, zero, arith, IfSome}
+use Rattle.std.proofs.Common.{◌≡◌, ◌-◌, ◌+◌, sym, ◌∙◌, subst, option_map, arith, IfSome}
 use Rattle.pgb_server.specs.declared.fault.ServerFault.TheVariants as faults
-use Rattle.pgb_server.specs.Talk.{run, is_over}
+use Rattle.pgb_server.specs.Talk.{run}
 use Rattle.pgb_server.specs.Views.{talk_view, message_view}
 use Rattle.pgb_server.specs.Reads.{Fails}
 use Rattle.pgb_server.proofs.Runs.{over_all, end_all, left, on_message_fault, on_hear_fault, on_next}

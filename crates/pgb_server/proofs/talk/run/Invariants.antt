@@ -1,4 +1,4 @@
-use Rattle.std.proofs.Common.{◌≡◌, ◌≤◌, ◌+◌, ◌*◌, ◌-◌, option_map}
+use Rattle.std.proofs.Common.{◌≡◌, ◌≤◌, ◌+◌, ◌-◌, option_map}
 use Rattle.pgb_server.specs.Talk.{run}
 use Rattle.pgb_server.specs.Views.{talk_view}
 use Rattle.pgb_server.proofs.talk.run.Given as goal
