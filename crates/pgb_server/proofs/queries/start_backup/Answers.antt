@@ -1,0 +1,10 @@
+use Rattle.pgb_server.specs.declared.phase.Phase.TheVariants.{Heading}
+use Rattle.pgb_server.specs.Rows.{StartOutcome}
+use Rattle.pgb_server.specs.Talk.{talk_at}
+use Rattle.pgb_server.specs.Views.{session_view, talk_view}
+use Rattle.pgb_server.proofs.Telling.{told_refuses}
+use Rattle.pgb_server.proofs.queries.start_backup.Goals as goal
+
+pub returns-clause-read : goal.returns-clause-read
+returns-clause-read g c =
+    told_refuses StartOutcome (g.V.Wire.pending c.args.wire.now) (talk_at Heading 2 (session_view c.args.session.now)) c.in-Err-start_of.fault (talk_view c.in-Ok.talk) (g.V.Wire.pending c.ask.new.wire) c.in-Ok.ensures.read c.in-Err-start_of.ensures.value

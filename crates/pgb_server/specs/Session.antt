@@ -1,0 +1,29 @@
+-- What a session's calls read of the bytes that are pending.
+use Rattle.std.specs.Prelude.{ℕ, List, Option, Result, Ok}
+use Rattle.pgb_model.specs.Text.{Text}
+use Rattle.pgb_server.specs.declared.phase.Phase.TheVariants.{Granted, Heading}
+use Rattle.pgb_server.specs.Fault.{Fault, ◌>>=◌}
+use Rattle.pgb_server.specs.Talk.{Talk, Taken, talk_at}
+
+-- a part of what was read
+abbrev pub part_of : {Y W : Type 0} → (Y → W) → Y × List ℕ → Result (W × List ℕ) Fault
+part_of f p = Ok (f p.0, p.1)
+
+-- a row, and how much was taken behind it
+pub record Asked : Type 0 where
+  pub cells : List (Option Text)
+  pub taken : Taken
+
+abbrev pub asked : Talk → Asked
+asked t = record { cells = t.row; taken = t.taken }
+
+abbrev pub taken_of : Talk → Taken
+taken_of t = t.taken
+
+-- the answer to the startup message
+unfoldable pub start_at : List ℕ → Result (Taken × List ℕ) Fault
+start_at s = talk_at Granted 0 (record { bytes = 0; messages = 0 }) s >>= part_of taken_of
+
+-- the answer to a query that has so many columns
+unfoldable pub row_at : ℕ → Taken → List ℕ → Result (Asked × List ℕ) Fault
+row_at columns taken s = talk_at Heading columns taken s >>= part_of asked

@@ -1,0 +1,138 @@
+//! A connection in memory.
+
+ghost use Rattle.std.specs.Prelude.{◌≡◌, ◌≤◌, [], IsTrue, Some, drop, vec_len, string_bytes};
+ghost use Rattle.pgb_outside.specs.Cause.{Rises};
+
+use pgb_outside::{Stop, Wire};
+use std::alloc::Global;
+
+// Which calls are to fail, and how many calls and faults there were.
+#[derive(Drop)]
+struct Calls {
+    fail: Vec<u64>,
+    calls: u64,
+    faults: u64,
+}
+
+impl Calls {
+    // Counts a call, and answers whether it is to fail, which is a fault.
+    fn fails(&mut self) -> bool
+        ensures later { self.old.faults ≤ self.new.faults }
+        ensures rises { IsTrue result → Rises self.old.faults self.new.faults }
+    {
+        let number = self.calls;
+        let faults = self.faults;
+        self.calls = number.saturating_add(1);
+        let fails = self.fail.contains(&number);
+        if fails {
+            self.faults = faults.saturating_add(1);
+        }
+        fails
+    }
+}
+
+/// Gives its input in pieces of these sizes, and as much as fits after the last, and keeps what it was sent.
+#[derive(Drop)]
+pub struct MemWire {
+    alloc: Global,
+    input: Vec<u8>,
+    // how many bytes of it were given
+    at: usize,
+    cuts: Vec<u32>,
+    // how many pieces were given
+    cut: usize,
+    sent: Vec<u8>,
+    place: String,
+    calls: Calls,
+    ghost within: { at ≤ vec_len input },
+}
+
+impl MemWire {
+    /// `fail` has the numbers of the calls that are to fail, the first being 0.
+    pub fn new(alloc: Global, input: Vec<u8>, cuts: Vec<u32>, fail: Vec<u64>) -> Self
+        ensures pending { ⟦<MemWire as Wire>⟧.pending result ≡ Some input.items }
+        ensures sent { ⟦<MemWire as Wire>⟧.sent result ≡ Some [] }
+        ensures faults { ⟦<MemWire as Wire>⟧.faults result ≡ 0 }
+    {
+        MemWire {
+            alloc,
+            input,
+            at: 0,
+            cuts,
+            cut: 0,
+            sent: Vec::new(alloc),
+            place: String::new(alloc),
+            calls: Calls {
+                fail,
+                calls: 0,
+                faults: 0,
+            },
+        }
+    }
+
+    /// What it was sent.
+    pub fn sent(&self) -> &[u8]
+        ensures { Some result.now ≡ ⟦<MemWire as Wire>⟧.sent self.now }
+    {
+        &self.sent
+    }
+
+    /// The path that was opened last.
+    pub fn place(&self) -> &str
+        ensures { result.now ≡ ⟦<MemWire as Wire>⟧.place self.now }
+    {
+        &self.place
+    }
+
+    // The length of the next piece, at least 1.
+    fn piece(&self) -> usize
+        ensures { 1 ≤ result }
+    {
+        match self.cuts.get(self.cut) {
+            Some(n) => (*n as usize).max(1),
+            None => 4096,
+        }
+    }
+}
+
+impl Wire for MemWire {
+    ghost pending = { λ w. Some (drop w.at w.input.items) };
+
+    ghost sent = { λ w. Some w.sent.items };
+
+    ghost faults = { λ w. w.calls.faults };
+
+    ghost place = { λ w. string_bytes w.place };
+
+    fn open(&mut self, path: &str) -> Result<(), Stop> {
+        if self.calls.fails() {
+            return Err(Stop::Failed);
+        }
+        self.place = String::from_str(self.alloc, path)?;
+        Ok(())
+    }
+
+    fn send(&mut self, bytes: &[u8]) -> Result<(), Stop> {
+        if self.calls.fails() {
+            return Err(Stop::Failed);
+        }
+        match self.sent.extend_from_slice(bytes) {
+            Ok(()) => Ok(()),
+            Err(_) => Err(Stop::NoMemory),
+        }
+    }
+
+    fn receive(&mut self, buf: &mut [u8]) -> Result<usize, Stop> {
+        if self.calls.fails() {
+            return Err(Stop::Failed);
+        }
+        let left = self.input.len() - self.at;
+        let count = buf.len().min(left).min(self.piece());
+        buf[..count].copy_from_slice(&self.input[self.at..self.at + count]);
+        self.at += count;
+        if self.cut < self.cuts.len() {
+            self.cut += 1;
+        }
+        Ok(count)
+    }
+}

@@ -1,0 +1,147 @@
+// The queries of a backup.
+ghost use Rattle.std.specs.Prelude.{◌≡◌, ◌≢◌, ◌++◌, ◌<◌, length, OnOk, OnErr, IfErr, option_map};
+ghost use Rattle.pgb_server.specs.declared.phase.Phase.TheVariants.{Heading};
+ghost use Rattle.pgb_server.specs.declared.fault.ServerFault.TheVariants as faults;
+ghost use Rattle.pgb_server.specs.Rows.{Told, Answers, SystemOutcome, StartOutcome, StopOutcome, system_query, start_query, stop_query};
+ghost use Rattle.pgb_server.specs.Sends.{query_of};
+ghost use Rattle.pgb_server.specs.Talk.{talk_at};
+ghost use Rattle.pgb_server.specs.Views.{session_view, talk_view, stopped_view};
+ghost use Rattle.pgb_server.specs.Reads.{HasCause};
+
+use crate::calls::ask;
+use crate::fault::ServerFault;
+use crate::rows::{start_row, stop_row, system_row};
+use crate::session::Session;
+use crate::talk::Talk;
+use crate::told::{Started, Stopped};
+use pgb_outside::Wire;
+use pgb_wal::SegSize;
+use std::alloc::Global;
+
+// The size of segments, where the system is the one that is kept.
+fn system_of(talk: &Talk, kept: u64) -> Result<SegSize, ServerFault>
+    ensures value { Told (λ z. z.0) result (SystemOutcome kept (talk_view talk.now)) }
+    ensures cause { IfErr result (λ e. e ≢ faults.Wire) }
+{
+    let Some((found, size)) = system_row(talk) else {
+        return Err(ServerFault::ServerForm { at: talk.row_end });
+    };
+    if found == kept {
+        Ok(size)
+    } else {
+        Err(ServerFault::SystemMismatch { kept, found })
+    }
+}
+
+/// Asks the server for its system, which is to be the one that is kept, and answers the size of its segments.
+pub fn check_system<V: Wire>(
+    alloc: Global,
+    wire: &mut V,
+    session: &mut Session,
+    system: u64,
+) -> Result<SegSize, ServerFault>
+    ensures read { Answers (λ z. z.0) result (session_view session.new) (V.pending wire.old) (V.pending wire.new) (talk_at Heading 2 (session_view session.old)) (SystemOutcome system) }
+    ensures kept { OnErr result (session_view session.new ≡ session_view session.old) }
+    ensures sent { OnOk result (V.sent wire.new ≡ option_map (λ s. s ++ query_of system_query) (V.sent wire.old)) }
+    ensures place { V.place wire.new ≡ V.place wire.old }
+    ensures cause { HasCause (V.faults wire.old) (V.faults wire.new) result }
+{
+    let text =
+        "select system_identifier::text, (select setting from pg_catalog.pg_settings where name = 'wal_segment_size') from pg_catalog.pg_control_system()";
+    let talk = match ask(alloc, wire, session, text, 2) {
+        Ok(talk) => talk,
+        Err(fault) => return Err(fault),
+    };
+    match system_of(&talk, system) {
+        Ok(size) => {
+            *session = talk.session;
+            Ok(size)
+        }
+        Err(fault) => Err(fault),
+    }
+}
+
+fn start_of(talk: &Talk) -> Result<Started, ServerFault>
+    ensures value { Told (λ s. s) result (StartOutcome (talk_view talk.now)) }
+    ensures cause { IfErr result (λ e. e ≢ faults.Wire) }
+{
+    match start_row(talk) {
+        Some(started) => Ok(started),
+        None => Err(ServerFault::ServerForm { at: talk.row_end }),
+    }
+}
+
+/// Has the server start a backup: with `fast` at once, else after its next checkpoint.
+pub fn start_backup<V: Wire>(
+    alloc: Global,
+    wire: &mut V,
+    session: &mut Session,
+    fast: bool,
+) -> Result<Started, ServerFault>
+    ensures read { Answers (λ s. s) result (session_view session.new) (V.pending wire.old) (V.pending wire.new) (talk_at Heading 2 (session_view session.old)) StartOutcome }
+    ensures kept { OnErr result (session_view session.new ≡ session_view session.old) }
+    ensures sent { OnOk result (V.sent wire.new ≡ option_map (λ s. s ++ query_of (start_query fast)) (V.sent wire.old)) }
+    ensures place { V.place wire.new ≡ V.place wire.old }
+    ensures cause { HasCause (V.faults wire.old) (V.faults wire.new) result }
+{
+    let talk = match ask(alloc, wire, session, start_text(fast), 2) {
+        Ok(talk) => talk,
+        Err(fault) => return Err(fault),
+    };
+    match start_of(&talk) {
+        Ok(started) => {
+            *session = talk.session;
+            Ok(started)
+        }
+        Err(fault) => Err(fault),
+    }
+}
+
+fn start_text(fast: bool) -> &'static str
+    ensures value { result.now ≡ start_query fast }
+    ensures short { length result.now < 200 }
+{
+    if fast {
+        "select lsn::text, pg_catalog.pg_walfile_name(lsn) from pg_catalog.pg_backup_start('pgBackRest backup', true) as lsn"
+    } else {
+        "select lsn::text, pg_catalog.pg_walfile_name(lsn) from pg_catalog.pg_backup_start('pgBackRest backup', false) as lsn"
+    }
+}
+
+fn stop_of(alloc: Global, talk: &Talk) -> Result<Stopped, ServerFault>
+    ensures value { Told stopped_view result (StopOutcome (talk_view talk.now)) }
+    ensures cause { IfErr result (λ e. e ≢ faults.Wire) }
+{
+    match stop_row(alloc, talk) {
+        Ok(Some(stopped)) => Ok(stopped),
+        Ok(None) => Err(ServerFault::ServerForm { at: talk.row_end }),
+        Err(_) => Err(ServerFault::NoMemory),
+    }
+}
+
+/// Has the server stop the backup.
+pub fn stop_backup<V: Wire>(
+    alloc: Global,
+    wire: &mut V,
+    session: &mut Session,
+) -> Result<Stopped, ServerFault>
+    ensures read { Answers stopped_view result (session_view session.new) (V.pending wire.old) (V.pending wire.new) (talk_at Heading 4 (session_view session.old)) StopOutcome }
+    ensures kept { OnErr result (session_view session.new ≡ session_view session.old) }
+    ensures sent { OnOk result (V.sent wire.new ≡ option_map (λ s. s ++ query_of stop_query) (V.sent wire.old)) }
+    ensures place { V.place wire.new ≡ V.place wire.old }
+    ensures cause { HasCause (V.faults wire.old) (V.faults wire.new) result }
+{
+    let text =
+        "select lsn::text, pg_catalog.pg_walfile_name(lsn), labelfile, spcmapfile from pg_catalog.pg_backup_stop(false)";
+    let talk = match ask(alloc, wire, session, text, 4) {
+        Ok(talk) => talk,
+        Err(fault) => return Err(fault),
+    };
+    match stop_of(alloc, &talk) {
+        Ok(stopped) => {
+            *session = talk.session;
+            Ok(stopped)
+        }
+        Err(fault) => Err(fault),
+    }
+}

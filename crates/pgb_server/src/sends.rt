@@ -1,0 +1,85 @@
+// What is sent to a server.
+ghost use Rattle.std.specs.Prelude.{◌≡◌, ◌≢◌, ◌≤◌, ◌⊎◌, ◌<◌, ◌+◌, ◌^◌, ◌++◌, length, IfOk, IfErr, OnOk, option_map};
+ghost use Rattle.pgb_server.specs.declared.fault.ServerFault.TheVariants.{NoMemory};
+ghost use Rattle.pgb_server.specs.Sends.{startup_of, query_of, closing};
+ghost use Rattle.pgb_server.specs.Reads.{IsOutside, HasCause, Sends};
+
+use crate::fault::ServerFault;
+use pgb_outside::{Stop, Wire};
+use std::alloc::{AllocError, Global};
+
+/// The first message.
+#[tactic(auto, unfolding(crate::specs::Sends::startup_of))]
+pub(crate) fn startup(alloc: Global, user: &str, database: &str) -> Result<Vec<u8>, AllocError>
+    requires { length user.now + length database.now + 26 < 2 ^ 32 }
+    ensures { IfOk result (λ v. v.items ≡ startup_of user.now database.now) }
+{
+    let count = user.len() as u32 + database.len() as u32 + 25;
+    let mut bytes: Vec<u8> = Vec::new(alloc);
+    bytes.extend_from_slice(&count.to_be_bytes())?;
+    // Protocol 3.0.
+    bytes.extend_from_slice(&196608u32.to_be_bytes())?;
+    bytes.extend_from_slice(b"user\0".as_slice())?;
+    bytes.extend_from_slice(user.as_bytes())?;
+    bytes.extend_from_slice(b"\0database\0".as_slice())?;
+    bytes.extend_from_slice(database.as_bytes())?;
+    bytes.extend_from_slice(b"\0\0".as_slice())?;
+    Ok(bytes)
+}
+
+/// The message of a query.
+#[tactic(auto, unfolding(crate::specs::Sends::query_of))]
+pub(crate) fn query(alloc: Global, text: &str) -> Result<Vec<u8>, AllocError>
+    requires { length text.now + 5 < 2 ^ 32 }
+    ensures { IfOk result (λ v. v.items ≡ query_of text.now) }
+{
+    let mut bytes: Vec<u8> = Vec::new(alloc);
+    bytes.push(b'Q')?;
+    bytes.extend_from_slice(&(text.len() as u32 + 5).to_be_bytes())?;
+    bytes.extend_from_slice(text.as_bytes())?;
+    bytes.push(0)?;
+    Ok(bytes)
+}
+
+/// Sends a whole message.
+pub(crate) fn send<V: Wire>(wire: &mut V, bytes: &[u8]) -> Result<(), ServerFault>
+    ensures outside { IfErr result IsOutside }
+    ensures sent { OnOk result (V.sent wire.new ≡ option_map (λ s. s ++ bytes.now) (V.sent wire.old)) }
+    ensures pending { V.pending wire.new ≡ V.pending wire.old }
+    ensures place { V.place wire.new ≡ V.place wire.old }
+    ensures cause { HasCause (V.faults wire.old) (V.faults wire.new) result }
+{
+    match wire.send(bytes) {
+        Ok(()) => Ok(()),
+        Err(Stop::Failed) => Err(ServerFault::Wire),
+        Err(Stop::NoMemory) => Err(ServerFault::NoMemory),
+    }
+}
+
+/// Ends a session that was refused. That this failed isn't told, but for want of memory.
+pub(crate) fn part<V: Wire>(wire: &mut V, fault: ServerFault) -> ServerFault
+    ensures fault { (result ≡ fault) ⊎ (result ≡ NoMemory) }
+    ensures sent { result ≢ NoMemory → Sends (V.faults wire.old) (V.faults wire.new) (V.sent wire.old) (V.sent wire.new) closing }
+    ensures later { V.faults wire.old ≤ V.faults wire.new }
+{
+    match wire.send(b"X\0\0\0\x04".as_slice()) {
+        Ok(()) => fault,
+        Err(Stop::Failed) => fault,
+        Err(Stop::NoMemory) => ServerFault::NoMemory,
+    }
+}
+
+/// Opens the server's socket.
+pub(crate) fn open_wire<V: Wire>(wire: &mut V, path: &str) -> Result<(), ServerFault>
+    ensures outside { IfErr result IsOutside }
+    ensures place { OnOk result (V.place wire.new ≡ path.now) }
+    ensures sent { V.sent wire.new ≡ V.sent wire.old }
+    ensures pending { V.pending wire.new ≡ V.pending wire.old }
+    ensures cause { HasCause (V.faults wire.old) (V.faults wire.new) result }
+{
+    match wire.open(path) {
+        Ok(()) => Ok(()),
+        Err(Stop::Failed) => Err(ServerFault::Wire),
+        Err(Stop::NoMemory) => Err(ServerFault::NoMemory),
+    }
+}
