@@ -4,3 +4,4 @@ pub mod Placed
 pub mod OnePushed
 pub mod Receipts
 pub mod Waiting
+pub mod Temp

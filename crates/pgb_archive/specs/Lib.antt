@@ -4,3 +4,4 @@ pub mod Fault
 pub mod Looks
 pub mod Turns
 pub mod OnePush
+pub mod Files

@@ -3,6 +3,7 @@
 
 mod aside;
 mod fault;
+mod getting;
 mod looking;
 mod names;
 mod one_push;
@@ -10,6 +11,7 @@ mod pushing;
 
 pub use aside::{Aside, TurnStop};
 pub use fault::ArchiveFault;
+pub use getting::{GetFault, get};
 pub use pushing::{Pushed, push};
 
 #[cfg(test)]

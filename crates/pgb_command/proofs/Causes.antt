@@ -4,13 +4,14 @@ use Rattle.std.specs.Prelude.{◌≢◌, OnOk}
 use Rattle.pgb_options.specs.declared.usage.Usage.{Usage}
 use Rattle.pgb_options.specs.declared.usage.Usage.TheVariants.{CommandMissing, CommandUnknown, OptionUnknown, OptionRepeated, OptionValue, OptionMissing, OptionNotFor, ConfigSyntax, ParameterCount, ParameterUtf8, NoMemory as UsageNoMemory}
 use Rattle.pgb_command.specs.declared.outcome.Outcome.{Outcome}
-use Rattle.pgb_command.specs.Outcomes.{lines_by, ending_of}
+use Rattle.pgb_command.specs.declared.outcome.Outcome.TheVariants.{Silent, SameStored, Absent}
+use Rattle.pgb_command.specs.Outcomes.{ending_of, OnNothing}
 use Rattle.pgb_outside.specs.Content.{Content}
 use Rattle.pgb_outside.specs.Tree.{Nodes}
 use Rattle.pgb_model.specs.Text.{Text}
 use Rattle.pgb_command.specs.declared.fault.Fault.{Fault}
-use Rattle.pgb_command.specs.declared.fault.Fault.TheVariants.{Settings, ConfigMissing, SegmentName, PathOutside, Held, StanzaMissing, InfoDamaged, StanzaMismatch, SegmentMissing, TooLong, HeaderForm, SegmentSize, HeaderMismatch, Ambiguous, Duplicate, NotBuilt, ControlMissing, ControlShort, VersionText, VersionUnsupported, Disk, Tree, Locks, Source, Sink, NoMemory}
-use Rattle.pgb_command.specs.Answers.{Ending, finished, refused, Answer, error_line, lines_of, ending_lines, usage_status, status_of, status, OnFinding, IsFinding}
+use Rattle.pgb_command.specs.declared.fault.Fault.TheVariants.{Settings, ConfigMissing, SegmentName, PathOutside, Held, StanzaMissing, InfoDamaged, StanzaMismatch, SegmentMissing, TooLong, HeaderForm, SegmentSize, HeaderMismatch, Ambiguous, Duplicate, SegmentDamaged, NotBuilt, ControlMissing, ControlShort, VersionText, VersionUnsupported, Disk, Tree, Locks, Source, Sink, NoMemory}
+use Rattle.pgb_command.specs.Answers.{Ending, finished, absent, refused, Answer, error_line, lines_of, ending_lines, usage_status, status_of, status, OnFinding, IsFinding}
 use Rattle.pgb_command.specs.Causes.{Cause, Refused, Unknown, Asking, Output, Memory}
 use Rattle.pgb_command.specs.Output.{IsFrontWritten, IsTold, Whole, Cut, Starved, Wordless, WroteLines, Wrote}
 use Rattle.pgb_command.proofs.Written.{more}
@@ -45,6 +46,7 @@ not_zero (SegmentSize a b) e = cc
 not_zero (HeaderMismatch a b) e = cc
 not_zero (Ambiguous a b) e = cc
 not_zero (Duplicate a b) e = cc
+not_zero (SegmentDamaged a b) e = cc
 not_zero (NotBuilt a) e = cc
 not_zero (ControlMissing a) e = cc
 not_zero (ControlShort a) e = cc
@@ -78,6 +80,7 @@ wrote_fault Has old new u (SegmentSize a b) has is = is
 wrote_fault Has old new u (HeaderMismatch a b) has is = is
 wrote_fault Has old new u (Ambiguous a b) has is = is
 wrote_fault Has old new u (Duplicate a b) has is = is
+wrote_fault Has old new u (SegmentDamaged a b) has is = is
 wrote_fault Has old new u (NotBuilt a) has is = is
 wrote_fault Has old new u (ControlMissing a) has is = is
 wrote_fault Has old new u (ControlShort a) has is = is
@@ -92,6 +95,7 @@ wrote_fault Has old new u NoMemory has is = (record { unknown = u; ending = refu
 
 wrote_whole : (Has : Answer → Type 0) (old new : Option Text) (u : List Text) (ending : Ending) → Has (As u ending) → new ≡ more (lines_of (As u ending)) old → Wrote Has old (As u ending) new
 wrote_whole Has old new u (finished lines) has is = is
+wrote_whole Has old new u (absent name) has is = is
 wrote_whole Has old new u (refused fault) has is = wrote_fault Has old new u fault has is
 
 module _ (words : List Text) (files repo : Option Content) (nodes : Option Nodes) (d t l h i s : Type 0) where
@@ -146,6 +150,7 @@ found_by (SegmentSize a b) P finding h = h
 found_by (HeaderMismatch a b) P finding h = h
 found_by (Ambiguous a b) P finding h = h
 found_by (Duplicate a b) P finding h = h
+found_by (SegmentDamaged a b) P finding h = h
 found_by (NotBuilt a) P finding h = h
 found_by (ControlMissing a) P finding h = h
 found_by (ControlShort a) P finding h = h
@@ -173,9 +178,11 @@ no_finding : (n : ℕ) → n ≡ 0 → ¬ IsFinding n
 no_finding n is (inl a) = absurd (omega (arith, is, a))
 no_finding n is (inr b) = absurd (omega (arith, is, b.0))
 
--- what holds of a finding holds where the program ends with its status
-pub at_finding : (P : Type 0) (result : Result Outcome Fault) (u : List Text) (old new : Option Text) (rose : Type 0) (told : Ending) (n : ℕ) → IsTold old (At result u) new rose told → n ≡ status told → IsFinding n → IfErr result (λ e. OnFinding e P) → P
-at_finding P (Ok x) u old new rose told n (Whole ending end is) same finding h = absurd (no_finding n (same ∙ ap status end) finding)
+-- what holds where nothing was done holds where the program ends with its status
+pub at_finding : (P : Type 0) (result : Result Outcome Fault) (u : List Text) (old new : Option Text) (rose : Type 0) (told : Ending) (n : ℕ) → IsTold old (At result u) new rose told → n ≡ status told → IsFinding n → OnNothing result P → P
+at_finding P (Ok Silent) u old new rose told n (Whole ending end is) same finding h = absurd (no_finding n (same ∙ ap status end) finding)
+at_finding P (Ok (SameStored name)) u old new rose told n (Whole ending end is) same finding h = absurd (no_finding n (same ∙ ap status end) finding)
+at_finding P (Ok (Absent name)) u old new rose told n (Whole ending end is) same finding h = h
 at_finding P (Err e) u old new rose told n (Whole ending end is) same finding h = found_by e P (subst IsFinding (same ∙ ap status end) finding) h
 at_finding P result u old new rose told n (Cut r front) same finding h = absurd (not_a_finding n 87 same (omega arith) (omega arith) finding)
 at_finding P result u old new rose told n (Starved lines which front) same finding h = absurd (not_a_finding n 90 same (omega arith) (omega arith) finding)
@@ -183,17 +190,17 @@ at_finding P result u old new rose told n (Wordless r front) same finding h = ab
 
 -- ---- where no cause of a refusal holds
 
-is_ninety : (m : ℕ) → (m ≡ 90) ⊎ (m ≢ 90)
-is_ninety m = grind arith
+one_of : (m : ℕ) → (m ≡ 0) ⊎ ((m ≡ 90) ⊎ ((m ≢ 0) × (m ≢ 90)))
+one_of m = grind arith
 
-completes_as : (Holds : Answer → Type 0) (u : List Text) (ending : Ending) (n : ℕ) → Holds (As u ending) → ((v : List Text) (fault : Fault) → status (refused fault) ≢ 90 → ¬ Holds (As v (refused fault))) → n ≡ status ending → (n ≡ 0) ⊎ (n ≡ 90)
-completes_as Holds u (finished lines) n has none is = inl is
-completes_as Holds u (refused fault) n has none is = go (is_ninety (status_of fault))
+completes_as : (Holds : Answer → Type 0) (u : List Text) (ending : Ending) (n : ℕ) → Holds (As u ending) → ((v : List Text) (e : Ending) → status e ≢ 0 → status e ≢ 90 → ¬ Holds (As v e)) → n ≡ status ending → (n ≡ 0) ⊎ (n ≡ 90)
+completes_as Holds u ending n has none is = go (one_of (status ending))
   where
-    go : (status_of fault ≡ 90) ⊎ (status_of fault ≢ 90) → (n ≡ 0) ⊎ (n ≡ 90)
-    go (inl e) = inr (is ∙ e)
-    go (inr e) = absurd (none u fault e has)
+    go : (status ending ≡ 0) ⊎ ((status ending ≡ 90) ⊎ ((status ending ≢ 0) × (status ending ≢ 90))) → (n ≡ 0) ⊎ (n ≡ 90)
+    go (inl e) = inl (is ∙ e)
+    go (inr (inl e)) = inr (is ∙ e)
+    go (inr (inr e)) = absurd (none u ending e.0 e.1 has)
 
 pub completes : (words : List Text) (files repo : Option Content) (nodes : Option Nodes) (d t l h i s : Type 0) (answer : Answer) (n : ℕ) → Cause words files repo nodes d t l h i s answer →
-    ((v : List Text) (fault : Fault) → status (refused fault) ≢ 90 → ¬ Cause words files repo nodes d t l h i s (As v (refused fault))) → n ≡ status answer.ending → (n ≡ 0) ⊎ (n ≡ 90)
+    ((v : List Text) (e : Ending) → status e ≢ 0 → status e ≢ 90 → ¬ Cause words files repo nodes d t l h i s (As v e)) → n ≡ status answer.ending → (n ≡ 0) ⊎ (n ≡ 90)
 completes words files repo nodes d t l h i s answer n has none is = completes_as (Cause words files repo nodes d t l h i s) answer.unknown answer.ending n has none is

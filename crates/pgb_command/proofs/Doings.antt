@@ -13,17 +13,18 @@ use Rattle.pgb_model.proofs.Done.{nothing_done}
 use Rattle.pgb_command.specs.declared.fault.Fault.{Fault}
 use Rattle.pgb_command.specs.declared.fault.Fault.TheVariants.{NoMemory}
 use Rattle.pgb_command.specs.declared.outcome.Outcome.{Outcome}
-use Rattle.pgb_command.specs.Answers.{finished, refused}
-use Rattle.pgb_command.specs.Asked.{Request, create, push, Asked}
-use Rattle.pgb_command.specs.Causes.{CreateCause, PushFileCause, IsStored, AskedCause, Creating, Stored, Pushing}
+use Rattle.pgb_command.specs.Answers.{Ending, finished, absent, refused}
+use Rattle.pgb_command.specs.Asked.{Request, create, push, get, Asked}
+use Rattle.pgb_command.specs.Causes.{CreateCause, PushFileCause, IsStored, AskedCause, Creating, Stored, Pushing, Given, Missing, Getting}
 use Rattle.pgb_command.specs.Cluster.{IsClusterOf}
 use Rattle.pgb_command.specs.Commands.{IsPushOf, IsRequestOf, IsCommandOf}
-use Rattle.pgb_command.specs.Doing.{PartDone, AllDone, NoneDone}
-use Rattle.pgb_command.specs.Outcomes.{lines_by, ending_of}
+use Rattle.pgb_command.specs.Doing.{Heals, PartDone, AllDone, NoneDone, ServesFor, ServedBy}
+use Rattle.pgb_command.specs.Getting.{GetFileCause, GotBy}
+use Rattle.pgb_command.specs.Outcomes.{outcome_ending, OnFinished, ending_of}
 use Rattle.pgb_command.specs.Storing.{AgreesAtPair}
 use Rattle.pgb_command.proofs.Carries.{rests_carry, rests_pass}
 use Rattle.pgb_command.proofs.Chains.{rests_none, still_does}
-use Rattle.pgb_command.proofs.Pushes.{as_push, none_carried}
+use Rattle.pgb_command.proofs.Pushes.{as_push, none_carried, rests_carried}
 
 -- ---- nothing was done
 
@@ -63,7 +64,7 @@ module _ (a : Asked) (nodes : Option Nodes) (old new : View) (is : a.request ≡
   create_done done carried agrees members = record {
     done = as_create nodes a.data_folder a.request (λ k. NowDoes a.stanza k true old.now new.now) is done;
     carried = as_create nodes a.data_folder a.request (λ k. CarriesOn a.stanza k true old new) is carried;
-    agrees = agrees;
+    agrees = λ heals. agrees;
     members = λ same. members;
   }
 
@@ -91,7 +92,7 @@ module _ (a : Asked) (path : Text) (nodes : Option Nodes) (old new : View) (is :
   push_done (Ok x) done carried agrees = record {
     done = λ command asked. done command (as_push nodes a.data_folder path a.request command is asked);
     carried = λ command asked. carried command (as_push nodes a.data_folder path a.request command is asked);
-    agrees = agrees;
+    agrees = λ heals. agrees;
     members = λ other. not_both a.request path is other;
   }
   push_done (Err e) done carried agrees = tt
@@ -99,10 +100,63 @@ module _ (a : Asked) (path : Text) (nodes : Option Nodes) (old new : View) (is :
   pub push_none : NowDoes a.stanza Reading true old.now new.now × CarriesOn a.stanza Reading true old new → NoneDone a old new
   push_none x = record { stays = x.0; carried = x.1; unchanged = λ other. not_both a.request path is other }
 
-  pub push_answer : (result : Result Outcome Fault) (repo : Option Content) (d t l h : Type 0) → IfOk result (λ x. IsStored a.stanza a.data_folder path repo nodes (lines_by x)) →
+  pub push_answer : (result : Result Outcome Fault) (repo : Option Content) (d t l h : Type 0) → IfOk result (λ x. OnFinished (outcome_ending x) (IsStored a.stanza a.data_folder path repo nodes)) →
       IfErr result (PushFileCause a.stanza a.data_folder path repo nodes d t l h) → AskedCause a repo nodes d t l h (ending_of result)
-  push_answer (Ok x) repo d t l h stored cause = Stored path (lines_by x) is stored
+  push_answer (Ok x) repo d t l h stored cause = well (outcome_ending x) stored
+    where
+      well : (ending : Ending) → OnFinished ending (IsStored a.stanza a.data_folder path repo nodes) → AskedCause a repo nodes d t l h ending
+      well (finished lines) s = Stored path lines is s
+      well (absent name) s = absurd s
+      well (refused fault) s = absurd s
   push_answer (Err e) repo d t l h stored cause = Pushing path e is cause
+
+-- ---- commands that only read
+
+module _ (a : Asked) (name path : Text) (nodes : Option Nodes) (old new : View) (is : a.request ≡ get name path) (rests : Rests old new) (same : new.now ≡ old.now) where
+  as_reading : (command : Command) → IsSomeAnd nodes (λ f. IsCommandOf f a command) → command ≡ Reading
+  as_reading command asked = go nodes asked
+    where
+      go : (nodes : Option Nodes) → IsSomeAnd nodes (λ f. IsCommandOf f a command) → command ≡ Reading
+      go None asked = absurd asked
+      go (Some f) asked = subst (λ (r : Request). IsRequestOf f a.data_folder r command) is asked
+
+  pub read_part : PartDone a nodes old new
+  read_part = record {
+    part = λ command asked. nothing_done a.stanza command old.now new.now same;
+    carries = λ command asked. rests_carry a.stanza command old new rests same;
+    between = λ command asked. rests_pass a.stanza command old new rests same;
+  }
+
+  pub read_all : AllDone a nodes old new
+  read_all = record {
+    done = λ command asked. subst (λ (k : Command). NowDoes a.stanza k true old.now new.now) (sym (as_reading command asked)) (still_does a.stanza old.now new.now same);
+    carried = λ command asked. subst (λ (k : Command). CarriesOn a.stanza k true old new) (sym (as_reading command asked)) (rests_carried a.stanza old new rests same);
+    agrees = λ heals. absurd (subst Heals is heals);
+    members = λ other. let e : ◌≡◌ {A = Request} create (get name path) = sym other ∙ is in cc;
+  }
+
+  pub read_none : NoneDone a old new
+  read_none = record { stays = still_does a.stanza old.now new.now same; carried = rests_carried a.stanza old new rests same; unchanged = λ other. same }
+
+  pub got_answer : (result : Result Outcome Fault) (repo : Option Content) (d t l h : Type 0) (after : Option Nodes) → IfOk result (λ x. GotBy (outcome_ending x) a.stanza a.data_folder name path repo nodes after) →
+      IfErr result (GetFileCause a.stanza a.data_folder name path repo nodes d t) → AskedCause a repo nodes d t l h (ending_of result)
+  got_answer (Ok x) repo d t l h after got cause = well (outcome_ending x) got
+    where
+      well : (ending : Ending) → GotBy ending a.stanza a.data_folder name path repo nodes after → AskedCause a repo nodes d t l h ending
+      well (finished lines) g = subst (λ (x : Text). AskedCause a repo nodes d t l h (finished x)) (sym g.0) (Given name path g.1.0 is g.1.1)
+      well (absent word) g = subst (λ (x : Text). AskedCause a repo nodes d t l h (absent x)) (sym g.0) (Missing name path is g.1)
+      well (refused fault) g = absurd g
+  got_answer (Err e) repo d t l h after got cause = Getting name path e is cause
+
+  pub got_serves : (result : Result Outcome Fault) (repo : Option Content) (after : Option Nodes) → IfOk result (λ x. GotBy (outcome_ending x) a.stanza a.data_folder name path repo nodes after) →
+      ServedBy (ending_of result) a repo nodes after
+  got_serves (Ok x) repo after got = well (outcome_ending x) got
+    where
+      well : (ending : Ending) → GotBy ending a.stanza a.data_folder name path repo nodes after → ServedBy ending a repo nodes after
+      well (finished lines) g = subst (λ (r : Request). ServesFor r a.stanza a.data_folder repo nodes after) (sym is) g.1
+      well (absent word) g = tt
+      well (refused fault) g = absurd g
+  got_serves (Err e) repo after got = tt
 
 -- ---- want of memory
 
@@ -112,3 +166,4 @@ starved a repo nodes d t l h = go a.request refl
     go : (request : Request) → a.request ≡ request → AskedCause a repo nodes d t l h (refused NoMemory)
     go create is = Creating NoMemory is tt
     go (push path) is = Pushing path NoMemory is (inl tt)
+    go (get name path) is = Getting name path NoMemory is tt

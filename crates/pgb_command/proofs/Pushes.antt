@@ -15,9 +15,9 @@ use Rattle.pgb_model.proofs.Logged.{KeepsSound, rests_still, moves_keep, moves_b
 use Rattle.pgb_model.proofs.PushSound.{push_keeps_sound}
 use Rattle.pgb_model.proofs.PushDone.{push_spool}
 use Rattle.pgb_command.specs.declared.fault.Fault.{Fault}
-use Rattle.pgb_command.specs.declared.fault.Fault.TheVariants.{Settings, ConfigMissing, SegmentName, PathOutside, Held, StanzaMissing, InfoDamaged, StanzaMismatch, SegmentMissing, TooLong, HeaderForm, SegmentSize, HeaderMismatch, Ambiguous, Duplicate, NotBuilt, ControlMissing, ControlShort, VersionText, VersionUnsupported, Disk, Tree, Locks, Source, Sink, NoMemory}
+use Rattle.pgb_command.specs.declared.fault.Fault.TheVariants.{Settings, ConfigMissing, SegmentName, PathOutside, Held, StanzaMissing, InfoDamaged, StanzaMismatch, SegmentMissing, TooLong, HeaderForm, SegmentSize, HeaderMismatch, Ambiguous, Duplicate, SegmentDamaged, NotBuilt, ControlMissing, ControlShort, VersionText, VersionUnsupported, Disk, Tree, Locks, Source, Sink, NoMemory}
 use Rattle.pgb_command.specs.Answers.{OnFinding}
-use Rattle.pgb_command.specs.Asked.{Request, create, push}
+use Rattle.pgb_command.specs.Asked.{Request, create, push, get}
 use Rattle.pgb_command.specs.Commands.{IsPushOf, IsRequestOf, IsPart, Goes, Ends}
 use Rattle.pgb_command.proofs.Carries.{with_spool}
 
@@ -118,6 +118,7 @@ finding_to (SegmentSize a b) P Q to h = to h
 finding_to (HeaderMismatch a b) P Q to h = to h
 finding_to (Ambiguous a b) P Q to h = to h
 finding_to (Duplicate a b) P Q to h = to h
+finding_to (SegmentDamaged a b) P Q to h = to h
 finding_to (NotBuilt a) P Q to h = to h
 finding_to (ControlMissing a) P Q to h = to h
 finding_to (ControlShort a) P Q to h = to h
@@ -146,6 +147,7 @@ on_all (SegmentSize a b) Q q = q
 on_all (HeaderMismatch a b) Q q = q
 on_all (Ambiguous a b) Q q = q
 on_all (Duplicate a b) Q q = q
+on_all (SegmentDamaged a b) Q q = q
 on_all (NotBuilt a) Q q = q
 on_all (ControlMissing a) Q q = q
 on_all (ControlShort a) Q q = q
@@ -183,6 +185,7 @@ on_both (SegmentSize a b) P R h k = (h, k)
 on_both (HeaderMismatch a b) P R h k = (h, k)
 on_both (Ambiguous a b) P R h k = (h, k)
 on_both (Duplicate a b) P R h k = (h, k)
+on_both (SegmentDamaged a b) P R h k = (h, k)
 on_both (NotBuilt a) P R h k = (h, k)
 on_both (ControlMissing a) P R h k = (h, k)
 on_both (ControlShort a) P R h k = (h, k)
@@ -252,3 +255,11 @@ create_keeps stanza (Some f) folder command whole old new spool asked carries = 
 pub command_keeps : (stanza : Text) (nodes : Option Nodes) (folder : Text) (request : Request) (command : Command) (whole : Bool) (old new spool : View) → IsSomeAnd nodes (λ f. IsRequestOf f folder request command) → CarriesOn stanza command whole old new → KeepsOn stanza command whole old spool new spool
 command_keeps stanza nodes folder create command whole old new spool asked carries = create_keeps stanza nodes folder command whole old new spool asked carries
 command_keeps stanza nodes folder (push path) command whole old new spool asked carries = push_keeps stanza nodes folder path command whole old new spool asked carries
+command_keeps stanza nodes folder (get name path) command whole old new spool asked carries = read_keeps nodes asked
+  where
+    read_keeps : (nodes : Option Nodes) → IsSomeAnd nodes (λ f. command ≡ Reading) → KeepsOn stanza command whole old spool new spool
+    read_keeps None is = absurd is
+    read_keeps (Some f) is = λ q log some keeps. record {
+      repository = carries.keeps q log some keeps.repository;
+      receipts = subst (λ (k : Command). KeepsSpool stanza q (record { command = k; acknowledged = whole } ∷ log) spool) (sym is) (reading_spool stanza whole q log spool keeps.receipts);
+    }

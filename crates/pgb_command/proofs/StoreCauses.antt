@@ -29,7 +29,7 @@ use Rattle.pgb_command.specs.WalPath.{IsWalPath, HasWal, wal_path}
 use Rattle.pgb_command.specs.Causes.{IsReady, IsRefusedSegment, IsStored, StoreCause, PushFileCause}
 use Rattle.pgb_command.specs.declared.fault.ControlFile.TheVariants.{Control as ControlName, Version as VersionName}
 use Rattle.pgb_command.specs.declared.fault.Fault.TheVariants as faults
-use Rattle.pgb_command.specs.Locking.{lock_name}
+use Rattle.pgb_command.specs.Locking.{archive_lock}
 use Rattle.pgb_command.specs.Making.{OpeningCause}
 use Rattle.pgb_command.specs.Asked.{push}
 
@@ -156,7 +156,7 @@ module _ (stanza folder path : Text) (repo mid : Option Content) (nodes : Option
 -- ---- of a push, with the openings before
 
 module _ (stanza folder path : Text) (segment : Segment) (named : IsWalPath folder path (Whole segment)) where
-  opened : (name : Text) → name ≡ lock_name stanza (push path) → (repo : Option Content) (nodes : Option Nodes) (d t l h : Type 0) (e : Fault) → OpeningCause name d t l h e → StoreCause stanza folder path repo nodes d t l h e
+  opened : (name : Text) → name ≡ archive_lock stanza → (repo : Option Content) (nodes : Option Nodes) (d t l h : Type 0) (e : Fault) → OpeningCause name d t l h e → StoreCause stanza folder path repo nodes d t l h e
   opened name is repo nodes d t l h (faults.Held word) cause = (cause.0 ∙ is, cause.1)
   opened name is repo nodes d t l h faults.Disk cause = cause
   opened name is repo nodes d t l h faults.Tree cause = cause
@@ -184,7 +184,7 @@ module _ (stanza folder path : Text) (segment : Segment) (named : IsWalPath fold
   opened name is repo nodes d t l h faults.Source cause = absurd cause
   opened name is repo nodes d t l h faults.Sink cause = absurd cause
 
-  pub opening_err : (name : Text) → name ≡ lock_name stanza (push path) → (repo : Option Content) (nodes : Option Nodes) (d t l h : Type 0) {T : Type 0} (result : Result T Fault) (e : Fault) → IsErrAnd result (λ f. f ≡ e) → OpeningCause name d t l h e → IfErr result (PushFileCause stanza folder path repo nodes d t l h)
+  pub opening_err : (name : Text) → name ≡ archive_lock stanza → (repo : Option Content) (nodes : Option Nodes) (d t l h : Type 0) {T : Type 0} (result : Result T Fault) (e : Fault) → IsErrAnd result (λ f. f ≡ e) → OpeningCause name d t l h e → IfErr result (PushFileCause stanza folder path repo nodes d t l h)
   opening_err name is repo nodes d t l h (Ok x) e same cause = tt
   opening_err name is repo nodes d t l h (Err f) e same cause = subst (PushFileCause stanza folder path repo nodes d t l h) (sym same) (inr ((segment, named), opened name is repo nodes d t l h e cause))
 

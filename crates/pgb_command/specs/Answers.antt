@@ -14,7 +14,7 @@ use Rattle.pgb_command.specs.declared.fault.ControlFile.{ControlFile}
 use Rattle.pgb_command.specs.declared.fault.ControlFile.TheVariants.{Control, Version}
 use Rattle.pgb_command.specs.declared.fault.Identity.{Identity}
 use Rattle.pgb_command.specs.declared.fault.Fault.{Fault}
-use Rattle.pgb_command.specs.declared.fault.Fault.TheVariants.{Settings, NotBuilt, ConfigMissing, SegmentName, PathOutside, Held, ControlMissing, ControlShort, VersionText, VersionUnsupported, StanzaMissing, InfoDamaged, StanzaMismatch, SegmentMissing, TooLong, HeaderForm, SegmentSize, HeaderMismatch, Ambiguous, Duplicate, Disk, Tree, Locks, Source, Sink, NoMemory}
+use Rattle.pgb_command.specs.declared.fault.Fault.TheVariants.{Settings, NotBuilt, ConfigMissing, SegmentName, PathOutside, Held, ControlMissing, ControlShort, VersionText, VersionUnsupported, StanzaMissing, InfoDamaged, StanzaMismatch, SegmentMissing, TooLong, HeaderForm, SegmentSize, HeaderMismatch, Ambiguous, Duplicate, SegmentDamaged, Disk, Tree, Locks, Source, Sink, NoMemory}
 
 -- of words and a configuration that are refused
 abbrev pub usage_status : Usage → ℕ
@@ -51,6 +51,7 @@ status_of (SegmentSize told found) = 31
 status_of (HeaderMismatch kept found) = 33
 status_of (Ambiguous first second) = 36
 status_of (Duplicate kept found) = 34
+status_of (SegmentDamaged told found) = 35
 status_of Disk = 80
 status_of Tree = 82
 status_of Locks = 85
@@ -125,6 +126,7 @@ error_line (SegmentSize told found) = codes "ERROR: [031]: segment size " ++ (de
 error_line (HeaderMismatch kept found) = codes "ERROR: [033]: stanza has system " ++ (decimal kept ++ (codes ", WAL has system " ++ (decimal found ++ codes "\n")))
 error_line (Ambiguous first second) = codes "ERROR: [036]: '" ++ (string_bytes first ++ (codes "' and '" ++ (string_bytes second ++ codes "' are both stored\n")))
 error_line (Duplicate kept found) = codes "ERROR: [034]: archived with checksum " ++ (sum_text kept.0 ++ (codes ", now " ++ (sum_text found.0 ++ codes "\n")))
+error_line (SegmentDamaged told found) = codes "ERROR: [035]: checksum " ++ (sum_text told.0 ++ (codes ", found " ++ (sum_text found.0 ++ codes "\n")))
 error_line Disk = codes "ERROR: [080]: repository failed\n"
 error_line Tree = codes "ERROR: [082]: data folder failed\n"
 error_line Locks = codes "ERROR: [085]: lock failed\n"
@@ -136,21 +138,28 @@ error_line NoMemory = codes "ERROR: [090]: out of memory\n"
 abbrev pub same_line : Text → Text
 same_line name = codes "WARN: " ++ (name ++ codes " is already in the archive with the same checksum\n")
 
+-- what is told where the archive has no such file
+abbrev pub absent_line : Text → Text
+absent_line name = codes "INFO: unable to find " ++ (name ++ codes " in the archive\n")
+
 -- the warning of a key that is no option
 abbrev pub unknown_line : Text → Text
 unknown_line key = codes "WARN: configuration file contains unknown option '" ++ (shown key ++ codes "'\n")
 
--- Ok with its lines, or a refusal
+-- Ok with its lines, that the archive has no such file, or a refusal
 pub data Ending : Type 0 where
   finished : (lines : Text) → Ending
+  absent : (name : Text) → Ending
   refused : (fault : Fault) → Ending
 
 abbrev pub status : Ending → ℕ
 status (finished lines) = 0
+status (absent name) = 1
 status (refused fault) = status_of fault
 
 abbrev pub ending_lines : Ending → Text
 ending_lines (finished lines) = lines
+ending_lines (absent name) = absent_line name
 ending_lines (refused fault) = error_line fault
 
 -- what a command says: the keys of the configuration that are no options, and then how it ended

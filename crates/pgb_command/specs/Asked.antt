@@ -5,7 +5,7 @@ use Rattle.pgb_model.specs.Text.{Text}
 use Rattle.pgb_options.specs.declared.table.Opt.{Opt}
 use Rattle.pgb_options.specs.declared.table.Opt.TheVariants.{Pg1Path, Repo1Path, LockPath, Online, ArchiveAsync}
 use Rattle.pgb_options.specs.declared.table.Verb.{Verb}
-use Rattle.pgb_options.specs.declared.table.Verb.TheVariants.{StanzaCreate, ArchivePush}
+use Rattle.pgb_options.specs.declared.table.Verb.TheVariants.{StanzaCreate, ArchivePush, ArchiveGet}
 use Rattle.pgb_options.specs.Faults.{Fault}
 use Rattle.pgb_options.specs.Filled.{text_in, flag_in, or_else}
 use Rattle.pgb_options.specs.Paths.{Path, nowhere, usual, named, path_of_words}
@@ -36,19 +36,25 @@ pub record Settles (words : List Text) (files : Option Content) (read : Result S
 
 -- ---- what is asked
 
--- which command, and the file that archive-push is to store
+-- which command, the file that archive-push is to store, and the file that archive-get is to serve and where
 pub data Request : Type 0 where
   create : Request
   push : (path : Text) → Request
+  get : (name path : Text) → Request
 
 abbrev pub first_of : List Text → Text
 first_of [] = []
 first_of (x ∷ xs) = x
 
+abbrev pub second_of : List Text → Text
+second_of [] = []
+second_of (x ∷ xs) = first_of xs
+
 -- what a verb asks for, with a server or in the background where that is in force, and its parameters; or what isn't built
 abbrev pub request_by : Verb → Bool → Bool → List Text → Result Request Unbuilt
 request_by StanzaCreate online background given = if online then Err Server else Ok create
 request_by ArchivePush online background given = if background then Err Background else Ok (push (first_of given))
+request_by ArchiveGet online background given = if background then Err Background else Ok (get (first_of given) (second_of given))
 request_by verb online background given = Err (Command verb)
 
 abbrev pub path_in : Source → Opt → Text

@@ -19,13 +19,14 @@ use Rattle.pgb_command.specs.declared.fault.Unbuilt.{Unbuilt}
 use Rattle.pgb_command.specs.declared.fault.Unbuilt.TheVariants.{ExistingStanza}
 use Rattle.pgb_command.specs.declared.fault.Fault.{Fault}
 use Rattle.pgb_command.specs.declared.fault.Fault.TheVariants.{NotBuilt, Held, StanzaMissing, InfoDamaged, StanzaMismatch, SegmentMissing, TooLong, HeaderForm, SegmentSize, HeaderMismatch, Ambiguous, Duplicate, Disk, Locks, Sink, NoMemory}
-use Rattle.pgb_command.specs.Asked.{Asked, create, push, Settles, requested, IsAsked}
+use Rattle.pgb_command.specs.Asked.{Asked, create, push, get, Settles, requested, IsAsked}
 use Rattle.pgb_command.specs.Configuring.{ConfigCause}
-use Rattle.pgb_command.specs.Locking.{lock_name}
-use Rattle.pgb_command.specs.Answers.{Ending, finished, refused, Answer, same_line}
+use Rattle.pgb_command.specs.Locking.{backup_lock, archive_lock}
+use Rattle.pgb_command.specs.Answers.{Ending, finished, absent, refused, Answer, same_line}
 use Rattle.pgb_command.specs.Cluster.{FolderTells, ClusterCause}
 use Rattle.pgb_command.specs.WalPath.{segment_limit, IsWalPath, HasWal}
 use Rattle.pgb_command.specs.WalCause.{WordCause, FileCause}
+use Rattle.pgb_command.specs.Getting.{IsServed, IsMissing, GetFileCause}
 use Rattle.pgb_command.specs.Storing.{HasCurrent, id_kept, identity_kept, identity_told, ValueCause, CurrentCause}
 
 -- the folder tells a cluster
@@ -35,7 +36,7 @@ TellsSome nodes = IfSome nodes (λ f. (told : Control) × FolderTells f told)
 -- Why stanza-create is refused, from what the repository and the data folder held as it began, which counts of faults rose, and whether the count of held locks did.
 abbrev pub CreateCause : Text → Option Content → Option Nodes → Type 0 → Type 0 → Type 0 → Type 0 → Fault → Type 0
 CreateCause stanza repo nodes disk_rose tree_rose lock_rose held (NotBuilt ExistingStanza) = IfSome repo (λ f. lacks_pairs stanza f ≡ false) × TellsSome nodes
-CreateCause stanza repo nodes disk_rose tree_rose lock_rose held (Held name) = (string_bytes name ≡ lock_name stanza create) × held
+CreateCause stanza repo nodes disk_rose tree_rose lock_rose held (Held name) = (string_bytes name ≡ backup_lock stanza) × held
 CreateCause stanza repo nodes disk_rose tree_rose lock_rose held Disk = disk_rose
 CreateCause stanza repo nodes disk_rose tree_rose lock_rose held Locks = lock_rose
 CreateCause stanza repo nodes disk_rose tree_rose lock_rose held other = ClusterCause nodes tree_rose other
@@ -73,7 +74,7 @@ pub record IsRefusedFile (stanza folder path : Text) (repo : Option Content) (no
 
 -- Why a segment that the word names isn't stored.
 abbrev pub StoreCause : Text → Text → Text → Option Content → Option Nodes → Type 0 → Type 0 → Type 0 → Type 0 → Fault → Type 0
-StoreCause stanza folder path repo nodes disk_rose tree_rose lock_rose held (Held name) = (string_bytes name ≡ lock_name stanza (push path)) × held
+StoreCause stanza folder path repo nodes disk_rose tree_rose lock_rose held (Held name) = (string_bytes name ≡ archive_lock stanza) × held
 StoreCause stanza folder path repo nodes disk_rose tree_rose lock_rose held (StanzaMissing word) = TellsSome nodes × ValueCause stanza repo ⊥ (StanzaMissing word)
 StoreCause stanza folder path repo nodes disk_rose tree_rose lock_rose held (InfoDamaged name main copy) = TellsSome nodes × ValueCause stanza repo ⊥ (InfoDamaged name main copy)
 StoreCause stanza folder path repo nodes disk_rose tree_rose lock_rose held (StanzaMismatch kept found) = (told : Control) × IfSome nodes (λ f. FolderTells f told) × CurrentCause stanza told repo ⊥ (StanzaMismatch kept found)
@@ -112,10 +113,16 @@ pub data AskedCause (a : Asked) (repo : Option Content) (nodes : Option Nodes) (
   Made : a.request ≡ create → IfSome repo (λ f. lacks_pairs a.stanza f ≡ true) → TellsSome nodes → AskedCause a repo nodes disk_rose tree_rose lock_rose held (finished [])
   -- the segment is stored
   Stored : (path lines : Text) → a.request ≡ push path → IsStored a.stanza a.data_folder path repo nodes lines → AskedCause a repo nodes disk_rose tree_rose lock_rose held (finished lines)
+  -- the file is served
+  Given : (name path : Text) (bytes : Text) → a.request ≡ get name path → IsServed a.stanza a.data_folder name path repo nodes bytes → AskedCause a repo nodes disk_rose tree_rose lock_rose held (finished [])
+  -- the archive has no such file
+  Missing : (name path : Text) → a.request ≡ get name path → IsMissing a.stanza a.data_folder name path repo nodes → AskedCause a repo nodes disk_rose tree_rose lock_rose held (absent name)
   -- stanza-create is refused
   Creating : (fault : Fault) → a.request ≡ create → CreateCause a.stanza repo nodes disk_rose tree_rose lock_rose held fault → AskedCause a repo nodes disk_rose tree_rose lock_rose held (refused fault)
   -- archive-push is refused
   Pushing : (path : Text) (fault : Fault) → a.request ≡ push path → PushFileCause a.stanza a.data_folder path repo nodes disk_rose tree_rose lock_rose held fault → AskedCause a repo nodes disk_rose tree_rose lock_rose held (refused fault)
+  -- archive-get is refused
+  Getting : (name path : Text) (fault : Fault) → a.request ≡ get name path → GetFileCause a.stanza a.data_folder name path repo nodes disk_rose tree_rose fault → AskedCause a repo nodes disk_rose tree_rose lock_rose held (refused fault)
 
 -- Why the program answers so. The counts that may have risen are those of the repository, the data folder, the locks, the locks that were held, the configuration and the output.
 pub data Cause (words : List Text) (files : Option Content) (repo : Option Content) (nodes : Option Nodes) (disk_rose tree_rose lock_rose held source_rose sink_rose : Type 0) : Answer → Type 0 where

@@ -1,14 +1,18 @@
 -- What a command did, from the disk as it was to the disk as it is.
 use Rattle.std.specs.Prelude.{◌≡◌, true, false, Some, Option, IfSome, IsSome, IsSomeAnd}
 use Rattle.pgb_outside.specs.Moments.{View}
+use Rattle.pgb_outside.specs.Content.{Content}
 use Rattle.pgb_outside.specs.Tree.{Nodes}
+use Rattle.pgb_model.specs.Text.{Text}
 use Rattle.pgb_model.specs.declared.clusters.Cluster.{Cluster}
 use Rattle.pgb_model.specs.Steps.{Command, Reading}
 use Rattle.pgb_model.specs.Steady.{CarriesOn, PassesOnly}
 use Rattle.pgb_model.specs.Now.{HasNewPairs, NowDoes}
-use Rattle.pgb_command.specs.Asked.{Asked, create}
+use Rattle.pgb_command.specs.Asked.{Asked, Request, create, push, get}
 use Rattle.pgb_command.specs.Cluster.{IsClusterOf}
 use Rattle.pgb_command.specs.Commands.{IsCommandOf}
+use Rattle.pgb_command.specs.Answers.{Ending, finished, absent, refused}
+use Rattle.pgb_command.specs.Getting.{Serves}
 use Rattle.pgb_command.specs.Storing.{AgreesAtPair}
 
 -- a part of its steps, in what the disk holds and in all that a stop leaves at any moment
@@ -17,12 +21,29 @@ pub record PartDone (a : Asked) (nodes : Option Nodes) (old new : View) : Type 0
   pub carries : (command : Command) → IsSomeAnd nodes (λ f. IsCommandOf f a command) → CarriesOn a.stanza command false old new
   pub between : (command : Command) → IsSomeAnd nodes (λ f. IsCommandOf f a command) → PassesOnly a.stanza command old new
 
+-- commands that heal the archive pair
+abbrev pub Heals : Request → Type 0
+Heals create = Unit {0}
+Heals (push path) = Unit {0}
+Heals (get name path) = ⊥
+
 -- all of its steps
 pub record AllDone (a : Asked) (nodes : Option Nodes) (old new : View) : Type 0 where
   pub done : (command : Command) → IsSomeAnd nodes (λ f. IsCommandOf f a command) → NowDoes a.stanza command true old.now new.now
   pub carried : (command : Command) → IsSomeAnd nodes (λ f. IsCommandOf f a command) → CarriesOn a.stanza command true old new
-  pub agrees : IsSome old.now → IfSome new.now (AgreesAtPair a.stanza)
+  pub agrees : Heals a.request → IsSome old.now → IfSome new.now (AgreesAtPair a.stanza)
   pub members : a.request ≡ create → (c : Cluster) → IsSomeAnd nodes (λ f. IsClusterOf f (Some c)) → IsSome old.now → IfSome new.now (HasNewPairs a.stanza c)
+
+-- at Ok of archive-get its file is served
+abbrev pub ServesFor : Request → Text → Text → Option Content → Option Nodes → Option Nodes → Type 0
+ServesFor create stanza folder repo nodes new = Unit {0}
+ServesFor (push path) stanza folder repo nodes new = Unit {0}
+ServesFor (get name path) stanza folder repo nodes new = Serves stanza folder name path repo nodes new
+
+abbrev pub ServedBy : Ending → Asked → Option Content → Option Nodes → Option Nodes → Type 0
+ServedBy (finished lines) a repo nodes new = ServesFor a.request a.stanza a.data_folder repo nodes new
+ServedBy (absent name) a repo nodes new = Unit {0}
+ServedBy (refused fault) a repo nodes new = Unit {0}
 
 -- none of them
 pub record NoneDone (a : Asked) (old new : View) : Type 0 where

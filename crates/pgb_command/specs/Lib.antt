@@ -1,7 +1,7 @@
 pub mod Asked
-pub mod Told
 pub mod Configuring
 pub mod Locking
+pub mod Told
 pub mod Faults
 pub mod Answers
 pub mod Outcomes
@@ -11,6 +11,7 @@ pub mod WalPath
 pub mod WalCause
 pub mod Commands
 pub mod Storing
+pub mod Getting
 pub mod Causes
 pub mod Making
 pub mod Doing

@@ -13,6 +13,12 @@ MakeCause stanza repo rose Disk = rose
 MakeCause stanza repo rose NoMemory = Unit {0}
 MakeCause stanza repo rose other = ⊥
 
+-- the data folder failed, or memory did
+abbrev pub FolderCause : Type 0 → Fault → Type 0
+FolderCause rose Tree = rose
+FolderCause rose NoMemory = Unit {0}
+FolderCause rose other = ⊥
+
 -- a device failed, or memory did, or the lock of this name was held
 abbrev pub OpeningCause : Text → Type 0 → Type 0 → Type 0 → Type 0 → Fault → Type 0
 OpeningCause name disk_rose tree_rose lock_rose held (Held word) = (string_bytes word ≡ name) × held

@@ -3,23 +3,37 @@ use Rattle.std.specs.Prelude.{[], List, Result, Ok, Err, map, string_bytes}
 use Rattle.pgb_model.specs.Text.{Text}
 use Rattle.pgb_command.specs.declared.fault.Fault.{Fault}
 use Rattle.pgb_command.specs.declared.outcome.Outcome.{Outcome}
-use Rattle.pgb_command.specs.declared.outcome.Outcome.TheVariants.{Silent, SameStored}
+use Rattle.pgb_command.specs.declared.outcome.Outcome.TheVariants.{Silent, SameStored, Absent}
 use Rattle.pgb_command.specs.declared.outcome.Served.{Served}
 use Rattle.pgb_archive.specs.declared.pushing.Pushed.{Pushed}
 use Rattle.pgb_archive.specs.declared.pushing.Pushed.TheVariants.{New, Same}
-use Rattle.pgb_command.specs.Answers.{Ending, finished, refused, Answer, same_line}
+use Rattle.pgb_command.specs.Answers.{Ending, finished, absent, refused, Answer, same_line, OnFinding}
 
-abbrev pub lines_by : Outcome → Text
-lines_by Silent = []
-lines_by (SameStored name) = same_line (string_bytes name)
+abbrev pub outcome_ending : Outcome → Ending
+outcome_ending Silent = finished []
+outcome_ending (SameStored name) = finished (same_line (string_bytes name))
+outcome_ending (Absent name) = absent (string_bytes name)
 
--- those of a push of this segment
+-- this holds where nothing was done: the archive has no such file, or the command was refused for what was found
+abbrev pub OnNothing : Result Outcome Fault → Type 0 → Type 0
+OnNothing (Ok Silent) P = Unit {0}
+OnNothing (Ok (SameStored name)) P = Unit {0}
+OnNothing (Ok (Absent name)) P = P
+OnNothing (Err fault) P = OnFinding fault P
+
+-- the command ended well, with lines of which this holds
+abbrev pub OnFinished : Ending → (Text → Type 0) → Type 0
+OnFinished (finished lines) P = P lines
+OnFinished (absent name) P = ⊥
+OnFinished (refused fault) P = ⊥
+
+-- the lines of a push of this segment
 abbrev pub pushed_lines : Pushed → Text → Text
 pushed_lines New name = []
 pushed_lines Same name = same_line name
 
 abbrev pub ending_of : Result Outcome Fault → Ending
-ending_of (Ok outcome) = finished (lines_by outcome)
+ending_of (Ok outcome) = outcome_ending outcome
 ending_of (Err fault) = refused fault
 
 abbrev pub answer_of : Served → Answer

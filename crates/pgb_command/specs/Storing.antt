@@ -9,6 +9,8 @@ use Rattle.pgb_model.specs.Names.{archive_info, copy_of}
 use Rattle.pgb_model.specs.Pair.{PairIs, PairAbsent}
 use Rattle.pgb_model.specs.Values.{ArchiveInfo}
 use Rattle.pgb_model.specs.InfoFiles.{IsArchiveText}
+use Rattle.pgb_info.specs.declared.fault.InfoFault.{InfoFault}
+use Rattle.pgb_info.specs.declared.fault.InfoFault.TheVariants.{Missing, Damaged, Disk as InfoDisk, NoMemory as InfoNoMemory}
 use Rattle.pgb_info.specs.Causes.{AreDamaged}
 use Rattle.pgb_info.specs.ArchiveForm.{IsArchiveForm}
 use Rattle.pgb_model.specs.Stands.{IsArchiveFile}
@@ -37,6 +39,15 @@ AgreesAtPair stanza f = (f (copy_of (archive_info stanza)) ≡ f (archive_info s
 -- the archive's files are as they were
 abbrev pub SameFiles : Text → Option Content → Option Content → Type 0
 SameFiles stanza old new = (name : Text) → IsArchiveFile stanza name → at name new ≡ at name old
+
+-- which answer a fault of the archive pair is
+abbrev pub IsValueFault : Text → InfoFault → Fault → Type 0
+IsValueFault stanza Missing (StanzaMissing word) = string_bytes word ≡ stanza
+IsValueFault stanza Missing NoMemory = Unit {0}
+IsValueFault stanza (Damaged of_main of_copy) (InfoDamaged name main copy) = (string_bytes name ≡ archive_info stanza) × (main ≡ of_main) × (copy ≡ of_copy)
+IsValueFault stanza InfoDisk Disk = Unit {0}
+IsValueFault stanza InfoNoMemory NoMemory = Unit {0}
+IsValueFault stanza fault other = ⊥
 
 -- why the archive pair has no value
 abbrev pub ValueCause : Text → Option Content → Type 0 → Fault → Type 0

@@ -6,12 +6,11 @@ ghost use Rattle.pgb_model.specs.Names.{segment_text};
 ghost use Rattle.pgb_model.specs.Now.{NowDoes};
 ghost use Rattle.pgb_model.specs.Steps.{Command, Reading};
 ghost use Rattle.pgb_model.specs.Steady.{CarriesOn, PassesOnly};
-ghost use Rattle.pgb_command.specs.Answers.{OnFinding};
+ghost use Rattle.pgb_command.specs.Answers.{finished, OnFinding};
 ghost use Rattle.pgb_command.specs.Causes.{IsStored, StoreCause, PushFileCause};
-ghost use Rattle.pgb_command.specs.Asked.{push as push_request};
-ghost use Rattle.pgb_command.specs.Locking.{lock_name, Locks as IsLocked, OnlyLocked, MayHold};
+ghost use Rattle.pgb_command.specs.Locking.{archive_lock, Locks as IsLocked, OnlyLocked, MayHold};
 ghost use Rattle.pgb_command.specs.Commands.{IsPushOf, Goes, Ends};
-ghost use Rattle.pgb_command.specs.Outcomes.{lines_by, pushed_lines};
+ghost use Rattle.pgb_command.specs.Outcomes.{outcome_ending, OnFinished, pushed_lines};
 ghost use Rattle.pgb_command.specs.Storing.{AgreesAtPair};
 ghost use Rattle.pgb_command.specs.WalPath.{IsWalPath};
 
@@ -31,7 +30,7 @@ const SEGMENT_LIMIT: usize = 1 << 30;
 
 // What a push did, as the output tells it.
 fn outcome_of(pushed: Pushed, name: String) -> Outcome
-    ensures { lines_by result ≡ pushed_lines pushed (string_bytes name) }
+    ensures { outcome_ending result ≡ finished (pushed_lines pushed (string_bytes name)) }
 {
     match pushed {
         Pushed::New => Outcome::Silent,
@@ -59,7 +58,7 @@ fn store<D: Disk, T: Tree>(
         → Ends settings.now.stanza.now command (D.view repo.old) (D.view repo.new)) }
     ensures stays { IfErr result (λ e. OnFinding e (NowDoes settings.now.stanza.now Reading true (D.view repo.old).now (D.view repo.new).now × Ends settings.now.stanza.now Reading (D.view repo.old) (D.view repo.new))) }
     ensures agrees { OnOk result (IsSome (D.view repo.old).now → IfSome (D.view repo.new).now (AgreesAtPair settings.now.stanza.now)) }
-    ensures stored { IfOk result (λ outcome. IsStored settings.now.stanza.now settings.now.pg1_path.now path.now (D.view repo.old).now (T.nodes tree.old) (lines_by outcome)) }
+    ensures stored { IfOk result (λ outcome. OnFinished (outcome_ending outcome) (IsStored settings.now.stanza.now settings.now.pg1_path.now path.now (D.view repo.old).now (T.nodes tree.old))) }
     ensures cause { IfErr result (StoreCause settings.now.stanza.now settings.now.pg1_path.now path.now (D.view repo.old).now (T.nodes tree.old) (Rises (D.faults repo.old) (D.faults repo.new)) (Rises (T.faults tree.old) (T.faults tree.new)) ⊥ ⊥) }
     ensures nodes { T.nodes tree.new ≡ T.nodes tree.old }
     ensures tree_place { T.place tree.new ≡ T.place tree.old }
@@ -93,7 +92,7 @@ pub(crate) fn push_file<D: Disk, T: Tree, K: Locks>(
     lock: &str,
 ) -> Result<Outcome, Fault>
     requires free { ¬ Contains (K.taken locks.old) lock.now }
-    requires name { lock.now ≡ lock_name settings.now.stanza.now (push_request path.now) }
+    requires name { lock.now ≡ archive_lock settings.now.stanza.now }
     // At Ok all of the command's steps are done, and after every answer a part of them.
     ensures done { OnOk result ((command : Command) → IsSomeAnd (T.nodes tree.old) (λ f. IsPushOf f settings.now.pg1_path.now path.now command)
         → NowDoes settings.now.stanza.now command true (D.view repo.old).now (D.view repo.new).now) }
@@ -111,7 +110,7 @@ pub(crate) fn push_file<D: Disk, T: Tree, K: Locks>(
     // A refusal for what was found takes no step.
     ensures stays { IfErr result (λ e. OnFinding e (NowDoes settings.now.stanza.now Reading true (D.view repo.old).now (D.view repo.new).now × CarriesOn settings.now.stanza.now Reading true (D.view repo.old) (D.view repo.new))) }
     ensures agrees { OnOk result (IsSome (D.view repo.old).now → IfSome (D.view repo.new).now (AgreesAtPair settings.now.stanza.now)) }
-    ensures stored { IfOk result (λ outcome. IsStored settings.now.stanza.now settings.now.pg1_path.now path.now (D.view repo.old).now (T.nodes tree.old) (lines_by outcome)) }
+    ensures stored { IfOk result (λ outcome. OnFinished (outcome_ending outcome) (IsStored settings.now.stanza.now settings.now.pg1_path.now path.now (D.view repo.old).now (T.nodes tree.old))) }
     ensures cause { IfErr result (PushFileCause settings.now.stanza.now settings.now.pg1_path.now path.now (D.view repo.old).now (T.nodes tree.old) (Rises (D.faults repo.old) (D.faults repo.new)) (Rises (T.faults tree.old) (T.faults tree.new)) (Rises (K.faults locks.old) (K.faults locks.new)) (Rises (K.refusals locks.old) (K.refusals locks.new))) }
     ensures places { OnOk result ((T.place tree.new ≡ settings.now.pg1_path.now) × (D.place repo.new ≡ settings.now.repo1_path.now)) }
     ensures locked { OnOk result (IsLocked settings.now.lock_path.now lock.now (K.took locks.old) (K.took locks.new)) }

@@ -13,8 +13,7 @@ ghost use Rattle.pgb_stanza.specs.ControlFile.{first_cluster};
 ghost use Rattle.pgb_command.specs.Cluster.{IsClusterOf};
 ghost use Rattle.pgb_command.specs.Causes.{CreateCause, TellsSome};
 ghost use Rattle.pgb_command.specs.Answers.{OnFinding};
-ghost use Rattle.pgb_command.specs.Asked.{create as create_request};
-ghost use Rattle.pgb_command.specs.Locking.{lock_name, Locks as IsLocked, OnlyLocked, MayHold};
+ghost use Rattle.pgb_command.specs.Locking.{backup_lock, Locks as IsLocked, OnlyLocked, MayHold};
 ghost use Rattle.pgb_command.specs.Making.{MakeCause};
 ghost use Rattle.pgb_command.specs.Storing.{AgreesAtPair};
 
@@ -64,7 +63,7 @@ pub(crate) fn create_stanza<D: Disk, T: Tree, K: Locks>(
     lock: &str,
 ) -> Result<(), Fault>
     requires free { ¬ Contains (K.taken locks.old) lock.now }
-    requires name { lock.now ≡ lock_name settings.now.stanza.now create_request }
+    requires name { lock.now ≡ backup_lock settings.now.stanza.now }
     // At Ok all of the command's steps are done, and after every answer a part of them.
     ensures done { OnOk result ((cluster : Option Cluster) → IsSomeAnd (T.nodes tree.old) (λ f. IsClusterOf f cluster)
         → NowDoes settings.now.stanza.now (StanzaCreate cluster) true (D.view repo.old).now (D.view repo.new).now) }

@@ -1,5 +1,6 @@
 // The stanza's current cluster.
-ghost use Rattle.std.specs.Prelude.{◌≡◌, ◌≢◌, ◌≤◌, ◌<◌, ◌^◌, true, Some, OnOk, IfOk, IfErr, IfSome, IsSome};
+ghost use Rattle.std.specs.Prelude.{◌≡◌, ◌≢◌, ◌≤◌, ◌<◌, ◌^◌, true, Some, string_bytes, OnOk, IfOk, IfErr, IfSome, IsSome};
+ghost use Rattle.pgb_outside.specs.Moments.{Rests};
 ghost use Rattle.pgb_outside.specs.Cause.{Rises};
 ghost use Rattle.pgb_model.specs.declared.clusters.ClusterId.{ClusterId};
 ghost use Rattle.pgb_model.specs.Fields.{at_number};
@@ -13,10 +14,10 @@ ghost use Rattle.pgb_model.specs.Steps.{Reading};
 ghost use Rattle.pgb_info.specs.Causes.{PairCause};
 ghost use Rattle.pgb_info.specs.ArchiveForm.{IsArchiveForm};
 ghost use Rattle.pgb_command.specs.Commands.{Goes, Ends};
-ghost use Rattle.pgb_command.specs.Storing.{HasCurrent, id_kept, identity_kept, identity_told, AgreesAtPair, SameFiles, ValueCause, CurrentCause};
+ghost use Rattle.pgb_command.specs.Storing.{IsValueFault, HasCurrent, id_kept, identity_kept, identity_told, AgreesAtPair, SameFiles, ValueCause, CurrentCause};
 
 use crate::fault::{Fault, Identity};
-use pgb_info::{InfoFault, heal_pair};
+use pgb_info::{InfoFault, heal_pair, load_pair};
 use pgb_model::{ArchiveId, ArchiveInfo};
 use pgb_outside::Disk;
 use pgb_stanza::{Control, archive_info_name};
@@ -45,6 +46,22 @@ fn heal_archive_pair<D: Disk>(
     Ok(info)
 }
 
+// The fault that is told of the archive pair.
+fn value_fault(alloc: Global, stanza: &str, name: String, fault: InfoFault) -> Fault
+    requires { string_bytes name ≡ archive_info stanza.now }
+    ensures { IsValueFault stanza.now fault result }
+{
+    match fault {
+        InfoFault::Missing => match String::from_str(alloc, stanza) {
+            Ok(stanza) => Fault::StanzaMissing { stanza },
+            Err(_) => Fault::NoMemory,
+        },
+        InfoFault::Damaged { main, copy } => Fault::InfoDamaged { name, main, copy },
+        InfoFault::Disk => Fault::Disk,
+        InfoFault::NoMemory => Fault::NoMemory,
+    }
+}
+
 // The same, with the fault that is told.
 fn archive_value<D: Disk>(alloc: Global, repo: &mut D, stanza: &str) -> Result<ArchiveInfo, Fault>
     ensures found { IfOk result (λ v. IfSome (D.view repo.old).now (λ f. PairIs IsArchiveText f (archive_info stanza.now) (archive_info_of v))) }
@@ -61,12 +78,28 @@ fn archive_value<D: Disk>(alloc: Global, repo: &mut D, stanza: &str) -> Result<A
     let name = archive_info_name(alloc, stanza)?;
     match heal_archive_pair(alloc, repo, stanza, name.as_str()) {
         Ok(info) => Ok(info),
-        Err(InfoFault::Missing) => Err(Fault::StanzaMissing {
-            stanza: String::from_str(alloc, stanza)?,
-        }),
-        Err(InfoFault::Damaged { main, copy }) => Err(Fault::InfoDamaged { name, main, copy }),
-        Err(InfoFault::Disk) => Err(Fault::Disk),
-        Err(InfoFault::NoMemory) => Err(Fault::NoMemory),
+        Err(fault) => Err(value_fault(alloc, stanza, name, fault)),
+    }
+}
+
+/// The value of the archive pair, of which nothing is healed.
+pub(crate) fn read_archive_value<D: Disk>(
+    alloc: Global,
+    repo: &mut D,
+    stanza: &str,
+) -> Result<ArchiveInfo, Fault>
+    ensures found { IfOk result (λ v. IfSome (D.view repo.old).now (λ f. PairIs IsArchiveText f (archive_info stanza.now) (archive_info_of v))) }
+    ensures valid { IfOk result (λ v. IsArchiveInfo (archive_info_of v)) }
+    ensures now { (D.view repo.new).now ≡ (D.view repo.old).now }
+    ensures time { Rests (D.view repo.old) (D.view repo.new) }
+    ensures place { D.place repo.new ≡ D.place repo.old }
+    ensures later { D.faults repo.old ≤ D.faults repo.new }
+    ensures cause { IfErr result (ValueCause stanza.now (D.view repo.old).now (Rises (D.faults repo.old) (D.faults repo.new))) }
+{
+    let name = archive_info_name(alloc, stanza)?;
+    match load_pair(alloc, repo, name.as_str()) {
+        Ok(info) => Ok(info),
+        Err(fault) => Err(value_fault(alloc, stanza, name, fault)),
     }
 }
 

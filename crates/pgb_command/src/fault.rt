@@ -3,7 +3,7 @@ ghost use Rattle.std.specs.Prelude.{◌≡◌};
 ghost use Rattle.pgb_command.specs.Answers.{status_of, usage_status};
 ghost use Rattle.pgb_command.specs.Faults.{of_tree, of_source};
 
-use pgb_archive::ArchiveFault;
+use pgb_archive::{ArchiveFault, GetFault};
 use pgb_info::MemberFault;
 use pgb_options::{Usage, Verb};
 use pgb_outside::Stop;
@@ -122,6 +122,11 @@ pub enum Fault {
         kept: Sum,
         found: Sum,
     },
+    /// The stored bytes haven't the sum in their name.
+    SegmentDamaged {
+        told: Sum,
+        found: Sum,
+    },
     /// The repository failed.
     Disk,
     /// The data folder failed.
@@ -219,6 +224,23 @@ impl From<ArchiveFault> for Fault {
     }
 }
 
+impl From<GetFault> for Fault {
+    ghost use Rattle.std.specs.Prelude.{◌≡◌};
+    ghost use Rattle.pgb_command.specs.Faults.{of_got};
+
+    ghost from_gives = { λ s e. e ≡ of_got s };
+
+    fn from(fault: GetFault) -> Self {
+        match fault {
+            GetFault::Ambiguous { first, second } => Fault::Ambiguous { first, second },
+            GetFault::SegmentDamaged { told, found } => Fault::SegmentDamaged { told, found },
+            GetFault::TooLong { name, limit } => Fault::TooLong { name, limit },
+            GetFault::Disk => Fault::Disk,
+            GetFault::NotFound | GetFault::NoMemory => Fault::NoMemory,
+        }
+    }
+}
+
 /// What a stop of the data folder is.
 pub(crate) fn of_tree(stop: Stop) -> Fault
     ensures { result ≡ of_tree stop }
@@ -283,6 +305,7 @@ pub(crate) fn status(fault: &Fault) -> u8
         Fault::HeaderMismatch { .. } => 33,
         Fault::Ambiguous { .. } => 36,
         Fault::Duplicate { .. } => 34,
+        Fault::SegmentDamaged { .. } => 35,
         Fault::Disk => 80,
         Fault::Tree => 82,
         Fault::Locks => 85,

@@ -1,18 +1,21 @@
 //! The commands, from words to a status.
 #![tactic(auto)]
 
+mod archive_get;
 mod archive_push;
 mod cluster;
 mod config;
 mod create;
 mod current;
 mod fault;
+mod finding;
 mod lines;
 mod opening;
 mod outcome;
 mod output;
 mod outside;
 mod reading;
+mod serving;
 mod settings;
 mod top;
 mod wal_file;

@@ -1,7 +1,7 @@
 // The lines that tell an answer.
 ghost use Rattle.std.specs.Prelude.{◌≡◌, ◌++◌, codes, decimal, IfOk, IsOkAnd, OnOk, string_bytes};
 ghost use Rattle.pgb_text.specs.Sum.{sum_text};
-ghost use Rattle.pgb_command.specs.Answers.{error_line, usage_line, same_line, unknown_line, shown, shown_byte, part_name, file_text, member_text, damage_text, identity_text};
+ghost use Rattle.pgb_command.specs.Answers.{error_line, usage_line, same_line, absent_line, unknown_line, shown, shown_byte, part_name, file_text, member_text, damage_text, identity_text};
 
 use crate::fault::{ControlFile, Fault, Identity, Unbuilt};
 use pgb_info::MemberFault;
@@ -125,6 +125,15 @@ fn duplicate_line(alloc: Global, kept: &Sum, found: &Sum) -> Result<Vec<u8>, NoM
     let kept = kept.hex(alloc)?;
     let found = found.hex(alloc)?;
     bytes_of(format!(in alloc; "ERROR: [034]: archived with checksum {kept}, now {found}\n"))
+}
+
+// The line of a segment whose bytes haven't its sum.
+fn damaged_segment_line(alloc: Global, told: &Sum, found: &Sum) -> Result<Vec<u8>, NoMemory>
+    ensures { IfOk result (λ line. line.items ≡ codes "ERROR: [035]: checksum " ++ (sum_text told.now.0 ++ (codes ", found " ++ (sum_text found.now.0 ++ codes "\n")))) }
+{
+    let told = told.hex(alloc)?;
+    let found = found.hex(alloc)?;
+    bytes_of(format!(in alloc; "ERROR: [035]: checksum {told}, found {found}\n"))
 }
 
 // A line of three pieces.
@@ -270,6 +279,7 @@ pub(crate) fn line(alloc: Global, fault: &Fault) -> Result<Vec<u8>, NoMemory>
             "ERROR: [036]: '{first}' and '{second}' are both stored\n"
         )),
         Fault::Duplicate { kept, found } => duplicate_line(alloc, kept, found),
+        Fault::SegmentDamaged { told, found } => damaged_segment_line(alloc, told, found),
         Fault::Disk => bytes_of(String::from_str(alloc, "ERROR: [080]: repository failed\n")),
         Fault::Tree => bytes_of(String::from_str(alloc, "ERROR: [082]: data folder failed\n")),
         Fault::Locks => bytes_of(String::from_str(alloc, "ERROR: [085]: lock failed\n")),
@@ -284,6 +294,13 @@ pub(crate) fn same_line(alloc: Global, name: &str) -> Result<Vec<u8>, NoMemory>
     ensures { IfOk result (λ line. line.items ≡ same_line name.now) }
 {
     bytes_of(format!(in alloc; "WARN: {name} is already in the archive with the same checksum\n"))
+}
+
+/// What is told where the archive has no such file.
+pub(crate) fn absent_line(alloc: Global, name: &str) -> Result<Vec<u8>, NoMemory>
+    ensures { IfOk result (λ line. line.items ≡ absent_line name.now) }
+{
+    bytes_of(format!(in alloc; "INFO: unable to find {name} in the archive\n"))
 }
 
 /// Adds the warning of a key that is no option.

@@ -74,6 +74,27 @@ fn take_lock<K: Locks>(alloc: Global, locks: &mut K, folder: &str, name: &str) -
     }
 }
 
+/// Opens the data folder and the repository, and settles the stanza in the repository, for a command that only reads.
+pub(crate) fn prepare_reading<D: Disk, T: Tree>(
+    alloc: Global,
+    repo: &mut D,
+    tree: &mut T,
+    settings: &Settings,
+) -> Result<(), Fault>
+    ensures places { OnOk result ((T.place tree.new ≡ settings.now.pg1_path.now) × (D.place repo.new ≡ settings.now.repo1_path.now)) }
+    ensures now { (D.view repo.new).now ≡ (D.view repo.old).now }
+    ensures time { Rests (D.view repo.old) (D.view repo.new) }
+    ensures nodes { T.nodes tree.new ≡ T.nodes tree.old }
+    ensures repo_later { D.faults repo.old ≤ D.faults repo.new }
+    ensures tree_later { T.faults tree.old ≤ T.faults tree.new }
+    ensures cause { IfErr result (OpeningCause [] (Rises (D.faults repo.old) (D.faults repo.new)) (Rises (T.faults tree.old) (T.faults tree.new)) ⊥ ⊥) }
+{
+    open_tree(tree, settings.pg1_path)?;
+    open_repo(repo, settings.repo1_path)?;
+    settle(alloc, repo, settings.stanza)?;
+    Ok(())
+}
+
 /// Opens the data folder and the repository, takes the lock, and settles the stanza in the repository. The lock may be held
 /// after an `Err` too.
 pub(crate) fn prepare<D: Disk, T: Tree, K: Locks>(

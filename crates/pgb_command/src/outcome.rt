@@ -9,6 +9,8 @@ pub enum Outcome {
     Silent,
     /// The segment of this name was stored already, with the same sum.
     SameStored { name: String },
+    /// The archive has no file of this name.
+    Absent { name: String },
 }
 
 /// How a command ended, and the keys of its configuration that are no options.

@@ -6,10 +6,10 @@ ghost use Rattle.pgb_model.specs.Text.{Text};
 ghost use Rattle.pgb_command.specs.declared.fault.Fault.TheVariants.{NoMemory as OutOfMemory};
 ghost use Rattle.pgb_command.specs.Answers.{Ending, refused, status, Answer, ending_lines, lines_of, unknown_line, error_line};
 ghost use Rattle.pgb_command.specs.Output.{IsFrontWritten, IsTold};
-ghost use Rattle.pgb_command.specs.Outcomes.{lines_by, ending_of, answer_of};
+ghost use Rattle.pgb_command.specs.Outcomes.{ending_of, answer_of};
 
 use crate::fault::{Fault, status};
-use crate::lines::{line, push_unknown, same_line};
+use crate::lines::{absent_line, line, push_unknown, same_line};
 use crate::outcome::{Outcome, Served};
 use pgb_outside::{Sink, Stop};
 use pgb_text::NoMemory;
@@ -36,6 +36,7 @@ fn lines_at_end(alloc: Global, ending: &Result<Outcome, Fault>) -> Result<Vec<u8
     match ending {
         Ok(Outcome::Silent) => Ok(Vec::new(alloc)),
         Ok(Outcome::SameStored { name }) => same_line(alloc, name),
+        Ok(Outcome::Absent { name }) => absent_line(alloc, name),
         Err(fault) => line(alloc, fault),
     }
 }
@@ -55,6 +56,7 @@ fn status_at_end(ending: &Result<Outcome, Fault>) -> u8
     ensures { result ≡ status (ending_of ending.now) }
 {
     match ending {
+        Ok(Outcome::Absent { .. }) => 1,
         Ok(_) => 0,
         Err(fault) => status(fault),
     }

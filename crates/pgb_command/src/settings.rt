@@ -3,18 +3,26 @@ ghost use Rattle.std.specs.Prelude.{◌≡◌, [], List, Ok, Err, map, IfOk, IfE
 ghost use Rattle.pgb_options.specs.Commands.{IsCommand};
 ghost use Rattle.pgb_options.specs.Filled.{or_else};
 ghost use Rattle.pgb_options.specs.Settings.{Settled};
-ghost use Rattle.pgb_command.specs.Asked.{request_by, first_of, requested, IsAsked};
+ghost use Rattle.pgb_command.specs.Asked.{request_by, first_of, second_of, requested, IsAsked};
 ghost use Rattle.pgb_command.specs.Told.{request_of, asked_of};
 
 use crate::fault::Unbuilt;
 use pgb_options::{Command, Verb};
 
-/// Which command is asked for.
+/// A command that writes to the repository, under a lock.
 #[derive(Clone, Copy)]
-pub enum Asking<'a> {
+pub enum Writing<'a> {
     StanzaCreate,
     /// The file that is to be stored, as the server names it.
     ArchivePush { path: &'a str },
+}
+
+/// Which command is asked for.
+#[derive(Clone, Copy)]
+pub enum Asking<'a> {
+    Write(Writing<'a>),
+    /// The archived file that is to be served, and where.
+    ArchiveGet { name: &'a str, path: &'a str },
 }
 
 /// What a command is told.
@@ -34,6 +42,16 @@ fn first_of(given: &[String]) -> &str
     match given.first() {
         Some(first) => first.as_str(),
         None => "",
+    }
+}
+
+// The second parameter.
+fn second_of(given: &[String]) -> &str
+    ensures { result.now ≡ second_of (map string_bytes given.now) }
+{
+    match given {
+        [_, second, ..] => second.as_str(),
+        _ => "",
     }
 }
 
@@ -57,14 +75,23 @@ fn request_of(command: &Command) -> Result<Asking<'_>, Unbuilt>
             if command.options.online {
                 return Err(Unbuilt::Server);
             }
-            Ok(Asking::StanzaCreate)
+            Ok(Asking::Write(Writing::StanzaCreate))
         }
         Verb::ArchivePush => {
             if command.options.archive_async {
                 return Err(Unbuilt::Background);
             }
-            Ok(Asking::ArchivePush {
+            Ok(Asking::Write(Writing::ArchivePush {
                 path: first_of(&command.given),
+            }))
+        }
+        Verb::ArchiveGet => {
+            if command.options.archive_async {
+                return Err(Unbuilt::Background);
+            }
+            Ok(Asking::ArchiveGet {
+                name: first_of(&command.given),
+                path: second_of(&command.given),
             })
         }
         verb => Err(Unbuilt::Command(verb)),

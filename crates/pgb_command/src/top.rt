@@ -6,18 +6,21 @@ ghost use Rattle.pgb_model.specs.Text.{Text};
 ghost use Rattle.pgb_model.specs.Steps.{Command, Reading};
 ghost use Rattle.pgb_model.specs.Steady.{PassesOnly, KeepsOn};
 ghost use Rattle.pgb_model.specs.Now.{HasNewPairs, NowDoes};
-ghost use Rattle.pgb_command.specs.Asked.{Asked, create, MayAsk, Asks};
-ghost use Rattle.pgb_command.specs.Answers.{Answer, refused, status, OnFinding, IsFinding};
+ghost use Rattle.pgb_command.specs.Asked.{Asked, create, get, MayAsk, Asks};
+ghost use Rattle.pgb_command.specs.Answers.{Ending, Answer, status, IsFinding};
 ghost use Rattle.pgb_command.specs.Cluster.{IsClusterOf};
 ghost use Rattle.pgb_command.specs.Commands.{IsCommandOf};
 ghost use Rattle.pgb_command.specs.Causes.{AskedCause, Cause};
-ghost use Rattle.pgb_command.specs.Doing.{PartDone, AllDone, NoneDone};
-ghost use Rattle.pgb_command.specs.Locking.{lock_of, Locks as IsLocked, OnlyLocked, MayHold};
-ghost use Rattle.pgb_command.specs.Outcomes.{ending_of, answer_of};
+ghost use Rattle.pgb_command.specs.Doing.{Heals, PartDone, AllDone, NoneDone, ServedBy};
+ghost use Rattle.pgb_command.specs.Locking.{lock_of, Locks as IsLocked, TakesLock, OnlyLocked, OnlyUnderLock, MayHold};
+ghost use Rattle.pgb_command.specs.Outcomes.{ending_of, answer_of, OnNothing};
+ghost use Rattle.pgb_command.specs.Getting.{Serves, FolderGoes};
 ghost use Rattle.pgb_command.specs.Output.{Wrote};
+ghost use Rattle.pgb_command.specs.declared.settings.Asking.TheVariants.{Write};
 ghost use Rattle.pgb_command.specs.Storing.{AgreesAtPair};
-ghost use Rattle.pgb_command.specs.Told.{asked_of};
+ghost use Rattle.pgb_command.specs.Told.{request_of, asked_of, writing_lock};
 
+use crate::archive_get::get_file;
 use crate::archive_push::push_file;
 use crate::config::read_command;
 use crate::create::create_stanza;
@@ -25,25 +28,27 @@ use crate::fault::Fault;
 use crate::outcome::{Outcome, Served};
 use crate::output::answer;
 use crate::outside::Outside;
-use crate::settings::{Asking, Settings, settings_of};
+use crate::settings::{Asking, Settings, Writing, settings_of};
 use pgb_archive::Aside;
 use pgb_outside::{Clock, Disk, Link, Locks, Sink, Source, Tree, Turns, Wire};
 use std::alloc::{AllocError, Global};
 
-// Does what the settings ask for, under the lock of this name, which may be held afterwards.
+// Does what a writing command asks for, under the lock of this name, which may be held afterwards.
 fn perform<D: Disk, T: Tree, K: Locks>(
     alloc: Global,
     settings: &Settings,
+    writing: Writing<'_>,
     repo: &mut D,
     tree: &mut T,
     locks: &mut K,
     lock: &str,
 ) -> Result<Outcome, Fault>
     requires free { ¬ Contains (K.taken locks.old) lock.now }
-    requires name { lock.now ≡ lock_of (asked_of settings.now) }
+    requires name { lock.now ≡ writing_lock settings.now.stanza.now writing }
+    requires asked { settings.now.request ≡ Write writing }
     ensures part { PartDone (asked_of settings.now) (T.nodes tree.old) (D.view repo.old) (D.view repo.new) }
     ensures done { OnOk result (AllDone (asked_of settings.now) (T.nodes tree.old) (D.view repo.old) (D.view repo.new)) }
-    ensures none { IfErr result (λ e. OnFinding e (NoneDone (asked_of settings.now) (D.view repo.old) (D.view repo.new))) }
+    ensures none { OnNothing result (NoneDone (asked_of settings.now) (D.view repo.old) (D.view repo.new)) }
     ensures answered { AskedCause (asked_of settings.now) (D.view repo.old).now (T.nodes tree.old) (Rises (D.faults repo.old) (D.faults repo.new)) (Rises (T.faults tree.old) (T.faults tree.new)) (Rises (K.faults locks.old) (K.faults locks.new)) (Rises (K.refusals locks.old) (K.refusals locks.new)) (ending_of result) }
     ensures places { OnOk result ((T.place tree.new ≡ settings.now.pg1_path.now) × (D.place repo.new ≡ settings.now.repo1_path.now)) }
     ensures nodes { T.nodes tree.new ≡ T.nodes tree.old }
@@ -55,27 +60,60 @@ fn perform<D: Disk, T: Tree, K: Locks>(
     ensures locks_later { K.faults locks.old ≤ K.faults locks.new }
     ensures refusals_later { K.refusals locks.old ≤ K.refusals locks.new }
 {
-    match settings.request {
-        Asking::StanzaCreate => match create_stanza(alloc, repo, tree, locks, settings, lock) {
+    match writing {
+        Writing::StanzaCreate => match create_stanza(alloc, repo, tree, locks, settings, lock) {
             Ok(()) => Ok(Outcome::Silent),
             Err(fault) => Err(fault),
         },
-        Asking::ArchivePush { path } => push_file(alloc, repo, tree, locks, settings, path, lock),
+        Writing::ArchivePush { path } => push_file(alloc, repo, tree, locks, settings, path, lock),
     }
 }
 
-// The name of the lock that the settings ask for.
-fn lock_name(alloc: Global, settings: &Settings) -> Result<String, AllocError>
-    ensures { IfOk result (λ name. string_bytes name ≡ lock_of (asked_of settings.now)) }
+// The name of the lock of a writing command.
+fn lock_name(alloc: Global, stanza: &str, writing: Writing<'_>) -> Result<String, AllocError>
+    ensures { IfOk result (λ name. string_bytes name ≡ writing_lock stanza.now writing) }
 {
-    let stanza = settings.stanza;
-    match settings.request {
-        Asking::StanzaCreate => format!(in alloc; "{stanza}-backup.lock"),
-        Asking::ArchivePush { .. } => format!(in alloc; "{stanza}-archive.lock"),
+    match writing {
+        Writing::StanzaCreate => format!(in alloc; "{stanza}-backup.lock"),
+        Writing::ArchivePush { .. } => format!(in alloc; "{stanza}-archive.lock"),
     }
 }
 
-// Does what the settings ask for, under its lock, which is released afterwards.
+// Does what a writing command asks for, under its lock, which is released afterwards.
+fn write<D: Disk, T: Tree, K: Locks>(
+    alloc: Global,
+    settings: &Settings,
+    writing: Writing<'_>,
+    repo: &mut D,
+    tree: &mut T,
+    locks: &mut K,
+) -> Result<Outcome, Fault>
+    requires free { K.taken locks.old ≡ [] }
+    requires asked { settings.now.request ≡ Write writing }
+    ensures part { PartDone (asked_of settings.now) (T.nodes tree.old) (D.view repo.old) (D.view repo.new) }
+    ensures done { OnOk result (AllDone (asked_of settings.now) (T.nodes tree.old) (D.view repo.old) (D.view repo.new)) }
+    ensures none { OnNothing result (NoneDone (asked_of settings.now) (D.view repo.old) (D.view repo.new)) }
+    ensures answered { AskedCause (asked_of settings.now) (D.view repo.old).now (T.nodes tree.old) (Rises (D.faults repo.old) (D.faults repo.new)) (Rises (T.faults tree.old) (T.faults tree.new)) (Rises (K.faults locks.old) (K.faults locks.new)) (Rises (K.refusals locks.old) (K.refusals locks.new)) (ending_of result) }
+    ensures places { OnOk result ((T.place tree.new ≡ settings.now.pg1_path.now) × (D.place repo.new ≡ settings.now.repo1_path.now)) }
+    ensures nodes { T.nodes tree.new ≡ T.nodes tree.old }
+    ensures locked { OnOk result (IsLocked settings.now.lock_path.now (writing_lock settings.now.stanza.now writing) (K.took locks.old) (K.took locks.new)) }
+    ensures only_locked { OnlyLocked settings.now.lock_path.now (writing_lock settings.now.stanza.now writing) (K.took locks.old) (K.took locks.new) (D.view repo.old) (D.view repo.new) }
+    ensures released { K.taken locks.new ≡ [] }
+    ensures repo_later { D.faults repo.old ≤ D.faults repo.new }
+    ensures tree_later { T.faults tree.old ≤ T.faults tree.new }
+    ensures locks_later { K.faults locks.old ≤ K.faults locks.new }
+    ensures refusals_later { K.refusals locks.old ≤ K.refusals locks.new }
+{
+    let lock = match lock_name(alloc, settings.stanza, writing) {
+        Ok(lock) => lock,
+        Err(_) => return Err(Fault::NoMemory),
+    };
+    let done = perform(alloc, settings, writing, repo, tree, locks, &lock);
+    locks.release(&lock);
+    done
+}
+
+// Does what the settings ask for.
 fn carry<D: Disk, T: Tree, K: Locks>(
     alloc: Global,
     settings: &Settings,
@@ -86,25 +124,24 @@ fn carry<D: Disk, T: Tree, K: Locks>(
     requires free { K.taken locks.old ≡ [] }
     ensures part { PartDone (asked_of settings.now) (T.nodes tree.old) (D.view repo.old) (D.view repo.new) }
     ensures done { OnOk result (AllDone (asked_of settings.now) (T.nodes tree.old) (D.view repo.old) (D.view repo.new)) }
-    ensures none { IfErr result (λ e. OnFinding e (NoneDone (asked_of settings.now) (D.view repo.old) (D.view repo.new))) }
+    ensures none { OnNothing result (NoneDone (asked_of settings.now) (D.view repo.old) (D.view repo.new)) }
     ensures answered { AskedCause (asked_of settings.now) (D.view repo.old).now (T.nodes tree.old) (Rises (D.faults repo.old) (D.faults repo.new)) (Rises (T.faults tree.old) (T.faults tree.new)) (Rises (K.faults locks.old) (K.faults locks.new)) (Rises (K.refusals locks.old) (K.refusals locks.new)) (ending_of result) }
+    ensures served { ServedBy (ending_of result) (asked_of settings.now) (D.view repo.old).now (T.nodes tree.old) (T.nodes tree.new) }
     ensures places { OnOk result ((T.place tree.new ≡ settings.now.pg1_path.now) × (D.place repo.new ≡ settings.now.repo1_path.now)) }
-    ensures nodes { T.nodes tree.new ≡ T.nodes tree.old }
-    ensures locked { OnOk result (IsLocked settings.now.lock_path.now (lock_of (asked_of settings.now)) (K.took locks.old) (K.took locks.new)) }
-    ensures only_locked { OnlyLocked settings.now.lock_path.now (lock_of (asked_of settings.now)) (K.took locks.old) (K.took locks.new) (D.view repo.old) (D.view repo.new) }
+    ensures folder { FolderGoes settings.now.pg1_path.now (request_of settings.now.request) (T.nodes tree.old) (T.nodes tree.new) }
+    ensures nodes { OnNothing result (T.nodes tree.new ≡ T.nodes tree.old) }
+    ensures locked { OnOk result (TakesLock settings.now.lock_path.now (lock_of (asked_of settings.now)) (K.took locks.old) (K.took locks.new)) }
+    ensures only_locked { OnlyUnderLock settings.now.lock_path.now (lock_of (asked_of settings.now)) (K.took locks.old) (K.took locks.new) (D.view repo.old) (D.view repo.new) }
     ensures released { K.taken locks.new ≡ [] }
     ensures repo_later { D.faults repo.old ≤ D.faults repo.new }
     ensures tree_later { T.faults tree.old ≤ T.faults tree.new }
     ensures locks_later { K.faults locks.old ≤ K.faults locks.new }
     ensures refusals_later { K.refusals locks.old ≤ K.refusals locks.new }
 {
-    let lock = match lock_name(alloc, settings) {
-        Ok(lock) => lock,
-        Err(_) => return Err(Fault::NoMemory),
-    };
-    let done = perform(alloc, settings, repo, tree, locks, &lock);
-    locks.release(&lock);
-    done
+    match settings.request {
+        Asking::Write(writing) => write(alloc, settings, writing, repo, tree, locks),
+        Asking::ArchiveGet { name, path } => get_file(alloc, repo, tree, settings, name, path),
+    }
 }
 
 // Does what the words and their configuration ask for.
@@ -119,14 +156,16 @@ fn serve<D: Disk, T: Tree, K: Locks, I: Source>(
     requires free { K.taken locks.old ≡ [] }
     ensures part { (a : Asked) → Asks (map string_bytes words.now) (I.files config.old) a → PartDone a (T.nodes tree.old) (D.view repo.old) (D.view repo.new) }
     ensures done { OnOk result.ending ((a : Asked) → Asks (map string_bytes words.now) (I.files config.old) a → AllDone a (T.nodes tree.old) (D.view repo.old) (D.view repo.new)) }
-    ensures none { IfErr result.ending (λ e. OnFinding e ((a : Asked) → Asks (map string_bytes words.now) (I.files config.old) a → NoneDone a (D.view repo.old) (D.view repo.new))) }
+    ensures none { OnNothing result.ending ((a : Asked) → Asks (map string_bytes words.now) (I.files config.old) a → NoneDone a (D.view repo.old) (D.view repo.new)) }
     ensures answered { Cause (map string_bytes words.now) (I.files config.old) (D.view repo.old).now (T.nodes tree.old) (Rises (D.faults repo.old) (D.faults repo.new)) (Rises (T.faults tree.old) (T.faults tree.new)) (Rises (K.faults locks.old) (K.faults locks.new)) (Rises (K.refusals locks.old) (K.refusals locks.new)) (Rises (I.faults config.old) (I.faults config.new)) ⊥ (answer_of result) }
+    ensures served { (a : Asked) → Asks (map string_bytes words.now) (I.files config.old) a → ServedBy (ending_of result.ending) a (D.view repo.old).now (T.nodes tree.old) (T.nodes tree.new) }
     ensures unasked { ((a : Asked) → ¬ MayAsk (map string_bytes words.now) (I.files config.old) a) → (repo.new ≡ repo.old) × (tree.new ≡ tree.old) × (locks.new ≡ locks.old) }
     ensures places { OnOk result.ending ((a : Asked) → Asks (map string_bytes words.now) (I.files config.old) a → (T.place tree.new ≡ a.data_folder) × (D.place repo.new ≡ a.repository)) }
-    ensures locked { OnOk result.ending ((a : Asked) → Asks (map string_bytes words.now) (I.files config.old) a → IsLocked a.lock_folder (lock_of a) (K.took locks.old) (K.took locks.new)) }
-    ensures only_locked { (a : Asked) → Asks (map string_bytes words.now) (I.files config.old) a → OnlyLocked a.lock_folder (lock_of a) (K.took locks.old) (K.took locks.new) (D.view repo.old) (D.view repo.new) }
+    ensures locked { OnOk result.ending ((a : Asked) → Asks (map string_bytes words.now) (I.files config.old) a → TakesLock a.lock_folder (lock_of a) (K.took locks.old) (K.took locks.new)) }
+    ensures only_locked { (a : Asked) → Asks (map string_bytes words.now) (I.files config.old) a → OnlyUnderLock a.lock_folder (lock_of a) (K.took locks.old) (K.took locks.new) (D.view repo.old) (D.view repo.new) }
     ensures released { K.taken locks.new ≡ [] }
-    ensures nodes { T.nodes tree.new ≡ T.nodes tree.old }
+    ensures folder { (T.nodes tree.new ≡ T.nodes tree.old) ⊎ ((a : Asked) × MayAsk (map string_bytes words.now) (I.files config.old) a × FolderGoes a.data_folder a.request (T.nodes tree.old) (T.nodes tree.new)) }
+    ensures nodes { OnNothing result.ending (T.nodes tree.new ≡ T.nodes tree.old) }
     ensures files { I.files config.new ≡ I.files config.old }
 {
     let command = match read_command(alloc, words, config) {
@@ -198,16 +237,20 @@ pub fn run<
         × KeepsOn a.stanza Reading true (D.view outside.old.repo) (S.view outside.old.spool) (D.view outside.new.repo) (S.view outside.new.spool) }
     ensures refused { IsFinding result → (a : Asked) → Asks (map string_bytes words.now) (I.files outside.old.config) a → a.request ≡ create → (D.view outside.new.repo).now ≡ (D.view outside.old.repo).now }
 
-    // At 0 the members of the archive pair agree, and all four info files of a new stanza are those of the cluster. The opened
+    // At 0 archive-get has served the file of the repository.
+    ensures served { result ≡ 0 → (a : Asked) → Asks (map string_bytes words.now) (I.files outside.old.config) a → (name path : Text) → a.request ≡ get name path
+        → Serves a.stanza a.data_folder name path (D.view outside.old.repo).now (T.nodes outside.old.tree) (T.nodes outside.new.tree) }
+
+    // At 0 the members of the archive pair agree where the command heals it, and all four info files of a new stanza are those of the cluster. The opened
     // places are those of the words.
-    ensures agrees { result ≡ 0 → (a : Asked) → Asks (map string_bytes words.now) (I.files outside.old.config) a → IsSome (D.view outside.old.repo).now → IfSome (D.view outside.new.repo).now (AgreesAtPair a.stanza) }
+    ensures agrees { result ≡ 0 → (a : Asked) → Asks (map string_bytes words.now) (I.files outside.old.config) a → Heals a.request → IsSome (D.view outside.old.repo).now → IfSome (D.view outside.new.repo).now (AgreesAtPair a.stanza) }
     ensures members { result ≡ 0 → (a : Asked) → Asks (map string_bytes words.now) (I.files outside.old.config) a → a.request ≡ create → (c : Cluster) → IsSomeAnd (T.nodes outside.old.tree) (λ f. IsClusterOf f (Some c)) → IsSome (D.view outside.old.repo).now
         → IfSome (D.view outside.new.repo).now (HasNewPairs a.stanza c) }
     ensures places { result ≡ 0 → (a : Asked) → Asks (map string_bytes words.now) (I.files outside.old.config) a → (T.place outside.new.tree ≡ a.data_folder) × (D.place outside.new.repo ≡ a.repository) }
 
     // At 0 the command's lock was taken, and without it nothing is done. No lock is held afterwards.
-    ensures locked { result ≡ 0 → (a : Asked) → Asks (map string_bytes words.now) (I.files outside.old.config) a → IsLocked a.lock_folder (lock_of a) (K.took outside.old.locks) (K.took outside.new.locks) }
-    ensures only_locked { (a : Asked) → Asks (map string_bytes words.now) (I.files outside.old.config) a → OnlyLocked a.lock_folder (lock_of a) (K.took outside.old.locks) (K.took outside.new.locks) (D.view outside.old.repo) (D.view outside.new.repo) }
+    ensures locked { result ≡ 0 → (a : Asked) → Asks (map string_bytes words.now) (I.files outside.old.config) a → TakesLock a.lock_folder (lock_of a) (K.took outside.old.locks) (K.took outside.new.locks) }
+    ensures only_locked { (a : Asked) → Asks (map string_bytes words.now) (I.files outside.old.config) a → OnlyUnderLock a.lock_folder (lock_of a) (K.took outside.old.locks) (K.took outside.new.locks) (D.view outside.old.repo) (D.view outside.new.repo) }
     ensures released { K.taken outside.new.locks ≡ [] }
 
     // Each answer has its cause, and the output is the answer's. Where no cause of a refusal holds the answer is Ok, or want of memory.
@@ -219,13 +262,14 @@ pub fn run<
         (Rises (D.faults outside.old.repo) (D.faults outside.new.repo)) (Rises (T.faults outside.old.tree) (T.faults outside.new.tree)) (Rises (K.faults outside.old.locks) (K.faults outside.new.locks))
         (Rises (K.refusals outside.old.locks) (K.refusals outside.new.locks)) (Rises (I.faults outside.old.config) (I.faults outside.new.config)) (Rises (O.faults outside.old.out) (O.faults outside.new.out)) given)
         (O.written outside.old.out) answer (O.written outside.new.out) }
-    ensures complete { ((unknown : List Text) (fault : Fault) → status (refused fault) ≢ 90 → ¬ Cause (map string_bytes words.now) (I.files outside.old.config) (D.view outside.old.repo).now (T.nodes outside.old.tree)
+    ensures complete { ((unknown : List Text) (ending : Ending) → status ending ≢ 0 → status ending ≢ 90 → ¬ Cause (map string_bytes words.now) (I.files outside.old.config) (D.view outside.old.repo).now (T.nodes outside.old.tree)
         (Rises (D.faults outside.old.repo) (D.faults outside.new.repo)) (Rises (T.faults outside.old.tree) (T.faults outside.new.tree)) (Rises (K.faults outside.old.locks) (K.faults outside.new.locks))
-        (Rises (K.refusals outside.old.locks) (K.refusals outside.new.locks)) (Rises (I.faults outside.old.config) (I.faults outside.new.config)) (Rises (O.faults outside.old.out) (O.faults outside.new.out)) (record { unknown = unknown; ending = refused fault }))
+        (Rises (K.refusals outside.old.locks) (K.refusals outside.new.locks)) (Rises (I.faults outside.old.config) (I.faults outside.new.config)) (Rises (O.faults outside.old.out) (O.faults outside.new.out)) (record { unknown = unknown; ending = ending }))
         → (result ≡ 0) ⊎ (result ≡ 90) }
 
-    // What the command doesn't use stays, and the data folder and the configuration with it.
-    ensures nodes { T.nodes outside.new.tree ≡ T.nodes outside.old.tree }
+    // What the command doesn't use stays, and the configuration with it; and so does the data folder, but for a file that is served.
+    ensures folder { (T.nodes outside.new.tree ≡ T.nodes outside.old.tree) ⊎ ((a : Asked) × MayAsk (map string_bytes words.now) (I.files outside.old.config) a × FolderGoes a.data_folder a.request (T.nodes outside.old.tree) (T.nodes outside.new.tree)) }
+    ensures nodes { IsFinding result → T.nodes outside.new.tree ≡ T.nodes outside.old.tree }
     ensures files { I.files outside.new.config ≡ I.files outside.old.config }
     ensures untouched { outside.new ≡ record outside.old { repo = outside.new.repo; tree = outside.new.tree; locks = outside.new.locks; config = outside.new.config; out = outside.new.out } }
     ensures links { links.new ≡ links.old }

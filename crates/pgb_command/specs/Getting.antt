@@ -1,0 +1,195 @@
+-- What archive-get serves, and why it doesn't (pgBackRest command reference, "Archive Get Command").
+use Rattle.std.specs.Prelude.{◌≡◌, ◌≢◌, ◌<◌, ◌+◌, ◌++◌, ℕ, List, [], Option, Some, None, IfSome, IsSome, drop, length, codes, if◌then◌else◌, string_bytes}
+use Rattle.sha1.specs.Sha1.{sha1}
+use Rattle.pgb_text.specs.Sum.{sum_text}
+use Rattle.pgb_outside.specs.Content.{Content, Name, at, is_below}
+use Rattle.pgb_outside.specs.Tree.{Nodes, file_bytes}
+use Rattle.pgb_model.specs.declared.clusters.ClusterId.{ClusterId}
+use Rattle.pgb_model.specs.declared.wal.ArchiveId.{ArchiveId}
+use Rattle.pgb_model.specs.declared.wal.ArchiveName.{ArchiveName}
+use Rattle.pgb_model.specs.Text.{Text, In}
+use Rattle.pgb_model.specs.Fields.{at_number}
+use Rattle.pgb_model.specs.Names.{archive_info, archive_name, wal_text}
+use Rattle.pgb_model.specs.Pair.{PairIs}
+use Rattle.pgb_model.specs.Paths.{IsPath}
+use Rattle.pgb_model.specs.Values.{ArchiveInfo}
+use Rattle.pgb_model.specs.InfoFiles.{IsArchiveText}
+use Rattle.pgb_model.specs.Stands.{IsWalName}
+use Rattle.pgb_stanza.specs.declared.control.Control.{Control}
+use Rattle.pgb_archive.specs.declared.getting.GetFault.{GetFault}
+use Rattle.pgb_archive.specs.declared.getting.GetFault.TheVariants.{Ambiguous as AmbiguousOf, SegmentDamaged as DamagedOf, TooLong as LongOf}
+use Rattle.pgb_archive.specs.Files.{GetCause}
+use Rattle.pgb_archive.specs.Files.{StoresNone, StoresOnly}
+use Rattle.pgb_command.specs.declared.fault.Fault.{Fault}
+use Rattle.pgb_command.specs.declared.fault.Fault.TheVariants.{SegmentName, PathOutside, StanzaMissing, InfoDamaged, StanzaMismatch, Ambiguous, SegmentDamaged, TooLong, Disk, NoMemory}
+use Rattle.pgb_command.specs.Answers.{Ending, finished, absent, refused}
+use Rattle.pgb_command.specs.Asked.{Request, create, push, get}
+use Rattle.pgb_command.specs.Cluster.{FolderTells, ClusterCause}
+use Rattle.pgb_command.specs.Storing.{id_kept, identity_kept, identity_told, ValueCause}
+
+-- ---- what is told
+
+-- the word is the name of a file of the archive
+pub record IsFileName (word : Text) (name : ArchiveName) : Type 0 where
+  pub fits : IsWalName name
+  pub is : word ≡ wal_text name
+
+-- the path below the data folder: a word that doesn't begin with the folder is taken from there
+abbrev pub served_path : Text → Text → Text
+served_path folder word = if is_below folder word then drop (length folder + 1) word else word
+
+-- the name under which a file is written before it is put in its place
+abbrev pub temporary_path : Text → Text
+temporary_path path = path ++ codes ".pgbackrest.tmp"
+
+-- ---- where it is looked for
+
+-- the cluster of the archive is the data folder's
+abbrev pub IsSame : Control → ClusterId → Type 0
+IsSame told c = identity_kept c ≡ identity_told told
+
+-- a history has one of these
+abbrev pub HasSame : List ClusterId → Control → Type 0
+HasSame history told = (c : ClusterId) × In c history × IsSame told c
+
+-- no such cluster with a higher number has the file
+abbrev pub NoneAbove : List ClusterId → Text → Control → ArchiveName → ClusterId → Content → Type 0
+NoneAbove history stanza told name c f = (d : ClusterId) → In d history → IsSame told d → c.id < d.id → StoresNone stanza (id_kept d) name f
+
+-- the file is stored once under this id, with these bytes, whose sum is that in its name
+pub record HasOnly (stanza : Text) (id : ArchiveId) (name : ArchiveName) (bytes : Text) (f : Content) : Type 0 where
+  pub only : StoresOnly stanza id name f (sha1 bytes)
+  pub holds : f (archive_name stanza id name (sum_text (sha1 bytes))) ≡ Some bytes
+
+-- the highest of them that has the file has these bytes
+pub record FoundIn (history : List ClusterId) (stanza : Text) (told : Control) (name : ArchiveName) (bytes : Text) (f : Content) : Type 0 where
+  pub cluster : ClusterId
+  pub listed : In cluster history
+  pub same : IsSame told cluster
+  pub above : NoneAbove history stanza told name cluster f
+  pub has : HasOnly stanza (id_kept cluster) name bytes f
+
+-- none of them has it
+pub record AbsentIn (history : List ClusterId) (stanza : Text) (told : Control) (name : ArchiveName) (f : Content) : Type 0 where
+  pub none : (c : ClusterId) → In c history → IsSame told c → StoresNone stanza (id_kept c) name f
+
+-- the highest of them that has it is refused
+pub record RefusedIn (history : List ClusterId) (stanza : Text) (told : Control) (name : ArchiveName) (repo : Option Content) (fault : GetFault) : Type 0 where
+  pub cluster : ClusterId
+  pub listed : In cluster history
+  pub same : IsSame told cluster
+  pub above : IfSome repo (NoneAbove history stanza told name cluster)
+  pub cause : GetCause stanza (id_kept cluster) name repo ⊥ fault
+
+-- why a file isn't got under an id
+abbrev pub UnderCause : Text → ArchiveId → ArchiveName → Option Content → Type 0 → Fault → Type 0
+UnderCause stanza id name repo rose (Ambiguous first second) = GetCause stanza id name repo ⊥ (AmbiguousOf first second)
+UnderCause stanza id name repo rose (SegmentDamaged sum found) = GetCause stanza id name repo ⊥ (DamagedOf sum found)
+UnderCause stanza id name repo rose (TooLong path limit) = GetCause stanza id name repo ⊥ (LongOf path limit)
+UnderCause stanza id name repo rose Disk = rose
+UnderCause stanza id name repo rose NoMemory = Unit {0}
+UnderCause stanza id name repo rose other = ⊥
+
+-- why a search ends without an answer
+abbrev pub SearchCause : List ClusterId → Text → Control → ArchiveName → Option Content → Type 0 → Fault → Type 0
+SearchCause history stanza told name repo rose (Ambiguous first second) = RefusedIn history stanza told name repo (AmbiguousOf first second)
+SearchCause history stanza told name repo rose (SegmentDamaged sum found) = RefusedIn history stanza told name repo (DamagedOf sum found)
+SearchCause history stanza told name repo rose (TooLong path limit) = RefusedIn history stanza told name repo (LongOf path limit)
+SearchCause history stanza told name repo rose Disk = rose
+SearchCause history stanza told name repo rose NoMemory = Unit {0}
+SearchCause history stanza told name repo rose other = ⊥
+
+-- this holds of the archive pair's value
+abbrev pub OnHistory : Text → Content → (ArchiveInfo → Type 0) → Type 0
+OnHistory stanza f P = (v : ArchiveInfo) × PairIs IsArchiveText f (archive_info stanza) v × P v
+
+-- ---- what is served
+
+-- the words name a file of the archive and a path in the data folder, which tells this cluster
+pub record IsWanted (folder word path : Text) (nodes : Option Nodes) (name : ArchiveName) (told : Control) : Type 0 where
+  pub named : IsFileName word name
+  pub inside : IsPath (served_path folder path)
+  pub tells : IfSome nodes (λ f. FolderTells f told)
+
+-- the repository has the file with these bytes
+pub record IsServed (stanza folder word path : Text) (repo : Option Content) (nodes : Option Nodes) (bytes : Text) : Type 0 where
+  pub name : ArchiveName
+  pub told : Control
+  pub wanted : IsWanted folder word path nodes name told
+  pub found : IfSome repo (λ f. OnHistory stanza f (λ v. FoundIn v.history stanza told name bytes f))
+
+-- and the data folder has them now at the path
+abbrev pub Serves : Text → Text → Text → Text → Option Content → Option Nodes → Option Nodes → Type 0
+Serves stanza folder word path repo nodes now_nodes =
+    (bytes : Text) × IsServed stanza folder word path repo nodes bytes × IfSome now_nodes (λ f. file_bytes (f (served_path folder path)) ≡ Some bytes)
+
+-- no id has the file of this name
+pub record IsMissing (stanza folder word path : Text) (repo : Option Content) (nodes : Option Nodes) : Type 0 where
+  pub name : ArchiveName
+  pub told : Control
+  pub wanted : IsWanted folder word path nodes name told
+  pub absent : IfSome repo (λ f. OnHistory stanza f (λ v. HasSame v.history told × AbsentIn v.history stanza told name f))
+
+-- the data folder is as it was but for the file that is served and its temporary name
+pub record ChangesPath (path : Text) (old new : Option Nodes) : Type 0 where
+  pub told : IsSome old → IsSome new
+  pub others : (q : Name) → q ≢ path → q ≢ temporary_path path → at q new ≡ at q old
+
+-- only archive-get changes the data folder
+abbrev pub FolderGoes : Text → Request → Option Nodes → Option Nodes → Type 0
+FolderGoes folder create old new = new ≡ old
+FolderGoes folder (push path) old new = new ≡ old
+FolderGoes folder (get name path) old new = ChangesPath (served_path folder path) old new
+
+-- ---- why it isn't
+
+-- of the archive pair's history, the highest id that has the file has it twice, damaged, or too long
+abbrev pub RefusedOf : Text → Control → ArchiveName → Option Content → GetFault → Type 0
+RefusedOf stanza told name repo fault = (v : ArchiveInfo) × IfSome repo (λ f. PairIs IsArchiveText f (archive_info stanza) v) × RefusedIn v.history stanza told name repo fault
+
+-- why a file isn't had from the repository, for a data folder that tells this
+abbrev pub FetchCause : Text → Control → ArchiveName → Option Content → Type 0 → Fault → Type 0
+FetchCause stanza told name repo rose (StanzaMissing missing) = ValueCause stanza repo ⊥ (StanzaMissing missing)
+FetchCause stanza told name repo rose (InfoDamaged info main copy) = ValueCause stanza repo ⊥ (InfoDamaged info main copy)
+FetchCause stanza told name repo rose (StanzaMismatch kept found) = (found ≡ identity_told told) × ((c : ClusterId) × (kept ≡ identity_kept c) × IfSome repo (λ f. OnHistory stanza f (λ v. (at_number v.current v.history ≡ Some c) × ¬ HasSame v.history told)))
+FetchCause stanza told name repo rose (Ambiguous first second) = RefusedOf stanza told name repo (AmbiguousOf first second)
+FetchCause stanza told name repo rose (SegmentDamaged sum found) = RefusedOf stanza told name repo (DamagedOf sum found)
+FetchCause stanza told name repo rose (TooLong path limit) = RefusedOf stanza told name repo (LongOf path limit)
+FetchCause stanza told name repo rose Disk = rose
+FetchCause stanza told name repo rose NoMemory = Unit {0}
+FetchCause stanza told name repo rose other = ⊥
+
+-- the words are well
+abbrev pub AreWords : Text → Text → Text → ArchiveName → Type 0
+AreWords folder word path name = IsFileName word name × IsPath (served_path folder path)
+
+-- the cause is of what the words want
+abbrev pub WantedCause : Text → Text → Text → Text → Option Content → Option Nodes → Fault → Type 0
+WantedCause stanza folder word path repo nodes fault = (name : ArchiveName) × (told : Control) × IsWanted folder word path nodes name told × FetchCause stanza told name repo ⊥ fault
+
+-- why the words are refused
+abbrev pub WordsCause : Text → Text → Text → Fault → Type 0
+WordsCause folder word path (SegmentName told) = (string_bytes told ≡ word) × ((name : ArchiveName) → ¬ IsFileName word name)
+WordsCause folder word path (PathOutside told) = (string_bytes told ≡ path) × ((name : ArchiveName) × IsFileName word name) × ¬ IsPath (served_path folder path)
+WordsCause folder word path NoMemory = Unit {0}
+WordsCause folder word path other = ⊥
+
+-- Why archive-get is refused: the words come first.
+abbrev pub GetFileCause : Text → Text → Text → Text → Option Content → Option Nodes → Type 0 → Type 0 → Fault → Type 0
+GetFileCause stanza folder word path repo nodes disk_rose tree_rose (SegmentName told) = WordsCause folder word path (SegmentName told)
+GetFileCause stanza folder word path repo nodes disk_rose tree_rose (PathOutside told) = WordsCause folder word path (PathOutside told)
+GetFileCause stanza folder word path repo nodes disk_rose tree_rose (StanzaMissing missing) = WantedCause stanza folder word path repo nodes (StanzaMissing missing)
+GetFileCause stanza folder word path repo nodes disk_rose tree_rose (InfoDamaged info main copy) = WantedCause stanza folder word path repo nodes (InfoDamaged info main copy)
+GetFileCause stanza folder word path repo nodes disk_rose tree_rose (StanzaMismatch kept found) = WantedCause stanza folder word path repo nodes (StanzaMismatch kept found)
+GetFileCause stanza folder word path repo nodes disk_rose tree_rose (Ambiguous first second) = WantedCause stanza folder word path repo nodes (Ambiguous first second)
+GetFileCause stanza folder word path repo nodes disk_rose tree_rose (SegmentDamaged sum found) = WantedCause stanza folder word path repo nodes (SegmentDamaged sum found)
+GetFileCause stanza folder word path repo nodes disk_rose tree_rose (TooLong name limit) = WantedCause stanza folder word path repo nodes (TooLong name limit)
+GetFileCause stanza folder word path repo nodes disk_rose tree_rose Disk = ((name : ArchiveName) × AreWords folder word path name) × disk_rose
+GetFileCause stanza folder word path repo nodes disk_rose tree_rose NoMemory = Unit {0}
+GetFileCause stanza folder word path repo nodes disk_rose tree_rose other = ((name : ArchiveName) × AreWords folder word path name) × ClusterCause nodes tree_rose other
+
+-- how archive-get ended well, or with nothing found
+abbrev pub GotBy : Ending → Text → Text → Text → Text → Option Content → Option Nodes → Option Nodes → Type 0
+GotBy (finished lines) stanza folder word path repo nodes now_nodes = (lines ≡ []) × Serves stanza folder word path repo nodes now_nodes
+GotBy (absent name) stanza folder word path repo nodes now_nodes = (name ≡ word) × IsMissing stanza folder word path repo nodes
+GotBy (refused fault) stanza folder word path repo nodes now_nodes = ⊥
