@@ -1,0 +1,9 @@
+//! Which paths below a data folder a backup may hold.
+#![tactic(auto)]
+
+mod names;
+
+pub use names::{NameFault, check_name};
+
+#[cfg(test)]
+mod tests;
