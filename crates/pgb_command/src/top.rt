@@ -71,7 +71,7 @@ fn perform<D: Disk, T: Tree, K: Locks>(
 
 // The name of the lock of a writing command.
 fn lock_name(alloc: Global, stanza: &str, writing: Writing<'_>) -> Result<String, AllocError>
-    ensures { IfOk result (λ name. string_bytes name ≡ writing_lock stanza.now writing) }
+    ensures { IfOk result (λ name. string_bytes name ≡ writing_lock stanza.now writing.entry) }
 {
     match writing {
         Writing::StanzaCreate => format!(in alloc; "{stanza}-backup.lock"),
@@ -96,8 +96,8 @@ fn write<D: Disk, T: Tree, K: Locks>(
     ensures answered { AskedCause (asked_of settings.now) (D.view repo.old).now (T.nodes tree.old) (Rises (D.faults repo.old) (D.faults repo.new)) (Rises (T.faults tree.old) (T.faults tree.new)) (Rises (K.faults locks.old) (K.faults locks.new)) (Rises (K.refusals locks.old) (K.refusals locks.new)) (ending_of result) }
     ensures places { OnOk result ((T.place tree.new ≡ settings.now.pg1_path.now) × (D.place repo.new ≡ settings.now.repo1_path.now)) }
     ensures nodes { T.nodes tree.new ≡ T.nodes tree.old }
-    ensures locked { OnOk result (IsLocked settings.now.lock_path.now (writing_lock settings.now.stanza.now writing) (K.took locks.old) (K.took locks.new)) }
-    ensures only_locked { OnlyLocked settings.now.lock_path.now (writing_lock settings.now.stanza.now writing) (K.took locks.old) (K.took locks.new) (D.view repo.old) (D.view repo.new) }
+    ensures locked { OnOk result (IsLocked settings.now.lock_path.now (writing_lock settings.now.stanza.now writing.entry) (K.took locks.old) (K.took locks.new)) }
+    ensures only_locked { OnlyLocked settings.now.lock_path.now (writing_lock settings.now.stanza.now writing.entry) (K.took locks.old) (K.took locks.new) (D.view repo.old) (D.view repo.new) }
     ensures released { K.taken locks.new ≡ [] }
     ensures repo_later { D.faults repo.old ≤ D.faults repo.new }
     ensures tree_later { T.faults tree.old ≤ T.faults tree.new }
