@@ -4,4 +4,3 @@ pub mod Placed
 pub mod OnePushed
 pub mod Receipts
 pub mod Waiting
-pub mod Temp

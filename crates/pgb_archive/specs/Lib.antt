@@ -4,4 +4,3 @@ pub mod Fault
 pub mod Looks
 pub mod Turns
 pub mod OnePush
-pub mod Files

@@ -3,7 +3,6 @@
 
 mod aside;
 mod fault;
-mod getting;
 mod looking;
 mod names;
 mod one_push;
@@ -11,7 +10,6 @@ mod pushing;
 
 pub use aside::{Aside, TurnStop};
 pub use fault::ArchiveFault;
-pub use getting::{GetFault, get};
 pub use pushing::{Pushed, push};
 
 #[cfg(test)]
