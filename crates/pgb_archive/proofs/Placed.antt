@@ -28,7 +28,7 @@ use Rattle.pgb_model.proofs.Segments.{IsPartOfPush, NowPartOfPush, still_moves, 
 use Rattle.pgb_archive.specs.declared.looking.Look.{Look}
 use Rattle.pgb_archive.specs.declared.looking.Look.TheVariants.{Free, One}
 use Rattle.pgb_archive.specs.declared.names.SegmentNames.{SegmentNames}
-use Rattle.pgb_archive.specs.Stored.{archived_segment, segment_name, StoresNone, StoresOnly, ChangesArchive}
+use Rattle.pgb_archive.specs.Stored.{archived_file, archive_path, StoresNone, StoresOnly, ChangesArchive}
 use Rattle.pgb_archive.specs.Looks.{segment_place, AreNamesOf, Shows}
 use Rattle.pgb_archive.proofs.Looked.{in_place, with_front}
 
@@ -43,8 +43,8 @@ rests_none a = record {
   loosens = λ t n lo hi h. inl (subst (λ (m : ℕ). a.loose m n ≡ true) (let e : t ≡ a.moment = omega (arith, lo, hi) in e) h);
 }
 
-pub none_moves : (stanza : Text) (id : ArchiveId) (segment : Segment) (bytes : Text) (s : Stanza) (v : View) → IsSteady stanza (Some s) v → IsSome v.now → Moves stanza (IsPartOfPush stanza s (archived_segment id segment bytes)) v v
-none_moves stanza id segment bytes s v steady told = still_moves stanza s (archived_segment id segment bytes) v v steady told (rests_none v) refl
+pub none_moves : (stanza : Text) (id : ArchiveId) (segment : Segment) (bytes : Text) (s : Stanza) (v : View) → IsSteady stanza (Some s) v → IsSome v.now → Moves stanza (IsPartOfPush stanza s (archived_file id (Whole segment) bytes)) v v
+none_moves stanza id segment bytes s v steady told = still_moves stanza s (archived_file id (Whole segment) bytes) v v steady told (rests_none v) refl
 
 -- nothing was changed
 pub still_only : (stanza : Text) (v b : View) → Rests v b → b.now ≡ v.now → ChangesArchive stanza v b
@@ -58,19 +58,19 @@ abbrev pub Told : Option Content → SegmentNames → Look → Type 0
 Told o names look = IfSome o (λ f. (stanza : Text) (id : ArchiveId) (segment : Segment) → AreNamesOf stanza id segment names → Shows stanza id segment f look)
 
 module _ (stanza : Text) (id : ArchiveId) (segment : Segment) (names : SegmentNames) (of : AreNamesOf stanza id segment names) where
-  pub shown_free : (o : Option Content) (look : Look) → look ≡ Free → Told o names look → IfSome o (StoresNone stanza id segment)
+  pub shown_free : (o : Option Content) (look : Look) → look ≡ Free → Told o names look → IfSome o (StoresNone stanza id (Whole segment))
   shown_free None look is told = tt
   shown_free (Some f) look is told = subst (λ (l : Look). Shows stanza id segment f l) is (told stanza id segment of)
 
   pub shown_one : (o : Option Content) (look : Look) (sum : _) → look ≡ One sum → Told o names look → IfSome o (HasSegment stanza id segment)
   shown_one None look sum is told = tt
-  shown_one (Some f) look sum is told = let only : StoresOnly stanza id segment f sum.0 = subst (λ (l : Look). Shows stanza id segment f l) is (told stanza id segment of) in (sum.0, only.stored.0, only.stored.1)
+  shown_one (Some f) look sum is told = let only : StoresOnly stanza id (Whole segment) f sum.0 = subst (λ (l : Look). Shows stanza id segment f l) is (told stanza id segment of) in (sum.0, only.stored.0, only.stored.1)
 
   -- the names by their texts
   pub temporary_of : IsTemporary (string_bytes names.temporary)
   temporary_of = record { front = segment_place stanza id segment ++ 47 ∷ []; is = of.temporary ∙ sym (append_assoc (segment_place stanza id segment) (47 ∷ []) (codes ".pgbackrest.tmp")) }
 
-  name_of : (sum : Text) → string_bytes names.front ++ sum_text sum ≡ segment_name stanza id segment sum
+  name_of : (sum : Text) → string_bytes names.front ++ sum_text sum ≡ archive_path stanza id (Whole segment) sum
   name_of sum = ap (λ (t : Text). t ++ sum_text sum) of.front ∙ sym (with_front stanza id segment sum)
 
   pub lies_of : (sum : Text) → (folder : Name) × ((rest : Name) × (string_bytes names.temporary ≡ folder ++ 47 ∷ rest)) × ((rest : Name) × (string_bytes names.front ++ sum_text sum ≡ folder ++ 47 ∷ rest))
@@ -94,45 +94,45 @@ module _ (stanza : Text) (id : ArchiveId) (segment : Segment) (names : SegmentNa
     fits : IsArchivePlace id (Whole segment) (sha1 bytes)
     fits = place (sha1 bytes) (IsSum-sha1 bytes)
 
-    file : IsArchiveFile stanza (segment_name stanza id segment (sha1 bytes))
+    file : IsArchiveFile stanza (archive_path stanza id (Whole segment) (sha1 bytes))
     file = record { id = id; file = Whole segment; sum = sha1 bytes; fits = fits; is = refl }
 
-    name_is : string_bytes names.front ++ sum_text sum ≡ segment_name stanza id segment (sha1 bytes)
-    name_is = name_of sum ∙ ap (segment_name stanza id segment) is_sum
+    name_is : string_bytes names.front ++ sum_text sum ≡ archive_path stanza id (Whole segment) (sha1 bytes)
+    name_is = name_of sum ∙ ap (archive_path stanza id (Whole segment)) is_sum
 
     pub lasting_of : ¬ IsTemporary (string_bytes names.front ++ sum_text sum)
-    lasting_of t = file_lasts stanza (segment_name stanza id segment (sha1 bytes)) file (subst (λ (n : Text). IsTemporary n) name_is t)
+    lasting_of t = file_lasts stanza (archive_path stanza id (Whole segment) (sha1 bytes)) file (subst (λ (n : Text). IsTemporary n) name_is t)
 
     module _ (s : Stanza) where
-      pub put_part : (old mid new : Option Content) → IsSome old → IfSome old (StoresNone stanza id segment) → mid ≡ old → NowGoes (FirstOf ((string_bytes names.front ++ sum_text sum, bytes) ∷ [])) mid new
-          → NowStands stanza (Some s) old → NowPartOfPush stanza s (archived_segment id segment bytes) new
+      pub put_part : (old mid new : Option Content) → IsSome old → IfSome old (StoresNone stanza id (Whole segment)) → mid ≡ old → NowGoes (FirstOf ((string_bytes names.front ++ sum_text sum, bytes) ∷ [])) mid new
+          → NowStands stanza (Some s) old → NowPartOfPush stanza s (archived_file id (Whole segment) bytes) new
       put_part old mid new some lacks same goes now = new_part stanza id segment bytes fits s old mid new some lacks same
           (subst (λ (n : Text). NowGoes (FirstOf ((n, bytes) ∷ [])) mid new) name_is goes) now
 
-      pub put_done : (old mid new : Option Content) → IsSome old → IfSome old (StoresNone stanza id segment) → mid ≡ old → NowGoes (AllOf ((string_bytes names.front ++ sum_text sum, bytes) ∷ [])) mid new
-          → NowStands stanza (Some s) old → NowStands stanza (Some (after_all s (push_of s (archived_segment id segment bytes)))) new
+      pub put_done : (old mid new : Option Content) → IsSome old → IfSome old (StoresNone stanza id (Whole segment)) → mid ≡ old → NowGoes (AllOf ((string_bytes names.front ++ sum_text sum, bytes) ∷ [])) mid new
+          → NowStands stanza (Some s) old → NowStands stanza (Some (after_all s (push_of s (archived_file id (Whole segment) bytes)))) new
       put_done old mid new some lacks same goes now = new_done stanza id segment bytes fits s old mid new some lacks same
           (subst (λ (n : Text). NowGoes (AllOf ((n, bytes) ∷ [])) mid new) name_is goes) now
 
       pub kept_done : (old new : Option Content) → IsSome old → IfSome old (HasSegment stanza id segment) → new ≡ old
-          → NowStands stanza (Some s) old → NowStands stanza (Some (after_all s (push_of s (archived_segment id segment bytes)))) new
+          → NowStands stanza (Some s) old → NowStands stanza (Some (after_all s (push_of s (archived_file id (Whole segment) bytes)))) new
       kept_done old new some has same now = same_done stanza id segment bytes fits s old new some has same now
 
       module _ (v b : View) (rests : Rests v b) (same : b.now ≡ v.now) (steady : IsSteady stanza (Some s) v) (told : IsSome v.now) where
-        pub kept_steady : IfSome v.now (HasSegment stanza id segment) → IsSteady stanza (Some (after_all s (push_of s (archived_segment id segment bytes)))) b
+        pub kept_steady : IfSome v.now (HasSegment stanza id segment) → IsSteady stanza (Some (after_all s (push_of s (archived_file id (Whole segment) bytes)))) b
         kept_steady has = same_steady stanza id segment bytes fits s v b steady told rests same has
 
         tight : is_loose b (string_bytes names.front ++ sum_text sum) ≡ false
-        tight = subst (λ (n : Text). is_loose b n ≡ false) (sym name_is) (still_tight v b rests (segment_name stanza id segment (sha1 bytes)) (steady.fixed (segment_name stanza id segment (sha1 bytes)) (File file)))
+        tight = subst (λ (n : Text). is_loose b n ≡ false) (sym name_is) (still_tight v b rests (archive_path stanza id (Whole segment) (sha1 bytes)) (steady.fixed (archive_path stanza id (Whole segment) (sha1 bytes)) (File file)))
 
-        module _ (d : View) (lacks : IfSome v.now (StoresNone stanza id segment))
+        module _ (d : View) (lacks : IfSome v.now (StoresNone stanza id (Whole segment)))
             (crash : is_loose b (string_bytes names.front ++ sum_text sum) ≡ false → Crash (FirstOf ((string_bytes names.front ++ sum_text sum, bytes) ∷ [])) b d) where
-          crash_here : Crash (FirstOf ((segment_name stanza id segment (sha1 bytes), bytes) ∷ [])) b d
+          crash_here : Crash (FirstOf ((archive_path stanza id (Whole segment) (sha1 bytes), bytes) ∷ [])) b d
           crash_here = subst (λ (n : Text). Crash (FirstOf ((n, bytes) ∷ [])) b d) name_is (crash tight)
 
-          pub put_moves : Moves stanza (IsPartOfPush stanza s (archived_segment id segment bytes)) v d
+          pub put_moves : Moves stanza (IsPartOfPush stanza s (archived_file id (Whole segment) bytes)) v d
           put_moves = new_moves stanza id segment bytes fits s v b steady told rests same d lacks crash_here
 
           pub put_steady : (is_loose b (string_bytes names.front ++ sum_text sum) ≡ false → Ends (AllOf ((string_bytes names.front ++ sum_text sum, bytes) ∷ [])) b d)
-              → IsSteady stanza (Some (after_all s (push_of s (archived_segment id segment bytes)))) d
+              → IsSteady stanza (Some (after_all s (push_of s (archived_file id (Whole segment) bytes)))) d
           put_steady ends = new_steady stanza id segment bytes fits s v b steady told rests same d lacks crash_here (subst (λ (n : Text). Ends (AllOf ((n, bytes) ∷ [])) b d) name_is (ends tight))

@@ -2,11 +2,11 @@
 use Rattle.pgb_outside.specs.declared.stop.Stop.{Stop}
 use Rattle.pgb_outside.specs.declared.stop.Stop.TheVariants.{Failed, NoMemory as StopNoMemory}
 use Rattle.pgb_disk.specs.declared.fault.StoreFault.{StoreFault}
-use Rattle.pgb_disk.specs.declared.fault.StoreFault.TheVariants.{Disk as StoreDisk, TooLong, NoMemory as StoreNoMemory}
+use Rattle.pgb_disk.specs.declared.fault.StoreFault.TheVariants.{Disk as StoreDisk, TooLong as StoreTooLong, NoMemory as StoreNoMemory}
 use Rattle.pgb_wal.specs.declared.header.HeaderFault.{HeaderFault}
 use Rattle.pgb_wal.specs.declared.header.HeaderFault.TheVariants.{Form, Size, System}
 use Rattle.pgb_archive.specs.declared.fault.ArchiveFault.{ArchiveFault}
-use Rattle.pgb_archive.specs.declared.fault.ArchiveFault.TheVariants.{HeaderForm, SegmentSize, HeaderMismatch, Disk, NoMemory}
+use Rattle.pgb_archive.specs.declared.fault.ArchiveFault.TheVariants.{HeaderForm, SegmentSize, HeaderMismatch, TooLong, Disk, NoMemory}
 
 -- of a segment's header
 abbrev pub fault_of_header : HeaderFault → ArchiveFault
@@ -14,10 +14,10 @@ fault_of_header (Form found info) = HeaderForm info
 fault_of_header (Size told found) = SegmentSize told found
 fault_of_header (System kept found) = HeaderMismatch kept found
 
--- of the store, which tells TooLong of a read alone
+-- of the store
 abbrev pub fault_of_store : StoreFault → ArchiveFault
 fault_of_store StoreDisk = Disk
-fault_of_store (TooLong name limit) = NoMemory
+fault_of_store (StoreTooLong name limit) = TooLong name limit
 fault_of_store StoreNoMemory = NoMemory
 
 -- of a call on the disk

@@ -4,6 +4,7 @@ use Rattle.pgb_text.specs.Sum.{read_sum, sum_text}
 use Rattle.pgb_outside.specs.Content.{Content}
 use Rattle.pgb_outside.specs.declared.disk.Found.{Found}
 use Rattle.pgb_model.specs.declared.wal.ArchiveId.{ArchiveId}
+use Rattle.pgb_model.specs.declared.wal.ArchiveName.TheVariants.{Segment as Whole}
 use Rattle.pgb_model.specs.declared.wal.Segment.{Segment}
 use Rattle.pgb_model.specs.Text.{Text, ◌⫽◌}
 use Rattle.pgb_model.specs.Names.{archive_folder, id_text, segment_folder, segment_text}
@@ -51,9 +52,9 @@ stored_of stored = (string_bytes stored.name, stored.sum.0)
 
 -- what a look at f shows of the segment
 abbrev pub Shows : Text → ArchiveId → Segment → Content → Look → Type 0
-Shows stanza id segment f Free = StoresNone stanza id segment f
-Shows stanza id segment f (One kept) = StoresOnly stanza id segment f kept.0
-Shows stanza id segment f (Two first second) = StoresTwo stanza id segment f (string_bytes first) (string_bytes second)
+Shows stanza id segment f Free = StoresNone stanza id (Whole segment) f
+Shows stanza id segment f (One kept) = StoresOnly stanza id (Whole segment) f kept.0
+Shows stanza id segment f (Two first second) = StoresTwo stanza id (Whole segment) f (string_bytes first) (string_bytes second)
 
 -- one sum is told
 abbrev pub IsOne : Text → Look → Type 0

@@ -7,7 +7,7 @@ use pgb_outside::Stop;
 use pgb_text::{NoMemory, Sum};
 use pgb_wal::HeaderFault;
 
-/// Why a segment isn't stored, in the order in which refusals come.
+/// Why a file isn't stored or isn't got, in the order in which refusals come.
 #[derive(Debug, Drop)]
 pub enum ArchiveFault {
     /// There are fewer than 40 bytes, or no flag of a long header; with fewer than 4 bytes, `info` is 0.
@@ -18,8 +18,15 @@ pub enum ArchiveFault {
     HeaderMismatch { kept: u64, found: u64 },
     /// The segment is stored under two names; these are the first two in byte order.
     Ambiguous { first: String, second: String },
-    /// The segment is stored with other bytes: the sum of those that are stored, and of these.
+    /// The file is stored with other bytes: the sum of those that are stored, and of these.
     Duplicate { kept: Sum, found: Sum },
+    NotFound,
+    /// The stored bytes aren't those that were pushed: the sum that the name tells, and theirs.
+    SegmentDamaged { told: Sum, found: Sum },
+    /// What is stored at the name is longer than `limit` bytes.
+    TooLong { name: String, limit: u64 },
+    /// More than `limit` files are stored.
+    TooMany { limit: u64 },
     Disk,
     NoMemory,
 }
@@ -48,8 +55,7 @@ impl From<StoreFault> for ArchiveFault {
     fn from(fault: StoreFault) -> Self {
         match fault {
             StoreFault::Disk => ArchiveFault::Disk,
-            // a write never tells it
-            StoreFault::TooLong { .. } => ArchiveFault::NoMemory,
+            StoreFault::TooLong { name, limit } => ArchiveFault::TooLong { name, limit },
             StoreFault::NoMemory => ArchiveFault::NoMemory,
         }
     }

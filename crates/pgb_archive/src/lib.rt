@@ -1,16 +1,20 @@
-//! The archive of a stanza: segments are stored in it.
+//! The archive of a stanza: the files of the log are stored in it, and got from it.
 #![tactic(auto)]
 
 mod aside;
 mod fault;
+mod files;
 mod looking;
 mod names;
 mod one_push;
 mod pushing;
+mod reading;
 
 pub use aside::{Aside, TurnStop};
 pub use fault::ArchiveFault;
+pub use files::Stored;
 pub use pushing::{Pushed, push};
+pub use reading::{all, get, present};
 
 #[cfg(test)]
 mod tests;

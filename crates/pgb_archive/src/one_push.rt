@@ -71,7 +71,7 @@ fn is_stored<D: Disk>(
     id: &ArchiveId,
     segment: &Segment,
 ) -> Result<bool, TurnStop>
-    ensures stored { IfOk result (λ b. b ≡ true → IfSome (D.view d.old).now (λ f. (sum : Text) × Stores stanza.now id.now segment.now f sum)) }
+    ensures stored { IfOk result (λ b. b ≡ true → IfSome (D.view d.old).now (λ f. (sum : Text) × Stores stanza.now id.now (Whole segment.now) f sum)) }
     ensures fits { OnOk result ((sum : Text) → IsSum sum → IsArchivePlace id.now (Whole segment.now) sum) }
     ensures now { (D.view d.new).now ≡ (D.view d.old).now }
     ensures time { Rests (D.view d.old) (D.view d.new) }
@@ -100,7 +100,7 @@ fn may_push<D: Disk>(
     before: &Segment,
 ) -> Result<bool, TurnStop>
     ensures begun { OnOk result ((q : Repository) (log : List Done) → KeepsRepository stanza.now q log (D.view d.old) → IsSome (D.view d.old).now → IsBegun stanza.now q log (D.view d.new)) }
-    ensures stored { IfOk result (λ b. b ≡ true → IfSome (D.view d.old).now (λ f. (sum : Text) × Stores stanza.now id.now before.now f sum)) }
+    ensures stored { IfOk result (λ b. b ≡ true → IfSome (D.view d.old).now (λ f. (sum : Text) × Stores stanza.now id.now (Whole before.now) f sum)) }
     ensures fits { OnOk result ((sum : Text) → IsSum sum → IsArchivePlace id.now (Whole before.now) sum) }
     ensures now { (D.view d.new).now ≡ (D.view d.old).now }
     ensures time { Rests (D.view d.old) (D.view d.new) }

@@ -6,12 +6,13 @@ ghost use Rattle.pgb_outside.specs.Moments.{Rests, is_loose};
 ghost use Rattle.pgb_outside.specs.Cause.{Rises};
 ghost use Rattle.pgb_outside.specs.Crash.{IsTemporary, Crash, Ends, NowGoes, FirstOf, AllOf};
 ghost use Rattle.pgb_disk.specs.Store.{LiesIn, ChangesOnly};
+ghost use Rattle.pgb_model.specs.declared.wal.ArchiveName.TheVariants.{Segment as Whole};
 ghost use Rattle.pgb_model.specs.Repository.{Stanza};
 ghost use Rattle.pgb_model.specs.Stands.{Stands};
 ghost use Rattle.pgb_model.specs.Now.{NowStands};
 ghost use Rattle.pgb_model.specs.Steps.{Step, One, IsPartOf, after, after_all, push_of};
 ghost use Rattle.pgb_model.specs.Steady.{IsSteady, Moves};
-ghost use Rattle.pgb_archive.specs.Stored.{archived_segment, segment_name, StoresNone, StoresOnly, ChangesArchive};
+ghost use Rattle.pgb_archive.specs.Stored.{archived_file, archive_path, StoresNone, StoresOnly, ChangesArchive};
 ghost use Rattle.pgb_archive.specs.Causes.{IsSegmentOf, PushCause, OnFinding};
 ghost use Rattle.pgb_archive.specs.Looks.{IsStop, name_with};
 
@@ -73,27 +74,27 @@ pub fn push<D: Disk>(
 ) -> Result<Pushed, ArchiveFault>
     // After every answer the disk stands for the repository as before or with the segment, and at Ok with it.
     ensures part { (s : Stanza) → IsSome (D.view d.old).now → NowStands stanza.now (Some s) (D.view d.old).now
-        → (done : List Step) × IsPartOf done (map One (push_of s (archived_segment id.now segment.now bytes.now))) × NowStands stanza.now (after (Some s) done) (D.view d.new).now }
+        → (done : List Step) × IsPartOf done (map One (push_of s (archived_file id.now (Whole segment.now) bytes.now))) × NowStands stanza.now (after (Some s) done) (D.view d.new).now }
     ensures done { OnOk result ((s : Stanza) → IsSome (D.view d.old).now → NowStands stanza.now (Some s) (D.view d.old).now
-        → NowStands stanza.now (Some (after_all s (push_of s (archived_segment id.now segment.now bytes.now)))) (D.view d.new).now) }
+        → NowStands stanza.now (Some (after_all s (push_of s (archived_file id.now (Whole segment.now) bytes.now)))) (D.view d.new).now) }
 
     // The same of all that a stop leaves, at each moment.
     ensures moves { (s : Stanza) → IsSteady stanza.now (Some s) (D.view d.old) → IsSome (D.view d.old).now
-        → Moves stanza.now (λ g. (done : List Step) × IsPartOf done (map One (push_of s (archived_segment id.now segment.now bytes.now))) × Stands stanza.now g (after (Some s) done)) (D.view d.old) (D.view d.new) }
+        → Moves stanza.now (λ g. (done : List Step) × IsPartOf done (map One (push_of s (archived_file id.now (Whole segment.now) bytes.now))) × Stands stanza.now g (after (Some s) done)) (D.view d.old) (D.view d.new) }
     ensures stored { OnOk result ((s : Stanza) → IsSteady stanza.now (Some s) (D.view d.old) → IsSome (D.view d.old).now
-        → IsSteady stanza.now (Some (after_all s (push_of s (archived_segment id.now segment.now bytes.now)))) (D.view d.new)) }
+        → IsSteady stanza.now (Some (after_all s (push_of s (archived_file id.now (Whole segment.now) bytes.now)))) (D.view d.new)) }
 
     // Only the segment's name and temporary ones change, none outside the stanza's folder of the archive.
     ensures only { ChangesArchive stanza.now (D.view d.old) (D.view d.new) }
-    ensures writes { NowGoes (FirstOf ((segment_name stanza.now id.now segment.now (sha1 bytes.now), bytes.now) ∷ [])) (D.view d.old).now (D.view d.new).now }
-    ensures written { IfOk result (λ p. p ≡ Pushed.New → NowGoes (AllOf ((segment_name stanza.now id.now segment.now (sha1 bytes.now), bytes.now) ∷ [])) (D.view d.old).now (D.view d.new).now) }
+    ensures writes { NowGoes (FirstOf ((archive_path stanza.now id.now (Whole segment.now) (sha1 bytes.now), bytes.now) ∷ [])) (D.view d.old).now (D.view d.new).now }
+    ensures written { IfOk result (λ p. p ≡ Pushed.New → NowGoes (AllOf ((archive_path stanza.now id.now (Whole segment.now) (sha1 bytes.now), bytes.now) ∷ [])) (D.view d.old).now (D.view d.new).now) }
 
     // Each answer has its cause, and what was found changes nothing.
     ensures of_system { OnOk result (IsSegmentOf bytes.now system) }
-    ensures new { IfOk result (λ p. p ≡ Pushed.New → IfSome (D.view d.old).now (StoresNone stanza.now id.now segment.now)) }
-    ensures same { IfOk result (λ p. p ≡ Pushed.Same → IfSome (D.view d.old).now (λ f. StoresOnly stanza.now id.now segment.now f (sha1 bytes.now)) × ((D.view d.new).now ≡ (D.view d.old).now)) }
+    ensures new { IfOk result (λ p. p ≡ Pushed.New → IfSome (D.view d.old).now (StoresNone stanza.now id.now (Whole segment.now))) }
+    ensures same { IfOk result (λ p. p ≡ Pushed.Same → IfSome (D.view d.old).now (λ f. StoresOnly stanza.now id.now (Whole segment.now) f (sha1 bytes.now)) × ((D.view d.new).now ≡ (D.view d.old).now)) }
     ensures refused { IfErr result (λ e. OnFinding e (((D.view d.new).now ≡ (D.view d.old).now) × Rests (D.view d.old) (D.view d.new))) }
-    ensures cause { IfErr result (PushCause stanza.now id.now segment.now system bytes.now (D.view d.old).now (Rises (D.faults d.old) (D.faults d.new))) }
+    ensures cause { IfErr result (PushCause stanza.now id.now (Whole segment.now) system bytes.now (D.view d.old).now (Rises (D.faults d.old) (D.faults d.new))) }
     ensures told { IsSome (D.view d.old).now → IsSome (D.view d.new).now }
     ensures place { D.place d.new ≡ D.place d.old }
     ensures proper { D.misuses d.new ≡ D.misuses d.old }

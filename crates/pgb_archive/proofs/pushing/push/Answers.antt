@@ -1,5 +1,6 @@
 use Rattle.pgb_model.proofs.Segments.{still_moves}
-use Rattle.pgb_archive.specs.Stored.{archived_segment}
+use Rattle.pgb_model.specs.declared.wal.ArchiveName.TheVariants.{Segment as Whole}
+use Rattle.pgb_archive.specs.Stored.{archived_file}
 use Rattle.pgb_archive.proofs.Placed.{none_moves, none_only, still_only, put_only, shown_free, shown_one, temporary_of, lies_of, lasting_of, put_part, put_done, put_moves, put_steady, kept_done, kept_steady}
 use Rattle.pgb_archive.proofs.pushing.push.Goals as goal
 
@@ -13,19 +14,19 @@ returns-in_err-names-clause-moves g c =
 
 pub returns-in_err-look_for-clause-moves : goal.returns-in_err-look_for-clause-moves
 returns-in_err-look_for-clause-moves g c =
-    λ s steady told. still_moves c.args.stanza.now s (archived_segment c.args.id.now c.args.segment.now c.args.bytes.now) (g.D.Disk.view c.args.d.now) _ steady told c.look_for.ensures.time c.look_for.ensures.now
+    λ s steady told. still_moves c.args.stanza.now s (archived_file c.args.id.now (Whole c.args.segment.now) c.args.bytes.now) (g.D.Disk.view c.args.d.now) _ steady told c.look_for.ensures.time c.look_for.ensures.now
 
 pub returns-in-One-clause-moves : goal.returns-in-One-clause-moves
 returns-in-One-clause-moves g c =
-    λ s steady told. still_moves c.args.stanza.now s (archived_segment c.args.id.now c.args.segment.now c.args.bytes.now) (g.D.Disk.view c.args.d.now) _ steady told c.look_for.ensures.time c.look_for.ensures.now
+    λ s steady told. still_moves c.args.stanza.now s (archived_file c.args.id.now (Whole c.args.segment.now) c.args.bytes.now) (g.D.Disk.view c.args.d.now) _ steady told c.look_for.ensures.time c.look_for.ensures.now
 
 pub returns-in-One-2-clause-moves : goal.returns-in-One-2-clause-moves
 returns-in-One-2-clause-moves g c =
-    λ s steady told. still_moves c.args.stanza.now s (archived_segment c.args.id.now c.args.segment.now c.args.bytes.now) (g.D.Disk.view c.args.d.now) _ steady told c.look_for.ensures.time c.look_for.ensures.now
+    λ s steady told. still_moves c.args.stanza.now s (archived_file c.args.id.now (Whole c.args.segment.now) c.args.bytes.now) (g.D.Disk.view c.args.d.now) _ steady told c.look_for.ensures.time c.look_for.ensures.now
 
 pub returns-clause-moves : goal.returns-clause-moves
 returns-clause-moves g c =
-    λ s steady told. still_moves c.args.stanza.now s (archived_segment c.args.id.now c.args.segment.now c.args.bytes.now) (g.D.Disk.view c.args.d.now) _ steady told c.look_for.ensures.time c.look_for.ensures.now
+    λ s steady told. still_moves c.args.stanza.now s (archived_file c.args.id.now (Whole c.args.segment.now) c.args.bytes.now) (g.D.Disk.view c.args.d.now) _ steady told c.look_for.ensures.time c.look_for.ensures.now
 
 pub put_at-requires-clause-folder : goal.put_at-requires-clause-folder
 put_at-requires-clause-folder g c =
