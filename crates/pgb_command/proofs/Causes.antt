@@ -10,10 +10,14 @@ use Rattle.pgb_outside.specs.Content.{Content}
 use Rattle.pgb_outside.specs.Tree.{Nodes}
 use Rattle.pgb_model.specs.Text.{Text}
 use Rattle.pgb_command.specs.declared.fault.Fault.{Fault}
-use Rattle.pgb_command.specs.declared.fault.Fault.TheVariants.{Settings, ConfigMissing, SegmentName, PathOutside, Held, StanzaMissing, InfoDamaged, StanzaMismatch, SegmentMissing, TooLong, HeaderForm, SegmentSize, HeaderMismatch, Ambiguous, Duplicate, SegmentDamaged, NotBuilt, ControlMissing, ControlShort, VersionText, VersionUnsupported, Disk, Tree, Locks, Source, Sink, NoMemory}
+use Rattle.pgb_command.specs.declared.fault.Fault.TheVariants.{Settings, ConfigMissing, SegmentName, PathOutside, Held, StanzaMissing, InfoDamaged, StanzaMismatch, SegmentMissing, TooLong, TooMany, HeaderForm, SegmentSize, HeaderMismatch, Ambiguous, Duplicate, SegmentDamaged, NotBuilt, ControlMissing, ControlShort, VersionText, VersionUnsupported, Disk, Tree, Locks, Source, Sink, NoMemory}
 use Rattle.pgb_command.specs.Answers.{Ending, finished, absent, refused, Answer, error_line, lines_of, ending_lines, usage_status, status_of, status, OnFinding, IsFinding}
 use Rattle.pgb_command.specs.Causes.{Cause, Refused, Unknown, Asking, Output, Memory}
 use Rattle.pgb_command.specs.Output.{IsFrontWritten, IsTold, Whole, Cut, Starved, Wordless, WroteLines, Wrote}
+use Rattle.pgb_command.specs.Asked.{Request, get, Asked}
+use Rattle.pgb_command.specs.Doing.{ServesFor, ServedBy}
+use Rattle.pgb_command.specs.Getting.{Serves}
+use Rattle.pgb_command.proofs.Pushes.{finding_to, on_all as all_findings}
 use Rattle.pgb_command.proofs.Written.{more}
 use Rattle.pgb_command.proofs.Told.{front_whole, front_as}
 
@@ -41,6 +45,7 @@ not_zero (InfoDamaged a b c) e = cc
 not_zero (StanzaMismatch a b) e = cc
 not_zero (SegmentMissing a) e = cc
 not_zero (TooLong a b) e = cc
+not_zero (TooMany a) e = cc
 not_zero (HeaderForm a) e = cc
 not_zero (SegmentSize a b) e = cc
 not_zero (HeaderMismatch a b) e = cc
@@ -75,6 +80,7 @@ wrote_fault Has old new u (InfoDamaged a b c) has is = is
 wrote_fault Has old new u (StanzaMismatch a b) has is = is
 wrote_fault Has old new u (SegmentMissing a) has is = is
 wrote_fault Has old new u (TooLong a b) has is = is
+wrote_fault Has old new u (TooMany a) has is = is
 wrote_fault Has old new u (HeaderForm a) has is = is
 wrote_fault Has old new u (SegmentSize a b) has is = is
 wrote_fault Has old new u (HeaderMismatch a b) has is = is
@@ -145,6 +151,7 @@ found_by (InfoDamaged a b c) P finding h = h
 found_by (StanzaMismatch a b) P finding h = h
 found_by (SegmentMissing a) P finding h = h
 found_by (TooLong a b) P finding h = h
+found_by (TooMany a) P finding h = h
 found_by (HeaderForm a) P finding h = h
 found_by (SegmentSize a b) P finding h = h
 found_by (HeaderMismatch a b) P finding h = h
@@ -187,6 +194,29 @@ at_finding P (Err e) u old new rose told n (Whole ending end is) same finding h 
 at_finding P result u old new rose told n (Cut r front) same finding h = absurd (not_a_finding n 87 same (omega arith) (omega arith) finding)
 at_finding P result u old new rose told n (Starved lines which front) same finding h = absurd (not_a_finding n 90 same (omega arith) (omega arith) finding)
 at_finding P result u old new rose told n (Wordless r front) same finding h = absurd (not_a_finding n 87 same (omega arith) (omega arith) finding)
+
+pub nothing_as : (result : Result Outcome Fault) (P Q : Type 0) → (P → Q) → OnNothing result P → OnNothing result Q
+nothing_as (Ok Silent) P Q to h = tt
+nothing_as (Ok (SameStored name)) P Q to h = tt
+nothing_as (Ok (Absent name)) P Q to h = to h
+nothing_as (Err e) P Q to h = finding_to e P Q to h
+
+pub nothing_all : (result : Result Outcome Fault) (P : Type 0) → P → OnNothing result P
+nothing_all (Ok Silent) P p = tt
+nothing_all (Ok (SameStored name)) P p = tt
+nothing_all (Ok (Absent name)) P p = p
+nothing_all (Err e) P p = all_findings e P p
+
+-- the file of archive-get is served where the program ends with 0
+pub served_at_zero : (result : Result Outcome Fault) (u : List Text) (old new : Option Text) (rose : Type 0) (told : Ending) (n : ℕ) → IsTold old (At result u) new rose told → n ≡ status told → n ≡ 0 → (a : Asked) (repo : Option Content) (nodes after : Option Nodes) (name path : Text) → a.request ≡ get name path →
+    ServedBy (ending_of result) a repo nodes after → Serves a.stanza a.data_folder name path repo nodes after
+served_at_zero (Ok Silent) u old new rose told n is same zero a repo nodes after name path asked h = subst (λ (r : Request). ServesFor r a.stanza a.data_folder repo nodes after) asked h
+served_at_zero (Ok (SameStored w)) u old new rose told n is same zero a repo nodes after name path asked h = subst (λ (r : Request). ServesFor r a.stanza a.data_folder repo nodes after) asked h
+served_at_zero (Ok (Absent w)) u old new rose told n (Whole ending end is) same zero a repo nodes after name path asked h = absurd (omega (arith, same, zero, ap status end))
+served_at_zero (Ok (Absent w)) u old new rose told n (Cut r front) same zero a repo nodes after name path asked h = absurd (omega (arith, same, zero))
+served_at_zero (Ok (Absent w)) u old new rose told n (Starved lines which front) same zero a repo nodes after name path asked h = absurd (omega (arith, same, zero))
+served_at_zero (Ok (Absent w)) u old new rose told n (Wordless r front) same zero a repo nodes after name path asked h = absurd (omega (arith, same, zero))
+served_at_zero (Err e) u old new rose told n is same zero a repo nodes after name path asked h = absurd (at_zero ⊥ (Err e) u old new rose told n is same zero tt)
 
 -- ---- where no cause of a refusal holds
 

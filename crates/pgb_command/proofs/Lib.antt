@@ -7,10 +7,15 @@ mod Carries
 mod Chains
 mod Heals
 mod Stores
+mod Searches
+mod ServedPaths
+mod Folders
+mod Fetches
 mod StoreCauses
 mod Pushes
 mod Causes
 mod Asked
 mod Doings
+mod Requests
 mod Configured
 mod Served

@@ -15,7 +15,7 @@ use Rattle.pgb_model.proofs.Logged.{KeepsSound, rests_still, moves_keep, moves_b
 use Rattle.pgb_model.proofs.PushSound.{push_keeps_sound}
 use Rattle.pgb_model.proofs.PushDone.{push_spool}
 use Rattle.pgb_command.specs.declared.fault.Fault.{Fault}
-use Rattle.pgb_command.specs.declared.fault.Fault.TheVariants.{Settings, ConfigMissing, SegmentName, PathOutside, Held, StanzaMissing, InfoDamaged, StanzaMismatch, SegmentMissing, TooLong, HeaderForm, SegmentSize, HeaderMismatch, Ambiguous, Duplicate, SegmentDamaged, NotBuilt, ControlMissing, ControlShort, VersionText, VersionUnsupported, Disk, Tree, Locks, Source, Sink, NoMemory}
+use Rattle.pgb_command.specs.declared.fault.Fault.TheVariants.{Settings, ConfigMissing, SegmentName, PathOutside, Held, StanzaMissing, InfoDamaged, StanzaMismatch, SegmentMissing, TooLong, TooMany, HeaderForm, SegmentSize, HeaderMismatch, Ambiguous, Duplicate, SegmentDamaged, NotBuilt, ControlMissing, ControlShort, VersionText, VersionUnsupported, Disk, Tree, Locks, Source, Sink, NoMemory}
 use Rattle.pgb_command.specs.Answers.{OnFinding}
 use Rattle.pgb_command.specs.Asked.{Request, create, push, get}
 use Rattle.pgb_command.specs.Commands.{IsPushOf, IsRequestOf, IsPart, Goes, Ends}
@@ -113,6 +113,7 @@ finding_to (InfoDamaged a b c) P Q to h = to h
 finding_to (StanzaMismatch a b) P Q to h = to h
 finding_to (SegmentMissing a) P Q to h = to h
 finding_to (TooLong a b) P Q to h = to h
+finding_to (TooMany a) P Q to h = to h
 finding_to (HeaderForm a) P Q to h = to h
 finding_to (SegmentSize a b) P Q to h = to h
 finding_to (HeaderMismatch a b) P Q to h = to h
@@ -131,7 +132,7 @@ finding_to Source P Q to h = tt
 finding_to Sink P Q to h = tt
 finding_to NoMemory P Q to h = tt
 
-on_all : (e : Fault) (Q : Type 0) → Q → OnFinding e Q
+pub on_all : (e : Fault) (Q : Type 0) → Q → OnFinding e Q
 on_all (Settings u) Q q = q
 on_all (ConfigMissing a) Q q = q
 on_all (SegmentName a) Q q = q
@@ -142,6 +143,7 @@ on_all (InfoDamaged a b c) Q q = q
 on_all (StanzaMismatch a b) Q q = q
 on_all (SegmentMissing a) Q q = q
 on_all (TooLong a b) Q q = q
+on_all (TooMany a) Q q = q
 on_all (HeaderForm a) Q q = q
 on_all (SegmentSize a b) Q q = q
 on_all (HeaderMismatch a b) Q q = q
@@ -180,6 +182,7 @@ on_both (InfoDamaged a b c) P R h k = (h, k)
 on_both (StanzaMismatch a b) P R h k = (h, k)
 on_both (SegmentMissing a) P R h k = (h, k)
 on_both (TooLong a b) P R h k = (h, k)
+on_both (TooMany a) P R h k = (h, k)
 on_both (HeaderForm a) P R h k = (h, k)
 on_both (SegmentSize a b) P R h k = (h, k)
 on_both (HeaderMismatch a b) P R h k = (h, k)

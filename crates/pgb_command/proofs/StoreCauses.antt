@@ -1,32 +1,32 @@
--- Why a segment isn't stored, and what is told where it is.
-use Rattle.std.proofs.Common.{◌≡◌, ◌⊎◌, inl, inr, ◌<◌, ◌^◌, [], Option, Some, None, Result, Ok, Err, IfErr, refl, ap, ◌∙◌, sym, subst}
-use Rattle.std.specs.Prelude.{IfSome, IsSome, IsErrAnd, string_bytes}
+-- Why a file isn't stored, and what is told where it is.
+use Rattle.std.proofs.Common.{◌≡◌, ◌⊎◌, inl, inr, ℕ, length, ◌<◌, ◌^◌, [], Option, Some, None, Result, Ok, Err, IfErr, refl, ap, ◌∙◌, sym, subst}
+use Rattle.std.specs.Prelude.{IfSome, IsSome, IsSomeAnd, IsErrAnd, string_bytes}
 use Rattle.sha1.specs.Sha1.{sha1}
 use Rattle.pgb_text.specs.Sum.{IsSum}
+use Rattle.pgb_text.proofs.Digests.{IsSum-sha1}
 use Rattle.pgb_outside.specs.Content.{Content}
 use Rattle.pgb_outside.specs.Tree.{Nodes, file_bytes}
 use Rattle.pgb_model.specs.declared.clusters.ClusterId.{ClusterId}
 use Rattle.pgb_model.specs.declared.wal.ArchiveId.{ArchiveId}
-use Rattle.pgb_model.specs.declared.wal.ArchiveName.TheVariants.{Segment as Whole}
-use Rattle.pgb_model.specs.declared.wal.Segment.{Segment}
+use Rattle.pgb_model.specs.declared.wal.ArchiveName.{ArchiveName}
+use Rattle.pgb_model.specs.declared.wal.ArchiveName.TheVariants.{Segment as Whole, Partial, History, Backup}
 use Rattle.pgb_model.specs.Text.{Text}
-use Rattle.pgb_model.specs.Names.{segment_text}
-use Rattle.pgb_model.specs.InfoFiles.{IsSegment}
-use Rattle.pgb_model.specs.Stands.{IsArchiveFile}
+use Rattle.pgb_model.specs.Names.{wal_text}
+use Rattle.pgb_model.specs.Stands.{IsArchiveFile, IsWalName}
 use Rattle.pgb_stanza.specs.declared.control.Control.{Control}
 use Rattle.pgb_archive.specs.declared.fault.ArchiveFault.{ArchiveFault}
-use Rattle.pgb_archive.specs.declared.fault.ArchiveFault.TheVariants.{HeaderForm, SegmentSize, HeaderMismatch, Ambiguous, Duplicate, Disk, NoMemory}
+use Rattle.pgb_archive.specs.declared.fault.ArchiveFault.TheVariants.{HeaderForm, SegmentSize, HeaderMismatch, Ambiguous, Duplicate, NotFound, SegmentDamaged, TooLong, TooMany, Disk, NoMemory}
 use Rattle.pgb_archive.specs.declared.pushing.Pushed.{Pushed}
 use Rattle.pgb_archive.specs.declared.pushing.Pushed.TheVariants.{New, Same}
-use Rattle.pgb_archive.specs.Stored.{Stores, StoresNone, StoresOnly, StoresTwo, segment_name}
-use Rattle.pgb_archive.specs.Causes.{IsSegmentOf, PushCause, OnFinding as OnArchiveFinding}
+use Rattle.pgb_archive.specs.Stored.{HasSum, Stores, StoresNone, StoresOnly, StoresTwo, archive_path}
+use Rattle.pgb_archive.specs.Causes.{IsFileOf, StoresLong, PushCause, OnFinding as OnArchiveFinding}
 use Rattle.pgb_command.specs.declared.fault.Fault.{Fault}
 use Rattle.pgb_command.specs.Faults.{of_archive}
 use Rattle.pgb_command.specs.Answers.{OnFinding, same_line}
 use Rattle.pgb_command.specs.Outcomes.{pushed_lines}
 use Rattle.pgb_command.specs.Storing.{SameFiles, id_kept}
 use Rattle.pgb_command.specs.WalPath.{IsWalPath, HasWal, wal_path}
-use Rattle.pgb_command.specs.Causes.{IsReady, IsRefusedSegment, IsStored, StoreCause, PushFileCause}
+use Rattle.pgb_command.specs.Causes.{IsReady, IsRefusedPush, IsStored, StoreCause, PushFileCause}
 use Rattle.pgb_command.specs.declared.fault.ControlFile.TheVariants.{Control as ControlName, Version as VersionName}
 use Rattle.pgb_command.specs.declared.fault.Fault.TheVariants as faults
 use Rattle.pgb_command.specs.Locking.{archive_lock}
@@ -34,13 +34,13 @@ use Rattle.pgb_command.specs.Making.{OpeningCause}
 use Rattle.pgb_command.specs.Asked.{push}
 
 -- the file that was read
-pub has_wal : (nodes mid : Option Nodes) (folder path name : Text) (segment : Segment) (items bytes : Text) → mid ≡ nodes → name ≡ segment_text segment → bytes ≡ items → IsWalPath folder path (Whole segment)
-    → IfSome mid (λ f. file_bytes (f (wal_path name)) ≡ Some items) → IfSome nodes (λ f. HasWal f folder path (Whole segment) bytes)
-has_wal nodes mid folder path name segment items bytes same named is path_is h =
+pub has_wal : (nodes mid : Option Nodes) (folder path name : Text) (wal : ArchiveName) (items bytes : Text) → mid ≡ nodes → name ≡ wal_text wal → bytes ≡ items → IsWalPath folder path wal
+    → IfSome mid (λ f. file_bytes (f (wal_path name)) ≡ Some items) → IfSome nodes (λ f. HasWal f folder path wal bytes)
+has_wal nodes mid folder path name wal items bytes same named is path_is h =
     let there : IfSome nodes (λ f. file_bytes (f (wal_path name)) ≡ Some items) = subst (λ (o : Option Nodes). IfSome o (λ f. file_bytes (f (wal_path name)) ≡ Some items)) same h in
     go nodes (subst (λ (b : Text). IfSome nodes (λ f. file_bytes (f (wal_path name)) ≡ Some b)) (sym is) there)
   where
-    go : (o : Option Nodes) → IfSome o (λ f. file_bytes (f (wal_path name)) ≡ Some bytes) → IfSome o (λ f. HasWal f folder path (Whole segment) bytes)
+    go : (o : Option Nodes) → IfSome o (λ f. file_bytes (f (wal_path name)) ≡ Some bytes) → IfSome o (λ f. HasWal f folder path wal bytes)
     go None k = tt
     go (Some f) k = record { named = path_is; is = subst (λ (n : Text). file_bytes (f (wal_path n)) ≡ Some bytes) named k }
 
@@ -51,6 +51,10 @@ finding_of (SegmentSize told found) P Q to h = to h
 finding_of (HeaderMismatch kept found) P Q to h = to h
 finding_of (Ambiguous first second) P Q to h = to h
 finding_of (Duplicate kept found) P Q to h = to h
+finding_of NotFound P Q to h = tt
+finding_of (SegmentDamaged told found) P Q to h = to h
+finding_of (TooLong name limit) P Q to h = to h
+finding_of (TooMany limit) P Q to h = to h
 finding_of Disk P Q to h = tt
 finding_of NoMemory P Q to h = tt
 
@@ -58,25 +62,37 @@ pub finding_err : {T : Type 0} (result : Result T Fault) (e : ArchiveFault) (P Q
 finding_err (Ok x) e P Q is to h = tt
 finding_err (Err f) e P Q is to h = subst (λ (x : Fault). OnFinding x Q) (sym is) (finding_of e P Q to h)
 
--- ---- what is stored of a segment, before and after the healing
+-- ---- what is stored of a file, before and after the healing
 
-pub file_of : (stanza : Text) (id : ArchiveId) (segment : Segment) (sum : Text) → id.version < 2 ^ 32 → id.number < 2 ^ 32 → IsSegment segment → IsSum sum → IsArchiveFile stanza (segment_name stanza id segment sum)
-file_of stanza id segment sum version number fits is_sum = record { id = id; file = Whole segment; sum = sum; fits = record { version = version; number = number; fits = fits; digest = is_sum }; is = refl }
+pub file_of : (stanza : Text) (id : ArchiveId) (wal : ArchiveName) (sum : Text) → id.version < 2 ^ 32 → id.number < 2 ^ 32 → IsWalName wal → IsSum sum → IsArchiveFile stanza (archive_path stanza id wal sum)
+file_of stanza id wal sum version number fits is_sum = record { id = id; file = wal; sum = sum; fits = record { version = version; number = number; fits = fits; digest = is_sum }; is = refl }
 
-module _ (stanza : Text) (id : ArchiveId) (segment : Segment) (version : id.version < 2 ^ 32) (number : id.number < 2 ^ 32) (fits : IsSegment segment) where
+module _ (stanza : Text) (id : ArchiveId) (wal : ArchiveName) (version : id.version < 2 ^ 32) (number : id.number < 2 ^ 32) (fits : IsWalName wal) where
   abbrev Alike : Content → Content → Type 0
   Alike f g = (name : Text) → IsArchiveFile stanza name → g name ≡ f name
 
-  back : (f g : Content) → Alike f g → (sum : Text) → Stores stanza id segment g sum → Stores stanza id segment f sum
-  back f g alike sum h = (h.0, subst (λ (v : Option Text). IsSome v) (alike (segment_name stanza id segment sum) (file_of stanza id segment sum version number fits h.0)) h.1)
+  -- a stored file's sum has 20 bytes
+  sum_of : (file : ArchiveName) (v : Option Text) (sum : Text) → HasSum file v sum → IsSum sum
+  sum_of (Whole s) v sum h = h.0
+  sum_of (Partial s) v sum h = h.0
+  sum_of (History t) (Some b) sum h = subst IsSum h (IsSum-sha1 b)
+  sum_of (History t) None sum h = absurd h
+  sum_of (Backup s n) (Some b) sum h = subst IsSum h (IsSum-sha1 b)
+  sum_of (Backup s n) None sum h = absurd h
 
-  forth : (f g : Content) → Alike f g → (sum : Text) → Stores stanza id segment f sum → Stores stanza id segment g sum
-  forth f g alike sum h = (h.0, subst (λ (v : Option Text). IsSome v) (sym (alike (segment_name stanza id segment sum) (file_of stanza id segment sum version number fits h.0))) h.1)
+  same_at : (f g : Content) → Alike f g → (sum : Text) → IsSum sum → g (archive_path stanza id wal sum) ≡ f (archive_path stanza id wal sum)
+  same_at f g alike sum is = alike (archive_path stanza id wal sum) (file_of stanza id wal sum version number fits is)
 
-  only_back : (f g : Content) → Alike f g → (sum : Text) → StoresOnly stanza id segment g sum → StoresOnly stanza id segment f sum
+  back : (f g : Content) → Alike f g → (sum : Text) → Stores stanza id wal g sum → Stores stanza id wal f sum
+  back f g alike sum h = subst (λ (v : Option Text). HasSum wal v sum) (same_at f g alike sum (sum_of wal _ sum h)) h
+
+  forth : (f g : Content) → Alike f g → (sum : Text) → Stores stanza id wal f sum → Stores stanza id wal g sum
+  forth f g alike sum h = subst (λ (v : Option Text). HasSum wal v sum) (sym (same_at f g alike sum (sum_of wal _ sum h))) h
+
+  only_back : (f g : Content) → Alike f g → (sum : Text) → StoresOnly stanza id wal g sum → StoresOnly stanza id wal f sum
   only_back f g alike sum h = record { stored = back f g alike sum h.stored; only = λ other s. h.only other (forth f g alike other s) }
 
-  two_back : (f g : Content) → Alike f g → (first second : Text) → StoresTwo stanza id segment g first second → StoresTwo stanza id segment f first second
+  two_back : (f g : Content) → Alike f g → (first second : Text) → StoresTwo stanza id wal g first second → StoresTwo stanza id wal f first second
   two_back f g alike first second h = record {
     first_sum = h.first_sum;
     second_sum = h.second_sum;
@@ -88,7 +104,12 @@ module _ (stanza : Text) (id : ArchiveId) (segment : Segment) (version : id.vers
     before = λ sum s lower. h.before sum (forth f g alike sum s) lower;
   }
 
-  none_back : (f g : Content) → Alike f g → StoresNone stanza id segment g → StoresNone stanza id segment f
+  long_back : (f g : Content) → Alike f g → (path : Text) (limit : ℕ) → StoresLong stanza id wal g path limit → StoresLong stanza id wal f path limit
+  long_back f g alike path limit h =
+      let same = same_at f g alike h.0 (sum_of wal _ h.0 h.1.stored) in
+      (h.0, only_back f g alike h.0 h.1, h.2, subst (λ (v : Option Text). IsSomeAnd v (λ bytes. limit < length bytes)) (ap g h.2 ∙ same ∙ sym (ap f h.2)) h.3)
+
+  none_back : (f g : Content) → Alike f g → StoresNone stanza id wal g → StoresNone stanza id wal f
   none_back f g alike h = λ sum s. h sum (forth f g alike sum s)
 
   -- what held behind the healing held before
@@ -100,62 +121,71 @@ module _ (stanza : Text) (id : ArchiveId) (segment : Segment) (version : id.vers
       go None some files k = cc
       go (Some g) some files k = on f g (λ name file. let e : ◌≡◌ {A = Option (Option Text)} (Some (g name)) (Some (f name)) = files name file in cc) k
 
-module _ (stanza folder path : Text) (repo mid : Option Content) (nodes : Option Nodes) (segment : Segment) (bytes : Text) (told : Control) (c : ClusterId) (ready : IsReady stanza folder path repo nodes segment bytes told c)
-    (version : (id_kept c).version < 2 ^ 32) (number : (id_kept c).number < 2 ^ 32) (fits : IsSegment segment) (kept : IsSome repo → IsSome mid) (same : IsSome repo → SameFiles stanza repo mid) where
-  refused : (e : ArchiveFault) → PushCause stanza (id_kept c) segment told.system bytes repo ⊥ e → IsRefusedSegment stanza folder path repo nodes e
-  refused e cause = record { segment = segment; bytes = bytes; told = told; current = c; ready = ready; cause = cause }
+module _ (stanza folder path : Text) (repo mid : Option Content) (nodes : Option Nodes) (wal : ArchiveName) (bytes : Text) (told : Control) (c : ClusterId) (ready : IsReady stanza folder path repo nodes wal bytes told c)
+    (version : (id_kept c).version < 2 ^ 32) (number : (id_kept c).number < 2 ^ 32) (fits : IsWalName wal) (kept : IsSome repo → IsSome mid) (same : IsSome repo → SameFiles stanza repo mid) where
+  refused : (e : ArchiveFault) → PushCause stanza (id_kept c) wal told.system bytes repo ⊥ e → IsRefusedPush stanza folder path repo nodes e
+  refused e cause = record { wal = wal; bytes = bytes; told = told; current = c; ready = ready; cause = cause }
 
-  cause_of : (d t l h rose : Type 0) → (rose → d) → (e : ArchiveFault) → PushCause stanza (id_kept c) segment told.system bytes mid rose e → StoreCause stanza folder path repo nodes d t l h (of_archive e)
+  cause_of : (d t l h rose : Type 0) → (rose → d) → (e : ArchiveFault) → PushCause stanza (id_kept c) wal told.system bytes mid rose e → StoreCause stanza folder path repo nodes d t l h (of_archive e)
   cause_of d t l h rose to (HeaderForm info) k = refused (HeaderForm info) k
   cause_of d t l h rose to (SegmentSize said found) k = refused (SegmentSize said found) k
   cause_of d t l h rose to (HeaderMismatch one found) k = refused (HeaderMismatch one found) k
   cause_of d t l h rose to (Ambiguous first second) k = refused (Ambiguous first second) (
     k.0,
-    to_old stanza (id_kept c) segment version number fits (λ f. StoresTwo stanza (id_kept c) segment f (string_bytes first) (string_bytes second)) repo mid kept same
-        (λ f g alike. two_back stanza (id_kept c) segment version number fits f g alike (string_bytes first) (string_bytes second)) k.1,
+    to_old stanza (id_kept c) wal version number fits (λ f. StoresTwo stanza (id_kept c) wal f (string_bytes first) (string_bytes second)) repo mid kept same
+        (λ f g alike. two_back stanza (id_kept c) wal version number fits f g alike (string_bytes first) (string_bytes second)) k.1,
   )
   cause_of d t l h rose to (Duplicate one found) k = refused (Duplicate one found) (
     k.0,
     k.1,
     k.2,
-    to_old stanza (id_kept c) segment version number fits (λ f. StoresOnly stanza (id_kept c) segment f one.0) repo mid kept same
-        (λ f g alike. only_back stanza (id_kept c) segment version number fits f g alike one.0) k.3,
+    to_old stanza (id_kept c) wal version number fits (λ f. StoresOnly stanza (id_kept c) wal f one.0) repo mid kept same
+        (λ f g alike. only_back stanza (id_kept c) wal version number fits f g alike one.0) k.3,
   )
+  cause_of d t l h rose to (TooLong said most) k = inr (refused (TooLong said most) (
+    k.0,
+    k.1,
+    to_old stanza (id_kept c) wal version number fits (λ f. StoresLong stanza (id_kept c) wal f (string_bytes said) most) repo mid kept same
+        (λ f g alike. long_back stanza (id_kept c) wal version number fits f g alike (string_bytes said) most) k.2,
+  ))
+  cause_of d t l h rose to NotFound k = absurd k
+  cause_of d t l h rose to (SegmentDamaged said found) k = absurd k
+  cause_of d t l h rose to (TooMany most) k = absurd k
   cause_of d t l h rose to Disk k = to k.1
   cause_of d t l h rose to NoMemory k = tt
 
-  pub cause_err : {T : Type 0} (result : Result T Fault) (d t l h rose : Type 0) (e : ArchiveFault) → (rose → d) → IsErrAnd result (λ fault. fault ≡ of_archive e) → PushCause stanza (id_kept c) segment told.system bytes mid rose e →
+  pub cause_err : {T : Type 0} (result : Result T Fault) (d t l h rose : Type 0) (e : ArchiveFault) → (rose → d) → IsErrAnd result (λ fault. fault ≡ of_archive e) → PushCause stanza (id_kept c) wal told.system bytes mid rose e →
       IfErr result (StoreCause stanza folder path repo nodes d t l h)
   cause_err (Ok x) d t l h rose e to is k = tt
   cause_err (Err f) d t l h rose e to is k = subst (StoreCause stanza folder path repo nodes d t l h) (sym is) (cause_of d t l h rose to e k)
 
   -- what is told at Ok
-  lines_for : (pushed : Pushed) → (pushed ≡ New → IfSome mid (StoresNone stanza (id_kept c) segment)) → (pushed ≡ Same → IfSome mid (λ f. StoresOnly stanza (id_kept c) segment f (sha1 bytes))) →
-      ((pushed_lines pushed (segment_text segment) ≡ []) × IfSome repo (λ f. StoresNone stanza (id_kept c) segment f))
-      ⊎ ((pushed_lines pushed (segment_text segment) ≡ same_line (segment_text segment)) × IfSome repo (λ f. StoresOnly stanza (id_kept c) segment f (sha1 bytes)))
-  lines_for New new one = inl (refl, to_old stanza (id_kept c) segment version number fits (StoresNone stanza (id_kept c) segment) repo mid kept same (λ f g alike. none_back stanza (id_kept c) segment version number fits f g alike) (new refl))
+  lines_for : (pushed : Pushed) → (pushed ≡ New → IfSome mid (StoresNone stanza (id_kept c) wal)) → (pushed ≡ Same → IfSome mid (λ f. StoresOnly stanza (id_kept c) wal f (sha1 bytes))) →
+      ((pushed_lines pushed (wal_text wal) ≡ []) × IfSome repo (λ f. StoresNone stanza (id_kept c) wal f))
+      ⊎ ((pushed_lines pushed (wal_text wal) ≡ same_line (wal_text wal)) × IfSome repo (λ f. StoresOnly stanza (id_kept c) wal f (sha1 bytes)))
+  lines_for New new one = inl (refl, to_old stanza (id_kept c) wal version number fits (StoresNone stanza (id_kept c) wal) repo mid kept same (λ f g alike. none_back stanza (id_kept c) wal version number fits f g alike) (new refl))
   lines_for Same new one = inr (
     refl,
-    to_old stanza (id_kept c) segment version number fits (λ f. StoresOnly stanza (id_kept c) segment f (sha1 bytes)) repo mid kept same
-        (λ f g alike. only_back stanza (id_kept c) segment version number fits f g alike (sha1 bytes)) (one refl),
+    to_old stanza (id_kept c) wal version number fits (λ f. StoresOnly stanza (id_kept c) wal f (sha1 bytes)) repo mid kept same
+        (λ f g alike. only_back stanza (id_kept c) wal version number fits f g alike (sha1 bytes)) (one refl),
   )
 
-  pub stored_as : (lines name : Text) (pushed : Pushed) → name ≡ segment_text segment → lines ≡ pushed_lines pushed name → IsSegmentOf bytes told.system →
-      (pushed ≡ New → IfSome mid (StoresNone stanza (id_kept c) segment)) → (pushed ≡ Same → IfSome mid (λ f. StoresOnly stanza (id_kept c) segment f (sha1 bytes))) → IsStored stanza folder path repo nodes lines
+  pub stored_as : (lines name : Text) (pushed : Pushed) → name ≡ wal_text wal → lines ≡ pushed_lines pushed name → IsFileOf wal bytes told.system →
+      (pushed ≡ New → IfSome mid (StoresNone stanza (id_kept c) wal)) → (pushed ≡ Same → IfSome mid (λ f. StoresOnly stanza (id_kept c) wal f (sha1 bytes))) → IsStored stanza folder path repo nodes lines
   stored_as lines name pushed named is valid new one = record {
-    segment = segment;
+    wal = wal;
     bytes = bytes;
     told = told;
     current = c;
     ready = ready;
     valid = valid;
-    told_by = subst (λ (l : Text). ((l ≡ []) × IfSome repo (λ f. StoresNone stanza (id_kept c) segment f)) ⊎ ((l ≡ same_line (segment_text segment)) × IfSome repo (λ f. StoresOnly stanza (id_kept c) segment f (sha1 bytes))))
+    told_by = subst (λ (l : Text). ((l ≡ []) × IfSome repo (λ f. StoresNone stanza (id_kept c) wal f)) ⊎ ((l ≡ same_line (wal_text wal)) × IfSome repo (λ f. StoresOnly stanza (id_kept c) wal f (sha1 bytes))))
         (sym (is ∙ ap (pushed_lines pushed) named)) (lines_for pushed new one);
   }
 
 -- ---- of a push, with the openings before
 
-module _ (stanza folder path : Text) (segment : Segment) (named : IsWalPath folder path (Whole segment)) where
+module _ (stanza folder path : Text) (wal : ArchiveName) (named : IsWalPath folder path wal) where
   opened : (name : Text) → name ≡ archive_lock stanza → (repo : Option Content) (nodes : Option Nodes) (d t l h : Type 0) (e : Fault) → OpeningCause name d t l h e → StoreCause stanza folder path repo nodes d t l h e
   opened name is repo nodes d t l h (faults.Held word) cause = (cause.0 ∙ is, cause.1)
   opened name is repo nodes d t l h faults.Disk cause = cause
@@ -176,6 +206,8 @@ module _ (stanza folder path : Text) (segment : Segment) (named : IsWalPath fold
   opened name is repo nodes d t l h (faults.StanzaMismatch k f) cause = absurd cause
   opened name is repo nodes d t l h (faults.SegmentMissing p) cause = absurd cause
   opened name is repo nodes d t l h (faults.TooLong n m) cause = absurd cause
+  opened name is repo nodes d t l h (faults.TooMany m) cause = absurd cause
+  opened name is repo nodes d t l h (faults.SegmentDamaged k f) cause = absurd cause
   opened name is repo nodes d t l h (faults.HeaderForm i) cause = absurd cause
   opened name is repo nodes d t l h (faults.SegmentSize k f) cause = absurd cause
   opened name is repo nodes d t l h (faults.HeaderMismatch k f) cause = absurd cause
@@ -186,7 +218,7 @@ module _ (stanza folder path : Text) (segment : Segment) (named : IsWalPath fold
 
   pub opening_err : (name : Text) → name ≡ archive_lock stanza → (repo : Option Content) (nodes : Option Nodes) (d t l h : Type 0) {T : Type 0} (result : Result T Fault) (e : Fault) → IsErrAnd result (λ f. f ≡ e) → OpeningCause name d t l h e → IfErr result (PushFileCause stanza folder path repo nodes d t l h)
   opening_err name is repo nodes d t l h (Ok x) e same cause = tt
-  opening_err name is repo nodes d t l h (Err f) e same cause = subst (PushFileCause stanza folder path repo nodes d t l h) (sym same) (inr ((segment, named), opened name is repo nodes d t l h e cause))
+  opening_err name is repo nodes d t l h (Err f) e same cause = subst (PushFileCause stanza folder path repo nodes d t l h) (sym same) (inr ((wal, named), opened name is repo nodes d t l h e cause))
 
   wider : (repo : Option Content) (nodes : Option Nodes) (d t x y l h : Type 0) → (d → x) → (t → y) → (e : Fault) → StoreCause stanza folder path repo nodes d t ⊥ ⊥ e → StoreCause stanza folder path repo nodes x y l h e
   wider repo nodes d t x y l h a b (faults.StanzaMissing w) cause = cause
@@ -194,6 +226,8 @@ module _ (stanza folder path : Text) (segment : Segment) (named : IsWalPath fold
   wider repo nodes d t x y l h a b (faults.StanzaMismatch k f) cause = cause
   wider repo nodes d t x y l h a b (faults.SegmentMissing w) cause = cause
   wider repo nodes d t x y l h a b (faults.TooLong w m) cause = cause
+  wider repo nodes d t x y l h a b (faults.TooMany m) cause = absurd cause
+  wider repo nodes d t x y l h a b (faults.SegmentDamaged k f) cause = absurd cause
   wider repo nodes d t x y l h a b (faults.HeaderForm i) cause = cause
   wider repo nodes d t x y l h a b (faults.SegmentSize k f) cause = cause
   wider repo nodes d t x y l h a b (faults.HeaderMismatch k f) cause = cause
@@ -223,4 +257,4 @@ module _ (stanza folder path : Text) (segment : Segment) (named : IsWalPath fold
   storing_err repo mid nodes seen d t x y l h same_repo same_nodes a b (Err f) e same cause =
       let first = subst (λ (o : Option Content). StoreCause stanza folder path o seen d t ⊥ ⊥ e) same_repo cause in
       let then = subst (λ (o : Option Nodes). StoreCause stanza folder path repo o d t ⊥ ⊥ e) same_nodes first in
-      subst (PushFileCause stanza folder path repo nodes x y l h) (sym same) (inr ((segment, named), wider repo nodes d t x y l h a b e then))
+      subst (PushFileCause stanza folder path repo nodes x y l h) (sym same) (inr ((wal, named), wider repo nodes d t x y l h a b e then))

@@ -10,8 +10,7 @@ use Rattle.pgb_model.specs.declared.clusters.Cluster.{Cluster}
 use Rattle.pgb_model.specs.declared.clusters.ClusterId.{ClusterId}
 use Rattle.pgb_model.specs.declared.wal.ArchiveId.{ArchiveId}
 use Rattle.pgb_model.specs.declared.wal.ArchiveName.{ArchiveName}
-use Rattle.pgb_model.specs.declared.wal.ArchiveName.TheVariants.{Segment as Whole}
-use Rattle.pgb_model.specs.declared.wal.Segment.{Segment}
+use Rattle.pgb_model.specs.declared.wal.ArchiveName.{ArchiveName}
 use Rattle.pgb_model.specs.Text.{Text}
 use Rattle.pgb_model.specs.Names.{archive_info, copy_of, wal_text}
 use Rattle.pgb_model.specs.Fields.{at_number}
@@ -35,23 +34,23 @@ use Rattle.pgb_command.proofs.WalNames.{one_name}
 
 -- ---- the command
 
-abbrev named : Segment → Text → Named
-named segment bytes = record { name = Whole segment; bytes = bytes }
+abbrev named : ArchiveName → Text → Named
+named wal bytes = record { name = wal; bytes = bytes }
 
-same_file : (f : Nodes) (folder path : Text) (segment : Segment) (bytes : Text) (n : Named) → HasWal f folder path (Whole segment) bytes → HasWal f folder path n.name n.bytes → n ≡ record { name = Whole segment; bytes = bytes }
-same_file f folder path segment bytes n has other =
-    let e : n.name ≡ Whole segment = one_name folder path n.name segment other.named has.named in
-    let there : file_bytes (f (wal_path (wal_text (Whole segment)))) ≡ Some n.bytes = subst (λ (name : ArchiveName). file_bytes (f (wal_path (wal_text name))) ≡ Some n.bytes) e other.is in
+same_file : (f : Nodes) (folder path : Text) (wal : ArchiveName) (bytes : Text) (n : Named) → HasWal f folder path wal bytes → HasWal f folder path n.name n.bytes → n ≡ record { name = wal; bytes = bytes }
+same_file f folder path wal bytes n has other =
+    let e : n.name ≡ wal = one_name folder path n.name wal other.named has.named in
+    let there : file_bytes (f (wal_path (wal_text wal))) ≡ Some n.bytes = subst (λ (name : ArchiveName). file_bytes (f (wal_path (wal_text name))) ≡ Some n.bytes) e other.is in
     let h : ◌≡◌ {A = Option Text} (Some n.bytes) (Some bytes) = sym there ∙ has.is in
     let b : n.bytes ≡ bytes = cc in
-    ap (λ (name : ArchiveName). record { name = name; bytes = n.bytes }) e ∙ ap (λ (t : Text). record { name = Whole segment; bytes = t }) b
+    ap (λ (name : ArchiveName). record { name = name; bytes = n.bytes }) e ∙ ap (λ (t : Text). record { name = wal; bytes = t }) b
 
 -- the file that was read is the command's
-pub push_is : (nodes : Option Nodes) (folder path : Text) (segment : Segment) (bytes : Text) (command : Command) → IfSome nodes (λ f. HasWal f folder path (Whole segment) bytes) → IsSomeAnd nodes (λ f. IsPushOf f folder path command)
-    → command ≡ ArchivePush (record { name = Whole segment; bytes = bytes })
-push_is None folder path segment bytes command has is = absurd is
-push_is (Some f) folder path segment bytes command has (inl x) = x.2 ∙ ap ArchivePush (same_file f folder path segment bytes x.0 has x.1)
-push_is (Some f) folder path segment bytes command has (inr x) = absurd (x.0 (record { name = Whole segment; bytes = bytes }) has)
+pub push_is : (nodes : Option Nodes) (folder path : Text) (wal : ArchiveName) (bytes : Text) (command : Command) → IfSome nodes (λ f. HasWal f folder path wal bytes) → IsSomeAnd nodes (λ f. IsPushOf f folder path command)
+    → command ≡ ArchivePush (record { name = wal; bytes = bytes })
+push_is None folder path wal bytes command has is = absurd is
+push_is (Some f) folder path wal bytes command has (inl x) = x.2 ∙ ap ArchivePush (same_file f folder path wal bytes x.0 has x.1)
+push_is (Some f) folder path wal bytes command has (inr x) = absurd (x.0 (record { name = wal; bytes = bytes }) has)
 
 -- ---- the current cluster
 
@@ -147,33 +146,33 @@ agrees_on stanza name bytes mid new file goes some agrees =
 
 -- ---- from the words' file and the id
 
-module _ (stanza folder path : Text) (nodes : Option Nodes) (segment : Segment) (bytes : Text) (has : IfSome nodes (λ f. HasWal f folder path (Whole segment) bytes)) (id : ArchiveId) (c : ClusterId) (is : id ≡ id_kept c) (old mid new : View)
+module _ (stanza folder path : Text) (nodes : Option Nodes) (wal : ArchiveName) (bytes : Text) (has : IfSome nodes (λ f. HasWal f folder path wal bytes)) (id : ArchiveId) (c : ClusterId) (is : id ≡ id_kept c) (old mid new : View)
     (current : IfSome old.now (λ f. HasCurrent stanza f c)) (stays : NowDoes stanza Reading true old.now mid.now) where
   abbrev the_push : Command
-  the_push = ArchivePush (record { name = Whole segment; bytes = bytes })
+  the_push = ArchivePush (record { name = wal; bytes = bytes })
 
   abbrev as_pushed : ArchiveId → Archived
-  as_pushed i = record { id = i; name = Whole segment; bytes = bytes }
+  as_pushed i = record { id = i; name = wal; bytes = bytes }
 
-  pub store_part : (IsSome mid.now → IsSome new.now) → ((s : Stanza) → IsSome mid.now → NowStands stanza (Some s) mid.now → NowPartOfPush stanza s (record { id = id; name = Whole segment; bytes = bytes }) new.now)
+  pub store_part : (IsSome mid.now → IsSome new.now) → ((s : Stanza) → IsSome mid.now → NowStands stanza (Some s) mid.now → NowPartOfPush stanza s (record { id = id; name = wal; bytes = bytes }) new.now)
       → (command : Command) → IsSomeAnd nodes (λ f. IsPushOf f folder path command) → NowDoes stanza command false old.now new.now
-  store_part kept part command asked = subst (λ (k : Command). NowDoes stanza k false old.now new.now) (sym (push_is nodes folder path segment bytes command has asked))
-      (stores_part stanza (named segment bytes) c old mid new current stays kept (subst (λ (i : ArchiveId). (s : Stanza) → IsSome mid.now → NowStands stanza (Some s) mid.now → NowPartOfPush stanza s (as_pushed i) new.now) is part))
+  store_part kept part command asked = subst (λ (k : Command). NowDoes stanza k false old.now new.now) (sym (push_is nodes folder path wal bytes command has asked))
+      (stores_part stanza (named wal bytes) c old mid new current stays kept (subst (λ (i : ArchiveId). (s : Stanza) → IsSome mid.now → NowStands stanza (Some s) mid.now → NowPartOfPush stanza s (as_pushed i) new.now) is part))
 
-  pub store_whole : (IsSome mid.now → IsSome new.now) → ((s : Stanza) → IsSome mid.now → NowStands stanza (Some s) mid.now → NowStands stanza (Some (after_all s (push_of s (record { id = id; name = Whole segment; bytes = bytes })))) new.now)
+  pub store_whole : (IsSome mid.now → IsSome new.now) → ((s : Stanza) → IsSome mid.now → NowStands stanza (Some s) mid.now → NowStands stanza (Some (after_all s (push_of s (record { id = id; name = wal; bytes = bytes })))) new.now)
       → (command : Command) → IsSomeAnd nodes (λ f. IsPushOf f folder path command) → NowDoes stanza command true old.now new.now
-  store_whole kept whole command asked = subst (λ (k : Command). NowDoes stanza k true old.now new.now) (sym (push_is nodes folder path segment bytes command has asked))
-      (stores_whole stanza (named segment bytes) c old mid new current stays kept
+  store_whole kept whole command asked = subst (λ (k : Command). NowDoes stanza k true old.now new.now) (sym (push_is nodes folder path wal bytes command has asked))
+      (stores_whole stanza (named wal bytes) c old mid new current stays kept
       (subst (λ (i : ArchiveId). (s : Stanza) → IsSome mid.now → NowStands stanza (Some s) mid.now → NowStands stanza (Some (after_all s (push_of s (as_pushed i)))) new.now) is whole))
 
-  pub store_goes : Goes stanza Reading old mid → Ends stanza Reading old mid → ((s : Stanza) → IsSteady stanza (Some s) mid → IsSome mid.now → Moves stanza (IsPartOfPush stanza s (record { id = id; name = Whole segment; bytes = bytes })) mid new)
+  pub store_goes : Goes stanza Reading old mid → Ends stanza Reading old mid → ((s : Stanza) → IsSteady stanza (Some s) mid → IsSome mid.now → Moves stanza (IsPartOfPush stanza s (record { id = id; name = wal; bytes = bytes })) mid new)
       → (command : Command) → IsSomeAnd nodes (λ f. IsPushOf f folder path command) → Goes stanza command old new
-  store_goes goes ends moves command asked = subst (λ (k : Command). Goes stanza k old new) (sym (push_is nodes folder path segment bytes command has asked))
-      (stores_goes stanza (named segment bytes) c old mid new current stays ends goes
+  store_goes goes ends moves command asked = subst (λ (k : Command). Goes stanza k old new) (sym (push_is nodes folder path wal bytes command has asked))
+      (stores_goes stanza (named wal bytes) c old mid new current stays ends goes
       (subst (λ (i : ArchiveId). (s : Stanza) → IsSteady stanza (Some s) mid → IsSome mid.now → Moves stanza (IsPartOfPush stanza s (as_pushed i)) mid new) is moves))
 
-  pub store_ends : Ends stanza Reading old mid → ((s : Stanza) → IsSteady stanza (Some s) mid → IsSome mid.now → IsSteady stanza (Some (after_all s (push_of s (record { id = id; name = Whole segment; bytes = bytes })))) new)
+  pub store_ends : Ends stanza Reading old mid → ((s : Stanza) → IsSteady stanza (Some s) mid → IsSome mid.now → IsSteady stanza (Some (after_all s (push_of s (record { id = id; name = wal; bytes = bytes })))) new)
       → (command : Command) → IsSomeAnd nodes (λ f. IsPushOf f folder path command) → Ends stanza command old new
-  store_ends ends stored command asked = subst (λ (k : Command). Ends stanza k old new) (sym (push_is nodes folder path segment bytes command has asked))
-      (stores_ends stanza (named segment bytes) c old mid new current stays ends
+  store_ends ends stored command asked = subst (λ (k : Command). Ends stanza k old new) (sym (push_is nodes folder path wal bytes command has asked))
+      (stores_ends stanza (named wal bytes) c old mid new current stays ends
       (subst (λ (i : ArchiveId). (s : Stanza) → IsSteady stanza (Some s) mid → IsSome mid.now → IsSteady stanza (Some (after_all s (push_of s (as_pushed i)))) new) is stored))

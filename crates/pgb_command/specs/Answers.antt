@@ -9,12 +9,12 @@ use Rattle.pgb_options.specs.declared.usage.Usage.{Usage}
 use Rattle.pgb_options.specs.declared.usage.Usage.TheVariants.{CommandMissing, CommandUnknown, OptionUnknown, OptionRepeated, OptionValue, OptionMissing, OptionNotFor, ConfigSyntax, ParameterCount, ParameterUtf8, NoMemory as UsageNoMemory}
 use Rattle.pgb_options.specs.Table.{verb_word}
 use Rattle.pgb_command.specs.declared.fault.Unbuilt.{Unbuilt}
-use Rattle.pgb_command.specs.declared.fault.Unbuilt.TheVariants.{Command, Server, Background, ExistingStanza, ArchiveFile}
+use Rattle.pgb_command.specs.declared.fault.Unbuilt.TheVariants.{Command, Server, Background, ExistingStanza}
 use Rattle.pgb_command.specs.declared.fault.ControlFile.{ControlFile}
 use Rattle.pgb_command.specs.declared.fault.ControlFile.TheVariants.{Control, Version}
 use Rattle.pgb_command.specs.declared.fault.Identity.{Identity}
 use Rattle.pgb_command.specs.declared.fault.Fault.{Fault}
-use Rattle.pgb_command.specs.declared.fault.Fault.TheVariants.{Settings, NotBuilt, ConfigMissing, SegmentName, PathOutside, Held, ControlMissing, ControlShort, VersionText, VersionUnsupported, StanzaMissing, InfoDamaged, StanzaMismatch, SegmentMissing, TooLong, HeaderForm, SegmentSize, HeaderMismatch, Ambiguous, Duplicate, SegmentDamaged, Disk, Tree, Locks, Source, Sink, NoMemory}
+use Rattle.pgb_command.specs.declared.fault.Fault.TheVariants.{Settings, NotBuilt, ConfigMissing, SegmentName, PathOutside, Held, ControlMissing, ControlShort, VersionText, VersionUnsupported, StanzaMissing, InfoDamaged, StanzaMismatch, SegmentMissing, TooLong, TooMany, HeaderForm, SegmentSize, HeaderMismatch, Ambiguous, Duplicate, SegmentDamaged, Disk, Tree, Locks, Source, Sink, NoMemory}
 
 -- of words and a configuration that are refused
 abbrev pub usage_status : Usage → ℕ
@@ -46,6 +46,7 @@ status_of (InfoDamaged name main copy) = 22
 status_of (StanzaMismatch kept found) = 23
 status_of (SegmentMissing path) = 37
 status_of (TooLong name limit) = 70
+status_of (TooMany limit) = 71
 status_of (HeaderForm info) = 32
 status_of (SegmentSize told found) = 31
 status_of (HeaderMismatch kept found) = 33
@@ -71,7 +72,6 @@ part_name (Command verb) = verb_word verb
 part_name Server = codes "online"
 part_name Background = codes "archive-async"
 part_name ExistingStanza = codes "existing stanza"
-part_name ArchiveFile = codes "archive file"
 
 abbrev pub file_text : ControlFile → Text
 file_text Control = codes "global/pg_control"
@@ -121,6 +121,7 @@ error_line (InfoDamaged name main copy) = codes "ERROR: [022]: info '" ++ (strin
 error_line (StanzaMismatch kept found) = codes "ERROR: [023]: stanza has " ++ (identity_text kept ++ (codes ", data folder has " ++ (identity_text found ++ codes "\n")))
 error_line (SegmentMissing path) = codes "ERROR: [037]: '" ++ (shown (string_bytes path) ++ codes "' is missing\n")
 error_line (TooLong name limit) = codes "ERROR: [070]: '" ++ (shown (string_bytes name) ++ (codes "' is longer than " ++ (decimal limit ++ codes "\n")))
+error_line (TooMany limit) = codes "ERROR: [071]: more than " ++ (decimal limit ++ codes "\n")
 error_line (HeaderForm info) = codes "ERROR: [032]: WAL header is not valid\n"
 error_line (SegmentSize told found) = codes "ERROR: [031]: segment size " ++ (decimal told ++ (codes ", found " ++ (decimal found ++ codes " bytes\n")))
 error_line (HeaderMismatch kept found) = codes "ERROR: [033]: stanza has system " ++ (decimal kept ++ (codes ", WAL has system " ++ (decimal found ++ codes "\n")))

@@ -4,15 +4,14 @@ use Rattle.sha1.specs.Sha1.{sha1}
 use Rattle.pgb_outside.specs.Content.{Content}
 use Rattle.pgb_outside.specs.Tree.{Nodes}
 use Rattle.pgb_model.specs.declared.clusters.ClusterId.{ClusterId}
-use Rattle.pgb_model.specs.declared.wal.ArchiveName.TheVariants.{Segment as Whole}
-use Rattle.pgb_model.specs.declared.wal.Segment.{Segment}
+use Rattle.pgb_model.specs.declared.wal.ArchiveName.{ArchiveName}
 use Rattle.pgb_model.specs.Text.{Text}
-use Rattle.pgb_model.specs.Names.{segment_text}
+use Rattle.pgb_model.specs.Names.{wal_text}
 use Rattle.pgb_model.specs.Create.{lacks_pairs}
 use Rattle.pgb_stanza.specs.declared.control.Control.{Control}
 use Rattle.pgb_archive.specs.declared.fault.ArchiveFault.{ArchiveFault}
-use Rattle.pgb_archive.specs.declared.fault.ArchiveFault.TheVariants.{HeaderForm as FormOf, SegmentSize as SizeOf, HeaderMismatch as MismatchOf, Ambiguous as AmbiguousOf, Duplicate as DuplicateOf}
-use Rattle.pgb_archive.specs.Causes.{IsSegmentOf, PushCause}
+use Rattle.pgb_archive.specs.declared.fault.ArchiveFault.TheVariants.{HeaderForm as FormOf, SegmentSize as SizeOf, HeaderMismatch as MismatchOf, Ambiguous as AmbiguousOf, Duplicate as DuplicateOf, TooLong as LongOf}
+use Rattle.pgb_archive.specs.Causes.{IsFileOf, limit_of, PushCause}
 use Rattle.pgb_archive.specs.Stored.{StoresNone, StoresOnly}
 use Rattle.pgb_options.specs.Settings.{Settled}
 use Rattle.pgb_command.specs.declared.fault.Unbuilt.{Unbuilt}
@@ -24,7 +23,7 @@ use Rattle.pgb_command.specs.Configuring.{ConfigCause}
 use Rattle.pgb_command.specs.Locking.{backup_lock, archive_lock}
 use Rattle.pgb_command.specs.Answers.{Ending, finished, absent, refused, Answer, same_line}
 use Rattle.pgb_command.specs.Cluster.{FolderTells, ClusterCause}
-use Rattle.pgb_command.specs.WalPath.{segment_limit, IsWalPath, HasWal}
+use Rattle.pgb_command.specs.WalPath.{IsWalPath, HasWal}
 use Rattle.pgb_command.specs.WalCause.{WordCause, FileCause}
 use Rattle.pgb_command.specs.Getting.{IsServed, IsMissing, GetFileCause}
 use Rattle.pgb_command.specs.Storing.{HasCurrent, id_kept, identity_kept, identity_told, ValueCause, CurrentCause}
@@ -49,42 +48,42 @@ pub record IsCurrent (stanza : Text) (repo : Option Content) (nodes : Option Nod
   pub current : IfSome repo (λ f. HasCurrent stanza f c)
   pub same : identity_kept c ≡ identity_told told
 
--- and the word names a segment, of which the data folder has these bytes
-pub record IsReady (stanza folder path : Text) (repo : Option Content) (nodes : Option Nodes) (segment : Segment) (bytes : Text) (told : Control) (c : ClusterId) : Type 0 where
-  pub has : IfSome nodes (λ f. HasWal f folder path (Whole segment) bytes)
+-- and the word names a file of the log, of which the data folder has these bytes
+pub record IsReady (stanza folder path : Text) (repo : Option Content) (nodes : Option Nodes) (wal : ArchiveName) (bytes : Text) (told : Control) (c : ClusterId) : Type 0 where
+  pub has : IfSome nodes (λ f. HasWal f folder path wal bytes)
   pub of : IsCurrent stanza repo nodes told c
 
--- the segment is refused for its content
-pub record IsRefusedSegment (stanza folder path : Text) (repo : Option Content) (nodes : Option Nodes) (fault : ArchiveFault) : Type 0 where
-  pub segment : Segment
+-- the file is refused for its content
+pub record IsRefusedPush (stanza folder path : Text) (repo : Option Content) (nodes : Option Nodes) (fault : ArchiveFault) : Type 0 where
+  pub wal : ArchiveName
   pub bytes : Text
   pub told : Control
   pub current : ClusterId
-  pub ready : IsReady stanza folder path repo nodes segment bytes told current
-  pub cause : PushCause stanza (id_kept current) segment told.system bytes repo ⊥ fault
+  pub ready : IsReady stanza folder path repo nodes wal bytes told current
+  pub cause : PushCause stanza (id_kept current) wal told.system bytes repo ⊥ fault
 
--- the segment's file isn't there or is too long, and all that is looked at before is well
+-- the file isn't there or is too long, and all that is looked at before is well
 pub record IsRefusedFile (stanza folder path : Text) (repo : Option Content) (nodes : Option Nodes) (fault : Fault) : Type 0 where
-  pub segment : Segment
-  pub named : IsWalPath folder path (Whole segment)
+  pub wal : ArchiveName
+  pub named : IsWalPath folder path wal
   pub told : Control
   pub current : ClusterId
   pub of : IsCurrent stanza repo nodes told current
-  pub cause : FileCause path (segment_text segment) segment_limit nodes ⊥ fault
+  pub cause : FileCause path (wal_text wal) (limit_of wal) nodes ⊥ fault
 
--- Why a segment that the word names isn't stored.
+-- Why a file that the word names isn't stored.
 abbrev pub StoreCause : Text → Text → Text → Option Content → Option Nodes → Type 0 → Type 0 → Type 0 → Type 0 → Fault → Type 0
 StoreCause stanza folder path repo nodes disk_rose tree_rose lock_rose held (Held name) = (string_bytes name ≡ archive_lock stanza) × held
 StoreCause stanza folder path repo nodes disk_rose tree_rose lock_rose held (StanzaMissing word) = TellsSome nodes × ValueCause stanza repo ⊥ (StanzaMissing word)
 StoreCause stanza folder path repo nodes disk_rose tree_rose lock_rose held (InfoDamaged name main copy) = TellsSome nodes × ValueCause stanza repo ⊥ (InfoDamaged name main copy)
 StoreCause stanza folder path repo nodes disk_rose tree_rose lock_rose held (StanzaMismatch kept found) = (told : Control) × IfSome nodes (λ f. FolderTells f told) × CurrentCause stanza told repo ⊥ (StanzaMismatch kept found)
 StoreCause stanza folder path repo nodes disk_rose tree_rose lock_rose held (SegmentMissing word) = IsRefusedFile stanza folder path repo nodes (SegmentMissing word)
-StoreCause stanza folder path repo nodes disk_rose tree_rose lock_rose held (TooLong word limit) = IsRefusedFile stanza folder path repo nodes (TooLong word limit)
-StoreCause stanza folder path repo nodes disk_rose tree_rose lock_rose held (HeaderForm info) = IsRefusedSegment stanza folder path repo nodes (FormOf info)
-StoreCause stanza folder path repo nodes disk_rose tree_rose lock_rose held (SegmentSize told found) = IsRefusedSegment stanza folder path repo nodes (SizeOf told found)
-StoreCause stanza folder path repo nodes disk_rose tree_rose lock_rose held (HeaderMismatch kept found) = IsRefusedSegment stanza folder path repo nodes (MismatchOf kept found)
-StoreCause stanza folder path repo nodes disk_rose tree_rose lock_rose held (Ambiguous first second) = IsRefusedSegment stanza folder path repo nodes (AmbiguousOf first second)
-StoreCause stanza folder path repo nodes disk_rose tree_rose lock_rose held (Duplicate kept found) = IsRefusedSegment stanza folder path repo nodes (DuplicateOf kept found)
+StoreCause stanza folder path repo nodes disk_rose tree_rose lock_rose held (TooLong word limit) = IsRefusedFile stanza folder path repo nodes (TooLong word limit) ⊎ IsRefusedPush stanza folder path repo nodes (LongOf word limit)
+StoreCause stanza folder path repo nodes disk_rose tree_rose lock_rose held (HeaderForm info) = IsRefusedPush stanza folder path repo nodes (FormOf info)
+StoreCause stanza folder path repo nodes disk_rose tree_rose lock_rose held (SegmentSize told found) = IsRefusedPush stanza folder path repo nodes (SizeOf told found)
+StoreCause stanza folder path repo nodes disk_rose tree_rose lock_rose held (HeaderMismatch kept found) = IsRefusedPush stanza folder path repo nodes (MismatchOf kept found)
+StoreCause stanza folder path repo nodes disk_rose tree_rose lock_rose held (Ambiguous first second) = IsRefusedPush stanza folder path repo nodes (AmbiguousOf first second)
+StoreCause stanza folder path repo nodes disk_rose tree_rose lock_rose held (Duplicate kept found) = IsRefusedPush stanza folder path repo nodes (DuplicateOf kept found)
 StoreCause stanza folder path repo nodes disk_rose tree_rose lock_rose held Disk = disk_rose
 StoreCause stanza folder path repo nodes disk_rose tree_rose lock_rose held Locks = lock_rose
 StoreCause stanza folder path repo nodes disk_rose tree_rose lock_rose held other = ClusterCause nodes tree_rose other
@@ -92,18 +91,18 @@ StoreCause stanza folder path repo nodes disk_rose tree_rose lock_rose held othe
 -- Why archive-push is refused: the word comes first.
 abbrev pub PushFileCause : Text → Text → Text → Option Content → Option Nodes → Type 0 → Type 0 → Type 0 → Type 0 → Fault → Type 0
 PushFileCause stanza folder path repo nodes disk_rose tree_rose lock_rose held fault =
-    WordCause folder path fault ⊎ (((s : Segment) × IsWalPath folder path (Whole s)) × StoreCause stanza folder path repo nodes disk_rose tree_rose lock_rose held fault)
+    WordCause folder path fault ⊎ (((wal : ArchiveName) × IsWalPath folder path wal) × StoreCause stanza folder path repo nodes disk_rose tree_rose lock_rose held fault)
 
--- Ok of archive-push, with its lines: none where the segment wasn't stored, and a warning where it was, with the same sum.
+-- Ok of archive-push, with its lines: none where the file wasn't stored, and a warning where it was, with the same sum.
 pub record IsStored (stanza folder path : Text) (repo : Option Content) (nodes : Option Nodes) (lines : Text) : Type 0 where
-  pub segment : Segment
+  pub wal : ArchiveName
   pub bytes : Text
   pub told : Control
   pub current : ClusterId
-  pub ready : IsReady stanza folder path repo nodes segment bytes told current
-  pub valid : IsSegmentOf bytes told.system
-  pub told_by : ((lines ≡ []) × IfSome repo (λ f. StoresNone stanza (id_kept current) segment f))
-      ⊎ ((lines ≡ same_line (segment_text segment)) × IfSome repo (λ f. StoresOnly stanza (id_kept current) segment f (sha1 bytes)))
+  pub ready : IsReady stanza folder path repo nodes wal bytes told current
+  pub valid : IsFileOf wal bytes told.system
+  pub told_by : ((lines ≡ []) × IfSome repo (λ f. StoresNone stanza (id_kept current) wal f))
+      ⊎ ((lines ≡ same_line (wal_text wal)) × IfSome repo (λ f. StoresOnly stanza (id_kept current) wal f (sha1 bytes)))
 
 -- ---- all
 
@@ -111,7 +110,7 @@ pub record IsStored (stanza folder path : Text) (repo : Option Content) (nodes :
 pub data AskedCause (a : Asked) (repo : Option Content) (nodes : Option Nodes) (disk_rose tree_rose lock_rose held : Type 0) : Ending → Type 0 where
   -- the stanza is made
   Made : a.request ≡ create → IfSome repo (λ f. lacks_pairs a.stanza f ≡ true) → TellsSome nodes → AskedCause a repo nodes disk_rose tree_rose lock_rose held (finished [])
-  -- the segment is stored
+  -- the wal is stored
   Stored : (path lines : Text) → a.request ≡ push path → IsStored a.stanza a.data_folder path repo nodes lines → AskedCause a repo nodes disk_rose tree_rose lock_rose held (finished lines)
   -- the file is served
   Given : (name path : Text) (bytes : Text) → a.request ≡ get name path → IsServed a.stanza a.data_folder name path repo nodes bytes → AskedCause a repo nodes disk_rose tree_rose lock_rose held (finished [])

@@ -6,13 +6,11 @@ use Rattle.pgb_stanza.specs.declared.fault.StanzaFault.TheVariants.{Disk as Stan
 use Rattle.pgb_stanza.specs.declared.control.ControlFault.{ControlFault}
 use Rattle.pgb_stanza.specs.declared.control.ControlFault.TheVariants.{ControlShort as ShortControl, VersionText as NoVersion, VersionUnsupported as OtherVersion}
 use Rattle.pgb_archive.specs.declared.fault.ArchiveFault.{ArchiveFault}
-use Rattle.pgb_archive.specs.declared.fault.ArchiveFault.TheVariants.{HeaderForm as FormOf, SegmentSize as SizeOf, HeaderMismatch as MismatchOf, Ambiguous as AmbiguousOf, Duplicate as DuplicateOf, Disk as ArchiveDisk, NoMemory as ArchiveNoMemory}
-use Rattle.pgb_archive.specs.declared.getting.GetFault.{GetFault}
-use Rattle.pgb_archive.specs.declared.getting.GetFault.TheVariants.{Ambiguous as AmbiguousGot, NotFound, SegmentDamaged as DamagedGot, TooLong as LongGot, Disk as GetDisk, NoMemory as GetNoMemory}
+use Rattle.pgb_archive.specs.declared.fault.ArchiveFault.TheVariants.{HeaderForm as FormOf, SegmentSize as SizeOf, HeaderMismatch as MismatchOf, Ambiguous as AmbiguousOf, Duplicate as DuplicateOf, NotFound, SegmentDamaged as DamagedOf, TooLong as LongOf, TooMany as ManyOf, Disk as ArchiveDisk, NoMemory as ArchiveNoMemory}
 use Rattle.pgb_options.specs.declared.usage.Usage.{Usage}
 use Rattle.pgb_options.specs.declared.usage.Usage.TheVariants.{NoMemory as UsageNoMemory}
 use Rattle.pgb_command.specs.declared.fault.Fault.{Fault}
-use Rattle.pgb_command.specs.declared.fault.Fault.TheVariants.{Settings, ControlShort, VersionText, VersionUnsupported, HeaderForm, SegmentSize, HeaderMismatch, Ambiguous, Duplicate, SegmentDamaged, TooLong, Disk, Tree, Source, NoMemory}
+use Rattle.pgb_command.specs.declared.fault.Fault.TheVariants.{Settings, ControlShort, VersionText, VersionUnsupported, HeaderForm, SegmentSize, HeaderMismatch, Ambiguous, Duplicate, SegmentDamaged, TooLong, TooMany, Disk, Tree, Source, NoMemory}
 
 abbrev pub of_tree : Stop → Fault
 of_tree Failed = Tree
@@ -41,13 +39,9 @@ of_archive (SizeOf told found) = SegmentSize told found
 of_archive (MismatchOf kept found) = HeaderMismatch kept found
 of_archive (AmbiguousOf first second) = Ambiguous first second
 of_archive (DuplicateOf kept found) = Duplicate kept found
+of_archive NotFound = NoMemory
+of_archive (DamagedOf told found) = SegmentDamaged told found
+of_archive (LongOf name limit) = TooLong name limit
+of_archive (ManyOf limit) = TooMany limit
 of_archive ArchiveDisk = Disk
 of_archive ArchiveNoMemory = NoMemory
-
-abbrev pub of_got : GetFault → Fault
-of_got (AmbiguousGot first second) = Ambiguous first second
-of_got NotFound = NoMemory
-of_got (DamagedGot told found) = SegmentDamaged told found
-of_got (LongGot name limit) = TooLong name limit
-of_got GetDisk = Disk
-of_got GetNoMemory = NoMemory

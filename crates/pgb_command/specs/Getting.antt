@@ -1,7 +1,6 @@
 -- What archive-get serves, and why it doesn't (pgBackRest command reference, "Archive Get Command").
 use Rattle.std.specs.Prelude.{◌≡◌, ◌≢◌, ◌<◌, ◌+◌, ◌++◌, ℕ, List, [], Option, Some, None, IfSome, IsSome, drop, length, codes, if◌then◌else◌, string_bytes}
 use Rattle.sha1.specs.Sha1.{sha1}
-use Rattle.pgb_text.specs.Sum.{sum_text}
 use Rattle.pgb_outside.specs.Content.{Content, Name, at, is_below}
 use Rattle.pgb_outside.specs.Tree.{Nodes, file_bytes}
 use Rattle.pgb_model.specs.declared.clusters.ClusterId.{ClusterId}
@@ -9,17 +8,17 @@ use Rattle.pgb_model.specs.declared.wal.ArchiveId.{ArchiveId}
 use Rattle.pgb_model.specs.declared.wal.ArchiveName.{ArchiveName}
 use Rattle.pgb_model.specs.Text.{Text, In}
 use Rattle.pgb_model.specs.Fields.{at_number}
-use Rattle.pgb_model.specs.Names.{archive_info, archive_name, wal_text}
+use Rattle.pgb_model.specs.Names.{archive_info, wal_text}
 use Rattle.pgb_model.specs.Pair.{PairIs}
 use Rattle.pgb_model.specs.Paths.{IsPath}
 use Rattle.pgb_model.specs.Values.{ArchiveInfo}
 use Rattle.pgb_model.specs.InfoFiles.{IsArchiveText}
 use Rattle.pgb_model.specs.Stands.{IsWalName}
 use Rattle.pgb_stanza.specs.declared.control.Control.{Control}
-use Rattle.pgb_archive.specs.declared.getting.GetFault.{GetFault}
-use Rattle.pgb_archive.specs.declared.getting.GetFault.TheVariants.{Ambiguous as AmbiguousOf, SegmentDamaged as DamagedOf, TooLong as LongOf}
-use Rattle.pgb_archive.specs.Files.{GetCause}
-use Rattle.pgb_archive.specs.Files.{StoresNone, StoresOnly}
+use Rattle.pgb_archive.specs.declared.fault.ArchiveFault.{ArchiveFault}
+use Rattle.pgb_archive.specs.declared.fault.ArchiveFault.TheVariants.{Ambiguous as AmbiguousOf, SegmentDamaged as DamagedOf, TooLong as LongOf}
+use Rattle.pgb_archive.specs.Causes.{StoresBytes, GetCause}
+use Rattle.pgb_archive.specs.Stored.{StoresNone}
 use Rattle.pgb_command.specs.declared.fault.Fault.{Fault}
 use Rattle.pgb_command.specs.declared.fault.Fault.TheVariants.{SegmentName, PathOutside, StanzaMissing, InfoDamaged, StanzaMismatch, Ambiguous, SegmentDamaged, TooLong, Disk, NoMemory}
 use Rattle.pgb_command.specs.Answers.{Ending, finished, absent, refused}
@@ -56,39 +55,34 @@ HasSame history told = (c : ClusterId) × In c history × IsSame told c
 abbrev pub NoneAbove : List ClusterId → Text → Control → ArchiveName → ClusterId → Content → Type 0
 NoneAbove history stanza told name c f = (d : ClusterId) → In d history → IsSame told d → c.id < d.id → StoresNone stanza (id_kept d) name f
 
--- the file is stored once under this id, with these bytes, whose sum is that in its name
-pub record HasOnly (stanza : Text) (id : ArchiveId) (name : ArchiveName) (bytes : Text) (f : Content) : Type 0 where
-  pub only : StoresOnly stanza id name f (sha1 bytes)
-  pub holds : f (archive_name stanza id name (sum_text (sha1 bytes))) ≡ Some bytes
-
 -- the highest of them that has the file has these bytes
 pub record FoundIn (history : List ClusterId) (stanza : Text) (told : Control) (name : ArchiveName) (bytes : Text) (f : Content) : Type 0 where
   pub cluster : ClusterId
   pub listed : In cluster history
   pub same : IsSame told cluster
   pub above : NoneAbove history stanza told name cluster f
-  pub has : HasOnly stanza (id_kept cluster) name bytes f
+  pub has : StoresBytes stanza (id_kept cluster) name f (sha1 bytes) bytes
 
 -- none of them has it
 pub record AbsentIn (history : List ClusterId) (stanza : Text) (told : Control) (name : ArchiveName) (f : Content) : Type 0 where
   pub none : (c : ClusterId) → In c history → IsSame told c → StoresNone stanza (id_kept c) name f
 
 -- the highest of them that has it is refused
-pub record RefusedIn (history : List ClusterId) (stanza : Text) (told : Control) (name : ArchiveName) (repo : Option Content) (fault : GetFault) : Type 0 where
+pub record RefusedIn (history : List ClusterId) (stanza : Text) (told : Control) (name : ArchiveName) (repo : Option Content) (fault : ArchiveFault) : Type 0 where
   pub cluster : ClusterId
   pub listed : In cluster history
   pub same : IsSame told cluster
   pub above : IfSome repo (NoneAbove history stanza told name cluster)
   pub cause : GetCause stanza (id_kept cluster) name repo ⊥ fault
 
--- why a file isn't got under an id
-abbrev pub UnderCause : Text → ArchiveId → ArchiveName → Option Content → Type 0 → Fault → Type 0
-UnderCause stanza id name repo rose (Ambiguous first second) = GetCause stanza id name repo ⊥ (AmbiguousOf first second)
-UnderCause stanza id name repo rose (SegmentDamaged sum found) = GetCause stanza id name repo ⊥ (DamagedOf sum found)
-UnderCause stanza id name repo rose (TooLong path limit) = GetCause stanza id name repo ⊥ (LongOf path limit)
-UnderCause stanza id name repo rose Disk = rose
-UnderCause stanza id name repo rose NoMemory = Unit {0}
-UnderCause stanza id name repo rose other = ⊥
+-- why a file isn't got under the id of a cluster that is the data folder's
+abbrev pub UnderCause : Type 0 → Text → ArchiveId → ArchiveName → Option Content → Type 0 → Fault → Type 0
+UnderCause same stanza id name repo rose (Ambiguous first second) = same × GetCause stanza id name repo ⊥ (AmbiguousOf first second)
+UnderCause same stanza id name repo rose (SegmentDamaged sum found) = same × GetCause stanza id name repo ⊥ (DamagedOf sum found)
+UnderCause same stanza id name repo rose (TooLong path limit) = same × GetCause stanza id name repo ⊥ (LongOf path limit)
+UnderCause same stanza id name repo rose Disk = rose
+UnderCause same stanza id name repo rose NoMemory = Unit {0}
+UnderCause same stanza id name repo rose other = ⊥
 
 -- why a search ends without an answer
 abbrev pub SearchCause : List ClusterId → Text → Control → ArchiveName → Option Content → Type 0 → Fault → Type 0
@@ -144,7 +138,7 @@ FolderGoes folder (get name path) old new = ChangesPath (served_path folder path
 -- ---- why it isn't
 
 -- of the archive pair's history, the highest id that has the file has it twice, damaged, or too long
-abbrev pub RefusedOf : Text → Control → ArchiveName → Option Content → GetFault → Type 0
+abbrev pub RefusedOf : Text → Control → ArchiveName → Option Content → ArchiveFault → Type 0
 RefusedOf stanza told name repo fault = (v : ArchiveInfo) × IfSome repo (λ f. PairIs IsArchiveText f (archive_info stanza) v) × RefusedIn v.history stanza told name repo fault
 
 -- why a file isn't had from the repository, for a data folder that tells this

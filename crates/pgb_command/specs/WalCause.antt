@@ -1,20 +1,16 @@
--- Why the segment that archive-push is told can't be read.
+-- Why the file that archive-push is told can't be read.
 use Rattle.std.specs.Prelude.{◌≡◌, ◌≢◌, ◌<◌, ℕ, Option, None, length, IfSome, IsSomeAnd, string_bytes}
 use Rattle.pgb_outside.specs.Tree.{Nodes, file_bytes}
 use Rattle.pgb_model.specs.declared.wal.ArchiveName.{ArchiveName}
-use Rattle.pgb_model.specs.declared.wal.ArchiveName.TheVariants.{Segment as Whole}
-use Rattle.pgb_model.specs.declared.wal.Segment.{Segment}
 use Rattle.pgb_model.specs.Text.{Text}
 use Rattle.pgb_model.specs.Names.{wal_text}
 use Rattle.pgb_model.specs.Stands.{IsWalName}
-use Rattle.pgb_command.specs.declared.fault.Unbuilt.TheVariants.{ArchiveFile}
 use Rattle.pgb_command.specs.declared.fault.Fault.{Fault}
-use Rattle.pgb_command.specs.declared.fault.Fault.TheVariants.{NotBuilt, SegmentName, PathOutside, SegmentMissing, TooLong, Tree, NoMemory}
+use Rattle.pgb_command.specs.declared.fault.Fault.TheVariants.{SegmentName, PathOutside, SegmentMissing, TooLong, Tree, NoMemory}
 use Rattle.pgb_command.specs.WalPath.{IsLastElement, wal_path, IsWalPath}
 
--- the word isn't that of a segment in the log's folder
+-- the word isn't that of a file in the log's folder
 abbrev pub WordCause : Text → Text → Fault → Type 0
-WordCause folder path (NotBuilt ArchiveFile) = (name : ArchiveName) × IsWalPath folder path name × ((s : Segment) → name ≢ Whole s)
 WordCause folder path (SegmentName word) = IsLastElement path (string_bytes word) × ((name : ArchiveName) → IsWalName name → string_bytes word ≢ wal_text name)
 WordCause folder path (PathOutside word) = (string_bytes word ≡ path) × ((name : ArchiveName) → ¬ IsWalPath folder path name) × ((name : ArchiveName) × IsLastElement path (wal_text name))
 WordCause folder path NoMemory = Unit {0}

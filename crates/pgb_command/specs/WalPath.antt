@@ -1,5 +1,5 @@
 -- Which file of the data folder's log a word names (PostgreSQL manual, "Continuous Archiving and Point-in-Time Recovery": `%p`).
-use Rattle.std.specs.Prelude.{◌≡◌, ◌⊎◌, ◌++◌, ◌∷◌, ◌^◌, ◌≢◌, ℕ, codes, Some}
+use Rattle.std.specs.Prelude.{◌≡◌, ◌⊎◌, ◌++◌, ◌∷◌, ◌≢◌, codes, Some}
 use Rattle.std.specs.List.{AllByRecursion}
 use Rattle.pgb_outside.specs.Tree.{Nodes, file_bytes}
 use Rattle.pgb_model.specs.declared.wal.ArchiveName.{ArchiveName}
@@ -14,10 +14,6 @@ IsLastElement path last = AllByRecursion (λ c. c ≢ 47) last × ((path ≡ las
 -- the file's path below the data folder
 abbrev pub wal_path : Text → Text
 wal_path name = codes "pg_wal/" ++ name
-
--- a segment has at most 1 GiB (PostgreSQL manual, "initdb")
-abbrev pub segment_limit : ℕ
-segment_limit = 2 ^ 30
 
 -- the path is that file's, from the data folder or from the root
 abbrev pub IsPathOf : Text → Text → Text → Type 0

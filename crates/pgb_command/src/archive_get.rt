@@ -1,5 +1,5 @@
 // archive-get.
-ghost use Rattle.std.specs.Prelude.{◌≡◌, ◌≤◌, Some, OnOk, IfOk, IfErr, IfSome, IfNone};
+ghost use Rattle.std.specs.Prelude.{◌≡◌, ◌≤◌, ◌++◌, codes, string_bytes, Some, OnOk, IfOk, IfErr, IfSome, IfNone};
 ghost use Rattle.pgb_outside.specs.Moments.{Rests};
 ghost use Rattle.pgb_outside.specs.Cause.{Rises};
 ghost use Rattle.pgb_model.specs.declared.clusters.ClusterId.{ClusterId};
@@ -26,7 +26,7 @@ use pgb_outside::{Disk, Tree};
 use pgb_paths::check_name;
 use pgb_stanza::Control;
 use pgb_wal::read_archive_name;
-use std::alloc::Global;
+use std::alloc::{AllocError, Global};
 
 // A file of the archive, and the path below the data folder at which it is wanted.
 #[derive(Drop)]
@@ -35,16 +35,20 @@ struct Wanted<'a> {
     path: &'a str,
 }
 
-// The path below the data folder.
-fn served_path<'a>(folder: &str, path: &'a str) -> &'a str
-    ensures { result.now ≡ served_path folder.now path.now }
+fn front_of(alloc: Global, folder: &str) -> Result<String, AllocError>
+    ensures { IfOk result (λ front. string_bytes front ≡ folder.now ++ codes "/") }
 {
-    match path.strip_prefix(folder) {
-        Some(rest) => match rest.strip_prefix('/') {
-            Some(inside) => inside,
-            None => path,
-        },
-        None => path,
+    format!(in alloc; "{folder}/")
+}
+
+// The path below the data folder.
+fn served_path<'a>(alloc: Global, folder: &str, path: &'a str) -> Result<&'a str, AllocError>
+    ensures { IfOk result (λ inside. inside.now ≡ served_path folder.now path.now) }
+{
+    let front = front_of(alloc, folder)?;
+    match path.strip_prefix(front.as_str()) {
+        Some(inside) => Ok(inside),
+        None => Ok(path),
     }
 }
 
@@ -63,7 +67,7 @@ fn wanted_by<'a>(
             name: String::from_str(alloc, word)?,
         });
     };
-    let inside = served_path(folder, path);
+    let inside = served_path(alloc, folder, path)?;
     if check_name(inside).is_err() {
         return Err(Fault::PathOutside {
             path: String::from_str(alloc, path)?,

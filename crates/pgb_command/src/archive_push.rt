@@ -1,11 +1,11 @@
 // archive-push.
 ghost use Rattle.std.specs.Prelude.{◌≡◌, ◌≤◌, true, false, OnOk, IfOk, IfErr, IfSome, IsSome, IsSomeAnd, string_bytes, Contains};
 ghost use Rattle.pgb_outside.specs.Cause.{Rises};
-ghost use Rattle.pgb_model.specs.declared.wal.ArchiveName.TheVariants.{Segment as Whole};
-ghost use Rattle.pgb_model.specs.Names.{segment_text};
+ghost use Rattle.pgb_model.specs.Names.{wal_text};
 ghost use Rattle.pgb_model.specs.Now.{NowDoes};
 ghost use Rattle.pgb_model.specs.Steps.{Command, Reading};
 ghost use Rattle.pgb_model.specs.Steady.{CarriesOn, PassesOnly};
+ghost use Rattle.pgb_archive.specs.Causes.{limit_of};
 ghost use Rattle.pgb_command.specs.Answers.{finished, OnFinding};
 ghost use Rattle.pgb_command.specs.Causes.{IsStored, StoreCause, PushFileCause};
 ghost use Rattle.pgb_command.specs.Locking.{archive_lock, Locks as IsLocked, OnlyLocked, MayHold};
@@ -20,13 +20,21 @@ use crate::fault::Fault;
 use crate::opening::prepare;
 use crate::outcome::Outcome;
 use crate::settings::Settings;
-use crate::wal_file::{WalFile, read_segment_file, segment_at};
+use crate::wal_file::{WalFile, file_at, read_file};
 use pgb_archive::{Pushed, push};
+use pgb_model::ArchiveName;
 use pgb_outside::{Disk, Locks, Tree};
 use std::alloc::Global;
 
-// A segment has at most 1 GiB.
-const SEGMENT_LIMIT: usize = 1 << 30;
+// A segment has at most 1 GiB, and a history 1 MiB.
+fn limit_of(name: &ArchiveName) -> usize
+    ensures { result ≡ limit_of name.now }
+{
+    match name {
+        ArchiveName::Segment(_) | ArchiveName::Partial(_) => 1 << 30,
+        ArchiveName::History(_) | ArchiveName::Backup(..) => 1 << 20,
+    }
+}
 
 // What a push did, as the output tells it.
 fn outcome_of(pushed: Pushed, name: String) -> Outcome
@@ -38,7 +46,7 @@ fn outcome_of(pushed: Pushed, name: String) -> Outcome
     }
 }
 
-// Stores the segment under the id of the current cluster.
+// Stores the file under the id of the current cluster.
 fn store<D: Disk, T: Tree>(
     alloc: Global,
     repo: &mut D,
@@ -47,7 +55,7 @@ fn store<D: Disk, T: Tree>(
     path: &str,
     file: WalFile,
 ) -> Result<Outcome, Fault>
-    requires { IsWalPath settings.now.pg1_path.now path.now (Whole file.segment) × (string_bytes file.name ≡ segment_text file.segment) }
+    requires { IsWalPath settings.now.pg1_path.now path.now file.name × (string_bytes file.text ≡ wal_text file.name) }
     ensures done { OnOk result ((command : Command) → IsSomeAnd (T.nodes tree.old) (λ f. IsPushOf f settings.now.pg1_path.now path.now command)
         → NowDoes settings.now.stanza.now command true (D.view repo.old).now (D.view repo.new).now) }
     ensures part { (command : Command) → IsSomeAnd (T.nodes tree.old) (λ f. IsPushOf f settings.now.pg1_path.now path.now command)
@@ -68,20 +76,23 @@ fn store<D: Disk, T: Tree>(
 {
     let told = read_cluster(alloc, tree)?;
     let id = current_id(alloc, repo, settings.stanza, &told)?;
-    let bytes = read_segment_file(alloc, tree, path, &file.name, SEGMENT_LIMIT)?;
+    let bytes = read_file(alloc, tree, path, &file.text, limit_of(&file.name))?;
+    let ArchiveName::Segment(segment) = &file.name else {
+        return Err(Fault::NoMemory);
+    };
     let pushed = push(
         alloc,
         repo,
         settings.stanza,
         &id,
-        &file.segment,
+        segment,
         told.system,
         &bytes,
     )?;
-    Ok(outcome_of(pushed, file.name))
+    Ok(outcome_of(pushed, file.text))
 }
 
-/// Stores the segment that the path names.
+/// Stores the file that the path names.
 pub(crate) fn push_file<D: Disk, T: Tree, K: Locks>(
     alloc: Global,
     repo: &mut D,
@@ -122,7 +133,7 @@ pub(crate) fn push_file<D: Disk, T: Tree, K: Locks>(
     ensures repo_later { D.faults repo.old ≤ D.faults repo.new }
     ensures tree_later { T.faults tree.old ≤ T.faults tree.new }
 {
-    let file = segment_at(alloc, settings.pg1_path, path)?;
+    let file = file_at(alloc, settings.pg1_path, path)?;
     prepare(alloc, repo, tree, locks, settings, lock)?;
     let outcome = store(alloc, repo, tree, settings, path, file)?;
     Ok(outcome)

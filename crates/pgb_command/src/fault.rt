@@ -3,7 +3,7 @@ ghost use Rattle.std.specs.Prelude.{◌≡◌};
 ghost use Rattle.pgb_command.specs.Answers.{status_of, usage_status};
 ghost use Rattle.pgb_command.specs.Faults.{of_tree, of_source};
 
-use pgb_archive::{ArchiveFault, GetFault};
+use pgb_archive::ArchiveFault;
 use pgb_info::MemberFault;
 use pgb_options::{Usage, Verb};
 use pgb_outside::Stop;
@@ -22,8 +22,6 @@ pub enum Unbuilt {
     Background,
     /// stanza-create where one of the info files is there
     ExistingStanza,
-    /// archive-push of a file that is no whole segment
-    ArchiveFile,
 }
 
 /// A file that tells the cluster.
@@ -96,6 +94,10 @@ pub enum Fault {
     /// The file has more than `limit` bytes.
     TooLong {
         name: String,
+        limit: u64,
+    },
+    /// There are more than `limit` of them.
+    TooMany {
         limit: u64,
     },
     /// The segment's first page has no long header.
@@ -218,25 +220,12 @@ impl From<ArchiveFault> for Fault {
             ArchiveFault::HeaderMismatch { kept, found } => Fault::HeaderMismatch { kept, found },
             ArchiveFault::Ambiguous { first, second } => Fault::Ambiguous { first, second },
             ArchiveFault::Duplicate { kept, found } => Fault::Duplicate { kept, found },
+            ArchiveFault::SegmentDamaged { told, found } => Fault::SegmentDamaged { told, found },
+            ArchiveFault::TooLong { name, limit } => Fault::TooLong { name, limit },
+            ArchiveFault::TooMany { limit } => Fault::TooMany { limit },
             ArchiveFault::Disk => Fault::Disk,
-            ArchiveFault::NoMemory => Fault::NoMemory,
-        }
-    }
-}
-
-impl From<GetFault> for Fault {
-    ghost use Rattle.std.specs.Prelude.{◌≡◌};
-    ghost use Rattle.pgb_command.specs.Faults.{of_got};
-
-    ghost from_gives = { λ s e. e ≡ of_got s };
-
-    fn from(fault: GetFault) -> Self {
-        match fault {
-            GetFault::Ambiguous { first, second } => Fault::Ambiguous { first, second },
-            GetFault::SegmentDamaged { told, found } => Fault::SegmentDamaged { told, found },
-            GetFault::TooLong { name, limit } => Fault::TooLong { name, limit },
-            GetFault::Disk => Fault::Disk,
-            GetFault::NotFound | GetFault::NoMemory => Fault::NoMemory,
+            // that a file isn't there is no refusal, and is told by its reader
+            ArchiveFault::NotFound | ArchiveFault::NoMemory => Fault::NoMemory,
         }
     }
 }
@@ -300,6 +289,7 @@ pub(crate) fn status(fault: &Fault) -> u8
         Fault::StanzaMismatch { .. } => 23,
         Fault::SegmentMissing { .. } => 37,
         Fault::TooLong { .. } => 70,
+        Fault::TooMany { .. } => 71,
         Fault::HeaderForm { .. } => 32,
         Fault::SegmentSize { .. } => 31,
         Fault::HeaderMismatch { .. } => 33,

@@ -17,7 +17,6 @@ fn part_name(what: Unbuilt) -> &'static str
         Unbuilt::Server => "online",
         Unbuilt::Background => "archive-async",
         Unbuilt::ExistingStanza => "existing stanza",
-        Unbuilt::ArchiveFile => "archive file",
     }
 }
 
@@ -265,6 +264,7 @@ pub(crate) fn line(alloc: Global, fault: &Fault) -> Result<Vec<u8>, NoMemory>
         Fault::StanzaMismatch { kept, found } => mismatch_line(alloc, kept, found),
         Fault::SegmentMissing { path } => quoted(alloc, "ERROR: [037]: '", path, "' is missing\n"),
         Fault::TooLong { name, limit } => long_line(alloc, name, *limit),
+        Fault::TooMany { limit } => bytes_of(format!(in alloc; "ERROR: [071]: more than {limit}\n")),
         Fault::HeaderForm { .. } => bytes_of(String::from_str(
             alloc,
             "ERROR: [032]: WAL header is not valid\n",

@@ -1,5 +1,5 @@
 // A file is put into the data folder.
-ghost use Rattle.std.specs.Prelude.{◌≡◌, ◌≤◌, Some, OnOk, IfErr, IfSome};
+ghost use Rattle.std.specs.Prelude.{◌≡◌, ◌≤◌, Some, OnOk, IfOk, IfErr, IfSome, string_bytes};
 ghost use Rattle.pgb_outside.specs.Cause.{HasCause, Rises};
 ghost use Rattle.pgb_outside.specs.Tree.{file_bytes};
 ghost use Rattle.pgb_command.specs.Getting.{ChangesPath, temporary_path};
@@ -7,7 +7,13 @@ ghost use Rattle.pgb_command.specs.Making.{FolderCause};
 
 use crate::fault::{Fault, of_tree};
 use pgb_outside::{Stop, Tree};
-use std::alloc::Global;
+use std::alloc::{AllocError, Global};
+
+fn temporary_name(alloc: Global, path: &str) -> Result<String, AllocError>
+    ensures { IfOk result (λ name. string_bytes name ≡ temporary_path path.now) }
+{
+    format!(in alloc; "{path}.pgbackrest.tmp")
+}
 
 // Writes a file under a temporary name, and then puts it in its place.
 fn write_and_rename<T: Tree>(
@@ -41,7 +47,7 @@ pub(crate) fn put_file<T: Tree>(
     ensures later { T.faults tree.old ≤ T.faults tree.new }
     ensures cause { IfErr result (FolderCause (Rises (T.faults tree.old) (T.faults tree.new))) }
 {
-    let temporary = format!(in alloc; "{path}.pgbackrest.tmp")?;
+    let temporary = temporary_name(alloc, path)?;
     match write_and_rename(tree, &temporary, path, bytes) {
         Ok(()) => Ok(()),
         Err(stop) => {

@@ -3,23 +3,22 @@ ghost use Rattle.std.specs.Prelude.{◌≡◌, ◌≤◌, ◌<◌, ◌+◌, ◌^
 ghost use Rattle.std.specs.declared.alloc.Global.{Global};
 ghost use Rattle.pgb_outside.specs.Tree.{file_bytes};
 ghost use Rattle.pgb_outside.specs.Cause.{HasCause, Rises};
-ghost use Rattle.pgb_model.specs.declared.wal.ArchiveName.TheVariants.{Segment as Whole};
-ghost use Rattle.pgb_model.specs.Names.{segment_text};
+ghost use Rattle.pgb_model.specs.Names.{wal_text};
 ghost use Rattle.pgb_command.specs.WalPath.{IsLastElement, IsPathOf, IsWalPath, wal_path};
 ghost use Rattle.pgb_command.specs.WalCause.{WordCause, FileCause};
 
-use crate::fault::{Fault, Unbuilt, of_tree};
+use crate::fault::{Fault, of_tree};
 use crate::reading::read_front;
-use pgb_model::{ArchiveName, Segment};
+use pgb_model::ArchiveName;
 use pgb_outside::{Known, Stop, Tree};
-use pgb_wal::{read_archive_name, segment_text};
+use pgb_wal::{archive_name_text, read_archive_name};
 use std::alloc::{AllocError, Global};
 
-/// A segment, and its name of 24 digits.
+/// A file of the log, and its name as a server gives it.
 #[derive(Drop)]
 pub(crate) struct WalFile {
-    pub(crate) segment: Segment,
-    pub(crate) name: String,
+    pub(crate) name: ArchiveName,
+    pub(crate) text: String,
 }
 
 fn last_element(path: &str) -> &str
@@ -59,20 +58,14 @@ fn name_at(alloc: Global, folder: &str, path: &str) -> Result<ArchiveName, Fault
     Ok(name)
 }
 
-/// The segment that the path names.
-pub(crate) fn segment_at(alloc: Global, folder: &str, path: &str) -> Result<WalFile, Fault>
-    ensures named { IfOk result (λ w. IsWalPath folder.now path.now (Whole w.segment) × (string_bytes w.name ≡ segment_text w.segment)) }
+/// The file that the path names.
+pub(crate) fn file_at(alloc: Global, folder: &str, path: &str) -> Result<WalFile, Fault>
+    ensures named { IfOk result (λ w. IsWalPath folder.now path.now w.name × (string_bytes w.text ≡ wal_text w.name)) }
     ensures refused { IfErr result (WordCause folder.now path.now) }
 {
-    match name_at(alloc, folder, path)? {
-        ArchiveName::Segment(segment) => Ok(WalFile {
-            segment,
-            name: segment_text(alloc, &segment)?,
-        }),
-        _ => Err(Fault::NotBuilt {
-            what: Unbuilt::ArchiveFile,
-        }),
-    }
+    let name = name_at(alloc, folder, path)?;
+    let text = archive_name_text(alloc, &name)?;
+    Ok(WalFile { name, text })
 }
 
 // The first bytes of the file, at most one more than the limit.
@@ -92,8 +85,8 @@ fn read_log_file<T: Tree>(
     read_front(alloc, tree, &what, limit + 1)
 }
 
-/// The bytes of the segment's file, at most as many as the limit.
-pub(crate) fn read_segment_file<T: Tree>(
+/// The bytes of the file, at most as many as the limit.
+pub(crate) fn read_file<T: Tree>(
     alloc: Global,
     tree: &mut T,
     path: &str,

@@ -57,8 +57,8 @@ pub returns-in_err-prepare-clause-stays : goal.returns-in_err-prepare-clause-sta
 returns-in_err-prepare-clause-stays g c = finding_all c.from_residual-in_err-prepare.result _ (still_does c.args.settings.now.stanza.now _ _ c.prepare.ensures.now, rests_carried c.args.settings.now.stanza.now _ _ c.prepare.ensures.time c.prepare.ensures.now)
 
 pub returns-in_err-prepare-clause-cause : goal.returns-in_err-prepare-clause-cause
-returns-in_err-prepare-clause-cause g c = opening_err c.args.settings.now.stanza.now c.args.settings.now.pg1_path.now c.args.path.now c.in_ok-file.file.segment c.in_ok-file.ensures.named.0 c.args.lock.now c.requires.name _ _ _ _ _ _ c.from_residual-in_err-prepare.result c.in_err-prepare.field-0.0 c.from_residual-in_err-prepare.ensures.1 c.in_err-prepare.ensures.cause
+returns-in_err-prepare-clause-cause g c = opening_err c.args.settings.now.stanza.now c.args.settings.now.pg1_path.now c.args.path.now c.in_ok-file.file.name c.in_ok-file.ensures.named.0 c.args.lock.now c.requires.name _ _ _ _ _ _ c.from_residual-in_err-prepare.result c.in_err-prepare.field-0.0 c.from_residual-in_err-prepare.ensures.1 c.in_err-prepare.ensures.cause
 
 pub returns-in_err-outcome-clause-cause : goal.returns-in_err-outcome-clause-cause
-returns-in_err-outcome-clause-cause g c = storing_err c.args.settings.now.stanza.now c.args.settings.now.pg1_path.now c.args.path.now c.in_ok-file.file.segment c.in_ok-file.ensures.named.0 _ _ _ _ _ _ _ _ _ _ c.prepare.ensures.now c.prepare.ensures.nodes
+returns-in_err-outcome-clause-cause g c = storing_err c.args.settings.now.stanza.now c.args.settings.now.pg1_path.now c.args.path.now c.in_ok-file.file.name c.in_ok-file.ensures.named.0 _ _ _ _ _ _ _ _ _ _ c.prepare.ensures.now c.prepare.ensures.nodes
     (λ rose. omega (arith, rose, c.prepare.ensures.repo_later)) (λ rose. omega (arith, rose, c.prepare.ensures.tree_later)) c.from_residual-in_err-outcome.result c.in_err-outcome.field-0.0 c.from_residual-in_err-outcome.ensures.1 c.in_err-outcome.ensures.cause

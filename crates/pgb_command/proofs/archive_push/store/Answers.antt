@@ -26,24 +26,24 @@ returns-in_err-pushed-clause-part g c =
     let stanza = c.args.settings.now.stanza.now in
     let folder = c.args.settings.now.pg1_path.now in
     let path = c.args.path.now in
-    let segment = c.args.file.segment in
+    let wal = c.args.file.name in
     let bytes = c.deref-2.result.now in
     let nodes = g.T.Tree.nodes c.args.tree.now in
     let x = c.in_ok-id.ensures.current in
-    let has = has_wal nodes (g.T.Tree.nodes c.read_cluster.new.tree) folder path c.deref.result.now segment c.in_ok-bytes.bytes.items bytes c.read_cluster.ensures.nodes (c.deref.ensures ∙ c.requires.1) c.deref-2.ensures.value c.requires.0 c.in_ok-bytes.ensures.bytes in
-    store_part stanza folder path nodes segment bytes has c.in_ok-id.id x.0 x.1 (g.D.Disk.view c.args.repo.now) (g.D.Disk.view c.current_id.new.repo) (g.D.Disk.view c.push.new.d) x.3 c.current_id.ensures.stays c.push.ensures.told c.push.ensures.part
+    let has = has_wal nodes (g.T.Tree.nodes c.read_cluster.new.tree) folder path c.deref.result.now wal c.in_ok-bytes.bytes.items bytes c.read_cluster.ensures.nodes (c.deref.ensures ∙ c.requires.1) c.deref-2.ensures.value c.requires.0 c.in_ok-bytes.ensures.bytes in
+    store_part stanza folder path nodes wal bytes has c.in_ok-id.id x.0 x.1 (g.D.Disk.view c.args.repo.now) (g.D.Disk.view c.current_id.new.repo) (g.D.Disk.view c.push.new.d) x.3 c.current_id.ensures.stays c.push.ensures.told c.push.ensures.part
 
 pub returns-in_err-pushed-clause-goes : goal.returns-in_err-pushed-clause-goes
 returns-in_err-pushed-clause-goes g c =
     let stanza = c.args.settings.now.stanza.now in
     let folder = c.args.settings.now.pg1_path.now in
     let path = c.args.path.now in
-    let segment = c.args.file.segment in
+    let wal = c.args.file.name in
     let bytes = c.deref-2.result.now in
     let nodes = g.T.Tree.nodes c.args.tree.now in
     let x = c.in_ok-id.ensures.current in
-    let has = has_wal nodes (g.T.Tree.nodes c.read_cluster.new.tree) folder path c.deref.result.now segment c.in_ok-bytes.bytes.items bytes c.read_cluster.ensures.nodes (c.deref.ensures ∙ c.requires.1) c.deref-2.ensures.value c.requires.0 c.in_ok-bytes.ensures.bytes in
-    store_goes stanza folder path nodes segment bytes has c.in_ok-id.id x.0 x.1 (g.D.Disk.view c.args.repo.now) (g.D.Disk.view c.current_id.new.repo) (g.D.Disk.view c.push.new.d) x.3 c.current_id.ensures.stays c.current_id.ensures.goes c.current_id.ensures.ends c.push.ensures.moves
+    let has = has_wal nodes (g.T.Tree.nodes c.read_cluster.new.tree) folder path c.deref.result.now wal c.in_ok-bytes.bytes.items bytes c.read_cluster.ensures.nodes (c.deref.ensures ∙ c.requires.1) c.deref-2.ensures.value c.requires.0 c.in_ok-bytes.ensures.bytes in
+    store_goes stanza folder path nodes wal bytes has c.in_ok-id.id x.0 x.1 (g.D.Disk.view c.args.repo.now) (g.D.Disk.view c.current_id.new.repo) (g.D.Disk.view c.push.new.d) x.3 c.current_id.ensures.stays c.current_id.ensures.goes c.current_id.ensures.ends c.push.ensures.moves
 
 pub returns-in_err-pushed-clause-stays : goal.returns-in_err-pushed-clause-stays
 returns-in_err-pushed-clause-stays g c =
@@ -56,91 +56,91 @@ returns-in_err-pushed-clause-cause g c =
     let stanza = c.args.settings.now.stanza.now in
     let folder = c.args.settings.now.pg1_path.now in
     let path = c.args.path.now in
-    let segment = c.args.file.segment in
+    let wal = c.args.file.name in
     let bytes = c.deref-2.result.now in
     let nodes = g.T.Tree.nodes c.args.tree.now in
     let x = c.in_ok-id.ensures.current in
-    let has = has_wal nodes (g.T.Tree.nodes c.read_cluster.new.tree) folder path c.deref.result.now segment c.in_ok-bytes.bytes.items bytes c.read_cluster.ensures.nodes (c.deref.ensures ∙ c.requires.1) c.deref-2.ensures.value c.requires.0 c.in_ok-bytes.ensures.bytes in
-    let ready : IsReady stanza folder path (g.D.Disk.view c.args.repo.now).now nodes segment bytes c.in_ok-told.told x.0 = record { has = has; of = record { tells = c.in_ok-told.ensures.told; current = x.3; same = x.2 } } in
+    let has = has_wal nodes (g.T.Tree.nodes c.read_cluster.new.tree) folder path c.deref.result.now wal c.in_ok-bytes.bytes.items bytes c.read_cluster.ensures.nodes (c.deref.ensures ∙ c.requires.1) c.deref-2.ensures.value c.requires.0 c.in_ok-bytes.ensures.bytes in
+    let ready : IsReady stanza folder path (g.D.Disk.view c.args.repo.now).now nodes wal bytes c.in_ok-told.told x.0 = record { has = has; of = record { tells = c.in_ok-told.ensures.told; current = x.3; same = x.2 } } in
     let fits = c.in_ok-id.ensures.fits in
-    cause_err stanza folder path (g.D.Disk.view c.args.repo.now).now (g.D.Disk.view c.current_id.new.repo).now nodes segment bytes c.in_ok-told.told x.0 ready (subst (λ (i : ArchiveId). i.version < 2 ^ 32) x.1 fits.0) (subst (λ (i : ArchiveId). i.number < 2 ^ 32) x.1 fits.1) c.requires.0.fits
+    cause_err stanza folder path (g.D.Disk.view c.args.repo.now).now (g.D.Disk.view c.current_id.new.repo).now nodes wal bytes c.in_ok-told.told x.0 ready (subst (λ (i : ArchiveId). i.version < 2 ^ 32) x.1 fits.0) (subst (λ (i : ArchiveId). i.number < 2 ^ 32) x.1 fits.1) c.requires.0.fits
     c.current_id.ensures.stays.told c.in_ok-id.ensures.files c.from_residual-in_err-pushed.result _ _ _ _ _ c.in_err-pushed.field-0.0 (λ rose. omega (arith, rose, c.current_id.ensures.later)) c.from_residual-in_err-pushed.ensures.1
-    (subst (λ (i : ArchiveId). PushCause stanza i segment c.in_ok-told.told.system bytes (g.D.Disk.view c.current_id.new.repo).now (Rises (g.D.Disk.faults c.current_id.new.repo) (g.D.Disk.faults c.push.new.d)) c.in_err-pushed.field-0.0) x.1 c.in_err-pushed.ensures.cause)
+    (subst (λ (i : ArchiveId). PushCause stanza i wal c.in_ok-told.told.system bytes (g.D.Disk.view c.current_id.new.repo).now (Rises (g.D.Disk.faults c.current_id.new.repo) (g.D.Disk.faults c.push.new.d)) c.in_err-pushed.field-0.0) x.1 c.in_err-pushed.ensures.cause)
 
 pub returns-clause-done : goal.returns-clause-done
 returns-clause-done g c =
     let stanza = c.args.settings.now.stanza.now in
     let folder = c.args.settings.now.pg1_path.now in
     let path = c.args.path.now in
-    let segment = c.args.file.segment in
+    let wal = c.args.file.name in
     let bytes = c.deref-2.result.now in
     let nodes = g.T.Tree.nodes c.args.tree.now in
     let x = c.in_ok-id.ensures.current in
-    let has = has_wal nodes (g.T.Tree.nodes c.read_cluster.new.tree) folder path c.deref.result.now segment c.in_ok-bytes.bytes.items bytes c.read_cluster.ensures.nodes (c.deref.ensures ∙ c.requires.1) c.deref-2.ensures.value c.requires.0 c.in_ok-bytes.ensures.bytes in
-    store_whole stanza folder path nodes segment bytes has c.in_ok-id.id x.0 x.1 (g.D.Disk.view c.args.repo.now) (g.D.Disk.view c.current_id.new.repo) (g.D.Disk.view c.push.new.d) x.3 c.current_id.ensures.stays c.push.ensures.told c.in_ok-pushed.ensures.done
+    let has = has_wal nodes (g.T.Tree.nodes c.read_cluster.new.tree) folder path c.deref.result.now wal c.in_ok-bytes.bytes.items bytes c.read_cluster.ensures.nodes (c.deref.ensures ∙ c.requires.1) c.deref-2.ensures.value c.requires.0 c.in_ok-bytes.ensures.bytes in
+    store_whole stanza folder path nodes wal bytes has c.in_ok-id.id x.0 x.1 (g.D.Disk.view c.args.repo.now) (g.D.Disk.view c.current_id.new.repo) (g.D.Disk.view c.push.new.d) x.3 c.current_id.ensures.stays c.push.ensures.told c.in_ok-pushed.ensures.done
 
 pub returns-clause-part : goal.returns-clause-part
 returns-clause-part g c =
     let stanza = c.args.settings.now.stanza.now in
     let folder = c.args.settings.now.pg1_path.now in
     let path = c.args.path.now in
-    let segment = c.args.file.segment in
+    let wal = c.args.file.name in
     let bytes = c.deref-2.result.now in
     let nodes = g.T.Tree.nodes c.args.tree.now in
     let x = c.in_ok-id.ensures.current in
-    let has = has_wal nodes (g.T.Tree.nodes c.read_cluster.new.tree) folder path c.deref.result.now segment c.in_ok-bytes.bytes.items bytes c.read_cluster.ensures.nodes (c.deref.ensures ∙ c.requires.1) c.deref-2.ensures.value c.requires.0 c.in_ok-bytes.ensures.bytes in
-    store_part stanza folder path nodes segment bytes has c.in_ok-id.id x.0 x.1 (g.D.Disk.view c.args.repo.now) (g.D.Disk.view c.current_id.new.repo) (g.D.Disk.view c.push.new.d) x.3 c.current_id.ensures.stays c.push.ensures.told c.push.ensures.part
+    let has = has_wal nodes (g.T.Tree.nodes c.read_cluster.new.tree) folder path c.deref.result.now wal c.in_ok-bytes.bytes.items bytes c.read_cluster.ensures.nodes (c.deref.ensures ∙ c.requires.1) c.deref-2.ensures.value c.requires.0 c.in_ok-bytes.ensures.bytes in
+    store_part stanza folder path nodes wal bytes has c.in_ok-id.id x.0 x.1 (g.D.Disk.view c.args.repo.now) (g.D.Disk.view c.current_id.new.repo) (g.D.Disk.view c.push.new.d) x.3 c.current_id.ensures.stays c.push.ensures.told c.push.ensures.part
 
 pub returns-clause-goes : goal.returns-clause-goes
 returns-clause-goes g c =
     let stanza = c.args.settings.now.stanza.now in
     let folder = c.args.settings.now.pg1_path.now in
     let path = c.args.path.now in
-    let segment = c.args.file.segment in
+    let wal = c.args.file.name in
     let bytes = c.deref-2.result.now in
     let nodes = g.T.Tree.nodes c.args.tree.now in
     let x = c.in_ok-id.ensures.current in
-    let has = has_wal nodes (g.T.Tree.nodes c.read_cluster.new.tree) folder path c.deref.result.now segment c.in_ok-bytes.bytes.items bytes c.read_cluster.ensures.nodes (c.deref.ensures ∙ c.requires.1) c.deref-2.ensures.value c.requires.0 c.in_ok-bytes.ensures.bytes in
-    store_goes stanza folder path nodes segment bytes has c.in_ok-id.id x.0 x.1 (g.D.Disk.view c.args.repo.now) (g.D.Disk.view c.current_id.new.repo) (g.D.Disk.view c.push.new.d) x.3 c.current_id.ensures.stays c.current_id.ensures.goes c.current_id.ensures.ends c.push.ensures.moves
+    let has = has_wal nodes (g.T.Tree.nodes c.read_cluster.new.tree) folder path c.deref.result.now wal c.in_ok-bytes.bytes.items bytes c.read_cluster.ensures.nodes (c.deref.ensures ∙ c.requires.1) c.deref-2.ensures.value c.requires.0 c.in_ok-bytes.ensures.bytes in
+    store_goes stanza folder path nodes wal bytes has c.in_ok-id.id x.0 x.1 (g.D.Disk.view c.args.repo.now) (g.D.Disk.view c.current_id.new.repo) (g.D.Disk.view c.push.new.d) x.3 c.current_id.ensures.stays c.current_id.ensures.goes c.current_id.ensures.ends c.push.ensures.moves
 
 pub returns-clause-ends : goal.returns-clause-ends
 returns-clause-ends g c =
     let stanza = c.args.settings.now.stanza.now in
     let folder = c.args.settings.now.pg1_path.now in
     let path = c.args.path.now in
-    let segment = c.args.file.segment in
+    let wal = c.args.file.name in
     let bytes = c.deref-2.result.now in
     let nodes = g.T.Tree.nodes c.args.tree.now in
     let x = c.in_ok-id.ensures.current in
-    let has = has_wal nodes (g.T.Tree.nodes c.read_cluster.new.tree) folder path c.deref.result.now segment c.in_ok-bytes.bytes.items bytes c.read_cluster.ensures.nodes (c.deref.ensures ∙ c.requires.1) c.deref-2.ensures.value c.requires.0 c.in_ok-bytes.ensures.bytes in
-    store_ends stanza folder path nodes segment bytes has c.in_ok-id.id x.0 x.1 (g.D.Disk.view c.args.repo.now) (g.D.Disk.view c.current_id.new.repo) (g.D.Disk.view c.push.new.d) x.3 c.current_id.ensures.stays c.current_id.ensures.ends c.in_ok-pushed.ensures.stored
+    let has = has_wal nodes (g.T.Tree.nodes c.read_cluster.new.tree) folder path c.deref.result.now wal c.in_ok-bytes.bytes.items bytes c.read_cluster.ensures.nodes (c.deref.ensures ∙ c.requires.1) c.deref-2.ensures.value c.requires.0 c.in_ok-bytes.ensures.bytes in
+    store_ends stanza folder path nodes wal bytes has c.in_ok-id.id x.0 x.1 (g.D.Disk.view c.args.repo.now) (g.D.Disk.view c.current_id.new.repo) (g.D.Disk.view c.push.new.d) x.3 c.current_id.ensures.stays c.current_id.ensures.ends c.in_ok-pushed.ensures.stored
 
 pub returns-clause-agrees : goal.returns-clause-agrees
 returns-clause-agrees g c = λ some.
     let stanza = c.args.settings.now.stanza.now in
     let folder = c.args.settings.now.pg1_path.now in
     let path = c.args.path.now in
-    let segment = c.args.file.segment in
+    let wal = c.args.file.name in
     let bytes = c.deref-2.result.now in
     let nodes = g.T.Tree.nodes c.args.tree.now in
     let x = c.in_ok-id.ensures.current in
-    let has = has_wal nodes (g.T.Tree.nodes c.read_cluster.new.tree) folder path c.deref.result.now segment c.in_ok-bytes.bytes.items bytes c.read_cluster.ensures.nodes (c.deref.ensures ∙ c.requires.1) c.deref-2.ensures.value c.requires.0 c.in_ok-bytes.ensures.bytes in
+    let has = has_wal nodes (g.T.Tree.nodes c.read_cluster.new.tree) folder path c.deref.result.now wal c.in_ok-bytes.bytes.items bytes c.read_cluster.ensures.nodes (c.deref.ensures ∙ c.requires.1) c.deref-2.ensures.value c.requires.0 c.in_ok-bytes.ensures.bytes in
     let fits = c.in_ok-id.ensures.fits in
-    agrees_on stanza _ bytes _ _ (file_of stanza c.in_ok-id.id segment (sha1 bytes) fits.0 fits.1 c.requires.0.fits (IsSum-sha1 bytes)) c.push.ensures.writes (c.current_id.ensures.stays.told some) c.in_ok-id.ensures.agrees
+    agrees_on stanza _ bytes _ _ (file_of stanza c.in_ok-id.id wal (sha1 bytes) fits.0 fits.1 c.requires.0.fits (IsSum-sha1 bytes)) c.push.ensures.writes (c.current_id.ensures.stays.told some) c.in_ok-id.ensures.agrees
 
 pub returns-clause-stored : goal.returns-clause-stored
 returns-clause-stored g c =
     let stanza = c.args.settings.now.stanza.now in
     let folder = c.args.settings.now.pg1_path.now in
     let path = c.args.path.now in
-    let segment = c.args.file.segment in
+    let wal = c.args.file.name in
     let bytes = c.deref-2.result.now in
     let nodes = g.T.Tree.nodes c.args.tree.now in
     let x = c.in_ok-id.ensures.current in
-    let has = has_wal nodes (g.T.Tree.nodes c.read_cluster.new.tree) folder path c.deref.result.now segment c.in_ok-bytes.bytes.items bytes c.read_cluster.ensures.nodes (c.deref.ensures ∙ c.requires.1) c.deref-2.ensures.value c.requires.0 c.in_ok-bytes.ensures.bytes in
-    let ready : IsReady stanza folder path (g.D.Disk.view c.args.repo.now).now nodes segment bytes c.in_ok-told.told x.0 = record { has = has; of = record { tells = c.in_ok-told.ensures.told; current = x.3; same = x.2 } } in
+    let has = has_wal nodes (g.T.Tree.nodes c.read_cluster.new.tree) folder path c.deref.result.now wal c.in_ok-bytes.bytes.items bytes c.read_cluster.ensures.nodes (c.deref.ensures ∙ c.requires.1) c.deref-2.ensures.value c.requires.0 c.in_ok-bytes.ensures.bytes in
+    let ready : IsReady stanza folder path (g.D.Disk.view c.args.repo.now).now nodes wal bytes c.in_ok-told.told x.0 = record { has = has; of = record { tells = c.in_ok-told.ensures.told; current = x.3; same = x.2 } } in
     let fits = c.in_ok-id.ensures.fits in
-    stored_as stanza folder path (g.D.Disk.view c.args.repo.now).now (g.D.Disk.view c.current_id.new.repo).now nodes segment bytes c.in_ok-told.told x.0 ready (subst (λ (i : ArchiveId). i.version < 2 ^ 32) x.1 fits.0) (subst (λ (i : ArchiveId). i.number < 2 ^ 32) x.1 fits.1) c.requires.0.fits
-    c.current_id.ensures.stays.told c.in_ok-id.ensures.files _ (string_bytes c.args.file.name) c.in_ok-pushed.pushed c.requires.1 c.outcome_of.ensures c.in_ok-pushed.ensures.of_system
-    (λ is. subst (λ (i : ArchiveId). IfSome (g.D.Disk.view c.current_id.new.repo).now (StoresNone stanza i segment)) x.1 (c.in_ok-pushed.ensures.new is))
-    (λ is. subst (λ (i : ArchiveId). IfSome (g.D.Disk.view c.current_id.new.repo).now (λ f. StoresOnly stanza i segment f (sha1 bytes))) x.1 (c.in_ok-pushed.ensures.same is).0)
+    stored_as stanza folder path (g.D.Disk.view c.args.repo.now).now (g.D.Disk.view c.current_id.new.repo).now nodes wal bytes c.in_ok-told.told x.0 ready (subst (λ (i : ArchiveId). i.version < 2 ^ 32) x.1 fits.0) (subst (λ (i : ArchiveId). i.number < 2 ^ 32) x.1 fits.1) c.requires.0.fits
+    c.current_id.ensures.stays.told c.in_ok-id.ensures.files _ (string_bytes c.args.file.text) c.in_ok-pushed.pushed c.requires.1 c.outcome_of.ensures c.in_ok-pushed.ensures.of_system
+    (λ is. subst (λ (i : ArchiveId). IfSome (g.D.Disk.view c.current_id.new.repo).now (StoresNone stanza i wal)) x.1 (c.in_ok-pushed.ensures.new is))
+    (λ is. subst (λ (i : ArchiveId). IfSome (g.D.Disk.view c.current_id.new.repo).now (λ f. StoresOnly stanza i wal f (sha1 bytes))) x.1 (c.in_ok-pushed.ensures.same is).0)

@@ -1,9 +1,18 @@
-use Rattle.pgb_command.specs.Told.{asked_of}
-use Rattle.pgb_command.proofs.Doings.{none_part, starved}
+use Rattle.std.proofs.Common.{ap}
+use Rattle.pgb_command.specs.Told.{request_of, asked_of}
+use Rattle.pgb_command.proofs.Causes.{nothing_all}
+use Rattle.pgb_command.proofs.Doings.{read_part, read_all, read_none, got_answer}
+use Rattle.pgb_command.proofs.Fetches.{all_ok}
 use Rattle.pgb_command.proofs.top.carry.Goals as goal
 
-pub returns-in-Err-clause-part : goal.returns-in-Err-clause-part
-returns-in-Err-clause-part g c = none_part (asked_of c.args.settings.now) (g.T.Tree.nodes c.args.tree.now) (g.D.Disk.view c.args.repo.now)
+pub returns-in-ArchiveGet-clause-part : goal.returns-in-ArchiveGet-clause-part
+returns-in-ArchiveGet-clause-part g c = read_part (asked_of c.args.settings.now) c.in-ArchiveGet.name.now c.in-ArchiveGet.path.now (g.T.Tree.nodes c.args.tree.now) (g.D.Disk.view c.args.repo.now) (g.D.Disk.view c.get_file.new.repo) (ap request_of c.in-ArchiveGet.is) c.get_file.ensures.time c.get_file.ensures.now
 
-pub returns-in-Err-clause-answered : goal.returns-in-Err-clause-answered
-returns-in-Err-clause-answered g c = starved (asked_of c.args.settings.now) _ _ _ _ _ _
+pub returns-in-ArchiveGet-clause-done : goal.returns-in-ArchiveGet-clause-done
+returns-in-ArchiveGet-clause-done g c = all_ok c.get_file.result _ (read_all (asked_of c.args.settings.now) c.in-ArchiveGet.name.now c.in-ArchiveGet.path.now (g.T.Tree.nodes c.args.tree.now) (g.D.Disk.view c.args.repo.now) (g.D.Disk.view c.get_file.new.repo) (ap request_of c.in-ArchiveGet.is) c.get_file.ensures.time c.get_file.ensures.now)
+
+pub returns-in-ArchiveGet-clause-none : goal.returns-in-ArchiveGet-clause-none
+returns-in-ArchiveGet-clause-none g c = nothing_all c.get_file.result _ (read_none (asked_of c.args.settings.now) c.in-ArchiveGet.name.now c.in-ArchiveGet.path.now (g.T.Tree.nodes c.args.tree.now) (g.D.Disk.view c.args.repo.now) (g.D.Disk.view c.get_file.new.repo) (ap request_of c.in-ArchiveGet.is) c.get_file.ensures.time c.get_file.ensures.now)
+
+pub returns-in-ArchiveGet-clause-answered : goal.returns-in-ArchiveGet-clause-answered
+returns-in-ArchiveGet-clause-answered g c = got_answer (asked_of c.args.settings.now) c.in-ArchiveGet.name.now c.in-ArchiveGet.path.now (g.T.Tree.nodes c.args.tree.now) (g.D.Disk.view c.args.repo.now) (g.D.Disk.view c.get_file.new.repo) (ap request_of c.in-ArchiveGet.is) c.get_file.ensures.time c.get_file.ensures.now c.get_file.result _ _ _ _ _ _ c.get_file.ensures.told c.get_file.ensures.cause

@@ -1,7 +1,7 @@
 use Rattle.std.proofs.Common.{◌∙◌, ap, sym, true, false}
 use Rattle.pgb_command.specs.Answers.{Answer, status}
 use Rattle.pgb_command.specs.Outcomes.{answer_of}
-use Rattle.pgb_command.proofs.Causes.{told_cause, at_zero, at_finding, completes}
+use Rattle.pgb_command.proofs.Causes.{told_cause, at_zero, at_finding, served_at_zero, completes}
 use Rattle.pgb_command.proofs.Pushes.{command_keeps, reading_keeps}
 use Rattle.pgb_command.proofs.top.run.Goals as goal
 
@@ -59,3 +59,11 @@ pub returns-clause-complete : goal.returns-clause-complete
 returns-clause-complete g c = λ none. let t = c.answer.ensures.told in
     let b = told_cause _ _ _ _ _ _ _ _ _ _ _ _ (answer_of c.serve-served.result) t.0 c.serve-served.ensures.answered t.2 in
     completes _ _ _ _ _ _ _ _ _ _ b.0 _ b.2 none (t.1 ∙ ap status (sym b.1))
+
+pub returns-clause-served : goal.returns-clause-served
+returns-clause-served g c = λ zero a asks name path is. let t = c.answer.ensures.told in
+    served_at_zero c.serve-served.result.ending _ _ _ _ t.0 _ t.2 t.1 zero a _ _ _ name path is (c.serve-served.ensures.served a asks)
+
+pub returns-clause-nodes : goal.returns-clause-nodes
+returns-clause-nodes g c = λ finding. let t = c.answer.ensures.told in
+    at_finding _ c.serve-served.result.ending _ _ _ _ t.0 _ t.2 t.1 finding c.serve-served.ensures.nodes

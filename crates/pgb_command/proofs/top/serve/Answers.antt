@@ -1,13 +1,14 @@
 use Rattle.std.proofs.Common.{◌≡◌, ap, map, string_bytes, true, false, Err}
 use Rattle.pgb_command.specs.declared.outcome.Outcome.{Outcome}
 use Rattle.pgb_command.specs.Asked.{Asked}
-use Rattle.pgb_command.specs.Doing.{PartDone, AllDone, NoneDone}
-use Rattle.pgb_command.specs.Locking.{lock_of, Locks as IsLocked, OnlyLocked}
+use Rattle.pgb_command.specs.Doing.{PartDone, AllDone, NoneDone, ServedBy}
+use Rattle.pgb_command.specs.Locking.{lock_of, TakesLock, OnlyUnderLock}
 use Rattle.pgb_command.specs.Outcomes.{ending_of}
 use Rattle.pgb_command.specs.Told.{asked_of}
 use Rattle.pgb_command.proofs.Asked.{may_ask, for_asked, ok_as}
 use Rattle.pgb_command.proofs.Doings.{none_part, none_done}
 use Rattle.pgb_command.proofs.Pushes.{finding_all, finding_as}
+use Rattle.pgb_command.proofs.Causes.{nothing_as}
 use Rattle.pgb_command.proofs.Served.{refused_as, unknown_as, asking_as}
 use Rattle.pgb_command.proofs.top.serve.Goals as goal
 
@@ -62,7 +63,7 @@ returns-clause-none g c =
     let old = g.D.Disk.view c.args.repo.now in
     let new = g.D.Disk.view c.carry-ending.new.repo in
     let may = may_ask words files x.0 x.1 (asked_of c.in-Ok-settings_of.settings) (c.in-Ok-settings_of.ensures.asked x.0 x.2) in
-    finding_as c.carry-ending.result _ _ (for_asked words files (λ (a : Asked). NoneDone a old new) (asked_of c.in-Ok-settings_of.settings) may) c.carry-ending.ensures.none
+    nothing_as c.carry-ending.result _ _ (for_asked words files (λ (a : Asked). NoneDone a old new) (asked_of c.in-Ok-settings_of.settings) may) c.carry-ending.ensures.none
 
 pub returns-clause-answered : goal.returns-clause-answered
 returns-clause-answered g c =
@@ -106,7 +107,7 @@ returns-clause-locked g c =
     let old = g.D.Disk.view c.args.repo.now in
     let new = g.D.Disk.view c.carry-ending.new.repo in
     let may = may_ask words files x.0 x.1 (asked_of c.in-Ok-settings_of.settings) (c.in-Ok-settings_of.ensures.asked x.0 x.2) in
-    ok_as c.carry-ending.result _ _ (for_asked words files (λ (a : Asked). IsLocked a.lock_folder (lock_of a) (g.K.Locks.took c.args.locks.now) (g.K.Locks.took c.carry-ending.new.locks)) (asked_of c.in-Ok-settings_of.settings) may) c.carry-ending.ensures.locked
+    ok_as c.carry-ending.result _ _ (for_asked words files (λ (a : Asked). TakesLock a.lock_folder (lock_of a) (g.K.Locks.took c.args.locks.now) (g.K.Locks.took c.carry-ending.new.locks)) (asked_of c.in-Ok-settings_of.settings) may) c.carry-ending.ensures.locked
 
 pub returns-clause-only_locked : goal.returns-clause-only_locked
 returns-clause-only_locked g c =
@@ -117,4 +118,12 @@ returns-clause-only_locked g c =
     let old = g.D.Disk.view c.args.repo.now in
     let new = g.D.Disk.view c.carry-ending.new.repo in
     let may = may_ask words files x.0 x.1 (asked_of c.in-Ok-settings_of.settings) (c.in-Ok-settings_of.ensures.asked x.0 x.2) in
-    for_asked words files (λ (a : Asked). OnlyLocked a.lock_folder (lock_of a) (g.K.Locks.took c.args.locks.now) (g.K.Locks.took c.carry-ending.new.locks) old new) (asked_of c.in-Ok-settings_of.settings) may c.carry-ending.ensures.only_locked
+    for_asked words files (λ (a : Asked). OnlyUnderLock a.lock_folder (lock_of a) (g.K.Locks.took c.args.locks.now) (g.K.Locks.took c.carry-ending.new.locks) old new) (asked_of c.in-Ok-settings_of.settings) may c.carry-ending.ensures.only_locked
+
+pub returns-clause-served : goal.returns-clause-served
+returns-clause-served g c =
+    let x = c.in-Ok.ensures.command in
+    let words = map string_bytes c.args.words.now in
+    let files = g.I.Source.files c.args.config.now in
+    let may = may_ask words files x.0 x.1 (asked_of c.in-Ok-settings_of.settings) (c.in-Ok-settings_of.ensures.asked x.0 x.2) in
+    for_asked words files (λ (a : Asked). ServedBy (ending_of c.carry-ending.result) a (g.D.Disk.view c.args.repo.now).now (g.T.Tree.nodes c.args.tree.now) (g.T.Tree.nodes c.carry-ending.new.tree)) (asked_of c.in-Ok-settings_of.settings) may c.carry-ending.ensures.served

@@ -1,0 +1,85 @@
+-- A file of the archive is had from the repository, and served.
+use Rattle.std.proofs.Common.{◌≡◌, List, [], Option, Some, None, Result, Ok, Err, IfErr, refl, sym, ◌∙◌, ap, subst}
+use Rattle.std.specs.Prelude.{IfSome, IsErrAnd, OnOk}
+use Rattle.pgb_outside.specs.Content.{Content}
+use Rattle.pgb_outside.specs.Tree.{Nodes, file_bytes}
+use Rattle.pgb_model.specs.declared.clusters.ClusterId.{ClusterId}
+use Rattle.pgb_model.specs.declared.wal.ArchiveName.{ArchiveName}
+use Rattle.pgb_model.specs.Text.{Text}
+use Rattle.pgb_model.specs.Fields.{at_number}
+use Rattle.pgb_model.specs.Names.{archive_info}
+use Rattle.pgb_model.specs.Pair.{PairIs}
+use Rattle.pgb_model.specs.Values.{ArchiveInfo}
+use Rattle.pgb_model.specs.InfoFiles.{IsArchiveText}
+use Rattle.pgb_stanza.specs.declared.control.Control.{Control}
+use Rattle.pgb_command.specs.declared.fault.Fault.{Fault}
+use Rattle.pgb_command.specs.declared.fault.Fault.TheVariants.{Settings, ConfigMissing, SegmentName, PathOutside, Held, StanzaMissing, InfoDamaged, StanzaMismatch, SegmentMissing, TooLong, TooMany, HeaderForm, SegmentSize, HeaderMismatch, Ambiguous, Duplicate, SegmentDamaged, NotBuilt, ControlMissing, ControlShort, VersionText, VersionUnsupported, Disk, Tree, Locks, Source, Sink, NoMemory}
+use Rattle.pgb_command.specs.declared.outcome.Outcome.{Outcome}
+use Rattle.pgb_command.specs.declared.outcome.Outcome.TheVariants.{Silent, SameStored, Absent}
+use Rattle.pgb_command.specs.Cluster.{FolderTells}
+use Rattle.pgb_command.specs.Storing.{identity_kept, identity_told}
+use Rattle.pgb_command.specs.Getting.{AreWords, served_path, IsWanted, OnHistory, HasSame, FoundIn, SearchCause, FetchCause, IsServed, Serves}
+use Rattle.pgb_command.specs.Outcomes.{OnNothing}
+
+on_both : (repo : Option Content) (P Q R : Content → Type 0) → ((f : Content) → P f → Q f → R f) → IfSome repo P → IfSome repo Q → IfSome repo R
+on_both None P Q R with_both p q = tt
+on_both (Some f) P Q R with_both p q = with_both f p q
+
+module _ (stanza : Text) (told : Control) (name : ArchiveName) (repo : Option Content) (v : ArchiveInfo) (pair : IfSome repo (λ f. PairIs IsArchiveText f (archive_info stanza) v)) where
+  -- the history has no cluster of the data folder
+  pub foreign : (rose : Type 0) (fault : Fault) → ¬ HasSame v.history told → ((c : ClusterId) × (at_number v.current v.history ≡ Some c) × (fault ≡ StanzaMismatch (identity_kept c) (identity_told told))) → FetchCause stanza told name repo rose fault
+  foreign rose fault none x = subst (FetchCause stanza told name repo rose) (sym x.2) (refl, (x.0, refl, kept repo pair))
+    where
+      kept : (o : Option Content) → IfSome o (λ f. PairIs IsArchiveText f (archive_info stanza) v) → IfSome o (λ f. OnHistory stanza f (λ w. (at_number w.current w.history ≡ Some x.0) × ¬ HasSame w.history told))
+      kept None p = tt
+      kept (Some f) p = (v, p, (x.1, none))
+
+  -- a search of the history failed
+  sought : (rose risen : Type 0) → (rose → risen) → (e : Fault) → SearchCause v.history stanza told name repo rose e → FetchCause stanza told name repo risen e
+  sought rose risen up (Settings u) h = absurd h
+  sought rose risen up (ConfigMissing a) h = absurd h
+  sought rose risen up (SegmentName a) h = absurd h
+  sought rose risen up (PathOutside a) h = absurd h
+  sought rose risen up (Held a) h = absurd h
+  sought rose risen up (StanzaMissing a) h = absurd h
+  sought rose risen up (InfoDamaged a b k) h = absurd h
+  sought rose risen up (StanzaMismatch a b) h = absurd h
+  sought rose risen up (SegmentMissing a) h = absurd h
+  sought rose risen up (TooLong a b) h = (v, pair, h)
+  sought rose risen up (TooMany a) h = absurd h
+  sought rose risen up (HeaderForm a) h = absurd h
+  sought rose risen up (SegmentSize a b) h = absurd h
+  sought rose risen up (HeaderMismatch a b) h = absurd h
+  sought rose risen up (Ambiguous a b) h = (v, pair, h)
+  sought rose risen up (Duplicate a b) h = absurd h
+  sought rose risen up (SegmentDamaged a b) h = (v, pair, h)
+  sought rose risen up (NotBuilt a) h = absurd h
+  sought rose risen up (ControlMissing a) h = absurd h
+  sought rose risen up (ControlShort a) h = absurd h
+  sought rose risen up VersionText h = absurd h
+  sought rose risen up (VersionUnsupported a) h = absurd h
+  sought rose risen up Disk h = up h
+  sought rose risen up Tree h = absurd h
+  sought rose risen up Locks h = absurd h
+  sought rose risen up Source h = absurd h
+  sought rose risen up Sink h = absurd h
+  sought rose risen up NoMemory h = tt
+
+  pub sought_err : {T : Type 0} (result : Result T Fault) (e : Fault) → IsErrAnd result (λ f. f ≡ e) → (rose risen : Type 0) → (rose → risen) → SearchCause v.history stanza told name repo rose e → IfErr result (FetchCause stanza told name repo risen)
+  sought_err (Ok x) e is rose risen up h = tt
+  sought_err (Err f) e is rose risen up h = subst (FetchCause stanza told name repo risen) (sym is) (sought rose risen up e h)
+
+-- the file was put in its place
+pub serves : (stanza folder word path inside : Text) (repo : Option Content) (nodes now_nodes : Option Nodes) (name : ArchiveName) (told : Control) (bytes : Text) → AreWords folder word path name → inside ≡ served_path folder path → IfSome nodes (λ f. FolderTells f told) →
+    IfSome repo (λ f. OnHistory stanza f (λ v. FoundIn v.history stanza told name bytes f)) → IfSome now_nodes (λ f. file_bytes (f inside) ≡ Some bytes) → Serves stanza folder word path repo nodes now_nodes
+serves stanza folder word path inside repo nodes now_nodes name told bytes words is tells found holds = (
+  bytes,
+  record { name = name; told = told; wanted = record { named = words.0; inside = words.1; tells = tells }; found = found },
+  subst (λ (p : Text). IfSome now_nodes (λ f. file_bytes (f p) ≡ Some bytes)) is holds,
+)
+
+-- ---- of any result
+
+pub all_ok : {T E : Type 0} (result : Result T E) (P : Type 0) → P → OnOk result P
+all_ok (Ok x) P p = p
+all_ok (Err e) P p = tt
