@@ -22,7 +22,7 @@ mod stamps;
 mod texts;
 
 pub use fault::{InfoFault, MemberFault, SaveFault};
-pub use healing::heal_pair;
+pub use healing::{heal_pair, mend_pair};
 pub use info::Info;
 pub use labels::label_text;
 pub use loading::load_pair;

@@ -1,3 +1,3 @@
 mod Refused
 pub mod Saves
-mod Creates
+mod Making

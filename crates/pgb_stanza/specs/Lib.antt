@@ -1,3 +1,6 @@
 pub mod ControlFile
 pub mod Fault
+pub mod Judging
+pub mod Mending
+pub mod Pairs
 pub mod Tight
