@@ -6,6 +6,7 @@ mod archive_history;
 mod archive_info;
 mod archive_reading;
 mod backup_info;
+mod backup_reading;
 mod by_key;
 mod cluster_ids;
 mod entries;
