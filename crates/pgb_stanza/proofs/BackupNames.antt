@@ -21,7 +21,7 @@ below_label : (stanza : Text) (l : Label) (rest other : Text) → get_or other 8
 below_label stanza l rest other letter e =
     let below = append_cancel_left (backup_folder stanza) ((47 ∷ label_text l) ++ 47 ∷ rest) (47 ∷ other) (sym (append_assoc (backup_folder stanza) (47 ∷ label_text l) (47 ∷ rest)) ∙ e) in
     let same : get_or (label_text l ++ 47 ∷ rest) 8 0 ≡ get_or other 8 0 = ap (λ (t : Text). get_or t 9 0) below in
-    let no : ◌≡◌ 45 110 = sym (dash l (47 ∷ rest)) ∙ same ∙ letter in cc
+    let no : ◌≡◌ 45 110 = sym (dash l (47 ∷ rest)) ∙ same ∙ letter in omega arith
 
 copy_is : (stanza : Text) → copy_of (backup_info stanza) ≡ backup_folder stanza ⫽ codes "backup.info.copy"
 copy_is stanza = append_assoc (backup_folder stanza) (47 ∷ codes "backup.info") (codes ".copy")

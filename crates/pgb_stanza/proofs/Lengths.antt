@@ -25,19 +25,19 @@ use Rattle.pgb_model.specs.InfoFiles.{IsCluster, cluster_fields, cluster_field, 
 -- ---- lists of texts
 
 pub flat_length : {X : Type 0} (f : X → Text) (xs ys : List X) → length (flat_map f (xs ++ ys)) ≡ length (flat_map f xs) + length (flat_map f ys)
-flat_length f [] ys = refl
+flat_length f [] ys = omega arith
 flat_length f (x ∷ xs) ys = omega (arith, length-append (f x) (flat_map f (xs ++ ys)), length-append (f x) (flat_map f xs), flat_length f xs ys)
 
 abbrev pub keys_length : List Field → ℕ
 keys_length ks = length (flat_map key_line ks)
 
+placed : (x k : Field) (xs more : List Field) → keys_length more ≡ keys_length xs + length (key_line k) → (b : Bool) → keys_length (if b then k ∷ x ∷ xs else x ∷ more) ≡ keys_length (x ∷ xs) + length (key_line k)
+placed x k xs more h true = omega (arith, length-append (key_line k) (flat_map key_line (x ∷ xs)))
+placed x k xs more h false = omega (arith, h, length-append (key_line x) (flat_map key_line more), length-append (key_line x) (flat_map key_line xs))
+
 with_field_length : (ks : List Field) (k : Field) → keys_length (with_field ks k) ≡ keys_length ks + length (key_line k)
 with_field_length [] k = omega (arith, length-append (key_line k) [])
-with_field_length (x ∷ xs) k = go (is_before k.0 x.0)
-  where
-    go : (b : Bool) → keys_length (if b then k ∷ x ∷ xs else x ∷ with_field xs k) ≡ keys_length (x ∷ xs) + length (key_line k)
-    go true = omega (arith, length-append (key_line k) (flat_map key_line (x ∷ xs)))
-    go false = omega (arith, length-append (key_line x) (flat_map key_line (with_field xs k)), length-append (key_line x) (flat_map key_line xs), with_field_length xs k)
+with_field_length (x ∷ xs) k = placed x k xs (with_field xs k) (with_field_length xs k) (is_before k.0 x.0)
 
 with_fields_push : (acc ks : List Field) (k : Field) → with_fields acc (ks ++ k ∷ []) ≡ with_field (with_fields acc ks) k
 with_fields_push acc [] k = refl

@@ -1,3 +1,10 @@
 mod Refused
 pub mod Saves
-mod Making
+mod NewStanza
+mod BackupNames
+mod OneBackup
+mod Mended
+mod Lengths
+mod Shorter
+mod Judged
+mod Kept

@@ -1,5 +1,5 @@
 -- Why a stanza isn't made.
-use Rattle.std.specs.Prelude.{◌≡◌, ◌≢◌, List, ◌∷◌, ¬◌, Option, IfSome, string_bytes}
+use Rattle.std.specs.Prelude.{◌≡◌, ◌≢◌, List, ◌∷◌, ℕ, Option, IfSome, string_bytes}
 use Rattle.pgb_outside.specs.Content.{Content}
 use Rattle.pgb_model.specs.declared.labels.Label.{Label}
 use Rattle.pgb_model.specs.declared.clusters.ClusterId.{ClusterId}

@@ -1,5 +1,6 @@
 -- What the values of a stanza's two pairs tell, and what is kept of them.
 use Rattle.std.specs.Prelude.{◌≡◌, ◌≢◌, ℕ, List, ◌∷◌, length, Option, Some, None, String}
+use Rattle.std.specs.declared.alloc.Global.{Global}
 use Rattle.pgb_outside.specs.Content.{Content}
 use Rattle.pgb_model.specs.declared.clusters.ClusterId.{ClusterId}
 use Rattle.pgb_model.specs.Text.{Text}
@@ -57,7 +58,7 @@ pub record KeepsStanza (stanza : Text) (told : Control) (f : Content) (a : Archi
   pub of : IsOf told a
 
 -- why two values, or the lack of one, are refused; the name is that of the backup pair's main member
-pub data Refuses (told : Control) (archive : Option rust_archive_info.ArchiveInfo) (backup : Option rust_backup_info.BackupInfo) (name : String) (e : StanzaFault) : Type 0 where
+pub data Refuses (told : Control) (archive : Option rust_archive_info.ArchiveInfo) (backup : Option rust_backup_info.BackupInfo) (name : String Global) (e : StanzaFault) : Type 0 where
   Lost : archive ≡ None → (b : rust_backup_info.BackupInfo) → backup ≡ Some b → TellsLost (backup_info_of b) e → Refuses told archive backup name e
   Alone : (a : rust_archive_info.ArchiveInfo) → archive ≡ Some a → backup ≡ None → e ≡ InfoDamaged name Absent Absent → Refuses told archive backup name e
   NotOf : (a : rust_archive_info.ArchiveInfo) (b : rust_backup_info.BackupInfo) → archive ≡ Some a → backup ≡ Some b → Unfit told (archive_info_of a) (backup_info_of b) e → Refuses told archive backup name e

@@ -1,3 +1,4 @@
+pub mod Causes
 pub mod ControlFile
 pub mod Fault
 pub mod Judging

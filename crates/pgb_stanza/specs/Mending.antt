@@ -19,9 +19,11 @@ backup_text v = info_text (backup_sections v)
 abbrev pub mending_writes : Text → Text → Text → List Write
 mending_writes stanza archive backup = member_writes (archive_info stanza) archive ++ member_writes (backup_info stanza) backup
 
+-- both members of the pair have this text
+abbrev pub HoldBoth : Text → Text → Content → Type 0
+HoldBoth name text f = (f name ≡ Some text) × (f (copy_of name) ≡ Some text)
+
 -- the members of both pairs have these texts
 pub record HaveTexts (stanza : Text) (archive backup : Text) (f : Content) : Type 0 where
-  pub archive_main : f (archive_info stanza) ≡ Some archive
-  pub archive_copy : f (copy_of (archive_info stanza)) ≡ Some archive
-  pub backup_main : f (backup_info stanza) ≡ Some backup
-  pub backup_copy : f (copy_of (backup_info stanza)) ≡ Some backup
+  pub archive_pair : HoldBoth (archive_info stanza) archive f
+  pub backup_pair : HoldBoth (backup_info stanza) backup f

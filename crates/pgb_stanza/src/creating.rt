@@ -1,5 +1,5 @@
 // A stanza is made.
-ghost use Rattle.std.specs.Prelude.{◌≡◌, ◌≤◌, ◌⊎◌, ◌×◌, None, Some, Ok, OnOk, IfOk, IfErr, IfSome, IsSome, IsErrOf};
+ghost use Rattle.std.specs.Prelude.{◌≡◌, ◌≤◌, ◌⊎◌, None, Some, Ok, OnOk, IfOk, IfErr, IfSome, IsSome, IsErrOf};
 ghost use Rattle.pgb_outside.specs.Moments.{Rests};
 ghost use Rattle.pgb_outside.specs.Cause.{Rises};
 ghost use Rattle.pgb_model.specs.InfoFiles.{IsCluster};

@@ -1,5 +1,5 @@
 // Whether the values of a stanza's two pairs fit together, and are of a cluster.
-ghost use Rattle.std.specs.Prelude.{◌≡◌, ◌≢◌, ◌+◌, ◌≤◌, ◌∷◌, ◌++◌, true, false, List, [], length, map, slice_get, IfOk, IfErr, IfSome, IfNone, OnOk};
+ghost use Rattle.std.specs.Prelude.{◌≡◌, ◌≢◌, ◌⊎◌, ◌+◌, ◌<◌, ◌≤◌, ◌∷◌, ◌++◌, true, false, List, [], length, map, slice_get, IfOk, IfErr, IfSome, IfNone, OnOk};
 ghost use Rattle.pgb_model.specs.declared.clusters.Cluster.{Cluster};
 ghost use Rattle.pgb_model.specs.Text.{In};
 ghost use Rattle.pgb_model.specs.Values.{archive_info_of, backup_info_of, entry_of, Entry as SpecEntry};
@@ -46,7 +46,7 @@ fn agree_at(archive: &[ClusterId], backup: &[Cluster], place: usize) -> bool
 fn first_difference(archive: &[ClusterId], backup: &[Cluster]) -> Option<usize>
     ensures none { IfNone result (archive.now ≡ map identity_of backup.now) }
     ensures some { IfSome result (λ place. DifferFirst (place + 1) archive.now (map identity_of backup.now)) }
-    ensures within { IfSome result (λ place. (place ≤ length archive.now) × (place ≤ length backup.now)) }
+    ensures within { IfSome result (λ place. (place < length archive.now) ⊎ (place < length backup.now)) }
 {
     let longest = archive.len().max(backup.len());
     for place in 0..longest {
@@ -78,9 +78,13 @@ fn has_pending(archive: &ArchiveInfo, backup: &BackupInfo) -> bool
     ensures unused { result ≡ true → (e : SpecEntry) → In e (backup_info_of backup.now).backups → e.db ≢ backup.now.current }
     ensures other { result ≡ false → ¬ HasPending (archive_info_of archive.now) (backup_info_of backup.now) }
 {
-    backup.history.len() == archive.history.len() + 1
-        && backup.current as usize == backup.history.len()
-        && !lists_cluster(&backup.backups, backup.current)
+    if backup.history.len() != archive.history.len() + 1 {
+        return false;
+    }
+    if backup.current as usize != backup.history.len() {
+        return false;
+    }
+    !lists_cluster(&backup.backups, backup.current)
 }
 
 // The value without the last cluster of its history, of which no backup is listed.

@@ -17,8 +17,8 @@ use pgb_model::Cluster;
 use pgb_outside::Disk;
 use std::alloc::Global;
 
-fn first_cluster(control: &Control) -> Cluster
-    ensures value { result ≡ first_cluster control.now }
+fn first_cluster(control: Control) -> Cluster
+    ensures value { result ≡ first_cluster control }
     ensures is_cluster { IsCluster result }
 {
     Cluster {
@@ -54,7 +54,7 @@ pub(crate) fn make_stanza<D: Disk>(
     ensures later { D.faults d.old ≤ D.faults d.new }
     ensures cause { IsErrOf result SaveFault.Disk → Rises (D.faults d.old) (D.faults d.new) }
 {
-    let cluster = first_cluster(control);
+    let cluster = first_cluster(*control);
     save_pairs(alloc, d, stanza, &cluster)?;
     Ok(())
 }

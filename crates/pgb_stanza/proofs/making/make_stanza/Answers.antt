@@ -6,7 +6,7 @@ use Rattle.pgb_model.specs.Create.{pair_writes}
 use Rattle.pgb_model.proofs.Made.{made_members}
 use Rattle.pgb_stanza.specs.ControlFile.{first_cluster}
 use Rattle.pgb_stanza.specs.Tight.{AreTight}
-use Rattle.pgb_stanza.proofs.Making.{none_now, made_part, made_whole, made_moves, made_steady}
+use Rattle.pgb_stanza.proofs.NewStanza.{none_now, made_part, made_whole, made_moves, made_steady}
 use Rattle.pgb_stanza.proofs.making.make_stanza.Goals as goal
 
 pub returns-in_err-save_pairs-clause-new : goal.returns-in_err-save_pairs-clause-new
