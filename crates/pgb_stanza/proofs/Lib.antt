@@ -8,3 +8,4 @@ mod Lengths
 mod Shorter
 mod Judged
 mod Kept
+mod Looked
