@@ -9,3 +9,4 @@ mod Shorter
 mod Judged
 mod Kept
 mod Looked
+mod SameStanza

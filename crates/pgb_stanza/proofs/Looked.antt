@@ -31,7 +31,7 @@ each : (now : Option Content) (P : Content → Type 0) → ((f : Content) → no
 each None P h = tt
 each (Some f) P h = h f refl
 
-module _ (stanza : Text) (told : Control) (now : Option Content) (archive : Option rust_archive_info.ArchiveInfo) (backup : Option rust_backup_info.BackupInfo)
+module _ (stanza : Text) (told : Control) (now : Option Content) (archive : Option rust_archive_info.ArchiveInfo)
     (archive_found : IfSome archive (λ v. IfSome now (λ f. PairIs IsArchiveText f (archive_info stanza) (archive_info_of v))))
     (archive_missing : IfNone archive (IfSome now (λ f. PairAbsent f (archive_info stanza)))) where
   archive_is : (v : rust_archive_info.ArchiveInfo) → archive ≡ Some v → (f : Content) → now ≡ Some f → PairIs IsArchiveText f (archive_info stanza) (archive_info_of v)
@@ -62,7 +62,7 @@ module _ (stanza : Text) (told : Control) (now : Option Content) (archive : Opti
   backup_cause rose more wider name is (StanzaMismatch kept found) h = absurd h
   backup_cause rose more wider name is (ArchiveLost label) h = absurd h
 
-  module _ (backup_found : IfSome backup (λ v. IfSome now (λ f. PairIs IsBackupText f (backup_info stanza) (backup_info_of v))))
+  module _ (backup : Option rust_backup_info.BackupInfo) (backup_found : IfSome backup (λ v. IfSome now (λ f. PairIs IsBackupText f (backup_info stanza) (backup_info_of v))))
       (backup_missing : IfNone backup (IfSome now (λ f. PairAbsent f (backup_info stanza)))) where
     backup_is : (v : rust_backup_info.BackupInfo) → backup ≡ Some v → (f : Content) → now ≡ Some f → PairIs IsBackupText f (backup_info stanza) (backup_info_of v)
     backup_is v is f at =

@@ -15,6 +15,8 @@ use Rattle.pgb_model.specs.InfoText.{Section}
 use Rattle.pgb_info.specs.ArchiveForm.{IsArchiveForm}
 use Rattle.pgb_info.specs.BackupForm.{IsBackupForm}
 use Rattle.pgb_stanza.specs.declared.control.Control.{Control}
+use Rattle.pgb_stanza.specs.declared.creating.Created.{Created}
+use Rattle.pgb_stanza.specs.declared.creating.Created.TheVariants.{New, Same}
 use Rattle.pgb_stanza.specs.declared.fault.Identity.{Identity}
 use Rattle.pgb_stanza.specs.declared.fault.StanzaFault.{StanzaFault}
 use Rattle.pgb_stanza.specs.declared.fault.StanzaFault.TheVariants.{InfoDamaged, HistoryDiffers, StanzaMismatch, ArchiveLost, Disk, NoMemory}
@@ -83,3 +85,13 @@ abbrev pub OnContent : StanzaFault → Type 0 → Type 0
 OnContent Disk P = Unit {0}
 OnContent NoMemory P = Unit {0}
 OnContent refusal P = P
+
+-- what holds where the stanza was made
+abbrev pub IfNew : Created → Type 0 → Type 0
+IfNew New P = P
+IfNew Same P = Unit {0}
+
+-- what holds where it was there
+abbrev pub IfSame : Created → Type 0 → Type 0
+IfSame New P = Unit {0}
+IfSame Same P = P

@@ -1,8 +1,7 @@
 // A stanza is made.
-ghost use Rattle.std.specs.Prelude.{◌≡◌, ◌≤◌, ◌⊎◌, None, Some, Ok, OnOk, IfOk, IfErr, IfSome, IsSome, IsErrOf};
+ghost use Rattle.std.specs.Prelude.{◌≡◌, ◌≤◌, ◌⊎◌, None, Some, OnOk, IfOk, IfErr, IfSome, IsSome};
 ghost use Rattle.pgb_outside.specs.Moments.{Rests};
 ghost use Rattle.pgb_outside.specs.Cause.{Rises};
-ghost use Rattle.pgb_model.specs.InfoFiles.{IsCluster};
 ghost use Rattle.pgb_model.specs.Repository.{Repository, Stanza};
 ghost use Rattle.pgb_model.specs.Stands.{Stands};
 ghost use Rattle.pgb_model.specs.Steps.{step, Create};
@@ -10,7 +9,7 @@ ghost use Rattle.pgb_model.specs.Steady.{IsSteady, Moves};
 ghost use Rattle.pgb_model.specs.Now.{NowStands, HasNewPairs};
 ghost use Rattle.pgb_stanza.specs.ControlFile.{first_cluster};
 ghost use Rattle.pgb_stanza.specs.Pairs.{LacksStanza, HasStanzaOf, IsStanzaOf, PairsAgree};
-ghost use Rattle.pgb_stanza.specs.Causes.{CreateCause, OnContent};
+ghost use Rattle.pgb_stanza.specs.Causes.{CreateCause, OnContent, IfNew, IfSame};
 
 use crate::control::Control;
 use crate::fault::StanzaFault;
@@ -46,11 +45,11 @@ pub fn create<D: Disk>(
     ensures made { OnOk result ((r : Repository) → IsSteady stanza.now r (D.view d.old) → IsSome (D.view d.old).now
         → IsSteady stanza.now (step r (Create (first_cluster control.now))) (D.view d.new)) }
     // New comes exactly where the disk has no stanza, and Same where it has one of this cluster.
-    ensures lacking { result ≡ Ok Created.New → IfSome (D.view d.old).now (LacksStanza stanza.now) }
-    ensures new { result ≡ Ok Created.New → (r : Repository) → IsSome (D.view d.old).now → NowStands stanza.now r (D.view d.old).now → r ≡ None }
-    ensures members { result ≡ Ok Created.New → IsSome (D.view d.old).now → IfSome (D.view d.new).now (HasNewPairs stanza.now (first_cluster control.now)) }
-    ensures having { result ≡ Ok Created.Same → IfSome (D.view d.old).now (HasStanzaOf stanza.now control.now) }
-    ensures same { result ≡ Ok Created.Same → (r : Repository) → IsSome (D.view d.old).now → NowStands stanza.now r (D.view d.old).now → (s : Stanza) × (r ≡ Some s) × IsStanzaOf control.now s }
+    ensures lacking { IfOk result (λ c. IfNew c (IfSome (D.view d.old).now (LacksStanza stanza.now))) }
+    ensures new { IfOk result (λ c. IfNew c ((r : Repository) → IsSome (D.view d.old).now → NowStands stanza.now r (D.view d.old).now → r ≡ None)) }
+    ensures members { IfOk result (λ c. IfNew c (IsSome (D.view d.old).now → IfSome (D.view d.new).now (HasNewPairs stanza.now (first_cluster control.now)))) }
+    ensures having { IfOk result (λ c. IfSame c (IfSome (D.view d.old).now (HasStanzaOf stanza.now control.now))) }
+    ensures same { IfOk result (λ c. IfSame c ((r : Repository) → IsSome (D.view d.old).now → NowStands stanza.now r (D.view d.old).now → (s : Stanza) × (r ≡ Some s) × IsStanzaOf control.now s)) }
     ensures agrees { OnOk result (IsSome (D.view d.old).now → IfSome (D.view d.new).now (PairsAgree stanza.now)) }
     ensures refused { IfErr result (λ e. OnContent e ((D.view d.new).now ≡ (D.view d.old).now)) }
     ensures rests { IfErr result (λ e. OnContent e (Rests (D.view d.old) (D.view d.new))) }
