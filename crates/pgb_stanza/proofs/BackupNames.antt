@@ -1,5 +1,5 @@
 -- No name in a backup's folder is that of a member of the backup pair.
-use Rattle.std.proofs.Common.{◌≡◌, ◌≢◌, ⊎_elim, inl, inr, [], ◌∷◌, ◌++◌, ap, ◌∙◌, sym, refl, codes, get_or, append_assoc, decimal, Option, Some, None}
+use Rattle.std.proofs.Common.{◌≡◌, ◌≢◌, ⊎_elim, inl, inr, [], ◌∷◌, ◌++◌, ap, ◌∙◌, sym, refl, arith, codes, get_or, append_assoc, decimal, Option, Some, None}
 use Rattle.std.proofs.lemmas.List.{append_cancel_left}
 use Rattle.pgb_outside.specs.Content.{Content}
 use Rattle.pgb_model.specs.declared.files.Bundled.{Bundled}
@@ -21,7 +21,7 @@ below_label : (stanza : Text) (l : Label) (rest other : Text) → get_or other 8
 below_label stanza l rest other letter e =
     let below = append_cancel_left (backup_folder stanza) ((47 ∷ label_text l) ++ 47 ∷ rest) (47 ∷ other) (sym (append_assoc (backup_folder stanza) (47 ∷ label_text l) (47 ∷ rest)) ∙ e) in
     let same : get_or (label_text l ++ 47 ∷ rest) 8 0 ≡ get_or other 8 0 = ap (λ (t : Text). get_or t 9 0) below in
-    let no : ◌≡◌ 45 110 = sym (dash l (47 ∷ rest)) ∙ same ∙ letter in omega arith
+    omega (arith, dash l (47 ∷ rest), same, letter)
 
 copy_is : (stanza : Text) → copy_of (backup_info stanza) ≡ backup_folder stanza ⫽ codes "backup.info.copy"
 copy_is stanza = append_assoc (backup_folder stanza) (47 ∷ codes "backup.info") (codes ".copy")

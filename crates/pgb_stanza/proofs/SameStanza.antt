@@ -211,3 +211,7 @@ agree_at name text f h = (h.1 ∙ sym h.0, subst (λ (v : Option Text). IsSome v
 pub agreed : (stanza archive backup : Text) (now : Option Content) → IfSome now (HaveTexts stanza archive backup) → IfSome now (PairsAgree stanza)
 agreed stanza archive backup None h = tt
 agreed stanza archive backup (Some f) h = record { archive = agree_at (archive_info stanza) archive f h.archive_pair; backup = agree_at (backup_info stanza) backup f h.backup_pair }
+
+-- what holds of a value that is there
+pub some_of : {X : Type 0} (P : X → Type 0) (o : Option X) (x : X) → o ≡ Some x → IfSome o P → P x
+some_of {X} P o x is h = let Q : Option X → Type 0 = λ p. IfSome p P in let at : Q (Some x) = subst Q is h in at
