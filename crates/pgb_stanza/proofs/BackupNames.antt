@@ -1,5 +1,5 @@
 -- No name in a backup's folder is that of a member of the backup pair.
-use Rattle.std.proofs.Common.{◌≡◌, ◌≢◌, ⊎_elim, inl, inr, [], ◌∷◌, ◌++◌, ap, ◌∙◌, sym, refl, arith, codes, get_or, append_assoc, decimal, Option, Some, None}
+use Rattle.std.proofs.Common.{◌≡◌, ◌≢◌, ⊎_elim, ◌∷◌, ◌++◌, ap, ◌∙◌, sym, refl, arith, codes, get_or, append_assoc, decimal, Option, Some, None}
 use Rattle.std.proofs.lemmas.List.{append_cancel_left}
 use Rattle.pgb_outside.specs.Content.{Content}
 use Rattle.pgb_model.specs.declared.files.Bundled.{Bundled}

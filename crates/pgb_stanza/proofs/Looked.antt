@@ -8,7 +8,7 @@ use Rattle.pgb_model.specs.declared.clusters.ArchiveInfo as rust_archive_info
 use Rattle.pgb_model.specs.declared.clusters.BackupInfo as rust_backup_info
 use Rattle.pgb_model.specs.Text.{Text}
 use Rattle.pgb_model.specs.Names.{archive_info, backup_info}
-use Rattle.pgb_model.specs.Values.{ArchiveInfo, BackupInfo, archive_info_of, backup_info_of}
+use Rattle.pgb_model.specs.Values.{BackupInfo, archive_info_of, backup_info_of}
 use Rattle.pgb_model.specs.InfoFiles.{IsArchiveText, IsBackupText}
 use Rattle.pgb_model.specs.Pair.{PairIs, PairAbsent}
 use Rattle.pgb_info.specs.Causes.{AreDamaged}
@@ -17,8 +17,8 @@ use Rattle.pgb_stanza.specs.declared.control.Control.{Control}
 use Rattle.pgb_stanza.specs.declared.fault.StanzaFault.{StanzaFault}
 use Rattle.pgb_stanza.specs.declared.fault.StanzaFault.TheVariants.{InfoDamaged, HistoryDiffers, StanzaMismatch, ArchiveLost, Disk, NoMemory}
 use Rattle.pgb_stanza.specs.declared.judging.Kept.{Kept}
-use Rattle.pgb_stanza.specs.Pairs.{LacksStanza, HavePairs, identity_kept, identity_told}
-use Rattle.pgb_stanza.specs.Judging.{Settles, IsOf, KeepsStanza, Refuses, Lost, Alone, NotOf, Unfit, Differing, Other}
+use Rattle.pgb_stanza.specs.Pairs.{LacksStanza}
+use Rattle.pgb_stanza.specs.Judging.{Settles, IsOf, KeepsStanza, Refuses, Lost, Alone, NotOf, Differing, Other}
 use Rattle.pgb_stanza.specs.Causes.{ReadCause, CreateCause, HasDamage, OfBackup, OfBackupBeside, OfNoBackup}
 use Rattle.pgb_stanza.proofs.NewStanza.{at_told}
 

@@ -18,7 +18,7 @@ use Rattle.pgb_model.specs.ManifestText.{IsManifestText}
 use Rattle.pgb_model.specs.Pair.{PairIs, MemberIs}
 use Rattle.pgb_model.specs.Repository.{Stanza, Backup}
 use Rattle.pgb_model.specs.Stands.{Stands, HasStanza, IsManifestOf, IsPending, IsArchiveFile, archive_value, backup_value}
-use Rattle.pgb_model.specs.Log.{IsPlaceOf, IsManifestMember, Lists}
+use Rattle.pgb_model.specs.Log.{IsPlaceOf, Lists}
 use Rattle.pgb_model.specs.Now.{NowStands}
 use Rattle.pgb_model.specs.Steady.{IsSteady, Moves}
 use Rattle.pgb_model.proofs.NameLemmas.{copy_apart, pairs_apart, archive_backup_copy_apart, archive_copy_backup_apart, copies_apart, file_backup_apart, file_backup_copy_apart}

@@ -1,19 +1,18 @@
 -- A stanza that is there, as its pairs are mended.
-use Rattle.std.proofs.Common.{◌≡◌, ◌≢◌, ◌⊎◌, ⊎_elim, inl, inr, ℕ, zero, suc, ◌+◌, ◌-◌, ◌<◌, ◌≤◌, List, [], ◌∷◌, ◌++◌, map, length, Option, Some, None, refl, ap, ◌∙◌, sym, subst, arith, length-append}
+use Rattle.std.proofs.Common.{◌≡◌, ◌≢◌, ◌⊎◌, inl, inr, ℕ, zero, suc, ◌-◌, ◌≤◌, List, [], ◌∷◌, ◌++◌, map, length, Option, Some, None, refl, ap, ◌∙◌, sym, subst, arith, length-append}
 use Rattle.std.specs.Prelude.{IfSome, IsSome, slice_get}
-use Rattle.std.proofs.lemmas.List.{length-map, append_cancel_right}
+use Rattle.std.proofs.lemmas.List.{length-map}
 use Rattle.pgb_outside.specs.Content.{Content}
 use Rattle.pgb_outside.specs.Moments.{View, Rests}
 use Rattle.pgb_outside.specs.Crash.{Crash, NowGoes, SomeOf}
 use Rattle.pgb_outside.proofs.Nows.{told_as}
-use Rattle.pgb_model.specs.declared.clusters.ClusterId.{ClusterId}
 use Rattle.pgb_model.specs.declared.clusters.Cluster.{Cluster}
 use Rattle.pgb_model.specs.Text.{Text, In}
-use Rattle.pgb_model.specs.Names.{archive_info, backup_info, copy_of}
+use Rattle.pgb_model.specs.Names.{archive_info, backup_info}
 use Rattle.pgb_model.specs.Fields.{at_number}
 use Rattle.pgb_model.specs.Values.{ArchiveInfo, BackupInfo, Entry}
 use Rattle.pgb_model.specs.InfoText.{info_text}
-use Rattle.pgb_model.specs.InfoFiles.{IsArchiveText, IsBackupText, IsArchiveInfo, IsBackupInfo, AreFrom, backup_sections, entry_field, info_limit}
+use Rattle.pgb_model.specs.InfoFiles.{IsArchiveText, IsBackupText, backup_sections, entry_field}
 use Rattle.pgb_model.specs.Pair.{PairIs}
 use Rattle.pgb_model.specs.Repository.{Stanza, Backup, Repository, identity_of, current_number}
 use Rattle.pgb_model.specs.Stands.{Stands, HasStanza, IsPending, archive_value, backup_value}
@@ -29,7 +28,7 @@ use Rattle.pgb_stanza.specs.Pairs.{identity_kept, HasPending, HasStanzaOf, IsSta
 use Rattle.pgb_stanza.specs.Judging.{Settles, As, Without, KeepsStanza}
 use Rattle.pgb_stanza.specs.Mending.{archive_text, backup_text, mending_writes, HoldBoth, HaveTexts}
 use Rattle.pgb_stanza.proofs.NewStanza.{no_pair, at_told, are_tight}
-use Rattle.pgb_stanza.proofs.OneBackup.{backup_rules, same_backup_text, pair_agrees}
+use Rattle.pgb_stanza.proofs.OneBackup.{same_backup_text, pair_agrees}
 use Rattle.pgb_stanza.proofs.Shorter.{last_number, shorter_rules, shorter_text}
 use Rattle.pgb_stanza.proofs.Mended.{mended_moves, mended_steady, mended_now}
 
@@ -70,8 +69,8 @@ without_text s c some unused is =
     let v = backup_value s (Some c) in
     let number = last_number s.history c 1 is.rules.numbers in
     let none : (e : Entry) → In e v.backups → e.db ≢ length v.history = λ e at same.
-        let (b, there, is_b) = map_in (λ (b : Backup). b.entry) s.backups e at in
-        unused b there (ap (λ (x : Entry). x.db) (sym is_b) ∙ same ∙ (let count : length v.history ≡ c.id = omega (arith, number, length-append s.history (c ∷ [])) in count)) in
+    let (b, there, is_b) = map_in (λ (b : Backup). b.entry) s.backups e at in
+    unused b there (ap (λ (x : Entry). x.db) (sym is_b) ∙ same ∙ (let count : length v.history ≡ c.id = omega (arith, number, length-append s.history (c ∷ [])) in count)) in
     record {
       rules = shorter_rules v (backup_value s None) c is.rules refl refl some refl none;
       spelled = refl;

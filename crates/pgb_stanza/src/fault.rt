@@ -24,11 +24,18 @@ pub enum StanzaFault {
         copy: MemberFault,
     },
     /// The histories of the two pairs differ; `at` is the first number at which they do.
-    HistoryDiffers { at: u32 },
+    HistoryDiffers {
+        at: u32,
+    },
     /// The stanza's current cluster isn't the data folder's.
-    StanzaMismatch { kept: Identity, found: Identity },
+    StanzaMismatch {
+        kept: Identity,
+        found: Identity,
+    },
     /// The archive pair is missing, and the backup pair lists backups; `label` is the first one's.
-    ArchiveLost { label: Label },
+    ArchiveLost {
+        label: Label,
+    },
     /// the disk's count of faults rose
     Disk,
     NoMemory,

@@ -1,4 +1,4 @@
-use Rattle.std.proofs.Common.{◌≡◌, ◌+◌, ◌∙◌, sym, refl, arith}
+use Rattle.std.proofs.Common.{◌+◌, ◌∙◌, sym, refl, arith}
 use Rattle.pgb_model.specs.Values.{archive_info_of, backup_info_of}
 use Rattle.pgb_stanza.proofs.Judged.{pending_place, settles_without, place_fits, differ_as}
 use Rattle.pgb_stanza.proofs.judging.settle.Goals.{else-place-len-via-then-place-len+else-has_pending, else-place-len-via-else-place-len}
