@@ -5,3 +5,4 @@ pub mod Entries
 pub mod Causes
 pub mod Reading
 pub mod ArchiveForm
+pub mod BackupForm

@@ -84,8 +84,8 @@ fn mend_both<D: Disk>(alloc: Global, d: &mut D, name: &str, text: &[u8]) -> Resu
     Ok(())
 }
 
-// Gives each member the text of the value, where it hasn't it.
-fn mend_pair<D: Disk, I: Info>(
+/// Gives each member the text of the value, where it hasn't it, the main one first.
+pub fn mend_pair<D: Disk, I: Info>(
     alloc: Global,
     d: &mut D,
     name: &str,

@@ -6,6 +6,7 @@ mod archive_history;
 mod archive_info;
 mod archive_reading;
 mod backup_info;
+mod backup_reading;
 mod by_key;
 mod cluster_ids;
 mod entries;
@@ -22,7 +23,7 @@ mod stamps;
 mod texts;
 
 pub use fault::{InfoFault, MemberFault, SaveFault};
-pub use healing::heal_pair;
+pub use healing::{heal_pair, mend_pair};
 pub use info::Info;
 pub use labels::label_text;
 pub use loading::load_pair;

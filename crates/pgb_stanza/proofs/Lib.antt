@@ -1,3 +1,12 @@
 mod Refused
 pub mod Saves
-mod Creates
+mod NewStanza
+mod BackupNames
+mod OneBackup
+mod Mended
+mod Lengths
+mod Shorter
+mod Judged
+mod Kept
+mod Looked
+mod SameStanza

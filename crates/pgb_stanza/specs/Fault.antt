@@ -1,14 +1,8 @@
 -- Which fault of a stanza a fault below is.
-use Rattle.pgb_outside.specs.declared.stop.Stop.{Stop}
-use Rattle.pgb_outside.specs.declared.stop.Stop.TheVariants.{Failed, NoMemory as StopNoMemory}
 use Rattle.pgb_info.specs.declared.fault.SaveFault.{SaveFault}
 use Rattle.pgb_info.specs.declared.fault.SaveFault.TheVariants.{Disk as SaveDisk, NoMemory as SaveNoMemory}
 use Rattle.pgb_stanza.specs.declared.fault.StanzaFault.{StanzaFault}
 use Rattle.pgb_stanza.specs.declared.fault.StanzaFault.TheVariants.{Disk, NoMemory}
-
-abbrev pub fault_of_stop : Stop → StanzaFault
-fault_of_stop Failed = Disk
-fault_of_stop StopNoMemory = NoMemory
 
 abbrev pub fault_of : SaveFault → StanzaFault
 fault_of SaveDisk = Disk

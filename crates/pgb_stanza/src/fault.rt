@@ -1,32 +1,47 @@
 // Why a call on a stanza is refused.
-use pgb_info::SaveFault;
-use pgb_outside::Stop;
+ghost use Rattle.std.specs.Prelude.{◌≡◌};
+ghost use Rattle.pgb_stanza.specs.declared.fault.StanzaFault.TheVariants.{NoMemory as WithoutMemory};
+ghost use Rattle.pgb_stanza.specs.Fault.{fault_of};
+
+use pgb_info::{MemberFault, SaveFault};
+use pgb_model::Label;
 use std::alloc::AllocError;
 
+/// A cluster by its system identifier and its major version.
 #[derive(Clone, Copy, Debug, PartialEq, Eq)]
+pub struct Identity {
+    pub system: u64,
+    pub version: u32,
+}
+
+/// Why a stanza isn't made, in the order in which refusals come.
+#[derive(Debug, Drop)]
 pub enum StanzaFault {
+    /// Neither member of a pair can be read; `name` is its main one's.
+    InfoDamaged {
+        name: String,
+        main: MemberFault,
+        copy: MemberFault,
+    },
+    /// The histories of the two pairs differ; `at` is the first number at which they do.
+    HistoryDiffers {
+        at: u32,
+    },
+    /// The stanza's current cluster isn't the data folder's.
+    StanzaMismatch {
+        kept: Identity,
+        found: Identity,
+    },
+    /// The archive pair is missing, and the backup pair lists backups; `label` is the first one's.
+    ArchiveLost {
+        label: Label,
+    },
+    /// the disk's count of faults rose
     Disk,
     NoMemory,
 }
 
-impl From<Stop> for StanzaFault {
-    ghost use Rattle.std.specs.Prelude.{◌≡◌};
-    ghost use Rattle.pgb_stanza.specs.Fault.{fault_of_stop};
-
-    ghost from_gives = { λ s e. e ≡ fault_of_stop s };
-
-    fn from(stop: Stop) -> Self {
-        match stop {
-            Stop::Failed => StanzaFault::Disk,
-            Stop::NoMemory => StanzaFault::NoMemory,
-        }
-    }
-}
-
 impl From<SaveFault> for StanzaFault {
-    ghost use Rattle.std.specs.Prelude.{◌≡◌};
-    ghost use Rattle.pgb_stanza.specs.Fault.{fault_of};
-
     ghost from_gives = { λ s e. e ≡ fault_of s };
 
     fn from(fault: SaveFault) -> Self {
@@ -38,10 +53,7 @@ impl From<SaveFault> for StanzaFault {
 }
 
 impl From<AllocError> for StanzaFault {
-    ghost use Rattle.std.specs.Prelude.{◌≡◌};
-    ghost use Rattle.pgb_stanza.specs.declared.fault.StanzaFault.TheVariants.{NoMemory};
-
-    ghost from_gives = { λ _ e. e ≡ NoMemory };
+    ghost from_gives = { λ _ e. e ≡ WithoutMemory };
 
     fn from(_: AllocError) -> Self {
         StanzaFault::NoMemory

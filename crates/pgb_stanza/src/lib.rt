@@ -4,10 +4,14 @@
 mod control;
 mod creating;
 mod fault;
+mod judging;
+mod keeping;
+mod making;
 mod names;
+mod reading;
 mod saving;
 
 pub use control::{Control, ControlFault, read_control};
-pub use creating::{Created, create, is_new};
-pub use fault::StanzaFault;
+pub use creating::{Created, create};
+pub use fault::{Identity, StanzaFault};
 pub use names::archive_info_name;

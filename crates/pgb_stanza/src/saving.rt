@@ -9,9 +9,10 @@ ghost use Rattle.pgb_model.specs.Values.{archive_info_of, backup_info_of};
 ghost use Rattle.pgb_stanza.specs.Tight.{AreTight};
 ghost use Rattle.pgb_model.specs.Create.{first_archive, first_backup, first_archive_text, first_backup_text, member_writes, pair_writes};
 
+use crate::judging::identity_of;
 use crate::names::{archive_info_name, backup_info_name};
 use pgb_info::{SaveFault, save_pair};
-use pgb_model::{ArchiveInfo, BackupInfo, Cluster, ClusterId};
+use pgb_model::{ArchiveInfo, BackupInfo, Cluster};
 use pgb_outside::Disk;
 use std::alloc::{AllocError, Global};
 
@@ -28,14 +29,9 @@ fn first_backup(alloc: Global, cluster: &Cluster) -> Result<BackupInfo, AllocErr
 fn first_archive(alloc: Global, cluster: &Cluster) -> Result<ArchiveInfo, AllocError>
     ensures { IfOk result (λ v. archive_info_of v ≡ first_archive cluster.now) }
 {
-    let identity = ClusterId {
-        id: cluster.id,
-        system: cluster.system,
-        version: cluster.version,
-    };
     Ok(ArchiveInfo {
         current: 1,
-        history: Vec::from_slice(alloc, &[identity])?,
+        history: Vec::from_slice(alloc, &[identity_of(cluster)])?,
     })
 }
 

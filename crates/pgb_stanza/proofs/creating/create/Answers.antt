@@ -1,53 +1,65 @@
-use Rattle.std.proofs.Common.{refl, subst}
-use Rattle.pgb_outside.specs.Crash.{Crash, Ends, NowGoes, FirstOf, AllOf}
-use Rattle.pgb_model.specs.declared.clusters.Cluster.{Cluster}
-use Rattle.pgb_model.specs.InfoFiles.{IsCluster}
-use Rattle.pgb_model.specs.Create.{pair_writes}
-use Rattle.pgb_model.proofs.Made.{made_part, made_whole, made_members}
-use Rattle.pgb_info.proofs.First.{first_archive_is, first_backup_is}
+use Rattle.std.proofs.Common.{◌⊎◌, inl, Option, subst, sym}
+use Rattle.std.specs.Prelude.{IfSome, IsSome}
+use Rattle.pgb_outside.specs.Content.{Content}
+use Rattle.pgb_model.specs.Repository.{Repository}
+use Rattle.pgb_model.specs.Stands.{Stands}
+use Rattle.pgb_model.specs.Steps.{step, Create}
+use Rattle.pgb_model.specs.Values.{archive_info_of, backup_info_of}
+use Rattle.pgb_model.proofs.Steady.{rests_moves}
 use Rattle.pgb_stanza.specs.ControlFile.{first_cluster}
-use Rattle.pgb_stanza.specs.Tight.{AreTight}
-use Rattle.pgb_stanza.proofs.Creates.{create_moves, create_done}
+use Rattle.pgb_stanza.specs.Judging.{KeepsStanza}
+use Rattle.pgb_stanza.specs.Mending.{archive_text, backup_text}
+use Rattle.pgb_stanza.specs.declared.judging.Kept.{Kept}
+use Rattle.pgb_stanza.proofs.NewStanza.{moves_lift, steady_lifts}
+use Rattle.pgb_stanza.proofs.SameStanza.{some_of, same_part, same_done, same_moves, same_steady, same_of, agreed}
 use Rattle.pgb_stanza.proofs.creating.create.Goals as goal
 
-pub returns-in_err-save_pairs-clause-part : goal.returns-in_err-save_pairs-clause-part
-returns-in_err-save_pairs-clause-part g c =
-    let of = subst IsCluster c.first_cluster-cluster.ensures.value c.first_cluster-cluster.ensures.is_cluster in
-    made_part c.args.stanza.now (first_cluster c.args.control.now) (first_archive_is _ of refl) (first_backup_is _ of refl) _ _ c.requires
-    (subst (λ (x : Cluster). NowGoes (FirstOf (pair_writes c.args.stanza.now x)) (g.D.Disk.view c.args.d.now).now (g.D.Disk.view c.save_pairs.new.d).now) c.first_cluster-cluster.ensures.value c.save_pairs.ensures.now_part)
+pub returns-in_err-look-clause-moves : goal.returns-in_err-look-clause-moves
+returns-in_err-look-clause-moves g c = λ r steady some. rests_moves c.args.stanza.now r ((λ (r : Repository) (f : Content). Stands c.args.stanza.now f r ⊎ Stands c.args.stanza.now f (step r (Create (first_cluster c.args.control.now)))) r) _ _ c.look.ensures.time c.look.ensures.now steady some (λ f h. inl h)
 
-pub returns-clause-part : goal.returns-clause-part
-returns-clause-part g c =
-    let of = subst IsCluster c.first_cluster-cluster.ensures.value c.first_cluster-cluster.ensures.is_cluster in
-    made_part c.args.stanza.now (first_cluster c.args.control.now) (first_archive_is _ of refl) (first_backup_is _ of refl) _ _ c.requires
-    (subst (λ (x : Cluster). NowGoes (FirstOf (pair_writes c.args.stanza.now x)) (g.D.Disk.view c.args.d.now).now (g.D.Disk.view c.save_pairs.new.d).now) c.first_cluster-cluster.ensures.value c.save_pairs.ensures.now_part)
+pub returns-in_err-make_stanza-in-None-clause-moves : goal.returns-in_err-make_stanza-in-None-clause-moves
+returns-in_err-make_stanza-in-None-clause-moves g c = moves_lift c.args.stanza.now _ _ _ c.look.ensures.time c.look.ensures.now (λ (r : Repository) (f : Content). Stands c.args.stanza.now f r ⊎ Stands c.args.stanza.now f (step r (Create (first_cluster c.args.control.now)))) (λ r f h. inl h) c.make_stanza.ensures.moves
 
-pub returns-clause-done : goal.returns-clause-done
-returns-clause-done g c =
-    let of = subst IsCluster c.first_cluster-cluster.ensures.value c.first_cluster-cluster.ensures.is_cluster in
-    made_whole c.args.stanza.now (first_cluster c.args.control.now) (first_archive_is _ of refl) (first_backup_is _ of refl) _ _ c.requires
-    (subst (λ (x : Cluster). NowGoes (AllOf (pair_writes c.args.stanza.now x)) (g.D.Disk.view c.args.d.now).now (g.D.Disk.view c.save_pairs.new.d).now) c.first_cluster-cluster.ensures.value c.in_ok-save_pairs.ensures.now_whole)
+pub returns-in_ok-make_stanza-in-None-clause-moves : goal.returns-in_ok-make_stanza-in-None-clause-moves
+returns-in_ok-make_stanza-in-None-clause-moves g c = moves_lift c.args.stanza.now _ _ _ c.look.ensures.time c.look.ensures.now (λ (r : Repository) (f : Content). Stands c.args.stanza.now f r ⊎ Stands c.args.stanza.now f (step r (Create (first_cluster c.args.control.now)))) (λ r f h. inl h) c.make_stanza.ensures.moves
 
-pub returns-clause-members : goal.returns-clause-members
-returns-clause-members g c = λ some.
-    made_members c.args.stanza.now (first_cluster c.args.control.now) _ _ some
-    (subst (λ (x : Cluster). NowGoes (AllOf (pair_writes c.args.stanza.now x)) (g.D.Disk.view c.args.d.now).now (g.D.Disk.view c.save_pairs.new.d).now) c.first_cluster-cluster.ensures.value c.in_ok-save_pairs.ensures.now_whole)
+pub returns-in_ok-make_stanza-in-None-clause-made : goal.returns-in_ok-make_stanza-in-None-clause-made
+returns-in_ok-make_stanza-in-None-clause-made g c = steady_lifts c.args.stanza.now _ _ _ c.look.ensures.time c.look.ensures.now (λ r. step r (Create (first_cluster c.args.control.now))) c.in_ok-make_stanza-in-None.ensures.made
 
-pub returns-in_err-save_pairs-clause-moves : goal.returns-in_err-save_pairs-clause-moves
-returns-in_err-save_pairs-clause-moves g c = λ r steady told.
-    let of = subst IsCluster c.first_cluster-cluster.ensures.value c.first_cluster-cluster.ensures.is_cluster in
-    create_moves c.args.stanza.now (first_cluster c.args.control.now) of refl _ _ told c.requires
-    (subst (λ (x : Cluster). AreTight c.args.stanza.now (g.D.Disk.view c.args.d.now) → Crash (FirstOf (pair_writes c.args.stanza.now x)) (g.D.Disk.view c.args.d.now) (g.D.Disk.view c.save_pairs.new.d)) c.first_cluster-cluster.ensures.value c.save_pairs.ensures.crash) r steady
+pub returns-in_err-keep_stanza-in-Some-clause-part : goal.returns-in_err-keep_stanza-in-Some-clause-part
+returns-in_err-keep_stanza-in-Some-clause-part g c =
+    let k = some_of (λ (k : Kept). IfSome (g.D.Disk.view c.args.d.now).now (λ (f : Content). KeepsStanza c.args.stanza.now c.args.control.now f (archive_info_of k.archive) (backup_info_of k.backup))) _ c.in-Some.kept c.in-Some.is c.in_ok-look.ensures.kept in
+    same_part c.args.stanza.now c.args.control.now (archive_info_of c.in-Some.kept.archive) (backup_info_of c.in-Some.kept.backup) (g.D.Disk.view c.args.d.now) (g.D.Disk.view c.look.new.d) (g.D.Disk.view c.keep_stanza.new.d) c.look.ensures.time c.look.ensures.now k (first_cluster c.args.control.now) c.keep_stanza.ensures.now_part
 
-pub returns-clause-moves : goal.returns-clause-moves
-returns-clause-moves g c = λ r steady told.
-    let of = subst IsCluster c.first_cluster-cluster.ensures.value c.first_cluster-cluster.ensures.is_cluster in
-    create_moves c.args.stanza.now (first_cluster c.args.control.now) of refl _ _ told c.requires
-    (subst (λ (x : Cluster). AreTight c.args.stanza.now (g.D.Disk.view c.args.d.now) → Crash (FirstOf (pair_writes c.args.stanza.now x)) (g.D.Disk.view c.args.d.now) (g.D.Disk.view c.save_pairs.new.d)) c.first_cluster-cluster.ensures.value c.save_pairs.ensures.crash) r steady
+pub returns-in_err-keep_stanza-in-Some-clause-moves : goal.returns-in_err-keep_stanza-in-Some-clause-moves
+returns-in_err-keep_stanza-in-Some-clause-moves g c =
+    let k = some_of (λ (k : Kept). IfSome (g.D.Disk.view c.args.d.now).now (λ (f : Content). KeepsStanza c.args.stanza.now c.args.control.now f (archive_info_of k.archive) (backup_info_of k.backup))) _ c.in-Some.kept c.in-Some.is c.in_ok-look.ensures.kept in
+    same_moves c.args.stanza.now c.args.control.now (archive_info_of c.in-Some.kept.archive) (backup_info_of c.in-Some.kept.backup) (g.D.Disk.view c.args.d.now) (g.D.Disk.view c.look.new.d) (g.D.Disk.view c.keep_stanza.new.d) c.look.ensures.time c.look.ensures.now k (first_cluster c.args.control.now) c.keep_stanza.ensures.crash
 
-pub returns-clause-made : goal.returns-clause-made
-returns-clause-made g c = λ r steady told.
-    let of = subst IsCluster c.first_cluster-cluster.ensures.value c.first_cluster-cluster.ensures.is_cluster in
-    create_done c.args.stanza.now (first_cluster c.args.control.now) of refl _ _ told c.requires
-    (subst (λ (x : Cluster). AreTight c.args.stanza.now (g.D.Disk.view c.args.d.now) → Crash (FirstOf (pair_writes c.args.stanza.now x)) (g.D.Disk.view c.args.d.now) (g.D.Disk.view c.save_pairs.new.d)) c.first_cluster-cluster.ensures.value c.save_pairs.ensures.crash)
-    (subst (λ (x : Cluster). AreTight c.args.stanza.now (g.D.Disk.view c.args.d.now) → Ends (AllOf (pair_writes c.args.stanza.now x)) (g.D.Disk.view c.args.d.now) (g.D.Disk.view c.save_pairs.new.d)) c.first_cluster-cluster.ensures.value c.in_ok-save_pairs.ensures.whole) r steady
+pub returns-in_ok-keep_stanza-in-Some-clause-part : goal.returns-in_ok-keep_stanza-in-Some-clause-part
+returns-in_ok-keep_stanza-in-Some-clause-part g c =
+    let k = some_of (λ (k : Kept). IfSome (g.D.Disk.view c.args.d.now).now (λ (f : Content). KeepsStanza c.args.stanza.now c.args.control.now f (archive_info_of k.archive) (backup_info_of k.backup))) _ c.in-Some.kept c.in-Some.is c.in_ok-look.ensures.kept in
+    same_part c.args.stanza.now c.args.control.now (archive_info_of c.in-Some.kept.archive) (backup_info_of c.in-Some.kept.backup) (g.D.Disk.view c.args.d.now) (g.D.Disk.view c.look.new.d) (g.D.Disk.view c.keep_stanza.new.d) c.look.ensures.time c.look.ensures.now k (first_cluster c.args.control.now) c.keep_stanza.ensures.now_part
+
+pub returns-in_ok-keep_stanza-in-Some-clause-done : goal.returns-in_ok-keep_stanza-in-Some-clause-done
+returns-in_ok-keep_stanza-in-Some-clause-done g c =
+    let k = some_of (λ (k : Kept). IfSome (g.D.Disk.view c.args.d.now).now (λ (f : Content). KeepsStanza c.args.stanza.now c.args.control.now f (archive_info_of k.archive) (backup_info_of k.backup))) _ c.in-Some.kept c.in-Some.is c.in_ok-look.ensures.kept in
+    same_done c.args.stanza.now c.args.control.now (archive_info_of c.in-Some.kept.archive) (backup_info_of c.in-Some.kept.backup) (g.D.Disk.view c.args.d.now) (g.D.Disk.view c.look.new.d) (g.D.Disk.view c.keep_stanza.new.d) c.look.ensures.time c.look.ensures.now k (first_cluster c.args.control.now) c.keep_stanza.ensures.now_part
+
+pub returns-in_ok-keep_stanza-in-Some-clause-moves : goal.returns-in_ok-keep_stanza-in-Some-clause-moves
+returns-in_ok-keep_stanza-in-Some-clause-moves g c =
+    let k = some_of (λ (k : Kept). IfSome (g.D.Disk.view c.args.d.now).now (λ (f : Content). KeepsStanza c.args.stanza.now c.args.control.now f (archive_info_of k.archive) (backup_info_of k.backup))) _ c.in-Some.kept c.in-Some.is c.in_ok-look.ensures.kept in
+    same_moves c.args.stanza.now c.args.control.now (archive_info_of c.in-Some.kept.archive) (backup_info_of c.in-Some.kept.backup) (g.D.Disk.view c.args.d.now) (g.D.Disk.view c.look.new.d) (g.D.Disk.view c.keep_stanza.new.d) c.look.ensures.time c.look.ensures.now k (first_cluster c.args.control.now) c.keep_stanza.ensures.crash
+
+pub returns-in_ok-keep_stanza-in-Some-clause-made : goal.returns-in_ok-keep_stanza-in-Some-clause-made
+returns-in_ok-keep_stanza-in-Some-clause-made g c =
+    let k = some_of (λ (k : Kept). IfSome (g.D.Disk.view c.args.d.now).now (λ (f : Content). KeepsStanza c.args.stanza.now c.args.control.now f (archive_info_of k.archive) (backup_info_of k.backup))) _ c.in-Some.kept c.in-Some.is c.in_ok-look.ensures.kept in
+    same_steady c.args.stanza.now c.args.control.now (archive_info_of c.in-Some.kept.archive) (backup_info_of c.in-Some.kept.backup) (g.D.Disk.view c.args.d.now) (g.D.Disk.view c.look.new.d) (g.D.Disk.view c.keep_stanza.new.d) c.look.ensures.time c.look.ensures.now k (first_cluster c.args.control.now) c.keep_stanza.ensures.crash
+
+pub returns-in_ok-keep_stanza-in-Some-clause-same : goal.returns-in_ok-keep_stanza-in-Some-clause-same
+returns-in_ok-keep_stanza-in-Some-clause-same g c =
+    let k = some_of (λ (k : Kept). IfSome (g.D.Disk.view c.args.d.now).now (λ (f : Content). KeepsStanza c.args.stanza.now c.args.control.now f (archive_info_of k.archive) (backup_info_of k.backup))) _ c.in-Some.kept c.in-Some.is c.in_ok-look.ensures.kept in
+    same_of c.args.stanza.now c.args.control.now (archive_info_of c.in-Some.kept.archive) (backup_info_of c.in-Some.kept.backup) (g.D.Disk.view c.args.d.now) (g.D.Disk.view c.look.new.d) (g.D.Disk.view c.keep_stanza.new.d) c.look.ensures.time c.look.ensures.now k
+
+pub returns-in_ok-keep_stanza-in-Some-clause-agrees : goal.returns-in_ok-keep_stanza-in-Some-clause-agrees
+returns-in_ok-keep_stanza-in-Some-clause-agrees g c = λ some. agreed c.args.stanza.now (archive_text (archive_info_of c.in-Some.kept.archive)) (backup_text (backup_info_of c.in-Some.kept.backup)) _ (c.in_ok-keep_stanza-in-Some.ensures.mended (subst (λ (o : Option Content). IsSome o) (sym c.look.ensures.now) some))

@@ -1,0 +1,97 @@
+-- Why a stanza isn't made.
+use Rattle.std.specs.Prelude.{◌≡◌, ◌≢◌, List, ◌∷◌, ℕ, Option, IfSome, string_bytes}
+use Rattle.pgb_outside.specs.Content.{Content}
+use Rattle.pgb_model.specs.declared.labels.Label.{Label}
+use Rattle.pgb_model.specs.declared.clusters.ClusterId.{ClusterId}
+use Rattle.pgb_model.specs.Text.{Text}
+use Rattle.pgb_model.specs.Names.{archive_info, backup_info}
+use Rattle.pgb_model.specs.Values.{ArchiveInfo, BackupInfo, Entry}
+use Rattle.pgb_model.specs.InfoFiles.{IsArchiveText, IsBackupText}
+use Rattle.pgb_model.specs.Pair.{PairIs, PairAbsent}
+use Rattle.pgb_info.specs.declared.fault.MemberFault.{MemberFault}
+use Rattle.pgb_info.specs.declared.fault.MemberFault.TheVariants.{Absent}
+use Rattle.pgb_info.specs.Causes.{AreDamaged}
+use Rattle.pgb_model.specs.InfoText.{Section}
+use Rattle.pgb_info.specs.ArchiveForm.{IsArchiveForm}
+use Rattle.pgb_info.specs.BackupForm.{IsBackupForm}
+use Rattle.pgb_stanza.specs.declared.control.Control.{Control}
+use Rattle.pgb_stanza.specs.declared.creating.Created.{Created}
+use Rattle.pgb_stanza.specs.declared.creating.Created.TheVariants.{New, Same}
+use Rattle.pgb_stanza.specs.declared.fault.Identity.{Identity}
+use Rattle.pgb_stanza.specs.declared.fault.StanzaFault.{StanzaFault}
+use Rattle.pgb_stanza.specs.declared.fault.StanzaFault.TheVariants.{InfoDamaged, HistoryDiffers, StanzaMismatch, ArchiveLost, Disk, NoMemory}
+use Rattle.pgb_stanza.specs.Pairs.{identity_told, identity_kept, identities, DifferFirst, HasPending, AreTogether, IsCurrent, HavePairs}
+
+-- The pair of this main member is damaged: the archive pair is looked at first.
+pub data HasDamage (stanza : Text) (f : Content) (name : Text) (main copy : MemberFault) : Type 0 where
+  -- the members of the archive pair have these faults
+  OfArchive : name ≡ archive_info stanza → AreDamaged IsArchiveText IsArchiveForm f (archive_info stanza) main copy → HasDamage stanza f name main copy
+  -- those of the backup pair have, beside an archive pair that is missing
+  OfBackup : name ≡ backup_info stanza → PairAbsent f (archive_info stanza) → AreDamaged IsBackupText IsBackupForm f (backup_info stanza) main copy → HasDamage stanza f name main copy
+  -- those of the backup pair have, beside an archive pair that has a value
+  OfBackupBeside : name ≡ backup_info stanza → (a : ArchiveInfo) → PairIs IsArchiveText f (archive_info stanza) a → AreDamaged IsBackupText IsBackupForm f (backup_info stanza) main copy → HasDamage stanza f name main copy
+  -- the backup pair is missing beside an archive pair that has a value
+  OfNoBackup : name ≡ backup_info stanza → (a : ArchiveInfo) → PairIs IsArchiveText f (archive_info stanza) a → PairAbsent f (backup_info stanza) → main ≡ Absent → copy ≡ Absent → HasDamage stanza f name main copy
+
+-- The histories of the two pairs differ first at this number, and not by a cluster that is still to come.
+pub record HistoriesDiffer (stanza : Text) (f : Content) (at : ℕ) : Type 0 where
+  pub archive : ArchiveInfo
+  pub backup : BackupInfo
+  pub pairs : HavePairs stanza f archive backup
+  pub differ : DifferFirst at archive.history (identities backup)
+  pub settled : ¬ HasPending archive backup
+
+-- the pairs fit together, and their current cluster is another than the one that is told
+pub record HasOther (stanza : Text) (told : Control) (f : Content) (kept found : Identity) : Type 0 where
+  pub archive : ArchiveInfo
+  pub backup : BackupInfo
+  pub pairs : HavePairs stanza f archive backup
+  pub together : AreTogether archive backup
+  pub current : ClusterId
+  pub is_current : IsCurrent archive current
+  pub is_kept : kept ≡ identity_kept current
+  pub is_found : found ≡ identity_told told
+  pub apart : kept ≢ found
+
+-- the archive pair is missing, and the backup pair lists this backup as its first
+pub record HasLost (stanza : Text) (f : Content) (label : Label) : Type 0 where
+  pub archive : PairAbsent f (archive_info stanza)
+  pub backup : BackupInfo
+  pub reads : PairIs IsBackupText f (backup_info stanza) backup
+  pub first : Entry
+  pub others : List Entry
+  pub listed : backup.backups ≡ first ∷ others
+  pub is : label ≡ first.label
+
+-- why a pair isn't read
+module _ {V : Type 0} (IsTextOf : V → Text → Type 0) (IsForm : List Section → Text → Text → Type 0) where
+  abbrev pub ReadCause : Text → Option Content → Type 0 → StanzaFault → Type 0
+  ReadCause name now rose (InfoDamaged word main copy) = (string_bytes word ≡ name) × IfSome now (λ f. AreDamaged IsTextOf IsForm f name main copy)
+  ReadCause name now rose Disk = rose
+  ReadCause name now rose NoMemory = Unit {0}
+  ReadCause name now rose other = ⊥
+
+-- Why create gives this fault, from what the disk held as it began, and whether the disk's count of faults rose.
+abbrev pub CreateCause : Text → Control → Option Content → Type 0 → StanzaFault → Type 0
+CreateCause stanza told now rose (InfoDamaged name main copy) = IfSome now (λ f. HasDamage stanza f (string_bytes name) main copy)
+CreateCause stanza told now rose (HistoryDiffers at) = IfSome now (λ f. HistoriesDiffer stanza f at)
+CreateCause stanza told now rose (StanzaMismatch kept found) = IfSome now (λ f. HasOther stanza told f kept found)
+CreateCause stanza told now rose (ArchiveLost label) = IfSome now (λ f. HasLost stanza f label)
+CreateCause stanza told now rose Disk = rose
+CreateCause stanza told now rose NoMemory = Unit {0}
+
+-- what holds where the stanza is refused for what the disk holds
+abbrev pub OnContent : StanzaFault → Type 0 → Type 0
+OnContent Disk P = Unit {0}
+OnContent NoMemory P = Unit {0}
+OnContent refusal P = P
+
+-- what holds where the stanza was made
+abbrev pub IfNew : Created → Type 0 → Type 0
+IfNew New P = P
+IfNew Same P = Unit {0}
+
+-- what holds where it was there
+abbrev pub IfSame : Created → Type 0 → Type 0
+IfSame New P = Unit {0}
+IfSame Same P = P

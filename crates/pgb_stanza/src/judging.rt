@@ -1,0 +1,173 @@
+// Whether the values of a stanza's two pairs fit together, and are of a cluster.
+ghost use Rattle.std.specs.Prelude.{◌≡◌, ◌≢◌, ◌⊎◌, ◌+◌, ◌<◌, ◌≤◌, ◌∷◌, ◌++◌, true, false, List, [], length, map, slice_get, IfOk, IfErr, IfSome, IfNone, OnOk};
+ghost use Rattle.pgb_model.specs.declared.clusters.Cluster.{Cluster};
+ghost use Rattle.pgb_model.specs.Text.{In};
+ghost use Rattle.pgb_model.specs.Values.{archive_info_of, backup_info_of, entry_of, Entry as SpecEntry};
+ghost use Rattle.pgb_model.specs.InfoFiles.{IsArchiveInfo, IsBackupInfo};
+ghost use Rattle.pgb_model.specs.Repository.{identity_of};
+ghost use Rattle.pgb_stanza.specs.Pairs.{DifferFirst, HasPending};
+ghost use Rattle.pgb_stanza.specs.Judging.{Settles, IsOf, TellsDifference, TellsOther, TellsLost, Unfit};
+
+use crate::control::Control;
+use crate::fault::{Identity, StanzaFault};
+use pgb_model::{ArchiveInfo, BackupInfo, Cluster, ClusterId, Entry};
+
+/// The values of a stanza's two pairs.
+#[derive(Debug, Drop)]
+pub(crate) struct Kept {
+    pub archive: ArchiveInfo,
+    /// without a cluster that is still to come
+    pub backup: BackupInfo,
+}
+
+pub(crate) fn identity_of(cluster: &Cluster) -> ClusterId
+    ensures { result ≡ identity_of cluster.now }
+{
+    ClusterId {
+        id: cluster.id,
+        system: cluster.system,
+        version: cluster.version,
+    }
+}
+
+// Whether both histories have the same cluster at this place, or neither has one.
+fn agree_at(archive: &[ClusterId], backup: &[Cluster], place: usize) -> bool
+    ensures same { result ≡ true → slice_get archive.now place ≡ slice_get (map identity_of backup.now) place }
+    ensures other { result ≡ false → slice_get archive.now place ≢ slice_get (map identity_of backup.now) place }
+{
+    match (archive.get(place), backup.get(place)) {
+        (Some(kept), Some(cluster)) => *kept == identity_of(cluster),
+        (None, None) => true,
+        _ => false,
+    }
+}
+
+// The first place at which the histories differ.
+fn first_difference(archive: &[ClusterId], backup: &[Cluster]) -> Option<usize>
+    ensures none { IfNone result (archive.now ≡ map identity_of backup.now) }
+    ensures some { IfSome result (λ place. DifferFirst (place + 1) archive.now (map identity_of backup.now)) }
+    ensures within { IfSome result (λ place. (place < length archive.now) ⊎ (place < length backup.now)) }
+{
+    let longest = archive.len().max(backup.len());
+    for place in 0..longest {
+        if !agree_at(archive, backup, place) {
+            return Some(place);
+        }
+    }
+    None
+}
+
+// Whether a listed backup is of this cluster.
+fn lists_cluster(backups: &[Entry], id: u32) -> bool
+    ensures some { result ≡ true → (e : SpecEntry) × In e (map entry_of backups.now) × (e.db ≡ id) }
+    ensures none { result ≡ false → (e : SpecEntry) → In e (map entry_of backups.now) → e.db ≢ id }
+{
+    for entry in backups {
+        if entry.db == id {
+            return true;
+        }
+    }
+    false
+}
+
+// Whether the backup pair tells one cluster more than the archive pair, as its current one and no listed backup's.
+fn has_pending(archive: &ArchiveInfo, backup: &BackupInfo) -> bool
+    requires { IsBackupInfo (backup_info_of backup.now) }
+    ensures one { result ≡ true → length backup.now.history.items ≡ length archive.now.history.items + 1 }
+    ensures current { result ≡ true → backup.now.current ≡ length backup.now.history.items }
+    ensures unused { result ≡ true → (e : SpecEntry) → In e (backup_info_of backup.now).backups → e.db ≢ backup.now.current }
+    ensures other { result ≡ false → ¬ HasPending (archive_info_of archive.now) (backup_info_of backup.now) }
+{
+    if backup.history.len() != archive.history.len() + 1 {
+        return false;
+    }
+    if backup.current as usize != backup.history.len() {
+        return false;
+    }
+    !lists_cluster(&backup.backups, backup.current)
+}
+
+// The value without the last cluster of its history, of which no backup is listed.
+fn without_last(mut backup: BackupInfo) -> BackupInfo
+    requires valid { IsBackupInfo (backup_info_of backup) }
+    requires some { 2 ≤ length backup.history.items }
+    requires unused { (e : SpecEntry) → In e (backup_info_of backup).backups → e.db ≢ length backup.history.items }
+    ensures history { (last : Cluster) × (backup.history.items ≡ result.history.items ++ last ∷ []) }
+    ensures current { result.current ≡ length result.history.items }
+    ensures backups { (backup_info_of result).backups ≡ (backup_info_of backup).backups }
+    ensures valid { IsBackupInfo (backup_info_of result) }
+{
+    backup.history.pop();
+    backup.current = backup.history.len() as u32;
+    backup
+}
+
+// The backup pair's value without a cluster that is still to come.
+fn settle(archive: &ArchiveInfo, backup: BackupInfo) -> Result<BackupInfo, StanzaFault>
+    requires archive { IsArchiveInfo (archive_info_of archive.now) }
+    requires backup { IsBackupInfo (backup_info_of backup) }
+    ensures settled { IfOk result (λ w. Settles (archive_info_of archive.now) (backup_info_of backup) (backup_info_of w)) }
+    ensures valid { IfOk result (λ w. IsBackupInfo (backup_info_of w)) }
+    ensures differ { IfErr result (TellsDifference (archive_info_of archive.now) (backup_info_of backup)) }
+{
+    let Some(place) = first_difference(&archive.history, &backup.history) else {
+        return Ok(backup);
+    };
+    if place == archive.history.len() && has_pending(archive, &backup) {
+        return Ok(without_last(backup));
+    }
+    Err(StanzaFault::HistoryDiffers {
+        at: place as u32 + 1,
+    })
+}
+
+// Whether the current cluster is the one that is told.
+fn check_current(archive: &ArchiveInfo, told: &Control) -> Result<(), StanzaFault>
+    requires { IsArchiveInfo (archive_info_of archive.now) }
+    ensures same { OnOk result (IsOf told.now (archive_info_of archive.now)) }
+    ensures other { IfErr result (TellsOther told.now (archive_info_of archive.now)) }
+{
+    let current = &archive.history[archive.current as usize - 1];
+    let kept = Identity {
+        system: current.system,
+        version: current.version,
+    };
+    let found = Identity {
+        system: told.system,
+        version: told.version,
+    };
+    if kept != found {
+        return Err(StanzaFault::StanzaMismatch { kept, found });
+    }
+    Ok(())
+}
+
+/// What is kept of two values that fit together and are of the cluster that is told.
+pub(crate) fn fit(
+    archive: ArchiveInfo,
+    backup: BackupInfo,
+    told: &Control,
+) -> Result<Kept, StanzaFault>
+    requires archive { IsArchiveInfo (archive_info_of archive) }
+    requires backup { IsBackupInfo (backup_info_of backup) }
+    ensures archive { IfOk result (λ k. k.archive ≡ archive) }
+    ensures settled { IfOk result (λ k. Settles (archive_info_of archive) (backup_info_of backup) (backup_info_of k.backup)) }
+    ensures of { IfOk result (λ k. IsOf told.now (archive_info_of archive)) }
+    ensures valid { IfOk result (λ k. IsBackupInfo (backup_info_of k.backup)) }
+    ensures unfit { IfErr result (Unfit told.now (archive_info_of archive) (backup_info_of backup)) }
+{
+    let backup = settle(&archive, backup)?;
+    check_current(&archive, told)?;
+    Ok(Kept { archive, backup })
+}
+
+/// Refuses a value that lists a backup.
+pub(crate) fn lists_nothing(backup: &BackupInfo) -> Result<(), StanzaFault>
+    ensures nothing { OnOk result ((backup_info_of backup.now).backups ≡ []) }
+    ensures lost { IfErr result (TellsLost (backup_info_of backup.now)) }
+{
+    match backup.backups.first() {
+        None => Ok(()),
+        Some(first) => Err(StanzaFault::ArchiveLost { label: first.label }),
+    }
+}

@@ -1,0 +1,82 @@
+// The pairs of a stanza are mended.
+ghost use Rattle.std.specs.Prelude.{◌≡◌, ◌≤◌, false, OnOk, IfSome, IsSome, IsErrOf};
+ghost use Rattle.pgb_outside.specs.Moments.{is_loose};
+ghost use Rattle.pgb_outside.specs.Crash.{Crash, NowGoes, SomeOf};
+ghost use Rattle.pgb_outside.specs.Cause.{Rises};
+ghost use Rattle.pgb_model.specs.Names.{archive_info, backup_info, copy_of};
+ghost use Rattle.pgb_model.specs.Create.{member_writes};
+ghost use Rattle.pgb_model.specs.Values.{archive_info_of, backup_info_of};
+ghost use Rattle.pgb_model.specs.InfoFiles.{IsArchiveInfo, IsBackupInfo};
+ghost use Rattle.pgb_stanza.specs.Tight.{AreTight};
+ghost use Rattle.pgb_stanza.specs.Mending.{archive_text, backup_text, mending_writes, HoldBoth, HaveTexts};
+
+use crate::judging::Kept;
+use crate::names::{archive_info_name, backup_info_name};
+use pgb_info::{SaveFault, mend_pair};
+use pgb_model::{ArchiveInfo, BackupInfo};
+use pgb_outside::Disk;
+use std::alloc::Global;
+
+// Gives each member of the archive pair the value's text, where it hasn't it.
+fn keep_archive<D: Disk>(
+    alloc: Global,
+    d: &mut D,
+    stanza: &str,
+    value: &ArchiveInfo,
+) -> Result<(), SaveFault>
+    requires { IsArchiveInfo (archive_info_of value.now) }
+    ensures crash { is_loose (D.view d.old) (archive_info stanza.now) ≡ false → is_loose (D.view d.old) (copy_of (archive_info stanza.now)) ≡ false → Crash (SomeOf (member_writes (archive_info stanza.now) (archive_text (archive_info_of value.now)))) (D.view d.old) (D.view d.new) }
+    ensures now_part { NowGoes (SomeOf (member_writes (archive_info stanza.now) (archive_text (archive_info_of value.now)))) (D.view d.old).now (D.view d.new).now }
+    ensures mended { OnOk result (IfSome (D.view d.new).now (HoldBoth (archive_info stanza.now) (archive_text (archive_info_of value.now)))) }
+    ensures place { D.place d.new ≡ D.place d.old }
+    ensures proper { D.misuses d.new ≡ D.misuses d.old }
+    ensures later { D.faults d.old ≤ D.faults d.new }
+    ensures cause { IsErrOf result SaveFault.Disk → Rises (D.faults d.old) (D.faults d.new) }
+{
+    let name = archive_info_name(alloc, stanza)?;
+    mend_pair(alloc, d, name.as_str(), value)?;
+    Ok(())
+}
+
+// The same of the backup pair.
+fn keep_backup<D: Disk>(
+    alloc: Global,
+    d: &mut D,
+    stanza: &str,
+    value: &BackupInfo,
+) -> Result<(), SaveFault>
+    requires { IsBackupInfo (backup_info_of value.now) }
+    ensures crash { is_loose (D.view d.old) (backup_info stanza.now) ≡ false → is_loose (D.view d.old) (copy_of (backup_info stanza.now)) ≡ false → Crash (SomeOf (member_writes (backup_info stanza.now) (backup_text (backup_info_of value.now)))) (D.view d.old) (D.view d.new) }
+    ensures now_part { NowGoes (SomeOf (member_writes (backup_info stanza.now) (backup_text (backup_info_of value.now)))) (D.view d.old).now (D.view d.new).now }
+    ensures mended { OnOk result (IfSome (D.view d.new).now (HoldBoth (backup_info stanza.now) (backup_text (backup_info_of value.now)))) }
+    ensures place { D.place d.new ≡ D.place d.old }
+    ensures proper { D.misuses d.new ≡ D.misuses d.old }
+    ensures later { D.faults d.old ≤ D.faults d.new }
+    ensures cause { IsErrOf result SaveFault.Disk → Rises (D.faults d.old) (D.faults d.new) }
+{
+    let name = backup_info_name(alloc, stanza)?;
+    mend_pair(alloc, d, name.as_str(), value)?;
+    Ok(())
+}
+
+/// Gives each member of the two pairs its value's text, where it hasn't it, the archive pair's first.
+pub(crate) fn keep_stanza<D: Disk>(
+    alloc: Global,
+    d: &mut D,
+    stanza: &str,
+    kept: &Kept,
+) -> Result<(), SaveFault>
+    requires archive { IsArchiveInfo (archive_info_of kept.now.archive) }
+    requires backup { IsBackupInfo (backup_info_of kept.now.backup) }
+    ensures crash { AreTight stanza.now (D.view d.old) → Crash (SomeOf (mending_writes stanza.now (archive_text (archive_info_of kept.now.archive)) (backup_text (backup_info_of kept.now.backup)))) (D.view d.old) (D.view d.new) }
+    ensures now_part { NowGoes (SomeOf (mending_writes stanza.now (archive_text (archive_info_of kept.now.archive)) (backup_text (backup_info_of kept.now.backup)))) (D.view d.old).now (D.view d.new).now }
+    ensures mended { OnOk result (IsSome (D.view d.old).now → IfSome (D.view d.new).now (HaveTexts stanza.now (archive_text (archive_info_of kept.now.archive)) (backup_text (backup_info_of kept.now.backup)))) }
+    ensures place { D.place d.new ≡ D.place d.old }
+    ensures proper { D.misuses d.new ≡ D.misuses d.old }
+    ensures later { D.faults d.old ≤ D.faults d.new }
+    ensures cause { IsErrOf result SaveFault.Disk → Rises (D.faults d.old) (D.faults d.new) }
+{
+    keep_archive(alloc, d, stanza, &kept.archive)?;
+    keep_backup(alloc, d, stanza, &kept.backup)?;
+    Ok(())
+}

@@ -1,0 +1,104 @@
+// The two pairs of a stanza are read, and fit together or are refused.
+ghost use Rattle.std.specs.Prelude.{◌≡◌, ◌≤◌, [], None, Some, IfOk, IfErr, IfSome, IfNone, IsSomeAnd};
+ghost use Rattle.pgb_outside.specs.Moments.{Rests};
+ghost use Rattle.pgb_outside.specs.Cause.{Rises};
+ghost use Rattle.pgb_model.specs.Names.{archive_info, backup_info};
+ghost use Rattle.pgb_model.specs.Pair.{PairIs, PairAbsent};
+ghost use Rattle.pgb_model.specs.Values.{archive_info_of, backup_info_of};
+ghost use Rattle.pgb_model.specs.InfoFiles.{IsArchiveInfo, IsBackupInfo, IsArchiveText, IsBackupText};
+ghost use Rattle.pgb_stanza.specs.Pairs.{LacksStanza};
+ghost use Rattle.pgb_stanza.specs.Judging.{Settles, IsOf, Refuses, KeepsStanza};
+ghost use Rattle.pgb_stanza.specs.Causes.{CreateCause, ReadCause};
+
+use crate::control::Control;
+use crate::fault::StanzaFault;
+use crate::judging::{Kept, fit, lists_nothing};
+use crate::names::{archive_info_name, backup_info_name};
+use pgb_info::{InfoFault, MemberFault, ReadInfo, load_pair};
+use pgb_model::{ArchiveInfo, BackupInfo};
+use pgb_outside::Disk;
+use std::alloc::Global;
+
+// The value of a pair, or none where neither member is there.
+fn read_pair<D: Disk, I: ReadInfo>(
+    alloc: Global,
+    d: &mut D,
+    name: &str,
+) -> Result<Option<I>, StanzaFault>
+    ensures found { IfOk result (λ o. IfSome o (λ v. IfSome (D.view d.old).now (λ f. PairIs I.IsText f name.now (I.value v)))) }
+    ensures missing { IfOk result (λ o. IfNone o (IfSome (D.view d.old).now (λ f. PairAbsent f name.now))) }
+    ensures valid { IfOk result (λ o. IfSome o I.is_valid) }
+    ensures now { (D.view d.new).now ≡ (D.view d.old).now }
+    ensures time { Rests (D.view d.old) (D.view d.new) }
+    ensures place { D.place d.new ≡ D.place d.old }
+    ensures proper { D.misuses d.new ≡ D.misuses d.old }
+    ensures later { D.faults d.old ≤ D.faults d.new }
+    ensures cause { IfErr result (ReadCause I.IsText I.IsForm name.now (D.view d.old).now (Rises (D.faults d.old) (D.faults d.new))) }
+{
+    match load_pair::<D, I>(alloc, d, name) {
+        Ok(value) => Ok(Some(value)),
+        Err(InfoFault::Missing) => Ok(None),
+        Err(InfoFault::Damaged { main, copy }) => Err(StanzaFault::InfoDamaged {
+            name: String::from_str(alloc, name)?,
+            main,
+            copy,
+        }),
+        Err(InfoFault::Disk) => Err(StanzaFault::Disk),
+        Err(InfoFault::NoMemory) => Err(StanzaFault::NoMemory),
+    }
+}
+
+// What the two values tell; the name is that of the backup pair's main member.
+fn judge(
+    archive: Option<ArchiveInfo>,
+    backup: Option<BackupInfo>,
+    name: String,
+    told: &Control,
+) -> Result<Option<Kept>, StanzaFault>
+    requires archive { IfSome archive (λ a. IsArchiveInfo (archive_info_of a)) }
+    requires backup { IfSome backup (λ b. IsBackupInfo (backup_info_of b)) }
+    ensures nothing { IfOk result (λ o. IfNone o ((archive ≡ None) × IfSome backup (λ b. (backup_info_of b).backups ≡ []))) }
+    ensures kept { IfOk result (λ o. IfSome o (λ k. (archive ≡ Some k.archive) × IsSomeAnd backup (λ b. Settles (archive_info_of k.archive) (backup_info_of b) (backup_info_of k.backup)) × IsOf told.now (archive_info_of k.archive))) }
+    ensures archive { IfOk result (λ o. IfSome o (λ k. IsArchiveInfo (archive_info_of k.archive))) }
+    ensures backup { IfOk result (λ o. IfSome o (λ k. IsBackupInfo (backup_info_of k.backup))) }
+    ensures refused { IfErr result (Refuses told.now archive backup name) }
+{
+    match (archive, backup) {
+        (None, None) => Ok(None),
+        (None, Some(backup)) => {
+            lists_nothing(&backup)?;
+            Ok(None)
+        }
+        (Some(_), None) => Err(StanzaFault::InfoDamaged {
+            name,
+            main: MemberFault::Absent,
+            copy: MemberFault::Absent,
+        }),
+        (Some(archive), Some(backup)) => Ok(Some(fit(archive, backup, told)?)),
+    }
+}
+
+/// What is kept of the stanza's two pairs, or none where there is no stanza. Nothing is written.
+pub(crate) fn look<D: Disk>(
+    alloc: Global,
+    d: &mut D,
+    stanza: &str,
+    told: &Control,
+) -> Result<Option<Kept>, StanzaFault>
+    ensures lacking { IfOk result (λ o. IfNone o (IfSome (D.view d.old).now (LacksStanza stanza.now))) }
+    ensures kept { IfOk result (λ o. IfSome o (λ k. IfSome (D.view d.old).now (λ f. KeepsStanza stanza.now told.now f (archive_info_of k.archive) (backup_info_of k.backup)))) }
+    ensures archive { IfOk result (λ o. IfSome o (λ k. IsArchiveInfo (archive_info_of k.archive))) }
+    ensures backup { IfOk result (λ o. IfSome o (λ k. IsBackupInfo (backup_info_of k.backup))) }
+    ensures now { (D.view d.new).now ≡ (D.view d.old).now }
+    ensures time { Rests (D.view d.old) (D.view d.new) }
+    ensures place { D.place d.new ≡ D.place d.old }
+    ensures proper { D.misuses d.new ≡ D.misuses d.old }
+    ensures later { D.faults d.old ≤ D.faults d.new }
+    ensures cause { IfErr result (CreateCause stanza.now told.now (D.view d.old).now (Rises (D.faults d.old) (D.faults d.new))) }
+{
+    let archive_name = archive_info_name(alloc, stanza)?;
+    let backup_name = backup_info_name(alloc, stanza)?;
+    let archive = read_pair::<D, ArchiveInfo>(alloc, d, archive_name.as_str())?;
+    let backup = read_pair::<D, BackupInfo>(alloc, d, backup_name.as_str())?;
+    judge(archive, backup, backup_name, told)
+}
