@@ -34,5 +34,6 @@ fn lengths(rt: HostRuntime) -> Result<(), Fail> {
     let long = [b'x'; 1025];
     let long = str::from_utf8(&long).ok().ok_or("it is a text")?;
     assert_eq!(rt; check_name(long), Err(NameFault::TooLong));
+    assert_eq!(rt; check_name_within(long, 1200), Ok(()));
     Ok(())
 }
