@@ -1,0 +1,5 @@
+use super::*;
+use std::test::*;
+
+#[test]
+fn nothing(_rt: HostRuntime) {}
