@@ -1,3 +1,5 @@
 pub mod Loop
 pub mod Sizes
 pub mod ItemPaths
+pub mod Takes
+pub mod Items

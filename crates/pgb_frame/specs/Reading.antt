@@ -1,8 +1,8 @@
 -- Reading a frame from left to right, and the first fault that is met.
-use Rattle.std.specs.Prelude.{◌≡◌, ℕ, zero, suc, Bool, true, false, List, [], ◌∷◌, ◌+◌, ◌-◌, ◌==◌, ◌||◌, ◌&&◌, length, take, drop, Option, Some, None, Result, Ok, Err, nat_lt, nat_le, if◌then◌else◌}
+use Rattle.std.specs.Prelude.{◌≡◌, ℕ, zero, suc, Bool, true, false, List, [], ◌∷◌, ◌+◌, ◌-◌, ◌==◌, ◌||◌, ◌&&◌, length, take, drop, slice_index, Option, Some, None, Result, Ok, Err, nat_lt, nat_le, if◌then◌else◌}
 use Rattle.std.specs.List.{list_all}
 use Rattle.std.specs.Str.{is_utf8}
-use Rattle.std.specs.Int.{Width, w8, w16, w32, w64, byte_len, from_be_bytes}
+use Rattle.std.specs.Int.{Width, w16, w32, w64, byte_len, from_be_bytes}
 use Rattle.pgb_model.specs.Text.{Text}
 use Rattle.pgb_model.specs.Paths.{elements, is_path_byte, is_element}
 use Rattle.pgb_frame.specs.declared.frames.Root.{Root}
@@ -54,8 +54,8 @@ chosen at after (Some x) = Ok (x, after)
 -- a letter that stands for a value
 unfoldable pub letter_at : {X : Type 0} → (ℕ → Option X) → ℕ → Rest → Result (X × Rest) FrameFault
 letter_at value end rest = do
-  letter ← number_at w8 end rest
-  chosen (end - rest.left) letter.1 (value letter.0)
+  letter ← field_at 1 end rest
+  chosen (end - rest.left) letter.1 (value (slice_index letter.0 0))
 
 -- a text behind its length, which has to pass the test
 unfoldable pub text_at : (Text → Bool) → ℕ → Rest → Result (Text × Rest) FrameFault

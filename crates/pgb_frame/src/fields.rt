@@ -1,6 +1,6 @@
 // The fields of a body, one after the other.
 ghost use Rattle.std.specs.Prelude.{◌≡◌, ◌≤◌, take, drop, length, string_bytes, IfOk, Ok};
-ghost use Rattle.std.specs.Int.{w8, w16, w32, w64};
+ghost use Rattle.std.specs.Int.{w16, w32, w64};
 ghost use Rattle.std.specs.Str.{is_utf8};
 ghost use Rattle.pgb_frame.specs.Views.{rest_of};
 ghost use Rattle.pgb_frame.specs.Reading.{Gives, field_at, number_at, letter_at, text_at, root_value, kind_value, is_item_path};
@@ -38,16 +38,6 @@ pub(crate) fn field(size: u64, end: u64, rest: Rest<'_>) -> Result<(&[u8], Rest<
     Err(FrameFault::Form {
         at: end - rest.left,
     })
-}
-
-#[tactic(auto, unfolding(crate::specs::Reading::number_at))]
-fn u8_of(end: u64, rest: Rest<'_>) -> Result<(u8, Rest<'_>), FrameFault>
-    requires { rest.left ≤ end }
-    ensures value { Gives (λ x. (x.0, rest_of x.1)) result (number_at w8 end (rest_of rest.entry)) }
-    ensures left { IfOk result (λ x. x.1.left ≤ end) }
-{
-    let (bytes, rest) = field(1, end, rest)?;
-    Ok((u8::from_be_bytes([bytes[0]]), rest))
 }
 
 #[tactic(auto, unfolding(crate::specs::Reading::number_at))]
@@ -111,8 +101,8 @@ pub(crate) fn root_of(end: u64, rest: Rest<'_>) -> Result<(Root, Rest<'_>), Fram
     ensures left { IfOk result (λ x. x.1.left ≤ end) }
 {
     let at = end - rest.left;
-    let (letter, rest) = u8_of(end, rest)?;
-    match root_value(letter) {
+    let (letter, rest) = field(1, end, rest)?;
+    match root_value(letter[0]) {
         Some(root) => Ok((root, rest)),
         None => Err(FrameFault::Form { at }),
     }
@@ -125,8 +115,8 @@ pub(crate) fn kind_of(end: u64, rest: Rest<'_>) -> Result<(JobKind, Rest<'_>), F
     ensures left { IfOk result (λ x. x.1.left ≤ end) }
 {
     let at = end - rest.left;
-    let (letter, rest) = u8_of(end, rest)?;
-    match kind_value(letter) {
+    let (letter, rest) = field(1, end, rest)?;
+    match kind_value(letter[0]) {
         Some(kind) => Ok((kind, rest)),
         None => Err(FrameFault::Form { at }),
     }
