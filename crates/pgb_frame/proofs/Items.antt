@@ -110,7 +110,7 @@ items_again end rest after (i ∷ is) t fits =
 -- ---- a job
 
 -- a test that did not fail, where its two arms are the other way round
-some_ok : {A : Type 0} (b : Bool) (d : FrameFault) (r : Result A FrameFault) (y : A) → (if b then Err d else r) ≡ Ok y → (b ≡ false) × (r ≡ Ok y)
+pub some_ok : {A : Type 0} (b : Bool) (d : FrameFault) (r : Result A FrameFault) (y : A) → (if b then Err d else r) ≡ Ok y → (b ≡ false) × (r ≡ Ok y)
 some_ok true d r y e = absurd cc
 some_ok false d r y e = (refl, e)
 

@@ -3,3 +3,4 @@ pub mod Sizes
 pub mod ItemPaths
 pub mod Takes
 pub mod Items
+pub mod Laws

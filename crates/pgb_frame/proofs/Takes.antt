@@ -15,10 +15,10 @@ use Rattle.pgb_frame.specs.Reading.{◌>>=◌, Rest, field_at, number_at, chosen
 abbrev pub IsBytes : Text → Type 0
 IsBytes bytes = (i : ℕ) → get_or bytes i 0 < 256
 
-IsBytes-drop : (n : ℕ) (bytes : Text) → IsBytes bytes → IsBytes (drop n bytes)
+pub IsBytes-drop : (n : ℕ) (bytes : Text) → IsBytes bytes → IsBytes (drop n bytes)
 IsBytes-drop n bytes h i = rw get_or-drop (h (n + i))
 
-IsBytes-take : (n : ℕ) (bytes : Text) → IsBytes bytes → IsBytes (take n bytes)
+pub IsBytes-take : (n : ℕ) (bytes : Text) → IsBytes bytes → IsBytes (take n bytes)
 IsBytes-take n bytes h i =
     elim (cases_lt i n) [
       | inl lt ↦ rw (get_or-take n bytes i 0 lt) (h i)
@@ -35,7 +35,7 @@ pub test_ok : {A : Type 0} (b : Bool) (d : FrameFault) (x y : A) → (if b then 
 test_ok true d x y e = (refl, cc)
 test_ok false d x y e = absurd cc
 
-abbrev done : {A : Type 0} → A → Result A FrameFault
+abbrev pub done : {A : Type 0} → A → Result A FrameFault
 done x = Ok x
 
 pub ok_is : {A : Type 0} (x y : A) → done x ≡ done y → x ≡ y
