@@ -1,6 +1,6 @@
 -- The test of an item's path says what it is to be one.
-use Rattle.std.proofs.Common.{◌≡◌, ℕ, ◌≤◌, Bool, true, false, length, refl, sym, ◌∙◌, arith}
-use Rattle.std.specs.Prelude.{◌↔◌, ◌&&◌, nat_le, IsUtf8}
+use Rattle.std.proofs.Common.{◌≡◌, ℕ, Bool, true, false, length, refl, sym, arith}
+use Rattle.std.specs.Prelude.{◌↔◌, ◌&&◌, nat_le}
 use Rattle.std.specs.Str.{is_utf8}
 use Rattle.std.specs.List.{list_all}
 use Rattle.std.proofs.lemmas.Str.{IsUtf8-from_is_utf8, is_utf8-from_IsUtf8}
@@ -30,10 +30,11 @@ each_true false b c d e = absurd cc
 
 within : (limit : ℕ) (path : Text) → IsPathWithin limit path ↔ (is_within limit path ≡ true)
 within limit path = (
-    λ good. all_true _ _ _ _ (is_utf8-from_IsUtf8 path good.utf8) (grind (arith, nat_tests, good.short)) good.bytes good.elements_hold,
-    λ e.
+  λ good. all_true _ _ _ _ (is_utf8-from_IsUtf8 path good.utf8) (grind (arith, nat_tests, good.short)) good.bytes good.elements_hold,
+  λ e.
       let each = each_true (is_utf8 path) (nat_le (length path) limit) (list_all is_path_byte path) (list_all is_element (elements path)) e in
-      record { utf8 = IsUtf8-from_is_utf8 path each.0; short = grind (arith, nat_tests, each.1); bytes = each.2; elements_hold = each.3 })
+      record { utf8 = IsUtf8-from_is_utf8 path each.0; short = grind (arith, nat_tests, each.1); bytes = each.2; elements_hold = each.3 },
+)
 
 pub is_path : (root : Root) (path : Text) → IsItemPath root path ↔ (is_item_path root path ≡ true)
 is_path Tree path = (λ good. (within 1024 path).0 ((in_folder path).1 good), λ e. (in_folder path).0 ((within 1024 path).1 e))

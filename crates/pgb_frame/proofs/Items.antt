@@ -1,10 +1,9 @@
 -- What is read of a job is spelled so, and what is spelled so is read.
-use Rattle.std.proofs.Common.{◌≡◌, ℕ, zero, suc, ◌+◌, ◌-◌, ◌^◌, ◌<◌, ◌≤◌, Bool, true, false, List, [], ◌∷◌, ◌++◌, length, Option, Some, None, Result, Ok, Err, refl, sym, ap, subst, ◌∙◌, append_assoc, arith}
-use Rattle.std.specs.Prelude.{◌==◌, nat_lt, nat_le, if◌then◌else◌}
+use Rattle.std.proofs.Common.{◌≡◌, ℕ, zero, suc, ◌-◌, ◌^◌, ◌<◌, ◌≤◌, Bool, true, false, List, [], ◌∷◌, ◌++◌, length, Some, Result, Ok, Err, refl, sym, ap, subst, arith}
+use Rattle.std.specs.Prelude.{◌==◌, if◌then◌else◌}
 use Rattle.std.specs.List.{flat_map, AllByRecursion}
-use Rattle.std.specs.Int.{w16, w32, w64, to_be_bytes}
+use Rattle.std.specs.Int.{w32, w64, to_be_bytes}
 use Rattle.std.proofs.lemmas.Bool.Decides.{nat_tests}
-use Rattle.std.proofs.lemmas.List.{length-append}
 use Rattle.std.proofs.lemmas.List.Concat.{flat_map-cons}
 use Rattle.pgb_model.specs.Text.{Text}
 use Rattle.pgb_frame.specs.declared.frames.Root.{Root}
@@ -12,7 +11,7 @@ use Rattle.pgb_frame.specs.declared.frames.Root.TheVariants.{Tree, Repo}
 use Rattle.pgb_frame.specs.declared.frames.JobKind.{JobKind}
 use Rattle.pgb_frame.specs.declared.frames.JobKind.TheVariants.{Read, Digest}
 use Rattle.pgb_frame.specs.declared.fault.FrameFault.{FrameFault}
-use Rattle.pgb_frame.specs.declared.fault.FrameFault.TheVariants.{Short, Form}
+use Rattle.pgb_frame.specs.declared.fault.FrameFault.TheVariants.{Form}
 use Rattle.pgb_frame.specs.Frames.{Item, Job, Frame, short_text, root_letter, kind_letter, item_bytes, job_bytes, FitsItem, FitsJob, job_limit}
 use Rattle.pgb_frame.specs.Frames.Frame.{Task}
 use Rattle.pgb_frame.specs.Reading.{◌>>=◌, Rest, number_at, letter_at, text_at, root_value, kind_value, is_item_path, item_at, items_at, job_at}
@@ -75,10 +74,12 @@ item_again end rest after i t fits =
     let three = past (length (short_text i.path ++ to_be_bytes w64 i.at)) one in
     let c = takes_apart one three (short_text i.path) (to_be_bytes w64 i.at) b.0 in
     let two = past (length (short_text i.path)) one in
-    rw (letter_again root_value root_letter root_same end rest one i.root a.0,
-        text_again (is_item_path i.root) end one two i.path c.0 ((is_path i.root i.path).0 fits.path) (path_short i.root i.path fits.path),
-        number_again w64 (2 ^ 64) wide64 end two three i.at c.1 fits.at,
-        number_again w64 (2 ^ 64) wide64 end three after i.size b.1 fits.size) refl
+    rw (
+      letter_again root_value root_letter root_same end rest one i.root a.0,
+      text_again (is_item_path i.root) end one two i.path c.0 ((is_path i.root i.path).0 fits.path) (path_short i.root i.path fits.path),
+      number_again w64 (2 ^ 64) wide64 end two three i.at c.1 fits.at,
+      number_again w64 (2 ^ 64) wide64 end three after i.size b.1 fits.size,
+    ) refl
 
 -- ---- items
 
@@ -157,7 +158,9 @@ job_again end rest after j t fits =
     let b = takes_apart one after (to_be_bytes w32 (length j.items)) (flat_map item_bytes j.items) a.1 in
     let two = past (length (to_be_bytes w32 (length j.items))) one in
     let some : (length j.items == 0) ≡ false = grind (arith, nat_tests, fits.some) in
-    rw (letter_again kind_value kind_letter kind_same end rest one j.kind a.0,
-        number_again w32 (2 ^ 32) wide32 end one two (length j.items) b.0 fits.few,
-        some,
-        items_again end two after j.items b.1 fits.items) refl
+    rw (
+      letter_again kind_value kind_letter kind_same end rest one j.kind a.0,
+      number_again w32 (2 ^ 32) wide32 end one two (length j.items) b.0 fits.few,
+      some,
+      items_again end two after j.items b.1 fits.items,
+    ) refl

@@ -1,20 +1,23 @@
 -- What is spelled so is read, and what is read is spelled so.
-use Rattle.std.proofs.Common.{◌≡◌, ℕ, zero, suc, ◌+◌, ◌-◌, ◌^◌, ◌<◌, ◌≤◌, Bool, true, false, List, [], ◌∷◌, ◌++◌, length, take, drop, Result, Ok, Err, refl, sym, ap, subst, ◌∙◌, append_assoc, arith}
-use Rattle.std.specs.Prelude.{◌==◌, ◌||◌, nat_lt, nat_le, if◌then◌else◌}
-use Rattle.std.specs.Str.{IsUtf8, is_utf8}
+use Rattle.std.proofs.Common.{◌≡◌, ℕ, suc, ◌+◌, ◌-◌, ◌^◌, ◌<◌, ◌≤◌, Bool, true, false, [], ◌∷◌, ◌++◌, length, take, drop, Result, Ok, Err, refl, sym, ap, subst, ◌∙◌, append_assoc, arith}
+use Rattle.std.specs.Prelude.{◌==◌, nat_lt, if◌then◌else◌}
+use Rattle.std.specs.Str.{is_utf8}
 use Rattle.std.specs.Int.{w16, w32, w64, from_be_bytes, to_be_bytes}
+use Rattle.std.specs.Prelude.{IfOk}
 use Rattle.std.proofs.lemmas.Bool.Decides.{nat_tests}
 use Rattle.std.proofs.lemmas.Str.{IsUtf8-from_is_utf8, is_utf8-from_IsUtf8}
-use Rattle.std.proofs.lemmas.List.{take_at, drop_at, take-append-drop, append-nil, length-append, length-take}
+use Rattle.std.proofs.lemmas.List.{take_at, drop_at, take-append-drop, length-append, length-take}
 use Rattle.pgb_model.specs.Text.{Text}
 use Rattle.pgb_frame.specs.declared.fault.FrameFault.{FrameFault}
 use Rattle.pgb_frame.specs.declared.fault.FrameFault.TheVariants.{Short, Form, TooLong}
-use Rattle.pgb_frame.specs.Frames.{Item, Job, Roots, Frame, framed, short_text, spell, job_bytes, FitsJob, FitsRoots, FitsFrame, IsShortText, part_size, job_limit}
+use Rattle.pgb_frame.specs.Frames.{Roots, Frame, framed, short_text, spell, job_bytes, FitsRoots, FitsFrame, IsFront, part_size, job_limit}
 use Rattle.pgb_frame.specs.Frames.Frame.{Setup, Task, Part, End, Vanished, Unread}
-use Rattle.pgb_frame.specs.Reading.{◌>>=◌, Rest, field_at, number_at, text_at, setup_at, end_at, part_at, job_at, body_at, is_type, whole, frame_at}
+use Rattle.pgb_frame.specs.declared.frames.Frame as rust_frame
+use Rattle.pgb_frame.specs.Views.{frame_of}
+use Rattle.pgb_frame.specs.Reading.{◌>>=◌, Gives, Rest, field_at, number_at, text_at, setup_at, end_at, part_at, job_at, body_at, is_type, whole, frame_at}
 use Rattle.pgb_frame.proofs.Sizes.{job_short, part_short}
 use Rattle.pgb_frame.proofs.Takes.{IsBytes, IsBytes-drop, IsBytes-take, bind_ok, test_ok, done, ok_is, Takes, takes_then, takes_none, takes_apart, past, bytes_after, wide32, wide64, field_takes, field_again, number_takes, number_again, text_takes, text_again}
-use Rattle.pgb_frame.proofs.Items.{some_ok, IsJob, job_takes, job_again}
+use Rattle.pgb_frame.proofs.Items.{some_ok, job_takes, job_again}
 
 -- a body of this type was read as this frame, whole where nothing is left
 pub record IsBody (type : ℕ) (rest : Rest) (x : Frame × Rest) : Type 0 where
@@ -105,42 +108,37 @@ body_takes type end rest x is fits e =
     let to = λ (t : ℕ) (p : t ≡ type) (b : IsBody t rest x). subst (λ (k : ℕ). IsBody k rest x) p b in
     by_type (type == 83) _ _ x (IsBody type rest x) e (λ t r. to 83 (sym (same_type type 83 t)) (setup_takes end rest x fits r)) (λ n83 e.
     by_type (type == 74) _ _ x (IsBody type rest x) e (λ t r.
-        let g = some_ok (nat_lt job_limit rest.left) (TooLong rest.left) (job_at end rest) x r in
-        let small : rest.left ≤ job_limit = grind (arith, nat_tests, g.0) in
-        to 74 (sym (same_type type 74 t)) (task_takes end rest x fits small g.1)) (λ n74 e.
+    let g = some_ok (nat_lt job_limit rest.left) (TooLong rest.left) (job_at end rest) x r in
+    let small : rest.left ≤ job_limit = grind (arith, nat_tests, g.0) in
+    to 74 (sym (same_type type 74 t)) (task_takes end rest x fits small g.1)) (λ n74 e.
     by_type (type == 80) _ _ x (IsBody type rest x) e (λ t r.
-        let g = some_ok (nat_lt part_size rest.left) (TooLong rest.left) (part_at end rest) x r in
-        let small : rest.left ≤ part_size = grind (arith, nat_tests, g.0) in
-        to 80 (sym (same_type type 80 t)) (part_takes end rest x small g.1)) (λ n80 e.
+    let g = some_ok (nat_lt part_size rest.left) (TooLong rest.left) (part_at end rest) x r in
+    let small : rest.left ≤ part_size = grind (arith, nat_tests, g.0) in
+    to 80 (sym (same_type type 80 t)) (part_takes end rest x small g.1)) (λ n80 e.
     by_type (type == 69) _ _ x (IsBody type rest x) e (λ t r. to 69 (sym (same_type type 69 t)) (end_takes end rest x fits r)) (λ n69 e.
     by_type (type == 86) _ _ x (IsBody type rest x) e (λ t r. to 86 (sym (same_type type 86 t)) (empty_takes 86 Vanished rest x refl tt r)) (λ n86 e.
     to 85 (last_type type is n83 n74 n80 n69 n86) (empty_takes 85 Unread rest x refl tt e))))))
 
 -- ---- a whole frame
 
-pub record IsSpelled (bytes : Text) (x : Frame × ℕ) : Type 0 where
-  pub parts : bytes ≡ spell x.0 ++ drop x.1 bytes
-  pub length_is : x.1 ≡ length (spell x.0)
-  pub fits : FitsFrame x.0
-
 length_framed : (type : ℕ) (body : Text) → length (framed type body) ≡ 5 + length body
 length_framed type body = omega (arith, length-append (to_be_bytes w32 (length body)) body, wide32.len (length body))
 
 spelled_so : (type : ℕ) (tail : Text) (f : Frame) (after : Rest) → IsBytes tail → 4 ≤ length tail
     → IsBody type (record { left = from_be_bytes w32 (take 4 tail); bytes = drop 4 tail }) (f, after) → after.left ≡ 0
-    → IsSpelled (type ∷ tail) (f, 5 + from_be_bytes w32 (take 4 tail))
+    → IsFront (type ∷ tail) f (5 + from_be_bytes w32 (take 4 tail))
 spelled_so type tail f after fits long b none =
     let n = from_be_bytes w32 (take 4 tail) in
     let head : to_be_bytes w32 n ≡ take 4 tail = wide32.back (take 4 tail) (omega (arith, length-take 4 tail)) (IsBytes-take 4 tail fits) in
     let len : n ≡ length b.body = omega (arith, b.takes.left, none) in
     let tail_is : tail ≡ (to_be_bytes w32 (length b.body) ++ b.body) ++ after.bytes =
-        sym (take-append-drop 4 tail) ∙ ap (λ (t : Text). t ++ drop 4 tail) (sym head) ∙ ap (λ (t : Text). to_be_bytes w32 n ++ t) b.takes.parts ∙ ap (λ (k : ℕ). to_be_bytes w32 k ++ (b.body ++ after.bytes)) len ∙ sym (append_assoc (to_be_bytes w32 (length b.body)) b.body after.bytes) in
+    sym (take-append-drop 4 tail) ∙ ap (λ (t : Text). t ++ drop 4 tail) (sym head) ∙ ap (λ (t : Text). to_be_bytes w32 n ++ t) b.takes.parts ∙ ap (λ (k : ℕ). to_be_bytes w32 k ++ (b.body ++ after.bytes)) len ∙ sym (append_assoc (to_be_bytes w32 (length b.body)) b.body after.bytes) in
     let bytes_are : type ∷ tail ≡ spell f ++ after.bytes = ap (λ (t : Text). type ∷ t) tail_is ∙ ap (λ (t : Text). t ++ after.bytes) (sym b.spelled) in
     let total : 5 + n ≡ length (spell f) = ap (λ (k : ℕ). 5 + k) len ∙ sym (length_framed type b.body) ∙ ap length (sym b.spelled) in
     let rest_is : drop (5 + n) (type ∷ tail) ≡ after.bytes = ap (drop (5 + n)) bytes_are ∙ drop_at (spell f) after.bytes (5 + n) (sym total) in
-    record { parts = bytes_are ∙ ap (λ (t : Text). spell f ++ t) (sym rest_is); length_is = total; fits = b.fits }
+    record { parts = bytes_are ∙ ap (λ (t : Text). spell f ++ t) (sym rest_is); size_is = total; fits = b.fits }
 
-pub frame_takes : (bytes : Text) (x : Frame × ℕ) → IsBytes bytes → frame_at bytes ≡ Ok x → IsSpelled bytes x
+pub frame_takes : (bytes : Text) (x : Frame × ℕ) → IsBytes bytes → frame_at bytes ≡ Ok x → IsFront bytes x.0 x.1
 unfolding frame_at
 frame_takes [] x fits e = absurd cc
 frame_takes (type ∷ tail) x fits e =
@@ -156,7 +154,7 @@ frame_takes (type ∷ tail) x fits e =
     let long : 4 ≤ length tail = grind (arith, nat_tests, g.0) in
     let none : after.left ≡ 0 = grind (arith, nat_tests, w.0) in
     let body = body_takes type end rest (f, after) t.0 (IsBytes-drop 4 tail tail_fits) b.1 in
-    subst (λ (y : Frame × ℕ). IsSpelled (type ∷ tail) y) w.1 (spelled_so type tail f after tail_fits long body none)
+    subst (λ (y : Frame × ℕ). IsFront (type ∷ tail) y.0 y.1) w.1 (spelled_so type tail f after tail_fits long body none)
 
 -- ---- read again
 
@@ -195,8 +193,10 @@ setup_again roots more end fits =
     let body = short_text roots.tree ++ short_text roots.repo in
     let a = takes_apart (full body more) (over more) (short_text roots.tree) (short_text roots.repo) (takes_full body more) in
     let mid = past (length (short_text roots.tree)) (full body more) in
-    rw (text_again is_utf8 end (full body more) mid roots.tree a.0 (is_utf8-from_IsUtf8 roots.tree fits.tree.utf8) fits.tree.short,
-        text_again is_utf8 end mid (over more) roots.repo a.1 (is_utf8-from_IsUtf8 roots.repo fits.repo.utf8) fits.repo.short) refl
+    rw (
+      text_again is_utf8 end (full body more) mid roots.tree a.0 (is_utf8-from_IsUtf8 roots.tree fits.tree.utf8) fits.tree.short,
+      text_again is_utf8 end mid (over more) roots.repo a.1 (is_utf8-from_IsUtf8 roots.repo fits.repo.utf8) fits.repo.short,
+    ) refl
 
 end_again : (n : ℕ) (sum more : Text) (end : ℕ) → n < 2 ^ 64 → length sum ≡ 20 → end_at end (full (to_be_bytes w64 n ++ sum) more) ≡ Ok (End n sum, over more)
 unfolding end_at
@@ -234,3 +234,13 @@ frame_again (End n sum) more fits =
     read_so 69 (to_be_bytes w64 n ++ sum) more (End n sum) refl short (λ end. end_again n sum more end fits.0 fits.1)
 frame_again Vanished more fits = read_so 86 [] more Vanished refl (omega arith) (λ end. refl)
 frame_again Unread more fits = read_so 85 [] more Unread refl (omega arith) (λ end. refl)
+
+-- two frames that keep the rules and share their first bytes are one
+pub spelled_once : (f g : Frame) (more others : Text) → FitsFrame f → FitsFrame g → spell f ++ more ≡ spell g ++ others → f ≡ g
+spelled_once f g more others fits_f fits_g e =
+    let read : done (f, length (spell f)) ≡ done (g, length (spell g)) = sym (frame_again f more fits_f) ∙ ap frame_at e ∙ frame_again g others fits_g in
+    ap (λ (x : Frame × ℕ). x.0) (ok_is (f, length (spell f)) (g, length (spell g)) read)
+
+pub is_found : (bytes : Text) (r : Result (rust_frame.Frame × ℕ) FrameFault) → IsBytes bytes → Gives (λ x. (frame_of x.0, x.1)) r (frame_at bytes) → IfOk r (λ x. IsFront bytes (frame_of x.0) x.1)
+is_found bytes (Ok x) fits given = frame_takes bytes (frame_of x.0, x.1) fits given
+is_found bytes (Err e) fits given = tt

@@ -1,11 +1,11 @@
 -- What keeps the rules is short enough for its length fields.
-use Rattle.std.proofs.Common.{◌≡◌, ℕ, zero, suc, ◌≤◌, ◌<◌, ◌^◌, List, [], ◌∷◌, arith, length, slice_index_or, string_bytes}
+use Rattle.std.proofs.Common.{ℕ, zero, suc, ◌≤◌, ◌<◌, ◌^◌, List, [], ◌∷◌, arith, length, slice_index_or, string_bytes}
 use Rattle.std.specs.List.{AllByRecursion}
 use Rattle.pgb_model.specs.Text.{Text}
 use Rattle.pgb_frame.specs.declared.frames.Item.{Item}
 use Rattle.pgb_frame.specs.declared.frames.Root.{Root}
 use Rattle.pgb_frame.specs.declared.frames.Root.TheVariants.{Tree, Repo}
-use Rattle.pgb_frame.specs.Views.{items_of, item_of}
+use Rattle.pgb_frame.specs.Views.{items_of}
 use Rattle.pgb_frame.specs.Frames.{FitsItem, IsItemPath, part_size, job_limit, repo_limit}
 
 pub path_short : (root : Root) (path : Text) → IsItemPath root path → length path < 2 ^ 16

@@ -1,5 +1,5 @@
 -- Frames between the program and its workers: what they tell, their one spelling, and their rules.
-use Rattle.std.specs.Prelude.{ℕ, ◌≡◌, ◌+◌, ◌^◌, ◌<◌, ◌≤◌, List, [], ◌∷◌, ◌++◌, length, IsUtf8}
+use Rattle.std.specs.Prelude.{ℕ, ◌≡◌, ◌^◌, ◌<◌, ◌≤◌, List, [], ◌∷◌, ◌++◌, length, drop, IsUtf8}
 use Rattle.std.specs.List.{flat_map, AllByRecursion}
 use Rattle.std.specs.Int.{w16, w32, w64, to_be_bytes}
 use Rattle.pgb_model.specs.Text.{Text}
@@ -117,3 +117,9 @@ FitsFrame (Part bytes) = (0 < length bytes) × (length bytes ≤ part_size)
 FitsFrame (End n sum) = (n < 2 ^ 64) × (length sum ≡ 20)
 FitsFrame Vanished = Unit {0}
 FitsFrame Unread = Unit {0}
+
+-- the bytes begin with this frame's spelling, which has this length
+pub record IsFront (bytes : Text) (frame : Frame) (size : ℕ) : Type 0 where
+  pub fits : FitsFrame frame
+  pub parts : bytes ≡ spell frame ++ drop size bytes
+  pub size_is : size ≡ length (spell frame)

@@ -1,5 +1,5 @@
 -- Reading a frame from left to right, and the first fault that is met.
-use Rattle.std.specs.Prelude.{◌≡◌, ℕ, zero, suc, Bool, true, false, List, [], ◌∷◌, ◌+◌, ◌-◌, ◌==◌, ◌||◌, ◌&&◌, length, take, drop, slice_index, Option, Some, None, Result, Ok, Err, nat_lt, nat_le, if◌then◌else◌}
+use Rattle.std.specs.Prelude.{◌≡◌, ℕ, zero, suc, Bool, List, [], ◌∷◌, ◌+◌, ◌-◌, ◌==◌, ◌||◌, ◌&&◌, length, take, drop, slice_index, Option, Some, None, Result, Ok, Err, nat_lt, nat_le, if◌then◌else◌}
 use Rattle.std.specs.List.{list_all}
 use Rattle.std.specs.Str.{is_utf8}
 use Rattle.std.specs.Int.{Width, w16, w32, w64, byte_len, from_be_bytes}
@@ -11,7 +11,7 @@ use Rattle.pgb_frame.specs.declared.frames.JobKind.{JobKind}
 use Rattle.pgb_frame.specs.declared.frames.JobKind.TheVariants.{Read, Digest}
 use Rattle.pgb_frame.specs.declared.fault.FrameFault.{FrameFault}
 use Rattle.pgb_frame.specs.declared.fault.FrameFault.TheVariants.{Short, Form, TooLong, NoMemory}
-use Rattle.pgb_frame.specs.Frames.{Item, Job, Roots, Frame, part_size, job_limit, repo_limit}
+use Rattle.pgb_frame.specs.Frames.{Item, Frame, spell, part_size, job_limit, repo_limit}
 use Rattle.pgb_frame.specs.Frames.Frame.{Setup, Task, Part, End, Vanished, Unread}
 
 infixl 10 ◌>>=◌
@@ -145,3 +145,7 @@ frame_at (type ∷ bytes) =
     then (if nat_lt (length bytes) 4 then Err Short
     else (body_at type (5 + from_be_bytes w32 (take 4 bytes)) (record { left = from_be_bytes w32 (take 4 bytes); bytes = drop 4 bytes }) >>= whole (5 + from_be_bytes w32 (take 4 bytes))))
     else Err (Form 0)
+
+-- what reading gives where the bytes begin with this frame
+abbrev pub read_as : Frame → Result (Frame × ℕ) FrameFault
+read_as frame = Ok (frame, length (spell frame))

@@ -1,5 +1,5 @@
 -- What a worker replies to a job.
-use Rattle.std.specs.Prelude.{ℕ, zero, suc, List, [], ◌∷◌, ◌++◌, length, map, take, drop, Option, Some, None}
+use Rattle.std.specs.Prelude.{ℕ, zero, suc, List, [], ◌∷◌, ◌++◌, length, map, take, drop, Some, None}
 use Rattle.std.specs.List.{flat_map}
 use Rattle.sha1.specs.Sha1.{sha1}
 use Rattle.pgb_outside.specs.Content.{Content, Value}
@@ -9,7 +9,7 @@ use Rattle.pgb_frame.specs.declared.frames.Root.TheVariants.{Tree, Repo}
 use Rattle.pgb_frame.specs.declared.frames.JobKind.{JobKind}
 use Rattle.pgb_frame.specs.declared.frames.JobKind.TheVariants.{Read, Digest}
 use Rattle.pgb_frame.specs.Frames.{Item, Job, Frame, spell, part_size}
-use Rattle.pgb_frame.specs.Frames.Frame.{Setup, Task, Part, End, Vanished, Unread}
+use Rattle.pgb_frame.specs.Frames.Frame.{Part, End, Vanished, Unread}
 
 -- at most so many parts, each but the last of the longest size
 unfoldable pub cut : ℕ → Text → List Text

@@ -1,5 +1,5 @@
 -- From the program's frames to those of the definitions.
-use Rattle.std.specs.Prelude.{ℕ, List, map, string_bytes}
+use Rattle.std.specs.Prelude.{List, map, string_bytes}
 use Rattle.pgb_frame.specs.declared.frames.Item as rust_item
 use Rattle.pgb_frame.specs.declared.frames.Job as rust_job
 use Rattle.pgb_frame.specs.declared.frames.Roots as rust_roots

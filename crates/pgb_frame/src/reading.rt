@@ -1,8 +1,9 @@
 // Reads the frame at the front of some bytes.
 ghost use Rattle.std.specs.Prelude.{◌≡◌, ◌-◌, ◌≤◌, ◌++◌, List, ℕ, length, drop, IfOk, Ok};
-ghost use Rattle.pgb_frame.specs.Frames.{Frame, FitsFrame, spell};
+ghost use Rattle.pgb_frame.specs.Frames.{FitsFrame, IsFront, spell};
+ghost use Rattle.pgb_frame.specs.Frames as told;
 ghost use Rattle.pgb_frame.specs.Views.{item_of, items_of, frame_of, rest_of};
-ghost use Rattle.pgb_frame.specs.Reading.{Gives, is_type, item_at, items_at, job_at, setup_at, end_at, part_at, body_at, frame_at};
+ghost use Rattle.pgb_frame.specs.Reading.{Gives, is_type, item_at, items_at, job_at, setup_at, end_at, part_at, body_at, frame_at, read_as};
 
 use crate::fault::FrameFault;
 use crate::fields::{Rest, field, kind_of, path_of, root_of, text_of, u32_of, u64_of};
@@ -151,11 +152,9 @@ fn is_type(kind: u8) -> bool
     matches!(kind, b'S' | b'J' | b'P' | b'E' | b'V' | b'U')
 }
 
-/// The frame at the front of the bytes, and its length.
 #[tactic(auto, unfolding(crate::specs::Reading::frame_at))]
-pub fn decode_frame(alloc: Global, bytes: &[u8]) -> Result<(Frame, usize), FrameFault>
-    // Which frame it is, or which fault is the first.
-    ensures exact { Gives (λ x. (frame_of x.0, x.1)) result (frame_at bytes.now) }
+fn frame_at(alloc: Global, bytes: &[u8]) -> Result<(Frame, usize), FrameFault>
+    ensures { Gives (λ x. (frame_of x.0, x.1)) result (frame_at bytes.now) }
 {
     let [kind, tail @ ..] = bytes else {
         return Err(FrameFault::Short);
@@ -176,4 +175,16 @@ pub fn decode_frame(alloc: Global, bytes: &[u8]) -> Result<(Frame, usize), Frame
         });
     }
     Ok((frame, end as usize))
+}
+
+/// The frame at the front of the bytes, and its length.
+pub fn decode_frame(alloc: Global, bytes: &[u8]) -> Result<(Frame, usize), FrameFault>
+    // What is read keeps the rules, and is spelled so.
+    ensures found { IfOk result (λ x. IsFront bytes.now (frame_of x.0) x.1) }
+    // What is spelled so is read, unless memory runs out.
+    ensures only { (f : told.Frame) (rest : List ℕ) → FitsFrame f → bytes.now ≡ spell f ++ rest → Gives (λ x. (frame_of x.0, x.1)) result (read_as f) }
+    // Which fault is the first.
+    ensures exact { Gives (λ x. (frame_of x.0, x.1)) result (frame_at bytes.now) }
+{
+    frame_at(alloc, bytes)
 }

@@ -1,4 +1,4 @@
-use Rattle.std.proofs.Common.{◌≡◌, true, sym, ◌∙◌}
+use Rattle.std.proofs.Common.{◌∙◌}
 use Rattle.pgb_frame.specs.declared.frames.Root.TheVariants.{Tree, Repo}
 use Rattle.pgb_frame.specs.Frames.{repo_limit}
 use Rattle.pgb_frame.specs.Reading.{is_item_path}

@@ -1,4 +1,4 @@
-use Rattle.std.proofs.Common.{◌≡◌, ◌<◌, ◌^◌, ap, ◌∙◌, arith, length, rules}
+use Rattle.std.proofs.Common.{rules}
 use Rattle.pgb_frame.proofs.Sizes.{part_short}
 use Rattle.pgb_frame.proofs.writing.encode_frame.Goals as goal
 

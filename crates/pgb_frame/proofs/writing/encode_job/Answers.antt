@@ -1,4 +1,4 @@
-use Rattle.std.proofs.Common.{◌≡◌, ◌<◌, ◌^◌, ap, ◌∙◌, arith, length, map}
+use Rattle.std.proofs.Common.{◌<◌, ◌^◌, ap, ◌∙◌, arith, length}
 use Rattle.pgb_frame.specs.Views.{job_of}
 use Rattle.pgb_frame.specs.Frames.{job_bytes}
 use Rattle.pgb_frame.proofs.Sizes.{paths_short, job_short}
