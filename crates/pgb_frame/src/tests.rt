@@ -25,7 +25,7 @@ fn a_digest_job(rt: HostRuntime) -> Result<(), Fail> {
         .ok()
         .ok_or("there is memory")?;
     assert_eq!(rt; again.as_slice(), DIGEST_JOB);
-    let Frame::Job(job) = frame else {
+    let Frame::Job(job) = &frame else {
         return Err(Fail::new("it is a job"));
     };
     assert_eq!(rt; job.kind, JobKind::Digest);
