@@ -63,7 +63,7 @@ item_takes end rest x fits e =
     let item : Item = record { root = root.0; path = path.0; at = at.0; size = size.0 } in
     let made : Item × Rest = (item, size.1) in
     let keeps : FitsItem item = record { path = (is_path root.0 path.0).1 p.1; at = n.1; size = m.1 } in
-    subst (λ (y : Item × Rest). Takes rest (item_bytes y.0) y.1 × FitsItem y.0) (ok_is made x d.2) (all, keeps)
+    subst (λ (y : Item × Rest). Takes rest (item_bytes y.0) y.1 × FitsItem y.0) {x = made} {y = x} (ok_is made x d.2) (all, keeps)
 
 item_again : (end : ℕ) (rest after : Rest) (i : Item) → Takes rest (item_bytes i) after → FitsItem i → item_at end rest ≡ Ok (i, after)
 unfolding item_at item_bytes
@@ -95,7 +95,7 @@ items_take (suc n) end rest x fits e =
     let second = items_take n end a.0.1 b.0 (bytes_after rest a.0.1 (item_bytes a.0.0) first.0 fits) b.1 in
     let both = takes_then rest a.0.1 b.0.1 (item_bytes a.0.0) (flat_map item_bytes b.0.0) first.0 second.0 in
     let made : List Item × Rest = (a.0.0 ∷ b.0.0, b.0.1) in
-    subst (λ (y : List Item × Rest). Takes rest (flat_map item_bytes y.0) y.1 × (length y.0 ≡ suc n) × AllByRecursion FitsItem y.0) (ok_is made x b.2) (rw flat_map-cons both, ap suc second.1, (first.1, second.2))
+    subst (λ (y : List Item × Rest). Takes rest (flat_map item_bytes y.0) y.1 × (length y.0 ≡ suc n) × AllByRecursion FitsItem y.0) {x = made} {y = x} (ok_is made x b.2) (rw flat_map-cons both, ap suc second.1, (first.1, second.2))
 
 items_again : (end : ℕ) (rest after : Rest) (is : List Item) → Takes rest (flat_map item_bytes is) after → AllByRecursion FitsItem is → items_at (length is) end rest ≡ Ok (is, after)
 unfolding items_at

@@ -47,7 +47,7 @@ setup_takes end rest x fits e =
       spelled = refl;
       fits = keeps;
     } in
-    subst (λ (y : Frame × Rest). IsBody 83 rest y) (ok_is made x b.2) all
+    subst (λ (y : Frame × Rest). IsBody 83 rest y) {x = made} {y = x} (ok_is made x b.2) all
 
 end_takes : (end : ℕ) (rest : Rest) (x : Frame × Rest) → IsBytes rest.bytes → end_at end rest ≡ Ok x → IsBody 69 rest x
 unfolding end_at
@@ -65,7 +65,7 @@ end_takes end rest x fits e =
       spelled = refl;
       fits = (c.1, d.1);
     } in
-    subst (λ (y : Frame × Rest). IsBody 69 rest y) (ok_is made x b.2) all
+    subst (λ (y : Frame × Rest). IsBody 69 rest y) {x = made} {y = x} (ok_is made x b.2) all
 
 part_takes : (end : ℕ) (rest : Rest) (x : Frame × Rest) → rest.left ≤ part_size → part_at end rest ≡ Ok x → IsBody 80 rest x
 unfolding part_at
@@ -77,7 +77,7 @@ part_takes end rest x small e =
     let some : 0 < rest.left = grind (arith, nat_tests, g.0) in
     let made : Frame × Rest = (Part f.0, f.1) in
     let all : IsBody 80 rest made = record { body = f.0; takes = d.0; spelled = refl; fits = (omega (arith, some, d.1), omega (arith, small, d.1)) } in
-    subst (λ (y : Frame × Rest). IsBody 80 rest y) (ok_is made x b.2) all
+    subst (λ (y : Frame × Rest). IsBody 80 rest y) {x = made} {y = x} (ok_is made x b.2) all
 
 task_takes : (end : ℕ) (rest : Rest) (x : Frame × Rest) → IsBytes rest.bytes → rest.left ≤ job_limit → job_at end rest ≡ Ok x → IsBody 74 rest x
 task_takes end rest x fits small e =
@@ -89,7 +89,7 @@ empty_takes : (type : ℕ) (frame : Frame) (rest : Rest) (x : Frame × Rest) →
 empty_takes type frame rest x spelled fits e =
     let made : Frame × Rest = (frame, rest) in
     let all : IsBody type rest made = record { body = []; takes = takes_none rest; spelled = spelled; fits = fits } in
-    subst (λ (y : Frame × Rest). IsBody type rest y) (ok_is made x e) all
+    subst (λ (y : Frame × Rest). IsBody type rest y) {x = made} {y = x} (ok_is made x e) all
 
 -- one of two answers, by a test on the type
 by_type : {A : Type 0} (b : Bool) (r s : Result A FrameFault) (y : A) (P : Type 0) → (if b then r else s) ≡ Ok y → (b ≡ true → r ≡ Ok y → P) → (b ≡ false → s ≡ Ok y → P) → P

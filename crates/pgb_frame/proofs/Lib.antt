@@ -4,3 +4,4 @@ pub mod ItemPaths
 pub mod Takes
 pub mod Items
 pub mod Laws
+pub mod Settled
