@@ -5,3 +5,4 @@ pub mod Takes
 pub mod Items
 pub mod Laws
 pub mod Settled
+pub mod Cut

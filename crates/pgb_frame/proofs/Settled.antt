@@ -1,18 +1,18 @@
 -- A frame or a fault that was found stays with whatever bytes follow; Short comes only where the frame isn't whole.
-use Rattle.std.proofs.Common.{◌≡◌, ℕ, zero, suc, ◌+◌, ◌-◌, ◌<◌, ◌≤◌, Bool, true, false, List, [], ◌∷◌, ◌++◌, length, take, drop, Option, Some, None, Result, Ok, Err, refl, sym, ap, subst, ◌∙◌, arith}
+use Rattle.std.proofs.Common.{◌≡◌, ◌≢◌, ℕ, zero, suc, ◌+◌, ◌-◌, ◌≤◌, Bool, true, false, [], ◌∷◌, ◌++◌, length, take, drop, Option, Some, None, Result, Ok, Err, refl, sym, ap, subst, arith}
 use Rattle.std.specs.Prelude.{◌==◌, nat_lt, nat_le, if◌then◌else◌, slice_index}
 use Rattle.std.specs.Str.{is_utf8}
 use Rattle.std.specs.Int.{Width, w16, w32, w64, byte_len, from_be_bytes}
 use Rattle.std.proofs.lemmas.Bool.Decides.{nat_tests}
 use Rattle.std.proofs.lemmas.List.{length-append, take-append-le, drop-append-le}
 use Rattle.pgb_model.specs.Text.{Text}
-use Rattle.pgb_frame.specs.declared.frames.Root.{Root}
-use Rattle.pgb_frame.specs.declared.frames.JobKind.{JobKind}
 use Rattle.pgb_frame.specs.declared.fault.FrameFault.{FrameFault}
 use Rattle.pgb_frame.specs.declared.fault.FrameFault.TheVariants.{Short, Form, TooLong, NoMemory}
-use Rattle.pgb_frame.specs.Frames.{Item, Job, Roots, Frame, part_size, job_limit}
+use Rattle.pgb_frame.specs.declared.frames.Frame as rust_frame
+use Rattle.pgb_frame.specs.Views.{frame_of}
+use Rattle.pgb_frame.specs.Frames.{Frame, part_size, job_limit}
 use Rattle.pgb_frame.specs.Frames.Frame.{Setup, Task, Part, End, Vanished, Unread}
-use Rattle.pgb_frame.specs.Reading.{◌>>=◌, Rest, field_at, number_at, chosen, letter_at, text_at, root_value, kind_value, is_item_path, item_at, items_at, job_at, setup_at, end_at, part_at, body_at, is_type, whole, frame_at}
+use Rattle.pgb_frame.specs.Reading.{◌>>=◌, Gives, Rest, field_at, number_at, chosen, letter_at, text_at, root_value, kind_value, is_item_path, item_at, items_at, job_at, setup_at, end_at, part_at, body_at, is_type, whole, frame_at}
 
 -- what is left, with more bytes behind
 abbrev longer : Text → Rest → Rest
@@ -58,12 +58,12 @@ no_less n bytes more e = grind (arith, nat_tests, length-append bytes more)
 field_keeps : (more : Text) (size end : ℕ) (rest : Rest) → Keeps (after more) (field_at size end rest) (field_at size end (longer more rest))
 field_keeps more size end rest =
     field_cases more (nat_le size rest.left) (nat_lt (length rest.bytes) size) (nat_lt (length (rest.bytes ++ more)) size) (nat_lt (length rest.bytes) rest.left) (nat_lt (length (rest.bytes ++ more)) rest.left) (end - rest.left)
-      (take size rest.bytes, record { left = rest.left - size; bytes = drop size rest.bytes })
-      (take size (rest.bytes ++ more), record { left = rest.left - size; bytes = drop size (rest.bytes ++ more) })
-      (no_less size rest.bytes more) (no_less rest.left rest.bytes more)
-      (λ e.
-        let long : size ≤ length rest.bytes = grind (arith, nat_tests, e) in
-        rw (take-append-le, drop-append-le) refl)
+    (take size rest.bytes, record { left = rest.left - size; bytes = drop size rest.bytes })
+    (take size (rest.bytes ++ more), record { left = rest.left - size; bytes = drop size (rest.bytes ++ more) })
+    (no_less size rest.bytes more) (no_less rest.left rest.bytes more)
+    (λ e.
+    let long : size ≤ length rest.bytes = grind (arith, nat_tests, e) in
+    rw (take-append-le, drop-append-le) refl)
 
 number_keeps : (more : Text) (w : Width) (end : ℕ) (rest : Rest) → Keeps (after more) (number_at w end rest) (number_at w end (longer more rest))
 unfolding number_at
@@ -155,6 +155,13 @@ unfolding frame_at
 frame_keeps [] more = tt
 frame_keeps (type ∷ tail) more =
     keeps_if same (is_type type) _ _ (Err (Form 0)) (Err (Form 0)) (
-      head_keeps (nat_lt (length tail) 4) (nat_lt (length (tail ++ more)) 4) _ _ (no_less 4 tail more) (λ e.
-        let long : 4 ≤ length tail = grind (arith, nat_tests, e) in
-        rest_keeps more type (take 4 tail) (take 4 (tail ++ more)) (drop 4 tail) (drop 4 (tail ++ more)) (take-append-le 4 tail more long) (drop-append-le 4 tail more long))) refl
+    head_keeps (nat_lt (length tail) 4) (nat_lt (length (tail ++ more)) 4) _ _ (no_less 4 tail more) (λ e.
+    let long : 4 ≤ length tail = grind (arith, nat_tests, e) in
+    rest_keeps more type (take 4 tail) (take 4 (tail ++ more)) (drop 4 tail) (drop 4 (tail ++ more)) (take-append-le 4 tail more long) (drop-append-le 4 tail more long))) refl
+
+pub is_settled : (bytes more : Text) (r : Result (rust_frame.Frame × ℕ) FrameFault) → Gives (λ x. (frame_of x.0, x.1)) r (frame_at bytes) → r ≢ Err Short → Gives (λ x. (frame_of x.0, x.1)) r (frame_at (bytes ++ more))
+is_settled bytes more (Ok x) given found = subst (λ (t : Result (Frame × ℕ) FrameFault). Keeps same t (frame_at (bytes ++ more))) given (frame_keeps bytes more)
+is_settled bytes more (Err Short) given found = absurd (found refl)
+is_settled bytes more (Err (Form at)) given found = subst (λ (t : Result (Frame × ℕ) FrameFault). Keeps same t (frame_at (bytes ++ more))) given (frame_keeps bytes more)
+is_settled bytes more (Err (TooLong n)) given found = subst (λ (t : Result (Frame × ℕ) FrameFault). Keeps same t (frame_at (bytes ++ more))) given (frame_keeps bytes more)
+is_settled bytes more (Err NoMemory) given found = tt

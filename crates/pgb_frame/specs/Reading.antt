@@ -1,5 +1,5 @@
 -- Reading a frame from left to right, and the first fault that is met.
-use Rattle.std.specs.Prelude.{◌≡◌, ℕ, zero, suc, Bool, List, [], ◌∷◌, ◌+◌, ◌-◌, ◌==◌, ◌||◌, ◌&&◌, length, take, drop, slice_index, Option, Some, None, Result, Ok, Err, nat_lt, nat_le, if◌then◌else◌}
+use Rattle.std.specs.Prelude.{◌≡◌, ℕ, zero, suc, Bool, List, [], ◌∷◌, ◌+◌, ◌-◌, ◌==◌, ◌||◌, ◌&&◌, length, take, drop, slice_index, Option, Some, None, Result, Ok, Err, nat_lt, nat_le, if◌then◌else◌, ◌<◌, ◌⊎◌}
 use Rattle.std.specs.List.{list_all}
 use Rattle.std.specs.Str.{is_utf8}
 use Rattle.std.specs.Int.{Width, w16, w32, w64, byte_len, from_be_bytes}
@@ -149,3 +149,7 @@ frame_at (type ∷ bytes) =
 -- what reading gives where the bytes begin with this frame
 abbrev pub read_as : Frame → Result (Frame × ℕ) FrameFault
 read_as frame = Ok (frame, length (spell frame))
+
+-- there is no whole length, or fewer bytes than the frame has by it
+abbrev pub IsCutShort : Text → Type 0
+IsCutShort bytes = (length bytes < 5) ⊎ (length bytes < 5 + from_be_bytes w32 (take 4 (drop 1 bytes)))

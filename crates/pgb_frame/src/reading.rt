@@ -1,9 +1,10 @@
 // Reads the frame at the front of some bytes.
-ghost use Rattle.std.specs.Prelude.{◌≡◌, ◌-◌, ◌≤◌, ◌++◌, List, ℕ, length, drop, IfOk, Ok};
+ghost use Rattle.std.specs.Prelude.{◌≡◌, ◌-◌, ◌≤◌, ◌++◌, List, ℕ, length, drop, IfOk, IfErr, Ok, Err, ◌≢◌};
 ghost use Rattle.pgb_frame.specs.Frames.{FitsFrame, IsFront, spell};
 ghost use Rattle.pgb_frame.specs.Frames as told;
+ghost use Rattle.pgb_frame.specs.declared.fault.FrameFault.TheVariants.{Short};
 ghost use Rattle.pgb_frame.specs.Views.{item_of, items_of, frame_of, rest_of};
-ghost use Rattle.pgb_frame.specs.Reading.{Gives, is_type, item_at, items_at, job_at, setup_at, end_at, part_at, body_at, frame_at, read_as};
+ghost use Rattle.pgb_frame.specs.Reading.{Gives, is_type, item_at, items_at, job_at, setup_at, end_at, part_at, body_at, frame_at, read_as, IsCutShort};
 
 use crate::fault::FrameFault;
 use crate::fields::{Rest, field, kind_of, path_of, root_of, text_of, u32_of, u64_of};
@@ -183,6 +184,10 @@ pub fn decode_frame(alloc: Global, bytes: &[u8]) -> Result<(Frame, usize), Frame
     ensures found { IfOk result (λ x. IsFront bytes.now (frame_of x.0) x.1) }
     // What is spelled so is read, unless memory runs out.
     ensures only { (f : told.Frame) (rest : List ℕ) → FitsFrame f → bytes.now ≡ spell f ++ rest → Gives (λ x. (frame_of x.0, x.1)) result (read_as f) }
+    // It is short only where the frame isn't whole.
+    ensures short { IfErr result (λ e. e ≡ Short → IsCutShort bytes.now) }
+    // Every other answer is the same, whatever bytes follow.
+    ensures settled { (more : List ℕ) → result ≢ Err Short → Gives (λ x. (frame_of x.0, x.1)) result (frame_at (bytes.now ++ more)) }
     // Which fault is the first.
     ensures exact { Gives (λ x. (frame_of x.0, x.1)) result (frame_at bytes.now) }
 {
