@@ -141,12 +141,13 @@ job_takes end rest x fits e =
     let all = takes_then rest kind.1 items.1 (kind_letter kind.0 ∷ []) (to_be_bytes w32 count.0 ++ flat_map item_bytes items.0) k tail in
     let job : Job = record { kind = kind.0; items = items.0 } in
     let whole : Takes rest (job_bytes job) items.1 = subst (λ (m : ℕ). Takes rest (kind_letter kind.0 ∷ (to_be_bytes w32 m ++ flat_map item_bytes items.0)) items.1) (sym l.1) all in
-    let same = ok_is (Task job, items.1) x c.2 in
+    let made : Frame × Rest = (Task job, items.1) in
+    let same : made ≡ x = ok_is made x c.2 in
     let positive : 0 < count.0 = grind (arith, nat_tests, g.0) in
     record {
       job = job;
-      is = ap (λ (y : Frame × Rest). y.0) (sym same);
-      takes = subst (λ (y : Frame × Rest). Takes rest (job_bytes job) y.1) same whole;
+      is = sym (ap (λ (y : Frame × Rest). y.0) {x = made} {y = x} same);
+      takes = subst (λ (y : Frame × Rest). Takes rest (job_bytes job) y.1) {x = made} {y = x} same whole;
       fits = λ small. record { some = omega (arith, positive, l.1); few = omega (arith, n.1, l.1); items = l.2; small = omega (arith, small, whole.left) };
     }
 

@@ -6,3 +6,4 @@ pub mod Items
 pub mod Laws
 pub mod Settled
 pub mod Cut
+pub mod ReplyFrames
