@@ -107,11 +107,13 @@ fn part_of(alloc: Global, end: u64, rest: Rest<'_>) -> Result<(Frame, Rest<'_>),
     Ok((Frame::Part(Vec::from_slice(alloc, bytes)?), rest))
 }
 
-/// The longest body of a job, and of a part.
+/// The longest body of a job, in bytes.
 const JOB_LIMIT: u64 = 64 << 20;
 
+/// The longest part, in bytes.
 const PART_SIZE: u64 = 32 << 10;
 
+/// The body of a frame of this type.
 #[tactic(auto, unfolding(crate::specs::Reading::body_at, crate::specs::Frames::job_limit, crate::specs::Frames::part_size))]
 fn body_of(
     alloc: Global,
@@ -123,28 +125,17 @@ fn body_of(
     ensures value { Gives (λ x. (frame_of x.0, rest_of x.1)) result (body_at kind end (rest_of rest.entry)) }
     ensures left { IfOk result (λ x. x.1.left ≤ end) }
 {
-    if kind == b'S' {
-        return setup_of(alloc, end, rest);
+    let length = rest.left;
+    match kind {
+        b'S' => setup_of(alloc, end, rest),
+        b'J' if length > JOB_LIMIT => Err(FrameFault::TooLong { length }),
+        b'J' => job_of(alloc, end, rest),
+        b'P' if length > PART_SIZE => Err(FrameFault::TooLong { length }),
+        b'P' => part_of(alloc, end, rest),
+        b'E' => end_of(end, rest),
+        b'V' => Ok((Frame::Vanished, rest)),
+        _ => Ok((Frame::Unread, rest)),
     }
-    if kind == b'J' {
-        if rest.left > JOB_LIMIT {
-            return Err(FrameFault::TooLong { length: rest.left });
-        }
-        return job_of(alloc, end, rest);
-    }
-    if kind == b'P' {
-        if rest.left > PART_SIZE {
-            return Err(FrameFault::TooLong { length: rest.left });
-        }
-        return part_of(alloc, end, rest);
-    }
-    if kind == b'E' {
-        return end_of(end, rest);
-    }
-    if kind == b'V' {
-        return Ok((Frame::Vanished, rest));
-    }
-    Ok((Frame::Unread, rest))
 }
 
 fn is_type(kind: u8) -> bool
@@ -168,6 +159,7 @@ fn frame_at(alloc: Global, bytes: &[u8]) -> Result<(Frame, usize), FrameFault>
     }
     let (head, body) = tail.split_at(4);
     let left = u32::from_be_bytes([head[0], head[1], head[2], head[3]]) as u64;
+    // The type and the length come before the body.
     let end = 5 + left;
     let (frame, rest) = body_of(alloc, *kind, end, Rest { left, bytes: body })?;
     if rest.left != 0 {
