@@ -1,13 +1,13 @@
 -- A path without a fault is one that a backup may hold, and the other way round.
 use Rattle.std.proofs.Common.{◌≡◌, ℕ, true, false, List, [], ◌∷◌, length, refl, sym, ◌∙◌, arith}
-use Rattle.std.specs.Prelude.{◌==◌, ◌||◌, nat_lt, IsUtf8}
+use Rattle.std.specs.Prelude.{◌↔◌, ◌==◌, ◌||◌, nat_lt, IsUtf8}
 use Rattle.std.specs.List.{list_any, list_all}
 use Rattle.std.proofs.lemmas.Bool.Decides.{nat_tests}
 use Rattle.pgb_model.specs.Text.{Text}
 use Rattle.pgb_model.specs.Paths.{elements, is_path_byte, is_element, IsPath}
 use Rattle.pgb_paths.specs.declared.names.NameFault.{NameFault}
 use Rattle.pgb_paths.specs.declared.names.NameFault.TheVariants.{Empty, TooLong, Equals, Control, Head, Dots}
-use Rattle.pgb_paths.specs.Faults.{has_mark, is_dots, has_fault}
+use Rattle.pgb_paths.specs.Faults.{has_mark, is_dots, has_fault, IsPathWithin}
 
 -- the bytes of a path
 bytes_pass : (cs : List ℕ) → list_any (λ c. c == 61) cs ≡ false → list_any (λ c. nat_lt c 32 || c == 127) cs ≡ false → list_all is_path_byte cs ≡ true
@@ -34,22 +34,26 @@ elements_fail : (es : List Text) → list_all is_element es ≡ true → (list_a
 elements_fail [] all = (refl, refl, refl)
 elements_fail (e ∷ es) all = grind (arith, nat_tests, one_fails e, elements_fail es)
 
-pub is_path : (path : Text) → IsUtf8 path → ((fault : NameFault) → has_fault fault path ≡ false) → IsPath path
-is_path path utf8 none = record {
+pub is_path : (limit : ℕ) (path : Text) → IsUtf8 path → ((fault : NameFault) → has_fault limit fault path ≡ false) → IsPathWithin limit path
+is_path limit path utf8 none = record {
   utf8 = utf8;
   short = grind (arith, nat_tests, none TooLong);
   bytes = bytes_pass path (none Equals) (none Control);
   elements_hold = elements_pass (elements path) (none Empty) (none Head) (none Dots);
 }
 
-pub is_faultless : (path : Text) → IsPath path → (fault : NameFault) → has_fault fault path ≡ false
-is_faultless path good Empty = (elements_fail (elements path) good.elements_hold).0
-is_faultless path good TooLong = grind (arith, nat_tests, good.short)
-is_faultless path good Equals = (bytes_fail path good.bytes).0
-is_faultless path good Control = (bytes_fail path good.bytes).1
-is_faultless path good Head = (elements_fail (elements path) good.elements_hold).1
-is_faultless path good Dots = (elements_fail (elements path) good.elements_hold).2
+is_faultless : (limit : ℕ) (path : Text) → IsPathWithin limit path → (fault : NameFault) → has_fault limit fault path ≡ false
+is_faultless limit path good Empty = (elements_fail (elements path) good.elements_hold).0
+is_faultless limit path good TooLong = grind (arith, nat_tests, good.short)
+is_faultless limit path good Equals = (bytes_fail path good.bytes).0
+is_faultless limit path good Control = (bytes_fail path good.bytes).1
+is_faultless limit path good Head = (elements_fail (elements path) good.elements_hold).1
+is_faultless limit path good Dots = (elements_fail (elements path) good.elements_hold).2
 
 -- what is answered of a path with a fault
-pub is_refused : (path : Text) (fault : NameFault) → has_fault fault path ≡ true → (false ≡ true → IsPath path) × (IsPath path → false ≡ true)
-is_refused path fault has = (λ e. absurd cc, λ good. sym (is_faultless path good fault) ∙ has)
+pub is_refused : (limit : ℕ) (path : Text) (fault : NameFault) → has_fault limit fault path ≡ true → (false ≡ true → IsPathWithin limit path) × (IsPathWithin limit path → false ≡ true)
+is_refused limit path fault has = (λ e. absurd cc, λ good. sym (is_faultless limit path good fault) ∙ has)
+
+-- the same with 1,024 bytes, in the words of a data folder
+pub in_folder : (path : Text) → IsPathWithin 1024 path ↔ IsPath path
+in_folder path = (λ p. record { utf8 = p.utf8; short = p.short; bytes = p.bytes; elements_hold = p.elements_hold }, λ p. record { utf8 = p.utf8; short = p.short; bytes = p.bytes; elements_hold = p.elements_hold })

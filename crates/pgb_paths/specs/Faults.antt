@@ -1,8 +1,8 @@
 -- What keeps a path from standing in a backup, and which fault is told of a path with several.
-use Rattle.std.specs.Prelude.{◌≡◌, ℕ, ◌<◌, ◌==◌, ◌||◌, nat_lt, Bool, true, false, [], ◌∷◌, length, codes, bytes_eq}
-use Rattle.std.specs.List.{list_any}
+use Rattle.std.specs.Prelude.{◌≡◌, ℕ, ◌<◌, ◌≤◌, ◌==◌, ◌||◌, nat_lt, Bool, true, false, [], ◌∷◌, length, codes, bytes_eq, IsUtf8}
+use Rattle.std.specs.List.{list_any, list_all}
 use Rattle.pgb_model.specs.Text.{Text}
-use Rattle.pgb_model.specs.Paths.{elements}
+use Rattle.pgb_model.specs.Paths.{elements, is_path_byte, is_element}
 use Rattle.pgb_paths.specs.declared.names.NameFault.{NameFault}
 use Rattle.pgb_paths.specs.declared.names.NameFault.TheVariants.{Empty, TooLong, Equals, Control, Head, Dots}
 
@@ -15,14 +15,21 @@ has_mark (c ∷ cs) = c == 91 || c == 35
 abbrev pub is_dots : Text → Bool
 is_dots element = bytes_eq element (codes ".") || bytes_eq element (codes "..")
 
--- the path has this fault
-abbrev pub has_fault : NameFault → Text → Bool
-has_fault Empty path = list_any (λ e. length e == 0) (elements path)
-has_fault TooLong path = nat_lt 1024 (length path)
-has_fault Equals path = list_any (λ c. c == 61) path
-has_fault Control path = list_any (λ c. nat_lt c 32 || c == 127) path
-has_fault Head path = list_any has_mark (elements path)
-has_fault Dots path = list_any is_dots (elements path)
+-- a path of at most so many bytes; with 1,024 it is `IsPath`
+pub record IsPathWithin (limit : ℕ) (path : Text) : Type 0 where
+  pub utf8 : IsUtf8 path
+  pub short : length path ≤ limit
+  pub bytes : list_all is_path_byte path ≡ true
+  pub elements_hold : list_all is_element (elements path) ≡ true
+
+-- the path, which may have so many bytes, has this fault
+abbrev pub has_fault : ℕ → NameFault → Text → Bool
+has_fault limit Empty path = list_any (λ e. length e == 0) (elements path)
+has_fault limit TooLong path = nat_lt limit (length path)
+has_fault limit Equals path = list_any (λ c. c == 61) path
+has_fault limit Control path = list_any (λ c. nat_lt c 32 || c == 127) path
+has_fault limit Head path = list_any has_mark (elements path)
+has_fault limit Dots path = list_any is_dots (elements path)
 
 -- the order in which faults are told
 abbrev pub place : NameFault → ℕ
@@ -33,7 +40,11 @@ place Control = 3
 place Head = 4
 place Dots = 5
 
--- the first fault of the path
-pub record IsNameFault (path : Text) (fault : NameFault) : Type 0 where
-  pub has : has_fault fault path ≡ true
-  pub first : (other : NameFault) → place other < place fault → has_fault other path ≡ false
+-- the first fault of a path that may have so many bytes
+pub record IsFirstFault (limit : ℕ) (path : Text) (fault : NameFault) : Type 0 where
+  pub has : has_fault limit fault path ≡ true
+  pub first : (other : NameFault) → place other < place fault → has_fault limit other path ≡ false
+
+-- the first fault of a path in a data folder
+abbrev pub IsNameFault : Text → NameFault → Type 0
+IsNameFault = IsFirstFault 1024

@@ -3,7 +3,7 @@
 
 mod names;
 
-pub use names::{NameFault, check_name};
+pub use names::{NameFault, check_name, check_name_within};
 
 #[cfg(test)]
 mod tests;

@@ -2,7 +2,7 @@
 ghost use Rattle.std.specs.Prelude.{◌≡◌, ◌==◌, ◌||◌, ◌↔◌, nat_lt, IsOk, IfErr, length};
 ghost use Rattle.std.specs.List.{list_any};
 ghost use Rattle.pgb_model.specs.Paths.{IsPath, elements};
-ghost use Rattle.pgb_paths.specs.Faults.{IsNameFault, has_mark, is_dots};
+ghost use Rattle.pgb_paths.specs.Faults.{IsNameFault, IsFirstFault, IsPathWithin, has_mark, is_dots};
 
 use thiserror::Error;
 
@@ -12,8 +12,8 @@ pub enum NameFault {
     /// It is empty, or two slashes follow each other, or one stands at an end.
     #[error("path has an empty element")]
     Empty,
-    /// It has more than 1,024 bytes.
-    #[error("path is longer than 1024 bytes")]
+    /// It has more bytes than it may, in a data folder 1,024.
+    #[error("path is too long")]
     TooLong,
     /// It has an `=`.
     #[error("path has an equals sign")]
@@ -29,6 +29,7 @@ pub enum NameFault {
     Dots,
 }
 
+// The most bytes of a path in a data folder.
 const LIMIT: usize = 1024;
 
 fn has_empty(path: &str) -> bool
@@ -76,17 +77,17 @@ fn has_dots(path: &str) -> bool
     path.split('/').any(|element| is_dots(element))
 }
 
-/// Checks that a path, from a folder on, may stand in a backup.
-pub fn check_name(path: &str) -> Result<(), NameFault>
+/// Checks a path that may have so many bytes.
+pub fn check_name_within(path: &str, limit: usize) -> Result<(), NameFault>
     // It passes exactly where it is such a path.
-    ensures good { IsOk result ↔ IsPath path.now }
+    ensures good { IsOk result ↔ IsPathWithin limit path.now }
     // Else its first fault is told.
-    ensures fault { IfErr result (IsNameFault path.now) }
+    ensures fault { IfErr result (IsFirstFault limit path.now) }
 {
     if has_empty(path) {
         return Err(NameFault::Empty);
     }
-    if path.len() > LIMIT {
+    if path.len() > limit {
         return Err(NameFault::TooLong);
     }
     if has_equals(path) {
@@ -102,4 +103,14 @@ pub fn check_name(path: &str) -> Result<(), NameFault>
         return Err(NameFault::Dots);
     }
     Ok(())
+}
+
+/// Checks that a path, from the data folder on, may stand in a backup.
+pub fn check_name(path: &str) -> Result<(), NameFault>
+    // It passes exactly where it is such a path.
+    ensures good { IsOk result ↔ IsPath path.now }
+    // Else its first fault is told.
+    ensures fault { IfErr result (IsNameFault path.now) }
+{
+    check_name_within(path, LIMIT)
 }

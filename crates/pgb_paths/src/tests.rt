@@ -2,17 +2,11 @@ use super::*;
 use std::test::*;
 
 #[test]
-fn first_faults(rt: HostRuntime) -> Result<(), Fail> {
-    let full = [b'x'; 1024];
-    let full = str::from_utf8(&full).ok().ok_or("it is a text")?;
-    let long = [b'x'; 1025];
-    let long = str::from_utf8(&long).ok().ok_or("it is a text")?;
+fn first_faults(rt: HostRuntime) {
     let rows = [
         ("base/5/16384", Ok(())),
         ("PG_VERSION", Ok(())),
         ("pg_tblspc/1/\u{fc}.#[", Ok(())),
-        (full, Ok(())),
-        (long, Err(NameFault::TooLong)),
         ("", Err(NameFault::Empty)),
         ("/base", Err(NameFault::Empty)),
         ("base/", Err(NameFault::Empty)),
@@ -30,5 +24,16 @@ fn first_faults(rt: HostRuntime) -> Result<(), Fail> {
     for (path, answer) in rows {
         assert_eq!(rt; check_name(path), answer);
     }
+}
+
+#[test]
+fn lengths(rt: HostRuntime) -> Result<(), Fail> {
+    let full = [b'x'; 1024];
+    let full = str::from_utf8(&full).ok().ok_or("it is a text")?;
+    assert_eq!(rt; check_name(full), Ok(()));
+    let long = [b'x'; 1025];
+    let long = str::from_utf8(&long).ok().ok_or("it is a text")?;
+    assert_eq!(rt; check_name(long), Err(NameFault::TooLong));
+    assert_eq!(rt; check_name_within(long, 1200), Ok(()));
     Ok(())
 }

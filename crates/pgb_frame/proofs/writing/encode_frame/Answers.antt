@@ -1,0 +1,6 @@
+use Rattle.std.proofs.Common.{rules}
+use Rattle.pgb_frame.proofs.Sizes.{part_short}
+use Rattle.pgb_frame.proofs.writing.encode_frame.Goals as goal
+
+pub framed-requires-in-Part : goal.framed-requires-in-Part
+framed-requires-in-Part c = part_short _ (search rules)

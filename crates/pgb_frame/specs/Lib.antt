@@ -1,0 +1,4 @@
+pub mod Frames
+pub mod Replies
+pub mod Views
+pub mod Reading
