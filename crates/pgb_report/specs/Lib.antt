@@ -1,0 +1,6 @@
+pub mod Archived
+pub mod Bounds
+pub mod Moments
+pub mod Shown
+pub mod ReportText
+pub mod ReportData

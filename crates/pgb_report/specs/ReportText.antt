@@ -1,0 +1,86 @@
+-- The report of a stanza as text (pgBackRest user guide, "Information").
+use Rattle.std.specs.Prelude.{ℕ, Bool, not, ◌==◌, List, [], ◌∷◌, ◌++◌, map, filter, flat_map, Option, Some, None, codes, decimal, if◌then◌else◌}
+use Rattle.std.specs.List.{join_by}
+use Rattle.pgb_model.specs.declared.clusters.ClusterId.{ClusterId}
+use Rattle.pgb_model.specs.declared.labels.Label.{Label}
+use Rattle.pgb_model.specs.declared.wal.Span.{Span}
+use Rattle.pgb_model.specs.Names.{label_text, segment_text}
+use Rattle.pgb_model.specs.InfoFiles.{kind_text}
+use Rattle.pgb_model.specs.Text.{Text}
+use Rattle.pgb_model.specs.Values.{ArchiveInfo, BackupInfo, Entry}
+use Rattle.pgb_report.specs.declared.report.ArchivedName.{ArchivedName}
+use Rattle.pgb_report.specs.Archived.{id_of, segments_under, least, greatest}
+use Rattle.pgb_report.specs.Moments.{moment}
+
+-- ---- the stanza
+
+abbrev pub status_text : List Entry → Text
+status_text [] = codes "error (no valid backups)"
+status_text (e ∷ es) = codes "ok"
+
+abbrev pub stanza_lines : Text → List Entry → List Text
+stanza_lines stanza backups =
+    (codes "stanza: " ++ stanza)
+    ∷ (codes "    status: " ++ status_text backups)
+    ∷ codes "    cipher: none" ∷ []
+
+-- ---- its clusters
+
+abbrev pub is_current : ℕ → ClusterId → Bool
+is_current current c = c.id == current
+
+-- those before, and then the current one
+abbrev pub shown_clusters : ℕ → List ClusterId → List ClusterId
+shown_clusters current history = filter (λ c. not (is_current current c)) history ++ filter (is_current current) history
+
+abbrev pub cluster_word : Bool → Text
+cluster_word current = if current then codes "current" else codes "prior"
+
+abbrev pub bounds_text : Option Text → Option Text → Text
+bounds_text (Some first) (Some last) = first ++ 47 ∷ last
+bounds_text (Some first) None = codes "none present"
+bounds_text None last = codes "none present"
+
+abbrev pub archive_bounds : List ArchivedName → ClusterId → Text
+archive_bounds archived c = let names = segments_under (id_of c) archived in bounds_text (least names) (greatest names)
+
+abbrev pub cluster_lines : ℕ → List ArchivedName → ClusterId → List Text
+cluster_lines current archived c =
+    []
+    ∷ (codes "    db (" ++ cluster_word (is_current current c) ++ codes ")")
+    ∷ (codes "        wal archive min/max (" ++ decimal c.version ++ codes "): " ++ archive_bounds archived c) ∷ []
+
+-- ---- its backups
+
+abbrev pub wal_text : Option Span → Text
+wal_text None = codes "n/a"
+wal_text (Some span) = segment_text span.start ++ codes " / " ++ segment_text span.stop
+
+-- a last line, where there are references
+abbrev pub reference_lines : List Label → List Text
+reference_lines [] = []
+reference_lines (l ∷ ls) = (codes "            backup reference list: " ++ join_by label_text (codes ", ") (l ∷ ls)) ∷ []
+
+abbrev pub backup_lines : Entry → List Text
+backup_lines e =
+    []
+    ∷ (codes "        " ++ kind_text e.kind ++ codes " backup: " ++ label_text e.label)
+    ∷ (codes "            timestamp start/stop: " ++ moment e.start ++ codes " / " ++ moment e.stop)
+    ∷ (codes "            wal start/stop: " ++ wal_text e.span)
+    ∷ (codes "            database size: " ++ decimal e.size ++ codes "B, backup size: " ++ decimal e.stored ++ codes "B")
+    ∷ reference_lines e.references
+
+-- ---- the whole
+
+abbrev pub report_lines : Text → ArchiveInfo → BackupInfo → List ArchivedName → List Text
+report_lines stanza archive info archived =
+    stanza_lines stanza info.backups
+    ++ flat_map (cluster_lines archive.current archived) (shown_clusters archive.current archive.history)
+    ++ flat_map backup_lines info.backups
+
+-- each line ends with a newline
+unfoldable pub text_of_lines : List Text → Text
+text_of_lines lines = flat_map (λ l. l ++ 10 ∷ []) lines
+
+unfoldable pub report_text_of : Text → ArchiveInfo → BackupInfo → List ArchivedName → Text
+report_text_of stanza archive info archived = text_of_lines (report_lines stanza archive info archived)
