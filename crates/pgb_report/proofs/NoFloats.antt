@@ -71,4 +71,4 @@ report_plain stanza archive info archived =
       plain_list (archive_data archived) archive.history (plain_archive archived),
       plain_list backup_data info.backups (λ e. plain_with_key (codes "label") (label_value e.label) (entry_field e).1 refl (plain_entry e)),
       plain_list cluster_data (take (length archive.history) info.history) (λ (c : Cluster). plain_with_key (codes "id") (whole c.id) (cluster_field c).1 refl refl),
-    ) ?
+    ) refl

@@ -10,6 +10,7 @@ use Rattle.pgb_model.specs.Text.{Text}
 use Rattle.pgb_model.specs.Values.{ArchiveInfo, BackupInfo, Entry}
 use Rattle.pgb_report.specs.declared.report.ArchivedName.{ArchivedName}
 use Rattle.pgb_report.specs.Archived.{id_of, segments_under, least, greatest}
+use Rattle.pgb_report.specs.Lines.{text_of_lines}
 use Rattle.pgb_report.specs.Moments.{moment}
 
 -- ---- the stanza
@@ -44,30 +45,48 @@ bounds_text None last = codes "none present"
 abbrev pub archive_bounds : List ArchivedName → ClusterId → Text
 archive_bounds archived c = let names = segments_under (id_of c) archived in bounds_text (least names) (greatest names)
 
-abbrev pub cluster_lines : ℕ → List ArchivedName → ClusterId → List Text
+abbrev pub bounds_line : List ArchivedName → ClusterId → Text
+bounds_line archived c = codes "        wal archive min/max (" ++ (decimal c.version ++ (codes "): " ++ archive_bounds archived c))
+
+unfoldable pub cluster_lines : ℕ → List ArchivedName → ClusterId → List Text
 cluster_lines current archived c =
     []
-    ∷ (codes "    db (" ++ cluster_word (is_current current c) ++ codes ")")
-    ∷ (codes "        wal archive min/max (" ++ decimal c.version ++ codes "): " ++ archive_bounds archived c) ∷ []
+    ∷ (codes "    db (" ++ (cluster_word (is_current current c) ++ codes ")"))
+    ∷ bounds_line archived c ∷ []
 
 -- ---- its backups
 
 abbrev pub wal_text : Option Span → Text
 wal_text None = codes "n/a"
-wal_text (Some span) = segment_text span.start ++ codes " / " ++ segment_text span.stop
+wal_text (Some span) = segment_text span.start ++ (codes " / " ++ segment_text span.stop)
+
+abbrev pub name_line : Entry → Text
+name_line e = codes "        " ++ (kind_text e.kind ++ (codes " backup: " ++ label_text e.label))
+
+abbrev pub times_line : Entry → Text
+times_line e = codes "            timestamp start/stop: " ++ (moment e.start ++ (codes " / " ++ moment e.stop))
+
+abbrev pub wal_line : Entry → Text
+wal_line e = codes "            wal start/stop: " ++ wal_text e.span
+
+abbrev pub sizes_line : Entry → Text
+sizes_line e = codes "            database size: " ++ (decimal e.size ++ (codes "B, backup size: " ++ (decimal e.stored ++ codes "B")))
+
+abbrev pub reference_line : List Label → Text
+reference_line labels = codes "            backup reference list: " ++ join_by label_text (codes ", ") labels
 
 -- a last line, where there are references
 abbrev pub reference_lines : List Label → List Text
 reference_lines [] = []
-reference_lines (l ∷ ls) = (codes "            backup reference list: " ++ join_by label_text (codes ", ") (l ∷ ls)) ∷ []
+reference_lines (l ∷ ls) = reference_line (l ∷ ls) ∷ []
 
-abbrev pub backup_lines : Entry → List Text
+unfoldable pub backup_lines : Entry → List Text
 backup_lines e =
     []
-    ∷ (codes "        " ++ kind_text e.kind ++ codes " backup: " ++ label_text e.label)
-    ∷ (codes "            timestamp start/stop: " ++ moment e.start ++ codes " / " ++ moment e.stop)
-    ∷ (codes "            wal start/stop: " ++ wal_text e.span)
-    ∷ (codes "            database size: " ++ decimal e.size ++ codes "B, backup size: " ++ decimal e.stored ++ codes "B")
+    ∷ name_line e
+    ∷ times_line e
+    ∷ wal_line e
+    ∷ sizes_line e
     ∷ reference_lines e.references
 
 -- ---- the whole
@@ -77,10 +96,6 @@ report_lines stanza archive info archived =
     stanza_lines stanza info.backups
     ++ flat_map (cluster_lines archive.current archived) (shown_clusters archive.current archive.history)
     ++ flat_map backup_lines info.backups
-
--- each line ends with a newline
-unfoldable pub text_of_lines : List Text → Text
-text_of_lines lines = flat_map (λ l. l ++ 10 ∷ []) lines
 
 unfoldable pub report_text_of : Text → ArchiveInfo → BackupInfo → List ArchivedName → Text
 report_text_of stanza archive info archived = text_of_lines (report_lines stanza archive info archived)

@@ -1,11 +1,13 @@
 // The report as text.
-ghost use Rattle.std.specs.Prelude.{◌≡◌, ◌++◌, map, IfOk, OnOk, string_bytes};
+ghost use Rattle.std.specs.Prelude.{◌≡◌, map, IfOk, string_bytes};
 ghost use Rattle.pgb_model.specs.InfoFiles.{IsArchiveInfo, IsBackupInfo};
 ghost use Rattle.pgb_model.specs.Values.{archive_info_of, backup_info_of, entry_of};
-ghost use Rattle.pgb_report.specs.ReportText.{status_text, stanza_lines, text_of_lines, report_text_of};
+ghost use Rattle.pgb_report.specs.Lines.{texts_of};
+ghost use Rattle.pgb_report.specs.ReportText.{status_text, stanza_lines, report_text_of};
 
-use crate::backups::push_backups;
-use crate::clusters::push_clusters;
+use crate::backups::add_backups;
+use crate::clusters::add_clusters;
+use crate::lines::{add_line, text_of_lines};
 use crate::report::Report;
 use pgb_model::Entry;
 use pgb_text::NoMemory;
@@ -22,28 +24,17 @@ fn status_text(backups: &[Entry]) -> &'static str
 }
 
 fn stanza_lines(alloc: Global, stanza: &str, backups: &[Entry]) -> Result<Vec<String>, NoMemory>
-    ensures { IfOk result (λ lines. map string_bytes lines.items ≡ stanza_lines stanza.now (map entry_of backups.now)) }
+    ensures { IfOk result (λ lines. texts_of lines ≡ stanza_lines stanza.now (map entry_of backups.now)) }
 {
     let status = status_text(backups);
     let mut lines = Vec::new(alloc);
-    lines.push(format!(in alloc; "stanza: {stanza}")?)?;
-    lines.push(format!(in alloc; "    status: {status}")?)?;
-    lines.push("    cipher: none".to_string(alloc)?)?;
+    add_line(&mut lines, format!(in alloc; "stanza: {stanza}")?)?;
+    add_line(&mut lines, format!(in alloc; "    status: {status}")?)?;
+    add_line(&mut lines, "    cipher: none".to_string(alloc)?)?;
     Ok(lines)
 }
 
-// Each line with a newline.
-fn text_of_lines(alloc: Global, lines: &[String]) -> Result<String, NoMemory>
-    ensures { IfOk result (λ text. string_bytes text ≡ text_of_lines (map string_bytes lines.now)) }
-{
-    let mut text = String::new(alloc);
-    for line in lines {
-        text.push_str(line)?;
-        text.push_str("\n")?;
-    }
-    Ok(text)
-}
-
+#[tactic(auto, using(crate::proofs::Texts::texts_listed), unfolding(crate::specs::ReportText::report_text_of))]
 /// The report as text, for a reader; each line ends with a newline.
 pub fn report_text(alloc: Global, report: &Report<'_>) -> Result<String, NoMemory>
     requires archive { IsArchiveInfo (archive_info_of report.now.archive.now) }
@@ -53,13 +44,13 @@ pub fn report_text(alloc: Global, report: &Report<'_>) -> Result<String, NoMemor
     let archive = report.archive;
     let backups = &report.info.backups;
     let mut lines = stanza_lines(alloc, report.stanza, backups)?;
-    push_clusters(
+    add_clusters(
         alloc,
         &mut lines,
         archive.current,
         &archive.history,
         report.archived,
     )?;
-    push_backups(alloc, &mut lines, backups)?;
+    add_backups(alloc, &mut lines, backups)?;
     text_of_lines(alloc, &lines)
 }

@@ -1,11 +1,13 @@
 // The lines of a stanza's clusters.
-ghost use Rattle.std.specs.Prelude.{◌≡◌, ◌==◌, ◌++◌, map, flat_map, IfOk, OnOk, string_bytes};
-ghost use Rattle.pgb_report.specs.ReportText.{shown_clusters, cluster_word, archive_bounds, cluster_lines};
+ghost use Rattle.std.specs.Prelude.{◌≡◌, ◌++◌, flat_map, IfOk, OnOk, string_bytes};
+ghost use Rattle.pgb_report.specs.Lines.{texts_of};
+ghost use Rattle.pgb_report.specs.ReportText.{shown_clusters, cluster_word, archive_bounds, bounds_line, cluster_lines};
 
 use crate::bounds::{bounds_of, id_of};
+use crate::lines::add_line;
 use crate::report::ArchivedName;
 use pgb_model::ClusterId;
-use pgb_text::NoMemory;
+use pgb_text::{NoMemory, decimal};
 use pgb_wal::segment_text;
 use std::alloc::Global;
 
@@ -51,39 +53,61 @@ fn archive_bounds(
     Ok(format!(in alloc; "{first}/{last}")?)
 }
 
-fn push_cluster(
+fn bounds_line(
+    alloc: Global,
+    archived: &[ArchivedName],
+    cluster: &ClusterId,
+) -> Result<String, NoMemory>
+    ensures { IfOk result (λ text. string_bytes text ≡ bounds_line archived.now cluster.now) }
+{
+    let version = decimal(alloc, u64::from(cluster.version))?;
+    let bounds = archive_bounds(alloc, archived, cluster)?;
+    Ok(format!(in alloc; "        wal archive min/max ({version}): {bounds}")?)
+}
+
+#[tactic(auto, unfolding(crate::specs::ReportText::cluster_lines))]
+fn add_cluster(
     alloc: Global,
     lines: &mut Vec<String>,
     current: u32,
     archived: &[ArchivedName],
     cluster: &ClusterId,
 ) -> Result<(), NoMemory>
-    ensures { OnOk result (map string_bytes lines.new.items
-        ≡ map string_bytes lines.old.items ++ cluster_lines current archived.now cluster.now) }
+    ensures { OnOk result (texts_of lines.new ≡ texts_of lines.old ++ cluster_lines current archived.now cluster.now) }
 {
     let word = cluster_word(cluster.id == current);
-    let version = cluster.version;
-    let bounds = archive_bounds(alloc, archived, cluster)?;
-    lines.push(String::new(alloc))?;
-    lines.push(format!(in alloc; "    db ({word})")?)?;
-    lines.push(format!(in alloc; "        wal archive min/max ({version}): {bounds}")?)?;
+    add_line(lines, String::new(alloc))?;
+    add_line(lines, format!(in alloc; "    db ({word})")?)?;
+    add_line(lines, bounds_line(alloc, archived, cluster)?)?;
+    Ok(())
+}
+
+fn add_each(
+    alloc: Global,
+    lines: &mut Vec<String>,
+    current: u32,
+    archived: &[ArchivedName],
+    clusters: &[ClusterId],
+) -> Result<(), NoMemory>
+    ensures { OnOk result (texts_of lines.new ≡ texts_of lines.old ++ flat_map (cluster_lines current archived.now) clusters.now) }
+{
+    for cluster in clusters {
+        add_cluster(alloc, lines, current, archived, cluster)?;
+    }
     Ok(())
 }
 
 /// Adds the lines of each cluster, the current one last.
-pub(crate) fn push_clusters(
+pub(crate) fn add_clusters(
     alloc: Global,
     lines: &mut Vec<String>,
     current: u32,
     history: &[ClusterId],
     archived: &[ArchivedName],
 ) -> Result<(), NoMemory>
-    ensures { OnOk result (map string_bytes lines.new.items
-        ≡ map string_bytes lines.old.items ++ flat_map (cluster_lines current archived.now) (shown_clusters current history.now)) }
+    ensures { OnOk result (texts_of lines.new ≡ texts_of lines.old ++ flat_map (cluster_lines current archived.now) (shown_clusters current history.now)) }
 {
     let shown = shown_clusters(alloc, current, history)?;
-    for cluster in &shown {
-        push_cluster(alloc, lines, current, archived, cluster)?;
-    }
+    add_each(alloc, lines, current, archived, &shown)?;
     Ok(())
 }

@@ -6,6 +6,7 @@ mod as_text;
 mod backups;
 mod bounds;
 mod clusters;
+mod lines;
 mod listed;
 mod moments;
 mod report;

@@ -1,5 +1,5 @@
 // Seconds since 1970 as a reader sees them.
-ghost use Rattle.std.specs.Prelude.{◌≡◌, ◌<◌, ◌≤◌, ◌/◌, ◌++◌, IfOk, OnOk, string_bytes, pos};
+ghost use Rattle.std.specs.Prelude.{◌≡◌, ◌<◌, ◌≤◌, ◌/◌, ◌%◌, ◌++◌, IfOk, OnOk, string_bytes, pos};
 ghost use Rattle.jiff_core.specs.Date.{epoch_day};
 ghost use Rattle.pgb_model.specs.Dates.{two, date_after, last_second};
 ghost use Rattle.pgb_info.specs.Calendar.{parts_of};
@@ -60,15 +60,30 @@ fn push_clock(text: &mut String, clock: u32) -> Result<(), NoMemory>
     Ok(())
 }
 
+fn date_text(alloc: Global, t: u64) -> Result<String, NoMemory>
+    requires { t ≤ last_second }
+    ensures { IfOk result (λ text. string_bytes text ≡ shown_date (date_after (t / 86400))) }
+{
+    let mut text = String::new(alloc);
+    push_date(&mut text, date_of(t))?;
+    Ok(text)
+}
+
+fn clock_text(alloc: Global, t: u64) -> Result<String, NoMemory>
+    ensures { IfOk result (λ text. string_bytes text ≡ shown_clock (t % 86400)) }
+{
+    let mut text = String::new(alloc);
+    push_clock(&mut text, (t % DAY) as u32)?;
+    Ok(text)
+}
+
 /// A second since 1970, as `2024-01-02 03:04:05+00`.
+#[tactic(auto, unfolding(crate::specs::Moments::moment))]
 pub(crate) fn moment(alloc: Global, t: u64) -> Result<String, NoMemory>
     requires { t ≤ last_second }
     ensures { IfOk result (λ text. string_bytes text ≡ moment t) }
 {
-    let mut text = String::new(alloc);
-    push_date(&mut text, date_of(t))?;
-    text.push_str(" ")?;
-    push_clock(&mut text, (t % DAY) as u32)?;
-    text.push_str("+00")?;
-    Ok(text)
+    let date = date_text(alloc, t)?;
+    let clock = clock_text(alloc, t)?;
+    Ok(format!(in alloc; "{date} {clock}+00")?)
 }

@@ -1,6 +1,6 @@
 use Rattle.std.proofs.Common.{◌≡◌, ◌++◌, map, drop, string_bytes}
-use Rattle.pgb_report.specs.ReportText.{text_of_lines}
-use Rattle.pgb_report.proofs.as_text.text_of_lines.Given as goal
+use Rattle.pgb_report.specs.Lines.{text_of_lines}
+use Rattle.pgb_report.proofs.lines.text_of_lines.Given as goal
 
 -- the text that is there and that to come are the whole
 abbrev pub invariant-loop-line : goal.invariant-loop-line

@@ -1,9 +1,0 @@
-use Rattle.std.proofs.Common.{◌≡◌, ◌++◌, map, drop, flat_map, string_bytes}
-use Rattle.pgb_model.specs.Values.{entry_of}
-use Rattle.pgb_report.specs.ReportText.{backup_lines}
-use Rattle.pgb_report.proofs.backups.push_backups.Given as goal
-
--- the lines that are there and those to come are the whole
-abbrev pub invariant-loop-e : goal.invariant-loop-e
-invariant-loop-e l =
-    map string_bytes l.lines.items ++ flat_map backup_lines (map entry_of (drop l.e-index l.backups)) ≡ map string_bytes l.initial.lines.items ++ flat_map backup_lines (map entry_of l.backups)
