@@ -154,7 +154,6 @@ fn report_value(alloc: Global, report: &Report<'_>) -> Result<Value, NoMemory>
 }
 
 /// The report as one compact line of JSON, with its newline.
-#[tactic(auto, using(crate::proofs::NoFloats::report_plain))]
 pub fn report_json(alloc: Global, report: &Report<'_>) -> Result<String, NoMemory>
     requires archive { IsArchiveInfo (archive_info_of report.now.archive.now) }
     requires info { IsBackupInfo (backup_info_of report.now.info.now) }
