@@ -1,5 +1,5 @@
 -- A report has no float.
-use Rattle.std.proofs.Common.{◌≡◌, ℕ, ◌||◌, Bool, true, false, List, [], ◌∷◌, map, length, take, Option, Some, None, codes, refl, ap₂, ◌∙◌}
+use Rattle.std.proofs.Common.{◌≡◌, ◌||◌, Bool, false, List, [], ◌∷◌, map, length, take, Option, Some, None, codes, refl, ap₂}
 use Rattle.std.proofs.lemmas.Bool.{or_parts}
 use Rattle.std.specs.declared.cmp.Ordering.{Ordering}
 use Rattle.std.specs.declared.cmp.Ordering.TheVariants.{Less, Equal, Greater}
@@ -9,10 +9,9 @@ use Rattle.serde_json.specs.Data.{Data, null, boolean, number, string, array, ob
 use Rattle.serde_json.specs.Written.{has_float, items_have_float, members_have_float}
 use Rattle.pgb_model.specs.declared.clusters.Cluster.{Cluster}
 use Rattle.pgb_model.specs.declared.clusters.ClusterId.{ClusterId}
-use Rattle.pgb_model.specs.declared.labels.Label.{Label}
 use Rattle.pgb_model.specs.declared.wal.Span.{Span}
 use Rattle.pgb_model.specs.Fields.{whole, items_from, list_of, or_null}
-use Rattle.pgb_model.specs.InfoFiles.{label_value, segment_value, kind_text, entry_field, cluster_field}
+use Rattle.pgb_model.specs.InfoFiles.{label_value, entry_field, cluster_field}
 use Rattle.pgb_model.specs.Names.{label_text, segment_text}
 use Rattle.pgb_model.specs.Text.{Text}
 use Rattle.pgb_model.specs.Values.{ArchiveInfo, BackupInfo, Entry}

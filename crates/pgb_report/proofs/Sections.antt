@@ -1,14 +1,13 @@
 -- The listed backups are the first section of their info text, if there are some.
-use Rattle.std.proofs.Common.{◌≡◌, ℕ, ◌<◌, List, [], ◌∷◌, ◌++◌, map, length, get_or, refl, ap, sym, ◌∙◌, arith}
+use Rattle.std.proofs.Common.{◌≡◌, ℕ, ◌<◌, List, [], ◌∷◌, ◌++◌, map, length, get_or, refl, ap, ◌∙◌, arith}
 use Rattle.std.specs.Vec.Iter.{into_iter_items, into_iter_steps}
 use Rattle.std.specs.declared.vec.IntoIter.{IntoIter}
 use Rattle.std.specs.Iterator.{Yields}
-use Rattle.serde_json.specs.Data.{Data}
 use Rattle.pgb_model.specs.declared.clusters.Cluster.{Cluster}
 use Rattle.pgb_model.specs.Fields.{Field}
 use Rattle.pgb_model.specs.InfoText.{Section}
 use Rattle.pgb_model.specs.InfoFiles.{entry_field, backup_sections}
-use Rattle.pgb_model.specs.Values.{Entry, BackupInfo}
+use Rattle.pgb_model.specs.Values.{Entry}
 use Rattle.pgb_ini.specs.declared.part.Part.{Part}
 use Rattle.pgb_ini.specs.Parts.{keys_of, sections_of}
 use Rattle.pgb_report.specs.Labelled.{labelled_data}

@@ -1,5 +1,5 @@
 -- The first and the last segment that is archived of a cluster (pgBackRest user guide, "Information").
-use Rattle.std.specs.Prelude.{ℕ, ◌==◌, ◌&&◌, Bool, List, map, Option, Some, None, if◌then◌else◌}
+use Rattle.std.specs.Prelude.{◌==◌, ◌&&◌, Bool, List, map, Option, Some, None, if◌then◌else◌}
 use Rattle.std.specs.List.{filter_map, reduce}
 use Rattle.std.specs.Ordering.{min_by_ordering, max_by_ordering}
 use Rattle.pgb_model.specs.declared.clusters.ClusterId.{ClusterId}

@@ -1,5 +1,5 @@
 -- The first and the last of names that come one after another.
-use Rattle.std.specs.Prelude.{◌≡◌, List, Option, Some, None, fold, option_map}
+use Rattle.std.specs.Prelude.{List, Option, Some, None, fold, option_map}
 use Rattle.std.specs.List.{reduce}
 use Rattle.pgb_model.specs.Names.{segment_text}
 use Rattle.pgb_model.specs.Text.{Text}

@@ -50,12 +50,12 @@ status_data backups = fields ((codes "code", whole (status_code backups)) ∷ (c
 abbrev pub stanza_data : Text → ArchiveInfo → BackupInfo → List ArchivedName → Data
 stanza_data stanza archive info archived =
     fields (
-        (codes "archive", list_of (map (archive_data archived) archive.history))
-        ∷ (codes "backup", list_of (map backup_data info.backups))
-        ∷ (codes "cipher", string (codes "none"))
-        ∷ (codes "db", list_of (map cluster_data (take (length archive.history) info.history)))
-        ∷ (codes "name", string stanza)
-        ∷ (codes "status", status_data info.backups) ∷ [])
+    (codes "archive", list_of (map (archive_data archived) archive.history))
+    ∷ (codes "backup", list_of (map backup_data info.backups))
+    ∷ (codes "cipher", string (codes "none"))
+    ∷ (codes "db", list_of (map cluster_data (take (length archive.history) info.history)))
+    ∷ (codes "name", string stanza)
+    ∷ (codes "status", status_data info.backups) ∷ [])
 
 -- a list with the one stanza
 abbrev pub report_data : Text → ArchiveInfo → BackupInfo → List ArchivedName → Data

@@ -3,7 +3,7 @@ ghost use Rattle.std.specs.Prelude.{◌≡◌, ◌++◌, [], ◌∷◌, map, tak
 ghost use Rattle.serde_json.specs.Data.{string};
 ghost use Rattle.serde_json.specs.View.{view};
 ghost use Rattle.pgb_model.specs.Fields.{list_of, or_null};
-ghost use Rattle.pgb_model.specs.InfoFiles.{IsArchiveInfo, IsBackupInfo};
+ghost use Rattle.pgb_model.specs.InfoFiles.{IsBackupInfo};
 ghost use Rattle.pgb_model.specs.Names.{id_text};
 ghost use Rattle.pgb_model.specs.Values.{archive_info_of, backup_info_of, entry_of};
 ghost use Rattle.pgb_report.specs.Bounds.{first_name, last_name};
@@ -54,7 +54,12 @@ fn archive_value(
     let id = id_of(cluster);
     let bounds = bounds_of(archived, id);
     let mut members = Map::new(alloc);
-    put(&mut members, alloc, "id", Value::String(id_text(alloc, id)?))?;
+    put(
+        &mut members,
+        alloc,
+        "id",
+        Value::String(id_text(alloc, id)?),
+    )?;
     put(&mut members, alloc, "max", last_value(alloc, bounds)?)?;
     put(&mut members, alloc, "min", first_value(alloc, bounds)?)?;
     Ok(Value::Object(members))
@@ -144,9 +149,19 @@ fn report_value(alloc: Global, report: &Report<'_>) -> Result<Value, NoMemory>
     let mut members = Map::new(alloc);
     put(&mut members, alloc, "archive", archives)?;
     put(&mut members, alloc, "backup", backups)?;
-    put(&mut members, alloc, "cipher", Value::try_from_str(alloc, "none")?)?;
+    put(
+        &mut members,
+        alloc,
+        "cipher",
+        Value::try_from_str(alloc, "none")?,
+    )?;
     put(&mut members, alloc, "db", clusters)?;
-    put(&mut members, alloc, "name", Value::try_from_str(alloc, report.stanza)?)?;
+    put(
+        &mut members,
+        alloc,
+        "name",
+        Value::try_from_str(alloc, report.stanza)?,
+    )?;
     put(&mut members, alloc, "status", status)?;
     let mut stanzas = Vec::new(alloc);
     stanzas.push(Value::Object(members))?;
@@ -155,9 +170,8 @@ fn report_value(alloc: Global, report: &Report<'_>) -> Result<Value, NoMemory>
 
 /// The report as one compact line of JSON, with its newline.
 pub fn report_json(alloc: Global, report: &Report<'_>) -> Result<String, NoMemory>
-    requires archive { IsArchiveInfo (archive_info_of report.now.archive.now) }
-    requires info { IsBackupInfo (backup_info_of report.now.info.now) }
-    ensures text { IfOk result (λ t. string_bytes t ≡ report_json_of report.now.stanza.now (archive_info_of report.now.archive.now) (backup_info_of report.now.info.now) report.now.archived.now) }
+    requires { IsBackupInfo (backup_info_of report.now.info.now) }
+    ensures { IfOk result (λ t. string_bytes t ≡ report_json_of report.now.stanza.now (archive_info_of report.now.archive.now) (backup_info_of report.now.info.now) report.now.archived.now) }
 {
     let value = report_value(alloc, report)?;
     let mut text = value.to_string(alloc)?;

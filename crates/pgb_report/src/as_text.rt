@@ -1,6 +1,6 @@
 // The report as text.
 ghost use Rattle.std.specs.Prelude.{◌≡◌, map, IfOk, string_bytes};
-ghost use Rattle.pgb_model.specs.InfoFiles.{IsArchiveInfo, IsBackupInfo};
+ghost use Rattle.pgb_model.specs.InfoFiles.{IsBackupInfo};
 ghost use Rattle.pgb_model.specs.Values.{archive_info_of, backup_info_of, entry_of};
 ghost use Rattle.pgb_report.specs.Lines.{texts_of};
 ghost use Rattle.pgb_report.specs.ReportText.{status_text, stanza_lines, report_text_of};
@@ -37,9 +37,8 @@ fn stanza_lines(alloc: Global, stanza: &str, backups: &[Entry]) -> Result<Vec<St
 #[tactic(auto, using(crate::proofs::Texts::texts_listed), unfolding(crate::specs::ReportText::report_text_of))]
 /// The report as text, for a reader; each line ends with a newline.
 pub fn report_text(alloc: Global, report: &Report<'_>) -> Result<String, NoMemory>
-    requires archive { IsArchiveInfo (archive_info_of report.now.archive.now) }
-    requires info { IsBackupInfo (backup_info_of report.now.info.now) }
-    ensures text { IfOk result (λ t. string_bytes t ≡ report_text_of report.now.stanza.now (archive_info_of report.now.archive.now) (backup_info_of report.now.info.now) report.now.archived.now) }
+    requires { IsBackupInfo (backup_info_of report.now.info.now) }
+    ensures { IfOk result (λ t. string_bytes t ≡ report_text_of report.now.stanza.now (archive_info_of report.now.archive.now) (backup_info_of report.now.info.now) report.now.archived.now) }
 {
     let archive = report.archive;
     let backups = &report.info.backups;

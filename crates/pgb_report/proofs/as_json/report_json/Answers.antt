@@ -11,5 +11,5 @@ unfolding report_json_of
 returns c =
     let report = c.args.report.now in
     let plain : has_float (view c.in_ok-value.value) ≡ false =
-        ap has_float c.in_ok-value.ensures ∙ report_plain report.stanza.now (archive_info_of report.archive.now) (backup_info_of report.info.now) report.archived.now in
-    record { text = c.in_ok-push_str.ensures.bytes ∙ ap (λ l. l ++ 10 ∷ []) (c.in_ok-text.ensures.text plain ∙ ap compact_text c.in_ok-value.ensures) }
+    ap has_float c.in_ok-value.ensures ∙ report_plain report.stanza.now (archive_info_of report.archive.now) (backup_info_of report.info.now) report.archived.now in
+    c.in_ok-push_str.ensures.bytes ∙ ap (λ l. l ++ 10 ∷ []) (c.in_ok-text.ensures.text plain ∙ ap compact_text c.in_ok-value.ensures)

@@ -1,4 +1,4 @@
-use Rattle.std.proofs.Common.{◌≡◌, ◌++◌, [], map, length, ap, sym, ◌∙◌, arith, append-nil}
+use Rattle.std.proofs.Common.{◌≡◌, ◌++◌, [], map, ap, sym, ◌∙◌, arith, append-nil}
 use Rattle.std.specs.Vec.Iter.{into_iter_items}
 use Rattle.std.proofs.lemmas.List.{nil_from_length}
 use Rattle.serde_json.proofs.Views.{view-Array}
@@ -14,10 +14,10 @@ returns c =
     let it = c.loop-label.label-iterator in
     let rest : into_iter_items it ≡ [] = nil_from_length (into_iter_items it) (omega (arith, it.rest.ok.0, c.in-None.ensures.steps.0)) in
     let all : c.in_ok-items.items.items ≡ c.loop-label.yielded =
-        sym c.into_iter-label-iterator.ensures.into_iter_gives.0
-        ∙ taken_front c.into_iter-label-iterator.result c.loop-label.yielded it c.loop-label.yielded_by
-        ∙ ap (λ xs. c.loop-label.yielded ++ xs) rest
-        ∙ append-nil c.loop-label.yielded in
+    sym c.into_iter-label-iterator.ensures.into_iter_gives.0
+    ∙ taken_front c.into_iter-label-iterator.result c.loop-label.yielded it c.loop-label.yielded_by
+    ∙ ap (λ xs. c.loop-label.yielded ++ xs) rest
+    ∙ append-nil c.loop-label.yielded in
     view-Array c.loop-label.backups ∙ ap list_of (c.loop-label.invariant
     ∙ ap (λ ks. map labelled_data (map key_of ks)) (sym all)
     ∙ ap (map labelled_data) c.in_ok-items.ensures
