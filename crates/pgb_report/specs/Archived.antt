@@ -5,7 +5,7 @@ use Rattle.std.specs.Ordering.{min_by_ordering, max_by_ordering}
 use Rattle.pgb_model.specs.declared.clusters.ClusterId.{ClusterId}
 use Rattle.pgb_model.specs.declared.wal.ArchiveId.{ArchiveId}
 use Rattle.pgb_model.specs.declared.wal.ArchiveName.{ArchiveName}
-use Rattle.pgb_model.specs.declared.wal.ArchiveName.TheVariants.{Segment as Whole, Partial, History, Backup}
+use Rattle.pgb_model.specs.declared.wal.ArchiveName.TheVariants.{Segment as Whole}
 use Rattle.pgb_model.specs.declared.wal.Segment.{Segment}
 use Rattle.pgb_model.specs.Names.{segment_text}
 use Rattle.pgb_model.specs.Text.{Text, text_cmp}
@@ -21,9 +21,7 @@ is_same_id a b = (a.version == b.version) && (a.number == b.number)
 -- partial segments and histories are none
 abbrev pub whole_segment : ArchiveName → Option Segment
 whole_segment (Whole s) = Some s
-whole_segment (Partial s) = None
-whole_segment (History timeline) = None
-whole_segment (Backup s number) = None
+whole_segment name = None
 
 -- the whole segment that this file is, if it lies under the id
 abbrev pub segment_under : ArchiveId → ArchivedName → Option Segment

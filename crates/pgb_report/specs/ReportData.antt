@@ -1,6 +1,6 @@
 -- The report of a stanza as JSON (pgBackRest command reference, "Info Command", option `output`).
 use Rattle.std.specs.Prelude.{ℕ, List, [], ◌∷◌, ◌++◌, length, map, take, codes}
-use Rattle.serde_json.specs.Data.{Data, null, boolean, number, string, array, object, put}
+use Rattle.serde_json.specs.Data.{Data, string, object, put}
 use Rattle.serde_json.specs.Written.{compact_text}
 use Rattle.pgb_model.specs.declared.clusters.Cluster.{Cluster}
 use Rattle.pgb_model.specs.declared.clusters.ClusterId.{ClusterId}
@@ -14,12 +14,8 @@ use Rattle.pgb_report.specs.Archived.{id_of, segments_under, least, greatest}
 
 -- an object with one key more
 abbrev pub with_key : Text → Data → Data → Data
-with_key key value null = null
-with_key key value (boolean b) = boolean b
-with_key key value (number n) = number n
-with_key key value (string s) = string s
-with_key key value (array ds) = array ds
 with_key key value (object ms) = object (put key value ms)
+with_key key value other = other
 
 -- the folder of a cluster's files in the archive, with its last and its first segment
 abbrev pub archive_data : List ArchivedName → ClusterId → Data

@@ -39,8 +39,7 @@ cluster_word current = if current then codes "current" else codes "prior"
 
 abbrev pub bounds_text : Option Text → Option Text → Text
 bounds_text (Some first) (Some last) = first ++ 47 ∷ last
-bounds_text (Some first) None = codes "none present"
-bounds_text None last = codes "none present"
+bounds_text first last = codes "none present"
 
 abbrev pub archive_bounds : List ArchivedName → ClusterId → Text
 archive_bounds archived c = let names = segments_under (id_of c) archived in bounds_text (least names) (greatest names)
