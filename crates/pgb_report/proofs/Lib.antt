@@ -1,0 +1,4 @@
+pub mod Texts
+pub mod NoFloats
+pub mod Sections
+pub mod Labels

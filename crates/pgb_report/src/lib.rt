@@ -1,0 +1,19 @@
+//! The report on a stanza that the command info prints, as text and as JSON.
+#![tactic(auto)]
+
+mod as_json;
+mod as_text;
+mod backups;
+mod bounds;
+mod clusters;
+mod lines;
+mod listed;
+mod moments;
+mod report;
+
+pub use as_json::report_json;
+pub use as_text::report_text;
+pub use report::{ArchivedName, Report};
+
+#[cfg(test)]
+mod tests;
