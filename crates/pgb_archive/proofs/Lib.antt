@@ -1,4 +1,8 @@
-pub mod Kept
+pub mod Cuts
+pub mod OnePath
+pub mod Orders
+pub mod Picked
+pub mod Owns
 pub mod Looked
 pub mod Placed
 pub mod OnePushed
