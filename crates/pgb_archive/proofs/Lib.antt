@@ -4,6 +4,7 @@ pub mod Orders
 pub mod Picked
 pub mod Owns
 pub mod Looked
+pub mod Got
 pub mod Placed
 pub mod OnePushed
 pub mod Receipts
