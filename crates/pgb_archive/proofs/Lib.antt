@@ -1,5 +1,10 @@
-pub mod Kept
+pub mod Cuts
+pub mod OnePath
+pub mod Orders
+pub mod Picked
+pub mod Owns
 pub mod Looked
+pub mod Got
 pub mod Placed
 pub mod OnePushed
 pub mod Receipts

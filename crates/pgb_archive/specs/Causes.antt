@@ -1,5 +1,5 @@
 -- Why a file isn't stored or isn't got, and which answers leave the disk as it was.
-use Rattle.std.specs.Prelude.{◌≡◌, ◌≢◌, ◌<◌, ◌^◌, ℕ, List, length, Option, Some, IfSome, IsSomeAnd, string_bytes}
+use Rattle.std.specs.Prelude.{◌≡◌, ◌≢◌, ◌<◌, ◌^◌, ℕ, List, length, Option, Some, None, IfSome, IsSomeAnd, string_bytes}
 use Rattle.sha1.specs.Sha1.{sha1}
 use Rattle.pgb_outside.specs.Content.{Content}
 use Rattle.pgb_model.specs.declared.wal.ArchiveId.{ArchiveId}
@@ -12,6 +12,7 @@ use Rattle.pgb_wal.specs.Header.{IsOfSystem, IsRefused}
 use Rattle.pgb_archive.specs.declared.fault.ArchiveFault.{ArchiveFault}
 use Rattle.pgb_archive.specs.declared.fault.ArchiveFault.TheVariants.{HeaderForm, SegmentSize, HeaderMismatch, Ambiguous, Duplicate, NotFound, SegmentDamaged, TooLong, TooMany, Disk, NoMemory}
 use Rattle.pgb_archive.specs.declared.files.Stored.{Stored}
+use Rattle.pgb_archive.specs.declared.looking.Kept.{Kept}
 use Rattle.pgb_archive.specs.Stored.{archive_path, StoresNone, StoresOnly, StoresTwo, AreStored}
 
 -- ---- a push
@@ -81,6 +82,15 @@ GetCause stanza id name now rose fault = ⊥
 -- no file of this id and name is archived
 abbrev pub IsUnarchived : ArchiveId → ArchiveName → List Archived → Type 0
 IsUnarchived id name files = (a : Archived) → In a files → a.id ≡ id → a.name ≢ name
+
+-- why a path that was found isn't read
+abbrev pub ReadCause : Kept → Option Content → Type 0 → ArchiveFault → Type 0
+ReadCause kept now rose NotFound = IfSome now (λ f. f (string_bytes kept.path) ≡ None)
+ReadCause kept now rose (SegmentDamaged told found) = (told.0 ≡ kept.sum.0) × (found.0 ≢ told.0) × IfSome now (λ f. IsSomeAnd (f (string_bytes kept.path)) (λ bytes. sha1 bytes ≡ found.0))
+ReadCause kept now rose (TooLong path limit) = (string_bytes path ≡ string_bytes kept.path) × (limit ≡ 2 ^ 30) × IfSome now (λ f. IsSomeAnd (f (string_bytes kept.path)) (λ bytes. limit < length bytes))
+ReadCause kept now rose Disk = rose
+ReadCause kept now rose NoMemory = Unit {0}
+ReadCause kept now rose fault = ⊥
 
 -- ---- what is stored
 

@@ -6,6 +6,7 @@ use pgb_disk::StoreFault;
 use pgb_outside::Stop;
 use pgb_text::{NoMemory, Sum};
 use pgb_wal::HeaderFault;
+use std::alloc::AllocError;
 
 /// Why a file isn't stored or isn't got, in the order in which refusals come.
 #[derive(Debug, Drop)]
@@ -79,6 +80,14 @@ impl From<NoMemory> for ArchiveFault {
     ghost from_gives = { λ _ e. e ≡ WithoutMemory };
 
     fn from(_: NoMemory) -> Self {
+        ArchiveFault::NoMemory
+    }
+}
+
+impl From<AllocError> for ArchiveFault {
+    ghost from_gives = { λ _ e. e ≡ WithoutMemory };
+
+    fn from(_: AllocError) -> Self {
         ArchiveFault::NoMemory
     }
 }

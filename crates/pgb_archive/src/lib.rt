@@ -4,17 +4,20 @@
 mod aside;
 mod fault;
 mod files;
+mod listing;
 mod looking;
 mod names;
 mod one_push;
+mod paths;
 mod pushing;
 mod reading;
 
 pub use aside::{Aside, TurnStop};
 pub use fault::ArchiveFault;
 pub use files::Stored;
+pub use listing::all;
 pub use pushing::{Pushed, push};
-pub use reading::{all, get, present};
+pub use reading::{get, present};
 
 #[cfg(test)]
 mod tests;

@@ -1,81 +1,95 @@
-// Under which names a segment is stored already.
-ghost use Rattle.std.specs.Prelude.{◌≡◌, ◌≤◌, IfOk, IfErr, IfSome, IsErrOf, map, option_map};
-ghost use Rattle.std.specs.List.{filter_map};
+// Under which paths a file is stored already.
+ghost use Rattle.std.specs.Prelude.{◌≡◌, ◌≤◌, true, false, IfOk, IfErr, IfSome, IsErrOf, option_map};
 ghost use Rattle.pgb_outside.specs.Moments.{Rests};
 ghost use Rattle.pgb_outside.specs.Cause.{Rises};
 ghost use Rattle.pgb_model.specs.declared.wal.ArchiveId.{ArchiveId};
-ghost use Rattle.pgb_model.specs.declared.wal.Segment.{Segment};
+ghost use Rattle.pgb_model.specs.declared.wal.ArchiveName.{ArchiveName};
 ghost use Rattle.pgb_model.specs.Text.{Text};
-ghost use Rattle.pgb_archive.specs.Looks.{AreNamesOf, LooksLike, Shows, IsStop, sum_behind, stored_found, stored_of};
+ghost use Rattle.pgb_archive.specs.Paths.{has_sum};
+ghost use Rattle.pgb_archive.specs.Listing.{Picks, TellsSum, PassesSum, sum_behind};
+ghost use Rattle.pgb_archive.specs.Looks.{AreNamesOf, LooksLike, Shows, LookCause, IsStop};
 
 use crate::fault::ArchiveFault;
-use crate::names::SegmentNames;
+use crate::names::FileNames;
+use pgb_disk::read_whole;
 use pgb_outside::{Disk, Found};
 use pgb_text::{NoMemory, Sum};
 use std::alloc::Global;
 
-/// A name under which a segment is stored, and the sum in it.
+/// A history or backup history file has at most 1 MiB.
+pub(crate) const HISTORY_LIMIT: u64 = 1 << 20;
+
+/// A path at which a file is stored, its sum, and its length in bytes.
 #[derive(Drop)]
-pub(crate) struct StoredName {
-    pub name: String,
+pub(crate) struct Kept {
+    pub path: String,
     pub sum: Sum,
+    pub size: u64,
 }
 
-/// Whether a segment is stored: under no name, under one with this sum, or under several, of which these are the first two.
+/// Whether a file is stored: under no path, under one, or under several, of which these are the first two.
 #[derive(Drop)]
 pub(crate) enum Look {
     Free,
-    One(Sum),
+    One(Kept),
     Two(String, String),
 }
 
-// The sum in a name; none where the name isn't that of the segment.
-fn read_stored(name: &[u8], front: &[u8]) -> Option<Sum>
-    ensures { option_map (λ s. s.0) result ≡ sum_behind front.now name.now }
+// The sum in a path; none where the path isn't that of the segment.
+fn read_stored(path: &[u8], front: &[u8]) -> Option<Sum>
+    ensures { option_map (λ s. s.0) result ≡ sum_behind front.now path.now }
 {
-    Sum::read(name.strip_prefix(front)?)
+    Sum::read(path.strip_prefix(front)?)
 }
 
-/// The stored names among these, in their order.
-pub(crate) fn stored_names(
+/// Those of the names that are paths of the segment.
+pub(crate) fn kept_among(
     alloc: Global,
     found: &[Found],
     front: &str,
-) -> Result<Vec<StoredName>, NoMemory>
-    ensures { IfOk result (λ v. map stored_of v.items ≡ filter_map (stored_found front.now) found.now) }
+) -> Result<Vec<Kept>, NoMemory>
+    ensures { IfOk result (λ kept. Picks (TellsSum front.now) (PassesSum front.now) found.now kept.items) }
 {
-    let mut stored = Vec::new(alloc);
-    for Found { name, .. } in found {
+    let mut kept = Vec::new(alloc);
+    for Found { name, size } in found {
         if let Some(sum) = read_stored(name.as_bytes(), front.as_bytes()) {
-            let name = String::from_str(alloc, name.as_str())?;
-            stored.push(StoredName { name, sum })?;
+            let path = String::from_str(alloc, name.as_str())?;
+            kept.push(Kept {
+                path,
+                sum,
+                size: *size,
+            })?;
         }
     }
-    Ok(stored)
+    Ok(kept)
 }
 
-/// What the stored names, which are in byte order, tell of the segment.
-pub(crate) fn look_among(alloc: Global, stored: &[StoredName]) -> Result<Look, NoMemory>
-    ensures { IfOk result (λ look. LooksLike (map stored_of stored.now) look) }
+/// What the paths that were kept, which are in byte order, tell of the segment.
+pub(crate) fn look_among(alloc: Global, kept: &[Kept]) -> Result<Look, NoMemory>
+    ensures { IfOk result (LooksLike kept.now) }
 {
-    match stored {
+    match kept {
         [] => Ok(Look::Free),
-        [one] => Ok(Look::One(one.sum)),
+        [one] => Ok(Look::One(Kept {
+            path: String::from_str(alloc, one.path.as_str())?,
+            sum: one.sum,
+            size: one.size,
+        })),
         [first, second, ..] => Ok(Look::Two(
-            String::from_str(alloc, first.name.as_str())?,
-            String::from_str(alloc, second.name.as_str())?,
+            String::from_str(alloc, first.path.as_str())?,
+            String::from_str(alloc, second.path.as_str())?,
         )),
     }
 }
 
-/// Looks at the segment's folder.
-pub(crate) fn look_for<D: Disk>(
+/// Looks for a segment in its folder.
+pub(crate) fn look_in_folder<D: Disk>(
     alloc: Global,
     d: &mut D,
-    names: &SegmentNames,
+    names: &FileNames,
 ) -> Result<Look, ArchiveFault>
     ensures shows { IfOk result (λ look. IfSome (D.view d.old).now
-        (λ f. (stanza : Text) (id : ArchiveId) (segment : Segment) → AreNamesOf stanza id segment names.now → Shows stanza id segment f look)) }
+        (λ f. (stanza : Text) (id : ArchiveId) (name : ArchiveName) → AreNamesOf stanza id name names.now → has_sum name ≡ true → Shows stanza id name f look)) }
     ensures now { (D.view d.new).now ≡ (D.view d.old).now }
     ensures time { Rests (D.view d.old) (D.view d.new) }
     ensures place { D.place d.new ≡ D.place d.old }
@@ -85,6 +99,50 @@ pub(crate) fn look_for<D: Disk>(
     ensures stops { IfErr result IsStop }
 {
     let found = d.names(alloc, names.folder.as_str())?;
-    let stored = stored_names(alloc, &found, names.front.as_str())?;
-    Ok(look_among(alloc, &stored)?)
+    let kept = kept_among(alloc, &found, names.front.as_str())?;
+    Ok(look_among(alloc, &kept)?)
+}
+
+// Looks at the one path of a file whose path has no sum, and reads it.
+fn look_at<D: Disk>(alloc: Global, d: &mut D, names: &FileNames) -> Result<Look, ArchiveFault>
+    requires { names.now.has_sum ≡ false }
+    ensures shows { IfOk result (λ look. IfSome (D.view d.old).now
+        (λ f. (stanza : Text) (id : ArchiveId) (name : ArchiveName) → AreNamesOf stanza id name names.now → Shows stanza id name f look)) }
+    ensures cause { IfErr result (LookCause names.now (D.view d.old).now (Rises (D.faults d.old) (D.faults d.new))) }
+    ensures now { (D.view d.new).now ≡ (D.view d.old).now }
+    ensures time { Rests (D.view d.old) (D.view d.new) }
+    ensures place { D.place d.new ≡ D.place d.old }
+    ensures proper { D.misuses d.new ≡ D.misuses d.old }
+    ensures later { D.faults d.old ≤ D.faults d.new }
+{
+    match read_whole(alloc, d, names.front.as_str(), HISTORY_LIMIT)? {
+        None => Ok(Look::Free),
+        Some(bytes) => Ok(Look::One(Kept {
+            path: String::from_str(alloc, names.front.as_str())?,
+            sum: Sum::of(&bytes),
+            size: bytes.len() as u64,
+        })),
+    }
+}
+
+/// Looks for a file.
+pub(crate) fn look_for<D: Disk>(
+    alloc: Global,
+    d: &mut D,
+    names: &FileNames,
+) -> Result<Look, ArchiveFault>
+    ensures shows { IfOk result (λ look. IfSome (D.view d.old).now
+        (λ f. (stanza : Text) (id : ArchiveId) (name : ArchiveName) → AreNamesOf stanza id name names.now → Shows stanza id name f look)) }
+    ensures cause { IfErr result (LookCause names.now (D.view d.old).now (Rises (D.faults d.old) (D.faults d.new))) }
+    ensures now { (D.view d.new).now ≡ (D.view d.old).now }
+    ensures time { Rests (D.view d.old) (D.view d.new) }
+    ensures place { D.place d.new ≡ D.place d.old }
+    ensures proper { D.misuses d.new ≡ D.misuses d.old }
+    ensures later { D.faults d.old ≤ D.faults d.new }
+{
+    if names.has_sum {
+        look_in_folder(alloc, d, names)
+    } else {
+        look_at(alloc, d, names)
+    }
 }

@@ -20,10 +20,10 @@ ghost use Rattle.pgb_archive.specs.OnePush.{went_of, spool_stop_of, was_tried, M
 use crate::aside::{Aside, TurnStop};
 use crate::fault::ArchiveFault;
 use crate::looking::{Look, look_for};
-use crate::names::segment_names;
+use crate::names::file_names;
 use crate::pushing::{Pushed, push};
 use pgb_disk::{StoreFault, begin, replace};
-use pgb_model::{ArchiveId, Segment};
+use pgb_model::{ArchiveId, ArchiveName, Segment};
 use pgb_outside::{Disk, Stop};
 use pgb_text::{NoMemory, Sum};
 use pgb_wal::segment_text;
@@ -80,7 +80,7 @@ fn is_stored<D: Disk>(
     ensures later { D.faults d.old ≤ D.faults d.new }
     ensures cause { IfErr result (IsRepoStop (Rises (D.faults d.old) (D.faults d.new))) }
 {
-    let Ok(names) = segment_names(alloc, stanza, *id, *segment) else {
+    let Ok(names) = file_names(alloc, stanza, *id, ArchiveName::Segment(*segment)) else {
         return Err(TurnStop::NoMemory);
     };
     match look_for(alloc, d, &names) {
@@ -145,7 +145,15 @@ fn push_behind<D: Disk>(
     ensures cause { IfStop result (IsRepoStop (Rises (D.faults d.old) (D.faults d.new))) }
 {
     match may_push(alloc, d, stanza, &id, &before) {
-        Ok(true) => went_by(push(alloc, d, stanza, &id, &segment, system, bytes)),
+        Ok(true) => went_by(push(
+            alloc,
+            d,
+            stanza,
+            &id,
+            &ArchiveName::Segment(segment),
+            system,
+            bytes,
+        )),
         Ok(false) => Went::Nothing,
         Err(stop) => Went::Refused(stop),
     }

@@ -1,26 +1,28 @@
-// A segment is stored.
-ghost use Rattle.std.specs.Prelude.{◌≡◌, ◌⊎◌, ◌≤◌, ◌∷◌, [], false, Some, List, map, IfOk, IfErr, IfSome, IsSome, IsErrOf, OnOk, string_bytes};
+// A file is stored.
+ghost use Rattle.std.specs.Prelude.{◌≡◌, ◌⊎◌, ◌≤◌, ◌∷◌, [], false, Option, Some, List, map, IfOk, IfErr, IfSome, IsSome, IsErrOf, OnOk, string_bytes};
 ghost use Rattle.sha1.specs.Sha1.{sha1};
-ghost use Rattle.pgb_outside.specs.Content.{Name};
+ghost use Rattle.pgb_outside.specs.Content.{Name, Content};
 ghost use Rattle.pgb_outside.specs.Moments.{Rests, is_loose};
 ghost use Rattle.pgb_outside.specs.Cause.{Rises};
 ghost use Rattle.pgb_outside.specs.Crash.{IsTemporary, Crash, Ends, NowGoes, FirstOf, AllOf};
 ghost use Rattle.pgb_disk.specs.Store.{LiesIn, ChangesOnly};
-ghost use Rattle.pgb_model.specs.declared.wal.ArchiveName.TheVariants.{Segment as Whole};
+ghost use Rattle.pgb_model.specs.declared.wal.ArchiveId.{ArchiveId};
+ghost use Rattle.pgb_model.specs.Text.{Text};
 ghost use Rattle.pgb_model.specs.Repository.{Stanza};
 ghost use Rattle.pgb_model.specs.Stands.{Stands};
 ghost use Rattle.pgb_model.specs.Now.{NowStands};
 ghost use Rattle.pgb_model.specs.Steps.{Step, One, IsPartOf, after, after_all, push_of};
 ghost use Rattle.pgb_model.specs.Steady.{IsSteady, Moves};
 ghost use Rattle.pgb_archive.specs.Stored.{archived_file, archive_path, StoresNone, StoresOnly, ChangesArchive};
-ghost use Rattle.pgb_archive.specs.Causes.{IsSegmentOf, PushCause, OnFinding};
-ghost use Rattle.pgb_archive.specs.Looks.{IsStop, name_with};
+ghost use Rattle.pgb_archive.specs.Causes.{IsFileOf, PushCause, OnFinding};
+ghost use Rattle.pgb_archive.specs.Looks.{IsStop, path_with};
 
 use crate::fault::ArchiveFault;
 use crate::looking::{Look, look_for};
-use crate::names::{SegmentNames, segment_names};
+use crate::names::{FileNames, file_names};
+use crate::paths::has_sum;
 use pgb_disk::replace;
-use pgb_model::{ArchiveId, Segment};
+use pgb_model::{ArchiveId, ArchiveName};
 use pgb_outside::Disk;
 use pgb_text::Sum;
 use pgb_wal::check_header;
@@ -35,81 +37,96 @@ pub enum Pushed {
     Same,
 }
 
-// Puts the bytes at the segment's name with this sum.
+// A segment has the header of one; other files have none.
+fn check_bytes(name: &ArchiveName, system: u64, bytes: &[u8]) -> Result<(), ArchiveFault>
+    ensures right { OnOk result (IsFileOf name.now bytes.now system) }
+    ensures wrong { IfErr result (λ e. (stanza : Text) (id : ArchiveId) (now : Option Content) (rose : Type 0) → PushCause stanza id name.now system bytes.now now rose e) }
+{
+    if has_sum(name) {
+        check_header(bytes, system)?;
+    }
+    Ok(())
+}
+
+// Puts the bytes at the file's path with this sum.
 fn put_at<D: Disk>(
     alloc: Global,
     d: &mut D,
-    names: &SegmentNames,
+    names: &FileNames,
     sum: &Sum,
     bytes: &[u8],
 ) -> Result<(), ArchiveFault>
-    requires folder { (folder : Name) × LiesIn folder (string_bytes names.now.temporary) × LiesIn folder (name_with names.now sum.now.0) }
+    requires folder { (folder : Name) × LiesIn folder (string_bytes names.now.temporary) × LiesIn folder (path_with names.now sum.now.0) }
     requires temporary { IsTemporary (string_bytes names.now.temporary) }
-    requires lasting { ¬ IsTemporary (name_with names.now sum.now.0) }
-    ensures crash { is_loose (D.view d.old) (name_with names.now sum.now.0) ≡ false → Crash (FirstOf ((name_with names.now sum.now.0, bytes.now) ∷ [])) (D.view d.old) (D.view d.new) }
-    ensures whole { OnOk result (is_loose (D.view d.old) (name_with names.now sum.now.0) ≡ false → Ends (AllOf ((name_with names.now sum.now.0, bytes.now) ∷ [])) (D.view d.old) (D.view d.new)) }
-    ensures now_part { NowGoes (FirstOf ((name_with names.now sum.now.0, bytes.now) ∷ [])) (D.view d.old).now (D.view d.new).now }
-    ensures now_whole { OnOk result (NowGoes (AllOf ((name_with names.now sum.now.0, bytes.now) ∷ [])) (D.view d.old).now (D.view d.new).now) }
-    ensures only { ChangesOnly (λ n. (n ≡ string_bytes names.now.temporary) ⊎ (n ≡ name_with names.now sum.now.0)) (D.view d.old) (D.view d.new) }
+    requires lasting { ¬ IsTemporary (path_with names.now sum.now.0) }
+    ensures crash { is_loose (D.view d.old) (path_with names.now sum.now.0) ≡ false → Crash (FirstOf ((path_with names.now sum.now.0, bytes.now) ∷ [])) (D.view d.old) (D.view d.new) }
+    ensures whole { OnOk result (is_loose (D.view d.old) (path_with names.now sum.now.0) ≡ false → Ends (AllOf ((path_with names.now sum.now.0, bytes.now) ∷ [])) (D.view d.old) (D.view d.new)) }
+    ensures now_part { NowGoes (FirstOf ((path_with names.now sum.now.0, bytes.now) ∷ [])) (D.view d.old).now (D.view d.new).now }
+    ensures now_whole { OnOk result (NowGoes (AllOf ((path_with names.now sum.now.0, bytes.now) ∷ [])) (D.view d.old).now (D.view d.new).now) }
+    ensures only { ChangesOnly (λ n. (n ≡ string_bytes names.now.temporary) ⊎ (n ≡ path_with names.now sum.now.0)) (D.view d.old) (D.view d.new) }
     ensures place { D.place d.new ≡ D.place d.old }
     ensures proper { D.misuses d.new ≡ D.misuses d.old }
     ensures later { D.faults d.old ≤ D.faults d.new }
     ensures cause { IsErrOf result ArchiveFault.Disk → Rises (D.faults d.old) (D.faults d.new) }
     ensures stops { IfErr result IsStop }
 {
-    let name = names.with_sum(alloc, sum)?;
-    replace(alloc, d, names.temporary.as_str(), name.as_str(), bytes)?;
+    let path = names.with_sum(alloc, sum)?;
+    replace(alloc, d, names.temporary.as_str(), path.as_str(), bytes)?;
     Ok(())
 }
 
-/// Stores a whole segment of the cluster with this system identifier, under the sum of its bytes.
+/// Stores a file of the cluster with this system identifier: a whole or partial segment, whose header is checked, under the
+/// sum of its bytes; a history or backup history file as it is.
 pub fn push<D: Disk>(
     alloc: Global,
     d: &mut D,
     stanza: &str,
     id: &ArchiveId,
-    segment: &Segment,
+    name: &ArchiveName,
     system: u64,
     bytes: &[u8],
 ) -> Result<Pushed, ArchiveFault>
-    // After every answer the disk stands for the repository as before or with the segment, and at Ok with it.
+    // After every answer the disk stands for the repository as before or with the file, and at Ok with it.
     ensures part { (s : Stanza) → IsSome (D.view d.old).now → NowStands stanza.now (Some s) (D.view d.old).now
-        → (done : List Step) × IsPartOf done (map One (push_of s (archived_file id.now (Whole segment.now) bytes.now))) × NowStands stanza.now (after (Some s) done) (D.view d.new).now }
+        → (done : List Step) × IsPartOf done (map One (push_of s (archived_file id.now name.now bytes.now))) × NowStands stanza.now (after (Some s) done) (D.view d.new).now }
     ensures done { OnOk result ((s : Stanza) → IsSome (D.view d.old).now → NowStands stanza.now (Some s) (D.view d.old).now
-        → NowStands stanza.now (Some (after_all s (push_of s (archived_file id.now (Whole segment.now) bytes.now)))) (D.view d.new).now) }
+        → NowStands stanza.now (Some (after_all s (push_of s (archived_file id.now name.now bytes.now)))) (D.view d.new).now) }
 
     // The same of all that a stop leaves, at each moment.
     ensures moves { (s : Stanza) → IsSteady stanza.now (Some s) (D.view d.old) → IsSome (D.view d.old).now
-        → Moves stanza.now (λ g. (done : List Step) × IsPartOf done (map One (push_of s (archived_file id.now (Whole segment.now) bytes.now))) × Stands stanza.now g (after (Some s) done)) (D.view d.old) (D.view d.new) }
+        → Moves stanza.now (λ g. (done : List Step) × IsPartOf done (map One (push_of s (archived_file id.now name.now bytes.now))) × Stands stanza.now g (after (Some s) done)) (D.view d.old) (D.view d.new) }
     ensures stored { OnOk result ((s : Stanza) → IsSteady stanza.now (Some s) (D.view d.old) → IsSome (D.view d.old).now
-        → IsSteady stanza.now (Some (after_all s (push_of s (archived_file id.now (Whole segment.now) bytes.now)))) (D.view d.new)) }
+        → IsSteady stanza.now (Some (after_all s (push_of s (archived_file id.now name.now bytes.now)))) (D.view d.new)) }
 
-    // Only the segment's name and temporary ones change, none outside the stanza's folder of the archive.
+    // Only the file's path and temporary names change, none outside the stanza's folder of the archive.
     ensures only { ChangesArchive stanza.now (D.view d.old) (D.view d.new) }
-    ensures writes { NowGoes (FirstOf ((archive_path stanza.now id.now (Whole segment.now) (sha1 bytes.now), bytes.now) ∷ [])) (D.view d.old).now (D.view d.new).now }
-    ensures written { IfOk result (λ p. p ≡ Pushed.New → NowGoes (AllOf ((archive_path stanza.now id.now (Whole segment.now) (sha1 bytes.now), bytes.now) ∷ [])) (D.view d.old).now (D.view d.new).now) }
+    ensures writes { NowGoes (FirstOf ((archive_path stanza.now id.now name.now (sha1 bytes.now), bytes.now) ∷ [])) (D.view d.old).now (D.view d.new).now }
+    ensures written { IfOk result (λ p. p ≡ Pushed.New → NowGoes (AllOf ((archive_path stanza.now id.now name.now (sha1 bytes.now), bytes.now) ∷ [])) (D.view d.old).now (D.view d.new).now) }
 
     // Each answer has its cause, and what was found changes nothing.
-    ensures of_system { OnOk result (IsSegmentOf bytes.now system) }
-    ensures new { IfOk result (λ p. p ≡ Pushed.New → IfSome (D.view d.old).now (StoresNone stanza.now id.now (Whole segment.now))) }
-    ensures same { IfOk result (λ p. p ≡ Pushed.Same → IfSome (D.view d.old).now (λ f. StoresOnly stanza.now id.now (Whole segment.now) f (sha1 bytes.now)) × ((D.view d.new).now ≡ (D.view d.old).now)) }
+    ensures of_system { OnOk result (IsFileOf name.now bytes.now system) }
+    ensures new { IfOk result (λ p. p ≡ Pushed.New → IfSome (D.view d.old).now (StoresNone stanza.now id.now name.now)) }
+    ensures same { IfOk result (λ p. p ≡ Pushed.Same → IfSome (D.view d.old).now (λ f. StoresOnly stanza.now id.now name.now f (sha1 bytes.now)) × ((D.view d.new).now ≡ (D.view d.old).now)) }
     ensures refused { IfErr result (λ e. OnFinding e (((D.view d.new).now ≡ (D.view d.old).now) × Rests (D.view d.old) (D.view d.new))) }
-    ensures cause { IfErr result (PushCause stanza.now id.now (Whole segment.now) system bytes.now (D.view d.old).now (Rises (D.faults d.old) (D.faults d.new))) }
+    ensures cause { IfErr result (PushCause stanza.now id.now name.now system bytes.now (D.view d.old).now (Rises (D.faults d.old) (D.faults d.new))) }
     ensures told { IsSome (D.view d.old).now → IsSome (D.view d.new).now }
     ensures place { D.place d.new ≡ D.place d.old }
     ensures proper { D.misuses d.new ≡ D.misuses d.old }
     ensures later { D.faults d.old ≤ D.faults d.new }
 {
-    check_header(bytes, system)?;
+    check_bytes(name, system, bytes)?;
     let sum = Sum::of(bytes);
-    let names = segment_names(alloc, stanza, *id, *segment)?;
+    let names = file_names(alloc, stanza, *id, *name)?;
     match look_for(alloc, d, &names)? {
         Look::Free => {
             put_at(alloc, d, &names, &sum, bytes)?;
             Ok(Pushed::New)
         }
-        Look::One(kept) if kept == sum => Ok(Pushed::Same),
-        Look::One(kept) => Err(ArchiveFault::Duplicate { kept, found: sum }),
+        Look::One(kept) if kept.sum == sum => Ok(Pushed::Same),
+        Look::One(kept) => Err(ArchiveFault::Duplicate {
+            kept: kept.sum,
+            found: sum,
+        }),
         Look::Two(first, second) => Err(ArchiveFault::Ambiguous { first, second }),
     }
 }

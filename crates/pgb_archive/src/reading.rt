@@ -1,22 +1,104 @@
-// Stored files are got, looked for and listed.
-ghost use Rattle.std.specs.Prelude.{◌≡◌, ◌≤◌, Some, IfOk, IfErr, IfSome, IsSome, IsErrOf, length};
+// Stored files are got and looked for.
+ghost use Rattle.std.specs.Prelude.{◌≡◌, ◌≤◌, ◌^◌, true, false, Some, IfOk, IfErr, IfSome, IsSome, IsErrOf, length, string_bytes};
 ghost use Rattle.sha1.specs.Sha1.{sha1};
 ghost use Rattle.pgb_outside.specs.Moments.{Rests};
 ghost use Rattle.pgb_outside.specs.Cause.{Rises};
+ghost use Rattle.pgb_model.specs.declared.wal.ArchiveId.{ArchiveId};
+ghost use Rattle.pgb_model.specs.declared.wal.ArchiveName.{ArchiveName};
 ghost use Rattle.pgb_model.specs.Repository.{Stanza};
 ghost use Rattle.pgb_model.specs.Now.{NowStands};
-ghost use Rattle.pgb_model.specs.Text.{In};
-ghost use Rattle.pgb_archive.specs.Stored.{archived_file, AreStored, Finds};
-ghost use Rattle.pgb_archive.specs.Causes.{StoresBytes, GetCause, IsUnarchived, PresentCause, AllCause, limit_of, most_files};
+ghost use Rattle.pgb_model.specs.Text.{Text, In};
+ghost use Rattle.pgb_archive.specs.Stored.{archived_file, Finds};
+ghost use Rattle.pgb_archive.specs.Paths.{has_sum};
+ghost use Rattle.pgb_archive.specs.Looks.{AreNamesOf, IsStoredAs};
+ghost use Rattle.pgb_archive.specs.Causes.{StoresBytes, GetCause, ReadCause, IsUnarchived, PresentCause, limit_of};
 
 use crate::fault::ArchiveFault;
 use crate::files::Stored;
+use crate::looking::{HISTORY_LIMIT, Kept, Look, look_for, look_in_folder};
+use crate::names::{FileNames, file_names};
+use crate::paths::has_sum;
+use pgb_disk::read_whole;
 use pgb_model::{ArchiveId, ArchiveName};
 use pgb_outside::Disk;
+use pgb_text::Sum;
 use std::alloc::Global;
 
+// A segment has at most 1 GiB.
+const SEGMENT_LIMIT: u64 = 1 << 30;
+
+// The bytes at a path, which have the sum that it tells.
+fn read_kept<D: Disk>(alloc: Global, d: &mut D, kept: &Kept) -> Result<Vec<u8>, ArchiveFault>
+    ensures whole { IfOk result (λ bytes. (sha1 bytes.items ≡ kept.now.sum.0) × IfSome (D.view d.old).now (λ f. f (string_bytes kept.now.path) ≡ Some bytes.items)) }
+    ensures within { IfOk result (λ bytes. length bytes.items ≤ 2 ^ 30) }
+    ensures cause { IfErr result (ReadCause kept.now (D.view d.old).now (Rises (D.faults d.old) (D.faults d.new))) }
+    ensures now { (D.view d.new).now ≡ (D.view d.old).now }
+    ensures time { Rests (D.view d.old) (D.view d.new) }
+    ensures place { D.place d.new ≡ D.place d.old }
+    ensures proper { D.misuses d.new ≡ D.misuses d.old }
+    ensures later { D.faults d.old ≤ D.faults d.new }
+{
+    let Some(bytes) = read_whole(alloc, d, kept.path.as_str(), SEGMENT_LIMIT)? else {
+        return Err(ArchiveFault::NotFound);
+    };
+    let found = Sum::of(&bytes);
+    if found == kept.sum {
+        Ok(bytes)
+    } else {
+        Err(ArchiveFault::SegmentDamaged {
+            told: kept.sum,
+            found,
+        })
+    }
+}
+
+fn get_segment<D: Disk>(
+    alloc: Global,
+    d: &mut D,
+    names: &FileNames,
+) -> Result<Vec<u8>, ArchiveFault>
+    ensures got { IfOk result (λ bytes. IfSome (D.view d.old).now
+        (λ f. (stanza : Text) (id : ArchiveId) (name : ArchiveName) → AreNamesOf stanza id name names.now → has_sum name ≡ true → StoresBytes stanza id name f (sha1 bytes.items) bytes.items)) }
+    ensures within { IfOk result (λ bytes. length bytes.items ≤ 2 ^ 30) }
+    ensures cause { IfErr result (λ e. (stanza : Text) (id : ArchiveId) (name : ArchiveName) → AreNamesOf stanza id name names.now → has_sum name ≡ true
+        → GetCause stanza id name (D.view d.old).now (Rises (D.faults d.old) (D.faults d.new)) e) }
+    ensures now { (D.view d.new).now ≡ (D.view d.old).now }
+    ensures time { Rests (D.view d.old) (D.view d.new) }
+    ensures place { D.place d.new ≡ D.place d.old }
+    ensures proper { D.misuses d.new ≡ D.misuses d.old }
+    ensures later { D.faults d.old ≤ D.faults d.new }
+{
+    match look_in_folder(alloc, d, names)? {
+        Look::Free => Err(ArchiveFault::NotFound),
+        Look::One(kept) => read_kept(alloc, d, &kept),
+        Look::Two(first, second) => Err(ArchiveFault::Ambiguous { first, second }),
+    }
+}
+
+// A file whose path has no sum.
+fn get_other<D: Disk>(
+    alloc: Global,
+    d: &mut D,
+    names: &FileNames,
+) -> Result<Vec<u8>, ArchiveFault>
+    ensures got { IfOk result (λ bytes. IfSome (D.view d.old).now
+        (λ f. (stanza : Text) (id : ArchiveId) (name : ArchiveName) → AreNamesOf stanza id name names.now → has_sum name ≡ false → StoresBytes stanza id name f (sha1 bytes.items) bytes.items)) }
+    ensures within { IfOk result (λ bytes. length bytes.items ≤ 2 ^ 20) }
+    ensures cause { IfErr result (λ e. (stanza : Text) (id : ArchiveId) (name : ArchiveName) → AreNamesOf stanza id name names.now → has_sum name ≡ false
+        → GetCause stanza id name (D.view d.old).now (Rises (D.faults d.old) (D.faults d.new)) e) }
+    ensures now { (D.view d.new).now ≡ (D.view d.old).now }
+    ensures time { Rests (D.view d.old) (D.view d.new) }
+    ensures place { D.place d.new ≡ D.place d.old }
+    ensures proper { D.misuses d.new ≡ D.misuses d.old }
+    ensures later { D.faults d.old ≤ D.faults d.new }
+{
+    match read_whole(alloc, d, names.front.as_str(), HISTORY_LIMIT)? {
+        None => Err(ArchiveFault::NotFound),
+        Some(bytes) => Ok(bytes),
+    }
+}
+
 /// The bytes of a stored file. Of a segment they have the sum that its name tells.
-#[tactic(auto, using(crate::proofs::Placed::rests_none))]
 pub fn get<D: Disk>(
     alloc: Global,
     d: &mut D,
@@ -38,11 +120,29 @@ pub fn get<D: Disk>(
     ensures proper { D.misuses d.new ≡ D.misuses d.old }
     ensures later { D.faults d.old ≤ D.faults d.new }
 {
-    Err(ArchiveFault::NoMemory)
+    let names = file_names(alloc, stanza, *id, *name)?;
+    if names.has_sum {
+        get_segment(alloc, d, &names)
+    } else {
+        get_other(alloc, d, &names)
+    }
+}
+
+fn stored_as(id: ArchiveId, name: ArchiveName, kept: Kept) -> Stored
+    ensures { IsStoredAs id name kept result }
+{
+    let Kept { path, sum, size } = kept;
+    let sum = if has_sum(&name) { Some(sum) } else { None };
+    Stored {
+        id,
+        name,
+        sum,
+        size,
+        path,
+    }
 }
 
 /// Where a file is stored; None where it isn't. Only its names are looked at, and the bytes of a history or backup history file.
-#[tactic(auto, using(crate::proofs::Placed::rests_none))]
 pub fn present<D: Disk>(
     alloc: Global,
     d: &mut D,
@@ -58,20 +158,10 @@ pub fn present<D: Disk>(
     ensures proper { D.misuses d.new ≡ D.misuses d.old }
     ensures later { D.faults d.old ≤ D.faults d.new }
 {
-    Err(ArchiveFault::NoMemory)
-}
-
-/// All stored files of the stanza, in byte order of their paths. Other names below its folder of the archive are passed over.
-#[tactic(auto, using(crate::proofs::Placed::rests_none))]
-pub fn all<D: Disk>(alloc: Global, d: &mut D, stanza: &str) -> Result<Vec<Stored>, ArchiveFault>
-    ensures all { IfOk result (λ files. IfSome (D.view d.old).now (λ f. AreStored stanza.now f files.items)) }
-    ensures within { IfOk result (λ files. length files.items ≤ most_files) }
-    ensures cause { IfErr result (AllCause stanza.now (D.view d.old).now (Rises (D.faults d.old) (D.faults d.new))) }
-    ensures now { (D.view d.new).now ≡ (D.view d.old).now }
-    ensures time { Rests (D.view d.old) (D.view d.new) }
-    ensures place { D.place d.new ≡ D.place d.old }
-    ensures proper { D.misuses d.new ≡ D.misuses d.old }
-    ensures later { D.faults d.old ≤ D.faults d.new }
-{
-    Err(ArchiveFault::NoMemory)
+    let names = file_names(alloc, stanza, *id, *name)?;
+    match look_for(alloc, d, &names)? {
+        Look::Free => Ok(None),
+        Look::One(kept) => Ok(Some(stored_as(*id, *name, kept))),
+        Look::Two(first, second) => Err(ArchiveFault::Ambiguous { first, second }),
+    }
 }
