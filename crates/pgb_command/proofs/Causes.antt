@@ -10,7 +10,7 @@ use Rattle.pgb_outside.specs.Content.{Content}
 use Rattle.pgb_outside.specs.Tree.{Nodes}
 use Rattle.pgb_model.specs.Text.{Text}
 use Rattle.pgb_command.specs.declared.fault.Fault.{Fault}
-use Rattle.pgb_command.specs.declared.fault.Fault.TheVariants.{Settings, ConfigMissing, SegmentName, PathOutside, Held, StanzaMissing, InfoDamaged, StanzaMismatch, SegmentMissing, TooLong, TooMany, HeaderForm, SegmentSize, HeaderMismatch, Ambiguous, Duplicate, SegmentDamaged, NotBuilt, ControlMissing, ControlShort, VersionText, VersionUnsupported, Disk, Tree, Locks, Source, Sink, NoMemory}
+use Rattle.pgb_command.specs.declared.fault.Fault.TheVariants.{Settings, ConfigMissing, SegmentName, PathOutside, Held, StanzaMissing, InfoDamaged, HistoryDiffers, StanzaMismatch, ArchiveLost, SegmentMissing, TooLong, TooMany, HeaderForm, SegmentSize, HeaderMismatch, Ambiguous, Duplicate, SegmentDamaged, NotBuilt, ControlMissing, ControlShort, VersionText, VersionUnsupported, Disk, Tree, Locks, Source, Sink, NoMemory}
 use Rattle.pgb_command.specs.Answers.{Ending, finished, absent, refused, Answer, error_line, lines_of, ending_lines, usage_status, status_of, status, OnFinding, IsFinding}
 use Rattle.pgb_command.specs.Causes.{Cause, Refused, Unknown, Asking, Output, Memory}
 use Rattle.pgb_command.specs.Output.{IsFrontWritten, IsTold, Whole, Cut, Starved, Wordless, WroteLines, Wrote}
@@ -43,6 +43,8 @@ not_zero (Held a) e = cc
 not_zero (StanzaMissing a) e = cc
 not_zero (InfoDamaged a b c) e = cc
 not_zero (StanzaMismatch a b) e = cc
+not_zero (HistoryDiffers a) e = cc
+not_zero (ArchiveLost a) e = cc
 not_zero (SegmentMissing a) e = cc
 not_zero (TooLong a b) e = cc
 not_zero (TooMany a) e = cc
@@ -78,6 +80,8 @@ wrote_fault Has old new u (Held a) has is = is
 wrote_fault Has old new u (StanzaMissing a) has is = is
 wrote_fault Has old new u (InfoDamaged a b c) has is = is
 wrote_fault Has old new u (StanzaMismatch a b) has is = is
+wrote_fault Has old new u (HistoryDiffers a) has is = is
+wrote_fault Has old new u (ArchiveLost a) has is = is
 wrote_fault Has old new u (SegmentMissing a) has is = is
 wrote_fault Has old new u (TooLong a b) has is = is
 wrote_fault Has old new u (TooMany a) has is = is
@@ -137,7 +141,7 @@ module _ (words : List Text) (files repo : Option Content) (nodes : Option Nodes
 -- ---- refusals
 
 not_a_finding : (n m : ℕ) → n ≡ m → 80 ≤ m → m ≤ 90 → ¬ IsFinding n
-not_a_finding n m is lo hi (inl a) = absurd (omega (arith, is, a, hi))
+not_a_finding n m is lo hi (inl a) = absurd (omega (arith, is, a.0, hi))
 not_a_finding n m is lo hi (inr b) = absurd (omega (arith, is, b.1, lo))
 
 found_by : (fault : Fault) (P : Type 0) → IsFinding (status_of fault) → OnFinding fault P → P
@@ -149,6 +153,8 @@ found_by (Held a) P finding h = h
 found_by (StanzaMissing a) P finding h = h
 found_by (InfoDamaged a b c) P finding h = h
 found_by (StanzaMismatch a b) P finding h = h
+found_by (HistoryDiffers a) P finding h = h
+found_by (ArchiveLost a) P finding h = h
 found_by (SegmentMissing a) P finding h = h
 found_by (TooLong a b) P finding h = h
 found_by (TooMany a) P finding h = h
@@ -182,7 +188,7 @@ at_zero P (Err e) u old new rose told n (Starved lines which front) same zero h 
 at_zero P (Err e) u old new rose told n (Wordless r front) same zero h = absurd (omega (arith, same, zero))
 
 no_finding : (n : ℕ) → n ≡ 0 → ¬ IsFinding n
-no_finding n is (inl a) = absurd (omega (arith, is, a))
+no_finding n is (inl a) = absurd (omega (arith, is, a.0))
 no_finding n is (inr b) = absurd (omega (arith, is, b.0))
 
 -- what holds where nothing was done holds where the program ends with its status

@@ -1,19 +1,30 @@
 -- stanza-create by its parts.
-use Rattle.std.proofs.Common.{◌≡◌, ◌⊎◌, ℕ, [], ◌∷◌, Option, Some, None, true, false, refl, sym, ap, ◌∙◌, subst, arith}
+use Rattle.std.proofs.Common.{◌≡◌, ◌⊎◌, inl, inr, ℕ, List, [], ◌∷◌, Option, Some, None, true, false, refl, sym, ap, ◌∙◌, subst, arith}
 use Rattle.std.specs.Prelude.{IfSome, IsSome, IsSomeAnd}
 use Rattle.pgb_outside.specs.Content.{Content}
 use Rattle.pgb_outside.specs.Tree.{Nodes}
 use Rattle.pgb_model.specs.declared.clusters.Cluster.{Cluster}
 use Rattle.pgb_model.specs.Text.{Text}
 use Rattle.pgb_model.specs.Repository.{Repository}
-use Rattle.pgb_model.specs.Steps.{step, Create, StanzaCreate}
+use Rattle.pgb_model.specs.Names.{archive_info}
+use Rattle.pgb_model.specs.Pair.{PairIs, PairAbsent}
+use Rattle.pgb_model.specs.InfoFiles.{IsArchiveText}
+use Rattle.pgb_model.specs.Steps.{Step, step, after, steps_of, Create, StanzaCreate}
+use Rattle.pgb_model.specs.Log.{IsDone}
 use Rattle.pgb_model.specs.Now.{NowStands, NowDoes, HasNewPairs}
-use Rattle.pgb_model.proofs.Done.{create_part, create_whole}
+use Rattle.pgb_model.proofs.Done.{create_part}
 use Rattle.pgb_stanza.specs.declared.control.Control.{Control}
 use Rattle.pgb_stanza.specs.ControlFile.{Tells, first_cluster}
 use Rattle.std.proofs.lemmas.List.{append_cancel_right}
 use Rattle.std.proofs.lemmas.Fmt.{decimal_injective}
-use Rattle.pgb_command.specs.Storing.{AgreesAtPair}
+use Rattle.pgb_stanza.specs.declared.creating.Created.{Created}
+use Rattle.pgb_stanza.specs.declared.creating.Created.TheVariants.{New, Same}
+use Rattle.pgb_stanza.specs.declared.fault.StanzaFault.{StanzaFault}
+use Rattle.pgb_stanza.specs.Pairs.{LacksStanza, HasStanzaOf}
+use Rattle.pgb_stanza.specs.Causes.{CreateCause as StanzaCause, OnContent, IfNew, IfSame}
+use Rattle.pgb_command.specs.declared.fault.Fault.{Fault}
+use Rattle.pgb_command.specs.Answers.{OnFinding}
+use Rattle.pgb_command.specs.Making.{MakeCause, IsStanzaFault, Damaged, Differs, Mismatch, Lost, Unsaid, Failed, Starved}
 use Rattle.pgb_command.specs.Cluster.{control_bytes, version_bytes, FolderTells, IsClusterOf}
 
 -- ---- one cluster
@@ -55,17 +66,61 @@ module _ (stanza : Text) (nodes : Option Nodes) (told : Control) (tells : IfSome
       (cluster : Option Cluster) → IsSomeAnd nodes (λ f. IsClusterOf f cluster) → NowDoes stanza (StanzaCreate cluster) false old new
   does_part part cluster is = subst (λ (c : Option Cluster). NowDoes stanza (StanzaCreate c) false old new) (sym (cluster_is nodes told cluster tells is)) (create_part stanza (first_cluster told) old mid new same kept part)
 
-  pub does_whole : ((r : Repository) → IsSome mid → NowStands stanza r mid → (r ≡ None) × NowStands stanza (step r (Create (first_cluster told))) new) →
-      (cluster : Option Cluster) → IsSomeAnd nodes (λ f. IsClusterOf f cluster) → NowDoes stanza (StanzaCreate cluster) true old new
-  does_whole whole cluster is = subst (λ (c : Option Cluster). NowDoes stanza (StanzaCreate c) true old new) (sym (cluster_is nodes told cluster tells is)) (create_whole stanza (first_cluster told) old mid new same kept whole)
+  whole_of : (r : Repository) → NowStands stanza (step r (Create (first_cluster told))) new → (done : List Step) × IsDone true done (steps_of (StanzaCreate (Some (first_cluster told))) r) × NowStands stanza (after r done) new
+  whole_of None h = (Create (first_cluster told) ∷ [], refl, h)
+  whole_of (Some s) h = ([], refl, h)
 
-  pub has_members : (IsSome mid → IfSome new (HasNewPairs stanza (first_cluster told))) → (c : Cluster) → IsSomeAnd nodes (λ f. IsClusterOf f (Some c)) → IsSome old → IfSome new (HasNewPairs stanza c)
-  has_members members c is some =
+  some_mid : IsSome old → IsSome mid
+  some_mid some = subst (λ (o : Option Content). IsSome o) (sym same) some
+
+  pub does_whole : ((r : Repository) → IsSome mid → NowStands stanza r mid → NowStands stanza (step r (Create (first_cluster told))) new) →
+      (cluster : Option Cluster) → IsSomeAnd nodes (λ f. IsClusterOf f cluster) → NowDoes stanza (StanzaCreate cluster) true old new
+  does_whole whole cluster is = subst (λ (c : Option Cluster). NowDoes stanza (StanzaCreate c) true old new) (sym (cluster_is nodes told cluster tells is)) (record {
+    told = λ some. kept (some_mid some);
+    does = λ r some now. whole_of r (whole r (some_mid some) (subst (λ (o : Option Content). NowStands stanza r o) (sym same) now));
+  })
+
+  pub has_members : (IfSome mid (LacksStanza stanza) → IsSome mid → IfSome new (HasNewPairs stanza (first_cluster told))) → (c : Cluster) → IsSomeAnd nodes (λ f. IsClusterOf f (Some c)) → IfSome old (LacksStanza stanza) → IsSome old → IfSome new (HasNewPairs stanza c)
+  has_members members c is lacks some =
       let e : ◌≡◌ {A = Option Cluster} (Some c) (Some (first_cluster told)) = cluster_is nodes told (Some c) tells is in
       let same_cluster : c ≡ first_cluster told = cc in
-      subst (λ (x : Cluster). IfSome new (HasNewPairs stanza x)) (sym same_cluster) (members (subst (λ (o : Option Content). IsSome o) (sym same) some))
+      subst (λ (x : Cluster). IfSome new (HasNewPairs stanza x)) (sym same_cluster) (members (subst (λ (o : Option Content). IfSome o (LacksStanza stanza)) (sym same) lacks) (some_mid some))
 
--- the members of a new stanza's archive pair agree
-pub agrees_new : (stanza : Text) (c : Cluster) (now : Option Content) → IfSome now (HasNewPairs stanza c) → IfSome now (AgreesAtPair stanza)
-agrees_new stanza c None h = tt
-agrees_new stanza c (Some f) h = (h.archive_copy ∙ sym h.archive, subst (λ (v : Option Text). IsSome v) (sym h.archive) refl)
+-- ---- of a stanza that was there
+
+not_absent : {V : Type 0} (IsTextOf : V → Text → Type 0) (f : Content) (name : Text) (v : V) → PairAbsent f name → PairIs IsTextOf f name v → ⊥
+not_absent IsTextOf f name v absent (inl m) = let e : ◌≡◌ {A = Option Text} None (Some m.0) = sym absent.0 ∙ m.1 in cc
+not_absent IsTextOf f name v absent (inr m) = let e : ◌≡◌ {A = Option Text} None (Some m.1.0) = sym absent.1 ∙ m.1.1 in cc
+
+not_both : {P : Type 0} (stanza : Text) (told : Control) (now : Option Content) → IsSome now → IfSome now (LacksStanza stanza) → IfSome now (HasStanzaOf stanza told) → P
+not_both stanza told None some lacks has = cc
+not_both stanza told (Some f) some lacks has = absurd (not_absent IsArchiveText f (archive_info stanza) has.archive lacks.archive has.pairs.archive)
+
+-- where there was none, the members are those of a new stanza
+pub members_of : (created : Created) (stanza : Text) (told : Control) (old : Option Content) (Q : Type 0) → IfNew created (IsSome old → Q) → IfSame created (IfSome old (HasStanzaOf stanza told)) → IfSome old (LacksStanza stanza) → IsSome old → Q
+members_of New stanza told old Q new same lacks some = new some
+members_of Same stanza told old Q new same lacks some = not_both stanza told old some lacks same
+
+pub was_of : (created : Created) (P Q : Type 0) → IfNew created P → IfSame created Q → P ⊎ Q
+was_of New P Q new same = inl new
+was_of Same P Q new same = inr same
+
+-- ---- which answer a refusal is
+
+pub content_finding : (e : StanzaFault) (fault : Fault) (P : Type 0) → IsStanzaFault e fault → OnContent e P → OnFinding fault P
+content_finding e fault P (Damaged name main copy) p = p
+content_finding e fault P (Differs at) p = p
+content_finding e fault P (Mismatch kept found) p = p
+content_finding e fault P (Lost label text is) p = p
+content_finding e fault P (Unsaid label) p = tt
+content_finding e fault P Failed p = tt
+content_finding e fault P Starved p = tt
+
+pub make_cause : (stanza : Text) (told : Control) (repo : Option Content) (rose : Type 0) (e : StanzaFault) (fault : Fault) → IsStanzaFault e fault → StanzaCause stanza told repo rose e → MakeCause stanza told repo rose fault
+make_cause stanza told repo rose e fault (Damaged name main copy) h = h
+make_cause stanza told repo rose e fault (Differs at) h = h
+make_cause stanza told repo rose e fault (Mismatch kept found) h = h
+make_cause stanza told repo rose e fault (Lost label text is) h = (label, is, h)
+make_cause stanza told repo rose e fault (Unsaid label) h = tt
+make_cause stanza told repo rose e fault Failed h = h
+make_cause stanza told repo rose e fault Starved h = tt

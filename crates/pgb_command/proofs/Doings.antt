@@ -18,9 +18,10 @@ use Rattle.pgb_command.specs.Asked.{Request, create, push, get, Asked}
 use Rattle.pgb_command.specs.Causes.{CreateCause, PushFileCause, IsStored, AskedCause, Creating, Stored, Pushing, Given, Missing, Getting}
 use Rattle.pgb_command.specs.Cluster.{IsClusterOf}
 use Rattle.pgb_command.specs.Commands.{IsPushOf, IsRequestOf, IsCommandOf}
-use Rattle.pgb_command.specs.Doing.{Heals, PartDone, AllDone, NoneDone, ServesFor, ServedBy}
+use Rattle.pgb_command.specs.Doing.{AreHealed, PartDone, AllDone, NoneDone, ServesFor, ServedBy}
 use Rattle.pgb_command.specs.Getting.{GetFileCause, GotBy}
 use Rattle.pgb_command.specs.Outcomes.{outcome_ending, OnFinished, ending_of}
+use Rattle.pgb_stanza.specs.Pairs.{LacksStanza, PairsAgree}
 use Rattle.pgb_command.specs.Storing.{AgreesAtPair}
 use Rattle.pgb_command.proofs.Carries.{rests_carry, rests_pass}
 use Rattle.pgb_command.proofs.Chains.{rests_none, still_does}
@@ -59,12 +60,12 @@ module _ (a : Asked) (nodes : Option Nodes) (old new : View) (is : a.request ≡
 
   pub create_done : ((cluster : Option Cluster) → IsSomeAnd nodes (λ f. IsClusterOf f cluster) → NowDoes a.stanza (StanzaCreate cluster) true old.now new.now) →
       ((cluster : Option Cluster) → IsSomeAnd nodes (λ f. IsClusterOf f cluster) → CarriesOn a.stanza (StanzaCreate cluster) true old new) →
-      (IsSome old.now → IfSome new.now (AgreesAtPair a.stanza)) →
-      ((c : Cluster) → IsSomeAnd nodes (λ f. IsClusterOf f (Some c)) → IsSome old.now → IfSome new.now (HasNewPairs a.stanza c)) → AllDone a nodes old new
+      (IsSome old.now → IfSome new.now (PairsAgree a.stanza)) →
+      ((c : Cluster) → IsSomeAnd nodes (λ f. IsClusterOf f (Some c)) → IfSome old.now (LacksStanza a.stanza) → IsSome old.now → IfSome new.now (HasNewPairs a.stanza c)) → AllDone a nodes old new
   create_done done carried agrees members = record {
     done = as_create nodes a.data_folder a.request (λ k. NowDoes a.stanza k true old.now new.now) is done;
     carried = as_create nodes a.data_folder a.request (λ k. CarriesOn a.stanza k true old new) is carried;
-    agrees = λ heals. agrees;
+    agrees = λ some. subst (λ (r : Request). IfSome new.now (AreHealed r a.stanza)) (sym is) (agrees some);
     members = λ same. members;
   }
 
@@ -92,7 +93,7 @@ module _ (a : Asked) (path : Text) (nodes : Option Nodes) (old new : View) (is :
   push_done (Ok x) done carried agrees = record {
     done = λ command asked. done command (as_push nodes a.data_folder path a.request command is asked);
     carried = λ command asked. carried command (as_push nodes a.data_folder path a.request command is asked);
-    agrees = λ heals. agrees;
+    agrees = λ some. subst (λ (r : Request). IfSome new.now (AreHealed r a.stanza)) (sym is) (agrees some);
     members = λ other. not_both a.request path is other;
   }
   push_done (Err e) done carried agrees = tt
@@ -120,6 +121,10 @@ module _ (a : Asked) (name path : Text) (nodes : Option Nodes) (old new : View) 
       go None asked = absurd asked
       go (Some f) asked = subst (λ (r : Request). IsRequestOf f a.data_folder r command) is asked
 
+  nothing_healed : (now : Option Content) → IfSome now (AreHealed a.request a.stanza)
+  nothing_healed None = tt
+  nothing_healed (Some f) = subst (λ (r : Request). AreHealed r a.stanza f) (sym is) tt
+
   pub read_part : PartDone a nodes old new
   read_part = record {
     part = λ command asked. nothing_done a.stanza command old.now new.now same;
@@ -131,7 +136,7 @@ module _ (a : Asked) (name path : Text) (nodes : Option Nodes) (old new : View) 
   read_all = record {
     done = λ command asked. subst (λ (k : Command). NowDoes a.stanza k true old.now new.now) (sym (as_reading command asked)) (still_does a.stanza old.now new.now same);
     carried = λ command asked. subst (λ (k : Command). CarriesOn a.stanza k true old new) (sym (as_reading command asked)) (rests_carried a.stanza old new rests same);
-    agrees = λ heals. absurd (subst Heals is heals);
+    agrees = λ some. nothing_healed new.now;
     members = λ other. let e : ◌≡◌ {A = Request} create (get name path) = sym other ∙ is in cc;
   }
 

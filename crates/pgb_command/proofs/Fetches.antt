@@ -13,11 +13,11 @@ use Rattle.pgb_model.specs.Values.{ArchiveInfo}
 use Rattle.pgb_model.specs.InfoFiles.{IsArchiveText}
 use Rattle.pgb_stanza.specs.declared.control.Control.{Control}
 use Rattle.pgb_command.specs.declared.fault.Fault.{Fault}
-use Rattle.pgb_command.specs.declared.fault.Fault.TheVariants.{Settings, ConfigMissing, SegmentName, PathOutside, Held, StanzaMissing, InfoDamaged, StanzaMismatch, SegmentMissing, TooLong, TooMany, HeaderForm, SegmentSize, HeaderMismatch, Ambiguous, Duplicate, SegmentDamaged, NotBuilt, ControlMissing, ControlShort, VersionText, VersionUnsupported, Disk, Tree, Locks, Source, Sink, NoMemory}
+use Rattle.pgb_command.specs.declared.fault.Fault.TheVariants.{Settings, ConfigMissing, SegmentName, PathOutside, Held, StanzaMissing, InfoDamaged, HistoryDiffers, StanzaMismatch, ArchiveLost, SegmentMissing, TooLong, TooMany, HeaderForm, SegmentSize, HeaderMismatch, Ambiguous, Duplicate, SegmentDamaged, NotBuilt, ControlMissing, ControlShort, VersionText, VersionUnsupported, Disk, Tree, Locks, Source, Sink, NoMemory}
 use Rattle.pgb_command.specs.declared.outcome.Outcome.{Outcome}
 use Rattle.pgb_command.specs.declared.outcome.Outcome.TheVariants.{Silent, SameStored, Absent}
 use Rattle.pgb_command.specs.Cluster.{FolderTells}
-use Rattle.pgb_command.specs.Storing.{identity_kept, identity_told}
+use Rattle.pgb_stanza.specs.Pairs.{identity_kept, identity_told}
 use Rattle.pgb_command.specs.Getting.{AreWords, served_path, IsWanted, OnHistory, HasSame, FoundIn, SearchCause, FetchCause, IsServed, Serves}
 use Rattle.pgb_command.specs.Outcomes.{OnNothing}
 
@@ -44,6 +44,8 @@ module _ (stanza : Text) (told : Control) (name : ArchiveName) (repo : Option Co
   sought rose risen up (StanzaMissing a) h = absurd h
   sought rose risen up (InfoDamaged a b k) h = absurd h
   sought rose risen up (StanzaMismatch a b) h = absurd h
+  sought rose risen up (HistoryDiffers a) h = absurd h
+  sought rose risen up (ArchiveLost a) h = absurd h
   sought rose risen up (SegmentMissing a) h = absurd h
   sought rose risen up (TooLong a b) h = (v, pair, h)
   sought rose risen up (TooMany a) h = absurd h

@@ -15,7 +15,7 @@ use Rattle.pgb_model.proofs.Logged.{KeepsSound, rests_still, moves_keep, moves_b
 use Rattle.pgb_model.proofs.PushSound.{push_keeps_sound}
 use Rattle.pgb_model.proofs.PushDone.{push_spool}
 use Rattle.pgb_command.specs.declared.fault.Fault.{Fault}
-use Rattle.pgb_command.specs.declared.fault.Fault.TheVariants.{Settings, ConfigMissing, SegmentName, PathOutside, Held, StanzaMissing, InfoDamaged, StanzaMismatch, SegmentMissing, TooLong, TooMany, HeaderForm, SegmentSize, HeaderMismatch, Ambiguous, Duplicate, SegmentDamaged, NotBuilt, ControlMissing, ControlShort, VersionText, VersionUnsupported, Disk, Tree, Locks, Source, Sink, NoMemory}
+use Rattle.pgb_command.specs.declared.fault.Fault.TheVariants.{Settings, ConfigMissing, SegmentName, PathOutside, Held, StanzaMissing, InfoDamaged, HistoryDiffers, StanzaMismatch, ArchiveLost, SegmentMissing, TooLong, TooMany, HeaderForm, SegmentSize, HeaderMismatch, Ambiguous, Duplicate, SegmentDamaged, NotBuilt, ControlMissing, ControlShort, VersionText, VersionUnsupported, Disk, Tree, Locks, Source, Sink, NoMemory}
 use Rattle.pgb_command.specs.Answers.{OnFinding}
 use Rattle.pgb_command.specs.Asked.{Request, create, push, get}
 use Rattle.pgb_command.specs.Commands.{IsPushOf, IsRequestOf, IsPart, Goes, Ends}
@@ -111,6 +111,8 @@ finding_to (Held a) P Q to h = to h
 finding_to (StanzaMissing a) P Q to h = to h
 finding_to (InfoDamaged a b c) P Q to h = to h
 finding_to (StanzaMismatch a b) P Q to h = to h
+finding_to (HistoryDiffers a) P Q to h = to h
+finding_to (ArchiveLost a) P Q to h = to h
 finding_to (SegmentMissing a) P Q to h = to h
 finding_to (TooLong a b) P Q to h = to h
 finding_to (TooMany a) P Q to h = to h
@@ -141,6 +143,8 @@ on_all (Held a) Q q = q
 on_all (StanzaMissing a) Q q = q
 on_all (InfoDamaged a b c) Q q = q
 on_all (StanzaMismatch a b) Q q = q
+on_all (HistoryDiffers a) Q q = q
+on_all (ArchiveLost a) Q q = q
 on_all (SegmentMissing a) Q q = q
 on_all (TooLong a b) Q q = q
 on_all (TooMany a) Q q = q
@@ -180,6 +184,8 @@ on_both (Held a) P R h k = (h, k)
 on_both (StanzaMissing a) P R h k = (h, k)
 on_both (InfoDamaged a b c) P R h k = (h, k)
 on_both (StanzaMismatch a b) P R h k = (h, k)
+on_both (HistoryDiffers a) P R h k = (h, k)
+on_both (ArchiveLost a) P R h k = (h, k)
 on_both (SegmentMissing a) P R h k = (h, k)
 on_both (TooLong a b) P R h k = (h, k)
 on_both (TooMany a) P R h k = (h, k)

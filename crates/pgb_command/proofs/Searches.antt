@@ -13,7 +13,7 @@ use Rattle.pgb_archive.specs.declared.fault.ArchiveFault.TheVariants.{Ambiguous 
 use Rattle.pgb_archive.specs.Stored.{StoresNone}
 use Rattle.pgb_archive.specs.Causes.{StoresBytes, GetCause}
 use Rattle.pgb_command.specs.declared.fault.Fault.{Fault}
-use Rattle.pgb_command.specs.declared.fault.Fault.TheVariants.{Settings, ConfigMissing, SegmentName, PathOutside, Held, StanzaMissing, InfoDamaged, StanzaMismatch, SegmentMissing, TooLong, TooMany, HeaderForm, SegmentSize, HeaderMismatch, Ambiguous, Duplicate, SegmentDamaged, NotBuilt, ControlMissing, ControlShort, VersionText, VersionUnsupported, Disk, Tree, Locks, Source, Sink, NoMemory}
+use Rattle.pgb_command.specs.declared.fault.Fault.TheVariants.{Settings, ConfigMissing, SegmentName, PathOutside, Held, StanzaMissing, InfoDamaged, HistoryDiffers, StanzaMismatch, ArchiveLost, SegmentMissing, TooLong, TooMany, HeaderForm, SegmentSize, HeaderMismatch, Ambiguous, Duplicate, SegmentDamaged, NotBuilt, ControlMissing, ControlShort, VersionText, VersionUnsupported, Disk, Tree, Locks, Source, Sink, NoMemory}
 use Rattle.pgb_command.specs.Storing.{id_kept}
 use Rattle.pgb_command.specs.Getting.{IsSame, HasSame, NoneAbove, FoundIn, AbsentIn, RefusedIn, UnderCause, SearchCause}
 
@@ -94,6 +94,8 @@ module _ (stanza : Text) (told : Control) (name : ArchiveName) where
   cause_in history xs c ys is from now rose risen up absent (StanzaMissing a) h = absurd h
   cause_in history xs c ys is from now rose risen up absent (InfoDamaged a b k) h = absurd h
   cause_in history xs c ys is from now rose risen up absent (StanzaMismatch a b) h = absurd h
+  cause_in history xs c ys is from now rose risen up absent (HistoryDiffers a) h = absurd h
+  cause_in history xs c ys is from now rose risen up absent (ArchiveLost a) h = absurd h
   cause_in history xs c ys is from now rose risen up absent (SegmentMissing a) h = absurd h
   cause_in history xs c ys is from now rose risen up absent (TooLong a b) h = refused_in history xs c ys is from h.0 now (LongOf a b) absent h.1
   cause_in history xs c ys is from now rose risen up absent (TooMany a) h = absurd h

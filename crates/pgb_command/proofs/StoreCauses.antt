@@ -204,6 +204,8 @@ module _ (stanza folder path : Text) (wal : ArchiveName) (named : IsWalPath fold
   opened name is repo nodes d t l h (faults.StanzaMissing s) cause = absurd cause
   opened name is repo nodes d t l h (faults.InfoDamaged n m c) cause = absurd cause
   opened name is repo nodes d t l h (faults.StanzaMismatch k f) cause = absurd cause
+  opened name is repo nodes d t l h (faults.HistoryDiffers k) cause = absurd cause
+  opened name is repo nodes d t l h (faults.ArchiveLost k) cause = absurd cause
   opened name is repo nodes d t l h (faults.SegmentMissing p) cause = absurd cause
   opened name is repo nodes d t l h (faults.TooLong n m) cause = absurd cause
   opened name is repo nodes d t l h (faults.TooMany m) cause = absurd cause
@@ -224,6 +226,8 @@ module _ (stanza folder path : Text) (wal : ArchiveName) (named : IsWalPath fold
   wider repo nodes d t x y l h a b (faults.StanzaMissing w) cause = cause
   wider repo nodes d t x y l h a b (faults.InfoDamaged n m c) cause = cause
   wider repo nodes d t x y l h a b (faults.StanzaMismatch k f) cause = cause
+  wider repo nodes d t x y l h a b (faults.HistoryDiffers k) cause = absurd cause
+  wider repo nodes d t x y l h a b (faults.ArchiveLost k) cause = absurd cause
   wider repo nodes d t x y l h a b (faults.SegmentMissing w) cause = cause
   wider repo nodes d t x y l h a b (faults.TooLong w m) cause = cause
   wider repo nodes d t x y l h a b (faults.TooMany m) cause = absurd cause

@@ -9,12 +9,12 @@ use Rattle.pgb_options.specs.declared.usage.Usage.{Usage}
 use Rattle.pgb_options.specs.declared.usage.Usage.TheVariants.{CommandMissing, CommandUnknown, OptionUnknown, OptionRepeated, OptionValue, OptionMissing, OptionNotFor, ConfigSyntax, ParameterCount, ParameterUtf8, NoMemory as UsageNoMemory}
 use Rattle.pgb_options.specs.Table.{verb_word}
 use Rattle.pgb_command.specs.declared.fault.Unbuilt.{Unbuilt}
-use Rattle.pgb_command.specs.declared.fault.Unbuilt.TheVariants.{Command, Server, Background, ExistingStanza}
+use Rattle.pgb_command.specs.declared.fault.Unbuilt.TheVariants.{Command, Server, Background}
 use Rattle.pgb_command.specs.declared.fault.ControlFile.{ControlFile}
 use Rattle.pgb_command.specs.declared.fault.ControlFile.TheVariants.{Control, Version}
-use Rattle.pgb_command.specs.declared.fault.Identity.{Identity}
+use Rattle.pgb_stanza.specs.declared.fault.Identity.{Identity}
 use Rattle.pgb_command.specs.declared.fault.Fault.{Fault}
-use Rattle.pgb_command.specs.declared.fault.Fault.TheVariants.{Settings, NotBuilt, ConfigMissing, SegmentName, PathOutside, Held, ControlMissing, ControlShort, VersionText, VersionUnsupported, StanzaMissing, InfoDamaged, StanzaMismatch, SegmentMissing, TooLong, TooMany, HeaderForm, SegmentSize, HeaderMismatch, Ambiguous, Duplicate, SegmentDamaged, Disk, Tree, Locks, Source, Sink, NoMemory}
+use Rattle.pgb_command.specs.declared.fault.Fault.TheVariants.{Settings, NotBuilt, ConfigMissing, SegmentName, PathOutside, Held, ControlMissing, ControlShort, VersionText, VersionUnsupported, StanzaMissing, InfoDamaged, HistoryDiffers, StanzaMismatch, ArchiveLost, SegmentMissing, TooLong, TooMany, HeaderForm, SegmentSize, HeaderMismatch, Ambiguous, Duplicate, SegmentDamaged, Disk, Tree, Locks, Source, Sink, NoMemory}
 
 -- of words and a configuration that are refused
 abbrev pub usage_status : Usage → ℕ
@@ -43,7 +43,9 @@ status_of VersionText = 26
 status_of (VersionUnsupported version) = 27
 status_of (StanzaMissing stanza) = 21
 status_of (InfoDamaged name main copy) = 22
+status_of (HistoryDiffers at) = 101
 status_of (StanzaMismatch kept found) = 23
+status_of (ArchiveLost label) = 24
 status_of (SegmentMissing path) = 37
 status_of (TooLong name limit) = 70
 status_of (TooMany limit) = 71
@@ -71,7 +73,6 @@ abbrev pub part_name : Unbuilt → Text
 part_name (Command verb) = verb_word verb
 part_name Server = codes "online"
 part_name Background = codes "archive-async"
-part_name ExistingStanza = codes "existing stanza"
 
 abbrev pub file_text : ControlFile → Text
 file_text Control = codes "global/pg_control"
@@ -119,6 +120,8 @@ error_line (VersionUnsupported version) = codes "ERROR: [027]: version " ++ (dec
 error_line (StanzaMissing stanza) = codes "ERROR: [021]: stanza '" ++ (string_bytes stanza ++ codes "' does not exist\n")
 error_line (InfoDamaged name main copy) = codes "ERROR: [022]: info '" ++ (string_bytes name ++ damage_text main copy)
 error_line (StanzaMismatch kept found) = codes "ERROR: [023]: stanza has " ++ (identity_text kept ++ (codes ", data folder has " ++ (identity_text found ++ codes "\n")))
+error_line (HistoryDiffers at) = codes "ERROR: [101]: archive history and backup history differ at " ++ (decimal at ++ codes "\n")
+error_line (ArchiveLost label) = codes "ERROR: [024]: archive info is missing, backup info lists '" ++ (string_bytes label ++ codes "'\n")
 error_line (SegmentMissing path) = codes "ERROR: [037]: '" ++ (shown (string_bytes path) ++ codes "' is missing\n")
 error_line (TooLong name limit) = codes "ERROR: [070]: '" ++ (shown (string_bytes name) ++ (codes "' is longer than " ++ (decimal limit ++ codes "\n")))
 error_line (TooMany limit) = codes "ERROR: [071]: more than " ++ (decimal limit ++ codes "\n")
@@ -174,7 +177,7 @@ lines_of a = flat_map unknown_line a.unknown ++ ending_lines a.ending
 
 -- the statuses of faults that are what was found, and no failure of an object and no want of memory
 abbrev pub IsFinding : ℕ → Type 0
-IsFinding status = (status ≡ 100) ⊎ ((1 ≤ status) × (status ≤ 72))
+IsFinding status = ((100 ≤ status) × (status ≤ 101)) ⊎ ((1 ≤ status) × (status ≤ 72))
 
 -- this holds where the fault is one of those
 abbrev pub OnFinding : Fault → Type 0 → Type 0

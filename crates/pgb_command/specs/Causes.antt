@@ -7,7 +7,6 @@ use Rattle.pgb_model.specs.declared.clusters.ClusterId.{ClusterId}
 use Rattle.pgb_model.specs.declared.wal.ArchiveName.{ArchiveName}
 use Rattle.pgb_model.specs.Text.{Text}
 use Rattle.pgb_model.specs.Names.{wal_text}
-use Rattle.pgb_model.specs.Create.{lacks_pairs}
 use Rattle.pgb_stanza.specs.declared.control.Control.{Control}
 use Rattle.pgb_archive.specs.declared.fault.ArchiveFault.{ArchiveFault}
 use Rattle.pgb_archive.specs.declared.fault.ArchiveFault.TheVariants.{HeaderForm as FormOf, SegmentSize as SizeOf, HeaderMismatch as MismatchOf, Ambiguous as AmbiguousOf, Duplicate as DuplicateOf, TooLong as LongOf}
@@ -15,10 +14,11 @@ use Rattle.pgb_archive.specs.Causes.{IsFileOf, limit_of, PushCause}
 use Rattle.pgb_archive.specs.Stored.{StoresNone, StoresOnly}
 use Rattle.pgb_options.specs.Settings.{Settled}
 use Rattle.pgb_command.specs.declared.fault.Unbuilt.{Unbuilt}
-use Rattle.pgb_command.specs.declared.fault.Unbuilt.TheVariants.{ExistingStanza}
 use Rattle.pgb_command.specs.declared.fault.Fault.{Fault}
-use Rattle.pgb_command.specs.declared.fault.Fault.TheVariants.{NotBuilt, Held, StanzaMissing, InfoDamaged, StanzaMismatch, SegmentMissing, TooLong, HeaderForm, SegmentSize, HeaderMismatch, Ambiguous, Duplicate, Disk, Locks, Sink, NoMemory}
+use Rattle.pgb_command.specs.declared.fault.Fault.TheVariants.{NotBuilt, Held, StanzaMissing, InfoDamaged, HistoryDiffers, StanzaMismatch, ArchiveLost, SegmentMissing, TooLong, HeaderForm, SegmentSize, HeaderMismatch, Ambiguous, Duplicate, Disk, Locks, Sink, NoMemory}
 use Rattle.pgb_command.specs.Asked.{Asked, create, push, get, Settles, requested, IsAsked}
+use Rattle.pgb_stanza.specs.Pairs.{LacksStanza, HasStanzaOf}
+use Rattle.pgb_command.specs.Making.{MakeCause}
 use Rattle.pgb_command.specs.Configuring.{ConfigCause}
 use Rattle.pgb_command.specs.Locking.{backup_lock, archive_lock}
 use Rattle.pgb_command.specs.Answers.{Ending, finished, absent, refused, Answer, same_line}
@@ -26,19 +26,33 @@ use Rattle.pgb_command.specs.Cluster.{FolderTells, ClusterCause}
 use Rattle.pgb_command.specs.WalPath.{IsWalPath, HasWal}
 use Rattle.pgb_command.specs.WalCause.{WordCause, FileCause}
 use Rattle.pgb_command.specs.Getting.{IsServed, IsMissing, GetFileCause}
-use Rattle.pgb_command.specs.Storing.{HasCurrent, id_kept, identity_kept, identity_told, ValueCause, CurrentCause}
+use Rattle.pgb_command.specs.Storing.{HasCurrent, id_kept, ValueCause, CurrentCause}
+use Rattle.pgb_stanza.specs.Pairs.{identity_kept, identity_told}
 
 -- the folder tells a cluster
 abbrev pub TellsSome : Option Nodes → Type 0
 TellsSome nodes = IfSome nodes (λ f. (told : Control) × FolderTells f told)
 
+-- the stanza isn't made or kept, for a data folder that tells a cluster
+abbrev pub OnTold : Text → Option Content → Option Nodes → Fault → Type 0
+OnTold stanza repo nodes fault = (told : Control) × IfSome nodes (λ f. FolderTells f told) × MakeCause stanza told repo ⊥ fault
+
 -- Why stanza-create is refused, from what the repository and the data folder held as it began, which counts of faults rose, and whether the count of held locks did.
 abbrev pub CreateCause : Text → Option Content → Option Nodes → Type 0 → Type 0 → Type 0 → Type 0 → Fault → Type 0
-CreateCause stanza repo nodes disk_rose tree_rose lock_rose held (NotBuilt ExistingStanza) = IfSome repo (λ f. lacks_pairs stanza f ≡ false) × TellsSome nodes
+CreateCause stanza repo nodes disk_rose tree_rose lock_rose held (InfoDamaged name main copy) = OnTold stanza repo nodes (InfoDamaged name main copy)
+CreateCause stanza repo nodes disk_rose tree_rose lock_rose held (HistoryDiffers at) = OnTold stanza repo nodes (HistoryDiffers at)
+CreateCause stanza repo nodes disk_rose tree_rose lock_rose held (StanzaMismatch kept found) = OnTold stanza repo nodes (StanzaMismatch kept found)
+CreateCause stanza repo nodes disk_rose tree_rose lock_rose held (ArchiveLost label) = OnTold stanza repo nodes (ArchiveLost label)
 CreateCause stanza repo nodes disk_rose tree_rose lock_rose held (Held name) = (string_bytes name ≡ backup_lock stanza) × held
 CreateCause stanza repo nodes disk_rose tree_rose lock_rose held Disk = disk_rose
 CreateCause stanza repo nodes disk_rose tree_rose lock_rose held Locks = lock_rose
 CreateCause stanza repo nodes disk_rose tree_rose lock_rose held other = ClusterCause nodes tree_rose other
+
+-- Ok of stanza-create: there was no stanza, or one of the data folder's cluster.
+pub record IsMade (stanza : Text) (repo : Option Content) (nodes : Option Nodes) : Type 0 where
+  pub told : Control
+  pub tells : IfSome nodes (λ f. FolderTells f told)
+  pub was : IfSome repo (LacksStanza stanza) ⊎ IfSome repo (HasStanzaOf stanza told)
 
 -- ---- archive-push
 
@@ -108,8 +122,8 @@ pub record IsStored (stanza folder path : Text) (repo : Option Content) (nodes :
 
 -- Why a command answers so.
 pub data AskedCause (a : Asked) (repo : Option Content) (nodes : Option Nodes) (disk_rose tree_rose lock_rose held : Type 0) : Ending → Type 0 where
-  -- the stanza is made
-  Made : a.request ≡ create → IfSome repo (λ f. lacks_pairs a.stanza f ≡ true) → TellsSome nodes → AskedCause a repo nodes disk_rose tree_rose lock_rose held (finished [])
+  -- the stanza is made, or was there
+  Made : a.request ≡ create → IsMade a.stanza repo nodes → AskedCause a repo nodes disk_rose tree_rose lock_rose held (finished [])
   -- the wal is stored
   Stored : (path lines : Text) → a.request ≡ push path → IsStored a.stanza a.data_folder path repo nodes lines → AskedCause a repo nodes disk_rose tree_rose lock_rose held (finished lines)
   -- the file is served

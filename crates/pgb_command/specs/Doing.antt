@@ -8,6 +8,7 @@ use Rattle.pgb_model.specs.declared.clusters.Cluster.{Cluster}
 use Rattle.pgb_model.specs.Steps.{Command, Reading}
 use Rattle.pgb_model.specs.Steady.{CarriesOn, PassesOnly}
 use Rattle.pgb_model.specs.Now.{HasNewPairs, NowDoes}
+use Rattle.pgb_stanza.specs.Pairs.{LacksStanza, PairsAgree}
 use Rattle.pgb_command.specs.Asked.{Asked, Request, create, push, get}
 use Rattle.pgb_command.specs.Cluster.{IsClusterOf}
 use Rattle.pgb_command.specs.Commands.{IsCommandOf}
@@ -21,18 +22,18 @@ pub record PartDone (a : Asked) (nodes : Option Nodes) (old new : View) : Type 0
   pub carries : (command : Command) → IsSomeAnd nodes (λ f. IsCommandOf f a command) → CarriesOn a.stanza command false old new
   pub between : (command : Command) → IsSomeAnd nodes (λ f. IsCommandOf f a command) → PassesOnly a.stanza command old new
 
--- commands that heal the archive pair
-abbrev pub Heals : Request → Type 0
-Heals create = Unit {0}
-Heals (push path) = Unit {0}
-Heals (get name path) = ⊥
+-- the members of the pairs that a command heals have the same text
+abbrev pub AreHealed : Request → Text → Content → Type 0
+AreHealed create stanza f = PairsAgree stanza f
+AreHealed (push path) stanza f = AgreesAtPair stanza f
+AreHealed (get name path) stanza f = Unit {0}
 
 -- all of its steps
 pub record AllDone (a : Asked) (nodes : Option Nodes) (old new : View) : Type 0 where
   pub done : (command : Command) → IsSomeAnd nodes (λ f. IsCommandOf f a command) → NowDoes a.stanza command true old.now new.now
   pub carried : (command : Command) → IsSomeAnd nodes (λ f. IsCommandOf f a command) → CarriesOn a.stanza command true old new
-  pub agrees : Heals a.request → IsSome old.now → IfSome new.now (AgreesAtPair a.stanza)
-  pub members : a.request ≡ create → (c : Cluster) → IsSomeAnd nodes (λ f. IsClusterOf f (Some c)) → IsSome old.now → IfSome new.now (HasNewPairs a.stanza c)
+  pub agrees : IsSome old.now → IfSome new.now (AreHealed a.request a.stanza)
+  pub members : a.request ≡ create → (c : Cluster) → IsSomeAnd nodes (λ f. IsClusterOf f (Some c)) → IfSome old.now (LacksStanza a.stanza) → IsSome old.now → IfSome new.now (HasNewPairs a.stanza c)
 
 -- at Ok of archive-get its file is served
 abbrev pub ServesFor : Request → Text → Text → Option Content → Option Nodes → Option Nodes → Type 0

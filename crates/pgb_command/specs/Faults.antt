@@ -1,8 +1,6 @@
 -- Which answer a fault below is.
 use Rattle.pgb_outside.specs.declared.stop.Stop.{Stop}
 use Rattle.pgb_outside.specs.declared.stop.Stop.TheVariants.{Failed, NoMemory as StopNoMemory}
-use Rattle.pgb_stanza.specs.declared.fault.StanzaFault.{StanzaFault}
-use Rattle.pgb_stanza.specs.declared.fault.StanzaFault.TheVariants.{Disk as StanzaDisk, NoMemory as StanzaNoMemory}
 use Rattle.pgb_stanza.specs.declared.control.ControlFault.{ControlFault}
 use Rattle.pgb_stanza.specs.declared.control.ControlFault.TheVariants.{ControlShort as ShortControl, VersionText as NoVersion, VersionUnsupported as OtherVersion}
 use Rattle.pgb_archive.specs.declared.fault.ArchiveFault.{ArchiveFault}
@@ -23,10 +21,6 @@ of_source StopNoMemory = NoMemory
 abbrev pub of_usage : Usage → Fault
 of_usage UsageNoMemory = NoMemory
 of_usage usage = Settings usage
-
-abbrev pub of_stanza : StanzaFault → Fault
-of_stanza StanzaDisk = Disk
-of_stanza StanzaNoMemory = NoMemory
 
 abbrev pub of_control : ControlFault → Fault
 of_control (ShortControl n) = ControlShort n

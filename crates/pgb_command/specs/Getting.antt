@@ -24,7 +24,8 @@ use Rattle.pgb_command.specs.declared.fault.Fault.TheVariants.{SegmentName, Path
 use Rattle.pgb_command.specs.Answers.{Ending, finished, absent, refused}
 use Rattle.pgb_command.specs.Asked.{Request, create, push, get}
 use Rattle.pgb_command.specs.Cluster.{FolderTells, ClusterCause}
-use Rattle.pgb_command.specs.Storing.{id_kept, identity_kept, identity_told, ValueCause}
+use Rattle.pgb_command.specs.Storing.{id_kept, ValueCause}
+use Rattle.pgb_stanza.specs.Pairs.{identity_kept, identity_told}
 
 -- ---- what is told
 

@@ -11,7 +11,7 @@ pub mod WalPath
 pub mod WalCause
 pub mod Commands
 pub mod Storing
+pub mod Making
 pub mod Getting
 pub mod Causes
-pub mod Making
 pub mod Doing

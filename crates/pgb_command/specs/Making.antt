@@ -1,17 +1,38 @@
--- Why a stanza isn't made.
-use Rattle.std.specs.Prelude.{◌≡◌, false, Option, IfSome, string_bytes}
+-- Why a stanza isn't made, and why a command doesn't begin.
+use Rattle.std.specs.Prelude.{◌≡◌, Option, string_bytes}
 use Rattle.pgb_outside.specs.Content.{Content}
+use Rattle.pgb_model.specs.declared.labels.Label.{Label}
 use Rattle.pgb_model.specs.Text.{Text}
-use Rattle.pgb_model.specs.Create.{lacks_pairs}
-use Rattle.pgb_command.specs.declared.fault.Unbuilt.TheVariants.{ExistingStanza}
+use Rattle.pgb_model.specs.Names.{label_text}
+use Rattle.pgb_stanza.specs.declared.control.Control.{Control}
+use Rattle.pgb_stanza.specs.declared.fault.StanzaFault.{StanzaFault}
+use Rattle.pgb_stanza.specs.declared.fault.StanzaFault.TheVariants.{InfoDamaged as DamagedOf, HistoryDiffers as DiffersOf, StanzaMismatch as MismatchOf, ArchiveLost as LostOf, Disk as DiskOf, NoMemory as MemoryOf}
+use Rattle.pgb_stanza.specs.Causes.{CreateCause as StanzaCause}
 use Rattle.pgb_command.specs.declared.fault.Fault.{Fault}
-use Rattle.pgb_command.specs.declared.fault.Fault.TheVariants.{NotBuilt, Held, Disk, Tree, Locks, NoMemory}
+use Rattle.pgb_command.specs.declared.fault.Fault.TheVariants.{InfoDamaged, HistoryDiffers, StanzaMismatch, ArchiveLost, Held, Disk, Tree, Locks, NoMemory}
+use Rattle.pgb_info.specs.declared.fault.MemberFault.{MemberFault}
+use Rattle.std.specs.x
+use Rattle.pgb_stanza.specs.declared.fault.Identity.{Identity}
 
-abbrev pub MakeCause : Text → Option Content → Type 0 → Fault → Type 0
-MakeCause stanza repo rose (NotBuilt ExistingStanza) = IfSome repo (λ f. lacks_pairs stanza f ≡ false)
-MakeCause stanza repo rose Disk = rose
-MakeCause stanza repo rose NoMemory = Unit {0}
-MakeCause stanza repo rose other = ⊥
+-- Which answer a refusal of the stanza is; a label may also find no memory for its text.
+pub data IsStanzaFault : StanzaFault → Fault → Type 0 where
+  Damaged : (name : String) (main copy : MemberFault) → IsStanzaFault (DamagedOf name main copy) (InfoDamaged name main copy)
+  Differs : (at : ℕ) → IsStanzaFault (DiffersOf at) (HistoryDiffers at)
+  Mismatch : (kept found : Identity) → IsStanzaFault (MismatchOf kept found) (StanzaMismatch kept found)
+  Lost : (label : Label) (text : String) → string_bytes text ≡ label_text label → IsStanzaFault (LostOf label) (ArchiveLost text)
+  Unsaid : (label : Label) → IsStanzaFault (LostOf label) NoMemory
+  Failed : IsStanzaFault DiskOf Disk
+  Starved : IsStanzaFault MemoryOf NoMemory
+
+-- why the stanza of this cluster isn't made or kept
+abbrev pub MakeCause : Text → Control → Option Content → Type 0 → Fault → Type 0
+MakeCause stanza told repo rose (InfoDamaged name main copy) = StanzaCause stanza told repo ⊥ (DamagedOf name main copy)
+MakeCause stanza told repo rose (HistoryDiffers at) = StanzaCause stanza told repo ⊥ (DiffersOf at)
+MakeCause stanza told repo rose (StanzaMismatch kept found) = StanzaCause stanza told repo ⊥ (MismatchOf kept found)
+MakeCause stanza told repo rose (ArchiveLost text) = (label : Label) × (string_bytes text ≡ label_text label) × StanzaCause stanza told repo ⊥ (LostOf label)
+MakeCause stanza told repo rose Disk = rose
+MakeCause stanza told repo rose NoMemory = Unit {0}
+MakeCause stanza told repo rose other = ⊥
 
 -- the data folder failed, or memory did
 abbrev pub FolderCause : Type 0 → Fault → Type 0

@@ -1,11 +1,11 @@
 -- What is known of the stanza as a segment is stored.
-use Rattle.std.specs.Prelude.{◌≡◌, ◌≢◌, Option, Some, IsSome, IfSome, string_bytes}
+use Rattle.std.specs.Prelude.{◌≡◌, ◌≢◌, Option, Some, IfSome, string_bytes}
 use Rattle.pgb_outside.specs.Content.{Content, at}
 use Rattle.pgb_model.specs.declared.clusters.ClusterId.{ClusterId}
 use Rattle.pgb_model.specs.declared.wal.ArchiveId.{ArchiveId}
 use Rattle.pgb_model.specs.Text.{Text}
 use Rattle.pgb_model.specs.Fields.{at_number}
-use Rattle.pgb_model.specs.Names.{archive_info, copy_of}
+use Rattle.pgb_model.specs.Names.{archive_info}
 use Rattle.pgb_model.specs.Pair.{PairIs, PairAbsent}
 use Rattle.pgb_model.specs.Values.{ArchiveInfo}
 use Rattle.pgb_model.specs.InfoFiles.{IsArchiveText}
@@ -15,26 +15,21 @@ use Rattle.pgb_info.specs.Causes.{AreDamaged}
 use Rattle.pgb_info.specs.ArchiveForm.{IsArchiveForm}
 use Rattle.pgb_model.specs.Stands.{IsArchiveFile}
 use Rattle.pgb_stanza.specs.declared.control.Control.{Control}
+use Rattle.pgb_stanza.specs.Pairs.{identity_told, identity_kept, AgreeAt}
 use Rattle.pgb_command.specs.declared.fault.Fault.{Fault}
 use Rattle.pgb_command.specs.declared.fault.Fault.TheVariants.{StanzaMissing, InfoDamaged, StanzaMismatch, Disk, NoMemory}
-use Rattle.pgb_command.specs.declared.fault.Identity.{Identity}
+use Rattle.pgb_stanza.specs.declared.fault.Identity.{Identity}
 
 -- the archive pair's current cluster
 abbrev pub HasCurrent : Text → Content → ClusterId → Type 0
 HasCurrent stanza f c = (v : ArchiveInfo) × PairIs IsArchiveText f (archive_info stanza) v × (at_number v.current v.history ≡ Some c)
-
-abbrev pub identity_told : Control → Identity
-identity_told told = record { system = told.system; version = told.version }
-
-abbrev pub identity_kept : ClusterId → Identity
-identity_kept c = record { system = c.system; version = c.version }
 
 abbrev pub id_kept : ClusterId → ArchiveId
 id_kept c = record { version = c.version; number = c.id }
 
 -- both members of the archive pair are there and have the same text
 abbrev pub AgreesAtPair : Text → Content → Type 0
-AgreesAtPair stanza f = (f (copy_of (archive_info stanza)) ≡ f (archive_info stanza)) × IsSome (f (archive_info stanza))
+AgreesAtPair stanza f = AgreeAt (archive_info stanza) f
 
 -- the archive's files are as they were
 abbrev pub SameFiles : Text → Option Content → Option Content → Type 0

@@ -9,13 +9,13 @@ ghost use Rattle.pgb_model.specs.Fields.{at_number};
 ghost use Rattle.pgb_model.specs.Values.{archive_info_of};
 ghost use Rattle.pgb_command.specs.declared.fault.Fault.TheVariants.{StanzaMismatch};
 ghost use Rattle.pgb_command.specs.Cluster.{FolderTells};
-ghost use Rattle.pgb_command.specs.Storing.{identity_kept, identity_told};
+ghost use Rattle.pgb_stanza.specs.Pairs.{identity_kept, identity_told};
 ghost use Rattle.pgb_command.specs.Getting.{AreWords, served_path, OnHistory, HasSame, FoundIn, AbsentIn, GotBy, ChangesPath, FetchCause, WordsCause, GetFileCause};
 ghost use Rattle.pgb_command.specs.Outcomes.{outcome_ending, OnNothing};
 
 use crate::cluster::read_cluster;
 use crate::current::read_archive_value;
-use crate::fault::{Fault, Identity};
+use crate::fault::Fault;
 use crate::finding::{has_cluster, search};
 use crate::opening::prepare_reading;
 use crate::outcome::Outcome;
@@ -24,7 +24,7 @@ use crate::settings::Settings;
 use pgb_model::{ArchiveInfo, ArchiveName};
 use pgb_outside::{Disk, Tree};
 use pgb_paths::check_name;
-use pgb_stanza::Control;
+use pgb_stanza::{Control, Identity};
 use pgb_wal::read_archive_name;
 use std::alloc::{AllocError, Global};
 

@@ -7,50 +7,68 @@ ghost use Rattle.pgb_model.specs.Repository.{Repository};
 ghost use Rattle.pgb_model.specs.Stands.{Stands};
 ghost use Rattle.pgb_model.specs.Steps.{step, Create, StanzaCreate, Reading};
 ghost use Rattle.pgb_model.specs.Steady.{IsSteady, Moves, CarriesOn, PassesOnly};
-ghost use Rattle.pgb_model.specs.Create.{lacks_pairs};
 ghost use Rattle.pgb_model.specs.Now.{NowStands, HasNewPairs, NowDoes};
 ghost use Rattle.pgb_stanza.specs.ControlFile.{first_cluster};
 ghost use Rattle.pgb_command.specs.Cluster.{IsClusterOf};
-ghost use Rattle.pgb_command.specs.Causes.{CreateCause, TellsSome};
+ghost use Rattle.pgb_command.specs.Causes.{CreateCause, IsMade};
 ghost use Rattle.pgb_command.specs.Answers.{OnFinding};
 ghost use Rattle.pgb_command.specs.Locking.{backup_lock, Locks as IsLocked, OnlyLocked, MayHold};
-ghost use Rattle.pgb_command.specs.Making.{MakeCause};
-ghost use Rattle.pgb_command.specs.Storing.{AgreesAtPair};
+ghost use Rattle.pgb_command.specs.Making.{MakeCause, IsStanzaFault};
+ghost use Rattle.pgb_model.specs.InfoFiles.{IsLabel};
+ghost use Rattle.pgb_stanza.specs.Pairs.{LacksStanza, HasStanzaOf, PairsAgree};
+ghost use Rattle.pgb_stanza.specs.Causes.{IfLost};
 
 use crate::cluster::read_cluster;
-use crate::fault::{Fault, Unbuilt};
+use crate::fault::Fault;
 use crate::opening::prepare;
 use crate::settings::Settings;
+use pgb_info::label_text;
 use pgb_outside::{Disk, Locks, Tree};
-use pgb_stanza::{Control, create, is_new};
+use pgb_stanza::{Control, StanzaFault, create};
 use std::alloc::Global;
 
-// Makes the stanza, unless one of its info files is there.
+// Which answer a refusal of the stanza is.
+fn of_stanza(alloc: Global, fault: StanzaFault) -> Fault
+    requires { IfLost fault IsLabel }
+    ensures { IsStanzaFault fault result }
+{
+    match fault {
+        StanzaFault::InfoDamaged { name, main, copy } => Fault::InfoDamaged { name, main, copy },
+        StanzaFault::HistoryDiffers { at } => Fault::HistoryDiffers { at },
+        StanzaFault::StanzaMismatch { kept, found } => Fault::StanzaMismatch { kept, found },
+        StanzaFault::ArchiveLost { label } => match label_text(alloc, &label) {
+            Ok(label) => Fault::ArchiveLost { label },
+            Err(_) => Fault::NoMemory,
+        },
+        StanzaFault::Disk => Fault::Disk,
+        StanzaFault::NoMemory => Fault::NoMemory,
+    }
+}
+
+// Makes the stanza, or keeps the one that is there.
 fn make<D: Disk>(alloc: Global, repo: &mut D, stanza: &str, told: &Control) -> Result<(), Fault>
     ensures part { (r : Repository) → IsSome (D.view repo.old).now → NowStands stanza.now r (D.view repo.old).now
         → NowStands stanza.now r (D.view repo.new).now ⊎ NowStands stanza.now (step r (Create (first_cluster told.now))) (D.view repo.new).now }
     ensures done { OnOk result ((r : Repository) → IsSome (D.view repo.old).now → NowStands stanza.now r (D.view repo.old).now
-        → (r ≡ None) × NowStands stanza.now (step r (Create (first_cluster told.now))) (D.view repo.new).now) }
+        → NowStands stanza.now (step r (Create (first_cluster told.now))) (D.view repo.new).now) }
     ensures moves { (r : Repository) → IsSteady stanza.now r (D.view repo.old) → IsSome (D.view repo.old).now
         → Moves stanza.now (λ g. Stands stanza.now g r ⊎ Stands stanza.now g (step r (Create (first_cluster told.now)))) (D.view repo.old) (D.view repo.new) }
     ensures made { OnOk result ((r : Repository) → IsSteady stanza.now r (D.view repo.old) → IsSome (D.view repo.old).now
         → IsSteady stanza.now (step r (Create (first_cluster told.now))) (D.view repo.new)) }
-    ensures fresh { OnOk result (IfSome (D.view repo.old).now (λ f. lacks_pairs stanza.now f ≡ true)) }
-    ensures members { OnOk result (IsSome (D.view repo.old).now → IfSome (D.view repo.new).now (HasNewPairs stanza.now (first_cluster told.now))) }
+    ensures was { OnOk result (IfSome (D.view repo.old).now (LacksStanza stanza.now) ⊎ IfSome (D.view repo.old).now (HasStanzaOf stanza.now told.now)) }
+    ensures members { OnOk result (IfSome (D.view repo.old).now (LacksStanza stanza.now) → IsSome (D.view repo.old).now → IfSome (D.view repo.new).now (HasNewPairs stanza.now (first_cluster told.now))) }
+    ensures agrees { OnOk result (IsSome (D.view repo.old).now → IfSome (D.view repo.new).now (PairsAgree stanza.now)) }
     ensures told { IsSome (D.view repo.old).now → IsSome (D.view repo.new).now }
     ensures place { D.place repo.new ≡ D.place repo.old }
     ensures later { D.faults repo.old ≤ D.faults repo.new }
     ensures refused { IfErr result (λ e. OnFinding e ((D.view repo.new).now ≡ (D.view repo.old).now)) }
     ensures rests { IfErr result (λ e. OnFinding e (Rests (D.view repo.old) (D.view repo.new))) }
-    ensures cause { IfErr result (MakeCause stanza.now (D.view repo.old).now (Rises (D.faults repo.old) (D.faults repo.new))) }
+    ensures cause { IfErr result (MakeCause stanza.now told.now (D.view repo.old).now (Rises (D.faults repo.old) (D.faults repo.new))) }
 {
-    if !is_new(alloc, repo, stanza)? {
-        return Err(Fault::NotBuilt {
-            what: Unbuilt::ExistingStanza,
-        });
+    match create(alloc, repo, stanza, told) {
+        Ok(_) => Ok(()),
+        Err(fault) => Err(of_stanza(alloc, fault)),
     }
-    create(alloc, repo, stanza, told)?;
-    Ok(())
 }
 
 /// Makes the stanza of the cluster that the data folder tells.
@@ -77,11 +95,10 @@ pub(crate) fn create_stanza<D: Disk, T: Tree, K: Locks>(
         → CarriesOn settings.now.stanza.now (StanzaCreate cluster) false (D.view repo.old) (D.view repo.new) }
     ensures between { (cluster : Option Cluster) → IsSomeAnd (T.nodes tree.old) (λ f. IsClusterOf f cluster)
         → PassesOnly settings.now.stanza.now (StanzaCreate cluster) (D.view repo.old) (D.view repo.new) }
-    ensures members { OnOk result ((c : Cluster) → IsSomeAnd (T.nodes tree.old) (λ f. IsClusterOf f (Some c)) → IsSome (D.view repo.old).now
+    ensures members { OnOk result ((c : Cluster) → IsSomeAnd (T.nodes tree.old) (λ f. IsClusterOf f (Some c)) → IfSome (D.view repo.old).now (LacksStanza settings.now.stanza.now) → IsSome (D.view repo.old).now
         → IfSome (D.view repo.new).now (HasNewPairs settings.now.stanza.now c)) }
-    ensures agrees { OnOk result (IsSome (D.view repo.old).now → IfSome (D.view repo.new).now (AgreesAtPair settings.now.stanza.now)) }
-    ensures fresh { OnOk result (IfSome (D.view repo.old).now (λ f. lacks_pairs settings.now.stanza.now f ≡ true)) }
-    ensures tells { OnOk result (TellsSome (T.nodes tree.old)) }
+    ensures agrees { OnOk result (IsSome (D.view repo.old).now → IfSome (D.view repo.new).now (PairsAgree settings.now.stanza.now)) }
+    ensures is_made { OnOk result (IsMade settings.now.stanza.now (D.view repo.old).now (T.nodes tree.old)) }
     ensures places { OnOk result ((T.place tree.new ≡ settings.now.pg1_path.now) × (D.place repo.new ≡ settings.now.repo1_path.now)) }
     ensures nodes { T.nodes tree.new ≡ T.nodes tree.old }
     ensures repo_later { D.faults repo.old ≤ D.faults repo.new }

@@ -14,13 +14,14 @@ ghost use Rattle.pgb_model.specs.Steps.{Reading};
 ghost use Rattle.pgb_info.specs.Causes.{PairCause};
 ghost use Rattle.pgb_info.specs.ArchiveForm.{IsArchiveForm};
 ghost use Rattle.pgb_command.specs.Commands.{Goes, Ends};
-ghost use Rattle.pgb_command.specs.Storing.{IsValueFault, HasCurrent, id_kept, identity_kept, identity_told, AgreesAtPair, SameFiles, ValueCause, CurrentCause};
+ghost use Rattle.pgb_command.specs.Storing.{IsValueFault, HasCurrent, id_kept, AgreesAtPair, SameFiles, ValueCause, CurrentCause};
+ghost use Rattle.pgb_stanza.specs.Pairs.{identity_kept, identity_told};
 
-use crate::fault::{Fault, Identity};
+use crate::fault::Fault;
 use pgb_info::{InfoFault, heal_pair, load_pair};
 use pgb_model::{ArchiveId, ArchiveInfo};
 use pgb_outside::Disk;
-use pgb_stanza::{Control, archive_info_name};
+use pgb_stanza::{Control, Identity, archive_info_name};
 use std::alloc::Global;
 
 // The value of the archive pair, which is healed.

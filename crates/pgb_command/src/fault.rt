@@ -7,7 +7,7 @@ use pgb_archive::ArchiveFault;
 use pgb_info::MemberFault;
 use pgb_options::{Usage, Verb};
 use pgb_outside::Stop;
-use pgb_stanza::{ControlFault, StanzaFault};
+use pgb_stanza::{ControlFault, Identity};
 use pgb_text::{NoMemory, Sum};
 use std::alloc::AllocError;
 
@@ -20,8 +20,6 @@ pub enum Unbuilt {
     Server,
     /// archive-push in the background
     Background,
-    /// stanza-create where one of the info files is there
-    ExistingStanza,
 }
 
 /// A file that tells the cluster.
@@ -29,13 +27,6 @@ pub enum Unbuilt {
 pub enum ControlFile {
     Control,
     Version,
-}
-
-/// A cluster by its system identifier and its major version.
-#[derive(Clone, Copy, Debug, PartialEq, Eq)]
-pub struct Identity {
-    pub system: u64,
-    pub version: u32,
 }
 
 /// Why a command is refused, in the order in which refusals come.
@@ -83,10 +74,18 @@ pub enum Fault {
         main: MemberFault,
         copy: MemberFault,
     },
+    /// The histories of the two info pairs differ; `at` is the first number at which they do.
+    HistoryDiffers {
+        at: u32,
+    },
     /// The stanza's current cluster isn't the data folder's.
     StanzaMismatch {
         kept: Identity,
         found: Identity,
+    },
+    /// The archive pair is missing, and the backup pair lists backups, this one as the first.
+    ArchiveLost {
+        label: String,
     },
     SegmentMissing {
         path: String,
@@ -174,20 +173,6 @@ impl From<Usage> for Fault {
         match usage {
             Usage::NoMemory => Fault::NoMemory,
             usage => Fault::Settings(usage),
-        }
-    }
-}
-
-impl From<StanzaFault> for Fault {
-    ghost use Rattle.std.specs.Prelude.{◌≡◌};
-    ghost use Rattle.pgb_command.specs.Faults.{of_stanza};
-
-    ghost from_gives = { λ s e. e ≡ of_stanza s };
-
-    fn from(fault: StanzaFault) -> Self {
-        match fault {
-            StanzaFault::Disk => Fault::Disk,
-            StanzaFault::NoMemory => Fault::NoMemory,
         }
     }
 }
@@ -286,7 +271,9 @@ pub(crate) fn status(fault: &Fault) -> u8
         Fault::VersionUnsupported { .. } => 27,
         Fault::StanzaMissing { .. } => 21,
         Fault::InfoDamaged { .. } => 22,
+        Fault::HistoryDiffers { .. } => 101,
         Fault::StanzaMismatch { .. } => 23,
+        Fault::ArchiveLost { .. } => 24,
         Fault::SegmentMissing { .. } => 37,
         Fault::TooLong { .. } => 70,
         Fault::TooMany { .. } => 71,

@@ -3,9 +3,10 @@ ghost use Rattle.std.specs.Prelude.{◌≡◌, ◌++◌, codes, decimal, IfOk, I
 ghost use Rattle.pgb_text.specs.Sum.{sum_text};
 ghost use Rattle.pgb_command.specs.Answers.{error_line, usage_line, same_line, absent_line, unknown_line, shown, shown_byte, part_name, file_text, member_text, damage_text, identity_text};
 
-use crate::fault::{ControlFile, Fault, Identity, Unbuilt};
+use crate::fault::{ControlFile, Fault, Unbuilt};
 use pgb_info::MemberFault;
 use pgb_options::{Usage, verb_word};
+use pgb_stanza::Identity;
 use pgb_text::{NoMemory, Sum};
 use std::alloc::{AllocError, Global};
 
@@ -16,7 +17,6 @@ fn part_name(what: Unbuilt) -> &'static str
         Unbuilt::Command(verb) => verb_word(verb),
         Unbuilt::Server => "online",
         Unbuilt::Background => "archive-async",
-        Unbuilt::ExistingStanza => "existing stanza",
     }
 }
 
@@ -262,6 +262,15 @@ pub(crate) fn line(alloc: Global, fault: &Fault) -> Result<Vec<u8>, NoMemory>
         )),
         Fault::InfoDamaged { name, main, copy } => damaged_line(alloc, name, main, copy),
         Fault::StanzaMismatch { kept, found } => mismatch_line(alloc, kept, found),
+        Fault::HistoryDiffers { at } => bytes_of(format!(in alloc;
+            "ERROR: [101]: archive history and backup history differ at {at}\n"
+        )),
+        Fault::ArchiveLost { label } => joined(
+            alloc,
+            "ERROR: [024]: archive info is missing, backup info lists '",
+            label,
+            "'\n",
+        ),
         Fault::SegmentMissing { path } => quoted(alloc, "ERROR: [037]: '", path, "' is missing\n"),
         Fault::TooLong { name, limit } => long_line(alloc, name, *limit),
         Fault::TooMany { limit } => bytes_of(format!(in alloc; "ERROR: [071]: more than {limit}\n")),

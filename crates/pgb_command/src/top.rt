@@ -11,13 +11,13 @@ ghost use Rattle.pgb_command.specs.Answers.{Ending, Answer, status, IsFinding};
 ghost use Rattle.pgb_command.specs.Cluster.{IsClusterOf};
 ghost use Rattle.pgb_command.specs.Commands.{IsCommandOf};
 ghost use Rattle.pgb_command.specs.Causes.{AskedCause, Cause};
-ghost use Rattle.pgb_command.specs.Doing.{Heals, PartDone, AllDone, NoneDone, ServedBy};
+ghost use Rattle.pgb_command.specs.Doing.{AreHealed, PartDone, AllDone, NoneDone, ServedBy};
 ghost use Rattle.pgb_command.specs.Locking.{lock_of, Locks as IsLocked, TakesLock, OnlyLocked, OnlyUnderLock, MayHold};
 ghost use Rattle.pgb_command.specs.Outcomes.{ending_of, answer_of, OnNothing};
 ghost use Rattle.pgb_command.specs.Getting.{Serves, FolderGoes};
 ghost use Rattle.pgb_command.specs.Output.{Wrote};
 ghost use Rattle.pgb_command.specs.declared.settings.Asking.TheVariants.{Write};
-ghost use Rattle.pgb_command.specs.Storing.{AgreesAtPair};
+ghost use Rattle.pgb_stanza.specs.Pairs.{LacksStanza};
 ghost use Rattle.pgb_command.specs.Told.{request_of, asked_of, writing_lock};
 
 use crate::archive_get::get_file;
@@ -241,10 +241,10 @@ pub fn run<
     ensures served { result ≡ 0 → (a : Asked) → Asks (map string_bytes words.now) (I.files outside.old.config) a → (name path : Text) → a.request ≡ get name path
         → Serves a.stanza a.data_folder name path (D.view outside.old.repo).now (T.nodes outside.old.tree) (T.nodes outside.new.tree) }
 
-    // At 0 the members of the archive pair agree where the command heals it, and all four info files of a new stanza are those of the cluster. The opened
+    // At 0 the members of the pairs that the command heals agree, and all four info files of a new stanza are those of the cluster. The opened
     // places are those of the words.
-    ensures agrees { result ≡ 0 → (a : Asked) → Asks (map string_bytes words.now) (I.files outside.old.config) a → Heals a.request → IsSome (D.view outside.old.repo).now → IfSome (D.view outside.new.repo).now (AgreesAtPair a.stanza) }
-    ensures members { result ≡ 0 → (a : Asked) → Asks (map string_bytes words.now) (I.files outside.old.config) a → a.request ≡ create → (c : Cluster) → IsSomeAnd (T.nodes outside.old.tree) (λ f. IsClusterOf f (Some c)) → IsSome (D.view outside.old.repo).now
+    ensures agrees { result ≡ 0 → (a : Asked) → Asks (map string_bytes words.now) (I.files outside.old.config) a → IsSome (D.view outside.old.repo).now → IfSome (D.view outside.new.repo).now (AreHealed a.request a.stanza) }
+    ensures members { result ≡ 0 → (a : Asked) → Asks (map string_bytes words.now) (I.files outside.old.config) a → a.request ≡ create → (c : Cluster) → IsSomeAnd (T.nodes outside.old.tree) (λ f. IsClusterOf f (Some c)) → IfSome (D.view outside.old.repo).now (LacksStanza a.stanza) → IsSome (D.view outside.old.repo).now
         → IfSome (D.view outside.new.repo).now (HasNewPairs a.stanza c) }
     ensures places { result ≡ 0 → (a : Asked) → Asks (map string_bytes words.now) (I.files outside.old.config) a → (T.place outside.new.tree ≡ a.data_folder) × (D.place outside.new.repo ≡ a.repository) }
 

@@ -86,6 +86,11 @@ OnContent Disk P = Unit {0}
 OnContent NoMemory P = Unit {0}
 OnContent refusal P = P
 
+-- this holds of the label that is told where the archive pair is missing
+abbrev pub IfLost : StanzaFault → (Label → Type 0) → Type 0
+IfLost (ArchiveLost label) P = P label
+IfLost other P = Unit {0}
+
 -- what holds where the stanza was made
 abbrev pub IfNew : Created → Type 0 → Type 0
 IfNew New P = P

@@ -9,7 +9,8 @@ ghost use Rattle.pgb_model.specs.Steady.{IsSteady, Moves};
 ghost use Rattle.pgb_model.specs.Now.{NowStands, HasNewPairs};
 ghost use Rattle.pgb_stanza.specs.ControlFile.{first_cluster};
 ghost use Rattle.pgb_stanza.specs.Pairs.{LacksStanza, HasStanzaOf, IsStanzaOf, PairsAgree};
-ghost use Rattle.pgb_stanza.specs.Causes.{CreateCause, OnContent, IfNew, IfSame};
+ghost use Rattle.pgb_model.specs.InfoFiles.{IsLabel};
+ghost use Rattle.pgb_stanza.specs.Causes.{CreateCause, OnContent, IfNew, IfSame, IfLost};
 
 use crate::control::Control;
 use crate::fault::StanzaFault;
@@ -58,6 +59,7 @@ pub fn create<D: Disk>(
     ensures proper { D.misuses d.new ≡ D.misuses d.old }
     ensures later { D.faults d.old ≤ D.faults d.new }
     ensures cause { IfErr result (CreateCause stanza.now control.now (D.view d.old).now (Rises (D.faults d.old) (D.faults d.new))) }
+    ensures label { IfErr result (λ e. IfLost e IsLabel) }
 {
     match look(alloc, d, stanza, control)? {
         None => {

@@ -3,10 +3,11 @@ ghost use Rattle.std.specs.Prelude.{◌≡◌, ◌≢◌, ◌⊎◌, ◌+◌, �
 ghost use Rattle.pgb_model.specs.declared.clusters.Cluster.{Cluster};
 ghost use Rattle.pgb_model.specs.Text.{In};
 ghost use Rattle.pgb_model.specs.Values.{archive_info_of, backup_info_of, entry_of, Entry as SpecEntry};
-ghost use Rattle.pgb_model.specs.InfoFiles.{IsArchiveInfo, IsBackupInfo};
+ghost use Rattle.pgb_model.specs.InfoFiles.{IsArchiveInfo, IsBackupInfo, IsLabel};
 ghost use Rattle.pgb_model.specs.Repository.{identity_of};
 ghost use Rattle.pgb_stanza.specs.Pairs.{DifferFirst, HasPending};
 ghost use Rattle.pgb_stanza.specs.Judging.{Settles, IsOf, TellsDifference, TellsOther, TellsLost, Unfit};
+ghost use Rattle.pgb_stanza.specs.Causes.{IfLost};
 
 use crate::control::Control;
 use crate::fault::{Identity, StanzaFault};
@@ -109,6 +110,7 @@ fn settle(archive: &ArchiveInfo, backup: BackupInfo) -> Result<BackupInfo, Stanz
     ensures settled { IfOk result (λ w. Settles (archive_info_of archive.now) (backup_info_of backup) (backup_info_of w)) }
     ensures valid { IfOk result (λ w. IsBackupInfo (backup_info_of w)) }
     ensures differ { IfErr result (TellsDifference (archive_info_of archive.now) (backup_info_of backup)) }
+    ensures label { IfErr result (λ e. IfLost e IsLabel) }
 {
     let Some(place) = first_difference(&archive.history, &backup.history) else {
         return Ok(backup);
@@ -126,6 +128,7 @@ fn check_current(archive: &ArchiveInfo, told: &Control) -> Result<(), StanzaFaul
     requires { IsArchiveInfo (archive_info_of archive.now) }
     ensures same { OnOk result (IsOf told.now (archive_info_of archive.now)) }
     ensures other { IfErr result (TellsOther told.now (archive_info_of archive.now)) }
+    ensures label { IfErr result (λ e. IfLost e IsLabel) }
 {
     let current = &archive.history[archive.current as usize - 1];
     let kept = Identity {
@@ -155,6 +158,7 @@ pub(crate) fn fit(
     ensures of { IfOk result (λ k. IsOf told.now (archive_info_of archive)) }
     ensures valid { IfOk result (λ k. IsBackupInfo (backup_info_of k.backup)) }
     ensures unfit { IfErr result (Unfit told.now (archive_info_of archive) (backup_info_of backup)) }
+    ensures label { IfErr result (λ e. IfLost e IsLabel) }
 {
     let backup = settle(&archive, backup)?;
     check_current(&archive, told)?;
@@ -163,8 +167,10 @@ pub(crate) fn fit(
 
 /// Refuses a value that lists a backup.
 pub(crate) fn lists_nothing(backup: &BackupInfo) -> Result<(), StanzaFault>
+    requires { IsBackupInfo (backup_info_of backup.now) }
     ensures nothing { OnOk result ((backup_info_of backup.now).backups ≡ []) }
     ensures lost { IfErr result (TellsLost (backup_info_of backup.now)) }
+    ensures label { IfErr result (λ e. IfLost e IsLabel) }
 {
     match backup.backups.first() {
         None => Ok(()),

@@ -5,10 +5,10 @@ ghost use Rattle.pgb_outside.specs.Cause.{Rises};
 ghost use Rattle.pgb_model.specs.Names.{archive_info, backup_info};
 ghost use Rattle.pgb_model.specs.Pair.{PairIs, PairAbsent};
 ghost use Rattle.pgb_model.specs.Values.{archive_info_of, backup_info_of};
-ghost use Rattle.pgb_model.specs.InfoFiles.{IsArchiveInfo, IsBackupInfo, IsArchiveText, IsBackupText};
+ghost use Rattle.pgb_model.specs.InfoFiles.{IsArchiveInfo, IsBackupInfo, IsArchiveText, IsBackupText, IsLabel};
 ghost use Rattle.pgb_stanza.specs.Pairs.{LacksStanza};
 ghost use Rattle.pgb_stanza.specs.Judging.{Settles, IsOf, Refuses, KeepsStanza};
-ghost use Rattle.pgb_stanza.specs.Causes.{CreateCause, ReadCause};
+ghost use Rattle.pgb_stanza.specs.Causes.{CreateCause, ReadCause, IfLost};
 
 use crate::control::Control;
 use crate::fault::StanzaFault;
@@ -34,6 +34,7 @@ fn read_pair<D: Disk, I: ReadInfo>(
     ensures proper { D.misuses d.new ≡ D.misuses d.old }
     ensures later { D.faults d.old ≤ D.faults d.new }
     ensures cause { IfErr result (ReadCause I.IsText I.IsForm name.now (D.view d.old).now (Rises (D.faults d.old) (D.faults d.new))) }
+    ensures label { IfErr result (λ e. IfLost e IsLabel) }
 {
     match load_pair::<D, I>(alloc, d, name) {
         Ok(value) => Ok(Some(value)),
@@ -62,6 +63,7 @@ fn judge(
     ensures archive { IfOk result (λ o. IfSome o (λ k. IsArchiveInfo (archive_info_of k.archive))) }
     ensures backup { IfOk result (λ o. IfSome o (λ k. IsBackupInfo (backup_info_of k.backup))) }
     ensures refused { IfErr result (Refuses told.now archive backup name) }
+    ensures label { IfErr result (λ e. IfLost e IsLabel) }
 {
     match (archive, backup) {
         (None, None) => Ok(None),
@@ -95,6 +97,7 @@ pub(crate) fn look<D: Disk>(
     ensures proper { D.misuses d.new ≡ D.misuses d.old }
     ensures later { D.faults d.old ≤ D.faults d.new }
     ensures cause { IfErr result (CreateCause stanza.now told.now (D.view d.old).now (Rises (D.faults d.old) (D.faults d.new))) }
+    ensures label { IfErr result (λ e. IfLost e IsLabel) }
 {
     let archive_name = archive_info_name(alloc, stanza)?;
     let backup_name = backup_info_name(alloc, stanza)?;

@@ -4,7 +4,7 @@ use Rattle.pgb_outside.specs.Content.{Content}
 use Rattle.pgb_command.proofs.Pushes.{finding_all, finding_both, rests_carried, rests_rests}
 use Rattle.pgb_outside.specs.Tree.{Nodes}
 use Rattle.pgb_command.specs.Cluster.{FolderTells}
-use Rattle.pgb_command.proofs.Creates.{does_part, does_whole, has_members, agrees_new}
+use Rattle.pgb_command.proofs.Creates.{does_part, does_whole, has_members}
 use Rattle.pgb_model.specs.Steps.{StanzaCreate}
 use Rattle.pgb_command.proofs.Carries.{rests_carry, rests_pass, carries_part, passes_part, carries_whole}
 use Rattle.pgb_command.proofs.create.create_stanza.Goals as goal
@@ -65,7 +65,7 @@ returns-in_err-make-clause-stays g c = finding_both c.from_residual-in_err-make.
     (λ same rests. rests_carried c.args.settings.now.stanza.now (g.D.Disk.view c.args.repo.now) (g.D.Disk.view c.make.new.repo) (rests_rests _ _ _ c.prepare.ensures.time rests) (same ∙ c.prepare.ensures.now)) c.in_err-make.ensures.refused c.in_err-make.ensures.rests
 
 pub returns-clause-agrees : goal.returns-clause-agrees
-returns-clause-agrees g c = λ some. agrees_new c.args.settings.now.stanza.now _ _ (c.in_ok-make.ensures.members (subst (λ (o : Option Content). IsSome o) (sym c.prepare.ensures.now) some))
+returns-clause-agrees g c = λ some. c.in_ok-make.ensures.agrees (subst (λ (o : Option Content). IsSome o) (sym c.prepare.ensures.now) some)
 
 pub returns-in_err-prepare-clause-stays : goal.returns-in_err-prepare-clause-stays
 returns-in_err-prepare-clause-stays g c = finding_all c.from_residual.result _ (rests_carried c.args.settings.now.stanza.now _ _ c.prepare.ensures.time c.prepare.ensures.now)

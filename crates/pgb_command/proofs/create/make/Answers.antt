@@ -1,18 +1,17 @@
-use Rattle.pgb_stanza.specs.ControlFile.{first_cluster}
-use Rattle.pgb_command.proofs.Carries.{only_reads, reads_moves, reads_made}
+use Rattle.pgb_command.proofs.Creates.{members_of, was_of, content_finding, make_cause}
 use Rattle.pgb_command.proofs.create.make.Goals as goal
 
-pub returns-in_err-is_new-clause-moves : goal.returns-in_err-is_new-clause-moves
-returns-in_err-is_new-clause-moves g c = only_reads c.args.stanza.now (first_cluster c.args.told.now) _ _ c.is_new.ensures.time c.is_new.ensures.now
+pub returns-in-Ok-clause-was : goal.returns-in-Ok-clause-was
+returns-in-Ok-clause-was g c = was_of _ _ _ c.in-Ok.ensures.lacking c.in-Ok.ensures.having
 
-pub returns-then-not-branch-clause-moves : goal.returns-then-not-branch-clause-moves
-returns-then-not-branch-clause-moves g c = only_reads c.args.stanza.now (first_cluster c.args.told.now) _ _ c.is_new.ensures.time c.is_new.ensures.now
+pub returns-in-Ok-clause-members : goal.returns-in-Ok-clause-members
+returns-in-Ok-clause-members g c = members_of _ c.args.stanza.now c.args.told.now _ _ c.in-Ok.ensures.members c.in-Ok.ensures.having
 
-pub returns-in_err-create-clause-moves : goal.returns-in_err-create-clause-moves
-returns-in_err-create-clause-moves g c = reads_moves c.args.stanza.now (first_cluster c.args.told.now) _ _ _ c.is_new.ensures.time c.is_new.ensures.now c.create.ensures.moves
+pub returns-in-Err-clause-refused : goal.returns-in-Err-clause-refused
+returns-in-Err-clause-refused g c = content_finding c.in-Err.fault c.of_stanza.result _ c.of_stanza.ensures c.in-Err.ensures.refused
 
-pub returns-clause-moves : goal.returns-clause-moves
-returns-clause-moves g c = reads_moves c.args.stanza.now (first_cluster c.args.told.now) _ _ _ c.is_new.ensures.time c.is_new.ensures.now c.create.ensures.moves
+pub returns-in-Err-clause-rests : goal.returns-in-Err-clause-rests
+returns-in-Err-clause-rests g c = content_finding c.in-Err.fault c.of_stanza.result _ c.of_stanza.ensures c.in-Err.ensures.rests
 
-pub returns-clause-made : goal.returns-clause-made
-returns-clause-made g c = reads_made c.args.stanza.now (first_cluster c.args.told.now) _ _ _ c.is_new.ensures.time c.is_new.ensures.now c.in_ok-create.ensures.made
+pub returns-in-Err-clause-cause : goal.returns-in-Err-clause-cause
+returns-in-Err-clause-cause g c = make_cause c.args.stanza.now c.args.told.now _ _ c.in-Err.fault c.of_stanza.result c.of_stanza.ensures c.in-Err.ensures.cause

@@ -5,7 +5,7 @@ use Rattle.pgb_command.proofs.Doings.{push_part, push_done, push_answer}
 use Rattle.pgb_command.proofs.top.perform.Goals as goal
 
 pub returns-in-Ok-clause-answered : goal.returns-in-Ok-clause-answered
-returns-in-Ok-clause-answered g c = Made (ap request_of c.requires.asked ∙ ap writing_of c.in-StanzaCreate.is) c.in-Ok.ensures.fresh c.in-Ok.ensures.tells
+returns-in-Ok-clause-answered g c = Made (ap request_of c.requires.asked ∙ ap writing_of c.in-StanzaCreate.is) c.in-Ok.ensures.is_made
 
 pub returns-in-Err-clause-answered : goal.returns-in-Err-clause-answered
 returns-in-Err-clause-answered g c = Creating c.in-Err.fault (ap request_of c.requires.asked ∙ ap writing_of c.in-StanzaCreate.is) c.in-Err.ensures.cause
