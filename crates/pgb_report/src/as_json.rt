@@ -1,5 +1,5 @@
 // The report as JSON.
-ghost use Rattle.std.specs.Prelude.{◌≡◌, ◌++◌, [], ◌∷◌, map, take, length, IfOk, string_bytes};
+ghost use Rattle.std.specs.Prelude.{◌≡◌, map, take, length, IfOk, string_bytes};
 ghost use Rattle.serde_json.specs.Data.{string};
 ghost use Rattle.serde_json.specs.View.{view};
 ghost use Rattle.pgb_model.specs.Fields.{list_of, or_null};

@@ -1,5 +1,5 @@
 // The first and the last archived segment of a cluster.
-ghost use Rattle.std.specs.Prelude.{◌≡◌, ℕ, List, ◌∷◌, [], ◌++◌, Some, option_map};
+ghost use Rattle.std.specs.Prelude.{◌≡◌, List, ◌∷◌, Some};
 ghost use Rattle.pgb_model.specs.Names.{segment_text};
 ghost use Rattle.pgb_model.specs.Text.{Text};
 ghost use Rattle.pgb_report.specs.Archived.{id_of, segment_under, segments_under, lesser, greater, least, greatest};
