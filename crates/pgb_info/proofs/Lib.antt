@@ -19,3 +19,5 @@ pub mod CurrentRules
 pub mod HistoryRules
 pub mod ArchiveForms
 pub mod OneArchive
+pub mod StampTexts
+pub mod LabelTexts

@@ -19,13 +19,14 @@ mod loading;
 mod members;
 mod read_info;
 mod saving;
+mod stamp_reading;
 mod stamps;
 mod texts;
 
 pub use fault::{InfoFault, MemberFault, SaveFault};
 pub use healing::heal_pair;
 pub use info::Info;
-pub use labels::label_text;
+pub use labels::{label_text, label_time, read_label};
 pub use loading::load_pair;
 pub use read_info::ReadInfo;
 pub use saving::save_pair;
