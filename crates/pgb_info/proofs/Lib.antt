@@ -16,7 +16,10 @@ pub mod Seeking
 pub mod Identities
 pub mod Keyed
 pub mod CurrentRules
+pub mod Numbers
 pub mod HistoryRules
+pub mod IdentityFields
+pub mod ClusterFields
 pub mod ArchiveForms
 pub mod OneArchive
 pub mod StampTexts

@@ -5,7 +5,7 @@ use Rattle.pgb_model.specs.Text.{Text, In}
 use Rattle.pgb_model.specs.InfoText.{Section}
 use Rattle.pgb_model.specs.InfoFiles.{backup_sections, IsBackupInfo}
 use Rattle.pgb_model.specs.Values.{BackupInfo}
-use Rattle.pgb_info.specs.ArchiveForm.{AgreeAt, db, db_history}
+use Rattle.pgb_info.specs.Agree.{AgreeAt, db, db_history}
 
 abbrev pub backup_current : Text
 backup_current = codes "backup:current"

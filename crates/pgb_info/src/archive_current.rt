@@ -7,7 +7,8 @@ ghost use Rattle.pgb_model.specs.Fields.{Field, whole};
 ghost use Rattle.pgb_model.specs.InfoFiles.{IsClusterId, cluster_id_fields, version_value};
 ghost use Rattle.pgb_ini.specs.Parts.{key_of, keys_of, section_of};
 ghost use Rattle.pgb_info.specs.Fault.{IfForm};
-ghost use Rattle.pgb_info.specs.ArchiveForm.{db, cluster_keys, IsOrdered, IsWrongCurrent};
+ghost use Rattle.pgb_info.specs.Agree.{db, IsOrdered};
+ghost use Rattle.pgb_info.specs.ArchiveForm.{cluster_keys, IsWrongCurrent};
 
 use crate::cluster_ids::{number_of, version_of, whole_of};
 use crate::fault::PartsFault;

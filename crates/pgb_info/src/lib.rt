@@ -2,7 +2,6 @@
 #![tactic(auto)]
 
 mod archive_current;
-mod archive_history;
 mod archive_info;
 mod archive_reading;
 mod backup_info;
@@ -13,6 +12,7 @@ mod entries;
 mod fault;
 mod finding;
 mod healing;
+mod history;
 mod info;
 mod labels;
 mod loading;
