@@ -1,5 +1,5 @@
 -- A label's text tells the label.
-use Rattle.std.proofs.Common.{◌≡◌, ◌≢◌, ℕ, ◌≤◌, List, [], ◌∷◌, ◌++◌, Option, Some, None, refl, sym, ap, ◌∙◌, subst}
+use Rattle.std.proofs.Common.{◌≡◌, ◌≢◌, ℕ, ◌≤◌, List, [], ◌∷◌, ◌++◌, Option, Some, None, refl, sym, ap, ◌∙◌, arith}
 use Rattle.std.specs.Prelude.{IfSome}
 use Rattle.pgb_model.specs.declared.labels.Kind.{Kind}
 use Rattle.pgb_model.specs.declared.labels.Kind.TheVariants.{Full, Diff, Incr}
@@ -12,13 +12,13 @@ use Rattle.pgb_info.proofs.StampTexts.{same_stamp}
 
 same_letter : (k m : Kind) → letter k ≡ letter m → k ≡ m
 same_letter Full Full e = refl
-same_letter Full Diff e = cc
-same_letter Full Incr e = cc
-same_letter Diff Full e = cc
+same_letter Full Diff e = absurd (omega (arith, e))
+same_letter Full Incr e = absurd (omega (arith, e))
+same_letter Diff Full e = absurd (omega (arith, e))
 same_letter Diff Diff e = refl
-same_letter Diff Incr e = cc
-same_letter Incr Full e = cc
-same_letter Incr Diff e = cc
+same_letter Diff Incr e = absurd (omega (arith, e))
+same_letter Incr Full e = absurd (omega (arith, e))
+same_letter Incr Diff e = absurd (omega (arith, e))
 same_letter Incr Incr e = refl
 
 abbrev pub IsPart : Later → Type 0

@@ -24,3 +24,5 @@ pub mod ArchiveForms
 pub mod OneArchive
 pub mod StampTexts
 pub mod LabelTexts
+pub mod EntryParts
+pub mod Read

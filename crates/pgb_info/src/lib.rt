@@ -9,6 +9,7 @@ mod backup_reading;
 mod by_key;
 mod cluster_ids;
 mod entries;
+mod entry_parts;
 mod fault;
 mod finding;
 mod healing;
