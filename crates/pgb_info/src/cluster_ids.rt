@@ -67,8 +67,8 @@ fn identity_in(id: u32, value: &Value) -> Option<ClusterId>
     })
 }
 
-// Whether two values are the same: each is what its own text reads as.
-fn is_same(alloc: Global, a: &Value, b: &Value) -> Result<bool, NoMemory>
+/// Whether two values are the same: each is what its own text reads as.
+pub(crate) fn are_same(alloc: Global, a: &Value, b: &Value) -> Result<bool, NoMemory>
     requires first { IsValue (view a.now) }
     requires second { IsValue (view b.now) }
     ensures { IfOk result (λ same. IsTrue same ↔ (view a.now ≡ view b.now)) }
@@ -92,7 +92,7 @@ fn cluster_of(
         return Ok(None);
     };
     let expected = cluster_value(alloc, &cluster)?;
-    if is_same(alloc, value, &expected)? {
+    if are_same(alloc, value, &expected)? {
         Ok(Some(cluster))
     } else {
         Ok(None)
