@@ -27,7 +27,7 @@ whole_is n m e = cc
 digits_are : (n m : ℕ) → n < 2 ^ 32 → m < 2 ^ 32 → ◌≡◌ {A = Data} (string (decimal n)) (string (decimal m)) → n ≡ m
 digits_are n m h g e = let d : decimal n ≡ decimal m = cc in same_digits n m h g d
 
-same_parts : (c e : Cluster) → c.id ≡ e.id → c.system ≡ e.system → c.version ≡ e.version → c.control ≡ e.control → c.catalog ≡ e.catalog → c ≡ e
+pub same_parts : (c e : Cluster) → c.id ≡ e.id → c.system ≡ e.system → c.version ≡ e.version → c.control ≡ e.control → c.catalog ≡ e.catalog → c ≡ e
 same_parts c e id system version control catalog =
     let r : ◌≡◌ {A = Cluster} (record { id = c.id; system = c.system; version = c.version; control = c.control; catalog = c.catalog }) (record { id = e.id; system = e.system; version = e.version; control = e.control; catalog = e.catalog }) = rw (id, system, version, control, catalog) refl in
     r

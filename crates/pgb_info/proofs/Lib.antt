@@ -26,3 +26,4 @@ pub mod StampTexts
 pub mod LabelTexts
 pub mod EntryParts
 pub mod Read
+pub mod Walked

@@ -12,7 +12,7 @@ module _ {X Y : Type 0} (f : X → Y) where
       let one : suc i ≡ i + 1 = omega arith in
       drop-cons xs i x h ∙ ap (λ (y : X). y ∷ drop (suc i) xs) (sym is) ∙ ap (λ (k : ℕ). x ∷ drop k xs) one
 
-  ended : (xs : List X) (i : ℕ) → length xs ≤ i → drop i xs ≡ []
+  pub ended : (xs : List X) (i : ℕ) → length xs ≤ i → drop i xs ≡ []
   ended xs i h = drop_of_length-le xs h
 
   -- those to come are of the whole

@@ -9,6 +9,7 @@ mod backup_reading;
 mod by_key;
 mod cluster_ids;
 mod cluster_reading;
+mod differences;
 mod entries;
 mod entry_parts;
 mod entry_reading;
