@@ -59,7 +59,7 @@ same_string s t e = cc
 not_null : (s : Text) → ◌≡◌ {A = Data} (string s) null → ⊥
 not_null s e = cc
 
-same_label : (l m : Label) → IsLabel l → IsLabel m → label_value l ≡ label_value m → l ≡ m
+pub same_label : (l m : Label) → IsLabel l → IsLabel m → label_value l ≡ label_value m → l ≡ m
 same_label l m h g e = label_text-injective l m h g (same_string (label_text l) (label_text m) e)
 
 pub prior_only : (d : Data) (l : Label) → IsLabel l → d ≡ label_value l → (o : Option Label) → IfSome o IsLabel → d ≡ or_null label_value o → ◌≡◌ {A = Option (Option Label)} (Some (Some l)) (Some o)

@@ -27,3 +27,6 @@ pub mod LabelTexts
 pub mod EntryParts
 pub mod Read
 pub mod Walked
+pub mod ClusterKeys
+pub mod ListedKeys
+pub mod Halves

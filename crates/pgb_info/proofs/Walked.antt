@@ -6,41 +6,47 @@ use Rattle.std.proofs.lemmas.Cmp.{nat_list_cmp_total}
 use Rattle.std.proofs.lemmas.Map.Text.{is_eq-slice_cmp}
 use Rattle.std.proofs.lemmas.Slice.Eq.{bytes_eq-Decides}
 use Rattle.serde_json.specs.Data.{Data}
-use Rattle.pgb_outside.specs.Order.{is_before}
+use Rattle.std.proofs.lemmas.Bool.{and_parts}
+use Rattle.pgb_outside.specs.Order.{is_before, are_after}
 use Rattle.pgb_model.specs.Text.{Text, In}
 use Rattle.pgb_model.specs.Fields.{Field}
 use Rattle.pgb_ini.proofs.Orders.{less_from, not_itself}
 use Rattle.pgb_info.specs.Agree.{KeysAgree, IsOrdered}
 use Rattle.pgb_info.specs.BackupForm.{IsFirstDifference, KeysAgreeBefore}
+use Rattle.pgb_info.proofs.ByKey.{both}
 use Rattle.pgb_info.proofs.Seeking.{opened, ended}
 use Rattle.pgb_info.proofs.Sorted.{Before, Sorted, later, rest, unique}
 
 abbrev name : Field → Text
 name k = k.0
 
-in_front : (p xs : List Field) (z : Field) → In z p → In z (p ++ xs)
+pub in_front : (p xs : List Field) (z : Field) → In z p → In z (p ++ xs)
 in_front [] xs z i = absurd i
 in_front (k ∷ p) xs z (inl e) = inl e
 in_front (k ∷ p) xs z (inr i) = inr (in_front p xs z i)
 
-in_back : (p xs : List Field) (z : Field) → In z xs → In z (p ++ xs)
+pub in_back : (p xs : List Field) (z : Field) → In z xs → In z (p ++ xs)
 in_back [] xs z i = i
 in_back (k ∷ p) xs z i = inr (in_back p xs z i)
 
-in_parts : (p xs : List Field) (z : Field) → In z (p ++ xs) → In z p ⊎ In z xs
+pub in_parts : (p xs : List Field) (z : Field) → In z (p ++ xs) → In z p ⊎ In z xs
 in_parts [] xs z i = inr i
 in_parts (k ∷ p) xs z (inl e) = inl (inl e)
 in_parts (k ∷ p) xs z (inr i) = ⊎_elim (λ (j : In z p). inl (inr j)) (λ (j : In z xs). inr j) (in_parts p xs z i)
 
 -- what is behind comes after what is in front
-front_first : (last : Text) (p xs : List Field) (z w : Field) → Sorted name last (p ++ xs) → In z p → In w xs → Before z.0 w.0
+pub front_first : (last : Text) (p xs : List Field) (z w : Field) → Sorted name last (p ++ xs) → In z p → In w xs → Before z.0 w.0
 front_first last [] xs z w h i j = absurd i
 front_first last (k ∷ p) xs z w h (inl e) j = subst (λ (f : Field). Before f.0 w.0) (sym e) (later name k.0 (p ++ xs) w (rest name last k (p ++ xs) h) (in_back p xs w j))
 front_first last (k ∷ p) xs z w h (inr i) j = front_first k.0 p xs z w (rest name last k (p ++ xs) h) i j
 
-behind : (last : Text) (p xs : List Field) → Sorted name last (p ++ xs) → (next : Text) × Sorted name next xs
+pub behind : (last : Text) (p xs : List Field) → Sorted name last (p ++ xs) → (next : Text) × Sorted name next xs
 behind last [] xs h = (last, h)
 behind last (k ∷ p) xs h = behind k.0 p xs (rest name last k (p ++ xs) h)
+
+pub sorted_front : (last : Text) (p xs : List Field) → Sorted name last (p ++ xs) → Sorted name last p
+sorted_front last [] xs h = refl
+sorted_front last (k ∷ p) xs h = let parts = and_parts (is_before last k.0) (are_after k.0 (map name (p ++ xs))) h in both (is_before last k.0) (are_after k.0 (map name p)) parts.0 (sorted_front k.0 p xs parts.1)
 
 -- none of these comes before the key
 abbrev NotBefore : Text → List Field → Type 0
@@ -53,12 +59,12 @@ After key xs = (z : Field) → In z xs → Before key z.0
 after_not : (key : Text) (xs : List Field) → After key xs → NotBefore key xs
 after_not key xs h z i before = not_itself key key (nat_list_cmp_total.trans key z.0 key (h z i) before) refl
 
-head_not : (last : Text) (x : Field) (xs : List Field) → Sorted name last (x ∷ xs) → NotBefore x.0 (x ∷ xs)
+pub head_not : (last : Text) (x : Field) (xs : List Field) → Sorted name last (x ∷ xs) → NotBefore x.0 (x ∷ xs)
 head_not last x xs h z (inl e) before = not_itself z.0 x.0 before (ap name e)
 head_not last x xs h z (inr i) before = not_itself x.0 x.0 (nat_list_cmp_total.trans x.0 z.0 x.0 (later name x.0 xs z (rest name last x xs h) i) before) refl
 
 -- before the key both have what is in front alone
-before_agree : (p xs ys : List Field) (key : Text) → NotBefore key xs → NotBefore key ys → KeysAgreeBefore (p ++ xs) (p ++ ys) key
+pub before_agree : (p xs ys : List Field) (key : Text) → NotBefore key xs → NotBefore key ys → KeysAgreeBefore (p ++ xs) (p ++ ys) key
 before_agree p xs ys key h g earlier first =
     let less = less_from earlier key first in
     record {

@@ -4,6 +4,7 @@
 mod archive_current;
 mod archive_info;
 mod archive_reading;
+mod backup_current;
 mod backup_info;
 mod backup_reading;
 mod by_key;
@@ -19,6 +20,7 @@ mod healing;
 mod history;
 mod info;
 mod labels;
+mod listed;
 mod loading;
 mod members;
 mod read_info;
