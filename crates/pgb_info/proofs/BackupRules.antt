@@ -26,7 +26,7 @@ db c = record { name = codes "db"; keys = cluster_fields c }
 abbrev pub history : List Cluster → Section
 history cs = record { name = codes "db:history"; keys = by_key (map cluster_field cs) }
 
-db_rules : (c : Cluster) → IsCluster c → IsSection (db c)
+pub db_rules : (c : Cluster) → IsCluster c → IsSection (db c)
 db_rules c h =
     let built = built_cluster_fields c h in
     let (catalog, (control, (id, (system, (version, none))))) = built in

@@ -25,7 +25,7 @@ by_order a b apart Less e h = cc h
 by_order a b apart Equal e h = absurd (apart ((bytes_eq-Decides a b).0 (sym (is_eq-slice_cmp a b) ∙ ap is_eq e)))
 by_order a b apart Greater e h = ap (λ o. match_ordering o true false false) (nat_list_cmp_total.antisymm b a ∙ ap ordering_reverse e)
 
-other_first : (a b : Text) → a ≢ b → is_before a b ≡ false → is_before b a ≡ true
+pub other_first : (a b : Text) → a ≢ b → is_before a b ≡ false → is_before b a ≡ true
 other_first a b apart h = by_order a b apart (slice_cmp nat_cmp a b) refl h
 
 pub both : (a b : Bool) → a ≡ true → b ≡ true → (a && b) ≡ true

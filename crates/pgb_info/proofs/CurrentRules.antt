@@ -9,7 +9,8 @@ use Rattle.pgb_model.specs.InfoFiles.{cluster_id_fields, version_value}
 use Rattle.pgb_info.specs.declared.fault.PartsFault.{PartsFault}
 use Rattle.pgb_info.specs.declared.fault.PartsFault.TheVariants.{Form, NoMemory}
 use Rattle.pgb_info.specs.Fault.{IfForm}
-use Rattle.pgb_info.specs.ArchiveForm.{db, cluster_keys, IsOrdered, IsWrongCurrent}
+use Rattle.pgb_info.specs.Agree.{db, IsOrdered}
+use Rattle.pgb_info.specs.ArchiveForm.{cluster_keys, IsWrongCurrent}
 use Rattle.pgb_info.proofs.Keyed.{same_value}
 use Rattle.pgb_info.proofs.Sorted.{fits, same_list}
 

@@ -19,11 +19,11 @@ pub record IsDated (d : Date) : Type 0 where
   pub first_day : 1 ≤ d.day
   pub last_day : d.day ≤ days_in_month d.year d.month
 
-abbrev number : Date → ℤ
+abbrev pub number : Date → ℤ
 number d = days_from_civil (pos d.year) d.month d.day
 
 -- the same date of the calendar
-in_calendar : (d : Date) → IsDated d → calendar.Date
+unfoldable pub in_calendar : (d : Date) → IsDated d → calendar.Date
 in_calendar d h = record {
   year = pos d.year;
   month = d.month;
@@ -112,3 +112,6 @@ date_of_day days h d e =
 
 pub IsDated-date_after : (days : ℕ) → days ≤ 2_932_896 → IsDated (date_after days)
 IsDated-date_after days h = (dated days h).0
+
+pub number_of_day : (days : ℕ) → days ≤ 2_932_896 → number (date_after days) ≡ pos days
+number_of_day days h = (dated days h).1

@@ -51,7 +51,7 @@ text_depth : {X : Type 0} (f : X → List ℕ) (o : Option X) → depth (or_null
 text_depth f None = refl
 text_depth f (Some x) = refl
 
-built_entry : (e : Entry) → HasLabels e → e.stored < 2 ^ 64 → e.size < 2 ^ 64 → e.start < 2 ^ 64 → e.stop < 2 ^ 64 → e.db < 2 ^ 64 → IsBuilt (entry_field e).1
+pub built_entry : (e : Entry) → HasLabels e → e.stored < 2 ^ 64 → e.size < 2 ^ 64 → e.start < 2 ^ 64 → e.stop < 2 ^ 64 → e.db < 2 ^ 64 → IsBuilt (entry_field e).1
 built_entry e h stored size start stop db =
     let spans = if_span e.span in
     IsBuilt-object (entry_field e).1 refl (
@@ -71,7 +71,7 @@ built_entry e h stored size start stop db =
       ),
     )
 
-entry_depth : (e : Entry) → depth (entry_field e).1 ≤ max_depth
+pub entry_depth : (e : Entry) → depth (entry_field e).1 ≤ max_depth
 entry_depth e =
     omega (arith, labels_depth e.references, text_depth label_text e.prior, text_depth (λ (s : Span). segment_text s.start) e.span, text_depth (λ (s : Span). segment_text s.stop) e.span)
 

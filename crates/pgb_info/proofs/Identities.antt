@@ -9,13 +9,13 @@ use Rattle.pgb_model.specs.declared.clusters.ClusterId.{ClusterId}
 use Rattle.pgb_model.specs.Fields.{whole}
 use Rattle.pgb_model.specs.InfoFiles.{cluster_id_field, version_value}
 
-same_number : (n m : ℕ) → whole n ≡ whole m → n ≡ m
+pub same_number : (n m : ℕ) → whole n ≡ whole m → n ≡ m
 same_number n m e = cc
 
-same_version : (n m : ℕ) → n < 2 ^ 64 → m < 2 ^ 64 → version_value n ≡ version_value m → n ≡ m
+pub same_version : (n m : ℕ) → n < 2 ^ 64 → m < 2 ^ 64 → version_value n ≡ version_value m → n ≡ m
 same_version n m h g e = let d : decimal n ≡ decimal m = cc in decimal_injective n m h g d
 
-same_data : (d e : Data) → ◌≡◌ {A = Option Data} (Some d) (Some e) → d ≡ e
+pub same_data : (d e : Data) → ◌≡◌ {A = Option Data} (Some d) (Some e) → d ≡ e
 same_data d e h = cc
 
 pub system_of : (d found : Data) (n : ℕ) (e : ClusterId) → d ≡ (cluster_id_field e).1 → Some found ≡ get (codes "db-id") d → found ≡ whole n → n ≡ e.system

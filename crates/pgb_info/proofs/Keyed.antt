@@ -4,7 +4,7 @@ use Rattle.std.specs.Prelude.{IfNone}
 use Rattle.serde_json.specs.Data.{Data}
 use Rattle.pgb_model.specs.Text.{Text, In}
 use Rattle.pgb_model.specs.Fields.{Field}
-use Rattle.pgb_info.specs.ArchiveForm.{IsOrdered}
+use Rattle.pgb_info.specs.Agree.{IsOrdered}
 use Rattle.pgb_info.proofs.Sorted.{unique}
 
 -- a key has one value

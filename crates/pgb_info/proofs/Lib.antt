@@ -16,6 +16,17 @@ pub mod Seeking
 pub mod Identities
 pub mod Keyed
 pub mod CurrentRules
+pub mod Numbers
 pub mod HistoryRules
+pub mod IdentityFields
+pub mod ClusterFields
 pub mod ArchiveForms
 pub mod OneArchive
+pub mod StampTexts
+pub mod LabelTexts
+pub mod EntryParts
+pub mod Read
+pub mod Walked
+pub mod ClusterKeys
+pub mod ListedKeys
+pub mod Halves

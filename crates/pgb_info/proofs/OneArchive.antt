@@ -14,7 +14,8 @@ use Rattle.pgb_model.specs.Values.{ArchiveInfo}
 use Rattle.pgb_ini.proofs.OneText.{one_sections}
 use Rattle.pgb_info.proofs.ArchiveForms.{shape, same_cluster}
 use Rattle.pgb_info.proofs.ArchiveRules.{archive_is_info}
-use Rattle.pgb_info.proofs.HistoryRules.{all_in, map_in, id_low, same_field}
+use Rattle.pgb_info.proofs.IdentityFields.{same_field}
+use Rattle.pgb_info.proofs.Numbers.{all_in, map_in, id_low}
 use Rattle.pgb_info.proofs.Sorted.{by_key_in, in_by_key, length_by_key}
 
 abbrev id_of : ClusterId → ℕ
@@ -33,7 +34,7 @@ alike (x ∷ xs) (y ∷ ys) m h g p q long all = ap (λ (c : ClusterId). c ∷ x
         (λ (i : In (cluster_id_field x) (map cluster_id_field ys)).
         let (c, j, e) = map_in cluster_id_field ys (cluster_id_field x) i in
         let same : x ≡ c = same_field x c h.0 (all_in IsClusterId ys c g.1 j) e in
-        let low = id_low ys (m + 1) c q.1 j in
+        let low = id_low id_of ys (m + 1) c q.1 j in
         let id : c.id ≡ m = ap id_of (sym same) ∙ p.0 in
         absurd (omega (arith, low, id)))
         (all (cluster_id_field x) (inl refl))
@@ -43,7 +44,7 @@ alike (x ∷ xs) (y ∷ ys) m h g p q long all = ap (λ (c : ClusterId). c ∷ x
         (λ (e : z ≡ cluster_id_field y).
         let (c, j, f) = map_in cluster_id_field xs z i in
         let same : c ≡ y = same_field c y (all_in IsClusterId xs c h.1 j) g.0 (sym f ∙ e) in
-        let low = id_low xs (m + 1) c p.1 j in
+        let low = id_low id_of xs (m + 1) c p.1 j in
         let id : c.id ≡ m = ap id_of same ∙ q.0 in
         absurd (omega (arith, low, id)))
         (λ (j : In z (map cluster_id_field ys)). j)

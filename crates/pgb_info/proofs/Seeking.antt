@@ -7,12 +7,12 @@ use Rattle.std.proofs.lemmas.Slice.Eq.{bytes_eq-Decides}
 use Rattle.pgb_model.specs.Text.{Text, In}
 
 module _ {X Y : Type 0} (f : X → Y) where
-  opened : (xs : List X) (i : ℕ) (x : X) → i < length xs → x ≡ get_or xs i x → drop i xs ≡ x ∷ drop (i + 1) xs
+  pub opened : (xs : List X) (i : ℕ) (x : X) → i < length xs → x ≡ get_or xs i x → drop i xs ≡ x ∷ drop (i + 1) xs
   opened xs i x h is =
       let one : suc i ≡ i + 1 = omega arith in
       drop-cons xs i x h ∙ ap (λ (y : X). y ∷ drop (suc i) xs) (sym is) ∙ ap (λ (k : ℕ). x ∷ drop k xs) one
 
-  ended : (xs : List X) (i : ℕ) → length xs ≤ i → drop i xs ≡ []
+  pub ended : (xs : List X) (i : ℕ) → length xs ≤ i → drop i xs ≡ []
   ended xs i h = drop_of_length-le xs h
 
   -- those to come are of the whole

@@ -8,19 +8,19 @@ use Rattle.pgb_model.specs.Text.{Text, In}
 use Rattle.pgb_model.specs.Fields.{Field, with_field, with_fields, by_key}
 use Rattle.pgb_ini.proofs.Orders.{less_from, not_itself}
 
-abbrev Before : Text → Text → Type 0
+abbrev pub Before : Text → Text → Type 0
 Before a b = slice_cmp nat_cmp a b ≡ Less
 
 module _ {X : Type 0} (name : X → Text) where
   abbrev pub Sorted : Text → List X → Type 0
   Sorted last xs = are_after last (map name xs) ≡ true
 
-  later : (last : Text) (xs : List X) (x : X) → Sorted last xs → In x xs → Before last (name x)
+  pub later : (last : Text) (xs : List X) (x : X) → Sorted last xs → In x xs → Before last (name x)
   later last [] x h i = absurd i
   later last (y ∷ ys) x h (inl e) = let p = and_parts (is_before last (name y)) (are_after (name y) (map name ys)) h in subst (λ (z : X). Before last (name z)) (sym e) (less_from last (name y) p.0)
   later last (y ∷ ys) x h (inr i) = let p = and_parts (is_before last (name y)) (are_after (name y) (map name ys)) h in nat_list_cmp_total.trans last (name y) (name x) (less_from last (name y) p.0) (later (name y) ys x p.1 i)
 
-  rest : (last : Text) (y : X) (ys : List X) → Sorted last (y ∷ ys) → Sorted (name y) ys
+  pub rest : (last : Text) (y : X) (ys : List X) → Sorted last (y ∷ ys) → Sorted (name y) ys
   rest last y ys h = (and_parts (is_before last (name y)) (are_after (name y) (map name ys)) h).1
 
   -- a name stands once

@@ -1,11 +1,17 @@
 -- Which sections are those of no value of `backup.info`, and at which key.
-use Rattle.std.specs.Prelude.{◌≡◌, ◌≢◌, ◌≤◌, List, length, true, codes}
-use Rattle.pgb_outside.specs.Order.{is_before}
+use Rattle.std.specs.Prelude.{◌≡◌, ◌≢◌, ◌≤◌, List, [], map, length, true, codes, IfSome}
+use Rattle.pgb_outside.specs.Order.{is_before, are_in_order}
+use Rattle.serde_json.specs.Data.{Data}
+use Rattle.pgb_model.specs.declared.clusters.Cluster.{Cluster}
+use Rattle.pgb_model.specs.declared.labels.Label.{Label}
 use Rattle.pgb_model.specs.Text.{Text, In}
 use Rattle.pgb_model.specs.InfoText.{Section}
-use Rattle.pgb_model.specs.InfoFiles.{backup_sections, IsBackupInfo}
-use Rattle.pgb_model.specs.Values.{BackupInfo}
-use Rattle.pgb_info.specs.ArchiveForm.{AgreeAt, db, db_history}
+use Rattle.pgb_model.specs.Fields.{Field}
+use Rattle.pgb_model.specs.Names.{label_text}
+use Rattle.pgb_model.specs.InfoFiles.{IsCluster, cluster_fields, entry_field, AreListed, backup_sections, IsBackupInfo}
+use Rattle.pgb_model.specs.Values.{BackupInfo, Entry}
+use Rattle.pgb_info.specs.Entries.{IsEntry}
+use Rattle.pgb_info.specs.Agree.{AgreeAt, KeysAgree, db, db_history}
 
 abbrev pub backup_current : Text
 backup_current = codes "backup:current"
@@ -33,3 +39,39 @@ pub record IsBackupForm (ss : List Section) (section key : Text) : Type 0 where
   pub none : (v : BackupInfo) → IsBackupInfo v → backup_sections v ≢ ss
   pub told : (v : BackupInfo) × IsBackupInfo v × HasBefore v ss section key
   pub wrong : (v : BackupInfo) → IsBackupInfo v → HasBefore v ss section key → ¬ AgreeAt (backup_sections v) ss section key
+
+-- ---- section by section
+
+-- one has at each earlier key what the other has
+abbrev pub KeysAgreeBefore : List Field → List Field → Text → Type 0
+KeysAgreeBefore xs ys key = (earlier : Text) → is_before earlier key ≡ true → KeysAgree xs ys earlier
+
+-- a list of backups, whatever the history
+pub record IsList (es : List Entry) : Type 0 where
+  pub backups : AreListed 4294967296 [] es
+  pub order : are_in_order (map (λ e. label_text e.label) es) ≡ true
+
+-- the keys have one with this label
+abbrev pub HasLabel : List Field → Label → Type 0
+HasLabel ks l = (d : Data) × In (label_text l, d) ks
+
+-- the key and its value are a backup's, whose prior one is among the keys before it
+pub record IsNext (front : List Field) (k : Field) (e : Entry) : Type 0 where
+  pub rules : IsEntry e
+  pub field : k ≡ entry_field e
+  pub prior : IfSome e.prior (HasLabel front)
+
+-- Some list has all that stands before this key of `backup:current`, and each that does has something else at the key.
+pub record IsWrongBackup (ks : List Field) (key : Text) : Type 0 where
+  pub told : (es : List Entry) × IsList es × KeysAgreeBefore (map entry_field es) ks key
+  pub wrong : (es : List Entry) → IsList es → KeysAgreeBefore (map entry_field es) ks key → ¬ KeysAgree (map entry_field es) ks key
+
+-- Some cluster has all that stands before this key of `db`, and none has what stands at it.
+pub record IsWrongCluster (ks : List Field) (key : Text) : Type 0 where
+  pub told : (c : Cluster) × IsCluster c × (1 ≤ c.id) × KeysAgreeBefore (cluster_fields c) ks key
+  pub wrong : (c : Cluster) → IsCluster c → 1 ≤ c.id → ¬ KeysAgree (cluster_fields c) ks key
+
+-- up to this key the two are the same, and at it they differ
+pub record IsFirstDifference (xs ys : List Field) (key : Text) : Type 0 where
+  pub before : KeysAgreeBefore xs ys key
+  pub here : ¬ KeysAgree xs ys key

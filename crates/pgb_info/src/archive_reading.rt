@@ -9,9 +9,9 @@ ghost use Rattle.pgb_info.specs.Fault.{IfForm};
 ghost use Rattle.pgb_info.specs.ArchiveForm.{section_names, IsArchiveForm};
 
 use crate::archive_current::current_of;
-use crate::archive_history::history_of;
 use crate::fault::{MemberFault, PartsFault};
 use crate::finding::{form, part_of};
+use crate::history::history_of;
 use crate::read_info::ReadInfo;
 use crate::texts::sections_in;
 use pgb_ini::Part;
@@ -64,7 +64,7 @@ fn archive_of(alloc: Global, parts: &[Part]) -> Result<ArchiveInfo, PartsFault>
     let Some(past) = part_of(parts, "db:history") else {
         return Err(form(alloc, "db:history", "1"));
     };
-    let history = history_of(alloc, past, &current)?;
+    let history = history_of(alloc, past, &current, current.id)?;
     if let Some(part) = foreign_part(parts) {
         return Err(foreign(alloc, parts, part));
     }

@@ -45,7 +45,7 @@ fn listed_parts(alloc: Global, backups: &[Entry]) -> Result<Vec<Part>, NoMemory>
 }
 
 // A cluster of the history, under its number.
-fn cluster_value(alloc: Global, c: &Cluster) -> Result<Value, NoMemory>
+pub(crate) fn cluster_value(alloc: Global, c: &Cluster) -> Result<Value, NoMemory>
     ensures { IfOk result (λ v. view v ≡ (cluster_field c.now).1) }
 {
     let version = decimal(alloc, u64::from(c.version))?;
@@ -57,7 +57,7 @@ fn cluster_value(alloc: Global, c: &Cluster) -> Result<Value, NoMemory>
     })?)
 }
 
-fn current_part(alloc: Global, c: &Cluster) -> Result<Part, NoMemory>
+pub(crate) fn current_part(alloc: Global, c: &Cluster) -> Result<Part, NoMemory>
     ensures { IfOk result (λ p. section_of p ≡ record { name = codes "db"; keys = cluster_fields c.now }) }
 {
     let mut part = Part::new(alloc, "db")?;

@@ -7,6 +7,7 @@ ghost use Rattle.pgb_model.specs.Fields.{whole};
 ghost use Rattle.pgb_model.specs.InfoFiles.{IsClusterId, cluster_id_field, version_value};
 
 use crate::archive_info::cluster_value;
+use crate::history::Numbered;
 use pgb_model::ClusterId;
 use pgb_text::{NoMemory, read_decimal};
 use serde_json::Value;
@@ -66,8 +67,8 @@ fn identity_in(id: u32, value: &Value) -> Option<ClusterId>
     })
 }
 
-// Whether two values are the same: each is what its own text reads as.
-fn is_same(alloc: Global, a: &Value, b: &Value) -> Result<bool, NoMemory>
+/// Whether two values are the same: each is what its own text reads as.
+pub(crate) fn are_same(alloc: Global, a: &Value, b: &Value) -> Result<bool, NoMemory>
     requires first { IsValue (view a.now) }
     requires second { IsValue (view b.now) }
     ensures { IfOk result (λ same. IsTrue same ↔ (view a.now ≡ view b.now)) }
@@ -77,8 +78,8 @@ fn is_same(alloc: Global, a: &Value, b: &Value) -> Result<bool, NoMemory>
     Ok(first.as_str() == second.as_str())
 }
 
-/// The cluster of a history whose value this is.
-pub(crate) fn cluster_of(
+// The cluster of a history whose value this is.
+fn cluster_of(
     alloc: Global,
     id: u32,
     value: &Value,
@@ -91,9 +92,29 @@ pub(crate) fn cluster_of(
         return Ok(None);
     };
     let expected = cluster_value(alloc, &cluster)?;
-    if is_same(alloc, value, &expected)? {
+    if are_same(alloc, value, &expected)? {
         Ok(Some(cluster))
     } else {
         Ok(None)
+    }
+}
+
+impl Numbered for ClusterId {
+    ghost IsOne = { IsClusterId };
+
+    ghost number_of = { λ c. c.id };
+
+    ghost field = { cluster_id_field };
+
+    fn number(&self) -> u32 {
+        self.id
+    }
+
+    fn is_same(&self, other: &Self) -> bool {
+        self.id == other.id && self.system == other.system && self.version == other.version
+    }
+
+    fn read(alloc: Global, number: u32, value: &Value) -> Result<Option<Self>, NoMemory> {
+        cluster_of(alloc, number, value)
     }
 }

@@ -1,9 +1,15 @@
 // The texts of labels.
-ghost use Rattle.std.specs.Prelude.{◌≡◌, ◌≤◌, ◌++◌, IfOk, OnOk, IfSome, string_bytes};
-ghost use Rattle.pgb_model.specs.Dates.{last_second};
+ghost use Rattle.std.specs.Prelude.{◌≡◌, ◌≢◌, ◌≤◌, [], ◌∷◌, ◌++◌, Option, IfOk, OnOk, IfSome, IfNone, string_bytes};
+ghost use Rattle.std.specs.Option.{option_map_or};
+ghost use Rattle.pgb_model.specs.declared.labels.Kind.{Kind};
+ghost use Rattle.pgb_model.specs.declared.labels.Kind.TheVariants.{Full};
+ghost use Rattle.pgb_model.specs.declared.labels.Later.{Later};
+ghost use Rattle.pgb_model.specs.declared.labels.Label.{Label};
+ghost use Rattle.pgb_model.specs.Dates.{last_second, stamp};
 ghost use Rattle.pgb_model.specs.InfoFiles.{IsLabel};
 ghost use Rattle.pgb_model.specs.Names.{label_text, later_text, letter};
 
+use crate::stamp_reading::{after, split_stamp};
 use crate::stamps::push_stamp;
 use pgb_model::{Kind, Label, Later};
 use pgb_text::NoMemory;
@@ -42,4 +48,59 @@ pub fn label_text(alloc: Global, label: &Label) -> Result<String, NoMemory>
     text.push('F')?;
     push_later(&mut text, label.later)?;
     Ok(text)
+}
+
+// The kind that a second part's last letter tells.
+fn read_letter(text: &[u8]) -> Option<Kind>
+    ensures value { IfSome result (λ k. (k ≢ Full) × (text.now ≡ letter k ∷ [])) }
+    ensures none { IfNone result ((k : Kind) → k ≢ Full → text.now ≢ letter k ∷ []) }
+{
+    match text {
+        [b'D'] => Some(Kind::Diff),
+        [b'I'] => Some(Kind::Incr),
+        _ => None,
+    }
+}
+
+// The second part of which this is the text.
+fn read_part(text: &[u8]) -> Option<Later>
+    ensures value { IfSome result (λ l. (l.time ≤ last_second) × (l.kind ≢ Full) × (text.now ≡ stamp l.time ++ letter l.kind ∷ [])) }
+    ensures none { IfNone result ((l : Later) → l.time ≤ last_second → l.kind ≢ Full → text.now ≢ stamp l.time ++ letter l.kind ∷ []) }
+{
+    let (time, rest) = split_stamp(text)?;
+    let kind = read_letter(rest)?;
+    Some(Later { time, kind })
+}
+
+// What follows the first part of a label.
+fn read_later(text: &[u8]) -> Option<Option<Later>>
+    ensures value { IfSome result (λ o. IfSome o (λ l. (l.time ≤ last_second) × (l.kind ≢ Full)) × (text.now ≡ later_text o)) }
+    ensures none { IfNone result ((o : Option Later) → IfSome o (λ l. (l.time ≤ last_second) × (l.kind ≢ Full)) → text.now ≢ later_text o) }
+{
+    match text {
+        [] => Some(None),
+        [b'_', rest @ ..] => Some(Some(read_part(rest)?)),
+        _ => None,
+    }
+}
+
+/// The label of which this is the text.
+pub fn read_label(text: &[u8]) -> Option<Label>
+    ensures value { IfSome result (λ l. IsLabel l × (text.now ≡ label_text l)) }
+    ensures none { IfNone result ((l : Label) → IsLabel l → text.now ≢ label_text l) }
+{
+    let (full, rest) = split_stamp(text)?;
+    let rest = after(rest, b'F')?;
+    let later = read_later(rest)?;
+    Some(Label { full, later })
+}
+
+/// When the backup of a label began, in seconds since 1970, UTC.
+pub fn label_time(label: &Label) -> u64
+    ensures { result ≡ option_map_or (λ l. l.time) label.now.later label.now.full }
+{
+    match label.later {
+        Some(later) => later.time,
+        None => label.full,
+    }
 }

@@ -2,30 +2,37 @@
 #![tactic(auto)]
 
 mod archive_current;
-mod archive_history;
 mod archive_info;
 mod archive_reading;
+mod backup_current;
 mod backup_info;
 mod backup_reading;
 mod by_key;
 mod cluster_ids;
+mod cluster_reading;
+mod differences;
 mod entries;
+mod entry_parts;
+mod entry_reading;
 mod fault;
 mod finding;
 mod healing;
+mod history;
 mod info;
 mod labels;
+mod listed;
 mod loading;
 mod members;
 mod read_info;
 mod saving;
+mod stamp_reading;
 mod stamps;
 mod texts;
 
 pub use fault::{InfoFault, MemberFault, SaveFault};
 pub use healing::{heal_pair, mend_pair};
 pub use info::Info;
-pub use labels::label_text;
+pub use labels::{label_text, label_time, read_label};
 pub use loading::load_pair;
 pub use read_info::ReadInfo;
 pub use saving::save_pair;

@@ -1,12 +1,16 @@
 use Rattle.std.proofs.Common.{◌≡◌, codes}
 use Rattle.std.proofs.lemmas.Result.{err_from_is_err_and}
+use Rattle.pgb_model.specs.declared.clusters.ClusterId.{ClusterId}
 use Rattle.pgb_model.specs.InfoText.{IsSection}
+use Rattle.pgb_model.specs.InfoFiles.{IsClusterId, cluster_id_field}
 use Rattle.pgb_ini.specs.Parts.{section_of, sections_of}
-use Rattle.pgb_info.specs.ArchiveForm.{IsArchiveForm, IsWrongCurrent, IsWrongHistory}
-use Rattle.pgb_info.specs.ArchiveForm.{db as db_name, db_history}
+use Rattle.pgb_info.specs.ArchiveForm.{IsArchiveForm, IsWrongCurrent}
+use Rattle.pgb_info.specs.Agree.{db as db_name, db_history}
+use Rattle.pgb_info.specs.History.{IsWrongHistory}
 use Rattle.pgb_info.proofs.ArchiveForms.{no_db, db_form, db_found, no_history, history_form, value_sections}
 use Rattle.pgb_info.proofs.CurrentRules.{form_as, form_wide}
-use Rattle.pgb_info.proofs.HistoryRules.{all_in}
+use Rattle.pgb_info.proofs.IdentityFields.{identities_are_numbered}
+use Rattle.pgb_info.proofs.Numbers.{all_in}
 use Rattle.pgb_info.proofs.archive_reading.archive_of.Goals as goal
 
 pub returns-in_default-clause-fault : goal.returns-in_default-clause-fault
@@ -33,6 +37,9 @@ returns-in_default-part_of-clause-fault c =
     let there = db_found ss (section_of c.in-Some.db.now) current found.0 found.1 is.2 in
     form_as c.form-in_default-part_of.result db_history (codes "1") (IsArchiveForm ss) c.form-in_default-part_of.ensures (no_history ss c.requires current is.0 there c.in_default-part_of.ensures.none)
 
+pub history_of-requires-clause-laws : goal.history_of-requires-clause-laws
+history_of-requires-clause-laws c = identities_are_numbered
+
 pub history_of-requires-clause-rules : goal.history_of-requires-clause-rules
 history_of-requires-clause-rules c = all_in IsSection (sections_of c.args.parts.now) (section_of c.in-Some-part_of.past.now) c.requires.sections c.in-Some-part_of.ensures.found.0
 
@@ -47,7 +54,7 @@ returns-in_err-history-clause-fault c =
     let at = c.in-Some-part_of.ensures.found in
     let p = err_from_is_err_and c.from_residual-in_err-history.result c.from_residual-in_err-history.ensures.1 in
     rw (p.1, p.2)
-    (form_wide c.in_err-history.field-0.0 (λ s k. (s ≡ db_history) × IsWrongHistory current past.keys k) (IsArchiveForm ss) c.in_err-history.ensures.fault (λ s k h. history_form ss c.requires current is.0 there past s k at.0 at.1 h.0 h.1))
+    (form_wide c.in_err-history.field-0.0 (λ s k. (s ≡ db_history) × IsWrongHistory IsClusterId (λ (c : ClusterId). c.id) cluster_id_field current current.id past.keys k) (IsArchiveForm ss) c.in_err-history.ensures.fault (λ s k h. history_form ss c.requires current is.0 there past s k at.0 at.1 h.0 h.1))
 
 pub returns-clause-sections : goal.returns-clause-sections
 returns-clause-sections c =

@@ -7,7 +7,7 @@ use Rattle.pgb_ini.specs.Parts.{key_of, section_of, sections_of}
 use Rattle.pgb_info.specs.ArchiveForm.{IsArchiveForm}
 use Rattle.pgb_info.proofs.ArchiveForms.{foreign_form}
 use Rattle.pgb_info.proofs.CurrentRules.{form_as}
-use Rattle.pgb_info.proofs.HistoryRules.{all_in}
+use Rattle.pgb_info.proofs.Numbers.{all_in}
 use Rattle.pgb_info.proofs.Seeking.{here}
 use Rattle.pgb_info.proofs.archive_reading.foreign.Goals as goal
 

@@ -5,7 +5,7 @@ use Rattle.pgb_model.specs.InfoFiles.{cluster_id_field}
 use Rattle.pgb_info.proofs.Clusters.{built_identity}
 use Rattle.pgb_info.proofs.cluster_ids.cluster_of.Goals as goal
 
-pub is_same-requires-clause-second : goal.is_same-requires-clause-second
-is_same-requires-clause-second c =
+pub are_same-requires-clause-second : goal.are_same-requires-clause-second
+are_same-requires-clause-second c =
     let cluster = c.in-Some.cluster in
     subst IsValue (sym c.in_ok-expected.ensures) (IsValue-built (cluster_id_field cluster).1 (built_identity cluster c.in-Some.ensures.rules.0) (lit≤ tt))

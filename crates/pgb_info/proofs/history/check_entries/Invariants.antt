@@ -1,0 +1,11 @@
+use Rattle.std.proofs.Common.{◌≡◌}
+use Rattle.pgb_ini.specs.Parts.{key_of}
+use Rattle.pgb_info.proofs.Seeking.{Whole}
+use Rattle.pgb_info.proofs.history.check_entries.Given as goal
+
+-- the keys to come are of the section
+abbrev pub invariant-loop-k : goal.invariant-loop-k
+invariant-loop-k g l = record {
+  items : l.k-items ≡ l.part.keys.items;
+  whole : Whole key_of l.k-items l.k-index;
+}
