@@ -1,5 +1,5 @@
 -- Why a stanza isn't made, and why a command doesn't begin.
-use Rattle.std.specs.Prelude.{◌≡◌, Option, string_bytes}
+use Rattle.std.specs.Prelude.{◌≡◌, ℕ, Option, String, string_bytes}
 use Rattle.pgb_outside.specs.Content.{Content}
 use Rattle.pgb_model.specs.declared.labels.Label.{Label}
 use Rattle.pgb_model.specs.Text.{Text}
@@ -11,15 +11,15 @@ use Rattle.pgb_stanza.specs.Causes.{CreateCause as StanzaCause}
 use Rattle.pgb_command.specs.declared.fault.Fault.{Fault}
 use Rattle.pgb_command.specs.declared.fault.Fault.TheVariants.{InfoDamaged, HistoryDiffers, StanzaMismatch, ArchiveLost, Held, Disk, Tree, Locks, NoMemory}
 use Rattle.pgb_info.specs.declared.fault.MemberFault.{MemberFault}
-use Rattle.std.specs.x
+use Rattle.std.specs.declared.alloc.Global.{Global}
 use Rattle.pgb_stanza.specs.declared.fault.Identity.{Identity}
 
 -- Which answer a refusal of the stanza is; a label may also find no memory for its text.
 pub data IsStanzaFault : StanzaFault → Fault → Type 0 where
-  Damaged : (name : String) (main copy : MemberFault) → IsStanzaFault (DamagedOf name main copy) (InfoDamaged name main copy)
+  Damaged : (name : String Global) (main copy : MemberFault) → IsStanzaFault (DamagedOf name main copy) (InfoDamaged name main copy)
   Differs : (at : ℕ) → IsStanzaFault (DiffersOf at) (HistoryDiffers at)
   Mismatch : (kept found : Identity) → IsStanzaFault (MismatchOf kept found) (StanzaMismatch kept found)
-  Lost : (label : Label) (text : String) → string_bytes text ≡ label_text label → IsStanzaFault (LostOf label) (ArchiveLost text)
+  Lost : (label : Label) (text : String Global) → string_bytes text ≡ label_text label → IsStanzaFault (LostOf label) (ArchiveLost text)
   Unsaid : (label : Label) → IsStanzaFault (LostOf label) NoMemory
   Failed : IsStanzaFault DiskOf Disk
   Starved : IsStanzaFault MemoryOf NoMemory
