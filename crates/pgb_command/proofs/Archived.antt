@@ -1,6 +1,6 @@
 -- What archive-get serves is what the repository has archived.
 use Rattle.std.proofs.Common.{◌≡◌, inl, inr, ℕ, ◌<◌, ◌^◌, List, map, Option, Some, None, Err, refl, sym, ap, subst}
-use Rattle.std.specs.Prelude.{IfSome, IsSome, Unit}
+use Rattle.std.specs.Prelude.{IfSome, IsSome}
 use Rattle.sha1.specs.Sha1.{sha1}
 use Rattle.pgb_text.specs.Sum.{IsSum}
 use Rattle.pgb_outside.specs.Content.{Content}
@@ -37,7 +37,7 @@ module _ (stanza : Text) (f : Content) (s : Stanza) (now : NowStands stanza (Som
 
   place_of : (d : Cluster) → In d s.history → (sum : Text) → IsSum sum → IsArchivePlace (id_of d) name sum
   place_of d listed sum is =
-      let rules = all_in IsClusterId (map identity_of s.history) (rules_of f (archive_info stanza) (archive_value s) has.archive_pair).clusters (identity_of d) (in_map identity_of s.history d listed) in
+      let rules = all_in IsClusterId (map identity_of s.history) (identity_of d) (rules_of f (archive_info stanza) (archive_value s) has.archive_pair).clusters (in_map identity_of s.history d listed) in
       record { version = rules.version; number = rules.id; fits = fits; digest = is }
 
   unarchived : (d : Cluster) → In d s.history → StoresNone stanza (id_of d) name f → IsUnarchived (id_of d) name s.archived

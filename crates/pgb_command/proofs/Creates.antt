@@ -1,6 +1,6 @@
 -- stanza-create by its parts.
 use Rattle.std.proofs.Common.{◌≡◌, ◌⊎◌, inl, inr, ℕ, List, [], ◌∷◌, Option, Some, None, true, false, refl, sym, ap, ◌∙◌, subst, arith}
-use Rattle.std.specs.Prelude.{IfSome, IsSome, IsSomeAnd}
+use Rattle.std.specs.Prelude.{IfSome, IsSome, IsSomeAnd, Result, Ok, Err, IfErr, IsErrAnd}
 use Rattle.pgb_outside.specs.Content.{Content}
 use Rattle.pgb_outside.specs.Tree.{Nodes}
 use Rattle.pgb_model.specs.declared.clusters.Cluster.{Cluster}
@@ -23,6 +23,8 @@ use Rattle.pgb_stanza.specs.declared.fault.StanzaFault.{StanzaFault}
 use Rattle.pgb_stanza.specs.Pairs.{LacksStanza, HasStanzaOf}
 use Rattle.pgb_stanza.specs.Causes.{CreateCause as StanzaCause, OnContent, IfNew, IfSame}
 use Rattle.pgb_command.specs.declared.fault.Fault.{Fault}
+use Rattle.pgb_command.specs.declared.fault.Fault.TheVariants as faults
+use Rattle.pgb_command.specs.Causes.{CreateCause}
 use Rattle.pgb_command.specs.Answers.{OnFinding}
 use Rattle.pgb_command.specs.Making.{MakeCause, IsStanzaFault, Damaged, Differs, Mismatch, Lost, Unsaid, Failed, Starved}
 use Rattle.pgb_command.specs.Cluster.{control_bytes, version_bytes, FolderTells, IsClusterOf}
@@ -124,3 +126,41 @@ make_cause stanza told repo rose e fault (Lost label text is) h = (label, is, h)
 make_cause stanza told repo rose e fault (Unsaid label) h = tt
 make_cause stanza told repo rose e fault Failed h = h
 make_cause stanza told repo rose e fault Starved h = tt
+
+-- the cause for the data folder that tells the cluster
+module _ (stanza : Text) (told : Control) (repo : Option Content) (nodes : Option Nodes) (tells : IfSome nodes (λ f. FolderTells f told)) (rose d t l h : Type 0) (up : rose → d) where
+  folder_cause : (e : Fault) → MakeCause stanza told repo rose e → CreateCause stanza repo nodes d t l h e
+  folder_cause (faults.Settings u) c = absurd c
+  folder_cause (faults.NotBuilt a) c = absurd c
+  folder_cause (faults.ConfigMissing a) c = absurd c
+  folder_cause (faults.SegmentName a) c = absurd c
+  folder_cause (faults.PathOutside a) c = absurd c
+  folder_cause (faults.Held a) c = absurd c
+  folder_cause (faults.ControlMissing a) c = absurd c
+  folder_cause (faults.ControlShort a) c = absurd c
+  folder_cause faults.VersionText c = absurd c
+  folder_cause (faults.VersionUnsupported a) c = absurd c
+  folder_cause (faults.StanzaMissing a) c = absurd c
+  folder_cause (faults.InfoDamaged a b k) c = (told, tells, c)
+  folder_cause (faults.HistoryDiffers a) c = (told, tells, c)
+  folder_cause (faults.StanzaMismatch a b) c = (told, tells, c)
+  folder_cause (faults.ArchiveLost a) c = (told, tells, c)
+  folder_cause (faults.SegmentMissing a) c = absurd c
+  folder_cause (faults.TooLong a b) c = absurd c
+  folder_cause (faults.TooMany a) c = absurd c
+  folder_cause (faults.HeaderForm a) c = absurd c
+  folder_cause (faults.SegmentSize a b) c = absurd c
+  folder_cause (faults.HeaderMismatch a b) c = absurd c
+  folder_cause (faults.Ambiguous a b) c = absurd c
+  folder_cause (faults.Duplicate a b) c = absurd c
+  folder_cause (faults.SegmentDamaged a b) c = absurd c
+  folder_cause faults.Disk c = up c
+  folder_cause faults.Tree c = absurd c
+  folder_cause faults.Locks c = absurd c
+  folder_cause faults.Source c = absurd c
+  folder_cause faults.Sink c = absurd c
+  folder_cause faults.NoMemory c = tt
+
+  pub folder_cause_err : {T : Type 0} (result : Result T Fault) (e : Fault) → IsErrAnd result (λ f. f ≡ e) → MakeCause stanza told repo rose e → IfErr result (CreateCause stanza repo nodes d t l h)
+  folder_cause_err (Ok x) e is c = tt
+  folder_cause_err (Err f) e is c = subst (CreateCause stanza repo nodes d t l h) (sym is) (folder_cause e c)

@@ -1,21 +1,10 @@
 -- The last element of a path, and what its name tells.
-use Rattle.std.proofs.Common.{◌≡◌, ◌≢◌, inl, inr, ℕ, suc, true, ◌<◌, [], ◌∷◌, ◌++◌, length, get_or, refl, ap, sym, ◌∙◌, subst, arith}
+use Rattle.std.proofs.Common.{◌≡◌, ◌≢◌, inl, inr, ℕ, suc, ◌<◌, [], ◌∷◌, ◌++◌, length, get_or, refl, sym, ◌∙◌, subst, arith}
 use Rattle.std.specs.List.{AllByRecursion}
-use Rattle.std.specs.Ordering.{nat_cmp, is_eq, ordering_then}
-use Rattle.std.specs.declared.cmp.Ordering.{Ordering}
-use Rattle.std.specs.declared.cmp.Ordering.TheVariants.{Less, Equal, Greater}
-use Rattle.std.proofs.lemmas.Map.Lookups.{exact_unsigned}
-use Rattle.std.proofs.lemmas.Map.Text.{is_eq-slice_cmp}
-use Rattle.std.proofs.lemmas.Slice.Eq.{bytes_eq-Decides}
 use Rattle.pgb_model.specs.declared.wal.ArchiveName.{ArchiveName}
-use Rattle.pgb_model.specs.declared.wal.ArchiveName.TheVariants.{Segment as Whole}
-use Rattle.pgb_model.specs.declared.wal.Segment.{Segment}
-use Rattle.pgb_model.specs.Text.{Text, text_cmp}
-use Rattle.pgb_model.specs.Names.{wal_text, segment_text}
-use Rattle.pgb_model.specs.InfoFiles.{IsSegment}
-use Rattle.pgb_model.specs.Stands.{IsWalName}
-use Rattle.pgb_model.proofs.ArchiveNames.{whole_of}
-use Rattle.pgb_wal.proofs.Compared.{text_cmp-segment_text}
+use Rattle.pgb_model.specs.Text.{Text}
+use Rattle.pgb_model.specs.Names.{wal_text}
+use Rattle.pgb_archive.proofs.OnePath.{wal_injective}
 use Rattle.pgb_command.specs.WalPath.{IsLastElement, IsPathOf, IsWalPath}
 
 -- ---- the last element
@@ -46,31 +35,6 @@ plain_by (c ∷ cs) h = (h 0 (omega arith), plain_by cs (λ i lt. h (suc i) (ome
 pub outside_all : (folder path last : Text) → IsLastElement path last → ¬ IsPathOf folder path last → (name : ArchiveName) → ¬ IsWalPath folder path name
 outside_all folder path last is off name w = off (subst (IsPathOf folder path) (one_last path (wal_text name) last w.last is) w.lies)
 
--- ---- segments by their names
-
-both_equal : (p q : Ordering) → ordering_then p q ≡ Equal → (p ≡ Equal) × (q ≡ Equal)
-both_equal Equal q e = (refl, e)
-both_equal Less q e = cc
-both_equal Greater q e = cc
-
-is_equal : (o : Ordering) → is_eq o ≡ true → o ≡ Equal
-is_equal Equal e = refl
-is_equal Less e = cc
-is_equal Greater e = cc
-
-abbrev made : ℕ → ℕ → ℕ → Segment
-made t l s = record { timeline = t; log = l; seg = s }
-
-pub one_segment : (a b : Segment) → IsSegment a → IsSegment b → segment_text a ≡ segment_text b → a ≡ b
-one_segment a b p q e =
-    let same : text_cmp (segment_text a) (segment_text b) ≡ Equal = is_equal (text_cmp (segment_text a) (segment_text b)) (is_eq-slice_cmp (segment_text a) (segment_text b) ∙ (bytes_eq-Decides (segment_text a) (segment_text b)).1 e) in
-    let parts = both_equal (ordering_then (nat_cmp a.timeline b.timeline) (nat_cmp a.log b.log)) (nat_cmp a.seg b.seg) (sym (text_cmp-segment_text a b p.timeline q.timeline p.log q.log p.seg q.seg) ∙ same) in
-    let fronts = both_equal (nat_cmp a.timeline b.timeline) (nat_cmp a.log b.log) parts.0 in
-    ap (λ (x : ℕ). made x a.log a.seg) (exact_unsigned a.timeline b.timeline fronts.0) ∙ ap (λ (x : ℕ). made b.timeline x a.seg) (exact_unsigned a.log b.log fronts.1) ∙ ap (λ (x : ℕ). made b.timeline b.log x) (exact_unsigned a.seg b.seg parts.1)
-
-segment_by : (name : ArchiveName) (s : Segment) → IsWalName name → IsSegment s → (x : (t : Segment) × (name ≡ Whole t) × (segment_text t ≡ segment_text s)) → name ≡ Whole s
-segment_by name s p q x = x.1 ∙ ap (λ (t : Segment). Whole t) (one_segment x.0 s (subst IsWalName x.1 p) q x.2)
-
--- a path that names a segment names no other file
-pub one_name : (folder path : Text) (name : ArchiveName) (s : Segment) → IsWalPath folder path name → IsWalPath folder path (Whole s) → name ≡ Whole s
-one_name folder path name s p q = segment_by name s p.fits q.fits (whole_of name s (one_last path (wal_text name) (segment_text s) p.last q.last))
+-- a path names one file
+pub one_name : (folder path : Text) (a b : ArchiveName) → IsWalPath folder path a → IsWalPath folder path b → a ≡ b
+one_name folder path a b p q = wal_injective a b p.fits q.fits (one_last path (wal_text a) (wal_text b) p.last q.last)

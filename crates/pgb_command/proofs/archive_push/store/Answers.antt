@@ -1,4 +1,4 @@
-use Rattle.std.proofs.Common.{◌∙◌, arith, subst}
+use Rattle.std.proofs.Common.{◌∙◌, arith, refl, sym, subst}
 use Rattle.std.specs.Prelude.{◌<◌, ◌^◌, IfSome, string_bytes}
 use Rattle.sha1.specs.Sha1.{sha1}
 use Rattle.pgb_text.proofs.Digests.{IsSum-sha1}
@@ -6,7 +6,9 @@ use Rattle.pgb_model.specs.declared.wal.ArchiveId.{ArchiveId}
 use Rattle.pgb_outside.specs.Cause.{Rises}
 use Rattle.pgb_archive.specs.Stored.{StoresNone, StoresOnly}
 use Rattle.pgb_archive.specs.Causes.{PushCause}
-use Rattle.pgb_command.specs.Causes.{IsReady}
+use Rattle.pgb_command.specs.Answers.{Ending}
+use Rattle.pgb_command.specs.Causes.{IsReady, IsStored}
+use Rattle.pgb_command.specs.Outcomes.{OnFinished, pushed_lines}
 use Rattle.pgb_command.proofs.Chains.{none_goes, any_goes, still_on, ends_on}
 use Rattle.pgb_command.proofs.Stores.{store_part, store_whole, store_goes, store_ends, agrees_on}
 use Rattle.pgb_command.proofs.StoreCauses.{has_wal, finding_err, file_of, cause_err, stored_as}
@@ -140,7 +142,8 @@ returns-clause-stored g c =
     let has = has_wal nodes (g.T.Tree.nodes c.read_cluster.new.tree) folder path c.deref.result.now wal c.in_ok-bytes.bytes.items bytes c.read_cluster.ensures.nodes (c.deref.ensures ∙ c.requires.1) c.deref-2.ensures.value c.requires.0 c.in_ok-bytes.ensures.bytes in
     let ready : IsReady stanza folder path (g.D.Disk.view c.args.repo.now).now nodes wal bytes c.in_ok-told.told x.0 = record { has = has; of = record { tells = c.in_ok-told.ensures.told; current = x.3; same = x.2 } } in
     let fits = c.in_ok-id.ensures.fits in
-    stored_as stanza folder path (g.D.Disk.view c.args.repo.now).now (g.D.Disk.view c.current_id.new.repo).now nodes wal bytes c.in_ok-told.told x.0 ready (subst (λ (i : ArchiveId). i.version < 2 ^ 32) x.1 fits.0) (subst (λ (i : ArchiveId). i.number < 2 ^ 32) x.1 fits.1) c.requires.0.fits
-    c.current_id.ensures.stays.told c.in_ok-id.ensures.files _ (string_bytes c.args.file.text) c.in_ok-pushed.pushed c.requires.1 c.outcome_of.ensures c.in_ok-pushed.ensures.of_system
+    let lines = pushed_lines c.in_ok-pushed.pushed (string_bytes c.args.file.text) in
+    subst (λ (e : Ending). OnFinished e (IsStored stanza folder path (g.D.Disk.view c.args.repo.now).now nodes)) (sym c.outcome_of.ensures) (stored_as stanza folder path (g.D.Disk.view c.args.repo.now).now (g.D.Disk.view c.current_id.new.repo).now nodes wal bytes c.in_ok-told.told x.0 ready (subst (λ (i : ArchiveId). i.version < 2 ^ 32) x.1 fits.0) (subst (λ (i : ArchiveId). i.number < 2 ^ 32) x.1 fits.1) c.requires.0.fits
+    c.current_id.ensures.stays.told c.in_ok-id.ensures.files lines (string_bytes c.args.file.text) c.in_ok-pushed.pushed c.requires.1 refl c.in_ok-pushed.ensures.of_system
     (λ is. subst (λ (i : ArchiveId). IfSome (g.D.Disk.view c.current_id.new.repo).now (StoresNone stanza i wal)) x.1 (c.in_ok-pushed.ensures.new is))
-    (λ is. subst (λ (i : ArchiveId). IfSome (g.D.Disk.view c.current_id.new.repo).now (λ f. StoresOnly stanza i wal f (sha1 bytes))) x.1 (c.in_ok-pushed.ensures.same is).0)
+    (λ is. subst (λ (i : ArchiveId). IfSome (g.D.Disk.view c.current_id.new.repo).now (λ f. StoresOnly stanza i wal f (sha1 bytes))) x.1 (c.in_ok-pushed.ensures.same is).0))

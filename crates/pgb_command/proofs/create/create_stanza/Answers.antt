@@ -1,10 +1,12 @@
-use Rattle.std.proofs.Common.{Option, ◌∙◌, sym, subst}
+use Rattle.std.proofs.Common.{Option, ◌∙◌, sym, subst, arith}
+use Rattle.pgb_outside.specs.Cause.{Rises}
+use Rattle.pgb_command.specs.Making.{MakeCause}
 use Rattle.std.specs.Prelude.{IfSome, IsSome}
 use Rattle.pgb_outside.specs.Content.{Content}
 use Rattle.pgb_command.proofs.Pushes.{finding_all, finding_both, rests_carried, rests_rests}
 use Rattle.pgb_outside.specs.Tree.{Nodes}
 use Rattle.pgb_command.specs.Cluster.{FolderTells}
-use Rattle.pgb_command.proofs.Creates.{does_part, does_whole, has_members}
+use Rattle.pgb_command.proofs.Creates.{does_part, does_whole, has_members, folder_cause_err}
 use Rattle.pgb_model.specs.Steps.{StanzaCreate}
 use Rattle.pgb_command.proofs.Carries.{rests_carry, rests_pass, carries_part, passes_part, carries_whole}
 use Rattle.pgb_command.proofs.create.create_stanza.Goals as goal
@@ -69,3 +71,11 @@ returns-clause-agrees g c = λ some. c.in_ok-make.ensures.agrees (subst (λ (o :
 
 pub returns-in_err-prepare-clause-stays : goal.returns-in_err-prepare-clause-stays
 returns-in_err-prepare-clause-stays g c = finding_all c.from_residual.result _ (rests_carried c.args.settings.now.stanza.now _ _ c.prepare.ensures.time c.prepare.ensures.now)
+
+pub returns-in_err-make-clause-cause : goal.returns-in_err-make-clause-cause
+returns-in_err-make-clause-cause g c =
+    folder_cause_err c.args.settings.now.stanza.now c.in_ok-told.told (g.D.Disk.view c.args.repo.now).now (g.T.Tree.nodes c.args.tree.now)
+    (subst (λ (o : Option Nodes). IfSome o (λ f. FolderTells f c.in_ok-told.told)) c.prepare.ensures.nodes c.in_ok-told.ensures.told)
+    (Rises (g.D.Disk.faults c.prepare.new.repo) (g.D.Disk.faults c.make.new.repo)) _ _ _ _ (λ rose. omega (arith, rose, c.prepare.ensures.repo_later))
+    c.from_residual-in_err-make.result c.in_err-make.field-0.0 c.from_residual-in_err-make.ensures.1
+    (subst (λ (o : Option Content). MakeCause c.args.settings.now.stanza.now c.in_ok-told.told o (Rises (g.D.Disk.faults c.prepare.new.repo) (g.D.Disk.faults c.make.new.repo)) c.in_err-make.field-0.0) c.prepare.ensures.now c.in_err-make.ensures.cause)
