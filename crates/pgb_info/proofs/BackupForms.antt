@@ -1,27 +1,25 @@
 -- From the faults of its sections to those of `backup.info`.
-use Rattle.std.proofs.Common.{◌≡◌, ◌≢◌, ◌⊎◌, ⊎_elim, inl, inr, ℕ, zero, suc, ◌+◌, ◌-◌, ◌<◌, ◌≤◌, ◌^◌, List, [], ◌∷◌, ◌++◌, map, length, Option, Some, None, refl, sym, ap, ap₂, ◌∙◌, subst, arith, decimal, lit≤, lit<}
+use Rattle.std.proofs.Common.{◌≡◌, ◌≢◌, ◌⊎◌, ⊎_elim, inl, inr, ℕ, zero, suc, ◌+◌, ◌-◌, ◌<◌, ◌≤◌, ◌^◌, List, [], ◌∷◌, ◌++◌, map, length, Option, Some, refl, sym, ap, ap₂, ◌∙◌, subst, arith, decimal, lit<}
 use Rattle.std.specs.Prelude.{codes, slice_get, max, true}
 use Rattle.std.specs.List.{AllByRecursion}
-use Rattle.std.proofs.lemmas.Bool.{cases_eq}
 use Rattle.std.proofs.lemmas.Fmt.{decimal_digit}
 use Rattle.std.proofs.lemmas.List.{length-map}
 use Rattle.serde_json.specs.Data.{Data}
 use Rattle.serde_json.specs.Find.{get}
-use Rattle.pgb_outside.specs.Order.{is_before}
 use Rattle.pgb_model.specs.declared.clusters.Cluster.{Cluster}
 use Rattle.pgb_model.specs.Text.{Text, In}
 use Rattle.pgb_model.specs.InfoText.{Section, IsSection, IsInfo, head_name, has_keys}
-use Rattle.pgb_model.specs.Fields.{Field, section, by_key, at_number, fields_of, whole}
+use Rattle.pgb_model.specs.Fields.{Field, by_key, at_number, whole}
 use Rattle.pgb_model.specs.InfoFiles.{IsCluster, cluster_fields, cluster_field, entry_field, IsListedEntry, AreListed, AreFrom, backup_sections, IsBackupInfo}
 use Rattle.pgb_model.specs.Values.{Entry, BackupInfo}
 use Rattle.pgb_info.specs.Agree.{HasKey, AgreeAt, KeysAgree, IsOrdered, db as db_name, db_history}
-use Rattle.pgb_info.specs.BackupForm.{backup_current, backup_names, highest, AgreeIn, AgreeBefore, HasClusters, HasBefore, IsBackupForm, KeysAgreeBefore, IsList, IsWrongBackup, IsWrongCluster, IsKeysOf}
+use Rattle.pgb_info.specs.BackupForm.{backup_current, backup_names, highest, AgreeIn, AgreeBefore, HasClusters, HasBefore, IsBackupForm, IsList, IsWrongBackup, IsWrongCluster, IsKeysOf}
 use Rattle.pgb_info.specs.History.{IsHistory, IsWrongHistory}
 use Rattle.pgb_info.proofs.BackupRules.{listed, db, history, backup_sections_are, backup_is_info}
 use Rattle.pgb_info.proofs.ClusterFields.{same_cluster}
 use Rattle.pgb_info.proofs.Identities.{same_number}
 use Rattle.pgb_info.proofs.ListedKeys.{many, list_sorted}
-use Rattle.pgb_info.proofs.Numbers.{all_in, in_map, map_in, entry_at, read_at}
+use Rattle.pgb_info.proofs.Numbers.{all_in, in_map, entry_at, read_at}
 use Rattle.pgb_info.proofs.Sorted.{Sorted, unique, fits, same_list, by_key_in, length_by_key}
 
 abbrev pub id_of : Cluster → ℕ

@@ -1,6 +1,6 @@
 -- A field of `backup.info`'s history is of one cluster.
 use Rattle.std.proofs.Common.{◌≡◌, ◌<◌, ◌^◌, ℕ, zero, suc, List, [], ◌∷◌, refl, ap, arith, decimal, lit≤}
-use Rattle.serde_json.specs.Data.{Data, Members, no_members, number, unsigned, string, null, object, member}
+use Rattle.serde_json.specs.Data.{Data, number, unsigned, string, null, object, member}
 use Rattle.pgb_model.specs.declared.clusters.Cluster.{Cluster}
 use Rattle.pgb_model.specs.InfoText.{IsKey}
 use Rattle.pgb_model.specs.Fields.{Field}

@@ -1,14 +1,14 @@
 -- A value is of one label, one segment or one list of labels.
-use Rattle.std.proofs.Common.{◌≡◌, ◌≢◌, ℕ, suc, ◌+◌, ◌<◌, ◌≤◌, ◌^◌, List, [], ◌∷◌, ◌++◌, map, drop, get_or, length, Option, Some, None, Bool, true, false, Equal, nat_cmp, refl, sym, ap, ap₂, ◌∙◌, subst, arith, append_assoc, codes}
+use Rattle.std.proofs.Common.{◌≡◌, ℕ, suc, ◌+◌, ◌<◌, ◌≤◌, ◌^◌, List, [], ◌∷◌, ◌++◌, map, drop, get_or, length, Option, Some, None, Bool, true, false, Equal, nat_cmp, refl, sym, ap, ap₂, ◌∙◌, arith, append_assoc}
 use Rattle.std.specs.Prelude.{IfSome, option_map, ◌&&◌}
 use Rattle.std.specs.List.{AllByRecursion}
 use Rattle.std.proofs.Math.Seq.{drop-cons}
 use Rattle.std.proofs.Math.ListN.{drop_of_length-le}
 use Rattle.std.proofs.lemmas.Cmp.{nat_list_cmp_total, tied_itself}
 use Rattle.std.proofs.lemmas.Bool.Decides.{nat_tests}
-use Rattle.serde_json.specs.Data.{Data, null, string, Items, no_items, item, array}
+use Rattle.serde_json.specs.Data.{Data, null, string, Items}
 use Rattle.serde_json.specs.View.{items_of}
-use Rattle.serde_json.specs.Find.{as_str, as_null, as_array}
+use Rattle.serde_json.specs.Find.{as_str, as_array}
 use Rattle.pgb_outside.specs.Order.{is_before, are_after, are_in_order}
 use Rattle.pgb_model.specs.declared.labels.Label.{Label}
 use Rattle.pgb_model.specs.declared.wal.Segment.{Segment}

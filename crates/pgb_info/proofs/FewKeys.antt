@@ -1,5 +1,5 @@
 -- A text within the limit has fewer keys than there are numbers of 32 bits.
-use Rattle.std.proofs.Common.{ℕ, ◌+◌, ◌<◌, ◌≤◌, ◌^◌, List, [], ◌∷◌, ◌++◌, length, arith, length-append, codes}
+use Rattle.std.proofs.Common.{ℕ, ◌<◌, ◌≤◌, ◌^◌, List, [], ◌∷◌, ◌++◌, length, arith, length-append, codes}
 use Rattle.std.specs.List.{AllByRecursion, flat_map}
 use Rattle.sha1.specs.Sha1.{sha1}
 use Rattle.serde_json.specs.Written.{compact_text}

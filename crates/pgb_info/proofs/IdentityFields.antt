@@ -1,5 +1,5 @@
 -- A field of `archive.info`'s history is of one cluster.
-use Rattle.std.proofs.Common.{◌≡◌, ◌<◌, ◌^◌, refl, ap, arith, decimal, lit≤}
+use Rattle.std.proofs.Common.{◌≡◌, refl, ap, arith, decimal, lit≤}
 use Rattle.serde_json.specs.Data.{Data, number, unsigned, string, object, member}
 use Rattle.pgb_model.specs.declared.clusters.ClusterId.{ClusterId}
 use Rattle.pgb_model.specs.InfoText.{IsKey}

@@ -1,5 +1,5 @@
 -- A label's text tells the label.
-use Rattle.std.proofs.Common.{◌≡◌, ◌≢◌, ℕ, ◌≤◌, List, [], ◌∷◌, ◌++◌, Option, Some, None, refl, sym, ap, ◌∙◌, arith}
+use Rattle.std.proofs.Common.{◌≡◌, ◌≢◌, ◌≤◌, [], ◌∷◌, ◌++◌, Option, Some, None, refl, ap, arith}
 use Rattle.std.specs.Prelude.{IfSome}
 use Rattle.pgb_model.specs.declared.labels.Kind.{Kind}
 use Rattle.pgb_model.specs.declared.labels.Kind.TheVariants.{Full, Diff, Incr}

@@ -1,7 +1,6 @@
 -- Backups that are listed one after another, and the keys that tell them.
-use Rattle.std.proofs.Common.{◌≡◌, ◌≢◌, ⊎_elim, inl, inr, ℕ, zero, suc, ◌+◌, ◌<◌, ◌≤◌, ◌^◌, Bool, true, false, ◌&&◌, List, [], ◌∷◌, ◌++◌, map, take, drop, length, get_or, Option, Some, None, refl, sym, ap, ap₂, ◌∙◌, subst, append_assoc, arith, take-append-drop}
-use Rattle.std.specs.Prelude.{IfSome, IfNone, IsTrue, Any, codes, slice_index_or}
-use Rattle.std.specs.List.{AllByRecursion}
+use Rattle.std.proofs.Common.{◌≡◌, ⊎_elim, inl, inr, ℕ, zero, suc, ◌+◌, ◌<◌, ◌≤◌, true, List, [], ◌∷◌, ◌++◌, map, take, drop, length, get_or, Option, Some, None, refl, sym, ap, ◌∙◌, subst, append_assoc, arith, take-append-drop}
+use Rattle.std.specs.Prelude.{IfSome, Any, codes, slice_index_or}
 use Rattle.std.proofs.Math.ListN.{drop_of_length-le}
 use Rattle.std.proofs.lemmas.Bool.{and_parts}
 use Rattle.std.proofs.lemmas.List.{append-nil, map-append, append_cancel_right}
@@ -14,21 +13,18 @@ use Rattle.pgb_model.specs.Fields.{Field, or_null}
 use Rattle.pgb_model.specs.Names.{label_text}
 use Rattle.pgb_model.specs.InfoFiles.{IsLabel, label_value, entry_field, IsListedEntry, AreListed}
 use Rattle.pgb_model.specs.Values.{Entry}
-use Rattle.pgb_info.specs.declared.fault.PartsFault.{PartsFault}
-use Rattle.pgb_info.specs.Fault.{IfForm}
 use Rattle.pgb_info.specs.Agree.{KeysAgree, IsOrdered}
-use Rattle.pgb_info.specs.Entries.{HasLabels, IsEntry}
-use Rattle.pgb_info.specs.BackupForm.{backup_current, HasLabel, IsList, IsNext, IsWrongBackup, KeysAgreeBefore}
+use Rattle.pgb_info.specs.Entries.{IsEntry}
+use Rattle.pgb_info.specs.BackupForm.{HasLabel, IsList, IsNext, IsWrongBackup, KeysAgreeBefore}
 use Rattle.pgb_info.proofs.ByKey.{both, after_nothing}
-use Rattle.pgb_info.proofs.CurrentRules.{form_as}
 use Rattle.pgb_info.proofs.EntryParts.{same_label}
 use Rattle.pgb_info.proofs.EntryRules.{HasLabels-listed}
 use Rattle.pgb_info.proofs.LabelTexts.{label_text-injective}
 use Rattle.pgb_info.proofs.Numbers.{in_map, map_in}
 use Rattle.pgb_info.proofs.PlainTexts.{label_some}
 use Rattle.pgb_info.proofs.Seeking.{opened}
-use Rattle.pgb_info.proofs.Sorted.{Before, Sorted, rest}
-use Rattle.pgb_info.proofs.Walked.{in_front, in_back, in_parts, front_first, behind, before_agree, head_not, sorted_front}
+use Rattle.pgb_info.proofs.Sorted.{Before}
+use Rattle.pgb_info.proofs.Walked.{in_back, in_parts, front_first, behind, before_agree, head_not, sorted_front}
 
 abbrev pub many : ℕ
 many = 4294967296

@@ -1,5 +1,5 @@
 -- The digits of a second tell it, and where they end.
-use Rattle.std.proofs.Common.{◌≡◌, ◌≢◌, ℕ, ◌+◌, ◌*◌, ◌/◌, ◌%◌, ◌<◌, ◌≤◌, List, [], ◌∷◌, ◌++◌, refl, sym, ap, ◌∙◌, subst, arith, ℤ, pos, negsuc, ◌≤ℤ◌, unsigned_abs}
+use Rattle.std.proofs.Common.{◌≡◌, ℕ, ◌+◌, ◌*◌, ◌/◌, ◌%◌, ◌<◌, ◌≤◌, List, ◌∷◌, ◌++◌, refl, sym, ap, ◌∙◌, subst, arith, ℤ, pos, negsuc, ◌≤ℤ◌, unsigned_abs}
 use Rattle.jiff_core.specs.Calendar.{IsCivilDate, days_from_civil}
 use Rattle.jiff_core.specs.declared.civil.date.Date as calendar
 use Rattle.jiff_core.specs.Date.{epoch_day}
@@ -8,7 +8,7 @@ use Rattle.jiff_core.proofs.CalendarLemmas.{days_in_month_bounds}
 use Rattle.jiff_core.proofs.DateLemmas.{civil}
 use Rattle.pgb_model.specs.Dates.{Date, two, date_digits, clock_digits, date_after, stamp, last_second}
 use Rattle.pgb_info.specs.Calendar.{parts_of}
-use Rattle.pgb_info.proofs.Dates.{IsDated, number, number_of_day, in_calendar, date_of_day, IsDated-date_after}
+use Rattle.pgb_info.proofs.Dates.{IsDated, number, number_of_day, in_calendar, IsDated-date_after}
 
 pub same_two : (a b : ℕ) (r s : List ℕ) → a < 100 → b < 100 → two a ++ r ≡ two b ++ s → (a ≡ b) × (r ≡ s)
 same_two a b r s h g e =

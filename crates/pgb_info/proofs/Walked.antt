@@ -5,13 +5,12 @@ use Rattle.std.specs.Ordering.{match_ordering, ordering_reverse}
 use Rattle.std.proofs.lemmas.Cmp.{nat_list_cmp_total}
 use Rattle.std.proofs.lemmas.Map.Text.{is_eq-slice_cmp}
 use Rattle.std.proofs.lemmas.Slice.Eq.{bytes_eq-Decides}
-use Rattle.serde_json.specs.Data.{Data}
 use Rattle.std.proofs.lemmas.Bool.{and_parts}
 use Rattle.pgb_outside.specs.Order.{is_before, are_after}
 use Rattle.pgb_model.specs.Text.{Text, In}
 use Rattle.pgb_model.specs.Fields.{Field}
 use Rattle.pgb_ini.proofs.Orders.{less_from, not_itself}
-use Rattle.pgb_info.specs.Agree.{KeysAgree, IsOrdered}
+use Rattle.pgb_info.specs.Agree.{IsOrdered}
 use Rattle.pgb_info.specs.BackupForm.{IsFirstDifference, KeysAgreeBefore}
 use Rattle.pgb_info.proofs.ByKey.{both}
 use Rattle.pgb_info.proofs.Seeking.{opened, ended}

@@ -1,5 +1,5 @@
 -- Which sections are those of no value of `backup.info`, and at which key.
-use Rattle.std.specs.Prelude.{◌≡◌, ◌≢◌, ◌≤◌, ◌<◌, ◌^◌, ◌⊎◌, ℕ, max, List, [], ◌∷◌, map, length, true, codes, IfSome}
+use Rattle.std.specs.Prelude.{◌≡◌, ◌≢◌, ◌≤◌, ◌⊎◌, ℕ, max, List, [], ◌∷◌, map, length, true, codes, IfSome}
 use Rattle.pgb_outside.specs.Order.{is_before, are_in_order}
 use Rattle.serde_json.specs.Data.{Data}
 use Rattle.pgb_model.specs.declared.clusters.Cluster.{Cluster}

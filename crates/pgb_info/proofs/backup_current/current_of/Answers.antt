@@ -1,14 +1,13 @@
 use Rattle.std.proofs.Common.{◌≡◌, List, String, Global, map, refl, sym, ap, ◌∙◌, subst, arith}
 use Rattle.std.specs.List.{AllByRecursion}
 use Rattle.serde_json.specs.declared.value.Value.{Value}
-use Rattle.pgb_model.specs.Text.{Text}
 use Rattle.pgb_model.specs.InfoText.{Section, IsKey}
 use Rattle.pgb_model.specs.Fields.{Field}
-use Rattle.pgb_model.specs.InfoFiles.{IsCluster, cluster_fields}
+use Rattle.pgb_model.specs.InfoFiles.{IsCluster}
 use Rattle.pgb_ini.specs.Parts.{key_of}
 use Rattle.pgb_info.specs.Agree.{db as db_name, IsOrdered}
 use Rattle.pgb_info.specs.BackupForm.{IsFirstDifference, IsWrongCluster}
-use Rattle.pgb_info.proofs.BackupRules.{db, db_rules}
+use Rattle.pgb_info.proofs.BackupRules.{db_rules}
 use Rattle.pgb_info.proofs.ClusterKeys.{IsCandidate, wrong_cluster}
 use Rattle.pgb_info.proofs.CurrentRules.{form_as}
 use Rattle.pgb_info.proofs.backup_current.current_of.Goals as goal

@@ -1,12 +1,10 @@
-use Rattle.std.proofs.Common.{List, String, Global, map, sym, ap, subst}
+use Rattle.std.proofs.Common.{List, String, Global, map, sym, subst}
 use Rattle.std.specs.List.{AllByRecursion}
 use Rattle.serde_json.specs.declared.value.Value.{Value}
-use Rattle.pgb_model.specs.Fields.{Field}
 use Rattle.pgb_model.specs.InfoText.{IsKey, IsSection}
 use Rattle.pgb_ini.specs.Parts.{key_of, section_of, sections_of}
 use Rattle.pgb_info.specs.Agree.{IsOrdered}
 use Rattle.pgb_info.proofs.Numbers.{all_in}
-use Rattle.pgb_info.proofs.BackupForms.{listed_form}
 use Rattle.pgb_info.proofs.backup_reading.keys_at.Goals as goal
 
 abbrev Keys : Type 0

@@ -1,4 +1,4 @@
-use Rattle.std.proofs.Common.{[], ◌∷◌, ◌≤◌, ℕ, List, String, Global, map, length, refl, sym, ap, ap₂, ◌∙◌, subst, arith, string_bytes}
+use Rattle.std.proofs.Common.{[], ◌≤◌, ℕ, List, String, Global, map, length, refl, sym, ap, ap₂, ◌∙◌, subst, arith, string_bytes}
 use Rattle.std.specs.Prelude.{if◌then◌else◌}
 use Rattle.serde_json.specs.declared.value.Value.{Value}
 use Rattle.pgb_outside.specs.Order.{is_before}

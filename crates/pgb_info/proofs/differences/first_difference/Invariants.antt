@@ -1,4 +1,4 @@
-use Rattle.std.proofs.Common.{◌+◌, ◌-◌, length}
+use Rattle.std.proofs.Common.{◌-◌, length}
 use Rattle.pgb_ini.specs.Parts.{key_of}
 use Rattle.pgb_info.proofs.Walked.{Walked}
 use Rattle.pgb_info.proofs.differences.first_difference.Given as goal

@@ -1,4 +1,4 @@
-use Rattle.std.proofs.Common.{List, sym, subst, arith}
+use Rattle.std.proofs.Common.{sym, subst, arith}
 use Rattle.std.proofs.lemmas.List.{length-map}
 use Rattle.pgb_ini.specs.Parts.{key_of, keys_of}
 use Rattle.pgb_info.proofs.HistoryRules.{SoFar, one_more, is_history, has_keys}

@@ -1,9 +1,8 @@
-use Rattle.std.proofs.Common.{◌≡◌, ◌+◌, ◌-◌, ◌/◌, Bool, true, false, List, ℕ, String, Global, map, drop, length, refl, sym, ap, ◌∙◌, subst, arith, string_bytes}
+use Rattle.std.proofs.Common.{◌≡◌, ◌+◌, ◌-◌, ◌/◌, Bool, true, false, List, ℕ, String, Global, map, drop, refl, sym, ap, ◌∙◌, subst, arith, string_bytes}
 use Rattle.std.specs.Prelude.{IsTrue}
-use Rattle.serde_json.specs.Data.{Data}
 use Rattle.serde_json.specs.declared.value.Value.{Value}
 use Rattle.pgb_outside.specs.Order.{is_before}
-use Rattle.pgb_model.specs.Text.{Text, In}
+use Rattle.pgb_model.specs.Text.{In}
 use Rattle.pgb_ini.specs.Parts.{key_of}
 use Rattle.pgb_info.proofs.Halves.{not_above, above, here}
 use Rattle.pgb_info.proofs.Seeking.{told_same, told_apart}

@@ -1,8 +1,5 @@
-use Rattle.std.proofs.Common.{◌≡◌, ◌∷◌, ◌++◌, ◌+◌, List, [], String, Global, map, drop, refl, sym, ap, ◌∙◌, subst, string_bytes}
+use Rattle.std.proofs.Common.{◌≡◌, ◌∷◌, ◌++◌, ◌+◌, List, [], map, drop, refl, sym, ap, ◌∙◌, subst}
 use Rattle.std.proofs.lemmas.List.{map-append}
-use Rattle.serde_json.specs.declared.value.Value.{Value}
-use Rattle.pgb_model.specs.declared.labels.Entry as rust
-use Rattle.pgb_model.specs.Text.{Text}
 use Rattle.pgb_model.specs.InfoText.{IsKey}
 use Rattle.pgb_model.specs.InfoFiles.{entry_field, AreListed}
 use Rattle.pgb_model.specs.Values.{Entry, entry_of}

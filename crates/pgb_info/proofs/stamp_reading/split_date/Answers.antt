@@ -1,4 +1,4 @@
-use Rattle.std.proofs.Common.{◌/◌, ◌%◌, ◌++◌, sym, ◌∙◌, arith}
+use Rattle.std.proofs.Common.{◌++◌, sym, ◌∙◌}
 use Rattle.pgb_model.specs.Dates.{two}
 use Rattle.pgb_info.specs.Calendar.{parts_of}
 use Rattle.pgb_info.proofs.StampTexts.{same_year, same_two, digits_civil, no_date}

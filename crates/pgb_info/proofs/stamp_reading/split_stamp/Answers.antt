@@ -1,4 +1,4 @@
-use Rattle.std.proofs.Common.{◌≡◌, ◌+◌, ◌*◌, ◌/◌, ◌%◌, ◌∷◌, ◌++◌, sym, ap, ◌∙◌, arith}
+use Rattle.std.proofs.Common.{◌≡◌, ◌/◌, ◌%◌, ◌∷◌, ◌++◌, sym, ap, ◌∙◌, arith}
 use Rattle.pgb_model.specs.Dates.{date_digits, clock_digits, date_after}
 use Rattle.pgb_info.proofs.StampTexts.{same_date, digits_of_day, stamp_parts, stamp_of}
 use Rattle.pgb_info.proofs.stamp_reading.split_stamp.Goals as goal

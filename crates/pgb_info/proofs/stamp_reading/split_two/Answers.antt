@@ -1,4 +1,4 @@
-use Rattle.std.proofs.Common.{◌≡◌, ℕ, ◌+◌, ◌/◌, ◌%◌, ◌∷◌, List, sym, ◌∙◌, arith}
+use Rattle.std.proofs.Common.{◌≡◌, ◌+◌, ◌/◌, ◌%◌, ◌∷◌, sym, ◌∙◌, arith}
 use Rattle.pgb_info.proofs.stamp_reading.split_two.Goals as goal
 
 pub returns-in_err-units-clause-none : goal.returns-in_err-units-clause-none
