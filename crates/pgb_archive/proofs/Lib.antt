@@ -5,6 +5,7 @@ pub mod Picked
 pub mod Owns
 pub mod Looked
 pub mod Got
+pub mod Listed
 pub mod Placed
 pub mod OnePushed
 pub mod Receipts
