@@ -1,6 +1,6 @@
 -- The push of a file, as a part of a command.
-use Rattle.std.proofs.Common.{◌≡◌, ◌⊎◌, ⊎_elim, inl, inr, List, [], ◌∷◌, map, Bool, true, false, Option, Some, None, refl, ap, ap₂, ◌∙◌, sym, subst}
-use Rattle.std.specs.Prelude.{IsSome, IsSomeAnd, IfSome, if◌then◌else◌}
+use Rattle.std.proofs.Common.{◌≡◌, ◌⊎◌, inl, inr, List, [], ◌∷◌, map, Bool, true, false, Option, Some, None, refl, ap, ap₂, ◌∙◌, sym, subst}
+use Rattle.std.specs.Prelude.{IsSome, IfSome, if◌then◌else◌}
 use Rattle.std.proofs.lemmas.Slice.Eq.{bytes_eq-Decides}
 use Rattle.sha1.specs.Sha1.{sha1}
 use Rattle.pgb_text.specs.Sum.{IsSum}
@@ -12,11 +12,11 @@ use Rattle.pgb_outside.proofs.Nows.{told_as}
 use Rattle.pgb_model.specs.declared.wal.ArchiveId.{ArchiveId}
 use Rattle.pgb_model.specs.declared.wal.ArchiveName.{ArchiveName}
 use Rattle.pgb_model.specs.declared.wal.ArchiveName.TheVariants.{Segment as Whole, Partial, History, Backup}
-use Rattle.pgb_model.specs.Text.{Text, ◌⫽◌, In}
+use Rattle.pgb_model.specs.Text.{Text, ◌⫽◌}
 use Rattle.pgb_model.specs.Names.{id_text, wal_text}
 use Rattle.pgb_model.specs.Repository.{Archived, Stanza}
 use Rattle.pgb_model.specs.Stands.{Stands, HasStanza, IsArchivePlace, stored_name}
-use Rattle.pgb_model.specs.Steps.{Step, One, IsPartOf, changed, after, after_all, Push, push_of, is_archived, is_same_file}
+use Rattle.pgb_model.specs.Steps.{Step, One, IsPartOf, changed, after_all, Push, push_of, is_archived, is_same_file}
 use Rattle.pgb_model.specs.Now.{NowStands}
 use Rattle.pgb_model.specs.Steady.{IsSteady, Moves}
 use Rattle.pgb_model.proofs.Done.{part_none}
