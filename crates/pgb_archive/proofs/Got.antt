@@ -141,14 +141,18 @@ module _ (stanza : Text) (id : ArchiveId) (name : ArchiveName) (place : (sum : T
   found_as : (f : Content) (kept : Kept) (file : Stored) → ShowsOne stanza id name f kept → IsStoredAs id name kept file → Finds stanza id name f (Some file)
   found_as f kept file shows told =
       let sum = kept.sum.0 in
-      let is = (stored_has name (f (archive_path stanza id name sum)) sum shows.only.stored).0 in
-      (told.of_id, told.of_name, record {
-        sum = sum;
-        fits = subst (λ (k : ArchiveId). IsArchivePlace k file.name sum) (sym told.of_id) (subst (λ (n : ArchiveName). IsArchivePlace id n sum) (sym told.of_name) (place sum is));
-        path = told.path ∙ shows.path ∙ sym (ap₂ (λ (k : ArchiveId) (n : ArchiveName). archive_path stanza k n sum) told.of_id told.of_name);
-        told = told.sum ∙ ap (λ (n : ArchiveName). told_sum n sum) (sym told.of_name);
-        size = subst (λ (t : Text). IsSomeAnd (f t) (λ bytes. length bytes ≡ file.size)) (sym told.path) (subst (λ (n : ℕ). IsSomeAnd (f (string_bytes kept.path)) (λ bytes. length bytes ≡ n)) (sym told.size) shows.size);
-      }, (sum, shows.only, told.path ∙ shows.path))
+      let is = (stored_has name (f (archive_path stanza id name sum)) sum shows.only.stored).0 in (
+        told.of_id,
+        told.of_name,
+        record {
+          sum = sum;
+          fits = subst (λ (k : ArchiveId). IsArchivePlace k file.name sum) (sym told.of_id) (subst (λ (n : ArchiveName). IsArchivePlace id n sum) (sym told.of_name) (place sum is));
+          path = told.path ∙ shows.path ∙ sym (ap₂ (λ (k : ArchiveId) (n : ArchiveName). archive_path stanza k n sum) told.of_id told.of_name);
+          told = told.sum ∙ ap (λ (n : ArchiveName). told_sum n sum) (sym told.of_name);
+          size = subst (λ (t : Text). IsSomeAnd (f t) (λ bytes. length bytes ≡ file.size)) (sym told.path) (subst (λ (n : ℕ). IsSomeAnd (f (string_bytes kept.path)) (λ bytes. length bytes ≡ n)) (sym told.size) shows.size);
+        },
+        (sum, shows.only, told.path ∙ shows.path),
+      )
 
   pub finds_one : (o : Option Content) (names : FileNames) (look : Look) (kept : Kept) (file : Stored) → AreNamesOf stanza id name names
       → IfSome o (λ f. (stanza : Text) (id : ArchiveId) (name : ArchiveName) → AreNamesOf stanza id name names → Shows stanza id name f look) → look ≡ One kept → IsStoredAs id name kept file → IfSome o (λ f. Finds stanza id name f (Some file))

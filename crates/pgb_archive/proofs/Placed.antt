@@ -27,9 +27,9 @@ use Rattle.pgb_archive.specs.declared.fault.ArchiveFault.{ArchiveFault}
 use Rattle.pgb_archive.specs.declared.fault.ArchiveFault.TheVariants.{HeaderForm, SegmentSize, HeaderMismatch, Ambiguous, Duplicate, NotFound, SegmentDamaged, TooLong, TooMany, Disk, NoMemory}
 use Rattle.pgb_archive.specs.declared.looking.Kept.{Kept}
 use Rattle.pgb_archive.specs.declared.looking.Look.{Look}
-use Rattle.pgb_archive.specs.declared.looking.Look.TheVariants.{Free, One}
+use Rattle.pgb_archive.specs.declared.looking.Look.TheVariants.{Free, One, Two}
 use Rattle.pgb_archive.specs.declared.names.FileNames.{FileNames}
-use Rattle.pgb_archive.specs.Stored.{archived_file, archive_path, StoresNone, ChangesArchive}
+use Rattle.pgb_archive.specs.Stored.{archived_file, archive_path, StoresNone, StoresTwo, ChangesArchive}
 use Rattle.pgb_archive.specs.Paths.{has_sum, folder_text}
 use Rattle.pgb_archive.specs.Causes.{IsFileOf, PushCause}
 use Rattle.pgb_archive.specs.Looks.{file_place, dash, sum_digits, path_with, AreNamesOf, Shows, ShowsOne, LookCause}
@@ -71,6 +71,10 @@ module _ (stanza : Text) (id : ArchiveId) (name : ArchiveName) (names : FileName
   pub shown_one : (o : Option Content) (look : Look) (kept : Kept) → look ≡ One kept → Told o names look → IfSome o (StoresSome stanza id name)
   shown_one None look kept is told = tt
   shown_one (Some f) look kept is told = let one : ShowsOne stanza id name f kept = subst (λ (l : Look). Shows stanza id name f l) is (told stanza id name of) in (kept.sum.0, one.only.stored)
+
+  pub shown_two : (o : Option Content) (look : Look) (a b : _) → look ≡ Two a b → Told o names look → IfSome o (StoresSome stanza id name)
+  shown_two None look a b is told = tt
+  shown_two (Some f) look a b is told = let two : StoresTwo stanza id name f (string_bytes a) (string_bytes b) = subst (λ (l : Look). Shows stanza id name f l) is (told stanza id name of) in (two.first_sum, two.first_stored)
 
   -- the names by their texts
   pub temporary_of : IsTemporary (string_bytes names.temporary)

@@ -94,7 +94,9 @@ fn folder_of<'a>(name: &ArchiveName, file: &'a [u8]) -> Option<&'a [u8]>
 {
     match name {
         ArchiveName::History(_) => None,
-        ArchiveName::Segment(_) | ArchiveName::Partial(_) | ArchiveName::Backup(..) => file.get(..16),
+        ArchiveName::Segment(_) | ArchiveName::Partial(_) | ArchiveName::Backup(..) => file.get(
+            ..16,
+        ),
     }
 }
 
