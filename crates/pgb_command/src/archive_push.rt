@@ -77,15 +77,12 @@ fn store<D: Disk, T: Tree>(
     let told = read_cluster(alloc, tree)?;
     let id = current_id(alloc, repo, settings.stanza, &told)?;
     let bytes = read_file(alloc, tree, path, &file.text, limit_of(&file.name))?;
-    let ArchiveName::Segment(segment) = &file.name else {
-        return Err(Fault::NoMemory);
-    };
     let pushed = push(
         alloc,
         repo,
         settings.stanza,
         &id,
-        segment,
+        &file.name,
         told.system,
         &bytes,
     )?;

@@ -14,7 +14,7 @@ use Rattle.pgb_model.specs.Values.{BackupInfo, Entry}
 use Rattle.pgb_ini.proofs.OneText.{one_sections}
 use Rattle.pgb_info.proofs.BackupRules.{listed, db, history, backup_sections_are, backup_is_info}
 use Rattle.pgb_info.proofs.Found.{found}
-use Rattle.pgb_info.proofs.HistoryRules.{all_in, map_in, same_digits}
+use Rattle.pgb_info.proofs.Numbers.{all_in, map_in, same_digits}
 use Rattle.pgb_info.proofs.Mends.{same_text}
 use Rattle.pgb_info.proofs.Sorted.{by_key_in, in_by_key, length_by_key}
 
