@@ -93,16 +93,14 @@ fetch() {
 
 stored=$(find repo -type f | LC_ALL=C sort | xargs sha1sum)
 for file in sent/*; do
-    for path in "$served" "$room/pg/$served"; do
-        rm -f "pg/$served"
-        fetch 0 '' "$(basename "$file")" "$path"
-        cmp -s "$file" "pg/$served" || complain "$(basename "$file") isn't served as it was"
-    done
+    rm -f "pg/$served"
+    fetch 0 '' "$(basename "$file")" "$served"
+    cmp -s "$file" "pg/$served" || complain "$(basename "$file") isn't served as it was"
 done
 [ "$(stat -c %a "pg/$served")" = 600 ] || complain 'a served file has another mode than 600'
-# A file that is there gives way.
+# A file that is there gives way, also at the whole path.
 printf 'old' >"pg/$served"
-fetch 0 '' 00000002.history "$served"
+fetch 0 '' 00000002.history "$room/pg/$served"
 cmp -s sent/00000002.history "pg/$served" || complain 'what was there before is left'
 rm "pg/$served"
 
