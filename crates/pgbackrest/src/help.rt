@@ -77,7 +77,10 @@ fn add_commands(alloc: Global, text: &mut String, built: bool) -> Result<(), All
 }
 
 fn is_built(verb: Verb) -> bool {
-    matches!(verb, Verb::StanzaCreate | Verb::ArchivePush | Verb::ArchiveGet)
+    matches!(
+        verb,
+        Verb::StanzaCreate | Verb::ArchivePush | Verb::ArchiveGet
+    )
 }
 
 // The parameters of a command and what it does. The program starts the asynchronous forms itself.
