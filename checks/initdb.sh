@@ -102,6 +102,10 @@ want 2 'ERROR: [002]: no command found
 want 100 "ERROR: [100]: 'online' is not built yet
 " --stanza=demo --pg1-path=pg stanza-create
 program --help >help
+for words in 'help' '-h' 'help archive-get' 'archive-get --help'; do
+    read -ra asked <<<"$words"
+    program "${asked[@]}" | cmp -s help - || complain "$words shows other help"
+done
 program version >version
 head -n 1 help | cmp -s - version || complain 'the help and the version tell different versions'
 for form in 'archive-push PATH' 'archive-get NAME PATH'; do
