@@ -1,45 +1,15 @@
 #!/usr/bin/env bash
 # archive-push of the segments that a server of PostgreSQL 15 writes: each stored file is the server's, byte by byte.
-. "$(dirname "$0")/common"
-as=()
-stop_server() {
-    if [ -f "$room/pg/postmaster.pid" ]; then
-        "${as[@]}" "$tools/pg_ctl" -D "$room/pg" -m "$1" -t 300 -w stop >/dev/null
-    fi
-}
-trap 'stop_server immediate || true; rm -rf "$room"' EXIT
-# the server's user can't reach the repository's own folder
-install -m 755 "$top/bin/pgbackrest" pgbackrest
+. "$(dirname "$0")/server"
 
-# What the server does is done as the user whose the cluster is.
-if [ "$(id -u)" = 0 ]; then
-    as=(setpriv --reuid=65534 --regid=65534 --clear-groups)
-    install -d -o 65534 -g 65534 repo lock socket
-else
-    mkdir repo lock socket
-fi
-folders=(--stanza=demo --pg1-path="$room/pg" --repo1-path="$room/repo" --lock-path="$room/lock")
-
-program() {
-    (cd pg && "${as[@]}" ../pgbackrest "${folders[@]}" "$@")
-}
-
-ask() {
-    "${as[@]}" "$tools/psql" -h "$room/socket" -U postgres -AtXq -c "$1"
-}
-
-want 0 '' --no-online stanza-create
-
-# A server that keeps its segments, and hands each one over.
-"${as[@]}" "$tools/pg_ctl" -D "$room/pg" -l "$room/pg/log" -w -o "-c listen_addresses='' -c unix_socket_directories='$room/socket' -c wal_keep_size=1GB -c archive_mode=on -c archive_command='$room/pgbackrest ${folders[*]} archive-push %p'" start >/dev/null
-for number in 1 2 3 4; do
-    ask "create table t$number as select md5(i::text) from generate_series(1, ${number}0000) i" >/dev/null
-    last=$(ask 'select pg_walfile_name(pg_switch_wal())')
+want 0 '' stanza-create
+configure
+start_server
+for table in rows1 rows2 rows3 rows4; do
+    fill "$table"
+    last=$(switch)
 done
-for _ in $(seq 120); do
-    if [ -f "pg/pg_wal/archive_status/$last.done" ]; then break; fi
-    sleep 0.5
-done
+await
 [ "$(ask 'select failed_count from pg_stat_archiver')" = 0 ] || complain "the server was refused a segment: $(tail -n 5 pg/log)"
 stop_server fast
 

@@ -67,10 +67,15 @@ done
 [ -z "$(find repo -type f ! -perm 600 2>/dev/null)" ] || complain 'a file has another mode than 600'
 [ -z "$(find repo -type d ! -perm 700 2>/dev/null)" ] || complain 'a folder has another mode than 700'
 
-create 100 "ERROR: [100]: 'existing stanza' is not built yet
-" repo
-for kind in archive backup; do
-    cmp -s "$kind.wanted" "repo/$kind/demo/$kind.info" || complain "$kind.info changed"
+# Again it is left as it is, and a member that is gone is written anew from the other.
+rm repo/archive/demo/archive.info repo/backup/demo/backup.info.copy
+for _ in 1 2; do
+    create 0 '' repo
+    for kind in archive backup; do
+        for name in "$kind.info" "$kind.info.copy"; do
+            cmp -s "$kind.wanted" "repo/$kind/demo/$name" || complain "$name isn't as it was"
+        done
+    done
 done
 
 mv pg/PG_VERSION version
@@ -97,7 +102,13 @@ want 2 'ERROR: [002]: no command found
 want 100 "ERROR: [100]: 'online' is not built yet
 " --stanza=demo --pg1-path=pg stanza-create
 program --help >help
+for words in 'help' '-h' 'help archive-get' 'archive-get --help'; do
+    read -ra asked <<<"$words"
+    program "${asked[@]}" | cmp -s help - || complain "$words shows other help"
+done
 program version >version
 head -n 1 help | cmp -s - version || complain 'the help and the version tell different versions'
-grep -q '^  archive-push PATH: ' help || complain 'the help has no archive-push'
+for form in 'archive-push PATH' 'archive-get NAME PATH'; do
+    grep -q "^  $form: " help || complain "the help has no $form"
+done
 exit "$wrong"

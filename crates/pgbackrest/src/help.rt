@@ -14,16 +14,30 @@ command line comes first, then these sections in this order.
 
 const WITHOUT_EFFECT: &str = "\nTaken and not used:";
 
-/// The text that the words ask for, where they are `help` or `version`, alone, with or without `--` in front.
+/// The text that the words ask for: the help or the version alone, the help of a command by a word before or behind it.
 pub fn asked_for(alloc: Global, words: &[String]) -> Result<Option<String>, AllocError> {
+    if ask_help(words) {
+        return Ok(Some(help(alloc)?));
+    }
     let [word] = words else {
         return Ok(None);
     };
     match word.as_str() {
-        "help" | "--help" => Ok(Some(help(alloc)?)),
         "version" | "--version" => Ok(Some(String::from_str(alloc, VERSION)?)),
         _ => Ok(None),
     }
+}
+
+fn ask_help(words: &[String]) -> bool {
+    match words {
+        [word] => word.as_str() == "help" || is_help(word),
+        [first, last] => first.as_str() == "help" || is_help(first) || is_help(last),
+        _ => false,
+    }
+}
+
+fn is_help(word: &str) -> bool {
+    word == "--help" || word == "-h"
 }
 
 fn help(alloc: Global) -> Result<String, AllocError> {
@@ -63,7 +77,10 @@ fn add_commands(alloc: Global, text: &mut String, built: bool) -> Result<(), All
 }
 
 fn is_built(verb: Verb) -> bool {
-    matches!(verb, Verb::StanzaCreate | Verb::ArchivePush)
+    matches!(
+        verb,
+        Verb::StanzaCreate | Verb::ArchivePush | Verb::ArchiveGet
+    )
 }
 
 // The parameters of a command and what it does. The program starts the asynchronous forms itself.
