@@ -14,7 +14,13 @@ mod failing;
 #[cfg(test)]
 mod fixture;
 #[cfg(test)]
+mod getting;
+#[cfg(test)]
+mod histories;
+#[cfg(test)]
 mod images;
+#[cfg(test)]
+mod keeping;
 #[cfg(test)]
 mod locks;
 #[cfg(test)]
@@ -25,6 +31,8 @@ mod pairs;
 mod pushing;
 #[cfg(test)]
 mod refusing;
+#[cfg(test)]
+mod serving;
 #[cfg(test)]
 mod settings;
 #[cfg(test)]
