@@ -20,15 +20,19 @@ use Rattle.pgb_model.specs.Stands.{HasStanza, IsArchivePlace, stored_name}
 use Rattle.pgb_model.specs.Now.{NowStands}
 use Rattle.pgb_model.proofs.Pushed.{at_told, file_of}
 use Rattle.pgb_archive.specs.declared.fault.ArchiveFault.{ArchiveFault}
-use Rattle.pgb_archive.specs.declared.fault.ArchiveFault.TheVariants.{NotFound}
+use Rattle.pgb_archive.specs.declared.fault.ArchiveFault.TheVariants.{HeaderForm, SegmentSize, HeaderMismatch, Ambiguous, Duplicate, NotFound, SegmentDamaged, TooLong, TooMany, Disk, NoMemory}
+use Rattle.pgb_archive.specs.declared.files.Stored.{Stored}
+use Rattle.pgb_archive.specs.declared.looking.Kept.{Kept}
+use Rattle.pgb_archive.specs.declared.looking.Look.{Look}
+use Rattle.pgb_archive.specs.declared.looking.Look.TheVariants.{One}
 use Rattle.pgb_archive.specs.declared.names.FileNames.{FileNames}
 use Rattle.pgb_archive.specs.Fault.{fault_of_store}
-use Rattle.pgb_archive.specs.Stored.{archived_file, archive_path, HasSum, StoresNone}
+use Rattle.pgb_archive.specs.Stored.{archived_file, archive_path, told_sum, HasSum, StoresNone, Finds}
 use Rattle.pgb_archive.specs.Paths.{has_sum}
-use Rattle.pgb_archive.specs.Looks.{AreNamesOf}
-use Rattle.pgb_archive.specs.Causes.{StoresBytes, StoresLong, GetCause, IsUnarchived, limit_of}
+use Rattle.pgb_archive.specs.Looks.{AreNamesOf, Shows, ShowsOne, IsStoredAs, LookCause}
+use Rattle.pgb_archive.specs.Causes.{HasHeader, StoresBytes, StoresLong, GetCause, PresentCause, IsUnarchived, limit_of}
 use Rattle.pgb_archive.proofs.OnePath.{one_path}
-use Rattle.pgb_archive.proofs.Owns.{has_own}
+use Rattle.pgb_archive.proofs.Owns.{has_own, stored_has}
 use Rattle.pgb_archive.proofs.Looked.{path_long}
 
 -- ---- a stored file, and the repository
@@ -109,3 +113,48 @@ other_cause o rose names path limit StoreNoMemory path_is limit_is named long ri
 pub err_by : {T : Type 0} (P : ArchiveFault → Type 0) (r : Result T ArchiveFault) (fault : ArchiveFault) → IsErrAnd r (λ e. e ≡ fault) → P fault → IfErr r P
 err_by P (Ok v) fault is h = tt
 err_by P (Err e) fault is h = subst P (sym is) h
+
+-- ---- a look
+
+pub no_header : (name : ArchiveName) → has_sum name ≡ false → ¬ HasHeader name
+no_header (Whole s) e h = cc e
+no_header (Partial s) e h = cc e
+no_header (History t) e h = h
+no_header (Backup s n) e h = h
+
+pub present_cause : (stanza : Text) (id : ArchiveId) (name : ArchiveName) (names : FileNames) → AreNamesOf stanza id name names → (o : Option Content) (rose : Type 0) (e : ArchiveFault) → LookCause names o rose e → PresentCause stanza id name o rose e
+present_cause stanza id name names of o rose (HeaderForm i) h = h
+present_cause stanza id name names of o rose (SegmentSize t f) h = h
+present_cause stanza id name names of o rose (HeaderMismatch k f) h = h
+present_cause stanza id name names of o rose (Ambiguous x y) h = absurd h
+present_cause stanza id name names of o rose (Duplicate k f) h = h
+present_cause stanza id name names of o rose NotFound h = h
+present_cause stanza id name names of o rose (SegmentDamaged t f) h = h
+present_cause stanza id name names of o rose (TooLong path limit) h =
+    let unsummed = sym of.summed ∙ h.0 in
+    let long = long_told stanza id name names of unsummed o (string_bytes path) limit h.1 h.2 h.3 in (no_header name unsummed, long.0, long.1)
+present_cause stanza id name names of o rose (TooMany l) h = h
+present_cause stanza id name names of o rose Disk h = h
+present_cause stanza id name names of o rose NoMemory h = h
+
+module _ (stanza : Text) (id : ArchiveId) (name : ArchiveName) (place : (sum : Text) → IsSum sum → IsArchivePlace id name sum) where
+  found_as : (f : Content) (kept : Kept) (file : Stored) → ShowsOne stanza id name f kept → IsStoredAs id name kept file → Finds stanza id name f (Some file)
+  found_as f kept file shows told =
+      let sum = kept.sum.0 in
+      let is = (stored_has name (f (archive_path stanza id name sum)) sum shows.only.stored).0 in (
+        told.of_id,
+        told.of_name,
+        record {
+          sum = sum;
+          fits = subst (λ (k : ArchiveId). IsArchivePlace k file.name sum) (sym told.of_id) (subst (λ (n : ArchiveName). IsArchivePlace id n sum) (sym told.of_name) (place sum is));
+          path = told.path ∙ shows.path ∙ sym (ap₂ (λ (k : ArchiveId) (n : ArchiveName). archive_path stanza k n sum) told.of_id told.of_name);
+          told = told.sum ∙ ap (λ (n : ArchiveName). told_sum n sum) (sym told.of_name);
+          size = subst (λ (t : Text). IsSomeAnd (f t) (λ bytes. length bytes ≡ file.size)) (sym told.path) (subst (λ (n : ℕ). IsSomeAnd (f (string_bytes kept.path)) (λ bytes. length bytes ≡ n)) (sym told.size) shows.size);
+        },
+        (sum, shows.only, told.path ∙ shows.path),
+      )
+
+  pub finds_one : (o : Option Content) (names : FileNames) (look : Look) (kept : Kept) (file : Stored) → AreNamesOf stanza id name names
+      → IfSome o (λ f. (stanza : Text) (id : ArchiveId) (name : ArchiveName) → AreNamesOf stanza id name names → Shows stanza id name f look) → look ≡ One kept → IsStoredAs id name kept file → IfSome o (λ f. Finds stanza id name f (Some file))
+  finds_one None names look kept file of told is alike = tt
+  finds_one (Some f) names look kept file of told is alike = found_as f kept file (subst (λ (l : Look). Shows stanza id name f l) is (told stanza id name of)) alike

@@ -5,6 +5,8 @@ pub mod Picked
 pub mod Owns
 pub mod Looked
 pub mod Got
+pub mod Listed
+pub mod FilePushed
 pub mod Placed
 pub mod OnePushed
 pub mod Receipts

@@ -35,6 +35,13 @@ IsFileOf (Partial segment) bytes system = IsSegmentOf bytes system
 IsFileOf (History timeline) bytes system = Unit {0}
 IsFileOf (Backup segment offset) bytes system = Unit {0}
 
+-- why they aren't
+abbrev pub HeaderCause : ArchiveName → Text → ℕ → ArchiveFault → Type 0
+HeaderCause name bytes system (HeaderForm info) = HasHeader name × IsRefused bytes system (Form (length bytes) info)
+HeaderCause name bytes system (SegmentSize told found) = HasHeader name × IsRefused bytes system (Size told found)
+HeaderCause name bytes system (HeaderMismatch kept found) = HasHeader name × IsRefused bytes system (System kept found)
+HeaderCause name bytes system fault = ⊥
+
 -- the longest file of this name that is read: 1 GiB of a segment, 1 MiB of another file
 abbrev pub limit_of : ArchiveName → ℕ
 limit_of (Whole segment) = 2 ^ 30
@@ -48,9 +55,9 @@ StoresLong stanza id name f path limit = (sum : Text) × StoresOnly stanza id na
 
 -- why a file isn't stored, from its bytes, from what the disk held, and from whether the disk's count of faults rose
 abbrev pub PushCause : Text → ArchiveId → ArchiveName → ℕ → Text → Option Content → Type 0 → ArchiveFault → Type 0
-PushCause stanza id name system bytes now rose (HeaderForm info) = HasHeader name × IsRefused bytes system (Form (length bytes) info)
-PushCause stanza id name system bytes now rose (SegmentSize told found) = HasHeader name × IsRefused bytes system (Size told found)
-PushCause stanza id name system bytes now rose (HeaderMismatch kept found) = HasHeader name × IsRefused bytes system (System kept found)
+PushCause stanza id name system bytes now rose (HeaderForm info) = HeaderCause name bytes system (HeaderForm info)
+PushCause stanza id name system bytes now rose (SegmentSize told found) = HeaderCause name bytes system (SegmentSize told found)
+PushCause stanza id name system bytes now rose (HeaderMismatch kept found) = HeaderCause name bytes system (HeaderMismatch kept found)
 PushCause stanza id name system bytes now rose (Ambiguous first second) = IsFileOf name bytes system × IfSome now (λ f. StoresTwo stanza id name f (string_bytes first) (string_bytes second))
 PushCause stanza id name system bytes now rose (Duplicate kept found) = IsFileOf name bytes system × (found.0 ≡ sha1 bytes) × (found.0 ≢ kept.0) × IfSome now (λ f. StoresOnly stanza id name f kept.0)
 PushCause stanza id name system bytes now rose (TooLong path limit) = ¬ HasHeader name × (limit ≡ limit_of name) × IfSome now (λ f. StoresLong stanza id name f (string_bytes path) limit)

@@ -43,11 +43,7 @@ fn read_stored(path: &[u8], front: &[u8]) -> Option<Sum>
 }
 
 /// Those of the names that are paths of the segment.
-pub(crate) fn kept_among(
-    alloc: Global,
-    found: &[Found],
-    front: &str,
-) -> Result<Vec<Kept>, NoMemory>
+pub(crate) fn kept_among(alloc: Global, found: &[Found], front: &str) -> Result<Vec<Kept>, NoMemory>
     ensures { IfOk result (λ kept. Picks (TellsSum front.now) (PassesSum front.now) found.now kept.items) }
 {
     let mut kept = Vec::new(alloc);

@@ -13,6 +13,7 @@ use pgb_text::{Sum, read_decimal};
 use pgb_wal::read_archive_name;
 
 /// What a path below the stanza's folder tells.
+#[derive(Clone, Copy)]
 pub(crate) struct Told {
     pub id: ArchiveId,
     pub name: ArchiveName,
@@ -93,7 +94,9 @@ fn folder_of<'a>(name: &ArchiveName, file: &'a [u8]) -> Option<&'a [u8]>
 {
     match name {
         ArchiveName::History(_) => None,
-        ArchiveName::Segment(_) | ArchiveName::Partial(_) | ArchiveName::Backup(..) => file.get(..16),
+        ArchiveName::Segment(_) | ArchiveName::Partial(_) | ArchiveName::Backup(..) => file.get(
+            ..16,
+        ),
     }
 }
 
@@ -124,6 +127,7 @@ fn read_below(text: &[u8]) -> Option<(ArchiveName, Option<Sum>)>
 /// The archive file of which this is the path, behind the stanza's folder with its slash.
 pub(crate) fn read_path(path: &[u8], folder: &[u8]) -> Option<Told>
     ensures value { IfSome result (λ told. IsReadAs (below_folder folder.now told.id) path.now told.name (option_map (λ s. s.0) told.sum)) }
+    ensures fits { IfSome result (λ told. (sum : Text) → IsSum sum → IsArchivePlace told.id told.name sum) }
     ensures none { IfNone result ((id : ArchiveId) (name : ArchiveName) (sum : Text) → IsArchivePlace id name sum → path.now ≢ below_folder folder.now id name sum) }
 {
     let below = path.strip_prefix(folder)?;

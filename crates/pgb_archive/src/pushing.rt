@@ -1,20 +1,18 @@
 // A file is stored.
-ghost use Rattle.std.specs.Prelude.{◌≡◌, ◌⊎◌, ◌≤◌, ◌∷◌, [], false, Option, Some, List, map, IfOk, IfErr, IfSome, IsSome, IsErrOf, OnOk, string_bytes};
+ghost use Rattle.std.specs.Prelude.{◌≡◌, ◌⊎◌, ◌≤◌, ◌∷◌, [], false, Some, List, map, IfOk, IfErr, IfSome, IsSome, IsErrOf, OnOk, string_bytes};
 ghost use Rattle.sha1.specs.Sha1.{sha1};
-ghost use Rattle.pgb_outside.specs.Content.{Name, Content};
+ghost use Rattle.pgb_outside.specs.Content.{Name};
 ghost use Rattle.pgb_outside.specs.Moments.{Rests, is_loose};
 ghost use Rattle.pgb_outside.specs.Cause.{Rises};
 ghost use Rattle.pgb_outside.specs.Crash.{IsTemporary, Crash, Ends, NowGoes, FirstOf, AllOf};
 ghost use Rattle.pgb_disk.specs.Store.{LiesIn, ChangesOnly};
-ghost use Rattle.pgb_model.specs.declared.wal.ArchiveId.{ArchiveId};
-ghost use Rattle.pgb_model.specs.Text.{Text};
 ghost use Rattle.pgb_model.specs.Repository.{Stanza};
 ghost use Rattle.pgb_model.specs.Stands.{Stands};
 ghost use Rattle.pgb_model.specs.Now.{NowStands};
 ghost use Rattle.pgb_model.specs.Steps.{Step, One, IsPartOf, after, after_all, push_of};
 ghost use Rattle.pgb_model.specs.Steady.{IsSteady, Moves};
 ghost use Rattle.pgb_archive.specs.Stored.{archived_file, archive_path, StoresNone, StoresOnly, ChangesArchive};
-ghost use Rattle.pgb_archive.specs.Causes.{IsFileOf, PushCause, OnFinding};
+ghost use Rattle.pgb_archive.specs.Causes.{IsFileOf, HeaderCause, PushCause, OnFinding};
 ghost use Rattle.pgb_archive.specs.Looks.{IsStop, path_with};
 
 use crate::fault::ArchiveFault;
@@ -40,11 +38,12 @@ pub enum Pushed {
 // A segment has the header of one; other files have none.
 fn check_bytes(name: &ArchiveName, system: u64, bytes: &[u8]) -> Result<(), ArchiveFault>
     ensures right { OnOk result (IsFileOf name.now bytes.now system) }
-    ensures wrong { IfErr result (λ e. (stanza : Text) (id : ArchiveId) (now : Option Content) (rose : Type 0) → PushCause stanza id name.now system bytes.now now rose e) }
+    ensures wrong { IfErr result (HeaderCause name.now bytes.now system) }
 {
-    if has_sum(name) {
-        check_header(bytes, system)?;
+    if !has_sum(name) {
+        return Ok(());
     }
+    check_header(bytes, system)?;
     Ok(())
 }
 

@@ -76,11 +76,7 @@ fn get_segment<D: Disk>(
 }
 
 // A file whose path has no sum.
-fn get_other<D: Disk>(
-    alloc: Global,
-    d: &mut D,
-    names: &FileNames,
-) -> Result<Vec<u8>, ArchiveFault>
+fn get_other<D: Disk>(alloc: Global, d: &mut D, names: &FileNames) -> Result<Vec<u8>, ArchiveFault>
     ensures got { IfOk result (λ bytes. IfSome (D.view d.old).now
         (λ f. (stanza : Text) (id : ArchiveId) (name : ArchiveName) → AreNamesOf stanza id name names.now → has_sum name ≡ false → StoresBytes stanza id name f (sha1 bytes.items) bytes.items)) }
     ensures within { IfOk result (λ bytes. length bytes.items ≤ 2 ^ 20) }

@@ -15,8 +15,8 @@ use Rattle.pgb_command.specs.Answers.{Ending, finished, absent, refused, Answer,
 use Rattle.pgb_command.specs.Causes.{Cause, Refused, Unknown, Asking, Output, Memory}
 use Rattle.pgb_command.specs.Output.{IsFrontWritten, IsTold, Whole, Cut, Starved, Wordless, WroteLines, Wrote}
 use Rattle.pgb_command.specs.Asked.{Request, get, Asked}
-use Rattle.pgb_command.specs.Doing.{ServesFor, ServedBy}
-use Rattle.pgb_command.specs.Getting.{Serves}
+use Rattle.pgb_command.specs.Doing.{ServesFor, MissesFor, ServedBy}
+use Rattle.pgb_command.specs.Getting.{Serves, IsMissing}
 use Rattle.pgb_command.proofs.Pushes.{finding_to, on_all as all_findings}
 use Rattle.pgb_command.proofs.Written.{more}
 use Rattle.pgb_command.proofs.Told.{front_whole, front_as}
@@ -65,6 +65,51 @@ not_zero Locks e = cc
 not_zero Source e = cc
 not_zero Sink e = cc
 not_zero NoMemory e = cc
+
+usage_not_one : (u : Usage) → ¬ (usage_status u ≡ 1)
+usage_not_one CommandMissing e = cc
+usage_not_one (CommandUnknown a) e = cc
+usage_not_one (OptionUnknown a) e = cc
+usage_not_one (OptionRepeated a) e = cc
+usage_not_one (OptionValue a) e = cc
+usage_not_one (OptionMissing a) e = cc
+usage_not_one (OptionNotFor a) e = cc
+usage_not_one (ConfigSyntax a) e = cc
+usage_not_one (ParameterCount a) e = cc
+usage_not_one ParameterUtf8 e = cc
+usage_not_one UsageNoMemory e = cc
+
+not_one : (e : Fault) → ¬ (status_of e ≡ 1)
+not_one (Settings u) e = usage_not_one u e
+not_one (ConfigMissing a) e = cc
+not_one (SegmentName a) e = cc
+not_one (PathOutside a) e = cc
+not_one (Held a) e = cc
+not_one (StanzaMissing a) e = cc
+not_one (InfoDamaged a b c) e = cc
+not_one (StanzaMismatch a b) e = cc
+not_one (HistoryDiffers a) e = cc
+not_one (ArchiveLost a) e = cc
+not_one (SegmentMissing a) e = cc
+not_one (TooLong a b) e = cc
+not_one (TooMany a) e = cc
+not_one (HeaderForm a) e = cc
+not_one (SegmentSize a b) e = cc
+not_one (HeaderMismatch a b) e = cc
+not_one (Ambiguous a b) e = cc
+not_one (Duplicate a b) e = cc
+not_one (SegmentDamaged a b) e = cc
+not_one (NotBuilt a) e = cc
+not_one (ControlMissing a) e = cc
+not_one (ControlShort a) e = cc
+not_one VersionText e = cc
+not_one (VersionUnsupported a) e = cc
+not_one Disk e = cc
+not_one Tree e = cc
+not_one Locks e = cc
+not_one Source e = cc
+not_one Sink e = cc
+not_one NoMemory e = cc
 
 -- ---- what was written
 
@@ -223,6 +268,17 @@ served_at_zero (Ok (Absent w)) u old new rose told n (Cut r front) same zero a r
 served_at_zero (Ok (Absent w)) u old new rose told n (Starved lines which front) same zero a repo nodes after name path asked h = absurd (omega (arith, same, zero))
 served_at_zero (Ok (Absent w)) u old new rose told n (Wordless r front) same zero a repo nodes after name path asked h = absurd (omega (arith, same, zero))
 served_at_zero (Err e) u old new rose told n is same zero a repo nodes after name path asked h = absurd (at_zero ⊥ (Err e) u old new rose told n is same zero tt)
+
+-- and nothing was found where it ends with 1
+pub missed_at_one : (result : Result Outcome Fault) (u : List Text) (old new : Option Text) (rose : Type 0) (told : Ending) (n : ℕ) → IsTold old (At result u) new rose told → n ≡ status told → n ≡ 1 → (a : Asked) (repo : Option Content) (nodes after : Option Nodes) (name path : Text) → a.request ≡ get name path →
+    ServedBy (ending_of result) a repo nodes after → IsMissing a.stanza a.data_folder name path repo nodes
+missed_at_one (Ok (Absent w)) u old new rose told n is same one a repo nodes after name path asked h = subst (λ (r : Request). MissesFor r a.stanza a.data_folder repo nodes) asked h
+missed_at_one (Ok Silent) u old new rose told n (Whole ending end is) same one a repo nodes after name path asked h = absurd (omega (arith, same, one, ap status end))
+missed_at_one (Ok (SameStored w)) u old new rose told n (Whole ending end is) same one a repo nodes after name path asked h = absurd (omega (arith, same, one, ap status end))
+missed_at_one (Err e) u old new rose told n (Whole ending end is) same one a repo nodes after name path asked h = absurd (not_one e (sym (ap status end) ∙ sym same ∙ one))
+missed_at_one result u old new rose told n (Cut r front) same one a repo nodes after name path asked h = absurd (omega (arith, same, one))
+missed_at_one result u old new rose told n (Starved lines which front) same one a repo nodes after name path asked h = absurd (omega (arith, same, one))
+missed_at_one result u old new rose told n (Wordless r front) same one a repo nodes after name path asked h = absurd (omega (arith, same, one))
 
 -- ---- where no cause of a refusal holds
 

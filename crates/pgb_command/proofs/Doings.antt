@@ -18,7 +18,7 @@ use Rattle.pgb_command.specs.Asked.{Request, create, push, get, Asked}
 use Rattle.pgb_command.specs.Causes.{CreateCause, PushFileCause, IsStored, AskedCause, Creating, Stored, Pushing, Given, Missing, Getting}
 use Rattle.pgb_command.specs.Cluster.{IsClusterOf}
 use Rattle.pgb_command.specs.Commands.{IsPushOf, IsRequestOf, IsCommandOf}
-use Rattle.pgb_command.specs.Doing.{AreHealed, PartDone, AllDone, NoneDone, ServesFor, ServedBy}
+use Rattle.pgb_command.specs.Doing.{AreHealed, PartDone, AllDone, NoneDone, ServesFor, MissesFor, ServedBy}
 use Rattle.pgb_command.specs.Getting.{GetFileCause, GotBy}
 use Rattle.pgb_command.specs.Outcomes.{outcome_ending, OnFinished, ending_of}
 use Rattle.pgb_stanza.specs.Pairs.{LacksStanza, PairsAgree}
@@ -159,7 +159,7 @@ module _ (a : Asked) (name path : Text) (nodes : Option Nodes) (old new : View) 
     where
       well : (ending : Ending) → GotBy ending a.stanza a.data_folder name path repo nodes after → ServedBy ending a repo nodes after
       well (finished lines) g = subst (λ (r : Request). ServesFor r a.stanza a.data_folder repo nodes after) (sym is) g.1
-      well (absent word) g = tt
+      well (absent word) g = subst (λ (r : Request). MissesFor r a.stanza a.data_folder repo nodes) (sym is) g.1
       well (refused fault) g = absurd g
   got_serves (Err e) repo after got = tt
 

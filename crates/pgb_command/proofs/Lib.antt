@@ -11,6 +11,7 @@ mod Searches
 mod ServedPaths
 mod Folders
 mod Fetches
+mod Archived
 mod StoreCauses
 mod Pushes
 mod Causes

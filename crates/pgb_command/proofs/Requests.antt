@@ -10,7 +10,7 @@ use Rattle.pgb_command.specs.declared.settings.Writing.{Writing}
 use Rattle.pgb_command.specs.declared.settings.Writing.TheVariants.{StanzaCreate, ArchivePush}
 use Rattle.pgb_command.specs.Answers.{Ending, finished, absent, refused}
 use Rattle.pgb_command.specs.Asked.{Request, Asked}
-use Rattle.pgb_command.specs.Doing.{ServesFor, ServedBy}
+use Rattle.pgb_command.specs.Doing.{ServesFor, MissesFor, ServedBy}
 use Rattle.pgb_command.specs.Getting.{FolderGoes}
 use Rattle.pgb_command.specs.Locking.{lock_name, Locks, TakesLock, OnlyLocked, OnlyUnderLock}
 use Rattle.pgb_command.specs.Told.{writing_of, request_of, writing_lock}
@@ -44,8 +44,13 @@ none_served : (w : Writing) (stanza folder : Text) (repo : Option Content) (node
 none_served StanzaCreate stanza folder repo nodes new = tt
 none_served (ArchivePush path) stanza folder repo nodes new = tt
 
+none_missing : (w : Writing) (stanza folder : Text) (repo : Option Content) (nodes : Option Nodes) → MissesFor (writing_of w) stanza folder repo nodes
+none_missing StanzaCreate stanza folder repo nodes = tt
+none_missing (ArchivePush path) stanza folder repo nodes = tt
+
 pub served_asked : (ending : Ending) (a : Asked) (q : Asking) (w : Writing) (repo : Option Content) (nodes new : Option Nodes) → a.request ≡ request_of q → q ≡ Write w → ServedBy ending a repo nodes new
 served_asked (finished lines) a q w repo nodes new is write =
     subst (λ (r : Request). ServesFor r a.stanza a.data_folder repo nodes new) (sym is) (subst (λ (x : Asking). ServesFor (request_of x) a.stanza a.data_folder repo nodes new) (sym write) (none_served w a.stanza a.data_folder repo nodes new))
-served_asked (absent name) a q w repo nodes new is write = tt
+served_asked (absent name) a q w repo nodes new is write =
+    subst (λ (r : Request). MissesFor r a.stanza a.data_folder repo nodes) (sym is) (subst (λ (x : Asking). MissesFor (request_of x) a.stanza a.data_folder repo nodes) (sym write) (none_missing w a.stanza a.data_folder repo nodes))
 served_asked (refused fault) a q w repo nodes new is write = tt

@@ -13,7 +13,7 @@ use Rattle.pgb_command.specs.Asked.{Asked, Request, create, push, get}
 use Rattle.pgb_command.specs.Cluster.{IsClusterOf}
 use Rattle.pgb_command.specs.Commands.{IsCommandOf}
 use Rattle.pgb_command.specs.Answers.{Ending, finished, absent, refused}
-use Rattle.pgb_command.specs.Getting.{Serves}
+use Rattle.pgb_command.specs.Getting.{Serves, IsMissing}
 use Rattle.pgb_command.specs.Storing.{AgreesAtPair}
 
 -- a part of its steps, in what the disk holds and in all that a stop leaves at any moment
@@ -41,9 +41,15 @@ ServesFor create stanza folder repo nodes new = Unit {0}
 ServesFor (push path) stanza folder repo nodes new = Unit {0}
 ServesFor (get name path) stanza folder repo nodes new = Serves stanza folder name path repo nodes new
 
+-- and where it ends with nothing found the repository hasn't the file
+abbrev pub MissesFor : Request → Text → Text → Option Content → Option Nodes → Type 0
+MissesFor create stanza folder repo nodes = Unit {0}
+MissesFor (push path) stanza folder repo nodes = Unit {0}
+MissesFor (get name path) stanza folder repo nodes = IsMissing stanza folder name path repo nodes
+
 abbrev pub ServedBy : Ending → Asked → Option Content → Option Nodes → Option Nodes → Type 0
 ServedBy (finished lines) a repo nodes new = ServesFor a.request a.stanza a.data_folder repo nodes new
-ServedBy (absent name) a repo nodes new = Unit {0}
+ServedBy (absent name) a repo nodes new = MissesFor a.request a.stanza a.data_folder repo nodes
 ServedBy (refused fault) a repo nodes new = Unit {0}
 
 -- none of them

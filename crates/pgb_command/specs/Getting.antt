@@ -4,6 +4,7 @@ use Rattle.sha1.specs.Sha1.{sha1}
 use Rattle.pgb_outside.specs.Content.{Content, Name, at, is_below}
 use Rattle.pgb_outside.specs.Tree.{Nodes, file_bytes}
 use Rattle.pgb_model.specs.declared.clusters.ClusterId.{ClusterId}
+use Rattle.pgb_model.specs.declared.clusters.Cluster.{Cluster}
 use Rattle.pgb_model.specs.declared.wal.ArchiveId.{ArchiveId}
 use Rattle.pgb_model.specs.declared.wal.ArchiveName.{ArchiveName}
 use Rattle.pgb_model.specs.Text.{Text, In}
@@ -13,12 +14,13 @@ use Rattle.pgb_model.specs.Pair.{PairIs}
 use Rattle.pgb_model.specs.Paths.{IsPath}
 use Rattle.pgb_model.specs.Values.{ArchiveInfo}
 use Rattle.pgb_model.specs.InfoFiles.{IsArchiveText}
+use Rattle.pgb_model.specs.Repository.{Stanza, identity_of, id_of}
 use Rattle.pgb_model.specs.Stands.{IsWalName}
 use Rattle.pgb_stanza.specs.declared.control.Control.{Control}
 use Rattle.pgb_archive.specs.declared.fault.ArchiveFault.{ArchiveFault}
 use Rattle.pgb_archive.specs.declared.fault.ArchiveFault.TheVariants.{Ambiguous as AmbiguousOf, SegmentDamaged as DamagedOf, TooLong as LongOf}
-use Rattle.pgb_archive.specs.Causes.{StoresBytes, GetCause}
-use Rattle.pgb_archive.specs.Stored.{StoresNone}
+use Rattle.pgb_archive.specs.Causes.{StoresBytes, GetCause, IsUnarchived}
+use Rattle.pgb_archive.specs.Stored.{archived_file, StoresNone}
 use Rattle.pgb_command.specs.declared.fault.Fault.{Fault}
 use Rattle.pgb_command.specs.declared.fault.Fault.TheVariants.{SegmentName, PathOutside, StanzaMissing, InfoDamaged, StanzaMismatch, Ambiguous, SegmentDamaged, TooLong, Disk, NoMemory}
 use Rattle.pgb_command.specs.Answers.{Ending, finished, absent, refused}
@@ -124,6 +126,30 @@ pub record IsMissing (stanza folder word path : Text) (repo : Option Content) (n
   pub told : Control
   pub wanted : IsWanted folder word path nodes name told
   pub absent : IfSome repo (λ f. OnHistory stanza f (λ v. HasSame v.history told × AbsentIn v.history stanza told name f))
+
+-- of the stanza's clusters that are the data folder's, the one of the highest number under whose id the file is archived has it with these bytes
+pub record IsArchivedFirst (s : Stanza) (told : Control) (name : ArchiveName) (bytes : Text) : Type 0 where
+  pub cluster : Cluster
+  pub listed : In cluster s.history
+  pub same : IsSame told (identity_of cluster)
+  pub archived : In (archived_file (id_of cluster) name bytes) s.archived
+  pub above : (d : Cluster) → In d s.history → IsSame told (identity_of d) → cluster.id < d.id → IsUnarchived (id_of d) name s.archived
+
+-- the data folder has at the path what the repository has archived
+pub record ServesArchived (s : Stanza) (folder word path : Text) (nodes now_nodes : Option Nodes) : Type 0 where
+  pub name : ArchiveName
+  pub told : Control
+  pub bytes : Text
+  pub wanted : IsWanted folder word path nodes name told
+  pub first : IsArchivedFirst s told name bytes
+  pub at_path : IfSome now_nodes (λ f. file_bytes (f (served_path folder path)) ≡ Some bytes)
+
+-- the repository hasn't the file archived under any id of the data folder's cluster
+pub record LacksArchived (s : Stanza) (folder word path : Text) (nodes : Option Nodes) : Type 0 where
+  pub name : ArchiveName
+  pub told : Control
+  pub wanted : IsWanted folder word path nodes name told
+  pub none : (d : Cluster) → In d s.history → IsSame told (identity_of d) → IsUnarchived (id_of d) name s.archived
 
 -- the data folder is as it was but for the file that is served and its temporary name
 pub record ChangesPath (path : Text) (old new : Option Nodes) : Type 0 where

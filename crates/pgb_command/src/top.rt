@@ -3,9 +3,10 @@ ghost use Rattle.std.specs.Prelude.{◌≡◌, ◌≤◌, ◌⊎◌, ◌≢◌, 
 ghost use Rattle.pgb_outside.specs.Cause.{Rises};
 ghost use Rattle.pgb_model.specs.declared.clusters.Cluster.{Cluster};
 ghost use Rattle.pgb_model.specs.Text.{Text};
+ghost use Rattle.pgb_model.specs.Repository.{Stanza};
 ghost use Rattle.pgb_model.specs.Steps.{Command, Reading};
 ghost use Rattle.pgb_model.specs.Steady.{PassesOnly, KeepsOn};
-ghost use Rattle.pgb_model.specs.Now.{HasNewPairs, NowDoes};
+ghost use Rattle.pgb_model.specs.Now.{HasNewPairs, NowDoes, NowStands};
 ghost use Rattle.pgb_command.specs.Asked.{Asked, create, get, MayAsk, Asks};
 ghost use Rattle.pgb_command.specs.Answers.{Ending, Answer, status, IsFinding};
 ghost use Rattle.pgb_command.specs.Cluster.{IsClusterOf};
@@ -14,7 +15,7 @@ ghost use Rattle.pgb_command.specs.Causes.{AskedCause, Cause};
 ghost use Rattle.pgb_command.specs.Doing.{AreHealed, PartDone, AllDone, NoneDone, ServedBy};
 ghost use Rattle.pgb_command.specs.Locking.{lock_of, Locks as IsLocked, TakesLock, OnlyLocked, OnlyUnderLock, MayHold};
 ghost use Rattle.pgb_command.specs.Outcomes.{ending_of, answer_of, OnNothing};
-ghost use Rattle.pgb_command.specs.Getting.{Serves, FolderGoes};
+ghost use Rattle.pgb_command.specs.Getting.{Serves, FolderGoes, ServesArchived, LacksArchived};
 ghost use Rattle.pgb_command.specs.Output.{Wrote};
 ghost use Rattle.pgb_command.specs.declared.settings.Asking.TheVariants.{Write};
 ghost use Rattle.pgb_stanza.specs.Pairs.{LacksStanza};
@@ -240,6 +241,12 @@ pub fn run<
     // At 0 archive-get has served the file of the repository.
     ensures served { result ≡ 0 → (a : Asked) → Asks (map string_bytes words.now) (I.files outside.old.config) a → (name path : Text) → a.request ≡ get name path
         → Serves a.stanza a.data_folder name path (D.view outside.old.repo).now (T.nodes outside.old.tree) (T.nodes outside.new.tree) }
+
+    // What is served is what the repository has archived; and where nothing is found it hasn't the file.
+    ensures given { result ≡ 0 → (a : Asked) → Asks (map string_bytes words.now) (I.files outside.old.config) a → (name path : Text) → a.request ≡ get name path
+        → (s : Stanza) → IsSome (D.view outside.old.repo).now → NowStands a.stanza (Some s) (D.view outside.old.repo).now → ServesArchived s a.data_folder name path (T.nodes outside.old.tree) (T.nodes outside.new.tree) }
+    ensures lacking { result ≡ 1 → (a : Asked) → Asks (map string_bytes words.now) (I.files outside.old.config) a → (name path : Text) → a.request ≡ get name path
+        → (s : Stanza) → IsSome (D.view outside.old.repo).now → NowStands a.stanza (Some s) (D.view outside.old.repo).now → LacksArchived s a.data_folder name path (T.nodes outside.old.tree) }
 
     // At 0 the members of the pairs that the command heals agree, and all four info files of a new stanza are those of the cluster. The opened
     // places are those of the words.

@@ -9,7 +9,8 @@ pub mod EntryRules
 pub mod BackupRules
 pub mod PartLists
 pub mod Causes
-pub mod ArchiveTexts
+pub mod KindTexts
+pub mod FewKeys
 pub mod Mends
 pub mod Sorted
 pub mod Seeking
@@ -30,3 +31,4 @@ pub mod Walked
 pub mod ClusterKeys
 pub mod ListedKeys
 pub mod Halves
+pub mod BackupForms

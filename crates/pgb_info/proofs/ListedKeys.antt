@@ -135,6 +135,10 @@ after_order last (n ∷ ns) h = (and_parts (is_before last n) (are_after n ns) h
 pub list_order : (es : List Entry) → IsOrdered (map entry_field es) → are_in_order (map (λ (e : Entry). label_text e.label) es) ≡ true
 list_order es h = subst (λ (ns : List Text). are_in_order ns ≡ true) (names_are es) (after_order [] (map name (map entry_field es)) h)
 
+pub list_sorted : (fs : List Entry) → IsList fs → IsOrdered (map entry_field fs)
+list_sorted [] l = refl
+list_sorted (f ∷ fs) l = both (is_before [] (label_text f.label)) _ (after_nothing (label_text f.label) (label_some f.label)) (subst (λ (ns : List Text). are_after (label_text f.label) ns ≡ true) (sym (names_are fs)) l.order)
+
 -- ---- priors come first
 
 -- an earlier backup has this label
@@ -197,10 +201,6 @@ module _ (es : List Entry) (k : Field) (more : List Field) (listed : AreListed m
       let prior = earlier_in many [] fs e sorted list.backups i in
       none e (record { rules = rules; field = at; prior = by e.prior e at prior })
     where
-      list_sorted : (fs : List Entry) → IsList fs → IsOrdered (map entry_field fs)
-      list_sorted [] l = refl
-      list_sorted (f ∷ fs) l = both (is_before [] (label_text f.label)) _ (after_nothing (label_text f.label) (label_some f.label)) (subst (λ (ns : List Text). are_after (label_text f.label) ns ≡ true) (sym (names_are fs)) l.order)
-
       by : (o : Option Label) (e : Entry) → k ≡ entry_field e → IfSome o (IsEarlier fs e) → IfSome o (HasLabel front)
       by None e at g = tt
       by (Some l) e at g =

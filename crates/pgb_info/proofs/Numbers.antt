@@ -77,4 +77,3 @@ module _ {X : Type 0} (number : X → ℕ) where
   pub from_push : (xs : List X) (m : ℕ) (c : X) → AreFrom m (map number xs) → number c ≡ m + length xs → AreFrom m (map number (xs ++ c ∷ []))
   from_push [] m c h e = (let is : number c ≡ m = omega arith in is, tt)
   from_push (x ∷ xs) m c h e = (h.0, from_push xs (m + 1) c h.1 (omega arith))
-

@@ -145,8 +145,7 @@ module _ {X : Type 0} (f : X → Field) (a b : List X) (i : ℕ) where
   pub walk_next : (x y : X) → i < length a → i < length b → x ≡ get_or a i x → y ≡ get_or b i y → f x ≡ f y → Walked f a b i → Walked f a b (i + 1)
   walk_next x y h g is at same w =
       let (p, first, second) = w in
-      let more = λ (z : X) (zs : List X). sym (append_assoc p (f z ∷ []) (map f (drop (i + 1) zs))) in
-      (
+      let more = λ (z : X) (zs : List X). sym (append_assoc p (f z ∷ []) (map f (drop (i + 1) zs))) in (
         p ++ f x ∷ [],
         first ∙ ap (λ (l : List X). p ++ map f l) (opened f a i x h is) ∙ more x a,
         second ∙ ap (λ (l : List X). p ++ map f l) (opened f b i y g at) ∙ ap (λ (k : Field). p ++ k ∷ map f (drop (i + 1) b)) (sym same) ∙ sym (append_assoc p (f x ∷ []) (map f (drop (i + 1) b))),

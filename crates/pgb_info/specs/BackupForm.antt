@@ -1,5 +1,5 @@
 -- Which sections are those of no value of `backup.info`, and at which key.
-use Rattle.std.specs.Prelude.{◌≡◌, ◌≢◌, ◌≤◌, List, [], map, length, true, codes, IfSome}
+use Rattle.std.specs.Prelude.{◌≡◌, ◌≢◌, ◌≤◌, ◌<◌, ◌^◌, ◌⊎◌, ℕ, max, List, [], ◌∷◌, map, length, true, codes, IfSome}
 use Rattle.pgb_outside.specs.Order.{is_before, are_in_order}
 use Rattle.serde_json.specs.Data.{Data}
 use Rattle.pgb_model.specs.declared.clusters.Cluster.{Cluster}
@@ -75,3 +75,16 @@ pub record IsWrongCluster (ks : List Field) (key : Text) : Type 0 where
 pub record IsFirstDifference (xs ys : List Field) (key : Text) : Type 0 where
   pub before : KeysAgreeBefore xs ys key
   pub here : ¬ KeysAgree xs ys key
+
+-- the keys of the section of this name, and none where there is no such section
+abbrev pub IsKeysOf : List Section → Text → List Field → Type 0
+IsKeysOf ss name ks = In (record { name = name; keys = ks }) ss ⊎ (((s : Section) → In s ss → s.name ≢ name) × (ks ≡ []))
+
+-- the sections of the text
+abbrev pub backup_names : List Text
+backup_names = backup_current ∷ db ∷ db_history ∷ []
+
+-- the highest history number of these backups, or 0
+abbrev pub highest : List Entry → ℕ
+highest [] = 0
+highest (e ∷ es) = max e.db (highest es)

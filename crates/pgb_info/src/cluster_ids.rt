@@ -79,11 +79,7 @@ pub(crate) fn are_same(alloc: Global, a: &Value, b: &Value) -> Result<bool, NoMe
 }
 
 // The cluster of a history whose value this is.
-fn cluster_of(
-    alloc: Global,
-    id: u32,
-    value: &Value,
-) -> Result<Option<ClusterId>, NoMemory>
+fn cluster_of(alloc: Global, id: u32, value: &Value) -> Result<Option<ClusterId>, NoMemory>
     requires { IsValue (view value.now) }
     ensures some { IfOk result (λ o. IfSome o (λ c. IsClusterId c × (c.id ≡ id) × (view value.now ≡ (cluster_id_field c).1))) }
     ensures none { IfOk result (λ o. IfNone o ((c : ClusterId) → IsClusterId c → c.id ≡ id → view value.now ≢ (cluster_id_field c).1)) }

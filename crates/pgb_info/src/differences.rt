@@ -30,7 +30,11 @@ fn is_same_key(alloc: Global, a: &(String, Value), b: &(String, Value)) -> Resul
 fn lower<'a>(a: &'a str, b: &'a str) -> &'a str
     ensures { result.now ≡ (if is_before b.now a.now then b.now else a.now) }
 {
-    if is_before(b.as_bytes(), a.as_bytes()) { b } else { a }
+    if is_before(b.as_bytes(), a.as_bytes()) {
+        b
+    } else {
+        a
+    }
 }
 
 /// The first key at which the two differ.

@@ -68,7 +68,12 @@ fn check_entry<C: Numbered>(alloc: Global, key: &str, value: &Value) -> Result<(
 }
 
 // Each key and its value are a cluster's.
-fn check_entries<C: Numbered>(alloc: Global, part: &Part, current: &C, least: u32) -> Result<(), PartsFault>
+fn check_entries<C: Numbered>(
+    alloc: Global,
+    part: &Part,
+    current: &C,
+    least: u32,
+) -> Result<(), PartsFault>
     requires laws { AreNumbered C.IsOne C.number_of C.field }
     requires rules { IsSection (section_of part.now) }
     ensures { IfErr result (λ e. IfForm e (λ section key. (section ≡ db_history) × IsWrongHistory C.IsOne C.number_of C.field current.now least (keys_of part.now) key)) }

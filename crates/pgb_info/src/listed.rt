@@ -45,7 +45,11 @@ fn is_key(keys: &[(String, Value)], key: &str) -> bool
 }
 
 // Whether the prior backup is among these.
-fn has_prior(alloc: Global, front: &[(String, Value)], prior: Option<Label>) -> Result<bool, NoMemory>
+fn has_prior(
+    alloc: Global,
+    front: &[(String, Value)],
+    prior: Option<Label>,
+) -> Result<bool, NoMemory>
     requires order { IsOrdered (map key_of front.now) }
     requires label { IfSome prior IsLabel }
     ensures { IfOk result (λ has. IsTrue has ↔ IfSome prior (HasLabel (map key_of front.now))) }

@@ -5,7 +5,7 @@ ghost use Rattle.pgb_model.specs.InfoFiles.{IsArchiveInfo, IsBackupInfo, IsLabel
 ghost use Rattle.pgb_model.specs.Values.{archive_info_of, backup_info_of, entry_of, Entry as SpecEntry};
 
 use crate::saving::text_of;
-use crate::{MemberFault, ReadInfo, label_text};
+use crate::{MemberFault, ReadInfo, label_text, label_time, read_label};
 use pgb_model::{
     ArchiveInfo, BackupInfo, Cluster, ClusterId, Entry, Kind, Label, Later, Segment, Span,
 };
@@ -289,6 +289,33 @@ fn label_is(rt: &impl Abort, alloc: Global, label: Label, text: &str) -> Result<
     requires { IsLabel label }
 {
     assert_eq!(rt; label_text(alloc, &label)?.as_str(), text);
+    assert_eq!(rt; read_label(text.as_bytes()), Some(label));
+    Ok(())
+}
+
+const NO_LABELS: [&'static str; 13] = [
+    "",
+    "20240230-030405F",
+    "20230229-030405F",
+    "20241301-030405F",
+    "19691231-235959F",
+    "20240102-240000F",
+    "20240102-030460F",
+    "20240102-030405X",
+    "20240102-030405f",
+    "20240102-030405D",
+    "20240102-030405F_20240102-030505",
+    "20240102-030405F_20240102-030505F",
+    "20240102-030405F_20240102-030505D ",
+];
+
+#[test]
+fn no_labels(rt: HostRuntime) -> Result<(), Fail> {
+    for text in NO_LABELS {
+        assert_eq!(rt; read_label(text.as_bytes()), None);
+    }
+    assert_eq!(rt; label_time(&FULL), 1704164645);
+    assert_eq!(rt; label_time(&DIFF), 1704164705);
     Ok(())
 }
 
@@ -352,11 +379,13 @@ fn label_texts(rt: HostRuntime) -> Result<(), Fail> {
     Ok(())
 }
 
-fn read(alloc: Global, text: &str) -> Result<Result<ArchiveInfo, MemberFault>, NoMemory> {
+fn read<I: ReadInfo>(alloc: Global, text: &str) -> Result<Result<I, MemberFault>, NoMemory>
+    ensures { IfOk result (λ r. IfOk r I.is_valid) }
+{
     if text.len() > 67_108_864 {
         return Ok(Err(MemberFault::TooLong));
     }
-    ArchiveInfo::read(alloc, text.as_bytes())
+    I::read(alloc, text.as_bytes())
 }
 
 fn ids(alloc: Global, info: &ArchiveInfo) -> Result<Vec<u32>, NoMemory> {
@@ -370,18 +399,44 @@ fn ids(alloc: Global, info: &ArchiveInfo) -> Result<Vec<u32>, NoMemory> {
 #[test]
 fn archive_texts_are_read(rt: HostRuntime) -> Result<(), Fail> {
     let alloc = rt.alloc();
-    let info = read(alloc, ARCHIVE)?.ok().expect(&rt, "a value");
+    let info = read::<ArchiveInfo>(alloc, ARCHIVE)?
+        .ok()
+        .expect(&rt, "a value");
     assert_eq!(rt; info.current, 1);
     assert_eq!(rt; info.history.len(), 1);
     assert_eq!(rt; info.history[0].id, 1);
     assert_eq!(rt; info.history[0].system, SYSTEM);
     assert_eq!(rt; info.history[0].version, 16);
-    let info = read(alloc, LONG_HISTORY)?.ok().expect(&rt, "a value");
+    let info = read::<ArchiveInfo>(alloc, LONG_HISTORY)?
+        .ok()
+        .expect(&rt, "a value");
     assert_eq!(rt; info.current, 11);
     assert_eq!(rt;
         ids(alloc, &info)?.as_slice(),
         [1, 2, 3, 4, 5, 6, 7, 8, 9, 10, 11].as_slice()
     );
+    Ok(())
+}
+
+// The text of the value that is read from this text.
+fn again(rt: &impl Abort, alloc: Global, text: &str) -> Result<Vec<u8>, NoMemory> {
+    let info = read::<BackupInfo>(alloc, text)?.ok().expect(rt, "a value");
+    text_of(alloc, &info)
+}
+
+#[test]
+fn backup_texts_are_read(rt: HostRuntime) -> Result<(), Fail> {
+    let alloc = rt.alloc();
+    for text in [BACKUP, TWO_BACKUPS] {
+        let written = again(&rt, alloc, text)?;
+        assert_eq!(rt; str::from_utf8(&written).ok(), Some(text));
+    }
+    let info = read::<BackupInfo>(alloc, TWO_BACKUPS)?
+        .ok()
+        .expect(&rt, "a value");
+    assert_eq!(rt; info.backups.len(), 2);
+    assert_eq!(rt; info.backups[1].prior, Some(FULL));
+    assert_eq!(rt; info.backups[1].size, 400);
     Ok(())
 }
 
@@ -473,6 +528,99 @@ const MISFITS: [(&'static str, &'static str, &'static str, &'static str); 14] = 
     ),
 ];
 
+const BACKUP_MISFITS: [(&'static str, &'static str, &'static str, &'static str); 15] = [
+    (
+        "[backup:current]\n20240102-030405F={\"backup-archive-start\":null,\"backup-archive-stop\":null,\"backup-info-repo-size-delta\":1,\"backup-info-size\":1,\"backup-prior\":null,\"backup-reference\":[],\"backup-timestamp-start\":1,\"backup-timestamp-stop\":2,\"backup-type\":\"diff\",\"db-id\":1}\n\n[db]\ndb-catalog-version=2\ndb-control-version=3\ndb-id=1\ndb-system-id=7\ndb-version=\"16\"\n\n[db:history]\n1={\"db-catalog-version\":2,\"db-control-version\":3,\"db-system-id\":7,\"db-version\":\"16\"}\n\n",
+        "7b70e86566a804e987bc8d847bc814e753869208",
+        "backup:current",
+        "20240102-030405F",
+    ),
+    (
+        "[backup:current]\n20240102-030405F_20240102-030505D={\"backup-archive-start\":null,\"backup-archive-stop\":null,\"backup-info-repo-size-delta\":1,\"backup-info-size\":1,\"backup-prior\":\"20240102-030405F\",\"backup-reference\":[],\"backup-timestamp-start\":1,\"backup-timestamp-stop\":2,\"backup-type\":\"diff\",\"db-id\":1}\n\n[db]\ndb-catalog-version=2\ndb-control-version=3\ndb-id=1\ndb-system-id=7\ndb-version=\"16\"\n\n[db:history]\n1={\"db-catalog-version\":2,\"db-control-version\":3,\"db-system-id\":7,\"db-version\":\"16\"}\n\n",
+        "27b5ddba8c8c774709f8be85ee9d3363789aa866",
+        "backup:current",
+        "20240102-030405F_20240102-030505D",
+    ),
+    (
+        "[backup:current]\n20240102-030405F={\"backup-archive-start\":null,\"backup-archive-stop\":null,\"backup-info-repo-size-delta\":1,\"backup-prior\":null,\"backup-reference\":[],\"backup-timestamp-start\":1,\"backup-timestamp-stop\":2,\"backup-type\":\"full\",\"db-id\":1}\n\n[db]\ndb-catalog-version=2\ndb-control-version=3\ndb-id=1\ndb-system-id=7\ndb-version=\"16\"\n\n[db:history]\n1={\"db-catalog-version\":2,\"db-control-version\":3,\"db-system-id\":7,\"db-version\":\"16\"}\n\n",
+        "c924c6803201b129fc64dda25d23521532e7f254",
+        "backup:current",
+        "20240102-030405F",
+    ),
+    (
+        "[backup:current]\n20240102-030405F={\"backup-archive-start\":null,\"backup-archive-stop\":null,\"backup-info-repo-size-delta\":1,\"backup-info-size\":1,\"backup-prior\":null,\"backup-reference\":[],\"backup-timestamp-start\":1,\"backup-timestamp-stop\":2,\"backup-type\":\"full\",\"db-id\":1,\"db-more\":1}\n\n[db]\ndb-catalog-version=2\ndb-control-version=3\ndb-id=1\ndb-system-id=7\ndb-version=\"16\"\n\n[db:history]\n1={\"db-catalog-version\":2,\"db-control-version\":3,\"db-system-id\":7,\"db-version\":\"16\"}\n\n",
+        "4db7eb136dfe8f99f709dd96167dd17f4b00857a",
+        "backup:current",
+        "20240102-030405F",
+    ),
+    (
+        "[backup:current]\n20240102-030405F={\"backup-archive-start\":null,\"backup-archive-stop\":\"000000010000000000000003\",\"backup-info-repo-size-delta\":1,\"backup-info-size\":1,\"backup-prior\":null,\"backup-reference\":[],\"backup-timestamp-start\":1,\"backup-timestamp-stop\":2,\"backup-type\":\"full\",\"db-id\":1}\n\n[db]\ndb-catalog-version=2\ndb-control-version=3\ndb-id=1\ndb-system-id=7\ndb-version=\"16\"\n\n[db:history]\n1={\"db-catalog-version\":2,\"db-control-version\":3,\"db-system-id\":7,\"db-version\":\"16\"}\n\n",
+        "8e1fac388ed9db3ba0dea699ae345332cc326a85",
+        "backup:current",
+        "20240102-030405F",
+    ),
+    (
+        "[backup:current]\n20240102-030405F={\"backup-archive-start\":\"00000001000000000000000a\",\"backup-archive-stop\":\"00000001000000000000000a\",\"backup-info-repo-size-delta\":1,\"backup-info-size\":1,\"backup-prior\":null,\"backup-reference\":[],\"backup-timestamp-start\":1,\"backup-timestamp-stop\":2,\"backup-type\":\"full\",\"db-id\":1}\n\n[db]\ndb-catalog-version=2\ndb-control-version=3\ndb-id=1\ndb-system-id=7\ndb-version=\"16\"\n\n[db:history]\n1={\"db-catalog-version\":2,\"db-control-version\":3,\"db-system-id\":7,\"db-version\":\"16\"}\n\n",
+        "0df9e3c510d4acd681e2d3f62d72429e3838eede",
+        "backup:current",
+        "20240102-030405F",
+    ),
+    (
+        "[backup:current]\n20240102-030405F={\"backup-archive-start\":null,\"backup-archive-stop\":null,\"backup-info-repo-size-delta\":1,\"backup-info-size\":1,\"backup-prior\":null,\"backup-reference\":[\"20240102-030405F\",\"20240101-030405F\"],\"backup-timestamp-start\":1,\"backup-timestamp-stop\":2,\"backup-type\":\"full\",\"db-id\":1}\n\n[db]\ndb-catalog-version=2\ndb-control-version=3\ndb-id=1\ndb-system-id=7\ndb-version=\"16\"\n\n[db:history]\n1={\"db-catalog-version\":2,\"db-control-version\":3,\"db-system-id\":7,\"db-version\":\"16\"}\n\n",
+        "b9338f9cdf683b55d030de90a3939bc080c4ad9b",
+        "backup:current",
+        "20240102-030405F",
+    ),
+    (
+        "[backup:current]\n20240230-030405F={\"backup-archive-start\":null,\"backup-archive-stop\":null,\"backup-info-repo-size-delta\":1,\"backup-info-size\":1,\"backup-prior\":null,\"backup-reference\":[],\"backup-timestamp-start\":1,\"backup-timestamp-stop\":2,\"backup-type\":\"full\",\"db-id\":1}\n\n[db]\ndb-catalog-version=2\ndb-control-version=3\ndb-id=1\ndb-system-id=7\ndb-version=\"16\"\n\n[db:history]\n1={\"db-catalog-version\":2,\"db-control-version\":3,\"db-system-id\":7,\"db-version\":\"16\"}\n\n",
+        "8215263f65ff08458b5b50a0be025052bde63e5c",
+        "backup:current",
+        "20240230-030405F",
+    ),
+    (
+        "[backup:current]\n20240102-030405F={\"backup-archive-start\":null,\"backup-archive-stop\":null,\"backup-info-repo-size-delta\":1,\"backup-info-size\":1,\"backup-prior\":null,\"backup-reference\":[],\"backup-timestamp-start\":1,\"backup-timestamp-stop\":2,\"backup-type\":\"full\",\"db-id\":1}\n20240102-030405F_20240102-030505D={\"backup-archive-start\":null,\"backup-archive-stop\":null,\"backup-info-repo-size-delta\":1,\"backup-info-size\":1,\"backup-prior\":\"20240102-030405F\",\"backup-reference\":[],\"backup-timestamp-start\":1,\"backup-timestamp-stop\":2,\"backup-type\":\"incr\",\"db-id\":1}\n\n[db]\ndb-catalog-version=2\ndb-control-version=3\ndb-id=1\ndb-system-id=7\ndb-version=\"16\"\n\n[db:history]\n1={\"db-catalog-version\":2,\"db-control-version\":3,\"db-system-id\":7,\"db-version\":\"16\"}\n\n",
+        "4069ca12f261a1d157d209242b8de457c3c8a2f9",
+        "backup:current",
+        "20240102-030405F_20240102-030505D",
+    ),
+    (
+        "[backup:current]\n20240102-030405F={\"backup-archive-start\":null,\"backup-archive-stop\":null,\"backup-info-repo-size-delta\":1,\"backup-info-size\":1,\"backup-prior\":null,\"backup-reference\":[],\"backup-timestamp-start\":1,\"backup-timestamp-stop\":2,\"backup-type\":\"full\",\"db-id\":2}\n\n[db]\ndb-catalog-version=2\ndb-control-version=3\ndb-id=1\ndb-system-id=7\ndb-version=\"16\"\n\n[db:history]\n1={\"db-catalog-version\":2,\"db-control-version\":3,\"db-system-id\":7,\"db-version\":\"16\"}\n\n",
+        "8d6aca4af65de23ce5927cf9dea4d75a0b778b3d",
+        "db:history",
+        "2",
+    ),
+    (
+        "[db:history]\n1={\"db-catalog-version\":2,\"db-control-version\":3,\"db-system-id\":7,\"db-version\":\"16\"}\n\n",
+        "dfc5aa21427392a9d84bf49ef81ef339dc5103d5",
+        "db",
+        "db-catalog-version",
+    ),
+    (
+        "[db]\ndb-catalog-version=2\ndb-id=1\ndb-system-id=7\ndb-version=\"16\"\n\n[db:history]\n1={\"db-catalog-version\":2,\"db-control-version\":3,\"db-system-id\":7,\"db-version\":\"16\"}\n\n",
+        "c597daef57f9bee30a739e4f3bed4324d98e3e39",
+        "db",
+        "db-control-version",
+    ),
+    (
+        "[db]\ndb-also=1\ndb-control-version=3\ndb-id=1\ndb-system-id=7\ndb-version=\"16\"\n\n[db:history]\n1={\"db-catalog-version\":2,\"db-control-version\":3,\"db-system-id\":7,\"db-version\":\"16\"}\n\n",
+        "767f68e0390f4c96c179896dfe89c72fd7f2c0f0",
+        "db",
+        "db-also",
+    ),
+    (
+        "[db]\ndb-catalog-version=2\ndb-control-version=3\ndb-id=1\ndb-system-id=7\ndb-version=\"16\"\n\n",
+        "d4971e69afa303e6e7a85e0c716f3582acdea2db",
+        "db:history",
+        "1",
+    ),
+    (
+        "[backup]\na=1\n\n[db]\ndb-catalog-version=2\ndb-control-version=3\ndb-id=1\ndb-system-id=7\ndb-version=\"16\"\n\n[db:history]\n1={\"db-catalog-version\":2,\"db-control-version\":3,\"db-system-id\":7,\"db-version\":\"16\"}\n\n",
+        "03b5cca79c0c718ed83ab962e3c5f1c2be80d874",
+        "backup",
+        "a",
+    ),
+];
+
 fn fault_text(alloc: Global, fault: &MemberFault) -> Result<String, NoMemory> {
     let text = match fault {
         MemberFault::Absent => "absent".to_string(alloc)?,
@@ -488,23 +636,39 @@ fn fault_text(alloc: Global, fault: &MemberFault) -> Result<String, NoMemory> {
     Ok(text)
 }
 
-fn told(alloc: Global, text: &str) -> Result<String, NoMemory> {
-    let read = read(alloc, text)?;
+fn told<I: ReadInfo>(alloc: Global, text: &str) -> Result<String, NoMemory> {
+    let read = read::<I>(alloc, text)?;
     match read {
         Ok(_value) => Ok("value".to_string(alloc)?),
         Err(fault) => fault_text(alloc, &fault),
     }
 }
 
+// The text breaks the rules of its kind at this section and key.
+fn check_misfit<I: ReadInfo>(
+    rt: &impl Abort,
+    alloc: Global,
+    body: &str,
+    sum: &str,
+    section: &str,
+    key: &str,
+) -> Result<(), NoMemory> {
+    let text = format!(in alloc;
+        "[backrest]\nbackrest-format=5\n\n{body}[backrest]\nbackrest-checksum=\"{sum}\"\n"
+    )?;
+    let wanted = format!(in alloc; "{section} {key}")?;
+    assert_eq!(rt; told::<I>(alloc, text.as_str())?, wanted);
+    Ok(())
+}
+
 #[test]
 fn misfits(rt: HostRuntime) -> Result<(), Fail> {
     let alloc = rt.alloc();
     for (body, sum, section, key) in MISFITS {
-        let text = format!(in alloc;
-            "[backrest]\nbackrest-format=5\n\n{body}[backrest]\nbackrest-checksum=\"{sum}\"\n"
-        )?;
-        let wanted = format!(in alloc; "{section} {key}")?;
-        assert_eq!(rt; told(alloc, text.as_str())?, wanted);
+        check_misfit::<ArchiveInfo>(&rt, alloc, body, sum, section, key)?;
+    }
+    for (body, sum, section, key) in BACKUP_MISFITS {
+        check_misfit::<BackupInfo>(&rt, alloc, body, sum, section, key)?;
     }
     Ok(())
 }
@@ -517,7 +681,7 @@ fn damaged_texts(rt: HostRuntime) -> Result<(), Fail> {
     let half = &ARCHIVE[..ARCHIVE.len() / 2];
     let wrong = ARCHIVE.replace(alloc, "e6ee", "e6ef")?;
     for (text, wanted) in [("", "line 1"), (half, "line 10"), (wrong.as_str(), other)] {
-        assert_eq!(rt; told(alloc, text)?.as_str(), wanted);
+        assert_eq!(rt; told::<ArchiveInfo>(alloc, text)?.as_str(), wanted);
     }
     Ok(())
 }

@@ -1,8 +1,9 @@
 use Rattle.std.proofs.Common.{◌∙◌, ap, sym, true, false}
 use Rattle.pgb_command.specs.Answers.{Answer, status}
 use Rattle.pgb_command.specs.Outcomes.{answer_of}
-use Rattle.pgb_command.proofs.Causes.{told_cause, at_zero, at_finding, served_at_zero, completes}
+use Rattle.pgb_command.proofs.Causes.{told_cause, at_zero, at_finding, served_at_zero, missed_at_one, completes}
 use Rattle.pgb_command.proofs.Pushes.{command_keeps, reading_keeps}
+use Rattle.pgb_command.proofs.Archived.{serves_archived, misses_archived}
 use Rattle.pgb_command.proofs.top.run.Goals as goal
 
 pub returns-clause-done : goal.returns-clause-done
@@ -67,3 +68,13 @@ returns-clause-served g c = λ zero a asks name path is. let t = c.answer.ensure
 pub returns-clause-nodes : goal.returns-clause-nodes
 returns-clause-nodes g c = λ finding. let t = c.answer.ensures.told in
     at_finding _ c.serve-served.result.ending _ _ _ _ t.0 _ t.2 t.1 finding c.serve-served.ensures.nodes
+
+pub returns-clause-given : goal.returns-clause-given
+returns-clause-given g c = λ zero a asks name path is s some now. let t = c.answer.ensures.told in
+    serves_archived a.stanza a.data_folder name path (g.D.Disk.view c.args.outside.now.repo).now _ _ s some now
+    (served_at_zero c.serve-served.result.ending _ _ _ _ t.0 _ t.2 t.1 zero a _ _ _ name path is (c.serve-served.ensures.served a asks))
+
+pub returns-clause-lacking : goal.returns-clause-lacking
+returns-clause-lacking g c = λ one a asks name path is s some now. let t = c.answer.ensures.told in
+    misses_archived a.stanza a.data_folder name path (g.D.Disk.view c.args.outside.now.repo).now _ s some now
+    (missed_at_one c.serve-served.result.ending _ _ _ _ t.0 _ t.2 t.1 one a _ _ _ name path is (c.serve-served.ensures.served a asks))
