@@ -2,6 +2,8 @@
 #![tactic(auto)]
 
 #[cfg(test)]
+mod absent;
+#[cfg(test)]
 mod archiving;
 #[cfg(test)]
 mod beside;
@@ -25,8 +27,6 @@ mod keeping;
 mod locks;
 #[cfg(test)]
 mod outputs;
-#[cfg(test)]
-mod pairs;
 #[cfg(test)]
 mod pushing;
 #[cfg(test)]
