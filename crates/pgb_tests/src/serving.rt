@@ -22,13 +22,19 @@ const TEMPORARY: &str = "pg_wal/RECOVERYXLOG.pgbackrest.tmp";
 
 // A room where the calls of these numbers fail.
 fn failing_room(alloc: Global, failing: Failing, number: u64) -> Result<Room<MemSink>, Fail> {
-    let numbers = [number, number.saturating_add(1)];
-    let one = &numbers[..1];
+    let one = [number];
+    let two = [number, number.saturating_add(1)];
     let fails = match failing {
-        Failing::Disk => Fails { disk: one, ..NEVER },
-        Failing::Tree => Fails { tree: one, ..NEVER },
+        Failing::Disk => Fails {
+            disk: &one,
+            ..NEVER
+        },
+        Failing::Tree => Fails {
+            tree: &one,
+            ..NEVER
+        },
         Failing::TreeTwice => Fails {
-            tree: &numbers,
+            tree: &two,
             ..NEVER
         },
     };
