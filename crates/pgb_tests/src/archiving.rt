@@ -117,8 +117,6 @@ const TWO: Held<'static> = &[
 const BOTH_STORED: &str =
     "ERROR: [036]: 'archive/demo/16-1/0000000100000000/000000010000000000000003-0a7f5db0f00c15ad5503b06bf668b762e6b2c8cc' and 'archive/demo/16-1/0000000100000000/000000010000000000000003-1a7f5db0f00c15ad5503b06bf668b762e6b2c8cc' are both stored\n";
 
-const LATER: &str = "ERROR: [100]: 'archive file' is not built yet\n";
-
 // 39 bytes, one too few for a header.
 const NO_HEADER: LogFile = LogFile {
     front: HEADER,
@@ -147,7 +145,7 @@ const REFUSED: [(
     &'static str,
     u8,
     &'static str,
-); 20] = [
+); 19] = [
     (
         &MADE,
         SAMPLE,
@@ -189,28 +187,12 @@ const REFUSED: [(
         "ERROR: [012]: path '000000010000000000000003.partial' is outside the data folder\n",
     ),
     (
-        &MADE,
-        SAMPLE,
-        Some(FIRST),
-        "pg_wal/000000010000000000000003.partial",
-        100,
-        LATER,
-    ),
-    (
-        &MADE,
-        SAMPLE,
-        Some(FIRST),
-        "pg_wal/00000002.history",
-        100,
-        LATER,
-    ),
-    (
         &[],
         NO_CLUSTER,
         None,
         "pg_wal/000000010000000000000003.00000028.backup",
-        100,
-        LATER,
+        28,
+        "ERROR: [028]: 'global/pg_control' is missing\n",
     ),
     (
         &[],
@@ -275,6 +257,14 @@ const REFUSED: [(
         "/pg/pg_wal/000000010000000000000004",
         37,
         "ERROR: [037]: '/pg/pg_wal/000000010000000000000004' is missing\n",
+    ),
+    (
+        &MADE,
+        SAMPLE,
+        Some(FIRST),
+        "pg_wal/00000002.history",
+        37,
+        "ERROR: [037]: 'pg_wal/00000002.history' is missing\n",
     ),
     (
         TWO,

@@ -1,7 +1,7 @@
 // What else a disk may hold as a stanza is made.
 use crate::fixture::{
-    EXISTING, Folder, MADE, NAMES, NEVER, SAMPLE, Stands, WORDS, holds, listing, output, room,
-    run_words, tree,
+    Folder, MADE, NAMES, NEVER, SAMPLE, Stands, WORDS, holds, listing, output, room, run_words,
+    tree,
 };
 use crate::texts::{ARCHIVE_16, ARCHIVE_17, BACKUP_16, BACKUP_17};
 use std::test::Fail;
@@ -58,24 +58,6 @@ fn takes_what_was_left_away(rt: HostRuntime) -> Result<(), Fail> {
     Ok(())
 }
 
-// One member alone, with any bytes, is a stanza that is there.
-#[test]
-fn leaves_a_lone_member(rt: HostRuntime) -> Result<(), Fail> {
-    let alloc = rt.alloc();
-    for (name, whole) in MADE {
-        for text in ["", "[backrest]\n", whole, ARCHIVE_17] {
-            let held = [(name, text)];
-            let mut room = room(alloc, &held, SAMPLE, NEVER)?;
-            let names = listing(alloc, &mut room.repo)?;
-            assert_eq!(rt; run_words(alloc, &WORDS, &mut room)?, 100, "{name}");
-            assert_eq!(rt; output(&room), Some(EXISTING), "{name}");
-            assert!(rt; holds(&room.repo, &held), "{name}");
-            assert_eq!(rt; listing(alloc, &mut room.repo)?, names);
-        }
-    }
-    Ok(())
-}
-
 const SECOND: Folder = Folder {
     control: Stands::Padded(b"\x5b\x9d\x6d\xc2\x6f\x25\x61\x67\x14\x05\x00\x00\x89\x79\x10\x0c"),
     version: Stands::File(b"17\n"),
@@ -102,8 +84,9 @@ fn makes_two_stanzas(rt: HostRuntime) -> Result<(), Fail> {
     assert_eq!(rt; run_words(alloc, &WORDS, &mut room)?, 0);
     room.tree = tree(alloc, SECOND, &[])?;
     assert_eq!(rt; run_words(alloc, &other, &mut room)?, 0);
-    for words in [WORDS, other] {
-        assert_eq!(rt; run_words(alloc, &words, &mut room)?, 100, "{words:?}");
+    // the data folder is the second one's
+    for (words, status) in [(WORDS, 23), (other, 0)] {
+        assert_eq!(rt; run_words(alloc, &words, &mut room)?, status, "{words:?}");
     }
     assert!(rt; holds(&room.repo, &BOTH));
     assert_eq!(rt; listing(alloc, &mut room.repo)?.lines().count(), BOTH.len());

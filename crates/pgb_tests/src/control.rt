@@ -45,28 +45,18 @@ const TOLD: [(&'static [u8], &'static [u8], Control); 4] = [
     ),
 ];
 
-const REFUSED: [(&'static [u8], &'static [u8], ControlFault); 20] = [
+const REFUSED: [(&'static [u8], &'static [u8], ControlFault); 13] = [
     (b"", b"16\n", ControlFault::ControlShort { length: 0 }),
     (SHORT, b"16\n", ControlFault::ControlShort { length: 15 }),
-    // a short control file comes first
-    (SHORT, b"16", ControlFault::ControlShort { length: 15 }),
     (SHORT, b"14\n", ControlFault::ControlShort { length: 15 }),
     (FRONT, b"16", ControlFault::VersionText),
-    (FRONT, b"", ControlFault::VersionText),
-    (FRONT, b"\n", ControlFault::VersionText),
     (FRONT, b"014\n", ControlFault::VersionText),
-    (FRONT, b"16\n\n", ControlFault::VersionText),
     (FRONT, b"16\r\n", ControlFault::VersionText),
     (FRONT, b" 16\n", ControlFault::VersionText),
     (FRONT, b"+16\n", ControlFault::VersionText),
     // a minor version, as it was until 9.6
     (FRONT, b"9.6\n", ControlFault::VersionText),
     (FRONT, b"16\n16\n", ControlFault::VersionText),
-    (
-        FRONT,
-        b"111111111111111111111111111111111\n",
-        ControlFault::VersionText,
-    ),
     (FRONT, b"18446744073709551616\n", ControlFault::VersionText),
     (
         FRONT,
@@ -77,18 +67,6 @@ const REFUSED: [(&'static [u8], &'static [u8], ControlFault); 20] = [
         FRONT,
         b"14\n",
         ControlFault::VersionUnsupported { version: 14 },
-    ),
-    (
-        FRONT,
-        b"18\n",
-        ControlFault::VersionUnsupported { version: 18 },
-    ),
-    (
-        FRONT,
-        b"18446744073709551615\n",
-        ControlFault::VersionUnsupported {
-            version: 18446744073709551615,
-        },
     ),
 ];
 

@@ -1,7 +1,7 @@
 // Each call of a device fails in turn, and the same words are given again.
 use crate::fixture::{
-    Around, EXISTING, Fails, Held, MADE, NAMES, NEVER, NO_COMMAND, Room, SAMPLE, WORDS, holds,
-    listing, output, room, run_with, run_words, text_at,
+    Around, Fails, Held, MADE, NAMES, NEVER, NO_COMMAND, Room, SAMPLE, WORDS, holds, listing,
+    output, room, run_with, run_words, text_at,
 };
 use pgb_memory::{MemDisk, MemSink};
 use std::alloc::Global;
@@ -39,8 +39,8 @@ const MADE_BEFORE: Run = Run {
     words: &WORDS,
     config: None,
     held: &MADE,
-    status: 100,
-    line: EXISTING,
+    status: 0,
+    line: "",
 };
 
 const WITHOUT_COMMAND: Run = Run {
@@ -52,7 +52,7 @@ const WITHOUT_COMMAND: Run = Run {
 };
 
 // How many of the four members are there after each failing call, from the first on, each number once.
-const FAILED: [(Run, Device, &'static [usize]); 13] = [
+const FAILED: [(Run, Device, &'static [usize]); 12] = [
     (MAKING, Device::Disk, &[0, 1, 2, 3, 4]),
     (MAKING, Device::Tree, &[0]),
     (MAKING, Device::Locks, &[0]),
@@ -62,7 +62,6 @@ const FAILED: [(Run, Device, &'static [usize]); 13] = [
     (MADE_BEFORE, Device::Tree, &[4]),
     (MADE_BEFORE, Device::Locks, &[4]),
     (MADE_BEFORE, Device::Source, &[4]),
-    (MADE_BEFORE, Device::Sink, &[4]),
     (WITHOUT_COMMAND, Device::Disk, &[]),
     (WITHOUT_COMMAND, Device::Locks, &[]),
     (WITHOUT_COMMAND, Device::Sink, &[0]),
@@ -141,7 +140,7 @@ fn check_members(rt: &impl Abort, disk: &MemDisk) {
     }
 }
 
-// The same words on what a failed run left: they end well, or the stanza is there.
+// The same words on what a failed run left: the answer is that of a run without a failing call.
 fn check_again(
     rt: &impl Abort,
     alloc: Global,
@@ -152,19 +151,15 @@ fn check_again(
     let faults = (room.repo.faults(), room.tree.faults());
     room.out = MemSink::new(alloc, Vec::new(alloc));
     let status = run_words(alloc, run.words, &mut room)?;
-    let (wanted, line) = if count > 0 {
-        (100, EXISTING)
-    } else {
-        (run.status, run.line)
-    };
-    assert_eq!(rt; status, wanted);
-    assert_eq!(rt; output(&room), Some(line));
+    assert_eq!(rt; status, run.status);
+    assert_eq!(rt; output(&room), Some(run.line));
     assert_eq!(rt; (room.repo.faults(), room.tree.faults()), faults);
     assert_eq!(rt; (room.repo.misuses(), room.tree.misuses()), (0, 0));
     check_members(rt, &room.repo);
     if status == 0 {
         let names = String::from_str(alloc, NAMES)?;
         assert_eq!(rt; listing(alloc, &mut room.repo)?, names);
+        assert!(rt; holds(&room.repo, &MADE));
     } else {
         assert_eq!(rt; count_members(&room.repo), count);
     }

@@ -2,7 +2,7 @@
 use crate::texts::{ARCHIVE_16, BACKUP_16};
 use pgb_command::{Outside, run};
 use pgb_memory::{MemDisk, MemLocks, MemNode, MemSink, MemSource, MemTree};
-use pgb_outside::{Disk, Found, Link, NotThere, Sink, Stop, Turns};
+use pgb_outside::{Disk, Found, Link, NotThere, Seen, Sink, Stop, Tree, Turns};
 use std::alloc::{AllocError, Global};
 use std::test::Fail;
 
@@ -91,9 +91,6 @@ pub(crate) const WORDS: [&'static str; 6] = [
 
 /// The line where no word is a command.
 pub(crate) const NO_COMMAND: &str = "ERROR: [002]: no command found\n";
-
-/// The line where the stanza is there.
-pub(crate) const EXISTING: &str = "ERROR: [100]: 'existing stanza' is not built yet\n";
 
 /// The members of the stanza that is made of the sample.
 pub(crate) const MADE: [(&'static str, &'static str); 4] = [
@@ -267,6 +264,24 @@ pub(crate) fn listing(alloc: Global, disk: &mut MemDisk) -> Result<String, Stop>
             lines.push_str(&name)?;
             lines.push('\n')?;
         }
+    }
+    Ok(lines)
+}
+
+/// The bytes of a file of the data folder.
+pub(crate) fn file_at<'a>(tree: &'a MemTree, path: &str) -> Option<&'a [u8]> {
+    match tree.node(path) {
+        Some(MemNode::File { bytes, .. }) => Some(bytes.as_slice()),
+        _ => None,
+    }
+}
+
+/// The paths of the data folder, a line each.
+pub(crate) fn paths(alloc: Global, tree: &mut MemTree) -> Result<String, Stop> {
+    let mut lines = String::new(alloc);
+    for Seen { path, node: _ } in tree.list(alloc)? {
+        lines.push_str(&path)?;
+        lines.push('\n')?;
     }
     Ok(lines)
 }

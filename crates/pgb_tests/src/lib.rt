@@ -2,6 +2,8 @@
 #![tactic(auto)]
 
 #[cfg(test)]
+mod absent;
+#[cfg(test)]
 mod archiving;
 #[cfg(test)]
 mod beside;
@@ -14,17 +16,23 @@ mod failing;
 #[cfg(test)]
 mod fixture;
 #[cfg(test)]
+mod getting;
+#[cfg(test)]
+mod histories;
+#[cfg(test)]
 mod images;
+#[cfg(test)]
+mod keeping;
 #[cfg(test)]
 mod locks;
 #[cfg(test)]
 mod outputs;
 #[cfg(test)]
-mod pairs;
-#[cfg(test)]
 mod pushing;
 #[cfg(test)]
 mod refusing;
+#[cfg(test)]
+mod serving;
 #[cfg(test)]
 mod settings;
 #[cfg(test)]

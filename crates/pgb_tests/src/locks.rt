@@ -91,7 +91,7 @@ const TOOK: [(
     &'static str,
 ); 9] = [
     (&WORDS, &[], &[], &[1], 0, TOOK_BACKUP),
-    (&WORDS, &MADE, &[], &[], 100, TOOK_BACKUP),
+    (&WORDS, &MADE, &[], &[], 0, TOOK_BACKUP),
     (&WORDS, &[], &[9], &[], 80, TOOK_BACKUP),
     (&WORDS, &[], &[], &[0], 85, ""),
     (&PUSH, &MADE, &[], &[1], 0, TOOK_ARCHIVE),

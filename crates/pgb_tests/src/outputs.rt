@@ -5,6 +5,7 @@ use crate::fixture::{
     Around, Fails, Held, MADE, NEVER, NO_COMMAND, NOTHING, SAMPLE, WORDS, output, room, room_with,
     run_with, run_words,
 };
+use crate::getting::GET;
 use pgb_outside::{Sink, Stop};
 use std::alloc::Global;
 use std::test::Fail;
@@ -63,10 +64,10 @@ const LINES: [(
     ),
     (
         Some(b"[demo]\nx=1\n"),
-        &WORDS,
+        &GET,
         &MADE,
-        100,
-        "WARN: configuration file contains unknown option 'x'\nERROR: [100]: 'existing stanza' is not built yet\n",
+        1,
+        "WARN: configuration file contains unknown option 'x'\nINFO: unable to find 000000010000000000000009 in the archive\n",
     ),
     (None, &[], &[], 2, NO_COMMAND),
 ];

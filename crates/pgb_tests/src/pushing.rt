@@ -1,5 +1,7 @@
 // Segments, and their push over devices in memory.
-use crate::fixture::{Fails, Folder, Held, MADE, Room, holds, listing, room, run_words, tree_with};
+use crate::fixture::{
+    Fails, Folder, Held, MADE, Room, SAMPLE, holds, listing, room, run_words, tree_with,
+};
 use pgb_memory::{MemDisk, MemNode, MemSink, MemTree};
 use std::alloc::{AllocError, Global};
 use std::process::Abort;
@@ -64,6 +66,24 @@ pub(crate) fn bytes_of(alloc: Global, file: LogFile) -> Result<Vec<u8>, AllocErr
     Ok(bytes)
 }
 
+// The nodes of the log with this file at that path.
+fn log_nodes(
+    alloc: Global,
+    path: &str,
+    file: Option<LogFile>,
+) -> Result<Vec<(String, MemNode)>, AllocError> {
+    let mut nodes = Vec::new(alloc);
+    nodes.push((String::from_str(alloc, "pg_wal")?, MemNode::Folder))?;
+    if let Some(file) = file {
+        let bytes = bytes_of(alloc, file)?;
+        nodes.push((
+            String::from_str(alloc, path)?,
+            MemNode::File { bytes, time: 0 },
+        ))?;
+    }
+    Ok(nodes)
+}
+
 /// A data folder with this file of the log; those of its calls fail.
 pub(crate) fn log_tree(
     alloc: Global,
@@ -71,16 +91,12 @@ pub(crate) fn log_tree(
     file: Option<LogFile>,
     fail: &[u64],
 ) -> Result<MemTree, Fail> {
-    let mut nodes = Vec::new(alloc);
-    nodes.push((String::from_str(alloc, "pg_wal")?, MemNode::Folder))?;
-    if let Some(file) = file {
-        let bytes = bytes_of(alloc, file)?;
-        nodes.push((
-            String::from_str(alloc, PATH)?,
-            MemNode::File { bytes, time: 0 },
-        ))?;
-    }
-    tree_with(alloc, folder, nodes, fail)
+    tree_with(alloc, folder, log_nodes(alloc, PATH, file)?, fail)
+}
+
+/// The sample's data folder with this file of the log at that path.
+pub(crate) fn wal_tree(alloc: Global, path: &str, file: LogFile) -> Result<MemTree, Fail> {
+    tree_with(alloc, SAMPLE, log_nodes(alloc, path, Some(file))?, &[])
 }
 
 /// A disk that holds this, that data folder with this file of the log, and an output in memory.

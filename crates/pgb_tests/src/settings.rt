@@ -23,7 +23,7 @@ fn run_line(
 }
 
 // Words, a configuration, and the answer, in the order of refusals. What later ones ask is mostly wrong too.
-const REFUSED: [(&'static str, Option<&'static [u8]>, u8, &'static str); 36] = [
+const REFUSED: [(&'static str, Option<&'static [u8]>, u8, &'static str); 37] = [
     // the words from left to right, then the command
     ("", None, 2, "ERROR: [002]: no command found\n"),
     (
@@ -160,6 +160,12 @@ const REFUSED: [(&'static str, Option<&'static [u8]>, u8, &'static str); 36] = [
         11,
         "ERROR: [011]: 2 parameters given\n",
     ),
+    (
+        "--stanza=demo --pg1-path=pg archive-get 000000010000000000000003",
+        None,
+        11,
+        "ERROR: [011]: 1 parameters given\n",
+    ),
     // a configuration that is named has to be there
     (
         "--stanza=demo --pg1-path=pg --config=/etc/own.conf stanza-create",
@@ -201,10 +207,10 @@ const REFUSED: [(&'static str, Option<&'static [u8]>, u8, &'static str); 36] = [
         "ERROR: [100]: 'archive-push:async' is not built yet\n",
     ),
     (
-        "--stanza=demo --pg1-path=pg archive-get 000000010000000000000003 x",
+        "--stanza=demo --pg1-path=pg --archive-async archive-get 000000010000000000000003 x",
         None,
         100,
-        "ERROR: [100]: 'archive-get' is not built yet\n",
+        "ERROR: [100]: 'archive-async' is not built yet\n",
     ),
     (
         "--stanza=demo verify",
