@@ -31,15 +31,13 @@ pub(crate) const ABSENT: &str = "INFO: unable to find 000000010000000000000009 i
 const LOCKS: &[&'static str] = &["demo-archive.lock", "demo-backup.lock"];
 
 /// Runs archive-get with this name and path, where others hold the stanza's locks.
-pub(crate) fn get(
+pub(crate) fn get<'a>(
     alloc: Global,
-    name: &str,
-    path: &str,
+    name: &'a str,
+    path: &'a str,
     room: &mut Room<MemSink>,
 ) -> Result<u8, AllocError> {
-    let mut words: [&str; 6] = GET;
-    words[4] = name;
-    words[5] = path;
+    let words = [GET[0], GET[1], GET[2], GET[3], name, path];
     let around = Around {
         held: LOCKS,
         ..NOTHING
