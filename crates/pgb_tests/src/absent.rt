@@ -6,6 +6,8 @@ use crate::getting::{
 };
 use crate::pushing::log_room;
 use crate::texts::ARCHIVE_17;
+use std::alloc::Global;
+use std::process::Abort;
 use std::test::Fail;
 
 const NO_CLUSTER: Folder = Folder {
@@ -50,16 +52,18 @@ const BESIDE: Held<'static> = &[
     ),
 ];
 
-// What the repository and the data folder hold, the name and the path, and the answer, in the order of refusals. What later
-// ones ask is mostly wrong too.
-const REFUSED: [(
+// What the repository and the data folder hold, the name and the path, and the answer.
+type Refused = (
     Held<'static>,
     Folder,
     &'static str,
     &'static str,
     u8,
     &'static str,
-); 21] = [
+);
+
+// In the order of refusals: what later ones ask is mostly wrong too.
+const REFUSED: [Refused; 21] = [
     (
         &[],
         NO_CLUSTER,
@@ -205,16 +209,20 @@ const REFUSED: [(
 
 const FAILED: &str = "ERROR: [082]: data folder failed\n";
 
+fn check_refused(rt: &impl Abort, alloc: Global, refused: Refused) -> Result<(), Fail> {
+    let (held, folder, name, path, status, line) = refused;
+    let mut room = log_room(alloc, held, folder, None, NEVER)?;
+    let before = paths(alloc, &mut room.tree)?;
+    assert_eq!(rt; get(alloc, name, path, &mut room)?, status, "{line}");
+    assert_eq!(rt; output(&room), Some(line));
+    assert!(rt; paths(alloc, &mut room.tree)? == before, "{line}");
+    check_repository(rt, alloc, held, &mut room)
+}
+
 #[test]
 fn serves_nothing_else(rt: HostRuntime) -> Result<(), Fail> {
-    let alloc = rt.alloc();
-    for (held, folder, name, path, status, line) in REFUSED {
-        let mut room = log_room(alloc, held, folder, None, NEVER)?;
-        let before = paths(alloc, &mut room.tree)?;
-        assert_eq!(rt; get(alloc, name, path, &mut room)?, status, "{line}");
-        assert_eq!(rt; output(&room), Some(line));
-        assert_eq!(rt; paths(alloc, &mut room.tree)?, before, "{line}");
-        check_repository(&rt, alloc, held, &mut room)?;
+    for refused in REFUSED {
+        check_refused(&rt, rt.alloc(), refused)?;
     }
     Ok(())
 }
