@@ -273,7 +273,9 @@ pub(crate) fn line(alloc: Global, fault: &Fault) -> Result<Vec<u8>, NoMemory>
         ),
         Fault::SegmentMissing { path } => quoted(alloc, "ERROR: [037]: '", path, "' is missing\n"),
         Fault::TooLong { name, limit } => long_line(alloc, name, *limit),
-        Fault::TooMany { limit } => bytes_of(format!(in alloc; "ERROR: [071]: more than {limit}\n")),
+        Fault::TooMany { limit } => bytes_of(format!(in alloc;
+            "ERROR: [071]: more than {limit}\n"
+        )),
         Fault::HeaderForm { .. } => bytes_of(String::from_str(
             alloc,
             "ERROR: [032]: WAL header is not valid\n",
