@@ -4,7 +4,7 @@ use Rattle.std.specs.Prelude.{◌≢◌, OnOk}
 use Rattle.pgb_options.specs.declared.usage.Usage.{Usage}
 use Rattle.pgb_options.specs.declared.usage.Usage.TheVariants.{CommandMissing, CommandUnknown, OptionUnknown, OptionRepeated, OptionValue, OptionMissing, OptionNotFor, ConfigSyntax, ParameterCount, ParameterUtf8, NoMemory as UsageNoMemory}
 use Rattle.pgb_command.specs.declared.outcome.Outcome.{Outcome}
-use Rattle.pgb_command.specs.declared.outcome.Outcome.TheVariants.{Silent, SameStored, Absent}
+use Rattle.pgb_command.specs.declared.outcome.Outcome.TheVariants.{Silent, SameStored, Absent, Report}
 use Rattle.pgb_command.specs.Outcomes.{ending_of, OnNothing}
 use Rattle.pgb_outside.specs.Content.{Content}
 use Rattle.pgb_outside.specs.Tree.{Nodes}
@@ -14,9 +14,11 @@ use Rattle.pgb_command.specs.declared.fault.Fault.TheVariants.{Settings, ConfigM
 use Rattle.pgb_command.specs.Answers.{Ending, finished, absent, refused, Answer, error_line, lines_of, ending_lines, usage_status, status_of, status, OnFinding, IsFinding}
 use Rattle.pgb_command.specs.Causes.{Cause, Refused, Unknown, Asking, Output, Memory}
 use Rattle.pgb_command.specs.Output.{IsFrontWritten, IsTold, Whole, Cut, Starved, Wordless, WroteLines, Wrote}
-use Rattle.pgb_command.specs.Asked.{Request, get, Asked}
+use Rattle.pgb_options.specs.declared.options.OutputWord.{OutputWord}
+use Rattle.pgb_command.specs.Asked.{Request, get, info, Asked}
 use Rattle.pgb_command.specs.Doing.{ServesFor, MissesFor, ServedBy}
 use Rattle.pgb_command.specs.Getting.{Serves, IsMissing}
+use Rattle.pgb_command.specs.Reporting.{IsReported}
 use Rattle.pgb_command.proofs.Pushes.{finding_to, on_all as all_findings}
 use Rattle.pgb_command.proofs.Written.{more}
 use Rattle.pgb_command.proofs.Told.{front_whole, front_as}
@@ -240,6 +242,7 @@ no_finding n is (inr b) = absurd (omega (arith, is, b.0))
 pub at_finding : (P : Type 0) (result : Result Outcome Fault) (u : List Text) (old new : Option Text) (rose : Type 0) (told : Ending) (n : ℕ) → IsTold old (At result u) new rose told → n ≡ status told → IsFinding n → OnNothing result P → P
 at_finding P (Ok Silent) u old new rose told n (Whole ending end is) same finding h = absurd (no_finding n (same ∙ ap status end) finding)
 at_finding P (Ok (SameStored name)) u old new rose told n (Whole ending end is) same finding h = absurd (no_finding n (same ∙ ap status end) finding)
+at_finding P (Ok (Report text)) u old new rose told n (Whole ending end is) same finding h = absurd (no_finding n (same ∙ ap status end) finding)
 at_finding P (Ok (Absent name)) u old new rose told n (Whole ending end is) same finding h = h
 at_finding P (Err e) u old new rose told n (Whole ending end is) same finding h = found_by e P (subst IsFinding (same ∙ ap status end) finding) h
 at_finding P result u old new rose told n (Cut r front) same finding h = absurd (not_a_finding n 87 same (omega arith) (omega arith) finding)
@@ -250,30 +253,58 @@ pub nothing_as : (result : Result Outcome Fault) (P Q : Type 0) → (P → Q) �
 nothing_as (Ok Silent) P Q to h = tt
 nothing_as (Ok (SameStored name)) P Q to h = tt
 nothing_as (Ok (Absent name)) P Q to h = to h
+nothing_as (Ok (Report text)) P Q to h = tt
 nothing_as (Err e) P Q to h = finding_to e P Q to h
 
 pub nothing_all : (result : Result Outcome Fault) (P : Type 0) → P → OnNothing result P
 nothing_all (Ok Silent) P p = tt
 nothing_all (Ok (SameStored name)) P p = tt
 nothing_all (Ok (Absent name)) P p = p
+nothing_all (Ok (Report text)) P p = tt
 nothing_all (Err e) P p = all_findings e P p
 
--- the file of archive-get is served where the program ends with 0
-pub served_at_zero : (result : Result Outcome Fault) (u : List Text) (old new : Option Text) (rose : Type 0) (told : Ending) (n : ℕ) → IsTold old (At result u) new rose told → n ≡ status told → n ≡ 0 → (a : Asked) (repo : Option Content) (nodes after : Option Nodes) (name path : Text) → a.request ≡ get name path →
-    ServedBy (ending_of result) a repo nodes after → Serves a.stanza a.data_folder name path repo nodes after
-served_at_zero (Ok Silent) u old new rose told n is same zero a repo nodes after name path asked h = subst (λ (r : Request). ServesFor r a.stanza a.data_folder repo nodes after) asked h
-served_at_zero (Ok (SameStored w)) u old new rose told n is same zero a repo nodes after name path asked h = subst (λ (r : Request). ServesFor r a.stanza a.data_folder repo nodes after) asked h
-served_at_zero (Ok (Absent w)) u old new rose told n (Whole ending end is) same zero a repo nodes after name path asked h = absurd (omega (arith, same, zero, ap status end))
-served_at_zero (Ok (Absent w)) u old new rose told n (Cut r front) same zero a repo nodes after name path asked h = absurd (omega (arith, same, zero))
-served_at_zero (Ok (Absent w)) u old new rose told n (Starved lines which front) same zero a repo nodes after name path asked h = absurd (omega (arith, same, zero))
-served_at_zero (Ok (Absent w)) u old new rose told n (Wordless r front) same zero a repo nodes after name path asked h = absurd (omega (arith, same, zero))
-served_at_zero (Err e) u old new rose told n is same zero a repo nodes after name path asked h = absurd (at_zero ⊥ (Err e) u old new rose told n is same zero tt)
+-- the answer is told whole where the program ends with 0
+whole_at_zero : (answer : Answer) (old new : Option Text) (rose : Type 0) (told : Ending) (n : ℕ) → IsTold old answer new rose told → n ≡ status told → n ≡ 0 → (told ≡ answer.ending) × (new ≡ more (lines_of answer) old)
+whole_at_zero answer old new rose told n (Whole ending end is) same zero = (end, is)
+whole_at_zero answer old new rose told n (Cut r front) same zero = absurd (omega (arith, same, zero))
+whole_at_zero answer old new rose told n (Starved lines which front) same zero = absurd (omega (arith, same, zero))
+whole_at_zero answer old new rose told n (Wordless r front) same zero = absurd (omega (arith, same, zero))
+
+module _ (u : List Text) (old new : Option Text) (a : Asked) (repo : Option Content) (nodes after : Option Nodes) where
+  -- with its lines, what is asked for is served
+  abbrev ServedWith : Type 0
+  ServedWith = (lines : Text) × (new ≡ more (lines_of (As u (finished lines))) old) × ServesFor a.request lines a.stanza a.data_folder repo nodes after
+
+  finishes : (ending told : Ending) (n : ℕ) → told ≡ ending → new ≡ more (lines_of (As u ending)) old → n ≡ status told → n ≡ 0 → ServedBy ending a repo nodes after → ServedWith
+  finishes (finished lines) told n is whole same zero h = (lines, whole, h)
+  finishes (absent name) told n is whole same zero h = absurd (omega (arith, same, zero, ap status is))
+  finishes (refused fault) told n is whole same zero h = absurd (not_zero fault (sym (ap status is) ∙ sym same ∙ zero))
+
+  pub with_lines : (result : Result Outcome Fault) (rose : Type 0) (told : Ending) (n : ℕ) → IsTold old (At result u) new rose told → n ≡ status told → n ≡ 0 → ServedBy (ending_of result) a repo nodes after → ServedWith
+  with_lines result rose told n is same zero h =
+      let x = whole_at_zero (At result u) old new rose told n is same zero in
+      finishes (ending_of result) told n x.0 x.1 same zero h
+
+  -- the file of archive-get is served where the program ends with 0
+  pub served_at_zero : (result : Result Outcome Fault) (rose : Type 0) (told : Ending) (n : ℕ) → IsTold old (At result u) new rose told → n ≡ status told → n ≡ 0 → (name path : Text) → a.request ≡ get name path →
+      ServedBy (ending_of result) a repo nodes after → Serves a.stanza a.data_folder name path repo nodes after
+  served_at_zero result rose told n is same zero name path asked h =
+      let x = with_lines result rose told n is same zero h in
+      subst (λ (r : Request). ServesFor r x.0 a.stanza a.data_folder repo nodes after) asked x.2
+
+  -- and the report of info is told
+  pub reported_at_zero : (result : Result Outcome Fault) (rose : Type 0) (told : Ending) (n : ℕ) → IsTold old (At result u) new rose told → n ≡ status told → n ≡ 0 → (form : OutputWord) → a.request ≡ info form →
+      ServedBy (ending_of result) a repo nodes after → (lines : Text) × IsReported a.stanza form repo lines × (new ≡ more (lines_of (As u (finished lines))) old)
+  reported_at_zero result rose told n is same zero form asked h =
+      let x = with_lines result rose told n is same zero h in
+      (x.0, subst (λ (r : Request). ServesFor r x.0 a.stanza a.data_folder repo nodes after) asked x.2, x.1)
 
 -- and nothing was found where it ends with 1
 pub missed_at_one : (result : Result Outcome Fault) (u : List Text) (old new : Option Text) (rose : Type 0) (told : Ending) (n : ℕ) → IsTold old (At result u) new rose told → n ≡ status told → n ≡ 1 → (a : Asked) (repo : Option Content) (nodes after : Option Nodes) (name path : Text) → a.request ≡ get name path →
     ServedBy (ending_of result) a repo nodes after → IsMissing a.stanza a.data_folder name path repo nodes
 missed_at_one (Ok (Absent w)) u old new rose told n is same one a repo nodes after name path asked h = subst (λ (r : Request). MissesFor r a.stanza a.data_folder repo nodes) asked h
 missed_at_one (Ok Silent) u old new rose told n (Whole ending end is) same one a repo nodes after name path asked h = absurd (omega (arith, same, one, ap status end))
+missed_at_one (Ok (Report w)) u old new rose told n (Whole ending end is) same one a repo nodes after name path asked h = absurd (omega (arith, same, one, ap status end))
 missed_at_one (Ok (SameStored w)) u old new rose told n (Whole ending end is) same one a repo nodes after name path asked h = absurd (omega (arith, same, one, ap status end))
 missed_at_one (Err e) u old new rose told n (Whole ending end is) same one a repo nodes after name path asked h = absurd (not_one e (sym (ap status end) ∙ sym same ∙ one))
 missed_at_one result u old new rose told n (Cut r front) same one a repo nodes after name path asked h = absurd (omega (arith, same, one))

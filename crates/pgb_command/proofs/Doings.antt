@@ -13,13 +13,15 @@ use Rattle.pgb_model.proofs.Done.{nothing_done}
 use Rattle.pgb_command.specs.declared.fault.Fault.{Fault}
 use Rattle.pgb_command.specs.declared.fault.Fault.TheVariants.{NoMemory}
 use Rattle.pgb_command.specs.declared.outcome.Outcome.{Outcome}
+use Rattle.pgb_options.specs.declared.options.OutputWord.{OutputWord}
 use Rattle.pgb_command.specs.Answers.{Ending, finished, absent, refused}
-use Rattle.pgb_command.specs.Asked.{Request, create, push, get, Asked}
-use Rattle.pgb_command.specs.Causes.{CreateCause, PushFileCause, IsStored, AskedCause, Creating, Stored, Pushing, Given, Missing, Getting}
+use Rattle.pgb_command.specs.Asked.{Request, create, push, get, info, Asked}
+use Rattle.pgb_command.specs.Causes.{CreateCause, PushFileCause, IsStored, AskedCause, Creating, Stored, Pushing, Given, Missing, Getting, Reported, Reporting}
 use Rattle.pgb_command.specs.Cluster.{IsClusterOf}
 use Rattle.pgb_command.specs.Commands.{IsPushOf, IsRequestOf, IsCommandOf}
 use Rattle.pgb_command.specs.Doing.{AreHealed, PartDone, AllDone, NoneDone, ServesFor, MissesFor, ServedBy}
 use Rattle.pgb_command.specs.Getting.{GetFileCause, GotBy}
+use Rattle.pgb_command.specs.Reporting.{InfoCause, ReportedBy}
 use Rattle.pgb_command.specs.Outcomes.{outcome_ending, OnFinished, ending_of}
 use Rattle.pgb_stanza.specs.Pairs.{LacksStanza, PairsAgree}
 use Rattle.pgb_command.specs.Storing.{AgreesAtPair}
@@ -113,17 +115,41 @@ module _ (a : Asked) (path : Text) (nodes : Option Nodes) (old new : View) (is :
 
 -- ---- commands that only read
 
-module _ (a : Asked) (name path : Text) (nodes : Option Nodes) (old new : View) (is : a.request ≡ get name path) (rests : Rests old new) (same : new.now ≡ old.now) where
+abbrev pub OnlyReads : Request → Type 0
+OnlyReads create = ⊥
+OnlyReads (push path) = ⊥
+OnlyReads (get name path) = Unit {0}
+OnlyReads (info form) = Unit {0}
+
+reading_of : (f : Nodes) (folder : Text) (q : Request) (command : Command) → OnlyReads q → IsRequestOf f folder q command → command ≡ Reading
+reading_of f folder create command reads h = absurd reads
+reading_of f folder (push path) command reads h = absurd reads
+reading_of f folder (get name path) command reads h = h
+reading_of f folder (info form) command reads h = h
+
+heals_none : (stanza : Text) (f : Content) (q : Request) → OnlyReads q → AreHealed q stanza f
+heals_none stanza f create reads = absurd reads
+heals_none stanza f (push path) reads = absurd reads
+heals_none stanza f (get name path) reads = tt
+heals_none stanza f (info form) reads = tt
+
+makes_none : {P : Type 0} (q : Request) → OnlyReads q → create ≡ q → P
+makes_none create reads e = absurd reads
+makes_none (push path) reads e = absurd reads
+makes_none (get name path) reads e = cc
+makes_none (info form) reads e = cc
+
+module _ (a : Asked) (q : Request) (reads : OnlyReads q) (nodes : Option Nodes) (old new : View) (is : a.request ≡ q) (rests : Rests old new) (same : new.now ≡ old.now) where
   as_reading : (command : Command) → IsSomeAnd nodes (λ f. IsCommandOf f a command) → command ≡ Reading
   as_reading command asked = go nodes asked
     where
       go : (nodes : Option Nodes) → IsSomeAnd nodes (λ f. IsCommandOf f a command) → command ≡ Reading
       go None asked = absurd asked
-      go (Some f) asked = subst (λ (r : Request). IsRequestOf f a.data_folder r command) is asked
+      go (Some f) asked = reading_of f a.data_folder q command reads (subst (λ (r : Request). IsRequestOf f a.data_folder r command) is asked)
 
   nothing_healed : (now : Option Content) → IfSome now (AreHealed a.request a.stanza)
   nothing_healed None = tt
-  nothing_healed (Some f) = subst (λ (r : Request). AreHealed r a.stanza f) (sym is) tt
+  nothing_healed (Some f) = subst (λ (r : Request). AreHealed r a.stanza f) (sym is) (heals_none a.stanza f q reads)
 
   pub read_part : PartDone a nodes old new
   read_part = record {
@@ -137,12 +163,15 @@ module _ (a : Asked) (name path : Text) (nodes : Option Nodes) (old new : View) 
     done = λ command asked. subst (λ (k : Command). NowDoes a.stanza k true old.now new.now) (sym (as_reading command asked)) (still_does a.stanza old.now new.now same);
     carried = λ command asked. subst (λ (k : Command). CarriesOn a.stanza k true old new) (sym (as_reading command asked)) (rests_carried a.stanza old new rests same);
     agrees = λ some. nothing_healed new.now;
-    members = λ other. let e : ◌≡◌ {A = Request} create (get name path) = sym other ∙ is in cc;
+    members = λ other. makes_none q reads (sym other ∙ is);
   }
 
   pub read_none : NoneDone a old new
   read_none = record { stays = still_does a.stanza old.now new.now same; carried = rests_carried a.stanza old new rests same; unchanged = λ other. same }
 
+-- ---- archive-get
+
+module _ (a : Asked) (name path : Text) (nodes : Option Nodes) (is : a.request ≡ get name path) where
   pub got_answer : (result : Result Outcome Fault) (repo : Option Content) (d t l h : Type 0) (after : Option Nodes) → IfOk result (λ x. GotBy (outcome_ending x) a.stanza a.data_folder name path repo nodes after) →
       IfErr result (GetFileCause a.stanza a.data_folder name path repo nodes d t) → AskedCause a repo nodes d t l h (ending_of result)
   got_answer (Ok x) repo d t l h after got cause = well (outcome_ending x) got
@@ -158,10 +187,32 @@ module _ (a : Asked) (name path : Text) (nodes : Option Nodes) (old new : View) 
   got_serves (Ok x) repo after got = well (outcome_ending x) got
     where
       well : (ending : Ending) → GotBy ending a.stanza a.data_folder name path repo nodes after → ServedBy ending a repo nodes after
-      well (finished lines) g = subst (λ (r : Request). ServesFor r a.stanza a.data_folder repo nodes after) (sym is) g.1
+      well (finished lines) g = subst (λ (r : Request). ServesFor r lines a.stanza a.data_folder repo nodes after) (sym is) g.1
       well (absent word) g = subst (λ (r : Request). MissesFor r a.stanza a.data_folder repo nodes) (sym is) g.1
       well (refused fault) g = absurd g
   got_serves (Err e) repo after got = tt
+
+-- ---- info
+
+module _ (a : Asked) (form : OutputWord) (nodes : Option Nodes) (is : a.request ≡ info form) where
+  pub report_answer : (result : Result Outcome Fault) (repo : Option Content) (d t l h : Type 0) → IfOk result (λ x. ReportedBy (outcome_ending x) a.stanza form repo) →
+      IfErr result (InfoCause a.stanza repo d) → AskedCause a repo nodes d t l h (ending_of result)
+  report_answer (Ok x) repo d t l h told cause = well (outcome_ending x) told
+    where
+      well : (ending : Ending) → ReportedBy ending a.stanza form repo → AskedCause a repo nodes d t l h ending
+      well (finished lines) r = Reported form lines is r
+      well (absent word) r = absurd r
+      well (refused fault) r = absurd r
+  report_answer (Err e) repo d t l h told cause = Reporting form e is cause
+
+  pub report_serves : (result : Result Outcome Fault) (repo : Option Content) (after : Option Nodes) → IfOk result (λ x. ReportedBy (outcome_ending x) a.stanza form repo) → ServedBy (ending_of result) a repo nodes after
+  report_serves (Ok x) repo after told = well (outcome_ending x) told
+    where
+      well : (ending : Ending) → ReportedBy ending a.stanza form repo → ServedBy ending a repo nodes after
+      well (finished lines) r = subst (λ (q : Request). ServesFor q lines a.stanza a.data_folder repo nodes after) (sym is) r
+      well (absent word) r = absurd r
+      well (refused fault) r = absurd r
+  report_serves (Err e) repo after told = tt
 
 -- ---- want of memory
 
@@ -172,3 +223,4 @@ starved a repo nodes d t l h = go a.request refl
     go create is = Creating NoMemory is tt
     go (push path) is = Pushing path NoMemory is (inl tt)
     go (get name path) is = Getting name path NoMemory is tt
+    go (info form) is = Reporting form NoMemory is tt

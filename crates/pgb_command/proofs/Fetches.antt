@@ -2,7 +2,7 @@
 use Rattle.std.proofs.Common.{◌≡◌, List, [], Option, Some, None, Result, Ok, Err, IfErr, refl, sym, ◌∙◌, ap, subst}
 use Rattle.std.specs.Prelude.{IfSome, IsErrAnd, OnOk}
 use Rattle.pgb_outside.specs.Content.{Content}
-use Rattle.pgb_outside.specs.Tree.{Nodes, file_bytes}
+use Rattle.pgb_outside.specs.Tree.{Nodes}
 use Rattle.pgb_model.specs.declared.clusters.ClusterId.{ClusterId}
 use Rattle.pgb_model.specs.declared.wal.ArchiveName.{ArchiveName}
 use Rattle.pgb_model.specs.Text.{Text}
@@ -18,7 +18,8 @@ use Rattle.pgb_command.specs.declared.outcome.Outcome.{Outcome}
 use Rattle.pgb_command.specs.declared.outcome.Outcome.TheVariants.{Silent, SameStored, Absent}
 use Rattle.pgb_command.specs.Cluster.{FolderTells}
 use Rattle.pgb_stanza.specs.Pairs.{identity_kept, identity_told}
-use Rattle.pgb_command.specs.Getting.{AreWords, served_path, IsWanted, OnHistory, HasSame, FoundIn, SearchCause, FetchCause, IsServed, Serves}
+use Rattle.pgb_command.specs.Getting.{AreWords, served_path, IsWanted, OnHistory, HasSame, FoundIn, SearchCause, FetchCause, IsServed, IsPut, ChangesPath, Serves}
+use Rattle.pgb_command.proofs.Folders.{changes_as}
 use Rattle.pgb_command.specs.Outcomes.{OnNothing}
 
 on_both : (repo : Option Content) (P Q R : Content → Type 0) → ((f : Content) → P f → Q f → R f) → IfSome repo P → IfSome repo Q → IfSome repo R
@@ -71,14 +72,21 @@ module _ (stanza : Text) (told : Control) (name : ArchiveName) (repo : Option Co
   sought_err (Ok x) e is rose risen up h = tt
   sought_err (Err f) e is rose risen up h = subst (FetchCause stanza told name repo risen) (sym is) (sought rose risen up e h)
 
--- the file was put in its place
-pub serves : (stanza folder word path inside : Text) (repo : Option Content) (nodes now_nodes : Option Nodes) (name : ArchiveName) (told : Control) (bytes : Text) → AreWords folder word path name → inside ≡ served_path folder path → IfSome nodes (λ f. FolderTells f told) →
-    IfSome repo (λ f. OnHistory stanza f (λ v. FoundIn v.history stanza told name bytes f)) → IfSome now_nodes (λ f. file_bytes (f inside) ≡ Some bytes) → Serves stanza folder word path repo nodes now_nodes
-serves stanza folder word path inside repo nodes now_nodes name told bytes words is tells found holds = (
-  bytes,
-  record { name = name; told = told; wanted = record { named = words.0; inside = words.1; tells = tells }; found = found },
-  subst (λ (p : Text). IfSome now_nodes (λ f. file_bytes (f p) ≡ Some bytes)) is holds,
-)
+-- the file is had
+module _ (stanza folder word path : Text) (repo : Option Content) (nodes : Option Nodes) (name : ArchiveName) (told : Control) (bytes : Text) (words : AreWords folder word path name) (tells : IfSome nodes (λ f. FolderTells f told))
+    (found : IfSome repo (λ f. OnHistory stanza f (λ v. FoundIn v.history stanza told name bytes f))) where
+  pub is_served : IsServed stanza folder word path repo nodes bytes
+  is_served = record { name = name; told = told; wanted = record { named = words.0; inside = words.1; tells = tells }; found = found }
+
+  module _ (inside : Text) (is : inside ≡ served_path folder path) (old now_nodes : Option Nodes) where
+    -- and was put in its place
+    pub serves : IfSome now_nodes (IsPut inside bytes) → Serves stanza folder word path repo nodes now_nodes
+    serves holds = (bytes, is_served, subst (λ (p : Text). IfSome now_nodes (IsPut p bytes)) is holds)
+
+    -- or may have been
+    pub serves_only : ChangesPath inside (λ b. b ≡ bytes) old now_nodes → ChangesPath (served_path folder path) (IsServed stanza folder word path repo nodes) old now_nodes
+    serves_only goes = changes_as (served_path folder path) (λ b. b ≡ bytes) (IsServed stanza folder word path repo nodes) old now_nodes
+        (λ b same. subst (IsServed stanza folder word path repo nodes) (sym same) is_served) (subst (λ (p : Text). ChangesPath p (λ b. b ≡ bytes) old now_nodes) is goes)
 
 -- ---- of any result
 

@@ -11,6 +11,8 @@ mod Searches
 mod ServedPaths
 mod Folders
 mod Fetches
+mod EntryLines
+mod Reported
 mod Archived
 mod StoreCauses
 mod Pushes

@@ -1,5 +1,5 @@
 -- What holds of a writing command holds of what is asked.
-use Rattle.std.proofs.Common.{◌≡◌, List, Option, Some, refl, sym, subst}
+use Rattle.std.proofs.Common.{◌≡◌, List, Option, Some, refl, sym, ap, ◌∙◌, subst}
 use Rattle.pgb_outside.specs.Content.{Content}
 use Rattle.pgb_outside.specs.Moments.{View}
 use Rattle.pgb_outside.specs.Tree.{Nodes}
@@ -9,8 +9,9 @@ use Rattle.pgb_command.specs.declared.settings.Asking.TheVariants.{Write}
 use Rattle.pgb_command.specs.declared.settings.Writing.{Writing}
 use Rattle.pgb_command.specs.declared.settings.Writing.TheVariants.{StanzaCreate, ArchivePush}
 use Rattle.pgb_command.specs.Answers.{Ending, finished, absent, refused}
-use Rattle.pgb_command.specs.Asked.{Request, Asked}
-use Rattle.pgb_command.specs.Doing.{ServesFor, MissesFor, ServedBy}
+use Rattle.pgb_options.specs.declared.options.OutputWord.{OutputWord}
+use Rattle.pgb_command.specs.Asked.{Request, create, push, info, Asked}
+use Rattle.pgb_command.specs.Doing.{ServesFor, MissesFor, ServedBy, OpensFor}
 use Rattle.pgb_command.specs.Getting.{FolderGoes}
 use Rattle.pgb_command.specs.Locking.{lock_name, Locks, TakesLock, OnlyLocked, OnlyUnderLock}
 use Rattle.pgb_command.specs.Told.{writing_of, request_of, writing_lock}
@@ -33,16 +34,31 @@ module _ (stanza folder : Text) where
   pub only_asked : (q : Asking) (w : Writing) (old new : Taken) (a b : View) → q ≡ Write w → OnlyLocked folder (writing_lock stanza w) old new a b → OnlyUnderLock folder (lock_name stanza (request_of q)) old new a b
   only_asked q w old new a b is h = subst (λ (x : Asking). OnlyUnderLock folder (lock_name stanza (request_of x)) old new a b) (sym is) (only w old new a b h)
 
-still : (folder : Text) (w : Writing) (old new : Option Nodes) → new ≡ old → FolderGoes folder (writing_of w) old new
-still folder StanzaCreate old new h = h
-still folder (ArchivePush path) old new h = h
+still : (stanza folder : Text) (w : Writing) (repo : Option Content) (old new : Option Nodes) → new ≡ old → FolderGoes stanza folder (writing_of w) repo old new
+still stanza folder StanzaCreate repo old new h = h
+still stanza folder (ArchivePush path) repo old new h = h
 
-pub still_asked : (folder : Text) (q : Asking) (w : Writing) (old new : Option Nodes) → q ≡ Write w → new ≡ old → FolderGoes folder (request_of q) old new
-still_asked folder q w old new is h = subst (λ (x : Asking). FolderGoes folder (request_of x) old new) (sym is) (still folder w old new h)
+pub still_asked : (stanza folder : Text) (q : Asking) (w : Writing) (repo : Option Content) (old new : Option Nodes) → q ≡ Write w → new ≡ old → FolderGoes stanza folder (request_of q) repo old new
+still_asked stanza folder q w repo old new is h = subst (λ (x : Asking). FolderGoes stanza folder (request_of x) repo old new) (sym is) (still stanza folder w repo old new h)
 
-none_served : (w : Writing) (stanza folder : Text) (repo : Option Content) (nodes new : Option Nodes) → ServesFor (writing_of w) stanza folder repo nodes new
-none_served StanzaCreate stanza folder repo nodes new = tt
-none_served (ArchivePush path) stanza folder repo nodes new = tt
+opens : (w : Writing) (folder place : Text) → place ≡ folder → OpensFor (writing_of w) folder place
+opens StanzaCreate folder place h = h
+opens (ArchivePush path) folder place h = h
+
+pub opens_asked : (q : Asking) (w : Writing) (folder place : Text) → q ≡ Write w → place ≡ folder → OpensFor (request_of q) folder place
+opens_asked q w folder place is h = subst (λ (x : Asking). OpensFor (request_of x) folder place) (sym is) (opens w folder place h)
+
+no_report : {P : Type 0} (w : Writing) (form : OutputWord) → writing_of w ≡ info form → P
+no_report StanzaCreate form e = let h : ◌≡◌ {A = Request} create (info form) = e in cc
+no_report (ArchivePush path) form e = let h : ◌≡◌ {A = Request} (push path.now) (info form) = e in cc
+
+-- a writing command doesn't report
+pub never_reports : {P : Type 0} (q : Asking) (w : Writing) (form : OutputWord) → q ≡ Write w → request_of q ≡ info form → P
+never_reports q w form is asked = no_report w form (sym (ap request_of is) ∙ asked)
+
+none_served : (w : Writing) (lines stanza folder : Text) (repo : Option Content) (nodes new : Option Nodes) → ServesFor (writing_of w) lines stanza folder repo nodes new
+none_served StanzaCreate lines stanza folder repo nodes new = tt
+none_served (ArchivePush path) lines stanza folder repo nodes new = tt
 
 none_missing : (w : Writing) (stanza folder : Text) (repo : Option Content) (nodes : Option Nodes) → MissesFor (writing_of w) stanza folder repo nodes
 none_missing StanzaCreate stanza folder repo nodes = tt
@@ -50,7 +66,7 @@ none_missing (ArchivePush path) stanza folder repo nodes = tt
 
 pub served_asked : (ending : Ending) (a : Asked) (q : Asking) (w : Writing) (repo : Option Content) (nodes new : Option Nodes) → a.request ≡ request_of q → q ≡ Write w → ServedBy ending a repo nodes new
 served_asked (finished lines) a q w repo nodes new is write =
-    subst (λ (r : Request). ServesFor r a.stanza a.data_folder repo nodes new) (sym is) (subst (λ (x : Asking). ServesFor (request_of x) a.stanza a.data_folder repo nodes new) (sym write) (none_served w a.stanza a.data_folder repo nodes new))
+    subst (λ (r : Request). ServesFor r lines a.stanza a.data_folder repo nodes new) (sym is) (subst (λ (x : Asking). ServesFor (request_of x) lines a.stanza a.data_folder repo nodes new) (sym write) (none_served w lines a.stanza a.data_folder repo nodes new))
 served_asked (absent name) a q w repo nodes new is write =
     subst (λ (r : Request). MissesFor r a.stanza a.data_folder repo nodes) (sym is) (subst (λ (x : Asking). MissesFor (request_of x) a.stanza a.data_folder repo nodes) (sym write) (none_missing w a.stanza a.data_folder repo nodes))
 served_asked (refused fault) a q w repo nodes new is write = tt

@@ -3,11 +3,12 @@ use Rattle.std.specs.Prelude.{◌≡◌, ◌≤◌, ℕ, ◌^◌, Bool, false, L
 use Rattle.pgb_outside.specs.Content.{Content}
 use Rattle.pgb_model.specs.Text.{Text}
 use Rattle.pgb_options.specs.declared.table.Opt.{Opt}
-use Rattle.pgb_options.specs.declared.table.Opt.TheVariants.{Pg1Path, Repo1Path, LockPath, Online, ArchiveAsync}
+use Rattle.pgb_options.specs.declared.options.OutputWord.{OutputWord}
+use Rattle.pgb_options.specs.declared.table.Opt.TheVariants.{Pg1Path, Repo1Path, LockPath, Online, ArchiveAsync, Output}
 use Rattle.pgb_options.specs.declared.table.Verb.{Verb}
-use Rattle.pgb_options.specs.declared.table.Verb.TheVariants.{StanzaCreate, ArchivePush, ArchiveGet}
+use Rattle.pgb_options.specs.declared.table.Verb.TheVariants.{StanzaCreate, ArchivePush, ArchiveGet, Info}
 use Rattle.pgb_options.specs.Faults.{Fault}
-use Rattle.pgb_options.specs.Filled.{text_in, flag_in, or_else}
+use Rattle.pgb_options.specs.Filled.{text_in, flag_in, or_else, output_word, word_in}
 use Rattle.pgb_options.specs.Paths.{Path, nowhere, usual, named, path_of_words}
 use Rattle.pgb_options.specs.Settings.{Source, Settled, value, settled_words}
 use Rattle.pgb_command.specs.declared.fault.Unbuilt.{Unbuilt}
@@ -36,11 +37,12 @@ pub record Settles (words : List Text) (files : Option Content) (read : Result S
 
 -- ---- what is asked
 
--- which command, the file that archive-push is to store, and the file that archive-get is to serve and where
+-- which command, the file that archive-push is to store, the file that archive-get is to serve and where, and the form of info's report
 pub data Request : Type 0 where
   create : Request
   push : (path : Text) → Request
   get : (name path : Text) → Request
+  info : (form : OutputWord) → Request
 
 abbrev pub first_of : List Text → Text
 first_of [] = []
@@ -50,12 +52,13 @@ abbrev pub second_of : List Text → Text
 second_of [] = []
 second_of (x ∷ xs) = first_of xs
 
--- what a verb asks for, with a server or in the background where that is in force, and its parameters; or what isn't built
-abbrev pub request_by : Verb → Bool → Bool → List Text → Result Request Unbuilt
-request_by StanzaCreate online background given = if online then Err Server else Ok create
-request_by ArchivePush online background given = if background then Err Background else Ok (push (first_of given))
-request_by ArchiveGet online background given = if background then Err Background else Ok (get (first_of given) (second_of given))
-request_by verb online background given = Err (Command verb)
+-- what a verb asks for, with a server or in the background where that is in force, in a form of output, and its parameters; or what isn't built
+abbrev pub request_by : Verb → Bool → Bool → OutputWord → List Text → Result Request Unbuilt
+request_by StanzaCreate online background form given = if online then Err Server else Ok create
+request_by ArchivePush online background form given = if background then Err Background else Ok (push (first_of given))
+request_by ArchiveGet online background form given = if background then Err Background else Ok (get (first_of given) (second_of given))
+request_by Info online background form given = Ok (info form)
+request_by verb online background form given = Err (Command verb)
 
 abbrev pub path_in : Source → Opt → Text
 path_in source option = or_else [] (text_in (value source option))
@@ -64,7 +67,7 @@ abbrev pub is_on : Source → Opt → Bool
 is_on source option = or_else false (flag_in (value source option))
 
 abbrev pub requested : Settled → Result Request Unbuilt
-requested s = request_by s.source.verb (is_on s.source Online) (is_on s.source ArchiveAsync) s.parameters
+requested s = request_by s.source.verb (is_on s.source Online) (is_on s.source ArchiveAsync) (output_word (word_in (value s.source Output))) s.parameters
 
 -- what a command is told: the stanza, the data folder, the repository's folder and that of the locks, and what it is to do
 pub record Asked : Type 0 where

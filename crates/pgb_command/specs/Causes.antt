@@ -16,7 +16,7 @@ use Rattle.pgb_options.specs.Settings.{Settled}
 use Rattle.pgb_command.specs.declared.fault.Unbuilt.{Unbuilt}
 use Rattle.pgb_command.specs.declared.fault.Fault.{Fault}
 use Rattle.pgb_command.specs.declared.fault.Fault.TheVariants.{NotBuilt, Held, StanzaMissing, InfoDamaged, HistoryDiffers, StanzaMismatch, ArchiveLost, SegmentMissing, TooLong, HeaderForm, SegmentSize, HeaderMismatch, Ambiguous, Duplicate, Disk, Locks, Sink, NoMemory}
-use Rattle.pgb_command.specs.Asked.{Asked, create, push, get, Settles, requested, IsAsked}
+use Rattle.pgb_command.specs.Asked.{Asked, create, push, get, info, Settles, requested, IsAsked}
 use Rattle.pgb_stanza.specs.Pairs.{LacksStanza, HasStanzaOf}
 use Rattle.pgb_command.specs.Making.{MakeCause}
 use Rattle.pgb_command.specs.Configuring.{ConfigCause}
@@ -26,6 +26,8 @@ use Rattle.pgb_command.specs.Cluster.{FolderTells, ClusterCause}
 use Rattle.pgb_command.specs.WalPath.{IsWalPath, HasWal}
 use Rattle.pgb_command.specs.WalCause.{WordCause, FileCause}
 use Rattle.pgb_command.specs.Getting.{IsServed, IsMissing, GetFileCause}
+use Rattle.pgb_command.specs.Reporting.{IsReported, InfoCause}
+use Rattle.pgb_options.specs.declared.options.OutputWord.{OutputWord}
 use Rattle.pgb_command.specs.Storing.{HasCurrent, id_kept, ValueCause, CurrentCause}
 use Rattle.pgb_stanza.specs.Pairs.{identity_kept, identity_told}
 
@@ -124,18 +126,22 @@ pub record IsStored (stanza folder path : Text) (repo : Option Content) (nodes :
 pub data AskedCause (a : Asked) (repo : Option Content) (nodes : Option Nodes) (disk_rose tree_rose lock_rose held : Type 0) : Ending → Type 0 where
   -- the stanza is made, or was there
   Made : a.request ≡ create → IsMade a.stanza repo nodes → AskedCause a repo nodes disk_rose tree_rose lock_rose held (finished [])
-  -- the wal is stored
+  -- the file is stored
   Stored : (path lines : Text) → a.request ≡ push path → IsStored a.stanza a.data_folder path repo nodes lines → AskedCause a repo nodes disk_rose tree_rose lock_rose held (finished lines)
   -- the file is served
   Given : (name path : Text) (bytes : Text) → a.request ≡ get name path → IsServed a.stanza a.data_folder name path repo nodes bytes → AskedCause a repo nodes disk_rose tree_rose lock_rose held (finished [])
   -- the archive has no such file
   Missing : (name path : Text) → a.request ≡ get name path → IsMissing a.stanza a.data_folder name path repo nodes → AskedCause a repo nodes disk_rose tree_rose lock_rose held (absent name)
+  -- the report is told
+  Reported : (form : OutputWord) (lines : Text) → a.request ≡ info form → IsReported a.stanza form repo lines → AskedCause a repo nodes disk_rose tree_rose lock_rose held (finished lines)
   -- stanza-create is refused
   Creating : (fault : Fault) → a.request ≡ create → CreateCause a.stanza repo nodes disk_rose tree_rose lock_rose held fault → AskedCause a repo nodes disk_rose tree_rose lock_rose held (refused fault)
   -- archive-push is refused
   Pushing : (path : Text) (fault : Fault) → a.request ≡ push path → PushFileCause a.stanza a.data_folder path repo nodes disk_rose tree_rose lock_rose held fault → AskedCause a repo nodes disk_rose tree_rose lock_rose held (refused fault)
   -- archive-get is refused
   Getting : (name path : Text) (fault : Fault) → a.request ≡ get name path → GetFileCause a.stanza a.data_folder name path repo nodes disk_rose tree_rose fault → AskedCause a repo nodes disk_rose tree_rose lock_rose held (refused fault)
+  -- info is refused
+  Reporting : (form : OutputWord) (fault : Fault) → a.request ≡ info form → InfoCause a.stanza repo disk_rose fault → AskedCause a repo nodes disk_rose tree_rose lock_rose held (refused fault)
 
 -- Why the program answers so. The counts that may have risen are those of the repository, the data folder, the locks, the locks that were held, the configuration and the output.
 pub data Cause (words : List Text) (files : Option Content) (repo : Option Content) (nodes : Option Nodes) (disk_rose tree_rose lock_rose held source_rose sink_rose : Type 0) : Answer → Type 0 where

@@ -9,11 +9,12 @@ use Rattle.pgb_model.specs.Steps.{Command, Reading}
 use Rattle.pgb_model.specs.Steady.{CarriesOn, PassesOnly}
 use Rattle.pgb_model.specs.Now.{HasNewPairs, NowDoes}
 use Rattle.pgb_stanza.specs.Pairs.{LacksStanza, PairsAgree}
-use Rattle.pgb_command.specs.Asked.{Asked, Request, create, push, get}
+use Rattle.pgb_command.specs.Asked.{Asked, Request, create, push, get, info}
 use Rattle.pgb_command.specs.Cluster.{IsClusterOf}
 use Rattle.pgb_command.specs.Commands.{IsCommandOf}
 use Rattle.pgb_command.specs.Answers.{Ending, finished, absent, refused}
 use Rattle.pgb_command.specs.Getting.{Serves, IsMissing}
+use Rattle.pgb_command.specs.Reporting.{IsReported}
 use Rattle.pgb_command.specs.Storing.{AgreesAtPair}
 
 -- a part of its steps, in what the disk holds and in all that a stop leaves at any moment
@@ -27,6 +28,7 @@ abbrev pub AreHealed : Request → Text → Content → Type 0
 AreHealed create stanza f = PairsAgree stanza f
 AreHealed (push path) stanza f = AgreesAtPair stanza f
 AreHealed (get name path) stanza f = Unit {0}
+AreHealed (info form) stanza f = Unit {0}
 
 -- all of its steps
 pub record AllDone (a : Asked) (nodes : Option Nodes) (old new : View) : Type 0 where
@@ -35,22 +37,31 @@ pub record AllDone (a : Asked) (nodes : Option Nodes) (old new : View) : Type 0 
   pub agrees : IsSome old.now → IfSome new.now (AreHealed a.request a.stanza)
   pub members : a.request ≡ create → (c : Cluster) → IsSomeAnd nodes (λ f. IsClusterOf f (Some c)) → IfSome old.now (LacksStanza a.stanza) → IsSome old.now → IfSome new.now (HasNewPairs a.stanza c)
 
--- at Ok of archive-get its file is served
-abbrev pub ServesFor : Request → Text → Text → Option Content → Option Nodes → Option Nodes → Type 0
-ServesFor create stanza folder repo nodes new = Unit {0}
-ServesFor (push path) stanza folder repo nodes new = Unit {0}
-ServesFor (get name path) stanza folder repo nodes new = Serves stanza folder name path repo nodes new
+-- at Ok of archive-get its file is served, and at Ok of info its lines are the report
+abbrev pub ServesFor : Request → Text → Text → Text → Option Content → Option Nodes → Option Nodes → Type 0
+ServesFor create lines stanza folder repo nodes new = Unit {0}
+ServesFor (push path) lines stanza folder repo nodes new = Unit {0}
+ServesFor (get name path) lines stanza folder repo nodes new = Serves stanza folder name path repo nodes new
+ServesFor (info form) lines stanza folder repo nodes new = IsReported stanza form repo lines
 
 -- and where it ends with nothing found the repository hasn't the file
 abbrev pub MissesFor : Request → Text → Text → Option Content → Option Nodes → Type 0
 MissesFor create stanza folder repo nodes = Unit {0}
 MissesFor (push path) stanza folder repo nodes = Unit {0}
 MissesFor (get name path) stanza folder repo nodes = IsMissing stanza folder name path repo nodes
+MissesFor (info form) stanza folder repo nodes = Unit {0}
 
 abbrev pub ServedBy : Ending → Asked → Option Content → Option Nodes → Option Nodes → Type 0
-ServedBy (finished lines) a repo nodes new = ServesFor a.request a.stanza a.data_folder repo nodes new
+ServedBy (finished lines) a repo nodes new = ServesFor a.request lines a.stanza a.data_folder repo nodes new
 ServedBy (absent name) a repo nodes new = MissesFor a.request a.stanza a.data_folder repo nodes
 ServedBy (refused fault) a repo nodes new = Unit {0}
+
+-- the folder that was opened last is the data folder, for a command that uses one
+abbrev pub OpensFor : Request → Text → Text → Type 0
+OpensFor create folder place = place ≡ folder
+OpensFor (push path) folder place = place ≡ folder
+OpensFor (get name path) folder place = place ≡ folder
+OpensFor (info form) folder place = Unit {0}
 
 -- none of them
 pub record NoneDone (a : Asked) (old new : View) : Type 0 where

@@ -1,5 +1,5 @@
 -- What archive-get serves, and why it doesn't (pgBackRest command reference, "Archive Get Command").
-use Rattle.std.specs.Prelude.{◌≡◌, ◌≢◌, ◌<◌, ◌+◌, ◌++◌, ℕ, List, [], Option, Some, None, IfSome, IsSome, drop, length, codes, if◌then◌else◌, string_bytes}
+use Rattle.std.specs.Prelude.{◌≡◌, ◌≢◌, ◌⊎◌, ◌<◌, ◌+◌, ◌++◌, ℕ, List, [], Option, Some, None, IfSome, IsSome, drop, length, codes, if◌then◌else◌, string_bytes}
 use Rattle.sha1.specs.Sha1.{sha1}
 use Rattle.pgb_outside.specs.Content.{Content, Name, at, is_below}
 use Rattle.pgb_outside.specs.Tree.{Nodes, file_bytes}
@@ -24,7 +24,7 @@ use Rattle.pgb_archive.specs.Stored.{archived_file, StoresNone}
 use Rattle.pgb_command.specs.declared.fault.Fault.{Fault}
 use Rattle.pgb_command.specs.declared.fault.Fault.TheVariants.{SegmentName, PathOutside, StanzaMissing, InfoDamaged, StanzaMismatch, Ambiguous, SegmentDamaged, TooLong, Disk, NoMemory}
 use Rattle.pgb_command.specs.Answers.{Ending, finished, absent, refused}
-use Rattle.pgb_command.specs.Asked.{Request, create, push, get}
+use Rattle.pgb_command.specs.Asked.{Request, create, push, get, info}
 use Rattle.pgb_command.specs.Cluster.{FolderTells, ClusterCause}
 use Rattle.pgb_command.specs.Storing.{id_kept, ValueCause}
 use Rattle.pgb_stanza.specs.Pairs.{identity_kept, identity_told}
@@ -115,10 +115,19 @@ pub record IsServed (stanza folder word path : Text) (repo : Option Content) (no
   pub wanted : IsWanted folder word path nodes name told
   pub found : IfSome repo (λ f. OnHistory stanza f (λ v. FoundIn v.history stanza told name bytes f))
 
+-- a file of these bytes is at the path
+abbrev pub HasFile : Text → Text → Nodes → Type 0
+HasFile path bytes f = file_bytes (f path) ≡ Some bytes
+
+-- and nothing under its temporary name
+pub record IsPut (path bytes : Text) (f : Nodes) : Type 0 where
+  pub whole : HasFile path bytes f
+  pub alone : f (temporary_path path) ≡ None
+
 -- and the data folder has them now at the path
 abbrev pub Serves : Text → Text → Text → Text → Option Content → Option Nodes → Option Nodes → Type 0
 Serves stanza folder word path repo nodes now_nodes =
-    (bytes : Text) × IsServed stanza folder word path repo nodes bytes × IfSome now_nodes (λ f. file_bytes (f (served_path folder path)) ≡ Some bytes)
+    (bytes : Text) × IsServed stanza folder word path repo nodes bytes × IfSome now_nodes (IsPut (served_path folder path) bytes)
 
 -- no id has the file of this name
 pub record IsMissing (stanza folder word path : Text) (repo : Option Content) (nodes : Option Nodes) : Type 0 where
@@ -142,7 +151,7 @@ pub record ServesArchived (s : Stanza) (folder word path : Text) (nodes now_node
   pub bytes : Text
   pub wanted : IsWanted folder word path nodes name told
   pub first : IsArchivedFirst s told name bytes
-  pub at_path : IfSome now_nodes (λ f. file_bytes (f (served_path folder path)) ≡ Some bytes)
+  pub at_path : IfSome now_nodes (IsPut (served_path folder path) bytes)
 
 -- the repository hasn't the file archived under any id of the data folder's cluster
 pub record LacksArchived (s : Stanza) (folder word path : Text) (nodes : Option Nodes) : Type 0 where
@@ -151,16 +160,18 @@ pub record LacksArchived (s : Stanza) (folder word path : Text) (nodes : Option 
   pub wanted : IsWanted folder word path nodes name told
   pub none : (d : Cluster) → In d s.history → IsSame told (identity_of d) → IsUnarchived (id_of d) name s.archived
 
--- the data folder is as it was but for the file that is served and its temporary name
-pub record ChangesPath (path : Text) (old new : Option Nodes) : Type 0 where
+-- The data folder is as it was but for one path and its temporary name; at the path is what was there, or a whole file with bytes of which this holds.
+pub record ChangesPath (path : Text) (IsOf : Text → Type 0) (old new : Option Nodes) : Type 0 where
   pub told : IsSome old → IsSome new
   pub others : (q : Name) → q ≢ path → q ≢ temporary_path path → at q new ≡ at q old
+  pub whole : (at path new ≡ at path old) ⊎ ((bytes : Text) × IsOf bytes × IfSome new (HasFile path bytes))
 
--- only archive-get changes the data folder
-abbrev pub FolderGoes : Text → Request → Option Nodes → Option Nodes → Type 0
-FolderGoes folder create old new = new ≡ old
-FolderGoes folder (push path) old new = new ≡ old
-FolderGoes folder (get name path) old new = ChangesPath (served_path folder path) old new
+-- only archive-get changes the data folder, and puts there what is served
+abbrev pub FolderGoes : Text → Text → Request → Option Content → Option Nodes → Option Nodes → Type 0
+FolderGoes stanza folder create repo old new = new ≡ old
+FolderGoes stanza folder (push path) repo old new = new ≡ old
+FolderGoes stanza folder (get name path) repo old new = ChangesPath (served_path folder path) (IsServed stanza folder name path repo old) old new
+FolderGoes stanza folder (info form) repo old new = new ≡ old
 
 -- ---- why it isn't
 

@@ -13,5 +13,6 @@ pub mod Commands
 pub mod Storing
 pub mod Making
 pub mod Getting
+pub mod Reporting
 pub mod Causes
 pub mod Doing

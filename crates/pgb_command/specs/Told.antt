@@ -1,12 +1,12 @@
 -- What the code's settings stand for.
 use Rattle.pgb_command.specs.declared.settings.Settings.{Settings}
 use Rattle.pgb_command.specs.declared.settings.Asking.{Asking}
-use Rattle.pgb_command.specs.declared.settings.Asking.TheVariants.{Write, ArchiveGet}
+use Rattle.pgb_command.specs.declared.settings.Asking.TheVariants.{Write, ArchiveGet, Info}
 use Rattle.pgb_command.specs.declared.settings.Writing.{Writing}
 use Rattle.pgb_command.specs.declared.settings.Writing.TheVariants.{StanzaCreate, ArchivePush}
 use Rattle.pgb_model.specs.Text.{Text}
 use Rattle.pgb_command.specs.Locking.{backup_lock, archive_lock}
-use Rattle.pgb_command.specs.Asked.{Request, create, push, get, Asked}
+use Rattle.pgb_command.specs.Asked.{Request, create, push, get, info, Asked}
 
 abbrev pub writing_of : Writing → Request
 writing_of StanzaCreate = create
@@ -20,6 +20,7 @@ writing_lock stanza (ArchivePush path) = archive_lock stanza
 abbrev pub request_of : Asking → Request
 request_of (Write writing) = writing_of writing
 request_of (ArchiveGet name path) = get name.now path.now
+request_of (Info form) = info form
 
 abbrev pub asked_of : Settings → Asked
 asked_of s = record { stanza = s.stanza.now; data_folder = s.pg1_path.now; repository = s.repo1_path.now; lock_folder = s.lock_path.now; request = request_of s.request }

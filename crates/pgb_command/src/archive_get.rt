@@ -10,7 +10,7 @@ ghost use Rattle.pgb_model.specs.Values.{archive_info_of};
 ghost use Rattle.pgb_command.specs.declared.fault.Fault.TheVariants.{StanzaMismatch};
 ghost use Rattle.pgb_command.specs.Cluster.{FolderTells};
 ghost use Rattle.pgb_stanza.specs.Pairs.{identity_kept, identity_told};
-ghost use Rattle.pgb_command.specs.Getting.{AreWords, served_path, OnHistory, HasSame, FoundIn, AbsentIn, GotBy, ChangesPath, FetchCause, WordsCause, GetFileCause};
+ghost use Rattle.pgb_command.specs.Getting.{AreWords, served_path, OnHistory, HasSame, FoundIn, AbsentIn, GotBy, IsServed, ChangesPath, FetchCause, WordsCause, GetFileCause};
 ghost use Rattle.pgb_command.specs.Outcomes.{outcome_ending, OnNothing};
 
 use crate::cluster::read_cluster;
@@ -130,7 +130,7 @@ pub(crate) fn get_file<D: Disk, T: Tree>(
     // The data folder has the file of the repository at Ok, and is as it was where the repository hasn't it.
     ensures told { IfOk result (λ o. GotBy (outcome_ending o) settings.now.stanza.now settings.now.pg1_path.now word.now path.now (D.view repo.old).now (T.nodes tree.old) (T.nodes tree.new)) }
     ensures cause { IfErr result (GetFileCause settings.now.stanza.now settings.now.pg1_path.now word.now path.now (D.view repo.old).now (T.nodes tree.old) (Rises (D.faults repo.old) (D.faults repo.new)) (Rises (T.faults tree.old) (T.faults tree.new))) }
-    ensures nodes { ChangesPath (served_path settings.now.pg1_path.now path.now) (T.nodes tree.old) (T.nodes tree.new) }
+    ensures nodes { ChangesPath (served_path settings.now.pg1_path.now path.now) (IsServed settings.now.stanza.now settings.now.pg1_path.now word.now path.now (D.view repo.old).now (T.nodes tree.old)) (T.nodes tree.old) (T.nodes tree.new) }
     ensures none { OnNothing result (T.nodes tree.new ≡ T.nodes tree.old) }
     ensures places { OnOk result ((T.place tree.new ≡ settings.now.pg1_path.now) × (D.place repo.new ≡ settings.now.repo1_path.now)) }
     ensures now { (D.view repo.new).now ≡ (D.view repo.old).now }

@@ -9,6 +9,7 @@ mod create;
 mod current;
 mod fault;
 mod finding;
+mod info;
 mod lines;
 mod opening;
 mod outcome;

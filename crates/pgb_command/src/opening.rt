@@ -74,6 +74,23 @@ fn take_lock<K: Locks>(alloc: Global, locks: &mut K, folder: &str, name: &str) -
     }
 }
 
+/// Opens the repository, and settles the stanza in it, for a command that reads nothing else.
+pub(crate) fn prepare_repository<D: Disk>(
+    alloc: Global,
+    repo: &mut D,
+    settings: &Settings,
+) -> Result<(), Fault>
+    ensures place { OnOk result (D.place repo.new ≡ settings.now.repo1_path.now) }
+    ensures now { (D.view repo.new).now ≡ (D.view repo.old).now }
+    ensures time { Rests (D.view repo.old) (D.view repo.new) }
+    ensures later { D.faults repo.old ≤ D.faults repo.new }
+    ensures cause { IfErr result (OpeningCause [] (Rises (D.faults repo.old) (D.faults repo.new)) ⊥ ⊥ ⊥) }
+{
+    open_repo(repo, settings.repo1_path)?;
+    settle(alloc, repo, settings.stanza)?;
+    Ok(())
+}
+
 /// Opens the data folder and the repository, and settles the stanza in the repository, for a command that only reads.
 pub(crate) fn prepare_reading<D: Disk, T: Tree>(
     alloc: Global,
@@ -90,8 +107,7 @@ pub(crate) fn prepare_reading<D: Disk, T: Tree>(
     ensures cause { IfErr result (OpeningCause [] (Rises (D.faults repo.old) (D.faults repo.new)) (Rises (T.faults tree.old) (T.faults tree.new)) ⊥ ⊥) }
 {
     open_tree(tree, settings.pg1_path)?;
-    open_repo(repo, settings.repo1_path)?;
-    settle(alloc, repo, settings.stanza)?;
+    prepare_repository(alloc, repo, settings)?;
     Ok(())
 }
 

@@ -7,10 +7,12 @@ use crate::fault::Fault;
 pub enum Outcome {
     /// Nothing is told.
     Silent,
-    /// The segment of this name was stored already, with the same sum.
+    /// The file of this name was stored already, with the same sum.
     SameStored { name: String },
     /// The archive has no file of this name.
     Absent { name: String },
+    /// The report, with its newlines.
+    Report { text: String },
 }
 
 /// How a command ended, and the keys of its configuration that are no options.

@@ -29,6 +29,15 @@ fn unknown_lines(alloc: Global, keys: &[String]) -> Result<Vec<u8>, NoMemory>
     Ok(text)
 }
 
+// The bytes of a report.
+fn bytes_of(alloc: Global, text: &str) -> Result<Vec<u8>, NoMemory>
+    ensures { IfOk result (λ bytes. bytes.items ≡ text.now) }
+{
+    let mut bytes = Vec::new(alloc);
+    bytes.extend_from_slice(text.as_bytes())?;
+    Ok(bytes)
+}
+
 // The lines of how a command ended.
 fn lines_at_end(alloc: Global, ending: &Result<Outcome, Fault>) -> Result<Vec<u8>, NoMemory>
     ensures { IfOk result (λ text. text.items ≡ ending_lines (ending_of ending.now)) }
@@ -37,6 +46,7 @@ fn lines_at_end(alloc: Global, ending: &Result<Outcome, Fault>) -> Result<Vec<u8
         Ok(Outcome::Silent) => Ok(Vec::new(alloc)),
         Ok(Outcome::SameStored { name }) => same_line(alloc, name),
         Ok(Outcome::Absent { name }) => absent_line(alloc, name),
+        Ok(Outcome::Report { text }) => bytes_of(alloc, text),
         Err(fault) => line(alloc, fault),
     }
 }

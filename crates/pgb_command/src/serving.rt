@@ -1,8 +1,7 @@
 // A file is put into the data folder.
-ghost use Rattle.std.specs.Prelude.{◌≡◌, ◌≤◌, Some, OnOk, IfOk, IfErr, IfSome, string_bytes};
+ghost use Rattle.std.specs.Prelude.{◌≡◌, ◌≤◌, OnOk, IfOk, IfErr, IfSome, string_bytes};
 ghost use Rattle.pgb_outside.specs.Cause.{HasCause, Rises};
-ghost use Rattle.pgb_outside.specs.Tree.{file_bytes};
-ghost use Rattle.pgb_command.specs.Getting.{ChangesPath, temporary_path};
+ghost use Rattle.pgb_command.specs.Getting.{IsPut, ChangesPath, temporary_path};
 ghost use Rattle.pgb_command.specs.Making.{FolderCause};
 
 use crate::fault::{Fault, of_tree};
@@ -23,8 +22,8 @@ fn write_and_rename<T: Tree>(
     bytes: &[u8],
 ) -> Result<(), Stop>
     requires { temporary.now ≡ temporary_path path.now }
-    ensures holds { OnOk result (IfSome (T.nodes tree.new) (λ f. file_bytes (f path.now) ≡ Some bytes.now)) }
-    ensures changes { ChangesPath path.now (T.nodes tree.old) (T.nodes tree.new) }
+    ensures holds { OnOk result (IfSome (T.nodes tree.new) (IsPut path.now bytes.now)) }
+    ensures changes { ChangesPath path.now (λ b. b ≡ bytes.now) (T.nodes tree.old) (T.nodes tree.new) }
     ensures place { T.place tree.new ≡ T.place tree.old }
     ensures cause { HasCause (T.faults tree.old) (T.faults tree.new) result }
 {
@@ -34,15 +33,15 @@ fn write_and_rename<T: Tree>(
     Ok(())
 }
 
-/// Puts a file of these bytes at a path of the data folder. Where that fails, no other name is left.
+/// Puts a file of these bytes at a path of the data folder. Where that fails, the temporary file is taken away, if it can be.
 pub(crate) fn put_file<T: Tree>(
     alloc: Global,
     tree: &mut T,
     path: &str,
     bytes: &[u8],
 ) -> Result<(), Fault>
-    ensures holds { OnOk result (IfSome (T.nodes tree.new) (λ f. file_bytes (f path.now) ≡ Some bytes.now)) }
-    ensures changes { ChangesPath path.now (T.nodes tree.old) (T.nodes tree.new) }
+    ensures holds { OnOk result (IfSome (T.nodes tree.new) (IsPut path.now bytes.now)) }
+    ensures changes { ChangesPath path.now (λ b. b ≡ bytes.now) (T.nodes tree.old) (T.nodes tree.new) }
     ensures place { T.place tree.new ≡ T.place tree.old }
     ensures later { T.faults tree.old ≤ T.faults tree.new }
     ensures cause { IfErr result (FolderCause (Rises (T.faults tree.old) (T.faults tree.new))) }

@@ -7,7 +7,7 @@ ghost use Rattle.pgb_command.specs.Asked.{request_by, first_of, second_of, reque
 ghost use Rattle.pgb_command.specs.Told.{request_of, asked_of};
 
 use crate::fault::Unbuilt;
-use pgb_options::{Command, Verb};
+use pgb_options::{Command, OutputWord, Verb};
 
 /// A command that writes to the repository, under a lock.
 #[derive(Clone, Copy)]
@@ -23,6 +23,8 @@ pub enum Asking<'a> {
     Write(Writing<'a>),
     /// The archived file that is to be served, and where.
     ArchiveGet { name: &'a str, path: &'a str },
+    /// The report, in this form.
+    Info { form: OutputWord },
 }
 
 /// What a command is told.
@@ -67,8 +69,8 @@ fn path_of(path: &Option<String>) -> &str
 
 // What the command is to do, where that is built.
 fn request_of(command: &Command) -> Result<Asking<'_>, Unbuilt>
-    ensures asked { IfOk result (λ r. request_by command.now.verb command.now.options.online command.now.options.archive_async (map string_bytes command.now.given.items) ≡ Ok (request_of r)) }
-    ensures unbuilt { IfErr result (λ what. request_by command.now.verb command.now.options.online command.now.options.archive_async (map string_bytes command.now.given.items) ≡ Err what) }
+    ensures asked { IfOk result (λ r. request_by command.now.verb command.now.options.online command.now.options.archive_async command.now.options.output (map string_bytes command.now.given.items) ≡ Ok (request_of r)) }
+    ensures unbuilt { IfErr result (λ what. request_by command.now.verb command.now.options.online command.now.options.archive_async command.now.options.output (map string_bytes command.now.given.items) ≡ Err what) }
 {
     match command.verb {
         Verb::StanzaCreate => {
@@ -94,6 +96,9 @@ fn request_of(command: &Command) -> Result<Asking<'_>, Unbuilt>
                 path: second_of(&command.given),
             })
         }
+        Verb::Info => Ok(Asking::Info {
+            form: command.options.output,
+        }),
         verb => Err(Unbuilt::Command(verb)),
     }
 }

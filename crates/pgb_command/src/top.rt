@@ -1,5 +1,5 @@
 // The top call.
-ghost use Rattle.std.specs.Prelude.{◌≡◌, ◌≤◌, ◌⊎◌, ◌≢◌, [], true, false, Some, ℕ, List, Option, map, IfErr, IfSome, IsSome, IsSomeAnd, OnOk, IfOk, Contains, string_bytes};
+ghost use Rattle.std.specs.Prelude.{◌≡◌, ◌≤◌, ◌⊎◌, ◌≢◌, ◌++◌, [], true, false, Some, ℕ, List, Option, option_map, map, IfErr, IfSome, IsSome, IsSomeAnd, OnOk, IfOk, Contains, string_bytes};
 ghost use Rattle.pgb_outside.specs.Cause.{Rises};
 ghost use Rattle.pgb_model.specs.declared.clusters.Cluster.{Cluster};
 ghost use Rattle.pgb_model.specs.Text.{Text};
@@ -7,16 +7,18 @@ ghost use Rattle.pgb_model.specs.Repository.{Stanza};
 ghost use Rattle.pgb_model.specs.Steps.{Command, Reading};
 ghost use Rattle.pgb_model.specs.Steady.{PassesOnly, KeepsOn};
 ghost use Rattle.pgb_model.specs.Now.{HasNewPairs, NowDoes, NowStands};
-ghost use Rattle.pgb_command.specs.Asked.{Asked, create, get, MayAsk, Asks};
-ghost use Rattle.pgb_command.specs.Answers.{Ending, Answer, status, IsFinding};
+ghost use Rattle.pgb_command.specs.Asked.{Asked, create, get, info, MayAsk, Asks};
+ghost use Rattle.pgb_command.specs.Answers.{Ending, finished, Answer, lines_of, status, IsFinding};
 ghost use Rattle.pgb_command.specs.Cluster.{IsClusterOf};
 ghost use Rattle.pgb_command.specs.Commands.{IsCommandOf};
 ghost use Rattle.pgb_command.specs.Causes.{AskedCause, Cause};
-ghost use Rattle.pgb_command.specs.Doing.{AreHealed, PartDone, AllDone, NoneDone, ServedBy};
+ghost use Rattle.pgb_command.specs.Doing.{AreHealed, PartDone, AllDone, NoneDone, ServedBy, OpensFor};
 ghost use Rattle.pgb_command.specs.Locking.{lock_of, Locks as IsLocked, TakesLock, OnlyLocked, OnlyUnderLock, MayHold};
 ghost use Rattle.pgb_command.specs.Outcomes.{ending_of, answer_of, OnNothing};
 ghost use Rattle.pgb_command.specs.Getting.{Serves, FolderGoes, ServesArchived, LacksArchived};
 ghost use Rattle.pgb_command.specs.Output.{Wrote};
+ghost use Rattle.pgb_command.specs.Reporting.{ReportsStanza};
+ghost use Rattle.pgb_options.specs.declared.options.OutputWord.{OutputWord};
 ghost use Rattle.pgb_command.specs.declared.settings.Asking.TheVariants.{Write};
 ghost use Rattle.pgb_stanza.specs.Pairs.{LacksStanza};
 ghost use Rattle.pgb_command.specs.Told.{request_of, asked_of, writing_lock};
@@ -26,6 +28,7 @@ use crate::archive_push::push_file;
 use crate::config::read_command;
 use crate::create::create_stanza;
 use crate::fault::Fault;
+use crate::info::report_stanza;
 use crate::outcome::{Outcome, Served};
 use crate::output::answer;
 use crate::outside::Outside;
@@ -128,8 +131,9 @@ fn carry<D: Disk, T: Tree, K: Locks>(
     ensures none { OnNothing result (NoneDone (asked_of settings.now) (D.view repo.old) (D.view repo.new)) }
     ensures answered { AskedCause (asked_of settings.now) (D.view repo.old).now (T.nodes tree.old) (Rises (D.faults repo.old) (D.faults repo.new)) (Rises (T.faults tree.old) (T.faults tree.new)) (Rises (K.faults locks.old) (K.faults locks.new)) (Rises (K.refusals locks.old) (K.refusals locks.new)) (ending_of result) }
     ensures served { ServedBy (ending_of result) (asked_of settings.now) (D.view repo.old).now (T.nodes tree.old) (T.nodes tree.new) }
-    ensures places { OnOk result ((T.place tree.new ≡ settings.now.pg1_path.now) × (D.place repo.new ≡ settings.now.repo1_path.now)) }
-    ensures folder { FolderGoes settings.now.pg1_path.now (request_of settings.now.request) (T.nodes tree.old) (T.nodes tree.new) }
+    ensures places { OnOk result (OpensFor (request_of settings.now.request) settings.now.pg1_path.now (T.place tree.new) × (D.place repo.new ≡ settings.now.repo1_path.now)) }
+    ensures unused { (form : OutputWord) → request_of settings.now.request ≡ info form → (tree.new ≡ tree.old) × (locks.new ≡ locks.old) }
+    ensures folder { FolderGoes settings.now.stanza.now settings.now.pg1_path.now (request_of settings.now.request) (D.view repo.old).now (T.nodes tree.old) (T.nodes tree.new) }
     ensures nodes { OnNothing result (T.nodes tree.new ≡ T.nodes tree.old) }
     ensures locked { OnOk result (TakesLock settings.now.lock_path.now (lock_of (asked_of settings.now)) (K.took locks.old) (K.took locks.new)) }
     ensures only_locked { OnlyUnderLock settings.now.lock_path.now (lock_of (asked_of settings.now)) (K.took locks.old) (K.took locks.new) (D.view repo.old) (D.view repo.new) }
@@ -142,6 +146,7 @@ fn carry<D: Disk, T: Tree, K: Locks>(
     match settings.request {
         Asking::Write(writing) => write(alloc, settings, writing, repo, tree, locks),
         Asking::ArchiveGet { name, path } => get_file(alloc, repo, tree, settings, name, path),
+        Asking::Info { form } => report_stanza(alloc, repo, settings, form),
     }
 }
 
@@ -161,11 +166,12 @@ fn serve<D: Disk, T: Tree, K: Locks, I: Source>(
     ensures answered { Cause (map string_bytes words.now) (I.files config.old) (D.view repo.old).now (T.nodes tree.old) (Rises (D.faults repo.old) (D.faults repo.new)) (Rises (T.faults tree.old) (T.faults tree.new)) (Rises (K.faults locks.old) (K.faults locks.new)) (Rises (K.refusals locks.old) (K.refusals locks.new)) (Rises (I.faults config.old) (I.faults config.new)) ⊥ (answer_of result) }
     ensures served { (a : Asked) → Asks (map string_bytes words.now) (I.files config.old) a → ServedBy (ending_of result.ending) a (D.view repo.old).now (T.nodes tree.old) (T.nodes tree.new) }
     ensures unasked { ((a : Asked) → ¬ MayAsk (map string_bytes words.now) (I.files config.old) a) → (repo.new ≡ repo.old) × (tree.new ≡ tree.old) × (locks.new ≡ locks.old) }
-    ensures places { OnOk result.ending ((a : Asked) → Asks (map string_bytes words.now) (I.files config.old) a → (T.place tree.new ≡ a.data_folder) × (D.place repo.new ≡ a.repository)) }
+    ensures places { OnOk result.ending ((a : Asked) → Asks (map string_bytes words.now) (I.files config.old) a → OpensFor a.request a.data_folder (T.place tree.new) × (D.place repo.new ≡ a.repository)) }
+    ensures unused { (a : Asked) → Asks (map string_bytes words.now) (I.files config.old) a → (form : OutputWord) → a.request ≡ info form → (tree.new ≡ tree.old) × (locks.new ≡ locks.old) }
     ensures locked { OnOk result.ending ((a : Asked) → Asks (map string_bytes words.now) (I.files config.old) a → TakesLock a.lock_folder (lock_of a) (K.took locks.old) (K.took locks.new)) }
     ensures only_locked { (a : Asked) → Asks (map string_bytes words.now) (I.files config.old) a → OnlyUnderLock a.lock_folder (lock_of a) (K.took locks.old) (K.took locks.new) (D.view repo.old) (D.view repo.new) }
     ensures released { K.taken locks.new ≡ [] }
-    ensures folder { (T.nodes tree.new ≡ T.nodes tree.old) ⊎ ((a : Asked) × MayAsk (map string_bytes words.now) (I.files config.old) a × FolderGoes a.data_folder a.request (T.nodes tree.old) (T.nodes tree.new)) }
+    ensures folder { (T.nodes tree.new ≡ T.nodes tree.old) ⊎ ((a : Asked) × MayAsk (map string_bytes words.now) (I.files config.old) a × FolderGoes a.stanza a.data_folder a.request (D.view repo.old).now (T.nodes tree.old) (T.nodes tree.new)) }
     ensures nodes { OnNothing result.ending (T.nodes tree.new ≡ T.nodes tree.old) }
     ensures files { I.files config.new ≡ I.files config.old }
 {
@@ -248,12 +254,17 @@ pub fn run<
     ensures lacking { result ≡ 1 → (a : Asked) → Asks (map string_bytes words.now) (I.files outside.old.config) a → (name path : Text) → a.request ≡ get name path
         → (s : Stanza) → IsSome (D.view outside.old.repo).now → NowStands a.stanza (Some s) (D.view outside.old.repo).now → LacksArchived s a.data_folder name path (T.nodes outside.old.tree) }
 
+    // At 0 of info the output ends with the report on the stanza.
+    ensures reported { result ≡ 0 → (a : Asked) → Asks (map string_bytes words.now) (I.files outside.old.config) a → (form : OutputWord) → a.request ≡ info form
+        → (s : Stanza) → IsSome (D.view outside.old.repo).now → NowStands a.stanza (Some s) (D.view outside.old.repo).now
+        → (unknown : List Text) × (lines : Text) × ReportsStanza form a.stanza s lines × (O.written outside.new.out ≡ option_map (λ text. text ++ lines_of (record { unknown = unknown; ending = finished lines })) (O.written outside.old.out)) }
+
     // At 0 the members of the pairs that the command heals agree, and all four info files of a new stanza are those of the cluster. The opened
     // places are those of the words.
     ensures agrees { result ≡ 0 → (a : Asked) → Asks (map string_bytes words.now) (I.files outside.old.config) a → IsSome (D.view outside.old.repo).now → IfSome (D.view outside.new.repo).now (AreHealed a.request a.stanza) }
     ensures members { result ≡ 0 → (a : Asked) → Asks (map string_bytes words.now) (I.files outside.old.config) a → a.request ≡ create → (c : Cluster) → IsSomeAnd (T.nodes outside.old.tree) (λ f. IsClusterOf f (Some c)) → IfSome (D.view outside.old.repo).now (LacksStanza a.stanza) → IsSome (D.view outside.old.repo).now
         → IfSome (D.view outside.new.repo).now (HasNewPairs a.stanza c) }
-    ensures places { result ≡ 0 → (a : Asked) → Asks (map string_bytes words.now) (I.files outside.old.config) a → (T.place outside.new.tree ≡ a.data_folder) × (D.place outside.new.repo ≡ a.repository) }
+    ensures places { result ≡ 0 → (a : Asked) → Asks (map string_bytes words.now) (I.files outside.old.config) a → OpensFor a.request a.data_folder (T.place outside.new.tree) × (D.place outside.new.repo ≡ a.repository) }
 
     // At 0 the command's lock was taken, and without it nothing is done. No lock is held afterwards.
     ensures locked { result ≡ 0 → (a : Asked) → Asks (map string_bytes words.now) (I.files outside.old.config) a → TakesLock a.lock_folder (lock_of a) (K.took outside.old.locks) (K.took outside.new.locks) }
@@ -275,8 +286,9 @@ pub fn run<
         → (result ≡ 0) ⊎ (result ≡ 90) }
 
     // What the command doesn't use stays, and the configuration with it; and so does the data folder, but for a file that is served.
-    ensures folder { (T.nodes outside.new.tree ≡ T.nodes outside.old.tree) ⊎ ((a : Asked) × MayAsk (map string_bytes words.now) (I.files outside.old.config) a × FolderGoes a.data_folder a.request (T.nodes outside.old.tree) (T.nodes outside.new.tree)) }
+    ensures folder { (T.nodes outside.new.tree ≡ T.nodes outside.old.tree) ⊎ ((a : Asked) × MayAsk (map string_bytes words.now) (I.files outside.old.config) a × FolderGoes a.stanza a.data_folder a.request (D.view outside.old.repo).now (T.nodes outside.old.tree) (T.nodes outside.new.tree)) }
     ensures nodes { IsFinding result → T.nodes outside.new.tree ≡ T.nodes outside.old.tree }
+    ensures unused { (a : Asked) → Asks (map string_bytes words.now) (I.files outside.old.config) a → (form : OutputWord) → a.request ≡ info form → (outside.new.tree ≡ outside.old.tree) × (outside.new.locks ≡ outside.old.locks) }
     ensures files { I.files outside.new.config ≡ I.files outside.old.config }
     ensures untouched { outside.new ≡ record outside.old { repo = outside.new.repo; tree = outside.new.tree; locks = outside.new.locks; config = outside.new.config; out = outside.new.out } }
     ensures links { links.new ≡ links.old }

@@ -14,4 +14,4 @@ mod saving;
 pub use control::{Control, ControlFault, read_control};
 pub use creating::{Created, create};
 pub use fault::{Identity, StanzaFault};
-pub use names::archive_info_name;
+pub use names::{archive_info_name, backup_info_name};

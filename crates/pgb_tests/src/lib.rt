@@ -32,6 +32,8 @@ mod pushing;
 #[cfg(test)]
 mod refusing;
 #[cfg(test)]
+mod reporting;
+#[cfg(test)]
 mod serving;
 #[cfg(test)]
 mod settings;

@@ -239,10 +239,10 @@ const REFUSED: [(&'static str, Option<&'static [u8]>, u8, &'static str); 37] = [
         "ERROR: [010]: configuration 'a?b' is missing\n",
     ),
     (
-        "--stanza=demo info",
+        "--stanza=demo verify",
         Some(b"[global]\nx\x01y=1\n"),
         100,
-        "WARN: configuration file contains unknown option 'x?y'\nERROR: [100]: 'info' is not built yet\n",
+        "WARN: configuration file contains unknown option 'x?y'\nERROR: [100]: 'verify' is not built yet\n",
     ),
 ];
 

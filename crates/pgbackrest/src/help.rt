@@ -79,7 +79,7 @@ fn add_commands(alloc: Global, text: &mut String, built: bool) -> Result<(), All
 fn is_built(verb: Verb) -> bool {
     matches!(
         verb,
-        Verb::StanzaCreate | Verb::ArchivePush | Verb::ArchiveGet
+        Verb::StanzaCreate | Verb::ArchivePush | Verb::ArchiveGet | Verb::Info
     )
 }
 
@@ -97,7 +97,7 @@ fn purpose_of(verb: Verb) -> Option<&'static str> {
         Verb::Expire => Some(": removes what the retention no longer keeps"),
         Verb::Restore => Some(": makes the data folder of a backup"),
         Verb::Verify => Some(": looks for damage in the repository"),
-        Verb::Info => Some(": tells which backups there are"),
+        Verb::Info => Some(": tells which backups and segments there are"),
         Verb::Rehearse => Some(": tries all of it on empty folders"),
         Verb::ArchivePushAsync | Verb::ArchiveGetAsync => None,
     }

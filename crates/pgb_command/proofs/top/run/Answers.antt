@@ -1,9 +1,10 @@
-use Rattle.std.proofs.Common.{◌∙◌, ap, sym, true, false}
+use Rattle.std.proofs.Common.{◌∙◌, ap, sym, map, string_bytes, true, false}
 use Rattle.pgb_command.specs.Answers.{Answer, status}
 use Rattle.pgb_command.specs.Outcomes.{answer_of}
-use Rattle.pgb_command.proofs.Causes.{told_cause, at_zero, at_finding, served_at_zero, missed_at_one, completes}
+use Rattle.pgb_command.proofs.Causes.{told_cause, at_zero, at_finding, served_at_zero, reported_at_zero, missed_at_one, completes}
 use Rattle.pgb_command.proofs.Pushes.{command_keeps, reading_keeps}
 use Rattle.pgb_command.proofs.Archived.{serves_archived, misses_archived}
+use Rattle.pgb_command.proofs.Reported.{reports}
 use Rattle.pgb_command.proofs.top.run.Goals as goal
 
 pub returns-clause-done : goal.returns-clause-done
@@ -63,7 +64,7 @@ returns-clause-complete g c = λ none. let t = c.answer.ensures.told in
 
 pub returns-clause-served : goal.returns-clause-served
 returns-clause-served g c = λ zero a asks name path is. let t = c.answer.ensures.told in
-    served_at_zero c.serve-served.result.ending _ _ _ _ t.0 _ t.2 t.1 zero a _ _ _ name path is (c.serve-served.ensures.served a asks)
+    served_at_zero _ _ _ a _ _ _ c.serve-served.result.ending _ t.0 _ t.2 t.1 zero name path is (c.serve-served.ensures.served a asks)
 
 pub returns-clause-nodes : goal.returns-clause-nodes
 returns-clause-nodes g c = λ finding. let t = c.answer.ensures.told in
@@ -72,9 +73,15 @@ returns-clause-nodes g c = λ finding. let t = c.answer.ensures.told in
 pub returns-clause-given : goal.returns-clause-given
 returns-clause-given g c = λ zero a asks name path is s some now. let t = c.answer.ensures.told in
     serves_archived a.stanza a.data_folder name path (g.D.Disk.view c.args.outside.now.repo).now _ _ s some now
-    (served_at_zero c.serve-served.result.ending _ _ _ _ t.0 _ t.2 t.1 zero a _ _ _ name path is (c.serve-served.ensures.served a asks))
+    (served_at_zero _ _ _ a _ _ _ c.serve-served.result.ending _ t.0 _ t.2 t.1 zero name path is (c.serve-served.ensures.served a asks))
 
 pub returns-clause-lacking : goal.returns-clause-lacking
 returns-clause-lacking g c = λ one a asks name path is s some now. let t = c.answer.ensures.told in
     misses_archived a.stanza a.data_folder name path (g.D.Disk.view c.args.outside.now.repo).now _ s some now
     (missed_at_one c.serve-served.result.ending _ _ _ _ t.0 _ t.2 t.1 one a _ _ _ name path is (c.serve-served.ensures.served a asks))
+
+pub returns-clause-reported : goal.returns-clause-reported
+returns-clause-reported g c = λ zero a asks form is s some now. let t = c.answer.ensures.told in
+    let unknown = map string_bytes c.serve-served.result.unknown.items in
+    let r = reported_at_zero unknown _ _ a _ _ _ c.serve-served.result.ending _ t.0 _ t.2 t.1 zero form is (c.serve-served.ensures.served a asks) in
+    (unknown, r.0, reports form a.stanza (g.D.Disk.view c.args.outside.now.repo).now r.0 s some now r.1, r.2)

@@ -1,7 +1,8 @@
 use Rattle.std.proofs.Common.{◌≡◌, ap, map, string_bytes, true, false, Err}
 use Rattle.pgb_command.specs.declared.outcome.Outcome.{Outcome}
-use Rattle.pgb_command.specs.Asked.{Asked}
-use Rattle.pgb_command.specs.Doing.{PartDone, AllDone, NoneDone, ServedBy}
+use Rattle.pgb_options.specs.declared.options.OutputWord.{OutputWord}
+use Rattle.pgb_command.specs.Asked.{Asked, info}
+use Rattle.pgb_command.specs.Doing.{PartDone, AllDone, NoneDone, ServedBy, OpensFor}
 use Rattle.pgb_command.specs.Locking.{lock_of, TakesLock, OnlyUnderLock}
 use Rattle.pgb_command.specs.Outcomes.{ending_of}
 use Rattle.pgb_command.specs.Told.{asked_of}
@@ -96,7 +97,7 @@ returns-clause-places g c =
     let old = g.D.Disk.view c.args.repo.now in
     let new = g.D.Disk.view c.carry-ending.new.repo in
     let may = may_ask words files x.0 x.1 (asked_of c.in-Ok-settings_of.settings) (c.in-Ok-settings_of.ensures.asked x.0 x.2) in
-    ok_as c.carry-ending.result _ _ (for_asked words files (λ (a : Asked). (g.T.Tree.place c.carry-ending.new.tree ≡ a.data_folder) × (g.D.Disk.place c.carry-ending.new.repo ≡ a.repository)) (asked_of c.in-Ok-settings_of.settings) may) c.carry-ending.ensures.places
+    ok_as c.carry-ending.result _ _ (for_asked words files (λ (a : Asked). OpensFor a.request a.data_folder (g.T.Tree.place c.carry-ending.new.tree) × (g.D.Disk.place c.carry-ending.new.repo ≡ a.repository)) (asked_of c.in-Ok-settings_of.settings) may) c.carry-ending.ensures.places
 
 pub returns-clause-locked : goal.returns-clause-locked
 returns-clause-locked g c =
@@ -127,3 +128,11 @@ returns-clause-served g c =
     let files = g.I.Source.files c.args.config.now in
     let may = may_ask words files x.0 x.1 (asked_of c.in-Ok-settings_of.settings) (c.in-Ok-settings_of.ensures.asked x.0 x.2) in
     for_asked words files (λ (a : Asked). ServedBy (ending_of c.carry-ending.result) a (g.D.Disk.view c.args.repo.now).now (g.T.Tree.nodes c.args.tree.now) (g.T.Tree.nodes c.carry-ending.new.tree)) (asked_of c.in-Ok-settings_of.settings) may c.carry-ending.ensures.served
+
+pub returns-clause-unused : goal.returns-clause-unused
+returns-clause-unused g c =
+    let x = c.in-Ok.ensures.command in
+    let words = map string_bytes c.args.words.now in
+    let files = g.I.Source.files c.args.config.now in
+    let may = may_ask words files x.0 x.1 (asked_of c.in-Ok-settings_of.settings) (c.in-Ok-settings_of.ensures.asked x.0 x.2) in
+    for_asked words files (λ (a : Asked). (form : OutputWord) → a.request ≡ info form → (c.carry-ending.new.tree ≡ c.args.tree.now) × (c.carry-ending.new.locks ≡ c.args.locks.now)) (asked_of c.in-Ok-settings_of.settings) may c.carry-ending.ensures.unused
