@@ -162,6 +162,10 @@ impl Source for NotThere {
 }
 
 impl Files for NotThere {
+    ghost files = { λ _. None };
+
+    ghost place = { λ _. [] };
+
     ghost faults = { λ it. it.faults };
 
     fn open(&mut self, _root: &str) -> Result<(), Stop> {
