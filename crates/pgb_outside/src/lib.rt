@@ -3,14 +3,16 @@
 
 mod devices;
 mod disk;
+mod links;
 mod locks;
 mod not_there;
 mod sink;
 mod stop;
 mod tree;
 
-pub use devices::{Clock, Files, Link, Source, Turns, Wire};
+pub use devices::{Clock, Files, Source, Wire};
 pub use disk::{Disk, Found};
+pub use links::{Link, Turns};
 pub use locks::{Locks, Take};
 pub use not_there::NotThere;
 pub use sink::Sink;
