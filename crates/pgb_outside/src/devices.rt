@@ -74,19 +74,6 @@ pub trait Wire {
         ensures cause { HasCause (faults self.old) (faults self.new) result };
 }
 
-/// The connection to a worker process.
-pub trait Link: Drop {
-    /// How often it failed.
-    ghost faults: { Self → ℕ };
-
-    fn send(&mut self, bytes: &[u8]) -> Result<(), Stop>
-        ensures { HasCause (faults self.old) (faults self.new) result };
-
-    /// The next bytes: 0 into a buffer that has room is the end.
-    fn receive(&mut self, buf: &mut [u8]) -> Result<usize, Stop>
-        ensures { HasCause (faults self.old) (faults self.new) result };
-}
-
 /// The clock, in seconds since 1970.
 pub trait Clock {
     /// How often it failed.
@@ -97,9 +84,4 @@ pub trait Clock {
 
     fn wait_past(&mut self, second: u64) -> Result<(), Stop>
         ensures { HasCause (faults self.old) (faults self.new) result };
-}
-
-/// Chooses which of the busy workers is heard next.
-pub trait Turns {
-    fn pick(&mut self, count: u64) -> u64;
 }

@@ -102,7 +102,7 @@ impl Wire for NotThere {
 }
 
 impl Link for NotThere {
-    ghost faults = { λ it. it.faults };
+    ghost link_state = { λ it. record { faults = it.faults; jobs = 0; reads = 0; given = []; told = None } };
 
     fn send(&mut self, _bytes: &[u8]) -> Result<(), Stop> {
         self.fail()
