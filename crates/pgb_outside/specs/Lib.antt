@@ -6,3 +6,4 @@ pub mod Order
 pub mod Tree
 pub mod Streams
 pub mod Locking
+pub mod Links

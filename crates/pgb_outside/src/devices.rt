@@ -38,19 +38,6 @@ pub trait Source {
         ensures cause { HasCause (faults self.old) (faults self.new) result };
 }
 
-/// The files of a root, as a worker reads them.
-pub trait Files {
-    /// How often it failed.
-    ghost faults: { Self → ℕ };
-
-    fn open(&mut self, root: &str) -> Result<(), Stop>
-        ensures { HasCause (faults self.old) (faults self.new) result };
-
-    /// Bytes of a name from a place on: None where it is absent, 0 at its end.
-    fn read(&mut self, name: &str, at: u64, buf: &mut [u8]) -> Result<Option<usize>, Stop>
-        ensures { HasCause (faults self.old) (faults self.new) result };
-}
-
 /// The connection to a server.
 pub trait Wire {
     /// What it will give, where it tells that.
@@ -87,19 +74,6 @@ pub trait Wire {
         ensures cause { HasCause (faults self.old) (faults self.new) result };
 }
 
-/// The connection to a worker process.
-pub trait Link: Drop {
-    /// How often it failed.
-    ghost faults: { Self → ℕ };
-
-    fn send(&mut self, bytes: &[u8]) -> Result<(), Stop>
-        ensures { HasCause (faults self.old) (faults self.new) result };
-
-    /// The next bytes: 0 into a buffer that has room is the end.
-    fn receive(&mut self, buf: &mut [u8]) -> Result<usize, Stop>
-        ensures { HasCause (faults self.old) (faults self.new) result };
-}
-
 /// The clock, in seconds since 1970.
 pub trait Clock {
     /// How often it failed.
@@ -110,9 +84,4 @@ pub trait Clock {
 
     fn wait_past(&mut self, second: u64) -> Result<(), Stop>
         ensures { HasCause (faults self.old) (faults self.new) result };
-}
-
-/// Chooses which of the busy workers is heard next.
-pub trait Turns {
-    fn pick(&mut self, count: u64) -> u64;
 }

@@ -19,7 +19,7 @@ impl RoundRobin {
 
 impl Turns for RoundRobin {
     fn pick(&mut self, count: u64) -> u64
-        ensures below { 0 < count → result < count }
+        ensures below { result < count }
         ensures in_turn { self.old.next < count → result ≡ self.old.next }
         ensures around { count ≤ self.old.next → result ≡ 0 }
         ensures next { self.new.next ≡ result + 1 }
