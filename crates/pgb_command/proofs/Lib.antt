@@ -12,6 +12,8 @@ mod ServedPaths
 mod Folders
 mod Fetches
 mod EntryLines
+mod Ends
+mod ReportNames
 mod Reported
 mod Archived
 mod StoreCauses
