@@ -35,7 +35,7 @@ module _ (stanza : Text) (f : Content) (s : Stanza) (now : NowStands stanza (Som
   has : HasStanza stanza f s
   has = now.stands f refl
 
-  place_of : (d : Cluster) → In d s.history → (sum : Text) → IsSum sum → IsArchivePlace (id_of d) name sum
+  pub place_of : (d : Cluster) → In d s.history → (sum : Text) → IsSum sum → IsArchivePlace (id_of d) name sum
   place_of d listed sum is =
       let rules = all_in IsClusterId (map identity_of s.history) (identity_of d) (rules_of f (archive_info stanza) (archive_value s) has.archive_pair).clusters (in_map identity_of s.history d listed) in
       record { version = rules.version; number = rules.id; fits = fits; digest = is }

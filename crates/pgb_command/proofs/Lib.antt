@@ -14,8 +14,9 @@ mod Fetches
 mod EntryLines
 mod Ends
 mod ReportNames
-mod Reported
+mod EndNames
 mod Archived
+mod Reported
 mod StoreCauses
 mod Pushes
 mod Causes

@@ -18,7 +18,7 @@ use Rattle.pgb_report.specs.declared.report.ArchivedName.{ArchivedName}
 use Rattle.pgb_report.specs.Archived.{id_of, is_same_id, whole_segment, segment_under, segments_under, least, greatest}
 use Rattle.pgb_report.specs.ReportText.{is_current, shown_clusters, archive_bounds, bounds_text, cluster_lines, report_lines, report_text_of}
 use Rattle.pgb_report.specs.ReportData.{archive_data, stanza_data, report_data, report_json_of}
-use Rattle.pgb_command.specs.Reporting.{report_by}
+use Rattle.pgb_command.specs.Reporting.{report_by, named}
 
 -- ---- the segments under an id
 
@@ -43,10 +43,6 @@ picks {X} {Y} h (z ∷ zs) x y (inr i) is = go (h z)
     go : (o : Option Y) → In y (cons_as o (filter_map h zs))
     go None = picks h zs x y i is
     go (Some w) = inr (picks h zs x y i is)
-
--- an archived file's name under an id
-abbrev pub named : ArchiveId → Segment → ArchivedName
-named id s = record { id = id; name = Whole s }
 
 abbrev made : ArchiveId → ArchiveName → ArchivedName
 made id name = record { id = id; name = name }
@@ -117,7 +113,7 @@ of_filter {X} test (y ∷ ys) x at = go (test y) at
     go true (inr i) = inr (of_filter test ys x i)
     go false i = inr (of_filter test ys x i)
 
-of_append : {X : Type 0} (xs ys : List X) (P : X → Type 0) (x : X) → In x (xs ++ ys) → (In x xs → P x) → (In x ys → P x) → P x
+pub of_append : {X : Type 0} (xs ys : List X) (P : X → Type 0) (x : X) → In x (xs ++ ys) → (In x xs → P x) → (In x ys → P x) → P x
 of_append [] ys P x at left right = right at
 of_append (z ∷ zs) ys P x (inl e) left right = left (inl e)
 of_append (z ∷ zs) ys P x (inr i) left right = of_append zs ys P x i (λ j. left (inr j)) right

@@ -1,20 +1,27 @@
 -- What info reports of a disk is the report on the repository that it stands for.
-use Rattle.std.proofs.Common.{◌≡◌, inl, inr, ℕ, List, [], ◌∷◌, ◌++◌, map, take, length, Option, Some, None, Result, Ok, Err, IfOk, IfErr, refl, sym, ap, ap₂, ◌∙◌, subst, string_bytes}
+use Rattle.std.proofs.Common.{◌≡◌, inl, inr, ℕ, List, [], ◌∷◌, ◌++◌, map, take, length, Bool, true, false, Option, Some, None, refl, sym, ap, ap₂, ◌∙◌, subst, string_bytes}
 use Rattle.std.specs.Prelude.{◌⊎◌, IfSome, IsSome, IsSomeAnd}
-use Rattle.serde_json.specs.Data.{Data}
+use Rattle.std.specs.declared.cmp.Ordering.{Ordering}
+use Rattle.std.specs.declared.cmp.Ordering.TheVariants.{Less, Equal, Greater}
+use Rattle.std.specs.Ordering.{is_gt, ordering_reverse, match_ordering}
+use Rattle.std.proofs.lemmas.Cmp.{nat_list_cmp_total}
+use Rattle.sha1.specs.Sha1.{sha1}
 use Rattle.pgb_text.specs.Sum.{IsSum}
+use Rattle.pgb_text.proofs.Digests.{IsSum-sha1}
 use Rattle.pgb_outside.specs.Content.{Content}
+use Rattle.pgb_outside.specs.Order.{is_before}
 use Rattle.pgb_model.specs.declared.clusters.Cluster.{Cluster}
 use Rattle.pgb_model.specs.declared.clusters.ClusterId.{ClusterId}
 use Rattle.pgb_model.specs.declared.wal.ArchiveId.{ArchiveId}
 use Rattle.pgb_model.specs.declared.wal.ArchiveName.{ArchiveName}
-use Rattle.pgb_model.specs.Text.{Text, In}
-use Rattle.pgb_model.specs.Names.{archive_info, backup_info}
-use Rattle.pgb_model.specs.Fields.{Field}
+use Rattle.pgb_model.specs.declared.wal.ArchiveName.TheVariants.{Segment as Whole}
+use Rattle.pgb_model.specs.declared.wal.Segment.{Segment}
+use Rattle.pgb_model.specs.Text.{Text, In, text_cmp}
+use Rattle.pgb_model.specs.Names.{archive_info, backup_info, segment_text}
 use Rattle.pgb_model.specs.InfoFiles.{entry_field}
 use Rattle.pgb_model.specs.Values.{ArchiveInfo, BackupInfo, Entry}
-use Rattle.pgb_model.specs.Repository.{Archived, Stanza, identity_of}
-use Rattle.pgb_model.specs.Stands.{HasStanza, IsArchivePlace, stored_name, archive_value, backup_value}
+use Rattle.pgb_model.specs.Repository.{Archived, Stanza, identity_of, id_of}
+use Rattle.pgb_model.specs.Stands.{HasStanza, IsWalName, IsArchivePlace, stored_name, archive_value, backup_value}
 use Rattle.pgb_model.specs.Now.{NowStands}
 use Rattle.pgb_model.proofs.Pushed.{file_of}
 use Rattle.pgb_info.proofs.Numbers.{in_map, map_in}
@@ -23,55 +30,109 @@ use Rattle.pgb_options.specs.declared.options.OutputWord.{OutputWord}
 use Rattle.pgb_options.specs.declared.options.OutputWord.TheVariants.{Text as AsText, Json as AsJson}
 use Rattle.pgb_stanza.specs.Pairs.{HavePairs}
 use Rattle.pgb_stanza.proofs.OneBackup.{Agree, pair_agrees}
-use Rattle.pgb_archive.specs.declared.files.Stored.{Stored}
-use Rattle.pgb_archive.specs.Stored.{AreStored, archive_path}
+use Rattle.pgb_archive.specs.Stored.{archive_path}
+use Rattle.pgb_archive.specs.Ends.{StoresWhole}
 use Rattle.pgb_archive.proofs.Got.{same_place}
 use Rattle.pgb_report.specs.declared.report.ArchivedName.{ArchivedName}
+use Rattle.pgb_report.specs.Archived.{segments_under}
 use Rattle.pgb_report.specs.ReportText.{stanza_lines, cluster_lines, shown_clusters, backup_lines, report_lines, report_text_of}
 use Rattle.pgb_report.specs.ReportData.{backup_data, cluster_data, stanza_data, report_data, report_json_of}
 use Rattle.pgb_report.specs.Labelled.{labelled_data}
 use Rattle.pgb_report.proofs.Sections.{labelled_entries}
-use Rattle.pgb_command.specs.Reporting.{report_by, stored_as, IsReported, archived_as, AreNamesOf, ReportsStanza}
+use Rattle.pgb_command.specs.Storing.{id_kept}
+use Rattle.pgb_command.specs.Reporting.{report_by, named, AreRound, HaveEnds, IsReported, archived_as, ReportsStanza}
+use Rattle.pgb_command.proofs.Archived.{place_of}
 use Rattle.pgb_command.proofs.EntryLines.{same_backup_lines, same_status_text, same_status_data}
+use Rattle.pgb_command.proofs.Ends.{Le, le_itself, AtOrBefore, AtOrBehind, same_least, same_greatest}
+use Rattle.pgb_command.proofs.ReportNames.{segment_in, in_segments, SameEnds, AllEnds, same_names}
 
 -- ---- the names
 
-some_and : {X : Type 0} (P : X → Type 0) (o : Option X) → IsSomeAnd o P → (x : X) × (o ≡ Some x) × P x
-some_and P None h = absurd h
-some_and P (Some x) h = (x, refl, h)
+-- what isn't before another is at it or behind it
+not_before : (a b : Text) → is_before a b ≡ false → Le b a
+not_before a b no = go (text_cmp a b) refl
+  where
+    go : (o : Ordering) → text_cmp a b ≡ o → Le b a
+    go Less is = let yes : is_before a b ≡ true = ap (λ (o : Ordering). match_ordering o true false false) is in let both : ◌≡◌ {A = Bool} true false = sym yes ∙ no in cc
+    go Equal is = ap is_gt (nat_list_cmp_total.antisymm b a ∙ ap ordering_reverse is)
+    go Greater is = ap is_gt (nat_list_cmp_total.antisymm b a ∙ ap ordering_reverse is)
 
 abbrev name_made : ArchiveId → ArchiveName → ArchivedName
-name_made i n = record { id = i; name = n }
+name_made id name = record { id = id; name = name }
 
-name_as : (i j : ArchiveId) (n m : ArchiveName) → i ≡ j → n ≡ m → ◌≡◌ {A = ArchivedName} (record { id = i; name = n }) (record { id = j; name = m })
-name_as i j n m e d = ap₂ name_made e d
+module _ (stanza : Text) (f : Content) (s : Stanza) (now : NowStands stanza (Some s) (Some f)) where
+  has : HasStanza stanza f s
+  has = now.stands f refl
 
-module _ (stanza : Text) (f : Content) (s : Stanza) (has : HasStanza stanza f s) (files : List Stored) (stored : AreStored stanza f files) where
-  -- a stored file is an archived one
-  of_file : (file : Stored) → In file files → (a : Archived) × In a s.archived × (stored_as file ≡ archived_as a)
-  of_file file at =
-      let h = stored.each file at in
-      let (bytes, there, long) = some_and _ (f (string_bytes file.path)) h.size in
-      let place : (sum : Text) → IsSum sum → IsArchivePlace file.id file.name sum = λ sum is. record { version = h.fits.version; number = h.fits.number; fits = h.fits.fits; digest = is } in
-      let x = (has.archived (string_bytes file.path) bytes (record { id = file.id; file = file.name; sum = h.sum; fits = h.fits; is = h.path })).0 there in
-      let same = same_place stanza file.id file.name place x.0 h.sum h.fits.digest (has.named x.0 x.1) (sym h.path ∙ x.2) in
-      (x.0, x.1, sym (name_as x.0.id file.id x.0.name file.name same.0 same.1))
+  abbrev all_names : List ArchivedName
+  all_names = map archived_as s.archived
 
-  -- and each archived file is stored
-  of_archived : (a : Archived) → In a s.archived → In (archived_as a) (map stored_as files)
-  of_archived a at =
-      let held = (has.archived (stored_name stanza a) a.bytes (file_of stanza a (has.named a at))).1 (a, at, refl, refl) in
-      let (file, there, lies) = stored.all (stored_name stanza a) (file_of stanza a (has.named a at)) (subst (λ (o : Option Text). IsSome o) (sym held) refl) in
-      let h = stored.each file there in
-      let place : (sum : Text) → IsSum sum → IsArchivePlace file.id file.name sum = λ sum is. record { version = h.fits.version; number = h.fits.number; fits = h.fits.fits; digest = is } in
-      let same = same_place stanza file.id file.name place a h.sum h.fits.digest (has.named a at) (sym h.path ∙ lies) in
-      subst (λ (n : ArchivedName). In n (map stored_as files)) (sym (name_as a.id file.id a.name file.name same.0 same.1)) (in_map stored_as files file there)
+  some_held : (o : Option Text) → IsSome o → (bytes : Text) × (o ≡ Some bytes)
+  some_held None some = cc
+  some_held (Some bytes) some = (bytes, refl)
 
-  names_are : AreNamesOf s.archived (map stored_as files)
-  names_are = record {
-    each = λ n at. let (file, there, is) = map_in stored_as files n at in let x = of_file file there in (x.0, x.1, is ∙ x.2);
-    all = of_archived;
-  }
+  -- a stored whole segment is an archived one
+  segment_archived : (c : ClusterId) (t : Segment) → In c (map identity_of s.history) → StoresWhole stanza (id_kept c) f t → In (named (id_kept c) t) all_names
+  segment_archived c t listed stored =
+      let (d, at, is) = map_in identity_of s.history c listed in
+      let (fits, sum, is_sum, some) = subst (λ (x : ClusterId). StoresWhole stanza (id_kept x) f t) is stored in
+      let place = place_of stanza f s now (Whole t) fits d at in
+      let (bytes, there) = some_held (f (archive_path stanza (id_of d) (Whole t) sum)) some in
+      let (a, archived, lies, so) = (has.archived (archive_path stanza (id_of d) (Whole t) sum) bytes (record { id = id_of d; file = Whole t; sum = sum; fits = place sum is_sum; is = refl })).0 there in
+      let same = same_place stanza (id_of d) (Whole t) place a sum is_sum (has.named a archived) lies in
+      let name : archived_as a ≡ named (id_of d) t = ap₂ name_made same.0 same.1 in
+      subst (λ (x : ClusterId). In (named (id_kept x) t) all_names) (sym is) (subst (λ (n : ArchivedName). In n all_names) name (in_map archived_as s.archived a archived))
+
+  -- and an archived one is stored
+  segment_stored : (id : ArchiveId) (t : Segment) → In (named id t) all_names → StoresWhole stanza id f t
+  segment_stored id t at =
+      let (a, archived, is) = map_in archived_as s.archived (named id t) at in
+      let same_id : a.id ≡ id = ap (λ (n : ArchivedName). n.id) (sym is) in
+      let same_name : a.name ≡ Whole t = ap (λ (n : ArchivedName). n.name) (sym is) in
+      let held = (has.archived (stored_name stanza a) a.bytes (file_of stanza a (has.named a archived))).1 (a, archived, refl, refl) in
+      let some : IsSome (f (archive_path stanza a.id a.name (sha1 a.bytes))) = subst (λ (o : Option Text). IsSome o) (sym held) refl in
+      let there : IsSome (f (archive_path stanza id (Whole t) (sha1 a.bytes))) =
+      subst (λ (n : ArchiveName). IsSome (f (archive_path stanza id n (sha1 a.bytes)))) same_name (subst (λ (i : ArchiveId). IsSome (f (archive_path stanza i a.name (sha1 a.bytes)))) same_id some) in
+      (subst IsWalName same_name (has.named a archived).fits, sha1 a.bytes, IsSum-sha1 a.bytes, there)
+
+  module _ (names : List ArchivedName) (ends : HaveEnds stanza (map identity_of s.history) f names) (c : ClusterId) (listed : In c (map identity_of s.history)) where
+    abbrev told : List Text
+    told = segments_under (id_kept c) names
+
+    abbrev archived : List Text
+    archived = segments_under (id_kept c) all_names
+
+    -- what is told is archived
+    told_archived : (x : Text) → In x told → In x archived
+    told_archived x at =
+        let (t, there, is) = segment_in (id_kept c) names x at in
+        let (d, u, of, same, stored) = ends.each (named (id_kept c) t) there in
+        let known = subst (λ (n : ArchivedName). In n all_names) (sym same) (segment_archived d u of stored) in
+        subst (λ (y : Text). In y archived) (sym is) (in_segments (id_kept c) all_names t known)
+
+    -- and lies round all that is
+    round_of : (y : Text) → In y archived → (t : Segment) × AreRound (id_kept c) t names × (y ≡ segment_text t)
+    round_of y at =
+        let (t, there, is) = segment_in (id_kept c) all_names y at in
+        (t, ends.round c listed t (segment_stored (id_kept c) t there), is)
+
+    before : AtOrBefore told archived
+    before y at =
+        let (t, round, is) = round_of y at in
+        let (u, there, no) = round.first in
+        (segment_text u, in_segments (id_kept c) names u there, subst (Le (segment_text u)) (sym is) (not_before (segment_text t) (segment_text u) no))
+
+    behind : AtOrBehind told archived
+    behind y at =
+        let (t, round, is) = round_of y at in
+        let (u, there, no) = round.last in
+        (segment_text u, in_segments (id_kept c) names u there, subst (λ (z : Text). Le z (segment_text u)) (sym is) (not_before (segment_text u) (segment_text t) no))
+
+    same_ends : SameEnds (id_kept c) names all_names
+    same_ends = record {
+      first = same_least told archived before (λ x at. (x, told_archived x at, le_itself x));
+      last = same_greatest told archived behind (λ x at. (x, told_archived x at, le_itself x));
+    }
 
 -- ---- the backups
 
@@ -93,7 +154,7 @@ same_report AsJson stanza a v w names agree =
 
 take_front : {X Y : Type 0} (f : X → Y) (xs ys : List X) → take (length (map f xs)) (xs ++ ys) ≡ take (length (map f xs)) xs
 take_front f [] ys = refl
-take_front f (x ∷ xs) ys = ap (λ (zs : List _). x ∷ zs) (take_front f xs ys)
+take_front {X} f (x ∷ xs) ys = ap (λ (zs : List X). x ∷ zs) (take_front f xs ys)
 
 -- a cluster that is still to come isn't reported
 no_pending : (form : OutputWord) (stanza : Text) (s : Stanza) (pending : Option Cluster) (names : List ArchivedName) →
@@ -109,11 +170,9 @@ pub reports : (form : OutputWord) (stanza : Text) (repo : Option Content) (lines
 reports form stanza None lines s some now r = cc
 reports form stanza (Some f) lines s some now r =
     let has = now.stands f refl in
-    let names = map stored_as r.files in
+    let names = r.names in
     let archive : r.archive ≡ archive_value s = one_archive_pair f (archive_info stanza) r.archive (archive_value s) r.pairs.archive has.archive_pair in
     let agree = pair_agrees f (backup_info stanza) r.backup (backup_value s has.pending) r.pairs.backup has.backup_pair in
-    record {
-      names = names;
-      named = names_are stanza f s has r.files r.stored;
-      is = r.is ∙ ap (λ (a : ArchiveInfo). report_by form stanza a r.backup names) archive ∙ same_report form stanza (archive_value s) r.backup (backup_value s has.pending) names agree ∙ no_pending form stanza s has.pending names;
-    }
+    let ends = subst (λ (a : ArchiveInfo). HaveEnds stanza a.history f names) archive r.ends in
+    r.is ∙ ap (λ (a : ArchiveInfo). report_by form stanza a r.backup names) archive ∙ same_report form stanza (archive_value s) r.backup (backup_value s has.pending) names agree ∙ no_pending form stanza s has.pending names
+    ∙ same_names form stanza (archive_value s) (backup_value s None) names (map archived_as s.archived) (same_ends stanza f s now names ends)

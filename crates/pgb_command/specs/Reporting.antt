@@ -1,8 +1,13 @@
 -- What info reports, and why it doesn't (pgBackRest command reference, "Info Command").
-use Rattle.std.specs.Prelude.{◌≡◌, ◌⊎◌, List, map, Option, None, IfSome, string_bytes}
+use Rattle.std.specs.Prelude.{◌≡◌, ◌⊎◌, false, List, map, Option, None, IfSome, string_bytes}
 use Rattle.pgb_outside.specs.Content.{Content}
+use Rattle.pgb_outside.specs.Order.{is_before}
+use Rattle.pgb_model.specs.declared.clusters.ClusterId.{ClusterId}
+use Rattle.pgb_model.specs.declared.wal.ArchiveId.{ArchiveId}
+use Rattle.pgb_model.specs.declared.wal.ArchiveName.TheVariants.{Segment as Whole}
+use Rattle.pgb_model.specs.declared.wal.Segment.{Segment}
 use Rattle.pgb_model.specs.Text.{Text, In}
-use Rattle.pgb_model.specs.Names.{archive_info, backup_info}
+use Rattle.pgb_model.specs.Names.{archive_info, backup_info, segment_text}
 use Rattle.pgb_model.specs.Pair.{PairIs, PairAbsent}
 use Rattle.pgb_model.specs.InfoFiles.{IsArchiveText, IsBackupText}
 use Rattle.pgb_model.specs.Values.{ArchiveInfo, BackupInfo}
@@ -15,17 +20,14 @@ use Rattle.pgb_info.specs.declared.fault.MemberFault.TheVariants.{Absent}
 use Rattle.pgb_info.specs.Causes.{AreDamaged}
 use Rattle.pgb_info.specs.BackupForm.{IsBackupForm}
 use Rattle.pgb_stanza.specs.Pairs.{HavePairs}
-use Rattle.pgb_archive.specs.declared.fault.ArchiveFault.TheVariants.{TooMany as ManyOf}
-use Rattle.pgb_archive.specs.declared.files.Stored.{Stored}
-use Rattle.pgb_archive.specs.Causes.{AllCause}
-use Rattle.pgb_archive.specs.Stored.{AreStored}
+use Rattle.pgb_archive.specs.Ends.{StoresWhole}
 use Rattle.pgb_report.specs.declared.report.ArchivedName.{ArchivedName}
 use Rattle.pgb_report.specs.ReportText.{report_text_of}
 use Rattle.pgb_report.specs.ReportData.{report_json_of}
 use Rattle.pgb_command.specs.declared.fault.Fault.{Fault}
-use Rattle.pgb_command.specs.declared.fault.Fault.TheVariants.{StanzaMissing, InfoDamaged, TooMany, Disk, NoMemory}
+use Rattle.pgb_command.specs.declared.fault.Fault.TheVariants.{StanzaMissing, InfoDamaged, Disk, NoMemory}
 use Rattle.pgb_command.specs.Answers.{Ending, finished, absent, refused}
-use Rattle.pgb_command.specs.Storing.{ValueCause}
+use Rattle.pgb_command.specs.Storing.{id_kept, ValueCause}
 
 -- ---- what is reported
 
@@ -34,18 +36,28 @@ abbrev pub report_by : OutputWord → Text → ArchiveInfo → BackupInfo → Li
 report_by AsText stanza archive backup names = report_text_of stanza archive backup names
 report_by AsJson stanza archive backup names = report_json_of stanza archive backup names
 
--- a stored file, as a report tells it
-abbrev pub stored_as : Stored → ArchivedName
-stored_as file = record { id = file.id; name = file.name }
+-- a whole segment under an id, as a report tells it
+abbrev pub named : ArchiveId → Segment → ArchivedName
+named id segment = record { id = id; name = Whole segment }
 
--- the lines are the report on what the repository holds: the values of its two pairs, and the names of its archive files
+-- One of these names under the id is at or before the segment in byte order, and one at or behind it.
+pub record AreRound (id : ArchiveId) (segment : Segment) (names : List ArchivedName) : Type 0 where
+  pub first : (t : Segment) × In (named id t) names × (is_before (segment_text segment) (segment_text t) ≡ false)
+  pub last : (t : Segment) × In (named id t) names × (is_before (segment_text t) (segment_text segment) ≡ false)
+
+-- The names are of stored whole segments of these clusters, and of each cluster all that are stored lie between them. So they have the first and the last.
+pub record HaveEnds (stanza : Text) (history : List ClusterId) (f : Content) (names : List ArchivedName) : Type 0 where
+  pub each : (n : ArchivedName) → In n names → (c : ClusterId) × (segment : Segment) × In c history × (n ≡ named (id_kept c) segment) × StoresWhole stanza (id_kept c) f segment
+  pub round : (c : ClusterId) → In c history → (segment : Segment) → StoresWhole stanza (id_kept c) f segment → AreRound (id_kept c) segment names
+
+-- the lines are the report on what the repository holds: the values of its two pairs, and the first and the last stored segment of each cluster
 pub record IsReported (stanza : Text) (form : OutputWord) (repo : Option Content) (lines : Text) : Type 0 where
   pub archive : ArchiveInfo
   pub backup : BackupInfo
-  pub files : List Stored
+  pub names : List ArchivedName
   pub pairs : IfSome repo (λ f. HavePairs stanza f archive backup)
-  pub stored : IfSome repo (λ f. AreStored stanza f files)
-  pub is : lines ≡ report_by form stanza archive backup (map stored_as files)
+  pub ends : IfSome repo (λ f. HaveEnds stanza archive.history f names)
+  pub is : lines ≡ report_by form stanza archive backup names
 
 -- ---- of the abstract repository
 
@@ -53,16 +65,9 @@ pub record IsReported (stanza : Text) (form : OutputWord) (repo : Option Content
 abbrev pub archived_as : Archived → ArchivedName
 archived_as a = record { id = a.id; name = a.name }
 
--- these are the names of the archived files, in any order
-pub record AreNamesOf (archived : List Archived) (names : List ArchivedName) : Type 0 where
-  pub each : (n : ArchivedName) → In n names → (a : Archived) × In a archived × (n ≡ archived_as a)
-  pub all : (a : Archived) → In a archived → In (archived_as a) names
-
 -- the lines are the report on the stanza: its history, its backups, and its archived files
-pub record ReportsStanza (form : OutputWord) (stanza : Text) (s : Stanza) (lines : Text) : Type 0 where
-  pub names : List ArchivedName
-  pub named : AreNamesOf s.archived names
-  pub is : lines ≡ report_by form stanza (archive_value s) (backup_value s None) names
+abbrev pub ReportsStanza : OutputWord → Text → Stanza → Text → Type 0
+ReportsStanza form stanza s lines = lines ≡ report_by form stanza (archive_value s) (backup_value s None) (map archived_as s.archived)
 
 -- ---- why it isn't
 
@@ -82,29 +87,13 @@ BackupCause stanza now rose other = ⊥
 abbrev pub HasArchive : Text → Option Content → Type 0
 HasArchive stanza now = (v : ArchiveInfo) × IfSome now (λ f. PairIs IsArchiveText f (archive_info stanza) v)
 
--- Why the two values aren't had: the archive pair comes first.
-abbrev pub PairsCause : Text → Option Content → Type 0 → Fault → Type 0
-PairsCause stanza now rose (StanzaMissing word) = ValueCause stanza now ⊥ (StanzaMissing word)
-PairsCause stanza now rose (InfoDamaged name main copy) = ValueCause stanza now ⊥ (InfoDamaged name main copy) ⊎ (HasArchive stanza now × BackupCause stanza now ⊥ (InfoDamaged name main copy))
-PairsCause stanza now rose Disk = rose
-PairsCause stanza now rose NoMemory = Unit {0}
-PairsCause stanza now rose other = ⊥
-
--- both pairs have values
-abbrev pub HasBoth : Text → Option Content → Type 0
-HasBoth stanza now = (a : ArchiveInfo) × (b : BackupInfo) × IfSome now (λ f. HavePairs stanza f a b)
-
--- why the files aren't told
-abbrev pub FilesCause : Text → Option Content → Type 0 → Fault → Type 0
-FilesCause stanza now rose (TooMany limit) = AllCause stanza now ⊥ (ManyOf limit)
-FilesCause stanza now rose Disk = rose
-FilesCause stanza now rose NoMemory = Unit {0}
-FilesCause stanza now rose other = ⊥
-
--- Why info is refused: the pairs come first.
+-- Why info is refused: the archive pair comes first.
 abbrev pub InfoCause : Text → Option Content → Type 0 → Fault → Type 0
-InfoCause stanza now rose (TooMany limit) = HasBoth stanza now × FilesCause stanza now ⊥ (TooMany limit)
-InfoCause stanza now rose fault = PairsCause stanza now rose fault
+InfoCause stanza now rose (StanzaMissing word) = ValueCause stanza now ⊥ (StanzaMissing word)
+InfoCause stanza now rose (InfoDamaged name main copy) = ValueCause stanza now ⊥ (InfoDamaged name main copy) ⊎ (HasArchive stanza now × BackupCause stanza now ⊥ (InfoDamaged name main copy))
+InfoCause stanza now rose Disk = rose
+InfoCause stanza now rose NoMemory = Unit {0}
+InfoCause stanza now rose other = ⊥
 
 -- how info ended well
 abbrev pub ReportedBy : Ending → Text → OutputWord → Option Content → Type 0

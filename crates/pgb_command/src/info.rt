@@ -1,5 +1,5 @@
 // info.
-ghost use Rattle.std.specs.Prelude.{◌≡◌, ◌≤◌, map, OnOk, IfOk, IfErr, IfSome, string_bytes};
+ghost use Rattle.std.specs.Prelude.{◌≡◌, ◌≤◌, ◌++◌, [], map, OnOk, IfOk, IfErr, IfSome, string_bytes};
 ghost use Rattle.pgb_outside.specs.Moments.{Rests};
 ghost use Rattle.pgb_outside.specs.Cause.{Rises};
 ghost use Rattle.pgb_model.specs.Names.{backup_info};
@@ -7,18 +7,19 @@ ghost use Rattle.pgb_model.specs.Pair.{PairIs};
 ghost use Rattle.pgb_model.specs.InfoFiles.{IsBackupInfo, IsBackupText};
 ghost use Rattle.pgb_model.specs.Values.{archive_info_of, backup_info_of};
 ghost use Rattle.pgb_stanza.specs.Pairs.{HavePairs};
-ghost use Rattle.pgb_archive.specs.Stored.{AreStored};
+ghost use Rattle.pgb_archive.specs.Ends.{AreEnds};
 ghost use Rattle.pgb_command.specs.Outcomes.{outcome_ending};
-ghost use Rattle.pgb_command.specs.Reporting.{report_by, stored_as, BackupCause, PairsCause, FilesCause, InfoCause, ReportedBy};
+ghost use Rattle.pgb_command.specs.Making.{OpeningCause};
+ghost use Rattle.pgb_command.specs.Reporting.{report_by, named, HaveEnds, BackupCause, InfoCause, ReportedBy};
 
 use crate::current::read_archive_value;
 use crate::fault::Fault;
 use crate::opening::prepare_repository;
 use crate::outcome::Outcome;
 use crate::settings::Settings;
-use pgb_archive::{Stored, all};
+use pgb_archive::{ArchiveFault, ends};
 use pgb_info::{InfoFault, MemberFault, load_pair};
-use pgb_model::{ArchiveInfo, BackupInfo};
+use pgb_model::{ArchiveId, ArchiveInfo, ArchiveName, BackupInfo, ClusterId, Segment};
 use pgb_options::OutputWord;
 use pgb_outside::Disk;
 use pgb_report::{ArchivedName, Report, report_json, report_text};
@@ -69,38 +70,73 @@ fn read_pairs<D: Disk>(alloc: Global, repo: &mut D, stanza: &str) -> Result<Pair
     ensures time { Rests (D.view repo.old) (D.view repo.new) }
     ensures place { D.place repo.new ≡ D.place repo.old }
     ensures later { D.faults repo.old ≤ D.faults repo.new }
-    ensures cause { IfErr result (PairsCause stanza.now (D.view repo.old).now (Rises (D.faults repo.old) (D.faults repo.new))) }
+    ensures cause { IfErr result (InfoCause stanza.now (D.view repo.old).now (Rises (D.faults repo.old) (D.faults repo.new))) }
 {
     let archive = read_archive_value(alloc, repo, stanza)?;
     let backup = read_backup_value(alloc, repo, stanza)?;
     Ok(Pairs { archive, backup })
 }
 
-// The stanza's archive files.
-fn stored_files<D: Disk>(alloc: Global, repo: &mut D, stanza: &str) -> Result<Vec<Stored>, Fault>
-    ensures all { IfOk result (λ files. IfSome (D.view repo.old).now (λ f. AreStored stanza.now f files.items)) }
+// Stored whole segments under this id that bound all others.
+fn ends_under<D: Disk>(
+    alloc: Global,
+    repo: &mut D,
+    stanza: &str,
+    id: &ArchiveId,
+) -> Result<Vec<Segment>, Fault>
+    ensures ends { IfOk result (λ found. IfSome (D.view repo.old).now (λ f. AreEnds stanza.now id.now f found.items)) }
     ensures now { (D.view repo.new).now ≡ (D.view repo.old).now }
     ensures time { Rests (D.view repo.old) (D.view repo.new) }
     ensures place { D.place repo.new ≡ D.place repo.old }
     ensures later { D.faults repo.old ≤ D.faults repo.new }
-    ensures cause { IfErr result (FilesCause stanza.now (D.view repo.old).now (Rises (D.faults repo.old) (D.faults repo.new))) }
+    ensures cause { IfErr result (OpeningCause [] (Rises (D.faults repo.old) (D.faults repo.new)) ⊥ ⊥ ⊥) }
 {
-    match all(alloc, repo, stanza) {
-        Ok(files) => Ok(files),
-        Err(fault) => Err(Fault::from(fault)),
+    match ends(alloc, repo, stanza, id) {
+        Ok(found) => Ok(found),
+        Err(ArchiveFault::Disk) => Err(Fault::Disk),
+        Err(_) => Err(Fault::NoMemory),
     }
 }
 
-// The names of these files.
-fn names_of(alloc: Global, files: &[Stored]) -> Result<Vec<ArchivedName>, AllocError>
-    ensures { IfOk result (λ names. names.items ≡ map stored_as files.now) }
+// Adds the names of these segments.
+fn add_names(
+    names: &mut Vec<ArchivedName>,
+    id: ArchiveId,
+    segments: &[Segment],
+) -> Result<(), AllocError>
+    ensures { OnOk result (names.new.items ≡ names.old.items ++ map (named id) segments.now) }
+{
+    for segment in segments {
+        names.push(ArchivedName {
+            id,
+            name: ArchiveName::Segment(*segment),
+        })?;
+    }
+    Ok(())
+}
+
+// The names of stored whole segments that bound all others, of each cluster.
+fn end_names<D: Disk>(
+    alloc: Global,
+    repo: &mut D,
+    stanza: &str,
+    history: &[ClusterId],
+) -> Result<Vec<ArchivedName>, Fault>
+    ensures ends { IfOk result (λ names. IfSome (D.view repo.old).now (λ f. HaveEnds stanza.now history.now f names.items)) }
+    ensures now { (D.view repo.new).now ≡ (D.view repo.old).now }
+    ensures time { Rests (D.view repo.old) (D.view repo.new) }
+    ensures place { D.place repo.new ≡ D.place repo.old }
+    ensures later { D.faults repo.old ≤ D.faults repo.new }
+    ensures cause { IfErr result (OpeningCause [] (Rises (D.faults repo.old) (D.faults repo.new)) ⊥ ⊥ ⊥) }
 {
     let mut names = Vec::new(alloc);
-    for file in files {
-        names.push(ArchivedName {
-            id: file.id,
-            name: file.name,
-        })?;
+    for cluster in history {
+        let id = ArchiveId {
+            version: cluster.version,
+            number: cluster.id,
+        };
+        let segments = ends_under(alloc, repo, stanza, &id)?;
+        add_names(&mut names, id, &segments)?;
     }
     Ok(names)
 }
@@ -132,8 +168,7 @@ pub(crate) fn report_stanza<D: Disk>(
 {
     prepare_repository(alloc, repo, settings)?;
     let pairs = read_pairs(alloc, repo, settings.stanza)?;
-    let files = stored_files(alloc, repo, settings.stanza)?;
-    let archived = names_of(alloc, &files)?;
+    let archived = end_names(alloc, repo, settings.stanza, &pairs.archive.history)?;
     let text = report_by(
         alloc,
         form,
