@@ -15,6 +15,8 @@ mod Archived
 mod StoreCauses
 mod Pushes
 mod Causes
+mod Talks
+mod Names
 mod Asked
 mod Doings
 mod Requests

@@ -15,4 +15,4 @@ pub returns-in-ArchiveGet-clause-none : goal.returns-in-ArchiveGet-clause-none
 returns-in-ArchiveGet-clause-none g c = nothing_all c.get_file.result _ (read_none (asked_of c.args.settings.now) c.in-ArchiveGet.name.now c.in-ArchiveGet.path.now (g.T.Tree.nodes c.args.tree.now) (g.D.Disk.view c.args.repo.now) (g.D.Disk.view c.get_file.new.repo) (ap request_of c.in-ArchiveGet.is) c.get_file.ensures.time c.get_file.ensures.now)
 
 pub returns-in-ArchiveGet-clause-answered : goal.returns-in-ArchiveGet-clause-answered
-returns-in-ArchiveGet-clause-answered g c = got_answer (asked_of c.args.settings.now) c.in-ArchiveGet.name.now c.in-ArchiveGet.path.now (g.T.Tree.nodes c.args.tree.now) (g.D.Disk.view c.args.repo.now) (g.D.Disk.view c.get_file.new.repo) (ap request_of c.in-ArchiveGet.is) c.get_file.ensures.time c.get_file.ensures.now c.get_file.result _ _ _ _ _ _ c.get_file.ensures.told c.get_file.ensures.cause
+returns-in-ArchiveGet-clause-answered g c = got_answer (asked_of c.args.settings.now) c.in-ArchiveGet.name.now c.in-ArchiveGet.path.now (g.T.Tree.nodes c.args.tree.now) (g.D.Disk.view c.args.repo.now) (g.D.Disk.view c.get_file.new.repo) (ap request_of c.in-ArchiveGet.is) c.get_file.ensures.time c.get_file.ensures.now c.get_file.result _ _ _ _ _ _ _ _ c.get_file.ensures.told c.get_file.ensures.cause

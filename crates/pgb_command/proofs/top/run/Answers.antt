@@ -53,13 +53,13 @@ returns-clause-locked g c = λ zero. let t = c.answer.ensures.told in at_zero _ 
 
 pub returns-clause-answered : goal.returns-clause-answered
 returns-clause-answered g c = let t = c.answer.ensures.told in
-    let b = told_cause _ _ _ _ _ _ _ _ _ _ _ _ (answer_of c.serve-served.result) t.0 c.serve-served.ensures.answered t.2 in
+    let b = told_cause _ _ _ _ _ _ _ _ _ _ _ _ _ _ (answer_of c.serve-served.result) t.0 c.serve-served.ensures.answered t.2 in
     (b.0, t.1 ∙ ap status (sym b.1), b.2, b.3)
 
 pub returns-clause-complete : goal.returns-clause-complete
 returns-clause-complete g c = λ none. let t = c.answer.ensures.told in
-    let b = told_cause _ _ _ _ _ _ _ _ _ _ _ _ (answer_of c.serve-served.result) t.0 c.serve-served.ensures.answered t.2 in
-    completes _ _ _ _ _ _ _ _ _ _ b.0 _ b.2 none (t.1 ∙ ap status (sym b.1))
+    let b = told_cause _ _ _ _ _ _ _ _ _ _ _ _ _ _ (answer_of c.serve-served.result) t.0 c.serve-served.ensures.answered t.2 in
+    completes _ _ _ _ _ _ _ _ _ _ _ _ b.0 _ b.2 none (t.1 ∙ ap status (sym b.1))
 
 pub returns-clause-served : goal.returns-clause-served
 returns-clause-served g c = λ zero a asks name path is. let t = c.answer.ensures.told in
@@ -78,3 +78,6 @@ pub returns-clause-lacking : goal.returns-clause-lacking
 returns-clause-lacking g c = λ one a asks name path is s some now. let t = c.answer.ensures.told in
     misses_archived a.stanza a.data_folder name path (g.D.Disk.view c.args.outside.now.repo).now _ s some now
     (missed_at_one c.serve-served.result.ending _ _ _ _ t.0 _ t.2 t.1 one a _ _ _ name path is (c.serve-served.ensures.served a asks))
+
+pub returns-clause-agreed : goal.returns-clause-agreed
+returns-clause-agreed g c = λ zero. let t = c.answer.ensures.told in at_zero _ c.serve-served.result.ending _ _ _ _ t.0 _ t.2 t.1 zero c.serve-served.ensures.asks
