@@ -99,8 +99,9 @@ want 7 "ERROR: [007]: option 'pg1-path' is missing
 " --stanza=demo stanza-create
 want 2 'ERROR: [002]: no command found
 '
-want 100 "ERROR: [100]: 'online' is not built yet
-" --stanza=demo --pg1-path=pg stanza-create
+want 83 'ERROR: [083]: server connection failed
+' --stanza=demo --pg1-path=pg --repo1-path="$room/refused" --lock-path="$room/lock" --pg1-socket-path="$room" stanza-create
+[ -z "$(find refused -type f 2>/dev/null)" ] || complain 'files were written without the server'
 program --help >help
 for words in 'help' '-h' 'help archive-get' 'archive-get --help'; do
     read -ra asked <<<"$words"

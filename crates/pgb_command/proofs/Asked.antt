@@ -6,6 +6,7 @@ use Rattle.pgb_model.specs.Text.{Text}
 use Rattle.pgb_options.specs.Faults.{Fault}
 use Rattle.pgb_options.specs.Paths.{Path, nowhere, usual, named, path_of_words}
 use Rattle.pgb_options.specs.Settings.{Settled, settled_words}
+use Rattle.pgb_command.specs.Talking.{Server}
 use Rattle.pgb_command.specs.Asked.{MayHave, Settles, Request, requested, Asked, IsAsked, MayAsk, Asks}
 
 ok_same : {X Y : Type 0} (a b : X) → ◌≡◌ {A = Result X Y} (Ok a) (Ok b) → a ≡ b
@@ -22,16 +23,17 @@ one_settling words f x y p q =
     let text : p.bytes ≡ q.bytes = one_text f q.path p.bytes q.bytes (subst (λ (a : Path). MayHave (Some f) a p.bytes) path p.has) q.has in
     sym p.settled ∙ ap (settled_words words) text ∙ q.settled
 
-abbrev made : Text → Text → Text → Text → Request → Asked
-made s d r l q = record { stanza = s; data_folder = d; repository = r; lock_folder = l; request = q }
+abbrev made : Text → Text → Text → Text → Option Server → Request → Asked
+made s d r l v q = record { stanza = s; data_folder = d; repository = r; lock_folder = l; server = v; request = q }
 
 one_of : (s : Settled) (a b : Asked) → IsAsked s a → IsAsked s b → a ≡ b
 one_of s a b p q =
-    ap (λ x. made x a.data_folder a.repository a.lock_folder a.request) (p.stanza ∙ sym q.stanza)
-    ∙ ap (λ x. made b.stanza x a.repository a.lock_folder a.request) (p.data_folder ∙ sym q.data_folder)
-    ∙ ap (λ x. made b.stanza b.data_folder x a.lock_folder a.request) (p.repository ∙ sym q.repository)
-    ∙ ap (λ x. made b.stanza b.data_folder b.repository x a.request) (p.lock_folder ∙ sym q.lock_folder)
-    ∙ ap (λ x. made b.stanza b.data_folder b.repository b.lock_folder x) (ok_same a.request b.request (sym p.request ∙ q.request))
+    ap (λ x. made x a.data_folder a.repository a.lock_folder a.server a.request) (p.stanza ∙ sym q.stanza)
+    ∙ ap (λ x. made b.stanza x a.repository a.lock_folder a.server a.request) (p.data_folder ∙ sym q.data_folder)
+    ∙ ap (λ x. made b.stanza b.data_folder x a.lock_folder a.server a.request) (p.repository ∙ sym q.repository)
+    ∙ ap (λ x. made b.stanza b.data_folder b.repository x a.server a.request) (p.lock_folder ∙ sym q.lock_folder)
+    ∙ ap (λ x. made b.stanza b.data_folder b.repository b.lock_folder x a.request) (p.server ∙ sym q.server)
+    ∙ ap (λ x. made b.stanza b.data_folder b.repository b.lock_folder b.server x) (ok_same a.request b.request (sym p.request ∙ q.request))
 
 one_asked : (words : List Text) (files : Option Content) (a b : Asked) → IsSome files → MayAsk words files a → MayAsk words files b → a ≡ b
 one_asked words None a b told p q = cc

@@ -3,6 +3,8 @@ use Rattle.std.proofs.Common.{◌≡◌, ◌⊎◌, ◌≤◌, ℕ, arith, inl, 
 use Rattle.std.specs.Prelude.{◌≢◌, OnOk}
 use Rattle.pgb_options.specs.declared.usage.Usage.{Usage}
 use Rattle.pgb_options.specs.declared.usage.Usage.TheVariants.{CommandMissing, CommandUnknown, OptionUnknown, OptionRepeated, OptionValue, OptionMissing, OptionNotFor, ConfigSyntax, ParameterCount, ParameterUtf8, NoMemory as UsageNoMemory}
+use Rattle.pgb_server.specs.declared.fault.ServerFault.{ServerFault}
+use Rattle.pgb_server.specs.declared.fault.ServerFault.TheVariants as server
 use Rattle.pgb_command.specs.declared.outcome.Outcome.{Outcome}
 use Rattle.pgb_command.specs.declared.outcome.Outcome.TheVariants.{Silent, SameStored, Absent, Report}
 use Rattle.pgb_command.specs.Outcomes.{ending_of, OnNothing}
@@ -10,8 +12,8 @@ use Rattle.pgb_outside.specs.Content.{Content}
 use Rattle.pgb_outside.specs.Tree.{Nodes}
 use Rattle.pgb_model.specs.Text.{Text}
 use Rattle.pgb_command.specs.declared.fault.Fault.{Fault}
-use Rattle.pgb_command.specs.declared.fault.Fault.TheVariants.{Settings, ConfigMissing, SegmentName, PathOutside, Held, StanzaMissing, InfoDamaged, HistoryDiffers, StanzaMismatch, ArchiveLost, SegmentMissing, TooLong, TooMany, HeaderForm, SegmentSize, HeaderMismatch, Ambiguous, Duplicate, SegmentDamaged, NotBuilt, ControlMissing, ControlShort, VersionText, VersionUnsupported, Disk, Tree, Locks, Source, Sink, NoMemory}
-use Rattle.pgb_command.specs.Answers.{Ending, finished, absent, refused, Answer, error_line, lines_of, ending_lines, usage_status, status_of, status, OnFinding, IsFinding}
+use Rattle.pgb_command.specs.declared.fault.Fault.TheVariants.{Settings, ConfigMissing, SegmentName, PathOutside, Held, StanzaMissing, InfoDamaged, HistoryDiffers, StanzaMismatch, ArchiveLost, SegmentMissing, TooLong, TooMany, HeaderForm, SegmentSize, HeaderMismatch, Ambiguous, Duplicate, SegmentDamaged, Server, Wire, NotBuilt, ControlMissing, ControlShort, VersionText, VersionUnsupported, Disk, Tree, Locks, Source, Sink, NoMemory}
+use Rattle.pgb_command.specs.Answers.{Ending, finished, absent, refused, Answer, error_line, lines_of, ending_lines, usage_status, server_status, status_of, status, OnFinding, IsFinding}
 use Rattle.pgb_command.specs.Causes.{Cause, Refused, Unknown, Asking, Output, Memory}
 use Rattle.pgb_command.specs.Output.{IsFrontWritten, IsTold, Whole, Cut, Starved, Wordless, WroteLines, Wrote}
 use Rattle.pgb_options.specs.declared.options.OutputWord.{OutputWord}
@@ -22,6 +24,28 @@ use Rattle.pgb_command.specs.Reporting.{IsReported}
 use Rattle.pgb_command.proofs.Pushes.{finding_to, on_all as all_findings}
 use Rattle.pgb_command.proofs.Written.{more}
 use Rattle.pgb_command.proofs.Told.{front_whole, front_as}
+
+server_not_zero : (e : ServerFault) → ¬ (server_status e ≡ 0)
+server_not_zero (server.SystemMismatch a b) e = cc
+server_not_zero (server.ServerSaid a b) e = cc
+server_not_zero (server.AuthUnsupported a) e = cc
+server_not_zero (server.ServerForm a) e = cc
+server_not_zero (server.ServerEnded a) e = cc
+server_not_zero (server.TooLong a) e = cc
+server_not_zero (server.TooMany a) e = cc
+server_not_zero server.Wire e = cc
+server_not_zero server.NoMemory e = cc
+
+server_not_one : (e : ServerFault) → ¬ (server_status e ≡ 1)
+server_not_one (server.SystemMismatch a b) e = cc
+server_not_one (server.ServerSaid a b) e = cc
+server_not_one (server.AuthUnsupported a) e = cc
+server_not_one (server.ServerForm a) e = cc
+server_not_one (server.ServerEnded a) e = cc
+server_not_one (server.TooLong a) e = cc
+server_not_one (server.TooMany a) e = cc
+server_not_one server.Wire e = cc
+server_not_one server.NoMemory e = cc
 
 usage_not_zero : (u : Usage) → ¬ (usage_status u ≡ 0)
 usage_not_zero CommandMissing e = cc
@@ -56,6 +80,7 @@ not_zero (HeaderMismatch a b) e = cc
 not_zero (Ambiguous a b) e = cc
 not_zero (Duplicate a b) e = cc
 not_zero (SegmentDamaged a b) e = cc
+not_zero (Server a) e = server_not_zero a e
 not_zero (NotBuilt a) e = cc
 not_zero (ControlMissing a) e = cc
 not_zero (ControlShort a) e = cc
@@ -63,6 +88,7 @@ not_zero VersionText e = cc
 not_zero (VersionUnsupported a) e = cc
 not_zero Disk e = cc
 not_zero Tree e = cc
+not_zero Wire e = cc
 not_zero Locks e = cc
 not_zero Source e = cc
 not_zero Sink e = cc
@@ -101,6 +127,7 @@ not_one (HeaderMismatch a b) e = cc
 not_one (Ambiguous a b) e = cc
 not_one (Duplicate a b) e = cc
 not_one (SegmentDamaged a b) e = cc
+not_one (Server a) e = server_not_one a e
 not_one (NotBuilt a) e = cc
 not_one (ControlMissing a) e = cc
 not_one (ControlShort a) e = cc
@@ -108,6 +135,7 @@ not_one VersionText e = cc
 not_one (VersionUnsupported a) e = cc
 not_one Disk e = cc
 not_one Tree e = cc
+not_one Wire e = cc
 not_one Locks e = cc
 not_one Source e = cc
 not_one Sink e = cc
@@ -138,6 +166,7 @@ wrote_fault Has old new u (HeaderMismatch a b) has is = is
 wrote_fault Has old new u (Ambiguous a b) has is = is
 wrote_fault Has old new u (Duplicate a b) has is = is
 wrote_fault Has old new u (SegmentDamaged a b) has is = is
+wrote_fault Has old new u (Server a) has is = is
 wrote_fault Has old new u (NotBuilt a) has is = is
 wrote_fault Has old new u (ControlMissing a) has is = is
 wrote_fault Has old new u (ControlShort a) has is = is
@@ -145,6 +174,7 @@ wrote_fault Has old new u VersionText has is = is
 wrote_fault Has old new u (VersionUnsupported a) has is = is
 wrote_fault Has old new u Disk has is = is
 wrote_fault Has old new u Tree has is = is
+wrote_fault Has old new u Wire has is = is
 wrote_fault Has old new u Locks has is = is
 wrote_fault Has old new u Source has is = is
 wrote_fault Has old new u Sink has is = (record { unknown = u; ending = refused Sink }, has, front_whole old _ new is)
@@ -155,25 +185,25 @@ wrote_whole Has old new u (finished lines) has is = is
 wrote_whole Has old new u (absent name) has is = is
 wrote_whole Has old new u (refused fault) has is = wrote_fault Has old new u fault has is
 
-module _ (words : List Text) (files repo : Option Content) (nodes : Option Nodes) (d t l h i s : Type 0) where
+module _ (words : List Text) (files repo : Option Content) (nodes : Option Nodes) (d t l h : Type 0) (p : Option (List ℕ)) (w i s : Type 0) where
   abbrev Has : Answer → Type 0
-  Has answer = Cause words files repo nodes d t l h i s answer
+  Has answer = Cause words files repo nodes d t l h p w i s answer
 
   -- a cause before the output was written
-  with_sink : (answer : Answer) → Cause words files repo nodes d t l h i ⊥ answer → Has answer
+  with_sink : (answer : Answer) → Cause words files repo nodes d t l h p w i ⊥ answer → Has answer
   with_sink answer (Refused fault c) = Refused fault c
   with_sink answer (Unknown set what settles is) = Unknown set what settles is
   with_sink answer (Asking set a ending settles is c) = Asking set a ending settles is c
   with_sink answer (Output u c) = absurd c
   with_sink answer (Memory u) = Memory u
 
-  starved : (old new : Option Text) (answer : Answer) → Cause words files repo nodes d t l h i ⊥ answer → (lines : Text) → (lines ≡ lines_of answer) ⊎ (lines ≡ error_line NoMemory) → IsFrontWritten old lines new →
+  starved : (old new : Option Text) (answer : Answer) → Cause words files repo nodes d t l h p w i ⊥ answer → (lines : Text) → (lines ≡ lines_of answer) ⊎ (lines ≡ error_line NoMemory) → IsFrontWritten old lines new →
       (given : Answer) × Has given × IsFrontWritten old (lines_of given) new
   starved old new answer cause lines (inl e) front = (answer, with_sink answer cause, front_as old lines (lines_of answer) new e front)
   starved old new answer cause lines (inr e) front = (As [] (refused NoMemory), Memory [], front_as old lines (error_line NoMemory) new e front)
 
   -- the answer that is told has its cause, and the output is its own
-  pub told_cause : (old new : Option Text) (answer : Answer) (told : Ending) → Cause words files repo nodes d t l h i ⊥ answer → IsTold old answer new s told →
+  pub told_cause : (old new : Option Text) (answer : Answer) (told : Ending) → Cause words files repo nodes d t l h p w i ⊥ answer → IsTold old answer new s told →
       (given : Answer) × (given.ending ≡ told) × Has given × Wrote Has old given new
   told_cause old new answer told cause (Whole ending same is) = (answer, sym same, with_sink answer cause, wrote_whole Has old new answer.unknown answer.ending (with_sink answer cause) is)
   told_cause old new answer told cause (Cut rose front) = (As answer.unknown (refused Sink), refl, Output answer.unknown rose, (answer, with_sink answer cause, front))
@@ -211,6 +241,7 @@ found_by (HeaderMismatch a b) P finding h = h
 found_by (Ambiguous a b) P finding h = h
 found_by (Duplicate a b) P finding h = h
 found_by (SegmentDamaged a b) P finding h = h
+found_by (Server a) P finding h = h
 found_by (NotBuilt a) P finding h = h
 found_by (ControlMissing a) P finding h = h
 found_by (ControlShort a) P finding h = h
@@ -218,6 +249,7 @@ found_by VersionText P finding h = h
 found_by (VersionUnsupported a) P finding h = h
 found_by Disk P finding h = absurd (not_a_finding 80 80 refl (omega arith) (omega arith) finding)
 found_by Tree P finding h = absurd (not_a_finding 82 82 refl (omega arith) (omega arith) finding)
+found_by Wire P finding h = absurd (not_a_finding 83 83 refl (omega arith) (omega arith) finding)
 found_by Locks P finding h = absurd (not_a_finding 85 85 refl (omega arith) (omega arith) finding)
 found_by Source P finding h = absurd (not_a_finding 86 86 refl (omega arith) (omega arith) finding)
 found_by Sink P finding h = absurd (not_a_finding 87 87 refl (omega arith) (omega arith) finding)
@@ -324,6 +356,6 @@ completes_as Holds u ending n has none is = go (one_of (status ending))
     go (inr (inl e)) = inr (is ∙ e)
     go (inr (inr e)) = absurd (none u ending e.0 e.1 has)
 
-pub completes : (words : List Text) (files repo : Option Content) (nodes : Option Nodes) (d t l h i s : Type 0) (answer : Answer) (n : ℕ) → Cause words files repo nodes d t l h i s answer →
-    ((v : List Text) (e : Ending) → status e ≢ 0 → status e ≢ 90 → ¬ Cause words files repo nodes d t l h i s (As v e)) → n ≡ status answer.ending → (n ≡ 0) ⊎ (n ≡ 90)
-completes words files repo nodes d t l h i s answer n has none is = completes_as (Cause words files repo nodes d t l h i s) answer.unknown answer.ending n has none is
+pub completes : (words : List Text) (files repo : Option Content) (nodes : Option Nodes) (d t l h : Type 0) (p : Option (List ℕ)) (w i s : Type 0) (answer : Answer) (n : ℕ) → Cause words files repo nodes d t l h p w i s answer →
+    ((v : List Text) (e : Ending) → status e ≢ 0 → status e ≢ 90 → ¬ Cause words files repo nodes d t l h p w i s (As v e)) → n ≡ status answer.ending → (n ≡ 0) ⊎ (n ≡ 90)
+completes words files repo nodes d t l h p w i s answer n has none is = completes_as (Cause words files repo nodes d t l h p w i s) answer.unknown answer.ending n has none is

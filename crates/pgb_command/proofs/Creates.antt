@@ -156,6 +156,8 @@ module _ (stanza : Text) (told : Control) (repo : Option Content) (nodes : Optio
   folder_cause (faults.SegmentDamaged a b) c = absurd c
   folder_cause faults.Disk c = up c
   folder_cause faults.Tree c = absurd c
+  folder_cause (faults.Server a) c = absurd c
+  folder_cause faults.Wire c = absurd c
   folder_cause faults.Locks c = absurd c
   folder_cause faults.Source c = absurd c
   folder_cause faults.Sink c = absurd c

@@ -1,5 +1,5 @@
 -- What a command did, whichever it is.
-use Rattle.std.proofs.Common.{◌≡◌, inl, Option, Some, None, Result, Ok, Err, IfOk, IfErr, true, false, refl, sym, ◌∙◌, subst}
+use Rattle.std.proofs.Common.{◌≡◌, ℕ, List, ◌⊎◌, inl, inr, Option, Some, None, Result, Ok, Err, IfOk, IfErr, true, false, refl, sym, ◌∙◌, subst}
 use Rattle.std.specs.Prelude.{IfSome, IsSome, IsSomeAnd, OnOk}
 use Rattle.pgb_outside.specs.Content.{Content}
 use Rattle.pgb_outside.specs.Moments.{View, Rests}
@@ -16,12 +16,13 @@ use Rattle.pgb_command.specs.declared.outcome.Outcome.{Outcome}
 use Rattle.pgb_options.specs.declared.options.OutputWord.{OutputWord}
 use Rattle.pgb_command.specs.Answers.{Ending, finished, absent, refused}
 use Rattle.pgb_command.specs.Asked.{Request, create, push, get, info, Asked}
-use Rattle.pgb_command.specs.Causes.{CreateCause, PushFileCause, IsStored, AskedCause, Creating, Stored, Pushing, Given, Missing, Getting, Reported, Reporting}
+use Rattle.pgb_command.specs.Causes.{CreateCause, PushFileCause, IsStored, AskedCause, Creating, Talking, Stored, Pushing, Given, Missing, Getting, Reported, Reporting}
 use Rattle.pgb_command.specs.Cluster.{IsClusterOf}
 use Rattle.pgb_command.specs.Commands.{IsPushOf, IsRequestOf, IsCommandOf}
 use Rattle.pgb_command.specs.Doing.{AreHealed, PartDone, AllDone, NoneDone, ServesFor, MissesFor, ServedBy}
 use Rattle.pgb_command.specs.Getting.{GetFileCause, GotBy}
 use Rattle.pgb_command.specs.Reporting.{InfoCause, ReportedBy}
+use Rattle.pgb_command.specs.Talking.{ServerCause}
 use Rattle.pgb_command.specs.Outcomes.{outcome_ending, OnFinished, ending_of}
 use Rattle.pgb_stanza.specs.Pairs.{LacksStanza, PairsAgree}
 use Rattle.pgb_command.specs.Storing.{AgreesAtPair}
@@ -71,6 +72,11 @@ module _ (a : Asked) (nodes : Option Nodes) (old new : View) (is : a.request ≡
     members = λ same. members;
   }
 
+-- stanza-create is refused, for the stanza or for the server
+pub create_refused : (a : Asked) (repo : Option Content) (nodes : Option Nodes) (d t l h : Type 0) (p : Option (List ℕ)) (w : Type 0) (fault : Fault) → a.request ≡ create → CreateCause a.stanza repo nodes d t l h fault ⊎ ServerCause a.server nodes p w fault → AskedCause a repo nodes d t l h p w (refused fault)
+create_refused a repo nodes d t l h p w fault is (inl cause) = Creating fault is cause
+create_refused a repo nodes d t l h p w fault is (inr cause) = Talking fault is cause
+
 pub create_none : (a : Asked) (old new : View) → new.now ≡ old.now → CarriesOn a.stanza Reading true old new → NoneDone a old new
 create_none a old new same carried = record { stays = still_does a.stanza old.now new.now same; carried = carried; unchanged = λ is. same }
 
@@ -103,15 +109,15 @@ module _ (a : Asked) (path : Text) (nodes : Option Nodes) (old new : View) (is :
   pub push_none : NowDoes a.stanza Reading true old.now new.now × CarriesOn a.stanza Reading true old new → NoneDone a old new
   push_none x = record { stays = x.0; carried = x.1; unchanged = λ other. not_both a.request path is other }
 
-  pub push_answer : (result : Result Outcome Fault) (repo : Option Content) (d t l h : Type 0) → IfOk result (λ x. OnFinished (outcome_ending x) (IsStored a.stanza a.data_folder path repo nodes)) →
-      IfErr result (PushFileCause a.stanza a.data_folder path repo nodes d t l h) → AskedCause a repo nodes d t l h (ending_of result)
-  push_answer (Ok x) repo d t l h stored cause = well (outcome_ending x) stored
+  pub push_answer : (result : Result Outcome Fault) (repo : Option Content) (d t l h : Type 0) (p : Option (List ℕ)) (w : Type 0) → IfOk result (λ x. OnFinished (outcome_ending x) (IsStored a.stanza a.data_folder path repo nodes)) →
+      IfErr result (PushFileCause a.stanza a.data_folder path repo nodes d t l h) → AskedCause a repo nodes d t l h p w (ending_of result)
+  push_answer (Ok x) repo d t l h p w stored cause = well (outcome_ending x) stored
     where
-      well : (ending : Ending) → OnFinished ending (IsStored a.stanza a.data_folder path repo nodes) → AskedCause a repo nodes d t l h ending
+      well : (ending : Ending) → OnFinished ending (IsStored a.stanza a.data_folder path repo nodes) → AskedCause a repo nodes d t l h p w ending
       well (finished lines) s = Stored path lines is s
       well (absent name) s = absurd s
       well (refused fault) s = absurd s
-  push_answer (Err e) repo d t l h stored cause = Pushing path e is cause
+  push_answer (Err e) repo d t l h p w stored cause = Pushing path e is cause
 
 -- ---- commands that only read
 
@@ -172,15 +178,15 @@ module _ (a : Asked) (q : Request) (reads : OnlyReads q) (nodes : Option Nodes) 
 -- ---- archive-get
 
 module _ (a : Asked) (name path : Text) (nodes : Option Nodes) (is : a.request ≡ get name path) where
-  pub got_answer : (result : Result Outcome Fault) (repo : Option Content) (d t l h : Type 0) (after : Option Nodes) → IfOk result (λ x. GotBy (outcome_ending x) a.stanza a.data_folder name path repo nodes after) →
-      IfErr result (GetFileCause a.stanza a.data_folder name path repo nodes d t) → AskedCause a repo nodes d t l h (ending_of result)
-  got_answer (Ok x) repo d t l h after got cause = well (outcome_ending x) got
+  pub got_answer : (result : Result Outcome Fault) (repo : Option Content) (d t l h : Type 0) (p : Option (List ℕ)) (w : Type 0) (after : Option Nodes) → IfOk result (λ x. GotBy (outcome_ending x) a.stanza a.data_folder name path repo nodes after) →
+      IfErr result (GetFileCause a.stanza a.data_folder name path repo nodes d t) → AskedCause a repo nodes d t l h p w (ending_of result)
+  got_answer (Ok x) repo d t l h p w after got cause = well (outcome_ending x) got
     where
-      well : (ending : Ending) → GotBy ending a.stanza a.data_folder name path repo nodes after → AskedCause a repo nodes d t l h ending
-      well (finished lines) g = subst (λ (x : Text). AskedCause a repo nodes d t l h (finished x)) (sym g.0) (Given name path g.1.0 is g.1.1)
-      well (absent word) g = subst (λ (x : Text). AskedCause a repo nodes d t l h (absent x)) (sym g.0) (Missing name path is g.1)
+      well : (ending : Ending) → GotBy ending a.stanza a.data_folder name path repo nodes after → AskedCause a repo nodes d t l h p w ending
+      well (finished lines) g = subst (λ (x : Text). AskedCause a repo nodes d t l h p w (finished x)) (sym g.0) (Given name path g.1.0 is g.1.1)
+      well (absent word) g = subst (λ (x : Text). AskedCause a repo nodes d t l h p w (absent x)) (sym g.0) (Missing name path is g.1)
       well (refused fault) g = absurd g
-  got_answer (Err e) repo d t l h after got cause = Getting name path e is cause
+  got_answer (Err e) repo d t l h p w after got cause = Getting name path e is cause
 
   pub got_serves : (result : Result Outcome Fault) (repo : Option Content) (after : Option Nodes) → IfOk result (λ x. GotBy (outcome_ending x) a.stanza a.data_folder name path repo nodes after) →
       ServedBy (ending_of result) a repo nodes after
@@ -195,15 +201,15 @@ module _ (a : Asked) (name path : Text) (nodes : Option Nodes) (is : a.request �
 -- ---- info
 
 module _ (a : Asked) (form : OutputWord) (nodes : Option Nodes) (is : a.request ≡ info form) where
-  pub report_answer : (result : Result Outcome Fault) (repo : Option Content) (d t l h : Type 0) → IfOk result (λ x. ReportedBy (outcome_ending x) a.stanza form repo) →
-      IfErr result (InfoCause a.stanza repo d) → AskedCause a repo nodes d t l h (ending_of result)
-  report_answer (Ok x) repo d t l h told cause = well (outcome_ending x) told
+  pub report_answer : (result : Result Outcome Fault) (repo : Option Content) (d t l h : Type 0) (p : Option (List ℕ)) (w : Type 0) → IfOk result (λ x. ReportedBy (outcome_ending x) a.stanza form repo) →
+      IfErr result (InfoCause a.stanza repo d) → AskedCause a repo nodes d t l h p w (ending_of result)
+  report_answer (Ok x) repo d t l h p w told cause = well (outcome_ending x) told
     where
-      well : (ending : Ending) → ReportedBy ending a.stanza form repo → AskedCause a repo nodes d t l h ending
+      well : (ending : Ending) → ReportedBy ending a.stanza form repo → AskedCause a repo nodes d t l h p w ending
       well (finished lines) r = Reported form lines is r
       well (absent word) r = absurd r
       well (refused fault) r = absurd r
-  report_answer (Err e) repo d t l h told cause = Reporting form e is cause
+  report_answer (Err e) repo d t l h p w told cause = Reporting form e is cause
 
   pub report_serves : (result : Result Outcome Fault) (repo : Option Content) (after : Option Nodes) → IfOk result (λ x. ReportedBy (outcome_ending x) a.stanza form repo) → ServedBy (ending_of result) a repo nodes after
   report_serves (Ok x) repo after told = well (outcome_ending x) told
@@ -216,10 +222,10 @@ module _ (a : Asked) (form : OutputWord) (nodes : Option Nodes) (is : a.request 
 
 -- ---- want of memory
 
-pub starved : (a : Asked) (repo : Option Content) (nodes : Option Nodes) (d t l h : Type 0) → AskedCause a repo nodes d t l h (refused NoMemory)
-starved a repo nodes d t l h = go a.request refl
+pub starved : (a : Asked) (repo : Option Content) (nodes : Option Nodes) (d t l h : Type 0) (p : Option (List ℕ)) (w : Type 0) → AskedCause a repo nodes d t l h p w (refused NoMemory)
+starved a repo nodes d t l h p w = go a.request refl
   where
-    go : (request : Request) → a.request ≡ request → AskedCause a repo nodes d t l h (refused NoMemory)
+    go : (request : Request) → a.request ≡ request → AskedCause a repo nodes d t l h p w (refused NoMemory)
     go create is = Creating NoMemory is tt
     go (push path) is = Pushing path NoMemory is (inl tt)
     go (get name path) is = Getting name path NoMemory is tt

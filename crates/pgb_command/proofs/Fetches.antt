@@ -13,7 +13,7 @@ use Rattle.pgb_model.specs.Values.{ArchiveInfo}
 use Rattle.pgb_model.specs.InfoFiles.{IsArchiveText}
 use Rattle.pgb_stanza.specs.declared.control.Control.{Control}
 use Rattle.pgb_command.specs.declared.fault.Fault.{Fault}
-use Rattle.pgb_command.specs.declared.fault.Fault.TheVariants.{Settings, ConfigMissing, SegmentName, PathOutside, Held, StanzaMissing, InfoDamaged, HistoryDiffers, StanzaMismatch, ArchiveLost, SegmentMissing, TooLong, TooMany, HeaderForm, SegmentSize, HeaderMismatch, Ambiguous, Duplicate, SegmentDamaged, NotBuilt, ControlMissing, ControlShort, VersionText, VersionUnsupported, Disk, Tree, Locks, Source, Sink, NoMemory}
+use Rattle.pgb_command.specs.declared.fault.Fault.TheVariants.{Settings, ConfigMissing, SegmentName, PathOutside, Held, StanzaMissing, InfoDamaged, HistoryDiffers, StanzaMismatch, ArchiveLost, SegmentMissing, TooLong, TooMany, HeaderForm, SegmentSize, HeaderMismatch, Ambiguous, Duplicate, SegmentDamaged, Server, Wire, NotBuilt, ControlMissing, ControlShort, VersionText, VersionUnsupported, Disk, Tree, Locks, Source, Sink, NoMemory}
 use Rattle.pgb_command.specs.declared.outcome.Outcome.{Outcome}
 use Rattle.pgb_command.specs.declared.outcome.Outcome.TheVariants.{Silent, SameStored, Absent}
 use Rattle.pgb_command.specs.Cluster.{FolderTells}
@@ -63,6 +63,8 @@ module _ (stanza : Text) (told : Control) (name : ArchiveName) (repo : Option Co
   sought rose risen up (VersionUnsupported a) h = absurd h
   sought rose risen up Disk h = up h
   sought rose risen up Tree h = absurd h
+  sought rose risen up (Server a) h = absurd h
+  sought rose risen up Wire h = absurd h
   sought rose risen up Locks h = absurd h
   sought rose risen up Source h = absurd h
   sought rose risen up Sink h = absurd h

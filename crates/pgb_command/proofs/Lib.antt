@@ -20,6 +20,8 @@ mod Reported
 mod StoreCauses
 mod Pushes
 mod Causes
+mod Talks
+mod Names
 mod Asked
 mod Doings
 mod Requests

@@ -15,7 +15,7 @@ use Rattle.pgb_model.proofs.Logged.{KeepsSound, rests_still, moves_keep, moves_b
 use Rattle.pgb_model.proofs.PushSound.{push_keeps_sound}
 use Rattle.pgb_model.proofs.PushDone.{push_spool}
 use Rattle.pgb_command.specs.declared.fault.Fault.{Fault}
-use Rattle.pgb_command.specs.declared.fault.Fault.TheVariants.{Settings, ConfigMissing, SegmentName, PathOutside, Held, StanzaMissing, InfoDamaged, HistoryDiffers, StanzaMismatch, ArchiveLost, SegmentMissing, TooLong, TooMany, HeaderForm, SegmentSize, HeaderMismatch, Ambiguous, Duplicate, SegmentDamaged, NotBuilt, ControlMissing, ControlShort, VersionText, VersionUnsupported, Disk, Tree, Locks, Source, Sink, NoMemory}
+use Rattle.pgb_command.specs.declared.fault.Fault.TheVariants.{Settings, ConfigMissing, SegmentName, PathOutside, Held, StanzaMissing, InfoDamaged, HistoryDiffers, StanzaMismatch, ArchiveLost, SegmentMissing, TooLong, TooMany, HeaderForm, SegmentSize, HeaderMismatch, Ambiguous, Duplicate, SegmentDamaged, Server, Wire, NotBuilt, ControlMissing, ControlShort, VersionText, VersionUnsupported, Disk, Tree, Locks, Source, Sink, NoMemory}
 use Rattle.pgb_command.specs.Answers.{OnFinding}
 use Rattle.pgb_command.specs.Asked.{Request, create, push, get}
 use Rattle.pgb_command.specs.Commands.{IsPushOf, IsRequestOf, IsPart, Goes, Ends}
@@ -122,6 +122,7 @@ finding_to (HeaderMismatch a b) P Q to h = to h
 finding_to (Ambiguous a b) P Q to h = to h
 finding_to (Duplicate a b) P Q to h = to h
 finding_to (SegmentDamaged a b) P Q to h = to h
+finding_to (Server a) P Q to h = to h
 finding_to (NotBuilt a) P Q to h = to h
 finding_to (ControlMissing a) P Q to h = to h
 finding_to (ControlShort a) P Q to h = to h
@@ -129,6 +130,7 @@ finding_to VersionText P Q to h = to h
 finding_to (VersionUnsupported a) P Q to h = to h
 finding_to Disk P Q to h = tt
 finding_to Tree P Q to h = tt
+finding_to Wire P Q to h = tt
 finding_to Locks P Q to h = tt
 finding_to Source P Q to h = tt
 finding_to Sink P Q to h = tt
@@ -154,6 +156,7 @@ on_all (HeaderMismatch a b) Q q = q
 on_all (Ambiguous a b) Q q = q
 on_all (Duplicate a b) Q q = q
 on_all (SegmentDamaged a b) Q q = q
+on_all (Server a) Q q = q
 on_all (NotBuilt a) Q q = q
 on_all (ControlMissing a) Q q = q
 on_all (ControlShort a) Q q = q
@@ -161,6 +164,7 @@ on_all VersionText Q q = q
 on_all (VersionUnsupported a) Q q = q
 on_all Disk Q q = tt
 on_all Tree Q q = tt
+on_all Wire Q q = tt
 on_all Locks Q q = tt
 on_all Source Q q = tt
 on_all Sink Q q = tt
@@ -195,6 +199,7 @@ on_both (HeaderMismatch a b) P R h k = (h, k)
 on_both (Ambiguous a b) P R h k = (h, k)
 on_both (Duplicate a b) P R h k = (h, k)
 on_both (SegmentDamaged a b) P R h k = (h, k)
+on_both (Server a) P R h k = (h, k)
 on_both (NotBuilt a) P R h k = (h, k)
 on_both (ControlMissing a) P R h k = (h, k)
 on_both (ControlShort a) P R h k = (h, k)
@@ -202,6 +207,7 @@ on_both VersionText P R h k = (h, k)
 on_both (VersionUnsupported a) P R h k = (h, k)
 on_both Disk P R h k = tt
 on_both Tree P R h k = tt
+on_both Wire P R h k = tt
 on_both Locks P R h k = tt
 on_both Source P R h k = tt
 on_both Sink P R h k = tt

@@ -13,7 +13,7 @@ use Rattle.pgb_archive.specs.declared.fault.ArchiveFault.TheVariants.{Ambiguous 
 use Rattle.pgb_archive.specs.Stored.{StoresNone}
 use Rattle.pgb_archive.specs.Causes.{StoresBytes, GetCause}
 use Rattle.pgb_command.specs.declared.fault.Fault.{Fault}
-use Rattle.pgb_command.specs.declared.fault.Fault.TheVariants.{Settings, ConfigMissing, SegmentName, PathOutside, Held, StanzaMissing, InfoDamaged, HistoryDiffers, StanzaMismatch, ArchiveLost, SegmentMissing, TooLong, TooMany, HeaderForm, SegmentSize, HeaderMismatch, Ambiguous, Duplicate, SegmentDamaged, NotBuilt, ControlMissing, ControlShort, VersionText, VersionUnsupported, Disk, Tree, Locks, Source, Sink, NoMemory}
+use Rattle.pgb_command.specs.declared.fault.Fault.TheVariants.{Settings, ConfigMissing, SegmentName, PathOutside, Held, StanzaMissing, InfoDamaged, HistoryDiffers, StanzaMismatch, ArchiveLost, SegmentMissing, TooLong, TooMany, HeaderForm, SegmentSize, HeaderMismatch, Ambiguous, Duplicate, SegmentDamaged, Server, Wire, NotBuilt, ControlMissing, ControlShort, VersionText, VersionUnsupported, Disk, Tree, Locks, Source, Sink, NoMemory}
 use Rattle.pgb_command.specs.Storing.{id_kept}
 use Rattle.pgb_command.specs.Getting.{IsSame, HasSame, NoneAbove, FoundIn, AbsentIn, RefusedIn, UnderCause, SearchCause}
 
@@ -112,6 +112,8 @@ module _ (stanza : Text) (told : Control) (name : ArchiveName) where
   cause_in history xs c ys is from now rose risen up absent (VersionUnsupported a) h = absurd h
   cause_in history xs c ys is from now rose risen up absent Disk h = up h
   cause_in history xs c ys is from now rose risen up absent Tree h = absurd h
+  cause_in history xs c ys is from now rose risen up absent (Server a) h = absurd h
+  cause_in history xs c ys is from now rose risen up absent Wire h = absurd h
   cause_in history xs c ys is from now rose risen up absent Locks h = absurd h
   cause_in history xs c ys is from now rose risen up absent Source h = absurd h
   cause_in history xs c ys is from now rose risen up absent Sink h = absurd h

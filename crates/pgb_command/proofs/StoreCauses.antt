@@ -192,6 +192,8 @@ module _ (stanza folder path : Text) (wal : ArchiveName) (named : IsWalPath fold
   opened name is repo nodes d t l h faults.Tree cause = cause
   opened name is repo nodes d t l h faults.Locks cause = cause
   opened name is repo nodes d t l h faults.NoMemory cause = tt
+  opened name is repo nodes d t l h (faults.Server a) cause = absurd cause
+  opened name is repo nodes d t l h faults.Wire cause = absurd cause
   opened name is repo nodes d t l h (faults.Settings u) cause = absurd cause
   opened name is repo nodes d t l h (faults.NotBuilt w) cause = absurd cause
   opened name is repo nodes d t l h (faults.ConfigMissing p) cause = absurd cause

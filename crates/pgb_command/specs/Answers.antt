@@ -8,13 +8,15 @@ use Rattle.pgb_info.specs.declared.fault.MemberFault.TheVariants.{Absent, TooLon
 use Rattle.pgb_options.specs.declared.usage.Usage.{Usage}
 use Rattle.pgb_options.specs.declared.usage.Usage.TheVariants.{CommandMissing, CommandUnknown, OptionUnknown, OptionRepeated, OptionValue, OptionMissing, OptionNotFor, ConfigSyntax, ParameterCount, ParameterUtf8, NoMemory as UsageNoMemory}
 use Rattle.pgb_options.specs.Table.{verb_word}
+use Rattle.pgb_server.specs.declared.fault.ServerFault.{ServerFault}
+use Rattle.pgb_server.specs.declared.fault.ServerFault.TheVariants as server
 use Rattle.pgb_command.specs.declared.fault.Unbuilt.{Unbuilt}
-use Rattle.pgb_command.specs.declared.fault.Unbuilt.TheVariants.{Command, Server, Background}
+use Rattle.pgb_command.specs.declared.fault.Unbuilt.TheVariants.{Command, Background}
 use Rattle.pgb_command.specs.declared.fault.ControlFile.{ControlFile}
 use Rattle.pgb_command.specs.declared.fault.ControlFile.TheVariants.{Control, Version}
 use Rattle.pgb_stanza.specs.declared.fault.Identity.{Identity}
 use Rattle.pgb_command.specs.declared.fault.Fault.{Fault}
-use Rattle.pgb_command.specs.declared.fault.Fault.TheVariants.{Settings, NotBuilt, ConfigMissing, SegmentName, PathOutside, Held, ControlMissing, ControlShort, VersionText, VersionUnsupported, StanzaMissing, InfoDamaged, HistoryDiffers, StanzaMismatch, ArchiveLost, SegmentMissing, TooLong, TooMany, HeaderForm, SegmentSize, HeaderMismatch, Ambiguous, Duplicate, SegmentDamaged, Disk, Tree, Locks, Source, Sink, NoMemory}
+use Rattle.pgb_command.specs.declared.fault.Fault.TheVariants.{Settings, NotBuilt, ConfigMissing, SegmentName, PathOutside, Held, ControlMissing, ControlShort, VersionText, VersionUnsupported, Server, StanzaMissing, InfoDamaged, HistoryDiffers, StanzaMismatch, ArchiveLost, SegmentMissing, TooLong, TooMany, HeaderForm, SegmentSize, HeaderMismatch, Ambiguous, Duplicate, SegmentDamaged, Disk, Tree, Wire, Locks, Source, Sink, NoMemory}
 
 -- of words and a configuration that are refused
 abbrev pub usage_status : Usage → ℕ
@@ -30,6 +32,18 @@ usage_status (ParameterCount given) = 11
 usage_status ParameterUtf8 = 13
 usage_status UsageNoMemory = 90
 
+-- of a server's answer that is refused
+abbrev pub server_status : ServerFault → ℕ
+server_status (server.SystemMismatch kept found) = 47
+server_status (server.ServerSaid code text) = 48
+server_status (server.AuthUnsupported code) = 49
+server_status (server.ServerForm at) = 50
+server_status (server.ServerEnded at) = 51
+server_status (server.TooLong length) = 70
+server_status (server.TooMany limit) = 71
+server_status server.Wire = 83
+server_status server.NoMemory = 90
+
 abbrev pub status_of : Fault → ℕ
 status_of (Settings usage) = usage_status usage
 status_of (NotBuilt what) = 100
@@ -41,6 +55,7 @@ status_of (ControlMissing file) = 28
 status_of (ControlShort length) = 25
 status_of VersionText = 26
 status_of (VersionUnsupported version) = 27
+status_of (Server fault) = server_status fault
 status_of (StanzaMissing stanza) = 21
 status_of (InfoDamaged name main copy) = 22
 status_of (HistoryDiffers at) = 101
@@ -57,6 +72,7 @@ status_of (Duplicate kept found) = 34
 status_of (SegmentDamaged told found) = 35
 status_of Disk = 80
 status_of Tree = 82
+status_of Wire = 83
 status_of Locks = 85
 status_of Source = 86
 status_of Sink = 87
@@ -71,7 +87,6 @@ shown = map shown_byte
 
 abbrev pub part_name : Unbuilt → Text
 part_name (Command verb) = verb_word verb
-part_name Server = codes "online"
 part_name Background = codes "archive-async"
 
 abbrev pub file_text : ControlFile → Text
@@ -105,6 +120,18 @@ usage_line (ParameterCount given) = codes "ERROR: [011]: " ++ (decimal given ++ 
 usage_line ParameterUtf8 = codes "ERROR: [013]: configuration is not UTF-8\n"
 usage_line UsageNoMemory = codes "ERROR: [090]: out of memory\n"
 
+-- the last line where a server's answer is refused
+abbrev pub server_line : ServerFault → Text
+server_line (server.SystemMismatch kept found) = codes "ERROR: [047]: control file has system " ++ (decimal kept ++ (codes ", server has system " ++ (decimal found ++ codes "\n")))
+server_line (server.ServerSaid code text) = codes "ERROR: [048]: server: [" ++ (shown (string_bytes code) ++ (codes "] " ++ (shown (string_bytes text) ++ codes "\n")))
+server_line (server.AuthUnsupported code) = codes "ERROR: [049]: authentication " ++ (decimal code ++ codes " is not supported\n")
+server_line (server.ServerForm at) = codes "ERROR: [050]: server byte " ++ (decimal at ++ codes " is not valid\n")
+server_line (server.ServerEnded at) = codes "ERROR: [051]: server ended after " ++ (decimal at ++ codes " bytes\n")
+server_line (server.TooLong length) = codes "ERROR: [070]: 'server' is longer than 16777216\n"
+server_line (server.TooMany limit) = codes "ERROR: [071]: more than " ++ (decimal limit ++ codes "\n")
+server_line server.Wire = codes "ERROR: [083]: server connection failed\n"
+server_line server.NoMemory = codes "ERROR: [090]: out of memory\n"
+
 -- the last line of the output
 abbrev pub error_line : Fault → Text
 error_line (Settings usage) = usage_line usage
@@ -117,6 +144,7 @@ error_line (ControlMissing file) = codes "ERROR: [028]: '" ++ (file_text file ++
 error_line (ControlShort length) = codes "ERROR: [025]: control file has " ++ (decimal length ++ codes " bytes\n")
 error_line VersionText = codes "ERROR: [026]: PG_VERSION is not valid\n"
 error_line (VersionUnsupported version) = codes "ERROR: [027]: version " ++ (decimal version ++ codes " is not supported\n")
+error_line (Server fault) = server_line fault
 error_line (StanzaMissing stanza) = codes "ERROR: [021]: stanza '" ++ (string_bytes stanza ++ codes "' does not exist\n")
 error_line (InfoDamaged name main copy) = codes "ERROR: [022]: info '" ++ (string_bytes name ++ damage_text main copy)
 error_line (StanzaMismatch kept found) = codes "ERROR: [023]: stanza has " ++ (identity_text kept ++ (codes ", data folder has " ++ (identity_text found ++ codes "\n")))
@@ -133,6 +161,7 @@ error_line (Duplicate kept found) = codes "ERROR: [034]: archived with checksum 
 error_line (SegmentDamaged told found) = codes "ERROR: [035]: checksum " ++ (sum_text told.0 ++ (codes ", found " ++ (sum_text found.0 ++ codes "\n")))
 error_line Disk = codes "ERROR: [080]: repository failed\n"
 error_line Tree = codes "ERROR: [082]: data folder failed\n"
+error_line Wire = codes "ERROR: [083]: server connection failed\n"
 error_line Locks = codes "ERROR: [085]: lock failed\n"
 error_line Source = codes "ERROR: [086]: configuration failed\n"
 error_line Sink = []
@@ -183,6 +212,7 @@ IsFinding status = ((100 ≤ status) × (status ≤ 101)) ⊎ ((1 ≤ status) ×
 abbrev pub OnFinding : Fault → Type 0 → Type 0
 OnFinding Disk P = ⊤
 OnFinding Tree P = ⊤
+OnFinding Wire P = ⊤
 OnFinding Locks P = ⊤
 OnFinding Source P = ⊤
 OnFinding Sink P = ⊤

@@ -4,15 +4,16 @@ use Rattle.pgb_outside.specs.Content.{Content}
 use Rattle.pgb_model.specs.Text.{Text}
 use Rattle.pgb_options.specs.declared.table.Opt.{Opt}
 use Rattle.pgb_options.specs.declared.options.OutputWord.{OutputWord}
-use Rattle.pgb_options.specs.declared.table.Opt.TheVariants.{Pg1Path, Repo1Path, LockPath, Online, ArchiveAsync, Output}
+use Rattle.pgb_options.specs.declared.table.Opt.TheVariants.{Pg1Path, Pg1SocketPath, Pg1Port, Pg1User, Pg1Database, Repo1Path, LockPath, Online, ArchiveAsync, Output}
 use Rattle.pgb_options.specs.declared.table.Verb.{Verb}
 use Rattle.pgb_options.specs.declared.table.Verb.TheVariants.{StanzaCreate, ArchivePush, ArchiveGet, Info}
 use Rattle.pgb_options.specs.Faults.{Fault}
-use Rattle.pgb_options.specs.Filled.{text_in, flag_in, or_else, output_word, word_in}
+use Rattle.pgb_options.specs.Filled.{text_in, number_in, flag_in, or_else, output_word, word_in}
 use Rattle.pgb_options.specs.Paths.{Path, nowhere, usual, named, path_of_words}
 use Rattle.pgb_options.specs.Settings.{Source, Settled, value, settled_words}
+use Rattle.pgb_command.specs.Talking.{Server}
 use Rattle.pgb_command.specs.declared.fault.Unbuilt.{Unbuilt}
-use Rattle.pgb_command.specs.declared.fault.Unbuilt.TheVariants.{Command, Server, Background}
+use Rattle.pgb_command.specs.declared.fault.Unbuilt.TheVariants.{Command, Background}
 
 -- ---- the configuration
 
@@ -52,13 +53,13 @@ abbrev pub second_of : List Text → Text
 second_of [] = []
 second_of (x ∷ xs) = first_of xs
 
--- what a verb asks for, with a server or in the background where that is in force, in a form of output, and its parameters; or what isn't built
-abbrev pub request_by : Verb → Bool → Bool → OutputWord → List Text → Result Request Unbuilt
-request_by StanzaCreate online background form given = if online then Err Server else Ok create
-request_by ArchivePush online background form given = if background then Err Background else Ok (push (first_of given))
-request_by ArchiveGet online background form given = if background then Err Background else Ok (get (first_of given) (second_of given))
-request_by Info online background form given = Ok (info form)
-request_by verb online background form given = Err (Command verb)
+-- what a verb asks for, in the background where that is in force, in a form of output, and its parameters; or what isn't built
+abbrev pub request_by : Verb → Bool → OutputWord → List Text → Result Request Unbuilt
+request_by StanzaCreate background form given = Ok create
+request_by ArchivePush background form given = if background then Err Background else Ok (push (first_of given))
+request_by ArchiveGet background form given = if background then Err Background else Ok (get (first_of given) (second_of given))
+request_by Info background form given = Ok (info form)
+request_by verb background form given = Err (Command verb)
 
 abbrev pub path_in : Source → Opt → Text
 path_in source option = or_else [] (text_in (value source option))
@@ -67,14 +68,27 @@ abbrev pub is_on : Source → Opt → Bool
 is_on source option = or_else false (flag_in (value source option))
 
 abbrev pub requested : Settled → Result Request Unbuilt
-requested s = request_by s.source.verb (is_on s.source Online) (is_on s.source ArchiveAsync) (output_word (word_in (value s.source Output))) s.parameters
+requested s = request_by s.source.verb (is_on s.source ArchiveAsync) (output_word (word_in (value s.source Output))) s.parameters
 
--- what a command is told: the stanza, the data folder, the repository's folder and that of the locks, and what it is to do
+-- the server of the source
+abbrev pub server_in : Source → Server
+server_in source = record { folder = path_in source Pg1SocketPath; port = or_else 0 (number_in (value source Pg1Port)); user = path_in source Pg1User; database = path_in source Pg1Database }
+
+-- stanza-create asks it, where it is online
+abbrev pub server_by : Verb → Bool → Server → Option Server
+server_by StanzaCreate online server = if online then Some server else None
+server_by verb online server = None
+
+abbrev pub server_asked : Settled → Option Server
+server_asked s = server_by s.source.verb (is_on s.source Online) (server_in s.source)
+
+-- what a command is told: the stanza, the data folder, the repository's folder and that of the locks, the server that it asks, and what it is to do
 pub record Asked : Type 0 where
   pub stanza : Text
   pub data_folder : Text
   pub repository : Text
   pub lock_folder : Text
+  pub server : Option Server
   pub request : Request
 
 -- the settings ask for this
@@ -83,6 +97,7 @@ pub record IsAsked (s : Settled) (a : Asked) : Type 0 where
   pub data_folder : a.data_folder ≡ path_in s.source Pg1Path
   pub repository : a.repository ≡ path_in s.source Repo1Path
   pub lock_folder : a.lock_folder ≡ path_in s.source LockPath
+  pub server : a.server ≡ server_asked s
   pub request : requested s ≡ Ok a.request
 
 -- the words ask for this, as far as the configuration is told

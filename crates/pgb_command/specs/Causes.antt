@@ -1,5 +1,5 @@
 -- Why the program gives an answer.
-use Rattle.std.specs.Prelude.{◌≡◌, ◌⊎◌, [], List, true, false, Option, Ok, Err, IfSome, string_bytes}
+use Rattle.std.specs.Prelude.{◌≡◌, ◌⊎◌, ℕ, [], List, true, false, Option, Ok, Err, IfSome, string_bytes}
 use Rattle.sha1.specs.Sha1.{sha1}
 use Rattle.pgb_outside.specs.Content.{Content}
 use Rattle.pgb_outside.specs.Tree.{Nodes}
@@ -23,6 +23,7 @@ use Rattle.pgb_command.specs.Configuring.{ConfigCause}
 use Rattle.pgb_command.specs.Locking.{backup_lock, archive_lock}
 use Rattle.pgb_command.specs.Answers.{Ending, finished, absent, refused, Answer, same_line}
 use Rattle.pgb_command.specs.Cluster.{FolderTells, ClusterCause}
+use Rattle.pgb_command.specs.Talking.{Agrees, ServerCause}
 use Rattle.pgb_command.specs.WalPath.{IsWalPath, HasWal}
 use Rattle.pgb_command.specs.WalCause.{WordCause, FileCause}
 use Rattle.pgb_command.specs.Getting.{IsServed, IsMissing, GetFileCause}
@@ -123,37 +124,39 @@ pub record IsStored (stanza folder path : Text) (repo : Option Content) (nodes :
 -- ---- all
 
 -- Why a command answers so.
-pub data AskedCause (a : Asked) (repo : Option Content) (nodes : Option Nodes) (disk_rose tree_rose lock_rose held : Type 0) : Ending → Type 0 where
+pub data AskedCause (a : Asked) (repo : Option Content) (nodes : Option Nodes) (disk_rose tree_rose lock_rose held : Type 0) (pending : Option (List ℕ)) (wire_rose : Type 0) : Ending → Type 0 where
   -- the stanza is made, or was there
-  Made : a.request ≡ create → IsMade a.stanza repo nodes → AskedCause a repo nodes disk_rose tree_rose lock_rose held (finished [])
+  Made : a.request ≡ create → IsMade a.stanza repo nodes → Agrees a.server nodes pending → AskedCause a repo nodes disk_rose tree_rose lock_rose held pending wire_rose (finished [])
   -- the file is stored
-  Stored : (path lines : Text) → a.request ≡ push path → IsStored a.stanza a.data_folder path repo nodes lines → AskedCause a repo nodes disk_rose tree_rose lock_rose held (finished lines)
+  Stored : (path lines : Text) → a.request ≡ push path → IsStored a.stanza a.data_folder path repo nodes lines → AskedCause a repo nodes disk_rose tree_rose lock_rose held pending wire_rose (finished lines)
   -- the file is served
-  Given : (name path : Text) (bytes : Text) → a.request ≡ get name path → IsServed a.stanza a.data_folder name path repo nodes bytes → AskedCause a repo nodes disk_rose tree_rose lock_rose held (finished [])
+  Given : (name path : Text) (bytes : Text) → a.request ≡ get name path → IsServed a.stanza a.data_folder name path repo nodes bytes → AskedCause a repo nodes disk_rose tree_rose lock_rose held pending wire_rose (finished [])
   -- the archive has no such file
-  Missing : (name path : Text) → a.request ≡ get name path → IsMissing a.stanza a.data_folder name path repo nodes → AskedCause a repo nodes disk_rose tree_rose lock_rose held (absent name)
+  Missing : (name path : Text) → a.request ≡ get name path → IsMissing a.stanza a.data_folder name path repo nodes → AskedCause a repo nodes disk_rose tree_rose lock_rose held pending wire_rose (absent name)
   -- the report is told
-  Reported : (form : OutputWord) (lines : Text) → a.request ≡ info form → IsReported a.stanza form repo lines → AskedCause a repo nodes disk_rose tree_rose lock_rose held (finished lines)
+  Reported : (form : OutputWord) (lines : Text) → a.request ≡ info form → IsReported a.stanza form repo lines → AskedCause a repo nodes disk_rose tree_rose lock_rose held pending wire_rose (finished lines)
   -- stanza-create is refused
-  Creating : (fault : Fault) → a.request ≡ create → CreateCause a.stanza repo nodes disk_rose tree_rose lock_rose held fault → AskedCause a repo nodes disk_rose tree_rose lock_rose held (refused fault)
+  Creating : (fault : Fault) → a.request ≡ create → CreateCause a.stanza repo nodes disk_rose tree_rose lock_rose held fault → AskedCause a repo nodes disk_rose tree_rose lock_rose held pending wire_rose (refused fault)
+  -- the server is refused
+  Talking : (fault : Fault) → a.request ≡ create → ServerCause a.server nodes pending wire_rose fault → AskedCause a repo nodes disk_rose tree_rose lock_rose held pending wire_rose (refused fault)
   -- archive-push is refused
-  Pushing : (path : Text) (fault : Fault) → a.request ≡ push path → PushFileCause a.stanza a.data_folder path repo nodes disk_rose tree_rose lock_rose held fault → AskedCause a repo nodes disk_rose tree_rose lock_rose held (refused fault)
+  Pushing : (path : Text) (fault : Fault) → a.request ≡ push path → PushFileCause a.stanza a.data_folder path repo nodes disk_rose tree_rose lock_rose held fault → AskedCause a repo nodes disk_rose tree_rose lock_rose held pending wire_rose (refused fault)
   -- archive-get is refused
-  Getting : (name path : Text) (fault : Fault) → a.request ≡ get name path → GetFileCause a.stanza a.data_folder name path repo nodes disk_rose tree_rose fault → AskedCause a repo nodes disk_rose tree_rose lock_rose held (refused fault)
+  Getting : (name path : Text) (fault : Fault) → a.request ≡ get name path → GetFileCause a.stanza a.data_folder name path repo nodes disk_rose tree_rose fault → AskedCause a repo nodes disk_rose tree_rose lock_rose held pending wire_rose (refused fault)
   -- info is refused
-  Reporting : (form : OutputWord) (fault : Fault) → a.request ≡ info form → InfoCause a.stanza repo disk_rose fault → AskedCause a repo nodes disk_rose tree_rose lock_rose held (refused fault)
+  Reporting : (form : OutputWord) (fault : Fault) → a.request ≡ info form → InfoCause a.stanza repo disk_rose fault → AskedCause a repo nodes disk_rose tree_rose lock_rose held pending wire_rose (refused fault)
 
--- Why the program answers so. The counts that may have risen are those of the repository, the data folder, the locks, the locks that were held, the configuration and the output.
-pub data Cause (words : List Text) (files : Option Content) (repo : Option Content) (nodes : Option Nodes) (disk_rose tree_rose lock_rose held source_rose sink_rose : Type 0) : Answer → Type 0 where
+-- Why the program answers so, where the server was to tell the bytes that were pending. The counts that may have risen are those of the repository, the data folder, the locks, the locks that were held, the server, the configuration and the output.
+pub data Cause (words : List Text) (files : Option Content) (repo : Option Content) (nodes : Option Nodes) (disk_rose tree_rose lock_rose held : Type 0) (pending : Option (List ℕ)) (wire_rose source_rose sink_rose : Type 0) : Answer → Type 0 where
   -- the words or their configuration are refused
-  Refused : (fault : Fault) → ConfigCause words files source_rose fault → Cause words files repo nodes disk_rose tree_rose lock_rose held source_rose sink_rose (record { unknown = []; ending = refused fault })
+  Refused : (fault : Fault) → ConfigCause words files source_rose fault → Cause words files repo nodes disk_rose tree_rose lock_rose held pending wire_rose source_rose sink_rose (record { unknown = []; ending = refused fault })
   -- they ask for what isn't built
   Unknown : (s : Settled) (what : Unbuilt) → Settles words files (Ok s) → requested s ≡ Err what →
-      Cause words files repo nodes disk_rose tree_rose lock_rose held source_rose sink_rose (record { unknown = s.warnings; ending = refused (NotBuilt what) })
+      Cause words files repo nodes disk_rose tree_rose lock_rose held pending wire_rose source_rose sink_rose (record { unknown = s.warnings; ending = refused (NotBuilt what) })
   -- the command's answer
-  Asking : (s : Settled) (a : Asked) (ending : Ending) → Settles words files (Ok s) → IsAsked s a → AskedCause a repo nodes disk_rose tree_rose lock_rose held ending →
-      Cause words files repo nodes disk_rose tree_rose lock_rose held source_rose sink_rose (record { unknown = s.warnings; ending = ending })
+  Asking : (s : Settled) (a : Asked) (ending : Ending) → Settles words files (Ok s) → IsAsked s a → AskedCause a repo nodes disk_rose tree_rose lock_rose held pending wire_rose ending →
+      Cause words files repo nodes disk_rose tree_rose lock_rose held pending wire_rose source_rose sink_rose (record { unknown = s.warnings; ending = ending })
   -- the output failed
-  Output : (unknown : List Text) → sink_rose → Cause words files repo nodes disk_rose tree_rose lock_rose held source_rose sink_rose (record { unknown = unknown; ending = refused Sink })
+  Output : (unknown : List Text) → sink_rose → Cause words files repo nodes disk_rose tree_rose lock_rose held pending wire_rose source_rose sink_rose (record { unknown = unknown; ending = refused Sink })
   -- want of memory
-  Memory : (unknown : List Text) → Cause words files repo nodes disk_rose tree_rose lock_rose held source_rose sink_rose (record { unknown = unknown; ending = refused NoMemory })
+  Memory : (unknown : List Text) → Cause words files repo nodes disk_rose tree_rose lock_rose held pending wire_rose source_rose sink_rose (record { unknown = unknown; ending = refused NoMemory })

@@ -7,8 +7,10 @@ use Rattle.pgb_archive.specs.declared.fault.ArchiveFault.{ArchiveFault}
 use Rattle.pgb_archive.specs.declared.fault.ArchiveFault.TheVariants.{HeaderForm as FormOf, SegmentSize as SizeOf, HeaderMismatch as MismatchOf, Ambiguous as AmbiguousOf, Duplicate as DuplicateOf, NotFound, SegmentDamaged as DamagedOf, TooLong as LongOf, TooMany as ManyOf, Disk as ArchiveDisk, NoMemory as ArchiveNoMemory}
 use Rattle.pgb_options.specs.declared.usage.Usage.{Usage}
 use Rattle.pgb_options.specs.declared.usage.Usage.TheVariants.{NoMemory as UsageNoMemory}
+use Rattle.pgb_server.specs.declared.fault.ServerFault.{ServerFault}
+use Rattle.pgb_server.specs.declared.fault.ServerFault.TheVariants.{Wire as LostWire, NoMemory as ServerNoMemory}
 use Rattle.pgb_command.specs.declared.fault.Fault.{Fault}
-use Rattle.pgb_command.specs.declared.fault.Fault.TheVariants.{Settings, ControlShort, VersionText, VersionUnsupported, HeaderForm, SegmentSize, HeaderMismatch, Ambiguous, Duplicate, SegmentDamaged, TooLong, TooMany, Disk, Tree, Source, NoMemory}
+use Rattle.pgb_command.specs.declared.fault.Fault.TheVariants.{Settings, ControlShort, VersionText, VersionUnsupported, HeaderForm, SegmentSize, HeaderMismatch, Ambiguous, Duplicate, SegmentDamaged, TooLong, TooMany, Server, Disk, Tree, Wire, Source, NoMemory}
 
 abbrev pub of_tree : Stop → Fault
 of_tree Failed = Tree
@@ -21,6 +23,11 @@ of_source StopNoMemory = NoMemory
 abbrev pub of_usage : Usage → Fault
 of_usage UsageNoMemory = NoMemory
 of_usage usage = Settings usage
+
+abbrev pub of_server : ServerFault → Fault
+of_server ServerNoMemory = NoMemory
+of_server LostWire = Wire
+of_server fault = Server fault
 
 abbrev pub of_control : ControlFault → Fault
 of_control (ShortControl n) = ControlShort n

@@ -7,6 +7,7 @@ pub mod Answers
 pub mod Outcomes
 pub mod Output
 pub mod Cluster
+pub mod Talking
 pub mod WalPath
 pub mod WalCause
 pub mod Commands

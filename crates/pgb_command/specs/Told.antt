@@ -1,5 +1,8 @@
 -- What the code's settings stand for.
+use Rattle.std.specs.Prelude.{option_map}
 use Rattle.pgb_command.specs.declared.settings.Settings.{Settings}
+use Rattle.pgb_command.specs.declared.server.Server as code
+use Rattle.pgb_command.specs.Talking.{Server}
 use Rattle.pgb_command.specs.declared.settings.Asking.{Asking}
 use Rattle.pgb_command.specs.declared.settings.Asking.TheVariants.{Write, ArchiveGet, Info}
 use Rattle.pgb_command.specs.declared.settings.Writing.{Writing}
@@ -22,5 +25,8 @@ request_of (Write writing) = writing_of writing
 request_of (ArchiveGet name path) = get name.now path.now
 request_of (Info form) = info form
 
+abbrev pub server_view : code.Server → Server
+server_view s = record { folder = s.folder.now; port = s.port; user = s.user.now; database = s.database.now }
+
 abbrev pub asked_of : Settings → Asked
-asked_of s = record { stanza = s.stanza.now; data_folder = s.pg1_path.now; repository = s.repo1_path.now; lock_folder = s.lock_path.now; request = request_of s.request }
+asked_of s = record { stanza = s.stanza.now; data_folder = s.pg1_path.now; repository = s.repo1_path.now; lock_folder = s.lock_path.now; server = option_map server_view s.server; request = request_of s.request }

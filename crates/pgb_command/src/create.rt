@@ -1,5 +1,5 @@
 // stanza-create.
-ghost use Rattle.std.specs.Prelude.{◌≡◌, ◌≤◌, ◌⊎◌, true, false, None, Some, ℕ, List, Option, OnOk, IfErr, IfSome, IsSome, IsSomeAnd, IsErrOf, Contains};
+ghost use Rattle.std.specs.Prelude.{◌≡◌, ◌≤◌, ◌⊎◌, true, false, None, Some, Option, option_map, OnOk, IfErr, IfSome, IsSome, IsSomeAnd, Contains};
 ghost use Rattle.pgb_outside.specs.Moments.{Rests};
 ghost use Rattle.pgb_outside.specs.Cause.{Rises};
 ghost use Rattle.pgb_model.specs.declared.clusters.Cluster.{Cluster};
@@ -11,6 +11,8 @@ ghost use Rattle.pgb_model.specs.Now.{NowStands, HasNewPairs, NowDoes};
 ghost use Rattle.pgb_stanza.specs.ControlFile.{first_cluster};
 ghost use Rattle.pgb_command.specs.Cluster.{IsClusterOf};
 ghost use Rattle.pgb_command.specs.Causes.{CreateCause, IsMade};
+ghost use Rattle.pgb_command.specs.Talking.{Asks, Agrees, ServerCause, Parts};
+ghost use Rattle.pgb_command.specs.Told.{server_view};
 ghost use Rattle.pgb_command.specs.Answers.{OnFinding};
 ghost use Rattle.pgb_command.specs.Locking.{backup_lock, Locks as IsLocked, OnlyLocked, MayHold};
 ghost use Rattle.pgb_command.specs.Making.{MakeCause, IsStanzaFault};
@@ -22,8 +24,9 @@ use crate::cluster::read_cluster;
 use crate::fault::Fault;
 use crate::opening::prepare;
 use crate::settings::Settings;
+use crate::talking::check_server;
 use pgb_info::label_text;
-use pgb_outside::{Disk, Locks, Tree};
+use pgb_outside::{Disk, Locks, Tree, Wire};
 use pgb_stanza::{Control, StanzaFault, create};
 use std::alloc::Global;
 
@@ -71,11 +74,12 @@ fn make<D: Disk>(alloc: Global, repo: &mut D, stanza: &str, told: &Control) -> R
     }
 }
 
-/// Makes the stanza of the cluster that the data folder tells.
-pub(crate) fn create_stanza<D: Disk, T: Tree, K: Locks>(
+/// Makes the stanza of the cluster that the data folder tells. Where a server is asked, it has to be of that system.
+pub(crate) fn create_stanza<D: Disk, T: Tree, V: Wire, K: Locks>(
     alloc: Global,
     repo: &mut D,
     tree: &mut T,
+    server: &mut V,
     locks: &mut K,
     settings: &Settings,
     lock: &str,
@@ -110,10 +114,17 @@ pub(crate) fn create_stanza<D: Disk, T: Tree, K: Locks>(
     ensures refusals_later { K.refusals locks.old ≤ K.refusals locks.new }
     ensures refused { IfErr result (λ e. OnFinding e ((D.view repo.new).now ≡ (D.view repo.old).now)) }
     ensures stays { IfErr result (λ e. OnFinding e (CarriesOn settings.now.stanza.now Reading true (D.view repo.old) (D.view repo.new))) }
-    ensures cause { IfErr result (CreateCause settings.now.stanza.now (D.view repo.old).now (T.nodes tree.old) (Rises (D.faults repo.old) (D.faults repo.new)) (Rises (T.faults tree.old) (T.faults tree.new)) (Rises (K.faults locks.old) (K.faults locks.new)) (Rises (K.refusals locks.old) (K.refusals locks.new))) }
+    // The server is asked at its socket, and where it isn't of the system nothing is done.
+    ensures quiet { settings.now.server ≡ None → server.new ≡ server.old }
+    ensures agrees_with { OnOk result (Agrees (option_map server_view settings.now.server) (T.nodes tree.old) (V.pending server.old)) }
+    ensures asks { OnOk result (Asks (option_map server_view settings.now.server) (V.place server.new) (V.sent server.old) (V.sent server.new)) }
+    ensures parts { IfErr result (λ e. Parts e (Rises (V.faults server.old) (V.faults server.new)) (V.sent server.new)) }
+    ensures cause { IfErr result (λ e. CreateCause settings.now.stanza.now (D.view repo.old).now (T.nodes tree.old) (Rises (D.faults repo.old) (D.faults repo.new)) (Rises (T.faults tree.old) (T.faults tree.new)) (Rises (K.faults locks.old) (K.faults locks.new)) (Rises (K.refusals locks.old) (K.refusals locks.new)) e
+        ⊎ ServerCause (option_map server_view settings.now.server) (T.nodes tree.old) (V.pending server.old) (Rises (V.faults server.old) (V.faults server.new)) e) }
 {
     prepare(alloc, repo, tree, locks, settings, lock)?;
     let told = read_cluster(alloc, tree)?;
+    check_server(alloc, server, settings.server, told.system)?;
     make(alloc, repo, settings.stanza, &told)?;
     Ok(())
 }

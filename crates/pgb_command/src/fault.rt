@@ -1,12 +1,13 @@
 // What a command answers in place of Ok.
 ghost use Rattle.std.specs.Prelude.{◌≡◌};
-ghost use Rattle.pgb_command.specs.Answers.{status_of, usage_status};
+ghost use Rattle.pgb_command.specs.Answers.{status_of, usage_status, server_status};
 ghost use Rattle.pgb_command.specs.Faults.{of_tree, of_source};
 
 use pgb_archive::ArchiveFault;
 use pgb_info::MemberFault;
 use pgb_options::{Usage, Verb};
 use pgb_outside::Stop;
+use pgb_server::ServerFault;
 use pgb_stanza::{ControlFault, Identity};
 use pgb_text::{NoMemory, Sum};
 use std::alloc::AllocError;
@@ -16,8 +17,6 @@ use std::alloc::AllocError;
 pub enum Unbuilt {
     /// a command
     Command(Verb),
-    /// stanza-create with a server
-    Server,
     /// archive-push in the background
     Background,
 }
@@ -64,6 +63,8 @@ pub enum Fault {
     VersionUnsupported {
         version: u64,
     },
+    /// The server's answer is refused.
+    Server(ServerFault),
     /// Neither member of the archive pair is there.
     StanzaMissing {
         stanza: String,
@@ -132,6 +133,8 @@ pub enum Fault {
     Disk,
     /// The data folder failed.
     Tree,
+    /// The connection to the server failed.
+    Wire,
     /// The locks failed.
     Locks,
     /// The configuration failed.
@@ -215,6 +218,21 @@ impl From<ArchiveFault> for Fault {
     }
 }
 
+impl From<ServerFault> for Fault {
+    ghost use Rattle.std.specs.Prelude.{◌≡◌};
+    ghost use Rattle.pgb_command.specs.Faults.{of_server};
+
+    ghost from_gives = { λ s e. e ≡ of_server s };
+
+    fn from(fault: ServerFault) -> Self {
+        match fault {
+            ServerFault::NoMemory => Fault::NoMemory,
+            ServerFault::Wire => Fault::Wire,
+            fault => Fault::Server(fault),
+        }
+    }
+}
+
 /// What a stop of the data folder is.
 pub(crate) fn of_tree(stop: Stop) -> Fault
     ensures { result ≡ of_tree stop }
@@ -254,6 +272,23 @@ fn usage_status(usage: &Usage) -> u8
     }
 }
 
+// The status of a server's answer that is refused.
+fn server_status(fault: &ServerFault) -> u8
+    ensures { result ≡ server_status fault.now }
+{
+    match fault {
+        ServerFault::SystemMismatch { .. } => 47,
+        ServerFault::ServerSaid { .. } => 48,
+        ServerFault::AuthUnsupported { .. } => 49,
+        ServerFault::ServerForm { .. } => 50,
+        ServerFault::ServerEnded { .. } => 51,
+        ServerFault::TooLong { .. } => 70,
+        ServerFault::TooMany { .. } => 71,
+        ServerFault::Wire => 83,
+        ServerFault::NoMemory => 90,
+    }
+}
+
 /// The status that the program ends with.
 pub(crate) fn status(fault: &Fault) -> u8
     ensures { result ≡ status_of fault.now }
@@ -269,6 +304,7 @@ pub(crate) fn status(fault: &Fault) -> u8
         Fault::ControlShort { .. } => 25,
         Fault::VersionText => 26,
         Fault::VersionUnsupported { .. } => 27,
+        Fault::Server(fault) => server_status(fault),
         Fault::StanzaMissing { .. } => 21,
         Fault::InfoDamaged { .. } => 22,
         Fault::HistoryDiffers { .. } => 101,
@@ -285,6 +321,7 @@ pub(crate) fn status(fault: &Fault) -> u8
         Fault::SegmentDamaged { .. } => 35,
         Fault::Disk => 80,
         Fault::Tree => 82,
+        Fault::Wire => 83,
         Fault::Locks => 85,
         Fault::Source => 86,
         Fault::Sink => 87,

@@ -16,8 +16,10 @@ mod outcome;
 mod output;
 mod outside;
 mod reading;
+mod server;
 mod serving;
 mod settings;
+mod talking;
 mod top;
 mod wal_file;
 

@@ -1,11 +1,12 @@
 // The lines that tell an answer.
 ghost use Rattle.std.specs.Prelude.{◌≡◌, ◌++◌, codes, decimal, IfOk, IsOkAnd, OnOk, string_bytes};
 ghost use Rattle.pgb_text.specs.Sum.{sum_text};
-ghost use Rattle.pgb_command.specs.Answers.{error_line, usage_line, same_line, absent_line, unknown_line, shown, shown_byte, part_name, file_text, member_text, damage_text, identity_text};
+ghost use Rattle.pgb_command.specs.Answers.{error_line, usage_line, server_line, same_line, absent_line, unknown_line, shown, shown_byte, part_name, file_text, member_text, damage_text, identity_text};
 
 use crate::fault::{ControlFile, Fault, Unbuilt};
 use pgb_info::MemberFault;
 use pgb_options::{Usage, verb_word};
+use pgb_server::ServerFault;
 use pgb_stanza::Identity;
 use pgb_text::{NoMemory, Sum};
 use std::alloc::{AllocError, Global};
@@ -15,7 +16,6 @@ fn part_name(what: Unbuilt) -> &'static str
 {
     match what {
         Unbuilt::Command(verb) => verb_word(verb),
-        Unbuilt::Server => "online",
         Unbuilt::Background => "archive-async",
     }
 }
@@ -212,6 +212,49 @@ fn usage_line(alloc: Global, usage: &Usage) -> Result<Vec<u8>, NoMemory>
     }
 }
 
+// The line of a server's own error.
+fn said_line(alloc: Global, code: &str, text: &str) -> Result<Vec<u8>, NoMemory>
+    ensures { IfOk result (λ line. line.items ≡ codes "ERROR: [048]: server: [" ++ (shown code.now ++ (codes "] " ++ (shown text.now ++ codes "\n")))) }
+{
+    let mut line = quoted(alloc, "ERROR: [048]: server: [", code, "] ")?;
+    push_shown(&mut line, text)?;
+    line.extend_from_slice("\n".as_bytes())?;
+    Ok(line)
+}
+
+// The line of a server's answer that is refused.
+fn server_line(alloc: Global, fault: &ServerFault) -> Result<Vec<u8>, NoMemory>
+    ensures { IfOk result (λ line. line.items ≡ server_line fault.now) }
+{
+    match fault {
+        ServerFault::SystemMismatch { kept, found } => bytes_of(format!(in alloc;
+            "ERROR: [047]: control file has system {kept}, server has system {found}\n"
+        )),
+        ServerFault::ServerSaid { code, text } => said_line(alloc, code, text),
+        ServerFault::AuthUnsupported { code } => bytes_of(format!(in alloc;
+            "ERROR: [049]: authentication {code} is not supported\n"
+        )),
+        ServerFault::ServerForm { at } => bytes_of(format!(in alloc;
+            "ERROR: [050]: server byte {at} is not valid\n"
+        )),
+        ServerFault::ServerEnded { at } => bytes_of(format!(in alloc;
+            "ERROR: [051]: server ended after {at} bytes\n"
+        )),
+        ServerFault::TooLong { .. } => bytes_of(String::from_str(
+            alloc,
+            "ERROR: [070]: 'server' is longer than 16777216\n",
+        )),
+        ServerFault::TooMany { limit } => bytes_of(format!(in alloc;
+            "ERROR: [071]: more than {limit}\n"
+        )),
+        ServerFault::Wire => bytes_of(String::from_str(
+            alloc,
+            "ERROR: [083]: server connection failed\n",
+        )),
+        ServerFault::NoMemory => bytes_of(String::from_str(alloc, "ERROR: [090]: out of memory\n")),
+    }
+}
+
 /// The line of a fault.
 pub(crate) fn line(alloc: Global, fault: &Fault) -> Result<Vec<u8>, NoMemory>
     ensures { IfOk result (λ line. line.items ≡ error_line fault.now) }
@@ -260,6 +303,7 @@ pub(crate) fn line(alloc: Global, fault: &Fault) -> Result<Vec<u8>, NoMemory>
         Fault::StanzaMissing { stanza } => bytes_of(format!(in alloc;
             "ERROR: [021]: stanza '{stanza}' does not exist\n"
         )),
+        Fault::Server(fault) => server_line(alloc, fault),
         Fault::InfoDamaged { name, main, copy } => damaged_line(alloc, name, main, copy),
         Fault::StanzaMismatch { kept, found } => mismatch_line(alloc, kept, found),
         Fault::HistoryDiffers { at } => bytes_of(format!(in alloc;
@@ -293,6 +337,10 @@ pub(crate) fn line(alloc: Global, fault: &Fault) -> Result<Vec<u8>, NoMemory>
         Fault::SegmentDamaged { told, found } => damaged_segment_line(alloc, told, found),
         Fault::Disk => bytes_of(String::from_str(alloc, "ERROR: [080]: repository failed\n")),
         Fault::Tree => bytes_of(String::from_str(alloc, "ERROR: [082]: data folder failed\n")),
+        Fault::Wire => bytes_of(String::from_str(
+            alloc,
+            "ERROR: [083]: server connection failed\n",
+        )),
         Fault::Locks => bytes_of(String::from_str(alloc, "ERROR: [085]: lock failed\n")),
         Fault::Source => bytes_of(String::from_str(alloc, "ERROR: [086]: configuration failed\n")),
         Fault::NoMemory => bytes_of(String::from_str(alloc, "ERROR: [090]: out of memory\n")),

@@ -7,6 +7,7 @@ ghost use Rattle.pgb_command.specs.Asked.{request_by, first_of, second_of, reque
 ghost use Rattle.pgb_command.specs.Told.{request_of, asked_of};
 
 use crate::fault::Unbuilt;
+use crate::server::Server;
 use pgb_options::{Command, OutputWord, Verb};
 
 /// A command that writes to the repository, under a lock.
@@ -34,6 +35,8 @@ pub struct Settings<'a> {
     pub pg1_path: &'a str,
     pub repo1_path: &'a str,
     pub lock_path: &'a str,
+    /// The server that is asked, where one is.
+    pub server: Option<Server<'a>>,
     pub request: Asking<'a>,
 }
 
@@ -69,16 +72,11 @@ fn path_of(path: &Option<String>) -> &str
 
 // What the command is to do, where that is built.
 fn request_of(command: &Command) -> Result<Asking<'_>, Unbuilt>
-    ensures asked { IfOk result (λ r. request_by command.now.verb command.now.options.online command.now.options.archive_async command.now.options.output (map string_bytes command.now.given.items) ≡ Ok (request_of r)) }
-    ensures unbuilt { IfErr result (λ what. request_by command.now.verb command.now.options.online command.now.options.archive_async command.now.options.output (map string_bytes command.now.given.items) ≡ Err what) }
+    ensures asked { IfOk result (λ r. request_by command.now.verb command.now.options.archive_async command.now.options.output (map string_bytes command.now.given.items) ≡ Ok (request_of r)) }
+    ensures unbuilt { IfErr result (λ what. request_by command.now.verb command.now.options.archive_async command.now.options.output (map string_bytes command.now.given.items) ≡ Err what) }
 {
     match command.verb {
-        Verb::StanzaCreate => {
-            if command.options.online {
-                return Err(Unbuilt::Server);
-            }
-            Ok(Asking::Write(Writing::StanzaCreate))
-        }
+        Verb::StanzaCreate => Ok(Asking::Write(Writing::StanzaCreate)),
         Verb::ArchivePush => {
             if command.options.archive_async {
                 return Err(Unbuilt::Background);
@@ -105,6 +103,7 @@ fn request_of(command: &Command) -> Result<Asking<'_>, Unbuilt>
 
 /// What the command is told, where it is built.
 pub(crate) fn settings_of(command: &Command) -> Result<Settings<'_>, Unbuilt>
+    requires { (s : Settled) × IsCommand command.now s }
     ensures asked { IfOk result (λ x. (s : Settled) → IsCommand command.now s → IsAsked s (asked_of x)) }
     ensures unbuilt { IfErr result (λ what. (s : Settled) → IsCommand command.now s → requested s ≡ Err what) }
 {
@@ -114,6 +113,7 @@ pub(crate) fn settings_of(command: &Command) -> Result<Settings<'_>, Unbuilt>
         pg1_path: path_of(&command.options.pg1_path),
         repo1_path: &command.options.repo1_path,
         lock_path: &command.options.lock_path,
+        server: Server::of(command),
         request,
     })
 }

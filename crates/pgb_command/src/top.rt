@@ -1,5 +1,5 @@
 // The top call.
-ghost use Rattle.std.specs.Prelude.{◌≡◌, ◌≤◌, ◌⊎◌, ◌≢◌, ◌++◌, [], true, false, Some, ℕ, List, Option, option_map, map, IfErr, IfSome, IsSome, IsSomeAnd, OnOk, IfOk, Contains, string_bytes};
+ghost use Rattle.std.specs.Prelude.{◌≡◌, ◌≤◌, ◌⊎◌, ◌≢◌, ◌++◌, [], true, false, None, Some, ℕ, List, Option, option_map, map, IfErr, IfSome, IsSome, IsSomeAnd, OnOk, IfOk, Contains, string_bytes};
 ghost use Rattle.pgb_outside.specs.Cause.{Rises};
 ghost use Rattle.pgb_model.specs.declared.clusters.Cluster.{Cluster};
 ghost use Rattle.pgb_model.specs.Text.{Text};
@@ -19,6 +19,7 @@ ghost use Rattle.pgb_command.specs.Getting.{Serves, FolderGoes, ServesArchived, 
 ghost use Rattle.pgb_command.specs.Output.{Wrote};
 ghost use Rattle.pgb_command.specs.Reporting.{ReportsStanza};
 ghost use Rattle.pgb_options.specs.declared.options.OutputWord.{OutputWord};
+ghost use Rattle.pgb_command.specs.Talking.{Asks as AsksServer, Agrees};
 ghost use Rattle.pgb_command.specs.declared.settings.Asking.TheVariants.{Write};
 ghost use Rattle.pgb_stanza.specs.Pairs.{LacksStanza};
 ghost use Rattle.pgb_command.specs.Told.{request_of, asked_of, writing_lock};
@@ -38,12 +39,13 @@ use pgb_outside::{Clock, Disk, Link, Locks, Sink, Source, Tree, Turns, Wire};
 use std::alloc::{AllocError, Global};
 
 // Does what a writing command asks for, under the lock of this name, which may be held afterwards.
-fn perform<D: Disk, T: Tree, K: Locks>(
+fn perform<D: Disk, T: Tree, V: Wire, K: Locks>(
     alloc: Global,
     settings: &Settings,
     writing: Writing<'_>,
     repo: &mut D,
     tree: &mut T,
+    server: &mut V,
     locks: &mut K,
     lock: &str,
 ) -> Result<Outcome, Fault>
@@ -53,19 +55,21 @@ fn perform<D: Disk, T: Tree, K: Locks>(
     ensures part { PartDone (asked_of settings.now) (T.nodes tree.old) (D.view repo.old) (D.view repo.new) }
     ensures done { OnOk result (AllDone (asked_of settings.now) (T.nodes tree.old) (D.view repo.old) (D.view repo.new)) }
     ensures none { OnNothing result (NoneDone (asked_of settings.now) (D.view repo.old) (D.view repo.new)) }
-    ensures answered { AskedCause (asked_of settings.now) (D.view repo.old).now (T.nodes tree.old) (Rises (D.faults repo.old) (D.faults repo.new)) (Rises (T.faults tree.old) (T.faults tree.new)) (Rises (K.faults locks.old) (K.faults locks.new)) (Rises (K.refusals locks.old) (K.refusals locks.new)) (ending_of result) }
+    ensures answered { AskedCause (asked_of settings.now) (D.view repo.old).now (T.nodes tree.old) (Rises (D.faults repo.old) (D.faults repo.new)) (Rises (T.faults tree.old) (T.faults tree.new)) (Rises (K.faults locks.old) (K.faults locks.new)) (Rises (K.refusals locks.old) (K.refusals locks.new)) (V.pending server.old) (Rises (V.faults server.old) (V.faults server.new)) (ending_of result) }
     ensures places { OnOk result ((T.place tree.new ≡ settings.now.pg1_path.now) × (D.place repo.new ≡ settings.now.repo1_path.now)) }
     ensures nodes { T.nodes tree.new ≡ T.nodes tree.old }
     ensures locked { OnOk result (IsLocked settings.now.lock_path.now lock.now (K.took locks.old) (K.took locks.new)) }
     ensures only_locked { OnlyLocked settings.now.lock_path.now lock.now (K.took locks.old) (K.took locks.new) (D.view repo.old) (D.view repo.new) }
     ensures holds { MayHold lock.now (K.taken locks.old) (K.taken locks.new) }
+    ensures quiet { settings.now.server ≡ None → server.new ≡ server.old }
+    ensures asks { OnOk result ((asked_of settings.now).request ≡ create → Agrees (asked_of settings.now).server (T.nodes tree.old) (V.pending server.old) × AsksServer (asked_of settings.now).server (V.place server.new) (V.sent server.old) (V.sent server.new)) }
     ensures repo_later { D.faults repo.old ≤ D.faults repo.new }
     ensures tree_later { T.faults tree.old ≤ T.faults tree.new }
     ensures locks_later { K.faults locks.old ≤ K.faults locks.new }
     ensures refusals_later { K.refusals locks.old ≤ K.refusals locks.new }
 {
     match writing {
-        Writing::StanzaCreate => match create_stanza(alloc, repo, tree, locks, settings, lock) {
+        Writing::StanzaCreate => match create_stanza(alloc, repo, tree, server, locks, settings, lock) {
             Ok(()) => Ok(Outcome::Silent),
             Err(fault) => Err(fault),
         },
@@ -84,12 +88,13 @@ fn lock_name(alloc: Global, stanza: &str, writing: Writing<'_>) -> Result<String
 }
 
 // Does what a writing command asks for, under its lock, which is released afterwards.
-fn write<D: Disk, T: Tree, K: Locks>(
+fn write<D: Disk, T: Tree, V: Wire, K: Locks>(
     alloc: Global,
     settings: &Settings,
     writing: Writing<'_>,
     repo: &mut D,
     tree: &mut T,
+    server: &mut V,
     locks: &mut K,
 ) -> Result<Outcome, Fault>
     requires free { K.taken locks.old ≡ [] }
@@ -97,12 +102,14 @@ fn write<D: Disk, T: Tree, K: Locks>(
     ensures part { PartDone (asked_of settings.now) (T.nodes tree.old) (D.view repo.old) (D.view repo.new) }
     ensures done { OnOk result (AllDone (asked_of settings.now) (T.nodes tree.old) (D.view repo.old) (D.view repo.new)) }
     ensures none { OnNothing result (NoneDone (asked_of settings.now) (D.view repo.old) (D.view repo.new)) }
-    ensures answered { AskedCause (asked_of settings.now) (D.view repo.old).now (T.nodes tree.old) (Rises (D.faults repo.old) (D.faults repo.new)) (Rises (T.faults tree.old) (T.faults tree.new)) (Rises (K.faults locks.old) (K.faults locks.new)) (Rises (K.refusals locks.old) (K.refusals locks.new)) (ending_of result) }
+    ensures answered { AskedCause (asked_of settings.now) (D.view repo.old).now (T.nodes tree.old) (Rises (D.faults repo.old) (D.faults repo.new)) (Rises (T.faults tree.old) (T.faults tree.new)) (Rises (K.faults locks.old) (K.faults locks.new)) (Rises (K.refusals locks.old) (K.refusals locks.new)) (V.pending server.old) (Rises (V.faults server.old) (V.faults server.new)) (ending_of result) }
     ensures places { OnOk result ((T.place tree.new ≡ settings.now.pg1_path.now) × (D.place repo.new ≡ settings.now.repo1_path.now)) }
     ensures nodes { T.nodes tree.new ≡ T.nodes tree.old }
     ensures locked { OnOk result (IsLocked settings.now.lock_path.now (writing_lock settings.now.stanza.now writing.entry) (K.took locks.old) (K.took locks.new)) }
     ensures only_locked { OnlyLocked settings.now.lock_path.now (writing_lock settings.now.stanza.now writing.entry) (K.took locks.old) (K.took locks.new) (D.view repo.old) (D.view repo.new) }
     ensures released { K.taken locks.new ≡ [] }
+    ensures quiet { settings.now.server ≡ None → server.new ≡ server.old }
+    ensures asks { OnOk result ((asked_of settings.now).request ≡ create → Agrees (asked_of settings.now).server (T.nodes tree.old) (V.pending server.old) × AsksServer (asked_of settings.now).server (V.place server.new) (V.sent server.old) (V.sent server.new)) }
     ensures repo_later { D.faults repo.old ≤ D.faults repo.new }
     ensures tree_later { T.faults tree.old ≤ T.faults tree.new }
     ensures locks_later { K.faults locks.old ≤ K.faults locks.new }
@@ -112,24 +119,25 @@ fn write<D: Disk, T: Tree, K: Locks>(
         Ok(lock) => lock,
         Err(_) => return Err(Fault::NoMemory),
     };
-    let done = perform(alloc, settings, writing, repo, tree, locks, &lock);
+    let done = perform(alloc, settings, writing, repo, tree, server, locks, &lock);
     locks.release(&lock);
     done
 }
 
 // Does what the settings ask for.
-fn carry<D: Disk, T: Tree, K: Locks>(
+fn carry<D: Disk, T: Tree, V: Wire, K: Locks>(
     alloc: Global,
     settings: &Settings,
     repo: &mut D,
     tree: &mut T,
+    server: &mut V,
     locks: &mut K,
 ) -> Result<Outcome, Fault>
     requires free { K.taken locks.old ≡ [] }
     ensures part { PartDone (asked_of settings.now) (T.nodes tree.old) (D.view repo.old) (D.view repo.new) }
     ensures done { OnOk result (AllDone (asked_of settings.now) (T.nodes tree.old) (D.view repo.old) (D.view repo.new)) }
     ensures none { OnNothing result (NoneDone (asked_of settings.now) (D.view repo.old) (D.view repo.new)) }
-    ensures answered { AskedCause (asked_of settings.now) (D.view repo.old).now (T.nodes tree.old) (Rises (D.faults repo.old) (D.faults repo.new)) (Rises (T.faults tree.old) (T.faults tree.new)) (Rises (K.faults locks.old) (K.faults locks.new)) (Rises (K.refusals locks.old) (K.refusals locks.new)) (ending_of result) }
+    ensures answered { AskedCause (asked_of settings.now) (D.view repo.old).now (T.nodes tree.old) (Rises (D.faults repo.old) (D.faults repo.new)) (Rises (T.faults tree.old) (T.faults tree.new)) (Rises (K.faults locks.old) (K.faults locks.new)) (Rises (K.refusals locks.old) (K.refusals locks.new)) (V.pending server.old) (Rises (V.faults server.old) (V.faults server.new)) (ending_of result) }
     ensures served { ServedBy (ending_of result) (asked_of settings.now) (D.view repo.old).now (T.nodes tree.old) (T.nodes tree.new) }
     ensures places { OnOk result (OpensFor (request_of settings.now.request) settings.now.pg1_path.now (T.place tree.new) × (D.place repo.new ≡ settings.now.repo1_path.now)) }
     ensures unused { (form : OutputWord) → request_of settings.now.request ≡ info form → (tree.new ≡ tree.old) × (locks.new ≡ locks.old) }
@@ -138,32 +146,35 @@ fn carry<D: Disk, T: Tree, K: Locks>(
     ensures locked { OnOk result (TakesLock settings.now.lock_path.now (lock_of (asked_of settings.now)) (K.took locks.old) (K.took locks.new)) }
     ensures only_locked { OnlyUnderLock settings.now.lock_path.now (lock_of (asked_of settings.now)) (K.took locks.old) (K.took locks.new) (D.view repo.old) (D.view repo.new) }
     ensures released { K.taken locks.new ≡ [] }
+    ensures quiet { settings.now.server ≡ None → server.new ≡ server.old }
+    ensures asks { OnOk result ((asked_of settings.now).request ≡ create → Agrees (asked_of settings.now).server (T.nodes tree.old) (V.pending server.old) × AsksServer (asked_of settings.now).server (V.place server.new) (V.sent server.old) (V.sent server.new)) }
     ensures repo_later { D.faults repo.old ≤ D.faults repo.new }
     ensures tree_later { T.faults tree.old ≤ T.faults tree.new }
     ensures locks_later { K.faults locks.old ≤ K.faults locks.new }
     ensures refusals_later { K.refusals locks.old ≤ K.refusals locks.new }
 {
     match settings.request {
-        Asking::Write(writing) => write(alloc, settings, writing, repo, tree, locks),
+        Asking::Write(writing) => write(alloc, settings, writing, repo, tree, server, locks),
         Asking::ArchiveGet { name, path } => get_file(alloc, repo, tree, settings, name, path),
         Asking::Info { form } => report_stanza(alloc, repo, settings, form),
     }
 }
 
 // Does what the words and their configuration ask for.
-fn serve<D: Disk, T: Tree, K: Locks, I: Source>(
+fn serve<D: Disk, T: Tree, V: Wire, K: Locks, I: Source>(
     alloc: Global,
     words: &[String],
     config: &mut I,
     repo: &mut D,
     tree: &mut T,
+    server: &mut V,
     locks: &mut K,
 ) -> Served
     requires free { K.taken locks.old ≡ [] }
     ensures part { (a : Asked) → Asks (map string_bytes words.now) (I.files config.old) a → PartDone a (T.nodes tree.old) (D.view repo.old) (D.view repo.new) }
     ensures done { OnOk result.ending ((a : Asked) → Asks (map string_bytes words.now) (I.files config.old) a → AllDone a (T.nodes tree.old) (D.view repo.old) (D.view repo.new)) }
     ensures none { OnNothing result.ending ((a : Asked) → Asks (map string_bytes words.now) (I.files config.old) a → NoneDone a (D.view repo.old) (D.view repo.new)) }
-    ensures answered { Cause (map string_bytes words.now) (I.files config.old) (D.view repo.old).now (T.nodes tree.old) (Rises (D.faults repo.old) (D.faults repo.new)) (Rises (T.faults tree.old) (T.faults tree.new)) (Rises (K.faults locks.old) (K.faults locks.new)) (Rises (K.refusals locks.old) (K.refusals locks.new)) (Rises (I.faults config.old) (I.faults config.new)) ⊥ (answer_of result) }
+    ensures answered { Cause (map string_bytes words.now) (I.files config.old) (D.view repo.old).now (T.nodes tree.old) (Rises (D.faults repo.old) (D.faults repo.new)) (Rises (T.faults tree.old) (T.faults tree.new)) (Rises (K.faults locks.old) (K.faults locks.new)) (Rises (K.refusals locks.old) (K.refusals locks.new)) (V.pending server.old) (Rises (V.faults server.old) (V.faults server.new)) (Rises (I.faults config.old) (I.faults config.new)) ⊥ (answer_of result) }
     ensures served { (a : Asked) → Asks (map string_bytes words.now) (I.files config.old) a → ServedBy (ending_of result.ending) a (D.view repo.old).now (T.nodes tree.old) (T.nodes tree.new) }
     ensures unasked { ((a : Asked) → ¬ MayAsk (map string_bytes words.now) (I.files config.old) a) → (repo.new ≡ repo.old) × (tree.new ≡ tree.old) × (locks.new ≡ locks.old) }
     ensures places { OnOk result.ending ((a : Asked) → Asks (map string_bytes words.now) (I.files config.old) a → OpensFor a.request a.data_folder (T.place tree.new) × (D.place repo.new ≡ a.repository)) }
@@ -173,6 +184,8 @@ fn serve<D: Disk, T: Tree, K: Locks, I: Source>(
     ensures released { K.taken locks.new ≡ [] }
     ensures folder { (T.nodes tree.new ≡ T.nodes tree.old) ⊎ ((a : Asked) × MayAsk (map string_bytes words.now) (I.files config.old) a × FolderGoes a.stanza a.data_folder a.request (D.view repo.old).now (T.nodes tree.old) (T.nodes tree.new)) }
     ensures nodes { OnNothing result.ending (T.nodes tree.new ≡ T.nodes tree.old) }
+    ensures quiet { ((a : Asked) → MayAsk (map string_bytes words.now) (I.files config.old) a → a.server ≡ None) → server.new ≡ server.old }
+    ensures asks { OnOk result.ending ((a : Asked) → Asks (map string_bytes words.now) (I.files config.old) a → a.request ≡ create → Agrees a.server (T.nodes tree.old) (V.pending server.old) × AsksServer a.server (V.place server.new) (V.sent server.old) (V.sent server.new)) }
     ensures files { I.files config.new ≡ I.files config.old }
 {
     let command = match read_command(alloc, words, config) {
@@ -193,7 +206,7 @@ fn serve<D: Disk, T: Tree, K: Locks, I: Source>(
             };
         }
     };
-    let ending = carry(alloc, &settings, repo, tree, locks);
+    let ending = carry(alloc, &settings, repo, tree, server, locks);
     Served {
         unknown: command.warnings,
         ending,
@@ -275,22 +288,27 @@ pub fn run<
     ensures answered { (answer : Answer) × (result ≡ status answer.ending)
         × Cause (map string_bytes words.now) (I.files outside.old.config) (D.view outside.old.repo).now (T.nodes outside.old.tree)
         (Rises (D.faults outside.old.repo) (D.faults outside.new.repo)) (Rises (T.faults outside.old.tree) (T.faults outside.new.tree)) (Rises (K.faults outside.old.locks) (K.faults outside.new.locks))
-        (Rises (K.refusals outside.old.locks) (K.refusals outside.new.locks)) (Rises (I.faults outside.old.config) (I.faults outside.new.config)) (Rises (O.faults outside.old.out) (O.faults outside.new.out)) answer
+        (Rises (K.refusals outside.old.locks) (K.refusals outside.new.locks)) (V.pending outside.old.server) (Rises (V.faults outside.old.server) (V.faults outside.new.server)) (Rises (I.faults outside.old.config) (I.faults outside.new.config)) (Rises (O.faults outside.old.out) (O.faults outside.new.out)) answer
         × Wrote (λ given. Cause (map string_bytes words.now) (I.files outside.old.config) (D.view outside.old.repo).now (T.nodes outside.old.tree)
         (Rises (D.faults outside.old.repo) (D.faults outside.new.repo)) (Rises (T.faults outside.old.tree) (T.faults outside.new.tree)) (Rises (K.faults outside.old.locks) (K.faults outside.new.locks))
-        (Rises (K.refusals outside.old.locks) (K.refusals outside.new.locks)) (Rises (I.faults outside.old.config) (I.faults outside.new.config)) (Rises (O.faults outside.old.out) (O.faults outside.new.out)) given)
+        (Rises (K.refusals outside.old.locks) (K.refusals outside.new.locks)) (V.pending outside.old.server) (Rises (V.faults outside.old.server) (V.faults outside.new.server)) (Rises (I.faults outside.old.config) (I.faults outside.new.config)) (Rises (O.faults outside.old.out) (O.faults outside.new.out)) given)
         (O.written outside.old.out) answer (O.written outside.new.out) }
     ensures complete { ((unknown : List Text) (ending : Ending) → status ending ≢ 0 → status ending ≢ 90 → ¬ Cause (map string_bytes words.now) (I.files outside.old.config) (D.view outside.old.repo).now (T.nodes outside.old.tree)
         (Rises (D.faults outside.old.repo) (D.faults outside.new.repo)) (Rises (T.faults outside.old.tree) (T.faults outside.new.tree)) (Rises (K.faults outside.old.locks) (K.faults outside.new.locks))
-        (Rises (K.refusals outside.old.locks) (K.refusals outside.new.locks)) (Rises (I.faults outside.old.config) (I.faults outside.new.config)) (Rises (O.faults outside.old.out) (O.faults outside.new.out)) (record { unknown = unknown; ending = ending }))
+        (Rises (K.refusals outside.old.locks) (K.refusals outside.new.locks)) (V.pending outside.old.server) (Rises (V.faults outside.old.server) (V.faults outside.new.server)) (Rises (I.faults outside.old.config) (I.faults outside.new.config)) (Rises (O.faults outside.old.out) (O.faults outside.new.out)) (record { unknown = unknown; ending = ending }))
         → (result ≡ 0) ⊎ (result ≡ 90) }
+
+    // At 0 of an online stanza-create the server, asked at its socket, told the data folder's system. A command that asks no server leaves it as it was.
+    ensures agreed { result ≡ 0 → (a : Asked) → Asks (map string_bytes words.now) (I.files outside.old.config) a → a.request ≡ create
+        → Agrees a.server (T.nodes outside.old.tree) (V.pending outside.old.server) × AsksServer a.server (V.place outside.new.server) (V.sent outside.old.server) (V.sent outside.new.server) }
+    ensures quiet { ((a : Asked) → MayAsk (map string_bytes words.now) (I.files outside.old.config) a → a.server ≡ None) → outside.new.server ≡ outside.old.server }
 
     // What the command doesn't use stays, and the configuration with it; and so does the data folder, but for a file that is served.
     ensures folder { (T.nodes outside.new.tree ≡ T.nodes outside.old.tree) ⊎ ((a : Asked) × MayAsk (map string_bytes words.now) (I.files outside.old.config) a × FolderGoes a.stanza a.data_folder a.request (D.view outside.old.repo).now (T.nodes outside.old.tree) (T.nodes outside.new.tree)) }
     ensures nodes { IsFinding result → T.nodes outside.new.tree ≡ T.nodes outside.old.tree }
     ensures unused { (a : Asked) → Asks (map string_bytes words.now) (I.files outside.old.config) a → (form : OutputWord) → a.request ≡ info form → (outside.new.tree ≡ outside.old.tree) × (outside.new.locks ≡ outside.old.locks) }
     ensures files { I.files outside.new.config ≡ I.files outside.old.config }
-    ensures untouched { outside.new ≡ record outside.old { repo = outside.new.repo; tree = outside.new.tree; locks = outside.new.locks; config = outside.new.config; out = outside.new.out } }
+    ensures untouched { outside.new ≡ record outside.old { repo = outside.new.repo; tree = outside.new.tree; server = outside.new.server; locks = outside.new.locks; config = outside.new.config; out = outside.new.out } }
     ensures links { links.new ≡ links.old }
     ensures turns { turns.new ≡ turns.old }
 {
@@ -302,6 +320,7 @@ pub fn run<
         &mut outside.config,
         &mut outside.repo,
         &mut outside.tree,
+        &mut outside.server,
         &mut outside.locks,
     );
     answer(alloc, &mut outside.out, &served)

@@ -8,3 +8,4 @@ pub mod Rows
 pub mod Sends
 pub mod Views
 pub mod Reads
+pub mod System

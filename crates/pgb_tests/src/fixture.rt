@@ -3,6 +3,7 @@ use crate::texts::{ARCHIVE_16, BACKUP_16};
 use pgb_command::{Outside, run};
 use pgb_memory::{MemDisk, MemLocks, MemNode, MemSink, MemSource, MemTree};
 use pgb_outside::{Disk, Found, Link, NotThere, Seen, Sink, Stop, Tree, Turns};
+use pgb_server::memory::MemWire;
 use std::alloc::{AllocError, Global};
 use std::test::Fail;
 
@@ -11,7 +12,7 @@ pub(crate) type Room<O> = Outside<
     MemDisk,
     NotThere,
     MemTree,
-    NotThere,
+    MemWire,
     NotThere,
     NotThere,
     MemLocks,
@@ -176,7 +177,12 @@ pub(crate) fn room_with<O: Sink + Drop>(
         repo: disk(alloc, held, fails.disk)?,
         spool: NotThere::new(),
         tree: tree(alloc, folder, fails.tree)?,
-        server: NotThere::new(),
+        server: MemWire::new(
+            alloc,
+            Vec::new(alloc),
+            Vec::new(alloc),
+            Vec::new(alloc),
+        ),
         aside: NotThere::new(),
         clock: NotThere::new(),
         locks: MemLocks::new(alloc, Vec::new(alloc), Vec::new(alloc)),

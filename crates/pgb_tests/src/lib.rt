@@ -6,6 +6,8 @@ mod absent;
 #[cfg(test)]
 mod archiving;
 #[cfg(test)]
+mod asking;
+#[cfg(test)]
 mod beside;
 #[cfg(test)]
 mod control;

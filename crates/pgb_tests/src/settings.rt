@@ -23,7 +23,7 @@ fn run_line(
 }
 
 // Words, a configuration, and the answer, in the order of refusals. What later ones ask is mostly wrong too.
-const REFUSED: [(&'static str, Option<&'static [u8]>, u8, &'static str); 37] = [
+const REFUSED: [(&'static str, Option<&'static [u8]>, u8, &'static str); 35] = [
     // the words from left to right, then the command
     ("", None, 2, "ERROR: [002]: no command found\n"),
     (
@@ -180,18 +180,6 @@ const REFUSED: [(&'static str, Option<&'static [u8]>, u8, &'static str); 37] = [
         "ERROR: [010]: configuration '/etc/own.conf' is missing\n",
     ),
     // what comes later, with the warnings of keys in sections that count
-    (
-        "--stanza=demo --pg1-path=pg stanza-create",
-        None,
-        100,
-        "ERROR: [100]: 'online' is not built yet\n",
-    ),
-    (
-        "--stanza=demo --pg1-path=pg stanza-create --online=y",
-        Some(b"[demo:stanza-create]\nonline=n\n"),
-        100,
-        "ERROR: [100]: 'online' is not built yet\n",
-    ),
     (
         "--stanza=demo --pg1-path=pg archive-push x",
         Some(

@@ -6,6 +6,7 @@ mod faults;
 mod handles;
 mod help;
 mod locks;
+mod pieces;
 mod place;
 #[cfg(test)]
 mod scratch;
@@ -15,6 +16,7 @@ mod source;
 mod tree;
 mod turns;
 mod walk;
+mod wire;
 
 use disk::RealDisk;
 use help::asked_for;
@@ -28,6 +30,7 @@ use std::process::ExitCode;
 use std::{env, io};
 use tree::RealTree;
 use turns::RoundRobin;
+use wire::RealWire;
 
 const NOT_UTF8: u8 = 13;
 
@@ -69,7 +72,7 @@ fn status_of(rt: HostRuntime, words: &[String]) -> u8 {
         repo: RealDisk::new(rt),
         spool: NotThere::new(),
         tree: RealTree::new(rt),
-        server: NotThere::new(),
+        server: RealWire::new(rt),
         aside: NotThere::new(),
         clock: NotThere::new(),
         locks: RealLocks::new(rt),

@@ -1,11 +1,12 @@
 // The configuration file, on the system's files.
-ghost use Rattle.std.specs.Prelude.{◌≡◌, ◌≤◌, None, IfOk, OnOk, length, string_bytes};
+ghost use Rattle.std.specs.Prelude.{◌≡◌, None, OnOk, string_bytes};
 
 use crate::faults::Faults;
+use crate::pieces::read_some;
 use crate::place::unless_absent;
 use pgb_outside::{Source, Stop};
 use std::fs::File;
-use std::io::{ErrorKind, Read};
+use std::io::ErrorKind;
 use std::{fs, io};
 
 /// A file of the system, read from its start. It tells nothing of what it holds.
@@ -72,19 +73,6 @@ fn open_file(rt: &HostRuntime, path: &str) -> io::Result<Option<File>> {
         return Err(io::Error::from(ErrorKind::InvalidInput));
     }
     unless_absent(File::open(rt, path))
-}
-
-// Reads again where a signal came.
-fn read_some(file: &mut File, buf: &mut [u8]) -> io::Result<usize>
-    ensures { IfOk result (λ n. n ≤ length buf.old) }
-{
-    for _ in 0..u64::MAX {
-        match file.read(buf) {
-            Err(e) if e.kind() == ErrorKind::Interrupted => {}
-            done => return done,
-        }
-    }
-    Err(io::Error::from(ErrorKind::Interrupted))
 }
 
 #[cfg(test)]

@@ -9,6 +9,8 @@ use Rattle.pgb_command.specs.Cluster.{FolderTells}
 use Rattle.pgb_command.proofs.Creates.{does_part, does_whole, has_members, folder_cause_err}
 use Rattle.pgb_model.specs.Steps.{StanzaCreate}
 use Rattle.pgb_command.proofs.Carries.{rests_carry, rests_pass, carries_part, passes_part, carries_whole}
+use Rattle.pgb_model.proofs.Done.{nothing_done}
+use Rattle.pgb_command.proofs.Talks.{agrees_by, server_err, left_err}
 use Rattle.pgb_command.proofs.create.create_stanza.Goals as goal
 
 pub returns-in_err-make-clause-part : goal.returns-in_err-make-clause-part
@@ -36,8 +38,14 @@ returns-in_err-prepare-clause-between g c = λ cluster is. rests_pass c.args.set
 pub returns-in_err-told-clause-carries : goal.returns-in_err-told-clause-carries
 returns-in_err-told-clause-carries g c = λ cluster is. rests_carry c.args.settings.now.stanza.now (StanzaCreate cluster) _ _ c.prepare.ensures.time c.prepare.ensures.now
 
+pub returns-in_err-check_server-clause-carries : goal.returns-in_err-check_server-clause-carries
+returns-in_err-check_server-clause-carries g c = λ cluster is. rests_carry c.args.settings.now.stanza.now (StanzaCreate cluster) _ _ c.prepare.ensures.time c.prepare.ensures.now
+
 pub returns-in_err-told-clause-between : goal.returns-in_err-told-clause-between
 returns-in_err-told-clause-between g c = λ cluster is. rests_pass c.args.settings.now.stanza.now (StanzaCreate cluster) _ _ c.prepare.ensures.time c.prepare.ensures.now
+
+pub returns-in_err-check_server-clause-between : goal.returns-in_err-check_server-clause-between
+returns-in_err-check_server-clause-between g c = λ cluster is. rests_pass c.args.settings.now.stanza.now (StanzaCreate cluster) _ _ c.prepare.ensures.time c.prepare.ensures.now
 
 pub returns-in_err-make-clause-carries : goal.returns-in_err-make-clause-carries
 returns-in_err-make-clause-carries g c = carries_part c.args.settings.now.stanza.now (g.T.Tree.nodes c.args.tree.now) c.in_ok-told.told
@@ -62,6 +70,9 @@ returns-clause-carried g c = carries_whole c.args.settings.now.stanza.now (g.T.T
 pub returns-in_err-told-clause-stays : goal.returns-in_err-told-clause-stays
 returns-in_err-told-clause-stays g c = finding_all c.from_residual-in_err-told.result _ (rests_carried c.args.settings.now.stanza.now _ _ c.prepare.ensures.time c.prepare.ensures.now)
 
+pub returns-in_err-check_server-clause-stays : goal.returns-in_err-check_server-clause-stays
+returns-in_err-check_server-clause-stays g c = finding_all c.from_residual-in_err-check_server.result _ (rests_carried c.args.settings.now.stanza.now _ _ c.prepare.ensures.time c.prepare.ensures.now)
+
 pub returns-in_err-make-clause-stays : goal.returns-in_err-make-clause-stays
 returns-in_err-make-clause-stays g c = finding_both c.from_residual-in_err-make.result c.in_err-make.field-0.0 _ _ _ c.from_residual-in_err-make.ensures.1
     (λ same rests. rests_carried c.args.settings.now.stanza.now (g.D.Disk.view c.args.repo.now) (g.D.Disk.view c.make.new.repo) (rests_rests _ _ _ c.prepare.ensures.time rests) (same ∙ c.prepare.ensures.now)) c.in_err-make.ensures.refused c.in_err-make.ensures.rests
@@ -73,9 +84,21 @@ pub returns-in_err-prepare-clause-stays : goal.returns-in_err-prepare-clause-sta
 returns-in_err-prepare-clause-stays g c = finding_all c.from_residual.result _ (rests_carried c.args.settings.now.stanza.now _ _ c.prepare.ensures.time c.prepare.ensures.now)
 
 pub returns-in_err-make-clause-cause : goal.returns-in_err-make-clause-cause
-returns-in_err-make-clause-cause g c =
+returns-in_err-make-clause-cause g c = left_err c.from_residual-in_err-make.result _ _ (
     folder_cause_err c.args.settings.now.stanza.now c.in_ok-told.told (g.D.Disk.view c.args.repo.now).now (g.T.Tree.nodes c.args.tree.now)
     (subst (λ (o : Option Nodes). IfSome o (λ f. FolderTells f c.in_ok-told.told)) c.prepare.ensures.nodes c.in_ok-told.ensures.told)
     (Rises (g.D.Disk.faults c.prepare.new.repo) (g.D.Disk.faults c.make.new.repo)) _ _ _ _ (λ rose. omega (arith, rose, c.prepare.ensures.repo_later))
     c.from_residual-in_err-make.result c.in_err-make.field-0.0 c.from_residual-in_err-make.ensures.1
-    (subst (λ (o : Option Content). MakeCause c.args.settings.now.stanza.now c.in_ok-told.told o (Rises (g.D.Disk.faults c.prepare.new.repo) (g.D.Disk.faults c.make.new.repo)) c.in_err-make.field-0.0) c.prepare.ensures.now c.in_err-make.ensures.cause)
+    (subst (λ (o : Option Content). MakeCause c.args.settings.now.stanza.now c.in_ok-told.told o (Rises (g.D.Disk.faults c.prepare.new.repo) (g.D.Disk.faults c.make.new.repo)) c.in_err-make.field-0.0) c.prepare.ensures.now c.in_err-make.ensures.cause))
+
+pub returns-in_err-check_server-clause-cause : goal.returns-in_err-check_server-clause-cause
+returns-in_err-check_server-clause-cause g c = server_err c.args.settings.now.server (g.T.Tree.nodes c.args.tree.now) c.in_ok-told.told
+    (subst (λ (o : Option Nodes). IfSome o (λ f. FolderTells f c.in_ok-told.told)) c.prepare.ensures.nodes c.in_ok-told.ensures.told) (g.V.Wire.pending c.args.server.now)
+    c.from_residual-in_err-check_server.result c.in_err-check_server.field-0.0 _ _ c.from_residual-in_err-check_server.ensures.1 c.in_err-check_server.ensures.cause
+
+pub returns-clause-agrees_with : goal.returns-clause-agrees_with
+returns-clause-agrees_with g c = agrees_by c.args.settings.now.server (g.T.Tree.nodes c.args.tree.now) c.in_ok-told.told
+    (subst (λ (o : Option Nodes). IfSome o (λ f. FolderTells f c.in_ok-told.told)) c.prepare.ensures.nodes c.in_ok-told.ensures.told) (g.V.Wire.pending c.args.server.now) c.in_ok-check_server.ensures.same
+
+pub returns-in_err-check_server-clause-part : goal.returns-in_err-check_server-clause-part
+returns-in_err-check_server-clause-part g c = λ cluster is. nothing_done c.args.settings.now.stanza.now (StanzaCreate cluster) _ _ c.prepare.ensures.now

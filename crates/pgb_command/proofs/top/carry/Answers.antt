@@ -16,7 +16,7 @@ pub returns-in-ArchiveGet-clause-none : goal.returns-in-ArchiveGet-clause-none
 returns-in-ArchiveGet-clause-none g c = nothing_all c.get_file.result _ (read_none (asked_of c.args.settings.now) (get c.in-ArchiveGet.name.now c.in-ArchiveGet.path.now) tt (g.T.Tree.nodes c.args.tree.now) (g.D.Disk.view c.args.repo.now) (g.D.Disk.view c.get_file.new.repo) (ap request_of c.in-ArchiveGet.is) c.get_file.ensures.time c.get_file.ensures.now)
 
 pub returns-in-ArchiveGet-clause-answered : goal.returns-in-ArchiveGet-clause-answered
-returns-in-ArchiveGet-clause-answered g c = got_answer (asked_of c.args.settings.now) c.in-ArchiveGet.name.now c.in-ArchiveGet.path.now (g.T.Tree.nodes c.args.tree.now) (ap request_of c.in-ArchiveGet.is) c.get_file.result _ _ _ _ _ _ c.get_file.ensures.told c.get_file.ensures.cause
+returns-in-ArchiveGet-clause-answered g c = got_answer (asked_of c.args.settings.now) c.in-ArchiveGet.name.now c.in-ArchiveGet.path.now (g.T.Tree.nodes c.args.tree.now) (ap request_of c.in-ArchiveGet.is) c.get_file.result _ _ _ _ _ _ _ _ c.get_file.ensures.told c.get_file.ensures.cause
 
 pub returns-in-Info-clause-part : goal.returns-in-Info-clause-part
 returns-in-Info-clause-part g c = read_part (asked_of c.args.settings.now) (info c.in-Info.form) tt (g.T.Tree.nodes c.args.tree.now) (g.D.Disk.view c.args.repo.now) (g.D.Disk.view c.report_stanza.new.repo) (ap request_of c.in-Info.is) c.report_stanza.ensures.time c.report_stanza.ensures.now
@@ -28,7 +28,7 @@ pub returns-in-Info-clause-none : goal.returns-in-Info-clause-none
 returns-in-Info-clause-none g c = nothing_all c.report_stanza.result _ (read_none (asked_of c.args.settings.now) (info c.in-Info.form) tt (g.T.Tree.nodes c.args.tree.now) (g.D.Disk.view c.args.repo.now) (g.D.Disk.view c.report_stanza.new.repo) (ap request_of c.in-Info.is) c.report_stanza.ensures.time c.report_stanza.ensures.now)
 
 pub returns-in-Info-clause-answered : goal.returns-in-Info-clause-answered
-returns-in-Info-clause-answered g c = report_answer (asked_of c.args.settings.now) c.in-Info.form (g.T.Tree.nodes c.args.tree.now) (ap request_of c.in-Info.is) c.report_stanza.result _ _ _ _ _ c.report_stanza.ensures.told c.report_stanza.ensures.cause
+returns-in-Info-clause-answered g c = report_answer (asked_of c.args.settings.now) c.in-Info.form (g.T.Tree.nodes c.args.tree.now) (ap request_of c.in-Info.is) c.report_stanza.result _ _ _ _ _ _ _ c.report_stanza.ensures.told c.report_stanza.ensures.cause
 
 pub returns-in-Info-clause-served : goal.returns-in-Info-clause-served
 returns-in-Info-clause-served g c = report_serves (asked_of c.args.settings.now) c.in-Info.form (g.T.Tree.nodes c.args.tree.now) (ap request_of c.in-Info.is) c.report_stanza.result _ _ c.report_stanza.ensures.told

@@ -1,20 +1,20 @@
 use Rattle.std.proofs.Common.{ap, ◌∙◌, arith}
 use Rattle.pgb_command.specs.Told.{writing_of, request_of, asked_of}
-use Rattle.pgb_command.specs.Causes.{Made, Creating}
-use Rattle.pgb_command.proofs.Doings.{push_part, push_done, push_answer}
+use Rattle.pgb_command.specs.Causes.{Made}
+use Rattle.pgb_command.proofs.Doings.{create_refused, push_part, push_done, push_answer}
 use Rattle.pgb_command.proofs.top.perform.Goals as goal
 
 pub returns-in-Ok-clause-answered : goal.returns-in-Ok-clause-answered
-returns-in-Ok-clause-answered g c = Made (ap request_of c.requires.asked ∙ ap writing_of c.in-StanzaCreate.is) c.in-Ok.ensures.is_made
+returns-in-Ok-clause-answered g c = Made (ap request_of c.requires.asked ∙ ap writing_of c.in-StanzaCreate.is) c.in-Ok.ensures.is_made c.in-Ok.ensures.agrees_with
 
 pub returns-in-Err-clause-answered : goal.returns-in-Err-clause-answered
-returns-in-Err-clause-answered g c = Creating c.in-Err.fault (ap request_of c.requires.asked ∙ ap writing_of c.in-StanzaCreate.is) c.in-Err.ensures.cause
+returns-in-Err-clause-answered g c = create_refused (asked_of c.args.settings.now) _ _ _ _ _ _ _ _ c.in-Err.fault (ap request_of c.requires.asked ∙ ap writing_of c.in-StanzaCreate.is) c.in-Err.ensures.cause
 
 pub returns-in-ArchivePush-clause-part : goal.returns-in-ArchivePush-clause-part
 returns-in-ArchivePush-clause-part g c = push_part (asked_of c.args.settings.now) c.in-ArchivePush.path.now (g.T.Tree.nodes c.args.tree.now) (g.D.Disk.view c.args.repo.now) (g.D.Disk.view c.push_file.new.repo) (ap request_of c.requires.asked ∙ ap writing_of c.in-ArchivePush.is) c.push_file.ensures.part c.push_file.ensures.carries c.push_file.ensures.between
 
 pub returns-in-ArchivePush-clause-answered : goal.returns-in-ArchivePush-clause-answered
-returns-in-ArchivePush-clause-answered g c = push_answer (asked_of c.args.settings.now) c.in-ArchivePush.path.now (g.T.Tree.nodes c.args.tree.now) (g.D.Disk.view c.args.repo.now) (g.D.Disk.view c.push_file.new.repo) (ap request_of c.requires.asked ∙ ap writing_of c.in-ArchivePush.is) c.push_file.result _ _ _ _ _ c.push_file.ensures.stored c.push_file.ensures.cause
+returns-in-ArchivePush-clause-answered g c = push_answer (asked_of c.args.settings.now) c.in-ArchivePush.path.now (g.T.Tree.nodes c.args.tree.now) (g.D.Disk.view c.args.repo.now) (g.D.Disk.view c.push_file.new.repo) (ap request_of c.requires.asked ∙ ap writing_of c.in-ArchivePush.is) c.push_file.result _ _ _ _ _ _ _ c.push_file.ensures.stored c.push_file.ensures.cause
 
 pub returns-in-ArchivePush-clause-done : goal.returns-in-ArchivePush-clause-done
 returns-in-ArchivePush-clause-done g c = push_done (asked_of c.args.settings.now) c.in-ArchivePush.path.now (g.T.Tree.nodes c.args.tree.now) (g.D.Disk.view c.args.repo.now) (g.D.Disk.view c.push_file.new.repo) (ap request_of c.requires.asked ∙ ap writing_of c.in-ArchivePush.is) c.push_file.result c.push_file.ensures.done c.push_file.ensures.carried c.push_file.ensures.agrees

@@ -54,13 +54,13 @@ returns-clause-locked g c = λ zero. let t = c.answer.ensures.told in at_zero _ 
 
 pub returns-clause-answered : goal.returns-clause-answered
 returns-clause-answered g c = let t = c.answer.ensures.told in
-    let b = told_cause _ _ _ _ _ _ _ _ _ _ _ _ (answer_of c.serve-served.result) t.0 c.serve-served.ensures.answered t.2 in
+    let b = told_cause _ _ _ _ _ _ _ _ _ _ _ _ _ _ (answer_of c.serve-served.result) t.0 c.serve-served.ensures.answered t.2 in
     (b.0, t.1 ∙ ap status (sym b.1), b.2, b.3)
 
 pub returns-clause-complete : goal.returns-clause-complete
 returns-clause-complete g c = λ none. let t = c.answer.ensures.told in
-    let b = told_cause _ _ _ _ _ _ _ _ _ _ _ _ (answer_of c.serve-served.result) t.0 c.serve-served.ensures.answered t.2 in
-    completes _ _ _ _ _ _ _ _ _ _ b.0 _ b.2 none (t.1 ∙ ap status (sym b.1))
+    let b = told_cause _ _ _ _ _ _ _ _ _ _ _ _ _ _ (answer_of c.serve-served.result) t.0 c.serve-served.ensures.answered t.2 in
+    completes _ _ _ _ _ _ _ _ _ _ _ _ b.0 _ b.2 none (t.1 ∙ ap status (sym b.1))
 
 pub returns-clause-served : goal.returns-clause-served
 returns-clause-served g c = λ zero a asks name path is. let t = c.answer.ensures.told in
@@ -85,3 +85,6 @@ returns-clause-reported g c = λ zero a asks form is s some now. let t = c.answe
     let unknown = map string_bytes c.serve-served.result.unknown.items in
     let r = reported_at_zero unknown _ _ a _ _ _ c.serve-served.result.ending _ t.0 _ t.2 t.1 zero form is (c.serve-served.ensures.served a asks) in
     (unknown, r.0, reports form a.stanza (g.D.Disk.view c.args.outside.now.repo).now r.0 s some now r.1, r.2)
+
+pub returns-clause-agreed : goal.returns-clause-agreed
+returns-clause-agreed g c = λ zero. let t = c.answer.ensures.told in at_zero _ c.serve-served.result.ending _ _ _ _ t.0 _ t.2 t.1 zero c.serve-served.ensures.asks

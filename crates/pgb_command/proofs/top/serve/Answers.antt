@@ -20,7 +20,7 @@ pub returns-in-Err-clause-none : goal.returns-in-Err-clause-none
 returns-in-Err-clause-none g c = finding_all {T = Outcome} (Err c.in-Err.fault) _ (λ a asks. none_done a (g.D.Disk.view c.args.repo.now))
 
 pub returns-in-Err-clause-answered : goal.returns-in-Err-clause-answered
-returns-in-Err-clause-answered g c = refused_as _ _ _ _ _ _ _ _ _ _ c.in-Err.fault (ap (map string_bytes) c.new.ensures.items) c.in-Err.ensures.cause
+returns-in-Err-clause-answered g c = refused_as _ _ _ _ _ _ _ _ _ _ _ _ c.in-Err.fault (ap (map string_bytes) c.new.ensures.items) c.in-Err.ensures.cause
 
 pub returns-in-Err-settings_of-clause-part : goal.returns-in-Err-settings_of-clause-part
 returns-in-Err-settings_of-clause-part g c = λ a asks. none_part a (g.T.Tree.nodes c.args.tree.now) (g.D.Disk.view c.args.repo.now)
@@ -31,7 +31,7 @@ returns-in-Err-settings_of-clause-none g c = λ a asks. none_done a (g.D.Disk.vi
 pub returns-in-Err-settings_of-clause-answered : goal.returns-in-Err-settings_of-clause-answered
 returns-in-Err-settings_of-clause-answered g c =
     let x = c.in-Ok.ensures.command in
-    unknown_as _ _ _ _ _ _ _ _ _ _ x.0 c.in-Err-settings_of.what x.2.warnings x.1 (c.in-Err-settings_of.ensures.unbuilt x.0 x.2)
+    unknown_as _ _ _ _ _ _ _ _ _ _ _ _ x.0 c.in-Err-settings_of.what x.2.warnings x.1 (c.in-Err-settings_of.ensures.unbuilt x.0 x.2)
 
 pub returns-clause-part : goal.returns-clause-part
 returns-clause-part g c =
@@ -75,7 +75,7 @@ returns-clause-answered g c =
     let old = g.D.Disk.view c.args.repo.now in
     let new = g.D.Disk.view c.carry-ending.new.repo in
     let may = may_ask words files x.0 x.1 (asked_of c.in-Ok-settings_of.settings) (c.in-Ok-settings_of.ensures.asked x.0 x.2) in
-    asking_as _ _ _ _ _ _ _ _ _ _ x.0 (asked_of c.in-Ok-settings_of.settings) (ending_of c.carry-ending.result) x.2.warnings x.1 (c.in-Ok-settings_of.ensures.asked x.0 x.2) c.carry-ending.ensures.answered
+    asking_as _ _ _ _ _ _ _ _ _ _ _ _ x.0 (asked_of c.in-Ok-settings_of.settings) (ending_of c.carry-ending.result) x.2.warnings x.1 (c.in-Ok-settings_of.ensures.asked x.0 x.2) c.carry-ending.ensures.answered
 
 pub returns-clause-unasked : goal.returns-clause-unasked
 returns-clause-unasked g c =

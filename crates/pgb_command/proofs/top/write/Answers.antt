@@ -6,4 +6,4 @@ pub returns-in-Err-clause-part : goal.returns-in-Err-clause-part
 returns-in-Err-clause-part g c = none_part (asked_of c.args.settings.now) (g.T.Tree.nodes c.args.tree.now) (g.D.Disk.view c.args.repo.now)
 
 pub returns-in-Err-clause-answered : goal.returns-in-Err-clause-answered
-returns-in-Err-clause-answered g c = starved (asked_of c.args.settings.now) _ _ _ _ _ _
+returns-in-Err-clause-answered g c = starved (asked_of c.args.settings.now) _ _ _ _ _ _ _ _
