@@ -247,6 +247,8 @@ module _ (stanza folder path : Text) (wal : ArchiveName) (named : IsWalPath fold
   wider repo nodes d t x y l h a b faults.Disk cause = a cause
   wider repo nodes d t x y l h a b faults.Tree cause = b cause
   wider repo nodes d t x y l h a b faults.NoMemory cause = tt
+  wider repo nodes d t x y l h a b (faults.Server e) cause = absurd cause
+  wider repo nodes d t x y l h a b faults.Wire cause = absurd cause
   wider repo nodes d t x y l h a b (faults.Held w) cause = absurd cause.1
   wider repo nodes d t x y l h a b faults.Locks cause = absurd cause
   wider repo nodes d t x y l h a b (faults.Settings u) cause = absurd cause

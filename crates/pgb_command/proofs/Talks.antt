@@ -122,3 +122,7 @@ module _ (server : Option Reached) (nodes : Option Nodes) (told : Control) (tell
 pub left_err : {T : Type 0} (result : Result T Fault) (X Y : Fault → Type 0) → IfErr result X → IfErr result (λ f. X f ⊎ Y f)
 left_err (Ok x) X Y h = tt
 left_err (Err f) X Y h = inl h
+
+pub none_viewed : (server : Option Reached) → option_map server_view server ≡ None → server ≡ None
+none_viewed None is = refl
+none_viewed (Some s) is = cc

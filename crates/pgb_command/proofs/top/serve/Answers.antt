@@ -1,11 +1,13 @@
 use Rattle.std.proofs.Common.{◌≡◌, ap, map, string_bytes, true, false, Err}
 use Rattle.pgb_command.specs.declared.outcome.Outcome.{Outcome}
 use Rattle.pgb_options.specs.declared.options.OutputWord.{OutputWord}
-use Rattle.pgb_command.specs.Asked.{Asked, info}
+use Rattle.pgb_command.specs.Asked.{Asked, create, info}
 use Rattle.pgb_command.specs.Doing.{PartDone, AllDone, NoneDone, ServedBy, OpensFor}
 use Rattle.pgb_command.specs.Locking.{lock_of, TakesLock, OnlyUnderLock}
 use Rattle.pgb_command.specs.Outcomes.{ending_of}
+use Rattle.pgb_command.specs.Talking.{Agrees, Asks as AsksServer}
 use Rattle.pgb_command.specs.Told.{asked_of}
+use Rattle.pgb_command.proofs.Talks.{none_viewed}
 use Rattle.pgb_command.proofs.Asked.{may_ask, for_asked, ok_as}
 use Rattle.pgb_command.proofs.Doings.{none_part, none_done}
 use Rattle.pgb_command.proofs.Pushes.{finding_all, finding_as}
@@ -128,6 +130,22 @@ returns-clause-served g c =
     let files = g.I.Source.files c.args.config.now in
     let may = may_ask words files x.0 x.1 (asked_of c.in-Ok-settings_of.settings) (c.in-Ok-settings_of.ensures.asked x.0 x.2) in
     for_asked words files (λ (a : Asked). ServedBy (ending_of c.carry-ending.result) a (g.D.Disk.view c.args.repo.now).now (g.T.Tree.nodes c.args.tree.now) (g.T.Tree.nodes c.carry-ending.new.tree)) (asked_of c.in-Ok-settings_of.settings) may c.carry-ending.ensures.served
+
+pub returns-clause-asks : goal.returns-clause-asks
+returns-clause-asks g c =
+    let x = c.in-Ok.ensures.command in
+    let words = map string_bytes c.args.words.now in
+    let files = g.I.Source.files c.args.config.now in
+    let may = may_ask words files x.0 x.1 (asked_of c.in-Ok-settings_of.settings) (c.in-Ok-settings_of.ensures.asked x.0 x.2) in
+    ok_as c.carry-ending.result _ _ (for_asked words files (λ (a : Asked). a.request ≡ create → Agrees a.server (g.T.Tree.nodes c.args.tree.now) (g.V.Wire.pending c.args.server.now) × AsksServer a.server (g.V.Wire.place c.carry-ending.new.server) (g.V.Wire.sent c.args.server.now) (g.V.Wire.sent c.carry-ending.new.server)) (asked_of c.in-Ok-settings_of.settings) may) c.carry-ending.ensures.asks
+
+pub returns-clause-quiet : goal.returns-clause-quiet
+returns-clause-quiet g c =
+    let x = c.in-Ok.ensures.command in
+    let words = map string_bytes c.args.words.now in
+    let files = g.I.Source.files c.args.config.now in
+    let may = may_ask words files x.0 x.1 (asked_of c.in-Ok-settings_of.settings) (c.in-Ok-settings_of.ensures.asked x.0 x.2) in
+    λ none. c.carry-ending.ensures.quiet (none_viewed c.in-Ok-settings_of.settings.server (none (asked_of c.in-Ok-settings_of.settings) may))
 
 pub returns-clause-unused : goal.returns-clause-unused
 returns-clause-unused g c =
