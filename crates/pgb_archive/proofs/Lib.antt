@@ -6,6 +6,7 @@ pub mod Owns
 pub mod Looked
 pub mod Got
 pub mod Listed
+pub mod Bounding
 pub mod FilePushed
 pub mod Placed
 pub mod OnePushed

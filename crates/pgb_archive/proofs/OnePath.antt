@@ -78,7 +78,7 @@ wal_kind m n e = by m n (sym (length-wal_text m) ∙ ap length e ∙ length-wal_
     by (Backup s m) (History t) e = refl
     by (Backup s m) (Backup t n) e = refl
 
-folder_lacks : (c : ℕ) (s : Segment) → c < 48 → Lacks c (segment_folder s)
+pub folder_lacks : (c : ℕ) (s : Segment) → c < 48 → Lacks c (segment_folder s)
 folder_lacks c s low = lacks_append c (hex_upper 8 s.timeline) (hex_upper 8 s.log) (hex_lacks c 8 s.timeline low) (hex_lacks c 8 s.log low)
 
 segment_lacks : (c : ℕ) (s : Segment) → c < 48 → Lacks c (segment_text s)
@@ -180,7 +180,7 @@ below_cut (Backup s n) sum text folder file e cut = cut_in text (segment_folder 
 
 -- ---- one name
 
-folder_length : (s : Segment) → length (segment_folder s) ≡ 16
+pub folder_length : (s : Segment) → length (segment_folder s) ≡ 16
 folder_length s = omega (arith, length-append (hex_upper 8 s.timeline) (hex_upper 8 s.log), length-hex_upper 8 s.timeline, length-hex_upper 8 s.log)
 
 segment_injective : (s t : Segment) → IsSegment s → IsSegment t → segment_text s ≡ segment_text t → s ≡ t

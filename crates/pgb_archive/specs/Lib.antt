@@ -6,3 +6,4 @@ pub mod Listing
 pub mod Looks
 pub mod Turns
 pub mod OnePush
+pub mod Ends

@@ -2,6 +2,7 @@
 #![tactic(auto)]
 
 mod aside;
+mod bounds;
 mod fault;
 mod files;
 mod listing;
@@ -13,6 +14,7 @@ mod pushing;
 mod reading;
 
 pub use aside::{Aside, TurnStop};
+pub use bounds::ends;
 pub use fault::ArchiveFault;
 pub use files::Stored;
 pub use listing::all;

@@ -20,7 +20,7 @@ then_equal Equal = refl
 then_equal Greater = refl
 
 -- texts of one length in front decide
-text_cmp-append : (a b xs ys : Text) → length a ≡ length b → text_cmp (a ++ xs) (b ++ ys) ≡ ordering_then (text_cmp a b) (text_cmp xs ys)
+pub text_cmp-append : (a b xs ys : Text) → length a ≡ length b → text_cmp (a ++ xs) (b ++ ys) ≡ ordering_then (text_cmp a b) (text_cmp xs ys)
 text_cmp-append [] [] xs ys long = refl
 text_cmp-append [] (y ∷ b) xs ys long = absurd (omega arith)
 text_cmp-append (x ∷ a) [] xs ys long = absurd (omega arith)
