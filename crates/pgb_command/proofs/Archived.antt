@@ -1,6 +1,6 @@
 -- What archive-get serves is what the repository has archived.
-use Rattle.std.proofs.Common.{◌≡◌, inl, inr, ℕ, ◌<◌, ◌^◌, List, map, Option, Some, None, Err, refl, sym, ap, subst}
-use Rattle.std.specs.Prelude.{IfSome, IsSome}
+use Rattle.std.proofs.Common.{◌≡◌, inl, inr, ◌<◌, List, map, Option, Some, None, Err, refl, sym, ap, subst}
+use Rattle.std.specs.Prelude.{IsSome}
 use Rattle.sha1.specs.Sha1.{sha1}
 use Rattle.pgb_text.specs.Sum.{IsSum}
 use Rattle.pgb_outside.specs.Content.{Content}
@@ -13,15 +13,14 @@ use Rattle.pgb_model.specs.Names.{archive_info}
 use Rattle.pgb_model.specs.Pair.{PairIs}
 use Rattle.pgb_model.specs.Values.{ArchiveInfo}
 use Rattle.pgb_model.specs.InfoFiles.{IsClusterId, IsArchiveInfo, IsArchiveText}
-use Rattle.pgb_model.specs.Repository.{Stanza, Archived, identity_of, id_of}
+use Rattle.pgb_model.specs.Repository.{Stanza, identity_of, id_of}
 use Rattle.pgb_model.specs.Stands.{HasStanza, IsWalName, IsArchivePlace, archive_value}
 use Rattle.pgb_model.specs.Now.{NowStands}
 use Rattle.pgb_info.proofs.Numbers.{all_in, in_map, map_in}
 use Rattle.pgb_info.proofs.OneArchive.{one_archive_pair}
 use Rattle.pgb_stanza.specs.declared.control.Control.{Control}
-use Rattle.pgb_archive.specs.declared.fault.ArchiveFault.{ArchiveFault}
 use Rattle.pgb_archive.specs.declared.fault.ArchiveFault.TheVariants.{NotFound}
-use Rattle.pgb_archive.specs.Stored.{archived_file, StoresNone}
+use Rattle.pgb_archive.specs.Stored.{StoresNone}
 use Rattle.pgb_archive.specs.Causes.{StoresBytes, IsUnarchived}
 use Rattle.pgb_archive.proofs.Got.{got_archived, answer_none}
 use Rattle.pgb_command.specs.Storing.{id_kept}

@@ -1,13 +1,13 @@
 -- Words and their configuration ask for one thing.
-use Rattle.std.proofs.Common.{◌≡◌, ℕ, List, Option, Some, None, Result, Ok, Err, refl, ap, sym, ◌∙◌, subst}
+use Rattle.std.proofs.Common.{◌≡◌, List, Option, Some, None, Result, Ok, Err, ap, sym, ◌∙◌, subst}
 use Rattle.std.specs.Prelude.{IsSome, OnOk}
 use Rattle.pgb_outside.specs.Content.{Content}
 use Rattle.pgb_model.specs.Text.{Text}
 use Rattle.pgb_options.specs.Faults.{Fault}
-use Rattle.pgb_options.specs.Paths.{Path, nowhere, usual, named, path_of_words}
+use Rattle.pgb_options.specs.Paths.{Path, nowhere, usual, named}
 use Rattle.pgb_options.specs.Settings.{Settled, settled_words}
 use Rattle.pgb_command.specs.Talking.{Server}
-use Rattle.pgb_command.specs.Asked.{MayHave, Settles, Request, requested, Asked, IsAsked, MayAsk, Asks}
+use Rattle.pgb_command.specs.Asked.{MayHave, Settles, Request, Asked, IsAsked, MayAsk, Asks}
 
 ok_same : {X Y : Type 0} (a b : X) → ◌≡◌ {A = Result X Y} (Ok a) (Ok b) → a ≡ b
 ok_same a b e = cc

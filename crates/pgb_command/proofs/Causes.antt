@@ -1,5 +1,5 @@
 -- The causes of the program's answers.
-use Rattle.std.proofs.Common.{◌≡◌, ◌⊎◌, ◌≤◌, ℕ, arith, inl, inr, ⊎_elim, List, [], Option, Result, Ok, Err, IfErr, IfOk, refl, sym, ◌∙◌, ap, subst}
+use Rattle.std.proofs.Common.{◌≡◌, ◌⊎◌, ◌≤◌, ℕ, arith, inl, inr, List, [], Option, Result, Ok, Err, refl, sym, ◌∙◌, ap, subst}
 use Rattle.std.specs.Prelude.{◌≢◌, OnOk}
 use Rattle.pgb_options.specs.declared.usage.Usage.{Usage}
 use Rattle.pgb_options.specs.declared.usage.Usage.TheVariants.{CommandMissing, CommandUnknown, OptionUnknown, OptionRepeated, OptionValue, OptionMissing, OptionNotFor, ConfigSyntax, ParameterCount, ParameterUtf8, NoMemory as UsageNoMemory}
@@ -13,7 +13,7 @@ use Rattle.pgb_outside.specs.Tree.{Nodes}
 use Rattle.pgb_model.specs.Text.{Text}
 use Rattle.pgb_command.specs.declared.fault.Fault.{Fault}
 use Rattle.pgb_command.specs.declared.fault.Fault.TheVariants.{Settings, ConfigMissing, SegmentName, PathOutside, Held, StanzaMissing, InfoDamaged, HistoryDiffers, StanzaMismatch, ArchiveLost, SegmentMissing, TooLong, TooMany, HeaderForm, SegmentSize, HeaderMismatch, Ambiguous, Duplicate, SegmentDamaged, Server, Wire, NotBuilt, ControlMissing, ControlShort, VersionText, VersionUnsupported, Disk, Tree, Locks, Source, Sink, NoMemory}
-use Rattle.pgb_command.specs.Answers.{Ending, finished, absent, refused, Answer, error_line, lines_of, ending_lines, usage_status, server_status, status_of, status, OnFinding, IsFinding}
+use Rattle.pgb_command.specs.Answers.{Ending, finished, absent, refused, Answer, error_line, lines_of, usage_status, server_status, status_of, status, OnFinding, IsFinding}
 use Rattle.pgb_command.specs.Causes.{Cause, Refused, Unknown, Asking, Output, Memory}
 use Rattle.pgb_command.specs.Output.{IsFrontWritten, IsTold, Whole, Cut, Starved, Wordless, WroteLines, Wrote}
 use Rattle.pgb_options.specs.declared.options.OutputWord.{OutputWord}

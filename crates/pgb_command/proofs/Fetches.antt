@@ -1,5 +1,5 @@
 -- A file of the archive is had from the repository, and served.
-use Rattle.std.proofs.Common.{◌≡◌, List, [], Option, Some, None, Result, Ok, Err, IfErr, refl, sym, ◌∙◌, ap, subst}
+use Rattle.std.proofs.Common.{◌≡◌, Option, Some, None, Result, Ok, Err, IfErr, refl, sym, subst}
 use Rattle.std.specs.Prelude.{IfSome, IsErrAnd, OnOk}
 use Rattle.pgb_outside.specs.Content.{Content}
 use Rattle.pgb_outside.specs.Tree.{Nodes}
@@ -14,13 +14,10 @@ use Rattle.pgb_model.specs.InfoFiles.{IsArchiveText}
 use Rattle.pgb_stanza.specs.declared.control.Control.{Control}
 use Rattle.pgb_command.specs.declared.fault.Fault.{Fault}
 use Rattle.pgb_command.specs.declared.fault.Fault.TheVariants.{Settings, ConfigMissing, SegmentName, PathOutside, Held, StanzaMissing, InfoDamaged, HistoryDiffers, StanzaMismatch, ArchiveLost, SegmentMissing, TooLong, TooMany, HeaderForm, SegmentSize, HeaderMismatch, Ambiguous, Duplicate, SegmentDamaged, Server, Wire, NotBuilt, ControlMissing, ControlShort, VersionText, VersionUnsupported, Disk, Tree, Locks, Source, Sink, NoMemory}
-use Rattle.pgb_command.specs.declared.outcome.Outcome.{Outcome}
-use Rattle.pgb_command.specs.declared.outcome.Outcome.TheVariants.{Silent, SameStored, Absent}
 use Rattle.pgb_command.specs.Cluster.{FolderTells}
 use Rattle.pgb_stanza.specs.Pairs.{identity_kept, identity_told}
-use Rattle.pgb_command.specs.Getting.{AreWords, served_path, IsWanted, OnHistory, HasSame, FoundIn, SearchCause, FetchCause, IsServed, IsPut, ChangesPath, Serves}
+use Rattle.pgb_command.specs.Getting.{AreWords, served_path, OnHistory, HasSame, FoundIn, SearchCause, FetchCause, IsServed, IsPut, ChangesPath, Serves}
 use Rattle.pgb_command.proofs.Folders.{changes_as}
-use Rattle.pgb_command.specs.Outcomes.{OnNothing}
 
 on_both : (repo : Option Content) (P Q R : Content → Type 0) → ((f : Content) → P f → Q f → R f) → IfSome repo P → IfSome repo Q → IfSome repo R
 on_both None P Q R with_both p q = tt

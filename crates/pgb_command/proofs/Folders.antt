@@ -1,9 +1,9 @@
 -- A file is put into the data folder.
-use Rattle.std.proofs.Common.{◌≡◌, inl, inr, ◌++◌, ℕ, List, Option, Some, None, option_map, Result, Ok, Err, refl, ap, sym, ◌∙◌, arith, length, length-append, subst, [], bytes_eq}
+use Rattle.std.proofs.Common.{◌≡◌, inl, inr, ℕ, Option, Some, None, option_map, Result, Ok, Err, refl, ap, sym, ◌∙◌, arith, length, length-append, subst, []}
 use Rattle.std.specs.Prelude.{◌≢◌, ◌⊎◌, IsSome, IfSome, OnOk, codes}
 use Rattle.std.proofs.lemmas.Grind.{common_steps}
 use Rattle.std.proofs.lemmas.Slice.Eq.{bytes_eq-Decides}
-use Rattle.pgb_outside.specs.Content.{Name, set_at, at, SameBut}
+use Rattle.pgb_outside.specs.Content.{Name, at, SameBut}
 use Rattle.pgb_outside.specs.Tree.{Held, file, Nodes, file_bytes, with_node, longer, lengthened_file, moved_node, ChangesTree, ChangesFile}
 use Rattle.pgb_model.specs.Text.{Text}
 use Rattle.pgb_command.specs.Getting.{HasFile, IsPut, ChangesPath, temporary_path}

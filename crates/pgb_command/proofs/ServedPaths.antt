@@ -1,5 +1,5 @@
 -- The path below the data folder.
-use Rattle.std.proofs.Common.{◌≡◌, ◌∙◌, sym, refl, ap, subst, ◌++◌, ◌∷◌, [], ℕ, ◌+◌, List, length, length-append, drop, Bool, true, false, string_bytes, arith, append_assoc}
+use Rattle.std.proofs.Common.{◌≡◌, ◌∙◌, sym, refl, ap, ◌++◌, ◌∷◌, [], ℕ, ◌+◌, length, length-append, drop, Bool, true, false}
 use Rattle.std.specs.Prelude.{◌≢◌, codes, if◌then◌else◌}
 use Rattle.std.proofs.lemmas.Slice.Eq.{starts_is}
 use Rattle.std.proofs.lemmas.Bool.Decides.{Decides-eqb}

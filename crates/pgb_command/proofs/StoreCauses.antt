@@ -31,7 +31,6 @@ use Rattle.pgb_command.specs.declared.fault.ControlFile.TheVariants.{Control as 
 use Rattle.pgb_command.specs.declared.fault.Fault.TheVariants as faults
 use Rattle.pgb_command.specs.Locking.{archive_lock}
 use Rattle.pgb_command.specs.Making.{OpeningCause}
-use Rattle.pgb_command.specs.Asked.{push}
 
 -- the file that was read
 pub has_wal : (nodes mid : Option Nodes) (folder path name : Text) (wal : ArchiveName) (items bytes : Text) → mid ≡ nodes → name ≡ wal_text wal → bytes ≡ items → IsWalPath folder path wal

@@ -1,5 +1,5 @@
 -- The talk that asks a server for its system.
-use Rattle.std.proofs.Common.{◌≡◌, ◌⊎◌, ◌++◌, ℕ, List, [], Option, Some, None, option_map, Result, Ok, Err, inl, inr, refl, sym, ◌∙◌, ap, subst}
+use Rattle.std.proofs.Common.{◌≡◌, ◌⊎◌, ◌++◌, ℕ, List, Option, Some, None, option_map, Result, Ok, Err, inl, inr, refl, sym, subst}
 use Rattle.std.specs.Prelude.{IfSome, IsSomeAnd, IfErr, IsErrAnd, string_bytes}
 use Rattle.std.proofs.lemmas.List.{append_assoc}
 use Rattle.pgb_server.specs.declared.fault.ServerFault.{ServerFault}
@@ -9,7 +9,7 @@ use Rattle.pgb_server.specs.Reads.{Fails, IsOutside}
 use Rattle.pgb_server.specs.Rows.{Refuses, by_talk, by_row, Rows, SystemOutcome}
 use Rattle.pgb_server.specs.Sends.{closing}
 use Rattle.pgb_server.specs.Session.{start_at}
-use Rattle.pgb_server.specs.System.{system_at, Tells, unopened, unanswered, answered}
+use Rattle.pgb_server.specs.System.{system_at, unopened, unanswered, answered}
 use Rattle.pgb_server.specs.Talk.{Taken}
 use Rattle.pgb_outside.specs.Tree.{Nodes}
 use Rattle.pgb_stanza.specs.declared.control.Control.{Control}

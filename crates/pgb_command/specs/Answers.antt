@@ -1,5 +1,5 @@
 -- The status and the output of each answer (own).
-use Rattle.std.specs.Prelude.{◌≡◌, ◌⊎◌, ◌≤◌, ⊤, ℕ, ◌||◌, ◌==◌, nat_lt, List, [], ◌++◌, map, codes, decimal, string_bytes, if◌then◌else◌}
+use Rattle.std.specs.Prelude.{◌⊎◌, ◌≤◌, ⊤, ℕ, ◌||◌, ◌==◌, nat_lt, List, [], ◌++◌, map, codes, decimal, string_bytes, if◌then◌else◌}
 use Rattle.std.specs.List.{flat_map}
 use Rattle.pgb_text.specs.Sum.{sum_text}
 use Rattle.pgb_model.specs.Text.{Text}

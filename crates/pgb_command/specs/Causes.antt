@@ -1,5 +1,5 @@
 -- Why the program gives an answer.
-use Rattle.std.specs.Prelude.{◌≡◌, ◌⊎◌, ℕ, [], List, true, false, Option, Ok, Err, IfSome, string_bytes}
+use Rattle.std.specs.Prelude.{◌≡◌, ◌⊎◌, ℕ, [], List, Option, Ok, Err, IfSome, string_bytes}
 use Rattle.sha1.specs.Sha1.{sha1}
 use Rattle.pgb_outside.specs.Content.{Content}
 use Rattle.pgb_outside.specs.Tree.{Nodes}

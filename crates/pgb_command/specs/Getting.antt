@@ -1,5 +1,5 @@
 -- What archive-get serves, and why it doesn't (pgBackRest command reference, "Archive Get Command").
-use Rattle.std.specs.Prelude.{◌≡◌, ◌≢◌, ◌⊎◌, ◌<◌, ◌+◌, ◌++◌, ℕ, List, [], Option, Some, None, IfSome, IsSome, drop, length, codes, if◌then◌else◌, string_bytes}
+use Rattle.std.specs.Prelude.{◌≡◌, ◌≢◌, ◌⊎◌, ◌<◌, ◌+◌, ◌++◌, List, [], Option, Some, None, IfSome, IsSome, drop, length, codes, if◌then◌else◌, string_bytes}
 use Rattle.sha1.specs.Sha1.{sha1}
 use Rattle.pgb_outside.specs.Content.{Content, Name, at, is_below}
 use Rattle.pgb_outside.specs.Tree.{Nodes, file_bytes}

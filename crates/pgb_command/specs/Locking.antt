@@ -1,5 +1,5 @@
 -- Which lock a command takes (pgBackRest command reference; own which names).
-use Rattle.std.specs.Prelude.{◌≡◌, ◌⊎◌, List, ◌∷◌, ◌++◌, codes, Option, Some, None, option_map, string_bytes}
+use Rattle.std.specs.Prelude.{◌≡◌, ◌⊎◌, List, ◌∷◌, ◌++◌, codes, Option, Some, None, option_map}
 use Rattle.pgb_outside.specs.Moments.{View, Rests}
 use Rattle.pgb_model.specs.Text.{Text}
 use Rattle.pgb_command.specs.Asked.{Asked, Request, create, push, get, info}

@@ -1,5 +1,5 @@
 -- What is told of a command that ended.
-use Rattle.std.specs.Prelude.{[], List, Result, Ok, Err, map, string_bytes}
+use Rattle.std.specs.Prelude.{[], Result, Ok, Err, map, string_bytes}
 use Rattle.pgb_model.specs.Text.{Text}
 use Rattle.pgb_command.specs.declared.fault.Fault.{Fault}
 use Rattle.pgb_command.specs.declared.outcome.Outcome.{Outcome}

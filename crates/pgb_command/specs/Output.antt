@@ -2,7 +2,7 @@
 use Rattle.std.specs.Prelude.{◌≡◌, ◌⊎◌, ℕ, ◌++◌, take, Option, option_map}
 use Rattle.pgb_model.specs.Text.{Text}
 use Rattle.pgb_command.specs.declared.fault.Fault.TheVariants.{Sink, NoMemory}
-use Rattle.pgb_command.specs.Answers.{Ending, finished, refused, Answer, lines_of, error_line}
+use Rattle.pgb_command.specs.Answers.{Ending, refused, Answer, lines_of, error_line}
 
 -- some first part of the bytes was written, where that is told
 pub record IsFrontWritten (old : Option Text) (bytes : Text) (new : Option Text) : Type 0 where

@@ -18,7 +18,6 @@ use Rattle.pgb_stanza.specs.declared.control.Control.{Control}
 use Rattle.pgb_stanza.specs.Pairs.{identity_told, identity_kept, AgreeAt}
 use Rattle.pgb_command.specs.declared.fault.Fault.{Fault}
 use Rattle.pgb_command.specs.declared.fault.Fault.TheVariants.{StanzaMissing, InfoDamaged, StanzaMismatch, Disk, NoMemory}
-use Rattle.pgb_stanza.specs.declared.fault.Identity.{Identity}
 
 -- the archive pair's current cluster
 abbrev pub HasCurrent : Text → Content → ClusterId → Type 0

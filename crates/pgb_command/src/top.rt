@@ -69,7 +69,9 @@ fn perform<D: Disk, T: Tree, V: Wire, K: Locks>(
     ensures refusals_later { K.refusals locks.old ≤ K.refusals locks.new }
 {
     match writing {
-        Writing::StanzaCreate => match create_stanza(alloc, repo, tree, server, locks, settings, lock) {
+        Writing::StanzaCreate => match create_stanza(
+            alloc, repo, tree, server, locks, settings, lock,
+        ) {
             Ok(()) => Ok(Outcome::Silent),
             Err(fault) => Err(fault),
         },

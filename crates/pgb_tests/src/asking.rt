@@ -1,7 +1,7 @@
 // The server that stanza-create asks for its system.
 use crate::fixture::{
-    Around, Folder, MADE, NAMES, NEVER, NOTHING, Room, SAMPLE, Stands, WORDS, holds, listing, output,
-    room, run_with, run_words,
+    Around, Folder, MADE, NAMES, NEVER, NOTHING, Room, SAMPLE, Stands, WORDS, holds, listing,
+    output, room, run_with, run_words,
 };
 use pgb_memory::MemSink;
 use pgb_server::memory::MemWire;
@@ -25,19 +25,15 @@ const SAME: &[u8] = b"R\0\0\0\x08\0\0\0\0S\0\0\0\x18server_version\016.4\0Z\0\0\
 const OTHER: &[u8] = b"R\0\0\0\x08\0\0\0\0Z\0\0\0\x05I\
     T\0\0\0\x06\0\x02D\0\0\0\x29\0\x02\0\0\0\x136917529027641081858\0\0\0\x0816777216C\0\0\0\x0dSELECT 1\0Z\0\0\0\x05I";
 
-const MISMATCH: &str = "ERROR: [047]: control file has system 6917529027641081857, server has system 6917529027641081858\n";
+const MISMATCH: &str =
+    "ERROR: [047]: control file has system 6917529027641081857, server has system 6917529027641081858\n";
 
 // All that is said where the talk goes well.
 const QUESTIONS: &[u8] = b"\0\0\0\x29\0\x03\0\0user\0postgres\0database\0postgres\0\0\
     Q\0\0\0\x95select system_identifier::text, (select setting from pg_catalog.pg_settings where name = 'wal_segment_size') from pg_catalog.pg_control_system()\0\
     X\0\0\0\x04";
 
-fn wire(
-    alloc: Global,
-    input: &[u8],
-    cuts: &[u32],
-    fail: &[u64],
-) -> Result<MemWire, AllocError> {
+fn wire(alloc: Global, input: &[u8], cuts: &[u32], fail: &[u64]) -> Result<MemWire, AllocError> {
     Ok(MemWire::new(
         alloc,
         input.to_vec(alloc)?,
@@ -61,7 +57,11 @@ fn room_of(
 #[test]
 fn a_server_of_this_system(rt: HostRuntime) -> Result<(), Fail> {
     let alloc = rt.alloc();
-    for cuts in [[1u32, 1, 1, 1, 1], [4, 1, 5, 9, 2], [100, 100, 100, 100, 100]] {
+    for cuts in [
+        [1u32, 1, 1, 1, 1],
+        [4, 1, 5, 9, 2],
+        [100, 100, 100, 100, 100],
+    ] {
         let mut room = room_of(alloc, SAMPLE, SAME, &cuts)?;
         assert_eq!(rt; run_words(alloc, &ONLINE, &mut room)?, 0);
         assert_eq!(rt; output(&room), Some(""));
@@ -93,8 +93,16 @@ fn other_answers(rt: HostRuntime) -> Result<(), Fail> {
             49,
             "ERROR: [049]: authentication 5 is not supported\n",
         ),
-        (b"X".as_slice(), 50, "ERROR: [050]: server byte 0 is not valid\n"),
-        (b"R".as_slice(), 51, "ERROR: [051]: server ended after 1 bytes\n"),
+        (
+            b"X".as_slice(),
+            50,
+            "ERROR: [050]: server byte 0 is not valid\n",
+        ),
+        (
+            b"R".as_slice(),
+            51,
+            "ERROR: [051]: server ended after 1 bytes\n",
+        ),
         (
             b"R\0\0\0\x08\0\0\0\0N\x01\0\0\x01".as_slice(),
             70,
@@ -136,7 +144,10 @@ fn each_call_of_the_connection_fails(rt: HostRuntime) -> Result<(), Fail> {
             break;
         }
         assert_eq!(rt; status, 83, "{call}");
-        assert_eq!(rt; output(&room), Some("ERROR: [083]: server connection failed\n"));
+        assert_eq!(rt;
+            output(&room),
+            Some("ERROR: [083]: server connection failed\n")
+        );
         assert_eq!(rt; listing(alloc, &mut room.repo)?.as_str(), "");
         call = call.saturating_add(1);
     }

@@ -177,12 +177,7 @@ pub(crate) fn room_with<O: Sink + Drop>(
         repo: disk(alloc, held, fails.disk)?,
         spool: NotThere::new(),
         tree: tree(alloc, folder, fails.tree)?,
-        server: MemWire::new(
-            alloc,
-            Vec::new(alloc),
-            Vec::new(alloc),
-            Vec::new(alloc),
-        ),
+        server: MemWire::new(alloc, Vec::new(alloc), Vec::new(alloc), Vec::new(alloc)),
         aside: NotThere::new(),
         clock: NotThere::new(),
         locks: MemLocks::new(alloc, Vec::new(alloc), Vec::new(alloc)),

@@ -1,4 +1,4 @@
-use Rattle.std.proofs.Common.{rules, arith, ◌≡◌, ap, sym, subst, List, Option}
+use Rattle.std.proofs.Common.{rules, arith, subst, List, Option}
 use Rattle.pgb_outside.specs.Content.{Content}
 use Rattle.pgb_outside.specs.Cause.{Rises}
 use Rattle.pgb_model.specs.declared.clusters.ClusterId.{ClusterId}

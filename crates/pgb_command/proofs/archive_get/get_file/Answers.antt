@@ -1,4 +1,4 @@
-use Rattle.std.proofs.Common.{refl, ◌∙◌, sym, subst, Option, Some, ◌≡◌, List, rules}
+use Rattle.std.proofs.Common.{refl, subst, Option, Some, ◌≡◌, rules}
 use Rattle.std.specs.Prelude.{IfSome}
 use Rattle.pgb_outside.specs.Content.{Content}
 use Rattle.pgb_outside.specs.Tree.{Nodes}

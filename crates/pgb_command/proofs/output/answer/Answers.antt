@@ -1,4 +1,4 @@
-use Rattle.std.proofs.Common.{◌∙◌, ap, sym, inl, inr, refl, List, ℕ, rules}
+use Rattle.std.proofs.Common.{◌∙◌, ap, inl, inr, refl, List, ℕ, rules}
 use Rattle.pgb_command.specs.declared.fault.Fault.TheVariants.{Sink, NoMemory as OutOfMemory}
 use Rattle.pgb_command.specs.Answers.{refused, lines_of, error_line}
 use Rattle.pgb_command.specs.Outcomes.{ending_of, answer_of}

@@ -1,5 +1,5 @@
 use Rattle.std.proofs.Common.{◌∙◌, ap, sym, map, string_bytes, true, false}
-use Rattle.pgb_command.specs.Answers.{Answer, status}
+use Rattle.pgb_command.specs.Answers.{status}
 use Rattle.pgb_command.specs.Outcomes.{answer_of}
 use Rattle.pgb_command.proofs.Causes.{told_cause, at_zero, at_finding, served_at_zero, reported_at_zero, missed_at_one, completes}
 use Rattle.pgb_command.proofs.Pushes.{command_keeps, reading_keeps}

@@ -1,4 +1,4 @@
-use Rattle.std.proofs.Common.{◌≡◌, ap, map, string_bytes, true, false, Err}
+use Rattle.std.proofs.Common.{◌≡◌, ap, map, string_bytes, Err}
 use Rattle.pgb_command.specs.declared.outcome.Outcome.{Outcome}
 use Rattle.pgb_options.specs.declared.options.OutputWord.{OutputWord}
 use Rattle.pgb_command.specs.Asked.{Asked, create, info}
@@ -10,7 +10,7 @@ use Rattle.pgb_command.specs.Told.{asked_of}
 use Rattle.pgb_command.proofs.Talks.{none_viewed}
 use Rattle.pgb_command.proofs.Asked.{may_ask, for_asked, ok_as}
 use Rattle.pgb_command.proofs.Doings.{none_part, none_done}
-use Rattle.pgb_command.proofs.Pushes.{finding_all, finding_as}
+use Rattle.pgb_command.proofs.Pushes.{finding_all}
 use Rattle.pgb_command.proofs.Causes.{nothing_as}
 use Rattle.pgb_command.proofs.Served.{refused_as, unknown_as, asking_as}
 use Rattle.pgb_command.proofs.top.serve.Goals as goal
