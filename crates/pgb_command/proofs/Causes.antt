@@ -17,7 +17,7 @@ use Rattle.pgb_command.specs.Answers.{Ending, finished, absent, refused, Answer,
 use Rattle.pgb_command.specs.Causes.{Cause, Refused, Unknown, Asking, Output, Memory}
 use Rattle.pgb_command.specs.Output.{IsFrontWritten, IsTold, Whole, Cut, Starved, Wordless, WroteLines, Wrote}
 use Rattle.pgb_options.specs.declared.options.OutputWord.{OutputWord}
-use Rattle.pgb_command.specs.Asked.{Request, get, info, Asked}
+use Rattle.pgb_command.specs.Asked.{Request, get, report, Asked}
 use Rattle.pgb_command.specs.Doing.{ServesFor, MissesFor, ServedBy}
 use Rattle.pgb_command.specs.Getting.{Serves, IsMissing}
 use Rattle.pgb_command.specs.Reporting.{IsReported}
@@ -325,7 +325,7 @@ module _ (u : List Text) (old new : Option Text) (a : Asked) (repo : Option Cont
       subst (λ (r : Request). ServesFor r x.0 a.stanza a.data_folder repo nodes after) asked x.2
 
   -- and the report of info is told
-  pub reported_at_zero : (result : Result Outcome Fault) (rose : Type 0) (told : Ending) (n : ℕ) → IsTold old (At result u) new rose told → n ≡ status told → n ≡ 0 → (form : OutputWord) → a.request ≡ info form →
+  pub reported_at_zero : (result : Result Outcome Fault) (rose : Type 0) (told : Ending) (n : ℕ) → IsTold old (At result u) new rose told → n ≡ status told → n ≡ 0 → (form : OutputWord) → a.request ≡ report form →
       ServedBy (ending_of result) a repo nodes after → (lines : Text) × IsReported a.stanza form repo lines × (new ≡ more (lines_of (As u (finished lines))) old)
   reported_at_zero result rose told n is same zero form asked h =
       let x = with_lines result rose told n is same zero h in

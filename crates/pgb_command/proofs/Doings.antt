@@ -15,7 +15,7 @@ use Rattle.pgb_command.specs.declared.fault.Fault.TheVariants.{NoMemory}
 use Rattle.pgb_command.specs.declared.outcome.Outcome.{Outcome}
 use Rattle.pgb_options.specs.declared.options.OutputWord.{OutputWord}
 use Rattle.pgb_command.specs.Answers.{Ending, finished, absent, refused}
-use Rattle.pgb_command.specs.Asked.{Request, create, push, get, info, Asked}
+use Rattle.pgb_command.specs.Asked.{Request, create, push, get, report, Asked}
 use Rattle.pgb_command.specs.Causes.{CreateCause, PushFileCause, IsStored, AskedCause, Creating, Talking, Stored, Pushing, Given, Missing, Getting, Reported, Reporting}
 use Rattle.pgb_command.specs.Cluster.{IsClusterOf}
 use Rattle.pgb_command.specs.Commands.{IsPushOf, IsRequestOf, IsCommandOf}
@@ -125,25 +125,25 @@ abbrev pub OnlyReads : Request → Type 0
 OnlyReads create = ⊥
 OnlyReads (push path) = ⊥
 OnlyReads (get name path) = Unit {0}
-OnlyReads (info form) = Unit {0}
+OnlyReads (report form) = Unit {0}
 
 reading_of : (f : Nodes) (folder : Text) (q : Request) (command : Command) → OnlyReads q → IsRequestOf f folder q command → command ≡ Reading
 reading_of f folder create command reads h = absurd reads
 reading_of f folder (push path) command reads h = absurd reads
 reading_of f folder (get name path) command reads h = h
-reading_of f folder (info form) command reads h = h
+reading_of f folder (report form) command reads h = h
 
 heals_none : (stanza : Text) (f : Content) (q : Request) → OnlyReads q → AreHealed q stanza f
 heals_none stanza f create reads = absurd reads
 heals_none stanza f (push path) reads = absurd reads
 heals_none stanza f (get name path) reads = tt
-heals_none stanza f (info form) reads = tt
+heals_none stanza f (report form) reads = tt
 
 makes_none : {P : Type 0} (q : Request) → OnlyReads q → create ≡ q → P
 makes_none create reads e = absurd reads
 makes_none (push path) reads e = absurd reads
 makes_none (get name path) reads e = cc
-makes_none (info form) reads e = cc
+makes_none (report form) reads e = cc
 
 module _ (a : Asked) (q : Request) (reads : OnlyReads q) (nodes : Option Nodes) (old new : View) (is : a.request ≡ q) (rests : Rests old new) (same : new.now ≡ old.now) where
   as_reading : (command : Command) → IsSomeAnd nodes (λ f. IsCommandOf f a command) → command ≡ Reading
@@ -200,7 +200,7 @@ module _ (a : Asked) (name path : Text) (nodes : Option Nodes) (is : a.request �
 
 -- ---- info
 
-module _ (a : Asked) (form : OutputWord) (nodes : Option Nodes) (is : a.request ≡ info form) where
+module _ (a : Asked) (form : OutputWord) (nodes : Option Nodes) (is : a.request ≡ report form) where
   pub report_answer : (result : Result Outcome Fault) (repo : Option Content) (d t l h : Type 0) (p : Option (List ℕ)) (w : Type 0) → IfOk result (λ x. ReportedBy (outcome_ending x) a.stanza form repo) →
       IfErr result (InfoCause a.stanza repo d) → AskedCause a repo nodes d t l h p w (ending_of result)
   report_answer (Ok x) repo d t l h p w told cause = well (outcome_ending x) told
@@ -229,4 +229,4 @@ starved a repo nodes d t l h p w = go a.request refl
     go create is = Creating NoMemory is tt
     go (push path) is = Pushing path NoMemory is (inl tt)
     go (get name path) is = Getting name path NoMemory is tt
-    go (info form) is = Reporting form NoMemory is tt
+    go (report form) is = Reporting form NoMemory is tt

@@ -128,5 +128,5 @@ same_names AsText stanza a b names others same =
     let lines = flat_same (cluster_lines a.current names) (cluster_lines a.current others) (shown_clusters a.current a.history) (λ c at. same_lines a.current names others c (same c (shown_listed a.current a.history c at))) in
     rw lines refl
 same_names AsJson stanza a b names others same =
-    let data = map_same (archive_data names) (archive_data others) a.history (λ c at. same_data names others c (same c at)) in
-    rw data refl
+    let parts = map_same (archive_data names) (archive_data others) a.history (λ c at. same_data names others c (same c at)) in
+    rw parts refl

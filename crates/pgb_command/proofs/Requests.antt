@@ -10,7 +10,7 @@ use Rattle.pgb_command.specs.declared.settings.Writing.{Writing}
 use Rattle.pgb_command.specs.declared.settings.Writing.TheVariants.{StanzaCreate, ArchivePush}
 use Rattle.pgb_command.specs.Answers.{Ending, finished, absent, refused}
 use Rattle.pgb_options.specs.declared.options.OutputWord.{OutputWord}
-use Rattle.pgb_command.specs.Asked.{Request, create, push, info, Asked}
+use Rattle.pgb_command.specs.Asked.{Request, create, push, report, Asked}
 use Rattle.pgb_command.specs.Doing.{ServesFor, MissesFor, ServedBy, OpensFor}
 use Rattle.pgb_command.specs.Getting.{FolderGoes}
 use Rattle.pgb_command.specs.Locking.{lock_name, Locks, TakesLock, OnlyLocked, OnlyUnderLock}
@@ -48,12 +48,12 @@ opens (ArchivePush path) folder place h = h
 pub opens_asked : (q : Asking) (w : Writing) (folder place : Text) → q ≡ Write w → place ≡ folder → OpensFor (request_of q) folder place
 opens_asked q w folder place is h = subst (λ (x : Asking). OpensFor (request_of x) folder place) (sym is) (opens w folder place h)
 
-no_report : {P : Type 0} (w : Writing) (form : OutputWord) → writing_of w ≡ info form → P
-no_report StanzaCreate form e = let h : ◌≡◌ {A = Request} create (info form) = e in cc
-no_report (ArchivePush path) form e = let h : ◌≡◌ {A = Request} (push path.now) (info form) = e in cc
+no_report : {P : Type 0} (w : Writing) (form : OutputWord) → writing_of w ≡ report form → P
+no_report StanzaCreate form e = let h : ◌≡◌ {A = Request} create (report form) = e in cc
+no_report (ArchivePush path) form e = let h : ◌≡◌ {A = Request} (push path.now) (report form) = e in cc
 
 -- a writing command doesn't report
-pub never_reports : {P : Type 0} (q : Asking) (w : Writing) (form : OutputWord) → q ≡ Write w → request_of q ≡ info form → P
+pub never_reports : {P : Type 0} (q : Asking) (w : Writing) (form : OutputWord) → q ≡ Write w → request_of q ≡ report form → P
 never_reports q w form is asked = no_report w form (sym (ap request_of is) ∙ asked)
 
 none_served : (w : Writing) (lines stanza folder : Text) (repo : Option Content) (nodes new : Option Nodes) → ServesFor (writing_of w) lines stanza folder repo nodes new

@@ -43,7 +43,7 @@ pub data Request : Type 0 where
   create : Request
   push : (path : Text) → Request
   get : (name path : Text) → Request
-  info : (form : OutputWord) → Request
+  report : (form : OutputWord) → Request
 
 abbrev pub first_of : List Text → Text
 first_of [] = []
@@ -58,7 +58,7 @@ abbrev pub request_by : Verb → Bool → OutputWord → List Text → Result Re
 request_by StanzaCreate background form given = Ok create
 request_by ArchivePush background form given = if background then Err Background else Ok (push (first_of given))
 request_by ArchiveGet background form given = if background then Err Background else Ok (get (first_of given) (second_of given))
-request_by Info background form given = Ok (info form)
+request_by Info background form given = Ok (report form)
 request_by verb background form given = Err (Command verb)
 
 abbrev pub path_in : Source → Opt → Text

@@ -16,7 +16,7 @@ use Rattle.pgb_options.specs.Settings.{Settled}
 use Rattle.pgb_command.specs.declared.fault.Unbuilt.{Unbuilt}
 use Rattle.pgb_command.specs.declared.fault.Fault.{Fault}
 use Rattle.pgb_command.specs.declared.fault.Fault.TheVariants.{NotBuilt, Held, StanzaMissing, InfoDamaged, HistoryDiffers, StanzaMismatch, ArchiveLost, SegmentMissing, TooLong, HeaderForm, SegmentSize, HeaderMismatch, Ambiguous, Duplicate, Disk, Locks, Sink, NoMemory}
-use Rattle.pgb_command.specs.Asked.{Asked, create, push, get, info, Settles, requested, IsAsked}
+use Rattle.pgb_command.specs.Asked.{Asked, create, push, get, report, Settles, requested, IsAsked}
 use Rattle.pgb_stanza.specs.Pairs.{LacksStanza, HasStanzaOf}
 use Rattle.pgb_command.specs.Making.{MakeCause}
 use Rattle.pgb_command.specs.Configuring.{ConfigCause}
@@ -134,7 +134,7 @@ pub data AskedCause (a : Asked) (repo : Option Content) (nodes : Option Nodes) (
   -- the archive has no such file
   Missing : (name path : Text) → a.request ≡ get name path → IsMissing a.stanza a.data_folder name path repo nodes → AskedCause a repo nodes disk_rose tree_rose lock_rose held pending wire_rose (absent name)
   -- the report is told
-  Reported : (form : OutputWord) (lines : Text) → a.request ≡ info form → IsReported a.stanza form repo lines → AskedCause a repo nodes disk_rose tree_rose lock_rose held pending wire_rose (finished lines)
+  Reported : (form : OutputWord) (lines : Text) → a.request ≡ report form → IsReported a.stanza form repo lines → AskedCause a repo nodes disk_rose tree_rose lock_rose held pending wire_rose (finished lines)
   -- stanza-create is refused
   Creating : (fault : Fault) → a.request ≡ create → CreateCause a.stanza repo nodes disk_rose tree_rose lock_rose held fault → AskedCause a repo nodes disk_rose tree_rose lock_rose held pending wire_rose (refused fault)
   -- the server is refused
@@ -144,7 +144,7 @@ pub data AskedCause (a : Asked) (repo : Option Content) (nodes : Option Nodes) (
   -- archive-get is refused
   Getting : (name path : Text) (fault : Fault) → a.request ≡ get name path → GetFileCause a.stanza a.data_folder name path repo nodes disk_rose tree_rose fault → AskedCause a repo nodes disk_rose tree_rose lock_rose held pending wire_rose (refused fault)
   -- info is refused
-  Reporting : (form : OutputWord) (fault : Fault) → a.request ≡ info form → InfoCause a.stanza repo disk_rose fault → AskedCause a repo nodes disk_rose tree_rose lock_rose held pending wire_rose (refused fault)
+  Reporting : (form : OutputWord) (fault : Fault) → a.request ≡ report form → InfoCause a.stanza repo disk_rose fault → AskedCause a repo nodes disk_rose tree_rose lock_rose held pending wire_rose (refused fault)
 
 -- Why the program answers so, where the server was to tell the bytes that were pending. The counts that may have risen are those of the repository, the data folder, the locks, the locks that were held, the server, the configuration and the output.
 pub data Cause (words : List Text) (files : Option Content) (repo : Option Content) (nodes : Option Nodes) (disk_rose tree_rose lock_rose held : Type 0) (pending : Option (List ℕ)) (wire_rose source_rose sink_rose : Type 0) : Answer → Type 0 where

@@ -9,7 +9,7 @@ use Rattle.pgb_model.specs.Repository.{Repository}
 use Rattle.pgb_model.specs.Stands.{Stands}
 use Rattle.pgb_model.specs.Steps.{Step, Command, StanzaCreate, ArchivePush, Reading, Named, IsPartOf, after, all_of, steps_of}
 use Rattle.pgb_model.specs.Steady.{IsSteady, Moves}
-use Rattle.pgb_command.specs.Asked.{Request, create, push, get, info, Asked}
+use Rattle.pgb_command.specs.Asked.{Request, create, push, get, report, Asked}
 use Rattle.pgb_command.specs.Cluster.{IsClusterOf}
 use Rattle.pgb_command.specs.WalPath.{HasWal}
 
@@ -22,7 +22,7 @@ abbrev pub IsRequestOf : Nodes → Text → Request → Command → Type 0
 IsRequestOf f folder create command = (cluster : Option Cluster) × IsClusterOf f cluster × (command ≡ StanzaCreate cluster)
 IsRequestOf f folder (push path) command = IsPushOf f folder path command
 IsRequestOf f folder (get name path) command = command ≡ Reading
-IsRequestOf f folder (info form) command = command ≡ Reading
+IsRequestOf f folder (report form) command = command ≡ Reading
 
 -- the command, with what the data folder tells of its inputs
 abbrev pub IsCommandOf : Nodes → Asked → Command → Type 0

@@ -9,7 +9,7 @@ use Rattle.pgb_model.specs.Steps.{Command, Reading}
 use Rattle.pgb_model.specs.Steady.{CarriesOn, PassesOnly}
 use Rattle.pgb_model.specs.Now.{HasNewPairs, NowDoes}
 use Rattle.pgb_stanza.specs.Pairs.{LacksStanza, PairsAgree}
-use Rattle.pgb_command.specs.Asked.{Asked, Request, create, push, get, info}
+use Rattle.pgb_command.specs.Asked.{Asked, Request, create, push, get, report}
 use Rattle.pgb_command.specs.Cluster.{IsClusterOf}
 use Rattle.pgb_command.specs.Commands.{IsCommandOf}
 use Rattle.pgb_command.specs.Answers.{Ending, finished, absent, refused}
@@ -28,7 +28,7 @@ abbrev pub AreHealed : Request → Text → Content → Type 0
 AreHealed create stanza f = PairsAgree stanza f
 AreHealed (push path) stanza f = AgreesAtPair stanza f
 AreHealed (get name path) stanza f = Unit {0}
-AreHealed (info form) stanza f = Unit {0}
+AreHealed (report form) stanza f = Unit {0}
 
 -- all of its steps
 pub record AllDone (a : Asked) (nodes : Option Nodes) (old new : View) : Type 0 where
@@ -42,14 +42,14 @@ abbrev pub ServesFor : Request → Text → Text → Text → Option Content →
 ServesFor create lines stanza folder repo nodes new = Unit {0}
 ServesFor (push path) lines stanza folder repo nodes new = Unit {0}
 ServesFor (get name path) lines stanza folder repo nodes new = Serves stanza folder name path repo nodes new
-ServesFor (info form) lines stanza folder repo nodes new = IsReported stanza form repo lines
+ServesFor (report form) lines stanza folder repo nodes new = IsReported stanza form repo lines
 
 -- and where it ends with nothing found the repository hasn't the file
 abbrev pub MissesFor : Request → Text → Text → Option Content → Option Nodes → Type 0
 MissesFor create stanza folder repo nodes = Unit {0}
 MissesFor (push path) stanza folder repo nodes = Unit {0}
 MissesFor (get name path) stanza folder repo nodes = IsMissing stanza folder name path repo nodes
-MissesFor (info form) stanza folder repo nodes = Unit {0}
+MissesFor (report form) stanza folder repo nodes = Unit {0}
 
 abbrev pub ServedBy : Ending → Asked → Option Content → Option Nodes → Option Nodes → Type 0
 ServedBy (finished lines) a repo nodes new = ServesFor a.request lines a.stanza a.data_folder repo nodes new
@@ -61,7 +61,7 @@ abbrev pub OpensFor : Request → Text → Text → Type 0
 OpensFor create folder place = place ≡ folder
 OpensFor (push path) folder place = place ≡ folder
 OpensFor (get name path) folder place = place ≡ folder
-OpensFor (info form) folder place = Unit {0}
+OpensFor (report form) folder place = Unit {0}
 
 -- none of them
 pub record NoneDone (a : Asked) (old new : View) : Type 0 where

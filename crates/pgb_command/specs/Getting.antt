@@ -24,7 +24,7 @@ use Rattle.pgb_archive.specs.Stored.{archived_file, StoresNone}
 use Rattle.pgb_command.specs.declared.fault.Fault.{Fault}
 use Rattle.pgb_command.specs.declared.fault.Fault.TheVariants.{SegmentName, PathOutside, StanzaMissing, InfoDamaged, StanzaMismatch, Ambiguous, SegmentDamaged, TooLong, Disk, NoMemory}
 use Rattle.pgb_command.specs.Answers.{Ending, finished, absent, refused}
-use Rattle.pgb_command.specs.Asked.{Request, create, push, get, info}
+use Rattle.pgb_command.specs.Asked.{Request, create, push, get, report}
 use Rattle.pgb_command.specs.Cluster.{FolderTells, ClusterCause}
 use Rattle.pgb_command.specs.Storing.{id_kept, ValueCause}
 use Rattle.pgb_stanza.specs.Pairs.{identity_kept, identity_told}
@@ -171,7 +171,7 @@ abbrev pub FolderGoes : Text → Text → Request → Option Content → Option 
 FolderGoes stanza folder create repo old new = new ≡ old
 FolderGoes stanza folder (push path) repo old new = new ≡ old
 FolderGoes stanza folder (get name path) repo old new = ChangesPath (served_path folder path) (IsServed stanza folder name path repo old) old new
-FolderGoes stanza folder (info form) repo old new = new ≡ old
+FolderGoes stanza folder (report form) repo old new = new ≡ old
 
 -- ---- why it isn't
 

@@ -2,7 +2,7 @@
 use Rattle.std.specs.Prelude.{◌≡◌, ◌⊎◌, List, ◌∷◌, ◌++◌, codes, Option, Some, None, option_map}
 use Rattle.pgb_outside.specs.Moments.{View, Rests}
 use Rattle.pgb_model.specs.Text.{Text}
-use Rattle.pgb_command.specs.Asked.{Asked, Request, create, push, get, info}
+use Rattle.pgb_command.specs.Asked.{Asked, Request, create, push, get, report}
 
 -- the lock of commands that write backups, and that of commands that write the archive
 abbrev pub backup_lock : Text → Text
@@ -16,7 +16,7 @@ abbrev pub lock_name : Text → Request → Option Text
 lock_name stanza create = Some (backup_lock stanza)
 lock_name stanza (push path) = Some (archive_lock stanza)
 lock_name stanza (get name path) = None
-lock_name stanza (info form) = None
+lock_name stanza (report form) = None
 
 abbrev pub lock_of : Asked → Option Text
 lock_of a = lock_name a.stanza a.request

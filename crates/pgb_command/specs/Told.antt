@@ -9,7 +9,7 @@ use Rattle.pgb_command.specs.declared.settings.Writing.{Writing}
 use Rattle.pgb_command.specs.declared.settings.Writing.TheVariants.{StanzaCreate, ArchivePush}
 use Rattle.pgb_model.specs.Text.{Text}
 use Rattle.pgb_command.specs.Locking.{backup_lock, archive_lock}
-use Rattle.pgb_command.specs.Asked.{Request, create, push, get, info, Asked}
+use Rattle.pgb_command.specs.Asked.{Request, create, push, get, report, Asked}
 
 abbrev pub writing_of : Writing → Request
 writing_of StanzaCreate = create
@@ -23,7 +23,7 @@ writing_lock stanza (ArchivePush path) = archive_lock stanza
 abbrev pub request_of : Asking → Request
 request_of (Write writing) = writing_of writing
 request_of (ArchiveGet name path) = get name.now path.now
-request_of (Info form) = info form
+request_of (Info form) = report form
 
 abbrev pub server_view : code.Server → Server
 server_view s = record { folder = s.folder.now; port = s.port; user = s.user.now; database = s.database.now }

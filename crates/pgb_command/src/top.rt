@@ -7,7 +7,7 @@ ghost use Rattle.pgb_model.specs.Repository.{Stanza};
 ghost use Rattle.pgb_model.specs.Steps.{Command, Reading};
 ghost use Rattle.pgb_model.specs.Steady.{PassesOnly, KeepsOn};
 ghost use Rattle.pgb_model.specs.Now.{HasNewPairs, NowDoes, NowStands};
-ghost use Rattle.pgb_command.specs.Asked.{Asked, create, get, info, MayAsk, Asks};
+ghost use Rattle.pgb_command.specs.Asked.{Asked, create, get, report, MayAsk, Asks};
 ghost use Rattle.pgb_command.specs.Answers.{Ending, finished, Answer, lines_of, status, IsFinding};
 ghost use Rattle.pgb_command.specs.Cluster.{IsClusterOf};
 ghost use Rattle.pgb_command.specs.Commands.{IsCommandOf};
@@ -142,7 +142,7 @@ fn carry<D: Disk, T: Tree, V: Wire, K: Locks>(
     ensures answered { AskedCause (asked_of settings.now) (D.view repo.old).now (T.nodes tree.old) (Rises (D.faults repo.old) (D.faults repo.new)) (Rises (T.faults tree.old) (T.faults tree.new)) (Rises (K.faults locks.old) (K.faults locks.new)) (Rises (K.refusals locks.old) (K.refusals locks.new)) (V.pending server.old) (Rises (V.faults server.old) (V.faults server.new)) (ending_of result) }
     ensures served { ServedBy (ending_of result) (asked_of settings.now) (D.view repo.old).now (T.nodes tree.old) (T.nodes tree.new) }
     ensures places { OnOk result (OpensFor (request_of settings.now.request) settings.now.pg1_path.now (T.place tree.new) × (D.place repo.new ≡ settings.now.repo1_path.now)) }
-    ensures unused { (form : OutputWord) → request_of settings.now.request ≡ info form → (tree.new ≡ tree.old) × (locks.new ≡ locks.old) }
+    ensures unused { (form : OutputWord) → request_of settings.now.request ≡ report form → (tree.new ≡ tree.old) × (locks.new ≡ locks.old) }
     ensures folder { FolderGoes settings.now.stanza.now settings.now.pg1_path.now (request_of settings.now.request) (D.view repo.old).now (T.nodes tree.old) (T.nodes tree.new) }
     ensures nodes { OnNothing result (T.nodes tree.new ≡ T.nodes tree.old) }
     ensures locked { OnOk result (TakesLock settings.now.lock_path.now (lock_of (asked_of settings.now)) (K.took locks.old) (K.took locks.new)) }
@@ -180,7 +180,7 @@ fn serve<D: Disk, T: Tree, V: Wire, K: Locks, I: Source>(
     ensures served { (a : Asked) → Asks (map string_bytes words.now) (I.files config.old) a → ServedBy (ending_of result.ending) a (D.view repo.old).now (T.nodes tree.old) (T.nodes tree.new) }
     ensures unasked { ((a : Asked) → ¬ MayAsk (map string_bytes words.now) (I.files config.old) a) → (repo.new ≡ repo.old) × (tree.new ≡ tree.old) × (locks.new ≡ locks.old) }
     ensures places { OnOk result.ending ((a : Asked) → Asks (map string_bytes words.now) (I.files config.old) a → OpensFor a.request a.data_folder (T.place tree.new) × (D.place repo.new ≡ a.repository)) }
-    ensures unused { (a : Asked) → Asks (map string_bytes words.now) (I.files config.old) a → (form : OutputWord) → a.request ≡ info form → (tree.new ≡ tree.old) × (locks.new ≡ locks.old) }
+    ensures unused { (a : Asked) → Asks (map string_bytes words.now) (I.files config.old) a → (form : OutputWord) → a.request ≡ report form → (tree.new ≡ tree.old) × (locks.new ≡ locks.old) }
     ensures locked { OnOk result.ending ((a : Asked) → Asks (map string_bytes words.now) (I.files config.old) a → TakesLock a.lock_folder (lock_of a) (K.took locks.old) (K.took locks.new)) }
     ensures only_locked { (a : Asked) → Asks (map string_bytes words.now) (I.files config.old) a → OnlyUnderLock a.lock_folder (lock_of a) (K.took locks.old) (K.took locks.new) (D.view repo.old) (D.view repo.new) }
     ensures released { K.taken locks.new ≡ [] }
@@ -270,7 +270,7 @@ pub fn run<
         → (s : Stanza) → IsSome (D.view outside.old.repo).now → NowStands a.stanza (Some s) (D.view outside.old.repo).now → LacksArchived s a.data_folder name path (T.nodes outside.old.tree) }
 
     // At 0 of info the output ends with the report on the stanza.
-    ensures reported { result ≡ 0 → (a : Asked) → Asks (map string_bytes words.now) (I.files outside.old.config) a → (form : OutputWord) → a.request ≡ info form
+    ensures reported { result ≡ 0 → (a : Asked) → Asks (map string_bytes words.now) (I.files outside.old.config) a → (form : OutputWord) → a.request ≡ report form
         → (s : Stanza) → IsSome (D.view outside.old.repo).now → NowStands a.stanza (Some s) (D.view outside.old.repo).now
         → (unknown : List Text) × (lines : Text) × ReportsStanza form a.stanza s lines × (O.written outside.new.out ≡ option_map (λ text. text ++ lines_of (record { unknown = unknown; ending = finished lines })) (O.written outside.old.out)) }
 
@@ -308,7 +308,7 @@ pub fn run<
     // What the command doesn't use stays, and the configuration with it; and so does the data folder, but for a file that is served.
     ensures folder { (T.nodes outside.new.tree ≡ T.nodes outside.old.tree) ⊎ ((a : Asked) × MayAsk (map string_bytes words.now) (I.files outside.old.config) a × FolderGoes a.stanza a.data_folder a.request (D.view outside.old.repo).now (T.nodes outside.old.tree) (T.nodes outside.new.tree)) }
     ensures nodes { IsFinding result → T.nodes outside.new.tree ≡ T.nodes outside.old.tree }
-    ensures unused { (a : Asked) → Asks (map string_bytes words.now) (I.files outside.old.config) a → (form : OutputWord) → a.request ≡ info form → (outside.new.tree ≡ outside.old.tree) × (outside.new.locks ≡ outside.old.locks) }
+    ensures unused { (a : Asked) → Asks (map string_bytes words.now) (I.files outside.old.config) a → (form : OutputWord) → a.request ≡ report form → (outside.new.tree ≡ outside.old.tree) × (outside.new.locks ≡ outside.old.locks) }
     ensures files { I.files outside.new.config ≡ I.files outside.old.config }
     ensures untouched { outside.new ≡ record outside.old { repo = outside.new.repo; tree = outside.new.tree; server = outside.new.server; locks = outside.new.locks; config = outside.new.config; out = outside.new.out } }
     ensures links { links.new ≡ links.old }

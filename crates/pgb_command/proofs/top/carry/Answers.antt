@@ -1,5 +1,5 @@
 use Rattle.std.proofs.Common.{ap}
-use Rattle.pgb_command.specs.Asked.{get, info}
+use Rattle.pgb_command.specs.Asked.{get, report}
 use Rattle.pgb_command.specs.Told.{request_of, asked_of}
 use Rattle.pgb_command.proofs.Causes.{nothing_all}
 use Rattle.pgb_command.proofs.Doings.{read_part, read_all, read_none, got_answer, report_answer, report_serves}
@@ -19,13 +19,13 @@ pub returns-in-ArchiveGet-clause-answered : goal.returns-in-ArchiveGet-clause-an
 returns-in-ArchiveGet-clause-answered g c = got_answer (asked_of c.args.settings.now) c.in-ArchiveGet.name.now c.in-ArchiveGet.path.now (g.T.Tree.nodes c.args.tree.now) (ap request_of c.in-ArchiveGet.is) c.get_file.result _ _ _ _ _ _ _ _ c.get_file.ensures.told c.get_file.ensures.cause
 
 pub returns-in-Info-clause-part : goal.returns-in-Info-clause-part
-returns-in-Info-clause-part g c = read_part (asked_of c.args.settings.now) (info c.in-Info.form) tt (g.T.Tree.nodes c.args.tree.now) (g.D.Disk.view c.args.repo.now) (g.D.Disk.view c.report_stanza.new.repo) (ap request_of c.in-Info.is) c.report_stanza.ensures.time c.report_stanza.ensures.now
+returns-in-Info-clause-part g c = read_part (asked_of c.args.settings.now) (report c.in-Info.form) tt (g.T.Tree.nodes c.args.tree.now) (g.D.Disk.view c.args.repo.now) (g.D.Disk.view c.report_stanza.new.repo) (ap request_of c.in-Info.is) c.report_stanza.ensures.time c.report_stanza.ensures.now
 
 pub returns-in-Info-clause-done : goal.returns-in-Info-clause-done
-returns-in-Info-clause-done g c = all_ok c.report_stanza.result _ (read_all (asked_of c.args.settings.now) (info c.in-Info.form) tt (g.T.Tree.nodes c.args.tree.now) (g.D.Disk.view c.args.repo.now) (g.D.Disk.view c.report_stanza.new.repo) (ap request_of c.in-Info.is) c.report_stanza.ensures.time c.report_stanza.ensures.now)
+returns-in-Info-clause-done g c = all_ok c.report_stanza.result _ (read_all (asked_of c.args.settings.now) (report c.in-Info.form) tt (g.T.Tree.nodes c.args.tree.now) (g.D.Disk.view c.args.repo.now) (g.D.Disk.view c.report_stanza.new.repo) (ap request_of c.in-Info.is) c.report_stanza.ensures.time c.report_stanza.ensures.now)
 
 pub returns-in-Info-clause-none : goal.returns-in-Info-clause-none
-returns-in-Info-clause-none g c = nothing_all c.report_stanza.result _ (read_none (asked_of c.args.settings.now) (info c.in-Info.form) tt (g.T.Tree.nodes c.args.tree.now) (g.D.Disk.view c.args.repo.now) (g.D.Disk.view c.report_stanza.new.repo) (ap request_of c.in-Info.is) c.report_stanza.ensures.time c.report_stanza.ensures.now)
+returns-in-Info-clause-none g c = nothing_all c.report_stanza.result _ (read_none (asked_of c.args.settings.now) (report c.in-Info.form) tt (g.T.Tree.nodes c.args.tree.now) (g.D.Disk.view c.args.repo.now) (g.D.Disk.view c.report_stanza.new.repo) (ap request_of c.in-Info.is) c.report_stanza.ensures.time c.report_stanza.ensures.now)
 
 pub returns-in-Info-clause-answered : goal.returns-in-Info-clause-answered
 returns-in-Info-clause-answered g c = report_answer (asked_of c.args.settings.now) c.in-Info.form (g.T.Tree.nodes c.args.tree.now) (ap request_of c.in-Info.is) c.report_stanza.result _ _ _ _ _ _ _ c.report_stanza.ensures.told c.report_stanza.ensures.cause

@@ -1,7 +1,7 @@
 use Rattle.std.proofs.Common.{◌≡◌, ap, map, string_bytes, Err}
 use Rattle.pgb_command.specs.declared.outcome.Outcome.{Outcome}
 use Rattle.pgb_options.specs.declared.options.OutputWord.{OutputWord}
-use Rattle.pgb_command.specs.Asked.{Asked, create, info}
+use Rattle.pgb_command.specs.Asked.{Asked, create, report}
 use Rattle.pgb_command.specs.Doing.{PartDone, AllDone, NoneDone, ServedBy, OpensFor}
 use Rattle.pgb_command.specs.Locking.{lock_of, TakesLock, OnlyUnderLock}
 use Rattle.pgb_command.specs.Outcomes.{ending_of}
@@ -153,4 +153,4 @@ returns-clause-unused g c =
     let words = map string_bytes c.args.words.now in
     let files = g.I.Source.files c.args.config.now in
     let may = may_ask words files x.0 x.1 (asked_of c.in-Ok-settings_of.settings) (c.in-Ok-settings_of.ensures.asked x.0 x.2) in
-    for_asked words files (λ (a : Asked). (form : OutputWord) → a.request ≡ info form → (c.carry-ending.new.tree ≡ c.args.tree.now) × (c.carry-ending.new.locks ≡ c.args.locks.now)) (asked_of c.in-Ok-settings_of.settings) may c.carry-ending.ensures.unused
+    for_asked words files (λ (a : Asked). (form : OutputWord) → a.request ≡ report form → (c.carry-ending.new.tree ≡ c.args.tree.now) × (c.carry-ending.new.locks ≡ c.args.locks.now)) (asked_of c.in-Ok-settings_of.settings) may c.carry-ending.ensures.unused
