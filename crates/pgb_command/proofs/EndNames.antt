@@ -43,17 +43,17 @@ module _ (stanza : Text) (f : Content) (history : List ClusterId) (c : ClusterId
 
   old_round : (d : ClusterId) (t : Segment) → AreRound (id_kept d) t names → AreRound (id_kept d) t (names ++ further)
   old_round d t round =
-      let (u, at, no) = round.first in
-      let (v, there, none) = round.last in
-      record { first = (u, in_left names further (named (id_kept d) u) at, no); last = (v, in_left names further (named (id_kept d) v) there, none) }
+      let (u, at, clear) = round.first in
+      let (v, there, apart) = round.last in
+      record { first = (u, in_left names further (named (id_kept d) u) at, clear); last = (v, in_left names further (named (id_kept d) v) there, apart) }
 
   new_round : (t : Segment) → StoresWhole stanza (id_kept c) f t → AreRound (id_kept c) t (names ++ further)
   new_round t stored =
-      let (u, at, no) = ends.first t stored in
-      let (v, there, none) = ends.last t stored in
+      let (u, at, clear) = ends.first t stored in
+      let (v, there, apart) = ends.last t stored in
       record {
-        first = (u, in_right names further (named (id_kept c) u) (in_map (named (id_kept c)) found u at), no);
-        last = (v, in_right names further (named (id_kept c) v) (in_map (named (id_kept c)) found v there), none);
+        first = (u, in_right names further (named (id_kept c) u) (in_map (named (id_kept c)) found u at), clear);
+        last = (v, in_right names further (named (id_kept c) v) (in_map (named (id_kept c)) found v there), apart);
       }
 
   more_have : HaveEnds stanza (history ++ c ∷ []) f (names ++ further)

@@ -41,7 +41,7 @@ module _ (path : Text) (IsOf : Text → Type 0) where
     whole = inl (same path (not_temporary path));
   }
 
-  Whole : Option Nodes → Option Nodes → Type 0
+  abbrev Whole : Option Nodes → Option Nodes → Type 0
   Whole old new = (at path new ≡ at path old) ⊎ ((bytes : Text) × IsOf bytes × IfSome new (HasFile path bytes))
 
   whole_on : (old mid new : Option Nodes) → Whole old mid → Whole mid new → Whole old new

@@ -11,6 +11,7 @@ mod Searches
 mod ServedPaths
 mod Folders
 mod Fetches
+mod PairFaults
 mod EntryLines
 mod Ends
 mod ReportNames

@@ -17,7 +17,7 @@ use Rattle.pgb_model.proofs.PushDone.{push_spool}
 use Rattle.pgb_command.specs.declared.fault.Fault.{Fault}
 use Rattle.pgb_command.specs.declared.fault.Fault.TheVariants.{Settings, ConfigMissing, SegmentName, PathOutside, Held, StanzaMissing, InfoDamaged, HistoryDiffers, StanzaMismatch, ArchiveLost, SegmentMissing, TooLong, TooMany, HeaderForm, SegmentSize, HeaderMismatch, Ambiguous, Duplicate, SegmentDamaged, Server, Wire, NotBuilt, ControlMissing, ControlShort, VersionText, VersionUnsupported, Disk, Tree, Locks, Source, Sink, NoMemory}
 use Rattle.pgb_command.specs.Answers.{OnFinding}
-use Rattle.pgb_command.specs.Asked.{Request, create, push, get}
+use Rattle.pgb_command.specs.Asked.{Request, create, push, get, report}
 use Rattle.pgb_command.specs.Commands.{IsPushOf, IsRequestOf, IsPart, Goes, Ends}
 use Rattle.pgb_command.proofs.Carries.{with_spool}
 
@@ -267,14 +267,15 @@ create_keeps stanza None folder command whole old new spool asked carries = absu
 create_keeps stanza (Some f) folder command whole old new spool asked carries = subst (λ (k : Command). KeepsOn stanza k whole old spool new spool) (sym asked.2)
     (with_spool stanza asked.0 whole old new spool (subst (λ (k : Command). CarriesOn stanza k whole old new) asked.2 carries))
 
+read_keeps : (stanza : Text) (nodes : Option Nodes) (command : Command) (whole : Bool) (old new spool : View) → IsSomeAnd nodes (λ f. command ≡ Reading) → CarriesOn stanza command whole old new → KeepsOn stanza command whole old spool new spool
+read_keeps stanza None command whole old new spool is carries = absurd is
+read_keeps stanza (Some f) command whole old new spool is carries = λ q log some keeps. record {
+  repository = carries.keeps q log some keeps.repository;
+  receipts = subst (λ (k : Command). KeepsSpool stanza q (record { command = k; acknowledged = whole } ∷ log) spool) (sym is) (reading_spool stanza whole q log spool keeps.receipts);
+}
+
 pub command_keeps : (stanza : Text) (nodes : Option Nodes) (folder : Text) (request : Request) (command : Command) (whole : Bool) (old new spool : View) → IsSomeAnd nodes (λ f. IsRequestOf f folder request command) → CarriesOn stanza command whole old new → KeepsOn stanza command whole old spool new spool
 command_keeps stanza nodes folder create command whole old new spool asked carries = create_keeps stanza nodes folder command whole old new spool asked carries
 command_keeps stanza nodes folder (push path) command whole old new spool asked carries = push_keeps stanza nodes folder path command whole old new spool asked carries
-command_keeps stanza nodes folder (get name path) command whole old new spool asked carries = read_keeps nodes asked
-  where
-    read_keeps : (nodes : Option Nodes) → IsSomeAnd nodes (λ f. command ≡ Reading) → KeepsOn stanza command whole old spool new spool
-    read_keeps None is = absurd is
-    read_keeps (Some f) is = λ q log some keeps. record {
-      repository = carries.keeps q log some keeps.repository;
-      receipts = subst (λ (k : Command). KeepsSpool stanza q (record { command = k; acknowledged = whole } ∷ log) spool) (sym is) (reading_spool stanza whole q log spool keeps.receipts);
-    }
+command_keeps stanza nodes folder (get name path) command whole old new spool asked carries = read_keeps stanza nodes command whole old new spool asked carries
+command_keeps stanza nodes folder (report form) command whole old new spool asked carries = read_keeps stanza nodes command whole old new spool asked carries

@@ -1,8 +1,8 @@
 -- A report looks at no more of the names than the first and the last segment of each cluster.
-use Rattle.std.proofs.Common.{◌≡◌, inl, inr, List, [], ◌∷◌, ◌++◌, map, flat_map, filter, Bool, true, false, not, Option, Some, None, refl, sym, ap, ap₂, ◌∙◌, subst}
+use Rattle.std.proofs.Common.{◌≡◌, inl, inr, List, [], ◌∷◌, ◌++◌, map, flat_map, filter, Bool, true, false, not, Option, Some, None, refl, sym, ap, ap₂, ◌∙◌, subst, arith}
 use Rattle.std.specs.Prelude.{◌==◌, ◌&&◌, ℕ, cond, if◌then◌else◌}
 use Rattle.std.specs.List.{filter_map}
-use Rattle.std.proofs.lemmas.Grind.{common_steps}
+use Rattle.std.proofs.lemmas.Bool.{and_parts}
 use Rattle.pgb_model.specs.declared.clusters.ClusterId.{ClusterId}
 use Rattle.pgb_model.specs.declared.wal.ArchiveId.{ArchiveId}
 use Rattle.pgb_model.specs.declared.wal.ArchiveName.{ArchiveName}
@@ -28,30 +28,41 @@ cons_as (Some x) xs = x ∷ xs
 
 picked : {X Y : Type 0} (h : X → Option Y) (xs : List X) (y : Y) → In y (filter_map h xs) → (x : X) × In x xs × (h x ≡ Some y)
 picked h [] y at = absurd at
-picked {X} {Y} h (x ∷ xs) y at = go (h x) refl at
+picked {X} {Y} h (x ∷ xs) y at = go (h x) refl (λ i. picked h xs y i) at
   where
-    go : (o : Option Y) → h x ≡ o → In y (cons_as o (filter_map h xs)) → (z : X) × In z (x ∷ xs) × (h z ≡ Some y)
-    go None is i = let (z, there, so) = picked h xs y i in (z, inr there, so)
-    go (Some w) is (inl e) = (x, inl refl, is ∙ ap (λ (v : Y). Some v) (sym e))
-    go (Some w) is (inr i) = let (z, there, so) = picked h xs y i in (z, inr there, so)
+    go : (o : Option Y) → h x ≡ o → (In y (filter_map h xs) → (z : X) × In z xs × (h z ≡ Some y)) → In y (cons_as o (filter_map h xs)) → (z : X) × In z (x ∷ xs) × (h z ≡ Some y)
+    go None is rest i = let (z, there, so) = rest i in (z, inr there, so)
+    go (Some w) is rest (inl e) = (x, inl refl, is ∙ ap (λ (v : Y). Some v) (sym e))
+    go (Some w) is rest (inr i) = let (z, there, so) = rest i in (z, inr there, so)
+
+cons_in : {Y : Type 0} (o : Option Y) (y : Y) (ys : List Y) → In y ys → In y (cons_as o ys)
+cons_in None y ys at = at
+cons_in (Some w) y ys at = inr at
 
 picks : {X Y : Type 0} (h : X → Option Y) (xs : List X) (x : X) (y : Y) → In x xs → h x ≡ Some y → In y (filter_map h xs)
 picks h [] x y at is = absurd at
 picks {X} {Y} h (z ∷ zs) x y (inl e) is = subst (λ (o : Option Y). In y (cons_as o (filter_map h zs))) (sym (ap h (sym e) ∙ is)) (inl refl)
-picks {X} {Y} h (z ∷ zs) x y (inr i) is = go (h z)
-  where
-    go : (o : Option Y) → In y (cons_as o (filter_map h zs))
-    go None = picks h zs x y i is
-    go (Some w) = inr (picks h zs x y i is)
+picks {X} {Y} h (z ∷ zs) x y (inr i) is = cons_in (h z) y (filter_map h zs) (picks h zs x y i is)
 
 abbrev made : ArchiveId → ArchiveName → ArchivedName
 made id name = record { id = id; name = name }
 
+abbrev id_made : ℕ → ℕ → ArchiveId
+id_made version number = record { version = version; number = number }
+
+same_number : (n m : ℕ) → (n == m) ≡ true → n ≡ m
+same_number n m is = grind arith
+
+own_number : (n : ℕ) → (n == n) ≡ true
+own_number n = grind arith
+
 same_id : (a b : ArchiveId) → is_same_id a b ≡ true → a ≡ b
-same_id a b is = grind (common_steps)
+same_id a b is =
+    let parts = and_parts (a.version == b.version) (a.number == b.number) is in
+    ap₂ id_made (same_number a.version b.version parts.0) (same_number a.number b.number parts.1)
 
 own_id : (a : ArchiveId) → is_same_id a a ≡ true
-own_id a = grind (common_steps)
+own_id a = let version = own_number a.version in let number = own_number a.number in rw (version, number) refl
 
 under : (id : ArchiveId) (n : ArchivedName) (s : Segment) → segment_under id n ≡ Some s → n ≡ named id s
 under id n s is = go (is_same_id n.id id) refl n.name refl is
@@ -106,12 +117,12 @@ map_same f g (x ∷ xs) same = ap₂ (λ y ys. y ∷ ys) (same x (inl refl)) (ma
 
 of_filter : {X : Type 0} (test : X → Bool) (xs : List X) (x : X) → In x (filter test xs) → In x xs
 of_filter test [] x at = absurd at
-of_filter {X} test (y ∷ ys) x at = go (test y) at
+of_filter {X} test (y ∷ ys) x at = go (test y) (λ i. of_filter test ys x i) at
   where
-    go : (b : Bool) → In x (cond b (y ∷ filter test ys) (filter test ys)) → In x (y ∷ ys)
-    go true (inl e) = inl e
-    go true (inr i) = inr (of_filter test ys x i)
-    go false i = inr (of_filter test ys x i)
+    go : (b : Bool) → (In x (filter test ys) → In x ys) → In x (cond b (y ∷ filter test ys) (filter test ys)) → In x (y ∷ ys)
+    go true rest (inl e) = inl e
+    go true rest (inr i) = inr (rest i)
+    go false rest i = inr (rest i)
 
 pub of_append : {X : Type 0} (xs ys : List X) (P : X → Type 0) (x : X) → In x (xs ++ ys) → (In x xs → P x) → (In x ys → P x) → P x
 of_append [] ys P x at left right = right at

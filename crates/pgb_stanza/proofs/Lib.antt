@@ -2,7 +2,7 @@ mod Refused
 pub mod Saves
 mod NewStanza
 mod BackupNames
-mod OneBackup
+pub mod OneBackup
 mod Mended
 mod Lengths
 mod Shorter
