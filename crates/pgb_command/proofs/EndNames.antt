@@ -1,8 +1,10 @@
 -- Names that bound what is stored are added cluster by cluster.
-use Rattle.std.proofs.Common.{◌≡◌, inl, inr, List, [], ◌∷◌, ◌++◌, map, Option, Some, None, refl, sym, subst}
+use Rattle.std.proofs.Common.{◌≡◌, ◌<◌, ◌+◌, inl, inr, ℕ, List, [], ◌∷◌, ◌++◌, map, take, length, get_or, Option, Some, None, refl, sym, ap, ◌∙◌, subst}
 use Rattle.std.specs.Prelude.{IfSome}
+use Rattle.std.proofs.lemmas.List.{take_more}
 use Rattle.pgb_outside.specs.Content.{Content}
 use Rattle.pgb_model.specs.declared.clusters.ClusterId.{ClusterId}
+use Rattle.pgb_model.specs.declared.wal.ArchiveId.{ArchiveId}
 use Rattle.pgb_model.specs.declared.wal.Segment.{Segment}
 use Rattle.pgb_model.specs.Text.{Text, In}
 use Rattle.pgb_info.proofs.Numbers.{in_map, map_in}
@@ -71,3 +73,12 @@ pub more_ends : (stanza : Text) (repo : Option Content) (history : List ClusterI
     IfSome repo (λ f. HaveEnds stanza (history ++ c ∷ []) f (names ++ map (named (id_kept c)) found))
 more_ends stanza None history c names found have ends = tt
 more_ends stanza (Some f) history c names found have ends = more_have stanza f history c names found have ends
+
+-- the loop's step
+pub step_ends : (stanza : Text) (repo : Option Content) (all : List ClusterId) (i : ℕ) (x : ClusterId) (id : ArchiveId) (names after : List ArchivedName) (found : List Segment) → i < length all → id ≡ id_kept (get_or all i x) →
+    IfSome repo (λ f. HaveEnds stanza (take i all) f names) → IfSome repo (λ f. AreEnds stanza id f found) → after ≡ names ++ map (named id) found → IfSome repo (λ f. HaveEnds stanza (take (i + 1) all) f after)
+step_ends stanza repo all i x id names after found lt of have ends grown =
+    let c : ClusterId = get_or all i x in
+    let more = more_ends stanza repo (take i all) c names found have (subst (λ (k : ArchiveId). IfSome repo (λ f. AreEnds stanza k f found)) of ends) in
+    subst (λ (h : List ClusterId). IfSome repo (λ f. HaveEnds stanza h f after)) (sym (take_more all i x lt))
+    (subst (λ (n : List ArchivedName). IfSome repo (λ f. HaveEnds stanza (take i all ++ c ∷ []) f n)) (sym (grown ∙ ap (λ (k : ArchiveId). names ++ map (named k) found) of)) more)

@@ -1,6 +1,6 @@
 -- A file is put into the data folder.
 use Rattle.std.proofs.Common.{◌≡◌, inl, inr, ℕ, Option, Some, None, option_map, Result, Ok, Err, refl, ap, sym, ◌∙◌, arith, length, length-append, subst, []}
-use Rattle.std.specs.Prelude.{◌≢◌, ◌⊎◌, IsSome, IfSome, OnOk, codes}
+use Rattle.std.specs.Prelude.{◌≢◌, ◌⊎◌, IsSome, IfSome, codes}
 use Rattle.std.proofs.lemmas.Grind.{common_steps}
 use Rattle.std.proofs.lemmas.Slice.Eq.{bytes_eq-Decides}
 use Rattle.pgb_outside.specs.Content.{Name, at, SameBut}
@@ -124,10 +124,9 @@ module _ (path bytes : Text) where
       (subst (λ (t : Name). ChangesPath path (λ b. b ≡ bytes) old (option_map (moved_node t path) old)) (sym is) (moves old (subst (λ (t : Name). IfSome old (HasFile t bytes)) is has)))
   renames (Err e) temporary old new is has h = none_changes path (λ b. b ≡ bytes) old new h
 
-  pub renamed : {T E : Type 0} (result : Result T E) (temporary : Text) (old new : Option Nodes) → temporary ≡ temporary_path path → IfSome old (HasFile temporary bytes) → ChangesTree result (moved_node temporary path) old new → OnOk result (IfSome new (IsPut path bytes))
-  renamed (Ok x) temporary old new is has h = subst (λ (o : Option Nodes). IfSome o (IsPut path bytes)) (sym h)
+  pub renamed : (temporary : Text) (old new : Option Nodes) → temporary ≡ temporary_path path → IfSome old (HasFile temporary bytes) → new ≡ option_map (moved_node temporary path) old → IfSome new (IsPut path bytes)
+  renamed temporary old new is has h = subst (λ (o : Option Nodes). IfSome o (IsPut path bytes)) (sym h)
       (subst (λ (t : Name). IfSome (option_map (moved_node t path) old) (IsPut path bytes)) (sym is) (puts old (subst (λ (t : Name). IfSome old (HasFile t bytes)) is has)))
-  renamed (Err e) temporary old new is has h = tt
 
 -- what is put there is of the kind that is asked for
 pub changes_as : (path : Text) (P Q : Text → Type 0) (old new : Option Nodes) → ((b : Text) → P b → Q b) → ChangesPath path P old new → ChangesPath path Q old new

@@ -10,6 +10,7 @@ ghost use Rattle.pgb_stanza.specs.Pairs.{HavePairs};
 ghost use Rattle.pgb_archive.specs.Ends.{AreEnds};
 ghost use Rattle.pgb_command.specs.Outcomes.{outcome_ending};
 ghost use Rattle.pgb_command.specs.Making.{OpeningCause};
+ghost use Rattle.pgb_command.specs.Storing.{id_kept};
 ghost use Rattle.pgb_command.specs.Reporting.{report_by, named, HaveEnds, BackupCause, InfoCause, ReportedBy};
 
 use crate::current::read_archive_value;
@@ -77,6 +78,16 @@ fn read_pairs<D: Disk>(alloc: Global, repo: &mut D, stanza: &str) -> Result<Pair
     Ok(Pairs { archive, backup })
 }
 
+// The folder of a cluster's files in the archive.
+fn archive_id(cluster: &ClusterId) -> ArchiveId
+    ensures { result ≡ id_kept cluster.now }
+{
+    ArchiveId {
+        version: cluster.version,
+        number: cluster.id,
+    }
+}
+
 // Stored whole segments under this id that bound all others.
 fn ends_under<D: Disk>(
     alloc: Global,
@@ -131,10 +142,7 @@ fn end_names<D: Disk>(
 {
     let mut names = Vec::new(alloc);
     for cluster in history {
-        let id = ArchiveId {
-            version: cluster.version,
-            number: cluster.id,
-        };
+        let id = archive_id(cluster);
         let segments = ends_under(alloc, repo, stanza, &id)?;
         add_names(&mut names, id, &segments)?;
     }
