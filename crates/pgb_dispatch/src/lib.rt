@@ -1,0 +1,8 @@
+//! Has jobs done by workers, whatever the order of their replies and whichever workers are lost.
+#![tactic(auto)]
+
+mod fault;
+mod hearing;
+mod seats;
+
+pub use fault::{DispatchFault, Lost};
