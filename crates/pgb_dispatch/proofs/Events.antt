@@ -1,6 +1,6 @@
 -- What hearing a frame leaves of a run.
 use Rattle.std.proofs.Common.{ℕ, zero, suc, ◌≡◌, ◌≢◌, ◌<◌, ◌≤◌, ◌+◌, ◌-◌, ◌*◌, ◌^◌, ◌⊎◌, inl, inr, List, [], ◌∷◌, ◌++◌, Bool, true, false, Option, Some, None, Result, Ok, Err, length, map, refl, sym, ap, subst, arith, ◌∙◌, slice_get, slice_set, slice_index_or, set, length-set}
-use Rattle.std.specs.Prelude.{IsSomeAnd, IfOk, IfErr, OnOk, All, option_map, vec_len}
+use Rattle.std.specs.Prelude.{IsSomeAnd, IfOk, IfErr, OnOk, All, min, option_map, vec_len}
 use Rattle.std.proofs.lemmas.List.{length-map, map-set}
 use Rattle.std.proofs.lemmas.Option.{slice_get_within}
 use Rattle.pgb_outside.specs.Cause.{Rises}
@@ -33,7 +33,7 @@ use Rattle.pgb_dispatch.specs.Run.{State, Began, EndedBy, Rests, Replies, LinkGo
 use Rattle.pgb_dispatch.proofs.Counting.{alive, is_busy, is_with, live_set, work_set, work_le, lost_falls}
 use Rattle.pgb_dispatch.proofs.Going.{some_of, some_same, get_some, set_is, set_twice, Moves, going_update, AtBusy, busy_of, only_with, core_same, losses_stay, losses_more}
 
-both_there : (R : LinkState → LinkState → Type 0) (x y : Option LinkState) (s : LinkState) → x ≡ Some s → Both R x y → (u : LinkState) × (y ≡ Some u) × R s u
+pub both_there : (R : LinkState → LinkState → Type 0) (x y : Option LinkState) (s : LinkState) → x ≡ Some s → Both R x y → (u : LinkState) × (y ≡ Some u) × R s u
 both_there R None y s e h = absurd (let f : None ≡ Some s = e in cc)
 both_there R (Some x) None s e h = absurd h
 both_there R (Some x) (Some u) s e h = (u, refl, subst (λ z. R z u) (some_same x s e) h)
@@ -103,6 +103,7 @@ going_more jobs b s t i j g has w core lost =
         kept_is = get_set_same s.kept.kept j w.holds.kept a.goes.kept a.goes.kept_is;
         goes = w.holds.goes;
         faults = w.counts.0 ∙ a.goes.faults;
+        later = subst (λ n. min a.from.jobs (2 ^ 64 - 1) ≤ n) (sym w.counts.1) a.goes.later;
         sent = subst (Rises a.from.jobs) (sym w.counts.1) a.goes.sent;
       }))
 
@@ -133,6 +134,7 @@ going_ended jobs b s t i j all g has w core lost =
       subst (λ x. LinkGoes jobs b (set s.core.jobs j Ended) (set s.kept.kept j w.holds.kept) x i Idle w.next (Some w.now)) f (record {
         drained = w.holds.drained;
         faults = w.counts.0 ∙ a.goes.faults;
+        later = subst (λ n. min a.from.jobs (2 ^ 64 - 1) ≤ n) (sym w.counts.1) a.goes.later;
         sent = λ x y. subst (Rises a.from.jobs) (sym w.counts.1) a.goes.sent;
       }))
 

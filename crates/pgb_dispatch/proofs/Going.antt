@@ -75,6 +75,7 @@ link_stays jobs b places ks i j P o m from a (Busy c) h (Some now) at only n g =
       kept_is = get_set_other ks j c m other ∙ g.kept_is;
       goes = g.goes;
       faults = g.faults;
+      later = g.later;
       sent = g.sent;
     }
 

@@ -2,3 +2,5 @@ pub mod Changes
 pub mod Counting
 pub mod Going
 pub mod Events
+pub mod Given
+pub mod Turns

@@ -1,5 +1,5 @@
 -- A run of jobs over links: what holds at each moment of it. Own.
-use Rattle.std.specs.Prelude.{ℕ, zero, suc, Bool, true, false, ◌≡◌, ◌≢◌, ◌+◌, ◌-◌, ◌*◌, ◌<◌, ◌≤◌, ◌⊎◌, List, [], ◌∷◌, ◌++◌, length, map, Option, Some, None, option_map, IsSomeAnd, Result, Ok, Err, slice_get, slice_set}
+use Rattle.std.specs.Prelude.{ℕ, suc, Bool, true, false, min, ◌≡◌, ◌+◌, ◌-◌, ◌*◌, ◌^◌, ◌<◌, ◌≤◌, ◌⊎◌, List, [], ◌∷◌, ◌++◌, length, map, Option, Some, None, option_map, IsSomeAnd, Result, Ok, Err, slice_get, slice_set}
 use Rattle.std.specs.List.{AllByRecursion}
 use Rattle.pgb_outside.specs.Cause.{Rises}
 use Rattle.pgb_outside.specs.Links.{LinkState, last_five}
@@ -7,7 +7,7 @@ use Rattle.pgb_frame.specs.Frames.{Item, Job, spell}
 use Rattle.pgb_frame.specs.Frames.Frame.{Unread}
 use Rattle.pgb_keep.specs.KeepState.{Kept, KeepState, IsFresh}
 use Rattle.pgb_keep.specs.Lists.{ChangesAt}
-use Rattle.pgb_jobs.specs.Dispatch.{Dispatch, Waits, IsIdle, NoneWaits}
+use Rattle.pgb_jobs.specs.Dispatch.{Dispatch, Waits, IsIdle, NoneWaits, AllEnded}
 use Rattle.pgb_jobs.specs.declared.JobPlace.{JobPlace}
 use Rattle.pgb_jobs.specs.declared.JobPlace.TheVariants.{Waiting, With, Ended}
 use Rattle.pgb_jobs.specs.declared.LinkPlace.{LinkPlace}
@@ -48,6 +48,7 @@ pub record EndedBy (links : List LinkState) (job : Job) (k : Kept) : Type 0 wher
 pub record Rests (b : Began) (count : ℕ) (from now : LinkState) : Type 0 where
   pub drained : IsDrained from.told now.told
   pub faults : now.faults ≡ from.faults
+  pub later : min from.jobs (2 ^ 64 - 1) ≤ now.jobs
   pub sent : b.all ≡ true → length b.links ≤ count → Rises from.jobs now.jobs
 
 -- a busy link replies to its job
@@ -59,6 +60,7 @@ pub record Replies (jobs : List Job) (places : List JobPlace) (ks : List Kept) (
   pub kept_is : slice_get ks j ≡ Some kept
   pub goes : Goes from.told now.told job kept h
   pub faults : now.faults ≡ from.faults
+  pub later : min from.jobs (2 ^ 64 - 1) ≤ now.jobs
   pub sent : Rises from.jobs now.jobs
 
 abbrev pub LinkGoes : List Job → Began → List JobPlace → List Kept → LinkState → ℕ → LinkPlace → Hearing → Option LinkState → Type 0
@@ -134,6 +136,12 @@ pub record Runs (jobs : List Job) (s : State) : Type 0 where
   pub began : Began
   pub going : Going jobs began s
 
+-- some run is at this state, in which each idle link was given a job or none waited
+pub record RunsOn (jobs : List Job) (s : State) : Type 0 where
+  pub began : Began
+  pub all : began.all ≡ true
+  pub going : Going jobs began s
+
 -- each run at the one state goes on to the other
 abbrev pub GoesOn : List Job → State → State → Type 0
 GoesOn jobs s t = (b : Began) → Going jobs b s → Going jobs b t
@@ -198,3 +206,29 @@ HearFault jobs faults.WorkersLost s t = ⊥
 HearFault jobs (faults.Unread j item) s t = (b : Began) → Going jobs b s → UnreadLeaves jobs b j item t.seats
 HearFault jobs faults.Keep s t = Rises s.kept.faults t.kept.faults
 HearFault jobs faults.NoMemory s t = Unit {0}
+
+-- no link is busy
+abbrev pub NoneBusy : Dispatch → Type 0
+NoneBusy core = (l j : ℕ) → slice_get core.links l ≡ Some (Busy j) → ⊥
+
+-- what a turn leaves, where done says whether each job has ended
+pub record Turned (jobs : List Job) (s t : State) (done : Bool) : Type 0 where
+  pub falls : done ≡ false → measure jobs t < measure jobs s
+  pub stays : measure jobs t ≤ measure jobs s
+  pub faults : t.kept.faults ≡ s.kept.faults
+  pub idle : (k : ℕ) → IsIdle t.core k → NoneWaits t.core
+  pub over : done ≡ true → AllEnded t.core.jobs × NoneBusy t.core
+
+-- each link that the run began with is lost, and has its entry
+pub record AllLost (b : Began) (after : List Entry) : Type 0 where
+  pub entries : List Entry
+  pub is : after ≡ b.lost ++ entries
+  pub each : AllByRecursion (IsLoss b.links) entries
+  pub count : length entries ≡ length b.links
+
+-- why a run ended early
+abbrev pub RunFault : List Job → DispatchFault → State → State → Type 0
+RunFault jobs faults.WorkersLost s t = (b : Began) → b.all ≡ true → Going jobs b s → AllLost b t.lost
+RunFault jobs (faults.Unread j item) s t = (b : Began) → b.all ≡ true → Going jobs b s → UnreadLeaves jobs b j item t.seats
+RunFault jobs faults.Keep s t = Rises s.kept.faults t.kept.faults
+RunFault jobs faults.NoMemory s t = Unit {0}

@@ -2,7 +2,9 @@
 #![tactic(auto)]
 
 mod fault;
+mod giving;
 mod hearing;
+mod running;
 mod seats;
 
 pub use fault::{DispatchFault, Lost};
