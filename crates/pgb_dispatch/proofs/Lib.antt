@@ -4,3 +4,4 @@ pub mod Going
 pub mod Events
 pub mod Given
 pub mod Turns
+pub mod Whole

@@ -7,7 +7,7 @@ use Rattle.pgb_frame.specs.Frames.{Item, Job, spell}
 use Rattle.pgb_frame.specs.Frames.Frame.{Unread}
 use Rattle.pgb_keep.specs.KeepState.{Kept, KeepState, IsFresh}
 use Rattle.pgb_keep.specs.Lists.{ChangesAt}
-use Rattle.pgb_jobs.specs.Dispatch.{Dispatch, Waits, IsIdle, NoneWaits, AllEnded}
+use Rattle.pgb_jobs.specs.Dispatch.{Dispatch, Waits, IsIdle, NoneWaits, AllEnded, start}
 use Rattle.pgb_jobs.specs.declared.JobPlace.{JobPlace}
 use Rattle.pgb_jobs.specs.declared.JobPlace.TheVariants.{Waiting, With, Ended}
 use Rattle.pgb_jobs.specs.declared.LinkPlace.{LinkPlace}
@@ -232,3 +232,65 @@ RunFault jobs faults.WorkersLost s t = (b : Began) → b.all ≡ true → Going 
 RunFault jobs (faults.Unread j item) s t = (b : Began) → b.all ≡ true → Going jobs b s → UnreadLeaves jobs b j item t.seats
 RunFault jobs faults.Keep s t = Rises s.kept.faults t.kept.faults
 RunFault jobs faults.NoMemory s t = Unit {0}
+
+-- ---- a whole run
+
+-- those that are there
+abbrev pub somes : {A : Type 0} → List (Option A) → List A
+somes [] = []
+somes (None ∷ xs) = somes xs
+somes (Some x ∷ xs) = x ∷ somes xs
+
+-- a run of all jobs over these links, before any was given
+pub record Starts (jobs : List Job) (links : List LinkState) (s : State) : Type 0 where
+  pub core : s.core ≡ start (length jobs) (length links)
+  pub seats : s.seats ≡ map Some links
+  pub hears : length s.hears ≡ length links
+  pub keeps : s.kept.jobs ≡ jobs
+  pub ready : (i : ℕ) (from : LinkState) → slice_get links i ≡ Some from → IsDrained from.told from.told
+  pub fresh : (j : ℕ) → j < length jobs → IsSomeAnd (slice_get s.kept.kept j) IsFresh
+
+-- each job has ended, with what some link of these read
+abbrev pub AllDone : List Job → List LinkState → List Kept → Type 0
+AllDone jobs links kept = (j : ℕ) (job : Job) → slice_get jobs j ≡ Some job → IsSomeAnd (slice_get kept j) (EndedBy links job)
+
+-- Of these links those that weren't lost are left, in their order. None has anything to give, and each was sent a job where there were as many
+-- jobs as links. Each of the others has its entry, and each entry tells why.
+pub record Left (count : ℕ) (links : List LinkState) (before after : List Entry) (now : List LinkState) : Type 0 where
+  pub seats : List (Option LinkState)
+  pub seat_count : length seats ≡ length links
+  pub now_are : now ≡ somes seats
+  pub rests : (i : ℕ) (from s : LinkState) → slice_get links i ≡ Some from → slice_get seats i ≡ Some (Some s) → Rests (record { links = links; lost = before; all = true }) count from s
+  pub entries : List Entry
+  pub is : after ≡ before ++ entries
+  pub each : AllByRecursion (IsLoss links) entries
+  pub gone : (i : ℕ) → slice_get seats i ≡ Some None → (k : ℕ) × (e : Entry) × (slice_get entries k ≡ Some e) × (e.place ≡ i)
+  pub once : length entries + length now ≡ length links
+
+-- why the jobs weren't done
+abbrev pub JobsFault : List Job → DispatchFault → List LinkState → List Entry → List Entry → ℕ → ℕ → List LinkState → Type 0
+JobsFault jobs faults.WorkersLost links before after old new now = AllLost (record { links = links; lost = before; all = true }) after
+JobsFault jobs (faults.Unread j item) links before after old new now = UnreadLeaves jobs (record { links = links; lost = before; all = true }) j item (map Some now)
+JobsFault jobs faults.Keep links before after old new now = Rises old new
+JobsFault jobs faults.NoMemory links before after old new now = Unit {0}
+
+abbrev pub IsUnread : DispatchFault → Type 0
+IsUnread faults.WorkersLost = ⊥
+IsUnread (faults.Unread j item) = Unit {0}
+IsUnread faults.Keep = ⊥
+IsUnread faults.NoMemory = ⊥
+
+-- what a run begins with
+abbrev pub fresh : List LinkState → List Entry → Began
+fresh links lost = record { links = links; lost = lost; all = false }
+
+abbrev pub begun : List LinkState → List Entry → Began
+begun links lost = record { links = links; lost = lost; all = true }
+
+-- what a run leaves in its seats, by its result
+abbrev pub SeatsLeave : List Job → List LinkState → List Entry → ℕ → DispatchFault → State → Type 0
+SeatsLeave jobs links before old faults.WorkersLost t = AllLost (begun links before) t.lost
+SeatsLeave jobs links before old (faults.Unread j item) t = UnreadLeaves jobs (begun links before) j item t.seats
+SeatsLeave jobs links before old faults.Keep t = Rises old t.kept.faults
+SeatsLeave jobs links before old faults.NoMemory t = Unit {0}
+

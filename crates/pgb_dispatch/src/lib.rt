@@ -5,6 +5,7 @@ mod fault;
 mod giving;
 mod hearing;
 mod running;
+mod seating;
 mod seats;
 
 pub use fault::{DispatchFault, Lost};
