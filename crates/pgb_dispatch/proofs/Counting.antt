@@ -1,5 +1,5 @@
 -- How much is still to be heard, and how many links are live.
-use Rattle.std.proofs.Common.{ℕ, zero, suc, ◌≡◌, ◌<◌, ◌≤◌, ◌+◌, ◌-◌, ◌*◌, List, [], ◌∷◌, Option, Some, None, length, drop, refl, sym, ap, subst, arith, ◌∙◌, slice_get, set}
+use Rattle.std.proofs.Common.{ℕ, zero, suc, ◌≡◌, ◌<◌, ◌≤◌, ◌+◌, ◌*◌, List, [], ◌∷◌, Some, None, length, drop, subst, arith, slice_get, set}
 use Rattle.pgb_frame.specs.Frames.{Item, Job}
 use Rattle.pgb_jobs.specs.declared.JobPlace.{JobPlace}
 use Rattle.pgb_jobs.specs.declared.JobPlace.TheVariants.{Waiting, With, Ended}

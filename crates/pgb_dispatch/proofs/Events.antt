@@ -1,20 +1,17 @@
 -- What hearing a frame leaves of a run.
-use Rattle.std.proofs.Common.{ℕ, zero, suc, ◌≡◌, ◌≢◌, ◌<◌, ◌≤◌, ◌+◌, ◌-◌, ◌*◌, ◌^◌, ◌⊎◌, inl, inr, List, [], ◌∷◌, ◌++◌, Bool, true, false, Option, Some, None, Result, Ok, Err, length, map, refl, sym, ap, subst, arith, ◌∙◌, slice_get, slice_set, slice_index_or, set, length-set}
-use Rattle.std.specs.Prelude.{IsSomeAnd, IfOk, IfErr, OnOk, All, min, option_map, vec_len}
-use Rattle.std.proofs.lemmas.List.{length-map, map-set}
+use Rattle.std.proofs.Common.{ℕ, zero, suc, ◌≡◌, ◌<◌, ◌≤◌, ◌+◌, ◌-◌, ◌*◌, ◌^◌, List, [], ◌∷◌, ◌++◌, true, Option, Some, None, Result, Ok, Err, length, map, refl, sym, ap, subst, arith, ◌∙◌, slice_get, slice_index_or, set, length-set}
+use Rattle.std.specs.Prelude.{IfErr, OnOk, All, min, option_map}
+use Rattle.std.proofs.lemmas.List.{map-set}
 use Rattle.std.proofs.lemmas.Option.{slice_get_within}
 use Rattle.pgb_outside.specs.Cause.{Rises}
-use Rattle.pgb_outside.specs.Links.{LinkState, Told, last_five}
-use Rattle.pgb_frame.specs.Frames.{Item, Job, FitsJob, spell}
+use Rattle.pgb_outside.specs.Links.{LinkState, last_five}
+use Rattle.pgb_frame.specs.Frames.{Job, FitsJob, spell}
 use Rattle.pgb_frame.specs.Frames.Frame.{Unread}
-use Rattle.pgb_keep.specs.KeepState.{Kept, KeepState, IsFresh, Clears}
-use Rattle.pgb_keep.specs.Lists.{ChangesAt}
-use Rattle.pgb_jobs.specs.Dispatch.{Dispatch, Has, IsLowest, after_give, after_end, after_lose}
-use Rattle.pgb_jobs.specs.declared.JobPlace.{JobPlace}
+use Rattle.pgb_keep.specs.KeepState.{Kept, KeepState, Clears}
+use Rattle.pgb_jobs.specs.Dispatch.{Dispatch, after_end, after_lose}
 use Rattle.pgb_jobs.specs.declared.JobPlace.TheVariants.{Waiting, With, Ended}
-use Rattle.pgb_jobs.specs.declared.LinkPlace.{LinkPlace}
 use Rattle.pgb_jobs.specs.declared.LinkPlace.TheVariants.{Idle, Busy, Lost}
-use Rattle.pgb_jobs.proofs.Places.{get_set_same, within, read_has}
+use Rattle.pgb_jobs.proofs.Places.{get_set_same}
 use Rattle.pgb_reply.specs.declared.hearing.Hearing.{Hearing}
 use Rattle.pgb_reply.specs.declared.reply.Verdict.{Verdict}
 use Rattle.pgb_reply.specs.declared.reply.Verdict.TheVariants as verdicts
@@ -22,16 +19,15 @@ use Rattle.pgb_reply.specs.declared.fault.TakeFault.{TakeFault}
 use Rattle.pgb_reply.specs.declared.fault.TakeFault.TheVariants as takes
 use Rattle.pgb_hear.specs.declared.cause.LostCause.{LostCause}
 use Rattle.pgb_reply.specs.Hearings.{IsTold}
-use Rattle.pgb_reply.specs.Reads.{IsSteadyWorker, UnreadBy, AllEnd}
-use Rattle.pgb_reply.specs.Going.{Goes, At, KeptAt, GoesOn as ReplyGoesOn, HasEnded, VerdictHolds, FaultHolds, KeepsCounts, IsUnread, IsDrained, items_cost, job_left}
-use Rattle.pgb_dispatch.specs.declared.fault.Lost.{Lost as Entry}
+use Rattle.pgb_reply.specs.Reads.{IsSteadyWorker, AllEnd}
+use Rattle.pgb_reply.specs.Going.{At, VerdictHolds, FaultHolds, KeepsCounts, IsUnread, job_left}
 use Rattle.pgb_dispatch.specs.declared.fault.DispatchFault.{DispatchFault}
 use Rattle.pgb_dispatch.specs.declared.fault.DispatchFault.TheVariants as faults
 use Rattle.pgb_dispatch.specs.Faults.{IsQuiet}
 use Rattle.pgb_dispatch.specs.Seats.{Both, HearsOver, Hears, FailsOver, HearFails, IsHearing, HeardAt}
-use Rattle.pgb_dispatch.specs.Run.{State, Began, EndedBy, Rests, Replies, LinkGoes, JobGoes, IsLoss, Losses, live, withs, busies, Going, Runs, GoesOn, HearsOn, Changed, Advances, UnreadLeaves, HearFault, total, work, measure}
-use Rattle.pgb_dispatch.proofs.Counting.{alive, is_busy, is_with, live_set, work_set, work_le, lost_falls}
-use Rattle.pgb_dispatch.proofs.Going.{some_of, some_same, get_some, set_is, set_twice, Moves, going_update, AtBusy, busy_of, only_with, core_same, losses_stay, losses_more}
+use Rattle.pgb_dispatch.specs.Run.{State, Began, LinkGoes, Losses, live, Going, Runs, HearsOn, Changed, Advances, UnreadLeaves, HearFault, total, work, measure}
+use Rattle.pgb_dispatch.proofs.Counting.{live_set, work_set, work_le, lost_falls}
+use Rattle.pgb_dispatch.proofs.Going.{some_same, set_twice, Moves, going_update, AtBusy, busy_of, only_with, core_same, losses_stay, losses_more}
 
 pub both_there : (R : LinkState → LinkState → Type 0) (x y : Option LinkState) (s : LinkState) → x ≡ Some s → Both R x y → (u : LinkState) × (y ≡ Some u) × R s u
 both_there R None y s e h = absurd (let f : None ≡ Some s = e in cc)
@@ -95,17 +91,17 @@ going_more jobs b s t i j g has w core lost =
     going_update jobs b s t i j (With i) (With i) (Busy j) (Busy j) (Some w.now) w.next a.goes.kept w.holds.kept g mv has a.goes.place a.goes.kept_is (only_with i) refl
     (subst (λ l. Losses b.links b.lost l (set s.core.links i (Busy j))) (sym lost) (losses_stay b.links b.lost s.lost s.core.links i (Busy j) (Busy j) g.losses has refl refl)) (λ job e. tt)
     (λ from e. let f : a.from ≡ from = some_same a.from from (sym a.from_is ∙ e) in
-      subst (λ x. LinkGoes jobs b (set s.core.jobs j (With i)) (set s.kept.kept j w.holds.kept) x i (Busy j) w.next (Some w.now)) f (record {
-        place = get_set_same s.core.jobs j (With i) (With i) a.goes.place;
-        job = a.goes.job;
-        job_is = a.goes.job_is;
-        kept = w.holds.kept;
-        kept_is = get_set_same s.kept.kept j w.holds.kept a.goes.kept a.goes.kept_is;
-        goes = w.holds.goes;
-        faults = w.counts.0 ∙ a.goes.faults;
-        later = subst (λ n. min a.from.jobs (2 ^ 64 - 1) ≤ n) (sym w.counts.1) a.goes.later;
-        sent = subst (Rises a.from.jobs) (sym w.counts.1) a.goes.sent;
-      }))
+    subst (λ x. LinkGoes jobs b (set s.core.jobs j (With i)) (set s.kept.kept j w.holds.kept) x i (Busy j) w.next (Some w.now)) f (record {
+      place = get_set_same s.core.jobs j (With i) (With i) a.goes.place;
+      job = a.goes.job;
+      job_is = a.goes.job_is;
+      kept = w.holds.kept;
+      kept_is = get_set_same s.kept.kept j w.holds.kept a.goes.kept a.goes.kept_is;
+      goes = w.holds.goes;
+      faults = w.counts.0 ∙ a.goes.faults;
+      later = subst (λ n. min a.from.jobs (2 ^ 64 - 1) ≤ n) (sym w.counts.1) a.goes.later;
+      sent = subst (Rises a.from.jobs) (sym w.counts.1) a.goes.sent;
+    }))
 
 less_work : (jobs : List Job) (s t : State) (j : ℕ) (job : Job) (k m : Kept) → slice_get jobs j ≡ Some job → slice_get s.kept.kept j ≡ Some k → t.kept.kept ≡ set s.kept.kept j m → live t.core.links ≡ live s.core.links → job_left job m < job_left job k → measure jobs t < measure jobs s
 less_work jobs s t j job k m e f h l lt =
@@ -118,7 +114,7 @@ more_advances jobs b s t i j w core = record {
   falls = less_work jobs s t j w.at.goes.job w.at.goes.kept w.holds.kept w.at.goes.job_is w.at.goes.kept_is w.holds.is.kept (ap (λ (d : Dispatch). live d.links) core) w.holds.falls;
   faults = w.holds.is.faults;
   links = ap (λ (d : Dispatch). length d.links) core;
-  }
+}
 
 -- ---- the reply has ended
 
@@ -129,21 +125,21 @@ going_ended jobs b s t i j all g has w core lost =
     going_update jobs b s t i j Ended (With i) Idle (Busy j) (Some w.now) w.next a.goes.kept w.holds.kept g mv has a.goes.place a.goes.kept_is (only_with i) refl
     (subst (λ l. Losses b.links b.lost l (set s.core.links i Idle)) (sym lost) (losses_stay b.links b.lost s.lost s.core.links i (Busy j) Idle g.losses has refl refl))
     (λ job e. let same : a.goes.job ≡ job = some_same a.goes.job job (sym a.goes.job_is ∙ e) in
-      (all, record { link = i; from = a.from; is = a.from_is; items = subst (λ (x : Job). AllEnd a.from.told x.kind x.items w.holds.kept.done) same w.holds.items }))
+    (all, record { link = i; from = a.from; is = a.from_is; items = subst (λ (x : Job). AllEnd a.from.told x.kind x.items w.holds.kept.done) same w.holds.items }))
     (λ from e. let f : a.from ≡ from = some_same a.from from (sym a.from_is ∙ e) in
-      subst (λ x. LinkGoes jobs b (set s.core.jobs j Ended) (set s.kept.kept j w.holds.kept) x i Idle w.next (Some w.now)) f (record {
-        drained = w.holds.drained;
-        faults = w.counts.0 ∙ a.goes.faults;
-        later = subst (λ n. min a.from.jobs (2 ^ 64 - 1) ≤ n) (sym w.counts.1) a.goes.later;
-        sent = λ x y. subst (Rises a.from.jobs) (sym w.counts.1) a.goes.sent;
-      }))
+    subst (λ x. LinkGoes jobs b (set s.core.jobs j Ended) (set s.kept.kept j w.holds.kept) x i Idle w.next (Some w.now)) f (record {
+      drained = w.holds.drained;
+      faults = w.counts.0 ∙ a.goes.faults;
+      later = subst (λ n. min a.from.jobs (2 ^ 64 - 1) ≤ n) (sym w.counts.1) a.goes.later;
+      sent = λ x y. subst (Rises a.from.jobs) (sym w.counts.1) a.goes.sent;
+    }))
 
 pub ended_advances : (jobs : List Job) (b : Began) (s t : State) (i j : ℕ) → slice_get s.core.links i ≡ Some (Busy j) → Heard verdicts.Ended jobs b s i j t.seats t.hears t.kept → t.core ≡ after_end s.core i j → Advances jobs s t
 ended_advances jobs b s t i j has w core = record {
   falls = less_work jobs s t j w.at.goes.job w.at.goes.kept w.holds.kept w.at.goes.job_is w.at.goes.kept_is w.holds.is.kept (ap (λ (d : Dispatch). live d.links) core ∙ (let q = live_set s.core.links i (Busy j) Idle has in omega (arith, q))) w.holds.falls;
   faults = w.holds.is.faults;
   links = ap (λ (d : Dispatch). length d.links) core ∙ length-set s.core.links i Idle;
-  }
+}
 
 -- ---- the link is lost
 

@@ -1,40 +1,32 @@
 -- What giving a job leaves of a run.
-use Rattle.std.proofs.Common.{ℕ, zero, suc, ◌≡◌, ◌≢◌, ◌<◌, ◌≤◌, ◌+◌, ◌-◌, ◌*◌, ◌^◌, ◌⊎◌, inl, inr, List, [], ◌∷◌, ◌++◌, Bool, true, false, Option, Some, None, Result, Ok, Err, length, map, refl, sym, ap, subst, arith, ◌∙◌, slice_get, slice_set, set, length-set}
-use Rattle.std.specs.Prelude.{IsSomeAnd, IfOk, IfErr, OnOk, min, option_map}
-use Rattle.std.specs.List.{flat_map}
+use Rattle.std.proofs.Common.{ℕ, zero, suc, ◌≡◌, ◌<◌, ◌≤◌, ◌+◌, ◌-◌, ◌*◌, ◌^◌, ◌⊎◌, inl, inr, List, [], ◌∷◌, ◌++◌, true, Option, Some, None, Result, Ok, Err, length, refl, sym, ap, subst, arith, ◌∙◌, slice_get, set, length-set}
+use Rattle.std.specs.Prelude.{IsSomeAnd, IfErr, OnOk, min}
 use Rattle.std.proofs.lemmas.Option.{slice_get_within}
 use Rattle.pgb_outside.specs.Cause.{Rises}
-use Rattle.pgb_outside.specs.Content.{Content}
-use Rattle.pgb_outside.specs.Links.{LinkState, Told, Sends, Answers, IsSteady, bumped}
+use Rattle.pgb_outside.specs.Links.{LinkState, Told, Sends, Answers, bumped}
 use Rattle.pgb_outside.specs.declared.stop.Stop.{Stop}
 use Rattle.pgb_outside.specs.declared.stop.Stop.TheVariants as stops
 use Rattle.pgb_model.specs.Text.{Text}
 use Rattle.pgb_frame.specs.Frames.{Item, Job, FitsJob, spell}
 use Rattle.pgb_frame.specs.Frames.Frame.{Task}
-use Rattle.pgb_frame.specs.declared.frames.JobKind.{JobKind}
-use Rattle.pgb_frame.specs.Replies.{replies, reply}
-use Rattle.sha1.specs.Sha1 as sha
 use Rattle.pgb_keep.specs.KeepState.{Kept, KeepState, IsFresh, Clears}
 use Rattle.pgb_keep.specs.Lists.{ChangesAt}
-use Rattle.pgb_jobs.specs.Dispatch.{Dispatch, Waits, IsIdle, IsLowest, NoneWaits, after_give, after_lose}
-use Rattle.pgb_jobs.specs.declared.JobPlace.{JobPlace}
-use Rattle.pgb_jobs.specs.declared.JobPlace.TheVariants.{Waiting, With, Ended}
+use Rattle.pgb_jobs.specs.Dispatch.{Dispatch, IsLowest, NoneWaits, after_give, after_lose}
+use Rattle.pgb_jobs.specs.declared.JobPlace.TheVariants.{Waiting, With}
 use Rattle.pgb_jobs.specs.declared.LinkPlace.{LinkPlace}
 use Rattle.pgb_jobs.specs.declared.LinkPlace.TheVariants.{Idle, Busy, Lost}
 use Rattle.pgb_jobs.proofs.Places.{get_set_same, get_set_cases, within}
-use Rattle.pgb_hear.specs.declared.cause.LostCause.{LostCause}
 use Rattle.pgb_hear.specs.declared.cause.LostCause.TheVariants.{Device}
 use Rattle.pgb_reply.specs.declared.hearing.Hearing.{Hearing}
 use Rattle.pgb_reply.specs.Hearings.{StartsAt}
-use Rattle.pgb_reply.specs.Reads.{Reads, IsSteadyWorker, AllEnd}
-use Rattle.pgb_reply.specs.Going.{Tells, TellsItem, TellsItems, IsDrained, Goes}
+use Rattle.pgb_reply.specs.Reads.{IsSteadyWorker, AllEnd}
+use Rattle.pgb_reply.specs.Going.{TellsItem, TellsItems, IsDrained, Goes}
 use Rattle.pgb_reply.proofs.Told.{tells_first}
-use Rattle.pgb_dispatch.specs.declared.fault.Lost.{Lost as Entry}
 use Rattle.pgb_dispatch.specs.declared.fault.DispatchFault.{DispatchFault}
 use Rattle.pgb_dispatch.specs.Faults.{IsQuiet}
 use Rattle.pgb_dispatch.specs.Seats.{Both, SentOver, SeatSends}
-use Rattle.pgb_dispatch.specs.Run.{State, Began, Rests, Replies, LinkGoes, JobGoes, IsLoss, Losses, live, Going, Runs, GoesOn, Changed, Gave, Settles, total, work, measure}
-use Rattle.pgb_dispatch.proofs.Counting.{alive, live_set, work_le, lost_falls}
+use Rattle.pgb_dispatch.specs.Run.{State, Began, Rests, LinkGoes, JobGoes, Losses, live, Going, Runs, GoesOn, Changed, Gave, Settles, total, work, measure}
+use Rattle.pgb_dispatch.proofs.Counting.{live_set, work_le, lost_falls}
 use Rattle.pgb_dispatch.proofs.Going.{some_of, some_same, get_some, set_is, set_twice, Moves, going_update, losses_stay, losses_more}
 use Rattle.pgb_dispatch.proofs.Events.{both_there}
 
@@ -97,7 +89,7 @@ begin_goes from new job k h (x ∷ xs) e some told fresh starts = record {
   room = omega arith;
   none = λ kind. refl;
   told = subst (λ full. TellsItem job.kind x xs [] full from new) (sym starts.full) (tells_first job.kind x xs from new told);
-  }
+}
 
 bump_rises : (a n m : ℕ) → min a (2 ^ 64 - 1) ≤ n → m ≡ bumped n → Rises a m
 bump_rises a n m le e = omega (arith, le, e)
@@ -127,17 +119,17 @@ going_given jobs b s t i j job frame h g idle given is fits spelled sent hears s
     going_update jobs b s t i j (With i) Waiting (Busy j) Idle (Some u.0) h k.0 k.0 g mv idle given.0.waits k.1 (λ c e. absurd (let f : Waiting ≡ With c = e in cc)) refl
     (subst (λ l. Losses b.links b.lost l (set s.core.links i (Busy j))) (sym lost) (losses_stay b.links b.lost s.lost s.core.links i Idle (Busy j) g.losses idle refl refl)) (λ x e. tt)
     (λ from e. let f : a.from ≡ from = some_same a.from from (sym a.from_is ∙ e) in
-      subst (λ x. LinkGoes jobs b (set s.core.jobs j (With i)) (set s.kept.kept j k.0) x i (Busy j) h (Some u.0)) f (record {
-        place = get_set_same s.core.jobs j (With i) Waiting given.0.waits;
-        job = job;
-        job_is = is;
-        kept = k.0;
-        kept_is = get_set_same s.kept.kept j k.0 k.0 k.1;
-        goes = goes;
-        faults = u.2.faults ∙ a.rests.faults;
-        later = bump_later a.from.jobs a.now.jobs u.0.jobs a.rests.later count;
-        sent = bump_rises a.from.jobs a.now.jobs u.0.jobs a.rests.later count;
-      }))
+    subst (λ x. LinkGoes jobs b (set s.core.jobs j (With i)) (set s.kept.kept j k.0) x i (Busy j) h (Some u.0)) f (record {
+      place = get_set_same s.core.jobs j (With i) Waiting given.0.waits;
+      job = job;
+      job_is = is;
+      kept = k.0;
+      kept_is = get_set_same s.kept.kept j k.0 k.0 k.1;
+      goes = goes;
+      faults = u.2.faults ∙ a.rests.faults;
+      later = bump_later a.from.jobs a.now.jobs u.0.jobs a.rests.later count;
+      sent = bump_rises a.from.jobs a.now.jobs u.0.jobs a.rests.later count;
+    }))
 
 refused_is : (core mid last : Dispatch) (i j : ℕ) → mid ≡ after_give core i j → last ≡ after_lose mid i j → last ≡ record { jobs = set core.jobs j Waiting; links = set core.links i Lost }
 refused_is core mid last i j e f =
@@ -163,7 +155,7 @@ going_refused jobs b s t i j mid frame after g idle given core sent seats hears 
     } in
     going_update jobs b s t i j Waiting Waiting Lost Idle None a.hear k.0 m g mv idle given.0.waits k.1 (λ c e. absurd (let f : Waiting ≡ With c = e in cc)) refl
     (losses_more b.links b.lost s.lost t.lost s.core.links i Idle (record { place = i; cause = Device }) g.losses idle refl lost refl
-      (record { from = a.from; is = a.from_is; unsteady = λ w. u.2 (steady_kept a.from.told a.now.told a.rests.drained w); told = tt }))
+    (record { from = a.from; is = a.from_is; unsteady = λ w. u.2 (steady_kept a.from.told a.now.told a.rests.drained w); told = tt }))
     (λ x e. kept.2.by k.0 k.1) (λ from e. tt)
 
 -- ---- idle links, and what is left
@@ -175,10 +167,14 @@ eq_or (suc a) zero = inr (λ e. omega arith)
 eq_or (suc a) (suc c) = elim (eq_or a c) [ inl e ↦ inl (ap suc e) | inr n ↦ inr (λ e. n (omega arith)) ]
 
 settles_given : (core last : Dispatch) (i j : ℕ) (Q : LinkPlace) → IsLowest core j → last.links ≡ set core.links i Q → (Q ≡ Idle → ⊥) → Settles core last i
-settles_given core last i j Q low e n = inr (j, low.waits, λ k idle. elim (get_set_cases core.links i k Q Idle (ap (λ l. slice_get l k) (sym e) ∙ idle)) [
+settles_given core last i j Q low e n = inr (
+  j,
+  low.waits,
+  λ k idle. elim (get_set_cases core.links i k Q Idle (ap (λ l. slice_get l k) (sym e) ∙ idle)) [
     | inl q ↦ absurd (n (sym q.1))
     | inr q ↦ q
-  ])
+  ],
+)
 
 pub settles_ok : (core next : Dispatch) (i j : ℕ) → IsLowest core j × (next ≡ after_give core i j) → Settles core next i
 settles_ok core next i j given = settles_given core next i j (Busy j) given.0 (ap (λ (d : Dispatch). d.links) given.1) (λ e. cc)
@@ -243,7 +239,7 @@ settles_more old new i s below k lt idle = elim s [
   | inr q ↦
       let r = q.2 k idle in
       absurd (below k (omega (arith, lt, r.0)) r.1 q.0 q.1)
-  ]
+]
 
 pub gave_joins : (jobs : List Job) (s t u : State) → Gave jobs s t → Gave jobs t u → Gave jobs s u
 gave_joins jobs s t u p q = record { falls = omega (arith, p.falls, q.falls); faults = q.faults ∙ p.faults; links = q.links ∙ p.links }

@@ -1,24 +1,20 @@
 -- What each event leaves of a run.
-use Rattle.std.proofs.Common.{ℕ, zero, suc, ◌≡◌, ◌≢◌, ◌<◌, ◌≤◌, ◌+◌, ◌-◌, ◌*◌, ◌^◌, ◌⊎◌, inl, inr, List, [], ◌∷◌, ◌++◌, Bool, true, false, Option, Some, None, Result, Ok, Err, length, map, refl, sym, ap, subst, arith, ◌∙◌, append_assoc, length-append, slice_get, slice_set, set, length-set}
-use Rattle.std.specs.Prelude.{IsSomeAnd, IfOk, IfErr, OnOk, option_map}
+use Rattle.std.proofs.Common.{ℕ, zero, suc, ◌≡◌, ◌<◌, ◌+◌, inl, inr, List, [], ◌∷◌, ◌++◌, Option, Some, None, length, refl, sym, ap, subst, arith, ◌∙◌, append_assoc, length-append, slice_get, set, length-set}
+use Rattle.std.specs.Prelude.{IsSomeAnd}
 use Rattle.std.specs.List.{AllByRecursion}
-use Rattle.std.proofs.lemmas.Option.{slice_get_within}
-use Rattle.pgb_outside.specs.Cause.{Rises}
-use Rattle.pgb_outside.specs.Links.{LinkState, Told}
-use Rattle.pgb_frame.specs.Frames.{Item, Job, FitsJob}
-use Rattle.pgb_keep.specs.KeepState.{Kept, KeepState, IsFresh, Clears}
-use Rattle.pgb_keep.specs.Lists.{ChangesAt}
-use Rattle.pgb_jobs.specs.Dispatch.{Dispatch, Has, IsLowest, after_give, after_end, after_lose}
+use Rattle.pgb_outside.specs.Links.{LinkState}
+use Rattle.pgb_frame.specs.Frames.{Job}
+use Rattle.pgb_keep.specs.KeepState.{Kept}
+use Rattle.pgb_jobs.specs.Dispatch.{Dispatch}
 use Rattle.pgb_jobs.specs.declared.JobPlace.{JobPlace}
-use Rattle.pgb_jobs.specs.declared.JobPlace.TheVariants.{Waiting, With, Ended}
+use Rattle.pgb_jobs.specs.declared.JobPlace.TheVariants.{With}
 use Rattle.pgb_jobs.specs.declared.LinkPlace.{LinkPlace}
 use Rattle.pgb_jobs.specs.declared.LinkPlace.TheVariants.{Idle, Busy, Lost}
 use Rattle.pgb_jobs.proofs.Places.{get_set_same, get_set_other, get_set_cases, within}
 use Rattle.pgb_reply.specs.declared.hearing.Hearing.{Hearing}
-use Rattle.pgb_reply.specs.Going.{Goes, At, KeptAt, GoesOn as ReplyGoesOn, HasEnded, items_cost, job_left}
 use Rattle.pgb_dispatch.specs.declared.fault.Lost.{Lost as Entry}
-use Rattle.pgb_dispatch.specs.Run.{State, Began, EndedBy, Rests, Replies, LinkGoes, JobGoes, IsLoss, Losses, live, withs, busies, Going, Runs, GoesOn, HearsOn, total, work, measure}
-use Rattle.pgb_dispatch.proofs.Counting.{alive, is_busy, is_with, live_set, busies_set, withs_set, work_set, work_le, lost_falls}
+use Rattle.pgb_dispatch.specs.Run.{State, Began, Replies, LinkGoes, JobGoes, IsLoss, Losses, withs, busies, Going}
+use Rattle.pgb_dispatch.proofs.Counting.{alive, is_busy, is_with, live_set, busies_set, withs_set}
 
 -- ---- lists
 
@@ -102,32 +98,32 @@ going_update jobs b s t i j P o Q u seat h k m g mv el ej ek only balance losses
       even = ap withs places ∙ (let w : withs (set s.core.jobs j P) ≡ busies (set s.core.links i Q) = omega (arith, withs_set s.core.jobs j o P ej, busies_set s.core.links i u Q el, g.even, balance) in w) ∙ sym (ap busies links);
       losses = subst (Losses b.links b.lost t.lost) (sym links) losses;
       each_job = λ a job p e w0.
-        let w : slice_get (set s.core.jobs j P) a ≡ Some p = ap (λ l. slice_get l a) (sym places) ∙ w0 in
-        subst (λ l. IsSomeAnd (slice_get l a) (JobGoes b job p)) (sym mv.kept) (elim (get_set_cases s.core.jobs j a P p w) [
-        | inl q ↦
-            subst (λ c. IsSomeAnd (slice_get (set s.kept.kept j m) c) (JobGoes b job p)) (sym q.0)
-            (subst (λ z. IsSomeAnd (slice_get (set s.kept.kept j m) j) (JobGoes b job z)) (sym q.1)
-            (is_some_at (JobGoes b job P) (slice_get (set s.kept.kept j m) j) m (get_set_same s.kept.kept j m k ek) (newjob job (ap (slice_get jobs) (sym q.0) ∙ e))))
-        | inr q ↦ subst (λ z. IsSomeAnd z (JobGoes b job p)) (sym (get_set_other s.kept.kept j a m q.0)) (g.each_job a job p e q.1)
-      ]);
+          let w : slice_get (set s.core.jobs j P) a ≡ Some p = ap (λ l. slice_get l a) (sym places) ∙ w0 in
+          subst (λ l. IsSomeAnd (slice_get l a) (JobGoes b job p)) (sym mv.kept) (elim (get_set_cases s.core.jobs j a P p w) [
+            | inl q ↦
+                subst (λ c. IsSomeAnd (slice_get (set s.kept.kept j m) c) (JobGoes b job p)) (sym q.0)
+                (subst (λ z. IsSomeAnd (slice_get (set s.kept.kept j m) j) (JobGoes b job z)) (sym q.1)
+                (is_some_at (JobGoes b job P) (slice_get (set s.kept.kept j m) j) m (get_set_same s.kept.kept j m k ek) (newjob job (ap (slice_get jobs) (sym q.0) ∙ e))))
+            | inr q ↦ subst (λ z. IsSomeAnd z (JobGoes b job p)) (sym (get_set_other s.kept.kept j a m q.0)) (g.each_job a job p e q.1)
+          ]);
       each_link = λ a p y x w0 v0 z0.
-        let w : slice_get (set s.core.links i Q) a ≡ Some p = ap (λ l. slice_get l a) (sym links) ∙ w0 in
-        let v : slice_get (set s.hears i h) a ≡ Some y = ap (λ l. slice_get l a) (sym mv.hears) ∙ v0 in
-        let z : slice_get (set s.seats i seat) a ≡ Some x = ap (λ l. slice_get l a) (sym mv.seats) ∙ z0 in
-        subst (λ l. IsSomeAnd (slice_get b.links a) (λ f. LinkGoes jobs b l t.kept.kept f a p y x)) (sym places)
-        (subst (λ l. IsSomeAnd (slice_get b.links a) (λ f. LinkGoes jobs b (set s.core.jobs j P) l f a p y x)) (sym mv.kept) (elim (get_set_cases s.core.links i a Q p w) [
-        | inl q ↦
-            let sx : seat ≡ x = some_same seat x (sym (get_set_same s.seats i seat s0.0 s0.1) ∙ ap (slice_get (set s.seats i seat)) (sym q.0) ∙ z) in
-            let hy : h ≡ y = some_same h y (sym (get_set_same s.hears i h h0.0 h0.1) ∙ ap (slice_get (set s.hears i h)) (sym q.0) ∙ v) in
-            subst (λ c. IsSomeAnd (slice_get b.links c) (λ f. LinkGoes jobs b (set s.core.jobs j P) (set s.kept.kept j m) f c p y x)) (sym q.0)
-            (subst (λ c. IsSomeAnd (slice_get b.links i) (λ f. LinkGoes jobs b (set s.core.jobs j P) (set s.kept.kept j m) f i c y x)) (sym q.1)
-            (subst (λ c. IsSomeAnd (slice_get b.links i) (λ f. LinkGoes jobs b (set s.core.jobs j P) (set s.kept.kept j m) f i Q c x)) hy
-            (subst (λ c. IsSomeAnd (slice_get b.links i) (λ f. LinkGoes jobs b (set s.core.jobs j P) (set s.kept.kept j m) f i Q h c)) sx
-            (is_some_at (λ f. LinkGoes jobs b (set s.core.jobs j P) (set s.kept.kept j m) f i Q h seat) (slice_get b.links i) from.0 from.1 (newlink from.0 from.1)))))
-        | inr q ↦
-            let was = some_of (λ (f : LinkState). LinkGoes jobs b s.core.jobs s.kept.kept f a p y x) (slice_get b.links a) (g.each_link a p y x q.1 (sym (get_set_other s.hears i a h q.0) ∙ v) (sym (get_set_other s.seats i a seat q.0) ∙ z)) in
-            is_some_at (λ f. LinkGoes jobs b (set s.core.jobs j P) (set s.kept.kept j m) f a p y x) (slice_get b.links a) was.0 was.1 (link_stays jobs b s.core.jobs s.kept.kept i j P o m was.0 a p y x ej only q.0 was.2)
-      ]));
+          let w : slice_get (set s.core.links i Q) a ≡ Some p = ap (λ l. slice_get l a) (sym links) ∙ w0 in
+          let v : slice_get (set s.hears i h) a ≡ Some y = ap (λ l. slice_get l a) (sym mv.hears) ∙ v0 in
+          let z : slice_get (set s.seats i seat) a ≡ Some x = ap (λ l. slice_get l a) (sym mv.seats) ∙ z0 in
+          subst (λ l. IsSomeAnd (slice_get b.links a) (λ f. LinkGoes jobs b l t.kept.kept f a p y x)) (sym places)
+          (subst (λ l. IsSomeAnd (slice_get b.links a) (λ f. LinkGoes jobs b (set s.core.jobs j P) l f a p y x)) (sym mv.kept) (elim (get_set_cases s.core.links i a Q p w) [
+            | inl q ↦
+                let sx : seat ≡ x = some_same seat x (sym (get_set_same s.seats i seat s0.0 s0.1) ∙ ap (slice_get (set s.seats i seat)) (sym q.0) ∙ z) in
+                let hy : h ≡ y = some_same h y (sym (get_set_same s.hears i h h0.0 h0.1) ∙ ap (slice_get (set s.hears i h)) (sym q.0) ∙ v) in
+                subst (λ c. IsSomeAnd (slice_get b.links c) (λ f. LinkGoes jobs b (set s.core.jobs j P) (set s.kept.kept j m) f c p y x)) (sym q.0)
+                (subst (λ c. IsSomeAnd (slice_get b.links i) (λ f. LinkGoes jobs b (set s.core.jobs j P) (set s.kept.kept j m) f i c y x)) (sym q.1)
+                (subst (λ c. IsSomeAnd (slice_get b.links i) (λ f. LinkGoes jobs b (set s.core.jobs j P) (set s.kept.kept j m) f i Q c x)) hy
+                (subst (λ c. IsSomeAnd (slice_get b.links i) (λ f. LinkGoes jobs b (set s.core.jobs j P) (set s.kept.kept j m) f i Q h c)) sx
+                (is_some_at (λ f. LinkGoes jobs b (set s.core.jobs j P) (set s.kept.kept j m) f i Q h seat) (slice_get b.links i) from.0 from.1 (newlink from.0 from.1)))))
+            | inr q ↦
+                let was = some_of (λ (f : LinkState). LinkGoes jobs b s.core.jobs s.kept.kept f a p y x) (slice_get b.links a) (g.each_link a p y x q.1 (sym (get_set_other s.hears i a h q.0) ∙ v) (sym (get_set_other s.seats i a seat q.0) ∙ z)) in
+                is_some_at (λ f. LinkGoes jobs b (set s.core.jobs j P) (set s.kept.kept j m) f a p y x) (slice_get b.links a) was.0 was.1 (link_stays jobs b s.core.jobs s.kept.kept i j P o m was.0 a p y x ej only q.0 was.2)
+          ]));
     }
 
 -- ---- a busy link
@@ -189,7 +185,7 @@ losses_stay links before after places i u Q l at a c = record {
     | inr q ↦ l.has x q.1
   ];
   count = omega (arith, l.count, live_set places i u Q at, a, c, length-set places i Q);
-  }
+}
 
 -- one more link is lost
 pub losses_more : (links : List LinkState) (before after later : List Entry) (places : List LinkPlace) (i : ℕ) (u : LinkPlace) (e : Entry) → Losses links before after places → slice_get places i ≡ Some u → alive u ≡ 1
@@ -203,4 +199,4 @@ losses_more links before after later places i u e l at a is place loss = record 
     | inr q ↦ let h = l.has x q.1 in (h.0, h.1, get_front l.entries e h.1 h.0 h.2, h.3)
   ];
   count = omega (arith, l.count, live_set places i u Lost at, a, length-set places i Lost, length-append l.entries (e ∷ []));
-  }
+}

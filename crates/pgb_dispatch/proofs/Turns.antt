@@ -1,6 +1,6 @@
 -- What turns leave of a run.
-use Rattle.std.proofs.Common.{ℕ, zero, suc, ◌≡◌, ◌<◌, ◌≤◌, ◌+◌, ◌*◌, List, [], ◌∷◌, Bool, true, false, Option, Some, None, Result, Ok, Err, length, refl, sym, ap, subst, arith, ◌∙◌, slice_get}
-use Rattle.std.specs.Prelude.{IfOk, IfErr, OnOk}
+use Rattle.std.proofs.Common.{ℕ, suc, ◌≡◌, List, [], ◌∷◌, true, false, Some, Result, Ok, Err, length, refl, ap, subst, arith, ◌∙◌, slice_get}
+use Rattle.std.specs.Prelude.{IfErr}
 use Rattle.pgb_frame.specs.Frames.{Job}
 use Rattle.pgb_jobs.specs.Dispatch.{Dispatch, IsIdle, NoneWaits, AllEnded}
 use Rattle.pgb_jobs.specs.declared.JobPlace.{JobPlace}
@@ -10,7 +10,7 @@ use Rattle.pgb_jobs.specs.declared.LinkPlace.TheVariants.{Idle, Busy, Lost}
 use Rattle.pgb_dispatch.specs.declared.fault.DispatchFault.{DispatchFault}
 use Rattle.pgb_dispatch.specs.declared.fault.DispatchFault.TheVariants as faults
 use Rattle.pgb_dispatch.specs.Faults.{IsQuiet}
-use Rattle.pgb_dispatch.specs.Run.{State, Began, live, Going, Runs, GoesOn, HearsOn, Advances, Gave, HearFault, NoneBusy, Turned, AllLost, RunFault, measure}
+use Rattle.pgb_dispatch.specs.Run.{State, Began, live, Going, HearsOn, Advances, Gave, HearFault, NoneBusy, Turned, AllLost, RunFault}
 use Rattle.pgb_dispatch.proofs.Going.{get_some}
 
 pub no_items : {X : Type 0} (xs : List X) → length xs ≡ 0 → xs ≡ []
@@ -48,7 +48,7 @@ all_lost jobs s none b all g = record {
   is = g.losses.is;
   each = g.losses.each;
   count = omega (arith, none, g.losses.count, g.link_count, g.start_count);
-  }
+}
 
 heard_fault : (e : DispatchFault) (jobs : List Job) (s t : State) → HearFault jobs e s t → RunFault jobs e s t
 heard_fault faults.WorkersLost jobs s t h = absurd h

@@ -1,6 +1,6 @@
 -- The beginning and the end of a whole run.
-use Rattle.std.proofs.Common.{ℕ, zero, suc, ◌≡◌, ◌<◌, ◌≤◌, ◌+◌, List, [], ◌∷◌, ◌++◌, Bool, true, false, Option, Some, None, Result, Ok, Err, length, map, replicate, refl, sym, ap, subst, arith, ◌∙◌, append_assoc, length-append, slice_get}
-use Rattle.std.specs.Prelude.{IsSomeAnd, IfOk, IfErr, OnOk, option_map}
+use Rattle.std.proofs.Common.{ℕ, zero, suc, ◌≡◌, ◌<◌, ◌≤◌, List, [], ◌∷◌, ◌++◌, true, false, Option, Some, None, Result, Ok, Err, length, map, replicate, refl, sym, ap, subst, arith, ◌∙◌, append_assoc, slice_get}
+use Rattle.std.specs.Prelude.{IfSome, IsSomeAnd, IfErr, OnOk, option_map}
 use Rattle.std.proofs.lemmas.List.{length-map}
 use Rattle.std.proofs.lemmas.Option.{slice_get_within}
 use Rattle.pgb_outside.specs.Cause.{Rises}
@@ -12,12 +12,15 @@ use Rattle.pgb_jobs.specs.declared.JobPlace.{JobPlace}
 use Rattle.pgb_jobs.specs.declared.JobPlace.TheVariants.{Waiting, With, Ended}
 use Rattle.pgb_jobs.specs.declared.LinkPlace.{LinkPlace}
 use Rattle.pgb_jobs.specs.declared.LinkPlace.TheVariants.{Idle, Busy, Lost}
+use Rattle.pgb_outside.specs.Content.{Content}
+use Rattle.pgb_reply.specs.Reads.{Reads}
+use Rattle.pgb_reply.specs.Going.{IsDrained}
 use Rattle.pgb_reply.specs.declared.hearing.Hearing.{Hearing}
 use Rattle.pgb_dispatch.specs.declared.fault.Lost.{Lost as Entry}
 use Rattle.pgb_dispatch.specs.declared.fault.DispatchFault.{DispatchFault}
 use Rattle.pgb_dispatch.specs.declared.fault.DispatchFault.TheVariants as faults
 use Rattle.pgb_dispatch.specs.Faults.{IsQuiet}
-use Rattle.pgb_dispatch.specs.Run.{State, Began, EndedBy, Rests, Replies, LinkGoes, JobGoes, Losses, live, withs, busies, Going, Runs, RunsOn, GoesOn, HearsOn, NoneBusy, AllLost, RunFault, UnreadLeaves, somes, Starts, AllDone, Left, JobsFault, fresh, begun, SeatsLeave}
+use Rattle.pgb_dispatch.specs.Run.{State, Began, EndedBy, Rests, LinkGoes, JobGoes, live, withs, busies, Going, GoesOn, HearsOn, NoneBusy, RunFault, UnreadLeaves, somes, Starts, AllDone, Left, JobsFault, IsReady, state, fresh, begun, SeatsLeave}
 use Rattle.pgb_dispatch.proofs.Counting.{is_with}
 use Rattle.pgb_dispatch.proofs.Going.{some_of, some_same, is_some_at, get_some}
 
@@ -109,13 +112,13 @@ going_start jobs links s a =
         count = (let n : live s.core.links ≡ length s.core.links = ap live ls ∙ live_all (length links) ∙ sym (ap length ls ∙ length-replicated (length links) Idle) in omega (arith, n));
       };
       each_job = λ j job p is at.
-        let w : p ≡ Waiting = get_replicate (length jobs) j Waiting p (ap (λ x. slice_get x j) (sym places) ∙ at) in
-        subst (λ z. IsSomeAnd (slice_get s.kept.kept j) (JobGoes (fresh links s.lost) job z)) (sym w) (a.fresh j (slice_get_within jobs j job is));
+          let w : p ≡ Waiting = get_replicate (length jobs) j Waiting p (ap (λ x. slice_get x j) (sym places) ∙ at) in
+          subst (λ z. IsSomeAnd (slice_get s.kept.kept j) (JobGoes (fresh links s.lost) job z)) (sym w) (a.fresh j (slice_get_within jobs j job is));
       each_link = λ i p h seat at hat sat.
-        let w : p ≡ Idle = get_replicate (length links) i Idle p (ap (λ x. slice_get x i) (sym ls) ∙ at) in
-        let x = get_map_some links i seat (ap (λ l. slice_get l i) (sym a.seats) ∙ sat) in
-        is_some_at (λ f. LinkGoes jobs (fresh links s.lost) s.core.jobs s.kept.kept f i p h seat) (slice_get links i) x.0 x.1
-        (rests_first links s.lost (length jobs) i x.0 jobs s.core.jobs s.kept.kept h p seat w x.2 refl (record { drained = a.ready i x.0 x.1; faults = refl; later = omega arith; sent = λ e. absurd (let f : false ≡ true = e in cc) }));
+          let w : p ≡ Idle = get_replicate (length links) i Idle p (ap (λ x. slice_get x i) (sym ls) ∙ at) in
+          let x = get_map_some links i seat (ap (λ l. slice_get l i) (sym a.seats) ∙ sat) in
+          is_some_at (λ f. LinkGoes jobs (fresh links s.lost) s.core.jobs s.kept.kept f i p h seat) (slice_get links i) x.0 x.1
+          (rests_first links s.lost (length jobs) i x.0 jobs s.core.jobs s.kept.kept h p seat w x.2 refl (record { drained = a.ready i x.0 x.1; faults = refl; later = omega arith; sent = λ e. absurd (let f : false ≡ true = e in cc) }));
     }
 
 -- ---- each idle link was given a job, or none waits
@@ -194,7 +197,7 @@ all_given jobs links lost s idle g = record {
   each_job = λ j job p is at. jobs_begun links lost job p (slice_get s.kept.kept j) (g.each_job j job p is at);
   each_link = λ i p h seat at hat sat. links_begun jobs links lost s.core.jobs s.kept.kept i p h seat (slice_get links i)
       (λ e le. few_jobs jobs links lost s i g (idle i (at ∙ ap Some e)) (at ∙ ap Some e) le) (g.each_link i p h seat at hat sat);
-  }
+}
 
 -- ---- at the end
 
@@ -279,7 +282,7 @@ links_left jobs links lost s now g none e = record {
   once =
       let n = live_seats s.core.links s.seats g.link_count (λ i p seat a c. (let h = get_some s.hears i (let lt = slice_get_within s.seats i seat c in omega (arith, lt, g.hear_count)) in let from = some_of (λ (f : LinkState). LinkGoes jobs (begun links lost) s.core.jobs s.kept.kept f i p h.0 seat) (slice_get links i) (g.each_link i p h.0 seat a h.1 c) in is_live jobs (begun links lost) s.core.jobs s.kept.kept from.0 i p h.0 seat from.2)) in
       omega (arith, n, ap length e, g.losses.count, g.link_count, g.start_count);
-  }
+}
 
 -- ---- what the functions' clauses say together
 
@@ -316,3 +319,38 @@ run_fault_each (Err e) jobs s m t on idle q h = λ links a. run_leaves e jobs li
 pub give_fails_each : {A : Type 0} (r : Result A DispatchFault) (jobs : List Job) (s t : State) → IfErr r (λ e. IsQuiet e s.kept.faults t.kept.faults) → IfErr r (λ e. (links : List LinkState) → Starts jobs links s → SeatsLeave jobs links s.lost s.kept.faults e t)
 give_fails_each (Ok u) jobs s t h = tt
 give_fails_each (Err e) jobs s t h = λ links a. give_leaves e jobs links s.lost t s.kept.faults h
+
+ready_drained : (told : Option Told) → IfSome told (λ t. (tree repo : Content) → Reads tree repo t → t.pending ≡ []) → IsDrained told told
+ready_drained None h = tt
+ready_drained (Some t) h = ((refl, refl), h)
+
+pub starts_at : {A : Type 0} (f : A → LinkState) (jobs : List Job) (xs : List A) (core : Dispatch) (n m : ℕ) (seats : List (Option A)) (hears : List Hearing) (kept : KeepState) (lost : List Entry)
+    → core ≡ start n m → n ≡ length jobs → m ≡ length xs → seats ≡ map Some xs → length hears ≡ length xs → kept.jobs ≡ jobs
+    → ((i : ℕ) (s : LinkState) → slice_get (map f xs) i ≡ Some s → IsReady s) → ((j : ℕ) → j < length jobs → IsSomeAnd (slice_get kept.kept j) IsFresh)
+    → Starts jobs (map f xs) (state f core seats hears kept lost)
+starts_at f jobs xs core n m seats hears kept lost e en em es eh ek ready empty = record {
+  core = e ∙ ap (λ x. start x m) en ∙ ap (start (length jobs)) (em ∙ sym (length-map xs f));
+  seats = ap (map (option_map f)) es ∙ map_some f xs;
+  hears = eh ∙ sym (length-map xs f);
+  keeps = ek;
+  ready = λ i from is. ready_drained from.told (ready i from is);
+  fresh = empty;
+}
+
+-- the links that are given back
+pub given_back : {A : Type 0} (f : A → LinkState) (links old : List A) (seats : List (Option A)) → old ≡ [] → links ≡ old ++ somes seats → map f links ≡ somes (map (option_map f) seats)
+given_back f links old seats none e = ap (map f) (e ∙ ap (λ l. l ++ somes seats) none) ∙ somes_map f seats
+
+-- the link that couldn't read is given back
+pub unread_back : (jobs : List Job) (b : Began) (j item : ℕ) (seats : List (Option LinkState)) (now : List LinkState) → UnreadLeaves jobs b j item seats → now ≡ somes seats → UnreadLeaves jobs b j item (map Some now)
+unread_back jobs b j item seats now u e = record {
+  now = u.now;
+  is = ap (map Some) (e ∙ ap somes u.is);
+  given = u.given;
+  from = u.from;
+  link = u.link;
+  from_is = u.from_is;
+  job = u.job;
+  job_is = u.job_is;
+  unread = u.unread;
+}

@@ -1,5 +1,5 @@
 -- A run of jobs over links: what holds at each moment of it. Own.
-use Rattle.std.specs.Prelude.{ℕ, suc, Bool, true, false, min, ◌≡◌, ◌+◌, ◌-◌, ◌*◌, ◌^◌, ◌<◌, ◌≤◌, ◌⊎◌, List, [], ◌∷◌, ◌++◌, length, map, Option, Some, None, option_map, IsSomeAnd, Result, Ok, Err, slice_get, slice_set}
+use Rattle.std.specs.Prelude.{ℕ, suc, Bool, true, false, min, ◌≡◌, ◌+◌, ◌-◌, ◌*◌, ◌^◌, ◌<◌, ◌≤◌, ◌⊎◌, List, [], ◌∷◌, ◌++◌, length, map, Option, Some, None, option_map, IfSome, IsSomeAnd, slice_get}
 use Rattle.std.specs.List.{AllByRecursion}
 use Rattle.pgb_outside.specs.Cause.{Rises}
 use Rattle.pgb_outside.specs.Links.{LinkState, last_five}
@@ -14,7 +14,8 @@ use Rattle.pgb_jobs.specs.declared.LinkPlace.{LinkPlace}
 use Rattle.pgb_jobs.specs.declared.LinkPlace.TheVariants.{Idle, Busy, Lost}
 use Rattle.pgb_reply.specs.declared.hearing.Hearing.{Hearing}
 use Rattle.pgb_reply.specs.Hearings.{IsTold}
-use Rattle.pgb_reply.specs.Reads.{IsSteadyWorker, UnreadBy, AllEnd}
+use Rattle.pgb_outside.specs.Content.{Content}
+use Rattle.pgb_reply.specs.Reads.{Reads, IsSteadyWorker, UnreadBy, AllEnd}
 use Rattle.pgb_reply.specs.Going.{Goes, IsDrained, items_cost, job_left}
 use Rattle.pgb_dispatch.specs.declared.fault.Lost.{Lost as Entry}
 use Rattle.pgb_dispatch.specs.declared.fault.DispatchFault.{DispatchFault}
@@ -294,3 +295,6 @@ SeatsLeave jobs links before old (faults.Unread j item) t = UnreadLeaves jobs (b
 SeatsLeave jobs links before old faults.Keep t = Rises old t.kept.faults
 SeatsLeave jobs links before old faults.NoMemory t = Unit {0}
 
+-- a link that reads any files has nothing to give
+abbrev pub IsReady : LinkState → Type 0
+IsReady s = IfSome s.told (λ t. (tree repo : Content) → Reads tree repo t → t.pending ≡ [])

@@ -4,8 +4,10 @@
 mod fault;
 mod giving;
 mod hearing;
+mod jobs;
 mod running;
 mod seating;
 mod seats;
 
 pub use fault::{DispatchFault, Lost};
+pub use jobs::run_jobs;

@@ -25,11 +25,7 @@ fn send_seat<L: Link>(seat: &mut Option<L>, frame: &[u8]) -> Result<(), Stop>
 
 /// Sends a frame over the link of a number.
 #[tactic(auto, using(crate::proofs::Changes::changes_at))]
-pub(crate) fn send_at<L: Link>(
-    seats: &mut Vec<Option<L>>,
-    i: u32,
-    frame: &[u8],
-) -> Result<(), Stop>
+pub(crate) fn send_at<L: Link>(seats: &mut Vec<Option<L>>, i: u32, frame: &[u8]) -> Result<(), Stop>
     requires { i < vec_len seats.old }
     ensures length { vec_len seats.new ≡ vec_len seats.old }
     ensures states { ChangesAt (SeatSends result frame.now) (map (option_map L.link_state) seats.old.items) (map (option_map L.link_state) seats.new.items) i }

@@ -1,10 +1,8 @@
-use Rattle.std.proofs.Common.{◌≡◌, ◌<◌, map, length, refl, arith, sym, ap, ◌∙◌, rules}
-use Rattle.std.specs.Prelude.{option_map, IfErr}
+use Rattle.std.proofs.Common.{◌<◌, length, arith, ◌∙◌}
+use Rattle.std.specs.Prelude.{option_map}
 use Rattle.std.proofs.lemmas.List.{length-map}
 use Rattle.pgb_jobs.proofs.Places.{within}
 use Rattle.pgb_jobs.specs.declared.LinkPlace.TheVariants.{Idle}
-use Rattle.pgb_frame.specs.Views.{job_of}
-use Rattle.pgb_dispatch.specs.Run.{state}
 use Rattle.pgb_dispatch.proofs.Given.{gave_joins, settles_more}
 use Rattle.pgb_dispatch.proofs.giving.give_all.Goals as goal
 
@@ -18,7 +16,7 @@ pub give_idle-requires-clause-runs : goal.give_idle-requires-clause-runs
 give_idle-requires-clause-runs g c = record {
   began = c.requires.runs.began;
   going = c.loop-i.invariant.going c.requires.runs.began c.requires.runs.going;
-  }
+}
 
 pub loop-i-preserved : goal.loop-i-preserved
 loop-i-preserved g c = record {
@@ -28,7 +26,7 @@ loop-i-preserved g c = record {
   going = λ b go. c.in_ok-give_idle.ensures.going b (c.loop-i.invariant.going b go);
   gave = gave_joins _ _ _ _ c.loop-i.invariant.gave c.in_ok-give_idle.ensures.gave;
   idle = settles_more _ _ _ c.in_ok-give_idle.ensures.settles c.loop-i.invariant.idle;
-  }
+}
 
 pub returns-clause-idle : goal.returns-clause-idle
 returns-clause-idle g c = λ k idle.

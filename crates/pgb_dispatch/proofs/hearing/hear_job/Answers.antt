@@ -1,5 +1,5 @@
-use Rattle.std.proofs.Common.{◌≡◌, ◌<◌, length, map, refl, sym, arith, rules}
-use Rattle.std.specs.Prelude.{option_map, vec_len}
+use Rattle.std.proofs.Common.{◌<◌, length, map, refl, arith}
+use Rattle.std.specs.Prelude.{option_map}
 use Rattle.std.proofs.lemmas.List.{length-map}
 use Rattle.pgb_frame.specs.Views.{job_of}
 use Rattle.pgb_reply.specs.declared.reply.Verdict.TheVariants as verdicts

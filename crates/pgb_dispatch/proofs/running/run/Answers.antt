@@ -1,4 +1,4 @@
-use Rattle.std.proofs.Common.{◌≡◌, ◌∙◌, map, rules}
+use Rattle.std.proofs.Common.{◌∙◌}
 use Rattle.pgb_dispatch.proofs.running.run.Goals as goal
 
 pub turns-preserved : goal.turns-preserved
@@ -10,4 +10,4 @@ turns-preserved g c = record {
   faults = c.in-Ok.ensures.turned.faults ∙ c.turns.invariant.faults;
   idle = c.in-Ok.ensures.turned.idle;
   over = c.in-Ok.ensures.turned.over;
-  }
+}
