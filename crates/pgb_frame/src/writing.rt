@@ -73,7 +73,8 @@ fn framed(alloc: Global, kind: u8, body: &[u8]) -> Result<Vec<u8>, NoMemory>
     Ok(out)
 }
 
-fn encode_job(alloc: Global, job: &Job) -> Result<Vec<u8>, NoMemory>
+/// The one spelling of a job's frame.
+pub fn encode_job(alloc: Global, job: &Job) -> Result<Vec<u8>, NoMemory>
     requires { FitsJob (job_of job.now) }
     ensures { IfOk result (λ v. v.items ≡ spell (Task (job_of job.now))) }
 {
