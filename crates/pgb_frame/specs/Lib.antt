@@ -2,3 +2,8 @@ pub mod Frames
 pub mod Replies
 pub mod Views
 pub mod Reading
+pub mod Writing
+pub mod Answers
+pub mod Opening
+pub mod Hearing
+pub mod Serving

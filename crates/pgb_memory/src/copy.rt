@@ -1,5 +1,5 @@
 // Reading a part of some bytes.
-ghost use Rattle.std.specs.Prelude.{◌≡◌, ◌≤◌, ◌-◌, length, min};
+ghost use Rattle.std.specs.Prelude.{◌≡◌, ◌<◌, ◌≤◌, ◌+◌, ◌-◌, ◌^◌, length, min};
 ghost use Rattle.pgb_outside.specs.Content.{ReadsPart};
 
 /// Copies bytes from a place on, as many as there is room for.
@@ -7,6 +7,7 @@ pub(crate) fn copy_part(bytes: &[u8], at: u64, buf: &mut [u8]) -> usize
     ensures part { ReadsPart bytes.now at (length buf.old) buf.new result }
     ensures count { result ≡ min (length bytes.now - at) (length buf.old) }
     ensures room { result ≤ length buf.old }
+    ensures within { at + result < 2 ^ 64 }
 {
     if at >= bytes.len() as u64 {
         return 0;

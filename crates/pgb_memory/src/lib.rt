@@ -6,6 +6,7 @@ mod change;
 mod copy;
 mod disk;
 mod failing;
+mod files;
 mod held;
 mod image;
 mod locks;
@@ -18,6 +19,7 @@ mod trace;
 mod tree;
 
 pub use disk::MemDisk;
+pub use files::MemFiles;
 pub use image::ImageFault;
 pub use locks::MemLocks;
 pub use named::named_bytes;

@@ -43,3 +43,5 @@ mod settings;
 mod storing;
 #[cfg(test)]
 mod texts;
+#[cfg(test)]
+mod workers;

@@ -3,8 +3,10 @@
 
 mod disk;
 mod faults;
+mod files;
 mod handles;
 mod help;
+mod input;
 mod locks;
 mod pieces;
 mod place;
@@ -19,9 +21,12 @@ mod walk;
 mod wire;
 
 use disk::RealDisk;
+use files::RealFiles;
 use help::asked_for;
+use input::RealInput;
 use locks::RealLocks;
 use pgb_command::{Outside, run};
+use pgb_frame::serve;
 use pgb_outside::{Link, NotThere};
 use sink::RealSink;
 use source::RealSource;
@@ -44,10 +49,30 @@ fn main(rt: HostRuntime) -> ExitCode {
         Err(e) if e.kind() == ErrorKind::OutOfMemory => return ExitCode::from(NO_MEMORY),
         Err(_) => return ExitCode::from(NOT_UTF8),
     };
+    if is_worker(&words) {
+        return ExitCode::from(work(rt));
+    }
     match asked_for(rt.alloc(), &words) {
         Ok(Some(text)) => ExitCode::from(show(rt, &text)),
         Ok(None) => ExitCode::from(status_of(rt, &words)),
         Err(_) => ExitCode::from(NO_MEMORY),
+    }
+}
+
+// The program starts itself with this word.
+fn is_worker(words: &[String]) -> bool {
+    words.first().is_some_and(|word| word.as_str() == "local")
+}
+
+// Serves the parent that started it, over standard input and output.
+fn work(rt: HostRuntime) -> u8 {
+    let mut input = RealInput::new(rt);
+    let mut out = RealSink::new(rt);
+    let mut tree = RealFiles::new(rt);
+    let mut repo = RealFiles::new(rt);
+    match serve(rt.alloc(), &mut input, &mut out, &mut tree, &mut repo) {
+        Ok(_) => 0,
+        Err(_) => 1,
     }
 }
 

@@ -24,15 +24,33 @@ impl Place {
         Place { rt, root }
     }
 
+    // Takes a folder as the root, and answers whether it is there.
+    fn take(&mut self, path: &str) -> io::Result<bool>
+        ensures { OnOk result (string_bytes self.new.root ≡ path.now) }
+    {
+        self.root = String::from_str(self.rt.alloc(), path)?;
+        Ok(is_folder(&self.rt, path))
+    }
+
     /// Takes a folder as the root, and makes it where it is absent.
     pub fn open(&mut self, path: &str) -> io::Result<()>
         ensures { OnOk result (string_bytes self.new.root ≡ path.now) }
     {
-        self.root = String::from_str(self.rt.alloc(), path)?;
-        if is_folder(&self.rt, path) {
+        if self.take(path)? {
             Ok(())
         } else {
             make_durable(&self.rt, path)
+        }
+    }
+
+    /// Takes a folder that is there as the root.
+    pub fn enter(&mut self, path: &str) -> io::Result<()>
+        ensures { OnOk result (string_bytes self.new.root ≡ path.now) }
+    {
+        if self.take(path)? {
+            Ok(())
+        } else {
+            Err(io::Error::from(ErrorKind::NotFound))
         }
     }
 

@@ -1,0 +1,154 @@
+// The files of a root in memory.
+ghost use Rattle.std.specs.Prelude.{◌≡◌, ◌<◌, ◌≤◌, ◌+◌, ◌^◌, [], Some, IfOk, IfSome, OnOk, OnErr, length, string_bytes};
+ghost use Rattle.pgb_outside.specs.Cause.{HasCause};
+ghost use Rattle.pgb_outside.specs.Content.{Reads};
+ghost use Rattle.pgb_memory.specs.Agrees.{bytes_at};
+ghost use Rattle.pgb_memory.specs.State.{given_at};
+ghost use Rattle.pgb_memory.specs.Counts.{is_to_fail, counted, FailsWhere};
+
+use crate::copy::copy_part;
+use crate::failing::Failing;
+use crate::held::names_of;
+use pgb_outside::{Files, Stop};
+use std::alloc::{AllocError, Global};
+use std::collections::BTreeMap;
+
+/// Files with their bytes, the same below every root. A read gives as many bytes as fit.
+#[derive(Drop)]
+pub struct MemFiles {
+    alloc: Global,
+    names: BTreeMap<String, Vec<u8>>,
+    place: String,
+    failing: Failing,
+}
+
+impl MemFiles {
+    /// Files with these names; of a name that is given twice the last one counts. `fail` has the numbers of the calls
+    /// that are to fail, the first being 0.
+    pub fn new(
+        alloc: Global,
+        files: Vec<(String, Vec<u8>)>,
+        fail: Vec<u64>,
+    ) -> Result<Self, AllocError>
+        ensures files { IfOk result (λ f. ⟦<MemFiles as Files>⟧.files f ≡ Some (given_at files.items)) }
+        ensures place { IfOk result (λ f. ⟦<MemFiles as Files>⟧.place f ≡ []) }
+        ensures counts { IfOk result (λ f. f.failing ≡ record { fail = fail; calls = 0; faults = 0; misuses = 0 }) }
+    {
+        Ok(MemFiles {
+            alloc,
+            names: names_of(alloc, &files)?,
+            place: String::new(alloc),
+            failing: Failing::new(fail),
+        })
+    }
+
+    /// The place that was opened last.
+    pub fn place(&self) -> &str
+        ensures { result.now ≡ ⟦<MemFiles as Files>⟧.place self.now }
+    {
+        &self.place
+    }
+
+    /// How often a call failed.
+    pub fn faults(&self) -> u64
+        ensures { result ≡ ⟦<MemFiles as Files>⟧.faults self.now }
+    {
+        self.failing.faults()
+    }
+}
+
+impl Files for MemFiles {
+    ghost files = { λ f. Some (bytes_at f.names) };
+
+    ghost faults = { λ f. f.failing.faults };
+
+    ghost place = { λ f. string_bytes f.place };
+
+    fn open(&mut self, root: &str) -> Result<(), Stop>
+        ensures place { OnOk result (string_bytes self.new.place ≡ root.now) }
+        ensures same { OnErr result (string_bytes self.new.place ≡ string_bytes self.old.place) }
+        ensures names { self.new.names ≡ self.old.names }
+        ensures fails { FailsWhere (is_to_fail self.old.failing) result }
+        ensures counts { self.new.failing ≡ counted self.old.failing }
+        ensures cause { HasCause self.old.failing.faults self.new.failing.faults result }
+    {
+        if self.failing.fails() {
+            return Err(Stop::Failed);
+        }
+        self.place = String::from_str(self.alloc, root)?;
+        Ok(())
+    }
+
+    fn read(&mut self, name: &str, at: u64, buf: &mut [u8]) -> Result<Option<usize>, Stop>
+        ensures bytes { IfOk result (λ n. Reads (bytes_at self.old.names name.now) at (length buf.old) buf.new n) }
+        ensures room { IfOk result (λ n. IfSome n (λ n. n ≤ length buf.old)) }
+        ensures within { IfOk result (λ n. IfSome n (λ n. at + n < 2 ^ 64)) }
+        ensures names { self.new.names ≡ self.old.names }
+        ensures place { string_bytes self.new.place ≡ string_bytes self.old.place }
+        ensures fails { FailsWhere (is_to_fail self.old.failing) result }
+        ensures counts { self.new.failing ≡ counted self.old.failing }
+        ensures cause { HasCause self.old.failing.faults self.new.failing.faults result }
+    {
+        if self.failing.fails() {
+            return Err(Stop::Failed);
+        }
+        match self.names.get(name) {
+            Some(bytes) => Ok(Some(copy_part(bytes, at, buf))),
+            None => Ok(None),
+        }
+    }
+}
+
+#[cfg(test)]
+mod tests {
+    use super::*;
+    use crate::named_bytes;
+    use std::test::Fail;
+
+    // What a read of so many bytes at a place gives.
+    fn read<F: Files>(
+        alloc: Global,
+        files: &mut F,
+        name: &str,
+        at: u64,
+        room: usize,
+    ) -> Result<Option<String>, Stop> {
+        let mut buf = vec![in alloc; 0; room]?;
+        let Some(n) = files.read(name, at, &mut buf)? else {
+            return Ok(None);
+        };
+        let mut text = String::new(alloc);
+        for byte in buf.iter().take(n) {
+            text.push(char::from(*byte))?;
+        }
+        Ok(Some(text))
+    }
+
+    #[test]
+    fn reads_at_places(rt: HostRuntime) -> Result<(), Fail> {
+        let alloc = rt.alloc();
+        let given = named_bytes(
+            alloc,
+            &[("base/1", b"old"), ("empty", b""), ("base/1", b"abc")],
+        )?;
+        let mut files = MemFiles::new(alloc, given, vec![in alloc; 1]?)?;
+        assert_eq!(rt; files.open("/data"), Ok(()));
+        assert_eq!(rt; files.open("/other"), Err(Stop::Failed));
+        assert_eq!(rt; files.place(), "/data");
+        assert_eq!(rt; files.faults(), 1);
+        let rows = [
+            ("base/1", 0, 2, Some("ab")),
+            ("base/1", 2, 2, Some("c")),
+            ("base/1", 3, 2, Some("")),
+            ("base/1", u64::MAX, 2, Some("")),
+            ("base/1", 0, 0, Some("")),
+            ("empty", 0, 2, Some("")),
+            ("base", 0, 2, None),
+        ];
+        for (name, at, room, expected) in rows {
+            let got = read(alloc, &mut files, name, at, room)?;
+            assert_eq!(rt; got.as_deref(), expected, "{name} at {at}");
+        }
+        Ok(())
+    }
+}

@@ -1,0 +1,71 @@
+// The files that a worker reads, on the system's files.
+ghost use Rattle.std.specs.Prelude.{◌≡◌, ◌<◌, ◌≤◌, ◌+◌, ◌^◌, None, IfOk, IfSome, length, string_bytes};
+
+use crate::faults::Faults;
+use crate::handles::Handles;
+use crate::place::Place;
+use pgb_outside::{Files, Stop};
+use std::io;
+use std::io::ErrorKind;
+
+/// Files below a folder of the system. It tells nothing of what they hold.
+#[derive(Drop)]
+pub struct RealFiles {
+    place: Place,
+    handles: Handles,
+    faults: Faults,
+}
+
+impl RealFiles {
+    pub fn new(rt: HostRuntime) -> Self
+        ensures { result.faults.count ≡ 0 }
+    {
+        RealFiles {
+            place: Place::new(rt),
+            handles: Handles::new(),
+            faults: Faults::new(),
+        }
+    }
+}
+
+impl Files for RealFiles {
+    ghost files = { λ _. None };
+
+    ghost faults = { λ f. f.faults.count };
+
+    ghost place = { λ f. string_bytes f.place.root };
+
+    fn open(&mut self, root: &str) -> Result<(), Stop> {
+        self.handles.forget();
+        let done = self.place.enter(root);
+        self.faults.told(done)
+    }
+
+    fn read(&mut self, name: &str, at: u64, buf: &mut [u8]) -> Result<Option<usize>, Stop> {
+        let done = read_file(&self.place, &mut self.handles, name, at, buf);
+        self.faults.told(done)
+    }
+}
+
+// What isn't a file is absent.
+fn read_file(
+    place: &Place,
+    handles: &mut Handles,
+    name: &str,
+    at: u64,
+    buf: &mut [u8],
+) -> io::Result<Option<usize>>
+    ensures room { IfOk result (λ n. IfSome n (λ n. n ≤ length buf.old)) }
+    ensures within { IfOk result (λ n. IfSome n (λ n. at + n < 2 ^ 64)) }
+{
+    if !handles.goes_on(name, at) && !place.is_file(name)? {
+        return Ok(None);
+    }
+    let Some(count) = handles.read(place, name, at, buf)? else {
+        return Ok(None);
+    };
+    if at.checked_add(count as u64).is_none() {
+        return Err(io::Error::from(ErrorKind::InvalidInput));
+    }
+    Ok(Some(count))
+}

@@ -1,0 +1,59 @@
+// The standard input.
+ghost use Rattle.std.specs.Prelude.{◌≡◌, ◌≤◌, [], None, IfOk, length};
+
+use crate::faults::Faults;
+use pgb_outside::{Source, Stop};
+use std::io;
+use std::io::{ErrorKind, Read};
+
+/// It is read from where it stands, and can't be opened. It tells nothing of what it holds.
+#[derive(Drop)]
+pub struct RealInput {
+    rt: HostRuntime,
+    faults: Faults,
+}
+
+impl RealInput {
+    pub fn new(rt: HostRuntime) -> Self
+        ensures { result.faults.count ≡ 0 }
+    {
+        RealInput {
+            rt,
+            faults: Faults::new(),
+        }
+    }
+}
+
+impl Source for RealInput {
+    ghost files = { λ _. None };
+
+    ghost left = { λ _. None };
+
+    ghost place = { λ _. [] };
+
+    ghost faults = { λ s. s.faults.count };
+
+    fn open(&mut self, _path: &str) -> Result<bool, Stop> {
+        self.faults
+            .told(Err(io::Error::from(ErrorKind::Unsupported)))
+    }
+
+    fn read(&mut self, buf: &mut [u8]) -> Result<usize, Stop> {
+        let done = read_some(&self.rt, buf);
+        self.faults.told(done)
+    }
+}
+
+// Reads again where a signal came.
+fn read_some(rt: &HostRuntime, buf: &mut [u8]) -> io::Result<usize>
+    ensures { IfOk result (λ n. n ≤ length buf.old) }
+{
+    let mut input = rt.stdin();
+    for _ in 0..u64::MAX {
+        match input.read(buf) {
+            Err(e) if e.kind() == ErrorKind::Interrupted => {}
+            done => return done,
+        }
+    }
+    Err(io::Error::from(ErrorKind::Interrupted))
+}
