@@ -1,6 +1,8 @@
 -- What info reports of a disk is the report on the repository that it stands for.
-use Rattle.std.proofs.Common.{◌≡◌, inl, inr, ℕ, List, [], ◌∷◌, ◌++◌, map, take, length, Bool, true, false, Option, Some, None, refl, sym, ap, ap₂, ◌∙◌, subst, string_bytes}
+use Rattle.std.proofs.Common.{◌≡◌, inl, inr, ℕ, List, [], ◌∷◌, ◌++◌, map, flat_map, take, length, codes, Bool, true, false, Option, Some, None, refl, sym, ap, ap₂, ◌∙◌, subst, string_bytes}
 use Rattle.std.specs.Prelude.{◌⊎◌, IfSome, IsSome, IsSomeAnd}
+use Rattle.serde_json.specs.Data.{Data, string}
+use Rattle.serde_json.specs.Written.{compact_text}
 use Rattle.std.specs.declared.cmp.Ordering.{Ordering}
 use Rattle.std.specs.declared.cmp.Ordering.TheVariants.{Less, Equal, Greater}
 use Rattle.std.specs.Ordering.{is_gt, ordering_reverse, match_ordering}
@@ -18,6 +20,7 @@ use Rattle.pgb_model.specs.declared.wal.ArchiveName.TheVariants.{Segment as Whol
 use Rattle.pgb_model.specs.declared.wal.Segment.{Segment}
 use Rattle.pgb_model.specs.Text.{Text, In, text_cmp}
 use Rattle.pgb_model.specs.Names.{archive_info, backup_info, segment_text}
+use Rattle.pgb_model.specs.Fields.{fields, list_of}
 use Rattle.pgb_model.specs.InfoFiles.{entry_field}
 use Rattle.pgb_model.specs.Values.{ArchiveInfo, BackupInfo, Entry}
 use Rattle.pgb_model.specs.Repository.{Archived, Stanza, identity_of, id_of}
@@ -35,8 +38,9 @@ use Rattle.pgb_archive.specs.Ends.{StoresWhole}
 use Rattle.pgb_archive.proofs.Got.{same_place}
 use Rattle.pgb_report.specs.declared.report.ArchivedName.{ArchivedName}
 use Rattle.pgb_report.specs.Archived.{segments_under}
-use Rattle.pgb_report.specs.ReportText.{stanza_lines, cluster_lines, shown_clusters, backup_lines, report_lines, report_text_of}
-use Rattle.pgb_report.specs.ReportData.{backup_data, cluster_data, stanza_data, report_data, report_json_of}
+use Rattle.pgb_report.specs.Lines.{text_of_lines}
+use Rattle.pgb_report.specs.ReportText.{cluster_lines, shown_clusters, report_text_of}
+use Rattle.pgb_report.specs.ReportData.{archive_data, backup_data, cluster_data, status_data, report_json_of}
 use Rattle.pgb_report.specs.Labelled.{labelled_data}
 use Rattle.pgb_report.proofs.Sections.{labelled_entries}
 use Rattle.pgb_command.specs.Storing.{id_kept}
@@ -50,10 +54,10 @@ use Rattle.pgb_command.proofs.ReportNames.{segment_in, in_segments, SameEnds, Al
 
 -- what isn't before another is at it or behind it
 not_before : (a b : Text) → is_before a b ≡ false → Le b a
-not_before a b no = go (text_cmp a b) refl
+not_before a b clear = go (text_cmp a b) refl
   where
     go : (o : Ordering) → text_cmp a b ≡ o → Le b a
-    go Less is = let yes : is_before a b ≡ true = ap (λ (o : Ordering). match_ordering o true false false) is in let both : ◌≡◌ {A = Bool} true false = sym yes ∙ no in cc
+    go Less is = let yes : is_before a b ≡ true = ap (λ (o : Ordering). match_ordering o true false false) is in let both : ◌≡◌ {A = Bool} true false = sym yes ∙ clear in cc
     go Equal is = ap is_gt (nat_list_cmp_total.antisymm b a ∙ ap ordering_reverse is)
     go Greater is = ap is_gt (nat_list_cmp_total.antisymm b a ∙ ap ordering_reverse is)
 
@@ -75,7 +79,11 @@ module _ (stanza : Text) (f : Content) (s : Stanza) (now : NowStands stanza (Som
   segment_archived : (c : ClusterId) (t : Segment) → In c (map identity_of s.history) → StoresWhole stanza (id_kept c) f t → In (named (id_kept c) t) all_names
   segment_archived c t listed stored =
       let (d, at, is) = map_in identity_of s.history c listed in
-      let (fits, sum, is_sum, some) = subst (λ (x : ClusterId). StoresWhole stanza (id_kept x) f t) is stored in
+      let whole = subst (λ (x : ClusterId). StoresWhole stanza (id_kept x) f t) is stored in
+      let fits = whole.0 in
+      let sum = whole.1.0 in
+      let is_sum = whole.1.1.0 in
+      let some = whole.1.1.1 in
       let place = place_of stanza f s now (Whole t) fits d at in
       let (bytes, there) = some_held (f (archive_path stanza (id_of d) (Whole t) sum)) some in
       let (a, archived, lies, so) = (has.archived (archive_path stanza (id_of d) (Whole t) sum) bytes (record { id = id_of d; file = Whole t; sum = sum; fits = place sum is_sum; is = refl })).0 there in
@@ -93,7 +101,7 @@ module _ (stanza : Text) (f : Content) (s : Stanza) (now : NowStands stanza (Som
       let some : IsSome (f (archive_path stanza a.id a.name (sha1 a.bytes))) = subst (λ (o : Option Text). IsSome o) (sym held) refl in
       let there : IsSome (f (archive_path stanza id (Whole t) (sha1 a.bytes))) =
       subst (λ (n : ArchiveName). IsSome (f (archive_path stanza id n (sha1 a.bytes)))) same_name (subst (λ (i : ArchiveId). IsSome (f (archive_path stanza i a.name (sha1 a.bytes)))) same_id some) in
-      (subst IsWalName same_name (has.named a archived).fits, sha1 a.bytes, IsSum-sha1 a.bytes, there)
+      (subst IsWalName same_name (has.named a archived).fits, (sha1 a.bytes, (IsSum-sha1 a.bytes, there)))
 
   module _ (names : List ArchivedName) (ends : HaveEnds stanza (map identity_of s.history) f names) (c : ClusterId) (listed : In c (map identity_of s.history)) where
     abbrev told : List Text
@@ -119,14 +127,14 @@ module _ (stanza : Text) (f : Content) (s : Stanza) (now : NowStands stanza (Som
     before : AtOrBefore told archived
     before y at =
         let (t, round, is) = round_of y at in
-        let (u, there, no) = round.first in
-        (segment_text u, in_segments (id_kept c) names u there, subst (Le (segment_text u)) (sym is) (not_before (segment_text t) (segment_text u) no))
+        let (u, there, clear) = round.first in
+        (segment_text u, in_segments (id_kept c) names u there, subst (Le (segment_text u)) (sym is) (not_before (segment_text t) (segment_text u) clear))
 
     behind : AtOrBehind told archived
     behind y at =
         let (t, round, is) = round_of y at in
-        let (u, there, no) = round.last in
-        (segment_text u, in_segments (id_kept c) names u there, subst (λ (z : Text). Le z (segment_text u)) (sym is) (not_before (segment_text u) (segment_text t) no))
+        let (u, there, clear) = round.last in
+        (segment_text u, in_segments (id_kept c) names u there, subst (λ (z : Text). Le z (segment_text u)) (sym is) (not_before (segment_text u) (segment_text t) clear))
 
     same_ends : SameEnds (id_kept c) names all_names
     same_ends = record {
@@ -139,18 +147,22 @@ module _ (stanza : Text) (f : Content) (s : Stanza) (now : NowStands stanza (Som
 same_data : (xs ys : List Entry) → map entry_field xs ≡ map entry_field ys → map backup_data xs ≡ map backup_data ys
 same_data xs ys e = sym (labelled_entries xs) ∙ ap (map labelled_data) e ∙ labelled_entries ys
 
+-- the report by what it says of the backups
+abbrev text_from : Text → ArchiveInfo → List ArchivedName → Text → List Text → Text
+text_from stanza a names status lines = text_of_lines (((codes "stanza: " ++ stanza) ∷ (codes "    status: " ++ status) ∷ codes "    cipher: none" ∷ []) ++ flat_map (cluster_lines a.current names) (shown_clusters a.current a.history) ++ lines)
+
+abbrev json_from : Text → ArchiveInfo → List ArchivedName → List Data → List Cluster → Data → Text
+json_from stanza a names backups history status =
+    compact_text (list_of (fields ((codes "archive", list_of (map (archive_data names) a.history)) ∷ (codes "backup", list_of backups) ∷ (codes "cipher", string (codes "none"))
+    ∷ (codes "db", list_of (map cluster_data (take (length a.history) history))) ∷ (codes "name", string stanza) ∷ (codes "status", status) ∷ []) ∷ [])) ++ 10 ∷ []
+
 -- values that agree are reported alike
 same_report : (form : OutputWord) (stanza : Text) (a : ArchiveInfo) (v w : BackupInfo) (names : List ArchivedName) → Agree v w → report_by form stanza a v names ≡ report_by form stanza a w names
 unfolding report_text_of report_json_of
-same_report AsText stanza a v w names agree =
-    let status = same_status_text v.backups w.backups agree.entries in
-    let lines = same_backup_lines v.backups w.backups agree.entries in
-    rw (status, lines) refl
+same_report AsText stanza a v w names agree = ap₂ (text_from stanza a names) (same_status_text v.backups w.backups agree.entries) (same_backup_lines v.backups w.backups agree.entries)
 same_report AsJson stanza a v w names agree =
-    let backups = same_data v.backups w.backups agree.entries in
-    let status = same_status_data v.backups w.backups agree.entries in
-    let history = agree.history in
-    rw (backups, status, history) refl
+    ap₂ (λ (b : List Data) (s : Data). json_from stanza a names b v.history s) (same_data v.backups w.backups agree.entries) (same_status_data v.backups w.backups agree.entries)
+    ∙ ap (λ (h : List Cluster). json_from stanza a names (map backup_data w.backups) h (status_data w.backups)) agree.history
 
 take_front : {X Y : Type 0} (f : X → Y) (xs ys : List X) → take (length (map f xs)) (xs ++ ys) ≡ take (length (map f xs)) xs
 take_front f [] ys = refl
