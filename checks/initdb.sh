@@ -78,6 +78,11 @@ for _ in 1 2; do
     done
 done
 
+# No server is there.
+want 83 'ERROR: [083]: server connection failed
+' --stanza=demo --pg1-path=pg --repo1-path="$room/refused" --lock-path="$room/lock" --pg1-socket-path="$room" stanza-create
+[ -z "$(find refused -type f 2>/dev/null)" ] || complain 'files were written without the server'
+
 mv pg/PG_VERSION version
 refuse 28 "ERROR: [028]: 'PG_VERSION' is missing
 "
@@ -99,9 +104,6 @@ want 7 "ERROR: [007]: option 'pg1-path' is missing
 " --stanza=demo stanza-create
 want 2 'ERROR: [002]: no command found
 '
-want 83 'ERROR: [083]: server connection failed
-' --stanza=demo --pg1-path=pg --repo1-path="$room/refused" --lock-path="$room/lock" --pg1-socket-path="$room" stanza-create
-[ -z "$(find refused -type f 2>/dev/null)" ] || complain 'files were written without the server'
 program --help >help
 for words in 'help' '-h' 'help archive-get' 'archive-get --help'; do
     read -ra asked <<<"$words"
