@@ -7,6 +7,7 @@ pub mod Noted
 pub mod Tells
 pub mod Listing
 pub mod NamesBelow
+pub mod Through
 pub mod Folders
 pub mod Rooted
 pub mod Trees

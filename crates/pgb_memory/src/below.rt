@@ -1,6 +1,6 @@
-// Whether a path lies below another.
-ghost use Rattle.std.specs.Prelude.{◌≡◌};
-ghost use Rattle.pgb_outside.specs.Content.{is_below};
+// Whether a path lies below another, and through which folder.
+ghost use Rattle.std.specs.Prelude.{◌≡◌, ◌≢◌, ◌∷◌, ◌++◌, Some, option_map, IfSome, IfNone};
+ghost use Rattle.pgb_outside.specs.Content.{Name, is_below, IsFolderName};
 
 /// Whether the path lies at some depth below the folder.
 pub(crate) fn lies_below(path: &str, folder: &str) -> bool
@@ -10,4 +10,29 @@ pub(crate) fn lies_below(path: &str, folder: &str) -> bool
         Some(rest) => rest.starts_with(b"/"),
         None => false,
     }
+}
+
+// What stands behind the folder and a slash.
+fn after_folder<'a>(path: &'a str, folder: &str) -> Option<&'a str>
+    ensures value { IfSome result (λ rest. path.now ≡ folder.now ++ 47 ∷ rest.now) }
+    ensures none { IfNone result ((rest : Name) → path.now ≢ folder.now ++ 47 ∷ rest) }
+{
+    path.strip_prefix(folder)?.strip_prefix("/")
+}
+
+// What stands before the first slash, where it is a folder's name.
+fn first_folder(path: &str) -> Option<&str>
+    ensures value { IfSome result (λ x. IsFolderName x.now) }
+    ensures first { (x rest : Name) → IsFolderName x → path.now ≡ x ++ 47 ∷ rest → option_map (λ t. t.now) result ≡ Some x }
+{
+    let (name, _) = path.split_once('/')?;
+    if name.is_empty() { None } else { Some(name) }
+}
+
+/// The name of the folder directly in this one through which the path leads, where it does.
+pub(crate) fn folder_within<'a>(path: &'a str, folder: &str) -> Option<&'a str>
+    ensures value { IfSome result (λ x. IsFolderName x.now) }
+    ensures within { (x rest : Name) → IsFolderName x → path.now ≡ folder.now ++ 47 ∷ x ++ 47 ∷ rest → option_map (λ t. t.now) result ≡ Some x }
+{
+    first_folder(after_folder(path, folder)?)
 }

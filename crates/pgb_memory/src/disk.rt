@@ -1,7 +1,7 @@
 // A disk in memory, with the record of what was done to it.
 ghost use Rattle.std.specs.Prelude.{◌↔◌, true, false, ℕ, List, Option, Contains, ◌≡◌, ◌≤◌, ◌||◌, [], map, not, IsSomeAnd, length, string_bytes, is_some, option_map, IfOk, IfSome, OnOk, OnErr, IsErrOf};
 ghost use Rattle.pgb_outside.specs.Cause.{HasCause};
-ghost use Rattle.pgb_outside.specs.Content.{IsListing, Reads};
+ghost use Rattle.pgb_outside.specs.Content.{IsListing, AreFolders, Reads};
 ghost use Rattle.pgb_outside.specs.declared.stop.Stop.TheVariants.{Failed, NoMemory};
 ghost use Rattle.pgb_outside.specs.Moments.{IsImage};
 ghost use Rattle.pgb_memory.specs.Replay.{value_of};
@@ -162,6 +162,20 @@ impl Disk for MemDisk {
             return Err(Stop::Failed);
         }
         Ok(self.held.below(alloc, folder)?)
+    }
+
+    fn folders(&mut self, alloc: Global, folder: &str) -> Result<Vec<String>, Stop>
+        ensures folders { IfOk result (λ told. AreFolders folder.now (state_of self.old.held).now (map string_bytes told.items)) }
+        ensures same { IsAsBefore self.old.held self.new.held }
+        ensures fails { FailsWhere (is_to_fail self.old.failing) result }
+        ensures counts { self.new.failing ≡ counted self.old.failing }
+        ensures place { string_bytes self.new.place ≡ string_bytes self.old.place }
+        ensures cause { HasCause self.old.failing.faults self.new.failing.faults result }
+    {
+        if self.failing.fails() {
+            return Err(Stop::Failed);
+        }
+        Ok(self.held.folders(alloc, folder)?)
     }
 
     fn read(&mut self, name: &str, at: u64, buf: &mut [u8]) -> Result<Option<usize>, Stop>

@@ -1,10 +1,10 @@
 // What a disk in memory holds, beside the record of the changes that made it.
 ghost use Rattle.std.specs.Prelude.{◌≡◌, ◌≤◌, [], length, IfSome, IfOk, OnOk, OnErr, IsSome, Some, None, not, bytes_eq, if◌then◌else◌, is_some, option_map, map, string_bytes};
-ghost use Rattle.pgb_outside.specs.Content.{IsListing, Reads, put, lengthened, moved};
+ghost use Rattle.pgb_outside.specs.Content.{Content, IsListing, AreFolders, Reads, put, lengthened, moved};
 ghost use Rattle.pgb_memory.specs.Agrees.{Agrees, bytes_at};
 ghost use Rattle.pgb_memory.specs.State.{given_at};
 
-use crate::below::lies_below;
+use crate::below::{folder_within, lies_below};
 use crate::change::Change;
 use crate::copy::copy_part;
 use crate::replay::{Traces, traces_after};
@@ -75,6 +75,14 @@ impl Held {
         ensures { IfOk result (λ found. IsListing folder.now (state_of self.now).now (map (λ x. (string_bytes x.name, x.size)) found.items)) }
     {
         names_below(alloc, &self.names, folder)
+    }
+
+    /// The names of the folders directly in the folder, one for each name that leads through it.
+    pub(crate) fn folders(&self, alloc: Global, folder: &str) -> Result<Vec<String>, AllocError>
+        ensures { IfOk result (λ told. AreFolders folder.now (state_of self.now).now (map string_bytes told.items)) }
+    {
+        let found = names_below(alloc, &self.names, folder)?;
+        folders_among(alloc, &found, folder)
     }
 
     /// The moment, each change being one.
@@ -204,6 +212,19 @@ fn names_below(alloc: Global, names: &Names, folder: &str) -> Result<Vec<Found>,
         }
     }
     Ok(found)
+}
+
+// The folders directly in the folder through which the names that were found below it lead.
+fn folders_among(alloc: Global, found: &[Found], folder: &str) -> Result<Vec<String>, AllocError>
+    ensures { IfOk result (λ told. (f : Content) → IsListing folder.now f (map (λ x. (string_bytes x.name, x.size)) found.now) → AreFolders folder.now f (map string_bytes told.items)) }
+{
+    let mut told = Vec::new(alloc);
+    for Found { name, .. } in found {
+        if let Some(within) = folder_within(name.as_str(), folder) {
+            told.push(String::from_str(alloc, within)?)?;
+        }
+    }
+    Ok(told)
 }
 
 // Gives the name this value.

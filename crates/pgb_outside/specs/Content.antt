@@ -63,6 +63,15 @@ pub record IsListing (folder : Name) (f : Content) (found : List (Name × ℕ)) 
   pub all : (name bytes : List ℕ) → IsTrue (is_below folder name) → f name ≡ Some bytes → Contains found (name, length bytes)
   pub order : are_in_order (map (λ x. x.0) found) ≡ true
 
+-- the name of a folder within another: it isn't empty and has no slash
+abbrev pub IsFolderName : Name → Type 0
+IsFolderName x = (x ≢ []) × ¬ Contains x 47
+
+-- names of folders directly in the folder, among them each that a name with bytes leads through
+pub record AreFolders (folder : Name) (f : Content) (told : List Name) : Type 0 where
+  pub each : (x : Name) → Contains told x → IsFolderName x
+  pub all : (x rest : Name) → IsFolderName x → IsSome (f (folder ++ 47 ∷ x ++ 47 ∷ rest)) → Contains told x
+
 -- the first n bytes of new are those of bytes from a place on; there are none only at the end, or into no room
 pub record ReadsPart (bytes : List ℕ) (at room : ℕ) (new : List ℕ) (n : ℕ) : Type 0 where
   pub part : take n new ≡ take n (drop at bytes)

@@ -38,19 +38,6 @@ pub trait Source {
         ensures cause { HasCause (faults self.old) (faults self.new) result };
 }
 
-/// The files of a root, as a worker reads them.
-pub trait Files {
-    /// How often it failed.
-    ghost faults: { Self → ℕ };
-
-    fn open(&mut self, root: &str) -> Result<(), Stop>
-        ensures { HasCause (faults self.old) (faults self.new) result };
-
-    /// Bytes of a name from a place on: None where it is absent, 0 at its end.
-    fn read(&mut self, name: &str, at: u64, buf: &mut [u8]) -> Result<Option<usize>, Stop>
-        ensures { HasCause (faults self.old) (faults self.new) result };
-}
-
 /// The connection to a server.
 pub trait Wire {
     /// What it will give, where it tells that.

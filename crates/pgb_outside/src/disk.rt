@@ -1,6 +1,6 @@
 // A disk: names with bytes, and what a crash may leave of them (POSIX `write`, `fsync` and `rename`).
 ghost use Rattle.std.specs.Prelude.{◌≡◌, ◌⊎◌, ◌≤◌, [], ℕ, List, Bool, Option, Some, None, false, true, map, option_map, IfOk, OnOk, OnErr, IfSome, length, IsTrue, string_bytes};
-ghost use Rattle.pgb_outside.specs.Content.{Name, Value, Content, put, moved, is_below, Holds, IsThere, Changes, Appends, IsListing, Reads};
+ghost use Rattle.pgb_outside.specs.Content.{Name, Value, Content, put, moved, is_below, Holds, IsThere, Changes, Appends, IsListing, AreFolders, Reads};
 ghost use Rattle.pgb_outside.specs.Moments.{View, Goes, Rests, MayKeep, is_loose};
 ghost use Rattle.pgb_outside.specs.Cause.{HasCause};
 
@@ -40,6 +40,16 @@ pub trait Disk {
     /// Every name at any depth below the folder; an absent folder has none.
     fn names(&mut self, alloc: Global, folder: &str) -> Result<Vec<Found>, Stop>
         ensures listing { IfOk result (λ found. IfSome (view self.old).now (λ f. IsListing folder.now f (map (λ x. (string_bytes x.name, x.size)) found.items))) }
+        ensures now { (view self.new).now ≡ (view self.old).now }
+        ensures time { Rests (view self.old) (view self.new) }
+        ensures proper { misuses self.new ≡ misuses self.old }
+        ensures place { place self.new ≡ place self.old }
+        ensures cause { HasCause (faults self.old) (faults self.new) result };
+
+    /// The own names of the folders that stand directly in the folder, in any order; one may come twice, and one may hold
+    /// nothing. An absent folder has none.
+    fn folders(&mut self, alloc: Global, folder: &str) -> Result<Vec<String>, Stop>
+        ensures folders { IfOk result (λ told. IfSome (view self.old).now (λ f. AreFolders folder.now f (map string_bytes told.items))) }
         ensures now { (view self.new).now ≡ (view self.old).now }
         ensures time { Rests (view self.old) (view self.new) }
         ensures proper { misuses self.new ≡ misuses self.old }

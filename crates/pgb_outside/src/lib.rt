@@ -3,6 +3,7 @@
 
 mod devices;
 mod disk;
+mod files;
 mod links;
 mod locks;
 mod not_there;
@@ -10,8 +11,9 @@ mod sink;
 mod stop;
 mod tree;
 
-pub use devices::{Clock, Files, Source, Wire};
+pub use devices::{Clock, Source, Wire};
 pub use disk::{Disk, Found};
+pub use files::Files;
 pub use links::{Link, Turns};
 pub use locks::{Locks, Take};
 pub use not_there::NotThere;

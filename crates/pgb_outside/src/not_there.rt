@@ -50,6 +50,10 @@ impl Disk for NotThere {
         self.fail()
     }
 
+    fn folders(&mut self, _alloc: Global, _folder: &str) -> Result<Vec<String>, Stop> {
+        self.fail()
+    }
+
     fn read(&mut self, _name: &str, _at: u64, _buf: &mut [u8]) -> Result<Option<usize>, Stop> {
         self.fail()
     }
@@ -162,6 +166,10 @@ impl Source for NotThere {
 }
 
 impl Files for NotThere {
+    ghost files = { λ _. None };
+
+    ghost place = { λ _. [] };
+
     ghost faults = { λ it. it.faults };
 
     fn open(&mut self, _root: &str) -> Result<(), Stop> {

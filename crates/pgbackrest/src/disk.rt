@@ -5,7 +5,7 @@ use crate::faults::Faults;
 use crate::handles::Handles;
 use crate::place::{Place, no_memory};
 use crate::settle::{Settled, settle};
-use crate::walk::nodes_below;
+use crate::walk::{folders_in, nodes_below};
 use pgb_outside::{Disk, Found, Node, Seen, Stop};
 use std::alloc::Global;
 use std::io;
@@ -53,6 +53,11 @@ impl Disk for RealDisk {
 
     fn names(&mut self, alloc: Global, folder: &str) -> Result<Vec<Found>, Stop> {
         let done = names_below(alloc, &self.place, folder);
+        self.faults.told(done)
+    }
+
+    fn folders(&mut self, alloc: Global, folder: &str) -> Result<Vec<String>, Stop> {
+        let done = folders_in(alloc, &self.place, folder);
         self.faults.told(done)
     }
 

@@ -1,4 +1,4 @@
-// All that stands below a folder, in byte order.
+// All that stands below a folder, in byte order, and the folders directly in one.
 ghost use Rattle.std.specs.Prelude.{◌≡◌, ◌≢◌, [], ◌∷◌, ◌++◌, ℕ, IfOk, string_bytes};
 ghost use Rattle.std.specs.Fs.{metadata_len, file_type, IsFile, IsDir, IsSymlink};
 
@@ -25,6 +25,25 @@ pub fn nodes_below(alloc: Global, place: &Place, folder: &str) -> io::Result<Vec
     }
     seen.sort_by(|a, b| a.path.cmp(&b.path))?;
     Ok(seen)
+}
+
+/// The own names of the folders that stand directly in a folder; a link to one is none. What goes away in the meantime is
+/// left out. A name that isn't UTF-8 is an error.
+pub fn folders_in(alloc: Global, place: &Place, folder: &str) -> io::Result<Vec<String>> {
+    let mut told = Vec::new(alloc);
+    let path = place.path_of(folder)?;
+    let Some(entries) = unless_absent(fs::read_dir(&place.rt, path.as_str()))? else {
+        return Ok(told);
+    };
+    for entry in entries {
+        let entry = entry?;
+        let kind = unless_absent(entry.file_type())?;
+        if kind.is_some_and(|kind| kind.is_dir()) {
+            let name = String::from_str(alloc, entry.file_name())?;
+            told.push(name).map_err(no_memory)?;
+        }
+    }
+    Ok(told)
 }
 
 // Adds the nodes that stand in a folder.

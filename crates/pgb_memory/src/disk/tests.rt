@@ -308,6 +308,35 @@ fn given_names(rt: HostRuntime) -> Result<(), Fail> {
     Ok(())
 }
 
+// The folders directly in a folder.
+fn folders<D: Disk>(alloc: Global, disk: &mut D, folder: &str) -> Result<String, Stop> {
+    let mut text = String::new(alloc);
+    for name in disk.folders(alloc, folder)? {
+        text.push_str(&name)?;
+        text.push(' ')?;
+    }
+    Ok(text)
+}
+
+#[test]
+fn folders_of_names(rt: HostRuntime) -> Result<(), Fail> {
+    let alloc = rt.alloc();
+    let names: [(&str, &[u8]); 7] = [
+        ("b", b""),
+        ("b/c", b""),
+        ("b/d/e/f", b""),
+        ("b/d/g", b""),
+        ("b//h", b""),
+        ("b-x/i/j", b""),
+        ("b/k/", b""),
+    ];
+    let mut disk = disk_of(alloc, &names, &[])?;
+    for (folder, want) in [("b", "d d k "), ("b-x", "i "), ("b/d", "e "), ("c", "")] {
+        assert_eq!(rt; folders(alloc, &mut disk, folder)?.as_str(), want);
+    }
+    Ok(())
+}
+
 // What x, y and z hold, and the counts of faults and of faulty calls, where the call of a number fails.
 #[test]
 fn each_call_fails(rt: HostRuntime) -> Result<(), Fail> {

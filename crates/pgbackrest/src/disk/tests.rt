@@ -132,3 +132,29 @@ fn tells_names_in_order(rt: HostRuntime) -> Result<(), Fail> {
     scratch.remove()?;
     Ok(())
 }
+
+#[test]
+fn tells_folders(rt: HostRuntime) -> Result<(), Fail> {
+    let scratch = Scratch::new(rt, "folders")?;
+    let mut disk = RealDisk::new(rt);
+    assert_eq!(rt; disk.open(&scratch.path), Ok(()));
+    assert!(rt; scratch.shell("mkdir -p a/b/c a/empty; >a/f; >a/b/g; ln -s b a/l")?);
+    let Ok(mut folders) = disk.folders(rt.alloc(), "a") else {
+        return Err(Fail::new("no folders"));
+    };
+    folders.sort()?;
+    assert_eq!(rt; folders.len(), 2);
+    for (folder, name) in folders.iter().zip(["b", "empty"]) {
+        assert_eq!(rt; folder.as_str(), name);
+    }
+    for none in ["absent", "a/empty", "a/f"] {
+        let told = disk.folders(rt.alloc(), none);
+        assert!(rt; told.is_ok_and(|names| names.is_empty()), "{none}");
+    }
+    // a name that isn't UTF-8
+    assert!(rt; scratch.shell("mkdir a/$(printf '\\377')")?);
+    assert!(rt; disk.folders(rt.alloc(), "a").is_err());
+    assert_eq!(rt; disk.faults.count, 1);
+    scratch.remove()?;
+    Ok(())
+}
