@@ -10,7 +10,7 @@ mod writing;
 pub use fault::FrameFault;
 pub use frames::{Frame, Item, Job, JobKind, Root, Roots};
 pub use reading::decode_frame;
-pub use writing::{encode_frame, encode_job};
+pub use writing::{encode_frame, encode_job, encode_setup};
 
 #[cfg(test)]
 mod tests;
