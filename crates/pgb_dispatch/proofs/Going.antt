@@ -161,15 +161,15 @@ core_same core i j o u el ej =
 
 -- ---- losses
 
-all_push : {X : Type 0} (P : X → Type 0) (xs : List X) (x : X) → AllByRecursion P xs → P x → AllByRecursion P (xs ++ x ∷ [])
+pub all_push : {X : Type 0} (P : X → Type 0) (xs : List X) (x : X) → AllByRecursion P xs → P x → AllByRecursion P (xs ++ x ∷ [])
 all_push P [] x h p = (p, tt)
 all_push P (y ∷ xs) x h p = (h.0, all_push P xs x h.1 p)
 
-at_push : {X : Type 0} (xs : List X) (x : X) → slice_get (xs ++ x ∷ []) (length xs) ≡ Some x
+pub at_push : {X : Type 0} (xs : List X) (x : X) → slice_get (xs ++ x ∷ []) (length xs) ≡ Some x
 at_push [] x = refl
 at_push (y ∷ xs) x = at_push xs x
 
-get_front : {X : Type 0} (xs : List X) (x m : X) (k : ℕ) → slice_get xs k ≡ Some m → slice_get (xs ++ x ∷ []) k ≡ Some m
+pub get_front : {X : Type 0} (xs : List X) (x m : X) (k : ℕ) → slice_get xs k ≡ Some m → slice_get (xs ++ x ∷ []) k ≡ Some m
 get_front [] x m k e = absurd (let f : None ≡ Some m = e in cc)
 get_front (y ∷ xs) x m zero e = e
 get_front (y ∷ xs) x m (suc k) e = get_front xs x m k e

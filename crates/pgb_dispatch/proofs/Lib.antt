@@ -5,3 +5,4 @@ pub mod Events
 pub mod Given
 pub mod Turns
 pub mod Whole
+pub mod Setting

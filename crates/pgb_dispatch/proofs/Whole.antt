@@ -26,12 +26,12 @@ use Rattle.pgb_dispatch.proofs.Going.{some_of, some_same, is_some_at, get_some}
 
 -- ---- seats
 
-somes_push : {A : Type 0} (xs : List (Option A)) (x : A) → somes (xs ++ Some x ∷ []) ≡ somes xs ++ x ∷ []
+pub somes_push : {A : Type 0} (xs : List (Option A)) (x : A) → somes (xs ++ Some x ∷ []) ≡ somes xs ++ x ∷ []
 somes_push [] x = refl
 somes_push (None ∷ xs) x = somes_push xs x
 somes_push (Some y ∷ xs) x = ap (λ l. y ∷ l) (somes_push xs x)
 
-somes_none : {A : Type 0} (xs : List (Option A)) → somes (xs ++ None ∷ []) ≡ somes xs
+pub somes_none : {A : Type 0} (xs : List (Option A)) → somes (xs ++ None ∷ []) ≡ somes xs
 somes_none [] = refl
 somes_none (None ∷ xs) = somes_none xs
 somes_none (Some y ∷ xs) = ap (λ l. y ∷ l) (somes_none xs)
@@ -81,7 +81,7 @@ get_map_some [] k o e = absurd (let f : None ≡ Some o = e in cc)
 get_map_some (x ∷ xs) zero o e = (x, refl, sym (some_same (Some x) o e))
 get_map_some (x ∷ xs) (suc k) o e = get_map_some xs k o e
 
-append_none : {X : Type 0} (xs : List X) → xs ++ [] ≡ xs
+pub append_none : {X : Type 0} (xs : List X) → xs ++ [] ≡ xs
 append_none [] = refl
 append_none (x ∷ xs) = ap (λ l. x ∷ l) (append_none xs)
 

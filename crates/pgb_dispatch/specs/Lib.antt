@@ -1,3 +1,4 @@
 pub mod Faults
 pub mod Seats
 pub mod Run
+pub mod Setups

@@ -8,6 +8,8 @@ mod jobs;
 mod running;
 mod seating;
 mod seats;
+mod telling;
 
 pub use fault::{DispatchFault, Lost};
 pub use jobs::run_jobs;
+pub use telling::setup;

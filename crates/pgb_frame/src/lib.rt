@@ -19,7 +19,7 @@ pub use frames::{Frame, Item, Job, JobKind, Root, Roots};
 pub use reading::decode_frame;
 pub use serve_fault::ServeFault;
 pub use serving::serve;
-pub use writing::{encode_frame, encode_job};
+pub use writing::{encode_frame, encode_job, encode_setup};
 
 #[cfg(test)]
 mod tests;

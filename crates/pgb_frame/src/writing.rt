@@ -1,10 +1,10 @@
 // Spells frames.
 ghost use Rattle.std.specs.Prelude.{◌≡◌, ◌^◌, ◌<◌, ◌++◌, length, All, IfOk, OnOk, string_bytes};
-ghost use Rattle.pgb_frame.specs.Frames.{FitsFrame, FitsJob, framed, spell, short_text, item_bytes, job_bytes, root_letter, kind_letter};
-ghost use Rattle.pgb_frame.specs.Frames.Frame.{Task};
-ghost use Rattle.pgb_frame.specs.Views.{item_of, job_of, frame_of};
+ghost use Rattle.pgb_frame.specs.Frames.{FitsFrame, FitsJob, FitsRoots, framed, spell, short_text, item_bytes, job_bytes, root_letter, kind_letter};
+ghost use Rattle.pgb_frame.specs.Frames.Frame.{Setup, Task};
+ghost use Rattle.pgb_frame.specs.Views.{item_of, job_of, roots_of, frame_of};
 
-use crate::frames::{Frame, Item, Job, JobKind, Root};
+use crate::frames::{Frame, Item, Job, JobKind, Root, Roots};
 use pgb_text::NoMemory;
 use std::alloc::Global;
 
@@ -82,18 +82,24 @@ pub fn encode_job(alloc: Global, job: &Job) -> Result<Vec<u8>, NoMemory>
     framed(alloc, b'J', &body)
 }
 
+/// The one spelling of a setup's frame.
+pub fn encode_setup(alloc: Global, roots: &Roots) -> Result<Vec<u8>, NoMemory>
+    requires { FitsRoots (roots_of roots.now) }
+    ensures { IfOk result (λ v. v.items ≡ spell (Setup (roots_of roots.now))) }
+{
+    let mut body = Vec::new(alloc);
+    put_text(&mut body, &roots.tree)?;
+    put_text(&mut body, &roots.repo)?;
+    framed(alloc, b'S', &body)
+}
+
 /// The one spelling of a frame that keeps the rules.
 pub fn encode_frame(alloc: Global, frame: &Frame) -> Result<Vec<u8>, NoMemory>
     requires { FitsFrame (frame_of frame.now) }
     ensures { IfOk result (λ v. v.items ≡ spell (frame_of frame.now)) }
 {
     match frame {
-        Frame::Setup(roots) => {
-            let mut body = Vec::new(alloc);
-            put_text(&mut body, &roots.tree)?;
-            put_text(&mut body, &roots.repo)?;
-            framed(alloc, b'S', &body)
-        }
+        Frame::Setup(roots) => encode_setup(alloc, roots),
         Frame::Job(job) => encode_job(alloc, job),
         Frame::Part(bytes) => framed(alloc, b'P', bytes),
         Frame::End { length, sum } => {
