@@ -19,6 +19,7 @@ impl RoundRobin {
 
 impl Turns for RoundRobin {
     fn pick(&mut self, count: u64) -> u64
+        requires { 0 < count }
         ensures below { result < count }
         ensures in_turn { self.old.next < count → result ≡ self.old.next }
         ensures around { count ≤ self.old.next → result ≡ 0 }
