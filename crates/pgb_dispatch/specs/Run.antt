@@ -128,6 +128,7 @@ pub record Going (jobs : List Job) (b : Began) (s : State) : Type 0 where
   pub keeps : s.kept.jobs ≡ jobs
   pub even : withs s.core.jobs ≡ busies s.core.links
   pub losses : Losses b.links b.lost s.lost s.core.links
+  pub some : AllEnded s.core.jobs → 0 < length b.links → 0 < live s.core.links
   pub each_job : (j : ℕ) (job : Job) (p : JobPlace) → slice_get jobs j ≡ Some job → slice_get s.core.jobs j ≡ Some p → IsSomeAnd (slice_get s.kept.kept j) (JobGoes b job p)
   pub each_link : (i : ℕ) (p : LinkPlace) (h : Hearing) (seat : Option LinkState) → slice_get s.core.links i ≡ Some p → slice_get s.hears i ≡ Some h → slice_get s.seats i ≡ Some seat
       → IsSomeAnd (slice_get b.links i) (λ from. LinkGoes jobs b s.core.jobs s.kept.kept from i p h seat)
