@@ -26,8 +26,8 @@ use Rattle.pgb_dispatch.specs.declared.fault.DispatchFault.TheVariants as faults
 use Rattle.pgb_dispatch.specs.Faults.{IsQuiet}
 use Rattle.pgb_dispatch.specs.Seats.{Both, HearsOver, Hears, FailsOver, HearFails, IsHearing, HeardAt}
 use Rattle.pgb_dispatch.specs.Run.{State, Began, LinkGoes, Losses, live, Going, Runs, HearsOn, Changed, Advances, UnreadLeaves, HearFault, total, work, measure}
-use Rattle.pgb_dispatch.proofs.Counting.{live_set, work_set, work_le, lost_falls}
-use Rattle.pgb_dispatch.proofs.Going.{some_same, set_twice, Moves, going_update, AtBusy, busy_of, only_with, core_same, losses_stay, losses_more}
+use Rattle.pgb_dispatch.proofs.Counting.{live_some, live_set, work_set, work_le, lost_falls}
+use Rattle.pgb_dispatch.proofs.Going.{some_same, set_twice, Moves, going_update, AtBusy, busy_of, not_over, only_with, core_same, losses_stay, losses_more}
 
 pub both_there : (R : LinkState → LinkState → Type 0) (x y : Option LinkState) (s : LinkState) → x ≡ Some s → Both R x y → (u : LinkState) × (y ≡ Some u) × R s u
 both_there R None y s e h = absurd (let f : None ≡ Some s = e in cc)
@@ -89,7 +89,7 @@ going_more jobs b s t i j g has w core lost =
       jobs = w.holds.is.jobs;
     } in
     going_update jobs b s t i j (With i) (With i) (Busy j) (Busy j) (Some w.now) w.next a.goes.kept w.holds.kept g mv has a.goes.place a.goes.kept_is (only_with i) refl
-    (subst (λ l. Losses b.links b.lost l (set s.core.links i (Busy j))) (sym lost) (losses_stay b.links b.lost s.lost s.core.links i (Busy j) (Busy j) g.losses has refl refl)) (λ job e. tt)
+    (subst (λ l. Losses b.links b.lost l (set s.core.links i (Busy j))) (sym lost) (losses_stay b.links b.lost s.lost s.core.links i (Busy j) (Busy j) g.losses has refl refl)) (λ over. absurd (not_over s.core.jobs j (With i) (With i) a.goes.place (λ q. cc) over)) (λ job e. tt)
     (λ from e. let f : a.from ≡ from = some_same a.from from (sym a.from_is ∙ e) in
     subst (λ x. LinkGoes jobs b (set s.core.jobs j (With i)) (set s.kept.kept j w.holds.kept) x i (Busy j) w.next (Some w.now)) f (record {
       place = get_set_same s.core.jobs j (With i) (With i) a.goes.place;
@@ -124,6 +124,7 @@ going_ended jobs b s t i j all g has w core lost =
     let mv : Moves s t i j Ended Idle (Some w.now) w.next w.holds.kept = record { core = core; seats = w.seats; hears = w.hears; kept = w.holds.is.kept; jobs = w.holds.is.jobs } in
     going_update jobs b s t i j Ended (With i) Idle (Busy j) (Some w.now) w.next a.goes.kept w.holds.kept g mv has a.goes.place a.goes.kept_is (only_with i) refl
     (subst (λ l. Losses b.links b.lost l (set s.core.links i Idle)) (sym lost) (losses_stay b.links b.lost s.lost s.core.links i (Busy j) Idle g.losses has refl refl))
+    (λ over. live_some (set s.core.links i Idle) i Idle (get_set_same s.core.links i Idle (Busy j) has) refl)
     (λ job e. let same : a.goes.job ≡ job = some_same a.goes.job job (sym a.goes.job_is ∙ e) in
     (all, record { link = i; from = a.from; is = a.from_is; items = subst (λ (x : Job). AllEnd a.from.told x.kind x.items w.holds.kept.done) same w.holds.items }))
     (λ from e. let f : a.from ≡ from = some_same a.from from (sym a.from_is ∙ e) in
@@ -152,6 +153,7 @@ going_lost jobs b s t i j cause next g has core seats hears kept lost why =
     let mv : Moves s t i j Waiting Lost None next m = record { core = core; seats = seats; hears = hears; kept = kept.2.is; jobs = kept.1 } in
     going_update jobs b s t i j Waiting (With i) Lost (Busy j) None next a.goes.kept m g mv has a.goes.place a.goes.kept_is (only_with i) refl
     (losses_more b.links b.lost s.lost t.lost s.core.links i (Busy j) (record { place = i; cause = cause }) g.losses has refl lost refl (record { from = a.from; is = a.from_is; unsteady = y.0; told = y.1 }))
+    (λ over. absurd (not_over s.core.jobs j Waiting (With i) a.goes.place (λ q. cc) over))
     (λ job e. kept.2.by a.goes.kept a.goes.kept_is) (λ from e. tt)
 
 pub lost_advances : (jobs : List Job) (s t : State) (i j : ℕ) → slice_get s.core.links i ≡ Some (Busy j) → t.core ≡ after_lose s.core i j → t.kept.faults ≡ s.kept.faults → Advances jobs s t

@@ -3,17 +3,18 @@ use Rattle.std.proofs.Common.{ℕ, zero, suc, ◌≡◌, ◌<◌, ◌+◌, inl, 
 use Rattle.std.specs.Prelude.{IsSomeAnd}
 use Rattle.std.specs.List.{AllByRecursion}
 use Rattle.pgb_outside.specs.Links.{LinkState}
+use Rattle.std.proofs.lemmas.Option.{slice_get_within}
 use Rattle.pgb_frame.specs.Frames.{Job}
 use Rattle.pgb_keep.specs.KeepState.{Kept}
-use Rattle.pgb_jobs.specs.Dispatch.{Dispatch}
+use Rattle.pgb_jobs.specs.Dispatch.{Dispatch, AllEnded}
 use Rattle.pgb_jobs.specs.declared.JobPlace.{JobPlace}
-use Rattle.pgb_jobs.specs.declared.JobPlace.TheVariants.{With}
+use Rattle.pgb_jobs.specs.declared.JobPlace.TheVariants.{With, Ended}
 use Rattle.pgb_jobs.specs.declared.LinkPlace.{LinkPlace}
 use Rattle.pgb_jobs.specs.declared.LinkPlace.TheVariants.{Idle, Busy, Lost}
 use Rattle.pgb_jobs.proofs.Places.{get_set_same, get_set_other, get_set_cases, within}
 use Rattle.pgb_reply.specs.declared.hearing.Hearing.{Hearing}
 use Rattle.pgb_dispatch.specs.declared.fault.Lost.{Lost as Entry}
-use Rattle.pgb_dispatch.specs.Run.{State, Began, Replies, LinkGoes, JobGoes, IsLoss, Losses, withs, busies, Going}
+use Rattle.pgb_dispatch.specs.Run.{State, Began, Replies, LinkGoes, JobGoes, IsLoss, Losses, withs, busies, Going, live}
 use Rattle.pgb_dispatch.proofs.Counting.{alive, is_busy, is_with, live_set, busies_set, withs_set}
 
 -- ---- lists
@@ -75,15 +76,21 @@ link_stays jobs b places ks i j P o m from a (Busy c) h (Some now) at only n g =
       sent = g.sent;
     }
 
+pub not_over : (places : List JobPlace) (j : ℕ) (P o : JobPlace) → slice_get places j ≡ Some o → (P ≡ Ended → ⊥) → AllEnded (set places j P) → ⊥
+not_over places j P o e n over =
+    let at = get_set_same places j P o e in
+    n (some_same P Ended (sym at ∙ over j (slice_get_within (set places j P) j P at)))
+
 pub going_update : (jobs : List Job) (b : Began) (s t : State) (i j : ℕ) (P o : JobPlace) (Q u : LinkPlace) (seat : Option LinkState) (h : Hearing) (k m : Kept)
     → Going jobs b s → Moves s t i j P Q seat h m
     → slice_get s.core.links i ≡ Some u → slice_get s.core.jobs j ≡ Some o → slice_get s.kept.kept j ≡ Some k
     → ((a : ℕ) → o ≡ With a → a ≡ i) → is_with P + is_busy u ≡ is_with o + is_busy Q
     → Losses b.links b.lost t.lost (set s.core.links i Q)
+    → (AllEnded (set s.core.jobs j P) → 0 < live (set s.core.links i Q))
     → ((job : Job) → slice_get jobs j ≡ Some job → JobGoes b job P m)
     → ((from : LinkState) → slice_get b.links i ≡ Some from → LinkGoes jobs b (set s.core.jobs j P) (set s.kept.kept j m) from i Q h seat)
     → Going jobs b t
-going_update jobs b s t i j P o Q u seat h k m g mv el ej ek only balance losses newjob newlink =
+going_update jobs b s t i j P o Q u seat h k m g mv el ej ek only balance losses some newjob newlink =
     let places : t.core.jobs ≡ set s.core.jobs j P = ap (λ (d : Dispatch). d.jobs) mv.core in
     let links : t.core.links ≡ set s.core.links i Q = ap (λ (d : Dispatch). d.links) mv.core in
     let h0 = get_some s.hears i (omega (arith, within s.core.links i u el, g.link_count, g.hear_count)) in
@@ -97,6 +104,7 @@ going_update jobs b s t i j P o Q u seat h k m g mv el ej ek only balance losses
       keeps = mv.jobs ∙ g.keeps;
       even = ap withs places ∙ (let w : withs (set s.core.jobs j P) ≡ busies (set s.core.links i Q) = omega (arith, withs_set s.core.jobs j o P ej, busies_set s.core.links i u Q el, g.even, balance) in w) ∙ sym (ap busies links);
       losses = subst (Losses b.links b.lost t.lost) (sym links) losses;
+      some = λ over many. subst (λ l. 0 < live l) (sym links) (some (subst AllEnded places over));
       each_job = λ a job p e w0.
           let w : slice_get (set s.core.jobs j P) a ≡ Some p = ap (λ l. slice_get l a) (sym places) ∙ w0 in
           subst (λ l. IsSomeAnd (slice_get l a) (JobGoes b job p)) (sym mv.kept) (elim (get_set_cases s.core.jobs j a P p w) [

@@ -111,6 +111,7 @@ going_start jobs links s a =
         has = λ l e. absurd (idle_not_lost (length links) l (ap (λ x. slice_get x l) (sym ls) ∙ e));
         count = (let n : live s.core.links ≡ length s.core.links = ap live ls ∙ live_all (length links) ∙ sym (ap length ls ∙ length-replicated (length links) Idle) in omega (arith, n));
       };
+      some = λ over many. (let n : live s.core.links ≡ length links = ap live ls ∙ live_all (length links) in omega (arith, n, many));
       each_job = λ j job p is at.
           let w : p ≡ Waiting = get_replicate (length jobs) j Waiting p (ap (λ x. slice_get x j) (sym places) ∙ at) in
           subst (λ z. IsSomeAnd (slice_get s.kept.kept j) (JobGoes (fresh links s.lost) job z)) (sym w) (a.fresh j (slice_get_within jobs j job is));
@@ -194,6 +195,7 @@ all_given jobs links lost s idle g = record {
   keeps = g.keeps;
   even = g.even;
   losses = g.losses;
+  some = g.some;
   each_job = λ j job p is at. jobs_begun links lost job p (slice_get s.kept.kept j) (g.each_job j job p is at);
   each_link = λ i p h seat at hat sat. links_begun jobs links lost s.core.jobs s.kept.kept i p h seat (slice_get links i)
       (λ e le. few_jobs jobs links lost s i g (idle i (at ∙ ap Some e)) (at ∙ ap Some e) le) (g.each_link i p h seat at hat sat);
@@ -264,6 +266,14 @@ linked jobs b s i seat g e =
     let from = some_of (λ (f : LinkState). LinkGoes jobs b s.core.jobs s.kept.kept f i p.0 h.0 seat) (slice_get b.links i) (g.each_link i p.0 h.0 seat p.1 h.1 e) in
     record { place = p.0; place_is = p.1; hear = h.0; from = from.0; from_is = from.1; goes = from.2 }
 
+-- as many links are left as are live
+live_now : (jobs : List Job) (links : List LinkState) (lost : List Entry) (s : State) → Going jobs (begun links lost) s → length (somes s.seats) ≡ live s.core.links
+live_now jobs links lost s g = live_seats s.core.links s.seats g.link_count (λ i p seat a c. (let h = get_some s.hears i (let lt = slice_get_within s.seats i seat c in omega (arith, lt, g.hear_count)) in let from = some_of (λ (f : LinkState). LinkGoes jobs (begun links lost) s.core.jobs s.kept.kept f i p h.0 seat) (slice_get links i) (g.each_link i p h.0 seat a h.1 c) in is_live jobs (begun links lost) s.core.jobs s.kept.kept from.0 i p h.0 seat from.2))
+
+-- one link at least is left
+pub some_left : (jobs : List Job) (links : List LinkState) (lost : List Entry) (s : State) (now : List LinkState) → Going jobs (begun links lost) s → AllEnded s.core.jobs → now ≡ somes s.seats → 0 < length links → 0 < length now
+some_left jobs links lost s now g over e many = omega (arith, g.some over many, live_now jobs links lost s g, ap length e)
+
 pub links_left : (jobs : List Job) (links : List LinkState) (lost : List Entry) (s : State) (now : List LinkState) → Going jobs (begun links lost) s → NoneBusy s.core → now ≡ somes s.seats → Left (length jobs) links lost s.lost now
 links_left jobs links lost s now g none e = record {
   seats = s.seats;
@@ -280,7 +290,7 @@ links_left jobs links lost s now g none e = record {
       let w = linked jobs (begun links lost) s i None g at in
       g.losses.has i (w.place_is ∙ ap Some (seat_gone jobs (begun links lost) s.core s.kept.kept w.from i w.place w.hear w.goes));
   once =
-      let n = live_seats s.core.links s.seats g.link_count (λ i p seat a c. (let h = get_some s.hears i (let lt = slice_get_within s.seats i seat c in omega (arith, lt, g.hear_count)) in let from = some_of (λ (f : LinkState). LinkGoes jobs (begun links lost) s.core.jobs s.kept.kept f i p h.0 seat) (slice_get links i) (g.each_link i p h.0 seat a h.1 c) in is_live jobs (begun links lost) s.core.jobs s.kept.kept from.0 i p h.0 seat from.2)) in
+      let n = live_now jobs links lost s g in
       omega (arith, n, ap length e, g.losses.count, g.link_count, g.start_count);
 }
 

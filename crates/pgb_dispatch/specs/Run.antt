@@ -29,6 +29,7 @@ pub record State : Type 0 where
   pub kept : KeepState
   pub lost : List Entry
 
+-- the state that the values of a program stand for
 abbrev pub state : {A : Type 0} → (A → LinkState) → Dispatch → List (Option A) → List Hearing → KeepState → List Entry → State
 state of core seats hears kept lost = record { core = core; seats = map (option_map of) seats; hears = hears; kept = kept; lost = lost }
 
@@ -64,6 +65,7 @@ pub record Replies (jobs : List Job) (places : List JobPlace) (ks : List Kept) (
   pub later : min from.jobs (2 ^ 64 - 1) ≤ now.jobs
   pub sent : Rises from.jobs now.jobs
 
+-- how a link stands by its place: the seat of a lost one is empty
 abbrev pub LinkGoes : List Job → Began → List JobPlace → List Kept → LinkState → ℕ → LinkPlace → Hearing → Option LinkState → Type 0
 LinkGoes jobs b places ks from i Lost h None = Unit {0}
 LinkGoes jobs b places ks from i Lost h (Some now) = ⊥
@@ -72,6 +74,7 @@ LinkGoes jobs b places ks from i Idle h (Some now) = Rests b (length jobs) from 
 LinkGoes jobs b places ks from i (Busy j) h None = ⊥
 LinkGoes jobs b places ks from i (Busy j) h (Some now) = Replies jobs places ks from i j h now
 
+-- what is held of a job by its place: nothing while it waits
 abbrev pub JobGoes : Began → Job → JobPlace → Kept → Type 0
 JobGoes b job Waiting k = IsFresh k
 JobGoes b job (With l) k = Unit {0}
@@ -92,6 +95,7 @@ pub record AddsLosses (links : List LinkState) (before after : List Entry) : Typ
   pub is : after ≡ before ++ entries
   pub each : AllByRecursion (IsLoss links) entries
 
+-- how many links are not lost
 abbrev pub live : List LinkPlace → ℕ
 live [] = 0
 live (Lost ∷ ls) = live ls
@@ -108,18 +112,21 @@ pub record Losses (links : List LinkState) (before after : List Entry) (places :
 
 -- ---- a run
 
+-- how many jobs are with a link
 abbrev pub withs : List JobPlace → ℕ
 withs [] = 0
 withs (Waiting ∷ ps) = withs ps
 withs (With l ∷ ps) = suc (withs ps)
 withs (Ended ∷ ps) = withs ps
 
+-- how many links have a job
 abbrev pub busies : List LinkPlace → ℕ
 busies [] = 0
 busies (Lost ∷ ls) = busies ls
 busies (Idle ∷ ls) = busies ls
 busies (Busy j ∷ ls) = suc (busies ls)
 
+-- what holds at each moment of a run
 pub record Going (jobs : List Job) (b : Began) (s : State) : Type 0 where
   pub job_count : length s.core.jobs ≡ length jobs
   pub link_count : length s.core.links ≡ length s.seats
@@ -128,6 +135,7 @@ pub record Going (jobs : List Job) (b : Began) (s : State) : Type 0 where
   pub keeps : s.kept.jobs ≡ jobs
   pub even : withs s.core.jobs ≡ busies s.core.links
   pub losses : Losses b.links b.lost s.lost s.core.links
+  pub some : AllEnded s.core.jobs → 0 < length b.links → 0 < live s.core.links
   pub each_job : (j : ℕ) (job : Job) (p : JobPlace) → slice_get jobs j ≡ Some job → slice_get s.core.jobs j ≡ Some p → IsSomeAnd (slice_get s.kept.kept j) (JobGoes b job p)
   pub each_link : (i : ℕ) (p : LinkPlace) (h : Hearing) (seat : Option LinkState) → slice_get s.core.links i ≡ Some p → slice_get s.hears i ≡ Some h → slice_get s.seats i ≡ Some seat
       → IsSomeAnd (slice_get b.links i) (λ from. LinkGoes jobs b s.core.jobs s.kept.kept from i p h seat)
@@ -153,10 +161,12 @@ HearsOn jobs s t = (b : Began) → b.all ≡ true → Going jobs b s → Going j
 
 -- ---- how much is still to be heard
 
+-- what all jobs cost
 abbrev pub total : List Job → ℕ
 total [] = 0
 total (j ∷ js) = items_cost j.items + total js
 
+-- what is left of all jobs
 abbrev pub work : List Job → List Kept → ℕ
 work [] ks = 0
 work (j ∷ js) [] = items_cost j.items + work js []
@@ -275,6 +285,7 @@ JobsFault jobs (faults.Unread j item) links before after old new now = UnreadLea
 JobsFault jobs faults.Keep links before after old new now = Rises old new
 JobsFault jobs faults.NoMemory links before after old new now = Unit {0}
 
+-- a worker could not read an item
 abbrev pub IsUnread : DispatchFault → Type 0
 IsUnread faults.WorkersLost = ⊥
 IsUnread (faults.Unread j item) = Unit {0}
@@ -285,6 +296,7 @@ IsUnread faults.NoMemory = ⊥
 abbrev pub fresh : List LinkState → List Entry → Began
 fresh links lost = record { links = links; lost = lost; all = false }
 
+-- each idle link was given a job, or none waits
 abbrev pub begun : List LinkState → List Entry → Began
 begun links lost = record { links = links; lost = lost; all = true }
 

@@ -25,6 +25,7 @@ SentOver (Ok _) frame old new = Sends old new frame
 SentOver (Err Failed) frame old new = ¬ IsSteady old
 SentOver (Err NoMemory) frame old new = Unit {0}
 
+-- the same of a seat
 abbrev pub SeatSends : Result (Unit {0}) Stop → Text → Option LinkState → Option LinkState → Type 0
 SeatSends result frame = Both (SentOver result frame)
 
@@ -37,12 +38,15 @@ IsHearing (Some state) job number h s = (from : Option Told) × (k : Kept) × At
 abbrev pub HearsOver : Verdict → Job → ℕ → Hearing → Hearing → KeepState → KeepState → LinkState → LinkState → Type 0
 HearsOver v job number h n s t old new = KeepsCounts v old new × ((from : Option Told) (k : Kept) → At from old.told job number h s k → VerdictHolds v from new.told job number n k s t)
 
+-- the same of a seat
 abbrev pub Hears : Verdict → Job → ℕ → Hearing → Hearing → KeepState → KeepState → Option LinkState → Option LinkState → Type 0
 Hears v job number h n s t = Both (HearsOver v job number h n s t)
 
+-- no frame of the link was taken
 abbrev pub FailsOver : TakeFault → Job → ℕ → Hearing → KeepState → KeepState → LinkState → LinkState → Type 0
 FailsOver e job number h s t old new = (IsUnread e → last_five new.given ≡ spell Unread) × ((from : Option Told) (k : Kept) → At from old.told job number h s k → FaultHolds e from job h.item s t)
 
+-- the same of a seat
 abbrev pub HearFails : TakeFault → Job → ℕ → Hearing → KeepState → KeepState → Option LinkState → Option LinkState → Type 0
 HearFails e job number h s t = Both (FailsOver e job number h s t)
 

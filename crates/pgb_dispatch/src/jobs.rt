@@ -49,6 +49,7 @@ fn run_links<L: Link, W, U: Turns, K: Keep<W>>(
     ensures done { OnOk result (AllDone (map job_of jobs.now) (map L.link_state links.old.items) (K.kept keep.new on.new).kept) }
     // The links that weren't lost are left, idle, each with as many new jobs as it may have. Each of the others is told, and no steady worker is.
     ensures left { OnOk result (Left (length jobs.now) (map L.link_state links.old.items) lost.old.items lost.new.items (map L.link_state links.new.items)) }
+    ensures some { OnOk result (0 < length links.old.items → 0 < length links.new.items) }
     ensures fault { IfErr result (λ e. JobsFault (map job_of jobs.now) e (map L.link_state links.old.items) lost.old.items lost.new.items (K.kept keep.old on.old).faults (K.kept keep.new on.new).faults (map L.link_state links.new.items)) }
 {
     let mut core = Core::new(alloc, jobs.len() as u32, links.len() as u32)?;
@@ -102,6 +103,7 @@ pub fn run_jobs<L: Link, W, U: Turns, K: Keep<W>>(
     ensures done { OnOk result (AllDone (map job_of jobs.now) (map L.link_state links.old.items) (K.kept keep.new on.new).kept) }
     // The links that weren't lost are left, idle, each with as many new jobs as it may have. Each of the others is told, and no steady worker is.
     ensures left { OnOk result (Left (length jobs.now) (map L.link_state links.old.items) lost.old.items lost.new.items (map L.link_state links.new.items)) }
+    ensures some { OnOk result (0 < length links.old.items → 0 < length links.new.items) }
     ensures fault { IfErr result (λ e. JobsFault (map job_of jobs.now) e (map L.link_state links.old.items) lost.old.items lost.new.items (K.kept keep.old on.old).faults (K.kept keep.new on.new).faults (map L.link_state links.new.items)) }
     ensures refused { IfErr result (λ e. IsUnread e ⊎ (links.new.items ≡ [])) }
 {

@@ -8,6 +8,7 @@ use Rattle.pgb_hear.specs.declared.frames.Heard.TheVariants as heard
 use Rattle.pgb_hear.specs.declared.cause.HearFault.{HearFault}
 use Rattle.pgb_hear.specs.Takes.{Takes, Offers}
 
+-- the frame that was heard
 abbrev pub frame_of : Heard → Frame
 frame_of (heard.Part v) = Part v.items
 frame_of (heard.End n sum) = End n sum.0
@@ -28,6 +29,7 @@ IsReplyFrame (End n sum) = (n < 2 ^ 64) × (length sum ≡ 20)
 IsReplyFrame Vanished = Unit {0}
 IsReplyFrame Unread = Unit {0}
 
+-- it may stand in a reply
 abbrev pub IsHeard : Heard → Type 0
 IsHeard h = IsReplyFrame (frame_of h)
 

@@ -32,6 +32,7 @@ pub record Breaks (old new : LinkState) : Type 0 where
   pub rises : Rises old.faults new.faults
   pub unsteady : ¬ IsSteady old
 
+-- why no more was received
 abbrev pub Stops : Stop → LinkState → LinkState → Type 0
 Stops Failed old new = Breaks old new
 Stops NoMemory old new = Unit {0}
@@ -55,6 +56,7 @@ CauseHolds (Ended at) before old new = HasHeard before at old new
 CauseHolds (Form at) before old new = HasHeard before at old new
 CauseHolds (Sum told found) before old new = ⊥
 
+-- why no frame was heard
 abbrev pub FaultLeaves : HearFault → ℕ → LinkState → LinkState → Type 0
 FaultLeaves (faults.Lost cause) before old new = CauseHolds cause before old new
 FaultLeaves faults.NoMemory before old new = Unit {0}

@@ -35,12 +35,15 @@ pub record IsLowest (s : Dispatch) (job : ℕ) : Type 0 where
 abbrev pub after_give : Dispatch → ℕ → ℕ → Dispatch
 after_give s link job = record { jobs = slice_set s.jobs job (With link); links = slice_set s.links link (Busy job) }
 
+-- the last frame of a reply ends the job
 abbrev pub after_end : Dispatch → ℕ → ℕ → Dispatch
 after_end s link job = record { jobs = slice_set s.jobs job Ended; links = slice_set s.links link Idle }
 
+-- the job of a lost link waits again
 abbrev pub after_lose : Dispatch → ℕ → ℕ → Dispatch
 after_lose s link job = record { jobs = slice_set s.jobs job Waiting; links = slice_set s.links link Lost }
 
+-- an idle link is lost
 abbrev pub after_lose_idle : Dispatch → ℕ → Dispatch
 after_lose_idle s link = record { jobs = s.jobs; links = slice_set s.links link Lost }
 

@@ -75,6 +75,7 @@ pub record At (from now : Option Told) (job : Job) (number : ℕ) (h : Hearing) 
   pub kept : slice_get s.kept number ≡ Some k
   pub asked : slice_get s.jobs number ≡ Some job
 
+-- there is such a reply in its course
 pub record IsAt (job : Job) (number : ℕ) (h : Hearing) (s : KeepState) : Type 0 where
   pub from : Option Told
   pub now : Option Told
@@ -83,6 +84,7 @@ pub record IsAt (job : Job) (number : ℕ) (h : Hearing) (s : KeepState) : Type 
 
 -- ---- how much is still to be heard
 
+-- what items cost: a frame each beside their bytes
 abbrev pub items_cost : List Item → ℕ
 items_cost [] = 0
 items_cost (i ∷ is) = suc (i.size) + items_cost is
@@ -126,6 +128,7 @@ FaultHolds (faults.Unread item) from job index old new = (new ≡ old) × (item 
 FaultHolds faults.Keep from job index old new = Rises old.faults new.faults
 FaultHolds faults.NoMemory from job index old new = new.faults ≡ old.faults
 
+-- the worker could not read an item
 abbrev pub IsUnread : TakeFault → Type 0
 IsUnread (faults.Unread item) = Unit {0}
 IsUnread faults.Keep = ⊥

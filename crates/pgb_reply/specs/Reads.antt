@@ -31,6 +31,7 @@ pub record IsWorker (t : Told) : Type 0 where
   pub repo : Content
   pub reads : Reads tree repo t
 
+-- the link tells, and is such a worker
 abbrev pub IsSteadyWorker : Option Told → Type 0
 IsSteadyWorker told = IsSomeAnd told IsWorker
 
