@@ -25,6 +25,8 @@ make_data() {
 beside() {
     local status=0 wanted=$1 output=$2 other
     shift 2
+    # It is empty before the stand-in runs, so nothing is read of the one before.
+    : >ready
     "$top/bin/pgb_standin" "$room/.s.PGSQL.5432" >ready &
     other=$!
     for _ in $(seq 100); do
