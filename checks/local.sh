@@ -1,18 +1,6 @@
 #!/usr/bin/env bash
 # A worker: it answers jobs over standard input and output, and ends with 1 on a fault.
-set -euo pipefail
-cd "$(dirname "$0")/.."
-top=$PWD
-./build
-room=$(mktemp -d)
-trap 'rm -rf "$room"' EXIT
-cd "$room"
-
-wrong=0
-complain() {
-    printf 'wrong: %s\n' "$*"
-    wrong=1
-}
+. "$(dirname "$0")/room"
 
 # number SIZE VALUE: the number in so many bytes, the highest first.
 number() {

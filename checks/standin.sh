@@ -1,18 +1,7 @@
 #!/usr/bin/env bash
 # stanza-create beside the program that stands in for a server: two programs on one socket.
-set -euo pipefail
-cd "$(dirname "$0")/.."
-./build
-./build pgb_standin
-top=$PWD
-room=$(mktemp -d)
-trap 'rm -rf "$room"' EXIT
-cd "$room"
-wrong=0
-complain() {
-    printf 'wrong: %s\n' "$*"
-    wrong=1
-}
+. "$(dirname "$0")/room"
+(cd "$top" && ./build pgb_standin)
 
 # Makes what the commands read of a data folder: the head of a control file with this first byte, and a version.
 make_data() {

@@ -28,37 +28,37 @@ id_of c = c.id
 -- ---- a value with these backups and this cluster
 
 -- so many clusters from a number on, with this one at its number
-row : ℕ → ℕ → Cluster → List Cluster
-row m zero c = []
-row m (suc n) c = (record { id = m; system = c.system; version = c.version; control = c.control; catalog = c.catalog }) ∷ row (m + 1) n c
+copies_from : ℕ → ℕ → Cluster → List Cluster
+copies_from m zero c = []
+copies_from m (suc n) c = (record { id = m; system = c.system; version = c.version; control = c.control; catalog = c.catalog }) ∷ copies_from (m + 1) n c
 
-row_length : (m n : ℕ) (c : Cluster) → length (row m n c) ≡ n
-unfolding row
-row_length m zero c = refl
-row_length m (suc n) c = let e = row_length (m + 1) n c in omega (arith, e)
+copies_length : (m n : ℕ) (c : Cluster) → length (copies_from m n c) ≡ n
+unfolding copies_from
+copies_length m zero c = refl
+copies_length m (suc n) c = let e = copies_length (m + 1) n c in omega (arith, e)
 
-row_rules : (m n : ℕ) (c : Cluster) → IsCluster c → m + n ≤ 2 ^ 32 → AllByRecursion IsCluster (row m n c)
-unfolding row
-row_rules m zero c h top = tt
-row_rules m (suc n) c h top = (record { id = omega arith; system = h.system; version = h.version; control = h.control; catalog = h.catalog }, row_rules (m + 1) n c h (omega arith))
+copies_rules : (m n : ℕ) (c : Cluster) → IsCluster c → m + n ≤ 2 ^ 32 → AllByRecursion IsCluster (copies_from m n c)
+unfolding copies_from
+copies_rules m zero c h top = tt
+copies_rules m (suc n) c h top = (record { id = omega arith; system = h.system; version = h.version; control = h.control; catalog = h.catalog }, copies_rules (m + 1) n c h (omega arith))
 
-row_numbers : (m n : ℕ) (c : Cluster) → AreFrom m (map id_of (row m n c))
-unfolding row
-row_numbers m zero c = tt
-row_numbers m (suc n) c = (refl, row_numbers (m + 1) n c)
+copies_numbers : (m n : ℕ) (c : Cluster) → AreFrom m (map id_of (copies_from m n c))
+unfolding copies_from
+copies_numbers m zero c = tt
+copies_numbers m (suc n) c = (refl, copies_numbers (m + 1) n c)
 
-row_at : (m n i : ℕ) (c : Cluster) → i < n → c.id ≡ m + i → slice_get (row m n c) i ≡ Some c
-unfolding row
-row_at m zero i c h is = absurd (omega arith)
-row_at m (suc n) zero c h is =
+copies_at : (m n i : ℕ) (c : Cluster) → i < n → c.id ≡ m + i → slice_get (copies_from m n c) i ≡ Some c
+unfolding copies_from
+copies_at m zero i c h is = absurd (omega arith)
+copies_at m (suc n) zero c h is =
     let e : m ≡ c.id = omega (arith, is) in
     let r : ◌≡◌ {A = Cluster} (record { id = m; system = c.system; version = c.version; control = c.control; catalog = c.catalog }) (record { id = c.id; system = c.system; version = c.version; control = c.control; catalog = c.catalog }) = rw e refl in
     ap (λ (x : Cluster). Some x) r
-row_at m (suc n) (suc i) c h is =
-    row_at (m + 1) n i c (omega arith) (omega (arith, is))
+copies_at m (suc n) (suc i) c h is =
+    copies_at (m + 1) n i c (omega arith) (omega (arith, is))
 
 abbrev built : List Entry → Cluster → ℕ → BackupInfo
-built es c n = record { current = c.id; history = row 1 n c; backups = es }
+built es c n = record { current = c.id; history = copies_from 1 n c; backups = es }
 
 with_db : (m clusters : ℕ) (earlier : List Entry) (e : Entry) → e.db ≤ m → IsListedEntry clusters earlier e → IsListedEntry m earlier e
 with_db m clusters earlier e few h = record {
@@ -94,12 +94,12 @@ highest_small clusters earlier (e ∷ es) h = let db = h.0.db in let more = high
 
 built_rules : (es : List Entry) (c : Cluster) (n : ℕ) → IsList es → IsCluster c → 1 ≤ c.id → c.id ≤ n → highest es ≤ n → n < 2 ^ 32 → IsBackupInfo (built es c n)
 built_rules es c n list h low within few small =
-    let long = row_length 1 n c in
+    let long = copies_length 1 n c in
     record {
-      clusters = row_rules 1 n c h (omega (arith, small));
-      numbers = row_numbers 1 n c;
+      clusters = copies_rules 1 n c h (omega (arith, small));
+      numbers = copies_numbers 1 n c;
       current = (low, omega (arith, long, within));
-      backups = listed_as (length (row 1 n c)) many [] es (omega (arith, long, few)) list.backups;
+      backups = listed_as (length (copies_from 1 n c)) many [] es (omega (arith, long, few)) list.backups;
       order = list.order;
     }
 
@@ -358,7 +358,7 @@ module _ (ss : List Section) (info : IsInfo ss) where
         before_here earlier b =
             let s = shape v rules in
             let c = wrong.told.0 in
-            let same : s.current ≡ c = some_same s.current c (sym s.at ∙ row_at 1 (max c.id (highest es)) (c.id - 1) c (let low = wrong.told.2 in omega (arith, low)) (let low = wrong.told.2 in omega (arith, low))) in
+            let same : s.current ≡ c = some_same s.current c (sym s.at ∙ copies_at 1 (max c.id (highest es)) (c.id - 1) c (let low = wrong.told.2 in omega (arith, low)) (let low = wrong.told.2 in omega (arith, low))) in
             agree_to (backup_sections v) ss db_name (cluster_fields s.current) ks (tells_db v s) two earlier (subst (λ (x : Cluster). KeysAgree (cluster_fields x) ks earlier) (sym same) (wrong.told.3 earlier b))
 
         here : WrongAt ss db_name key
@@ -379,7 +379,7 @@ module _ (ss : List Section) (info : IsInfo ss) where
         told_db key =
             let v = built es c n in
             let s = shape v told_rules in
-            let same : s.current ≡ c = some_same s.current c (sym s.at ∙ row_at 1 n (c.id - 1) c (omega (arith, low, within)) (omega (arith, low))) in
+            let same : s.current ≡ c = some_same s.current c (sym s.at ∙ copies_at 1 n (c.id - 1) c (omega (arith, low, within)) (omega (arith, low))) in
             agree_to (backup_sections v) ss db_name (cluster_fields s.current) (cluster_fields c) (tells_db v s) db_tells key
             (subst (λ (x : Cluster). KeysAgree (cluster_fields x) (cluster_fields c) key) (sym same) (record { there = λ d i. i; back = λ d i. i }))
 
@@ -434,7 +434,7 @@ module _ (ss : List Section) (info : IsInfo ss) where
         all_clusters : HasClusters (built es c all) ss
         all_clusters s j n =
             let same = ap (λ (x : Section). length x.keys) (same_section s past j i (n ∙ sym named)) in
-            let long = row_length 1 all c in
+            let long = copies_length 1 all c in
             omega (arith, same, long)
 
         -- a wrong key of the history

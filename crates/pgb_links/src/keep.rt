@@ -1,5 +1,5 @@
 // A keeper in memory.
-ghost use Rattle.std.specs.Prelude.{◌≡◌, ◌<◌, ℕ, length, map, slice_get, All, IfOk, IfSome, IsSomeAnd};
+ghost use Rattle.std.specs.Prelude.{◌≡◌, ◌<◌, ℕ, [], None, length, map, slice_get, All, IfOk, IfSome, IsSomeAnd};
 ghost use Rattle.std.proofs.Common.{refl, ◌∙◌};
 ghost use Rattle.pgb_frame.specs.Views.{job_of};
 ghost use Rattle.pgb_keep.specs.KeepState.{KeepLeaves, Adds, Ends, Clears, IsFresh, IsNext, HasRoom};
@@ -53,7 +53,7 @@ impl<'a> MemKeep<'a> {
     pub fn new(alloc: Global, jobs: &'a [Job], fail: Vec<u64>) -> Result<Self, AllocError>
         ensures jobs { IfOk result (λ k. (⟦<MemKeep<'a> as Keep<()>>⟧.kept k tt).jobs ≡ map job_of jobs.now) }
         ensures empty { IfOk result (λ k. (j : ℕ) → j < length (map job_of jobs.now) → IsSomeAnd (slice_get (⟦<MemKeep<'a> as Keep<()>>⟧.kept k tt).kept j) IsFresh) }
-        ensures faults { IfOk result (λ k. (⟦<MemKeep<'a> as Keep<()>>⟧.kept k tt).faults ≡ 0) }
+        ensures counts { IfOk result (λ k. k.failing ≡ record { fail = fail; calls = 0; faults = 0 }) }
     {
         Ok(MemKeep {
             alloc,
@@ -65,7 +65,8 @@ impl<'a> MemKeep<'a> {
 
     /// The items of a job that have ended, in order: none of a job that there isn't.
     pub fn ended(&self, job: usize) -> &[Ended]
-        ensures { IfSome (slice_get (⟦<MemKeep<'a> as Keep<()>>⟧.kept self.now tt).kept job) (λ k. k.done ≡ map done_of result.now) }
+        ensures items { IfSome (slice_get (⟦<MemKeep<'a> as Keep<()>>⟧.kept self.now tt).kept job) (λ k. k.done ≡ map done_of result.now) }
+        ensures none { slice_get (⟦<MemKeep<'a> as Keep<()>>⟧.kept self.now tt).kept job ≡ None → result.now ≡ [] }
     {
         match self.kept.get(job) {
             Some(kept) => &kept.ended,

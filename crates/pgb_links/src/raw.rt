@@ -49,6 +49,7 @@ impl RawLink {
     pub fn new(input: Vec<u8>, fail: Vec<u64>) -> Self
         ensures state { state_of result ≡ record { faults = 0; jobs = 0; reads = 0; given = []; told = None } }
         ensures rest { rest_of result ≡ input.items }
+        ensures counts { result.failing ≡ record { fail = fail; calls = 0; faults = 0 } }
     {
         RawLink {
             input,
