@@ -13,7 +13,7 @@ use Rattle.pgb_outside.specs.Tree.{Nodes}
 use Rattle.pgb_model.specs.Text.{Text}
 use Rattle.pgb_command.specs.declared.fault.Fault.{Fault}
 use Rattle.pgb_command.specs.declared.fault.Fault.TheVariants.{Settings, ConfigMissing, SegmentName, PathOutside, Held, StanzaMissing, InfoDamaged, HistoryDiffers, StanzaMismatch, ArchiveLost, SegmentMissing, TooLong, TooMany, HeaderForm, SegmentSize, HeaderMismatch, Ambiguous, Duplicate, SegmentDamaged, Server, Wire, NotBuilt, ControlMissing, ControlShort, VersionText, VersionUnsupported, Disk, Tree, Locks, Source, Sink, NoMemory}
-use Rattle.pgb_command.specs.Answers.{Ending, finished, absent, refused, Answer, error_line, lines_of, usage_status, server_status, status_of, status, OnFinding, IsFinding}
+use Rattle.pgb_command.specs.Answers.{Ending, finished, absent, refused, Answer, error_line, lines_of, usage_status, server_status, status_of, status, OnEarly, IsEarly}
 use Rattle.pgb_command.specs.Causes.{Cause, Refused, Unknown, Asking, Output, Memory}
 use Rattle.pgb_command.specs.Output.{IsFrontWritten, IsTold, Whole, Cut, Starved, Wordless, WroteLines, Wrote}
 use Rattle.pgb_options.specs.declared.options.OutputWord.{OutputWord}
@@ -21,7 +21,7 @@ use Rattle.pgb_command.specs.Asked.{Request, get, report, Asked}
 use Rattle.pgb_command.specs.Doing.{ServesFor, MissesFor, ServedBy}
 use Rattle.pgb_command.specs.Getting.{Serves, IsMissing}
 use Rattle.pgb_command.specs.Reporting.{IsReported}
-use Rattle.pgb_command.proofs.Pushes.{finding_to, on_all as all_findings}
+use Rattle.pgb_command.proofs.Pushes.{early_to, on_all as all_early}
 use Rattle.pgb_command.proofs.Written.{more}
 use Rattle.pgb_command.proofs.Told.{front_whole, front_as}
 
@@ -215,45 +215,53 @@ module _ (words : List Text) (files repo : Option Content) (nodes : Option Nodes
   )
   told_cause old new answer told cause (Wordless rose front) = (As answer.unknown (refused Sink), refl, Output answer.unknown rose, (As [] (refused NoMemory), Memory [], front))
 
--- ---- refusals
+-- ---- early ends
 
-not_a_finding : (n m : ℕ) → n ≡ m → 80 ≤ m → m ≤ 90 → ¬ IsFinding n
-not_a_finding n m is lo hi (inl a) = absurd (omega (arith, is, a.0, hi))
-not_a_finding n m is lo hi (inr b) = absurd (omega (arith, is, b.1, lo))
+-- a failure of another object, or want of memory
+abbrev IsLate : ℕ → Type 0
+IsLate m = ((80 ≤ m) × (m ≤ 82)) ⊎ ((84 ≤ m) × (m ≤ 90))
 
-found_by : (fault : Fault) (P : Type 0) → IsFinding (status_of fault) → OnFinding fault P → P
-found_by (Settings u) P finding h = h
-found_by (ConfigMissing a) P finding h = h
-found_by (SegmentName a) P finding h = h
-found_by (PathOutside a) P finding h = h
-found_by (Held a) P finding h = h
-found_by (StanzaMissing a) P finding h = h
-found_by (InfoDamaged a b c) P finding h = h
-found_by (StanzaMismatch a b) P finding h = h
-found_by (HistoryDiffers a) P finding h = h
-found_by (ArchiveLost a) P finding h = h
-found_by (SegmentMissing a) P finding h = h
-found_by (TooLong a b) P finding h = h
-found_by (TooMany a) P finding h = h
-found_by (HeaderForm a) P finding h = h
-found_by (SegmentSize a b) P finding h = h
-found_by (HeaderMismatch a b) P finding h = h
-found_by (Ambiguous a b) P finding h = h
-found_by (Duplicate a b) P finding h = h
-found_by (SegmentDamaged a b) P finding h = h
-found_by (Server a) P finding h = h
-found_by (NotBuilt a) P finding h = h
-found_by (ControlMissing a) P finding h = h
-found_by (ControlShort a) P finding h = h
-found_by VersionText P finding h = h
-found_by (VersionUnsupported a) P finding h = h
-found_by Disk P finding h = absurd (not_a_finding 80 80 refl (omega arith) (omega arith) finding)
-found_by Tree P finding h = absurd (not_a_finding 82 82 refl (omega arith) (omega arith) finding)
-found_by Wire P finding h = absurd (not_a_finding 83 83 refl (omega arith) (omega arith) finding)
-found_by Locks P finding h = absurd (not_a_finding 85 85 refl (omega arith) (omega arith) finding)
-found_by Source P finding h = absurd (not_a_finding 86 86 refl (omega arith) (omega arith) finding)
-found_by Sink P finding h = absurd (not_a_finding 87 87 refl (omega arith) (omega arith) finding)
-found_by NoMemory P finding h = absurd (not_a_finding 90 90 refl (omega arith) (omega arith) finding)
+not_early : (n m : ℕ) → n ≡ m → IsLate m → ¬ IsEarly n
+not_early n m is (inl a) (inl e) = absurd (omega (arith, is, a.0, e.1))
+not_early n m is (inl a) (inr (inl e)) = absurd (omega (arith, is, a.1, e))
+not_early n m is (inl a) (inr (inr e)) = absurd (omega (arith, is, a.1, e.0))
+not_early n m is (inr b) (inl e) = absurd (omega (arith, is, b.0, e.1))
+not_early n m is (inr b) (inr (inl e)) = absurd (omega (arith, is, b.0, e))
+not_early n m is (inr b) (inr (inr e)) = absurd (omega (arith, is, b.1, e.0))
+
+found_by : (fault : Fault) (P : Type 0) → IsEarly (status_of fault) → OnEarly fault P → P
+found_by (Settings u) P early h = h
+found_by (ConfigMissing a) P early h = h
+found_by (SegmentName a) P early h = h
+found_by (PathOutside a) P early h = h
+found_by (Held a) P early h = h
+found_by (StanzaMissing a) P early h = h
+found_by (InfoDamaged a b c) P early h = h
+found_by (StanzaMismatch a b) P early h = h
+found_by (HistoryDiffers a) P early h = h
+found_by (ArchiveLost a) P early h = h
+found_by (SegmentMissing a) P early h = h
+found_by (TooLong a b) P early h = h
+found_by (TooMany a) P early h = h
+found_by (HeaderForm a) P early h = h
+found_by (SegmentSize a b) P early h = h
+found_by (HeaderMismatch a b) P early h = h
+found_by (Ambiguous a b) P early h = h
+found_by (Duplicate a b) P early h = h
+found_by (SegmentDamaged a b) P early h = h
+found_by (Server a) P early h = h
+found_by (NotBuilt a) P early h = h
+found_by (ControlMissing a) P early h = h
+found_by (ControlShort a) P early h = h
+found_by VersionText P early h = h
+found_by (VersionUnsupported a) P early h = h
+found_by Disk P early h = absurd (not_early 80 80 refl (inl (omega arith, omega arith)) early)
+found_by Tree P early h = absurd (not_early 82 82 refl (inl (omega arith, omega arith)) early)
+found_by Wire P early h = h
+found_by Locks P early h = absurd (not_early 85 85 refl (inr (omega arith, omega arith)) early)
+found_by Source P early h = absurd (not_early 86 86 refl (inr (omega arith, omega arith)) early)
+found_by Sink P early h = absurd (not_early 87 87 refl (inr (omega arith, omega arith)) early)
+found_by NoMemory P early h = absurd (not_early 90 90 refl (inr (omega arith, omega arith)) early)
 
 abbrev At : Result Outcome Fault → List Text → Answer
 At result u = As u (ending_of result)
@@ -266,34 +274,35 @@ at_zero P (Err e) u old new rose told n (Cut r front) same zero h = absurd (omeg
 at_zero P (Err e) u old new rose told n (Starved lines which front) same zero h = absurd (omega (arith, same, zero))
 at_zero P (Err e) u old new rose told n (Wordless r front) same zero h = absurd (omega (arith, same, zero))
 
-no_finding : (n : ℕ) → n ≡ 0 → ¬ IsFinding n
-no_finding n is (inl a) = absurd (omega (arith, is, a.0))
-no_finding n is (inr b) = absurd (omega (arith, is, b.0))
+zero_not_early : (n : ℕ) → n ≡ 0 → ¬ IsEarly n
+zero_not_early n is (inl a) = absurd (omega (arith, is, a.0))
+zero_not_early n is (inr (inl e)) = absurd (omega (arith, is, e))
+zero_not_early n is (inr (inr b)) = absurd (omega (arith, is, b.0))
 
 -- what holds where nothing was done holds where the program ends with its status
-pub at_finding : (P : Type 0) (result : Result Outcome Fault) (u : List Text) (old new : Option Text) (rose : Type 0) (told : Ending) (n : ℕ) → IsTold old (At result u) new rose told → n ≡ status told → IsFinding n → OnNothing result P → P
-at_finding P (Ok Silent) u old new rose told n (Whole ending end is) same finding h = absurd (no_finding n (same ∙ ap status end) finding)
-at_finding P (Ok (SameStored name)) u old new rose told n (Whole ending end is) same finding h = absurd (no_finding n (same ∙ ap status end) finding)
-at_finding P (Ok (Report text)) u old new rose told n (Whole ending end is) same finding h = absurd (no_finding n (same ∙ ap status end) finding)
-at_finding P (Ok (Absent name)) u old new rose told n (Whole ending end is) same finding h = h
-at_finding P (Err e) u old new rose told n (Whole ending end is) same finding h = found_by e P (subst IsFinding (same ∙ ap status end) finding) h
-at_finding P result u old new rose told n (Cut r front) same finding h = absurd (not_a_finding n 87 same (omega arith) (omega arith) finding)
-at_finding P result u old new rose told n (Starved lines which front) same finding h = absurd (not_a_finding n 90 same (omega arith) (omega arith) finding)
-at_finding P result u old new rose told n (Wordless r front) same finding h = absurd (not_a_finding n 87 same (omega arith) (omega arith) finding)
+pub at_early : (P : Type 0) (result : Result Outcome Fault) (u : List Text) (old new : Option Text) (rose : Type 0) (told : Ending) (n : ℕ) → IsTold old (At result u) new rose told → n ≡ status told → IsEarly n → OnNothing result P → P
+at_early P (Ok Silent) u old new rose told n (Whole ending end is) same early h = absurd (zero_not_early n (same ∙ ap status end) early)
+at_early P (Ok (SameStored name)) u old new rose told n (Whole ending end is) same early h = absurd (zero_not_early n (same ∙ ap status end) early)
+at_early P (Ok (Report text)) u old new rose told n (Whole ending end is) same early h = absurd (zero_not_early n (same ∙ ap status end) early)
+at_early P (Ok (Absent name)) u old new rose told n (Whole ending end is) same early h = h
+at_early P (Err e) u old new rose told n (Whole ending end is) same early h = found_by e P (subst IsEarly (same ∙ ap status end) early) h
+at_early P result u old new rose told n (Cut r front) same early h = absurd (not_early n 87 same (inr (omega arith, omega arith)) early)
+at_early P result u old new rose told n (Starved lines which front) same early h = absurd (not_early n 90 same (inr (omega arith, omega arith)) early)
+at_early P result u old new rose told n (Wordless r front) same early h = absurd (not_early n 87 same (inr (omega arith, omega arith)) early)
 
 pub nothing_as : (result : Result Outcome Fault) (P Q : Type 0) → (P → Q) → OnNothing result P → OnNothing result Q
 nothing_as (Ok Silent) P Q to h = tt
 nothing_as (Ok (SameStored name)) P Q to h = tt
 nothing_as (Ok (Absent name)) P Q to h = to h
 nothing_as (Ok (Report text)) P Q to h = tt
-nothing_as (Err e) P Q to h = finding_to e P Q to h
+nothing_as (Err e) P Q to h = early_to e P Q to h
 
 pub nothing_all : (result : Result Outcome Fault) (P : Type 0) → P → OnNothing result P
 nothing_all (Ok Silent) P p = tt
 nothing_all (Ok (SameStored name)) P p = tt
 nothing_all (Ok (Absent name)) P p = p
 nothing_all (Ok (Report text)) P p = tt
-nothing_all (Err e) P p = all_findings e P p
+nothing_all (Err e) P p = all_early e P p
 
 -- the answer is told whole where the program ends with 0
 whole_at_zero : (answer : Answer) (old new : Option Text) (rose : Type 0) (told : Ending) (n : ℕ) → IsTold old answer new rose told → n ≡ status told → n ≡ 0 → (told ≡ answer.ending) × (new ≡ more (lines_of answer) old)

@@ -25,7 +25,7 @@ use Rattle.pgb_stanza.specs.Causes.{CreateCause as StanzaCause, OnContent, IfNew
 use Rattle.pgb_command.specs.declared.fault.Fault.{Fault}
 use Rattle.pgb_command.specs.declared.fault.Fault.TheVariants as faults
 use Rattle.pgb_command.specs.Causes.{CreateCause}
-use Rattle.pgb_command.specs.Answers.{OnFinding}
+use Rattle.pgb_command.specs.Answers.{OnEarly}
 use Rattle.pgb_command.specs.Making.{MakeCause, IsStanzaFault, Damaged, Differs, Mismatch, Lost, Unsaid, Failed, Starved}
 use Rattle.pgb_command.specs.Cluster.{control_bytes, version_bytes, FolderTells, IsClusterOf}
 
@@ -109,14 +109,14 @@ was_of Same P Q new same = inr same
 
 -- ---- which answer a refusal is
 
-pub content_finding : (e : StanzaFault) (fault : Fault) (P : Type 0) → IsStanzaFault e fault → OnContent e P → OnFinding fault P
-content_finding e fault P (Damaged name main copy) p = p
-content_finding e fault P (Differs at) p = p
-content_finding e fault P (Mismatch kept found) p = p
-content_finding e fault P (Lost label text is) p = p
-content_finding e fault P (Unsaid label) p = tt
-content_finding e fault P Failed p = tt
-content_finding e fault P Starved p = tt
+pub content_early : (e : StanzaFault) (fault : Fault) (P : Type 0) → IsStanzaFault e fault → OnContent e P → OnEarly fault P
+content_early e fault P (Damaged name main copy) p = p
+content_early e fault P (Differs at) p = p
+content_early e fault P (Mismatch kept found) p = p
+content_early e fault P (Lost label text is) p = p
+content_early e fault P (Unsaid label) p = tt
+content_early e fault P Failed p = tt
+content_early e fault P Starved p = tt
 
 pub make_cause : (stanza : Text) (told : Control) (repo : Option Content) (rose : Type 0) (e : StanzaFault) (fault : Fault) → IsStanzaFault e fault → StanzaCause stanza told repo rose e → MakeCause stanza told repo rose fault
 make_cause stanza told repo rose e fault (Damaged name main copy) h = h

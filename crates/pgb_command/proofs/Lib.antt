@@ -22,6 +22,7 @@ mod StoreCauses
 mod Pushes
 mod Causes
 mod Talks
+mod Closings
 mod Names
 mod Asked
 mod Doings

@@ -16,7 +16,7 @@ use Rattle.pgb_model.proofs.PushSound.{push_keeps_sound}
 use Rattle.pgb_model.proofs.PushDone.{push_spool}
 use Rattle.pgb_command.specs.declared.fault.Fault.{Fault}
 use Rattle.pgb_command.specs.declared.fault.Fault.TheVariants.{Settings, ConfigMissing, SegmentName, PathOutside, Held, StanzaMissing, InfoDamaged, HistoryDiffers, StanzaMismatch, ArchiveLost, SegmentMissing, TooLong, TooMany, HeaderForm, SegmentSize, HeaderMismatch, Ambiguous, Duplicate, SegmentDamaged, Server, Wire, NotBuilt, ControlMissing, ControlShort, VersionText, VersionUnsupported, Disk, Tree, Locks, Source, Sink, NoMemory}
-use Rattle.pgb_command.specs.Answers.{OnFinding}
+use Rattle.pgb_command.specs.Answers.{OnEarly}
 use Rattle.pgb_command.specs.Asked.{Request, create, push, get, report}
 use Rattle.pgb_command.specs.Commands.{IsPushOf, IsRequestOf, IsPart, Goes, Ends}
 use Rattle.pgb_command.proofs.Carries.{with_spool}
@@ -101,42 +101,42 @@ none_carried stanza v = record {
   };
 }
 
--- what holds of a finding
-pub finding_to : (e : Fault) (P Q : Type 0) → (P → Q) → OnFinding e P → OnFinding e Q
-finding_to (Settings u) P Q to h = to h
-finding_to (ConfigMissing a) P Q to h = to h
-finding_to (SegmentName a) P Q to h = to h
-finding_to (PathOutside a) P Q to h = to h
-finding_to (Held a) P Q to h = to h
-finding_to (StanzaMissing a) P Q to h = to h
-finding_to (InfoDamaged a b c) P Q to h = to h
-finding_to (StanzaMismatch a b) P Q to h = to h
-finding_to (HistoryDiffers a) P Q to h = to h
-finding_to (ArchiveLost a) P Q to h = to h
-finding_to (SegmentMissing a) P Q to h = to h
-finding_to (TooLong a b) P Q to h = to h
-finding_to (TooMany a) P Q to h = to h
-finding_to (HeaderForm a) P Q to h = to h
-finding_to (SegmentSize a b) P Q to h = to h
-finding_to (HeaderMismatch a b) P Q to h = to h
-finding_to (Ambiguous a b) P Q to h = to h
-finding_to (Duplicate a b) P Q to h = to h
-finding_to (SegmentDamaged a b) P Q to h = to h
-finding_to (Server a) P Q to h = to h
-finding_to (NotBuilt a) P Q to h = to h
-finding_to (ControlMissing a) P Q to h = to h
-finding_to (ControlShort a) P Q to h = to h
-finding_to VersionText P Q to h = to h
-finding_to (VersionUnsupported a) P Q to h = to h
-finding_to Disk P Q to h = tt
-finding_to Tree P Q to h = tt
-finding_to Wire P Q to h = tt
-finding_to Locks P Q to h = tt
-finding_to Source P Q to h = tt
-finding_to Sink P Q to h = tt
-finding_to NoMemory P Q to h = tt
+-- what holds of an early fault
+pub early_to : (e : Fault) (P Q : Type 0) → (P → Q) → OnEarly e P → OnEarly e Q
+early_to (Settings u) P Q to h = to h
+early_to (ConfigMissing a) P Q to h = to h
+early_to (SegmentName a) P Q to h = to h
+early_to (PathOutside a) P Q to h = to h
+early_to (Held a) P Q to h = to h
+early_to (StanzaMissing a) P Q to h = to h
+early_to (InfoDamaged a b c) P Q to h = to h
+early_to (StanzaMismatch a b) P Q to h = to h
+early_to (HistoryDiffers a) P Q to h = to h
+early_to (ArchiveLost a) P Q to h = to h
+early_to (SegmentMissing a) P Q to h = to h
+early_to (TooLong a b) P Q to h = to h
+early_to (TooMany a) P Q to h = to h
+early_to (HeaderForm a) P Q to h = to h
+early_to (SegmentSize a b) P Q to h = to h
+early_to (HeaderMismatch a b) P Q to h = to h
+early_to (Ambiguous a b) P Q to h = to h
+early_to (Duplicate a b) P Q to h = to h
+early_to (SegmentDamaged a b) P Q to h = to h
+early_to (Server a) P Q to h = to h
+early_to (NotBuilt a) P Q to h = to h
+early_to (ControlMissing a) P Q to h = to h
+early_to (ControlShort a) P Q to h = to h
+early_to VersionText P Q to h = to h
+early_to (VersionUnsupported a) P Q to h = to h
+early_to Disk P Q to h = tt
+early_to Tree P Q to h = tt
+early_to Wire P Q to h = to h
+early_to Locks P Q to h = tt
+early_to Source P Q to h = tt
+early_to Sink P Q to h = tt
+early_to NoMemory P Q to h = tt
 
-pub on_all : (e : Fault) (Q : Type 0) → Q → OnFinding e Q
+pub on_all : (e : Fault) (Q : Type 0) → Q → OnEarly e Q
 on_all (Settings u) Q q = q
 on_all (ConfigMissing a) Q q = q
 on_all (SegmentName a) Q q = q
@@ -164,22 +164,22 @@ on_all VersionText Q q = q
 on_all (VersionUnsupported a) Q q = q
 on_all Disk Q q = tt
 on_all Tree Q q = tt
-on_all Wire Q q = tt
+on_all Wire Q q = q
 on_all Locks Q q = tt
 on_all Source Q q = tt
 on_all Sink Q q = tt
 on_all NoMemory Q q = tt
 
-pub finding_all : {T : Type 0} (result : Result T Fault) (Q : Type 0) → Q → IfErr result (λ e. OnFinding e Q)
-finding_all (Ok x) Q q = tt
-finding_all (Err e) Q q = on_all e Q q
+pub early_all : {T : Type 0} (result : Result T Fault) (Q : Type 0) → Q → IfErr result (λ e. OnEarly e Q)
+early_all (Ok x) Q q = tt
+early_all (Err e) Q q = on_all e Q q
 
-pub finding_same : {T : Type 0} (result : Result T Fault) (e : Fault) (P Q : Type 0) → IsErrAnd result (λ f. f ≡ e) → (P → Q) → OnFinding e P → IfErr result (λ f. OnFinding f Q)
-finding_same (Ok x) e P Q is to h = tt
-finding_same (Err f) e P Q is to h = subst (λ (k : Fault). OnFinding k Q) (sym is) (finding_to e P Q to h)
+pub early_same : {T : Type 0} (result : Result T Fault) (e : Fault) (P Q : Type 0) → IsErrAnd result (λ f. f ≡ e) → (P → Q) → OnEarly e P → IfErr result (λ f. OnEarly f Q)
+early_same (Ok x) e P Q is to h = tt
+early_same (Err f) e P Q is to h = subst (λ (k : Fault). OnEarly k Q) (sym is) (early_to e P Q to h)
 
--- two facts of a finding
-on_both : (e : Fault) (P R : Type 0) → OnFinding e P → OnFinding e R → OnFinding e (P × R)
+-- two facts of an early fault
+on_both : (e : Fault) (P R : Type 0) → OnEarly e P → OnEarly e R → OnEarly e (P × R)
 on_both (Settings u) P R h k = (h, k)
 on_both (ConfigMissing a) P R h k = (h, k)
 on_both (SegmentName a) P R h k = (h, k)
@@ -207,18 +207,18 @@ on_both VersionText P R h k = (h, k)
 on_both (VersionUnsupported a) P R h k = (h, k)
 on_both Disk P R h k = tt
 on_both Tree P R h k = tt
-on_both Wire P R h k = tt
+on_both Wire P R h k = (h, k)
 on_both Locks P R h k = tt
 on_both Source P R h k = tt
 on_both Sink P R h k = tt
 on_both NoMemory P R h k = tt
 
-pub finding_both : {T : Type 0} (result : Result T Fault) (e : Fault) (P R Q : Type 0) → IsErrAnd result (λ f. f ≡ e) → (P → R → Q) → OnFinding e P → OnFinding e R → IfErr result (λ f. OnFinding f Q)
-finding_both result e P R Q is to h k = finding_same result e (P × R) Q is (λ x. to x.0 x.1) (on_both e P R h k)
+pub early_both : {T : Type 0} (result : Result T Fault) (e : Fault) (P R Q : Type 0) → IsErrAnd result (λ f. f ≡ e) → (P → R → Q) → OnEarly e P → OnEarly e R → IfErr result (λ f. OnEarly f Q)
+early_both result e P R Q is to h k = early_same result e (P × R) Q is (λ x. to x.0 x.1) (on_both e P R h k)
 
-pub finding_as : {T : Type 0} (result : Result T Fault) (P Q : Type 0) → (P → Q) → IfErr result (λ e. OnFinding e P) → IfErr result (λ e. OnFinding e Q)
-finding_as (Ok x) P Q to h = tt
-finding_as (Err e) P Q to h = finding_to e P Q to h
+pub early_as : {T : Type 0} (result : Result T Fault) (P Q : Type 0) → (P → Q) → IfErr result (λ e. OnEarly e P) → IfErr result (λ e. OnEarly e Q)
+early_as (Ok x) P Q to h = tt
+early_as (Err e) P Q to h = early_to e P Q to h
 
 -- ---- on the disk as it was
 

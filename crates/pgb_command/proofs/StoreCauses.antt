@@ -22,7 +22,7 @@ use Rattle.pgb_archive.specs.Stored.{HasSum, Stores, StoresNone, StoresOnly, Sto
 use Rattle.pgb_archive.specs.Causes.{IsFileOf, StoresLong, PushCause, OnFinding as OnArchiveFinding}
 use Rattle.pgb_command.specs.declared.fault.Fault.{Fault}
 use Rattle.pgb_command.specs.Faults.{of_archive}
-use Rattle.pgb_command.specs.Answers.{OnFinding, same_line}
+use Rattle.pgb_command.specs.Answers.{OnEarly, same_line}
 use Rattle.pgb_command.specs.Outcomes.{pushed_lines}
 use Rattle.pgb_command.specs.Storing.{SameFiles, id_kept}
 use Rattle.pgb_command.specs.WalPath.{IsWalPath, HasWal, wal_path}
@@ -44,22 +44,22 @@ has_wal nodes mid folder path name wal items bytes same named is path_is h =
     go (Some f) k = record { named = path_is; is = subst (λ (n : Text). file_bytes (f (wal_path n)) ≡ Some bytes) named k }
 
 -- what holds of a finding of the archive
-finding_of : (e : ArchiveFault) (P Q : Type 0) → (P → Q) → OnArchiveFinding e P → OnFinding (of_archive e) Q
-finding_of (HeaderForm info) P Q to h = to h
-finding_of (SegmentSize told found) P Q to h = to h
-finding_of (HeaderMismatch kept found) P Q to h = to h
-finding_of (Ambiguous first second) P Q to h = to h
-finding_of (Duplicate kept found) P Q to h = to h
-finding_of NotFound P Q to h = tt
-finding_of (SegmentDamaged told found) P Q to h = to h
-finding_of (TooLong name limit) P Q to h = to h
-finding_of (TooMany limit) P Q to h = to h
-finding_of Disk P Q to h = tt
-finding_of NoMemory P Q to h = tt
+early_of : (e : ArchiveFault) (P Q : Type 0) → (P → Q) → OnArchiveFinding e P → OnEarly (of_archive e) Q
+early_of (HeaderForm info) P Q to h = to h
+early_of (SegmentSize told found) P Q to h = to h
+early_of (HeaderMismatch kept found) P Q to h = to h
+early_of (Ambiguous first second) P Q to h = to h
+early_of (Duplicate kept found) P Q to h = to h
+early_of NotFound P Q to h = tt
+early_of (SegmentDamaged told found) P Q to h = to h
+early_of (TooLong name limit) P Q to h = to h
+early_of (TooMany limit) P Q to h = to h
+early_of Disk P Q to h = tt
+early_of NoMemory P Q to h = tt
 
-pub finding_err : {T : Type 0} (result : Result T Fault) (e : ArchiveFault) (P Q : Type 0) → IsErrAnd result (λ fault. fault ≡ of_archive e) → (P → Q) → OnArchiveFinding e P → IfErr result (λ f. OnFinding f Q)
-finding_err (Ok x) e P Q is to h = tt
-finding_err (Err f) e P Q is to h = subst (λ (x : Fault). OnFinding x Q) (sym is) (finding_of e P Q to h)
+pub early_err : {T : Type 0} (result : Result T Fault) (e : ArchiveFault) (P Q : Type 0) → IsErrAnd result (λ fault. fault ≡ of_archive e) → (P → Q) → OnArchiveFinding e P → IfErr result (λ f. OnEarly f Q)
+early_err (Ok x) e P Q is to h = tt
+early_err (Err f) e P Q is to h = subst (λ (x : Fault). OnEarly x Q) (sym is) (early_of e P Q to h)
 
 -- ---- what is stored of a file, before and after the healing
 

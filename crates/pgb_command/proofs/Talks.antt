@@ -89,16 +89,16 @@ wire_cause system old rose (faults.SystemMismatch kept found) told failed = ((λ
 wire_cause system old rose (faults.TooLong n) told failed = ((λ x. x), told (λ x. x))
 wire_cause system old rose (faults.TooMany n) told failed = ((λ x. x), told (λ x. x))
 
-pub parts_of : (rose : Type 0) (said : Option (List ℕ)) (e : ServerFault) → (¬ IsOutside e → Ended said ⊎ rose) → Parts (of_server e) rose said
-parts_of rose told faults.NoMemory h = tt
-parts_of rose told faults.Wire h = tt
-parts_of rose told (faults.ServerSaid code text) h = h (λ x. x)
-parts_of rose told (faults.AuthUnsupported code) h = h (λ x. x)
-parts_of rose told (faults.ServerForm at) h = h (λ x. x)
-parts_of rose told (faults.ServerEnded at) h = h (λ x. x)
-parts_of rose told (faults.SystemMismatch kept found) h = h (λ x. x)
-parts_of rose told (faults.TooLong n) h = h (λ x. x)
-parts_of rose told (faults.TooMany n) h = h (λ x. x)
+pub parts_of : (rose : Type 0) (old new : Option (List ℕ)) (e : ServerFault) → (¬ IsOutside e → Ended new ⊎ rose) → Parts (of_server e) rose old new
+parts_of rose old new faults.NoMemory h = tt
+parts_of rose old new faults.Wire h = tt
+parts_of rose old new (faults.ServerSaid code text) h = h (λ x. x)
+parts_of rose old new (faults.AuthUnsupported code) h = h (λ x. x)
+parts_of rose old new (faults.ServerForm at) h = h (λ x. x)
+parts_of rose old new (faults.ServerEnded at) h = h (λ x. x)
+parts_of rose old new (faults.SystemMismatch kept found) h = h (λ x. x)
+parts_of rose old new (faults.TooLong n) h = h (λ x. x)
+parts_of rose old new (faults.TooMany n) h = h (λ x. x)
 
 -- ---- of the server that is asked
 

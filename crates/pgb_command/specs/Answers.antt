@@ -1,5 +1,5 @@
 -- The status and the output of each answer (own).
-use Rattle.std.specs.Prelude.{◌⊎◌, ◌≤◌, ⊤, ℕ, ◌||◌, ◌==◌, nat_lt, List, [], ◌++◌, map, codes, decimal, string_bytes, if◌then◌else◌}
+use Rattle.std.specs.Prelude.{◌≡◌, ◌⊎◌, ◌≤◌, ⊤, ℕ, ◌||◌, ◌==◌, nat_lt, List, [], ◌++◌, map, codes, decimal, string_bytes, if◌then◌else◌}
 use Rattle.std.specs.List.{flat_map}
 use Rattle.pgb_text.specs.Sum.{sum_text}
 use Rattle.pgb_model.specs.Text.{Text}
@@ -204,17 +204,16 @@ pub record Answer : Type 0 where
 abbrev pub lines_of : Answer → Text
 lines_of a = flat_map unknown_line a.unknown ++ ending_lines a.ending
 
--- the statuses of faults that are what was found, and no failure of an object and no want of memory
-abbrev pub IsFinding : ℕ → Type 0
-IsFinding status = ((100 ≤ status) × (status ≤ 101)) ⊎ ((1 ≤ status) × (status ≤ 72))
+-- the statuses of a command that ends before its first step: for what was found, or because the connection to the server failed; another failure, and want of memory, may come later
+abbrev pub IsEarly : ℕ → Type 0
+IsEarly status = ((1 ≤ status) × (status ≤ 72)) ⊎ ((status ≡ 83) ⊎ ((100 ≤ status) × (status ≤ 101)))
 
 -- this holds where the fault is one of those
-abbrev pub OnFinding : Fault → Type 0 → Type 0
-OnFinding Disk P = ⊤
-OnFinding Tree P = ⊤
-OnFinding Wire P = ⊤
-OnFinding Locks P = ⊤
-OnFinding Source P = ⊤
-OnFinding Sink P = ⊤
-OnFinding NoMemory P = ⊤
-OnFinding other P = P
+abbrev pub OnEarly : Fault → Type 0 → Type 0
+OnEarly Disk P = ⊤
+OnEarly Tree P = ⊤
+OnEarly Locks P = ⊤
+OnEarly Source P = ⊤
+OnEarly Sink P = ⊤
+OnEarly NoMemory P = ⊤
+OnEarly other P = P

@@ -7,7 +7,7 @@ use Rattle.pgb_command.specs.declared.outcome.Outcome.TheVariants.{Silent, SameS
 use Rattle.pgb_command.specs.declared.outcome.Served.{Served}
 use Rattle.pgb_archive.specs.declared.pushing.Pushed.{Pushed}
 use Rattle.pgb_archive.specs.declared.pushing.Pushed.TheVariants.{New, Same}
-use Rattle.pgb_command.specs.Answers.{Ending, finished, absent, refused, Answer, same_line, OnFinding}
+use Rattle.pgb_command.specs.Answers.{Ending, finished, absent, refused, Answer, same_line, OnEarly}
 
 abbrev pub outcome_ending : Outcome → Ending
 outcome_ending Silent = finished []
@@ -15,13 +15,13 @@ outcome_ending (SameStored name) = finished (same_line (string_bytes name))
 outcome_ending (Absent name) = absent (string_bytes name)
 outcome_ending (Report text) = finished (string_bytes text)
 
--- this holds where nothing was done: the archive has no such file, or the command was refused for what was found
+-- this holds where nothing was done: the archive has no such file, or the command was refused before its first step
 abbrev pub OnNothing : Result Outcome Fault → Type 0 → Type 0
 OnNothing (Ok Silent) P = Unit {0}
 OnNothing (Ok (SameStored name)) P = Unit {0}
 OnNothing (Ok (Absent name)) P = P
 OnNothing (Ok (Report text)) P = Unit {0}
-OnNothing (Err fault) P = OnFinding fault P
+OnNothing (Err fault) P = OnEarly fault P
 
 -- the command ended well, with lines of which this holds
 abbrev pub OnFinished : Ending → (Text → Type 0) → Type 0

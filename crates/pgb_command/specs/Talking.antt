@@ -1,5 +1,5 @@
 -- The talk with the server that stanza-create asks for its system (pgBackRest command reference, "Stanza Create Command"; PostgreSQL manual, "Message Flow").
-use Rattle.std.specs.Prelude.{◌≡◌, ◌⊎◌, ℕ, List, ◌++◌, codes, decimal, Option, Some, None, option_map, IfSome, Result, Ok}
+use Rattle.std.specs.Prelude.{◌≡◌, ◌≤◌, ◌⊎◌, ℕ, List, ◌++◌, codes, decimal, Option, Some, None, option_map, IfSome, Result, Ok}
 use Rattle.pgb_outside.specs.Tree.{Nodes}
 use Rattle.pgb_model.specs.Text.{Text}
 use Rattle.pgb_stanza.specs.declared.control.Control.{Control}
@@ -9,7 +9,7 @@ use Rattle.pgb_server.specs.Reads.{Fails, IsOutside}
 use Rattle.pgb_server.specs.Sends.{closing}
 use Rattle.pgb_server.specs.System.{Tells, questions}
 use Rattle.pgb_command.specs.declared.fault.Fault.{Fault}
-use Rattle.pgb_command.specs.declared.fault.Fault.TheVariants.{Server as Talked, Wire, NoMemory}
+use Rattle.pgb_command.specs.declared.fault.Fault.TheVariants.{Server as Talked, TooLong, TooMany, Wire, NoMemory}
 use Rattle.pgb_command.specs.Cluster.{FolderTells}
 
 -- ---- what is said
@@ -62,7 +62,13 @@ abbrev pub ServerCause : Option Server → Option Nodes → Option (List ℕ) �
 ServerCause None nodes pending rose fault = ⊥
 ServerCause (Some s) nodes pending rose fault = (told : Control) × IfSome nodes (λ f. FolderTells f told) × WireCause told.system pending rose fault
 
--- a talk that the server's answer ended was ended with the last message too, unless the connection failed
-abbrev pub Parts : Fault → Type 0 → Option (List ℕ) → Type 0
-Parts (Talked fault) rose said = Ended said ⊎ rose
-Parts other rose said = Unit {0}
+-- a talk that the server's answer ended was ended with the last message too, unless the connection failed; a file that is too long is found before the talk begins
+abbrev pub Parts : Fault → Type 0 → Option (List ℕ) → Option (List ℕ) → Type 0
+Parts (Talked fault) rose old new = Ended new ⊎ rose
+Parts (TooLong name limit) rose old new = new ≡ old
+Parts (TooMany limit) rose old new = ⊥
+Parts other rose old new = Unit {0}
+
+-- the statuses of a server's answer that is refused; 70 is also that of a file that is too long
+abbrev pub IsServerRefusal : ℕ → Type 0
+IsServerRefusal status = ((47 ≤ status) × (status ≤ 51)) ⊎ ((70 ≤ status) × (status ≤ 71))

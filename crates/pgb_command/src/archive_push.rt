@@ -6,7 +6,7 @@ ghost use Rattle.pgb_model.specs.Now.{NowDoes};
 ghost use Rattle.pgb_model.specs.Steps.{Command, Reading};
 ghost use Rattle.pgb_model.specs.Steady.{CarriesOn, PassesOnly};
 ghost use Rattle.pgb_archive.specs.Causes.{limit_of};
-ghost use Rattle.pgb_command.specs.Answers.{finished, OnFinding};
+ghost use Rattle.pgb_command.specs.Answers.{finished, OnEarly};
 ghost use Rattle.pgb_command.specs.Causes.{IsStored, StoreCause, PushFileCause};
 ghost use Rattle.pgb_command.specs.Locking.{archive_lock, Locks as IsLocked, OnlyLocked, MayHold};
 ghost use Rattle.pgb_command.specs.Commands.{IsPushOf, Goes, Ends};
@@ -64,7 +64,7 @@ fn store<D: Disk, T: Tree>(
         → Goes settings.now.stanza.now command (D.view repo.old) (D.view repo.new) }
     ensures ends { OnOk result ((command : Command) → IsSomeAnd (T.nodes tree.old) (λ f. IsPushOf f settings.now.pg1_path.now path.now command)
         → Ends settings.now.stanza.now command (D.view repo.old) (D.view repo.new)) }
-    ensures stays { IfErr result (λ e. OnFinding e (NowDoes settings.now.stanza.now Reading true (D.view repo.old).now (D.view repo.new).now × Ends settings.now.stanza.now Reading (D.view repo.old) (D.view repo.new))) }
+    ensures stays { IfErr result (λ e. OnEarly e (NowDoes settings.now.stanza.now Reading true (D.view repo.old).now (D.view repo.new).now × Ends settings.now.stanza.now Reading (D.view repo.old) (D.view repo.new))) }
     ensures agrees { OnOk result (IsSome (D.view repo.old).now → IfSome (D.view repo.new).now (AgreesAtPair settings.now.stanza.now)) }
     ensures stored { IfOk result (λ outcome. OnFinished (outcome_ending outcome) (IsStored settings.now.stanza.now settings.now.pg1_path.now path.now (D.view repo.old).now (T.nodes tree.old))) }
     ensures cause { IfErr result (StoreCause settings.now.stanza.now settings.now.pg1_path.now path.now (D.view repo.old).now (T.nodes tree.old) (Rises (D.faults repo.old) (D.faults repo.new)) (Rises (T.faults tree.old) (T.faults tree.new)) ⊥ ⊥) }
@@ -116,7 +116,7 @@ pub(crate) fn push_file<D: Disk, T: Tree, K: Locks>(
         → PassesOnly settings.now.stanza.now command (D.view repo.old) (D.view repo.new) }
 
     // A refusal for what was found takes no step.
-    ensures stays { IfErr result (λ e. OnFinding e (NowDoes settings.now.stanza.now Reading true (D.view repo.old).now (D.view repo.new).now × CarriesOn settings.now.stanza.now Reading true (D.view repo.old) (D.view repo.new))) }
+    ensures stays { IfErr result (λ e. OnEarly e (NowDoes settings.now.stanza.now Reading true (D.view repo.old).now (D.view repo.new).now × CarriesOn settings.now.stanza.now Reading true (D.view repo.old) (D.view repo.new))) }
     ensures agrees { OnOk result (IsSome (D.view repo.old).now → IfSome (D.view repo.new).now (AgreesAtPair settings.now.stanza.now)) }
     ensures stored { IfOk result (λ outcome. OnFinished (outcome_ending outcome) (IsStored settings.now.stanza.now settings.now.pg1_path.now path.now (D.view repo.old).now (T.nodes tree.old))) }
     ensures cause { IfErr result (PushFileCause settings.now.stanza.now settings.now.pg1_path.now path.now (D.view repo.old).now (T.nodes tree.old) (Rises (D.faults repo.old) (D.faults repo.new)) (Rises (T.faults tree.old) (T.faults tree.new)) (Rises (K.faults locks.old) (K.faults locks.new)) (Rises (K.refusals locks.old) (K.refusals locks.new))) }

@@ -13,7 +13,7 @@ ghost use Rattle.pgb_command.specs.Cluster.{IsClusterOf};
 ghost use Rattle.pgb_command.specs.Causes.{CreateCause, IsMade};
 ghost use Rattle.pgb_command.specs.Talking.{Asks, Agrees, ServerCause, Parts};
 ghost use Rattle.pgb_command.specs.Told.{server_view};
-ghost use Rattle.pgb_command.specs.Answers.{OnFinding};
+ghost use Rattle.pgb_command.specs.Answers.{OnEarly};
 ghost use Rattle.pgb_command.specs.Locking.{backup_lock, Locks as IsLocked, OnlyLocked, MayHold};
 ghost use Rattle.pgb_command.specs.Making.{MakeCause, IsStanzaFault};
 ghost use Rattle.pgb_model.specs.InfoFiles.{IsLabel};
@@ -64,8 +64,8 @@ fn make<D: Disk>(alloc: Global, repo: &mut D, stanza: &str, told: &Control) -> R
     ensures told { IsSome (D.view repo.old).now → IsSome (D.view repo.new).now }
     ensures place { D.place repo.new ≡ D.place repo.old }
     ensures later { D.faults repo.old ≤ D.faults repo.new }
-    ensures refused { IfErr result (λ e. OnFinding e ((D.view repo.new).now ≡ (D.view repo.old).now)) }
-    ensures rests { IfErr result (λ e. OnFinding e (Rests (D.view repo.old) (D.view repo.new))) }
+    ensures refused { IfErr result (λ e. OnEarly e ((D.view repo.new).now ≡ (D.view repo.old).now)) }
+    ensures rests { IfErr result (λ e. OnEarly e (Rests (D.view repo.old) (D.view repo.new))) }
     ensures cause { IfErr result (MakeCause stanza.now told.now (D.view repo.old).now (Rises (D.faults repo.old) (D.faults repo.new))) }
 {
     match create(alloc, repo, stanza, told) {
@@ -112,13 +112,13 @@ pub(crate) fn create_stanza<D: Disk, T: Tree, V: Wire, K: Locks>(
     ensures holds { MayHold lock.now (K.taken locks.old) (K.taken locks.new) }
     ensures locks_later { K.faults locks.old ≤ K.faults locks.new }
     ensures refusals_later { K.refusals locks.old ≤ K.refusals locks.new }
-    ensures refused { IfErr result (λ e. OnFinding e ((D.view repo.new).now ≡ (D.view repo.old).now)) }
-    ensures stays { IfErr result (λ e. OnFinding e (CarriesOn settings.now.stanza.now Reading true (D.view repo.old) (D.view repo.new))) }
-    // The server is asked at its socket, and where it isn't of the system nothing is done.
+    ensures refused { IfErr result (λ e. OnEarly e ((D.view repo.new).now ≡ (D.view repo.old).now)) }
+    ensures stays { IfErr result (λ e. OnEarly e (CarriesOn settings.now.stanza.now Reading true (D.view repo.old) (D.view repo.new))) }
+    // The server is asked at its socket, and where it isn't of the system, or the connection fails, nothing is done.
     ensures quiet { settings.now.server ≡ None → server.new ≡ server.old }
     ensures agrees_with { OnOk result (Agrees (option_map server_view settings.now.server) (T.nodes tree.old) (V.pending server.old)) }
     ensures asks { OnOk result (Asks (option_map server_view settings.now.server) (V.place server.new) (V.sent server.old) (V.sent server.new)) }
-    ensures parts { IfErr result (λ e. Parts e (Rises (V.faults server.old) (V.faults server.new)) (V.sent server.new)) }
+    ensures parts { IfErr result (λ e. Parts e (Rises (V.faults server.old) (V.faults server.new)) (V.sent server.old) (V.sent server.new)) }
     ensures cause { IfErr result (λ e. CreateCause settings.now.stanza.now (D.view repo.old).now (T.nodes tree.old) (Rises (D.faults repo.old) (D.faults repo.new)) (Rises (T.faults tree.old) (T.faults tree.new)) (Rises (K.faults locks.old) (K.faults locks.new)) (Rises (K.refusals locks.old) (K.refusals locks.new)) e
         ⊎ ServerCause (option_map server_view settings.now.server) (T.nodes tree.old) (V.pending server.old) (Rises (V.faults server.old) (V.faults server.new)) e) }
 {

@@ -66,7 +66,7 @@ fn ask_system<V: Wire>(
 ) -> Result<(), Fault>
     ensures same { OnOk result (IsOf system (V.pending wire.old)) }
     ensures asks { OnOk result (Asks (Some (server_view server.now)) (V.place wire.new) (V.sent wire.old) (V.sent wire.new)) }
-    ensures parts { IfErr result (λ e. Parts e (Rises (V.faults wire.old) (V.faults wire.new)) (V.sent wire.new)) }
+    ensures parts { IfErr result (λ e. Parts e (Rises (V.faults wire.old) (V.faults wire.new)) (V.sent wire.old) (V.sent wire.new)) }
     ensures cause { IfErr result (WireCause system (V.pending wire.old) (Rises (V.faults wire.old) (V.faults wire.new))) }
 {
     let path = socket_path(alloc, server)?;
@@ -86,7 +86,7 @@ pub(crate) fn check_server<V: Wire>(
     ensures quiet { server.entry ≡ None → wire.new ≡ wire.old }
     ensures same { OnOk result (IfSome server.entry (λ _. IsOf system (V.pending wire.old))) }
     ensures asks { OnOk result (Asks (option_map server_view server.entry) (V.place wire.new) (V.sent wire.old) (V.sent wire.new)) }
-    ensures parts { IfErr result (λ e. Parts e (Rises (V.faults wire.old) (V.faults wire.new)) (V.sent wire.new)) }
+    ensures parts { IfErr result (λ e. Parts e (Rises (V.faults wire.old) (V.faults wire.new)) (V.sent wire.old) (V.sent wire.new)) }
     ensures cause { IfErr result (λ e. IsSomeAnd server.entry (λ _. WireCause system (V.pending wire.old) (Rises (V.faults wire.old) (V.faults wire.new)) e)) }
 {
     match server {

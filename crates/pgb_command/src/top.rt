@@ -8,7 +8,7 @@ ghost use Rattle.pgb_model.specs.Steps.{Command, Reading};
 ghost use Rattle.pgb_model.specs.Steady.{PassesOnly, KeepsOn};
 ghost use Rattle.pgb_model.specs.Now.{HasNewPairs, NowDoes, NowStands};
 ghost use Rattle.pgb_command.specs.Asked.{Asked, create, get, report, MayAsk, Asks};
-ghost use Rattle.pgb_command.specs.Answers.{Ending, finished, Answer, lines_of, status, IsFinding};
+ghost use Rattle.pgb_command.specs.Answers.{Ending, finished, Answer, lines_of, status, IsEarly};
 ghost use Rattle.pgb_command.specs.Cluster.{IsClusterOf};
 ghost use Rattle.pgb_command.specs.Commands.{IsCommandOf};
 ghost use Rattle.pgb_command.specs.Causes.{AskedCause, Cause};
@@ -19,7 +19,7 @@ ghost use Rattle.pgb_command.specs.Getting.{Serves, FolderGoes, ServesArchived, 
 ghost use Rattle.pgb_command.specs.Output.{Wrote};
 ghost use Rattle.pgb_command.specs.Reporting.{ReportsStanza};
 ghost use Rattle.pgb_options.specs.declared.options.OutputWord.{OutputWord};
-ghost use Rattle.pgb_command.specs.Talking.{Asks as AsksServer, Agrees};
+ghost use Rattle.pgb_command.specs.Talking.{Asks as AsksServer, Agrees, Ended, Parts, IsServerRefusal};
 ghost use Rattle.pgb_command.specs.declared.settings.Asking.TheVariants.{Write};
 ghost use Rattle.pgb_stanza.specs.Pairs.{LacksStanza};
 ghost use Rattle.pgb_command.specs.Told.{request_of, asked_of, writing_lock};
@@ -63,6 +63,7 @@ fn perform<D: Disk, T: Tree, V: Wire, K: Locks>(
     ensures holds { MayHold lock.now (K.taken locks.old) (K.taken locks.new) }
     ensures quiet { settings.now.server ≡ None → server.new ≡ server.old }
     ensures asks { OnOk result ((asked_of settings.now).request ≡ create → Agrees (asked_of settings.now).server (T.nodes tree.old) (V.pending server.old) × AsksServer (asked_of settings.now).server (V.place server.new) (V.sent server.old) (V.sent server.new)) }
+    ensures closed { IfErr result (λ e. Parts e (Rises (V.faults server.old) (V.faults server.new)) (V.sent server.old) (V.sent server.new)) }
     ensures repo_later { D.faults repo.old ≤ D.faults repo.new }
     ensures tree_later { T.faults tree.old ≤ T.faults tree.new }
     ensures locks_later { K.faults locks.old ≤ K.faults locks.new }
@@ -112,6 +113,7 @@ fn write<D: Disk, T: Tree, V: Wire, K: Locks>(
     ensures released { K.taken locks.new ≡ [] }
     ensures quiet { settings.now.server ≡ None → server.new ≡ server.old }
     ensures asks { OnOk result ((asked_of settings.now).request ≡ create → Agrees (asked_of settings.now).server (T.nodes tree.old) (V.pending server.old) × AsksServer (asked_of settings.now).server (V.place server.new) (V.sent server.old) (V.sent server.new)) }
+    ensures closed { IfErr result (λ e. Parts e (Rises (V.faults server.old) (V.faults server.new)) (V.sent server.old) (V.sent server.new)) }
     ensures repo_later { D.faults repo.old ≤ D.faults repo.new }
     ensures tree_later { T.faults tree.old ≤ T.faults tree.new }
     ensures locks_later { K.faults locks.old ≤ K.faults locks.new }
@@ -150,6 +152,7 @@ fn carry<D: Disk, T: Tree, V: Wire, K: Locks>(
     ensures released { K.taken locks.new ≡ [] }
     ensures quiet { settings.now.server ≡ None → server.new ≡ server.old }
     ensures asks { OnOk result ((asked_of settings.now).request ≡ create → Agrees (asked_of settings.now).server (T.nodes tree.old) (V.pending server.old) × AsksServer (asked_of settings.now).server (V.place server.new) (V.sent server.old) (V.sent server.new)) }
+    ensures closed { IfErr result (λ e. Parts e (Rises (V.faults server.old) (V.faults server.new)) (V.sent server.old) (V.sent server.new)) }
     ensures repo_later { D.faults repo.old ≤ D.faults repo.new }
     ensures tree_later { T.faults tree.old ≤ T.faults tree.new }
     ensures locks_later { K.faults locks.old ≤ K.faults locks.new }
@@ -188,6 +191,7 @@ fn serve<D: Disk, T: Tree, V: Wire, K: Locks, I: Source>(
     ensures nodes { OnNothing result.ending (T.nodes tree.new ≡ T.nodes tree.old) }
     ensures quiet { ((a : Asked) → MayAsk (map string_bytes words.now) (I.files config.old) a → a.server ≡ None) → server.new ≡ server.old }
     ensures asks { OnOk result.ending ((a : Asked) → Asks (map string_bytes words.now) (I.files config.old) a → a.request ≡ create → Agrees a.server (T.nodes tree.old) (V.pending server.old) × AsksServer a.server (V.place server.new) (V.sent server.old) (V.sent server.new)) }
+    ensures closed { IfErr result.ending (λ e. Parts e (Rises (V.faults server.old) (V.faults server.new)) (V.sent server.old) (V.sent server.new)) }
     ensures files { I.files config.new ≡ I.files config.old }
 {
     let command = match read_command(alloc, words, config) {
@@ -254,10 +258,10 @@ pub fn run<
     // Words that ask for nothing do nothing.
     ensures unasked { ((a : Asked) → ¬ MayAsk (map string_bytes words.now) (I.files outside.old.config) a) → (outside.new.repo ≡ outside.old.repo) × (outside.new.tree ≡ outside.old.tree) × (outside.new.locks ≡ outside.old.locks) }
 
-    // A refusal for what was found takes no step; of stanza-create it changes nothing at all.
-    ensures stays { IsFinding result → (a : Asked) → Asks (map string_bytes words.now) (I.files outside.old.config) a → NowDoes a.stanza Reading true (D.view outside.old.repo).now (D.view outside.new.repo).now
+    // A refusal for what was found takes no step, nor does one for a connection to the server that failed; of stanza-create they change nothing at all.
+    ensures stays { IsEarly result → (a : Asked) → Asks (map string_bytes words.now) (I.files outside.old.config) a → NowDoes a.stanza Reading true (D.view outside.old.repo).now (D.view outside.new.repo).now
         × KeepsOn a.stanza Reading true (D.view outside.old.repo) (S.view outside.old.spool) (D.view outside.new.repo) (S.view outside.new.spool) }
-    ensures refused { IsFinding result → (a : Asked) → Asks (map string_bytes words.now) (I.files outside.old.config) a → a.request ≡ create → (D.view outside.new.repo).now ≡ (D.view outside.old.repo).now }
+    ensures refused { IsEarly result → (a : Asked) → Asks (map string_bytes words.now) (I.files outside.old.config) a → a.request ≡ create → (D.view outside.new.repo).now ≡ (D.view outside.old.repo).now }
 
     // At 0 archive-get has served the file of the repository.
     ensures served { result ≡ 0 → (a : Asked) → Asks (map string_bytes words.now) (I.files outside.old.config) a → (name path : Text) → a.request ≡ get name path
@@ -305,9 +309,12 @@ pub fn run<
         → Agrees a.server (T.nodes outside.old.tree) (V.pending outside.old.server) × AsksServer a.server (V.place outside.new.server) (V.sent outside.old.server) (V.sent outside.new.server) }
     ensures quiet { ((a : Asked) → MayAsk (map string_bytes words.now) (I.files outside.old.config) a → a.server ≡ None) → outside.new.server ≡ outside.old.server }
 
+    // After a server's answer that is refused the last that was said to it is the end, unless the connection failed. At 70 a file may have been too long, and then nothing was said.
+    ensures closed { IsServerRefusal result → Ended (V.sent outside.new.server) ⊎ (Rises (V.faults outside.old.server) (V.faults outside.new.server) ⊎ ((result ≡ 70) × (V.sent outside.new.server ≡ V.sent outside.old.server))) }
+
     // What the command doesn't use stays, and the configuration with it; and so does the data folder, but for a file that is served.
     ensures folder { (T.nodes outside.new.tree ≡ T.nodes outside.old.tree) ⊎ ((a : Asked) × MayAsk (map string_bytes words.now) (I.files outside.old.config) a × FolderGoes a.stanza a.data_folder a.request (D.view outside.old.repo).now (T.nodes outside.old.tree) (T.nodes outside.new.tree)) }
-    ensures nodes { IsFinding result → T.nodes outside.new.tree ≡ T.nodes outside.old.tree }
+    ensures nodes { IsEarly result → T.nodes outside.new.tree ≡ T.nodes outside.old.tree }
     ensures unused { (a : Asked) → Asks (map string_bytes words.now) (I.files outside.old.config) a → (form : OutputWord) → a.request ≡ report form → (outside.new.tree ≡ outside.old.tree) × (outside.new.locks ≡ outside.old.locks) }
     ensures files { I.files outside.new.config ≡ I.files outside.old.config }
     ensures untouched { outside.new ≡ record outside.old { repo = outside.new.repo; tree = outside.new.tree; server = outside.new.server; locks = outside.new.locks; config = outside.new.config; out = outside.new.out } }

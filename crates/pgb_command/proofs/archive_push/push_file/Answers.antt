@@ -3,7 +3,7 @@ use Rattle.pgb_model.proofs.Done.{nothing_done}
 use Rattle.pgb_command.proofs.Carries.{rests_carry, rests_pass}
 use Rattle.pgb_command.proofs.Chains.{still_does, rests_none}
 use Rattle.std.proofs.Common.{refl, true, false, arith}
-use Rattle.pgb_command.proofs.Pushes.{push_sound, push_carries, push_passes, push_carried, reading_carried, none_carried, finding_all, finding_same, does_from, asked_on, rests_carried}
+use Rattle.pgb_command.proofs.Pushes.{push_sound, push_carries, push_passes, push_carried, reading_carried, none_carried, early_all, early_same, does_from, asked_on, rests_carried}
 use Rattle.pgb_command.proofs.StoreCauses.{opening_err, storing_err}
 use Rattle.pgb_command.proofs.archive_push.push_file.Goals as goal
 
@@ -44,17 +44,17 @@ pub returns-clause-carried : goal.returns-clause-carried
 returns-clause-carried g c = λ command asked. push_carried c.args.settings.now.stanza.now (g.D.Disk.view c.args.repo.now) (g.D.Disk.view c.prepare.new.repo) (g.D.Disk.view c.store.new.repo) c.prepare.ensures.time c.prepare.ensures.now c.in_ok-prepare.ensures.begun command (push_sound (g.T.Tree.nodes c.args.tree.now) c.args.settings.now.pg1_path.now c.args.path.now command asked) (c.store.ensures.goes command (asked_on (g.T.Tree.nodes c.args.tree.now) (g.T.Tree.nodes c.prepare.new.tree) c.args.settings.now.pg1_path.now c.args.path.now command c.prepare.ensures.nodes asked)) (c.in_ok-outcome.ensures.ends command (asked_on (g.T.Tree.nodes c.args.tree.now) (g.T.Tree.nodes c.prepare.new.tree) c.args.settings.now.pg1_path.now c.args.path.now command c.prepare.ensures.nodes asked))
 
 pub returns-in_err-file-clause-stays : goal.returns-in_err-file-clause-stays
-returns-in_err-file-clause-stays g c = finding_all c.from_residual.result _ (still_does c.args.settings.now.stanza.now _ _ refl, none_carried c.args.settings.now.stanza.now (g.D.Disk.view c.args.repo.now))
+returns-in_err-file-clause-stays g c = early_all c.from_residual.result _ (still_does c.args.settings.now.stanza.now _ _ refl, none_carried c.args.settings.now.stanza.now (g.D.Disk.view c.args.repo.now))
 
 pub returns-in_err-prepare-clause-part : goal.returns-in_err-prepare-clause-part
 returns-in_err-prepare-clause-part g c = λ command asked. nothing_done c.args.settings.now.stanza.now command _ _ c.prepare.ensures.now
 
 pub returns-in_err-outcome-clause-stays : goal.returns-in_err-outcome-clause-stays
-returns-in_err-outcome-clause-stays g c = finding_same c.from_residual-in_err-outcome.result c.in_err-outcome.field-0.0 _ _ c.from_residual-in_err-outcome.ensures.1
+returns-in_err-outcome-clause-stays g c = early_same c.from_residual-in_err-outcome.result c.in_err-outcome.field-0.0 _ _ c.from_residual-in_err-outcome.ensures.1
     (λ still. (does_from c.args.settings.now.stanza.now Reading true _ _ _ c.prepare.ensures.now still.0, reading_carried c.args.settings.now.stanza.now (g.D.Disk.view c.args.repo.now) (g.D.Disk.view c.prepare.new.repo) (g.D.Disk.view c.store.new.repo) c.prepare.ensures.time c.prepare.ensures.now c.in_ok-prepare.ensures.begun still.1)) c.in_err-outcome.ensures.stays
 
 pub returns-in_err-prepare-clause-stays : goal.returns-in_err-prepare-clause-stays
-returns-in_err-prepare-clause-stays g c = finding_all c.from_residual-in_err-prepare.result _ (still_does c.args.settings.now.stanza.now _ _ c.prepare.ensures.now, rests_carried c.args.settings.now.stanza.now _ _ c.prepare.ensures.time c.prepare.ensures.now)
+returns-in_err-prepare-clause-stays g c = early_all c.from_residual-in_err-prepare.result _ (still_does c.args.settings.now.stanza.now _ _ c.prepare.ensures.now, rests_carried c.args.settings.now.stanza.now _ _ c.prepare.ensures.time c.prepare.ensures.now)
 
 pub returns-in_err-prepare-clause-cause : goal.returns-in_err-prepare-clause-cause
 returns-in_err-prepare-clause-cause g c = opening_err c.args.settings.now.stanza.now c.args.settings.now.pg1_path.now c.args.path.now c.in_ok-file.file.name c.in_ok-file.ensures.named.0 c.args.lock.now c.requires.name _ _ _ _ _ _ c.from_residual-in_err-prepare.result c.in_err-prepare.field-0.0 c.from_residual-in_err-prepare.ensures.1 c.in_err-prepare.ensures.cause

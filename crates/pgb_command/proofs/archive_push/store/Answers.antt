@@ -11,7 +11,7 @@ use Rattle.pgb_command.specs.Causes.{IsReady, IsStored}
 use Rattle.pgb_command.specs.Outcomes.{OnFinished, pushed_lines}
 use Rattle.pgb_command.proofs.Chains.{none_goes, any_goes, still_on, ends_on}
 use Rattle.pgb_command.proofs.Stores.{store_part, store_whole, store_goes, store_ends, agrees_on}
-use Rattle.pgb_command.proofs.StoreCauses.{has_wal, finding_err, file_of, cause_err, stored_as}
+use Rattle.pgb_command.proofs.StoreCauses.{has_wal, early_err, file_of, cause_err, stored_as}
 use Rattle.pgb_command.proofs.archive_push.store.Goals as goal
 
 pub returns-in_err-told-clause-goes : goal.returns-in_err-told-clause-goes
@@ -50,7 +50,7 @@ returns-in_err-pushed-clause-goes g c =
 pub returns-in_err-pushed-clause-stays : goal.returns-in_err-pushed-clause-stays
 returns-in_err-pushed-clause-stays g c =
     let stanza = c.args.settings.now.stanza.now in
-    finding_err c.from_residual-in_err-pushed.result c.in_err-pushed.field-0.0 _ _ c.from_residual-in_err-pushed.ensures.1
+    early_err c.from_residual-in_err-pushed.result c.in_err-pushed.field-0.0 _ _ c.from_residual-in_err-pushed.ensures.1
     (λ still. (still_on stanza _ _ _ c.current_id.ensures.stays still.0, ends_on stanza (g.D.Disk.view c.args.repo.now) (g.D.Disk.view c.current_id.new.repo) (g.D.Disk.view c.push.new.d) c.current_id.ensures.ends still.1 still.0)) c.in_err-pushed.ensures.refused
 
 pub returns-in_err-pushed-clause-cause : goal.returns-in_err-pushed-clause-cause

@@ -3,7 +3,7 @@ use Rattle.pgb_outside.specs.Cause.{Rises}
 use Rattle.pgb_command.specs.Making.{MakeCause}
 use Rattle.std.specs.Prelude.{IfSome, IsSome}
 use Rattle.pgb_outside.specs.Content.{Content}
-use Rattle.pgb_command.proofs.Pushes.{finding_all, finding_both, rests_carried, rests_rests}
+use Rattle.pgb_command.proofs.Pushes.{early_all, early_both, rests_carried, rests_rests}
 use Rattle.pgb_outside.specs.Tree.{Nodes}
 use Rattle.pgb_command.specs.Cluster.{FolderTells}
 use Rattle.pgb_command.proofs.Creates.{does_part, does_whole, has_members, folder_cause_err}
@@ -68,20 +68,20 @@ returns-clause-carried g c = carries_whole c.args.settings.now.stanza.now (g.T.T
     (subst (λ (o : Option Nodes). IfSome o (λ f. FolderTells f c.in_ok-told.told)) c.prepare.ensures.nodes c.in_ok-told.ensures.told) _ _ _ c.prepare.ensures.time c.prepare.ensures.now c.in_ok-prepare.ensures.begun c.make.ensures.moves c.in_ok-make.ensures.made
 
 pub returns-in_err-told-clause-stays : goal.returns-in_err-told-clause-stays
-returns-in_err-told-clause-stays g c = finding_all c.from_residual-in_err-told.result _ (rests_carried c.args.settings.now.stanza.now _ _ c.prepare.ensures.time c.prepare.ensures.now)
+returns-in_err-told-clause-stays g c = early_all c.from_residual-in_err-told.result _ (rests_carried c.args.settings.now.stanza.now _ _ c.prepare.ensures.time c.prepare.ensures.now)
 
 pub returns-in_err-check_server-clause-stays : goal.returns-in_err-check_server-clause-stays
-returns-in_err-check_server-clause-stays g c = finding_all c.from_residual-in_err-check_server.result _ (rests_carried c.args.settings.now.stanza.now _ _ c.prepare.ensures.time c.prepare.ensures.now)
+returns-in_err-check_server-clause-stays g c = early_all c.from_residual-in_err-check_server.result _ (rests_carried c.args.settings.now.stanza.now _ _ c.prepare.ensures.time c.prepare.ensures.now)
 
 pub returns-in_err-make-clause-stays : goal.returns-in_err-make-clause-stays
-returns-in_err-make-clause-stays g c = finding_both c.from_residual-in_err-make.result c.in_err-make.field-0.0 _ _ _ c.from_residual-in_err-make.ensures.1
+returns-in_err-make-clause-stays g c = early_both c.from_residual-in_err-make.result c.in_err-make.field-0.0 _ _ _ c.from_residual-in_err-make.ensures.1
     (λ same rests. rests_carried c.args.settings.now.stanza.now (g.D.Disk.view c.args.repo.now) (g.D.Disk.view c.make.new.repo) (rests_rests _ _ _ c.prepare.ensures.time rests) (same ∙ c.prepare.ensures.now)) c.in_err-make.ensures.refused c.in_err-make.ensures.rests
 
 pub returns-clause-agrees : goal.returns-clause-agrees
 returns-clause-agrees g c = λ some. c.in_ok-make.ensures.agrees (subst (λ (o : Option Content). IsSome o) (sym c.prepare.ensures.now) some)
 
 pub returns-in_err-prepare-clause-stays : goal.returns-in_err-prepare-clause-stays
-returns-in_err-prepare-clause-stays g c = finding_all c.from_residual.result _ (rests_carried c.args.settings.now.stanza.now _ _ c.prepare.ensures.time c.prepare.ensures.now)
+returns-in_err-prepare-clause-stays g c = early_all c.from_residual.result _ (rests_carried c.args.settings.now.stanza.now _ _ c.prepare.ensures.time c.prepare.ensures.now)
 
 pub returns-in_err-make-clause-cause : goal.returns-in_err-make-clause-cause
 returns-in_err-make-clause-cause g c = left_err c.from_residual-in_err-make.result _ _ (

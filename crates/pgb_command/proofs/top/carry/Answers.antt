@@ -1,9 +1,11 @@
 use Rattle.std.proofs.Common.{ap}
+use Rattle.pgb_outside.specs.Cause.{Rises}
 use Rattle.pgb_command.specs.Asked.{get, report}
 use Rattle.pgb_command.specs.Told.{request_of, asked_of}
 use Rattle.pgb_command.proofs.Causes.{nothing_all}
 use Rattle.pgb_command.proofs.Doings.{read_part, read_all, read_none, got_answer, report_answer, report_serves}
 use Rattle.pgb_command.proofs.Fetches.{all_ok}
+use Rattle.pgb_command.proofs.Closings.{parts_err, get_apart, info_apart}
 use Rattle.pgb_command.proofs.top.carry.Goals as goal
 
 pub returns-in-ArchiveGet-clause-part : goal.returns-in-ArchiveGet-clause-part
@@ -32,3 +34,10 @@ returns-in-Info-clause-answered g c = report_answer (asked_of c.args.settings.no
 
 pub returns-in-Info-clause-served : goal.returns-in-Info-clause-served
 returns-in-Info-clause-served g c = report_serves (asked_of c.args.settings.now) c.in-Info.form (g.T.Tree.nodes c.args.tree.now) (ap request_of c.in-Info.is) c.report_stanza.result _ _ c.report_stanza.ensures.told
+
+pub returns-in-ArchiveGet-clause-closed : goal.returns-in-ArchiveGet-clause-closed
+returns-in-ArchiveGet-clause-closed g c = parts_err _ _ _ _ (get_apart c.args.settings.now.stanza.now c.args.settings.now.pg1_path.now c.in-ArchiveGet.name.now c.in-ArchiveGet.path.now (g.D.Disk.view c.args.repo.now).now (g.T.Tree.nodes c.args.tree.now)
+    (Rises (g.D.Disk.faults c.args.repo.now) (g.D.Disk.faults c.get_file.new.repo)) (Rises (g.T.Tree.faults c.args.tree.now) (g.T.Tree.faults c.get_file.new.tree)) (g.V.Wire.sent c.args.server.now)) c.get_file.result c.get_file.ensures.cause
+
+pub returns-in-Info-clause-closed : goal.returns-in-Info-clause-closed
+returns-in-Info-clause-closed g c = parts_err _ _ _ _ (info_apart _ _ _ _) c.report_stanza.result c.report_stanza.ensures.cause

@@ -1,9 +1,10 @@
 use Rattle.std.proofs.Common.{ap, ◌∙◌, refl, Err}
 use Rattle.pgb_command.specs.declared.outcome.Outcome.{Outcome}
-use Rattle.pgb_command.proofs.Pushes.{finding_both}
+use Rattle.pgb_command.proofs.Pushes.{early_both}
 use Rattle.pgb_command.specs.Told.{writing_of, request_of, asked_of}
 use Rattle.pgb_command.specs.Causes.{Made}
 use Rattle.pgb_command.proofs.Doings.{create_part, create_none, create_refused, push_part, push_done, push_answer}
+use Rattle.pgb_command.proofs.Closings.{parts_err, push_apart}
 use Rattle.pgb_command.proofs.top.perform.Goals as goal
 
 pub returns-in-Ok-clause-answered : goal.returns-in-Ok-clause-answered
@@ -25,4 +26,7 @@ pub returns-in-Err-clause-part : goal.returns-in-Err-clause-part
 returns-in-Err-clause-part g c = create_part (asked_of c.args.settings.now) (g.T.Tree.nodes c.args.tree.now) (g.D.Disk.view c.args.repo.now) (g.D.Disk.view c.create_stanza.new.repo) (ap request_of c.requires.asked ∙ ap writing_of c.in-StanzaCreate.is) c.create_stanza.ensures.part c.create_stanza.ensures.carries c.create_stanza.ensures.between
 
 pub returns-in-Err-clause-none : goal.returns-in-Err-clause-none
-returns-in-Err-clause-none g c = finding_both {T = Outcome} (Err c.in-Err.fault) c.in-Err.fault _ _ _ refl (create_none (asked_of c.args.settings.now) (g.D.Disk.view c.args.repo.now) (g.D.Disk.view c.create_stanza.new.repo)) c.in-Err.ensures.refused c.in-Err.ensures.stays
+returns-in-Err-clause-none g c = early_both {T = Outcome} (Err c.in-Err.fault) c.in-Err.fault _ _ _ refl (create_none (asked_of c.args.settings.now) (g.D.Disk.view c.args.repo.now) (g.D.Disk.view c.create_stanza.new.repo)) c.in-Err.ensures.refused c.in-Err.ensures.stays
+
+pub returns-in-ArchivePush-clause-closed : goal.returns-in-ArchivePush-clause-closed
+returns-in-ArchivePush-clause-closed g c = parts_err _ _ _ _ (push_apart _ _ _ _ _ _ _ _ _ _) c.push_file.result c.push_file.ensures.cause

@@ -1,10 +1,11 @@
 use Rattle.std.proofs.Common.{◌∙◌, ap, sym, map, string_bytes, true, false}
 use Rattle.pgb_command.specs.Answers.{status}
 use Rattle.pgb_command.specs.Outcomes.{answer_of}
-use Rattle.pgb_command.proofs.Causes.{told_cause, at_zero, at_finding, served_at_zero, reported_at_zero, missed_at_one, completes}
+use Rattle.pgb_command.proofs.Causes.{told_cause, at_zero, at_early, served_at_zero, reported_at_zero, missed_at_one, completes}
 use Rattle.pgb_command.proofs.Pushes.{command_keeps, reading_keeps}
 use Rattle.pgb_command.proofs.Archived.{serves_archived, misses_archived}
 use Rattle.pgb_command.proofs.Reported.{reports}
+use Rattle.pgb_command.proofs.Closings.{closes}
 use Rattle.pgb_command.proofs.top.run.Goals as goal
 
 pub returns-clause-done : goal.returns-clause-done
@@ -27,13 +28,13 @@ pub returns-clause-between : goal.returns-clause-between
 returns-clause-between g c = λ a asks command asked. (c.serve-served.ensures.part a asks).between command asked
 
 pub returns-clause-stays : goal.returns-clause-stays
-returns-clause-stays g c = λ finding a asks. let t = c.answer.ensures.told in
-    let none = at_finding _ c.serve-served.result.ending _ _ _ _ t.0 _ t.2 t.1 finding c.serve-served.ensures.none in
+returns-clause-stays g c = λ early a asks. let t = c.answer.ensures.told in
+    let none = at_early _ c.serve-served.result.ending _ _ _ _ t.0 _ t.2 t.1 early c.serve-served.ensures.none in
     ((none a asks).stays, reading_keeps a.stanza _ _ _ (none a asks).carried)
 
 pub returns-clause-refused : goal.returns-clause-refused
-returns-clause-refused g c = λ finding a asks. let t = c.answer.ensures.told in
-    let none = at_finding _ c.serve-served.result.ending _ _ _ _ t.0 _ t.2 t.1 finding c.serve-served.ensures.none in
+returns-clause-refused g c = λ early a asks. let t = c.answer.ensures.told in
+    let none = at_early _ c.serve-served.result.ending _ _ _ _ t.0 _ t.2 t.1 early c.serve-served.ensures.none in
     (none a asks).unchanged
 
 pub returns-clause-agrees : goal.returns-clause-agrees
@@ -67,8 +68,8 @@ returns-clause-served g c = λ zero a asks name path is. let t = c.answer.ensure
     served_at_zero _ _ _ a _ _ _ c.serve-served.result.ending _ t.0 _ t.2 t.1 zero name path is (c.serve-served.ensures.served a asks)
 
 pub returns-clause-nodes : goal.returns-clause-nodes
-returns-clause-nodes g c = λ finding. let t = c.answer.ensures.told in
-    at_finding _ c.serve-served.result.ending _ _ _ _ t.0 _ t.2 t.1 finding c.serve-served.ensures.nodes
+returns-clause-nodes g c = λ early. let t = c.answer.ensures.told in
+    at_early _ c.serve-served.result.ending _ _ _ _ t.0 _ t.2 t.1 early c.serve-served.ensures.nodes
 
 pub returns-clause-given : goal.returns-clause-given
 returns-clause-given g c = λ zero a asks name path is s some now. let t = c.answer.ensures.told in
@@ -88,3 +89,6 @@ returns-clause-reported g c = λ zero a asks form is s some now. let t = c.answe
 
 pub returns-clause-agreed : goal.returns-clause-agreed
 returns-clause-agreed g c = λ zero. let t = c.answer.ensures.told in at_zero _ c.serve-served.result.ending _ _ _ _ t.0 _ t.2 t.1 zero c.serve-served.ensures.asks
+
+pub returns-clause-closed : goal.returns-clause-closed
+returns-clause-closed g c = let t = c.answer.ensures.told in closes c.serve-served.result.ending _ _ _ _ t.0 _ _ _ _ t.2 t.1 c.serve-served.ensures.closed

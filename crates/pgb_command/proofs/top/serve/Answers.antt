@@ -10,16 +10,17 @@ use Rattle.pgb_command.specs.Told.{asked_of}
 use Rattle.pgb_command.proofs.Talks.{none_viewed}
 use Rattle.pgb_command.proofs.Asked.{may_ask, for_asked, ok_as}
 use Rattle.pgb_command.proofs.Doings.{none_part, none_done}
-use Rattle.pgb_command.proofs.Pushes.{finding_all}
+use Rattle.pgb_command.proofs.Pushes.{early_all}
 use Rattle.pgb_command.proofs.Causes.{nothing_as}
 use Rattle.pgb_command.proofs.Served.{refused_as, unknown_as, asking_as}
+use Rattle.pgb_command.proofs.Closings.{apart_parts, config_apart}
 use Rattle.pgb_command.proofs.top.serve.Goals as goal
 
 pub returns-in-Err-clause-part : goal.returns-in-Err-clause-part
 returns-in-Err-clause-part g c = λ a asks. none_part a (g.T.Tree.nodes c.args.tree.now) (g.D.Disk.view c.args.repo.now)
 
 pub returns-in-Err-clause-none : goal.returns-in-Err-clause-none
-returns-in-Err-clause-none g c = finding_all {T = Outcome} (Err c.in-Err.fault) _ (λ a asks. none_done a (g.D.Disk.view c.args.repo.now))
+returns-in-Err-clause-none g c = early_all {T = Outcome} (Err c.in-Err.fault) _ (λ a asks. none_done a (g.D.Disk.view c.args.repo.now))
 
 pub returns-in-Err-clause-answered : goal.returns-in-Err-clause-answered
 returns-in-Err-clause-answered g c = refused_as _ _ _ _ _ _ _ _ _ _ _ _ c.in-Err.fault (ap (map string_bytes) c.new.ensures.items) c.in-Err.ensures.cause
@@ -154,3 +155,6 @@ returns-clause-unused g c =
     let files = g.I.Source.files c.args.config.now in
     let may = may_ask words files x.0 x.1 (asked_of c.in-Ok-settings_of.settings) (c.in-Ok-settings_of.ensures.asked x.0 x.2) in
     for_asked words files (λ (a : Asked). (form : OutputWord) → a.request ≡ report form → (c.carry-ending.new.tree ≡ c.args.tree.now) × (c.carry-ending.new.locks ≡ c.args.locks.now)) (asked_of c.in-Ok-settings_of.settings) may c.carry-ending.ensures.unused
+
+pub returns-in-Err-clause-closed : goal.returns-in-Err-clause-closed
+returns-in-Err-clause-closed g c = apart_parts _ _ _ _ (config_apart _ _ _ _) c.in-Err.fault c.in-Err.ensures.cause
