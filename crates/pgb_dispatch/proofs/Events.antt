@@ -1,14 +1,16 @@
 -- What hearing a frame leaves of a run.
-use Rattle.std.proofs.Common.{ℕ, zero, suc, ◌≡◌, ◌<◌, ◌≤◌, ◌+◌, ◌-◌, ◌*◌, ◌^◌, List, [], ◌∷◌, ◌++◌, true, Option, Some, None, Result, Ok, Err, length, map, refl, sym, ap, subst, arith, ◌∙◌, slice_get, slice_index_or, set, length-set}
+use Rattle.std.proofs.Common.{ℕ, zero, suc, ◌≡◌, ◌≢◌, ◌<◌, ◌≤◌, ◌+◌, ◌-◌, ◌*◌, ◌^◌, List, [], ◌∷◌, ◌++◌, true, Option, Some, None, Result, Ok, Err, length, map, refl, sym, ap, subst, arith, ◌∙◌, slice_get, slice_index_or, set, length-set}
 use Rattle.std.specs.Prelude.{IfErr, OnOk, All, min, option_map}
 use Rattle.std.proofs.lemmas.List.{map-set}
 use Rattle.std.proofs.lemmas.Option.{slice_get_within}
 use Rattle.pgb_outside.specs.Cause.{Rises}
 use Rattle.pgb_outside.specs.Links.{LinkState, last_five}
+use Rattle.pgb_frame.specs.declared.frames.JobKind.{JobKind}
 use Rattle.pgb_frame.specs.Frames.{Job, FitsJob, spell}
 use Rattle.pgb_frame.specs.Frames.Frame.{Unread}
 use Rattle.pgb_keep.specs.KeepState.{Kept, KeepState, Clears}
 use Rattle.pgb_jobs.specs.Dispatch.{Dispatch, after_end, after_lose}
+use Rattle.pgb_jobs.specs.declared.JobPlace.{JobPlace}
 use Rattle.pgb_jobs.specs.declared.JobPlace.TheVariants.{Waiting, With, Ended}
 use Rattle.pgb_jobs.specs.declared.LinkPlace.TheVariants.{Idle, Busy, Lost}
 use Rattle.pgb_jobs.proofs.Places.{get_set_same}
@@ -24,9 +26,11 @@ use Rattle.pgb_reply.specs.Going.{At, VerdictHolds, FaultHolds, KeepsCounts, IsU
 use Rattle.pgb_dispatch.specs.declared.fault.DispatchFault.{DispatchFault}
 use Rattle.pgb_dispatch.specs.declared.fault.DispatchFault.TheVariants as faults
 use Rattle.pgb_dispatch.specs.Faults.{IsQuiet}
+use Rattle.pgb_dispatch.specs.Counts.{one_if_sent}
 use Rattle.pgb_dispatch.specs.Seats.{Both, HearsOver, Hears, FailsOver, HearFails, IsHearing, HeardAt}
 use Rattle.pgb_dispatch.specs.Run.{State, Began, LinkGoes, Losses, live, Going, Runs, HearsOn, Changed, Advances, UnreadLeaves, HearFault, total, work, measure}
 use Rattle.pgb_dispatch.proofs.Counting.{live_some, live_set, work_set, work_le, lost_falls}
+use Rattle.pgb_dispatch.proofs.Reading.{reads_go, reads_lost}
 use Rattle.pgb_dispatch.proofs.Going.{some_same, set_twice, Moves, going_update, AtBusy, busy_of, not_over, only_with, core_same, losses_stay, losses_more}
 
 pub both_there : (R : LinkState → LinkState → Type 0) (x y : Option LinkState) (s : LinkState) → x ≡ Some s → Both R x y → (u : LinkState) × (y ≡ Some u) × R s u
@@ -76,6 +80,10 @@ heard_of v jobs b s i j job after newer held g has is w =
       holds = u.2.1 a.from.told a.goes.kept (at_of jobs b s i j g a);
     }
 
+-- the count of read jobs stays, and so does the number of those that were sent
+reads_stay : (kind : JobKind) (old new : LinkState) (o P : JobPlace) → one_if_sent kind o ≡ one_if_sent kind P → new.reads ≡ old.reads → new.reads ≢ 2 ^ 64 - 1 → (old.reads ≢ 2 ^ 64 - 1) × (new.reads + one_if_sent kind o ≡ old.reads + one_if_sent kind P)
+reads_stay kind old new o P q e n = ((λ f. n (e ∙ f)), omega (arith, q, e))
+
 -- ---- more of the reply is to come
 
 pub going_more : (jobs : List Job) (b : Began) (s t : State) (i j : ℕ) → Going jobs b s → slice_get s.core.links i ≡ Some (Busy j) → Heard verdicts.More jobs b s i j t.seats t.hears t.kept → t.core ≡ s.core → t.lost ≡ s.lost → Going jobs b t
@@ -89,7 +97,8 @@ going_more jobs b s t i j g has w core lost =
       jobs = w.holds.is.jobs;
     } in
     going_update jobs b s t i j (With i) (With i) (Busy j) (Busy j) (Some w.now) w.next a.goes.kept w.holds.kept g mv has a.goes.place a.goes.kept_is (only_with i) refl
-    (subst (λ l. Losses b.links b.lost l (set s.core.links i (Busy j))) (sym lost) (losses_stay b.links b.lost s.lost s.core.links i (Busy j) (Busy j) g.losses has refl refl)) (λ over. absurd (not_over s.core.jobs j (With i) (With i) a.goes.place (λ q. cc) over)) (λ job e. tt)
+    (subst (λ l. Losses b.links b.lost l (set s.core.links i (Busy j))) (sym lost) (losses_stay b.links b.lost s.lost s.core.links i (Busy j) (Busy j) g.losses has refl refl)) (λ over. absurd (not_over s.core.jobs j (With i) (With i) a.goes.place (λ q. cc) over))
+    (reads_go jobs b s i j a.goes.job (With i) (With i) (Busy j) (Busy j) a.now w.now g has refl refl a.seat_is a.goes.job_is a.goes.place (reads_stay a.goes.job.kind a.now w.now (With i) (With i) refl w.counts.2)) (λ job e. tt)
     (λ from e. let f : a.from ≡ from = some_same a.from from (sym a.from_is ∙ e) in
     subst (λ x. LinkGoes jobs b (set s.core.jobs j (With i)) (set s.kept.kept j w.holds.kept) x i (Busy j) w.next (Some w.now)) f (record {
       place = get_set_same s.core.jobs j (With i) (With i) a.goes.place;
@@ -125,6 +134,7 @@ going_ended jobs b s t i j all g has w core lost =
     going_update jobs b s t i j Ended (With i) Idle (Busy j) (Some w.now) w.next a.goes.kept w.holds.kept g mv has a.goes.place a.goes.kept_is (only_with i) refl
     (subst (λ l. Losses b.links b.lost l (set s.core.links i Idle)) (sym lost) (losses_stay b.links b.lost s.lost s.core.links i (Busy j) Idle g.losses has refl refl))
     (λ over. live_some (set s.core.links i Idle) i Idle (get_set_same s.core.links i Idle (Busy j) has) refl)
+    (reads_go jobs b s i j a.goes.job (With i) Ended (Busy j) Idle a.now w.now g has refl refl a.seat_is a.goes.job_is a.goes.place (reads_stay a.goes.job.kind a.now w.now (With i) Ended refl w.counts.2))
     (λ job e. let same : a.goes.job ≡ job = some_same a.goes.job job (sym a.goes.job_is ∙ e) in
     (all, record { link = i; from = a.from; is = a.from_is; items = subst (λ (x : Job). AllEnd a.from.told x.kind x.items w.holds.kept.done) same w.holds.items }))
     (λ from e. let f : a.from ≡ from = some_same a.from from (sym a.from_is ∙ e) in
@@ -153,7 +163,7 @@ going_lost jobs b s t i j cause next g has core seats hears kept lost why =
     let mv : Moves s t i j Waiting Lost None next m = record { core = core; seats = seats; hears = hears; kept = kept.2.is; jobs = kept.1 } in
     going_update jobs b s t i j Waiting (With i) Lost (Busy j) None next a.goes.kept m g mv has a.goes.place a.goes.kept_is (only_with i) refl
     (losses_more b.links b.lost s.lost t.lost s.core.links i (Busy j) (record { place = i; cause = cause }) g.losses has refl lost refl (record { from = a.from; is = a.from_is; unsteady = y.0; told = y.1 }))
-    (λ over. absurd (not_over s.core.jobs j Waiting (With i) a.goes.place (λ q. cc) over))
+    (λ over. absurd (not_over s.core.jobs j Waiting (With i) a.goes.place (λ q. cc) over)) (reads_lost jobs b (set s.core.jobs j Waiting) s.core.links (set s.seats i None) i (Busy j) has refl)
     (λ job e. kept.2.by a.goes.kept a.goes.kept_is) (λ from e. tt)
 
 pub lost_advances : (jobs : List Job) (s t : State) (i j : ℕ) → slice_get s.core.links i ≡ Some (Busy j) → t.core ≡ after_lose s.core i j → t.kept.faults ≡ s.kept.faults → Advances jobs s t

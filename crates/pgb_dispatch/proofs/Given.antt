@@ -28,6 +28,7 @@ use Rattle.pgb_dispatch.specs.Seats.{Both, SentOver, SeatSends}
 use Rattle.pgb_dispatch.specs.Run.{State, Began, Rests, LinkGoes, JobGoes, Losses, live, Going, Runs, GoesOn, Changed, Gave, Settles, total, work, measure}
 use Rattle.pgb_dispatch.proofs.Counting.{live_set, work_le, lost_falls}
 use Rattle.pgb_dispatch.proofs.Going.{some_of, some_same, get_some, set_is, set_twice, Moves, not_over, going_update, losses_stay, losses_more}
+use Rattle.pgb_dispatch.proofs.Reading.{reads_go, reads_lost, reads_sent}
 use Rattle.pgb_dispatch.proofs.Events.{both_there}
 
 -- an idle link
@@ -117,7 +118,8 @@ going_given jobs b s t i j job frame h g idle given is fits spelled sent hears s
       jobs = ap (λ (x : KeepState). x.jobs) kept;
     } in
     going_update jobs b s t i j (With i) Waiting (Busy j) Idle (Some u.0) h k.0 k.0 g mv idle given.0.waits k.1 (λ c e. absurd (let f : Waiting ≡ With c = e in cc)) refl
-    (subst (λ l. Losses b.links b.lost l (set s.core.links i (Busy j))) (sym lost) (losses_stay b.links b.lost s.lost s.core.links i Idle (Busy j) g.losses idle refl refl)) (λ over. absurd (not_over s.core.jobs j (With i) Waiting given.0.waits (λ q. cc) over)) (λ x e. tt)
+    (subst (λ l. Losses b.links b.lost l (set s.core.links i (Busy j))) (sym lost) (losses_stay b.links b.lost s.lost s.core.links i Idle (Busy j) g.losses idle refl refl)) (λ over. absurd (not_over s.core.jobs j (With i) Waiting given.0.waits (λ q. cc) over))
+    (reads_go jobs b s i j job Waiting (With i) Idle (Busy j) a.now u.0 g idle refl refl a.seat_is is given.0.waits (λ n. let r = reads_sent a.now u.0 job frame u.2 spelled n in (r.0, omega (arith, r.1)))) (λ x e. tt)
     (λ from e. let f : a.from ≡ from = some_same a.from from (sym a.from_is ∙ e) in
     subst (λ x. LinkGoes jobs b (set s.core.jobs j (With i)) (set s.kept.kept j k.0) x i (Busy j) h (Some u.0)) f (record {
       place = get_set_same s.core.jobs j (With i) Waiting given.0.waits;
@@ -156,7 +158,7 @@ going_refused jobs b s t i j mid frame after g idle given core sent seats hears 
     going_update jobs b s t i j Waiting Waiting Lost Idle None a.hear k.0 m g mv idle given.0.waits k.1 (λ c e. absurd (let f : Waiting ≡ With c = e in cc)) refl
     (losses_more b.links b.lost s.lost t.lost s.core.links i Idle (record { place = i; cause = Device }) g.losses idle refl lost refl
     (record { from = a.from; is = a.from_is; unsteady = λ w. u.2 (steady_kept a.from.told a.now.told a.rests.drained w); told = tt }))
-    (λ over. absurd (not_over s.core.jobs j Waiting Waiting given.0.waits (λ q. cc) over))
+    (λ over. absurd (not_over s.core.jobs j Waiting Waiting given.0.waits (λ q. cc) over)) (reads_lost jobs b (set s.core.jobs j Waiting) s.core.links (set s.seats i None) i Idle idle refl)
     (λ x e. kept.2.by k.0 k.1) (λ from e. tt)
 
 -- ---- idle links, and what is left

@@ -21,7 +21,9 @@ use Rattle.pgb_dispatch.specs.declared.fault.DispatchFault.{DispatchFault}
 use Rattle.pgb_dispatch.specs.declared.fault.DispatchFault.TheVariants as faults
 use Rattle.pgb_dispatch.specs.Faults.{IsQuiet}
 use Rattle.pgb_dispatch.specs.Run.{State, Began, EndedBy, Rests, LinkGoes, JobGoes, live, withs, busies, Going, GoesOn, HearsOn, NoneBusy, RunFault, UnreadLeaves, somes, Starts, AllDone, Left, JobsFault, IsReady, state, fresh, begun, SeatsLeave}
+use Rattle.pgb_dispatch.specs.Counts.{reads_of, sent_reads}
 use Rattle.pgb_dispatch.proofs.Counting.{is_with}
+use Rattle.pgb_dispatch.proofs.Reading.{sent_none}
 use Rattle.pgb_dispatch.proofs.Going.{some_of, some_same, is_some_at, get_some}
 
 -- ---- seats
@@ -48,6 +50,10 @@ pub somes_map : {A X : Type 0} (f : A → X) (xs : List (Option A)) → map f (s
 somes_map f [] = refl
 somes_map f (None ∷ xs) = somes_map f xs
 somes_map f (Some x ∷ xs) = ap (λ l. f x ∷ l) (somes_map f xs)
+
+somes_all : {A : Type 0} (xs : List A) → somes (map Some xs) ≡ xs
+somes_all [] = refl
+somes_all (x ∷ xs) = ap (λ l. x ∷ l) (somes_all xs)
 
 pub map_some : {A X : Type 0} (f : A → X) (xs : List A) → map (option_map f) (map Some xs) ≡ map Some (map f xs)
 map_some f [] = refl
@@ -111,6 +117,10 @@ going_start jobs links s a =
         has = λ l e. absurd (idle_not_lost (length links) l (ap (λ x. slice_get x l) (sym ls) ∙ e));
         count = (let n : live s.core.links ≡ length s.core.links = ap live ls ∙ live_all (length links) ∙ sym (ap length ls ∙ length-replicated (length links) Idle) in omega (arith, n));
       };
+      reads = λ all none.
+          let seated : somes s.seats ≡ links = ap somes a.seats ∙ somes_all links in
+          let waits : sent_reads jobs s.core.jobs ≡ 0 = ap (sent_reads jobs) places ∙ sent_none jobs (length jobs) in
+          omega (arith, ap reads_of seated, waits);
       some = λ over many. (let n : live s.core.links ≡ length links = ap live ls ∙ live_all (length links) in omega (arith, n, many));
       each_job = λ j job p is at.
           let w : p ≡ Waiting = get_replicate (length jobs) j Waiting p (ap (λ x. slice_get x j) (sym places) ∙ at) in
@@ -196,6 +206,7 @@ all_given jobs links lost s idle g = record {
   even = g.even;
   losses = g.losses;
   some = g.some;
+  reads = g.reads;
   each_job = λ j job p is at. jobs_begun links lost job p (slice_get s.kept.kept j) (g.each_job j job p is at);
   each_link = λ i p h seat at hat sat. links_begun jobs links lost s.core.jobs s.kept.kept i p h seat (slice_get links i)
       (λ e le. few_jobs jobs links lost s i g (idle i (at ∙ ap Some e)) (at ∙ ap Some e) le) (g.each_link i p h seat at hat sat);

@@ -1,4 +1,5 @@
 pub mod Faults
 pub mod Seats
+pub mod Counts
 pub mod Run
 pub mod Setups

@@ -17,6 +17,7 @@ use Rattle.pgb_reply.specs.Hearings.{IsTold}
 use Rattle.pgb_outside.specs.Content.{Content}
 use Rattle.pgb_reply.specs.Reads.{Reads, IsSteadyWorker, UnreadBy, AllEnd}
 use Rattle.pgb_reply.specs.Going.{Goes, IsDrained, items_cost, job_left}
+use Rattle.pgb_dispatch.specs.Counts.{NoneFull, reads_of, sent_reads}
 use Rattle.pgb_dispatch.specs.declared.fault.Lost.{Lost as Entry}
 use Rattle.pgb_dispatch.specs.declared.fault.DispatchFault.{DispatchFault}
 use Rattle.pgb_dispatch.specs.declared.fault.DispatchFault.TheVariants as faults
@@ -126,6 +127,12 @@ busies (Lost ∷ ls) = busies ls
 busies (Idle ∷ ls) = busies ls
 busies (Busy j ∷ ls) = suc (busies ls)
 
+-- those that are there
+abbrev pub somes : {A : Type 0} → List (Option A) → List A
+somes [] = []
+somes (None ∷ xs) = somes xs
+somes (Some x ∷ xs) = x ∷ somes xs
+
 -- what holds at each moment of a run
 pub record Going (jobs : List Job) (b : Began) (s : State) : Type 0 where
   pub job_count : length s.core.jobs ≡ length jobs
@@ -136,6 +143,7 @@ pub record Going (jobs : List Job) (b : Began) (s : State) : Type 0 where
   pub even : withs s.core.jobs ≡ busies s.core.links
   pub losses : Losses b.links b.lost s.lost s.core.links
   pub some : AllEnded s.core.jobs → 0 < length b.links → 0 < live s.core.links
+  pub reads : live s.core.links ≡ length s.core.links → NoneFull (somes s.seats) → reads_of (somes s.seats) ≡ reads_of b.links + sent_reads jobs s.core.jobs
   pub each_job : (j : ℕ) (job : Job) (p : JobPlace) → slice_get jobs j ≡ Some job → slice_get s.core.jobs j ≡ Some p → IsSomeAnd (slice_get s.kept.kept j) (JobGoes b job p)
   pub each_link : (i : ℕ) (p : LinkPlace) (h : Hearing) (seat : Option LinkState) → slice_get s.core.links i ≡ Some p → slice_get s.hears i ≡ Some h → slice_get s.seats i ≡ Some seat
       → IsSomeAnd (slice_get b.links i) (λ from. LinkGoes jobs b s.core.jobs s.kept.kept from i p h seat)
@@ -245,12 +253,6 @@ RunFault jobs faults.Keep s t = Rises s.kept.faults t.kept.faults
 RunFault jobs faults.NoMemory s t = Unit {0}
 
 -- ---- a whole run
-
--- those that are there
-abbrev pub somes : {A : Type 0} → List (Option A) → List A
-somes [] = []
-somes (None ∷ xs) = somes xs
-somes (Some x ∷ xs) = x ∷ somes xs
 
 -- a run of all jobs over these links, before any was given
 pub record Starts (jobs : List Job) (links : List LinkState) (s : State) : Type 0 where

@@ -4,6 +4,7 @@ ghost use Rattle.pgb_outside.specs.Links.{LinkState};
 ghost use Rattle.pgb_frame.specs.Frames.{FitsJob};
 ghost use Rattle.pgb_frame.specs.Views.{job_of};
 ghost use Rattle.pgb_keep.specs.KeepState.{IsFresh};
+ghost use Rattle.pgb_dispatch.specs.Counts.{ReadsRise};
 ghost use Rattle.pgb_dispatch.specs.Run.{AllDone, Left, JobsFault, IsReady, IsUnread};
 
 use crate::fault::{DispatchFault, Lost};
@@ -50,6 +51,8 @@ fn run_links<L: Link, W, U: Turns, K: Keep<W>>(
     // The links that weren't lost are left, idle, each with as many new jobs as it may have. Each of the others is told, and no steady worker is.
     ensures left { OnOk result (Left (length jobs.now) (map L.link_state links.old.items) lost.old.items lost.new.items (map L.link_state links.new.items)) }
     ensures some { OnOk result (0 < length links.old.items → 0 < length links.new.items) }
+    // Where no link could be lost, the counts of read jobs rose by just these jobs.
+    ensures reads { OnOk result (ReadsRise (map job_of jobs.now) (map L.link_state links.old.items) (map L.link_state links.new.items)) }
     ensures fault { IfErr result (λ e. JobsFault (map job_of jobs.now) e (map L.link_state links.old.items) lost.old.items lost.new.items (K.kept keep.old on.old).faults (K.kept keep.new on.new).faults (map L.link_state links.new.items)) }
 {
     let mut core = Core::new(alloc, jobs.len() as u32, links.len() as u32)?;
@@ -104,6 +107,8 @@ pub fn run_jobs<L: Link, W, U: Turns, K: Keep<W>>(
     // The links that weren't lost are left, idle, each with as many new jobs as it may have. Each of the others is told, and no steady worker is.
     ensures left { OnOk result (Left (length jobs.now) (map L.link_state links.old.items) lost.old.items lost.new.items (map L.link_state links.new.items)) }
     ensures some { OnOk result (0 < length links.old.items → 0 < length links.new.items) }
+    // Where no link could be lost, the counts of read jobs rose by just these jobs.
+    ensures reads { OnOk result (ReadsRise (map job_of jobs.now) (map L.link_state links.old.items) (map L.link_state links.new.items)) }
     ensures fault { IfErr result (λ e. JobsFault (map job_of jobs.now) e (map L.link_state links.old.items) lost.old.items lost.new.items (K.kept keep.old on.old).faults (K.kept keep.new on.new).faults (map L.link_state links.new.items)) }
     ensures refused { IfErr result (λ e. IsUnread e ⊎ (links.new.items ≡ [])) }
 {
