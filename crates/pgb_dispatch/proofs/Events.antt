@@ -1,6 +1,6 @@
 -- What hearing a frame leaves of a run.
 use Rattle.std.proofs.Common.{ℕ, zero, suc, ◌≡◌, ◌≢◌, ◌<◌, ◌≤◌, ◌+◌, ◌-◌, ◌*◌, ◌^◌, List, [], ◌∷◌, ◌++◌, true, Option, Some, None, Result, Ok, Err, length, map, refl, sym, ap, subst, arith, ◌∙◌, slice_get, slice_index_or, set, length-set}
-use Rattle.std.specs.Prelude.{IfErr, OnOk, All, min, option_map}
+use Rattle.std.specs.Prelude.{IfErr, OnOk, OnErr, ◌⊎◌, All, min, option_map}
 use Rattle.std.proofs.lemmas.List.{map-set}
 use Rattle.std.proofs.lemmas.Option.{slice_get_within}
 use Rattle.pgb_outside.specs.Cause.{Rises}
@@ -23,15 +23,16 @@ use Rattle.pgb_hear.specs.declared.cause.LostCause.{LostCause}
 use Rattle.pgb_reply.specs.Hearings.{IsTold}
 use Rattle.pgb_reply.specs.Reads.{IsSteadyWorker, AllEnd}
 use Rattle.pgb_reply.specs.Going.{At, VerdictHolds, FaultHolds, KeepsCounts, IsUnread, job_left}
+use Rattle.pgb_dispatch.specs.declared.fault.Lost.{Lost as Entry}
 use Rattle.pgb_dispatch.specs.declared.fault.DispatchFault.{DispatchFault}
 use Rattle.pgb_dispatch.specs.declared.fault.DispatchFault.TheVariants as faults
 use Rattle.pgb_dispatch.specs.Faults.{IsQuiet}
 use Rattle.pgb_dispatch.specs.Counts.{one_if_sent}
 use Rattle.pgb_dispatch.specs.Seats.{Both, HearsOver, Hears, FailsOver, HearFails, IsHearing, HeardAt}
-use Rattle.pgb_dispatch.specs.Run.{State, Began, LinkGoes, Losses, live, Going, Runs, HearsOn, Changed, Advances, UnreadLeaves, HearFault, total, work, measure}
+use Rattle.pgb_dispatch.specs.Run.{State, Began, LinkGoes, Losses, live, Going, Runs, HearsOn, Changed, Advances, UnreadLeaves, HearFault, TellsLosses, total, work, measure}
 use Rattle.pgb_dispatch.proofs.Counting.{live_some, live_set, work_set, work_le, lost_falls}
 use Rattle.pgb_dispatch.proofs.Reading.{reads_go, reads_lost}
-use Rattle.pgb_dispatch.proofs.Going.{some_same, set_twice, Moves, going_update, AtBusy, busy_of, not_over, only_with, core_same, losses_stay, losses_more}
+use Rattle.pgb_dispatch.proofs.Going.{some_same, set_twice, Moves, going_update, AtBusy, busy_of, not_over, only_with, core_same, losses_stay, losses_more, told_more}
 
 pub both_there : (R : LinkState → LinkState → Type 0) (x y : Option LinkState) (s : LinkState) → x ≡ Some s → Both R x y → (u : LinkState) × (y ≡ Some u) × R s u
 both_there R None y s e h = absurd (let f : None ≡ Some s = e in cc)
@@ -222,6 +223,14 @@ lost_goes (Ok u) v cause jobs s t i j job after newer held q has is h core seats
     going_lost jobs b s t i j cause w.next g has core
     (seats ∙ ap (λ l. set l i None) w.seats ∙ set_twice s.seats i (Some w.now) None) (hears ∙ w.hears) (subst (λ k. Changed Clears j k t.kept) w.holds.0 kept) lost
     (λ a. let same : w.at.from ≡ a.from = some_same w.at.from a.from (sym w.at.from_is ∙ a.from_is) in (subst (λ (f : LinkState). ¬ IsSteadyWorker f.told) same w.holds.1, w.holds.2))
+
+pub lost_told : (r : Result (Unit {0}) DispatchFault) (v : Verdict) (cause : LostCause) (jobs : List Job) (s : State) (i j : ℕ) (job : Job) (after : List (Option LinkState)) (newer : List Hearing) (held : KeepState) (entries : List Entry)
+    → v ≡ verdicts.Lost cause → slice_get s.core.links i ≡ Some (Busy j) → slice_get jobs j ≡ Some job → HeardAt (λ h n. Hears v job j h n s.kept held) i s.seats after s.hears newer
+    → OnErr r ((entries ≡ s.lost) ⊎ (entries ≡ s.lost ++ (record { place = i; cause = cause }) ∷ [])) → OnErr r (TellsLosses jobs s entries)
+lost_told (Ok u) v cause jobs s i j job after newer held entries q has is h told = tt
+lost_told (Err e) v cause jobs s i j job after newer held entries q has is h told = told_more jobs s entries (record { place = i; cause = cause }) told (λ b g.
+    let w = heard_as v (verdicts.Lost cause) jobs b s i j job after newer held q g has is h in
+    record { from = w.at.from; is = w.at.from_is; unsteady = w.holds.1; told = w.holds.2 })
 
 pub lost_adv : (r : Result (Unit {0}) DispatchFault) (jobs : List Job) (s t : State) (i j : ℕ) (held : KeepState) → held ≡ s.kept → slice_get s.core.links i ≡ Some (Busy j) → OnOk r (t.core ≡ after_lose s.core i j) → OnOk r (Changed Clears j held t.kept) → OnOk r (Advances jobs s t)
 lost_adv (Err e) jobs s t i j held same has core kept = tt

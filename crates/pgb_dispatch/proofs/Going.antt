@@ -1,5 +1,5 @@
 -- What each event leaves of a run.
-use Rattle.std.proofs.Common.{ℕ, zero, suc, ◌≡◌, ◌<◌, ◌+◌, inl, inr, List, [], ◌∷◌, ◌++◌, Option, Some, None, length, refl, sym, ap, subst, arith, ◌∙◌, append_assoc, length-append, slice_get, set, length-set}
+use Rattle.std.proofs.Common.{ℕ, zero, suc, ◌≡◌, ◌<◌, ◌+◌, ◌⊎◌, inl, inr, List, [], ◌∷◌, ◌++◌, Option, Some, None, length, refl, sym, ap, subst, arith, ◌∙◌, append_assoc, length-append, slice_get, set, length-set}
 use Rattle.std.specs.Prelude.{IsSomeAnd}
 use Rattle.std.specs.List.{AllByRecursion}
 use Rattle.pgb_outside.specs.Links.{LinkState}
@@ -14,7 +14,7 @@ use Rattle.pgb_jobs.specs.declared.LinkPlace.TheVariants.{Idle, Busy, Lost}
 use Rattle.pgb_jobs.proofs.Places.{get_set_same, get_set_other, get_set_cases, within}
 use Rattle.pgb_reply.specs.declared.hearing.Hearing.{Hearing}
 use Rattle.pgb_dispatch.specs.declared.fault.Lost.{Lost as Entry}
-use Rattle.pgb_dispatch.specs.Run.{State, Began, Replies, LinkGoes, JobGoes, IsLoss, Losses, withs, busies, somes, Going, live}
+use Rattle.pgb_dispatch.specs.Run.{State, Began, Replies, LinkGoes, JobGoes, IsLoss, Losses, withs, busies, somes, Going, live, TellsLosses}
 use Rattle.pgb_dispatch.specs.Counts.{NoneFull, reads_of, sent_reads}
 use Rattle.pgb_dispatch.proofs.Counting.{alive, is_busy, is_with, live_set, busies_set, withs_set}
 
@@ -213,4 +213,17 @@ losses_more links before after later places i u e l at a is place loss = record 
     | inr q ↦ let h = l.has x q.1 in (h.0, h.1, get_front l.entries e h.1 h.0 h.2, h.3)
   ];
   count = omega (arith, l.count, live_set places i u Lost at, a, length-set places i Lost, length-append l.entries (e ∷ []));
+}
+
+-- nothing more is told
+pub told_same : (jobs : List Job) (s : State) (after : List Entry) → after ≡ s.lost → TellsLosses jobs s after
+told_same jobs s after e = λ b g. record { entries = g.losses.entries; is = e ∙ g.losses.is; each = g.losses.each }
+
+-- one loss more may be told
+pub told_more : (jobs : List Job) (s : State) (after : List Entry) (e : Entry) → (after ≡ s.lost) ⊎ (after ≡ s.lost ++ e ∷ []) → ((b : Began) → Going jobs b s → IsLoss b.links e) → TellsLosses jobs s after
+told_more jobs s after e (inl same) why = told_same jobs s after same
+told_more jobs s after e (inr more) why = λ b g. record {
+  entries = g.losses.entries ++ e ∷ [];
+  is = more ∙ ap (λ es. es ++ e ∷ []) g.losses.is ∙ append_assoc b.lost g.losses.entries (e ∷ []);
+  each = all_push (IsLoss b.links) g.losses.entries e g.losses.each (why b g);
 }

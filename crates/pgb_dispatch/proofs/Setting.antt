@@ -1,6 +1,6 @@
 -- What telling workers their roots leaves.
-use Rattle.std.proofs.Common.{ℕ, zero, suc, ◌≡◌, ◌<◌, ◌≤◌, ◌+◌, ◌-◌, ◌^◌, ◌⊎◌, inl, inr, List, [], ◌∷◌, ◌++◌, true, Option, Some, None, length, map, refl, sym, ap, subst, arith, ◌∙◌, append_assoc, length-append, slice_get}
-use Rattle.std.specs.Prelude.{IfSome, IsSomeAnd, min}
+use Rattle.std.proofs.Common.{ℕ, zero, suc, ◌≡◌, ◌<◌, ◌≤◌, ◌+◌, ◌-◌, ◌^◌, ◌⊎◌, inl, inr, List, [], ◌∷◌, ◌++◌, true, Option, Some, None, Result, Ok, Err, length, map, refl, sym, ap, subst, arith, ◌∙◌, append_assoc, length-append, slice_get}
+use Rattle.std.specs.Prelude.{IfSome, IsSomeAnd, OnOk, OnErr, min}
 use Rattle.std.specs.List.{AllByRecursion}
 use Rattle.std.specs.Iterator.{Yields}
 use Rattle.std.specs.Vec.Iter.{into_iter_items, into_iter_steps}
@@ -15,8 +15,9 @@ use Rattle.pgb_hear.specs.declared.cause.LostCause.TheVariants.{Device}
 use Rattle.pgb_reply.specs.Reads.{Reads, IsSteadyWorker}
 use Rattle.pgb_reply.specs.Going.{IsDrained}
 use Rattle.pgb_dispatch.specs.declared.fault.Lost.{Lost as Entry}
+use Rattle.pgb_dispatch.specs.declared.fault.DispatchFault.{DispatchFault}
 use Rattle.pgb_dispatch.specs.Setups.{Kept}
-use Rattle.pgb_dispatch.specs.Run.{Rests, IsLoss, IsReady, Left, AllLost, begun}
+use Rattle.pgb_dispatch.specs.Run.{Rests, IsLoss, IsReady, Left, AddsLosses, AllLost, begun}
 use Rattle.pgb_dispatch.proofs.Going.{some_same, all_push, at_push, get_front}
 use Rattle.pgb_dispatch.proofs.Whole.{somes_push, somes_none, append_none}
 
@@ -157,3 +158,35 @@ place_next xs ys x rest place next e few p n = omega (arith, few, p, n, ap lengt
 pub map_push : {A : Type 0} (f : A → LinkState) (ys : List A) (x : A) → map f (ys ++ x ∷ []) ≡ map f ys ++ f x ∷ []
 map_push f [] x = refl
 map_push f (y ∷ ys) x = ap (λ l. f y ∷ l) (map_push f ys x)
+
+-- ---- what is told of lost links
+
+get_behind : {X : Type 0} (xs ys : List X) (m : X) (k : ℕ) → slice_get xs k ≡ Some m → slice_get (xs ++ ys) k ≡ Some m
+get_behind [] ys m k e = absurd (let f : None ≡ Some m = e in cc)
+get_behind (x ∷ xs) ys m zero e = e
+get_behind (x ∷ xs) ys m (suc k) e = get_behind xs ys m k e
+
+losses_within : (links more : List LinkState) (es : List Entry) → AllByRecursion (IsLoss links) es → AllByRecursion (IsLoss (links ++ more)) es
+losses_within links more [] h = tt
+losses_within links more (e ∷ es) h = (record { from = h.0.from; is = get_behind links more h.0.from e.place h.0.is; unsteady = h.0.unsteady; told = h.0.told }, losses_within links more es h.1)
+
+map_front : {A : Type 0} (f : A → LinkState) (ys rest : List A) → map f (ys ++ rest) ≡ map f ys ++ map f rest
+map_front f [] rest = refl
+map_front f (y ∷ ys) rest = ap (λ l. f y ∷ l) (map_front f ys rest)
+
+-- the losses of a front are losses of all
+pub told_front : {A : Type 0} (f : A → LinkState) (xs ys rest : List A) (before after : List Entry) (now : List LinkState) → xs ≡ ys ++ rest → Left 0 (map f ys) before after now → AddsLosses (map f xs) before after
+told_front f xs ys rest before after now e l = record {
+  entries = l.entries;
+  is = l.is;
+  each = subst (λ (links : List LinkState). AllByRecursion (IsLoss links) l.entries) (sym (ap (map f) e ∙ map_front f ys rest)) (losses_within (map f ys) (map f rest) l.entries l.each);
+}
+
+pub on_err : {A : Type 0} (r : Result A DispatchFault) (P : Type 0) → P → OnErr r P
+on_err (Ok x) P p = tt
+on_err (Err e) P p = p
+
+-- whatever came of it
+pub setup_told : (r : Result (Unit {0}) DispatchFault) (links : List LinkState) (before after : List Entry) (now : List LinkState) → OnOk r (Left 0 links before after now) → OnErr r (AddsLosses links before after) → AddsLosses links before after
+setup_told (Ok u) links before after now l h = record { entries = l.entries; is = l.is; each = l.each }
+setup_told (Err e) links before after now l h = h

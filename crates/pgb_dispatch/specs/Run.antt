@@ -238,6 +238,14 @@ pub record Turned (jobs : List Job) (s t : State) (done : Bool) : Type 0 where
   pub idle : (k : ℕ) → IsIdle t.core k → NoneWaits t.core
   pub over : done ≡ true → AllEnded t.core.jobs × NoneBusy t.core
 
+-- after a run at this state these are the entries that there were as it began, and further ones, which are losses
+abbrev pub TellsLosses : List Job → State → List Entry → Type 0
+TellsLosses jobs s after = (b : Began) → Going jobs b s → AddsLosses b.links b.lost after
+
+-- the same, of a run in which each idle link was given a job or none waited
+abbrev pub TellsLossesOn : List Job → State → List Entry → Type 0
+TellsLossesOn jobs s after = (b : Began) → b.all ≡ true → Going jobs b s → AddsLosses b.links b.lost after
+
 -- each link that the run began with is lost, and has its entry
 pub record AllLost (b : Began) (after : List Entry) : Type 0 where
   pub entries : List Entry

@@ -4,7 +4,7 @@ use Rattle.std.proofs.lemmas.List.{length-map}
 use Rattle.pgb_frame.specs.Views.{job_of}
 use Rattle.pgb_dispatch.specs.Run.{state}
 use Rattle.pgb_dispatch.proofs.Events.{job_at, fits_at, seats_lost, on_ok}
-use Rattle.pgb_dispatch.proofs.Given.{going_given, refused_goes, settles_ok, settles_refused, gave_ok, gave_refused, has_given, idle_within, waits_within}
+use Rattle.pgb_dispatch.proofs.Given.{going_given, refused_goes, refused_told, settles_ok, settles_refused, gave_ok, gave_refused, has_given, idle_within, waits_within}
 use Rattle.pgb_dispatch.proofs.giving.give_job.Goals as goal
 
 pub bounds-jobs-job : goal.bounds-jobs-job
@@ -53,3 +53,6 @@ returns-clause-gave g c = gave_refused c.lose_link.result (map job_of c.args.job
 
 pub returns-clause-settles : goal.returns-clause-settles
 returns-clause-settles g c = settles_refused c.lose_link.result c.args.core.now c.give.new.self c.lose_link.new.core c.args.i c.in-Some.job c.in-Some.ensures.given c.lose_link.ensures.core
+
+pub returns-clause-told : goal.returns-clause-told
+returns-clause-told g c = refused_told c.lose_link.result c.in-Err-Failed.field-0 (map job_of c.args.jobs.now) (state g.L.Link.link_state c.args.core.now c.args.seats.now.items c.args.hears.now.items (g.K.Keep.kept c.args.keep.now c.args.on.now) c.args.lost.now.items) c.args.i c.deref.result.now (map (option_map g.L.Link.link_state) c.send_at.new.seats.items) c.lose_link.new.lost.items c.in-Err-Failed.field-0-is c.requires.idle c.in-Err-Failed.ensures.states c.lose_link.ensures.told
