@@ -17,16 +17,18 @@ use Rattle.pgb_jobs.specs.declared.LinkPlace.{LinkPlace}
 use Rattle.pgb_jobs.specs.declared.LinkPlace.TheVariants.{Idle, Busy, Lost}
 use Rattle.pgb_jobs.proofs.Places.{get_set_same, get_set_cases, within}
 use Rattle.pgb_hear.specs.declared.cause.LostCause.TheVariants.{Device}
+use Rattle.pgb_hear.proofs.Fronts.{takes_none}
+use Rattle.pgb_outside.specs.Content.{Content}
 use Rattle.pgb_reply.specs.declared.hearing.Hearing.{Hearing}
 use Rattle.pgb_reply.specs.Hearings.{StartsAt}
 use Rattle.pgb_reply.specs.Reads.{IsSteadyWorker, AllEnd}
-use Rattle.pgb_reply.specs.Going.{TellsItem, TellsItems, IsDrained, Goes}
+use Rattle.pgb_reply.specs.Going.{Tells, TellsItem, TellsItems, IsSame, IsDrained, Goes}
 use Rattle.pgb_reply.proofs.Told.{tells_first}
 use Rattle.pgb_dispatch.specs.declared.fault.Lost.{Lost as Entry}
 use Rattle.pgb_dispatch.specs.declared.fault.DispatchFault.{DispatchFault}
 use Rattle.pgb_dispatch.specs.Faults.{IsQuiet}
 use Rattle.pgb_dispatch.specs.Seats.{Both, SentOver, SeatSends}
-use Rattle.pgb_dispatch.specs.Run.{State, Began, Rests, LinkGoes, JobGoes, IsLoss, Losses, TellsLosses, live, Going, Runs, GoesOn, Changed, Gave, Settles, total, work, measure}
+use Rattle.pgb_dispatch.specs.Run.{State, Began, HeardSince, Rests, LinkGoes, JobGoes, IsLoss, Losses, TellsLosses, live, Going, Runs, GoesOn, Changed, Gave, Settles, total, work, measure}
 use Rattle.pgb_dispatch.proofs.Counting.{live_set, work_le, lost_falls}
 use Rattle.pgb_dispatch.proofs.Going.{some_of, some_same, get_some, set_is, set_twice, Moves, not_over, going_update, losses_stay, losses_more, told_more}
 use Rattle.pgb_dispatch.proofs.Reading.{reads_go, reads_lost, reads_sent}
@@ -102,9 +104,19 @@ bump_later a n m le e = omega (arith, le, e)
 jobs_sent : (old new : LinkState) (job : Job) (frame : Text) → Sends old new frame → frame ≡ spell (Task job) → new.jobs ≡ bumped old.jobs
 jobs_sent old new job frame s e = subst (λ f. Sends old new f → new.jobs ≡ bumped old.jobs) (sym e) (λ t. t.jobs) s
 
+tells_same : (P : Content → Content → Text → Type 0) (from now : Option Told) → Tells P from now → IsSame from now
+tells_same P None None h = tt
+tells_same P None (Some b) h = h
+tells_same P (Some a) None h = h
+tells_same P (Some a) (Some b) h = h.0
+
+-- nothing was heard since the job was sent
+since_sent : (from now : LinkState) (n : ℕ) → IsSame from.told now.told → now.faults ≡ from.faults → n ≡ 0 → HeardSince from now n
+since_sent from now n same faults e = record { begun = now; same = same; faults = faults; hears = record { bytes = []; takes = takes_none now; count = omega (arith, e) } }
+
 pub going_given : (jobs : List Job) (b : Began) (s t : State) (i j : ℕ) (job : Job) (frame : Text) (h : Hearing) → Going jobs b s → slice_get s.core.links i ≡ Some Idle → IsLowest s.core j × (t.core ≡ after_give s.core i j) → slice_get jobs j ≡ Some job → FitsJob job → frame ≡ spell (Task job)
-    → ChangesAt (Both (λ x y. Sends x y frame)) s.seats t.seats i → t.hears ≡ set s.hears i h → StartsAt 0 h → t.kept ≡ s.kept → t.lost ≡ s.lost → Going jobs b t
-going_given jobs b s t i j job frame h g idle given is fits spelled sent hears starts kept lost =
+    → ChangesAt (Both (λ x y. Sends x y frame)) s.seats t.seats i → t.hears ≡ set s.hears i h → StartsAt 0 h → h.heard ≡ 0 → t.kept ≡ s.kept → t.lost ≡ s.lost → Going jobs b t
+going_given jobs b s t i j job frame h g idle given is fits spelled sent hears starts zero_heard kept lost =
     let a = idle_of jobs b s i g idle in
     let k = some_of (JobGoes b job Waiting) (slice_get s.kept.kept j) (g.each_job j job Waiting is given.0.waits) in
     let u = both_there (λ x y. Sends x y frame) (Some a.now) sent.after a.now refl (sent.by (Some a.now) a.seat_is) in
@@ -132,6 +144,7 @@ going_given jobs b s t i j job frame h g idle given is fits spelled sent hears s
       faults = u.2.faults ∙ a.rests.faults;
       later = bump_later a.from.jobs a.now.jobs u.0.jobs a.rests.later count;
       sent = bump_rises a.from.jobs a.now.jobs u.0.jobs a.rests.later count;
+      since = since_sent a.from u.0 h.heard (tells_same _ a.from.told u.0.told told) (u.2.faults ∙ a.rests.faults) zero_heard;
     }))
 
 refused_is : (core mid last : Dispatch) (i j : ℕ) → mid ≡ after_give core i j → last ≡ after_lose mid i j → last ≡ record { jobs = set core.jobs j Waiting; links = set core.links i Lost }
@@ -144,7 +157,14 @@ refused_is core mid last i j e f =
 refused_loss : (jobs : List Job) (b : Began) (s : State) (i : ℕ) (frame : Text) (after : List (Option LinkState)) (a : AtIdle jobs b s i) → ChangesAt (SeatSends (Err stops.Failed) frame) s.seats after i → IsLoss b.links (record { place = i; cause = Device })
 refused_loss jobs b s i frame after a sent =
     let u = both_there (SentOver (Err stops.Failed) frame) (Some a.now) sent.after a.now refl (sent.by (Some a.now) a.seat_is) in
-    record { from = a.from; is = a.from_is; unsteady = λ w. u.2 (steady_kept a.from.told a.now.told a.rests.drained w); told = tt }
+    record {
+      from = a.from;
+      is = a.from_is;
+      unsteady = λ w. u.2.unsteady (steady_kept a.from.told a.now.told a.rests.drained w);
+      told = tt;
+      blamed = tt;
+      seen = record { begun = a.now; last = u.0; same = tells_same _ a.from.told a.now.told a.rests.drained; faults = a.rests.faults; holds = u.2.rises };
+    }
 
 -- a job whose frame couldn't be sent
 pub going_refused : (jobs : List Job) (b : Began) (s t : State) (i j : ℕ) (mid : Dispatch) (frame : Text) (after : List (Option LinkState)) → Going jobs b s → slice_get s.core.links i ≡ Some Idle → IsLowest s.core j × (mid ≡ after_give s.core i j) → t.core ≡ after_lose mid i j

@@ -75,6 +75,7 @@ link_stays jobs b places ks i j P o m from a (Busy c) h (Some now) at only n g =
       faults = g.faults;
       later = g.later;
       sent = g.sent;
+      since = g.since;
     }
 
 pub not_over : (places : List JobPlace) (j : ℕ) (P o : JobPlace) → slice_get places j ≡ Some o → (P ≡ Ended → ⊥) → AllEnded (set places j P) → ⊥

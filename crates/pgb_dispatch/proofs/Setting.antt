@@ -13,7 +13,7 @@ use Rattle.pgb_frame.specs.Frames.{Roots, FitsRoots, spell}
 use Rattle.pgb_frame.specs.Frames.Frame.{Setup}
 use Rattle.pgb_hear.specs.declared.cause.LostCause.TheVariants.{Device}
 use Rattle.pgb_reply.specs.Reads.{Reads, IsSteadyWorker}
-use Rattle.pgb_reply.specs.Going.{IsDrained}
+use Rattle.pgb_reply.specs.Going.{IsSame, IsDrained}
 use Rattle.pgb_dispatch.specs.declared.fault.Lost.{Lost as Entry}
 use Rattle.pgb_dispatch.specs.declared.fault.DispatchFault.{DispatchFault}
 use Rattle.pgb_dispatch.specs.Setups.{Kept}
@@ -52,7 +52,7 @@ rests_more : (links : List LinkState) (x : LinkState) (before : List Entry) (fro
 rests_more links x before from s r = record { drained = r.drained; faults = r.faults; later = r.later; sent = λ all le. absurd (few links x le) }
 
 loss_more : (links : List LinkState) (x : LinkState) (e : Entry) → IsLoss links e → IsLoss (links ++ x ∷ []) e
-loss_more links x e l = record { from = l.from; is = get_front links x l.from e.place l.is; unsteady = l.unsteady; told = l.told }
+loss_more links x e l = record { from = l.from; is = get_front links x l.from e.place l.is; unsteady = l.unsteady; told = l.told; blamed = l.blamed; seen = l.seen }
 
 losses_grow : (links : List LinkState) (x : LinkState) (es : List Entry) → AllByRecursion (IsLoss links) es → AllByRecursion (IsLoss (links ++ x ∷ [])) es
 losses_grow links x [] h = tt
@@ -109,6 +109,10 @@ left_none links before after later now old e l is place loss = record {
   once = omega (arith, l.once, length-append l.entries (e ∷ []), length-append links (old ∷ []));
 }
 
+same_told : (told : Option Told) → IsSame told told
+same_told None = tt
+same_told (Some t) = (refl, refl)
+
 worker_steady : (told : Option Told) → IsSteadyWorker told → IsSomeAnd told (λ t. t.steady ≡ true)
 worker_steady None h = h
 worker_steady (Some t) h = h.steady
@@ -118,9 +122,16 @@ left_more links before after later now after_now old frame place l (inl k) p rea
     let first = left_some links before after now old k.0 l (set_rests links before old k.0 frame r.0 k.1 r.1 r.2 ready) in
     subst (λ x. Left 0 (links ++ old ∷ []) before x after_now) (sym k.3) (subst (λ x. Left 0 (links ++ old ∷ []) before after x) (sym k.2) first)
 left_more links before after later now after_now old frame place l (inr k) p ready r =
-    subst (λ x. Left 0 (links ++ old ∷ []) before later x) (sym k.1)
-    (left_none links before after later now old (record { place = place; cause = Device }) l k.2 p
-    (record { from = old; is = ap (slice_get (links ++ old ∷ [])) p ∙ at_push links old; unsteady = λ w. k.0 (worker_steady old.told w); told = tt }))
+    subst (λ x. Left 0 (links ++ old ∷ []) before later x) (sym k.2)
+    (left_none links before after later now old (record { place = place; cause = Device }) l k.3 p
+    (record {
+      from = old;
+      is = ap (slice_get (links ++ old ∷ [])) p ∙ at_push links old;
+      unsteady = λ w. k.1.unsteady (worker_steady old.told w);
+      told = tt;
+      blamed = tt;
+      seen = record { begun = old; last = k.0; same = same_told old.told; faults = refl; holds = k.1.rises };
+    }))
 
 pub left_first : (before : List Entry) → Left 0 [] before before []
 left_first before = record {
@@ -168,7 +179,7 @@ get_behind (x ∷ xs) ys m (suc k) e = get_behind xs ys m k e
 
 losses_within : (links more : List LinkState) (es : List Entry) → AllByRecursion (IsLoss links) es → AllByRecursion (IsLoss (links ++ more)) es
 losses_within links more [] h = tt
-losses_within links more (e ∷ es) h = (record { from = h.0.from; is = get_behind links more h.0.from e.place h.0.is; unsteady = h.0.unsteady; told = h.0.told }, losses_within links more es h.1)
+losses_within links more (e ∷ es) h = (record { from = h.0.from; is = get_behind links more h.0.from e.place h.0.is; unsteady = h.0.unsteady; told = h.0.told; blamed = h.0.blamed; seen = h.0.seen }, losses_within links more es h.1)
 
 map_front : {A : Type 0} (f : A → LinkState) (ys rest : List A) → map f (ys ++ rest) ≡ map f ys ++ map f rest
 map_front f [] rest = refl

@@ -1,10 +1,13 @@
 -- A run of jobs over links: what holds at each moment of it. Own.
-use Rattle.std.specs.Prelude.{ℕ, suc, Bool, true, false, min, ◌≡◌, ◌+◌, ◌-◌, ◌*◌, ◌^◌, ◌<◌, ◌≤◌, ◌⊎◌, List, [], ◌∷◌, ◌++◌, length, map, Option, Some, None, option_map, IfSome, IsSomeAnd, slice_get}
+use Rattle.std.specs.Prelude.{ℕ, suc, Bool, true, false, min, ◌≡◌, ◌≢◌, ◌+◌, ◌-◌, ◌*◌, ◌^◌, ◌<◌, ◌≤◌, ◌⊎◌, List, [], ◌∷◌, ◌++◌, length, map, Option, Some, None, option_map, IfSome, IsSomeAnd, slice_get}
 use Rattle.std.specs.List.{AllByRecursion}
 use Rattle.pgb_outside.specs.Cause.{Rises}
 use Rattle.pgb_outside.specs.Links.{LinkState, last_five}
 use Rattle.pgb_frame.specs.Frames.{Item, Job, spell}
 use Rattle.pgb_frame.specs.Frames.Frame.{Unread}
+use Rattle.pgb_hear.specs.declared.cause.LostCause.{LostCause}
+use Rattle.pgb_hear.specs.declared.cause.LostCause.TheVariants as causes
+use Rattle.pgb_hear.specs.Takes.{HasHeard}
 use Rattle.pgb_keep.specs.KeepState.{Kept, KeepState, IsFresh}
 use Rattle.pgb_keep.specs.Lists.{ChangesAt}
 use Rattle.pgb_jobs.specs.Dispatch.{Dispatch, Waits, IsIdle, NoneWaits, AllEnded, start}
@@ -16,7 +19,7 @@ use Rattle.pgb_reply.specs.declared.hearing.Hearing.{Hearing}
 use Rattle.pgb_reply.specs.Hearings.{IsTold}
 use Rattle.pgb_outside.specs.Content.{Content}
 use Rattle.pgb_reply.specs.Reads.{Reads, IsSteadyWorker, UnreadBy, AllEnd}
-use Rattle.pgb_reply.specs.Going.{Goes, IsDrained, items_cost, job_left}
+use Rattle.pgb_reply.specs.Going.{Goes, IsSame, IsDrained, Blames, items_cost, job_left}
 use Rattle.pgb_dispatch.specs.Counts.{NoneFull, reads_of, sent_reads}
 use Rattle.pgb_dispatch.specs.declared.fault.Lost.{Lost as Entry}
 use Rattle.pgb_dispatch.specs.declared.fault.DispatchFault.{DispatchFault}
@@ -54,6 +57,13 @@ pub record Rests (b : Began) (count : ℕ) (from now : LinkState) : Type 0 where
   pub later : min from.jobs (2 ^ 64 - 1) ≤ now.jobs
   pub sent : b.all ≡ true → length b.links ≤ count → Rises from.jobs now.jobs
 
+-- since the link was sent its job, with as many faults as at first, so many bytes of the reply were heard
+pub record HeardSince (from now : LinkState) (heard : ℕ) : Type 0 where
+  pub begun : LinkState
+  pub same : IsSame from.told begun.told
+  pub faults : begun.faults ≡ from.faults
+  pub hears : HasHeard 0 heard begun now
+
 -- a busy link replies to its job
 pub record Replies (jobs : List Job) (places : List JobPlace) (ks : List Kept) (from : LinkState) (i j : ℕ) (h : Hearing) (now : LinkState) : Type 0 where
   pub place : slice_get places j ≡ Some (With i)
@@ -65,6 +75,7 @@ pub record Replies (jobs : List Job) (places : List JobPlace) (ks : List Kept) (
   pub faults : now.faults ≡ from.faults
   pub later : min from.jobs (2 ^ 64 - 1) ≤ now.jobs
   pub sent : Rises from.jobs now.jobs
+  pub since : HeardSince from now h.heard
 
 -- how a link stands by its place: the seat of a lost one is empty
 abbrev pub LinkGoes : List Job → Began → List JobPlace → List Kept → LinkState → ℕ → LinkPlace → Hearing → Option LinkState → Type 0
@@ -83,12 +94,31 @@ JobGoes b job Ended k = (b.all ≡ true) × EndedBy b.links job k
 
 -- ---- lost links
 
--- the entry names a link that isn't a steady worker, and its two sums differ
+-- The cause held of a link as it was lost. Its count of faults rose; or so many bytes were heard since it began its reply, and they end or
+-- are no reply; or two sums differ.
+abbrev pub HoldsOf : LostCause → LinkState → LinkState → Type 0
+HoldsOf causes.Device begun last = Rises begun.faults last.faults
+HoldsOf (causes.Ended at) begun last = HasHeard 0 at begun last
+HoldsOf (causes.Form at) begun last = HasHeard 0 at begun last
+HoldsOf (causes.Sum told found) begun last = told.0 ≢ found.0
+
+-- it held between two states of the link, which had counted no fault before
+pub record IsSeen (cause : LostCause) (from : LinkState) : Type 0 where
+  pub begun : LinkState
+  pub last : LinkState
+  pub same : IsSame from.told begun.told
+  pub faults : begun.faults ≡ from.faults
+  pub holds : HoldsOf cause begun last
+
+-- The entry names a link that isn't a steady worker, with a cause that held. An honest link is lost only because a call on it failed or its
+-- bytes ended.
 pub record IsLoss (links : List LinkState) (e : Entry) : Type 0 where
   pub from : LinkState
   pub is : slice_get links e.place ≡ Some from
   pub unsteady : ¬ IsSteadyWorker from.told
   pub told : IsTold e.cause
+  pub blamed : Blames e.cause from.told
+  pub seen : IsSeen e.cause from
 
 -- the later entries are losses
 pub record AddsLosses (links : List LinkState) (before after : List Entry) : Type 0 where
