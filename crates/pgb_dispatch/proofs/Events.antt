@@ -1,14 +1,16 @@
 -- What hearing a frame leaves of a run.
-use Rattle.std.proofs.Common.{ℕ, zero, suc, ◌≡◌, ◌<◌, ◌≤◌, ◌+◌, ◌-◌, ◌*◌, ◌^◌, List, [], ◌∷◌, ◌++◌, true, Option, Some, None, Result, Ok, Err, length, map, refl, sym, ap, subst, arith, ◌∙◌, slice_get, slice_index_or, set, length-set}
-use Rattle.std.specs.Prelude.{IfErr, OnOk, All, min, option_map}
+use Rattle.std.proofs.Common.{ℕ, zero, suc, ◌≡◌, ◌≢◌, ◌<◌, ◌≤◌, ◌+◌, ◌-◌, ◌*◌, ◌^◌, List, [], ◌∷◌, ◌++◌, true, Option, Some, None, Result, Ok, Err, length, map, refl, sym, ap, subst, arith, ◌∙◌, slice_get, slice_index_or, set, length-set}
+use Rattle.std.specs.Prelude.{IfErr, OnOk, OnErr, ◌⊎◌, All, min, option_map}
 use Rattle.std.proofs.lemmas.List.{map-set}
 use Rattle.std.proofs.lemmas.Option.{slice_get_within}
 use Rattle.pgb_outside.specs.Cause.{Rises}
 use Rattle.pgb_outside.specs.Links.{LinkState, last_five}
+use Rattle.pgb_frame.specs.declared.frames.JobKind.{JobKind}
 use Rattle.pgb_frame.specs.Frames.{Job, FitsJob, spell}
 use Rattle.pgb_frame.specs.Frames.Frame.{Unread}
 use Rattle.pgb_keep.specs.KeepState.{Kept, KeepState, Clears}
 use Rattle.pgb_jobs.specs.Dispatch.{Dispatch, after_end, after_lose}
+use Rattle.pgb_jobs.specs.declared.JobPlace.{JobPlace}
 use Rattle.pgb_jobs.specs.declared.JobPlace.TheVariants.{Waiting, With, Ended}
 use Rattle.pgb_jobs.specs.declared.LinkPlace.TheVariants.{Idle, Busy, Lost}
 use Rattle.pgb_jobs.proofs.Places.{get_set_same}
@@ -18,16 +20,22 @@ use Rattle.pgb_reply.specs.declared.reply.Verdict.TheVariants as verdicts
 use Rattle.pgb_reply.specs.declared.fault.TakeFault.{TakeFault}
 use Rattle.pgb_reply.specs.declared.fault.TakeFault.TheVariants as takes
 use Rattle.pgb_hear.specs.declared.cause.LostCause.{LostCause}
+use Rattle.pgb_hear.specs.declared.cause.LostCause.TheVariants as causes
+use Rattle.pgb_hear.specs.Takes.{HasHeard}
+use Rattle.pgb_hear.proofs.Fronts.{heard_after}
 use Rattle.pgb_reply.specs.Hearings.{IsTold}
 use Rattle.pgb_reply.specs.Reads.{IsSteadyWorker, AllEnd}
-use Rattle.pgb_reply.specs.Going.{At, VerdictHolds, FaultHolds, KeepsCounts, IsUnread, job_left}
+use Rattle.pgb_reply.specs.Going.{At, VerdictHolds, FaultHolds, KeepsCounts, HeardOf, IsUnread, job_left}
+use Rattle.pgb_dispatch.specs.declared.fault.Lost.{Lost as Entry}
 use Rattle.pgb_dispatch.specs.declared.fault.DispatchFault.{DispatchFault}
 use Rattle.pgb_dispatch.specs.declared.fault.DispatchFault.TheVariants as faults
 use Rattle.pgb_dispatch.specs.Faults.{IsQuiet}
+use Rattle.pgb_dispatch.specs.Counts.{one_if_sent}
 use Rattle.pgb_dispatch.specs.Seats.{Both, HearsOver, Hears, FailsOver, HearFails, IsHearing, HeardAt}
-use Rattle.pgb_dispatch.specs.Run.{State, Began, LinkGoes, Losses, live, Going, Runs, HearsOn, Changed, Advances, UnreadLeaves, HearFault, total, work, measure}
+use Rattle.pgb_dispatch.specs.Run.{State, Began, HeardSince, LinkGoes, IsSeen, IsLoss, Losses, live, Going, Runs, HearsOn, Changed, Advances, UnreadLeaves, HearFault, TellsLosses, total, work, measure}
 use Rattle.pgb_dispatch.proofs.Counting.{live_some, live_set, work_set, work_le, lost_falls}
-use Rattle.pgb_dispatch.proofs.Going.{some_same, set_twice, Moves, going_update, AtBusy, busy_of, not_over, only_with, core_same, losses_stay, losses_more}
+use Rattle.pgb_dispatch.proofs.Reading.{reads_go, reads_lost}
+use Rattle.pgb_dispatch.proofs.Going.{some_same, set_twice, Moves, going_update, AtBusy, busy_of, not_over, only_with, core_same, losses_stay, losses_more, told_more}
 
 pub both_there : (R : LinkState → LinkState → Type 0) (x y : Option LinkState) (s : LinkState) → x ≡ Some s → Both R x y → (u : LinkState) × (y ≡ Some u) × R s u
 both_there R None y s e h = absurd (let f : None ≡ Some s = e in cc)
@@ -56,6 +64,7 @@ pub record Heard (v : Verdict) (jobs : List Job) (b : Began) (s : State) (i j : 
   pub hears : newer ≡ set s.hears i next
   pub counts : KeepsCounts v at.now now
   pub holds : VerdictHolds v at.from.told now.told at.goes.job j next at.goes.kept s.kept held
+  pub heard : HeardOf v at.hear.heard next.heard at.now now
 
 pub heard_of : (v : Verdict) (jobs : List Job) (b : Began) (s : State) (i j : ℕ) (job : Job) (after : List (Option LinkState)) (newer : List Hearing) (held : KeepState) → Going jobs b s → slice_get s.core.links i ≡ Some (Busy j) → slice_get jobs j ≡ Some job
     → HeardAt (λ h n. Hears v job j h n s.kept held) i s.seats after s.hears newer → Heard v jobs b s i j after newer held
@@ -74,7 +83,34 @@ heard_of v jobs b s i j job after newer held g has is w =
       hears = w.hears_are;
       counts = u.2.0;
       holds = u.2.1 a.from.told a.goes.kept (at_of jobs b s i j g a);
+      heard = u.2.2;
     }
+
+-- the count of read jobs stays, and so does the number of those that were sent
+reads_stay : (kind : JobKind) (old new : LinkState) (o P : JobPlace) → one_if_sent kind o ≡ one_if_sent kind P → new.reads ≡ old.reads → new.reads ≢ 2 ^ 64 - 1 → (old.reads ≢ 2 ^ 64 - 1) × (new.reads + one_if_sent kind o ≡ old.reads + one_if_sent kind P)
+reads_stay kind old new o P q e n = ((λ f. n (e ∙ f)), omega (arith, q, e))
+
+-- more bytes of the reply were heard
+since_more : (from now new : LinkState) (m n : ℕ) → HeardSince from now m → HasHeard m n now new → HeardSince from new n
+since_more from now new m n s h = record { begun = s.begun; same = s.same; faults = s.faults; hears = heard_after s.begun now new s.hears.bytes 0 m n s.hears.takes s.hears.count h }
+
+-- the cause of a loss held
+seen_of : (cause : LostCause) (from now new : LinkState) (m n : ℕ) → HeardSince from now m → HeardOf (verdicts.Lost cause) m n now new → IsTold cause → IsSeen cause from
+seen_of causes.Device from now new m n s h t = record { begun = s.begun; last = new; same = s.same; faults = s.faults; holds = subst (λ k. Rises k new.faults) s.hears.takes.faults h }
+seen_of (causes.Ended at) from now new m n s h t = record { begun = s.begun; last = new; same = s.same; faults = s.faults; holds = heard_after s.begun now new s.hears.bytes 0 m at s.hears.takes s.hears.count h }
+seen_of (causes.Form at) from now new m n s h t = record { begun = s.begun; last = new; same = s.same; faults = s.faults; holds = heard_after s.begun now new s.hears.bytes 0 m at s.hears.takes s.hears.count h }
+seen_of (causes.Sum told found) from now new m n s h t = record { begun = s.begun; last = new; same = s.same; faults = s.faults; holds = t }
+
+-- the entry of the busy link
+loss_of : (cause : LostCause) (jobs : List Job) (b : Began) (s : State) (i j : ℕ) (after : List (Option LinkState)) (newer : List Hearing) (held : KeepState) → Heard (verdicts.Lost cause) jobs b s i j after newer held → IsLoss b.links (record { place = i; cause = cause })
+loss_of cause jobs b s i j after newer held w = record {
+  from = w.at.from;
+  is = w.at.from_is;
+  unsteady = w.holds.1;
+  told = w.holds.2;
+  blamed = w.holds.3;
+  seen = seen_of cause w.at.from w.at.now w.now w.at.hear.heard w.next.heard w.at.goes.since w.heard w.holds.2;
+}
 
 -- ---- more of the reply is to come
 
@@ -89,7 +125,8 @@ going_more jobs b s t i j g has w core lost =
       jobs = w.holds.is.jobs;
     } in
     going_update jobs b s t i j (With i) (With i) (Busy j) (Busy j) (Some w.now) w.next a.goes.kept w.holds.kept g mv has a.goes.place a.goes.kept_is (only_with i) refl
-    (subst (λ l. Losses b.links b.lost l (set s.core.links i (Busy j))) (sym lost) (losses_stay b.links b.lost s.lost s.core.links i (Busy j) (Busy j) g.losses has refl refl)) (λ over. absurd (not_over s.core.jobs j (With i) (With i) a.goes.place (λ q. cc) over)) (λ job e. tt)
+    (subst (λ l. Losses b.links b.lost l (set s.core.links i (Busy j))) (sym lost) (losses_stay b.links b.lost s.lost s.core.links i (Busy j) (Busy j) g.losses has refl refl)) (λ over. absurd (not_over s.core.jobs j (With i) (With i) a.goes.place (λ q. cc) over))
+    (reads_go jobs b s i j a.goes.job (With i) (With i) (Busy j) (Busy j) a.now w.now g has refl refl a.seat_is a.goes.job_is a.goes.place (reads_stay a.goes.job.kind a.now w.now (With i) (With i) refl w.counts.2)) (λ job e. tt)
     (λ from e. let f : a.from ≡ from = some_same a.from from (sym a.from_is ∙ e) in
     subst (λ x. LinkGoes jobs b (set s.core.jobs j (With i)) (set s.kept.kept j w.holds.kept) x i (Busy j) w.next (Some w.now)) f (record {
       place = get_set_same s.core.jobs j (With i) (With i) a.goes.place;
@@ -101,6 +138,7 @@ going_more jobs b s t i j g has w core lost =
       faults = w.counts.0 ∙ a.goes.faults;
       later = subst (λ n. min a.from.jobs (2 ^ 64 - 1) ≤ n) (sym w.counts.1) a.goes.later;
       sent = subst (Rises a.from.jobs) (sym w.counts.1) a.goes.sent;
+      since = since_more a.from a.now w.now a.hear.heard w.next.heard a.goes.since w.heard;
     }))
 
 less_work : (jobs : List Job) (s t : State) (j : ℕ) (job : Job) (k m : Kept) → slice_get jobs j ≡ Some job → slice_get s.kept.kept j ≡ Some k → t.kept.kept ≡ set s.kept.kept j m → live t.core.links ≡ live s.core.links → job_left job m < job_left job k → measure jobs t < measure jobs s
@@ -125,6 +163,7 @@ going_ended jobs b s t i j all g has w core lost =
     going_update jobs b s t i j Ended (With i) Idle (Busy j) (Some w.now) w.next a.goes.kept w.holds.kept g mv has a.goes.place a.goes.kept_is (only_with i) refl
     (subst (λ l. Losses b.links b.lost l (set s.core.links i Idle)) (sym lost) (losses_stay b.links b.lost s.lost s.core.links i (Busy j) Idle g.losses has refl refl))
     (λ over. live_some (set s.core.links i Idle) i Idle (get_set_same s.core.links i Idle (Busy j) has) refl)
+    (reads_go jobs b s i j a.goes.job (With i) Ended (Busy j) Idle a.now w.now g has refl refl a.seat_is a.goes.job_is a.goes.place (reads_stay a.goes.job.kind a.now w.now (With i) Ended refl w.counts.2))
     (λ job e. let same : a.goes.job ≡ job = some_same a.goes.job job (sym a.goes.job_is ∙ e) in
     (all, record { link = i; from = a.from; is = a.from_is; items = subst (λ (x : Job). AllEnd a.from.told x.kind x.items w.holds.kept.done) same w.holds.items }))
     (λ from e. let f : a.from ≡ from = some_same a.from from (sym a.from_is ∙ e) in
@@ -145,15 +184,14 @@ ended_advances jobs b s t i j has w core = record {
 -- ---- the link is lost
 
 pub going_lost : (jobs : List Job) (b : Began) (s t : State) (i j : ℕ) (cause : LostCause) (next : Hearing) → Going jobs b s → slice_get s.core.links i ≡ Some (Busy j) → t.core ≡ after_lose s.core i j → t.seats ≡ set s.seats i None → t.hears ≡ set s.hears i next → Changed Clears j s.kept t.kept
-    → t.lost ≡ s.lost ++ (record { place = i; cause = cause }) ∷ [] → ((a : AtBusy jobs b s i j) → (¬ IsSteadyWorker a.from.told) × IsTold cause) → Going jobs b t
-going_lost jobs b s t i j cause next g has core seats hears kept lost why =
+    → t.lost ≡ s.lost ++ (record { place = i; cause = cause }) ∷ [] → IsLoss b.links (record { place = i; cause = cause }) → Going jobs b t
+going_lost jobs b s t i j cause next g has core seats hears kept lost loss =
     let a = busy_of jobs b s i j g has in
-    let y = why a in
     let m = kept.2.after in
     let mv : Moves s t i j Waiting Lost None next m = record { core = core; seats = seats; hears = hears; kept = kept.2.is; jobs = kept.1 } in
     going_update jobs b s t i j Waiting (With i) Lost (Busy j) None next a.goes.kept m g mv has a.goes.place a.goes.kept_is (only_with i) refl
-    (losses_more b.links b.lost s.lost t.lost s.core.links i (Busy j) (record { place = i; cause = cause }) g.losses has refl lost refl (record { from = a.from; is = a.from_is; unsteady = y.0; told = y.1 }))
-    (λ over. absurd (not_over s.core.jobs j Waiting (With i) a.goes.place (λ q. cc) over))
+    (losses_more b.links b.lost s.lost t.lost s.core.links i (Busy j) (record { place = i; cause = cause }) g.losses has refl lost refl loss)
+    (λ over. absurd (not_over s.core.jobs j Waiting (With i) a.goes.place (λ q. cc) over)) (reads_lost jobs b (set s.core.jobs j Waiting) s.core.links (set s.seats i None) i (Busy j) has refl)
     (λ job e. kept.2.by a.goes.kept a.goes.kept_is) (λ from e. tt)
 
 pub lost_advances : (jobs : List Job) (s t : State) (i j : ℕ) → slice_get s.core.links i ≡ Some (Busy j) → t.core ≡ after_lose s.core i j → t.kept.faults ≡ s.kept.faults → Advances jobs s t
@@ -210,8 +248,13 @@ lost_goes (Err e) v cause jobs s t i j job after newer held q has is h core seat
 lost_goes (Ok u) v cause jobs s t i j job after newer held q has is h core seats hears kept lost = λ b all g.
     let w = heard_as v (verdicts.Lost cause) jobs b s i j job after newer held q g has is h in
     going_lost jobs b s t i j cause w.next g has core
-    (seats ∙ ap (λ l. set l i None) w.seats ∙ set_twice s.seats i (Some w.now) None) (hears ∙ w.hears) (subst (λ k. Changed Clears j k t.kept) w.holds.0 kept) lost
-    (λ a. let same : w.at.from ≡ a.from = some_same w.at.from a.from (sym w.at.from_is ∙ a.from_is) in (subst (λ (f : LinkState). ¬ IsSteadyWorker f.told) same w.holds.1, w.holds.2))
+    (seats ∙ ap (λ l. set l i None) w.seats ∙ set_twice s.seats i (Some w.now) None) (hears ∙ w.hears) (subst (λ k. Changed Clears j k t.kept) w.holds.0 kept) lost (loss_of cause jobs b s i j after newer held w)
+
+pub lost_told : (r : Result (Unit {0}) DispatchFault) (v : Verdict) (cause : LostCause) (jobs : List Job) (s : State) (i j : ℕ) (job : Job) (after : List (Option LinkState)) (newer : List Hearing) (held : KeepState) (entries : List Entry)
+    → v ≡ verdicts.Lost cause → slice_get s.core.links i ≡ Some (Busy j) → slice_get jobs j ≡ Some job → HeardAt (λ h n. Hears v job j h n s.kept held) i s.seats after s.hears newer
+    → OnErr r ((entries ≡ s.lost) ⊎ (entries ≡ s.lost ++ (record { place = i; cause = cause }) ∷ [])) → OnErr r (TellsLosses jobs s entries)
+lost_told (Ok u) v cause jobs s i j job after newer held entries q has is h told = tt
+lost_told (Err e) v cause jobs s i j job after newer held entries q has is h told = told_more jobs s entries (record { place = i; cause = cause }) told (λ b g. loss_of cause jobs b s i j after newer held (heard_as v (verdicts.Lost cause) jobs b s i j job after newer held q g has is h))
 
 pub lost_adv : (r : Result (Unit {0}) DispatchFault) (jobs : List Job) (s t : State) (i j : ℕ) (held : KeepState) → held ≡ s.kept → slice_get s.core.links i ≡ Some (Busy j) → OnOk r (t.core ≡ after_lose s.core i j) → OnOk r (Changed Clears j held t.kept) → OnOk r (Advances jobs s t)
 lost_adv (Err e) jobs s t i j held same has core kept = tt

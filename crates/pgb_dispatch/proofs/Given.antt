@@ -1,6 +1,6 @@
 -- What giving a job leaves of a run.
 use Rattle.std.proofs.Common.{ℕ, zero, suc, ◌≡◌, ◌<◌, ◌≤◌, ◌+◌, ◌-◌, ◌*◌, ◌^◌, ◌⊎◌, inl, inr, List, [], ◌∷◌, ◌++◌, true, Option, Some, None, Result, Ok, Err, length, refl, sym, ap, subst, arith, ◌∙◌, slice_get, set, length-set}
-use Rattle.std.specs.Prelude.{IsSomeAnd, IfErr, OnOk, min}
+use Rattle.std.specs.Prelude.{IsSomeAnd, IfErr, OnOk, OnErr, min}
 use Rattle.std.proofs.lemmas.Option.{slice_get_within}
 use Rattle.pgb_outside.specs.Cause.{Rises}
 use Rattle.pgb_outside.specs.Links.{LinkState, Told, Sends, Answers, bumped}
@@ -17,17 +17,21 @@ use Rattle.pgb_jobs.specs.declared.LinkPlace.{LinkPlace}
 use Rattle.pgb_jobs.specs.declared.LinkPlace.TheVariants.{Idle, Busy, Lost}
 use Rattle.pgb_jobs.proofs.Places.{get_set_same, get_set_cases, within}
 use Rattle.pgb_hear.specs.declared.cause.LostCause.TheVariants.{Device}
+use Rattle.pgb_hear.proofs.Fronts.{takes_none}
+use Rattle.pgb_outside.specs.Content.{Content}
 use Rattle.pgb_reply.specs.declared.hearing.Hearing.{Hearing}
 use Rattle.pgb_reply.specs.Hearings.{StartsAt}
 use Rattle.pgb_reply.specs.Reads.{IsSteadyWorker, AllEnd}
-use Rattle.pgb_reply.specs.Going.{TellsItem, TellsItems, IsDrained, Goes}
+use Rattle.pgb_reply.specs.Going.{Tells, TellsItem, TellsItems, IsSame, IsDrained, Goes}
 use Rattle.pgb_reply.proofs.Told.{tells_first}
+use Rattle.pgb_dispatch.specs.declared.fault.Lost.{Lost as Entry}
 use Rattle.pgb_dispatch.specs.declared.fault.DispatchFault.{DispatchFault}
 use Rattle.pgb_dispatch.specs.Faults.{IsQuiet}
 use Rattle.pgb_dispatch.specs.Seats.{Both, SentOver, SeatSends}
-use Rattle.pgb_dispatch.specs.Run.{State, Began, Rests, LinkGoes, JobGoes, Losses, live, Going, Runs, GoesOn, Changed, Gave, Settles, total, work, measure}
+use Rattle.pgb_dispatch.specs.Run.{State, Began, HeardSince, Rests, LinkGoes, JobGoes, IsLoss, Losses, TellsLosses, live, Going, Runs, GoesOn, Changed, Gave, Settles, total, work, measure}
 use Rattle.pgb_dispatch.proofs.Counting.{live_set, work_le, lost_falls}
-use Rattle.pgb_dispatch.proofs.Going.{some_of, some_same, get_some, set_is, set_twice, Moves, not_over, going_update, losses_stay, losses_more}
+use Rattle.pgb_dispatch.proofs.Going.{some_of, some_same, get_some, set_is, set_twice, Moves, not_over, going_update, losses_stay, losses_more, told_more}
+use Rattle.pgb_dispatch.proofs.Reading.{reads_go, reads_lost, reads_sent}
 use Rattle.pgb_dispatch.proofs.Events.{both_there}
 
 -- an idle link
@@ -100,9 +104,19 @@ bump_later a n m le e = omega (arith, le, e)
 jobs_sent : (old new : LinkState) (job : Job) (frame : Text) → Sends old new frame → frame ≡ spell (Task job) → new.jobs ≡ bumped old.jobs
 jobs_sent old new job frame s e = subst (λ f. Sends old new f → new.jobs ≡ bumped old.jobs) (sym e) (λ t. t.jobs) s
 
+tells_same : (P : Content → Content → Text → Type 0) (from now : Option Told) → Tells P from now → IsSame from now
+tells_same P None None h = tt
+tells_same P None (Some b) h = h
+tells_same P (Some a) None h = h
+tells_same P (Some a) (Some b) h = h.0
+
+-- nothing was heard since the job was sent
+since_sent : (from now : LinkState) (n : ℕ) → IsSame from.told now.told → now.faults ≡ from.faults → n ≡ 0 → HeardSince from now n
+since_sent from now n same faults e = record { begun = now; same = same; faults = faults; hears = record { bytes = []; takes = takes_none now; count = omega (arith, e) } }
+
 pub going_given : (jobs : List Job) (b : Began) (s t : State) (i j : ℕ) (job : Job) (frame : Text) (h : Hearing) → Going jobs b s → slice_get s.core.links i ≡ Some Idle → IsLowest s.core j × (t.core ≡ after_give s.core i j) → slice_get jobs j ≡ Some job → FitsJob job → frame ≡ spell (Task job)
-    → ChangesAt (Both (λ x y. Sends x y frame)) s.seats t.seats i → t.hears ≡ set s.hears i h → StartsAt 0 h → t.kept ≡ s.kept → t.lost ≡ s.lost → Going jobs b t
-going_given jobs b s t i j job frame h g idle given is fits spelled sent hears starts kept lost =
+    → ChangesAt (Both (λ x y. Sends x y frame)) s.seats t.seats i → t.hears ≡ set s.hears i h → StartsAt 0 h → h.heard ≡ 0 → t.kept ≡ s.kept → t.lost ≡ s.lost → Going jobs b t
+going_given jobs b s t i j job frame h g idle given is fits spelled sent hears starts zero_heard kept lost =
     let a = idle_of jobs b s i g idle in
     let k = some_of (JobGoes b job Waiting) (slice_get s.kept.kept j) (g.each_job j job Waiting is given.0.waits) in
     let u = both_there (λ x y. Sends x y frame) (Some a.now) sent.after a.now refl (sent.by (Some a.now) a.seat_is) in
@@ -117,7 +131,8 @@ going_given jobs b s t i j job frame h g idle given is fits spelled sent hears s
       jobs = ap (λ (x : KeepState). x.jobs) kept;
     } in
     going_update jobs b s t i j (With i) Waiting (Busy j) Idle (Some u.0) h k.0 k.0 g mv idle given.0.waits k.1 (λ c e. absurd (let f : Waiting ≡ With c = e in cc)) refl
-    (subst (λ l. Losses b.links b.lost l (set s.core.links i (Busy j))) (sym lost) (losses_stay b.links b.lost s.lost s.core.links i Idle (Busy j) g.losses idle refl refl)) (λ over. absurd (not_over s.core.jobs j (With i) Waiting given.0.waits (λ q. cc) over)) (λ x e. tt)
+    (subst (λ l. Losses b.links b.lost l (set s.core.links i (Busy j))) (sym lost) (losses_stay b.links b.lost s.lost s.core.links i Idle (Busy j) g.losses idle refl refl)) (λ over. absurd (not_over s.core.jobs j (With i) Waiting given.0.waits (λ q. cc) over))
+    (reads_go jobs b s i j job Waiting (With i) Idle (Busy j) a.now u.0 g idle refl refl a.seat_is is given.0.waits (λ n. let r = reads_sent a.now u.0 job frame u.2 spelled n in (r.0, omega (arith, r.1)))) (λ x e. tt)
     (λ from e. let f : a.from ≡ from = some_same a.from from (sym a.from_is ∙ e) in
     subst (λ x. LinkGoes jobs b (set s.core.jobs j (With i)) (set s.kept.kept j k.0) x i (Busy j) h (Some u.0)) f (record {
       place = get_set_same s.core.jobs j (With i) Waiting given.0.waits;
@@ -129,6 +144,7 @@ going_given jobs b s t i j job frame h g idle given is fits spelled sent hears s
       faults = u.2.faults ∙ a.rests.faults;
       later = bump_later a.from.jobs a.now.jobs u.0.jobs a.rests.later count;
       sent = bump_rises a.from.jobs a.now.jobs u.0.jobs a.rests.later count;
+      since = since_sent a.from u.0 h.heard (tells_same _ a.from.told u.0.told told) (u.2.faults ∙ a.rests.faults) zero_heard;
     }))
 
 refused_is : (core mid last : Dispatch) (i j : ℕ) → mid ≡ after_give core i j → last ≡ after_lose mid i j → last ≡ record { jobs = set core.jobs j Waiting; links = set core.links i Lost }
@@ -137,6 +153,19 @@ refused_is core mid last i j e f =
     let c : set (set core.links i (Busy j)) i Lost ≡ set core.links i Lost = set_twice core.links i (Busy j) Lost in
     f ∙ ap (λ (d : Dispatch). after_lose d i j) e ∙ ap (λ js. let d : Dispatch = record { jobs = js; links = set (set core.links i (Busy j)) i Lost } in d) a ∙ ap (λ ls. let d : Dispatch = record { jobs = set core.jobs j Waiting; links = ls } in d) c
 
+-- a link over which a frame couldn't be sent
+refused_loss : (jobs : List Job) (b : Began) (s : State) (i : ℕ) (frame : Text) (after : List (Option LinkState)) (a : AtIdle jobs b s i) → ChangesAt (SeatSends (Err stops.Failed) frame) s.seats after i → IsLoss b.links (record { place = i; cause = Device })
+refused_loss jobs b s i frame after a sent =
+    let u = both_there (SentOver (Err stops.Failed) frame) (Some a.now) sent.after a.now refl (sent.by (Some a.now) a.seat_is) in
+    record {
+      from = a.from;
+      is = a.from_is;
+      unsteady = λ w. u.2.unsteady (steady_kept a.from.told a.now.told a.rests.drained w);
+      told = tt;
+      blamed = tt;
+      seen = record { begun = a.now; last = u.0; same = tells_same _ a.from.told a.now.told a.rests.drained; faults = a.rests.faults; holds = u.2.rises };
+    }
+
 -- a job whose frame couldn't be sent
 pub going_refused : (jobs : List Job) (b : Began) (s t : State) (i j : ℕ) (mid : Dispatch) (frame : Text) (after : List (Option LinkState)) → Going jobs b s → slice_get s.core.links i ≡ Some Idle → IsLowest s.core j × (mid ≡ after_give s.core i j) → t.core ≡ after_lose mid i j
     → ChangesAt (SeatSends (Err stops.Failed) frame) s.seats after i → t.seats ≡ set after i None → t.hears ≡ s.hears → Changed Clears j s.kept t.kept → t.lost ≡ s.lost ++ (record { place = i; cause = Device }) ∷ [] → j < length jobs → Going jobs b t
@@ -144,7 +173,6 @@ going_refused jobs b s t i j mid frame after g idle given core sent seats hears 
     let a = idle_of jobs b s i g idle in
     let job = get_some jobs j lt in
     let k = some_of (JobGoes b job.0 Waiting) (slice_get s.kept.kept j) (g.each_job j job.0 Waiting job.1 given.0.waits) in
-    let u = both_there (SentOver (Err stops.Failed) frame) (Some a.now) sent.after a.now refl (sent.by (Some a.now) a.seat_is) in
     let m = kept.2.after in
     let mv : Moves s t i j Waiting Lost None a.hear m = record {
       core = refused_is s.core mid t.core i j given.1 core;
@@ -155,8 +183,8 @@ going_refused jobs b s t i j mid frame after g idle given core sent seats hears 
     } in
     going_update jobs b s t i j Waiting Waiting Lost Idle None a.hear k.0 m g mv idle given.0.waits k.1 (λ c e. absurd (let f : Waiting ≡ With c = e in cc)) refl
     (losses_more b.links b.lost s.lost t.lost s.core.links i Idle (record { place = i; cause = Device }) g.losses idle refl lost refl
-    (record { from = a.from; is = a.from_is; unsteady = λ w. u.2 (steady_kept a.from.told a.now.told a.rests.drained w); told = tt }))
-    (λ over. absurd (not_over s.core.jobs j Waiting Waiting given.0.waits (λ q. cc) over))
+    (refused_loss jobs b s i frame after a sent))
+    (λ over. absurd (not_over s.core.jobs j Waiting Waiting given.0.waits (λ q. cc) over)) (reads_lost jobs b (set s.core.jobs j Waiting) s.core.links (set s.seats i None) i Idle idle refl)
     (λ x e. kept.2.by k.0 k.1) (λ from e. tt)
 
 -- ---- idle links, and what is left
@@ -211,6 +239,13 @@ pub refused_goes : (r : Result (Unit {0}) DispatchFault) (e : Stop) (jobs : List
 refused_goes (Err x) e jobs s t i j mid frame after q idle given core sent seats hears kept lost lt = tt
 refused_goes (Ok u) e jobs s t i j mid frame after q idle given core sent seats hears kept lost lt = λ b g.
     going_refused jobs b s t i j mid frame after g idle given core (subst (λ x. ChangesAt (SeatSends (Err x) frame) s.seats after i) q sent) seats hears kept lost lt
+
+pub refused_told : (r : Result (Unit {0}) DispatchFault) (e : Stop) (jobs : List Job) (s : State) (i : ℕ) (frame : Text) (after : List (Option LinkState)) (entries : List Entry) → e ≡ stops.Failed → slice_get s.core.links i ≡ Some Idle → ChangesAt (SeatSends (Err e) frame) s.seats after i
+    → OnErr r ((entries ≡ s.lost) ⊎ (entries ≡ s.lost ++ (record { place = i; cause = Device }) ∷ [])) → OnErr r (TellsLosses jobs s entries)
+refused_told (Ok u) e jobs s i frame after entries q idle sent told = tt
+refused_told (Err x) e jobs s i frame after entries q idle sent told = told_more jobs s entries (record { place = i; cause = Device }) told (λ b g.
+    let a = idle_of jobs b s i g idle in
+    refused_loss jobs b s i frame after a (subst (λ y. ChangesAt (SeatSends (Err y) frame) s.seats after i) q sent))
 
 pub has_given : (core next : Dispatch) (i j : ℕ) → slice_get core.links i ≡ Some Idle → next ≡ after_give core i j → slice_get next.links i ≡ Some (Busy j)
 has_given core next i j idle e = ap (λ (d : Dispatch). slice_get d.links i) e ∙ get_set_same core.links i (Busy j) Idle idle

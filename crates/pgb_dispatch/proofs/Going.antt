@@ -1,5 +1,5 @@
 -- What each event leaves of a run.
-use Rattle.std.proofs.Common.{ℕ, zero, suc, ◌≡◌, ◌<◌, ◌+◌, inl, inr, List, [], ◌∷◌, ◌++◌, Option, Some, None, length, refl, sym, ap, subst, arith, ◌∙◌, append_assoc, length-append, slice_get, set, length-set}
+use Rattle.std.proofs.Common.{ℕ, zero, suc, ◌≡◌, ◌<◌, ◌+◌, ◌⊎◌, inl, inr, List, [], ◌∷◌, ◌++◌, Option, Some, None, length, refl, sym, ap, subst, arith, ◌∙◌, append_assoc, length-append, slice_get, set, length-set}
 use Rattle.std.specs.Prelude.{IsSomeAnd}
 use Rattle.std.specs.List.{AllByRecursion}
 use Rattle.pgb_outside.specs.Links.{LinkState}
@@ -14,7 +14,8 @@ use Rattle.pgb_jobs.specs.declared.LinkPlace.TheVariants.{Idle, Busy, Lost}
 use Rattle.pgb_jobs.proofs.Places.{get_set_same, get_set_other, get_set_cases, within}
 use Rattle.pgb_reply.specs.declared.hearing.Hearing.{Hearing}
 use Rattle.pgb_dispatch.specs.declared.fault.Lost.{Lost as Entry}
-use Rattle.pgb_dispatch.specs.Run.{State, Began, Replies, LinkGoes, JobGoes, IsLoss, Losses, withs, busies, Going, live}
+use Rattle.pgb_dispatch.specs.Run.{State, Began, Replies, LinkGoes, JobGoes, IsLoss, Losses, withs, busies, somes, Going, live, TellsLosses}
+use Rattle.pgb_dispatch.specs.Counts.{NoneFull, reads_of, sent_reads}
 use Rattle.pgb_dispatch.proofs.Counting.{alive, is_busy, is_with, live_set, busies_set, withs_set}
 
 -- ---- lists
@@ -74,6 +75,7 @@ link_stays jobs b places ks i j P o m from a (Busy c) h (Some now) at only n g =
       faults = g.faults;
       later = g.later;
       sent = g.sent;
+      since = g.since;
     }
 
 pub not_over : (places : List JobPlace) (j : ℕ) (P o : JobPlace) → slice_get places j ≡ Some o → (P ≡ Ended → ⊥) → AllEnded (set places j P) → ⊥
@@ -81,16 +83,20 @@ not_over places j P o e n over =
     let at = get_set_same places j P o e in
     n (some_same P Ended (sym at ∙ over j (slice_get_within (set places j P) j P at)))
 
+-- the counts of read jobs, where no link is lost and no count stands at its end
+abbrev pub ReadsAt : List Job → Began → List JobPlace → List LinkPlace → List (Option LinkState) → Type 0
+ReadsAt jobs b places links seats = live links ≡ length links → NoneFull (somes seats) → reads_of (somes seats) ≡ reads_of b.links + sent_reads jobs places
+
 pub going_update : (jobs : List Job) (b : Began) (s t : State) (i j : ℕ) (P o : JobPlace) (Q u : LinkPlace) (seat : Option LinkState) (h : Hearing) (k m : Kept)
     → Going jobs b s → Moves s t i j P Q seat h m
     → slice_get s.core.links i ≡ Some u → slice_get s.core.jobs j ≡ Some o → slice_get s.kept.kept j ≡ Some k
     → ((a : ℕ) → o ≡ With a → a ≡ i) → is_with P + is_busy u ≡ is_with o + is_busy Q
     → Losses b.links b.lost t.lost (set s.core.links i Q)
-    → (AllEnded (set s.core.jobs j P) → 0 < live (set s.core.links i Q))
+    → (AllEnded (set s.core.jobs j P) → 0 < live (set s.core.links i Q)) → ReadsAt jobs b (set s.core.jobs j P) (set s.core.links i Q) (set s.seats i seat)
     → ((job : Job) → slice_get jobs j ≡ Some job → JobGoes b job P m)
     → ((from : LinkState) → slice_get b.links i ≡ Some from → LinkGoes jobs b (set s.core.jobs j P) (set s.kept.kept j m) from i Q h seat)
     → Going jobs b t
-going_update jobs b s t i j P o Q u seat h k m g mv el ej ek only balance losses some newjob newlink =
+going_update jobs b s t i j P o Q u seat h k m g mv el ej ek only balance losses some reads newjob newlink =
     let places : t.core.jobs ≡ set s.core.jobs j P = ap (λ (d : Dispatch). d.jobs) mv.core in
     let links : t.core.links ≡ set s.core.links i Q = ap (λ (d : Dispatch). d.links) mv.core in
     let h0 = get_some s.hears i (omega (arith, within s.core.links i u el, g.link_count, g.hear_count)) in
@@ -105,6 +111,7 @@ going_update jobs b s t i j P o Q u seat h k m g mv el ej ek only balance losses
       even = ap withs places ∙ (let w : withs (set s.core.jobs j P) ≡ busies (set s.core.links i Q) = omega (arith, withs_set s.core.jobs j o P ej, busies_set s.core.links i u Q el, g.even, balance) in w) ∙ sym (ap busies links);
       losses = subst (Losses b.links b.lost t.lost) (sym links) losses;
       some = λ over many. subst (λ l. 0 < live l) (sym links) (some (subst AllEnded places over));
+      reads = subst (λ x. ReadsAt jobs b x t.core.links t.seats) (sym places) (subst (λ x. ReadsAt jobs b (set s.core.jobs j P) x t.seats) (sym links) (subst (ReadsAt jobs b (set s.core.jobs j P) (set s.core.links i Q)) (sym mv.seats) reads));
       each_job = λ a job p e w0.
           let w : slice_get (set s.core.jobs j P) a ≡ Some p = ap (λ l. slice_get l a) (sym places) ∙ w0 in
           subst (λ l. IsSomeAnd (slice_get l a) (JobGoes b job p)) (sym mv.kept) (elim (get_set_cases s.core.jobs j a P p w) [
@@ -207,4 +214,17 @@ losses_more links before after later places i u e l at a is place loss = record 
     | inr q ↦ let h = l.has x q.1 in (h.0, h.1, get_front l.entries e h.1 h.0 h.2, h.3)
   ];
   count = omega (arith, l.count, live_set places i u Lost at, a, length-set places i Lost, length-append l.entries (e ∷ []));
+}
+
+-- nothing more is told
+pub told_same : (jobs : List Job) (s : State) (after : List Entry) → after ≡ s.lost → TellsLosses jobs s after
+told_same jobs s after e = λ b g. record { entries = g.losses.entries; is = e ∙ g.losses.is; each = g.losses.each }
+
+-- one loss more may be told
+pub told_more : (jobs : List Job) (s : State) (after : List Entry) (e : Entry) → (after ≡ s.lost) ⊎ (after ≡ s.lost ++ e ∷ []) → ((b : Began) → Going jobs b s → IsLoss b.links e) → TellsLosses jobs s after
+told_more jobs s after e (inl same) why = told_same jobs s after same
+told_more jobs s after e (inr more) why = λ b g. record {
+  entries = g.losses.entries ++ e ∷ [];
+  is = more ∙ ap (λ es. es ++ e ∷ []) g.losses.is ∙ append_assoc b.lost g.losses.entries (e ∷ []);
+  each = all_push (IsLoss b.links) g.losses.entries e g.losses.each (why b g);
 }

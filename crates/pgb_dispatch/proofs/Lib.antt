@@ -1,6 +1,8 @@
 pub mod Changes
 pub mod Counting
 pub mod Going
+pub mod Reading
+pub mod Payloads
 pub mod Events
 pub mod Given
 pub mod Turns

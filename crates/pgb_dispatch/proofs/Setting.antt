@@ -1,6 +1,6 @@
 -- What telling workers their roots leaves.
-use Rattle.std.proofs.Common.{ℕ, zero, suc, ◌≡◌, ◌<◌, ◌≤◌, ◌+◌, ◌-◌, ◌^◌, ◌⊎◌, inl, inr, List, [], ◌∷◌, ◌++◌, true, Option, Some, None, length, map, refl, sym, ap, subst, arith, ◌∙◌, append_assoc, length-append, slice_get}
-use Rattle.std.specs.Prelude.{IfSome, IsSomeAnd, min}
+use Rattle.std.proofs.Common.{ℕ, zero, suc, ◌≡◌, ◌<◌, ◌≤◌, ◌+◌, ◌-◌, ◌^◌, ◌⊎◌, inl, inr, List, [], ◌∷◌, ◌++◌, true, Option, Some, None, Result, Ok, Err, length, map, refl, sym, ap, subst, arith, ◌∙◌, append_assoc, length-append, slice_get}
+use Rattle.std.specs.Prelude.{IfSome, IsSomeAnd, OnOk, OnErr, min}
 use Rattle.std.specs.List.{AllByRecursion}
 use Rattle.std.specs.Iterator.{Yields}
 use Rattle.std.specs.Vec.Iter.{into_iter_items, into_iter_steps}
@@ -13,10 +13,11 @@ use Rattle.pgb_frame.specs.Frames.{Roots, FitsRoots, spell}
 use Rattle.pgb_frame.specs.Frames.Frame.{Setup}
 use Rattle.pgb_hear.specs.declared.cause.LostCause.TheVariants.{Device}
 use Rattle.pgb_reply.specs.Reads.{Reads, IsSteadyWorker}
-use Rattle.pgb_reply.specs.Going.{IsDrained}
+use Rattle.pgb_reply.specs.Going.{IsSame, IsDrained}
 use Rattle.pgb_dispatch.specs.declared.fault.Lost.{Lost as Entry}
+use Rattle.pgb_dispatch.specs.declared.fault.DispatchFault.{DispatchFault}
 use Rattle.pgb_dispatch.specs.Setups.{Kept}
-use Rattle.pgb_dispatch.specs.Run.{Rests, IsLoss, IsReady, Left, AllLost, begun}
+use Rattle.pgb_dispatch.specs.Run.{Rests, IsLoss, IsReady, Left, AddsLosses, AllLost, begun}
 use Rattle.pgb_dispatch.proofs.Going.{some_same, all_push, at_push, get_front}
 use Rattle.pgb_dispatch.proofs.Whole.{somes_push, somes_none, append_none}
 
@@ -51,7 +52,7 @@ rests_more : (links : List LinkState) (x : LinkState) (before : List Entry) (fro
 rests_more links x before from s r = record { drained = r.drained; faults = r.faults; later = r.later; sent = λ all le. absurd (few links x le) }
 
 loss_more : (links : List LinkState) (x : LinkState) (e : Entry) → IsLoss links e → IsLoss (links ++ x ∷ []) e
-loss_more links x e l = record { from = l.from; is = get_front links x l.from e.place l.is; unsteady = l.unsteady; told = l.told }
+loss_more links x e l = record { from = l.from; is = get_front links x l.from e.place l.is; unsteady = l.unsteady; told = l.told; blamed = l.blamed; seen = l.seen }
 
 losses_grow : (links : List LinkState) (x : LinkState) (es : List Entry) → AllByRecursion (IsLoss links) es → AllByRecursion (IsLoss (links ++ x ∷ [])) es
 losses_grow links x [] h = tt
@@ -108,6 +109,10 @@ left_none links before after later now old e l is place loss = record {
   once = omega (arith, l.once, length-append l.entries (e ∷ []), length-append links (old ∷ []));
 }
 
+same_told : (told : Option Told) → IsSame told told
+same_told None = tt
+same_told (Some t) = (refl, refl)
+
 worker_steady : (told : Option Told) → IsSteadyWorker told → IsSomeAnd told (λ t. t.steady ≡ true)
 worker_steady None h = h
 worker_steady (Some t) h = h.steady
@@ -117,9 +122,16 @@ left_more links before after later now after_now old frame place l (inl k) p rea
     let first = left_some links before after now old k.0 l (set_rests links before old k.0 frame r.0 k.1 r.1 r.2 ready) in
     subst (λ x. Left 0 (links ++ old ∷ []) before x after_now) (sym k.3) (subst (λ x. Left 0 (links ++ old ∷ []) before after x) (sym k.2) first)
 left_more links before after later now after_now old frame place l (inr k) p ready r =
-    subst (λ x. Left 0 (links ++ old ∷ []) before later x) (sym k.1)
-    (left_none links before after later now old (record { place = place; cause = Device }) l k.2 p
-    (record { from = old; is = ap (slice_get (links ++ old ∷ [])) p ∙ at_push links old; unsteady = λ w. k.0 (worker_steady old.told w); told = tt }))
+    subst (λ x. Left 0 (links ++ old ∷ []) before later x) (sym k.2)
+    (left_none links before after later now old (record { place = place; cause = Device }) l k.3 p
+    (record {
+      from = old;
+      is = ap (slice_get (links ++ old ∷ [])) p ∙ at_push links old;
+      unsteady = λ w. k.1.unsteady (worker_steady old.told w);
+      told = tt;
+      blamed = tt;
+      seen = record { begun = old; last = k.0; same = same_told old.told; faults = refl; holds = k.1.rises };
+    }))
 
 pub left_first : (before : List Entry) → Left 0 [] before before []
 left_first before = record {
@@ -157,3 +169,35 @@ place_next xs ys x rest place next e few p n = omega (arith, few, p, n, ap lengt
 pub map_push : {A : Type 0} (f : A → LinkState) (ys : List A) (x : A) → map f (ys ++ x ∷ []) ≡ map f ys ++ f x ∷ []
 map_push f [] x = refl
 map_push f (y ∷ ys) x = ap (λ l. f y ∷ l) (map_push f ys x)
+
+-- ---- what is told of lost links
+
+get_behind : {X : Type 0} (xs ys : List X) (m : X) (k : ℕ) → slice_get xs k ≡ Some m → slice_get (xs ++ ys) k ≡ Some m
+get_behind [] ys m k e = absurd (let f : None ≡ Some m = e in cc)
+get_behind (x ∷ xs) ys m zero e = e
+get_behind (x ∷ xs) ys m (suc k) e = get_behind xs ys m k e
+
+losses_within : (links more : List LinkState) (es : List Entry) → AllByRecursion (IsLoss links) es → AllByRecursion (IsLoss (links ++ more)) es
+losses_within links more [] h = tt
+losses_within links more (e ∷ es) h = (record { from = h.0.from; is = get_behind links more h.0.from e.place h.0.is; unsteady = h.0.unsteady; told = h.0.told; blamed = h.0.blamed; seen = h.0.seen }, losses_within links more es h.1)
+
+map_front : {A : Type 0} (f : A → LinkState) (ys rest : List A) → map f (ys ++ rest) ≡ map f ys ++ map f rest
+map_front f [] rest = refl
+map_front f (y ∷ ys) rest = ap (λ l. f y ∷ l) (map_front f ys rest)
+
+-- the losses of a front are losses of all
+pub told_front : {A : Type 0} (f : A → LinkState) (xs ys rest : List A) (before after : List Entry) (now : List LinkState) → xs ≡ ys ++ rest → Left 0 (map f ys) before after now → AddsLosses (map f xs) before after
+told_front f xs ys rest before after now e l = record {
+  entries = l.entries;
+  is = l.is;
+  each = subst (λ (links : List LinkState). AllByRecursion (IsLoss links) l.entries) (sym (ap (map f) e ∙ map_front f ys rest)) (losses_within (map f ys) (map f rest) l.entries l.each);
+}
+
+pub on_err : {A : Type 0} (r : Result A DispatchFault) (P : Type 0) → P → OnErr r P
+on_err (Ok x) P p = tt
+on_err (Err e) P p = p
+
+-- whatever came of it
+pub setup_told : (r : Result (Unit {0}) DispatchFault) (links : List LinkState) (before after : List Entry) (now : List LinkState) → OnOk r (Left 0 links before after now) → OnErr r (AddsLosses links before after) → AddsLosses links before after
+setup_told (Ok u) links before after now l h = record { entries = l.entries; is = l.is; each = l.each }
+setup_told (Err e) links before after now l h = h

@@ -1,6 +1,6 @@
 -- The beginning and the end of a whole run.
 use Rattle.std.proofs.Common.{ℕ, zero, suc, ◌≡◌, ◌<◌, ◌≤◌, List, [], ◌∷◌, ◌++◌, true, false, Option, Some, None, Result, Ok, Err, length, map, replicate, refl, sym, ap, subst, arith, ◌∙◌, append_assoc, slice_get}
-use Rattle.std.specs.Prelude.{IfSome, IsSomeAnd, IfErr, OnOk, option_map}
+use Rattle.std.specs.Prelude.{IfSome, IsSomeAnd, IfErr, OnOk, OnErr, option_map}
 use Rattle.std.proofs.lemmas.List.{length-map}
 use Rattle.std.proofs.lemmas.Option.{slice_get_within}
 use Rattle.pgb_outside.specs.Cause.{Rises}
@@ -20,8 +20,10 @@ use Rattle.pgb_dispatch.specs.declared.fault.Lost.{Lost as Entry}
 use Rattle.pgb_dispatch.specs.declared.fault.DispatchFault.{DispatchFault}
 use Rattle.pgb_dispatch.specs.declared.fault.DispatchFault.TheVariants as faults
 use Rattle.pgb_dispatch.specs.Faults.{IsQuiet}
-use Rattle.pgb_dispatch.specs.Run.{State, Began, EndedBy, Rests, LinkGoes, JobGoes, live, withs, busies, Going, GoesOn, HearsOn, NoneBusy, RunFault, UnreadLeaves, somes, Starts, AllDone, Left, JobsFault, IsReady, state, fresh, begun, SeatsLeave}
+use Rattle.pgb_dispatch.specs.Run.{State, Began, EndedBy, Rests, LinkGoes, JobGoes, live, withs, busies, Going, GoesOn, HearsOn, NoneBusy, RunFault, UnreadLeaves, somes, Starts, AllDone, Left, JobsFault, IsReady, state, fresh, begun, SeatsLeave, AddsLosses, TellsLosses, TellsLossesOn}
+use Rattle.pgb_dispatch.specs.Counts.{reads_of, sent_reads}
 use Rattle.pgb_dispatch.proofs.Counting.{is_with}
+use Rattle.pgb_dispatch.proofs.Reading.{sent_none}
 use Rattle.pgb_dispatch.proofs.Going.{some_of, some_same, is_some_at, get_some}
 
 -- ---- seats
@@ -48,6 +50,10 @@ pub somes_map : {A X : Type 0} (f : A → X) (xs : List (Option A)) → map f (s
 somes_map f [] = refl
 somes_map f (None ∷ xs) = somes_map f xs
 somes_map f (Some x ∷ xs) = ap (λ l. f x ∷ l) (somes_map f xs)
+
+somes_all : {A : Type 0} (xs : List A) → somes (map Some xs) ≡ xs
+somes_all [] = refl
+somes_all (x ∷ xs) = ap (λ l. x ∷ l) (somes_all xs)
 
 pub map_some : {A X : Type 0} (f : A → X) (xs : List A) → map (option_map f) (map Some xs) ≡ map Some (map f xs)
 map_some f [] = refl
@@ -111,6 +117,10 @@ going_start jobs links s a =
         has = λ l e. absurd (idle_not_lost (length links) l (ap (λ x. slice_get x l) (sym ls) ∙ e));
         count = (let n : live s.core.links ≡ length s.core.links = ap live ls ∙ live_all (length links) ∙ sym (ap length ls ∙ length-replicated (length links) Idle) in omega (arith, n));
       };
+      reads = λ all none.
+          let seated : somes s.seats ≡ links = ap somes a.seats ∙ somes_all links in
+          let waits : sent_reads jobs s.core.jobs ≡ 0 = ap (sent_reads jobs) places ∙ sent_none jobs (length jobs) in
+          omega (arith, ap reads_of seated, waits);
       some = λ over many. (let n : live s.core.links ≡ length links = ap live ls ∙ live_all (length links) in omega (arith, n, many));
       each_job = λ j job p is at.
           let w : p ≡ Waiting = get_replicate (length jobs) j Waiting p (ap (λ x. slice_get x j) (sym places) ∙ at) in
@@ -196,6 +206,7 @@ all_given jobs links lost s idle g = record {
   even = g.even;
   losses = g.losses;
   some = g.some;
+  reads = g.reads;
   each_job = λ j job p is at. jobs_begun links lost job p (slice_get s.kept.kept j) (g.each_job j job p is at);
   each_link = λ i p h seat at hat sat. links_begun jobs links lost s.core.jobs s.kept.kept i p h seat (slice_get links i)
       (λ e le. few_jobs jobs links lost s i g (idle i (at ∙ ap Some e)) (at ∙ ap Some e) le) (g.each_link i p h seat at hat sat);
@@ -364,3 +375,24 @@ unread_back jobs b j item seats now u e = record {
   job_is = u.job_is;
   unread = u.unread;
 }
+
+-- ---- what is told of lost links
+
+seated : (jobs : List Job) (links : List LinkState) (s : State) (entries : List Entry) → Starts jobs links s → AddsLosses links s.lost entries → AddsLosses (somes s.seats) s.lost entries
+seated jobs links s entries a h = subst (λ l. AddsLosses l s.lost entries) (sym (ap somes a.seats ∙ somes_all links)) h
+
+pub give_told : (jobs : List Job) (links : List LinkState) (s : State) (entries : List Entry) → Starts jobs links s → TellsLosses jobs s entries → AddsLosses (somes s.seats) s.lost entries
+give_told jobs links s entries a h = seated jobs links s entries a (h (fresh links s.lost) (going_start jobs links s a))
+
+pub run_told : (r : Result (Unit {0}) DispatchFault) (jobs : List Job) (links : List LinkState) (s m t : State) → Starts jobs links s → GoesOn jobs s m → ((k : ℕ) → IsIdle m.core k → NoneWaits m.core) → OnOk r (HearsOn jobs m t) → OnErr r (TellsLossesOn jobs m t.lost) → AddsLosses (somes s.seats) s.lost t.lost
+run_told (Ok u) jobs links s m t a on idle ok err =
+    let g = ok (begun links s.lost) refl (begun_of jobs links s m a on idle) in
+    seated jobs links s t.lost a (record { entries = g.losses.entries; is = g.losses.is; each = g.losses.each })
+run_told (Err e) jobs links s m t a on idle ok err = seated jobs links s t.lost a (err (begun links s.lost) refl (begun_of jobs links s m a on idle))
+
+-- of all links, each in its seat
+pub told_seated : {A : Type 0} (f : A → LinkState) (xs : List A) (seats : List (Option A)) (before after : List Entry) → seats ≡ map Some xs → AddsLosses (somes (map (option_map f) seats)) before after → AddsLosses (map f xs) before after
+told_seated f xs seats before after e h = subst (λ l. AddsLosses l before after) (ap (λ l. somes (map (option_map f) l)) e ∙ ap somes (map_some f xs) ∙ somes_all (map f xs)) h
+
+pub adds_none : (links : List LinkState) (before : List Entry) → AddsLosses links before before
+adds_none links before = record { entries = []; is = sym (append_none before); each = tt }

@@ -1,10 +1,13 @@
 -- A run of jobs over links: what holds at each moment of it. Own.
-use Rattle.std.specs.Prelude.{ℕ, suc, Bool, true, false, min, ◌≡◌, ◌+◌, ◌-◌, ◌*◌, ◌^◌, ◌<◌, ◌≤◌, ◌⊎◌, List, [], ◌∷◌, ◌++◌, length, map, Option, Some, None, option_map, IfSome, IsSomeAnd, slice_get}
+use Rattle.std.specs.Prelude.{ℕ, suc, Bool, true, false, min, ◌≡◌, ◌≢◌, ◌+◌, ◌-◌, ◌*◌, ◌^◌, ◌<◌, ◌≤◌, ◌⊎◌, List, [], ◌∷◌, ◌++◌, length, map, Option, Some, None, option_map, IfSome, IsSomeAnd, slice_get}
 use Rattle.std.specs.List.{AllByRecursion}
 use Rattle.pgb_outside.specs.Cause.{Rises}
 use Rattle.pgb_outside.specs.Links.{LinkState, last_five}
 use Rattle.pgb_frame.specs.Frames.{Item, Job, spell}
 use Rattle.pgb_frame.specs.Frames.Frame.{Unread}
+use Rattle.pgb_hear.specs.declared.cause.LostCause.{LostCause}
+use Rattle.pgb_hear.specs.declared.cause.LostCause.TheVariants as causes
+use Rattle.pgb_hear.specs.Takes.{HasHeard}
 use Rattle.pgb_keep.specs.KeepState.{Kept, KeepState, IsFresh}
 use Rattle.pgb_keep.specs.Lists.{ChangesAt}
 use Rattle.pgb_jobs.specs.Dispatch.{Dispatch, Waits, IsIdle, NoneWaits, AllEnded, start}
@@ -16,7 +19,8 @@ use Rattle.pgb_reply.specs.declared.hearing.Hearing.{Hearing}
 use Rattle.pgb_reply.specs.Hearings.{IsTold}
 use Rattle.pgb_outside.specs.Content.{Content}
 use Rattle.pgb_reply.specs.Reads.{Reads, IsSteadyWorker, UnreadBy, AllEnd}
-use Rattle.pgb_reply.specs.Going.{Goes, IsDrained, items_cost, job_left}
+use Rattle.pgb_reply.specs.Going.{Goes, IsSame, IsDrained, Blames, items_cost, job_left}
+use Rattle.pgb_dispatch.specs.Counts.{NoneFull, reads_of, sent_reads}
 use Rattle.pgb_dispatch.specs.declared.fault.Lost.{Lost as Entry}
 use Rattle.pgb_dispatch.specs.declared.fault.DispatchFault.{DispatchFault}
 use Rattle.pgb_dispatch.specs.declared.fault.DispatchFault.TheVariants as faults
@@ -53,6 +57,13 @@ pub record Rests (b : Began) (count : ℕ) (from now : LinkState) : Type 0 where
   pub later : min from.jobs (2 ^ 64 - 1) ≤ now.jobs
   pub sent : b.all ≡ true → length b.links ≤ count → Rises from.jobs now.jobs
 
+-- since the link was sent its job, with as many faults as at first, so many bytes of the reply were heard
+pub record HeardSince (from now : LinkState) (heard : ℕ) : Type 0 where
+  pub begun : LinkState
+  pub same : IsSame from.told begun.told
+  pub faults : begun.faults ≡ from.faults
+  pub hears : HasHeard 0 heard begun now
+
 -- a busy link replies to its job
 pub record Replies (jobs : List Job) (places : List JobPlace) (ks : List Kept) (from : LinkState) (i j : ℕ) (h : Hearing) (now : LinkState) : Type 0 where
   pub place : slice_get places j ≡ Some (With i)
@@ -64,6 +75,7 @@ pub record Replies (jobs : List Job) (places : List JobPlace) (ks : List Kept) (
   pub faults : now.faults ≡ from.faults
   pub later : min from.jobs (2 ^ 64 - 1) ≤ now.jobs
   pub sent : Rises from.jobs now.jobs
+  pub since : HeardSince from now h.heard
 
 -- how a link stands by its place: the seat of a lost one is empty
 abbrev pub LinkGoes : List Job → Began → List JobPlace → List Kept → LinkState → ℕ → LinkPlace → Hearing → Option LinkState → Type 0
@@ -82,12 +94,31 @@ JobGoes b job Ended k = (b.all ≡ true) × EndedBy b.links job k
 
 -- ---- lost links
 
--- the entry names a link that isn't a steady worker, and its two sums differ
+-- The cause held of a link as it was lost. Its count of faults rose; or so many bytes were heard since it began its reply, and they end or
+-- are no reply; or two sums differ.
+abbrev pub HoldsOf : LostCause → LinkState → LinkState → Type 0
+HoldsOf causes.Device begun last = Rises begun.faults last.faults
+HoldsOf (causes.Ended at) begun last = HasHeard 0 at begun last
+HoldsOf (causes.Form at) begun last = HasHeard 0 at begun last
+HoldsOf (causes.Sum told found) begun last = told.0 ≢ found.0
+
+-- it held between two states of the link, which had counted no fault before
+pub record IsSeen (cause : LostCause) (from : LinkState) : Type 0 where
+  pub begun : LinkState
+  pub last : LinkState
+  pub same : IsSame from.told begun.told
+  pub faults : begun.faults ≡ from.faults
+  pub holds : HoldsOf cause begun last
+
+-- The entry names a link that isn't a steady worker, with a cause that held. An honest link is lost only because a call on it failed or its
+-- bytes ended.
 pub record IsLoss (links : List LinkState) (e : Entry) : Type 0 where
   pub from : LinkState
   pub is : slice_get links e.place ≡ Some from
   pub unsteady : ¬ IsSteadyWorker from.told
   pub told : IsTold e.cause
+  pub blamed : Blames e.cause from.told
+  pub seen : IsSeen e.cause from
 
 -- the later entries are losses
 pub record AddsLosses (links : List LinkState) (before after : List Entry) : Type 0 where
@@ -126,6 +157,12 @@ busies (Lost ∷ ls) = busies ls
 busies (Idle ∷ ls) = busies ls
 busies (Busy j ∷ ls) = suc (busies ls)
 
+-- those that are there
+abbrev pub somes : {A : Type 0} → List (Option A) → List A
+somes [] = []
+somes (None ∷ xs) = somes xs
+somes (Some x ∷ xs) = x ∷ somes xs
+
 -- what holds at each moment of a run
 pub record Going (jobs : List Job) (b : Began) (s : State) : Type 0 where
   pub job_count : length s.core.jobs ≡ length jobs
@@ -136,6 +173,7 @@ pub record Going (jobs : List Job) (b : Began) (s : State) : Type 0 where
   pub even : withs s.core.jobs ≡ busies s.core.links
   pub losses : Losses b.links b.lost s.lost s.core.links
   pub some : AllEnded s.core.jobs → 0 < length b.links → 0 < live s.core.links
+  pub reads : live s.core.links ≡ length s.core.links → NoneFull (somes s.seats) → reads_of (somes s.seats) ≡ reads_of b.links + sent_reads jobs s.core.jobs
   pub each_job : (j : ℕ) (job : Job) (p : JobPlace) → slice_get jobs j ≡ Some job → slice_get s.core.jobs j ≡ Some p → IsSomeAnd (slice_get s.kept.kept j) (JobGoes b job p)
   pub each_link : (i : ℕ) (p : LinkPlace) (h : Hearing) (seat : Option LinkState) → slice_get s.core.links i ≡ Some p → slice_get s.hears i ≡ Some h → slice_get s.seats i ≡ Some seat
       → IsSomeAnd (slice_get b.links i) (λ from. LinkGoes jobs b s.core.jobs s.kept.kept from i p h seat)
@@ -230,6 +268,14 @@ pub record Turned (jobs : List Job) (s t : State) (done : Bool) : Type 0 where
   pub idle : (k : ℕ) → IsIdle t.core k → NoneWaits t.core
   pub over : done ≡ true → AllEnded t.core.jobs × NoneBusy t.core
 
+-- after a run at this state these are the entries that there were as it began, and further ones, which are losses
+abbrev pub TellsLosses : List Job → State → List Entry → Type 0
+TellsLosses jobs s after = (b : Began) → Going jobs b s → AddsLosses b.links b.lost after
+
+-- the same, of a run in which each idle link was given a job or none waited
+abbrev pub TellsLossesOn : List Job → State → List Entry → Type 0
+TellsLossesOn jobs s after = (b : Began) → b.all ≡ true → Going jobs b s → AddsLosses b.links b.lost after
+
 -- each link that the run began with is lost, and has its entry
 pub record AllLost (b : Began) (after : List Entry) : Type 0 where
   pub entries : List Entry
@@ -245,12 +291,6 @@ RunFault jobs faults.Keep s t = Rises s.kept.faults t.kept.faults
 RunFault jobs faults.NoMemory s t = Unit {0}
 
 -- ---- a whole run
-
--- those that are there
-abbrev pub somes : {A : Type 0} → List (Option A) → List A
-somes [] = []
-somes (None ∷ xs) = somes xs
-somes (Some x ∷ xs) = x ∷ somes xs
 
 -- a run of all jobs over these links, before any was given
 pub record Starts (jobs : List Job) (links : List LinkState) (s : State) : Type 0 where

@@ -1,6 +1,6 @@
 -- What telling a worker its roots leaves. Own.
 use Rattle.std.specs.Prelude.{ℕ, ◌≡◌, ◌⊎◌, List, [], ◌∷◌, ◌++◌}
-use Rattle.pgb_outside.specs.Links.{LinkState, Sends, IsSteady}
+use Rattle.pgb_outside.specs.Links.{LinkState, Sends, Fails}
 use Rattle.pgb_model.specs.Text.{Text}
 use Rattle.pgb_frame.specs.Frames.{Roots, FitsRoots, spell}
 use Rattle.pgb_frame.specs.Frames.Frame.{Setup}
@@ -10,11 +10,11 @@ use Rattle.pgb_dispatch.specs.declared.fault.DispatchFault.TheVariants as faults
 use Rattle.pgb_dispatch.specs.Run.{AllLost, begun}
 use Rattle.pgb_dispatch.specs.declared.fault.Lost.{Lost as Entry}
 
--- the link stands at the end of the others, or it isn't steady and is told
+-- the link stands at the end of the others, or the call on it failed and it is told
 abbrev pub Kept : Text → ℕ → LinkState → List LinkState → List LinkState → List Entry → List Entry → Type 0
 Kept frame place link old new before after =
     ((now : LinkState) × Sends link now frame × (new ≡ old ++ now ∷ []) × (after ≡ before))
-    ⊎ ((¬ IsSteady link) × (new ≡ old) × (after ≡ before ++ (record { place = place; cause = Device }) ∷ []))
+    ⊎ ((last : LinkState) × Fails link last × (new ≡ old) × (after ≡ before ++ (record { place = place; cause = Device }) ∷ []))
 
 -- the frame tells two roots
 abbrev pub IsSetup : Text → Type 0

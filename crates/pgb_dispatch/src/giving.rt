@@ -1,10 +1,10 @@
 // Gives jobs to idle links.
-ghost use Rattle.std.specs.Prelude.{◌≡◌, ◌<◌, ◌^◌, ℕ, All, map, length, vec_len, IfErr, OnOk};
+ghost use Rattle.std.specs.Prelude.{◌≡◌, ◌<◌, ◌^◌, ℕ, All, map, length, vec_len, IfErr, OnOk, OnErr};
 ghost use Rattle.pgb_frame.specs.Frames.{FitsJob};
 ghost use Rattle.pgb_frame.specs.Views.{job_of};
 ghost use Rattle.pgb_jobs.specs.Dispatch.{IsIdle, NoneWaits};
 ghost use Rattle.pgb_dispatch.specs.Faults.{IsQuiet};
-ghost use Rattle.pgb_dispatch.specs.Run.{Runs, GoesOn, Gave, Settles, state};
+ghost use Rattle.pgb_dispatch.specs.Run.{Runs, GoesOn, Gave, Settles, TellsLosses, state};
 
 use crate::fault::{DispatchFault, Lost};
 use crate::hearing::lose_link;
@@ -38,6 +38,7 @@ fn give_job<L: Link, W, K: Keep<W>>(
     ensures going { OnOk result (GoesOn (map job_of jobs.now) (state L.link_state core.old seats.old.items hears.old.items (K.kept keep.old on.old) lost.old.items) (state L.link_state core.new seats.new.items hears.new.items (K.kept keep.new on.new) lost.new.items)) }
     ensures gave { OnOk result (Gave (map job_of jobs.now) (state L.link_state core.old seats.old.items hears.old.items (K.kept keep.old on.old) lost.old.items) (state L.link_state core.new seats.new.items hears.new.items (K.kept keep.new on.new) lost.new.items)) }
     ensures settles { OnOk result (Settles core.old core.new i) }
+    ensures told { OnErr result (TellsLosses (map job_of jobs.now) (state L.link_state core.old seats.old.items hears.old.items (K.kept keep.old on.old) lost.old.items) lost.new.items) }
 {
     let Some(job) = core.give(i) else {
         return Ok(());
@@ -76,6 +77,7 @@ pub(crate) fn give_idle<L: Link, W, K: Keep<W>>(
     ensures going { OnOk result (GoesOn (map job_of jobs.now) (state L.link_state core.old seats.old.items hears.old.items (K.kept keep.old on.old) lost.old.items) (state L.link_state core.new seats.new.items hears.new.items (K.kept keep.new on.new) lost.new.items)) }
     ensures gave { OnOk result (Gave (map job_of jobs.now) (state L.link_state core.old seats.old.items hears.old.items (K.kept keep.old on.old) lost.old.items) (state L.link_state core.new seats.new.items hears.new.items (K.kept keep.new on.new) lost.new.items)) }
     ensures settles { OnOk result (Settles core.old core.new i) }
+    ensures told { OnErr result (TellsLosses (map job_of jobs.now) (state L.link_state core.old seats.old.items hears.old.items (K.kept keep.old on.old) lost.old.items) lost.new.items) }
 {
     if core.is_idle(i) {
         return give_job(alloc, jobs, seats, core, hears, i, keep, on, lost);
@@ -103,6 +105,7 @@ pub(crate) fn give_all<L: Link, W, K: Keep<W>>(
     ensures going { OnOk result (GoesOn (map job_of jobs.now) (state L.link_state core.old seats.old.items hears.old.items (K.kept keep.old on.old) lost.old.items) (state L.link_state core.new seats.new.items hears.new.items (K.kept keep.new on.new) lost.new.items)) }
     ensures gave { OnOk result (Gave (map job_of jobs.now) (state L.link_state core.old seats.old.items hears.old.items (K.kept keep.old on.old) lost.old.items) (state L.link_state core.new seats.new.items hears.new.items (K.kept keep.new on.new) lost.new.items)) }
     ensures idle { OnOk result ((k : ℕ) → IsIdle core.new k → NoneWaits core.new) }
+    ensures told { OnErr result (TellsLosses (map job_of jobs.now) (state L.link_state core.old seats.old.items hears.old.items (K.kept keep.old on.old) lost.old.items) lost.new.items) }
 {
     for i in 0..seats.len() {
         give_idle(alloc, jobs, seats, core, hears, i as u32, keep, on, lost)?;

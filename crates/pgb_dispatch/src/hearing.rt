@@ -1,12 +1,12 @@
 // Hears busy links, and loses some.
-ghost use Rattle.std.specs.Prelude.{◌≡◌, ◌<◌, ◌++◌, ◌∷◌, [], Option, Some, None, All, map, option_map, length, vec_len, slice_get, slice_set, IfErr, OnOk};
+ghost use Rattle.std.specs.Prelude.{◌≡◌, ◌<◌, ◌⊎◌, ◌++◌, ◌∷◌, [], Option, Some, None, All, map, option_map, length, vec_len, slice_get, slice_set, IfErr, OnOk, OnErr};
 ghost use Rattle.pgb_outside.specs.Links.{LinkState};
 ghost use Rattle.pgb_frame.specs.Frames.{FitsJob};
 ghost use Rattle.pgb_frame.specs.Views.{job_of};
 ghost use Rattle.pgb_keep.specs.KeepState.{Clears};
 ghost use Rattle.pgb_jobs.specs.Dispatch.{Has, IsBusy, after_lose};
 ghost use Rattle.pgb_dispatch.specs.Faults.{IsQuiet};
-ghost use Rattle.pgb_dispatch.specs.Run.{Changed, Runs, HearsOn, Advances, HearFault, state};
+ghost use Rattle.pgb_dispatch.specs.Run.{Changed, Runs, HearsOn, Advances, HearFault, TellsLosses, state};
 
 use crate::fault::{DispatchFault, Lost};
 use crate::seats::hear_at;
@@ -50,6 +50,7 @@ pub(crate) fn lose_link<L: Link, W, K: Keep<W>>(
     ensures seats { OnOk result (seats.new.items ≡ slice_set seats.old.items i None) }
     ensures kept { OnOk result (Changed Clears job (K.kept keep.old on.old) (K.kept keep.new on.new)) }
     ensures lost { OnOk result (lost.new.items ≡ lost.old.items ++ (record { place = i; cause = cause }) ∷ []) }
+    ensures told { OnErr result ((lost.new.items ≡ lost.old.items) ⊎ (lost.new.items ≡ lost.old.items ++ (record { place = i; cause = cause }) ∷ [])) }
 {
     lost.push(Lost { place: i, cause })?;
     seats[i as usize] = None;
@@ -87,6 +88,7 @@ pub(crate) fn hear_job<L: Link, W, K: Keep<W>>(
     ensures going { OnOk result (HearsOn (map job_of jobs.now) (state L.link_state core.old seats.old.items hears.old.items (K.kept keep.old on.old) lost.old.items) (state L.link_state core.new seats.new.items hears.new.items (K.kept keep.new on.new) lost.new.items)) }
     ensures advances { OnOk result (Advances (map job_of jobs.now) (state L.link_state core.old seats.old.items hears.old.items (K.kept keep.old on.old) lost.old.items) (state L.link_state core.new seats.new.items hears.new.items (K.kept keep.new on.new) lost.new.items)) }
     ensures fault { IfErr result (λ e. HearFault (map job_of jobs.now) e (state L.link_state core.old seats.old.items hears.old.items (K.kept keep.old on.old) lost.old.items) (state L.link_state core.new seats.new.items hears.new.items (K.kept keep.new on.new) lost.new.items)) }
+    ensures told { OnErr result (TellsLosses (map job_of jobs.now) (state L.link_state core.old seats.old.items hears.old.items (K.kept keep.old on.old) lost.old.items) lost.new.items) }
 {
     let Some(job) = core.job(i) else {
         return Ok(());

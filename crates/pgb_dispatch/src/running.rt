@@ -1,9 +1,9 @@
 // A run of jobs, a frame a turn.
-ghost use Rattle.std.specs.Prelude.{◌≡◌, ◌<◌, ◌^◌, ℕ, List, All, map, vec_len, IfOk, IfErr, OnOk};
+ghost use Rattle.std.specs.Prelude.{◌≡◌, ◌<◌, ◌^◌, ℕ, List, All, map, option_map, vec_len, IfOk, IfErr, OnOk, OnErr};
 ghost use Rattle.pgb_frame.specs.Frames.{FitsJob};
 ghost use Rattle.pgb_frame.specs.Views.{job_of};
 ghost use Rattle.pgb_jobs.specs.Dispatch.{IsIdle, NoneWaits, AllEnded};
-ghost use Rattle.pgb_dispatch.specs.Run.{RunsOn, HearsOn, Going, Turned, RunFault, NoneBusy, Starts, SeatsLeave, begun, state};
+ghost use Rattle.pgb_dispatch.specs.Run.{RunsOn, HearsOn, Going, Turned, RunFault, NoneBusy, Starts, SeatsLeave, TellsLossesOn, AddsLosses, somes, begun, state};
 ghost use Rattle.pgb_outside.specs.Links.{LinkState};
 
 use crate::fault::{DispatchFault, Lost};
@@ -37,6 +37,7 @@ fn turn<L: Link, W, U: Turns, K: Keep<W>>(
     ensures going { OnOk result (HearsOn (map job_of jobs.now) (state L.link_state core.old seats.old.items hears.old.items (K.kept keep.old on.old) lost.old.items) (state L.link_state core.new seats.new.items hears.new.items (K.kept keep.new on.new) lost.new.items)) }
     ensures turned { IfOk result (Turned (map job_of jobs.now) (state L.link_state core.old seats.old.items hears.old.items (K.kept keep.old on.old) lost.old.items) (state L.link_state core.new seats.new.items hears.new.items (K.kept keep.new on.new) lost.new.items)) }
     ensures fault { IfErr result (λ e. RunFault (map job_of jobs.now) e (state L.link_state core.old seats.old.items hears.old.items (K.kept keep.old on.old) lost.old.items) (state L.link_state core.new seats.new.items hears.new.items (K.kept keep.new on.new) lost.new.items)) }
+    ensures told { OnErr result (TellsLossesOn (map job_of jobs.now) (state L.link_state core.old seats.old.items hears.old.items (K.kept keep.old on.old) lost.old.items) lost.new.items) }
 {
     let busy = core.busy(alloc)?;
     if busy.is_empty() {
@@ -72,6 +73,7 @@ pub(crate) fn run<L: Link, W, U: Turns, K: Keep<W>>(
     ensures going { OnOk result (HearsOn (map job_of jobs.now) (state L.link_state core.old seats.old.items hears.old.items (K.kept keep.old on.old) lost.old.items) (state L.link_state core.new seats.new.items hears.new.items (K.kept keep.new on.new) lost.new.items)) }
     ensures over { OnOk result (AllEnded core.new.jobs × NoneBusy core.new) }
     ensures fault { IfErr result (λ e. RunFault (map job_of jobs.now) e (state L.link_state core.old seats.old.items hears.old.items (K.kept keep.old on.old) lost.old.items) (state L.link_state core.new seats.new.items hears.new.items (K.kept keep.new on.new) lost.new.items)) }
+    ensures told { OnErr result (TellsLossesOn (map job_of jobs.now) (state L.link_state core.old seats.old.items hears.old.items (K.kept keep.old on.old) lost.old.items) lost.new.items) }
 {
     let mut done = false;
     'turns: while !done {
@@ -102,6 +104,7 @@ pub(crate) fn run_seats<L: Link, W, U: Turns, K: Keep<W>>(
     ensures going { OnOk result ((links : List LinkState) → Starts (map job_of jobs.now) links (state L.link_state core.old seats.old.items hears.old.items (K.kept keep.old on.old) lost.old.items) → Going (map job_of jobs.now) (begun links lost.old.items) (state L.link_state core.new seats.new.items hears.new.items (K.kept keep.new on.new) lost.new.items)) }
     ensures over { OnOk result (AllEnded core.new.jobs × NoneBusy core.new) }
     ensures fault { IfErr result (λ e. (links : List LinkState) → Starts (map job_of jobs.now) links (state L.link_state core.old seats.old.items hears.old.items (K.kept keep.old on.old) lost.old.items) → SeatsLeave (map job_of jobs.now) links lost.old.items (K.kept keep.old on.old).faults e (state L.link_state core.new seats.new.items hears.new.items (K.kept keep.new on.new) lost.new.items)) }
+    ensures told { AddsLosses (somes (map (option_map L.link_state) seats.old.items)) lost.old.items lost.new.items }
 {
     give_all(alloc, jobs, seats, core, hears, keep, on, lost)?;
     run(alloc, jobs, seats, core, hears, turns, keep, on, lost)

@@ -1,9 +1,9 @@
 // Tells workers their roots.
-ghost use Rattle.std.specs.Prelude.{◌≡◌, ◌≢◌, ◌<◌, ◌^◌, ℕ, [], Some, map, vec_len, slice_get, IfErr, OnOk};
+ghost use Rattle.std.specs.Prelude.{◌≡◌, ◌≢◌, ◌<◌, ◌^◌, ℕ, [], Some, map, vec_len, slice_get, IfErr, OnOk, OnErr};
 ghost use Rattle.pgb_outside.specs.Links.{LinkState};
 ghost use Rattle.pgb_frame.specs.Frames.{FitsRoots};
 ghost use Rattle.pgb_frame.specs.Views.{roots_of};
-ghost use Rattle.pgb_dispatch.specs.Run.{IsReady, Left};
+ghost use Rattle.pgb_dispatch.specs.Run.{IsReady, Left, AddsLosses};
 ghost use Rattle.pgb_dispatch.specs.Setups.{Kept, IsSetup, SetupFault};
 
 use crate::fault::{DispatchFault, Lost};
@@ -22,6 +22,7 @@ fn set_up<L: Link>(
 ) -> Result<(), DispatchFault>
     ensures kept { OnOk result (Kept frame.now place (L.link_state link) (map L.link_state links.old.items) (map L.link_state links.new.items) lost.old.items lost.new.items) }
     ensures fault { IfErr result (λ e. e ≡ DispatchFault.NoMemory) }
+    ensures told { OnErr result (lost.new.items ≡ lost.old.items) }
 {
     match link.send(frame) {
         Ok(()) => {
@@ -51,6 +52,7 @@ fn set_up_all<L: Link>(
     requires setup { IsSetup frame.now }
     ensures left { OnOk result (Left 0 (map L.link_state links.old.items) lost.old.items lost.new.items (map L.link_state links.new.items)) }
     ensures fault { IfErr result (λ e. e ≡ DispatchFault.NoMemory) }
+    ensures told { OnErr result (AddsLosses (map L.link_state links.old.items) lost.old.items lost.new.items) }
 {
     let mut place = 0u32;
     for link in std::mem::replace(links, Vec::new(alloc)) {
@@ -61,6 +63,7 @@ fn set_up_all<L: Link>(
 }
 
 /// Tells all workers their roots. A link over which that fails is lost. After a refusal no link is left.
+#[tactic(auto, using(crate::proofs::Setting::setup_told, crate::proofs::Whole::adds_none))]
 pub fn setup<L: Link>(
     alloc: Global,
     links: &mut Vec<L>,
@@ -73,6 +76,8 @@ pub fn setup<L: Link>(
     // The links that weren't lost are left in their order, with nothing to give, and one at least. Each of the others is told, and no steady worker is.
     ensures left { OnOk result (Left 0 (map L.link_state links.old.items) lost.old.items lost.new.items (map L.link_state links.new.items)) }
     ensures some { OnOk result (links.new.items ≢ []) }
+    // Whatever comes of it, no entry is taken away, and each further one is of a link that isn't a steady worker.
+    ensures told { AddsLosses (map L.link_state links.old.items) lost.old.items lost.new.items }
     ensures fault { IfErr result (λ e. SetupFault e (map L.link_state links.old.items) lost.old.items lost.new.items) }
     ensures refused { IfErr result (λ _. links.new.items ≡ []) }
 {

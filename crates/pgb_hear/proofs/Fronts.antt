@@ -201,7 +201,8 @@ many_after old new got n m t o e =
 counts_join : (before k n at : ℕ) → at ≡ min (min (before + k) (2 ^ 64 - 1) + n) (2 ^ 64 - 1) → at ≡ min (before + (k + n)) (2 ^ 64 - 1)
 counts_join before k n at e = omega (arith, e)
 
-heard_after : (old mid new : LinkState) (a : Text) (before next at : ℕ) → Takes old mid a → next ≡ min (before + length a) (2 ^ 64 - 1) → HasHeard next at mid new → HasHeard before at old new
+-- bytes that were heard after others
+pub heard_after : (old mid new : LinkState) (a : Text) (before next at : ℕ) → Takes old mid a → next ≡ min (before + length a) (2 ^ 64 - 1) → HasHeard next at mid new → HasHeard before at old new
 heard_after old mid new a before next at t e h = record {
   bytes = a ++ h.bytes;
   takes = takes_joins old mid new a h.bytes t h.takes;

@@ -1,15 +1,18 @@
 -- Which frame the bytes of a steady link begin with.
-use Rattle.std.proofs.Common.{ℕ, Bool, true, false, ◌≡◌, ◌<◌, ◌≤◌, ◌^◌, [], ◌∷◌, ◌++◌, length, drop, get_or, refl, sym, ap, subst, arith, ◌∙◌, length-append}
-use Rattle.std.specs.Prelude.{◌==◌, ◌&&◌, nat_lt, nat_le}
+use Rattle.std.proofs.Common.{ℕ, Bool, true, false, ◌≡◌, ◌<◌, ◌≤◌, ◌^◌, [], ◌∷◌, ◌++◌, length, drop, get_or, Option, Some, None, Result, Ok, Err, refl, sym, ap, subst, arith, ◌∙◌, length-append}
+use Rattle.std.specs.Prelude.{◌==◌, ◌&&◌, nat_lt, nat_le, option_map, IfErr}
 use Rattle.std.proofs.lemmas.Bool.Decides.{nat_tests}
 use Rattle.std.specs.Int.{w32, w64, to_be_bytes, from_be_bytes}
 use Rattle.std.proofs.lemmas.Nat.{from_be_bytes-to_be_bytes_4}
-use Rattle.pgb_outside.specs.Links.{LinkState}
+use Rattle.pgb_outside.specs.Links.{LinkState, Told}
 use Rattle.pgb_model.specs.Text.{Text}
 use Rattle.pgb_frame.specs.Frames.{Frame, framed, spell, part_size}
 use Rattle.pgb_frame.specs.Frames.Frame.{Setup, Task, Part, End, Vanished, Unread}
-use Rattle.pgb_hear.specs.Takes.{Takes, Offers, OffersMany}
-use Rattle.pgb_hear.specs.Hears.{IsReplyFrame, OffersReply, is_head}
+use Rattle.pgb_hear.specs.Takes.{TakesFront, Takes, Offers, OffersMany, Begins, FormRefutes, IsShort}
+use Rattle.pgb_hear.specs.Hears.{IsReplyFrame, OffersReply, BeginsReply, is_head}
+use Rattle.pgb_hear.specs.declared.cause.LostCause.TheVariants.{Device, Ended, Form, Sum}
+use Rattle.pgb_hear.specs.declared.cause.HearFault.{HearFault}
+use Rattle.pgb_hear.specs.declared.cause.HearFault.TheVariants as faults
 use Rattle.pgb_hear.proofs.Fronts.{takes_joins, offers_after}
 
 both : (a b : Bool) → a ≡ true → b ≡ true → (a && b) ≡ true
@@ -112,3 +115,36 @@ head_refuted old new type n small t other o =
 
 pub end_head : (type n : ℕ) → type ≡ 69 → is_head type n ≡ true → n ≡ 28
 end_head type n t e = let q : is_head 69 n ≡ true = subst (λ k. is_head k n ≡ true) t e in grind (arith, nat_tests, q)
+
+-- ---- links that may fail
+
+-- the same link, which tells that it is steady
+steadied : LinkState → LinkState
+steadied s = record s { told = option_map (λ (t : Told). record t { steady = true }) s.told }
+
+front_steadied : (old new : Option Told) (bytes : Text) → TakesFront old new bytes → TakesFront (option_map (λ (t : Told). record t { steady = true }) old) (option_map (λ (t : Told). record t { steady = true }) new) bytes
+front_steadied None new bytes h = ap (option_map (λ (t : Told). record t { steady = true })) h
+front_steadied (Some t) new bytes h = (h.0, h.1, ap (option_map (λ (x : Told). record x { steady = true })) h.2)
+
+takes_steadied : (old new : LinkState) (bytes : Text) → Takes old new bytes → Takes (steadied old) (steadied new) bytes
+unfolding steadied
+takes_steadied old new bytes t = record { told = front_steadied old.told new.told bytes t.told; given = t.given; jobs = t.jobs; reads = t.reads; faults = t.faults }
+
+offers_steadied : (s : LinkState) (bytes : Text) → Begins s bytes → Offers (steadied s) bytes
+unfolding steadied
+offers_steadied s bytes b = record { tells = record b.tells { steady = true }; is = ap (option_map (λ (t : Told). record t { steady = true })) b.is; steady = refl; rest = b.rest; pending = b.pending }
+
+-- another head is none of a reply
+pub form_refuted : (old new : LinkState) (type n : ℕ) → n < 2 ^ 32 → Takes old new (type ∷ to_be_bytes w32 n) → is_head type n ≡ false → ¬ BeginsReply old
+form_refuted old new type n small t other b = head_refuted (steadied old) (steadied new) type n small (takes_steadied old new (type ∷ to_be_bytes w32 n) t) other (b.0, b.1, offers_steadied old (spell b.0) b.2)
+
+refutes_short : (e : HearFault) (P : Type 0) → IsShort e → FormRefutes e P
+refutes_short (faults.Lost Device) P h = tt
+refutes_short (faults.Lost (Ended at)) P h = tt
+refutes_short (faults.Lost (Form at)) P h = absurd h
+refutes_short (faults.Lost (Sum told found)) P h = absurd h
+refutes_short faults.NoMemory P h = tt
+
+pub short_refutes : {A : Type 0} (r : Result A HearFault) (P : Type 0) → IfErr r IsShort → IfErr r (λ e. FormRefutes e P)
+short_refutes (Ok x) P h = tt
+short_refutes (Err e) P h = refutes_short e P h

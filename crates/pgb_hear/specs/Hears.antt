@@ -6,7 +6,7 @@ use Rattle.pgb_frame.specs.Frames.Frame.{Setup, Task, Part, End, Vanished, Unrea
 use Rattle.pgb_hear.specs.declared.frames.Heard.{Heard}
 use Rattle.pgb_hear.specs.declared.frames.Heard.TheVariants as heard
 use Rattle.pgb_hear.specs.declared.cause.HearFault.{HearFault}
-use Rattle.pgb_hear.specs.Takes.{Takes, Offers}
+use Rattle.pgb_hear.specs.Takes.{Takes, Offers, Begins}
 
 -- the frame that was heard
 abbrev pub frame_of : Heard → Frame
@@ -36,6 +36,10 @@ IsHeard h = IsReplyFrame (frame_of h)
 -- the link is steady, and its next bytes are a frame of a reply
 abbrev pub OffersReply : LinkState → Type 0
 OffersReply s = (f : Frame) × IsReplyFrame f × Offers s (spell f)
+
+-- the link's next bytes are a frame of a reply
+abbrev pub BeginsReply : LinkState → Type 0
+BeginsReply s = (f : Frame) × IsReplyFrame f × Begins s (spell f)
 
 -- whether a frame of a reply may have this type and a body of this length
 abbrev pub is_head : ℕ → ℕ → Bool

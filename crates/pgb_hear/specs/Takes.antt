@@ -77,3 +77,26 @@ pub record Offers (s : LinkState) (bytes : Text) : Type 0 where
 -- the link is steady, and has so many bytes to give
 abbrev pub OffersMany : LinkState → ℕ → Type 0
 OffersMany s n = (bytes : Text) × Offers s bytes × (n ≤ length bytes)
+
+-- these are the next bytes of the link, which may fail or end before it has given them
+pub record Begins (s : LinkState) (bytes : Text) : Type 0 where
+  pub tells : Told
+  pub is : s.told ≡ Some tells
+  pub rest : Text
+  pub pending : tells.pending ≡ bytes ++ rest
+
+-- the link is lost by the form of its bytes only where this isn't so
+abbrev pub FormRefutes : HearFault → Type 0 → Type 0
+FormRefutes (faults.Lost Device) P = Unit {0}
+FormRefutes (faults.Lost (Ended at)) P = Unit {0}
+FormRefutes (faults.Lost (Form at)) P = ¬ P
+FormRefutes (faults.Lost (Sum told found)) P = ¬ P
+FormRefutes faults.NoMemory P = Unit {0}
+
+-- the link failed or ended, or memory ran out
+abbrev pub IsShort : HearFault → Type 0
+IsShort (faults.Lost Device) = Unit {0}
+IsShort (faults.Lost (Ended at)) = Unit {0}
+IsShort (faults.Lost (Form at)) = ⊥
+IsShort (faults.Lost (Sum told found)) = ⊥
+IsShort faults.NoMemory = Unit {0}

@@ -1,7 +1,7 @@
 // One frame of a reply.
 ghost use Rattle.std.specs.Prelude.{◌≡◌, IfOk, IfErr};
-ghost use Rattle.pgb_hear.specs.Takes.{FaultLeaves, Refutes};
-ghost use Rattle.pgb_hear.specs.Hears.{HearLeaves, IsHeard, OffersReply, is_head};
+ghost use Rattle.pgb_hear.specs.Takes.{FaultLeaves, Refutes, FormRefutes};
+ghost use Rattle.pgb_hear.specs.Hears.{HearLeaves, IsHeard, OffersReply, BeginsReply, is_head};
 
 use crate::cause::{HearFault, LostCause};
 use crate::reading::{hear_bytes, hear_end, hear_head};
@@ -43,12 +43,15 @@ fn is_head(kind: u8, length: u32) -> bool
 }
 
 /// Hears a frame of a reply, of which so many bytes were heard before. Nothing beyond the frame is received.
+#[tactic(auto, using(crate::proofs::Heads::short_refutes))]
 pub fn hear_frame<L: Link>(alloc: Global, link: &mut L, before: u64) -> Result<Heard, HearFault>
     ensures takes { HearLeaves result (L.link_state link.old) (L.link_state link.new) }
     ensures heard { IfOk result IsHeard }
     ensures lost { IfErr result (λ e. FaultLeaves e before (L.link_state link.old) (L.link_state link.new)) }
     // A steady link whose next bytes are a frame of a reply isn't lost.
     ensures steady { IfErr result (λ e. Refutes e (OffersReply (L.link_state link.old))) }
+    // Whether it is steady or not, a link whose next bytes are a frame of a reply isn't lost by their form.
+    ensures form { IfErr result (λ e. FormRefutes e (BeginsReply (L.link_state link.old))) }
 {
     let (kind, length) = hear_head(link, before)?;
     let before = before.saturating_add(5);

@@ -1,7 +1,7 @@
 // Fields of a frame, as a link gives them.
 ghost use Rattle.std.specs.Prelude.{◌≡◌, ◌<◌, ◌≤◌, ◌++◌, ◌∷◌, [], ℕ, List, length, slice_index, IfOk, IfErr, OnOk};
 ghost use Rattle.std.specs.Int.{w32, w64, to_be_bytes};
-ghost use Rattle.pgb_hear.specs.Takes.{Takes, Filled, FaultLeaves, Refutes, Offers, OffersMany};
+ghost use Rattle.pgb_hear.specs.Takes.{Takes, Filled, FaultLeaves, Refutes, IsShort, Offers, OffersMany};
 
 use crate::cause::{HearFault, LostCause};
 use pgb_outside::{Link, Stop};
@@ -29,6 +29,7 @@ fn full<L: Link>(link: &mut L, before: u64, buf: &mut [u8]) -> Result<(), HearFa
     ensures bytes { (i : ℕ) → slice_index buf.new i < 256 }
     ensures lost { IfErr result (λ e. FaultLeaves e before (L.link_state link.old) (L.link_state link.new)) }
     ensures steady { IfErr result (λ e. Refutes e (OffersMany (L.link_state link.old) (length buf.new))) }
+    ensures short { IfErr result IsShort }
 {
     match receive_all(link, buf) {
         Ok(None) => Ok(()),
@@ -45,6 +46,7 @@ fn hear_byte<L: Link>(link: &mut L, before: u64) -> Result<u8, HearFault>
     ensures takes { IfOk result (λ b. Takes (L.link_state link.old) (L.link_state link.new) (b ∷ [])) }
     ensures lost { IfErr result (λ e. FaultLeaves e before (L.link_state link.old) (L.link_state link.new)) }
     ensures steady { IfErr result (λ e. Refutes e (OffersMany (L.link_state link.old) 1)) }
+    ensures short { IfErr result IsShort }
 {
     let mut buf = [0u8; 1];
     full(link, before, &mut buf)?;
@@ -56,6 +58,7 @@ fn hear_length<L: Link>(link: &mut L, before: u64) -> Result<u32, HearFault>
     ensures takes { IfOk result (λ n. Takes (L.link_state link.old) (L.link_state link.new) (to_be_bytes w32 n)) }
     ensures lost { IfErr result (λ e. FaultLeaves e before (L.link_state link.old) (L.link_state link.new)) }
     ensures steady { IfErr result (λ e. Refutes e (OffersMany (L.link_state link.old) 4)) }
+    ensures short { IfErr result IsShort }
 {
     let mut buf = [0u8; 4];
     full(link, before, &mut buf)?;
@@ -67,6 +70,7 @@ fn hear_number<L: Link>(link: &mut L, before: u64) -> Result<u64, HearFault>
     ensures takes { IfOk result (λ n. Takes (L.link_state link.old) (L.link_state link.new) (to_be_bytes w64 n)) }
     ensures lost { IfErr result (λ e. FaultLeaves e before (L.link_state link.old) (L.link_state link.new)) }
     ensures steady { IfErr result (λ e. Refutes e (OffersMany (L.link_state link.old) 8)) }
+    ensures short { IfErr result IsShort }
 {
     let mut buf = [0u8; 8];
     full(link, before, &mut buf)?;
@@ -78,6 +82,7 @@ fn hear_sum<L: Link>(link: &mut L, before: u64) -> Result<Sum, HearFault>
     ensures takes { IfOk result (λ s. Takes (L.link_state link.old) (L.link_state link.new) s.0) }
     ensures lost { IfErr result (λ e. FaultLeaves e before (L.link_state link.old) (L.link_state link.new)) }
     ensures steady { IfErr result (λ e. Refutes e (OffersMany (L.link_state link.old) 20)) }
+    ensures short { IfErr result IsShort }
 {
     let mut buf = [0u8; 20];
     full(link, before, &mut buf)?;
@@ -95,6 +100,7 @@ pub(crate) fn hear_bytes<L: Link>(
     ensures length { IfOk result (λ v. length v.items ≡ count) }
     ensures lost { IfErr result (λ e. FaultLeaves e before (L.link_state link.old) (L.link_state link.new)) }
     ensures steady { IfErr result (λ e. Refutes e (OffersMany (L.link_state link.old) count)) }
+    ensures short { IfErr result IsShort }
 {
     let mut body = vec![in alloc; 0u8; count as usize]?;
     full(link, before, body.as_mut_slice())?;
@@ -106,6 +112,7 @@ pub(crate) fn hear_head<L: Link>(link: &mut L, before: u64) -> Result<(u8, u32),
     ensures takes { IfOk result (λ x. Takes (L.link_state link.old) (L.link_state link.new) (x.0 ∷ to_be_bytes w32 x.1)) }
     ensures lost { IfErr result (λ e. FaultLeaves e before (L.link_state link.old) (L.link_state link.new)) }
     ensures steady { IfErr result (λ e. Refutes e (OffersMany (L.link_state link.old) 5)) }
+    ensures short { IfErr result IsShort }
 {
     let kind = hear_byte(link, before)?;
     let length = hear_length(link, before.saturating_add(1))?;
@@ -117,6 +124,7 @@ pub(crate) fn hear_end<L: Link>(link: &mut L, before: u64) -> Result<(u64, Sum),
     ensures takes { IfOk result (λ x. Takes (L.link_state link.old) (L.link_state link.new) (to_be_bytes w64 x.0 ++ x.1.0)) }
     ensures lost { IfErr result (λ e. FaultLeaves e before (L.link_state link.old) (L.link_state link.new)) }
     ensures steady { IfErr result (λ e. Refutes e (OffersMany (L.link_state link.old) 28)) }
+    ensures short { IfErr result IsShort }
 {
     let number = hear_number(link, before)?;
     let sum = hear_sum(link, before.saturating_add(8))?;

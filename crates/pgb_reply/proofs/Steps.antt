@@ -1,6 +1,6 @@
 -- What each frame leaves of a reply in its course.
 use Rattle.std.proofs.Common.{ℕ, zero, suc, ◌≡◌, ◌≢◌, ◌<◌, ◌≤◌, ◌+◌, ◌-◌, ◌*◌, ◌^◌, List, [], ◌∷◌, ◌++◌, Bool, true, false, Option, Some, None, Result, Ok, Err, length, drop, refl, sym, ap, subst, arith, ◌∙◌, append_assoc, length-append, slice_get}
-use Rattle.std.specs.Prelude.{◌==◌, if◌then◌else◌, IfOk, IfErr, IsSomeAnd}
+use Rattle.std.specs.Prelude.{◌==◌, min, if◌then◌else◌, IfOk, IfErr, IsSomeAnd}
 use Rattle.std.specs.List.{flat_map, AllByRecursion}
 use Rattle.std.proofs.lemmas.Bool.Decides.{nat_tests}
 use Rattle.std.proofs.lemmas.Option.{slice_get_within}
@@ -24,16 +24,16 @@ use Rattle.pgb_hear.specs.declared.cause.LostCause.{LostCause}
 use Rattle.pgb_hear.specs.declared.cause.LostCause.TheVariants as causes
 use Rattle.pgb_hear.specs.declared.cause.HearFault.{HearFault}
 use Rattle.pgb_hear.specs.declared.cause.HearFault.TheVariants as hears
-use Rattle.pgb_hear.specs.Takes.{TakesFront, CauseHolds, FaultLeaves, Refutes}
-use Rattle.pgb_hear.specs.Hears.{OffersReply}
+use Rattle.pgb_hear.specs.Takes.{TakesFront, Takes, CauseHolds, FaultLeaves, Refutes, FormRefutes}
+use Rattle.pgb_hear.specs.Hears.{OffersReply, BeginsReply}
 use Rattle.pgb_reply.specs.declared.reply.Verdict.{Verdict}
 use Rattle.pgb_reply.specs.declared.reply.Verdict.TheVariants as verdicts
 use Rattle.pgb_reply.specs.declared.hearing.Hearing.{Hearing}
 use Rattle.pgb_reply.specs.declared.fault.TakeFault.{TakeFault}
-use Rattle.pgb_reply.specs.Hearings.{StartsAt, HearsMore, MayFollow, EndsRight, IsOfTree, IsTold}
-use Rattle.pgb_reply.specs.Reads.{IsSteadyWorker, IsPayload, IsSumOf, ReadBy, AbsentBy, UnreadBy, SumsBy, EndsAs, AllEnd, file_of}
-use Rattle.pgb_reply.specs.Going.{IsPending, TellsItem, TellsItems, IsDrained, Goes, At, IsAt, KeptAt, GoesOn, HasEnded, VerdictHolds, after_end, items_cost, job_left}
-use Rattle.pgb_reply.proofs.Told.{IsNextPart, IsNextEnd, IsNextGone, pend_part, pend_end, pend_gone, pend_unread, tells_front, tells_where, worker_has, worker_offers, tells_first, tells_none}
+use Rattle.pgb_reply.specs.Hearings.{StartsAt, HearsMore, MayFollow, EndsRight, IsOfTree, IsTold, IsOfFrame}
+use Rattle.pgb_reply.specs.Reads.{IsSteadyWorker, IsHonest, IsPayload, IsSumOf, ReadBy, AbsentBy, UnreadBy, SumsBy, EndsAs, AllEnd, file_of}
+use Rattle.pgb_reply.specs.Going.{IsPending, TellsItem, TellsItems, IsDrained, Goes, At, IsAt, KeptAt, GoesOn, HasEnded, VerdictHolds, Blames, CountsFrame, HeardOf, after_end, items_cost, job_left}
+use Rattle.pgb_reply.proofs.Told.{IsNextPart, IsNextEnd, IsNextGone, pend_part, pend_end, pend_gone, pend_unread, tells_front, tells_where, honest_has, worker_honest, honest_begins, worker_offers, tells_first, tells_none}
 
 -- ---- lists
 
@@ -122,11 +122,11 @@ part_room job number h s v a m some few =
     }
 
 -- a steady worker's part may follow
-pub part_follows : (from old new : Option Told) (job : Job) (k : Kept) (h : Hearing) (v : Text) → Goes from old job k h → TakesFront old new (spell (Part v)) → 0 < length v → length v ≤ part_size → IsSteadyWorker from → MayFollow job h (length v)
+pub part_follows : (from old new : Option Told) (job : Job) (k : Kept) (h : Hearing) (v : Text) → Goes from old job k h → TakesFront old new (spell (Part v)) → 0 < length v → length v ≤ part_size → IsHonest from → MayFollow job h (length v)
 part_follows from old new job k h v g t some few w =
     let all = tells_where (λ tree repo pending. IsPending job.kind g.next (file_of g.next tree repo) g.left g.bytes h.full tree repo pending) (λ tree repo. IsNextPart job.kind g.next g.bytes v h.full) from old new (spell (Part v)) g.told t
     (λ tree repo pending rest p e. (pend_part job.kind g.next (file_of g.next tree repo) g.left g.bytes v h.full tree repo pending rest some few p e).0) in
-    let one = (worker_has from (λ tree repo. IsNextPart job.kind g.next g.bytes v h.full) all w).2 in
+    let one = (honest_has from (λ tree repo. IsNextPart job.kind g.next g.bytes v h.full) all w).2 in
     record { reads = one.reads; full = one.full_is; room = is_next (λ i. h.count + length v ≤ i.size) job h.item g.next (next_at from old job k h g) (omega (arith, one.room, g.count)) }
 
 full_parts : (n parts : ℕ) (bytes v : Text) → (length v == part_size) ≡ true → length bytes ≡ parts * part_size → length (bytes ++ v) ≡ suc parts * part_size
@@ -288,12 +288,12 @@ end_rest from old new job k h n s g t f ln ls =
 
 -- a steady worker's end is right
 pub end_true : (from old new : Option Told) (job : Job) (k : Kept) (h : Hearing) (n : ℕ) (s found : Text) → Goes from old job k h → TakesFront old new (spell (End n s)) → FitsJob job → n < 2 ^ 64 → length s ≡ 20
-    → ((m : Text) → sha.Holds h.digest m → found ≡ sha1 m) → IsSteadyWorker from → EndsRight job h.item h.count n s found
+    → ((m : Text) → sha.Holds h.digest m → found ≡ sha1 m) → IsHonest from → EndsRight job h.item h.count n s found
 end_true from old new job k h n s found g t f ln ls digest w =
     let P : Content → Content → Text → Type 0 = λ tree repo pending. IsPending job.kind g.next (file_of g.next tree repo) g.left g.bytes h.full tree repo pending in
     let all = tells_where P (λ tree repo. IsNextEnd job.kind g.next (file_of g.next tree repo) g.bytes n s) from old new (spell (End n s)) g.told t
     (λ tree repo pending rest p e. (pend_end job.kind g.next (file_of g.next tree repo) g.left g.bytes h.full tree repo n s pending rest (next_fits from old job k h g f).size ln ls p e).0) in
-    let one = (worker_has from (λ tree repo. IsNextEnd job.kind g.next (file_of g.next tree repo) g.bytes n s) all w).2 in
+    let one = (honest_has from (λ tree repo. IsNextEnd job.kind g.next (file_of g.next tree repo) g.bytes n s) all w).2 in
     record {
       size = is_next (λ i. n ≤ i.size) job h.item g.next (next_at from old job k h g) (omega (arith, one.size, one.sums.number));
       read = λ r. (one.sums.number ∙ ap length (sym (one.read r)) ∙ sym g.count, one.sums.digest ∙ ap sha1 (sym (one.read r)) ∙ sym (digest g.bytes g.digest));
@@ -321,11 +321,11 @@ gone_rest from old new job k h g t =
     tells_front (λ tree repo pending. IsPending job.kind g.next (file_of g.next tree repo) g.left g.bytes h.full tree repo pending) (λ tree repo pending. pending ≡ flat_map spell (replies job.kind g.left tree repo)) from old new (spell Vanished) g.told t
     (λ tree repo pending rest p e. (pend_gone job.kind g.next (file_of g.next tree repo) g.left g.bytes h.full tree repo pending rest p e).1)
 
-pub gone_true : (from old new : Option Told) (job : Job) (k : Kept) (h : Hearing) → Goes from old job k h → TakesFront old new (spell Vanished) → IsSteadyWorker from → (h.count ≡ 0) × IsOfTree job h.item
+pub gone_true : (from old new : Option Told) (job : Job) (k : Kept) (h : Hearing) → Goes from old job k h → TakesFront old new (spell Vanished) → IsHonest from → (h.count ≡ 0) × IsOfTree job h.item
 gone_true from old new job k h g t w =
     let all = tells_where (λ tree repo pending. IsPending job.kind g.next (file_of g.next tree repo) g.left g.bytes h.full tree repo pending) (λ tree repo. IsNextGone g.next (file_of g.next tree repo) g.bytes) from old new (spell Vanished) g.told t
     (λ tree repo pending rest p e. (pend_gone job.kind g.next (file_of g.next tree repo) g.left g.bytes h.full tree repo pending rest p e).0) in
-    let one = (worker_has from (λ tree repo. IsNextGone g.next (file_of g.next tree repo) g.bytes) all w).2 in
+    let one = (honest_has from (λ tree repo. IsNextGone g.next (file_of g.next tree repo) g.bytes) all w).2 in
     (g.count ∙ ap length one.none, is_next (λ i. i.root ≡ Tree) job h.item g.next (next_at from old job k h g) one.root)
 
 -- an item that can't be read is absent from the repository
@@ -339,6 +339,71 @@ unread_by from old new job k h i g t e =
 -- a steady worker is heard
 pub reply_offered : (from : Option Told) (s : LinkState) (job : Job) (k : Kept) (h : Hearing) → Goes from s.told job k h → FitsJob job → IsSteadyWorker from → OffersReply s
 reply_offered from s job k h g f w = worker_offers from s job.kind g.next g.left g.bytes h.full (next_fits from s.told job k h g f).size g.told w
+
+reply_begins : (from : Option Told) (s : LinkState) (job : Job) (k : Kept) (h : Hearing) → Goes from s.told job k h → FitsJob job → IsHonest from → BeginsReply s
+reply_begins from s job k h g f w = honest_begins from s job.kind g.next g.left g.bytes h.full (next_fits from s.told job k h g f).size g.told w
+
+-- a cause that isn't an honest link's
+pub blames : (c : LostCause) (from : Option Told) → ¬ IsHonest from → Blames c from
+blames causes.Device from n = tt
+blames (causes.Ended at) from n = tt
+blames (causes.Form at) from n = n
+blames (causes.Sum told found) from n = n
+
+blames_form : (c : LostCause) (from : Option Told) (P : Type 0) → FormRefutes (hears.Lost c) P → (IsHonest from → P) → Blames c from
+blames_form causes.Device from P r by = tt
+blames_form (causes.Ended at) from P r by = tt
+blames_form (causes.Form at) from P r by = λ w. r (by w)
+blames_form (causes.Sum told found) from P r by = λ w. r (by w)
+
+-- a frame that wasn't heard of a link in its reply
+pub reply_blames : (e : HearFault) (c : LostCause) (from : Option Told) (s : LinkState) (job : Job) (k : Kept) (h : Hearing) → e ≡ hears.Lost c → FormRefutes e (BeginsReply s) → Goes from s.told job k h → FitsJob job → Blames c from
+reply_blames e c from s job k h q r g f = blames_form c from (BeginsReply s) (subst (λ x. FormRefutes x (BeginsReply s)) q r) (reply_begins from s job k h g f)
+
+-- ---- how many bytes were heard
+
+pub part_length : (v : Text) → 5 + length v ≡ length (spell (Part v))
+part_length v = omega arith
+
+pub end_length : (n : ℕ) (sum : Text) → length sum ≡ 20 → 33 ≡ length (spell (End n sum))
+end_length n sum e = omega (arith, e)
+
+pub counts_as : (r : Result Verdict TakeFault) (before after a b : ℕ) → a ≡ b → IfOk r (λ v. CountsFrame v before a after) → IfOk r (λ v. CountsFrame v before b after)
+counts_as r before after a b e h = subst (λ n. IfOk r (λ v. CountsFrame v before n after)) e h
+
+either_counts : (b : Bool) (before size after : ℕ) → after ≡ min (before + size) (2 ^ 64 - 1) → CountsFrame (if b then verdicts.Ended else verdicts.More) before size after
+either_counts true before size after h = h
+either_counts false before size after h = h
+
+pub ended_counts : (job : Job) (item before size after : ℕ) (v : Verdict) → v ≡ after_end job item → after ≡ min (before + size) (2 ^ 64 - 1) → CountsFrame v before size after
+ended_counts job item before size after v e h = subst (λ x. CountsFrame x before size after) (sym e) (either_counts (item + 1 == length job.items) before size after h)
+
+pub cause_counts : (c : LostCause) (before size heard after : ℕ) → IsOfFrame c heard → heard ≡ min (before + size) (2 ^ 64 - 1) → after ≡ heard → CountsFrame (verdicts.Lost c) before size after
+cause_counts causes.Device before size heard after h e f = absurd h
+cause_counts (causes.Ended at) before size heard after h e f = absurd h
+cause_counts (causes.Form at) before size heard after h e f = h ∙ e
+cause_counts (causes.Sum told found) before size heard after h e f = f ∙ e
+
+verdict_heard : (v : Verdict) (before after : ℕ) (old new : LinkState) (bytes : Text) → Takes old new bytes → CountsFrame v before (length bytes) after → HeardOf v before after old new
+verdict_heard verdicts.More before after old new bytes t c = record { bytes = bytes; takes = t; count = c }
+verdict_heard verdicts.Ended before after old new bytes t c = record { bytes = bytes; takes = t; count = c }
+verdict_heard (verdicts.Lost causes.Device) before after old new bytes t c = absurd c
+verdict_heard (verdicts.Lost (causes.Ended at)) before after old new bytes t c = absurd c
+verdict_heard (verdicts.Lost (causes.Form at)) before after old new bytes t c = record { bytes = bytes; takes = t; count = c }
+verdict_heard (verdicts.Lost (causes.Sum told found)) before after old new bytes t c = record { bytes = bytes; takes = t; count = c }
+
+pub heard_counts : (r : Result Verdict TakeFault) (before after : ℕ) (old new : LinkState) (bytes : Text) → Takes old new bytes → IfOk r (λ v. CountsFrame v before (length bytes) after) → IfOk r (λ v. HeardOf v before after old new)
+heard_counts (Ok v) before after old new bytes t h = verdict_heard v before after old new bytes t h
+heard_counts (Err e) before after old new bytes t h = tt
+
+cause_heard : (c : LostCause) (before after : ℕ) (old new : LinkState) → CauseHolds c before old new → HeardOf (verdicts.Lost c) before after old new
+cause_heard causes.Device before after old new h = h
+cause_heard (causes.Ended at) before after old new h = h
+cause_heard (causes.Form at) before after old new h = h
+cause_heard (causes.Sum told found) before after old new h = absurd h
+
+pub lost_heard : (e : HearFault) (c : LostCause) (before after : ℕ) (old new : LinkState) → e ≡ hears.Lost c → FaultLeaves e before old new → HeardOf (verdicts.Lost c) before after old new
+lost_heard e c before after old new q h = cause_heard c before after old new (subst (λ x. FaultLeaves x before old new) q h)
 
 -- ---- what the clauses of the functions say together
 

@@ -7,7 +7,7 @@ ghost use Rattle.pgb_frame.specs.Views.{job_of};
 ghost use Rattle.pgb_keep.specs.KeepState.{Kept};
 ghost use Rattle.pgb_hear.specs.Hears.{IsHeard, frame_of};
 ghost use Rattle.pgb_hear.specs.Takes.{TakesFront};
-ghost use Rattle.pgb_reply.specs.Going.{At, IsAt, VerdictHolds, FaultHolds, IsUnread, KeepsCounts, after_end};
+ghost use Rattle.pgb_reply.specs.Going.{At, IsAt, VerdictHolds, FaultHolds, IsUnread, KeepsCounts, CountsFrame, HeardOf, after_end};
 
 use crate::checks::{end_fault, may_be_absent, may_follow};
 use crate::fault::TakeFault;
@@ -46,6 +46,7 @@ fn take_part<W, K: Keep<W>>(
     ensures later { K.later keep.old on.old keep.new on.new }
     ensures verdict { IfOk result (λ v. (from old new : Option Told) (k : Kept) → At from old (job_of job.now) number hearing.old (K.kept keep.old on.old) k → TakesFront old new (spell (Part bytes.now))
         → VerdictHolds v from new (job_of job.now) number hearing.new k (K.kept keep.old on.old) (K.kept keep.new on.new)) }
+    ensures counts { IfOk result (λ v. CountsFrame v hearing.old.heard (5 + length bytes.now) hearing.new.heard) }
     ensures fault { IfErr result (λ e. (from : Option Told) → FaultHolds e from (job_of job.now) hearing.old.item (K.kept keep.old on.old) (K.kept keep.new on.new)) }
     ensures kept { IfErr result (λ e. ¬ IsUnread e) }
 {
@@ -73,6 +74,7 @@ fn take_end<W, K: Keep<W>>(
     ensures later { K.later keep.old on.old keep.new on.new }
     ensures verdict { IfOk result (λ v. (from old new : Option Told) (k : Kept) → At from old (job_of job.now) number hearing.old (K.kept keep.old on.old) k → TakesFront old new (spell (End length sum.0))
         → VerdictHolds v from new (job_of job.now) number hearing.new k (K.kept keep.old on.old) (K.kept keep.new on.new)) }
+    ensures counts { IfOk result (λ v. CountsFrame v hearing.old.heard 33 hearing.new.heard) }
     ensures fault { IfErr result (λ e. (from : Option Told) → FaultHolds e from (job_of job.now) hearing.old.item (K.kept keep.old on.old) (K.kept keep.new on.new)) }
     ensures kept { IfErr result (λ e. ¬ IsUnread e) }
 {
@@ -100,6 +102,7 @@ fn take_absent<W, K: Keep<W>>(
     ensures later { K.later keep.old on.old keep.new on.new }
     ensures verdict { IfOk result (λ v. (from old new : Option Told) (k : Kept) → At from old (job_of job.now) number hearing.old (K.kept keep.old on.old) k → TakesFront old new (spell Vanished)
         → VerdictHolds v from new (job_of job.now) number hearing.new k (K.kept keep.old on.old) (K.kept keep.new on.new)) }
+    ensures counts { IfOk result (λ v. CountsFrame v hearing.old.heard 5 hearing.new.heard) }
     ensures fault { IfErr result (λ e. (from : Option Told) → FaultHolds e from (job_of job.now) hearing.old.item (K.kept keep.old on.old) (K.kept keep.new on.new)) }
     ensures kept { IfErr result (λ e. ¬ IsUnread e) }
 {
@@ -128,6 +131,7 @@ fn take_frame<W, K: Keep<W>>(
     ensures later { K.later keep.old on.old keep.new on.new }
     ensures verdict { IfOk result (λ v. (from old new : Option Told) (k : Kept) → At from old (job_of job.now) number hearing.old (K.kept keep.old on.old) k → TakesFront old new (spell (frame_of frame))
         → VerdictHolds v from new (job_of job.now) number hearing.new k (K.kept keep.old on.old) (K.kept keep.new on.new)) }
+    ensures counts { IfOk result (λ v. CountsFrame v hearing.old.heard (length (spell (frame_of frame))) hearing.new.heard) }
     ensures fault { IfErr result (λ e. (from old new : Option Told) (k : Kept) → At from old (job_of job.now) number hearing.old (K.kept keep.old on.old) k → TakesFront old new (spell (frame_of frame))
         → FaultHolds e from (job_of job.now) hearing.old.item (K.kept keep.old on.old) (K.kept keep.new on.new)) }
     ensures unread { IfErr result (λ e. IsUnread e → frame_of frame ≡ Unread) }
@@ -156,6 +160,8 @@ pub fn hear_reply<L: Link, W, K: Keep<W>>(
     ensures verdict { IfOk result (λ v. (from : Option Told) (k : Kept) → At from (L.link_state link.old).told (job_of job.now) number hearing.old (K.kept keep.old on.old) k
         → VerdictHolds v from (L.link_state link.new).told (job_of job.now) number hearing.new k (K.kept keep.old on.old) (K.kept keep.new on.new)) }
     ensures counts { IfOk result (λ v. KeepsCounts v (L.link_state link.old) (L.link_state link.new)) }
+    // How many bytes of the reply are heard, and why the link is lost.
+    ensures heard { IfOk result (λ v. HeardOf v hearing.old.heard hearing.new.heard (L.link_state link.old) (L.link_state link.new)) }
     ensures fault { IfErr result (λ e. (from : Option Told) (k : Kept) → At from (L.link_state link.old).told (job_of job.now) number hearing.old (K.kept keep.old on.old) k
         → FaultHolds e from (job_of job.now) hearing.old.item (K.kept keep.old on.old) (K.kept keep.new on.new)) }
     // After Unread the last five bytes that the link gave are that frame.

@@ -1,7 +1,7 @@
 use Rattle.std.proofs.Common.{map, refl}
 use Rattle.pgb_frame.specs.Views.{job_of}
 use Rattle.pgb_dispatch.specs.Run.{state, fresh, begun}
-use Rattle.pgb_dispatch.proofs.Whole.{going_start, begun_of, run_fault_each, going_each}
+use Rattle.pgb_dispatch.proofs.Whole.{going_start, begun_of, run_fault_each, going_each, give_told, run_told}
 use Rattle.pgb_dispatch.proofs.running.run_seats.Goals as goal
 
 pub give_all-requires-clause-runs : goal.give_all-requires-clause-runs
@@ -19,3 +19,9 @@ returns-clause-going g c = going_each c.run.result (map job_of c.args.jobs.now) 
 
 pub returns-clause-fault : goal.returns-clause-fault
 returns-clause-fault g c = run_fault_each c.run.result (map job_of c.args.jobs.now) (state g.L.Link.link_state c.args.core.now c.args.seats.now.items c.args.hears.now.items (g.K.Keep.kept c.args.keep.now c.args.on.now) c.args.lost.now.items) (state g.L.Link.link_state c.give_all.new.core c.give_all.new.seats.items c.give_all.new.hears.items (g.K.Keep.kept c.give_all.new.keep c.give_all.new.on) c.give_all.new.lost.items) (state g.L.Link.link_state c.run.new.core c.run.new.seats.items c.run.new.hears.items (g.K.Keep.kept c.run.new.keep c.run.new.on) c.run.new.lost.items) c.in_ok-give_all.ensures.going c.in_ok-give_all.ensures.idle c.in_ok-give_all.ensures.gave.faults c.run.ensures.fault
+
+pub returns-in_err-give_all-clause-told : goal.returns-in_err-give_all-clause-told
+returns-in_err-give_all-clause-told g c = give_told (map job_of c.args.jobs.now) c.requires.starts.0 (state g.L.Link.link_state c.args.core.now c.args.seats.now.items c.args.hears.now.items (g.K.Keep.kept c.args.keep.now c.args.on.now) c.args.lost.now.items) c.give_all.new.lost.items c.requires.starts.1 c.in_err-give_all.ensures.told
+
+pub returns-clause-told : goal.returns-clause-told
+returns-clause-told g c = run_told c.run.result (map job_of c.args.jobs.now) c.requires.starts.0 (state g.L.Link.link_state c.args.core.now c.args.seats.now.items c.args.hears.now.items (g.K.Keep.kept c.args.keep.now c.args.on.now) c.args.lost.now.items) (state g.L.Link.link_state c.give_all.new.core c.give_all.new.seats.items c.give_all.new.hears.items (g.K.Keep.kept c.give_all.new.keep c.give_all.new.on) c.give_all.new.lost.items) (state g.L.Link.link_state c.run.new.core c.run.new.seats.items c.run.new.hears.items (g.K.Keep.kept c.run.new.keep c.run.new.on) c.run.new.lost.items) c.requires.starts.1 c.in_ok-give_all.ensures.going c.in_ok-give_all.ensures.idle c.run.ensures.going c.run.ensures.told

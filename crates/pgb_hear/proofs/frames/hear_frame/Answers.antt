@@ -4,7 +4,7 @@ use Rattle.std.specs.Int.{w32, w64, to_be_bytes}
 use Rattle.pgb_hear.specs.Takes.{Takes, Refutes, OffersMany}
 use Rattle.pgb_hear.specs.Hears.{is_head}
 use Rattle.pgb_hear.proofs.Fronts.{lost_after, steady_after}
-use Rattle.pgb_hear.proofs.Heads.{takes_frame, body_offered, head_refuted, end_head}
+use Rattle.pgb_hear.proofs.Heads.{takes_frame, body_offered, head_refuted, form_refuted, end_head}
 use Rattle.pgb_hear.proofs.frames.hear_frame.Goals as goal
 
 pub returns-then-not-is_head-clause-steady : goal.returns-then-not-is_head-clause-steady
@@ -47,3 +47,9 @@ returns-in_ok-length-in-69-clause-takes g c =
     let head : Takes (g.L.Link.link_state c.args.link.now) (g.L.Link.link_state c.hear_head.new.link) (69 ∷ to_be_bytes w32 c.in_ok-kind.length) = subst (λ k. Takes (g.L.Link.link_state c.args.link.now) (g.L.Link.link_state c.hear_head.new.link) (k ∷ to_be_bytes w32 c.in_ok-kind.length)) c.in-69.is c.in_ok-kind.ensures.takes in
     let sum : length c.in_ok-length-in-69.sum.0 ≡ 20 = search rules in
     takes_frame _ _ _ 69 c.in_ok-kind.length (to_be_bytes w64 c.in_ok-length-in-69.length ++ c.in_ok-length-in-69.sum.0) head c.in_ok-length-in-69.ensures.takes (let n : length (to_be_bytes w64 c.in_ok-length-in-69.length ++ c.in_ok-length-in-69.sum.0) ≡ 28 = omega (arith, sum) in n ∙ sym size)
+
+pub returns-then-not-is_head-clause-form : goal.returns-then-not-is_head-clause-form
+returns-then-not-is_head-clause-form g c =
+    let small : c.in_ok-kind.length < 2 ^ 32 = search rules in
+    let other : is_head c.in_ok-kind.kind c.in_ok-kind.length ≡ false = search rules in
+    form_refuted _ _ c.in_ok-kind.kind c.in_ok-kind.length small c.in_ok-kind.ensures.takes other
