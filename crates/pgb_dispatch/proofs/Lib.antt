@@ -6,3 +6,4 @@ pub mod Given
 pub mod Turns
 pub mod Whole
 pub mod Setting
+pub mod Untold

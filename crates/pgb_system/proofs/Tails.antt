@@ -1,5 +1,5 @@
 -- The last bytes of two texts.
-use Rattle.std.proofs.Common.{ℕ, zero, suc, ◌≡◌, ◌≤◌, ◌<◌, ◌+◌, ◌-◌, ◌⊎◌, inl, inr, List, ◌∷◌, [], ◌++◌, length, take, drop, ap, sym, refl, ◌∙◌, arith, length-append, length-drop, append_assoc}
+use Rattle.std.proofs.Common.{ℕ, zero, suc, ◌≡◌, ◌<◌, ◌+◌, ◌-◌, List, ◌∷◌, [], ◌++◌, length, take, drop, ap, sym, refl, ◌∙◌, arith, length-append, length-drop, append_assoc}
 use Rattle.std.proofs.Math.ListN.{get_or}
 use Rattle.std.proofs.lemmas.Grind.{take_at_read}
 use Rattle.std.proofs.Math.Seq.{drop-append_seam, drop-append-add, take-length}

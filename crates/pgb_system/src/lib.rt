@@ -4,8 +4,10 @@
 mod faults;
 mod link;
 mod pieces;
+mod scratch;
 mod tail;
 
 pub use faults::Faults;
 pub use link::RealLink;
 pub use pieces::read_some;
+pub use scratch::Scratch;

@@ -1,7 +1,7 @@
 // The repository, on the system's files.
 ghost use Rattle.std.specs.Prelude.{◌≡◌, None, false, string_bytes};
 
-use crate::faults::Faults;
+use pgb_system::Faults;
 use crate::handles::Handles;
 use crate::place::{Place, no_memory};
 use crate::settle::{Settled, settle};

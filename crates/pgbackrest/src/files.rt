@@ -1,7 +1,7 @@
 // The files that a worker reads, on the system's files.
 ghost use Rattle.std.specs.Prelude.{◌≡◌, ◌<◌, ◌≤◌, ◌+◌, ◌^◌, None, IfOk, IfSome, length, string_bytes};
 
-use crate::faults::Faults;
+use pgb_system::Faults;
 use crate::handles::Handles;
 use crate::place::Place;
 use pgb_outside::{Files, Stop};

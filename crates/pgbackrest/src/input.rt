@@ -1,7 +1,7 @@
 // The standard input.
 ghost use Rattle.std.specs.Prelude.{◌≡◌, ◌≤◌, [], None, IfOk, length};
 
-use crate::faults::Faults;
+use pgb_system::Faults;
 use pgb_outside::{Source, Stop};
 use std::io;
 use std::io::{ErrorKind, Read};

@@ -1,8 +1,8 @@
 // The configuration file, on the system's files.
 ghost use Rattle.std.specs.Prelude.{◌≡◌, None, OnOk, string_bytes};
 
-use crate::faults::Faults;
-use crate::pieces::read_some;
+use pgb_system::Faults;
+use pgb_system::read_some;
 use crate::place::unless_absent;
 use pgb_outside::{Source, Stop};
 use std::fs::File;
@@ -78,7 +78,7 @@ fn open_file(rt: &HostRuntime, path: &str) -> io::Result<Option<File>> {
 #[cfg(test)]
 mod tests {
     use super::*;
-    use crate::scratch::Scratch;
+    use pgb_system::Scratch;
     use std::test::Fail;
 
     const FILL: &'static str = "printf '[global]' >conf; ln -s conf link; ln -s none dead

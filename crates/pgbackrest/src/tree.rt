@@ -2,7 +2,7 @@
 ghost use Rattle.std.specs.Prelude.{◌≡◌, ◌≤◌, None, IfOk, IfSome, length, string_bytes};
 ghost use Rattle.pgb_outside.specs.Tree.{known_path};
 
-use crate::faults::Faults;
+use pgb_system::Faults;
 use crate::handles::Handles;
 use crate::place::Place;
 use crate::walk::nodes_below;

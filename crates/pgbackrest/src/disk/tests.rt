@@ -1,6 +1,6 @@
 // The disk's calls on a folder of the system.
 use super::RealDisk;
-use crate::scratch::Scratch;
+use pgb_system::Scratch;
 use pgb_outside::{Disk, Stop};
 use std::test::Fail;
 

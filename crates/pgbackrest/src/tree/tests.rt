@@ -1,6 +1,6 @@
 // The calls of a data folder on a folder of the system.
 use super::RealTree;
-use crate::scratch::Scratch;
+use pgb_system::Scratch;
 use pgb_outside::{Known, Node, Stop, Tree};
 use std::test::Fail;
 

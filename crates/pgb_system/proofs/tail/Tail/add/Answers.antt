@@ -1,4 +1,4 @@
-use Rattle.std.proofs.Common.{rules, arith}
+use Rattle.std.proofs.Common.{rules}
 use Rattle.pgb_system.specs.Tail.{tail_of}
 use Rattle.pgb_system.proofs.Tails.{five_turn, five_over}
 use Rattle.pgb_system.proofs.tail.Tail.add.Goals as goal
