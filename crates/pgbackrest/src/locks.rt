@@ -4,9 +4,9 @@ ghost use Rattle.pgb_outside.specs.Cause.{Rises};
 ghost use Rattle.pgb_outside.specs.Locking.{with_lock, without};
 ghost use Rattle.pgb_outside.specs.declared.locks.Take.TheVariants.{Held};
 
-use pgb_system::Faults;
 use crate::place::{FILE_MODE, make_folders, no_memory};
 use pgb_outside::{Locks, Stop, Take};
+use pgb_system::Faults;
 use std::fs::{File, OpenOptions, TryLockError};
 use std::io;
 use std::os::unix::fs::OpenOptionsExt;

@@ -102,7 +102,9 @@ fn workers(rt: HostRuntime) -> io::Result<Vec<Box<dyn Link>>> {
     for _ in 0..WORKERS {
         let words = vec![in alloc; String::from_str(alloc, LOCAL)?]?;
         let link = RealLink::new(rt, String::from_str(alloc, &program)?, words);
-        links.push(Box::new(alloc, link)?).map_err(place::no_memory)?;
+        links
+            .push(Box::new(alloc, link)?)
+            .map_err(place::no_memory)?;
     }
     Ok(links)
 }

@@ -1,10 +1,9 @@
 // The configuration file, on the system's files.
 ghost use Rattle.std.specs.Prelude.{◌≡◌, None, OnOk, string_bytes};
 
-use pgb_system::Faults;
-use pgb_system::read_some;
 use crate::place::unless_absent;
 use pgb_outside::{Source, Stop};
+use pgb_system::{Faults, read_some};
 use std::fs::File;
 use std::io::ErrorKind;
 use std::{fs, io};

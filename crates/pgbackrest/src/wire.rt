@@ -1,9 +1,8 @@
 // The connection to the server, on a Unix socket.
 ghost use Rattle.std.specs.Prelude.{◌≡◌, ◌≤◌, None, IfOk, OnOk, length, string_bytes};
 
-use pgb_system::Faults;
-use pgb_system::read_some;
 use pgb_outside::{Stop, Wire};
+use pgb_system::{Faults, read_some};
 use std::io;
 use std::io::{ErrorKind, Write};
 use std::os::unix::net::UnixStream;
