@@ -12,3 +12,4 @@ pub mod Placed
 pub mod OnePushed
 pub mod Receipts
 pub mod Waiting
+pub mod Putting

@@ -29,7 +29,7 @@ use Rattle.pgb_archive.specs.declared.looking.Kept.{Kept}
 use Rattle.pgb_archive.specs.declared.looking.Look.{Look}
 use Rattle.pgb_archive.specs.declared.looking.Look.TheVariants.{Free, One, Two}
 use Rattle.pgb_archive.specs.declared.names.FileNames.{FileNames}
-use Rattle.pgb_archive.specs.Stored.{archived_file, archive_path, StoresNone, StoresTwo, ChangesArchive}
+use Rattle.pgb_archive.specs.Stored.{archived_file, archive_path, StoresNone, StoresOnly, StoresTwo, ChangesArchive}
 use Rattle.pgb_archive.specs.Paths.{has_sum, folder_text}
 use Rattle.pgb_archive.specs.Causes.{IsFileOf, PushCause}
 use Rattle.pgb_archive.specs.Looks.{file_place, dash, sum_digits, path_with, AreNamesOf, Shows, ShowsOne, LookCause}
@@ -71,6 +71,10 @@ module _ (stanza : Text) (id : ArchiveId) (name : ArchiveName) (names : FileName
   pub shown_one : (o : Option Content) (look : Look) (kept : Kept) → look ≡ One kept → Told o names look → IfSome o (StoresSome stanza id name)
   shown_one None look kept is told = tt
   shown_one (Some f) look kept is told = let one : ShowsOne stanza id name f kept = subst (λ (l : Look). Shows stanza id name f l) is (told stanza id name of) in (kept.sum.0, one.only.stored)
+
+  pub shown_only : (o : Option Content) (look : Look) (kept : Kept) → look ≡ One kept → Told o names look → IfSome o (λ f. StoresOnly stanza id name f kept.sum.0)
+  shown_only None look kept is told = tt
+  shown_only (Some f) look kept is told = let one : ShowsOne stanza id name f kept = subst (λ (l : Look). Shows stanza id name f l) is (told stanza id name of) in one.only
 
   pub shown_two : (o : Option Content) (look : Look) (a b : _) → look ≡ Two a b → Told o names look → IfSome o (StoresSome stanza id name)
   shown_two None look a b is told = tt

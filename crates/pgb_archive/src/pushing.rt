@@ -1,11 +1,13 @@
 // A file is stored.
-ghost use Rattle.std.specs.Prelude.{◌≡◌, ◌⊎◌, ◌≤◌, ◌∷◌, [], false, Some, List, map, IfOk, IfErr, IfSome, IsSome, IsErrOf, OnOk, string_bytes};
+ghost use Rattle.std.specs.Prelude.{◌≡◌, ◌⊎◌, ◌≤◌, ◌∷◌, [], false, Some, List, map, IfOk, IfErr, IfSome, IsSome, IsErrOf, OnOk, option_map, string_bytes};
 ghost use Rattle.sha1.specs.Sha1.{sha1};
-ghost use Rattle.pgb_outside.specs.Content.{Name};
-ghost use Rattle.pgb_outside.specs.Moments.{Rests, is_loose};
+ghost use Rattle.pgb_outside.specs.Content.{Name, put, SameBut};
+ghost use Rattle.pgb_outside.specs.Moments.{Rests, Goes, is_loose};
 ghost use Rattle.pgb_outside.specs.Cause.{Rises};
 ghost use Rattle.pgb_outside.specs.Crash.{IsTemporary, Crash, Ends, NowGoes, FirstOf, AllOf};
 ghost use Rattle.pgb_disk.specs.Store.{LiesIn, ChangesOnly};
+ghost use Rattle.pgb_disk.specs.Staged.{staged_name};
+ghost use Rattle.pgb_disk.specs.Fault.{IsStop as IsStopped};
 ghost use Rattle.pgb_model.specs.Repository.{Stanza};
 ghost use Rattle.pgb_model.specs.Stands.{Stands};
 ghost use Rattle.pgb_model.specs.Now.{NowStands};
@@ -19,7 +21,7 @@ use crate::fault::ArchiveFault;
 use crate::looking::{Look, look_for};
 use crate::names::{FileNames, file_names};
 use crate::paths::has_sum;
-use pgb_disk::replace;
+use pgb_disk::{Staged, StoreFault, add_stage, end_stage, publish, start_stage};
 use pgb_model::{ArchiveId, ArchiveName};
 use pgb_outside::Disk;
 use pgb_text::Sum;
@@ -47,30 +49,79 @@ fn check_bytes(name: &ArchiveName, system: u64, bytes: &[u8]) -> Result<(), Arch
     Ok(())
 }
 
-// Puts the bytes at the file's path with this sum.
-fn put_at<D: Disk>(
+// Stages the bytes under a temporary name. They are summed before they are synced, so that the disk may write them meanwhile.
+fn stage_summed<D: Disk>(
+    alloc: Global,
+    d: &mut D,
+    temp: &str,
+    bytes: &[u8],
+) -> Result<(Staged, Sum), StoreFault>
+    ensures name { IfOk result (λ x. staged_name x.0 ≡ temp.now) }
+    ensures sum { IfOk result (λ x. x.1.0 ≡ sha1 bytes.now) }
+    ensures now { OnOk result ((D.view d.new).now ≡ option_map (put temp.now (Some bytes.now)) (D.view d.old).now) }
+    ensures others { SameBut temp.now (D.view d.old).now (D.view d.new).now }
+    ensures tight { OnOk result (is_loose (D.view d.new) temp.now ≡ false) }
+    ensures time { Goes (λ n _. n ≡ temp.now) (λ n. n ≡ temp.now) (D.view d.old) (D.view d.new) }
+    ensures place { D.place d.new ≡ D.place d.old }
+    ensures proper { D.misuses d.new ≡ D.misuses d.old }
+    ensures later { D.faults d.old ≤ D.faults d.new }
+    ensures cause { IsErrOf result StoreFault.Disk → Rises (D.faults d.old) (D.faults d.new) }
+    ensures refusals { IfErr result IsStopped }
+{
+    let mut staging = start_stage(alloc, d, temp)?;
+    add_stage(d, &mut staging, bytes)?;
+    let sum = Sum::of(bytes);
+    let staged = end_stage(d, staging)?;
+    Ok((staged, sum))
+}
+
+// Stages the bytes, and tells their path.
+fn stage_file<D: Disk>(
     alloc: Global,
     d: &mut D,
     names: &FileNames,
-    sum: &Sum,
     bytes: &[u8],
-) -> Result<(), ArchiveFault>
-    requires folder { (folder : Name) × LiesIn folder (string_bytes names.now.temporary) × LiesIn folder (path_with names.now sum.now.0) }
-    requires temporary { IsTemporary (string_bytes names.now.temporary) }
-    requires lasting { ¬ IsTemporary (path_with names.now sum.now.0) }
-    ensures crash { is_loose (D.view d.old) (path_with names.now sum.now.0) ≡ false → Crash (FirstOf ((path_with names.now sum.now.0, bytes.now) ∷ [])) (D.view d.old) (D.view d.new) }
-    ensures whole { OnOk result (is_loose (D.view d.old) (path_with names.now sum.now.0) ≡ false → Ends (AllOf ((path_with names.now sum.now.0, bytes.now) ∷ [])) (D.view d.old) (D.view d.new)) }
-    ensures now_part { NowGoes (FirstOf ((path_with names.now sum.now.0, bytes.now) ∷ [])) (D.view d.old).now (D.view d.new).now }
-    ensures now_whole { OnOk result (NowGoes (AllOf ((path_with names.now sum.now.0, bytes.now) ∷ [])) (D.view d.old).now (D.view d.new).now) }
-    ensures only { ChangesOnly (λ n. (n ≡ string_bytes names.now.temporary) ⊎ (n ≡ path_with names.now sum.now.0)) (D.view d.old) (D.view d.new) }
+) -> Result<(Staged, String), ArchiveFault>
+    ensures name { IfOk result (λ x. staged_name x.0 ≡ string_bytes names.now.temporary) }
+    ensures path { IfOk result (λ x. string_bytes x.1 ≡ path_with names.now (sha1 bytes.now)) }
+    ensures now { OnOk result ((D.view d.new).now ≡ option_map (put (string_bytes names.now.temporary) (Some bytes.now)) (D.view d.old).now) }
+    ensures others { SameBut (string_bytes names.now.temporary) (D.view d.old).now (D.view d.new).now }
+    ensures tight { OnOk result (is_loose (D.view d.new) (string_bytes names.now.temporary) ≡ false) }
+    ensures time { Goes (λ n _. n ≡ string_bytes names.now.temporary) (λ n. n ≡ string_bytes names.now.temporary) (D.view d.old) (D.view d.new) }
     ensures place { D.place d.new ≡ D.place d.old }
     ensures proper { D.misuses d.new ≡ D.misuses d.old }
     ensures later { D.faults d.old ≤ D.faults d.new }
     ensures cause { IsErrOf result ArchiveFault.Disk → Rises (D.faults d.old) (D.faults d.new) }
     ensures stops { IfErr result IsStop }
 {
-    let path = names.with_sum(alloc, sum)?;
-    replace(alloc, d, names.temporary.as_str(), path.as_str(), bytes)?;
+    let (staged, sum) = stage_summed(alloc, d, names.temporary.as_str(), bytes)?;
+    let path = names.with_sum(alloc, &sum)?;
+    Ok((staged, path))
+}
+
+// Puts the bytes at the file's path with their sum.
+fn put_new<D: Disk>(
+    alloc: Global,
+    d: &mut D,
+    names: &FileNames,
+    bytes: &[u8],
+) -> Result<(), ArchiveFault>
+    requires folder { (folder : Name) × LiesIn folder (string_bytes names.now.temporary) × LiesIn folder (path_with names.now (sha1 bytes.now)) }
+    requires temporary { IsTemporary (string_bytes names.now.temporary) }
+    requires lasting { ¬ IsTemporary (path_with names.now (sha1 bytes.now)) }
+    ensures crash { is_loose (D.view d.old) (path_with names.now (sha1 bytes.now)) ≡ false → Crash (FirstOf ((path_with names.now (sha1 bytes.now), bytes.now) ∷ [])) (D.view d.old) (D.view d.new) }
+    ensures whole { OnOk result (is_loose (D.view d.old) (path_with names.now (sha1 bytes.now)) ≡ false → Ends (AllOf ((path_with names.now (sha1 bytes.now), bytes.now) ∷ [])) (D.view d.old) (D.view d.new)) }
+    ensures now_part { NowGoes (FirstOf ((path_with names.now (sha1 bytes.now), bytes.now) ∷ [])) (D.view d.old).now (D.view d.new).now }
+    ensures now_whole { OnOk result (NowGoes (AllOf ((path_with names.now (sha1 bytes.now), bytes.now) ∷ [])) (D.view d.old).now (D.view d.new).now) }
+    ensures only { ChangesOnly (λ n. (n ≡ string_bytes names.now.temporary) ⊎ (n ≡ path_with names.now (sha1 bytes.now))) (D.view d.old) (D.view d.new) }
+    ensures place { D.place d.new ≡ D.place d.old }
+    ensures proper { D.misuses d.new ≡ D.misuses d.old }
+    ensures later { D.faults d.old ≤ D.faults d.new }
+    ensures cause { IsErrOf result ArchiveFault.Disk → Rises (D.faults d.old) (D.faults d.new) }
+    ensures stops { IfErr result IsStop }
+{
+    let (staged, path) = stage_file(alloc, d, names, bytes)?;
+    publish(d, staged, path.as_str())?;
     Ok(())
 }
 
@@ -114,18 +165,22 @@ pub fn push<D: Disk>(
     ensures later { D.faults d.old ≤ D.faults d.new }
 {
     check_bytes(name, system, bytes)?;
-    let sum = Sum::of(bytes);
     let names = file_names(alloc, stanza, *id, *name)?;
     match look_for(alloc, d, &names)? {
         Look::Free => {
-            put_at(alloc, d, &names, &sum, bytes)?;
+            put_new(alloc, d, &names, bytes)?;
             Ok(Pushed::New)
         }
-        Look::One(kept) if kept.sum == sum => Ok(Pushed::Same),
-        Look::One(kept) => Err(ArchiveFault::Duplicate {
-            kept: kept.sum,
-            found: sum,
-        }),
+        Look::One(kept) => {
+            let found = Sum::of(bytes);
+            if kept.sum == found {
+                return Ok(Pushed::Same);
+            }
+            Err(ArchiveFault::Duplicate {
+                kept: kept.sum,
+                found,
+            })
+        }
         Look::Two(first, second) => Err(ArchiveFault::Ambiguous { first, second }),
     }
 }

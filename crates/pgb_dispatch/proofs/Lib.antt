@@ -8,3 +8,4 @@ pub mod Given
 pub mod Turns
 pub mod Whole
 pub mod Setting
+pub mod Untold

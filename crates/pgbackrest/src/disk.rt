@@ -1,12 +1,12 @@
 // The repository, on the system's files.
 ghost use Rattle.std.specs.Prelude.{◌≡◌, None, false, string_bytes};
 
-use crate::faults::Faults;
 use crate::handles::Handles;
 use crate::place::{Place, no_memory};
 use crate::settle::{Settled, settle};
 use crate::walk::{folders_in, nodes_below};
 use pgb_outside::{Disk, Found, Node, Seen, Stop};
+use pgb_system::Faults;
 use std::alloc::Global;
 use std::io;
 use std::io::ErrorKind;

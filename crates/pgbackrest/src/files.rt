@@ -1,10 +1,10 @@
 // The files that a worker reads, on the system's files.
 ghost use Rattle.std.specs.Prelude.{◌≡◌, ◌<◌, ◌≤◌, ◌+◌, ◌^◌, None, IfOk, IfSome, length, string_bytes};
 
-use crate::faults::Faults;
 use crate::handles::Handles;
 use crate::place::Place;
 use pgb_outside::{Files, Stop};
+use pgb_system::Faults;
 use std::io;
 use std::io::ErrorKind;
 

@@ -13,6 +13,9 @@ struct Kept {
     file: File,
 }
 
+// So many bytes are worth that the disk begins to write them before they are synced.
+const MANY: usize = 1 << 20;
+
 /// No byte waits in it: what was appended went to the system.
 #[derive(Drop)]
 pub struct Handles {
@@ -40,17 +43,24 @@ impl Handles {
     /// Makes the name an empty file.
     pub fn begin(&mut self, place: &Place, name: &str) -> io::Result<()> {
         let file = place.create(name)?;
+        // Of a file that was cut to nothing ext4 and XFS begin to write the bytes as it is closed.
+        file.set_len(0)?;
         self.writing = Some(keep(place, name, file)?);
         Ok(())
     }
 
-    /// Adds bytes at the end of a file that is there.
+    /// Adds bytes at the end of a file that is there. After many it is closed, so that they are written while the program
+    /// goes on.
     pub fn append(&mut self, place: &Place, name: &str, bytes: &[u8]) -> io::Result<()> {
         self.reach_end(place, name)?;
         match &mut self.writing {
-            Some(kept) => kept.file.write_all(bytes),
-            None => Err(io::Error::from(ErrorKind::NotFound)),
+            Some(kept) => kept.file.write_all(bytes)?,
+            None => return Err(io::Error::from(ErrorKind::NotFound)),
         }
+        if bytes.len() >= MANY {
+            self.writing = None;
+        }
+        Ok(())
     }
 
     /// Makes the bytes durable of a file that is there.

@@ -1,8 +1,8 @@
 // The standard input.
 ghost use Rattle.std.specs.Prelude.{◌≡◌, ◌≤◌, [], None, IfOk, length};
 
-use crate::faults::Faults;
 use pgb_outside::{Source, Stop};
+use pgb_system::Faults;
 use std::io;
 use std::io::{ErrorKind, Read};
 

@@ -4,9 +4,9 @@ ghost use Rattle.pgb_outside.specs.Cause.{Rises};
 ghost use Rattle.pgb_outside.specs.Locking.{with_lock, without};
 ghost use Rattle.pgb_outside.specs.declared.locks.Take.TheVariants.{Held};
 
-use crate::faults::Faults;
 use crate::place::{FILE_MODE, make_folders, no_memory};
 use pgb_outside::{Locks, Stop, Take};
+use pgb_system::Faults;
 use std::fs::{File, OpenOptions, TryLockError};
 use std::io;
 use std::os::unix::fs::OpenOptionsExt;
@@ -100,7 +100,7 @@ fn open_lock(rt: &HostRuntime, folder: &str, name: &str) -> io::Result<File> {
 #[cfg(test)]
 mod tests {
     use super::*;
-    use crate::scratch::Scratch;
+    use pgb_system::Scratch;
     use std::test::Fail;
 
     // What a taking of one lock by a program of its own answers, with the counts of refusals and faults.

@@ -2,16 +2,12 @@
 #![tactic(auto)]
 
 mod disk;
-mod faults;
 mod files;
 mod handles;
 mod help;
 mod input;
 mod locks;
-mod pieces;
 mod place;
-#[cfg(test)]
-mod scratch;
 mod settle;
 mod sink;
 mod source;
@@ -28,6 +24,7 @@ use locks::RealLocks;
 use pgb_command::{Outside, run};
 use pgb_frame::serve;
 use pgb_outside::{Link, NotThere};
+use pgb_system::RealLink;
 use sink::RealSink;
 use source::RealSource;
 use std::io::ErrorKind;
@@ -42,6 +39,12 @@ const NOT_UTF8: u8 = 13;
 const NO_OUTPUT: u8 = 87;
 
 const NO_MEMORY: u8 = 90;
+
+// By which the program is a worker.
+const LOCAL: &'static str = "local";
+
+// A command uses at most so many workers.
+const WORKERS: usize = 64;
 
 fn main(rt: HostRuntime) -> ExitCode {
     let words = match words(&rt) {
@@ -59,9 +62,8 @@ fn main(rt: HostRuntime) -> ExitCode {
     }
 }
 
-// The program starts itself with this word.
 fn is_worker(words: &[String]) -> bool {
-    words.first().is_some_and(|word| word.as_str() == "local")
+    words.first().is_some_and(|word| word.as_str() == LOCAL)
 }
 
 // Serves the parent that started it, over standard input and output.
@@ -92,7 +94,25 @@ fn words(rt: &HostRuntime) -> io::Result<Vec<String>> {
     Ok(words)
 }
 
+// The workers that a command may use: this program, each started as it is sent its first frame.
+fn workers(rt: HostRuntime) -> io::Result<Vec<Box<dyn Link>>> {
+    let alloc = rt.alloc();
+    let program = env::args(&rt)?.next().unwrap_or(String::new(alloc));
+    let mut links: Vec<Box<dyn Link>> = Vec::new(alloc);
+    for _ in 0..WORKERS {
+        let words = vec![in alloc; String::from_str(alloc, LOCAL)?]?;
+        let link = RealLink::new(rt, String::from_str(alloc, &program)?, words);
+        links
+            .push(Box::new(alloc, link)?)
+            .map_err(place::no_memory)?;
+    }
+    Ok(links)
+}
+
 fn status_of(rt: HostRuntime, words: &[String]) -> u8 {
+    let Ok(mut links) = workers(rt) else {
+        return NO_MEMORY;
+    };
     let mut outside = Outside {
         repo: RealDisk::new(rt),
         spool: NotThere::new(),
@@ -104,7 +124,6 @@ fn status_of(rt: HostRuntime, words: &[String]) -> u8 {
         config: RealSource::new(rt),
         out: RealSink::new(rt),
     };
-    let mut links: Vec<Box<dyn Link>> = Vec::new(rt.alloc());
     let mut turns = RoundRobin::new();
     run(rt.alloc(), words, &mut outside, &mut links, &mut turns)
 }

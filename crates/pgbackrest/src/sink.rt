@@ -1,8 +1,8 @@
 // The standard output.
 ghost use Rattle.std.specs.Prelude.{◌≡◌, ◌<◌, ◌≤◌, None, IfOk, length};
 
-use crate::faults::Faults;
 use pgb_outside::{Sink, Stop};
+use pgb_system::Faults;
 use std::io;
 use std::io::{ErrorKind, Write};
 

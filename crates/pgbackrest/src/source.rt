@@ -1,10 +1,9 @@
 // The configuration file, on the system's files.
 ghost use Rattle.std.specs.Prelude.{◌≡◌, None, OnOk, string_bytes};
 
-use crate::faults::Faults;
-use crate::pieces::read_some;
 use crate::place::unless_absent;
 use pgb_outside::{Source, Stop};
+use pgb_system::{Faults, read_some};
 use std::fs::File;
 use std::io::ErrorKind;
 use std::{fs, io};
@@ -78,7 +77,7 @@ fn open_file(rt: &HostRuntime, path: &str) -> io::Result<Option<File>> {
 #[cfg(test)]
 mod tests {
     use super::*;
-    use crate::scratch::Scratch;
+    use pgb_system::Scratch;
     use std::test::Fail;
 
     const FILL: &'static str = "printf '[global]' >conf; ln -s conf link; ln -s none dead

@@ -2,11 +2,11 @@
 ghost use Rattle.std.specs.Prelude.{◌≡◌, ◌≤◌, None, IfOk, IfSome, length, string_bytes};
 ghost use Rattle.pgb_outside.specs.Tree.{known_path};
 
-use crate::faults::Faults;
 use crate::handles::Handles;
 use crate::place::Place;
 use crate::walk::nodes_below;
 use pgb_outside::{Known, Seen, Stop, Tree};
+use pgb_system::Faults;
 use std::alloc::{AllocError, Global};
 use std::io;
 

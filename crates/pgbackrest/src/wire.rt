@@ -1,9 +1,8 @@
 // The connection to the server, on a Unix socket.
 ghost use Rattle.std.specs.Prelude.{◌≡◌, ◌≤◌, None, IfOk, OnOk, length, string_bytes};
 
-use crate::faults::Faults;
-use crate::pieces::read_some;
 use pgb_outside::{Stop, Wire};
+use pgb_system::{Faults, read_some};
 use std::io;
 use std::io::{ErrorKind, Write};
 use std::os::unix::net::UnixStream;
@@ -74,7 +73,7 @@ impl Wire for RealWire {
 #[cfg(test)]
 mod tests {
     use super::*;
-    use crate::scratch::Scratch;
+    use pgb_system::Scratch;
     use std::io::Read;
     use std::os::unix::net::UnixListener;
     use std::test::Fail;

@@ -1,7 +1,7 @@
 // The disk's calls on a folder of the system.
 use super::RealDisk;
-use crate::scratch::Scratch;
 use pgb_outside::{Disk, Stop};
+use pgb_system::Scratch;
 use std::test::Fail;
 
 #[derive(Clone, Copy, Debug)]

@@ -1,7 +1,7 @@
 // The calls of a data folder on a folder of the system.
 use super::RealTree;
-use crate::scratch::Scratch;
 use pgb_outside::{Known, Node, Stop, Tree};
+use pgb_system::Scratch;
 use std::test::Fail;
 
 #[derive(Clone, Copy, Debug)]

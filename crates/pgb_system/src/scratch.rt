@@ -2,6 +2,7 @@
 use std::process::Command;
 use std::{env, fs, io, process};
 
+/// A folder among the system's temporary ones, with its path.
 #[derive(Drop)]
 pub struct Scratch {
     rt: HostRuntime,

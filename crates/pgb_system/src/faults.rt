@@ -1,5 +1,5 @@
 // How often an object of the system failed.
-ghost use Rattle.std.specs.Prelude.{◌≡◌, ◌≢◌, Result, Ok, Err, IfErr, IfOk, OnOk};
+ghost use Rattle.std.specs.Prelude.{◌≡◌, ◌≢◌, Result, Ok, Err, IfErr, IfOk, IsErrOf, OnOk};
 ghost use Rattle.std.specs.IoError.{error_kind};
 ghost use Rattle.pgb_outside.specs.Cause.{HasCause};
 
@@ -26,6 +26,7 @@ impl Faults {
         ensures memory { IfErr done (λ e. error_kind e ≡ ErrorKind.OutOfMemory → result ≡ Err Stop.NoMemory) }
         ensures failed { IfErr done (λ e. error_kind e ≢ ErrorKind.OutOfMemory → result ≡ Err Stop.Failed) }
         ensures same { OnOk done (self.new ≡ self.old) }
+        ensures uncounted { IsErrOf result Stop.NoMemory → self.new ≡ self.old }
         ensures cause { HasCause self.old.count self.new.count result }
     {
         match done {

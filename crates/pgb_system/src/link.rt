@@ -1,0 +1,141 @@
+// The connection to a worker process.
+ghost use Rattle.std.specs.Prelude.{◌≡◌, ◌≤◌, [], None, IfOk, IsErr, length, slice_get, if◌then◌else◌};
+ghost use Rattle.pgb_outside.specs.Links.{is_byte, is_job, is_read_job, bumped, SendLeaves, ReceiveLeaves};
+ghost use Rattle.pgb_system.specs.Tail.{tail_of};
+
+use crate::faults::Faults;
+use crate::pieces::read_some;
+use crate::tail::Tail;
+use pgb_outside::{Link, Stop};
+use std::io;
+use std::io::{ErrorKind, Write};
+use std::process::{Child, Command, Stdio};
+
+/// A worker process, which reads frames from its standard input and writes its replies to its standard output. It is started
+/// as the first frame is sent, and ends as its input does, when the link is let go. It tells nothing of its answers.
+#[derive(Drop)]
+pub struct RealLink {
+    rt: HostRuntime,
+    program: String,
+    words: Vec<String>,
+    child: Option<Child>,
+    jobs: u64,
+    reads: u64,
+    given: Tail,
+    faults: Faults,
+}
+
+fn has_byte(bytes: &[u8], at: usize, byte: u8) -> bool
+    ensures { result ≡ is_byte byte (slice_get bytes.now at) }
+{
+    match bytes.get(at) {
+        Some(&found) => found == byte,
+        None => false,
+    }
+}
+
+fn start(rt: &HostRuntime, program: &str, words: &[String]) -> io::Result<Child> {
+    let mut command = Command::new(rt.alloc(), program)?;
+    for word in words {
+        command.arg(word.as_str())?;
+    }
+    command.stdin(Stdio::piped());
+    command.stdout(Stdio::piped());
+    command.spawn(rt)
+}
+
+// No such pipe is there.
+fn broken<T>() -> io::Result<T>
+    ensures { IsErr result }
+{
+    Err(io::Error::from(ErrorKind::BrokenPipe))
+}
+
+impl RealLink {
+    /// A worker of this program, started with these words.
+    pub fn new(rt: HostRuntime, program: String, words: Vec<String>) -> Self
+        ensures program { result.program ≡ program }
+        ensures words { result.words ≡ words }
+        ensures counts { (result.jobs ≡ 0) × (result.reads ≡ 0) × (result.faults.count ≡ 0) }
+        ensures given { tail_of result.given ≡ [] }
+    {
+        RealLink {
+            rt,
+            program,
+            words,
+            child: None,
+            jobs: 0,
+            reads: 0,
+            given: Tail::new(),
+            faults: Faults::new(),
+        }
+    }
+
+    fn put(&mut self, frame: &[u8]) -> io::Result<()>
+        ensures { (self.new.jobs ≡ self.old.jobs) × (self.new.reads ≡ self.old.reads) × (self.new.given ≡ self.old.given) × (self.new.faults ≡ self.old.faults) }
+    {
+        if self.child.is_none() {
+            self.child = Some(start(&self.rt, self.program.as_str(), &self.words)?);
+        }
+        let Some(child) = &mut self.child else {
+            return broken();
+        };
+        match &mut child.stdin {
+            Some(input) => input.write_all(frame),
+            None => broken(),
+        }
+    }
+
+    fn take(&mut self, buf: &mut [u8]) -> io::Result<usize>
+        ensures room { IfOk result (λ n. n ≤ length buf.old) }
+        ensures same { (self.new.jobs ≡ self.old.jobs) × (self.new.reads ≡ self.old.reads) × (self.new.given ≡ self.old.given) × (self.new.faults ≡ self.old.faults) }
+    {
+        let Some(child) = &mut self.child else {
+            return broken();
+        };
+        match &mut child.stdout {
+            Some(output) => read_some(output, buf),
+            None => broken(),
+        }
+    }
+
+    // Counts a frame that was sent.
+    fn count(&mut self, frame: &[u8])
+        ensures jobs { self.new.jobs ≡ (if is_job frame.now then bumped self.old.jobs else self.old.jobs) }
+        ensures reads { self.new.reads ≡ (if is_read_job frame.now then bumped self.old.reads else self.old.reads) }
+        ensures same { (self.new.given ≡ self.old.given) × (self.new.faults ≡ self.old.faults) }
+    {
+        if has_byte(frame, 0, b'J') {
+            self.jobs = self.jobs.saturating_add(1);
+            if has_byte(frame, 5, b'R') {
+                self.reads = self.reads.saturating_add(1);
+            }
+        }
+    }
+}
+
+impl Link for RealLink {
+    ghost link_state = { λ l. record { faults = l.faults.count; jobs = l.jobs; reads = l.reads; given = tail_of l.given; told = None } };
+
+    fn send(&mut self, bytes: &[u8]) -> Result<(), Stop> {
+        let done = self.put(bytes);
+        match self.faults.told(done) {
+            Ok(()) => {
+                self.count(bytes);
+                Ok(())
+            }
+            Err(stop) => Err(stop),
+        }
+    }
+
+    fn receive(&mut self, buf: &mut [u8]) -> Result<usize, Stop> {
+        let done = self.take(buf);
+        match self.faults.told(done) {
+            Ok(n) => {
+                self.given.add(&buf[..n]);
+                Ok(n)
+            }
+            Err(stop) => Err(stop),
+        }
+    }
+}
