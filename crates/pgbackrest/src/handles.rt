@@ -58,7 +58,7 @@ impl Handles {
             None => return Err(io::Error::from(ErrorKind::NotFound)),
         }
         if bytes.len() >= MANY {
-            self.writing = None;
+            drop(self.writing.take());
         }
         Ok(())
     }

@@ -12,7 +12,8 @@ const FEW: usize = 8;
 struct Folder {
     path: String,
     device: u64,
-    may_hold_folders: bool,
+    // how many folders it holds, where the file system counts them; else many
+    held: u64,
 }
 
 /// The folders that were synced since a folder was made last: the folders in them have durable names.
@@ -47,11 +48,19 @@ impl Settled {
 
 /// The names below a folder lie in it, in the folders below it, and, where folders were made, in those that hold it.
 pub fn settle(place: &Place, settled: &mut Settled, folder: &str) -> io::Result<()> {
-    let folders = folders_of(place, settled, folder)?;
-    let is_synced = folders.len() > FEW
+    let mut folders = folders_above(place, settled, folder)?;
+    let first = folders.len();
+    add_folder(place, place.path_of(folder)?, &mut folders)?;
+    let mut next = add_folders_below(place, first, FEW, &mut folders)?;
+    if next < folders.len() && may_hold_file_systems(place) {
+        next = add_folders_below(place, next, usize::MAX, &mut folders)?;
+    }
+    let are_many = folders.len() > FEW || next < folders.len();
+    let is_synced = are_many
         && lie_on_one_device(&folders)
         && sync_file_system(place).unwrap_or(false);
     if !is_synced {
+        add_folders_below(place, next, usize::MAX, &mut folders)?;
         sync_each(place, &folders)?;
     }
     settled.note(folders)
@@ -64,8 +73,8 @@ fn sync_each(place: &Place, folders: &[Folder]) -> io::Result<()> {
     Ok(())
 }
 
-// The folders that hold the folder, up to the root, but for those that are settled; the folder itself and those below it.
-fn folders_of(place: &Place, settled: &Settled, folder: &str) -> io::Result<Vec<Folder>> {
+// The folders that hold the folder, up to the root, but for those that are settled.
+fn folders_above(place: &Place, settled: &Settled, folder: &str) -> io::Result<Vec<Folder>> {
     let mut folders = Vec::new(place.rt.alloc());
     let mut above = folder;
     for _ in 0..folder.len() {
@@ -76,9 +85,6 @@ fn folders_of(place: &Place, settled: &Settled, folder: &str) -> io::Result<Vec<
         above = outer;
     }
     add_above(place, settled, place.root.clone()?, &mut folders)?;
-    let first = folders.len();
-    add_folder(place, place.path_of(folder)?, &mut folders)?;
-    add_folders_below(place, first, &mut folders)?;
     Ok(folders)
 }
 
@@ -102,29 +108,38 @@ fn add_folder(place: &Place, path: String, folders: &mut Vec<Folder>) -> io::Res
     }
 }
 
-// A folder of two links, its own name and the dot in it, has no folder in it. Where a file system doesn't count so,
-// it tells one.
+// The links of a folder are its own name, the dot in it, and the two dots of each folder in it. Where a file system doesn't
+// count so, it tells one.
 fn push_folder(path: String, told: &Metadata, folders: &mut Vec<Folder>) -> io::Result<()> {
     let folder = Folder {
         path,
         device: told.dev(),
-        may_hold_folders: told.nlink() != 2,
+        held: told.nlink().checked_sub(2).unwrap_or(u64::MAX),
     };
     folders.push(folder).map_err(no_memory)
 }
 
-// Adds the folders below each folder from a place of the list on.
-fn add_folders_below(place: &Place, first: usize, folders: &mut Vec<Folder>) -> io::Result<()> {
+// Adds the folders below each folder from a place of the list on, until there are more than so many, and answers the place of
+// the next one to be looked at.
+fn add_folders_below(
+    place: &Place,
+    first: usize,
+    most: usize,
+    folders: &mut Vec<Folder>,
+) -> io::Result<usize> {
     for at in first..usize::MAX {
         let Some(next) = folders.get(at) else {
-            break;
+            return Ok(at);
         };
-        if next.may_hold_folders {
+        if next.held > 0 {
+            if (folders.len() as u64).saturating_add(next.held) > most as u64 {
+                return Ok(at);
+            }
             let path = next.path.clone()?;
             add_folders_in(place, &path, folders)?;
         }
     }
-    Ok(())
+    Ok(usize::MAX)
 }
 
 fn add_folders_in(place: &Place, path: &str, folders: &mut Vec<Folder>) -> io::Result<()> {
@@ -148,6 +163,34 @@ fn lie_on_one_device(folders: &[Folder]) -> bool {
     match folders.first() {
         Some(first) => folders.iter().all(|folder| folder.device == first.device),
         None => true,
+    }
+}
+
+// Whether another file system may lie below the root: only where the system tells all that are mounted, and none of them does,
+// it doesn't.
+fn may_hold_file_systems(place: &Place) -> bool {
+    mounted_below(place).unwrap_or(true)
+}
+
+fn mounted_below(place: &Place) -> io::Result<bool> {
+    let root = fs::canonicalize(&place.rt, place.root.as_str())?;
+    let mounts = fs::read_to_string(&place.rt, "/proc/self/mountinfo")?;
+    Ok(
+        mounts
+            .lines()
+            .any(|line| may_lie_below(line, root.as_path().as_str())),
+    )
+}
+
+// The fifth word of a line is where the file system is mounted. Blanks and the like are spelled otherwise in it.
+fn may_lie_below(line: &str, root: &str) -> bool {
+    let is_plain = root.bytes().all(|b| b > b' ' && b != b'\\');
+    match line.split(' ').nth(4) {
+        Some(point) if is_plain => match point.strip_prefix(root) {
+            Some(rest) => root == "/" || rest.starts_with('/'),
+            None => false,
+        },
+        _ => true,
     }
 }
 
