@@ -50,12 +50,12 @@ fn run_links<L: Link, W, U: Turns, K: Keep<W>>(
     // Each job has ended once, with what the link that ended it read.
     ensures done { OnOk result (AllDone (map job_of jobs.now) (map L.link_state links.old.items) (K.kept keep.new on.new).kept) }
     // The links that weren't lost are left, idle, each with as many new jobs as it may have. Each of the others is told, and no steady worker is.
-    ensures left { OnOk result (Left (length jobs.now) (map L.link_state links.old.items) lost.old.items lost.new.items (map L.link_state links.new.items)) }
+    ensures left { OnOk result (Left (map job_of jobs.now) (map L.link_state links.old.items) lost.old.items lost.new.items (map L.link_state links.new.items)) }
     ensures some { OnOk result (0 < length links.old.items → 0 < length links.new.items) }
     // Where no link could be lost, the counts of read jobs rose by just these jobs.
     ensures reads { OnOk result (ReadsRise (map job_of jobs.now) (map L.link_state links.old.items) (map L.link_state links.new.items)) }
     // Whatever comes of it, no entry is taken away, and each further one is of a link that isn't a steady worker.
-    ensures told { AddsLosses (map L.link_state links.old.items) lost.old.items lost.new.items }
+    ensures told { AddsLosses (map job_of jobs.now) (map L.link_state links.old.items) lost.old.items lost.new.items }
     ensures fault { IfErr result (λ e. JobsFault (map job_of jobs.now) e (map L.link_state links.old.items) lost.old.items lost.new.items (K.kept keep.old on.old).faults (K.kept keep.new on.new).faults (map L.link_state links.new.items)) }
 {
     let mut core = Core::new(alloc, jobs.len() as u32, links.len() as u32)?;
@@ -110,12 +110,12 @@ pub fn run_jobs<L: Link, W, U: Turns, K: Keep<W>>(
     // Where all links read the same files, each item of each job ended as its file stands.
     ensures payload { OnOk result (AllByFile (map job_of jobs.now) (map L.link_state links.old.items) (K.kept keep.new on.new).kept) }
     // The links that weren't lost are left, idle, each with as many new jobs as it may have. Each of the others is told, and no steady worker is.
-    ensures left { OnOk result (Left (length jobs.now) (map L.link_state links.old.items) lost.old.items lost.new.items (map L.link_state links.new.items)) }
+    ensures left { OnOk result (Left (map job_of jobs.now) (map L.link_state links.old.items) lost.old.items lost.new.items (map L.link_state links.new.items)) }
     ensures some { OnOk result (0 < length links.old.items → 0 < length links.new.items) }
     // Where no link could be lost, the counts of read jobs rose by just these jobs.
     ensures reads { OnOk result (ReadsRise (map job_of jobs.now) (map L.link_state links.old.items) (map L.link_state links.new.items)) }
     // Whatever comes of it, no entry is taken away, and each further one is of a link that isn't a steady worker.
-    ensures told { AddsLosses (map L.link_state links.old.items) lost.old.items lost.new.items }
+    ensures told { AddsLosses (map job_of jobs.now) (map L.link_state links.old.items) lost.old.items lost.new.items }
     ensures fault { IfErr result (λ e. JobsFault (map job_of jobs.now) e (map L.link_state links.old.items) lost.old.items lost.new.items (K.kept keep.old on.old).faults (K.kept keep.new on.new).faults (map L.link_state links.new.items)) }
     ensures refused { IfErr result (λ e. IsUnread e ⊎ (links.new.items ≡ [])) }
 {

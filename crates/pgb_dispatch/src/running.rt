@@ -104,7 +104,7 @@ pub(crate) fn run_seats<L: Link, W, U: Turns, K: Keep<W>>(
     ensures going { OnOk result ((links : List LinkState) → Starts (map job_of jobs.now) links (state L.link_state core.old seats.old.items hears.old.items (K.kept keep.old on.old) lost.old.items) → Going (map job_of jobs.now) (begun links lost.old.items) (state L.link_state core.new seats.new.items hears.new.items (K.kept keep.new on.new) lost.new.items)) }
     ensures over { OnOk result (AllEnded core.new.jobs × NoneBusy core.new) }
     ensures fault { IfErr result (λ e. (links : List LinkState) → Starts (map job_of jobs.now) links (state L.link_state core.old seats.old.items hears.old.items (K.kept keep.old on.old) lost.old.items) → SeatsLeave (map job_of jobs.now) links lost.old.items (K.kept keep.old on.old).faults e (state L.link_state core.new seats.new.items hears.new.items (K.kept keep.new on.new) lost.new.items)) }
-    ensures told { AddsLosses (somes (map (option_map L.link_state) seats.old.items)) lost.old.items lost.new.items }
+    ensures told { AddsLosses (map job_of jobs.now) (somes (map (option_map L.link_state) seats.old.items)) lost.old.items lost.new.items }
 {
     give_all(alloc, jobs, seats, core, hears, keep, on, lost)?;
     run(alloc, jobs, seats, core, hears, turns, keep, on, lost)
