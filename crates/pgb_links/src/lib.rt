@@ -3,9 +3,13 @@
 
 mod failing;
 mod keep;
+mod mem;
 mod raw;
+mod tape;
 mod turns;
+mod worker;
 
 pub use keep::{Ended, MemKeep};
+pub use mem::MemLink;
 pub use raw::RawLink;
 pub use turns::MemTurns;
