@@ -3,6 +3,7 @@
 
 mod failing;
 mod keep;
+mod meet;
 mod mem;
 mod raw;
 mod tape;
@@ -10,6 +11,7 @@ mod turns;
 mod worker;
 
 pub use keep::{Ended, MemKeep};
+pub use meet::MeetLink;
 pub use mem::MemLink;
 pub use raw::RawLink;
 pub use turns::MemTurns;
