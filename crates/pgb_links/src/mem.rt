@@ -4,7 +4,7 @@ ghost use Rattle.pgb_outside.specs.Links.{SendLeaves, ReceiveLeaves};
 ghost use Rattle.pgb_memory.specs.State.{given_at};
 ghost use Rattle.pgb_reply.specs.Reads.{Reads, IsSteadyWorker};
 ghost use Rattle.pgb_links.specs.Counts.{is_to_fail, counted, FailsWhere};
-ghost use Rattle.pgb_links.specs.Workers.{told_first, state_of};
+ghost use Rattle.pgb_links.specs.Workers.{told_first, told_of, state_of};
 
 use crate::raw::RawLink;
 use crate::worker::Worker;
@@ -58,6 +58,7 @@ impl Link for MemLink {
 
     fn send(&mut self, bytes: &[u8]) -> Result<(), Stop>
         ensures leaves { SendLeaves result bytes.now (state_of self.old) (state_of self.new) }
+        ensures same { OnErr result (told_of self.new ≡ told_of self.old) }
         ensures fails { FailsWhere (is_to_fail self.old.raw.failing) result }
         ensures counts { self.new.raw.failing ≡ counted self.old.raw.failing }
     {
@@ -71,6 +72,8 @@ impl Link for MemLink {
 
     fn receive(&mut self, buf: &mut [u8]) -> Result<usize, Stop>
         ensures leaves { ReceiveLeaves result buf.new (state_of self.old) (state_of self.new) }
+        ensures count { IfOk result (λ n. n ≡ min (length (told_of self.old).pending) (length buf.old)) }
+        ensures same { OnErr result (told_of self.new ≡ told_of self.old) }
         ensures fails { FailsWhere (is_to_fail self.old.raw.failing) result }
         ensures counts { self.new.raw.failing ≡ counted self.old.raw.failing }
     {
