@@ -7,8 +7,8 @@ use crate::Asked;
 use crate::asking::{read_job, roots_at};
 use pgb_dispatch::{run_jobs, setup};
 use pgb_frame::{Job, Roots};
-use pgb_links::{MemKeep, MemTurns};
-use pgb_system::RealLink;
+use pgb_links::MemKeep;
+use pgb_system::{RealLink, RoundRobin};
 use pgb_text::Sum;
 use std::alloc::{AllocError, Global};
 use std::io;
@@ -52,7 +52,7 @@ pub fn read_all(
         return Ok(None);
     }
     let mut keep = MemKeep::counting(alloc, jobs)?;
-    let mut turns = MemTurns::new(Vec::new(alloc));
+    let mut turns = RoundRobin::new();
     let ending = run_jobs(
         alloc,
         jobs,

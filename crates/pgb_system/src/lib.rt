@@ -1,4 +1,4 @@
-//! The system's objects: what all of them share, and the connection to a worker process.
+//! The system's objects: what all of them share, the connection to a worker process, and the choice among workers.
 #![tactic(auto)]
 
 mod faults;
@@ -6,8 +6,10 @@ mod link;
 mod pieces;
 mod scratch;
 mod tail;
+mod turns;
 
 pub use faults::Faults;
 pub use link::RealLink;
 pub use pieces::read_some;
 pub use scratch::Scratch;
+pub use turns::RoundRobin;

@@ -12,7 +12,6 @@ mod settle;
 mod sink;
 mod source;
 mod tree;
-mod turns;
 mod walk;
 mod wire;
 
@@ -24,14 +23,13 @@ use locks::RealLocks;
 use pgb_command::{Outside, run};
 use pgb_frame::serve;
 use pgb_outside::{Link, NotThere};
-use pgb_system::RealLink;
+use pgb_system::{RealLink, RoundRobin};
 use sink::RealSink;
 use source::RealSource;
 use std::io::ErrorKind;
 use std::process::ExitCode;
 use std::{env, io};
 use tree::RealTree;
-use turns::RoundRobin;
 use wire::RealWire;
 
 const NOT_UTF8: u8 = 13;
