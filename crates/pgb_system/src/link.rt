@@ -3,13 +3,20 @@ ghost use Rattle.std.specs.Prelude.{◌≡◌, ◌≤◌, [], None, IfOk, IsErr,
 ghost use Rattle.pgb_outside.specs.Links.{is_byte, is_job, is_read_job, bumped, SendLeaves, ReceiveLeaves};
 ghost use Rattle.pgb_system.specs.Tail.{tail_of};
 
+use crate::ahead::Ahead;
 use crate::faults::Faults;
-use crate::pieces::read_some;
 use crate::tail::Tail;
 use pgb_outside::{Link, Stop};
 use std::io;
 use std::io::{ErrorKind, Write};
 use std::process::{Child, Command, Stdio};
+
+// A process that was started, and what was read of it.
+#[derive(Drop)]
+struct Started {
+    child: Child,
+    ahead: Ahead,
+}
 
 /// A worker process, which reads frames from its standard input and writes its replies to its standard output. It is started
 /// as the first frame is sent, and ends as its input does, when the link is let go. It tells nothing of its answers.
@@ -18,7 +25,7 @@ pub struct RealLink {
     rt: HostRuntime,
     program: String,
     words: Vec<String>,
-    child: Option<Child>,
+    started: Option<Started>,
     jobs: u64,
     reads: u64,
     given: Tail,
@@ -34,14 +41,16 @@ fn has_byte(bytes: &[u8], at: usize, byte: u8) -> bool
     }
 }
 
-fn start(rt: &HostRuntime, program: &str, words: &[String]) -> io::Result<Child> {
+fn start(rt: &HostRuntime, program: &str, words: &[String]) -> io::Result<Started> {
+    let ahead = Ahead::new(rt.alloc())?;
     let mut command = Command::new(rt.alloc(), program)?;
     for word in words {
         command.arg(word.as_str())?;
     }
     command.stdin(Stdio::piped());
     command.stdout(Stdio::piped());
-    command.spawn(rt)
+    let child = command.spawn(rt)?;
+    Ok(Started { child, ahead })
 }
 
 // No such pipe is there.
@@ -63,7 +72,7 @@ impl RealLink {
             rt,
             program,
             words,
-            child: None,
+            started: None,
             jobs: 0,
             reads: 0,
             given: Tail::new(),
@@ -74,13 +83,13 @@ impl RealLink {
     fn put(&mut self, frame: &[u8]) -> io::Result<()>
         ensures { (self.new.jobs ≡ self.old.jobs) × (self.new.reads ≡ self.old.reads) × (self.new.given ≡ self.old.given) × (self.new.faults ≡ self.old.faults) }
     {
-        if self.child.is_none() {
-            self.child = Some(start(&self.rt, self.program.as_str(), &self.words)?);
+        if self.started.is_none() {
+            self.started = Some(start(&self.rt, self.program.as_str(), &self.words)?);
         }
-        let Some(child) = &mut self.child else {
+        let Some(started) = &mut self.started else {
             return broken();
         };
-        match &mut child.stdin {
+        match &mut started.child.stdin {
             Some(input) => input.write_all(frame),
             None => broken(),
         }
@@ -90,11 +99,11 @@ impl RealLink {
         ensures room { IfOk result (λ n. n ≤ length buf.old) }
         ensures same { (self.new.jobs ≡ self.old.jobs) × (self.new.reads ≡ self.old.reads) × (self.new.given ≡ self.old.given) × (self.new.faults ≡ self.old.faults) }
     {
-        let Some(child) = &mut self.child else {
+        let Some(started) = &mut self.started else {
             return broken();
         };
-        match &mut child.stdout {
-            Some(output) => read_some(output, buf),
+        match &mut started.child.stdout {
+            Some(output) => started.ahead.take(output, buf),
             None => broken(),
         }
     }
