@@ -55,7 +55,7 @@ fn main(rt: HostRuntime) -> ExitCode {
     }
     match asked_for(rt.alloc(), &words) {
         Ok(Some(text)) => ExitCode::from(show(rt, &text)),
-        Ok(None) => ExitCode::from(status_of(rt, &words)),
+        Ok(None) => ExitCode::from(status_of(rt, &words).unwrap_or(NO_MEMORY)),
         Err(_) => ExitCode::from(NO_MEMORY),
     }
 }
@@ -92,25 +92,22 @@ fn words(rt: &HostRuntime) -> io::Result<Vec<String>> {
     Ok(words)
 }
 
-// The workers that a command may use: this program, each started as it is sent its first frame.
-fn workers(rt: HostRuntime) -> io::Result<Vec<Box<dyn Link>>> {
+// A worker: this program, started as it is sent its first frame.
+fn worker(rt: HostRuntime, program: &str) -> io::Result<RealLink> {
+    let alloc = rt.alloc();
+    let words = vec![in alloc; String::from_str(alloc, LOCAL)?]?;
+    Ok(RealLink::new(rt, String::from_str(alloc, program)?, words))
+}
+
+fn status_of(rt: HostRuntime, words: &[String]) -> io::Result<u8> {
     let alloc = rt.alloc();
     let program = env::args(&rt)?.next().unwrap_or(String::new(alloc));
     let mut links: Vec<Box<dyn Link>> = Vec::new(alloc);
     for _ in 0..WORKERS {
-        let words = vec![in alloc; String::from_str(alloc, LOCAL)?]?;
-        let link = RealLink::new(rt, String::from_str(alloc, &program)?, words);
-        links
-            .push(Box::new(alloc, link)?)
-            .map_err(place::no_memory)?;
+        let link = Box::new(alloc, worker(rt, &program)?)?;
+        links.push(link).map_err(place::no_memory)?;
     }
-    Ok(links)
-}
-
-fn status_of(rt: HostRuntime, words: &[String]) -> u8 {
-    let Ok(mut links) = workers(rt) else {
-        return NO_MEMORY;
-    };
+    let mut turns = RoundRobin::new();
     let mut outside = Outside {
         repo: RealDisk::new(rt),
         spool: NotThere::new(),
@@ -122,6 +119,5 @@ fn status_of(rt: HostRuntime, words: &[String]) -> u8 {
         config: RealSource::new(rt),
         out: RealSink::new(rt),
     };
-    let mut turns = RoundRobin::new();
-    run(rt.alloc(), words, &mut outside, &mut links, &mut turns)
+    Ok(run(alloc, words, &mut outside, &mut links, &mut turns))
 }
