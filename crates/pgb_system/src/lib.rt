@@ -1,7 +1,6 @@
 //! The system's objects: what all of them share, the connection to a worker process, and the choice among workers.
 #![tactic(auto)]
 
-mod ahead;
 mod faults;
 mod link;
 mod pieces;

@@ -3,19 +3,22 @@ ghost use Rattle.std.specs.Prelude.{◌≡◌, ◌≤◌, [], None, IfOk, IsErr,
 ghost use Rattle.pgb_outside.specs.Links.{is_byte, is_job, is_read_job, bumped, SendLeaves, ReceiveLeaves};
 ghost use Rattle.pgb_system.specs.Tail.{tail_of};
 
-use crate::ahead::Ahead;
 use crate::faults::Faults;
+use crate::pieces::read_some;
 use crate::tail::Tail;
 use pgb_outside::{Link, Stop};
 use std::io;
-use std::io::{ErrorKind, Write};
-use std::process::{Child, Command, Stdio};
+use std::io::{BufReader, ErrorKind, Write};
+use std::process::{Child, ChildStdout, Command, Stdio};
 
-// A process that was started, and what was read of it.
+// As many bytes as a pipe holds.
+const PIPE: usize = 1 << 16;
+
+// A process that was started. Its pipe is emptied at once, so that it can go on while what was read is looked at.
 #[derive(Drop)]
 struct Started {
     child: Child,
-    ahead: Ahead,
+    output: BufReader<ChildStdout>,
 }
 
 /// A worker process, which reads frames from its standard input and writes its replies to its standard output. It is started
@@ -42,15 +45,18 @@ fn has_byte(bytes: &[u8], at: usize, byte: u8) -> bool
 }
 
 fn start(rt: &HostRuntime, program: &str, words: &[String]) -> io::Result<Started> {
-    let ahead = Ahead::new(rt.alloc())?;
     let mut command = Command::new(rt.alloc(), program)?;
     for word in words {
         command.arg(word.as_str())?;
     }
     command.stdin(Stdio::piped());
     command.stdout(Stdio::piped());
-    let child = command.spawn(rt)?;
-    Ok(Started { child, ahead })
+    let mut child = command.spawn(rt)?;
+    let Some(output) = child.stdout.take() else {
+        return broken();
+    };
+    let output = BufReader::with_capacity(rt.alloc(), PIPE, output)?;
+    Ok(Started { child, output })
 }
 
 // No such pipe is there.
@@ -99,11 +105,8 @@ impl RealLink {
         ensures room { IfOk result (λ n. n ≤ length buf.old) }
         ensures same { (self.new.jobs ≡ self.old.jobs) × (self.new.reads ≡ self.old.reads) × (self.new.given ≡ self.old.given) × (self.new.faults ≡ self.old.faults) }
     {
-        let Some(started) = &mut self.started else {
-            return broken();
-        };
-        match &mut started.child.stdout {
-            Some(output) => started.ahead.take(output, buf),
+        match &mut self.started {
+            Some(started) => read_some(&mut started.output, buf),
             None => broken(),
         }
     }

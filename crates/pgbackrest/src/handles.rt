@@ -43,14 +43,14 @@ impl Handles {
     /// Makes the name an empty file.
     pub fn begin(&mut self, place: &Place, name: &str) -> io::Result<()> {
         let file = place.create(name)?;
-        // Of a file that was cut to nothing ext4 and XFS begin to write the bytes as it is closed.
+        // Of a file that was cut to nothing ext4 begins to write the bytes as it is closed.
         file.set_len(0)?;
         self.writing = Some(keep(place, name, file)?);
         Ok(())
     }
 
     /// Adds bytes at the end of a file that is there. After many it is closed, so that they are written while the program
-    /// goes on.
+    /// goes on. It is opened anew before that, so that a fault of the writing is told by the sync.
     pub fn append(&mut self, place: &Place, name: &str, bytes: &[u8]) -> io::Result<()> {
         self.reach_end(place, name)?;
         match &mut self.writing {
@@ -58,7 +58,8 @@ impl Handles {
             None => return Err(io::Error::from(ErrorKind::NotFound)),
         }
         if bytes.len() >= MANY {
-            drop(self.writing.take());
+            let file = place.open_end(name)?;
+            self.writing = Some(keep(place, name, file)?);
         }
         Ok(())
     }

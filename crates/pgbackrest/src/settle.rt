@@ -12,8 +12,8 @@ const FEW: usize = 8;
 struct Folder {
     path: String,
     device: u64,
-    // how many folders it holds, where the file system counts them; else many
-    held: u64,
+    // how many folders it holds, where the file system counts them
+    held: Option<u64>,
 }
 
 /// The folders that were synced since a folder was made last: the folders in them have durable names.
@@ -114,7 +114,7 @@ fn push_folder(path: String, told: &Metadata, folders: &mut Vec<Folder>) -> io::
     let folder = Folder {
         path,
         device: told.dev(),
-        held: told.nlink().checked_sub(2).unwrap_or(u64::MAX),
+        held: told.nlink().checked_sub(2),
     };
     folders.push(folder).map_err(no_memory)
 }
@@ -131,10 +131,11 @@ fn add_folders_below(
         let Some(next) = folders.get(at) else {
             return Ok(at);
         };
-        if next.held > 0 {
-            if (folders.len() as u64).saturating_add(next.held) > most as u64 {
-                return Ok(at);
-            }
+        let held = next.held.unwrap_or(0);
+        if (folders.len() as u64).saturating_add(held) > most as u64 {
+            return Ok(at);
+        }
+        if next.held != Some(0) {
             let path = next.path.clone()?;
             add_folders_in(place, &path, folders)?;
         }
