@@ -1,3 +1,4 @@
+pub mod Piecewise
 pub mod Cuts
 pub mod OnePath
 pub mod Orders
@@ -13,3 +14,4 @@ pub mod OnePushed
 pub mod Receipts
 pub mod Waiting
 pub mod Putting
+pub mod PushedFrom

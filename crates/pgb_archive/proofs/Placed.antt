@@ -1,5 +1,5 @@
 -- A file that is put at its path.
-use Rattle.std.proofs.Common.{◌≡◌, ◌⊎◌, ⊎_elim, inl, ℕ, Bool, true, false, List, [], ◌∷◌, ◌++◌, Option, Some, None, refl, ap, ap₂, ◌∙◌, sym, subst, arith, append_assoc}
+use Rattle.std.proofs.Common.{◌≡◌, ◌⊎◌, ⊎_elim, ℕ, Bool, true, false, List, [], ◌∷◌, ◌++◌, Option, Some, None, refl, ap, ap₂, ◌∙◌, sym, subst, append_assoc}
 use Rattle.std.specs.Prelude.{IfSome, IsSome, IsTrue, codes, string_bytes}
 use Rattle.sha1.specs.Sha1.{sha1}
 use Rattle.pgb_text.specs.Sum.{IsSum, sum_text}
@@ -29,6 +29,7 @@ use Rattle.pgb_archive.specs.declared.looking.Kept.{Kept}
 use Rattle.pgb_archive.specs.declared.looking.Look.{Look}
 use Rattle.pgb_archive.specs.declared.looking.Look.TheVariants.{Free, One, Two}
 use Rattle.pgb_archive.specs.declared.names.FileNames.{FileNames}
+use Rattle.pgb_archive.specs.Still.{rests_none}
 use Rattle.pgb_archive.specs.Stored.{archived_file, archive_path, StoresNone, StoresOnly, StoresTwo, ChangesArchive}
 use Rattle.pgb_archive.specs.Paths.{has_sum, folder_text}
 use Rattle.pgb_archive.specs.Causes.{IsFileOf, PushCause}
@@ -39,16 +40,6 @@ use Rattle.pgb_archive.proofs.Got.{no_header, long_told}
 use Rattle.pgb_archive.proofs.FilePushed.{StoresSome, new_part, new_done, same_done, new_moves, new_steady, same_steady}
 
 -- nothing was done
-pub rests_none : (a : View) → Rests a a
-rests_none a = record {
-  later = omega arith;
-  same = λ t n v le h. h;
-  stays = λ t n v le h. h;
-  same_loose = λ t n le. refl;
-  grows = λ t n v lo hi h. inl (subst (λ (m : ℕ). a.kept m n v) (let e : t ≡ a.moment = omega (arith, lo, hi) in e) h);
-  loosens = λ t n lo hi h. inl (subst (λ (m : ℕ). a.loose m n ≡ true) (let e : t ≡ a.moment = omega (arith, lo, hi) in e) h);
-}
-
 pub none_moves : (stanza : Text) (id : ArchiveId) (name : ArchiveName) (bytes : Text) (s : Stanza) (v : View) → IsSteady stanza (Some s) v → IsSome v.now → Moves stanza (IsPartOfPush stanza s (archived_file id name bytes)) v v
 none_moves stanza id name bytes s v steady told = still_moves stanza s (archived_file id name bytes) v v steady told (rests_none v) refl
 
@@ -75,6 +66,10 @@ module _ (stanza : Text) (id : ArchiveId) (name : ArchiveName) (names : FileName
   pub shown_only : (o : Option Content) (look : Look) (kept : Kept) → look ≡ One kept → Told o names look → IfSome o (λ f. StoresOnly stanza id name f kept.sum.0)
   shown_only None look kept is told = tt
   shown_only (Some f) look kept is told = let one : ShowsOne stanza id name f kept = subst (λ (l : Look). Shows stanza id name f l) is (told stanza id name of) in one.only
+
+  pub shown_both : (o : Option Content) (look : Look) (a b : _) → look ≡ Two a b → Told o names look → IfSome o (λ f. StoresTwo stanza id name f (string_bytes a) (string_bytes b))
+  shown_both None look a b is told = tt
+  shown_both (Some f) look a b is told = subst (λ (l : Look). Shows stanza id name f l) is (told stanza id name of)
 
   pub shown_two : (o : Option Content) (look : Look) (a b : _) → look ≡ Two a b → Told o names look → IfSome o (StoresSome stanza id name)
   shown_two None look a b is told = tt

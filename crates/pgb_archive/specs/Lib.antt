@@ -1,5 +1,8 @@
 pub mod Stored
 pub mod Causes
+pub mod Still
+pub mod Pieces
+pub mod Pushing
 pub mod Fault
 pub mod Paths
 pub mod Listing

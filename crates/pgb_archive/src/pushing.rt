@@ -1,31 +1,31 @@
 // A file is stored.
-ghost use Rattle.std.specs.Prelude.{◌≡◌, ◌⊎◌, ◌≤◌, ◌∷◌, [], false, Some, List, map, IfOk, IfErr, IfSome, IsSome, IsErrOf, OnOk, option_map, string_bytes};
+ghost use Rattle.std.specs.Prelude.{◌≡◌, ◌⊎◌, ◌≤◌, ◌∷◌, [], Some, List, map, IfOk, IfErr, IfSome, IsSome, OnOk, length};
 ghost use Rattle.sha1.specs.Sha1.{sha1};
-ghost use Rattle.pgb_outside.specs.Content.{Name, put, SameBut};
-ghost use Rattle.pgb_outside.specs.Moments.{Rests, Goes, is_loose};
+ghost use Rattle.pgb_outside.specs.Moments.{Rests};
 ghost use Rattle.pgb_outside.specs.Cause.{Rises};
-ghost use Rattle.pgb_outside.specs.Crash.{IsTemporary, Crash, Ends, NowGoes, FirstOf, AllOf};
-ghost use Rattle.pgb_disk.specs.Store.{LiesIn, ChangesOnly};
-ghost use Rattle.pgb_disk.specs.Staged.{staged_name};
-ghost use Rattle.pgb_disk.specs.Fault.{IsStop as IsStopped};
+ghost use Rattle.pgb_outside.specs.Crash.{NowGoes, FirstOf, AllOf};
 ghost use Rattle.pgb_model.specs.Repository.{Stanza};
 ghost use Rattle.pgb_model.specs.Stands.{Stands};
 ghost use Rattle.pgb_model.specs.Now.{NowStands};
 ghost use Rattle.pgb_model.specs.Steps.{Step, One, IsPartOf, after, after_all, push_of};
 ghost use Rattle.pgb_model.specs.Steady.{IsSteady, Moves};
+ghost use Rattle.pgb_model.specs.Text.{Text};
+ghost use Rattle.pgb_wal.specs.Header.{BeginsWith};
 ghost use Rattle.pgb_archive.specs.Stored.{archived_file, archive_path, StoresNone, StoresOnly, ChangesArchive};
 ghost use Rattle.pgb_archive.specs.Causes.{IsFileOf, HeaderCause, PushCause, OnFinding};
-ghost use Rattle.pgb_archive.specs.Looks.{IsStop, path_with};
+ghost use Rattle.pgb_archive.specs.Pieces.{IsReadAs};
+ghost use Rattle.pgb_archive.specs.Pushing.{IsPushedAs, PushFromCause, OnPushFinding};
 
-use crate::fault::ArchiveFault;
+use crate::fault::{ArchiveFault, PushFault, source_fault};
 use crate::looking::{Look, look_for};
-use crate::names::{FileNames, file_names};
+use crate::names::file_names;
 use crate::paths::has_sum;
-use pgb_disk::{Staged, StoreFault, add_stage, end_stage, publish, start_stage};
+use crate::pieces::{Front, Held, Pieces};
+use crate::staging::put_new;
+use crate::summing::{PIECE_SIZE, sum_of};
 use pgb_model::{ArchiveId, ArchiveName};
 use pgb_outside::Disk;
-use pgb_text::Sum;
-use pgb_wal::check_header;
+use pgb_wal::check_front;
 use std::alloc::Global;
 
 /// How a segment came to be stored.
@@ -38,91 +38,104 @@ pub enum Pushed {
 }
 
 // A segment has the header of one; other files have none.
-fn check_bytes(name: &ArchiveName, system: u64, bytes: &[u8]) -> Result<(), ArchiveFault>
-    ensures right { OnOk result (IsFileOf name.now bytes.now system) }
-    ensures wrong { IfErr result (HeaderCause name.now bytes.now system) }
+fn check_bytes(name: &ArchiveName, system: u64, front: Front<'_>) -> Result<(), ArchiveFault>
+    requires long { (40 ≤ length front.bytes.now) ⊎ (length front.bytes.now ≡ front.length) }
+    requires within { length front.bytes.now ≤ front.length }
+    ensures right { OnOk result ((bytes : Text) → BeginsWith front.entry.bytes.now front.entry.length bytes → IsFileOf name.now bytes system) }
+    ensures wrong { IfErr result (λ e. (bytes : Text) → BeginsWith front.entry.bytes.now front.entry.length bytes → HeaderCause name.now bytes system e) }
 {
     if !has_sum(name) {
         return Ok(());
     }
-    check_header(bytes, system)?;
+    check_front(front.bytes, front.length, system)?;
     Ok(())
 }
 
-// Stages the bytes under a temporary name. They are summed before they are synced, so that the disk may write them meanwhile.
-fn stage_summed<D: Disk>(
+/// Stores a file of the cluster with this system identifier, whose bytes are read in pieces behind the first ones: a whole or
+/// partial segment, whose header is checked, under the sum of its bytes; a history or backup history file as it is. Where
+/// the holder doesn't tell the bytes, each answer is that of some bytes that begin with the first ones and are as many.
+pub fn push_from<D: Disk, H, P: Pieces<H>>(
     alloc: Global,
     d: &mut D,
-    temp: &str,
-    bytes: &[u8],
-) -> Result<(Staged, Sum), StoreFault>
-    ensures name { IfOk result (λ x. staged_name x.0 ≡ temp.now) }
-    ensures sum { IfOk result (λ x. x.1.0 ≡ sha1 bytes.now) }
-    ensures now { OnOk result ((D.view d.new).now ≡ option_map (put temp.now (Some bytes.now)) (D.view d.old).now) }
-    ensures others { SameBut temp.now (D.view d.old).now (D.view d.new).now }
-    ensures tight { OnOk result (is_loose (D.view d.new) temp.now ≡ false) }
-    ensures time { Goes (λ n _. n ≡ temp.now) (λ n. n ≡ temp.now) (D.view d.old) (D.view d.new) }
+    holder: &mut H,
+    stanza: &str,
+    id: &ArchiveId,
+    name: &ArchiveName,
+    system: u64,
+    pieces: &P,
+    front: Front<'_>,
+) -> Result<Pushed, PushFault>
+    requires told { IfSome (P.bytes pieces.now holder.old) (λ b. IsReadAs (Some b) front.bytes.now front.length b) }
+    requires long { (40 ≤ length front.bytes.now) ⊎ (length front.bytes.now ≡ front.length) }
+    requires within { length front.bytes.now ≤ front.length }
+
+    // After every answer the disk stands for the repository as before or with the file, and at Ok with it.
+    ensures part { (bytes : Text) → P.bytes pieces.now holder.old ≡ Some bytes → (s : Stanza) → IsSome (D.view d.old).now → NowStands stanza.now (Some s) (D.view d.old).now
+        → (done : List Step) × IsPartOf done (map One (push_of s (archived_file id.now name.now bytes))) × NowStands stanza.now (after (Some s) done) (D.view d.new).now }
+    ensures done { OnOk result ((bytes : Text) → P.bytes pieces.now holder.old ≡ Some bytes → (s : Stanza) → IsSome (D.view d.old).now → NowStands stanza.now (Some s) (D.view d.old).now
+        → NowStands stanza.now (Some (after_all s (push_of s (archived_file id.now name.now bytes)))) (D.view d.new).now) }
+
+    // The same of all that a stop leaves, at each moment.
+    ensures moves { (bytes : Text) → P.bytes pieces.now holder.old ≡ Some bytes → (s : Stanza) → IsSteady stanza.now (Some s) (D.view d.old) → IsSome (D.view d.old).now
+        → Moves stanza.now (λ g. (done : List Step) × IsPartOf done (map One (push_of s (archived_file id.now name.now bytes))) × Stands stanza.now g (after (Some s) done)) (D.view d.old) (D.view d.new) }
+    ensures stored { OnOk result ((bytes : Text) → P.bytes pieces.now holder.old ≡ Some bytes → (s : Stanza) → IsSteady stanza.now (Some s) (D.view d.old) → IsSome (D.view d.old).now
+        → IsSteady stanza.now (Some (after_all s (push_of s (archived_file id.now name.now bytes)))) (D.view d.new)) }
+
+    // Only the file's path and temporary names change, none outside the stanza's folder of the archive.
+    ensures only { ChangesArchive stanza.now (D.view d.old) (D.view d.new) }
+    ensures writes { (bytes : Text) × IfSome (P.bytes pieces.now holder.old) (λ b. b ≡ bytes)
+        × NowGoes (FirstOf ((archive_path stanza.now id.now name.now (sha1 bytes), bytes) ∷ [])) (D.view d.old).now (D.view d.new).now }
+    ensures written { IfOk result (λ p. (bytes : Text) → P.bytes pieces.now holder.old ≡ Some bytes
+        → p ≡ Pushed.New → NowGoes (AllOf ((archive_path stanza.now id.now name.now (sha1 bytes), bytes) ∷ [])) (D.view d.old).now (D.view d.new).now) }
+
+    // Each answer has its cause, and what was found changes nothing.
+    ensures answered { IfOk result (IsPushedAs stanza.now id.now name.now system (P.bytes pieces.now holder.old) front.entry.bytes.now front.entry.length (D.view d.old).now (D.view d.new).now) }
+    ensures refused { IfErr result (λ e. OnPushFinding e (((D.view d.new).now ≡ (D.view d.old).now) × Rests (D.view d.old) (D.view d.new))) }
+    ensures cause { IfErr result (PushFromCause stanza.now id.now name.now system (P.bytes pieces.now holder.old) front.entry.bytes.now front.entry.length (D.view d.old).now (Rises (D.faults d.old) (D.faults d.new)) (Rises (P.faults holder.old) (P.faults holder.new))) }
+    ensures told { IsSome (D.view d.old).now → IsSome (D.view d.new).now }
     ensures place { D.place d.new ≡ D.place d.old }
     ensures proper { D.misuses d.new ≡ D.misuses d.old }
     ensures later { D.faults d.old ≤ D.faults d.new }
-    ensures cause { IsErrOf result StoreFault.Disk → Rises (D.faults d.old) (D.faults d.new) }
-    ensures refusals { IfErr result IsStopped }
+    ensures same { P.same holder.old holder.new }
+    ensures holder_later { P.faults holder.old ≤ P.faults holder.new }
 {
-    let mut staging = start_stage(alloc, d, temp)?;
-    add_stage(d, &mut staging, bytes)?;
-    let sum = Sum::of(bytes);
-    let staged = end_stage(d, staging)?;
-    Ok((staged, sum))
+    check_bytes(name, system, front)?;
+    let names = file_names(alloc, stanza, *id, *name)?;
+    match look_for(alloc, d, &names)? {
+        Look::Free => {
+            put_new(alloc, d, holder, &names, pieces, front)?;
+            Ok(Pushed::New)
+        }
+        Look::One(kept) => {
+            let found = match sum_of(holder, pieces, front) {
+                Ok(sum) => sum,
+                Err(stop) => return Err(source_fault(stop)),
+            };
+            if kept.sum == found {
+                return Ok(Pushed::Same);
+            }
+            Err(PushFault::Archive(ArchiveFault::Duplicate {
+                kept: kept.sum,
+                found,
+            }))
+        }
+        Look::Two(first, second) => {
+            Err(PushFault::Archive(ArchiveFault::Ambiguous { first, second }))
+        }
+    }
 }
 
-// Stages the bytes, and tells their path.
-fn stage_file<D: Disk>(
-    alloc: Global,
-    d: &mut D,
-    names: &FileNames,
-    bytes: &[u8],
-) -> Result<(Staged, String), ArchiveFault>
-    ensures name { IfOk result (λ x. staged_name x.0 ≡ string_bytes names.now.temporary) }
-    ensures path { IfOk result (λ x. string_bytes x.1 ≡ path_with names.now (sha1 bytes.now)) }
-    ensures now { OnOk result ((D.view d.new).now ≡ option_map (put (string_bytes names.now.temporary) (Some bytes.now)) (D.view d.old).now) }
-    ensures others { SameBut (string_bytes names.now.temporary) (D.view d.old).now (D.view d.new).now }
-    ensures tight { OnOk result (is_loose (D.view d.new) (string_bytes names.now.temporary) ≡ false) }
-    ensures time { Goes (λ n _. n ≡ string_bytes names.now.temporary) (λ n. n ≡ string_bytes names.now.temporary) (D.view d.old) (D.view d.new) }
-    ensures place { D.place d.new ≡ D.place d.old }
-    ensures proper { D.misuses d.new ≡ D.misuses d.old }
-    ensures later { D.faults d.old ≤ D.faults d.new }
-    ensures cause { IsErrOf result ArchiveFault.Disk → Rises (D.faults d.old) (D.faults d.new) }
-    ensures stops { IfErr result IsStop }
+// The first bytes, at most a piece of them.
+fn front_of(bytes: &[u8]) -> Front<'_>
+    ensures begins { IsReadAs (Some bytes.now) result.bytes.now result.length bytes.now }
+    ensures long { (40 ≤ length result.bytes.now) ⊎ (length result.bytes.now ≡ result.length) }
+    ensures within { length result.bytes.now ≤ result.length }
 {
-    let (staged, sum) = stage_summed(alloc, d, names.temporary.as_str(), bytes)?;
-    let path = names.with_sum(alloc, &sum)?;
-    Ok((staged, path))
-}
-
-// Puts the bytes at the file's path with their sum.
-fn put_new<D: Disk>(
-    alloc: Global,
-    d: &mut D,
-    names: &FileNames,
-    bytes: &[u8],
-) -> Result<(), ArchiveFault>
-    requires folder { (folder : Name) × LiesIn folder (string_bytes names.now.temporary) × LiesIn folder (path_with names.now (sha1 bytes.now)) }
-    requires temporary { IsTemporary (string_bytes names.now.temporary) }
-    requires lasting { ¬ IsTemporary (path_with names.now (sha1 bytes.now)) }
-    ensures crash { is_loose (D.view d.old) (path_with names.now (sha1 bytes.now)) ≡ false → Crash (FirstOf ((path_with names.now (sha1 bytes.now), bytes.now) ∷ [])) (D.view d.old) (D.view d.new) }
-    ensures whole { OnOk result (is_loose (D.view d.old) (path_with names.now (sha1 bytes.now)) ≡ false → Ends (AllOf ((path_with names.now (sha1 bytes.now), bytes.now) ∷ [])) (D.view d.old) (D.view d.new)) }
-    ensures now_part { NowGoes (FirstOf ((path_with names.now (sha1 bytes.now), bytes.now) ∷ [])) (D.view d.old).now (D.view d.new).now }
-    ensures now_whole { OnOk result (NowGoes (AllOf ((path_with names.now (sha1 bytes.now), bytes.now) ∷ [])) (D.view d.old).now (D.view d.new).now) }
-    ensures only { ChangesOnly (λ n. (n ≡ string_bytes names.now.temporary) ⊎ (n ≡ path_with names.now (sha1 bytes.now))) (D.view d.old) (D.view d.new) }
-    ensures place { D.place d.new ≡ D.place d.old }
-    ensures proper { D.misuses d.new ≡ D.misuses d.old }
-    ensures later { D.faults d.old ≤ D.faults d.new }
-    ensures cause { IsErrOf result ArchiveFault.Disk → Rises (D.faults d.old) (D.faults d.new) }
-    ensures stops { IfErr result IsStop }
-{
-    let (staged, path) = stage_file(alloc, d, names, bytes)?;
-    publish(d, staged, path.as_str())?;
-    Ok(())
+    let count = bytes.len().min(PIECE_SIZE);
+    Front {
+        bytes: &bytes[..count],
+        length: bytes.len() as u64,
+    }
 }
 
 /// Stores a file of the cluster with this system identifier: a whole or partial segment, whose header is checked, under the
@@ -164,23 +177,21 @@ pub fn push<D: Disk>(
     ensures proper { D.misuses d.new ≡ D.misuses d.old }
     ensures later { D.faults d.old ≤ D.faults d.new }
 {
-    check_bytes(name, system, bytes)?;
-    let names = file_names(alloc, stanza, *id, *name)?;
-    match look_for(alloc, d, &names)? {
-        Look::Free => {
-            put_new(alloc, d, &names, bytes)?;
-            Ok(Pushed::New)
-        }
-        Look::One(kept) => {
-            let found = Sum::of(bytes);
-            if kept.sum == found {
-                return Ok(Pushed::Same);
-            }
-            Err(ArchiveFault::Duplicate {
-                kept: kept.sum,
-                found,
-            })
-        }
-        Look::Two(first, second) => Err(ArchiveFault::Ambiguous { first, second }),
+    let front = front_of(bytes);
+    match push_from(
+        alloc,
+        d,
+        &mut (),
+        stanza,
+        id,
+        name,
+        system,
+        &Held(bytes),
+        front,
+    ) {
+        Ok(pushed) => Ok(pushed),
+        Err(PushFault::Archive(fault)) => Err(fault),
+        // Bytes that are held are always read.
+        Err(PushFault::Source) => unreachable!(),
     }
 }

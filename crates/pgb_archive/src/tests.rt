@@ -1,11 +1,17 @@
 //! Files of the archive by hand, as pgBackRest lays them out, with digests of `sha1sum`.
 
+ghost use Rattle.std.specs.Prelude.{None};
+ghost use Rattle.std.proofs.Common.{refl};
+
 use crate::names::file_names;
 use crate::paths::read_path;
-use crate::{ArchiveFault, Pushed, Stored, all, get, present, push};
+use crate::{
+    ArchiveFault, Front, Held, Pieces, PushFault, Pushed, Stored, all, get, present, push,
+    push_from,
+};
 use pgb_memory::{MemDisk, named_bytes};
 use pgb_model::{ArchiveId, ArchiveName, Segment};
-use pgb_outside::NotThere;
+use pgb_outside::{NotThere, Stop};
 use pgb_text::{NoMemory, Sum};
 use std::alloc::{AllocError, Global};
 use std::test::Fail;
@@ -235,6 +241,7 @@ fn pushes_segments(rt: HostRuntime) -> Result<(), Fail> {
     }
     let files = all(alloc, &mut disk, "main")?;
     assert_eq!(rt; files.len(), 2);
+    assert!(rt; files.iter().all(|file| file.size == 1048576));
     Ok(())
 }
 
@@ -287,4 +294,92 @@ fn looks_at_the_header_first(rt: HostRuntime) {
         b"".as_slice(),
     );
     assert!(rt; matches!(answer, Err(ArchiveFault::HeaderForm { info: 0 })));
+}
+
+// Bytes that are not told. The holder is the count of failures.
+#[derive(Drop)]
+struct Untold {
+    bytes: &'static [u8],
+    fails: bool,
+}
+
+impl Pieces<u64> for Untold {
+    ghost bytes = { λ _ _. None };
+
+    ghost faults = { λ n. n };
+
+    ghost same = { λ _ _. Unit {0} };
+
+    fn read(&self, holder: &mut u64, at: u64, buf: &mut [u8]) -> Result<usize, Stop> {
+        if self.fails {
+            *holder = holder.saturating_add(1);
+            return Err(Stop::Failed);
+        }
+        Held(self.bytes).read(&mut (), at, buf)
+    }
+
+    ghost same_self = { λ h. tt };
+
+    ghost same_then = { λ g h k p q. tt };
+
+    ghost bytes_stay = { λ it g h p. refl };
+}
+
+const FORTY: &[u8] = b"0123456789012345678901234567890123456789";
+
+const MORE: &[u8] = b"0123456789012345678901234567890123456789 and more";
+
+// What comes of a push of a history file behind its first 40 bytes, whose source fails or not. So many more are told.
+fn pushed_from(
+    alloc: Global,
+    disk: &mut MemDisk,
+    fails: bool,
+    more: u8,
+) -> Result<String, NoMemory> {
+    let source = Untold { bytes: MORE, fails };
+    let front = Front {
+        bytes: FORTY,
+        length: FORTY.len() as u64 + u64::from(more),
+    };
+    let mut holder = 0u64;
+    let answer = push_from(
+        alloc,
+        disk,
+        &mut holder,
+        "main",
+        &ID,
+        &HISTORY,
+        SYSTEM,
+        &source,
+        front,
+    );
+    match answer {
+        Ok(Pushed::New) => Ok(String::from_str(alloc, "new")?),
+        Ok(Pushed::Same) => Ok(String::from_str(alloc, "same")?),
+        Err(PushFault::Source) => Ok(String::from_str(alloc, "source")?),
+        Err(PushFault::Archive(ArchiveFault::NoMemory)) => Ok(String::from_str(alloc, "memory")?),
+        Err(PushFault::Archive(fault)) => told(alloc, fault),
+    }
+}
+
+#[test]
+fn pushes_from_a_source(rt: HostRuntime) -> Result<(), Fail> {
+    let alloc = rt.alloc();
+    let mut disk = MemDisk::new(alloc, Vec::new(alloc), Vec::new(alloc))?;
+    let rows = [
+        (true, 9, "source"),
+        (false, 8, "memory"),
+        (false, 10, "memory"),
+        (false, 9, "new"),
+        (true, 9, "source"),
+        (false, 8, "memory"),
+        (false, 9, "same"),
+    ];
+    for (fails, more, want) in rows {
+        let answer = pushed_from(alloc, &mut disk, fails, more)?;
+        assert_eq!(rt; answer.as_str(), want);
+    }
+    let stored = got(alloc, &mut disk, &HISTORY)?;
+    assert!(rt; stored.as_bytes() == MORE);
+    Ok(())
 }

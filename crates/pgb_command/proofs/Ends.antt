@@ -1,11 +1,11 @@
 -- Lists of names with the same first and last segments are reported alike.
-use Rattle.std.proofs.Common.{◌≡◌, inl, inr, ⊎_elim, List, [], ◌∷◌, ◌++◌, map, flat_map, filter, fold, Bool, true, false, not, Option, Some, None, refl, sym, ap, ap₂, ◌∙◌, subst}
-use Rattle.std.specs.Prelude.{◌⊎◌, cond, if◌then◌else◌}
-use Rattle.std.specs.List.{filter_map, reduce}
+use Rattle.std.proofs.Common.{◌≡◌, inl, inr, ⊎_elim, List, [], ◌∷◌, fold, Bool, true, false, Some, refl, sym, ap, ◌∙◌, subst}
+use Rattle.std.specs.Prelude.{◌⊎◌}
+use Rattle.std.specs.List.{reduce}
 use Rattle.std.specs.declared.cmp.Ordering.{Ordering}
 use Rattle.std.specs.declared.cmp.Ordering.TheVariants.{Less, Equal, Greater}
 use Rattle.std.specs.Ordering.{is_gt, ordering_reverse, min_by_ordering, max_by_ordering}
-use Rattle.std.specs.Cmp.{IsTotalOrder, upto, tied_itself}
+use Rattle.std.specs.Cmp.{upto, tied_itself}
 use Rattle.std.proofs.lemmas.Cmp.{nat_list_cmp_total}
 use Rattle.std.proofs.lemmas.Map.Lookups.{exact_bytes}
 use Rattle.pgb_model.specs.Text.{Text, In, text_cmp}

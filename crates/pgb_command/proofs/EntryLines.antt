@@ -1,6 +1,5 @@
 -- Entries with the same fields are reported alike.
 use Rattle.std.proofs.Common.{◌≡◌, ℕ, zero, suc, List, [], ◌∷◌, ◌++◌, map, flat_map, Option, Some, None, refl, sym, ap, ◌∙◌, codes}
-use Rattle.std.specs.List.{join_by}
 use Rattle.serde_json.specs.Data.{Data, Items, Members, null, number, unsigned, string, array, object, no_items, item, no_members, member}
 use Rattle.pgb_model.specs.declared.labels.Label.{Label}
 use Rattle.pgb_model.specs.declared.wal.Span.{Span}
@@ -10,7 +9,7 @@ use Rattle.pgb_model.specs.Names.{label_text, segment_text}
 use Rattle.pgb_model.specs.InfoFiles.{entry_field, kind_text, label_value, segment_value}
 use Rattle.pgb_model.specs.Values.{Entry}
 use Rattle.pgb_report.specs.ReportText.{status_text, wal_text, reference_lines, backup_lines}
-use Rattle.pgb_report.specs.ReportData.{backup_data, status_data}
+use Rattle.pgb_report.specs.ReportData.{status_data}
 
 -- ---- the values of an entry's fields
 

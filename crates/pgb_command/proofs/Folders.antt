@@ -8,10 +8,10 @@ use Rattle.pgb_outside.specs.Tree.{Held, file, Nodes, file_bytes, with_node, lon
 use Rattle.pgb_model.specs.Text.{Text}
 use Rattle.pgb_command.specs.Getting.{HasFile, IsPut, ChangesPath, temporary_path}
 
-set_other : (name : Name) (x : Option Held) (f : Nodes) (q : Name) → q ≢ name → with_node name x f q ≡ f q
+pub set_other : (name : Name) (x : Option Held) (f : Nodes) (q : Name) → q ≢ name → with_node name x f q ≡ f q
 set_other name x f q apart = grind (arith, common_steps, bytes_eq-Decides name q)
 
-set_same : (name : Name) (x : Option Held) (f : Nodes) → with_node name x f name ≡ x
+pub set_same : (name : Name) (x : Option Held) (f : Nodes) → with_node name x f name ≡ x
 set_same name x f = grind (arith, common_steps, bytes_eq-Decides name name)
 
 not_temporary : (path : Text) → path ≢ temporary_path path

@@ -10,6 +10,7 @@ mod Stores
 mod Searches
 mod ServedPaths
 mod Folders
+mod Passes
 mod Fetches
 mod PairFaults
 mod EntryLines
@@ -19,6 +20,7 @@ mod EndNames
 mod Archived
 mod Reported
 mod StoreCauses
+mod Logged
 mod Pushes
 mod Causes
 mod Talks

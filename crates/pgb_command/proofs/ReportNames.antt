@@ -1,6 +1,6 @@
 -- A report looks at no more of the names than the first and the last segment of each cluster.
 use Rattle.std.proofs.Common.{◌≡◌, inl, inr, List, [], ◌∷◌, ◌++◌, map, flat_map, filter, Bool, true, false, not, Option, Some, None, refl, sym, ap, ap₂, ◌∙◌, subst, arith}
-use Rattle.std.specs.Prelude.{◌==◌, ◌&&◌, ℕ, cond, if◌then◌else◌}
+use Rattle.std.specs.Prelude.{◌==◌, ℕ, cond, if◌then◌else◌}
 use Rattle.std.specs.List.{filter_map}
 use Rattle.std.proofs.lemmas.Bool.{and_parts}
 use Rattle.pgb_model.specs.declared.clusters.ClusterId.{ClusterId}
@@ -16,8 +16,8 @@ use Rattle.pgb_options.specs.declared.options.OutputWord.TheVariants.{Text as As
 use Rattle.pgb_info.proofs.Numbers.{in_map, map_in}
 use Rattle.pgb_report.specs.declared.report.ArchivedName.{ArchivedName}
 use Rattle.pgb_report.specs.Archived.{id_of, is_same_id, whole_segment, segment_under, segments_under, least, greatest}
-use Rattle.pgb_report.specs.ReportText.{is_current, shown_clusters, archive_bounds, bounds_text, cluster_lines, report_lines, report_text_of}
-use Rattle.pgb_report.specs.ReportData.{archive_data, stanza_data, report_data, report_json_of}
+use Rattle.pgb_report.specs.ReportText.{is_current, shown_clusters, archive_bounds, bounds_text, cluster_lines, report_text_of}
+use Rattle.pgb_report.specs.ReportData.{archive_data, report_json_of}
 use Rattle.pgb_command.specs.Reporting.{report_by, named}
 
 -- ---- the segments under an id

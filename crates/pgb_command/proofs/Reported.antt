@@ -1,6 +1,6 @@
 -- What info reports of a disk is the report on the repository that it stands for.
-use Rattle.std.proofs.Common.{◌≡◌, inl, inr, ℕ, List, [], ◌∷◌, ◌++◌, map, flat_map, take, length, codes, Bool, true, false, Option, Some, None, refl, sym, ap, ap₂, ◌∙◌, subst, string_bytes}
-use Rattle.std.specs.Prelude.{◌⊎◌, IfSome, IsSome, IsSomeAnd}
+use Rattle.std.proofs.Common.{◌≡◌, List, [], ◌∷◌, ◌++◌, map, flat_map, take, length, codes, Bool, true, false, Option, Some, None, refl, sym, ap, ap₂, ◌∙◌, subst}
+use Rattle.std.specs.Prelude.{IsSome}
 use Rattle.serde_json.specs.Data.{Data, string}
 use Rattle.serde_json.specs.Written.{compact_text}
 use Rattle.std.specs.declared.cmp.Ordering.{Ordering}
@@ -8,7 +8,6 @@ use Rattle.std.specs.declared.cmp.Ordering.TheVariants.{Less, Equal, Greater}
 use Rattle.std.specs.Ordering.{is_gt, ordering_reverse, match_ordering}
 use Rattle.std.proofs.lemmas.Cmp.{nat_list_cmp_total}
 use Rattle.sha1.specs.Sha1.{sha1}
-use Rattle.pgb_text.specs.Sum.{IsSum}
 use Rattle.pgb_text.proofs.Digests.{IsSum-sha1}
 use Rattle.pgb_outside.specs.Content.{Content}
 use Rattle.pgb_outside.specs.Order.{is_before}
@@ -23,15 +22,14 @@ use Rattle.pgb_model.specs.Names.{archive_info, backup_info, segment_text}
 use Rattle.pgb_model.specs.Fields.{fields, list_of}
 use Rattle.pgb_model.specs.InfoFiles.{entry_field}
 use Rattle.pgb_model.specs.Values.{ArchiveInfo, BackupInfo, Entry}
-use Rattle.pgb_model.specs.Repository.{Archived, Stanza, identity_of, id_of}
-use Rattle.pgb_model.specs.Stands.{HasStanza, IsWalName, IsArchivePlace, stored_name, archive_value, backup_value}
+use Rattle.pgb_model.specs.Repository.{Stanza, identity_of, id_of}
+use Rattle.pgb_model.specs.Stands.{HasStanza, IsWalName, stored_name, archive_value, backup_value}
 use Rattle.pgb_model.specs.Now.{NowStands}
 use Rattle.pgb_model.proofs.Pushed.{file_of}
 use Rattle.pgb_info.proofs.Numbers.{in_map, map_in}
 use Rattle.pgb_info.proofs.OneArchive.{one_archive_pair}
 use Rattle.pgb_options.specs.declared.options.OutputWord.{OutputWord}
 use Rattle.pgb_options.specs.declared.options.OutputWord.TheVariants.{Text as AsText, Json as AsJson}
-use Rattle.pgb_stanza.specs.Pairs.{HavePairs}
 use Rattle.pgb_stanza.proofs.OneBackup.{Agree, pair_agrees}
 use Rattle.pgb_archive.specs.Stored.{archive_path}
 use Rattle.pgb_archive.specs.Ends.{StoresWhole}
@@ -48,7 +46,7 @@ use Rattle.pgb_command.specs.Reporting.{report_by, named, AreRound, HaveEnds, Is
 use Rattle.pgb_command.proofs.Archived.{place_of}
 use Rattle.pgb_command.proofs.EntryLines.{same_backup_lines, same_status_text, same_status_data}
 use Rattle.pgb_command.proofs.Ends.{Le, le_itself, AtOrBefore, AtOrBehind, same_least, same_greatest}
-use Rattle.pgb_command.proofs.ReportNames.{segment_in, in_segments, SameEnds, AllEnds, same_names}
+use Rattle.pgb_command.proofs.ReportNames.{segment_in, in_segments, SameEnds, same_names}
 
 -- ---- the names
 

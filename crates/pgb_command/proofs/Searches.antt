@@ -15,7 +15,8 @@ use Rattle.pgb_archive.specs.Causes.{StoresBytes, GetCause}
 use Rattle.pgb_command.specs.declared.fault.Fault.{Fault}
 use Rattle.pgb_command.specs.declared.fault.Fault.TheVariants.{Settings, ConfigMissing, SegmentName, PathOutside, Held, StanzaMissing, InfoDamaged, HistoryDiffers, StanzaMismatch, ArchiveLost, SegmentMissing, TooLong, TooMany, HeaderForm, SegmentSize, HeaderMismatch, Ambiguous, Duplicate, SegmentDamaged, Server, Wire, NotBuilt, ControlMissing, ControlShort, VersionText, VersionUnsupported, Disk, Tree, Locks, Source, Sink, NoMemory}
 use Rattle.pgb_command.specs.Storing.{id_kept}
-use Rattle.pgb_command.specs.Getting.{IsSame, HasSame, NoneAbove, FoundIn, AbsentIn, RefusedIn, UnderCause, SearchCause}
+use Rattle.pgb_command.specs.Getting.{IsSame, HasSame, NoneAbove, FoundIn, AbsentIn, RefusedIn}
+use Rattle.pgb_command.specs.Serving.{UnderCause, SearchCause}
 
 -- ---- numbers
 
@@ -84,44 +85,44 @@ module _ (stanza : Text) (told : Control) (name : ArchiveName) where
     refused_in now fault absent cause = record { cluster = c; listed = listed_in; same = same; above = none_above now absent; cause = cause }
 
   -- why a look under one id fails is why the search does
-  pub cause_in : (history xs : List ClusterId) (c : ClusterId) (ys : List ClusterId) → history ≡ xs ++ c ∷ ys → AreFrom 1 (ids history) → (now : Option Content) (rose risen : Type 0) → (rose → risen) → IfSome now (AbsentIn ys stanza told name) → (e : Fault) →
-      UnderCause (IsSame told c) stanza (id_kept c) name now rose e → SearchCause history stanza told name now risen e
-  cause_in history xs c ys is from now rose risen up absent (Settings u) h = absurd h
-  cause_in history xs c ys is from now rose risen up absent (ConfigMissing a) h = absurd h
-  cause_in history xs c ys is from now rose risen up absent (SegmentName a) h = absurd h
-  cause_in history xs c ys is from now rose risen up absent (PathOutside a) h = absurd h
-  cause_in history xs c ys is from now rose risen up absent (Held a) h = absurd h
-  cause_in history xs c ys is from now rose risen up absent (StanzaMissing a) h = absurd h
-  cause_in history xs c ys is from now rose risen up absent (InfoDamaged a b k) h = absurd h
-  cause_in history xs c ys is from now rose risen up absent (StanzaMismatch a b) h = absurd h
-  cause_in history xs c ys is from now rose risen up absent (HistoryDiffers a) h = absurd h
-  cause_in history xs c ys is from now rose risen up absent (ArchiveLost a) h = absurd h
-  cause_in history xs c ys is from now rose risen up absent (SegmentMissing a) h = absurd h
-  cause_in history xs c ys is from now rose risen up absent (TooLong a b) h = refused_in history xs c ys is from h.0 now (LongOf a b) absent h.1
-  cause_in history xs c ys is from now rose risen up absent (TooMany a) h = absurd h
-  cause_in history xs c ys is from now rose risen up absent (HeaderForm a) h = absurd h
-  cause_in history xs c ys is from now rose risen up absent (SegmentSize a b) h = absurd h
-  cause_in history xs c ys is from now rose risen up absent (HeaderMismatch a b) h = absurd h
-  cause_in history xs c ys is from now rose risen up absent (Ambiguous a b) h = refused_in history xs c ys is from h.0 now (AmbiguousOf a b) absent h.1
-  cause_in history xs c ys is from now rose risen up absent (Duplicate a b) h = absurd h
-  cause_in history xs c ys is from now rose risen up absent (SegmentDamaged a b) h = refused_in history xs c ys is from h.0 now (DamagedOf a b) absent h.1
-  cause_in history xs c ys is from now rose risen up absent (NotBuilt a) h = absurd h
-  cause_in history xs c ys is from now rose risen up absent (ControlMissing a) h = absurd h
-  cause_in history xs c ys is from now rose risen up absent (ControlShort a) h = absurd h
-  cause_in history xs c ys is from now rose risen up absent VersionText h = absurd h
-  cause_in history xs c ys is from now rose risen up absent (VersionUnsupported a) h = absurd h
-  cause_in history xs c ys is from now rose risen up absent Disk h = up h
-  cause_in history xs c ys is from now rose risen up absent Tree h = absurd h
-  cause_in history xs c ys is from now rose risen up absent (Server a) h = absurd h
-  cause_in history xs c ys is from now rose risen up absent Wire h = absurd h
-  cause_in history xs c ys is from now rose risen up absent Locks h = absurd h
-  cause_in history xs c ys is from now rose risen up absent Source h = absurd h
-  cause_in history xs c ys is from now rose risen up absent Sink h = absurd h
-  cause_in history xs c ys is from now rose risen up absent NoMemory h = tt
+  pub cause_in : (history xs : List ClusterId) (c : ClusterId) (ys : List ClusterId) → history ≡ xs ++ c ∷ ys → AreFrom 1 (ids history) → (now : Option Content) (rose risen fell fallen : Type 0) → (rose → risen) → (fell → fallen) → IfSome now (AbsentIn ys stanza told name) → (e : Fault) →
+      UnderCause (IsSame told c) stanza (id_kept c) name now rose fell e → SearchCause history stanza told name now risen fallen e
+  cause_in history xs c ys is from now rose risen fell fallen up down absent (Settings u) h = absurd h.0
+  cause_in history xs c ys is from now rose risen fell fallen up down absent (ConfigMissing a) h = absurd h.0
+  cause_in history xs c ys is from now rose risen fell fallen up down absent (SegmentName a) h = absurd h.0
+  cause_in history xs c ys is from now rose risen fell fallen up down absent (PathOutside a) h = absurd h.0
+  cause_in history xs c ys is from now rose risen fell fallen up down absent (Held a) h = absurd h.0
+  cause_in history xs c ys is from now rose risen fell fallen up down absent (StanzaMissing a) h = absurd h.0
+  cause_in history xs c ys is from now rose risen fell fallen up down absent (InfoDamaged a b k) h = absurd h.0
+  cause_in history xs c ys is from now rose risen fell fallen up down absent (StanzaMismatch a b) h = absurd h.0
+  cause_in history xs c ys is from now rose risen fell fallen up down absent (HistoryDiffers a) h = absurd h.0
+  cause_in history xs c ys is from now rose risen fell fallen up down absent (ArchiveLost a) h = absurd h.0
+  cause_in history xs c ys is from now rose risen fell fallen up down absent (SegmentMissing a) h = absurd h.0
+  cause_in history xs c ys is from now rose risen fell fallen up down absent (TooLong a b) h = refused_in history xs c ys is from h.1 now (LongOf a b) absent h.0
+  cause_in history xs c ys is from now rose risen fell fallen up down absent (TooMany a) h = absurd h.0
+  cause_in history xs c ys is from now rose risen fell fallen up down absent (HeaderForm a) h = absurd h.0
+  cause_in history xs c ys is from now rose risen fell fallen up down absent (SegmentSize a b) h = absurd h.0
+  cause_in history xs c ys is from now rose risen fell fallen up down absent (HeaderMismatch a b) h = absurd h.0
+  cause_in history xs c ys is from now rose risen fell fallen up down absent (Ambiguous a b) h = refused_in history xs c ys is from h.1 now (AmbiguousOf a b) absent h.0
+  cause_in history xs c ys is from now rose risen fell fallen up down absent (Duplicate a b) h = absurd h.0
+  cause_in history xs c ys is from now rose risen fell fallen up down absent (SegmentDamaged a b) h = refused_in history xs c ys is from h.1 now (DamagedOf a b) absent h.0
+  cause_in history xs c ys is from now rose risen fell fallen up down absent (NotBuilt a) h = absurd h.0
+  cause_in history xs c ys is from now rose risen fell fallen up down absent (ControlMissing a) h = absurd h.0
+  cause_in history xs c ys is from now rose risen fell fallen up down absent (ControlShort a) h = absurd h.0
+  cause_in history xs c ys is from now rose risen fell fallen up down absent VersionText h = absurd h.0
+  cause_in history xs c ys is from now rose risen fell fallen up down absent (VersionUnsupported a) h = absurd h.0
+  cause_in history xs c ys is from now rose risen fell fallen up down absent Disk h = up h.0
+  cause_in history xs c ys is from now rose risen fell fallen up down absent Tree h = down h.0
+  cause_in history xs c ys is from now rose risen fell fallen up down absent (Server a) h = absurd h.0
+  cause_in history xs c ys is from now rose risen fell fallen up down absent Wire h = absurd h.0
+  cause_in history xs c ys is from now rose risen fell fallen up down absent Locks h = absurd h.0
+  cause_in history xs c ys is from now rose risen fell fallen up down absent Source h = absurd h.0
+  cause_in history xs c ys is from now rose risen fell fallen up down absent Sink h = absurd h.0
+  cause_in history xs c ys is from now rose risen fell fallen up down absent NoMemory h = tt
 
-  pub cause_err : {T : Type 0} (result : Result T Fault) (e : Fault) → IsErrAnd result (λ f. f ≡ e) → (history : List ClusterId) (now : Option Content) (risen : Type 0) → SearchCause history stanza told name now risen e → IfErr result (SearchCause history stanza told name now risen)
-  cause_err (Ok x) e is history now risen cause = tt
-  cause_err (Err f) e is history now risen cause = subst (SearchCause history stanza told name now risen) (sym is) cause
+  pub cause_err : {T : Type 0} (result : Result T Fault) (e : Fault) → IsErrAnd result (λ f. f ≡ e) → (history : List ClusterId) (now : Option Content) (risen fallen : Type 0) → SearchCause history stanza told name now risen fallen e → IfErr result (SearchCause history stanza told name now risen fallen)
+  cause_err (Ok x) e is history now risen fallen cause = tt
+  cause_err (Err f) e is history now risen fallen cause = subst (SearchCause history stanza told name now risen fallen) (sym is) cause
 
 -- ---- whether there is one
 

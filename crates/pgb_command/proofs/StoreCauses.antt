@@ -4,8 +4,8 @@ use Rattle.std.specs.Prelude.{IfSome, IsSome, IsSomeAnd, IsErrAnd, string_bytes}
 use Rattle.sha1.specs.Sha1.{sha1}
 use Rattle.pgb_text.specs.Sum.{IsSum}
 use Rattle.pgb_text.proofs.Digests.{IsSum-sha1}
-use Rattle.pgb_outside.specs.Content.{Content}
-use Rattle.pgb_outside.specs.Tree.{Nodes, file_bytes}
+use Rattle.pgb_outside.specs.Content.{Name, Content}
+use Rattle.pgb_outside.specs.Tree.{Nodes}
 use Rattle.pgb_model.specs.declared.clusters.ClusterId.{ClusterId}
 use Rattle.pgb_model.specs.declared.wal.ArchiveId.{ArchiveId}
 use Rattle.pgb_model.specs.declared.wal.ArchiveName.{ArchiveName}
@@ -16,32 +16,26 @@ use Rattle.pgb_model.specs.Stands.{IsArchiveFile, IsWalName}
 use Rattle.pgb_stanza.specs.declared.control.Control.{Control}
 use Rattle.pgb_archive.specs.declared.fault.ArchiveFault.{ArchiveFault}
 use Rattle.pgb_archive.specs.declared.fault.ArchiveFault.TheVariants.{HeaderForm, SegmentSize, HeaderMismatch, Ambiguous, Duplicate, NotFound, SegmentDamaged, TooLong, TooMany, Disk, NoMemory}
+use Rattle.pgb_archive.specs.declared.fault.PushFault.{PushFault}
+use Rattle.pgb_archive.specs.declared.fault.PushFault.TheVariants.{Archive, Source as PushSource}
 use Rattle.pgb_archive.specs.declared.pushing.Pushed.{Pushed}
 use Rattle.pgb_archive.specs.declared.pushing.Pushed.TheVariants.{New, Same}
 use Rattle.pgb_archive.specs.Stored.{HasSum, Stores, StoresNone, StoresOnly, StoresTwo, archive_path}
+use Rattle.pgb_archive.specs.Pushing.{OnPushFinding, PushFromCause}
 use Rattle.pgb_archive.specs.Causes.{IsFileOf, StoresLong, PushCause, OnFinding as OnArchiveFinding}
 use Rattle.pgb_command.specs.declared.fault.Fault.{Fault}
-use Rattle.pgb_command.specs.Faults.{of_archive}
+use Rattle.pgb_command.specs.Faults.{of_archive, of_push}
 use Rattle.pgb_command.specs.Answers.{OnEarly, same_line}
 use Rattle.pgb_command.specs.Outcomes.{pushed_lines}
 use Rattle.pgb_command.specs.Storing.{SameFiles, id_kept}
-use Rattle.pgb_command.specs.WalPath.{IsWalPath, HasWal, wal_path}
-use Rattle.pgb_command.specs.Causes.{IsReady, IsRefusedPush, IsStored, StoreCause, PushFileCause}
+use Rattle.pgb_command.specs.WalPath.{IsWalPath, wal_path}
+use Rattle.pgb_command.specs.LogFile.{told_file}
+use Rattle.pgb_command.proofs.Logged.{IsThere, read_bytes}
+use Rattle.pgb_command.specs.Causes.{IsCurrent, IsReady, IsRefusedPush, IsStored, StoreCause, PushFileCause}
 use Rattle.pgb_command.specs.declared.fault.ControlFile.TheVariants.{Control as ControlName, Version as VersionName}
 use Rattle.pgb_command.specs.declared.fault.Fault.TheVariants as faults
 use Rattle.pgb_command.specs.Locking.{archive_lock}
 use Rattle.pgb_command.specs.Making.{OpeningCause}
-
--- the file that was read
-pub has_wal : (nodes mid : Option Nodes) (folder path name : Text) (wal : ArchiveName) (items bytes : Text) → mid ≡ nodes → name ≡ wal_text wal → bytes ≡ items → IsWalPath folder path wal
-    → IfSome mid (λ f. file_bytes (f (wal_path name)) ≡ Some items) → IfSome nodes (λ f. HasWal f folder path wal bytes)
-has_wal nodes mid folder path name wal items bytes same named is path_is h =
-    let there : IfSome nodes (λ f. file_bytes (f (wal_path name)) ≡ Some items) = subst (λ (o : Option Nodes). IfSome o (λ f. file_bytes (f (wal_path name)) ≡ Some items)) same h in
-    go nodes (subst (λ (b : Text). IfSome nodes (λ f. file_bytes (f (wal_path name)) ≡ Some b)) (sym is) there)
-  where
-    go : (o : Option Nodes) → IfSome o (λ f. file_bytes (f (wal_path name)) ≡ Some bytes) → IfSome o (λ f. HasWal f folder path wal bytes)
-    go None k = tt
-    go (Some f) k = record { named = path_is; is = subst (λ (n : Text). file_bytes (f (wal_path n)) ≡ Some bytes) named k }
 
 -- what holds of a finding of the archive
 early_of : (e : ArchiveFault) (P Q : Type 0) → (P → Q) → OnArchiveFinding e P → OnEarly (of_archive e) Q
@@ -60,6 +54,11 @@ early_of NoMemory P Q to h = tt
 pub early_err : {T : Type 0} (result : Result T Fault) (e : ArchiveFault) (P Q : Type 0) → IsErrAnd result (λ fault. fault ≡ of_archive e) → (P → Q) → OnArchiveFinding e P → IfErr result (λ f. OnEarly f Q)
 early_err (Ok x) e P Q is to h = tt
 early_err (Err f) e P Q is to h = subst (λ (x : Fault). OnEarly x Q) (sym is) (early_of e P Q to h)
+
+pub early_push : {T : Type 0} (result : Result T Fault) (e : PushFault) (P Q : Type 0) → IsErrAnd result (λ fault. fault ≡ of_push e) → (P → Q) → OnPushFinding e P → IfErr result (λ f. OnEarly f Q)
+early_push result (Archive fault) P Q is to h = early_err result fault P Q is to h
+early_push (Ok x) PushSource P Q is to h = tt
+early_push (Err f) PushSource P Q is to h = subst (λ (x : Fault). OnEarly x Q) (sym is) tt
 
 -- ---- what is stored of a file, before and after the healing
 
@@ -181,6 +180,19 @@ module _ (stanza folder path : Text) (repo mid : Option Content) (nodes : Option
     told_by = subst (λ (l : Text). ((l ≡ []) × IfSome repo (λ f. StoresNone stanza (id_kept c) wal f)) ⊎ ((l ≡ same_line (wal_text wal)) × IfSome repo (λ f. StoresOnly stanza (id_kept c) wal f (sha1 bytes))))
         (sym (is ∙ ap (pushed_lines pushed) named)) (lines_for pushed new one);
   }
+
+-- why the file that was opened isn't stored
+pub push_err : (stanza folder path : Text) (wal : ArchiveName) (named : IsWalPath folder path wal) (place : Name) → place ≡ wal_path (wal_text wal) → (nodes seen : Option Nodes) → seen ≡ nodes → IsThere nodes place
+    → (repo mid : Option Content) (told : Control) (c : ClusterId) → IsCurrent stanza repo nodes told c → (id_kept c).version < 2 ^ 32 → (id_kept c).number < 2 ^ 32 → (IsSome repo → IsSome mid) → (IsSome repo → SameFiles stanza repo mid)
+    → {T : Type 0} (result : Result T Fault) (d t l h rose source_rose : Type 0) (e : PushFault) (first : Text) (count : ℕ) → (rose → d) → (source_rose → t) → IsErrAnd result (λ fault. fault ≡ of_push e)
+    → PushFromCause stanza (id_kept c) wal told.system (told_file seen place) first count mid rose source_rose e → IfErr result (StoreCause stanza folder path repo nodes d t l h)
+push_err stanza folder path wal named place lies nodes seen same there repo mid told c of version number kept files result d t l h rose source_rose (Archive fault) first count to_disk to_tree is k =
+    let has = read_bytes folder path wal named place lies nodes seen same there k.0 k.1.told in
+    let ready : IsReady stanza folder path repo nodes wal k.0 told c = record { has = has; of = of } in
+    cause_err stanza folder path repo mid nodes wal k.0 told c ready version number named.fits kept files result d t l h rose fault to_disk is k.2
+push_err stanza folder path wal named place lies nodes seen same there repo mid told c of version number kept files (Ok x) d t l h rose source_rose PushSource first count to_disk to_tree is k = tt
+push_err stanza folder path wal named place lies nodes seen same there repo mid told c of version number kept files (Err f) d t l h rose source_rose PushSource first count to_disk to_tree is k =
+    subst (StoreCause stanza folder path repo nodes d t l h) (sym is) (to_tree k)
 
 -- ---- of a push, with the openings before
 

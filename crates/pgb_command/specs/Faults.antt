@@ -5,6 +5,8 @@ use Rattle.pgb_stanza.specs.declared.control.ControlFault.{ControlFault}
 use Rattle.pgb_stanza.specs.declared.control.ControlFault.TheVariants.{ControlShort as ShortControl, VersionText as NoVersion, VersionUnsupported as OtherVersion}
 use Rattle.pgb_archive.specs.declared.fault.ArchiveFault.{ArchiveFault}
 use Rattle.pgb_archive.specs.declared.fault.ArchiveFault.TheVariants.{HeaderForm as FormOf, SegmentSize as SizeOf, HeaderMismatch as MismatchOf, Ambiguous as AmbiguousOf, Duplicate as DuplicateOf, NotFound, SegmentDamaged as DamagedOf, TooLong as LongOf, TooMany as ManyOf, Disk as ArchiveDisk, NoMemory as ArchiveNoMemory}
+use Rattle.pgb_archive.specs.declared.fault.PushFault.{PushFault}
+use Rattle.pgb_archive.specs.declared.fault.PushFault.TheVariants.{Archive, Source as PushSource}
 use Rattle.pgb_options.specs.declared.usage.Usage.{Usage}
 use Rattle.pgb_options.specs.declared.usage.Usage.TheVariants.{NoMemory as UsageNoMemory}
 use Rattle.pgb_server.specs.declared.fault.ServerFault.{ServerFault}
@@ -46,3 +48,7 @@ of_archive (LongOf name limit) = TooLong name limit
 of_archive (ManyOf limit) = TooMany limit
 of_archive ArchiveDisk = Disk
 of_archive ArchiveNoMemory = NoMemory
+
+abbrev pub of_push : PushFault → Fault
+of_push (Archive fault) = of_archive fault
+of_push PushSource = Tree

@@ -5,7 +5,6 @@ use Rattle.pgb_outside.specs.Content.{Content, Name, at, is_below}
 use Rattle.pgb_outside.specs.Tree.{Nodes, file_bytes}
 use Rattle.pgb_model.specs.declared.clusters.ClusterId.{ClusterId}
 use Rattle.pgb_model.specs.declared.clusters.Cluster.{Cluster}
-use Rattle.pgb_model.specs.declared.wal.ArchiveId.{ArchiveId}
 use Rattle.pgb_model.specs.declared.wal.ArchiveName.{ArchiveName}
 use Rattle.pgb_model.specs.Text.{Text, In}
 use Rattle.pgb_model.specs.Fields.{at_number}
@@ -77,24 +76,6 @@ pub record RefusedIn (history : List ClusterId) (stanza : Text) (told : Control)
   pub same : IsSame told cluster
   pub above : IfSome repo (NoneAbove history stanza told name cluster)
   pub cause : GetCause stanza (id_kept cluster) name repo ⊥ fault
-
--- why a file isn't got under the id of a cluster that is the data folder's
-abbrev pub UnderCause : Type 0 → Text → ArchiveId → ArchiveName → Option Content → Type 0 → Fault → Type 0
-UnderCause same stanza id name repo rose (Ambiguous first second) = same × GetCause stanza id name repo ⊥ (AmbiguousOf first second)
-UnderCause same stanza id name repo rose (SegmentDamaged sum found) = same × GetCause stanza id name repo ⊥ (DamagedOf sum found)
-UnderCause same stanza id name repo rose (TooLong path limit) = same × GetCause stanza id name repo ⊥ (LongOf path limit)
-UnderCause same stanza id name repo rose Disk = rose
-UnderCause same stanza id name repo rose NoMemory = Unit {0}
-UnderCause same stanza id name repo rose other = ⊥
-
--- why a search ends without an answer
-abbrev pub SearchCause : List ClusterId → Text → Control → ArchiveName → Option Content → Type 0 → Fault → Type 0
-SearchCause history stanza told name repo rose (Ambiguous first second) = RefusedIn history stanza told name repo (AmbiguousOf first second)
-SearchCause history stanza told name repo rose (SegmentDamaged sum found) = RefusedIn history stanza told name repo (DamagedOf sum found)
-SearchCause history stanza told name repo rose (TooLong path limit) = RefusedIn history stanza told name repo (LongOf path limit)
-SearchCause history stanza told name repo rose Disk = rose
-SearchCause history stanza told name repo rose NoMemory = Unit {0}
-SearchCause history stanza told name repo rose other = ⊥
 
 -- this holds of the archive pair's value
 abbrev pub OnHistory : Text → Content → (ArchiveInfo → Type 0) → Type 0

@@ -10,10 +10,12 @@ pub mod Cluster
 pub mod Talking
 pub mod WalPath
 pub mod WalCause
+pub mod LogFile
 pub mod Commands
 pub mod Storing
 pub mod Making
 pub mod Getting
+pub mod Serving
 pub mod Reporting
 pub mod Causes
 pub mod Doing

@@ -1,5 +1,5 @@
 // archive-get.
-ghost use Rattle.std.specs.Prelude.{◌≡◌, ◌≤◌, ◌++◌, codes, string_bytes, Some, OnOk, IfOk, IfErr, IfSome, IfNone};
+ghost use Rattle.std.specs.Prelude.{◌≡◌, ◌≤◌, ◌++◌, codes, string_bytes, Some, OnOk, IfOk, IfErr, IfSome};
 ghost use Rattle.pgb_outside.specs.Moments.{Rests};
 ghost use Rattle.pgb_outside.specs.Cause.{Rises};
 ghost use Rattle.pgb_model.specs.declared.clusters.ClusterId.{ClusterId};
@@ -10,30 +10,23 @@ ghost use Rattle.pgb_model.specs.Values.{archive_info_of};
 ghost use Rattle.pgb_command.specs.declared.fault.Fault.TheVariants.{StanzaMismatch};
 ghost use Rattle.pgb_command.specs.Cluster.{FolderTells};
 ghost use Rattle.pgb_stanza.specs.Pairs.{identity_kept, identity_told};
-ghost use Rattle.pgb_command.specs.Getting.{AreWords, served_path, OnHistory, HasSame, FoundIn, AbsentIn, GotBy, IsServed, ChangesPath, FetchCause, WordsCause, GetFileCause};
+ghost use Rattle.pgb_command.specs.Getting.{AreWords, served_path, OnHistory, HasSame, FoundIn, AbsentIn, GotBy, IsServed, ChangesPath, WordsCause, GetFileCause};
+ghost use Rattle.pgb_command.specs.Serving.{Puts, ServeCause};
 ghost use Rattle.pgb_command.specs.Outcomes.{outcome_ending, OnNothing};
 
 use crate::cluster::read_cluster;
 use crate::current::read_archive_value;
 use crate::fault::Fault;
-use crate::finding::{has_cluster, search};
+use crate::finding::{Wanted, has_cluster, search};
 use crate::opening::prepare_reading;
 use crate::outcome::Outcome;
-use crate::serving::put_file;
 use crate::settings::Settings;
-use pgb_model::{ArchiveInfo, ArchiveName};
+use pgb_model::ArchiveInfo;
 use pgb_outside::{Disk, Tree};
 use pgb_paths::check_name;
 use pgb_stanza::{Control, Identity};
 use pgb_wal::read_archive_name;
 use std::alloc::{AllocError, Global};
-
-// A file of the archive, and the path below the data folder at which it is wanted.
-#[derive(Drop)]
-struct Wanted<'a> {
-    name: ArchiveName,
-    path: &'a str,
-}
 
 fn front_of(alloc: Global, folder: &str) -> Result<String, AllocError>
     ensures { IfOk result (λ front. string_bytes front ≡ folder.now ++ codes "/") }
@@ -94,28 +87,32 @@ fn mismatch(info: &ArchiveInfo, told: &Control) -> Fault
     }
 }
 
-// The bytes of the file in the repository.
-fn fetch<D: Disk>(
+// Serves a file of the stanza, and tells whether the repository has it.
+fn serve_file<D: Disk, T: Tree>(
     alloc: Global,
     repo: &mut D,
+    tree: &mut T,
     stanza: &str,
     told: &Control,
-    name: &ArchiveName,
-) -> Result<Option<Vec<u8>>, Fault>
-    ensures found { IfOk result (λ r. IfSome r (λ v. IfSome (D.view repo.old).now (λ f. OnHistory stanza.now f (λ h. FoundIn h.history stanza.now told.now name.now v.items f)))) }
-    ensures absent { IfOk result (λ r. IfNone r (IfSome (D.view repo.old).now (λ f. OnHistory stanza.now f (λ h. HasSame h.history told.now × AbsentIn h.history stanza.now told.now name.now f)))) }
-    ensures cause { IfErr result (FetchCause stanza.now told.now name.now (D.view repo.old).now (Rises (D.faults repo.old) (D.faults repo.new))) }
+    wanted: &Wanted,
+) -> Result<bool, Fault>
+    ensures puts { Puts result (λ b. IfSome (D.view repo.old).now (λ f. OnHistory stanza.now f (λ h. FoundIn h.history stanza.now told.now wanted.now.name b f)))
+        (IfSome (D.view repo.old).now (λ f. OnHistory stanza.now f (λ h. HasSame h.history told.now × AbsentIn h.history stanza.now told.now wanted.now.name f)))
+        wanted.now.path.now (T.nodes tree.old) (T.nodes tree.new) }
+    ensures changes { ChangesPath wanted.now.path.now (λ b. IfSome (D.view repo.old).now (λ f. OnHistory stanza.now f (λ h. FoundIn h.history stanza.now told.now wanted.now.name b f))) (T.nodes tree.old) (T.nodes tree.new) }
+    ensures cause { IfErr result (ServeCause stanza.now told.now wanted.now.name (D.view repo.old).now (Rises (D.faults repo.old) (D.faults repo.new)) (Rises (T.faults tree.old) (T.faults tree.new))) }
     ensures now { (D.view repo.new).now ≡ (D.view repo.old).now }
     ensures time { Rests (D.view repo.old) (D.view repo.new) }
-    ensures place { D.place repo.new ≡ D.place repo.old }
-    ensures later { D.faults repo.old ≤ D.faults repo.new }
+    ensures repo_place { D.place repo.new ≡ D.place repo.old }
+    ensures tree_place { T.place tree.new ≡ T.place tree.old }
+    ensures repo_later { D.faults repo.old ≤ D.faults repo.new }
+    ensures tree_later { T.faults tree.old ≤ T.faults tree.new }
 {
     let info = read_archive_value(alloc, repo, stanza)?;
     if !has_cluster(&info.history, told) {
         return Err(mismatch(&info, told));
     }
-    let found = search(alloc, repo, stanza, &info.history, told, name)?;
-    Ok(found)
+    search(alloc, repo, tree, stanza, &info.history, told, wanted)
 }
 
 /// Serves a file of the archive at a path of the data folder.
@@ -141,13 +138,11 @@ pub(crate) fn get_file<D: Disk, T: Tree>(
     let wanted = wanted_by(alloc, settings.pg1_path, word, path)?;
     prepare_reading(alloc, repo, tree, settings)?;
     let told = read_cluster(alloc, tree)?;
-    match fetch(alloc, repo, settings.stanza, &told, &wanted.name)? {
-        Some(bytes) => {
-            put_file(alloc, tree, wanted.path, &bytes)?;
-            Ok(Outcome::Silent)
-        }
-        None => Ok(Outcome::Absent {
+    if serve_file(alloc, repo, tree, settings.stanza, &told, &wanted)? {
+        Ok(Outcome::Silent)
+    } else {
+        Ok(Outcome::Absent {
             name: String::from_str(alloc, word)?,
-        }),
+        })
     }
 }

@@ -17,18 +17,20 @@ ghost use Rattle.pgb_command.specs.WalPath.{IsWalPath};
 use crate::cluster::read_cluster;
 use crate::current::current_id;
 use crate::fault::Fault;
+use crate::log_file::open_log_file;
 use crate::opening::prepare;
 use crate::outcome::Outcome;
 use crate::settings::Settings;
-use crate::wal_file::{WalFile, file_at, read_file};
-use pgb_archive::{Pushed, push};
+use crate::wal_file::{WalFile, file_at};
+use pgb_archive::{Pushed, push_from};
 use pgb_model::ArchiveName;
 use pgb_outside::{Disk, Locks, Tree};
 use std::alloc::Global;
 
 // A segment has at most 1 GiB, and a history 1 MiB.
-fn limit_of(name: &ArchiveName) -> usize
-    ensures { result ≡ limit_of name.now }
+fn limit_of(name: &ArchiveName) -> u64
+    ensures limit { result ≡ limit_of name.now }
+    ensures least { 65536 ≤ result }
 {
     match name {
         ArchiveName::Segment(_) | ArchiveName::Partial(_) => 1 << 30,
@@ -76,15 +78,17 @@ fn store<D: Disk, T: Tree>(
 {
     let told = read_cluster(alloc, tree)?;
     let id = current_id(alloc, repo, settings.stanza, &told)?;
-    let bytes = read_file(alloc, tree, path, &file.text, limit_of(&file.name))?;
-    let pushed = push(
+    let log = open_log_file(alloc, tree, path, &file.text, limit_of(&file.name))?;
+    let pushed = push_from(
         alloc,
         repo,
+        tree,
         settings.stanza,
         &id,
         &file.name,
         told.system,
-        &bytes,
+        &log,
+        log.front(),
     )?;
     Ok(outcome_of(pushed, file.text))
 }

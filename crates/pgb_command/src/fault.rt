@@ -3,7 +3,7 @@ ghost use Rattle.std.specs.Prelude.{◌≡◌};
 ghost use Rattle.pgb_command.specs.Answers.{status_of, usage_status, server_status};
 ghost use Rattle.pgb_command.specs.Faults.{of_tree, of_source};
 
-use pgb_archive::ArchiveFault;
+use pgb_archive::{ArchiveFault, PushFault};
 use pgb_info::MemberFault;
 use pgb_options::{Usage, Verb};
 use pgb_outside::Stop;
@@ -214,6 +214,20 @@ impl From<ArchiveFault> for Fault {
             ArchiveFault::Disk => Fault::Disk,
             // that a file isn't there is no refusal, and is told by its reader
             ArchiveFault::NotFound | ArchiveFault::NoMemory => Fault::NoMemory,
+        }
+    }
+}
+
+impl From<PushFault> for Fault {
+    ghost use Rattle.std.specs.Prelude.{◌≡◌};
+    ghost use Rattle.pgb_command.specs.Faults.{of_push};
+
+    ghost from_gives = { λ s e. e ≡ of_push s };
+
+    fn from(fault: PushFault) -> Self {
+        match fault {
+            PushFault::Archive(fault) => Fault::from(fault),
+            PushFault::Source => Fault::Tree,
         }
     }
 }

@@ -1,21 +1,29 @@
-// Under which of the stanza's ids the archive has a file.
-ghost use Rattle.std.specs.Prelude.{◌≡◌, ◌≤◌, true, false, Decides, map, IfOk, IfErr, IfSome, IfNone};
+// A file of the archive is served from under that of the stanza's ids that has it.
+ghost use Rattle.std.specs.Prelude.{◌≡◌, ◌≤◌, true, false, Decides, map, IfOk, IfErr, IfSome};
 ghost use Rattle.pgb_outside.specs.Moments.{Rests};
 ghost use Rattle.pgb_outside.specs.Cause.{Rises};
 ghost use Rattle.pgb_model.specs.declared.clusters.ClusterId.{ClusterId};
 ghost use Rattle.pgb_model.specs.InfoFiles.{AreFrom};
 ghost use Rattle.pgb_archive.specs.Stored.{StoresNone};
-ghost use Rattle.sha1.specs.Sha1.{sha1};
-ghost use Rattle.pgb_archive.specs.Causes.{StoresBytes};
+ghost use Rattle.pgb_archive.specs.Paths.{has_sum};
 ghost use Rattle.pgb_command.specs.Storing.{id_kept};
-ghost use Rattle.pgb_command.specs.Getting.{IsSame, HasSame, FoundIn, AbsentIn, UnderCause, SearchCause};
+ghost use Rattle.pgb_command.specs.Getting.{IsSame, HasSame, FoundIn, AbsentIn, ChangesPath};
+ghost use Rattle.pgb_command.specs.Serving.{AreBytes, Puts, FileCause, UnderCause, SearchCause};
 
 use crate::fault::Fault;
-use pgb_archive::{ArchiveFault, get};
+use crate::serving::{Passed, pass_on, put_file};
+use pgb_archive::{ArchiveFault, get, present};
 use pgb_model::{ArchiveId, ArchiveName, ClusterId};
-use pgb_outside::Disk;
+use pgb_outside::{Disk, Tree};
 use pgb_stanza::Control;
 use std::alloc::Global;
+
+/// A file of the archive, and the path below the data folder at which it is wanted.
+#[derive(Drop)]
+pub(crate) struct Wanted<'a> {
+    pub name: ArchiveName,
+    pub path: &'a str,
+}
 
 // Whether a cluster of the history is the data folder's.
 fn is_of(cluster: &ClusterId, told: &Control) -> bool
@@ -39,62 +47,139 @@ pub(crate) fn has_cluster(history: &[ClusterId], told: &Control) -> bool
     false
 }
 
-// The bytes of a file under the id of a cluster, where it is the data folder's and has the file.
-fn look_under<D: Disk>(
+// Whether a file's name in the archive tells its sum.
+fn has_sum(name: &ArchiveName) -> bool
+    ensures { result ≡ has_sum name.now }
+{
+    matches!(name, ArchiveName::Segment(_) | ArchiveName::Partial(_))
+}
+
+// Serves a file that is read whole, and tells whether it is archived under this id.
+fn serve_whole<D: Disk, T: Tree>(
     alloc: Global,
     repo: &mut D,
+    tree: &mut T,
+    stanza: &str,
+    id: &ArchiveId,
+    wanted: &Wanted,
+) -> Result<bool, Fault>
+    ensures puts { Puts result (AreBytes stanza.now id.now wanted.now.name (D.view repo.old).now) (IfSome (D.view repo.old).now (StoresNone stanza.now id.now wanted.now.name)) wanted.now.path.now (T.nodes tree.old) (T.nodes tree.new) }
+    ensures changes { ChangesPath wanted.now.path.now (AreBytes stanza.now id.now wanted.now.name (D.view repo.old).now) (T.nodes tree.old) (T.nodes tree.new) }
+    ensures cause { IfErr result (FileCause stanza.now id.now wanted.now.name (D.view repo.old).now (Rises (D.faults repo.old) (D.faults repo.new)) (Rises (T.faults tree.old) (T.faults tree.new))) }
+    ensures now { (D.view repo.new).now ≡ (D.view repo.old).now }
+    ensures time { Rests (D.view repo.old) (D.view repo.new) }
+    ensures repo_place { D.place repo.new ≡ D.place repo.old }
+    ensures tree_place { T.place tree.new ≡ T.place tree.old }
+    ensures repo_later { D.faults repo.old ≤ D.faults repo.new }
+    ensures tree_later { T.faults tree.old ≤ T.faults tree.new }
+{
+    match get(alloc, repo, stanza, id, &wanted.name) {
+        Ok(bytes) => {
+            put_file(alloc, tree, wanted.path, &bytes)?;
+            Ok(true)
+        }
+        Err(ArchiveFault::NotFound) => Ok(false),
+        Err(fault) => Err(Fault::from(fault)),
+    }
+}
+
+// Serves a segment in one pass over its bytes, or else whole, and tells whether it is archived under this id.
+fn serve_segment<D: Disk, T: Tree>(
+    alloc: Global,
+    repo: &mut D,
+    tree: &mut T,
+    stanza: &str,
+    id: &ArchiveId,
+    wanted: &Wanted,
+) -> Result<bool, Fault>
+    requires { has_sum wanted.now.name ≡ true }
+    ensures puts { Puts result (AreBytes stanza.now id.now wanted.now.name (D.view repo.old).now) (IfSome (D.view repo.old).now (StoresNone stanza.now id.now wanted.now.name)) wanted.now.path.now (T.nodes tree.old) (T.nodes tree.new) }
+    ensures changes { ChangesPath wanted.now.path.now (AreBytes stanza.now id.now wanted.now.name (D.view repo.old).now) (T.nodes tree.old) (T.nodes tree.new) }
+    ensures cause { IfErr result (FileCause stanza.now id.now wanted.now.name (D.view repo.old).now (Rises (D.faults repo.old) (D.faults repo.new)) (Rises (T.faults tree.old) (T.faults tree.new))) }
+    ensures now { (D.view repo.new).now ≡ (D.view repo.old).now }
+    ensures time { Rests (D.view repo.old) (D.view repo.new) }
+    ensures repo_place { D.place repo.new ≡ D.place repo.old }
+    ensures tree_place { T.place tree.new ≡ T.place tree.old }
+    ensures repo_later { D.faults repo.old ≤ D.faults repo.new }
+    ensures tree_later { T.faults tree.old ≤ T.faults tree.new }
+{
+    let stored = match present(alloc, repo, stanza, id, &wanted.name) {
+        Ok(Some(stored)) => stored,
+        Ok(None) => return Ok(false),
+        Err(fault) => return Err(Fault::from(fault)),
+    };
+    // So it is of each segment.
+    let Some(sum) = stored.sum else {
+        return serve_whole(alloc, repo, tree, stanza, id, wanted);
+    };
+    match pass_on(alloc, repo, tree, stored.path, sum, wanted.path)? {
+        Passed::Served => Ok(true),
+        Passed::Lost => Ok(false),
+        Passed::Barred => serve_whole(alloc, repo, tree, stanza, id, wanted),
+    }
+}
+
+// Serves a file from under the id of a cluster, and tells whether it is the data folder's and has the file.
+fn serve_under<D: Disk, T: Tree>(
+    alloc: Global,
+    repo: &mut D,
+    tree: &mut T,
     stanza: &str,
     cluster: &ClusterId,
     told: &Control,
-    name: &ArchiveName,
-) -> Result<Option<Vec<u8>>, Fault>
-    ensures same { IfOk result (λ r. IfSome r (λ _. IsSame told.now cluster.now)) }
-    ensures found { IfOk result (λ r. IfSome r (λ v. IfSome (D.view repo.old).now (λ f. StoresBytes stanza.now (id_kept cluster.now) name.now f (sha1 v.items) v.items))) }
-    ensures absent { IfOk result (λ r. IfNone r (IsSame told.now cluster.now → IfSome (D.view repo.old).now (StoresNone stanza.now (id_kept cluster.now) name.now))) }
-    ensures cause { IfErr result (UnderCause (IsSame told.now cluster.now) stanza.now (id_kept cluster.now) name.now (D.view repo.old).now (Rises (D.faults repo.old) (D.faults repo.new))) }
+    wanted: &Wanted,
+) -> Result<bool, Fault>
+    ensures puts { Puts result (λ b. IsSame told.now cluster.now × AreBytes stanza.now (id_kept cluster.now) wanted.now.name (D.view repo.old).now b) (IsSame told.now cluster.now → IfSome (D.view repo.old).now (StoresNone stanza.now (id_kept cluster.now) wanted.now.name)) wanted.now.path.now (T.nodes tree.old) (T.nodes tree.new) }
+    ensures changes { ChangesPath wanted.now.path.now (λ b. IsSame told.now cluster.now × AreBytes stanza.now (id_kept cluster.now) wanted.now.name (D.view repo.old).now b) (T.nodes tree.old) (T.nodes tree.new) }
+    ensures cause { IfErr result (UnderCause (IsSame told.now cluster.now) stanza.now (id_kept cluster.now) wanted.now.name (D.view repo.old).now (Rises (D.faults repo.old) (D.faults repo.new)) (Rises (T.faults tree.old) (T.faults tree.new))) }
     ensures now { (D.view repo.new).now ≡ (D.view repo.old).now }
     ensures time { Rests (D.view repo.old) (D.view repo.new) }
-    ensures place { D.place repo.new ≡ D.place repo.old }
-    ensures later { D.faults repo.old ≤ D.faults repo.new }
+    ensures repo_place { D.place repo.new ≡ D.place repo.old }
+    ensures tree_place { T.place tree.new ≡ T.place tree.old }
+    ensures repo_later { D.faults repo.old ≤ D.faults repo.new }
+    ensures tree_later { T.faults tree.old ≤ T.faults tree.new }
 {
     if !is_of(cluster, told) {
-        return Ok(None);
+        return Ok(false);
     }
     let id = ArchiveId {
         version: cluster.version,
         number: cluster.id,
     };
-    match get(alloc, repo, stanza, &id, name) {
-        Ok(bytes) => Ok(Some(bytes)),
-        Err(ArchiveFault::NotFound) => Ok(None),
-        Err(fault) => Err(Fault::from(fault)),
+    if has_sum(&wanted.name) {
+        serve_segment(alloc, repo, tree, stanza, &id, wanted)
+    } else {
+        serve_whole(alloc, repo, tree, stanza, &id, wanted)
     }
 }
 
-/// The bytes of a file, under the highest number of the data folder's cluster that has it.
-pub(crate) fn search<D: Disk>(
+/// Serves a file from under the highest number of the data folder's cluster that has it, and tells whether one has.
+pub(crate) fn search<D: Disk, T: Tree>(
     alloc: Global,
     repo: &mut D,
+    tree: &mut T,
     stanza: &str,
     history: &[ClusterId],
     told: &Control,
-    name: &ArchiveName,
-) -> Result<Option<Vec<u8>>, Fault>
+    wanted: &Wanted,
+) -> Result<bool, Fault>
     requires numbers { AreFrom 1 (map (λ (c : ClusterId). c.id) history.now) }
-    ensures found { IfOk result (λ r. IfSome r (λ v. IfSome (D.view repo.old).now (FoundIn history.now stanza.now told.now name.now v.items))) }
-    ensures absent { IfOk result (λ r. IfNone r (IfSome (D.view repo.old).now (AbsentIn history.now stanza.now told.now name.now))) }
-    ensures cause { IfErr result (SearchCause history.now stanza.now told.now name.now (D.view repo.old).now (Rises (D.faults repo.old) (D.faults repo.new))) }
+    ensures puts { Puts result (λ b. IfSome (D.view repo.old).now (FoundIn history.now stanza.now told.now wanted.now.name b)) (IfSome (D.view repo.old).now (AbsentIn history.now stanza.now told.now wanted.now.name)) wanted.now.path.now (T.nodes tree.old) (T.nodes tree.new) }
+    ensures changes { ChangesPath wanted.now.path.now (λ b. IfSome (D.view repo.old).now (FoundIn history.now stanza.now told.now wanted.now.name b)) (T.nodes tree.old) (T.nodes tree.new) }
+    ensures cause { IfErr result (SearchCause history.now stanza.now told.now wanted.now.name (D.view repo.old).now (Rises (D.faults repo.old) (D.faults repo.new)) (Rises (T.faults tree.old) (T.faults tree.new))) }
     ensures now { (D.view repo.new).now ≡ (D.view repo.old).now }
     ensures time { Rests (D.view repo.old) (D.view repo.new) }
-    ensures place { D.place repo.new ≡ D.place repo.old }
-    ensures later { D.faults repo.old ≤ D.faults repo.new }
+    ensures repo_place { D.place repo.new ≡ D.place repo.old }
+    ensures tree_place { T.place tree.new ≡ T.place tree.old }
+    ensures repo_later { D.faults repo.old ≤ D.faults repo.new }
+    ensures tree_later { T.faults tree.old ≤ T.faults tree.new }
 {
     let mut rest = history;
     while let Some((cluster, earlier)) = rest.split_last() {
-        if let Some(bytes) = look_under(alloc, repo, stanza, cluster, told, name)? {
-            return Ok(Some(bytes));
+        if serve_under(alloc, repo, tree, stanza, cluster, told, wanted)? {
+            return Ok(true);
         }
         rest = earlier;
     }
-    Ok(None)
+    Ok(false)
 }

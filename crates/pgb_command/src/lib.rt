@@ -11,6 +11,7 @@ mod fault;
 mod finding;
 mod info;
 mod lines;
+mod log_file;
 mod opening;
 mod outcome;
 mod output;

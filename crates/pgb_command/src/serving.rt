@@ -1,17 +1,59 @@
 // A file is put into the data folder.
-ghost use Rattle.std.specs.Prelude.{◌≡◌, ◌≤◌, OnOk, IfOk, IfErr, IfSome, string_bytes};
+ghost use Rattle.std.specs.Prelude.{◌≡◌, ◌≤◌, ◌↔◌, true, OnOk, IfOk, IfErr, IfSome, string_bytes};
+ghost use Rattle.pgb_outside.specs.Content.{SameBut};
+ghost use Rattle.pgb_outside.specs.Moments.{Rests};
 ghost use Rattle.pgb_outside.specs.Cause.{HasCause, Rises};
 ghost use Rattle.pgb_command.specs.Getting.{IsPut, ChangesPath, temporary_path};
 ghost use Rattle.pgb_command.specs.Making.{FolderCause};
+ghost use Rattle.pgb_command.specs.Serving.{of_disk, Copies, CopyCause, HasBytes, Passes, PassCause, refusal};
 
 use crate::fault::{Fault, of_tree};
-use pgb_outside::{Stop, Tree};
+use pgb_outside::{Disk, Stop, Tree};
+use pgb_text::Sum;
+use sha1::Sha1;
 use std::alloc::{AllocError, Global};
+
+// So many bytes of a stored file are read at once.
+const PIECE_SIZE: usize = 1 << 16;
+
+// A segment has at most 1 GiB.
+const SEGMENT_LIMIT: u64 = 1 << 30;
+
+// What came of a copy of a stored file.
+#[derive(Drop)]
+enum Copied {
+    /// All its bytes were copied; this is the sum of what was copied.
+    Whole(Sum),
+    /// It is longer than a segment.
+    Long,
+    /// It isn't there.
+    Vanished,
+}
+
+/// What came of a pass over a stored file.
+#[derive(Drop)]
+pub(crate) enum Passed {
+    Served,
+    /// The stored file isn't there.
+    Lost,
+    /// Something stands at the temporary name.
+    Barred,
+}
 
 fn temporary_name(alloc: Global, path: &str) -> Result<String, AllocError>
     ensures { IfOk result (λ name. string_bytes name ≡ temporary_path path.now) }
 {
     format!(in alloc; "{path}.pgbackrest.tmp")
+}
+
+// What a stop of the repository is.
+fn of_disk(stop: Stop) -> Fault
+    ensures { result ≡ of_disk stop }
+{
+    match stop {
+        Stop::Failed => Fault::Disk,
+        Stop::NoMemory => Fault::NoMemory,
+    }
 }
 
 // Writes a file under a temporary name, and then puts it in its place.
@@ -33,6 +75,17 @@ fn write_and_rename<T: Tree>(
     Ok(())
 }
 
+// Takes away a file that can't be used. Where that fails too, the first failure is told.
+fn give_up<T: Tree>(tree: &mut T, temporary: &str, fault: Fault) -> Fault
+    ensures told { result ≡ fault }
+    ensures nodes { SameBut temporary.now (T.nodes tree.old) (T.nodes tree.new) }
+    ensures place { T.place tree.new ≡ T.place tree.old }
+    ensures later { T.faults tree.old ≤ T.faults tree.new }
+{
+    let _left = tree.remove(temporary);
+    fault
+}
+
 /// Puts a file of these bytes at a path of the data folder. Where that fails, the temporary file is taken away, if it can be.
 pub(crate) fn put_file<T: Tree>(
     alloc: Global,
@@ -49,10 +102,112 @@ pub(crate) fn put_file<T: Tree>(
     let temporary = temporary_name(alloc, path)?;
     match write_and_rename(tree, &temporary, path, bytes) {
         Ok(()) => Ok(()),
-        Err(stop) => {
-            // What was written can't be used; where it can't be taken away either, the first failure is told.
-            let _left = tree.remove(&temporary);
-            Err(of_tree(stop))
+        Err(stop) => Err(give_up(tree, &temporary, of_tree(stop))),
+    }
+}
+
+// Copies a stored file to a name of the data folder, piece by piece, and sums what it copies. Where something is at the name,
+// nothing is done.
+fn copy_new<D: Disk, T: Tree>(
+    repo: &mut D,
+    tree: &mut T,
+    from: &str,
+    name: &str,
+) -> Result<Option<Copied>, Fault>
+    ensures copies { Copies result (D.view repo.old).now from.now name.now (T.nodes tree.old) (T.nodes tree.new) }
+    ensures cause { IfErr result (CopyCause (Rises (D.faults repo.old) (D.faults repo.new)) (Rises (T.faults tree.old) (T.faults tree.new))) }
+    ensures now { (D.view repo.new).now ≡ (D.view repo.old).now }
+    ensures time { Rests (D.view repo.old) (D.view repo.new) }
+    ensures repo_place { D.place repo.new ≡ D.place repo.old }
+    ensures tree_place { T.place tree.new ≡ T.place tree.old }
+    ensures repo_later { D.faults repo.old ≤ D.faults repo.new }
+    ensures tree_later { T.faults tree.old ≤ T.faults tree.new }
+{
+    match tree.begin_new(name) {
+        Ok(true) => {}
+        Ok(false) => return Ok(None),
+        Err(stop) => return Err(of_tree(stop)),
+    }
+    let mut room = [0u8; PIECE_SIZE];
+    let mut digest = Sha1::new();
+    let mut told = 0u64;
+    while told <= SEGMENT_LIMIT {
+        let count = match repo.read(from, told, &mut room) {
+            Ok(Some(count)) => count,
+            Ok(None) => return Ok(Some(Copied::Vanished)),
+            Err(stop) => return Err(of_disk(stop)),
+        };
+        if count == 0 {
+            return Ok(Some(Copied::Whole(Sum(digest.finalize()))));
         }
+        if let Err(stop) = tree.append(name, &room[..count]) {
+            return Err(of_tree(stop));
+        }
+        digest.update(&room[..count]);
+        told += count as u64;
+    }
+    Ok(Some(Copied::Long))
+}
+
+// Whether all of a file was copied, and has this sum.
+fn is_right(copied: &Copied, sum: &Sum) -> bool
+    ensures { result ≡ true ↔ copied.now ≡ Copied.Whole sum.now }
+{
+    match copied {
+        Copied::Whole(found) => found == sum,
+        Copied::Long | Copied::Vanished => false,
+    }
+}
+
+// What is told of a copy that isn't right.
+fn refusal(copied: Copied, from: String, sum: Sum) -> Result<Passed, Fault>
+    ensures { result ≡ refusal copied from sum }
+{
+    match copied {
+        Copied::Whole(found) => Err(Fault::SegmentDamaged { told: sum, found }),
+        Copied::Long => Err(Fault::TooLong {
+            name: from,
+            limit: SEGMENT_LIMIT,
+        }),
+        Copied::Vanished => Ok(Passed::Lost),
+    }
+}
+
+/// Puts a stored file of this sum at a path of the data folder, in one pass: it is copied to the temporary name, where nothing
+/// is, and has its place once its sum is known. Any other copy is taken away; where a device failed, if it can be.
+pub(crate) fn pass_on<D: Disk, T: Tree>(
+    alloc: Global,
+    repo: &mut D,
+    tree: &mut T,
+    from: String,
+    sum: Sum,
+    path: &str,
+) -> Result<Passed, Fault>
+    ensures passes { Passes result (D.view repo.old).now (string_bytes from) sum.0 path.now (T.nodes tree.old) (T.nodes tree.new) }
+    ensures changes { ChangesPath path.now (HasBytes (D.view repo.old).now (string_bytes from) sum.0) (T.nodes tree.old) (T.nodes tree.new) }
+    ensures cause { IfErr result (PassCause (D.view repo.old).now (string_bytes from) sum.0 (Rises (D.faults repo.old) (D.faults repo.new)) (Rises (T.faults tree.old) (T.faults tree.new))) }
+    ensures now { (D.view repo.new).now ≡ (D.view repo.old).now }
+    ensures time { Rests (D.view repo.old) (D.view repo.new) }
+    ensures repo_place { D.place repo.new ≡ D.place repo.old }
+    ensures tree_place { T.place tree.new ≡ T.place tree.old }
+    ensures repo_later { D.faults repo.old ≤ D.faults repo.new }
+    ensures tree_later { T.faults tree.old ≤ T.faults tree.new }
+{
+    let temporary = temporary_name(alloc, path)?;
+    let name = temporary.as_str();
+    let copied = match copy_new(repo, tree, from.as_str(), name) {
+        Ok(Some(copied)) => copied,
+        Ok(None) => return Ok(Passed::Barred),
+        Err(fault) => return Err(give_up(tree, name, fault)),
+    };
+    if is_right(&copied, &sum) {
+        if let Err(stop) = tree.rename(name, path) {
+            return Err(give_up(tree, name, of_tree(stop)));
+        }
+        return Ok(Passed::Served);
+    }
+    match tree.remove(name) {
+        Ok(()) => refusal(copied, from, sum),
+        Err(stop) => Err(of_tree(stop)),
     }
 }

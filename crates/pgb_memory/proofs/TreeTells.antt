@@ -1,9 +1,9 @@
 -- What a call of a tree in memory did, as it is told.
-use Rattle.std.proofs.Common.{◌≡◌, ℕ, Bool, true, false, cond, ◌&&◌, ◌||◌, not, List, [], Result, Ok, Err, Option, Some, None, IsSome, refl, ◌∙◌, ap}
-use Rattle.std.specs.Prelude.{OnOk, OnErr, option_map}
+use Rattle.std.proofs.Common.{◌≡◌, ℕ, Bool, true, false, cond, ◌&&◌, ◌||◌, not, List, [], Result, Ok, Err, Option, Some, None, IsSome, refl, sym, ◌∙◌, ap}
+use Rattle.std.specs.Prelude.{OnOk, OnErr, IfOk, is_none, option_map}
 use Rattle.pgb_outside.specs.declared.stop.Stop.{Stop}
 use Rattle.pgb_outside.specs.Content.{Name, at, SameBut}
-use Rattle.pgb_outside.specs.Tree.{Held, file, folder, link, other, Nodes, with_node, file_bytes, longer, lengthened_file, ChangesFile}
+use Rattle.pgb_outside.specs.Tree.{Held, file, folder, link, other, Nodes, with_node, file_bytes, longer, lengthened_file, ChangesFile, BeginsNew}
 use Rattle.pgb_memory.specs.declared.failing.Failing.{Failing}
 use Rattle.pgb_memory.specs.Counts.{is_to_fail, counted, misused, faulted, tried, tried_on, FailsWhere}
 use Rattle.pgb_memory.specs.Nodes.{is_file, longer_node}
@@ -62,6 +62,21 @@ pub begun_file : {T E : Type 0} (result : Result T E) (path : Name) (f g : Nodes
     → ChangesFile result path (λ time. with_node path (Some (file [] time))) (Some f) (Some g)
 begun_file (Ok x) path f g ok err = (0, ap (λ (h : Nodes). Some h) ok)
 begun_file (Err e) path f g ok err = same_but path f g err
+
+-- a file that is begun with time 0 where nothing is
+nothing_there : (o : Option Held) → is_none o ≡ true → o ≡ None
+nothing_there None is = refl
+nothing_there (Some held) is = cc
+
+something_there : (o : Option Held) → is_none o ≡ false → IsSome o
+something_there None is = cc
+something_there (Some held) is = refl
+
+pub begun_new : {E : Type 0} (result : Result Bool E) (path : Name) (f g : Nodes) → IfOk result (λ made. made ≡ is_none (f path)) → IfOk result (λ made. g ≡ cond made (with_node path (Some (file [] 0)) f) f) → OnErr result (g ≡ f)
+    → BeginsNew result path (Some f) (Some g)
+begun_new (Ok true) path f g told ok err = (nothing_there (f path) (sym told), (0, ap (λ (h : Nodes). Some h) ok))
+begun_new (Ok false) path f g told ok err = (something_there (f path) (sym told), ap (λ (h : Nodes). Some h) ok)
+begun_new (Err e) path f g told ok err = same_but path f g err
 
 -- a file that keeps its time
 keeps_time : (more : List ℕ) (o : Option Held) → (time : ℕ) × (option_map (longer_node more) o ≡ longer more time o)

@@ -1,5 +1,5 @@
 // A map of paths to nodes, in which each path's folder is there.
-ghost use Rattle.std.specs.Prelude.{◌≡◌, ◌≤◌, [], Option, Some, None, length, map, option_map, string_bytes, true, bytes_eq, if◌then◌else◌, MatchOption, IfOk, OnOk, OnErr, IfSome, not};
+ghost use Rattle.std.specs.Prelude.{◌≡◌, ◌≤◌, [], Option, Some, None, length, map, option_map, string_bytes, true, bytes_eq, if◌then◌else◌, MatchOption, IfOk, OnOk, OnErr, IfSome, is_none, not};
 ghost use Rattle.pgb_outside.specs.Content.{Reads};
 ghost use Rattle.pgb_outside.specs.Tree.{file, IsTreeListing, known_path, file_bytes, with_node, moved_node, shown};
 ghost use Rattle.pgb_memory.specs.Nodes.{nodes_at, node_of, folder_of, is_file, is_folder, is_placed, takes_file, takes_folder, holds_nothing, longer_node, Rooted, IsLost, tree_at};
@@ -66,6 +66,13 @@ pub(crate) fn has_file(nodes: &Nodes, path: &str) -> bool
     ensures { result ≡ is_file (nodes_at nodes.now path.now) }
 {
     matches!(nodes.get(path), Some(MemNode::File { .. }))
+}
+
+/// Whether nothing is there.
+pub(crate) fn is_free(nodes: &Nodes, path: &str) -> bool
+    ensures { result ≡ is_none (nodes_at nodes.now path.now) }
+{
+    nodes.get(path).is_none()
 }
 
 /// Whether a file may be put there: over nothing, or over a file.

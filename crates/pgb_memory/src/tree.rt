@@ -1,5 +1,5 @@
 // A data folder in memory.
-ghost use Rattle.std.specs.Prelude.{◌≡◌, ◌≤◌, ◌||◌, ◌&&◌, [], map, not, IsSomeAnd, length, string_bytes, option_map, Some, None, IfOk, IfErr, IfSome, OnOk, OnErr};
+ghost use Rattle.std.specs.Prelude.{◌≡◌, ◌≤◌, ◌||◌, ◌&&◌, [], map, not, is_none, if◌then◌else◌, IsSomeAnd, length, string_bytes, option_map, Some, None, IfOk, IfErr, IfSome, OnOk, OnErr};
 ghost use Rattle.pgb_outside.specs.Cause.{HasCause};
 ghost use Rattle.pgb_outside.specs.Content.{Reads};
 ghost use Rattle.pgb_outside.specs.Tree.{file, folder as folder_node, IsTreeListing, known_path, file_bytes, with_node, moved_node};
@@ -9,7 +9,8 @@ ghost use Rattle.pgb_memory.specs.Counts.{is_to_fail, counted, tried, tried_on, 
 use crate::failing::Failing;
 use crate::nodes::{
     MemNode, empty_file, extend_file, first_lost, has_file, has_folder, has_its_folder, is_bare,
-    list_nodes, map_of, may_put_file, may_put_folder, move_file, put_node, read_known, take_node,
+    is_free, list_nodes, map_of, may_put_file, may_put_folder, move_file, put_node, read_known,
+    take_node,
 };
 use pgb_outside::{Known, Seen, Stop, Tree};
 use std::alloc::{AllocError, Global};
@@ -197,6 +198,30 @@ impl Tree for MemTree {
         let empty = empty_file(self.alloc);
         put_node(self.alloc, &mut self.nodes, path, empty)?;
         Ok(())
+    }
+
+    fn begin_new(&mut self, path: &str) -> Result<bool, Stop>
+        ensures told { IfOk result (λ made. made ≡ is_none (nodes_at self.old.nodes path.now)) }
+        // A file that is begun has time 0.
+        ensures ok { IfOk result (λ made. nodes_at self.new.nodes ≡ (if made then with_node path.now (Some (file [] 0)) (nodes_at self.old.nodes) else nodes_at self.old.nodes)) }
+        ensures err { OnErr result (nodes_at self.new.nodes ≡ nodes_at self.old.nodes) }
+        ensures fails { FailsWhere (is_to_fail self.old.failing || not (is_placed (nodes_at self.old.nodes) path.now)) result }
+        ensures counts { self.new.failing ≡ tried (is_placed (nodes_at self.old.nodes) path.now) self.old.failing }
+        ensures place { string_bytes self.new.place ≡ string_bytes self.old.place }
+        ensures cause { HasCause self.old.failing.faults self.new.failing.faults result }
+    {
+        if self.failing.fails() {
+            return Err(Stop::Failed);
+        }
+        if !has_its_folder(&self.nodes, path) {
+            return Err(self.failing.misuse());
+        }
+        if !is_free(&self.nodes, path) {
+            return Ok(false);
+        }
+        let empty = empty_file(self.alloc);
+        put_node(self.alloc, &mut self.nodes, path, empty)?;
+        Ok(true)
     }
 
     fn append(&mut self, path: &str, bytes: &[u8]) -> Result<(), Stop>

@@ -1,5 +1,5 @@
 -- What a data folder holds: a node for each path below its root, and what calls do to it.
-use Rattle.std.specs.Prelude.{◌≡◌, ℕ, true, List, ◌∷◌, ◌++◌, length, map, codes, Option, Some, None, Result, option_map, MatchResult, Contains, IfSome, IsSome, string_bytes}
+use Rattle.std.specs.Prelude.{◌≡◌, ℕ, Bool, true, false, [], List, ◌∷◌, ◌++◌, length, map, codes, Option, Some, None, Result, Ok, Err, option_map, MatchResult, Contains, IfSome, IsSome, string_bytes}
 use Rattle.pgb_outside.specs.Content.{Name, Value, set_at, SameBut}
 use Rattle.pgb_outside.specs.Order.{are_in_order}
 use Rattle.pgb_outside.specs.declared.tree.Node.{Node}
@@ -81,3 +81,9 @@ ChangesTree result change old new = MatchResult result (λ _. new ≡ option_map
 -- At `Ok` the tree is after the change, with some time of the file. At an `Err` only the file itself may have changed.
 abbrev pub ChangesFile : {T E : Type 0} → Result T E → Name → (ℕ → Nodes → Nodes) → Option Nodes → Option Nodes → Type 0
 ChangesFile result path change old new = MatchResult result (λ _. (time : ℕ) × (new ≡ option_map (change time) old)) (λ _. SameBut path old new)
+
+-- At `Ok true` nothing was at the path, and an empty file is, with some time. At `Ok false` something was, and the tree is as before. At an `Err` only the file itself may have changed.
+abbrev pub BeginsNew : {E : Type 0} → Result Bool E → Name → Option Nodes → Option Nodes → Type 0
+BeginsNew (Ok true) path old new = IfSome old (λ f. f path ≡ None) × ((time : ℕ) × (new ≡ option_map (with_node path (Some (file [] time))) old))
+BeginsNew (Ok false) path old new = IfSome old (λ f. IsSome (f path)) × (new ≡ old)
+BeginsNew (Err e) path old new = SameBut path old new

@@ -1,7 +1,7 @@
 // A data folder: nodes below a root.
 ghost use Rattle.std.specs.Prelude.{◌≡◌, ◌≤◌, [], ℕ, List, Option, Some, None, map, IfOk, OnOk, IfSome, IsTrue, length, string_bytes};
 ghost use Rattle.pgb_outside.specs.Content.{Reads};
-ghost use Rattle.pgb_outside.specs.Tree.{Nodes, file, folder as folder_node, IsTreeListing, known_path, file_bytes, IsPlaced, IsFileAt, IsBare, with_node, lengthened_file, moved_node, ChangesTree, ChangesFile};
+ghost use Rattle.pgb_outside.specs.Tree.{Nodes, file, folder as folder_node, IsTreeListing, known_path, file_bytes, IsPlaced, IsFileAt, IsBare, with_node, lengthened_file, moved_node, ChangesTree, ChangesFile, BeginsNew};
 ghost use Rattle.pgb_outside.specs.Cause.{HasCause};
 
 use crate::Stop;
@@ -82,6 +82,13 @@ pub trait Tree {
     /// Makes the path a file of no bytes.
     fn begin(&mut self, path: &str) -> Result<(), Stop>
         ensures nodes { ChangesFile result path.now (λ time. with_node path.now (Some (file [] time))) (nodes self.old) (nodes self.new) }
+        ensures proper { IsPlaced (nodes self.old) path.now → misuses self.new ≡ misuses self.old }
+        ensures place { place self.new ≡ place self.old }
+        ensures cause { HasCause (faults self.old) (faults self.new) result };
+
+    /// Makes the path a file of no bytes where nothing is there, and tells whether it did.
+    fn begin_new(&mut self, path: &str) -> Result<bool, Stop>
+        ensures nodes { BeginsNew result path.now (nodes self.old) (nodes self.new) }
         ensures proper { IsPlaced (nodes self.old) path.now → misuses self.new ≡ misuses self.old }
         ensures place { place self.new ≡ place self.old }
         ensures cause { HasCause (faults self.old) (faults self.new) result };

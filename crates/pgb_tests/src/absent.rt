@@ -24,8 +24,8 @@ const CUTS: Held<'static> = &[MAIN_CUT, COPY_CUT];
 
 const TWO: Held<'static> = &[MAIN, COPY, HELLO, OTHER];
 
-// The last byte is another.
-const DAMAGED: Held<'static> = &[
+/// The last byte of the third segment is another than its sum tells.
+pub(crate) const DAMAGED: Held<'static> = &[
     MAIN,
     COPY,
     (
@@ -63,7 +63,7 @@ type Refused = (
 );
 
 // In the order of refusals: what later ones ask is mostly wrong too.
-const REFUSED: [Refused; 21] = [
+const REFUSED: [Refused; 22] = [
     (
         &[],
         NO_CLUSTER,
@@ -197,12 +197,14 @@ const REFUSED: [Refused; 21] = [
         DAMAGED,
         SAMPLE,
         THIRD,
-        "none/x",
+        RECOVERY,
         35,
         "ERROR: [035]: checksum aaf4c61ddcc5e8a2dabede0f3b482cd9aea9434d, found 9ff962b06e0fb365b5906854c062b621d61983ef\n",
     ),
     // the path's folder isn't there, is a file, and the path is a folder
     (&[MAIN, HELLO], SAMPLE, THIRD, "none/x", 82, FAILED),
+    // where nothing can be written, the bytes aren't looked at
+    (DAMAGED, SAMPLE, THIRD, "none/x", 82, FAILED),
     (&[MAIN, HELLO], SAMPLE, THIRD, "PG_VERSION/x", 82, FAILED),
     (&[MAIN, HELLO], SAMPLE, THIRD, "/pg/pg_wal", 82, FAILED),
 ];

@@ -313,6 +313,9 @@ fn refuses_what_is_no_segment(rt: HostRuntime) -> Result<(), Fail> {
 // More calls than a push makes.
 const CALLS: u64 = 200;
 
+// What was staged of the file when the data folder failed.
+const STAGED: &str = "archive/demo/16-1/0000000100000000/.pgbackrest.tmp\n";
+
 // A push with that call of the data folder failing; whether so many calls are made.
 fn check_tree_fault(rt: &impl Abort, alloc: Global, number: u64) -> Result<bool, Fail> {
     let fails = Fails {
@@ -328,7 +331,9 @@ fn check_tree_fault(rt: &impl Abort, alloc: Global, number: u64) -> Result<bool,
     assert_eq!(rt; status, 82, "{number}");
     assert_eq!(rt; output(&room), Some("ERROR: [082]: data folder failed\n"));
     assert!(rt; holds(&room.repo, &MADE));
-    assert_eq!(rt; listing(alloc, &mut room.repo)?.as_str(), NAMES);
+    let names = listing(alloc, &mut room.repo)?;
+    let others = names.strip_prefix(STAGED).unwrap_or(names.as_str());
+    assert_eq!(rt; others, NAMES, "{number}");
     Ok(true)
 }
 

@@ -1,9 +1,12 @@
 // Each call of a device fails in turn as a file is served, and the same words are given again.
-use crate::fixture::{Fails, Held, NEVER, Room, SAMPLE, file_at, holds, output, renew_output};
-use crate::getting::{HELLO, RECOVERY, THIRD, get};
-use crate::pushing::log_room;
-use crate::texts::ARCHIVE_16;
+use crate::absent::DAMAGED;
+use crate::fixture::{
+    Fails, Held, MADE, NEVER, Room, SAMPLE, file_at, holds, output, renew_output,
+};
+use crate::getting::{HELLO, MAIN, RECOVERY, THIRD, get};
+use crate::pushing::{FIRST, STORED, bytes_of, log_room};
 use pgb_memory::MemSink;
+use pgb_outside::{Disk, Tree};
 use std::alloc::Global;
 use std::process::Abort;
 use std::test::Fail;
@@ -16,7 +19,7 @@ enum Failing {
     TreeTwice,
 }
 
-const HELD: Held<'static> = &[("archive/demo/archive.info", ARCHIVE_16), HELLO];
+const HELD: Held<'static> = &[MAIN, HELLO];
 
 const TEMPORARY: &str = "pg_wal/RECOVERYXLOG.pgbackrest.tmp";
 
@@ -107,5 +110,46 @@ fn serves_after_each_failing_call(rt: HostRuntime) -> Result<(), Fail> {
         assert!(rt; ended, "{failing:?}");
         assert_eq!(rt; count, wanted, "{failing:?}");
     }
+    Ok(())
+}
+
+// What the repository has, and the status; and what stands at the path and at the temporary name then, at which a file stood.
+type Over = (
+    Held<'static>,
+    u8,
+    Option<&'static [u8]>,
+    Option<&'static [u8]>,
+);
+
+const OVER: [Over; 3] = [
+    (HELD, 0, Some(b"hello"), None),
+    (DAMAGED, 35, None, Some(b"left")),
+    (&[MAIN], 1, None, Some(b"left")),
+];
+
+#[test]
+fn serves_where_a_temporary_file_stands(rt: HostRuntime) -> Result<(), Fail> {
+    let alloc = rt.alloc();
+    for (held, status, file, temporary) in OVER {
+        let mut room = log_room(alloc, held, SAMPLE, None, NEVER)?;
+        room.tree.begin(TEMPORARY)?;
+        room.tree.append(TEMPORARY, b"left")?;
+        assert_eq!(rt; get(alloc, THIRD, RECOVERY, &mut room)?, status);
+        assert_eq!(rt; file_at(&room.tree, RECOVERY), file, "{status}");
+        assert_eq!(rt; file_at(&room.tree, TEMPORARY), temporary, "{status}");
+    }
+    Ok(())
+}
+
+#[test]
+fn serves_a_segment_of_many_pieces(rt: HostRuntime) -> Result<(), Fail> {
+    let alloc = rt.alloc();
+    let mut room = log_room(alloc, &MADE, SAMPLE, None, NEVER)?;
+    let bytes = bytes_of(alloc, FIRST)?;
+    room.repo.begin(STORED)?;
+    room.repo.append(STORED, &bytes)?;
+    assert_eq!(rt; get(alloc, THIRD, RECOVERY, &mut room)?, 0);
+    assert!(rt; file_at(&room.tree, RECOVERY) == Some(bytes.as_slice()));
+    assert!(rt; room.tree.node(TEMPORARY).is_none());
     Ok(())
 }

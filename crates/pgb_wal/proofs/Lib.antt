@@ -5,3 +5,4 @@ pub mod SegmentTexts
 pub mod Compared
 pub mod Follows
 pub mod Halves
+pub mod Fronts

@@ -35,6 +35,11 @@ pub record IsOfSystem (bytes : Text) (system size : ℕ) : Type 0 where
   pub told : size ≡ told_size bytes
   pub same : told_system bytes ≡ system
 
+-- the bytes begin with the front, and are so many
+pub record BeginsWith (first : Text) (count : ℕ) (bytes : Text) : Type 0 where
+  pub front : take (length first) bytes ≡ first
+  pub whole : length bytes ≡ count
+
 -- why they are none: the form comes first, then the size
 abbrev pub IsRefused : Text → ℕ → HeaderFault → Type 0
 IsRefused bytes system (Form found info) = (found ≡ length bytes) × (info ≡ page_info bytes) × ¬ HasLongHeader bytes

@@ -17,8 +17,9 @@ pub enum HeaderFault {
     System { kept: u64, found: u64 },
 }
 
-ghost use Rattle.std.specs.Prelude.{◌≡◌, ◌+◌, ◌≤◌, length, take, drop, IfOk, IfErr};
-ghost use Rattle.pgb_wal.specs.Header.{number_at, page_info, IsOfSystem, IsRefused};
+ghost use Rattle.std.specs.Prelude.{◌≡◌, ◌⊎◌, ◌+◌, ◌≤◌, length, take, drop, IfOk, IfErr};
+ghost use Rattle.pgb_model.specs.Text.{Text};
+ghost use Rattle.pgb_wal.specs.Header.{number_at, page_info, BeginsWith, IsOfSystem, IsRefused};
 
 const LONG_HEADER: u16 = 0x0002;
 
@@ -65,25 +66,27 @@ fn page_info(bytes: &[u8]) -> u16
     if bytes.len() < 4 { 0 } else { u16_at(bytes, 2) }
 }
 
-/// The size of the segment whose bytes these are, of the cluster with this system identifier.
-pub fn check_header(bytes: &[u8], system: u64) -> Result<SegSize, HeaderFault>
-    ensures valid { IfOk result (λ size. IsOfSystem bytes.now system size.0) }
-    ensures refused { IfErr result (IsRefused bytes.now system) }
+/// The size of the segment that begins with these bytes and has so many, of the cluster with this system identifier.
+pub fn check_front(front: &[u8], count: u64, system: u64) -> Result<SegSize, HeaderFault>
+    requires long { (40 ≤ length front.now) ⊎ (length front.now ≡ count) }
+    requires within { length front.now ≤ count }
+    ensures valid { IfOk result (λ size. (bytes : Text) → BeginsWith front.now count bytes → IsOfSystem bytes system size.0) }
+    ensures refused { IfErr result (λ fault. (bytes : Text) → BeginsWith front.now count bytes → IsRefused bytes system fault) }
 {
-    let length = bytes.len() as u64;
-    let info = page_info(bytes);
-    if bytes.len() < 40 || info & LONG_HEADER == 0 {
-        return Err(HeaderFault::Form { length, info });
+    let info = page_info(front);
+    if count < 40 || info & LONG_HEADER == 0 {
+        return Err(HeaderFault::Form {
+            length: count,
+            info,
+        });
     }
-    let told = u32_at(bytes, 32);
-    let size = match read_seg_size(u64::from(told)) {
-        Some(size) if u64::from(told) == length => size,
-        _ => return Err(HeaderFault::Size {
-            told,
-            found: length,
-        }),
+    let told = u32_at(front, 32);
+    let whole = u64::from(told);
+    let size = match read_seg_size(whole) {
+        Some(size) if whole == count => size,
+        _ => return Err(HeaderFault::Size { told, found: count }),
     };
-    let found = u64_at(bytes, 24);
+    let found = u64_at(front, 24);
     if found != system {
         return Err(HeaderFault::System {
             kept: system,
@@ -91,4 +94,12 @@ pub fn check_header(bytes: &[u8], system: u64) -> Result<SegSize, HeaderFault>
         });
     }
     Ok(size)
+}
+
+/// The size of the segment whose bytes these are, of the cluster with this system identifier.
+pub fn check_header(bytes: &[u8], system: u64) -> Result<SegSize, HeaderFault>
+    ensures valid { IfOk result (λ size. IsOfSystem bytes.now system size.0) }
+    ensures refused { IfErr result (IsRefused bytes.now system) }
+{
+    check_front(bytes, bytes.len() as u64, system)
 }

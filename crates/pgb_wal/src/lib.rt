@@ -10,7 +10,7 @@ mod segments;
 mod sizes;
 
 pub use archive_names::{archive_name_text, read_archive_name};
-pub use header::{HeaderFault, check_header};
+pub use header::{HeaderFault, check_front, check_header};
 pub use order::{compare, next};
 pub use pgb_model::{ArchiveName, Lsn, SegSize, Segment};
 pub use positions::read_lsn;

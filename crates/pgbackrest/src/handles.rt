@@ -13,9 +13,6 @@ struct Kept {
     file: File,
 }
 
-// So many bytes are worth that the disk begins to write them before they are synced.
-const MANY: usize = 1 << 20;
-
 /// No byte waits in it: what was appended went to the system.
 #[derive(Drop)]
 pub struct Handles {
@@ -49,19 +46,22 @@ impl Handles {
         Ok(())
     }
 
-    /// Adds bytes at the end of a file that is there. After many it is closed, so that they are written while the program
-    /// goes on. It is opened anew before that, so that a fault of the writing is told by the sync.
+    /// Makes the name an empty file where nothing stands at it, and tells whether it did.
+    pub fn begin_new(&mut self, place: &Place, name: &str) -> io::Result<bool> {
+        let Some(file) = place.create_new(name)? else {
+            return Ok(false);
+        };
+        self.writing = Some(keep(place, name, file)?);
+        Ok(true)
+    }
+
+    /// Adds bytes at the end of a file that is there.
     pub fn append(&mut self, place: &Place, name: &str, bytes: &[u8]) -> io::Result<()> {
         self.reach_end(place, name)?;
         match &mut self.writing {
-            Some(kept) => kept.file.write_all(bytes)?,
-            None => return Err(io::Error::from(ErrorKind::NotFound)),
+            Some(kept) => kept.file.write_all(bytes),
+            None => Err(io::Error::from(ErrorKind::NotFound)),
         }
-        if bytes.len() >= MANY {
-            let file = place.open_end(name)?;
-            self.writing = Some(keep(place, name, file)?);
-        }
-        Ok(())
     }
 
     /// Makes the bytes durable of a file that is there.
@@ -82,6 +82,16 @@ impl Handles {
         Ok(())
     }
 
+    // Closes a file that was written, so that the disk writes its bytes while they are read. It is opened anew before that,
+    // so that a fault of the writing is told by the sync.
+    fn begin_writing(&mut self, place: &Place, name: &str) -> io::Result<()> {
+        if is_of(&self.writing, name) {
+            let file = place.open_end(name)?;
+            self.writing = Some(keep(place, name, file)?);
+        }
+        Ok(())
+    }
+
     /// Whether a read at this place goes on in the file that is open. At its start a name is opened anew, so that
     /// all of one reading comes from the file that stood there at the start.
     pub fn goes_on(&self, name: &str, at: u64) -> bool
@@ -90,7 +100,8 @@ impl Handles {
         at > 0 && is_of(&self.reading, name)
     }
 
-    /// Bytes of a name from a place on: None where it is absent, 0 at its end.
+    /// Bytes of a name from a place on: None where it is absent, 0 at its end. A file that was written is read from its start
+    /// once all is written.
     pub fn read(
         &mut self,
         place: &Place,
@@ -106,6 +117,7 @@ impl Handles {
                 return Ok(None);
             };
             self.reading = Some(keep(place, name, file)?);
+            self.begin_writing(place, name)?;
         }
         match &self.reading {
             Some(kept) => read_some(&kept.file, at, buf).map(Some),

@@ -69,6 +69,18 @@ impl Place {
         how.open(&self.rt, path.as_str())
     }
 
+    /// Makes the name an empty file where nothing stands at it, and else answers None; the folder that holds it is there.
+    pub fn create_new(&self, name: &str) -> io::Result<Option<File>> {
+        let path = self.path_of(name)?;
+        let mut how = OpenOptions::new();
+        how.write(true).create_new(true).mode(FILE_MODE);
+        match how.open(&self.rt, path.as_str()) {
+            Ok(file) => Ok(Some(file)),
+            Err(e) if e.kind() == ErrorKind::AlreadyExists => Ok(None),
+            Err(e) => Err(e),
+        }
+    }
+
     /// Opens a file that is there to write at its end.
     pub fn open_end(&self, name: &str) -> io::Result<File> {
         self.demand_file(name)?;
@@ -91,6 +103,14 @@ impl Place {
 
     pub fn is_file(&self, name: &str) -> io::Result<bool> {
         Ok(self.look_at(name)?.is_some_and(|seen| seen.is_file()))
+    }
+
+    /// How many bytes a file has: None where the name is none.
+    pub fn file_length(&self, name: &str) -> io::Result<Option<u64>> {
+        match self.look_at(name)? {
+            Some(seen) if seen.is_file() => Ok(Some(seen.len())),
+            _ => Ok(None),
+        }
     }
 
     fn demand_file(&self, name: &str) -> io::Result<()> {

@@ -9,12 +9,15 @@ use pgb_outside::{Known, Seen, Stop, Tree};
 use pgb_system::Faults;
 use std::alloc::{AllocError, Global};
 use std::io;
+use std::io::ErrorKind;
 
 /// A data folder of the system. It tells nothing of what it holds.
 #[derive(Drop)]
 pub struct RealTree {
     place: Place,
     handles: Handles,
+    // of the file that is being read, as its reading began
+    size: u64,
     faults: Faults,
 }
 
@@ -25,6 +28,7 @@ impl RealTree {
         RealTree {
             place: Place::new(rt),
             handles: Handles::new(),
+            size: 0,
             faults: Faults::new(),
         }
     }
@@ -51,7 +55,14 @@ impl Tree for RealTree {
     }
 
     fn read(&mut self, what: &Known, at: u64, buf: &mut [u8]) -> Result<Option<usize>, Stop> {
-        let done = read_known(&self.place, &mut self.handles, what, at, buf);
+        let done = read_known(
+            &self.place,
+            &mut self.handles,
+            &mut self.size,
+            what,
+            at,
+            buf,
+        );
         self.faults.told(done)
     }
 
@@ -62,6 +73,11 @@ impl Tree for RealTree {
 
     fn begin(&mut self, path: &str) -> Result<(), Stop> {
         let done = begin_file(&self.place, &mut self.handles, path);
+        self.faults.told(done)
+    }
+
+    fn begin_new(&mut self, path: &str) -> Result<bool, Stop> {
+        let done = self.handles.begin_new(&self.place, path);
         self.faults.told(done)
     }
 
@@ -93,10 +109,12 @@ fn path_of(alloc: Global, what: &Known) -> Result<String, AllocError>
     }
 }
 
-// What isn't a file is no known file.
+// What isn't a file is no known file. All of one reading is as long as the file was when it began: what is added meanwhile isn't
+// read, and a file that becomes shorter is a fault.
 fn read_known(
     place: &Place,
     handles: &mut Handles,
+    size: &mut u64,
     what: &Known,
     at: u64,
     buf: &mut [u8],
@@ -104,10 +122,17 @@ fn read_known(
     ensures { IfOk result (λ n. IfSome n (λ n. n ≤ length buf.old)) }
 {
     let path = path_of(place.rt.alloc(), what)?;
-    if !handles.goes_on(&path, at) && !place.is_file(&path)? {
-        return Ok(None);
+    if !handles.goes_on(&path, at) {
+        match place.file_length(&path)? {
+            Some(told) => *size = told,
+            None => return Ok(None),
+        }
     }
-    handles.read(place, &path, at, buf)
+    let room = size.saturating_sub(at).min(buf.len() as u64) as usize;
+    match handles.read(place, &path, at, &mut buf[..room])? {
+        Some(0) if room > 0 => Err(io::Error::from(ErrorKind::UnexpectedEof)),
+        read => Ok(read),
+    }
 }
 
 // A link, or a node of another kind, gives way: its target isn't written.

@@ -8,6 +8,8 @@ use std::test::Fail;
 enum Call {
     Make(&'static str),
     Begin(&'static str),
+    // and whether it begins
+    BeginNew(&'static str, bool),
     Append(&'static str),
     Rename(&'static str, &'static str),
     Remove(&'static str),
@@ -25,6 +27,13 @@ fn run<T: Tree>(tree: &mut T, call: &Call) -> Result<(), Stop> {
     match call {
         Call::Make(folder) => tree.make(folder),
         Call::Begin(path) => tree.begin(path),
+        Call::BeginNew(path, begins) => {
+            if tree.begin_new(path)? == *begins {
+                Ok(())
+            } else {
+                Err(Stop::NoMemory)
+            }
+        }
         Call::Append(path) => tree.append(path, b"more"),
         Call::Rename(from, to) => tree.rename(from, to),
         Call::Remove(path) => tree.remove(path),
@@ -97,6 +106,12 @@ fn calls_of_a_tree(rt: HostRuntime) -> Result<(), Fail> {
         (Call::Begin("base"), End::Fault),
         (Call::Begin("pg_tblspc/9"), End::Fault),
         (Call::Begin("none/x"), End::Misuse),
+        (Call::BeginNew("base/new", false), End::Done),
+        (Call::BeginNew("base/alone", true), End::Done),
+        (Call::BeginNew("base/alone", false), End::Done),
+        (Call::BeginNew("base", false), End::Done),
+        (Call::BeginNew("pg_tblspc/9", false), End::Done),
+        (Call::BeginNew("none/x", false), End::Misuse),
         (Call::Append("base/new"), End::Done),
         (Call::Append("PG_VERSION"), End::Done),
         (Call::Append("base"), End::Misuse),
@@ -130,7 +145,8 @@ fn calls_of_a_tree(rt: HostRuntime) -> Result<(), Fail> {
         };
         assert_eq!(rt; ended, *end);
     }
-    let want = "base/\nbase/old 4 bytes at 0\npg_tblspc/\npg_tblspc/9 6 bytes at 5\n";
+    let want =
+        "base/\nbase/alone 0 bytes at 0\nbase/old 4 bytes at 0\npg_tblspc/\npg_tblspc/9 6 bytes at 5\n";
     assert_eq!(rt; listed(alloc, &mut tree)?.as_str(), want);
     Ok(())
 }
@@ -160,6 +176,7 @@ fn each_call_of_a_tree_fails(rt: HostRuntime) -> Result<(), Fail> {
     let calls = [
         Call::Make("base"),
         Call::Begin("pg_wal/1"),
+        Call::BeginNew("pg_wal/2", true),
         Call::Append("PG_VERSION"),
         Call::Rename("PG_VERSION", "pg_wal/1"),
         Call::Remove("pg_wal/1"),

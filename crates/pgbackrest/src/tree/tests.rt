@@ -8,6 +8,8 @@ use std::test::Fail;
 enum Call {
     Make,
     Begin,
+    // and whether it begins
+    BeginNew(bool),
     Append(&'static [u8]),
     RenameTo(&'static str),
     Remove,
@@ -17,19 +19,36 @@ fn answer(tree: &mut RealTree, call: Call, path: &str) -> Result<(), Stop> {
     match call {
         Call::Make => tree.make(path),
         Call::Begin => tree.begin(path),
+        Call::BeginNew(begins) => {
+            if tree.begin_new(path)? == begins {
+                Ok(())
+            } else {
+                Err(Stop::NoMemory)
+            }
+        }
         Call::Append(bytes) => tree.append(path, bytes),
         Call::RenameTo(to) => tree.rename(path, to),
         Call::Remove => tree.remove(path),
     }
 }
 
-const CALLS: [(Call, &'static str, Result<(), Stop>); 20] = [
+const CALLS: [(Call, &'static str, Result<(), Stop>); 29] = [
     (Call::Make, "base/1", Ok(())),
     (Call::Make, "base/1", Ok(())),
     (Call::Make, "absent/1", Err(Stop::Failed)),
     (Call::Make, "PG_VERSION", Err(Stop::Failed)),
     (Call::Begin, "base/1/f", Ok(())),
+    (Call::BeginNew(false), "base/1/f", Ok(())),
     (Call::Append(b"some"), "base/1/f", Ok(())),
+    (Call::BeginNew(false), "base/1/f", Ok(())),
+    (Call::BeginNew(true), "base/1/n", Ok(())),
+    (Call::Append(b"new"), "base/1/n", Ok(())),
+    (Call::RenameTo("base/n"), "base/1/n", Ok(())),
+    // whatever stands there
+    (Call::BeginNew(false), "base", Ok(())),
+    (Call::BeginNew(false), "link", Ok(())),
+    (Call::BeginNew(false), "pipe", Ok(())),
+    (Call::BeginNew(true), "absent/f", Err(Stop::Failed)),
     (Call::Append(b"x"), "base/1/g", Err(Stop::Failed)),
     (Call::Append(b"x"), "link", Err(Stop::Failed)),
     (Call::Begin, "absent/f", Err(Stop::Failed)),
@@ -94,7 +113,9 @@ fn does_each_call(rt: HostRuntime) -> Result<(), Fail> {
         assert_eq!(rt; tree.faults.count, faults, "{call:?} {path}");
     }
     assert!(rt;
-        scratch.shell("[ \"$(cat base/g link PG_VERSION)\" = some16. ]; mkdir global/pg_control")?
+        scratch.shell(
+            "[ \"$(cat base/g base/n link PG_VERSION)\" = somenew16. ]; mkdir global/pg_control"
+        )?
     );
     let mut room = [0u8; 2];
     let name = String::from_str(rt.alloc(), "000000010000000000000001")?;

@@ -1,41 +1,97 @@
-use Rattle.std.proofs.Common.{rules, arith, ◌≡◌, ◌++◌, ◌∷◌, [], Option, subst}
+use Rattle.std.proofs.Common.{rules, arith, ◌≡◌, ◌++◌, ◌∷◌, ◌∙◌, [], Bool, true, false, Option, Ok, subst}
 use Rattle.std.specs.Prelude.{IfSome}
-use Rattle.sha1.specs.Sha1.{sha1}
 use Rattle.pgb_outside.specs.Content.{Content}
 use Rattle.pgb_outside.specs.Cause.{Rises}
-use Rattle.pgb_archive.specs.Causes.{StoresBytes}
+use Rattle.pgb_archive.specs.Stored.{StoresNone}
 use Rattle.pgb_command.specs.Storing.{id_kept}
-use Rattle.pgb_command.specs.Getting.{IsSame, UnderCause}
-use Rattle.pgb_command.proofs.Searches.{parts_on, found_in, cause_in, cause_err}
+use Rattle.pgb_command.specs.Getting.{IsSame, FoundIn}
+use Rattle.pgb_command.specs.Serving.{AreBytes, Puts, UnderCause}
+use Rattle.pgb_command.proofs.Pushes.{rests_rests}
+use Rattle.pgb_command.proofs.Passes.{goes_as}
+use Rattle.pgb_command.proofs.Searches.{parts_on, more_absent, found_in, cause_in, cause_err}
 use Rattle.pgb_command.proofs.finding.search.Goals as goal
 
-pub returns-in_err-bytes-clause-cause : goal.returns-in_err-bytes-clause-cause
-returns-in_err-bytes-clause-cause g c =
+pub returns-in_err-serve_under-clause-changes : goal.returns-in_err-serve_under-clause-changes
+returns-in_err-serve_under-clause-changes g c =
     let i = c.loop-cluster.invariant in
     let stanza = c.args.stanza.now in
     let told = c.args.told.now in
-    let name = c.args.name.now in
+    let name = c.args.wanted.now.name in
     let cluster = c.in-Some.cluster.now in
     let last : c.loop-cluster.rest.now ≡ c.in-Some.earlier.now ++ cluster ∷ [] = search rules in
     let is = parts_on c.args.history.now c.loop-cluster.rest.now c.in-Some.earlier.now cluster i.parts.0 i.parts.1 last in
     let now = (g.D.Disk.view c.args.repo.now).now in
-    let rose = Rises (g.D.Disk.faults c.loop-cluster.repo) (g.D.Disk.faults c.look_under.new.repo) in
-    let under = subst (λ (o : Option Content). UnderCause (IsSame told cluster) stanza (id_kept cluster) name o rose c.in_err-bytes.field-0.0) i.now c.in_err-bytes.ensures.cause in
-    cause_err stanza told name c.from_residual.result c.in_err-bytes.field-0.0 c.from_residual.ensures.1 c.args.history.now now _
-    (cause_in stanza told name c.args.history.now c.in-Some.earlier.now cluster i.parts.0 is c.requires.numbers now rose _ (λ r. omega (arith, r, i.later)) i.parts.2 c.in_err-bytes.field-0.0 under)
+    goes_as (λ b. IsSame told cluster × AreBytes stanza (id_kept cluster) name (g.D.Disk.view c.loop-cluster.repo).now b) (λ b. IfSome now (FoundIn c.args.history.now stanza told name b)) c.args.wanted.now.path.now _ _ _ i.nodes
+    (λ b h. found_in stanza told name c.args.history.now c.in-Some.earlier.now cluster i.parts.0 is c.requires.numbers h.0 now b i.parts.2 (subst (λ (o : Option Content). AreBytes stanza (id_kept cluster) name o b) i.now h.1))
+    c.in_err-serve_under.ensures.changes
 
-pub returns-in-Some-2-clause-found : goal.returns-in-Some-2-clause-found
-returns-in-Some-2-clause-found g c =
+pub returns-in_err-serve_under-clause-cause : goal.returns-in_err-serve_under-clause-cause
+returns-in_err-serve_under-clause-cause g c =
     let i = c.loop-cluster.invariant in
     let stanza = c.args.stanza.now in
     let told = c.args.told.now in
-    let name = c.args.name.now in
+    let name = c.args.wanted.now.name in
     let cluster = c.in-Some.cluster.now in
     let last : c.loop-cluster.rest.now ≡ c.in-Some.earlier.now ++ cluster ∷ [] = search rules in
     let is = parts_on c.args.history.now c.loop-cluster.rest.now c.in-Some.earlier.now cluster i.parts.0 i.parts.1 last in
     let now = (g.D.Disk.view c.args.repo.now).now in
-    let bytes = c.in-Some-2.bytes.items in
-    let same : IsSame told cluster = search rules in
-    let has : IfSome (g.D.Disk.view c.loop-cluster.repo).now (λ f. StoresBytes stanza (id_kept cluster) name f (sha1 bytes) bytes) = search rules in
-    found_in stanza told name c.args.history.now c.in-Some.earlier.now cluster i.parts.0 is c.requires.numbers same now bytes i.parts.2
-    (subst (λ (o : Option Content). IfSome o (λ f. StoresBytes stanza (id_kept cluster) name f (sha1 bytes) bytes)) i.now has)
+    let disk_rose = Rises (g.D.Disk.faults c.loop-cluster.repo) (g.D.Disk.faults c.serve_under.new.repo) in
+    let tree_rose = Rises (g.T.Tree.faults c.loop-cluster.tree) (g.T.Tree.faults c.serve_under.new.tree) in
+    let e = c.in_err-serve_under.field-0.0 in
+    let under = subst (λ (o : Option Content). UnderCause (IsSame told cluster) stanza (id_kept cluster) name o disk_rose tree_rose e) i.now c.in_err-serve_under.ensures.cause in
+    cause_err stanza told name c.from_residual.result e c.from_residual.ensures.1 c.args.history.now now _ _
+    (cause_in stanza told name c.args.history.now c.in-Some.earlier.now cluster i.parts.0 is c.requires.numbers now disk_rose _ tree_rose _ (λ r. omega (arith, r, i.repo_later)) (λ r. omega (arith, r, i.tree_later)) i.parts.2 e under)
+
+pub returns-then-branch-clause-puts : goal.returns-then-branch-clause-puts
+returns-then-branch-clause-puts g c =
+    let i = c.loop-cluster.invariant in
+    let stanza = c.args.stanza.now in
+    let told = c.args.told.now in
+    let name = c.args.wanted.now.name in
+    let cluster = c.in-Some.cluster.now in
+    let last : c.loop-cluster.rest.now ≡ c.in-Some.earlier.now ++ cluster ∷ [] = search rules in
+    let is = parts_on c.args.history.now c.loop-cluster.rest.now c.in-Some.earlier.now cluster i.parts.0 i.parts.1 last in
+    let now = (g.D.Disk.view c.args.repo.now).now in
+    let served : c.in_ok-serve_under.field-0 ≡ true = search rules in
+    let h = subst (λ (b : Bool). Puts (Ok b) (λ b. IsSame told cluster × AreBytes stanza (id_kept cluster) name (g.D.Disk.view c.loop-cluster.repo).now b) (IsSame told cluster → IfSome (g.D.Disk.view c.loop-cluster.repo).now (StoresNone stanza (id_kept cluster) name)) c.args.wanted.now.path.now (g.T.Tree.nodes c.loop-cluster.tree) (g.T.Tree.nodes c.serve_under.new.tree)) served c.in_ok-serve_under.ensures.puts in (
+      h.0,
+      found_in stanza told name c.args.history.now c.in-Some.earlier.now cluster i.parts.0 is c.requires.numbers h.1.0 now h.0 i.parts.2 (subst (λ (o : Option Content). AreBytes stanza (id_kept cluster) name o h.0) i.now h.1.1),
+      h.2,
+    )
+
+pub returns-then-branch-clause-changes : goal.returns-then-branch-clause-changes
+returns-then-branch-clause-changes g c =
+    let i = c.loop-cluster.invariant in
+    let stanza = c.args.stanza.now in
+    let told = c.args.told.now in
+    let name = c.args.wanted.now.name in
+    let cluster = c.in-Some.cluster.now in
+    let last : c.loop-cluster.rest.now ≡ c.in-Some.earlier.now ++ cluster ∷ [] = search rules in
+    let is = parts_on c.args.history.now c.loop-cluster.rest.now c.in-Some.earlier.now cluster i.parts.0 i.parts.1 last in
+    let now = (g.D.Disk.view c.args.repo.now).now in
+    goes_as (λ b. IsSame told cluster × AreBytes stanza (id_kept cluster) name (g.D.Disk.view c.loop-cluster.repo).now b) (λ b. IfSome now (FoundIn c.args.history.now stanza told name b)) c.args.wanted.now.path.now _ _ _ i.nodes
+    (λ b h. found_in stanza told name c.args.history.now c.in-Some.earlier.now cluster i.parts.0 is c.requires.numbers h.0 now b i.parts.2 (subst (λ (o : Option Content). AreBytes stanza (id_kept cluster) name o b) i.now h.1))
+    c.in_ok-serve_under.ensures.changes
+
+pub loop-cluster-preserved : goal.loop-cluster-preserved
+loop-cluster-preserved g c =
+    let i = c.loop-cluster.invariant in
+    let stanza = c.args.stanza.now in
+    let told = c.args.told.now in
+    let name = c.args.wanted.now.name in
+    let cluster = c.in-Some.cluster.now in
+    let last : c.loop-cluster.rest.now ≡ c.in-Some.earlier.now ++ cluster ∷ [] = search rules in
+    let is = parts_on c.args.history.now c.loop-cluster.rest.now c.in-Some.earlier.now cluster i.parts.0 i.parts.1 last in
+    let now = (g.D.Disk.view c.args.repo.now).now in
+    let none : c.in_ok-serve_under.field-0 ≡ false = search rules in
+    let h = subst (λ (b : Bool). Puts (Ok b) (λ b. IsSame told cluster × AreBytes stanza (id_kept cluster) name (g.D.Disk.view c.loop-cluster.repo).now b) (IsSame told cluster → IfSome (g.D.Disk.view c.loop-cluster.repo).now (StoresNone stanza (id_kept cluster) name)) c.args.wanted.now.path.now (g.T.Tree.nodes c.loop-cluster.tree) (g.T.Tree.nodes c.serve_under.new.tree)) none c.in_ok-serve_under.ensures.puts in
+    record {
+      parts = (cluster ∷ i.parts.0, is, more_absent stanza told name now cluster i.parts.0 (subst (λ (o : Option Content). IsSame told cluster → IfSome o (StoresNone stanza (id_kept cluster) name)) i.now h.0) i.parts.2);
+      nodes = h.1 ∙ i.nodes;
+      now = c.serve_under.ensures.now ∙ i.now;
+      time = rests_rests _ _ _ i.time c.serve_under.ensures.time;
+      repo_place = c.serve_under.ensures.repo_place ∙ i.repo_place;
+      tree_place = c.serve_under.ensures.tree_place ∙ i.tree_place;
+      repo_later = omega (arith, i.repo_later, c.serve_under.ensures.repo_later);
+      tree_later = omega (arith, i.tree_later, c.serve_under.ensures.tree_later);
+    }

@@ -4,7 +4,7 @@ use Rattle.pgb_memory.specs.Counts.{is_to_fail}
 use Rattle.pgb_memory.specs.Nodes.{nodes_at, is_file, is_folder, is_placed, takes_file, takes_folder, holds_nothing}
 use Rattle.pgb_memory.proofs.Bare.{bare_from, bare_holds}
 use Rattle.pgb_memory.proofs.Rooted.{placed_from}
-use Rattle.pgb_memory.proofs.TreeTells.{tried_proper, tried_on_proper, ok_proper, both_true, and_true, file_there, is_there, begun_file, appended_file}
+use Rattle.pgb_memory.proofs.TreeTells.{tried_proper, tried_on_proper, ok_proper, both_true, and_true, file_there, is_there, begun_file, begun_new, appended_file}
 use Rattle.pgb_memory.proofs.tree.MemTreeTree.TheImpl.Goals as goal
 
 pub make-tells : goal.make-tells
@@ -25,6 +25,17 @@ begin-tells c =
     record {
       nodes = begun_file c.result path f (nodes_at c.new.self.now.nodes) c.ensures.ok c.ensures.err;
       proper = λ placed. tried_on_proper (is_placed f path) (takes_file (f path)) c.args.self.now.failing c.new.self.now.failing c.ensures.counts (placed_from f path placed);
+      place = c.ensures.place;
+      cause = c.ensures.cause;
+    }
+
+pub begin_new-tells : goal.begin_new-tells
+begin_new-tells c =
+    let f = nodes_at c.args.self.now.nodes in
+    let path = c.args.path.now in
+    record {
+      nodes = begun_new c.result path f (nodes_at c.new.self.now.nodes) c.ensures.told c.ensures.ok c.ensures.err;
+      proper = λ placed. tried_proper (is_placed f path) c.args.self.now.failing c.new.self.now.failing c.ensures.counts (placed_from f path placed);
       place = c.ensures.place;
       cause = c.ensures.cause;
     }

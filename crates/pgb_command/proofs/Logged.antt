@@ -1,0 +1,108 @@
+-- A file of the log that was opened, and what a command to push it says of it.
+use Rattle.std.proofs.Common.{◌≡◌, ℕ, length, take, min, Option, Some, None, refl, ap, ◌∙◌, sym, subst}
+use Rattle.std.specs.Prelude.{IfSome, IsSome, IsSomeAnd, Vec, option_map}
+use Rattle.std.specs.declared.alloc.Global.{Global}
+use Rattle.std.proofs.lemmas.List.{length-take, take_min}
+use Rattle.pgb_outside.specs.Content.{Name}
+use Rattle.pgb_outside.specs.Tree.{Nodes, file_bytes, known_path}
+use Rattle.pgb_model.specs.declared.wal.ArchiveName.{ArchiveName}
+use Rattle.pgb_model.specs.Text.{Text}
+use Rattle.pgb_model.specs.Names.{wal_text}
+use Rattle.pgb_wal.specs.Header.{BeginsWith}
+use Rattle.pgb_archive.specs.Pieces.{IsReadAs}
+use Rattle.pgb_command.specs.declared.log_file.LogFile.{LogFile}
+use Rattle.pgb_command.specs.LogFile.{told_file, IsOpened}
+use Rattle.pgb_command.specs.WalPath.{IsWalPath, HasWal, wal_path}
+
+-- the file is there
+abbrev pub IsThere : Option Nodes → Name → Type 0
+IsThere nodes path = IfSome nodes (λ f. IsSome (file_bytes (f path)))
+
+some_of : (v : Option Text) → IsSome v → (bytes : Text) × (v ≡ Some bytes)
+some_of None some = cc
+some_of (Some bytes) some = (bytes, refl)
+
+-- ---- its first bytes
+
+-- so the front was read
+abbrev pub IsFront : Option Nodes → Name → Text → Type 0
+IsFront nodes path front = IfSome nodes (λ f. Some front ≡ option_map (take 65536) (file_bytes (f path)))
+
+pub as_front : (nodes : Option Nodes) (path : Name) (r : Option (Vec ℕ Global)) (v : Vec ℕ Global) → r ≡ Some v → IfSome nodes (λ f. option_map (λ (x : Vec ℕ Global). x.items) r ≡ option_map (take 65536) (file_bytes (f path))) → IsFront nodes path v.items
+as_front nodes path r v is h = subst (λ (o : Option (Vec ℕ Global)). IfSome nodes (λ f. option_map (λ (x : Vec ℕ Global). x.items) o ≡ option_map (take 65536) (file_bytes (f path)))) is h
+
+front_of : (o : Option Text) (front : Text) → Some front ≡ option_map (take 65536) o → (bytes : Text) × (o ≡ Some bytes) × (front ≡ take 65536 bytes)
+front_of None front e = cc
+front_of (Some bytes) front e = (bytes, refl, cc)
+
+begins_of : (front bytes : Text) (n : ℕ) → front ≡ take 65536 bytes → length bytes ≡ n → BeginsWith front n bytes
+begins_of front bytes n is whole = record {
+  front = ap (λ (k : ℕ). take k bytes) (ap length is ∙ length-take 65536 bytes) ∙ take_min 65536 bytes ∙ sym is;
+  whole = whole;
+}
+
+module _ (path : Name) (front : Text) where
+  pub front_length : (nodes mid : Option Nodes) (len : ℕ) → mid ≡ nodes → len ≡ length front → IsFront nodes path front → IfSome (told_file mid path) (λ b. len ≡ min 65536 (length b))
+  front_length nodes mid len same long is = subst (λ (o : Option Nodes). IfSome (told_file o path) (λ b. len ≡ min 65536 (length b))) (sym same) (go nodes is)
+    where
+      go : (o : Option Nodes) → IsFront o path front → IfSome (told_file o path) (λ b. len ≡ min 65536 (length b))
+      go None h = tt
+      go (Some f) h = let x = front_of (file_bytes (f path)) front h in
+          subst (λ (v : Option Text). IfSome v (λ b. len ≡ min 65536 (length b))) (sym x.1) (long ∙ ap length x.2 ∙ length-take 65536 x.0)
+
+  pub front_there : (nodes : Option Nodes) → IsFront nodes path front → IfSome nodes (λ f. IsSome (file_bytes (f path)))
+  front_there None is = tt
+  front_there (Some f) is = let x = front_of (file_bytes (f path)) front is in subst (λ (v : Option Text). IsSome v) (sym x.1) refl
+
+  pub front_begins : (nodes mid : Option Nodes) (n : ℕ) → mid ≡ nodes → IsFront nodes path front → IfSome (told_file mid path) (λ b. length b ≡ n) → IfSome (told_file nodes path) (BeginsWith front n)
+  front_begins nodes mid n same is long = go nodes is (subst (λ (o : Option Nodes). IfSome (told_file o path) (λ b. length b ≡ n)) same long)
+    where
+      go : (o : Option Nodes) → IsFront o path front → IfSome (told_file o path) (λ b. length b ≡ n) → IfSome (told_file o path) (BeginsWith front n)
+      go None h k = tt
+      go (Some f) h k = let x = front_of (file_bytes (f path)) front h in
+          subst (λ (v : Option Text). IfSome v (BeginsWith front n)) (sym x.1) (begins_of front x.0 n x.2 (subst (λ (v : Option Text). IfSome v (λ b. length b ≡ n)) x.1 k))
+
+-- ---- a file that was opened
+
+module _ (name : Text) (log : LogFile) where
+  pub opened_lies : (nodes : Option Nodes) (wal : ArchiveName) → IsOpened nodes (wal_path name) log → name ≡ wal_text wal → known_path log.what ≡ wal_path (wal_text wal)
+  opened_lies nodes wal opened named = opened.lies ∙ ap wal_path named
+
+  module _ (nodes mid : Option Nodes) (same : mid ≡ nodes) where
+    pub opened_there : IsOpened mid (wal_path name) log → IfSome nodes (λ f. IsSome (file_bytes (f (known_path log.what))))
+    opened_there opened = subst (λ (p : Name). IfSome nodes (λ f. IsSome (file_bytes (f p)))) (sym opened.lies)
+        (subst (λ (o : Option Nodes). IfSome o (λ f. IsSome (file_bytes (f (wal_path name))))) same opened.there)
+
+    read_of : (first : Text) (count : ℕ) (o : Option Text) → IfSome o (BeginsWith first count) → IfSome o (λ b. IsReadAs (Some b) first count b)
+    read_of first count None h = tt
+    read_of first count (Some b) h = record { told = refl; front = h.front; whole = h.whole }
+
+    pub opened_read : (first : Text) (count : ℕ) → first ≡ log.front.items → count ≡ log.length → IsOpened nodes (wal_path name) log → IfSome (told_file mid (known_path log.what)) (λ b. IsReadAs (Some b) first count b)
+    opened_read first count front whole opened =
+        let there : IfSome (told_file mid (known_path log.what)) (BeginsWith log.front.items log.length) =
+        subst (λ (o : Option Nodes). IfSome (told_file o (known_path log.what)) (BeginsWith log.front.items log.length)) (sym same)
+        (subst (λ (p : Name). IfSome (told_file nodes p) (BeginsWith log.front.items log.length)) (sym opened.lies) opened.begins) in
+        read_of first count (told_file mid (known_path log.what)) (subst (λ (t : Text). IfSome (told_file mid (known_path log.what)) (BeginsWith t count)) (sym front)
+        (subst (λ (n : ℕ). IfSome (told_file mid (known_path log.what)) (BeginsWith log.front.items n)) (sym whole) there))
+
+-- ---- all of it
+
+module _ (folder path : Text) (wal : ArchiveName) (named : IsWalPath folder path wal) (place : Name) (lies : place ≡ wal_path (wal_text wal)) where
+  has_of : (f : Nodes) (bytes : Text) → file_bytes (f place) ≡ Some bytes → HasWal f folder path wal bytes
+  has_of f bytes is = record { named = named; is = subst (λ (p : Name). file_bytes (f p) ≡ Some bytes) lies is }
+
+  -- the bytes that the data folder tells
+  pub told_bytes : (P : Nodes → Type 0) (nodes mid : Option Nodes) → mid ≡ nodes → IsThere nodes place → IsSomeAnd nodes P → (bytes : Text) × (told_file mid place ≡ Some bytes) × IfSome nodes (λ f. HasWal f folder path wal bytes)
+  told_bytes P None mid same there some = absurd some
+  told_bytes P (Some f) mid same there some =
+      let b = some_of (file_bytes (f place)) there in
+      (b.0, ap (λ (o : Option Nodes). told_file o place) same ∙ b.1, has_of f b.0 b.1)
+
+  -- the bytes that were read
+  pub read_bytes : (nodes mid : Option Nodes) → mid ≡ nodes → IsThere nodes place → (bytes : Text) → IfSome (told_file mid place) (λ b. b ≡ bytes) → IfSome nodes (λ f. HasWal f folder path wal bytes)
+  read_bytes None mid same there bytes is = tt
+  read_bytes (Some f) mid same there bytes is =
+      let b = some_of (file_bytes (f place)) there in
+      let told : IfSome (file_bytes (f place)) (λ t. t ≡ bytes) = subst (λ (o : Option Nodes). IfSome (told_file o place) (λ t. t ≡ bytes)) same is in
+      let e : b.0 ≡ bytes = subst (λ (v : Option Text). IfSome v (λ t. t ≡ bytes)) b.1 told in
+      has_of f bytes (b.1 ∙ ap Some e)

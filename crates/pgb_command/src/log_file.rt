@@ -1,0 +1,183 @@
+// A file of the log is looked at: its first bytes, and how many it has.
+ghost use Rattle.std.specs.Prelude.{◌≡◌, ◌⊎◌, ◌≤◌, ◌<◌, Decides, min, length, IfOk, IfErr, IfSome, IfNone};
+ghost use Rattle.std.proofs.Common.{refl, ap, ◌∙◌};
+ghost use Rattle.pgb_outside.specs.Tree.{known_path};
+ghost use Rattle.pgb_outside.specs.Cause.{HasCause, Rises};
+ghost use Rattle.pgb_command.specs.LogFile.{told_file, IsOpened, IsMeasured};
+ghost use Rattle.pgb_command.specs.WalPath.{wal_path};
+ghost use Rattle.pgb_command.specs.WalCause.{FileCause};
+
+use crate::fault::{Fault, of_tree};
+use crate::reading::read_front;
+use pgb_archive::{Front, Pieces};
+use pgb_outside::{Known, Stop, Tree};
+use std::alloc::Global;
+
+// So many bytes are read at first.
+const FRONT: usize = 65_536;
+
+/// A file of the log, with its first bytes and the number of all.
+#[derive(Drop)]
+pub(crate) struct LogFile {
+    what: Known,
+    front: Vec<u8>,
+    length: u64,
+}
+
+/// What is seen of a file.
+#[derive(Drop)]
+pub(crate) enum Measured {
+    File(LogFile),
+    Absent,
+    /// It has more bytes than the limit.
+    Long,
+}
+
+// Whether the file has a byte at a place.
+fn reaches<T: Tree>(tree: &mut T, what: &Known, at: u64) -> Result<bool, Stop>
+    ensures there { IfOk result (λ r. IfSome (told_file (T.nodes tree.old) (known_path what.now)) (λ b. Decides r (at < length b))) }
+    ensures nodes { T.nodes tree.new ≡ T.nodes tree.old }
+    ensures place { T.place tree.new ≡ T.place tree.old }
+    ensures cause { HasCause (T.faults tree.old) (T.faults tree.new) result }
+{
+    let mut one = [0u8; 1];
+    match tree.read(what, at, &mut one)? {
+        Some(n) => Ok(n > 0),
+        None => Ok(false),
+    }
+}
+
+// How many bytes the file has, which are no fewer than the first number and no more than the second.
+fn length_between<T: Tree>(tree: &mut T, what: &Known, least: u64, most: u64) -> Result<u64, Stop>
+    requires order { least ≤ most }
+    requires between { IfSome (told_file (T.nodes tree.old) (known_path what.now)) (λ b. (least ≤ length b) × (length b ≤ most)) }
+    ensures length { IfOk result (λ n. IfSome (told_file (T.nodes tree.old) (known_path what.now)) (λ b. length b ≡ n)) }
+    ensures within { IfOk result (λ n. least ≤ n) }
+    ensures nodes { T.nodes tree.new ≡ T.nodes tree.old }
+    ensures place { T.place tree.new ≡ T.place tree.old }
+    ensures cause { HasCause (T.faults tree.old) (T.faults tree.new) result }
+{
+    let mut low = least;
+    let mut high = most;
+    while low < high {
+        let middle = low + (high - low) / 2;
+        if reaches(tree, what, middle)? {
+            low = middle + 1;
+        } else {
+            high = middle;
+        }
+    }
+    Ok(low)
+}
+
+// How many bytes the file has, of which the first were read; none where they are more than the limit.
+fn length_within<T: Tree>(
+    tree: &mut T,
+    what: &Known,
+    front: usize,
+    limit: u64,
+) -> Result<Option<u64>, Stop>
+    requires limit { 65536 ≤ limit }
+    requires front { IfSome (told_file (T.nodes tree.old) (known_path what.now)) (λ b. front ≡ min 65536 (length b)) }
+    requires room { front ≤ 65536 }
+    ensures length { IfOk result (λ r. IfSome r (λ n. IfSome (told_file (T.nodes tree.old) (known_path what.now)) (λ b. length b ≡ n))) }
+    ensures long { IfOk result (λ r. IfNone r (IfSome (told_file (T.nodes tree.old) (known_path what.now)) (λ b. limit < length b))) }
+    ensures within { IfOk result (λ r. IfSome r (λ n. front ≤ n)) }
+    ensures whole { IfOk result (λ r. IfSome r (λ n. (65536 ≤ front) ⊎ (front ≡ n))) }
+    ensures nodes { T.nodes tree.new ≡ T.nodes tree.old }
+    ensures place { T.place tree.new ≡ T.place tree.old }
+    ensures cause { HasCause (T.faults tree.old) (T.faults tree.new) result }
+{
+    if front < FRONT {
+        return Ok(Some(front as u64));
+    }
+    if reaches(tree, what, limit)? {
+        return Ok(None);
+    }
+    let length = length_between(tree, what, front as u64, limit)?;
+    Ok(Some(length))
+}
+
+// Looks at a file: at its first bytes and at their number, which may be at most the limit.
+fn measure<T: Tree>(alloc: Global, tree: &mut T, what: Known, limit: u64) -> Result<Measured, Stop>
+    requires { 65536 ≤ limit }
+    ensures measured { IfOk result (IsMeasured (T.nodes tree.old) (known_path what) limit) }
+    ensures nodes { T.nodes tree.new ≡ T.nodes tree.old }
+    ensures place { T.place tree.new ≡ T.place tree.old }
+    ensures cause { HasCause (T.faults tree.old) (T.faults tree.new) result }
+{
+    let Some(front) = read_front(alloc, tree, &what, FRONT)? else {
+        return Ok(Measured::Absent);
+    };
+    match length_within(tree, &what, front.len(), limit)? {
+        Some(length) => Ok(Measured::File(LogFile {
+            what,
+            front,
+            length,
+        })),
+        None => Ok(Measured::Long),
+    }
+}
+
+/// Opens the file of this name, which may have at most as many bytes as the limit.
+pub(crate) fn open_log_file<T: Tree>(
+    alloc: Global,
+    tree: &mut T,
+    path: &str,
+    name: &str,
+    limit: u64,
+) -> Result<LogFile, Fault>
+    requires { 65536 ≤ limit }
+    ensures opened { IfOk result (IsOpened (T.nodes tree.old) (wal_path name.now)) }
+    ensures refused { IfErr result (FileCause path.now name.now limit (T.nodes tree.old) (Rises (T.faults tree.old) (T.faults tree.new))) }
+    ensures nodes { T.nodes tree.new ≡ T.nodes tree.old }
+    ensures place { T.place tree.new ≡ T.place tree.old }
+    ensures later { T.faults tree.old ≤ T.faults tree.new }
+{
+    let what = Known::Wal(String::from_str(alloc, name)?);
+    match measure(alloc, tree, what, limit) {
+        Ok(Measured::File(log)) => Ok(log),
+        Ok(Measured::Absent) => Err(Fault::SegmentMissing {
+            path: String::from_str(alloc, path)?,
+        }),
+        Ok(Measured::Long) => Err(Fault::TooLong {
+            name: format!(in alloc; "pg_wal/{name}")?,
+            limit,
+        }),
+        Err(stop) => Err(of_tree(stop)),
+    }
+}
+
+impl LogFile {
+    /// Its first bytes, and how many it has.
+    pub(crate) fn front(&self) -> Front<'_>
+        ensures bytes { result.bytes.now ≡ self.now.front.items }
+        ensures length { result.length ≡ self.now.length }
+    {
+        Front {
+            bytes: &self.front,
+            length: self.length,
+        }
+    }
+}
+
+impl<T: Tree> Pieces<T> for LogFile {
+    ghost bytes = { λ it tree. told_file (T.nodes tree) (known_path it.what) };
+
+    ghost faults = { T.faults };
+
+    ghost same = { λ one other. (T.nodes other ≡ T.nodes one) × (T.misuses other ≡ T.misuses one) × (T.place other ≡ T.place one) };
+
+    ghost same_self = { λ one. (refl, refl, refl) };
+
+    ghost same_then = { λ one two three first second. (second.0 ∙ first.0, second.1 ∙ first.1, second.2 ∙ first.2) };
+
+    ghost bytes_stay = { λ it one other same. ap (λ o. told_file o (known_path it.what)) same.0 };
+
+    fn read(&self, holder: &mut T, at: u64, buf: &mut [u8]) -> Result<usize, Stop> {
+        match holder.read(&self.what, at, buf)? {
+            Some(n) => Ok(n),
+            None => Ok(0),
+        }
+    }
+}
