@@ -13,7 +13,6 @@ ghost use Rattle.pgb_model.specs.Text.{Text};
 ghost use Rattle.pgb_wal.specs.Header.{BeginsWith};
 ghost use Rattle.pgb_archive.specs.Stored.{archived_file, archive_path, StoresNone, StoresOnly, ChangesArchive};
 ghost use Rattle.pgb_archive.specs.Causes.{IsFileOf, HeaderCause, PushCause, OnFinding};
-ghost use Rattle.pgb_archive.specs.Pieces.{IsReadAs};
 ghost use Rattle.pgb_archive.specs.Pushing.{IsPushedAs, PushFromCause, OnPushFinding};
 
 use crate::fault::{ArchiveFault, PushFault, source_fault};
@@ -65,7 +64,7 @@ pub fn push_from<D: Disk, H, P: Pieces<H>>(
     pieces: &P,
     front: Front<'_>,
 ) -> Result<Pushed, PushFault>
-    requires told { IfSome (P.bytes pieces.now holder.old) (λ b. IsReadAs (Some b) front.bytes.now front.length b) }
+    requires told { IfSome (P.bytes pieces.now holder.old) (BeginsWith front.bytes.now front.length) }
     requires long { (40 ≤ length front.bytes.now) ⊎ (length front.bytes.now ≡ front.length) }
     requires within { length front.bytes.now ≤ front.length }
 
@@ -85,8 +84,6 @@ pub fn push_from<D: Disk, H, P: Pieces<H>>(
     ensures only { ChangesArchive stanza.now (D.view d.old) (D.view d.new) }
     ensures writes { (bytes : Text) × IfSome (P.bytes pieces.now holder.old) (λ b. b ≡ bytes)
         × NowGoes (FirstOf ((archive_path stanza.now id.now name.now (sha1 bytes), bytes) ∷ [])) (D.view d.old).now (D.view d.new).now }
-    ensures written { IfOk result (λ p. (bytes : Text) → P.bytes pieces.now holder.old ≡ Some bytes
-        → p ≡ Pushed.New → NowGoes (AllOf ((archive_path stanza.now id.now name.now (sha1 bytes), bytes) ∷ [])) (D.view d.old).now (D.view d.new).now) }
 
     // Each answer has its cause, and what was found changes nothing.
     ensures answered { IfOk result (IsPushedAs stanza.now id.now name.now system (P.bytes pieces.now holder.old) front.entry.bytes.now front.entry.length (D.view d.old).now (D.view d.new).now) }
@@ -127,7 +124,7 @@ pub fn push_from<D: Disk, H, P: Pieces<H>>(
 
 // The first bytes, at most a piece of them.
 fn front_of(bytes: &[u8]) -> Front<'_>
-    ensures begins { IsReadAs (Some bytes.now) result.bytes.now result.length bytes.now }
+    ensures begins { BeginsWith result.bytes.now result.length bytes.now }
     ensures long { (40 ≤ length result.bytes.now) ⊎ (length result.bytes.now ≡ result.length) }
     ensures within { length result.bytes.now ≤ result.length }
 {

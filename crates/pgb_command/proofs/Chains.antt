@@ -11,18 +11,8 @@ use Rattle.pgb_model.specs.Now.{NowStands, NowDoes}
 use Rattle.pgb_model.specs.Steady.{Moves}
 use Rattle.pgb_model.proofs.Done.{part_none}
 use Rattle.pgb_model.proofs.Steady.{steady_rests, rests_moves}
+use Rattle.pgb_archive.specs.Still.{rests_none}
 use Rattle.pgb_command.specs.Commands.{IsPart, Goes, Ends}
-
--- nothing was done
-pub rests_none : (a : View) → Rests a a
-rests_none a = record {
-  later = omega arith;
-  same = λ t n v le h. h;
-  stays = λ t n v le h. h;
-  same_loose = λ t n le. refl;
-  grows = λ t n v lo hi h. inl (subst (λ (m : ℕ). a.kept m n v) (let e : t ≡ a.moment = omega (arith, lo, hi) in e) h);
-  loosens = λ t n lo hi h. inl (subst (λ (m : ℕ). a.loose m n ≡ true) (let e : t ≡ a.moment = omega (arith, lo, hi) in e) h);
-}
 
 module _ (stanza : Text) where
   pub still_does : (old new : Option Content) → new ≡ old → NowDoes stanza Reading true old new

@@ -10,6 +10,7 @@ use Rattle.pgb_model.specs.Steps.{Command, StanzaCreate, Reading}
 use Rattle.pgb_model.specs.Steady.{CarriesOn, PassesOnly}
 use Rattle.pgb_model.specs.Now.{HasNewPairs, NowDoes}
 use Rattle.pgb_model.proofs.Done.{nothing_done}
+use Rattle.pgb_archive.specs.Still.{rests_none}
 use Rattle.pgb_command.specs.declared.fault.Fault.{Fault}
 use Rattle.pgb_command.specs.declared.fault.Fault.TheVariants.{NoMemory}
 use Rattle.pgb_command.specs.declared.outcome.Outcome.{Outcome}
@@ -27,7 +28,7 @@ use Rattle.pgb_command.specs.Outcomes.{outcome_ending, OnFinished, ending_of}
 use Rattle.pgb_stanza.specs.Pairs.{LacksStanza, PairsAgree}
 use Rattle.pgb_command.specs.Storing.{AgreesAtPair}
 use Rattle.pgb_command.proofs.Carries.{rests_carry, rests_pass}
-use Rattle.pgb_command.proofs.Chains.{rests_none, still_does}
+use Rattle.pgb_command.proofs.Chains.{still_does}
 use Rattle.pgb_command.proofs.Pushes.{as_push, none_carried, rests_carried}
 
 -- ---- nothing was done

@@ -9,7 +9,6 @@ use Rattle.pgb_model.specs.declared.wal.ArchiveName.{ArchiveName}
 use Rattle.pgb_model.specs.Text.{Text}
 use Rattle.pgb_model.specs.Names.{wal_text}
 use Rattle.pgb_wal.specs.Header.{BeginsWith}
-use Rattle.pgb_archive.specs.Pieces.{IsReadAs}
 use Rattle.pgb_command.specs.declared.log_file.LogFile.{LogFile}
 use Rattle.pgb_command.specs.LogFile.{told_file, IsOpened}
 use Rattle.pgb_command.specs.WalPath.{IsWalPath, HasWal, wal_path}
@@ -73,17 +72,13 @@ module _ (name : Text) (log : LogFile) where
     opened_there opened = subst (λ (p : Name). IfSome nodes (λ f. IsSome (file_bytes (f p)))) (sym opened.lies)
         (subst (λ (o : Option Nodes). IfSome o (λ f. IsSome (file_bytes (f (wal_path name))))) same opened.there)
 
-    read_of : (first : Text) (count : ℕ) (o : Option Text) → IfSome o (BeginsWith first count) → IfSome o (λ b. IsReadAs (Some b) first count b)
-    read_of first count None h = tt
-    read_of first count (Some b) h = record { told = refl; front = h.front; whole = h.whole }
-
-    pub opened_read : (first : Text) (count : ℕ) → first ≡ log.front.items → count ≡ log.length → IsOpened nodes (wal_path name) log → IfSome (told_file mid (known_path log.what)) (λ b. IsReadAs (Some b) first count b)
+    pub opened_read : (first : Text) (count : ℕ) → first ≡ log.front.items → count ≡ log.length → IsOpened nodes (wal_path name) log → IfSome (told_file mid (known_path log.what)) (BeginsWith first count)
     opened_read first count front whole opened =
         let there : IfSome (told_file mid (known_path log.what)) (BeginsWith log.front.items log.length) =
         subst (λ (o : Option Nodes). IfSome (told_file o (known_path log.what)) (BeginsWith log.front.items log.length)) (sym same)
         (subst (λ (p : Name). IfSome (told_file nodes p) (BeginsWith log.front.items log.length)) (sym opened.lies) opened.begins) in
-        read_of first count (told_file mid (known_path log.what)) (subst (λ (t : Text). IfSome (told_file mid (known_path log.what)) (BeginsWith t count)) (sym front)
-        (subst (λ (n : ℕ). IfSome (told_file mid (known_path log.what)) (BeginsWith log.front.items n)) (sym whole) there))
+        subst (λ (t : Text). IfSome (told_file mid (known_path log.what)) (BeginsWith t count)) (sym front)
+        (subst (λ (n : ℕ). IfSome (told_file mid (known_path log.what)) (BeginsWith log.front.items n)) (sym whole) there)
 
 -- ---- all of it
 

@@ -12,7 +12,7 @@ ghost use Rattle.pgb_command.specs.Serving.{AreBytes, Puts, FileCause, UnderCaus
 
 use crate::fault::Fault;
 use crate::serving::{Passed, pass_on, put_file};
-use pgb_archive::{ArchiveFault, get, present};
+use pgb_archive::{ArchiveFault, get, has_sum, present};
 use pgb_model::{ArchiveId, ArchiveName, ClusterId};
 use pgb_outside::{Disk, Tree};
 use pgb_stanza::Control;
@@ -45,13 +45,6 @@ pub(crate) fn has_cluster(history: &[ClusterId], told: &Control) -> bool
         rest = earlier;
     }
     false
-}
-
-// Whether a file's name in the archive tells its sum.
-fn has_sum(name: &ArchiveName) -> bool
-    ensures { result ≡ has_sum name.now }
-{
-    matches!(name, ArchiveName::Segment(_) | ArchiveName::Partial(_))
 }
 
 // Serves a file that is read whole, and tells whether it is archived under this id.
@@ -108,7 +101,7 @@ fn serve_segment<D: Disk, T: Tree>(
         Ok(None) => return Ok(false),
         Err(fault) => return Err(Fault::from(fault)),
     };
-    // So it is of each segment.
+    // A segment has a sum, so this is never so.
     let Some(sum) = stored.sum else {
         return serve_whole(alloc, repo, tree, stanza, id, wanted);
     };

@@ -84,7 +84,7 @@ impl Handles {
 
     // Closes a file that was written, so that the disk writes its bytes while they are read. It is opened anew before that,
     // so that a fault of the writing is told by the sync.
-    fn begin_writing(&mut self, place: &Place, name: &str) -> io::Result<()> {
+    fn close_written(&mut self, place: &Place, name: &str) -> io::Result<()> {
         if is_of(&self.writing, name) {
             let file = place.open_end(name)?;
             self.writing = Some(keep(place, name, file)?);
@@ -117,7 +117,7 @@ impl Handles {
                 return Ok(None);
             };
             self.reading = Some(keep(place, name, file)?);
-            self.begin_writing(place, name)?;
+            self.close_written(place, name)?;
         }
         match &self.reading {
             Some(kept) => read_some(&kept.file, at, buf).map(Some),

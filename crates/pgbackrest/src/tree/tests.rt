@@ -132,3 +132,34 @@ fn does_each_call(rt: HostRuntime) -> Result<(), Fail> {
     scratch.remove()?;
     Ok(())
 }
+
+// A file that changes while it is read: what is done to it, and the reading of 4 bytes behind that.
+const READS: [(&'static str, u64, Result<Option<usize>, Stop>); 7] = [
+    ("printf 123456 >PG_VERSION", 0, Ok(Some(4))),
+    // what is added isn't read, but by the next reading
+    ("printf 789 >>PG_VERSION", 4, Ok(Some(2))),
+    ("true", 6, Ok(Some(0))),
+    ("true", 0, Ok(Some(4))),
+    ("true", 4, Ok(Some(4))),
+    // what is gone can't be read
+    ("truncate -s 5 PG_VERSION", 8, Err(Stop::Failed)),
+    ("true", 0, Ok(Some(4))),
+];
+
+#[test]
+fn reads_what_was_there_at_the_start(rt: HostRuntime) -> Result<(), Fail> {
+    let scratch = Scratch::new(rt, "reading")?;
+    let mut tree = RealTree::new(rt);
+    assert_eq!(rt; tree.open(&scratch.path), Ok(()));
+    let mut room = [0u8; 4];
+    for (change, at, wanted) in READS {
+        assert!(rt; scratch.shell(change)?);
+        assert_eq!(rt;
+            tree.read(&Known::Version, at, &mut room),
+            wanted,
+            "{change} {at}"
+        );
+    }
+    scratch.remove()?;
+    Ok(())
+}

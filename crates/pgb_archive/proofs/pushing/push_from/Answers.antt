@@ -12,7 +12,7 @@ use Rattle.pgb_archive.specs.Pushing.{PushFromCause, OnPushFinding}
 use Rattle.pgb_archive.specs.Still.{rests_none}
 use Rattle.pgb_archive.specs.Stored.{StoresOnly}
 use Rattle.pgb_archive.proofs.Got.{err_by}
-use Rattle.pgb_archive.proofs.Piecewise.{read_begins, some_read}
+use Rattle.pgb_archive.proofs.Piecewise.{some_read}
 use Rattle.pgb_archive.proofs.Placed.{none_only, still_only, put_only, shown_free, shown_one, shown_only, shown_both, temporary_of, lies_of, lasting_of}
 use Rattle.pgb_archive.proofs.PushedFrom.{stop_finding, stop_risen, header_refused, memory_refused, look_refused, stop_refused, source_refused, rests_part, rests_moves, rests_writes, rests_refused, same_done, same_stored, free_part, free_moves, free_writes, free_done, free_stored, free_written}
 use Rattle.pgb_archive.proofs.pushing.push_from.Goals as goal
@@ -193,13 +193,17 @@ pub returns-in-Free-clause-stored : goal.returns-in-Free-clause-stored
 returns-in-Free-clause-stored g c =
     free_stored c.args.stanza.now c.args.id.now c.args.name.now c.args.system (g.P.Pieces.bytes c.args.pieces.now c.args.holder.now) c.args.front.bytes.now c.args.front.length c.requires.told c.requires.within c.in_ok-names.names c.in_ok-names.ensures.names c.file_names.ensures.place (g.D.Disk.view c.args.d.now) (g.D.Disk.view c.look_for.new.d) c.look_for.ensures.time c.look_for.ensures.now (g.D.Disk.view c.put_new.new.d) (shown_free c.args.stanza.now c.args.id.now c.args.name.now c.in_ok-names.names c.in_ok-names.ensures.names (g.D.Disk.view c.args.d.now).now _ c.in-Free.is c.in_ok-look_for.ensures.shows) c.in_ok-put_new-in-Free.ensures.left.0 c.in_ok-put_new-in-Free.ensures.left.1 c.in_ok-put_new-in-Free.ensures.left.2 c.in_ok-put_new-in-Free.ensures.left.3
 
-pub returns-in-Free-clause-written : goal.returns-in-Free-clause-written
-returns-in-Free-clause-written g c =
-    λ bytes is new. free_written c.args.stanza.now c.args.id.now c.args.name.now c.args.system (g.P.Pieces.bytes c.args.pieces.now c.args.holder.now) c.args.front.bytes.now c.args.front.length c.requires.told c.requires.within c.in_ok-names.names c.in_ok-names.ensures.names c.file_names.ensures.place (g.D.Disk.view c.args.d.now) (g.D.Disk.view c.look_for.new.d) c.look_for.ensures.time c.look_for.ensures.now (g.D.Disk.view c.put_new.new.d) (shown_free c.args.stanza.now c.args.id.now c.args.name.now c.in_ok-names.names c.in_ok-names.ensures.names (g.D.Disk.view c.args.d.now).now _ c.in-Free.is c.in_ok-look_for.ensures.shows) c.in_ok-put_new-in-Free.ensures.left.0 c.in_ok-put_new-in-Free.ensures.left.1 c.in_ok-put_new-in-Free.ensures.left.2 c.in_ok-put_new-in-Free.ensures.left.3 bytes is
-
 pub returns-in-Free-clause-answered : goal.returns-in-Free-clause-answered
 returns-in-Free-clause-answered g c =
-    record { bytes = c.put_new.ensures.left.0; read = c.put_new.ensures.left.1; of_system = c.in_ok-check_bytes.ensures.right c.put_new.ensures.left.0 (read_begins (g.P.Pieces.bytes c.args.pieces.now c.args.holder.now) c.args.front.bytes.now c.args.front.length c.put_new.ensures.left.0 c.put_new.ensures.left.1); new = λ _. (shown_free c.args.stanza.now c.args.id.now c.args.name.now c.in_ok-names.names c.in_ok-names.ensures.names (g.D.Disk.view c.args.d.now).now _ c.in-Free.is c.in_ok-look_for.ensures.shows); same = λ e. cc e }
+    let w = c.in_ok-put_new-in-Free.ensures.left in
+    let free = shown_free c.args.stanza.now c.args.id.now c.args.name.now c.in_ok-names.names c.in_ok-names.ensures.names (g.D.Disk.view c.args.d.now).now _ c.in-Free.is c.in_ok-look_for.ensures.shows in
+    record {
+      bytes = w.0;
+      read = w.1;
+      of_system = c.in_ok-check_bytes.ensures.right w.0 w.1.begins;
+      new = λ _. (free, free_written c.args.stanza.now c.args.id.now c.args.name.now c.args.system (g.P.Pieces.bytes c.args.pieces.now c.args.holder.now) c.args.front.bytes.now c.args.front.length c.requires.told c.requires.within c.in_ok-names.names c.in_ok-names.ensures.names c.file_names.ensures.place (g.D.Disk.view c.args.d.now) (g.D.Disk.view c.look_for.new.d) c.look_for.ensures.time c.look_for.ensures.now (g.D.Disk.view c.put_new.new.d) free w.0 w.1 w.2 w.3);
+      same = λ e. cc e;
+    }
 
 pub returns-in_err-put_new-in-Free-clause-refused : goal.returns-in_err-put_new-in-Free-clause-refused
 returns-in_err-put_new-in-Free-clause-refused g c =
@@ -237,7 +241,7 @@ returns-then-eq-clause-answered g c =
     record {
       bytes = w.0;
       read = w.1;
-      of_system = c.in_ok-check_bytes.ensures.right w.0 (read_begins (g.P.Pieces.bytes c.args.pieces.now c.args.holder.now) c.args.front.bytes.now c.args.front.length w.0 w.1);
+      of_system = c.in_ok-check_bytes.ensures.right w.0 w.1.begins;
       new = λ e. cc e;
       same = λ _. (subst (λ (t : Text). IfSome (g.D.Disk.view c.args.d.now).now (λ f. StoresOnly c.args.stanza.now c.args.id.now c.args.name.now f t)) sum only, c.look_for.ensures.now);
     }
@@ -245,7 +249,7 @@ returns-then-eq-clause-answered g c =
 pub returns-in-One-clause-cause : goal.returns-in-One-clause-cause
 returns-in-One-clause-cause g c =
     let w = c.in-Ok.ensures.sum in
-    (w.0, w.1, (c.in_ok-check_bytes.ensures.right w.0 (read_begins (g.P.Pieces.bytes c.args.pieces.now c.args.holder.now) c.args.front.bytes.now c.args.front.length w.0 w.1), w.2, search rules, shown_only c.args.stanza.now c.args.id.now c.args.name.now c.in_ok-names.names c.in_ok-names.ensures.names (g.D.Disk.view c.args.d.now).now _ c.in-One.kept c.in-One.is c.in_ok-look_for.ensures.shows))
+    (w.0, w.1, (c.in_ok-check_bytes.ensures.right w.0 w.1.begins, w.2, search rules, shown_only c.args.stanza.now c.args.id.now c.args.name.now c.in_ok-names.names c.in_ok-names.ensures.names (g.D.Disk.view c.args.d.now).now _ c.in-One.kept c.in-One.is c.in_ok-look_for.ensures.shows))
 
 pub returns-in-Err-clause-cause : goal.returns-in-Err-clause-cause
 returns-in-Err-clause-cause g c =
@@ -255,4 +259,4 @@ returns-in-Err-clause-cause g c =
 pub returns-clause-cause : goal.returns-clause-cause
 returns-clause-cause g c =
     let w = some_read (g.P.Pieces.bytes c.args.pieces.now c.args.holder.now) c.args.front.bytes.now c.args.front.length c.requires.told c.requires.within in
-    (w.0, w.1, (c.in_ok-check_bytes.ensures.right w.0 (read_begins (g.P.Pieces.bytes c.args.pieces.now c.args.holder.now) c.args.front.bytes.now c.args.front.length w.0 w.1), shown_both c.args.stanza.now c.args.id.now c.args.name.now c.in_ok-names.names c.in_ok-names.ensures.names (g.D.Disk.view c.args.d.now).now _ c.in-Two.first c.in-Two.second c.in-Two.is c.in_ok-look_for.ensures.shows))
+    (w.0, w.1, (c.in_ok-check_bytes.ensures.right w.0 w.1.begins, shown_both c.args.stanza.now c.args.id.now c.args.name.now c.in_ok-names.names c.in_ok-names.ensures.names (g.D.Disk.view c.args.d.now).now _ c.in-Two.first c.in-Two.second c.in-Two.is c.in_ok-look_for.ensures.shows))

@@ -1,7 +1,8 @@
 use Rattle.pgb_model.specs.Steps.{Reading}
 use Rattle.pgb_model.proofs.Done.{nothing_done}
+use Rattle.pgb_archive.specs.Still.{rests_none}
 use Rattle.pgb_command.proofs.Carries.{rests_carry, rests_pass}
-use Rattle.pgb_command.proofs.Chains.{still_does, rests_none}
+use Rattle.pgb_command.proofs.Chains.{still_does}
 use Rattle.std.proofs.Common.{refl, true, false, arith}
 use Rattle.pgb_command.proofs.Pushes.{push_sound, push_carries, push_passes, push_carried, reading_carried, none_carried, early_all, early_same, does_from, asked_on, rests_carried}
 use Rattle.pgb_command.proofs.StoreCauses.{opening_err, storing_err}

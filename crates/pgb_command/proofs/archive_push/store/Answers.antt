@@ -177,7 +177,7 @@ returns-clause-stored g c =
     let lines = pushed_lines c.in_ok-pushed.pushed (string_bytes c.args.file.text) in
     subst (λ (e : Ending). OnFinished e (IsStored stanza folder path (g.D.Disk.view c.args.repo.now).now nodes)) (sym c.outcome_of.ensures) (stored_as stanza folder path (g.D.Disk.view c.args.repo.now).now (g.D.Disk.view c.current_id.new.repo).now nodes wal a.bytes c.in_ok-told.told x.0 ready (subst (λ (i : ArchiveId). i.version < 2 ^ 32) x.1 fits.0) (subst (λ (i : ArchiveId). i.number < 2 ^ 32) x.1 fits.1) c.requires.0.fits
     c.current_id.ensures.stays.told c.in_ok-id.ensures.files lines (string_bytes c.args.file.text) c.in_ok-pushed.pushed c.requires.1 refl a.of_system
-    (λ is. subst (λ (i : ArchiveId). IfSome (g.D.Disk.view c.current_id.new.repo).now (StoresNone stanza i wal)) x.1 (a.new is))
+    (λ is. subst (λ (i : ArchiveId). IfSome (g.D.Disk.view c.current_id.new.repo).now (StoresNone stanza i wal)) x.1 (a.new is).0)
     (λ is. subst (λ (i : ArchiveId). IfSome (g.D.Disk.view c.current_id.new.repo).now (λ f. StoresOnly stanza i wal f (sha1 a.bytes))) x.1 (a.same is).0))
 
 pub push_from-requires-clause-told : goal.push_from-requires-clause-told
