@@ -84,14 +84,14 @@ pub(crate) fn look_in_folder<D: Disk>(
     d: &mut D,
     names: &FileNames,
 ) -> Result<Look, ArchiveFault>
-    ensures shows { IfOk result (λ look. IfSome (D.view d.old).now
+    ensures shows { IfOk result (λ look. IfSome (D.state d.old).view.now
         (λ f. (stanza : Text) (id : ArchiveId) (name : ArchiveName) → AreNamesOf stanza id name names.now → has_sum name ≡ true → Shows stanza id name f look)) }
-    ensures now { (D.view d.new).now ≡ (D.view d.old).now }
-    ensures time { Rests (D.view d.old) (D.view d.new) }
-    ensures place { D.place d.new ≡ D.place d.old }
-    ensures proper { D.misuses d.new ≡ D.misuses d.old }
-    ensures later { D.faults d.old ≤ D.faults d.new }
-    ensures cause { IsErrOf result ArchiveFault.Disk → Rises (D.faults d.old) (D.faults d.new) }
+    ensures now { (D.state d.new).view.now ≡ (D.state d.old).view.now }
+    ensures time { Rests (D.state d.old).view (D.state d.new).view }
+    ensures place { (D.state d.new).opened ≡ (D.state d.old).opened }
+    ensures proper { (D.state d.new).misuses ≡ (D.state d.old).misuses }
+    ensures later { (D.state d.old).faults ≤ (D.state d.new).faults }
+    ensures cause { IsErrOf result ArchiveFault.Disk → Rises (D.state d.old).faults (D.state d.new).faults }
     ensures stops { IfErr result IsStop }
 {
     let found = d.names(alloc, names.folder.as_str())?;
@@ -102,14 +102,14 @@ pub(crate) fn look_in_folder<D: Disk>(
 // Looks at the one path of a file whose path has no sum, and reads it.
 fn look_at<D: Disk>(alloc: Global, d: &mut D, names: &FileNames) -> Result<Look, ArchiveFault>
     requires { names.now.has_sum ≡ false }
-    ensures shows { IfOk result (λ look. IfSome (D.view d.old).now
+    ensures shows { IfOk result (λ look. IfSome (D.state d.old).view.now
         (λ f. (stanza : Text) (id : ArchiveId) (name : ArchiveName) → AreNamesOf stanza id name names.now → Shows stanza id name f look)) }
-    ensures cause { IfErr result (LookCause names.now (D.view d.old).now (Rises (D.faults d.old) (D.faults d.new))) }
-    ensures now { (D.view d.new).now ≡ (D.view d.old).now }
-    ensures time { Rests (D.view d.old) (D.view d.new) }
-    ensures place { D.place d.new ≡ D.place d.old }
-    ensures proper { D.misuses d.new ≡ D.misuses d.old }
-    ensures later { D.faults d.old ≤ D.faults d.new }
+    ensures cause { IfErr result (LookCause names.now (D.state d.old).view.now (Rises (D.state d.old).faults (D.state d.new).faults)) }
+    ensures now { (D.state d.new).view.now ≡ (D.state d.old).view.now }
+    ensures time { Rests (D.state d.old).view (D.state d.new).view }
+    ensures place { (D.state d.new).opened ≡ (D.state d.old).opened }
+    ensures proper { (D.state d.new).misuses ≡ (D.state d.old).misuses }
+    ensures later { (D.state d.old).faults ≤ (D.state d.new).faults }
 {
     match read_whole(alloc, d, names.front.as_str(), HISTORY_LIMIT)? {
         None => Ok(Look::Free),
@@ -127,14 +127,14 @@ pub(crate) fn look_for<D: Disk>(
     d: &mut D,
     names: &FileNames,
 ) -> Result<Look, ArchiveFault>
-    ensures shows { IfOk result (λ look. IfSome (D.view d.old).now
+    ensures shows { IfOk result (λ look. IfSome (D.state d.old).view.now
         (λ f. (stanza : Text) (id : ArchiveId) (name : ArchiveName) → AreNamesOf stanza id name names.now → Shows stanza id name f look)) }
-    ensures cause { IfErr result (LookCause names.now (D.view d.old).now (Rises (D.faults d.old) (D.faults d.new))) }
-    ensures now { (D.view d.new).now ≡ (D.view d.old).now }
-    ensures time { Rests (D.view d.old) (D.view d.new) }
-    ensures place { D.place d.new ≡ D.place d.old }
-    ensures proper { D.misuses d.new ≡ D.misuses d.old }
-    ensures later { D.faults d.old ≤ D.faults d.new }
+    ensures cause { IfErr result (LookCause names.now (D.state d.old).view.now (Rises (D.state d.old).faults (D.state d.new).faults)) }
+    ensures now { (D.state d.new).view.now ≡ (D.state d.old).view.now }
+    ensures time { Rests (D.state d.old).view (D.state d.new).view }
+    ensures place { (D.state d.new).opened ≡ (D.state d.old).opened }
+    ensures proper { (D.state d.new).misuses ≡ (D.state d.old).misuses }
+    ensures later { (D.state d.old).faults ≤ (D.state d.new).faults }
 {
     if names.has_sum {
         look_in_folder(alloc, d, names)

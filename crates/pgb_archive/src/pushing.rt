@@ -69,30 +69,30 @@ pub fn push_from<D: Disk, H, P: Pieces<H>>(
     requires within { length front.bytes.now ≤ front.length }
 
     // After every answer the disk stands for the repository as before or with the file, and at Ok with it.
-    ensures part { (bytes : Text) → P.bytes pieces.now holder.old ≡ Some bytes → (s : Stanza) → IsSome (D.view d.old).now → NowStands stanza.now (Some s) (D.view d.old).now
-        → (done : List Step) × IsPartOf done (map One (push_of s (archived_file id.now name.now bytes))) × NowStands stanza.now (after (Some s) done) (D.view d.new).now }
-    ensures done { OnOk result ((bytes : Text) → P.bytes pieces.now holder.old ≡ Some bytes → (s : Stanza) → IsSome (D.view d.old).now → NowStands stanza.now (Some s) (D.view d.old).now
-        → NowStands stanza.now (Some (after_all s (push_of s (archived_file id.now name.now bytes)))) (D.view d.new).now) }
+    ensures part { (bytes : Text) → P.bytes pieces.now holder.old ≡ Some bytes → (s : Stanza) → IsSome (D.state d.old).view.now → NowStands stanza.now (Some s) (D.state d.old).view.now
+        → (done : List Step) × IsPartOf done (map One (push_of s (archived_file id.now name.now bytes))) × NowStands stanza.now (after (Some s) done) (D.state d.new).view.now }
+    ensures done { OnOk result ((bytes : Text) → P.bytes pieces.now holder.old ≡ Some bytes → (s : Stanza) → IsSome (D.state d.old).view.now → NowStands stanza.now (Some s) (D.state d.old).view.now
+        → NowStands stanza.now (Some (after_all s (push_of s (archived_file id.now name.now bytes)))) (D.state d.new).view.now) }
 
     // The same of all that a stop leaves, at each moment.
-    ensures moves { (bytes : Text) → P.bytes pieces.now holder.old ≡ Some bytes → (s : Stanza) → IsSteady stanza.now (Some s) (D.view d.old) → IsSome (D.view d.old).now
-        → Moves stanza.now (λ g. (done : List Step) × IsPartOf done (map One (push_of s (archived_file id.now name.now bytes))) × Stands stanza.now g (after (Some s) done)) (D.view d.old) (D.view d.new) }
-    ensures stored { OnOk result ((bytes : Text) → P.bytes pieces.now holder.old ≡ Some bytes → (s : Stanza) → IsSteady stanza.now (Some s) (D.view d.old) → IsSome (D.view d.old).now
-        → IsSteady stanza.now (Some (after_all s (push_of s (archived_file id.now name.now bytes)))) (D.view d.new)) }
+    ensures moves { (bytes : Text) → P.bytes pieces.now holder.old ≡ Some bytes → (s : Stanza) → IsSteady stanza.now (Some s) (D.state d.old).view → IsSome (D.state d.old).view.now
+        → Moves stanza.now (λ g. (done : List Step) × IsPartOf done (map One (push_of s (archived_file id.now name.now bytes))) × Stands stanza.now g (after (Some s) done)) (D.state d.old).view (D.state d.new).view }
+    ensures stored { OnOk result ((bytes : Text) → P.bytes pieces.now holder.old ≡ Some bytes → (s : Stanza) → IsSteady stanza.now (Some s) (D.state d.old).view → IsSome (D.state d.old).view.now
+        → IsSteady stanza.now (Some (after_all s (push_of s (archived_file id.now name.now bytes)))) (D.state d.new).view) }
 
     // Only the file's path and temporary names change, none outside the stanza's folder of the archive.
-    ensures only { ChangesArchive stanza.now (D.view d.old) (D.view d.new) }
+    ensures only { ChangesArchive stanza.now (D.state d.old).view (D.state d.new).view }
     ensures writes { (bytes : Text) × IfSome (P.bytes pieces.now holder.old) (λ b. b ≡ bytes)
-        × NowGoes (FirstOf ((archive_path stanza.now id.now name.now (sha1 bytes), bytes) ∷ [])) (D.view d.old).now (D.view d.new).now }
+        × NowGoes (FirstOf ((archive_path stanza.now id.now name.now (sha1 bytes), bytes) ∷ [])) (D.state d.old).view.now (D.state d.new).view.now }
 
     // Each answer has its cause, and what was found changes nothing.
-    ensures answered { IfOk result (IsPushedAs stanza.now id.now name.now system (P.bytes pieces.now holder.old) front.entry.bytes.now front.entry.length (D.view d.old).now (D.view d.new).now) }
-    ensures refused { IfErr result (λ e. OnPushFinding e (((D.view d.new).now ≡ (D.view d.old).now) × Rests (D.view d.old) (D.view d.new))) }
-    ensures cause { IfErr result (PushFromCause stanza.now id.now name.now system (P.bytes pieces.now holder.old) front.entry.bytes.now front.entry.length (D.view d.old).now (Rises (D.faults d.old) (D.faults d.new)) (Rises (P.faults holder.old) (P.faults holder.new))) }
-    ensures told { IsSome (D.view d.old).now → IsSome (D.view d.new).now }
-    ensures place { D.place d.new ≡ D.place d.old }
-    ensures proper { D.misuses d.new ≡ D.misuses d.old }
-    ensures later { D.faults d.old ≤ D.faults d.new }
+    ensures answered { IfOk result (IsPushedAs stanza.now id.now name.now system (P.bytes pieces.now holder.old) front.entry.bytes.now front.entry.length (D.state d.old).view.now (D.state d.new).view.now) }
+    ensures refused { IfErr result (λ e. OnPushFinding e (((D.state d.new).view.now ≡ (D.state d.old).view.now) × Rests (D.state d.old).view (D.state d.new).view)) }
+    ensures cause { IfErr result (PushFromCause stanza.now id.now name.now system (P.bytes pieces.now holder.old) front.entry.bytes.now front.entry.length (D.state d.old).view.now (Rises (D.state d.old).faults (D.state d.new).faults) (Rises (P.faults holder.old) (P.faults holder.new))) }
+    ensures told { IsSome (D.state d.old).view.now → IsSome (D.state d.new).view.now }
+    ensures place { (D.state d.new).opened ≡ (D.state d.old).opened }
+    ensures proper { (D.state d.new).misuses ≡ (D.state d.old).misuses }
+    ensures later { (D.state d.old).faults ≤ (D.state d.new).faults }
     ensures same { P.same holder.old holder.new }
     ensures holder_later { P.faults holder.old ≤ P.faults holder.new }
 {
@@ -147,32 +147,32 @@ pub fn push<D: Disk>(
     bytes: &[u8],
 ) -> Result<Pushed, ArchiveFault>
     // After every answer the disk stands for the repository as before or with the file, and at Ok with it.
-    ensures part { (s : Stanza) → IsSome (D.view d.old).now → NowStands stanza.now (Some s) (D.view d.old).now
-        → (done : List Step) × IsPartOf done (map One (push_of s (archived_file id.now name.now bytes.now))) × NowStands stanza.now (after (Some s) done) (D.view d.new).now }
-    ensures done { OnOk result ((s : Stanza) → IsSome (D.view d.old).now → NowStands stanza.now (Some s) (D.view d.old).now
-        → NowStands stanza.now (Some (after_all s (push_of s (archived_file id.now name.now bytes.now)))) (D.view d.new).now) }
+    ensures part { (s : Stanza) → IsSome (D.state d.old).view.now → NowStands stanza.now (Some s) (D.state d.old).view.now
+        → (done : List Step) × IsPartOf done (map One (push_of s (archived_file id.now name.now bytes.now))) × NowStands stanza.now (after (Some s) done) (D.state d.new).view.now }
+    ensures done { OnOk result ((s : Stanza) → IsSome (D.state d.old).view.now → NowStands stanza.now (Some s) (D.state d.old).view.now
+        → NowStands stanza.now (Some (after_all s (push_of s (archived_file id.now name.now bytes.now)))) (D.state d.new).view.now) }
 
     // The same of all that a stop leaves, at each moment.
-    ensures moves { (s : Stanza) → IsSteady stanza.now (Some s) (D.view d.old) → IsSome (D.view d.old).now
-        → Moves stanza.now (λ g. (done : List Step) × IsPartOf done (map One (push_of s (archived_file id.now name.now bytes.now))) × Stands stanza.now g (after (Some s) done)) (D.view d.old) (D.view d.new) }
-    ensures stored { OnOk result ((s : Stanza) → IsSteady stanza.now (Some s) (D.view d.old) → IsSome (D.view d.old).now
-        → IsSteady stanza.now (Some (after_all s (push_of s (archived_file id.now name.now bytes.now)))) (D.view d.new)) }
+    ensures moves { (s : Stanza) → IsSteady stanza.now (Some s) (D.state d.old).view → IsSome (D.state d.old).view.now
+        → Moves stanza.now (λ g. (done : List Step) × IsPartOf done (map One (push_of s (archived_file id.now name.now bytes.now))) × Stands stanza.now g (after (Some s) done)) (D.state d.old).view (D.state d.new).view }
+    ensures stored { OnOk result ((s : Stanza) → IsSteady stanza.now (Some s) (D.state d.old).view → IsSome (D.state d.old).view.now
+        → IsSteady stanza.now (Some (after_all s (push_of s (archived_file id.now name.now bytes.now)))) (D.state d.new).view) }
 
     // Only the file's path and temporary names change, none outside the stanza's folder of the archive.
-    ensures only { ChangesArchive stanza.now (D.view d.old) (D.view d.new) }
-    ensures writes { NowGoes (FirstOf ((archive_path stanza.now id.now name.now (sha1 bytes.now), bytes.now) ∷ [])) (D.view d.old).now (D.view d.new).now }
-    ensures written { IfOk result (λ p. p ≡ Pushed.New → NowGoes (AllOf ((archive_path stanza.now id.now name.now (sha1 bytes.now), bytes.now) ∷ [])) (D.view d.old).now (D.view d.new).now) }
+    ensures only { ChangesArchive stanza.now (D.state d.old).view (D.state d.new).view }
+    ensures writes { NowGoes (FirstOf ((archive_path stanza.now id.now name.now (sha1 bytes.now), bytes.now) ∷ [])) (D.state d.old).view.now (D.state d.new).view.now }
+    ensures written { IfOk result (λ p. p ≡ Pushed.New → NowGoes (AllOf ((archive_path stanza.now id.now name.now (sha1 bytes.now), bytes.now) ∷ [])) (D.state d.old).view.now (D.state d.new).view.now) }
 
     // Each answer has its cause, and what was found changes nothing.
     ensures of_system { OnOk result (IsFileOf name.now bytes.now system) }
-    ensures new { IfOk result (λ p. p ≡ Pushed.New → IfSome (D.view d.old).now (StoresNone stanza.now id.now name.now)) }
-    ensures same { IfOk result (λ p. p ≡ Pushed.Same → IfSome (D.view d.old).now (λ f. StoresOnly stanza.now id.now name.now f (sha1 bytes.now)) × ((D.view d.new).now ≡ (D.view d.old).now)) }
-    ensures refused { IfErr result (λ e. OnFinding e (((D.view d.new).now ≡ (D.view d.old).now) × Rests (D.view d.old) (D.view d.new))) }
-    ensures cause { IfErr result (PushCause stanza.now id.now name.now system bytes.now (D.view d.old).now (Rises (D.faults d.old) (D.faults d.new))) }
-    ensures told { IsSome (D.view d.old).now → IsSome (D.view d.new).now }
-    ensures place { D.place d.new ≡ D.place d.old }
-    ensures proper { D.misuses d.new ≡ D.misuses d.old }
-    ensures later { D.faults d.old ≤ D.faults d.new }
+    ensures new { IfOk result (λ p. p ≡ Pushed.New → IfSome (D.state d.old).view.now (StoresNone stanza.now id.now name.now)) }
+    ensures same { IfOk result (λ p. p ≡ Pushed.Same → IfSome (D.state d.old).view.now (λ f. StoresOnly stanza.now id.now name.now f (sha1 bytes.now)) × ((D.state d.new).view.now ≡ (D.state d.old).view.now)) }
+    ensures refused { IfErr result (λ e. OnFinding e (((D.state d.new).view.now ≡ (D.state d.old).view.now) × Rests (D.state d.old).view (D.state d.new).view)) }
+    ensures cause { IfErr result (PushCause stanza.now id.now name.now system bytes.now (D.state d.old).view.now (Rises (D.state d.old).faults (D.state d.new).faults)) }
+    ensures told { IsSome (D.state d.old).view.now → IsSome (D.state d.new).view.now }
+    ensures place { (D.state d.new).opened ≡ (D.state d.old).opened }
+    ensures proper { (D.state d.new).misuses ≡ (D.state d.old).misuses }
+    ensures later { (D.state d.old).faults ≤ (D.state d.new).faults }
 {
     let front = front_of(bytes);
     match push_from(

@@ -29,14 +29,14 @@ const SEGMENT_LIMIT: u64 = 1 << 30;
 
 // The bytes at a path, which have the sum that it tells.
 fn read_kept<D: Disk>(alloc: Global, d: &mut D, kept: &Kept) -> Result<Vec<u8>, ArchiveFault>
-    ensures whole { IfOk result (λ bytes. (sha1 bytes.items ≡ kept.now.sum.0) × IfSome (D.view d.old).now (λ f. f (string_bytes kept.now.path) ≡ Some bytes.items)) }
+    ensures whole { IfOk result (λ bytes. (sha1 bytes.items ≡ kept.now.sum.0) × IfSome (D.state d.old).view.now (λ f. f (string_bytes kept.now.path) ≡ Some bytes.items)) }
     ensures within { IfOk result (λ bytes. length bytes.items ≤ 2 ^ 30) }
-    ensures cause { IfErr result (ReadCause kept.now (D.view d.old).now (Rises (D.faults d.old) (D.faults d.new))) }
-    ensures now { (D.view d.new).now ≡ (D.view d.old).now }
-    ensures time { Rests (D.view d.old) (D.view d.new) }
-    ensures place { D.place d.new ≡ D.place d.old }
-    ensures proper { D.misuses d.new ≡ D.misuses d.old }
-    ensures later { D.faults d.old ≤ D.faults d.new }
+    ensures cause { IfErr result (ReadCause kept.now (D.state d.old).view.now (Rises (D.state d.old).faults (D.state d.new).faults)) }
+    ensures now { (D.state d.new).view.now ≡ (D.state d.old).view.now }
+    ensures time { Rests (D.state d.old).view (D.state d.new).view }
+    ensures place { (D.state d.new).opened ≡ (D.state d.old).opened }
+    ensures proper { (D.state d.new).misuses ≡ (D.state d.old).misuses }
+    ensures later { (D.state d.old).faults ≤ (D.state d.new).faults }
 {
     let Some(bytes) = read_whole(alloc, d, kept.path.as_str(), SEGMENT_LIMIT)? else {
         return Err(ArchiveFault::NotFound);
@@ -57,16 +57,16 @@ fn get_segment<D: Disk>(
     d: &mut D,
     names: &FileNames,
 ) -> Result<Vec<u8>, ArchiveFault>
-    ensures got { IfOk result (λ bytes. IfSome (D.view d.old).now
+    ensures got { IfOk result (λ bytes. IfSome (D.state d.old).view.now
         (λ f. (stanza : Text) (id : ArchiveId) (name : ArchiveName) → AreNamesOf stanza id name names.now → has_sum name ≡ true → StoresBytes stanza id name f (sha1 bytes.items) bytes.items)) }
     ensures within { IfOk result (λ bytes. length bytes.items ≤ 2 ^ 30) }
     ensures cause { IfErr result (λ e. (stanza : Text) (id : ArchiveId) (name : ArchiveName) → AreNamesOf stanza id name names.now → has_sum name ≡ true
-        → GetCause stanza id name (D.view d.old).now (Rises (D.faults d.old) (D.faults d.new)) e) }
-    ensures now { (D.view d.new).now ≡ (D.view d.old).now }
-    ensures time { Rests (D.view d.old) (D.view d.new) }
-    ensures place { D.place d.new ≡ D.place d.old }
-    ensures proper { D.misuses d.new ≡ D.misuses d.old }
-    ensures later { D.faults d.old ≤ D.faults d.new }
+        → GetCause stanza id name (D.state d.old).view.now (Rises (D.state d.old).faults (D.state d.new).faults) e) }
+    ensures now { (D.state d.new).view.now ≡ (D.state d.old).view.now }
+    ensures time { Rests (D.state d.old).view (D.state d.new).view }
+    ensures place { (D.state d.new).opened ≡ (D.state d.old).opened }
+    ensures proper { (D.state d.new).misuses ≡ (D.state d.old).misuses }
+    ensures later { (D.state d.old).faults ≤ (D.state d.new).faults }
 {
     match look_in_folder(alloc, d, names)? {
         Look::Free => Err(ArchiveFault::NotFound),
@@ -77,16 +77,16 @@ fn get_segment<D: Disk>(
 
 // A file whose path has no sum.
 fn get_other<D: Disk>(alloc: Global, d: &mut D, names: &FileNames) -> Result<Vec<u8>, ArchiveFault>
-    ensures got { IfOk result (λ bytes. IfSome (D.view d.old).now
+    ensures got { IfOk result (λ bytes. IfSome (D.state d.old).view.now
         (λ f. (stanza : Text) (id : ArchiveId) (name : ArchiveName) → AreNamesOf stanza id name names.now → has_sum name ≡ false → StoresBytes stanza id name f (sha1 bytes.items) bytes.items)) }
     ensures within { IfOk result (λ bytes. length bytes.items ≤ 2 ^ 20) }
     ensures cause { IfErr result (λ e. (stanza : Text) (id : ArchiveId) (name : ArchiveName) → AreNamesOf stanza id name names.now → has_sum name ≡ false
-        → GetCause stanza id name (D.view d.old).now (Rises (D.faults d.old) (D.faults d.new)) e) }
-    ensures now { (D.view d.new).now ≡ (D.view d.old).now }
-    ensures time { Rests (D.view d.old) (D.view d.new) }
-    ensures place { D.place d.new ≡ D.place d.old }
-    ensures proper { D.misuses d.new ≡ D.misuses d.old }
-    ensures later { D.faults d.old ≤ D.faults d.new }
+        → GetCause stanza id name (D.state d.old).view.now (Rises (D.state d.old).faults (D.state d.new).faults) e) }
+    ensures now { (D.state d.new).view.now ≡ (D.state d.old).view.now }
+    ensures time { Rests (D.state d.old).view (D.state d.new).view }
+    ensures place { (D.state d.new).opened ≡ (D.state d.old).opened }
+    ensures proper { (D.state d.new).misuses ≡ (D.state d.old).misuses }
+    ensures later { (D.state d.old).faults ≤ (D.state d.new).faults }
 {
     match read_whole(alloc, d, names.front.as_str(), HISTORY_LIMIT)? {
         None => Err(ArchiveFault::NotFound),
@@ -103,18 +103,18 @@ pub fn get<D: Disk>(
     name: &ArchiveName,
 ) -> Result<Vec<u8>, ArchiveFault>
     // They are stored with no other sum, and as a file of the repository.
-    ensures got { IfOk result (λ bytes. IfSome (D.view d.old).now (λ f. StoresBytes stanza.now id.now name.now f (sha1 bytes.items) bytes.items)) }
+    ensures got { IfOk result (λ bytes. IfSome (D.state d.old).view.now (λ f. StoresBytes stanza.now id.now name.now f (sha1 bytes.items) bytes.items)) }
     ensures within { IfOk result (λ bytes. length bytes.items ≤ limit_of name.now) }
-    ensures archived { IfOk result (λ bytes. (s : Stanza) → IsSome (D.view d.old).now → NowStands stanza.now (Some s) (D.view d.old).now
+    ensures archived { IfOk result (λ bytes. (s : Stanza) → IsSome (D.state d.old).view.now → NowStands stanza.now (Some s) (D.state d.old).view.now
         → In (archived_file id.now name.now bytes.items) s.archived) }
-    ensures unarchived { IsErrOf result ArchiveFault.NotFound → (s : Stanza) → IsSome (D.view d.old).now → NowStands stanza.now (Some s) (D.view d.old).now
+    ensures unarchived { IsErrOf result ArchiveFault.NotFound → (s : Stanza) → IsSome (D.state d.old).view.now → NowStands stanza.now (Some s) (D.state d.old).view.now
         → IsUnarchived id.now name.now s.archived }
-    ensures cause { IfErr result (GetCause stanza.now id.now name.now (D.view d.old).now (Rises (D.faults d.old) (D.faults d.new))) }
-    ensures now { (D.view d.new).now ≡ (D.view d.old).now }
-    ensures time { Rests (D.view d.old) (D.view d.new) }
-    ensures place { D.place d.new ≡ D.place d.old }
-    ensures proper { D.misuses d.new ≡ D.misuses d.old }
-    ensures later { D.faults d.old ≤ D.faults d.new }
+    ensures cause { IfErr result (GetCause stanza.now id.now name.now (D.state d.old).view.now (Rises (D.state d.old).faults (D.state d.new).faults)) }
+    ensures now { (D.state d.new).view.now ≡ (D.state d.old).view.now }
+    ensures time { Rests (D.state d.old).view (D.state d.new).view }
+    ensures place { (D.state d.new).opened ≡ (D.state d.old).opened }
+    ensures proper { (D.state d.new).misuses ≡ (D.state d.old).misuses }
+    ensures later { (D.state d.old).faults ≤ (D.state d.new).faults }
 {
     let names = file_names(alloc, stanza, *id, *name)?;
     if names.has_sum {
@@ -146,13 +146,13 @@ pub fn present<D: Disk>(
     id: &ArchiveId,
     name: &ArchiveName,
 ) -> Result<Option<Stored>, ArchiveFault>
-    ensures finds { IfOk result (λ file. IfSome (D.view d.old).now (λ f. Finds stanza.now id.now name.now f file)) }
-    ensures cause { IfErr result (PresentCause stanza.now id.now name.now (D.view d.old).now (Rises (D.faults d.old) (D.faults d.new))) }
-    ensures now { (D.view d.new).now ≡ (D.view d.old).now }
-    ensures time { Rests (D.view d.old) (D.view d.new) }
-    ensures place { D.place d.new ≡ D.place d.old }
-    ensures proper { D.misuses d.new ≡ D.misuses d.old }
-    ensures later { D.faults d.old ≤ D.faults d.new }
+    ensures finds { IfOk result (λ file. IfSome (D.state d.old).view.now (λ f. Finds stanza.now id.now name.now f file)) }
+    ensures cause { IfErr result (PresentCause stanza.now id.now name.now (D.state d.old).view.now (Rises (D.state d.old).faults (D.state d.new).faults)) }
+    ensures now { (D.state d.new).view.now ≡ (D.state d.old).view.now }
+    ensures time { Rests (D.state d.old).view (D.state d.new).view }
+    ensures place { (D.state d.new).opened ≡ (D.state d.old).opened }
+    ensures proper { (D.state d.new).misuses ≡ (D.state d.old).misuses }
+    ensures later { (D.state d.old).faults ≤ (D.state d.new).faults }
 {
     let names = file_names(alloc, stanza, *id, *name)?;
     match look_for(alloc, d, &names)? {

@@ -96,17 +96,17 @@ fn serve_file<D: Disk, T: Tree>(
     told: &Control,
     wanted: &Wanted,
 ) -> Result<bool, Fault>
-    ensures puts { Puts result (λ b. IfSome (D.view repo.old).now (λ f. OnHistory stanza.now f (λ h. FoundIn h.history stanza.now told.now wanted.now.name b f)))
-        (IfSome (D.view repo.old).now (λ f. OnHistory stanza.now f (λ h. HasSame h.history told.now × AbsentIn h.history stanza.now told.now wanted.now.name f)))
-        wanted.now.path.now (T.nodes tree.old) (T.nodes tree.new) }
-    ensures changes { ChangesPath wanted.now.path.now (λ b. IfSome (D.view repo.old).now (λ f. OnHistory stanza.now f (λ h. FoundIn h.history stanza.now told.now wanted.now.name b f))) (T.nodes tree.old) (T.nodes tree.new) }
-    ensures cause { IfErr result (ServeCause stanza.now told.now wanted.now.name (D.view repo.old).now (Rises (D.faults repo.old) (D.faults repo.new)) (Rises (T.faults tree.old) (T.faults tree.new))) }
-    ensures now { (D.view repo.new).now ≡ (D.view repo.old).now }
-    ensures time { Rests (D.view repo.old) (D.view repo.new) }
-    ensures repo_place { D.place repo.new ≡ D.place repo.old }
-    ensures tree_place { T.place tree.new ≡ T.place tree.old }
-    ensures repo_later { D.faults repo.old ≤ D.faults repo.new }
-    ensures tree_later { T.faults tree.old ≤ T.faults tree.new }
+    ensures puts { Puts result (λ b. IfSome (D.state repo.old).view.now (λ f. OnHistory stanza.now f (λ h. FoundIn h.history stanza.now told.now wanted.now.name b f)))
+        (IfSome (D.state repo.old).view.now (λ f. OnHistory stanza.now f (λ h. HasSame h.history told.now × AbsentIn h.history stanza.now told.now wanted.now.name f)))
+        wanted.now.path.now (T.state tree.old).nodes (T.state tree.new).nodes }
+    ensures changes { ChangesPath wanted.now.path.now (λ b. IfSome (D.state repo.old).view.now (λ f. OnHistory stanza.now f (λ h. FoundIn h.history stanza.now told.now wanted.now.name b f))) (T.state tree.old).nodes (T.state tree.new).nodes }
+    ensures cause { IfErr result (ServeCause stanza.now told.now wanted.now.name (D.state repo.old).view.now (Rises (D.state repo.old).faults (D.state repo.new).faults) (Rises (T.state tree.old).faults (T.state tree.new).faults)) }
+    ensures now { (D.state repo.new).view.now ≡ (D.state repo.old).view.now }
+    ensures time { Rests (D.state repo.old).view (D.state repo.new).view }
+    ensures repo_place { (D.state repo.new).opened ≡ (D.state repo.old).opened }
+    ensures tree_place { (T.state tree.new).opened ≡ (T.state tree.old).opened }
+    ensures repo_later { (D.state repo.old).faults ≤ (D.state repo.new).faults }
+    ensures tree_later { (T.state tree.old).faults ≤ (T.state tree.new).faults }
 {
     let info = read_archive_value(alloc, repo, stanza)?;
     if !has_cluster(&info.history, told) {
@@ -125,15 +125,15 @@ pub(crate) fn get_file<D: Disk, T: Tree>(
     path: &str,
 ) -> Result<Outcome, Fault>
     // The data folder has the file of the repository at Ok, and is as it was where the repository hasn't it.
-    ensures told { IfOk result (λ o. GotBy (outcome_ending o) settings.now.stanza.now settings.now.pg1_path.now word.now path.now (D.view repo.old).now (T.nodes tree.old) (T.nodes tree.new)) }
-    ensures cause { IfErr result (GetFileCause settings.now.stanza.now settings.now.pg1_path.now word.now path.now (D.view repo.old).now (T.nodes tree.old) (Rises (D.faults repo.old) (D.faults repo.new)) (Rises (T.faults tree.old) (T.faults tree.new))) }
-    ensures nodes { ChangesPath (served_path settings.now.pg1_path.now path.now) (IsServed settings.now.stanza.now settings.now.pg1_path.now word.now path.now (D.view repo.old).now (T.nodes tree.old)) (T.nodes tree.old) (T.nodes tree.new) }
-    ensures none { OnNothing result (T.nodes tree.new ≡ T.nodes tree.old) }
-    ensures places { OnOk result ((T.place tree.new ≡ settings.now.pg1_path.now) × (D.place repo.new ≡ settings.now.repo1_path.now)) }
-    ensures now { (D.view repo.new).now ≡ (D.view repo.old).now }
-    ensures time { Rests (D.view repo.old) (D.view repo.new) }
-    ensures repo_later { D.faults repo.old ≤ D.faults repo.new }
-    ensures tree_later { T.faults tree.old ≤ T.faults tree.new }
+    ensures told { IfOk result (λ o. GotBy (outcome_ending o) settings.now.stanza.now settings.now.pg1_path.now word.now path.now (D.state repo.old).view.now (T.state tree.old).nodes (T.state tree.new).nodes) }
+    ensures cause { IfErr result (GetFileCause settings.now.stanza.now settings.now.pg1_path.now word.now path.now (D.state repo.old).view.now (T.state tree.old).nodes (Rises (D.state repo.old).faults (D.state repo.new).faults) (Rises (T.state tree.old).faults (T.state tree.new).faults)) }
+    ensures nodes { ChangesPath (served_path settings.now.pg1_path.now path.now) (IsServed settings.now.stanza.now settings.now.pg1_path.now word.now path.now (D.state repo.old).view.now (T.state tree.old).nodes) (T.state tree.old).nodes (T.state tree.new).nodes }
+    ensures none { OnNothing result ((T.state tree.new).nodes ≡ (T.state tree.old).nodes) }
+    ensures places { OnOk result (((T.state tree.new).opened ≡ settings.now.pg1_path.now) × ((D.state repo.new).opened ≡ settings.now.repo1_path.now)) }
+    ensures now { (D.state repo.new).view.now ≡ (D.state repo.old).view.now }
+    ensures time { Rests (D.state repo.old).view (D.state repo.new).view }
+    ensures repo_later { (D.state repo.old).faults ≤ (D.state repo.new).faults }
+    ensures tree_later { (T.state tree.old).faults ≤ (T.state tree.new).faults }
 {
     let wanted = wanted_by(alloc, settings.pg1_path, word, path)?;
     prepare_reading(alloc, repo, tree, settings)?;

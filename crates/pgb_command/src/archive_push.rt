@@ -58,23 +58,23 @@ fn store<D: Disk, T: Tree>(
     file: WalFile,
 ) -> Result<Outcome, Fault>
     requires { IsWalPath settings.now.pg1_path.now path.now file.name × (string_bytes file.text ≡ wal_text file.name) }
-    ensures done { OnOk result ((command : Command) → IsSomeAnd (T.nodes tree.old) (λ f. IsPushOf f settings.now.pg1_path.now path.now command)
-        → NowDoes settings.now.stanza.now command true (D.view repo.old).now (D.view repo.new).now) }
-    ensures part { (command : Command) → IsSomeAnd (T.nodes tree.old) (λ f. IsPushOf f settings.now.pg1_path.now path.now command)
-        → NowDoes settings.now.stanza.now command false (D.view repo.old).now (D.view repo.new).now }
-    ensures goes { (command : Command) → IsSomeAnd (T.nodes tree.old) (λ f. IsPushOf f settings.now.pg1_path.now path.now command)
-        → Goes settings.now.stanza.now command (D.view repo.old) (D.view repo.new) }
-    ensures ends { OnOk result ((command : Command) → IsSomeAnd (T.nodes tree.old) (λ f. IsPushOf f settings.now.pg1_path.now path.now command)
-        → Ends settings.now.stanza.now command (D.view repo.old) (D.view repo.new)) }
-    ensures stays { IfErr result (λ e. OnEarly e (NowDoes settings.now.stanza.now Reading true (D.view repo.old).now (D.view repo.new).now × Ends settings.now.stanza.now Reading (D.view repo.old) (D.view repo.new))) }
-    ensures agrees { OnOk result (IsSome (D.view repo.old).now → IfSome (D.view repo.new).now (AgreesAtPair settings.now.stanza.now)) }
-    ensures stored { IfOk result (λ outcome. OnFinished (outcome_ending outcome) (IsStored settings.now.stanza.now settings.now.pg1_path.now path.now (D.view repo.old).now (T.nodes tree.old))) }
-    ensures cause { IfErr result (StoreCause settings.now.stanza.now settings.now.pg1_path.now path.now (D.view repo.old).now (T.nodes tree.old) (Rises (D.faults repo.old) (D.faults repo.new)) (Rises (T.faults tree.old) (T.faults tree.new)) ⊥ ⊥) }
-    ensures nodes { T.nodes tree.new ≡ T.nodes tree.old }
-    ensures tree_place { T.place tree.new ≡ T.place tree.old }
-    ensures repo_place { D.place repo.new ≡ D.place repo.old }
-    ensures repo_later { D.faults repo.old ≤ D.faults repo.new }
-    ensures tree_later { T.faults tree.old ≤ T.faults tree.new }
+    ensures done { OnOk result ((command : Command) → IsSomeAnd (T.state tree.old).nodes (λ f. IsPushOf f settings.now.pg1_path.now path.now command)
+        → NowDoes settings.now.stanza.now command true (D.state repo.old).view.now (D.state repo.new).view.now) }
+    ensures part { (command : Command) → IsSomeAnd (T.state tree.old).nodes (λ f. IsPushOf f settings.now.pg1_path.now path.now command)
+        → NowDoes settings.now.stanza.now command false (D.state repo.old).view.now (D.state repo.new).view.now }
+    ensures goes { (command : Command) → IsSomeAnd (T.state tree.old).nodes (λ f. IsPushOf f settings.now.pg1_path.now path.now command)
+        → Goes settings.now.stanza.now command (D.state repo.old).view (D.state repo.new).view }
+    ensures ends { OnOk result ((command : Command) → IsSomeAnd (T.state tree.old).nodes (λ f. IsPushOf f settings.now.pg1_path.now path.now command)
+        → Ends settings.now.stanza.now command (D.state repo.old).view (D.state repo.new).view) }
+    ensures stays { IfErr result (λ e. OnEarly e (NowDoes settings.now.stanza.now Reading true (D.state repo.old).view.now (D.state repo.new).view.now × Ends settings.now.stanza.now Reading (D.state repo.old).view (D.state repo.new).view)) }
+    ensures agrees { OnOk result (IsSome (D.state repo.old).view.now → IfSome (D.state repo.new).view.now (AgreesAtPair settings.now.stanza.now)) }
+    ensures stored { IfOk result (λ outcome. OnFinished (outcome_ending outcome) (IsStored settings.now.stanza.now settings.now.pg1_path.now path.now (D.state repo.old).view.now (T.state tree.old).nodes)) }
+    ensures cause { IfErr result (StoreCause settings.now.stanza.now settings.now.pg1_path.now path.now (D.state repo.old).view.now (T.state tree.old).nodes (Rises (D.state repo.old).faults (D.state repo.new).faults) (Rises (T.state tree.old).faults (T.state tree.new).faults) ⊥ ⊥) }
+    ensures nodes { (T.state tree.new).nodes ≡ (T.state tree.old).nodes }
+    ensures tree_place { (T.state tree.new).opened ≡ (T.state tree.old).opened }
+    ensures repo_place { (D.state repo.new).opened ≡ (D.state repo.old).opened }
+    ensures repo_later { (D.state repo.old).faults ≤ (D.state repo.new).faults }
+    ensures tree_later { (T.state tree.old).faults ≤ (T.state tree.new).faults }
 {
     let told = read_cluster(alloc, tree)?;
     let id = current_id(alloc, repo, settings.stanza, &told)?;
@@ -106,33 +106,33 @@ pub(crate) fn push_file<D: Disk, T: Tree, K: Locks>(
     requires free { ¬ Contains (K.taken locks.old) lock.now }
     requires name { lock.now ≡ archive_lock settings.now.stanza.now }
     // At Ok all of the command's steps are done, and after every answer a part of them.
-    ensures done { OnOk result ((command : Command) → IsSomeAnd (T.nodes tree.old) (λ f. IsPushOf f settings.now.pg1_path.now path.now command)
-        → NowDoes settings.now.stanza.now command true (D.view repo.old).now (D.view repo.new).now) }
-    ensures part { (command : Command) → IsSomeAnd (T.nodes tree.old) (λ f. IsPushOf f settings.now.pg1_path.now path.now command)
-        → NowDoes settings.now.stanza.now command false (D.view repo.old).now (D.view repo.new).now }
+    ensures done { OnOk result ((command : Command) → IsSomeAnd (T.state tree.old).nodes (λ f. IsPushOf f settings.now.pg1_path.now path.now command)
+        → NowDoes settings.now.stanza.now command true (D.state repo.old).view.now (D.state repo.new).view.now) }
+    ensures part { (command : Command) → IsSomeAnd (T.state tree.old).nodes (λ f. IsPushOf f settings.now.pg1_path.now path.now command)
+        → NowDoes settings.now.stanza.now command false (D.state repo.old).view.now (D.state repo.new).view.now }
 
     // The same of all that a stop leaves: the log goes on by the command, and at each of its moments by a part of it.
-    ensures carried { OnOk result ((command : Command) → IsSomeAnd (T.nodes tree.old) (λ f. IsPushOf f settings.now.pg1_path.now path.now command)
-        → CarriesOn settings.now.stanza.now command true (D.view repo.old) (D.view repo.new)) }
-    ensures carries { (command : Command) → IsSomeAnd (T.nodes tree.old) (λ f. IsPushOf f settings.now.pg1_path.now path.now command)
-        → CarriesOn settings.now.stanza.now command false (D.view repo.old) (D.view repo.new) }
-    ensures between { (command : Command) → IsSomeAnd (T.nodes tree.old) (λ f. IsPushOf f settings.now.pg1_path.now path.now command)
-        → PassesOnly settings.now.stanza.now command (D.view repo.old) (D.view repo.new) }
+    ensures carried { OnOk result ((command : Command) → IsSomeAnd (T.state tree.old).nodes (λ f. IsPushOf f settings.now.pg1_path.now path.now command)
+        → CarriesOn settings.now.stanza.now command true (D.state repo.old).view (D.state repo.new).view) }
+    ensures carries { (command : Command) → IsSomeAnd (T.state tree.old).nodes (λ f. IsPushOf f settings.now.pg1_path.now path.now command)
+        → CarriesOn settings.now.stanza.now command false (D.state repo.old).view (D.state repo.new).view }
+    ensures between { (command : Command) → IsSomeAnd (T.state tree.old).nodes (λ f. IsPushOf f settings.now.pg1_path.now path.now command)
+        → PassesOnly settings.now.stanza.now command (D.state repo.old).view (D.state repo.new).view }
 
     // A refusal for what was found takes no step.
-    ensures stays { IfErr result (λ e. OnEarly e (NowDoes settings.now.stanza.now Reading true (D.view repo.old).now (D.view repo.new).now × CarriesOn settings.now.stanza.now Reading true (D.view repo.old) (D.view repo.new))) }
-    ensures agrees { OnOk result (IsSome (D.view repo.old).now → IfSome (D.view repo.new).now (AgreesAtPair settings.now.stanza.now)) }
-    ensures stored { IfOk result (λ outcome. OnFinished (outcome_ending outcome) (IsStored settings.now.stanza.now settings.now.pg1_path.now path.now (D.view repo.old).now (T.nodes tree.old))) }
-    ensures cause { IfErr result (PushFileCause settings.now.stanza.now settings.now.pg1_path.now path.now (D.view repo.old).now (T.nodes tree.old) (Rises (D.faults repo.old) (D.faults repo.new)) (Rises (T.faults tree.old) (T.faults tree.new)) (Rises (K.faults locks.old) (K.faults locks.new)) (Rises (K.refusals locks.old) (K.refusals locks.new))) }
-    ensures places { OnOk result ((T.place tree.new ≡ settings.now.pg1_path.now) × (D.place repo.new ≡ settings.now.repo1_path.now)) }
+    ensures stays { IfErr result (λ e. OnEarly e (NowDoes settings.now.stanza.now Reading true (D.state repo.old).view.now (D.state repo.new).view.now × CarriesOn settings.now.stanza.now Reading true (D.state repo.old).view (D.state repo.new).view)) }
+    ensures agrees { OnOk result (IsSome (D.state repo.old).view.now → IfSome (D.state repo.new).view.now (AgreesAtPair settings.now.stanza.now)) }
+    ensures stored { IfOk result (λ outcome. OnFinished (outcome_ending outcome) (IsStored settings.now.stanza.now settings.now.pg1_path.now path.now (D.state repo.old).view.now (T.state tree.old).nodes)) }
+    ensures cause { IfErr result (PushFileCause settings.now.stanza.now settings.now.pg1_path.now path.now (D.state repo.old).view.now (T.state tree.old).nodes (Rises (D.state repo.old).faults (D.state repo.new).faults) (Rises (T.state tree.old).faults (T.state tree.new).faults) (Rises (K.faults locks.old) (K.faults locks.new)) (Rises (K.refusals locks.old) (K.refusals locks.new))) }
+    ensures places { OnOk result (((T.state tree.new).opened ≡ settings.now.pg1_path.now) × ((D.state repo.new).opened ≡ settings.now.repo1_path.now)) }
     ensures locked { OnOk result (IsLocked settings.now.lock_path.now lock.now (K.took locks.old) (K.took locks.new)) }
-    ensures only_locked { OnlyLocked settings.now.lock_path.now lock.now (K.took locks.old) (K.took locks.new) (D.view repo.old) (D.view repo.new) }
+    ensures only_locked { OnlyLocked settings.now.lock_path.now lock.now (K.took locks.old) (K.took locks.new) (D.state repo.old).view (D.state repo.new).view }
     ensures holds { MayHold lock.now (K.taken locks.old) (K.taken locks.new) }
     ensures locks_later { K.faults locks.old ≤ K.faults locks.new }
     ensures refusals_later { K.refusals locks.old ≤ K.refusals locks.new }
-    ensures nodes { T.nodes tree.new ≡ T.nodes tree.old }
-    ensures repo_later { D.faults repo.old ≤ D.faults repo.new }
-    ensures tree_later { T.faults tree.old ≤ T.faults tree.new }
+    ensures nodes { (T.state tree.new).nodes ≡ (T.state tree.old).nodes }
+    ensures repo_later { (D.state repo.old).faults ≤ (D.state repo.new).faults }
+    ensures tree_later { (T.state tree.old).faults ≤ (T.state tree.new).faults }
 {
     let file = file_at(alloc, settings.pg1_path, path)?;
     prepare(alloc, repo, tree, locks, settings, lock)?;

@@ -17,11 +17,11 @@ const CONTROL_FRONT: usize = 16;
 const VERSION_FRONT: usize = 33;
 
 fn read_control_file<T: Tree>(alloc: Global, tree: &mut T) -> Result<Vec<u8>, Fault>
-    ensures bytes { IfOk result (λ v. IfSome (T.nodes tree.old) (λ f. option_map (take 16) (control_bytes f) ≡ Some v.items)) }
-    ensures cause { IfErr result (ClusterCause (T.nodes tree.old) (Rises (T.faults tree.old) (T.faults tree.new))) }
-    ensures nodes { T.nodes tree.new ≡ T.nodes tree.old }
-    ensures place { T.place tree.new ≡ T.place tree.old }
-    ensures later { T.faults tree.old ≤ T.faults tree.new }
+    ensures bytes { IfOk result (λ v. IfSome (T.state tree.old).nodes (λ f. option_map (take 16) (control_bytes f) ≡ Some v.items)) }
+    ensures cause { IfErr result (ClusterCause (T.state tree.old).nodes (Rises (T.state tree.old).faults (T.state tree.new).faults)) }
+    ensures nodes { (T.state tree.new).nodes ≡ (T.state tree.old).nodes }
+    ensures place { (T.state tree.new).opened ≡ (T.state tree.old).opened }
+    ensures later { (T.state tree.old).faults ≤ (T.state tree.new).faults }
 {
     match read_front(alloc, tree, &Known::Control, CONTROL_FRONT) {
         Ok(Some(bytes)) => Ok(bytes),
@@ -33,12 +33,12 @@ fn read_control_file<T: Tree>(alloc: Global, tree: &mut T) -> Result<Vec<u8>, Fa
 }
 
 fn read_version_file<T: Tree>(alloc: Global, tree: &mut T) -> Result<Vec<u8>, Fault>
-    requires { IfSome (T.nodes tree.old) (λ f. IsSome (control_bytes f)) }
-    ensures bytes { IfOk result (λ v. IfSome (T.nodes tree.old) (λ f. option_map (take 33) (version_bytes f) ≡ Some v.items)) }
-    ensures cause { IfErr result (ClusterCause (T.nodes tree.old) (Rises (T.faults tree.old) (T.faults tree.new))) }
-    ensures nodes { T.nodes tree.new ≡ T.nodes tree.old }
-    ensures place { T.place tree.new ≡ T.place tree.old }
-    ensures later { T.faults tree.old ≤ T.faults tree.new }
+    requires { IfSome (T.state tree.old).nodes (λ f. IsSome (control_bytes f)) }
+    ensures bytes { IfOk result (λ v. IfSome (T.state tree.old).nodes (λ f. option_map (take 33) (version_bytes f) ≡ Some v.items)) }
+    ensures cause { IfErr result (ClusterCause (T.state tree.old).nodes (Rises (T.state tree.old).faults (T.state tree.new).faults)) }
+    ensures nodes { (T.state tree.new).nodes ≡ (T.state tree.old).nodes }
+    ensures place { (T.state tree.new).opened ≡ (T.state tree.old).opened }
+    ensures later { (T.state tree.old).faults ≤ (T.state tree.new).faults }
 {
     match read_front(alloc, tree, &Known::Version, VERSION_FRONT) {
         Ok(Some(bytes)) => Ok(bytes),
@@ -51,11 +51,11 @@ fn read_version_file<T: Tree>(alloc: Global, tree: &mut T) -> Result<Vec<u8>, Fa
 
 /// What the data folder tells of its cluster.
 pub(crate) fn read_cluster<T: Tree>(alloc: Global, tree: &mut T) -> Result<Control, Fault>
-    ensures told { IfOk result (λ told. IfSome (T.nodes tree.old) (λ f. FolderTells f told)) }
-    ensures cause { IfErr result (ClusterCause (T.nodes tree.old) (Rises (T.faults tree.old) (T.faults tree.new))) }
-    ensures nodes { T.nodes tree.new ≡ T.nodes tree.old }
-    ensures place { T.place tree.new ≡ T.place tree.old }
-    ensures later { T.faults tree.old ≤ T.faults tree.new }
+    ensures told { IfOk result (λ told. IfSome (T.state tree.old).nodes (λ f. FolderTells f told)) }
+    ensures cause { IfErr result (ClusterCause (T.state tree.old).nodes (Rises (T.state tree.old).faults (T.state tree.new).faults)) }
+    ensures nodes { (T.state tree.new).nodes ≡ (T.state tree.old).nodes }
+    ensures place { (T.state tree.new).opened ≡ (T.state tree.old).opened }
+    ensures later { (T.state tree.old).faults ≤ (T.state tree.new).faults }
 {
     let control = read_control_file(alloc, tree)?;
     let version = read_version_file(alloc, tree)?;

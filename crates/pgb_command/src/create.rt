@@ -50,23 +50,23 @@ fn of_stanza(alloc: Global, fault: StanzaFault) -> Fault
 
 // Makes the stanza, or keeps the one that is there.
 fn make<D: Disk>(alloc: Global, repo: &mut D, stanza: &str, told: &Control) -> Result<(), Fault>
-    ensures part { (r : Repository) → IsSome (D.view repo.old).now → NowStands stanza.now r (D.view repo.old).now
-        → NowStands stanza.now r (D.view repo.new).now ⊎ NowStands stanza.now (step r (Create (first_cluster told.now))) (D.view repo.new).now }
-    ensures done { OnOk result ((r : Repository) → IsSome (D.view repo.old).now → NowStands stanza.now r (D.view repo.old).now
-        → NowStands stanza.now (step r (Create (first_cluster told.now))) (D.view repo.new).now) }
-    ensures moves { (r : Repository) → IsSteady stanza.now r (D.view repo.old) → IsSome (D.view repo.old).now
-        → Moves stanza.now (λ g. Stands stanza.now g r ⊎ Stands stanza.now g (step r (Create (first_cluster told.now)))) (D.view repo.old) (D.view repo.new) }
-    ensures made { OnOk result ((r : Repository) → IsSteady stanza.now r (D.view repo.old) → IsSome (D.view repo.old).now
-        → IsSteady stanza.now (step r (Create (first_cluster told.now))) (D.view repo.new)) }
-    ensures was { OnOk result (IfSome (D.view repo.old).now (LacksStanza stanza.now) ⊎ IfSome (D.view repo.old).now (HasStanzaOf stanza.now told.now)) }
-    ensures members { OnOk result (IfSome (D.view repo.old).now (LacksStanza stanza.now) → IsSome (D.view repo.old).now → IfSome (D.view repo.new).now (HasNewPairs stanza.now (first_cluster told.now))) }
-    ensures agrees { OnOk result (IsSome (D.view repo.old).now → IfSome (D.view repo.new).now (PairsAgree stanza.now)) }
-    ensures told { IsSome (D.view repo.old).now → IsSome (D.view repo.new).now }
-    ensures place { D.place repo.new ≡ D.place repo.old }
-    ensures later { D.faults repo.old ≤ D.faults repo.new }
-    ensures refused { IfErr result (λ e. OnEarly e ((D.view repo.new).now ≡ (D.view repo.old).now)) }
-    ensures rests { IfErr result (λ e. OnEarly e (Rests (D.view repo.old) (D.view repo.new))) }
-    ensures cause { IfErr result (MakeCause stanza.now told.now (D.view repo.old).now (Rises (D.faults repo.old) (D.faults repo.new))) }
+    ensures part { (r : Repository) → IsSome (D.state repo.old).view.now → NowStands stanza.now r (D.state repo.old).view.now
+        → NowStands stanza.now r (D.state repo.new).view.now ⊎ NowStands stanza.now (step r (Create (first_cluster told.now))) (D.state repo.new).view.now }
+    ensures done { OnOk result ((r : Repository) → IsSome (D.state repo.old).view.now → NowStands stanza.now r (D.state repo.old).view.now
+        → NowStands stanza.now (step r (Create (first_cluster told.now))) (D.state repo.new).view.now) }
+    ensures moves { (r : Repository) → IsSteady stanza.now r (D.state repo.old).view → IsSome (D.state repo.old).view.now
+        → Moves stanza.now (λ g. Stands stanza.now g r ⊎ Stands stanza.now g (step r (Create (first_cluster told.now)))) (D.state repo.old).view (D.state repo.new).view }
+    ensures made { OnOk result ((r : Repository) → IsSteady stanza.now r (D.state repo.old).view → IsSome (D.state repo.old).view.now
+        → IsSteady stanza.now (step r (Create (first_cluster told.now))) (D.state repo.new).view) }
+    ensures was { OnOk result (IfSome (D.state repo.old).view.now (LacksStanza stanza.now) ⊎ IfSome (D.state repo.old).view.now (HasStanzaOf stanza.now told.now)) }
+    ensures members { OnOk result (IfSome (D.state repo.old).view.now (LacksStanza stanza.now) → IsSome (D.state repo.old).view.now → IfSome (D.state repo.new).view.now (HasNewPairs stanza.now (first_cluster told.now))) }
+    ensures agrees { OnOk result (IsSome (D.state repo.old).view.now → IfSome (D.state repo.new).view.now (PairsAgree stanza.now)) }
+    ensures told { IsSome (D.state repo.old).view.now → IsSome (D.state repo.new).view.now }
+    ensures place { (D.state repo.new).opened ≡ (D.state repo.old).opened }
+    ensures later { (D.state repo.old).faults ≤ (D.state repo.new).faults }
+    ensures refused { IfErr result (λ e. OnEarly e ((D.state repo.new).view.now ≡ (D.state repo.old).view.now)) }
+    ensures rests { IfErr result (λ e. OnEarly e (Rests (D.state repo.old).view (D.state repo.new).view)) }
+    ensures cause { IfErr result (MakeCause stanza.now told.now (D.state repo.old).view.now (Rises (D.state repo.old).faults (D.state repo.new).faults)) }
 {
     match create(alloc, repo, stanza, told) {
         Ok(_) => Ok(()),
@@ -87,40 +87,40 @@ pub(crate) fn create_stanza<D: Disk, T: Tree, V: Wire, K: Locks>(
     requires free { ¬ Contains (K.taken locks.old) lock.now }
     requires name { lock.now ≡ backup_lock settings.now.stanza.now }
     // At Ok all of the command's steps are done, and after every answer a part of them.
-    ensures done { OnOk result ((cluster : Option Cluster) → IsSomeAnd (T.nodes tree.old) (λ f. IsClusterOf f cluster)
-        → NowDoes settings.now.stanza.now (StanzaCreate cluster) true (D.view repo.old).now (D.view repo.new).now) }
-    ensures part { (cluster : Option Cluster) → IsSomeAnd (T.nodes tree.old) (λ f. IsClusterOf f cluster)
-        → NowDoes settings.now.stanza.now (StanzaCreate cluster) false (D.view repo.old).now (D.view repo.new).now }
+    ensures done { OnOk result ((cluster : Option Cluster) → IsSomeAnd (T.state tree.old).nodes (λ f. IsClusterOf f cluster)
+        → NowDoes settings.now.stanza.now (StanzaCreate cluster) true (D.state repo.old).view.now (D.state repo.new).view.now) }
+    ensures part { (cluster : Option Cluster) → IsSomeAnd (T.state tree.old).nodes (λ f. IsClusterOf f cluster)
+        → NowDoes settings.now.stanza.now (StanzaCreate cluster) false (D.state repo.old).view.now (D.state repo.new).view.now }
 
     // The same of all that a stop leaves: the log goes on by the command, and at each of its moments by a part of it.
-    ensures carried { OnOk result ((cluster : Option Cluster) → IsSomeAnd (T.nodes tree.old) (λ f. IsClusterOf f cluster)
-        → CarriesOn settings.now.stanza.now (StanzaCreate cluster) true (D.view repo.old) (D.view repo.new)) }
-    ensures carries { (cluster : Option Cluster) → IsSomeAnd (T.nodes tree.old) (λ f. IsClusterOf f cluster)
-        → CarriesOn settings.now.stanza.now (StanzaCreate cluster) false (D.view repo.old) (D.view repo.new) }
-    ensures between { (cluster : Option Cluster) → IsSomeAnd (T.nodes tree.old) (λ f. IsClusterOf f cluster)
-        → PassesOnly settings.now.stanza.now (StanzaCreate cluster) (D.view repo.old) (D.view repo.new) }
-    ensures members { OnOk result ((c : Cluster) → IsSomeAnd (T.nodes tree.old) (λ f. IsClusterOf f (Some c)) → IfSome (D.view repo.old).now (LacksStanza settings.now.stanza.now) → IsSome (D.view repo.old).now
-        → IfSome (D.view repo.new).now (HasNewPairs settings.now.stanza.now c)) }
-    ensures agrees { OnOk result (IsSome (D.view repo.old).now → IfSome (D.view repo.new).now (PairsAgree settings.now.stanza.now)) }
-    ensures is_made { OnOk result (IsMade settings.now.stanza.now (D.view repo.old).now (T.nodes tree.old)) }
-    ensures places { OnOk result ((T.place tree.new ≡ settings.now.pg1_path.now) × (D.place repo.new ≡ settings.now.repo1_path.now)) }
-    ensures nodes { T.nodes tree.new ≡ T.nodes tree.old }
-    ensures repo_later { D.faults repo.old ≤ D.faults repo.new }
-    ensures tree_later { T.faults tree.old ≤ T.faults tree.new }
+    ensures carried { OnOk result ((cluster : Option Cluster) → IsSomeAnd (T.state tree.old).nodes (λ f. IsClusterOf f cluster)
+        → CarriesOn settings.now.stanza.now (StanzaCreate cluster) true (D.state repo.old).view (D.state repo.new).view) }
+    ensures carries { (cluster : Option Cluster) → IsSomeAnd (T.state tree.old).nodes (λ f. IsClusterOf f cluster)
+        → CarriesOn settings.now.stanza.now (StanzaCreate cluster) false (D.state repo.old).view (D.state repo.new).view }
+    ensures between { (cluster : Option Cluster) → IsSomeAnd (T.state tree.old).nodes (λ f. IsClusterOf f cluster)
+        → PassesOnly settings.now.stanza.now (StanzaCreate cluster) (D.state repo.old).view (D.state repo.new).view }
+    ensures members { OnOk result ((c : Cluster) → IsSomeAnd (T.state tree.old).nodes (λ f. IsClusterOf f (Some c)) → IfSome (D.state repo.old).view.now (LacksStanza settings.now.stanza.now) → IsSome (D.state repo.old).view.now
+        → IfSome (D.state repo.new).view.now (HasNewPairs settings.now.stanza.now c)) }
+    ensures agrees { OnOk result (IsSome (D.state repo.old).view.now → IfSome (D.state repo.new).view.now (PairsAgree settings.now.stanza.now)) }
+    ensures is_made { OnOk result (IsMade settings.now.stanza.now (D.state repo.old).view.now (T.state tree.old).nodes) }
+    ensures places { OnOk result (((T.state tree.new).opened ≡ settings.now.pg1_path.now) × ((D.state repo.new).opened ≡ settings.now.repo1_path.now)) }
+    ensures nodes { (T.state tree.new).nodes ≡ (T.state tree.old).nodes }
+    ensures repo_later { (D.state repo.old).faults ≤ (D.state repo.new).faults }
+    ensures tree_later { (T.state tree.old).faults ≤ (T.state tree.new).faults }
     ensures locked { OnOk result (IsLocked settings.now.lock_path.now lock.now (K.took locks.old) (K.took locks.new)) }
-    ensures only_locked { OnlyLocked settings.now.lock_path.now lock.now (K.took locks.old) (K.took locks.new) (D.view repo.old) (D.view repo.new) }
+    ensures only_locked { OnlyLocked settings.now.lock_path.now lock.now (K.took locks.old) (K.took locks.new) (D.state repo.old).view (D.state repo.new).view }
     ensures holds { MayHold lock.now (K.taken locks.old) (K.taken locks.new) }
     ensures locks_later { K.faults locks.old ≤ K.faults locks.new }
     ensures refusals_later { K.refusals locks.old ≤ K.refusals locks.new }
-    ensures refused { IfErr result (λ e. OnEarly e ((D.view repo.new).now ≡ (D.view repo.old).now)) }
-    ensures stays { IfErr result (λ e. OnEarly e (CarriesOn settings.now.stanza.now Reading true (D.view repo.old) (D.view repo.new))) }
+    ensures refused { IfErr result (λ e. OnEarly e ((D.state repo.new).view.now ≡ (D.state repo.old).view.now)) }
+    ensures stays { IfErr result (λ e. OnEarly e (CarriesOn settings.now.stanza.now Reading true (D.state repo.old).view (D.state repo.new).view)) }
     // The server is asked at its socket, and where it isn't of the system, or the connection fails, nothing is done.
     ensures quiet { settings.now.server ≡ None → server.new ≡ server.old }
-    ensures agrees_with { OnOk result (Agrees (option_map server_view settings.now.server) (T.nodes tree.old) (V.pending server.old)) }
+    ensures agrees_with { OnOk result (Agrees (option_map server_view settings.now.server) (T.state tree.old).nodes (V.pending server.old)) }
     ensures asks { OnOk result (Asks (option_map server_view settings.now.server) (V.place server.new) (V.sent server.old) (V.sent server.new)) }
     ensures parts { IfErr result (λ e. Parts e (Rises (V.faults server.old) (V.faults server.new)) (V.sent server.old) (V.sent server.new)) }
-    ensures cause { IfErr result (λ e. CreateCause settings.now.stanza.now (D.view repo.old).now (T.nodes tree.old) (Rises (D.faults repo.old) (D.faults repo.new)) (Rises (T.faults tree.old) (T.faults tree.new)) (Rises (K.faults locks.old) (K.faults locks.new)) (Rises (K.refusals locks.old) (K.refusals locks.new)) e
-        ⊎ ServerCause (option_map server_view settings.now.server) (T.nodes tree.old) (V.pending server.old) (Rises (V.faults server.old) (V.faults server.new)) e) }
+    ensures cause { IfErr result (λ e. CreateCause settings.now.stanza.now (D.state repo.old).view.now (T.state tree.old).nodes (Rises (D.state repo.old).faults (D.state repo.new).faults) (Rises (T.state tree.old).faults (T.state tree.new).faults) (Rises (K.faults locks.old) (K.faults locks.new)) (Rises (K.refusals locks.old) (K.refusals locks.new)) e
+        ⊎ ServerCause (option_map server_view settings.now.server) (T.state tree.old).nodes (V.pending server.old) (Rises (V.faults server.old) (V.faults server.new)) e) }
 {
     prepare(alloc, repo, tree, locks, settings, lock)?;
     let told = read_cluster(alloc, tree)?;

@@ -32,16 +32,16 @@ fn heal_archive_pair<D: Disk>(
     name: &str,
 ) -> Result<ArchiveInfo, InfoFault>
     requires { name.now ≡ archive_info stanza.now }
-    ensures found { IfOk result (λ v. IfSome (D.view repo.old).now (λ f. PairIs IsArchiveText f (archive_info stanza.now) (archive_info_of v))) }
+    ensures found { IfOk result (λ v. IfSome (D.state repo.old).view.now (λ f. PairIs IsArchiveText f (archive_info stanza.now) (archive_info_of v))) }
     ensures valid { IfOk result (λ v. IsArchiveInfo (archive_info_of v)) }
-    ensures agrees { OnOk result (IfSome (D.view repo.new).now (AgreesAtPair stanza.now)) }
-    ensures stays { NowDoes stanza.now Reading true (D.view repo.old).now (D.view repo.new).now }
-    ensures goes { Goes stanza.now Reading (D.view repo.old) (D.view repo.new) }
-    ensures ends { Ends stanza.now Reading (D.view repo.old) (D.view repo.new) }
-    ensures files { OnOk result (IsSome (D.view repo.old).now → SameFiles stanza.now (D.view repo.old).now (D.view repo.new).now) }
-    ensures place { D.place repo.new ≡ D.place repo.old }
-    ensures later { D.faults repo.old ≤ D.faults repo.new }
-    ensures cause { IfErr result (PairCause IsArchiveText IsArchiveForm (archive_info stanza.now) (D.view repo.old).now (Rises (D.faults repo.old) (D.faults repo.new))) }
+    ensures agrees { OnOk result (IfSome (D.state repo.new).view.now (AgreesAtPair stanza.now)) }
+    ensures stays { NowDoes stanza.now Reading true (D.state repo.old).view.now (D.state repo.new).view.now }
+    ensures goes { Goes stanza.now Reading (D.state repo.old).view (D.state repo.new).view }
+    ensures ends { Ends stanza.now Reading (D.state repo.old).view (D.state repo.new).view }
+    ensures files { OnOk result (IsSome (D.state repo.old).view.now → SameFiles stanza.now (D.state repo.old).view.now (D.state repo.new).view.now) }
+    ensures place { (D.state repo.new).opened ≡ (D.state repo.old).opened }
+    ensures later { (D.state repo.old).faults ≤ (D.state repo.new).faults }
+    ensures cause { IfErr result (PairCause IsArchiveText IsArchiveForm (archive_info stanza.now) (D.state repo.old).view.now (Rises (D.state repo.old).faults (D.state repo.new).faults)) }
 {
     let info = heal_pair(alloc, repo, name)?;
     Ok(info)
@@ -65,16 +65,16 @@ fn value_fault(alloc: Global, stanza: &str, name: String, fault: InfoFault) -> F
 
 // The same, with the fault that is told.
 fn archive_value<D: Disk>(alloc: Global, repo: &mut D, stanza: &str) -> Result<ArchiveInfo, Fault>
-    ensures found { IfOk result (λ v. IfSome (D.view repo.old).now (λ f. PairIs IsArchiveText f (archive_info stanza.now) (archive_info_of v))) }
+    ensures found { IfOk result (λ v. IfSome (D.state repo.old).view.now (λ f. PairIs IsArchiveText f (archive_info stanza.now) (archive_info_of v))) }
     ensures valid { IfOk result (λ v. IsArchiveInfo (archive_info_of v)) }
-    ensures agrees { OnOk result (IfSome (D.view repo.new).now (AgreesAtPair stanza.now)) }
-    ensures stays { NowDoes stanza.now Reading true (D.view repo.old).now (D.view repo.new).now }
-    ensures goes { Goes stanza.now Reading (D.view repo.old) (D.view repo.new) }
-    ensures ends { Ends stanza.now Reading (D.view repo.old) (D.view repo.new) }
-    ensures files { OnOk result (IsSome (D.view repo.old).now → SameFiles stanza.now (D.view repo.old).now (D.view repo.new).now) }
-    ensures place { D.place repo.new ≡ D.place repo.old }
-    ensures later { D.faults repo.old ≤ D.faults repo.new }
-    ensures cause { IfErr result (ValueCause stanza.now (D.view repo.old).now (Rises (D.faults repo.old) (D.faults repo.new))) }
+    ensures agrees { OnOk result (IfSome (D.state repo.new).view.now (AgreesAtPair stanza.now)) }
+    ensures stays { NowDoes stanza.now Reading true (D.state repo.old).view.now (D.state repo.new).view.now }
+    ensures goes { Goes stanza.now Reading (D.state repo.old).view (D.state repo.new).view }
+    ensures ends { Ends stanza.now Reading (D.state repo.old).view (D.state repo.new).view }
+    ensures files { OnOk result (IsSome (D.state repo.old).view.now → SameFiles stanza.now (D.state repo.old).view.now (D.state repo.new).view.now) }
+    ensures place { (D.state repo.new).opened ≡ (D.state repo.old).opened }
+    ensures later { (D.state repo.old).faults ≤ (D.state repo.new).faults }
+    ensures cause { IfErr result (ValueCause stanza.now (D.state repo.old).view.now (Rises (D.state repo.old).faults (D.state repo.new).faults)) }
 {
     let name = archive_info_name(alloc, stanza)?;
     match heal_archive_pair(alloc, repo, stanza, name.as_str()) {
@@ -89,13 +89,13 @@ pub(crate) fn read_archive_value<D: Disk>(
     repo: &mut D,
     stanza: &str,
 ) -> Result<ArchiveInfo, Fault>
-    ensures found { IfOk result (λ v. IfSome (D.view repo.old).now (λ f. PairIs IsArchiveText f (archive_info stanza.now) (archive_info_of v))) }
+    ensures found { IfOk result (λ v. IfSome (D.state repo.old).view.now (λ f. PairIs IsArchiveText f (archive_info stanza.now) (archive_info_of v))) }
     ensures valid { IfOk result (λ v. IsArchiveInfo (archive_info_of v)) }
-    ensures now { (D.view repo.new).now ≡ (D.view repo.old).now }
-    ensures time { Rests (D.view repo.old) (D.view repo.new) }
-    ensures place { D.place repo.new ≡ D.place repo.old }
-    ensures later { D.faults repo.old ≤ D.faults repo.new }
-    ensures cause { IfErr result (ValueCause stanza.now (D.view repo.old).now (Rises (D.faults repo.old) (D.faults repo.new))) }
+    ensures now { (D.state repo.new).view.now ≡ (D.state repo.old).view.now }
+    ensures time { Rests (D.state repo.old).view (D.state repo.new).view }
+    ensures place { (D.state repo.new).opened ≡ (D.state repo.old).opened }
+    ensures later { (D.state repo.old).faults ≤ (D.state repo.new).faults }
+    ensures cause { IfErr result (ValueCause stanza.now (D.state repo.old).view.now (Rises (D.state repo.old).faults (D.state repo.new).faults)) }
 {
     let name = archive_info_name(alloc, stanza)?;
     match load_pair(alloc, repo, name.as_str()) {
@@ -137,15 +137,15 @@ pub(crate) fn current_id<D: Disk>(
     told: &Control,
 ) -> Result<ArchiveId, Fault>
     ensures fits { IfOk result (λ id. (id.version < 2 ^ 32) × (id.number < 2 ^ 32)) }
-    ensures current { IfOk result (λ id. (c : ClusterId) × (id ≡ id_kept c) × (identity_kept c ≡ identity_told told.now) × IfSome (D.view repo.old).now (λ f. HasCurrent stanza.now f c)) }
-    ensures agrees { OnOk result (IfSome (D.view repo.new).now (AgreesAtPair stanza.now)) }
-    ensures stays { NowDoes stanza.now Reading true (D.view repo.old).now (D.view repo.new).now }
-    ensures goes { Goes stanza.now Reading (D.view repo.old) (D.view repo.new) }
-    ensures ends { Ends stanza.now Reading (D.view repo.old) (D.view repo.new) }
-    ensures files { OnOk result (IsSome (D.view repo.old).now → SameFiles stanza.now (D.view repo.old).now (D.view repo.new).now) }
-    ensures place { D.place repo.new ≡ D.place repo.old }
-    ensures later { D.faults repo.old ≤ D.faults repo.new }
-    ensures cause { IfErr result (CurrentCause stanza.now told.now (D.view repo.old).now (Rises (D.faults repo.old) (D.faults repo.new))) }
+    ensures current { IfOk result (λ id. (c : ClusterId) × (id ≡ id_kept c) × (identity_kept c ≡ identity_told told.now) × IfSome (D.state repo.old).view.now (λ f. HasCurrent stanza.now f c)) }
+    ensures agrees { OnOk result (IfSome (D.state repo.new).view.now (AgreesAtPair stanza.now)) }
+    ensures stays { NowDoes stanza.now Reading true (D.state repo.old).view.now (D.state repo.new).view.now }
+    ensures goes { Goes stanza.now Reading (D.state repo.old).view (D.state repo.new).view }
+    ensures ends { Ends stanza.now Reading (D.state repo.old).view (D.state repo.new).view }
+    ensures files { OnOk result (IsSome (D.state repo.old).view.now → SameFiles stanza.now (D.state repo.old).view.now (D.state repo.new).view.now) }
+    ensures place { (D.state repo.new).opened ≡ (D.state repo.old).opened }
+    ensures later { (D.state repo.old).faults ≤ (D.state repo.new).faults }
+    ensures cause { IfErr result (CurrentCause stanza.now told.now (D.state repo.old).view.now (Rises (D.state repo.old).faults (D.state repo.new).faults)) }
 {
     let info = archive_value(alloc, repo, stanza)?;
     let id = id_of(&info, told)?;

@@ -56,15 +56,15 @@ fn serve_whole<D: Disk, T: Tree>(
     id: &ArchiveId,
     wanted: &Wanted,
 ) -> Result<bool, Fault>
-    ensures puts { Puts result (AreBytes stanza.now id.now wanted.now.name (D.view repo.old).now) (IfSome (D.view repo.old).now (StoresNone stanza.now id.now wanted.now.name)) wanted.now.path.now (T.nodes tree.old) (T.nodes tree.new) }
-    ensures changes { ChangesPath wanted.now.path.now (AreBytes stanza.now id.now wanted.now.name (D.view repo.old).now) (T.nodes tree.old) (T.nodes tree.new) }
-    ensures cause { IfErr result (FileCause stanza.now id.now wanted.now.name (D.view repo.old).now (Rises (D.faults repo.old) (D.faults repo.new)) (Rises (T.faults tree.old) (T.faults tree.new))) }
-    ensures now { (D.view repo.new).now ≡ (D.view repo.old).now }
-    ensures time { Rests (D.view repo.old) (D.view repo.new) }
-    ensures repo_place { D.place repo.new ≡ D.place repo.old }
-    ensures tree_place { T.place tree.new ≡ T.place tree.old }
-    ensures repo_later { D.faults repo.old ≤ D.faults repo.new }
-    ensures tree_later { T.faults tree.old ≤ T.faults tree.new }
+    ensures puts { Puts result (AreBytes stanza.now id.now wanted.now.name (D.state repo.old).view.now) (IfSome (D.state repo.old).view.now (StoresNone stanza.now id.now wanted.now.name)) wanted.now.path.now (T.state tree.old).nodes (T.state tree.new).nodes }
+    ensures changes { ChangesPath wanted.now.path.now (AreBytes stanza.now id.now wanted.now.name (D.state repo.old).view.now) (T.state tree.old).nodes (T.state tree.new).nodes }
+    ensures cause { IfErr result (FileCause stanza.now id.now wanted.now.name (D.state repo.old).view.now (Rises (D.state repo.old).faults (D.state repo.new).faults) (Rises (T.state tree.old).faults (T.state tree.new).faults)) }
+    ensures now { (D.state repo.new).view.now ≡ (D.state repo.old).view.now }
+    ensures time { Rests (D.state repo.old).view (D.state repo.new).view }
+    ensures repo_place { (D.state repo.new).opened ≡ (D.state repo.old).opened }
+    ensures tree_place { (T.state tree.new).opened ≡ (T.state tree.old).opened }
+    ensures repo_later { (D.state repo.old).faults ≤ (D.state repo.new).faults }
+    ensures tree_later { (T.state tree.old).faults ≤ (T.state tree.new).faults }
 {
     match get(alloc, repo, stanza, id, &wanted.name) {
         Ok(bytes) => {
@@ -86,15 +86,15 @@ fn serve_segment<D: Disk, T: Tree>(
     wanted: &Wanted,
 ) -> Result<bool, Fault>
     requires { has_sum wanted.now.name ≡ true }
-    ensures puts { Puts result (AreBytes stanza.now id.now wanted.now.name (D.view repo.old).now) (IfSome (D.view repo.old).now (StoresNone stanza.now id.now wanted.now.name)) wanted.now.path.now (T.nodes tree.old) (T.nodes tree.new) }
-    ensures changes { ChangesPath wanted.now.path.now (AreBytes stanza.now id.now wanted.now.name (D.view repo.old).now) (T.nodes tree.old) (T.nodes tree.new) }
-    ensures cause { IfErr result (FileCause stanza.now id.now wanted.now.name (D.view repo.old).now (Rises (D.faults repo.old) (D.faults repo.new)) (Rises (T.faults tree.old) (T.faults tree.new))) }
-    ensures now { (D.view repo.new).now ≡ (D.view repo.old).now }
-    ensures time { Rests (D.view repo.old) (D.view repo.new) }
-    ensures repo_place { D.place repo.new ≡ D.place repo.old }
-    ensures tree_place { T.place tree.new ≡ T.place tree.old }
-    ensures repo_later { D.faults repo.old ≤ D.faults repo.new }
-    ensures tree_later { T.faults tree.old ≤ T.faults tree.new }
+    ensures puts { Puts result (AreBytes stanza.now id.now wanted.now.name (D.state repo.old).view.now) (IfSome (D.state repo.old).view.now (StoresNone stanza.now id.now wanted.now.name)) wanted.now.path.now (T.state tree.old).nodes (T.state tree.new).nodes }
+    ensures changes { ChangesPath wanted.now.path.now (AreBytes stanza.now id.now wanted.now.name (D.state repo.old).view.now) (T.state tree.old).nodes (T.state tree.new).nodes }
+    ensures cause { IfErr result (FileCause stanza.now id.now wanted.now.name (D.state repo.old).view.now (Rises (D.state repo.old).faults (D.state repo.new).faults) (Rises (T.state tree.old).faults (T.state tree.new).faults)) }
+    ensures now { (D.state repo.new).view.now ≡ (D.state repo.old).view.now }
+    ensures time { Rests (D.state repo.old).view (D.state repo.new).view }
+    ensures repo_place { (D.state repo.new).opened ≡ (D.state repo.old).opened }
+    ensures tree_place { (T.state tree.new).opened ≡ (T.state tree.old).opened }
+    ensures repo_later { (D.state repo.old).faults ≤ (D.state repo.new).faults }
+    ensures tree_later { (T.state tree.old).faults ≤ (T.state tree.new).faults }
 {
     let stored = match present(alloc, repo, stanza, id, &wanted.name) {
         Ok(Some(stored)) => stored,
@@ -122,15 +122,15 @@ fn serve_under<D: Disk, T: Tree>(
     told: &Control,
     wanted: &Wanted,
 ) -> Result<bool, Fault>
-    ensures puts { Puts result (λ b. IsSame told.now cluster.now × AreBytes stanza.now (id_kept cluster.now) wanted.now.name (D.view repo.old).now b) (IsSame told.now cluster.now → IfSome (D.view repo.old).now (StoresNone stanza.now (id_kept cluster.now) wanted.now.name)) wanted.now.path.now (T.nodes tree.old) (T.nodes tree.new) }
-    ensures changes { ChangesPath wanted.now.path.now (λ b. IsSame told.now cluster.now × AreBytes stanza.now (id_kept cluster.now) wanted.now.name (D.view repo.old).now b) (T.nodes tree.old) (T.nodes tree.new) }
-    ensures cause { IfErr result (UnderCause (IsSame told.now cluster.now) stanza.now (id_kept cluster.now) wanted.now.name (D.view repo.old).now (Rises (D.faults repo.old) (D.faults repo.new)) (Rises (T.faults tree.old) (T.faults tree.new))) }
-    ensures now { (D.view repo.new).now ≡ (D.view repo.old).now }
-    ensures time { Rests (D.view repo.old) (D.view repo.new) }
-    ensures repo_place { D.place repo.new ≡ D.place repo.old }
-    ensures tree_place { T.place tree.new ≡ T.place tree.old }
-    ensures repo_later { D.faults repo.old ≤ D.faults repo.new }
-    ensures tree_later { T.faults tree.old ≤ T.faults tree.new }
+    ensures puts { Puts result (λ b. IsSame told.now cluster.now × AreBytes stanza.now (id_kept cluster.now) wanted.now.name (D.state repo.old).view.now b) (IsSame told.now cluster.now → IfSome (D.state repo.old).view.now (StoresNone stanza.now (id_kept cluster.now) wanted.now.name)) wanted.now.path.now (T.state tree.old).nodes (T.state tree.new).nodes }
+    ensures changes { ChangesPath wanted.now.path.now (λ b. IsSame told.now cluster.now × AreBytes stanza.now (id_kept cluster.now) wanted.now.name (D.state repo.old).view.now b) (T.state tree.old).nodes (T.state tree.new).nodes }
+    ensures cause { IfErr result (UnderCause (IsSame told.now cluster.now) stanza.now (id_kept cluster.now) wanted.now.name (D.state repo.old).view.now (Rises (D.state repo.old).faults (D.state repo.new).faults) (Rises (T.state tree.old).faults (T.state tree.new).faults)) }
+    ensures now { (D.state repo.new).view.now ≡ (D.state repo.old).view.now }
+    ensures time { Rests (D.state repo.old).view (D.state repo.new).view }
+    ensures repo_place { (D.state repo.new).opened ≡ (D.state repo.old).opened }
+    ensures tree_place { (T.state tree.new).opened ≡ (T.state tree.old).opened }
+    ensures repo_later { (D.state repo.old).faults ≤ (D.state repo.new).faults }
+    ensures tree_later { (T.state tree.old).faults ≤ (T.state tree.new).faults }
 {
     if !is_of(cluster, told) {
         return Ok(false);
@@ -157,15 +157,15 @@ pub(crate) fn search<D: Disk, T: Tree>(
     wanted: &Wanted,
 ) -> Result<bool, Fault>
     requires numbers { AreFrom 1 (map (λ (c : ClusterId). c.id) history.now) }
-    ensures puts { Puts result (λ b. IfSome (D.view repo.old).now (FoundIn history.now stanza.now told.now wanted.now.name b)) (IfSome (D.view repo.old).now (AbsentIn history.now stanza.now told.now wanted.now.name)) wanted.now.path.now (T.nodes tree.old) (T.nodes tree.new) }
-    ensures changes { ChangesPath wanted.now.path.now (λ b. IfSome (D.view repo.old).now (FoundIn history.now stanza.now told.now wanted.now.name b)) (T.nodes tree.old) (T.nodes tree.new) }
-    ensures cause { IfErr result (SearchCause history.now stanza.now told.now wanted.now.name (D.view repo.old).now (Rises (D.faults repo.old) (D.faults repo.new)) (Rises (T.faults tree.old) (T.faults tree.new))) }
-    ensures now { (D.view repo.new).now ≡ (D.view repo.old).now }
-    ensures time { Rests (D.view repo.old) (D.view repo.new) }
-    ensures repo_place { D.place repo.new ≡ D.place repo.old }
-    ensures tree_place { T.place tree.new ≡ T.place tree.old }
-    ensures repo_later { D.faults repo.old ≤ D.faults repo.new }
-    ensures tree_later { T.faults tree.old ≤ T.faults tree.new }
+    ensures puts { Puts result (λ b. IfSome (D.state repo.old).view.now (FoundIn history.now stanza.now told.now wanted.now.name b)) (IfSome (D.state repo.old).view.now (AbsentIn history.now stanza.now told.now wanted.now.name)) wanted.now.path.now (T.state tree.old).nodes (T.state tree.new).nodes }
+    ensures changes { ChangesPath wanted.now.path.now (λ b. IfSome (D.state repo.old).view.now (FoundIn history.now stanza.now told.now wanted.now.name b)) (T.state tree.old).nodes (T.state tree.new).nodes }
+    ensures cause { IfErr result (SearchCause history.now stanza.now told.now wanted.now.name (D.state repo.old).view.now (Rises (D.state repo.old).faults (D.state repo.new).faults) (Rises (T.state tree.old).faults (T.state tree.new).faults)) }
+    ensures now { (D.state repo.new).view.now ≡ (D.state repo.old).view.now }
+    ensures time { Rests (D.state repo.old).view (D.state repo.new).view }
+    ensures repo_place { (D.state repo.new).opened ≡ (D.state repo.old).opened }
+    ensures tree_place { (T.state tree.new).opened ≡ (T.state tree.old).opened }
+    ensures repo_later { (D.state repo.old).faults ≤ (D.state repo.new).faults }
+    ensures tree_later { (T.state tree.old).faults ≤ (T.state tree.new).faults }
 {
     let mut rest = history;
     while let Some((cluster, earlier)) = rest.split_last() {

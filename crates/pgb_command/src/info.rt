@@ -41,13 +41,13 @@ fn read_backup_value<D: Disk>(
     repo: &mut D,
     stanza: &str,
 ) -> Result<BackupInfo, Fault>
-    ensures found { IfOk result (λ v. IfSome (D.view repo.old).now (λ f. PairIs IsBackupText f (backup_info stanza.now) (backup_info_of v))) }
+    ensures found { IfOk result (λ v. IfSome (D.state repo.old).view.now (λ f. PairIs IsBackupText f (backup_info stanza.now) (backup_info_of v))) }
     ensures valid { IfOk result (λ v. IsBackupInfo (backup_info_of v)) }
-    ensures now { (D.view repo.new).now ≡ (D.view repo.old).now }
-    ensures time { Rests (D.view repo.old) (D.view repo.new) }
-    ensures place { D.place repo.new ≡ D.place repo.old }
-    ensures later { D.faults repo.old ≤ D.faults repo.new }
-    ensures cause { IfErr result (BackupCause stanza.now (D.view repo.old).now (Rises (D.faults repo.old) (D.faults repo.new))) }
+    ensures now { (D.state repo.new).view.now ≡ (D.state repo.old).view.now }
+    ensures time { Rests (D.state repo.old).view (D.state repo.new).view }
+    ensures place { (D.state repo.new).opened ≡ (D.state repo.old).opened }
+    ensures later { (D.state repo.old).faults ≤ (D.state repo.new).faults }
+    ensures cause { IfErr result (BackupCause stanza.now (D.state repo.old).view.now (Rises (D.state repo.old).faults (D.state repo.new).faults)) }
 {
     let name = backup_info_name(alloc, stanza)?;
     match load_pair(alloc, repo, name.as_str()) {
@@ -65,13 +65,13 @@ fn read_backup_value<D: Disk>(
 
 // The values of both pairs, the archive pair's first.
 fn read_pairs<D: Disk>(alloc: Global, repo: &mut D, stanza: &str) -> Result<Pairs, Fault>
-    ensures found { IfOk result (λ p. IfSome (D.view repo.old).now (λ f. HavePairs stanza.now f (archive_info_of p.archive) (backup_info_of p.backup))) }
+    ensures found { IfOk result (λ p. IfSome (D.state repo.old).view.now (λ f. HavePairs stanza.now f (archive_info_of p.archive) (backup_info_of p.backup))) }
     ensures valid { IfOk result (λ p. IsBackupInfo (backup_info_of p.backup)) }
-    ensures now { (D.view repo.new).now ≡ (D.view repo.old).now }
-    ensures time { Rests (D.view repo.old) (D.view repo.new) }
-    ensures place { D.place repo.new ≡ D.place repo.old }
-    ensures later { D.faults repo.old ≤ D.faults repo.new }
-    ensures cause { IfErr result (InfoCause stanza.now (D.view repo.old).now (Rises (D.faults repo.old) (D.faults repo.new))) }
+    ensures now { (D.state repo.new).view.now ≡ (D.state repo.old).view.now }
+    ensures time { Rests (D.state repo.old).view (D.state repo.new).view }
+    ensures place { (D.state repo.new).opened ≡ (D.state repo.old).opened }
+    ensures later { (D.state repo.old).faults ≤ (D.state repo.new).faults }
+    ensures cause { IfErr result (InfoCause stanza.now (D.state repo.old).view.now (Rises (D.state repo.old).faults (D.state repo.new).faults)) }
 {
     let archive = read_archive_value(alloc, repo, stanza)?;
     let backup = read_backup_value(alloc, repo, stanza)?;
@@ -95,12 +95,12 @@ fn ends_under<D: Disk>(
     stanza: &str,
     id: &ArchiveId,
 ) -> Result<Vec<Segment>, Fault>
-    ensures ends { IfOk result (λ found. IfSome (D.view repo.old).now (λ f. AreEnds stanza.now id.now f found.items)) }
-    ensures now { (D.view repo.new).now ≡ (D.view repo.old).now }
-    ensures time { Rests (D.view repo.old) (D.view repo.new) }
-    ensures place { D.place repo.new ≡ D.place repo.old }
-    ensures later { D.faults repo.old ≤ D.faults repo.new }
-    ensures cause { IfErr result (OpeningCause [] (Rises (D.faults repo.old) (D.faults repo.new)) ⊥ ⊥ ⊥) }
+    ensures ends { IfOk result (λ found. IfSome (D.state repo.old).view.now (λ f. AreEnds stanza.now id.now f found.items)) }
+    ensures now { (D.state repo.new).view.now ≡ (D.state repo.old).view.now }
+    ensures time { Rests (D.state repo.old).view (D.state repo.new).view }
+    ensures place { (D.state repo.new).opened ≡ (D.state repo.old).opened }
+    ensures later { (D.state repo.old).faults ≤ (D.state repo.new).faults }
+    ensures cause { IfErr result (OpeningCause [] (Rises (D.state repo.old).faults (D.state repo.new).faults) ⊥ ⊥ ⊥) }
 {
     match ends(alloc, repo, stanza, id) {
         Ok(found) => Ok(found),
@@ -133,12 +133,12 @@ fn end_names<D: Disk>(
     stanza: &str,
     history: &[ClusterId],
 ) -> Result<Vec<ArchivedName>, Fault>
-    ensures ends { IfOk result (λ names. IfSome (D.view repo.old).now (λ f. HaveEnds stanza.now history.now f names.items)) }
-    ensures now { (D.view repo.new).now ≡ (D.view repo.old).now }
-    ensures time { Rests (D.view repo.old) (D.view repo.new) }
-    ensures place { D.place repo.new ≡ D.place repo.old }
-    ensures later { D.faults repo.old ≤ D.faults repo.new }
-    ensures cause { IfErr result (OpeningCause [] (Rises (D.faults repo.old) (D.faults repo.new)) ⊥ ⊥ ⊥) }
+    ensures ends { IfOk result (λ names. IfSome (D.state repo.old).view.now (λ f. HaveEnds stanza.now history.now f names.items)) }
+    ensures now { (D.state repo.new).view.now ≡ (D.state repo.old).view.now }
+    ensures time { Rests (D.state repo.old).view (D.state repo.new).view }
+    ensures place { (D.state repo.new).opened ≡ (D.state repo.old).opened }
+    ensures later { (D.state repo.old).faults ≤ (D.state repo.new).faults }
+    ensures cause { IfErr result (OpeningCause [] (Rises (D.state repo.old).faults (D.state repo.new).faults) ⊥ ⊥ ⊥) }
 {
     let mut names = Vec::new(alloc);
     for cluster in history {
@@ -167,12 +167,12 @@ pub(crate) fn report_stanza<D: Disk>(
     settings: &Settings,
     form: OutputWord,
 ) -> Result<Outcome, Fault>
-    ensures told { IfOk result (λ o. ReportedBy (outcome_ending o) settings.now.stanza.now form (D.view repo.old).now) }
-    ensures cause { IfErr result (InfoCause settings.now.stanza.now (D.view repo.old).now (Rises (D.faults repo.old) (D.faults repo.new))) }
-    ensures place { OnOk result (D.place repo.new ≡ settings.now.repo1_path.now) }
-    ensures now { (D.view repo.new).now ≡ (D.view repo.old).now }
-    ensures time { Rests (D.view repo.old) (D.view repo.new) }
-    ensures later { D.faults repo.old ≤ D.faults repo.new }
+    ensures told { IfOk result (λ o. ReportedBy (outcome_ending o) settings.now.stanza.now form (D.state repo.old).view.now) }
+    ensures cause { IfErr result (InfoCause settings.now.stanza.now (D.state repo.old).view.now (Rises (D.state repo.old).faults (D.state repo.new).faults)) }
+    ensures place { OnOk result ((D.state repo.new).opened ≡ settings.now.repo1_path.now) }
+    ensures now { (D.state repo.new).view.now ≡ (D.state repo.old).view.now }
+    ensures time { Rests (D.state repo.old).view (D.state repo.new).view }
+    ensures later { (D.state repo.old).faults ≤ (D.state repo.new).faults }
 {
     prepare_repository(alloc, repo, settings)?;
     let pairs = read_pairs(alloc, repo, settings.stanza)?;

@@ -35,10 +35,10 @@ pub(crate) enum Measured {
 
 // Whether the file has a byte at a place.
 fn reaches<T: Tree>(tree: &mut T, what: &Known, at: u64) -> Result<bool, Stop>
-    ensures there { IfOk result (λ r. IfSome (told_file (T.nodes tree.old) (known_path what.now)) (λ b. Decides r (at < length b))) }
-    ensures nodes { T.nodes tree.new ≡ T.nodes tree.old }
-    ensures place { T.place tree.new ≡ T.place tree.old }
-    ensures cause { HasCause (T.faults tree.old) (T.faults tree.new) result }
+    ensures there { IfOk result (λ r. IfSome (told_file (T.state tree.old).nodes (known_path what.now)) (λ b. Decides r (at < length b))) }
+    ensures nodes { (T.state tree.new).nodes ≡ (T.state tree.old).nodes }
+    ensures place { (T.state tree.new).opened ≡ (T.state tree.old).opened }
+    ensures cause { HasCause (T.state tree.old).faults (T.state tree.new).faults result }
 {
     let mut one = [0u8; 1];
     match tree.read(what, at, &mut one)? {
@@ -50,12 +50,12 @@ fn reaches<T: Tree>(tree: &mut T, what: &Known, at: u64) -> Result<bool, Stop>
 // How many bytes the file has, which are no fewer than the first number and no more than the second.
 fn length_between<T: Tree>(tree: &mut T, what: &Known, least: u64, most: u64) -> Result<u64, Stop>
     requires order { least ≤ most }
-    requires between { IfSome (told_file (T.nodes tree.old) (known_path what.now)) (λ b. (least ≤ length b) × (length b ≤ most)) }
-    ensures length { IfOk result (λ n. IfSome (told_file (T.nodes tree.old) (known_path what.now)) (λ b. length b ≡ n)) }
+    requires between { IfSome (told_file (T.state tree.old).nodes (known_path what.now)) (λ b. (least ≤ length b) × (length b ≤ most)) }
+    ensures length { IfOk result (λ n. IfSome (told_file (T.state tree.old).nodes (known_path what.now)) (λ b. length b ≡ n)) }
     ensures within { IfOk result (λ n. least ≤ n) }
-    ensures nodes { T.nodes tree.new ≡ T.nodes tree.old }
-    ensures place { T.place tree.new ≡ T.place tree.old }
-    ensures cause { HasCause (T.faults tree.old) (T.faults tree.new) result }
+    ensures nodes { (T.state tree.new).nodes ≡ (T.state tree.old).nodes }
+    ensures place { (T.state tree.new).opened ≡ (T.state tree.old).opened }
+    ensures cause { HasCause (T.state tree.old).faults (T.state tree.new).faults result }
 {
     let mut low = least;
     let mut high = most;
@@ -78,15 +78,15 @@ fn length_within<T: Tree>(
     limit: u64,
 ) -> Result<Option<u64>, Stop>
     requires limit { 65536 ≤ limit }
-    requires front { IfSome (told_file (T.nodes tree.old) (known_path what.now)) (λ b. front ≡ min 65536 (length b)) }
+    requires front { IfSome (told_file (T.state tree.old).nodes (known_path what.now)) (λ b. front ≡ min 65536 (length b)) }
     requires room { front ≤ 65536 }
-    ensures length { IfOk result (λ r. IfSome r (λ n. IfSome (told_file (T.nodes tree.old) (known_path what.now)) (λ b. length b ≡ n))) }
-    ensures long { IfOk result (λ r. IfNone r (IfSome (told_file (T.nodes tree.old) (known_path what.now)) (λ b. limit < length b))) }
+    ensures length { IfOk result (λ r. IfSome r (λ n. IfSome (told_file (T.state tree.old).nodes (known_path what.now)) (λ b. length b ≡ n))) }
+    ensures long { IfOk result (λ r. IfNone r (IfSome (told_file (T.state tree.old).nodes (known_path what.now)) (λ b. limit < length b))) }
     ensures within { IfOk result (λ r. IfSome r (λ n. front ≤ n)) }
     ensures whole { IfOk result (λ r. IfSome r (λ n. (65536 ≤ front) ⊎ (front ≡ n))) }
-    ensures nodes { T.nodes tree.new ≡ T.nodes tree.old }
-    ensures place { T.place tree.new ≡ T.place tree.old }
-    ensures cause { HasCause (T.faults tree.old) (T.faults tree.new) result }
+    ensures nodes { (T.state tree.new).nodes ≡ (T.state tree.old).nodes }
+    ensures place { (T.state tree.new).opened ≡ (T.state tree.old).opened }
+    ensures cause { HasCause (T.state tree.old).faults (T.state tree.new).faults result }
 {
     if front < FRONT {
         return Ok(Some(front as u64));
@@ -101,10 +101,10 @@ fn length_within<T: Tree>(
 // Looks at a file: at its first bytes and at their number, which may be at most the limit.
 fn measure<T: Tree>(alloc: Global, tree: &mut T, what: Known, limit: u64) -> Result<Measured, Stop>
     requires { 65536 ≤ limit }
-    ensures measured { IfOk result (IsMeasured (T.nodes tree.old) (known_path what) limit) }
-    ensures nodes { T.nodes tree.new ≡ T.nodes tree.old }
-    ensures place { T.place tree.new ≡ T.place tree.old }
-    ensures cause { HasCause (T.faults tree.old) (T.faults tree.new) result }
+    ensures measured { IfOk result (IsMeasured (T.state tree.old).nodes (known_path what) limit) }
+    ensures nodes { (T.state tree.new).nodes ≡ (T.state tree.old).nodes }
+    ensures place { (T.state tree.new).opened ≡ (T.state tree.old).opened }
+    ensures cause { HasCause (T.state tree.old).faults (T.state tree.new).faults result }
 {
     let Some(front) = read_front(alloc, tree, &what, FRONT)? else {
         return Ok(Measured::Absent);
@@ -128,11 +128,11 @@ pub(crate) fn open_log_file<T: Tree>(
     limit: u64,
 ) -> Result<LogFile, Fault>
     requires { 65536 ≤ limit }
-    ensures opened { IfOk result (IsOpened (T.nodes tree.old) (wal_path name.now)) }
-    ensures refused { IfErr result (FileCause path.now name.now limit (T.nodes tree.old) (Rises (T.faults tree.old) (T.faults tree.new))) }
-    ensures nodes { T.nodes tree.new ≡ T.nodes tree.old }
-    ensures place { T.place tree.new ≡ T.place tree.old }
-    ensures later { T.faults tree.old ≤ T.faults tree.new }
+    ensures opened { IfOk result (IsOpened (T.state tree.old).nodes (wal_path name.now)) }
+    ensures refused { IfErr result (FileCause path.now name.now limit (T.state tree.old).nodes (Rises (T.state tree.old).faults (T.state tree.new).faults)) }
+    ensures nodes { (T.state tree.new).nodes ≡ (T.state tree.old).nodes }
+    ensures place { (T.state tree.new).opened ≡ (T.state tree.old).opened }
+    ensures later { (T.state tree.old).faults ≤ (T.state tree.new).faults }
 {
     let what = Known::Wal(String::from_str(alloc, name)?);
     match measure(alloc, tree, what, limit) {
@@ -162,11 +162,11 @@ impl LogFile {
 }
 
 impl<T: Tree> Pieces<T> for LogFile {
-    ghost bytes = { λ it tree. told_file (T.nodes tree) (known_path it.what) };
+    ghost bytes = { λ it tree. told_file (T.state tree).nodes (known_path it.what) };
 
     ghost faults = { T.faults };
 
-    ghost same = { λ one other. (T.nodes other ≡ T.nodes one) × (T.misuses other ≡ T.misuses one) × (T.place other ≡ T.place one) };
+    ghost same = { λ one other. ((T.state other).nodes ≡ (T.state one).nodes) × ((T.state other).misuses ≡ (T.state one).misuses) × ((T.state other).opened ≡ (T.state one).opened) };
 
     ghost same_self = { λ one. (refl, refl, refl) };
 

@@ -15,10 +15,10 @@ use pgb_outside::{Disk, Locks, Stop, Take, Tree};
 use std::alloc::Global;
 
 fn open_tree<T: Tree>(tree: &mut T, path: &str) -> Result<(), Fault>
-    ensures place { OnOk result (T.place tree.new ≡ path.now) }
-    ensures nodes { T.nodes tree.new ≡ T.nodes tree.old }
-    ensures later { T.faults tree.old ≤ T.faults tree.new }
-    ensures cause { IfErr result (OpeningCause [] ⊥ (Rises (T.faults tree.old) (T.faults tree.new)) ⊥ ⊥) }
+    ensures place { OnOk result ((T.state tree.new).opened ≡ path.now) }
+    ensures nodes { (T.state tree.new).nodes ≡ (T.state tree.old).nodes }
+    ensures later { (T.state tree.old).faults ≤ (T.state tree.new).faults }
+    ensures cause { IfErr result (OpeningCause [] ⊥ (Rises (T.state tree.old).faults (T.state tree.new).faults) ⊥ ⊥) }
 {
     match tree.open(path) {
         Ok(()) => Ok(()),
@@ -27,11 +27,11 @@ fn open_tree<T: Tree>(tree: &mut T, path: &str) -> Result<(), Fault>
 }
 
 fn open_repo<D: Disk>(repo: &mut D, path: &str) -> Result<(), Fault>
-    ensures place { OnOk result (D.place repo.new ≡ path.now) }
-    ensures now { (D.view repo.new).now ≡ (D.view repo.old).now }
-    ensures time { Rests (D.view repo.old) (D.view repo.new) }
-    ensures later { D.faults repo.old ≤ D.faults repo.new }
-    ensures cause { IfErr result (OpeningCause [] (Rises (D.faults repo.old) (D.faults repo.new)) ⊥ ⊥ ⊥) }
+    ensures place { OnOk result ((D.state repo.new).opened ≡ path.now) }
+    ensures now { (D.state repo.new).view.now ≡ (D.state repo.old).view.now }
+    ensures time { Rests (D.state repo.old).view (D.state repo.new).view }
+    ensures later { (D.state repo.old).faults ≤ (D.state repo.new).faults }
+    ensures cause { IfErr result (OpeningCause [] (Rises (D.state repo.old).faults (D.state repo.new).faults) ⊥ ⊥ ⊥) }
 {
     match repo.open(path) {
         Ok(()) => Ok(()),
@@ -41,12 +41,12 @@ fn open_repo<D: Disk>(repo: &mut D, path: &str) -> Result<(), Fault>
 }
 
 fn settle<D: Disk>(alloc: Global, repo: &mut D, stanza: &str) -> Result<(), Fault>
-    ensures begun { OnOk result ((q : Repository) (log : List Done) → KeepsRepository stanza.now q log (D.view repo.old) → IsSome (D.view repo.old).now → IsBegun stanza.now q log (D.view repo.new)) }
-    ensures now { (D.view repo.new).now ≡ (D.view repo.old).now }
-    ensures time { Rests (D.view repo.old) (D.view repo.new) }
-    ensures place { D.place repo.new ≡ D.place repo.old }
-    ensures later { D.faults repo.old ≤ D.faults repo.new }
-    ensures cause { IfErr result (OpeningCause [] (Rises (D.faults repo.old) (D.faults repo.new)) ⊥ ⊥ ⊥) }
+    ensures begun { OnOk result ((q : Repository) (log : List Done) → KeepsRepository stanza.now q log (D.state repo.old).view → IsSome (D.state repo.old).view.now → IsBegun stanza.now q log (D.state repo.new).view) }
+    ensures now { (D.state repo.new).view.now ≡ (D.state repo.old).view.now }
+    ensures time { Rests (D.state repo.old).view (D.state repo.new).view }
+    ensures place { (D.state repo.new).opened ≡ (D.state repo.old).opened }
+    ensures later { (D.state repo.old).faults ≤ (D.state repo.new).faults }
+    ensures cause { IfErr result (OpeningCause [] (Rises (D.state repo.old).faults (D.state repo.new).faults) ⊥ ⊥ ⊥) }
 {
     match begin(alloc, repo, stanza) {
         Ok(()) => Ok(()),
@@ -80,11 +80,11 @@ pub(crate) fn prepare_repository<D: Disk>(
     repo: &mut D,
     settings: &Settings,
 ) -> Result<(), Fault>
-    ensures place { OnOk result (D.place repo.new ≡ settings.now.repo1_path.now) }
-    ensures now { (D.view repo.new).now ≡ (D.view repo.old).now }
-    ensures time { Rests (D.view repo.old) (D.view repo.new) }
-    ensures later { D.faults repo.old ≤ D.faults repo.new }
-    ensures cause { IfErr result (OpeningCause [] (Rises (D.faults repo.old) (D.faults repo.new)) ⊥ ⊥ ⊥) }
+    ensures place { OnOk result ((D.state repo.new).opened ≡ settings.now.repo1_path.now) }
+    ensures now { (D.state repo.new).view.now ≡ (D.state repo.old).view.now }
+    ensures time { Rests (D.state repo.old).view (D.state repo.new).view }
+    ensures later { (D.state repo.old).faults ≤ (D.state repo.new).faults }
+    ensures cause { IfErr result (OpeningCause [] (Rises (D.state repo.old).faults (D.state repo.new).faults) ⊥ ⊥ ⊥) }
 {
     open_repo(repo, settings.repo1_path)?;
     settle(alloc, repo, settings.stanza)?;
@@ -98,13 +98,13 @@ pub(crate) fn prepare_reading<D: Disk, T: Tree>(
     tree: &mut T,
     settings: &Settings,
 ) -> Result<(), Fault>
-    ensures places { OnOk result ((T.place tree.new ≡ settings.now.pg1_path.now) × (D.place repo.new ≡ settings.now.repo1_path.now)) }
-    ensures now { (D.view repo.new).now ≡ (D.view repo.old).now }
-    ensures time { Rests (D.view repo.old) (D.view repo.new) }
-    ensures nodes { T.nodes tree.new ≡ T.nodes tree.old }
-    ensures repo_later { D.faults repo.old ≤ D.faults repo.new }
-    ensures tree_later { T.faults tree.old ≤ T.faults tree.new }
-    ensures cause { IfErr result (OpeningCause [] (Rises (D.faults repo.old) (D.faults repo.new)) (Rises (T.faults tree.old) (T.faults tree.new)) ⊥ ⊥) }
+    ensures places { OnOk result (((T.state tree.new).opened ≡ settings.now.pg1_path.now) × ((D.state repo.new).opened ≡ settings.now.repo1_path.now)) }
+    ensures now { (D.state repo.new).view.now ≡ (D.state repo.old).view.now }
+    ensures time { Rests (D.state repo.old).view (D.state repo.new).view }
+    ensures nodes { (T.state tree.new).nodes ≡ (T.state tree.old).nodes }
+    ensures repo_later { (D.state repo.old).faults ≤ (D.state repo.new).faults }
+    ensures tree_later { (T.state tree.old).faults ≤ (T.state tree.new).faults }
+    ensures cause { IfErr result (OpeningCause [] (Rises (D.state repo.old).faults (D.state repo.new).faults) (Rises (T.state tree.old).faults (T.state tree.new).faults) ⊥ ⊥) }
 {
     open_tree(tree, settings.pg1_path)?;
     prepare_repository(alloc, repo, settings)?;
@@ -122,19 +122,19 @@ pub(crate) fn prepare<D: Disk, T: Tree, K: Locks>(
     lock: &str,
 ) -> Result<(), Fault>
     requires { ¬ Contains (K.taken locks.old) lock.now }
-    ensures places { OnOk result ((T.place tree.new ≡ settings.now.pg1_path.now) × (D.place repo.new ≡ settings.now.repo1_path.now)) }
-    ensures begun { OnOk result ((q : Repository) (log : List Done) → KeepsRepository settings.now.stanza.now q log (D.view repo.old) → IsSome (D.view repo.old).now → IsBegun settings.now.stanza.now q log (D.view repo.new)) }
-    ensures now { (D.view repo.new).now ≡ (D.view repo.old).now }
-    ensures time { Rests (D.view repo.old) (D.view repo.new) }
-    ensures nodes { T.nodes tree.new ≡ T.nodes tree.old }
-    ensures repo_later { D.faults repo.old ≤ D.faults repo.new }
+    ensures places { OnOk result (((T.state tree.new).opened ≡ settings.now.pg1_path.now) × ((D.state repo.new).opened ≡ settings.now.repo1_path.now)) }
+    ensures begun { OnOk result ((q : Repository) (log : List Done) → KeepsRepository settings.now.stanza.now q log (D.state repo.old).view → IsSome (D.state repo.old).view.now → IsBegun settings.now.stanza.now q log (D.state repo.new).view) }
+    ensures now { (D.state repo.new).view.now ≡ (D.state repo.old).view.now }
+    ensures time { Rests (D.state repo.old).view (D.state repo.new).view }
+    ensures nodes { (T.state tree.new).nodes ≡ (T.state tree.old).nodes }
+    ensures repo_later { (D.state repo.old).faults ≤ (D.state repo.new).faults }
     ensures locked { OnOk result (IsLocked settings.now.lock_path.now lock.now (K.took locks.old) (K.took locks.new)) }
-    ensures only_locked { OnlyLocked settings.now.lock_path.now lock.now (K.took locks.old) (K.took locks.new) (D.view repo.old) (D.view repo.new) }
+    ensures only_locked { OnlyLocked settings.now.lock_path.now lock.now (K.took locks.old) (K.took locks.new) (D.state repo.old).view (D.state repo.new).view }
     ensures holds { MayHold lock.now (K.taken locks.old) (K.taken locks.new) }
-    ensures tree_later { T.faults tree.old ≤ T.faults tree.new }
+    ensures tree_later { (T.state tree.old).faults ≤ (T.state tree.new).faults }
     ensures locks_later { K.faults locks.old ≤ K.faults locks.new }
     ensures refusals_later { K.refusals locks.old ≤ K.refusals locks.new }
-    ensures cause { IfErr result (OpeningCause lock.now (Rises (D.faults repo.old) (D.faults repo.new)) (Rises (T.faults tree.old) (T.faults tree.new)) (Rises (K.faults locks.old) (K.faults locks.new)) (Rises (K.refusals locks.old) (K.refusals locks.new))) }
+    ensures cause { IfErr result (OpeningCause lock.now (Rises (D.state repo.old).faults (D.state repo.new).faults) (Rises (T.state tree.old).faults (T.state tree.new).faults) (Rises (K.faults locks.old) (K.faults locks.new)) (Rises (K.refusals locks.old) (K.refusals locks.new))) }
 {
     open_tree(tree, settings.pg1_path)?;
     open_repo(repo, settings.repo1_path)?;

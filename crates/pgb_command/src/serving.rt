@@ -64,10 +64,10 @@ fn write_and_rename<T: Tree>(
     bytes: &[u8],
 ) -> Result<(), Stop>
     requires { temporary.now ≡ temporary_path path.now }
-    ensures holds { OnOk result (IfSome (T.nodes tree.new) (IsPut path.now bytes.now)) }
-    ensures changes { ChangesPath path.now (λ b. b ≡ bytes.now) (T.nodes tree.old) (T.nodes tree.new) }
-    ensures place { T.place tree.new ≡ T.place tree.old }
-    ensures cause { HasCause (T.faults tree.old) (T.faults tree.new) result }
+    ensures holds { OnOk result (IfSome (T.state tree.new).nodes (IsPut path.now bytes.now)) }
+    ensures changes { ChangesPath path.now (λ b. b ≡ bytes.now) (T.state tree.old).nodes (T.state tree.new).nodes }
+    ensures place { (T.state tree.new).opened ≡ (T.state tree.old).opened }
+    ensures cause { HasCause (T.state tree.old).faults (T.state tree.new).faults result }
 {
     tree.begin(temporary)?;
     tree.append(temporary, bytes)?;
@@ -78,9 +78,9 @@ fn write_and_rename<T: Tree>(
 // Takes away a file that can't be used. Where that fails too, the first failure is told.
 fn give_up<T: Tree>(tree: &mut T, temporary: &str, fault: Fault) -> Fault
     ensures told { result ≡ fault }
-    ensures nodes { SameBut temporary.now (T.nodes tree.old) (T.nodes tree.new) }
-    ensures place { T.place tree.new ≡ T.place tree.old }
-    ensures later { T.faults tree.old ≤ T.faults tree.new }
+    ensures nodes { SameBut temporary.now (T.state tree.old).nodes (T.state tree.new).nodes }
+    ensures place { (T.state tree.new).opened ≡ (T.state tree.old).opened }
+    ensures later { (T.state tree.old).faults ≤ (T.state tree.new).faults }
 {
     let _left = tree.remove(temporary);
     fault
@@ -93,11 +93,11 @@ pub(crate) fn put_file<T: Tree>(
     path: &str,
     bytes: &[u8],
 ) -> Result<(), Fault>
-    ensures holds { OnOk result (IfSome (T.nodes tree.new) (IsPut path.now bytes.now)) }
-    ensures changes { ChangesPath path.now (λ b. b ≡ bytes.now) (T.nodes tree.old) (T.nodes tree.new) }
-    ensures place { T.place tree.new ≡ T.place tree.old }
-    ensures later { T.faults tree.old ≤ T.faults tree.new }
-    ensures cause { IfErr result (FolderCause (Rises (T.faults tree.old) (T.faults tree.new))) }
+    ensures holds { OnOk result (IfSome (T.state tree.new).nodes (IsPut path.now bytes.now)) }
+    ensures changes { ChangesPath path.now (λ b. b ≡ bytes.now) (T.state tree.old).nodes (T.state tree.new).nodes }
+    ensures place { (T.state tree.new).opened ≡ (T.state tree.old).opened }
+    ensures later { (T.state tree.old).faults ≤ (T.state tree.new).faults }
+    ensures cause { IfErr result (FolderCause (Rises (T.state tree.old).faults (T.state tree.new).faults)) }
 {
     let temporary = temporary_name(alloc, path)?;
     match write_and_rename(tree, &temporary, path, bytes) {
@@ -114,14 +114,14 @@ fn copy_new<D: Disk, T: Tree>(
     from: &str,
     name: &str,
 ) -> Result<Option<Copied>, Fault>
-    ensures copies { Copies result (D.view repo.old).now from.now name.now (T.nodes tree.old) (T.nodes tree.new) }
-    ensures cause { IfErr result (CopyCause (Rises (D.faults repo.old) (D.faults repo.new)) (Rises (T.faults tree.old) (T.faults tree.new))) }
-    ensures now { (D.view repo.new).now ≡ (D.view repo.old).now }
-    ensures time { Rests (D.view repo.old) (D.view repo.new) }
-    ensures repo_place { D.place repo.new ≡ D.place repo.old }
-    ensures tree_place { T.place tree.new ≡ T.place tree.old }
-    ensures repo_later { D.faults repo.old ≤ D.faults repo.new }
-    ensures tree_later { T.faults tree.old ≤ T.faults tree.new }
+    ensures copies { Copies result (D.state repo.old).view.now from.now name.now (T.state tree.old).nodes (T.state tree.new).nodes }
+    ensures cause { IfErr result (CopyCause (Rises (D.state repo.old).faults (D.state repo.new).faults) (Rises (T.state tree.old).faults (T.state tree.new).faults)) }
+    ensures now { (D.state repo.new).view.now ≡ (D.state repo.old).view.now }
+    ensures time { Rests (D.state repo.old).view (D.state repo.new).view }
+    ensures repo_place { (D.state repo.new).opened ≡ (D.state repo.old).opened }
+    ensures tree_place { (T.state tree.new).opened ≡ (T.state tree.old).opened }
+    ensures repo_later { (D.state repo.old).faults ≤ (D.state repo.new).faults }
+    ensures tree_later { (T.state tree.old).faults ≤ (T.state tree.new).faults }
 {
     match tree.begin_new(name) {
         Ok(true) => {}
@@ -183,15 +183,15 @@ pub(crate) fn pass_on<D: Disk, T: Tree>(
     sum: Sum,
     path: &str,
 ) -> Result<Passed, Fault>
-    ensures passes { Passes result (D.view repo.old).now (string_bytes from) sum.0 path.now (T.nodes tree.old) (T.nodes tree.new) }
-    ensures changes { ChangesPath path.now (HasBytes (D.view repo.old).now (string_bytes from) sum.0) (T.nodes tree.old) (T.nodes tree.new) }
-    ensures cause { IfErr result (PassCause (D.view repo.old).now (string_bytes from) sum.0 (Rises (D.faults repo.old) (D.faults repo.new)) (Rises (T.faults tree.old) (T.faults tree.new))) }
-    ensures now { (D.view repo.new).now ≡ (D.view repo.old).now }
-    ensures time { Rests (D.view repo.old) (D.view repo.new) }
-    ensures repo_place { D.place repo.new ≡ D.place repo.old }
-    ensures tree_place { T.place tree.new ≡ T.place tree.old }
-    ensures repo_later { D.faults repo.old ≤ D.faults repo.new }
-    ensures tree_later { T.faults tree.old ≤ T.faults tree.new }
+    ensures passes { Passes result (D.state repo.old).view.now (string_bytes from) sum.0 path.now (T.state tree.old).nodes (T.state tree.new).nodes }
+    ensures changes { ChangesPath path.now (HasBytes (D.state repo.old).view.now (string_bytes from) sum.0) (T.state tree.old).nodes (T.state tree.new).nodes }
+    ensures cause { IfErr result (PassCause (D.state repo.old).view.now (string_bytes from) sum.0 (Rises (D.state repo.old).faults (D.state repo.new).faults) (Rises (T.state tree.old).faults (T.state tree.new).faults)) }
+    ensures now { (D.state repo.new).view.now ≡ (D.state repo.old).view.now }
+    ensures time { Rests (D.state repo.old).view (D.state repo.new).view }
+    ensures repo_place { (D.state repo.new).opened ≡ (D.state repo.old).opened }
+    ensures tree_place { (T.state tree.new).opened ≡ (T.state tree.old).opened }
+    ensures repo_later { (D.state repo.old).faults ≤ (D.state repo.new).faults }
+    ensures tree_later { (T.state tree.old).faults ≤ (T.state tree.new).faults }
 {
     let temporary = temporary_name(alloc, path)?;
     let name = temporary.as_str();

@@ -52,20 +52,20 @@ fn perform<D: Disk, T: Tree, V: Wire, K: Locks>(
     requires free { ¬ Contains (K.taken locks.old) lock.now }
     requires name { lock.now ≡ writing_lock settings.now.stanza.now writing }
     requires asked { settings.now.request ≡ Write writing }
-    ensures part { PartDone (asked_of settings.now) (T.nodes tree.old) (D.view repo.old) (D.view repo.new) }
-    ensures done { OnOk result (AllDone (asked_of settings.now) (T.nodes tree.old) (D.view repo.old) (D.view repo.new)) }
-    ensures none { OnNothing result (NoneDone (asked_of settings.now) (D.view repo.old) (D.view repo.new)) }
-    ensures answered { AskedCause (asked_of settings.now) (D.view repo.old).now (T.nodes tree.old) (Rises (D.faults repo.old) (D.faults repo.new)) (Rises (T.faults tree.old) (T.faults tree.new)) (Rises (K.faults locks.old) (K.faults locks.new)) (Rises (K.refusals locks.old) (K.refusals locks.new)) (V.pending server.old) (Rises (V.faults server.old) (V.faults server.new)) (ending_of result) }
-    ensures places { OnOk result ((T.place tree.new ≡ settings.now.pg1_path.now) × (D.place repo.new ≡ settings.now.repo1_path.now)) }
-    ensures nodes { T.nodes tree.new ≡ T.nodes tree.old }
+    ensures part { PartDone (asked_of settings.now) (T.state tree.old).nodes (D.state repo.old).view (D.state repo.new).view }
+    ensures done { OnOk result (AllDone (asked_of settings.now) (T.state tree.old).nodes (D.state repo.old).view (D.state repo.new).view) }
+    ensures none { OnNothing result (NoneDone (asked_of settings.now) (D.state repo.old).view (D.state repo.new).view) }
+    ensures answered { AskedCause (asked_of settings.now) (D.state repo.old).view.now (T.state tree.old).nodes (Rises (D.state repo.old).faults (D.state repo.new).faults) (Rises (T.state tree.old).faults (T.state tree.new).faults) (Rises (K.faults locks.old) (K.faults locks.new)) (Rises (K.refusals locks.old) (K.refusals locks.new)) (V.pending server.old) (Rises (V.faults server.old) (V.faults server.new)) (ending_of result) }
+    ensures places { OnOk result (((T.state tree.new).opened ≡ settings.now.pg1_path.now) × ((D.state repo.new).opened ≡ settings.now.repo1_path.now)) }
+    ensures nodes { (T.state tree.new).nodes ≡ (T.state tree.old).nodes }
     ensures locked { OnOk result (IsLocked settings.now.lock_path.now lock.now (K.took locks.old) (K.took locks.new)) }
-    ensures only_locked { OnlyLocked settings.now.lock_path.now lock.now (K.took locks.old) (K.took locks.new) (D.view repo.old) (D.view repo.new) }
+    ensures only_locked { OnlyLocked settings.now.lock_path.now lock.now (K.took locks.old) (K.took locks.new) (D.state repo.old).view (D.state repo.new).view }
     ensures holds { MayHold lock.now (K.taken locks.old) (K.taken locks.new) }
     ensures quiet { settings.now.server ≡ None → server.new ≡ server.old }
-    ensures asks { OnOk result ((asked_of settings.now).request ≡ create → Agrees (asked_of settings.now).server (T.nodes tree.old) (V.pending server.old) × AsksServer (asked_of settings.now).server (V.place server.new) (V.sent server.old) (V.sent server.new)) }
+    ensures asks { OnOk result ((asked_of settings.now).request ≡ create → Agrees (asked_of settings.now).server (T.state tree.old).nodes (V.pending server.old) × AsksServer (asked_of settings.now).server (V.place server.new) (V.sent server.old) (V.sent server.new)) }
     ensures closed { IfErr result (λ e. Parts e (Rises (V.faults server.old) (V.faults server.new)) (V.sent server.old) (V.sent server.new)) }
-    ensures repo_later { D.faults repo.old ≤ D.faults repo.new }
-    ensures tree_later { T.faults tree.old ≤ T.faults tree.new }
+    ensures repo_later { (D.state repo.old).faults ≤ (D.state repo.new).faults }
+    ensures tree_later { (T.state tree.old).faults ≤ (T.state tree.new).faults }
     ensures locks_later { K.faults locks.old ≤ K.faults locks.new }
     ensures refusals_later { K.refusals locks.old ≤ K.refusals locks.new }
 {
@@ -102,20 +102,20 @@ fn write<D: Disk, T: Tree, V: Wire, K: Locks>(
 ) -> Result<Outcome, Fault>
     requires free { K.taken locks.old ≡ [] }
     requires asked { settings.now.request ≡ Write writing }
-    ensures part { PartDone (asked_of settings.now) (T.nodes tree.old) (D.view repo.old) (D.view repo.new) }
-    ensures done { OnOk result (AllDone (asked_of settings.now) (T.nodes tree.old) (D.view repo.old) (D.view repo.new)) }
-    ensures none { OnNothing result (NoneDone (asked_of settings.now) (D.view repo.old) (D.view repo.new)) }
-    ensures answered { AskedCause (asked_of settings.now) (D.view repo.old).now (T.nodes tree.old) (Rises (D.faults repo.old) (D.faults repo.new)) (Rises (T.faults tree.old) (T.faults tree.new)) (Rises (K.faults locks.old) (K.faults locks.new)) (Rises (K.refusals locks.old) (K.refusals locks.new)) (V.pending server.old) (Rises (V.faults server.old) (V.faults server.new)) (ending_of result) }
-    ensures places { OnOk result ((T.place tree.new ≡ settings.now.pg1_path.now) × (D.place repo.new ≡ settings.now.repo1_path.now)) }
-    ensures nodes { T.nodes tree.new ≡ T.nodes tree.old }
+    ensures part { PartDone (asked_of settings.now) (T.state tree.old).nodes (D.state repo.old).view (D.state repo.new).view }
+    ensures done { OnOk result (AllDone (asked_of settings.now) (T.state tree.old).nodes (D.state repo.old).view (D.state repo.new).view) }
+    ensures none { OnNothing result (NoneDone (asked_of settings.now) (D.state repo.old).view (D.state repo.new).view) }
+    ensures answered { AskedCause (asked_of settings.now) (D.state repo.old).view.now (T.state tree.old).nodes (Rises (D.state repo.old).faults (D.state repo.new).faults) (Rises (T.state tree.old).faults (T.state tree.new).faults) (Rises (K.faults locks.old) (K.faults locks.new)) (Rises (K.refusals locks.old) (K.refusals locks.new)) (V.pending server.old) (Rises (V.faults server.old) (V.faults server.new)) (ending_of result) }
+    ensures places { OnOk result (((T.state tree.new).opened ≡ settings.now.pg1_path.now) × ((D.state repo.new).opened ≡ settings.now.repo1_path.now)) }
+    ensures nodes { (T.state tree.new).nodes ≡ (T.state tree.old).nodes }
     ensures locked { OnOk result (IsLocked settings.now.lock_path.now (writing_lock settings.now.stanza.now writing.entry) (K.took locks.old) (K.took locks.new)) }
-    ensures only_locked { OnlyLocked settings.now.lock_path.now (writing_lock settings.now.stanza.now writing.entry) (K.took locks.old) (K.took locks.new) (D.view repo.old) (D.view repo.new) }
+    ensures only_locked { OnlyLocked settings.now.lock_path.now (writing_lock settings.now.stanza.now writing.entry) (K.took locks.old) (K.took locks.new) (D.state repo.old).view (D.state repo.new).view }
     ensures released { K.taken locks.new ≡ [] }
     ensures quiet { settings.now.server ≡ None → server.new ≡ server.old }
-    ensures asks { OnOk result ((asked_of settings.now).request ≡ create → Agrees (asked_of settings.now).server (T.nodes tree.old) (V.pending server.old) × AsksServer (asked_of settings.now).server (V.place server.new) (V.sent server.old) (V.sent server.new)) }
+    ensures asks { OnOk result ((asked_of settings.now).request ≡ create → Agrees (asked_of settings.now).server (T.state tree.old).nodes (V.pending server.old) × AsksServer (asked_of settings.now).server (V.place server.new) (V.sent server.old) (V.sent server.new)) }
     ensures closed { IfErr result (λ e. Parts e (Rises (V.faults server.old) (V.faults server.new)) (V.sent server.old) (V.sent server.new)) }
-    ensures repo_later { D.faults repo.old ≤ D.faults repo.new }
-    ensures tree_later { T.faults tree.old ≤ T.faults tree.new }
+    ensures repo_later { (D.state repo.old).faults ≤ (D.state repo.new).faults }
+    ensures tree_later { (T.state tree.old).faults ≤ (T.state tree.new).faults }
     ensures locks_later { K.faults locks.old ≤ K.faults locks.new }
     ensures refusals_later { K.refusals locks.old ≤ K.refusals locks.new }
 {
@@ -138,23 +138,23 @@ fn carry<D: Disk, T: Tree, V: Wire, K: Locks>(
     locks: &mut K,
 ) -> Result<Outcome, Fault>
     requires free { K.taken locks.old ≡ [] }
-    ensures part { PartDone (asked_of settings.now) (T.nodes tree.old) (D.view repo.old) (D.view repo.new) }
-    ensures done { OnOk result (AllDone (asked_of settings.now) (T.nodes tree.old) (D.view repo.old) (D.view repo.new)) }
-    ensures none { OnNothing result (NoneDone (asked_of settings.now) (D.view repo.old) (D.view repo.new)) }
-    ensures answered { AskedCause (asked_of settings.now) (D.view repo.old).now (T.nodes tree.old) (Rises (D.faults repo.old) (D.faults repo.new)) (Rises (T.faults tree.old) (T.faults tree.new)) (Rises (K.faults locks.old) (K.faults locks.new)) (Rises (K.refusals locks.old) (K.refusals locks.new)) (V.pending server.old) (Rises (V.faults server.old) (V.faults server.new)) (ending_of result) }
-    ensures served { ServedBy (ending_of result) (asked_of settings.now) (D.view repo.old).now (T.nodes tree.old) (T.nodes tree.new) }
-    ensures places { OnOk result (OpensFor (request_of settings.now.request) settings.now.pg1_path.now (T.place tree.new) × (D.place repo.new ≡ settings.now.repo1_path.now)) }
+    ensures part { PartDone (asked_of settings.now) (T.state tree.old).nodes (D.state repo.old).view (D.state repo.new).view }
+    ensures done { OnOk result (AllDone (asked_of settings.now) (T.state tree.old).nodes (D.state repo.old).view (D.state repo.new).view) }
+    ensures none { OnNothing result (NoneDone (asked_of settings.now) (D.state repo.old).view (D.state repo.new).view) }
+    ensures answered { AskedCause (asked_of settings.now) (D.state repo.old).view.now (T.state tree.old).nodes (Rises (D.state repo.old).faults (D.state repo.new).faults) (Rises (T.state tree.old).faults (T.state tree.new).faults) (Rises (K.faults locks.old) (K.faults locks.new)) (Rises (K.refusals locks.old) (K.refusals locks.new)) (V.pending server.old) (Rises (V.faults server.old) (V.faults server.new)) (ending_of result) }
+    ensures served { ServedBy (ending_of result) (asked_of settings.now) (D.state repo.old).view.now (T.state tree.old).nodes (T.state tree.new).nodes }
+    ensures places { OnOk result (OpensFor (request_of settings.now.request) settings.now.pg1_path.now (T.state tree.new).opened × ((D.state repo.new).opened ≡ settings.now.repo1_path.now)) }
     ensures unused { (form : OutputWord) → request_of settings.now.request ≡ report form → (tree.new ≡ tree.old) × (locks.new ≡ locks.old) }
-    ensures folder { FolderGoes settings.now.stanza.now settings.now.pg1_path.now (request_of settings.now.request) (D.view repo.old).now (T.nodes tree.old) (T.nodes tree.new) }
-    ensures nodes { OnNothing result (T.nodes tree.new ≡ T.nodes tree.old) }
+    ensures folder { FolderGoes settings.now.stanza.now settings.now.pg1_path.now (request_of settings.now.request) (D.state repo.old).view.now (T.state tree.old).nodes (T.state tree.new).nodes }
+    ensures nodes { OnNothing result ((T.state tree.new).nodes ≡ (T.state tree.old).nodes) }
     ensures locked { OnOk result (TakesLock settings.now.lock_path.now (lock_of (asked_of settings.now)) (K.took locks.old) (K.took locks.new)) }
-    ensures only_locked { OnlyUnderLock settings.now.lock_path.now (lock_of (asked_of settings.now)) (K.took locks.old) (K.took locks.new) (D.view repo.old) (D.view repo.new) }
+    ensures only_locked { OnlyUnderLock settings.now.lock_path.now (lock_of (asked_of settings.now)) (K.took locks.old) (K.took locks.new) (D.state repo.old).view (D.state repo.new).view }
     ensures released { K.taken locks.new ≡ [] }
     ensures quiet { settings.now.server ≡ None → server.new ≡ server.old }
-    ensures asks { OnOk result ((asked_of settings.now).request ≡ create → Agrees (asked_of settings.now).server (T.nodes tree.old) (V.pending server.old) × AsksServer (asked_of settings.now).server (V.place server.new) (V.sent server.old) (V.sent server.new)) }
+    ensures asks { OnOk result ((asked_of settings.now).request ≡ create → Agrees (asked_of settings.now).server (T.state tree.old).nodes (V.pending server.old) × AsksServer (asked_of settings.now).server (V.place server.new) (V.sent server.old) (V.sent server.new)) }
     ensures closed { IfErr result (λ e. Parts e (Rises (V.faults server.old) (V.faults server.new)) (V.sent server.old) (V.sent server.new)) }
-    ensures repo_later { D.faults repo.old ≤ D.faults repo.new }
-    ensures tree_later { T.faults tree.old ≤ T.faults tree.new }
+    ensures repo_later { (D.state repo.old).faults ≤ (D.state repo.new).faults }
+    ensures tree_later { (T.state tree.old).faults ≤ (T.state tree.new).faults }
     ensures locks_later { K.faults locks.old ≤ K.faults locks.new }
     ensures refusals_later { K.refusals locks.old ≤ K.refusals locks.new }
 {
@@ -176,21 +176,21 @@ fn serve<D: Disk, T: Tree, V: Wire, K: Locks, I: Source>(
     locks: &mut K,
 ) -> Served
     requires free { K.taken locks.old ≡ [] }
-    ensures part { (a : Asked) → Asks (map string_bytes words.now) (I.files config.old) a → PartDone a (T.nodes tree.old) (D.view repo.old) (D.view repo.new) }
-    ensures done { OnOk result.ending ((a : Asked) → Asks (map string_bytes words.now) (I.files config.old) a → AllDone a (T.nodes tree.old) (D.view repo.old) (D.view repo.new)) }
-    ensures none { OnNothing result.ending ((a : Asked) → Asks (map string_bytes words.now) (I.files config.old) a → NoneDone a (D.view repo.old) (D.view repo.new)) }
-    ensures answered { Cause (map string_bytes words.now) (I.files config.old) (D.view repo.old).now (T.nodes tree.old) (Rises (D.faults repo.old) (D.faults repo.new)) (Rises (T.faults tree.old) (T.faults tree.new)) (Rises (K.faults locks.old) (K.faults locks.new)) (Rises (K.refusals locks.old) (K.refusals locks.new)) (V.pending server.old) (Rises (V.faults server.old) (V.faults server.new)) (Rises (I.faults config.old) (I.faults config.new)) ⊥ (answer_of result) }
-    ensures served { (a : Asked) → Asks (map string_bytes words.now) (I.files config.old) a → ServedBy (ending_of result.ending) a (D.view repo.old).now (T.nodes tree.old) (T.nodes tree.new) }
+    ensures part { (a : Asked) → Asks (map string_bytes words.now) (I.files config.old) a → PartDone a (T.state tree.old).nodes (D.state repo.old).view (D.state repo.new).view }
+    ensures done { OnOk result.ending ((a : Asked) → Asks (map string_bytes words.now) (I.files config.old) a → AllDone a (T.state tree.old).nodes (D.state repo.old).view (D.state repo.new).view) }
+    ensures none { OnNothing result.ending ((a : Asked) → Asks (map string_bytes words.now) (I.files config.old) a → NoneDone a (D.state repo.old).view (D.state repo.new).view) }
+    ensures answered { Cause (map string_bytes words.now) (I.files config.old) (D.state repo.old).view.now (T.state tree.old).nodes (Rises (D.state repo.old).faults (D.state repo.new).faults) (Rises (T.state tree.old).faults (T.state tree.new).faults) (Rises (K.faults locks.old) (K.faults locks.new)) (Rises (K.refusals locks.old) (K.refusals locks.new)) (V.pending server.old) (Rises (V.faults server.old) (V.faults server.new)) (Rises (I.faults config.old) (I.faults config.new)) ⊥ (answer_of result) }
+    ensures served { (a : Asked) → Asks (map string_bytes words.now) (I.files config.old) a → ServedBy (ending_of result.ending) a (D.state repo.old).view.now (T.state tree.old).nodes (T.state tree.new).nodes }
     ensures unasked { ((a : Asked) → ¬ MayAsk (map string_bytes words.now) (I.files config.old) a) → (repo.new ≡ repo.old) × (tree.new ≡ tree.old) × (locks.new ≡ locks.old) }
-    ensures places { OnOk result.ending ((a : Asked) → Asks (map string_bytes words.now) (I.files config.old) a → OpensFor a.request a.data_folder (T.place tree.new) × (D.place repo.new ≡ a.repository)) }
+    ensures places { OnOk result.ending ((a : Asked) → Asks (map string_bytes words.now) (I.files config.old) a → OpensFor a.request a.data_folder (T.state tree.new).opened × ((D.state repo.new).opened ≡ a.repository)) }
     ensures unused { (a : Asked) → Asks (map string_bytes words.now) (I.files config.old) a → (form : OutputWord) → a.request ≡ report form → (tree.new ≡ tree.old) × (locks.new ≡ locks.old) }
     ensures locked { OnOk result.ending ((a : Asked) → Asks (map string_bytes words.now) (I.files config.old) a → TakesLock a.lock_folder (lock_of a) (K.took locks.old) (K.took locks.new)) }
-    ensures only_locked { (a : Asked) → Asks (map string_bytes words.now) (I.files config.old) a → OnlyUnderLock a.lock_folder (lock_of a) (K.took locks.old) (K.took locks.new) (D.view repo.old) (D.view repo.new) }
+    ensures only_locked { (a : Asked) → Asks (map string_bytes words.now) (I.files config.old) a → OnlyUnderLock a.lock_folder (lock_of a) (K.took locks.old) (K.took locks.new) (D.state repo.old).view (D.state repo.new).view }
     ensures released { K.taken locks.new ≡ [] }
-    ensures folder { (T.nodes tree.new ≡ T.nodes tree.old) ⊎ ((a : Asked) × MayAsk (map string_bytes words.now) (I.files config.old) a × FolderGoes a.stanza a.data_folder a.request (D.view repo.old).now (T.nodes tree.old) (T.nodes tree.new)) }
-    ensures nodes { OnNothing result.ending (T.nodes tree.new ≡ T.nodes tree.old) }
+    ensures folder { ((T.state tree.new).nodes ≡ (T.state tree.old).nodes) ⊎ ((a : Asked) × MayAsk (map string_bytes words.now) (I.files config.old) a × FolderGoes a.stanza a.data_folder a.request (D.state repo.old).view.now (T.state tree.old).nodes (T.state tree.new).nodes) }
+    ensures nodes { OnNothing result.ending ((T.state tree.new).nodes ≡ (T.state tree.old).nodes) }
     ensures quiet { ((a : Asked) → MayAsk (map string_bytes words.now) (I.files config.old) a → a.server ≡ None) → server.new ≡ server.old }
-    ensures asks { OnOk result.ending ((a : Asked) → Asks (map string_bytes words.now) (I.files config.old) a → a.request ≡ create → Agrees a.server (T.nodes tree.old) (V.pending server.old) × AsksServer a.server (V.place server.new) (V.sent server.old) (V.sent server.new)) }
+    ensures asks { OnOk result.ending ((a : Asked) → Asks (map string_bytes words.now) (I.files config.old) a → a.request ≡ create → Agrees a.server (T.state tree.old).nodes (V.pending server.old) × AsksServer a.server (V.place server.new) (V.sent server.old) (V.sent server.new)) }
     ensures closed { IfErr result.ending (λ e. Parts e (Rises (V.faults server.old) (V.faults server.new)) (V.sent server.old) (V.sent server.new)) }
     ensures files { I.files config.new ≡ I.files config.old }
 {
@@ -241,80 +241,80 @@ pub fn run<
     requires free { K.taken outside.old.locks ≡ [] }
 
     // At 0 all of the command's steps are done, and after every answer a part of them.
-    ensures done { result ≡ 0 → (a : Asked) → Asks (map string_bytes words.now) (I.files outside.old.config) a → (command : Command) → IsSomeAnd (T.nodes outside.old.tree) (λ f. IsCommandOf f a command)
-        → NowDoes a.stanza command true (D.view outside.old.repo).now (D.view outside.new.repo).now }
-    ensures part { (a : Asked) → Asks (map string_bytes words.now) (I.files outside.old.config) a → (command : Command) → IsSomeAnd (T.nodes outside.old.tree) (λ f. IsCommandOf f a command)
-        → NowDoes a.stanza command false (D.view outside.old.repo).now (D.view outside.new.repo).now }
+    ensures done { result ≡ 0 → (a : Asked) → Asks (map string_bytes words.now) (I.files outside.old.config) a → (command : Command) → IsSomeAnd (T.state outside.old.tree).nodes (λ f. IsCommandOf f a command)
+        → NowDoes a.stanza command true (D.state outside.old.repo).view.now (D.state outside.new.repo).view.now }
+    ensures part { (a : Asked) → Asks (map string_bytes words.now) (I.files outside.old.config) a → (command : Command) → IsSomeAnd (T.state outside.old.tree).nodes (λ f. IsCommandOf f a command)
+        → NowDoes a.stanza command false (D.state outside.old.repo).view.now (D.state outside.new.repo).view.now }
 
     // The same of all that a stop leaves. A disk that keeps a log keeps it with the command: all of it at 0, and a part after
     // every answer; and whatever a stop at any moment between leaves stands for the log with a part of the command.
-    ensures kept { result ≡ 0 → (a : Asked) → Asks (map string_bytes words.now) (I.files outside.old.config) a → (command : Command) → IsSomeAnd (T.nodes outside.old.tree) (λ f. IsCommandOf f a command)
-        → KeepsOn a.stanza command true (D.view outside.old.repo) (S.view outside.old.spool) (D.view outside.new.repo) (S.view outside.new.spool) }
-    ensures keeps { (a : Asked) → Asks (map string_bytes words.now) (I.files outside.old.config) a → (command : Command) → IsSomeAnd (T.nodes outside.old.tree) (λ f. IsCommandOf f a command)
-        → KeepsOn a.stanza command false (D.view outside.old.repo) (S.view outside.old.spool) (D.view outside.new.repo) (S.view outside.new.spool) }
-    ensures between { (a : Asked) → Asks (map string_bytes words.now) (I.files outside.old.config) a → (command : Command) → IsSomeAnd (T.nodes outside.old.tree) (λ f. IsCommandOf f a command)
-        → PassesOnly a.stanza command (D.view outside.old.repo) (D.view outside.new.repo) }
+    ensures kept { result ≡ 0 → (a : Asked) → Asks (map string_bytes words.now) (I.files outside.old.config) a → (command : Command) → IsSomeAnd (T.state outside.old.tree).nodes (λ f. IsCommandOf f a command)
+        → KeepsOn a.stanza command true (D.state outside.old.repo).view (S.state outside.old.spool).view (D.state outside.new.repo).view (S.state outside.new.spool).view }
+    ensures keeps { (a : Asked) → Asks (map string_bytes words.now) (I.files outside.old.config) a → (command : Command) → IsSomeAnd (T.state outside.old.tree).nodes (λ f. IsCommandOf f a command)
+        → KeepsOn a.stanza command false (D.state outside.old.repo).view (S.state outside.old.spool).view (D.state outside.new.repo).view (S.state outside.new.spool).view }
+    ensures between { (a : Asked) → Asks (map string_bytes words.now) (I.files outside.old.config) a → (command : Command) → IsSomeAnd (T.state outside.old.tree).nodes (λ f. IsCommandOf f a command)
+        → PassesOnly a.stanza command (D.state outside.old.repo).view (D.state outside.new.repo).view }
 
     // Words that ask for nothing do nothing.
     ensures unasked { ((a : Asked) → ¬ MayAsk (map string_bytes words.now) (I.files outside.old.config) a) → (outside.new.repo ≡ outside.old.repo) × (outside.new.tree ≡ outside.old.tree) × (outside.new.locks ≡ outside.old.locks) }
 
     // A refusal for what was found takes no step, nor does one for a connection to the server that failed; of stanza-create they change nothing at all.
-    ensures stays { IsEarly result → (a : Asked) → Asks (map string_bytes words.now) (I.files outside.old.config) a → NowDoes a.stanza Reading true (D.view outside.old.repo).now (D.view outside.new.repo).now
-        × KeepsOn a.stanza Reading true (D.view outside.old.repo) (S.view outside.old.spool) (D.view outside.new.repo) (S.view outside.new.spool) }
-    ensures refused { IsEarly result → (a : Asked) → Asks (map string_bytes words.now) (I.files outside.old.config) a → a.request ≡ create → (D.view outside.new.repo).now ≡ (D.view outside.old.repo).now }
+    ensures stays { IsEarly result → (a : Asked) → Asks (map string_bytes words.now) (I.files outside.old.config) a → NowDoes a.stanza Reading true (D.state outside.old.repo).view.now (D.state outside.new.repo).view.now
+        × KeepsOn a.stanza Reading true (D.state outside.old.repo).view (S.state outside.old.spool).view (D.state outside.new.repo).view (S.state outside.new.spool).view }
+    ensures refused { IsEarly result → (a : Asked) → Asks (map string_bytes words.now) (I.files outside.old.config) a → a.request ≡ create → (D.state outside.new.repo).view.now ≡ (D.state outside.old.repo).view.now }
 
     // At 0 archive-get has served the file of the repository.
     ensures served { result ≡ 0 → (a : Asked) → Asks (map string_bytes words.now) (I.files outside.old.config) a → (name path : Text) → a.request ≡ get name path
-        → Serves a.stanza a.data_folder name path (D.view outside.old.repo).now (T.nodes outside.old.tree) (T.nodes outside.new.tree) }
+        → Serves a.stanza a.data_folder name path (D.state outside.old.repo).view.now (T.state outside.old.tree).nodes (T.state outside.new.tree).nodes }
 
     // What is served is what the repository has archived; and where nothing is found it hasn't the file.
     ensures given { result ≡ 0 → (a : Asked) → Asks (map string_bytes words.now) (I.files outside.old.config) a → (name path : Text) → a.request ≡ get name path
-        → (s : Stanza) → IsSome (D.view outside.old.repo).now → NowStands a.stanza (Some s) (D.view outside.old.repo).now → ServesArchived s a.data_folder name path (T.nodes outside.old.tree) (T.nodes outside.new.tree) }
+        → (s : Stanza) → IsSome (D.state outside.old.repo).view.now → NowStands a.stanza (Some s) (D.state outside.old.repo).view.now → ServesArchived s a.data_folder name path (T.state outside.old.tree).nodes (T.state outside.new.tree).nodes }
     ensures lacking { result ≡ 1 → (a : Asked) → Asks (map string_bytes words.now) (I.files outside.old.config) a → (name path : Text) → a.request ≡ get name path
-        → (s : Stanza) → IsSome (D.view outside.old.repo).now → NowStands a.stanza (Some s) (D.view outside.old.repo).now → LacksArchived s a.data_folder name path (T.nodes outside.old.tree) }
+        → (s : Stanza) → IsSome (D.state outside.old.repo).view.now → NowStands a.stanza (Some s) (D.state outside.old.repo).view.now → LacksArchived s a.data_folder name path (T.state outside.old.tree).nodes }
 
     // At 0 of info the output ends with the report on the stanza.
     ensures reported { result ≡ 0 → (a : Asked) → Asks (map string_bytes words.now) (I.files outside.old.config) a → (form : OutputWord) → a.request ≡ report form
-        → (s : Stanza) → IsSome (D.view outside.old.repo).now → NowStands a.stanza (Some s) (D.view outside.old.repo).now
+        → (s : Stanza) → IsSome (D.state outside.old.repo).view.now → NowStands a.stanza (Some s) (D.state outside.old.repo).view.now
         → (unknown : List Text) × (lines : Text) × ReportsStanza form a.stanza s lines × (O.written outside.new.out ≡ option_map (λ text. text ++ lines_of (record { unknown = unknown; ending = finished lines })) (O.written outside.old.out)) }
 
     // At 0 the members of the pairs that the command heals agree, and all four info files of a new stanza are those of the cluster. The opened
     // places are those of the words.
-    ensures agrees { result ≡ 0 → (a : Asked) → Asks (map string_bytes words.now) (I.files outside.old.config) a → IsSome (D.view outside.old.repo).now → IfSome (D.view outside.new.repo).now (AreHealed a.request a.stanza) }
-    ensures members { result ≡ 0 → (a : Asked) → Asks (map string_bytes words.now) (I.files outside.old.config) a → a.request ≡ create → (c : Cluster) → IsSomeAnd (T.nodes outside.old.tree) (λ f. IsClusterOf f (Some c)) → IfSome (D.view outside.old.repo).now (LacksStanza a.stanza) → IsSome (D.view outside.old.repo).now
-        → IfSome (D.view outside.new.repo).now (HasNewPairs a.stanza c) }
-    ensures places { result ≡ 0 → (a : Asked) → Asks (map string_bytes words.now) (I.files outside.old.config) a → OpensFor a.request a.data_folder (T.place outside.new.tree) × (D.place outside.new.repo ≡ a.repository) }
+    ensures agrees { result ≡ 0 → (a : Asked) → Asks (map string_bytes words.now) (I.files outside.old.config) a → IsSome (D.state outside.old.repo).view.now → IfSome (D.state outside.new.repo).view.now (AreHealed a.request a.stanza) }
+    ensures members { result ≡ 0 → (a : Asked) → Asks (map string_bytes words.now) (I.files outside.old.config) a → a.request ≡ create → (c : Cluster) → IsSomeAnd (T.state outside.old.tree).nodes (λ f. IsClusterOf f (Some c)) → IfSome (D.state outside.old.repo).view.now (LacksStanza a.stanza) → IsSome (D.state outside.old.repo).view.now
+        → IfSome (D.state outside.new.repo).view.now (HasNewPairs a.stanza c) }
+    ensures places { result ≡ 0 → (a : Asked) → Asks (map string_bytes words.now) (I.files outside.old.config) a → OpensFor a.request a.data_folder (T.state outside.new.tree).opened × ((D.state outside.new.repo).opened ≡ a.repository) }
 
     // At 0 the command's lock was taken, and without it nothing is done. No lock is held afterwards.
     ensures locked { result ≡ 0 → (a : Asked) → Asks (map string_bytes words.now) (I.files outside.old.config) a → TakesLock a.lock_folder (lock_of a) (K.took outside.old.locks) (K.took outside.new.locks) }
-    ensures only_locked { (a : Asked) → Asks (map string_bytes words.now) (I.files outside.old.config) a → OnlyUnderLock a.lock_folder (lock_of a) (K.took outside.old.locks) (K.took outside.new.locks) (D.view outside.old.repo) (D.view outside.new.repo) }
+    ensures only_locked { (a : Asked) → Asks (map string_bytes words.now) (I.files outside.old.config) a → OnlyUnderLock a.lock_folder (lock_of a) (K.took outside.old.locks) (K.took outside.new.locks) (D.state outside.old.repo).view (D.state outside.new.repo).view }
     ensures released { K.taken outside.new.locks ≡ [] }
 
     // Each answer has its cause, and the output is the answer's. Where no cause of a refusal holds the answer is Ok, or want of memory.
     ensures answered { (answer : Answer) × (result ≡ status answer.ending)
-        × Cause (map string_bytes words.now) (I.files outside.old.config) (D.view outside.old.repo).now (T.nodes outside.old.tree)
-        (Rises (D.faults outside.old.repo) (D.faults outside.new.repo)) (Rises (T.faults outside.old.tree) (T.faults outside.new.tree)) (Rises (K.faults outside.old.locks) (K.faults outside.new.locks))
+        × Cause (map string_bytes words.now) (I.files outside.old.config) (D.state outside.old.repo).view.now (T.state outside.old.tree).nodes
+        (Rises (D.state outside.old.repo).faults (D.state outside.new.repo).faults) (Rises (T.state outside.old.tree).faults (T.state outside.new.tree).faults) (Rises (K.faults outside.old.locks) (K.faults outside.new.locks))
         (Rises (K.refusals outside.old.locks) (K.refusals outside.new.locks)) (V.pending outside.old.server) (Rises (V.faults outside.old.server) (V.faults outside.new.server)) (Rises (I.faults outside.old.config) (I.faults outside.new.config)) (Rises (O.faults outside.old.out) (O.faults outside.new.out)) answer
-        × Wrote (λ given. Cause (map string_bytes words.now) (I.files outside.old.config) (D.view outside.old.repo).now (T.nodes outside.old.tree)
-        (Rises (D.faults outside.old.repo) (D.faults outside.new.repo)) (Rises (T.faults outside.old.tree) (T.faults outside.new.tree)) (Rises (K.faults outside.old.locks) (K.faults outside.new.locks))
+        × Wrote (λ given. Cause (map string_bytes words.now) (I.files outside.old.config) (D.state outside.old.repo).view.now (T.state outside.old.tree).nodes
+        (Rises (D.state outside.old.repo).faults (D.state outside.new.repo).faults) (Rises (T.state outside.old.tree).faults (T.state outside.new.tree).faults) (Rises (K.faults outside.old.locks) (K.faults outside.new.locks))
         (Rises (K.refusals outside.old.locks) (K.refusals outside.new.locks)) (V.pending outside.old.server) (Rises (V.faults outside.old.server) (V.faults outside.new.server)) (Rises (I.faults outside.old.config) (I.faults outside.new.config)) (Rises (O.faults outside.old.out) (O.faults outside.new.out)) given)
         (O.written outside.old.out) answer (O.written outside.new.out) }
-    ensures complete { ((unknown : List Text) (ending : Ending) → status ending ≢ 0 → status ending ≢ 90 → ¬ Cause (map string_bytes words.now) (I.files outside.old.config) (D.view outside.old.repo).now (T.nodes outside.old.tree)
-        (Rises (D.faults outside.old.repo) (D.faults outside.new.repo)) (Rises (T.faults outside.old.tree) (T.faults outside.new.tree)) (Rises (K.faults outside.old.locks) (K.faults outside.new.locks))
+    ensures complete { ((unknown : List Text) (ending : Ending) → status ending ≢ 0 → status ending ≢ 90 → ¬ Cause (map string_bytes words.now) (I.files outside.old.config) (D.state outside.old.repo).view.now (T.state outside.old.tree).nodes
+        (Rises (D.state outside.old.repo).faults (D.state outside.new.repo).faults) (Rises (T.state outside.old.tree).faults (T.state outside.new.tree).faults) (Rises (K.faults outside.old.locks) (K.faults outside.new.locks))
         (Rises (K.refusals outside.old.locks) (K.refusals outside.new.locks)) (V.pending outside.old.server) (Rises (V.faults outside.old.server) (V.faults outside.new.server)) (Rises (I.faults outside.old.config) (I.faults outside.new.config)) (Rises (O.faults outside.old.out) (O.faults outside.new.out)) (record { unknown = unknown; ending = ending }))
         → (result ≡ 0) ⊎ (result ≡ 90) }
 
     // At 0 of an online stanza-create the server, asked at its socket, told the data folder's system. A command that asks no server leaves it as it was.
     ensures agreed { result ≡ 0 → (a : Asked) → Asks (map string_bytes words.now) (I.files outside.old.config) a → a.request ≡ create
-        → Agrees a.server (T.nodes outside.old.tree) (V.pending outside.old.server) × AsksServer a.server (V.place outside.new.server) (V.sent outside.old.server) (V.sent outside.new.server) }
+        → Agrees a.server (T.state outside.old.tree).nodes (V.pending outside.old.server) × AsksServer a.server (V.place outside.new.server) (V.sent outside.old.server) (V.sent outside.new.server) }
     ensures quiet { ((a : Asked) → MayAsk (map string_bytes words.now) (I.files outside.old.config) a → a.server ≡ None) → outside.new.server ≡ outside.old.server }
 
     // After a server's answer that is refused the last that was said to it is the end, unless the connection failed. At 70 a file may have been too long, and then nothing was said.
     ensures closed { IsServerRefusal result → Ended (V.sent outside.new.server) ⊎ (Rises (V.faults outside.old.server) (V.faults outside.new.server) ⊎ ((result ≡ 70) × (V.sent outside.new.server ≡ V.sent outside.old.server))) }
 
     // What the command doesn't use stays, and the configuration with it; and so does the data folder, but for a file that is served.
-    ensures folder { (T.nodes outside.new.tree ≡ T.nodes outside.old.tree) ⊎ ((a : Asked) × MayAsk (map string_bytes words.now) (I.files outside.old.config) a × FolderGoes a.stanza a.data_folder a.request (D.view outside.old.repo).now (T.nodes outside.old.tree) (T.nodes outside.new.tree)) }
-    ensures nodes { IsEarly result → T.nodes outside.new.tree ≡ T.nodes outside.old.tree }
+    ensures folder { ((T.state outside.new.tree).nodes ≡ (T.state outside.old.tree).nodes) ⊎ ((a : Asked) × MayAsk (map string_bytes words.now) (I.files outside.old.config) a × FolderGoes a.stanza a.data_folder a.request (D.state outside.old.repo).view.now (T.state outside.old.tree).nodes (T.state outside.new.tree).nodes) }
+    ensures nodes { IsEarly result → (T.state outside.new.tree).nodes ≡ (T.state outside.old.tree).nodes }
     ensures unused { (a : Asked) → Asks (map string_bytes words.now) (I.files outside.old.config) a → (form : OutputWord) → a.request ≡ report form → (outside.new.tree ≡ outside.old.tree) × (outside.new.locks ≡ outside.old.locks) }
     ensures files { I.files outside.new.config ≡ I.files outside.old.config }
     ensures untouched { outside.new ≡ record outside.old { repo = outside.new.repo; tree = outside.new.tree; server = outside.new.server; locks = outside.new.locks; config = outside.new.config; out = outside.new.out } }

@@ -1,6 +1,7 @@
 // All that lies below a folder is taken away.
 ghost use Rattle.std.specs.Prelude.{◌≡◌, ◌≤◌, ℕ, List, Bool, Option, None, true, false, nat_eq, option_map, IfErr, OnOk, IsErrOf, IsTrue, All, string_bytes};
 ghost use Rattle.std.specs.List.{starts_with};
+ghost use Rattle.pgb_outside.specs.States.{Works};
 ghost use Rattle.pgb_outside.specs.Content.{Name, Value, Content, is_below};
 ghost use Rattle.pgb_outside.specs.Moments.{Goes, MayKeep, is_loose};
 ghost use Rattle.pgb_outside.specs.Cause.{Rises};
@@ -13,14 +14,11 @@ use std::alloc::Global;
 
 /// Removes every name below the folder and settles it, so that a crash leaves none of them, unless it is loose.
 pub fn drop_folder<D: Disk>(alloc: Global, d: &mut D, folder: &str) -> Result<(), StoreFault>
-    ensures now { OnOk result ((D.view d.new).now ≡ option_map (without folder.now) (D.view d.old).now) }
-    ensures drops { Drops (is_below folder.now) (D.view d.old).now (D.view d.new).now }
-    ensures settled { OnOk result ((n : Name) (v : Value) → IsTrue (is_below folder.now n) → is_loose (D.view d.old) n ≡ false → MayKeep (D.view d.new) n v → v ≡ None) }
-    ensures time { Goes (λ n v. IsTrue (is_below folder.now n) × (v ≡ None)) (λ _. ⊥) (D.view d.old) (D.view d.new) }
-    ensures place { D.place d.new ≡ D.place d.old }
-    ensures proper { D.misuses d.new ≡ D.misuses d.old }
-    ensures later { D.faults d.old ≤ D.faults d.new }
-    ensures cause { IsErrOf result StoreFault.Disk → Rises (D.faults d.old) (D.faults d.new) }
+    ensures now { OnOk result ((D.state d.new).view.now ≡ option_map (without folder.now) (D.state d.old).view.now) }
+    ensures drops { Drops (is_below folder.now) (D.state d.old).view.now (D.state d.new).view.now }
+    ensures settled { OnOk result ((n : Name) (v : Value) → IsTrue (is_below folder.now n) → is_loose (D.state d.old).view n ≡ false → MayKeep (D.state d.new).view n v → v ≡ None) }
+    ensures works { Works (λ n v. IsTrue (is_below folder.now n) × (v ≡ None)) (λ _. ⊥) (D.state d.old) (D.state d.new) }
+    ensures cause { IsErrOf result StoreFault.Disk → Rises (D.state d.old).faults (D.state d.new).faults }
     ensures refusals { IfErr result IsStop }
 {
     remove_below(alloc, d, folder)?;
@@ -30,13 +28,10 @@ pub fn drop_folder<D: Disk>(alloc: Global, d: &mut D, folder: &str) -> Result<()
 
 // Removes every name below the folder.
 fn remove_below<D: Disk>(alloc: Global, d: &mut D, folder: &str) -> Result<(), StoreFault>
-    ensures now { OnOk result ((D.view d.new).now ≡ option_map (without folder.now) (D.view d.old).now) }
-    ensures drops { Drops (is_below folder.now) (D.view d.old).now (D.view d.new).now }
-    ensures time { Goes (λ n v. IsTrue (is_below folder.now n) × (v ≡ None)) (λ _. ⊥) (D.view d.old) (D.view d.new) }
-    ensures place { D.place d.new ≡ D.place d.old }
-    ensures proper { D.misuses d.new ≡ D.misuses d.old }
-    ensures later { D.faults d.old ≤ D.faults d.new }
-    ensures cause { IsErrOf result StoreFault.Disk → Rises (D.faults d.old) (D.faults d.new) }
+    ensures now { OnOk result ((D.state d.new).view.now ≡ option_map (without folder.now) (D.state d.old).view.now) }
+    ensures drops { Drops (is_below folder.now) (D.state d.old).view.now (D.state d.new).view.now }
+    ensures works { Works (λ n v. IsTrue (is_below folder.now n) × (v ≡ None)) (λ _. ⊥) (D.state d.old) (D.state d.new) }
+    ensures cause { IsErrOf result StoreFault.Disk → Rises (D.state d.old).faults (D.state d.new).faults }
     ensures refusals { IfErr result IsStop }
 {
     let front = format!(in alloc; "{folder}/")?;
@@ -46,13 +41,10 @@ fn remove_below<D: Disk>(alloc: Global, d: &mut D, folder: &str) -> Result<(), S
 
 // Removes the names that have this in front: a disk that doesn't tell what it holds may list others.
 fn remove_each<D: Disk>(d: &mut D, found: &[Found], front: &str) -> Result<(), StoreFault>
-    ensures gone { OnOk result (All (λ x. starts_with nat_eq (string_bytes x.name) front.now ≡ true → IsAbsent (D.view d.new).now (string_bytes x.name)) found.now) }
-    ensures drops { Drops (λ n. starts_with nat_eq n front.now) (D.view d.old).now (D.view d.new).now }
-    ensures time { Goes (λ n v. IsTrue (starts_with nat_eq n front.now) × (v ≡ None)) (λ _. ⊥) (D.view d.old) (D.view d.new) }
-    ensures place { D.place d.new ≡ D.place d.old }
-    ensures proper { D.misuses d.new ≡ D.misuses d.old }
-    ensures later { D.faults d.old ≤ D.faults d.new }
-    ensures cause { IsErrOf result StoreFault.Disk → Rises (D.faults d.old) (D.faults d.new) }
+    ensures gone { OnOk result (All (λ x. starts_with nat_eq (string_bytes x.name) front.now ≡ true → IsAbsent (D.state d.new).view.now (string_bytes x.name)) found.now) }
+    ensures drops { Drops (λ n. starts_with nat_eq n front.now) (D.state d.old).view.now (D.state d.new).view.now }
+    ensures works { Works (λ n v. IsTrue (starts_with nat_eq n front.now) × (v ≡ None)) (λ _. ⊥) (D.state d.old) (D.state d.new) }
+    ensures cause { IsErrOf result StoreFault.Disk → Rises (D.state d.old).faults (D.state d.new).faults }
     ensures refusals { IfErr result IsStop }
 {
     for each in found {

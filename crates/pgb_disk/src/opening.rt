@@ -1,5 +1,6 @@
 // What is settled before a command looks at a stanza.
 ghost use Rattle.std.specs.Prelude.{◌≡◌, ◌≤◌, ℕ, List, Option, false, IfErr, OnOk, IsErrOf, IsSome, IsTrue};
+ghost use Rattle.pgb_outside.specs.States.{Looks};
 ghost use Rattle.pgb_outside.specs.Content.{Name, Value, Content, Holds};
 ghost use Rattle.pgb_outside.specs.Moments.{Rests, MayKeep, is_loose};
 ghost use Rattle.pgb_outside.specs.Cause.{Rises};
@@ -16,14 +17,10 @@ use std::alloc::Global;
 /// Settles the stanza's folders, so that a crash leaves what each name there holds, unless it is loose. Where the disk keeps a
 /// log, all that a crash then leaves stands for what the disk stands for.
 pub fn begin<D: Disk>(alloc: Global, d: &mut D, stanza: &str) -> Result<(), StoreFault>
-    ensures begun { OnOk result ((q : Repository) (log : List Done) → KeepsRepository stanza.now q log (D.view d.old) → IsSome (D.view d.old).now → IsBegun stanza.now q log (D.view d.new)) }
-    ensures now { (D.view d.new).now ≡ (D.view d.old).now }
-    ensures settled { OnOk result ((n : Name) (v : Value) → IsTrue (is_of_stanza stanza.now n) → is_loose (D.view d.old) n ≡ false → MayKeep (D.view d.new) n v → Holds (D.view d.old).now n v) }
-    ensures time { Rests (D.view d.old) (D.view d.new) }
-    ensures place { D.place d.new ≡ D.place d.old }
-    ensures proper { D.misuses d.new ≡ D.misuses d.old }
-    ensures later { D.faults d.old ≤ D.faults d.new }
-    ensures cause { IsErrOf result StoreFault.Disk → Rises (D.faults d.old) (D.faults d.new) }
+    ensures begun { OnOk result ((q : Repository) (log : List Done) → KeepsRepository stanza.now q log (D.state d.old).view → IsSome (D.state d.old).view.now → IsBegun stanza.now q log (D.state d.new).view) }
+    ensures looks { Looks (D.state d.old) (D.state d.new) }
+    ensures settled { OnOk result ((n : Name) (v : Value) → IsTrue (is_of_stanza stanza.now n) → is_loose (D.state d.old).view n ≡ false → MayKeep (D.state d.new).view n v → Holds (D.state d.old).view.now n v) }
+    ensures cause { IsErrOf result StoreFault.Disk → Rises (D.state d.old).faults (D.state d.new).faults }
     ensures refusals { IfErr result IsStop }
 {
     settle_folders(alloc, d, stanza)?;
@@ -32,13 +29,9 @@ pub fn begin<D: Disk>(alloc: Global, d: &mut D, stanza: &str) -> Result<(), Stor
 
 // Settles the two folders.
 fn settle_folders<D: Disk>(alloc: Global, d: &mut D, stanza: &str) -> Result<(), StoreFault>
-    ensures now { (D.view d.new).now ≡ (D.view d.old).now }
-    ensures settled { OnOk result ((n : Name) (v : Value) → IsTrue (is_of_stanza stanza.now n) → is_loose (D.view d.old) n ≡ false → MayKeep (D.view d.new) n v → Holds (D.view d.old).now n v) }
-    ensures time { Rests (D.view d.old) (D.view d.new) }
-    ensures place { D.place d.new ≡ D.place d.old }
-    ensures proper { D.misuses d.new ≡ D.misuses d.old }
-    ensures later { D.faults d.old ≤ D.faults d.new }
-    ensures cause { IsErrOf result StoreFault.Disk → Rises (D.faults d.old) (D.faults d.new) }
+    ensures looks { Looks (D.state d.old) (D.state d.new) }
+    ensures settled { OnOk result ((n : Name) (v : Value) → IsTrue (is_of_stanza stanza.now n) → is_loose (D.state d.old).view n ≡ false → MayKeep (D.state d.new).view n v → Holds (D.state d.old).view.now n v) }
+    ensures cause { IsErrOf result StoreFault.Disk → Rises (D.state d.old).faults (D.state d.new).faults }
     ensures refusals { IfErr result IsStop }
 {
     let archive = format!(in alloc; "archive/{stanza}")?;

@@ -1,5 +1,6 @@
 // Staged bytes that are given a name.
 ghost use Rattle.std.specs.Prelude.{◌≡◌, ◌≢◌, ◌⊎◌, ◌≤◌, ℕ, List, Option, None, false, IfErr, OnOk, IsErrOf, IsTrue};
+ghost use Rattle.pgb_outside.specs.States.{Works};
 ghost use Rattle.pgb_outside.specs.Content.{Name, Value, Content, moved, is_below, Holds, IsThere, Changes};
 ghost use Rattle.pgb_outside.specs.Moments.{Goes, MayKeep, is_loose};
 ghost use Rattle.pgb_outside.specs.Cause.{Rises};
@@ -15,15 +16,12 @@ use pgb_outside::Disk;
 pub fn publish<D: Disk>(d: &mut D, staged: Staged, name: &str) -> Result<(), StoreFault>
     requires folder { (folder : Name) × LiesIn folder (staged_name staged) × LiesIn folder name.now }
     requires other { staged_name staged ≢ name.now }
-    requires synced { is_loose (D.view d.old) (staged_name staged) ≡ false }
-    requires there { IsThere (D.view d.old).now (staged_name staged) }
-    ensures now { Changes result (moved (staged_name staged) name.now) (D.view d.old).now (D.view d.new).now }
-    ensures published { OnOk result (is_loose (D.view d.old) name.now ≡ false → (v : Value) → MayKeep (D.view d.new) name.now v → Holds (D.view d.old).now (staged_name staged) v) }
-    ensures time { Goes (λ n v. ((n ≡ name.now) × Holds (D.view d.old).now (staged_name staged) v) ⊎ ((n ≡ staged_name staged) × (v ≡ None))) (λ _. ⊥) (D.view d.old) (D.view d.new) }
-    ensures place { D.place d.new ≡ D.place d.old }
-    ensures proper { D.misuses d.new ≡ D.misuses d.old }
-    ensures later { D.faults d.old ≤ D.faults d.new }
-    ensures cause { IsErrOf result StoreFault.Disk → Rises (D.faults d.old) (D.faults d.new) }
+    requires synced { is_loose (D.state d.old).view (staged_name staged) ≡ false }
+    requires there { IsThere (D.state d.old).view.now (staged_name staged) }
+    ensures now { Changes result (moved (staged_name staged) name.now) (D.state d.old).view.now (D.state d.new).view.now }
+    ensures published { OnOk result (is_loose (D.state d.old).view name.now ≡ false → (v : Value) → MayKeep (D.state d.new).view name.now v → Holds (D.state d.old).view.now (staged_name staged) v) }
+    ensures works { Works (λ n v. ((n ≡ name.now) × Holds (D.state d.old).view.now (staged_name staged) v) ⊎ ((n ≡ staged_name staged) × (v ≡ None))) (λ _. ⊥) (D.state d.old) (D.state d.new) }
+    ensures cause { IsErrOf result StoreFault.Disk → Rises (D.state d.old).faults (D.state d.new).faults }
     ensures refusals { IfErr result IsStop }
 {
     let folder = folder_of(name);
@@ -45,15 +43,12 @@ fn folder_of(name: &str) -> &str
 fn publish_in<D: Disk>(d: &mut D, from: &str, name: &str, folder: &str) -> Result<(), StoreFault>
     requires below { IsTrue (is_below folder.now name.now) }
     requires other { from.now ≢ name.now }
-    requires synced { is_loose (D.view d.old) from.now ≡ false }
-    requires there { IsThere (D.view d.old).now from.now }
-    ensures now { Changes result (moved from.now name.now) (D.view d.old).now (D.view d.new).now }
-    ensures published { OnOk result (is_loose (D.view d.old) name.now ≡ false → (v : Value) → MayKeep (D.view d.new) name.now v → Holds (D.view d.old).now from.now v) }
-    ensures time { Goes (λ n v. ((n ≡ name.now) × Holds (D.view d.old).now from.now v) ⊎ ((n ≡ from.now) × (v ≡ None))) (λ _. ⊥) (D.view d.old) (D.view d.new) }
-    ensures place { D.place d.new ≡ D.place d.old }
-    ensures proper { D.misuses d.new ≡ D.misuses d.old }
-    ensures later { D.faults d.old ≤ D.faults d.new }
-    ensures cause { IsErrOf result StoreFault.Disk → Rises (D.faults d.old) (D.faults d.new) }
+    requires synced { is_loose (D.state d.old).view from.now ≡ false }
+    requires there { IsThere (D.state d.old).view.now from.now }
+    ensures now { Changes result (moved from.now name.now) (D.state d.old).view.now (D.state d.new).view.now }
+    ensures published { OnOk result (is_loose (D.state d.old).view name.now ≡ false → (v : Value) → MayKeep (D.state d.new).view name.now v → Holds (D.state d.old).view.now from.now v) }
+    ensures works { Works (λ n v. ((n ≡ name.now) × Holds (D.state d.old).view.now from.now v) ⊎ ((n ≡ from.now) × (v ≡ None))) (λ _. ⊥) (D.state d.old) (D.state d.new) }
+    ensures cause { IsErrOf result StoreFault.Disk → Rises (D.state d.old).faults (D.state d.new).faults }
     ensures refusals { IfErr result IsStop }
 {
     d.rename(from, name)?;

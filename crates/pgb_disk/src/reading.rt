@@ -1,6 +1,7 @@
 // All the bytes of a name.
 ghost use Rattle.std.specs.Prelude.{◌≡◌, ◌≤◌, ◌<◌, ℕ, List, Option, option_map, IfOk, IfErr, IsErrOf, IfSome, IsSomeAnd, Vec, length};
 ghost use Rattle.std.specs.declared.alloc.Global.{Global};
+ghost use Rattle.pgb_outside.specs.States.{Looks};
 ghost use Rattle.pgb_outside.specs.Content.{Name, Value, Content};
 ghost use Rattle.pgb_outside.specs.Moments.{Rests};
 ghost use Rattle.pgb_outside.specs.Cause.{Rises};
@@ -17,16 +18,12 @@ pub fn read_whole<D: Disk>(
     name: &str,
     limit: u64,
 ) -> Result<Option<Vec<u8>>, StoreFault>
-    ensures bytes { IfOk result (λ r. IfSome (D.view d.old).now (λ f. (option_map (λ (v : Vec ℕ Global). v.items) r ≡ f name.now) × IfSome (f name.now) (λ b. length b ≤ limit))) }
+    ensures bytes { IfOk result (λ r. IfSome (D.state d.old).view.now (λ f. (option_map (λ (v : Vec ℕ Global). v.items) r ≡ f name.now) × IfSome (f name.now) (λ b. length b ≤ limit))) }
     ensures within { IfOk result (λ r. IfSome r (λ v. length v.items ≤ limit)) }
     ensures named { IfErr result (λ e. IfTooLong e (λ n l. (n ≡ name.now) × (l ≡ limit))) }
-    ensures too_long { IfErr result (λ e. IfTooLong e (λ _ _. IfSome (D.view d.old).now (λ f. IsSomeAnd (f name.now) (λ b. limit < length b)))) }
-    ensures now { (D.view d.new).now ≡ (D.view d.old).now }
-    ensures time { Rests (D.view d.old) (D.view d.new) }
-    ensures place { D.place d.new ≡ D.place d.old }
-    ensures proper { D.misuses d.new ≡ D.misuses d.old }
-    ensures later { D.faults d.old ≤ D.faults d.new }
-    ensures cause { IsErrOf result StoreFault.Disk → Rises (D.faults d.old) (D.faults d.new) }
+    ensures too_long { IfErr result (λ e. IfTooLong e (λ _ _. IfSome (D.state d.old).view.now (λ f. IsSomeAnd (f name.now) (λ b. limit < length b)))) }
+    ensures looks { Looks (D.state d.old) (D.state d.new) }
+    ensures cause { IsErrOf result StoreFault.Disk → Rises (D.state d.old).faults (D.state d.new).faults }
 {
     let mut bytes = Vec::new(alloc);
     let mut buf = [0u8; 32768];

@@ -1,5 +1,6 @@
 // Bytes that are kept at two names.
 ghost use Rattle.std.specs.Prelude.{◌≡◌, ◌≤◌, [], ◌∷◌, ℕ, List, Option, false, IfErr, OnOk, IsErrOf};
+ghost use Rattle.pgb_outside.specs.States.{Frame};
 ghost use Rattle.pgb_outside.specs.Content.{Name, Value, Content};
 ghost use Rattle.pgb_outside.specs.Moments.{is_loose};
 ghost use Rattle.pgb_outside.specs.Crash.{IsTemporary, Crash, Ends, NowGoes, FirstOf, AllOf};
@@ -26,14 +27,12 @@ pub fn save_both<D: Disk>(
     requires temporary { IsTemporary temp.now }
     requires main_lasts { ¬ IsTemporary main.now }
     requires copy_lasts { ¬ IsTemporary copy.now }
-    ensures crash { is_loose (D.view d.old) main.now ≡ false → is_loose (D.view d.old) copy.now ≡ false → Crash (FirstOf ((main.now, bytes.now) ∷ (copy.now, bytes.now) ∷ [])) (D.view d.old) (D.view d.new) }
-    ensures whole { OnOk result (is_loose (D.view d.old) main.now ≡ false → is_loose (D.view d.old) copy.now ≡ false → Ends (AllOf ((main.now, bytes.now) ∷ (copy.now, bytes.now) ∷ [])) (D.view d.old) (D.view d.new)) }
-    ensures now_part { NowGoes (FirstOf ((main.now, bytes.now) ∷ (copy.now, bytes.now) ∷ [])) (D.view d.old).now (D.view d.new).now }
-    ensures now_whole { OnOk result (NowGoes (AllOf ((main.now, bytes.now) ∷ (copy.now, bytes.now) ∷ [])) (D.view d.old).now (D.view d.new).now) }
-    ensures place { D.place d.new ≡ D.place d.old }
-    ensures proper { D.misuses d.new ≡ D.misuses d.old }
-    ensures later { D.faults d.old ≤ D.faults d.new }
-    ensures cause { IsErrOf result StoreFault.Disk → Rises (D.faults d.old) (D.faults d.new) }
+    ensures crash { is_loose (D.state d.old).view main.now ≡ false → is_loose (D.state d.old).view copy.now ≡ false → Crash (FirstOf ((main.now, bytes.now) ∷ (copy.now, bytes.now) ∷ [])) (D.state d.old).view (D.state d.new).view }
+    ensures whole { OnOk result (is_loose (D.state d.old).view main.now ≡ false → is_loose (D.state d.old).view copy.now ≡ false → Ends (AllOf ((main.now, bytes.now) ∷ (copy.now, bytes.now) ∷ [])) (D.state d.old).view (D.state d.new).view) }
+    ensures now_part { NowGoes (FirstOf ((main.now, bytes.now) ∷ (copy.now, bytes.now) ∷ [])) (D.state d.old).view.now (D.state d.new).view.now }
+    ensures now_whole { OnOk result (NowGoes (AllOf ((main.now, bytes.now) ∷ (copy.now, bytes.now) ∷ [])) (D.state d.old).view.now (D.state d.new).view.now) }
+    ensures frame { Frame (D.state d.old) (D.state d.new) }
+    ensures cause { IsErrOf result StoreFault.Disk → Rises (D.state d.old).faults (D.state d.new).faults }
     ensures refusals { IfErr result IsStop }
 {
     replace(alloc, d, temp, main, bytes)?;

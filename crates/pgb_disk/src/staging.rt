@@ -1,5 +1,6 @@
 // Bytes that are put at a name of their own, before another name takes them.
 ghost use Rattle.std.specs.Prelude.{◌≡◌, ◌≤◌, ◌<◌, ◌+◌, ◌^◌, ℕ, List, [], Option, Some, false, length, option_map, IfOk, IfErr, OnOk, IsErrOf};
+ghost use Rattle.pgb_outside.specs.States.{Works};
 ghost use Rattle.pgb_outside.specs.Content.{Name, Value, Content, put, Appends, Holds, IsThere, SameBut};
 ghost use Rattle.pgb_outside.specs.Moments.{Goes, is_loose};
 ghost use Rattle.pgb_outside.specs.Cause.{Rises};
@@ -50,14 +51,11 @@ impl Staging {
 pub fn start_stage<D: Disk>(alloc: Global, d: &mut D, name: &str) -> Result<Staging, StoreFault>
     ensures name { IfOk result (λ staging. staging_name staging ≡ name.now) }
     ensures length { IfOk result (λ staging. staging_length staging ≡ 0) }
-    ensures now { OnOk result ((D.view d.new).now ≡ option_map (put name.now (Some [])) (D.view d.old).now) }
-    ensures holds { OnOk result (HasLength (D.view d.new).now name.now 0) }
-    ensures others { SameBut name.now (D.view d.old).now (D.view d.new).now }
-    ensures time { Goes (λ _ _. ⊥) (λ n. n ≡ name.now) (D.view d.old) (D.view d.new) }
-    ensures place { D.place d.new ≡ D.place d.old }
-    ensures proper { D.misuses d.new ≡ D.misuses d.old }
-    ensures later { D.faults d.old ≤ D.faults d.new }
-    ensures cause { IsErrOf result StoreFault.Disk → Rises (D.faults d.old) (D.faults d.new) }
+    ensures now { OnOk result ((D.state d.new).view.now ≡ option_map (put name.now (Some [])) (D.state d.old).view.now) }
+    ensures holds { OnOk result (HasLength (D.state d.new).view.now name.now 0) }
+    ensures others { SameBut name.now (D.state d.old).view.now (D.state d.new).view.now }
+    ensures works { Works (λ _ _. ⊥) (λ n. n ≡ name.now) (D.state d.old) (D.state d.new) }
+    ensures cause { IsErrOf result StoreFault.Disk → Rises (D.state d.old).faults (D.state d.new).faults }
     ensures refusals { IfErr result IsStop }
 {
     let kept_name = String::from_str(alloc, name)?;
@@ -70,18 +68,15 @@ pub fn start_stage<D: Disk>(alloc: Global, d: &mut D, name: &str) -> Result<Stag
 
 /// Adds bytes at the end of what was put there. After a refusal the name may hold a part of them, so the `Staging` is given up.
 pub fn add_stage<D: Disk>(d: &mut D, staging: &mut Staging, bytes: &[u8]) -> Result<(), StoreFault>
-    requires holds { HasLength (D.view d.old).now (staging_name staging.old) (staging_length staging.old) }
+    requires holds { HasLength (D.state d.old).view.now (staging_name staging.old) (staging_length staging.old) }
     requires room { staging_length staging.old + length bytes.now < 2 ^ 64 }
     ensures name { staging_name staging.new ≡ staging_name staging.old }
     ensures length { OnOk result (staging_length staging.new ≡ staging_length staging.old + length bytes.now) }
-    ensures now { Appends result (staging_name staging.old) bytes.now (D.view d.old).now (D.view d.new).now }
-    ensures holds { OnOk result (HasLength (D.view d.new).now (staging_name staging.new) (staging_length staging.new)) }
-    ensures others { SameBut (staging_name staging.old) (D.view d.old).now (D.view d.new).now }
-    ensures time { Goes (λ _ _. ⊥) (λ n. n ≡ staging_name staging.old) (D.view d.old) (D.view d.new) }
-    ensures place { D.place d.new ≡ D.place d.old }
-    ensures proper { D.misuses d.new ≡ D.misuses d.old }
-    ensures later { D.faults d.old ≤ D.faults d.new }
-    ensures cause { IsErrOf result StoreFault.Disk → Rises (D.faults d.old) (D.faults d.new) }
+    ensures now { Appends result (staging_name staging.old) bytes.now (D.state d.old).view.now (D.state d.new).view.now }
+    ensures holds { OnOk result (HasLength (D.state d.new).view.now (staging_name staging.new) (staging_length staging.new)) }
+    ensures others { SameBut (staging_name staging.old) (D.state d.old).view.now (D.state d.new).view.now }
+    ensures works { Works (λ _ _. ⊥) (λ n. n ≡ staging_name staging.old) (D.state d.old) (D.state d.new) }
+    ensures cause { IsErrOf result StoreFault.Disk → Rises (D.state d.old).faults (D.state d.new).faults }
     ensures refusals { IfErr result IsStop }
 {
     d.append(&staging.name, bytes)?;
@@ -91,16 +86,13 @@ pub fn add_stage<D: Disk>(d: &mut D, staging: &mut Staging, bytes: &[u8]) -> Res
 
 /// Syncs what was put there, so that a crash leaves it whole or what the name kept before.
 pub fn end_stage<D: Disk>(d: &mut D, staging: Staging) -> Result<Staged, StoreFault>
-    requires { HasLength (D.view d.old).now (staging_name staging) (staging_length staging) }
+    requires { HasLength (D.state d.old).view.now (staging_name staging) (staging_length staging) }
     ensures name { IfOk result (λ staged. staged_name staged ≡ staging_name staging) }
-    ensures now { (D.view d.new).now ≡ (D.view d.old).now }
-    ensures there { OnOk result (IsThere (D.view d.new).now (staging_name staging)) }
-    ensures tight { OnOk result (is_loose (D.view d.new) (staging_name staging) ≡ false) }
-    ensures time { Goes (λ n v. (n ≡ staging_name staging) × Holds (D.view d.old).now n v) (λ n. n ≡ staging_name staging) (D.view d.old) (D.view d.new) }
-    ensures place { D.place d.new ≡ D.place d.old }
-    ensures proper { D.misuses d.new ≡ D.misuses d.old }
-    ensures later { D.faults d.old ≤ D.faults d.new }
-    ensures cause { IsErrOf result StoreFault.Disk → Rises (D.faults d.old) (D.faults d.new) }
+    ensures now { (D.state d.new).view.now ≡ (D.state d.old).view.now }
+    ensures there { OnOk result (IsThere (D.state d.new).view.now (staging_name staging)) }
+    ensures tight { OnOk result (is_loose (D.state d.new).view (staging_name staging) ≡ false) }
+    ensures works { Works (λ n v. (n ≡ staging_name staging) × Holds (D.state d.old).view.now n v) (λ n. n ≡ staging_name staging) (D.state d.old) (D.state d.new) }
+    ensures cause { IsErrOf result StoreFault.Disk → Rises (D.state d.old).faults (D.state d.new).faults }
     ensures refusals { IfErr result IsStop }
 {
     d.sync(&staging.name)?;
@@ -115,14 +107,11 @@ pub fn stage<D: Disk>(
     bytes: &[u8],
 ) -> Result<Staged, StoreFault>
     ensures name { IfOk result (λ staged. staged_name staged ≡ name.now) }
-    ensures now { OnOk result ((D.view d.new).now ≡ option_map (put name.now (Some bytes.now)) (D.view d.old).now) }
-    ensures others { SameBut name.now (D.view d.old).now (D.view d.new).now }
-    ensures tight { OnOk result (is_loose (D.view d.new) name.now ≡ false) }
-    ensures time { Goes (λ n _. n ≡ name.now) (λ n. n ≡ name.now) (D.view d.old) (D.view d.new) }
-    ensures place { D.place d.new ≡ D.place d.old }
-    ensures proper { D.misuses d.new ≡ D.misuses d.old }
-    ensures later { D.faults d.old ≤ D.faults d.new }
-    ensures cause { IsErrOf result StoreFault.Disk → Rises (D.faults d.old) (D.faults d.new) }
+    ensures now { OnOk result ((D.state d.new).view.now ≡ option_map (put name.now (Some bytes.now)) (D.state d.old).view.now) }
+    ensures others { SameBut name.now (D.state d.old).view.now (D.state d.new).view.now }
+    ensures tight { OnOk result (is_loose (D.state d.new).view name.now ≡ false) }
+    ensures works { Works (λ n _. n ≡ name.now) (λ n. n ≡ name.now) (D.state d.old) (D.state d.new) }
+    ensures cause { IsErrOf result StoreFault.Disk → Rises (D.state d.old).faults (D.state d.new).faults }
     ensures refusals { IfErr result IsStop }
 {
     let mut staging = start_stage(alloc, d, name)?;

@@ -25,13 +25,13 @@ use std::alloc::Global;
 
 // Whether the member has these bytes.
 fn holds<D: Disk>(alloc: Global, d: &mut D, name: &str, text: &[u8]) -> Result<bool, SaveFault>
-    ensures held { IfOk result (λ b. b ≡ true → IfSome (D.view d.old).now (λ f. f name.now ≡ Some text.now)) }
-    ensures now { (D.view d.new).now ≡ (D.view d.old).now }
-    ensures time { Rests (D.view d.old) (D.view d.new) }
-    ensures place { D.place d.new ≡ D.place d.old }
-    ensures proper { D.misuses d.new ≡ D.misuses d.old }
-    ensures later { D.faults d.old ≤ D.faults d.new }
-    ensures cause { IsErrOf result SaveFault.Disk → Rises (D.faults d.old) (D.faults d.new) }
+    ensures held { IfOk result (λ b. b ≡ true → IfSome (D.state d.old).view.now (λ f. f name.now ≡ Some text.now)) }
+    ensures now { (D.state d.new).view.now ≡ (D.state d.old).view.now }
+    ensures time { Rests (D.state d.old).view (D.state d.new).view }
+    ensures place { (D.state d.new).opened ≡ (D.state d.old).opened }
+    ensures proper { (D.state d.new).misuses ≡ (D.state d.old).misuses }
+    ensures later { (D.state d.old).faults ≤ (D.state d.new).faults }
+    ensures cause { IsErrOf result SaveFault.Disk → Rises (D.state d.old).faults (D.state d.new).faults }
 {
     match read_bytes(alloc, d, name)? {
         Ok(bytes) => Ok(bytes.as_slice() == text),
@@ -50,14 +50,14 @@ fn mend<D: Disk>(
     requires folder { (folder : Name) × LiesIn folder temporary.now × LiesIn folder name.now }
     requires temporary { IsTemporary temporary.now }
     requires lasting { ¬ IsTemporary name.now }
-    ensures crash { is_loose (D.view d.old) name.now ≡ false → Crash (SomeOf ((name.now, text.now) ∷ [])) (D.view d.old) (D.view d.new) }
-    ensures now_part { NowGoes (SomeOf ((name.now, text.now) ∷ [])) (D.view d.old).now (D.view d.new).now }
-    ensures mended { OnOk result (IfSome (D.view d.new).now (λ f. f name.now ≡ Some text.now)) }
-    ensures untold { (D.view d.old).now ≡ None → (D.view d.new).now ≡ None }
-    ensures place { D.place d.new ≡ D.place d.old }
-    ensures proper { D.misuses d.new ≡ D.misuses d.old }
-    ensures later { D.faults d.old ≤ D.faults d.new }
-    ensures cause { IsErrOf result SaveFault.Disk → Rises (D.faults d.old) (D.faults d.new) }
+    ensures crash { is_loose (D.state d.old).view name.now ≡ false → Crash (SomeOf ((name.now, text.now) ∷ [])) (D.state d.old).view (D.state d.new).view }
+    ensures now_part { NowGoes (SomeOf ((name.now, text.now) ∷ [])) (D.state d.old).view.now (D.state d.new).view.now }
+    ensures mended { OnOk result (IfSome (D.state d.new).view.now (λ f. f name.now ≡ Some text.now)) }
+    ensures untold { (D.state d.old).view.now ≡ None → (D.state d.new).view.now ≡ None }
+    ensures place { (D.state d.new).opened ≡ (D.state d.old).opened }
+    ensures proper { (D.state d.new).misuses ≡ (D.state d.old).misuses }
+    ensures later { (D.state d.old).faults ≤ (D.state d.new).faults }
+    ensures cause { IsErrOf result SaveFault.Disk → Rises (D.state d.old).faults (D.state d.new).faults }
 {
     if holds(alloc, d, name, text)? {
         return Ok(());
@@ -69,13 +69,13 @@ fn mend<D: Disk>(
 // Gives each member the text, where it hasn't it, the main one first.
 fn mend_both<D: Disk>(alloc: Global, d: &mut D, name: &str, text: &[u8]) -> Result<(), SaveFault>
     requires { IsInfoName name.now }
-    ensures crash { is_loose (D.view d.old) name.now ≡ false → is_loose (D.view d.old) (copy_of name.now) ≡ false → Crash (SomeOf (member_writes name.now text.now)) (D.view d.old) (D.view d.new) }
-    ensures now_part { NowGoes (SomeOf (member_writes name.now text.now)) (D.view d.old).now (D.view d.new).now }
-    ensures mended { OnOk result (IfSome (D.view d.new).now (λ f. (f name.now ≡ Some text.now) × (f (copy_of name.now) ≡ Some text.now))) }
-    ensures place { D.place d.new ≡ D.place d.old }
-    ensures proper { D.misuses d.new ≡ D.misuses d.old }
-    ensures later { D.faults d.old ≤ D.faults d.new }
-    ensures cause { IsErrOf result SaveFault.Disk → Rises (D.faults d.old) (D.faults d.new) }
+    ensures crash { is_loose (D.state d.old).view name.now ≡ false → is_loose (D.state d.old).view (copy_of name.now) ≡ false → Crash (SomeOf (member_writes name.now text.now)) (D.state d.old).view (D.state d.new).view }
+    ensures now_part { NowGoes (SomeOf (member_writes name.now text.now)) (D.state d.old).view.now (D.state d.new).view.now }
+    ensures mended { OnOk result (IfSome (D.state d.new).view.now (λ f. (f name.now ≡ Some text.now) × (f (copy_of name.now) ≡ Some text.now))) }
+    ensures place { (D.state d.new).opened ≡ (D.state d.old).opened }
+    ensures proper { (D.state d.new).misuses ≡ (D.state d.old).misuses }
+    ensures later { (D.state d.old).faults ≤ (D.state d.new).faults }
+    ensures cause { IsErrOf result SaveFault.Disk → Rises (D.state d.old).faults (D.state d.new).faults }
 {
     let copy = copy_name(alloc, name)?;
     let temporary = temporary_name(alloc, name)?;
@@ -93,13 +93,13 @@ pub fn mend_pair<D: Disk, I: Info>(
 ) -> Result<(), SaveFault>
     requires named { IsInfoName name.now }
     requires valid { I.is_valid value.now }
-    ensures crash { is_loose (D.view d.old) name.now ≡ false → is_loose (D.view d.old) (copy_of name.now) ≡ false → Crash (SomeOf (member_writes name.now (info_text (I.sections value.now)))) (D.view d.old) (D.view d.new) }
-    ensures now_part { NowGoes (SomeOf (member_writes name.now (info_text (I.sections value.now)))) (D.view d.old).now (D.view d.new).now }
-    ensures mended { OnOk result (IfSome (D.view d.new).now (λ f. (f name.now ≡ Some (info_text (I.sections value.now))) × (f (copy_of name.now) ≡ Some (info_text (I.sections value.now))))) }
-    ensures place { D.place d.new ≡ D.place d.old }
-    ensures proper { D.misuses d.new ≡ D.misuses d.old }
-    ensures later { D.faults d.old ≤ D.faults d.new }
-    ensures cause { IsErrOf result SaveFault.Disk → Rises (D.faults d.old) (D.faults d.new) }
+    ensures crash { is_loose (D.state d.old).view name.now ≡ false → is_loose (D.state d.old).view (copy_of name.now) ≡ false → Crash (SomeOf (member_writes name.now (info_text (I.sections value.now)))) (D.state d.old).view (D.state d.new).view }
+    ensures now_part { NowGoes (SomeOf (member_writes name.now (info_text (I.sections value.now)))) (D.state d.old).view.now (D.state d.new).view.now }
+    ensures mended { OnOk result (IfSome (D.state d.new).view.now (λ f. (f name.now ≡ Some (info_text (I.sections value.now))) × (f (copy_of name.now) ≡ Some (info_text (I.sections value.now))))) }
+    ensures place { (D.state d.new).opened ≡ (D.state d.old).opened }
+    ensures proper { (D.state d.new).misuses ≡ (D.state d.old).misuses }
+    ensures later { (D.state d.old).faults ≤ (D.state d.new).faults }
+    ensures cause { IsErrOf result SaveFault.Disk → Rises (D.state d.old).faults (D.state d.new).faults }
 {
     let text = text_of(alloc, value)?;
     mend_both(alloc, d, name, &text)
@@ -108,20 +108,20 @@ pub fn mend_pair<D: Disk, I: Info>(
 /// The value of the pair. Each member that isn't its text is written anew, the main one first.
 pub fn heal_pair<D: Disk, I: ReadInfo>(alloc: Global, d: &mut D, name: &str) -> Result<I, InfoFault>
     requires named { IsInfoName name.now }
-    ensures found { IfOk result (λ v. IfSome (D.view d.old).now (λ f. PairIs I.IsText f name.now (I.value v))) }
+    ensures found { IfOk result (λ v. IfSome (D.state d.old).view.now (λ f. PairIs I.IsText f name.now (I.value v))) }
     ensures valid { IfOk result (λ v. I.is_valid v) }
     ensures within { IfOk result (λ v. length (I.text (I.value v)) ≤ info_limit) }
-    ensures healed { IfOk result (λ v. IfSome (D.view d.new).now (λ f. (f name.now ≡ Some (I.text (I.value v))) × (f (copy_of name.now) ≡ Some (I.text (I.value v))))) }
-    ensures now_part { (v : I.Value) → IfSome (D.view d.old).now (λ f. PairIs I.IsText f name.now v) → NowGoes (SomeOf (member_writes name.now (I.text v))) (D.view d.old).now (D.view d.new).now }
-    ensures crash { (v : I.Value) → IfSome (D.view d.old).now (λ f. PairIs I.IsText f name.now v) → is_loose (D.view d.old) name.now ≡ false → is_loose (D.view d.old) (copy_of name.now) ≡ false → Crash (SomeOf (member_writes name.now (I.text v))) (D.view d.old) (D.view d.new) }
-    ensures refused { IfErr result (λ e. IfRefused e (((D.view d.new).now ≡ (D.view d.old).now) × Rests (D.view d.old) (D.view d.new))) }
+    ensures healed { IfOk result (λ v. IfSome (D.state d.new).view.now (λ f. (f name.now ≡ Some (I.text (I.value v))) × (f (copy_of name.now) ≡ Some (I.text (I.value v))))) }
+    ensures now_part { (v : I.Value) → IfSome (D.state d.old).view.now (λ f. PairIs I.IsText f name.now v) → NowGoes (SomeOf (member_writes name.now (I.text v))) (D.state d.old).view.now (D.state d.new).view.now }
+    ensures crash { (v : I.Value) → IfSome (D.state d.old).view.now (λ f. PairIs I.IsText f name.now v) → is_loose (D.state d.old).view name.now ≡ false → is_loose (D.state d.old).view (copy_of name.now) ≡ false → Crash (SomeOf (member_writes name.now (I.text v))) (D.state d.old).view (D.state d.new).view }
+    ensures refused { IfErr result (λ e. IfRefused e (((D.state d.new).view.now ≡ (D.state d.old).view.now) × Rests (D.state d.old).view (D.state d.new).view)) }
     // Where the pair has no value, only was read.
-    ensures idle { ((v : I.Value) → IfSome (D.view d.old).now (λ f. ¬ PairIs I.IsText f name.now v)) → IsSome (D.view d.old).now → ((D.view d.new).now ≡ (D.view d.old).now) × Rests (D.view d.old) (D.view d.new) }
-    ensures told { IsSome (D.view d.old).now → IsSome (D.view d.new).now }
-    ensures place { D.place d.new ≡ D.place d.old }
-    ensures proper { D.misuses d.new ≡ D.misuses d.old }
-    ensures later { D.faults d.old ≤ D.faults d.new }
-    ensures cause { IfErr result (PairCause I.IsText I.IsForm name.now (D.view d.old).now (Rises (D.faults d.old) (D.faults d.new))) }
+    ensures idle { ((v : I.Value) → IfSome (D.state d.old).view.now (λ f. ¬ PairIs I.IsText f name.now v)) → IsSome (D.state d.old).view.now → ((D.state d.new).view.now ≡ (D.state d.old).view.now) × Rests (D.state d.old).view (D.state d.new).view }
+    ensures told { IsSome (D.state d.old).view.now → IsSome (D.state d.new).view.now }
+    ensures place { (D.state d.new).opened ≡ (D.state d.old).opened }
+    ensures proper { (D.state d.new).misuses ≡ (D.state d.old).misuses }
+    ensures later { (D.state d.old).faults ≤ (D.state d.new).faults }
+    ensures cause { IfErr result (PairCause I.IsText I.IsForm name.now (D.state d.old).view.now (Rises (D.state d.old).faults (D.state d.new).faults)) }
 {
     let value = load_pair::<D, I>(alloc, d, name)?;
     mend_pair(alloc, d, name, &value)?;

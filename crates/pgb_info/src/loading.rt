@@ -23,14 +23,14 @@ pub(crate) fn read_bytes<D: Disk>(
     d: &mut D,
     name: &str,
 ) -> Result<Result<Vec<u8>, MemberFault>, SaveFault>
-    ensures bytes { IfOk result (λ r. IfSome (D.view d.old).now (λ f. BytesAre (f name.now) r)) }
+    ensures bytes { IfOk result (λ r. IfSome (D.state d.old).view.now (λ f. BytesAre (f name.now) r)) }
     ensures within { IfOk result (λ r. IfOk r (λ b. length b.items ≤ info_limit)) }
-    ensures now { (D.view d.new).now ≡ (D.view d.old).now }
-    ensures time { Rests (D.view d.old) (D.view d.new) }
-    ensures place { D.place d.new ≡ D.place d.old }
-    ensures proper { D.misuses d.new ≡ D.misuses d.old }
-    ensures later { D.faults d.old ≤ D.faults d.new }
-    ensures cause { IsErrOf result SaveFault.Disk → Rises (D.faults d.old) (D.faults d.new) }
+    ensures now { (D.state d.new).view.now ≡ (D.state d.old).view.now }
+    ensures time { Rests (D.state d.old).view (D.state d.new).view }
+    ensures place { (D.state d.new).opened ≡ (D.state d.old).opened }
+    ensures proper { (D.state d.new).misuses ≡ (D.state d.old).misuses }
+    ensures later { (D.state d.old).faults ≤ (D.state d.new).faults }
+    ensures cause { IsErrOf result SaveFault.Disk → Rises (D.state d.old).faults (D.state d.new).faults }
 {
     match read_whole(alloc, d, name, LIMIT) {
         Ok(Some(bytes)) => Ok(Ok(bytes)),
@@ -47,15 +47,15 @@ fn read_member<D: Disk, I: ReadInfo>(
     d: &mut D,
     name: &str,
 ) -> Result<Result<I, MemberFault>, SaveFault>
-    ensures gives { IfOk result (λ r. IfSome (D.view d.old).now (λ f. MemberGives I.IsText I.IsForm I.value f name.now r)) }
+    ensures gives { IfOk result (λ r. IfSome (D.state d.old).view.now (λ f. MemberGives I.IsText I.IsForm I.value f name.now r)) }
     ensures valid { IfOk result (λ r. IfOk r I.is_valid) }
     ensures within { IfOk result (λ r. IfOk r (λ v. length (I.text (I.value v)) ≤ info_limit)) }
-    ensures now { (D.view d.new).now ≡ (D.view d.old).now }
-    ensures time { Rests (D.view d.old) (D.view d.new) }
-    ensures place { D.place d.new ≡ D.place d.old }
-    ensures proper { D.misuses d.new ≡ D.misuses d.old }
-    ensures later { D.faults d.old ≤ D.faults d.new }
-    ensures cause { IsErrOf result SaveFault.Disk → Rises (D.faults d.old) (D.faults d.new) }
+    ensures now { (D.state d.new).view.now ≡ (D.state d.old).view.now }
+    ensures time { Rests (D.state d.old).view (D.state d.new).view }
+    ensures place { (D.state d.new).opened ≡ (D.state d.old).opened }
+    ensures proper { (D.state d.new).misuses ≡ (D.state d.old).misuses }
+    ensures later { (D.state d.old).faults ≤ (D.state d.new).faults }
+    ensures cause { IsErrOf result SaveFault.Disk → Rises (D.state d.old).faults (D.state d.new).faults }
 {
     match read_bytes(alloc, d, name)? {
         Ok(bytes) => Ok(I::read(alloc, &bytes)?),
@@ -75,15 +75,15 @@ fn of_both(main: MemberFault, copy: MemberFault) -> InfoFault
 
 /// The value of the main member where that is the text of one, else of the copy.
 pub fn load_pair<D: Disk, I: ReadInfo>(alloc: Global, d: &mut D, name: &str) -> Result<I, InfoFault>
-    ensures found { IfOk result (λ v. IfSome (D.view d.old).now (λ f. PairIs I.IsText f name.now (I.value v))) }
+    ensures found { IfOk result (λ v. IfSome (D.state d.old).view.now (λ f. PairIs I.IsText f name.now (I.value v))) }
     ensures valid { IfOk result (λ v. I.is_valid v) }
     ensures within { IfOk result (λ v. length (I.text (I.value v)) ≤ info_limit) }
-    ensures now { (D.view d.new).now ≡ (D.view d.old).now }
-    ensures time { Rests (D.view d.old) (D.view d.new) }
-    ensures place { D.place d.new ≡ D.place d.old }
-    ensures proper { D.misuses d.new ≡ D.misuses d.old }
-    ensures later { D.faults d.old ≤ D.faults d.new }
-    ensures cause { IfErr result (PairCause I.IsText I.IsForm name.now (D.view d.old).now (Rises (D.faults d.old) (D.faults d.new))) }
+    ensures now { (D.state d.new).view.now ≡ (D.state d.old).view.now }
+    ensures time { Rests (D.state d.old).view (D.state d.new).view }
+    ensures place { (D.state d.new).opened ≡ (D.state d.old).opened }
+    ensures proper { (D.state d.new).misuses ≡ (D.state d.old).misuses }
+    ensures later { (D.state d.old).faults ≤ (D.state d.new).faults }
+    ensures cause { IfErr result (PairCause I.IsText I.IsForm name.now (D.state d.old).view.now (Rises (D.state d.old).faults (D.state d.new).faults)) }
 {
     let copy_name = copy_name(alloc, name)?;
     let main = match read_member(alloc, d, name)? {

@@ -36,14 +36,14 @@ pub fn save_pair<D: Disk, I: Info>(
     requires named { IsInfoName name.now }
     requires valid { I.is_valid value.now }
     requires within { length (info_text (I.sections value.now)) ≤ info_limit }
-    ensures crash { is_loose (D.view d.old) name.now ≡ false → is_loose (D.view d.old) (copy_of name.now) ≡ false → Crash (FirstOf (member_writes name.now (info_text (I.sections value.now)))) (D.view d.old) (D.view d.new) }
-    ensures whole { OnOk result (is_loose (D.view d.old) name.now ≡ false → is_loose (D.view d.old) (copy_of name.now) ≡ false → Ends (AllOf (member_writes name.now (info_text (I.sections value.now)))) (D.view d.old) (D.view d.new)) }
-    ensures now_part { NowGoes (FirstOf (member_writes name.now (info_text (I.sections value.now)))) (D.view d.old).now (D.view d.new).now }
-    ensures now_whole { OnOk result (NowGoes (AllOf (member_writes name.now (info_text (I.sections value.now)))) (D.view d.old).now (D.view d.new).now) }
-    ensures place { D.place d.new ≡ D.place d.old }
-    ensures proper { D.misuses d.new ≡ D.misuses d.old }
-    ensures later { D.faults d.old ≤ D.faults d.new }
-    ensures cause { IsErrOf result SaveFault.Disk → Rises (D.faults d.old) (D.faults d.new) }
+    ensures crash { is_loose (D.state d.old).view name.now ≡ false → is_loose (D.state d.old).view (copy_of name.now) ≡ false → Crash (FirstOf (member_writes name.now (info_text (I.sections value.now)))) (D.state d.old).view (D.state d.new).view }
+    ensures whole { OnOk result (is_loose (D.state d.old).view name.now ≡ false → is_loose (D.state d.old).view (copy_of name.now) ≡ false → Ends (AllOf (member_writes name.now (info_text (I.sections value.now)))) (D.state d.old).view (D.state d.new).view) }
+    ensures now_part { NowGoes (FirstOf (member_writes name.now (info_text (I.sections value.now)))) (D.state d.old).view.now (D.state d.new).view.now }
+    ensures now_whole { OnOk result (NowGoes (AllOf (member_writes name.now (info_text (I.sections value.now)))) (D.state d.old).view.now (D.state d.new).view.now) }
+    ensures place { (D.state d.new).opened ≡ (D.state d.old).opened }
+    ensures proper { (D.state d.new).misuses ≡ (D.state d.old).misuses }
+    ensures later { (D.state d.old).faults ≤ (D.state d.new).faults }
+    ensures cause { IsErrOf result SaveFault.Disk → Rises (D.state d.old).faults (D.state d.new).faults }
 {
     let text = text_of(alloc, value)?;
     save_members(alloc, d, name, &text)?;

@@ -7,3 +7,4 @@ pub mod Tree
 pub mod Streams
 pub mod Locking
 pub mod Links
+pub mod States

@@ -32,13 +32,7 @@ impl NotThere {
 }
 
 impl Disk for NotThere {
-    ghost view = { λ _. record { now = None; moment = 0; kept = λ _ _ _. ⊥; loose = λ _ _. false } };
-
-    ghost faults = { λ it. it.faults };
-
-    ghost misuses = { λ _. 0 };
-
-    ghost place = { λ _. [] };
+    ghost state = { λ it. record { view = record { now = None; moment = 0; kept = λ _ _ _. ⊥; loose = λ _ _. false }; opened = []; misuses = 0; faults = it.faults } };
 
     ghost now_may_be_left = { λ d n v h. absurd h };
 

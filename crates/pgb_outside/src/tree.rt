@@ -1,7 +1,8 @@
 // A data folder: nodes below a root.
-ghost use Rattle.std.specs.Prelude.{◌≡◌, ◌≤◌, [], ℕ, List, Option, Some, None, map, IfOk, OnOk, IfSome, IsTrue, length, string_bytes};
+ghost use Rattle.std.specs.Prelude.{◌≡◌, ◌≤◌, [], ℕ, List, Option, Some, None, map, option_map, IfOk, OnOk, IfSome, IsTrue, length, string_bytes};
 ghost use Rattle.pgb_outside.specs.Content.{Reads};
 ghost use Rattle.pgb_outside.specs.Tree.{Nodes, file, folder as folder_node, IsTreeListing, known_path, file_bytes, IsPlaced, IsFileAt, IsBare, with_node, lengthened_file, moved_node, ChangesTree, ChangesFile, BeginsNew};
+ghost use Rattle.pgb_outside.specs.States.{TreeState, Opens, LooksAt};
 ghost use Rattle.pgb_outside.specs.Cause.{HasCause};
 
 use crate::Stop;
@@ -36,84 +37,77 @@ pub enum Known {
 
 /// A data folder. Paths are relative to the place that was opened last.
 pub trait Tree {
-    /// What it holds, where it tells that.
-    ghost nodes: { Self → Option Nodes };
-
-    /// How often it failed.
-    ghost faults: { Self → ℕ };
-
-    /// How many of its calls were faulty, where it tells what it holds.
-    ghost misuses: { Self → ℕ };
-
-    /// The place that was opened last.
-    ghost place: { Self → List ℕ };
+    /// What it holds, the places that were opened, and its counts.
+    ghost state: { Self → TreeState };
 
     /// Opens a folder as the root, and makes it where it is absent.
     fn open(&mut self, path: &str) -> Result<(), Stop>
-        ensures place { OnOk result (place self.new ≡ path.now) }
-        ensures nodes { nodes self.new ≡ nodes self.old }
-        ensures proper { misuses self.new ≡ misuses self.old }
-        ensures cause { HasCause (faults self.old) (faults self.new) result };
+        ensures opens { Opens result path.now (state self.old).opened (state self.new).opened }
+        ensures nodes { (state self.new).nodes ≡ (state self.old).nodes }
+        ensures proper { (state self.new).misuses ≡ (state self.old).misuses }
+        ensures cause { HasCause (state self.old).faults (state self.new).faults result };
 
     /// Every node below the root. Links aren't followed.
     fn list(&mut self, alloc: Global) -> Result<Vec<Seen>, Stop>
-        ensures listing { IfOk result (λ seen. IfSome (nodes self.old) (λ f. IsTreeListing f (map (λ s. (string_bytes s.path, s.node)) seen.items))) }
-        ensures nodes { nodes self.new ≡ nodes self.old }
-        ensures proper { misuses self.new ≡ misuses self.old }
-        ensures place { place self.new ≡ place self.old }
-        ensures cause { HasCause (faults self.old) (faults self.new) result };
+        ensures listing { IfOk result (λ seen. IfSome (state self.old).nodes (λ f. IsTreeListing f (map (λ s. (string_bytes s.path, s.node)) seen.items))) }
+        ensures looks { LooksAt (state self.old) (state self.new) }
+        ensures cause { HasCause (state self.old).faults (state self.new).faults result };
 
     /// Bytes of a known file from a place on: None where it isn't a file that is there, 0 at its end.
     fn read(&mut self, what: &Known, at: u64, buf: &mut [u8]) -> Result<Option<usize>, Stop>
-        ensures bytes { IfOk result (λ n. IfSome (nodes self.old) (λ f. Reads (file_bytes (f (known_path what.now))) at (length buf.old) buf.new n)) }
+        ensures bytes { IfOk result (λ n. IfSome (state self.old).nodes (λ f. Reads (file_bytes (f (known_path what.now))) at (length buf.old) buf.new n)) }
         ensures room { IfOk result (λ n. IfSome n (λ n. n ≤ length buf.old)) }
-        ensures nodes { nodes self.new ≡ nodes self.old }
-        ensures proper { misuses self.new ≡ misuses self.old }
-        ensures place { place self.new ≡ place self.old }
-        ensures cause { HasCause (faults self.old) (faults self.new) result };
+        ensures looks { LooksAt (state self.old) (state self.new) }
+        ensures cause { HasCause (state self.old).faults (state self.new).faults result };
+
+    /// How many bytes a known file has: None where it isn't a file that is there.
+    fn size(&mut self, what: &Known) -> Result<Option<u64>, Stop>
+        ensures size { IfOk result (λ n. IfSome (state self.old).nodes (λ f. n ≡ option_map length (file_bytes (f (known_path what.now))))) }
+        ensures looks { LooksAt (state self.old) (state self.new) }
+        ensures cause { HasCause (state self.old).faults (state self.new).faults result };
 
     /// Makes a folder.
     fn make(&mut self, folder: &str) -> Result<(), Stop>
-        ensures nodes { ChangesTree result (with_node folder.now (Some folder_node)) (nodes self.old) (nodes self.new) }
-        ensures proper { IsPlaced (nodes self.old) folder.now → misuses self.new ≡ misuses self.old }
-        ensures place { place self.new ≡ place self.old }
-        ensures cause { HasCause (faults self.old) (faults self.new) result };
+        ensures nodes { ChangesTree result (with_node folder.now (Some folder_node)) (state self.old).nodes (state self.new).nodes }
+        ensures proper { IsPlaced (state self.old).nodes folder.now → (state self.new).misuses ≡ (state self.old).misuses }
+        ensures opened { (state self.new).opened ≡ (state self.old).opened }
+        ensures cause { HasCause (state self.old).faults (state self.new).faults result };
 
     /// Makes the path a file of no bytes.
     fn begin(&mut self, path: &str) -> Result<(), Stop>
-        ensures nodes { ChangesFile result path.now (λ time. with_node path.now (Some (file [] time))) (nodes self.old) (nodes self.new) }
-        ensures proper { IsPlaced (nodes self.old) path.now → misuses self.new ≡ misuses self.old }
-        ensures place { place self.new ≡ place self.old }
-        ensures cause { HasCause (faults self.old) (faults self.new) result };
+        ensures nodes { ChangesFile result path.now (λ time. with_node path.now (Some (file [] time))) (state self.old).nodes (state self.new).nodes }
+        ensures proper { IsPlaced (state self.old).nodes path.now → (state self.new).misuses ≡ (state self.old).misuses }
+        ensures opened { (state self.new).opened ≡ (state self.old).opened }
+        ensures cause { HasCause (state self.old).faults (state self.new).faults result };
 
     /// Makes the path a file of no bytes where nothing is there, and tells whether it did.
     fn begin_new(&mut self, path: &str) -> Result<bool, Stop>
-        ensures nodes { BeginsNew result path.now (nodes self.old) (nodes self.new) }
-        ensures proper { IsPlaced (nodes self.old) path.now → misuses self.new ≡ misuses self.old }
-        ensures place { place self.new ≡ place self.old }
-        ensures cause { HasCause (faults self.old) (faults self.new) result };
+        ensures nodes { BeginsNew result path.now (state self.old).nodes (state self.new).nodes }
+        ensures proper { IsPlaced (state self.old).nodes path.now → (state self.new).misuses ≡ (state self.old).misuses }
+        ensures opened { (state self.new).opened ≡ (state self.old).opened }
+        ensures cause { HasCause (state self.old).faults (state self.new).faults result };
 
     /// Adds bytes at the end of a file.
     fn append(&mut self, path: &str, bytes: &[u8]) -> Result<(), Stop>
-        ensures nodes { ChangesFile result path.now (lengthened_file path.now bytes.now) (nodes self.old) (nodes self.new) }
-        ensures there { OnOk result (IsFileAt (nodes self.old) path.now) }
-        ensures proper { IsFileAt (nodes self.old) path.now → misuses self.new ≡ misuses self.old }
-        ensures place { place self.new ≡ place self.old }
-        ensures cause { HasCause (faults self.old) (faults self.new) result };
+        ensures nodes { ChangesFile result path.now (lengthened_file path.now bytes.now) (state self.old).nodes (state self.new).nodes }
+        ensures there { OnOk result (IsFileAt (state self.old).nodes path.now) }
+        ensures proper { IsFileAt (state self.old).nodes path.now → (state self.new).misuses ≡ (state self.old).misuses }
+        ensures opened { (state self.new).opened ≡ (state self.old).opened }
+        ensures cause { HasCause (state self.old).faults (state self.new).faults result };
 
     /// Moves a file to another path; its time goes along.
     fn rename(&mut self, from: &str, to: &str) -> Result<(), Stop>
-        ensures nodes { ChangesTree result (moved_node from.now to.now) (nodes self.old) (nodes self.new) }
-        ensures there { OnOk result (IsFileAt (nodes self.old) from.now) }
-        ensures proper { IsFileAt (nodes self.old) from.now → IsPlaced (nodes self.old) to.now → misuses self.new ≡ misuses self.old }
-        ensures place { place self.new ≡ place self.old }
-        ensures cause { HasCause (faults self.old) (faults self.new) result };
+        ensures nodes { ChangesTree result (moved_node from.now to.now) (state self.old).nodes (state self.new).nodes }
+        ensures there { OnOk result (IsFileAt (state self.old).nodes from.now) }
+        ensures proper { IsFileAt (state self.old).nodes from.now → IsPlaced (state self.old).nodes to.now → (state self.new).misuses ≡ (state self.old).misuses }
+        ensures opened { (state self.new).opened ≡ (state self.old).opened }
+        ensures cause { HasCause (state self.old).faults (state self.new).faults result };
 
     /// Takes a node away, but no folder that holds something.
     fn remove(&mut self, path: &str) -> Result<(), Stop>
-        ensures nodes { ChangesTree result (with_node path.now None) (nodes self.old) (nodes self.new) }
-        ensures bare { OnOk result (IsBare (nodes self.old) path.now) }
-        ensures proper { IsBare (nodes self.old) path.now → misuses self.new ≡ misuses self.old }
-        ensures place { place self.new ≡ place self.old }
-        ensures cause { HasCause (faults self.old) (faults self.new) result };
+        ensures nodes { ChangesTree result (with_node path.now None) (state self.old).nodes (state self.new).nodes }
+        ensures bare { OnOk result (IsBare (state self.old).nodes path.now) }
+        ensures proper { IsBare (state self.old).nodes path.now → (state self.new).misuses ≡ (state self.old).misuses }
+        ensures opened { (state self.new).opened ≡ (state self.old).opened }
+        ensures cause { HasCause (state self.old).faults (state self.new).faults result };
 }

@@ -37,28 +37,28 @@ pub fn create<D: Disk>(
     control: &Control,
 ) -> Result<Created, StanzaFault>
     // After every answer, and after every stop, the stanza is as before or made, and at Ok it is made.
-    ensures part { (r : Repository) → IsSome (D.view d.old).now → NowStands stanza.now r (D.view d.old).now
-        → NowStands stanza.now r (D.view d.new).now ⊎ NowStands stanza.now (step r (Create (first_cluster control.now))) (D.view d.new).now }
-    ensures done { OnOk result ((r : Repository) → IsSome (D.view d.old).now → NowStands stanza.now r (D.view d.old).now
-        → NowStands stanza.now (step r (Create (first_cluster control.now))) (D.view d.new).now) }
-    ensures moves { (r : Repository) → IsSteady stanza.now r (D.view d.old) → IsSome (D.view d.old).now
-        → Moves stanza.now (λ g. Stands stanza.now g r ⊎ Stands stanza.now g (step r (Create (first_cluster control.now)))) (D.view d.old) (D.view d.new) }
-    ensures made { OnOk result ((r : Repository) → IsSteady stanza.now r (D.view d.old) → IsSome (D.view d.old).now
-        → IsSteady stanza.now (step r (Create (first_cluster control.now))) (D.view d.new)) }
+    ensures part { (r : Repository) → IsSome (D.state d.old).view.now → NowStands stanza.now r (D.state d.old).view.now
+        → NowStands stanza.now r (D.state d.new).view.now ⊎ NowStands stanza.now (step r (Create (first_cluster control.now))) (D.state d.new).view.now }
+    ensures done { OnOk result ((r : Repository) → IsSome (D.state d.old).view.now → NowStands stanza.now r (D.state d.old).view.now
+        → NowStands stanza.now (step r (Create (first_cluster control.now))) (D.state d.new).view.now) }
+    ensures moves { (r : Repository) → IsSteady stanza.now r (D.state d.old).view → IsSome (D.state d.old).view.now
+        → Moves stanza.now (λ g. Stands stanza.now g r ⊎ Stands stanza.now g (step r (Create (first_cluster control.now)))) (D.state d.old).view (D.state d.new).view }
+    ensures made { OnOk result ((r : Repository) → IsSteady stanza.now r (D.state d.old).view → IsSome (D.state d.old).view.now
+        → IsSteady stanza.now (step r (Create (first_cluster control.now))) (D.state d.new).view) }
     // New comes exactly where the disk has no stanza, and Same where it has one of this cluster.
-    ensures lacking { IfOk result (λ c. IfNew c (IfSome (D.view d.old).now (LacksStanza stanza.now))) }
-    ensures new { IfOk result (λ c. IfNew c ((r : Repository) → IsSome (D.view d.old).now → NowStands stanza.now r (D.view d.old).now → r ≡ None)) }
-    ensures members { IfOk result (λ c. IfNew c (IsSome (D.view d.old).now → IfSome (D.view d.new).now (HasNewPairs stanza.now (first_cluster control.now)))) }
-    ensures having { IfOk result (λ c. IfSame c (IfSome (D.view d.old).now (HasStanzaOf stanza.now control.now))) }
-    ensures same { IfOk result (λ c. IfSame c ((r : Repository) → IsSome (D.view d.old).now → NowStands stanza.now r (D.view d.old).now → (s : Stanza) × (r ≡ Some s) × IsStanzaOf control.now s)) }
-    ensures agrees { OnOk result (IsSome (D.view d.old).now → IfSome (D.view d.new).now (PairsAgree stanza.now)) }
-    ensures refused { IfErr result (λ e. OnContent e ((D.view d.new).now ≡ (D.view d.old).now)) }
-    ensures rests { IfErr result (λ e. OnContent e (Rests (D.view d.old) (D.view d.new))) }
-    ensures told { IsSome (D.view d.old).now → IsSome (D.view d.new).now }
-    ensures place { D.place d.new ≡ D.place d.old }
-    ensures proper { D.misuses d.new ≡ D.misuses d.old }
-    ensures later { D.faults d.old ≤ D.faults d.new }
-    ensures cause { IfErr result (CreateCause stanza.now control.now (D.view d.old).now (Rises (D.faults d.old) (D.faults d.new))) }
+    ensures lacking { IfOk result (λ c. IfNew c (IfSome (D.state d.old).view.now (LacksStanza stanza.now))) }
+    ensures new { IfOk result (λ c. IfNew c ((r : Repository) → IsSome (D.state d.old).view.now → NowStands stanza.now r (D.state d.old).view.now → r ≡ None)) }
+    ensures members { IfOk result (λ c. IfNew c (IsSome (D.state d.old).view.now → IfSome (D.state d.new).view.now (HasNewPairs stanza.now (first_cluster control.now)))) }
+    ensures having { IfOk result (λ c. IfSame c (IfSome (D.state d.old).view.now (HasStanzaOf stanza.now control.now))) }
+    ensures same { IfOk result (λ c. IfSame c ((r : Repository) → IsSome (D.state d.old).view.now → NowStands stanza.now r (D.state d.old).view.now → (s : Stanza) × (r ≡ Some s) × IsStanzaOf control.now s)) }
+    ensures agrees { OnOk result (IsSome (D.state d.old).view.now → IfSome (D.state d.new).view.now (PairsAgree stanza.now)) }
+    ensures refused { IfErr result (λ e. OnContent e ((D.state d.new).view.now ≡ (D.state d.old).view.now)) }
+    ensures rests { IfErr result (λ e. OnContent e (Rests (D.state d.old).view (D.state d.new).view)) }
+    ensures told { IsSome (D.state d.old).view.now → IsSome (D.state d.new).view.now }
+    ensures place { (D.state d.new).opened ≡ (D.state d.old).opened }
+    ensures proper { (D.state d.new).misuses ≡ (D.state d.old).misuses }
+    ensures later { (D.state d.old).faults ≤ (D.state d.new).faults }
+    ensures cause { IfErr result (CreateCause stanza.now control.now (D.state d.old).view.now (Rises (D.state d.old).faults (D.state d.new).faults)) }
     ensures label { IfErr result (λ e. IfLost e IsLabel) }
 {
     match look(alloc, d, stanza, control)? {

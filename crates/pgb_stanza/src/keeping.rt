@@ -25,13 +25,13 @@ fn keep_archive<D: Disk>(
     value: &ArchiveInfo,
 ) -> Result<(), SaveFault>
     requires { IsArchiveInfo (archive_info_of value.now) }
-    ensures crash { is_loose (D.view d.old) (archive_info stanza.now) ≡ false → is_loose (D.view d.old) (copy_of (archive_info stanza.now)) ≡ false → Crash (SomeOf (member_writes (archive_info stanza.now) (archive_text (archive_info_of value.now)))) (D.view d.old) (D.view d.new) }
-    ensures now_part { NowGoes (SomeOf (member_writes (archive_info stanza.now) (archive_text (archive_info_of value.now)))) (D.view d.old).now (D.view d.new).now }
-    ensures mended { OnOk result (IfSome (D.view d.new).now (HoldBoth (archive_info stanza.now) (archive_text (archive_info_of value.now)))) }
-    ensures place { D.place d.new ≡ D.place d.old }
-    ensures proper { D.misuses d.new ≡ D.misuses d.old }
-    ensures later { D.faults d.old ≤ D.faults d.new }
-    ensures cause { IsErrOf result SaveFault.Disk → Rises (D.faults d.old) (D.faults d.new) }
+    ensures crash { is_loose (D.state d.old).view (archive_info stanza.now) ≡ false → is_loose (D.state d.old).view (copy_of (archive_info stanza.now)) ≡ false → Crash (SomeOf (member_writes (archive_info stanza.now) (archive_text (archive_info_of value.now)))) (D.state d.old).view (D.state d.new).view }
+    ensures now_part { NowGoes (SomeOf (member_writes (archive_info stanza.now) (archive_text (archive_info_of value.now)))) (D.state d.old).view.now (D.state d.new).view.now }
+    ensures mended { OnOk result (IfSome (D.state d.new).view.now (HoldBoth (archive_info stanza.now) (archive_text (archive_info_of value.now)))) }
+    ensures place { (D.state d.new).opened ≡ (D.state d.old).opened }
+    ensures proper { (D.state d.new).misuses ≡ (D.state d.old).misuses }
+    ensures later { (D.state d.old).faults ≤ (D.state d.new).faults }
+    ensures cause { IsErrOf result SaveFault.Disk → Rises (D.state d.old).faults (D.state d.new).faults }
 {
     let name = archive_info_name(alloc, stanza)?;
     mend_pair(alloc, d, name.as_str(), value)?;
@@ -46,13 +46,13 @@ fn keep_backup<D: Disk>(
     value: &BackupInfo,
 ) -> Result<(), SaveFault>
     requires { IsBackupInfo (backup_info_of value.now) }
-    ensures crash { is_loose (D.view d.old) (backup_info stanza.now) ≡ false → is_loose (D.view d.old) (copy_of (backup_info stanza.now)) ≡ false → Crash (SomeOf (member_writes (backup_info stanza.now) (backup_text (backup_info_of value.now)))) (D.view d.old) (D.view d.new) }
-    ensures now_part { NowGoes (SomeOf (member_writes (backup_info stanza.now) (backup_text (backup_info_of value.now)))) (D.view d.old).now (D.view d.new).now }
-    ensures mended { OnOk result (IfSome (D.view d.new).now (HoldBoth (backup_info stanza.now) (backup_text (backup_info_of value.now)))) }
-    ensures place { D.place d.new ≡ D.place d.old }
-    ensures proper { D.misuses d.new ≡ D.misuses d.old }
-    ensures later { D.faults d.old ≤ D.faults d.new }
-    ensures cause { IsErrOf result SaveFault.Disk → Rises (D.faults d.old) (D.faults d.new) }
+    ensures crash { is_loose (D.state d.old).view (backup_info stanza.now) ≡ false → is_loose (D.state d.old).view (copy_of (backup_info stanza.now)) ≡ false → Crash (SomeOf (member_writes (backup_info stanza.now) (backup_text (backup_info_of value.now)))) (D.state d.old).view (D.state d.new).view }
+    ensures now_part { NowGoes (SomeOf (member_writes (backup_info stanza.now) (backup_text (backup_info_of value.now)))) (D.state d.old).view.now (D.state d.new).view.now }
+    ensures mended { OnOk result (IfSome (D.state d.new).view.now (HoldBoth (backup_info stanza.now) (backup_text (backup_info_of value.now)))) }
+    ensures place { (D.state d.new).opened ≡ (D.state d.old).opened }
+    ensures proper { (D.state d.new).misuses ≡ (D.state d.old).misuses }
+    ensures later { (D.state d.old).faults ≤ (D.state d.new).faults }
+    ensures cause { IsErrOf result SaveFault.Disk → Rises (D.state d.old).faults (D.state d.new).faults }
 {
     let name = backup_info_name(alloc, stanza)?;
     mend_pair(alloc, d, name.as_str(), value)?;
@@ -68,13 +68,13 @@ pub(crate) fn keep_stanza<D: Disk>(
 ) -> Result<(), SaveFault>
     requires archive { IsArchiveInfo (archive_info_of kept.now.archive) }
     requires backup { IsBackupInfo (backup_info_of kept.now.backup) }
-    ensures crash { AreTight stanza.now (D.view d.old) → Crash (SomeOf (mending_writes stanza.now (archive_text (archive_info_of kept.now.archive)) (backup_text (backup_info_of kept.now.backup)))) (D.view d.old) (D.view d.new) }
-    ensures now_part { NowGoes (SomeOf (mending_writes stanza.now (archive_text (archive_info_of kept.now.archive)) (backup_text (backup_info_of kept.now.backup)))) (D.view d.old).now (D.view d.new).now }
-    ensures mended { OnOk result (IsSome (D.view d.old).now → IfSome (D.view d.new).now (HaveTexts stanza.now (archive_text (archive_info_of kept.now.archive)) (backup_text (backup_info_of kept.now.backup)))) }
-    ensures place { D.place d.new ≡ D.place d.old }
-    ensures proper { D.misuses d.new ≡ D.misuses d.old }
-    ensures later { D.faults d.old ≤ D.faults d.new }
-    ensures cause { IsErrOf result SaveFault.Disk → Rises (D.faults d.old) (D.faults d.new) }
+    ensures crash { AreTight stanza.now (D.state d.old).view → Crash (SomeOf (mending_writes stanza.now (archive_text (archive_info_of kept.now.archive)) (backup_text (backup_info_of kept.now.backup)))) (D.state d.old).view (D.state d.new).view }
+    ensures now_part { NowGoes (SomeOf (mending_writes stanza.now (archive_text (archive_info_of kept.now.archive)) (backup_text (backup_info_of kept.now.backup)))) (D.state d.old).view.now (D.state d.new).view.now }
+    ensures mended { OnOk result (IsSome (D.state d.old).view.now → IfSome (D.state d.new).view.now (HaveTexts stanza.now (archive_text (archive_info_of kept.now.archive)) (backup_text (backup_info_of kept.now.backup)))) }
+    ensures place { (D.state d.new).opened ≡ (D.state d.old).opened }
+    ensures proper { (D.state d.new).misuses ≡ (D.state d.old).misuses }
+    ensures later { (D.state d.old).faults ≤ (D.state d.new).faults }
+    ensures cause { IsErrOf result SaveFault.Disk → Rises (D.state d.old).faults (D.state d.new).faults }
 {
     keep_archive(alloc, d, stanza, &kept.archive)?;
     keep_backup(alloc, d, stanza, &kept.backup)?;

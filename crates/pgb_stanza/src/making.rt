@@ -37,22 +37,22 @@ pub(crate) fn make_stanza<D: Disk>(
     stanza: &str,
     control: &Control,
 ) -> Result<(), SaveFault>
-    requires { IfSome (D.view d.old).now (LacksStanza stanza.now) }
-    ensures new { (r : Repository) → IsSome (D.view d.old).now → NowStands stanza.now r (D.view d.old).now → r ≡ None }
-    ensures part { (r : Repository) → IsSome (D.view d.old).now → NowStands stanza.now r (D.view d.old).now
-        → NowStands stanza.now r (D.view d.new).now ⊎ NowStands stanza.now (step r (Create (first_cluster control.now))) (D.view d.new).now }
-    ensures done { OnOk result ((r : Repository) → IsSome (D.view d.old).now → NowStands stanza.now r (D.view d.old).now
-        → NowStands stanza.now (step r (Create (first_cluster control.now))) (D.view d.new).now) }
-    ensures members { OnOk result (IsSome (D.view d.old).now → IfSome (D.view d.new).now (HasNewPairs stanza.now (first_cluster control.now))) }
-    ensures moves { (r : Repository) → IsSteady stanza.now r (D.view d.old) → IsSome (D.view d.old).now
-        → Moves stanza.now (λ g. Stands stanza.now g r ⊎ Stands stanza.now g (step r (Create (first_cluster control.now)))) (D.view d.old) (D.view d.new) }
-    ensures made { OnOk result ((r : Repository) → IsSteady stanza.now r (D.view d.old) → IsSome (D.view d.old).now
-        → IsSteady stanza.now (step r (Create (first_cluster control.now))) (D.view d.new)) }
-    ensures told { IsSome (D.view d.old).now → IsSome (D.view d.new).now }
-    ensures place { D.place d.new ≡ D.place d.old }
-    ensures proper { D.misuses d.new ≡ D.misuses d.old }
-    ensures later { D.faults d.old ≤ D.faults d.new }
-    ensures cause { IsErrOf result SaveFault.Disk → Rises (D.faults d.old) (D.faults d.new) }
+    requires { IfSome (D.state d.old).view.now (LacksStanza stanza.now) }
+    ensures new { (r : Repository) → IsSome (D.state d.old).view.now → NowStands stanza.now r (D.state d.old).view.now → r ≡ None }
+    ensures part { (r : Repository) → IsSome (D.state d.old).view.now → NowStands stanza.now r (D.state d.old).view.now
+        → NowStands stanza.now r (D.state d.new).view.now ⊎ NowStands stanza.now (step r (Create (first_cluster control.now))) (D.state d.new).view.now }
+    ensures done { OnOk result ((r : Repository) → IsSome (D.state d.old).view.now → NowStands stanza.now r (D.state d.old).view.now
+        → NowStands stanza.now (step r (Create (first_cluster control.now))) (D.state d.new).view.now) }
+    ensures members { OnOk result (IsSome (D.state d.old).view.now → IfSome (D.state d.new).view.now (HasNewPairs stanza.now (first_cluster control.now))) }
+    ensures moves { (r : Repository) → IsSteady stanza.now r (D.state d.old).view → IsSome (D.state d.old).view.now
+        → Moves stanza.now (λ g. Stands stanza.now g r ⊎ Stands stanza.now g (step r (Create (first_cluster control.now)))) (D.state d.old).view (D.state d.new).view }
+    ensures made { OnOk result ((r : Repository) → IsSteady stanza.now r (D.state d.old).view → IsSome (D.state d.old).view.now
+        → IsSteady stanza.now (step r (Create (first_cluster control.now))) (D.state d.new).view) }
+    ensures told { IsSome (D.state d.old).view.now → IsSome (D.state d.new).view.now }
+    ensures place { (D.state d.new).opened ≡ (D.state d.old).opened }
+    ensures proper { (D.state d.new).misuses ≡ (D.state d.old).misuses }
+    ensures later { (D.state d.old).faults ≤ (D.state d.new).faults }
+    ensures cause { IsErrOf result SaveFault.Disk → Rises (D.state d.old).faults (D.state d.new).faults }
 {
     let cluster = first_cluster(*control);
     save_pairs(alloc, d, stanza, &cluster)?;

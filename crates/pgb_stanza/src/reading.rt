@@ -25,15 +25,15 @@ fn read_pair<D: Disk, I: ReadInfo>(
     d: &mut D,
     name: &str,
 ) -> Result<Option<I>, StanzaFault>
-    ensures found { IfOk result (λ o. IfSome o (λ v. IfSome (D.view d.old).now (λ f. PairIs I.IsText f name.now (I.value v)))) }
-    ensures missing { IfOk result (λ o. IfNone o (IfSome (D.view d.old).now (λ f. PairAbsent f name.now))) }
+    ensures found { IfOk result (λ o. IfSome o (λ v. IfSome (D.state d.old).view.now (λ f. PairIs I.IsText f name.now (I.value v)))) }
+    ensures missing { IfOk result (λ o. IfNone o (IfSome (D.state d.old).view.now (λ f. PairAbsent f name.now))) }
     ensures valid { IfOk result (λ o. IfSome o I.is_valid) }
-    ensures now { (D.view d.new).now ≡ (D.view d.old).now }
-    ensures time { Rests (D.view d.old) (D.view d.new) }
-    ensures place { D.place d.new ≡ D.place d.old }
-    ensures proper { D.misuses d.new ≡ D.misuses d.old }
-    ensures later { D.faults d.old ≤ D.faults d.new }
-    ensures cause { IfErr result (ReadCause I.IsText I.IsForm name.now (D.view d.old).now (Rises (D.faults d.old) (D.faults d.new))) }
+    ensures now { (D.state d.new).view.now ≡ (D.state d.old).view.now }
+    ensures time { Rests (D.state d.old).view (D.state d.new).view }
+    ensures place { (D.state d.new).opened ≡ (D.state d.old).opened }
+    ensures proper { (D.state d.new).misuses ≡ (D.state d.old).misuses }
+    ensures later { (D.state d.old).faults ≤ (D.state d.new).faults }
+    ensures cause { IfErr result (ReadCause I.IsText I.IsForm name.now (D.state d.old).view.now (Rises (D.state d.old).faults (D.state d.new).faults)) }
     ensures label { IfErr result (λ e. IfLost e IsLabel) }
 {
     match load_pair::<D, I>(alloc, d, name) {
@@ -87,16 +87,16 @@ pub(crate) fn look<D: Disk>(
     stanza: &str,
     told: &Control,
 ) -> Result<Option<Kept>, StanzaFault>
-    ensures lacking { IfOk result (λ o. IfNone o (IfSome (D.view d.old).now (LacksStanza stanza.now))) }
-    ensures kept { IfOk result (λ o. IfSome o (λ k. IfSome (D.view d.old).now (λ f. KeepsStanza stanza.now told.now f (archive_info_of k.archive) (backup_info_of k.backup)))) }
+    ensures lacking { IfOk result (λ o. IfNone o (IfSome (D.state d.old).view.now (LacksStanza stanza.now))) }
+    ensures kept { IfOk result (λ o. IfSome o (λ k. IfSome (D.state d.old).view.now (λ f. KeepsStanza stanza.now told.now f (archive_info_of k.archive) (backup_info_of k.backup)))) }
     ensures archive { IfOk result (λ o. IfSome o (λ k. IsArchiveInfo (archive_info_of k.archive))) }
     ensures backup { IfOk result (λ o. IfSome o (λ k. IsBackupInfo (backup_info_of k.backup))) }
-    ensures now { (D.view d.new).now ≡ (D.view d.old).now }
-    ensures time { Rests (D.view d.old) (D.view d.new) }
-    ensures place { D.place d.new ≡ D.place d.old }
-    ensures proper { D.misuses d.new ≡ D.misuses d.old }
-    ensures later { D.faults d.old ≤ D.faults d.new }
-    ensures cause { IfErr result (CreateCause stanza.now told.now (D.view d.old).now (Rises (D.faults d.old) (D.faults d.new))) }
+    ensures now { (D.state d.new).view.now ≡ (D.state d.old).view.now }
+    ensures time { Rests (D.state d.old).view (D.state d.new).view }
+    ensures place { (D.state d.new).opened ≡ (D.state d.old).opened }
+    ensures proper { (D.state d.new).misuses ≡ (D.state d.old).misuses }
+    ensures later { (D.state d.old).faults ≤ (D.state d.new).faults }
+    ensures cause { IfErr result (CreateCause stanza.now told.now (D.state d.old).view.now (Rises (D.state d.old).faults (D.state d.new).faults)) }
     ensures label { IfErr result (λ e. IfLost e IsLabel) }
 {
     let archive_name = archive_info_name(alloc, stanza)?;

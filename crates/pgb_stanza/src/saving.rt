@@ -44,14 +44,14 @@ fn save_backup<D: Disk>(
 ) -> Result<(), SaveFault>
     requires first { cluster.now.id ≡ 1 }
     requires is_cluster { IsCluster cluster.now }
-    ensures crash { is_loose (D.view d.old) (backup_info stanza.now) ≡ false → is_loose (D.view d.old) (copy_of (backup_info stanza.now)) ≡ false → Crash (FirstOf (member_writes (backup_info stanza.now) (first_backup_text cluster.now))) (D.view d.old) (D.view d.new) }
-    ensures whole { OnOk result (is_loose (D.view d.old) (backup_info stanza.now) ≡ false → is_loose (D.view d.old) (copy_of (backup_info stanza.now)) ≡ false → Ends (AllOf (member_writes (backup_info stanza.now) (first_backup_text cluster.now))) (D.view d.old) (D.view d.new)) }
-    ensures now_part { NowGoes (FirstOf (member_writes (backup_info stanza.now) (first_backup_text cluster.now))) (D.view d.old).now (D.view d.new).now }
-    ensures now_whole { OnOk result (NowGoes (AllOf (member_writes (backup_info stanza.now) (first_backup_text cluster.now))) (D.view d.old).now (D.view d.new).now) }
-    ensures place { D.place d.new ≡ D.place d.old }
-    ensures proper { D.misuses d.new ≡ D.misuses d.old }
-    ensures later { D.faults d.old ≤ D.faults d.new }
-    ensures cause { IsErrOf result SaveFault.Disk → Rises (D.faults d.old) (D.faults d.new) }
+    ensures crash { is_loose (D.state d.old).view (backup_info stanza.now) ≡ false → is_loose (D.state d.old).view (copy_of (backup_info stanza.now)) ≡ false → Crash (FirstOf (member_writes (backup_info stanza.now) (first_backup_text cluster.now))) (D.state d.old).view (D.state d.new).view }
+    ensures whole { OnOk result (is_loose (D.state d.old).view (backup_info stanza.now) ≡ false → is_loose (D.state d.old).view (copy_of (backup_info stanza.now)) ≡ false → Ends (AllOf (member_writes (backup_info stanza.now) (first_backup_text cluster.now))) (D.state d.old).view (D.state d.new).view) }
+    ensures now_part { NowGoes (FirstOf (member_writes (backup_info stanza.now) (first_backup_text cluster.now))) (D.state d.old).view.now (D.state d.new).view.now }
+    ensures now_whole { OnOk result (NowGoes (AllOf (member_writes (backup_info stanza.now) (first_backup_text cluster.now))) (D.state d.old).view.now (D.state d.new).view.now) }
+    ensures place { (D.state d.new).opened ≡ (D.state d.old).opened }
+    ensures proper { (D.state d.new).misuses ≡ (D.state d.old).misuses }
+    ensures later { (D.state d.old).faults ≤ (D.state d.new).faults }
+    ensures cause { IsErrOf result SaveFault.Disk → Rises (D.state d.old).faults (D.state d.new).faults }
 {
     let name = backup_info_name(alloc, stanza)?;
     let value = first_backup(alloc, cluster)?;
@@ -68,14 +68,14 @@ fn save_archive<D: Disk>(
 ) -> Result<(), SaveFault>
     requires first { cluster.now.id ≡ 1 }
     requires is_cluster { IsCluster cluster.now }
-    ensures crash { is_loose (D.view d.old) (archive_info stanza.now) ≡ false → is_loose (D.view d.old) (copy_of (archive_info stanza.now)) ≡ false → Crash (FirstOf (member_writes (archive_info stanza.now) (first_archive_text cluster.now))) (D.view d.old) (D.view d.new) }
-    ensures whole { OnOk result (is_loose (D.view d.old) (archive_info stanza.now) ≡ false → is_loose (D.view d.old) (copy_of (archive_info stanza.now)) ≡ false → Ends (AllOf (member_writes (archive_info stanza.now) (first_archive_text cluster.now))) (D.view d.old) (D.view d.new)) }
-    ensures now_part { NowGoes (FirstOf (member_writes (archive_info stanza.now) (first_archive_text cluster.now))) (D.view d.old).now (D.view d.new).now }
-    ensures now_whole { OnOk result (NowGoes (AllOf (member_writes (archive_info stanza.now) (first_archive_text cluster.now))) (D.view d.old).now (D.view d.new).now) }
-    ensures place { D.place d.new ≡ D.place d.old }
-    ensures proper { D.misuses d.new ≡ D.misuses d.old }
-    ensures later { D.faults d.old ≤ D.faults d.new }
-    ensures cause { IsErrOf result SaveFault.Disk → Rises (D.faults d.old) (D.faults d.new) }
+    ensures crash { is_loose (D.state d.old).view (archive_info stanza.now) ≡ false → is_loose (D.state d.old).view (copy_of (archive_info stanza.now)) ≡ false → Crash (FirstOf (member_writes (archive_info stanza.now) (first_archive_text cluster.now))) (D.state d.old).view (D.state d.new).view }
+    ensures whole { OnOk result (is_loose (D.state d.old).view (archive_info stanza.now) ≡ false → is_loose (D.state d.old).view (copy_of (archive_info stanza.now)) ≡ false → Ends (AllOf (member_writes (archive_info stanza.now) (first_archive_text cluster.now))) (D.state d.old).view (D.state d.new).view) }
+    ensures now_part { NowGoes (FirstOf (member_writes (archive_info stanza.now) (first_archive_text cluster.now))) (D.state d.old).view.now (D.state d.new).view.now }
+    ensures now_whole { OnOk result (NowGoes (AllOf (member_writes (archive_info stanza.now) (first_archive_text cluster.now))) (D.state d.old).view.now (D.state d.new).view.now) }
+    ensures place { (D.state d.new).opened ≡ (D.state d.old).opened }
+    ensures proper { (D.state d.new).misuses ≡ (D.state d.old).misuses }
+    ensures later { (D.state d.old).faults ≤ (D.state d.new).faults }
+    ensures cause { IsErrOf result SaveFault.Disk → Rises (D.state d.old).faults (D.state d.new).faults }
 {
     let name = archive_info_name(alloc, stanza)?;
     let value = first_archive(alloc, cluster)?;
@@ -92,14 +92,14 @@ pub(crate) fn save_pairs<D: Disk>(
 ) -> Result<(), SaveFault>
     requires first { cluster.now.id ≡ 1 }
     requires is_cluster { IsCluster cluster.now }
-    ensures crash { AreTight stanza.now (D.view d.old) → Crash (FirstOf (pair_writes stanza.now cluster.now)) (D.view d.old) (D.view d.new) }
-    ensures whole { OnOk result (AreTight stanza.now (D.view d.old) → Ends (AllOf (pair_writes stanza.now cluster.now)) (D.view d.old) (D.view d.new)) }
-    ensures now_part { NowGoes (FirstOf (pair_writes stanza.now cluster.now)) (D.view d.old).now (D.view d.new).now }
-    ensures now_whole { OnOk result (NowGoes (AllOf (pair_writes stanza.now cluster.now)) (D.view d.old).now (D.view d.new).now) }
-    ensures place { D.place d.new ≡ D.place d.old }
-    ensures proper { D.misuses d.new ≡ D.misuses d.old }
-    ensures later { D.faults d.old ≤ D.faults d.new }
-    ensures cause { IsErrOf result SaveFault.Disk → Rises (D.faults d.old) (D.faults d.new) }
+    ensures crash { AreTight stanza.now (D.state d.old).view → Crash (FirstOf (pair_writes stanza.now cluster.now)) (D.state d.old).view (D.state d.new).view }
+    ensures whole { OnOk result (AreTight stanza.now (D.state d.old).view → Ends (AllOf (pair_writes stanza.now cluster.now)) (D.state d.old).view (D.state d.new).view) }
+    ensures now_part { NowGoes (FirstOf (pair_writes stanza.now cluster.now)) (D.state d.old).view.now (D.state d.new).view.now }
+    ensures now_whole { OnOk result (NowGoes (AllOf (pair_writes stanza.now cluster.now)) (D.state d.old).view.now (D.state d.new).view.now) }
+    ensures place { (D.state d.new).opened ≡ (D.state d.old).opened }
+    ensures proper { (D.state d.new).misuses ≡ (D.state d.old).misuses }
+    ensures later { (D.state d.old).faults ≤ (D.state d.new).faults }
+    ensures cause { IsErrOf result SaveFault.Disk → Rises (D.state d.old).faults (D.state d.new).faults }
 {
     save_backup(alloc, d, stanza, cluster)?;
     save_archive(alloc, d, stanza, cluster)?;

@@ -9,10 +9,10 @@ use Rattle.pgb_command.proofs.StoreCauses.{opening_err, storing_err}
 use Rattle.pgb_command.proofs.archive_push.push_file.Goals as goal
 
 pub returns-in_err-file-clause-carries : goal.returns-in_err-file-clause-carries
-returns-in_err-file-clause-carries g c = λ command asked. rests_carry c.args.settings.now.stanza.now command (g.D.Disk.view c.args.repo.now) (g.D.Disk.view c.args.repo.now) (rests_none (g.D.Disk.view c.args.repo.now)) refl
+returns-in_err-file-clause-carries g c = λ command asked. rests_carry c.args.settings.now.stanza.now command (g.D.Disk.state c.args.repo.now).view (g.D.Disk.state c.args.repo.now).view (rests_none (g.D.Disk.state c.args.repo.now).view) refl
 
 pub returns-in_err-file-clause-between : goal.returns-in_err-file-clause-between
-returns-in_err-file-clause-between g c = λ command asked. rests_pass c.args.settings.now.stanza.now command (g.D.Disk.view c.args.repo.now) (g.D.Disk.view c.args.repo.now) (rests_none (g.D.Disk.view c.args.repo.now)) refl
+returns-in_err-file-clause-between g c = λ command asked. rests_pass c.args.settings.now.stanza.now command (g.D.Disk.state c.args.repo.now).view (g.D.Disk.state c.args.repo.now).view (rests_none (g.D.Disk.state c.args.repo.now).view) refl
 
 pub returns-in_err-prepare-clause-carries : goal.returns-in_err-prepare-clause-carries
 returns-in_err-prepare-clause-carries g c = λ command asked. rests_carry c.args.settings.now.stanza.now command _ _ c.prepare.ensures.time c.prepare.ensures.now
@@ -21,38 +21,38 @@ pub returns-in_err-prepare-clause-between : goal.returns-in_err-prepare-clause-b
 returns-in_err-prepare-clause-between g c = λ command asked. rests_pass c.args.settings.now.stanza.now command _ _ c.prepare.ensures.time c.prepare.ensures.now
 
 pub returns-in_err-outcome-clause-part : goal.returns-in_err-outcome-clause-part
-returns-in_err-outcome-clause-part g c = λ command asked. does_from c.args.settings.now.stanza.now command false _ _ _ c.prepare.ensures.now (c.store.ensures.part command (asked_on (g.T.Tree.nodes c.args.tree.now) (g.T.Tree.nodes c.prepare.new.tree) c.args.settings.now.pg1_path.now c.args.path.now command c.prepare.ensures.nodes asked))
+returns-in_err-outcome-clause-part g c = λ command asked. does_from c.args.settings.now.stanza.now command false _ _ _ c.prepare.ensures.now (c.store.ensures.part command (asked_on (g.T.Tree.state c.args.tree.now).nodes (g.T.Tree.state c.prepare.new.tree).nodes c.args.settings.now.pg1_path.now c.args.path.now command c.prepare.ensures.nodes asked))
 
 pub returns-in_err-outcome-clause-carries : goal.returns-in_err-outcome-clause-carries
-returns-in_err-outcome-clause-carries g c = λ command asked. push_carries c.args.settings.now.stanza.now (g.D.Disk.view c.args.repo.now) (g.D.Disk.view c.prepare.new.repo) (g.D.Disk.view c.store.new.repo) c.prepare.ensures.time c.prepare.ensures.now c.in_ok-prepare.ensures.begun command (push_sound (g.T.Tree.nodes c.args.tree.now) c.args.settings.now.pg1_path.now c.args.path.now command asked) (c.store.ensures.goes command (asked_on (g.T.Tree.nodes c.args.tree.now) (g.T.Tree.nodes c.prepare.new.tree) c.args.settings.now.pg1_path.now c.args.path.now command c.prepare.ensures.nodes asked))
+returns-in_err-outcome-clause-carries g c = λ command asked. push_carries c.args.settings.now.stanza.now (g.D.Disk.state c.args.repo.now).view (g.D.Disk.state c.prepare.new.repo).view (g.D.Disk.state c.store.new.repo).view c.prepare.ensures.time c.prepare.ensures.now c.in_ok-prepare.ensures.begun command (push_sound (g.T.Tree.state c.args.tree.now).nodes c.args.settings.now.pg1_path.now c.args.path.now command asked) (c.store.ensures.goes command (asked_on (g.T.Tree.state c.args.tree.now).nodes (g.T.Tree.state c.prepare.new.tree).nodes c.args.settings.now.pg1_path.now c.args.path.now command c.prepare.ensures.nodes asked))
 
 pub returns-in_err-outcome-clause-between : goal.returns-in_err-outcome-clause-between
-returns-in_err-outcome-clause-between g c = λ command asked. push_passes c.args.settings.now.stanza.now (g.D.Disk.view c.args.repo.now) (g.D.Disk.view c.prepare.new.repo) (g.D.Disk.view c.store.new.repo) c.prepare.ensures.time c.prepare.ensures.now c.in_ok-prepare.ensures.begun command (push_sound (g.T.Tree.nodes c.args.tree.now) c.args.settings.now.pg1_path.now c.args.path.now command asked) (c.store.ensures.goes command (asked_on (g.T.Tree.nodes c.args.tree.now) (g.T.Tree.nodes c.prepare.new.tree) c.args.settings.now.pg1_path.now c.args.path.now command c.prepare.ensures.nodes asked))
+returns-in_err-outcome-clause-between g c = λ command asked. push_passes c.args.settings.now.stanza.now (g.D.Disk.state c.args.repo.now).view (g.D.Disk.state c.prepare.new.repo).view (g.D.Disk.state c.store.new.repo).view c.prepare.ensures.time c.prepare.ensures.now c.in_ok-prepare.ensures.begun command (push_sound (g.T.Tree.state c.args.tree.now).nodes c.args.settings.now.pg1_path.now c.args.path.now command asked) (c.store.ensures.goes command (asked_on (g.T.Tree.state c.args.tree.now).nodes (g.T.Tree.state c.prepare.new.tree).nodes c.args.settings.now.pg1_path.now c.args.path.now command c.prepare.ensures.nodes asked))
 
 pub returns-clause-part : goal.returns-clause-part
-returns-clause-part g c = λ command asked. does_from c.args.settings.now.stanza.now command false _ _ _ c.prepare.ensures.now (c.store.ensures.part command (asked_on (g.T.Tree.nodes c.args.tree.now) (g.T.Tree.nodes c.prepare.new.tree) c.args.settings.now.pg1_path.now c.args.path.now command c.prepare.ensures.nodes asked))
+returns-clause-part g c = λ command asked. does_from c.args.settings.now.stanza.now command false _ _ _ c.prepare.ensures.now (c.store.ensures.part command (asked_on (g.T.Tree.state c.args.tree.now).nodes (g.T.Tree.state c.prepare.new.tree).nodes c.args.settings.now.pg1_path.now c.args.path.now command c.prepare.ensures.nodes asked))
 
 pub returns-clause-carries : goal.returns-clause-carries
-returns-clause-carries g c = λ command asked. push_carries c.args.settings.now.stanza.now (g.D.Disk.view c.args.repo.now) (g.D.Disk.view c.prepare.new.repo) (g.D.Disk.view c.store.new.repo) c.prepare.ensures.time c.prepare.ensures.now c.in_ok-prepare.ensures.begun command (push_sound (g.T.Tree.nodes c.args.tree.now) c.args.settings.now.pg1_path.now c.args.path.now command asked) (c.store.ensures.goes command (asked_on (g.T.Tree.nodes c.args.tree.now) (g.T.Tree.nodes c.prepare.new.tree) c.args.settings.now.pg1_path.now c.args.path.now command c.prepare.ensures.nodes asked))
+returns-clause-carries g c = λ command asked. push_carries c.args.settings.now.stanza.now (g.D.Disk.state c.args.repo.now).view (g.D.Disk.state c.prepare.new.repo).view (g.D.Disk.state c.store.new.repo).view c.prepare.ensures.time c.prepare.ensures.now c.in_ok-prepare.ensures.begun command (push_sound (g.T.Tree.state c.args.tree.now).nodes c.args.settings.now.pg1_path.now c.args.path.now command asked) (c.store.ensures.goes command (asked_on (g.T.Tree.state c.args.tree.now).nodes (g.T.Tree.state c.prepare.new.tree).nodes c.args.settings.now.pg1_path.now c.args.path.now command c.prepare.ensures.nodes asked))
 
 pub returns-clause-between : goal.returns-clause-between
-returns-clause-between g c = λ command asked. push_passes c.args.settings.now.stanza.now (g.D.Disk.view c.args.repo.now) (g.D.Disk.view c.prepare.new.repo) (g.D.Disk.view c.store.new.repo) c.prepare.ensures.time c.prepare.ensures.now c.in_ok-prepare.ensures.begun command (push_sound (g.T.Tree.nodes c.args.tree.now) c.args.settings.now.pg1_path.now c.args.path.now command asked) (c.store.ensures.goes command (asked_on (g.T.Tree.nodes c.args.tree.now) (g.T.Tree.nodes c.prepare.new.tree) c.args.settings.now.pg1_path.now c.args.path.now command c.prepare.ensures.nodes asked))
+returns-clause-between g c = λ command asked. push_passes c.args.settings.now.stanza.now (g.D.Disk.state c.args.repo.now).view (g.D.Disk.state c.prepare.new.repo).view (g.D.Disk.state c.store.new.repo).view c.prepare.ensures.time c.prepare.ensures.now c.in_ok-prepare.ensures.begun command (push_sound (g.T.Tree.state c.args.tree.now).nodes c.args.settings.now.pg1_path.now c.args.path.now command asked) (c.store.ensures.goes command (asked_on (g.T.Tree.state c.args.tree.now).nodes (g.T.Tree.state c.prepare.new.tree).nodes c.args.settings.now.pg1_path.now c.args.path.now command c.prepare.ensures.nodes asked))
 
 pub returns-clause-done : goal.returns-clause-done
-returns-clause-done g c = λ command asked. does_from c.args.settings.now.stanza.now command true _ _ _ c.prepare.ensures.now (c.in_ok-outcome.ensures.done command (asked_on (g.T.Tree.nodes c.args.tree.now) (g.T.Tree.nodes c.prepare.new.tree) c.args.settings.now.pg1_path.now c.args.path.now command c.prepare.ensures.nodes asked))
+returns-clause-done g c = λ command asked. does_from c.args.settings.now.stanza.now command true _ _ _ c.prepare.ensures.now (c.in_ok-outcome.ensures.done command (asked_on (g.T.Tree.state c.args.tree.now).nodes (g.T.Tree.state c.prepare.new.tree).nodes c.args.settings.now.pg1_path.now c.args.path.now command c.prepare.ensures.nodes asked))
 
 pub returns-clause-carried : goal.returns-clause-carried
-returns-clause-carried g c = λ command asked. push_carried c.args.settings.now.stanza.now (g.D.Disk.view c.args.repo.now) (g.D.Disk.view c.prepare.new.repo) (g.D.Disk.view c.store.new.repo) c.prepare.ensures.time c.prepare.ensures.now c.in_ok-prepare.ensures.begun command (push_sound (g.T.Tree.nodes c.args.tree.now) c.args.settings.now.pg1_path.now c.args.path.now command asked) (c.store.ensures.goes command (asked_on (g.T.Tree.nodes c.args.tree.now) (g.T.Tree.nodes c.prepare.new.tree) c.args.settings.now.pg1_path.now c.args.path.now command c.prepare.ensures.nodes asked)) (c.in_ok-outcome.ensures.ends command (asked_on (g.T.Tree.nodes c.args.tree.now) (g.T.Tree.nodes c.prepare.new.tree) c.args.settings.now.pg1_path.now c.args.path.now command c.prepare.ensures.nodes asked))
+returns-clause-carried g c = λ command asked. push_carried c.args.settings.now.stanza.now (g.D.Disk.state c.args.repo.now).view (g.D.Disk.state c.prepare.new.repo).view (g.D.Disk.state c.store.new.repo).view c.prepare.ensures.time c.prepare.ensures.now c.in_ok-prepare.ensures.begun command (push_sound (g.T.Tree.state c.args.tree.now).nodes c.args.settings.now.pg1_path.now c.args.path.now command asked) (c.store.ensures.goes command (asked_on (g.T.Tree.state c.args.tree.now).nodes (g.T.Tree.state c.prepare.new.tree).nodes c.args.settings.now.pg1_path.now c.args.path.now command c.prepare.ensures.nodes asked)) (c.in_ok-outcome.ensures.ends command (asked_on (g.T.Tree.state c.args.tree.now).nodes (g.T.Tree.state c.prepare.new.tree).nodes c.args.settings.now.pg1_path.now c.args.path.now command c.prepare.ensures.nodes asked))
 
 pub returns-in_err-file-clause-stays : goal.returns-in_err-file-clause-stays
-returns-in_err-file-clause-stays g c = early_all c.from_residual.result _ (still_does c.args.settings.now.stanza.now _ _ refl, none_carried c.args.settings.now.stanza.now (g.D.Disk.view c.args.repo.now))
+returns-in_err-file-clause-stays g c = early_all c.from_residual.result _ (still_does c.args.settings.now.stanza.now _ _ refl, none_carried c.args.settings.now.stanza.now (g.D.Disk.state c.args.repo.now).view)
 
 pub returns-in_err-prepare-clause-part : goal.returns-in_err-prepare-clause-part
 returns-in_err-prepare-clause-part g c = λ command asked. nothing_done c.args.settings.now.stanza.now command _ _ c.prepare.ensures.now
 
 pub returns-in_err-outcome-clause-stays : goal.returns-in_err-outcome-clause-stays
 returns-in_err-outcome-clause-stays g c = early_same c.from_residual-in_err-outcome.result c.in_err-outcome.field-0.0 _ _ c.from_residual-in_err-outcome.ensures.1
-    (λ still. (does_from c.args.settings.now.stanza.now Reading true _ _ _ c.prepare.ensures.now still.0, reading_carried c.args.settings.now.stanza.now (g.D.Disk.view c.args.repo.now) (g.D.Disk.view c.prepare.new.repo) (g.D.Disk.view c.store.new.repo) c.prepare.ensures.time c.prepare.ensures.now c.in_ok-prepare.ensures.begun still.1)) c.in_err-outcome.ensures.stays
+    (λ still. (does_from c.args.settings.now.stanza.now Reading true _ _ _ c.prepare.ensures.now still.0, reading_carried c.args.settings.now.stanza.now (g.D.Disk.state c.args.repo.now).view (g.D.Disk.state c.prepare.new.repo).view (g.D.Disk.state c.store.new.repo).view c.prepare.ensures.time c.prepare.ensures.now c.in_ok-prepare.ensures.begun still.1)) c.in_err-outcome.ensures.stays
 
 pub returns-in_err-prepare-clause-stays : goal.returns-in_err-prepare-clause-stays
 returns-in_err-prepare-clause-stays g c = early_all c.from_residual-in_err-prepare.result _ (still_does c.args.settings.now.stanza.now _ _ c.prepare.ensures.now, rests_carried c.args.settings.now.stanza.now _ _ c.prepare.ensures.time c.prepare.ensures.now)

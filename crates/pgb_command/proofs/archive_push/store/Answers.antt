@@ -19,7 +19,7 @@ use Rattle.pgb_command.proofs.StoreCauses.{early_push, file_of, push_err, stored
 use Rattle.pgb_command.proofs.archive_push.store.Goals as goal
 
 pub returns-in_err-told-clause-goes : goal.returns-in_err-told-clause-goes
-returns-in_err-told-clause-goes g c = λ command asked. none_goes c.args.settings.now.stanza.now command (g.D.Disk.view c.args.repo.now)
+returns-in_err-told-clause-goes g c = λ command asked. none_goes c.args.settings.now.stanza.now command (g.D.Disk.state c.args.repo.now).view
 
 pub returns-in_err-id-clause-goes : goal.returns-in_err-id-clause-goes
 returns-in_err-id-clause-goes g c = λ command asked. any_goes c.args.settings.now.stanza.now command _ _ c.current_id.ensures.goes
@@ -33,15 +33,15 @@ returns-in_err-pushed-clause-part g c = λ command asked.
     let folder = c.args.settings.now.pg1_path.now in
     let path = c.args.path.now in
     let wal = c.args.file.name in
-    let nodes = g.T.Tree.nodes c.args.tree.now in
+    let nodes = (g.T.Tree.state c.args.tree.now).nodes in
     let x = c.in_ok-id.ensures.current in
     let log = c.in_ok-log.log in
     let name = c.deref.result.now in
     let same = c.open_log_file.ensures.nodes ∙ c.read_cluster.ensures.nodes in
-    let lies = opened_lies name log (g.T.Tree.nodes c.read_cluster.new.tree) wal c.in_ok-log.ensures.opened (c.deref.ensures ∙ c.requires.1) in
-    let there = opened_there name log nodes (g.T.Tree.nodes c.read_cluster.new.tree) c.read_cluster.ensures.nodes c.in_ok-log.ensures.opened in
-    let b = told_bytes folder path wal c.requires.0 (known_path log.what) lies (λ f. IsPushOf f folder path command) nodes (g.T.Tree.nodes c.open_log_file.new.tree) same there asked in
-    store_part stanza folder path nodes wal b.0 b.2 c.in_ok-id.id x.0 x.1 (g.D.Disk.view c.args.repo.now) (g.D.Disk.view c.current_id.new.repo) (g.D.Disk.view c.push_from.new.d) x.3 c.current_id.ensures.stays c.push_from.ensures.told (c.push_from.ensures.part b.0 b.1) command asked
+    let lies = opened_lies name log (g.T.Tree.state c.read_cluster.new.tree).nodes wal c.in_ok-log.ensures.opened (c.deref.ensures ∙ c.requires.1) in
+    let there = opened_there name log nodes (g.T.Tree.state c.read_cluster.new.tree).nodes c.read_cluster.ensures.nodes c.in_ok-log.ensures.opened in
+    let b = told_bytes folder path wal c.requires.0 (known_path log.what) lies (λ f. IsPushOf f folder path command) nodes (g.T.Tree.state c.open_log_file.new.tree).nodes same there asked in
+    store_part stanza folder path nodes wal b.0 b.2 c.in_ok-id.id x.0 x.1 (g.D.Disk.state c.args.repo.now).view (g.D.Disk.state c.current_id.new.repo).view (g.D.Disk.state c.push_from.new.d).view x.3 c.current_id.ensures.stays c.push_from.ensures.told (c.push_from.ensures.part b.0 b.1) command asked
 
 pub returns-in_err-pushed-clause-goes : goal.returns-in_err-pushed-clause-goes
 returns-in_err-pushed-clause-goes g c = λ command asked.
@@ -49,21 +49,21 @@ returns-in_err-pushed-clause-goes g c = λ command asked.
     let folder = c.args.settings.now.pg1_path.now in
     let path = c.args.path.now in
     let wal = c.args.file.name in
-    let nodes = g.T.Tree.nodes c.args.tree.now in
+    let nodes = (g.T.Tree.state c.args.tree.now).nodes in
     let x = c.in_ok-id.ensures.current in
     let log = c.in_ok-log.log in
     let name = c.deref.result.now in
     let same = c.open_log_file.ensures.nodes ∙ c.read_cluster.ensures.nodes in
-    let lies = opened_lies name log (g.T.Tree.nodes c.read_cluster.new.tree) wal c.in_ok-log.ensures.opened (c.deref.ensures ∙ c.requires.1) in
-    let there = opened_there name log nodes (g.T.Tree.nodes c.read_cluster.new.tree) c.read_cluster.ensures.nodes c.in_ok-log.ensures.opened in
-    let b = told_bytes folder path wal c.requires.0 (known_path log.what) lies (λ f. IsPushOf f folder path command) nodes (g.T.Tree.nodes c.open_log_file.new.tree) same there asked in
-    store_goes stanza folder path nodes wal b.0 b.2 c.in_ok-id.id x.0 x.1 (g.D.Disk.view c.args.repo.now) (g.D.Disk.view c.current_id.new.repo) (g.D.Disk.view c.push_from.new.d) x.3 c.current_id.ensures.stays c.current_id.ensures.goes c.current_id.ensures.ends (c.push_from.ensures.moves b.0 b.1) command asked
+    let lies = opened_lies name log (g.T.Tree.state c.read_cluster.new.tree).nodes wal c.in_ok-log.ensures.opened (c.deref.ensures ∙ c.requires.1) in
+    let there = opened_there name log nodes (g.T.Tree.state c.read_cluster.new.tree).nodes c.read_cluster.ensures.nodes c.in_ok-log.ensures.opened in
+    let b = told_bytes folder path wal c.requires.0 (known_path log.what) lies (λ f. IsPushOf f folder path command) nodes (g.T.Tree.state c.open_log_file.new.tree).nodes same there asked in
+    store_goes stanza folder path nodes wal b.0 b.2 c.in_ok-id.id x.0 x.1 (g.D.Disk.state c.args.repo.now).view (g.D.Disk.state c.current_id.new.repo).view (g.D.Disk.state c.push_from.new.d).view x.3 c.current_id.ensures.stays c.current_id.ensures.goes c.current_id.ensures.ends (c.push_from.ensures.moves b.0 b.1) command asked
 
 pub returns-in_err-pushed-clause-stays : goal.returns-in_err-pushed-clause-stays
 returns-in_err-pushed-clause-stays g c =
     let stanza = c.args.settings.now.stanza.now in
     early_push c.from_residual-in_err-pushed.result c.in_err-pushed.field-0.0 _ _ c.from_residual-in_err-pushed.ensures.1
-    (λ still. (still_on stanza _ _ _ c.current_id.ensures.stays still.0, ends_on stanza (g.D.Disk.view c.args.repo.now) (g.D.Disk.view c.current_id.new.repo) (g.D.Disk.view c.push_from.new.d) c.current_id.ensures.ends still.1 still.0)) c.in_err-pushed.ensures.refused
+    (λ still. (still_on stanza _ _ _ c.current_id.ensures.stays still.0, ends_on stanza (g.D.Disk.state c.args.repo.now).view (g.D.Disk.state c.current_id.new.repo).view (g.D.Disk.state c.push_from.new.d).view c.current_id.ensures.ends still.1 still.0)) c.in_err-pushed.ensures.refused
 
 pub returns-in_err-pushed-clause-cause : goal.returns-in_err-pushed-clause-cause
 returns-in_err-pushed-clause-cause g c =
@@ -71,19 +71,19 @@ returns-in_err-pushed-clause-cause g c =
     let folder = c.args.settings.now.pg1_path.now in
     let path = c.args.path.now in
     let wal = c.args.file.name in
-    let nodes = g.T.Tree.nodes c.args.tree.now in
+    let nodes = (g.T.Tree.state c.args.tree.now).nodes in
     let x = c.in_ok-id.ensures.current in
     let log = c.in_ok-log.log in
     let name = c.deref.result.now in
     let same = c.open_log_file.ensures.nodes ∙ c.read_cluster.ensures.nodes in
-    let lies = opened_lies name log (g.T.Tree.nodes c.read_cluster.new.tree) wal c.in_ok-log.ensures.opened (c.deref.ensures ∙ c.requires.1) in
-    let there = opened_there name log nodes (g.T.Tree.nodes c.read_cluster.new.tree) c.read_cluster.ensures.nodes c.in_ok-log.ensures.opened in
+    let lies = opened_lies name log (g.T.Tree.state c.read_cluster.new.tree).nodes wal c.in_ok-log.ensures.opened (c.deref.ensures ∙ c.requires.1) in
+    let there = opened_there name log nodes (g.T.Tree.state c.read_cluster.new.tree).nodes c.read_cluster.ensures.nodes c.in_ok-log.ensures.opened in
     let fits = c.in_ok-id.ensures.fits in
-    let of : IsCurrent stanza (g.D.Disk.view c.args.repo.now).now nodes c.in_ok-told.told x.0 = record { tells = c.in_ok-told.ensures.told; current = x.3; same = x.2 } in
-    push_err stanza folder path wal c.requires.0 (known_path log.what) lies nodes (g.T.Tree.nodes c.open_log_file.new.tree) same there (g.D.Disk.view c.args.repo.now).now (g.D.Disk.view c.current_id.new.repo).now c.in_ok-told.told x.0 of
+    let of : IsCurrent stanza (g.D.Disk.state c.args.repo.now).view.now nodes c.in_ok-told.told x.0 = record { tells = c.in_ok-told.ensures.told; current = x.3; same = x.2 } in
+    push_err stanza folder path wal c.requires.0 (known_path log.what) lies nodes (g.T.Tree.state c.open_log_file.new.tree).nodes same there (g.D.Disk.state c.args.repo.now).view.now (g.D.Disk.state c.current_id.new.repo).view.now c.in_ok-told.told x.0 of
     (subst (λ (i : ArchiveId). i.version < 2 ^ 32) x.1 fits.0) (subst (λ (i : ArchiveId). i.number < 2 ^ 32) x.1 fits.1) c.current_id.ensures.stays.told c.in_ok-id.ensures.files
     c.from_residual-in_err-pushed.result _ _ _ _ _ _ c.in_err-pushed.field-0.0 _ _ (λ rose. omega (arith, rose, c.current_id.ensures.later)) (λ rose. omega (arith, rose, c.open_log_file.ensures.later, c.read_cluster.ensures.later)) c.from_residual-in_err-pushed.ensures.1
-    (subst (λ (i : ArchiveId). PushFromCause stanza i wal c.in_ok-told.told.system (told_file (g.T.Tree.nodes c.open_log_file.new.tree) (known_path log.what)) c.front.result.bytes.now c.front.result.length (g.D.Disk.view c.current_id.new.repo).now (Rises (g.D.Disk.faults c.current_id.new.repo) (g.D.Disk.faults c.push_from.new.d)) (Rises (g.T.Tree.faults c.open_log_file.new.tree) (g.T.Tree.faults c.push_from.new.holder)) c.in_err-pushed.field-0.0) x.1 c.in_err-pushed.ensures.cause)
+    (subst (λ (i : ArchiveId). PushFromCause stanza i wal c.in_ok-told.told.system (told_file (g.T.Tree.state c.open_log_file.new.tree).nodes (known_path log.what)) c.front.result.bytes.now c.front.result.length (g.D.Disk.state c.current_id.new.repo).view.now (Rises (g.D.Disk.state c.current_id.new.repo).faults (g.D.Disk.state c.push_from.new.d).faults) (Rises (g.T.Tree.state c.open_log_file.new.tree).faults (g.T.Tree.state c.push_from.new.holder).faults) c.in_err-pushed.field-0.0) x.1 c.in_err-pushed.ensures.cause)
 
 pub returns-clause-done : goal.returns-clause-done
 returns-clause-done g c = λ command asked.
@@ -91,15 +91,15 @@ returns-clause-done g c = λ command asked.
     let folder = c.args.settings.now.pg1_path.now in
     let path = c.args.path.now in
     let wal = c.args.file.name in
-    let nodes = g.T.Tree.nodes c.args.tree.now in
+    let nodes = (g.T.Tree.state c.args.tree.now).nodes in
     let x = c.in_ok-id.ensures.current in
     let log = c.in_ok-log.log in
     let name = c.deref.result.now in
     let same = c.open_log_file.ensures.nodes ∙ c.read_cluster.ensures.nodes in
-    let lies = opened_lies name log (g.T.Tree.nodes c.read_cluster.new.tree) wal c.in_ok-log.ensures.opened (c.deref.ensures ∙ c.requires.1) in
-    let there = opened_there name log nodes (g.T.Tree.nodes c.read_cluster.new.tree) c.read_cluster.ensures.nodes c.in_ok-log.ensures.opened in
-    let b = told_bytes folder path wal c.requires.0 (known_path log.what) lies (λ f. IsPushOf f folder path command) nodes (g.T.Tree.nodes c.open_log_file.new.tree) same there asked in
-    store_whole stanza folder path nodes wal b.0 b.2 c.in_ok-id.id x.0 x.1 (g.D.Disk.view c.args.repo.now) (g.D.Disk.view c.current_id.new.repo) (g.D.Disk.view c.push_from.new.d) x.3 c.current_id.ensures.stays c.push_from.ensures.told (c.in_ok-pushed.ensures.done b.0 b.1) command asked
+    let lies = opened_lies name log (g.T.Tree.state c.read_cluster.new.tree).nodes wal c.in_ok-log.ensures.opened (c.deref.ensures ∙ c.requires.1) in
+    let there = opened_there name log nodes (g.T.Tree.state c.read_cluster.new.tree).nodes c.read_cluster.ensures.nodes c.in_ok-log.ensures.opened in
+    let b = told_bytes folder path wal c.requires.0 (known_path log.what) lies (λ f. IsPushOf f folder path command) nodes (g.T.Tree.state c.open_log_file.new.tree).nodes same there asked in
+    store_whole stanza folder path nodes wal b.0 b.2 c.in_ok-id.id x.0 x.1 (g.D.Disk.state c.args.repo.now).view (g.D.Disk.state c.current_id.new.repo).view (g.D.Disk.state c.push_from.new.d).view x.3 c.current_id.ensures.stays c.push_from.ensures.told (c.in_ok-pushed.ensures.done b.0 b.1) command asked
 
 pub returns-clause-part : goal.returns-clause-part
 returns-clause-part g c = λ command asked.
@@ -107,15 +107,15 @@ returns-clause-part g c = λ command asked.
     let folder = c.args.settings.now.pg1_path.now in
     let path = c.args.path.now in
     let wal = c.args.file.name in
-    let nodes = g.T.Tree.nodes c.args.tree.now in
+    let nodes = (g.T.Tree.state c.args.tree.now).nodes in
     let x = c.in_ok-id.ensures.current in
     let log = c.in_ok-log.log in
     let name = c.deref.result.now in
     let same = c.open_log_file.ensures.nodes ∙ c.read_cluster.ensures.nodes in
-    let lies = opened_lies name log (g.T.Tree.nodes c.read_cluster.new.tree) wal c.in_ok-log.ensures.opened (c.deref.ensures ∙ c.requires.1) in
-    let there = opened_there name log nodes (g.T.Tree.nodes c.read_cluster.new.tree) c.read_cluster.ensures.nodes c.in_ok-log.ensures.opened in
-    let b = told_bytes folder path wal c.requires.0 (known_path log.what) lies (λ f. IsPushOf f folder path command) nodes (g.T.Tree.nodes c.open_log_file.new.tree) same there asked in
-    store_part stanza folder path nodes wal b.0 b.2 c.in_ok-id.id x.0 x.1 (g.D.Disk.view c.args.repo.now) (g.D.Disk.view c.current_id.new.repo) (g.D.Disk.view c.push_from.new.d) x.3 c.current_id.ensures.stays c.push_from.ensures.told (c.push_from.ensures.part b.0 b.1) command asked
+    let lies = opened_lies name log (g.T.Tree.state c.read_cluster.new.tree).nodes wal c.in_ok-log.ensures.opened (c.deref.ensures ∙ c.requires.1) in
+    let there = opened_there name log nodes (g.T.Tree.state c.read_cluster.new.tree).nodes c.read_cluster.ensures.nodes c.in_ok-log.ensures.opened in
+    let b = told_bytes folder path wal c.requires.0 (known_path log.what) lies (λ f. IsPushOf f folder path command) nodes (g.T.Tree.state c.open_log_file.new.tree).nodes same there asked in
+    store_part stanza folder path nodes wal b.0 b.2 c.in_ok-id.id x.0 x.1 (g.D.Disk.state c.args.repo.now).view (g.D.Disk.state c.current_id.new.repo).view (g.D.Disk.state c.push_from.new.d).view x.3 c.current_id.ensures.stays c.push_from.ensures.told (c.push_from.ensures.part b.0 b.1) command asked
 
 pub returns-clause-goes : goal.returns-clause-goes
 returns-clause-goes g c = λ command asked.
@@ -123,15 +123,15 @@ returns-clause-goes g c = λ command asked.
     let folder = c.args.settings.now.pg1_path.now in
     let path = c.args.path.now in
     let wal = c.args.file.name in
-    let nodes = g.T.Tree.nodes c.args.tree.now in
+    let nodes = (g.T.Tree.state c.args.tree.now).nodes in
     let x = c.in_ok-id.ensures.current in
     let log = c.in_ok-log.log in
     let name = c.deref.result.now in
     let same = c.open_log_file.ensures.nodes ∙ c.read_cluster.ensures.nodes in
-    let lies = opened_lies name log (g.T.Tree.nodes c.read_cluster.new.tree) wal c.in_ok-log.ensures.opened (c.deref.ensures ∙ c.requires.1) in
-    let there = opened_there name log nodes (g.T.Tree.nodes c.read_cluster.new.tree) c.read_cluster.ensures.nodes c.in_ok-log.ensures.opened in
-    let b = told_bytes folder path wal c.requires.0 (known_path log.what) lies (λ f. IsPushOf f folder path command) nodes (g.T.Tree.nodes c.open_log_file.new.tree) same there asked in
-    store_goes stanza folder path nodes wal b.0 b.2 c.in_ok-id.id x.0 x.1 (g.D.Disk.view c.args.repo.now) (g.D.Disk.view c.current_id.new.repo) (g.D.Disk.view c.push_from.new.d) x.3 c.current_id.ensures.stays c.current_id.ensures.goes c.current_id.ensures.ends (c.push_from.ensures.moves b.0 b.1) command asked
+    let lies = opened_lies name log (g.T.Tree.state c.read_cluster.new.tree).nodes wal c.in_ok-log.ensures.opened (c.deref.ensures ∙ c.requires.1) in
+    let there = opened_there name log nodes (g.T.Tree.state c.read_cluster.new.tree).nodes c.read_cluster.ensures.nodes c.in_ok-log.ensures.opened in
+    let b = told_bytes folder path wal c.requires.0 (known_path log.what) lies (λ f. IsPushOf f folder path command) nodes (g.T.Tree.state c.open_log_file.new.tree).nodes same there asked in
+    store_goes stanza folder path nodes wal b.0 b.2 c.in_ok-id.id x.0 x.1 (g.D.Disk.state c.args.repo.now).view (g.D.Disk.state c.current_id.new.repo).view (g.D.Disk.state c.push_from.new.d).view x.3 c.current_id.ensures.stays c.current_id.ensures.goes c.current_id.ensures.ends (c.push_from.ensures.moves b.0 b.1) command asked
 
 pub returns-clause-ends : goal.returns-clause-ends
 returns-clause-ends g c = λ command asked.
@@ -139,15 +139,15 @@ returns-clause-ends g c = λ command asked.
     let folder = c.args.settings.now.pg1_path.now in
     let path = c.args.path.now in
     let wal = c.args.file.name in
-    let nodes = g.T.Tree.nodes c.args.tree.now in
+    let nodes = (g.T.Tree.state c.args.tree.now).nodes in
     let x = c.in_ok-id.ensures.current in
     let log = c.in_ok-log.log in
     let name = c.deref.result.now in
     let same = c.open_log_file.ensures.nodes ∙ c.read_cluster.ensures.nodes in
-    let lies = opened_lies name log (g.T.Tree.nodes c.read_cluster.new.tree) wal c.in_ok-log.ensures.opened (c.deref.ensures ∙ c.requires.1) in
-    let there = opened_there name log nodes (g.T.Tree.nodes c.read_cluster.new.tree) c.read_cluster.ensures.nodes c.in_ok-log.ensures.opened in
-    let b = told_bytes folder path wal c.requires.0 (known_path log.what) lies (λ f. IsPushOf f folder path command) nodes (g.T.Tree.nodes c.open_log_file.new.tree) same there asked in
-    store_ends stanza folder path nodes wal b.0 b.2 c.in_ok-id.id x.0 x.1 (g.D.Disk.view c.args.repo.now) (g.D.Disk.view c.current_id.new.repo) (g.D.Disk.view c.push_from.new.d) x.3 c.current_id.ensures.stays c.current_id.ensures.ends (c.in_ok-pushed.ensures.stored b.0 b.1) command asked
+    let lies = opened_lies name log (g.T.Tree.state c.read_cluster.new.tree).nodes wal c.in_ok-log.ensures.opened (c.deref.ensures ∙ c.requires.1) in
+    let there = opened_there name log nodes (g.T.Tree.state c.read_cluster.new.tree).nodes c.read_cluster.ensures.nodes c.in_ok-log.ensures.opened in
+    let b = told_bytes folder path wal c.requires.0 (known_path log.what) lies (λ f. IsPushOf f folder path command) nodes (g.T.Tree.state c.open_log_file.new.tree).nodes same there asked in
+    store_ends stanza folder path nodes wal b.0 b.2 c.in_ok-id.id x.0 x.1 (g.D.Disk.state c.args.repo.now).view (g.D.Disk.state c.current_id.new.repo).view (g.D.Disk.state c.push_from.new.d).view x.3 c.current_id.ensures.stays c.current_id.ensures.ends (c.in_ok-pushed.ensures.stored b.0 b.1) command asked
 
 pub returns-clause-agrees : goal.returns-clause-agrees
 returns-clause-agrees g c = λ some.
@@ -163,23 +163,23 @@ returns-clause-stored g c =
     let folder = c.args.settings.now.pg1_path.now in
     let path = c.args.path.now in
     let wal = c.args.file.name in
-    let nodes = g.T.Tree.nodes c.args.tree.now in
+    let nodes = (g.T.Tree.state c.args.tree.now).nodes in
     let x = c.in_ok-id.ensures.current in
     let log = c.in_ok-log.log in
     let name = c.deref.result.now in
     let same = c.open_log_file.ensures.nodes ∙ c.read_cluster.ensures.nodes in
-    let lies = opened_lies name log (g.T.Tree.nodes c.read_cluster.new.tree) wal c.in_ok-log.ensures.opened (c.deref.ensures ∙ c.requires.1) in
-    let there = opened_there name log nodes (g.T.Tree.nodes c.read_cluster.new.tree) c.read_cluster.ensures.nodes c.in_ok-log.ensures.opened in
+    let lies = opened_lies name log (g.T.Tree.state c.read_cluster.new.tree).nodes wal c.in_ok-log.ensures.opened (c.deref.ensures ∙ c.requires.1) in
+    let there = opened_there name log nodes (g.T.Tree.state c.read_cluster.new.tree).nodes c.read_cluster.ensures.nodes c.in_ok-log.ensures.opened in
     let a = c.in_ok-pushed.ensures.answered in
-    let has = read_bytes folder path wal c.requires.0 (known_path log.what) lies nodes (g.T.Tree.nodes c.open_log_file.new.tree) same there a.bytes a.read.told in
-    let ready : IsReady stanza folder path (g.D.Disk.view c.args.repo.now).now nodes wal a.bytes c.in_ok-told.told x.0 = record { has = has; of = record { tells = c.in_ok-told.ensures.told; current = x.3; same = x.2 } } in
+    let has = read_bytes folder path wal c.requires.0 (known_path log.what) lies nodes (g.T.Tree.state c.open_log_file.new.tree).nodes same there a.bytes a.read.told in
+    let ready : IsReady stanza folder path (g.D.Disk.state c.args.repo.now).view.now nodes wal a.bytes c.in_ok-told.told x.0 = record { has = has; of = record { tells = c.in_ok-told.ensures.told; current = x.3; same = x.2 } } in
     let fits = c.in_ok-id.ensures.fits in
     let lines = pushed_lines c.in_ok-pushed.pushed (string_bytes c.args.file.text) in
-    subst (λ (e : Ending). OnFinished e (IsStored stanza folder path (g.D.Disk.view c.args.repo.now).now nodes)) (sym c.outcome_of.ensures) (stored_as stanza folder path (g.D.Disk.view c.args.repo.now).now (g.D.Disk.view c.current_id.new.repo).now nodes wal a.bytes c.in_ok-told.told x.0 ready (subst (λ (i : ArchiveId). i.version < 2 ^ 32) x.1 fits.0) (subst (λ (i : ArchiveId). i.number < 2 ^ 32) x.1 fits.1) c.requires.0.fits
+    subst (λ (e : Ending). OnFinished e (IsStored stanza folder path (g.D.Disk.state c.args.repo.now).view.now nodes)) (sym c.outcome_of.ensures) (stored_as stanza folder path (g.D.Disk.state c.args.repo.now).view.now (g.D.Disk.state c.current_id.new.repo).view.now nodes wal a.bytes c.in_ok-told.told x.0 ready (subst (λ (i : ArchiveId). i.version < 2 ^ 32) x.1 fits.0) (subst (λ (i : ArchiveId). i.number < 2 ^ 32) x.1 fits.1) c.requires.0.fits
     c.current_id.ensures.stays.told c.in_ok-id.ensures.files lines (string_bytes c.args.file.text) c.in_ok-pushed.pushed c.requires.1 refl a.of_system
-    (λ is. subst (λ (i : ArchiveId). IfSome (g.D.Disk.view c.current_id.new.repo).now (StoresNone stanza i wal)) x.1 (a.new is).0)
-    (λ is. subst (λ (i : ArchiveId). IfSome (g.D.Disk.view c.current_id.new.repo).now (λ f. StoresOnly stanza i wal f (sha1 a.bytes))) x.1 (a.same is).0))
+    (λ is. subst (λ (i : ArchiveId). IfSome (g.D.Disk.state c.current_id.new.repo).view.now (StoresNone stanza i wal)) x.1 (a.new is).0)
+    (λ is. subst (λ (i : ArchiveId). IfSome (g.D.Disk.state c.current_id.new.repo).view.now (λ f. StoresOnly stanza i wal f (sha1 a.bytes))) x.1 (a.same is).0))
 
 pub push_from-requires-clause-told : goal.push_from-requires-clause-told
 push_from-requires-clause-told g c =
-    opened_read c.deref.result.now c.in_ok-log.log (g.T.Tree.nodes c.read_cluster.new.tree) (g.T.Tree.nodes c.open_log_file.new.tree) c.open_log_file.ensures.nodes c.front.result.bytes.now c.front.result.length c.front.ensures.bytes c.front.ensures.length c.in_ok-log.ensures.opened
+    opened_read c.deref.result.now c.in_ok-log.log (g.T.Tree.state c.read_cluster.new.tree).nodes (g.T.Tree.state c.open_log_file.new.tree).nodes c.open_log_file.ensures.nodes c.front.result.bytes.now c.front.result.length c.front.ensures.bytes c.front.ensures.length c.in_ok-log.ensures.opened

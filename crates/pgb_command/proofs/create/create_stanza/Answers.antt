@@ -14,19 +14,19 @@ use Rattle.pgb_command.proofs.Talks.{agrees_by, server_err, left_err}
 use Rattle.pgb_command.proofs.create.create_stanza.Goals as goal
 
 pub returns-in_err-make-clause-part : goal.returns-in_err-make-clause-part
-returns-in_err-make-clause-part g c = does_part c.args.settings.now.stanza.now (g.T.Tree.nodes c.args.tree.now) c.in_ok-told.told
+returns-in_err-make-clause-part g c = does_part c.args.settings.now.stanza.now (g.T.Tree.state c.args.tree.now).nodes c.in_ok-told.told
     (subst (λ (o : Option Nodes). IfSome o (λ f. FolderTells f c.in_ok-told.told)) c.prepare.ensures.nodes c.in_ok-told.ensures.told) _ _ _ c.prepare.ensures.now c.make.ensures.told c.make.ensures.part
 
 pub returns-clause-part : goal.returns-clause-part
-returns-clause-part g c = does_part c.args.settings.now.stanza.now (g.T.Tree.nodes c.args.tree.now) c.in_ok-told.told
+returns-clause-part g c = does_part c.args.settings.now.stanza.now (g.T.Tree.state c.args.tree.now).nodes c.in_ok-told.told
     (subst (λ (o : Option Nodes). IfSome o (λ f. FolderTells f c.in_ok-told.told)) c.prepare.ensures.nodes c.in_ok-told.ensures.told) _ _ _ c.prepare.ensures.now c.make.ensures.told c.make.ensures.part
 
 pub returns-clause-done : goal.returns-clause-done
-returns-clause-done g c = does_whole c.args.settings.now.stanza.now (g.T.Tree.nodes c.args.tree.now) c.in_ok-told.told
+returns-clause-done g c = does_whole c.args.settings.now.stanza.now (g.T.Tree.state c.args.tree.now).nodes c.in_ok-told.told
     (subst (λ (o : Option Nodes). IfSome o (λ f. FolderTells f c.in_ok-told.told)) c.prepare.ensures.nodes c.in_ok-told.ensures.told) _ _ _ c.prepare.ensures.now c.make.ensures.told c.in_ok-make.ensures.done
 
 pub returns-clause-members : goal.returns-clause-members
-returns-clause-members g c = has_members c.args.settings.now.stanza.now (g.T.Tree.nodes c.args.tree.now) c.in_ok-told.told
+returns-clause-members g c = has_members c.args.settings.now.stanza.now (g.T.Tree.state c.args.tree.now).nodes c.in_ok-told.told
     (subst (λ (o : Option Nodes). IfSome o (λ f. FolderTells f c.in_ok-told.told)) c.prepare.ensures.nodes c.in_ok-told.ensures.told) _ _ _ c.prepare.ensures.now c.make.ensures.told c.in_ok-make.ensures.members
 
 pub returns-in_err-prepare-clause-carries : goal.returns-in_err-prepare-clause-carries
@@ -48,23 +48,23 @@ pub returns-in_err-check_server-clause-between : goal.returns-in_err-check_serve
 returns-in_err-check_server-clause-between g c = λ cluster is. rests_pass c.args.settings.now.stanza.now (StanzaCreate cluster) _ _ c.prepare.ensures.time c.prepare.ensures.now
 
 pub returns-in_err-make-clause-carries : goal.returns-in_err-make-clause-carries
-returns-in_err-make-clause-carries g c = carries_part c.args.settings.now.stanza.now (g.T.Tree.nodes c.args.tree.now) c.in_ok-told.told
+returns-in_err-make-clause-carries g c = carries_part c.args.settings.now.stanza.now (g.T.Tree.state c.args.tree.now).nodes c.in_ok-told.told
     (subst (λ (o : Option Nodes). IfSome o (λ f. FolderTells f c.in_ok-told.told)) c.prepare.ensures.nodes c.in_ok-told.ensures.told) _ _ _ c.prepare.ensures.time c.prepare.ensures.now c.in_ok-prepare.ensures.begun c.make.ensures.moves
 
 pub returns-in_err-make-clause-between : goal.returns-in_err-make-clause-between
-returns-in_err-make-clause-between g c = passes_part c.args.settings.now.stanza.now (g.T.Tree.nodes c.args.tree.now) c.in_ok-told.told
+returns-in_err-make-clause-between g c = passes_part c.args.settings.now.stanza.now (g.T.Tree.state c.args.tree.now).nodes c.in_ok-told.told
     (subst (λ (o : Option Nodes). IfSome o (λ f. FolderTells f c.in_ok-told.told)) c.prepare.ensures.nodes c.in_ok-told.ensures.told) _ _ _ c.prepare.ensures.time c.prepare.ensures.now c.in_ok-prepare.ensures.begun c.make.ensures.moves
 
 pub returns-clause-carries : goal.returns-clause-carries
-returns-clause-carries g c = carries_part c.args.settings.now.stanza.now (g.T.Tree.nodes c.args.tree.now) c.in_ok-told.told
+returns-clause-carries g c = carries_part c.args.settings.now.stanza.now (g.T.Tree.state c.args.tree.now).nodes c.in_ok-told.told
     (subst (λ (o : Option Nodes). IfSome o (λ f. FolderTells f c.in_ok-told.told)) c.prepare.ensures.nodes c.in_ok-told.ensures.told) _ _ _ c.prepare.ensures.time c.prepare.ensures.now c.in_ok-prepare.ensures.begun c.make.ensures.moves
 
 pub returns-clause-between : goal.returns-clause-between
-returns-clause-between g c = passes_part c.args.settings.now.stanza.now (g.T.Tree.nodes c.args.tree.now) c.in_ok-told.told
+returns-clause-between g c = passes_part c.args.settings.now.stanza.now (g.T.Tree.state c.args.tree.now).nodes c.in_ok-told.told
     (subst (λ (o : Option Nodes). IfSome o (λ f. FolderTells f c.in_ok-told.told)) c.prepare.ensures.nodes c.in_ok-told.ensures.told) _ _ _ c.prepare.ensures.time c.prepare.ensures.now c.in_ok-prepare.ensures.begun c.make.ensures.moves
 
 pub returns-clause-carried : goal.returns-clause-carried
-returns-clause-carried g c = carries_whole c.args.settings.now.stanza.now (g.T.Tree.nodes c.args.tree.now) c.in_ok-told.told
+returns-clause-carried g c = carries_whole c.args.settings.now.stanza.now (g.T.Tree.state c.args.tree.now).nodes c.in_ok-told.told
     (subst (λ (o : Option Nodes). IfSome o (λ f. FolderTells f c.in_ok-told.told)) c.prepare.ensures.nodes c.in_ok-told.ensures.told) _ _ _ c.prepare.ensures.time c.prepare.ensures.now c.in_ok-prepare.ensures.begun c.make.ensures.moves c.in_ok-make.ensures.made
 
 pub returns-in_err-told-clause-stays : goal.returns-in_err-told-clause-stays
@@ -75,7 +75,7 @@ returns-in_err-check_server-clause-stays g c = early_all c.from_residual-in_err-
 
 pub returns-in_err-make-clause-stays : goal.returns-in_err-make-clause-stays
 returns-in_err-make-clause-stays g c = early_both c.from_residual-in_err-make.result c.in_err-make.field-0.0 _ _ _ c.from_residual-in_err-make.ensures.1
-    (λ same rests. rests_carried c.args.settings.now.stanza.now (g.D.Disk.view c.args.repo.now) (g.D.Disk.view c.make.new.repo) (rests_rests _ _ _ c.prepare.ensures.time rests) (same ∙ c.prepare.ensures.now)) c.in_err-make.ensures.refused c.in_err-make.ensures.rests
+    (λ same rests. rests_carried c.args.settings.now.stanza.now (g.D.Disk.state c.args.repo.now).view (g.D.Disk.state c.make.new.repo).view (rests_rests _ _ _ c.prepare.ensures.time rests) (same ∙ c.prepare.ensures.now)) c.in_err-make.ensures.refused c.in_err-make.ensures.rests
 
 pub returns-clause-agrees : goal.returns-clause-agrees
 returns-clause-agrees g c = λ some. c.in_ok-make.ensures.agrees (subst (λ (o : Option Content). IsSome o) (sym c.prepare.ensures.now) some)
@@ -85,19 +85,19 @@ returns-in_err-prepare-clause-stays g c = early_all c.from_residual.result _ (re
 
 pub returns-in_err-make-clause-cause : goal.returns-in_err-make-clause-cause
 returns-in_err-make-clause-cause g c = left_err c.from_residual-in_err-make.result _ _ (
-    folder_cause_err c.args.settings.now.stanza.now c.in_ok-told.told (g.D.Disk.view c.args.repo.now).now (g.T.Tree.nodes c.args.tree.now)
+    folder_cause_err c.args.settings.now.stanza.now c.in_ok-told.told (g.D.Disk.state c.args.repo.now).view.now (g.T.Tree.state c.args.tree.now).nodes
     (subst (λ (o : Option Nodes). IfSome o (λ f. FolderTells f c.in_ok-told.told)) c.prepare.ensures.nodes c.in_ok-told.ensures.told)
-    (Rises (g.D.Disk.faults c.prepare.new.repo) (g.D.Disk.faults c.make.new.repo)) _ _ _ _ (λ rose. omega (arith, rose, c.prepare.ensures.repo_later))
+    (Rises (g.D.Disk.state c.prepare.new.repo).faults (g.D.Disk.state c.make.new.repo).faults) _ _ _ _ (λ rose. omega (arith, rose, c.prepare.ensures.repo_later))
     c.from_residual-in_err-make.result c.in_err-make.field-0.0 c.from_residual-in_err-make.ensures.1
-    (subst (λ (o : Option Content). MakeCause c.args.settings.now.stanza.now c.in_ok-told.told o (Rises (g.D.Disk.faults c.prepare.new.repo) (g.D.Disk.faults c.make.new.repo)) c.in_err-make.field-0.0) c.prepare.ensures.now c.in_err-make.ensures.cause))
+    (subst (λ (o : Option Content). MakeCause c.args.settings.now.stanza.now c.in_ok-told.told o (Rises (g.D.Disk.state c.prepare.new.repo).faults (g.D.Disk.state c.make.new.repo).faults) c.in_err-make.field-0.0) c.prepare.ensures.now c.in_err-make.ensures.cause))
 
 pub returns-in_err-check_server-clause-cause : goal.returns-in_err-check_server-clause-cause
-returns-in_err-check_server-clause-cause g c = server_err c.args.settings.now.server (g.T.Tree.nodes c.args.tree.now) c.in_ok-told.told
+returns-in_err-check_server-clause-cause g c = server_err c.args.settings.now.server (g.T.Tree.state c.args.tree.now).nodes c.in_ok-told.told
     (subst (λ (o : Option Nodes). IfSome o (λ f. FolderTells f c.in_ok-told.told)) c.prepare.ensures.nodes c.in_ok-told.ensures.told) (g.V.Wire.pending c.args.server.now)
     c.from_residual-in_err-check_server.result c.in_err-check_server.field-0.0 _ _ c.from_residual-in_err-check_server.ensures.1 c.in_err-check_server.ensures.cause
 
 pub returns-clause-agrees_with : goal.returns-clause-agrees_with
-returns-clause-agrees_with g c = agrees_by c.args.settings.now.server (g.T.Tree.nodes c.args.tree.now) c.in_ok-told.told
+returns-clause-agrees_with g c = agrees_by c.args.settings.now.server (g.T.Tree.state c.args.tree.now).nodes c.in_ok-told.told
     (subst (λ (o : Option Nodes). IfSome o (λ f. FolderTells f c.in_ok-told.told)) c.prepare.ensures.nodes c.in_ok-told.ensures.told) (g.V.Wire.pending c.args.server.now) c.in_ok-check_server.ensures.same
 
 pub returns-in_err-check_server-clause-part : goal.returns-in_err-check_server-clause-part

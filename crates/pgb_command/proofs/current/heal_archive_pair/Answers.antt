@@ -22,7 +22,7 @@ pub returns-in_err-info-clause-ends : goal.returns-in_err-info-clause-ends
 returns-in_err-info-clause-ends g c = named_ends c.args.stanza.now c.args.name.now c.requires _ _ c.heal_pair.ensures.now_part c.heal_pair.ensures.crash c.heal_pair.ensures.idle c.heal_pair.ensures.told
 
 pub returns-clause-found : goal.returns-clause-found
-returns-clause-found g c = subst (λ (n : Text). IfSome (g.D.Disk.view c.args.repo.now).now (λ (f : Content). PairIs IsArchiveText f n (archive_info_of c.in_ok-info.info))) c.requires c.in_ok-info.ensures.found
+returns-clause-found g c = subst (λ (n : Text). IfSome (g.D.Disk.state c.args.repo.now).view.now (λ (f : Content). PairIs IsArchiveText f n (archive_info_of c.in_ok-info.info))) c.requires c.in_ok-info.ensures.found
 
 pub returns-clause-stays : goal.returns-clause-stays
 returns-clause-stays g c = named_stays c.args.stanza.now c.args.name.now c.requires _ _ c.heal_pair.ensures.now_part c.heal_pair.ensures.crash c.heal_pair.ensures.idle c.heal_pair.ensures.told

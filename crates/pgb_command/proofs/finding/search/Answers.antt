@@ -20,8 +20,8 @@ returns-in_err-serve_under-clause-changes g c =
     let cluster = c.in-Some.cluster.now in
     let last : c.loop-cluster.rest.now ≡ c.in-Some.earlier.now ++ cluster ∷ [] = search rules in
     let is = parts_on c.args.history.now c.loop-cluster.rest.now c.in-Some.earlier.now cluster i.parts.0 i.parts.1 last in
-    let now = (g.D.Disk.view c.args.repo.now).now in
-    goes_as (λ b. IsSame told cluster × AreBytes stanza (id_kept cluster) name (g.D.Disk.view c.loop-cluster.repo).now b) (λ b. IfSome now (FoundIn c.args.history.now stanza told name b)) c.args.wanted.now.path.now _ _ _ i.nodes
+    let now = (g.D.Disk.state c.args.repo.now).view.now in
+    goes_as (λ b. IsSame told cluster × AreBytes stanza (id_kept cluster) name (g.D.Disk.state c.loop-cluster.repo).view.now b) (λ b. IfSome now (FoundIn c.args.history.now stanza told name b)) c.args.wanted.now.path.now _ _ _ i.nodes
     (λ b h. found_in stanza told name c.args.history.now c.in-Some.earlier.now cluster i.parts.0 is c.requires.numbers h.0 now b i.parts.2 (subst (λ (o : Option Content). AreBytes stanza (id_kept cluster) name o b) i.now h.1))
     c.in_err-serve_under.ensures.changes
 
@@ -34,9 +34,9 @@ returns-in_err-serve_under-clause-cause g c =
     let cluster = c.in-Some.cluster.now in
     let last : c.loop-cluster.rest.now ≡ c.in-Some.earlier.now ++ cluster ∷ [] = search rules in
     let is = parts_on c.args.history.now c.loop-cluster.rest.now c.in-Some.earlier.now cluster i.parts.0 i.parts.1 last in
-    let now = (g.D.Disk.view c.args.repo.now).now in
-    let disk_rose = Rises (g.D.Disk.faults c.loop-cluster.repo) (g.D.Disk.faults c.serve_under.new.repo) in
-    let tree_rose = Rises (g.T.Tree.faults c.loop-cluster.tree) (g.T.Tree.faults c.serve_under.new.tree) in
+    let now = (g.D.Disk.state c.args.repo.now).view.now in
+    let disk_rose = Rises (g.D.Disk.state c.loop-cluster.repo).faults (g.D.Disk.state c.serve_under.new.repo).faults in
+    let tree_rose = Rises (g.T.Tree.state c.loop-cluster.tree).faults (g.T.Tree.state c.serve_under.new.tree).faults in
     let e = c.in_err-serve_under.field-0.0 in
     let under = subst (λ (o : Option Content). UnderCause (IsSame told cluster) stanza (id_kept cluster) name o disk_rose tree_rose e) i.now c.in_err-serve_under.ensures.cause in
     cause_err stanza told name c.from_residual.result e c.from_residual.ensures.1 c.args.history.now now _ _
@@ -51,9 +51,9 @@ returns-then-branch-clause-puts g c =
     let cluster = c.in-Some.cluster.now in
     let last : c.loop-cluster.rest.now ≡ c.in-Some.earlier.now ++ cluster ∷ [] = search rules in
     let is = parts_on c.args.history.now c.loop-cluster.rest.now c.in-Some.earlier.now cluster i.parts.0 i.parts.1 last in
-    let now = (g.D.Disk.view c.args.repo.now).now in
+    let now = (g.D.Disk.state c.args.repo.now).view.now in
     let served : c.in_ok-serve_under.field-0 ≡ true = search rules in
-    let h = subst (λ (b : Bool). Puts (Ok b) (λ b. IsSame told cluster × AreBytes stanza (id_kept cluster) name (g.D.Disk.view c.loop-cluster.repo).now b) (IsSame told cluster → IfSome (g.D.Disk.view c.loop-cluster.repo).now (StoresNone stanza (id_kept cluster) name)) c.args.wanted.now.path.now (g.T.Tree.nodes c.loop-cluster.tree) (g.T.Tree.nodes c.serve_under.new.tree)) served c.in_ok-serve_under.ensures.puts in (
+    let h = subst (λ (b : Bool). Puts (Ok b) (λ b. IsSame told cluster × AreBytes stanza (id_kept cluster) name (g.D.Disk.state c.loop-cluster.repo).view.now b) (IsSame told cluster → IfSome (g.D.Disk.state c.loop-cluster.repo).view.now (StoresNone stanza (id_kept cluster) name)) c.args.wanted.now.path.now (g.T.Tree.state c.loop-cluster.tree).nodes (g.T.Tree.state c.serve_under.new.tree).nodes) served c.in_ok-serve_under.ensures.puts in (
       h.0,
       found_in stanza told name c.args.history.now c.in-Some.earlier.now cluster i.parts.0 is c.requires.numbers h.1.0 now h.0 i.parts.2 (subst (λ (o : Option Content). AreBytes stanza (id_kept cluster) name o h.0) i.now h.1.1),
       h.2,
@@ -68,8 +68,8 @@ returns-then-branch-clause-changes g c =
     let cluster = c.in-Some.cluster.now in
     let last : c.loop-cluster.rest.now ≡ c.in-Some.earlier.now ++ cluster ∷ [] = search rules in
     let is = parts_on c.args.history.now c.loop-cluster.rest.now c.in-Some.earlier.now cluster i.parts.0 i.parts.1 last in
-    let now = (g.D.Disk.view c.args.repo.now).now in
-    goes_as (λ b. IsSame told cluster × AreBytes stanza (id_kept cluster) name (g.D.Disk.view c.loop-cluster.repo).now b) (λ b. IfSome now (FoundIn c.args.history.now stanza told name b)) c.args.wanted.now.path.now _ _ _ i.nodes
+    let now = (g.D.Disk.state c.args.repo.now).view.now in
+    goes_as (λ b. IsSame told cluster × AreBytes stanza (id_kept cluster) name (g.D.Disk.state c.loop-cluster.repo).view.now b) (λ b. IfSome now (FoundIn c.args.history.now stanza told name b)) c.args.wanted.now.path.now _ _ _ i.nodes
     (λ b h. found_in stanza told name c.args.history.now c.in-Some.earlier.now cluster i.parts.0 is c.requires.numbers h.0 now b i.parts.2 (subst (λ (o : Option Content). AreBytes stanza (id_kept cluster) name o b) i.now h.1))
     c.in_ok-serve_under.ensures.changes
 
@@ -82,9 +82,9 @@ loop-cluster-preserved g c =
     let cluster = c.in-Some.cluster.now in
     let last : c.loop-cluster.rest.now ≡ c.in-Some.earlier.now ++ cluster ∷ [] = search rules in
     let is = parts_on c.args.history.now c.loop-cluster.rest.now c.in-Some.earlier.now cluster i.parts.0 i.parts.1 last in
-    let now = (g.D.Disk.view c.args.repo.now).now in
+    let now = (g.D.Disk.state c.args.repo.now).view.now in
     let none : c.in_ok-serve_under.field-0 ≡ false = search rules in
-    let h = subst (λ (b : Bool). Puts (Ok b) (λ b. IsSame told cluster × AreBytes stanza (id_kept cluster) name (g.D.Disk.view c.loop-cluster.repo).now b) (IsSame told cluster → IfSome (g.D.Disk.view c.loop-cluster.repo).now (StoresNone stanza (id_kept cluster) name)) c.args.wanted.now.path.now (g.T.Tree.nodes c.loop-cluster.tree) (g.T.Tree.nodes c.serve_under.new.tree)) none c.in_ok-serve_under.ensures.puts in
+    let h = subst (λ (b : Bool). Puts (Ok b) (λ b. IsSame told cluster × AreBytes stanza (id_kept cluster) name (g.D.Disk.state c.loop-cluster.repo).view.now b) (IsSame told cluster → IfSome (g.D.Disk.state c.loop-cluster.repo).view.now (StoresNone stanza (id_kept cluster) name)) c.args.wanted.now.path.now (g.T.Tree.state c.loop-cluster.tree).nodes (g.T.Tree.state c.serve_under.new.tree).nodes) none c.in_ok-serve_under.ensures.puts in
     record {
       parts = (cluster ∷ i.parts.0, is, more_absent stanza told name now cluster i.parts.0 (subst (λ (o : Option Content). IsSame told cluster → IfSome o (StoresNone stanza (id_kept cluster) name)) i.now h.0) i.parts.2);
       nodes = h.1 ∙ i.nodes;

@@ -7,14 +7,14 @@ use Rattle.pgb_command.proofs.finding.search.Given as goal
 
 abbrev pub invariant-loop-cluster : goal.invariant-loop-cluster
 invariant-loop-cluster g l = let D = g.D.Disk in let T = g.T.Tree in record {
-  parts : (seen : List ClusterId) × (l.history ≡ l.rest ++ seen) × IfSome (D.view l.fn.repo).now (AbsentIn seen l.stanza l.told l.wanted.name);
-  nodes : T.nodes l.tree ≡ T.nodes l.fn.tree;
-  now : (D.view l.repo).now ≡ (D.view l.fn.repo).now;
-  time : Rests (D.view l.fn.repo) (D.view l.repo);
-  repo_place : D.place l.repo ≡ D.place l.fn.repo;
-  tree_place : T.place l.tree ≡ T.place l.fn.tree;
-  repo_later : D.faults l.fn.repo ≤ D.faults l.repo;
-  tree_later : T.faults l.fn.tree ≤ T.faults l.tree;
+  parts : (seen : List ClusterId) × (l.history ≡ l.rest ++ seen) × IfSome (D.state l.fn.repo).view.now (AbsentIn seen l.stanza l.told l.wanted.name);
+  nodes : (T.state l.tree).nodes ≡ (T.state l.fn.tree).nodes;
+  now : (D.state l.repo).view.now ≡ (D.state l.fn.repo).view.now;
+  time : Rests (D.state l.fn.repo).view (D.state l.repo).view;
+  repo_place : (D.state l.repo).opened ≡ (D.state l.fn.repo).opened;
+  tree_place : (T.state l.tree).opened ≡ (T.state l.fn.tree).opened;
+  repo_later : (D.state l.fn.repo).faults ≤ (D.state l.repo).faults;
+  tree_later : (T.state l.fn.tree).faults ≤ (T.state l.tree).faults;
 }
 
 abbrev pub decreases-loop-cluster : goal.decreases-loop-cluster

@@ -19,7 +19,7 @@ loop-cluster-preserved g c =
     let found = c.in_ok-segments.segments.items in
     let ends = subst (λ (o : Option Content). IfSome o (λ f. AreEnds c.args.stanza.now id f found)) i.now c.in_ok-segments.ensures.ends in
     record {
-      ends = step_ends c.args.stanza.now (g.D.Disk.view c.args.repo.now).now c.args.history.now c.loop-cluster.cluster-index none id c.loop-cluster.names.items c.add_names.new.names.items found
+      ends = step_ends c.args.stanza.now (g.D.Disk.state c.args.repo.now).view.now c.args.history.now c.loop-cluster.cluster-index none id c.loop-cluster.names.items c.add_names.new.names.items found
           c.loop-cluster-test.true known i.ends ends
           (c.in_ok-add_names.ensures ∙ ap (λ (s : List Segment). c.loop-cluster.names.items ++ map (named id) s) c.deref.ensures.value);
       now = c.ends_under.ensures.now ∙ i.now;

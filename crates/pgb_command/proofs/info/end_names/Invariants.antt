@@ -6,9 +6,9 @@ use Rattle.pgb_command.proofs.info.end_names.Given as goal
 
 abbrev pub invariant-loop-cluster : goal.invariant-loop-cluster
 invariant-loop-cluster g l = let D = g.D.Disk in record {
-  ends : IfSome (D.view l.fn.repo).now (λ f. HaveEnds l.stanza (take l.cluster-index l.history) f l.names.items);
-  now : (D.view l.repo).now ≡ (D.view l.fn.repo).now;
-  time : Rests (D.view l.fn.repo) (D.view l.repo);
-  place : D.place l.repo ≡ D.place l.fn.repo;
-  later : D.faults l.fn.repo ≤ D.faults l.repo;
+  ends : IfSome (D.state l.fn.repo).view.now (λ f. HaveEnds l.stanza (take l.cluster-index l.history) f l.names.items);
+  now : (D.state l.repo).view.now ≡ (D.state l.fn.repo).view.now;
+  time : Rests (D.state l.fn.repo).view (D.state l.repo).view;
+  place : (D.state l.repo).opened ≡ (D.state l.fn.repo).opened;
+  later : (D.state l.fn.repo).faults ≤ (D.state l.repo).faults;
 }

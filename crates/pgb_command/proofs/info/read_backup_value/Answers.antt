@@ -7,4 +7,4 @@ use Rattle.pgb_model.specs.Values.{backup_info_of}
 use Rattle.pgb_command.proofs.info.read_backup_value.Goals as goal
 
 pub returns-in-Ok-clause-found : goal.returns-in-Ok-clause-found
-returns-in-Ok-clause-found g c = subst (λ (n : Text). IfSome (g.D.Disk.view c.args.repo.now).now (λ f. PairIs IsBackupText f n (backup_info_of c.in-Ok.info))) (c.as_str.ensures.value ∙ c.in_ok-name.ensures) c.in-Ok.ensures.found
+returns-in-Ok-clause-found g c = subst (λ (n : Text). IfSome (g.D.Disk.state c.args.repo.now).view.now (λ f. PairIs IsBackupText f n (backup_info_of c.in-Ok.info))) (c.as_str.ensures.value ∙ c.in_ok-name.ensures) c.in-Ok.ensures.found

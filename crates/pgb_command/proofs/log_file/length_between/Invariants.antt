@@ -6,12 +6,12 @@ use Rattle.pgb_command.proofs.log_file.length_between.Given as goal
 
 abbrev pub invariant-loop-low : goal.invariant-loop-low
 invariant-loop-low g l = let T = g.T.Tree in record {
-  nodes : T.nodes l.tree ≡ T.nodes l.fn.tree;
-  place : T.place l.tree ≡ T.place l.fn.tree;
-  later : T.faults l.fn.tree ≤ T.faults l.tree;
+  nodes : (T.state l.tree).nodes ≡ (T.state l.fn.tree).nodes;
+  place : (T.state l.tree).opened ≡ (T.state l.fn.tree).opened;
+  later : (T.state l.fn.tree).faults ≤ (T.state l.tree).faults;
   order : l.low ≤ l.high;
   least : l.least ≤ l.low;
-  between : IfSome (told_file (T.nodes l.fn.tree) (known_path l.what)) (λ b. (l.low ≤ length b) × (length b ≤ l.high));
+  between : IfSome (told_file (T.state l.fn.tree).nodes (known_path l.what)) (λ b. (l.low ≤ length b) × (length b ≤ l.high));
 }
 
 abbrev pub decreases-loop-low : goal.decreases-loop-low

@@ -6,14 +6,14 @@ use Rattle.pgb_command.proofs.log_file.measure.Goals as goal
 
 pub length_within-requires-clause-front : goal.length_within-requires-clause-front
 length_within-requires-clause-front g c =
-    let nodes = g.T.Tree.nodes c.args.tree.now in
+    let nodes = (g.T.Tree.state c.args.tree.now).nodes in
     let path = known_path c.args.what in
     let long : c.len.result ≡ length c.in-Some.front.items = grind (arith, common_steps) in
     front_length path c.in-Some.front.items nodes _ _ c.read_front.ensures.nodes long (as_front nodes path _ c.in-Some.front c.in-Some.is c.in_ok-front.ensures.bytes)
 
 pub returns-in-Some-2-clause-measured : goal.returns-in-Some-2-clause-measured
 returns-in-Some-2-clause-measured g c =
-    let nodes = g.T.Tree.nodes c.args.tree.now in
+    let nodes = (g.T.Tree.state c.args.tree.now).nodes in
     let path = known_path c.args.what in
     let front = c.in-Some.front.items in
     let is = as_front nodes path _ c.in-Some.front c.in-Some.is c.in_ok-front.ensures.bytes in

@@ -12,7 +12,7 @@ loop-buf-preserved g c =
     let bytes = c.loop-buf.bytes in
     let path = known_path c.args.what.now in
     let told = c.in_ok-read.ensures.bytes in
-    let reads : IfSome (g.T.Tree.nodes c.args.tree.now) (λ (f : Nodes). Reads (file_bytes (f path)) (vec_len bytes) (length c.loop-buf.buf) c.read.new.buf (Some c.in-Some.n)) =
+    let reads : IfSome (g.T.Tree.state c.args.tree.now).nodes (λ (f : Nodes). Reads (file_bytes (f path)) (vec_len bytes) (length c.loop-buf.buf) c.read.new.buf (Some c.in-Some.n)) =
     subst (λ (o : Option Nodes). IfSome o (λ (f : Nodes). Reads (file_bytes (f path)) (vec_len bytes) (length c.loop-buf.buf) c.read.new.buf (Some c.in-Some.n))) i.nodes (rw (c.in-Some.is, c.len-in-loop-buf.ensures) at told) in
     let more : c.extend_from_slice.new.self.items ≡ bytes.items ++ take c.in-Some.n c.read.new.buf = grind (arith, common_steps) in
     record {
@@ -20,5 +20,5 @@ loop-buf-preserved g c =
       place = c.read.ensures.place ∙ i.place;
       proper = c.read.ensures.proper ∙ i.proper;
       later = omega (arith, i.later, c.read.ensures.cause.later);
-      front = inr (front_more (g.T.Tree.nodes c.args.tree.now) (λ (f : Nodes). file_bytes (f path)) bytes.items c.read.new.buf c.extend_from_slice.new.self.items (vec_len bytes) c.in-Some.n (length c.loop-buf.buf) (vec_len c.extend_from_slice.new.self) reads i.front (grind (arith, common_steps)) more (grind (arith, common_steps)));
+      front = inr (front_more (g.T.Tree.state c.args.tree.now).nodes (λ (f : Nodes). file_bytes (f path)) bytes.items c.read.new.buf c.extend_from_slice.new.self.items (vec_len bytes) c.in-Some.n (length c.loop-buf.buf) (vec_len c.extend_from_slice.new.self) reads i.front (grind (arith, common_steps)) more (grind (arith, common_steps)));
     }

@@ -15,7 +15,7 @@ loop-told-preserved g c =
     let count = c.in-Ok-Some.count in
     let piece = take count c.read.new.buf in
     let from = c.args.from.now in
-    let reads : IfSome (g.D.Disk.view c.args.repo.now).now (λ (f : Content). Reads (f from) told (length c.loop-told.room) c.read.new.buf (Some count)) =
+    let reads : IfSome (g.D.Disk.state c.args.repo.now).view.now (λ (f : Content). Reads (f from) told (length c.loop-told.room) c.read.new.buf (Some count)) =
     subst (λ (o : Option Content). IfSome o (λ (f : Content). Reads (f from) told (length c.loop-told.room) c.read.new.buf (Some count))) i.now (rw (c.in-Ok-Some.field-0-is) at c.in-Ok-Some.ensures.bytes) in
     let within : count ≤ 65536 = grind (arith, common_steps) in
     let long : length (bytes ++ piece) ≡ told + count = grind (arith, common_steps) in
@@ -25,7 +25,7 @@ loop-told-preserved g c =
         bytes ++ piece,
         c.update.ensures bytes i.copied.1,
         long,
-        inr (front_more (g.D.Disk.view c.args.repo.now).now (λ (f : Content). f from) bytes c.read.new.buf (bytes ++ piece) told count (length c.loop-told.room) (told + count) reads i.copied.3 i.copied.2 refl refl),
+        inr (front_more (g.D.Disk.state c.args.repo.now).view.now (λ (f : Content). f from) bytes c.read.new.buf (bytes ++ piece) told count (length c.loop-told.room) (told + count) reads i.copied.3 i.copied.2 refl refl),
         begun_more c.args.name.now bytes _ _ i.copied.4 piece _ c.in_default.ensures.nodes,
       );
       now = c.read.ensures.now ∙ i.now;

@@ -9,13 +9,13 @@ use Rattle.pgb_command.proofs.serving.copy_new.Given as goal
 abbrev pub invariant-loop-told : goal.invariant-loop-told
 invariant-loop-told g l = let D = g.D.Disk in let T = g.T.Tree in record {
   small : l.told ≤ 2 ^ 30 + 65536;
-  copied : (bytes : List ℕ) × Holds l.digest bytes × (length bytes ≡ l.told) × ((l.told ≡ 0) ⊎ IfSome (D.view l.fn.repo).now (λ f. IsFrontOf (f l.from) bytes l.told)) × IsBegun l.name bytes (T.nodes l.fn.tree) (T.nodes l.tree);
-  now : (D.view l.repo).now ≡ (D.view l.fn.repo).now;
-  time : Rests (D.view l.fn.repo) (D.view l.repo);
-  repo_place : D.place l.repo ≡ D.place l.fn.repo;
-  tree_place : T.place l.tree ≡ T.place l.fn.tree;
-  repo_later : D.faults l.fn.repo ≤ D.faults l.repo;
-  tree_later : T.faults l.fn.tree ≤ T.faults l.tree;
+  copied : (bytes : List ℕ) × Holds l.digest bytes × (length bytes ≡ l.told) × ((l.told ≡ 0) ⊎ IfSome (D.state l.fn.repo).view.now (λ f. IsFrontOf (f l.from) bytes l.told)) × IsBegun l.name bytes (T.state l.fn.tree).nodes (T.state l.tree).nodes;
+  now : (D.state l.repo).view.now ≡ (D.state l.fn.repo).view.now;
+  time : Rests (D.state l.fn.repo).view (D.state l.repo).view;
+  repo_place : (D.state l.repo).opened ≡ (D.state l.fn.repo).opened;
+  tree_place : (T.state l.tree).opened ≡ (T.state l.fn.tree).opened;
+  repo_later : (D.state l.fn.repo).faults ≤ (D.state l.repo).faults;
+  tree_later : (T.state l.fn.tree).faults ≤ (T.state l.tree).faults;
 }
 
 abbrev pub decreases-loop-told : goal.decreases-loop-told

@@ -10,24 +10,24 @@ use Rattle.pgb_command.proofs.serving.pass_on.Goals as goal
 
 pub returns-in-Err-clause-changes : goal.returns-in-Err-clause-changes
 returns-in-Err-clause-changes g c =
-    changes_only c.args.path.now c.as_str-name.result.now (c.as_str-name.ensures.value ∙ c.in_ok-temporary.ensures) (HasBytes (g.D.Disk.view c.args.repo.now).now (string_bytes c.args.from) c.args.sum.0) _ _
+    changes_only c.args.path.now c.as_str-name.result.now (c.as_str-name.ensures.value ∙ c.in_ok-temporary.ensures) (HasBytes (g.D.Disk.state c.args.repo.now).view.now (string_bytes c.args.from) c.args.sum.0) _ _
     (same_on c.as_str-name.result.now _ _ _ c.in-Err.ensures.copies c.give_up.ensures.nodes)
 
 pub returns-in-Err-rename-clause-changes : goal.returns-in-Err-rename-clause-changes
 returns-in-Err-rename-clause-changes g c =
     let name = c.as_str-name.result.now in
-    let same : SameBut name (g.T.Tree.nodes c.args.tree.now) (g.T.Tree.nodes c.copy_new.new.tree) = some_copy c.in-Ok-Some.copied _ _ name _ _ (rw (c.in-Ok-Some.field-0-is) at c.in-Ok-Some.ensures.copies) in
-    let still = subst (SameBut name (g.T.Tree.nodes c.args.tree.now)) (sym c.in-Err-rename.ensures.nodes) same in
-    changes_only c.args.path.now name (c.as_str-name.ensures.value ∙ c.in_ok-temporary.ensures) (HasBytes (g.D.Disk.view c.args.repo.now).now (string_bytes c.args.from) c.args.sum.0) _ _
+    let same : SameBut name (g.T.Tree.state c.args.tree.now).nodes (g.T.Tree.state c.copy_new.new.tree).nodes = some_copy c.in-Ok-Some.copied _ _ name _ _ (rw (c.in-Ok-Some.field-0-is) at c.in-Ok-Some.ensures.copies) in
+    let still = subst (SameBut name (g.T.Tree.state c.args.tree.now).nodes) (sym c.in-Err-rename.ensures.nodes) same in
+    changes_only c.args.path.now name (c.as_str-name.ensures.value ∙ c.in_ok-temporary.ensures) (HasBytes (g.D.Disk.state c.args.repo.now).view.now (string_bytes c.args.from) c.args.sum.0) _ _
     (same_on name _ _ _ still c.give_up-in-Err-rename.ensures.nodes)
 
 pub returns-then-is_right-clause-passes : goal.returns-then-is_right-clause-passes
 returns-then-is_right-clause-passes g c =
     let name = c.as_str-name.result.now in
-    let repo = (g.D.Disk.view c.args.repo.now).now in
+    let repo = (g.D.Disk.state c.args.repo.now).view.now in
     let from = c.as_str.result.now in
-    let old = g.T.Tree.nodes c.args.tree.now in
-    let mid = g.T.Tree.nodes c.copy_new.new.tree in
+    let old = (g.T.Tree.state c.args.tree.now).nodes in
+    let mid = (g.T.Tree.state c.copy_new.new.tree).nodes in
     let whole : c.in-Ok-Some.copied ≡ Whole c.args.sum = search rules in
     let x = subst (λ (k : Copied). (bytes : Text) × CopiedOf k repo from bytes × IsBegun name bytes old mid) whole (rw (c.in-Ok-Some.field-0-is) at c.in-Ok-Some.ensures.copies) in (
       x.0,
@@ -38,10 +38,10 @@ returns-then-is_right-clause-passes g c =
 pub returns-then-is_right-clause-changes : goal.returns-then-is_right-clause-changes
 returns-then-is_right-clause-changes g c =
     let name = c.as_str-name.result.now in
-    let repo = (g.D.Disk.view c.args.repo.now).now in
+    let repo = (g.D.Disk.state c.args.repo.now).view.now in
     let from = c.as_str.result.now in
-    let old = g.T.Tree.nodes c.args.tree.now in
-    let mid = g.T.Tree.nodes c.copy_new.new.tree in
+    let old = (g.T.Tree.state c.args.tree.now).nodes in
+    let mid = (g.T.Tree.state c.copy_new.new.tree).nodes in
     let whole : c.in-Ok-Some.copied ≡ Whole c.args.sum = search rules in
     let x = subst (λ (k : Copied). (bytes : Text) × CopiedOf k repo from bytes × IsBegun name bytes old mid) whole (rw (c.in-Ok-Some.field-0-is) at c.in-Ok-Some.ensures.copies) in
     moves_copy c.args.path.now name (c.as_str-name.ensures.value ∙ c.in_ok-temporary.ensures) x.0 old mid _ x.2 c.in_default.ensures.nodes (HasBytes repo (string_bytes c.args.from) c.args.sum.0)
@@ -50,6 +50,6 @@ returns-then-is_right-clause-changes g c =
 pub returns-in-Err-remove-clause-changes : goal.returns-in-Err-remove-clause-changes
 returns-in-Err-remove-clause-changes g c =
     let name = c.as_str-name.result.now in
-    let same : SameBut name (g.T.Tree.nodes c.args.tree.now) (g.T.Tree.nodes c.copy_new.new.tree) = some_copy c.in-Ok-Some.copied _ _ name _ _ (rw (c.in-Ok-Some.field-0-is) at c.in-Ok-Some.ensures.copies) in
-    changes_only c.args.path.now name (c.as_str-name.ensures.value ∙ c.in_ok-temporary.ensures) (HasBytes (g.D.Disk.view c.args.repo.now).now (string_bytes c.args.from) c.args.sum.0) _ _
-    (subst (SameBut name (g.T.Tree.nodes c.args.tree.now)) (sym c.in-Err-remove.ensures.nodes) same)
+    let same : SameBut name (g.T.Tree.state c.args.tree.now).nodes (g.T.Tree.state c.copy_new.new.tree).nodes = some_copy c.in-Ok-Some.copied _ _ name _ _ (rw (c.in-Ok-Some.field-0-is) at c.in-Ok-Some.ensures.copies) in
+    changes_only c.args.path.now name (c.as_str-name.ensures.value ∙ c.in_ok-temporary.ensures) (HasBytes (g.D.Disk.state c.args.repo.now).view.now (string_bytes c.args.from) c.args.sum.0) _ _
+    (subst (SameBut name (g.T.Tree.state c.args.tree.now).nodes) (sym c.in-Err-remove.ensures.nodes) same)

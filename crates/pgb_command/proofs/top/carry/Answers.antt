@@ -9,35 +9,35 @@ use Rattle.pgb_command.proofs.Closings.{parts_err, get_apart, info_apart}
 use Rattle.pgb_command.proofs.top.carry.Goals as goal
 
 pub returns-in-ArchiveGet-clause-part : goal.returns-in-ArchiveGet-clause-part
-returns-in-ArchiveGet-clause-part g c = read_part (asked_of c.args.settings.now) (get c.in-ArchiveGet.name.now c.in-ArchiveGet.path.now) tt (g.T.Tree.nodes c.args.tree.now) (g.D.Disk.view c.args.repo.now) (g.D.Disk.view c.get_file.new.repo) (ap request_of c.in-ArchiveGet.is) c.get_file.ensures.time c.get_file.ensures.now
+returns-in-ArchiveGet-clause-part g c = read_part (asked_of c.args.settings.now) (get c.in-ArchiveGet.name.now c.in-ArchiveGet.path.now) tt (g.T.Tree.state c.args.tree.now).nodes (g.D.Disk.state c.args.repo.now).view (g.D.Disk.state c.get_file.new.repo).view (ap request_of c.in-ArchiveGet.is) c.get_file.ensures.time c.get_file.ensures.now
 
 pub returns-in-ArchiveGet-clause-done : goal.returns-in-ArchiveGet-clause-done
-returns-in-ArchiveGet-clause-done g c = all_ok c.get_file.result _ (read_all (asked_of c.args.settings.now) (get c.in-ArchiveGet.name.now c.in-ArchiveGet.path.now) tt (g.T.Tree.nodes c.args.tree.now) (g.D.Disk.view c.args.repo.now) (g.D.Disk.view c.get_file.new.repo) (ap request_of c.in-ArchiveGet.is) c.get_file.ensures.time c.get_file.ensures.now)
+returns-in-ArchiveGet-clause-done g c = all_ok c.get_file.result _ (read_all (asked_of c.args.settings.now) (get c.in-ArchiveGet.name.now c.in-ArchiveGet.path.now) tt (g.T.Tree.state c.args.tree.now).nodes (g.D.Disk.state c.args.repo.now).view (g.D.Disk.state c.get_file.new.repo).view (ap request_of c.in-ArchiveGet.is) c.get_file.ensures.time c.get_file.ensures.now)
 
 pub returns-in-ArchiveGet-clause-none : goal.returns-in-ArchiveGet-clause-none
-returns-in-ArchiveGet-clause-none g c = nothing_all c.get_file.result _ (read_none (asked_of c.args.settings.now) (get c.in-ArchiveGet.name.now c.in-ArchiveGet.path.now) tt (g.T.Tree.nodes c.args.tree.now) (g.D.Disk.view c.args.repo.now) (g.D.Disk.view c.get_file.new.repo) (ap request_of c.in-ArchiveGet.is) c.get_file.ensures.time c.get_file.ensures.now)
+returns-in-ArchiveGet-clause-none g c = nothing_all c.get_file.result _ (read_none (asked_of c.args.settings.now) (get c.in-ArchiveGet.name.now c.in-ArchiveGet.path.now) tt (g.T.Tree.state c.args.tree.now).nodes (g.D.Disk.state c.args.repo.now).view (g.D.Disk.state c.get_file.new.repo).view (ap request_of c.in-ArchiveGet.is) c.get_file.ensures.time c.get_file.ensures.now)
 
 pub returns-in-ArchiveGet-clause-answered : goal.returns-in-ArchiveGet-clause-answered
-returns-in-ArchiveGet-clause-answered g c = got_answer (asked_of c.args.settings.now) c.in-ArchiveGet.name.now c.in-ArchiveGet.path.now (g.T.Tree.nodes c.args.tree.now) (ap request_of c.in-ArchiveGet.is) c.get_file.result _ _ _ _ _ _ _ _ c.get_file.ensures.told c.get_file.ensures.cause
+returns-in-ArchiveGet-clause-answered g c = got_answer (asked_of c.args.settings.now) c.in-ArchiveGet.name.now c.in-ArchiveGet.path.now (g.T.Tree.state c.args.tree.now).nodes (ap request_of c.in-ArchiveGet.is) c.get_file.result _ _ _ _ _ _ _ _ c.get_file.ensures.told c.get_file.ensures.cause
 
 pub returns-in-Info-clause-part : goal.returns-in-Info-clause-part
-returns-in-Info-clause-part g c = read_part (asked_of c.args.settings.now) (report c.in-Info.form) tt (g.T.Tree.nodes c.args.tree.now) (g.D.Disk.view c.args.repo.now) (g.D.Disk.view c.report_stanza.new.repo) (ap request_of c.in-Info.is) c.report_stanza.ensures.time c.report_stanza.ensures.now
+returns-in-Info-clause-part g c = read_part (asked_of c.args.settings.now) (report c.in-Info.form) tt (g.T.Tree.state c.args.tree.now).nodes (g.D.Disk.state c.args.repo.now).view (g.D.Disk.state c.report_stanza.new.repo).view (ap request_of c.in-Info.is) c.report_stanza.ensures.time c.report_stanza.ensures.now
 
 pub returns-in-Info-clause-done : goal.returns-in-Info-clause-done
-returns-in-Info-clause-done g c = all_ok c.report_stanza.result _ (read_all (asked_of c.args.settings.now) (report c.in-Info.form) tt (g.T.Tree.nodes c.args.tree.now) (g.D.Disk.view c.args.repo.now) (g.D.Disk.view c.report_stanza.new.repo) (ap request_of c.in-Info.is) c.report_stanza.ensures.time c.report_stanza.ensures.now)
+returns-in-Info-clause-done g c = all_ok c.report_stanza.result _ (read_all (asked_of c.args.settings.now) (report c.in-Info.form) tt (g.T.Tree.state c.args.tree.now).nodes (g.D.Disk.state c.args.repo.now).view (g.D.Disk.state c.report_stanza.new.repo).view (ap request_of c.in-Info.is) c.report_stanza.ensures.time c.report_stanza.ensures.now)
 
 pub returns-in-Info-clause-none : goal.returns-in-Info-clause-none
-returns-in-Info-clause-none g c = nothing_all c.report_stanza.result _ (read_none (asked_of c.args.settings.now) (report c.in-Info.form) tt (g.T.Tree.nodes c.args.tree.now) (g.D.Disk.view c.args.repo.now) (g.D.Disk.view c.report_stanza.new.repo) (ap request_of c.in-Info.is) c.report_stanza.ensures.time c.report_stanza.ensures.now)
+returns-in-Info-clause-none g c = nothing_all c.report_stanza.result _ (read_none (asked_of c.args.settings.now) (report c.in-Info.form) tt (g.T.Tree.state c.args.tree.now).nodes (g.D.Disk.state c.args.repo.now).view (g.D.Disk.state c.report_stanza.new.repo).view (ap request_of c.in-Info.is) c.report_stanza.ensures.time c.report_stanza.ensures.now)
 
 pub returns-in-Info-clause-answered : goal.returns-in-Info-clause-answered
-returns-in-Info-clause-answered g c = report_answer (asked_of c.args.settings.now) c.in-Info.form (g.T.Tree.nodes c.args.tree.now) (ap request_of c.in-Info.is) c.report_stanza.result _ _ _ _ _ _ _ c.report_stanza.ensures.told c.report_stanza.ensures.cause
+returns-in-Info-clause-answered g c = report_answer (asked_of c.args.settings.now) c.in-Info.form (g.T.Tree.state c.args.tree.now).nodes (ap request_of c.in-Info.is) c.report_stanza.result _ _ _ _ _ _ _ c.report_stanza.ensures.told c.report_stanza.ensures.cause
 
 pub returns-in-Info-clause-served : goal.returns-in-Info-clause-served
-returns-in-Info-clause-served g c = report_serves (asked_of c.args.settings.now) c.in-Info.form (g.T.Tree.nodes c.args.tree.now) (ap request_of c.in-Info.is) c.report_stanza.result _ _ c.report_stanza.ensures.told
+returns-in-Info-clause-served g c = report_serves (asked_of c.args.settings.now) c.in-Info.form (g.T.Tree.state c.args.tree.now).nodes (ap request_of c.in-Info.is) c.report_stanza.result _ _ c.report_stanza.ensures.told
 
 pub returns-in-ArchiveGet-clause-closed : goal.returns-in-ArchiveGet-clause-closed
-returns-in-ArchiveGet-clause-closed g c = parts_err _ _ _ _ (get_apart c.args.settings.now.stanza.now c.args.settings.now.pg1_path.now c.in-ArchiveGet.name.now c.in-ArchiveGet.path.now (g.D.Disk.view c.args.repo.now).now (g.T.Tree.nodes c.args.tree.now)
-    (Rises (g.D.Disk.faults c.args.repo.now) (g.D.Disk.faults c.get_file.new.repo)) (Rises (g.T.Tree.faults c.args.tree.now) (g.T.Tree.faults c.get_file.new.tree)) (g.V.Wire.sent c.args.server.now)) c.get_file.result c.get_file.ensures.cause
+returns-in-ArchiveGet-clause-closed g c = parts_err _ _ _ _ (get_apart c.args.settings.now.stanza.now c.args.settings.now.pg1_path.now c.in-ArchiveGet.name.now c.in-ArchiveGet.path.now (g.D.Disk.state c.args.repo.now).view.now (g.T.Tree.state c.args.tree.now).nodes
+    (Rises (g.D.Disk.state c.args.repo.now).faults (g.D.Disk.state c.get_file.new.repo).faults) (Rises (g.T.Tree.state c.args.tree.now).faults (g.T.Tree.state c.get_file.new.tree).faults) (g.V.Wire.sent c.args.server.now)) c.get_file.result c.get_file.ensures.cause
 
 pub returns-in-Info-clause-closed : goal.returns-in-Info-clause-closed
 returns-in-Info-clause-closed g c = parts_err _ _ _ _ (info_apart _ _ _ _) c.report_stanza.result c.report_stanza.ensures.cause

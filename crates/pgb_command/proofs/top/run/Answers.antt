@@ -19,10 +19,10 @@ returns-clause-part g c = λ a asks command asked. (c.serve-served.ensures.part 
 pub returns-clause-kept : goal.returns-clause-kept
 returns-clause-kept g c = λ zero a asks command asked. let t = c.answer.ensures.told in
     let all = at_zero _ c.serve-served.result.ending _ _ _ _ t.0 _ t.2 t.1 zero c.serve-served.ensures.done in
-    command_keeps a.stanza (g.T.Tree.nodes c.args.outside.now.tree) a.data_folder a.request command true _ _ _ asked ((all a asks).carried command asked)
+    command_keeps a.stanza (g.T.Tree.state c.args.outside.now.tree).nodes a.data_folder a.request command true _ _ _ asked ((all a asks).carried command asked)
 
 pub returns-clause-keeps : goal.returns-clause-keeps
-returns-clause-keeps g c = λ a asks command asked. command_keeps a.stanza (g.T.Tree.nodes c.args.outside.now.tree) a.data_folder a.request command false _ _ _ asked ((c.serve-served.ensures.part a asks).carries command asked)
+returns-clause-keeps g c = λ a asks command asked. command_keeps a.stanza (g.T.Tree.state c.args.outside.now.tree).nodes a.data_folder a.request command false _ _ _ asked ((c.serve-served.ensures.part a asks).carries command asked)
 
 pub returns-clause-between : goal.returns-clause-between
 returns-clause-between g c = λ a asks command asked. (c.serve-served.ensures.part a asks).between command asked
@@ -73,19 +73,19 @@ returns-clause-nodes g c = λ early. let t = c.answer.ensures.told in
 
 pub returns-clause-given : goal.returns-clause-given
 returns-clause-given g c = λ zero a asks name path is s some now. let t = c.answer.ensures.told in
-    serves_archived a.stanza a.data_folder name path (g.D.Disk.view c.args.outside.now.repo).now _ _ s some now
+    serves_archived a.stanza a.data_folder name path (g.D.Disk.state c.args.outside.now.repo).view.now _ _ s some now
     (served_at_zero _ _ _ a _ _ _ c.serve-served.result.ending _ t.0 _ t.2 t.1 zero name path is (c.serve-served.ensures.served a asks))
 
 pub returns-clause-lacking : goal.returns-clause-lacking
 returns-clause-lacking g c = λ one a asks name path is s some now. let t = c.answer.ensures.told in
-    misses_archived a.stanza a.data_folder name path (g.D.Disk.view c.args.outside.now.repo).now _ s some now
+    misses_archived a.stanza a.data_folder name path (g.D.Disk.state c.args.outside.now.repo).view.now _ s some now
     (missed_at_one c.serve-served.result.ending _ _ _ _ t.0 _ t.2 t.1 one a _ _ _ name path is (c.serve-served.ensures.served a asks))
 
 pub returns-clause-reported : goal.returns-clause-reported
 returns-clause-reported g c = λ zero a asks form is s some now. let t = c.answer.ensures.told in
     let unknown = map string_bytes c.serve-served.result.unknown.items in
     let r = reported_at_zero unknown _ _ a _ _ _ c.serve-served.result.ending _ t.0 _ t.2 t.1 zero form is (c.serve-served.ensures.served a asks) in
-    (unknown, r.0, reports form a.stanza (g.D.Disk.view c.args.outside.now.repo).now r.0 s some now r.1, r.2)
+    (unknown, r.0, reports form a.stanza (g.D.Disk.state c.args.outside.now.repo).view.now r.0 s some now r.1, r.2)
 
 pub returns-clause-agreed : goal.returns-clause-agreed
 returns-clause-agreed g c = λ zero. let t = c.answer.ensures.told in at_zero _ c.serve-served.result.ending _ _ _ _ t.0 _ t.2 t.1 zero c.serve-served.ensures.asks

@@ -17,19 +17,19 @@ use Rattle.pgb_command.proofs.Closings.{apart_parts, config_apart}
 use Rattle.pgb_command.proofs.top.serve.Goals as goal
 
 pub returns-in-Err-clause-part : goal.returns-in-Err-clause-part
-returns-in-Err-clause-part g c = λ a asks. none_part a (g.T.Tree.nodes c.args.tree.now) (g.D.Disk.view c.args.repo.now)
+returns-in-Err-clause-part g c = λ a asks. none_part a (g.T.Tree.state c.args.tree.now).nodes (g.D.Disk.state c.args.repo.now).view
 
 pub returns-in-Err-clause-none : goal.returns-in-Err-clause-none
-returns-in-Err-clause-none g c = early_all {T = Outcome} (Err c.in-Err.fault) _ (λ a asks. none_done a (g.D.Disk.view c.args.repo.now))
+returns-in-Err-clause-none g c = early_all {T = Outcome} (Err c.in-Err.fault) _ (λ a asks. none_done a (g.D.Disk.state c.args.repo.now).view)
 
 pub returns-in-Err-clause-answered : goal.returns-in-Err-clause-answered
 returns-in-Err-clause-answered g c = refused_as _ _ _ _ _ _ _ _ _ _ _ _ c.in-Err.fault (ap (map string_bytes) c.new.ensures.items) c.in-Err.ensures.cause
 
 pub returns-in-Err-settings_of-clause-part : goal.returns-in-Err-settings_of-clause-part
-returns-in-Err-settings_of-clause-part g c = λ a asks. none_part a (g.T.Tree.nodes c.args.tree.now) (g.D.Disk.view c.args.repo.now)
+returns-in-Err-settings_of-clause-part g c = λ a asks. none_part a (g.T.Tree.state c.args.tree.now).nodes (g.D.Disk.state c.args.repo.now).view
 
 pub returns-in-Err-settings_of-clause-none : goal.returns-in-Err-settings_of-clause-none
-returns-in-Err-settings_of-clause-none g c = λ a asks. none_done a (g.D.Disk.view c.args.repo.now)
+returns-in-Err-settings_of-clause-none g c = λ a asks. none_done a (g.D.Disk.state c.args.repo.now).view
 
 pub returns-in-Err-settings_of-clause-answered : goal.returns-in-Err-settings_of-clause-answered
 returns-in-Err-settings_of-clause-answered g c =
@@ -41,9 +41,9 @@ returns-clause-part g c =
     let x = c.in-Ok.ensures.command in
     let words = map string_bytes c.args.words.now in
     let files = g.I.Source.files c.args.config.now in
-    let nodes = g.T.Tree.nodes c.args.tree.now in
-    let old = g.D.Disk.view c.args.repo.now in
-    let new = g.D.Disk.view c.carry-ending.new.repo in
+    let nodes = (g.T.Tree.state c.args.tree.now).nodes in
+    let old = (g.D.Disk.state c.args.repo.now).view in
+    let new = (g.D.Disk.state c.carry-ending.new.repo).view in
     let may = may_ask words files x.0 x.1 (asked_of c.in-Ok-settings_of.settings) (c.in-Ok-settings_of.ensures.asked x.0 x.2) in
     for_asked words files (λ (a : Asked). PartDone a nodes old new) (asked_of c.in-Ok-settings_of.settings) may c.carry-ending.ensures.part
 
@@ -52,9 +52,9 @@ returns-clause-done g c =
     let x = c.in-Ok.ensures.command in
     let words = map string_bytes c.args.words.now in
     let files = g.I.Source.files c.args.config.now in
-    let nodes = g.T.Tree.nodes c.args.tree.now in
-    let old = g.D.Disk.view c.args.repo.now in
-    let new = g.D.Disk.view c.carry-ending.new.repo in
+    let nodes = (g.T.Tree.state c.args.tree.now).nodes in
+    let old = (g.D.Disk.state c.args.repo.now).view in
+    let new = (g.D.Disk.state c.carry-ending.new.repo).view in
     let may = may_ask words files x.0 x.1 (asked_of c.in-Ok-settings_of.settings) (c.in-Ok-settings_of.ensures.asked x.0 x.2) in
     ok_as c.carry-ending.result _ _ (for_asked words files (λ (a : Asked). AllDone a nodes old new) (asked_of c.in-Ok-settings_of.settings) may) c.carry-ending.ensures.done
 
@@ -63,9 +63,9 @@ returns-clause-none g c =
     let x = c.in-Ok.ensures.command in
     let words = map string_bytes c.args.words.now in
     let files = g.I.Source.files c.args.config.now in
-    let nodes = g.T.Tree.nodes c.args.tree.now in
-    let old = g.D.Disk.view c.args.repo.now in
-    let new = g.D.Disk.view c.carry-ending.new.repo in
+    let nodes = (g.T.Tree.state c.args.tree.now).nodes in
+    let old = (g.D.Disk.state c.args.repo.now).view in
+    let new = (g.D.Disk.state c.carry-ending.new.repo).view in
     let may = may_ask words files x.0 x.1 (asked_of c.in-Ok-settings_of.settings) (c.in-Ok-settings_of.ensures.asked x.0 x.2) in
     nothing_as c.carry-ending.result _ _ (for_asked words files (λ (a : Asked). NoneDone a old new) (asked_of c.in-Ok-settings_of.settings) may) c.carry-ending.ensures.none
 
@@ -74,9 +74,9 @@ returns-clause-answered g c =
     let x = c.in-Ok.ensures.command in
     let words = map string_bytes c.args.words.now in
     let files = g.I.Source.files c.args.config.now in
-    let nodes = g.T.Tree.nodes c.args.tree.now in
-    let old = g.D.Disk.view c.args.repo.now in
-    let new = g.D.Disk.view c.carry-ending.new.repo in
+    let nodes = (g.T.Tree.state c.args.tree.now).nodes in
+    let old = (g.D.Disk.state c.args.repo.now).view in
+    let new = (g.D.Disk.state c.carry-ending.new.repo).view in
     let may = may_ask words files x.0 x.1 (asked_of c.in-Ok-settings_of.settings) (c.in-Ok-settings_of.ensures.asked x.0 x.2) in
     asking_as _ _ _ _ _ _ _ _ _ _ _ _ x.0 (asked_of c.in-Ok-settings_of.settings) (ending_of c.carry-ending.result) x.2.warnings x.1 (c.in-Ok-settings_of.ensures.asked x.0 x.2) c.carry-ending.ensures.answered
 
@@ -85,9 +85,9 @@ returns-clause-unasked g c =
     let x = c.in-Ok.ensures.command in
     let words = map string_bytes c.args.words.now in
     let files = g.I.Source.files c.args.config.now in
-    let nodes = g.T.Tree.nodes c.args.tree.now in
-    let old = g.D.Disk.view c.args.repo.now in
-    let new = g.D.Disk.view c.carry-ending.new.repo in
+    let nodes = (g.T.Tree.state c.args.tree.now).nodes in
+    let old = (g.D.Disk.state c.args.repo.now).view in
+    let new = (g.D.Disk.state c.carry-ending.new.repo).view in
     let may = may_ask words files x.0 x.1 (asked_of c.in-Ok-settings_of.settings) (c.in-Ok-settings_of.ensures.asked x.0 x.2) in
     λ none. absurd (none (asked_of c.in-Ok-settings_of.settings) may)
 
@@ -96,20 +96,20 @@ returns-clause-places g c =
     let x = c.in-Ok.ensures.command in
     let words = map string_bytes c.args.words.now in
     let files = g.I.Source.files c.args.config.now in
-    let nodes = g.T.Tree.nodes c.args.tree.now in
-    let old = g.D.Disk.view c.args.repo.now in
-    let new = g.D.Disk.view c.carry-ending.new.repo in
+    let nodes = (g.T.Tree.state c.args.tree.now).nodes in
+    let old = (g.D.Disk.state c.args.repo.now).view in
+    let new = (g.D.Disk.state c.carry-ending.new.repo).view in
     let may = may_ask words files x.0 x.1 (asked_of c.in-Ok-settings_of.settings) (c.in-Ok-settings_of.ensures.asked x.0 x.2) in
-    ok_as c.carry-ending.result _ _ (for_asked words files (λ (a : Asked). OpensFor a.request a.data_folder (g.T.Tree.place c.carry-ending.new.tree) × (g.D.Disk.place c.carry-ending.new.repo ≡ a.repository)) (asked_of c.in-Ok-settings_of.settings) may) c.carry-ending.ensures.places
+    ok_as c.carry-ending.result _ _ (for_asked words files (λ (a : Asked). OpensFor a.request a.data_folder (g.T.Tree.state c.carry-ending.new.tree).opened × ((g.D.Disk.state c.carry-ending.new.repo).opened ≡ a.repository)) (asked_of c.in-Ok-settings_of.settings) may) c.carry-ending.ensures.places
 
 pub returns-clause-locked : goal.returns-clause-locked
 returns-clause-locked g c =
     let x = c.in-Ok.ensures.command in
     let words = map string_bytes c.args.words.now in
     let files = g.I.Source.files c.args.config.now in
-    let nodes = g.T.Tree.nodes c.args.tree.now in
-    let old = g.D.Disk.view c.args.repo.now in
-    let new = g.D.Disk.view c.carry-ending.new.repo in
+    let nodes = (g.T.Tree.state c.args.tree.now).nodes in
+    let old = (g.D.Disk.state c.args.repo.now).view in
+    let new = (g.D.Disk.state c.carry-ending.new.repo).view in
     let may = may_ask words files x.0 x.1 (asked_of c.in-Ok-settings_of.settings) (c.in-Ok-settings_of.ensures.asked x.0 x.2) in
     ok_as c.carry-ending.result _ _ (for_asked words files (λ (a : Asked). TakesLock a.lock_folder (lock_of a) (g.K.Locks.took c.args.locks.now) (g.K.Locks.took c.carry-ending.new.locks)) (asked_of c.in-Ok-settings_of.settings) may) c.carry-ending.ensures.locked
 
@@ -118,9 +118,9 @@ returns-clause-only_locked g c =
     let x = c.in-Ok.ensures.command in
     let words = map string_bytes c.args.words.now in
     let files = g.I.Source.files c.args.config.now in
-    let nodes = g.T.Tree.nodes c.args.tree.now in
-    let old = g.D.Disk.view c.args.repo.now in
-    let new = g.D.Disk.view c.carry-ending.new.repo in
+    let nodes = (g.T.Tree.state c.args.tree.now).nodes in
+    let old = (g.D.Disk.state c.args.repo.now).view in
+    let new = (g.D.Disk.state c.carry-ending.new.repo).view in
     let may = may_ask words files x.0 x.1 (asked_of c.in-Ok-settings_of.settings) (c.in-Ok-settings_of.ensures.asked x.0 x.2) in
     for_asked words files (λ (a : Asked). OnlyUnderLock a.lock_folder (lock_of a) (g.K.Locks.took c.args.locks.now) (g.K.Locks.took c.carry-ending.new.locks) old new) (asked_of c.in-Ok-settings_of.settings) may c.carry-ending.ensures.only_locked
 
@@ -130,7 +130,7 @@ returns-clause-served g c =
     let words = map string_bytes c.args.words.now in
     let files = g.I.Source.files c.args.config.now in
     let may = may_ask words files x.0 x.1 (asked_of c.in-Ok-settings_of.settings) (c.in-Ok-settings_of.ensures.asked x.0 x.2) in
-    for_asked words files (λ (a : Asked). ServedBy (ending_of c.carry-ending.result) a (g.D.Disk.view c.args.repo.now).now (g.T.Tree.nodes c.args.tree.now) (g.T.Tree.nodes c.carry-ending.new.tree)) (asked_of c.in-Ok-settings_of.settings) may c.carry-ending.ensures.served
+    for_asked words files (λ (a : Asked). ServedBy (ending_of c.carry-ending.result) a (g.D.Disk.state c.args.repo.now).view.now (g.T.Tree.state c.args.tree.now).nodes (g.T.Tree.state c.carry-ending.new.tree).nodes) (asked_of c.in-Ok-settings_of.settings) may c.carry-ending.ensures.served
 
 pub returns-clause-asks : goal.returns-clause-asks
 returns-clause-asks g c =
@@ -138,7 +138,7 @@ returns-clause-asks g c =
     let words = map string_bytes c.args.words.now in
     let files = g.I.Source.files c.args.config.now in
     let may = may_ask words files x.0 x.1 (asked_of c.in-Ok-settings_of.settings) (c.in-Ok-settings_of.ensures.asked x.0 x.2) in
-    ok_as c.carry-ending.result _ _ (for_asked words files (λ (a : Asked). a.request ≡ create → Agrees a.server (g.T.Tree.nodes c.args.tree.now) (g.V.Wire.pending c.args.server.now) × AsksServer a.server (g.V.Wire.place c.carry-ending.new.server) (g.V.Wire.sent c.args.server.now) (g.V.Wire.sent c.carry-ending.new.server)) (asked_of c.in-Ok-settings_of.settings) may) c.carry-ending.ensures.asks
+    ok_as c.carry-ending.result _ _ (for_asked words files (λ (a : Asked). a.request ≡ create → Agrees a.server (g.T.Tree.state c.args.tree.now).nodes (g.V.Wire.pending c.args.server.now) × AsksServer a.server (g.V.Wire.place c.carry-ending.new.server) (g.V.Wire.sent c.args.server.now) (g.V.Wire.sent c.carry-ending.new.server)) (asked_of c.in-Ok-settings_of.settings) may) c.carry-ending.ensures.asks
 
 pub returns-clause-quiet : goal.returns-clause-quiet
 returns-clause-quiet g c =

@@ -11,11 +11,11 @@ use Rattle.pgb_disk.proofs.dropping.remove_below.Goals as goal
 pub returns-clause-now : goal.returns-clause-now
 returns-clause-now g c =
     let folder = c.args.folder.now in
-    let old = (g.D.Disk.view c.args.d.now).now in
-    let mid = (g.D.Disk.view c.names.new.self).now in
-    let new = (g.D.Disk.view c.remove_each.new.d).now in
+    let old = (g.D.Disk.state c.args.d.now).view.now in
+    let mid = (g.D.Disk.state c.names.new.self).view.now in
+    let new = (g.D.Disk.state c.remove_each.new.d).view.now in
     let found = c.in_ok-found.found.items in
-    let same : mid ≡ old = c.names.ensures.now in
+    let same : mid ≡ old = c.names.ensures.looks.now in
     let front = c.deref-2.ensures ∙ c.in_ok-front.ensures.ok in
     on_ok_weaker c.remove_each.result (λ (gone : All (λ x. starts_with nat_eq (string_bytes x.name) c.deref-2.result.now ≡ true → IsAbsent new (string_bytes x.name)) c.deref.result.now).
     all_dropped folder found mid new

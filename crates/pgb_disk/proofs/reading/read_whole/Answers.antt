@@ -11,14 +11,14 @@ loop-buf-preserved g c =
     let bytes = c.loop-buf.bytes in
     let name = c.args.name.now in
     let told = c.in_ok-read.ensures.bytes in
-    let reads : IfSome (g.D.Disk.view c.args.d.now).now (λ (f : Content). Reads (f name) (vec_len bytes) (length c.loop-buf.buf) c.read.new.buf (Some c.in-Some.n)) =
+    let reads : IfSome (g.D.Disk.state c.args.d.now).view.now (λ (f : Content). Reads (f name) (vec_len bytes) (length c.loop-buf.buf) c.read.new.buf (Some c.in-Some.n)) =
     subst (λ (o : Option Content). IfSome o (λ (f : Content). Reads (f name) (vec_len bytes) (length c.loop-buf.buf) c.read.new.buf (Some c.in-Some.n))) i.now (rw (c.in-Some.is, c.len-in-loop-buf.ensures) at told) in
     let more : c.extend_from_slice.new.self.items ≡ bytes.items ++ take c.in-Some.n c.read.new.buf = grind (arith, common_steps) in
     record {
-      now = c.read.ensures.now ∙ i.now;
+      now = c.read.ensures.looks.now ∙ i.now;
       time = grind (arith, common_steps);
-      place = c.read.ensures.place ∙ i.place;
-      proper = c.read.ensures.proper ∙ i.proper;
+      place = c.read.ensures.looks.opened ∙ i.place;
+      proper = c.read.ensures.looks.proper ∙ i.proper;
       later = omega arith;
-      front = inr (front_more (g.D.Disk.view c.args.d.now).now (λ (f : Content). f name) bytes.items c.read.new.buf c.extend_from_slice.new.self.items (vec_len bytes) c.in-Some.n (length c.loop-buf.buf) (vec_len c.extend_from_slice.new.self) reads i.front (grind (arith, common_steps)) more (grind (arith, common_steps)));
+      front = inr (front_more (g.D.Disk.state c.args.d.now).view.now (λ (f : Content). f name) bytes.items c.read.new.buf c.extend_from_slice.new.self.items (vec_len bytes) c.in-Some.n (length c.loop-buf.buf) (vec_len c.extend_from_slice.new.self) reads i.front (grind (arith, common_steps)) more (grind (arith, common_steps)));
     }

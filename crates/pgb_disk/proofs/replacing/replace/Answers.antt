@@ -2,16 +2,16 @@ use Rattle.pgb_disk.proofs.Replaced.{staged_crash, staged_now, published_crash, 
 use Rattle.pgb_disk.proofs.replacing.replace.Goals as goal
 
 pub returns-in_err-staged-clause-crash : goal.returns-in_err-staged-clause-crash
-returns-in_err-staged-clause-crash g c = λ tight. staged_crash c.args.temp.now c.args.name.now c.args.bytes.now c.requires.temporary c.requires.lasting _ _ (g.met.D.Disk.now_may_be_left c.args.d.now) tight c.stage.ensures.time c.stage.ensures.others
+returns-in_err-staged-clause-crash g c = λ tight. staged_crash c.args.temp.now c.args.name.now c.args.bytes.now c.requires.temporary c.requires.lasting _ _ (g.met.D.Disk.now_may_be_left c.args.d.now) tight c.stage.ensures.works.time c.stage.ensures.others
 
 pub returns-in_err-publish-clause-crash : goal.returns-in_err-publish-clause-crash
-returns-in_err-publish-clause-crash g c = λ tight. published_crash c.args.temp.now c.args.name.now c.args.bytes.now c.requires.temporary c.requires.lasting _ _ _ _ c.in_ok-staged.ensures.name c.in_ok-staged.ensures.now c.stage.ensures.time c.publish.ensures.time (g.met.D.Disk.now_may_be_left c.args.d.now) tight c.publish.result c.publish.ensures.now
+returns-in_err-publish-clause-crash g c = λ tight. published_crash c.args.temp.now c.args.name.now c.args.bytes.now c.requires.temporary c.requires.lasting _ _ _ _ c.in_ok-staged.ensures.name c.in_ok-staged.ensures.now c.stage.ensures.works.time c.publish.ensures.works.time (g.met.D.Disk.now_may_be_left c.args.d.now) tight c.publish.result c.publish.ensures.now
 
 pub returns-clause-crash : goal.returns-clause-crash
-returns-clause-crash g c = λ tight. published_crash c.args.temp.now c.args.name.now c.args.bytes.now c.requires.temporary c.requires.lasting _ _ _ _ c.in_ok-staged.ensures.name c.in_ok-staged.ensures.now c.stage.ensures.time c.publish.ensures.time (g.met.D.Disk.now_may_be_left c.args.d.now) tight c.publish.result c.publish.ensures.now
+returns-clause-crash g c = λ tight. published_crash c.args.temp.now c.args.name.now c.args.bytes.now c.requires.temporary c.requires.lasting _ _ _ _ c.in_ok-staged.ensures.name c.in_ok-staged.ensures.now c.stage.ensures.works.time c.publish.ensures.works.time (g.met.D.Disk.now_may_be_left c.args.d.now) tight c.publish.result c.publish.ensures.now
 
 pub returns-clause-whole : goal.returns-clause-whole
-returns-clause-whole g c = λ tight. published_ends c.args.temp.now c.args.name.now c.args.bytes.now c.requires.temporary c.requires.lasting _ _ _ _ c.in_ok-staged.ensures.name c.in_ok-staged.ensures.now c.stage.ensures.time c.publish.ensures.time (g.met.D.Disk.now_may_be_left c.args.d.now) tight c.in_ok-publish.ensures.now c.in_ok-publish.ensures.published
+returns-clause-whole g c = λ tight. published_ends c.args.temp.now c.args.name.now c.args.bytes.now c.requires.temporary c.requires.lasting _ _ _ _ c.in_ok-staged.ensures.name c.in_ok-staged.ensures.now c.stage.ensures.works.time c.publish.ensures.works.time (g.met.D.Disk.now_may_be_left c.args.d.now) tight c.in_ok-publish.ensures.now c.in_ok-publish.ensures.published
 
 pub returns-in_err-staged-clause-now_part : goal.returns-in_err-staged-clause-now_part
 returns-in_err-staged-clause-now_part g c = staged_now c.args.temp.now c.args.name.now c.args.bytes.now c.requires.temporary c.requires.lasting _ _ c.stage.ensures.others
@@ -35,10 +35,10 @@ pub returns-clause-untold : goal.returns-clause-untold
 returns-clause-untold g c = λ none. untold_on c.publish.result _ _ _ (untold_same c.args.temp.now _ _ c.stage.ensures.others none) c.publish.ensures.now
 
 pub returns-in_err-staged-clause-only : goal.returns-in_err-staged-clause-only
-returns-in_err-staged-clause-only g c = staged_only c.args.temp.now c.args.name.now c.args.bytes.now c.requires.temporary c.requires.lasting _ _ c.stage.ensures.time c.stage.ensures.others
+returns-in_err-staged-clause-only g c = staged_only c.args.temp.now c.args.name.now c.args.bytes.now c.requires.temporary c.requires.lasting _ _ c.stage.ensures.works.time c.stage.ensures.others
 
 pub returns-in_err-publish-clause-only : goal.returns-in_err-publish-clause-only
-returns-in_err-publish-clause-only g c = published_only c.args.temp.now c.args.name.now c.args.bytes.now c.requires.temporary c.requires.lasting c.publish.result _ _ _ _ c.in_ok-staged.ensures.name c.stage.ensures.time c.stage.ensures.others c.publish.ensures.time c.publish.ensures.now
+returns-in_err-publish-clause-only g c = published_only c.args.temp.now c.args.name.now c.args.bytes.now c.requires.temporary c.requires.lasting c.publish.result _ _ _ _ c.in_ok-staged.ensures.name c.stage.ensures.works.time c.stage.ensures.others c.publish.ensures.works.time c.publish.ensures.now
 
 pub returns-clause-only : goal.returns-clause-only
-returns-clause-only g c = published_only c.args.temp.now c.args.name.now c.args.bytes.now c.requires.temporary c.requires.lasting c.publish.result _ _ _ _ c.in_ok-staged.ensures.name c.stage.ensures.time c.stage.ensures.others c.publish.ensures.time c.publish.ensures.now
+returns-clause-only g c = published_only c.args.temp.now c.args.name.now c.args.bytes.now c.requires.temporary c.requires.lasting c.publish.result _ _ _ _ c.in_ok-staged.ensures.name c.stage.ensures.works.time c.stage.ensures.others c.publish.ensures.works.time c.publish.ensures.now

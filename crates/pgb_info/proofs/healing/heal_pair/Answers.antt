@@ -16,7 +16,7 @@ returns-in_err-mend_pair-clause-now_part g c = λ v has.
     let name = c.args.name.now in
     let x = c.in_ok-value.value in
     let bytes = info_text (g.I.Info.sections x) in
-    let goes = subst (λ (o : Option Content). NowGoes (SomeOf (member_writes name bytes)) o (g.D.Disk.view c.mend_pair.new.d).now) c.load_pair.ensures.now c.mend_pair.ensures.now_part in
+    let goes = subst (λ (o : Option Content). NowGoes (SomeOf (member_writes name bytes)) o (g.D.Disk.state c.mend_pair.new.d).view.now) c.load_pair.ensures.now c.mend_pair.ensures.now_part in
     healed_now g.I.ReadInfo.IsText g.I.ReadInfo.text g.met.I.ReadInfo.one_text name v (g.I.ReadInfo.value x) bytes _ _ (g.met.I.ReadInfo.own_text x) c.in_ok-value.ensures.found has goes
 
 pub returns-in_err-mend_pair-clause-crash : goal.returns-in_err-mend_pair-clause-crash
@@ -33,7 +33,7 @@ returns-clause-now_part g c = λ v has.
     let name = c.args.name.now in
     let x = c.in_ok-value.value in
     let bytes = info_text (g.I.Info.sections x) in
-    let goes = subst (λ (o : Option Content). NowGoes (SomeOf (member_writes name bytes)) o (g.D.Disk.view c.mend_pair.new.d).now) c.load_pair.ensures.now c.mend_pair.ensures.now_part in
+    let goes = subst (λ (o : Option Content). NowGoes (SomeOf (member_writes name bytes)) o (g.D.Disk.state c.mend_pair.new.d).view.now) c.load_pair.ensures.now c.mend_pair.ensures.now_part in
     healed_now g.I.ReadInfo.IsText g.I.ReadInfo.text g.met.I.ReadInfo.one_text name v (g.I.ReadInfo.value x) bytes _ _ (g.met.I.ReadInfo.own_text x) c.in_ok-value.ensures.found has goes
 
 pub returns-clause-crash : goal.returns-clause-crash

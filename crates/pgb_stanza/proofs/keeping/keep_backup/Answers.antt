@@ -19,20 +19,20 @@ returns-in_err-name-clause-crash g c = λ main copy. no_writes (backup_info c.ar
 
 pub returns-in_err-mend_pair-clause-crash : goal.returns-in_err-mend_pair-clause-crash
 returns-in_err-mend_pair-clause-crash g c =
-    subst (λ (n : Text). is_loose (g.D.Disk.view c.args.d.now) n ≡ false → is_loose (g.D.Disk.view c.args.d.now) (copy_of n) ≡ false → Crash (SomeOf (member_writes n (backup_text (backup_info_of c.args.value.now)))) (g.D.Disk.view c.args.d.now) (g.D.Disk.view c.mend_pair.new.d)) (c.as_str.ensures.value ∙ c.in_ok-name.ensures) c.mend_pair.ensures.crash
+    subst (λ (n : Text). is_loose (g.D.Disk.state c.args.d.now).view n ≡ false → is_loose (g.D.Disk.state c.args.d.now).view (copy_of n) ≡ false → Crash (SomeOf (member_writes n (backup_text (backup_info_of c.args.value.now)))) (g.D.Disk.state c.args.d.now).view (g.D.Disk.state c.mend_pair.new.d).view) (c.as_str.ensures.value ∙ c.in_ok-name.ensures) c.mend_pair.ensures.crash
 
 pub returns-clause-crash : goal.returns-clause-crash
 returns-clause-crash g c =
-    subst (λ (n : Text). is_loose (g.D.Disk.view c.args.d.now) n ≡ false → is_loose (g.D.Disk.view c.args.d.now) (copy_of n) ≡ false → Crash (SomeOf (member_writes n (backup_text (backup_info_of c.args.value.now)))) (g.D.Disk.view c.args.d.now) (g.D.Disk.view c.mend_pair.new.d)) (c.as_str.ensures.value ∙ c.in_ok-name.ensures) c.mend_pair.ensures.crash
+    subst (λ (n : Text). is_loose (g.D.Disk.state c.args.d.now).view n ≡ false → is_loose (g.D.Disk.state c.args.d.now).view (copy_of n) ≡ false → Crash (SomeOf (member_writes n (backup_text (backup_info_of c.args.value.now)))) (g.D.Disk.state c.args.d.now).view (g.D.Disk.state c.mend_pair.new.d).view) (c.as_str.ensures.value ∙ c.in_ok-name.ensures) c.mend_pair.ensures.crash
 
 pub returns-in_err-mend_pair-clause-now_part : goal.returns-in_err-mend_pair-clause-now_part
 returns-in_err-mend_pair-clause-now_part g c =
-    subst (λ (n : Text). NowGoes (SomeOf (member_writes n (backup_text (backup_info_of c.args.value.now)))) (g.D.Disk.view c.args.d.now).now (g.D.Disk.view c.mend_pair.new.d).now) (c.as_str.ensures.value ∙ c.in_ok-name.ensures) c.mend_pair.ensures.now_part
+    subst (λ (n : Text). NowGoes (SomeOf (member_writes n (backup_text (backup_info_of c.args.value.now)))) (g.D.Disk.state c.args.d.now).view.now (g.D.Disk.state c.mend_pair.new.d).view.now) (c.as_str.ensures.value ∙ c.in_ok-name.ensures) c.mend_pair.ensures.now_part
 
 pub returns-clause-now_part : goal.returns-clause-now_part
 returns-clause-now_part g c =
-    subst (λ (n : Text). NowGoes (SomeOf (member_writes n (backup_text (backup_info_of c.args.value.now)))) (g.D.Disk.view c.args.d.now).now (g.D.Disk.view c.mend_pair.new.d).now) (c.as_str.ensures.value ∙ c.in_ok-name.ensures) c.mend_pair.ensures.now_part
+    subst (λ (n : Text). NowGoes (SomeOf (member_writes n (backup_text (backup_info_of c.args.value.now)))) (g.D.Disk.state c.args.d.now).view.now (g.D.Disk.state c.mend_pair.new.d).view.now) (c.as_str.ensures.value ∙ c.in_ok-name.ensures) c.mend_pair.ensures.now_part
 
 pub returns-clause-mended : goal.returns-clause-mended
 returns-clause-mended g c =
-    subst (λ (n : Text). IfSome (g.D.Disk.view c.mend_pair.new.d).now (HoldBoth n (backup_text (backup_info_of c.args.value.now)))) (c.as_str.ensures.value ∙ c.in_ok-name.ensures) c.in_ok-mend_pair.ensures.mended
+    subst (λ (n : Text). IfSome (g.D.Disk.state c.mend_pair.new.d).view.now (HoldBoth n (backup_text (backup_info_of c.args.value.now)))) (c.as_str.ensures.value ∙ c.in_ok-name.ensures) c.in_ok-mend_pair.ensures.mended
