@@ -1,5 +1,6 @@
 // Under which paths a file is stored already.
 ghost use Rattle.std.specs.Prelude.{◌≡◌, ◌≤◌, true, false, IfOk, IfErr, IfSome, IsErrOf, option_map};
+ghost use Rattle.pgb_outside.specs.States.{Looks};
 ghost use Rattle.pgb_outside.specs.Moments.{Rests};
 ghost use Rattle.pgb_outside.specs.Cause.{Rises};
 ghost use Rattle.pgb_model.specs.declared.wal.ArchiveId.{ArchiveId};
@@ -86,11 +87,7 @@ pub(crate) fn look_in_folder<D: Disk>(
 ) -> Result<Look, ArchiveFault>
     ensures shows { IfOk result (λ look. IfSome (D.state d.old).view.now
         (λ f. (stanza : Text) (id : ArchiveId) (name : ArchiveName) → AreNamesOf stanza id name names.now → has_sum name ≡ true → Shows stanza id name f look)) }
-    ensures now { (D.state d.new).view.now ≡ (D.state d.old).view.now }
-    ensures time { Rests (D.state d.old).view (D.state d.new).view }
-    ensures place { (D.state d.new).opened ≡ (D.state d.old).opened }
-    ensures proper { (D.state d.new).misuses ≡ (D.state d.old).misuses }
-    ensures later { (D.state d.old).faults ≤ (D.state d.new).faults }
+    ensures looks { Looks (D.state d.old) (D.state d.new) }
     ensures cause { IsErrOf result ArchiveFault.Disk → Rises (D.state d.old).faults (D.state d.new).faults }
     ensures stops { IfErr result IsStop }
 {
@@ -105,11 +102,7 @@ fn look_at<D: Disk>(alloc: Global, d: &mut D, names: &FileNames) -> Result<Look,
     ensures shows { IfOk result (λ look. IfSome (D.state d.old).view.now
         (λ f. (stanza : Text) (id : ArchiveId) (name : ArchiveName) → AreNamesOf stanza id name names.now → Shows stanza id name f look)) }
     ensures cause { IfErr result (LookCause names.now (D.state d.old).view.now (Rises (D.state d.old).faults (D.state d.new).faults)) }
-    ensures now { (D.state d.new).view.now ≡ (D.state d.old).view.now }
-    ensures time { Rests (D.state d.old).view (D.state d.new).view }
-    ensures place { (D.state d.new).opened ≡ (D.state d.old).opened }
-    ensures proper { (D.state d.new).misuses ≡ (D.state d.old).misuses }
-    ensures later { (D.state d.old).faults ≤ (D.state d.new).faults }
+    ensures looks { Looks (D.state d.old) (D.state d.new) }
 {
     match read_whole(alloc, d, names.front.as_str(), HISTORY_LIMIT)? {
         None => Ok(Look::Free),
@@ -130,11 +123,7 @@ pub(crate) fn look_for<D: Disk>(
     ensures shows { IfOk result (λ look. IfSome (D.state d.old).view.now
         (λ f. (stanza : Text) (id : ArchiveId) (name : ArchiveName) → AreNamesOf stanza id name names.now → Shows stanza id name f look)) }
     ensures cause { IfErr result (LookCause names.now (D.state d.old).view.now (Rises (D.state d.old).faults (D.state d.new).faults)) }
-    ensures now { (D.state d.new).view.now ≡ (D.state d.old).view.now }
-    ensures time { Rests (D.state d.old).view (D.state d.new).view }
-    ensures place { (D.state d.new).opened ≡ (D.state d.old).opened }
-    ensures proper { (D.state d.new).misuses ≡ (D.state d.old).misuses }
-    ensures later { (D.state d.old).faults ≤ (D.state d.new).faults }
+    ensures looks { Looks (D.state d.old) (D.state d.new) }
 {
     if names.has_sum {
         look_in_folder(alloc, d, names)

@@ -1,6 +1,7 @@
 // A file is stored.
 ghost use Rattle.std.specs.Prelude.{◌≡◌, ◌⊎◌, ◌≤◌, ◌∷◌, [], Some, List, map, IfOk, IfErr, IfSome, IsSome, OnOk, length};
 ghost use Rattle.sha1.specs.Sha1.{sha1};
+ghost use Rattle.pgb_outside.specs.States.{Frame};
 ghost use Rattle.pgb_outside.specs.Moments.{Rests};
 ghost use Rattle.pgb_outside.specs.Cause.{Rises};
 ghost use Rattle.pgb_outside.specs.Crash.{NowGoes, FirstOf, AllOf};
@@ -90,9 +91,7 @@ pub fn push_from<D: Disk, H, P: Pieces<H>>(
     ensures refused { IfErr result (λ e. OnPushFinding e (((D.state d.new).view.now ≡ (D.state d.old).view.now) × Rests (D.state d.old).view (D.state d.new).view)) }
     ensures cause { IfErr result (PushFromCause stanza.now id.now name.now system (P.bytes pieces.now holder.old) front.entry.bytes.now front.entry.length (D.state d.old).view.now (Rises (D.state d.old).faults (D.state d.new).faults) (Rises (P.faults holder.old) (P.faults holder.new))) }
     ensures told { IsSome (D.state d.old).view.now → IsSome (D.state d.new).view.now }
-    ensures place { (D.state d.new).opened ≡ (D.state d.old).opened }
-    ensures proper { (D.state d.new).misuses ≡ (D.state d.old).misuses }
-    ensures later { (D.state d.old).faults ≤ (D.state d.new).faults }
+    ensures frame { Frame (D.state d.old) (D.state d.new) }
     ensures same { P.same holder.old holder.new }
     ensures holder_later { P.faults holder.old ≤ P.faults holder.new }
 {
@@ -170,9 +169,7 @@ pub fn push<D: Disk>(
     ensures refused { IfErr result (λ e. OnFinding e (((D.state d.new).view.now ≡ (D.state d.old).view.now) × Rests (D.state d.old).view (D.state d.new).view)) }
     ensures cause { IfErr result (PushCause stanza.now id.now name.now system bytes.now (D.state d.old).view.now (Rises (D.state d.old).faults (D.state d.new).faults)) }
     ensures told { IsSome (D.state d.old).view.now → IsSome (D.state d.new).view.now }
-    ensures place { (D.state d.new).opened ≡ (D.state d.old).opened }
-    ensures proper { (D.state d.new).misuses ≡ (D.state d.old).misuses }
-    ensures later { (D.state d.old).faults ≤ (D.state d.new).faults }
+    ensures frame { Frame (D.state d.old) (D.state d.new) }
 {
     let front = front_of(bytes);
     match push_from(

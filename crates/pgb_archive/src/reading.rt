@@ -1,6 +1,7 @@
 // Stored files are got and looked for.
 ghost use Rattle.std.specs.Prelude.{◌≡◌, ◌≤◌, ◌^◌, true, false, Some, IfOk, IfErr, IfSome, IsSome, IsErrOf, length, string_bytes};
 ghost use Rattle.sha1.specs.Sha1.{sha1};
+ghost use Rattle.pgb_outside.specs.States.{Looks};
 ghost use Rattle.pgb_outside.specs.Moments.{Rests};
 ghost use Rattle.pgb_outside.specs.Cause.{Rises};
 ghost use Rattle.pgb_model.specs.declared.wal.ArchiveId.{ArchiveId};
@@ -32,11 +33,7 @@ fn read_kept<D: Disk>(alloc: Global, d: &mut D, kept: &Kept) -> Result<Vec<u8>, 
     ensures whole { IfOk result (λ bytes. (sha1 bytes.items ≡ kept.now.sum.0) × IfSome (D.state d.old).view.now (λ f. f (string_bytes kept.now.path) ≡ Some bytes.items)) }
     ensures within { IfOk result (λ bytes. length bytes.items ≤ 2 ^ 30) }
     ensures cause { IfErr result (ReadCause kept.now (D.state d.old).view.now (Rises (D.state d.old).faults (D.state d.new).faults)) }
-    ensures now { (D.state d.new).view.now ≡ (D.state d.old).view.now }
-    ensures time { Rests (D.state d.old).view (D.state d.new).view }
-    ensures place { (D.state d.new).opened ≡ (D.state d.old).opened }
-    ensures proper { (D.state d.new).misuses ≡ (D.state d.old).misuses }
-    ensures later { (D.state d.old).faults ≤ (D.state d.new).faults }
+    ensures looks { Looks (D.state d.old) (D.state d.new) }
 {
     let Some(bytes) = read_whole(alloc, d, kept.path.as_str(), SEGMENT_LIMIT)? else {
         return Err(ArchiveFault::NotFound);
@@ -62,11 +59,7 @@ fn get_segment<D: Disk>(
     ensures within { IfOk result (λ bytes. length bytes.items ≤ 2 ^ 30) }
     ensures cause { IfErr result (λ e. (stanza : Text) (id : ArchiveId) (name : ArchiveName) → AreNamesOf stanza id name names.now → has_sum name ≡ true
         → GetCause stanza id name (D.state d.old).view.now (Rises (D.state d.old).faults (D.state d.new).faults) e) }
-    ensures now { (D.state d.new).view.now ≡ (D.state d.old).view.now }
-    ensures time { Rests (D.state d.old).view (D.state d.new).view }
-    ensures place { (D.state d.new).opened ≡ (D.state d.old).opened }
-    ensures proper { (D.state d.new).misuses ≡ (D.state d.old).misuses }
-    ensures later { (D.state d.old).faults ≤ (D.state d.new).faults }
+    ensures looks { Looks (D.state d.old) (D.state d.new) }
 {
     match look_in_folder(alloc, d, names)? {
         Look::Free => Err(ArchiveFault::NotFound),
@@ -82,11 +75,7 @@ fn get_other<D: Disk>(alloc: Global, d: &mut D, names: &FileNames) -> Result<Vec
     ensures within { IfOk result (λ bytes. length bytes.items ≤ 2 ^ 20) }
     ensures cause { IfErr result (λ e. (stanza : Text) (id : ArchiveId) (name : ArchiveName) → AreNamesOf stanza id name names.now → has_sum name ≡ false
         → GetCause stanza id name (D.state d.old).view.now (Rises (D.state d.old).faults (D.state d.new).faults) e) }
-    ensures now { (D.state d.new).view.now ≡ (D.state d.old).view.now }
-    ensures time { Rests (D.state d.old).view (D.state d.new).view }
-    ensures place { (D.state d.new).opened ≡ (D.state d.old).opened }
-    ensures proper { (D.state d.new).misuses ≡ (D.state d.old).misuses }
-    ensures later { (D.state d.old).faults ≤ (D.state d.new).faults }
+    ensures looks { Looks (D.state d.old) (D.state d.new) }
 {
     match read_whole(alloc, d, names.front.as_str(), HISTORY_LIMIT)? {
         None => Err(ArchiveFault::NotFound),
@@ -110,11 +99,7 @@ pub fn get<D: Disk>(
     ensures unarchived { IsErrOf result ArchiveFault.NotFound → (s : Stanza) → IsSome (D.state d.old).view.now → NowStands stanza.now (Some s) (D.state d.old).view.now
         → IsUnarchived id.now name.now s.archived }
     ensures cause { IfErr result (GetCause stanza.now id.now name.now (D.state d.old).view.now (Rises (D.state d.old).faults (D.state d.new).faults)) }
-    ensures now { (D.state d.new).view.now ≡ (D.state d.old).view.now }
-    ensures time { Rests (D.state d.old).view (D.state d.new).view }
-    ensures place { (D.state d.new).opened ≡ (D.state d.old).opened }
-    ensures proper { (D.state d.new).misuses ≡ (D.state d.old).misuses }
-    ensures later { (D.state d.old).faults ≤ (D.state d.new).faults }
+    ensures looks { Looks (D.state d.old) (D.state d.new) }
 {
     let names = file_names(alloc, stanza, *id, *name)?;
     if names.has_sum {
@@ -148,11 +133,7 @@ pub fn present<D: Disk>(
 ) -> Result<Option<Stored>, ArchiveFault>
     ensures finds { IfOk result (λ file. IfSome (D.state d.old).view.now (λ f. Finds stanza.now id.now name.now f file)) }
     ensures cause { IfErr result (PresentCause stanza.now id.now name.now (D.state d.old).view.now (Rises (D.state d.old).faults (D.state d.new).faults)) }
-    ensures now { (D.state d.new).view.now ≡ (D.state d.old).view.now }
-    ensures time { Rests (D.state d.old).view (D.state d.new).view }
-    ensures place { (D.state d.new).opened ≡ (D.state d.old).opened }
-    ensures proper { (D.state d.new).misuses ≡ (D.state d.old).misuses }
-    ensures later { (D.state d.old).faults ≤ (D.state d.new).faults }
+    ensures looks { Looks (D.state d.old) (D.state d.new) }
 {
     let names = file_names(alloc, stanza, *id, *name)?;
     match look_for(alloc, d, &names)? {

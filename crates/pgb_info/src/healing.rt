@@ -1,5 +1,6 @@
 // A pair is read, and its members are mended.
 ghost use Rattle.std.specs.Prelude.{◌≡◌, ◌≤◌, [], ◌∷◌, ℕ, List, Some, None, true, false, IfOk, IfErr, IfSome, IsSome, OnOk, IsErrOf, length};
+ghost use Rattle.pgb_outside.specs.States.{Frame, Looks};
 ghost use Rattle.pgb_outside.specs.Content.{Name};
 ghost use Rattle.pgb_outside.specs.Moments.{Rests, is_loose};
 ghost use Rattle.pgb_outside.specs.Crash.{IsTemporary, Crash, NowGoes, SomeOf};
@@ -26,11 +27,7 @@ use std::alloc::Global;
 // Whether the member has these bytes.
 fn holds<D: Disk>(alloc: Global, d: &mut D, name: &str, text: &[u8]) -> Result<bool, SaveFault>
     ensures held { IfOk result (λ b. b ≡ true → IfSome (D.state d.old).view.now (λ f. f name.now ≡ Some text.now)) }
-    ensures now { (D.state d.new).view.now ≡ (D.state d.old).view.now }
-    ensures time { Rests (D.state d.old).view (D.state d.new).view }
-    ensures place { (D.state d.new).opened ≡ (D.state d.old).opened }
-    ensures proper { (D.state d.new).misuses ≡ (D.state d.old).misuses }
-    ensures later { (D.state d.old).faults ≤ (D.state d.new).faults }
+    ensures looks { Looks (D.state d.old) (D.state d.new) }
     ensures cause { IsErrOf result SaveFault.Disk → Rises (D.state d.old).faults (D.state d.new).faults }
 {
     match read_bytes(alloc, d, name)? {
@@ -54,9 +51,7 @@ fn mend<D: Disk>(
     ensures now_part { NowGoes (SomeOf ((name.now, text.now) ∷ [])) (D.state d.old).view.now (D.state d.new).view.now }
     ensures mended { OnOk result (IfSome (D.state d.new).view.now (λ f. f name.now ≡ Some text.now)) }
     ensures untold { (D.state d.old).view.now ≡ None → (D.state d.new).view.now ≡ None }
-    ensures place { (D.state d.new).opened ≡ (D.state d.old).opened }
-    ensures proper { (D.state d.new).misuses ≡ (D.state d.old).misuses }
-    ensures later { (D.state d.old).faults ≤ (D.state d.new).faults }
+    ensures frame { Frame (D.state d.old) (D.state d.new) }
     ensures cause { IsErrOf result SaveFault.Disk → Rises (D.state d.old).faults (D.state d.new).faults }
 {
     if holds(alloc, d, name, text)? {
@@ -72,9 +67,7 @@ fn mend_both<D: Disk>(alloc: Global, d: &mut D, name: &str, text: &[u8]) -> Resu
     ensures crash { is_loose (D.state d.old).view name.now ≡ false → is_loose (D.state d.old).view (copy_of name.now) ≡ false → Crash (SomeOf (member_writes name.now text.now)) (D.state d.old).view (D.state d.new).view }
     ensures now_part { NowGoes (SomeOf (member_writes name.now text.now)) (D.state d.old).view.now (D.state d.new).view.now }
     ensures mended { OnOk result (IfSome (D.state d.new).view.now (λ f. (f name.now ≡ Some text.now) × (f (copy_of name.now) ≡ Some text.now))) }
-    ensures place { (D.state d.new).opened ≡ (D.state d.old).opened }
-    ensures proper { (D.state d.new).misuses ≡ (D.state d.old).misuses }
-    ensures later { (D.state d.old).faults ≤ (D.state d.new).faults }
+    ensures frame { Frame (D.state d.old) (D.state d.new) }
     ensures cause { IsErrOf result SaveFault.Disk → Rises (D.state d.old).faults (D.state d.new).faults }
 {
     let copy = copy_name(alloc, name)?;
@@ -96,9 +89,7 @@ pub fn mend_pair<D: Disk, I: Info>(
     ensures crash { is_loose (D.state d.old).view name.now ≡ false → is_loose (D.state d.old).view (copy_of name.now) ≡ false → Crash (SomeOf (member_writes name.now (info_text (I.sections value.now)))) (D.state d.old).view (D.state d.new).view }
     ensures now_part { NowGoes (SomeOf (member_writes name.now (info_text (I.sections value.now)))) (D.state d.old).view.now (D.state d.new).view.now }
     ensures mended { OnOk result (IfSome (D.state d.new).view.now (λ f. (f name.now ≡ Some (info_text (I.sections value.now))) × (f (copy_of name.now) ≡ Some (info_text (I.sections value.now))))) }
-    ensures place { (D.state d.new).opened ≡ (D.state d.old).opened }
-    ensures proper { (D.state d.new).misuses ≡ (D.state d.old).misuses }
-    ensures later { (D.state d.old).faults ≤ (D.state d.new).faults }
+    ensures frame { Frame (D.state d.old) (D.state d.new) }
     ensures cause { IsErrOf result SaveFault.Disk → Rises (D.state d.old).faults (D.state d.new).faults }
 {
     let text = text_of(alloc, value)?;
@@ -118,9 +109,7 @@ pub fn heal_pair<D: Disk, I: ReadInfo>(alloc: Global, d: &mut D, name: &str) -> 
     // Where the pair has no value, only was read.
     ensures idle { ((v : I.Value) → IfSome (D.state d.old).view.now (λ f. ¬ PairIs I.IsText f name.now v)) → IsSome (D.state d.old).view.now → ((D.state d.new).view.now ≡ (D.state d.old).view.now) × Rests (D.state d.old).view (D.state d.new).view }
     ensures told { IsSome (D.state d.old).view.now → IsSome (D.state d.new).view.now }
-    ensures place { (D.state d.new).opened ≡ (D.state d.old).opened }
-    ensures proper { (D.state d.new).misuses ≡ (D.state d.old).misuses }
-    ensures later { (D.state d.old).faults ≤ (D.state d.new).faults }
+    ensures frame { Frame (D.state d.old) (D.state d.new) }
     ensures cause { IfErr result (PairCause I.IsText I.IsForm name.now (D.state d.old).view.now (Rises (D.state d.old).faults (D.state d.new).faults)) }
 {
     let value = load_pair::<D, I>(alloc, d, name)?;

@@ -1,5 +1,6 @@
 // A pair is read.
 ghost use Rattle.std.specs.Prelude.{◌≡◌, ◌≤◌, IfOk, IfErr, IfSome, IsErrOf, length};
+ghost use Rattle.pgb_outside.specs.States.{Looks};
 ghost use Rattle.pgb_outside.specs.Moments.{Rests};
 ghost use Rattle.pgb_outside.specs.Cause.{Rises};
 ghost use Rattle.pgb_model.specs.InfoFiles.{info_limit};
@@ -25,11 +26,7 @@ pub(crate) fn read_bytes<D: Disk>(
 ) -> Result<Result<Vec<u8>, MemberFault>, SaveFault>
     ensures bytes { IfOk result (λ r. IfSome (D.state d.old).view.now (λ f. BytesAre (f name.now) r)) }
     ensures within { IfOk result (λ r. IfOk r (λ b. length b.items ≤ info_limit)) }
-    ensures now { (D.state d.new).view.now ≡ (D.state d.old).view.now }
-    ensures time { Rests (D.state d.old).view (D.state d.new).view }
-    ensures place { (D.state d.new).opened ≡ (D.state d.old).opened }
-    ensures proper { (D.state d.new).misuses ≡ (D.state d.old).misuses }
-    ensures later { (D.state d.old).faults ≤ (D.state d.new).faults }
+    ensures looks { Looks (D.state d.old) (D.state d.new) }
     ensures cause { IsErrOf result SaveFault.Disk → Rises (D.state d.old).faults (D.state d.new).faults }
 {
     match read_whole(alloc, d, name, LIMIT) {
@@ -50,11 +47,7 @@ fn read_member<D: Disk, I: ReadInfo>(
     ensures gives { IfOk result (λ r. IfSome (D.state d.old).view.now (λ f. MemberGives I.IsText I.IsForm I.value f name.now r)) }
     ensures valid { IfOk result (λ r. IfOk r I.is_valid) }
     ensures within { IfOk result (λ r. IfOk r (λ v. length (I.text (I.value v)) ≤ info_limit)) }
-    ensures now { (D.state d.new).view.now ≡ (D.state d.old).view.now }
-    ensures time { Rests (D.state d.old).view (D.state d.new).view }
-    ensures place { (D.state d.new).opened ≡ (D.state d.old).opened }
-    ensures proper { (D.state d.new).misuses ≡ (D.state d.old).misuses }
-    ensures later { (D.state d.old).faults ≤ (D.state d.new).faults }
+    ensures looks { Looks (D.state d.old) (D.state d.new) }
     ensures cause { IsErrOf result SaveFault.Disk → Rises (D.state d.old).faults (D.state d.new).faults }
 {
     match read_bytes(alloc, d, name)? {
@@ -78,11 +71,7 @@ pub fn load_pair<D: Disk, I: ReadInfo>(alloc: Global, d: &mut D, name: &str) -> 
     ensures found { IfOk result (λ v. IfSome (D.state d.old).view.now (λ f. PairIs I.IsText f name.now (I.value v))) }
     ensures valid { IfOk result (λ v. I.is_valid v) }
     ensures within { IfOk result (λ v. length (I.text (I.value v)) ≤ info_limit) }
-    ensures now { (D.state d.new).view.now ≡ (D.state d.old).view.now }
-    ensures time { Rests (D.state d.old).view (D.state d.new).view }
-    ensures place { (D.state d.new).opened ≡ (D.state d.old).opened }
-    ensures proper { (D.state d.new).misuses ≡ (D.state d.old).misuses }
-    ensures later { (D.state d.old).faults ≤ (D.state d.new).faults }
+    ensures looks { Looks (D.state d.old) (D.state d.new) }
     ensures cause { IfErr result (PairCause I.IsText I.IsForm name.now (D.state d.old).view.now (Rises (D.state d.old).faults (D.state d.new).faults)) }
 {
     let copy_name = copy_name(alloc, name)?;

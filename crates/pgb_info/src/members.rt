@@ -1,5 +1,6 @@
 // The two members of an info file are written.
 ghost use Rattle.std.specs.Prelude.{◌≡◌, ◌≤◌, ◌++◌, codes, false, IfOk, OnOk, IsErrOf, string_bytes};
+ghost use Rattle.pgb_outside.specs.States.{Frame};
 ghost use Rattle.pgb_outside.specs.Moments.{is_loose};
 ghost use Rattle.pgb_outside.specs.Crash.{Crash, Ends, NowGoes, FirstOf, AllOf};
 ghost use Rattle.pgb_outside.specs.Cause.{Rises};
@@ -36,9 +37,7 @@ pub(crate) fn save_members<D: Disk>(
     ensures whole { OnOk result (is_loose (D.state d.old).view name.now ≡ false → is_loose (D.state d.old).view (copy_of name.now) ≡ false → Ends (AllOf (member_writes name.now text.now)) (D.state d.old).view (D.state d.new).view) }
     ensures now_part { NowGoes (FirstOf (member_writes name.now text.now)) (D.state d.old).view.now (D.state d.new).view.now }
     ensures now_whole { OnOk result (NowGoes (AllOf (member_writes name.now text.now)) (D.state d.old).view.now (D.state d.new).view.now) }
-    ensures place { (D.state d.new).opened ≡ (D.state d.old).opened }
-    ensures proper { (D.state d.new).misuses ≡ (D.state d.old).misuses }
-    ensures later { (D.state d.old).faults ≤ (D.state d.new).faults }
+    ensures frame { Frame (D.state d.old) (D.state d.new) }
     ensures cause { IsErrOf result SaveFault.Disk → Rises (D.state d.old).faults (D.state d.new).faults }
 {
     let copy = copy_name(alloc, name)?;

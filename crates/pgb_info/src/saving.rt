@@ -1,5 +1,6 @@
 // An info file is saved.
 ghost use Rattle.std.specs.Prelude.{◌≡◌, ◌≤◌, false, IfOk, OnOk, IsErrOf, length};
+ghost use Rattle.pgb_outside.specs.States.{Frame};
 ghost use Rattle.pgb_outside.specs.Moments.{is_loose};
 ghost use Rattle.pgb_outside.specs.Crash.{Crash, Ends, NowGoes, FirstOf, AllOf};
 ghost use Rattle.pgb_outside.specs.Cause.{Rises};
@@ -40,9 +41,7 @@ pub fn save_pair<D: Disk, I: Info>(
     ensures whole { OnOk result (is_loose (D.state d.old).view name.now ≡ false → is_loose (D.state d.old).view (copy_of name.now) ≡ false → Ends (AllOf (member_writes name.now (info_text (I.sections value.now)))) (D.state d.old).view (D.state d.new).view) }
     ensures now_part { NowGoes (FirstOf (member_writes name.now (info_text (I.sections value.now)))) (D.state d.old).view.now (D.state d.new).view.now }
     ensures now_whole { OnOk result (NowGoes (AllOf (member_writes name.now (info_text (I.sections value.now)))) (D.state d.old).view.now (D.state d.new).view.now) }
-    ensures place { (D.state d.new).opened ≡ (D.state d.old).opened }
-    ensures proper { (D.state d.new).misuses ≡ (D.state d.old).misuses }
-    ensures later { (D.state d.old).faults ≤ (D.state d.new).faults }
+    ensures frame { Frame (D.state d.old) (D.state d.new) }
     ensures cause { IsErrOf result SaveFault.Disk → Rises (D.state d.old).faults (D.state d.new).faults }
 {
     let text = text_of(alloc, value)?;

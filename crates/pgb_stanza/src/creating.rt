@@ -1,5 +1,6 @@
 // A stanza is made.
 ghost use Rattle.std.specs.Prelude.{◌≡◌, ◌≤◌, ◌⊎◌, None, Some, OnOk, IfOk, IfErr, IfSome, IsSome};
+ghost use Rattle.pgb_outside.specs.States.{Frame};
 ghost use Rattle.pgb_outside.specs.Moments.{Rests};
 ghost use Rattle.pgb_outside.specs.Cause.{Rises};
 ghost use Rattle.pgb_model.specs.Repository.{Repository, Stanza};
@@ -55,9 +56,7 @@ pub fn create<D: Disk>(
     ensures refused { IfErr result (λ e. OnContent e ((D.state d.new).view.now ≡ (D.state d.old).view.now)) }
     ensures rests { IfErr result (λ e. OnContent e (Rests (D.state d.old).view (D.state d.new).view)) }
     ensures told { IsSome (D.state d.old).view.now → IsSome (D.state d.new).view.now }
-    ensures place { (D.state d.new).opened ≡ (D.state d.old).opened }
-    ensures proper { (D.state d.new).misuses ≡ (D.state d.old).misuses }
-    ensures later { (D.state d.old).faults ≤ (D.state d.new).faults }
+    ensures frame { Frame (D.state d.old) (D.state d.new) }
     ensures cause { IfErr result (CreateCause stanza.now control.now (D.state d.old).view.now (Rises (D.state d.old).faults (D.state d.new).faults)) }
     ensures label { IfErr result (λ e. IfLost e IsLabel) }
 {

@@ -1,5 +1,6 @@
 // The pairs of a stanza are mended.
 ghost use Rattle.std.specs.Prelude.{◌≡◌, ◌≤◌, false, OnOk, IfSome, IsSome, IsErrOf};
+ghost use Rattle.pgb_outside.specs.States.{Frame};
 ghost use Rattle.pgb_outside.specs.Moments.{is_loose};
 ghost use Rattle.pgb_outside.specs.Crash.{Crash, NowGoes, SomeOf};
 ghost use Rattle.pgb_outside.specs.Cause.{Rises};
@@ -28,9 +29,7 @@ fn keep_archive<D: Disk>(
     ensures crash { is_loose (D.state d.old).view (archive_info stanza.now) ≡ false → is_loose (D.state d.old).view (copy_of (archive_info stanza.now)) ≡ false → Crash (SomeOf (member_writes (archive_info stanza.now) (archive_text (archive_info_of value.now)))) (D.state d.old).view (D.state d.new).view }
     ensures now_part { NowGoes (SomeOf (member_writes (archive_info stanza.now) (archive_text (archive_info_of value.now)))) (D.state d.old).view.now (D.state d.new).view.now }
     ensures mended { OnOk result (IfSome (D.state d.new).view.now (HoldBoth (archive_info stanza.now) (archive_text (archive_info_of value.now)))) }
-    ensures place { (D.state d.new).opened ≡ (D.state d.old).opened }
-    ensures proper { (D.state d.new).misuses ≡ (D.state d.old).misuses }
-    ensures later { (D.state d.old).faults ≤ (D.state d.new).faults }
+    ensures frame { Frame (D.state d.old) (D.state d.new) }
     ensures cause { IsErrOf result SaveFault.Disk → Rises (D.state d.old).faults (D.state d.new).faults }
 {
     let name = archive_info_name(alloc, stanza)?;
@@ -49,9 +48,7 @@ fn keep_backup<D: Disk>(
     ensures crash { is_loose (D.state d.old).view (backup_info stanza.now) ≡ false → is_loose (D.state d.old).view (copy_of (backup_info stanza.now)) ≡ false → Crash (SomeOf (member_writes (backup_info stanza.now) (backup_text (backup_info_of value.now)))) (D.state d.old).view (D.state d.new).view }
     ensures now_part { NowGoes (SomeOf (member_writes (backup_info stanza.now) (backup_text (backup_info_of value.now)))) (D.state d.old).view.now (D.state d.new).view.now }
     ensures mended { OnOk result (IfSome (D.state d.new).view.now (HoldBoth (backup_info stanza.now) (backup_text (backup_info_of value.now)))) }
-    ensures place { (D.state d.new).opened ≡ (D.state d.old).opened }
-    ensures proper { (D.state d.new).misuses ≡ (D.state d.old).misuses }
-    ensures later { (D.state d.old).faults ≤ (D.state d.new).faults }
+    ensures frame { Frame (D.state d.old) (D.state d.new) }
     ensures cause { IsErrOf result SaveFault.Disk → Rises (D.state d.old).faults (D.state d.new).faults }
 {
     let name = backup_info_name(alloc, stanza)?;
@@ -71,9 +68,7 @@ pub(crate) fn keep_stanza<D: Disk>(
     ensures crash { AreTight stanza.now (D.state d.old).view → Crash (SomeOf (mending_writes stanza.now (archive_text (archive_info_of kept.now.archive)) (backup_text (backup_info_of kept.now.backup)))) (D.state d.old).view (D.state d.new).view }
     ensures now_part { NowGoes (SomeOf (mending_writes stanza.now (archive_text (archive_info_of kept.now.archive)) (backup_text (backup_info_of kept.now.backup)))) (D.state d.old).view.now (D.state d.new).view.now }
     ensures mended { OnOk result (IsSome (D.state d.old).view.now → IfSome (D.state d.new).view.now (HaveTexts stanza.now (archive_text (archive_info_of kept.now.archive)) (backup_text (backup_info_of kept.now.backup)))) }
-    ensures place { (D.state d.new).opened ≡ (D.state d.old).opened }
-    ensures proper { (D.state d.new).misuses ≡ (D.state d.old).misuses }
-    ensures later { (D.state d.old).faults ≤ (D.state d.new).faults }
+    ensures frame { Frame (D.state d.old) (D.state d.new) }
     ensures cause { IsErrOf result SaveFault.Disk → Rises (D.state d.old).faults (D.state d.new).faults }
 {
     keep_archive(alloc, d, stanza, &kept.archive)?;

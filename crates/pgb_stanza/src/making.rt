@@ -1,5 +1,6 @@
 // A new stanza is made.
 ghost use Rattle.std.specs.Prelude.{◌≡◌, ◌≤◌, ◌⊎◌, None, OnOk, IfSome, IsSome, IsErrOf};
+ghost use Rattle.pgb_outside.specs.States.{Frame};
 ghost use Rattle.pgb_outside.specs.Cause.{Rises};
 ghost use Rattle.pgb_model.specs.InfoFiles.{IsCluster};
 ghost use Rattle.pgb_model.specs.Repository.{Repository};
@@ -49,9 +50,7 @@ pub(crate) fn make_stanza<D: Disk>(
     ensures made { OnOk result ((r : Repository) → IsSteady stanza.now r (D.state d.old).view → IsSome (D.state d.old).view.now
         → IsSteady stanza.now (step r (Create (first_cluster control.now))) (D.state d.new).view) }
     ensures told { IsSome (D.state d.old).view.now → IsSome (D.state d.new).view.now }
-    ensures place { (D.state d.new).opened ≡ (D.state d.old).opened }
-    ensures proper { (D.state d.new).misuses ≡ (D.state d.old).misuses }
-    ensures later { (D.state d.old).faults ≤ (D.state d.new).faults }
+    ensures frame { Frame (D.state d.old) (D.state d.new) }
     ensures cause { IsErrOf result SaveFault.Disk → Rises (D.state d.old).faults (D.state d.new).faults }
 {
     let cluster = first_cluster(*control);

@@ -1,5 +1,6 @@
 // The two pairs of a stanza are read, and fit together or are refused.
 ghost use Rattle.std.specs.Prelude.{◌≡◌, ◌≤◌, [], None, Some, IfOk, IfErr, IfSome, IfNone, IsSomeAnd};
+ghost use Rattle.pgb_outside.specs.States.{Looks};
 ghost use Rattle.pgb_outside.specs.Moments.{Rests};
 ghost use Rattle.pgb_outside.specs.Cause.{Rises};
 ghost use Rattle.pgb_model.specs.Names.{archive_info, backup_info};
@@ -28,11 +29,7 @@ fn read_pair<D: Disk, I: ReadInfo>(
     ensures found { IfOk result (λ o. IfSome o (λ v. IfSome (D.state d.old).view.now (λ f. PairIs I.IsText f name.now (I.value v)))) }
     ensures missing { IfOk result (λ o. IfNone o (IfSome (D.state d.old).view.now (λ f. PairAbsent f name.now))) }
     ensures valid { IfOk result (λ o. IfSome o I.is_valid) }
-    ensures now { (D.state d.new).view.now ≡ (D.state d.old).view.now }
-    ensures time { Rests (D.state d.old).view (D.state d.new).view }
-    ensures place { (D.state d.new).opened ≡ (D.state d.old).opened }
-    ensures proper { (D.state d.new).misuses ≡ (D.state d.old).misuses }
-    ensures later { (D.state d.old).faults ≤ (D.state d.new).faults }
+    ensures looks { Looks (D.state d.old) (D.state d.new) }
     ensures cause { IfErr result (ReadCause I.IsText I.IsForm name.now (D.state d.old).view.now (Rises (D.state d.old).faults (D.state d.new).faults)) }
     ensures label { IfErr result (λ e. IfLost e IsLabel) }
 {
@@ -91,11 +88,7 @@ pub(crate) fn look<D: Disk>(
     ensures kept { IfOk result (λ o. IfSome o (λ k. IfSome (D.state d.old).view.now (λ f. KeepsStanza stanza.now told.now f (archive_info_of k.archive) (backup_info_of k.backup)))) }
     ensures archive { IfOk result (λ o. IfSome o (λ k. IsArchiveInfo (archive_info_of k.archive))) }
     ensures backup { IfOk result (λ o. IfSome o (λ k. IsBackupInfo (backup_info_of k.backup))) }
-    ensures now { (D.state d.new).view.now ≡ (D.state d.old).view.now }
-    ensures time { Rests (D.state d.old).view (D.state d.new).view }
-    ensures place { (D.state d.new).opened ≡ (D.state d.old).opened }
-    ensures proper { (D.state d.new).misuses ≡ (D.state d.old).misuses }
-    ensures later { (D.state d.old).faults ≤ (D.state d.new).faults }
+    ensures looks { Looks (D.state d.old) (D.state d.new) }
     ensures cause { IfErr result (CreateCause stanza.now told.now (D.state d.old).view.now (Rises (D.state d.old).faults (D.state d.new).faults)) }
     ensures label { IfErr result (λ e. IfLost e IsLabel) }
 {

@@ -1,5 +1,6 @@
 // The pairs of a new stanza are saved.
 ghost use Rattle.std.specs.Prelude.{◌≡◌, ◌≤◌, false, IfOk, OnOk, IsErrOf};
+ghost use Rattle.pgb_outside.specs.States.{Frame};
 ghost use Rattle.pgb_outside.specs.Moments.{is_loose};
 ghost use Rattle.pgb_outside.specs.Crash.{Crash, Ends, NowGoes, FirstOf, AllOf};
 ghost use Rattle.pgb_outside.specs.Cause.{Rises};
@@ -48,9 +49,7 @@ fn save_backup<D: Disk>(
     ensures whole { OnOk result (is_loose (D.state d.old).view (backup_info stanza.now) ≡ false → is_loose (D.state d.old).view (copy_of (backup_info stanza.now)) ≡ false → Ends (AllOf (member_writes (backup_info stanza.now) (first_backup_text cluster.now))) (D.state d.old).view (D.state d.new).view) }
     ensures now_part { NowGoes (FirstOf (member_writes (backup_info stanza.now) (first_backup_text cluster.now))) (D.state d.old).view.now (D.state d.new).view.now }
     ensures now_whole { OnOk result (NowGoes (AllOf (member_writes (backup_info stanza.now) (first_backup_text cluster.now))) (D.state d.old).view.now (D.state d.new).view.now) }
-    ensures place { (D.state d.new).opened ≡ (D.state d.old).opened }
-    ensures proper { (D.state d.new).misuses ≡ (D.state d.old).misuses }
-    ensures later { (D.state d.old).faults ≤ (D.state d.new).faults }
+    ensures frame { Frame (D.state d.old) (D.state d.new) }
     ensures cause { IsErrOf result SaveFault.Disk → Rises (D.state d.old).faults (D.state d.new).faults }
 {
     let name = backup_info_name(alloc, stanza)?;
@@ -72,9 +71,7 @@ fn save_archive<D: Disk>(
     ensures whole { OnOk result (is_loose (D.state d.old).view (archive_info stanza.now) ≡ false → is_loose (D.state d.old).view (copy_of (archive_info stanza.now)) ≡ false → Ends (AllOf (member_writes (archive_info stanza.now) (first_archive_text cluster.now))) (D.state d.old).view (D.state d.new).view) }
     ensures now_part { NowGoes (FirstOf (member_writes (archive_info stanza.now) (first_archive_text cluster.now))) (D.state d.old).view.now (D.state d.new).view.now }
     ensures now_whole { OnOk result (NowGoes (AllOf (member_writes (archive_info stanza.now) (first_archive_text cluster.now))) (D.state d.old).view.now (D.state d.new).view.now) }
-    ensures place { (D.state d.new).opened ≡ (D.state d.old).opened }
-    ensures proper { (D.state d.new).misuses ≡ (D.state d.old).misuses }
-    ensures later { (D.state d.old).faults ≤ (D.state d.new).faults }
+    ensures frame { Frame (D.state d.old) (D.state d.new) }
     ensures cause { IsErrOf result SaveFault.Disk → Rises (D.state d.old).faults (D.state d.new).faults }
 {
     let name = archive_info_name(alloc, stanza)?;
@@ -96,9 +93,7 @@ pub(crate) fn save_pairs<D: Disk>(
     ensures whole { OnOk result (AreTight stanza.now (D.state d.old).view → Ends (AllOf (pair_writes stanza.now cluster.now)) (D.state d.old).view (D.state d.new).view) }
     ensures now_part { NowGoes (FirstOf (pair_writes stanza.now cluster.now)) (D.state d.old).view.now (D.state d.new).view.now }
     ensures now_whole { OnOk result (NowGoes (AllOf (pair_writes stanza.now cluster.now)) (D.state d.old).view.now (D.state d.new).view.now) }
-    ensures place { (D.state d.new).opened ≡ (D.state d.old).opened }
-    ensures proper { (D.state d.new).misuses ≡ (D.state d.old).misuses }
-    ensures later { (D.state d.old).faults ≤ (D.state d.new).faults }
+    ensures frame { Frame (D.state d.old) (D.state d.new) }
     ensures cause { IsErrOf result SaveFault.Disk → Rises (D.state d.old).faults (D.state d.new).faults }
 {
     save_backup(alloc, d, stanza, cluster)?;

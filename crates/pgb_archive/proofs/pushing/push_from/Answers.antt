@@ -51,83 +51,83 @@ returns-in_err-names-clause-only g c =
 
 pub returns-in_err-look_for-clause-part : goal.returns-in_err-look_for-clause-part
 returns-in_err-look_for-clause-part g c =
-    rests_part c.args.stanza.now c.args.id.now c.args.name.now c.args.system (g.P.Pieces.bytes c.args.pieces.now c.args.holder.now) c.args.front.bytes.now c.args.front.length c.requires.told c.requires.within (g.D.Disk.state c.args.d.now).view (g.D.Disk.state c.look_for.new.d).view c.look_for.ensures.time c.look_for.ensures.now
+    rests_part c.args.stanza.now c.args.id.now c.args.name.now c.args.system (g.P.Pieces.bytes c.args.pieces.now c.args.holder.now) c.args.front.bytes.now c.args.front.length c.requires.told c.requires.within (g.D.Disk.state c.args.d.now).view (g.D.Disk.state c.look_for.new.d).view c.look_for.ensures.looks.time c.look_for.ensures.looks.now
 
 pub returns-in_err-look_for-clause-moves : goal.returns-in_err-look_for-clause-moves
 returns-in_err-look_for-clause-moves g c =
-    rests_moves c.args.stanza.now c.args.id.now c.args.name.now c.args.system (g.P.Pieces.bytes c.args.pieces.now c.args.holder.now) c.args.front.bytes.now c.args.front.length c.requires.told c.requires.within (g.D.Disk.state c.args.d.now).view (g.D.Disk.state c.look_for.new.d).view c.look_for.ensures.time c.look_for.ensures.now
+    rests_moves c.args.stanza.now c.args.id.now c.args.name.now c.args.system (g.P.Pieces.bytes c.args.pieces.now c.args.holder.now) c.args.front.bytes.now c.args.front.length c.requires.told c.requires.within (g.D.Disk.state c.args.d.now).view (g.D.Disk.state c.look_for.new.d).view c.look_for.ensures.looks.time c.look_for.ensures.looks.now
 
 pub returns-in_err-look_for-clause-writes : goal.returns-in_err-look_for-clause-writes
 returns-in_err-look_for-clause-writes g c =
-    rests_writes c.args.stanza.now c.args.id.now c.args.name.now c.args.system (g.P.Pieces.bytes c.args.pieces.now c.args.holder.now) c.args.front.bytes.now c.args.front.length c.requires.told c.requires.within (g.D.Disk.state c.args.d.now).view (g.D.Disk.state c.look_for.new.d).view c.look_for.ensures.time c.look_for.ensures.now
+    rests_writes c.args.stanza.now c.args.id.now c.args.name.now c.args.system (g.P.Pieces.bytes c.args.pieces.now c.args.holder.now) c.args.front.bytes.now c.args.front.length c.requires.told c.requires.within (g.D.Disk.state c.args.d.now).view (g.D.Disk.state c.look_for.new.d).view c.look_for.ensures.looks.time c.look_for.ensures.looks.now
 
 pub returns-in_err-look_for-clause-only : goal.returns-in_err-look_for-clause-only
 returns-in_err-look_for-clause-only g c =
-    still_only c.args.stanza.now (g.D.Disk.state c.args.d.now).view _ c.look_for.ensures.time c.look_for.ensures.now
+    still_only c.args.stanza.now (g.D.Disk.state c.args.d.now).view _ c.look_for.ensures.looks.time c.look_for.ensures.looks.now
 
 pub returns-in-Err-clause-part : goal.returns-in-Err-clause-part
 returns-in-Err-clause-part g c =
-    rests_part c.args.stanza.now c.args.id.now c.args.name.now c.args.system (g.P.Pieces.bytes c.args.pieces.now c.args.holder.now) c.args.front.bytes.now c.args.front.length c.requires.told c.requires.within (g.D.Disk.state c.args.d.now).view (g.D.Disk.state c.look_for.new.d).view c.look_for.ensures.time c.look_for.ensures.now
+    rests_part c.args.stanza.now c.args.id.now c.args.name.now c.args.system (g.P.Pieces.bytes c.args.pieces.now c.args.holder.now) c.args.front.bytes.now c.args.front.length c.requires.told c.requires.within (g.D.Disk.state c.args.d.now).view (g.D.Disk.state c.look_for.new.d).view c.look_for.ensures.looks.time c.look_for.ensures.looks.now
 
 pub returns-in-Err-clause-moves : goal.returns-in-Err-clause-moves
 returns-in-Err-clause-moves g c =
-    rests_moves c.args.stanza.now c.args.id.now c.args.name.now c.args.system (g.P.Pieces.bytes c.args.pieces.now c.args.holder.now) c.args.front.bytes.now c.args.front.length c.requires.told c.requires.within (g.D.Disk.state c.args.d.now).view (g.D.Disk.state c.look_for.new.d).view c.look_for.ensures.time c.look_for.ensures.now
+    rests_moves c.args.stanza.now c.args.id.now c.args.name.now c.args.system (g.P.Pieces.bytes c.args.pieces.now c.args.holder.now) c.args.front.bytes.now c.args.front.length c.requires.told c.requires.within (g.D.Disk.state c.args.d.now).view (g.D.Disk.state c.look_for.new.d).view c.look_for.ensures.looks.time c.look_for.ensures.looks.now
 
 pub returns-in-Err-clause-writes : goal.returns-in-Err-clause-writes
 returns-in-Err-clause-writes g c =
-    rests_writes c.args.stanza.now c.args.id.now c.args.name.now c.args.system (g.P.Pieces.bytes c.args.pieces.now c.args.holder.now) c.args.front.bytes.now c.args.front.length c.requires.told c.requires.within (g.D.Disk.state c.args.d.now).view (g.D.Disk.state c.look_for.new.d).view c.look_for.ensures.time c.look_for.ensures.now
+    rests_writes c.args.stanza.now c.args.id.now c.args.name.now c.args.system (g.P.Pieces.bytes c.args.pieces.now c.args.holder.now) c.args.front.bytes.now c.args.front.length c.requires.told c.requires.within (g.D.Disk.state c.args.d.now).view (g.D.Disk.state c.look_for.new.d).view c.look_for.ensures.looks.time c.look_for.ensures.looks.now
 
 pub returns-in-Err-clause-only : goal.returns-in-Err-clause-only
 returns-in-Err-clause-only g c =
-    still_only c.args.stanza.now (g.D.Disk.state c.args.d.now).view _ c.look_for.ensures.time c.look_for.ensures.now
+    still_only c.args.stanza.now (g.D.Disk.state c.args.d.now).view _ c.look_for.ensures.looks.time c.look_for.ensures.looks.now
 
 pub returns-then-eq-clause-part : goal.returns-then-eq-clause-part
 returns-then-eq-clause-part g c =
-    rests_part c.args.stanza.now c.args.id.now c.args.name.now c.args.system (g.P.Pieces.bytes c.args.pieces.now c.args.holder.now) c.args.front.bytes.now c.args.front.length c.requires.told c.requires.within (g.D.Disk.state c.args.d.now).view (g.D.Disk.state c.look_for.new.d).view c.look_for.ensures.time c.look_for.ensures.now
+    rests_part c.args.stanza.now c.args.id.now c.args.name.now c.args.system (g.P.Pieces.bytes c.args.pieces.now c.args.holder.now) c.args.front.bytes.now c.args.front.length c.requires.told c.requires.within (g.D.Disk.state c.args.d.now).view (g.D.Disk.state c.look_for.new.d).view c.look_for.ensures.looks.time c.look_for.ensures.looks.now
 
 pub returns-then-eq-clause-moves : goal.returns-then-eq-clause-moves
 returns-then-eq-clause-moves g c =
-    rests_moves c.args.stanza.now c.args.id.now c.args.name.now c.args.system (g.P.Pieces.bytes c.args.pieces.now c.args.holder.now) c.args.front.bytes.now c.args.front.length c.requires.told c.requires.within (g.D.Disk.state c.args.d.now).view (g.D.Disk.state c.look_for.new.d).view c.look_for.ensures.time c.look_for.ensures.now
+    rests_moves c.args.stanza.now c.args.id.now c.args.name.now c.args.system (g.P.Pieces.bytes c.args.pieces.now c.args.holder.now) c.args.front.bytes.now c.args.front.length c.requires.told c.requires.within (g.D.Disk.state c.args.d.now).view (g.D.Disk.state c.look_for.new.d).view c.look_for.ensures.looks.time c.look_for.ensures.looks.now
 
 pub returns-then-eq-clause-writes : goal.returns-then-eq-clause-writes
 returns-then-eq-clause-writes g c =
-    rests_writes c.args.stanza.now c.args.id.now c.args.name.now c.args.system (g.P.Pieces.bytes c.args.pieces.now c.args.holder.now) c.args.front.bytes.now c.args.front.length c.requires.told c.requires.within (g.D.Disk.state c.args.d.now).view (g.D.Disk.state c.look_for.new.d).view c.look_for.ensures.time c.look_for.ensures.now
+    rests_writes c.args.stanza.now c.args.id.now c.args.name.now c.args.system (g.P.Pieces.bytes c.args.pieces.now c.args.holder.now) c.args.front.bytes.now c.args.front.length c.requires.told c.requires.within (g.D.Disk.state c.args.d.now).view (g.D.Disk.state c.look_for.new.d).view c.look_for.ensures.looks.time c.look_for.ensures.looks.now
 
 pub returns-then-eq-clause-only : goal.returns-then-eq-clause-only
 returns-then-eq-clause-only g c =
-    still_only c.args.stanza.now (g.D.Disk.state c.args.d.now).view _ c.look_for.ensures.time c.look_for.ensures.now
+    still_only c.args.stanza.now (g.D.Disk.state c.args.d.now).view _ c.look_for.ensures.looks.time c.look_for.ensures.looks.now
 
 pub returns-in-One-clause-part : goal.returns-in-One-clause-part
 returns-in-One-clause-part g c =
-    rests_part c.args.stanza.now c.args.id.now c.args.name.now c.args.system (g.P.Pieces.bytes c.args.pieces.now c.args.holder.now) c.args.front.bytes.now c.args.front.length c.requires.told c.requires.within (g.D.Disk.state c.args.d.now).view (g.D.Disk.state c.look_for.new.d).view c.look_for.ensures.time c.look_for.ensures.now
+    rests_part c.args.stanza.now c.args.id.now c.args.name.now c.args.system (g.P.Pieces.bytes c.args.pieces.now c.args.holder.now) c.args.front.bytes.now c.args.front.length c.requires.told c.requires.within (g.D.Disk.state c.args.d.now).view (g.D.Disk.state c.look_for.new.d).view c.look_for.ensures.looks.time c.look_for.ensures.looks.now
 
 pub returns-in-One-clause-moves : goal.returns-in-One-clause-moves
 returns-in-One-clause-moves g c =
-    rests_moves c.args.stanza.now c.args.id.now c.args.name.now c.args.system (g.P.Pieces.bytes c.args.pieces.now c.args.holder.now) c.args.front.bytes.now c.args.front.length c.requires.told c.requires.within (g.D.Disk.state c.args.d.now).view (g.D.Disk.state c.look_for.new.d).view c.look_for.ensures.time c.look_for.ensures.now
+    rests_moves c.args.stanza.now c.args.id.now c.args.name.now c.args.system (g.P.Pieces.bytes c.args.pieces.now c.args.holder.now) c.args.front.bytes.now c.args.front.length c.requires.told c.requires.within (g.D.Disk.state c.args.d.now).view (g.D.Disk.state c.look_for.new.d).view c.look_for.ensures.looks.time c.look_for.ensures.looks.now
 
 pub returns-in-One-clause-writes : goal.returns-in-One-clause-writes
 returns-in-One-clause-writes g c =
-    rests_writes c.args.stanza.now c.args.id.now c.args.name.now c.args.system (g.P.Pieces.bytes c.args.pieces.now c.args.holder.now) c.args.front.bytes.now c.args.front.length c.requires.told c.requires.within (g.D.Disk.state c.args.d.now).view (g.D.Disk.state c.look_for.new.d).view c.look_for.ensures.time c.look_for.ensures.now
+    rests_writes c.args.stanza.now c.args.id.now c.args.name.now c.args.system (g.P.Pieces.bytes c.args.pieces.now c.args.holder.now) c.args.front.bytes.now c.args.front.length c.requires.told c.requires.within (g.D.Disk.state c.args.d.now).view (g.D.Disk.state c.look_for.new.d).view c.look_for.ensures.looks.time c.look_for.ensures.looks.now
 
 pub returns-in-One-clause-only : goal.returns-in-One-clause-only
 returns-in-One-clause-only g c =
-    still_only c.args.stanza.now (g.D.Disk.state c.args.d.now).view _ c.look_for.ensures.time c.look_for.ensures.now
+    still_only c.args.stanza.now (g.D.Disk.state c.args.d.now).view _ c.look_for.ensures.looks.time c.look_for.ensures.looks.now
 
 pub returns-clause-part : goal.returns-clause-part
 returns-clause-part g c =
-    rests_part c.args.stanza.now c.args.id.now c.args.name.now c.args.system (g.P.Pieces.bytes c.args.pieces.now c.args.holder.now) c.args.front.bytes.now c.args.front.length c.requires.told c.requires.within (g.D.Disk.state c.args.d.now).view (g.D.Disk.state c.look_for.new.d).view c.look_for.ensures.time c.look_for.ensures.now
+    rests_part c.args.stanza.now c.args.id.now c.args.name.now c.args.system (g.P.Pieces.bytes c.args.pieces.now c.args.holder.now) c.args.front.bytes.now c.args.front.length c.requires.told c.requires.within (g.D.Disk.state c.args.d.now).view (g.D.Disk.state c.look_for.new.d).view c.look_for.ensures.looks.time c.look_for.ensures.looks.now
 
 pub returns-clause-moves : goal.returns-clause-moves
 returns-clause-moves g c =
-    rests_moves c.args.stanza.now c.args.id.now c.args.name.now c.args.system (g.P.Pieces.bytes c.args.pieces.now c.args.holder.now) c.args.front.bytes.now c.args.front.length c.requires.told c.requires.within (g.D.Disk.state c.args.d.now).view (g.D.Disk.state c.look_for.new.d).view c.look_for.ensures.time c.look_for.ensures.now
+    rests_moves c.args.stanza.now c.args.id.now c.args.name.now c.args.system (g.P.Pieces.bytes c.args.pieces.now c.args.holder.now) c.args.front.bytes.now c.args.front.length c.requires.told c.requires.within (g.D.Disk.state c.args.d.now).view (g.D.Disk.state c.look_for.new.d).view c.look_for.ensures.looks.time c.look_for.ensures.looks.now
 
 pub returns-clause-writes : goal.returns-clause-writes
 returns-clause-writes g c =
-    rests_writes c.args.stanza.now c.args.id.now c.args.name.now c.args.system (g.P.Pieces.bytes c.args.pieces.now c.args.holder.now) c.args.front.bytes.now c.args.front.length c.requires.told c.requires.within (g.D.Disk.state c.args.d.now).view (g.D.Disk.state c.look_for.new.d).view c.look_for.ensures.time c.look_for.ensures.now
+    rests_writes c.args.stanza.now c.args.id.now c.args.name.now c.args.system (g.P.Pieces.bytes c.args.pieces.now c.args.holder.now) c.args.front.bytes.now c.args.front.length c.requires.told c.requires.within (g.D.Disk.state c.args.d.now).view (g.D.Disk.state c.look_for.new.d).view c.look_for.ensures.looks.time c.look_for.ensures.looks.now
 
 pub returns-clause-only : goal.returns-clause-only
 returns-clause-only g c =
-    still_only c.args.stanza.now (g.D.Disk.state c.args.d.now).view _ c.look_for.ensures.time c.look_for.ensures.now
+    still_only c.args.stanza.now (g.D.Disk.state c.args.d.now).view _ c.look_for.ensures.looks.time c.look_for.ensures.looks.now
 
 pub returns-in_err-check_bytes-clause-refused : goal.returns-in_err-check_bytes-clause-refused
 returns-in_err-check_bytes-clause-refused g c =
@@ -139,7 +139,7 @@ returns-in_err-names-clause-refused g c =
 
 pub returns-in_err-look_for-clause-refused : goal.returns-in_err-look_for-clause-refused
 returns-in_err-look_for-clause-refused g c =
-    err_by (λ e. OnPushFinding e (((g.D.Disk.state c.look_for.new.d).view.now ≡ (g.D.Disk.state c.args.d.now).view.now) × Rests (g.D.Disk.state c.args.d.now).view (g.D.Disk.state c.look_for.new.d).view)) c.from_residual-in_err-look_for.result (Archive c.in_err-look_for.field-0.0) c.from_residual-in_err-look_for.ensures.1 (rests_refused c.args.stanza.now c.args.id.now c.args.name.now c.args.system (g.P.Pieces.bytes c.args.pieces.now c.args.holder.now) c.args.front.bytes.now c.args.front.length c.requires.told c.requires.within (g.D.Disk.state c.args.d.now).view (g.D.Disk.state c.look_for.new.d).view c.look_for.ensures.time c.look_for.ensures.now (Archive c.in_err-look_for.field-0.0))
+    err_by (λ e. OnPushFinding e (((g.D.Disk.state c.look_for.new.d).view.now ≡ (g.D.Disk.state c.args.d.now).view.now) × Rests (g.D.Disk.state c.args.d.now).view (g.D.Disk.state c.look_for.new.d).view)) c.from_residual-in_err-look_for.result (Archive c.in_err-look_for.field-0.0) c.from_residual-in_err-look_for.ensures.1 (rests_refused c.args.stanza.now c.args.id.now c.args.name.now c.args.system (g.P.Pieces.bytes c.args.pieces.now c.args.holder.now) c.args.front.bytes.now c.args.front.length c.requires.told c.requires.within (g.D.Disk.state c.args.d.now).view (g.D.Disk.state c.look_for.new.d).view c.look_for.ensures.looks.time c.look_for.ensures.looks.now (Archive c.in_err-look_for.field-0.0))
 
 pub returns-in_err-check_bytes-clause-cause : goal.returns-in_err-check_bytes-clause-cause
 returns-in_err-check_bytes-clause-cause g c =
@@ -155,43 +155,43 @@ returns-in_err-look_for-clause-cause g c =
 
 pub returns-in_err-put_new-in-Free-clause-part : goal.returns-in_err-put_new-in-Free-clause-part
 returns-in_err-put_new-in-Free-clause-part g c =
-    free_part c.args.stanza.now c.args.id.now c.args.name.now c.args.system (g.P.Pieces.bytes c.args.pieces.now c.args.holder.now) c.args.front.bytes.now c.args.front.length c.requires.told c.requires.within c.in_ok-names.names c.in_ok-names.ensures.names c.file_names.ensures.place (g.D.Disk.state c.args.d.now).view (g.D.Disk.state c.look_for.new.d).view c.look_for.ensures.time c.look_for.ensures.now (g.D.Disk.state c.put_new.new.d).view (shown_free c.args.stanza.now c.args.id.now c.args.name.now c.in_ok-names.names c.in_ok-names.ensures.names (g.D.Disk.state c.args.d.now).view.now _ c.in-Free.is c.in_ok-look_for.ensures.shows) c.put_new.ensures.left.0 c.put_new.ensures.left.1 c.put_new.ensures.left.2
+    free_part c.args.stanza.now c.args.id.now c.args.name.now c.args.system (g.P.Pieces.bytes c.args.pieces.now c.args.holder.now) c.args.front.bytes.now c.args.front.length c.requires.told c.requires.within c.in_ok-names.names c.in_ok-names.ensures.names c.file_names.ensures.place (g.D.Disk.state c.args.d.now).view (g.D.Disk.state c.look_for.new.d).view c.look_for.ensures.looks.time c.look_for.ensures.looks.now (g.D.Disk.state c.put_new.new.d).view (shown_free c.args.stanza.now c.args.id.now c.args.name.now c.in_ok-names.names c.in_ok-names.ensures.names (g.D.Disk.state c.args.d.now).view.now _ c.in-Free.is c.in_ok-look_for.ensures.shows) c.put_new.ensures.left.0 c.put_new.ensures.left.1 c.put_new.ensures.left.2
 
 pub returns-in_err-put_new-in-Free-clause-moves : goal.returns-in_err-put_new-in-Free-clause-moves
 returns-in_err-put_new-in-Free-clause-moves g c =
-    free_moves c.args.stanza.now c.args.id.now c.args.name.now c.args.system (g.P.Pieces.bytes c.args.pieces.now c.args.holder.now) c.args.front.bytes.now c.args.front.length c.requires.told c.requires.within c.in_ok-names.names c.in_ok-names.ensures.names c.file_names.ensures.place (g.D.Disk.state c.args.d.now).view (g.D.Disk.state c.look_for.new.d).view c.look_for.ensures.time c.look_for.ensures.now (g.D.Disk.state c.put_new.new.d).view (shown_free c.args.stanza.now c.args.id.now c.args.name.now c.in_ok-names.names c.in_ok-names.ensures.names (g.D.Disk.state c.args.d.now).view.now _ c.in-Free.is c.in_ok-look_for.ensures.shows) c.put_new.ensures.left.0 c.put_new.ensures.left.1 c.put_new.ensures.left.2
+    free_moves c.args.stanza.now c.args.id.now c.args.name.now c.args.system (g.P.Pieces.bytes c.args.pieces.now c.args.holder.now) c.args.front.bytes.now c.args.front.length c.requires.told c.requires.within c.in_ok-names.names c.in_ok-names.ensures.names c.file_names.ensures.place (g.D.Disk.state c.args.d.now).view (g.D.Disk.state c.look_for.new.d).view c.look_for.ensures.looks.time c.look_for.ensures.looks.now (g.D.Disk.state c.put_new.new.d).view (shown_free c.args.stanza.now c.args.id.now c.args.name.now c.in_ok-names.names c.in_ok-names.ensures.names (g.D.Disk.state c.args.d.now).view.now _ c.in-Free.is c.in_ok-look_for.ensures.shows) c.put_new.ensures.left.0 c.put_new.ensures.left.1 c.put_new.ensures.left.2
 
 pub returns-in_err-put_new-in-Free-clause-writes : goal.returns-in_err-put_new-in-Free-clause-writes
 returns-in_err-put_new-in-Free-clause-writes g c =
-    free_writes c.args.stanza.now c.args.id.now c.args.name.now c.args.system (g.P.Pieces.bytes c.args.pieces.now c.args.holder.now) c.args.front.bytes.now c.args.front.length c.requires.told c.requires.within c.in_ok-names.names c.in_ok-names.ensures.names c.file_names.ensures.place (g.D.Disk.state c.args.d.now).view (g.D.Disk.state c.look_for.new.d).view c.look_for.ensures.time c.look_for.ensures.now (g.D.Disk.state c.put_new.new.d).view (shown_free c.args.stanza.now c.args.id.now c.args.name.now c.in_ok-names.names c.in_ok-names.ensures.names (g.D.Disk.state c.args.d.now).view.now _ c.in-Free.is c.in_ok-look_for.ensures.shows) c.put_new.ensures.left.0 c.put_new.ensures.left.1 c.put_new.ensures.left.2
+    free_writes c.args.stanza.now c.args.id.now c.args.name.now c.args.system (g.P.Pieces.bytes c.args.pieces.now c.args.holder.now) c.args.front.bytes.now c.args.front.length c.requires.told c.requires.within c.in_ok-names.names c.in_ok-names.ensures.names c.file_names.ensures.place (g.D.Disk.state c.args.d.now).view (g.D.Disk.state c.look_for.new.d).view c.look_for.ensures.looks.time c.look_for.ensures.looks.now (g.D.Disk.state c.put_new.new.d).view (shown_free c.args.stanza.now c.args.id.now c.args.name.now c.in_ok-names.names c.in_ok-names.ensures.names (g.D.Disk.state c.args.d.now).view.now _ c.in-Free.is c.in_ok-look_for.ensures.shows) c.put_new.ensures.left.0 c.put_new.ensures.left.1 c.put_new.ensures.left.2
 
 pub returns-in_err-put_new-in-Free-clause-only : goal.returns-in_err-put_new-in-Free-clause-only
 returns-in_err-put_new-in-Free-clause-only g c =
-    put_only c.args.stanza.now c.args.id.now c.args.name.now c.in_ok-names.names c.in_ok-names.ensures.names c.put_new.ensures.only.0 (g.D.Disk.state c.args.d.now).view _ _ c.look_for.ensures.time c.look_for.ensures.now c.put_new.ensures.only.1
+    put_only c.args.stanza.now c.args.id.now c.args.name.now c.in_ok-names.names c.in_ok-names.ensures.names c.put_new.ensures.only.0 (g.D.Disk.state c.args.d.now).view _ _ c.look_for.ensures.looks.time c.look_for.ensures.looks.now c.put_new.ensures.only.1
 
 pub returns-in-Free-clause-part : goal.returns-in-Free-clause-part
 returns-in-Free-clause-part g c =
-    free_part c.args.stanza.now c.args.id.now c.args.name.now c.args.system (g.P.Pieces.bytes c.args.pieces.now c.args.holder.now) c.args.front.bytes.now c.args.front.length c.requires.told c.requires.within c.in_ok-names.names c.in_ok-names.ensures.names c.file_names.ensures.place (g.D.Disk.state c.args.d.now).view (g.D.Disk.state c.look_for.new.d).view c.look_for.ensures.time c.look_for.ensures.now (g.D.Disk.state c.put_new.new.d).view (shown_free c.args.stanza.now c.args.id.now c.args.name.now c.in_ok-names.names c.in_ok-names.ensures.names (g.D.Disk.state c.args.d.now).view.now _ c.in-Free.is c.in_ok-look_for.ensures.shows) c.put_new.ensures.left.0 c.put_new.ensures.left.1 c.put_new.ensures.left.2
+    free_part c.args.stanza.now c.args.id.now c.args.name.now c.args.system (g.P.Pieces.bytes c.args.pieces.now c.args.holder.now) c.args.front.bytes.now c.args.front.length c.requires.told c.requires.within c.in_ok-names.names c.in_ok-names.ensures.names c.file_names.ensures.place (g.D.Disk.state c.args.d.now).view (g.D.Disk.state c.look_for.new.d).view c.look_for.ensures.looks.time c.look_for.ensures.looks.now (g.D.Disk.state c.put_new.new.d).view (shown_free c.args.stanza.now c.args.id.now c.args.name.now c.in_ok-names.names c.in_ok-names.ensures.names (g.D.Disk.state c.args.d.now).view.now _ c.in-Free.is c.in_ok-look_for.ensures.shows) c.put_new.ensures.left.0 c.put_new.ensures.left.1 c.put_new.ensures.left.2
 
 pub returns-in-Free-clause-moves : goal.returns-in-Free-clause-moves
 returns-in-Free-clause-moves g c =
-    free_moves c.args.stanza.now c.args.id.now c.args.name.now c.args.system (g.P.Pieces.bytes c.args.pieces.now c.args.holder.now) c.args.front.bytes.now c.args.front.length c.requires.told c.requires.within c.in_ok-names.names c.in_ok-names.ensures.names c.file_names.ensures.place (g.D.Disk.state c.args.d.now).view (g.D.Disk.state c.look_for.new.d).view c.look_for.ensures.time c.look_for.ensures.now (g.D.Disk.state c.put_new.new.d).view (shown_free c.args.stanza.now c.args.id.now c.args.name.now c.in_ok-names.names c.in_ok-names.ensures.names (g.D.Disk.state c.args.d.now).view.now _ c.in-Free.is c.in_ok-look_for.ensures.shows) c.put_new.ensures.left.0 c.put_new.ensures.left.1 c.put_new.ensures.left.2
+    free_moves c.args.stanza.now c.args.id.now c.args.name.now c.args.system (g.P.Pieces.bytes c.args.pieces.now c.args.holder.now) c.args.front.bytes.now c.args.front.length c.requires.told c.requires.within c.in_ok-names.names c.in_ok-names.ensures.names c.file_names.ensures.place (g.D.Disk.state c.args.d.now).view (g.D.Disk.state c.look_for.new.d).view c.look_for.ensures.looks.time c.look_for.ensures.looks.now (g.D.Disk.state c.put_new.new.d).view (shown_free c.args.stanza.now c.args.id.now c.args.name.now c.in_ok-names.names c.in_ok-names.ensures.names (g.D.Disk.state c.args.d.now).view.now _ c.in-Free.is c.in_ok-look_for.ensures.shows) c.put_new.ensures.left.0 c.put_new.ensures.left.1 c.put_new.ensures.left.2
 
 pub returns-in-Free-clause-writes : goal.returns-in-Free-clause-writes
 returns-in-Free-clause-writes g c =
-    free_writes c.args.stanza.now c.args.id.now c.args.name.now c.args.system (g.P.Pieces.bytes c.args.pieces.now c.args.holder.now) c.args.front.bytes.now c.args.front.length c.requires.told c.requires.within c.in_ok-names.names c.in_ok-names.ensures.names c.file_names.ensures.place (g.D.Disk.state c.args.d.now).view (g.D.Disk.state c.look_for.new.d).view c.look_for.ensures.time c.look_for.ensures.now (g.D.Disk.state c.put_new.new.d).view (shown_free c.args.stanza.now c.args.id.now c.args.name.now c.in_ok-names.names c.in_ok-names.ensures.names (g.D.Disk.state c.args.d.now).view.now _ c.in-Free.is c.in_ok-look_for.ensures.shows) c.put_new.ensures.left.0 c.put_new.ensures.left.1 c.put_new.ensures.left.2
+    free_writes c.args.stanza.now c.args.id.now c.args.name.now c.args.system (g.P.Pieces.bytes c.args.pieces.now c.args.holder.now) c.args.front.bytes.now c.args.front.length c.requires.told c.requires.within c.in_ok-names.names c.in_ok-names.ensures.names c.file_names.ensures.place (g.D.Disk.state c.args.d.now).view (g.D.Disk.state c.look_for.new.d).view c.look_for.ensures.looks.time c.look_for.ensures.looks.now (g.D.Disk.state c.put_new.new.d).view (shown_free c.args.stanza.now c.args.id.now c.args.name.now c.in_ok-names.names c.in_ok-names.ensures.names (g.D.Disk.state c.args.d.now).view.now _ c.in-Free.is c.in_ok-look_for.ensures.shows) c.put_new.ensures.left.0 c.put_new.ensures.left.1 c.put_new.ensures.left.2
 
 pub returns-in-Free-clause-only : goal.returns-in-Free-clause-only
 returns-in-Free-clause-only g c =
-    put_only c.args.stanza.now c.args.id.now c.args.name.now c.in_ok-names.names c.in_ok-names.ensures.names c.put_new.ensures.only.0 (g.D.Disk.state c.args.d.now).view _ _ c.look_for.ensures.time c.look_for.ensures.now c.put_new.ensures.only.1
+    put_only c.args.stanza.now c.args.id.now c.args.name.now c.in_ok-names.names c.in_ok-names.ensures.names c.put_new.ensures.only.0 (g.D.Disk.state c.args.d.now).view _ _ c.look_for.ensures.looks.time c.look_for.ensures.looks.now c.put_new.ensures.only.1
 
 pub returns-in-Free-clause-done : goal.returns-in-Free-clause-done
 returns-in-Free-clause-done g c =
-    free_done c.args.stanza.now c.args.id.now c.args.name.now c.args.system (g.P.Pieces.bytes c.args.pieces.now c.args.holder.now) c.args.front.bytes.now c.args.front.length c.requires.told c.requires.within c.in_ok-names.names c.in_ok-names.ensures.names c.file_names.ensures.place (g.D.Disk.state c.args.d.now).view (g.D.Disk.state c.look_for.new.d).view c.look_for.ensures.time c.look_for.ensures.now (g.D.Disk.state c.put_new.new.d).view (shown_free c.args.stanza.now c.args.id.now c.args.name.now c.in_ok-names.names c.in_ok-names.ensures.names (g.D.Disk.state c.args.d.now).view.now _ c.in-Free.is c.in_ok-look_for.ensures.shows) c.in_ok-put_new-in-Free.ensures.left.0 c.in_ok-put_new-in-Free.ensures.left.1 c.in_ok-put_new-in-Free.ensures.left.2 c.in_ok-put_new-in-Free.ensures.left.3
+    free_done c.args.stanza.now c.args.id.now c.args.name.now c.args.system (g.P.Pieces.bytes c.args.pieces.now c.args.holder.now) c.args.front.bytes.now c.args.front.length c.requires.told c.requires.within c.in_ok-names.names c.in_ok-names.ensures.names c.file_names.ensures.place (g.D.Disk.state c.args.d.now).view (g.D.Disk.state c.look_for.new.d).view c.look_for.ensures.looks.time c.look_for.ensures.looks.now (g.D.Disk.state c.put_new.new.d).view (shown_free c.args.stanza.now c.args.id.now c.args.name.now c.in_ok-names.names c.in_ok-names.ensures.names (g.D.Disk.state c.args.d.now).view.now _ c.in-Free.is c.in_ok-look_for.ensures.shows) c.in_ok-put_new-in-Free.ensures.left.0 c.in_ok-put_new-in-Free.ensures.left.1 c.in_ok-put_new-in-Free.ensures.left.2 c.in_ok-put_new-in-Free.ensures.left.3
 
 pub returns-in-Free-clause-stored : goal.returns-in-Free-clause-stored
 returns-in-Free-clause-stored g c =
-    free_stored c.args.stanza.now c.args.id.now c.args.name.now c.args.system (g.P.Pieces.bytes c.args.pieces.now c.args.holder.now) c.args.front.bytes.now c.args.front.length c.requires.told c.requires.within c.in_ok-names.names c.in_ok-names.ensures.names c.file_names.ensures.place (g.D.Disk.state c.args.d.now).view (g.D.Disk.state c.look_for.new.d).view c.look_for.ensures.time c.look_for.ensures.now (g.D.Disk.state c.put_new.new.d).view (shown_free c.args.stanza.now c.args.id.now c.args.name.now c.in_ok-names.names c.in_ok-names.ensures.names (g.D.Disk.state c.args.d.now).view.now _ c.in-Free.is c.in_ok-look_for.ensures.shows) c.in_ok-put_new-in-Free.ensures.left.0 c.in_ok-put_new-in-Free.ensures.left.1 c.in_ok-put_new-in-Free.ensures.left.2 c.in_ok-put_new-in-Free.ensures.left.3
+    free_stored c.args.stanza.now c.args.id.now c.args.name.now c.args.system (g.P.Pieces.bytes c.args.pieces.now c.args.holder.now) c.args.front.bytes.now c.args.front.length c.requires.told c.requires.within c.in_ok-names.names c.in_ok-names.ensures.names c.file_names.ensures.place (g.D.Disk.state c.args.d.now).view (g.D.Disk.state c.look_for.new.d).view c.look_for.ensures.looks.time c.look_for.ensures.looks.now (g.D.Disk.state c.put_new.new.d).view (shown_free c.args.stanza.now c.args.id.now c.args.name.now c.in_ok-names.names c.in_ok-names.ensures.names (g.D.Disk.state c.args.d.now).view.now _ c.in-Free.is c.in_ok-look_for.ensures.shows) c.in_ok-put_new-in-Free.ensures.left.0 c.in_ok-put_new-in-Free.ensures.left.1 c.in_ok-put_new-in-Free.ensures.left.2 c.in_ok-put_new-in-Free.ensures.left.3
 
 pub returns-in-Free-clause-answered : goal.returns-in-Free-clause-answered
 returns-in-Free-clause-answered g c =
@@ -201,7 +201,7 @@ returns-in-Free-clause-answered g c =
       bytes = w.0;
       read = w.1;
       of_system = c.in_ok-check_bytes.ensures.right w.0 w.1.begins;
-      new = λ _. (free, free_written c.args.stanza.now c.args.id.now c.args.name.now c.args.system (g.P.Pieces.bytes c.args.pieces.now c.args.holder.now) c.args.front.bytes.now c.args.front.length c.requires.told c.requires.within c.in_ok-names.names c.in_ok-names.ensures.names c.file_names.ensures.place (g.D.Disk.state c.args.d.now).view (g.D.Disk.state c.look_for.new.d).view c.look_for.ensures.time c.look_for.ensures.now (g.D.Disk.state c.put_new.new.d).view free w.0 w.1 w.2 w.3);
+      new = λ _. (free, free_written c.args.stanza.now c.args.id.now c.args.name.now c.args.system (g.P.Pieces.bytes c.args.pieces.now c.args.holder.now) c.args.front.bytes.now c.args.front.length c.requires.told c.requires.within c.in_ok-names.names c.in_ok-names.ensures.names c.file_names.ensures.place (g.D.Disk.state c.args.d.now).view (g.D.Disk.state c.look_for.new.d).view c.look_for.ensures.looks.time c.look_for.ensures.looks.now (g.D.Disk.state c.put_new.new.d).view free w.0 w.1 w.2 w.3);
       same = λ e. cc e;
     }
 
@@ -211,7 +211,7 @@ returns-in_err-put_new-in-Free-clause-refused g c =
 
 pub returns-in_err-put_new-in-Free-clause-cause : goal.returns-in_err-put_new-in-Free-clause-cause
 returns-in_err-put_new-in-Free-clause-cause g c =
-    err_by (PushFromCause c.args.stanza.now c.args.id.now c.args.name.now c.args.system (g.P.Pieces.bytes c.args.pieces.now c.args.holder.now) c.args.front.bytes.now c.args.front.length (g.D.Disk.state c.args.d.now).view.now (Rises (g.D.Disk.state c.args.d.now).faults (g.D.Disk.state c.put_new.new.d).faults) (Rises (g.P.Pieces.faults c.args.holder.now) (g.P.Pieces.faults c.put_new.new.holder))) c.from_residual-in_err-put_new-in-Free.result c.in_err-put_new-in-Free.field-0.0 c.from_residual-in_err-put_new-in-Free.ensures.1 (stop_refused c.args.stanza.now c.args.id.now c.args.name.now c.args.system (g.P.Pieces.bytes c.args.pieces.now c.args.holder.now) c.args.front.bytes.now c.args.front.length c.requires.told c.requires.within (g.D.Disk.state c.args.d.now).view.now (Rises (g.D.Disk.state c.args.d.now).faults (g.D.Disk.state c.put_new.new.d).faults) (Rises (g.P.Pieces.faults c.args.holder.now) (g.P.Pieces.faults c.put_new.new.holder)) c.in_ok-check_bytes.ensures.right c.in_err-put_new-in-Free.field-0.0 (stop_risen (g.D.Disk.state c.args.d.now).faults (g.D.Disk.state c.look_for.new.d).faults (g.D.Disk.state c.put_new.new.d).faults c.look_for.ensures.later (Rises (g.P.Pieces.faults c.args.holder.now) (g.P.Pieces.faults c.put_new.new.holder)) c.in_err-put_new-in-Free.field-0.0 c.in_err-put_new-in-Free.ensures.cause))
+    err_by (PushFromCause c.args.stanza.now c.args.id.now c.args.name.now c.args.system (g.P.Pieces.bytes c.args.pieces.now c.args.holder.now) c.args.front.bytes.now c.args.front.length (g.D.Disk.state c.args.d.now).view.now (Rises (g.D.Disk.state c.args.d.now).faults (g.D.Disk.state c.put_new.new.d).faults) (Rises (g.P.Pieces.faults c.args.holder.now) (g.P.Pieces.faults c.put_new.new.holder))) c.from_residual-in_err-put_new-in-Free.result c.in_err-put_new-in-Free.field-0.0 c.from_residual-in_err-put_new-in-Free.ensures.1 (stop_refused c.args.stanza.now c.args.id.now c.args.name.now c.args.system (g.P.Pieces.bytes c.args.pieces.now c.args.holder.now) c.args.front.bytes.now c.args.front.length c.requires.told c.requires.within (g.D.Disk.state c.args.d.now).view.now (Rises (g.D.Disk.state c.args.d.now).faults (g.D.Disk.state c.put_new.new.d).faults) (Rises (g.P.Pieces.faults c.args.holder.now) (g.P.Pieces.faults c.put_new.new.holder)) c.in_ok-check_bytes.ensures.right c.in_err-put_new-in-Free.field-0.0 (stop_risen (g.D.Disk.state c.args.d.now).faults (g.D.Disk.state c.look_for.new.d).faults (g.D.Disk.state c.put_new.new.d).faults c.look_for.ensures.looks.later (Rises (g.P.Pieces.faults c.args.holder.now) (g.P.Pieces.faults c.put_new.new.holder)) c.in_err-put_new-in-Free.field-0.0 c.in_err-put_new-in-Free.ensures.cause))
 
 pub put_new-requires-clause-folder : goal.put_new-requires-clause-folder
 put_new-requires-clause-folder g c =
@@ -227,11 +227,11 @@ put_new-requires-clause-lasting g c =
 
 pub returns-then-eq-clause-done : goal.returns-then-eq-clause-done
 returns-then-eq-clause-done g c =
-    same_done c.args.stanza.now c.args.id.now c.args.name.now c.args.system (g.P.Pieces.bytes c.args.pieces.now c.args.holder.now) c.args.front.bytes.now c.args.front.length c.requires.told c.requires.within c.in_ok-names.names c.in_ok-names.ensures.names c.file_names.ensures.place (g.D.Disk.state c.args.d.now).view (g.D.Disk.state c.look_for.new.d).view c.look_for.ensures.time c.look_for.ensures.now (shown_one c.args.stanza.now c.args.id.now c.args.name.now c.in_ok-names.names c.in_ok-names.ensures.names (g.D.Disk.state c.args.d.now).view.now _ _ c.in-One.is c.in_ok-look_for.ensures.shows)
+    same_done c.args.stanza.now c.args.id.now c.args.name.now c.args.system (g.P.Pieces.bytes c.args.pieces.now c.args.holder.now) c.args.front.bytes.now c.args.front.length c.requires.told c.requires.within c.in_ok-names.names c.in_ok-names.ensures.names c.file_names.ensures.place (g.D.Disk.state c.args.d.now).view (g.D.Disk.state c.look_for.new.d).view c.look_for.ensures.looks.time c.look_for.ensures.looks.now (shown_one c.args.stanza.now c.args.id.now c.args.name.now c.in_ok-names.names c.in_ok-names.ensures.names (g.D.Disk.state c.args.d.now).view.now _ _ c.in-One.is c.in_ok-look_for.ensures.shows)
 
 pub returns-then-eq-clause-stored : goal.returns-then-eq-clause-stored
 returns-then-eq-clause-stored g c =
-    same_stored c.args.stanza.now c.args.id.now c.args.name.now c.args.system (g.P.Pieces.bytes c.args.pieces.now c.args.holder.now) c.args.front.bytes.now c.args.front.length c.requires.told c.requires.within c.in_ok-names.names c.in_ok-names.ensures.names c.file_names.ensures.place (g.D.Disk.state c.args.d.now).view (g.D.Disk.state c.look_for.new.d).view c.look_for.ensures.time c.look_for.ensures.now (shown_one c.args.stanza.now c.args.id.now c.args.name.now c.in_ok-names.names c.in_ok-names.ensures.names (g.D.Disk.state c.args.d.now).view.now _ _ c.in-One.is c.in_ok-look_for.ensures.shows)
+    same_stored c.args.stanza.now c.args.id.now c.args.name.now c.args.system (g.P.Pieces.bytes c.args.pieces.now c.args.holder.now) c.args.front.bytes.now c.args.front.length c.requires.told c.requires.within c.in_ok-names.names c.in_ok-names.ensures.names c.file_names.ensures.place (g.D.Disk.state c.args.d.now).view (g.D.Disk.state c.look_for.new.d).view c.look_for.ensures.looks.time c.look_for.ensures.looks.now (shown_one c.args.stanza.now c.args.id.now c.args.name.now c.in_ok-names.names c.in_ok-names.ensures.names (g.D.Disk.state c.args.d.now).view.now _ _ c.in-One.is c.in_ok-look_for.ensures.shows)
 
 pub returns-then-eq-clause-answered : goal.returns-then-eq-clause-answered
 returns-then-eq-clause-answered g c =
@@ -243,7 +243,7 @@ returns-then-eq-clause-answered g c =
       read = w.1;
       of_system = c.in_ok-check_bytes.ensures.right w.0 w.1.begins;
       new = λ e. cc e;
-      same = λ _. (subst (λ (t : Text). IfSome (g.D.Disk.state c.args.d.now).view.now (λ f. StoresOnly c.args.stanza.now c.args.id.now c.args.name.now f t)) sum only, c.look_for.ensures.now);
+      same = λ _. (subst (λ (t : Text). IfSome (g.D.Disk.state c.args.d.now).view.now (λ f. StoresOnly c.args.stanza.now c.args.id.now c.args.name.now f t)) sum only, c.look_for.ensures.looks.now);
     }
 
 pub returns-in-One-clause-cause : goal.returns-in-One-clause-cause

@@ -15,51 +15,51 @@ use Rattle.pgb_stanza.proofs.SameStanza.{some_of, same_part, same_done, same_mov
 use Rattle.pgb_stanza.proofs.creating.create.Goals as goal
 
 pub returns-in_err-look-clause-moves : goal.returns-in_err-look-clause-moves
-returns-in_err-look-clause-moves g c = λ r steady some. rests_moves c.args.stanza.now r ((λ (r : Repository) (f : Content). Stands c.args.stanza.now f r ⊎ Stands c.args.stanza.now f (step r (Create (first_cluster c.args.control.now)))) r) _ _ c.look.ensures.time c.look.ensures.now steady some (λ f h. inl h)
+returns-in_err-look-clause-moves g c = λ r steady some. rests_moves c.args.stanza.now r ((λ (r : Repository) (f : Content). Stands c.args.stanza.now f r ⊎ Stands c.args.stanza.now f (step r (Create (first_cluster c.args.control.now)))) r) _ _ c.look.ensures.looks.time c.look.ensures.looks.now steady some (λ f h. inl h)
 
 pub returns-in_err-make_stanza-in-None-clause-moves : goal.returns-in_err-make_stanza-in-None-clause-moves
-returns-in_err-make_stanza-in-None-clause-moves g c = moves_lift c.args.stanza.now _ _ _ c.look.ensures.time c.look.ensures.now (λ (r : Repository) (f : Content). Stands c.args.stanza.now f r ⊎ Stands c.args.stanza.now f (step r (Create (first_cluster c.args.control.now)))) (λ r f h. inl h) c.make_stanza.ensures.moves
+returns-in_err-make_stanza-in-None-clause-moves g c = moves_lift c.args.stanza.now _ _ _ c.look.ensures.looks.time c.look.ensures.looks.now (λ (r : Repository) (f : Content). Stands c.args.stanza.now f r ⊎ Stands c.args.stanza.now f (step r (Create (first_cluster c.args.control.now)))) (λ r f h. inl h) c.make_stanza.ensures.moves
 
 pub returns-in_ok-make_stanza-in-None-clause-moves : goal.returns-in_ok-make_stanza-in-None-clause-moves
-returns-in_ok-make_stanza-in-None-clause-moves g c = moves_lift c.args.stanza.now _ _ _ c.look.ensures.time c.look.ensures.now (λ (r : Repository) (f : Content). Stands c.args.stanza.now f r ⊎ Stands c.args.stanza.now f (step r (Create (first_cluster c.args.control.now)))) (λ r f h. inl h) c.make_stanza.ensures.moves
+returns-in_ok-make_stanza-in-None-clause-moves g c = moves_lift c.args.stanza.now _ _ _ c.look.ensures.looks.time c.look.ensures.looks.now (λ (r : Repository) (f : Content). Stands c.args.stanza.now f r ⊎ Stands c.args.stanza.now f (step r (Create (first_cluster c.args.control.now)))) (λ r f h. inl h) c.make_stanza.ensures.moves
 
 pub returns-in_ok-make_stanza-in-None-clause-made : goal.returns-in_ok-make_stanza-in-None-clause-made
-returns-in_ok-make_stanza-in-None-clause-made g c = steady_lifts c.args.stanza.now _ _ _ c.look.ensures.time c.look.ensures.now (λ r. step r (Create (first_cluster c.args.control.now))) c.in_ok-make_stanza-in-None.ensures.made
+returns-in_ok-make_stanza-in-None-clause-made g c = steady_lifts c.args.stanza.now _ _ _ c.look.ensures.looks.time c.look.ensures.looks.now (λ r. step r (Create (first_cluster c.args.control.now))) c.in_ok-make_stanza-in-None.ensures.made
 
 pub returns-in_err-keep_stanza-in-Some-clause-part : goal.returns-in_err-keep_stanza-in-Some-clause-part
 returns-in_err-keep_stanza-in-Some-clause-part g c =
     let k = some_of (λ (k : Kept). IfSome (g.D.Disk.state c.args.d.now).view.now (λ (f : Content). KeepsStanza c.args.stanza.now c.args.control.now f (archive_info_of k.archive) (backup_info_of k.backup))) _ c.in-Some.kept c.in-Some.is c.in_ok-look.ensures.kept in
-    same_part c.args.stanza.now c.args.control.now (archive_info_of c.in-Some.kept.archive) (backup_info_of c.in-Some.kept.backup) (g.D.Disk.state c.args.d.now).view (g.D.Disk.state c.look.new.d).view (g.D.Disk.state c.keep_stanza.new.d).view c.look.ensures.time c.look.ensures.now k (first_cluster c.args.control.now) c.keep_stanza.ensures.now_part
+    same_part c.args.stanza.now c.args.control.now (archive_info_of c.in-Some.kept.archive) (backup_info_of c.in-Some.kept.backup) (g.D.Disk.state c.args.d.now).view (g.D.Disk.state c.look.new.d).view (g.D.Disk.state c.keep_stanza.new.d).view c.look.ensures.looks.time c.look.ensures.looks.now k (first_cluster c.args.control.now) c.keep_stanza.ensures.now_part
 
 pub returns-in_err-keep_stanza-in-Some-clause-moves : goal.returns-in_err-keep_stanza-in-Some-clause-moves
 returns-in_err-keep_stanza-in-Some-clause-moves g c =
     let k = some_of (λ (k : Kept). IfSome (g.D.Disk.state c.args.d.now).view.now (λ (f : Content). KeepsStanza c.args.stanza.now c.args.control.now f (archive_info_of k.archive) (backup_info_of k.backup))) _ c.in-Some.kept c.in-Some.is c.in_ok-look.ensures.kept in
-    same_moves c.args.stanza.now c.args.control.now (archive_info_of c.in-Some.kept.archive) (backup_info_of c.in-Some.kept.backup) (g.D.Disk.state c.args.d.now).view (g.D.Disk.state c.look.new.d).view (g.D.Disk.state c.keep_stanza.new.d).view c.look.ensures.time c.look.ensures.now k (first_cluster c.args.control.now) c.keep_stanza.ensures.crash
+    same_moves c.args.stanza.now c.args.control.now (archive_info_of c.in-Some.kept.archive) (backup_info_of c.in-Some.kept.backup) (g.D.Disk.state c.args.d.now).view (g.D.Disk.state c.look.new.d).view (g.D.Disk.state c.keep_stanza.new.d).view c.look.ensures.looks.time c.look.ensures.looks.now k (first_cluster c.args.control.now) c.keep_stanza.ensures.crash
 
 pub returns-in_ok-keep_stanza-in-Some-clause-part : goal.returns-in_ok-keep_stanza-in-Some-clause-part
 returns-in_ok-keep_stanza-in-Some-clause-part g c =
     let k = some_of (λ (k : Kept). IfSome (g.D.Disk.state c.args.d.now).view.now (λ (f : Content). KeepsStanza c.args.stanza.now c.args.control.now f (archive_info_of k.archive) (backup_info_of k.backup))) _ c.in-Some.kept c.in-Some.is c.in_ok-look.ensures.kept in
-    same_part c.args.stanza.now c.args.control.now (archive_info_of c.in-Some.kept.archive) (backup_info_of c.in-Some.kept.backup) (g.D.Disk.state c.args.d.now).view (g.D.Disk.state c.look.new.d).view (g.D.Disk.state c.keep_stanza.new.d).view c.look.ensures.time c.look.ensures.now k (first_cluster c.args.control.now) c.keep_stanza.ensures.now_part
+    same_part c.args.stanza.now c.args.control.now (archive_info_of c.in-Some.kept.archive) (backup_info_of c.in-Some.kept.backup) (g.D.Disk.state c.args.d.now).view (g.D.Disk.state c.look.new.d).view (g.D.Disk.state c.keep_stanza.new.d).view c.look.ensures.looks.time c.look.ensures.looks.now k (first_cluster c.args.control.now) c.keep_stanza.ensures.now_part
 
 pub returns-in_ok-keep_stanza-in-Some-clause-done : goal.returns-in_ok-keep_stanza-in-Some-clause-done
 returns-in_ok-keep_stanza-in-Some-clause-done g c =
     let k = some_of (λ (k : Kept). IfSome (g.D.Disk.state c.args.d.now).view.now (λ (f : Content). KeepsStanza c.args.stanza.now c.args.control.now f (archive_info_of k.archive) (backup_info_of k.backup))) _ c.in-Some.kept c.in-Some.is c.in_ok-look.ensures.kept in
-    same_done c.args.stanza.now c.args.control.now (archive_info_of c.in-Some.kept.archive) (backup_info_of c.in-Some.kept.backup) (g.D.Disk.state c.args.d.now).view (g.D.Disk.state c.look.new.d).view (g.D.Disk.state c.keep_stanza.new.d).view c.look.ensures.time c.look.ensures.now k (first_cluster c.args.control.now) c.keep_stanza.ensures.now_part
+    same_done c.args.stanza.now c.args.control.now (archive_info_of c.in-Some.kept.archive) (backup_info_of c.in-Some.kept.backup) (g.D.Disk.state c.args.d.now).view (g.D.Disk.state c.look.new.d).view (g.D.Disk.state c.keep_stanza.new.d).view c.look.ensures.looks.time c.look.ensures.looks.now k (first_cluster c.args.control.now) c.keep_stanza.ensures.now_part
 
 pub returns-in_ok-keep_stanza-in-Some-clause-moves : goal.returns-in_ok-keep_stanza-in-Some-clause-moves
 returns-in_ok-keep_stanza-in-Some-clause-moves g c =
     let k = some_of (λ (k : Kept). IfSome (g.D.Disk.state c.args.d.now).view.now (λ (f : Content). KeepsStanza c.args.stanza.now c.args.control.now f (archive_info_of k.archive) (backup_info_of k.backup))) _ c.in-Some.kept c.in-Some.is c.in_ok-look.ensures.kept in
-    same_moves c.args.stanza.now c.args.control.now (archive_info_of c.in-Some.kept.archive) (backup_info_of c.in-Some.kept.backup) (g.D.Disk.state c.args.d.now).view (g.D.Disk.state c.look.new.d).view (g.D.Disk.state c.keep_stanza.new.d).view c.look.ensures.time c.look.ensures.now k (first_cluster c.args.control.now) c.keep_stanza.ensures.crash
+    same_moves c.args.stanza.now c.args.control.now (archive_info_of c.in-Some.kept.archive) (backup_info_of c.in-Some.kept.backup) (g.D.Disk.state c.args.d.now).view (g.D.Disk.state c.look.new.d).view (g.D.Disk.state c.keep_stanza.new.d).view c.look.ensures.looks.time c.look.ensures.looks.now k (first_cluster c.args.control.now) c.keep_stanza.ensures.crash
 
 pub returns-in_ok-keep_stanza-in-Some-clause-made : goal.returns-in_ok-keep_stanza-in-Some-clause-made
 returns-in_ok-keep_stanza-in-Some-clause-made g c =
     let k = some_of (λ (k : Kept). IfSome (g.D.Disk.state c.args.d.now).view.now (λ (f : Content). KeepsStanza c.args.stanza.now c.args.control.now f (archive_info_of k.archive) (backup_info_of k.backup))) _ c.in-Some.kept c.in-Some.is c.in_ok-look.ensures.kept in
-    same_steady c.args.stanza.now c.args.control.now (archive_info_of c.in-Some.kept.archive) (backup_info_of c.in-Some.kept.backup) (g.D.Disk.state c.args.d.now).view (g.D.Disk.state c.look.new.d).view (g.D.Disk.state c.keep_stanza.new.d).view c.look.ensures.time c.look.ensures.now k (first_cluster c.args.control.now) c.keep_stanza.ensures.crash
+    same_steady c.args.stanza.now c.args.control.now (archive_info_of c.in-Some.kept.archive) (backup_info_of c.in-Some.kept.backup) (g.D.Disk.state c.args.d.now).view (g.D.Disk.state c.look.new.d).view (g.D.Disk.state c.keep_stanza.new.d).view c.look.ensures.looks.time c.look.ensures.looks.now k (first_cluster c.args.control.now) c.keep_stanza.ensures.crash
 
 pub returns-in_ok-keep_stanza-in-Some-clause-same : goal.returns-in_ok-keep_stanza-in-Some-clause-same
 returns-in_ok-keep_stanza-in-Some-clause-same g c =
     let k = some_of (λ (k : Kept). IfSome (g.D.Disk.state c.args.d.now).view.now (λ (f : Content). KeepsStanza c.args.stanza.now c.args.control.now f (archive_info_of k.archive) (backup_info_of k.backup))) _ c.in-Some.kept c.in-Some.is c.in_ok-look.ensures.kept in
-    same_of c.args.stanza.now c.args.control.now (archive_info_of c.in-Some.kept.archive) (backup_info_of c.in-Some.kept.backup) (g.D.Disk.state c.args.d.now).view (g.D.Disk.state c.look.new.d).view (g.D.Disk.state c.keep_stanza.new.d).view c.look.ensures.time c.look.ensures.now k
+    same_of c.args.stanza.now c.args.control.now (archive_info_of c.in-Some.kept.archive) (backup_info_of c.in-Some.kept.backup) (g.D.Disk.state c.args.d.now).view (g.D.Disk.state c.look.new.d).view (g.D.Disk.state c.keep_stanza.new.d).view c.look.ensures.looks.time c.look.ensures.looks.now k
 
 pub returns-in_ok-keep_stanza-in-Some-clause-agrees : goal.returns-in_ok-keep_stanza-in-Some-clause-agrees
-returns-in_ok-keep_stanza-in-Some-clause-agrees g c = λ some. agreed c.args.stanza.now (archive_text (archive_info_of c.in-Some.kept.archive)) (backup_text (backup_info_of c.in-Some.kept.backup)) _ (c.in_ok-keep_stanza-in-Some.ensures.mended (subst (λ (o : Option Content). IsSome o) (sym c.look.ensures.now) some))
+returns-in_ok-keep_stanza-in-Some-clause-agrees g c = λ some. agreed c.args.stanza.now (archive_text (archive_info_of c.in-Some.kept.archive)) (backup_text (backup_info_of c.in-Some.kept.backup)) _ (c.in_ok-keep_stanza-in-Some.ensures.mended (subst (λ (o : Option Content). IsSome o) (sym c.look.ensures.looks.now) some))
