@@ -1,6 +1,7 @@
 // A disk in memory, with the record of what was done to it.
 ghost use Rattle.std.specs.Prelude.{◌↔◌, true, false, ℕ, List, Option, Contains, ◌≡◌, ◌≤◌, ◌||◌, [], map, not, IsSomeAnd, length, string_bytes, is_some, option_map, IfOk, IfSome, OnOk, OnErr, IsErrOf};
 ghost use Rattle.pgb_outside.specs.Cause.{HasCause};
+ghost use Rattle.pgb_outside.specs.States.{Opens};
 ghost use Rattle.pgb_outside.specs.Content.{IsListing, AreFolders, Reads};
 ghost use Rattle.pgb_outside.specs.declared.stop.Stop.TheVariants.{Failed, NoMemory};
 ghost use Rattle.pgb_outside.specs.Moments.{IsImage};
@@ -23,7 +24,8 @@ pub struct MemDisk {
     alloc: Global,
     held: Held,
     failing: Failing,
-    place: String,
+    // the last one first
+    opened: Vec<String>,
 }
 
 impl MemDisk {
@@ -34,35 +36,35 @@ impl MemDisk {
         names: Vec<(String, Vec<u8>)>,
         fail: Vec<u64>,
     ) -> Result<Self, AllocError>
-        ensures view { IfOk result (λ d. StartsWith (given_at names.items) (⟦<MemDisk as Disk>⟧.view d)) }
+        ensures view { IfOk result (λ d. StartsWith (given_at names.items) (⟦<MemDisk as Disk>⟧.state d).view) }
         ensures counts { IfOk result (λ d. d.failing ≡ record { fail = fail; calls = 0; faults = 0; misuses = 0 }) }
-        ensures place { IfOk result (λ d. ⟦<MemDisk as Disk>⟧.place d ≡ []) }
+        ensures opened { IfOk result (λ d. (⟦<MemDisk as Disk>⟧.state d).opened ≡ []) }
     {
         Ok(MemDisk {
             alloc,
             held: Held::new(alloc, names)?,
             failing: Failing::new(fail),
-            place: String::new(alloc),
+            opened: Vec::new(alloc),
         })
     }
 
     /// The bytes that a name holds, where it is there.
     pub fn bytes(&self, name: &str) -> Option<&[u8]>
-        ensures { IsSomeAnd (⟦<MemDisk as Disk>⟧.view self.now).now (λ f. option_map (λ b. b.now) result ≡ f name.now) }
+        ensures { IsSomeAnd (⟦<MemDisk as Disk>⟧.state self.now).view.now (λ f. option_map (λ b. b.now) result ≡ f name.now) }
     {
         self.held.bytes(name)
     }
 
     /// The moment, which is the number of its changes so far.
     pub fn moment(&self) -> u64
-        ensures { result ≡ (⟦<MemDisk as Disk>⟧.view self.now).moment }
+        ensures { result ≡ (⟦<MemDisk as Disk>⟧.state self.now).view.moment }
     {
         self.held.moment()
     }
 
     /// The names at which a stop at that moment may leave any bytes.
     pub fn loose(&self, alloc: Global, moment: u64) -> Result<Vec<String>, AllocError>
-        ensures { IfOk result (λ names. (n : List ℕ) → Contains (map string_bytes names.items) n ↔ ((⟦<MemDisk as Disk>⟧.view self.now).loose moment n ≡ true)) }
+        ensures { IfOk result (λ names. (n : List ℕ) → Contains (map string_bytes names.items) n ↔ ((⟦<MemDisk as Disk>⟧.state self.now).view.loose moment n ≡ true)) }
     {
         let traces = self.held.traces(alloc, moment)?;
         loose_in(alloc, &traces)
@@ -76,7 +78,7 @@ impl MemDisk {
         name: &str,
     ) -> Result<Vec<Option<Vec<u8>>>, AllocError>
         ensures values { IfOk result (λ values. map value_of values.items ≡ (states_then self.now.held moment name.now).kept) }
-        ensures kept { IfOk result (λ values. (v : Option (List ℕ)) → Among v (map value_of values.items) ↔ (⟦<MemDisk as Disk>⟧.view self.now).kept moment name.now v) }
+        ensures kept { IfOk result (λ values. (v : Option (List ℕ)) → Among v (map value_of values.items) ↔ (⟦<MemDisk as Disk>⟧.state self.now).view.kept moment name.now v) }
     {
         let traces = self.held.traces(alloc, moment)?;
         kept_in(alloc, &traces, name)
@@ -91,7 +93,7 @@ impl MemDisk {
         choice: &[(String, u32)],
         loose: &[(String, Vec<u8>)],
     ) -> Result<Vec<(String, Vec<u8>)>, ImageFault>
-        ensures image { IfOk result (λ names. IsImage (⟦<MemDisk as Disk>⟧.view self.now) moment (given_at names.items)) }
+        ensures image { IfOk result (λ names. IsImage (⟦<MemDisk as Disk>⟧.state self.now).view moment (given_at names.items)) }
         ensures content { IfOk result (λ names. given_at names.items ≡ image_of (states_then self.now.held moment) choice.now loose.now) }
         ensures loose { OnOk result (are_loose (states_then self.now.held moment) loose.now ≡ true) }
         ensures kept { OnOk result (are_kept (states_then self.now.held moment) choice.now ≡ true) }
@@ -104,40 +106,33 @@ impl MemDisk {
 
     /// How often a call failed.
     pub fn faults(&self) -> u64
-        ensures { result ≡ ⟦<MemDisk as Disk>⟧.faults self.now }
+        ensures { result ≡ (⟦<MemDisk as Disk>⟧.state self.now).faults }
     {
         self.failing.faults()
     }
 
     /// How many calls were faulty: an append, a sync or a rename of an absent name.
     pub fn misuses(&self) -> u64
-        ensures { result ≡ ⟦<MemDisk as Disk>⟧.misuses self.now }
+        ensures { result ≡ (⟦<MemDisk as Disk>⟧.state self.now).misuses }
     {
         self.failing.misuses()
     }
 
-    /// The place that was opened last.
-    pub fn place(&self) -> &str
-        ensures { result.now ≡ ⟦<MemDisk as Disk>⟧.place self.now }
+    /// The places that were opened, the last one first.
+    pub fn opened(&self) -> &[String]
+        ensures { map string_bytes result.now ≡ (⟦<MemDisk as Disk>⟧.state self.now).opened }
     {
-        &self.place
+        &self.opened
     }
 }
 
 impl Disk for MemDisk {
-    ghost view = { λ d. view_of d.held };
-
-    ghost faults = { λ d. d.failing.faults };
-
-    ghost misuses = { λ d. d.failing.misuses };
-
-    ghost place = { λ d. string_bytes d.place };
+    ghost state = { λ d. record { view = view_of d.held; opened = map string_bytes d.opened.items; misuses = d.failing.misuses; faults = d.failing.faults } };
 
     ghost now_may_be_left = { λ d n v holds. may_be_left (first_state d.held.given.items) (fair_first d.held.given.items) d.held.changes.items n v holds };
 
     fn open(&mut self, path: &str) -> Result<(), Stop>
-        ensures ok { OnOk result (string_bytes self.new.place ≡ path.now) }
-        ensures err { OnErr result (string_bytes self.new.place ≡ string_bytes self.old.place) }
+        ensures opens { Opens result path.now (map string_bytes self.old.opened.items) (map string_bytes self.new.opened.items) }
         ensures same { IsAsBefore self.old.held self.new.held }
         ensures fails { FailsWhere (is_to_fail self.old.failing) result }
         ensures counts { self.new.failing ≡ counted self.old.failing }
@@ -146,7 +141,8 @@ impl Disk for MemDisk {
         if self.failing.fails() {
             return Err(Stop::Failed);
         }
-        self.place = String::from_str(self.alloc, path)?;
+        let place = String::from_str(self.alloc, path)?;
+        self.opened.insert(0, place)?;
         Ok(())
     }
 
@@ -155,7 +151,7 @@ impl Disk for MemDisk {
         ensures same { IsAsBefore self.old.held self.new.held }
         ensures fails { FailsWhere (is_to_fail self.old.failing) result }
         ensures counts { self.new.failing ≡ counted self.old.failing }
-        ensures place { string_bytes self.new.place ≡ string_bytes self.old.place }
+        ensures opened { self.new.opened.items ≡ self.old.opened.items }
         ensures cause { HasCause self.old.failing.faults self.new.failing.faults result }
     {
         if self.failing.fails() {
@@ -169,7 +165,7 @@ impl Disk for MemDisk {
         ensures same { IsAsBefore self.old.held self.new.held }
         ensures fails { FailsWhere (is_to_fail self.old.failing) result }
         ensures counts { self.new.failing ≡ counted self.old.failing }
-        ensures place { string_bytes self.new.place ≡ string_bytes self.old.place }
+        ensures opened { self.new.opened.items ≡ self.old.opened.items }
         ensures cause { HasCause self.old.failing.faults self.new.failing.faults result }
     {
         if self.failing.fails() {
@@ -184,7 +180,7 @@ impl Disk for MemDisk {
         ensures same { IsAsBefore self.old.held self.new.held }
         ensures fails { FailsWhere (is_to_fail self.old.failing) result }
         ensures counts { self.new.failing ≡ counted self.old.failing }
-        ensures place { string_bytes self.new.place ≡ string_bytes self.old.place }
+        ensures opened { self.new.opened.items ≡ self.old.opened.items }
         ensures cause { HasCause self.old.failing.faults self.new.failing.faults result }
     {
         if self.failing.fails() {
@@ -199,7 +195,7 @@ impl Disk for MemDisk {
         ensures memory { IsErrOf result NoMemory → IsAsBefore self.old.held self.new.held }
         ensures fails { FailsWhere (is_to_fail self.old.failing) result }
         ensures counts { self.new.failing ≡ counted self.old.failing }
-        ensures place { string_bytes self.new.place ≡ string_bytes self.old.place }
+        ensures opened { self.new.opened.items ≡ self.old.opened.items }
         ensures cause { HasCause self.old.failing.faults self.new.failing.faults result }
     {
         if self.failing.fails() {
@@ -216,7 +212,7 @@ impl Disk for MemDisk {
         ensures memory { IsErrOf result NoMemory → IsAsBefore self.old.held self.new.held }
         ensures fails { FailsWhere (is_to_fail self.old.failing || not (is_some ((state_of self.old.held).now name.now))) result }
         ensures counts { self.new.failing ≡ tried (is_some ((state_of self.old.held).now name.now)) self.old.failing }
-        ensures place { string_bytes self.new.place ≡ string_bytes self.old.place }
+        ensures opened { self.new.opened.items ≡ self.old.opened.items }
         ensures cause { HasCause self.old.failing.faults self.new.failing.faults result }
     {
         if self.failing.fails() {
@@ -236,7 +232,7 @@ impl Disk for MemDisk {
         ensures memory { IsErrOf result NoMemory → IsAsBefore self.old.held self.new.held }
         ensures fails { FailsWhere (is_to_fail self.old.failing || not (is_some ((state_of self.old.held).now name.now))) result }
         ensures counts { self.new.failing ≡ tried (is_some ((state_of self.old.held).now name.now)) self.old.failing }
-        ensures place { string_bytes self.new.place ≡ string_bytes self.old.place }
+        ensures opened { self.new.opened.items ≡ self.old.opened.items }
         ensures cause { HasCause self.old.failing.faults self.new.failing.faults result }
     {
         if self.failing.fails() {
@@ -255,7 +251,7 @@ impl Disk for MemDisk {
         ensures err { OnErr result (IsAsBefore self.old.held self.new.held) }
         ensures fails { FailsWhere (is_to_fail self.old.failing || not (is_some ((state_of self.old.held).now from.now))) result }
         ensures counts { self.new.failing ≡ tried (is_some ((state_of self.old.held).now from.now)) self.old.failing }
-        ensures place { string_bytes self.new.place ≡ string_bytes self.old.place }
+        ensures opened { self.new.opened.items ≡ self.old.opened.items }
         ensures cause { HasCause self.old.failing.faults self.new.failing.faults result }
     {
         if self.failing.fails() {
@@ -273,7 +269,7 @@ impl Disk for MemDisk {
         ensures err { OnErr result (IsAsBefore self.old.held self.new.held) }
         ensures fails { FailsWhere (is_to_fail self.old.failing) result }
         ensures counts { self.new.failing ≡ counted self.old.failing }
-        ensures place { string_bytes self.new.place ≡ string_bytes self.old.place }
+        ensures opened { self.new.opened.items ≡ self.old.opened.items }
         ensures cause { HasCause self.old.failing.faults self.new.failing.faults result }
     {
         if self.failing.fails() {
@@ -288,7 +284,7 @@ impl Disk for MemDisk {
         ensures err { OnErr result (IsAsBefore self.old.held self.new.held) }
         ensures fails { FailsWhere (is_to_fail self.old.failing) result }
         ensures counts { self.new.failing ≡ counted self.old.failing }
-        ensures place { string_bytes self.new.place ≡ string_bytes self.old.place }
+        ensures opened { self.new.opened.items ≡ self.old.opened.items }
         ensures cause { HasCause self.old.failing.faults self.new.failing.faults result }
     {
         if self.failing.fails() {

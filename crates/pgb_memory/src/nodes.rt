@@ -149,6 +149,21 @@ pub(crate) fn read_known(
     }
 }
 
+/// How many bytes a known file has.
+pub(crate) fn known_size(
+    alloc: Global,
+    nodes: &Nodes,
+    what: &Known,
+) -> Result<Option<u64>, AllocError>
+    ensures { IfOk result (λ n. n ≡ option_map length (file_bytes (nodes_at nodes.now (known_path what.now)))) }
+{
+    let path = path_of(alloc, what)?;
+    match nodes.get(&path) {
+        Some(MemNode::File { bytes, .. }) => Ok(Some(bytes.len() as u64)),
+        _ => Ok(None),
+    }
+}
+
 /// A map of these nodes, the last of each path counting.
 pub(crate) fn map_of(alloc: Global, given: Vec<(String, MemNode)>) -> Result<Nodes, AllocError>
     ensures { IfOk result (λ m. nodes_at m ≡ tree_at given.items) }

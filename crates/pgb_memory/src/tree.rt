@@ -1,6 +1,7 @@
 // A data folder in memory.
 ghost use Rattle.std.specs.Prelude.{◌≡◌, ◌≤◌, ◌||◌, ◌&&◌, [], map, not, is_none, if◌then◌else◌, IsSomeAnd, length, string_bytes, option_map, Some, None, IfOk, IfErr, IfSome, OnOk, OnErr};
 ghost use Rattle.pgb_outside.specs.Cause.{HasCause};
+ghost use Rattle.pgb_outside.specs.States.{Opens};
 ghost use Rattle.pgb_outside.specs.Content.{Reads};
 ghost use Rattle.pgb_outside.specs.Tree.{file, folder as folder_node, IsTreeListing, known_path, file_bytes, with_node, moved_node};
 ghost use Rattle.pgb_memory.specs.Nodes.{node_of, nodes_at, tree_at, is_file, is_folder, is_placed, takes_file, takes_folder, may_make, may_begin, may_move, holds_nothing, longer_node, Rooted};
@@ -9,7 +10,7 @@ ghost use Rattle.pgb_memory.specs.Counts.{is_to_fail, counted, tried, tried_on, 
 use crate::failing::Failing;
 use crate::nodes::{
     MemNode, empty_file, extend_file, first_lost, has_file, has_folder, has_its_folder, is_bare,
-    is_free, list_nodes, map_of, may_put_file, may_put_folder, move_file, put_node, read_known,
+    is_free, known_size, list_nodes, map_of, may_put_file, may_put_folder, move_file, put_node, read_known,
     take_node,
 };
 use pgb_outside::{Known, Seen, Stop, Tree};
@@ -40,7 +41,8 @@ pub struct MemTree {
     alloc: Global,
     nodes: BTreeMap<String, MemNode>,
     failing: Failing,
-    place: String,
+    // the last one first
+    opened: Vec<String>,
     ghost rooted: { Rooted (nodes_at nodes) },
 }
 
@@ -54,9 +56,9 @@ impl MemTree {
         nodes: Vec<(String, MemNode)>,
         fail: Vec<u64>,
     ) -> Result<Self, TreeFault>
-        ensures nodes { IfOk result (λ t. ⟦<MemTree as Tree>⟧.nodes t ≡ Some (tree_at nodes.items)) }
+        ensures nodes { IfOk result (λ t. (⟦<MemTree as Tree>⟧.state t).nodes ≡ Some (tree_at nodes.items)) }
         ensures counts { IfOk result (λ t. t.failing ≡ record { fail = fail; calls = 0; faults = 0; misuses = 0 }) }
-        ensures place { IfOk result (λ t. ⟦<MemTree as Tree>⟧.place t ≡ []) }
+        ensures opened { IfOk result (λ t. (⟦<MemTree as Tree>⟧.state t).opened ≡ []) }
         ensures lost { IfErr result (λ e. Names (tree_at nodes.items) e) }
         ensures rooted { OnOk result (Rooted (tree_at nodes.items)) }
     {
@@ -69,20 +71,20 @@ impl MemTree {
             alloc,
             nodes,
             failing: Failing::new(fail),
-            place: String::new(alloc),
+            opened: Vec::new(alloc),
         })
     }
 
     /// What stands at a path.
     pub fn node(&self, path: &str) -> Option<&MemNode>
-        ensures { IsSomeAnd (⟦<MemTree as Tree>⟧.nodes self.now) (λ f. option_map (λ n. node_of n.now) result ≡ f path.now) }
+        ensures { IsSomeAnd (⟦<MemTree as Tree>⟧.state self.now).nodes (λ f. option_map (λ n. node_of n.now) result ≡ f path.now) }
     {
         self.nodes.get(path)
     }
 
     /// How often a call failed.
     pub fn faults(&self) -> u64
-        ensures { result ≡ ⟦<MemTree as Tree>⟧.faults self.now }
+        ensures { result ≡ (⟦<MemTree as Tree>⟧.state self.now).faults }
     {
         self.failing.faults()
     }
@@ -90,31 +92,24 @@ impl MemTree {
     /// How many calls were faulty: an append or a rename of what is no file, a make, a begin or a rename to a path whose
     /// folder isn't there, a remove of a folder that isn't empty.
     pub fn misuses(&self) -> u64
-        ensures { result ≡ ⟦<MemTree as Tree>⟧.misuses self.now }
+        ensures { result ≡ (⟦<MemTree as Tree>⟧.state self.now).misuses }
     {
         self.failing.misuses()
     }
 
-    /// The place that was opened last.
-    pub fn place(&self) -> &str
-        ensures { result.now ≡ ⟦<MemTree as Tree>⟧.place self.now }
+    /// The places that were opened, the last one first.
+    pub fn opened(&self) -> &[String]
+        ensures { map string_bytes result.now ≡ (⟦<MemTree as Tree>⟧.state self.now).opened }
     {
-        &self.place
+        &self.opened
     }
 }
 
 impl Tree for MemTree {
-    ghost nodes = { λ t. Some (nodes_at t.nodes) };
-
-    ghost faults = { λ t. t.failing.faults };
-
-    ghost misuses = { λ t. t.failing.misuses };
-
-    ghost place = { λ t. string_bytes t.place };
+    ghost state = { λ t. record { nodes = Some (nodes_at t.nodes); opened = map string_bytes t.opened.items; misuses = t.failing.misuses; faults = t.failing.faults } };
 
     fn open(&mut self, path: &str) -> Result<(), Stop>
-        ensures ok { OnOk result (string_bytes self.new.place ≡ path.now) }
-        ensures err { OnErr result (string_bytes self.new.place ≡ string_bytes self.old.place) }
+        ensures opens { Opens result path.now (map string_bytes self.old.opened.items) (map string_bytes self.new.opened.items) }
         ensures same { nodes_at self.new.nodes ≡ nodes_at self.old.nodes }
         ensures fails { FailsWhere (is_to_fail self.old.failing) result }
         ensures counts { self.new.failing ≡ counted self.old.failing }
@@ -123,7 +118,8 @@ impl Tree for MemTree {
         if self.failing.fails() {
             return Err(Stop::Failed);
         }
-        self.place = String::from_str(self.alloc, path)?;
+        let place = String::from_str(self.alloc, path)?;
+        self.opened.insert(0, place)?;
         Ok(())
     }
 
@@ -132,7 +128,7 @@ impl Tree for MemTree {
         ensures same { nodes_at self.new.nodes ≡ nodes_at self.old.nodes }
         ensures fails { FailsWhere (is_to_fail self.old.failing) result }
         ensures counts { self.new.failing ≡ counted self.old.failing }
-        ensures place { string_bytes self.new.place ≡ string_bytes self.old.place }
+        ensures opened { self.new.opened.items ≡ self.old.opened.items }
         ensures cause { HasCause self.old.failing.faults self.new.failing.faults result }
     {
         if self.failing.fails() {
@@ -147,7 +143,7 @@ impl Tree for MemTree {
         ensures same { nodes_at self.new.nodes ≡ nodes_at self.old.nodes }
         ensures fails { FailsWhere (is_to_fail self.old.failing) result }
         ensures counts { self.new.failing ≡ counted self.old.failing }
-        ensures place { string_bytes self.new.place ≡ string_bytes self.old.place }
+        ensures opened { self.new.opened.items ≡ self.old.opened.items }
         ensures cause { HasCause self.old.failing.faults self.new.failing.faults result }
     {
         if self.failing.fails() {
@@ -156,12 +152,26 @@ impl Tree for MemTree {
         Ok(read_known(self.alloc, &self.nodes, what, at, buf)?)
     }
 
+    fn size(&mut self, what: &Known) -> Result<Option<u64>, Stop>
+        ensures size { IfOk result (λ n. n ≡ option_map length (file_bytes (nodes_at self.old.nodes (known_path what.now)))) }
+        ensures same { nodes_at self.new.nodes ≡ nodes_at self.old.nodes }
+        ensures fails { FailsWhere (is_to_fail self.old.failing) result }
+        ensures counts { self.new.failing ≡ counted self.old.failing }
+        ensures opened { self.new.opened.items ≡ self.old.opened.items }
+        ensures cause { HasCause self.old.failing.faults self.new.failing.faults result }
+    {
+        if self.failing.fails() {
+            return Err(Stop::Failed);
+        }
+        Ok(known_size(self.alloc, &self.nodes, what)?)
+    }
+
     fn make(&mut self, folder: &str) -> Result<(), Stop>
         ensures ok { OnOk result (nodes_at self.new.nodes ≡ with_node folder.now (Some folder_node) (nodes_at self.old.nodes)) }
         ensures err { OnErr result (nodes_at self.new.nodes ≡ nodes_at self.old.nodes) }
         ensures fails { FailsWhere (is_to_fail self.old.failing || not (may_make (nodes_at self.old.nodes) folder.now)) result }
         ensures counts { let t = nodes_at self.old.nodes in self.new.failing ≡ tried_on (is_placed t folder.now) (takes_folder (t folder.now)) self.old.failing }
-        ensures place { string_bytes self.new.place ≡ string_bytes self.old.place }
+        ensures opened { self.new.opened.items ≡ self.old.opened.items }
         ensures cause { HasCause self.old.failing.faults self.new.failing.faults result }
     {
         if self.failing.fails() {
@@ -183,7 +193,7 @@ impl Tree for MemTree {
         ensures err { OnErr result (nodes_at self.new.nodes ≡ nodes_at self.old.nodes) }
         ensures fails { FailsWhere (is_to_fail self.old.failing || not (may_begin (nodes_at self.old.nodes) path.now)) result }
         ensures counts { let t = nodes_at self.old.nodes in self.new.failing ≡ tried_on (is_placed t path.now) (takes_file (t path.now)) self.old.failing }
-        ensures place { string_bytes self.new.place ≡ string_bytes self.old.place }
+        ensures opened { self.new.opened.items ≡ self.old.opened.items }
         ensures cause { HasCause self.old.failing.faults self.new.failing.faults result }
     {
         if self.failing.fails() {
@@ -207,7 +217,7 @@ impl Tree for MemTree {
         ensures err { OnErr result (nodes_at self.new.nodes ≡ nodes_at self.old.nodes) }
         ensures fails { FailsWhere (is_to_fail self.old.failing || not (is_placed (nodes_at self.old.nodes) path.now)) result }
         ensures counts { self.new.failing ≡ tried (is_placed (nodes_at self.old.nodes) path.now) self.old.failing }
-        ensures place { string_bytes self.new.place ≡ string_bytes self.old.place }
+        ensures opened { self.new.opened.items ≡ self.old.opened.items }
         ensures cause { HasCause self.old.failing.faults self.new.failing.faults result }
     {
         if self.failing.fails() {
@@ -230,7 +240,7 @@ impl Tree for MemTree {
         ensures err { OnErr result (nodes_at self.new.nodes ≡ nodes_at self.old.nodes) }
         ensures fails { FailsWhere (is_to_fail self.old.failing || not (is_file (nodes_at self.old.nodes path.now))) result }
         ensures counts { self.new.failing ≡ tried (is_file (nodes_at self.old.nodes path.now)) self.old.failing }
-        ensures place { string_bytes self.new.place ≡ string_bytes self.old.place }
+        ensures opened { self.new.opened.items ≡ self.old.opened.items }
         ensures cause { HasCause self.old.failing.faults self.new.failing.faults result }
     {
         if self.failing.fails() {
@@ -248,7 +258,7 @@ impl Tree for MemTree {
         ensures err { OnErr result (nodes_at self.new.nodes ≡ nodes_at self.old.nodes) }
         ensures fails { FailsWhere (is_to_fail self.old.failing || not (may_move (nodes_at self.old.nodes) from.now to.now)) result }
         ensures counts { let t = nodes_at self.old.nodes in self.new.failing ≡ tried_on (is_file (t from.now) && is_placed t to.now) (not (is_folder (t to.now))) self.old.failing }
-        ensures place { string_bytes self.new.place ≡ string_bytes self.old.place }
+        ensures opened { self.new.opened.items ≡ self.old.opened.items }
         ensures cause { HasCause self.old.failing.faults self.new.failing.faults result }
     {
         if self.failing.fails() {
@@ -269,7 +279,7 @@ impl Tree for MemTree {
         ensures err { OnErr result (nodes_at self.new.nodes ≡ nodes_at self.old.nodes) }
         ensures fails { FailsWhere (is_to_fail self.old.failing || not (holds_nothing path.now self.old.nodes)) result }
         ensures counts { self.new.failing ≡ tried (holds_nothing path.now self.old.nodes) self.old.failing }
-        ensures place { string_bytes self.new.place ≡ string_bytes self.old.place }
+        ensures opened { self.new.opened.items ≡ self.old.opened.items }
         ensures cause { HasCause self.old.failing.faults self.new.failing.faults result }
     {
         if self.failing.fails() {

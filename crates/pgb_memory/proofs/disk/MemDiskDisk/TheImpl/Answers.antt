@@ -1,4 +1,4 @@
-use Rattle.std.proofs.Common.{rules, ◌≡◌, ◌⊎◌, None}
+use Rattle.std.proofs.Common.{rules, ◌≡◌, ◌⊎◌, None, ap, map, string_bytes}
 use Rattle.std.specs.Prelude.{IsTrue}
 use Rattle.pgb_outside.specs.Content.{Holds}
 use Rattle.pgb_outside.specs.Moments.{is_loose}
@@ -16,10 +16,13 @@ begin-tells c =
     let name = c.args.name.now in
     record {
       now = search rules;
-      time = loosening old new (λ _ _. ⊥) name (is_to_fail c.args.self.now.failing) (begun name) c.result (begun_goes old new name) c.ensures.ok c.ensures.failed c.ensures.memory;
-      proper = search rules;
-      place = c.ensures.place;
       cause = c.ensures.cause;
+      works = record {
+        time = loosening old new (λ _ _. ⊥) name (is_to_fail c.args.self.now.failing) (begun name) c.result (begun_goes old new name) c.ensures.ok c.ensures.failed c.ensures.memory;
+        opened = ap (map string_bytes) c.ensures.opened;
+        proper = search rules;
+        later = c.ensures.cause.later;
+      };
     }
 
 pub append-tells : goal.append-tells
@@ -33,7 +36,7 @@ append-tells c =
       time = loosening old new (λ _ _. ⊥) name (is_to_fail c.args.self.now.failing) (appended name bytes) c.result (appended_goes old new name bytes) c.ensures.ok c.ensures.failed c.ensures.memory;
       there = search rules;
       proper = search rules;
-      place = c.ensures.place;
+      opened = ap (map string_bytes) c.ensures.opened;
       cause = c.ensures.cause;
     }
 
@@ -48,7 +51,7 @@ sync-tells c =
       tight = on_ok_weaker c.result (synced_tight old new name) c.ensures.ok;
       there = search rules;
       proper = search rules;
-      place = c.ensures.place;
+      opened = ap (map string_bytes) c.ensures.opened;
       cause = c.ensures.cause;
     }
 
@@ -64,7 +67,7 @@ rename-tells c =
           (renamed_goes old new from to) c.ensures.ok c.ensures.err;
       there = search rules;
       proper = search rules;
-      place = c.ensures.place;
+      opened = ap (map string_bytes) c.ensures.opened;
       cause = c.ensures.cause;
     }
 
@@ -75,10 +78,13 @@ remove-tells c =
     let name = c.args.name.now in
     record {
       now = search rules;
-      time = changing old new (λ n v. (n ≡ name) × (v ≡ None)) (λ _. ⊥) (removed name) c.result (removed_goes old new name) c.ensures.ok c.ensures.err;
-      proper = search rules;
-      place = c.ensures.place;
       cause = c.ensures.cause;
+      works = record {
+        time = changing old new (λ n v. (n ≡ name) × (v ≡ None)) (λ _. ⊥) (removed name) c.result (removed_goes old new name) c.ensures.ok c.ensures.err;
+        opened = ap (map string_bytes) c.ensures.opened;
+        proper = search rules;
+        later = c.ensures.cause.later;
+      };
     }
 
 pub settle-tells : goal.settle-tells
@@ -87,10 +93,13 @@ settle-tells c =
     let new = c.new.self.now.held in
     let folder = c.args.folder.now in
     record {
-      now = search rules;
-      time = changing old new (λ _ _. ⊥) (λ _. ⊥) (settled folder) c.result (settled_goes old new folder) c.ensures.ok c.ensures.err;
       settled = on_ok_weaker c.result (settled_settles old new folder) c.ensures.ok;
-      proper = search rules;
-      place = c.ensures.place;
       cause = c.ensures.cause;
+      looks = record {
+        now = search rules;
+        time = changing old new (λ _ _. ⊥) (λ _. ⊥) (settled folder) c.result (settled_goes old new folder) c.ensures.ok c.ensures.err;
+        opened = ap (map string_bytes) c.ensures.opened;
+        proper = search rules;
+        later = c.ensures.cause.later;
+      };
     }

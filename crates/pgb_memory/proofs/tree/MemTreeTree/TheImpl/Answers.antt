@@ -1,4 +1,4 @@
-use Rattle.std.proofs.Common.{◌&&◌, not, rules}
+use Rattle.std.proofs.Common.{◌&&◌, not, rules, ap, map, string_bytes}
 use Rattle.std.proofs.lemmas.Result.{on_ok_weaker}
 use Rattle.pgb_memory.specs.Counts.{is_to_fail}
 use Rattle.pgb_memory.specs.Nodes.{nodes_at, is_file, is_folder, is_placed, takes_file, takes_folder, holds_nothing}
@@ -14,7 +14,7 @@ make-tells c =
     record {
       nodes = search rules;
       proper = λ placed. tried_on_proper (is_placed f path) (takes_folder (f path)) c.args.self.now.failing c.new.self.now.failing c.ensures.counts (placed_from f path placed);
-      place = c.ensures.place;
+      opened = ap (map string_bytes) c.ensures.opened;
       cause = c.ensures.cause;
     }
 
@@ -25,7 +25,7 @@ begin-tells c =
     record {
       nodes = begun_file c.result path f (nodes_at c.new.self.now.nodes) c.ensures.ok c.ensures.err;
       proper = λ placed. tried_on_proper (is_placed f path) (takes_file (f path)) c.args.self.now.failing c.new.self.now.failing c.ensures.counts (placed_from f path placed);
-      place = c.ensures.place;
+      opened = ap (map string_bytes) c.ensures.opened;
       cause = c.ensures.cause;
     }
 
@@ -36,7 +36,7 @@ begin_new-tells c =
     record {
       nodes = begun_new c.result path f (nodes_at c.new.self.now.nodes) c.ensures.told c.ensures.ok c.ensures.err;
       proper = λ placed. tried_proper (is_placed f path) c.args.self.now.failing c.new.self.now.failing c.ensures.counts (placed_from f path placed);
-      place = c.ensures.place;
+      opened = ap (map string_bytes) c.ensures.opened;
       cause = c.ensures.cause;
     }
 
@@ -48,7 +48,7 @@ append-tells c =
       nodes = appended_file c.result path c.args.bytes.now f (nodes_at c.new.self.now.nodes) c.ensures.ok c.ensures.err;
       there = on_ok_weaker c.result (file_there (f path)) (ok_proper (is_to_fail c.args.self.now.failing) (is_file (f path)) c.result c.ensures.fails);
       proper = λ there. tried_proper (is_file (f path)) c.args.self.now.failing c.new.self.now.failing c.ensures.counts (is_there (f path) there);
-      place = c.ensures.place;
+      opened = ap (map string_bytes) c.ensures.opened;
       cause = c.ensures.cause;
     }
 
@@ -64,7 +64,7 @@ rename-tells c =
       nodes = search rules;
       there = on_ok_weaker c.result (λ all. file_there (f from) (both_true source placed (both_true (source && placed) takes all))) (ok_proper (is_to_fail c.args.self.now.failing) ((source && placed) && takes) c.result c.ensures.fails);
       proper = λ there is_in. tried_on_proper (source && placed) takes c.args.self.now.failing c.new.self.now.failing c.ensures.counts (and_true source placed (is_there (f from) there) (placed_from f to is_in));
-      place = c.ensures.place;
+      opened = ap (map string_bytes) c.ensures.opened;
       cause = c.ensures.cause;
     }
 
@@ -76,6 +76,6 @@ remove-tells c =
       nodes = search rules;
       bare = on_ok_weaker c.result (bare_from m path) (ok_proper (is_to_fail c.args.self.now.failing) (holds_nothing path m) c.result c.ensures.fails);
       proper = λ bare. tried_proper (holds_nothing path m) c.args.self.now.failing c.new.self.now.failing c.ensures.counts (bare_holds m path bare);
-      place = c.ensures.place;
+      opened = ap (map string_bytes) c.ensures.opened;
       cause = c.ensures.cause;
     }
