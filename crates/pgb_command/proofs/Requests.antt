@@ -1,8 +1,9 @@
 -- What holds of a writing command holds of what is asked.
-use Rattle.std.proofs.Common.{◌≡◌, List, Option, sym, ap, ◌∙◌, subst}
+use Rattle.std.proofs.Common.{◌≡◌, List, Option, inl, refl, sym, ap, ◌∙◌, subst}
 use Rattle.pgb_outside.specs.Content.{Content}
 use Rattle.pgb_outside.specs.Moments.{View}
 use Rattle.pgb_outside.specs.Tree.{Nodes}
+use Rattle.pgb_outside.specs.States.{IsOpened, OpensOnly}
 use Rattle.pgb_model.specs.Text.{Text}
 use Rattle.pgb_command.specs.declared.settings.Asking.{Asking}
 use Rattle.pgb_command.specs.declared.settings.Asking.TheVariants.{Write}
@@ -10,8 +11,8 @@ use Rattle.pgb_command.specs.declared.settings.Writing.{Writing}
 use Rattle.pgb_command.specs.declared.settings.Writing.TheVariants.{StanzaCreate, ArchivePush}
 use Rattle.pgb_command.specs.Answers.{Ending, finished, absent, refused}
 use Rattle.pgb_options.specs.declared.options.OutputWord.{OutputWord}
-use Rattle.pgb_command.specs.Asked.{Request, create, push, report, Asked}
-use Rattle.pgb_command.specs.Doing.{ServesFor, MissesFor, ServedBy, OpensFor}
+use Rattle.pgb_command.specs.Asked.{Request, create, push, get, report, Asked}
+use Rattle.pgb_command.specs.Doing.{ServesFor, MissesFor, ServedBy, OpensFolder, IsFolderOpened, OpensPlaces}
 use Rattle.pgb_command.specs.Getting.{FolderGoes}
 use Rattle.pgb_command.specs.Locking.{lock_name, Locks, TakesLock, OnlyLocked, OnlyUnderLock}
 use Rattle.pgb_command.specs.Told.{writing_of, request_of, writing_lock}
@@ -41,12 +42,29 @@ still stanza folder (ArchivePush path) repo old new h = h
 pub still_asked : (stanza folder : Text) (q : Asking) (w : Writing) (repo : Option Content) (old new : Option Nodes) → q ≡ Write w → new ≡ old → FolderGoes stanza folder (request_of q) repo old new
 still_asked stanza folder q w repo old new is h = subst (λ (x : Asking). FolderGoes stanza folder (request_of x) repo old new) (sym is) (still stanza folder w repo old new h)
 
-opens : (w : Writing) (folder place : Text) → place ≡ folder → OpensFor (writing_of w) folder place
-opens StanzaCreate folder place h = h
-opens (ArchivePush path) folder place h = h
+module _ (folder : Text) (old new : List Text) where
+  opens : (w : Writing) → OpensOnly folder old new → OpensFolder (writing_of w) folder old new
+  opens StanzaCreate h = h
+  opens (ArchivePush path) h = h
 
-pub opens_asked : (q : Asking) (w : Writing) (folder place : Text) → q ≡ Write w → place ≡ folder → OpensFor (request_of q) folder place
-opens_asked q w folder place is h = subst (λ (x : Asking). OpensFor (request_of x) folder place) (sym is) (opens w folder place h)
+  opened : (w : Writing) → IsOpened folder old new → IsFolderOpened (writing_of w) folder old new
+  opened StanzaCreate h = h
+  opened (ArchivePush path) h = h
+
+  pub opens_asked : (q : Asking) (w : Writing) → q ≡ Write w → OpensOnly folder old new → OpensFolder (request_of q) folder old new
+  opens_asked q w is h = subst (λ (x : Asking). OpensFolder (request_of x) folder old new) (sym is) (opens w h)
+
+  pub opened_asked : (q : Asking) (w : Writing) → q ≡ Write w → IsOpened folder old new → IsFolderOpened (request_of q) folder old new
+  opened_asked q w is h = subst (λ (x : Asking). IsFolderOpened (request_of x) folder old new) (sym is) (opened w h)
+
+no_folder : (r : Request) (folder : Text) (old : List Text) → OpensFolder r folder old old
+no_folder create folder old = inl refl
+no_folder (push path) folder old = inl refl
+no_folder (get name path) folder old = inl refl
+no_folder (report form) folder old = refl
+
+pub no_places : (a : Asked) (tree repo : List Text) → OpensPlaces a tree tree repo repo
+no_places a tree repo = record { folder = no_folder a.request a.data_folder tree; repository = inl refl }
 
 no_report : {P : Type 0} (w : Writing) (form : OutputWord) → writing_of w ≡ report form → P
 no_report StanzaCreate form e = let h : ◌≡◌ {A = Request} create (report form) = e in cc

@@ -1,7 +1,8 @@
 -- What a command did, from the disk as it was to the disk as it is.
-use Rattle.std.specs.Prelude.{◌≡◌, true, false, Some, Option, IfSome, IsSome, IsSomeAnd}
+use Rattle.std.specs.Prelude.{◌≡◌, true, false, List, Some, Option, IfSome, IsSome, IsSomeAnd}
 use Rattle.pgb_outside.specs.Moments.{View}
 use Rattle.pgb_outside.specs.Content.{Content}
+use Rattle.pgb_outside.specs.States.{IsOpened, OpensOnly}
 use Rattle.pgb_outside.specs.Tree.{Nodes}
 use Rattle.pgb_model.specs.Text.{Text}
 use Rattle.pgb_model.specs.declared.clusters.Cluster.{Cluster}
@@ -56,12 +57,29 @@ ServedBy (finished lines) a repo nodes new = ServesFor a.request lines a.stanza 
 ServedBy (absent name) a repo nodes new = MissesFor a.request a.stanza a.data_folder repo nodes
 ServedBy (refused fault) a repo nodes new = Unit {0}
 
--- the folder that was opened last is the data folder, for a command that uses one
-abbrev pub OpensFor : Request → Text → Text → Type 0
-OpensFor create folder place = place ≡ folder
-OpensFor (push path) folder place = place ≡ folder
-OpensFor (get name path) folder place = place ≡ folder
-OpensFor (report form) folder place = Unit {0}
+-- no folder but the data folder is opened, and none by a command that uses none
+abbrev pub OpensFolder : Request → Text → List Text → List Text → Type 0
+OpensFolder create folder old new = OpensOnly folder old new
+OpensFolder (push path) folder old new = OpensOnly folder old new
+OpensFolder (get name path) folder old new = OpensOnly folder old new
+OpensFolder (report form) folder old new = new ≡ old
+
+-- the data folder was opened, and nothing by a command that uses none
+abbrev pub IsFolderOpened : Request → Text → List Text → List Text → Type 0
+IsFolderOpened create folder old new = IsOpened folder old new
+IsFolderOpened (push path) folder old new = IsOpened folder old new
+IsFolderOpened (get name path) folder old new = IsOpened folder old new
+IsFolderOpened (report form) folder old new = new ≡ old
+
+-- no places but those that are asked for are opened
+pub record OpensPlaces (a : Asked) (tree new_tree repo new_repo : List Text) : Type 0 where
+  pub folder : OpensFolder a.request a.data_folder tree new_tree
+  pub repository : OpensOnly a.repository repo new_repo
+
+-- each of them was
+pub record ArePlacesOpened (a : Asked) (tree new_tree repo new_repo : List Text) : Type 0 where
+  pub folder : IsFolderOpened a.request a.data_folder tree new_tree
+  pub repository : IsOpened a.repository repo new_repo
 
 -- none of them
 pub record NoneDone (a : Asked) (old new : View) : Type 0 where

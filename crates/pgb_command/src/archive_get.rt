@@ -1,5 +1,6 @@
 // archive-get.
 ghost use Rattle.std.specs.Prelude.{◌≡◌, ◌≤◌, ◌++◌, codes, string_bytes, Some, OnOk, IfOk, IfErr, IfSome};
+ghost use Rattle.pgb_outside.specs.States.{Looks, Opens};
 ghost use Rattle.pgb_outside.specs.Moments.{Rests};
 ghost use Rattle.pgb_outside.specs.Cause.{Rises};
 ghost use Rattle.pgb_model.specs.declared.clusters.ClusterId.{ClusterId};
@@ -101,11 +102,8 @@ fn serve_file<D: Disk, T: Tree>(
         wanted.now.path.now (T.state tree.old).nodes (T.state tree.new).nodes }
     ensures changes { ChangesPath wanted.now.path.now (λ b. IfSome (D.state repo.old).view.now (λ f. OnHistory stanza.now f (λ h. FoundIn h.history stanza.now told.now wanted.now.name b f))) (T.state tree.old).nodes (T.state tree.new).nodes }
     ensures cause { IfErr result (ServeCause stanza.now told.now wanted.now.name (D.state repo.old).view.now (Rises (D.state repo.old).faults (D.state repo.new).faults) (Rises (T.state tree.old).faults (T.state tree.new).faults)) }
-    ensures now { (D.state repo.new).view.now ≡ (D.state repo.old).view.now }
-    ensures time { Rests (D.state repo.old).view (D.state repo.new).view }
-    ensures repo_place { (D.state repo.new).opened ≡ (D.state repo.old).opened }
+    ensures looks { Looks (D.state repo.old) (D.state repo.new) }
     ensures tree_place { (T.state tree.new).opened ≡ (T.state tree.old).opened }
-    ensures repo_later { (D.state repo.old).faults ≤ (D.state repo.new).faults }
     ensures tree_later { (T.state tree.old).faults ≤ (T.state tree.new).faults }
 {
     let info = read_archive_value(alloc, repo, stanza)?;
@@ -129,7 +127,8 @@ pub(crate) fn get_file<D: Disk, T: Tree>(
     ensures cause { IfErr result (GetFileCause settings.now.stanza.now settings.now.pg1_path.now word.now path.now (D.state repo.old).view.now (T.state tree.old).nodes (Rises (D.state repo.old).faults (D.state repo.new).faults) (Rises (T.state tree.old).faults (T.state tree.new).faults)) }
     ensures nodes { ChangesPath (served_path settings.now.pg1_path.now path.now) (IsServed settings.now.stanza.now settings.now.pg1_path.now word.now path.now (D.state repo.old).view.now (T.state tree.old).nodes) (T.state tree.old).nodes (T.state tree.new).nodes }
     ensures none { OnNothing result ((T.state tree.new).nodes ≡ (T.state tree.old).nodes) }
-    ensures places { OnOk result (((T.state tree.new).opened ≡ settings.now.pg1_path.now) × ((D.state repo.new).opened ≡ settings.now.repo1_path.now)) }
+    ensures opens_folder { Opens result settings.now.pg1_path.now (T.state tree.old).opened (T.state tree.new).opened }
+    ensures opens_repository { Opens result settings.now.repo1_path.now (D.state repo.old).opened (D.state repo.new).opened }
     ensures now { (D.state repo.new).view.now ≡ (D.state repo.old).view.now }
     ensures time { Rests (D.state repo.old).view (D.state repo.new).view }
     ensures repo_later { (D.state repo.old).faults ≤ (D.state repo.new).faults }

@@ -1,5 +1,6 @@
 // archive-push.
 ghost use Rattle.std.specs.Prelude.{◌≡◌, ◌≤◌, true, false, OnOk, IfOk, IfErr, IfSome, IsSome, IsSomeAnd, string_bytes, Contains};
+ghost use Rattle.pgb_outside.specs.States.{Frame, LooksAt, Opens};
 ghost use Rattle.pgb_outside.specs.Cause.{Rises};
 ghost use Rattle.pgb_model.specs.Names.{wal_text};
 ghost use Rattle.pgb_model.specs.Now.{NowDoes};
@@ -70,11 +71,8 @@ fn store<D: Disk, T: Tree>(
     ensures agrees { OnOk result (IsSome (D.state repo.old).view.now → IfSome (D.state repo.new).view.now (AgreesAtPair settings.now.stanza.now)) }
     ensures stored { IfOk result (λ outcome. OnFinished (outcome_ending outcome) (IsStored settings.now.stanza.now settings.now.pg1_path.now path.now (D.state repo.old).view.now (T.state tree.old).nodes)) }
     ensures cause { IfErr result (StoreCause settings.now.stanza.now settings.now.pg1_path.now path.now (D.state repo.old).view.now (T.state tree.old).nodes (Rises (D.state repo.old).faults (D.state repo.new).faults) (Rises (T.state tree.old).faults (T.state tree.new).faults) ⊥ ⊥) }
-    ensures nodes { (T.state tree.new).nodes ≡ (T.state tree.old).nodes }
-    ensures tree_place { (T.state tree.new).opened ≡ (T.state tree.old).opened }
-    ensures repo_place { (D.state repo.new).opened ≡ (D.state repo.old).opened }
-    ensures repo_later { (D.state repo.old).faults ≤ (D.state repo.new).faults }
-    ensures tree_later { (T.state tree.old).faults ≤ (T.state tree.new).faults }
+    ensures looks { LooksAt (T.state tree.old) (T.state tree.new) }
+    ensures frame { Frame (D.state repo.old) (D.state repo.new) }
 {
     let told = read_cluster(alloc, tree)?;
     let id = current_id(alloc, repo, settings.stanza, &told)?;
@@ -124,7 +122,8 @@ pub(crate) fn push_file<D: Disk, T: Tree, K: Locks>(
     ensures agrees { OnOk result (IsSome (D.state repo.old).view.now → IfSome (D.state repo.new).view.now (AgreesAtPair settings.now.stanza.now)) }
     ensures stored { IfOk result (λ outcome. OnFinished (outcome_ending outcome) (IsStored settings.now.stanza.now settings.now.pg1_path.now path.now (D.state repo.old).view.now (T.state tree.old).nodes)) }
     ensures cause { IfErr result (PushFileCause settings.now.stanza.now settings.now.pg1_path.now path.now (D.state repo.old).view.now (T.state tree.old).nodes (Rises (D.state repo.old).faults (D.state repo.new).faults) (Rises (T.state tree.old).faults (T.state tree.new).faults) (Rises (K.faults locks.old) (K.faults locks.new)) (Rises (K.refusals locks.old) (K.refusals locks.new))) }
-    ensures places { OnOk result (((T.state tree.new).opened ≡ settings.now.pg1_path.now) × ((D.state repo.new).opened ≡ settings.now.repo1_path.now)) }
+    ensures opens_folder { Opens result settings.now.pg1_path.now (T.state tree.old).opened (T.state tree.new).opened }
+    ensures opens_repository { Opens result settings.now.repo1_path.now (D.state repo.old).opened (D.state repo.new).opened }
     ensures locked { OnOk result (IsLocked settings.now.lock_path.now lock.now (K.took locks.old) (K.took locks.new)) }
     ensures only_locked { OnlyLocked settings.now.lock_path.now lock.now (K.took locks.old) (K.took locks.new) (D.state repo.old).view (D.state repo.new).view }
     ensures holds { MayHold lock.now (K.taken locks.old) (K.taken locks.new) }

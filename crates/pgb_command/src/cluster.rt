@@ -1,6 +1,7 @@
 // The cluster of a data folder.
 ghost use Rattle.std.specs.Prelude.{◌≡◌, ◌≤◌, ℕ, List, Option, option_map, Some, IfOk, IfErr, IfSome, IsSome, Vec, take};
 ghost use Rattle.std.specs.declared.alloc.Global.{Global};
+ghost use Rattle.pgb_outside.specs.States.{LooksAt};
 ghost use Rattle.pgb_outside.specs.Cause.{Rises};
 ghost use Rattle.pgb_command.specs.Cluster.{control_bytes, version_bytes, FolderTells, ClusterCause};
 
@@ -19,9 +20,7 @@ const VERSION_FRONT: usize = 33;
 fn read_control_file<T: Tree>(alloc: Global, tree: &mut T) -> Result<Vec<u8>, Fault>
     ensures bytes { IfOk result (λ v. IfSome (T.state tree.old).nodes (λ f. option_map (take 16) (control_bytes f) ≡ Some v.items)) }
     ensures cause { IfErr result (ClusterCause (T.state tree.old).nodes (Rises (T.state tree.old).faults (T.state tree.new).faults)) }
-    ensures nodes { (T.state tree.new).nodes ≡ (T.state tree.old).nodes }
-    ensures place { (T.state tree.new).opened ≡ (T.state tree.old).opened }
-    ensures later { (T.state tree.old).faults ≤ (T.state tree.new).faults }
+    ensures looks { LooksAt (T.state tree.old) (T.state tree.new) }
 {
     match read_front(alloc, tree, &Known::Control, CONTROL_FRONT) {
         Ok(Some(bytes)) => Ok(bytes),
@@ -36,9 +35,7 @@ fn read_version_file<T: Tree>(alloc: Global, tree: &mut T) -> Result<Vec<u8>, Fa
     requires { IfSome (T.state tree.old).nodes (λ f. IsSome (control_bytes f)) }
     ensures bytes { IfOk result (λ v. IfSome (T.state tree.old).nodes (λ f. option_map (take 33) (version_bytes f) ≡ Some v.items)) }
     ensures cause { IfErr result (ClusterCause (T.state tree.old).nodes (Rises (T.state tree.old).faults (T.state tree.new).faults)) }
-    ensures nodes { (T.state tree.new).nodes ≡ (T.state tree.old).nodes }
-    ensures place { (T.state tree.new).opened ≡ (T.state tree.old).opened }
-    ensures later { (T.state tree.old).faults ≤ (T.state tree.new).faults }
+    ensures looks { LooksAt (T.state tree.old) (T.state tree.new) }
 {
     match read_front(alloc, tree, &Known::Version, VERSION_FRONT) {
         Ok(Some(bytes)) => Ok(bytes),
@@ -53,9 +50,7 @@ fn read_version_file<T: Tree>(alloc: Global, tree: &mut T) -> Result<Vec<u8>, Fa
 pub(crate) fn read_cluster<T: Tree>(alloc: Global, tree: &mut T) -> Result<Control, Fault>
     ensures told { IfOk result (λ told. IfSome (T.state tree.old).nodes (λ f. FolderTells f told)) }
     ensures cause { IfErr result (ClusterCause (T.state tree.old).nodes (Rises (T.state tree.old).faults (T.state tree.new).faults)) }
-    ensures nodes { (T.state tree.new).nodes ≡ (T.state tree.old).nodes }
-    ensures place { (T.state tree.new).opened ≡ (T.state tree.old).opened }
-    ensures later { (T.state tree.old).faults ≤ (T.state tree.new).faults }
+    ensures looks { LooksAt (T.state tree.old) (T.state tree.new) }
 {
     let control = read_control_file(alloc, tree)?;
     let version = read_version_file(alloc, tree)?;

@@ -1,5 +1,6 @@
 // stanza-create.
 ghost use Rattle.std.specs.Prelude.{◌≡◌, ◌≤◌, ◌⊎◌, true, false, None, Some, Option, option_map, OnOk, IfErr, IfSome, IsSome, IsSomeAnd, Contains};
+ghost use Rattle.pgb_outside.specs.States.{Frame, Opens};
 ghost use Rattle.pgb_outside.specs.Moments.{Rests};
 ghost use Rattle.pgb_outside.specs.Cause.{Rises};
 ghost use Rattle.pgb_model.specs.declared.clusters.Cluster.{Cluster};
@@ -62,8 +63,7 @@ fn make<D: Disk>(alloc: Global, repo: &mut D, stanza: &str, told: &Control) -> R
     ensures members { OnOk result (IfSome (D.state repo.old).view.now (LacksStanza stanza.now) → IsSome (D.state repo.old).view.now → IfSome (D.state repo.new).view.now (HasNewPairs stanza.now (first_cluster told.now))) }
     ensures agrees { OnOk result (IsSome (D.state repo.old).view.now → IfSome (D.state repo.new).view.now (PairsAgree stanza.now)) }
     ensures told { IsSome (D.state repo.old).view.now → IsSome (D.state repo.new).view.now }
-    ensures place { (D.state repo.new).opened ≡ (D.state repo.old).opened }
-    ensures later { (D.state repo.old).faults ≤ (D.state repo.new).faults }
+    ensures frame { Frame (D.state repo.old) (D.state repo.new) }
     ensures refused { IfErr result (λ e. OnEarly e ((D.state repo.new).view.now ≡ (D.state repo.old).view.now)) }
     ensures rests { IfErr result (λ e. OnEarly e (Rests (D.state repo.old).view (D.state repo.new).view)) }
     ensures cause { IfErr result (MakeCause stanza.now told.now (D.state repo.old).view.now (Rises (D.state repo.old).faults (D.state repo.new).faults)) }
@@ -103,7 +103,8 @@ pub(crate) fn create_stanza<D: Disk, T: Tree, V: Wire, K: Locks>(
         → IfSome (D.state repo.new).view.now (HasNewPairs settings.now.stanza.now c)) }
     ensures agrees { OnOk result (IsSome (D.state repo.old).view.now → IfSome (D.state repo.new).view.now (PairsAgree settings.now.stanza.now)) }
     ensures is_made { OnOk result (IsMade settings.now.stanza.now (D.state repo.old).view.now (T.state tree.old).nodes) }
-    ensures places { OnOk result (((T.state tree.new).opened ≡ settings.now.pg1_path.now) × ((D.state repo.new).opened ≡ settings.now.repo1_path.now)) }
+    ensures opens_folder { Opens result settings.now.pg1_path.now (T.state tree.old).opened (T.state tree.new).opened }
+    ensures opens_repository { Opens result settings.now.repo1_path.now (D.state repo.old).opened (D.state repo.new).opened }
     ensures nodes { (T.state tree.new).nodes ≡ (T.state tree.old).nodes }
     ensures repo_later { (D.state repo.old).faults ≤ (D.state repo.new).faults }
     ensures tree_later { (T.state tree.old).faults ≤ (T.state tree.new).faults }

@@ -1,5 +1,6 @@
 // The stanza's current cluster.
 ghost use Rattle.std.specs.Prelude.{◌≡◌, ◌≢◌, ◌≤◌, ◌<◌, ◌^◌, true, Some, string_bytes, OnOk, IfOk, IfErr, IfSome, IsSome};
+ghost use Rattle.pgb_outside.specs.States.{Frame, Looks};
 ghost use Rattle.pgb_outside.specs.Moments.{Rests};
 ghost use Rattle.pgb_outside.specs.Cause.{Rises};
 ghost use Rattle.pgb_model.specs.declared.clusters.ClusterId.{ClusterId};
@@ -39,8 +40,7 @@ fn heal_archive_pair<D: Disk>(
     ensures goes { Goes stanza.now Reading (D.state repo.old).view (D.state repo.new).view }
     ensures ends { Ends stanza.now Reading (D.state repo.old).view (D.state repo.new).view }
     ensures files { OnOk result (IsSome (D.state repo.old).view.now → SameFiles stanza.now (D.state repo.old).view.now (D.state repo.new).view.now) }
-    ensures place { (D.state repo.new).opened ≡ (D.state repo.old).opened }
-    ensures later { (D.state repo.old).faults ≤ (D.state repo.new).faults }
+    ensures frame { Frame (D.state repo.old) (D.state repo.new) }
     ensures cause { IfErr result (PairCause IsArchiveText IsArchiveForm (archive_info stanza.now) (D.state repo.old).view.now (Rises (D.state repo.old).faults (D.state repo.new).faults)) }
 {
     let info = heal_pair(alloc, repo, name)?;
@@ -72,8 +72,7 @@ fn archive_value<D: Disk>(alloc: Global, repo: &mut D, stanza: &str) -> Result<A
     ensures goes { Goes stanza.now Reading (D.state repo.old).view (D.state repo.new).view }
     ensures ends { Ends stanza.now Reading (D.state repo.old).view (D.state repo.new).view }
     ensures files { OnOk result (IsSome (D.state repo.old).view.now → SameFiles stanza.now (D.state repo.old).view.now (D.state repo.new).view.now) }
-    ensures place { (D.state repo.new).opened ≡ (D.state repo.old).opened }
-    ensures later { (D.state repo.old).faults ≤ (D.state repo.new).faults }
+    ensures frame { Frame (D.state repo.old) (D.state repo.new) }
     ensures cause { IfErr result (ValueCause stanza.now (D.state repo.old).view.now (Rises (D.state repo.old).faults (D.state repo.new).faults)) }
 {
     let name = archive_info_name(alloc, stanza)?;
@@ -91,10 +90,7 @@ pub(crate) fn read_archive_value<D: Disk>(
 ) -> Result<ArchiveInfo, Fault>
     ensures found { IfOk result (λ v. IfSome (D.state repo.old).view.now (λ f. PairIs IsArchiveText f (archive_info stanza.now) (archive_info_of v))) }
     ensures valid { IfOk result (λ v. IsArchiveInfo (archive_info_of v)) }
-    ensures now { (D.state repo.new).view.now ≡ (D.state repo.old).view.now }
-    ensures time { Rests (D.state repo.old).view (D.state repo.new).view }
-    ensures place { (D.state repo.new).opened ≡ (D.state repo.old).opened }
-    ensures later { (D.state repo.old).faults ≤ (D.state repo.new).faults }
+    ensures looks { Looks (D.state repo.old) (D.state repo.new) }
     ensures cause { IfErr result (ValueCause stanza.now (D.state repo.old).view.now (Rises (D.state repo.old).faults (D.state repo.new).faults)) }
 {
     let name = archive_info_name(alloc, stanza)?;
@@ -143,8 +139,7 @@ pub(crate) fn current_id<D: Disk>(
     ensures goes { Goes stanza.now Reading (D.state repo.old).view (D.state repo.new).view }
     ensures ends { Ends stanza.now Reading (D.state repo.old).view (D.state repo.new).view }
     ensures files { OnOk result (IsSome (D.state repo.old).view.now → SameFiles stanza.now (D.state repo.old).view.now (D.state repo.new).view.now) }
-    ensures place { (D.state repo.new).opened ≡ (D.state repo.old).opened }
-    ensures later { (D.state repo.old).faults ≤ (D.state repo.new).faults }
+    ensures frame { Frame (D.state repo.old) (D.state repo.new) }
     ensures cause { IfErr result (CurrentCause stanza.now told.now (D.state repo.old).view.now (Rises (D.state repo.old).faults (D.state repo.new).faults)) }
 {
     let info = archive_value(alloc, repo, stanza)?;

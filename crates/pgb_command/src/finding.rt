@@ -1,5 +1,6 @@
 // A file of the archive is served from under that of the stanza's ids that has it.
 ghost use Rattle.std.specs.Prelude.{◌≡◌, ◌≤◌, true, false, Decides, map, IfOk, IfErr, IfSome};
+ghost use Rattle.pgb_outside.specs.States.{Looks};
 ghost use Rattle.pgb_outside.specs.Moments.{Rests};
 ghost use Rattle.pgb_outside.specs.Cause.{Rises};
 ghost use Rattle.pgb_model.specs.declared.clusters.ClusterId.{ClusterId};
@@ -59,11 +60,8 @@ fn serve_whole<D: Disk, T: Tree>(
     ensures puts { Puts result (AreBytes stanza.now id.now wanted.now.name (D.state repo.old).view.now) (IfSome (D.state repo.old).view.now (StoresNone stanza.now id.now wanted.now.name)) wanted.now.path.now (T.state tree.old).nodes (T.state tree.new).nodes }
     ensures changes { ChangesPath wanted.now.path.now (AreBytes stanza.now id.now wanted.now.name (D.state repo.old).view.now) (T.state tree.old).nodes (T.state tree.new).nodes }
     ensures cause { IfErr result (FileCause stanza.now id.now wanted.now.name (D.state repo.old).view.now (Rises (D.state repo.old).faults (D.state repo.new).faults) (Rises (T.state tree.old).faults (T.state tree.new).faults)) }
-    ensures now { (D.state repo.new).view.now ≡ (D.state repo.old).view.now }
-    ensures time { Rests (D.state repo.old).view (D.state repo.new).view }
-    ensures repo_place { (D.state repo.new).opened ≡ (D.state repo.old).opened }
+    ensures looks { Looks (D.state repo.old) (D.state repo.new) }
     ensures tree_place { (T.state tree.new).opened ≡ (T.state tree.old).opened }
-    ensures repo_later { (D.state repo.old).faults ≤ (D.state repo.new).faults }
     ensures tree_later { (T.state tree.old).faults ≤ (T.state tree.new).faults }
 {
     match get(alloc, repo, stanza, id, &wanted.name) {
@@ -89,11 +87,8 @@ fn serve_segment<D: Disk, T: Tree>(
     ensures puts { Puts result (AreBytes stanza.now id.now wanted.now.name (D.state repo.old).view.now) (IfSome (D.state repo.old).view.now (StoresNone stanza.now id.now wanted.now.name)) wanted.now.path.now (T.state tree.old).nodes (T.state tree.new).nodes }
     ensures changes { ChangesPath wanted.now.path.now (AreBytes stanza.now id.now wanted.now.name (D.state repo.old).view.now) (T.state tree.old).nodes (T.state tree.new).nodes }
     ensures cause { IfErr result (FileCause stanza.now id.now wanted.now.name (D.state repo.old).view.now (Rises (D.state repo.old).faults (D.state repo.new).faults) (Rises (T.state tree.old).faults (T.state tree.new).faults)) }
-    ensures now { (D.state repo.new).view.now ≡ (D.state repo.old).view.now }
-    ensures time { Rests (D.state repo.old).view (D.state repo.new).view }
-    ensures repo_place { (D.state repo.new).opened ≡ (D.state repo.old).opened }
+    ensures looks { Looks (D.state repo.old) (D.state repo.new) }
     ensures tree_place { (T.state tree.new).opened ≡ (T.state tree.old).opened }
-    ensures repo_later { (D.state repo.old).faults ≤ (D.state repo.new).faults }
     ensures tree_later { (T.state tree.old).faults ≤ (T.state tree.new).faults }
 {
     let stored = match present(alloc, repo, stanza, id, &wanted.name) {
@@ -125,11 +120,8 @@ fn serve_under<D: Disk, T: Tree>(
     ensures puts { Puts result (λ b. IsSame told.now cluster.now × AreBytes stanza.now (id_kept cluster.now) wanted.now.name (D.state repo.old).view.now b) (IsSame told.now cluster.now → IfSome (D.state repo.old).view.now (StoresNone stanza.now (id_kept cluster.now) wanted.now.name)) wanted.now.path.now (T.state tree.old).nodes (T.state tree.new).nodes }
     ensures changes { ChangesPath wanted.now.path.now (λ b. IsSame told.now cluster.now × AreBytes stanza.now (id_kept cluster.now) wanted.now.name (D.state repo.old).view.now b) (T.state tree.old).nodes (T.state tree.new).nodes }
     ensures cause { IfErr result (UnderCause (IsSame told.now cluster.now) stanza.now (id_kept cluster.now) wanted.now.name (D.state repo.old).view.now (Rises (D.state repo.old).faults (D.state repo.new).faults) (Rises (T.state tree.old).faults (T.state tree.new).faults)) }
-    ensures now { (D.state repo.new).view.now ≡ (D.state repo.old).view.now }
-    ensures time { Rests (D.state repo.old).view (D.state repo.new).view }
-    ensures repo_place { (D.state repo.new).opened ≡ (D.state repo.old).opened }
+    ensures looks { Looks (D.state repo.old) (D.state repo.new) }
     ensures tree_place { (T.state tree.new).opened ≡ (T.state tree.old).opened }
-    ensures repo_later { (D.state repo.old).faults ≤ (D.state repo.new).faults }
     ensures tree_later { (T.state tree.old).faults ≤ (T.state tree.new).faults }
 {
     if !is_of(cluster, told) {
@@ -160,11 +152,8 @@ pub(crate) fn search<D: Disk, T: Tree>(
     ensures puts { Puts result (λ b. IfSome (D.state repo.old).view.now (FoundIn history.now stanza.now told.now wanted.now.name b)) (IfSome (D.state repo.old).view.now (AbsentIn history.now stanza.now told.now wanted.now.name)) wanted.now.path.now (T.state tree.old).nodes (T.state tree.new).nodes }
     ensures changes { ChangesPath wanted.now.path.now (λ b. IfSome (D.state repo.old).view.now (FoundIn history.now stanza.now told.now wanted.now.name b)) (T.state tree.old).nodes (T.state tree.new).nodes }
     ensures cause { IfErr result (SearchCause history.now stanza.now told.now wanted.now.name (D.state repo.old).view.now (Rises (D.state repo.old).faults (D.state repo.new).faults) (Rises (T.state tree.old).faults (T.state tree.new).faults)) }
-    ensures now { (D.state repo.new).view.now ≡ (D.state repo.old).view.now }
-    ensures time { Rests (D.state repo.old).view (D.state repo.new).view }
-    ensures repo_place { (D.state repo.new).opened ≡ (D.state repo.old).opened }
+    ensures looks { Looks (D.state repo.old) (D.state repo.new) }
     ensures tree_place { (T.state tree.new).opened ≡ (T.state tree.old).opened }
-    ensures repo_later { (D.state repo.old).faults ≤ (D.state repo.new).faults }
     ensures tree_later { (T.state tree.old).faults ≤ (T.state tree.new).faults }
 {
     let mut rest = history;

@@ -1,5 +1,6 @@
 // info.
 ghost use Rattle.std.specs.Prelude.{◌≡◌, ◌≤◌, ◌++◌, [], map, OnOk, IfOk, IfErr, IfSome, string_bytes};
+ghost use Rattle.pgb_outside.specs.States.{Looks, Opens};
 ghost use Rattle.pgb_outside.specs.Moments.{Rests};
 ghost use Rattle.pgb_outside.specs.Cause.{Rises};
 ghost use Rattle.pgb_model.specs.Names.{backup_info};
@@ -43,10 +44,7 @@ fn read_backup_value<D: Disk>(
 ) -> Result<BackupInfo, Fault>
     ensures found { IfOk result (λ v. IfSome (D.state repo.old).view.now (λ f. PairIs IsBackupText f (backup_info stanza.now) (backup_info_of v))) }
     ensures valid { IfOk result (λ v. IsBackupInfo (backup_info_of v)) }
-    ensures now { (D.state repo.new).view.now ≡ (D.state repo.old).view.now }
-    ensures time { Rests (D.state repo.old).view (D.state repo.new).view }
-    ensures place { (D.state repo.new).opened ≡ (D.state repo.old).opened }
-    ensures later { (D.state repo.old).faults ≤ (D.state repo.new).faults }
+    ensures looks { Looks (D.state repo.old) (D.state repo.new) }
     ensures cause { IfErr result (BackupCause stanza.now (D.state repo.old).view.now (Rises (D.state repo.old).faults (D.state repo.new).faults)) }
 {
     let name = backup_info_name(alloc, stanza)?;
@@ -67,10 +65,7 @@ fn read_backup_value<D: Disk>(
 fn read_pairs<D: Disk>(alloc: Global, repo: &mut D, stanza: &str) -> Result<Pairs, Fault>
     ensures found { IfOk result (λ p. IfSome (D.state repo.old).view.now (λ f. HavePairs stanza.now f (archive_info_of p.archive) (backup_info_of p.backup))) }
     ensures valid { IfOk result (λ p. IsBackupInfo (backup_info_of p.backup)) }
-    ensures now { (D.state repo.new).view.now ≡ (D.state repo.old).view.now }
-    ensures time { Rests (D.state repo.old).view (D.state repo.new).view }
-    ensures place { (D.state repo.new).opened ≡ (D.state repo.old).opened }
-    ensures later { (D.state repo.old).faults ≤ (D.state repo.new).faults }
+    ensures looks { Looks (D.state repo.old) (D.state repo.new) }
     ensures cause { IfErr result (InfoCause stanza.now (D.state repo.old).view.now (Rises (D.state repo.old).faults (D.state repo.new).faults)) }
 {
     let archive = read_archive_value(alloc, repo, stanza)?;
@@ -96,10 +91,7 @@ fn ends_under<D: Disk>(
     id: &ArchiveId,
 ) -> Result<Vec<Segment>, Fault>
     ensures ends { IfOk result (λ found. IfSome (D.state repo.old).view.now (λ f. AreEnds stanza.now id.now f found.items)) }
-    ensures now { (D.state repo.new).view.now ≡ (D.state repo.old).view.now }
-    ensures time { Rests (D.state repo.old).view (D.state repo.new).view }
-    ensures place { (D.state repo.new).opened ≡ (D.state repo.old).opened }
-    ensures later { (D.state repo.old).faults ≤ (D.state repo.new).faults }
+    ensures looks { Looks (D.state repo.old) (D.state repo.new) }
     ensures cause { IfErr result (OpeningCause [] (Rises (D.state repo.old).faults (D.state repo.new).faults) ⊥ ⊥ ⊥) }
 {
     match ends(alloc, repo, stanza, id) {
@@ -134,10 +126,7 @@ fn end_names<D: Disk>(
     history: &[ClusterId],
 ) -> Result<Vec<ArchivedName>, Fault>
     ensures ends { IfOk result (λ names. IfSome (D.state repo.old).view.now (λ f. HaveEnds stanza.now history.now f names.items)) }
-    ensures now { (D.state repo.new).view.now ≡ (D.state repo.old).view.now }
-    ensures time { Rests (D.state repo.old).view (D.state repo.new).view }
-    ensures place { (D.state repo.new).opened ≡ (D.state repo.old).opened }
-    ensures later { (D.state repo.old).faults ≤ (D.state repo.new).faults }
+    ensures looks { Looks (D.state repo.old) (D.state repo.new) }
     ensures cause { IfErr result (OpeningCause [] (Rises (D.state repo.old).faults (D.state repo.new).faults) ⊥ ⊥ ⊥) }
 {
     let mut names = Vec::new(alloc);
@@ -169,7 +158,7 @@ pub(crate) fn report_stanza<D: Disk>(
 ) -> Result<Outcome, Fault>
     ensures told { IfOk result (λ o. ReportedBy (outcome_ending o) settings.now.stanza.now form (D.state repo.old).view.now) }
     ensures cause { IfErr result (InfoCause settings.now.stanza.now (D.state repo.old).view.now (Rises (D.state repo.old).faults (D.state repo.new).faults)) }
-    ensures place { OnOk result ((D.state repo.new).opened ≡ settings.now.repo1_path.now) }
+    ensures opens { Opens result settings.now.repo1_path.now (D.state repo.old).opened (D.state repo.new).opened }
     ensures now { (D.state repo.new).view.now ≡ (D.state repo.old).view.now }
     ensures time { Rests (D.state repo.old).view (D.state repo.new).view }
     ensures later { (D.state repo.old).faults ≤ (D.state repo.new).faults }

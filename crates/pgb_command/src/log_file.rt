@@ -1,6 +1,7 @@
 // A file of the log is looked at: its first bytes, and how many it has.
 ghost use Rattle.std.specs.Prelude.{◌≡◌, ◌⊎◌, ◌≤◌, ◌<◌, Decides, min, length, IfOk, IfErr, IfSome, IfNone};
 ghost use Rattle.std.proofs.Common.{refl, ap, ◌∙◌};
+ghost use Rattle.pgb_outside.specs.States.{Looks, LooksAt};
 ghost use Rattle.pgb_outside.specs.Tree.{known_path};
 ghost use Rattle.pgb_outside.specs.Cause.{HasCause, Rises};
 ghost use Rattle.pgb_command.specs.LogFile.{told_file, IsOpened, IsMeasured};
@@ -33,89 +34,33 @@ pub(crate) enum Measured {
     Long,
 }
 
-// Whether the file has a byte at a place.
-fn reaches<T: Tree>(tree: &mut T, what: &Known, at: u64) -> Result<bool, Stop>
-    ensures there { IfOk result (λ r. IfSome (told_file (T.state tree.old).nodes (known_path what.now)) (λ b. Decides r (at < length b))) }
-    ensures nodes { (T.state tree.new).nodes ≡ (T.state tree.old).nodes }
-    ensures place { (T.state tree.new).opened ≡ (T.state tree.old).opened }
-    ensures cause { HasCause (T.state tree.old).faults (T.state tree.new).faults result }
-{
-    let mut one = [0u8; 1];
-    match tree.read(what, at, &mut one)? {
-        Some(n) => Ok(n > 0),
-        None => Ok(false),
-    }
-}
-
-// How many bytes the file has, which are no fewer than the first number and no more than the second.
-fn length_between<T: Tree>(tree: &mut T, what: &Known, least: u64, most: u64) -> Result<u64, Stop>
-    requires order { least ≤ most }
-    requires between { IfSome (told_file (T.state tree.old).nodes (known_path what.now)) (λ b. (least ≤ length b) × (length b ≤ most)) }
-    ensures length { IfOk result (λ n. IfSome (told_file (T.state tree.old).nodes (known_path what.now)) (λ b. length b ≡ n)) }
-    ensures within { IfOk result (λ n. least ≤ n) }
-    ensures nodes { (T.state tree.new).nodes ≡ (T.state tree.old).nodes }
-    ensures place { (T.state tree.new).opened ≡ (T.state tree.old).opened }
-    ensures cause { HasCause (T.state tree.old).faults (T.state tree.new).faults result }
-{
-    let mut low = least;
-    let mut high = most;
-    while low < high {
-        let middle = low + (high - low) / 2;
-        if reaches(tree, what, middle)? {
-            low = middle + 1;
-        } else {
-            high = middle;
-        }
-    }
-    Ok(low)
-}
-
-// How many bytes the file has, of which the first were read; none where they are more than the limit.
-fn length_within<T: Tree>(
-    tree: &mut T,
-    what: &Known,
-    front: usize,
-    limit: u64,
-) -> Result<Option<u64>, Stop>
-    requires limit { 65536 ≤ limit }
-    requires front { IfSome (told_file (T.state tree.old).nodes (known_path what.now)) (λ b. front ≡ min 65536 (length b)) }
-    requires room { front ≤ 65536 }
-    ensures length { IfOk result (λ r. IfSome r (λ n. IfSome (told_file (T.state tree.old).nodes (known_path what.now)) (λ b. length b ≡ n))) }
-    ensures long { IfOk result (λ r. IfNone r (IfSome (told_file (T.state tree.old).nodes (known_path what.now)) (λ b. limit < length b))) }
-    ensures within { IfOk result (λ r. IfSome r (λ n. front ≤ n)) }
-    ensures whole { IfOk result (λ r. IfSome r (λ n. (65536 ≤ front) ⊎ (front ≡ n))) }
-    ensures nodes { (T.state tree.new).nodes ≡ (T.state tree.old).nodes }
-    ensures place { (T.state tree.new).opened ≡ (T.state tree.old).opened }
-    ensures cause { HasCause (T.state tree.old).faults (T.state tree.new).faults result }
-{
-    if front < FRONT {
-        return Ok(Some(front as u64));
-    }
-    if reaches(tree, what, limit)? {
-        return Ok(None);
-    }
-    let length = length_between(tree, what, front as u64, limit)?;
-    Ok(Some(length))
-}
-
 // Looks at a file: at its first bytes and at their number, which may be at most the limit.
 fn measure<T: Tree>(alloc: Global, tree: &mut T, what: Known, limit: u64) -> Result<Measured, Stop>
     requires { 65536 ≤ limit }
     ensures measured { IfOk result (IsMeasured (T.state tree.old).nodes (known_path what) limit) }
-    ensures nodes { (T.state tree.new).nodes ≡ (T.state tree.old).nodes }
-    ensures place { (T.state tree.new).opened ≡ (T.state tree.old).opened }
+    ensures looks { LooksAt (T.state tree.old) (T.state tree.new) }
     ensures cause { HasCause (T.state tree.old).faults (T.state tree.new).faults result }
 {
     let Some(front) = read_front(alloc, tree, &what, FRONT)? else {
         return Ok(Measured::Absent);
     };
-    match length_within(tree, &what, front.len(), limit)? {
-        Some(length) => Ok(Measured::File(LogFile {
+    let read = front.len() as u64;
+    if front.len() < FRONT {
+        return Ok(Measured::File(LogFile {
             what,
             front,
-            length,
+            length: read,
+        }));
+    }
+    match tree.size(&what)? {
+        Some(size) if size > limit => Ok(Measured::Long),
+        // A file that shrinks meanwhile has the bytes that were read, so that the next read shows it.
+        Some(size) => Ok(Measured::File(LogFile {
+            what,
+            front,
+            length: size.max(read),
         })),
-        None => Ok(Measured::Long),
+        None => Ok(Measured::Absent),
     }
 }
 
@@ -130,9 +75,7 @@ pub(crate) fn open_log_file<T: Tree>(
     requires { 65536 ≤ limit }
     ensures opened { IfOk result (IsOpened (T.state tree.old).nodes (wal_path name.now)) }
     ensures refused { IfErr result (FileCause path.now name.now limit (T.state tree.old).nodes (Rises (T.state tree.old).faults (T.state tree.new).faults)) }
-    ensures nodes { (T.state tree.new).nodes ≡ (T.state tree.old).nodes }
-    ensures place { (T.state tree.new).opened ≡ (T.state tree.old).opened }
-    ensures later { (T.state tree.old).faults ≤ (T.state tree.new).faults }
+    ensures looks { LooksAt (T.state tree.old) (T.state tree.new) }
 {
     let what = Known::Wal(String::from_str(alloc, name)?);
     match measure(alloc, tree, what, limit) {
@@ -164,7 +107,7 @@ impl LogFile {
 impl<T: Tree> Pieces<T> for LogFile {
     ghost bytes = { λ it tree. told_file (T.state tree).nodes (known_path it.what) };
 
-    ghost faults = { T.faults };
+    ghost faults = { λ tree. (T.state tree).faults };
 
     ghost same = { λ one other. ((T.state other).nodes ≡ (T.state one).nodes) × ((T.state other).misuses ≡ (T.state one).misuses) × ((T.state other).opened ≡ (T.state one).opened) };
 

@@ -1,5 +1,6 @@
 // The data folder and the repository are opened, the lock is taken, and what is found in the repository is settled.
 ghost use Rattle.std.specs.Prelude.{◌≡◌, ◌≤◌, ◌∷◌, [], List, OnOk, OnErr, IfErr, IsSome, Contains};
+ghost use Rattle.pgb_outside.specs.States.{Looks, Opens};
 ghost use Rattle.pgb_outside.specs.Moments.{Rests};
 ghost use Rattle.pgb_outside.specs.Cause.{Rises};
 ghost use Rattle.pgb_model.specs.Repository.{Repository};
@@ -15,7 +16,7 @@ use pgb_outside::{Disk, Locks, Stop, Take, Tree};
 use std::alloc::Global;
 
 fn open_tree<T: Tree>(tree: &mut T, path: &str) -> Result<(), Fault>
-    ensures place { OnOk result ((T.state tree.new).opened ≡ path.now) }
+    ensures opens { Opens result path.now (T.state tree.old).opened (T.state tree.new).opened }
     ensures nodes { (T.state tree.new).nodes ≡ (T.state tree.old).nodes }
     ensures later { (T.state tree.old).faults ≤ (T.state tree.new).faults }
     ensures cause { IfErr result (OpeningCause [] ⊥ (Rises (T.state tree.old).faults (T.state tree.new).faults) ⊥ ⊥) }
@@ -27,7 +28,7 @@ fn open_tree<T: Tree>(tree: &mut T, path: &str) -> Result<(), Fault>
 }
 
 fn open_repo<D: Disk>(repo: &mut D, path: &str) -> Result<(), Fault>
-    ensures place { OnOk result ((D.state repo.new).opened ≡ path.now) }
+    ensures opens { Opens result path.now (D.state repo.old).opened (D.state repo.new).opened }
     ensures now { (D.state repo.new).view.now ≡ (D.state repo.old).view.now }
     ensures time { Rests (D.state repo.old).view (D.state repo.new).view }
     ensures later { (D.state repo.old).faults ≤ (D.state repo.new).faults }
@@ -42,10 +43,7 @@ fn open_repo<D: Disk>(repo: &mut D, path: &str) -> Result<(), Fault>
 
 fn settle<D: Disk>(alloc: Global, repo: &mut D, stanza: &str) -> Result<(), Fault>
     ensures begun { OnOk result ((q : Repository) (log : List Done) → KeepsRepository stanza.now q log (D.state repo.old).view → IsSome (D.state repo.old).view.now → IsBegun stanza.now q log (D.state repo.new).view) }
-    ensures now { (D.state repo.new).view.now ≡ (D.state repo.old).view.now }
-    ensures time { Rests (D.state repo.old).view (D.state repo.new).view }
-    ensures place { (D.state repo.new).opened ≡ (D.state repo.old).opened }
-    ensures later { (D.state repo.old).faults ≤ (D.state repo.new).faults }
+    ensures looks { Looks (D.state repo.old) (D.state repo.new) }
     ensures cause { IfErr result (OpeningCause [] (Rises (D.state repo.old).faults (D.state repo.new).faults) ⊥ ⊥ ⊥) }
 {
     match begin(alloc, repo, stanza) {
@@ -80,7 +78,7 @@ pub(crate) fn prepare_repository<D: Disk>(
     repo: &mut D,
     settings: &Settings,
 ) -> Result<(), Fault>
-    ensures place { OnOk result ((D.state repo.new).opened ≡ settings.now.repo1_path.now) }
+    ensures opens { Opens result settings.now.repo1_path.now (D.state repo.old).opened (D.state repo.new).opened }
     ensures now { (D.state repo.new).view.now ≡ (D.state repo.old).view.now }
     ensures time { Rests (D.state repo.old).view (D.state repo.new).view }
     ensures later { (D.state repo.old).faults ≤ (D.state repo.new).faults }
@@ -98,7 +96,8 @@ pub(crate) fn prepare_reading<D: Disk, T: Tree>(
     tree: &mut T,
     settings: &Settings,
 ) -> Result<(), Fault>
-    ensures places { OnOk result (((T.state tree.new).opened ≡ settings.now.pg1_path.now) × ((D.state repo.new).opened ≡ settings.now.repo1_path.now)) }
+    ensures opens_folder { Opens result settings.now.pg1_path.now (T.state tree.old).opened (T.state tree.new).opened }
+    ensures opens_repository { Opens result settings.now.repo1_path.now (D.state repo.old).opened (D.state repo.new).opened }
     ensures now { (D.state repo.new).view.now ≡ (D.state repo.old).view.now }
     ensures time { Rests (D.state repo.old).view (D.state repo.new).view }
     ensures nodes { (T.state tree.new).nodes ≡ (T.state tree.old).nodes }
@@ -122,7 +121,8 @@ pub(crate) fn prepare<D: Disk, T: Tree, K: Locks>(
     lock: &str,
 ) -> Result<(), Fault>
     requires { ¬ Contains (K.taken locks.old) lock.now }
-    ensures places { OnOk result (((T.state tree.new).opened ≡ settings.now.pg1_path.now) × ((D.state repo.new).opened ≡ settings.now.repo1_path.now)) }
+    ensures opens_folder { Opens result settings.now.pg1_path.now (T.state tree.old).opened (T.state tree.new).opened }
+    ensures opens_repository { Opens result settings.now.repo1_path.now (D.state repo.old).opened (D.state repo.new).opened }
     ensures begun { OnOk result ((q : Repository) (log : List Done) → KeepsRepository settings.now.stanza.now q log (D.state repo.old).view → IsSome (D.state repo.old).view.now → IsBegun settings.now.stanza.now q log (D.state repo.new).view) }
     ensures now { (D.state repo.new).view.now ≡ (D.state repo.old).view.now }
     ensures time { Rests (D.state repo.old).view (D.state repo.new).view }

@@ -1,5 +1,6 @@
 // A file is put into the data folder.
 ghost use Rattle.std.specs.Prelude.{◌≡◌, ◌≤◌, ◌↔◌, true, OnOk, IfOk, IfErr, IfSome, string_bytes};
+ghost use Rattle.pgb_outside.specs.States.{Looks};
 ghost use Rattle.pgb_outside.specs.Content.{SameBut};
 ghost use Rattle.pgb_outside.specs.Moments.{Rests};
 ghost use Rattle.pgb_outside.specs.Cause.{HasCause, Rises};
@@ -116,11 +117,8 @@ fn copy_new<D: Disk, T: Tree>(
 ) -> Result<Option<Copied>, Fault>
     ensures copies { Copies result (D.state repo.old).view.now from.now name.now (T.state tree.old).nodes (T.state tree.new).nodes }
     ensures cause { IfErr result (CopyCause (Rises (D.state repo.old).faults (D.state repo.new).faults) (Rises (T.state tree.old).faults (T.state tree.new).faults)) }
-    ensures now { (D.state repo.new).view.now ≡ (D.state repo.old).view.now }
-    ensures time { Rests (D.state repo.old).view (D.state repo.new).view }
-    ensures repo_place { (D.state repo.new).opened ≡ (D.state repo.old).opened }
+    ensures looks { Looks (D.state repo.old) (D.state repo.new) }
     ensures tree_place { (T.state tree.new).opened ≡ (T.state tree.old).opened }
-    ensures repo_later { (D.state repo.old).faults ≤ (D.state repo.new).faults }
     ensures tree_later { (T.state tree.old).faults ≤ (T.state tree.new).faults }
 {
     match tree.begin_new(name) {
@@ -186,11 +184,8 @@ pub(crate) fn pass_on<D: Disk, T: Tree>(
     ensures passes { Passes result (D.state repo.old).view.now (string_bytes from) sum.0 path.now (T.state tree.old).nodes (T.state tree.new).nodes }
     ensures changes { ChangesPath path.now (HasBytes (D.state repo.old).view.now (string_bytes from) sum.0) (T.state tree.old).nodes (T.state tree.new).nodes }
     ensures cause { IfErr result (PassCause (D.state repo.old).view.now (string_bytes from) sum.0 (Rises (D.state repo.old).faults (D.state repo.new).faults) (Rises (T.state tree.old).faults (T.state tree.new).faults)) }
-    ensures now { (D.state repo.new).view.now ≡ (D.state repo.old).view.now }
-    ensures time { Rests (D.state repo.old).view (D.state repo.new).view }
-    ensures repo_place { (D.state repo.new).opened ≡ (D.state repo.old).opened }
+    ensures looks { Looks (D.state repo.old) (D.state repo.new) }
     ensures tree_place { (T.state tree.new).opened ≡ (T.state tree.old).opened }
-    ensures repo_later { (D.state repo.old).faults ≤ (D.state repo.new).faults }
     ensures tree_later { (T.state tree.old).faults ≤ (T.state tree.new).faults }
 {
     let temporary = temporary_name(alloc, path)?;

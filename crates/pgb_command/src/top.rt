@@ -1,6 +1,7 @@
 // The top call.
 ghost use Rattle.std.specs.Prelude.{◌≡◌, ◌≤◌, ◌⊎◌, ◌≢◌, ◌++◌, [], true, false, None, Some, ℕ, List, Option, option_map, map, IfErr, IfSome, IsSome, IsSomeAnd, OnOk, IfOk, Contains, string_bytes};
 ghost use Rattle.pgb_outside.specs.Cause.{Rises};
+ghost use Rattle.pgb_outside.specs.States.{Opens};
 ghost use Rattle.pgb_model.specs.declared.clusters.Cluster.{Cluster};
 ghost use Rattle.pgb_model.specs.Text.{Text};
 ghost use Rattle.pgb_model.specs.Repository.{Stanza};
@@ -12,7 +13,7 @@ ghost use Rattle.pgb_command.specs.Answers.{Ending, finished, Answer, lines_of, 
 ghost use Rattle.pgb_command.specs.Cluster.{IsClusterOf};
 ghost use Rattle.pgb_command.specs.Commands.{IsCommandOf};
 ghost use Rattle.pgb_command.specs.Causes.{AskedCause, Cause};
-ghost use Rattle.pgb_command.specs.Doing.{AreHealed, PartDone, AllDone, NoneDone, ServedBy, OpensFor};
+ghost use Rattle.pgb_command.specs.Doing.{AreHealed, PartDone, AllDone, NoneDone, ServedBy, OpensPlaces, ArePlacesOpened};
 ghost use Rattle.pgb_command.specs.Locking.{lock_of, Locks as IsLocked, TakesLock, OnlyLocked, OnlyUnderLock, MayHold};
 ghost use Rattle.pgb_command.specs.Outcomes.{ending_of, answer_of, OnNothing};
 ghost use Rattle.pgb_command.specs.Getting.{Serves, FolderGoes, ServesArchived, LacksArchived};
@@ -56,7 +57,8 @@ fn perform<D: Disk, T: Tree, V: Wire, K: Locks>(
     ensures done { OnOk result (AllDone (asked_of settings.now) (T.state tree.old).nodes (D.state repo.old).view (D.state repo.new).view) }
     ensures none { OnNothing result (NoneDone (asked_of settings.now) (D.state repo.old).view (D.state repo.new).view) }
     ensures answered { AskedCause (asked_of settings.now) (D.state repo.old).view.now (T.state tree.old).nodes (Rises (D.state repo.old).faults (D.state repo.new).faults) (Rises (T.state tree.old).faults (T.state tree.new).faults) (Rises (K.faults locks.old) (K.faults locks.new)) (Rises (K.refusals locks.old) (K.refusals locks.new)) (V.pending server.old) (Rises (V.faults server.old) (V.faults server.new)) (ending_of result) }
-    ensures places { OnOk result (((T.state tree.new).opened ≡ settings.now.pg1_path.now) × ((D.state repo.new).opened ≡ settings.now.repo1_path.now)) }
+    ensures opens_folder { Opens result settings.now.pg1_path.now (T.state tree.old).opened (T.state tree.new).opened }
+    ensures opens_repository { Opens result settings.now.repo1_path.now (D.state repo.old).opened (D.state repo.new).opened }
     ensures nodes { (T.state tree.new).nodes ≡ (T.state tree.old).nodes }
     ensures locked { OnOk result (IsLocked settings.now.lock_path.now lock.now (K.took locks.old) (K.took locks.new)) }
     ensures only_locked { OnlyLocked settings.now.lock_path.now lock.now (K.took locks.old) (K.took locks.new) (D.state repo.old).view (D.state repo.new).view }
@@ -106,7 +108,8 @@ fn write<D: Disk, T: Tree, V: Wire, K: Locks>(
     ensures done { OnOk result (AllDone (asked_of settings.now) (T.state tree.old).nodes (D.state repo.old).view (D.state repo.new).view) }
     ensures none { OnNothing result (NoneDone (asked_of settings.now) (D.state repo.old).view (D.state repo.new).view) }
     ensures answered { AskedCause (asked_of settings.now) (D.state repo.old).view.now (T.state tree.old).nodes (Rises (D.state repo.old).faults (D.state repo.new).faults) (Rises (T.state tree.old).faults (T.state tree.new).faults) (Rises (K.faults locks.old) (K.faults locks.new)) (Rises (K.refusals locks.old) (K.refusals locks.new)) (V.pending server.old) (Rises (V.faults server.old) (V.faults server.new)) (ending_of result) }
-    ensures places { OnOk result (((T.state tree.new).opened ≡ settings.now.pg1_path.now) × ((D.state repo.new).opened ≡ settings.now.repo1_path.now)) }
+    ensures opens_folder { Opens result settings.now.pg1_path.now (T.state tree.old).opened (T.state tree.new).opened }
+    ensures opens_repository { Opens result settings.now.repo1_path.now (D.state repo.old).opened (D.state repo.new).opened }
     ensures nodes { (T.state tree.new).nodes ≡ (T.state tree.old).nodes }
     ensures locked { OnOk result (IsLocked settings.now.lock_path.now (writing_lock settings.now.stanza.now writing.entry) (K.took locks.old) (K.took locks.new)) }
     ensures only_locked { OnlyLocked settings.now.lock_path.now (writing_lock settings.now.stanza.now writing.entry) (K.took locks.old) (K.took locks.new) (D.state repo.old).view (D.state repo.new).view }
@@ -143,7 +146,8 @@ fn carry<D: Disk, T: Tree, V: Wire, K: Locks>(
     ensures none { OnNothing result (NoneDone (asked_of settings.now) (D.state repo.old).view (D.state repo.new).view) }
     ensures answered { AskedCause (asked_of settings.now) (D.state repo.old).view.now (T.state tree.old).nodes (Rises (D.state repo.old).faults (D.state repo.new).faults) (Rises (T.state tree.old).faults (T.state tree.new).faults) (Rises (K.faults locks.old) (K.faults locks.new)) (Rises (K.refusals locks.old) (K.refusals locks.new)) (V.pending server.old) (Rises (V.faults server.old) (V.faults server.new)) (ending_of result) }
     ensures served { ServedBy (ending_of result) (asked_of settings.now) (D.state repo.old).view.now (T.state tree.old).nodes (T.state tree.new).nodes }
-    ensures places { OnOk result (OpensFor (request_of settings.now.request) settings.now.pg1_path.now (T.state tree.new).opened × ((D.state repo.new).opened ≡ settings.now.repo1_path.now)) }
+    ensures places { OpensPlaces (asked_of settings.now) (T.state tree.old).opened (T.state tree.new).opened (D.state repo.old).opened (D.state repo.new).opened }
+    ensures opened { OnOk result (ArePlacesOpened (asked_of settings.now) (T.state tree.old).opened (T.state tree.new).opened (D.state repo.old).opened (D.state repo.new).opened) }
     ensures unused { (form : OutputWord) → request_of settings.now.request ≡ report form → (tree.new ≡ tree.old) × (locks.new ≡ locks.old) }
     ensures folder { FolderGoes settings.now.stanza.now settings.now.pg1_path.now (request_of settings.now.request) (D.state repo.old).view.now (T.state tree.old).nodes (T.state tree.new).nodes }
     ensures nodes { OnNothing result ((T.state tree.new).nodes ≡ (T.state tree.old).nodes) }
@@ -182,7 +186,8 @@ fn serve<D: Disk, T: Tree, V: Wire, K: Locks, I: Source>(
     ensures answered { Cause (map string_bytes words.now) (I.files config.old) (D.state repo.old).view.now (T.state tree.old).nodes (Rises (D.state repo.old).faults (D.state repo.new).faults) (Rises (T.state tree.old).faults (T.state tree.new).faults) (Rises (K.faults locks.old) (K.faults locks.new)) (Rises (K.refusals locks.old) (K.refusals locks.new)) (V.pending server.old) (Rises (V.faults server.old) (V.faults server.new)) (Rises (I.faults config.old) (I.faults config.new)) ⊥ (answer_of result) }
     ensures served { (a : Asked) → Asks (map string_bytes words.now) (I.files config.old) a → ServedBy (ending_of result.ending) a (D.state repo.old).view.now (T.state tree.old).nodes (T.state tree.new).nodes }
     ensures unasked { ((a : Asked) → ¬ MayAsk (map string_bytes words.now) (I.files config.old) a) → (repo.new ≡ repo.old) × (tree.new ≡ tree.old) × (locks.new ≡ locks.old) }
-    ensures places { OnOk result.ending ((a : Asked) → Asks (map string_bytes words.now) (I.files config.old) a → OpensFor a.request a.data_folder (T.state tree.new).opened × ((D.state repo.new).opened ≡ a.repository)) }
+    ensures places { (a : Asked) → Asks (map string_bytes words.now) (I.files config.old) a → OpensPlaces a (T.state tree.old).opened (T.state tree.new).opened (D.state repo.old).opened (D.state repo.new).opened }
+    ensures opened { OnOk result.ending ((a : Asked) → Asks (map string_bytes words.now) (I.files config.old) a → ArePlacesOpened a (T.state tree.old).opened (T.state tree.new).opened (D.state repo.old).opened (D.state repo.new).opened) }
     ensures unused { (a : Asked) → Asks (map string_bytes words.now) (I.files config.old) a → (form : OutputWord) → a.request ≡ report form → (tree.new ≡ tree.old) × (locks.new ≡ locks.old) }
     ensures locked { OnOk result.ending ((a : Asked) → Asks (map string_bytes words.now) (I.files config.old) a → TakesLock a.lock_folder (lock_of a) (K.took locks.old) (K.took locks.new)) }
     ensures only_locked { (a : Asked) → Asks (map string_bytes words.now) (I.files config.old) a → OnlyUnderLock a.lock_folder (lock_of a) (K.took locks.old) (K.took locks.new) (D.state repo.old).view (D.state repo.new).view }
@@ -278,12 +283,16 @@ pub fn run<
         → (s : Stanza) → IsSome (D.state outside.old.repo).view.now → NowStands a.stanza (Some s) (D.state outside.old.repo).view.now
         → (unknown : List Text) × (lines : Text) × ReportsStanza form a.stanza s lines × (O.written outside.new.out ≡ option_map (λ text. text ++ lines_of (record { unknown = unknown; ending = finished lines })) (O.written outside.old.out)) }
 
-    // At 0 the members of the pairs that the command heals agree, and all four info files of a new stanza are those of the cluster. The opened
-    // places are those of the words.
+    // At 0 the members of the pairs that the command heals agree, and all four info files of a new stanza are those of the cluster.
     ensures agrees { result ≡ 0 → (a : Asked) → Asks (map string_bytes words.now) (I.files outside.old.config) a → IsSome (D.state outside.old.repo).view.now → IfSome (D.state outside.new.repo).view.now (AreHealed a.request a.stanza) }
     ensures members { result ≡ 0 → (a : Asked) → Asks (map string_bytes words.now) (I.files outside.old.config) a → a.request ≡ create → (c : Cluster) → IsSomeAnd (T.state outside.old.tree).nodes (λ f. IsClusterOf f (Some c)) → IfSome (D.state outside.old.repo).view.now (LacksStanza a.stanza) → IsSome (D.state outside.old.repo).view.now
         → IfSome (D.state outside.new.repo).view.now (HasNewPairs a.stanza c) }
-    ensures places { result ≡ 0 → (a : Asked) → Asks (map string_bytes words.now) (I.files outside.old.config) a → OpensFor a.request a.data_folder (T.state outside.new.tree).opened × ((D.state outside.new.repo).opened ≡ a.repository) }
+
+    // No place but those of the words is opened, and at 0 each of them was.
+    ensures places { (a : Asked) → Asks (map string_bytes words.now) (I.files outside.old.config) a
+        → OpensPlaces a (T.state outside.old.tree).opened (T.state outside.new.tree).opened (D.state outside.old.repo).opened (D.state outside.new.repo).opened }
+    ensures opened { result ≡ 0 → (a : Asked) → Asks (map string_bytes words.now) (I.files outside.old.config) a
+        → ArePlacesOpened a (T.state outside.old.tree).opened (T.state outside.new.tree).opened (D.state outside.old.repo).opened (D.state outside.new.repo).opened }
 
     // At 0 the command's lock was taken, and without it nothing is done. No lock is held afterwards.
     ensures locked { result ≡ 0 → (a : Asked) → Asks (map string_bytes words.now) (I.files outside.old.config) a → TakesLock a.lock_folder (lock_of a) (K.took outside.old.locks) (K.took outside.new.locks) }

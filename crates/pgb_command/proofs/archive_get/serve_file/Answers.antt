@@ -22,7 +22,7 @@ returns-clause-cause g c =
     let name = c.args.wanted.now.name in
     let disk_rose = Rises (g.D.Disk.state c.read_archive_value.new.repo).faults (g.D.Disk.state c.search.new.repo).faults in
     let tree_rose = Rises (g.T.Tree.state c.args.tree.now).faults (g.T.Tree.state c.search.new.tree).faults in
-    let seen = subst (λ (o : Option Content). IfErr c.search.result (SearchCause c.deref-2.result.now stanza told name o disk_rose tree_rose)) c.read_archive_value.ensures.now c.search.ensures.cause in
+    let seen = subst (λ (o : Option Content). IfErr c.search.result (SearchCause c.deref-2.result.now stanza told name o disk_rose tree_rose)) c.read_archive_value.ensures.looks.now c.search.ensures.cause in
     sought_err stanza told name (g.D.Disk.state c.args.repo.now).view.now (archive_info_of c.in_ok-info.info) c.in_ok-info.ensures.found c.search.result disk_rose _ tree_rose tree_rose
-    (λ r. omega (arith, r, c.read_archive_value.ensures.later)) (λ r. r)
+    (λ r. omega (arith, r, c.read_archive_value.ensures.looks.later)) (λ r. r)
     (subst (λ (h : List ClusterId). IfErr c.search.result (SearchCause h stanza told name (g.D.Disk.state c.args.repo.now).view.now disk_rose tree_rose)) c.deref-2.ensures.value seen)

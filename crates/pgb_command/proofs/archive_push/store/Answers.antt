@@ -37,9 +37,9 @@ returns-in_err-pushed-clause-part g c = λ command asked.
     let x = c.in_ok-id.ensures.current in
     let log = c.in_ok-log.log in
     let name = c.deref.result.now in
-    let same = c.open_log_file.ensures.nodes ∙ c.read_cluster.ensures.nodes in
+    let same = c.open_log_file.ensures.looks.nodes ∙ c.read_cluster.ensures.looks.nodes in
     let lies = opened_lies name log (g.T.Tree.state c.read_cluster.new.tree).nodes wal c.in_ok-log.ensures.opened (c.deref.ensures ∙ c.requires.1) in
-    let there = opened_there name log nodes (g.T.Tree.state c.read_cluster.new.tree).nodes c.read_cluster.ensures.nodes c.in_ok-log.ensures.opened in
+    let there = opened_there name log nodes (g.T.Tree.state c.read_cluster.new.tree).nodes c.read_cluster.ensures.looks.nodes c.in_ok-log.ensures.opened in
     let b = told_bytes folder path wal c.requires.0 (known_path log.what) lies (λ f. IsPushOf f folder path command) nodes (g.T.Tree.state c.open_log_file.new.tree).nodes same there asked in
     store_part stanza folder path nodes wal b.0 b.2 c.in_ok-id.id x.0 x.1 (g.D.Disk.state c.args.repo.now).view (g.D.Disk.state c.current_id.new.repo).view (g.D.Disk.state c.push_from.new.d).view x.3 c.current_id.ensures.stays c.push_from.ensures.told (c.push_from.ensures.part b.0 b.1) command asked
 
@@ -53,9 +53,9 @@ returns-in_err-pushed-clause-goes g c = λ command asked.
     let x = c.in_ok-id.ensures.current in
     let log = c.in_ok-log.log in
     let name = c.deref.result.now in
-    let same = c.open_log_file.ensures.nodes ∙ c.read_cluster.ensures.nodes in
+    let same = c.open_log_file.ensures.looks.nodes ∙ c.read_cluster.ensures.looks.nodes in
     let lies = opened_lies name log (g.T.Tree.state c.read_cluster.new.tree).nodes wal c.in_ok-log.ensures.opened (c.deref.ensures ∙ c.requires.1) in
-    let there = opened_there name log nodes (g.T.Tree.state c.read_cluster.new.tree).nodes c.read_cluster.ensures.nodes c.in_ok-log.ensures.opened in
+    let there = opened_there name log nodes (g.T.Tree.state c.read_cluster.new.tree).nodes c.read_cluster.ensures.looks.nodes c.in_ok-log.ensures.opened in
     let b = told_bytes folder path wal c.requires.0 (known_path log.what) lies (λ f. IsPushOf f folder path command) nodes (g.T.Tree.state c.open_log_file.new.tree).nodes same there asked in
     store_goes stanza folder path nodes wal b.0 b.2 c.in_ok-id.id x.0 x.1 (g.D.Disk.state c.args.repo.now).view (g.D.Disk.state c.current_id.new.repo).view (g.D.Disk.state c.push_from.new.d).view x.3 c.current_id.ensures.stays c.current_id.ensures.goes c.current_id.ensures.ends (c.push_from.ensures.moves b.0 b.1) command asked
 
@@ -75,14 +75,14 @@ returns-in_err-pushed-clause-cause g c =
     let x = c.in_ok-id.ensures.current in
     let log = c.in_ok-log.log in
     let name = c.deref.result.now in
-    let same = c.open_log_file.ensures.nodes ∙ c.read_cluster.ensures.nodes in
+    let same = c.open_log_file.ensures.looks.nodes ∙ c.read_cluster.ensures.looks.nodes in
     let lies = opened_lies name log (g.T.Tree.state c.read_cluster.new.tree).nodes wal c.in_ok-log.ensures.opened (c.deref.ensures ∙ c.requires.1) in
-    let there = opened_there name log nodes (g.T.Tree.state c.read_cluster.new.tree).nodes c.read_cluster.ensures.nodes c.in_ok-log.ensures.opened in
+    let there = opened_there name log nodes (g.T.Tree.state c.read_cluster.new.tree).nodes c.read_cluster.ensures.looks.nodes c.in_ok-log.ensures.opened in
     let fits = c.in_ok-id.ensures.fits in
     let of : IsCurrent stanza (g.D.Disk.state c.args.repo.now).view.now nodes c.in_ok-told.told x.0 = record { tells = c.in_ok-told.ensures.told; current = x.3; same = x.2 } in
     push_err stanza folder path wal c.requires.0 (known_path log.what) lies nodes (g.T.Tree.state c.open_log_file.new.tree).nodes same there (g.D.Disk.state c.args.repo.now).view.now (g.D.Disk.state c.current_id.new.repo).view.now c.in_ok-told.told x.0 of
     (subst (λ (i : ArchiveId). i.version < 2 ^ 32) x.1 fits.0) (subst (λ (i : ArchiveId). i.number < 2 ^ 32) x.1 fits.1) c.current_id.ensures.stays.told c.in_ok-id.ensures.files
-    c.from_residual-in_err-pushed.result _ _ _ _ _ _ c.in_err-pushed.field-0.0 _ _ (λ rose. omega (arith, rose, c.current_id.ensures.later)) (λ rose. omega (arith, rose, c.open_log_file.ensures.later, c.read_cluster.ensures.later)) c.from_residual-in_err-pushed.ensures.1
+    c.from_residual-in_err-pushed.result _ _ _ _ _ _ c.in_err-pushed.field-0.0 _ _ (λ rose. omega (arith, rose, c.current_id.ensures.frame.later)) (λ rose. omega (arith, rose, c.open_log_file.ensures.looks.later, c.read_cluster.ensures.looks.later)) c.from_residual-in_err-pushed.ensures.1
     (subst (λ (i : ArchiveId). PushFromCause stanza i wal c.in_ok-told.told.system (told_file (g.T.Tree.state c.open_log_file.new.tree).nodes (known_path log.what)) c.front.result.bytes.now c.front.result.length (g.D.Disk.state c.current_id.new.repo).view.now (Rises (g.D.Disk.state c.current_id.new.repo).faults (g.D.Disk.state c.push_from.new.d).faults) (Rises (g.T.Tree.state c.open_log_file.new.tree).faults (g.T.Tree.state c.push_from.new.holder).faults) c.in_err-pushed.field-0.0) x.1 c.in_err-pushed.ensures.cause)
 
 pub returns-clause-done : goal.returns-clause-done
@@ -95,9 +95,9 @@ returns-clause-done g c = λ command asked.
     let x = c.in_ok-id.ensures.current in
     let log = c.in_ok-log.log in
     let name = c.deref.result.now in
-    let same = c.open_log_file.ensures.nodes ∙ c.read_cluster.ensures.nodes in
+    let same = c.open_log_file.ensures.looks.nodes ∙ c.read_cluster.ensures.looks.nodes in
     let lies = opened_lies name log (g.T.Tree.state c.read_cluster.new.tree).nodes wal c.in_ok-log.ensures.opened (c.deref.ensures ∙ c.requires.1) in
-    let there = opened_there name log nodes (g.T.Tree.state c.read_cluster.new.tree).nodes c.read_cluster.ensures.nodes c.in_ok-log.ensures.opened in
+    let there = opened_there name log nodes (g.T.Tree.state c.read_cluster.new.tree).nodes c.read_cluster.ensures.looks.nodes c.in_ok-log.ensures.opened in
     let b = told_bytes folder path wal c.requires.0 (known_path log.what) lies (λ f. IsPushOf f folder path command) nodes (g.T.Tree.state c.open_log_file.new.tree).nodes same there asked in
     store_whole stanza folder path nodes wal b.0 b.2 c.in_ok-id.id x.0 x.1 (g.D.Disk.state c.args.repo.now).view (g.D.Disk.state c.current_id.new.repo).view (g.D.Disk.state c.push_from.new.d).view x.3 c.current_id.ensures.stays c.push_from.ensures.told (c.in_ok-pushed.ensures.done b.0 b.1) command asked
 
@@ -111,9 +111,9 @@ returns-clause-part g c = λ command asked.
     let x = c.in_ok-id.ensures.current in
     let log = c.in_ok-log.log in
     let name = c.deref.result.now in
-    let same = c.open_log_file.ensures.nodes ∙ c.read_cluster.ensures.nodes in
+    let same = c.open_log_file.ensures.looks.nodes ∙ c.read_cluster.ensures.looks.nodes in
     let lies = opened_lies name log (g.T.Tree.state c.read_cluster.new.tree).nodes wal c.in_ok-log.ensures.opened (c.deref.ensures ∙ c.requires.1) in
-    let there = opened_there name log nodes (g.T.Tree.state c.read_cluster.new.tree).nodes c.read_cluster.ensures.nodes c.in_ok-log.ensures.opened in
+    let there = opened_there name log nodes (g.T.Tree.state c.read_cluster.new.tree).nodes c.read_cluster.ensures.looks.nodes c.in_ok-log.ensures.opened in
     let b = told_bytes folder path wal c.requires.0 (known_path log.what) lies (λ f. IsPushOf f folder path command) nodes (g.T.Tree.state c.open_log_file.new.tree).nodes same there asked in
     store_part stanza folder path nodes wal b.0 b.2 c.in_ok-id.id x.0 x.1 (g.D.Disk.state c.args.repo.now).view (g.D.Disk.state c.current_id.new.repo).view (g.D.Disk.state c.push_from.new.d).view x.3 c.current_id.ensures.stays c.push_from.ensures.told (c.push_from.ensures.part b.0 b.1) command asked
 
@@ -127,9 +127,9 @@ returns-clause-goes g c = λ command asked.
     let x = c.in_ok-id.ensures.current in
     let log = c.in_ok-log.log in
     let name = c.deref.result.now in
-    let same = c.open_log_file.ensures.nodes ∙ c.read_cluster.ensures.nodes in
+    let same = c.open_log_file.ensures.looks.nodes ∙ c.read_cluster.ensures.looks.nodes in
     let lies = opened_lies name log (g.T.Tree.state c.read_cluster.new.tree).nodes wal c.in_ok-log.ensures.opened (c.deref.ensures ∙ c.requires.1) in
-    let there = opened_there name log nodes (g.T.Tree.state c.read_cluster.new.tree).nodes c.read_cluster.ensures.nodes c.in_ok-log.ensures.opened in
+    let there = opened_there name log nodes (g.T.Tree.state c.read_cluster.new.tree).nodes c.read_cluster.ensures.looks.nodes c.in_ok-log.ensures.opened in
     let b = told_bytes folder path wal c.requires.0 (known_path log.what) lies (λ f. IsPushOf f folder path command) nodes (g.T.Tree.state c.open_log_file.new.tree).nodes same there asked in
     store_goes stanza folder path nodes wal b.0 b.2 c.in_ok-id.id x.0 x.1 (g.D.Disk.state c.args.repo.now).view (g.D.Disk.state c.current_id.new.repo).view (g.D.Disk.state c.push_from.new.d).view x.3 c.current_id.ensures.stays c.current_id.ensures.goes c.current_id.ensures.ends (c.push_from.ensures.moves b.0 b.1) command asked
 
@@ -143,9 +143,9 @@ returns-clause-ends g c = λ command asked.
     let x = c.in_ok-id.ensures.current in
     let log = c.in_ok-log.log in
     let name = c.deref.result.now in
-    let same = c.open_log_file.ensures.nodes ∙ c.read_cluster.ensures.nodes in
+    let same = c.open_log_file.ensures.looks.nodes ∙ c.read_cluster.ensures.looks.nodes in
     let lies = opened_lies name log (g.T.Tree.state c.read_cluster.new.tree).nodes wal c.in_ok-log.ensures.opened (c.deref.ensures ∙ c.requires.1) in
-    let there = opened_there name log nodes (g.T.Tree.state c.read_cluster.new.tree).nodes c.read_cluster.ensures.nodes c.in_ok-log.ensures.opened in
+    let there = opened_there name log nodes (g.T.Tree.state c.read_cluster.new.tree).nodes c.read_cluster.ensures.looks.nodes c.in_ok-log.ensures.opened in
     let b = told_bytes folder path wal c.requires.0 (known_path log.what) lies (λ f. IsPushOf f folder path command) nodes (g.T.Tree.state c.open_log_file.new.tree).nodes same there asked in
     store_ends stanza folder path nodes wal b.0 b.2 c.in_ok-id.id x.0 x.1 (g.D.Disk.state c.args.repo.now).view (g.D.Disk.state c.current_id.new.repo).view (g.D.Disk.state c.push_from.new.d).view x.3 c.current_id.ensures.stays c.current_id.ensures.ends (c.in_ok-pushed.ensures.stored b.0 b.1) command asked
 
@@ -167,9 +167,9 @@ returns-clause-stored g c =
     let x = c.in_ok-id.ensures.current in
     let log = c.in_ok-log.log in
     let name = c.deref.result.now in
-    let same = c.open_log_file.ensures.nodes ∙ c.read_cluster.ensures.nodes in
+    let same = c.open_log_file.ensures.looks.nodes ∙ c.read_cluster.ensures.looks.nodes in
     let lies = opened_lies name log (g.T.Tree.state c.read_cluster.new.tree).nodes wal c.in_ok-log.ensures.opened (c.deref.ensures ∙ c.requires.1) in
-    let there = opened_there name log nodes (g.T.Tree.state c.read_cluster.new.tree).nodes c.read_cluster.ensures.nodes c.in_ok-log.ensures.opened in
+    let there = opened_there name log nodes (g.T.Tree.state c.read_cluster.new.tree).nodes c.read_cluster.ensures.looks.nodes c.in_ok-log.ensures.opened in
     let a = c.in_ok-pushed.ensures.answered in
     let has = read_bytes folder path wal c.requires.0 (known_path log.what) lies nodes (g.T.Tree.state c.open_log_file.new.tree).nodes same there a.bytes a.read.told in
     let ready : IsReady stanza folder path (g.D.Disk.state c.args.repo.now).view.now nodes wal a.bytes c.in_ok-told.told x.0 = record { has = has; of = record { tells = c.in_ok-told.ensures.told; current = x.3; same = x.2 } } in
@@ -182,4 +182,4 @@ returns-clause-stored g c =
 
 pub push_from-requires-clause-told : goal.push_from-requires-clause-told
 push_from-requires-clause-told g c =
-    opened_read c.deref.result.now c.in_ok-log.log (g.T.Tree.state c.read_cluster.new.tree).nodes (g.T.Tree.state c.open_log_file.new.tree).nodes c.open_log_file.ensures.nodes c.front.result.bytes.now c.front.result.length c.front.ensures.bytes c.front.ensures.length c.in_ok-log.ensures.opened
+    opened_read c.deref.result.now c.in_ok-log.log (g.T.Tree.state c.read_cluster.new.tree).nodes (g.T.Tree.state c.open_log_file.new.tree).nodes c.open_log_file.ensures.looks.nodes c.front.result.bytes.now c.front.result.length c.front.ensures.bytes c.front.ensures.length c.in_ok-log.ensures.opened

@@ -14,11 +14,11 @@ pub returns-in_err-told-clause-cause : goal.returns-in_err-told-clause-cause
 returns-in_err-told-clause-cause g c = folder_refuses c.from_residual-in_err-told.result (g.T.Tree.state c.args.tree.now).nodes (Rises (g.T.Tree.state c.args.tree.now).faults (g.T.Tree.state c.read_version_file.new.tree).faults) c.deref.result.now c.deref-2.result.now c.in_err-told.field-0.0
     c.from_residual-in_err-told.ensures.1
     (as_read _ _ (λ f. option_map (take 16) (control_bytes f)) _ _ refl c.deref.ensures.value c.in_ok-control.ensures.bytes)
-    (as_read _ _ (λ f. option_map (take 33) (version_bytes f)) _ _ c.read_control_file.ensures.nodes c.deref-2.ensures.value c.in_ok-version.ensures.bytes)
+    (as_read _ _ (λ f. option_map (take 33) (version_bytes f)) _ _ c.read_control_file.ensures.looks.nodes c.deref-2.ensures.value c.in_ok-version.ensures.bytes)
     c.in_err-told.ensures.refused
 
 pub returns-clause-told : goal.returns-clause-told
 returns-clause-told g c = folder_tells (g.T.Tree.state c.args.tree.now).nodes c.deref.result.now c.deref-2.result.now c.in_ok-told.told
     (as_read _ _ (λ f. option_map (take 16) (control_bytes f)) _ _ refl c.deref.ensures.value c.in_ok-control.ensures.bytes)
-    (as_read _ _ (λ f. option_map (take 33) (version_bytes f)) _ _ c.read_control_file.ensures.nodes c.deref-2.ensures.value c.in_ok-version.ensures.bytes)
+    (as_read _ _ (λ f. option_map (take 33) (version_bytes f)) _ _ c.read_control_file.ensures.looks.nodes c.deref-2.ensures.value c.in_ok-version.ensures.bytes)
     c.in_ok-told.ensures.told

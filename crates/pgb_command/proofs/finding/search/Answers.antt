@@ -6,7 +6,7 @@ use Rattle.pgb_archive.specs.Stored.{StoresNone}
 use Rattle.pgb_command.specs.Storing.{id_kept}
 use Rattle.pgb_command.specs.Getting.{IsSame, FoundIn}
 use Rattle.pgb_command.specs.Serving.{AreBytes, Puts, UnderCause}
-use Rattle.pgb_command.proofs.Pushes.{rests_rests}
+use Rattle.pgb_outside.proofs.States.{looks_on}
 use Rattle.pgb_command.proofs.Passes.{goes_as}
 use Rattle.pgb_command.proofs.Searches.{parts_on, more_absent, found_in, cause_in, cause_err}
 use Rattle.pgb_command.proofs.finding.search.Goals as goal
@@ -22,7 +22,7 @@ returns-in_err-serve_under-clause-changes g c =
     let is = parts_on c.args.history.now c.loop-cluster.rest.now c.in-Some.earlier.now cluster i.parts.0 i.parts.1 last in
     let now = (g.D.Disk.state c.args.repo.now).view.now in
     goes_as (λ b. IsSame told cluster × AreBytes stanza (id_kept cluster) name (g.D.Disk.state c.loop-cluster.repo).view.now b) (λ b. IfSome now (FoundIn c.args.history.now stanza told name b)) c.args.wanted.now.path.now _ _ _ i.nodes
-    (λ b h. found_in stanza told name c.args.history.now c.in-Some.earlier.now cluster i.parts.0 is c.requires.numbers h.0 now b i.parts.2 (subst (λ (o : Option Content). AreBytes stanza (id_kept cluster) name o b) i.now h.1))
+    (λ b h. found_in stanza told name c.args.history.now c.in-Some.earlier.now cluster i.parts.0 is c.requires.numbers h.0 now b i.parts.2 (subst (λ (o : Option Content). AreBytes stanza (id_kept cluster) name o b) i.looks.now h.1))
     c.in_err-serve_under.ensures.changes
 
 pub returns-in_err-serve_under-clause-cause : goal.returns-in_err-serve_under-clause-cause
@@ -38,9 +38,9 @@ returns-in_err-serve_under-clause-cause g c =
     let disk_rose = Rises (g.D.Disk.state c.loop-cluster.repo).faults (g.D.Disk.state c.serve_under.new.repo).faults in
     let tree_rose = Rises (g.T.Tree.state c.loop-cluster.tree).faults (g.T.Tree.state c.serve_under.new.tree).faults in
     let e = c.in_err-serve_under.field-0.0 in
-    let under = subst (λ (o : Option Content). UnderCause (IsSame told cluster) stanza (id_kept cluster) name o disk_rose tree_rose e) i.now c.in_err-serve_under.ensures.cause in
+    let under = subst (λ (o : Option Content). UnderCause (IsSame told cluster) stanza (id_kept cluster) name o disk_rose tree_rose e) i.looks.now c.in_err-serve_under.ensures.cause in
     cause_err stanza told name c.from_residual.result e c.from_residual.ensures.1 c.args.history.now now _ _
-    (cause_in stanza told name c.args.history.now c.in-Some.earlier.now cluster i.parts.0 is c.requires.numbers now disk_rose _ tree_rose _ (λ r. omega (arith, r, i.repo_later)) (λ r. omega (arith, r, i.tree_later)) i.parts.2 e under)
+    (cause_in stanza told name c.args.history.now c.in-Some.earlier.now cluster i.parts.0 is c.requires.numbers now disk_rose _ tree_rose _ (λ r. omega (arith, r, i.looks.later)) (λ r. omega (arith, r, i.tree_later)) i.parts.2 e under)
 
 pub returns-then-branch-clause-puts : goal.returns-then-branch-clause-puts
 returns-then-branch-clause-puts g c =
@@ -55,7 +55,7 @@ returns-then-branch-clause-puts g c =
     let served : c.in_ok-serve_under.field-0 ≡ true = search rules in
     let h = subst (λ (b : Bool). Puts (Ok b) (λ b. IsSame told cluster × AreBytes stanza (id_kept cluster) name (g.D.Disk.state c.loop-cluster.repo).view.now b) (IsSame told cluster → IfSome (g.D.Disk.state c.loop-cluster.repo).view.now (StoresNone stanza (id_kept cluster) name)) c.args.wanted.now.path.now (g.T.Tree.state c.loop-cluster.tree).nodes (g.T.Tree.state c.serve_under.new.tree).nodes) served c.in_ok-serve_under.ensures.puts in (
       h.0,
-      found_in stanza told name c.args.history.now c.in-Some.earlier.now cluster i.parts.0 is c.requires.numbers h.1.0 now h.0 i.parts.2 (subst (λ (o : Option Content). AreBytes stanza (id_kept cluster) name o h.0) i.now h.1.1),
+      found_in stanza told name c.args.history.now c.in-Some.earlier.now cluster i.parts.0 is c.requires.numbers h.1.0 now h.0 i.parts.2 (subst (λ (o : Option Content). AreBytes stanza (id_kept cluster) name o h.0) i.looks.now h.1.1),
       h.2,
     )
 
@@ -70,7 +70,7 @@ returns-then-branch-clause-changes g c =
     let is = parts_on c.args.history.now c.loop-cluster.rest.now c.in-Some.earlier.now cluster i.parts.0 i.parts.1 last in
     let now = (g.D.Disk.state c.args.repo.now).view.now in
     goes_as (λ b. IsSame told cluster × AreBytes stanza (id_kept cluster) name (g.D.Disk.state c.loop-cluster.repo).view.now b) (λ b. IfSome now (FoundIn c.args.history.now stanza told name b)) c.args.wanted.now.path.now _ _ _ i.nodes
-    (λ b h. found_in stanza told name c.args.history.now c.in-Some.earlier.now cluster i.parts.0 is c.requires.numbers h.0 now b i.parts.2 (subst (λ (o : Option Content). AreBytes stanza (id_kept cluster) name o b) i.now h.1))
+    (λ b h. found_in stanza told name c.args.history.now c.in-Some.earlier.now cluster i.parts.0 is c.requires.numbers h.0 now b i.parts.2 (subst (λ (o : Option Content). AreBytes stanza (id_kept cluster) name o b) i.looks.now h.1))
     c.in_ok-serve_under.ensures.changes
 
 pub loop-cluster-preserved : goal.loop-cluster-preserved
@@ -86,12 +86,9 @@ loop-cluster-preserved g c =
     let none : c.in_ok-serve_under.field-0 ≡ false = search rules in
     let h = subst (λ (b : Bool). Puts (Ok b) (λ b. IsSame told cluster × AreBytes stanza (id_kept cluster) name (g.D.Disk.state c.loop-cluster.repo).view.now b) (IsSame told cluster → IfSome (g.D.Disk.state c.loop-cluster.repo).view.now (StoresNone stanza (id_kept cluster) name)) c.args.wanted.now.path.now (g.T.Tree.state c.loop-cluster.tree).nodes (g.T.Tree.state c.serve_under.new.tree).nodes) none c.in_ok-serve_under.ensures.puts in
     record {
-      parts = (cluster ∷ i.parts.0, is, more_absent stanza told name now cluster i.parts.0 (subst (λ (o : Option Content). IsSame told cluster → IfSome o (StoresNone stanza (id_kept cluster) name)) i.now h.0) i.parts.2);
+      parts = (cluster ∷ i.parts.0, is, more_absent stanza told name now cluster i.parts.0 (subst (λ (o : Option Content). IsSame told cluster → IfSome o (StoresNone stanza (id_kept cluster) name)) i.looks.now h.0) i.parts.2);
       nodes = h.1 ∙ i.nodes;
-      now = c.serve_under.ensures.now ∙ i.now;
-      time = rests_rests _ _ _ i.time c.serve_under.ensures.time;
-      repo_place = c.serve_under.ensures.repo_place ∙ i.repo_place;
+      looks = looks_on _ _ _ i.looks c.serve_under.ensures.looks;
       tree_place = c.serve_under.ensures.tree_place ∙ i.tree_place;
-      repo_later = omega (arith, i.repo_later, c.serve_under.ensures.repo_later);
       tree_later = omega (arith, i.tree_later, c.serve_under.ensures.tree_later);
     }

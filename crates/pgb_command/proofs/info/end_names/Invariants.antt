@@ -1,14 +1,11 @@
-use Rattle.std.proofs.Common.{◌≡◌, ◌≤◌, take}
+use Rattle.std.proofs.Common.{take}
 use Rattle.std.specs.Prelude.{IfSome}
-use Rattle.pgb_outside.specs.Moments.{Rests}
+use Rattle.pgb_outside.specs.States.{Looks}
 use Rattle.pgb_command.specs.Reporting.{HaveEnds}
 use Rattle.pgb_command.proofs.info.end_names.Given as goal
 
 abbrev pub invariant-loop-cluster : goal.invariant-loop-cluster
 invariant-loop-cluster g l = let D = g.D.Disk in record {
   ends : IfSome (D.state l.fn.repo).view.now (λ f. HaveEnds l.stanza (take l.cluster-index l.history) f l.names.items);
-  now : (D.state l.repo).view.now ≡ (D.state l.fn.repo).view.now;
-  time : Rests (D.state l.fn.repo).view (D.state l.repo).view;
-  place : (D.state l.repo).opened ≡ (D.state l.fn.repo).opened;
-  later : (D.state l.fn.repo).faults ≤ (D.state l.repo).faults;
+  looks : Looks (D.state l.fn.repo) (D.state l.repo);
 }

@@ -12,6 +12,6 @@ returns-in_err-backup-clause-cause g c =
     let rose = Rises (g.D.Disk.state c.read_archive_value.new.repo).faults (g.D.Disk.state c.read_backup_value.new.repo).faults in
     let e = c.in_err-backup.field-0.0 in
     backup_err stanza (g.D.Disk.state c.args.repo.now).view.now (archive_info_of c.in_ok-archive.archive) c.in_ok-archive.ensures.found rose _
-    (λ r. omega (arith, r, c.read_archive_value.ensures.later))
+    (λ r. omega (arith, r, c.read_archive_value.ensures.looks.later))
     c.from_residual-in_err-backup.result e c.from_residual-in_err-backup.ensures.1
-    (subst (λ (o : Option Content). BackupCause stanza o rose e) c.read_archive_value.ensures.now c.in_err-backup.ensures.cause)
+    (subst (λ (o : Option Content). BackupCause stanza o rose e) c.read_archive_value.ensures.looks.now c.in_err-backup.ensures.cause)

@@ -17,8 +17,8 @@ loop-buf-preserved g c =
     let more : c.extend_from_slice.new.self.items ≡ bytes.items ++ take c.in-Some.n c.read.new.buf = grind (arith, common_steps) in
     record {
       nodes = c.read.ensures.nodes ∙ i.nodes;
-      place = c.read.ensures.place ∙ i.place;
-      proper = c.read.ensures.proper ∙ i.proper;
+      place = c.read.ensures.looks.opened ∙ i.place;
+      proper = c.read.ensures.looks.proper ∙ i.proper;
       later = omega (arith, i.later, c.read.ensures.cause.later);
       front = inr (front_more (g.T.Tree.state c.args.tree.now).nodes (λ (f : Nodes). file_bytes (f path)) bytes.items c.read.new.buf c.extend_from_slice.new.self.items (vec_len bytes) c.in-Some.n (length c.loop-buf.buf) (vec_len c.extend_from_slice.new.self) reads i.front (grind (arith, common_steps)) more (grind (arith, common_steps)));
     }

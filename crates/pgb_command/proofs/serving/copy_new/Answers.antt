@@ -3,7 +3,7 @@ use Rattle.std.specs.Prelude.{IfSome}
 use Rattle.std.proofs.lemmas.Grind.{common_steps}
 use Rattle.pgb_outside.specs.Content.{Content, Reads}
 use Rattle.pgb_disk.proofs.Read.{front_more}
-use Rattle.pgb_command.proofs.Pushes.{rests_rests}
+use Rattle.pgb_outside.proofs.States.{looks_on}
 use Rattle.pgb_command.proofs.Passes.{begun_more}
 use Rattle.pgb_command.proofs.serving.copy_new.Goals as goal
 
@@ -16,7 +16,7 @@ loop-told-preserved g c =
     let piece = take count c.read.new.buf in
     let from = c.args.from.now in
     let reads : IfSome (g.D.Disk.state c.args.repo.now).view.now (λ (f : Content). Reads (f from) told (length c.loop-told.room) c.read.new.buf (Some count)) =
-    subst (λ (o : Option Content). IfSome o (λ (f : Content). Reads (f from) told (length c.loop-told.room) c.read.new.buf (Some count))) i.now (rw (c.in-Ok-Some.field-0-is) at c.in-Ok-Some.ensures.bytes) in
+    subst (λ (o : Option Content). IfSome o (λ (f : Content). Reads (f from) told (length c.loop-told.room) c.read.new.buf (Some count))) i.looks.now (rw (c.in-Ok-Some.field-0-is) at c.in-Ok-Some.ensures.bytes) in
     let within : count ≤ 65536 = grind (arith, common_steps) in
     let long : length (bytes ++ piece) ≡ told + count = grind (arith, common_steps) in
     record {
@@ -28,10 +28,7 @@ loop-told-preserved g c =
         inr (front_more (g.D.Disk.state c.args.repo.now).view.now (λ (f : Content). f from) bytes c.read.new.buf (bytes ++ piece) told count (length c.loop-told.room) (told + count) reads i.copied.3 i.copied.2 refl refl),
         begun_more c.args.name.now bytes _ _ i.copied.4 piece _ c.in_default.ensures.nodes,
       );
-      now = c.read.ensures.now ∙ i.now;
-      time = rests_rests _ _ _ i.time c.read.ensures.time;
-      repo_place = c.read.ensures.place ∙ i.repo_place;
-      tree_place = c.append.ensures.place ∙ i.tree_place;
-      repo_later = omega (arith, i.repo_later, c.read.ensures.cause.later);
+      looks = looks_on _ _ _ i.looks c.read.ensures.looks;
+      tree_place = c.append.ensures.opened ∙ i.tree_place;
       tree_later = omega (arith, i.tree_later, c.append.ensures.cause.later);
     }

@@ -1,4 +1,9 @@
-use Rattle.std.proofs.Common.{ap}
+use Rattle.std.proofs.Common.{ap, refl, sym, subst}
+use Rattle.std.proofs.lemmas.Result.{on_ok_weaker}
+use Rattle.pgb_outside.proofs.Places.{opens_only, opens_ok, ok_both}
+use Rattle.pgb_command.specs.declared.settings.Asking.{Asking}
+use Rattle.pgb_command.specs.Doing.{OpensFolder, IsFolderOpened}
+use Rattle.pgb_command.proofs.Requests.{opens_asked, opened_asked}
 use Rattle.pgb_outside.specs.Cause.{Rises}
 use Rattle.pgb_command.specs.Asked.{get, report}
 use Rattle.pgb_command.specs.Told.{request_of, asked_of}
@@ -41,3 +46,39 @@ returns-in-ArchiveGet-clause-closed g c = parts_err _ _ _ _ (get_apart c.args.se
 
 pub returns-in-Info-clause-closed : goal.returns-in-Info-clause-closed
 returns-in-Info-clause-closed g c = parts_err _ _ _ _ (info_apart _ _ _ _) c.report_stanza.result c.report_stanza.ensures.cause
+
+pub returns-in-Write-clause-places : goal.returns-in-Write-clause-places
+returns-in-Write-clause-places g c = record {
+  folder = opens_asked c.args.settings.now.pg1_path.now _ _ c.args.settings.now.request c.in-Write.writing c.in-Write.is (opens_only _ _ _ c.write.result c.write.ensures.opens_folder);
+  repository = opens_only _ _ _ c.write.result c.write.ensures.opens_repository;
+}
+
+pub returns-in-Write-clause-opened : goal.returns-in-Write-clause-opened
+returns-in-Write-clause-opened g c = ok_both c.write.result (λ folder repository. record {
+  folder = opened_asked c.args.settings.now.pg1_path.now _ _ c.args.settings.now.request c.in-Write.writing c.in-Write.is folder;
+  repository = repository;
+}) (opens_ok _ _ _ c.write.result c.write.ensures.opens_folder) (opens_ok _ _ _ c.write.result c.write.ensures.opens_repository)
+
+pub returns-in-ArchiveGet-clause-places : goal.returns-in-ArchiveGet-clause-places
+returns-in-ArchiveGet-clause-places g c = record {
+  folder = subst (λ (q : Asking). OpensFolder (request_of q) c.args.settings.now.pg1_path.now (g.T.Tree.state c.args.tree.now).opened (g.T.Tree.state c.get_file.new.tree).opened) (sym c.in-ArchiveGet.is) (opens_only _ _ _ c.get_file.result c.get_file.ensures.opens_folder);
+  repository = opens_only _ _ _ c.get_file.result c.get_file.ensures.opens_repository;
+}
+
+pub returns-in-ArchiveGet-clause-opened : goal.returns-in-ArchiveGet-clause-opened
+returns-in-ArchiveGet-clause-opened g c = ok_both c.get_file.result (λ folder repository. record {
+  folder = subst (λ (q : Asking). IsFolderOpened (request_of q) c.args.settings.now.pg1_path.now (g.T.Tree.state c.args.tree.now).opened (g.T.Tree.state c.get_file.new.tree).opened) (sym c.in-ArchiveGet.is) folder;
+  repository = repository;
+}) (opens_ok _ _ _ c.get_file.result c.get_file.ensures.opens_folder) (opens_ok _ _ _ c.get_file.result c.get_file.ensures.opens_repository)
+
+pub returns-in-Info-clause-places : goal.returns-in-Info-clause-places
+returns-in-Info-clause-places g c = record {
+  folder = subst (λ (q : Asking). OpensFolder (request_of q) c.args.settings.now.pg1_path.now (g.T.Tree.state c.args.tree.now).opened (g.T.Tree.state c.args.tree.now).opened) (sym c.in-Info.is) refl;
+  repository = opens_only _ _ _ c.report_stanza.result c.report_stanza.ensures.opens;
+}
+
+pub returns-in-Info-clause-opened : goal.returns-in-Info-clause-opened
+returns-in-Info-clause-opened g c = on_ok_weaker c.report_stanza.result (λ repository. record {
+  folder = subst (λ (q : Asking). IsFolderOpened (request_of q) c.args.settings.now.pg1_path.now (g.T.Tree.state c.args.tree.now).opened (g.T.Tree.state c.args.tree.now).opened) (sym c.in-Info.is) refl;
+  repository = repository;
+}) (opens_ok _ _ _ c.report_stanza.result c.report_stanza.ensures.opens)

@@ -47,8 +47,8 @@ returns-clause-members g c = λ zero a asks. let t = c.answer.ensures.told in
     let all = at_zero _ c.serve-served.result.ending _ _ _ _ t.0 _ t.2 t.1 zero c.serve-served.ensures.done in
     (all a asks).members
 
-pub returns-clause-places : goal.returns-clause-places
-returns-clause-places g c = λ zero. let t = c.answer.ensures.told in at_zero _ c.serve-served.result.ending _ _ _ _ t.0 _ t.2 t.1 zero c.serve-served.ensures.places
+pub returns-clause-opened : goal.returns-clause-opened
+returns-clause-opened g c = λ zero. let t = c.answer.ensures.told in at_zero _ c.serve-served.result.ending _ _ _ _ t.0 _ t.2 t.1 zero c.serve-served.ensures.opened
 
 pub returns-clause-locked : goal.returns-clause-locked
 returns-clause-locked g c = λ zero. let t = c.answer.ensures.told in at_zero _ c.serve-served.result.ending _ _ _ _ t.0 _ t.2 t.1 zero c.serve-served.ensures.locked

@@ -2,11 +2,12 @@ use Rattle.std.proofs.Common.{◌≡◌, ap, map, string_bytes, Err}
 use Rattle.pgb_command.specs.declared.outcome.Outcome.{Outcome}
 use Rattle.pgb_options.specs.declared.options.OutputWord.{OutputWord}
 use Rattle.pgb_command.specs.Asked.{Asked, create, report}
-use Rattle.pgb_command.specs.Doing.{PartDone, AllDone, NoneDone, ServedBy, OpensFor}
+use Rattle.pgb_command.specs.Doing.{PartDone, AllDone, NoneDone, ServedBy, OpensPlaces, ArePlacesOpened}
 use Rattle.pgb_command.specs.Locking.{lock_of, TakesLock, OnlyUnderLock}
 use Rattle.pgb_command.specs.Outcomes.{ending_of}
 use Rattle.pgb_command.specs.Talking.{Agrees, Asks as AsksServer}
 use Rattle.pgb_command.specs.Told.{asked_of}
+use Rattle.pgb_command.proofs.Requests.{no_places}
 use Rattle.pgb_command.proofs.Talks.{none_viewed}
 use Rattle.pgb_command.proofs.Asked.{may_ask, for_asked, ok_as}
 use Rattle.pgb_command.proofs.Doings.{none_part, none_done}
@@ -91,16 +92,27 @@ returns-clause-unasked g c =
     let may = may_ask words files x.0 x.1 (asked_of c.in-Ok-settings_of.settings) (c.in-Ok-settings_of.ensures.asked x.0 x.2) in
     λ none. absurd (none (asked_of c.in-Ok-settings_of.settings) may)
 
+pub returns-in-Err-clause-places : goal.returns-in-Err-clause-places
+returns-in-Err-clause-places g c = λ a asks. no_places a _ _
+
+pub returns-in-Err-settings_of-clause-places : goal.returns-in-Err-settings_of-clause-places
+returns-in-Err-settings_of-clause-places g c = λ a asks. no_places a _ _
+
 pub returns-clause-places : goal.returns-clause-places
 returns-clause-places g c =
     let x = c.in-Ok.ensures.command in
     let words = map string_bytes c.args.words.now in
     let files = g.I.Source.files c.args.config.now in
-    let nodes = (g.T.Tree.state c.args.tree.now).nodes in
-    let old = (g.D.Disk.state c.args.repo.now).view in
-    let new = (g.D.Disk.state c.carry-ending.new.repo).view in
     let may = may_ask words files x.0 x.1 (asked_of c.in-Ok-settings_of.settings) (c.in-Ok-settings_of.ensures.asked x.0 x.2) in
-    ok_as c.carry-ending.result _ _ (for_asked words files (λ (a : Asked). OpensFor a.request a.data_folder (g.T.Tree.state c.carry-ending.new.tree).opened × ((g.D.Disk.state c.carry-ending.new.repo).opened ≡ a.repository)) (asked_of c.in-Ok-settings_of.settings) may) c.carry-ending.ensures.places
+    for_asked words files (λ (a : Asked). OpensPlaces a (g.T.Tree.state c.args.tree.now).opened (g.T.Tree.state c.carry-ending.new.tree).opened (g.D.Disk.state c.args.repo.now).opened (g.D.Disk.state c.carry-ending.new.repo).opened) (asked_of c.in-Ok-settings_of.settings) may c.carry-ending.ensures.places
+
+pub returns-clause-opened : goal.returns-clause-opened
+returns-clause-opened g c =
+    let x = c.in-Ok.ensures.command in
+    let words = map string_bytes c.args.words.now in
+    let files = g.I.Source.files c.args.config.now in
+    let may = may_ask words files x.0 x.1 (asked_of c.in-Ok-settings_of.settings) (c.in-Ok-settings_of.ensures.asked x.0 x.2) in
+    ok_as c.carry-ending.result _ _ (for_asked words files (λ (a : Asked). ArePlacesOpened a (g.T.Tree.state c.args.tree.now).opened (g.T.Tree.state c.carry-ending.new.tree).opened (g.D.Disk.state c.args.repo.now).opened (g.D.Disk.state c.carry-ending.new.repo).opened) (asked_of c.in-Ok-settings_of.settings) may) c.carry-ending.ensures.opened
 
 pub returns-clause-locked : goal.returns-clause-locked
 returns-clause-locked g c =
