@@ -1,5 +1,5 @@
 -- A file of the log that was opened, and what a command to push it says of it.
-use Rattle.std.proofs.Common.{◌≡◌, ℕ, length, take, min, Option, Some, None, refl, ap, ◌∙◌, sym, subst}
+use Rattle.std.proofs.Common.{◌≡◌, ◌<◌, ℕ, length, take, min, max, Option, Some, None, refl, ap, ◌∙◌, sym, subst, arith}
 use Rattle.std.specs.Prelude.{IfSome, IsSome, IsSomeAnd, Vec, option_map}
 use Rattle.std.specs.declared.alloc.Global.{Global}
 use Rattle.std.proofs.lemmas.List.{length-take, take_min}
@@ -40,6 +40,9 @@ begins_of front bytes n is whole = record {
   whole = whole;
 }
 
+longest : (bytes : Text) (n : ℕ) {k : ℕ} → Some n ≡ Some (length bytes) → k ≡ min 65536 (length bytes) → length bytes ≡ max n k
+longest bytes n is long = let same : n ≡ length bytes = cc in omega (arith, same, long)
+
 module _ (path : Name) (front : Text) where
   pub front_length : (nodes mid : Option Nodes) (len : ℕ) → mid ≡ nodes → len ≡ length front → IsFront nodes path front → IfSome (told_file mid path) (λ b. len ≡ min 65536 (length b))
   front_length nodes mid len same long is = subst (λ (o : Option Nodes). IfSome (told_file o path) (λ b. len ≡ min 65536 (length b))) (sym same) (go nodes is)
@@ -48,6 +51,24 @@ module _ (path : Name) (front : Text) where
       go None h = tt
       go (Some f) h = let x = front_of (file_bytes (f path)) front h in
           subst (λ (v : Option Text). IfSome v (λ b. len ≡ min 65536 (length b))) (sym x.1) (long ∙ ap length x.2 ∙ length-take 65536 x.0)
+
+  -- a front that isn't full is the whole file
+  pub short_front : (nodes : Option Nodes) (n : ℕ) → n ≡ length front → n < 65536 → IsFront nodes path front → IfSome (told_file nodes path) (λ b. length b ≡ n)
+  short_front None n is short front_is = tt
+  short_front (Some f) n is short front_is = let x = front_of (file_bytes (f path)) front front_is in
+      let long : length front ≡ min 65536 (length x.0) = ap length x.2 ∙ length-take 65536 x.0 in
+      subst (λ (v : Option Text). IfSome v (λ b. length b ≡ n)) (sym x.1) (omega (arith, is, long, short))
+
+  -- a file of a told size has no fewer bytes than were read
+  pub sized_front : (nodes mid : Option Nodes) (size n k : ℕ) → mid ≡ nodes → n ≡ length front → k ≡ max size n → IsFront nodes path front → IfSome mid (λ f. Some size ≡ option_map length (file_bytes (f path))) → IfSome (told_file nodes path) (λ b. length b ≡ k)
+  sized_front nodes mid size n k same is most front_is told = go nodes front_is (subst (λ (o : Option Nodes). IfSome o (λ f. Some size ≡ option_map length (file_bytes (f path)))) same told)
+    where
+      go : (o : Option Nodes) → IsFront o path front → IfSome o (λ f. Some size ≡ option_map length (file_bytes (f path))) → IfSome (told_file o path) (λ b. length b ≡ k)
+      go None h told_here = tt
+      go (Some f) h told_here = let x = front_of (file_bytes (f path)) front h in
+          let told_size : Some size ≡ Some (length x.0) = told_here ∙ ap (λ (v : Option Text). option_map length v) x.1 in
+          let long : n ≡ min 65536 (length x.0) = is ∙ ap length x.2 ∙ length-take 65536 x.0 in
+          subst (λ (v : Option Text). IfSome v (λ b. length b ≡ k)) (sym x.1) (longest x.0 size told_size long ∙ sym most)
 
   pub front_there : (nodes : Option Nodes) → IsFront nodes path front → IfSome nodes (λ f. IsSome (file_bytes (f path)))
   front_there None is = tt

@@ -16,7 +16,7 @@ loop-buf-preserved g c =
     subst (λ (o : Option Nodes). IfSome o (λ (f : Nodes). Reads (file_bytes (f path)) (vec_len bytes) (length c.loop-buf.buf) c.read.new.buf (Some c.in-Some.n))) i.nodes (rw (c.in-Some.is, c.len-in-loop-buf.ensures) at told) in
     let more : c.extend_from_slice.new.self.items ≡ bytes.items ++ take c.in-Some.n c.read.new.buf = grind (arith, common_steps) in
     record {
-      nodes = c.read.ensures.nodes ∙ i.nodes;
+      nodes = c.read.ensures.looks.nodes ∙ i.nodes;
       place = c.read.ensures.looks.opened ∙ i.place;
       proper = c.read.ensures.looks.proper ∙ i.proper;
       later = omega (arith, i.later, c.read.ensures.cause.later);
