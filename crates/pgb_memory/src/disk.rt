@@ -298,6 +298,3 @@ impl Disk for MemDisk {
         Ok(())
     }
 }
-
-#[cfg(test)]
-mod tests;

@@ -282,6 +282,3 @@ impl Tree for MemTree {
         Ok(())
     }
 }
-
-#[cfg(test)]
-mod tests;
