@@ -42,6 +42,20 @@ impl RealLocks {
         }
     }
 
+    /// How often a lock was held by others.
+    pub fn refusals(&self) -> u64
+        ensures { result ≡ ⟦<RealLocks as Locks>⟧.refusals self.now }
+    {
+        self.refusals
+    }
+
+    /// How often a take failed.
+    pub fn faults(&self) -> u64
+        ensures { result ≡ ⟦<RealLocks as Locks>⟧.faults self.now }
+    {
+        self.faults.count
+    }
+
     fn take_file(&mut self, folder: &str, name: &str) -> io::Result<Take>
         ensures taken { IfOk result (λ t. map (λ x. string_bytes x.name) self.new.taken.items ≡ with_lock t name.now (map (λ x. string_bytes x.name) self.old.taken.items)) }
         ensures err { OnErr result (self.new.taken.items ≡ self.old.taken.items) }
@@ -95,55 +109,4 @@ fn open_lock(rt: &HostRuntime, folder: &str, name: &str) -> io::Result<File> {
     let mut how = OpenOptions::new();
     how.write(true).create(true).mode(FILE_MODE);
     how.open(rt, path.as_str())
-}
-
-#[cfg(test)]
-mod tests {
-    use super::*;
-    use pgb_system::Scratch;
-    use std::test::Fail;
-
-    // What a taking of one lock by a program of its own answers, with the counts of refusals and faults.
-    fn take_anew(rt: HostRuntime, folder: &str, name: &str) -> (Result<Take, Stop>, u64, u64) {
-        let mut locks = RealLocks::new(rt);
-        let answer = locks.take(folder, name);
-        (answer, locks.refusals, locks.faults.count)
-    }
-
-    const TAKEN: (Result<Take, Stop>, u64, u64) = (Ok(Take::Taken), 0, 0);
-
-    const HELD: (Result<Take, Stop>, u64, u64) = (Ok(Take::Held), 1, 0);
-
-    const FAULT: (Result<Take, Stop>, u64, u64) = (Err(Stop::Failed), 0, 1);
-
-    #[test]
-    fn takes_and_releases(rt: HostRuntime) -> Result<(), Fail> {
-        let scratch = Scratch::new(rt, "locks")?;
-        let folder = scratch.below("a/b")?;
-        let mut first = RealLocks::new(rt);
-        assert_eq!(rt; first.take(&folder, "one.lock"), Ok(Take::Taken));
-        for (name, wanted) in [
-            ("one.lock", HELD),
-            ("two.lock", TAKEN),
-            // the one before ended with its owner
-            ("two.lock", TAKEN),
-            // a folder is no lock's file
-            ("..", FAULT),
-        ] {
-            assert_eq!(rt; take_anew(rt, &folder, name), wanted, "{name}");
-        }
-        assert_eq!(rt; take_anew(rt, &scratch.path, "one.lock"), TAKEN);
-        assert!(rt; scratch.shell(MODES)?);
-        first.release("two.lock");
-        assert_eq!(rt; take_anew(rt, &folder, "one.lock"), HELD);
-        first.release("one.lock");
-        assert_eq!(rt; take_anew(rt, &folder, "one.lock"), TAKEN);
-        let file = scratch.below("one.lock")?;
-        assert_eq!(rt; take_anew(rt, &file, "one.lock"), FAULT);
-        scratch.remove()?;
-        Ok(())
-    }
-
-    const MODES: &'static str =
-        "[ \"$(stat -c %a a a/b a/b/one.lock | tr '\\n' ' ')\" = '700 700 600 ' ]";
 }

@@ -32,6 +32,13 @@ impl RealTree {
             faults: Faults::new(),
         }
     }
+
+    /// How often a call failed.
+    pub fn faults(&self) -> u64
+        ensures { result ≡ ⟦<RealTree as Tree>⟧.faults self.now }
+    {
+        self.faults.count
+    }
 }
 
 impl Tree for RealTree {
@@ -151,6 +158,3 @@ fn remove_node(place: &Place, path: &str) -> io::Result<()> {
         _ => place.remove(path),
     }
 }
-
-#[cfg(test)]
-mod tests;

@@ -1,10 +1,13 @@
 // The calls of a data folder on a folder of the system.
-use super::RealTree;
+use crate::same::same;
+use pgb_adapters::RealTree;
 use pgb_outside::{Known, Node, Stop, Tree};
 use pgb_system::Scratch;
+use std::alloc::Global;
+use std::process::Abort;
 use std::test::Fail;
 
-#[derive(Clone, Copy, Debug)]
+#[derive(Clone, Copy)]
 enum Call {
     Make,
     Begin,
@@ -32,7 +35,7 @@ fn answer(tree: &mut RealTree, call: Call, path: &str) -> Result<(), Stop> {
     }
 }
 
-const CALLS: [(Call, &'static str, Result<(), Stop>); 29] = [
+const CALLS: &[(Call, &str, Result<(), Stop>)] = &[
     (Call::Make, "base/1", Ok(())),
     (Call::Make, "base/1", Ok(())),
     (Call::Make, "absent/1", Err(Stop::Failed)),
@@ -66,7 +69,7 @@ const CALLS: [(Call, &'static str, Result<(), Stop>); 29] = [
     (Call::Remove, "old", Ok(())),
 ];
 
-const LISTED: [(&'static str, Node); 7] = [
+const LISTED: &[(&str, Node)] = &[
     (
         "PG_VERSION",
         Node::File {
@@ -88,53 +91,61 @@ const LISTED: [(&'static str, Node); 7] = [
     ("pipe", Node::Other),
 ];
 
-const FILL: &'static str =
+const FILL: &str =
     "mkdir base global; printf 16. >PG_VERSION; touch -d @1000 PG_VERSION; printf x >base/f
 touch -d @2000 base/f; ln -s PG_VERSION link; touch -d 1960-01-01 old; mkfifo pipe";
+
+fn check_listed(rt: &impl Abort, alloc: Global, tree: &mut RealTree) -> Result<(), Stop> {
+    let seen = tree.list(alloc)?;
+    same(rt, seen.len(), LISTED.len());
+    for (seen, (path, node)) in seen.iter().zip(LISTED) {
+        same(rt, seen.path.as_str(), *path);
+        same(rt, seen.node, *node);
+    }
+    Ok(())
+}
+
+// Each call answers so, and counts a fault where it fails.
+fn check_calls(rt: &impl Abort, tree: &mut RealTree) {
+    for (call, path, wanted) in CALLS {
+        let faults = tree.faults().saturating_add(u64::from(wanted.is_err()));
+        same(rt, answer(tree, *call, path), *wanted);
+        same(rt, tree.faults(), faults);
+    }
+}
+
+const LEFT: &str =
+    "[ \"$(cat base/g base/n link PG_VERSION)\" = somenew16. ]; mkdir global/pg_control";
+
+// What is read of a version file of three bytes, of a folder, and of an absent file, into two bytes.
+fn check_reads(rt: &impl Abort, alloc: Global, tree: &mut RealTree) -> Result<(), Fail> {
+    let mut room = [0u8; 2];
+    let wal = Known::Wal(String::from_str(alloc, "000000010000000000000001")?);
+    same(rt, tree.read(&Known::Version, 0, &mut room), Ok(Some(2)));
+    same(rt, tree.read(&Known::Version, 2, &mut room), Ok(Some(1)));
+    same(rt, tree.read(&Known::Version, 3, &mut room), Ok(Some(0)));
+    same(rt, tree.read(&Known::Control, 0, &mut room), Ok(None));
+    same(rt, tree.read(&wal, 0, &mut room), Ok(None));
+    same(rt, room.as_slice(), b".6");
+    Ok(())
+}
 
 #[test]
 fn does_each_call(rt: HostRuntime) -> Result<(), Fail> {
     let scratch = Scratch::new(rt, "tree")?;
     let mut tree = RealTree::new(rt);
-    assert_eq!(rt; tree.open(&scratch.path), Ok(()));
+    same(&rt, tree.open(&scratch.path), Ok(()));
     assert!(rt; scratch.shell(FILL)?);
-    let Ok(seen) = tree.list(rt.alloc()) else {
-        return Err(Fail::new("no nodes"));
-    };
-    assert_eq!(rt; seen.len(), LISTED.len());
-    for (seen, (path, node)) in seen.iter().zip(LISTED) {
-        assert_eq!(rt; seen.path.as_str(), path);
-        assert_eq!(rt; seen.node, node, "{path}");
-    }
-    let mut faults = 0u64;
-    for (call, path, wanted) in CALLS {
-        assert_eq!(rt; answer(&mut tree, call, path), wanted, "{call:?} {path}");
-        faults = faults.saturating_add(u64::from(wanted.is_err()));
-        assert_eq!(rt; tree.faults.count, faults, "{call:?} {path}");
-    }
-    assert!(rt;
-        scratch.shell(
-            "[ \"$(cat base/g base/n link PG_VERSION)\" = somenew16. ]; mkdir global/pg_control"
-        )?
-    );
-    let mut room = [0u8; 2];
-    let name = String::from_str(rt.alloc(), "000000010000000000000001")?;
-    for (what, at, wanted) in [
-        (&Known::Version, 0u64, Some(2usize)),
-        (&Known::Version, 2, Some(1)),
-        (&Known::Version, 3, Some(0)),
-        (&Known::Control, 0, None),
-        (&Known::Wal(name), 0, None),
-    ] {
-        assert_eq!(rt; tree.read(what, at, &mut room), Ok(wanted));
-    }
-    assert_eq!(rt; room, *b".6");
+    check_listed(&rt, rt.alloc(), &mut tree)?;
+    check_calls(&rt, &mut tree);
+    assert!(rt; scratch.shell(LEFT)?);
+    check_reads(&rt, rt.alloc(), &mut tree)?;
     scratch.remove()?;
     Ok(())
 }
 
 // A file that changes while it is read: what is done to it, and the reading of 4 bytes behind that.
-const READS: [(&'static str, u64, Result<Option<usize>, Stop>); 7] = [
+const READS: &[(&str, u64, Result<Option<usize>, Stop>)] = &[
     ("printf 123456 >PG_VERSION", 0, Ok(Some(4))),
     // what is added isn't read, but by the next reading
     ("printf 789 >>PG_VERSION", 4, Ok(Some(2))),
@@ -150,15 +161,11 @@ const READS: [(&'static str, u64, Result<Option<usize>, Stop>); 7] = [
 fn reads_what_was_there_at_the_start(rt: HostRuntime) -> Result<(), Fail> {
     let scratch = Scratch::new(rt, "reading")?;
     let mut tree = RealTree::new(rt);
-    assert_eq!(rt; tree.open(&scratch.path), Ok(()));
+    same(&rt, tree.open(&scratch.path), Ok(()));
     let mut room = [0u8; 4];
     for (change, at, wanted) in READS {
-        assert!(rt; scratch.shell(change)?);
-        assert_eq!(rt;
-            tree.read(&Known::Version, at, &mut room),
-            wanted,
-            "{change} {at}"
-        );
+        assert!(rt; scratch.shell(change)?, "{change}");
+        same(&rt, tree.read(&Known::Version, *at, &mut room), *wanted);
     }
     scratch.remove()?;
     Ok(())

@@ -31,6 +31,13 @@ impl RealDisk {
             faults: Faults::new(),
         }
     }
+
+    /// How often a call failed.
+    pub fn faults(&self) -> u64
+        ensures { result ≡ ⟦<RealDisk as Disk>⟧.faults self.now }
+    {
+        self.faults.count
+    }
 }
 
 impl Disk for RealDisk {
@@ -143,6 +150,3 @@ fn rename_into_folders(
         done => done,
     }
 }
-
-#[cfg(test)]
-mod tests;

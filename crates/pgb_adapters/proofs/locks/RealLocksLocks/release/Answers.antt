@@ -2,8 +2,8 @@ use Rattle.std.proofs.Common.{◌≡◌, List, [], ◌∷◌, Bool, true, false,
 use Rattle.std.proofs.lemmas.Fn.{filter_same}
 use Rattle.pgb_outside.specs.Content.{Name}
 use Rattle.pgb_outside.specs.Locking.{without}
-use Rattle.pgbackrest.specs.declared.locks.Lock.{Lock}
-use Rattle.pgbackrest.proofs.locks.RealLocksLocks.release.Goals as goal
+use Rattle.pgb_adapters.specs.declared.locks.Lock.{Lock}
+use Rattle.pgb_adapters.proofs.locks.RealLocksLocks.release.Goals as goal
 
 abbrev names : List Lock → List Name
 names = map (λ (x : Lock). string_bytes x.name)

@@ -29,6 +29,13 @@ impl RealSource {
         }
     }
 
+    /// How often a call failed.
+    pub fn faults(&self) -> u64
+        ensures { result ≡ ⟦<RealSource as Source>⟧.faults self.now }
+    {
+        self.faults.count
+    }
+
     fn open_place(&mut self, path: &str) -> io::Result<bool>
         ensures place { OnOk result (string_bytes self.new.place ≡ path.now) }
         ensures faults { self.new.faults ≡ self.old.faults }
@@ -72,56 +79,4 @@ fn open_file(rt: &HostRuntime, path: &str) -> io::Result<Option<File>> {
         return Err(io::Error::from(ErrorKind::InvalidInput));
     }
     unless_absent(File::open(rt, path))
-}
-
-#[cfg(test)]
-mod tests {
-    use super::*;
-    use pgb_system::Scratch;
-    use std::test::Fail;
-
-    const FILL: &'static str = "printf '[global]' >conf; ln -s conf link; ln -s none dead
-mkdir folder; mkfifo pipe; : >empty";
-
-    const OPENED: [(&'static str, Result<bool, Stop>, &'static str); 8] = [
-        ("conf", Ok(true), "[glo|bal]||"),
-        ("link", Ok(true), "[glo|bal]||"),
-        ("empty", Ok(true), "|||"),
-        ("none", Ok(false), "|||"),
-        ("dead", Ok(false), "|||"),
-        ("conf/none", Ok(false), "|||"),
-        ("folder", Err(Stop::Failed), "|||"),
-        ("pipe", Err(Stop::Failed), "|||"),
-    ];
-
-    // The bytes of the next reads.
-    fn pieces(rt: &HostRuntime, source: &mut RealSource) -> Result<String, Fail> {
-        let mut text = String::new(rt.alloc());
-        let mut room = [0u8; 4];
-        for _ in 0..3 {
-            let n = source.read(&mut room).map_err(|_| Fail::new("no bytes"))?;
-            for byte in room.iter().take(n) {
-                text.push(char::from(*byte))?;
-            }
-            text.push('|')?;
-        }
-        Ok(text)
-    }
-
-    #[test]
-    fn opens_and_reads(rt: HostRuntime) -> Result<(), Fail> {
-        let scratch = Scratch::new(rt, "source")?;
-        assert!(rt; scratch.shell(FILL)?);
-        let mut source = RealSource::new(rt);
-        let mut faults = 0u64;
-        for (name, answer, given) in OPENED {
-            let path = scratch.below(name)?;
-            assert_eq!(rt; source.open(&path), answer, "{name}");
-            assert_eq!(rt; pieces(&rt, &mut source)?.as_str(), given, "{name}");
-            faults = faults.saturating_add(u64::from(answer.is_err()));
-            assert_eq!(rt; source.faults.count, faults, "{name}");
-        }
-        scratch.remove()?;
-        Ok(())
-    }
 }
