@@ -20,6 +20,3 @@ pub use reading::decode_frame;
 pub use serve_fault::ServeFault;
 pub use serving::serve;
 pub use writing::{encode_frame, encode_job, encode_setup};
-
-#[cfg(test)]
-mod tests;

@@ -294,6 +294,3 @@ impl Disk for MemDisk {
         Ok(())
     }
 }
-
-#[cfg(test)]
-mod tests;

@@ -63,30 +63,3 @@ impl Sink for MemSink {
         Ok(bytes.len())
     }
 }
-
-#[cfg(test)]
-mod tests {
-    use super::*;
-    use std::test::Fail;
-
-    fn write_all<S: Sink>(sink: &mut S, pieces: &[&str]) -> Result<usize, Stop> {
-        let mut taken = 0;
-        for piece in pieces {
-            taken = sink.write(piece.as_bytes())?;
-        }
-        Ok(taken)
-    }
-
-    #[test]
-    fn writes(rt: HostRuntime) -> Result<(), Fail> {
-        let alloc = rt.alloc();
-        let mut sink = MemSink::new(alloc, vec![in alloc; 2]?);
-        assert_eq!(rt; write_all(&mut sink, &["one ", ""]), Ok(0));
-        assert_eq!(rt; write_all(&mut sink, &["lost"]), Err(Stop::Failed));
-        assert_eq!(rt; sink.faults(), 1);
-        assert_eq!(rt; write_all(&mut sink, &["two"]), Ok(3));
-        assert_eq!(rt; sink.written(), b"one two".as_slice());
-        assert_eq!(rt; sink.faults(), 1);
-        Ok(())
-    }
-}

@@ -292,6 +292,3 @@ impl Tree for MemTree {
         Ok(())
     }
 }
-
-#[cfg(test)]
-mod tests;

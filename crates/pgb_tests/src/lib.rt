@@ -43,5 +43,3 @@ mod settings;
 mod storing;
 #[cfg(test)]
 mod texts;
-#[cfg(test)]
-mod workers;

@@ -1,36 +1,19 @@
 //! The program: the system's files and output, handed to the commands.
 #![tactic(auto)]
 
-mod disk;
-mod files;
-mod handles;
 mod help;
-mod input;
-mod locks;
-mod place;
-mod settle;
-mod sink;
-mod source;
-mod tree;
-mod walk;
-mod wire;
 
-use disk::RealDisk;
-use files::RealFiles;
 use help::asked_for;
-use input::RealInput;
-use locks::RealLocks;
+use pgb_adapters::{
+    RealDisk, RealFiles, RealInput, RealLocks, RealSink, RealSource, RealTree, RealWire, no_memory,
+};
 use pgb_command::{Outside, run};
 use pgb_frame::serve;
 use pgb_outside::{Link, NotThere};
 use pgb_system::{RealLink, RoundRobin};
-use sink::RealSink;
-use source::RealSource;
 use std::io::ErrorKind;
 use std::process::ExitCode;
 use std::{env, io};
-use tree::RealTree;
-use wire::RealWire;
 
 const NOT_UTF8: u8 = 13;
 
@@ -87,7 +70,7 @@ fn show(rt: HostRuntime, text: &str) -> u8 {
 fn words(rt: &HostRuntime) -> io::Result<Vec<String>> {
     let mut words = Vec::new(rt.alloc());
     for word in env::args(rt)?.skip(1) {
-        words.push(word).map_err(place::no_memory)?;
+        words.push(word).map_err(no_memory)?;
     }
     Ok(words)
 }
@@ -105,7 +88,7 @@ fn status_of(rt: HostRuntime, words: &[String]) -> io::Result<u8> {
     let mut links: Vec<Box<dyn Link>> = Vec::new(alloc);
     for _ in 0..WORKERS {
         let link = Box::new(alloc, worker(rt, &program)?)?;
-        links.push(link).map_err(place::no_memory)?;
+        links.push(link).map_err(no_memory)?;
     }
     let mut turns = RoundRobin::new();
     let mut outside = Outside {

@@ -1,0 +1,152 @@
+// The repository, on the system's files.
+ghost use Rattle.std.specs.Prelude.{◌≡◌, None, false, string_bytes};
+
+use crate::handles::Handles;
+use crate::place::{Place, no_memory};
+use crate::settle::{Settled, settle};
+use crate::walk::{folders_in, nodes_below};
+use pgb_outside::{Disk, Found, Node, Seen, Stop};
+use pgb_system::Faults;
+use std::alloc::Global;
+use std::io;
+use std::io::ErrorKind;
+
+/// A disk below a folder of the system. It tells nothing of what it holds.
+#[derive(Drop)]
+pub struct RealDisk {
+    place: Place,
+    handles: Handles,
+    settled: Settled,
+    faults: Faults,
+}
+
+impl RealDisk {
+    pub fn new(rt: HostRuntime) -> Self
+        ensures { result.faults.count ≡ 0 }
+    {
+        RealDisk {
+            settled: Settled::new(&rt),
+            place: Place::new(rt),
+            handles: Handles::new(),
+            faults: Faults::new(),
+        }
+    }
+
+    /// How often a call failed.
+    pub fn faults(&self) -> u64
+        ensures { result ≡ ⟦<RealDisk as Disk>⟧.faults self.now }
+    {
+        self.faults.count
+    }
+}
+
+impl Disk for RealDisk {
+    ghost view = { λ _. record { now = None; moment = 0; kept = λ _ _ _. ⊥; loose = λ _ _. false } };
+
+    ghost faults = { λ d. d.faults.count };
+
+    ghost misuses = { λ _. 0 };
+
+    ghost place = { λ d. string_bytes d.place.root };
+
+    ghost now_may_be_left = { λ d n v h. absurd h };
+
+    fn open(&mut self, path: &str) -> Result<(), Stop> {
+        self.handles.forget();
+        self.settled.forget();
+        let done = self.place.open(path);
+        self.faults.told(done)
+    }
+
+    fn names(&mut self, alloc: Global, folder: &str) -> Result<Vec<Found>, Stop> {
+        let done = names_below(alloc, &self.place, folder);
+        self.faults.told(done)
+    }
+
+    fn folders(&mut self, alloc: Global, folder: &str) -> Result<Vec<String>, Stop> {
+        let done = folders_in(alloc, &self.place, folder);
+        self.faults.told(done)
+    }
+
+    fn read(&mut self, name: &str, at: u64, buf: &mut [u8]) -> Result<Option<usize>, Stop> {
+        let done = self.handles.read(&self.place, name, at, buf);
+        self.faults.told(done)
+    }
+
+    fn begin(&mut self, name: &str) -> Result<(), Stop> {
+        let done = begin_in_folders(&self.place, &mut self.handles, &mut self.settled, name);
+        self.faults.told(done)
+    }
+
+    fn append(&mut self, name: &str, bytes: &[u8]) -> Result<(), Stop> {
+        let done = self.handles.append(&self.place, name, bytes);
+        self.faults.told(done)
+    }
+
+    fn sync(&mut self, name: &str) -> Result<(), Stop> {
+        let done = self.handles.sync(&self.place, name);
+        self.faults.told(done)
+    }
+
+    fn rename(&mut self, from: &str, to: &str) -> Result<(), Stop> {
+        self.handles.forget();
+        let done = rename_into_folders(&self.place, &mut self.settled, from, to);
+        self.faults.told(done)
+    }
+
+    fn remove(&mut self, name: &str) -> Result<(), Stop> {
+        self.handles.forget();
+        let done = self.place.remove(name);
+        self.faults.told(done)
+    }
+
+    fn settle(&mut self, folder: &str) -> Result<(), Stop> {
+        let done = settle(&self.place, &mut self.settled, folder);
+        self.faults.told(done)
+    }
+}
+
+// Only files are names of a disk.
+fn names_below(alloc: Global, place: &Place, folder: &str) -> io::Result<Vec<Found>> {
+    let mut found = Vec::new(alloc);
+    for seen in nodes_below(alloc, place, folder)? {
+        let Seen { path, node } = seen;
+        if let Node::File { size, .. } = node {
+            found.push(Found { name: path, size }).map_err(no_memory)?;
+        }
+    }
+    Ok(found)
+}
+
+// Folders are there by their names alone, so those that lack are made.
+fn begin_in_folders(
+    place: &Place,
+    handles: &mut Handles,
+    settled: &mut Settled,
+    name: &str,
+) -> io::Result<()> {
+    match handles.begin(place, name) {
+        Err(e) if e.kind() == ErrorKind::NotFound => {
+            settled.forget();
+            place.make_folders_for(name)?;
+            handles.begin(place, name)
+        }
+        done => done,
+    }
+}
+
+fn rename_into_folders(
+    place: &Place,
+    settled: &mut Settled,
+    from: &str,
+    to: &str,
+) -> io::Result<()> {
+    match place.rename(from, to) {
+        Err(e) if e.kind() == ErrorKind::NotFound => {
+            settled.forget();
+            place.make_folders_for(to)?;
+            place.rename(from, to)
+        }
+        done => done,
+    }
+}

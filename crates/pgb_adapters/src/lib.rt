@@ -1,0 +1,25 @@
+//! The system's devices: its files, its output and its sockets, as the commands and a worker are handed them.
+#![tactic(auto)]
+
+mod disk;
+mod files;
+mod handles;
+mod input;
+mod locks;
+mod place;
+mod settle;
+mod sink;
+mod source;
+mod tree;
+mod walk;
+mod wire;
+
+pub use disk::RealDisk;
+pub use files::RealFiles;
+pub use input::RealInput;
+pub use locks::RealLocks;
+pub use place::no_memory;
+pub use sink::RealSink;
+pub use source::RealSource;
+pub use tree::RealTree;
+pub use wire::RealWire;

@@ -1,0 +1,82 @@
+// The configuration file, on the system's files.
+ghost use Rattle.std.specs.Prelude.{◌≡◌, None, OnOk, string_bytes};
+
+use crate::place::unless_absent;
+use pgb_outside::{Source, Stop};
+use pgb_system::{Faults, read_some};
+use std::fs::File;
+use std::io::ErrorKind;
+use std::{fs, io};
+
+/// A file of the system, read from its start. It tells nothing of what it holds.
+#[derive(Drop)]
+pub struct RealSource {
+    rt: HostRuntime,
+    place: String,
+    file: Option<File>,
+    faults: Faults,
+}
+
+impl RealSource {
+    pub fn new(rt: HostRuntime) -> Self
+        ensures { result.faults.count ≡ 0 }
+    {
+        RealSource {
+            place: String::new(rt.alloc()),
+            rt,
+            file: None,
+            faults: Faults::new(),
+        }
+    }
+
+    /// How often a call failed.
+    pub fn faults(&self) -> u64
+        ensures { result ≡ ⟦<RealSource as Source>⟧.faults self.now }
+    {
+        self.faults.count
+    }
+
+    fn open_place(&mut self, path: &str) -> io::Result<bool>
+        ensures place { OnOk result (string_bytes self.new.place ≡ path.now) }
+        ensures faults { self.new.faults ≡ self.old.faults }
+    {
+        self.file = None;
+        self.place = String::from_str(self.rt.alloc(), path)?;
+        self.file = open_file(&self.rt, path)?;
+        Ok(self.file.is_some())
+    }
+}
+
+impl Source for RealSource {
+    ghost files = { λ _. None };
+
+    ghost left = { λ _. None };
+
+    ghost place = { λ s. string_bytes s.place };
+
+    ghost faults = { λ s. s.faults.count };
+
+    fn open(&mut self, path: &str) -> Result<bool, Stop> {
+        let done = self.open_place(path);
+        self.faults.told(done)
+    }
+
+    fn read(&mut self, buf: &mut [u8]) -> Result<usize, Stop> {
+        let done = match &mut self.file {
+            Some(file) => read_some(file, buf),
+            None => Ok(0),
+        };
+        self.faults.told(done)
+    }
+}
+
+// None where nothing is there. Only a file is opened: a pipe would wait for who writes to it.
+fn open_file(rt: &HostRuntime, path: &str) -> io::Result<Option<File>> {
+    let Some(seen) = unless_absent(fs::metadata(rt, path))? else {
+        return Ok(None);
+    };
+    if !seen.is_file() {
+        return Err(io::Error::from(ErrorKind::InvalidInput));
+    }
+    unless_absent(File::open(rt, path))
+}

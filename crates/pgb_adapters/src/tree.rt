@@ -1,0 +1,160 @@
+// The data folder, on the system's files.
+ghost use Rattle.std.specs.Prelude.{◌≡◌, ◌≤◌, None, IfOk, IfSome, length, string_bytes};
+ghost use Rattle.pgb_outside.specs.Tree.{known_path};
+
+use crate::handles::Handles;
+use crate::place::Place;
+use crate::walk::nodes_below;
+use pgb_outside::{Known, Seen, Stop, Tree};
+use pgb_system::Faults;
+use std::alloc::{AllocError, Global};
+use std::io;
+use std::io::ErrorKind;
+
+/// A data folder of the system. It tells nothing of what it holds.
+#[derive(Drop)]
+pub struct RealTree {
+    place: Place,
+    handles: Handles,
+    // of the file that is being read, as its reading began
+    size: u64,
+    faults: Faults,
+}
+
+impl RealTree {
+    pub fn new(rt: HostRuntime) -> Self
+        ensures { result.faults.count ≡ 0 }
+    {
+        RealTree {
+            place: Place::new(rt),
+            handles: Handles::new(),
+            size: 0,
+            faults: Faults::new(),
+        }
+    }
+
+    /// How often a call failed.
+    pub fn faults(&self) -> u64
+        ensures { result ≡ ⟦<RealTree as Tree>⟧.faults self.now }
+    {
+        self.faults.count
+    }
+}
+
+impl Tree for RealTree {
+    ghost nodes = { λ _. None };
+
+    ghost faults = { λ t. t.faults.count };
+
+    ghost misuses = { λ _. 0 };
+
+    ghost place = { λ t. string_bytes t.place.root };
+
+    fn open(&mut self, path: &str) -> Result<(), Stop> {
+        self.handles.forget();
+        let done = self.place.open(path);
+        self.faults.told(done)
+    }
+
+    fn list(&mut self, alloc: Global) -> Result<Vec<Seen>, Stop> {
+        let done = nodes_below(alloc, &self.place, "");
+        self.faults.told(done)
+    }
+
+    fn read(&mut self, what: &Known, at: u64, buf: &mut [u8]) -> Result<Option<usize>, Stop> {
+        let done = read_known(
+            &self.place,
+            &mut self.handles,
+            &mut self.size,
+            what,
+            at,
+            buf,
+        );
+        self.faults.told(done)
+    }
+
+    fn make(&mut self, folder: &str) -> Result<(), Stop> {
+        let done = self.place.make_folder(folder);
+        self.faults.told(done)
+    }
+
+    fn begin(&mut self, path: &str) -> Result<(), Stop> {
+        let done = begin_file(&self.place, &mut self.handles, path);
+        self.faults.told(done)
+    }
+
+    fn begin_new(&mut self, path: &str) -> Result<bool, Stop> {
+        let done = self.handles.begin_new(&self.place, path);
+        self.faults.told(done)
+    }
+
+    fn append(&mut self, path: &str, bytes: &[u8]) -> Result<(), Stop> {
+        let done = self.handles.append(&self.place, path, bytes);
+        self.faults.told(done)
+    }
+
+    fn rename(&mut self, from: &str, to: &str) -> Result<(), Stop> {
+        self.handles.forget();
+        let done = self.place.rename(from, to);
+        self.faults.told(done)
+    }
+
+    fn remove(&mut self, path: &str) -> Result<(), Stop> {
+        self.handles.forget();
+        let done = remove_node(&self.place, path);
+        self.faults.told(done)
+    }
+}
+
+fn path_of(alloc: Global, what: &Known) -> Result<String, AllocError>
+    ensures { IfOk result (λ path. string_bytes path ≡ known_path what.now) }
+{
+    match what {
+        Known::Control => String::from_str(alloc, "global/pg_control"),
+        Known::Version => String::from_str(alloc, "PG_VERSION"),
+        Known::Wal(name) => format!(in alloc; "pg_wal/{name}"),
+    }
+}
+
+// What isn't a file is no known file. All of one reading is as long as the file was when it began: what is added meanwhile isn't
+// read, and a file that becomes shorter is a fault.
+fn read_known(
+    place: &Place,
+    handles: &mut Handles,
+    size: &mut u64,
+    what: &Known,
+    at: u64,
+    buf: &mut [u8],
+) -> io::Result<Option<usize>>
+    ensures { IfOk result (λ n. IfSome n (λ n. n ≤ length buf.old)) }
+{
+    let path = path_of(place.rt.alloc(), what)?;
+    if !handles.goes_on(&path, at) {
+        match place.file_length(&path)? {
+            Some(told) => *size = told,
+            None => return Ok(None),
+        }
+    }
+    let room = size.saturating_sub(at).min(buf.len() as u64) as usize;
+    match handles.read(place, &path, at, &mut buf[..room])? {
+        Some(0) if room > 0 => Err(io::Error::from(ErrorKind::UnexpectedEof)),
+        read => Ok(read),
+    }
+}
+
+// A link, or a node of another kind, gives way: its target isn't written.
+fn begin_file(place: &Place, handles: &mut Handles, path: &str) -> io::Result<()> {
+    if let Some(told) = place.look_at(path)? {
+        if !told.is_file() && !told.is_dir() {
+            place.remove(path)?;
+        }
+    }
+    handles.begin(place, path)
+}
+
+fn remove_node(place: &Place, path: &str) -> io::Result<()> {
+    match place.look_at(path)? {
+        Some(told) if told.is_dir() => place.remove_folder(path),
+        _ => place.remove(path),
+    }
+}

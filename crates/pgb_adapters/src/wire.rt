@@ -1,0 +1,78 @@
+// The connection to the server, on a Unix socket.
+ghost use Rattle.std.specs.Prelude.{◌≡◌, ◌≤◌, None, IfOk, OnOk, length, string_bytes};
+
+use pgb_outside::{Stop, Wire};
+use pgb_system::{Faults, read_some};
+use std::io;
+use std::io::{ErrorKind, Write};
+use std::os::unix::net::UnixStream;
+
+/// A connection to a socket of the system's files, closed as the next one is opened. It tells nothing of what is said.
+#[derive(Drop)]
+pub struct RealWire {
+    rt: HostRuntime,
+    place: String,
+    stream: Option<UnixStream>,
+    faults: Faults,
+}
+
+impl RealWire {
+    pub fn new(rt: HostRuntime) -> Self
+        ensures { result.faults.count ≡ 0 }
+    {
+        RealWire {
+            place: String::new(rt.alloc()),
+            rt,
+            stream: None,
+            faults: Faults::new(),
+        }
+    }
+
+    /// How often a call failed.
+    pub fn faults(&self) -> u64
+        ensures { result ≡ ⟦<RealWire as Wire>⟧.faults self.now }
+    {
+        self.faults.count
+    }
+
+    fn open_place(&mut self, path: &str) -> io::Result<()>
+        ensures place { OnOk result (string_bytes self.new.place ≡ path.now) }
+        ensures faults { self.new.faults ≡ self.old.faults }
+    {
+        self.stream = None;
+        self.place = String::from_str(self.rt.alloc(), path)?;
+        self.stream = Some(UnixStream::connect(&self.rt, path)?);
+        Ok(())
+    }
+}
+
+impl Wire for RealWire {
+    ghost pending = { λ _. None };
+
+    ghost sent = { λ _. None };
+
+    ghost place = { λ w. string_bytes w.place };
+
+    ghost faults = { λ w. w.faults.count };
+
+    fn open(&mut self, path: &str) -> Result<(), Stop> {
+        let done = self.open_place(path);
+        self.faults.told(done)
+    }
+
+    fn send(&mut self, bytes: &[u8]) -> Result<(), Stop> {
+        let done = match &mut self.stream {
+            Some(stream) => stream.write_all(bytes),
+            None => Err(io::Error::from(ErrorKind::NotConnected)),
+        };
+        self.faults.told(done)
+    }
+
+    fn receive(&mut self, buf: &mut [u8]) -> Result<usize, Stop> {
+        let done = match &mut self.stream {
+            Some(stream) => read_some(stream, buf),
+            None => Err(io::Error::from(ErrorKind::NotConnected)),
+        };
+        self.faults.told(done)
+    }
+}

@@ -1,0 +1,15 @@
+//! Tests of the system's devices, on folders and sockets of the system.
+#![tactic(auto)]
+
+#[cfg(test)]
+mod disk;
+#[cfg(test)]
+mod locks;
+#[cfg(test)]
+mod same;
+#[cfg(test)]
+mod source;
+#[cfg(test)]
+mod tree;
+#[cfg(test)]
+mod wire;

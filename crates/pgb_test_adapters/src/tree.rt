@@ -1,0 +1,172 @@
+// The calls of a data folder on a folder of the system.
+use crate::same::same;
+use pgb_adapters::RealTree;
+use pgb_outside::{Known, Node, Stop, Tree};
+use pgb_system::Scratch;
+use std::alloc::Global;
+use std::process::Abort;
+use std::test::Fail;
+
+#[derive(Clone, Copy)]
+enum Call {
+    Make,
+    Begin,
+    // and whether it begins
+    BeginNew(bool),
+    Append(&'static [u8]),
+    RenameTo(&'static str),
+    Remove,
+}
+
+fn answer(tree: &mut RealTree, call: Call, path: &str) -> Result<(), Stop> {
+    match call {
+        Call::Make => tree.make(path),
+        Call::Begin => tree.begin(path),
+        Call::BeginNew(begins) => {
+            if tree.begin_new(path)? == begins {
+                Ok(())
+            } else {
+                Err(Stop::NoMemory)
+            }
+        }
+        Call::Append(bytes) => tree.append(path, bytes),
+        Call::RenameTo(to) => tree.rename(path, to),
+        Call::Remove => tree.remove(path),
+    }
+}
+
+const CALLS: &[(Call, &str, Result<(), Stop>)] = &[
+    (Call::Make, "base/1", Ok(())),
+    (Call::Make, "base/1", Ok(())),
+    (Call::Make, "absent/1", Err(Stop::Failed)),
+    (Call::Make, "PG_VERSION", Err(Stop::Failed)),
+    (Call::Begin, "base/1/f", Ok(())),
+    (Call::BeginNew(false), "base/1/f", Ok(())),
+    (Call::Append(b"some"), "base/1/f", Ok(())),
+    (Call::BeginNew(false), "base/1/f", Ok(())),
+    (Call::BeginNew(true), "base/1/n", Ok(())),
+    (Call::Append(b"new"), "base/1/n", Ok(())),
+    (Call::RenameTo("base/n"), "base/1/n", Ok(())),
+    // whatever stands there
+    (Call::BeginNew(false), "base", Ok(())),
+    (Call::BeginNew(false), "link", Ok(())),
+    (Call::BeginNew(false), "pipe", Ok(())),
+    (Call::BeginNew(true), "absent/f", Err(Stop::Failed)),
+    (Call::Append(b"x"), "base/1/g", Err(Stop::Failed)),
+    (Call::Append(b"x"), "link", Err(Stop::Failed)),
+    (Call::Begin, "absent/f", Err(Stop::Failed)),
+    (Call::Begin, "base", Err(Stop::Failed)),
+    // a link gives way
+    (Call::Begin, "link", Ok(())),
+    (Call::RenameTo("base/g"), "base/1/f", Ok(())),
+    (Call::RenameTo("base/h"), "base/1/f", Err(Stop::Failed)),
+    (Call::RenameTo("other"), "base", Err(Stop::Failed)),
+    (Call::RenameTo("absent/h"), "base/g", Err(Stop::Failed)),
+    (Call::Remove, "base", Err(Stop::Failed)),
+    (Call::Remove, "base/1", Ok(())),
+    (Call::Remove, "base/1", Ok(())),
+    (Call::Remove, "pipe", Ok(())),
+    (Call::Remove, "old", Ok(())),
+];
+
+const LISTED: &[(&str, Node)] = &[
+    (
+        "PG_VERSION",
+        Node::File {
+            size: 3,
+            time: 1000,
+        },
+    ),
+    ("base", Node::Folder),
+    (
+        "base/f",
+        Node::File {
+            size: 1,
+            time: 2000,
+        },
+    ),
+    ("global", Node::Folder),
+    ("link", Node::Link),
+    ("old", Node::File { size: 0, time: 0 }),
+    ("pipe", Node::Other),
+];
+
+const FILL: &str =
+    "mkdir base global; printf 16. >PG_VERSION; touch -d @1000 PG_VERSION; printf x >base/f
+touch -d @2000 base/f; ln -s PG_VERSION link; touch -d 1960-01-01 old; mkfifo pipe";
+
+fn check_listed(rt: &impl Abort, alloc: Global, tree: &mut RealTree) -> Result<(), Stop> {
+    let seen = tree.list(alloc)?;
+    same(rt, seen.len(), LISTED.len());
+    for (seen, (path, node)) in seen.iter().zip(LISTED) {
+        same(rt, seen.path.as_str(), *path);
+        same(rt, seen.node, *node);
+    }
+    Ok(())
+}
+
+// Each call answers so, and counts a fault where it fails.
+fn check_calls(rt: &impl Abort, tree: &mut RealTree) {
+    for (call, path, wanted) in CALLS {
+        let faults = tree.faults().saturating_add(u64::from(wanted.is_err()));
+        same(rt, answer(tree, *call, path), *wanted);
+        same(rt, tree.faults(), faults);
+    }
+}
+
+const LEFT: &str =
+    "[ \"$(cat base/g base/n link PG_VERSION)\" = somenew16. ]; mkdir global/pg_control";
+
+// What is read of a version file of three bytes, of a folder, and of an absent file, into two bytes.
+fn check_reads(rt: &impl Abort, alloc: Global, tree: &mut RealTree) -> Result<(), Fail> {
+    let mut room = [0u8; 2];
+    let wal = Known::Wal(String::from_str(alloc, "000000010000000000000001")?);
+    same(rt, tree.read(&Known::Version, 0, &mut room), Ok(Some(2)));
+    same(rt, tree.read(&Known::Version, 2, &mut room), Ok(Some(1)));
+    same(rt, tree.read(&Known::Version, 3, &mut room), Ok(Some(0)));
+    same(rt, tree.read(&Known::Control, 0, &mut room), Ok(None));
+    same(rt, tree.read(&wal, 0, &mut room), Ok(None));
+    same(rt, room.as_slice(), b".6");
+    Ok(())
+}
+
+#[test]
+fn does_each_call(rt: HostRuntime) -> Result<(), Fail> {
+    let scratch = Scratch::new(rt, "tree")?;
+    let mut tree = RealTree::new(rt);
+    same(&rt, tree.open(&scratch.path), Ok(()));
+    assert!(rt; scratch.shell(FILL)?);
+    check_listed(&rt, rt.alloc(), &mut tree)?;
+    check_calls(&rt, &mut tree);
+    assert!(rt; scratch.shell(LEFT)?);
+    check_reads(&rt, rt.alloc(), &mut tree)?;
+    scratch.remove()?;
+    Ok(())
+}
+
+// A file that changes while it is read: what is done to it, and the reading of 4 bytes behind that.
+const READS: &[(&str, u64, Result<Option<usize>, Stop>)] = &[
+    ("printf 123456 >PG_VERSION", 0, Ok(Some(4))),
+    // what is added isn't read, but by the next reading
+    ("printf 789 >>PG_VERSION", 4, Ok(Some(2))),
+    ("true", 6, Ok(Some(0))),
+    ("true", 0, Ok(Some(4))),
+    ("true", 4, Ok(Some(4))),
+    // what is gone can't be read
+    ("truncate -s 5 PG_VERSION", 8, Err(Stop::Failed)),
+    ("true", 0, Ok(Some(4))),
+];
+
+#[test]
+fn reads_what_was_there_at_the_start(rt: HostRuntime) -> Result<(), Fail> {
+    let scratch = Scratch::new(rt, "reading")?;
+    let mut tree = RealTree::new(rt);
+    same(&rt, tree.open(&scratch.path), Ok(()));
+    let mut room = [0u8; 4];
+    for (change, at, wanted) in READS {
+        assert!(rt; scratch.shell(change)?, "{change}");
+        same(&rt, tree.read(&Known::Version, *at, &mut room), *wanted);
+    }
+    scratch.remove()?;
+    Ok(())
+}

@@ -1,0 +1,139 @@
+// What a stop leaves of a disk in memory, at each moment of the disk model's worked example.
+use crate::disk::{Call, FOLDER, X, Y, Z, disk_of, run};
+use crate::same::same;
+use pgb_memory::{ImageFault, MemDisk};
+use pgb_outside::Stop;
+use std::alloc::{AllocError, Global};
+use std::process::Abort;
+use std::test::Fail;
+
+// The worked example's calls, made on an empty disk.
+fn worked_disk(alloc: Global) -> Result<MemDisk, Stop> {
+    let mut disk = disk_of(alloc, &[], &[])?;
+    for call in WORKED {
+        run(&mut disk, call)?;
+    }
+    Ok(disk)
+}
+
+const WORKED: &[Call] = &[
+    Call::Begin(X),
+    Call::Append(X, "a"),
+    Call::Sync(X),
+    Call::Rename(X, Y),
+    Call::Settle(FOLDER),
+];
+
+// The loose names at a moment.
+fn loose_then(alloc: Global, disk: &MemDisk, moment: u64) -> Result<String, AllocError> {
+    let mut text = String::new(alloc);
+    for name in &disk.loose(alloc, moment)? {
+        text.push_str(name)?;
+        text.push(' ')?;
+    }
+    Ok(text)
+}
+
+// What a name keeps at a moment, `-` for nothing and else the bytes.
+fn kept_then(alloc: Global, disk: &MemDisk, moment: u64, name: &str) -> Result<String, AllocError> {
+    let mut text = String::new(alloc);
+    for value in &disk.kept(alloc, moment, name)? {
+        match value {
+            Some(bytes) => {
+                for byte in bytes {
+                    text.push(*byte as char)?;
+                }
+            }
+            None => text.push('-')?,
+        }
+        text.push(' ')?;
+    }
+    Ok(text)
+}
+
+// The loose names at a moment, and what x and y keep.
+fn check_moment(
+    rt: &impl Abort,
+    alloc: Global,
+    disk: &MemDisk,
+    moment: u64,
+    loose: &str,
+    x: &str,
+    y: &str,
+) -> Result<(), AllocError> {
+    same(rt, loose_then(alloc, disk, moment)?.as_str(), loose);
+    same(rt, kept_then(alloc, disk, moment, X)?.as_str(), x);
+    same(rt, kept_then(alloc, disk, moment, Y)?.as_str(), y);
+    Ok(())
+}
+
+#[test]
+fn what_moments_keep(rt: HostRuntime) -> Result<(), Fail> {
+    let alloc = rt.alloc();
+    let disk = worked_disk(alloc)?;
+    same(&rt, disk.moment(), 5);
+    check_moment(&rt, alloc, &disk, 0, "", "- ", "- ")?;
+    check_moment(&rt, alloc, &disk, 1, "archive/demo/x ", "- ", "- ")?;
+    check_moment(&rt, alloc, &disk, 2, "archive/demo/x ", "- ", "- ")?;
+    check_moment(&rt, alloc, &disk, 3, "", "- a ", "- ")?;
+    check_moment(&rt, alloc, &disk, 4, "", "- a - ", "- a ")?;
+    check_moment(&rt, alloc, &disk, 5, "", "- ", "a ")?;
+    check_moment(&rt, alloc, &disk, 6, "", "- ", "a ")?;
+    Ok(())
+}
+
+// The image at a moment, as `name:size` of each name, where these positions of kept values and these bytes of loose names are
+// chosen.
+fn image_then(
+    alloc: Global,
+    disk: &MemDisk,
+    moment: u64,
+    positions: &[(&str, u32)],
+    loose: &[(&str, &str)],
+) -> Result<String, ImageFault> {
+    let mut chosen = Vec::new(alloc);
+    for (name, position) in positions {
+        chosen.push((String::from_str(alloc, name)?, *position))?;
+    }
+    let mut torn = Vec::new(alloc);
+    for (name, bytes) in loose {
+        let name = String::from_str(alloc, name)?;
+        torn.push((name, Vec::from_slice(alloc, bytes.as_bytes())?))?;
+    }
+    let mut text = String::new(alloc);
+    for (name, bytes) in &disk.image(alloc, moment, &chosen, &torn)? {
+        write!(text, "{}:{} ", name, bytes.len())?;
+    }
+    Ok(text)
+}
+
+// The moment, the positions, the bytes of loose names, and the image.
+const IMAGES: &[(
+    u64,
+    &[(&str, u32)],
+    &[(&str, &str)],
+    Result<&str, ImageFault>,
+)] = &[
+    (4, &[(Y, 0), (X, 1)], &[], Ok("archive/demo/x:1 ")),
+    (4, &[], &[], Ok("archive/demo/y:1 ")),
+    (4, &[(X, 1)], &[], Ok("archive/demo/x:1 archive/demo/y:1 ")),
+    (4, &[(X, 1), (X, 2), (Y, 0)], &[], Ok("")),
+    (2, &[], &[(X, "torn")], Ok("archive/demo/x:4 ")),
+    (2, &[], &[], Ok("")),
+    (4, &[(X, 3)], &[], Err(ImageFault::Position)),
+    (4, &[(Z, 1)], &[], Err(ImageFault::Position)),
+    (4, &[], &[(X, "torn")], Err(ImageFault::NotLoose)),
+];
+
+#[test]
+fn images(rt: HostRuntime) -> Result<(), Fail> {
+    let alloc = rt.alloc();
+    let disk = worked_disk(alloc)?;
+    for (moment, positions, loose, want) in IMAGES {
+        match image_then(alloc, &disk, *moment, positions, loose) {
+            Ok(text) => same(&rt, Ok(text.as_str()), *want),
+            Err(fault) => same(&rt, Err(fault), *want),
+        }
+    }
+    Ok(())
+}

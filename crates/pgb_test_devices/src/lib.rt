@@ -1,0 +1,25 @@
+//! Tests of the devices in memory, and of the archive over a disk in memory, by values from outside.
+#![tactic(auto)]
+
+#[cfg(test)]
+mod archive;
+#[cfg(test)]
+mod disk;
+#[cfg(test)]
+mod ends;
+#[cfg(test)]
+mod files;
+#[cfg(test)]
+mod images;
+#[cfg(test)]
+mod locks;
+#[cfg(test)]
+mod pushes;
+#[cfg(test)]
+mod same;
+#[cfg(test)]
+mod sink;
+#[cfg(test)]
+mod source;
+#[cfg(test)]
+mod tree;

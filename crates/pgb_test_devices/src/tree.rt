@@ -1,0 +1,252 @@
+// A data folder in memory: what its calls do, refuse and count.
+use crate::same::same;
+use pgb_memory::{MemNode, MemTree, TreeFault};
+use pgb_outside::{Known, Node, Stop, Tree};
+use std::alloc::{AllocError, Global};
+use std::process::Abort;
+use std::test::Fail;
+
+// A call that changes something.
+#[derive(Clone, Copy)]
+enum Call {
+    Make(&'static str),
+    Begin(&'static str),
+    // and whether it begins
+    BeginNew(&'static str, bool),
+    Append(&'static str),
+    Rename(&'static str, &'static str),
+    Remove(&'static str),
+}
+
+// How a call ends, by its counts.
+#[derive(Clone, Copy, Debug, PartialEq, Eq)]
+enum End {
+    Done,
+    Fault,
+    Misuse,
+}
+
+fn run<T: Tree>(tree: &mut T, call: &Call) -> Result<(), Stop> {
+    match call {
+        Call::Make(folder) => tree.make(folder),
+        Call::Begin(path) => tree.begin(path),
+        Call::BeginNew(path, begins) => {
+            if tree.begin_new(path)? == *begins {
+                Ok(())
+            } else {
+                Err(Stop::NoMemory)
+            }
+        }
+        Call::Append(path) => tree.append(path, b"more"),
+        Call::Rename(from, to) => tree.rename(from, to),
+        Call::Remove(path) => tree.remove(path),
+    }
+}
+
+// A path with its file.
+fn file(alloc: Global, path: &str, text: &str, time: u64) -> Result<(String, MemNode), AllocError> {
+    let bytes = Vec::from_slice(alloc, text.as_bytes())?;
+    Ok((
+        String::from_str(alloc, path)?,
+        MemNode::File { bytes, time },
+    ))
+}
+
+fn folder(alloc: Global, path: &str) -> Result<(String, MemNode), AllocError> {
+    Ok((String::from_str(alloc, path)?, MemNode::Folder))
+}
+
+fn link(alloc: Global, path: &str) -> Result<(String, MemNode), AllocError> {
+    Ok((String::from_str(alloc, path)?, MemNode::Link))
+}
+
+// The nodes of a small data folder, in no order.
+fn cluster_nodes(alloc: Global) -> Result<Vec<(String, MemNode)>, AllocError> {
+    let mut nodes = Vec::new(alloc);
+    nodes.push(file(alloc, "pg_wal/1", "seg", 7)?)?;
+    nodes.push(folder(alloc, "pg_wal")?)?;
+    nodes.push(file(alloc, "PG_VERSION", "16", 5)?)?;
+    nodes.push(folder(alloc, "pg_tblspc")?)?;
+    nodes.push(link(alloc, "pg_tblspc/9")?)?;
+    Ok(nodes)
+}
+
+fn cluster(alloc: Global, fail: &[u64]) -> Result<MemTree, TreeFault> {
+    let nodes = cluster_nodes(alloc)?;
+    MemTree::new(alloc, nodes, Vec::from_slice(alloc, fail)?)
+}
+
+// The nodes of a tree, a line each.
+fn listed<T: Tree>(alloc: Global, tree: &mut T) -> Result<String, Stop> {
+    let mut text = String::new(alloc);
+    for seen in tree.list(alloc)? {
+        text.push_str(&seen.path)?;
+        match seen.node {
+            Node::File { size, time } => write!(text, " {size} bytes at {time}\n")?,
+            Node::Folder => text.push_str("/\n")?,
+            Node::Link => text.push_str(" link\n")?,
+            Node::Other => text.push_str(" other\n")?,
+        }
+    }
+    Ok(text)
+}
+
+// Whether a known file is read whole as this text, or is absent.
+fn reads<T: Tree>(tree: &mut T, what: &Known, want: Option<&str>) -> Result<bool, Stop> {
+    let mut buf = [0; 8];
+    match (tree.read(what, 0, &mut buf)?, want) {
+        (Some(count), Some(text)) => Ok(count <= 8 && &buf[..count] == text.as_bytes()),
+        (None, None) => Ok(true),
+        _ => Ok(false),
+    }
+}
+
+fn check_call(rt: &impl Abort, tree: &mut MemTree, call: Call, end: End) {
+    let (faults, misuses) = (tree.faults(), tree.misuses());
+    let answer = run(tree, &call);
+    let want = if end == End::Done {
+        Ok(())
+    } else {
+        Err(Stop::Failed)
+    };
+    same(rt, answer, want);
+    let ended = if tree.misuses() > misuses {
+        End::Misuse
+    } else if tree.faults() > faults {
+        End::Fault
+    } else {
+        End::Done
+    };
+    same(rt, ended, end);
+}
+
+fn check_makes_and_begins(rt: &impl Abort, tree: &mut MemTree) {
+    check_call(rt, tree, Call::Make("base"), End::Done);
+    check_call(rt, tree, Call::Make("base"), End::Done);
+    check_call(rt, tree, Call::Make("base/1/2"), End::Misuse);
+    check_call(rt, tree, Call::Make("PG_VERSION"), End::Fault);
+    check_call(rt, tree, Call::Make("PG_VERSION/x"), End::Misuse);
+    check_call(rt, tree, Call::Begin("base/new"), End::Done);
+    check_call(rt, tree, Call::Begin("base"), End::Fault);
+    check_call(rt, tree, Call::Begin("pg_tblspc/9"), End::Fault);
+    check_call(rt, tree, Call::Begin("none/x"), End::Misuse);
+    check_call(rt, tree, Call::BeginNew("base/new", false), End::Done);
+    check_call(rt, tree, Call::BeginNew("base/alone", true), End::Done);
+    check_call(rt, tree, Call::BeginNew("base/alone", false), End::Done);
+    check_call(rt, tree, Call::BeginNew("base", false), End::Done);
+    check_call(rt, tree, Call::BeginNew("pg_tblspc/9", false), End::Done);
+    check_call(rt, tree, Call::BeginNew("none/x", false), End::Misuse);
+}
+
+fn check_other_calls(rt: &impl Abort, tree: &mut MemTree) {
+    check_call(rt, tree, Call::Append("base/new"), End::Done);
+    check_call(rt, tree, Call::Append("PG_VERSION"), End::Done);
+    check_call(rt, tree, Call::Append("base"), End::Misuse);
+    check_call(rt, tree, Call::Append("base/none"), End::Misuse);
+    check_call(rt, tree, Call::Rename("base/new", "base/old"), End::Done);
+    check_call(rt, tree, Call::Rename("base/new", "base/old"), End::Misuse);
+    check_call(rt, tree, Call::Rename("pg_tblspc/9", "link"), End::Misuse);
+    check_call(rt, tree, Call::Rename("base/old", "none/x"), End::Misuse);
+    check_call(rt, tree, Call::Rename("base/old", "pg_wal"), End::Fault);
+    check_call(
+        rt,
+        tree,
+        Call::Rename("PG_VERSION", "pg_tblspc/9"),
+        End::Done,
+    );
+    check_call(rt, tree, Call::Remove("base"), End::Misuse);
+    check_call(rt, tree, Call::Remove("pg_wal/1"), End::Done);
+    check_call(rt, tree, Call::Remove("pg_wal"), End::Done);
+    check_call(rt, tree, Call::Remove("pg_wal"), End::Done);
+}
+
+const LEFT: &str = "base/
+base/alone 0 bytes at 0
+base/old 4 bytes at 0
+pg_tblspc/
+pg_tblspc/9 6 bytes at 5
+";
+
+#[test]
+fn calls_of_a_tree(rt: HostRuntime) -> Result<(), Fail> {
+    let alloc = rt.alloc();
+    let mut tree = cluster(alloc, &[])?;
+    check_makes_and_begins(&rt, &mut tree);
+    check_other_calls(&rt, &mut tree);
+    same(&rt, listed(alloc, &mut tree)?.as_str(), LEFT);
+    Ok(())
+}
+
+#[test]
+fn reads_of_a_tree(rt: HostRuntime) -> Result<(), Fail> {
+    let alloc = rt.alloc();
+    let mut tree = cluster(alloc, &[])?;
+    let segment = Known::Wal(String::from_str(alloc, "1")?);
+    let absent = Known::Wal(String::from_str(alloc, "2")?);
+    same(&rt, reads(&mut tree, &Known::Version, Some("16")), Ok(true));
+    same(&rt, reads(&mut tree, &segment, Some("seg")), Ok(true));
+    same(&rt, reads(&mut tree, &absent, None), Ok(true));
+    same(&rt, reads(&mut tree, &Known::Control, None), Ok(true));
+    assert!(rt; matches!(tree.node("pg_wal/1"), Some(MemNode::File { time: 7, .. })));
+    assert!(rt; matches!(tree.node("pg_tblspc/9"), Some(MemNode::Link)));
+    assert!(rt; tree.node("base").is_none());
+    same(&rt, tree.place(), "");
+    same(&rt, tree.open("/srv/data"), Ok(()));
+    same(&rt, tree.place(), "/srv/data");
+    Ok(())
+}
+
+// The second call on a tree fails and changes nothing, and the same call after it does.
+fn check_failing(rt: &impl Abort, alloc: Global, call: Call) -> Result<(), Fail> {
+    let mut tree = cluster(alloc, &[1])?;
+    let before = listed(alloc, &mut tree)?;
+    same(rt, run(&mut tree, &call), Err(Stop::Failed));
+    same(rt, listed(alloc, &mut tree)?.as_str(), before.as_str());
+    same(rt, tree.faults(), 1);
+    same(rt, tree.misuses(), 0);
+    same(rt, run(&mut tree, &call), Ok(()));
+    let after = listed(alloc, &mut tree)?;
+    same(rt, after.as_str() == before.as_str(), false);
+    Ok(())
+}
+
+#[test]
+fn each_call_of_a_tree_fails(rt: HostRuntime) -> Result<(), Fail> {
+    let alloc = rt.alloc();
+    check_failing(&rt, alloc, Call::Make("base"))?;
+    check_failing(&rt, alloc, Call::Begin("pg_wal/1"))?;
+    check_failing(&rt, alloc, Call::BeginNew("pg_wal/2", true))?;
+    check_failing(&rt, alloc, Call::Append("PG_VERSION"))?;
+    check_failing(&rt, alloc, Call::Rename("PG_VERSION", "pg_wal/1"))?;
+    check_failing(&rt, alloc, Call::Remove("pg_wal/1"))?;
+    let mut tree = cluster(alloc, &[0, 1, 2])?;
+    same(&rt, tree.open("data"), Err(Stop::Failed));
+    assert!(rt; listed(alloc, &mut tree).is_err());
+    same(
+        &rt,
+        reads(&mut tree, &Known::Version, None),
+        Err(Stop::Failed),
+    );
+    same(&rt, tree.place(), "");
+    Ok(())
+}
+
+// The path whose folder isn't there.
+fn lost_path(made: Result<MemTree, TreeFault>) -> Option<String> {
+    match made {
+        Ok(_tree) => None,
+        Err(TreeFault::NoFolder { path }) => Some(path),
+        Err(TreeFault::NoMemory) => None,
+    }
+}
+
+#[test]
+fn lost_folder(rt: HostRuntime) -> Result<(), Fail> {
+    let alloc = rt.alloc();
+    let mut nodes = Vec::new(alloc);
+    nodes.push(folder(alloc, "a/b/c")?)?;
+    nodes.push(folder(alloc, "a")?)?;
+    let lost = lost_path(MemTree::new(alloc, nodes, Vec::new(alloc)));
+    same(&rt, lost.as_deref(), Some("a/b/c"));
+    Ok(())
+}

@@ -1,0 +1,313 @@
+// Jobs over links that give fixed bytes, with digests of `sha1sum`.
+ghost use Rattle.std.specs.Prelude.{◌≡◌, ◌<◌, ◌^◌, ℕ, Some, All, IfOk, length, map, vec_len, slice_get};
+ghost use Rattle.pgb_outside.specs.Links.{LinkState};
+ghost use Rattle.pgb_frame.specs.Frames.{FitsJob};
+ghost use Rattle.pgb_frame.specs.Views.{job_of};
+ghost use Rattle.pgb_dispatch.specs.Run.{IsReady};
+
+use crate::same::same;
+use crate::wire::{ASKS_A, SETUP, X, YZ};
+use pgb_dispatch::{run_jobs, setup};
+use pgb_frame::{Frame, Job, decode_frame};
+use pgb_links::{MemKeep, MemTurns, RawLink};
+use pgb_outside::Link;
+use std::alloc::{AllocError, Global};
+use std::process::Abort;
+use std::test::Fail;
+
+// At most two bytes of `b`.
+const ASKS_B: &[u8] =
+    b"J\x00\x00\x00\x19R\x00\x00\x00\x01T\x00\x01b\x00\x00\x00\x00\x00\x00\x00\x00\x00\x00\x00\x00\x00\x00\x00\x02";
+
+// The replies on both jobs, one after the other.
+const BOTH: &[u8] =
+    b"P\x00\x00\x00\x01xE\x00\x00\x00\x1c\x00\x00\x00\x00\x00\x00\x00\x01\x11\xf6\xad\x8e\xc5*)\x84\xab\xaa\xfd|;Qe\x03x\x5c rP\x00\x00\x00\x02yzE\x00\x00\x00\x1c\x00\x00\x00\x00\x00\x00\x00\x02\x8c\xdacjy\x8co\x89k{\x82\xcf!y~\xc3\xf7\xaduY";
+
+// At most 70,000 bytes of `a`, and at most 65,536 of `b`.
+pub(crate) const ASKS_LONG: &[u8] =
+    b"J\x00\x00\x00-R\x00\x00\x00\x02T\x00\x01a\x00\x00\x00\x00\x00\x00\x00\x00\x00\x00\x00\x00\x00\x01\x11pT\x00\x01b\x00\x00\x00\x00\x00\x00\x00\x00\x00\x00\x00\x00\x00\x01\x00\x00";
+
+// Digests of so many bytes 7.
+const SUM_OF_70000: &[u8] = b"8\xe8\x0e\x04\x15\xbc\xb15\xc1>\xf0\xb7\x13\x98\xf0\xd7k<\xd7\xce";
+
+const SUM_OF_65536: &[u8] =
+    b"\xa4\x8f`\xa4\xc5\x09\x9a\x1b\x00\x08[\xe3\xb4,\x9f\x0b\xbb\x94\xd1\xc6";
+
+// The second reply with the digest of the first, and with three bytes.
+const OTHER_SUM: &[u8] =
+    b"P\x00\x00\x00\x02yzE\x00\x00\x00\x1c\x00\x00\x00\x00\x00\x00\x00\x02\x11\xf6\xad\x8e\xc5*)\x84\xab\xaa\xfd|;Qe\x03x\x5c r";
+
+const TOO_LONG: &[u8] =
+    b"P\x00\x00\x00\x03yzyE\x00\x00\x00\x1c\x00\x00\x00\x00\x00\x00\x00\x038:O3I\xa4d@\xbaEY\xfeU\xd1\x10\xe5\xa7\x0d\xb2\xec";
+
+/// The jobs that these frames tell.
+pub(crate) fn jobs_of(alloc: Global, frames: &[&[u8]]) -> Result<Vec<Job>, Fail>
+    ensures fits { IfOk result (λ jobs. All (λ j. FitsJob (job_of j)) jobs.items) }
+    ensures count { IfOk result (λ jobs. length jobs.items ≡ length frames.now) }
+{
+    let mut jobs = Vec::new(alloc);
+    for frame in frames {
+        match decode_frame(alloc, frame) {
+            Ok((Frame::Job(job), _)) => jobs.push(job)?,
+            _ => return Err(Fail::new("it is a job")),
+        }
+    }
+    Ok(jobs)
+}
+
+// Adds what is held of each item of the job.
+fn add_held(text: &mut String, keep: &MemKeep<'_>, job: usize) -> Result<(), AllocError> {
+    text.push(' ')?;
+    for item in keep.ended(job) {
+        for byte in &item.bytes {
+            text.push(char::from(*byte))?;
+        }
+        text.push('.')?;
+    }
+    Ok(())
+}
+
+/// What came of the two jobs: the ending, the losses, how many links are left, and what is held of each.
+pub(crate) fn told<L: Link>(
+    alloc: Global,
+    links: &mut Vec<L>,
+    picks: &[u64],
+    fail: &[u64],
+) -> Result<String, Fail>
+    requires few { vec_len links.old < 2 ^ 32 }
+    requires ready { (i : ℕ) (s : LinkState) → slice_get (map L.link_state links.old.items) i ≡ Some s → IsReady s }
+{
+    let jobs = jobs_of(alloc, &[ASKS_A, ASKS_B])?;
+    let mut keep = MemKeep::new(alloc, &jobs, fail.to_vec(alloc)?)?;
+    let mut turns = MemTurns::new(picks.to_vec(alloc)?);
+    let mut lost = Vec::new(alloc);
+    let ending = run_jobs(
+        alloc,
+        &jobs,
+        links,
+        &mut turns,
+        &mut keep,
+        &mut (),
+        &mut lost,
+    );
+    let left = links.len();
+    let mut text = format!(in alloc; "{ending:?} {lost:?} {left} left:")?;
+    add_held(&mut text, &keep, 0)?;
+    add_held(&mut text, &keep, 1)?;
+    Ok(text)
+}
+
+// What a link gives, and which of its calls fail.
+#[derive(Clone, Copy)]
+struct Gives<'a>(&'a [u8], &'a [u64]);
+
+fn raw_link(alloc: Global, gives: Gives<'_>) -> Result<RawLink, AllocError> {
+    Ok(RawLink::new(gives.0.to_vec(alloc)?, gives.1.to_vec(alloc)?))
+}
+
+// Two links are picked so, and this call of the keeper fails.
+fn check_two(
+    rt: &impl Abort,
+    alloc: Global,
+    first: Gives<'_>,
+    second: Gives<'_>,
+    picks: &[u64],
+    fail: &[u64],
+    want: &str,
+) -> Result<(), Fail> {
+    let mut links = vec![in alloc; raw_link(alloc, first)?, raw_link(alloc, second)?]?;
+    same(rt, told(alloc, &mut links, picks, fail)?.as_str(), want);
+    Ok(())
+}
+
+const DONE: &str = "Ok(()) [] 2 left: x. yz.";
+
+const SECOND_FAILED: &str = "Ok(()) [Lost { place: 1, cause: Device }] 1 left: x. yz.";
+
+const NO_REPLY: &str = "Ok(()) [Lost { place: 1, cause: Form { at: 5 } }] 1 left: x. yz.";
+
+const LONGER: &str = "Ok(()) [Lost { place: 1, cause: Form { at: 8 } }] 1 left: x. yz.";
+
+const BROKEN_OFF: &str = "Ok(()) [Lost { place: 1, cause: Ended { at: 9 } }] 1 left: x. yz.";
+
+const WRONG_SUM: &str =
+    "Ok(()) [Lost { place: 1, cause: Sum { told: Sum([17, 246, 173, 142, 197, 42, 41, 132, 171, 170, 253, 124, 59, 81, 101, 3, 120, 92, 32, 114]), found: Sum([140, 218, 99, 106, 121, 140, 111, 137, 107, 123, 130, 207, 33, 121, 126, 195, 247, 173, 117, 89]) } }] 1 left: x. yz.";
+
+const FIRST_GIVES_NOTHING: &str =
+    "Err(WorkersLost) [Lost { place: 0, cause: Ended { at: 0 } }, Lost { place: 1, cause: Ended { at: 0 } }] 0 left:  yz.";
+
+const BOTH_FAILED: &str =
+    "Err(WorkersLost) [Lost { place: 0, cause: Device }, Lost { place: 1, cause: Device }] 0 left:  ";
+
+const UNREAD: &str = "Err(Unread { job: 1, item: 0 }) [] 1 left:  ";
+
+const NOT_KEPT: &str = "Err(Keep) [] 0 left:  ";
+
+#[test]
+fn two_jobs_over_two_links(rt: HostRuntime) -> Result<(), Fail> {
+    let alloc = rt.alloc();
+    let (x, yz, both) = (Gives(X, &[]), Gives(YZ, &[]), Gives(BOTH, &[]));
+    check_two(&rt, alloc, x, yz, &[], &[], DONE)?;
+    check_two(&rt, alloc, x, yz, &[1, 0, 1], &[], DONE)?;
+    check_two(&rt, alloc, x, yz, &[1, 1, 0], &[], DONE)?;
+    // A call on the second fails: as the job is sent, and as its reply is heard.
+    check_two(&rt, alloc, both, Gives(YZ, &[0]), &[], &[], SECOND_FAILED)?;
+    check_two(
+        &rt,
+        alloc,
+        both,
+        Gives(YZ, &[3]),
+        &[1, 1],
+        &[],
+        SECOND_FAILED,
+    )?;
+    // What the second gives is no reply, or breaks off.
+    check_two(&rt, alloc, both, Gives(ASKS_B, &[]), &[], &[], NO_REPLY)?;
+    check_two(&rt, alloc, both, Gives(TOO_LONG, &[]), &[], &[], LONGER)?;
+    check_two(&rt, alloc, both, Gives(&YZ[..9], &[]), &[], &[], BROKEN_OFF)?;
+    check_two(&rt, alloc, both, Gives(OTHER_SUM, &[]), &[], &[], WRONG_SUM)?;
+    Ok(())
+}
+
+#[test]
+fn jobs_that_end_otherwise(rt: HostRuntime) -> Result<(), Fail> {
+    let alloc = rt.alloc();
+    let (nothing, x, yz) = (Gives(b"", &[]), Gives(X, &[]), Gives(YZ, &[]));
+    check_two(&rt, alloc, nothing, yz, &[], &[], FIRST_GIVES_NOTHING)?;
+    let (first, second) = (Gives(X, &[0]), Gives(YZ, &[0]));
+    check_two(&rt, alloc, first, second, &[], &[], BOTH_FAILED)?;
+    check_two(&rt, alloc, x, Gives(b"U\0\0\0\0", &[]), &[1], &[], UNREAD)?;
+    check_two(&rt, alloc, x, yz, &[], &[1], NOT_KEPT)?;
+    Ok(())
+}
+
+// Adds the reply on an item with so many bytes 7.
+fn add_reply(out: &mut Vec<u8>, size: u32, sum: &[u8]) -> Result<(), AllocError> {
+    let sevens = [7u8; 32768];
+    let mut left = size;
+    while left > 0 {
+        let part = left.min(32768);
+        out.push(b'P')?;
+        out.extend_from_slice(&part.to_be_bytes())?;
+        out.extend_from_slice(&sevens[..part as usize])?;
+        left -= part;
+    }
+    out.extend_from_slice(b"E\0\0\0\x1c\0\0\0\0")?;
+    out.extend_from_slice(&size.to_be_bytes())?;
+    out.extend_from_slice(sum)
+}
+
+// A link that gives the reply to the long job three times.
+fn long_link(alloc: Global, fail: &[u64]) -> Result<RawLink, AllocError> {
+    let mut input = Vec::new(alloc);
+    for _ in 0..3 {
+        add_reply(&mut input, 70000, SUM_OF_70000)?;
+        add_reply(&mut input, 65536, SUM_OF_65536)?;
+    }
+    Ok(RawLink::new(input, fail.to_vec(alloc)?))
+}
+
+// How many bytes 7 are held of each item of the job: none where another byte is.
+fn sevens(alloc: Global, keep: &MemKeep<'_>, job: usize) -> Result<Vec<usize>, AllocError> {
+    let mut counts = Vec::new(alloc);
+    for item in keep.ended(job) {
+        let all = item.bytes.iter().all(|byte| *byte == 7);
+        counts.push(if all { item.bytes.len() } else { 0 })?;
+    }
+    Ok(counts)
+}
+
+// Three long jobs over three links, of which the second has calls that fail and is lost then.
+fn check_long(
+    rt: &impl Abort,
+    alloc: Global,
+    picks: &[u64],
+    fail: &[u64],
+    losses: usize,
+) -> Result<(), Fail> {
+    let jobs = jobs_of(alloc, &[ASKS_LONG, ASKS_LONG, ASKS_LONG])?;
+    let mut links = vec![in alloc;
+        long_link(alloc, &[])?,
+        long_link(alloc, fail)?,
+        long_link(alloc, &[])?,
+    ]?;
+    let mut keep = MemKeep::new(alloc, &jobs, Vec::new(alloc))?;
+    let mut turns = MemTurns::new(picks.to_vec(alloc)?);
+    let mut lost = Vec::new(alloc);
+    let ending = run_jobs(
+        alloc,
+        &jobs,
+        &mut links,
+        &mut turns,
+        &mut keep,
+        &mut (),
+        &mut lost,
+    );
+    same(rt, ending.is_ok(), true);
+    same(
+        rt,
+        (lost.len(), links.len()),
+        (losses, 3usize.saturating_sub(losses)),
+    );
+    for job in 0..3 {
+        same(rt, sevens(alloc, &keep, job)?.as_slice(), &[70000, 65536]);
+    }
+    Ok(())
+}
+
+const IN_TURN: &[u64] = &[0, 1, 2, 0, 1, 2, 0, 1, 2];
+
+const LAST_FIRST: &[u64] = &[2, 2, 2, 2, 2, 2, 2, 2, 2, 1, 1, 1];
+
+#[test]
+fn three_long_jobs_over_three_links(rt: HostRuntime) -> Result<(), Fail> {
+    let alloc = rt.alloc();
+    check_long(&rt, alloc, &[], &[], 0)?;
+    check_long(&rt, alloc, LAST_FIRST, &[], 0)?;
+    check_long(&rt, alloc, IN_TURN, &[], 0)?;
+    // The second link is lost behind its second part, or as it is sent another job.
+    check_long(&rt, alloc, &[1, 1, 1], &[7], 1)?;
+    check_long(&rt, alloc, IN_TURN, &[7], 1)?;
+    check_long(&rt, alloc, LAST_FIRST, &[7], 1)?;
+    Ok(())
+}
+
+// What comes of telling two workers their roots, where these calls on their links fail.
+fn check_setup(
+    rt: &impl Abort,
+    alloc: Global,
+    one: &[u64],
+    other: &[u64],
+    want: &str,
+) -> Result<(), Fail> {
+    let Ok((Frame::Setup(roots), _)) = decode_frame(alloc, SETUP) else {
+        return Err(Fail::new("it is a setup"));
+    };
+    let mut links = vec![in alloc;
+        raw_link(alloc, Gives(b"", one))?,
+        raw_link(alloc, Gives(b"", other))?,
+    ]?;
+    let mut lost = Vec::new(alloc);
+    let ending = setup(alloc, &mut links, &roots, &mut lost);
+    let left = links.len();
+    let text = format!(in alloc; "{ending:?} {lost:?} {left} left")?;
+    same(rt, text.as_str(), want);
+    Ok(())
+}
+
+const FIRST_LOST: &str = "Ok(()) [Lost { place: 0, cause: Device }] 1 left";
+
+const SECOND_LOST: &str = "Ok(()) [Lost { place: 1, cause: Device }] 1 left";
+
+const BOTH_LOST: &str =
+    "Err(WorkersLost) [Lost { place: 0, cause: Device }, Lost { place: 1, cause: Device }] 0 left";
+
+#[test]
+fn workers_are_told_their_roots(rt: HostRuntime) -> Result<(), Fail> {
+    let alloc = rt.alloc();
+    check_setup(&rt, alloc, &[], &[], "Ok(()) [] 2 left")?;
+    check_setup(&rt, alloc, &[0], &[], FIRST_LOST)?;
+    check_setup(&rt, alloc, &[], &[0], SECOND_LOST)?;
+    check_setup(&rt, alloc, &[0], &[0], BOTH_LOST)?;
+    Ok(())
+}

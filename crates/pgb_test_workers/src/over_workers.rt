@@ -1,0 +1,160 @@
+// Jobs over links to workers in memory, which read their files.
+ghost use Rattle.std.specs.Prelude.{◌≡◌, ◌<◌, ◌^◌, ℕ, Some, IfOk, length, map, vec_len, slice_get};
+ghost use Rattle.pgb_outside.specs.Links.{LinkState};
+ghost use Rattle.pgb_dispatch.specs.Run.{IsReady};
+
+use crate::dispatch::{ASKS_LONG, jobs_of, told};
+use crate::same::same;
+use pgb_dispatch::run_jobs;
+use pgb_links::{MeetLink, MemKeep, MemLink, MemTurns};
+use pgb_memory::named_bytes;
+use pgb_outside::Link;
+use std::alloc::{AllocError, Global};
+use std::process::Abort;
+use std::test::Fail;
+
+// At most 70,000 bytes of one file, and at most 65,536 of the next.
+const ASKS_B_AND_C: &[u8] =
+    b"J\x00\x00\x00-R\x00\x00\x00\x02T\x00\x01b\x00\x00\x00\x00\x00\x00\x00\x00\x00\x00\x00\x00\x00\x01\x11pT\x00\x01c\x00\x00\x00\x00\x00\x00\x00\x00\x00\x00\x00\x00\x00\x01\x00\x00";
+
+const ASKS_C_AND_A: &[u8] =
+    b"J\x00\x00\x00-R\x00\x00\x00\x02T\x00\x01c\x00\x00\x00\x00\x00\x00\x00\x00\x00\x00\x00\x00\x00\x01\x11pT\x00\x01a\x00\x00\x00\x00\x00\x00\x00\x00\x00\x00\x00\x00\x00\x01\x00\x00";
+
+// A link for each of these lists of calls that fail, all to workers whose data folder holds these files.
+fn links_to(
+    alloc: Global,
+    files: &[(&str, &[u8])],
+    fails: &[&[u64]],
+) -> Result<Vec<MemLink>, AllocError>
+    ensures count { IfOk result (λ links. length links.items ≡ length fails.now) }
+    ensures ready { IfOk result (λ links. (i : ℕ) (s : LinkState) → slice_get (map ⟦<MemLink as Link>⟧.link_state links.items) i ≡ Some s → IsReady s) }
+{
+    let mut links = Vec::new(alloc);
+    for fail in fails {
+        let tree = named_bytes(alloc, files)?;
+        links.push(MemLink::new(alloc, tree, Vec::new(alloc), fail.to_vec(alloc)?)?)?;
+    }
+    Ok(links)
+}
+
+const SHORT_FILES: &[(&str, &[u8])] = &[("a", b"x"), ("b", b"yz")];
+
+const DONE: &str = "Ok(()) [] 2 left: x. yz.";
+
+const SECOND_FAILED: &str = "Ok(()) [Lost { place: 1, cause: Device }] 1 left: x. yz.";
+
+// Two workers are picked so, and these calls on the second fail.
+fn check_two(
+    rt: &impl Abort,
+    alloc: Global,
+    fail: &[u64],
+    picks: &[u64],
+    want: &str,
+) -> Result<(), Fail> {
+    let mut links = links_to(alloc, SHORT_FILES, &[&[], fail])?;
+    same(rt, told(alloc, &mut links, picks, &[])?.as_str(), want);
+    Ok(())
+}
+
+#[test]
+fn two_jobs_over_two_workers(rt: HostRuntime) -> Result<(), Fail> {
+    let alloc = rt.alloc();
+    check_two(&rt, alloc, &[], &[], DONE)?;
+    // The second is heard first.
+    check_two(&rt, alloc, &[], &[1, 0, 1], DONE)?;
+    check_two(&rt, alloc, &[], &[1, 1, 0], DONE)?;
+    // A call on the second fails: as its job is sent, right behind that, and behind its part.
+    check_two(&rt, alloc, &[0], &[], SECOND_FAILED)?;
+    check_two(&rt, alloc, &[1], &[1, 1], SECOND_FAILED)?;
+    check_two(&rt, alloc, &[3], &[1, 1], SECOND_FAILED)?;
+    Ok(())
+}
+
+#[test]
+fn both_jobs_are_sent_before_one_is_heard(rt: HostRuntime) -> Result<(), Fail> {
+    let alloc = rt.alloc();
+    let files = named_bytes(alloc, SHORT_FILES)?;
+    let (one, other) = MeetLink::two(alloc, files, Vec::new(alloc))?;
+    let mut links = vec![in alloc; one, other]?;
+    same(&rt, told(alloc, &mut links, &[], &[])?.as_str(), DONE);
+    Ok(())
+}
+
+// Adds what is held of each item of the job: its first byte and how many there are, if all are the same.
+fn add_held(text: &mut String, keep: &MemKeep<'_>, job: usize) -> Result<(), AllocError> {
+    text.push(' ')?;
+    for item in keep.ended(job) {
+        let first = item.bytes.first().copied().unwrap_or(b'-');
+        let is_one = item.bytes.iter().all(|byte| *byte == first);
+        let letter = if is_one { char::from(first) } else { '?' };
+        write!(text, "{letter}{}.", item.bytes.len())?;
+    }
+    Ok(())
+}
+
+// What came of three long jobs: the ending, how many links were lost and are left, and what is held of each job.
+fn told_long<L: Link>(alloc: Global, links: &mut Vec<L>, picks: &[u64]) -> Result<String, Fail>
+    requires few { vec_len links.old < 2 ^ 32 }
+    requires ready { (i : ℕ) (s : LinkState) → slice_get (map L.link_state links.old.items) i ≡ Some s → IsReady s }
+{
+    let jobs = jobs_of(alloc, &[ASKS_LONG, ASKS_B_AND_C, ASKS_C_AND_A])?;
+    let mut keep = MemKeep::new(alloc, &jobs, Vec::new(alloc))?;
+    let mut turns = MemTurns::new(picks.to_vec(alloc)?);
+    let mut lost = Vec::new(alloc);
+    let ending = run_jobs(
+        alloc,
+        &jobs,
+        links,
+        &mut turns,
+        &mut keep,
+        &mut (),
+        &mut lost,
+    );
+    let gone = lost.len();
+    let left = links.len();
+    let mut text = format!(in alloc; "{ending:?} {gone} lost {left} left:")?;
+    add_held(&mut text, &keep, 0)?;
+    add_held(&mut text, &keep, 1)?;
+    add_held(&mut text, &keep, 2)?;
+    Ok(text)
+}
+
+// Three workers are picked so, and these calls on the second fail.
+fn check_three(
+    rt: &impl Abort,
+    alloc: Global,
+    files: &[(&str, &[u8])],
+    picks: &[u64],
+    fail: &[u64],
+    want: &str,
+) -> Result<(), Fail> {
+    let mut links = links_to(alloc, files, &[&[], fail, &[]])?;
+    same(rt, told_long(alloc, &mut links, picks)?.as_str(), want);
+    Ok(())
+}
+
+const IN_TURN: &[u64] = &[0, 1, 2, 0, 1, 2, 0, 1, 2];
+
+const LAST_FIRST: &[u64] = &[2, 2, 2, 2, 2, 2, 2, 2, 2, 1, 1, 1];
+
+const ALL: &str = "Ok(()) 0 lost 3 left: a70000.b65536. b70000.c65536. c70000.a65536.";
+
+const BUT_ONE: &str = "Ok(()) 1 lost 2 left: a70000.b65536. b70000.c65536. c70000.a65536.";
+
+#[test]
+fn three_long_jobs_over_three_workers(rt: HostRuntime) -> Result<(), Fail> {
+    let alloc = rt.alloc();
+    let a = vec![in alloc; b'a'; 70000]?;
+    let b = vec![in alloc; b'b'; 70000]?;
+    let c = vec![in alloc; b'c'; 70000]?;
+    let files: &[(&str, &[u8])] = &[("a", &a), ("b", &b), ("c", &c)];
+    check_three(&rt, alloc, files, &[], &[], ALL)?;
+    check_three(&rt, alloc, files, LAST_FIRST, &[], ALL)?;
+    check_three(&rt, alloc, files, IN_TURN, &[], ALL)?;
+    // The second link is lost behind its second part, or as it is sent its job.
+    check_three(&rt, alloc, files, &[], &[0], BUT_ONE)?;
+    check_three(&rt, alloc, files, &[1, 1, 1], &[7], BUT_ONE)?;
+    check_three(&rt, alloc, files, IN_TURN, &[7], BUT_ONE)?;
+    check_three(&rt, alloc, files, LAST_FIRST, &[7], BUT_ONE)?;
+    Ok(())
+}

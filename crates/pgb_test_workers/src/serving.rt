@@ -1,0 +1,283 @@
+// A worker over devices in memory.
+use crate::same::same;
+use crate::wire::{DIGEST, DIGEST_JOB, SETUP};
+use pgb_frame::{Frame, ServeFault, decode_frame, serve};
+use pgb_memory::{MemFiles, MemSink, MemSource, named_bytes};
+use pgb_outside::{Source, Stop};
+use std::alloc::{AllocError, Global};
+use std::process::Abort;
+use std::test::Fail;
+
+const NOTHING_READ: &[u8] =
+    b"E\x00\x00\x00\x1c\0\0\0\0\0\0\0\0\xda\x39\xa3\xee\x5e\x6b\x4b\x0d\x32\x55\xbf\xef\x95\x60\x18\x90\xaf\xd8\x07\x09";
+
+const SETUP_AND_JOB: &[u8] =
+    b"S\0\0\0\x08\0\x02/a\0\x02/bJ\x00\x00\x00\x22D\x00\x00\x00\x01T\x00\x0aPG_VERSION\0\0\0\0\0\0\0\0\0\0\0\0\0\0\0\x03";
+
+fn start(alloc: Global, input: &[u8], fail: &[u64]) -> Result<MemSource, Stop> {
+    let bytes = Vec::from_slice(alloc, input)?;
+    let mut source = MemSource::new(alloc, Some(bytes), Vec::from_slice(alloc, fail)?);
+    open(&mut source)?;
+    Ok(source)
+}
+
+fn open<S: Source>(source: &mut S) -> Result<bool, Stop> {
+    source.open("input")
+}
+
+// A data folder with `PG_VERSION`, and a repository with nothing.
+fn version(alloc: Global, fail: &[u64]) -> Result<MemFiles, AllocError> {
+    let files = named_bytes(alloc, &[("PG_VERSION", b"abc")])?;
+    MemFiles::new(alloc, files, Vec::from_slice(alloc, fail)?)
+}
+
+fn nothing(alloc: Global) -> Result<MemFiles, AllocError> {
+    MemFiles::new(alloc, Vec::new(alloc), Vec::new(alloc))
+}
+
+fn joined(alloc: Global, pieces: &[&[u8]]) -> Result<Vec<u8>, AllocError> {
+    let mut all = Vec::new(alloc);
+    for piece in pieces {
+        all.extend_from_slice(piece)?;
+    }
+    Ok(all)
+}
+
+// How the worker ends on this input, and what it writes.
+fn check_served(
+    rt: &impl Abort,
+    alloc: Global,
+    input: &[u8],
+    tree: &mut MemFiles,
+    ending: Result<u64, ServeFault>,
+    written: &[u8],
+) -> Result<(), Stop> {
+    let mut source = start(alloc, input, &[])?;
+    let mut out = MemSink::new(alloc, Vec::new(alloc));
+    let mut repo = nothing(alloc)?;
+    same(
+        rt,
+        serve(alloc, &mut source, &mut out, tree, &mut repo),
+        ending,
+    );
+    same(rt, out.written(), written);
+    Ok(())
+}
+
+#[test]
+fn a_digest_job_is_answered(rt: HostRuntime) -> Result<(), Fail> {
+    let alloc = rt.alloc();
+    let mut tree = version(alloc, &[])?;
+    let input = joined(alloc, &[SETUP, DIGEST_JOB, DIGEST_JOB])?;
+    let wanted = joined(alloc, &[DIGEST, DIGEST])?;
+    check_served(&rt, alloc, &input, &mut tree, Ok(2), &wanted)?;
+    same(&rt, tree.place(), "/a");
+    Ok(())
+}
+
+const OF_REPO: &[u8] = b"J\0\0\0\x19R\0\0\0\x01R\0\x01x\0\0\0\0\0\0\0\0\0\0\0\0\0\0\0\x03";
+
+const OF_TREE: &[u8] = b"J\0\0\0\x19R\0\0\0\x01T\0\x01x\0\0\0\0\0\0\0\0\0\0\0\0\0\0\0\x03";
+
+#[test]
+fn absent_files(rt: HostRuntime) -> Result<(), Fail> {
+    let alloc = rt.alloc();
+    let input = joined(alloc, &[SETUP, OF_TREE, OF_REPO, DIGEST_JOB])?;
+    let mut tree = version(alloc, &[])?;
+    let wanted = joined(alloc, &[b"V\0\0\0\0", b"U\0\0\0\0", DIGEST])?;
+    check_served(&rt, alloc, &input, &mut tree, Ok(3), &wanted)?;
+    Ok(())
+}
+
+// The folder doesn't open, or a file of it isn't read.
+#[test]
+fn failing_calls(rt: HostRuntime) -> Result<(), Fail> {
+    let alloc = rt.alloc();
+    let input = joined(alloc, &[SETUP, DIGEST_JOB, DIGEST_JOB])?;
+    let mut closed = version(alloc, &[0])?;
+    check_served(
+        &rt,
+        alloc,
+        &input,
+        &mut closed,
+        Ok(2),
+        b"U\0\0\0\0U\0\0\0\0",
+    )?;
+    let mut failing = version(alloc, &[1])?;
+    let wanted = joined(alloc, &[b"U\0\0\0\0", DIGEST])?;
+    check_served(&rt, alloc, &input, &mut failing, Ok(2), &wanted)?;
+    Ok(())
+}
+
+fn check_cut(rt: &impl Abort, alloc: Global, input: &[u8]) -> Result<(), Stop> {
+    let mut tree = version(alloc, &[])?;
+    match input.len() {
+        0 | 13 => check_served(rt, alloc, input, &mut tree, Ok(0), b""),
+        52 => check_served(rt, alloc, input, &mut tree, Ok(1), DIGEST),
+        end => {
+            let ended = Err(ServeFault::Ended { at: end as u64 });
+            check_served(rt, alloc, input, &mut tree, ended, b"")
+        }
+    }
+}
+
+#[test]
+fn an_input_cut_at_each_length(rt: HostRuntime) -> Result<(), Fail> {
+    same(&rt, SETUP_AND_JOB.len(), 52);
+    for end in 0..=SETUP_AND_JOB.len() {
+        check_cut(&rt, rt.alloc(), &SETUP_AND_JOB[..end])?;
+    }
+    Ok(())
+}
+
+// Why the worker ends where this byte of a setup and a digest job is 0.
+fn zero_at(place: usize) -> Result<u64, ServeFault> {
+    let at = match place {
+        0 => 0,
+        4 => 5,
+        6 => 9,
+        10 => 11,
+        13 => 13,
+        17 | 18 => 18,
+        22 => 19,
+        23 => 23,
+        25..=35 => 26,
+        _ => return Ok(1),
+    };
+    Err(ServeFault::Form { at })
+}
+
+fn check_zero(rt: &impl Abort, alloc: Global, place: usize) -> Result<(), Stop> {
+    let mut input = Vec::from_slice(alloc, SETUP_AND_JOB)?;
+    if place < input.len() {
+        input[place] = 0;
+    }
+    let mut tree = version(alloc, &[])?;
+    let ending = zero_at(place);
+    let answer: &[u8] = match place {
+        51 => NOTHING_READ,
+        _ if ending.is_ok() => DIGEST,
+        _ => b"",
+    };
+    check_served(rt, alloc, &input, &mut tree, ending, answer)
+}
+
+#[test]
+fn an_input_with_each_byte_zero(rt: HostRuntime) -> Result<(), Fail> {
+    for place in 0..52usize {
+        check_zero(&rt, rt.alloc(), place)?;
+    }
+    Ok(())
+}
+
+// What the worker says to a frame that comes right behind its setup, or to one that comes first.
+fn check_frame(
+    rt: &impl Abort,
+    alloc: Global,
+    setup: &[u8],
+    frame: &[u8],
+    fault: ServeFault,
+) -> Result<(), Stop> {
+    let mut tree = nothing(alloc)?;
+    let input = joined(alloc, &[setup, frame])?;
+    check_served(rt, alloc, &input, &mut tree, Err(fault), b"")
+}
+
+#[test]
+fn frames_that_do_not_come_there(rt: HostRuntime) -> Result<(), Fail> {
+    let alloc = rt.alloc();
+    let form = ServeFault::Form { at: 13 };
+    check_frame(&rt, alloc, SETUP, b"U\0\0\0\0", form)?;
+    check_frame(&rt, alloc, SETUP, b"P\xff", form)?;
+    check_frame(&rt, alloc, SETUP, SETUP, form)?;
+    let long = ServeFault::TooLong { length: 67108865 };
+    check_frame(&rt, alloc, SETUP, b"J\x04\0\0\x01", long)?;
+    let ended = ServeFault::Ended { at: 18 };
+    check_frame(&rt, alloc, SETUP, b"J\x04\0\0\0", ended)?;
+    check_frame(&rt, alloc, b"", DIGEST_JOB, ServeFault::Form { at: 0 })?;
+    Ok(())
+}
+
+// What the worker writes on this input.
+fn written(alloc: Global, input: &[u8], tree: &mut MemFiles) -> Result<Vec<u8>, Stop> {
+    let mut source = start(alloc, input, &[])?;
+    let mut out = MemSink::new(alloc, Vec::new(alloc));
+    let mut repo = nothing(alloc)?;
+    let _ = serve(alloc, &mut source, &mut out, tree, &mut repo);
+    Ok(Vec::from_slice(alloc, out.written())?)
+}
+
+const LONG_JOB: &[u8] = b"J\0\0\0\x19R\0\0\0\x01T\0\x01f\0\0\0\0\0\0\0\0\0\0\0\0\0\x01\x11\x70";
+
+// A data folder with so many bytes `f`.
+fn long_file(alloc: Global, size: usize) -> Result<MemFiles, AllocError> {
+    let file = vec![in alloc; b'a'; size]?;
+    let files = named_bytes(alloc, &[("f", file.as_slice())])?;
+    MemFiles::new(alloc, files, Vec::new(alloc))
+}
+
+// The heads of the frames in the answer to a job for so many bytes of `f`.
+fn heads(alloc: Global, size: usize) -> Result<Vec<(u8, u64)>, Stop> {
+    let mut tree = long_file(alloc, size)?;
+    let written = written(alloc, &joined(alloc, &[SETUP, LONG_JOB])?, &mut tree)?;
+    let mut heads = Vec::new(alloc);
+    let mut rest = written.as_slice();
+    for _ in 0..4 {
+        let Ok((frame, length)) = decode_frame(alloc, rest) else {
+            break;
+        };
+        let kind = rest.first().copied().unwrap_or(0);
+        let told = match frame {
+            Frame::Part(bytes) => bytes.len() as u64,
+            Frame::End { length, .. } => length,
+            _ => 0,
+        };
+        heads.push((kind, told))?;
+        rest = rest.get(length..).unwrap_or(&[]);
+    }
+    Ok(heads)
+}
+
+fn check_heads(
+    rt: &impl Abort,
+    alloc: Global,
+    size: usize,
+    wanted: &[(u8, u64)],
+) -> Result<(), Stop> {
+    same(rt, heads(alloc, size)?.as_slice(), wanted);
+    Ok(())
+}
+
+const OF_70000: &[(u8, u64)] = &[(b'P', 32768), (b'P', 32768), (b'P', 4464), (b'E', 70_000)];
+
+const OF_65536: &[(u8, u64)] = &[(b'P', 32768), (b'P', 32768), (b'E', 65_536)];
+
+const OF_NOTHING: &[(u8, u64)] = &[(b'E', 0)];
+
+#[test]
+fn items_are_cut_in_parts(rt: HostRuntime) -> Result<(), Fail> {
+    let alloc = rt.alloc();
+    check_heads(&rt, alloc, 70_000, OF_70000)?;
+    check_heads(&rt, alloc, 65_536, OF_65536)?;
+    check_heads(&rt, alloc, 0, OF_NOTHING)?;
+    Ok(())
+}
+
+// How the worker ends where these calls on its input and on its output fail.
+fn ends(alloc: Global, out: &mut MemSink, fail: &[u64]) -> Result<Result<u64, ServeFault>, Stop> {
+    let mut source = start(alloc, SETUP_AND_JOB, fail)?;
+    let mut tree = version(alloc, &[])?;
+    let mut repo = nothing(alloc)?;
+    Ok(serve(alloc, &mut source, out, &mut tree, &mut repo))
+}
+
+#[test]
+fn streams_that_fail(rt: HostRuntime) -> Result<(), Fail> {
+    let alloc = rt.alloc();
+    let mut out = MemSink::new(alloc, Vec::new(alloc));
+    same(&rt, ends(alloc, &mut out, &[3]), Ok(Err(ServeFault::Read)));
+    let mut out = MemSink::new(alloc, vec![in alloc; 0]?);
+    same(&rt, ends(alloc, &mut out, &[]), Ok(Err(ServeFault::Sink)));
+    same(&rt, out.written().len(), 0);
+    Ok(())
+}
