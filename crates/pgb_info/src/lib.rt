@@ -36,6 +36,3 @@ pub use labels::{label_text, label_time, read_label};
 pub use loading::load_pair;
 pub use read_info::ReadInfo;
 pub use saving::save_pair;
-
-#[cfg(test)]
-mod tests;

@@ -19,6 +19,3 @@ pub use names::is_before;
 pub use part::Part;
 pub use read::read_info_text;
 pub use write::write_info_text;
-
-#[cfg(test)]
-mod tests;

@@ -21,6 +21,3 @@ pub use rows::row_for;
 pub use settle::{Command, settle_words};
 pub use table::{Fallback, Kind, Opt, Place, Row, TABLE, VERBS, Verb, verb_word};
 pub use usage::Usage;
-
-#[cfg(test)]
-mod tests;

@@ -4,6 +4,3 @@
 mod names;
 
 pub use names::{NameFault, check_name, check_name_within};
-
-#[cfg(test)]
-mod tests;

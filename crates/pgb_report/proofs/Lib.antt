@@ -1,4 +1,3 @@
 pub mod Texts
 pub mod NoFloats
 pub mod Sections
-pub mod Labels

@@ -14,6 +14,3 @@ mod report;
 pub use as_json::report_json;
 pub use as_text::report_text;
 pub use report::{ArchivedName, Report};
-
-#[cfg(test)]
-mod tests;

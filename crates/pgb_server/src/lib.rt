@@ -21,6 +21,3 @@ pub use fault::ServerFault;
 pub use queries::{check_system, start_backup, stop_backup};
 pub use session::Session;
 pub use told::{Started, Stopped};
-
-#[cfg(test)]
-mod tests;

@@ -16,6 +16,3 @@ pub use pgb_model::{ArchiveName, Lsn, SegSize, Segment};
 pub use positions::read_lsn;
 pub use segments::{read_segment, segment_folder, segment_text};
 pub use sizes::read_seg_size;
-
-#[cfg(test)]
-mod tests;

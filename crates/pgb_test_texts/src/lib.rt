@@ -1,0 +1,15 @@
+//! Tests of the texts: digits and sums, info texts and configurations, options, paths, names of write-ahead log. By values from outside.
+#![tactic(auto)]
+
+#[cfg(test)]
+mod info_texts;
+#[cfg(test)]
+mod options;
+#[cfg(test)]
+mod paths;
+#[cfg(test)]
+mod same;
+#[cfg(test)]
+mod texts;
+#[cfg(test)]
+mod wal_names;
