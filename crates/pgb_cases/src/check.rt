@@ -65,7 +65,7 @@ impl World {
         let names = names_of(self.alloc, &mut ran)?;
         self.check_wanted(&ran)?;
         self.check_others(&names)?;
-        if ran.repo.misuses() != 0 || ran.pg.misuses() != 0 {
+        if ran.status == 0 && (ran.repo.misuses() != 0 || ran.pg.misuses() != 0) {
             self.tell("a call was faulty")?;
         }
         self.wanted.retain(|_, want| !want.may);

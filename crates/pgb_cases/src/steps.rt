@@ -6,6 +6,7 @@ use crate::node::{all_placed, bytes_of};
 use crate::word::{Word, words_of};
 use crate::world::World;
 use std::alloc::{AllocError, Global};
+use std::mem::replace;
 
 #[derive(Clone, Copy)]
 enum Verb {
@@ -21,6 +22,7 @@ enum Verb {
     Held,
     Fail,
     Run,
+    Again,
     Well,
     Is,
     Settled,
@@ -40,6 +42,7 @@ const VERBS: &[(&str, Verb)] = &[
     ("held", Verb::Held),
     ("fail", Verb::Fail),
     ("run", Verb::Run),
+    ("again", Verb::Again),
     ("well", Verb::Well),
     ("is", Verb::Is),
     ("settled", Verb::Settled),
@@ -98,6 +101,7 @@ fn act(
         Verb::Held => world.hold(words),
         Verb::Fail => world.fail(words),
         Verb::Run => world.run(words, told),
+        Verb::Again => world.again(),
         Verb::Well => world.verify(words, told),
         Verb::Is => world.is(book, words, told),
         Verb::Settled => world.settled(words),
@@ -229,14 +233,32 @@ impl World {
     /// Runs the program with the words behind the status.
     pub(crate) fn start(&mut self, words: &[Word]) -> Result<(), AllocError> {
         self.check()?;
-        let mut texts = Vec::new(self.alloc);
+        let mut asked = Vec::new(self.alloc);
         for word in words.iter().skip(1) {
             match str::from_utf8(&word.bytes) {
-                Ok(text) => texts.push(String::from_str(self.alloc, text)?)?,
+                Ok(text) => asked.push(String::from_str(self.alloc, text)?)?,
                 Err(_) => self.tell("a word isn't UTF-8")?,
             }
         }
-        self.go(&texts)
+        self.go(&asked)?;
+        self.asked = asked;
+        Ok(())
+    }
+
+    // Runs the last command again: its answer is the same.
+    fn again(&mut self) -> Result<(), AllocError> {
+        self.check()?;
+        let (status, told) = match &self.ran {
+            Some(ran) => (ran.status, ran.out.written().to_vec(self.alloc)?),
+            None => (0, Vec::new(self.alloc)),
+        };
+        let asked = replace(&mut self.asked, Vec::new(self.alloc));
+        self.go(&asked)?;
+        self.asked = asked;
+        match &self.ran {
+            Some(ran) if ran.status == status && ran.out.written() == told.as_slice() => Ok(()),
+            _ => self.tell("again it answers otherwise"),
+        }
     }
 
     fn run(&mut self, words: &[Word], told: &str) -> Result<(), AllocError> {

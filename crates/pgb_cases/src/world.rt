@@ -24,6 +24,8 @@ pub(crate) struct World {
     pub around: Around,
     pub fails: Fails,
     pub ran: Option<Ran>,
+    /// The words of the last command.
+    pub asked: Vec<String>,
     /// A repository that the next command is to find.
     pub repo: Option<MemDisk>,
     // whether the devices are to be made anew
@@ -48,6 +50,7 @@ impl World {
             },
             fails: Fails::none(alloc),
             ran: None,
+            asked: Vec::new(alloc),
             repo: None,
             stale: false,
             open: false,
