@@ -1,5 +1,4 @@
 // Whether the devices hold what they are to hold.
-use crate::devices::Ran;
 use crate::node::Node;
 use crate::world::{Want, World};
 use pgb_memory::{MemDisk, MemNode, MemTree};
@@ -11,25 +10,31 @@ const TOPS: &[&str] = &["archive", "backup", "demo", "lock", "pg", "repo", "tmp"
 
 /// What stands at a path.
 #[derive(Clone, Copy)]
-pub(crate) enum There<'a> {
+enum There<'a> {
     Nothing,
     Folder,
     Link,
     File(&'a [u8]),
 }
 
-/// What stands at a path below `repo/` or `pg/`.
-pub(crate) fn stands_at<'a>(ran: &'a Ran, path: &str) -> There<'a> {
-    if let Some(name) = path.strip_prefix("repo/") {
-        return match ran.repo.bytes(name) {
+// What the repository has at a path.
+fn in_repo<'a>(repo: &'a Option<MemDisk>, name: &str) -> There<'a> {
+    match repo {
+        Some(repo) => match repo.bytes(name) {
             Some(bytes) => There::File(bytes),
             None => There::Nothing,
-        };
+        },
+        None => There::Nothing,
     }
-    let Some(name) = path.strip_prefix("pg/") else {
-        return There::Nothing;
+}
+
+// What the data folder has at a path.
+fn in_pg<'a>(pg: &'a Option<MemTree>, name: &str) -> There<'a> {
+    let node = match pg {
+        Some(pg) => pg.node(name),
+        None => None,
     };
-    match ran.pg.node(name) {
+    match node {
         Some(MemNode::File { bytes, .. }) => There::File(bytes),
         Some(MemNode::Folder) => There::Folder,
         Some(MemNode::Link) => There::Link,
@@ -37,14 +42,10 @@ pub(crate) fn stands_at<'a>(ran: &'a Ran, path: &str) -> There<'a> {
     }
 }
 
-pub(crate) fn is_there(ran: &Ran, path: &str) -> bool {
-    !matches!(stands_at(ran, path), There::Nothing)
-}
-
-fn fits(want: &Want, found: &There) -> bool {
+fn fits(want: &Want, found: There) -> bool {
     match (&want.node, found) {
         (_, There::Nothing) => want.may,
-        (Node::File(bytes), There::File(found)) => bytes.as_slice() == *found,
+        (Node::File(bytes), There::File(found)) => bytes.as_slice() == found,
         (Node::Any, There::File(_)) => true,
         (Node::Folder, There::Folder) => true,
         (Node::Link, There::Link) => true,
@@ -53,30 +54,40 @@ fn fits(want: &Want, found: &There) -> bool {
 }
 
 impl World {
+    // What stands at a path below `repo/` or `pg/`.
+    fn stands_at(&self, path: &str) -> There<'_> {
+        if let Some(name) = path.strip_prefix("repo/") {
+            return in_repo(&self.repo, name);
+        }
+        match path.strip_prefix("pg/") {
+            Some(name) => in_pg(&self.pg, name),
+            None => There::Nothing,
+        }
+    }
+
+    /// Whether something stands at a path.
+    pub(crate) fn has(&self, path: &str) -> bool {
+        !matches!(self.stands_at(path), There::Nothing)
+    }
+
     /// Checks what the last command left, once.
     pub(crate) fn check(&mut self) -> Result<(), AllocError> {
         if !self.open {
             return Ok(());
         }
         self.open = false;
-        let Some(mut ran) = self.ran.take() else {
-            return Ok(());
-        };
-        let names = names_of(self.alloc, &mut ran)?;
-        self.check_wanted(&ran)?;
+        self.check_wanted()?;
+        let names = self.names()?;
         self.check_others(&names)?;
-        if ran.status == 0 && (ran.repo.misuses() != 0 || ran.pg.misuses() != 0) {
-            self.tell("a call was faulty")?;
-        }
+        self.check_calls()?;
         self.wanted.retain(|_, want| !want.may);
-        self.ran = Some(ran);
         Ok(())
     }
 
-    fn check_wanted(&mut self, ran: &Ran) -> Result<(), AllocError> {
+    fn check_wanted(&mut self) -> Result<(), AllocError> {
         let mut wrong = String::new(self.alloc);
         for (path, want) in &self.wanted {
-            if !fits(want, &stands_at(ran, path)) {
+            if !fits(want, self.stands_at(path)) {
                 wrong.push_str(path)?;
                 wrong.push_str(" isn't as it is wanted")?;
                 break;
@@ -96,20 +107,54 @@ impl World {
         }
         self.tell(&wrong)
     }
+
+    // No call of a command that ends well was faulty.
+    fn check_calls(&mut self) -> Result<(), AllocError> {
+        let well = match &self.ran {
+            Some(ran) => ran.status == 0,
+            None => false,
+        };
+        let of_repo = match &self.repo {
+            Some(repo) => repo.misuses(),
+            None => 0,
+        };
+        let of_pg = match &self.pg {
+            Some(pg) => pg.misuses(),
+            None => 0,
+        };
+        if well && (of_repo != 0 || of_pg != 0) {
+            return self.tell("a call was faulty");
+        }
+        Ok(())
+    }
+
+    // The paths of the repository and of the data folder.
+    fn names(&mut self) -> Result<Vec<String>, AllocError> {
+        let mut names = Vec::new(self.alloc);
+        if let Some(repo) = &mut self.repo {
+            for top in TOPS {
+                add_found(self.alloc, repo, top, &mut names)?;
+            }
+        }
+        if let Some(pg) = &mut self.pg {
+            for Seen { path, node: _ } in seen_in(self.alloc, pg)? {
+                names.push(below(self.alloc, "pg/", &path)?)?;
+            }
+        }
+        Ok(names)
+    }
 }
 
-// The paths of the repository and of the data folder.
-fn names_of(alloc: Global, ran: &mut Ran) -> Result<Vec<String>, AllocError> {
-    let mut names = Vec::new(alloc);
-    for top in TOPS {
-        for Found { name, size: _ } in found_in(alloc, &mut ran.repo, top)? {
-            names.push(below(alloc, "repo/", &name)?)?;
-        }
+fn add_found(
+    alloc: Global,
+    repo: &mut MemDisk,
+    top: &str,
+    names: &mut Vec<String>,
+) -> Result<(), AllocError> {
+    for Found { name, size: _ } in found_in(alloc, repo, top)? {
+        names.push(below(alloc, "repo/", &name)?)?;
     }
-    for Seen { path, node: _ } in seen_in(alloc, &mut ran.pg)? {
-        names.push(below(alloc, "pg/", &path)?)?;
-    }
-    Ok(names)
+    Ok(())
 }
 
 fn below(alloc: Global, device: &str, name: &str) -> Result<String, AllocError> {

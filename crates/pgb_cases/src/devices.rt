@@ -7,46 +7,49 @@ use pgb_outside::{Link, NotThere, Turns};
 use pgb_server::memory::MemWire;
 use std::alloc::{AllocError, Global};
 
-/// The numbers of each device's calls that are to fail.
+/// A call that is to fail, by its device and its number, the first being 0.
 #[derive(Drop)]
-pub(crate) struct Fails {
-    pub repo: Vec<u64>,
-    pub pg: Vec<u64>,
-    pub server: Vec<u64>,
-    pub locks: Vec<u64>,
-    pub config: Vec<u64>,
-    pub out: Vec<u64>,
+pub(crate) struct Fail {
+    pub device: String,
+    pub number: u64,
 }
 
-impl Fails {
-    pub(crate) fn none(alloc: Global) -> Self {
-        Fails {
-            repo: Vec::new(alloc),
-            pg: Vec::new(alloc),
-            server: Vec::new(alloc),
-            locks: Vec::new(alloc),
-            config: Vec::new(alloc),
-            out: Vec::new(alloc),
-        }
-    }
-}
-
-/// What a run finds beside the repository and the data folder: the configuration, the bytes that the server sends, the sizes of
-/// their pieces, and the locks that others hold.
+/// What a command finds beside the repository and the data folder: the configuration, the bytes that the server sends, the sizes
+/// of their pieces, the locks that others hold, and the calls that are to fail.
 #[derive(Drop)]
 pub(crate) struct Around {
     pub config: Option<Vec<u8>>,
     pub server: Vec<u8>,
     pub cuts: Vec<u32>,
     pub held: Vec<String>,
+    pub fails: Vec<Fail>,
 }
 
-/// The devices after a run, and its status.
+impl Around {
+    // The numbers of the device's calls that are to fail.
+    fn numbers(&self, alloc: Global, device: &str) -> Result<Vec<u64>, AllocError> {
+        let mut numbers = Vec::new(alloc);
+        for fail in &self.fails {
+            if fail.device.as_str() == device {
+                numbers.push(fail.number)?;
+            }
+        }
+        Ok(numbers)
+    }
+
+    fn others(&self, alloc: Global) -> Result<Vec<String>, AllocError> {
+        let mut others = Vec::new(alloc);
+        for name in &self.held {
+            others.push(name.clone()?)?;
+        }
+        Ok(others)
+    }
+}
+
+/// The status of a command, and the devices that it left beside the repository and the data folder.
 #[derive(Drop)]
 pub(crate) struct Ran {
     pub status: u8,
-    pub repo: MemDisk,
-    pub pg: MemTree,
     pub server: MemWire,
     pub locks: MemLocks,
     pub config: MemSource,
@@ -67,7 +70,7 @@ impl Turns for First {
 pub(crate) fn repo_of(
     alloc: Global,
     wanted: &Wanted,
-    fail: Vec<u64>,
+    around: &Around,
 ) -> Result<MemDisk, AllocError> {
     let mut names = Vec::new(alloc);
     for (path, want) in wanted {
@@ -75,14 +78,14 @@ pub(crate) fn repo_of(
             names.push((String::from_str(alloc, name)?, bytes.to_vec(alloc)?))?;
         }
     }
-    MemDisk::new(alloc, names, fail)
+    MemDisk::new(alloc, names, around.numbers(alloc, "repo")?)
 }
 
-/// A data folder that holds what is wanted of it; where that has no folder for a node it holds nothing.
+/// A data folder that holds what is wanted of it; none where that has no folder for a node.
 pub(crate) fn pg_of(
     alloc: Global,
     wanted: &Wanted,
-    fail: Vec<u64>,
+    around: &Around,
 ) -> Result<Option<MemTree>, AllocError> {
     let mut nodes = Vec::new(alloc);
     for (path, want) in wanted {
@@ -90,7 +93,7 @@ pub(crate) fn pg_of(
             nodes.push((String::from_str(alloc, name)?, mem_node(alloc, &want.node)?))?;
         }
     }
-    Ok(MemTree::new(alloc, nodes, fail).ok())
+    Ok(MemTree::new(alloc, nodes, around.numbers(alloc, "pg")?).ok())
 }
 
 fn mem_node(alloc: Global, node: &Node) -> Result<MemNode, AllocError> {
@@ -104,109 +107,44 @@ fn mem_node(alloc: Global, node: &Node) -> Result<MemNode, AllocError> {
     }
 }
 
-fn copies(alloc: Global, texts: &[String]) -> Result<Vec<String>, AllocError> {
-    let mut all = Vec::new(alloc);
-    for text in texts {
-        all.push(text.clone()?)?;
-    }
-    Ok(all)
-}
-
-/// Runs the program on new devices, which hold what is wanted, but for this repository. None where the data folder has no folder
-/// for a node.
-pub(crate) fn run_first(
+/// Runs the program with these words.
+pub(crate) fn run_on(
     alloc: Global,
     words: &[String],
     around: &Around,
-    fails: Fails,
-    wanted: &Wanted,
-    repo: Option<MemDisk>,
-) -> Result<Option<Ran>, AllocError> {
-    let Fails {
-        repo: of_repo,
-        pg: of_pg,
-        server,
-        locks,
-        config,
-        out,
-    } = fails;
-    let repo = match repo {
-        Some(repo) => repo,
-        None => repo_of(alloc, wanted, of_repo)?,
-    };
-    let Some(pg) = pg_of(alloc, wanted, of_pg)? else {
-        return Ok(None);
-    };
-    let own = Own {
-        server,
-        locks,
-        config,
-        out,
-    };
-    Ok(Some(run_on(alloc, words, around, own, repo, pg)?))
-}
-
-/// Runs the program on what the last command left.
-pub(crate) fn run_after(
-    alloc: Global,
-    words: &[String],
-    around: &Around,
-    fails: Fails,
-    last: Ran,
-) -> Result<Ran, AllocError> {
-    let own = Own {
-        server: fails.server,
-        locks: fails.locks,
-        config: fails.config,
-        out: fails.out,
-    };
-    run_on(alloc, words, around, own, last.repo, last.pg)
-}
-
-// The calls that are to fail of the devices that each command finds new.
-#[derive(Drop)]
-struct Own {
-    server: Vec<u64>,
-    locks: Vec<u64>,
-    config: Vec<u64>,
-    out: Vec<u64>,
-}
-
-fn run_on(
-    alloc: Global,
-    words: &[String],
-    around: &Around,
-    fails: Own,
     repo: MemDisk,
     pg: MemTree,
-) -> Result<Ran, AllocError> {
+) -> Result<(Ran, MemDisk, MemTree), AllocError> {
     let file = match &around.config {
         Some(bytes) => Some(bytes.clone()?),
         None => None,
     };
-    let input = around.server.clone()?;
-    let cuts = around.cuts.clone()?;
-    let held = copies(alloc, &around.held)?;
+    let server = MemWire::new(
+        alloc,
+        around.server.clone()?,
+        around.cuts.clone()?,
+        around.numbers(alloc, "server")?,
+    );
+    let others = around.others(alloc)?;
     let mut outside = Outside {
         repo,
         spool: NotThere::new(),
         tree: pg,
-        server: MemWire::new(alloc, input, cuts, fails.server),
+        server,
         aside: NotThere::new(),
         clock: NotThere::new(),
-        locks: MemLocks::new(alloc, held, fails.locks),
-        config: MemSource::new(alloc, file, fails.config),
-        out: MemSink::new(alloc, fails.out),
+        locks: MemLocks::new(alloc, others, around.numbers(alloc, "locks")?),
+        config: MemSource::new(alloc, file, around.numbers(alloc, "config")?),
+        out: MemSink::new(alloc, around.numbers(alloc, "out")?),
     };
     let mut links: Vec<Box<dyn Link>> = Vec::new(alloc);
     let status = run(alloc, words, &mut outside, &mut links, &mut First);
-    Ok(Ran {
+    let ran = Ran {
         status,
-        repo: outside.repo,
-        pg: outside.tree,
         server: outside.server,
         locks: outside.locks,
         config: outside.config,
         out: outside.out,
-    })
+    };
+    Ok((ran, outside.repo, outside.tree))
 }

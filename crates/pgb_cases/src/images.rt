@@ -29,11 +29,11 @@ pub(crate) fn play_stops(
     let mut world = begun(alloc, book, case)?;
     try_command(book, &mut world, case)?;
     verify_command(book, &mut world, case)?;
-    let Some(ran) = &world.ran else {
+    let Some(repo) = &world.repo else {
         return Ok(world.wrong);
     };
-    for moment in moments(alloc, ran.repo.moment(), quarters)? {
-        let wrong = play_images(alloc, book, case, &ran.repo, moment)?;
+    for moment in moments(alloc, repo.moment(), quarters)? {
+        let wrong = play_images(alloc, book, case, repo, moment)?;
         if !wrong.is_empty() {
             return format!(in alloc; "stopped at {moment}: {wrong}");
         }
@@ -73,7 +73,8 @@ pub(crate) fn play_images(
             continue;
         };
         let mut world = begun(alloc, book, case)?;
-        world.set_repo(left)?;
+        world.repo = Some(left);
+        world.open = true;
         play_part(book, &mut world, case, Part::Left)?;
         world.check()?;
         if !world.wrong.is_empty() {
@@ -135,23 +136,16 @@ fn add_torn(
 }
 
 impl World {
-    // The repository is this one, of which nothing was looked at yet.
-    fn set_repo(&mut self, repo: MemDisk) -> Result<(), AllocError> {
-        self.repo = Some(repo);
-        self.go(&[])
-    }
-
     /// Checks that a stop can leave nothing but what the repository holds: at no name any bytes, and one value at each of these.
     pub(crate) fn settled(&mut self, words: &[Word]) -> Result<(), AllocError> {
         let mut wrong = String::new(self.alloc);
-        if let Some(ran) = &self.ran {
-            let moment = ran.repo.moment();
-            if !ran.repo.loose(self.alloc, moment)?.is_empty() {
+        if let Some(repo) = &self.repo {
+            if !repo.loose(self.alloc, repo.moment())?.is_empty() {
                 wrong.push_str("a name is loose")?;
             }
             for word in words {
                 let name = word.bare().strip_prefix("repo/").unwrap_or("");
-                if !is_settled(self.alloc, &ran.repo, name)? {
+                if !is_settled(self.alloc, repo, name)? {
                     write!(wrong, "{name} isn't settled")?;
                 }
             }

@@ -1,5 +1,7 @@
 // What the devices tell beside what they hold.
 use crate::devices::Ran;
+use crate::world::World;
+use pgb_memory::MemDisk;
 use std::alloc::{AllocError, Global};
 
 #[derive(Clone, Copy)]
@@ -37,16 +39,31 @@ pub(crate) fn look_of(word: &str) -> Option<Look> {
 }
 
 /// What the device tells.
-pub(crate) fn look_at(alloc: Global, ran: &Ran, what: Look) -> Result<Vec<u8>, AllocError> {
+pub(crate) fn look_at(
+    alloc: Global,
+    world: &World,
+    ran: &Ran,
+    what: Look,
+) -> Result<Vec<u8>, AllocError> {
     match what {
-        Look::RepoPlace => ran.repo.place().as_bytes().to_vec(alloc),
-        Look::PgPlace => ran.pg.place().as_bytes().to_vec(alloc),
+        Look::RepoPlace | Look::RepoMoment => of_repo(alloc, &world.repo, what),
+        Look::PgPlace => match &world.pg {
+            Some(pg) => pg.place().as_bytes().to_vec(alloc),
+            None => Ok(Vec::new(alloc)),
+        },
         Look::ConfigPlace => ran.config.place().as_bytes().to_vec(alloc),
         Look::ServerPlace => ran.server.place().as_bytes().to_vec(alloc),
         Look::Sent | Look::SentLast => ran.server.sent().to_vec(alloc),
-        Look::RepoMoment => decimal(alloc, ran.repo.moment()),
         Look::Refusals => decimal(alloc, ran.locks.refusals()),
         Look::Took => took(alloc, ran),
+    }
+}
+
+fn of_repo(alloc: Global, repo: &Option<MemDisk>, what: Look) -> Result<Vec<u8>, AllocError> {
+    match (repo, what) {
+        (Some(repo), Look::RepoPlace) => repo.place().as_bytes().to_vec(alloc),
+        (Some(repo), _) => decimal(alloc, repo.moment()),
+        (None, _) => Ok(Vec::new(alloc)),
     }
 }
 

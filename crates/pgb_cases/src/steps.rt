@@ -1,6 +1,5 @@
 // The lines of a case.
 use crate::book::{Book, Line};
-use crate::check::is_there;
 use crate::looks::{Look, look_at, look_of, shown};
 use crate::node::{all_placed, bytes_of};
 use crate::word::{Word, words_of};
@@ -118,22 +117,16 @@ impl World {
         self.tell(&text)
     }
 
-    fn has(&self, path: &str) -> bool {
-        match &self.ran {
-            Some(ran) => is_there(ran, path),
-            None => self.wanted.contains_key(path),
-        }
-    }
-
     fn put(&mut self, book: &Book, words: &[Word], told: &str) -> Result<(), AllocError> {
         self.check()?;
-        self.stale = true;
+        self.repo = None;
+        self.pg = None;
         self.adds(book, words, told)
     }
 
     fn adds(&mut self, book: &Book, words: &[Word], told: &str) -> Result<(), AllocError> {
         let all = all_placed(self.alloc, book, words, told)?;
-        self.want(all, false)
+        self.want(all)
     }
 
     fn may(&mut self, book: &Book, words: &[Word], told: &str) -> Result<(), AllocError> {
@@ -216,20 +209,6 @@ impl World {
         Ok(())
     }
 
-    /// That call of the device is to fail.
-    pub(crate) fn fail_at(&mut self, device: &str, number: u64) -> Result<(), AllocError> {
-        let fails = match device {
-            "repo" => &mut self.fails.repo,
-            "pg" => &mut self.fails.pg,
-            "server" => &mut self.fails.server,
-            "locks" => &mut self.fails.locks,
-            "config" => &mut self.fails.config,
-            "out" => &mut self.fails.out,
-            _ => return self.tell_of("no such device", device),
-        };
-        Ok(fails.push(number)?)
-    }
-
     /// Runs the program with the words behind the status.
     pub(crate) fn start(&mut self, words: &[Word]) -> Result<(), AllocError> {
         self.check()?;
@@ -240,9 +219,7 @@ impl World {
                 Err(_) => self.tell("a word isn't UTF-8")?,
             }
         }
-        self.go(&asked)?;
-        self.asked = asked;
-        Ok(())
+        self.go(asked)
     }
 
     // Runs the last command again: its answer is the same.
@@ -253,8 +230,7 @@ impl World {
             None => (0, Vec::new(self.alloc)),
         };
         let asked = replace(&mut self.asked, Vec::new(self.alloc));
-        self.go(&asked)?;
-        self.asked = asked;
+        self.go(asked)?;
         match &self.ran {
             Some(ran) if ran.status == status && ran.out.written() == told.as_slice() => Ok(()),
             _ => self.tell("again it answers otherwise"),
@@ -296,7 +272,7 @@ impl World {
             return self.tell_of("nothing to look at", what.bare());
         };
         let want = bytes_of(self.alloc, book, rest, told)?;
-        let found = look_at(self.alloc, ran, kind)?;
+        let found = look_at(self.alloc, self, ran, kind)?;
         let well = match kind {
             Look::SentLast => found.ends_with(&want),
             _ => found == want,

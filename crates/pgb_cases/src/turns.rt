@@ -1,7 +1,6 @@
 // The turns of a loop over the calls of a device: in each of them another one fails, until none does.
 use crate::book::{Book, Section};
 use crate::case::{Part, lines_of};
-use crate::devices::Ran;
 use crate::images::play_images;
 use crate::looping::{begun, play_part, try_command, verify_command};
 use crate::steps::words_in;
@@ -50,22 +49,19 @@ fn play_turn(
         [_, kind, device, ..] => (kind.bare(), device.bare()),
         _ => ("", ""),
     };
+    let mut went = false;
     if kind == "cut" {
+        went = turn >= world.around.server.len() as u64;
         world.around.server.truncate(turn as usize);
     } else {
         world.fail_at(device, turn)?;
+        if kind == "pair" {
+            world.fail_at(device, turn.saturating_add(1))?;
+        }
     }
-    if kind == "pair" {
-        world.fail_at(device, turn.saturating_add(1))?;
-    }
-    let whole = begun(alloc, book, case)?.around.server.len();
     try_command(book, &mut world, case)?;
-    let went = match &world.ran {
-        Some(_) if kind == "cut" => turn as usize >= whole,
-        Some(ran) => faults(ran, device) == 0,
-        None => true,
-    };
-    if went {
+    if went || kind != "cut" && faults(&world, device) == 0 {
+        went = true;
         play_part(book, &mut world, case, Part::Well)?;
     } else {
         verify_command(book, &mut world, case)?;
@@ -83,22 +79,24 @@ fn play_left(
     world: &mut World,
     case: &Section,
 ) -> Result<(), AllocError> {
-    let wrong = match &world.ran {
-        Some(ran) => play_images(alloc, book, case, &ran.repo, ran.repo.moment())?,
+    let wrong = match &world.repo {
+        Some(repo) => play_images(alloc, book, case, repo, repo.moment())?,
         None => String::new(alloc),
     };
     world.tell(&wrong)?;
     play_part(book, world, case, Part::Left)
 }
 
-fn faults(ran: &Ran, device: &str) -> u64 {
-    match device {
-        "repo" => ran.repo.faults(),
-        "pg" => ran.pg.faults(),
-        "server" => u64::from(ran.status == 83),
-        "locks" => ran.locks.faults(),
-        "config" => ran.config.faults(),
-        _ => ran.out.faults(),
+// How often the device failed. A connection doesn't tell that, but its fault alone has status 83.
+fn faults(world: &World, device: &str) -> u64 {
+    match (device, &world.repo, &world.pg, &world.ran) {
+        ("repo", Some(repo), _, _) => repo.faults(),
+        ("pg", _, Some(pg), _) => pg.faults(),
+        ("server", _, _, Some(ran)) => u64::from(ran.status == 83),
+        ("locks", _, _, Some(ran)) => ran.locks.faults(),
+        ("config", _, _, Some(ran)) => ran.config.faults(),
+        ("out", _, _, Some(ran)) => ran.out.faults(),
+        _ => 0,
     }
 }
 

@@ -1,10 +1,9 @@
 // The devices of a case, and what they are to hold.
-use crate::devices::{Around, Fails, Ran, run_after, run_first};
+use crate::devices::{Around, Fail, Ran, pg_of, repo_of, run_on};
 use crate::node::{Node, Placed};
-use pgb_memory::MemDisk;
+use pgb_memory::{MemDisk, MemTree};
 use std::alloc::{AllocError, Global};
 use std::collections::BTreeMap;
-use std::mem::replace;
 
 /// What is to stand at a path; where it only may, nothing is well too.
 #[derive(Drop)]
@@ -16,21 +15,18 @@ pub(crate) struct Want {
 /// By the path below `repo/` or `pg/`.
 pub(crate) type Wanted = BTreeMap<String, Want>;
 
-/// The devices are made of what is wanted as the first command begins, and anew where more was put into them.
+/// The repository and the data folder are made of what is wanted where there is none as a command begins.
 #[derive(Drop)]
 pub(crate) struct World {
     pub alloc: Global,
     pub wanted: Wanted,
     pub around: Around,
-    pub fails: Fails,
-    pub ran: Option<Ran>,
-    /// The words of the last command.
-    pub asked: Vec<String>,
-    /// A repository that the next command is to find.
     pub repo: Option<MemDisk>,
-    // whether the devices are to be made anew
-    pub stale: bool,
-    // whether what a command left hasn't been looked at
+    pub pg: Option<MemTree>,
+    /// The words of the last command, and what it left beside these two.
+    pub asked: Vec<String>,
+    pub ran: Option<Ran>,
+    /// Whether what it left hasn't been looked at.
     pub open: bool,
     pub noted: u64,
     /// What was found wrong first.
@@ -47,12 +43,12 @@ impl World {
                 server: Vec::new(alloc),
                 cuts: Vec::new(alloc),
                 held: Vec::new(alloc),
+                fails: Vec::new(alloc),
             },
-            fails: Fails::none(alloc),
-            ran: None,
-            asked: Vec::new(alloc),
             repo: None,
-            stale: false,
+            pg: None,
+            asked: Vec::new(alloc),
+            ran: None,
             open: false,
             noted: 0,
             wrong: String::new(alloc),
@@ -67,10 +63,10 @@ impl World {
         Ok(())
     }
 
-    /// Wants this, which may also be absent where `may` says so.
-    pub(crate) fn want(&mut self, all: Vec<Placed>, may: bool) -> Result<(), AllocError> {
+    /// Wants this.
+    pub(crate) fn want(&mut self, all: Vec<Placed>) -> Result<(), AllocError> {
         for Placed { path, node } in all {
-            self.wanted.insert(path, Want { node, may })?;
+            self.wanted.insert(path, Want { node, may: false })?;
         }
         Ok(())
     }
@@ -85,25 +81,33 @@ impl World {
         Ok(())
     }
 
-    /// Runs the program with these words.
-    pub(crate) fn go(&mut self, words: &[String]) -> Result<(), AllocError> {
-        let alloc = self.alloc;
-        let fails = replace(&mut self.fails, Fails::none(alloc));
-        let last = self.ran.take();
-        if let Some(ran) = last {
-            if !self.stale {
-                self.ran = Some(run_after(alloc, words, &self.around, fails, ran)?);
-                self.open = true;
-                return Ok(());
-            }
-        }
-        self.stale = false;
-        let repo = self.repo.take();
-        self.ran = run_first(alloc, words, &self.around, fails, &self.wanted, repo)?;
-        self.open = true;
-        if self.ran.is_none() {
+    /// That call of the device is to fail.
+    pub(crate) fn fail_at(&mut self, device: &str, number: u64) -> Result<(), AllocError> {
+        let device = String::from_str(self.alloc, device)?;
+        self.around.fails.push(Fail { device, number })?;
+        Ok(())
+    }
+
+    /// Runs the program with these words. No call of the next command is to fail.
+    pub(crate) fn go(&mut self, words: Vec<String>) -> Result<(), AllocError> {
+        let repo = match self.repo.take() {
+            Some(repo) => repo,
+            None => repo_of(self.alloc, &self.wanted, &self.around)?,
+        };
+        let pg = match self.pg.take() {
+            Some(pg) => Some(pg),
+            None => pg_of(self.alloc, &self.wanted, &self.around)?,
+        };
+        let Some(pg) = pg else {
             return self.tell("a folder of the data folder is missing");
-        }
+        };
+        let (ran, repo, pg) = run_on(self.alloc, &words, &self.around, repo, pg)?;
+        self.repo = Some(repo);
+        self.pg = Some(pg);
+        self.ran = Some(ran);
+        self.asked = words;
+        self.around.fails = Vec::new(self.alloc);
+        self.open = true;
         Ok(())
     }
 }
