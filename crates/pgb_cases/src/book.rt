@@ -1,0 +1,186 @@
+// What the files say beside their cases.
+use std::alloc::{AllocError, Global};
+use std::collections::BTreeMap;
+
+/// A line, and the text below it whose lines begin with a bar.
+#[derive(Drop)]
+pub(crate) struct Line {
+    pub text: String,
+    pub told: String,
+}
+
+impl Line {
+    /// The first word.
+    pub(crate) fn verb(&self) -> &str {
+        cut_word(&self.text).0
+    }
+
+    /// What stands behind it.
+    pub(crate) fn rest(&self) -> &str {
+        cut_word(&self.text).1
+    }
+}
+
+/// The first word of a text, and what stands behind the blank after it.
+fn cut_word(text: &str) -> (&str, &str) {
+    match text.split_once(' ') {
+        Some(parts) => parts,
+        None => (text, ""),
+    }
+}
+
+/// A line that isn't indented, with the indented ones behind it.
+#[derive(Drop)]
+pub(crate) struct Section {
+    pub head: Line,
+    pub lines: Vec<Line>,
+}
+
+impl Section {
+    pub(crate) fn verb(&self) -> &str {
+        self.head.verb()
+    }
+
+    pub(crate) fn name(&self) -> &str {
+        self.head.rest()
+    }
+}
+
+/// The sections of a file. Empty lines and those that begin with `#` don't count.
+pub(crate) fn sections_of(alloc: Global, text: &str) -> Result<Vec<Section>, AllocError> {
+    let mut sections = Vec::new(alloc);
+    for raw in text.lines() {
+        let line = raw.trim();
+        if line.is_empty() || line.starts_with('#') {
+            continue;
+        }
+        if let Some(told) = line.strip_prefix('|') {
+            add_told(&mut sections, told.strip_prefix(' ').unwrap_or(told))?;
+        } else {
+            let line = Line {
+                text: String::from_str(alloc, line)?,
+                told: String::new(alloc),
+            };
+            add_line(alloc, &mut sections, raw.starts_with(' '), line)?;
+        }
+    }
+    Ok(sections)
+}
+
+fn add_line(
+    alloc: Global,
+    sections: &mut Vec<Section>,
+    indented: bool,
+    line: Line,
+) -> Result<(), AllocError> {
+    match sections.last_mut() {
+        Some(section) if indented => section.lines.push(line)?,
+        _ => sections.push(Section {
+            head: line,
+            lines: Vec::new(alloc),
+        })?,
+    }
+    Ok(())
+}
+
+fn add_told(sections: &mut Vec<Section>, told: &str) -> Result<(), AllocError> {
+    let Some(section) = sections.last_mut() else {
+        return Ok(());
+    };
+    let line = match section.lines.last_mut() {
+        Some(line) => line,
+        None => &mut section.head,
+    };
+    line.told.push_str(told)?;
+    line.told.push('\n')?;
+    Ok(())
+}
+
+/// What the files said so far: short names of texts, states and long texts, and the lines that begin and end each case of a file.
+#[derive(Drop)]
+pub(crate) struct Book {
+    alloc: Global,
+    lets: BTreeMap<String, String>,
+    sections: Vec<Section>,
+    pub before: Vec<Line>,
+    pub after: Vec<Line>,
+}
+
+impl Book {
+    pub(crate) fn new(alloc: Global) -> Self {
+        Book {
+            alloc,
+            lets: BTreeMap::new(alloc),
+            sections: Vec::new(alloc),
+            before: Vec::new(alloc),
+            after: Vec::new(alloc),
+        }
+    }
+
+    /// Nothing begins or ends the cases of a new file.
+    pub(crate) fn start_file(&mut self) {
+        self.before = Vec::new(self.alloc);
+        self.after = Vec::new(self.alloc);
+    }
+
+    pub(crate) fn add(&mut self, section: Section) -> Result<(), AllocError> {
+        match section.verb() {
+            "let" => {
+                let (name, text) = cut_word(section.name());
+                let text = self.filled(text)?;
+                self.name(name, text)
+            }
+            "before" => {
+                self.before = section.lines;
+                Ok(())
+            }
+            "after" => {
+                self.after = section.lines;
+                Ok(())
+            }
+            _ => Ok(self.sections.push(section)?),
+        }
+    }
+
+    /// Lets a name stand for a text.
+    pub(crate) fn name(&mut self, name: &str, text: String) -> Result<(), AllocError> {
+        let name = String::from_str(self.alloc, name)?;
+        self.lets.insert(name, text)?;
+        Ok(())
+    }
+
+    /// The section of that kind and name.
+    pub(crate) fn section(&self, kind: &str, name: &str) -> Option<&Section> {
+        self.sections
+            .iter()
+            .find(|section| section.verb() == kind && section.name() == name)
+    }
+
+    /// The text with each `$NAME` as what the name stands for.
+    pub(crate) fn filled(&self, text: &str) -> Result<String, AllocError> {
+        let mut filled = String::new(self.alloc);
+        let mut first = true;
+        for part in text.split('$') {
+            if first {
+                filled.push_str(part)?;
+            } else {
+                self.push_named(&mut filled, part)?;
+            }
+            first = false;
+        }
+        Ok(filled)
+    }
+
+    // A name, which a blank or the end ends, and what stands behind it.
+    fn push_named(&self, filled: &mut String, part: &str) -> Result<(), AllocError> {
+        let name = cut_word(part).0;
+        match self.lets.get(name) {
+            Some(text) => filled.push_str(text)?,
+            None => filled.push_str("$?")?,
+        }
+        match part.strip_prefix(name) {
+            Some(rest) => filled.push_str(rest),
+            None => Ok(()),
+        }
+    }
+}

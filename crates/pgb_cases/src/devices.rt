@@ -1,0 +1,150 @@
+// The devices in memory, and the program over them.
+use crate::node::Node;
+use crate::world::Wanted;
+use pgb_command::{Outside, run};
+use pgb_memory::{MemDisk, MemLocks, MemNode, MemSink, MemSource, MemTree};
+use pgb_outside::{Link, NotThere, Turns};
+use pgb_server::memory::MemWire;
+use std::alloc::{AllocError, Global};
+
+/// A call that is to fail, by its device and its number, the first being 0.
+#[derive(Drop)]
+pub(crate) struct Fail {
+    pub device: String,
+    pub number: u64,
+}
+
+/// What a command finds beside the repository and the data folder: the configuration, the bytes that the server sends, the sizes
+/// of their pieces, the locks that others hold, and the calls that are to fail.
+#[derive(Drop)]
+pub(crate) struct Around {
+    pub config: Option<Vec<u8>>,
+    pub server: Vec<u8>,
+    pub cuts: Vec<u32>,
+    pub held: Vec<String>,
+    pub fails: Vec<Fail>,
+}
+
+impl Around {
+    // The numbers of the device's calls that are to fail.
+    fn numbers(&self, alloc: Global, device: &str) -> Result<Vec<u64>, AllocError> {
+        let mut numbers = Vec::new(alloc);
+        for fail in &self.fails {
+            if fail.device.as_str() == device {
+                numbers.push(fail.number)?;
+            }
+        }
+        Ok(numbers)
+    }
+
+    fn others(&self, alloc: Global) -> Result<Vec<String>, AllocError> {
+        let mut others = Vec::new(alloc);
+        for name in &self.held {
+            others.push(name.clone()?)?;
+        }
+        Ok(others)
+    }
+}
+
+/// The status of a command, and the devices that it left beside the repository and the data folder.
+#[derive(Drop)]
+pub(crate) struct Ran {
+    pub status: u8,
+    pub server: MemWire,
+    pub locks: MemLocks,
+    pub config: MemSource,
+    pub out: MemSink,
+}
+
+// No worker is ever heard.
+#[derive(Drop)]
+struct First;
+
+impl Turns for First {
+    fn pick(&mut self, _count: u64) -> u64 {
+        0
+    }
+}
+
+/// A repository that holds what is wanted of it.
+pub(crate) fn repo_of(
+    alloc: Global,
+    wanted: &Wanted,
+    around: &Around,
+) -> Result<MemDisk, AllocError> {
+    let mut names = Vec::new(alloc);
+    for (path, want) in wanted {
+        if let (Some(name), Node::File(bytes)) = (path.strip_prefix("repo/"), &want.node) {
+            names.push((String::from_str(alloc, name)?, bytes.to_vec(alloc)?))?;
+        }
+    }
+    MemDisk::new(alloc, names, around.numbers(alloc, "repo")?)
+}
+
+/// A data folder that holds what is wanted of it; none where that has no folder for a node.
+pub(crate) fn pg_of(
+    alloc: Global,
+    wanted: &Wanted,
+    around: &Around,
+) -> Result<Option<MemTree>, AllocError> {
+    let mut nodes = Vec::new(alloc);
+    for (path, want) in wanted {
+        if let Some(name) = path.strip_prefix("pg/") {
+            nodes.push((String::from_str(alloc, name)?, mem_node(alloc, &want.node)?))?;
+        }
+    }
+    Ok(MemTree::new(alloc, nodes, around.numbers(alloc, "pg")?).ok())
+}
+
+fn mem_node(alloc: Global, node: &Node) -> Result<MemNode, AllocError> {
+    match node {
+        Node::File(bytes) => Ok(MemNode::File {
+            bytes: bytes.to_vec(alloc)?,
+            time: 0,
+        }),
+        Node::Folder => Ok(MemNode::Folder),
+        Node::Link | Node::Any => Ok(MemNode::Link),
+    }
+}
+
+/// Runs the program with these words.
+pub(crate) fn run_on(
+    alloc: Global,
+    words: &[String],
+    around: &Around,
+    repo: MemDisk,
+    pg: MemTree,
+) -> Result<(Ran, MemDisk, MemTree), AllocError> {
+    let file = match &around.config {
+        Some(bytes) => Some(bytes.clone()?),
+        None => None,
+    };
+    let server = MemWire::new(
+        alloc,
+        around.server.clone()?,
+        around.cuts.clone()?,
+        around.numbers(alloc, "server")?,
+    );
+    let others = around.others(alloc)?;
+    let mut outside = Outside {
+        repo,
+        spool: NotThere::new(),
+        tree: pg,
+        server,
+        aside: NotThere::new(),
+        clock: NotThere::new(),
+        locks: MemLocks::new(alloc, others, around.numbers(alloc, "locks")?),
+        config: MemSource::new(alloc, file, around.numbers(alloc, "config")?),
+        out: MemSink::new(alloc, around.numbers(alloc, "out")?),
+    };
+    let mut links: Vec<Box<dyn Link>> = Vec::new(alloc);
+    let status = run(alloc, words, &mut outside, &mut links, &mut First);
+    let ran = Ran {
+        status,
+        server: outside.server,
+        locks: outside.locks,
+        config: outside.config,
+        out: outside.out,
+    };
+    Ok((ran, outside.repo, outside.tree))
+}

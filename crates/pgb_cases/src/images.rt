@@ -1,0 +1,165 @@
+// What stops leave of the repository.
+use crate::book::{Book, Section};
+use crate::case::{Part, lines_of};
+use crate::looping::{begun, play_part, try_command, verify_command};
+use crate::steps::words_in;
+use crate::word::Word;
+use crate::world::World;
+use pgb_memory::MemDisk;
+use std::alloc::{AllocError, Global};
+
+/// Which of all that a stop may leave: the first value that each name keeps, the last, or that and other bytes at each
+/// loose name.
+#[derive(Clone, Copy)]
+enum Image {
+    First,
+    Last,
+    Torn,
+}
+
+const IMAGES: &[Image] = &[Image::First, Image::Last, Image::Torn];
+
+/// What is wrong where the command is stopped at each of its moments, or at a quarter, a half and three quarters of them.
+pub(crate) fn play_stops(
+    alloc: Global,
+    book: &Book,
+    case: &Section,
+    quarters: bool,
+) -> Result<String, AllocError> {
+    let mut world = begun(alloc, book, case)?;
+    try_command(book, &mut world, case)?;
+    verify_command(book, &mut world, case)?;
+    let Some(repo) = &world.repo else {
+        return Ok(world.wrong);
+    };
+    for moment in moments(alloc, repo.moment(), quarters)? {
+        let wrong = play_images(alloc, book, case, repo, moment)?;
+        if !wrong.is_empty() {
+            return format!(in alloc; "stopped at {moment}: {wrong}");
+        }
+    }
+    Ok(world.wrong)
+}
+
+fn moments(alloc: Global, last: u64, quarters: bool) -> Result<Vec<u64>, AllocError> {
+    let mut all = Vec::new(alloc);
+    if quarters {
+        all.push(last / 4)?;
+        all.push(last / 2)?;
+        all.push(last / 4 * 3)?;
+        return Ok(all);
+    }
+    for moment in 0..=last {
+        all.push(moment)?;
+    }
+    Ok(all)
+}
+
+/// What is wrong where the program goes on with what a stop at that moment leaves.
+pub(crate) fn play_images(
+    alloc: Global,
+    book: &Book,
+    case: &Section,
+    repo: &MemDisk,
+    moment: u64,
+) -> Result<String, AllocError> {
+    let lines = lines_of(alloc, case, Part::Left)?;
+    let Some(first) = lines.first() else {
+        return Ok(String::new(alloc));
+    };
+    let names = words_in(book, alloc, first)?;
+    for image in IMAGES {
+        let Some(left) = left_of(alloc, repo, moment, *image, &names)? else {
+            continue;
+        };
+        let mut world = begun(alloc, book, case)?;
+        world.repo = Some(left);
+        world.open = true;
+        play_part(book, &mut world, case, Part::Left)?;
+        world.check()?;
+        if !world.wrong.is_empty() {
+            return Ok(world.wrong);
+        }
+    }
+    Ok(String::new(alloc))
+}
+
+// A new disk that holds what a stop at the moment leaves; none where no name is loose and other bytes are asked for.
+fn left_of(
+    alloc: Global,
+    repo: &MemDisk,
+    moment: u64,
+    image: Image,
+    names: &[Word],
+) -> Result<Option<MemDisk>, AllocError> {
+    let mut choice = Vec::new(alloc);
+    let mut torn = Vec::new(alloc);
+    match image {
+        Image::First => add_first(alloc, names, &mut choice)?,
+        Image::Last => {}
+        Image::Torn => {
+            add_torn(alloc, repo, moment, &mut torn)?;
+            if torn.is_empty() {
+                return Ok(None);
+            }
+        }
+    }
+    match repo.image(alloc, moment, &choice, &torn) {
+        Ok(names) => Ok(Some(MemDisk::new(alloc, names, Vec::new(alloc))?)),
+        Err(_) => Ok(None),
+    }
+}
+
+fn add_first(
+    alloc: Global,
+    names: &[Word],
+    choice: &mut Vec<(String, u32)>,
+) -> Result<(), AllocError> {
+    for word in names {
+        if let Some(name) = word.bare().strip_prefix("repo/") {
+            choice.push((String::from_str(alloc, name)?, 0))?;
+        }
+    }
+    Ok(())
+}
+
+fn add_torn(
+    alloc: Global,
+    repo: &MemDisk,
+    moment: u64,
+    torn: &mut Vec<(String, Vec<u8>)>,
+) -> Result<(), AllocError> {
+    for name in repo.loose(alloc, moment)? {
+        torn.push((name, b"torn".to_vec(alloc)?))?;
+    }
+    Ok(())
+}
+
+impl World {
+    /// Checks that a stop can leave nothing but what the repository holds: at no name any bytes, and one value at each of these.
+    pub(crate) fn settled(&mut self, words: &[Word]) -> Result<(), AllocError> {
+        let mut wrong = String::new(self.alloc);
+        if let Some(repo) = &self.repo {
+            if !repo.loose(self.alloc, repo.moment())?.is_empty() {
+                wrong.push_str("a name is loose")?;
+            }
+            for word in words {
+                let name = word.bare().strip_prefix("repo/").unwrap_or("");
+                if !is_settled(self.alloc, repo, name)? {
+                    write!(wrong, "{name} isn't settled")?;
+                }
+            }
+        }
+        self.tell(&wrong)
+    }
+}
+
+// Whether a stop leaves what the name holds.
+fn is_settled(alloc: Global, repo: &MemDisk, name: &str) -> Result<bool, AllocError> {
+    let kept = repo.kept(alloc, repo.moment(), name)?;
+    match kept.as_slice() {
+        [Some(bytes)] => Ok(repo.bytes(name) == Some(bytes.as_slice())),
+        [None] => Ok(repo.bytes(name).is_none()),
+        _ => Ok(false),
+    }
+}

@@ -1,0 +1,98 @@
+// What the devices tell beside what they hold.
+use crate::devices::Ran;
+use crate::world::World;
+use pgb_memory::MemDisk;
+use std::alloc::{AllocError, Global};
+
+#[derive(Clone, Copy)]
+pub(crate) enum Look {
+    RepoPlace,
+    RepoMoment,
+    PgPlace,
+    ConfigPlace,
+    ServerPlace,
+    Sent,
+    SentLast,
+    Took,
+    Refusals,
+}
+
+const LOOKS: &[(&str, Look)] = &[
+    ("repo.place", Look::RepoPlace),
+    ("repo.moment", Look::RepoMoment),
+    ("pg.place", Look::PgPlace),
+    ("config.place", Look::ConfigPlace),
+    ("server.place", Look::ServerPlace),
+    ("server.sent", Look::Sent),
+    ("server.sent.last", Look::SentLast),
+    ("locks.took", Look::Took),
+    ("locks.refusals", Look::Refusals),
+];
+
+pub(crate) fn look_of(word: &str) -> Option<Look> {
+    for (name, look) in LOOKS {
+        if *name == word {
+            return Some(*look);
+        }
+    }
+    None
+}
+
+/// What the device tells.
+pub(crate) fn look_at(
+    alloc: Global,
+    world: &World,
+    ran: &Ran,
+    what: Look,
+) -> Result<Vec<u8>, AllocError> {
+    match what {
+        Look::RepoPlace | Look::RepoMoment => of_repo(alloc, &world.repo, what),
+        Look::PgPlace => match &world.pg {
+            Some(pg) => pg.place().as_bytes().to_vec(alloc),
+            None => Ok(Vec::new(alloc)),
+        },
+        Look::ConfigPlace => ran.config.place().as_bytes().to_vec(alloc),
+        Look::ServerPlace => ran.server.place().as_bytes().to_vec(alloc),
+        Look::Sent | Look::SentLast => ran.server.sent().to_vec(alloc),
+        Look::Refusals => decimal(alloc, ran.locks.refusals()),
+        Look::Took => took(alloc, ran),
+    }
+}
+
+fn of_repo(alloc: Global, repo: &Option<MemDisk>, what: Look) -> Result<Vec<u8>, AllocError> {
+    match (repo, what) {
+        (Some(repo), Look::RepoPlace) => repo.place().as_bytes().to_vec(alloc),
+        (Some(repo), _) => decimal(alloc, repo.moment()),
+        (None, _) => Ok(Vec::new(alloc)),
+    }
+}
+
+fn decimal(alloc: Global, number: u64) -> Result<Vec<u8>, AllocError> {
+    let text = format!(in alloc; "{number}")?;
+    text.as_bytes().to_vec(alloc)
+}
+
+// The folder and the name of each lock that was taken, a line each.
+fn took(alloc: Global, ran: &Ran) -> Result<Vec<u8>, AllocError> {
+    let mut text = Vec::new(alloc);
+    for (folder, name) in ran.locks.took() {
+        text.extend_from_slice(folder.as_bytes())?;
+        text.push(b' ')?;
+        text.extend_from_slice(name.as_bytes())?;
+        text.push(b'\n')?;
+    }
+    Ok(text)
+}
+
+/// Shows the first bytes as a line has them.
+pub(crate) fn shown(bytes: &[u8], text: &mut String) -> Result<(), AllocError> {
+    text.push('"')?;
+    for byte in bytes.iter().take(400) {
+        match *byte {
+            b'\n' => text.push_str("\\n")?,
+            b' '..=b'~' => text.push(char::from(*byte))?,
+            other => write!(text, "\\x{other:02x}")?,
+        }
+    }
+    text.push('"')
+}

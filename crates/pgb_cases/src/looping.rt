@@ -1,0 +1,88 @@
+// A case, once or in the turns of its loop.
+use crate::book::{Book, Line, Section};
+use crate::case::{Part, lines_of};
+use crate::images::play_stops;
+use crate::steps::{step, words_in};
+use crate::turns::play_calls;
+use crate::world::World;
+use std::alloc::{AllocError, Global};
+
+/// What is wrong in the case; nothing where it is well.
+pub(crate) fn play(alloc: Global, book: &mut Book, case: &Section) -> Result<String, AllocError> {
+    let each = lines_of(alloc, case, Part::Each)?;
+    let Some(line) = each.first() else {
+        return play_once(alloc, book, case);
+    };
+    let words = words_in(book, alloc, line)?;
+    let kind = match words.get(1) {
+        Some(word) => word.bare(),
+        None => "",
+    };
+    match kind {
+        "stop" => play_stops(alloc, book, case, false),
+        "quarter" => play_stops(alloc, book, case, true),
+        _ => play_calls(alloc, book, case, &words),
+    }
+}
+
+fn play_lines(book: &Book, world: &mut World, lines: &[Line]) -> Result<(), AllocError> {
+    for line in lines {
+        step(book, world, line)?;
+    }
+    Ok(())
+}
+
+/// Does what the lines of that part say.
+pub(crate) fn play_part(
+    book: &Book,
+    world: &mut World,
+    case: &Section,
+    part: Part,
+) -> Result<(), AllocError> {
+    for line in lines_of(world.alloc, case, part)? {
+        step(book, world, line)?;
+    }
+    Ok(())
+}
+
+/// The devices as the case begins.
+pub(crate) fn begun(alloc: Global, book: &Book, case: &Section) -> Result<World, AllocError> {
+    let mut world = World::new(alloc);
+    play_lines(book, &mut world, &book.before)?;
+    play_part(book, &mut world, case, Part::Setup)?;
+    Ok(world)
+}
+
+fn play_once(alloc: Global, book: &Book, case: &Section) -> Result<String, AllocError> {
+    let mut world = begun(alloc, book, case)?;
+    play_lines(book, &mut world, &book.after)?;
+    world.check()?;
+    Ok(world.wrong)
+}
+
+/// Runs the command that is tried in a loop. Where `checked` says so, its status and output are to be as its line tells.
+pub(crate) fn try_command(
+    book: &Book,
+    world: &mut World,
+    case: &Section,
+) -> Result<(), AllocError> {
+    for line in lines_of(world.alloc, case, Part::Run)? {
+        let words = words_in(book, world.alloc, line)?;
+        world.start(words.get(1..).unwrap_or(&[]))?;
+    }
+    Ok(())
+}
+
+/// Checks the status and the output of that command.
+pub(crate) fn verify_command(
+    book: &Book,
+    world: &mut World,
+    case: &Section,
+) -> Result<(), AllocError> {
+    for line in lines_of(world.alloc, case, Part::Run)? {
+        let words = words_in(book, world.alloc, line)?;
+        let told = book.filled(&line.told)?;
+        world.verify(words.get(1..).unwrap_or(&[]), &told)?;
+    }
+    Ok(())
+}

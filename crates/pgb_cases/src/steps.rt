@@ -1,0 +1,288 @@
+// The lines of a case.
+use crate::book::{Book, Line};
+use crate::looks::{Look, look_at, look_of, shown};
+use crate::node::{all_placed, bytes_of};
+use crate::word::{Word, words_of};
+use crate::world::World;
+use std::alloc::{AllocError, Global};
+use std::mem::replace;
+
+#[derive(Clone, Copy)]
+enum Verb {
+    Put,
+    Adds,
+    May,
+    Drops,
+    Needs,
+    Note,
+    Config,
+    Server,
+    Cuts,
+    Held,
+    Fail,
+    Run,
+    Again,
+    Well,
+    Is,
+    Settled,
+    Mark,
+}
+
+const VERBS: &[(&str, Verb)] = &[
+    ("put", Verb::Put),
+    ("adds", Verb::Adds),
+    ("may", Verb::May),
+    ("drops", Verb::Drops),
+    ("needs", Verb::Needs),
+    ("note", Verb::Note),
+    ("config", Verb::Config),
+    ("server", Verb::Server),
+    ("cuts", Verb::Cuts),
+    ("held", Verb::Held),
+    ("fail", Verb::Fail),
+    ("run", Verb::Run),
+    ("again", Verb::Again),
+    ("well", Verb::Well),
+    ("is", Verb::Is),
+    ("settled", Verb::Settled),
+    ("left", Verb::Mark),
+];
+
+fn verb_of(word: &str) -> Option<Verb> {
+    for (name, verb) in VERBS {
+        if *name == word {
+            return Some(*verb);
+        }
+    }
+    None
+}
+
+/// The words of a line, with what its names stand for.
+pub(crate) fn words_in(book: &Book, alloc: Global, line: &Line) -> Result<Vec<Word>, AllocError> {
+    words_of(alloc, &book.filled(&line.text)?)
+}
+
+/// Does what the line says.
+pub(crate) fn step(book: &Book, world: &mut World, line: &Line) -> Result<(), AllocError> {
+    let words = words_in(book, world.alloc, line)?;
+    let told = book.filled(&line.told)?;
+    match words.as_slice() {
+        [unless, path, verb, rest @ ..] if unless.bare() == "unless" => {
+            if world.has(path.bare()) {
+                return Ok(());
+            }
+            act(book, world, verb.bare(), rest, &told)
+        }
+        [verb, rest @ ..] => act(book, world, verb.bare(), rest, &told),
+        [] => Ok(()),
+    }
+}
+
+fn act(
+    book: &Book,
+    world: &mut World,
+    verb: &str,
+    words: &[Word],
+    told: &str,
+) -> Result<(), AllocError> {
+    let Some(verb) = verb_of(verb) else {
+        return world.tell_of("no such line", verb);
+    };
+    match verb {
+        Verb::Put => world.put(book, words, told),
+        Verb::Adds => world.adds(book, words, told),
+        Verb::May => world.may(book, words, told),
+        Verb::Drops => world.drops(words),
+        Verb::Needs => world.needs(words),
+        Verb::Note => world.note(book, words),
+        Verb::Config | Verb::Server => world.give(book, verb, words, told),
+        Verb::Cuts => world.cut(words),
+        Verb::Held => world.hold(words),
+        Verb::Fail => world.fail(words),
+        Verb::Run => world.run(words, told),
+        Verb::Again => world.again(),
+        Verb::Well => world.verify(words, told),
+        Verb::Is => world.is(book, words, told),
+        Verb::Settled => world.settled(words),
+        Verb::Mark => Ok(()),
+    }
+}
+
+impl World {
+    /// Notes what is wrong with a name.
+    pub(crate) fn tell_of(&mut self, what: &str, name: &str) -> Result<(), AllocError> {
+        let mut text = String::from_str(self.alloc, what)?;
+        text.push_str(": ")?;
+        text.push_str(name)?;
+        self.tell(&text)
+    }
+
+    fn put(&mut self, book: &Book, words: &[Word], told: &str) -> Result<(), AllocError> {
+        self.check()?;
+        self.repo = None;
+        self.pg = None;
+        self.adds(book, words, told)
+    }
+
+    fn adds(&mut self, book: &Book, words: &[Word], told: &str) -> Result<(), AllocError> {
+        let all = all_placed(self.alloc, book, words, told)?;
+        self.want(all)
+    }
+
+    fn may(&mut self, book: &Book, words: &[Word], told: &str) -> Result<(), AllocError> {
+        let all = all_placed(self.alloc, book, words, told)?;
+        self.allow(all)
+    }
+
+    fn drops(&mut self, words: &[Word]) -> Result<(), AllocError> {
+        for word in words {
+            if self.wanted.remove(word.bare()).is_none() {
+                self.tell_of("not there", word.bare())?;
+            }
+        }
+        Ok(())
+    }
+
+    // Where the first path is there, the others are.
+    fn needs(&mut self, words: &[Word]) -> Result<(), AllocError> {
+        let first = match words.first() {
+            Some(word) => self.has(word.bare()),
+            None => false,
+        };
+        if first && !words.iter().all(|word| self.has(word.bare())) {
+            return self.tell("not all of these are there");
+        }
+        Ok(())
+    }
+
+    // Notes how many of these are there.
+    fn note(&mut self, book: &Book, words: &[Word]) -> Result<(), AllocError> {
+        let all = all_placed(self.alloc, book, words, "")?;
+        let mut count = 0u64;
+        for one in &all {
+            if self.has(&one.path) {
+                count = count.saturating_add(1);
+            }
+        }
+        self.noted = count;
+        Ok(())
+    }
+
+    fn give(
+        &mut self,
+        book: &Book,
+        verb: Verb,
+        words: &[Word],
+        told: &str,
+    ) -> Result<(), AllocError> {
+        let bytes = bytes_of(self.alloc, book, words, told)?;
+        match verb {
+            Verb::Config => self.around.config = Some(bytes),
+            _ => self.around.server = bytes,
+        }
+        Ok(())
+    }
+
+    fn cut(&mut self, words: &[Word]) -> Result<(), AllocError> {
+        for word in words {
+            self.around.cuts.push(word.number().min(4096) as u32)?;
+        }
+        Ok(())
+    }
+
+    fn hold(&mut self, words: &[Word]) -> Result<(), AllocError> {
+        for word in words {
+            self.around
+                .held
+                .push(String::from_str(self.alloc, word.bare())?)?;
+        }
+        Ok(())
+    }
+
+    fn fail(&mut self, words: &[Word]) -> Result<(), AllocError> {
+        let Some((device, numbers)) = words.split_first() else {
+            return Ok(());
+        };
+        for number in numbers {
+            self.fail_at(device.bare(), number.number())?;
+        }
+        Ok(())
+    }
+
+    /// Runs the program with the words behind the status.
+    pub(crate) fn start(&mut self, words: &[Word]) -> Result<(), AllocError> {
+        self.check()?;
+        let mut asked = Vec::new(self.alloc);
+        for word in words.iter().skip(1) {
+            match str::from_utf8(&word.bytes) {
+                Ok(text) => asked.push(String::from_str(self.alloc, text)?)?,
+                Err(_) => self.tell("a word isn't UTF-8")?,
+            }
+        }
+        self.go(asked)
+    }
+
+    // Runs the last command again: its answer is the same.
+    fn again(&mut self) -> Result<(), AllocError> {
+        self.check()?;
+        let (status, told) = match &self.ran {
+            Some(ran) => (ran.status, ran.out.written().to_vec(self.alloc)?),
+            None => (0, Vec::new(self.alloc)),
+        };
+        let asked = replace(&mut self.asked, Vec::new(self.alloc));
+        self.go(asked)?;
+        match &self.ran {
+            Some(ran) if ran.status == status && ran.out.written() == told.as_slice() => Ok(()),
+            _ => self.tell("again it answers otherwise"),
+        }
+    }
+
+    fn run(&mut self, words: &[Word], told: &str) -> Result<(), AllocError> {
+        self.start(words)?;
+        self.verify(words, told)
+    }
+
+    /// Checks that the last command ended with this status and wrote this.
+    pub(crate) fn verify(&mut self, words: &[Word], told: &str) -> Result<(), AllocError> {
+        let want = match words.first() {
+            Some(word) => word.number(),
+            None => 0,
+        };
+        let Some(ran) = &self.ran else {
+            return self.tell("nothing was run");
+        };
+        let mut text = String::new(self.alloc);
+        if u64::from(ran.status) != want {
+            write!(text, "status {} in place of {}", ran.status, want)?;
+        } else if ran.out.written() != told.as_bytes() {
+            text.push_str("it wrote ")?;
+            shown(ran.out.written(), &mut text)?;
+        } else if !ran.locks.taken().is_empty() {
+            text.push_str("a lock is held")?;
+        }
+        self.tell(&text)
+    }
+
+    // Checks what a device tells.
+    fn is(&mut self, book: &Book, words: &[Word], told: &str) -> Result<(), AllocError> {
+        let Some((what, rest)) = words.split_first() else {
+            return Ok(());
+        };
+        let (Some(kind), Some(ran)) = (look_of(what.bare()), &self.ran) else {
+            return self.tell_of("nothing to look at", what.bare());
+        };
+        let want = bytes_of(self.alloc, book, rest, told)?;
+        let found = look_at(self.alloc, self, ran, kind)?;
+        let well = match kind {
+            Look::SentLast => found.ends_with(&want),
+            _ => found == want,
+        };
+        if well {
+            return Ok(());
+        }
+        let mut text = String::new(self.alloc);
+        write!(text, "{} is ", what.bare())?;
+        shown(&found, &mut text)?;
+        self.tell(&text)
+    }
+}

@@ -1,0 +1,113 @@
+// The devices of a case, and what they are to hold.
+use crate::devices::{Around, Fail, Ran, pg_of, repo_of, run_on};
+use crate::node::{Node, Placed};
+use pgb_memory::{MemDisk, MemTree};
+use std::alloc::{AllocError, Global};
+use std::collections::BTreeMap;
+
+/// What is to stand at a path; where it only may, nothing is well too.
+#[derive(Drop)]
+pub(crate) struct Want {
+    pub node: Node,
+    pub may: bool,
+}
+
+/// By the path below `repo/` or `pg/`.
+pub(crate) type Wanted = BTreeMap<String, Want>;
+
+/// The repository and the data folder are made of what is wanted where there is none as a command begins.
+#[derive(Drop)]
+pub(crate) struct World {
+    pub alloc: Global,
+    pub wanted: Wanted,
+    pub around: Around,
+    pub repo: Option<MemDisk>,
+    pub pg: Option<MemTree>,
+    /// The words of the last command, and what it left beside these two.
+    pub asked: Vec<String>,
+    pub ran: Option<Ran>,
+    /// Whether what it left hasn't been looked at.
+    pub open: bool,
+    pub noted: u64,
+    /// What was found wrong first.
+    pub wrong: String,
+}
+
+impl World {
+    pub(crate) fn new(alloc: Global) -> Self {
+        World {
+            alloc,
+            wanted: BTreeMap::new(alloc),
+            around: Around {
+                config: None,
+                server: Vec::new(alloc),
+                cuts: Vec::new(alloc),
+                held: Vec::new(alloc),
+                fails: Vec::new(alloc),
+            },
+            repo: None,
+            pg: None,
+            asked: Vec::new(alloc),
+            ran: None,
+            open: false,
+            noted: 0,
+            wrong: String::new(alloc),
+        }
+    }
+
+    /// Notes what is wrong, where nothing was so far.
+    pub(crate) fn tell(&mut self, what: &str) -> Result<(), AllocError> {
+        if self.wrong.is_empty() {
+            self.wrong.push_str(what)?;
+        }
+        Ok(())
+    }
+
+    /// Wants this.
+    pub(crate) fn want(&mut self, all: Vec<Placed>) -> Result<(), AllocError> {
+        for Placed { path, node } in all {
+            self.wanted.insert(path, Want { node, may: false })?;
+        }
+        Ok(())
+    }
+
+    /// Wants this where nothing is wanted so far, and lets it be absent.
+    pub(crate) fn allow(&mut self, all: Vec<Placed>) -> Result<(), AllocError> {
+        for Placed { path, node } in all {
+            if !self.wanted.contains_key(&path) {
+                self.wanted.insert(path, Want { node, may: true })?;
+            }
+        }
+        Ok(())
+    }
+
+    /// That call of the device is to fail.
+    pub(crate) fn fail_at(&mut self, device: &str, number: u64) -> Result<(), AllocError> {
+        let device = String::from_str(self.alloc, device)?;
+        self.around.fails.push(Fail { device, number })?;
+        Ok(())
+    }
+
+    /// Runs the program with these words. No call of the next command is to fail.
+    pub(crate) fn go(&mut self, words: Vec<String>) -> Result<(), AllocError> {
+        let repo = match self.repo.take() {
+            Some(repo) => repo,
+            None => repo_of(self.alloc, &self.wanted, &self.around)?,
+        };
+        let pg = match self.pg.take() {
+            Some(pg) => Some(pg),
+            None => pg_of(self.alloc, &self.wanted, &self.around)?,
+        };
+        let Some(pg) = pg else {
+            return self.tell("a folder of the data folder is missing");
+        };
+        let (ran, repo, pg) = run_on(self.alloc, &words, &self.around, repo, pg)?;
+        self.repo = Some(repo);
+        self.pg = Some(pg);
+        self.ran = Some(ran);
+        self.asked = words;
+        self.around.fails = Vec::new(self.alloc);
+        self.open = true;
+        Ok(())
+    }
+}
