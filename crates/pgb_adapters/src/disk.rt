@@ -1,5 +1,5 @@
 // The repository, on the system's files.
-ghost use Rattle.std.specs.Prelude.{◌≡◌, None, false, string_bytes};
+ghost use Rattle.std.specs.Prelude.{◌≡◌, None, false, map, string_bytes};
 
 use crate::handles::Handles;
 use crate::place::{Place, no_memory};
@@ -34,20 +34,14 @@ impl RealDisk {
 
     /// How often a call failed.
     pub fn faults(&self) -> u64
-        ensures { result ≡ ⟦<RealDisk as Disk>⟧.faults self.now }
+        ensures { result ≡ (⟦<RealDisk as Disk>⟧.state self.now).faults }
     {
         self.faults.count
     }
 }
 
 impl Disk for RealDisk {
-    ghost view = { λ _. record { now = None; moment = 0; kept = λ _ _ _. ⊥; loose = λ _ _. false } };
-
-    ghost faults = { λ d. d.faults.count };
-
-    ghost misuses = { λ _. 0 };
-
-    ghost place = { λ d. string_bytes d.place.root };
+    ghost state = { λ d. record { view = record { now = None; moment = 0; kept = λ _ _ _. ⊥; loose = λ _ _. false }; opened = map string_bytes d.place.opened.items; misuses = 0; faults = d.faults.count } };
 
     ghost now_may_be_left = { λ d n v h. absurd h };
 

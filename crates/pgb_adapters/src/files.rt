@@ -1,5 +1,6 @@
 // The files that a worker reads, on the system's files.
-ghost use Rattle.std.specs.Prelude.{◌≡◌, ◌<◌, ◌≤◌, ◌+◌, ◌^◌, None, IfOk, IfSome, length, string_bytes};
+ghost use Rattle.std.specs.Prelude.{◌≡◌, ◌<◌, ◌≤◌, ◌+◌, ◌^◌, None, IfOk, IfSome, length, map, string_bytes};
+ghost use Rattle.pgb_outside.specs.States.{last_opened};
 
 use crate::handles::Handles;
 use crate::place::Place;
@@ -33,7 +34,7 @@ impl Files for RealFiles {
 
     ghost faults = { λ f. f.faults.count };
 
-    ghost place = { λ f. string_bytes f.place.root };
+    ghost place = { λ f. last_opened (map string_bytes f.place.opened.items) };
 
     fn open(&mut self, root: &str) -> Result<(), Stop> {
         self.handles.forget();

@@ -1,6 +1,7 @@
 // A folder of the system's files, and what stands below it by name.
-ghost use Rattle.std.specs.Prelude.{◌≡◌, ◌≢◌, ◌⊎◌, ◌∷◌, ◌++◌, Result, Ok, Err, None, Some, IfErr, IfOk, OnOk, string_bytes};
+ghost use Rattle.std.specs.Prelude.{◌≡◌, ◌≢◌, ◌⊎◌, ◌∷◌, ◌++◌, Result, Ok, Err, None, Some, IfErr, IfOk, map, string_bytes};
 ghost use Rattle.std.specs.IoError.{error_kind};
+ghost use Rattle.pgb_outside.specs.States.{last_opened, Opens};
 
 use std::fs::{DirBuilder, File, Metadata, OpenOptions};
 use std::io::ErrorKind;
@@ -11,30 +12,41 @@ pub const FILE_MODE: u32 = 0o600;
 
 const FOLDER_MODE: u32 = 0o700;
 
-/// The folder that was opened last. A name's elements have `/` between them.
+/// The folders that were opened, the last one first; it is the root. A name's elements have `/` between them.
 #[derive(Drop)]
 pub struct Place {
     pub rt: HostRuntime,
-    pub root: String,
+    pub opened: Vec<String>,
 }
 
 impl Place {
     pub fn new(rt: HostRuntime) -> Self {
-        let root = String::new(rt.alloc());
-        Place { rt, root }
+        let opened = Vec::new(rt.alloc());
+        Place { rt, opened }
+    }
+
+    /// The folder that was opened last, and nothing before the first.
+    pub fn root(&self) -> &str
+        ensures { result.now ≡ last_opened (map string_bytes self.now.opened.items) }
+    {
+        match self.opened.first() {
+            Some(root) => root.as_str(),
+            None => "",
+        }
     }
 
     // Takes a folder as the root, and answers whether it is there.
     fn take(&mut self, path: &str) -> io::Result<bool>
-        ensures { OnOk result (string_bytes self.new.root ≡ path.now) }
+        ensures { Opens result path.now (map string_bytes self.old.opened.items) (map string_bytes self.new.opened.items) }
     {
-        self.root = String::from_str(self.rt.alloc(), path)?;
+        let root = String::from_str(self.rt.alloc(), path)?;
+        self.opened.insert(0, root).map_err(no_memory)?;
         Ok(is_folder(&self.rt, path))
     }
 
     /// Takes a folder as the root, and makes it where it is absent.
     pub fn open(&mut self, path: &str) -> io::Result<()>
-        ensures { OnOk result (string_bytes self.new.root ≡ path.now) }
+        ensures { Opens result path.now (map string_bytes self.old.opened.items) (map string_bytes self.new.opened.items) }
     {
         if self.take(path)? {
             Ok(())
@@ -45,7 +57,7 @@ impl Place {
 
     /// Takes a folder that is there as the root.
     pub fn enter(&mut self, path: &str) -> io::Result<()>
-        ensures { OnOk result (string_bytes self.new.root ≡ path.now) }
+        ensures { Opens result path.now (map string_bytes self.old.opened.items) (map string_bytes self.new.opened.items) }
     {
         if self.take(path)? {
             Ok(())
@@ -55,9 +67,9 @@ impl Place {
     }
 
     pub fn path_of(&self, name: &str) -> io::Result<String>
-        ensures { IfOk result (λ path. string_bytes path ≡ string_bytes self.now.root ++ 47 ∷ name.now) }
+        ensures { IfOk result (λ path. string_bytes path ≡ last_opened (map string_bytes self.now.opened.items) ++ 47 ∷ name.now) }
     {
-        let root = self.root.as_str();
+        let root = self.root();
         Ok(format!(in self.rt.alloc(); "{root}/{name}")?)
     }
 

@@ -84,7 +84,12 @@ fn folders_above(place: &Place, settled: &Settled, folder: &str) -> io::Result<V
         add_above(place, settled, place.path_of(outer)?, &mut folders)?;
         above = outer;
     }
-    add_above(place, settled, place.root.clone()?, &mut folders)?;
+    add_above(
+        place,
+        settled,
+        String::from_str(place.rt.alloc(), place.root())?,
+        &mut folders,
+    )?;
     Ok(folders)
 }
 
@@ -174,7 +179,7 @@ fn may_hold_file_systems(place: &Place) -> bool {
 }
 
 fn mounted_below(place: &Place) -> io::Result<bool> {
-    let root = fs::canonicalize(&place.rt, place.root.as_str())?;
+    let root = fs::canonicalize(&place.rt, place.root())?;
     let mounts = fs::read_to_string(&place.rt, "/proc/self/mountinfo")?;
     Ok(
         mounts
@@ -198,7 +203,7 @@ fn may_lie_below(line: &str, root: &str) -> bool {
 // Runs the system's own `sync` on the root's whole file system, and answers whether it ended well.
 fn sync_file_system(place: &Place) -> io::Result<bool> {
     let mut command = Command::new(place.rt.alloc(), "sync")?;
-    command.arg("-f")?.arg(place.root.as_str())?;
+    command.arg("-f")?.arg(place.root())?;
     command.stdin(Stdio::null());
     command.stdout(Stdio::null());
     command.stderr(Stdio::null());

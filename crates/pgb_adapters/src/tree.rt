@@ -1,5 +1,5 @@
 // The data folder, on the system's files.
-ghost use Rattle.std.specs.Prelude.{◌≡◌, ◌≤◌, None, IfOk, IfSome, length, string_bytes};
+ghost use Rattle.std.specs.Prelude.{◌≡◌, ◌≤◌, None, IfOk, IfSome, length, map, string_bytes};
 ghost use Rattle.pgb_outside.specs.Tree.{known_path};
 
 use crate::handles::Handles;
@@ -35,20 +35,14 @@ impl RealTree {
 
     /// How often a call failed.
     pub fn faults(&self) -> u64
-        ensures { result ≡ ⟦<RealTree as Tree>⟧.faults self.now }
+        ensures { result ≡ (⟦<RealTree as Tree>⟧.state self.now).faults }
     {
         self.faults.count
     }
 }
 
 impl Tree for RealTree {
-    ghost nodes = { λ _. None };
-
-    ghost faults = { λ t. t.faults.count };
-
-    ghost misuses = { λ _. 0 };
-
-    ghost place = { λ t. string_bytes t.place.root };
+    ghost state = { λ t. record { nodes = None; opened = map string_bytes t.place.opened.items; misuses = 0; faults = t.faults.count } };
 
     fn open(&mut self, path: &str) -> Result<(), Stop> {
         self.handles.forget();
@@ -70,6 +64,11 @@ impl Tree for RealTree {
             at,
             buf,
         );
+        self.faults.told(done)
+    }
+
+    fn size(&mut self, what: &Known) -> Result<Option<u64>, Stop> {
+        let done = size_of(&self.place, &self.handles, self.size, what);
         self.faults.told(done)
     }
 
@@ -114,6 +113,15 @@ fn path_of(alloc: Global, what: &Known) -> Result<String, AllocError>
         Known::Version => String::from_str(alloc, "PG_VERSION"),
         Known::Wal(name) => format!(in alloc; "pg_wal/{name}"),
     }
+}
+
+// A file that is being read is as long as it was when its reading began.
+fn size_of(place: &Place, handles: &Handles, size: u64, what: &Known) -> io::Result<Option<u64>> {
+    let path = path_of(place.rt.alloc(), what)?;
+    if handles.goes_on(&path, 1) {
+        return Ok(Some(size));
+    }
+    place.file_length(&path)
 }
 
 // What isn't a file is no known file. All of one reading is as long as the file was when it began: what is added meanwhile isn't

@@ -28,7 +28,8 @@ use std::alloc::Global;
 // A segment has at most 1 GiB.
 const SEGMENT_LIMIT: u64 = 1 << 30;
 
-// The bytes at a path, which have the sum that it tells.
+// The bytes at a path, which have the sum that it tells. A file that was listed and isn't there any more is told as want of
+// memory: that it isn't archived would end a recovery.
 fn read_kept<D: Disk>(alloc: Global, d: &mut D, kept: &Kept) -> Result<Vec<u8>, ArchiveFault>
     ensures whole { IfOk result (λ bytes. (sha1 bytes.items ≡ kept.now.sum.0) × IfSome (D.state d.old).view.now (λ f. f (string_bytes kept.now.path) ≡ Some bytes.items)) }
     ensures within { IfOk result (λ bytes. length bytes.items ≤ 2 ^ 30) }
@@ -36,7 +37,7 @@ fn read_kept<D: Disk>(alloc: Global, d: &mut D, kept: &Kept) -> Result<Vec<u8>, 
     ensures looks { Looks (D.state d.old) (D.state d.new) }
 {
     let Some(bytes) = read_whole(alloc, d, kept.path.as_str(), SEGMENT_LIMIT)? else {
-        return Err(ArchiveFault::NotFound);
+        return Err(ArchiveFault::NoMemory);
     };
     let found = Sum::of(&bytes);
     if found == kept.sum {

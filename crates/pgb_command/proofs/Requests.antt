@@ -5,6 +5,7 @@ use Rattle.pgb_outside.specs.Moments.{View}
 use Rattle.pgb_outside.specs.Tree.{Nodes}
 use Rattle.pgb_outside.specs.States.{IsOpened, OpensOnly}
 use Rattle.pgb_model.specs.Text.{Text}
+use Rattle.pgb_archive.specs.Still.{IsStill, still_self}
 use Rattle.pgb_command.specs.declared.settings.Asking.{Asking}
 use Rattle.pgb_command.specs.declared.settings.Asking.TheVariants.{Write}
 use Rattle.pgb_command.specs.declared.settings.Writing.{Writing}
@@ -12,7 +13,7 @@ use Rattle.pgb_command.specs.declared.settings.Writing.TheVariants.{StanzaCreate
 use Rattle.pgb_command.specs.Answers.{Ending, finished, absent, refused}
 use Rattle.pgb_options.specs.declared.options.OutputWord.{OutputWord}
 use Rattle.pgb_command.specs.Asked.{Request, create, push, get, report, Asked}
-use Rattle.pgb_command.specs.Doing.{ServesFor, MissesFor, ServedBy, OpensFolder, IsFolderOpened, OpensPlaces}
+use Rattle.pgb_command.specs.Doing.{ServesFor, MissesFor, ServedBy, OpensFolder, IsFolderOpened, OpensPlaces, OnReading}
 use Rattle.pgb_command.specs.Getting.{FolderGoes}
 use Rattle.pgb_command.specs.Locking.{lock_name, Locks, TakesLock, OnlyLocked, OnlyUnderLock}
 use Rattle.pgb_command.specs.Told.{writing_of, request_of, writing_lock}
@@ -65,6 +66,20 @@ no_folder (report form) folder old = refl
 
 pub no_places : (a : Asked) (tree repo : List Text) → OpensPlaces a tree tree repo repo
 no_places a tree repo = record { folder = no_folder a.request a.data_folder tree; repository = inl refl }
+
+no_reading : (P : Type 0) (w : Writing) → OnReading (writing_of w) P
+no_reading P StanzaCreate = tt
+no_reading P (ArchivePush path) = tt
+
+pub never_reads : (P : Type 0) (q : Asking) (w : Writing) → q ≡ Write w → OnReading (request_of q) P
+never_reads P q w is = subst (λ (x : Asking). OnReading (request_of x) P) (sym is) (no_reading P w)
+
+-- what was not touched is as it was
+pub no_change : (r : Request) (v : View) → OnReading r (IsStill v v)
+no_change create v = tt
+no_change (push path) v = tt
+no_change (get name path) v = still_self v
+no_change (report form) v = still_self v
 
 no_report : {P : Type 0} (w : Writing) (form : OutputWord) → writing_of w ≡ report form → P
 no_report StanzaCreate form e = let h : ◌≡◌ {A = Request} create (report form) = e in cc

@@ -81,6 +81,13 @@ pub record ArePlacesOpened (a : Asked) (tree new_tree repo new_repo : List Text)
   pub folder : IsFolderOpened a.request a.data_folder tree new_tree
   pub repository : IsOpened a.repository repo new_repo
 
+-- this holds of a command that only reads the repository
+abbrev pub OnReading : Request → Type 0 → Type 0
+OnReading create P = Unit {0}
+OnReading (push path) P = Unit {0}
+OnReading (get name path) P = P
+OnReading (report form) P = P
+
 -- none of them
 pub record NoneDone (a : Asked) (old new : View) : Type 0 where
   pub stays : NowDoes a.stanza Reading true old.now new.now

@@ -102,7 +102,8 @@ fn serve_segment<D: Disk, T: Tree>(
     };
     match pass_on(alloc, repo, tree, stored.path, sum, wanted.path)? {
         Passed::Served => Ok(true),
-        Passed::Lost => Ok(false),
+        // It was listed, and isn't there any more. That it isn't archived would end a recovery.
+        Passed::Lost => Err(Fault::NoMemory),
         Passed::Barred => serve_whole(alloc, repo, tree, stanza, id, wanted),
     }
 }

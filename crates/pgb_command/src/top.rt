@@ -13,7 +13,8 @@ ghost use Rattle.pgb_command.specs.Answers.{Ending, finished, Answer, lines_of, 
 ghost use Rattle.pgb_command.specs.Cluster.{IsClusterOf};
 ghost use Rattle.pgb_command.specs.Commands.{IsCommandOf};
 ghost use Rattle.pgb_command.specs.Causes.{AskedCause, Cause};
-ghost use Rattle.pgb_command.specs.Doing.{AreHealed, PartDone, AllDone, NoneDone, ServedBy, OpensPlaces, ArePlacesOpened};
+ghost use Rattle.pgb_command.specs.Doing.{AreHealed, PartDone, AllDone, NoneDone, ServedBy, OpensPlaces, ArePlacesOpened, OnReading};
+ghost use Rattle.pgb_archive.specs.Still.{IsStill};
 ghost use Rattle.pgb_command.specs.Locking.{lock_of, Locks as IsLocked, TakesLock, OnlyLocked, OnlyUnderLock, MayHold};
 ghost use Rattle.pgb_command.specs.Outcomes.{ending_of, answer_of, OnNothing};
 ghost use Rattle.pgb_command.specs.Getting.{Serves, FolderGoes, ServesArchived, LacksArchived};
@@ -148,6 +149,7 @@ fn carry<D: Disk, T: Tree, V: Wire, K: Locks>(
     ensures served { ServedBy (ending_of result) (asked_of settings.now) (D.state repo.old).view.now (T.state tree.old).nodes (T.state tree.new).nodes }
     ensures places { OpensPlaces (asked_of settings.now) (T.state tree.old).opened (T.state tree.new).opened (D.state repo.old).opened (D.state repo.new).opened }
     ensures opened { OnOk result (ArePlacesOpened (asked_of settings.now) (T.state tree.old).opened (T.state tree.new).opened (D.state repo.old).opened (D.state repo.new).opened) }
+    ensures reads { OnReading (request_of settings.now.request) (IsStill (D.state repo.old).view (D.state repo.new).view) }
     ensures unused { (form : OutputWord) → request_of settings.now.request ≡ report form → (tree.new ≡ tree.old) × (locks.new ≡ locks.old) }
     ensures folder { FolderGoes settings.now.stanza.now settings.now.pg1_path.now (request_of settings.now.request) (D.state repo.old).view.now (T.state tree.old).nodes (T.state tree.new).nodes }
     ensures nodes { OnNothing result ((T.state tree.new).nodes ≡ (T.state tree.old).nodes) }
@@ -188,6 +190,7 @@ fn serve<D: Disk, T: Tree, V: Wire, K: Locks, I: Source>(
     ensures unasked { ((a : Asked) → ¬ MayAsk (map string_bytes words.now) (I.files config.old) a) → (repo.new ≡ repo.old) × (tree.new ≡ tree.old) × (locks.new ≡ locks.old) }
     ensures places { (a : Asked) → Asks (map string_bytes words.now) (I.files config.old) a → OpensPlaces a (T.state tree.old).opened (T.state tree.new).opened (D.state repo.old).opened (D.state repo.new).opened }
     ensures opened { OnOk result.ending ((a : Asked) → Asks (map string_bytes words.now) (I.files config.old) a → ArePlacesOpened a (T.state tree.old).opened (T.state tree.new).opened (D.state repo.old).opened (D.state repo.new).opened) }
+    ensures reads { (a : Asked) → Asks (map string_bytes words.now) (I.files config.old) a → OnReading a.request (IsStill (D.state repo.old).view (D.state repo.new).view) }
     ensures unused { (a : Asked) → Asks (map string_bytes words.now) (I.files config.old) a → (form : OutputWord) → a.request ≡ report form → (tree.new ≡ tree.old) × (locks.new ≡ locks.old) }
     ensures locked { OnOk result.ending ((a : Asked) → Asks (map string_bytes words.now) (I.files config.old) a → TakesLock a.lock_folder (lock_of a) (K.took locks.old) (K.took locks.new)) }
     ensures only_locked { (a : Asked) → Asks (map string_bytes words.now) (I.files config.old) a → OnlyUnderLock a.lock_folder (lock_of a) (K.took locks.old) (K.took locks.new) (D.state repo.old).view (D.state repo.new).view }
@@ -267,6 +270,10 @@ pub fn run<
     ensures stays { IsEarly result → (a : Asked) → Asks (map string_bytes words.now) (I.files outside.old.config) a → NowDoes a.stanza Reading true (D.state outside.old.repo).view.now (D.state outside.new.repo).view.now
         × KeepsOn a.stanza Reading true (D.state outside.old.repo).view (S.state outside.old.spool).view (D.state outside.new.repo).view (S.state outside.new.spool).view }
     ensures refused { IsEarly result → (a : Asked) → Asks (map string_bytes words.now) (I.files outside.old.config) a → a.request ≡ create → (D.state outside.new.repo).view.now ≡ (D.state outside.old.repo).view.now }
+
+    // A command that only reads changes nothing in the repository, of whatever stanza.
+    ensures reads { (a : Asked) → Asks (map string_bytes words.now) (I.files outside.old.config) a
+        → OnReading a.request (IsStill (D.state outside.old.repo).view (D.state outside.new.repo).view) }
 
     // At 0 archive-get has served the file of the repository.
     ensures served { result ≡ 0 → (a : Asked) → Asks (map string_bytes words.now) (I.files outside.old.config) a → (name path : Text) → a.request ≡ get name path

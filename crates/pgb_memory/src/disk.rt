@@ -1,7 +1,7 @@
 // A disk in memory, with the record of what was done to it.
 ghost use Rattle.std.specs.Prelude.{◌↔◌, true, false, ℕ, List, Option, Contains, ◌≡◌, ◌≤◌, ◌||◌, [], map, not, IsSomeAnd, length, string_bytes, is_some, option_map, IfOk, IfSome, OnOk, OnErr, IsErrOf};
 ghost use Rattle.pgb_outside.specs.Cause.{HasCause};
-ghost use Rattle.pgb_outside.specs.States.{Opens};
+ghost use Rattle.pgb_outside.specs.States.{Opens, last_opened};
 ghost use Rattle.pgb_outside.specs.Content.{IsListing, AreFolders, Reads};
 ghost use Rattle.pgb_outside.specs.declared.stop.Stop.TheVariants.{Failed, NoMemory};
 ghost use Rattle.pgb_outside.specs.Moments.{IsImage};
@@ -116,6 +116,16 @@ impl MemDisk {
         ensures { result ≡ (⟦<MemDisk as Disk>⟧.state self.now).misuses }
     {
         self.failing.misuses()
+    }
+
+    /// The place that was opened last, and nothing before the first.
+    pub fn place(&self) -> &str
+        ensures { result.now ≡ last_opened (⟦<MemDisk as Disk>⟧.state self.now).opened }
+    {
+        match self.opened.first() {
+            Some(place) => place.as_str(),
+            None => "",
+        }
     }
 
     /// The places that were opened, the last one first.

@@ -1,7 +1,7 @@
 // A data folder in memory.
 ghost use Rattle.std.specs.Prelude.{◌≡◌, ◌≤◌, ◌||◌, ◌&&◌, [], map, not, is_none, if◌then◌else◌, IsSomeAnd, length, string_bytes, option_map, Some, None, IfOk, IfErr, IfSome, OnOk, OnErr};
 ghost use Rattle.pgb_outside.specs.Cause.{HasCause};
-ghost use Rattle.pgb_outside.specs.States.{Opens};
+ghost use Rattle.pgb_outside.specs.States.{Opens, last_opened};
 ghost use Rattle.pgb_outside.specs.Content.{Reads};
 ghost use Rattle.pgb_outside.specs.Tree.{file, folder as folder_node, IsTreeListing, known_path, file_bytes, with_node, moved_node};
 ghost use Rattle.pgb_memory.specs.Nodes.{node_of, nodes_at, tree_at, is_file, is_folder, is_placed, takes_file, takes_folder, may_make, may_begin, may_move, holds_nothing, longer_node, Rooted};
@@ -10,8 +10,8 @@ ghost use Rattle.pgb_memory.specs.Counts.{is_to_fail, counted, tried, tried_on, 
 use crate::failing::Failing;
 use crate::nodes::{
     MemNode, empty_file, extend_file, first_lost, has_file, has_folder, has_its_folder, is_bare,
-    is_free, known_size, list_nodes, map_of, may_put_file, may_put_folder, move_file, put_node, read_known,
-    take_node,
+    is_free, known_size, list_nodes, map_of, may_put_file, may_put_folder, move_file, put_node,
+    read_known, take_node,
 };
 use pgb_outside::{Known, Seen, Stop, Tree};
 use std::alloc::{AllocError, Global};
@@ -95,6 +95,16 @@ impl MemTree {
         ensures { result ≡ (⟦<MemTree as Tree>⟧.state self.now).misuses }
     {
         self.failing.misuses()
+    }
+
+    /// The place that was opened last, and nothing before the first.
+    pub fn place(&self) -> &str
+        ensures { result.now ≡ last_opened (⟦<MemTree as Tree>⟧.state self.now).opened }
+    {
+        match self.opened.first() {
+            Some(place) => place.as_str(),
+            None => "",
+        }
     }
 
     /// The places that were opened, the last one first.

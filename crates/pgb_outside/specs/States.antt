@@ -1,10 +1,15 @@
 -- What a device tells, as one value, and what a call leaves of it.
-use Rattle.std.specs.Prelude.{◌≡◌, ◌⊎◌, ◌≤◌, ◌∷◌, ℕ, List, Option, Result, MatchResult}
+use Rattle.std.specs.Prelude.{◌≡◌, ◌⊎◌, ◌≤◌, [], ◌∷◌, ℕ, List, Option, Result, MatchResult}
 use Rattle.pgb_outside.specs.Content.{Name, Value}
 use Rattle.pgb_outside.specs.Moments.{View, Goes, Rests}
 use Rattle.pgb_outside.specs.Tree.{Nodes}
 
 -- ---- places
+
+-- the one that was opened last, and nothing before the first
+abbrev pub last_opened : List Name → Name
+last_opened [] = []
+last_opened (place ∷ places) = place
 
 -- the place was opened
 abbrev pub IsOpened : Name → List Name → List Name → Type 0

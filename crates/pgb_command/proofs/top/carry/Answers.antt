@@ -2,8 +2,9 @@ use Rattle.std.proofs.Common.{ap, refl, sym, subst}
 use Rattle.std.proofs.lemmas.Result.{on_ok_weaker}
 use Rattle.pgb_outside.proofs.Places.{opens_only, opens_ok, ok_both}
 use Rattle.pgb_command.specs.declared.settings.Asking.{Asking}
-use Rattle.pgb_command.specs.Doing.{OpensFolder, IsFolderOpened}
-use Rattle.pgb_command.proofs.Requests.{opens_asked, opened_asked}
+use Rattle.pgb_archive.specs.Still.{IsStill}
+use Rattle.pgb_command.specs.Doing.{OpensFolder, IsFolderOpened, OnReading}
+use Rattle.pgb_command.proofs.Requests.{opens_asked, opened_asked, never_reads}
 use Rattle.pgb_outside.specs.Cause.{Rises}
 use Rattle.pgb_command.specs.Asked.{get, report}
 use Rattle.pgb_command.specs.Told.{request_of, asked_of}
@@ -82,3 +83,12 @@ returns-in-Info-clause-opened g c = on_ok_weaker c.report_stanza.result (λ repo
   folder = subst (λ (q : Asking). IsFolderOpened (request_of q) c.args.settings.now.pg1_path.now (g.T.Tree.state c.args.tree.now).opened (g.T.Tree.state c.args.tree.now).opened) (sym c.in-Info.is) refl;
   repository = repository;
 }) (opens_ok _ _ _ c.report_stanza.result c.report_stanza.ensures.opens)
+
+pub returns-in-Write-clause-reads : goal.returns-in-Write-clause-reads
+returns-in-Write-clause-reads g c = never_reads _ c.args.settings.now.request c.in-Write.writing c.in-Write.is
+
+pub returns-in-ArchiveGet-clause-reads : goal.returns-in-ArchiveGet-clause-reads
+returns-in-ArchiveGet-clause-reads g c = subst (λ (q : Asking). OnReading (request_of q) (IsStill (g.D.Disk.state c.args.repo.now).view (g.D.Disk.state c.get_file.new.repo).view)) (sym c.in-ArchiveGet.is) (record { now = c.get_file.ensures.now; time = c.get_file.ensures.time })
+
+pub returns-in-Info-clause-reads : goal.returns-in-Info-clause-reads
+returns-in-Info-clause-reads g c = subst (λ (q : Asking). OnReading (request_of q) (IsStill (g.D.Disk.state c.args.repo.now).view (g.D.Disk.state c.report_stanza.new.repo).view)) (sym c.in-Info.is) (record { now = c.report_stanza.ensures.now; time = c.report_stanza.ensures.time })

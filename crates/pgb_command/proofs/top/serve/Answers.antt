@@ -2,12 +2,13 @@ use Rattle.std.proofs.Common.{◌≡◌, ap, map, string_bytes, Err}
 use Rattle.pgb_command.specs.declared.outcome.Outcome.{Outcome}
 use Rattle.pgb_options.specs.declared.options.OutputWord.{OutputWord}
 use Rattle.pgb_command.specs.Asked.{Asked, create, report}
-use Rattle.pgb_command.specs.Doing.{PartDone, AllDone, NoneDone, ServedBy, OpensPlaces, ArePlacesOpened}
+use Rattle.pgb_archive.specs.Still.{IsStill}
+use Rattle.pgb_command.specs.Doing.{PartDone, AllDone, NoneDone, ServedBy, OpensPlaces, ArePlacesOpened, OnReading}
 use Rattle.pgb_command.specs.Locking.{lock_of, TakesLock, OnlyUnderLock}
 use Rattle.pgb_command.specs.Outcomes.{ending_of}
 use Rattle.pgb_command.specs.Talking.{Agrees, Asks as AsksServer}
 use Rattle.pgb_command.specs.Told.{asked_of}
-use Rattle.pgb_command.proofs.Requests.{no_places}
+use Rattle.pgb_command.proofs.Requests.{no_places, no_change}
 use Rattle.pgb_command.proofs.Talks.{none_viewed}
 use Rattle.pgb_command.proofs.Asked.{may_ask, for_asked, ok_as}
 use Rattle.pgb_command.proofs.Doings.{none_part, none_done}
@@ -170,3 +171,17 @@ returns-clause-unused g c =
 
 pub returns-in-Err-clause-closed : goal.returns-in-Err-clause-closed
 returns-in-Err-clause-closed g c = apart_parts _ _ _ _ (config_apart _ _ _ _) c.in-Err.fault c.in-Err.ensures.cause
+
+pub returns-in-Err-clause-reads : goal.returns-in-Err-clause-reads
+returns-in-Err-clause-reads g c = λ a asks. no_change a.request (g.D.Disk.state c.args.repo.now).view
+
+pub returns-in-Err-settings_of-clause-reads : goal.returns-in-Err-settings_of-clause-reads
+returns-in-Err-settings_of-clause-reads g c = λ a asks. no_change a.request (g.D.Disk.state c.args.repo.now).view
+
+pub returns-clause-reads : goal.returns-clause-reads
+returns-clause-reads g c =
+    let x = c.in-Ok.ensures.command in
+    let words = map string_bytes c.args.words.now in
+    let files = g.I.Source.files c.args.config.now in
+    let may = may_ask words files x.0 x.1 (asked_of c.in-Ok-settings_of.settings) (c.in-Ok-settings_of.ensures.asked x.0 x.2) in
+    for_asked words files (λ (a : Asked). OnReading a.request (IsStill (g.D.Disk.state c.args.repo.now).view (g.D.Disk.state c.carry-ending.new.repo).view)) (asked_of c.in-Ok-settings_of.settings) may c.carry-ending.ensures.reads
