@@ -201,6 +201,21 @@ source_of table verb given sections settings = record { verb = verb; given = giv
 abbrev pub settled : List Opt → Text → Words → Source → List Setting → Settled
 settled table stanza words source settings = record { stanza = stanza; parameters = words.parameters; source = source; warnings = unknown_keys table source.sections settings }
 
+-- the settings of a configuration, or its first fault: of its form, or a key that stands twice in a section
+unfoldable pub configured : List Opt → Text → Result (List Setting) Fault
+configured table bytes = do
+  utf8 ← utf8_of bytes
+  settings ← syntax_of (config.settings bytes)
+  once ← none_twice table [] settings
+  Ok settings
+
+-- whether the values in force and the number of parameters are right, or their first fault
+unfoldable pub accepted : Source → List Opt → ℕ → Result (Unit {0}) Fault
+accepted source table count = do
+  right ← none_wrong source table
+  there ← none_lacking source table
+  count_of source.verb count
+
 -- what the words and the configuration ask for with these commands and options, or their first fault
 unfoldable pub settle : List Verb → List Opt → List Text → Text → Result Settled Fault
 settle verbs table words bytes = do
@@ -208,12 +223,8 @@ settle verbs table words bytes = do
   verb ← command_of verbs read.command
   for_it ← each_is_for table verb read.given
   stanza ← stanza_of read.given
-  utf8 ← utf8_of bytes
-  settings ← syntax_of (config.settings bytes)
-  once ← none_twice table [] settings
-  right ← none_wrong (source_of table verb read.given (sections_of stanza verb) settings) table
-  there ← none_lacking (source_of table verb read.given (sections_of stanza verb) settings) table
-  counted ← count_of verb (length read.parameters)
+  settings ← configured table bytes
+  right ← accepted (source_of table verb read.given (sections_of stanza verb) settings) table (length read.parameters)
   Ok (settled table stanza read (source_of table verb read.given (sections_of stanza verb) settings) settings)
 
 -- what the words and the configuration ask for, or their first fault

@@ -1,8 +1,8 @@
 //! The rows of the options, as the table of them.
 
 ghost use Rattle.std.specs.Prelude.{◌≡◌};
-ghost use Rattle.pgb_options.specs.Table.{row};
-ghost use Rattle.pgb_options.specs.Views.{row_view};
+ghost use Rattle.pgb_options.specs.Table.{row, option, word_option, every, unset};
+ghost use Rattle.pgb_options.specs.Views.{row_view, kind_view, fallback_view};
 
 use crate::table::{Fallback, Kind, Opt, Place, Row, Verb};
 
@@ -76,350 +76,233 @@ const INFO: &[Verb] = &[Verb::Info];
 
 const REHEARSE: &[Verb] = &[Verb::Rehearse];
 
+// An option that may stand in the words and in the configuration.
+fn any_place(name: &'static str, commands: &'static [Verb], kind: Kind, fallback: Fallback) -> Row
+    ensures { row_view result ≡ option name.now commands.now (kind_view kind) (fallback_view fallback) }
+{
+    Row {
+        name,
+        commands,
+        place: Place::Anywhere,
+        kind,
+        fallback,
+    }
+}
+
+// One that may stand in the words alone.
+fn words_alone(name: &'static str, kind: Kind, fallback: Fallback) -> Row
+    ensures { row_view result ≡ word_option name.now every (kind_view kind) (fallback_view fallback) }
+{
+    Row {
+        name,
+        commands: EVERY,
+        place: Place::CommandLine,
+        kind,
+        fallback,
+    }
+}
+
+// One whose value isn't looked at.
+fn ignored(name: &'static str, kind: Kind) -> Row
+    ensures { row_view result ≡ option name.now every (kind_view kind) unset }
+{
+    any_place(name, EVERY, kind, Fallback::Unset)
+}
+
 /// The row of an option.
 #[tactic(auto, unfolding(crate::specs::Table::row))]
 pub fn row_for(option: Opt) -> Row
     ensures { row_view result ≡ row option }
 {
     match option {
-        Opt::Stanza => Row {
-            name: "stanza",
-            commands: EVERY,
-            place: Place::CommandLine,
-            kind: Kind::Stanza,
-            fallback: Fallback::Required,
-        },
-        Opt::Pg1Path => Row {
-            name: "pg1-path",
-            commands: WITH_DATA_FOLDER,
-            place: Place::Anywhere,
-            kind: Kind::Path,
-            fallback: Fallback::Required,
-        },
-        Opt::Pg1Port => Row {
-            name: "pg1-port",
-            commands: WITH_SERVER,
-            place: Place::Anywhere,
-            kind: Kind::Number {
+        Opt::Stanza => words_alone("stanza", Kind::Stanza, Fallback::Required),
+        Opt::Pg1Path => any_place("pg1-path", WITH_DATA_FOLDER, Kind::Path, Fallback::Required),
+        Opt::Pg1Port => any_place(
+            "pg1-port",
+            WITH_SERVER,
+            Kind::Number {
                 least: 1,
                 most: 65535,
             },
-            fallback: Fallback::Is("5432"),
-        },
-        Opt::Pg1SocketPath => Row {
-            name: "pg1-socket-path",
-            commands: WITH_SERVER,
-            place: Place::Anywhere,
-            kind: Kind::Path,
-            fallback: Fallback::Is("/tmp"),
-        },
-        Opt::Pg1User => Row {
-            name: "pg1-user",
-            commands: WITH_SERVER,
-            place: Place::Anywhere,
-            kind: Kind::Text,
-            fallback: Fallback::Is("postgres"),
-        },
-        Opt::Pg1Database => Row {
-            name: "pg1-database",
-            commands: WITH_SERVER,
-            place: Place::Anywhere,
-            kind: Kind::Text,
-            fallback: Fallback::Is("postgres"),
-        },
-        Opt::Repo1Path => Row {
-            name: "repo1-path",
-            commands: EVERY,
-            place: Place::Anywhere,
-            kind: Kind::Path,
-            fallback: Fallback::Is("/var/lib/pgbackrest"),
-        },
-        Opt::Repo1Type => Row {
-            name: "repo1-type",
-            commands: EVERY,
-            place: Place::Anywhere,
-            kind: Kind::Words(&["posix"]),
-            fallback: Fallback::Is("posix"),
-        },
-        Opt::Repo1CipherType => Row {
-            name: "repo1-cipher-type",
-            commands: EVERY,
-            place: Place::Anywhere,
-            kind: Kind::Words(&["none"]),
-            fallback: Fallback::Is("none"),
-        },
-        Opt::CompressType => Row {
-            name: "compress-type",
-            commands: PUSH_AND_BACKUP,
-            place: Place::Anywhere,
-            kind: Kind::Words(&["none"]),
-            fallback: Fallback::Is("none"),
-        },
-        Opt::Repo1RetentionFull => Row {
-            name: "repo1-retention-full",
-            commands: WITH_RETENTION,
-            place: Place::Anywhere,
-            kind: Kind::Number {
+            Fallback::Is("5432"),
+        ),
+        Opt::Pg1SocketPath => any_place(
+            "pg1-socket-path",
+            WITH_SERVER,
+            Kind::Path,
+            Fallback::Is("/tmp"),
+        ),
+        Opt::Pg1User => any_place(
+            "pg1-user",
+            WITH_SERVER,
+            Kind::Text,
+            Fallback::Is("postgres"),
+        ),
+        Opt::Pg1Database => any_place(
+            "pg1-database",
+            WITH_SERVER,
+            Kind::Text,
+            Fallback::Is("postgres"),
+        ),
+        Opt::Repo1Path => any_place(
+            "repo1-path",
+            EVERY,
+            Kind::Path,
+            Fallback::Is("/var/lib/pgbackrest"),
+        ),
+        Opt::Repo1Type => any_place(
+            "repo1-type",
+            EVERY,
+            Kind::Words(&["posix"]),
+            Fallback::Is("posix"),
+        ),
+        Opt::Repo1CipherType => any_place(
+            "repo1-cipher-type",
+            EVERY,
+            Kind::Words(&["none"]),
+            Fallback::Is("none"),
+        ),
+        Opt::CompressType => any_place(
+            "compress-type",
+            PUSH_AND_BACKUP,
+            Kind::Words(&["none"]),
+            Fallback::Is("none"),
+        ),
+        Opt::Repo1RetentionFull => any_place(
+            "repo1-retention-full",
+            WITH_RETENTION,
+            Kind::Number {
                 least: 1,
                 most: 9999999,
             },
-            fallback: Fallback::Unset,
-        },
-        Opt::Repo1RetentionDiff => Row {
-            name: "repo1-retention-diff",
-            commands: WITH_RETENTION,
-            place: Place::Anywhere,
-            kind: Kind::Number {
+            Fallback::Unset,
+        ),
+        Opt::Repo1RetentionDiff => any_place(
+            "repo1-retention-diff",
+            WITH_RETENTION,
+            Kind::Number {
                 least: 1,
                 most: 9999999,
             },
-            fallback: Fallback::Unset,
-        },
-        Opt::Repo1RetentionArchive => Row {
-            name: "repo1-retention-archive",
-            commands: WITH_RETENTION,
-            place: Place::Anywhere,
-            kind: Kind::Number {
+            Fallback::Unset,
+        ),
+        Opt::Repo1RetentionArchive => any_place(
+            "repo1-retention-archive",
+            WITH_RETENTION,
+            Kind::Number {
                 least: 1,
                 most: 9999999,
             },
-            fallback: Fallback::Unset,
-        },
-        Opt::Repo1RetentionArchiveType => Row {
-            name: "repo1-retention-archive-type",
-            commands: WITH_RETENTION,
-            place: Place::Anywhere,
-            kind: Kind::Words(&["full", "diff"]),
-            fallback: Fallback::Is("full"),
-        },
-        Opt::Repo1Bundle => Row {
-            name: "repo1-bundle",
-            commands: BACKUP,
-            place: Place::Anywhere,
-            kind: Kind::Flag,
-            fallback: Fallback::Is("n"),
-        },
-        Opt::Repo1BundleSize => Row {
-            name: "repo1-bundle-size",
-            commands: BACKUP,
-            place: Place::Anywhere,
-            kind: Kind::Size {
+            Fallback::Unset,
+        ),
+        Opt::Repo1RetentionArchiveType => any_place(
+            "repo1-retention-archive-type",
+            WITH_RETENTION,
+            Kind::Words(&["full", "diff"]),
+            Fallback::Is("full"),
+        ),
+        Opt::Repo1Bundle => any_place("repo1-bundle", BACKUP, Kind::Flag, Fallback::Is("n")),
+        Opt::Repo1BundleSize => any_place(
+            "repo1-bundle-size",
+            BACKUP,
+            Kind::Size {
                 least: 1048576,
                 most: 1073741824,
             },
-            fallback: Fallback::Is("20MiB"),
-        },
-        Opt::Repo1BundleLimit => Row {
-            name: "repo1-bundle-limit",
-            commands: BACKUP,
-            place: Place::Anywhere,
-            kind: Kind::Size {
+            Fallback::Is("20MiB"),
+        ),
+        Opt::Repo1BundleLimit => any_place(
+            "repo1-bundle-limit",
+            BACKUP,
+            Kind::Size {
                 least: 8192,
                 most: 1073741824,
             },
-            fallback: Fallback::Is("2MiB"),
-        },
-        Opt::ProcessMax => Row {
-            name: "process-max",
-            commands: WITH_WORKERS,
-            place: Place::Anywhere,
-            kind: Kind::Number { least: 1, most: 64 },
-            fallback: Fallback::Is("1"),
-        },
-        Opt::BackupType => Row {
-            name: "type",
-            commands: BACKUP,
-            place: Place::Anywhere,
-            kind: Kind::Words(&["full", "diff", "incr"]),
-            fallback: Fallback::Is("incr"),
-        },
-        Opt::RestoreType => Row {
-            name: "type",
-            commands: RESTORE,
-            place: Place::Anywhere,
-            kind: Kind::Words(&["default", "none"]),
-            fallback: Fallback::Is("default"),
-        },
-        Opt::Delta => Row {
-            name: "delta",
-            commands: BACKUP_AND_RESTORE,
-            place: Place::Anywhere,
-            kind: Kind::Flag,
-            fallback: Fallback::Is("n"),
-        },
-        Opt::Online => Row {
-            name: "online",
-            commands: WITH_SERVER,
-            place: Place::Anywhere,
-            kind: Kind::Flag,
-            fallback: Fallback::Is("y"),
-        },
-        Opt::StartFast => Row {
-            name: "start-fast",
-            commands: BACKUP,
-            place: Place::Anywhere,
-            kind: Kind::Flag,
-            fallback: Fallback::Is("n"),
-        },
-        Opt::ArchiveTimeout => Row {
-            name: "archive-timeout",
-            commands: PUSH_AND_BACKUP,
-            place: Place::Anywhere,
-            kind: Kind::Time {
+            Fallback::Is("2MiB"),
+        ),
+        Opt::ProcessMax => any_place(
+            "process-max",
+            WITH_WORKERS,
+            Kind::Number { least: 1, most: 64 },
+            Fallback::Is("1"),
+        ),
+        Opt::BackupType => any_place(
+            "type",
+            BACKUP,
+            Kind::Words(&["full", "diff", "incr"]),
+            Fallback::Is("incr"),
+        ),
+        Opt::RestoreType => any_place(
+            "type",
+            RESTORE,
+            Kind::Words(&["default", "none"]),
+            Fallback::Is("default"),
+        ),
+        Opt::Delta => any_place("delta", BACKUP_AND_RESTORE, Kind::Flag, Fallback::Is("n")),
+        Opt::Online => any_place("online", WITH_SERVER, Kind::Flag, Fallback::Is("y")),
+        Opt::StartFast => any_place("start-fast", BACKUP, Kind::Flag, Fallback::Is("n")),
+        Opt::ArchiveTimeout => any_place(
+            "archive-timeout",
+            PUSH_AND_BACKUP,
+            Kind::Time {
                 least: 1,
                 most: 86400,
             },
-            fallback: Fallback::Is("60"),
-        },
-        Opt::ArchiveAsync => Row {
-            name: "archive-async",
-            commands: PUSH_AND_GET,
-            place: Place::Anywhere,
-            kind: Kind::Flag,
-            fallback: Fallback::Is("n"),
-        },
-        Opt::ArchiveGetQueueMax => Row {
-            name: "archive-get-queue-max",
-            commands: GET,
-            place: Place::Anywhere,
-            kind: Kind::Size {
+            Fallback::Is("60"),
+        ),
+        Opt::ArchiveAsync => any_place(
+            "archive-async",
+            PUSH_AND_GET,
+            Kind::Flag,
+            Fallback::Is("n"),
+        ),
+        Opt::ArchiveGetQueueMax => any_place(
+            "archive-get-queue-max",
+            GET,
+            Kind::Size {
                 least: 0,
                 most: 1099511627776,
             },
-            fallback: Fallback::Is("128MiB"),
-        },
-        Opt::SpoolPath => Row {
-            name: "spool-path",
-            commands: WITH_SPOOL,
-            place: Place::Anywhere,
-            kind: Kind::Path,
-            fallback: Fallback::Is("/var/spool/pgbackrest"),
-        },
-        Opt::LockPath => Row {
-            name: "lock-path",
-            commands: WITH_LOCK,
-            place: Place::Anywhere,
-            kind: Kind::Path,
-            fallback: Fallback::Is("/tmp/pgbackrest"),
-        },
-        Opt::Set => Row {
-            name: "set",
-            commands: RESTORE,
-            place: Place::Anywhere,
-            kind: Kind::Text,
-            fallback: Fallback::Unset,
-        },
-        Opt::ExpireAuto => Row {
-            name: "expire-auto",
-            commands: BACKUP,
-            place: Place::Anywhere,
-            kind: Kind::Flag,
-            fallback: Fallback::Is("y"),
-        },
-        Opt::Output => Row {
-            name: "output",
-            commands: INFO,
-            place: Place::Anywhere,
-            kind: Kind::Words(&["text", "json"]),
-            fallback: Fallback::Is("text"),
-        },
-        Opt::Number => Row {
-            name: "number",
-            commands: REHEARSE,
-            place: Place::Anywhere,
-            kind: Kind::Number { least: 1, most: 64 },
-            fallback: Fallback::Required,
-        },
-        Opt::Config => Row {
-            name: "config",
-            commands: EVERY,
-            place: Place::CommandLine,
-            kind: Kind::File,
-            fallback: Fallback::Unset,
-        },
-        Opt::LogLevelConsole => Row {
-            name: "log-level-console",
-            commands: EVERY,
-            place: Place::Anywhere,
-            kind: Kind::Anything,
-            fallback: Fallback::Unset,
-        },
-        Opt::LogLevelFile => Row {
-            name: "log-level-file",
-            commands: EVERY,
-            place: Place::Anywhere,
-            kind: Kind::Anything,
-            fallback: Fallback::Unset,
-        },
-        Opt::LogLevelStderr => Row {
-            name: "log-level-stderr",
-            commands: EVERY,
-            place: Place::Anywhere,
-            kind: Kind::Anything,
-            fallback: Fallback::Unset,
-        },
-        Opt::LogPath => Row {
-            name: "log-path",
-            commands: EVERY,
-            place: Place::Anywhere,
-            kind: Kind::Anything,
-            fallback: Fallback::Unset,
-        },
-        Opt::LogTimestamp => Row {
-            name: "log-timestamp",
-            commands: EVERY,
-            place: Place::Anywhere,
-            kind: Kind::Flag,
-            fallback: Fallback::Unset,
-        },
-        Opt::BufferSize => Row {
-            name: "buffer-size",
-            commands: EVERY,
-            place: Place::Anywhere,
-            kind: Kind::Anything,
-            fallback: Fallback::Unset,
-        },
-        Opt::CompressLevel => Row {
-            name: "compress-level",
-            commands: EVERY,
-            place: Place::Anywhere,
-            kind: Kind::Anything,
-            fallback: Fallback::Unset,
-        },
-        Opt::CompressLevelNetwork => Row {
-            name: "compress-level-network",
-            commands: EVERY,
-            place: Place::Anywhere,
-            kind: Kind::Anything,
-            fallback: Fallback::Unset,
-        },
-        Opt::DbTimeout => Row {
-            name: "db-timeout",
-            commands: EVERY,
-            place: Place::Anywhere,
-            kind: Kind::Anything,
-            fallback: Fallback::Unset,
-        },
-        Opt::ProtocolTimeout => Row {
-            name: "protocol-timeout",
-            commands: EVERY,
-            place: Place::Anywhere,
-            kind: Kind::Anything,
-            fallback: Fallback::Unset,
-        },
-        Opt::IoTimeout => Row {
-            name: "io-timeout",
-            commands: EVERY,
-            place: Place::Anywhere,
-            kind: Kind::Anything,
-            fallback: Fallback::Unset,
-        },
-        Opt::ArchiveModeCheck => Row {
-            name: "archive-mode-check",
-            commands: EVERY,
-            place: Place::Anywhere,
-            kind: Kind::Flag,
-            fallback: Fallback::Unset,
-        },
+            Fallback::Is("128MiB"),
+        ),
+        Opt::SpoolPath => any_place(
+            "spool-path",
+            WITH_SPOOL,
+            Kind::Path,
+            Fallback::Is("/var/spool/pgbackrest"),
+        ),
+        Opt::LockPath => any_place(
+            "lock-path",
+            WITH_LOCK,
+            Kind::Path,
+            Fallback::Is("/tmp/pgbackrest"),
+        ),
+        Opt::Set => any_place("set", RESTORE, Kind::Text, Fallback::Unset),
+        Opt::ExpireAuto => any_place("expire-auto", BACKUP, Kind::Flag, Fallback::Is("y")),
+        Opt::Output => any_place(
+            "output",
+            INFO,
+            Kind::Words(&["text", "json"]),
+            Fallback::Is("text"),
+        ),
+        Opt::Number => any_place(
+            "number",
+            REHEARSE,
+            Kind::Number { least: 1, most: 64 },
+            Fallback::Required,
+        ),
+        Opt::Config => words_alone("config", Kind::File, Fallback::Unset),
+        Opt::LogLevelConsole => ignored("log-level-console", Kind::Anything),
+        Opt::LogLevelFile => ignored("log-level-file", Kind::Anything),
+        Opt::LogLevelStderr => ignored("log-level-stderr", Kind::Anything),
+        Opt::LogPath => ignored("log-path", Kind::Anything),
+        Opt::LogTimestamp => ignored("log-timestamp", Kind::Flag),
+        Opt::BufferSize => ignored("buffer-size", Kind::Anything),
+        Opt::CompressLevel => ignored("compress-level", Kind::Anything),
+        Opt::CompressLevelNetwork => ignored("compress-level-network", Kind::Anything),
+        Opt::DbTimeout => ignored("db-timeout", Kind::Anything),
+        Opt::ProtocolTimeout => ignored("protocol-timeout", Kind::Anything),
+        Opt::IoTimeout => ignored("io-timeout", Kind::Anything),
+        Opt::ArchiveModeCheck => ignored("archive-mode-check", Kind::Flag),
     }
 }

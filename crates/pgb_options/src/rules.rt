@@ -1,6 +1,6 @@
 //! The rules of words and settings, each with its fault.
 
-ghost use Rattle.std.specs.Prelude.{◌≡◌, [], map, min, option_map, string_bytes, IfOk};
+ghost use Rattle.std.specs.Prelude.{◌≡◌, ◌++◌, [], ◌∷◌, codes, map, min, option_map, string_bytes, IfOk, OnOk};
 ghost use Rattle.pgb_ini.specs.Views.{settings_of};
 ghost use Rattle.pgb_options.specs.Settings.{none_wrong, none_lacking, is_known, is_known_for, each_is_for, none_twice, counts, known_settings, unknown_keys, verb_named, command_of, stanza_of, utf8_of, parameters_for, count_of, section_word, sections_of, source_of};
 ghost use Rattle.pgb_options.specs.Sources.{source_view};
@@ -248,6 +248,20 @@ fn section_word(verb: Verb) -> &'static str
     }
 }
 
+// Adds the section of a command under a name, and that of all commands.
+fn add_sections(
+    alloc: Global,
+    sections: &mut Vec<String>,
+    name: &str,
+    word: &str,
+) -> Result<(), AllocError>
+    ensures { OnOk result (map string_bytes sections.new.items ≡ map string_bytes sections.old.items ++ (name.now ++ codes ":" ++ word.now) ∷ name.now ∷ []) }
+{
+    sections.push(format!(in alloc; "{name}:{word}")?)?;
+    sections.push(String::from_str(alloc, name)?)?;
+    Ok(())
+}
+
 #[tactic(auto, unfolding(crate::specs::Settings::sections_of))]
 pub(crate) fn sections_of(
     alloc: Global,
@@ -257,10 +271,8 @@ pub(crate) fn sections_of(
     ensures { IfOk result (λ v. map string_bytes v.items ≡ sections_of stanza.now verb) }
 {
     let word = section_word(verb);
-    let own = format!(in alloc; "{stanza}:{word}")?;
-    let plain = String::from_str(alloc, stanza)?;
-    let global_own = format!(in alloc; "global:{word}")?;
-    let global = String::from_str(alloc, "global")?;
-    let sections = vec![in alloc; own, plain, global_own, global]?;
+    let mut sections = Vec::new(alloc);
+    add_sections(alloc, &mut sections, stanza, word)?;
+    add_sections(alloc, &mut sections, "global", word)?;
     Ok(sections)
 }

@@ -3,8 +3,9 @@
 ghost use Rattle.std.specs.Prelude.{◌≡◌, ◌<◌, ◌+◌, ◌^◌, map, string_bytes, length};
 ghost use Rattle.pgb_ini.specs.Config.{settings};
 ghost use Rattle.pgb_ini.specs.Views.{settings_of};
-ghost use Rattle.pgb_options.specs.Settings.{settle, settled_words, syntax_of};
+ghost use Rattle.pgb_options.specs.Settings.{settle, settled_words, syntax_of, configured, accepted};
 ghost use Rattle.pgb_options.specs.Commands.{settled_view, GivesCommand};
+ghost use Rattle.pgb_options.specs.Sources.{source_view};
 ghost use Rattle.pgb_options.specs.Views.{Gives};
 
 use crate::options::{Options, fill};
@@ -53,6 +54,28 @@ fn lines_of(alloc: Global, config: &[u8]) -> Result<Vec<ConfigLine>, Usage>
     }
 }
 
+// What is set, where its form is right and no key stands twice in a section.
+#[tactic(auto, unfolding(crate::specs::Settings::configured))]
+fn configured(alloc: Global, table: &[Opt], config: &[u8]) -> Result<Vec<ConfigLine>, Usage>
+    requires { length config.now + 1 < 2 ^ 32 }
+    ensures { Gives (λ v. settings_of v.items) result (configured table.now config.now) }
+{
+    utf8_of(config)?;
+    let lines = lines_of(alloc, config)?;
+    none_twice(alloc, table, &lines)?;
+    Ok(lines)
+}
+
+// Whether the values in force are right, and as many parameters as there are.
+#[tactic(auto, unfolding(crate::specs::Settings::accepted))]
+fn accept(alloc: Global, source: &Source, table: &[Opt], count: usize) -> Result<(), Usage>
+    ensures { Gives (λ u. u) result (accepted (source_view source.now) table.now count) }
+{
+    none_wrong(alloc, source, table)?;
+    none_lacking(alloc, source, table)?;
+    count_of(source.verb, count)
+}
+
 #[tactic(auto, unfolding(crate::specs::Settings::settle))]
 pub(crate) fn settle(
     alloc: Global,
@@ -68,15 +91,11 @@ pub(crate) fn settle(
     let verb = command_of(alloc, verbs, &read.command)?;
     each_is_for(alloc, table, verb, &read.given)?;
     let stanza = stanza_of(alloc, &read.given)?;
-    utf8_of(config)?;
-    let lines = lines_of(alloc, config)?;
-    none_twice(alloc, table, &lines)?;
+    let lines = configured(alloc, table, config)?;
     let sections = sections_of(alloc, stanza.as_str(), verb)?;
     let warnings = unknown_keys(alloc, table, &sections, &lines)?;
     let source = source_of(table, verb, read.given, sections, lines);
-    none_wrong(alloc, &source, table)?;
-    none_lacking(alloc, &source, table)?;
-    count_of(verb, read.parameters.len())?;
+    accept(alloc, &source, table, read.parameters.len())?;
     Ok(Settled {
         stanza,
         parameters: read.parameters,

@@ -3,11 +3,15 @@
 use crate::answers::{answer, greeting};
 use crate::serve::serve;
 use pgb_server::memory::MemWire;
-use pgb_server::{Started, Stopped, check_system, close, open, start_backup, stop_backup};
+use pgb_server::{
+    ServerFault, Started, Stopped, check_system, close, open, start_backup, stop_backup,
+};
 use pgb_wal::{Lsn, SegSize, Segment};
 use std::alloc::Global;
+use std::fmt::Debug;
 use std::io;
 use std::io::{Cursor, Read, Write};
+use std::process::Abort;
 use std::test::Fail;
 
 const SYSTEM: &str =
@@ -51,67 +55,87 @@ fn serve_bytes(alloc: Global, said: &[u8]) -> Result<(bool, Vec<u8>), Fail> {
     Ok((done, stream.output))
 }
 
-#[test]
-fn a_client_is_served(rt: HostRuntime) -> Result<(), Fail> {
-    let alloc = rt.alloc();
+fn same<T: PartialEq + Debug + Drop>(rt: &impl Abort, found: T, want: T) {
+    assert!(rt; found == want, "found {found:?}, want {want:?}");
+}
+
+// All that a client of the three queries is given.
+fn all_given(alloc: Global) -> io::Result<Vec<u8>> {
     let mut given = greeting(alloc)?;
     for text in [SYSTEM, START, STOP] {
         given.extend_from_slice(&answer(alloc, text)?)?;
     }
-    let mut wire = MemWire::new(alloc, given.clone()?, Vec::new(alloc), Vec::new(alloc));
-    let mut session = open(alloc, &mut wire, "socket", "postgres", "postgres")?;
-    let segment = Segment {
-        timeline: 1,
-        log: 0,
-        seg: 2,
-    };
-    assert_eq!(rt;
-        check_system(alloc, &mut wire, &mut session, 6917529027641081857)?,
-        SegSize(1048576)
-    );
-    let started = start_backup(alloc, &mut wire, &mut session, true)?;
-    assert_eq!(rt;
-        started,
-        Started {
-            lsn: Lsn(0x200028),
-            segment
-        }
-    );
-    let stopped = Stopped {
+    Ok(given)
+}
+
+const SEGMENT: Segment = Segment {
+    timeline: 1,
+    log: 0,
+    seg: 2,
+};
+
+fn started() -> Started {
+    Started {
+        lsn: Lsn(0x200028),
+        segment: SEGMENT,
+    }
+}
+
+fn stopped(alloc: Global) -> Result<Stopped, ServerFault> {
+    Ok(Stopped {
         lsn: Lsn(0x200100),
-        segment,
+        segment: SEGMENT,
         label_file: String::from_str(alloc, "LABEL\n")?,
         map_file: String::new(alloc),
-    };
-    assert_eq!(rt; stop_backup(alloc, &mut wire, &mut session)?, stopped);
-    close(&mut wire, session)?;
+    })
+}
+
+// The client's side of the talk.
+fn talk(rt: &impl Abort, alloc: Global, wire: &mut MemWire) -> Result<(), ServerFault> {
+    let mut session = open(alloc, wire, "socket", "postgres", "postgres")?;
+    let size = check_system(alloc, wire, &mut session, 6917529027641081857)?;
+    same(rt, size, SegSize(1048576));
+    let found = start_backup(alloc, wire, &mut session, true)?;
+    same(rt, found, started());
+    let found = stop_backup(alloc, wire, &mut session)?;
+    same(rt, found, stopped(alloc)?);
+    close(wire, session)
+}
+
+#[test]
+fn a_client_is_served(rt: HostRuntime) -> Result<(), Fail> {
+    let alloc = rt.alloc();
+    let given = all_given(alloc)?;
+    let mut wire = MemWire::new(alloc, given.clone()?, Vec::new(alloc), Vec::new(alloc));
+    talk(&rt, alloc, &mut wire)?;
     let (done, served) = serve_bytes(alloc, wire.sent())?;
-    assert!(rt; done);
-    assert_eq!(rt; served, given);
+    same(&rt, done, true);
+    same(&rt, served, given);
     Ok(())
 }
+
+// What is said after the start, whether the talk ends well, and how many bytes are answered, the start included.
+const SAID: &[(&[u8], bool, usize)] = &[
+    // no end, another kind, a length that is too short or too great, no 0 at the end of a text
+    (b"", false, 15),
+    (b"X\0\0\0\x04", true, 15),
+    (b"P\0\0\0\x04", false, 15),
+    (b"Q\0\0\0\x03", false, 15),
+    (b"Q\0\x01\0\0", false, 15),
+    (b"Q\0\0\0\x05x", false, 15),
+    // another query
+    (b"Q\0\0\0\x05\0X\0\0\0\x04", true, 39),
+];
 
 #[test]
 fn other_clients_are_refused(rt: HostRuntime) -> Result<(), Fail> {
     let alloc = rt.alloc();
-    let hello = b"\0\0\0\x08\0\x03\0\0".as_slice();
-    let rows = [
-        // no end, another kind, a length that is too short or too great, no 0 at the end of a text
-        (b"".as_slice(), false, 0),
-        (b"X\0\0\0\x04".as_slice(), true, 0),
-        (b"P\0\0\0\x04".as_slice(), false, 0),
-        (b"Q\0\0\0\x03".as_slice(), false, 0),
-        (b"Q\0\x01\0\0".as_slice(), false, 0),
-        (b"Q\0\0\0\x05x".as_slice(), false, 0),
-        // another query
-        (b"Q\0\0\0\x05\0X\0\0\0\x04".as_slice(), true, 24),
-    ];
-    for (said, ends, count) in rows {
-        let mut all = Vec::from_slice(alloc, hello)?;
+    for &(said, ends, count) in SAID {
+        let mut all = Vec::from_slice(alloc, b"\0\0\0\x08\0\x03\0\0")?;
         all.extend_from_slice(said)?;
         let (done, served) = serve_bytes(alloc, &all)?;
-        assert_eq!(rt; done, ends);
-        assert_eq!(rt; served.len(), 15 + count);
+        same(&rt, done, ends);
+        same(&rt, served.len(), count);
     }
     Ok(())
 }

@@ -10,6 +10,16 @@ use Rattle.pgb_stanza.specs.declared.control.ControlFault.TheVariants.{ControlSh
 abbrev pub IsVersionText : ℕ → Text → Type 0
 IsVersionText n text = text ≡ decimal n ++ 10 ∷ []
 
+-- the major versions of PostgreSQL that are supported
+abbrev pub oldest_version : ℕ
+oldest_version = 15
+
+abbrev pub newest_version : ℕ
+newest_version = 17
+
+abbrev pub IsSupported : ℕ → Type 0
+IsSupported n = (oldest_version ≤ n) × (n ≤ newest_version)
+
 -- the files `global/pg_control` and `PG_VERSION` tell this
 pub record Tells (control version : Text) (c : Control) : Type 0 where
   pub long : 16 ≤ length control
@@ -17,13 +27,13 @@ pub record Tells (control version : Text) (c : Control) : Type 0 where
   pub control_version : c.control ≡ little_endian (take 4 (drop 8 control))
   pub catalog : c.catalog ≡ little_endian (take 4 (drop 12 control))
   pub version_text : IsVersionText c.version version
-  pub supported : (15 ≤ c.version) × (c.version ≤ 17)
+  pub supported : IsSupported c.version
 
 -- why the version file tells none that is supported
 abbrev pub IsVersionRefused : Text → ControlFault → Type 0
 IsVersionRefused version (ControlShort n) = ⊥
 IsVersionRefused version VersionText = (n : ℕ) → n < 2 ^ 64 → ¬ IsVersionText n version
-IsVersionRefused version (VersionUnsupported n) = (n < 2 ^ 64) × IsVersionText n version × ((n < 15) ⊎ (17 < n))
+IsVersionRefused version (VersionUnsupported n) = (n < 2 ^ 64) × IsVersionText n version × ((n < oldest_version) ⊎ (newest_version < n))
 
 -- why the two files tell nothing: a short control file comes first
 abbrev pub IsRefused : Text → Text → ControlFault → Type 0

@@ -2,6 +2,12 @@
 use pgb_text::read_decimal;
 use thiserror::Error;
 
+/// The oldest major version of PostgreSQL that is supported.
+pub const OLDEST_VERSION: u64 = 15;
+
+/// The newest one.
+pub const NEWEST_VERSION: u64 = 17;
+
 /// A cluster by its data folder: system identifier, control file version, catalog version and major version.
 #[derive(Clone, Copy, Debug, PartialEq, Eq)]
 pub struct Control {
@@ -26,7 +32,7 @@ pub enum ControlFault {
 
 ghost use Rattle.std.specs.Prelude.{◌≡◌, ◌≤◌, ◌<◌, ◌⊎◌, ◌^◌, ℕ, IfOk, IfErr, length, take, drop, MatchResult};
 ghost use Rattle.pgb_model.specs.Text.{little_endian};
-ghost use Rattle.pgb_stanza.specs.ControlFile.{IsVersionText, Tells, IsVersionRefused, IsRefused};
+ghost use Rattle.pgb_stanza.specs.ControlFile.{IsVersionText, IsSupported, Tells, IsVersionRefused, IsRefused};
 
 // The number of eight bytes, the lowest first.
 fn read_u64(bytes: [u8; 8]) -> u64
@@ -44,20 +50,20 @@ fn read_u32(bytes: [u8; 4]) -> u32
 
 // The major version of a version file.
 fn read_version(text: &[u8]) -> Result<u32, ControlFault>
-    ensures ok { IfOk result (λ n. IsVersionText n text.now × (15 ≤ n) × (n ≤ 17)) }
+    ensures ok { IfOk result (λ n. IsVersionText n text.now × IsSupported n) }
     ensures err { IfErr result (IsVersionRefused text.now) }
 {
     let Some((b'\n', digits)) = text.split_last() else {
         return Err(ControlFault::VersionText);
     };
     match read_decimal(digits) {
-        Some(version @ 15..=17) => Ok(version as u32),
+        Some(version @ OLDEST_VERSION..=NEWEST_VERSION) => Ok(version as u32),
         Some(version) => Err(ControlFault::VersionUnsupported { version }),
         None => Err(ControlFault::VersionText),
     }
 }
 
-/// Reads the identity of a cluster from the bytes of `global/pg_control` and of `PG_VERSION`. Versions 15 to 17 are supported.
+/// Reads the identity of a cluster from the bytes of `global/pg_control` and of `PG_VERSION`. Its version is one that is supported.
 pub fn read_control(control: &[u8], version: &[u8]) -> Result<Control, ControlFault>
     ensures told { IfOk result (Tells control.now version.now) }
     ensures refused { IfErr result (IsRefused control.now version.now) }

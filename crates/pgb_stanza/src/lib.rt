@@ -11,7 +11,7 @@ mod names;
 mod reading;
 mod saving;
 
-pub use control::{Control, ControlFault, read_control};
+pub use control::{Control, ControlFault, NEWEST_VERSION, OLDEST_VERSION, read_control};
 pub use creating::{Created, create};
 pub use fault::{Identity, StanzaFault};
 pub use names::{archive_info_name, backup_info_name};

@@ -4,7 +4,7 @@ use crate::same::{same, same_of};
 use crate::texts::{ARCHIVE, read};
 use pgb_info::{MemberFault, ReadInfo};
 use pgb_model::{ArchiveInfo, BackupInfo};
-use pgb_text::NoMemory;
+use pgb_text::{NoMemory, Sum};
 use std::alloc::Global;
 use std::process::Abort;
 use std::test::Fail;
@@ -192,25 +192,17 @@ const BACKUP_MISFITS: &[Misfit] = &[
     ),
 ];
 
-fn fault_text(alloc: Global, fault: &MemberFault) -> Result<String, NoMemory> {
-    let text = match fault {
-        MemberFault::Absent => "absent".to_string(alloc)?,
-        MemberFault::TooLong => "too long".to_string(alloc)?,
-        MemberFault::Syntax { line } => format!(in alloc; "line {line}")?,
-        MemberFault::Sum { told, found } => {
-            let told = told.hex(alloc)?;
-            let found = found.hex(alloc)?;
-            format!(in alloc; "{told} for {found}")?
+// The fault is of the form, at this section and key.
+fn is_form(rt: &impl Abort, body: &str, fault: &MemberFault, section: &str, key: &str) {
+    match fault {
+        MemberFault::Form {
+            section: in_section,
+            key: at_key,
+        } => {
+            same_of(rt, body, in_section.as_str(), section);
+            same_of(rt, body, at_key.as_str(), key);
         }
-        MemberFault::Form { section, key } => format!(in alloc; "{section} {key}")?,
-    };
-    Ok(text)
-}
-
-fn told<I: ReadInfo>(alloc: Global, text: &str) -> Result<String, NoMemory> {
-    match read::<I>(alloc, text)? {
-        Ok(_value) => Ok("value".to_string(alloc)?),
-        Err(fault) => fault_text(alloc, &fault),
+        other => panic!(rt; "of {body:?}: {other:?}"),
     }
 }
 
@@ -224,34 +216,53 @@ fn check_misfits<I: ReadInfo>(
         let text = format!(in alloc;
             "[backrest]\nbackrest-format=5\n\n{body}[backrest]\nbackrest-checksum=\"{sum}\"\n"
         )?;
-        let wanted = format!(in alloc; "{section} {key}")?;
-        same_of(rt, body, told::<I>(alloc, text.as_str())?, wanted);
+        match read::<I>(alloc, text.as_str())? {
+            Ok(_value) => panic!(rt; "a value of {body:?}"),
+            Err(fault) => is_form(rt, body, &fault, section, key),
+        }
     }
     Ok(())
 }
 
 #[test]
-fn misfits(rt: HostRuntime) -> Result<(), Fail> {
+fn archive_misfits(rt: HostRuntime) -> Result<(), Fail> {
     check_misfits::<ArchiveInfo>(&rt, rt.alloc(), MISFITS)?;
+    Ok(())
+}
+
+#[test]
+fn backup_misfits(rt: HostRuntime) -> Result<(), Fail> {
     check_misfits::<BackupInfo>(&rt, rt.alloc(), BACKUP_MISFITS)?;
     Ok(())
 }
 
-fn is_told(rt: &impl Abort, alloc: Global, text: &str, wanted: &str) -> Result<(), NoMemory> {
-    let found = told::<ArchiveInfo>(alloc, text)?;
-    same(rt, found.as_str(), wanted);
+fn line_of(alloc: Global, text: &str) -> Result<Option<u32>, NoMemory> {
+    match read::<ArchiveInfo>(alloc, text)? {
+        Err(MemberFault::Syntax { line }) => Ok(Some(line)),
+        _ => Ok(None),
+    }
+}
+
+#[test]
+fn cut_texts(rt: HostRuntime) -> Result<(), Fail> {
+    let half = &ARCHIVE[..ARCHIVE.len() / 2];
+    same(&rt, line_of(rt.alloc(), "")?, Some(1));
+    same(&rt, line_of(rt.alloc(), half)?, Some(10));
     Ok(())
 }
 
 #[test]
 fn damaged_texts(rt: HostRuntime) -> Result<(), Fail> {
-    let alloc = rt.alloc();
-    let other =
-        "5ab4590d6c21779f8a41b4a22f28e5f580cee6ef for 5ab4590d6c21779f8a41b4a22f28e5f580cee6ee";
-    let half = &ARCHIVE[..ARCHIVE.len() / 2];
-    let wrong = ARCHIVE.replace(alloc, "e6ee", "e6ef")?;
-    is_told(&rt, alloc, "", "line 1")?;
-    is_told(&rt, alloc, half, "line 10")?;
-    is_told(&rt, alloc, wrong.as_str(), other)?;
+    let wrong = ARCHIVE.replace(rt.alloc(), "e6ee", "e6ef")?;
+    match read::<ArchiveInfo>(rt.alloc(), wrong.as_str())? {
+        Err(MemberFault::Sum { told, found }) => {
+            let other = Sum::read(b"5ab4590d6c21779f8a41b4a22f28e5f580cee6ef");
+            let own = Sum::read(b"5ab4590d6c21779f8a41b4a22f28e5f580cee6ee");
+            same(&rt, Some(told), other);
+            same(&rt, Some(found), own);
+        }
+        Err(fault) => panic!(rt; "{fault:?}"),
+        Ok(_value) => panic!(rt; "a value"),
+    }
     Ok(())
 }

@@ -179,9 +179,10 @@ const OTHER_ROWS: &[(&[u8], u64)] = &[
 #[test]
 fn rows_of_two(rt: HostRuntime) -> Result<(), Fail> {
     let alloc = rt.alloc();
-    let found = row(alloc, WELL, &[3, 1])?;
-    let want = vec![in alloc; Some(text(alloc, "x")?), None]?;
-    same(&rt, found, want);
+    match row(alloc, WELL, &[3, 1])?.as_slice() {
+        [Some(first), None] => same(&rt, first.as_str(), "x"),
+        other => panic!(rt; "{} columns", other.len()),
+    }
     for &(answer, at) in OTHER_ROWS {
         let found = row(alloc, answer, &[]);
         same(&rt, found, Err(ServerFault::ServerForm { at }));
