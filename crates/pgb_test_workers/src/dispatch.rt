@@ -46,8 +46,8 @@ pub(crate) fn jobs_of(alloc: Global, frames: &[&[u8]]) -> Result<Vec<Job>, Frame
 {
     let mut jobs = Vec::new(alloc);
     for frame in frames {
-        match decode_frame(alloc, frame)? {
-            (Frame::Job(job), _) => jobs.push(job)?,
+        match decode_frame(alloc, frame) {
+            Ok((Frame::Job(job), _)) => jobs.push(job)?,
             _ => return Err(FrameFault::Form { at: 0 }),
         }
     }
@@ -104,6 +104,20 @@ fn raw_link(alloc: Global, gives: Gives<'_>) -> Result<RawLink, AllocError> {
     Ok(RawLink::new(gives.0.to_vec(alloc)?, gives.1.to_vec(alloc)?))
 }
 
+// What comes of the two jobs over two links.
+fn told_two(
+    alloc: Global,
+    first: Gives<'_>,
+    second: Gives<'_>,
+    picks: &[u64],
+    fail: &[u64],
+) -> Result<String, FrameFault> {
+    let first = raw_link(alloc, first)?;
+    let second = raw_link(alloc, second)?;
+    let mut links = vec![in alloc; first, second]?;
+    told(alloc, &mut links, picks, fail)
+}
+
 // Two links are picked so, and this call of the keeper fails.
 fn check_two(
     rt: &impl Abort,
@@ -114,16 +128,8 @@ fn check_two(
     fail: &[u64],
     want: &str,
 ) {
-    let (first, second) = (
-        well(rt, raw_link(alloc, first)),
-        well(rt, raw_link(alloc, second)),
-    );
-    let mut links = well(rt, vec![in alloc; first, second]);
-    same(
-        rt,
-        well(rt, told(alloc, &mut links, picks, fail)).as_str(),
-        want,
-    );
+    let found = well(rt, told_two(alloc, first, second, picks, fail));
+    same(rt, found.as_str(), want);
 }
 
 const DONE: &str = "Ok(()) [] 2 left: x. yz.";
@@ -201,15 +207,6 @@ fn add_reply(out: &mut Vec<u8>, size: u32, sum: &[u8]) -> Result<(), AllocError>
     out.extend_from_slice(sum)
 }
 
-// The job's items hold so many bytes 7.
-fn check_sevens(rt: &impl Abort, alloc: Global, keep: &MemKeep<'_>, job: usize) {
-    same(
-        rt,
-        well(rt, sevens(alloc, keep, job)).as_slice(),
-        &[70000, 65536],
-    );
-}
-
 // A link that gives the reply to the long job three times.
 fn long_link(alloc: Global, fail: &[u64]) -> Result<RawLink, AllocError> {
     let mut input = Vec::new(alloc);
@@ -220,31 +217,26 @@ fn long_link(alloc: Global, fail: &[u64]) -> Result<RawLink, AllocError> {
     Ok(RawLink::new(input, fail.to_vec(alloc)?))
 }
 
-// How many bytes 7 are held of each item of the job: none where another byte is.
-fn sevens(alloc: Global, keep: &MemKeep<'_>, job: usize) -> Result<Vec<usize>, AllocError> {
-    let mut counts = Vec::new(alloc);
+// Adds how many bytes 7 are held of each item of the job: none where another byte is.
+fn add_sevens(text: &mut String, keep: &MemKeep<'_>, job: usize) -> Result<(), AllocError> {
+    text.push(' ')?;
     for item in keep.ended(job) {
         let all = item.bytes.iter().all(|byte| *byte == 7);
-        counts.push(if all { item.bytes.len() } else { 0 })?;
+        let count = if all { item.bytes.len() } else { 0 };
+        write!(text, "{count}.")?;
     }
-    Ok(counts)
+    Ok(())
 }
 
-fn long_links(alloc: Global, fail: &[u64]) -> Result<Vec<RawLink>, AllocError>
-    ensures count { IfOk result (λ links. length links.items ≡ 3) }
-{
+// What comes of three long jobs over three links, of which the second has calls that fail.
+fn told_long(alloc: Global, picks: &[u64], fail: &[u64]) -> Result<String, FrameFault> {
+    let jobs = jobs_of(alloc, &[ASKS_LONG, ASKS_LONG, ASKS_LONG])?;
     let first = long_link(alloc, &[])?;
     let second = long_link(alloc, fail)?;
     let third = long_link(alloc, &[])?;
-    Ok(vec![in alloc; first, second, third]?)
-}
-
-// Three long jobs over three links, of which the second has calls that fail and is lost then.
-fn check_long(rt: &impl Abort, alloc: Global, picks: &[u64], fail: &[u64], losses: usize) {
-    let jobs = well(rt, jobs_of(alloc, &[ASKS_LONG, ASKS_LONG, ASKS_LONG]));
-    let mut links = well(rt, long_links(alloc, fail));
-    let mut keep = well(rt, MemKeep::new(alloc, &jobs, Vec::new(alloc)));
-    let mut turns = MemTurns::new(well(rt, picks.to_vec(alloc)));
+    let mut links = vec![in alloc; first, second, third]?;
+    let mut keep = MemKeep::new(alloc, &jobs, Vec::new(alloc))?;
+    let mut turns = MemTurns::new(picks.to_vec(alloc)?);
     let mut lost = Vec::new(alloc);
     let ending = run_jobs(
         alloc,
@@ -255,28 +247,37 @@ fn check_long(rt: &impl Abort, alloc: Global, picks: &[u64], fail: &[u64], losse
         &mut (),
         &mut lost,
     );
-    same(rt, ending.is_ok(), true);
-    same(rt, lost.len(), losses);
-    same(rt, links.len(), 3usize.saturating_sub(losses));
-    for job in 0..3 {
-        check_sevens(rt, alloc, &keep, job);
-    }
+    let gone = lost.len();
+    let left = links.len();
+    let mut text = format!(in alloc; "{ending:?} {gone} lost {left} left:")?;
+    add_sevens(&mut text, &keep, 0)?;
+    add_sevens(&mut text, &keep, 1)?;
+    add_sevens(&mut text, &keep, 2)?;
+    Ok(text)
+}
+
+fn check_long(rt: &impl Abort, alloc: Global, picks: &[u64], fail: &[u64], want: &str) {
+    same(rt, well(rt, told_long(alloc, picks, fail)).as_str(), want);
 }
 
 const IN_TURN: &[u64] = &[0, 1, 2, 0, 1, 2, 0, 1, 2];
 
 const LAST_FIRST: &[u64] = &[2, 2, 2, 2, 2, 2, 2, 2, 2, 1, 1, 1];
 
+const ALL: &str = "Ok(()) 0 lost 3 left: 70000.65536. 70000.65536. 70000.65536.";
+
+const BUT_ONE: &str = "Ok(()) 1 lost 2 left: 70000.65536. 70000.65536. 70000.65536.";
+
 #[test]
 fn three_long_jobs_over_three_links(rt: HostRuntime) {
     let alloc = rt.alloc();
-    check_long(&rt, alloc, &[], &[], 0);
-    check_long(&rt, alloc, LAST_FIRST, &[], 0);
-    check_long(&rt, alloc, IN_TURN, &[], 0);
+    check_long(&rt, alloc, &[], &[], ALL);
+    check_long(&rt, alloc, LAST_FIRST, &[], ALL);
+    check_long(&rt, alloc, IN_TURN, &[], ALL);
     // The second link is lost behind its second part, or as it is sent another job.
-    check_long(&rt, alloc, &[1, 1, 1], &[7], 1);
-    check_long(&rt, alloc, IN_TURN, &[7], 1);
-    check_long(&rt, alloc, LAST_FIRST, &[7], 1);
+    check_long(&rt, alloc, &[1, 1, 1], &[7], BUT_ONE);
+    check_long(&rt, alloc, IN_TURN, &[7], BUT_ONE);
+    check_long(&rt, alloc, LAST_FIRST, &[7], BUT_ONE);
 }
 
 // What comes of telling two workers their roots, where these calls on their links fail.

@@ -1,5 +1,5 @@
 // Jobs over links to workers in memory, which read their files.
-ghost use Rattle.std.specs.Prelude.{◌≡◌, ◌<◌, ◌^◌, ℕ, Some, IfOk, length, map, vec_len, slice_get};
+ghost use Rattle.std.specs.Prelude.{◌≡◌, ℕ, Some, IfOk, length, map, slice_get};
 ghost use Rattle.pgb_outside.specs.Links.{LinkState};
 ghost use Rattle.pgb_dispatch.specs.Run.{IsReady};
 
@@ -43,14 +43,15 @@ const DONE: &str = "Ok(()) [] 2 left: x. yz.";
 
 const SECOND_FAILED: &str = "Ok(()) [Lost { place: 1, cause: Device }] 1 left: x. yz.";
 
+// What comes of the two jobs over two workers.
+fn told_two(alloc: Global, fail: &[u64], picks: &[u64]) -> Result<String, FrameFault> {
+    let mut links = links_to(alloc, SHORT_FILES, &[&[], fail])?;
+    told(alloc, &mut links, picks, &[])
+}
+
 // Two workers are picked so, and these calls on the second fail.
 fn check_two(rt: &impl Abort, alloc: Global, fail: &[u64], picks: &[u64], want: &str) {
-    let mut links = well(rt, links_to(alloc, SHORT_FILES, &[&[], fail]));
-    same(
-        rt,
-        well(rt, told(alloc, &mut links, picks, &[])).as_str(),
-        want,
-    );
+    same(rt, well(rt, told_two(alloc, fail, picks)).as_str(), want);
 }
 
 #[test]
@@ -66,17 +67,17 @@ fn two_jobs_over_two_workers(rt: HostRuntime) {
     check_two(&rt, alloc, &[3], &[1, 1], SECOND_FAILED);
 }
 
+// What comes of the two jobs over links that wait for each other.
+fn told_meeting(alloc: Global) -> Result<String, FrameFault> {
+    let files = named_bytes(alloc, SHORT_FILES)?;
+    let (one, other) = MeetLink::two(alloc, files, Vec::new(alloc))?;
+    let mut links = vec![in alloc; one, other]?;
+    told(alloc, &mut links, &[], &[])
+}
+
 #[test]
 fn both_jobs_are_sent_before_one_is_heard(rt: HostRuntime) {
-    let alloc = rt.alloc();
-    let files = well(&rt, named_bytes(alloc, SHORT_FILES));
-    let (one, other) = well(&rt, MeetLink::two(alloc, files, Vec::new(alloc)));
-    let mut links = well(&rt, vec![in alloc; one, other]);
-    same(
-        &rt,
-        well(&rt, told(alloc, &mut links, &[], &[])).as_str(),
-        DONE,
-    );
+    same(&rt, well(&rt, told_meeting(rt.alloc())).as_str(), DONE);
 }
 
 // Adds what is held of each item of the job: its first byte and how many there are, if all are the same.
@@ -91,15 +92,14 @@ fn add_held(text: &mut String, keep: &MemKeep<'_>, job: usize) -> Result<(), All
     Ok(())
 }
 
-// What came of three long jobs: the ending, how many links were lost and are left, and what is held of each job.
-fn told_long<L: Link>(
+// What comes of three long jobs over three workers whose data folder holds these files.
+fn told_three(
     alloc: Global,
-    links: &mut Vec<L>,
+    files: &[(&str, &[u8])],
     picks: &[u64],
-) -> Result<String, FrameFault>
-    requires few { vec_len links.old < 2 ^ 32 }
-    requires ready { (i : ℕ) (s : LinkState) → slice_get (map L.link_state links.old.items) i ≡ Some s → IsReady s }
-{
+    fail: &[u64],
+) -> Result<String, FrameFault> {
+    let mut links = links_to(alloc, files, &[&[], fail, &[]])?;
     let jobs = jobs_of(alloc, &[ASKS_LONG, ASKS_B_AND_C, ASKS_C_AND_A])?;
     let mut keep = MemKeep::new(alloc, &jobs, Vec::new(alloc))?;
     let mut turns = MemTurns::new(picks.to_vec(alloc)?);
@@ -107,7 +107,7 @@ fn told_long<L: Link>(
     let ending = run_jobs(
         alloc,
         &jobs,
-        links,
+        &mut links,
         &mut turns,
         &mut keep,
         &mut (),
@@ -131,10 +131,9 @@ fn check_three(
     fail: &[u64],
     want: &str,
 ) {
-    let mut links = well(rt, links_to(alloc, files, &[&[], fail, &[]]));
     same(
         rt,
-        well(rt, told_long(alloc, &mut links, picks)).as_str(),
+        well(rt, told_three(alloc, files, picks, fail)).as_str(),
         want,
     );
 }
