@@ -1,11 +1,10 @@
 // The disk's calls on a folder of the system.
-use crate::same::same;
+use crate::same::{same, shell, well};
 use pgb_adapters::RealDisk;
 use pgb_outside::{Disk, Stop};
 use pgb_system::Scratch;
 use std::alloc::Global;
 use std::process::Abort;
-use std::test::Fail;
 
 #[derive(Clone, Copy)]
 enum Call {
@@ -98,99 +97,84 @@ fn check_read(
 }
 
 #[test]
-fn does_each_call(rt: HostRuntime) -> Result<(), Fail> {
-    let scratch = Scratch::new(rt, "disk")?;
-    let root = scratch.below("new/root")?;
+fn does_each_call(rt: HostRuntime) {
+    let scratch = well(&rt, Scratch::new(rt, "disk"));
+    let root = well(&rt, scratch.below("new/root"));
     let mut disk = RealDisk::new(rt);
     same(&rt, disk.open(&root), Ok(()));
     let fill = "cd new/root; echo old >e; mkdir many; cd many; mkdir 1 2 3 4 5 6 7 8 9";
-    assert!(rt; scratch.shell(fill)?);
+    shell(&rt, &scratch, fill);
     check_calls(&rt, &mut disk);
     for (name, at, wanted) in READS {
         check_read(&rt, &mut disk, name, *at, *wanted);
     }
     let modes = "cd new/root; [ \"$(stat -c %a c c/d c/d/f | xargs)\" = '700 700 600' ]";
-    assert!(rt; scratch.shell(modes)?);
-    scratch.remove()?;
-    Ok(())
+    shell(&rt, &scratch, modes);
+    well(&rt, scratch.remove());
 }
 
-fn check_found(rt: &impl Abort, alloc: Global, disk: &mut RealDisk) -> Result<(), Stop> {
-    let found = disk.names(alloc, "a")?;
+fn check_found(rt: &impl Abort, alloc: Global, disk: &mut RealDisk) {
+    let found = well(rt, disk.names(alloc, "a"));
     same(rt, found.len(), FOUND.len());
     for (found, (name, size)) in found.iter().zip(FOUND) {
         same(rt, found.name.as_str(), *name);
         same(rt, found.size, *size);
     }
-    Ok(())
 }
 
 // A folder below which no name is.
-fn check_no_names(
-    rt: &impl Abort,
-    alloc: Global,
-    disk: &mut RealDisk,
-    folder: &str,
-) -> Result<(), Stop> {
-    same(rt, disk.names(alloc, folder)?.len(), 0);
-    Ok(())
+fn check_no_names(rt: &impl Abort, alloc: Global, disk: &mut RealDisk, folder: &str) {
+    same(rt, well(rt, disk.names(alloc, folder)).len(), 0);
 }
 
 #[test]
-fn tells_names_in_order(rt: HostRuntime) -> Result<(), Fail> {
-    let scratch = Scratch::new(rt, "names")?;
+fn tells_names_in_order(rt: HostRuntime) {
+    let scratch = well(&rt, Scratch::new(rt, "names"));
     let mut disk = RealDisk::new(rt);
     same(&rt, disk.open(&scratch.path), Ok(()));
     let fill =
         "mkdir -p a/b a/empty; printf 0123456789 >a/f; printf 12 >a/b/f; >a/b-c; >z; ln -s f a/l";
-    assert!(rt; scratch.shell(fill)?);
-    check_found(&rt, rt.alloc(), &mut disk)?;
-    check_no_names(&rt, rt.alloc(), &mut disk, "absent")?;
-    check_no_names(&rt, rt.alloc(), &mut disk, "z")?;
+    shell(&rt, &scratch, fill);
+    check_found(&rt, rt.alloc(), &mut disk);
+    check_no_names(&rt, rt.alloc(), &mut disk, "absent");
+    check_no_names(&rt, rt.alloc(), &mut disk, "z");
     // a name that isn't UTF-8
-    assert!(rt; scratch.shell(">a/$(printf '\\377')")?);
+    shell(&rt, &scratch, ">a/$(printf '\\377')");
     assert!(rt; disk.names(rt.alloc(), "a").is_err());
     same(&rt, disk.faults(), 1);
-    scratch.remove()?;
-    Ok(())
+    well(&rt, scratch.remove());
 }
 
-fn check_two_folders(rt: &impl Abort, alloc: Global, disk: &mut RealDisk) -> Result<(), Fail> {
-    let mut folders = disk.folders(alloc, "a")?;
-    folders.sort()?;
-    let [first, second] = folders.as_slice() else {
-        return Err(Fail::new("two folders"));
-    };
-    same(rt, first.as_str(), "b");
-    same(rt, second.as_str(), "empty");
-    Ok(())
+fn check_two_folders(rt: &impl Abort, alloc: Global, disk: &mut RealDisk) {
+    let mut folders = well(rt, disk.folders(alloc, "a"));
+    well(rt, folders.sort());
+    same(rt, folders.len(), 2);
+    same(rt, folders.first().map(|name| name.as_str()), Some("b"));
+    same(rt, folders.last().map(|name| name.as_str()), Some("empty"));
 }
 
 // A folder in which no folder is.
-fn check_no_folders(
-    rt: &impl Abort,
-    alloc: Global,
-    disk: &mut RealDisk,
-    folder: &str,
-) -> Result<(), Stop> {
-    same(rt, disk.folders(alloc, folder)?.len(), 0);
-    Ok(())
+fn check_no_folders(rt: &impl Abort, alloc: Global, disk: &mut RealDisk, folder: &str) {
+    same(rt, well(rt, disk.folders(alloc, folder)).len(), 0);
 }
 
 #[test]
-fn tells_folders(rt: HostRuntime) -> Result<(), Fail> {
-    let scratch = Scratch::new(rt, "folders")?;
+fn tells_folders(rt: HostRuntime) {
+    let scratch = well(&rt, Scratch::new(rt, "folders"));
     let mut disk = RealDisk::new(rt);
     same(&rt, disk.open(&scratch.path), Ok(()));
-    assert!(rt; scratch.shell("mkdir -p a/b/c a/empty; >a/f; >a/b/g; ln -s b a/l")?);
-    check_two_folders(&rt, rt.alloc(), &mut disk)?;
-    check_no_folders(&rt, rt.alloc(), &mut disk, "absent")?;
-    check_no_folders(&rt, rt.alloc(), &mut disk, "a/empty")?;
-    check_no_folders(&rt, rt.alloc(), &mut disk, "a/f")?;
+    shell(
+        &rt,
+        &scratch,
+        "mkdir -p a/b/c a/empty; >a/f; >a/b/g; ln -s b a/l",
+    );
+    check_two_folders(&rt, rt.alloc(), &mut disk);
+    check_no_folders(&rt, rt.alloc(), &mut disk, "absent");
+    check_no_folders(&rt, rt.alloc(), &mut disk, "a/empty");
+    check_no_folders(&rt, rt.alloc(), &mut disk, "a/f");
     // a name that isn't UTF-8
-    assert!(rt; scratch.shell("mkdir a/$(printf '\\377')")?);
+    shell(&rt, &scratch, "mkdir a/$(printf '\\377')");
     assert!(rt; disk.folders(rt.alloc(), "a").is_err());
     same(&rt, disk.faults(), 1);
-    scratch.remove()?;
-    Ok(())
+    well(&rt, scratch.remove());
 }

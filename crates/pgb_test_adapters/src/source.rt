@@ -1,126 +1,56 @@
 // A configuration file of the system.
-use crate::same::same;
+use crate::same::{same, shell, well};
 use pgb_adapters::RealSource;
 use pgb_outside::{Source, Stop};
 use pgb_system::Scratch;
-use std::alloc::Global;
 use std::process::Abort;
-use std::test::Fail;
 
 const FILL: &str = "printf '[global]' >conf; ln -s conf link; ln -s none dead
 mkdir folder; mkfifo pipe; : >empty";
 
-// The bytes of the next reads.
-fn pieces(alloc: Global, source: &mut RealSource) -> Result<String, Stop> {
-    let mut text = String::new(alloc);
+// What the next read gives, into four bytes.
+fn check_read(rt: &impl Abort, source: &mut RealSource, want: &str) {
     let mut room = [0u8; 4];
-    for _ in 0..3 {
-        let n = source.read(&mut room)?;
-        for byte in room.iter().take(n) {
-            text.push(char::from(*byte))?;
-        }
-        text.push('|')?;
-    }
-    Ok(text)
+    let count = well(rt, source.read(&mut room));
+    same(rt, room.get(..count), Some(want.as_bytes()));
 }
+
+const WHOLE: &[&str; 3] = &["[glo", "bal]", ""];
+
+const NOTHING: &[&str; 3] = &["", "", ""];
 
 // What opening a name answers, which counts a fault where it fails, and what is read then.
 fn check_open(
     rt: &impl Abort,
-    alloc: Global,
     scratch: &Scratch,
     source: &mut RealSource,
     name: &str,
     answer: Result<bool, Stop>,
-    given: &str,
-) -> Result<(), Fail> {
+    given: &[&str; 3],
+) {
     let faults = source.faults().saturating_add(u64::from(answer.is_err()));
-    let path = scratch.below(name)?;
+    let path = well(rt, scratch.below(name));
     same(rt, source.open(&path), answer);
-    same(rt, pieces(alloc, source)?.as_str(), given);
+    check_read(rt, source, given[0]);
+    check_read(rt, source, given[1]);
+    check_read(rt, source, given[2]);
     same(rt, source.faults(), faults);
-    Ok(())
 }
 
 #[test]
-fn opens_and_reads(rt: HostRuntime) -> Result<(), Fail> {
-    let scratch = Scratch::new(rt, "source")?;
-    assert!(rt; scratch.shell(FILL)?);
+fn opens_and_reads(rt: HostRuntime) {
+    let scratch = well(&rt, Scratch::new(rt, "source"));
+    shell(&rt, &scratch, FILL);
     let mut source = RealSource::new(rt);
-    check_open(
-        &rt,
-        rt.alloc(),
-        &scratch,
-        &mut source,
-        "conf",
-        Ok(true),
-        "[glo|bal]||",
-    )?;
-    check_open(
-        &rt,
-        rt.alloc(),
-        &scratch,
-        &mut source,
-        "link",
-        Ok(true),
-        "[glo|bal]||",
-    )?;
-    check_open(
-        &rt,
-        rt.alloc(),
-        &scratch,
-        &mut source,
-        "empty",
-        Ok(true),
-        "|||",
-    )?;
-    check_open(
-        &rt,
-        rt.alloc(),
-        &scratch,
-        &mut source,
-        "none",
-        Ok(false),
-        "|||",
-    )?;
-    check_open(
-        &rt,
-        rt.alloc(),
-        &scratch,
-        &mut source,
-        "dead",
-        Ok(false),
-        "|||",
-    )?;
-    check_open(
-        &rt,
-        rt.alloc(),
-        &scratch,
-        &mut source,
-        "conf/none",
-        Ok(false),
-        "|||",
-    )?;
+    check_open(&rt, &scratch, &mut source, "conf", Ok(true), WHOLE);
+    check_open(&rt, &scratch, &mut source, "link", Ok(true), WHOLE);
+    check_open(&rt, &scratch, &mut source, "empty", Ok(true), NOTHING);
+    check_open(&rt, &scratch, &mut source, "none", Ok(false), NOTHING);
+    check_open(&rt, &scratch, &mut source, "dead", Ok(false), NOTHING);
+    check_open(&rt, &scratch, &mut source, "conf/none", Ok(false), NOTHING);
     let failed = Err(Stop::Failed);
-    check_open(
-        &rt,
-        rt.alloc(),
-        &scratch,
-        &mut source,
-        "folder",
-        failed,
-        "|||",
-    )?;
-    check_open(
-        &rt,
-        rt.alloc(),
-        &scratch,
-        &mut source,
-        "pipe",
-        failed,
-        "|||",
-    )?;
+    check_open(&rt, &scratch, &mut source, "folder", failed, NOTHING);
+    check_open(&rt, &scratch, &mut source, "pipe", failed, NOTHING);
     same(&rt, source.faults(), 2);
-    scratch.remove()?;
-    Ok(())
+    well(&rt, scratch.remove());
 }

@@ -1,11 +1,10 @@
 // The calls of a data folder on a folder of the system.
-use crate::same::same;
+use crate::same::{same, shell, well};
 use pgb_adapters::RealTree;
 use pgb_outside::{Known, Node, Stop, Tree};
 use pgb_system::Scratch;
 use std::alloc::Global;
 use std::process::Abort;
-use std::test::Fail;
 
 #[derive(Clone, Copy)]
 enum Call {
@@ -95,14 +94,13 @@ const FILL: &str =
     "mkdir base global; printf 16. >PG_VERSION; touch -d @1000 PG_VERSION; printf x >base/f
 touch -d @2000 base/f; ln -s PG_VERSION link; touch -d 1960-01-01 old; mkfifo pipe";
 
-fn check_listed(rt: &impl Abort, alloc: Global, tree: &mut RealTree) -> Result<(), Stop> {
-    let seen = tree.list(alloc)?;
+fn check_listed(rt: &impl Abort, alloc: Global, tree: &mut RealTree) {
+    let seen = well(rt, tree.list(alloc));
     same(rt, seen.len(), LISTED.len());
     for (seen, (path, node)) in seen.iter().zip(LISTED) {
         same(rt, seen.path.as_str(), *path);
         same(rt, seen.node, *node);
     }
-    Ok(())
 }
 
 // Each call answers so, and counts a fault where it fails.
@@ -118,30 +116,28 @@ const LEFT: &str =
     "[ \"$(cat base/g base/n link PG_VERSION)\" = somenew16. ]; mkdir global/pg_control";
 
 // What is read of a version file of three bytes, of a folder, and of an absent file, into two bytes.
-fn check_reads(rt: &impl Abort, alloc: Global, tree: &mut RealTree) -> Result<(), Fail> {
+fn check_reads(rt: &impl Abort, alloc: Global, tree: &mut RealTree) {
     let mut room = [0u8; 2];
-    let wal = Known::Wal(String::from_str(alloc, "000000010000000000000001")?);
+    let wal = Known::Wal(well(rt, String::from_str(alloc, "000000010000000000000001")));
     same(rt, tree.read(&Known::Version, 0, &mut room), Ok(Some(2)));
     same(rt, tree.read(&Known::Version, 2, &mut room), Ok(Some(1)));
     same(rt, tree.read(&Known::Version, 3, &mut room), Ok(Some(0)));
     same(rt, tree.read(&Known::Control, 0, &mut room), Ok(None));
     same(rt, tree.read(&wal, 0, &mut room), Ok(None));
     same(rt, room.as_slice(), b".6");
-    Ok(())
 }
 
 #[test]
-fn does_each_call(rt: HostRuntime) -> Result<(), Fail> {
-    let scratch = Scratch::new(rt, "tree")?;
+fn does_each_call(rt: HostRuntime) {
+    let scratch = well(&rt, Scratch::new(rt, "tree"));
     let mut tree = RealTree::new(rt);
     same(&rt, tree.open(&scratch.path), Ok(()));
-    assert!(rt; scratch.shell(FILL)?);
-    check_listed(&rt, rt.alloc(), &mut tree)?;
+    shell(&rt, &scratch, FILL);
+    check_listed(&rt, rt.alloc(), &mut tree);
     check_calls(&rt, &mut tree);
-    assert!(rt; scratch.shell(LEFT)?);
-    check_reads(&rt, rt.alloc(), &mut tree)?;
-    scratch.remove()?;
-    Ok(())
+    shell(&rt, &scratch, LEFT);
+    check_reads(&rt, rt.alloc(), &mut tree);
+    well(&rt, scratch.remove());
 }
 
 // A file that changes while it is read: what is done to it, and the reading of 4 bytes behind that.
@@ -158,15 +154,14 @@ const READS: &[(&str, u64, Result<Option<usize>, Stop>)] = &[
 ];
 
 #[test]
-fn reads_what_was_there_at_the_start(rt: HostRuntime) -> Result<(), Fail> {
-    let scratch = Scratch::new(rt, "reading")?;
+fn reads_what_was_there_at_the_start(rt: HostRuntime) {
+    let scratch = well(&rt, Scratch::new(rt, "reading"));
     let mut tree = RealTree::new(rt);
     same(&rt, tree.open(&scratch.path), Ok(()));
     let mut room = [0u8; 4];
     for (change, at, wanted) in READS {
-        assert!(rt; scratch.shell(change)?, "{change}");
+        shell(&rt, &scratch, change);
         same(&rt, tree.read(&Known::Version, *at, &mut room), *wanted);
     }
-    scratch.remove()?;
-    Ok(())
+    well(&rt, scratch.remove());
 }

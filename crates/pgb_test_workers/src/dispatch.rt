@@ -5,15 +5,14 @@ ghost use Rattle.pgb_frame.specs.Frames.{FitsJob};
 ghost use Rattle.pgb_frame.specs.Views.{job_of};
 ghost use Rattle.pgb_dispatch.specs.Run.{IsReady};
 
-use crate::same::same;
+use crate::same::{same, well};
 use crate::wire::{ASKS_A, SETUP, X, YZ};
 use pgb_dispatch::{run_jobs, setup};
-use pgb_frame::{Frame, Job, decode_frame};
+use pgb_frame::{Frame, FrameFault, Job, decode_frame};
 use pgb_links::{MemKeep, MemTurns, RawLink};
 use pgb_outside::Link;
 use std::alloc::{AllocError, Global};
 use std::process::Abort;
-use std::test::Fail;
 
 // At most two bytes of `b`.
 const ASKS_B: &[u8] =
@@ -40,8 +39,8 @@ const OTHER_SUM: &[u8] =
 const TOO_LONG: &[u8] =
     b"P\x00\x00\x00\x03yzyE\x00\x00\x00\x1c\x00\x00\x00\x00\x00\x00\x00\x038:O3I\xa4d@\xbaEY\xfeU\xd1\x10\xe5\xa7\x0d\xb2\xec";
 
-/// The jobs that these frames tell.
-pub(crate) fn jobs_of(alloc: Global, frames: &[&[u8]]) -> Result<Vec<Job>, Fail>
+/// The jobs that these frames tell; where one tells none, its form is at fault.
+pub(crate) fn jobs_of(alloc: Global, frames: &[&[u8]]) -> Result<Vec<Job>, FrameFault>
     ensures fits { IfOk result (λ jobs. All (λ j. FitsJob (job_of j)) jobs.items) }
     ensures count { IfOk result (λ jobs. length jobs.items ≡ length frames.now) }
 {
@@ -49,7 +48,7 @@ pub(crate) fn jobs_of(alloc: Global, frames: &[&[u8]]) -> Result<Vec<Job>, Fail>
     for frame in frames {
         match decode_frame(alloc, frame) {
             Ok((Frame::Job(job), _)) => jobs.push(job)?,
-            _ => return Err(Fail::new("it is a job")),
+            _ => return Err(FrameFault::Form { at: 0 }),
         }
     }
     Ok(jobs)
@@ -73,7 +72,7 @@ pub(crate) fn told<L: Link>(
     links: &mut Vec<L>,
     picks: &[u64],
     fail: &[u64],
-) -> Result<String, Fail>
+) -> Result<String, FrameFault>
     requires few { vec_len links.old < 2 ^ 32 }
     requires ready { (i : ℕ) (s : LinkState) → slice_get (map L.link_state links.old.items) i ≡ Some s → IsReady s }
 {
@@ -105,6 +104,20 @@ fn raw_link(alloc: Global, gives: Gives<'_>) -> Result<RawLink, AllocError> {
     Ok(RawLink::new(gives.0.to_vec(alloc)?, gives.1.to_vec(alloc)?))
 }
 
+// What comes of the two jobs over two links.
+fn told_two(
+    alloc: Global,
+    first: Gives<'_>,
+    second: Gives<'_>,
+    picks: &[u64],
+    fail: &[u64],
+) -> Result<String, FrameFault> {
+    let first = raw_link(alloc, first)?;
+    let second = raw_link(alloc, second)?;
+    let mut links = vec![in alloc; first, second]?;
+    told(alloc, &mut links, picks, fail)
+}
+
 // Two links are picked so, and this call of the keeper fails.
 fn check_two(
     rt: &impl Abort,
@@ -114,10 +127,9 @@ fn check_two(
     picks: &[u64],
     fail: &[u64],
     want: &str,
-) -> Result<(), Fail> {
-    let mut links = vec![in alloc; raw_link(alloc, first)?, raw_link(alloc, second)?]?;
-    same(rt, told(alloc, &mut links, picks, fail)?.as_str(), want);
-    Ok(())
+) {
+    let found = well(rt, told_two(alloc, first, second, picks, fail));
+    same(rt, found.as_str(), want);
 }
 
 const DONE: &str = "Ok(()) [] 2 left: x. yz.";
@@ -144,14 +156,14 @@ const UNREAD: &str = "Err(Unread { job: 1, item: 0 }) [] 1 left:  ";
 const NOT_KEPT: &str = "Err(Keep) [] 0 left:  ";
 
 #[test]
-fn two_jobs_over_two_links(rt: HostRuntime) -> Result<(), Fail> {
+fn two_jobs_over_two_links(rt: HostRuntime) {
     let alloc = rt.alloc();
     let (x, yz, both) = (Gives(X, &[]), Gives(YZ, &[]), Gives(BOTH, &[]));
-    check_two(&rt, alloc, x, yz, &[], &[], DONE)?;
-    check_two(&rt, alloc, x, yz, &[1, 0, 1], &[], DONE)?;
-    check_two(&rt, alloc, x, yz, &[1, 1, 0], &[], DONE)?;
+    check_two(&rt, alloc, x, yz, &[], &[], DONE);
+    check_two(&rt, alloc, x, yz, &[1, 0, 1], &[], DONE);
+    check_two(&rt, alloc, x, yz, &[1, 1, 0], &[], DONE);
     // A call on the second fails: as the job is sent, and as its reply is heard.
-    check_two(&rt, alloc, both, Gives(YZ, &[0]), &[], &[], SECOND_FAILED)?;
+    check_two(&rt, alloc, both, Gives(YZ, &[0]), &[], &[], SECOND_FAILED);
     check_two(
         &rt,
         alloc,
@@ -160,25 +172,23 @@ fn two_jobs_over_two_links(rt: HostRuntime) -> Result<(), Fail> {
         &[1, 1],
         &[],
         SECOND_FAILED,
-    )?;
+    );
     // What the second gives is no reply, or breaks off.
-    check_two(&rt, alloc, both, Gives(ASKS_B, &[]), &[], &[], NO_REPLY)?;
-    check_two(&rt, alloc, both, Gives(TOO_LONG, &[]), &[], &[], LONGER)?;
-    check_two(&rt, alloc, both, Gives(&YZ[..9], &[]), &[], &[], BROKEN_OFF)?;
-    check_two(&rt, alloc, both, Gives(OTHER_SUM, &[]), &[], &[], WRONG_SUM)?;
-    Ok(())
+    check_two(&rt, alloc, both, Gives(ASKS_B, &[]), &[], &[], NO_REPLY);
+    check_two(&rt, alloc, both, Gives(TOO_LONG, &[]), &[], &[], LONGER);
+    check_two(&rt, alloc, both, Gives(&YZ[..9], &[]), &[], &[], BROKEN_OFF);
+    check_two(&rt, alloc, both, Gives(OTHER_SUM, &[]), &[], &[], WRONG_SUM);
 }
 
 #[test]
-fn jobs_that_end_otherwise(rt: HostRuntime) -> Result<(), Fail> {
+fn jobs_that_end_otherwise(rt: HostRuntime) {
     let alloc = rt.alloc();
     let (nothing, x, yz) = (Gives(b"", &[]), Gives(X, &[]), Gives(YZ, &[]));
-    check_two(&rt, alloc, nothing, yz, &[], &[], FIRST_GIVES_NOTHING)?;
+    check_two(&rt, alloc, nothing, yz, &[], &[], FIRST_GIVES_NOTHING);
     let (first, second) = (Gives(X, &[0]), Gives(YZ, &[0]));
-    check_two(&rt, alloc, first, second, &[], &[], BOTH_FAILED)?;
-    check_two(&rt, alloc, x, Gives(b"U\0\0\0\0", &[]), &[1], &[], UNREAD)?;
-    check_two(&rt, alloc, x, yz, &[], &[1], NOT_KEPT)?;
-    Ok(())
+    check_two(&rt, alloc, first, second, &[], &[], BOTH_FAILED);
+    check_two(&rt, alloc, x, Gives(b"U\0\0\0\0", &[]), &[1], &[], UNREAD);
+    check_two(&rt, alloc, x, yz, &[], &[1], NOT_KEPT);
 }
 
 // Adds the reply on an item with so many bytes 7.
@@ -207,30 +217,24 @@ fn long_link(alloc: Global, fail: &[u64]) -> Result<RawLink, AllocError> {
     Ok(RawLink::new(input, fail.to_vec(alloc)?))
 }
 
-// How many bytes 7 are held of each item of the job: none where another byte is.
-fn sevens(alloc: Global, keep: &MemKeep<'_>, job: usize) -> Result<Vec<usize>, AllocError> {
-    let mut counts = Vec::new(alloc);
+// Adds how many bytes 7 are held of each item of the job: none where another byte is.
+fn add_sevens(text: &mut String, keep: &MemKeep<'_>, job: usize) -> Result<(), AllocError> {
+    text.push(' ')?;
     for item in keep.ended(job) {
         let all = item.bytes.iter().all(|byte| *byte == 7);
-        counts.push(if all { item.bytes.len() } else { 0 })?;
+        let count = if all { item.bytes.len() } else { 0 };
+        write!(text, "{count}.")?;
     }
-    Ok(counts)
+    Ok(())
 }
 
-// Three long jobs over three links, of which the second has calls that fail and is lost then.
-fn check_long(
-    rt: &impl Abort,
-    alloc: Global,
-    picks: &[u64],
-    fail: &[u64],
-    losses: usize,
-) -> Result<(), Fail> {
+// What comes of three long jobs over three links, of which the second has calls that fail.
+fn told_long(alloc: Global, picks: &[u64], fail: &[u64]) -> Result<String, FrameFault> {
     let jobs = jobs_of(alloc, &[ASKS_LONG, ASKS_LONG, ASKS_LONG])?;
-    let mut links = vec![in alloc;
-        long_link(alloc, &[])?,
-        long_link(alloc, fail)?,
-        long_link(alloc, &[])?,
-    ]?;
+    let first = long_link(alloc, &[])?;
+    let second = long_link(alloc, fail)?;
+    let third = long_link(alloc, &[])?;
+    let mut links = vec![in alloc; first, second, third]?;
     let mut keep = MemKeep::new(alloc, &jobs, Vec::new(alloc))?;
     let mut turns = MemTurns::new(picks.to_vec(alloc)?);
     let mut lost = Vec::new(alloc);
@@ -243,56 +247,55 @@ fn check_long(
         &mut (),
         &mut lost,
     );
-    same(rt, ending.is_ok(), true);
-    same(
-        rt,
-        (lost.len(), links.len()),
-        (losses, 3usize.saturating_sub(losses)),
-    );
-    for job in 0..3 {
-        same(rt, sevens(alloc, &keep, job)?.as_slice(), &[70000, 65536]);
-    }
-    Ok(())
+    let gone = lost.len();
+    let left = links.len();
+    let mut text = format!(in alloc; "{ending:?} {gone} lost {left} left:")?;
+    add_sevens(&mut text, &keep, 0)?;
+    add_sevens(&mut text, &keep, 1)?;
+    add_sevens(&mut text, &keep, 2)?;
+    Ok(text)
+}
+
+fn check_long(rt: &impl Abort, alloc: Global, picks: &[u64], fail: &[u64], want: &str) {
+    same(rt, well(rt, told_long(alloc, picks, fail)).as_str(), want);
 }
 
 const IN_TURN: &[u64] = &[0, 1, 2, 0, 1, 2, 0, 1, 2];
 
 const LAST_FIRST: &[u64] = &[2, 2, 2, 2, 2, 2, 2, 2, 2, 1, 1, 1];
 
+const ALL: &str = "Ok(()) 0 lost 3 left: 70000.65536. 70000.65536. 70000.65536.";
+
+const BUT_ONE: &str = "Ok(()) 1 lost 2 left: 70000.65536. 70000.65536. 70000.65536.";
+
 #[test]
-fn three_long_jobs_over_three_links(rt: HostRuntime) -> Result<(), Fail> {
+fn three_long_jobs_over_three_links(rt: HostRuntime) {
     let alloc = rt.alloc();
-    check_long(&rt, alloc, &[], &[], 0)?;
-    check_long(&rt, alloc, LAST_FIRST, &[], 0)?;
-    check_long(&rt, alloc, IN_TURN, &[], 0)?;
+    check_long(&rt, alloc, &[], &[], ALL);
+    check_long(&rt, alloc, LAST_FIRST, &[], ALL);
+    check_long(&rt, alloc, IN_TURN, &[], ALL);
     // The second link is lost behind its second part, or as it is sent another job.
-    check_long(&rt, alloc, &[1, 1, 1], &[7], 1)?;
-    check_long(&rt, alloc, IN_TURN, &[7], 1)?;
-    check_long(&rt, alloc, LAST_FIRST, &[7], 1)?;
-    Ok(())
+    check_long(&rt, alloc, &[1, 1, 1], &[7], BUT_ONE);
+    check_long(&rt, alloc, IN_TURN, &[7], BUT_ONE);
+    check_long(&rt, alloc, LAST_FIRST, &[7], BUT_ONE);
 }
 
 // What comes of telling two workers their roots, where these calls on their links fail.
-fn check_setup(
-    rt: &impl Abort,
-    alloc: Global,
-    one: &[u64],
-    other: &[u64],
-    want: &str,
-) -> Result<(), Fail> {
-    let Ok((Frame::Setup(roots), _)) = decode_frame(alloc, SETUP) else {
-        return Err(Fail::new("it is a setup"));
+fn told_setup(alloc: Global, one: &[u64], other: &[u64]) -> Result<String, FrameFault> {
+    let (Frame::Setup(roots), _) = decode_frame(alloc, SETUP)? else {
+        return Err(FrameFault::Form { at: 0 });
     };
-    let mut links = vec![in alloc;
-        raw_link(alloc, Gives(b"", one))?,
-        raw_link(alloc, Gives(b"", other))?,
-    ]?;
+    let first = raw_link(alloc, Gives(b"", one))?;
+    let second = raw_link(alloc, Gives(b"", other))?;
+    let mut links = vec![in alloc; first, second]?;
     let mut lost = Vec::new(alloc);
     let ending = setup(alloc, &mut links, &roots, &mut lost);
     let left = links.len();
-    let text = format!(in alloc; "{ending:?} {lost:?} {left} left")?;
-    same(rt, text.as_str(), want);
-    Ok(())
+    Ok(format!(in alloc; "{ending:?} {lost:?} {left} left")?)
+}
+
+fn check_setup(rt: &impl Abort, alloc: Global, one: &[u64], other: &[u64], want: &str) {
+    same(rt, well(rt, told_setup(alloc, one, other)).as_str(), want);
 }
 
 const FIRST_LOST: &str = "Ok(()) [Lost { place: 0, cause: Device }] 1 left";
@@ -303,11 +306,10 @@ const BOTH_LOST: &str =
     "Err(WorkersLost) [Lost { place: 0, cause: Device }, Lost { place: 1, cause: Device }] 0 left";
 
 #[test]
-fn workers_are_told_their_roots(rt: HostRuntime) -> Result<(), Fail> {
+fn workers_are_told_their_roots(rt: HostRuntime) {
     let alloc = rt.alloc();
-    check_setup(&rt, alloc, &[], &[], "Ok(()) [] 2 left")?;
-    check_setup(&rt, alloc, &[0], &[], FIRST_LOST)?;
-    check_setup(&rt, alloc, &[], &[0], SECOND_LOST)?;
-    check_setup(&rt, alloc, &[0], &[0], BOTH_LOST)?;
-    Ok(())
+    check_setup(&rt, alloc, &[], &[], "Ok(()) [] 2 left");
+    check_setup(&rt, alloc, &[0], &[], FIRST_LOST);
+    check_setup(&rt, alloc, &[], &[0], SECOND_LOST);
+    check_setup(&rt, alloc, &[0], &[0], BOTH_LOST);
 }

@@ -1,10 +1,9 @@
 // Frames that are decoded, and encoded again.
-use crate::same::same;
+use crate::same::{same, well};
 use crate::wire::{DIGEST, DIGEST_JOB};
 use pgb_frame::{Frame, FrameFault, Item, JobKind, Root, decode_frame, encode_frame};
 use std::alloc::Global;
 use std::process::Abort;
-use std::test::Fail;
 
 fn fault_of(alloc: Global, bytes: &[u8]) -> Option<FrameFault> {
     match decode_frame(alloc, bytes) {
@@ -20,43 +19,42 @@ fn check_item(rt: &impl Abort, item: &Item) {
     same(rt, item.size, 3);
 }
 
-#[test]
-fn a_digest_job(rt: HostRuntime) -> Result<(), Fail> {
-    let Ok((frame, length)) = decode_frame(rt.alloc(), DIGEST_JOB) else {
-        return Err(Fail::new("it is a frame"));
+// The frame that these bytes spell, which has so many of them.
+fn check_spelled(rt: &impl Abort, alloc: Global, bytes: &[u8]) -> Option<Frame> {
+    let Ok((frame, length)) = decode_frame(alloc, bytes) else {
+        return None;
     };
-    same(&rt, length, 39);
-    let Ok(again) = encode_frame(rt.alloc(), &frame) else {
-        return Err(Fail::new("there is memory"));
-    };
-    same(&rt, again.as_slice(), DIGEST_JOB);
-    let Frame::Job(job) = &frame else {
-        return Err(Fail::new("it is a job"));
-    };
-    same(&rt, job.kind, JobKind::Digest);
-    same(&rt, job.items.len(), 1);
-    for item in &job.items {
-        check_item(&rt, item);
-    }
-    Ok(())
+    same(rt, length, bytes.len());
+    let again = well(rt, encode_frame(alloc, &frame));
+    same(rt, again.as_slice(), bytes);
+    Some(frame)
 }
 
 #[test]
-fn its_reply(rt: HostRuntime) -> Result<(), Fail> {
-    let Ok((frame, size)) = decode_frame(rt.alloc(), DIGEST) else {
-        return Err(Fail::new("it is a frame"));
-    };
-    same(&rt, size, 33);
-    let Ok(again) = encode_frame(rt.alloc(), &frame) else {
-        return Err(Fail::new("there is memory"));
-    };
-    same(&rt, again.as_slice(), DIGEST);
-    let Frame::End { length, sum } = frame else {
-        return Err(Fail::new("it is an end"));
-    };
-    same(&rt, length, 3);
-    same(&rt, sum, pgb_text::Sum::of(b"abc"));
-    Ok(())
+fn a_digest_job(rt: HostRuntime) {
+    same(&rt, DIGEST_JOB.len(), 39);
+    match check_spelled(&rt, rt.alloc(), DIGEST_JOB) {
+        Some(Frame::Job(job)) => {
+            same(&rt, job.kind, JobKind::Digest);
+            same(&rt, job.items.len(), 1);
+            for item in &job.items {
+                check_item(&rt, item);
+            }
+        }
+        _ => assert!(rt; false, "it is a job"),
+    }
+}
+
+#[test]
+fn its_reply(rt: HostRuntime) {
+    same(&rt, DIGEST.len(), 33);
+    match check_spelled(&rt, rt.alloc(), DIGEST) {
+        Some(Frame::End { length, sum }) => {
+            same(&rt, length, 3);
+            same(&rt, sum, pgb_text::Sum::of(b"abc"));
+        }
+        _ => assert!(rt; false, "it is an end"),
+    }
 }
 
 fn check_cuts(rt: &impl Abort, alloc: Global, frame: &[u8]) {
@@ -85,15 +83,14 @@ fn fault_with_zero(place: usize) -> Option<FrameFault> {
 }
 
 #[test]
-fn each_byte_zero(rt: HostRuntime) -> Result<(), Fail> {
+fn each_byte_zero(rt: HostRuntime) {
     for place in 0..DIGEST_JOB.len() {
-        let mut bytes = Vec::from_slice(rt.alloc(), DIGEST_JOB)?;
+        let mut bytes = well(&rt, Vec::from_slice(rt.alloc(), DIGEST_JOB));
         if place < bytes.len() {
             bytes[place] = 0;
         }
         same(&rt, fault_of(rt.alloc(), &bytes), fault_with_zero(place));
     }
-    Ok(())
 }
 
 fn check_fault(rt: &impl Abort, alloc: Global, bytes: &[u8], fault: FrameFault) {

@@ -1,17 +1,17 @@
 // Jobs over links to workers in memory, which read their files.
-ghost use Rattle.std.specs.Prelude.{◌≡◌, ◌<◌, ◌^◌, ℕ, Some, IfOk, length, map, vec_len, slice_get};
+ghost use Rattle.std.specs.Prelude.{◌≡◌, ℕ, Some, IfOk, length, map, slice_get};
 ghost use Rattle.pgb_outside.specs.Links.{LinkState};
 ghost use Rattle.pgb_dispatch.specs.Run.{IsReady};
 
 use crate::dispatch::{ASKS_LONG, jobs_of, told};
-use crate::same::same;
+use crate::same::{same, well};
 use pgb_dispatch::run_jobs;
+use pgb_frame::FrameFault;
 use pgb_links::{MeetLink, MemKeep, MemLink, MemTurns};
 use pgb_memory::named_bytes;
 use pgb_outside::Link;
 use std::alloc::{AllocError, Global};
 use std::process::Abort;
-use std::test::Fail;
 
 // At most 70,000 bytes of one file, and at most 65,536 of the next.
 const ASKS_B_AND_C: &[u8] =
@@ -43,41 +43,41 @@ const DONE: &str = "Ok(()) [] 2 left: x. yz.";
 
 const SECOND_FAILED: &str = "Ok(()) [Lost { place: 1, cause: Device }] 1 left: x. yz.";
 
-// Two workers are picked so, and these calls on the second fail.
-fn check_two(
-    rt: &impl Abort,
-    alloc: Global,
-    fail: &[u64],
-    picks: &[u64],
-    want: &str,
-) -> Result<(), Fail> {
+// What comes of the two jobs over two workers.
+fn told_two(alloc: Global, fail: &[u64], picks: &[u64]) -> Result<String, FrameFault> {
     let mut links = links_to(alloc, SHORT_FILES, &[&[], fail])?;
-    same(rt, told(alloc, &mut links, picks, &[])?.as_str(), want);
-    Ok(())
+    told(alloc, &mut links, picks, &[])
+}
+
+// Two workers are picked so, and these calls on the second fail.
+fn check_two(rt: &impl Abort, alloc: Global, fail: &[u64], picks: &[u64], want: &str) {
+    same(rt, well(rt, told_two(alloc, fail, picks)).as_str(), want);
 }
 
 #[test]
-fn two_jobs_over_two_workers(rt: HostRuntime) -> Result<(), Fail> {
+fn two_jobs_over_two_workers(rt: HostRuntime) {
     let alloc = rt.alloc();
-    check_two(&rt, alloc, &[], &[], DONE)?;
+    check_two(&rt, alloc, &[], &[], DONE);
     // The second is heard first.
-    check_two(&rt, alloc, &[], &[1, 0, 1], DONE)?;
-    check_two(&rt, alloc, &[], &[1, 1, 0], DONE)?;
+    check_two(&rt, alloc, &[], &[1, 0, 1], DONE);
+    check_two(&rt, alloc, &[], &[1, 1, 0], DONE);
     // A call on the second fails: as its job is sent, right behind that, and behind its part.
-    check_two(&rt, alloc, &[0], &[], SECOND_FAILED)?;
-    check_two(&rt, alloc, &[1], &[1, 1], SECOND_FAILED)?;
-    check_two(&rt, alloc, &[3], &[1, 1], SECOND_FAILED)?;
-    Ok(())
+    check_two(&rt, alloc, &[0], &[], SECOND_FAILED);
+    check_two(&rt, alloc, &[1], &[1, 1], SECOND_FAILED);
+    check_two(&rt, alloc, &[3], &[1, 1], SECOND_FAILED);
 }
 
-#[test]
-fn both_jobs_are_sent_before_one_is_heard(rt: HostRuntime) -> Result<(), Fail> {
-    let alloc = rt.alloc();
+// What comes of the two jobs over links that wait for each other.
+fn told_meeting(alloc: Global) -> Result<String, FrameFault> {
     let files = named_bytes(alloc, SHORT_FILES)?;
     let (one, other) = MeetLink::two(alloc, files, Vec::new(alloc))?;
     let mut links = vec![in alloc; one, other]?;
-    same(&rt, told(alloc, &mut links, &[], &[])?.as_str(), DONE);
-    Ok(())
+    told(alloc, &mut links, &[], &[])
+}
+
+#[test]
+fn both_jobs_are_sent_before_one_is_heard(rt: HostRuntime) {
+    same(&rt, well(&rt, told_meeting(rt.alloc())).as_str(), DONE);
 }
 
 // Adds what is held of each item of the job: its first byte and how many there are, if all are the same.
@@ -92,11 +92,14 @@ fn add_held(text: &mut String, keep: &MemKeep<'_>, job: usize) -> Result<(), All
     Ok(())
 }
 
-// What came of three long jobs: the ending, how many links were lost and are left, and what is held of each job.
-fn told_long<L: Link>(alloc: Global, links: &mut Vec<L>, picks: &[u64]) -> Result<String, Fail>
-    requires few { vec_len links.old < 2 ^ 32 }
-    requires ready { (i : ℕ) (s : LinkState) → slice_get (map L.link_state links.old.items) i ≡ Some s → IsReady s }
-{
+// What comes of three long jobs over three workers whose data folder holds these files.
+fn told_three(
+    alloc: Global,
+    files: &[(&str, &[u8])],
+    picks: &[u64],
+    fail: &[u64],
+) -> Result<String, FrameFault> {
+    let mut links = links_to(alloc, files, &[&[], fail, &[]])?;
     let jobs = jobs_of(alloc, &[ASKS_LONG, ASKS_B_AND_C, ASKS_C_AND_A])?;
     let mut keep = MemKeep::new(alloc, &jobs, Vec::new(alloc))?;
     let mut turns = MemTurns::new(picks.to_vec(alloc)?);
@@ -104,7 +107,7 @@ fn told_long<L: Link>(alloc: Global, links: &mut Vec<L>, picks: &[u64]) -> Resul
     let ending = run_jobs(
         alloc,
         &jobs,
-        links,
+        &mut links,
         &mut turns,
         &mut keep,
         &mut (),
@@ -127,10 +130,12 @@ fn check_three(
     picks: &[u64],
     fail: &[u64],
     want: &str,
-) -> Result<(), Fail> {
-    let mut links = links_to(alloc, files, &[&[], fail, &[]])?;
-    same(rt, told_long(alloc, &mut links, picks)?.as_str(), want);
-    Ok(())
+) {
+    same(
+        rt,
+        well(rt, told_three(alloc, files, picks, fail)).as_str(),
+        want,
+    );
 }
 
 const IN_TURN: &[u64] = &[0, 1, 2, 0, 1, 2, 0, 1, 2];
@@ -142,19 +147,18 @@ const ALL: &str = "Ok(()) 0 lost 3 left: a70000.b65536. b70000.c65536. c70000.a6
 const BUT_ONE: &str = "Ok(()) 1 lost 2 left: a70000.b65536. b70000.c65536. c70000.a65536.";
 
 #[test]
-fn three_long_jobs_over_three_workers(rt: HostRuntime) -> Result<(), Fail> {
+fn three_long_jobs_over_three_workers(rt: HostRuntime) {
     let alloc = rt.alloc();
-    let a = vec![in alloc; b'a'; 70000]?;
-    let b = vec![in alloc; b'b'; 70000]?;
-    let c = vec![in alloc; b'c'; 70000]?;
+    let a = well(&rt, vec![in alloc; b'a'; 70000]);
+    let b = well(&rt, vec![in alloc; b'b'; 70000]);
+    let c = well(&rt, vec![in alloc; b'c'; 70000]);
     let files: &[(&str, &[u8])] = &[("a", &a), ("b", &b), ("c", &c)];
-    check_three(&rt, alloc, files, &[], &[], ALL)?;
-    check_three(&rt, alloc, files, LAST_FIRST, &[], ALL)?;
-    check_three(&rt, alloc, files, IN_TURN, &[], ALL)?;
+    check_three(&rt, alloc, files, &[], &[], ALL);
+    check_three(&rt, alloc, files, LAST_FIRST, &[], ALL);
+    check_three(&rt, alloc, files, IN_TURN, &[], ALL);
     // The second link is lost behind its second part, or as it is sent its job.
-    check_three(&rt, alloc, files, &[], &[0], BUT_ONE)?;
-    check_three(&rt, alloc, files, &[1, 1, 1], &[7], BUT_ONE)?;
-    check_three(&rt, alloc, files, IN_TURN, &[7], BUT_ONE)?;
-    check_three(&rt, alloc, files, LAST_FIRST, &[7], BUT_ONE)?;
-    Ok(())
+    check_three(&rt, alloc, files, &[], &[0], BUT_ONE);
+    check_three(&rt, alloc, files, &[1, 1, 1], &[7], BUT_ONE);
+    check_three(&rt, alloc, files, IN_TURN, &[7], BUT_ONE);
+    check_three(&rt, alloc, files, LAST_FIRST, &[7], BUT_ONE);
 }
