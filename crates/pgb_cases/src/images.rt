@@ -74,6 +74,7 @@ pub(crate) fn play_images(
         };
         let mut world = begun(alloc, book, case)?;
         world.repo = Some(left);
+        world.make()?;
         world.open = true;
         play_part(book, &mut world, case, Part::Left)?;
         world.check()?;

@@ -1,17 +1,20 @@
 // Bytes that are put piece by piece, and folders that are taken away.
-use crate::fixture::text_at;
+use crate::same::{same, same_text};
 use pgb_disk::{StoreFault, add_stage, drop_folder, end_stage, start_stage};
 use pgb_memory::{MemDisk, named_bytes};
 use pgb_outside::Disk;
 use std::alloc::{AllocError, Global};
+use std::process::Abort;
 use std::test::Fail;
 
 const NAME: &str = "backup/demo/label/bundle/1";
 
-// A disk that holds `old` at the name; this call fails.
-fn disk_with(alloc: Global, fail: u64) -> Result<MemDisk, AllocError> {
-    let given = named_bytes(alloc, &[(NAME, b"old")])?;
-    MemDisk::new(alloc, given, (&[fail]).to_vec(alloc)?)
+// A disk that holds these names; this call fails.
+fn disk_with(alloc: Global, names: &[(&str, &[u8])], fail: u64) -> Result<MemDisk, AllocError> {
+    let given = named_bytes(alloc, names)?;
+    let mut fails = Vec::new(alloc);
+    fails.push(fail)?;
+    MemDisk::new(alloc, given, fails)
 }
 
 // Puts two pieces at the name, and tells how long it became.
@@ -24,71 +27,158 @@ fn put_two<D: Disk>(alloc: Global, disk: &mut D) -> Result<u64, StoreFault> {
     Ok(length)
 }
 
-// The number of the failing call, the answer, what the name holds then, whether it is loose, and how many values it keeps.
-const PUTS: [(u64, Option<u64>, &'static str, bool, usize); 5] = [
-    (0, None, "old", true, 1),
-    (1, None, "", true, 1),
-    (2, None, "one ", true, 1),
-    (3, None, "one two", true, 1),
-    (4, Some(7), "one two", false, 2),
+/// A put by the number of its failing call: the length that is told, what the name holds then, whether it is loose, and how many
+/// values it keeps.
+struct Put {
+    fail: u64,
+    told: Option<u64>,
+    text: &'static str,
+    loose: bool,
+    kept: usize,
+}
+
+const PUTS: &[Put] = &[
+    Put {
+        fail: 0,
+        told: None,
+        text: "old",
+        loose: true,
+        kept: 1,
+    },
+    Put {
+        fail: 1,
+        told: None,
+        text: "",
+        loose: true,
+        kept: 1,
+    },
+    Put {
+        fail: 2,
+        told: None,
+        text: "one ",
+        loose: true,
+        kept: 1,
+    },
+    Put {
+        fail: 3,
+        told: None,
+        text: "one two",
+        loose: true,
+        kept: 1,
+    },
+    Put {
+        fail: 4,
+        told: Some(7),
+        text: "one two",
+        loose: false,
+        kept: 2,
+    },
 ];
 
 #[test]
 fn puts_two_pieces(rt: HostRuntime) -> Result<(), Fail> {
     let alloc = rt.alloc();
-    for (fail, want, text, loose, kept) in &PUTS {
-        let mut disk = disk_with(alloc, *fail)?;
-        assert_eq!(rt; put_two(alloc, &mut disk).ok(), *want, "call {fail}");
-        assert_eq!(rt; text_at(&disk, NAME), Some(*text));
+    for put in PUTS {
+        let mut disk = disk_with(alloc, &[(NAME, b"old")], put.fail)?;
+        same(&rt, put_two(alloc, &mut disk).ok(), put.told);
+        same_text(&rt, disk.bytes(NAME), Some(put.text));
         let moment = disk.moment();
-        assert_eq!(rt; disk.loose(alloc, moment)?.len() == 1, *loose);
-        assert_eq!(rt; disk.kept(alloc, moment, NAME)?.len(), *kept);
-        assert_eq!(rt; disk.misuses(), 0);
+        same(&rt, disk.loose(alloc, moment)?.len() == 1, put.loose);
+        same(&rt, disk.kept(alloc, moment, NAME)?.len(), put.kept);
+        same(&rt, disk.misuses(), 0);
     }
     Ok(())
 }
 
-const HELD: [(&'static str, &'static str); 5] = [
-    ("backup/demo/a", "1"),
-    ("backup/demo/a/b", "2"),
-    ("backup/demo/a/c/d", "3"),
-    ("backup/demo/a.info", "4"),
-    ("backup/demo/ab/c", "5"),
+const HELD: &[(&str, &[u8])] = &[
+    ("backup/demo/a", b"1"),
+    ("backup/demo/a/b", b"2"),
+    ("backup/demo/a/c/d", b"3"),
+    ("backup/demo/a.info", b"4"),
+    ("backup/demo/ab/c", b"5"),
 ];
 
-// A folder, the number of the failing call, the answer, and the numbers of those names that are left.
-const DROPS: [(&'static str, u64, bool, &'static [usize]); 7] = [
-    ("backup/demo/a", 9, true, &[0, 3, 4]),
-    ("backup/demo/ab", 9, true, &[0, 1, 2, 3]),
-    ("backup/demo/none", 9, true, &[0, 1, 2, 3, 4]),
-    ("backup/demo/a", 0, false, &[0, 1, 2, 3, 4]),
-    ("backup/demo/a", 1, false, &[0, 1, 2, 3, 4]),
-    ("backup/demo/a", 2, false, &[0, 2, 3, 4]),
-    ("backup/demo/a", 3, false, &[0, 3, 4]),
+/// A folder that is dropped, the number of the failing call, the answer, and the numbers of those names that are left.
+struct Dropped {
+    folder: &'static str,
+    fail: u64,
+    well: bool,
+    left: &'static [usize],
+}
+
+const DROPS: &[Dropped] = &[
+    Dropped {
+        folder: "backup/demo/a",
+        fail: 9,
+        well: true,
+        left: &[0, 3, 4],
+    },
+    Dropped {
+        folder: "backup/demo/ab",
+        fail: 9,
+        well: true,
+        left: &[0, 1, 2, 3],
+    },
+    Dropped {
+        folder: "backup/demo/none",
+        fail: 9,
+        well: true,
+        left: &[0, 1, 2, 3, 4],
+    },
+    Dropped {
+        folder: "backup/demo/a",
+        fail: 0,
+        well: false,
+        left: &[0, 1, 2, 3, 4],
+    },
+    Dropped {
+        folder: "backup/demo/a",
+        fail: 1,
+        well: false,
+        left: &[0, 1, 2, 3, 4],
+    },
+    Dropped {
+        folder: "backup/demo/a",
+        fail: 2,
+        well: false,
+        left: &[0, 2, 3, 4],
+    },
+    Dropped {
+        folder: "backup/demo/a",
+        fail: 3,
+        well: false,
+        left: &[0, 3, 4],
+    },
 ];
+
+// The name of that number is there with its bytes, or not, and settled where the folder was dropped.
+fn check_left(
+    rt: &impl Abort,
+    alloc: Global,
+    disk: &MemDisk,
+    dropped: &Dropped,
+    number: usize,
+) -> Result<(), AllocError> {
+    let Some((name, bytes)) = HELD.get(number) else {
+        return Ok(());
+    };
+    let there = dropped.left.contains(&number);
+    same(rt, disk.bytes(name) == Some(*bytes), there);
+    same(rt, disk.bytes(name).is_none(), !there);
+    let kept = disk.kept(alloc, disk.moment(), name)?.len();
+    same(rt, kept == 1, there || dropped.well);
+    Ok(())
+}
 
 #[test]
 fn drops_a_folder(rt: HostRuntime) -> Result<(), Fail> {
     let alloc = rt.alloc();
-    for (folder, fail, want, left) in &DROPS {
-        let mut names = Vec::new(alloc);
-        for (name, text) in &HELD {
-            names.push((
-                String::from_str(alloc, name)?,
-                text.as_bytes().to_vec(alloc)?,
-            ))?;
-        }
-        let mut disk = MemDisk::new(alloc, names, (&[*fail]).to_vec(alloc)?)?;
-        assert_eq!(rt; drop_folder(alloc, &mut disk, folder).is_ok(), *want);
-        for (number, (name, text)) in HELD.iter().enumerate() {
-            let there = if left.contains(&number) {
-                Some(*text)
-            } else {
-                None
-            };
-            assert_eq!(rt; text_at(&disk, name), there, "{name}");
-            let kept = disk.kept(alloc, disk.moment(), name)?.len();
-            assert_eq!(rt; kept == 1, there.is_some() || *want, "{name}");
+    for dropped in DROPS {
+        let mut disk = disk_with(alloc, HELD, dropped.fail)?;
+        let well = drop_folder(alloc, &mut disk, dropped.folder).is_ok();
+        same(&rt, well, dropped.well);
+        for number in 0..HELD.len() {
+            check_left(&rt, alloc, &disk, dropped, number)?;
         }
     }
     Ok(())
