@@ -2,7 +2,7 @@
 use crate::book::{Book, Section};
 use crate::case::{Part, lines_of};
 use crate::images::play_images;
-use crate::looping::{begun, play_part, try_command, verify_command};
+use crate::looping::{begun, play_part, trial_of};
 use crate::steps::words_in;
 use crate::tally::Tally;
 use crate::word::Word;
@@ -50,12 +50,13 @@ fn play_turn(
         _ => ("", ""),
     };
     let went = arm(&mut world, kind, device, turn)?;
-    try_command(book, &mut world, case)?;
+    let trial = trial_of(alloc, book, case)?;
+    world.start(&trial.words)?;
     let went = went || kind != "cut" && faults(&world, device) == 0;
     if went {
         play_part(book, &mut world, case, Part::Well)?;
     } else {
-        verify_command(book, &mut world, case)?;
+        world.verify(&trial.words, &trial.told)?;
         play_part(book, &mut world, case, Part::Body)?;
         play_left(alloc, book, &mut world, case)?;
     }
