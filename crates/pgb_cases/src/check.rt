@@ -137,9 +137,7 @@ impl World {
             }
         }
         if let Some(pg) = &mut self.pg {
-            for Seen { path, node: _ } in seen_in(self.alloc, pg)? {
-                names.push(below(self.alloc, "pg/", &path)?)?;
-            }
+            add_seen(self.alloc, pg, &mut names)?;
         }
         Ok(names)
     }
@@ -153,6 +151,13 @@ fn add_found(
 ) -> Result<(), AllocError> {
     for Found { name, size: _ } in found_in(alloc, repo, top)? {
         names.push(below(alloc, "repo/", &name)?)?;
+    }
+    Ok(())
+}
+
+fn add_seen(alloc: Global, pg: &mut MemTree, names: &mut Vec<String>) -> Result<(), AllocError> {
+    for Seen { path, node: _ } in seen_in(alloc, pg)? {
+        names.push(below(alloc, "pg/", &path)?)?;
     }
     Ok(())
 }

@@ -1,8 +1,9 @@
 // The devices in memory, and the program over them.
 use crate::node::Node;
+use crate::output::Output;
 use crate::world::Wanted;
 use pgb_command::{Outside, run};
-use pgb_memory::{MemDisk, MemLocks, MemNode, MemSink, MemSource, MemTree};
+use pgb_memory::{MemDisk, MemLocks, MemNode, MemSource, MemTree};
 use pgb_outside::{Link, NotThere, Turns};
 use pgb_server::memory::MemWire;
 use std::alloc::{AllocError, Global};
@@ -23,6 +24,8 @@ pub(crate) struct Around {
     pub cuts: Vec<u32>,
     pub held: Vec<String>,
     pub fails: Vec<Fail>,
+    /// How many bytes the output takes, one at a time.
+    pub width: Option<usize>,
 }
 
 impl Around {
@@ -53,7 +56,7 @@ pub(crate) struct Ran {
     pub server: MemWire,
     pub locks: MemLocks,
     pub config: MemSource,
-    pub out: MemSink,
+    pub out: Output,
 }
 
 // No worker is ever heard.
@@ -135,7 +138,7 @@ pub(crate) fn run_on(
         clock: NotThere::new(),
         locks: MemLocks::new(alloc, others, around.numbers(alloc, "locks")?),
         config: MemSource::new(alloc, file, around.numbers(alloc, "config")?),
-        out: MemSink::new(alloc, around.numbers(alloc, "out")?),
+        out: Output::new(alloc, around.numbers(alloc, "out")?, around.width),
     };
     let mut links: Vec<Box<dyn Link>> = Vec::new(alloc);
     let status = run(alloc, words, &mut outside, &mut links, &mut First);

@@ -1,7 +1,7 @@
 // What stops leave of the repository.
 use crate::book::{Book, Section};
 use crate::case::{Part, lines_of};
-use crate::looping::{begun, play_part, try_command, verify_command};
+use crate::looping::{begun, play_part, trial_of};
 use crate::steps::words_in;
 use crate::word::Word;
 use crate::world::World;
@@ -27,8 +27,9 @@ pub(crate) fn play_stops(
     quarters: bool,
 ) -> Result<String, AllocError> {
     let mut world = begun(alloc, book, case)?;
-    try_command(book, &mut world, case)?;
-    verify_command(book, &mut world, case)?;
+    let trial = trial_of(alloc, book, case)?;
+    world.start(&trial.words)?;
+    world.verify(&trial.words, &trial.told)?;
     let Some(repo) = &world.repo else {
         return Ok(world.wrong);
     };
@@ -74,6 +75,7 @@ pub(crate) fn play_images(
         };
         let mut world = begun(alloc, book, case)?;
         world.repo = Some(left);
+        world.make()?;
         world.open = true;
         play_part(book, &mut world, case, Part::Left)?;
         world.check()?;

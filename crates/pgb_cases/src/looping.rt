@@ -4,6 +4,7 @@ use crate::case::{Part, lines_of};
 use crate::images::play_stops;
 use crate::steps::{step, words_in};
 use crate::turns::play_calls;
+use crate::word::{Word, words_of};
 use crate::world::World;
 use std::alloc::{AllocError, Global};
 
@@ -60,29 +61,23 @@ fn play_once(alloc: Global, book: &Book, case: &Section) -> Result<String, Alloc
     Ok(world.wrong)
 }
 
-/// Runs the command that is tried in a loop. Where `checked` says so, its status and output are to be as its line tells.
-pub(crate) fn try_command(
-    book: &Book,
-    world: &mut World,
-    case: &Section,
-) -> Result<(), AllocError> {
-    for line in lines_of(world.alloc, case, Part::Run)? {
-        let words = words_in(book, world.alloc, line)?;
-        world.start(words.get(1..).unwrap_or(&[]))?;
-    }
-    Ok(())
+/// The command that is tried in a loop: its status and words, and what it writes.
+#[derive(Drop)]
+pub(crate) struct Trial {
+    pub words: Vec<Word>,
+    pub told: String,
 }
 
-/// Checks the status and the output of that command.
-pub(crate) fn verify_command(
-    book: &Book,
-    world: &mut World,
-    case: &Section,
-) -> Result<(), AllocError> {
-    for line in lines_of(world.alloc, case, Part::Run)? {
-        let words = words_in(book, world.alloc, line)?;
-        let told = book.filled(&line.told)?;
-        world.verify(words.get(1..).unwrap_or(&[]), &told)?;
+/// The command that the case tries in its loop.
+pub(crate) fn trial_of(alloc: Global, book: &Book, case: &Section) -> Result<Trial, AllocError> {
+    match lines_of(alloc, case, Part::Run)?.first() {
+        Some(line) => Ok(Trial {
+            words: words_of(alloc, &book.filled(line.rest())?)?,
+            told: book.filled(&line.told)?,
+        }),
+        None => Ok(Trial {
+            words: Vec::new(alloc),
+            told: String::new(alloc),
+        }),
     }
-    Ok(())
 }

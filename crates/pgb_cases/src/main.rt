@@ -10,6 +10,7 @@ mod images;
 mod looks;
 mod looping;
 mod node;
+mod output;
 mod steps;
 mod tally;
 mod turns;

@@ -226,13 +226,13 @@ impl World {
     fn again(&mut self) -> Result<(), AllocError> {
         self.check()?;
         let (status, told) = match &self.ran {
-            Some(ran) => (ran.status, ran.out.written().to_vec(self.alloc)?),
+            Some(ran) => (ran.status, ran.out.text.to_vec(self.alloc)?),
             None => (0, Vec::new(self.alloc)),
         };
         let asked = replace(&mut self.asked, Vec::new(self.alloc));
         self.go(asked)?;
         match &self.ran {
-            Some(ran) if ran.status == status && ran.out.written() == told.as_slice() => Ok(()),
+            Some(ran) if ran.status == status && ran.out.text == told => Ok(()),
             _ => self.tell("again it answers otherwise"),
         }
     }
@@ -240,6 +240,15 @@ impl World {
     fn run(&mut self, words: &[Word], told: &str) -> Result<(), AllocError> {
         self.start(words)?;
         self.verify(words, told)
+    }
+
+    // As much of a text as the output takes.
+    fn fitting<'a>(&self, told: &'a str) -> &'a [u8] {
+        let bytes = told.as_bytes();
+        match self.around.width {
+            Some(width) if width < bytes.len() => &bytes[..width],
+            _ => bytes,
+        }
     }
 
     /// Checks that the last command ended with this status and wrote this.
@@ -254,9 +263,9 @@ impl World {
         let mut text = String::new(self.alloc);
         if u64::from(ran.status) != want {
             write!(text, "status {} in place of {}", ran.status, want)?;
-        } else if ran.out.written() != told.as_bytes() {
+        } else if ran.out.text.as_slice() != self.fitting(told) {
             text.push_str("it wrote ")?;
-            shown(ran.out.written(), &mut text)?;
+            shown(&ran.out.text, &mut text)?;
         } else if !ran.locks.taken().is_empty() {
             text.push_str("a lock is held")?;
         }

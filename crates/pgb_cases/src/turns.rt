@@ -2,7 +2,7 @@
 use crate::book::{Book, Section};
 use crate::case::{Part, lines_of};
 use crate::images::play_images;
-use crate::looping::{begun, play_part, try_command, verify_command};
+use crate::looping::{begun, play_part, trial_of};
 use crate::steps::words_in;
 use crate::tally::Tally;
 use crate::word::Word;
@@ -49,27 +49,37 @@ fn play_turn(
         [_, kind, device, ..] => (kind.bare(), device.bare()),
         _ => ("", ""),
     };
-    let mut went = false;
-    if kind == "cut" {
-        went = turn >= world.around.server.len() as u64;
-        world.around.server.truncate(turn as usize);
-    } else {
-        world.fail_at(device, turn)?;
-        if kind == "pair" {
-            world.fail_at(device, turn.saturating_add(1))?;
-        }
-    }
-    try_command(book, &mut world, case)?;
-    if went || kind != "cut" && faults(&world, device) == 0 {
-        went = true;
+    let went = arm(&mut world, kind, device, turn)?;
+    let trial = trial_of(alloc, book, case)?;
+    world.start(&trial.words)?;
+    let went = went || kind != "cut" && faults(&world, device) == 0;
+    if went {
         play_part(book, &mut world, case, Part::Well)?;
     } else {
-        verify_command(book, &mut world, case)?;
+        world.verify(&trial.words, &trial.told)?;
         play_part(book, &mut world, case, Part::Body)?;
         play_left(alloc, book, &mut world, case)?;
     }
     world.check()?;
     Ok((went, world))
+}
+
+// Has the device fail in this turn. Whether it is known that it won't, as the server then gives all its bytes.
+fn arm(world: &mut World, kind: &str, device: &str, turn: u64) -> Result<bool, AllocError> {
+    match kind {
+        "cut" => {
+            let whole = turn >= world.around.server.len() as u64;
+            world.around.server.truncate(turn as usize);
+            return Ok(whole);
+        }
+        "width" => world.around.width = Some(turn as usize),
+        "pair" => {
+            world.fail_at(device, turn)?;
+            world.fail_at(device, turn.saturating_add(1))?;
+        }
+        _ => world.fail_at(device, turn)?,
+    }
+    Ok(false)
 }
 
 // What is done on all that a stop may leave then, and on what the command left.
@@ -95,7 +105,7 @@ fn faults(world: &World, device: &str) -> u64 {
         ("server", _, _, Some(ran)) => u64::from(ran.status == 83),
         ("locks", _, _, Some(ran)) => ran.locks.faults(),
         ("config", _, _, Some(ran)) => ran.config.faults(),
-        ("out", _, _, Some(ran)) => ran.out.faults(),
+        ("out", _, _, Some(ran)) => ran.out.faults,
         _ => 0,
     }
 }

@@ -44,6 +44,7 @@ impl World {
                 cuts: Vec::new(alloc),
                 held: Vec::new(alloc),
                 fails: Vec::new(alloc),
+                width: None,
             },
             repo: None,
             pg: None,
@@ -88,17 +89,21 @@ impl World {
         Ok(())
     }
 
+    /// Makes the repository and the data folder where they aren't there.
+    pub(crate) fn make(&mut self) -> Result<(), AllocError> {
+        if self.repo.is_none() {
+            self.repo = Some(repo_of(self.alloc, &self.wanted, &self.around)?);
+        }
+        if self.pg.is_none() {
+            self.pg = pg_of(self.alloc, &self.wanted, &self.around)?;
+        }
+        Ok(())
+    }
+
     /// Runs the program with these words. No call of the next command is to fail.
     pub(crate) fn go(&mut self, words: Vec<String>) -> Result<(), AllocError> {
-        let repo = match self.repo.take() {
-            Some(repo) => repo,
-            None => repo_of(self.alloc, &self.wanted, &self.around)?,
-        };
-        let pg = match self.pg.take() {
-            Some(pg) => Some(pg),
-            None => pg_of(self.alloc, &self.wanted, &self.around)?,
-        };
-        let Some(pg) = pg else {
+        self.make()?;
+        let (Some(repo), Some(pg)) = (self.repo.take(), self.pg.take()) else {
             return self.tell("a folder of the data folder is missing");
         };
         let (ran, repo, pg) = run_on(self.alloc, &words, &self.around, repo, pg)?;

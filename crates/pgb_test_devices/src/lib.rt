@@ -1,4 +1,4 @@
-//! Tests of the devices in memory, and of the archive over a disk in memory, by values from outside.
+//! Tests of the devices in memory, and of durable writes and the archive over a disk in memory, by values from outside.
 #![tactic(auto)]
 
 #[cfg(test)]
@@ -21,5 +21,7 @@ mod same;
 mod sink;
 #[cfg(test)]
 mod source;
+#[cfg(test)]
+mod storing;
 #[cfg(test)]
 mod tree;
