@@ -192,20 +192,6 @@ const BACKUP_MISFITS: &[Misfit] = &[
     ),
 ];
 
-// The fault is of the form, at this section and key.
-fn is_form(rt: &impl Abort, body: &str, fault: &MemberFault, section: &str, key: &str) {
-    match fault {
-        MemberFault::Form {
-            section: in_section,
-            key: at_key,
-        } => {
-            same_of(rt, body, in_section.as_str(), section);
-            same_of(rt, body, at_key.as_str(), key);
-        }
-        other => panic!(rt; "of {body:?}: {other:?}"),
-    }
-}
-
 // Each text breaks the rules of its kind at its section and key.
 fn check_misfits<I: ReadInfo>(
     rt: &impl Abort,
@@ -217,8 +203,16 @@ fn check_misfits<I: ReadInfo>(
             "[backrest]\nbackrest-format=5\n\n{body}[backrest]\nbackrest-checksum=\"{sum}\"\n"
         )?;
         match read::<I>(alloc, text.as_str())? {
-            Ok(_value) => panic!(rt; "a value of {body:?}"),
-            Err(fault) => is_form(rt, body, &fault, section, key),
+            Err(
+                MemberFault::Form {
+                    section: part,
+                    key: name,
+                },
+            ) => {
+                same_of(rt, body, part.as_str(), section);
+                same_of(rt, body, name.as_str(), key);
+            }
+            _ => panic!(rt; "of {body:?}: a value, or another fault"),
         }
     }
     Ok(())
@@ -261,8 +255,7 @@ fn damaged_texts(rt: HostRuntime) -> Result<(), Fail> {
             same(&rt, Some(told), other);
             same(&rt, Some(found), own);
         }
-        Err(fault) => panic!(rt; "{fault:?}"),
-        Ok(_value) => panic!(rt; "a value"),
+        _ => panic!(rt; "a value, or another fault"),
     }
     Ok(())
 }

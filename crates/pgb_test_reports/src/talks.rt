@@ -160,6 +160,16 @@ fn text(alloc: Global, text: &str) -> Result<String, ServerFault> {
 const WELL: &[u8] =
     b"T\0\0\0\x04D\0\0\0\x0f\0\x02\0\0\0\x01x\xff\xff\xff\xffC\0\0\0\x05\0Z\0\0\0\x05I";
 
+#[test]
+fn rows_of_two(rt: HostRuntime) -> Result<(), Fail> {
+    let columns = row(rt.alloc(), WELL, &[3, 1])?;
+    match columns.as_slice() {
+        [Some(first), None] => same(&rt, first.as_str(), "x"),
+        other => panic!(rt; "{} columns", other.len()),
+    }
+    Ok(())
+}
+
 // Answers to a query of two columns, and the place of the first fault.
 const OTHER_ROWS: &[(&[u8], u64)] = &[
     // another count, a length beyond the row, bytes behind it, no UTF-8
@@ -177,17 +187,11 @@ const OTHER_ROWS: &[(&[u8], u64)] = &[
 ];
 
 #[test]
-fn rows_of_two(rt: HostRuntime) -> Result<(), Fail> {
-    let alloc = rt.alloc();
-    match row(alloc, WELL, &[3, 1])?.as_slice() {
-        [Some(first), None] => same(&rt, first.as_str(), "x"),
-        other => panic!(rt; "{} columns", other.len()),
-    }
+fn other_rows(rt: HostRuntime) {
     for &(answer, at) in OTHER_ROWS {
-        let found = row(alloc, answer, &[]);
+        let found = row(rt.alloc(), answer, &[]);
         same(&rt, found, Err(ServerFault::ServerForm { at }));
     }
-    Ok(())
 }
 
 const STARTED: &[u8] =
