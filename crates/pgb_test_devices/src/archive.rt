@@ -1,12 +1,11 @@
 // Files of the archive by hand, as pgBackRest lays them out, with digests of `sha1sum`.
-use crate::same::same;
+use crate::same::{same, well};
 use pgb_archive::{ArchiveFault, Stored, all, get, present};
 use pgb_memory::{MemDisk, named_bytes};
 use pgb_model::{ArchiveId, ArchiveName, Segment};
 use pgb_text::{NoMemory, Sum};
 use std::alloc::{AllocError, Global};
 use std::process::Abort;
-use std::test::Fail;
 
 pub(crate) const ID: ArchiveId = ArchiveId {
     version: 16,
@@ -77,11 +76,14 @@ pub(crate) fn got(
     }
 }
 
-fn path_of(found: &Option<Stored>) -> Option<&str> {
-    match found {
-        Some(file) => Some(file.path.as_str()),
-        None => None,
-    }
+pub(crate) fn check_got(
+    rt: &impl Abort,
+    alloc: Global,
+    disk: &mut MemDisk,
+    name: &ArchiveName,
+    want: &str,
+) {
+    same(rt, well(rt, got(alloc, disk, name)).as_str(), want);
 }
 
 // Where the file is stored, if it is.
@@ -91,43 +93,39 @@ pub(crate) fn check_path(
     disk: &mut MemDisk,
     name: &ArchiveName,
     path: Option<&str>,
-) -> Result<(), ArchiveFault> {
-    let found = present(alloc, disk, "main", &ID, name)?;
-    same(rt, path_of(&found), path);
-    Ok(())
+) {
+    let found = well(rt, present(alloc, disk, "main", &ID, name));
+    same(rt, found.as_ref().map(|file| file.path.as_str()), path);
+}
+
+fn check_stored(rt: &impl Abort, file: &Stored, name: ArchiveName, path: &str, size: u64) {
+    same(rt, file.id, ID);
+    same(rt, file.name, name);
+    same(rt, file.path.as_str(), path);
+    same(rt, file.size, size);
 }
 
 // A file with this name and the bytes `abc` is stored at this path, with their sum in it or not.
-fn check_place(
-    rt: &impl Abort,
-    alloc: Global,
-    name: &ArchiveName,
-    path: &str,
-    has_sum: bool,
-) -> Result<(), ArchiveFault> {
-    let mut disk = disk_of(alloc, &[(path, b"abc")])?;
-    check_path(rt, alloc, &mut disk, name, Some(path))?;
-    same(rt, got(alloc, &mut disk, name)?.as_str(), "abc");
-    let files = all(alloc, &mut disk, "main")?;
+fn check_place(rt: &impl Abort, alloc: Global, name: ArchiveName, path: &str, sum: Option<Sum>) {
+    let mut disk = well(rt, disk_of(alloc, &[(path, b"abc")]));
+    check_path(rt, alloc, &mut disk, &name, Some(path));
+    check_got(rt, alloc, &mut disk, &name, "abc");
+    let files = well(rt, all(alloc, &mut disk, "main"));
     same(rt, files.len(), 1);
-    let sum = if has_sum { Some(Sum::of(b"abc")) } else { None };
     for file in &files {
-        same(rt, file.id, ID);
-        same(rt, file.name, *name);
-        same(rt, file.path.as_str(), path);
+        check_stored(rt, file, name, path, 3);
         same(rt, file.sum, sum);
     }
-    Ok(())
 }
 
 #[test]
-fn places(rt: HostRuntime) -> Result<(), Fail> {
+fn places(rt: HostRuntime) {
     let alloc = rt.alloc();
-    check_place(&rt, alloc, &WHOLE, ABC, true)?;
-    check_place(&rt, alloc, &PARTIAL, PARTIAL_ABC, true)?;
-    check_place(&rt, alloc, &HISTORY, HISTORY_PATH, false)?;
-    check_place(&rt, alloc, &BACKUP, BACKUP_PATH, false)?;
-    Ok(())
+    let sum = Some(Sum::of(b"abc"));
+    check_place(&rt, alloc, WHOLE, ABC, sum);
+    check_place(&rt, alloc, PARTIAL, PARTIAL_ABC, sum);
+    check_place(&rt, alloc, HISTORY, HISTORY_PATH, None);
+    check_place(&rt, alloc, BACKUP, BACKUP_PATH, None);
 }
 
 // Each of these is no path of an archive file.
@@ -148,15 +146,17 @@ const OTHERS: &[&str] = &[
     "archive/main/16-1/0000000100000000/000000010000000000000003",
 ];
 
+fn check_no_file(rt: &impl Abort, alloc: Global, path: &str) {
+    let mut disk = well(rt, disk_of(alloc, &[(path, b"abc")]));
+    let files = well(rt, all(alloc, &mut disk, "main"));
+    same(rt, (path, files.len()), (path, 0));
+}
+
 #[test]
-fn reads_no_other_paths(rt: HostRuntime) -> Result<(), Fail> {
-    let alloc = rt.alloc();
+fn reads_no_other_paths(rt: HostRuntime) {
     for path in OTHERS {
-        let mut disk = disk_of(alloc, &[(path, b"abc")])?;
-        let files = all(alloc, &mut disk, "main")?;
-        assert!(rt; files.is_empty(), "{path}");
+        check_no_file(&rt, rt.alloc(), path);
     }
-    Ok(())
 }
 
 // What the disk holds, the file that is asked for, and the answer.
@@ -180,29 +180,12 @@ const GETS: &[(&[(&str, &[u8])], ArchiveName, &str)] = &[
 ];
 
 #[test]
-fn gets(rt: HostRuntime) -> Result<(), Fail> {
+fn gets(rt: HostRuntime) {
     let alloc = rt.alloc();
     for (held, name, want) in GETS {
-        let mut disk = disk_of(alloc, held)?;
-        same(&rt, got(alloc, &mut disk, name)?.as_str(), *want);
+        let mut disk = well(&rt, disk_of(alloc, held));
+        check_got(&rt, alloc, &mut disk, name, want);
     }
-    Ok(())
-}
-
-// A file that is listed, which is found by its name too.
-fn check_file(
-    rt: &impl Abort,
-    alloc: Global,
-    disk: &mut MemDisk,
-    file: &Stored,
-    name: ArchiveName,
-    path: &str,
-    size: u64,
-) -> Result<(), ArchiveFault> {
-    same(rt, file.name, name);
-    same(rt, file.path.as_str(), path);
-    same(rt, file.size, size);
-    check_path(rt, alloc, disk, &name, Some(path))
 }
 
 const LISTED: &[(&str, &[u8])] = &[
@@ -212,18 +195,22 @@ const LISTED: &[(&str, &[u8])] = &[
     (ABC, b"abc"),
 ];
 
+const WANTED: &[(ArchiveName, &str, u64, bool)] = &[
+    (WHOLE, ABC, 3, true),
+    (HISTORY, HISTORY_PATH, 5, false),
+];
+
 #[test]
-fn lists_what_is_stored(rt: HostRuntime) -> Result<(), Fail> {
+fn lists_what_is_stored(rt: HostRuntime) {
     let alloc = rt.alloc();
-    let mut disk = disk_of(alloc, LISTED)?;
-    let files = all(alloc, &mut disk, "main")?;
-    let [first, second] = files.as_slice() else {
-        return Err(Fail::new("two files"));
-    };
-    check_file(&rt, alloc, &mut disk, first, WHOLE, ABC, 3)?;
-    same(&rt, first.sum.is_some(), true);
-    check_file(&rt, alloc, &mut disk, second, HISTORY, HISTORY_PATH, 5)?;
-    same(&rt, second.sum.is_some(), false);
-    check_path(&rt, alloc, &mut disk, &PARTIAL, None)?;
-    Ok(())
+    let mut disk = well(&rt, disk_of(alloc, LISTED));
+    let files = well(&rt, all(alloc, &mut disk, "main"));
+    same(&rt, files.len(), 2);
+    for (file, (name, path, size, has_sum)) in files.iter().zip(WANTED) {
+        check_stored(&rt, file, *name, path, *size);
+        same(&rt, file.sum.is_some(), *has_sum);
+    }
+    check_path(&rt, alloc, &mut disk, &WHOLE, Some(ABC));
+    check_path(&rt, alloc, &mut disk, &HISTORY, Some(HISTORY_PATH));
+    check_path(&rt, alloc, &mut disk, &PARTIAL, None);
 }

@@ -1,10 +1,9 @@
 // A disk in memory: the disk model's worked example, what it lists, and each of its calls failing in turn.
-use crate::same::same;
+use crate::same::{same, well};
 use pgb_memory::{MemDisk, named_bytes};
 use pgb_outside::{Disk, Stop};
 use std::alloc::{AllocError, Global};
 use std::process::Abort;
-use std::test::Fail;
 
 pub(crate) const FOLDER: &str = "archive/demo";
 
@@ -59,36 +58,17 @@ fn listed<D: Disk>(alloc: Global, disk: &mut D, folder: &str) -> Result<String, 
     Ok(text)
 }
 
-fn check_listed(
-    rt: &impl Abort,
-    alloc: Global,
-    disk: &mut MemDisk,
-    folder: &str,
-    want: &str,
-) -> Result<(), Stop> {
-    same(rt, listed(alloc, disk, folder)?.as_str(), want);
-    Ok(())
+fn check_listed(rt: &impl Abort, alloc: Global, disk: &mut MemDisk, folder: &str, want: &str) {
+    same(rt, well(rt, listed(alloc, disk, folder)).as_str(), want);
 }
 
-// The bytes of a name from a place on, into a buffer of two, or `-` where it is absent.
-fn read_two<D: Disk>(alloc: Global, disk: &mut D, name: &str, at: u64) -> Result<String, Stop> {
-    let mut buf = [b'?'; 2];
-    match disk.read(name, at, &mut buf)? {
-        Some(count) => Ok(format!(in alloc; "{count} {} {}", buf[0], buf[1])?),
-        None => Ok(String::from_str(alloc, "-")?),
+// The bytes of a name from a place on, as far as they fit into two.
+fn check_two<D: Disk>(rt: &impl Abort, disk: &mut D, name: &str, at: u64, want: Option<&[u8]>) {
+    let mut buf = *b"??";
+    match well(rt, disk.read(name, at, &mut buf)) {
+        Some(count) => same(rt, buf.get(..count), want),
+        None => same(rt, None, want),
     }
-}
-
-fn check_two(
-    rt: &impl Abort,
-    alloc: Global,
-    disk: &mut MemDisk,
-    name: &str,
-    at: u64,
-    want: &str,
-) -> Result<(), Stop> {
-    same(rt, read_two(alloc, disk, name, at)?.as_str(), want);
-    Ok(())
 }
 
 // What x and y hold after each call of the worked example.
@@ -101,27 +81,26 @@ const STEPS: &[(Call, Option<&str>, Option<&str>)] = &[
 ];
 
 #[test]
-fn worked_example(rt: HostRuntime) -> Result<(), Fail> {
+fn worked_example(rt: HostRuntime) {
     let alloc = rt.alloc();
-    let mut disk = disk_of(alloc, &[], &[])?;
+    let mut disk = well(&rt, disk_of(alloc, &[], &[]));
     check_holds(&rt, &disk, X, None);
     for (call, x, y) in STEPS {
         same(&rt, run(&mut disk, call), Ok(()));
         check_holds(&rt, &disk, X, *x);
         check_holds(&rt, &disk, Y, *y);
     }
-    check_listed(&rt, alloc, &mut disk, "archive", "archive/demo/y:1 ")?;
-    check_listed(&rt, alloc, &mut disk, FOLDER, "archive/demo/y:1 ")?;
-    check_listed(&rt, alloc, &mut disk, "archive/dem", "")?;
-    check_two(&rt, alloc, &mut disk, Y, 0, "1 97 63")?;
-    check_two(&rt, alloc, &mut disk, Y, 1, "0 63 63")?;
-    check_two(&rt, alloc, &mut disk, X, 0, "-")?;
+    check_listed(&rt, alloc, &mut disk, "archive", "archive/demo/y:1 ");
+    check_listed(&rt, alloc, &mut disk, FOLDER, "archive/demo/y:1 ");
+    check_listed(&rt, alloc, &mut disk, "archive/dem", "");
+    check_two(&rt, &mut disk, Y, 0, Some(b"a"));
+    check_two(&rt, &mut disk, Y, 1, Some(b""));
+    check_two(&rt, &mut disk, X, 0, None);
     same(&rt, run(&mut disk, &Call::Remove(Y)), Ok(()));
     same(&rt, run(&mut disk, &Call::Remove(Y)), Ok(()));
     check_holds(&rt, &disk, Y, None);
     same(&rt, disk.faults(), 0);
     same(&rt, disk.misuses(), 0);
-    Ok(())
 }
 
 const GIVEN: &[(&str, &[u8])] = &[
@@ -133,18 +112,17 @@ const GIVEN: &[(&str, &[u8])] = &[
 ];
 
 #[test]
-fn given_names(rt: HostRuntime) -> Result<(), Fail> {
+fn given_names(rt: HostRuntime) {
     let alloc = rt.alloc();
-    let mut disk = disk_of(alloc, GIVEN, &[])?;
+    let mut disk = well(&rt, disk_of(alloc, GIVEN, &[]));
     check_holds(&rt, &disk, "b/c", Some("fifth"));
-    check_listed(&rt, alloc, &mut disk, "b", "b/a/z:5 b/c:5 ")?;
-    check_two(&rt, alloc, &mut disk, "b/c", 2, "2 102 116")?;
+    check_listed(&rt, alloc, &mut disk, "b", "b/a/z:5 b/c:5 ");
+    check_two(&rt, &mut disk, "b/c", 2, Some(b"ft"));
     same(&rt, disk.rename("b/c", "b/c"), Ok(()));
     check_holds(&rt, &disk, "b/c", Some("fifth"));
     same(&rt, disk.place(), "");
     same(&rt, disk.open("/srv/repo"), Ok(()));
     same(&rt, disk.place(), "/srv/repo");
-    Ok(())
 }
 
 // The folders directly in a folder.
@@ -157,15 +135,8 @@ fn folders<D: Disk>(alloc: Global, disk: &mut D, folder: &str) -> Result<String,
     Ok(text)
 }
 
-fn check_folders(
-    rt: &impl Abort,
-    alloc: Global,
-    disk: &mut MemDisk,
-    folder: &str,
-    want: &str,
-) -> Result<(), Stop> {
-    same(rt, folders(alloc, disk, folder)?.as_str(), want);
-    Ok(())
+fn check_folders(rt: &impl Abort, alloc: Global, disk: &mut MemDisk, folder: &str, want: &str) {
+    same(rt, well(rt, folders(alloc, disk, folder)).as_str(), want);
 }
 
 const DEEP: &[(&str, &[u8])] = &[
@@ -179,14 +150,13 @@ const DEEP: &[(&str, &[u8])] = &[
 ];
 
 #[test]
-fn folders_of_names(rt: HostRuntime) -> Result<(), Fail> {
+fn folders_of_names(rt: HostRuntime) {
     let alloc = rt.alloc();
-    let mut disk = disk_of(alloc, DEEP, &[])?;
-    check_folders(&rt, alloc, &mut disk, "b", "d d k ")?;
-    check_folders(&rt, alloc, &mut disk, "b-x", "i ")?;
-    check_folders(&rt, alloc, &mut disk, "b/d", "e ")?;
-    check_folders(&rt, alloc, &mut disk, "c", "")?;
-    Ok(())
+    let mut disk = well(&rt, disk_of(alloc, DEEP, &[]));
+    check_folders(&rt, alloc, &mut disk, "b", "d d k ");
+    check_folders(&rt, alloc, &mut disk, "b-x", "i ");
+    check_folders(&rt, alloc, &mut disk, "b/d", "e ");
+    check_folders(&rt, alloc, &mut disk, "c", "");
 }
 
 const CALLS: &[Call] = &[
@@ -208,8 +178,8 @@ struct Left {
 }
 
 // What is left of the calls, of which the one of this number fails.
-fn check_calls(rt: &impl Abort, alloc: Global, fail: u64, left: &Left) -> Result<(), AllocError> {
-    let mut disk = disk_of(alloc, &[(Z, b"z")], &[fail])?;
+fn check_calls(rt: &impl Abort, alloc: Global, fail: u64, left: &Left) {
+    let mut disk = well(rt, disk_of(alloc, &[(Z, b"z")], &[fail]));
     for (number, call) in CALLS.iter().enumerate() {
         let answer = run(&mut disk, call);
         if number as u64 == fail {
@@ -221,7 +191,6 @@ fn check_calls(rt: &impl Abort, alloc: Global, fail: u64, left: &Left) -> Result
     check_holds(rt, &disk, Z, left.z);
     same(rt, disk.faults(), left.faults);
     same(rt, disk.misuses(), left.misuses);
-    Ok(())
 }
 
 const LEFT: &[Left] = &[
@@ -277,25 +246,23 @@ const LEFT: &[Left] = &[
 ];
 
 #[test]
-fn each_call_fails(rt: HostRuntime) -> Result<(), Fail> {
+fn each_call_fails(rt: HostRuntime) {
     for (fail, left) in LEFT.iter().enumerate() {
-        check_calls(&rt, rt.alloc(), fail as u64, left)?;
+        check_calls(&rt, rt.alloc(), fail as u64, left);
     }
-    Ok(())
 }
 
 #[test]
-fn reads_fail(rt: HostRuntime) -> Result<(), Fail> {
+fn reads_fail(rt: HostRuntime) {
     let alloc = rt.alloc();
-    let mut disk = disk_of(alloc, &[(X, b"a")], &[0, 2, 4])?;
+    let mut disk = well(&rt, disk_of(alloc, &[(X, b"a")], &[0, 2, 4]));
     same(&rt, disk.open("repo"), Err(Stop::Failed));
     same(&rt, disk.place(), "");
     same(&rt, disk.open("repo"), Ok(()));
     assert!(rt; listed(alloc, &mut disk, FOLDER).is_err());
-    check_listed(&rt, alloc, &mut disk, FOLDER, "archive/demo/x:1 ")?;
-    assert!(rt; read_two(alloc, &mut disk, X, 0).is_err());
-    check_two(&rt, alloc, &mut disk, X, 0, "1 97 63")?;
+    check_listed(&rt, alloc, &mut disk, FOLDER, "archive/demo/x:1 ");
+    same(&rt, disk.read(X, 0, &mut [0; 2]), Err(Stop::Failed));
+    check_two(&rt, &mut disk, X, 0, Some(b"a"));
     same(&rt, disk.faults(), 3);
     same(&rt, disk.misuses(), 0);
-    Ok(())
 }

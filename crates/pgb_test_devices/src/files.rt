@@ -1,27 +1,24 @@
 // The files of a root in memory.
-use crate::same::same;
+use crate::same::{same, well};
 use pgb_memory::{MemFiles, named_bytes};
 use pgb_outside::{Files, Stop};
-use std::alloc::Global;
-use std::test::Fail;
+use std::alloc::{AllocError, Global};
+use std::process::Abort;
 
-// What a read of so many bytes at a place gives.
-fn read<F: Files>(
-    alloc: Global,
+// What a read at a place gives into so much room, at most 8 bytes.
+fn check_read<F: Files>(
+    rt: &impl Abort,
     files: &mut F,
     name: &str,
     at: u64,
     room: usize,
-) -> Result<Option<String>, Stop> {
-    let mut buf = vec![in alloc; 0; room]?;
-    let Some(n) = files.read(name, at, &mut buf)? else {
-        return Ok(None);
-    };
-    let mut text = String::new(alloc);
-    for byte in buf.iter().take(n) {
-        text.push(char::from(*byte))?;
+    want: Option<&str>,
+) {
+    let mut buf = [0; 8];
+    match well(rt, files.read(name, at, &mut buf[..room.min(8)])) {
+        Some(count) => same(rt, buf.get(..count), want.map(|text| text.as_bytes())),
+        None => same(rt, None, want),
     }
-    Ok(Some(text))
 }
 
 // Name, place, room, and what is read.
@@ -35,21 +32,20 @@ const READS: &[(&str, u64, usize, Option<&str>)] = &[
     ("base", 0, 2, None),
 ];
 
+const GIVEN: &[(&str, &[u8])] = &[("base/1", b"old"), ("empty", b""), ("base/1", b"abc")];
+
+fn some_files(alloc: Global) -> Result<MemFiles, AllocError> {
+    MemFiles::new(alloc, named_bytes(alloc, GIVEN)?, vec![in alloc; 1]?)
+}
+
 #[test]
-fn reads_at_places(rt: HostRuntime) -> Result<(), Fail> {
-    let alloc = rt.alloc();
-    let given = named_bytes(
-        alloc,
-        &[("base/1", b"old"), ("empty", b""), ("base/1", b"abc")],
-    )?;
-    let mut files = MemFiles::new(alloc, given, vec![in alloc; 1]?)?;
+fn reads_at_places(rt: HostRuntime) {
+    let mut files = well(&rt, some_files(rt.alloc()));
     same(&rt, files.open("/data"), Ok(()));
     same(&rt, files.open("/other"), Err(Stop::Failed));
     same(&rt, files.place(), "/data");
     same(&rt, files.faults(), 1);
     for (name, at, room, want) in READS {
-        let got = read(alloc, &mut files, name, *at, *room)?;
-        same(&rt, got.as_deref(), *want);
+        check_read(&rt, &mut files, name, *at, *room, *want);
     }
-    Ok(())
 }

@@ -1,11 +1,10 @@
 // What a stop leaves of a disk in memory, at each moment of the disk model's worked example.
 use crate::disk::{Call, FOLDER, X, Y, Z, disk_of, run};
-use crate::same::same;
+use crate::same::{same, well};
 use pgb_memory::{ImageFault, MemDisk};
 use pgb_outside::Stop;
 use std::alloc::{AllocError, Global};
 use std::process::Abort;
-use std::test::Fail;
 
 // The worked example's calls, made on an empty disk.
 fn worked_disk(alloc: Global) -> Result<MemDisk, Stop> {
@@ -60,26 +59,28 @@ fn check_moment(
     loose: &str,
     x: &str,
     y: &str,
-) -> Result<(), AllocError> {
-    same(rt, loose_then(alloc, disk, moment)?.as_str(), loose);
-    same(rt, kept_then(alloc, disk, moment, X)?.as_str(), x);
-    same(rt, kept_then(alloc, disk, moment, Y)?.as_str(), y);
-    Ok(())
+) {
+    same(
+        rt,
+        well(rt, loose_then(alloc, disk, moment)).as_str(),
+        loose,
+    );
+    same(rt, well(rt, kept_then(alloc, disk, moment, X)).as_str(), x);
+    same(rt, well(rt, kept_then(alloc, disk, moment, Y)).as_str(), y);
 }
 
 #[test]
-fn what_moments_keep(rt: HostRuntime) -> Result<(), Fail> {
+fn what_moments_keep(rt: HostRuntime) {
     let alloc = rt.alloc();
-    let disk = worked_disk(alloc)?;
+    let disk = well(&rt, worked_disk(alloc));
     same(&rt, disk.moment(), 5);
-    check_moment(&rt, alloc, &disk, 0, "", "- ", "- ")?;
-    check_moment(&rt, alloc, &disk, 1, "archive/demo/x ", "- ", "- ")?;
-    check_moment(&rt, alloc, &disk, 2, "archive/demo/x ", "- ", "- ")?;
-    check_moment(&rt, alloc, &disk, 3, "", "- a ", "- ")?;
-    check_moment(&rt, alloc, &disk, 4, "", "- a - ", "- a ")?;
-    check_moment(&rt, alloc, &disk, 5, "", "- ", "a ")?;
-    check_moment(&rt, alloc, &disk, 6, "", "- ", "a ")?;
-    Ok(())
+    check_moment(&rt, alloc, &disk, 0, "", "- ", "- ");
+    check_moment(&rt, alloc, &disk, 1, "archive/demo/x ", "- ", "- ");
+    check_moment(&rt, alloc, &disk, 2, "archive/demo/x ", "- ", "- ");
+    check_moment(&rt, alloc, &disk, 3, "", "- a ", "- ");
+    check_moment(&rt, alloc, &disk, 4, "", "- a - ", "- a ");
+    check_moment(&rt, alloc, &disk, 5, "", "- ", "a ");
+    check_moment(&rt, alloc, &disk, 6, "", "- ", "a ");
 }
 
 // The image at a moment, as `name:size` of each name, where these positions of kept values and these bytes of loose names are
@@ -126,14 +127,13 @@ const IMAGES: &[(
 ];
 
 #[test]
-fn images(rt: HostRuntime) -> Result<(), Fail> {
+fn images(rt: HostRuntime) {
     let alloc = rt.alloc();
-    let disk = worked_disk(alloc)?;
+    let disk = well(&rt, worked_disk(alloc));
     for (moment, positions, loose, want) in IMAGES {
         match image_then(alloc, &disk, *moment, positions, loose) {
             Ok(text) => same(&rt, Ok(text.as_str()), *want),
             Err(fault) => same(&rt, Err(fault), *want),
         }
     }
-    Ok(())
 }

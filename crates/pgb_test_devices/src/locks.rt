@@ -1,11 +1,11 @@
 // Locks in memory.
 ghost use Rattle.std.specs.Prelude.{Contains};
 
-use crate::same::same;
+use crate::same::{same, well};
 use pgb_memory::MemLocks;
 use pgb_outside::{Locks, Stop, Take};
 use std::alloc::{AllocError, Global};
-use std::test::Fail;
+use std::process::Abort;
 
 fn take_by<L: Locks>(locks: &mut L, folder: &str, name: &str) -> Result<Take, Stop>
     requires { ¬ Contains (L.taken locks.old) name.now }
@@ -47,26 +47,33 @@ const TAKES: &[(&str, &str, Option<Result<Take, Stop>>)] = &[
     ("/m", "held", Some(Ok(Take::Held))),
 ];
 
-#[test]
-fn takes(rt: HostRuntime) -> Result<(), Fail> {
-    let alloc = rt.alloc();
+fn check_told(rt: &impl Abort, alloc: Global, locks: &MemLocks, want: &str) {
+    same(rt, well(rt, told(alloc, locks)).as_str(), want);
+}
+
+// Others hold one lock, and the fourth take fails.
+fn some_locks(alloc: Global) -> Result<MemLocks, AllocError> {
     let held = vec![in alloc; String::from_str(alloc, "held")?]?;
-    let mut locks = MemLocks::new(alloc, held, vec![in alloc; 3]?);
+    Ok(MemLocks::new(alloc, held, vec![in alloc; 3]?))
+}
+
+#[test]
+fn takes(rt: HostRuntime) {
+    let alloc = rt.alloc();
+    let mut locks = well(&rt, some_locks(alloc));
     for (folder, name, answer) in TAKES {
         same(&rt, take(&mut locks, folder, name), *answer);
     }
-    let taken = told(alloc, &locks)?;
-    same(&rt, taken.as_str(), "three two one /m/three /m/two /l/one ");
+    check_told(&rt, alloc, &locks, "three two one /m/three /m/two /l/one ");
     release_by(&mut locks, "two");
     release_by(&mut locks, "none");
     same(&rt, take(&mut locks, "/l", "two"), Some(Ok(Take::Taken)));
-    let taken = told(alloc, &locks)?;
-    same(
+    check_told(
         &rt,
-        taken.as_str(),
+        alloc,
+        &locks,
         "two three one /l/two /m/three /m/two /l/one ",
     );
     same(&rt, locks.refusals(), 2);
     same(&rt, locks.faults(), 1);
-    Ok(())
 }

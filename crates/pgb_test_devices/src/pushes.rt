@@ -3,17 +3,16 @@ ghost use Rattle.std.specs.Prelude.{None};
 ghost use Rattle.std.proofs.Common.{refl};
 
 use crate::archive::{
-    BACKUP, BACKUP_PATH, HISTORY, HISTORY_PATH, ID, PARTIAL, WHOLE, check_path, disk_of, got, told,
+    BACKUP, BACKUP_PATH, HISTORY, HISTORY_PATH, ID, PARTIAL, WHOLE, check_got, check_path, disk_of,
+    got, told,
 };
-use crate::same::same;
+use crate::same::{same, well};
 use pgb_archive::{ArchiveFault, Front, Pieces, PushFault, Pushed, all, push, push_from};
 use pgb_memory::MemDisk;
 use pgb_model::ArchiveName;
 use pgb_outside::{NotThere, Stop};
-use pgb_text::NoMemory;
 use std::alloc::{AllocError, Global};
 use std::process::Abort;
-use std::test::Fail;
 
 const SYSTEM: u64 = 6917529027641081857;
 
@@ -32,38 +31,30 @@ fn check_push(
     name: &ArchiveName,
     bytes: &[u8],
     want: &str,
-) -> Result<(), NoMemory> {
+) {
     match push(alloc, disk, "main", &ID, name, SYSTEM, bytes) {
         Ok(pushed) => same(rt, word_of(pushed), want),
-        Err(fault) => same(rt, told(alloc, fault)?.as_str(), want),
+        Err(fault) => same(rt, well(rt, told(alloc, fault)).as_str(), want),
     }
-    Ok(())
 }
 
 const OTHER_HISTORY: &str =
     "other aaf4c61ddcc5e8a2dabede0f3b482cd9aea9434d d0941e68da8f38151ff86a61fc59f7c5cf9fcaa2";
 
-fn check_plain(
-    rt: &impl Abort,
-    alloc: Global,
-    disk: &mut MemDisk,
-    name: &ArchiveName,
-    path: &str,
-) -> Result<(), ArchiveFault> {
-    check_push(rt, alloc, disk, name, b"hello", "new")?;
-    check_push(rt, alloc, disk, name, b"hello", "same")?;
-    check_push(rt, alloc, disk, name, b"other", OTHER_HISTORY)?;
-    same(rt, got(alloc, disk, name)?.as_str(), "hello");
-    check_path(rt, alloc, disk, name, Some(path))
+fn check_plain(rt: &impl Abort, alloc: Global, disk: &mut MemDisk, name: &ArchiveName, path: &str) {
+    check_push(rt, alloc, disk, name, b"hello", "new");
+    check_push(rt, alloc, disk, name, b"hello", "same");
+    check_push(rt, alloc, disk, name, b"other", OTHER_HISTORY);
+    check_got(rt, alloc, disk, name, "hello");
+    check_path(rt, alloc, disk, name, Some(path));
 }
 
 #[test]
-fn pushes_files_without_header(rt: HostRuntime) -> Result<(), Fail> {
+fn pushes_files_without_header(rt: HostRuntime) {
     let alloc = rt.alloc();
-    let mut disk = disk_of(alloc, &[])?;
-    check_plain(&rt, alloc, &mut disk, &HISTORY, HISTORY_PATH)?;
-    check_plain(&rt, alloc, &mut disk, &BACKUP, BACKUP_PATH)?;
-    Ok(())
+    let mut disk = well(&rt, disk_of(alloc, &[]));
+    check_plain(&rt, alloc, &mut disk, &HISTORY, HISTORY_PATH);
+    check_plain(&rt, alloc, &mut disk, &BACKUP, BACKUP_PATH);
 }
 
 // A segment of 1 MiB with this last byte.
@@ -93,28 +84,27 @@ fn check_segment(
     disk: &mut MemDisk,
     name: &ArchiveName,
     path: &str,
-) -> Result<(), ArchiveFault> {
-    let first = segment(alloc, 1)?;
-    let second = segment(alloc, 2)?;
-    check_push(rt, alloc, disk, name, &first, "new")?;
-    check_push(rt, alloc, disk, name, &first, "same")?;
-    check_push(rt, alloc, disk, name, &second, OTHER_SEGMENT)?;
-    check_push(rt, alloc, disk, name, b"abc", "form 0")?;
-    check_path(rt, alloc, disk, name, Some(path))
+) {
+    let first = well(rt, segment(alloc, 1));
+    let second = well(rt, segment(alloc, 2));
+    check_push(rt, alloc, disk, name, &first, "new");
+    check_push(rt, alloc, disk, name, &first, "same");
+    check_push(rt, alloc, disk, name, &second, OTHER_SEGMENT);
+    check_push(rt, alloc, disk, name, b"abc", "form 0");
+    check_path(rt, alloc, disk, name, Some(path));
 }
 
 #[test]
-fn pushes_segments(rt: HostRuntime) -> Result<(), Fail> {
+fn pushes_segments(rt: HostRuntime) {
     let alloc = rt.alloc();
-    let mut disk = disk_of(alloc, &[])?;
-    check_segment(&rt, alloc, &mut disk, &WHOLE, SEGMENT_PATH)?;
-    check_segment(&rt, alloc, &mut disk, &PARTIAL, PARTIAL_PATH)?;
-    let files = all(alloc, &mut disk, "main")?;
+    let mut disk = well(&rt, disk_of(alloc, &[]));
+    check_segment(&rt, alloc, &mut disk, &WHOLE, SEGMENT_PATH);
+    check_segment(&rt, alloc, &mut disk, &PARTIAL, PARTIAL_PATH);
+    let files = well(&rt, all(alloc, &mut disk, "main"));
     same(&rt, files.len(), 2);
     for file in &files {
         same(&rt, file.size, 1048576);
     }
-    Ok(())
 }
 
 #[test]
@@ -170,7 +160,7 @@ fn check_push_from(
     fails: bool,
     more: u8,
     want: &str,
-) -> Result<(), NoMemory> {
+) {
     let source = Untold { bytes: MORE, fails };
     let front = Front {
         bytes: FORTY,
@@ -192,23 +182,21 @@ fn check_push_from(
         Ok(pushed) => same(rt, word_of(pushed), want),
         Err(PushFault::Source) => same(rt, "source", want),
         Err(PushFault::Archive(ArchiveFault::NoMemory)) => same(rt, "memory", want),
-        Err(PushFault::Archive(fault)) => same(rt, told(alloc, fault)?.as_str(), want),
+        Err(PushFault::Archive(fault)) => same(rt, well(rt, told(alloc, fault)).as_str(), want),
     }
-    Ok(())
 }
 
 #[test]
-fn pushes_from_a_source(rt: HostRuntime) -> Result<(), Fail> {
+fn pushes_from_a_source(rt: HostRuntime) {
     let alloc = rt.alloc();
-    let mut disk = disk_of(alloc, &[])?;
-    check_push_from(&rt, alloc, &mut disk, true, 9, "source")?;
-    check_push_from(&rt, alloc, &mut disk, false, 8, "memory")?;
-    check_push_from(&rt, alloc, &mut disk, false, 10, "memory")?;
-    check_push_from(&rt, alloc, &mut disk, false, 9, "new")?;
-    check_push_from(&rt, alloc, &mut disk, true, 9, "source")?;
-    check_push_from(&rt, alloc, &mut disk, false, 8, "memory")?;
-    check_push_from(&rt, alloc, &mut disk, false, 9, "same")?;
-    let stored = got(alloc, &mut disk, &HISTORY)?;
+    let mut disk = well(&rt, disk_of(alloc, &[]));
+    check_push_from(&rt, alloc, &mut disk, true, 9, "source");
+    check_push_from(&rt, alloc, &mut disk, false, 8, "memory");
+    check_push_from(&rt, alloc, &mut disk, false, 10, "memory");
+    check_push_from(&rt, alloc, &mut disk, false, 9, "new");
+    check_push_from(&rt, alloc, &mut disk, true, 9, "source");
+    check_push_from(&rt, alloc, &mut disk, false, 8, "memory");
+    check_push_from(&rt, alloc, &mut disk, false, 9, "same");
+    let stored = well(&rt, got(alloc, &mut disk, &HISTORY));
     same(&rt, stored.as_bytes(), MORE);
-    Ok(())
 }

@@ -1,74 +1,68 @@
 // A configuration file in memory.
-use crate::same::same;
+use crate::same::{same, well};
 use pgb_memory::MemSource;
 use pgb_outside::{Source, Stop};
 use std::alloc::{AllocError, Global};
 use std::process::Abort;
-use std::test::Fail;
 
 fn open<S: Source>(source: &mut S, path: &str) -> Result<bool, Stop> {
     source.open(path)
 }
 
-// The sizes of the next reads, with their bytes, into this much room.
-fn pieces<S: Source>(alloc: Global, source: &mut S, room: usize) -> Result<String, Stop> {
-    let mut buf = vec![in alloc; 0; room]?;
-    let mut text = String::new(alloc);
-    for _ in 0..3 {
-        let n = source.read(&mut buf)?;
-        for byte in buf.iter().take(n) {
-            text.push(char::from(*byte))?;
-        }
-        text.push('|')?;
-    }
-    Ok(text)
+// What the next read gives into so much room, at most 8 bytes.
+fn check_read<S: Source>(rt: &impl Abort, source: &mut S, room: usize, want: &str) {
+    let mut buf = [0; 8];
+    let count = well(rt, source.read(&mut buf[..room.min(8)]));
+    same(rt, buf.get(..count), Some(want.as_bytes()));
+}
+
+fn check_reads(rt: &impl Abort, source: &mut MemSource, room: usize, want: &[&str; 3]) {
+    check_read(rt, source, room, want[0]);
+    check_read(rt, source, room, want[1]);
+    check_read(rt, source, room, want[2]);
 }
 
 fn file(alloc: Global, text: &str) -> Result<Option<Vec<u8>>, AllocError> {
     Ok(Some(Vec::from_slice(alloc, text.as_bytes())?))
 }
 
+const NOTHING: &[&str; 3] = &["", "", ""];
+
 // What a file of this text gives, read into so much room before it is opened, and each time that it is.
-fn check_pieces(
-    rt: &impl Abort,
-    alloc: Global,
-    text: &str,
-    room: usize,
-    given: &str,
-) -> Result<(), Stop> {
-    let mut source = MemSource::new(alloc, file(alloc, text)?, Vec::new(alloc));
-    same(rt, pieces(alloc, &mut source, room)?.as_str(), "|||");
+fn check_pieces(rt: &impl Abort, alloc: Global, text: &str, room: usize, given: &[&str; 3]) {
+    let text = well(rt, file(alloc, text));
+    let mut source = MemSource::new(alloc, text, Vec::new(alloc));
+    check_reads(rt, &mut source, room, NOTHING);
     same(rt, open(&mut source, "/etc/c"), Ok(true));
-    same(rt, pieces(alloc, &mut source, room)?.as_str(), given);
+    check_reads(rt, &mut source, room, given);
     same(rt, open(&mut source, "/etc/d"), Ok(true));
-    same(rt, pieces(alloc, &mut source, room)?.as_str(), given);
+    check_reads(rt, &mut source, room, given);
     same(rt, source.place(), "/etc/d");
-    Ok(())
 }
 
 #[test]
-fn reads_in_pieces(rt: HostRuntime) -> Result<(), Fail> {
+fn reads_in_pieces(rt: HostRuntime) {
     let alloc = rt.alloc();
-    check_pieces(&rt, alloc, "[a]", 2, "[a|]||")?;
-    check_pieces(&rt, alloc, "[a]", 3, "[a]|||")?;
-    check_pieces(&rt, alloc, "[a]", 1, "[|a|]|")?;
-    check_pieces(&rt, alloc, "[a]", 0, "|||")?;
-    check_pieces(&rt, alloc, "", 5, "|||")?;
-    Ok(())
+    check_pieces(&rt, alloc, "[a]", 2, &["[a", "]", ""]);
+    check_pieces(&rt, alloc, "[a]", 3, &["[a]", "", ""]);
+    check_pieces(&rt, alloc, "[a]", 1, &["[", "a", "]"]);
+    check_pieces(&rt, alloc, "[a]", 0, NOTHING);
+    check_pieces(&rt, alloc, "", 5, NOTHING);
 }
 
 #[test]
-fn absent_and_failing(rt: HostRuntime) -> Result<(), Fail> {
+fn absent_and_failing(rt: HostRuntime) {
     let alloc = rt.alloc();
     let mut absent = MemSource::new(alloc, None, Vec::new(alloc));
     same(&rt, open(&mut absent, "/etc/c"), Ok(false));
-    same(&rt, pieces(alloc, &mut absent, 4)?.as_str(), "|||");
-    let mut failing = MemSource::new(alloc, file(alloc, "ab")?, vec![in alloc; 0, 3]?);
+    check_reads(&rt, &mut absent, 4, NOTHING);
+    let fail = well(&rt, vec![in alloc; 0, 3]);
+    let mut failing = MemSource::new(alloc, well(&rt, file(alloc, "ab")), fail);
     same(&rt, open(&mut failing, "/etc/c"), Err(Stop::Failed));
     same(&rt, failing.place(), "");
     same(&rt, open(&mut failing, "/etc/c"), Ok(true));
-    assert!(rt; pieces(alloc, &mut failing, 1).is_err());
-    same(&rt, pieces(alloc, &mut failing, 1)?.as_str(), "b|||");
+    check_read(&rt, &mut failing, 1, "a");
+    same(&rt, failing.read(&mut [0; 1]), Err(Stop::Failed));
+    check_reads(&rt, &mut failing, 1, &["b", "", ""]);
     same(&rt, failing.faults(), 2);
-    Ok(())
 }

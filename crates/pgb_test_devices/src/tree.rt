@@ -1,10 +1,9 @@
 // A data folder in memory: what its calls do, refuse and count.
-use crate::same::same;
+use crate::same::{same, well};
 use pgb_memory::{MemNode, MemTree, TreeFault};
 use pgb_outside::{Known, Node, Stop, Tree};
 use std::alloc::{AllocError, Global};
 use std::process::Abort;
-use std::test::Fail;
 
 // A call that changes something.
 #[derive(Clone, Copy)]
@@ -167,25 +166,36 @@ pg_tblspc/
 pg_tblspc/9 6 bytes at 5
 ";
 
-#[test]
-fn calls_of_a_tree(rt: HostRuntime) -> Result<(), Fail> {
-    let alloc = rt.alloc();
-    let mut tree = cluster(alloc, &[])?;
-    check_makes_and_begins(&rt, &mut tree);
-    check_other_calls(&rt, &mut tree);
-    same(&rt, listed(alloc, &mut tree)?.as_str(), LEFT);
-    Ok(())
+fn check_listed(rt: &impl Abort, alloc: Global, tree: &mut MemTree, want: &str) {
+    same(rt, well(rt, listed(alloc, tree)).as_str(), want);
 }
 
 #[test]
-fn reads_of_a_tree(rt: HostRuntime) -> Result<(), Fail> {
-    let alloc = rt.alloc();
-    let mut tree = cluster(alloc, &[])?;
-    let segment = Known::Wal(String::from_str(alloc, "1")?);
-    let absent = Known::Wal(String::from_str(alloc, "2")?);
+fn calls_of_a_tree(rt: HostRuntime) {
+    let mut tree = well(&rt, cluster(rt.alloc(), &[]));
+    check_makes_and_begins(&rt, &mut tree);
+    check_other_calls(&rt, &mut tree);
+    check_listed(&rt, rt.alloc(), &mut tree, LEFT);
+}
+
+// A file of the log.
+fn check_segment(
+    rt: &impl Abort,
+    alloc: Global,
+    tree: &mut MemTree,
+    name: &str,
+    want: Option<&str>,
+) {
+    let segment = Known::Wal(well(rt, String::from_str(alloc, name)));
+    same(rt, reads(tree, &segment, want), Ok(true));
+}
+
+#[test]
+fn reads_of_a_tree(rt: HostRuntime) {
+    let mut tree = well(&rt, cluster(rt.alloc(), &[]));
     same(&rt, reads(&mut tree, &Known::Version, Some("16")), Ok(true));
-    same(&rt, reads(&mut tree, &segment, Some("seg")), Ok(true));
-    same(&rt, reads(&mut tree, &absent, None), Ok(true));
+    check_segment(&rt, rt.alloc(), &mut tree, "1", Some("seg"));
+    check_segment(&rt, rt.alloc(), &mut tree, "2", None);
     same(&rt, reads(&mut tree, &Known::Control, None), Ok(true));
     assert!(rt; matches!(tree.node("pg_wal/1"), Some(MemNode::File { time: 7, .. })));
     assert!(rt; matches!(tree.node("pg_tblspc/9"), Some(MemNode::Link)));
@@ -193,42 +203,43 @@ fn reads_of_a_tree(rt: HostRuntime) -> Result<(), Fail> {
     same(&rt, tree.place(), "");
     same(&rt, tree.open("/srv/data"), Ok(()));
     same(&rt, tree.place(), "/srv/data");
-    Ok(())
 }
 
 // The second call on a tree fails and changes nothing, and the same call after it does.
-fn check_failing(rt: &impl Abort, alloc: Global, call: Call) -> Result<(), Fail> {
-    let mut tree = cluster(alloc, &[1])?;
-    let before = listed(alloc, &mut tree)?;
+fn check_failing(rt: &impl Abort, alloc: Global, call: Call) {
+    let mut tree = well(rt, cluster(alloc, &[1]));
+    let before = well(rt, listed(alloc, &mut tree));
     same(rt, run(&mut tree, &call), Err(Stop::Failed));
-    same(rt, listed(alloc, &mut tree)?.as_str(), before.as_str());
+    check_listed(rt, alloc, &mut tree, &before);
     same(rt, tree.faults(), 1);
     same(rt, tree.misuses(), 0);
     same(rt, run(&mut tree, &call), Ok(()));
-    let after = listed(alloc, &mut tree)?;
+    let after = well(rt, listed(alloc, &mut tree));
     same(rt, after.as_str() == before.as_str(), false);
-    Ok(())
 }
 
 #[test]
-fn each_call_of_a_tree_fails(rt: HostRuntime) -> Result<(), Fail> {
+fn each_call_of_a_tree_fails(rt: HostRuntime) {
     let alloc = rt.alloc();
-    check_failing(&rt, alloc, Call::Make("base"))?;
-    check_failing(&rt, alloc, Call::Begin("pg_wal/1"))?;
-    check_failing(&rt, alloc, Call::BeginNew("pg_wal/2", true))?;
-    check_failing(&rt, alloc, Call::Append("PG_VERSION"))?;
-    check_failing(&rt, alloc, Call::Rename("PG_VERSION", "pg_wal/1"))?;
-    check_failing(&rt, alloc, Call::Remove("pg_wal/1"))?;
-    let mut tree = cluster(alloc, &[0, 1, 2])?;
+    check_failing(&rt, alloc, Call::Make("base"));
+    check_failing(&rt, alloc, Call::Begin("pg_wal/1"));
+    check_failing(&rt, alloc, Call::BeginNew("pg_wal/2", true));
+    check_failing(&rt, alloc, Call::Append("PG_VERSION"));
+    check_failing(&rt, alloc, Call::Rename("PG_VERSION", "pg_wal/1"));
+    check_failing(&rt, alloc, Call::Remove("pg_wal/1"));
+}
+
+#[test]
+fn other_calls_of_a_tree_fail(rt: HostRuntime) {
+    let mut tree = well(&rt, cluster(rt.alloc(), &[0, 1, 2]));
     same(&rt, tree.open("data"), Err(Stop::Failed));
-    assert!(rt; listed(alloc, &mut tree).is_err());
+    assert!(rt; listed(rt.alloc(), &mut tree).is_err());
     same(
         &rt,
         reads(&mut tree, &Known::Version, None),
         Err(Stop::Failed),
     );
     same(&rt, tree.place(), "");
-    Ok(())
 }
 
 // The path whose folder isn't there.
@@ -240,13 +251,13 @@ fn lost_path(made: Result<MemTree, TreeFault>) -> Option<String> {
     }
 }
 
+fn lost_nodes(alloc: Global) -> Result<Vec<(String, MemNode)>, AllocError> {
+    Ok(vec![in alloc; folder(alloc, "a/b/c")?, folder(alloc, "a")?]?)
+}
+
 #[test]
-fn lost_folder(rt: HostRuntime) -> Result<(), Fail> {
-    let alloc = rt.alloc();
-    let mut nodes = Vec::new(alloc);
-    nodes.push(folder(alloc, "a/b/c")?)?;
-    nodes.push(folder(alloc, "a")?)?;
-    let lost = lost_path(MemTree::new(alloc, nodes, Vec::new(alloc)));
+fn lost_folder(rt: HostRuntime) {
+    let nodes = well(&rt, lost_nodes(rt.alloc()));
+    let lost = lost_path(MemTree::new(rt.alloc(), nodes, Vec::new(rt.alloc())));
     same(&rt, lost.as_deref(), Some("a/b/c"));
-    Ok(())
 }
