@@ -124,6 +124,9 @@ fn check_reads(rt: &impl Abort, alloc: Global, tree: &mut RealTree) {
     same(rt, tree.read(&Known::Version, 3, &mut room), Ok(Some(0)));
     same(rt, tree.read(&Known::Control, 0, &mut room), Ok(None));
     same(rt, tree.read(&wal, 0, &mut room), Ok(None));
+    same(rt, tree.size(&Known::Version), Ok(Some(3)));
+    same(rt, tree.size(&Known::Control), Ok(None));
+    same(rt, tree.size(&wal), Ok(None));
     same(rt, room.as_slice(), b".6");
 }
 

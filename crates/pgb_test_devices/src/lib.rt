@@ -25,3 +25,5 @@ mod source;
 mod storing;
 #[cfg(test)]
 mod tree;
+#[cfg(test)]
+mod vanishing;

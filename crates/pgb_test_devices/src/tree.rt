@@ -205,6 +205,15 @@ fn reads_of_a_tree(rt: HostRuntime) {
     same(&rt, tree.place(), "/srv/data");
 }
 
+#[test]
+fn sizes_in_a_tree(rt: HostRuntime) {
+    let mut tree = well(&rt, cluster(rt.alloc(), &[2]));
+    same(&rt, tree.size(&Known::Version), Ok(Some(2)));
+    same(&rt, tree.size(&Known::Control), Ok(None));
+    same(&rt, tree.size(&Known::Version), Err(Stop::Failed));
+    same(&rt, tree.size(&Known::Version), Ok(Some(2)));
+}
+
 // The second call on a tree fails and changes nothing, and the same call after it does.
 fn check_failing(rt: &impl Abort, alloc: Global, call: Call) {
     let mut tree = well(rt, cluster(alloc, &[1]));

@@ -1,0 +1,77 @@
+// A segment that is listed, and isn't there any more when it is read.
+use crate::archive::{ID, WHOLE};
+use crate::same::{same, well};
+use pgb_archive::{ArchiveFault, get, present};
+use pgb_outside::{Disk, Found, NotThere, Stop};
+use std::alloc::Global;
+
+const LISTED: &str =
+    "archive/main/16-1/0000000100000000/000000010000000000000003-a9993e364706816aba3e25717850c26c9cd0d89d";
+
+/// A disk that tells nothing, lists one segment, and has none.
+#[derive(Drop)]
+struct Vanishing {
+    other: NotThere,
+}
+
+impl Disk for Vanishing {
+    ghost state = { λ d. ⟦<NotThere as Disk>⟧.state d.other };
+
+    ghost now_may_be_left = { λ d n v h. absurd h };
+
+    fn open(&mut self, path: &str) -> Result<(), Stop> {
+        self.other.open(path)
+    }
+
+    fn names(&mut self, alloc: Global, _folder: &str) -> Result<Vec<Found>, Stop> {
+        let name = String::from_str(alloc, LISTED)?;
+        let mut found = Vec::new(alloc);
+        found.push(Found { name, size: 3 })?;
+        Ok(found)
+    }
+
+    fn folders(&mut self, alloc: Global, _folder: &str) -> Result<Vec<String>, Stop> {
+        Ok(Vec::new(alloc))
+    }
+
+    fn read(&mut self, _name: &str, _at: u64, _buf: &mut [u8]) -> Result<Option<usize>, Stop> {
+        Ok(None)
+    }
+
+    fn begin(&mut self, name: &str) -> Result<(), Stop> {
+        self.other.begin(name)
+    }
+
+    fn append(&mut self, name: &str, bytes: &[u8]) -> Result<(), Stop> {
+        self.other.append(name, bytes)
+    }
+
+    fn sync(&mut self, name: &str) -> Result<(), Stop> {
+        self.other.sync(name)
+    }
+
+    fn rename(&mut self, from: &str, to: &str) -> Result<(), Stop> {
+        self.other.rename(from, to)
+    }
+
+    fn remove(&mut self, name: &str) -> Result<(), Stop> {
+        self.other.remove(name)
+    }
+
+    fn settle(&mut self, folder: &str) -> Result<(), Stop> {
+        self.other.settle(folder)
+    }
+}
+
+// That it isn't archived would end a recovery, so it is told as want of memory.
+#[test]
+fn a_segment_that_is_gone_is_not_told_as_unarchived(rt: HostRuntime) {
+    let alloc = rt.alloc();
+    let mut disk = Vanishing {
+        other: NotThere::new(),
+    };
+    let listed = well(&rt, present(alloc, &mut disk, "main", &ID, &WHOLE));
+    same(&rt, listed.is_some(), true);
+    let got = get(alloc, &mut disk, "main", &ID, &WHOLE);
+    assert!(rt; matches!(got, Err(ArchiveFault::NoMemory)));
+}
