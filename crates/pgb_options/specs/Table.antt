@@ -1,5 +1,5 @@
 -- The options, a row for each: its name, the commands that use it, where it may stand, its values, and what holds where none is given.
-use Rattle.std.specs.Prelude.{ℕ, List, [], ◌∷◌, ◌++◌, codes}
+use Rattle.std.specs.Prelude.{◌≡◌, ◌⊎◌, ℕ, List, [], ◌∷◌, ◌++◌, codes}
 use Rattle.pgb_model.specs.Text.{Text}
 use Rattle.pgb_options.specs.declared.table.Verb.{Verb}
 use Rattle.pgb_options.specs.declared.table.Verb.TheVariants.{StanzaCreate, ArchivePush, ArchivePushAsync, ArchiveGet, ArchiveGetAsync, Backup, Expire, Restore, Verify, Info, Rehearse}
@@ -123,6 +123,31 @@ row DbTimeout = option (codes "db-timeout") every anything unset
 row ProtocolTimeout = option (codes "protocol-timeout") every anything unset
 row IoTimeout = option (codes "io-timeout") every anything unset
 row ArchiveModeCheck = option (codes "archive-mode-check") every flag unset
+
+-- the groups in which the rows are looked up
+abbrev pub IsOfServer : Opt → Type 0
+IsOfServer o = (o ≡ Stanza) ⊎ (o ≡ Pg1Path) ⊎ (o ≡ Pg1Port) ⊎ (o ≡ Pg1SocketPath) ⊎ (o ≡ Pg1User) ⊎ (o ≡ Pg1Database)
+
+abbrev pub IsOfRepository : Opt → Type 0
+IsOfRepository o = (o ≡ Repo1Path) ⊎ (o ≡ Repo1Type) ⊎ (o ≡ Repo1CipherType) ⊎ (o ≡ CompressType)
+
+abbrev pub IsOfRetention : Opt → Type 0
+IsOfRetention o = (o ≡ Repo1RetentionFull) ⊎ (o ≡ Repo1RetentionDiff) ⊎ (o ≡ Repo1RetentionArchive) ⊎ (o ≡ Repo1RetentionArchiveType)
+
+abbrev pub IsOfBundle : Opt → Type 0
+IsOfBundle o = (o ≡ Repo1Bundle) ⊎ (o ≡ Repo1BundleSize) ⊎ (o ≡ Repo1BundleLimit)
+
+abbrev pub IsOfRun : Opt → Type 0
+IsOfRun o = (o ≡ ProcessMax) ⊎ (o ≡ BackupType) ⊎ (o ≡ RestoreType) ⊎ (o ≡ Delta) ⊎ (o ≡ Online) ⊎ (o ≡ StartFast)
+
+abbrev pub IsOfArchive : Opt → Type 0
+IsOfArchive o = (o ≡ ArchiveTimeout) ⊎ (o ≡ ArchiveAsync) ⊎ (o ≡ ArchiveGetQueueMax) ⊎ (o ≡ SpoolPath) ⊎ (o ≡ LockPath)
+
+abbrev pub IsOfCommand : Opt → Type 0
+IsOfCommand o = (o ≡ Set) ⊎ (o ≡ ExpireAuto) ⊎ (o ≡ Output) ⊎ (o ≡ Number) ⊎ (o ≡ Config)
+
+abbrev pub IsIgnored : Opt → Type 0
+IsIgnored o = (o ≡ LogLevelConsole) ⊎ (o ≡ LogLevelFile) ⊎ (o ≡ LogLevelStderr) ⊎ (o ≡ LogPath) ⊎ (o ≡ LogTimestamp) ⊎ (o ≡ BufferSize) ⊎ (o ≡ CompressLevel) ⊎ (o ≡ CompressLevelNetwork) ⊎ (o ≡ DbTimeout) ⊎ (o ≡ ProtocolTimeout) ⊎ (o ≡ IoTimeout) ⊎ (o ≡ ArchiveModeCheck)
 
 abbrev pub verb_word : Verb → Text
 verb_word StanzaCreate = codes "stanza-create"

@@ -3,6 +3,7 @@
 ghost use Rattle.std.specs.Prelude.{◌≡◌, option_map, string_bytes, IfOk, [], false};
 ghost use Rattle.pgb_options.specs.Settings.{value};
 ghost use Rattle.pgb_options.specs.Sources.{source_view};
+ghost use Rattle.pgb_options.specs.Views.{value_view};
 ghost use Rattle.pgb_options.specs.Filled.{text_in, number_in, amount_in, flag_in, or_else, kind_word, restore_word, output_word, word_in, AreOptions};
 
 use crate::source::{Source, value};
@@ -84,13 +85,19 @@ pub struct Options {
     pub config: Option<String>,
 }
 
-fn text_in(source: &Source, option: Opt) -> Option<&str>
-    ensures { option_map (λ t. t.now) result ≡ text_in (value (source_view source.now) option) }
+fn as_text(value: Option<Value<'_>>) -> Option<&str>
+    ensures { option_map (λ t. t.now) result ≡ text_in (option_map value_view value.entry) }
 {
-    match value(source, option) {
+    match value {
         Some(Value::Text(text)) => Some(text),
         _ => None,
     }
+}
+
+fn text_in(source: &Source, option: Opt) -> Option<&str>
+    ensures { option_map (λ t. t.now) result ≡ text_in (value (source_view source.now) option) }
+{
+    as_text(value(source, option))
 }
 
 fn text(alloc: Global, source: &Source, option: Opt) -> Result<Option<String>, AllocError>

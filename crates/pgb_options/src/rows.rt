@@ -1,7 +1,7 @@
 //! The rows of the options, as the table of them.
 
 ghost use Rattle.std.specs.Prelude.{◌≡◌};
-ghost use Rattle.pgb_options.specs.Table.{row, option, word_option, every, unset};
+ghost use Rattle.pgb_options.specs.Table.{row, option, word_option, every, unset, IsOfServer, IsOfRepository, IsOfRetention, IsOfBundle, IsOfRun, IsOfArchive, IsOfCommand, IsIgnored};
 ghost use Rattle.pgb_options.specs.Views.{row_view, kind_view, fallback_view};
 
 use crate::table::{Fallback, Kind, Opt, Place, Row, Verb};
@@ -109,9 +109,10 @@ fn ignored(name: &'static str, kind: Kind) -> Row
     any_place(name, EVERY, kind, Fallback::Unset)
 }
 
-/// The row of an option.
+// Of the stanza and its server.
 #[tactic(auto, unfolding(crate::specs::Table::row))]
-pub fn row_for(option: Opt) -> Row
+fn server_row(option: Opt) -> Row
+    requires { IsOfServer option }
     ensures { row_view result ≡ row option }
 {
     match option {
@@ -138,12 +139,23 @@ pub fn row_for(option: Opt) -> Row
             Kind::Text,
             Fallback::Is("postgres"),
         ),
-        Opt::Pg1Database => any_place(
+        // Pg1Database, the one that is left.
+        _ => any_place(
             "pg1-database",
             WITH_SERVER,
             Kind::Text,
             Fallback::Is("postgres"),
         ),
+    }
+}
+
+// Of the repository and how its files are stored.
+#[tactic(auto, unfolding(crate::specs::Table::row))]
+fn repository_row(option: Opt) -> Row
+    requires { IsOfRepository option }
+    ensures { row_view result ≡ row option }
+{
+    match option {
         Opt::Repo1Path => any_place(
             "repo1-path",
             EVERY,
@@ -162,12 +174,23 @@ pub fn row_for(option: Opt) -> Row
             Kind::Words(&["none"]),
             Fallback::Is("none"),
         ),
-        Opt::CompressType => any_place(
+        // CompressType, the one that is left.
+        _ => any_place(
             "compress-type",
             PUSH_AND_BACKUP,
             Kind::Words(&["none"]),
             Fallback::Is("none"),
         ),
+    }
+}
+
+// Of what expire keeps.
+#[tactic(auto, unfolding(crate::specs::Table::row))]
+fn retention_row(option: Opt) -> Row
+    requires { IsOfRetention option }
+    ensures { row_view result ≡ row option }
+{
+    match option {
         Opt::Repo1RetentionFull => any_place(
             "repo1-retention-full",
             WITH_RETENTION,
@@ -195,12 +218,23 @@ pub fn row_for(option: Opt) -> Row
             },
             Fallback::Unset,
         ),
-        Opt::Repo1RetentionArchiveType => any_place(
+        // Repo1RetentionArchiveType, the one that is left.
+        _ => any_place(
             "repo1-retention-archive-type",
             WITH_RETENTION,
             Kind::Words(&["full", "diff"]),
             Fallback::Is("full"),
         ),
+    }
+}
+
+// Of bundles.
+#[tactic(auto, unfolding(crate::specs::Table::row))]
+fn bundle_row(option: Opt) -> Row
+    requires { IsOfBundle option }
+    ensures { row_view result ≡ row option }
+{
+    match option {
         Opt::Repo1Bundle => any_place("repo1-bundle", BACKUP, Kind::Flag, Fallback::Is("n")),
         Opt::Repo1BundleSize => any_place(
             "repo1-bundle-size",
@@ -211,7 +245,8 @@ pub fn row_for(option: Opt) -> Row
             },
             Fallback::Is("20MiB"),
         ),
-        Opt::Repo1BundleLimit => any_place(
+        // Repo1BundleLimit, the one that is left.
+        _ => any_place(
             "repo1-bundle-limit",
             BACKUP,
             Kind::Size {
@@ -220,6 +255,16 @@ pub fn row_for(option: Opt) -> Row
             },
             Fallback::Is("2MiB"),
         ),
+    }
+}
+
+// Of how a backup or a restore is run.
+#[tactic(auto, unfolding(crate::specs::Table::row))]
+fn run_row(option: Opt) -> Row
+    requires { IsOfRun option }
+    ensures { row_view result ≡ row option }
+{
+    match option {
         Opt::ProcessMax => any_place(
             "process-max",
             WITH_WORKERS,
@@ -240,7 +285,18 @@ pub fn row_for(option: Opt) -> Row
         ),
         Opt::Delta => any_place("delta", BACKUP_AND_RESTORE, Kind::Flag, Fallback::Is("n")),
         Opt::Online => any_place("online", WITH_SERVER, Kind::Flag, Fallback::Is("y")),
-        Opt::StartFast => any_place("start-fast", BACKUP, Kind::Flag, Fallback::Is("n")),
+        // StartFast, the one that is left.
+        _ => any_place("start-fast", BACKUP, Kind::Flag, Fallback::Is("n")),
+    }
+}
+
+// Of the archive, and the folders that it works in.
+#[tactic(auto, unfolding(crate::specs::Table::row))]
+fn archive_row(option: Opt) -> Row
+    requires { IsOfArchive option }
+    ensures { row_view result ≡ row option }
+{
+    match option {
         Opt::ArchiveTimeout => any_place(
             "archive-timeout",
             PUSH_AND_BACKUP,
@@ -271,12 +327,23 @@ pub fn row_for(option: Opt) -> Row
             Kind::Path,
             Fallback::Is("/var/spool/pgbackrest"),
         ),
-        Opt::LockPath => any_place(
+        // LockPath, the one that is left.
+        _ => any_place(
             "lock-path",
             WITH_LOCK,
             Kind::Path,
             Fallback::Is("/tmp/pgbackrest"),
         ),
+    }
+}
+
+// Of one command, and the configuration.
+#[tactic(auto, unfolding(crate::specs::Table::row))]
+fn command_row(option: Opt) -> Row
+    requires { IsOfCommand option }
+    ensures { row_view result ≡ row option }
+{
+    match option {
         Opt::Set => any_place("set", RESTORE, Kind::Text, Fallback::Unset),
         Opt::ExpireAuto => any_place("expire-auto", BACKUP, Kind::Flag, Fallback::Is("y")),
         Opt::Output => any_place(
@@ -291,7 +358,18 @@ pub fn row_for(option: Opt) -> Row
             Kind::Number { least: 1, most: 64 },
             Fallback::Required,
         ),
-        Opt::Config => words_alone("config", Kind::File, Fallback::Unset),
+        // Config, the one that is left.
+        _ => words_alone("config", Kind::File, Fallback::Unset),
+    }
+}
+
+// Of what is not looked at.
+#[tactic(auto, unfolding(crate::specs::Table::row))]
+fn ignored_row(option: Opt) -> Row
+    requires { IsIgnored option }
+    ensures { row_view result ≡ row option }
+{
+    match option {
         Opt::LogLevelConsole => ignored("log-level-console", Kind::Anything),
         Opt::LogLevelFile => ignored("log-level-file", Kind::Anything),
         Opt::LogLevelStderr => ignored("log-level-stderr", Kind::Anything),
@@ -303,6 +381,53 @@ pub fn row_for(option: Opt) -> Row
         Opt::DbTimeout => ignored("db-timeout", Kind::Anything),
         Opt::ProtocolTimeout => ignored("protocol-timeout", Kind::Anything),
         Opt::IoTimeout => ignored("io-timeout", Kind::Anything),
-        Opt::ArchiveModeCheck => ignored("archive-mode-check", Kind::Flag),
+        // ArchiveModeCheck, the one that is left.
+        _ => ignored("archive-mode-check", Kind::Flag),
+    }
+}
+
+/// The row of an option.
+#[tactic(auto)]
+pub fn row_for(option: Opt) -> Row
+    ensures { row_view result ≡ row option }
+{
+    match option {
+        Opt::Stanza
+        | Opt::Pg1Path
+        | Opt::Pg1Port
+        | Opt::Pg1SocketPath
+        | Opt::Pg1User
+        | Opt::Pg1Database => server_row(option),
+        Opt::Repo1Path | Opt::Repo1Type | Opt::Repo1CipherType | Opt::CompressType =>
+            repository_row(option),
+        Opt::Repo1RetentionFull
+        | Opt::Repo1RetentionDiff
+        | Opt::Repo1RetentionArchive
+        | Opt::Repo1RetentionArchiveType => retention_row(option),
+        Opt::Repo1Bundle | Opt::Repo1BundleSize | Opt::Repo1BundleLimit => bundle_row(option),
+        Opt::ProcessMax
+        | Opt::BackupType
+        | Opt::RestoreType
+        | Opt::Delta
+        | Opt::Online
+        | Opt::StartFast => run_row(option),
+        Opt::ArchiveTimeout
+        | Opt::ArchiveAsync
+        | Opt::ArchiveGetQueueMax
+        | Opt::SpoolPath
+        | Opt::LockPath => archive_row(option),
+        Opt::Set | Opt::ExpireAuto | Opt::Output | Opt::Number | Opt::Config => command_row(option),
+        Opt::LogLevelConsole
+        | Opt::LogLevelFile
+        | Opt::LogLevelStderr
+        | Opt::LogPath
+        | Opt::LogTimestamp
+        | Opt::BufferSize
+        | Opt::CompressLevel
+        | Opt::CompressLevelNetwork
+        | Opt::DbTimeout
+        | Opt::ProtocolTimeout
+        | Opt::IoTimeout
+        | Opt::ArchiveModeCheck => ignored_row(option),
     }
 }

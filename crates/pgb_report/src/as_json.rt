@@ -83,13 +83,23 @@ fn cluster_value(alloc: Global, c: &Cluster) -> Result<Value, NoMemory>
     ensures { IfOk result (λ v. view v ≡ cluster_data c.now) }
 {
     let version = decimal(alloc, u64::from(c.version))?;
-    Ok(json!(in alloc; {
-        "db-catalog-version": u64::from(c.catalog),
-        "db-control-version": u64::from(c.control),
-        "db-system-id": c.system,
-        "db-version": &version,
-        "id": u64::from(c.id)
-    })?)
+    let mut members = Map::new(alloc);
+    put(
+        &mut members,
+        alloc,
+        "db-catalog-version",
+        Value::from(u64::from(c.catalog)),
+    )?;
+    put(
+        &mut members,
+        alloc,
+        "db-control-version",
+        Value::from(u64::from(c.control)),
+    )?;
+    put(&mut members, alloc, "db-system-id", Value::from(c.system))?;
+    put(&mut members, alloc, "db-version", Value::String(version))?;
+    put(&mut members, alloc, "id", Value::from(u64::from(c.id)))?;
+    Ok(Value::Object(members))
 }
 
 fn clusters_value(alloc: Global, history: &[Cluster]) -> Result<Value, NoMemory>
