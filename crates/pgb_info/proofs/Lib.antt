@@ -32,3 +32,5 @@ pub mod ClusterKeys
 pub mod ListedKeys
 pub mod Halves
 pub mod BackupForms
+pub mod Onward
+pub mod Saved

@@ -8,7 +8,7 @@ use Rattle.pgb_outside.specs.Moments.{View, Rests, is_loose}
 use Rattle.pgb_outside.specs.Crash.{IsTemporary, Alike, Crash, NowGoes, Write, AllOf, FirstOf, SomeOf}
 use Rattle.pgb_outside.proofs.Crashes.{crash_as, crash_rests, crash_none, crash_untold, untold, somes_on, first_some, some_none, some_part}
 use Rattle.pgb_outside.proofs.Lasting.{still_tight}
-use Rattle.pgb_outside.proofs.Nows.{now_somes_on, now_untold}
+use Rattle.pgb_outside.proofs.Nows.{now_somes_on, now_untold, now_rests, now_as}
 use Rattle.pgb_model.specs.Text.{Text}
 use Rattle.pgb_model.specs.Names.{copy_of}
 use Rattle.pgb_model.specs.Create.{member_writes}
@@ -21,7 +21,13 @@ one name text = (name, text) ∷ []
 pub read_crash : (name text : Text) (a b : View) → Rests a b → b.now ≡ a.now → Crash (SomeOf (one name text)) a b
 read_crash name text a b rests now = crash_rests (SomeOf (one name text)) a b (some_none (one name text)) rests now
 
+pub read_now : (name text : Text) (a b : Option Content) → b ≡ a → NowGoes (SomeOf (one name text)) a b
+read_now name text a b now = now_rests (SomeOf (one name text)) a b (some_none (one name text)) now
+
 -- it was read, and then written
+pub written_now : (name text : Text) (a b c : Option Content) → b ≡ a → NowGoes (FirstOf (one name text)) b c → NowGoes (SomeOf (one name text)) a c
+written_now name text a b c now p = subst (λ (o : Option Content). NowGoes (SomeOf (one name text)) o c) now (now_as (FirstOf (one name text)) (SomeOf (one name text)) b c (first_some (one name text)) p)
+
 pub written_crash : (name text : Text) (a b c : View) → ¬ IsTemporary name → Rests a b → b.now ≡ a.now → (is_loose b name ≡ false → Crash (FirstOf (one name text)) b c) → is_loose a name ≡ false → Crash (SomeOf (one name text)) a c
 written_crash name text a b c lasts rests now written tight =
     let reading = crash_rests (SomeOf []) a b (some_none []) rests now in
@@ -75,6 +81,12 @@ first_crash name text a b p = crash_as (SomeOf (one name text)) (SomeOf (member_
 
 pub no_crash : (name text : Text) (a b : View) → Rests a b → b.now ≡ a.now → Crash (SomeOf (member_writes name text)) a b
 no_crash name text a b rests now = crash_rests (SomeOf (member_writes name text)) a b (some_none (member_writes name text)) rests now
+
+pub first_now : (name text : Text) (a b : Option Content) → NowGoes (SomeOf (one name text)) a b → NowGoes (SomeOf (member_writes name text)) a b
+first_now name text a b p = now_as (SomeOf (one name text)) (SomeOf (member_writes name text)) a b (some_part (one name text) (one (copy_of name) text)) p
+
+pub none_now : (name text : Text) (a : Option Content) → NowGoes (SomeOf (member_writes name text)) a a
+none_now name text a = now_rests (SomeOf (member_writes name text)) a a (some_none (member_writes name text)) refl
 
 pub no_writes : (name text : Text) (a : View) → Crash (SomeOf (member_writes name text)) a a
 no_writes name text a = crash_as (FirstOf (member_writes name text)) (SomeOf (member_writes name text)) a a (first_some (member_writes name text)) (crash_none (member_writes name text) a)

@@ -73,8 +73,7 @@ fn mend_both<D: Disk>(alloc: Global, d: &mut D, name: &str, text: &[u8]) -> Resu
     let copy = copy_name(alloc, name)?;
     let temporary = temporary_name(alloc, name)?;
     mend(alloc, d, temporary.as_str(), name, text)?;
-    mend(alloc, d, temporary.as_str(), copy.as_str(), text)?;
-    Ok(())
+    mend(alloc, d, temporary.as_str(), copy.as_str(), text)
 }
 
 /// Gives each member the text of the value, where it hasn't it, the main one first.

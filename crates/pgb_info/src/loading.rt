@@ -3,6 +3,7 @@ ghost use Rattle.std.specs.Prelude.{◌≡◌, ◌≤◌, IfOk, IfErr, IfSome, I
 ghost use Rattle.pgb_outside.specs.States.{Looks};
 ghost use Rattle.pgb_outside.specs.Moments.{Rests};
 ghost use Rattle.pgb_outside.specs.Cause.{Rises};
+ghost use Rattle.pgb_model.specs.Names.{copy_of};
 ghost use Rattle.pgb_model.specs.InfoFiles.{info_limit};
 ghost use Rattle.pgb_model.specs.Pair.{PairIs};
 ghost use Rattle.pgb_info.specs.Causes.{PairCause};
@@ -56,6 +57,22 @@ fn read_member<D: Disk, I: ReadInfo>(
     }
 }
 
+// The value of the copy of a member.
+fn read_copy<D: Disk, I: ReadInfo>(
+    alloc: Global,
+    d: &mut D,
+    name: &str,
+) -> Result<Result<I, MemberFault>, SaveFault>
+    ensures gives { IfOk result (λ r. IfSome (D.state d.old).view.now (λ f. MemberGives I.IsText I.IsForm I.value f (copy_of name.now) r)) }
+    ensures valid { IfOk result (λ r. IfOk r I.is_valid) }
+    ensures within { IfOk result (λ r. IfOk r (λ v. length (I.text (I.value v)) ≤ info_limit)) }
+    ensures looks { Looks (D.state d.old) (D.state d.new) }
+    ensures cause { IsErrOf result SaveFault.Disk → Rises (D.state d.old).faults (D.state d.new).faults }
+{
+    let copy = copy_name(alloc, name)?;
+    read_member(alloc, d, copy.as_str())
+}
+
 // The fault of a pair whose members have these.
 fn of_both(main: MemberFault, copy: MemberFault) -> InfoFault
     ensures { result ≡ of_both main copy }
@@ -74,14 +91,12 @@ pub fn load_pair<D: Disk, I: ReadInfo>(alloc: Global, d: &mut D, name: &str) -> 
     ensures looks { Looks (D.state d.old) (D.state d.new) }
     ensures cause { IfErr result (PairCause I.IsText I.IsForm name.now (D.state d.old).view.now (Rises (D.state d.old).faults (D.state d.new).faults)) }
 {
-    let copy_name = copy_name(alloc, name)?;
     let main = match read_member(alloc, d, name)? {
         Ok(value) => return Ok(value),
         Err(fault) => fault,
     };
-    let copy = match read_member(alloc, d, copy_name.as_str())? {
-        Ok(value) => return Ok(value),
-        Err(fault) => fault,
-    };
-    Err(of_both(main, copy))
+    match read_copy(alloc, d, name)? {
+        Ok(value) => Ok(value),
+        Err(copy) => Err(of_both(main, copy)),
+    }
 }
