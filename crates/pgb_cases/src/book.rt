@@ -19,6 +19,12 @@ impl Line {
     pub(crate) fn rest(&self) -> &str {
         cut_word(&self.text).1
     }
+
+    // Adds a line to the text.
+    fn add(&mut self, told: &str) -> Result<(), AllocError> {
+        self.told.push_str(told)?;
+        self.told.push('\n')
+    }
 }
 
 /// The first word of a text, and what stands behind the blank after it.
@@ -84,16 +90,13 @@ fn add_line(
 }
 
 fn add_told(sections: &mut Vec<Section>, told: &str) -> Result<(), AllocError> {
-    let Some(section) = sections.last_mut() else {
-        return Ok(());
-    };
-    let line = match section.lines.last_mut() {
-        Some(line) => line,
-        None => &mut section.head,
-    };
-    line.told.push_str(told)?;
-    line.told.push('\n')?;
-    Ok(())
+    match sections.last_mut() {
+        Some(section) => match section.lines.last_mut() {
+            Some(line) => line.add(told),
+            None => section.head.add(told),
+        },
+        None => Ok(()),
+    }
 }
 
 /// What the files said so far: short names of texts, states and long texts, and the lines that begin and end each case of a file.

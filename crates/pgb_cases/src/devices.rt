@@ -47,6 +47,27 @@ impl Around {
         }
         Ok(others)
     }
+
+    fn wire(&self, alloc: Global) -> Result<MemWire, AllocError> {
+        let bytes = self.server.clone()?;
+        let cuts = self.cuts.clone()?;
+        let fails = self.numbers(alloc, "server")?;
+        Ok(MemWire::new(alloc, bytes, cuts, fails))
+    }
+
+    fn source(&self, alloc: Global) -> Result<MemSource, AllocError> {
+        let file = match &self.config {
+            Some(bytes) => Some(bytes.clone()?),
+            None => None,
+        };
+        let fails = self.numbers(alloc, "config")?;
+        Ok(MemSource::new(alloc, file, fails))
+    }
+
+    fn output(&self, alloc: Global) -> Result<Output, AllocError> {
+        let fails = self.numbers(alloc, "out")?;
+        Ok(Output::new(alloc, fails, self.width))
+    }
 }
 
 /// The status of a command, and the devices that it left beside the repository and the data folder.
@@ -110,25 +131,42 @@ fn mem_node(alloc: Global, node: &Node) -> Result<MemNode, AllocError> {
     }
 }
 
-/// Runs the program with these words.
+/// What a command finds, ready for it: the locks' device is made of the names and numbers only as it runs, so that it is seen
+/// there that none is taken.
+#[derive(Drop)]
+pub(crate) struct Ready {
+    server: MemWire,
+    others: Vec<String>,
+    failing: Vec<u64>,
+    config: MemSource,
+    out: Output,
+}
+
+pub(crate) fn prepare(alloc: Global, around: &Around) -> Result<Ready, AllocError> {
+    Ok(Ready {
+        server: around.wire(alloc)?,
+        others: around.others(alloc)?,
+        failing: around.numbers(alloc, "locks")?,
+        config: around.source(alloc)?,
+        out: around.output(alloc)?,
+    })
+}
+
+/// Runs the program with these words on devices that are ready.
 pub(crate) fn run_on(
     alloc: Global,
     words: &[String],
-    around: &Around,
+    ready: Ready,
     repo: MemDisk,
     pg: MemTree,
-) -> Result<(Ran, MemDisk, MemTree), AllocError> {
-    let file = match &around.config {
-        Some(bytes) => Some(bytes.clone()?),
-        None => None,
-    };
-    let server = MemWire::new(
-        alloc,
-        around.server.clone()?,
-        around.cuts.clone()?,
-        around.numbers(alloc, "server")?,
-    );
-    let others = around.others(alloc)?;
+) -> (Ran, MemDisk, MemTree) {
+    let Ready {
+        server,
+        others,
+        failing,
+        config,
+        out,
+    } = ready;
     let mut outside = Outside {
         repo,
         spool: NotThere::new(),
@@ -136,9 +174,9 @@ pub(crate) fn run_on(
         server,
         aside: NotThere::new(),
         clock: NotThere::new(),
-        locks: MemLocks::new(alloc, others, around.numbers(alloc, "locks")?),
-        config: MemSource::new(alloc, file, around.numbers(alloc, "config")?),
-        out: Output::new(alloc, around.numbers(alloc, "out")?, around.width),
+        locks: MemLocks::new(alloc, others, failing),
+        config,
+        out,
     };
     let mut links: Vec<Box<dyn Link>> = Vec::new(alloc);
     let status = run(alloc, words, &mut outside, &mut links, &mut First);
@@ -149,5 +187,5 @@ pub(crate) fn run_on(
         config: outside.config,
         out: outside.out,
     };
-    Ok((ran, outside.repo, outside.tree))
+    (ran, outside.repo, outside.tree)
 }

@@ -1,7 +1,7 @@
 // What stops leave of the repository.
 use crate::book::{Book, Section};
 use crate::case::{Part, lines_of};
-use crate::looping::{begun, play_part, trial_of};
+use crate::looping::{begin, play_part, trial_of};
 use crate::steps::words_in;
 use crate::word::Word;
 use crate::world::World;
@@ -26,20 +26,49 @@ pub(crate) fn play_stops(
     case: &Section,
     quarters: bool,
 ) -> Result<String, AllocError> {
-    let mut world = begun(alloc, book, case)?;
-    let trial = trial_of(alloc, book, case)?;
-    world.start(&trial.words)?;
-    world.verify(&trial.words, &trial.told)?;
-    let Some(repo) = &world.repo else {
-        return Ok(world.wrong);
+    let mut world = World::new(alloc);
+    stops_in(book, &mut world, case, quarters)
+}
+
+fn stops_in(
+    book: &Book,
+    world: &mut World,
+    case: &Section,
+    quarters: bool,
+) -> Result<String, AllocError> {
+    try_once(book, world, case)?;
+    let wrong = match &world.repo {
+        Some(repo) => stops_of(world.alloc, book, case, repo, quarters)?,
+        None => String::new(world.alloc),
     };
+    if wrong.is_empty() {
+        return Ok(world.take_wrong());
+    }
+    Ok(wrong)
+}
+
+fn try_once(book: &Book, world: &mut World, case: &Section) -> Result<(), AllocError> {
+    begin(book, world, case)?;
+    let trial = trial_of(world.alloc, book, case)?;
+    world.start(&trial.words)?;
+    world.verify(&trial.words, &trial.told)
+}
+
+// What is wrong first, at these moments of what the command did to the repository.
+fn stops_of(
+    alloc: Global,
+    book: &Book,
+    case: &Section,
+    repo: &MemDisk,
+    quarters: bool,
+) -> Result<String, AllocError> {
     for moment in moments(alloc, repo.moment(), quarters)? {
         let wrong = play_images(alloc, book, case, repo, moment)?;
         if !wrong.is_empty() {
             return format!(in alloc; "stopped at {moment}: {wrong}");
         }
     }
-    Ok(world.wrong)
+    Ok(String::new(alloc))
 }
 
 fn moments(alloc: Global, last: u64, quarters: bool) -> Result<Vec<u64>, AllocError> {
@@ -70,20 +99,46 @@ pub(crate) fn play_images(
     };
     let names = words_in(book, alloc, first)?;
     for image in IMAGES {
-        let Some(left) = left_of(alloc, repo, moment, *image, &names)? else {
-            continue;
-        };
-        let mut world = begun(alloc, book, case)?;
-        world.repo = Some(left);
-        world.make()?;
-        world.open = true;
-        play_part(book, &mut world, case, Part::Left)?;
-        world.check()?;
-        if !world.wrong.is_empty() {
-            return Ok(world.wrong);
+        let left = left_of(alloc, repo, moment, *image, &names)?;
+        let wrong = play_image(alloc, book, case, left)?;
+        if !wrong.is_empty() {
+            return Ok(wrong);
         }
     }
     Ok(String::new(alloc))
+}
+
+// What is wrong where the program goes on with that repository; nothing where there is none.
+fn play_image(
+    alloc: Global,
+    book: &Book,
+    case: &Section,
+    left: Option<MemDisk>,
+) -> Result<String, AllocError> {
+    if left.is_none() {
+        return Ok(String::new(alloc));
+    }
+    let mut world = World::new(alloc);
+    image_in(book, &mut world, case, left)
+}
+
+fn image_in(
+    book: &Book,
+    world: &mut World,
+    case: &Section,
+    left: Option<MemDisk>,
+) -> Result<String, AllocError> {
+    begin(book, world, case)?;
+    world.repo = left;
+    go_on(book, world, case)
+}
+
+fn go_on(book: &Book, world: &mut World, case: &Section) -> Result<String, AllocError> {
+    world.make()?;
+    world.open = true;
+    play_part(book, world, case, Part::Left)?;
+    world.check()?;
+    Ok(world.take_wrong())
 }
 
 // A new disk that holds what a stop at the moment leaves; none where no name is loose and other bytes are asked for.

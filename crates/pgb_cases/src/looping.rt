@@ -46,19 +46,23 @@ pub(crate) fn play_part(
     Ok(())
 }
 
-/// The devices as the case begins.
-pub(crate) fn begun(alloc: Global, book: &Book, case: &Section) -> Result<World, AllocError> {
-    let mut world = World::new(alloc);
-    play_lines(book, &mut world, &book.before)?;
-    play_part(book, &mut world, case, Part::Setup)?;
-    Ok(world)
+/// Has the new world as the case begins.
+pub(crate) fn begin(book: &Book, world: &mut World, case: &Section) -> Result<(), AllocError> {
+    play_lines(book, world, &book.before)?;
+    play_part(book, world, case, Part::Setup)
 }
 
 fn play_once(alloc: Global, book: &Book, case: &Section) -> Result<String, AllocError> {
-    let mut world = begun(alloc, book, case)?;
-    play_lines(book, &mut world, &book.after)?;
+    let mut world = World::new(alloc);
+    once_in(book, &mut world, case)
+}
+
+// (A world is played in by a function that borrows it, since each way out of the one that owns it drops all of it.)
+fn once_in(book: &Book, world: &mut World, case: &Section) -> Result<String, AllocError> {
+    begin(book, world, case)?;
+    play_lines(book, world, &book.after)?;
     world.check()?;
-    Ok(world.wrong)
+    Ok(world.take_wrong())
 }
 
 /// The command that is tried in a loop: its status and words, and what it writes.

@@ -40,24 +40,37 @@ fn main(rt: HostRuntime) -> ExitCode {
 fn play_files(rt: &HostRuntime) -> io::Result<Counts> {
     let mut book = Book::new(rt.alloc());
     let mut counts = Counts { cases: 0, wrong: 0 };
-    for name in env::args(rt)?.skip(1) {
-        let text = fs::read_to_string(rt, name.as_str())?;
-        play_file(rt, &mut book, &text, &mut counts)?;
-    }
+    play_named(rt, &mut book, &mut counts)?;
     println!(rt; "{} cases, {} wrong", counts.cases, counts.wrong)?;
     Ok(counts)
+}
+
+fn play_named(rt: &HostRuntime, book: &mut Book, counts: &mut Counts) -> io::Result<()> {
+    for name in env::args(rt)?.skip(1) {
+        let text = fs::read_to_string(rt, name.as_str())?;
+        play_file(rt, book, &text, counts)?;
+    }
+    Ok(())
 }
 
 fn play_file(rt: &HostRuntime, book: &mut Book, text: &str, counts: &mut Counts) -> io::Result<()> {
     book.start_file();
     for section in sections_of(rt.alloc(), text)? {
-        if section.verb() == "case" {
-            play_case(rt, book, &section, counts)?;
-        } else {
-            book.add(section)?;
-        }
+        play_section(rt, book, section, counts)?;
     }
     Ok(())
+}
+
+fn play_section(
+    rt: &HostRuntime,
+    book: &mut Book,
+    section: Section,
+    counts: &mut Counts,
+) -> io::Result<()> {
+    if section.verb() == "case" {
+        return play_case(rt, book, &section, counts);
+    }
+    Ok(book.add(section)?)
 }
 
 fn play_case(

@@ -2,7 +2,7 @@
 use crate::book::{Book, Section};
 use crate::case::{Part, lines_of};
 use crate::images::play_images;
-use crate::looping::{begun, play_part, trial_of};
+use crate::looping::{Trial, begin, play_part, trial_of};
 use crate::steps::words_in;
 use crate::tally::Tally;
 use crate::word::Word;
@@ -24,44 +24,87 @@ pub(crate) fn play_calls(
     };
     for turn in 0..TURNS {
         book.name("N", format!(in alloc; "{turn}")?)?;
-        let (went, world) = play_turn(alloc, book, case, each, turn)?;
-        if !world.wrong.is_empty() {
-            return format!(in alloc; "in turn {turn}: {}", world.wrong);
+        let done = play_turn(alloc, book, case, each, turn)?;
+        if !done.wrong.is_empty() {
+            return format!(in alloc; "in turn {turn}: {}", done.wrong);
         }
-        if went {
+        if done.went {
             return end(alloc, book, case, &tally);
         }
-        tally.noted.push(world.noted)?;
+        tally.noted.push(done.noted)?;
     }
     String::from_str(alloc, "turns without end")
 }
 
-// A turn, and whether no call failed in it.
+// Whether no call failed in a turn, what was noted in it, and what was wrong.
+#[derive(Drop)]
+struct Done {
+    went: bool,
+    noted: u64,
+    wrong: String,
+}
+
 fn play_turn(
     alloc: Global,
     book: &Book,
     case: &Section,
     each: &[Word],
     turn: u64,
-) -> Result<(bool, World), AllocError> {
-    let mut world = begun(alloc, book, case)?;
+) -> Result<Done, AllocError> {
+    let mut world = World::new(alloc);
+    turn_in(book, &mut world, case, each, turn)
+}
+
+fn turn_in(
+    book: &Book,
+    world: &mut World,
+    case: &Section,
+    each: &[Word],
+    turn: u64,
+) -> Result<Done, AllocError> {
+    let trial = trial_of(world.alloc, book, case)?;
+    begin(book, world, case)?;
+    let went = try_turn(world, each, turn, &trial.words)?;
+    play_rest(book, world, case, &trial, went)?;
+    Ok(Done {
+        went,
+        noted: world.noted,
+        wrong: world.take_wrong(),
+    })
+}
+
+// Has the device fail, and runs the command. Whether no call failed.
+fn try_turn(
+    world: &mut World,
+    each: &[Word],
+    turn: u64,
+    words: &[Word],
+) -> Result<bool, AllocError> {
     let (kind, device) = match each {
         [_, kind, device, ..] => (kind.bare(), device.bare()),
         _ => ("", ""),
     };
-    let went = arm(&mut world, kind, device, turn)?;
-    let trial = trial_of(alloc, book, case)?;
-    world.start(&trial.words)?;
-    let went = went || kind != "cut" && faults(&world, device) == 0;
+    let whole = arm(world, kind, device, turn)?;
+    world.start(words)?;
+    Ok(whole || kind != "cut" && faults(world, device) == 0)
+}
+
+// What is done behind the command.
+fn play_rest(
+    book: &Book,
+    world: &mut World,
+    case: &Section,
+    trial: &Trial,
+    went: bool,
+) -> Result<(), AllocError> {
     if went {
-        play_part(book, &mut world, case, Part::Well)?;
+        play_part(book, world, case, Part::Well)?;
     } else {
         world.verify(&trial.words, &trial.told)?;
-        play_part(book, &mut world, case, Part::Body)?;
-        play_left(alloc, book, &mut world, case)?;
+        play_part(book, world, case, Part::Body)?;
+        play_left(world.alloc, book, world, case)?;
     }
-    world.check()?;
-    Ok((went, world))
+    world.check()
 }
 
 // Has the device fail in this turn. Whether it is known that it won't, as the server then gives all its bytes.

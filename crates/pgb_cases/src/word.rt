@@ -1,4 +1,6 @@
 // The words of a line.
+ghost use Rattle.std.specs.Prelude.{◌<◌};
+
 use std::alloc::{AllocError, Global};
 
 /// A bare word, or the bytes that stand between quotes.

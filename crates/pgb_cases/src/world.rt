@@ -1,9 +1,10 @@
 // The devices of a case, and what they are to hold.
-use crate::devices::{Around, Fail, Ran, pg_of, repo_of, run_on};
+use crate::devices::{Around, Fail, Ran, pg_of, prepare, repo_of, run_on};
 use crate::node::{Node, Placed};
 use pgb_memory::{MemDisk, MemTree};
 use std::alloc::{AllocError, Global};
 use std::collections::BTreeMap;
+use std::mem::replace;
 
 /// What is to stand at a path; where it only may, nothing is well too.
 #[derive(Drop)]
@@ -64,6 +65,11 @@ impl World {
         Ok(())
     }
 
+    /// Gives what was found wrong first, and forgets it.
+    pub(crate) fn take_wrong(&mut self) -> String {
+        replace(&mut self.wrong, String::new(self.alloc))
+    }
+
     /// Wants this.
     pub(crate) fn want(&mut self, all: Vec<Placed>) -> Result<(), AllocError> {
         for Placed { path, node } in all {
@@ -103,10 +109,11 @@ impl World {
     /// Runs the program with these words. No call of the next command is to fail.
     pub(crate) fn go(&mut self, words: Vec<String>) -> Result<(), AllocError> {
         self.make()?;
+        let ready = prepare(self.alloc, &self.around)?;
         let (Some(repo), Some(pg)) = (self.repo.take(), self.pg.take()) else {
             return self.tell("a folder of the data folder is missing");
         };
-        let (ran, repo, pg) = run_on(self.alloc, &words, &self.around, repo, pg)?;
+        let (ran, repo, pg) = run_on(self.alloc, &words, ready, repo, pg);
         self.repo = Some(repo);
         self.pg = Some(pg);
         self.ran = Some(ran);
