@@ -58,9 +58,10 @@ above/lock 700
 above/lock/$of_push 600
 above/lock/$of_stanza 600" ] || complain "the locks have the modes $modes"
 
-# A lock that another process holds; the other command's is free.
+# A lock that another process holds. A stanza-create takes both, a push its own alone.
 beside_holder "$of_push" archive-push "$(segment 17)"
 beside_holder "$of_stanza" --no-online stanza-create
+beside_holder "$of_push" --no-online stanza-create
 {
     flock 9
     want 0 '' archive-push "$(segment 17)" 9>&-

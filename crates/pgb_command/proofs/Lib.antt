@@ -29,5 +29,6 @@ mod Names
 mod Asked
 mod Doings
 mod Requests
+mod TakenLocks
 mod Configured
 mod Served

@@ -15,26 +15,23 @@ use Rattle.pgb_options.specs.declared.options.OutputWord.{OutputWord}
 use Rattle.pgb_command.specs.Asked.{Request, create, push, get, report, Asked}
 use Rattle.pgb_command.specs.Doing.{ServesFor, MissesFor, ServedBy, OpensFolder, IsFolderOpened, OpensPlaces, OnReading}
 use Rattle.pgb_command.specs.Getting.{FolderGoes}
-use Rattle.pgb_command.specs.Locking.{lock_name, Locks, TakesLock, OnlyLocked, OnlyUnderLock}
-use Rattle.pgb_command.specs.Told.{writing_of, request_of, writing_lock}
-
-abbrev Taken : Type 0
-Taken = Option (List (Text × Text))
+use Rattle.pgb_command.specs.Locking.{first_lock, second_lock, Took, Locks, TakesLocks, OnlyLocked, OnlyUnderLocks}
+use Rattle.pgb_command.specs.Told.{writing_of, request_of, writing_first, writing_second}
 
 module _ (stanza folder : Text) where
-  takes : (w : Writing) (old new : Taken) → Locks folder (writing_lock stanza w) old new → TakesLock folder (lock_name stanza (writing_of w)) old new
+  takes : (w : Writing) (old new : Took) → Locks folder (writing_first stanza w) (writing_second stanza w) old new → TakesLocks folder (first_lock stanza (writing_of w)) (second_lock stanza (writing_of w)) old new
   takes StanzaCreate old new h = h
   takes (ArchivePush path) old new h = h
 
-  only : (w : Writing) (old new : Taken) (a b : View) → OnlyLocked folder (writing_lock stanza w) old new a b → OnlyUnderLock folder (lock_name stanza (writing_of w)) old new a b
+  only : (w : Writing) (old new : Took) (a b : View) → OnlyLocked folder (writing_first stanza w) (writing_second stanza w) old new a b → OnlyUnderLocks folder (first_lock stanza (writing_of w)) (second_lock stanza (writing_of w)) old new a b
   only StanzaCreate old new a b h = h
   only (ArchivePush path) old new a b h = h
 
-  pub takes_asked : (q : Asking) (w : Writing) (old new : Taken) → q ≡ Write w → Locks folder (writing_lock stanza w) old new → TakesLock folder (lock_name stanza (request_of q)) old new
-  takes_asked q w old new is h = subst (λ (x : Asking). TakesLock folder (lock_name stanza (request_of x)) old new) (sym is) (takes w old new h)
+  pub takes_asked : (q : Asking) (w : Writing) (old new : Took) → q ≡ Write w → Locks folder (writing_first stanza w) (writing_second stanza w) old new → TakesLocks folder (first_lock stanza (request_of q)) (second_lock stanza (request_of q)) old new
+  takes_asked q w old new is h = subst (λ (x : Asking). TakesLocks folder (first_lock stanza (request_of x)) (second_lock stanza (request_of x)) old new) (sym is) (takes w old new h)
 
-  pub only_asked : (q : Asking) (w : Writing) (old new : Taken) (a b : View) → q ≡ Write w → OnlyLocked folder (writing_lock stanza w) old new a b → OnlyUnderLock folder (lock_name stanza (request_of q)) old new a b
-  only_asked q w old new a b is h = subst (λ (x : Asking). OnlyUnderLock folder (lock_name stanza (request_of x)) old new a b) (sym is) (only w old new a b h)
+  pub only_asked : (q : Asking) (w : Writing) (old new : Took) (a b : View) → q ≡ Write w → OnlyLocked folder (writing_first stanza w) (writing_second stanza w) old new a b → OnlyUnderLocks folder (first_lock stanza (request_of q)) (second_lock stanza (request_of q)) old new a b
+  only_asked q w old new a b is h = subst (λ (x : Asking). OnlyUnderLocks folder (first_lock stanza (request_of x)) (second_lock stanza (request_of x)) old new a b) (sym is) (only w old new a b h)
 
 still : (stanza folder : Text) (w : Writing) (repo : Option Content) (old new : Option Nodes) → new ≡ old → FolderGoes stanza folder (writing_of w) repo old new
 still stanza folder StanzaCreate repo old new h = h

@@ -197,8 +197,8 @@ push_err stanza folder path wal named place lies nodes seen same there repo mid 
 -- ---- of a push, with the openings before
 
 module _ (stanza folder path : Text) (wal : ArchiveName) (named : IsWalPath folder path wal) where
-  opened : (name : Text) → name ≡ archive_lock stanza → (repo : Option Content) (nodes : Option Nodes) (d t l h : Type 0) (e : Fault) → OpeningCause name d t l h e → StoreCause stanza folder path repo nodes d t l h e
-  opened name is repo nodes d t l h (faults.Held word) cause = (cause.0 ∙ is, cause.1)
+  opened : (name : Text → Type 0) → ((word : Text) → name word → word ≡ archive_lock stanza) → (repo : Option Content) (nodes : Option Nodes) (d t l h : Type 0) (e : Fault) → OpeningCause name d t l h e → StoreCause stanza folder path repo nodes d t l h e
+  opened name is repo nodes d t l h (faults.Held word) cause = (is (string_bytes word) cause.0, cause.1)
   opened name is repo nodes d t l h faults.Disk cause = cause
   opened name is repo nodes d t l h faults.Tree cause = cause
   opened name is repo nodes d t l h faults.Locks cause = cause
@@ -231,7 +231,7 @@ module _ (stanza folder path : Text) (wal : ArchiveName) (named : IsWalPath fold
   opened name is repo nodes d t l h faults.Source cause = absurd cause
   opened name is repo nodes d t l h faults.Sink cause = absurd cause
 
-  pub opening_err : (name : Text) → name ≡ archive_lock stanza → (repo : Option Content) (nodes : Option Nodes) (d t l h : Type 0) {T : Type 0} (result : Result T Fault) (e : Fault) → IsErrAnd result (λ f. f ≡ e) → OpeningCause name d t l h e → IfErr result (PushFileCause stanza folder path repo nodes d t l h)
+  pub opening_err : (name : Text → Type 0) → ((word : Text) → name word → word ≡ archive_lock stanza) → (repo : Option Content) (nodes : Option Nodes) (d t l h : Type 0) {T : Type 0} (result : Result T Fault) (e : Fault) → IsErrAnd result (λ f. f ≡ e) → OpeningCause name d t l h e → IfErr result (PushFileCause stanza folder path repo nodes d t l h)
   opening_err name is repo nodes d t l h (Ok x) e same cause = tt
   opening_err name is repo nodes d t l h (Err f) e same cause = subst (PushFileCause stanza folder path repo nodes d t l h) (sym same) (inr ((wal, named), opened name is repo nodes d t l h e cause))
 

@@ -46,7 +46,7 @@ CreateCause stanza repo nodes disk_rose tree_rose lock_rose held (InfoDamaged na
 CreateCause stanza repo nodes disk_rose tree_rose lock_rose held (HistoryDiffers at) = OnTold stanza repo nodes (HistoryDiffers at)
 CreateCause stanza repo nodes disk_rose tree_rose lock_rose held (StanzaMismatch kept found) = OnTold stanza repo nodes (StanzaMismatch kept found)
 CreateCause stanza repo nodes disk_rose tree_rose lock_rose held (ArchiveLost label) = OnTold stanza repo nodes (ArchiveLost label)
-CreateCause stanza repo nodes disk_rose tree_rose lock_rose held (Held name) = (string_bytes name ≡ backup_lock stanza) × held
+CreateCause stanza repo nodes disk_rose tree_rose lock_rose held (Held name) = ((string_bytes name ≡ backup_lock stanza) ⊎ (string_bytes name ≡ archive_lock stanza)) × held
 CreateCause stanza repo nodes disk_rose tree_rose lock_rose held Disk = disk_rose
 CreateCause stanza repo nodes disk_rose tree_rose lock_rose held Locks = lock_rose
 CreateCause stanza repo nodes disk_rose tree_rose lock_rose held other = ClusterCause nodes tree_rose other

@@ -40,9 +40,9 @@ FolderCause rose Tree = rose
 FolderCause rose NoMemory = Unit {0}
 FolderCause rose other = ⊥
 
--- a device failed, or memory did, or the lock of this name was held
-abbrev pub OpeningCause : Text → Type 0 → Type 0 → Type 0 → Type 0 → Fault → Type 0
-OpeningCause name disk_rose tree_rose lock_rose held (Held word) = (string_bytes word ≡ name) × held
+-- a device failed, or memory did, or a lock of such a name was held
+abbrev pub OpeningCause : (Text → Type 0) → Type 0 → Type 0 → Type 0 → Type 0 → Fault → Type 0
+OpeningCause name disk_rose tree_rose lock_rose held (Held word) = name (string_bytes word) × held
 OpeningCause name disk_rose tree_rose lock_rose held Disk = disk_rose
 OpeningCause name disk_rose tree_rose lock_rose held Tree = tree_rose
 OpeningCause name disk_rose tree_rose lock_rose held Locks = lock_rose

@@ -1,5 +1,5 @@
 -- What the code's settings stand for.
-use Rattle.std.specs.Prelude.{option_map}
+use Rattle.std.specs.Prelude.{Option, Some, None, option_map}
 use Rattle.pgb_command.specs.declared.settings.Settings.{Settings}
 use Rattle.pgb_command.specs.declared.server.Server as code
 use Rattle.pgb_command.specs.Talking.{Server}
@@ -15,10 +15,14 @@ abbrev pub writing_of : Writing → Request
 writing_of StanzaCreate = create
 writing_of (ArchivePush path) = push path.now
 
--- the name of a writing command's lock
-abbrev pub writing_lock : Text → Writing → Text
-writing_lock stanza StanzaCreate = backup_lock stanza
-writing_lock stanza (ArchivePush path) = archive_lock stanza
+-- the names of a writing command's locks
+abbrev pub writing_first : Text → Writing → Text
+writing_first stanza StanzaCreate = backup_lock stanza
+writing_first stanza (ArchivePush path) = archive_lock stanza
+
+abbrev pub writing_second : Text → Writing → Option Text
+writing_second stanza StanzaCreate = Some (archive_lock stanza)
+writing_second stanza (ArchivePush path) = None
 
 abbrev pub request_of : Asking → Request
 request_of (Write writing) = writing_of writing

@@ -1,5 +1,5 @@
 // archive-push.
-ghost use Rattle.std.specs.Prelude.{◌≡◌, ◌≤◌, true, false, OnOk, IfOk, IfErr, IfSome, IsSome, IsSomeAnd, string_bytes, Contains};
+ghost use Rattle.std.specs.Prelude.{◌≡◌, ◌≤◌, true, false, OnOk, IfOk, IfErr, IfSome, IsSome, IsSomeAnd, string_bytes, [], None};
 ghost use Rattle.pgb_outside.specs.States.{Frame, LooksAt, Opens};
 ghost use Rattle.pgb_outside.specs.Cause.{Rises};
 ghost use Rattle.pgb_model.specs.Names.{wal_text};
@@ -9,7 +9,7 @@ ghost use Rattle.pgb_model.specs.Steady.{CarriesOn, PassesOnly};
 ghost use Rattle.pgb_archive.specs.Causes.{limit_of};
 ghost use Rattle.pgb_command.specs.Answers.{finished, OnEarly};
 ghost use Rattle.pgb_command.specs.Causes.{IsStored, StoreCause, PushFileCause};
-ghost use Rattle.pgb_command.specs.Locking.{archive_lock, Locks as IsLocked, OnlyLocked, MayHold};
+ghost use Rattle.pgb_command.specs.Locking.{archive_lock, Locks as AreLocked, OnlyLocked, MayHold, first_name, second_name, HasNames};
 ghost use Rattle.pgb_command.specs.Commands.{IsPushOf, Goes, Ends};
 ghost use Rattle.pgb_command.specs.Outcomes.{outcome_ending, OnFinished, pushed_lines};
 ghost use Rattle.pgb_command.specs.Storing.{AgreesAtPair};
@@ -18,6 +18,7 @@ ghost use Rattle.pgb_command.specs.WalPath.{IsWalPath};
 use crate::cluster::read_cluster;
 use crate::current::current_id;
 use crate::fault::Fault;
+use crate::locking::LockNames;
 use crate::log_file::open_log_file;
 use crate::opening::prepare;
 use crate::outcome::Outcome;
@@ -99,10 +100,10 @@ pub(crate) fn push_file<D: Disk, T: Tree, K: Locks>(
     locks: &mut K,
     settings: &Settings,
     path: &str,
-    lock: &str,
+    names: &LockNames,
 ) -> Result<Outcome, Fault>
-    requires free { ¬ Contains (K.taken locks.old) lock.now }
-    requires name { lock.now ≡ archive_lock settings.now.stanza.now }
+    requires free { K.taken locks.old ≡ [] }
+    requires names { HasNames names.now (archive_lock settings.now.stanza.now) None }
     // At Ok all of the command's steps are done, and after every answer a part of them.
     ensures done { OnOk result ((command : Command) → IsSomeAnd (T.state tree.old).nodes (λ f. IsPushOf f settings.now.pg1_path.now path.now command)
         → NowDoes settings.now.stanza.now command true (D.state repo.old).view.now (D.state repo.new).view.now) }
@@ -124,9 +125,9 @@ pub(crate) fn push_file<D: Disk, T: Tree, K: Locks>(
     ensures cause { IfErr result (PushFileCause settings.now.stanza.now settings.now.pg1_path.now path.now (D.state repo.old).view.now (T.state tree.old).nodes (Rises (D.state repo.old).faults (D.state repo.new).faults) (Rises (T.state tree.old).faults (T.state tree.new).faults) (Rises (K.faults locks.old) (K.faults locks.new)) (Rises (K.refusals locks.old) (K.refusals locks.new))) }
     ensures opens_folder { Opens result settings.now.pg1_path.now (T.state tree.old).opened (T.state tree.new).opened }
     ensures opens_repository { Opens result settings.now.repo1_path.now (D.state repo.old).opened (D.state repo.new).opened }
-    ensures locked { OnOk result (IsLocked settings.now.lock_path.now lock.now (K.took locks.old) (K.took locks.new)) }
-    ensures only_locked { OnlyLocked settings.now.lock_path.now lock.now (K.took locks.old) (K.took locks.new) (D.state repo.old).view (D.state repo.new).view }
-    ensures holds { MayHold lock.now (K.taken locks.old) (K.taken locks.new) }
+    ensures locked { OnOk result (AreLocked settings.now.lock_path.now (first_name names.now) (second_name names.now) (K.took locks.old) (K.took locks.new)) }
+    ensures only_locked { OnlyLocked settings.now.lock_path.now (first_name names.now) (second_name names.now) (K.took locks.old) (K.took locks.new) (D.state repo.old).view (D.state repo.new).view }
+    ensures holds { MayHold (first_name names.now) (second_name names.now) (K.taken locks.new) }
     ensures locks_later { K.faults locks.old ≤ K.faults locks.new }
     ensures refusals_later { K.refusals locks.old ≤ K.refusals locks.new }
     ensures nodes { (T.state tree.new).nodes ≡ (T.state tree.old).nodes }
@@ -134,7 +135,7 @@ pub(crate) fn push_file<D: Disk, T: Tree, K: Locks>(
     ensures tree_later { (T.state tree.old).faults ≤ (T.state tree.new).faults }
 {
     let file = file_at(alloc, settings.pg1_path, path)?;
-    prepare(alloc, repo, tree, locks, settings, lock)?;
+    prepare(alloc, repo, tree, locks, settings, names)?;
     let outcome = store(alloc, repo, tree, settings, path, file)?;
     Ok(outcome)
 }

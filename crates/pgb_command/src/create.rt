@@ -1,5 +1,5 @@
 // stanza-create.
-ghost use Rattle.std.specs.Prelude.{◌≡◌, ◌≤◌, ◌⊎◌, true, false, None, Some, Option, option_map, OnOk, IfErr, IfSome, IsSome, IsSomeAnd, Contains};
+ghost use Rattle.std.specs.Prelude.{◌≡◌, ◌≤◌, ◌⊎◌, true, false, None, Some, Option, option_map, OnOk, IfErr, IfSome, IsSome, IsSomeAnd, []};
 ghost use Rattle.pgb_outside.specs.States.{Frame, Opens};
 ghost use Rattle.pgb_outside.specs.Moments.{Rests};
 ghost use Rattle.pgb_outside.specs.Cause.{Rises};
@@ -15,7 +15,7 @@ ghost use Rattle.pgb_command.specs.Causes.{CreateCause, IsMade};
 ghost use Rattle.pgb_command.specs.Talking.{Asks, Agrees, ServerCause, Parts};
 ghost use Rattle.pgb_command.specs.Told.{server_view};
 ghost use Rattle.pgb_command.specs.Answers.{OnEarly};
-ghost use Rattle.pgb_command.specs.Locking.{backup_lock, Locks as IsLocked, OnlyLocked, MayHold};
+ghost use Rattle.pgb_command.specs.Locking.{backup_lock, archive_lock, Locks as AreLocked, OnlyLocked, MayHold, first_name, second_name, HasNames};
 ghost use Rattle.pgb_command.specs.Making.{MakeCause, IsStanzaFault};
 ghost use Rattle.pgb_model.specs.InfoFiles.{IsLabel};
 ghost use Rattle.pgb_stanza.specs.Pairs.{LacksStanza, HasStanzaOf, PairsAgree};
@@ -23,6 +23,7 @@ ghost use Rattle.pgb_stanza.specs.Causes.{IfLost};
 
 use crate::cluster::read_cluster;
 use crate::fault::Fault;
+use crate::locking::LockNames;
 use crate::opening::prepare;
 use crate::settings::Settings;
 use crate::talking::check_server;
@@ -82,10 +83,10 @@ pub(crate) fn create_stanza<D: Disk, T: Tree, V: Wire, K: Locks>(
     server: &mut V,
     locks: &mut K,
     settings: &Settings,
-    lock: &str,
+    names: &LockNames,
 ) -> Result<(), Fault>
-    requires free { ¬ Contains (K.taken locks.old) lock.now }
-    requires name { lock.now ≡ backup_lock settings.now.stanza.now }
+    requires free { K.taken locks.old ≡ [] }
+    requires names { HasNames names.now (backup_lock settings.now.stanza.now) (Some (archive_lock settings.now.stanza.now)) }
     // At Ok all of the command's steps are done, and after every answer a part of them.
     ensures done { OnOk result ((cluster : Option Cluster) → IsSomeAnd (T.state tree.old).nodes (λ f. IsClusterOf f cluster)
         → NowDoes settings.now.stanza.now (StanzaCreate cluster) true (D.state repo.old).view.now (D.state repo.new).view.now) }
@@ -108,9 +109,9 @@ pub(crate) fn create_stanza<D: Disk, T: Tree, V: Wire, K: Locks>(
     ensures nodes { (T.state tree.new).nodes ≡ (T.state tree.old).nodes }
     ensures repo_later { (D.state repo.old).faults ≤ (D.state repo.new).faults }
     ensures tree_later { (T.state tree.old).faults ≤ (T.state tree.new).faults }
-    ensures locked { OnOk result (IsLocked settings.now.lock_path.now lock.now (K.took locks.old) (K.took locks.new)) }
-    ensures only_locked { OnlyLocked settings.now.lock_path.now lock.now (K.took locks.old) (K.took locks.new) (D.state repo.old).view (D.state repo.new).view }
-    ensures holds { MayHold lock.now (K.taken locks.old) (K.taken locks.new) }
+    ensures locked { OnOk result (AreLocked settings.now.lock_path.now (first_name names.now) (second_name names.now) (K.took locks.old) (K.took locks.new)) }
+    ensures only_locked { OnlyLocked settings.now.lock_path.now (first_name names.now) (second_name names.now) (K.took locks.old) (K.took locks.new) (D.state repo.old).view (D.state repo.new).view }
+    ensures holds { MayHold (first_name names.now) (second_name names.now) (K.taken locks.new) }
     ensures locks_later { K.faults locks.old ≤ K.faults locks.new }
     ensures refusals_later { K.refusals locks.old ≤ K.refusals locks.new }
     ensures refused { IfErr result (λ e. OnEarly e ((D.state repo.new).view.now ≡ (D.state repo.old).view.now)) }
@@ -123,7 +124,7 @@ pub(crate) fn create_stanza<D: Disk, T: Tree, V: Wire, K: Locks>(
     ensures cause { IfErr result (λ e. CreateCause settings.now.stanza.now (D.state repo.old).view.now (T.state tree.old).nodes (Rises (D.state repo.old).faults (D.state repo.new).faults) (Rises (T.state tree.old).faults (T.state tree.new).faults) (Rises (K.faults locks.old) (K.faults locks.new)) (Rises (K.refusals locks.old) (K.refusals locks.new)) e
         ⊎ ServerCause (option_map server_view settings.now.server) (T.state tree.old).nodes (V.pending server.old) (Rises (V.faults server.old) (V.faults server.new)) e) }
 {
-    prepare(alloc, repo, tree, locks, settings, lock)?;
+    prepare(alloc, repo, tree, locks, settings, names)?;
     let told = read_cluster(alloc, tree)?;
     check_server(alloc, server, settings.server, told.system)?;
     make(alloc, repo, settings.stanza, &told)?;

@@ -92,7 +92,7 @@ fn ends_under<D: Disk>(
 ) -> Result<Vec<Segment>, Fault>
     ensures ends { IfOk result (λ found. IfSome (D.state repo.old).view.now (λ f. AreEnds stanza.now id.now f found.items)) }
     ensures looks { Looks (D.state repo.old) (D.state repo.new) }
-    ensures cause { IfErr result (OpeningCause [] (Rises (D.state repo.old).faults (D.state repo.new).faults) ⊥ ⊥ ⊥) }
+    ensures cause { IfErr result (OpeningCause (λ _. ⊥) (Rises (D.state repo.old).faults (D.state repo.new).faults) ⊥ ⊥ ⊥) }
 {
     match ends(alloc, repo, stanza, id) {
         Ok(found) => Ok(found),
@@ -127,7 +127,7 @@ fn end_names<D: Disk>(
 ) -> Result<Vec<ArchivedName>, Fault>
     ensures ends { IfOk result (λ names. IfSome (D.state repo.old).view.now (λ f. HaveEnds stanza.now history.now f names.items)) }
     ensures looks { Looks (D.state repo.old) (D.state repo.new) }
-    ensures cause { IfErr result (OpeningCause [] (Rises (D.state repo.old).faults (D.state repo.new).faults) ⊥ ⊥ ⊥) }
+    ensures cause { IfErr result (OpeningCause (λ _. ⊥) (Rises (D.state repo.old).faults (D.state repo.new).faults) ⊥ ⊥ ⊥) }
 {
     let mut names = Vec::new(alloc);
     for cluster in history {

@@ -11,6 +11,7 @@ mod fault;
 mod finding;
 mod info;
 mod lines;
+mod locking;
 mod log_file;
 mod opening;
 mod outcome;

@@ -15,7 +15,7 @@ ghost use Rattle.pgb_command.specs.Commands.{IsCommandOf};
 ghost use Rattle.pgb_command.specs.Causes.{AskedCause, Cause};
 ghost use Rattle.pgb_command.specs.Doing.{AreHealed, PartDone, AllDone, NoneDone, ServedBy, OpensPlaces, ArePlacesOpened, OnReading};
 ghost use Rattle.pgb_archive.specs.Still.{IsStill};
-ghost use Rattle.pgb_command.specs.Locking.{lock_of, Locks as IsLocked, TakesLock, OnlyLocked, OnlyUnderLock, MayHold};
+ghost use Rattle.pgb_command.specs.Locking.{first_lock, second_lock, Locks as AreLocked, TakesLocks, OnlyLocked, OnlyUnderLocks, MayHold, first_name, second_name, HasNames};
 ghost use Rattle.pgb_command.specs.Outcomes.{ending_of, answer_of, OnNothing};
 ghost use Rattle.pgb_command.specs.Getting.{Serves, FolderGoes, ServesArchived, LacksArchived};
 ghost use Rattle.pgb_command.specs.Output.{Wrote};
@@ -24,7 +24,7 @@ ghost use Rattle.pgb_options.specs.declared.options.OutputWord.{OutputWord};
 ghost use Rattle.pgb_command.specs.Talking.{Asks as AsksServer, Agrees, Ended, Parts, IsServerRefusal};
 ghost use Rattle.pgb_command.specs.declared.settings.Asking.TheVariants.{Write};
 ghost use Rattle.pgb_stanza.specs.Pairs.{LacksStanza};
-ghost use Rattle.pgb_command.specs.Told.{request_of, asked_of, writing_lock};
+ghost use Rattle.pgb_command.specs.Told.{request_of, asked_of, writing_first, writing_second};
 
 use crate::archive_get::get_file;
 use crate::archive_push::push_file;
@@ -32,15 +32,16 @@ use crate::config::read_command;
 use crate::create::create_stanza;
 use crate::fault::Fault;
 use crate::info::report_stanza;
+use crate::locking::{LockNames, lock_names, release_locks};
 use crate::outcome::{Outcome, Served};
 use crate::output::answer;
 use crate::outside::Outside;
 use crate::settings::{Asking, Settings, Writing, settings_of};
 use pgb_archive::Aside;
 use pgb_outside::{Clock, Disk, Link, Locks, Sink, Source, Tree, Turns, Wire};
-use std::alloc::{AllocError, Global};
+use std::alloc::Global;
 
-// Does what a writing command asks for, under the lock of this name, which may be held afterwards.
+// Does what a writing command asks for, under the locks of these names, which may be held afterwards.
 fn perform<D: Disk, T: Tree, V: Wire, K: Locks>(
     alloc: Global,
     settings: &Settings,
@@ -49,10 +50,10 @@ fn perform<D: Disk, T: Tree, V: Wire, K: Locks>(
     tree: &mut T,
     server: &mut V,
     locks: &mut K,
-    lock: &str,
+    names: &LockNames,
 ) -> Result<Outcome, Fault>
-    requires free { ¬ Contains (K.taken locks.old) lock.now }
-    requires name { lock.now ≡ writing_lock settings.now.stanza.now writing }
+    requires free { K.taken locks.old ≡ [] }
+    requires names { HasNames names.now (writing_first settings.now.stanza.now writing) (writing_second settings.now.stanza.now writing) }
     requires asked { settings.now.request ≡ Write writing }
     ensures part { PartDone (asked_of settings.now) (T.state tree.old).nodes (D.state repo.old).view (D.state repo.new).view }
     ensures done { OnOk result (AllDone (asked_of settings.now) (T.state tree.old).nodes (D.state repo.old).view (D.state repo.new).view) }
@@ -61,9 +62,9 @@ fn perform<D: Disk, T: Tree, V: Wire, K: Locks>(
     ensures opens_folder { Opens result settings.now.pg1_path.now (T.state tree.old).opened (T.state tree.new).opened }
     ensures opens_repository { Opens result settings.now.repo1_path.now (D.state repo.old).opened (D.state repo.new).opened }
     ensures nodes { (T.state tree.new).nodes ≡ (T.state tree.old).nodes }
-    ensures locked { OnOk result (IsLocked settings.now.lock_path.now lock.now (K.took locks.old) (K.took locks.new)) }
-    ensures only_locked { OnlyLocked settings.now.lock_path.now lock.now (K.took locks.old) (K.took locks.new) (D.state repo.old).view (D.state repo.new).view }
-    ensures holds { MayHold lock.now (K.taken locks.old) (K.taken locks.new) }
+    ensures locked { OnOk result (AreLocked settings.now.lock_path.now (first_name names.now) (second_name names.now) (K.took locks.old) (K.took locks.new)) }
+    ensures only_locked { OnlyLocked settings.now.lock_path.now (first_name names.now) (second_name names.now) (K.took locks.old) (K.took locks.new) (D.state repo.old).view (D.state repo.new).view }
+    ensures holds { MayHold (first_name names.now) (second_name names.now) (K.taken locks.new) }
     ensures quiet { settings.now.server ≡ None → server.new ≡ server.old }
     ensures asks { OnOk result ((asked_of settings.now).request ≡ create → Agrees (asked_of settings.now).server (T.state tree.old).nodes (V.pending server.old) × AsksServer (asked_of settings.now).server (V.place server.new) (V.sent server.old) (V.sent server.new)) }
     ensures closed { IfErr result (λ e. Parts e (Rises (V.faults server.old) (V.faults server.new)) (V.sent server.old) (V.sent server.new)) }
@@ -74,26 +75,16 @@ fn perform<D: Disk, T: Tree, V: Wire, K: Locks>(
 {
     match writing {
         Writing::StanzaCreate => match create_stanza(
-            alloc, repo, tree, server, locks, settings, lock,
+            alloc, repo, tree, server, locks, settings, names,
         ) {
             Ok(()) => Ok(Outcome::Silent),
             Err(fault) => Err(fault),
         },
-        Writing::ArchivePush { path } => push_file(alloc, repo, tree, locks, settings, path, lock),
+        Writing::ArchivePush { path } => push_file(alloc, repo, tree, locks, settings, path, names),
     }
 }
 
-// The name of the lock of a writing command.
-fn lock_name(alloc: Global, stanza: &str, writing: Writing<'_>) -> Result<String, AllocError>
-    ensures { IfOk result (λ name. string_bytes name ≡ writing_lock stanza.now writing.entry) }
-{
-    match writing {
-        Writing::StanzaCreate => format!(in alloc; "{stanza}-backup.lock"),
-        Writing::ArchivePush { .. } => format!(in alloc; "{stanza}-archive.lock"),
-    }
-}
-
-// Does what a writing command asks for, under its lock, which is released afterwards.
+// Does what a writing command asks for, under its locks, which are released afterwards.
 fn write<D: Disk, T: Tree, V: Wire, K: Locks>(
     alloc: Global,
     settings: &Settings,
@@ -112,8 +103,8 @@ fn write<D: Disk, T: Tree, V: Wire, K: Locks>(
     ensures opens_folder { Opens result settings.now.pg1_path.now (T.state tree.old).opened (T.state tree.new).opened }
     ensures opens_repository { Opens result settings.now.repo1_path.now (D.state repo.old).opened (D.state repo.new).opened }
     ensures nodes { (T.state tree.new).nodes ≡ (T.state tree.old).nodes }
-    ensures locked { OnOk result (IsLocked settings.now.lock_path.now (writing_lock settings.now.stanza.now writing.entry) (K.took locks.old) (K.took locks.new)) }
-    ensures only_locked { OnlyLocked settings.now.lock_path.now (writing_lock settings.now.stanza.now writing.entry) (K.took locks.old) (K.took locks.new) (D.state repo.old).view (D.state repo.new).view }
+    ensures locked { OnOk result (AreLocked settings.now.lock_path.now (writing_first settings.now.stanza.now writing.entry) (writing_second settings.now.stanza.now writing.entry) (K.took locks.old) (K.took locks.new)) }
+    ensures only_locked { OnlyLocked settings.now.lock_path.now (writing_first settings.now.stanza.now writing.entry) (writing_second settings.now.stanza.now writing.entry) (K.took locks.old) (K.took locks.new) (D.state repo.old).view (D.state repo.new).view }
     ensures released { K.taken locks.new ≡ [] }
     ensures quiet { settings.now.server ≡ None → server.new ≡ server.old }
     ensures asks { OnOk result ((asked_of settings.now).request ≡ create → Agrees (asked_of settings.now).server (T.state tree.old).nodes (V.pending server.old) × AsksServer (asked_of settings.now).server (V.place server.new) (V.sent server.old) (V.sent server.new)) }
@@ -123,12 +114,12 @@ fn write<D: Disk, T: Tree, V: Wire, K: Locks>(
     ensures locks_later { K.faults locks.old ≤ K.faults locks.new }
     ensures refusals_later { K.refusals locks.old ≤ K.refusals locks.new }
 {
-    let lock = match lock_name(alloc, settings.stanza, writing) {
-        Ok(lock) => lock,
+    let names = match lock_names(alloc, settings.stanza, writing) {
+        Ok(names) => names,
         Err(_) => return Err(Fault::NoMemory),
     };
-    let done = perform(alloc, settings, writing, repo, tree, server, locks, &lock);
-    locks.release(&lock);
+    let done = perform(alloc, settings, writing, repo, tree, server, locks, &names);
+    release_locks(locks, &names);
     done
 }
 
@@ -153,8 +144,8 @@ fn carry<D: Disk, T: Tree, V: Wire, K: Locks>(
     ensures unused { (form : OutputWord) → request_of settings.now.request ≡ report form → (tree.new ≡ tree.old) × (locks.new ≡ locks.old) }
     ensures folder { FolderGoes settings.now.stanza.now settings.now.pg1_path.now (request_of settings.now.request) (D.state repo.old).view.now (T.state tree.old).nodes (T.state tree.new).nodes }
     ensures nodes { OnNothing result ((T.state tree.new).nodes ≡ (T.state tree.old).nodes) }
-    ensures locked { OnOk result (TakesLock settings.now.lock_path.now (lock_of (asked_of settings.now)) (K.took locks.old) (K.took locks.new)) }
-    ensures only_locked { OnlyUnderLock settings.now.lock_path.now (lock_of (asked_of settings.now)) (K.took locks.old) (K.took locks.new) (D.state repo.old).view (D.state repo.new).view }
+    ensures locked { OnOk result (TakesLocks settings.now.lock_path.now (first_lock (asked_of settings.now).stanza (asked_of settings.now).request) (second_lock (asked_of settings.now).stanza (asked_of settings.now).request) (K.took locks.old) (K.took locks.new)) }
+    ensures only_locked { OnlyUnderLocks settings.now.lock_path.now (first_lock (asked_of settings.now).stanza (asked_of settings.now).request) (second_lock (asked_of settings.now).stanza (asked_of settings.now).request) (K.took locks.old) (K.took locks.new) (D.state repo.old).view (D.state repo.new).view }
     ensures released { K.taken locks.new ≡ [] }
     ensures quiet { settings.now.server ≡ None → server.new ≡ server.old }
     ensures asks { OnOk result ((asked_of settings.now).request ≡ create → Agrees (asked_of settings.now).server (T.state tree.old).nodes (V.pending server.old) × AsksServer (asked_of settings.now).server (V.place server.new) (V.sent server.old) (V.sent server.new)) }
@@ -192,8 +183,8 @@ fn serve<D: Disk, T: Tree, V: Wire, K: Locks, I: Source>(
     ensures opened { OnOk result.ending ((a : Asked) → Asks (map string_bytes words.now) (I.files config.old) a → ArePlacesOpened a (T.state tree.old).opened (T.state tree.new).opened (D.state repo.old).opened (D.state repo.new).opened) }
     ensures reads { (a : Asked) → Asks (map string_bytes words.now) (I.files config.old) a → OnReading a.request (IsStill (D.state repo.old).view (D.state repo.new).view) }
     ensures unused { (a : Asked) → Asks (map string_bytes words.now) (I.files config.old) a → (form : OutputWord) → a.request ≡ report form → (tree.new ≡ tree.old) × (locks.new ≡ locks.old) }
-    ensures locked { OnOk result.ending ((a : Asked) → Asks (map string_bytes words.now) (I.files config.old) a → TakesLock a.lock_folder (lock_of a) (K.took locks.old) (K.took locks.new)) }
-    ensures only_locked { (a : Asked) → Asks (map string_bytes words.now) (I.files config.old) a → OnlyUnderLock a.lock_folder (lock_of a) (K.took locks.old) (K.took locks.new) (D.state repo.old).view (D.state repo.new).view }
+    ensures locked { OnOk result.ending ((a : Asked) → Asks (map string_bytes words.now) (I.files config.old) a → TakesLocks a.lock_folder (first_lock a.stanza a.request) (second_lock a.stanza a.request) (K.took locks.old) (K.took locks.new)) }
+    ensures only_locked { (a : Asked) → Asks (map string_bytes words.now) (I.files config.old) a → OnlyUnderLocks a.lock_folder (first_lock a.stanza a.request) (second_lock a.stanza a.request) (K.took locks.old) (K.took locks.new) (D.state repo.old).view (D.state repo.new).view }
     ensures released { K.taken locks.new ≡ [] }
     ensures folder { ((T.state tree.new).nodes ≡ (T.state tree.old).nodes) ⊎ ((a : Asked) × MayAsk (map string_bytes words.now) (I.files config.old) a × FolderGoes a.stanza a.data_folder a.request (D.state repo.old).view.now (T.state tree.old).nodes (T.state tree.new).nodes) }
     ensures nodes { OnNothing result.ending ((T.state tree.new).nodes ≡ (T.state tree.old).nodes) }
@@ -301,9 +292,9 @@ pub fn run<
     ensures opened { result ≡ 0 → (a : Asked) → Asks (map string_bytes words.now) (I.files outside.old.config) a
         → ArePlacesOpened a (T.state outside.old.tree).opened (T.state outside.new.tree).opened (D.state outside.old.repo).opened (D.state outside.new.repo).opened }
 
-    // At 0 the command's lock was taken, and without it nothing is done. No lock is held afterwards.
-    ensures locked { result ≡ 0 → (a : Asked) → Asks (map string_bytes words.now) (I.files outside.old.config) a → TakesLock a.lock_folder (lock_of a) (K.took outside.old.locks) (K.took outside.new.locks) }
-    ensures only_locked { (a : Asked) → Asks (map string_bytes words.now) (I.files outside.old.config) a → OnlyUnderLock a.lock_folder (lock_of a) (K.took outside.old.locks) (K.took outside.new.locks) (D.state outside.old.repo).view (D.state outside.new.repo).view }
+    // At 0 the command's locks were taken, and without them nothing is done. No lock is held afterwards.
+    ensures locked { result ≡ 0 → (a : Asked) → Asks (map string_bytes words.now) (I.files outside.old.config) a → TakesLocks a.lock_folder (first_lock a.stanza a.request) (second_lock a.stanza a.request) (K.took outside.old.locks) (K.took outside.new.locks) }
+    ensures only_locked { (a : Asked) → Asks (map string_bytes words.now) (I.files outside.old.config) a → OnlyUnderLocks a.lock_folder (first_lock a.stanza a.request) (second_lock a.stanza a.request) (K.took outside.old.locks) (K.took outside.new.locks) (D.state outside.old.repo).view (D.state outside.new.repo).view }
     ensures released { K.taken outside.new.locks ≡ [] }
 
     // Each answer has its cause, and the output is the answer's. Where no cause of a refusal holds the answer is Ok, or want of memory.

@@ -5,6 +5,8 @@ use Rattle.pgb_command.proofs.Carries.{rests_carry, rests_pass}
 use Rattle.pgb_command.proofs.Chains.{still_does}
 use Rattle.std.proofs.Common.{refl, true, false, arith}
 use Rattle.pgb_command.proofs.Pushes.{push_sound, push_carries, push_passes, push_carried, reading_carried, none_carried, early_all, early_same, does_from, asked_on, rests_carried}
+use Rattle.pgb_command.specs.Locking.{IsLockName}
+use Rattle.pgb_command.proofs.TakenLocks.{one_apart, only_archive}
 use Rattle.pgb_command.proofs.StoreCauses.{opening_err, storing_err}
 use Rattle.pgb_command.proofs.archive_push.push_file.Goals as goal
 
@@ -58,8 +60,11 @@ pub returns-in_err-prepare-clause-stays : goal.returns-in_err-prepare-clause-sta
 returns-in_err-prepare-clause-stays g c = early_all c.from_residual-in_err-prepare.result _ (still_does c.args.settings.now.stanza.now _ _ c.prepare.ensures.now, rests_carried c.args.settings.now.stanza.now _ _ c.prepare.ensures.time c.prepare.ensures.now)
 
 pub returns-in_err-prepare-clause-cause : goal.returns-in_err-prepare-clause-cause
-returns-in_err-prepare-clause-cause g c = opening_err c.args.settings.now.stanza.now c.args.settings.now.pg1_path.now c.args.path.now c.in_ok-file.file.name c.in_ok-file.ensures.named.0 c.args.lock.now c.requires.name _ _ _ _ _ _ c.from_residual-in_err-prepare.result c.in_err-prepare.field-0.0 c.from_residual-in_err-prepare.ensures.1 c.in_err-prepare.ensures.cause
+returns-in_err-prepare-clause-cause g c = opening_err c.args.settings.now.stanza.now c.args.settings.now.pg1_path.now c.args.path.now c.in_ok-file.file.name c.in_ok-file.ensures.named.0 (IsLockName c.args.names.now) (only_archive c.args.names.now c.args.settings.now.stanza.now c.requires.names) _ _ _ _ _ _ c.from_residual-in_err-prepare.result c.in_err-prepare.field-0.0 c.from_residual-in_err-prepare.ensures.1 c.in_err-prepare.ensures.cause
 
 pub returns-in_err-outcome-clause-cause : goal.returns-in_err-outcome-clause-cause
 returns-in_err-outcome-clause-cause g c = storing_err c.args.settings.now.stanza.now c.args.settings.now.pg1_path.now c.args.path.now c.in_ok-file.file.name c.in_ok-file.ensures.named.0 _ _ _ _ _ _ _ _ _ _ c.prepare.ensures.now c.prepare.ensures.nodes
     (λ rose. omega (arith, rose, c.prepare.ensures.repo_later)) (λ rose. omega (arith, rose, c.prepare.ensures.tree_later)) c.from_residual-in_err-outcome.result c.in_err-outcome.field-0.0 c.from_residual-in_err-outcome.ensures.1 c.in_err-outcome.ensures.cause
+
+pub prepare-requires-clause-apart : goal.prepare-requires-clause-apart
+prepare-requires-clause-apart g c = one_apart c.args.names.now c.args.settings.now.stanza.now c.requires.names

@@ -10,6 +10,7 @@ use Rattle.pgb_command.proofs.Creates.{does_part, does_whole, has_members, folde
 use Rattle.pgb_model.specs.Steps.{StanzaCreate}
 use Rattle.pgb_command.proofs.Carries.{rests_carry, rests_pass, carries_part, passes_part, carries_whole}
 use Rattle.pgb_model.proofs.Done.{nothing_done}
+use Rattle.pgb_command.proofs.TakenLocks.{both_apart}
 use Rattle.pgb_command.proofs.Talks.{agrees_by, server_err, left_err}
 use Rattle.pgb_command.proofs.create.create_stanza.Goals as goal
 
@@ -102,3 +103,6 @@ returns-clause-agrees_with g c = agrees_by c.args.settings.now.server (g.T.Tree.
 
 pub returns-in_err-check_server-clause-part : goal.returns-in_err-check_server-clause-part
 returns-in_err-check_server-clause-part g c = λ cluster is. nothing_done c.args.settings.now.stanza.now (StanzaCreate cluster) _ _ c.prepare.ensures.now
+
+pub prepare-requires-clause-apart : goal.prepare-requires-clause-apart
+prepare-requires-clause-apart g c = both_apart c.args.names.now c.args.settings.now.stanza.now c.requires.names

@@ -4,7 +4,7 @@ use Rattle.pgb_options.specs.declared.options.OutputWord.{OutputWord}
 use Rattle.pgb_command.specs.Asked.{Asked, create, report}
 use Rattle.pgb_archive.specs.Still.{IsStill}
 use Rattle.pgb_command.specs.Doing.{PartDone, AllDone, NoneDone, ServedBy, OpensPlaces, ArePlacesOpened, OnReading}
-use Rattle.pgb_command.specs.Locking.{lock_of, TakesLock, OnlyUnderLock}
+use Rattle.pgb_command.specs.Locking.{first_lock, second_lock, TakesLocks, OnlyUnderLocks}
 use Rattle.pgb_command.specs.Outcomes.{ending_of}
 use Rattle.pgb_command.specs.Talking.{Agrees, Asks as AsksServer}
 use Rattle.pgb_command.specs.Told.{asked_of}
@@ -124,7 +124,7 @@ returns-clause-locked g c =
     let old = (g.D.Disk.state c.args.repo.now).view in
     let new = (g.D.Disk.state c.carry-ending.new.repo).view in
     let may = may_ask words files x.0 x.1 (asked_of c.in-Ok-settings_of.settings) (c.in-Ok-settings_of.ensures.asked x.0 x.2) in
-    ok_as c.carry-ending.result _ _ (for_asked words files (λ (a : Asked). TakesLock a.lock_folder (lock_of a) (g.K.Locks.took c.args.locks.now) (g.K.Locks.took c.carry-ending.new.locks)) (asked_of c.in-Ok-settings_of.settings) may) c.carry-ending.ensures.locked
+    ok_as c.carry-ending.result _ _ (for_asked words files (λ (a : Asked). TakesLocks a.lock_folder (first_lock a.stanza a.request) (second_lock a.stanza a.request) (g.K.Locks.took c.args.locks.now) (g.K.Locks.took c.carry-ending.new.locks)) (asked_of c.in-Ok-settings_of.settings) may) c.carry-ending.ensures.locked
 
 pub returns-clause-only_locked : goal.returns-clause-only_locked
 returns-clause-only_locked g c =
@@ -135,7 +135,7 @@ returns-clause-only_locked g c =
     let old = (g.D.Disk.state c.args.repo.now).view in
     let new = (g.D.Disk.state c.carry-ending.new.repo).view in
     let may = may_ask words files x.0 x.1 (asked_of c.in-Ok-settings_of.settings) (c.in-Ok-settings_of.ensures.asked x.0 x.2) in
-    for_asked words files (λ (a : Asked). OnlyUnderLock a.lock_folder (lock_of a) (g.K.Locks.took c.args.locks.now) (g.K.Locks.took c.carry-ending.new.locks) old new) (asked_of c.in-Ok-settings_of.settings) may c.carry-ending.ensures.only_locked
+    for_asked words files (λ (a : Asked). OnlyUnderLocks a.lock_folder (first_lock a.stanza a.request) (second_lock a.stanza a.request) (g.K.Locks.took c.args.locks.now) (g.K.Locks.took c.carry-ending.new.locks) old new) (asked_of c.in-Ok-settings_of.settings) may c.carry-ending.ensures.only_locked
 
 pub returns-clause-served : goal.returns-clause-served
 returns-clause-served g c =
