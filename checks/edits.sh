@@ -8,8 +8,8 @@ if [ $# = 0 ]; then
 fi
 copy=$(mktemp -d)
 trap 'rm -rf "$copy"' EXIT
-# The copy has what the crates' own checks kept, so that only the edits are tried.
-cp -r crates crates.txt HANDLES "$copy"
+# What the crates' own checks kept stays here: rt takes it over by itself.
+tar -c --exclude='crates/*/out' crates crates.txt HANDLES | tar -x -C "$copy"
 for crate in "${crates[@]}"; do
     if [ ! -d "checks/edits/$crate" ]; then
         printf 'checks/edits has no folder %s\n' "$crate"
