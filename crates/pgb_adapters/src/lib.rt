@@ -18,7 +18,6 @@ pub use disk::RealDisk;
 pub use files::RealFiles;
 pub use input::RealInput;
 pub use locks::RealLocks;
-pub use place::no_memory;
 pub use sink::RealSink;
 pub use source::RealSource;
 pub use tree::RealTree;

@@ -5,7 +5,7 @@ mod help;
 
 use help::asked_for;
 use pgb_adapters::{
-    RealDisk, RealFiles, RealInput, RealLocks, RealSink, RealSource, RealTree, RealWire, no_memory,
+    RealDisk, RealFiles, RealInput, RealLocks, RealSink, RealSource, RealTree, RealWire,
 };
 use pgb_command::{Outside, run};
 use pgb_frame::serve;
@@ -70,7 +70,7 @@ fn show(rt: HostRuntime, text: &str) -> u8 {
 fn words(rt: &HostRuntime) -> io::Result<Vec<String>> {
     let mut words = Vec::new(rt.alloc());
     for word in env::args(rt)?.skip(1) {
-        words.push(word).map_err(no_memory)?;
+        words.push(word).map_err(|_| ErrorKind::OutOfMemory)?;
     }
     Ok(words)
 }
@@ -88,7 +88,7 @@ fn status_of(rt: HostRuntime, words: &[String]) -> io::Result<u8> {
     let mut links: Vec<Box<dyn Link>> = Vec::new(alloc);
     for _ in 0..WORKERS {
         let link = Box::new(alloc, worker(rt, &program)?)?;
-        links.push(link).map_err(no_memory)?;
+        links.push(link).map_err(|_| ErrorKind::OutOfMemory)?;
     }
     let mut turns = RoundRobin::new();
     let mut outside = Outside {
