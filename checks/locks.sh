@@ -13,7 +13,7 @@ program() {
     "${ours[@]}" "$@"
 }
 
-# Who pushes holds the first, who makes a stanza the second.
+# A push holds the first, a stanza-create both.
 of_push=demo-archive.lock
 of_stanza=demo-backup.lock
 
