@@ -1,0 +1,8 @@
+use Rattle.pgb_prepare.proofs.Lifted.{rests_quiet, mended_quiet}
+use Rattle.pgb_prepare.proofs.preparing.prepare.Goals as goal
+
+pub returns-in_err-settle-clause-quiet : goal.returns-in_err-settle-clause-quiet
+returns-in_err-settle-clause-quiet g c = rests_quiet c.args.stanza.now _ _ c.settle.ensures.time c.settle.ensures.now
+
+pub returns-clause-quiet : goal.returns-clause-quiet
+returns-clause-quiet g c = mended_quiet c.args.stanza.now _ _ _ c.settle.ensures.time c.settle.ensures.now c.in_ok-settle.ensures.begun c.find.ensures.mends

@@ -1,0 +1,3 @@
+pub mod Readies
+pub mod Taking
+pub mod Stages

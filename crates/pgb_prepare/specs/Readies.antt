@@ -1,0 +1,31 @@
+-- What the stages hand to a command.
+use Rattle.std.specs.Prelude.{◌≡◌, Bool, true, false, Option, IfSome, IsTrue, IsSomeAnd}
+use Rattle.pgb_outside.specs.Content.{Content}
+use Rattle.pgb_outside.specs.Tree.{Nodes}
+use Rattle.pgb_model.specs.Text.{Text}
+use Rattle.pgb_model.specs.Names.{backup_info}
+use Rattle.pgb_model.specs.Pair.{PairIs}
+use Rattle.pgb_model.specs.InfoFiles.{IsArchiveInfo, IsBackupInfo, IsBackupText}
+use Rattle.pgb_model.specs.Values.{archive_info_of, backup_info_of}
+use Rattle.pgb_stage.specs.declared.plan.Plan.{Plan}
+use Rattle.pgb_stage.specs.declared.plan.Pairs.{Pairs}
+use Rattle.pgb_stage.specs.declared.plan.Pairs.TheVariants.{Unread, ReadBoth}
+use Rattle.pgb_prepare.specs.declared.ready.Ready.{Ready}
+use Rattle.pgb_stage.specs.Cluster.{FolderTells}
+use Rattle.pgb_stage.specs.Current.{HasValue}
+
+-- the archive pair is read
+abbrev pub has_archive : Pairs → Bool
+has_archive Unread = false
+has_archive other = true
+
+-- the backup pair is read
+abbrev pub has_backup : Pairs → Bool
+has_backup ReadBoth = true
+has_backup other = false
+
+-- What the plan asks for was read: the data folder's cluster, and the values that the pairs have now.
+pub record IsReady (plan : Plan) (stanza : Text) (repo : Option Content) (nodes : Option Nodes) (ready : Ready) : Type 0 where
+  pub control : IsTrue plan.control → IsSomeAnd ready.control (λ told. IfSome nodes (λ f. FolderTells f told))
+  pub archive : IsTrue (has_archive plan.pairs) → IsSomeAnd ready.archive (λ v. IfSome repo (λ f. HasValue stanza f (archive_info_of v)) × IsArchiveInfo (archive_info_of v))
+  pub backup : IsTrue (has_backup plan.pairs) → IsSomeAnd ready.backup (λ v. IfSome repo (λ f. PairIs IsBackupText f (backup_info stanza) (backup_info_of v)) × IsBackupInfo (backup_info_of v))

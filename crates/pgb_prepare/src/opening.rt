@@ -1,0 +1,52 @@
+// Places are opened.
+ghost use Rattle.std.specs.Prelude.{◌≡◌, ◌≤◌, None, OnOk, IfErr, IfSome, option_map};
+ghost use Rattle.pgb_outside.specs.Cause.{Rises};
+ghost use Rattle.pgb_outside.specs.Moments.{Rests};
+ghost use Rattle.pgb_outside.specs.States.{Opens};
+ghost use Rattle.pgb_stage.specs.Halts.{HaltCause, Never, Only};
+ghost use Rattle.pgb_stage.specs.declared.object.Object.TheVariants.{DataFolder as TheFolder};
+
+use pgb_outside::{Disk, Tree};
+
+use pgb_stage::{Halt, Object, StageFault, halted};
+
+/// Opens a disk, where its place is named.
+pub fn open_disk<D: Disk>(
+    disk: &mut D,
+    object: Object,
+    place: Option<&str>,
+) -> Result<(), Halt<StageFault>>
+    ensures opens { IfSome place.entry (λ p. Opens result p.now (D.state disk.old).opened (D.state disk.new).opened) }
+    ensures unopened { place.entry ≡ None → disk.new ≡ disk.old }
+    ensures now { (D.state disk.new).view.now ≡ (D.state disk.old).view.now }
+    ensures time { Rests (D.state disk.old).view (D.state disk.new).view }
+    ensures proper { (D.state disk.new).misuses ≡ (D.state disk.old).misuses }
+    ensures later { (D.state disk.old).faults ≤ (D.state disk.new).faults }
+    ensures cause { IfErr result (HaltCause Never (Only object (Rises ((D.state disk.old).faults) ((D.state disk.new).faults)))) }
+{
+    let Some(place) = place else {
+        return Ok(());
+    };
+    match disk.open(place) {
+        Ok(()) => Ok(()),
+        Err(stop) => Err(halted(object, stop)),
+    }
+}
+
+/// Opens the data folder, where it is named.
+pub fn open_tree<T: Tree>(tree: &mut T, place: Option<&str>) -> Result<(), Halt<StageFault>>
+    ensures opens { IfSome place.entry (λ p. Opens result p.now (T.state tree.old).opened (T.state tree.new).opened) }
+    ensures unopened { place.entry ≡ None → tree.new ≡ tree.old }
+    ensures nodes { (T.state tree.new).nodes ≡ (T.state tree.old).nodes }
+    ensures proper { (T.state tree.new).misuses ≡ (T.state tree.old).misuses }
+    ensures later { (T.state tree.old).faults ≤ (T.state tree.new).faults }
+    ensures cause { IfErr result (HaltCause Never (Only TheFolder (Rises ((T.state tree.old).faults) ((T.state tree.new).faults)))) }
+{
+    let Some(place) = place else {
+        return Ok(());
+    };
+    match tree.open(place) {
+        Ok(()) => Ok(()),
+        Err(stop) => Err(halted(Object::DataFolder, stop)),
+    }
+}

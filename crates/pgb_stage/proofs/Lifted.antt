@@ -1,0 +1,323 @@
+-- From what a command's own part does to what the command does.
+use Rattle.std.proofs.Common.{◌≡◌, ◌⊎◌, ⊎_elim, inl, inr, ℕ, ◌≤◌, List, [], ◌∷◌, Option, refl, ◌∙◌, sym, subst, arith, Bool, true, false}
+use Rattle.std.specs.Prelude.{IsSome}
+use Rattle.pgb_outside.specs.Content.{Content, Name}
+use Rattle.pgb_outside.specs.Moments.{View, Rests, IsImage, is_loose}
+use Rattle.pgb_outside.specs.Crash.{Leaves}
+use Rattle.pgb_model.specs.Text.{Text}
+use Rattle.pgb_model.specs.Names.{receipt_name}
+use Rattle.pgb_model.specs.Repository.{Repository, IsSound}
+use Rattle.pgb_model.specs.Stands.{Stands}
+use Rattle.pgb_model.specs.Steps.{Step, Command, Reading, after, all_of, steps_of}
+use Rattle.pgb_model.specs.Log.{Done, Reaches, StandsAfter, KeepsRepository, KeepsSpool, Keeps}
+use Rattle.pgb_model.specs.Now.{NowStands, NowDoes}
+use Rattle.pgb_model.specs.Steady.{IsSteady, IsBegun, Moves, LeavesOnly, KeepsOn}
+use Rattle.pgb_model.proofs.Done.{part_none, nothing_done}
+use Rattle.pgb_model.proofs.Logged.{rests_still}
+use Rattle.pgb_model.proofs.Steady.{rests_moves, steady_rests}
+use Rattle.pgb_archive.specs.Still.{rests_none}
+use Rattle.pgb_stage.specs.Runs.{Reached, to_end, turned_back, stopped, OnAll, OnNone, turns_of, IsPart, SpoolGoes, DoesPart, DoesWhole, Does, RunsPart, RunsWhole, Runs, Past, Passes, Leads, Takes, Quiet, Mends, Begins, Manner, each, one, On}
+
+pub all_as : (reached : Reached) (P Q : Type 0) → (P → Q) → OnAll reached P → OnAll reached Q
+all_as to_end P Q to h = to h
+all_as turned_back P Q to h = tt
+all_as stopped P Q to h = tt
+
+pub none_as : (reached : Reached) (P Q : Type 0) → (P → Q) → OnNone reached P → OnNone reached Q
+none_as to_end P Q to h = tt
+none_as turned_back P Q to h = to h
+none_as stopped P Q to h = tt
+
+pub on_as : (m : Manner) (P Q : Command → Type 0) → ((command : Command) → P command → Q command) → On m P → On m Q
+on_as (each Is) P Q to h = λ command is. to command (h command is)
+on_as (one Is) P Q to h = (h.0, h.1, to h.0 h.2)
+
+on_some : (a b : Option Content) → b ≡ a → IsSome a → IsSome b
+on_some a b same some = subst (λ (o : Option Content). IsSome o) (sym same) some
+
+stays_at : (stanza : Text) (old new : Option Content) → NowDoes stanza Reading true old new → (r : Repository) → IsSome old → NowStands stanza r old → NowStands stanza r new
+stays_at stanza old new h r some now = let x = h.does r some now in subst (λ (done : List Step). NowStands stanza (after r done) new) x.1 x.2
+
+either : (t s : ℕ) → (t ≤ s) ⊎ (s ≤ t)
+either t s = grind arith
+
+-- ---- calls that only read
+
+image_back : (a b : View) → Rests a b → (t : ℕ) → a.moment ≤ t → t ≤ b.moment → (f : Content) → IsImage b t f → IsImage a a.moment f
+image_back a b rests t lo hi f image n = ⊎_elim
+    (λ k. ⊎_elim (λ o. inl o) (λ x. absurd x) (rests.grows t n (f n) lo hi k))
+    (λ l. ⊎_elim (λ o. inr (o, l.1)) (λ x. absurd x) (rests.loosens t n lo hi l.0)) (image n)
+
+leaves_back : (a b : View) → Rests a b → b.now ≡ a.now → (t : ℕ) → a.moment ≤ t → t ≤ b.moment → (f : Content) → Leaves b t f → Leaves a a.moment f
+leaves_back a b rests same t lo hi f (inl now) = inl (sym same ∙ now)
+leaves_back a b rests same t lo hi f (inr image) = inr (image_back a b rests t lo hi f image)
+
+false_or : (x y : Bool) → (y ≡ true → (x ≡ true) ⊎ ⊥) → x ≡ false → y ≡ false
+false_or x true h is = ⊎_elim (λ (e : x ≡ true). let c : ◌≡◌ {A = Bool} true false = sym e ∙ is in cc) (λ (e : ⊥). absurd e) (h refl)
+false_or x false h is = refl
+
+tight_at : (a b : View) → Rests a b → (n : Name) → is_loose a n ≡ false → is_loose b n ≡ false
+tight_at a b rests n is = false_or (is_loose a n) (is_loose b n) (λ l. rests.loosens b.moment n rests.later (omega arith) l) is
+
+rests_past : (a b : View) → Rests a b → Past a b
+rests_past a b rests = record { later = rests.later; kept = rests.same; loose = rests.same_loose }
+
+pub spool_rests : (stanza : Text) (q : Repository) (log : List Done) (a b : View) → Rests a b → b.now ≡ a.now → KeepsSpool stanza q log a → KeepsSpool stanza q log b
+spool_rests stanza q log a b rests same keeps = record {
+  fixed = λ name fits. tight_at a b rests (receipt_name stanza name) (keeps.fixed name fits);
+  receipts = λ f leaves. keeps.receipts f (leaves_back a b rests same b.moment rests.later (omega arith) f leaves);
+}
+
+past_past : (a b c : View) → Past a b → Past b c → Past a c
+past_past a b c p q = record {
+  later = omega (arith, p.later, q.later);
+  kept = λ t n v le k. p.kept t n v le (q.kept t n v (omega (arith, le, p.later)) k);
+  loose = λ t n le. q.loose t n (omega (arith, le, p.later)) ∙ p.loose t n le;
+}
+
+-- an image of an earlier moment was one then
+image_past : (a b : View) → Past a b → (t : ℕ) → t ≤ a.moment → (f : Content) → IsImage b t f → IsImage a t f
+image_past a b past t le f image n = ⊎_elim (λ k. inl (past.kept t n (f n) le k)) (λ l. inr (sym (past.loose t n le) ∙ l.0, l.1)) (image n)
+
+-- two stretches of time one behind the other
+leaves_then : (P : Content → Type 0) (a b c : View) → Past a b → Past b c → LeavesOnly P a b → LeavesOnly P b c → LeavesOnly P a c
+leaves_then P a b c p q first next t f lo hi (inl now) = next c.moment f q.later (omega arith) (inl now)
+leaves_then P a b c p q first next t f lo hi (inr image) = ⊎_elim
+    (λ (le : t ≤ b.moment). first t f lo le (inr (image_past b c q t le f image)))
+    (λ (ge : b.moment ≤ t). next t f ge hi (inr image))
+    (either t b.moment)
+
+-- ---- nothing was done
+
+module _ (stanza : Text) (command : Command) (q : Repository) (log : List Done) where
+  abbrev undone : Done
+  undone = record { command = command; acknowledged = false }
+
+  still_after : (f : Content) → StandsAfter stanza q log f → StandsAfter stanza q (undone ∷ log) f
+  still_after f s = record { repository = s.repository; reached = (s.repository, s.reached, ([], refl, part_none (steps_of command s.repository))); sound = s.sound; stands = s.stands }
+
+  still_keeps : (v : View) → KeepsRepository stanza q log v → KeepsRepository stanza q (undone ∷ log) v
+  still_keeps v k = record { fixed = k.fixed; places = k.places; stands = λ f leaves. still_after f (k.stands f leaves) }
+
+  still_spool : (v : View) → KeepsSpool stanza q log v → KeepsSpool stanza q (undone ∷ log) v
+  still_spool v k = record {
+    fixed = k.fixed;
+    receipts = λ f leaves name sum fits has. let x = k.receipts f leaves name sum fits has in (x.0, (x.0, x.1, ([], refl, part_none (steps_of command x.0))), x.2);
+  }
+
+-- a command that did nothing
+pub still_runs : (stanza : Text) (command : Command) (v s : View) → RunsPart stanza command v s v s
+still_runs stanza command v s = record {
+  does = record {
+    part = nothing_done stanza command v.now v.now refl;
+    goes = λ r some steady sound. rests_moves stanza r (IsPart stanza command r) v v (rests_none v) refl steady some (λ g stands. ([], part_none (steps_of command r), stands, sound));
+  };
+  receipts = λ q log some begun keeps. still_spool stanza command q log s keeps;
+}
+
+-- a command that only read
+module _ (stanza : Text) (command : Command) (is : command ≡ Reading) (a s d t : View) (rests : Rests a d) (same : d.now ≡ a.now) (spool : t ≡ s) where
+  read_part : RunsPart stanza Reading a s d t
+  read_part = record {
+    does = record {
+      part = nothing_done stanza Reading a.now d.now same;
+      goes = λ r some steady sound. rests_moves stanza r (IsPart stanza Reading r) a d rests same steady some (λ g stands. ([], refl, stands, sound));
+    };
+    receipts = λ q log some begun keeps. subst (λ (v : View). KeepsSpool stanza q (record { command = Reading; acknowledged = false } ∷ log) v) (sym spool) (still_spool stanza Reading q log s keeps);
+  }
+
+  read_whole : RunsWhole stanza Reading a s d t
+  read_whole = record {
+    does = record {
+      done = record { told = λ some. on_some a.now d.now same some; does = λ r some now. ([], refl, subst (λ (o : Option Content). NowStands stanza r o) (sym same) now) };
+      ends = λ r some steady sound. (steady_rests stanza r a d rests same steady, sound);
+    };
+    receipts = λ q log some begun keeps. subst (λ (v : View). KeepsSpool stanza q (record { command = Reading; acknowledged = true } ∷ log) v) (sym spool) (whole_spool q log keeps);
+  }
+    where
+      whole_spool : (q : Repository) (log : List Done) → KeepsSpool stanza q log s → KeepsSpool stanza q (record { command = Reading; acknowledged = true } ∷ log) s
+      whole_spool q log k = record { fixed = k.fixed; receipts = λ f leaves name sum fits has. let x = k.receipts f leaves name sum fits has in (x.0, (x.0, x.1, ([], refl, refl)), x.2) }
+
+  here : (reached : Reached) → Runs stanza Reading reached a s d t
+  here to_end = record { part = read_part; whole = read_whole; turned = tt }
+  here turned_back = record { part = read_part; whole = tt; turned = read_part }
+  here stopped = record { part = read_part; whole = tt; turned = tt }
+
+  pub read_runs : (reached : Reached) → Runs stanza command reached a s d t
+  read_runs reached = subst (λ (c : Command). Runs stanza c reached a s d t) (sym is) (here reached)
+
+-- nothing was done, or only was read
+pub rests_quiet : (stanza : Text) (a b : View) → Rests a b → b.now ≡ a.now → Quiet stanza a b
+rests_quiet stanza a b rests same = record {
+  now = record { told = λ some. on_some a.now b.now same some; does = λ r some now. ([], refl, subst (λ (o : Option Content). NowStands stanza r o) (sym same) now) };
+  keeps = λ q log some keeps. rests_still stanza q log a b rests same keeps;
+  between = λ q log some keeps. (rests_past a b rests, λ t f lo hi leaves. keeps.stands f (leaves_back a b rests same t lo hi f leaves));
+}
+
+pub still_quiet : (stanza : Text) (v : View) → Quiet stanza v v
+still_quiet stanza v = rests_quiet stanza v v (rests_none v) refl
+
+pub still_mends : (stanza : Text) (v : View) → Mends stanza v v
+still_mends stanza v = record {
+  now = (still_quiet stanza v).now;
+  moves = λ r some steady. rests_moves stanza r (λ g. Stands stanza g r) v v (rests_none v) refl steady some (λ g h. h);
+  ends = λ r some steady. steady;
+}
+
+-- the folders are settled, and then the pairs are read or healed
+module _ (stanza : Text) (a b c : View) (rests : Rests a b) (same : b.now ≡ a.now) (begun : Begins stanza a b) (mends : Mends stanza b c) where
+  some_at : IsSome a.now → IsSome b.now
+  some_at some = on_some a.now b.now same some
+
+  steady_at : (q : Repository) (log : List Done) → KeepsRepository stanza q log a → IsSome a.now → IsBegun stanza q log c
+  steady_at q log keeps some = let u = begun q log keeps some in
+      record { repository = u.repository; reached = u.reached; sound = u.sound; steady = mends.ends u.repository (some_at some) u.steady }
+
+  stands_by : (q : Repository) (log : List Done) (u : IsBegun stanza q log b) (g : Content) → Stands stanza g u.repository → StandsAfter stanza q log g
+  stands_by q log u g h = record { repository = u.repository; reached = u.reached; sound = u.sound; stands = h }
+
+  pub mended_begins : Begins stanza a c
+  mended_begins = steady_at
+
+  pub mended_quiet : Quiet stanza a c
+  mended_quiet = record {
+    now = subst (λ (o : Option Content). NowDoes stanza Reading true o c.now) same mends.now;
+    keeps = λ q log some keeps. let u = steady_at q log keeps some in
+        record { fixed = u.steady.fixed; places = u.steady.places; stands = λ f leaves. record { repository = u.repository; reached = u.reached; sound = u.sound; stands = u.steady.stands f leaves } };
+    between = λ q log some keeps.
+        let u = begun q log keeps some in
+        let m = mends.moves u.repository (some_at some) u.steady in
+        let next : Past b c = record { later = m.later; kept = m.past; loose = m.past_loose } in
+        (
+          past_past a b c (rests_past a b rests) next,
+          leaves_then (StandsAfter stanza q log) a b c (rests_past a b rests) next
+              (λ t f lo hi leaves. keeps.stands f (leaves_back a b rests same t lo hi f leaves))
+              (λ t f lo hi leaves. stands_by q log u f (m.leaves t f lo hi leaves)),
+        );
+  }
+
+-- the stages alone
+module _ (stanza : Text) (command : Command) (a b s : View) (quiet : Quiet stanza a b) where
+  pub quiet_leads : Leads stanza command false a s b s
+  quiet_leads = record {
+    now = record { told = quiet.now.told; does = λ r some now. ([], part_none (steps_of command r), stays_at stanza a.now b.now quiet.now r some now) };
+    keeps = λ q log some keeps. record {
+      repository = still_keeps stanza command q log b (quiet.keeps q log some keeps.repository);
+      receipts = still_spool stanza command q log s keeps.receipts;
+    };
+  }
+
+  pub quiet_passes : Passes stanza command a b
+  quiet_passes = record {
+    between = λ q log some keeps. let x = quiet.between q log some keeps in (x.0, λ t f lo hi leaves. still_after stanza command q log f (x.1 t f lo hi leaves));
+  }
+
+pub quiet_takes : (stanza : Text) (command : Command) (reached : Reached) (a b s : View) → (¬ (reached ≡ to_end)) → Quiet stanza a b → Takes stanza command reached a s b s
+quiet_takes stanza command to_end a b s not quiet = absurd (not refl)
+quiet_takes stanza command turned_back a b s not quiet = record { part = quiet_leads stanza command a b s quiet; between = quiet_passes stanza command a b s quiet; whole = tt; turned = quiet_leads stanza (turns_of command) a b s quiet }
+quiet_takes stanza command stopped a b s not quiet = record { part = quiet_leads stanza command a b s quiet; between = quiet_passes stanza command a b s quiet; whole = tt; turned = tt }
+
+-- ---- the stages, and then the command's own part
+
+module _ (stanza : Text) (a b : View) (quiet : Quiet stanza a b) (begun : Begins stanza a b) where
+  told_at : IsSome a.now → IsSome b.now
+  told_at some = quiet.now.told some
+
+  does_on : (command : Command) (whole : Bool) (d : View) → NowDoes stanza command whole b.now d.now → NowDoes stanza command whole a.now d.now
+  does_on command whole d h = record { told = λ some. h.told (told_at some); does = λ r some now. h.does r (told_at some) (stays_at stanza a.now b.now quiet.now r some now) }
+
+  module _ (command : Command) (s d t : View) (q : Repository) (log : List Done) where
+    by_part : (u : IsBegun stanza q log b) (g : Content) → IsPart stanza command u.repository g → StandsAfter stanza q (undone stanza command q log ∷ log) g
+    by_part u g x = record {
+      repository = after u.repository x.0;
+      reached = (u.repository, u.reached, (x.0, refl, x.1));
+      sound = x.3;
+      stands = x.2;
+    }
+
+    moved : (u : IsBegun stanza q log b) → IsSome a.now → RunsPart stanza command b s d t → Moves stanza (IsPart stanza command u.repository) b d
+    moved u some h = h.does.goes u.repository (told_at some) u.steady u.sound
+
+    part_kept : (u : IsBegun stanza q log b) → Moves stanza (IsPart stanza command u.repository) b d → KeepsRepository stanza q (undone stanza command q log ∷ log) d
+    part_kept u m = record { fixed = m.fixed; places = m.places; stands = λ f leaves. by_part u f (m.leaves d.moment f m.later (omega arith) leaves) }
+
+    part_passed : IsSome a.now → KeepsRepository stanza q log a → (u : IsBegun stanza q log b) → Moves stanza (IsPart stanza command u.repository) b d → Past a d × LeavesOnly (StandsAfter stanza q (undone stanza command q log ∷ log)) a d
+    part_passed some keeps u m =
+        let x = quiet.between q log some keeps in
+        let next : Past b d = record { later = m.later; kept = m.past; loose = m.past_loose } in
+        (
+          past_past a b d x.0 next,
+          leaves_then (StandsAfter stanza q (undone stanza command q log ∷ log)) a b d x.0 next
+              (λ w f lo hi leaves. still_after stanza command q log f (x.1 w f lo hi leaves))
+              (λ w f lo hi leaves. by_part u f (m.leaves w f lo hi leaves)),
+        )
+
+    whole_kept : (u : IsBegun stanza q log b) → IsSteady stanza (after u.repository (all_of (steps_of command u.repository))) d × IsSound (after u.repository (all_of (steps_of command u.repository))) → KeepsRepository stanza q (record { command = command; acknowledged = true } ∷ log) d
+    whole_kept u x = record {
+      fixed = x.0.fixed;
+      places = x.0.places;
+      stands = λ f leaves. record {
+        repository = after u.repository (all_of (steps_of command u.repository));
+        reached = (u.repository, u.reached, (all_of (steps_of command u.repository), refl, refl));
+        sound = x.1;
+        stands = x.0.stands f leaves;
+      };
+    }
+
+  module _ (command : Command) (s d t : View) where
+    pub part_leads : RunsPart stanza command b s d t → Leads stanza command false a s d t
+    part_leads h = record {
+      now = does_on command false d h.does.part;
+      keeps = λ q log some keeps. let u = begun q log keeps.repository some in record {
+        repository = part_kept command s d t q log u (moved command s d t q log u some h);
+        receipts = h.receipts q log (told_at some) u keeps.receipts;
+      };
+    }
+
+    pub part_passes : RunsPart stanza command b s d t → Passes stanza command a d
+    part_passes h = record {
+      between = λ q log some keeps. let u = begun q log keeps some in part_passed command s d t q log some keeps u (moved command s d t q log u some h);
+    }
+
+    pub whole_leads : RunsWhole stanza command b s d t → Leads stanza command true a s d t
+    whole_leads h = record {
+      now = does_on command true d h.does.done;
+      keeps = λ q log some keeps. let u = begun q log keeps.repository some in record {
+        repository = whole_kept command s d t q log u (h.does.ends u.repository (told_at some) u.steady u.sound);
+        receipts = h.receipts q log (told_at some) u keeps.receipts;
+      };
+    }
+
+  pub begun_takes : (command : Command) (reached : Reached) (s d t : View) → Runs stanza command reached b s d t → Takes stanza command reached a s d t
+  begun_takes command reached s d t h = record {
+    part = part_leads command s d t h.part;
+    between = part_passes command s d t h.part;
+    whole = all_as reached _ _ (whole_leads command s d t) h.whole;
+    turned = none_as reached _ _ (part_leads (turns_of command) s d t) h.turned;
+  }
+
+-- ---- places are opened, and then all that
+
+module _ (stanza : Text) (a b s t : View) (rests : Rests a b) (same : b.now ≡ a.now) (spool_rest : Rests s t) (spool_same : t.now ≡ s.now) where
+  leads_on : (command : Command) (whole : Bool) (d e : View) → Leads stanza command whole b t d e → Leads stanza command whole a s d e
+  leads_on command whole d e h = record {
+    now = subst (λ (o : Option Content). NowDoes stanza command whole o d.now) same h.now;
+    keeps = λ q log some keeps. h.keeps q log (on_some a.now b.now same some)
+        (record { repository = rests_still stanza q log a b rests same keeps.repository; receipts = spool_rests stanza q log s t spool_rest spool_same keeps.receipts });
+  }
+
+  pub opened_takes : (command : Command) (reached : Reached) (d e : View) → Takes stanza command reached b t d e → Takes stanza command reached a s d e
+  opened_takes command reached d e h = record {
+    part = leads_on command false d e h.part;
+    between = record {
+      between = λ q log some keeps.
+          let x = h.between.between q log (on_some a.now b.now same some) (rests_still stanza q log a b rests same keeps) in
+          (
+            past_past a b d (rests_past a b rests) x.0,
+            leaves_then (StandsAfter stanza q (undone stanza command q log ∷ log)) a b d (rests_past a b rests) x.0
+                (λ w f lo hi leaves. still_after stanza command q log f (keeps.stands f (leaves_back a b rests same w lo hi f leaves))) x.1,
+          );
+    };
+    whole = all_as reached _ _ (leads_on command true d e) h.whole;
+    turned = none_as reached _ _ (leads_on (turns_of command) false d e) h.turned;
+  }

@@ -1,0 +1,67 @@
+-- What a plan asks of the stages (pgBackRest command reference; own which locks).
+use Rattle.std.specs.Prelude.{◌≡◌, ◌⊎◌, ◌++◌, Bool, true, false, List, [], ◌∷◌, codes, Option, Some, None, option_map, IfSome, IsSome, if◌then◌else◌}
+use Rattle.pgb_outside.specs.Content.{Content, Name, at}
+use Rattle.pgb_outside.specs.Crash.{IsTemporary}
+use Rattle.pgb_model.specs.Text.{Text}
+use Rattle.pgb_model.specs.Names.{archive_info}
+use Rattle.pgb_model.specs.Log.{IsPairMember}
+use Rattle.pgb_stanza.specs.Pairs.{AgreeAt}
+use Rattle.pgb_stage.specs.declared.plan.Plan.{Plan}
+use Rattle.pgb_stage.specs.declared.plan.Pairs.{Pairs}
+use Rattle.pgb_stage.specs.declared.plan.Pairs.TheVariants.{HealArchive}
+
+-- ---- locks
+
+-- the lock of commands that write backups, and that of commands that write the archive
+abbrev pub backup_lock : Text → Text
+backup_lock stanza = stanza ++ codes "-backup.lock"
+
+abbrev pub archive_lock : Text → Text
+archive_lock stanza = stanza ++ codes "-archive.lock"
+
+abbrev pub when : Bool → Text → Option Text
+when b name = if b then Some name else None
+
+abbrev pub first_lock : Plan → Text → Option Text
+first_lock plan stanza = when plan.backup_lock (backup_lock stanza)
+
+abbrev pub second_lock : Plan → Text → Option Text
+second_lock plan stanza = when plan.archive_lock (archive_lock stanza)
+
+-- one more lock was taken, the last one first
+abbrev pub with_one : Text → Option Text → List (Text × Text) → List (Text × Text)
+with_one folder None locks = locks
+with_one folder (Some name) locks = (folder, name) ∷ locks
+
+-- the plan's locks, in their order
+abbrev pub with_locks : Plan → Text → Text → List (Text × Text) → List (Text × Text)
+with_locks plan folder stanza locks = with_one folder (second_lock plan stanza) (with_one folder (first_lock plan stanza) locks)
+
+abbrev pub TakesLocks : Plan → Text → Text → Option (List (Text × Text)) → Option (List (Text × Text)) → Type 0
+TakesLocks plan folder stanza old new = new ≡ option_map (with_locks plan folder stanza) old
+
+-- the name is that of one of the plan's locks
+abbrev pub IsLockOf : Plan → Text → Text → Type 0
+IsLockOf plan stanza name = (first_lock plan stanza ≡ Some name) ⊎ (second_lock plan stanza ≡ Some name)
+
+-- ---- pairs
+
+-- both members of each pair that is healed are there and have the same text
+abbrev pub AreHealed : Pairs → Text → Content → Type 0
+AreHealed HealArchive stanza f = AgreeAt (archive_info stanza) f
+AreHealed other stanza f = Unit {0}
+
+-- the disk holds what it held, but for members of the pairs and temporary names
+pub record OnlyPairs (stanza : Text) (old new : Option Content) : Type 0 where
+  pub told : IsSome old → IsSome new
+  pub others : (n : Name) → ¬ IsPairMember stanza n → ¬ IsTemporary n → at n new ≡ at n old
+
+-- what the disk holds as the command's own part begins
+abbrev pub Heals : Pairs → Text → Option Content → Option Content → Type 0
+Heals HealArchive stanza old new = OnlyPairs stanza old new
+Heals other stanza old new = new ≡ old
+
+-- this holds where no pair is healed
+abbrev pub OnReading : Pairs → Type 0 → Type 0
+OnReading HealArchive P = Unit {0}
+OnReading other P = P

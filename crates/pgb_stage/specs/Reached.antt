@@ -1,0 +1,25 @@
+-- How far a command came, by how it ended.
+use Rattle.std.specs.Prelude.{Bool, true, false, if◌then◌else◌, Result, Ok, Err}
+use Rattle.pgb_stage.specs.declared.object.Object.{Object}
+use Rattle.pgb_stage.specs.declared.object.Object.TheVariants.{Server}
+use Rattle.pgb_stage.specs.declared.halt.Halt.{Halt}
+use Rattle.pgb_stage.specs.declared.halt.Halt.TheVariants.{Refused, Failed, NoMemory}
+use Rattle.pgb_stage.specs.declared.outcome.Outcome.{Outcome}
+use Rattle.pgb_stage.specs.declared.outcome.Outcome.TheVariants.{Finished, Absent}
+use Rattle.pgb_stage.specs.Runs.{Reached, to_end, turned_back, stopped}
+
+-- the server is asked before a command's first own step
+abbrev pub fails_early : Object → Bool
+fails_early Server = true
+fails_early _ = false
+
+abbrev pub back_if : Bool → Reached
+back_if early = if early then turned_back else stopped
+
+-- of a call that is refused before its first own step for these faults
+abbrev pub reached_by : {E : Type 0} → (E → Bool) → Result Outcome (Halt E) → Reached
+reached_by early (Ok (Finished lines)) = to_end
+reached_by early (Ok (Absent name)) = turned_back
+reached_by early (Err (Refused e)) = back_if (early e)
+reached_by early (Err (Failed object)) = back_if (fails_early object)
+reached_by early (Err NoMemory) = stopped

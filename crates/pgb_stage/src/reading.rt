@@ -1,0 +1,35 @@
+// The front of a known file is read.
+ghost use Rattle.std.specs.Prelude.{◌≡◌, ◌≤◌, ◌<◌, ℕ, List, Option, option_map, IfOk, IfSome, Vec, length, take};
+ghost use Rattle.std.specs.declared.alloc.Global.{Global};
+ghost use Rattle.pgb_outside.specs.States.{LooksAt};
+ghost use Rattle.pgb_outside.specs.Tree.{file_bytes, known_path};
+ghost use Rattle.pgb_outside.specs.Cause.{HasCause};
+
+use pgb_outside::{Known, Stop, Tree};
+use std::alloc::Global;
+
+/// The first bytes of a known file, at most `limit`; None where it isn't there.
+pub fn read_front<T: Tree>(
+    alloc: Global,
+    tree: &mut T,
+    what: &Known,
+    limit: usize,
+) -> Result<Option<Vec<u8>>, Stop>
+    requires { 0 < limit }
+    ensures bytes { IfOk result (λ r. IfSome (T.state tree.old).nodes (λ f. option_map (λ (v : Vec ℕ Global). v.items) r ≡ option_map (take limit) (file_bytes (f (known_path what.now))))) }
+    ensures within { IfOk result (λ r. IfSome r (λ v. length v.items ≤ limit)) }
+    ensures looks { LooksAt (T.state tree.old) (T.state tree.new) }
+    ensures cause { HasCause (T.state tree.old).faults (T.state tree.new).faults result }
+{
+    let mut bytes = Vec::new(alloc);
+    let mut buf = [0u8; 32768];
+    while bytes.len() < limit {
+        match tree.read(what, bytes.len() as u64, &mut buf)? {
+            None => return Ok(None),
+            Some(0) => return Ok(Some(bytes)),
+            Some(n) => bytes.extend_from_slice(&buf[..n])?,
+        }
+    }
+    bytes.truncate(limit);
+    Ok(Some(bytes))
+}
