@@ -11,9 +11,9 @@ use Rattle.pgb_options.specs.Faults.{Fault}
 use Rattle.pgb_options.specs.Filled.{text_in, number_in, flag_in, or_else, output_word, word_in}
 use Rattle.pgb_options.specs.Paths.{Path, nowhere, usual, named, path_of_words}
 use Rattle.pgb_options.specs.Settings.{Source, Settled, value, settled_words}
-use Rattle.pgb_command.specs.Talking.{Server}
-use Rattle.pgb_command.specs.declared.fault.Unbuilt.{Unbuilt}
-use Rattle.pgb_command.specs.declared.fault.Unbuilt.TheVariants.{Command, Background}
+use Rattle.pgb_create.specs.Server.{Server}
+use Rattle.pgb_stage.specs.declared.fault.Unbuilt.{Unbuilt}
+use Rattle.pgb_stage.specs.declared.fault.Unbuilt.TheVariants.{Command, Background}
 
 -- ---- the configuration
 

@@ -1,162 +1,76 @@
--- Why the program gives an answer.
-use Rattle.std.specs.Prelude.{◌≡◌, ◌⊎◌, ℕ, [], List, Option, Ok, Err, IfSome, string_bytes}
-use Rattle.sha1.specs.Sha1.{sha1}
+-- What the program answers and does, from the words on.
+use Rattle.std.specs.Prelude.{◌≡◌, ◌≢◌, ◌≤◌, ◌⊎◌, ℕ, true, false, List, [], Option, IsSome, Result, Ok, Err, IfOk}
 use Rattle.pgb_outside.specs.Content.{Content}
-use Rattle.pgb_outside.specs.Tree.{Nodes}
-use Rattle.pgb_model.specs.declared.clusters.ClusterId.{ClusterId}
-use Rattle.pgb_model.specs.declared.wal.ArchiveName.{ArchiveName}
 use Rattle.pgb_model.specs.Text.{Text}
-use Rattle.pgb_model.specs.Names.{wal_text}
-use Rattle.pgb_stanza.specs.declared.control.Control.{Control}
-use Rattle.pgb_archive.specs.declared.fault.ArchiveFault.{ArchiveFault}
-use Rattle.pgb_archive.specs.declared.fault.ArchiveFault.TheVariants.{HeaderForm as FormOf, SegmentSize as SizeOf, HeaderMismatch as MismatchOf, Ambiguous as AmbiguousOf, Duplicate as DuplicateOf, TooLong as LongOf}
-use Rattle.pgb_archive.specs.Causes.{IsFileOf, limit_of, PushCause}
-use Rattle.pgb_archive.specs.Stored.{StoresNone, StoresOnly}
 use Rattle.pgb_options.specs.Settings.{Settled}
-use Rattle.pgb_command.specs.declared.fault.Unbuilt.{Unbuilt}
+use Rattle.pgb_stage.specs.declared.fault.Unbuilt.{Unbuilt}
+use Rattle.pgb_stage.specs.declared.fault.StageFault.TheVariants.{NotBuilt}
+use Rattle.pgb_stage.specs.declared.object.Object.TheVariants.{Config, Output}
+use Rattle.pgb_stage.specs.declared.outcome.Outcome.{Outcome}
+use Rattle.pgb_stage.specs.Runs.{On, Leads, Passes, turns_of}
+use Rattle.pgb_stage.specs.Seen.{Seen, Failed}
 use Rattle.pgb_command.specs.declared.fault.Fault.{Fault}
-use Rattle.pgb_command.specs.declared.fault.Fault.TheVariants.{NotBuilt, Held, StanzaMissing, InfoDamaged, HistoryDiffers, StanzaMismatch, ArchiveLost, SegmentMissing, TooLong, HeaderForm, SegmentSize, HeaderMismatch, Ambiguous, Duplicate, Disk, Locks, Sink, NoMemory}
-use Rattle.pgb_command.specs.Asked.{Asked, create, push, get, report, Settles, requested, IsAsked}
-use Rattle.pgb_stanza.specs.Pairs.{LacksStanza, HasStanzaOf}
-use Rattle.pgb_command.specs.Making.{MakeCause}
+use Rattle.pgb_command.specs.declared.fault.Fault.TheVariants.{Stage, NoMemory}
+use Rattle.pgb_command.specs.Answers.{Ending, status, answer_of}
+use Rattle.pgb_command.specs.Asked.{Asked, Settles, IsAsked, requested}
 use Rattle.pgb_command.specs.Configuring.{ConfigCause}
-use Rattle.pgb_command.specs.Locking.{backup_lock, archive_lock}
-use Rattle.pgb_command.specs.Answers.{Ending, finished, absent, refused, Answer, same_line}
-use Rattle.pgb_command.specs.Cluster.{FolderTells, ClusterCause}
-use Rattle.pgb_command.specs.Talking.{Agrees, ServerCause}
-use Rattle.pgb_command.specs.WalPath.{IsWalPath, HasWal}
-use Rattle.pgb_command.specs.WalCause.{WordCause, FileCause}
-use Rattle.pgb_command.specs.Getting.{IsServed, IsMissing, GetFileCause}
-use Rattle.pgb_command.specs.Reporting.{IsReported, InfoCause}
-use Rattle.pgb_options.specs.declared.options.OutputWord.{OutputWord}
-use Rattle.pgb_command.specs.Storing.{HasCurrent, id_kept, ValueCause, CurrentCause}
-use Rattle.pgb_stanza.specs.Pairs.{identity_kept, identity_told}
+use Rattle.pgb_command.specs.Did.{Did, Brackets, Cause}
+use Rattle.pgb_command.specs.Output.{IsTold}
+use Rattle.pgb_command.specs.Tables.{manner_of}
 
--- the folder tells a cluster
-abbrev pub TellsSome : Option Nodes → Type 0
-TellsSome nodes = IfSome nodes (λ f. (told : Control) × FolderTells f told)
+-- ---- how it is told
 
--- the stanza isn't made or kept, for a data folder that tells a cluster
-abbrev pub OnTold : Text → Option Content → Option Nodes → Fault → Type 0
-OnTold stanza repo nodes fault = (told : Control) × IfSome nodes (λ f. FolderTells f told) × MakeCause stanza told repo ⊥ fault
+-- It ended in this way, and that is told by the status and the output, unless the output failed, or memory did.
+pub record IsAnswered (unknown : List Text) (before after : Seen) (ended : Result Outcome Fault) (result : ℕ) : Type 0 where
+  pub ending : Ending
+  pub is : result ≡ status ending
+  pub wrote : IsTold before.out.written (answer_of unknown ended) after.out.written (Failed before after Output) ending
 
--- Why stanza-create is refused, from what the repository and the data folder held as it began, which counts of faults rose, and whether the count of held locks did.
-abbrev pub CreateCause : Text → Option Content → Option Nodes → Type 0 → Type 0 → Type 0 → Type 0 → Fault → Type 0
-CreateCause stanza repo nodes disk_rose tree_rose lock_rose held (InfoDamaged name main copy) = OnTold stanza repo nodes (InfoDamaged name main copy)
-CreateCause stanza repo nodes disk_rose tree_rose lock_rose held (HistoryDiffers at) = OnTold stanza repo nodes (HistoryDiffers at)
-CreateCause stanza repo nodes disk_rose tree_rose lock_rose held (StanzaMismatch kept found) = OnTold stanza repo nodes (StanzaMismatch kept found)
-CreateCause stanza repo nodes disk_rose tree_rose lock_rose held (ArchiveLost label) = OnTold stanza repo nodes (ArchiveLost label)
-CreateCause stanza repo nodes disk_rose tree_rose lock_rose held (Held name) = ((string_bytes name ≡ backup_lock stanza) ⊎ (string_bytes name ≡ archive_lock stanza)) × held
-CreateCause stanza repo nodes disk_rose tree_rose lock_rose held Disk = disk_rose
-CreateCause stanza repo nodes disk_rose tree_rose lock_rose held Locks = lock_rose
-CreateCause stanza repo nodes disk_rose tree_rose lock_rose held other = ClusterCause nodes tree_rose other
+-- A command did what was asked for, and tells how it ended.
+pub record Carries (a : Asked) (unknown : List Text) (before after : Seen) (result : ℕ) : Type 0 where
+  pub ended : Result Outcome Fault
+  pub did : Did a before after ended
+  pub brackets : Brackets a before after ended
+  pub answered : IsAnswered unknown before after ended result
 
--- Ok of stanza-create: there was no stanza, or one of the data folder's cluster.
-pub record IsMade (stanza : Text) (repo : Option Content) (nodes : Option Nodes) : Type 0 where
-  pub told : Control
-  pub tells : IfSome nodes (λ f. FolderTells f told)
-  pub was : IfSome repo (LacksStanza stanza) ⊎ IfSome repo (HasStanzaOf stanza told)
+-- Words that don't settle a command do nothing: the configuration was read, and what refused them is told.
+pub record Refuses (words : List Text) (before after : Seen) (result : ℕ) : Type 0 where
+  pub fault : Fault
+  pub cause : ConfigCause words before.config.files (Failed before after Config) fault
+  pub answered : IsAnswered [] before after (Err fault) result
 
--- ---- archive-push
+-- What the settled words ask for is done and told; or it isn't built.
+abbrev pub Obeys : Settled → Seen → Seen → ℕ → Type 0
+Obeys s before after result = ((a : Asked) × IsAsked s a × Carries a s.warnings before after result)
+    ⊎ ((what : Unbuilt) × (requested s ≡ Err what) × IsAnswered s.warnings before after (Err (Stage (NotBuilt what))) result)
 
--- the data folder tells this cluster, and the archive pair has it as its current one
-pub record IsCurrent (stanza : Text) (repo : Option Content) (nodes : Option Nodes) (told : Control) (c : ClusterId) : Type 0 where
-  pub tells : IfSome nodes (λ f. FolderTells f told)
-  pub current : IfSome repo (λ f. HasCurrent stanza f c)
-  pub same : identity_kept c ≡ identity_told told
+-- The words are refused, or they settle a command, which is obeyed.
+abbrev pub Answers : List Text → Seen → Seen → ℕ → Type 0
+Answers words before after result = Refuses words before after result
+    ⊎ ((s : Settled) × Settles words before.config.files (Ok s) × Obeys s before after result)
 
--- and the word names a file of the log, of which the data folder has these bytes
-pub record IsReady (stanza folder path : Text) (repo : Option Content) (nodes : Option Nodes) (wal : ArchiveName) (bytes : Text) (told : Control) (c : ClusterId) : Type 0 where
-  pub has : IfSome nodes (λ f. HasWal f folder path wal bytes)
-  pub of : IsCurrent stanza repo nodes told c
+-- ---- what follows for a command that is asked for
 
--- the file is refused for its content
-pub record IsRefusedPush (stanza folder path : Text) (repo : Option Content) (nodes : Option Nodes) (fault : ArchiveFault) : Type 0 where
-  pub wal : ArchiveName
-  pub bytes : Text
-  pub told : Control
-  pub current : ClusterId
-  pub ready : IsReady stanza folder path repo nodes wal bytes told current
-  pub cause : PushCause stanza (id_kept current) wal told.system bytes repo ⊥ fault
+-- all of its steps are done, in what the disks hold and in all that a stop leaves
+abbrev pub AllDone : Asked → Seen → Seen → Type 0
+AllDone a before after = On (manner_of a.request a.data_folder before.tree.nodes) (λ command. Leads a.stanza command true before.repo.view before.spool.view after.repo.view after.spool.view)
 
--- the file isn't there or is too long, and all that is looked at before is well
-pub record IsRefusedFile (stanza folder path : Text) (repo : Option Content) (nodes : Option Nodes) (fault : Fault) : Type 0 where
-  pub wal : ArchiveName
-  pub named : IsWalPath folder path wal
-  pub told : Control
-  pub current : ClusterId
-  pub of : IsCurrent stanza repo nodes told current
-  pub cause : FileCause path (wal_text wal) (limit_of wal) nodes ⊥ fault
+-- a part of them is, at its end and at each moment
+abbrev pub PartDone : Asked → Seen → Seen → Type 0
+PartDone a before after = On (manner_of a.request a.data_folder before.tree.nodes) (λ command. Leads a.stanza command false before.repo.view before.spool.view after.repo.view after.spool.view × Passes a.stanza command before.repo.view after.repo.view)
 
--- Why a file that the word names isn't stored.
-abbrev pub StoreCause : Text → Text → Text → Option Content → Option Nodes → Type 0 → Type 0 → Type 0 → Type 0 → Fault → Type 0
-StoreCause stanza folder path repo nodes disk_rose tree_rose lock_rose held (Held name) = (string_bytes name ≡ archive_lock stanza) × held
-StoreCause stanza folder path repo nodes disk_rose tree_rose lock_rose held (StanzaMissing word) = TellsSome nodes × ValueCause stanza repo ⊥ (StanzaMissing word)
-StoreCause stanza folder path repo nodes disk_rose tree_rose lock_rose held (InfoDamaged name main copy) = TellsSome nodes × ValueCause stanza repo ⊥ (InfoDamaged name main copy)
-StoreCause stanza folder path repo nodes disk_rose tree_rose lock_rose held (StanzaMismatch kept found) = (told : Control) × IfSome nodes (λ f. FolderTells f told) × CurrentCause stanza told repo ⊥ (StanzaMismatch kept found)
-StoreCause stanza folder path repo nodes disk_rose tree_rose lock_rose held (SegmentMissing word) = IsRefusedFile stanza folder path repo nodes (SegmentMissing word)
-StoreCause stanza folder path repo nodes disk_rose tree_rose lock_rose held (TooLong word limit) = IsRefusedFile stanza folder path repo nodes (TooLong word limit) ⊎ IsRefusedPush stanza folder path repo nodes (LongOf word limit)
-StoreCause stanza folder path repo nodes disk_rose tree_rose lock_rose held (HeaderForm info) = IsRefusedPush stanza folder path repo nodes (FormOf info)
-StoreCause stanza folder path repo nodes disk_rose tree_rose lock_rose held (SegmentSize told found) = IsRefusedPush stanza folder path repo nodes (SizeOf told found)
-StoreCause stanza folder path repo nodes disk_rose tree_rose lock_rose held (HeaderMismatch kept found) = IsRefusedPush stanza folder path repo nodes (MismatchOf kept found)
-StoreCause stanza folder path repo nodes disk_rose tree_rose lock_rose held (Ambiguous first second) = IsRefusedPush stanza folder path repo nodes (AmbiguousOf first second)
-StoreCause stanza folder path repo nodes disk_rose tree_rose lock_rose held (Duplicate kept found) = IsRefusedPush stanza folder path repo nodes (DuplicateOf kept found)
-StoreCause stanza folder path repo nodes disk_rose tree_rose lock_rose held Disk = disk_rose
-StoreCause stanza folder path repo nodes disk_rose tree_rose lock_rose held Locks = lock_rose
-StoreCause stanza folder path repo nodes disk_rose tree_rose lock_rose held other = ClusterCause nodes tree_rose other
+-- none is
+abbrev pub NoneDone : Asked → Seen → Seen → Type 0
+NoneDone a before after = On (manner_of a.request a.data_folder before.tree.nodes) (λ command. Leads a.stanza (turns_of command) false before.repo.view before.spool.view after.repo.view after.spool.view)
 
--- Why archive-push is refused: the word comes first.
-abbrev pub PushFileCause : Text → Text → Text → Option Content → Option Nodes → Type 0 → Type 0 → Type 0 → Type 0 → Fault → Type 0
-PushFileCause stanza folder path repo nodes disk_rose tree_rose lock_rose held fault =
-    WordCause folder path fault ⊎ (((wal : ArchiveName) × IsWalPath folder path wal) × StoreCause stanza folder path repo nodes disk_rose tree_rose lock_rose held fault)
+-- the statuses of a command that ends before its own first step: it was refused for what was found, or the connection to the server failed
+abbrev pub IsEarly : ℕ → Type 0
+IsEarly status = ((1 ≤ status) × (status ≤ 72)) ⊎ ((status ≡ 83) ⊎ ((100 ≤ status) × (status ≤ 101)))
 
--- Ok of archive-push, with its lines: none where the file wasn't stored, and a warning where it was, with the same sum.
-pub record IsStored (stanza folder path : Text) (repo : Option Content) (nodes : Option Nodes) (lines : Text) : Type 0 where
-  pub wal : ArchiveName
-  pub bytes : Text
-  pub told : Control
-  pub current : ClusterId
-  pub ready : IsReady stanza folder path repo nodes wal bytes told current
-  pub valid : IsFileOf wal bytes told.system
-  pub told_by : ((lines ≡ []) × IfSome repo (λ f. StoresNone stanza (id_kept current) wal f))
-      ⊎ ((lines ≡ same_line (wal_text wal)) × IfSome repo (λ f. StoresOnly stanza (id_kept current) wal f (sha1 bytes)))
+-- where no cause of a refusal holds, and the output didn't fail, the answer is Ok, or that the file isn't there, or want of memory
+abbrev pub Completes : Asked → Seen → Seen → ℕ → Type 0
+Completes a before after result = ((fault : Fault) → fault ≢ NoMemory → ¬ Cause a before after fault) → ¬ Failed before after Output → (result ≤ 1) ⊎ (result ≡ 90)
 
--- ---- all
-
--- Why a command answers so.
-pub data AskedCause (a : Asked) (repo : Option Content) (nodes : Option Nodes) (disk_rose tree_rose lock_rose held : Type 0) (pending : Option (List ℕ)) (wire_rose : Type 0) : Ending → Type 0 where
-  -- the stanza is made, or was there
-  Made : a.request ≡ create → IsMade a.stanza repo nodes → Agrees a.server nodes pending → AskedCause a repo nodes disk_rose tree_rose lock_rose held pending wire_rose (finished [])
-  -- the file is stored
-  Stored : (path lines : Text) → a.request ≡ push path → IsStored a.stanza a.data_folder path repo nodes lines → AskedCause a repo nodes disk_rose tree_rose lock_rose held pending wire_rose (finished lines)
-  -- the file is served
-  Given : (name path : Text) (bytes : Text) → a.request ≡ get name path → IsServed a.stanza a.data_folder name path repo nodes bytes → AskedCause a repo nodes disk_rose tree_rose lock_rose held pending wire_rose (finished [])
-  -- the archive has no such file
-  Missing : (name path : Text) → a.request ≡ get name path → IsMissing a.stanza a.data_folder name path repo nodes → AskedCause a repo nodes disk_rose tree_rose lock_rose held pending wire_rose (absent name)
-  -- the report is told
-  Reported : (form : OutputWord) (lines : Text) → a.request ≡ report form → IsReported a.stanza form repo lines → AskedCause a repo nodes disk_rose tree_rose lock_rose held pending wire_rose (finished lines)
-  -- stanza-create is refused
-  Creating : (fault : Fault) → a.request ≡ create → CreateCause a.stanza repo nodes disk_rose tree_rose lock_rose held fault → AskedCause a repo nodes disk_rose tree_rose lock_rose held pending wire_rose (refused fault)
-  -- the server is refused
-  Talking : (fault : Fault) → a.request ≡ create → ServerCause a.server nodes pending wire_rose fault → AskedCause a repo nodes disk_rose tree_rose lock_rose held pending wire_rose (refused fault)
-  -- archive-push is refused
-  Pushing : (path : Text) (fault : Fault) → a.request ≡ push path → PushFileCause a.stanza a.data_folder path repo nodes disk_rose tree_rose lock_rose held fault → AskedCause a repo nodes disk_rose tree_rose lock_rose held pending wire_rose (refused fault)
-  -- archive-get is refused
-  Getting : (name path : Text) (fault : Fault) → a.request ≡ get name path → GetFileCause a.stanza a.data_folder name path repo nodes disk_rose tree_rose fault → AskedCause a repo nodes disk_rose tree_rose lock_rose held pending wire_rose (refused fault)
-  -- info is refused
-  Reporting : (form : OutputWord) (fault : Fault) → a.request ≡ report form → InfoCause a.stanza repo disk_rose fault → AskedCause a repo nodes disk_rose tree_rose lock_rose held pending wire_rose (refused fault)
-
--- Why the program answers so, where the server was to tell the bytes that were pending. The counts that may have risen are those of the repository, the data folder, the locks, the locks that were held, the server, the configuration and the output.
-pub data Cause (words : List Text) (files : Option Content) (repo : Option Content) (nodes : Option Nodes) (disk_rose tree_rose lock_rose held : Type 0) (pending : Option (List ℕ)) (wire_rose source_rose sink_rose : Type 0) : Answer → Type 0 where
-  -- the words or their configuration are refused
-  Refused : (fault : Fault) → ConfigCause words files source_rose fault → Cause words files repo nodes disk_rose tree_rose lock_rose held pending wire_rose source_rose sink_rose (record { unknown = []; ending = refused fault })
-  -- they ask for what isn't built
-  Unknown : (s : Settled) (what : Unbuilt) → Settles words files (Ok s) → requested s ≡ Err what →
-      Cause words files repo nodes disk_rose tree_rose lock_rose held pending wire_rose source_rose sink_rose (record { unknown = s.warnings; ending = refused (NotBuilt what) })
-  -- the command's answer
-  Asking : (s : Settled) (a : Asked) (ending : Ending) → Settles words files (Ok s) → IsAsked s a → AskedCause a repo nodes disk_rose tree_rose lock_rose held pending wire_rose ending →
-      Cause words files repo nodes disk_rose tree_rose lock_rose held pending wire_rose source_rose sink_rose (record { unknown = s.warnings; ending = ending })
-  -- the output failed
-  Output : (unknown : List Text) → sink_rose → Cause words files repo nodes disk_rose tree_rose lock_rose held pending wire_rose source_rose sink_rose (record { unknown = unknown; ending = refused Sink })
-  -- want of memory
-  Memory : (unknown : List Text) → Cause words files repo nodes disk_rose tree_rose lock_rose held pending wire_rose source_rose sink_rose (record { unknown = unknown; ending = refused NoMemory })
+-- the statuses of a server's answer that is refused; 70 is also that of a file that is too long
+abbrev pub IsServerRefusal : ℕ → Type 0
+IsServerRefusal status = ((47 ≤ status) × (status ≤ 51)) ⊎ ((70 ≤ status) × (status ≤ 71))

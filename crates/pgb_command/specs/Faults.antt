@@ -1,54 +1,41 @@
--- Which answer a fault below is.
-use Rattle.pgb_outside.specs.declared.stop.Stop.{Stop}
-use Rattle.pgb_outside.specs.declared.stop.Stop.TheVariants.{Failed, NoMemory as StopNoMemory}
-use Rattle.pgb_stanza.specs.declared.control.ControlFault.{ControlFault}
-use Rattle.pgb_stanza.specs.declared.control.ControlFault.TheVariants.{ControlShort as ShortControl, VersionText as NoVersion, VersionUnsupported as OtherVersion}
-use Rattle.pgb_archive.specs.declared.fault.ArchiveFault.{ArchiveFault}
-use Rattle.pgb_archive.specs.declared.fault.ArchiveFault.TheVariants.{HeaderForm as FormOf, SegmentSize as SizeOf, HeaderMismatch as MismatchOf, Ambiguous as AmbiguousOf, Duplicate as DuplicateOf, NotFound, SegmentDamaged as DamagedOf, TooLong as LongOf, TooMany as ManyOf, Disk as ArchiveDisk, NoMemory as ArchiveNoMemory}
-use Rattle.pgb_archive.specs.declared.fault.PushFault.{PushFault}
-use Rattle.pgb_archive.specs.declared.fault.PushFault.TheVariants.{Archive, Source as PushSource}
+-- Which answer a call's end is.
+use Rattle.std.specs.Prelude.{Result, Ok, Err}
 use Rattle.pgb_options.specs.declared.usage.Usage.{Usage}
 use Rattle.pgb_options.specs.declared.usage.Usage.TheVariants.{NoMemory as UsageNoMemory}
-use Rattle.pgb_server.specs.declared.fault.ServerFault.{ServerFault}
-use Rattle.pgb_server.specs.declared.fault.ServerFault.TheVariants.{Wire as LostWire, NoMemory as ServerNoMemory}
+use Rattle.pgb_stage.specs.declared.outcome.Outcome.{Outcome}
+use Rattle.pgb_stage.specs.declared.fault.StageFault.{StageFault}
+use Rattle.pgb_stage.specs.declared.halt.Halt.{Halt}
+use Rattle.pgb_stage.specs.declared.halt.Halt.TheVariants.{Refused, Failed as HaltFailed, NoMemory as HaltMemory}
+use Rattle.pgb_create.specs.declared.fault.CreateFault.{CreateFault}
+use Rattle.pgb_push.specs.declared.fault.PushFault.{PushFault}
+use Rattle.pgb_get.specs.declared.fault.GetFault.{GetFault}
+use Rattle.pgb_command.specs.declared.fault.CommandFault.TheVariants.{Create, Push, Get}
 use Rattle.pgb_command.specs.declared.fault.Fault.{Fault}
-use Rattle.pgb_command.specs.declared.fault.Fault.TheVariants.{Settings, ControlShort, VersionText, VersionUnsupported, HeaderForm, SegmentSize, HeaderMismatch, Ambiguous, Duplicate, SegmentDamaged, TooLong, TooMany, Server, Disk, Tree, Wire, Source, NoMemory}
+use Rattle.pgb_command.specs.declared.fault.Fault.TheVariants.{Usage as OfUsage, Stage, Command, Failed, NoMemory}
 
-abbrev pub of_tree : Stop → Fault
-of_tree Failed = Tree
-of_tree StopNoMemory = NoMemory
+-- a refusal by this, or what failed
+abbrev pub of_halt : {E : Type 0} → (E → Fault) → Halt E → Fault
+of_halt of (Refused e) = of e
+of_halt of (HaltFailed object) = Failed object
+of_halt of HaltMemory = NoMemory
 
-abbrev pub of_source : Stop → Fault
-of_source Failed = Source
-of_source StopNoMemory = NoMemory
+abbrev pub of_stage : Halt StageFault → Fault
+of_stage = of_halt Stage
 
+abbrev pub of_create : Halt CreateFault → Fault
+of_create = of_halt (λ e. Command (Create e))
+
+abbrev pub of_push : Halt PushFault → Fault
+of_push = of_halt (λ e. Command (Push e))
+
+abbrev pub of_get : Halt GetFault → Fault
+of_get = of_halt (λ e. Command (Get e))
+
+abbrev pub lift : {T E : Type 0} → (Halt E → Fault) → Result T (Halt E) → Result T Fault
+lift of (Ok outcome) = Ok outcome
+lift of (Err halt) = Err (of halt)
+
+-- words or a configuration that are refused
 abbrev pub of_usage : Usage → Fault
 of_usage UsageNoMemory = NoMemory
-of_usage usage = Settings usage
-
-abbrev pub of_server : ServerFault → Fault
-of_server ServerNoMemory = NoMemory
-of_server LostWire = Wire
-of_server fault = Server fault
-
-abbrev pub of_control : ControlFault → Fault
-of_control (ShortControl n) = ControlShort n
-of_control NoVersion = VersionText
-of_control (OtherVersion n) = VersionUnsupported n
-
-abbrev pub of_archive : ArchiveFault → Fault
-of_archive (FormOf info) = HeaderForm info
-of_archive (SizeOf told found) = SegmentSize told found
-of_archive (MismatchOf kept found) = HeaderMismatch kept found
-of_archive (AmbiguousOf first second) = Ambiguous first second
-of_archive (DuplicateOf kept found) = Duplicate kept found
-of_archive NotFound = NoMemory
-of_archive (DamagedOf told found) = SegmentDamaged told found
-of_archive (LongOf name limit) = TooLong name limit
-of_archive (ManyOf limit) = TooMany limit
-of_archive ArchiveDisk = Disk
-of_archive ArchiveNoMemory = NoMemory
-
-abbrev pub of_push : PushFault → Fault
-of_push (Archive fault) = of_archive fault
-of_push PushSource = Tree
+of_usage usage = OfUsage usage

@@ -1,36 +1,28 @@
 -- What the code's settings stand for.
-use Rattle.std.specs.Prelude.{Option, Some, None, option_map}
-use Rattle.pgb_command.specs.declared.settings.Settings.{Settings}
-use Rattle.pgb_command.specs.declared.server.Server as code
-use Rattle.pgb_command.specs.Talking.{Server}
-use Rattle.pgb_command.specs.declared.settings.Asking.{Asking}
-use Rattle.pgb_command.specs.declared.settings.Asking.TheVariants.{Write, ArchiveGet, Info}
-use Rattle.pgb_command.specs.declared.settings.Writing.{Writing}
-use Rattle.pgb_command.specs.declared.settings.Writing.TheVariants.{StanzaCreate, ArchivePush}
+use Rattle.std.specs.Prelude.{◌≡◌, option_map}
 use Rattle.pgb_model.specs.Text.{Text}
-use Rattle.pgb_command.specs.Locking.{backup_lock, archive_lock}
+use Rattle.pgb_create.specs.Server.{server_view}
+use Rattle.pgb_push.specs.Orders.{IsNamed}
+use Rattle.pgb_command.specs.declared.settings.Settings.{Settings}
+use Rattle.pgb_command.specs.declared.settings.Request as code
+use Rattle.pgb_command.specs.declared.settings.Request.TheVariants.{StanzaCreate, ArchivePush, ArchiveGet, Info}
+use Rattle.pgb_command.specs.declared.order.Order.{Order}
+use Rattle.pgb_command.specs.declared.order.Order.TheVariants as order
 use Rattle.pgb_command.specs.Asked.{Request, create, push, get, report, Asked}
 
-abbrev pub writing_of : Writing → Request
-writing_of StanzaCreate = create
-writing_of (ArchivePush path) = push path.now
-
--- the names of a writing command's locks
-abbrev pub writing_first : Text → Writing → Text
-writing_first stanza StanzaCreate = backup_lock stanza
-writing_first stanza (ArchivePush path) = archive_lock stanza
-
-abbrev pub writing_second : Text → Writing → Option Text
-writing_second stanza StanzaCreate = Some (archive_lock stanza)
-writing_second stanza (ArchivePush path) = None
-
-abbrev pub request_of : Asking → Request
-request_of (Write writing) = writing_of writing
+abbrev pub request_of : code.Request → Request
+request_of StanzaCreate = create
+request_of (ArchivePush path) = push path.now
 request_of (ArchiveGet name path) = get name.now path.now
 request_of (Info form) = report form
 
-abbrev pub server_view : code.Server → Server
-server_view s = record { folder = s.folder.now; port = s.port; user = s.user.now; database = s.database.now }
-
 abbrev pub asked_of : Settings → Asked
 asked_of s = record { stanza = s.stanza.now; data_folder = s.pg1_path.now; repository = s.repo1_path.now; lock_folder = s.lock_path.now; server = option_map server_view s.server; request = request_of s.request }
+
+-- the order is what was asked for, with its words read
+abbrev pub IsOrder : Request → Text → Order → Type 0
+IsOrder create folder order.StanzaCreate = Unit {0}
+IsOrder (push path) folder (order.ArchivePush o) = IsNamed o × (o.folder.now ≡ folder) × (o.path.now ≡ path)
+IsOrder (get name path) folder (order.ArchiveGet o) = (o.folder.now ≡ folder) × (o.word.now ≡ name) × (o.path.now ≡ path)
+IsOrder (report form) folder (order.Info asked) = asked ≡ form
+IsOrder request folder other = ⊥

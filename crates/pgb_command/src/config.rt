@@ -6,15 +6,30 @@ ghost use Rattle.pgb_options.specs.Commands.{IsCommand};
 ghost use Rattle.pgb_options.specs.Paths.{Path, path_of_words};
 ghost use Rattle.pgb_options.specs.Settings.{Settled};
 ghost use Rattle.pgb_command.specs.Asked.{MayHave, Settles, config_limit};
+ghost use Rattle.pgb_stage.specs.declared.object.Object.TheVariants.{Config as TheConfig};
+ghost use Rattle.pgb_stage.specs.Halts.{halt_of};
+ghost use Rattle.pgb_command.specs.declared.fault.Fault.TheVariants.{Stage};
+ghost use Rattle.pgb_command.specs.Faults.{of_halt};
 ghost use Rattle.pgb_command.specs.Configuring.{SourceCause, ConfigCause};
 
-use crate::fault::{Fault, of_source};
+use crate::fault::Fault;
 use pgb_options::{Command, ConfigPath, config_path, settle_words};
 use pgb_outside::{Source, Stop};
+use pgb_stage::{Object, StageFault};
 use std::alloc::Global;
 
 // A configuration has at most 1 MiB.
 const CONFIG_LIMIT: usize = 1 << 20;
+
+// What a stop of the configuration is.
+fn of_stop(stop: Stop) -> Fault
+    ensures { result ≡ of_halt Stage (halt_of TheConfig stop) }
+{
+    match stop {
+        Stop::Failed => Fault::Failed(Object::Config),
+        Stop::NoMemory => Fault::NoMemory,
+    }
+}
 
 // The first bytes that are left, at most `limit`.
 fn read_front<I: Source>(alloc: Global, config: &mut I, limit: usize) -> Result<Vec<u8>, Stop>
@@ -52,19 +67,19 @@ fn read_file<I: Source>(
     match config.open(path) {
         Ok(true) => {}
         Ok(false) => return Ok(None),
-        Err(stop) => return Err(of_source(stop)),
+        Err(stop) => return Err(of_stop(stop)),
     }
     match read_front(alloc, config, limit + 1) {
         Ok(bytes) => {
             if bytes.len() <= limit {
                 return Ok(Some(bytes));
             }
-            Err(Fault::TooLong {
-                name: String::from_str(alloc, path)?,
+            Err(Fault::Stage(StageFault::ConfigLong {
+                path: String::from_str(alloc, path)?,
                 limit: limit as u64,
-            })
+            }))
         }
-        Err(stop) => Err(of_source(stop)),
+        Err(stop) => Err(of_stop(stop)),
     }
 }
 
@@ -90,7 +105,7 @@ fn configuration<I: Source>(
         },
         ConfigPath::Named(path) => match read_file(alloc, config, &path, limit)? {
             Some(bytes) => Ok(bytes),
-            None => Err(Fault::ConfigMissing { path }),
+            None => Err(Fault::Stage(StageFault::ConfigMissing { path })),
         },
     }
 }

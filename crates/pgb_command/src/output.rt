@@ -1,17 +1,14 @@
-// The output is written.
-ghost use Rattle.std.specs.Prelude.{◌≡◌, ◌≤◌, ◌++◌, [], ◌∷◌, map, OnOk, OnErr, IfOk, IfErr, option_map, string_bytes};
+// Writes the output.
+ghost use Rattle.std.specs.Prelude.{◌≡◌, ◌≤◌, ◌++◌, [], ◌∷◌, map, OnOk, OnErr, IfOk, option_map, string_bytes};
 ghost use Rattle.std.specs.List.{flat_map};
 ghost use Rattle.pgb_outside.specs.Cause.{HasCause, Rises};
-ghost use Rattle.pgb_model.specs.Text.{Text};
-ghost use Rattle.pgb_command.specs.declared.fault.Fault.TheVariants.{NoMemory as OutOfMemory};
-ghost use Rattle.pgb_command.specs.Answers.{Ending, refused, status, Answer, ending_lines, lines_of, unknown_line, error_line};
+ghost use Rattle.pgb_command.specs.Answers.{Ending, status, ending_of, answer_of, ending_lines, lines_of, unknown_line};
 ghost use Rattle.pgb_command.specs.Output.{IsFrontWritten, IsTold};
-ghost use Rattle.pgb_command.specs.Outcomes.{ending_of, answer_of};
 
 use crate::fault::{Fault, status};
-use crate::lines::{absent_line, line, push_unknown, same_line};
-use crate::outcome::{Outcome, Served};
+use crate::lines::{absent_line, error_line, push_unknown};
 use pgb_outside::{Sink, Stop};
+use pgb_stage::{Object, Outcome};
 use pgb_text::NoMemory;
 use std::alloc::Global;
 
@@ -29,7 +26,7 @@ fn unknown_lines(alloc: Global, keys: &[String]) -> Result<Vec<u8>, NoMemory>
     Ok(text)
 }
 
-// The bytes of a report.
+// The bytes of lines.
 fn bytes_of(alloc: Global, text: &str) -> Result<Vec<u8>, NoMemory>
     ensures { IfOk result (λ bytes. bytes.items ≡ text.now) }
 {
@@ -39,33 +36,35 @@ fn bytes_of(alloc: Global, text: &str) -> Result<Vec<u8>, NoMemory>
 }
 
 // The lines of how a command ended.
-fn lines_at_end(alloc: Global, ending: &Result<Outcome, Fault>) -> Result<Vec<u8>, NoMemory>
-    ensures { IfOk result (λ text. text.items ≡ ending_lines (ending_of ending.now)) }
+fn lines_at_end(alloc: Global, ended: &Result<Outcome, Fault>) -> Result<Vec<u8>, NoMemory>
+    ensures { IfOk result (λ text. text.items ≡ ending_lines (ending_of ended.now)) }
 {
-    match ending {
-        Ok(Outcome::Silent) => Ok(Vec::new(alloc)),
-        Ok(Outcome::SameStored { name }) => same_line(alloc, name),
+    match ended {
+        Ok(Outcome::Finished { lines }) => bytes_of(alloc, lines),
         Ok(Outcome::Absent { name }) => absent_line(alloc, name),
-        Ok(Outcome::Report { text }) => bytes_of(alloc, text),
-        Err(fault) => line(alloc, fault),
+        Err(fault) => error_line(alloc, fault),
     }
 }
 
 // All lines.
-fn lines(alloc: Global, served: &Served) -> Result<Vec<u8>, NoMemory>
-    ensures { IfOk result (λ text. text.items ≡ lines_of (answer_of served.now)) }
+fn lines(
+    alloc: Global,
+    unknown: &[String],
+    ended: &Result<Outcome, Fault>,
+) -> Result<Vec<u8>, NoMemory>
+    ensures { IfOk result (λ text. text.items ≡ lines_of (answer_of (map string_bytes unknown.now) ended.now)) }
 {
-    let mut text = unknown_lines(alloc, &served.unknown)?;
-    let end = lines_at_end(alloc, &served.ending)?;
+    let mut text = unknown_lines(alloc, unknown)?;
+    let end = lines_at_end(alloc, ended)?;
     text.extend_from_slice(&end)?;
     Ok(text)
 }
 
 // The status of a command whose lines were written.
-fn status_at_end(ending: &Result<Outcome, Fault>) -> u8
-    ensures { result ≡ status (ending_of ending.now) }
+fn status_at_end(ended: &Result<Outcome, Fault>) -> u8
+    ensures { result ≡ status (ending_of ended.now) }
 {
-    match ending {
+    match ended {
         Ok(Outcome::Absent { .. }) => 1,
         Ok(_) => 0,
         Err(fault) => status(fault),
@@ -73,25 +72,31 @@ fn status_at_end(ending: &Result<Outcome, Fault>) -> u8
 }
 
 /// Writes what is told of a command, and answers the status: another one where the output fails or memory runs out.
-pub(crate) fn answer<O: Sink>(alloc: Global, out: &mut O, served: &Served) -> u8
-    ensures told { (ending : Ending) × (result ≡ status ending) × IsTold (O.written out.old) (answer_of served.now) (O.written out.new) (Rises (O.faults out.old) (O.faults out.new)) ending }
+pub(crate) fn answer<O: Sink>(
+    alloc: Global,
+    out: &mut O,
+    unknown: &[String],
+    ended: &Result<Outcome, Fault>,
+) -> u8
+    ensures told { (ending : Ending) × (result ≡ status ending) × IsTold (O.written out.old) (answer_of (map string_bytes unknown.now) ended.now) (O.written out.new) (Rises (O.faults out.old) (O.faults out.new)) ending }
+    ensures later { O.faults out.old ≤ O.faults out.new }
 {
-    match lines(alloc, served) {
+    match lines(alloc, unknown, ended) {
         Ok(text) => match write_all(out, &text) {
-            Ok(()) => status_at_end(&served.ending),
-            Err(Stop::Failed) => status(&Fault::Sink),
+            Ok(()) => status_at_end(ended),
+            Err(Stop::Failed) => status(&Fault::Failed(Object::Output)),
             Err(Stop::NoMemory) => status(&Fault::NoMemory),
         },
         Err(_) => match write_all(out, OUT_OF_MEMORY) {
             Ok(()) => status(&Fault::NoMemory),
-            Err(Stop::Failed) => status(&Fault::Sink),
+            Err(Stop::Failed) => status(&Fault::Failed(Object::Output)),
             Err(Stop::NoMemory) => status(&Fault::NoMemory),
         },
     }
 }
 
-/// Writes all of the bytes, or a first part of them where the sink stops.
-pub(crate) fn write_all<O: Sink>(out: &mut O, bytes: &[u8]) -> Result<(), Stop>
+// Writes all of the bytes, or a first part of them where the sink stops.
+fn write_all<O: Sink>(out: &mut O, bytes: &[u8]) -> Result<(), Stop>
     ensures ok { OnOk result (O.written out.new ≡ option_map (λ text. text ++ bytes.now) (O.written out.old)) }
     ensures err { OnErr result (IsFrontWritten (O.written out.old) bytes.now (O.written out.new)) }
     ensures cause { HasCause (O.faults out.old) (O.faults out.new) result }

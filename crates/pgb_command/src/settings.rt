@@ -4,24 +4,20 @@ ghost use Rattle.pgb_options.specs.Commands.{IsCommand};
 ghost use Rattle.pgb_options.specs.Filled.{or_else};
 ghost use Rattle.pgb_options.specs.Settings.{Settled};
 ghost use Rattle.pgb_command.specs.Asked.{request_by, first_of, second_of, requested, IsAsked};
+ghost use Rattle.pgb_command.specs.Tables.{plan_of};
 ghost use Rattle.pgb_command.specs.Told.{request_of, asked_of};
 
-use crate::fault::Unbuilt;
-use crate::server::Server;
+use crate::server::server_of;
+use pgb_create::Server;
 use pgb_options::{Command, OutputWord, Verb};
-
-/// A command that writes to the repository, under a lock.
-#[derive(Clone, Copy)]
-pub enum Writing<'a> {
-    StanzaCreate,
-    /// The file that is to be stored, as the server names it.
-    ArchivePush { path: &'a str },
-}
+use pgb_stage::{Plan, Pairs, Unbuilt};
 
 /// Which command is asked for.
 #[derive(Clone, Copy)]
-pub enum Asking<'a> {
-    Write(Writing<'a>),
+pub enum Request<'a> {
+    StanzaCreate,
+    /// The file that is to be stored, as the server names it.
+    ArchivePush { path: &'a str },
     /// The archived file that is to be served, and where.
     ArchiveGet { name: &'a str, path: &'a str },
     /// The report, in this form.
@@ -37,7 +33,7 @@ pub struct Settings<'a> {
     pub lock_path: &'a str,
     /// The server that is asked, where one is.
     pub server: Option<Server<'a>>,
-    pub request: Asking<'a>,
+    pub request: Request<'a>,
 }
 
 // The first parameter.
@@ -71,30 +67,30 @@ fn path_of(path: &Option<String>) -> &str
 }
 
 // What the command is to do, where that is built.
-fn request_of(command: &Command) -> Result<Asking<'_>, Unbuilt>
+fn request_of(command: &Command) -> Result<Request<'_>, Unbuilt>
     ensures asked { IfOk result (λ r. request_by command.now.verb command.now.options.archive_async command.now.options.output (map string_bytes command.now.given.items) ≡ Ok (request_of r)) }
     ensures unbuilt { IfErr result (λ what. request_by command.now.verb command.now.options.archive_async command.now.options.output (map string_bytes command.now.given.items) ≡ Err what) }
 {
     match command.verb {
-        Verb::StanzaCreate => Ok(Asking::Write(Writing::StanzaCreate)),
+        Verb::StanzaCreate => Ok(Request::StanzaCreate),
         Verb::ArchivePush => {
             if command.options.archive_async {
                 return Err(Unbuilt::Background);
             }
-            Ok(Asking::Write(Writing::ArchivePush {
+            Ok(Request::ArchivePush {
                 path: first_of(&command.given),
-            }))
+            })
         }
         Verb::ArchiveGet => {
             if command.options.archive_async {
                 return Err(Unbuilt::Background);
             }
-            Ok(Asking::ArchiveGet {
+            Ok(Request::ArchiveGet {
                 name: first_of(&command.given),
                 path: second_of(&command.given),
             })
         }
-        Verb::Info => Ok(Asking::Info {
+        Verb::Info => Ok(Request::Info {
             form: command.options.output,
         }),
         verb => Err(Unbuilt::Command(verb)),
@@ -113,7 +109,43 @@ pub(crate) fn settings_of(command: &Command) -> Result<Settings<'_>, Unbuilt>
         pg1_path: path_of(&command.options.pg1_path),
         repo1_path: &command.options.repo1_path,
         lock_path: &command.options.lock_path,
-        server: Server::of(command),
+        server: server_of(command),
         request,
     })
+}
+
+/// What the stages do for a request.
+pub(crate) fn plan_of(request: &Request<'_>) -> Plan
+    ensures { result ≡ plan_of (request_of request.now) }
+{
+    let reading = Plan {
+        folder: false,
+        backup_lock: false,
+        archive_lock: false,
+        control: false,
+        pairs: Pairs::ReadBoth,
+    };
+    match request {
+        Request::StanzaCreate => Plan {
+            folder: true,
+            backup_lock: true,
+            archive_lock: true,
+            control: true,
+            pairs: Pairs::Unread,
+        },
+        Request::ArchivePush { .. } => Plan {
+            folder: true,
+            archive_lock: true,
+            control: true,
+            pairs: Pairs::HealArchive,
+            ..reading
+        },
+        Request::ArchiveGet { .. } => Plan {
+            folder: true,
+            control: true,
+            pairs: Pairs::ReadArchive,
+            ..reading
+        },
+        Request::Info { .. } => reading,
+    }
 }

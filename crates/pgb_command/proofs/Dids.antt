@@ -1,0 +1,354 @@
+-- What the stages add to a command's own part: the same lemmas for every command.
+use Rattle.std.proofs.Common.{◌≡◌, ◌≤◌, ◌⊎◌, inl, inr, ℕ, List, [], Option, None, Result, Ok, Err, IfOk, IfErr, refl, sym, ◌∙◌, subst, ap, arith, Bool, true, false}
+use Rattle.std.specs.Prelude.{OnOk, IfSome, IsSome, IsErrAnd}
+use Rattle.pgb_outside.specs.Cause.{Rises}
+use Rattle.pgb_outside.specs.Content.{Content}
+use Rattle.pgb_outside.specs.Moments.{View, Rests}
+use Rattle.pgb_outside.specs.Tree.{Nodes}
+use Rattle.pgb_archive.specs.Still.{IsStill, rests_none, still_self, still_on}
+use Rattle.pgb_model.specs.Text.{Text}
+use Rattle.pgb_model.specs.Steps.{Command}
+use Rattle.pgb_stage.specs.declared.plan.Plan.{Plan}
+use Rattle.pgb_stage.specs.declared.object.Object.{Object}
+use Rattle.pgb_stage.specs.declared.object.Object.TheVariants.{Repo, Spool, DataFolder, Server, Others, Clock, Locks, Config, Output}
+use Rattle.pgb_stage.specs.declared.fault.StageFault.{StageFault}
+use Rattle.pgb_stage.specs.declared.fault.StageFault.TheVariants.{Held}
+use Rattle.pgb_stage.specs.declared.halt.Halt.{Halt}
+use Rattle.pgb_stage.specs.declared.halt.Halt.TheVariants.{Refused, Failed as HaltFailed, NoMemory as HaltMemory}
+use Rattle.pgb_stage.specs.declared.outcome.Outcome.{Outcome}
+use Rattle.pgb_stage.specs.Halts.{HaltCause, Never, Only}
+use Rattle.pgb_stage.specs.Plans.{Heals, AreHealed, OnReading}
+use Rattle.pgb_stage.specs.Reached.{back_if}
+use Rattle.pgb_stage.specs.Runs.{Reached, to_end, turned_back, stopped, OnNone, Runs, Leads, Passes, Takes, Quiet, Begins, On}
+use Rattle.pgb_stage.specs.Seen.{Seen, faults_of, Failed, AreLater, AreRead}
+use Rattle.pgb_stage.specs.States.{WireState, LocksState, SinkState}
+use Rattle.pgb_stage.proofs.Counts.{rises_from, rises_to}
+use Rattle.pgb_stage.proofs.Lifted.{on_as, still_quiet, rests_quiet, quiet_takes, begun_takes, opened_takes}
+use Rattle.pgb_prepare.specs.Stages.{FoundCause, StageCause}
+use Rattle.pgb_prepare.specs.Taking.{HeldCause}
+use Rattle.pgb_create.specs.declared.fault.CreateFault.TheVariants as create_fault
+use Rattle.pgb_command.specs.declared.fault.CommandFault.TheVariants.{Create, Push, Get}
+use Rattle.pgb_command.specs.declared.fault.Fault.{Fault}
+use Rattle.pgb_command.specs.declared.fault.Fault.TheVariants.{Usage, Stage, Command as OfCommand, Failed as ObjectFailed, NoMemory}
+use Rattle.pgb_command.specs.Answers.{reached_of, ending_of, is_early}
+use Rattle.pgb_command.specs.Asked.{Request, create, push, get, report, Asked}
+use Rattle.pgb_command.specs.Faults.{of_stage}
+use Rattle.pgb_command.specs.Tables.{Known, known, plan_of, manner_of, CommandCause, Promise, OnReader, OnCreate, OnOther, FolderGoes}
+use Rattle.pgb_command.specs.Did.{Ran, OnReady, Cause, Did, OwnCause, SamePlaces, Spares, Closes, WordsCause}
+use Rattle.pgb_command.proofs.Ends.{all_later}
+
+-- ---- nothing was done: a line a command
+
+pub idle : (request : Request) (folder : Text) (nodes : Option Nodes) (P : Command → Type 0) → ((command : Command) → P command) → On (manner_of request folder nodes) P
+idle create folder nodes P p = λ command is. p command
+idle (push path) folder nodes P p = λ command is. p command
+idle (get name path) folder nodes P p = λ command is. p command
+idle (report form) folder nodes P p = λ command is. p command
+
+-- what holds where no pair is healed holds of readers and of stanza-create
+pub reader_still : (request : Request) (P : Type 0) → OnReading (plan_of request).pairs P → OnReader request P
+reader_still create P h = tt
+reader_still (push path) P h = tt
+reader_still (get name path) P h = h
+reader_still (report form) P h = h
+
+pub create_still : (request : Request) (P : Type 0) → OnReading (plan_of request).pairs P → OnCreate request P
+create_still create P h = h
+create_still (push path) P h = tt
+create_still (get name path) P h = tt
+create_still (report form) P h = tt
+
+pub any_reader : (request : Request) (P : Type 0) → P → OnReader request P
+any_reader create P p = tt
+any_reader (push path) P p = tt
+any_reader (get name path) P p = p
+any_reader (report form) P p = p
+
+pub any_create : (request : Request) (P : Type 0) → P → OnCreate request P
+any_create create P p = p
+any_create (push path) P p = tt
+any_create (get name path) P p = tt
+any_create (report form) P p = tt
+
+any_other : (request : Request) (P : Type 0) → P → OnOther request P
+any_other create P p = tt
+any_other (push path) P p = p
+any_other (get name path) P p = p
+any_other (report form) P p = p
+
+reader_on : (request : Request) (P Q R : Type 0) → (P → Q → R) → OnReader request P → OnReader request Q → OnReader request R
+reader_on create P Q R to p q = tt
+reader_on (push path) P Q R to p q = tt
+reader_on (get name path) P Q R to p q = to p q
+reader_on (report form) P Q R to p q = to p q
+
+create_on : (request : Request) (P Q R : Type 0) → (P → Q → R) → OnCreate request P → OnCreate request Q → OnCreate request R
+create_on create P Q R to p q = to p q
+create_on (push path) P Q R to p q = tt
+create_on (get name path) P Q R to p q = tt
+create_on (report form) P Q R to p q = tt
+
+other_as : (request : Request) (P Q : Type 0) → (P → Q) → OnOther request P → OnOther request Q
+other_as create P Q to p = tt
+other_as (push path) P Q to p = to p
+other_as (get name path) P Q to p = to p
+other_as (report form) P Q to p = to p
+
+-- the data folder is as it was
+folder_stays : (a : Asked) (request : Request) (repo : Option Content) (old new : Option Nodes) → new ≡ old → FolderGoes a request repo old new
+folder_stays a create repo old new same = same
+folder_stays a (push path) repo old new same = same
+folder_stays a (get name path) repo old new same = subst (λ (n : Option Nodes). FolderGoes a (get name path) repo old n) (sym same) (record { told = λ some. some; others = λ q x y. refl; whole = inl refl })
+folder_stays a (report form) repo old new same = same
+
+folder_on : (a : Asked) (request : Request) (b m k : Seen) → OnReader request (IsStill b.repo.view m.repo.view) → m.tree.nodes ≡ b.tree.nodes → FolderGoes a request m.repo.view.now m.tree.nodes k.tree.nodes → FolderGoes a request b.repo.view.now b.tree.nodes k.tree.nodes
+folder_on a create b m k still nodes h = h ∙ nodes
+folder_on a (push path) b m k still nodes h = h ∙ nodes
+folder_on a (get name path) b m k still nodes h = subst (λ (o : Option Content). FolderGoes a (get name path) o b.tree.nodes k.tree.nodes) still.now
+    (subst (λ (n : Option Nodes). FolderGoes a (get name path) m.repo.view.now n k.tree.nodes) nodes h)
+folder_on a (report form) b m k still nodes h = h ∙ nodes
+
+-- ---- causes and ends
+
+later_on : (b m k : Seen) → AreLater b m → AreLater m k → AreLater b k
+later_on b m k p q object = omega (arith, p object, q object)
+
+err_as : (r : Result Outcome Fault) (P Q : Fault → Type 0) → ((fault : Fault) → P fault → Q fault) → IfErr r P → IfErr r Q
+err_as (Ok x) P Q to h = tt
+err_as (Err e) P Q to h = to e h
+
+ok_as : (r : Result Outcome Fault) (P Q : Outcome → Type 0) → ((outcome : Outcome) → P outcome → Q outcome) → IfOk r P → IfOk r Q
+ok_as (Ok x) P Q to h = to x h
+ok_as (Err e) P Q to h = tt
+
+on_ok : (r : Result Outcome Fault) (P Q : Type 0) → (P → Q) → OnOk r P → OnOk r Q
+on_ok (Ok x) P Q to h = to h
+on_ok (Err e) P Q to h = tt
+
+none_as : (reached : Reached) (P Q : Type 0) → (P → Q) → OnNone reached P → OnNone reached Q
+none_as to_end P Q to h = tt
+none_as turned_back P Q to h = to h
+none_as stopped P Q to h = tt
+
+all_none : (reached : Reached) (P : Type 0) → P → OnNone reached P
+all_none to_end P p = tt
+all_none turned_back P p = p
+all_none stopped P p = tt
+
+closes_from : (b m k : Seen) → b.server.faults ≤ m.server.faults → (fault : Fault) → Closes m k fault → Closes b k fault
+closes_from b m k le (Usage usage) h = tt
+closes_from b m k le (Stage fault) h = tt
+closes_from b m k le (OfCommand (Create (create_fault.Server fault))) (inl h) = inl h
+closes_from b m k le (OfCommand (Create (create_fault.Server fault))) (inr h) = inr (rises_from _ _ _ le h)
+closes_from b m k le (OfCommand (Create (create_fault.InfoDamaged name main copy))) h = tt
+closes_from b m k le (OfCommand (Create (create_fault.HistoryDiffers at))) h = tt
+closes_from b m k le (OfCommand (Create (create_fault.StanzaMismatch kept found))) h = tt
+closes_from b m k le (OfCommand (Create (create_fault.ArchiveLost label))) h = tt
+closes_from b m k le (OfCommand (Push fault)) h = tt
+closes_from b m k le (OfCommand (Get fault)) h = tt
+closes_from b m k le (ObjectFailed object) h = tt
+closes_from b m k le NoMemory h = tt
+
+-- what was done before it left these as they were
+pub spares_on : (a : Asked) (b m k : Seen) (r : Result Outcome Fault) → OnReader a.request (IsStill b.repo.view m.repo.view) → OnCreate a.request (IsStill b.repo.view m.repo.view) → m.tree.nodes ≡ b.tree.nodes → m.server ≡ b.server → Spares a m k r → Spares a b k r
+spares_on a b m k r reads creates nodes server s = record {
+  reads = reader_on a.request _ _ _ (still_on b.repo.view m.repo.view k.repo.view) reads s.reads;
+  folder = folder_on a a.request b m k reads nodes s.folder;
+  nodes = none_as (reached_of (ending_of r)) _ _ (λ h. h ∙ nodes) s.nodes;
+  unmade = create_on a.request _ _ _ (λ (p : IsStill b.repo.view m.repo.view) h. none_as (reached_of (ending_of r)) _ _ (λ e. e ∙ p.now) h) creates s.unmade;
+  quiet = λ none. s.quiet none ∙ server;
+  others = other_as a.request _ _ (λ e. e ∙ server) s.others;
+  closed = err_as r _ _ (closes_from b m k (omega (arith, ap (λ (w : WireState). w.faults) server))) s.closed;
+}
+
+-- a stage ended it
+pub spares_none : (a : Asked) (b k : Seen) (fault : Fault) → OnReader a.request (IsStill b.repo.view k.repo.view) → OnCreate a.request (IsStill b.repo.view k.repo.view) → k.tree.nodes ≡ b.tree.nodes → k.server ≡ b.server → Closes b k fault → Spares a b k (Err fault)
+spares_none a b k fault reads creates nodes server closes = record {
+  reads = reads;
+  folder = folder_stays a a.request b.repo.view.now b.tree.nodes k.tree.nodes nodes;
+  nodes = all_none (reached_of (ending_of (Err fault))) _ nodes;
+  unmade = create_on a.request _ (Unit {0}) _ (λ (p : IsStill b.repo.view k.repo.view) h. all_none (reached_of (ending_of (Err fault))) _ p.now) creates (any_create a.request (Unit {0}) tt);
+  quiet = λ none. server;
+  others = any_other a.request _ server;
+  closed = closes;
+}
+
+-- ---- before it only was opened or read
+
+abbrev as_known : Option Content → Option Nodes → WireState → Known
+as_known repo nodes server = record { repo = repo; nodes = nodes; server = server }
+
+known_same : (b m : Seen) → AreRead b m → known m ≡ known b
+known_same b m read =
+    ap (λ (o : Option Content). as_known o m.tree.nodes m.server) read.repo.now
+    ∙ ap (λ (o : Option Nodes). as_known b.repo.view.now o m.server) read.nodes
+    ∙ ap (λ (o : WireState). as_known b.repo.view.now b.tree.nodes o) read.server
+
+held_from : (a : Asked) (b m k : Seen) → b.locks.refusals ≤ m.locks.refusals → (fault : StageFault) → HeldCause (plan_of a.request) a.stanza (Rises m.locks.refusals k.locks.refusals) fault → HeldCause (plan_of a.request) a.stanza (Rises b.locks.refusals k.locks.refusals) fault
+held_from a b m k le (Held name) h = (h.0, rises_from b.locks.refusals m.locks.refusals k.locks.refusals le h.1)
+held_from a b m k le (other) h = absurd h
+
+-- a refusal of a stage has its cause from before it too
+stage_from : (a : Asked) (b m k : Seen) → AreRead b m → (fault : StageFault) → StageCause (plan_of a.request) a.stanza m k fault → StageCause (plan_of a.request) a.stanza b k fault
+stage_from a b m k read fault (inl held) = inl (held_from a b m k read.refusals fault held)
+stage_from a b m k read fault (inr found) = inr (subst (λ (o : Option Content). FoundCause (plan_of a.request) a.stanza o b.tree.nodes fault) read.repo.now (subst (λ (o : Option Nodes). FoundCause (plan_of a.request) a.stanza m.repo.view.now o fault) read.nodes found))
+
+cause_from : (a : Asked) (b m k : Seen) → AreRead b m → (fault : Fault) → Cause a m k fault → Cause a b k fault
+cause_from a b m k read (Usage usage) h = h
+cause_from a b m k read (Stage fault) h = stage_from a b m k read fault h
+cause_from a b m k read (OfCommand fault) h = subst (λ (o : Known). OnReady a o (λ old. CommandCause a a.request old fault)) (known_same b m read) h
+cause_from a b m k read (ObjectFailed object) h = rises_from _ _ _ (read.later object) h
+cause_from a b m k read NoMemory h = h
+
+-- what was only opened or read before it doesn't matter
+pub did_from : (a : Asked) (b m k : Seen) (r : Result Outcome Fault) → AreRead b m → Did a m k r → Did a b k r
+did_from a b m k r read did = record {
+  steps = subst (λ (o : Option Nodes). On (manner_of a.request a.data_folder o) (λ command. Takes a.stanza command (reached_of (ending_of r)) b.repo.view b.spool.view k.repo.view k.spool.view)) read.nodes
+      (on_as (manner_of a.request a.data_folder m.tree.nodes) _ _ (λ command h. opened_takes a.stanza b.repo.view m.repo.view b.spool.view m.spool.view read.repo.time read.repo.now read.spool.time read.spool.now command (reached_of (ending_of r)) k.repo.view k.spool.view h) did.steps);
+  promise = ok_as r _ _ (λ outcome h. subst (λ (o : Known). OnReady a o (λ old. Promise a a.request old (known k) outcome)) (known_same b m read) h) did.promise;
+  cause = err_as r _ _ (cause_from a b m k read) did.cause;
+  healed = on_ok r _ _ (λ h some. h (subst (λ (o : Option Content). IsSome o) (sym read.repo.now) some)) did.healed;
+  spares = spares_on a b m k r (any_reader a.request _ read.repo) (any_create a.request _ read.repo) read.nodes read.server did.spares;
+  later = later_on b m k read.later did.later;
+}
+
+abbrev as_locks : Option (List (List ℕ × List ℕ)) → ℕ → ℕ → LocksState
+as_locks t u v = record { took = t; refusals = u; faults = v }
+
+-- that no lock is held any more doesn't matter
+pub did_released : (a : Asked) (b k : Seen) (l : LocksState) (r : Result Outcome Fault) → l.took ≡ k.locks.took → l.refusals ≡ k.locks.refusals → l.faults ≡ k.locks.faults → Did a b k r → Did a b (record k { locks = l }) r
+did_released a b k l r took refusals faults did = subst (λ (x : LocksState). Did a b (record k { locks = x }) r) (sym same) did
+  where
+    same : l ≡ k.locks
+    same = ap (λ t. as_locks t l.refusals l.faults) took ∙ ap (λ u. as_locks k.locks.took u l.faults) refusals ∙ ap (λ v. as_locks k.locks.took k.locks.refusals v) faults
+
+-- ---- a stage refuses
+
+stage_reached : (fault : Fault) → (¬ (reached_of (ending_of (Err fault)) ≡ to_end))
+stage_reached fault = go (is_early fault)
+  where
+    go : (early : Bool) → ¬ (back_if early ≡ to_end)
+    go true e = let x : ◌≡◌ {A = Reached} turned_back to_end = e in cc
+    go false e = let x : ◌≡◌ {A = Reached} stopped to_end = e in cc
+
+pub did_nothing : (a : Asked) (b k : Seen) (fault : Fault) → Quiet a.stanza b.repo.view k.repo.view → Rests b.spool.view k.spool.view → k.spool.view.now ≡ b.spool.view.now → Spares a b k (Err fault) → AreLater b k → Cause a b k fault → Did a b k (Err fault)
+did_nothing a b k fault quiet rests same spares later cause = record {
+  steps = idle a.request a.data_folder b.tree.nodes _ (λ command. opened_takes a.stanza b.repo.view b.repo.view b.spool.view k.spool.view (rests_none b.repo.view) refl rests same command (reached_of (ending_of (Err fault))) k.repo.view k.spool.view
+      (quiet_takes a.stanza command (reached_of (ending_of (Err fault))) b.repo.view k.repo.view k.spool.view (stage_reached fault) quiet));
+  promise = tt;
+  cause = cause;
+  healed = tt;
+  spares = spares;
+  later = later;
+}
+
+-- ---- behind the stages
+
+-- what the stages behind the locks add
+did_ran : (a : Asked) (b m k : Seen) (r : Result Outcome Fault) → m ≡ record b { repo = m.repo; tree = m.tree } → m.tree.nodes ≡ b.tree.nodes → b.repo.faults ≤ m.repo.faults → b.tree.faults ≤ m.tree.faults → Quiet a.stanza b.repo.view m.repo.view → Begins a.stanza b.repo.view m.repo.view →
+    Heals (plan_of a.request).pairs a.stanza b.repo.view.now m.repo.view.now → IfSome m.repo.view.now (AreHealed (plan_of a.request).pairs a.stanza) → OnReading (plan_of a.request).pairs (IsStill b.repo.view m.repo.view) → Ran a m k r → Did a b k r
+did_ran a b m k r others nodes repo_later tree_later quiet begun heals healed still ran = record {
+  steps = subst (λ (o : Option Nodes). On (manner_of a.request a.data_folder o) (λ command. Takes a.stanza command (reached_of (ending_of r)) b.repo.view b.spool.view k.repo.view k.spool.view)) nodes
+      (on_as (manner_of a.request a.data_folder m.tree.nodes) _ _ (λ command h. begun_takes a.stanza b.repo.view m.repo.view quiet begun command (reached_of (ending_of r)) b.spool.view k.repo.view k.spool.view (subst (λ (v : View). Runs a.stanza command (reached_of (ending_of r)) m.repo.view v k.repo.view k.spool.view) (ap (λ (s : Seen). s.spool.view) others) h)) ran.steps);
+  promise = ok_as r _ _ (λ outcome h. (m.repo.view.now, heals, subst (λ (o : Known). Promise a a.request o (known k) outcome) known_is h)) ran.promise;
+  cause = err_as r _ _ own ran.cause;
+  healed = on_ok r _ _ (λ h some. h (quiet.now.told some) healed) ran.healed;
+  spares = spares_on a b m k r (reader_still a.request _ still) (create_still a.request _ still) nodes (ap (λ (s : Seen). s.server) others) ran.spares;
+  later = later_on b m k later ran.later;
+}
+  where
+    known_is : known m ≡ record (known b) { repo = m.repo.view.now }
+    known_is = ap (λ o. as_known m.repo.view.now o m.server) nodes ∙ ap (λ o. as_known m.repo.view.now b.tree.nodes o) (ap (λ (s : Seen). s.server) others)
+
+    later : AreLater b m
+    later = all_later b m repo_later (omega (arith, ap (λ (s : Seen). s.spool.faults) others)) tree_later (omega (arith, ap (λ (s : Seen). s.server.faults) others)) (omega (arith, ap (λ (s : Seen). s.others.faults) others))
+        (omega (arith, ap (λ (s : Seen). s.clock.faults) others)) (omega (arith, ap (λ (s : Seen). s.locks.faults) others)) (omega (arith, ap (λ (s : Seen). s.config.faults) others)) (omega (arith, ap (λ (s : Seen). s.out.faults) others))
+
+    own : (fault : Fault) → OwnCause a m k fault → Cause a b k fault
+    own (Usage usage) h = h
+    own (Stage fault) h = absurd h
+    own (OfCommand fault) h = (m.repo.view.now, heals, subst (λ (o : Known). CommandCause a a.request o fault) known_is h)
+    own (ObjectFailed object) h = rises_from _ _ _ (later object) h
+    own NoMemory h = h
+
+-- the same, by the code's plan
+pub worked : (a : Asked) (plan : Plan) → plan ≡ plan_of a.request → (b m k : Seen) (r : Result Outcome Fault) → m ≡ record b { repo = m.repo; tree = m.tree } → m.tree.nodes ≡ b.tree.nodes → b.repo.faults ≤ m.repo.faults → b.tree.faults ≤ m.tree.faults → Quiet a.stanza b.repo.view m.repo.view → Begins a.stanza b.repo.view m.repo.view →
+    Heals plan.pairs a.stanza b.repo.view.now m.repo.view.now → IfSome m.repo.view.now (AreHealed plan.pairs a.stanza) → OnReading plan.pairs (IsStill b.repo.view m.repo.view) → Ran a m k r → Did a b k r
+worked a plan is b m k r others nodes repo_later tree_later quiet begun heals healed still ran = did_ran a b m k r others nodes repo_later tree_later quiet begun
+    (subst (λ (p : Plan). Heals p.pairs a.stanza b.repo.view.now m.repo.view.now) is heals) (subst (λ (p : Plan). IfSome m.repo.view.now (AreHealed p.pairs a.stanza)) is healed)
+    (subst (λ (p : Plan). OnReading p.pairs (IsStill b.repo.view m.repo.view)) is still) ran
+
+-- a stage refuses, or an object fails in it
+halt_cause : (a : Asked) (b k : Seen) (why : StageFault → Type 0) (failed : Object → Type 0) → ((fault : StageFault) → why fault → StageCause (plan_of a.request) a.stanza b k fault) → ((object : Object) → failed object → Failed b k object) →
+    (halt : Halt StageFault) → HaltCause why failed halt → Cause a b k (of_stage halt)
+halt_cause a b k why failed each rose (Refused fault) h = each fault h
+halt_cause a b k why failed each rose (HaltFailed object) h = rose object h
+halt_cause a b k why failed each rose HaltMemory h = tt
+
+halt_closes : (b k : Seen) (halt : Halt StageFault) → Closes b k (of_stage halt)
+halt_closes b k (Refused fault) = tt
+halt_closes b k (HaltFailed object) = tt
+halt_closes b k HaltMemory = tt
+
+did_err : (a : Asked) (b k : Seen) (fault : Fault) (r : Result Outcome Fault) → IsErrAnd r (λ f. f ≡ fault) → Did a b k (Err fault) → Did a b k r
+did_err a b k fault (Ok x) is h = absurd is
+did_err a b k fault (Err f) is h = subst (λ (e : Fault). Did a b k (Err e)) (sym is) h
+
+halted_at : (a : Asked) (b k : Seen) (r : Result Outcome Fault) (halt : Halt StageFault) → IsErrAnd r (λ f. f ≡ of_stage halt) → Quiet a.stanza b.repo.view k.repo.view → Rests b.spool.view k.spool.view → k.spool.view.now ≡ b.spool.view.now →
+    OnReader a.request (IsStill b.repo.view k.repo.view) → OnCreate a.request (IsStill b.repo.view k.repo.view) → k.tree.nodes ≡ b.tree.nodes → k.server ≡ b.server → AreLater b k →
+    (why : StageFault → Type 0) (failed : Object → Type 0) → ((fault : StageFault) → why fault → StageCause (plan_of a.request) a.stanza b k fault) → ((object : Object) → failed object → Failed b k object) → HaltCause why failed halt → Did a b k r
+halted_at a b k r halt is quiet rests same reads creates nodes server later why failed each rose cause = did_err a b k (of_stage halt) r is (did_nothing a b k (of_stage halt) quiet rests same
+    (spares_none a b k (of_stage halt) reads creates nodes server (halt_closes b k halt)) later (halt_cause a b k why failed each rose halt cause))
+
+found_at : (a : Asked) (plan : Plan) → plan ≡ plan_of a.request → (b k : Seen) (fault : StageFault) → FoundCause plan a.stanza b.repo.view.now b.tree.nodes fault → StageCause (plan_of a.request) a.stanza b k fault
+found_at a plan is b k fault h = inr (subst (λ (p : Plan). FoundCause p a.stanza b.repo.view.now b.tree.nodes fault) is h)
+
+held_at : (a : Asked) (plan : Plan) → plan ≡ plan_of a.request → (b k : Seen) (fault : StageFault) → HeldCause plan a.stanza (Rises b.locks.refusals k.locks.refusals) fault → StageCause (plan_of a.request) a.stanza b k fault
+held_at a plan is b k fault h = inl (subst (λ (p : Plan). HeldCause p a.stanza (Rises b.locks.refusals k.locks.refusals) fault) is h)
+
+-- the whole of nothing, for this fault
+pub refused_at : (a : Asked) (b : Seen) (fault : Fault) → Closes b b fault → Cause a b b fault → Did a b b (Err fault)
+refused_at a b fault closes cause = did_nothing a b b fault (still_quiet a.stanza b.repo.view) (rests_none b.spool.view) refl
+    (spares_none a b b fault (any_reader a.request _ (still_self b.repo.view)) (any_create a.request _ (still_self b.repo.view)) refl refl closes) (λ object. omega arith) cause
+
+pub starved : (a : Asked) (b : Seen) (r : Result Outcome Fault) → IsErrAnd r (λ f. f ≡ NoMemory) → Did a b b r
+starved a b r is = did_err a b b NoMemory r is (refused_at a b NoMemory tt tt)
+
+only_to : (b k : Seen) (which : Object) (rose : Type 0) → (rose → Failed b k which) → (object : Object) → Only which rose object → Failed b k object
+only_to b k which rose to object h = subst (λ (o : Object). Failed b k o) (sym h.0) (to h.1)
+
+-- locks that were taken change nothing that is held
+pub locks_read : (b : Seen) (l : LocksState) → b.locks.refusals ≤ l.refusals → b.locks.faults ≤ l.faults → AreRead b (record b { locks = l })
+locks_read b l refusals faults = record {
+  repo = still_self b.repo.view;
+  spool = still_self b.spool.view;
+  nodes = refl;
+  server = refl;
+  others = refl;
+  files = refl;
+  out = refl;
+  refusals = refusals;
+  later = locks_later b l faults;
+}
+  where
+    locks_later : (b : Seen) (l : LocksState) → b.locks.faults ≤ l.faults → AreLater b (record b { locks = l })
+    locks_later b l faults = all_later b (record b { locks = l }) (omega arith) (omega arith) (omega arith) (omega arith) (omega arith) (omega arith) faults (omega arith) (omega arith)
+
+pub not_taken : (a : Asked) (plan : Plan) → plan ≡ plan_of a.request → (b : Seen) (l : LocksState) (r : Result Outcome Fault) (halt : Halt StageFault) → IsErrAnd r (λ f. f ≡ of_stage halt) → b.locks.refusals ≤ l.refusals → b.locks.faults ≤ l.faults →
+    HaltCause (HeldCause plan a.stanza (Rises b.locks.refusals l.refusals)) (Only Locks (Rises b.locks.faults l.faults)) halt → Did a b (record b { locks = l }) r
+not_taken a plan is b l r halt err refusals faults cause = halted_at a b (record b { locks = l }) r halt err (still_quiet a.stanza b.repo.view) (rests_none b.spool.view) refl
+    (any_reader a.request _ (still_self b.repo.view)) (any_create a.request _ (still_self b.repo.view)) refl refl (locks_read b l refusals faults).later
+    (HeldCause plan a.stanza (Rises b.locks.refusals l.refusals)) (Only Locks (Rises b.locks.faults l.faults)) (held_at a plan is b (record b { locks = l }))
+    (only_to b (record b { locks = l }) Locks (Rises b.locks.faults l.faults) (λ h. h)) cause
+
+pub unprepared : (a : Asked) (plan : Plan) → plan ≡ plan_of a.request → (b k : Seen) (r : Result Outcome Fault) (halt : Halt StageFault) → IsErrAnd r (λ f. f ≡ of_stage halt) → Quiet a.stanza b.repo.view k.repo.view → Rests b.spool.view k.spool.view → k.spool.view.now ≡ b.spool.view.now →
+    OnReading plan.pairs (IsStill b.repo.view k.repo.view) → k.tree.nodes ≡ b.tree.nodes → k.server ≡ b.server → AreLater b k → (failed : Object → Type 0) → ((object : Object) → failed object → Failed b k object) →
+    HaltCause (FoundCause plan a.stanza b.repo.view.now b.tree.nodes) failed halt → Did a b k r
+unprepared a plan is b k r halt err quiet rests same still nodes server later failed rose cause =
+    let here = subst (λ (p : Plan). OnReading p.pairs (IsStill b.repo.view k.repo.view)) is still in
+    halted_at a b k r halt err quiet rests same (reader_still a.request _ here) (create_still a.request _ here) nodes server later (FoundCause plan a.stanza b.repo.view.now b.tree.nodes) failed (found_at a plan is b k) rose cause
+
+-- a place can't be opened
+pub unopened : (a : Asked) (b k : Seen) (r : Result Outcome Fault) (halt : Halt StageFault) → IsErrAnd r (λ f. f ≡ of_stage halt) → AreRead b k → HaltCause Never (Failed b k) halt → Did a b k r
+unopened a b k r halt err read cause = halted_at a b k r halt err (rests_quiet a.stanza b.repo.view k.repo.view read.repo.time read.repo.now) read.spool.time read.spool.now
+    (any_reader a.request _ read.repo) (any_create a.request _ read.repo) read.nodes read.server read.later Never (Failed b k) (λ fault h. absurd h) (λ object h. h) cause

@@ -1,0 +1,274 @@
+-- What each command did, told of all objects: a lemma a command.
+use Rattle.std.proofs.Common.{◌≡◌, ◌≤◌, ◌⊎◌, inl, inr, List, ◌∷◌, Option, Some, None, Result, Ok, Err, IfOk, IfErr, refl, sym, subst, ap, ◌∙◌, Bool, true}
+use Rattle.std.specs.Prelude.{IfSome, IsSome, IsSomeAnd, OnOk}
+use Rattle.pgb_outside.specs.Cause.{Rises}
+use Rattle.pgb_outside.specs.Content.{Content}
+use Rattle.pgb_outside.specs.Moments.{View}
+use Rattle.pgb_outside.specs.Tree.{Nodes}
+use Rattle.pgb_model.specs.declared.clusters.Cluster.{Cluster}
+use Rattle.pgb_model.specs.Text.{Text}
+use Rattle.pgb_model.specs.Repository.{Repository}
+use Rattle.pgb_model.specs.Steps.{Command, StanzaCreate, ArchivePush, Reading}
+use Rattle.pgb_model.specs.Log.{Done, KeepsSpool}
+use Rattle.pgb_model.proofs.Logged.{create_spool}
+use Rattle.pgb_model.proofs.PushDone.{push_spool}
+use Rattle.pgb_options.specs.declared.options.OutputWord.{OutputWord}
+use Rattle.pgb_stanza.specs.declared.control.Control.{Control}
+use Rattle.pgb_stanza.specs.ControlFile.{first_cluster}
+use Rattle.pgb_archive.specs.Still.{IsStill, still_self}
+use Rattle.pgb_stage.specs.declared.object.Object.{Object}
+use Rattle.pgb_stage.specs.declared.object.Object.TheVariants.{Server as TheServer}
+use Rattle.pgb_stage.specs.declared.plan.Pairs.TheVariants.{HealArchive}
+use Rattle.pgb_stage.specs.declared.fault.StageFault.{StageFault}
+use Rattle.pgb_stage.specs.declared.halt.Halt.{Halt}
+use Rattle.pgb_stage.specs.declared.halt.Halt.TheVariants.{Refused, Failed as HaltFailed, NoMemory as HaltMemory}
+use Rattle.pgb_stage.specs.declared.outcome.Outcome.{Outcome}
+use Rattle.pgb_stage.specs.Cluster.{FolderTells}
+use Rattle.pgb_stage.specs.Halts.{HaltCause, Never}
+use Rattle.pgb_stage.specs.Plans.{AreHealed}
+use Rattle.pgb_stage.specs.Reached.{reached_by}
+use Rattle.pgb_stage.specs.Runs.{Reached, to_end, turned_back, stopped, Does, Runs, On, OnNone}
+use Rattle.pgb_stage.specs.Seen.{Seen, Failed, AreLater}
+use Rattle.pgb_stage.proofs.Doing.{reading_does}
+use Rattle.pgb_stage.proofs.Lifted.{does_runs, reading_spool}
+use Rattle.pgb_create.specs.declared.fault.CreateFault.{CreateFault}
+use Rattle.pgb_create.specs.declared.fault.CreateFault.TheVariants as create_fault
+use Rattle.pgb_create.specs.Creating.{IsCreated, CreateCause, create_early}
+use Rattle.pgb_create.specs.Talking.{Asks, IsOf, Closes as CreateCloses}
+use Rattle.pgb_push.specs.declared.fault.PushFault.{PushFault}
+use Rattle.pgb_push.specs.Causes.{IsStored, PushCause}
+use Rattle.pgb_push.specs.Commands.{IsPushOf}
+use Rattle.pgb_push.specs.Faults.{push_early}
+use Rattle.pgb_push.specs.Outcomes.{OnFinished}
+use Rattle.pgb_get.specs.declared.fault.GetFault.{GetFault}
+use Rattle.pgb_get.specs.Getting.{GotBy, GetCause, get_early}
+use Rattle.pgb_inform.specs.Reporting.{IsReported, ReportsStanza}
+use Rattle.pgb_command.specs.declared.fault.Fault.{Fault}
+use Rattle.pgb_command.specs.declared.fault.Fault.TheVariants.{Stage, Command as OfCommand}
+use Rattle.pgb_command.specs.declared.fault.CommandFault.TheVariants.{Create, Push, Get}
+use Rattle.pgb_command.specs.Answers.{reached_of, ending_of, is_early}
+use Rattle.pgb_command.specs.Asked.{Request, create, push, get, report, Asked}
+use Rattle.pgb_command.specs.Faults.{of_halt, of_stage, of_create, of_push, of_get, lift}
+use Rattle.pgb_command.specs.Tables.{Known, known, Promise, Creates, plan_of, manner_of, IsCreateOf, OnReader, OnCreate, OnOther, FolderGoes}
+use Rattle.pgb_command.specs.Did.{SamePlaces, Closes, Spares, OwnCause, Ran}
+use Rattle.pgb_command.proofs.Ends.{reached_same, lift_ok, lift_on, lift_err}
+use Rattle.pgb_command.proofs.OneCluster.{cluster_is}
+
+-- ---- of any command
+
+-- what ended by a refusal of this command, or by an object
+own : {E : Type 0} (a : Asked) (b k : Seen) (of : E → Fault) (why : E → Type 0) (failed : Object → Type 0) → ((e : E) → why e → OwnCause a b k (of e)) → ((object : Object) → failed object → Failed b k object) →
+    (h : Halt E) → HaltCause why failed h → OwnCause a b k (of_halt of h)
+own a b k of why failed each rose (Refused e) h = each e h
+own a b k of why failed each rose (HaltFailed object) h = rose object h
+own a b k of why failed each rose HaltMemory h = tt
+
+module _ {E : Type 0} (a : Asked) (b k : Seen) (of : E → Fault) (early : E → Bool) (same : (e : E) → is_early (of e) ≡ early e) (why : E → Type 0) (each : (e : E) → why e → OwnCause a b k (of e))
+    (failed : Object → Type 0) (rose : (object : Object) → failed object → Failed b k object) (r : Result Outcome (Halt E)) (ended : Result Outcome Fault) (lifted : ended ≡ lift (of_halt of) r) where
+  as_reached : (P : Type 0) → OnNone (reached_by early r) P → OnNone (reached_of (ending_of (lift (of_halt of) r))) P
+  as_reached P h = subst (λ (x : Reached). OnNone x P) (sym (reached_same of early same r)) h
+
+  create_reached : (request : Request) (P : Type 0) → OnCreate request (OnNone (reached_by early r) P) → OnCreate request (OnNone (reached_of (ending_of (lift (of_halt of) r))) P)
+  create_reached create P h = as_reached P h
+  create_reached (push path) P h = h
+  create_reached (get name path) P h = h
+  create_reached (report form) P h = h
+
+  pub ran_of : On (manner_of a.request a.data_folder b.tree.nodes) (λ command. Runs a.stanza command (reached_by early r) b.repo.view b.spool.view k.repo.view k.spool.view) → IfOk r (Promise a a.request (known b) (known k)) → IfErr r (HaltCause why failed) →
+      OnOk r (IsSome b.repo.view.now → IfSome b.repo.view.now (AreHealed (plan_of a.request).pairs a.stanza) → IfSome k.repo.view.now (AreHealed (plan_of a.request).pairs a.stanza)) →
+      OnReader a.request (IsStill b.repo.view k.repo.view) → FolderGoes a a.request b.repo.view.now b.tree.nodes k.tree.nodes → OnNone (reached_by early r) (k.tree.nodes ≡ b.tree.nodes) →
+      OnCreate a.request (OnNone (reached_by early r) (k.repo.view.now ≡ b.repo.view.now)) → (a.server ≡ None → k.server ≡ b.server) → OnOther a.request (k.server ≡ b.server) →
+      IfErr (lift (of_halt of) r) (Closes b k) → SamePlaces b k → AreLater b k → Ran a b k ended
+  ran_of steps promise cause healed reads folder nodes unmade quiet others closed places later = subst (λ (e : Result Outcome Fault). Ran a b k e) (sym lifted) (record {
+    steps = subst (λ (reached : Reached). On (manner_of a.request a.data_folder b.tree.nodes) (λ command. Runs a.stanza command reached b.repo.view b.spool.view k.repo.view k.spool.view)) (sym (reached_same of early same r)) steps;
+    promise = lift_ok (of_halt of) (Promise a a.request (known b) (known k)) r promise;
+    cause = lift_err (of_halt of) (HaltCause why failed) (OwnCause a b k) (own a b k of why failed each rose) r cause;
+    healed = lift_on (of_halt of) _ r healed;
+    spares = record {
+      reads = reads;
+      folder = folder;
+      nodes = as_reached _ nodes;
+      unmade = create_reached a.request _ unmade;
+      quiet = quiet;
+      others = others;
+      closed = closed;
+    };
+    places = places;
+    later = later;
+  })
+
+abbrev with_request : Asked → Request → Asked
+with_request a q = record a { request = q }
+
+as_ran : (a : Asked) (q : Request) (b k : Seen) (ended : Result Outcome Fault) → a.request ≡ q → Ran (with_request a q) b k ended → Ran a b k ended
+as_ran a q b k ended is h = subst (λ (x : Request). Ran (with_request a x) b k ended) (sym is) h
+
+abbrev with_folder : Asked → Text → Asked
+with_folder a folder = record a { data_folder = folder }
+
+in_folder : (a : Asked) (folder : Text) (b k : Seen) (ended : Result Outcome Fault) → folder ≡ a.data_folder → Ran (with_folder a folder) b k ended → Ran a b k ended
+in_folder a folder b k ended is h = subst (λ (x : Text). Ran (with_folder a x) b k ended) is h
+
+on_all : {X Y : Type 0} (r : Result X Y) (P : Type 0) → P → OnOk r P
+on_all (Ok x) P p = p
+on_all (Err e) P p = tt
+
+all_none : (reached : Reached) (P : Type 0) → P → OnNone reached P
+all_none reached P p = go reached
+  where
+    go : (x : Reached) → OnNone x P
+    go to_end = tt
+    go turned_back = p
+    go stopped = tt
+
+-- of a command that is refused for nothing that a server said
+never_closes : {E : Type 0} (b k : Seen) (of : Halt E → Fault) → ((h : Halt E) → Closes b k (of h)) → (r : Result Outcome (Halt E)) → IfErr (lift of r) (Closes b k)
+never_closes b k of each (Ok x) = tt
+never_closes b k of each (Err h) = each h
+
+any_some : (o : Option Content) → IfSome o (λ _. Unit {0})
+any_some None = tt
+any_some (Some f) = tt
+
+ok_with : {E : Type 0} (r : Result Outcome E) (P Q : Outcome → Type 0) (X Y : Type 0) → ((o : Outcome) → P o → X → Y → Q o) → IfOk r P → OnOk r X → OnOk r Y → IfOk r Q
+ok_with (Ok o) P Q X Y to h x y = to o h x y
+ok_with (Err e) P Q X Y to h x y = tt
+
+none_as : (reached : Reached) (P Q : Type 0) → (P → Q) → OnNone reached P → OnNone reached Q
+none_as to_end P Q to h = tt
+none_as turned_back P Q to h = to h
+none_as stopped P Q to h = tt
+
+-- ---- stanza-create
+
+create_closes : (b k : Seen) (h : Halt CreateFault) → CreateCloses (Failed b k TheServer) b.server.sent k.server.sent h → Closes b k (of_create h)
+create_closes b k (Refused (create_fault.Server fault)) h = h
+create_closes b k (Refused (create_fault.InfoDamaged name main copy)) h = tt
+create_closes b k (Refused (create_fault.HistoryDiffers at)) h = tt
+create_closes b k (Refused (create_fault.StanzaMismatch kept found)) h = tt
+create_closes b k (Refused (create_fault.ArchiveLost label)) h = tt
+create_closes b k (HaltFailed object) h = tt
+create_closes b k HaltMemory h = tt
+
+create_of : (nodes : Option Nodes) (told : Control) (command : Command) → IfSome nodes (λ f. FolderTells f told) → IsSomeAnd nodes (λ f. IsCreateOf f command) → command ≡ StanzaCreate (Some (first_cluster told))
+create_of None told command tells is = absurd is
+create_of (Some f) told command tells is = is.2 ∙ ap StanzaCreate (cluster_is (Some f) told is.0 tells is.1)
+
+module _ (a : Asked) (b k : Seen) (rest : k ≡ record b { repo = k.repo; server = k.server }) (told : Control) (tells : IfSome b.tree.nodes (λ f. FolderTells f told)) (r : Result Outcome (Halt CreateFault)) (ended : Result Outcome Fault) (lifted : ended ≡ lift of_create r) where
+  abbrev asks : Asked
+  asks = with_request a create
+
+  pub created_ran : a.request ≡ create → Does a.stanza (StanzaCreate (Some (first_cluster told))) (reached_by create_early r) b.repo.view k.repo.view → IfOk r (IsCreated a.stanza told b.repo.view.now k.repo.view.now) →
+      OnNone (reached_by create_early r) (IsStill b.repo.view k.repo.view) → OnOk r (IfSome a.server (λ _. IsOf told.system b.server.pending)) → OnOk r (Asks a.server k.server.place b.server.sent k.server.sent) → (a.server ≡ None → k.server ≡ b.server) →
+      IfErr r (CreateCloses (Failed b k TheServer) b.server.sent k.server.sent) → (failed : Object → Type 0) → ((object : Object) → failed object → Failed b k object) →
+      IfErr r (HaltCause (CreateCause a.stanza told a.server b.repo.view.now b.server.pending) failed) → SamePlaces b k → AreLater b k → Ran a b k ended
+  created_ran is does created still same asked quiet closed failed rose cause places later = as_ran a create b k ended is
+      (ran_of asks b k (λ (e : CreateFault). OfCommand (Create e)) create_early (λ e. refl) (CreateCause a.stanza told a.server b.repo.view.now b.server.pending) (λ e h. (told, tells, h)) failed rose r ended lifted
+      (λ command x. subst (λ (c : Command). Runs a.stanza c (reached_by create_early r) b.repo.view b.spool.view k.repo.view k.spool.view) (sym (create_of b.tree.nodes told command tells x)) (subst (λ (v : View). Runs a.stanza (StanzaCreate (Some (first_cluster told))) (reached_by create_early r) b.repo.view b.spool.view k.repo.view v) (sym (ap (λ (s : Seen). s.spool.view) rest))
+          (does_runs a.stanza (StanzaCreate (Some (first_cluster told))) (reached_by create_early r) b.repo.view k.repo.view b.spool.view (λ q log keeps. create_spool a.stanza (Some (first_cluster told)) true q log b.spool.view keeps) does)))
+      (ok_with r _ _ _ _ (λ o made agrees asks. record { told = told; tells = tells; created = made; agrees = agrees; asks = asks }) created same asked)
+      cause
+      (on_all r _ (λ some h. any_some k.repo.view.now))
+      tt
+      (ap (λ (s : Seen). s.tree.nodes) rest)
+      (all_none (reached_by create_early r) _ (ap (λ (s : Seen). s.tree.nodes) rest))
+      (none_as (reached_by create_early r) _ _ (λ (s : IsStill b.repo.view k.repo.view). s.now) still)
+      quiet
+      tt
+      (lift_err of_create _ (Closes b k) (create_closes b k) r closed)
+      places later)
+
+-- ---- archive-push
+
+push_receipts : (stanza : Text) (nodes : Option Nodes) (folder path : Text) (command : Command) → IsSomeAnd nodes (λ f. IsPushOf f folder path command) → (v : View) (q : Repository) (log : List Done) → KeepsSpool stanza q log v → KeepsSpool stanza q (record { command = command; acknowledged = true } ∷ log) v
+push_receipts stanza None folder path command is v q log keeps = absurd is
+push_receipts stanza (Some f) folder path command (inl x) v q log keeps = subst (λ (c : Command). KeepsSpool stanza q (record { command = c; acknowledged = true } ∷ log) v) (sym x.2) (push_spool stanza x.0 true q log v keeps)
+push_receipts stanza (Some f) folder path command (inr x) v q log keeps = subst (λ (c : Command). KeepsSpool stanza q (record { command = c; acknowledged = true } ∷ log) v) (sym x.1) (reading_spool stanza q log v keeps)
+
+push_closes : (b k : Seen) (h : Halt PushFault) → Closes b k (of_push h)
+push_closes b k (Refused e) = tt
+push_closes b k (HaltFailed object) = tt
+push_closes b k HaltMemory = tt
+
+module _ (a : Asked) (b k : Seen) (rest : k ≡ record b { repo = k.repo; tree = k.tree }) (nodes : k.tree.nodes ≡ b.tree.nodes) (folder path : Text) (r : Result Outcome (Halt PushFault)) (ended : Result Outcome Fault) (lifted : ended ≡ lift of_push r) where
+  abbrev pushes : Asked
+  pushes = with_request (with_folder a folder) (push path)
+
+  pub pushed_ran : a.request ≡ push path → folder ≡ a.data_folder → ((command : Command) → IsSomeAnd b.tree.nodes (λ f. IsPushOf f folder path command) → Does a.stanza command (reached_by push_early r) b.repo.view k.repo.view) →
+      IfOk r (λ o. OnFinished o (IsStored a.stanza folder path b.repo.view.now b.tree.nodes)) →
+      (IfSome b.repo.view.now (AreHealed HealArchive a.stanza) → IsSome b.repo.view.now → IfSome k.repo.view.now (AreHealed HealArchive a.stanza)) → (failed : Object → Type 0) → ((object : Object) → failed object → Failed b k object) →
+      IfErr r (HaltCause (PushCause a.stanza folder path b.repo.view.now b.tree.nodes) failed) → SamePlaces b k → AreLater b k → Ran a b k ended
+  pushed_ran is in_it does stored agrees failed rose cause places later = in_folder a folder b k ended in_it (as_ran (with_folder a folder) (push path) b k ended is
+      (ran_of pushes b k (λ (e : PushFault). OfCommand (Push e)) push_early (λ e. refl) (PushCause a.stanza folder path b.repo.view.now b.tree.nodes) (λ e h. h) failed rose r ended lifted
+      (λ command x. subst (λ (v : View). Runs a.stanza command (reached_by push_early r) b.repo.view b.spool.view k.repo.view v) (sym (ap (λ (s : Seen). s.spool.view) rest))
+          (does_runs a.stanza command (reached_by push_early r) b.repo.view k.repo.view b.spool.view (push_receipts a.stanza b.tree.nodes folder path command x b.spool.view) (does command x)))
+      stored
+      cause
+      (on_all r _ (λ some h. agrees h some))
+      tt
+      nodes
+      (all_none (reached_by push_early r) _ nodes)
+      tt
+      (λ none. ap (λ (s : Seen). s.server) rest)
+      (ap (λ (s : Seen). s.server) rest)
+      (never_closes b k of_push (push_closes b k) r)
+      places later))
+
+-- ---- commands that only read
+
+reading_runs : (stanza : Text) (command : Command) (reached : Reached) (b k : Seen) → command ≡ Reading → IsStill b.repo.view k.repo.view → k.spool.view ≡ b.spool.view → Runs stanza command reached b.repo.view b.spool.view k.repo.view k.spool.view
+reading_runs stanza command reached b k is still spool = subst (λ (c : Command). Runs stanza c reached b.repo.view b.spool.view k.repo.view k.spool.view) (sym is) (subst (λ (v : View). Runs stanza Reading reached b.repo.view b.spool.view k.repo.view v) (sym spool)
+    (does_runs stanza Reading reached b.repo.view k.repo.view b.spool.view (λ q log keeps. reading_spool stanza q log b.spool.view keeps) (reading_does stanza reached b.repo.view k.repo.view still.time still.now)))
+
+get_closes : (b k : Seen) (h : Halt GetFault) → Closes b k (of_get h)
+get_closes b k (Refused e) = tt
+get_closes b k (HaltFailed object) = tt
+get_closes b k HaltMemory = tt
+
+module _ (a : Asked) (b k : Seen) (rest : k ≡ record b { repo = k.repo; tree = k.tree }) (still : IsStill b.repo.view k.repo.view) (folder word path : Text) (r : Result Outcome (Halt GetFault)) (ended : Result Outcome Fault) (lifted : ended ≡ lift of_get r) where
+  abbrev gets : Asked
+  gets = with_request (with_folder a folder) (get word path)
+
+  pub got_ran : a.request ≡ get word path → folder ≡ a.data_folder → IfOk r (Promise gets (get word path) (known b) (known k)) → FolderGoes gets (get word path) b.repo.view.now b.tree.nodes k.tree.nodes →
+      OnNone (reached_by get_early r) (k.tree.nodes ≡ b.tree.nodes) → (failed : Object → Type 0) → ((object : Object) → failed object → Failed b k object) →
+      IfErr r (HaltCause (GetCause a.stanza folder word path b.repo.view.now b.tree.nodes) failed) → SamePlaces b k → AreLater b k → Ran a b k ended
+  got_ran is in_it got changes none failed rose cause places later = in_folder a folder b k ended in_it (as_ran (with_folder a folder) (get word path) b k ended is
+      (ran_of gets b k (λ (e : GetFault). OfCommand (Get e)) get_early (λ e. refl) (GetCause a.stanza folder word path b.repo.view.now b.tree.nodes) (λ e h. h) failed rose r ended lifted
+      (λ command x. reading_runs a.stanza command (reached_by get_early r) b k x still (ap (λ (s : Seen). s.spool.view) rest))
+      got
+      cause
+      (on_all r _ (λ some h. any_some k.repo.view.now))
+      still
+      changes
+      none
+      tt
+      (λ none. ap (λ (s : Seen). s.server) rest)
+      (ap (λ (s : Seen). s.server) rest)
+      (never_closes b k of_get (get_closes b k) r)
+      places later))
+
+inform_closes : (b k : Seen) (h : Halt StageFault) → Closes b k (of_stage h)
+inform_closes b k (Refused e) = tt
+inform_closes b k (HaltFailed object) = tt
+inform_closes b k HaltMemory = tt
+
+module _ (a : Asked) (b k : Seen) (rest : k ≡ record b { repo = k.repo }) (still : IsStill b.repo.view k.repo.view) (form : OutputWord) (r : Result Outcome (Halt StageFault)) (ended : Result Outcome Fault) (lifted : ended ≡ lift of_stage r) where
+  abbrev informs : Asked
+  informs = with_request a (report form)
+
+  pub informed_ran : a.request ≡ report form → IfOk r (Promise informs (report form) (known b) (known k)) → (failed : Object → Type 0) → ((object : Object) → failed object → Failed b k object) →
+      IfErr r (HaltCause Never failed) → SamePlaces b k → AreLater b k → Ran a b k ended
+  informed_ran is told failed rose cause places later = as_ran a (report form) b k ended is
+      (ran_of informs b k Stage (λ e. true) (λ e. refl) Never (λ e h. h) failed rose r ended lifted
+      (λ command x. reading_runs a.stanza command (reached_by (λ e. true) r) b k x still (ap (λ (s : Seen). s.spool.view) rest))
+      told
+      cause
+      (on_all r _ (λ some h. any_some k.repo.view.now))
+      still
+      (ap (λ (s : Seen). s.tree.nodes) rest)
+      (all_none (reached_by (λ e. true) r) _ (ap (λ (s : Seen). s.tree.nodes) rest))
+      tt
+      (λ none. ap (λ (s : Seen). s.server) rest)
+      (ap (λ (s : Seen). s.server) rest)
+      (never_closes b k of_stage (inform_closes b k) r)
+      places later)

@@ -1,0 +1,125 @@
+-- What a command did, whichever it is.
+use Rattle.std.specs.Prelude.{◌≡◌, ◌⊎◌, Bool, true, false, List, Option, None, Result, Ok, Err, IfOk, IfErr, OnOk, IfSome, IsSome}
+use Rattle.pgb_outside.specs.Cause.{Rises}
+use Rattle.pgb_outside.specs.Content.{Content}
+use Rattle.pgb_outside.specs.States.{IsOpened, OpensOnly}
+use Rattle.pgb_model.specs.Text.{Text}
+use Rattle.pgb_archive.specs.Still.{IsStill}
+use Rattle.pgb_stage.specs.declared.object.Object.TheVariants.{Server}
+use Rattle.pgb_stage.specs.declared.outcome.Outcome.{Outcome}
+use Rattle.pgb_stage.specs.Plans.{Heals, AreHealed, TakesLocks}
+use Rattle.pgb_stage.specs.Runs.{Runs, Takes, On, OnNone}
+use Rattle.pgb_stage.specs.Seen.{Seen, Failed, AreLater}
+use Rattle.pgb_prepare.specs.Stages.{StageCause}
+use Rattle.pgb_create.specs.declared.fault.CreateFault.TheVariants as create_fault
+use Rattle.pgb_create.specs.Talking.{Ended}
+use Rattle.pgb_command.specs.declared.fault.CommandFault.TheVariants.{Create}
+use Rattle.pgb_command.specs.declared.fault.Fault.{Fault}
+use Rattle.pgb_command.specs.declared.fault.Fault.TheVariants.{Usage, Stage, Command, Failed as ObjectFailed, NoMemory}
+use Rattle.pgb_command.specs.Answers.{reached_of, ending_of}
+use Rattle.pgb_command.specs.Asked.{Asked}
+use Rattle.pgb_command.specs.Tables.{Known, known, plan_of, manner_of, CommandCause, Promise, OnReader, OnCreate, OnOther, FolderGoes}
+
+-- ---- what stays
+
+-- a talk that the server's answer ended was ended with the last message too, unless the connection failed
+abbrev pub Closes : Seen → Seen → Fault → Type 0
+Closes before after (Command (Create (create_fault.Server fault))) = Ended after.server.sent ⊎ Failed before after Server
+Closes before after other = Unit {0}
+
+-- What a command leaves as it was: of the repository all where it only reads, of the data folder all but a file that is served, and the server where it asks none. Refused before its first step it has changed no file.
+pub record Spares (a : Asked) (before after : Seen) (result : Result Outcome Fault) : Type 0 where
+  pub reads : OnReader a.request (IsStill before.repo.view after.repo.view)
+  pub folder : FolderGoes a a.request before.repo.view.now before.tree.nodes after.tree.nodes
+  pub nodes : OnNone (reached_of (ending_of result)) (after.tree.nodes ≡ before.tree.nodes)
+  pub unmade : OnCreate a.request (OnNone (reached_of (ending_of result)) (after.repo.view.now ≡ before.repo.view.now))
+  pub quiet : a.server ≡ None → after.server ≡ before.server
+  pub others : OnOther a.request (after.server ≡ before.server)
+  pub closed : IfErr result (Closes before after)
+
+-- the places that are open are those that were
+pub record SamePlaces (before after : Seen) : Type 0 where
+  pub repo : after.repo.opened ≡ before.repo.opened
+  pub tree : after.tree.opened ≡ before.tree.opened
+
+-- ---- a command's own part
+
+-- why it ends without its result
+abbrev pub OwnCause : Asked → Seen → Seen → Fault → Type 0
+OwnCause a before after (Usage usage) = ⊥
+OwnCause a before after (Stage fault) = ⊥
+OwnCause a before after (Command fault) = CommandCause a a.request (known before) fault
+OwnCause a before after (ObjectFailed object) = Failed before after object
+OwnCause a before after NoMemory = Unit {0}
+
+pub record Ran (a : Asked) (before after : Seen) (result : Result Outcome Fault) : Type 0 where
+  pub steps : On (manner_of a.request a.data_folder before.tree.nodes) (λ command. Runs a.stanza command (reached_of (ending_of result)) before.repo.view before.spool.view after.repo.view after.spool.view)
+  pub promise : IfOk result (Promise a a.request (known before) (known after))
+  pub cause : IfErr result (OwnCause a before after)
+  pub healed : OnOk result (IsSome before.repo.view.now → IfSome before.repo.view.now (AreHealed (plan_of a.request).pairs a.stanza) → IfSome after.repo.view.now (AreHealed (plan_of a.request).pairs a.stanza))
+  pub spares : Spares a before after result
+  pub places : SamePlaces before after
+  pub later : AreLater before after
+
+-- why a command's words are refused
+abbrev pub WordsCause : Asked → Fault → Type 0
+WordsCause a (Command (Create fault)) = ⊥
+WordsCause a (Command fault) = (old : Known) → CommandCause a a.request old fault
+WordsCause a NoMemory = Unit {0}
+WordsCause a other = ⊥
+
+-- ---- all of it
+
+-- this holds of what the objects held as the command's own part began: the pairs that it heals were healed
+abbrev pub OnReady : Asked → Known → (Known → Type 0) → Type 0
+OnReady a old P = (repo : Option Content) × Heals (plan_of a.request).pairs a.stanza old.repo repo × P (record old { repo = repo })
+
+-- why it ends without its result
+abbrev pub Cause : Asked → Seen → Seen → Fault → Type 0
+Cause a before after (Usage usage) = ⊥
+Cause a before after (Stage fault) = StageCause (plan_of a.request) a.stanza before after fault
+Cause a before after (Command fault) = OnReady a (known before) (λ old. CommandCause a a.request old fault)
+Cause a before after (ObjectFailed object) = Failed before after object
+Cause a before after NoMemory = Unit {0}
+
+-- no place but this is opened, and none where it isn't needed
+abbrev pub OpensIf : Bool → Text → List Text → List Text → Type 0
+OpensIf true place old new = OpensOnly place old new
+OpensIf false place old new = new ≡ old
+
+abbrev pub IsOpenedIf : Bool → Text → List Text → List Text → Type 0
+IsOpenedIf true place old new = IsOpened place old new
+IsOpenedIf false place old new = new ≡ old
+
+-- no places but those that are asked for are opened
+pub record OpensPlaces (a : Asked) (before after : Seen) : Type 0 where
+  pub folder : OpensIf (plan_of a.request).folder a.data_folder before.tree.opened after.tree.opened
+  pub repository : OpensOnly a.repository before.repo.opened after.repo.opened
+
+-- each of them was
+pub record ArePlacesOpened (a : Asked) (before after : Seen) : Type 0 where
+  pub folder : IsOpenedIf (plan_of a.request).folder a.data_folder before.tree.opened after.tree.opened
+  pub repository : IsOpened a.repository before.repo.opened after.repo.opened
+
+-- the command's locks were taken
+abbrev pub TakesAll : Asked → Seen → Seen → Type 0
+TakesAll a before after = TakesLocks (plan_of a.request) a.lock_folder a.stanza before.locks.took after.locks.took
+
+-- without them nothing is done
+abbrev pub OnlyLocked : Asked → Seen → Seen → Type 0
+OnlyLocked a before after = TakesAll a before after ⊎ IsStill before.repo.view after.repo.view
+
+pub record Did (a : Asked) (before after : Seen) (result : Result Outcome Fault) : Type 0 where
+  pub steps : On (manner_of a.request a.data_folder before.tree.nodes) (λ command. Takes a.stanza command (reached_of (ending_of result)) before.repo.view before.spool.view after.repo.view after.spool.view)
+  pub promise : IfOk result (λ outcome. OnReady a (known before) (λ old. Promise a a.request old (known after) outcome))
+  pub cause : IfErr result (Cause a before after)
+  pub healed : OnOk result (IsSome before.repo.view.now → IfSome after.repo.view.now (AreHealed (plan_of a.request).pairs a.stanza))
+  pub spares : Spares a before after result
+  pub later : AreLater before after
+
+-- the places and the locks
+pub record Brackets (a : Asked) (before after : Seen) (result : Result Outcome Fault) : Type 0 where
+  pub places : OpensPlaces a before after
+  pub opened : OnOk result (ArePlacesOpened a before after)
+  pub took : OnOk result (TakesAll a before after)
+  pub locked : OnlyLocked a before after

@@ -1,0 +1,109 @@
+-- The tables of the commands: a line for each in each.
+use Rattle.std.specs.Prelude.{◌≡◌, true, false, Option, Some, IfSome, IsSome, IsSomeAnd}
+use Rattle.pgb_outside.specs.Content.{Content}
+use Rattle.pgb_outside.specs.Tree.{Nodes}
+use Rattle.pgb_model.specs.declared.clusters.Cluster.{Cluster}
+use Rattle.pgb_model.specs.Text.{Text}
+use Rattle.pgb_model.specs.Repository.{Stanza}
+use Rattle.pgb_model.specs.Steps.{Command, StanzaCreate, Reading}
+use Rattle.pgb_model.specs.Now.{NowStands}
+use Rattle.pgb_stanza.specs.declared.control.Control.{Control}
+use Rattle.pgb_stage.specs.declared.plan.Plan.{Plan}
+use Rattle.pgb_stage.specs.declared.plan.Pairs.TheVariants.{Unread, ReadArchive, HealArchive, ReadBoth}
+use Rattle.pgb_stage.specs.declared.outcome.Outcome.{Outcome}
+use Rattle.pgb_stage.specs.Cluster.{FolderTells, IsClusterOf}
+use Rattle.pgb_stage.specs.Runs.{Manner, each}
+use Rattle.pgb_stage.specs.Seen.{Seen}
+use Rattle.pgb_stage.specs.States.{WireState}
+use Rattle.pgb_create.specs.Talking.{Asks, IsOf}
+use Rattle.pgb_create.specs.Creating.{IsCreated, CreateCause}
+use Rattle.pgb_push.specs.Commands.{IsPushOf}
+use Rattle.pgb_push.specs.Causes.{IsStored, PushCause}
+use Rattle.pgb_push.specs.Outcomes.{OnFinished}
+use Rattle.pgb_get.specs.Getting.{GotBy, GivenBy, GetCause, IsServed, ChangesPath, served_path}
+use Rattle.pgb_inform.specs.Reporting.{IsReported, ReportsStanza}
+use Rattle.pgb_command.specs.declared.fault.CommandFault.{CommandFault}
+use Rattle.pgb_command.specs.declared.fault.CommandFault.TheVariants.{Create, Push, Get}
+use Rattle.pgb_command.specs.Asked.{Request, create, push, get, report, Asked}
+
+-- what the objects hold, as far as they tell it
+pub record Known : Type 0 where
+  pub repo : Option Content
+  pub nodes : Option Nodes
+  pub server : WireState
+
+abbrev pub known : Seen → Known
+known s = record { repo = s.repo.view.now; nodes = s.tree.nodes; server = s.server }
+
+-- what a command needs of the stages: places, locks, the control file, and the pairs
+abbrev pub plan_of : Request → Plan
+plan_of create = record { folder = true; backup_lock = true; archive_lock = true; control = true; pairs = Unread }
+plan_of (push path) = record { folder = true; backup_lock = false; archive_lock = true; control = true; pairs = HealArchive }
+plan_of (get name path) = record { folder = true; backup_lock = false; archive_lock = false; control = true; pairs = ReadArchive }
+plan_of (report form) = record { folder = false; backup_lock = false; archive_lock = false; control = false; pairs = ReadBoth }
+
+-- stanza-create of the cluster that the folder tells, where it tells one
+abbrev pub IsCreateOf : Nodes → Command → Type 0
+IsCreateOf f command = (cluster : Option Cluster) × IsClusterOf f cluster × (command ≡ StanzaCreate cluster)
+
+-- which command of the repository's log it is
+abbrev pub manner_of : Request → Text → Option Nodes → Manner
+manner_of create folder nodes = each (λ command. IsSomeAnd nodes (λ f. IsCreateOf f command))
+manner_of (push path) folder nodes = each (λ command. IsSomeAnd nodes (λ f. IsPushOf f folder path command))
+manner_of (get name path) folder nodes = each (λ command. command ≡ Reading)
+manner_of (report form) folder nodes = each (λ command. command ≡ Reading)
+
+-- the data folder tells this cluster, and this holds of it
+abbrev pub OnCluster : Option Nodes → (Control → Type 0) → Type 0
+OnCluster nodes P = (told : Control) × IfSome nodes (λ f. FolderTells f told) × P told
+
+-- why a command is refused, from what the objects hold as its own part begins
+abbrev pub CommandCause : Asked → Request → Known → CommandFault → Type 0
+CommandCause a create old (Create fault) = OnCluster old.nodes (λ told. CreateCause a.stanza told a.server old.repo old.server.pending fault)
+CommandCause a (push path) old (Push fault) = PushCause a.stanza a.data_folder path old.repo old.nodes fault
+CommandCause a (get name path) old (Get fault) = GetCause a.stanza a.data_folder name path old.repo old.nodes fault
+CommandCause a request old fault = ⊥
+
+-- Ok of stanza-create: the stanza is made, or was there; and where a server is asked it was asked at its socket and is of the folder's system
+pub record Creates (a : Asked) (old new : Known) (outcome : Outcome) : Type 0 where
+  pub told : Control
+  pub tells : IfSome old.nodes (λ f. FolderTells f told)
+  pub created : IsCreated a.stanza told old.repo new.repo outcome
+  pub agrees : IfSome a.server (λ _. IsOf told.system old.server.pending)
+  pub asks : Asks a.server new.server.place old.server.sent new.server.sent
+
+-- this holds of the stanza that the repository stands for
+abbrev pub OnStanza : Asked → Option Content → (Stanza → Type 0) → Type 0
+OnStanza a repo P = (s : Stanza) → IsSome repo → NowStands a.stanza (Some s) repo → P s
+
+-- what a command promises where it ends well
+abbrev pub Promise : Asked → Request → Known → Known → Outcome → Type 0
+Promise a create old new outcome = Creates a old new outcome
+Promise a (push path) old new outcome = OnFinished outcome (IsStored a.stanza a.data_folder path old.repo old.nodes)
+Promise a (get name path) old new outcome = GotBy a.stanza a.data_folder name path old.repo old.nodes new.nodes outcome 
+    × OnStanza a old.repo (λ s. GivenBy s a.data_folder name path old.nodes new.nodes outcome)
+Promise a (report form) old new outcome = OnFinished outcome (IsReported a.stanza form old.repo) 
+    × OnStanza a old.repo (λ s. OnFinished outcome (ReportsStanza form a.stanza s))
+
+-- ---- what stays
+
+-- this holds of a command that changes nothing in the repository
+abbrev pub OnReader : Request → Type 0 → Type 0
+OnReader create P = Unit {0}
+OnReader (push path) P = Unit {0}
+OnReader (get name path) P = P
+OnReader (report form) P = P
+
+-- this holds of stanza-create, and of every other command
+abbrev pub OnCreate : Request → Type 0 → Type 0
+OnCreate create P = P
+OnCreate other P = Unit {0}
+
+abbrev pub OnOther : Request → Type 0 → Type 0
+OnOther create P = Unit {0}
+OnOther other P = P
+
+-- only archive-get changes the data folder, and puts there what is served
+abbrev pub FolderGoes : Asked → Request → Option Content → Option Nodes → Option Nodes → Type 0
+FolderGoes a (get name path) repo old new = ChangesPath (served_path a.data_folder path) (IsServed a.stanza a.data_folder name path repo old) old new
+FolderGoes a request repo old new = new ≡ old

@@ -1,0 +1,40 @@
+// What a command is told, with its words read.
+ghost use Rattle.std.specs.Prelude.{◌≡◌, IfOk, IfErr};
+ghost use Rattle.pgb_command.specs.Did.{WordsCause};
+ghost use Rattle.pgb_command.specs.Told.{asked_of, request_of, IsOrder};
+
+use crate::fault::Fault;
+use crate::settings::{Request, Settings};
+use pgb_get::{GetOrder, get_order};
+use pgb_options::OutputWord;
+use pgb_push::{PushOrder, push_order};
+use std::alloc::Global;
+
+/// What a command does.
+#[derive(Drop)]
+pub enum Order<'a> {
+    StanzaCreate,
+    ArchivePush(PushOrder<'a>),
+    ArchiveGet(GetOrder<'a>),
+    Info(OutputWord),
+}
+
+/// Reads the command's own words. They are refused before anything is opened.
+pub(crate) fn order_of<'a>(alloc: Global, settings: &Settings<'a>) -> Result<Order<'a>, Fault>
+    ensures order { IfOk result (IsOrder (request_of settings.now.request) settings.now.pg1_path.now) }
+    ensures cause { IfErr result (WordsCause (asked_of settings.now)) }
+{
+    match settings.request {
+        Request::StanzaCreate => Ok(Order::StanzaCreate),
+        Request::ArchivePush { path } => {
+            Ok(Order::ArchivePush(push_order(alloc, settings.pg1_path, path)?))
+        }
+        Request::ArchiveGet { name, path } => Ok(Order::ArchiveGet(get_order(
+            alloc,
+            settings.pg1_path,
+            name,
+            path,
+        )?)),
+        Request::Info { form } => Ok(Order::Info(form)),
+    }
+}

@@ -1,0 +1,142 @@
+// The commands' own parts, over all that is handed to the program: what the stages made ready goes to each.
+ghost use Rattle.std.specs.Prelude.{◌≡◌, false};
+ghost use Rattle.pgb_prepare.specs.Readies.{IsReady};
+ghost use Rattle.pgb_push.specs.Orders.{IsNamed};
+ghost use Rattle.pgb_command.specs.Asked.{create as asks_create, push as asks_push, get as asks_get, report as asks_report};
+ghost use Rattle.pgb_command.specs.Did.{Ran};
+ghost use Rattle.pgb_command.specs.Told.{request_of, asked_of};
+ghost use Rattle.pgb_command.specs.Tables.{plan_of};
+
+use crate::fault::{Fault, create_end, get_end, inform_end, push_end};
+use crate::outside::{Outside, Told};
+use crate::settings::Settings;
+use pgb_archive::Aside;
+use pgb_create::create_stanza;
+use pgb_get::{GetOrder, get_file};
+use pgb_inform::report_stanza;
+use pgb_options::OutputWord;
+use pgb_outside::{Clock, Disk, Locks, Sink, Source, Tree, Wire};
+use pgb_prepare::Ready;
+use pgb_push::{PushOrder, push_file};
+use pgb_stage::Outcome;
+use std::alloc::Global;
+
+impl<
+    D: Disk,
+    S: Disk,
+    T: Tree,
+    V: Wire,
+    A: Aside<D, S>,
+    C: Clock,
+    K: Locks,
+    I: Source,
+    O: Sink,
+> Outside<D, S, T, V, A, C, K, I, O>
+{
+    /// stanza-create.
+    pub(crate) fn create(&mut self, alloc: Global, settings: &Settings<'_>, ready: &Ready) -> Result<Outcome, Fault>
+        requires request { request_of settings.now.request ≡ asks_create }
+        requires ready { IsReady (plan_of (request_of settings.now.request)) settings.now.stanza.now (D.state self.old.repo).view.now (T.state self.old.tree).nodes ready.now }
+        ensures ran { let told = ⟦<Outside<D, S, T, V, A, C, K, I, O> as Told>⟧.told in
+            Ran (asked_of settings.now) (told self.old) (told self.new) result }
+        ensures rest { self.new ≡ record self.old { repo = self.new.repo; server = self.new.server } }
+    {
+        let Some(control) = &ready.control else {
+            unreachable!();
+        };
+        create_end(create_stanza(
+            alloc,
+            &mut self.repo,
+            &mut self.server,
+            settings.stanza,
+            control,
+            settings.server,
+        ))
+    }
+
+    /// archive-push.
+    pub(crate) fn push(
+        &mut self,
+        alloc: Global,
+        settings: &Settings<'_>,
+        order: PushOrder<'_>,
+        ready: &Ready,
+    ) -> Result<Outcome, Fault>
+        requires named { IsNamed order }
+        requires request { request_of settings.now.request ≡ asks_push order.path.now }
+        requires folder { order.folder.now ≡ settings.now.pg1_path.now }
+        requires ready { IsReady (plan_of (request_of settings.now.request)) settings.now.stanza.now (D.state self.old.repo).view.now (T.state self.old.tree).nodes ready.now }
+        ensures ran { let told = ⟦<Outside<D, S, T, V, A, C, K, I, O> as Told>⟧.told in
+            Ran (asked_of settings.now) (told self.old) (told self.new) result }
+        ensures rest { self.new ≡ record self.old { repo = self.new.repo; tree = self.new.tree } }
+    {
+        let (Some(control), Some(archive)) = (&ready.control, &ready.archive) else {
+            unreachable!();
+        };
+        push_end(push_file(
+            alloc,
+            &mut self.repo,
+            &mut self.tree,
+            settings.stanza,
+            order,
+            control,
+            archive,
+        ))
+    }
+
+    /// archive-get.
+    pub(crate) fn get(
+        &mut self,
+        alloc: Global,
+        settings: &Settings<'_>,
+        order: &GetOrder<'_>,
+        ready: &Ready,
+    ) -> Result<Outcome, Fault>
+        requires request { request_of settings.now.request ≡ asks_get order.now.word.now order.now.path.now }
+        requires folder { order.now.folder.now ≡ settings.now.pg1_path.now }
+        requires ready { IsReady (plan_of (request_of settings.now.request)) settings.now.stanza.now (D.state self.old.repo).view.now (T.state self.old.tree).nodes ready.now }
+        ensures ran { let told = ⟦<Outside<D, S, T, V, A, C, K, I, O> as Told>⟧.told in
+            Ran (asked_of settings.now) (told self.old) (told self.new) result }
+        ensures rest { self.new ≡ record self.old { repo = self.new.repo; tree = self.new.tree } }
+    {
+        let (Some(control), Some(archive)) = (&ready.control, &ready.archive) else {
+            unreachable!();
+        };
+        get_end(get_file(
+            alloc,
+            &mut self.repo,
+            &mut self.tree,
+            settings.stanza,
+            order,
+            control,
+            archive,
+        ))
+    }
+
+    /// info.
+    pub(crate) fn inform(
+        &mut self,
+        alloc: Global,
+        settings: &Settings<'_>,
+        form: OutputWord,
+        ready: &Ready,
+    ) -> Result<Outcome, Fault>
+        requires request { request_of settings.now.request ≡ asks_report form }
+        requires ready { IsReady (plan_of (request_of settings.now.request)) settings.now.stanza.now (D.state self.old.repo).view.now (T.state self.old.tree).nodes ready.now }
+        ensures ran { let told = ⟦<Outside<D, S, T, V, A, C, K, I, O> as Told>⟧.told in
+            Ran (asked_of settings.now) (told self.old) (told self.new) result }
+        ensures rest { self.new ≡ record self.old { repo = self.new.repo } }
+    {
+        let (Some(archive), Some(backup)) = (&ready.archive, &ready.backup) else {
+            unreachable!();
+        };
+        inform_end(report_stanza(
+            alloc,
+            &mut self.repo,
+            settings.stanza,
+            archive,
+            backup,
+            form,
+        ))
+    }
+}

@@ -1,0 +1,202 @@
+// The stages of a command, over all that is handed to the program.
+ghost use Rattle.std.specs.Prelude.{◌≡◌, true, false, Some, None, OnOk, IfErr, [], ◌⊎◌, map};
+ghost use Rattle.pgb_stage.specs.Plans.{first_lock, second_lock};
+ghost use Rattle.pgb_stage.specs.Halts.{HaltCause, Never};
+ghost use Rattle.pgb_stage.specs.Seen.{Failed, AreRead};
+ghost use Rattle.pgb_prepare.specs.Readies.{IsReady};
+ghost use Rattle.pgb_prepare.specs.Taking.{AreNames, HoldsOnly};
+ghost use Rattle.pgb_command.specs.Did.{Ran, Did, Brackets, SamePlaces, OpensPlaces, ArePlacesOpened, TakesAll, OnlyLocked};
+ghost use Rattle.pgb_command.specs.Told.{request_of, asked_of, IsOrder};
+ghost use Rattle.pgb_command.specs.Tables.{plan_of};
+
+use crate::fault::Fault;
+use crate::order::Order;
+use crate::outside::{Outside, Told};
+use crate::settings::Settings;
+use pgb_archive::Aside;
+use pgb_outside::{Clock, Disk, Locks, Sink, Source, Tree, Wire};
+use pgb_prepare::{LockNames, Ready, lock_names, open_disk, open_tree, prepare, release_locks, take_locks};
+use pgb_stage::{Halt, Object, Outcome, Plan, StageFault};
+use std::alloc::Global;
+
+// The data folder, where it is opened.
+fn folder_of<'a>(settings: &Settings<'a>, plan: &Plan) -> Option<&'a str>
+    ensures some { plan.now.folder ≡ true → result ≡ Some settings.now.pg1_path }
+    ensures none { plan.now.folder ≡ false → result ≡ None }
+{
+    if plan.folder {
+        Some(settings.pg1_path)
+    } else {
+        None
+    }
+}
+
+impl<
+    D: Disk,
+    S: Disk,
+    T: Tree,
+    V: Wire,
+    A: Aside<D, S>,
+    C: Clock,
+    K: Locks,
+    I: Source,
+    O: Sink,
+> Outside<D, S, T, V, A, C, K, I, O>
+{
+    // Opens the places that the plan names: the data folder and the repository.
+    fn open(&mut self, settings: &Settings<'_>, plan: &Plan) -> Result<(), Halt<StageFault>>
+        requires { plan.now ≡ plan_of (request_of settings.now.request) }
+        ensures read { let told = ⟦<Outside<D, S, T, V, A, C, K, I, O> as Told>⟧.told in
+            AreRead (told self.old) (told self.new) }
+        ensures places { let told = ⟦<Outside<D, S, T, V, A, C, K, I, O> as Told>⟧.told in
+            OpensPlaces (asked_of settings.now) (told self.old) (told self.new) }
+        ensures opened { let told = ⟦<Outside<D, S, T, V, A, C, K, I, O> as Told>⟧.told in
+            OnOk result (ArePlacesOpened (asked_of settings.now) (told self.old) (told self.new)) }
+        ensures cause { let told = ⟦<Outside<D, S, T, V, A, C, K, I, O> as Told>⟧.told in
+            IfErr result (HaltCause Never (Failed (told self.old) (told self.new))) }
+        ensures rest { self.new ≡ record self.old { repo = self.new.repo; tree = self.new.tree } }
+        ensures tree { plan.now.folder ≡ false → self.new.tree ≡ self.old.tree }
+    {
+        open_tree(&mut self.tree, folder_of(settings, plan))?;
+        open_disk(&mut self.repo, Object::Repo, Some(settings.repo1_path))?;
+        Ok(())
+    }
+
+    /// All stages of a command: places, locks, what is found behind them, and its own part.
+    pub(crate) fn perform(
+        &mut self,
+        alloc: Global,
+        settings: &Settings<'_>,
+        plan: &Plan,
+        order: Order<'_>,
+    ) -> Result<Outcome, Fault>
+        requires free { K.taken self.old.locks ≡ [] }
+        requires plan { plan.now ≡ plan_of (request_of settings.now.request) }
+        requires order { IsOrder (request_of settings.now.request) settings.now.pg1_path.now order }
+        ensures did { let told = ⟦<Outside<D, S, T, V, A, C, K, I, O> as Told>⟧.told in
+            Did (asked_of settings.now) (told self.old) (told self.new) result }
+        ensures brackets { let told = ⟦<Outside<D, S, T, V, A, C, K, I, O> as Told>⟧.told in
+            Brackets (asked_of settings.now) (told self.old) (told self.new) result }
+        ensures released { K.taken self.new.locks ≡ [] }
+        ensures tree { plan.now.folder ≡ false → self.new.tree ≡ self.old.tree }
+        ensures rest { self.new ≡ record self.old { repo = self.new.repo; tree = self.new.tree; server = self.new.server; locks = self.new.locks } }
+    {
+        self.open(settings, plan)?;
+        self.under_locks(alloc, settings, plan, order)
+    }
+
+    // Behind the locks: the stanza is settled, the control file and the pairs are read, and then comes the command's own part.
+    fn work(
+        &mut self,
+        alloc: Global,
+        settings: &Settings<'_>,
+        plan: &Plan,
+        order: Order<'_>,
+    ) -> Result<Outcome, Fault>
+        requires plan { plan.now ≡ plan_of (request_of settings.now.request) }
+        requires order { IsOrder (request_of settings.now.request) settings.now.pg1_path.now order }
+        ensures did { let told = ⟦<Outside<D, S, T, V, A, C, K, I, O> as Told>⟧.told in
+            Did (asked_of settings.now) (told self.old) (told self.new) result }
+        ensures places { let told = ⟦<Outside<D, S, T, V, A, C, K, I, O> as Told>⟧.told in
+            SamePlaces (told self.old) (told self.new) }
+        ensures tree { plan.now.folder ≡ false → self.new.tree ≡ self.old.tree }
+        ensures rest { self.new ≡ record self.old { repo = self.new.repo; tree = self.new.tree; server = self.new.server } }
+    {
+        let ready = prepare(
+            alloc,
+            &mut self.repo,
+            &mut self.tree,
+            settings.stanza,
+            plan,
+        )?;
+        self.dispatch(alloc, settings, order, ready)
+    }
+
+    // The locks are taken, and then comes the work.
+    fn locked(
+        &mut self,
+        alloc: Global,
+        settings: &Settings<'_>,
+        plan: &Plan,
+        names: &LockNames,
+        order: Order<'_>,
+    ) -> Result<Outcome, Fault>
+        requires free { K.taken self.old.locks ≡ [] }
+        requires plan { plan.now ≡ plan_of (request_of settings.now.request) }
+        requires names { AreNames names.now plan.now settings.now.stanza.now }
+        requires order { IsOrder (request_of settings.now.request) settings.now.pg1_path.now order }
+        ensures did { let told = ⟦<Outside<D, S, T, V, A, C, K, I, O> as Told>⟧.told in
+            Did (asked_of settings.now) (told self.old) (told self.new) result }
+        ensures places { let told = ⟦<Outside<D, S, T, V, A, C, K, I, O> as Told>⟧.told in
+            SamePlaces (told self.old) (told self.new) }
+        ensures held { HoldsOnly (first_lock plan.now settings.now.stanza.now) (second_lock plan.now settings.now.stanza.now) (K.taken self.new.locks) }
+        ensures took { let told = ⟦<Outside<D, S, T, V, A, C, K, I, O> as Told>⟧.told in
+            OnOk result (TakesAll (asked_of settings.now) (told self.old) (told self.new)) }
+        ensures only { let told = ⟦<Outside<D, S, T, V, A, C, K, I, O> as Told>⟧.told in
+            OnlyLocked (asked_of settings.now) (told self.old) (told self.new) }
+        ensures tree { plan.now.folder ≡ false → self.new.tree ≡ self.old.tree }
+        ensures rest { self.new ≡ record self.old { repo = self.new.repo; tree = self.new.tree; server = self.new.server; locks = self.new.locks } }
+    {
+        take_locks(
+            alloc,
+            &mut self.locks,
+            settings.lock_path,
+            names,
+            plan,
+            settings.stanza,
+        )?;
+        self.work(alloc, settings, plan, order)
+    }
+
+    // The bracket of the locks: what is taken is released.
+    fn under_locks(
+        &mut self,
+        alloc: Global,
+        settings: &Settings<'_>,
+        plan: &Plan,
+        order: Order<'_>,
+    ) -> Result<Outcome, Fault>
+        requires free { K.taken self.old.locks ≡ [] }
+        requires plan { plan.now ≡ plan_of (request_of settings.now.request) }
+        requires order { IsOrder (request_of settings.now.request) settings.now.pg1_path.now order }
+        ensures did { let told = ⟦<Outside<D, S, T, V, A, C, K, I, O> as Told>⟧.told in
+            Did (asked_of settings.now) (told self.old) (told self.new) result }
+        ensures places { let told = ⟦<Outside<D, S, T, V, A, C, K, I, O> as Told>⟧.told in
+            SamePlaces (told self.old) (told self.new) }
+        ensures released { K.taken self.new.locks ≡ [] }
+        ensures took { let told = ⟦<Outside<D, S, T, V, A, C, K, I, O> as Told>⟧.told in
+            OnOk result (TakesAll (asked_of settings.now) (told self.old) (told self.new)) }
+        ensures only { let told = ⟦<Outside<D, S, T, V, A, C, K, I, O> as Told>⟧.told in
+            OnlyLocked (asked_of settings.now) (told self.old) (told self.new) }
+        ensures tree { plan.now.folder ≡ false → self.new.tree ≡ self.old.tree }
+        ensures rest { self.new ≡ record self.old { repo = self.new.repo; tree = self.new.tree; server = self.new.server; locks = self.new.locks } }
+    {
+        let names = lock_names(alloc, plan, settings.stanza)?;
+        let ended = self.locked(alloc, settings, plan, &names, order);
+        release_locks(&mut self.locks, &names, plan, settings.stanza);
+        ended
+    }
+
+    // The command's own part: one arm a command.
+    fn dispatch(
+        &mut self,
+        alloc: Global,
+        settings: &Settings<'_>,
+        order: Order<'_>,
+        ready: Ready,
+    ) -> Result<Outcome, Fault>
+        requires order { IsOrder (request_of settings.now.request) settings.now.pg1_path.now order }
+        requires ready { IsReady (plan_of (request_of settings.now.request)) settings.now.stanza.now (D.state self.old.repo).view.now (T.state self.old.tree).nodes ready }
+        ensures ran { let told = ⟦<Outside<D, S, T, V, A, C, K, I, O> as Told>⟧.told in
+            Ran (asked_of settings.now) (told self.old) (told self.new) result }
+        ensures tree { (plan_of (request_of settings.now.request)).folder ≡ false → self.new.tree ≡ self.old.tree }
+        ensures rest { self.new ≡ record self.old { repo = self.new.repo; tree = self.new.tree; server = self.new.server } }
+    {
+        match order {
+            Order::StanzaCreate => self.create(alloc, settings, &ready),
+            Order::ArchivePush(order) => self.push(alloc, settings, order, &ready),
+            Order::ArchiveGet(order) => self.get(alloc, settings, &order, &ready),
+            Order::Info(form) => self.inform(alloc, settings, form, &ready),
+        }
+    }
+}
