@@ -321,3 +321,20 @@ module _ (stanza : Text) (a b s t : View) (rests : Rests a b) (same : b.now ≡ 
     whole = all_as reached _ _ (leads_on command true d e) h.whole;
     turned = none_as reached _ _ (leads_on (turns_of command) false d e) h.turned;
   }
+
+-- ---- the spool stays
+
+pub reading_spool : (stanza : Text) (q : Repository) (log : List Done) (s : View) → KeepsSpool stanza q log s → KeepsSpool stanza q (record { command = Reading; acknowledged = true } ∷ log) s
+reading_spool stanza q log s k = record { fixed = k.fixed; receipts = λ f leaves name sum fits has. let x = k.receipts f leaves name sum fits has in (x.0, (x.0, x.1, ([], refl, refl)), x.2) }
+
+runs_part : (stanza : Text) (command : Command) (a d s : View) → DoesPart stanza command a d → RunsPart stanza command a s d s
+runs_part stanza command a d s h = record { does = h; receipts = λ q log some begun keeps. still_spool stanza command q log s keeps }
+
+-- a command that leaves the spool as it is, and whose steps keep what drains have stored
+pub does_runs : (stanza : Text) (command : Command) (reached : Reached) (a d s : View) → ((q : Repository) (log : List Done) → KeepsSpool stanza q log s → KeepsSpool stanza q (record { command = command; acknowledged = true } ∷ log) s) →
+    Does stanza command reached a d → Runs stanza command reached a s d s
+does_runs stanza command reached a d s keeps h = record {
+  part = runs_part stanza command a d s h.part;
+  whole = all_as reached _ _ (λ w. record { does = w; receipts = λ q log some begun k. keeps q log k }) h.whole;
+  turned = none_as reached _ _ (runs_part stanza (turns_of command) a d s) h.turned;
+}

@@ -1,8 +1,7 @@
 -- What all handed-in objects tell together, and which of them failed between two times.
-use Rattle.std.specs.Prelude.{◌≡◌, ◌≤◌, ℕ, List, Option}
+use Rattle.std.specs.Prelude.{◌≡◌, ◌≤◌, ℕ}
 use Rattle.pgb_outside.specs.Cause.{Rises}
-use Rattle.pgb_outside.specs.Links.{LinkState}
-use Rattle.pgb_outside.specs.Moments.{Rests}
+use Rattle.pgb_archive.specs.Still.{IsStill}
 use Rattle.pgb_outside.specs.States.{DiskState, TreeState}
 use Rattle.pgb_stage.specs.States.{WireState, OthersState, ClockState, LocksState, SourceState, SinkState}
 use Rattle.pgb_stage.specs.declared.object.Object.{Object}
@@ -18,12 +17,8 @@ pub record Seen : Type 1 where
   pub locks : LocksState
   pub config : SourceState
   pub out : SinkState
-  pub links : List LinkState
 
--- with what these links tell
-abbrev pub with_links : List LinkState → Seen → Seen
-with_links links s = record s { links = links }
-
+-- its count of faults
 abbrev pub faults_of : Object → Seen → ℕ
 faults_of Repo s = s.repo.faults
 faults_of Spool s = s.spool.faults
@@ -43,21 +38,14 @@ Failed before after object = Rises (faults_of object before) (faults_of object a
 abbrev pub AreLater : Seen → Seen → Type 0
 AreLater before after = (object : Object) → faults_of object before ≤ faults_of object after
 
--- a disk that was only opened, read or settled
-pub record IsRead (old new : DiskState) : Type 0 where
-  pub now : new.view.now ≡ old.view.now
-  pub time : Rests old.view new.view
-  pub proper : new.misuses ≡ old.misuses
-
 -- All that is told of contents stays; places, and the counts of faults and of held locks, may change.
 pub record AreRead (before after : Seen) : Type 0 where
-  pub repo : IsRead before.repo after.repo
-  pub spool : IsRead before.spool after.spool
+  pub repo : IsStill before.repo.view after.repo.view
+  pub spool : IsStill before.spool.view after.spool.view
   pub nodes : after.tree.nodes ≡ before.tree.nodes
   pub server : after.server ≡ before.server
   pub others : after.others ≡ before.others
   pub files : after.config.files ≡ before.config.files
   pub out : after.out ≡ before.out
-  pub links : after.links ≡ before.links
   pub refusals : before.locks.refusals ≤ after.locks.refusals
   pub later : AreLater before after
