@@ -1,5 +1,5 @@
 -- What is known of a stanza's info pairs.
-use Rattle.std.specs.Prelude.{◌≡◌, ◌≢◌, Option, Some, IfSome, string_bytes}
+use Rattle.std.specs.Prelude.{◌≡◌, ◌⊎◌, Option, Some, IfSome, string_bytes}
 use Rattle.pgb_outside.specs.Content.{Content, at}
 use Rattle.pgb_model.specs.declared.clusters.ClusterId.{ClusterId}
 use Rattle.pgb_model.specs.declared.wal.ArchiveId.{ArchiveId}

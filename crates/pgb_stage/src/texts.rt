@@ -124,7 +124,12 @@ pub fn mismatch_text(alloc: Global, kept: &Identity, found: &Identity) -> Result
 {
     let kept = identity_text(alloc, kept)?;
     let found = identity_text(alloc, found)?;
-    bytes_of(format!(in alloc; "stanza has {kept}, data folder has {found}"))
+    let mut line = Vec::new(alloc);
+    line.extend_from_slice("stanza has ".as_bytes())?;
+    line.extend_from_slice(kept.as_bytes())?;
+    line.extend_from_slice(", data folder has ".as_bytes())?;
+    line.extend_from_slice(found.as_bytes())?;
+    Ok(line)
 }
 
 /// The status of a refusal before a command's own part.
