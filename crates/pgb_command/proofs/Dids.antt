@@ -35,7 +35,7 @@ use Rattle.pgb_command.specs.Asked.{Request, create, push, get, report, Asked}
 use Rattle.pgb_command.specs.Faults.{of_stage}
 use Rattle.pgb_command.specs.Tables.{Known, known, plan_of, manner_of, CommandCause, Promise, OnReader, OnCreate, OnOther, FolderGoes}
 use Rattle.pgb_command.specs.Did.{Ran, OnReady, Cause, Did, OwnCause, SamePlaces, Spares, Closes, WordsCause}
-use Rattle.pgb_command.proofs.Ends.{all_later}
+use Rattle.pgb_command.proofs.Ends.{all_later, only_rose}
 
 -- ---- nothing was done: a line a command
 
@@ -44,6 +44,13 @@ idle create folder nodes P p = λ command is. p command
 idle (push path) folder nodes P p = λ command is. p command
 idle (get name path) folder nodes P p = λ command is. p command
 idle (report form) folder nodes P p = λ command is. p command
+
+-- a command that opens no data folder reads no control file
+pub no_control : (request : Request) → (plan_of request).folder ≡ false → (plan_of request).control ≡ false
+no_control create is = cc is
+no_control (push path) is = cc is
+no_control (get name path) is = cc is
+no_control (report form) is = refl
 
 -- what holds where no pair is healed holds of readers and of stanza-create
 pub reader_still : (request : Request) (P : Type 0) → OnReading (plan_of request).pairs P → OnReader request P
@@ -110,7 +117,7 @@ folder_on a (report form) b m k still nodes h = h ∙ nodes
 
 -- ---- causes and ends
 
-later_on : (b m k : Seen) → AreLater b m → AreLater m k → AreLater b k
+pub later_on : (b m k : Seen) → AreLater b m → AreLater m k → AreLater b k
 later_on b m k p q object = omega (arith, p object, q object)
 
 err_as : (r : Result Outcome Fault) (P Q : Fault → Type 0) → ((fault : Fault) → P fault → Q fault) → IfErr r P → IfErr r Q
@@ -314,8 +321,33 @@ refused_at a b fault closes cause = did_nothing a b b fault (still_quiet a.stanz
 pub starved : (a : Asked) (b : Seen) (r : Result Outcome Fault) → IsErrAnd r (λ f. f ≡ NoMemory) → Did a b b r
 starved a b r is = did_err a b b NoMemory r is (refused_at a b NoMemory tt tt)
 
-only_to : (b k : Seen) (which : Object) (rose : Type 0) → (rose → Failed b k which) → (object : Object) → Only which rose object → Failed b k object
-only_to b k which rose to object h = subst (λ (o : Object). Failed b k o) (sym h.0) (to h.1)
+-- a command's words are refused
+heals_none : (request : Request) (stanza : Text) (repo : Option Content) → Heals (plan_of request).pairs stanza repo repo
+heals_none create stanza repo = refl
+heals_none (push path) stanza repo = λ some. record { others = λ n x y. refl }
+heals_none (get name path) stanza repo = refl
+heals_none (report form) stanza repo = refl
+
+word_closes : (a : Asked) (b : Seen) (fault : Fault) → WordsCause a fault → Closes b b fault
+word_closes a b (Usage usage) h = absurd h
+word_closes a b (Stage fault) h = absurd h
+word_closes a b (OfCommand (Create fault)) h = absurd h
+word_closes a b (OfCommand (Push fault)) h = tt
+word_closes a b (OfCommand (Get fault)) h = tt
+word_closes a b (ObjectFailed object) h = absurd h
+word_closes a b NoMemory h = tt
+
+word_cause : (a : Asked) (b : Seen) (fault : Fault) → WordsCause a fault → Cause a b b fault
+word_cause a b (Usage usage) h = absurd h
+word_cause a b (Stage fault) h = absurd h
+word_cause a b (OfCommand (Create fault)) h = absurd h
+word_cause a b (OfCommand (Push fault)) h = (b.repo.view.now, heals_none a.request a.stanza b.repo.view.now, h (known b))
+word_cause a b (OfCommand (Get fault)) h = (b.repo.view.now, heals_none a.request a.stanza b.repo.view.now, h (known b))
+word_cause a b (ObjectFailed object) h = absurd h
+word_cause a b NoMemory h = tt
+
+pub worded : (a : Asked) (b : Seen) (r : Result Outcome Fault) (fault : Fault) → IsErrAnd r (λ f. f ≡ fault) → WordsCause a fault → Did a b b r
+worded a b r fault is h = did_err a b b fault r is (refused_at a b fault (word_closes a b fault h) (word_cause a b fault h))
 
 -- locks that were taken change nothing that is held
 pub locks_read : (b : Seen) (l : LocksState) → b.locks.refusals ≤ l.refusals → b.locks.faults ≤ l.faults → AreRead b (record b { locks = l })
@@ -339,7 +371,7 @@ pub not_taken : (a : Asked) (plan : Plan) → plan ≡ plan_of a.request → (b 
 not_taken a plan is b l r halt err refusals faults cause = halted_at a b (record b { locks = l }) r halt err (still_quiet a.stanza b.repo.view) (rests_none b.spool.view) refl
     (any_reader a.request _ (still_self b.repo.view)) (any_create a.request _ (still_self b.repo.view)) refl refl (locks_read b l refusals faults).later
     (HeldCause plan a.stanza (Rises b.locks.refusals l.refusals)) (Only Locks (Rises b.locks.faults l.faults)) (held_at a plan is b (record b { locks = l }))
-    (only_to b (record b { locks = l }) Locks (Rises b.locks.faults l.faults) (λ h. h)) cause
+    (only_rose b (record b { locks = l }) Locks (Rises b.locks.faults l.faults) (λ h. h)) cause
 
 pub unprepared : (a : Asked) (plan : Plan) → plan ≡ plan_of a.request → (b k : Seen) (r : Result Outcome Fault) (halt : Halt StageFault) → IsErrAnd r (λ f. f ≡ of_stage halt) → Quiet a.stanza b.repo.view k.repo.view → Rests b.spool.view k.spool.view → k.spool.view.now ≡ b.spool.view.now →
     OnReading plan.pairs (IsStill b.repo.view k.repo.view) → k.tree.nodes ≡ b.tree.nodes → k.server ≡ b.server → AreLater b k → (failed : Object → Type 0) → ((object : Object) → failed object → Failed b k object) →

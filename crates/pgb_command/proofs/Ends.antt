@@ -1,5 +1,5 @@
 -- How a command's own part ended, told by layers.
-use Rattle.std.proofs.Common.{◌≡◌, ◌≤◌, Bool, true, false, Result, Ok, Err, IfOk, IfErr, refl, ap}
+use Rattle.std.proofs.Common.{◌≡◌, ◌≤◌, Bool, true, false, Result, Ok, Err, IfOk, IfErr, refl, ap, sym, subst}
 use Rattle.std.specs.Prelude.{OnOk}
 use Rattle.pgb_outside.specs.Cause.{Rises}
 use Rattle.pgb_stage.specs.declared.object.Object.{Object}
@@ -8,7 +8,7 @@ use Rattle.pgb_stage.specs.declared.halt.Halt.{Halt}
 use Rattle.pgb_stage.specs.declared.halt.Halt.TheVariants.{Refused, Failed as HaltFailed, NoMemory as HaltMemory}
 use Rattle.pgb_stage.specs.declared.outcome.Outcome.{Outcome}
 use Rattle.pgb_stage.specs.declared.outcome.Outcome.TheVariants.{Finished, Absent}
-use Rattle.pgb_stage.specs.Halts.{HaltCause}
+use Rattle.pgb_stage.specs.Halts.{HaltCause, Only}
 use Rattle.pgb_stage.specs.Reached.{reached_by, back_if}
 use Rattle.pgb_stage.specs.Risen.{Rose, rose_in}
 use Rattle.pgb_stage.specs.Seen.{Seen, Failed, faults_of, AreLater}
@@ -60,3 +60,7 @@ all_later b k r s t v a c l i o Clock = c
 all_later b k r s t v a c l i o Locks = l
 all_later b k r s t v a c l i o Config = i
 all_later b k r s t v a c l i o Output = o
+
+-- only this object failed
+pub only_rose : (b k : Seen) (which : Object) (rose : Type 0) → (rose → Failed b k which) → (object : Object) → Only which rose object → Failed b k object
+only_rose b k which rose to object h = subst (λ (o : Object). Failed b k o) (sym h.0) (to h.1)

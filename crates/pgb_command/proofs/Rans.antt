@@ -272,3 +272,7 @@ module _ (a : Asked) (b k : Seen) (rest : k ≡ record b { repo = k.repo }) (sti
       (ap (λ (s : Seen). s.server) rest)
       (never_closes b k of_stage (inform_closes b k) r)
       places later)
+
+pub both_ok : {E : Type 0} (r : Result Outcome E) (P Q : Outcome → Type 0) → IfOk r P → IfOk r Q → IfOk r (λ o. P o × Q o)
+both_ok (Ok o) P Q p q = (p, q)
+both_ok (Err e) P Q p q = tt

@@ -1,5 +1,5 @@
 -- The status and the output of each answer (own), by layers.
-use Rattle.std.specs.Prelude.{◌≡◌, ◌⊎◌, ◌≤◌, ℕ, Bool, true, false, List, [], ◌∷◌, ◌++◌, ◌+◌, ◌/◌, ◌%◌, codes, decimal, map, string_bytes, Result, Ok, Err}
+use Rattle.std.specs.Prelude.{◌≡◌, ◌⊎◌, ◌≤◌, ℕ, Bool, true, false, List, [], ◌∷◌, ◌++◌, ◌+◌, ◌/◌, ◌%◌, codes, decimal, map, string_bytes, Result, Ok, Err, if◌then◌else◌}
 use Rattle.std.specs.List.{flat_map}
 use Rattle.pgb_model.specs.Text.{Text}
 use Rattle.pgb_options.specs.declared.usage.Usage.{Usage}
@@ -135,10 +135,14 @@ digits n = (48 + n / 100) ∷ (48 + n / 10 % 10) ∷ (48 + n % 10) ∷ []
 abbrev pub line_of : ℕ → Text → Text
 line_of number message = codes "ERROR: [" ++ (digits number ++ (codes "]: " ++ (message ++ codes "\n")))
 
+-- the output failed
+abbrev pub is_output : Fault → Bool
+is_output (Failed Output) = true
+is_output other = false
+
 -- the last line of the output: where the output failed there is none
 abbrev pub error_line : Fault → Text
-error_line (Failed Output) = []
-error_line fault = line_of (status_of fault) (message_of fault)
+error_line fault = if is_output fault then [] else line_of (status_of fault) (message_of fault)
 
 -- what is told where the archive has no such file
 abbrev pub absent_line : Text → Text

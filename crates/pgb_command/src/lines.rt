@@ -1,6 +1,6 @@
 // The lines that tell an answer.
 ghost use Rattle.std.specs.Prelude.{◌≡◌, ◌++◌, codes, decimal, IfOk, IsOkAnd, OnOk, string_bytes};
-ghost use Rattle.pgb_command.specs.Answers.{digits, line_of, status_of, usage_message, command_message, message_of, error_line, absent_line, unknown_line};
+ghost use Rattle.pgb_command.specs.Answers.{digits, line_of, status_of, usage_message, command_message, message_of, is_output, error_line, absent_line, unknown_line};
 
 use crate::fault::{CommandFault, Fault, status};
 use pgb_create::create_message;
@@ -77,11 +77,21 @@ fn line_of(alloc: Global, status: u8, message: &[u8]) -> Result<Vec<u8>, NoMemor
     Ok(line)
 }
 
+// Whether the output failed.
+fn is_output(fault: &Fault) -> bool
+    ensures { result ≡ is_output fault.now }
+{
+    match fault {
+        Fault::Failed(Object::Output) => true,
+        _ => false,
+    }
+}
+
 /// The line of a fault; where the output failed there is none.
 pub(crate) fn error_line(alloc: Global, fault: &Fault) -> Result<Vec<u8>, NoMemory>
     ensures { IfOk result (λ line. line.items ≡ error_line fault.now) }
 {
-    if let Fault::Failed(Object::Output) = fault {
+    if is_output(fault) {
         return Ok(Vec::new(alloc));
     }
     let message = message(alloc, fault)?;

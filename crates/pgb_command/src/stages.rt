@@ -10,9 +10,9 @@ ghost use Rattle.pgb_command.specs.Told.{request_of, asked_of, IsOrder};
 ghost use Rattle.pgb_command.specs.Tables.{plan_of};
 
 use crate::fault::Fault;
-use crate::order::Order;
+use crate::order::{Order, order_of};
 use crate::outside::{Outside, Told};
-use crate::settings::Settings;
+use crate::settings::{Settings, plan_of};
 use pgb_archive::Aside;
 use pgb_outside::{Clock, Disk, Locks, Sink, Source, Tree, Wire};
 use pgb_prepare::{LockNames, Ready, lock_names, open_disk, open_tree, prepare, release_locks, take_locks};
@@ -62,8 +62,8 @@ impl<
         Ok(())
     }
 
-    /// All stages of a command: places, locks, what is found behind them, and its own part.
-    pub(crate) fn perform(
+    // All stages behind the words: places, locks, what is found behind them, and the command's own part.
+    fn perform(
         &mut self,
         alloc: Global,
         settings: &Settings<'_>,
@@ -83,6 +83,21 @@ impl<
     {
         self.open(settings, plan)?;
         self.under_locks(alloc, settings, plan, order)
+    }
+
+    /// Does what is asked for: the command's words are read, and then come its stages.
+    pub(crate) fn obey(&mut self, alloc: Global, settings: &Settings<'_>) -> Result<Outcome, Fault>
+        requires free { K.taken self.old.locks ≡ [] }
+        ensures did { let told = ⟦<Outside<D, S, T, V, A, C, K, I, O> as Told>⟧.told in
+            Did (asked_of settings.now) (told self.old) (told self.new) result }
+        ensures brackets { let told = ⟦<Outside<D, S, T, V, A, C, K, I, O> as Told>⟧.told in
+            Brackets (asked_of settings.now) (told self.old) (told self.new) result }
+        ensures released { K.taken self.new.locks ≡ [] }
+        ensures rest { self.new ≡ record self.old { repo = self.new.repo; tree = self.new.tree; server = self.new.server; locks = self.new.locks } }
+    {
+        let order = order_of(alloc, settings)?;
+        let plan = plan_of(&settings.request);
+        self.perform(alloc, settings, &plan, order)
     }
 
     // Behind the locks: the stanza is settled, the control file and the pairs are read, and then comes the command's own part.

@@ -1,2 +1,6 @@
-//! To come.
+//! info: the report on a stanza.
 #![tactic(auto)]
+
+mod info;
+
+pub use info::report_stanza;

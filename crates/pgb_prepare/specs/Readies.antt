@@ -2,17 +2,20 @@
 use Rattle.std.specs.Prelude.{◌≡◌, Bool, true, false, Option, IfSome, IsTrue, IsSomeAnd}
 use Rattle.pgb_outside.specs.Content.{Content}
 use Rattle.pgb_outside.specs.Tree.{Nodes}
+use Rattle.pgb_model.specs.declared.clusters.ArchiveInfo.{ArchiveInfo}
+use Rattle.pgb_model.specs.declared.clusters.BackupInfo.{BackupInfo}
 use Rattle.pgb_model.specs.Text.{Text}
 use Rattle.pgb_model.specs.Names.{backup_info}
 use Rattle.pgb_model.specs.Pair.{PairIs}
 use Rattle.pgb_model.specs.InfoFiles.{IsArchiveInfo, IsBackupInfo, IsBackupText}
 use Rattle.pgb_model.specs.Values.{archive_info_of, backup_info_of}
+use Rattle.pgb_stanza.specs.declared.control.Control.{Control}
 use Rattle.pgb_stage.specs.declared.plan.Plan.{Plan}
 use Rattle.pgb_stage.specs.declared.plan.Pairs.{Pairs}
 use Rattle.pgb_stage.specs.declared.plan.Pairs.TheVariants.{Unread, ReadBoth}
-use Rattle.pgb_prepare.specs.declared.ready.Ready.{Ready}
-use Rattle.pgb_stage.specs.Cluster.{FolderTells}
 use Rattle.pgb_stage.specs.Current.{HasValue}
+use Rattle.pgb_prepare.specs.declared.ready.Ready.{Ready}
+use Rattle.pgb_prepare.specs.Folder.{IsTold}
 
 -- the archive pair is read
 abbrev pub has_archive : Pairs → Bool
@@ -24,8 +27,20 @@ abbrev pub has_backup : Pairs → Bool
 has_backup ReadBoth = true
 has_backup other = false
 
+-- the archive pair has this value
+abbrev pub IsArchiveOf : Text → Option Content → ArchiveInfo → Type 0
+IsArchiveOf stanza repo v = IfSome repo (λ f. HasValue stanza f (archive_info_of v)) × IsArchiveInfo (archive_info_of v)
+
+-- the backup pair has this value
+abbrev pub IsBackupOf : Text → Option Content → BackupInfo → Type 0
+IsBackupOf stanza repo v = IfSome repo (λ f. PairIs IsBackupText f (backup_info stanza) (backup_info_of v)) × IsBackupInfo (backup_info_of v)
+
+-- where it is asked for, there is one, and this holds of it
+abbrev pub IfAsked : {T : Type 0} → Bool → Option T → (T → Type 0) → Type 0
+IfAsked asked found P = IsTrue asked → IsSomeAnd found P
+
 -- What the plan asks for was read: the data folder's cluster, and the values that the pairs have now.
 pub record IsReady (plan : Plan) (stanza : Text) (repo : Option Content) (nodes : Option Nodes) (ready : Ready) : Type 0 where
-  pub control : IsTrue plan.control → IsSomeAnd ready.control (λ told. IfSome nodes (λ f. FolderTells f told))
-  pub archive : IsTrue (has_archive plan.pairs) → IsSomeAnd ready.archive (λ v. IfSome repo (λ f. HasValue stanza f (archive_info_of v)) × IsArchiveInfo (archive_info_of v))
-  pub backup : IsTrue (has_backup plan.pairs) → IsSomeAnd ready.backup (λ v. IfSome repo (λ f. PairIs IsBackupText f (backup_info stanza) (backup_info_of v)) × IsBackupInfo (backup_info_of v))
+  pub control : IfAsked plan.control ready.control (IsTold nodes)
+  pub archive : IfAsked (has_archive plan.pairs) ready.archive (IsArchiveOf stanza repo)
+  pub backup : IfAsked (has_backup plan.pairs) ready.backup (IsBackupOf stanza repo)

@@ -1,17 +1,44 @@
 -- Why a command doesn't come to its own part.
-use Rattle.std.specs.Prelude.{◌≡◌, ◌⊎◌, Option, IfSome, IsTrue}
+use Rattle.std.specs.Prelude.{◌≡◌, ◌⊎◌, Option, IfSome, IsTrue, string_bytes}
 use Rattle.pgb_outside.specs.Cause.{Rises}
 use Rattle.pgb_outside.specs.Content.{Content}
+use Rattle.pgb_outside.specs.States.{DiskState, TreeState}
 use Rattle.pgb_outside.specs.Tree.{Nodes}
+use Rattle.pgb_model.specs.Names.{archive_info}
 use Rattle.pgb_model.specs.Text.{Text}
+use Rattle.pgb_info.specs.declared.fault.InfoFault.{InfoFault}
+use Rattle.pgb_info.specs.declared.fault.InfoFault.TheVariants.{Missing, Damaged, Disk as InfoDisk, NoMemory as InfoNoMemory}
 use Rattle.pgb_stanza.specs.declared.control.Control.{Control}
 use Rattle.pgb_stage.specs.declared.plan.Plan.{Plan}
 use Rattle.pgb_stage.specs.declared.fault.StageFault.{StageFault}
+use Rattle.pgb_stage.specs.declared.fault.StageFault.TheVariants.{StanzaMissing, InfoDamaged}
+use Rattle.pgb_stage.specs.declared.halt.Halt.{Halt}
+use Rattle.pgb_stage.specs.declared.halt.Halt.TheVariants.{Refused, Failed, NoMemory}
+use Rattle.pgb_stage.specs.declared.object.Object.TheVariants.{Repo}
 use Rattle.pgb_stage.specs.Cluster.{FolderTells, ClusterCause}
 use Rattle.pgb_stage.specs.Current.{HasArchive, ArchiveCause, BackupCause}
+use Rattle.pgb_stage.specs.Halts.{HaltCause, Only}
+use Rattle.pgb_stage.specs.Risen.{none, rose_in}
 use Rattle.pgb_prepare.specs.Readies.{has_archive, has_backup}
 use Rattle.pgb_prepare.specs.Taking.{HeldCause}
 use Rattle.pgb_stage.specs.Seen.{Seen}
+
+-- ---- a pair
+
+-- which end a fault of the archive pair is
+abbrev pub IsArchiveFault : Text → InfoFault → Halt StageFault → Type 0
+IsArchiveFault stanza Missing (Refused (StanzaMissing word)) = string_bytes word ≡ stanza
+IsArchiveFault stanza Missing NoMemory = Unit {0}
+IsArchiveFault stanza (Damaged of_main of_copy) (Refused (InfoDamaged name main copy)) = (string_bytes name ≡ archive_info stanza) × (main ≡ of_main) × (copy ≡ of_copy)
+IsArchiveFault stanza InfoDisk (Failed object) = object ≡ Repo
+IsArchiveFault stanza InfoNoMemory NoMemory = Unit {0}
+IsArchiveFault stanza fault other = ⊥
+
+-- a call on the repository was refused for this, or the repository failed
+abbrev pub RepoCause : (StageFault → Type 0) → DiskState → DiskState → Halt StageFault → Type 0
+RepoCause why old new halt = HaltCause why (Only Repo (Rises old.faults new.faults)) halt
+
+-- ---- all stages
 
 -- the data folder tells a cluster, where the plan looks for it
 abbrev pub TellsCluster : Plan → Option Nodes → Type 0
@@ -25,6 +52,13 @@ PairsCause plan stanza repo fault = (IsTrue (has_archive plan.pairs) × ArchiveC
 -- what is found behind the locks: the control file, and then the pairs
 abbrev pub FoundCause : Plan → Text → Option Content → Option Nodes → StageFault → Type 0
 FoundCause plan stanza repo nodes fault = (IsTrue plan.control × ClusterCause nodes fault) ⊎ (TellsCluster plan nodes × PairsCause plan stanza repo fault)
+
+-- this was found, or the repository or the data folder failed
+abbrev pub StopCause : Plan → Text → DiskState → DiskState → TreeState → TreeState → Halt StageFault → Type 0
+StopCause plan stanza repo new_repo tree new_tree halt = HaltCause (FoundCause plan stanza repo.view.now tree.nodes) (rose_in (record none {
+  repo = Rises repo.faults new_repo.faults;
+  tree = Rises tree.faults new_tree.faults;
+})) halt
 
 -- a lock was held, or this was found
 abbrev pub StageCause : Plan → Text → Seen → Seen → StageFault → Type 0

@@ -1,13 +1,12 @@
 // Places are opened.
-ghost use Rattle.std.specs.Prelude.{◌≡◌, ◌≤◌, None, OnOk, IfErr, IfSome, option_map};
+ghost use Rattle.std.specs.Prelude.{◌≡◌, ◌≤◌, None, IfErr, IfSome};
 ghost use Rattle.pgb_outside.specs.Cause.{Rises};
-ghost use Rattle.pgb_outside.specs.Moments.{Rests};
 ghost use Rattle.pgb_outside.specs.States.{Opens};
+ghost use Rattle.pgb_archive.specs.Still.{IsStill};
 ghost use Rattle.pgb_stage.specs.Halts.{HaltCause, Never, Only};
-ghost use Rattle.pgb_stage.specs.declared.object.Object.TheVariants.{DataFolder as TheFolder};
+ghost use Rattle.pgb_prepare.specs.Folder.{FolderCause};
 
 use pgb_outside::{Disk, Tree};
-
 use pgb_stage::{Halt, Object, StageFault, halted};
 
 /// Opens a disk, where its place is named.
@@ -18,11 +17,10 @@ pub fn open_disk<D: Disk>(
 ) -> Result<(), Halt<StageFault>>
     ensures opens { IfSome place.entry (λ p. Opens result p.now (D.state disk.old).opened (D.state disk.new).opened) }
     ensures unopened { place.entry ≡ None → disk.new ≡ disk.old }
-    ensures now { (D.state disk.new).view.now ≡ (D.state disk.old).view.now }
-    ensures time { Rests (D.state disk.old).view (D.state disk.new).view }
+    ensures still { IsStill (D.state disk.old).view (D.state disk.new).view }
     ensures proper { (D.state disk.new).misuses ≡ (D.state disk.old).misuses }
     ensures later { (D.state disk.old).faults ≤ (D.state disk.new).faults }
-    ensures cause { IfErr result (HaltCause Never (Only object (Rises ((D.state disk.old).faults) ((D.state disk.new).faults)))) }
+    ensures cause { IfErr result (HaltCause Never (Only object (Rises (D.state disk.old).faults (D.state disk.new).faults))) }
 {
     let Some(place) = place else {
         return Ok(());
@@ -40,7 +38,7 @@ pub fn open_tree<T: Tree>(tree: &mut T, place: Option<&str>) -> Result<(), Halt<
     ensures nodes { (T.state tree.new).nodes ≡ (T.state tree.old).nodes }
     ensures proper { (T.state tree.new).misuses ≡ (T.state tree.old).misuses }
     ensures later { (T.state tree.old).faults ≤ (T.state tree.new).faults }
-    ensures cause { IfErr result (HaltCause Never (Only TheFolder (Rises ((T.state tree.old).faults) ((T.state tree.new).faults)))) }
+    ensures cause { IfErr result (FolderCause Never (T.state tree.old) (T.state tree.new)) }
 {
     let Some(place) = place else {
         return Ok(());

@@ -53,12 +53,11 @@ AreHealed other stanza f = Unit {0}
 
 -- the disk holds what it held, but for members of the pairs and temporary names
 pub record OnlyPairs (stanza : Text) (old new : Option Content) : Type 0 where
-  pub told : IsSome old → IsSome new
   pub others : (n : Name) → ¬ IsPairMember stanza n → ¬ IsTemporary n → at n new ≡ at n old
 
 -- what the disk holds as the command's own part begins
 abbrev pub Heals : Pairs → Text → Option Content → Option Content → Type 0
-Heals HealArchive stanza old new = OnlyPairs stanza old new
+Heals HealArchive stanza old new = IsSome old → OnlyPairs stanza old new
 Heals other stanza old new = new ≡ old
 
 -- this holds where no pair is healed

@@ -1,0 +1,53 @@
+-- Words and their configuration ask for one thing.
+use Rattle.std.proofs.Common.{◌≡◌, List, Option, Some, None, Result, Ok, Err, ap, sym, ◌∙◌, subst}
+use Rattle.std.specs.Prelude.{IsSome, OnOk}
+use Rattle.pgb_outside.specs.Content.{Content}
+use Rattle.pgb_model.specs.Text.{Text}
+use Rattle.pgb_options.specs.Faults.{Fault}
+use Rattle.pgb_options.specs.Paths.{Path, nowhere, usual, named}
+use Rattle.pgb_options.specs.Settings.{Settled, settled_words}
+use Rattle.pgb_create.specs.Server.{Server}
+use Rattle.pgb_command.specs.Asked.{MayHave, Settles, Request, Asked, IsAsked, MayAsk, Asks}
+
+ok_same : {X Y : Type 0} (a b : X) → ◌≡◌ {A = Result X Y} (Ok a) (Ok b) → a ≡ b
+ok_same a b e = cc
+
+one_text : (f : Content) (path : Path) (a b : Text) → MayHave (Some f) path a → MayHave (Some f) path b → a ≡ b
+one_text f nowhere a b p q = p ∙ sym q
+one_text f (usual path) a b p q = sym p ∙ q
+one_text f (named path) a b p q = let e : ◌≡◌ {A = Option Text} (Some a) (Some b) = sym p ∙ q in cc
+
+one_settling : (words : List Text) (f : Content) (x y : Result Settled Fault) → Settles words (Some f) x → Settles words (Some f) y → x ≡ y
+one_settling words f x y p q =
+    let path : p.path ≡ q.path = ok_same p.path q.path (sym p.is_path ∙ q.is_path) in
+    let text : p.bytes ≡ q.bytes = one_text f q.path p.bytes q.bytes (subst (λ (a : Path). MayHave (Some f) a p.bytes) path p.has) q.has in
+    sym p.settled ∙ ap (settled_words words) text ∙ q.settled
+
+abbrev made : Text → Text → Text → Text → Option Server → Request → Asked
+made s d r l v q = record { stanza = s; data_folder = d; repository = r; lock_folder = l; server = v; request = q }
+
+one_of : (s : Settled) (a b : Asked) → IsAsked s a → IsAsked s b → a ≡ b
+one_of s a b p q =
+    ap (λ x. made x a.data_folder a.repository a.lock_folder a.server a.request) (p.stanza ∙ sym q.stanza)
+    ∙ ap (λ x. made b.stanza x a.repository a.lock_folder a.server a.request) (p.data_folder ∙ sym q.data_folder)
+    ∙ ap (λ x. made b.stanza b.data_folder x a.lock_folder a.server a.request) (p.repository ∙ sym q.repository)
+    ∙ ap (λ x. made b.stanza b.data_folder b.repository x a.server a.request) (p.lock_folder ∙ sym q.lock_folder)
+    ∙ ap (λ x. made b.stanza b.data_folder b.repository b.lock_folder x a.request) (p.server ∙ sym q.server)
+    ∙ ap (λ x. made b.stanza b.data_folder b.repository b.lock_folder b.server x) (ok_same a.request b.request (sym p.request ∙ q.request))
+
+one_asked : (words : List Text) (files : Option Content) (a b : Asked) → IsSome files → MayAsk words files a → MayAsk words files b → a ≡ b
+one_asked words None a b told p q = cc
+one_asked words (Some f) a b told p q =
+    let same : p.settings ≡ q.settings = ok_same p.settings q.settings (one_settling words f (Ok p.settings) (Ok q.settings) p.settles q.settles) in
+    one_of q.settings a b (subst (λ (s : Settled). IsAsked s a) same p.is) q.is
+
+pub may_ask : (words : List Text) (files : Option Content) (s : Settled) → Settles words files (Ok s) → (a : Asked) → IsAsked s a → MayAsk words files a
+may_ask words files s settles a is = record { settings = s; settles = settles; is = is }
+
+-- what holds of that one holds of each
+pub for_asked : (words : List Text) (files : Option Content) (Q : Asked → Type 0) (b : Asked) → MayAsk words files b → Q b → (a : Asked) → Asks words files a → Q a
+for_asked words files Q b asks q a p = subst Q (sym (one_asked words files a b p.told p.asks asks)) q
+
+pub ok_as : {T E : Type 0} (result : Result T E) (X Y : Type 0) → (X → Y) → OnOk result X → OnOk result Y
+ok_as (Ok x) X Y to h = to h
+ok_as (Err e) X Y to h = tt

@@ -1,0 +1,185 @@
+-- What was done, told by the output.
+use Rattle.std.proofs.Common.{◌≡◌, ◌≤◌, ◌⊎◌, ◌∙◌, ℕ, List, [], inl, inr, map, string_bytes, Option, Result, Ok, Err, IfErr, refl, sym, ap, subst, arith}
+use Rattle.std.specs.Prelude.{OnOk}
+use Rattle.pgb_outside.specs.Cause.{Rises}
+use Rattle.pgb_outside.specs.Content.{Content}
+use Rattle.pgb_options.specs.declared.settle.Command.{Command}
+use Rattle.pgb_options.specs.Commands.{IsCommand}
+use Rattle.pgb_options.specs.Settings.{Settled}
+use Rattle.pgb_archive.specs.Still.{still_self}
+use Rattle.pgb_model.specs.Text.{Text}
+use Rattle.pgb_stage.specs.declared.object.Object.{Object}
+use Rattle.pgb_stage.specs.declared.object.Object.TheVariants.{Repo, Spool, DataFolder, Server, Others, Clock, Locks, Config, Output}
+use Rattle.pgb_stage.specs.declared.fault.Unbuilt.{Unbuilt}
+use Rattle.pgb_stage.specs.declared.fault.StageFault.TheVariants.{NotBuilt}
+use Rattle.pgb_stage.specs.declared.outcome.Outcome.{Outcome}
+use Rattle.pgb_stage.specs.Seen.{Seen, Failed, AreLater, AreRead}
+use Rattle.pgb_stage.specs.States.{SinkState, SourceState}
+use Rattle.pgb_stage.proofs.Counts.{rises_to}
+use Rattle.pgb_create.specs.declared.fault.CreateFault.TheVariants as create_fault
+use Rattle.pgb_command.specs.declared.fault.CommandFault.TheVariants.{Create, Push, Get}
+use Rattle.pgb_command.specs.declared.fault.Fault.{Fault}
+use Rattle.pgb_command.specs.declared.fault.Fault.TheVariants.{Usage, Stage, Command as OfCommand, Failed as ObjectFailed, NoMemory}
+use Rattle.pgb_command.specs.Answers.{Ending, status, answer_of}
+use Rattle.pgb_command.specs.Asked.{Asked, Settles, IsAsked, requested}
+use Rattle.pgb_command.specs.Configuring.{ConfigCause}
+use Rattle.pgb_command.specs.Causes.{IsAnswered, Carries, Refuses, Obeys, Answers}
+use Rattle.pgb_command.specs.Did.{Did, Brackets, Cause, Spares, Closes, OpensPlaces, ArePlacesOpened}
+use Rattle.pgb_command.specs.Output.{IsTold}
+use Rattle.pgb_command.proofs.Dids.{did_from, later_on}
+use Rattle.pgb_command.proofs.Ends.{all_later}
+
+-- ---- the output is written
+
+module _ (a : Asked) (b k : Seen) (o : SinkState) (le : k.out.faults ≤ o.faults) where
+  abbrev written : Seen
+  written = record k { out = o }
+
+  out_failed : (object : Object) → Failed b k object → Failed b written object
+  out_failed Repo h = h
+  out_failed Spool h = h
+  out_failed DataFolder h = h
+  out_failed Server h = h
+  out_failed Others h = h
+  out_failed Clock h = h
+  out_failed Locks h = h
+  out_failed Config h = h
+  out_failed Output h = rises_to b.out.faults k.out.faults o.faults le h
+
+  out_cause : (fault : Fault) → Cause a b k fault → Cause a b written fault
+  out_cause (Usage usage) h = h
+  out_cause (Stage fault) h = h
+  out_cause (OfCommand fault) h = h
+  out_cause (ObjectFailed object) h = out_failed object h
+  out_cause NoMemory h = h
+
+  out_closes : (fault : Fault) → Closes b k fault → Closes b written fault
+  out_closes (Usage usage) h = h
+  out_closes (Stage fault) h = h
+  out_closes (OfCommand (Create (create_fault.Server fault))) h = h
+  out_closes (OfCommand (Create (create_fault.InfoDamaged name main copy))) h = h
+  out_closes (OfCommand (Create (create_fault.HistoryDiffers at))) h = h
+  out_closes (OfCommand (Create (create_fault.StanzaMismatch kept found))) h = h
+  out_closes (OfCommand (Create (create_fault.ArchiveLost label))) h = h
+  out_closes (OfCommand (Push fault)) h = h
+  out_closes (OfCommand (Get fault)) h = h
+  out_closes (ObjectFailed object) h = h
+  out_closes NoMemory h = h
+
+  err_as : (r : Result Outcome Fault) (P Q : Fault → Type 0) → ((fault : Fault) → P fault → Q fault) → IfErr r P → IfErr r Q
+  err_as (Ok x) P Q to h = tt
+  err_as (Err e) P Q to h = to e h
+
+  pub did_written : (r : Result Outcome Fault) → Did a b k r → Did a b written r
+  did_written r did = record {
+    steps = did.steps;
+    promise = did.promise;
+    cause = err_as r _ _ out_cause did.cause;
+    healed = did.healed;
+    spares = record {
+      reads = did.spares.reads;
+      folder = did.spares.folder;
+      nodes = did.spares.nodes;
+      unmade = did.spares.unmade;
+      quiet = did.spares.quiet;
+      others = did.spares.others;
+      closed = err_as r _ _ out_closes did.spares.closed;
+    };
+    later = later_on b k written did.later (all_later k written (omega arith) (omega arith) (omega arith) (omega arith) (omega arith) (omega arith) (omega arith) (omega arith) le);
+  }
+
+on_ok : (r : Result Outcome Fault) (P Q : Type 0) → (P → Q) → OnOk r P → OnOk r Q
+on_ok (Ok x) P Q to h = to h
+on_ok (Err e) P Q to h = tt
+
+brackets_written : (a : Asked) (b k : Seen) (o : SinkState) (r : Result Outcome Fault) → Brackets a b k r → Brackets a b (record k { out = o }) r
+brackets_written a b k o r h = record {
+  places = record { folder = h.places.folder; repository = h.places.repository };
+  opened = on_ok r (ArePlacesOpened a b k) (ArePlacesOpened a b (record k { out = o })) (λ p. record { folder = p.folder; repository = p.repository }) h.opened;
+  took = h.took;
+  locked = h.locked;
+}
+
+-- the answer that was told of how it ended
+abbrev pub ToldOf : List Text → Result Outcome Fault → SinkState → SinkState → ℕ → Type 0
+ToldOf unknown ended old new n = (ending : Ending) × (n ≡ status ending) × IsTold old.written (answer_of unknown ended) new.written (Rises old.faults new.faults) ending
+
+answered_by : (unknown given : List Text) (b k : Seen) (o : SinkState) (ended : Result Outcome Fault) (n : ℕ) → given ≡ unknown → k.out ≡ b.out → ToldOf given ended k.out o n → IsAnswered unknown b (record k { out = o }) ended n
+answered_by unknown given b k o ended n words same t = record {
+  ending = t.0;
+  is = t.1;
+  wrote = subst (λ (x : SinkState). IsTold x.written (answer_of unknown ended) o.written (Rises x.faults o.faults) t.0) same (subst (λ (u : List Text). IsTold k.out.written (answer_of u ended) o.written (Rises k.out.faults o.faults) t.0) words t.2);
+}
+
+-- ---- a command is obeyed
+
+pub carries : (c : Command) (a : Asked) (given : List Text) (b k : Seen) (o : SinkState) (ended : Result Outcome Fault) (n : ℕ) → given ≡ map string_bytes c.warnings.items → k.out ≡ b.out → k.out.faults ≤ o.faults → ((s : Settled) → IsCommand c s → IsAsked s a) →
+    Did a b k ended → Brackets a b k ended → ToldOf given ended k.out o n → (s : Settled) → IsCommand c s → Obeys s b (record k { out = o }) n
+carries c a given b k o ended n words same le asked did brackets t s is = inl (a, asked s is, record {
+  ended = ended;
+  did = did_written a b k o le ended did;
+  brackets = brackets_written a b k o ended brackets;
+  answered = answered_by s.warnings given b k o ended n (words ∙ is.warnings) same t;
+})
+
+pub unbuilt : (c : Command) (what : Unbuilt) (given : List Text) (b : Seen) (o : SinkState) (n : ℕ) → given ≡ map string_bytes c.warnings.items → ((s : Settled) → IsCommand c s → requested s ≡ Err what) →
+    ToldOf given (Err (Stage (NotBuilt what))) b.out o n → (s : Settled) → IsCommand c s → Obeys s b (record b { out = o }) n
+unbuilt c what given b o n words asked t s is = inr (what, asked s is, answered_by s.warnings given b b o (Err (Stage (NotBuilt what))) n (words ∙ is.warnings) refl t)
+
+-- ---- from the words on
+
+config_read : (b : Seen) (i : SourceState) → i.files ≡ b.config.files → b.config.faults ≤ i.faults → AreRead b (record b { config = i })
+config_read b i files le = record {
+  repo = still_self b.repo.view;
+  spool = still_self b.spool.view;
+  nodes = refl;
+  server = refl;
+  others = refl;
+  files = files;
+  out = refl;
+  refusals = omega arith;
+  later = config_later b i le;
+}
+  where
+    config_later : (b : Seen) (i : SourceState) → b.config.faults ≤ i.faults → AreLater b (record b { config = i })
+    config_later b i le = all_later b (record b { config = i }) (omega arith) (omega arith) (omega arith) (omega arith) (omega arith) (omega arith) (omega arith) le (omega arith)
+
+answered_from : (unknown : List Text) (b k : Seen) (i : SourceState) (ended : Result Outcome Fault) (n : ℕ) → IsAnswered unknown (record b { config = i }) k ended n → IsAnswered unknown b k ended n
+answered_from unknown b k i ended n h = record { ending = h.ending; is = h.is; wrote = h.wrote }
+
+brackets_from : (a : Asked) (b k : Seen) (i : SourceState) (r : Result Outcome Fault) → Brackets a (record b { config = i }) k r → Brackets a b k r
+brackets_from a b k i r h = record {
+  places = record { folder = h.places.folder; repository = h.places.repository };
+  opened = on_ok r (ArePlacesOpened a (record b { config = i }) k) (ArePlacesOpened a b k) (λ p. record { folder = p.folder; repository = p.repository }) h.opened;
+  took = h.took;
+  locked = h.locked;
+}
+
+obeys_from : (s : Settled) (b k : Seen) (i : SourceState) (n : ℕ) → i.files ≡ b.config.files → b.config.faults ≤ i.faults → Obeys s (record b { config = i }) k n → Obeys s b k n
+obeys_from s b k i n files le (inl x) = inl (x.0, x.1, record {
+  ended = x.2.ended;
+  did = did_from x.0 b (record b { config = i }) k x.2.ended (config_read b i files le) x.2.did;
+  brackets = brackets_from x.0 b k i x.2.ended x.2.brackets;
+  answered = answered_from s.warnings b k i x.2.ended n x.2.answered;
+})
+obeys_from s b k i n files le (inr x) = inr (x.0, x.1, answered_from s.warnings b k i (Err (Stage (NotBuilt x.0))) n x.2)
+
+-- what was settled is carried out
+pub runs_on : (words : List Text) (b k : Seen) (i : SourceState) (n : ℕ) (c : Command) → i.files ≡ b.config.files → b.config.faults ≤ i.faults → ((s : Settled) × Settles words b.config.files (Ok s) × IsCommand c s) →
+    ((s : Settled) → IsCommand c s → Obeys s (record b { config = i }) k n) → Answers words b k n
+runs_on words b k i n c files le x obeys = inr (x.0, x.1, obeys_from x.0 b k i n files le (obeys x.0 x.2))
+
+-- what was refused is told
+pub runs_off : (words given : List Text) (b : Seen) (i : SourceState) (o : SinkState) (n : ℕ) (fault : Fault) → given ≡ [] → ConfigCause words b.config.files (Rises b.config.faults i.faults) fault → ToldOf given (Err fault) b.out o n → Answers words b (record b { config = i; out = o }) n
+runs_off words given b i o n fault none cause t = inl (record {
+  fault = fault;
+  cause = cause;
+  answered = record {
+    ending = t.0;
+    is = t.1;
+    wrote = subst (λ (u : List Text). IsTold b.out.written (answer_of u (Err fault)) o.written (Rises b.out.faults o.faults) t.0) none t.2;
+  };
+})
+
+abbrev pub sink : Option Text → ℕ → SinkState
+sink written faults = record { written = written; faults = faults }

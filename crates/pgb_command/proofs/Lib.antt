@@ -1,0 +1,12 @@
+mod Ends
+mod OneCluster
+mod Rans
+mod Dids
+mod Written
+mod Fronts
+mod Configured
+mod Names
+mod AskedOnce
+mod Words
+mod Readied
+mod Carried

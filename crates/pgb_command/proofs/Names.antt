@@ -1,0 +1,32 @@
+-- The names of a session are short.
+use Rattle.std.proofs.Common.{◌≡◌, ◌≤◌, ◌<◌, ◌+◌, ◌^◌, ap, Bool, true, false, [], length, Option, Some, None, refl, arith}
+use Rattle.std.specs.Prelude.{option_and_then}
+use Rattle.std.proofs.lemmas.Grind.{common_steps}
+use Rattle.pgb_model.specs.Text.{Text}
+use Rattle.pgb_options.specs.declared.table.Opt.TheVariants.{Pg1User, Pg1Database}
+use Rattle.pgb_options.specs.Filled.{text_in, or_else}
+use Rattle.pgb_options.specs.Settings.{Source, in_force, value}
+use Rattle.pgb_options.specs.Table.{row}
+use Rattle.pgb_options.specs.Table as table
+use Rattle.pgb_options.specs.Values.{is_text, text_where, value_of}
+use Rattle.pgb_command.specs.Asked.{path_in}
+
+within : (t : Text) (b : Bool) → is_text t ≡ b → length (or_else [] (text_in (text_where b t))) ≤ 1024
+within t true is = grind (arith, common_steps)
+within t false is = omega arith
+
+short : (o : Option Text) → length (or_else [] (text_in (option_and_then (value_of table.text) o))) ≤ 1024
+short None = omega arith
+short (Some t) = within t (is_text t) refl
+
+user_short : (s : Source) → length (path_in s Pg1User) ≤ 1024
+unfolding value row
+user_short s = short (in_force s Pg1User)
+
+database_short : (s : Source) → length (path_in s Pg1Database) ≤ 1024
+unfolding value row
+database_short s = short (in_force s Pg1Database)
+
+-- both fit into one message
+pub names_fit : (s : Source) (user database : Text) → user ≡ path_in s Pg1User → database ≡ path_in s Pg1Database → length user + length database + 26 < 2 ^ 32
+names_fit s user database is also = omega (arith, ap length is, ap length also, user_short s, database_short s)

@@ -1,0 +1,64 @@
+-- Why a command's words are refused.
+use Rattle.std.proofs.Common.{◌≡◌, Result, Ok, Err, IfErr, sym, subst}
+use Rattle.std.specs.Prelude.{IsErrAnd}
+use Rattle.pgb_outside.specs.Content.{Content}
+use Rattle.pgb_model.specs.Text.{Text}
+use Rattle.pgb_stage.specs.declared.object.Object.{Object}
+use Rattle.pgb_stage.specs.declared.halt.Halt.{Halt}
+use Rattle.pgb_stage.specs.declared.halt.Halt.TheVariants.{Refused, Failed as HaltFailed, NoMemory as HaltMemory}
+use Rattle.pgb_stage.specs.Halts.{HaltCause}
+use Rattle.pgb_push.specs.declared.fault.PushFault.{PushFault}
+use Rattle.pgb_push.specs.declared.fault.PushFault.TheVariants as push_fault
+use Rattle.pgb_push.specs.Causes.{PushCause}
+use Rattle.pgb_push.specs.WalCause.{WordCause}
+use Rattle.pgb_get.specs.declared.fault.GetFault.{GetFault}
+use Rattle.pgb_get.specs.declared.fault.GetFault.TheVariants as get_fault
+use Rattle.pgb_get.specs.Getting.{WordsCause as GetWords, GetCause}
+use Rattle.pgb_command.specs.declared.fault.CommandFault.TheVariants.{Create, Push, Get}
+use Rattle.pgb_command.specs.declared.fault.Fault.{Fault}
+use Rattle.pgb_command.specs.declared.fault.Fault.TheVariants.{Usage, Stage, Command, Failed, NoMemory}
+use Rattle.pgb_command.specs.Asked.{Request, push, get, Asked}
+use Rattle.pgb_command.specs.Faults.{of_push, of_get}
+use Rattle.pgb_command.specs.Tables.{Known, CommandCause}
+use Rattle.pgb_command.specs.Did.{WordsCause}
+
+push_word : (a : Asked) (path : Text) (old : Known) (e : PushFault) → WordCause a.data_folder path e → PushCause a.stanza a.data_folder path old.repo old.nodes e
+push_word a path old (push_fault.SegmentName name) h = h
+push_word a path old (push_fault.PathOutside path') h = h
+push_word a path old (push_fault.StanzaMismatch kept found) h = absurd h
+push_word a path old (push_fault.SegmentMissing path') h = absurd h
+push_word a path old (push_fault.TooLong name limit) h = absurd h
+push_word a path old (push_fault.HeaderForm info) h = absurd h
+push_word a path old (push_fault.SegmentSize told found) h = absurd h
+push_word a path old (push_fault.HeaderMismatch kept found) h = absurd h
+push_word a path old (push_fault.Ambiguous first second) h = absurd h
+push_word a path old (push_fault.Duplicate kept found) h = absurd h
+
+get_word : (a : Asked) (name path : Text) (old : Known) (e : GetFault) → GetWords a.data_folder name path e → GetCause a.stanza a.data_folder name path old.repo old.nodes e
+get_word a name path old (get_fault.SegmentName word) h = h
+get_word a name path old (get_fault.PathOutside word) h = h
+get_word a name path old (get_fault.StanzaMismatch kept found) h = absurd h
+get_word a name path old (get_fault.Ambiguous first second) h = absurd h
+get_word a name path old (get_fault.SegmentDamaged told found) h = absurd h
+get_word a name path old (get_fault.TooLong word limit) h = absurd h
+
+module _ (a : Asked) where
+  push_words : (path : Text) → a.request ≡ push path → (h : Halt PushFault) → HaltCause (WordCause a.data_folder path) (λ (object : Object). ⊥) h → WordsCause a (of_push h)
+  push_words path is (Refused e) h = λ old. subst (λ (q : Request). CommandCause a q old (Push e)) (sym is) (push_word a path old e h)
+  push_words path is (HaltFailed object) h = absurd h
+  push_words path is HaltMemory h = tt
+
+  get_words : (name path : Text) → a.request ≡ get name path → (h : Halt GetFault) → HaltCause (GetWords a.data_folder name path) (λ (object : Object). ⊥) h → WordsCause a (of_get h)
+  get_words name path is (Refused e) h = λ old. subst (λ (q : Request). CommandCause a q old (Get e)) (sym is) (get_word a name path old e h)
+  get_words name path is (HaltFailed object) h = absurd h
+  get_words name path is HaltMemory h = tt
+
+  of_err : {T : Type 0} (result : Result T Fault) (e : Fault) → IsErrAnd result (λ f. f ≡ e) → WordsCause a e → IfErr result (WordsCause a)
+  of_err (Ok x) e is h = tt
+  of_err (Err f) e is h = subst (WordsCause a) (sym is) h
+
+  pub push_refused : (path : Text) → a.request ≡ push path → {T : Type 0} (result : Result T Fault) (h : Halt PushFault) → IsErrAnd result (λ f. f ≡ of_push h) → HaltCause (WordCause a.data_folder path) (λ (object : Object). ⊥) h → IfErr result (WordsCause a)
+  push_refused path asked result h is cause = of_err result (of_push h) is (push_words path asked h cause)
+
+  pub get_refused : (name path : Text) → a.request ≡ get name path → {T : Type 0} (result : Result T Fault) (h : Halt GetFault) → IsErrAnd result (λ f. f ≡ of_get h) → HaltCause (GetWords a.data_folder name path) (λ (object : Object). ⊥) h → IfErr result (WordsCause a)
+  get_refused name path asked result h is cause = of_err result (of_get h) is (get_words name path asked h cause)

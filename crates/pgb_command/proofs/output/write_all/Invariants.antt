@@ -1,0 +1,12 @@
+use Rattle.std.proofs.Common.{◌≡◌, ◌≤◌, ◌++◌, ◌-◌, List, ℕ, length, take, option_map}
+use Rattle.pgb_command.proofs.output.write_all.Given as goal
+
+abbrev pub invariant-loop-at : goal.invariant-loop-at
+invariant-loop-at g l = let O = g.O.Sink in record {
+  within : l.at ≤ length l.bytes;
+  written : O.written l.out ≡ option_map (λ (text : List ℕ). text ++ take l.at l.bytes) (O.written l.fn.out);
+  later : O.faults l.fn.out ≤ O.faults l.out;
+}
+
+abbrev pub decreases-loop-at : goal.decreases-loop-at
+decreases-loop-at g l = length l.bytes - l.at

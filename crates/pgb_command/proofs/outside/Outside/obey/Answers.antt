@@ -1,0 +1,6 @@
+use Rattle.pgb_command.specs.Told.{asked_of}
+use Rattle.pgb_command.proofs.Dids.{worded}
+use Rattle.pgb_command.proofs.outside.Outside.obey.Goals as goal
+
+pub returns-in_err-order-clause-did : goal.returns-in_err-order-clause-did
+returns-in_err-order-clause-did g c = worded (asked_of c.args.settings.now) _ _ c.in_err-order.field-0.0 c.from_residual.ensures.1 c.in_err-order.ensures.cause

@@ -1,0 +1,28 @@
+use Rattle.std.proofs.Common.{◌≡◌, ◌∙◌, false, refl, ap, sym, subst, arith}
+use Rattle.pgb_stage.specs.declared.plan.Plan.{Plan}
+use Rattle.pgb_archive.specs.Still.{rests_none}
+use Rattle.pgb_command.specs.Told.{request_of, asked_of}
+use Rattle.pgb_command.proofs.Ends.{rose_to, all_later}
+use Rattle.pgb_command.proofs.Dids.{worked, unprepared, no_control}
+use Rattle.pgb_command.proofs.outside.Outside.work.Goals as goal
+
+pub returns-in_err-ready-clause-did : goal.returns-in_err-ready-clause-did
+returns-in_err-ready-clause-did g c =
+    let e = c.in_err-ready.ensures in
+    unprepared (asked_of c.args.settings.now) c.args.plan.now c.requires.plan _ _ c.from_residual.result c.in_err-ready.field-0.0 c.from_residual.ensures.1 e.quiet (rests_none _) refl e.still e.looks.nodes refl
+    (all_later _ _ e.frame.later (omega arith) e.looks.later (omega arith) (omega arith) (omega arith) (omega arith) (omega arith) (omega arith)) _
+    (rose_to _ _ _ (λ h. h) (λ h. absurd h) (λ h. h) (λ h. absurd h) (λ h. absurd h) (λ h. absurd h) (λ h. absurd h) (λ h. absurd h) (λ h. absurd h)) e.cause
+
+pub returns-clause-did : goal.returns-clause-did
+returns-clause-did g c =
+    let e = c.in_ok-ready.ensures in
+    worked (asked_of c.args.settings.now) c.args.plan.now c.requires.plan _ _ _ c.dispatch.result refl e.looks.nodes e.frame.later e.looks.later e.quiet e.begun e.heals e.healed e.still c.dispatch.ensures.ran
+
+pub returns-in_err-ready-clause-tree : goal.returns-in_err-ready-clause-tree
+returns-in_err-ready-clause-tree g c = λ none. let is = c.requires.plan in
+    c.in_err-ready.ensures.unread (ap (λ (p : Plan). p.control) is ∙ no_control (request_of c.args.settings.now.request) (sym (ap (λ (p : Plan). p.folder) is) ∙ none))
+
+pub returns-clause-tree : goal.returns-clause-tree
+returns-clause-tree g c = λ none. let is = c.requires.plan in
+    let folder = sym (ap (λ (p : Plan). p.folder) is) ∙ none in
+    c.dispatch.ensures.tree folder ∙ c.in_ok-ready.ensures.unread (ap (λ (p : Plan). p.control) is ∙ no_control (request_of c.args.settings.now.request) folder)

@@ -1,0 +1,11 @@
+use Rattle.std.proofs.Common.{refl, ap, map, string_bytes}
+use Rattle.pgb_command.specs.Told.{asked_of}
+use Rattle.pgb_command.proofs.Carried.{sink, carries, unbuilt}
+use Rattle.pgb_command.proofs.top.carry.Goals as goal
+
+pub returns-in-Err-clause-obeys : goal.returns-in-Err-clause-obeys
+returns-in-Err-clause-obeys g c = unbuilt c.args.command.now c.in-Err.what (map string_bytes c.deref.result.now) _ _ c.answer.result (ap (map string_bytes) c.deref.ensures.value) c.in-Err.ensures.unbuilt c.answer.ensures.told
+
+pub returns-clause-obeys : goal.returns-clause-obeys
+returns-clause-obeys g c = carries c.args.command.now (asked_of c.in-Ok.settings) (map string_bytes c.deref-2.result.now) _ _ _ c.obey-ended.result c.answer-2.result (ap (map string_bytes) c.deref-2.ensures.value)
+    (ap (λ o. sink (g.O.Sink.written o.out) (g.O.Sink.faults o.out)) c.obey-ended.ensures.rest) c.answer-2.ensures.later c.in-Ok.ensures.asked c.obey-ended.ensures.did c.obey-ended.ensures.brackets c.answer-2.ensures.told

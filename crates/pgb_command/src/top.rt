@@ -1,0 +1,98 @@
+// The top call.
+ghost use Rattle.std.specs.Prelude.{◌≡◌, ◌≤◌, ◌⊎◌, [], IfErr, map, string_bytes};
+ghost use Rattle.pgb_model.specs.Text.{Text};
+ghost use Rattle.pgb_options.specs.Commands.{IsCommand};
+ghost use Rattle.pgb_options.specs.Settings.{Settled};
+ghost use Rattle.pgb_command.specs.Asked.{Asked, IsAsked, MayAsk, Asks, requested};
+ghost use Rattle.pgb_command.specs.Causes.{Answers, Obeys, Carries, AllDone, PartDone, IsEarly, NoneDone, Completes, IsServerRefusal};
+
+use crate::config::read_command;
+use crate::fault::Fault;
+use crate::outside::{Outside, Told};
+use crate::output::answer;
+use crate::settings::settings_of;
+use pgb_archive::Aside;
+use pgb_options::Command;
+use pgb_outside::{Clock, Disk, Link, Locks, Sink, Source, Tree, Turns, Wire};
+use pgb_stage::StageFault;
+use std::alloc::Global;
+
+/// Does what the command asks for, writes the output, and answers the status that the program ends with.
+pub fn carry<
+    D: Disk,
+    S: Disk,
+    T: Tree,
+    V: Wire,
+    A: Aside<D, S>,
+    C: Clock,
+    K: Locks,
+    I: Source,
+    O: Sink,
+>(
+    alloc: Global,
+    command: &Command,
+    outside: &mut Outside<D, S, T, V, A, C, K, I, O>,
+) -> u8
+    requires free { K.taken outside.old.locks ≡ [] }
+    requires settled { (s : Settled) × IsCommand command.now s }
+    // What was asked for is done and told.
+    ensures obeys { let told = ⟦<Outside<D, S, T, V, A, C, K, I, O> as Told>⟧.told in
+        (s : Settled) → IsCommand command.now s → Obeys s (told outside.old) (told outside.new) result }
+    ensures released { K.taken outside.new.locks ≡ [] }
+    ensures unbuilt { (s : Settled) → IsCommand command.now s → IfErr (requested s) (λ what. outside.new ≡ record outside.old { out = outside.new.out }) }
+    ensures rest { outside.new ≡ record outside.old { repo = outside.new.repo; tree = outside.new.tree; server = outside.new.server; locks = outside.new.locks; out = outside.new.out } }
+{
+    let settings = match settings_of(command) {
+        Ok(settings) => settings,
+        Err(what) => {
+            let ended = Err(Fault::Stage(StageFault::NotBuilt { what }));
+            return answer(alloc, &mut outside.out, &command.warnings, &ended);
+        }
+    };
+    let ended = outside.obey(alloc, &settings);
+    answer(alloc, &mut outside.out, &command.warnings, &ended)
+}
+
+/// Does what the words and their configuration ask for, writes the output, and answers the status that the program ends with.
+pub fn run<
+    D: Disk,
+    S: Disk,
+    T: Tree,
+    V: Wire,
+    A: Aside<D, S>,
+    C: Clock,
+    K: Locks,
+    I: Source,
+    O: Sink,
+    U: Turns,
+>(
+    alloc: Global,
+    words: &[String],
+    outside: &mut Outside<D, S, T, V, A, C, K, I, O>,
+    links: &mut Vec<Box<dyn Link>>,
+    turns: &mut U,
+) -> u8
+    requires free { K.taken outside.old.locks ≡ [] }
+
+    // The words are refused, and nothing is done; or what they settle is done and told.
+    ensures answers { let told = ⟦<Outside<D, S, T, V, A, C, K, I, O> as Told>⟧.told in
+        Answers (map string_bytes words.now) (told outside.old) (told outside.new) result }
+
+    ensures released { K.taken outside.new.locks ≡ [] }
+    ensures files { I.files outside.new.config ≡ I.files outside.old.config }
+    ensures untouched { outside.new ≡ record outside.old { repo = outside.new.repo; tree = outside.new.tree; server = outside.new.server; locks = outside.new.locks; config = outside.new.config; out = outside.new.out } }
+    ensures links { links.new ≡ links.old }
+    ensures turns { turns.new ≡ turns.old }
+{
+    let _ = links;
+    let _ = turns;
+    let command = match read_command(alloc, words, &mut outside.config) {
+        Ok(command) => command,
+        Err(fault) => {
+            let unknown = Vec::new(alloc);
+            let ended = Err(fault);
+            return answer(alloc, &mut outside.out, &unknown, &ended);
+        }
+    };
+    carry(alloc, &command, outside)
+}

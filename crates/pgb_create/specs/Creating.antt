@@ -1,0 +1,69 @@
+-- What stanza-create makes, and why it is refused.
+use Rattle.std.specs.Prelude.{◌≡◌, ◌⊎◌, ℕ, Bool, true, List, [], Option, IfSome, IsSome, String, string_bytes}
+use Rattle.std.specs.declared.alloc.Global.{Global}
+use Rattle.pgb_outside.specs.Content.{Content}
+use Rattle.pgb_model.specs.declared.labels.Label.{Label}
+use Rattle.pgb_model.specs.Text.{Text}
+use Rattle.pgb_model.specs.Names.{label_text}
+use Rattle.pgb_model.specs.Now.{HasNewPairs}
+use Rattle.pgb_info.specs.declared.fault.MemberFault.{MemberFault}
+use Rattle.pgb_server.specs.Reads.{IsOutside}
+use Rattle.pgb_stanza.specs.declared.control.Control.{Control}
+use Rattle.pgb_stanza.specs.declared.fault.Identity.{Identity}
+use Rattle.pgb_stanza.specs.declared.fault.StanzaFault.{StanzaFault}
+use Rattle.pgb_stanza.specs.declared.fault.StanzaFault.TheVariants.{InfoDamaged as DamagedOf, HistoryDiffers as DiffersOf, StanzaMismatch as MismatchOf, ArchiveLost as LostOf, Disk as DiskOf, NoMemory as MemoryOf}
+use Rattle.pgb_stanza.specs.Causes.{CreateCause as StanzaCause}
+use Rattle.pgb_stanza.specs.ControlFile.{first_cluster}
+use Rattle.pgb_stanza.specs.Pairs.{LacksStanza, HasStanzaOf, PairsAgree}
+use Rattle.pgb_stage.specs.declared.object.Object.TheVariants.{Repo as TheRepo}
+use Rattle.pgb_stage.specs.declared.halt.Halt.{Halt}
+use Rattle.pgb_stage.specs.declared.halt.Halt.TheVariants.{Refused, Failed, NoMemory}
+use Rattle.pgb_stage.specs.declared.outcome.Outcome.{Outcome}
+use Rattle.pgb_stage.specs.declared.outcome.Outcome.TheVariants.{Finished, Absent}
+use Rattle.pgb_create.specs.declared.fault.CreateFault.{CreateFault}
+use Rattle.pgb_create.specs.declared.fault.CreateFault.TheVariants.{Server as Talked, InfoDamaged, HistoryDiffers, StanzaMismatch, ArchiveLost}
+use Rattle.pgb_create.specs.Server.{Server}
+use Rattle.pgb_create.specs.Talking.{TellsFault}
+
+-- ---- at its end
+
+-- the command has nothing to say
+abbrev pub IsSilent : Outcome → Type 0
+IsSilent (Finished lines) = string_bytes lines ≡ []
+IsSilent (Absent name) = ⊥
+
+-- there was no stanza, or one of this cluster, and now its pairs agree; those of a new one have its texts
+pub record IsCreated (stanza : Text) (told : Control) (old new : Option Content) (outcome : Outcome) : Type 0 where
+  pub silent : IsSilent outcome
+  pub was : IfSome old (LacksStanza stanza) ⊎ IfSome old (HasStanzaOf stanza told)
+  pub members : IfSome old (LacksStanza stanza) → IsSome old → IfSome new (HasNewPairs stanza (first_cluster told))
+  pub agrees : IsSome old → IfSome new (PairsAgree stanza)
+
+-- ---- where it is refused
+
+-- each refusal comes before the command's first step
+abbrev pub create_early : CreateFault → Bool
+create_early fault = true
+
+-- Why a fault of the stanza ends the command; a label may also find no memory for its text.
+pub data IsStanzaFault : StanzaFault → Halt CreateFault → Type 0 where
+  Damaged : (name : String Global) (main copy : MemberFault) → IsStanzaFault (DamagedOf name main copy) (Refused (InfoDamaged name main copy))
+  Differs : (at : ℕ) → IsStanzaFault (DiffersOf at) (Refused (HistoryDiffers at))
+  Mismatch : (kept found : Identity) → IsStanzaFault (MismatchOf kept found) (Refused (StanzaMismatch kept found))
+  Lost : (label : Label) (text : String Global) → string_bytes text ≡ label_text label → IsStanzaFault (LostOf label) (Refused (ArchiveLost text))
+  Unsaid : (label : Label) → IsStanzaFault (LostOf label) NoMemory
+  Broken : IsStanzaFault DiskOf (Failed TheRepo)
+  Starved : IsStanzaFault MemoryOf NoMemory
+
+-- why the stanza of this cluster isn't made or kept, from what the repository held
+abbrev pub MakeCause : Text → Control → Option Content → CreateFault → Type 0
+MakeCause stanza told repo (Talked fault) = ⊥
+MakeCause stanza told repo (InfoDamaged name main copy) = StanzaCause stanza told repo ⊥ (DamagedOf name main copy)
+MakeCause stanza told repo (HistoryDiffers at) = StanzaCause stanza told repo ⊥ (DiffersOf at)
+MakeCause stanza told repo (StanzaMismatch kept found) = StanzaCause stanza told repo ⊥ (MismatchOf kept found)
+MakeCause stanza told repo (ArchiveLost text) = (label : Label) × (string_bytes text ≡ label_text label) × StanzaCause stanza told repo ⊥ (LostOf label)
+
+-- why stanza-create is refused: for what the server that is asked tells, or for what the repository held
+abbrev pub CreateCause : Text → Control → Option Server → Option Content → Option (List ℕ) → CreateFault → Type 0
+CreateCause stanza told server repo pending (Talked fault) = IsSome server × ¬ IsOutside fault × TellsFault told.system pending fault
+CreateCause stanza told server repo pending other = MakeCause stanza told repo other

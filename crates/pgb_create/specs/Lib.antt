@@ -1,0 +1,4 @@
+pub mod Server
+pub mod Talking
+pub mod Creating
+pub mod Texts

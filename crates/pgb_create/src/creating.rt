@@ -1,0 +1,56 @@
+// stanza-create.
+ghost use Rattle.std.specs.Prelude.{◌≡◌, ◌≤◌, None, Some, option_map, OnOk, IfOk, IfErr, IfSome};
+ghost use Rattle.pgb_outside.specs.Cause.{Rises};
+ghost use Rattle.pgb_outside.specs.States.{Frame};
+ghost use Rattle.pgb_model.specs.InfoFiles.{IsLabel};
+ghost use Rattle.pgb_model.specs.Steps.{StanzaCreate};
+ghost use Rattle.pgb_stanza.specs.Causes.{IfLost};
+ghost use Rattle.pgb_stanza.specs.ControlFile.{first_cluster};
+ghost use Rattle.pgb_archive.specs.Still.{IsStill};
+ghost use Rattle.pgb_stage.specs.declared.object.Object.TheVariants.{Repo as TheRepo};
+ghost use Rattle.pgb_stage.specs.Halts.{HaltCause, Only};
+ghost use Rattle.pgb_stage.specs.Reached.{reached_by};
+ghost use Rattle.pgb_stage.specs.Risen.{none, rose_in};
+ghost use Rattle.pgb_stage.specs.Runs.{OnNone, Does};
+ghost use Rattle.pgb_create.specs.Server.{server_view};
+ghost use Rattle.pgb_create.specs.Talking.{Asks, IsOf, Closes};
+ghost use Rattle.pgb_create.specs.Creating.{create_early, IsCreated, IsStanzaFault, MakeCause, CreateCause};
+
+use crate::fault::CreateFault;
+use crate::server::Server;
+use pgb_info::label_text;
+use pgb_outside::{Disk, Wire};
+use pgb_stage::{Halt, Object, Outcome};
+use pgb_stanza::{Control, StanzaFault, create};
+use std::alloc::Global;
+
+
+/// Makes the stanza of this cluster, or keeps the one that is there. Where a server is asked, it has to be of the
+/// cluster's system.
+pub fn create_stanza<D: Disk, V: Wire>(
+    alloc: Global,
+    repo: &mut D,
+    wire: &mut V,
+    stanza: &str,
+    told: &Control,
+    server: Option<Server<'_>>,
+) -> Result<Outcome, Halt<CreateFault>>
+    ensures does { Does stanza.now (StanzaCreate (Some (first_cluster told.now))) (reached_by create_early result) (D.state repo.old).view (D.state repo.new).view }
+    ensures made { IfOk result (IsCreated stanza.now told.now (D.state repo.old).view.now (D.state repo.new).view.now) }
+    ensures refused { OnNone (reached_by create_early result) (IsStill (D.state repo.old).view (D.state repo.new).view) }
+    ensures frame { Frame (D.state repo.old) (D.state repo.new) }
+
+    // The server is asked at its socket, and the talk is ended; without one the connection isn't used.
+    ensures same { OnOk result (IfSome server.entry (λ _. IsOf told.now.system (V.pending wire.old))) }
+    ensures asks { OnOk result (Asks (option_map server_view server.entry) (V.place wire.new) (V.sent wire.old) (V.sent wire.new)) }
+    ensures quiet { server.entry ≡ None → wire.new ≡ wire.old }
+    ensures closed { IfErr result (Closes (Rises (V.faults wire.old) (V.faults wire.new)) (V.sent wire.old) (V.sent wire.new)) }
+    ensures later { V.faults wire.old ≤ V.faults wire.new }
+
+    ensures cause { IfErr result (HaltCause (CreateCause stanza.now told.now (option_map server_view server.entry) (D.state repo.old).view.now (V.pending wire.old)) (rose_in (record none {
+      repo = Rises (D.state repo.old).faults (D.state repo.new).faults;
+      server = Rises (V.faults wire.old) (V.faults wire.new);
+    }))) }
+{
+    Err(Halt::NoMemory)
+}

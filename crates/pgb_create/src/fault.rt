@@ -1,0 +1,31 @@
+// Why stanza-create is refused.
+
+use pgb_info::MemberFault;
+use pgb_server::ServerFault;
+use pgb_stanza::Identity;
+
+/// Why stanza-create is refused, in the order in which refusals come.
+#[derive(Debug, Drop)]
+pub enum CreateFault {
+    /// The server's answer is refused.
+    Server(ServerFault),
+    /// Neither member of the info pair can be read.
+    InfoDamaged {
+        name: String,
+        main: MemberFault,
+        copy: MemberFault,
+    },
+    /// The histories of the two info pairs differ; `at` is the first number at which they do.
+    HistoryDiffers {
+        at: u32,
+    },
+    /// The stanza's current cluster isn't the data folder's.
+    StanzaMismatch {
+        kept: Identity,
+        found: Identity,
+    },
+    /// The archive pair is missing, and the backup pair lists backups, this one as the first.
+    ArchiveLost {
+        label: String,
+    },
+}

@@ -1,0 +1,28 @@
+-- The status and the message of each refusal of archive-get (own).
+use Rattle.std.specs.Prelude.{ℕ, ◌++◌, codes, string_bytes}
+use Rattle.pgb_text.specs.declared.sum.Sum.{Sum}
+use Rattle.pgb_text.specs.Sum.{sum_text}
+use Rattle.pgb_model.specs.Text.{Text}
+use Rattle.pgb_stage.specs.Texts.{shown, mismatch_text, long_text}
+use Rattle.pgb_get.specs.declared.fault.GetFault.{GetFault}
+use Rattle.pgb_get.specs.declared.fault.GetFault.TheVariants.{SegmentName, PathOutside, StanzaMismatch, Ambiguous, SegmentDamaged, TooLong}
+
+abbrev pub get_status : GetFault → ℕ
+get_status (SegmentName name) = 30
+get_status (PathOutside path) = 12
+get_status (StanzaMismatch kept found) = 23
+get_status (Ambiguous first second) = 36
+get_status (SegmentDamaged told found) = 35
+get_status (TooLong name limit) = 70
+
+-- stored bytes that haven't their sum
+abbrev pub sums_text : Sum → Sum → Text
+sums_text told found = codes "checksum " ++ (sum_text told.0 ++ (codes ", found " ++ sum_text found.0))
+
+abbrev pub get_message : GetFault → Text
+get_message (SegmentName name) = codes "'" ++ (shown (string_bytes name) ++ codes "' is no WAL file name")
+get_message (PathOutside path) = codes "path '" ++ (shown (string_bytes path) ++ codes "' is outside the data folder")
+get_message (StanzaMismatch kept found) = mismatch_text kept found
+get_message (Ambiguous first second) = codes "'" ++ (string_bytes first ++ (codes "' and '" ++ (string_bytes second ++ codes "' are both stored")))
+get_message (SegmentDamaged told found) = sums_text told found
+get_message (TooLong name limit) = long_text (string_bytes name) limit

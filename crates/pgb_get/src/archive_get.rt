@@ -1,0 +1,59 @@
+// archive-get.
+ghost use Rattle.std.specs.Prelude.{◌≡◌, ◌≤◌, Some, IfOk, IfErr, IfSome, IsSome};
+ghost use Rattle.pgb_outside.specs.States.{Looks};
+ghost use Rattle.pgb_outside.specs.Cause.{Rises};
+ghost use Rattle.pgb_model.specs.declared.clusters.ClusterId.{ClusterId};
+ghost use Rattle.pgb_model.specs.Fields.{at_number};
+ghost use Rattle.pgb_model.specs.InfoFiles.{IsArchiveInfo};
+ghost use Rattle.pgb_model.specs.Now.{NowStands};
+ghost use Rattle.pgb_model.specs.Repository.{Stanza};
+ghost use Rattle.pgb_model.specs.Values.{archive_info_of};
+ghost use Rattle.pgb_stanza.specs.Pairs.{identity_kept, identity_told};
+ghost use Rattle.pgb_stage.specs.declared.halt.Halt.TheVariants.{Refused};
+ghost use Rattle.pgb_stage.specs.Cluster.{FolderTells};
+ghost use Rattle.pgb_stage.specs.Current.{HasValue};
+ghost use Rattle.pgb_stage.specs.Halts.{HaltCause};
+ghost use Rattle.pgb_stage.specs.Reached.{reached_by};
+ghost use Rattle.pgb_stage.specs.Risen.{none, rose_in};
+ghost use Rattle.pgb_stage.specs.Runs.{OnNone};
+ghost use Rattle.pgb_get.specs.declared.fault.GetFault.TheVariants.{StanzaMismatch};
+ghost use Rattle.pgb_get.specs.Getting.{served_path, OnHistory, HasSame, FoundIn, AbsentIn, GotBy, GivenBy, IsServed, ChangesPath, FetchCause, GetCause, get_early};
+
+use crate::fault::GetFault;
+use crate::order::GetOrder;
+use pgb_model::ArchiveInfo;
+use pgb_outside::{Disk, Tree};
+use pgb_stage::{Halt, Outcome};
+use pgb_stanza::{Control, Identity};
+use std::alloc::Global;
+
+
+/// Serves a file of the archive at a path of the data folder. `info` is the value of the archive pair, and `told` what the
+/// data folder tells of its cluster.
+pub fn get_file<D: Disk, T: Tree>(
+    alloc: Global,
+    repo: &mut D,
+    tree: &mut T,
+    stanza: &str,
+    order: &GetOrder<'_>,
+    told: &Control,
+    info: &ArchiveInfo,
+) -> Result<Outcome, Halt<GetFault>>
+    requires tells { IfSome (T.state tree.old).nodes (λ f. FolderTells f told.now) }
+    requires pair { IfSome (D.state repo.old).view.now (λ f. HasValue stanza.now f (archive_info_of info.now)) }
+    requires valid { IsArchiveInfo (archive_info_of info.now) }
+    // The data folder has the file of the repository at Finished, and is as it was where the repository hasn't it.
+    ensures got { IfOk result (GotBy stanza.now order.now.folder.now order.now.word.now order.now.path.now (D.state repo.old).view.now (T.state tree.old).nodes (T.state tree.new).nodes) }
+    ensures given { IfOk result (λ o. (s : Stanza) → IsSome (D.state repo.old).view.now → NowStands stanza.now (Some s) (D.state repo.old).view.now
+        → GivenBy s order.now.folder.now order.now.word.now order.now.path.now (T.state tree.old).nodes (T.state tree.new).nodes o) }
+    ensures changes { ChangesPath (served_path order.now.folder.now order.now.path.now) (IsServed stanza.now order.now.folder.now order.now.word.now order.now.path.now (D.state repo.old).view.now (T.state tree.old).nodes)
+        (T.state tree.old).nodes (T.state tree.new).nodes }
+    ensures none { OnNone (reached_by get_early result) ((T.state tree.new).nodes ≡ (T.state tree.old).nodes) }
+    ensures looks { Looks (D.state repo.old) (D.state repo.new) }
+    ensures opened { (T.state tree.new).opened ≡ (T.state tree.old).opened }
+    ensures later { (T.state tree.old).faults ≤ (T.state tree.new).faults }
+    ensures cause { IfErr result (HaltCause (GetCause stanza.now order.now.folder.now order.now.word.now order.now.path.now (D.state repo.old).view.now (T.state tree.old).nodes)
+        (rose_in (record none { repo = Rises (D.state repo.old).faults (D.state repo.new).faults; tree = Rises (T.state tree.old).faults (T.state tree.new).faults }))) }
+{
+    Err(Halt::NoMemory)
+}

@@ -1,0 +1,70 @@
+-- What info reports (pgBackRest command reference, "Info Command").
+use Rattle.std.specs.Prelude.{◌≡◌, ◌⊎◌, false, List, map, Option, None, IfSome, string_bytes}
+use Rattle.pgb_outside.specs.Content.{Content}
+use Rattle.pgb_outside.specs.Order.{is_before}
+use Rattle.pgb_model.specs.declared.clusters.ClusterId.{ClusterId}
+use Rattle.pgb_model.specs.declared.wal.ArchiveId.{ArchiveId}
+use Rattle.pgb_model.specs.declared.wal.ArchiveName.TheVariants.{Segment as Whole}
+use Rattle.pgb_model.specs.declared.wal.Segment.{Segment}
+use Rattle.pgb_model.specs.Text.{Text, In}
+use Rattle.pgb_model.specs.Names.{segment_text}
+use Rattle.pgb_model.specs.Values.{ArchiveInfo, BackupInfo}
+use Rattle.pgb_model.specs.Repository.{Archived, Stanza}
+use Rattle.pgb_model.specs.Stands.{archive_value, backup_value}
+use Rattle.pgb_options.specs.declared.options.OutputWord.{OutputWord}
+use Rattle.pgb_options.specs.declared.options.OutputWord.TheVariants.{Text as AsText, Json as AsJson}
+use Rattle.pgb_stanza.specs.Pairs.{HavePairs}
+use Rattle.pgb_archive.specs.Ends.{StoresWhole}
+use Rattle.pgb_report.specs.declared.report.ArchivedName.{ArchivedName}
+use Rattle.pgb_report.specs.ReportText.{report_text_of}
+use Rattle.pgb_report.specs.ReportData.{report_json_of}
+use Rattle.pgb_stage.specs.declared.outcome.Outcome.{Outcome}
+use Rattle.pgb_stage.specs.declared.outcome.Outcome.TheVariants.{Finished, Absent}
+use Rattle.pgb_stage.specs.Current.{id_kept}
+
+-- ---- what is reported
+
+-- the report in this form
+abbrev pub report_by : OutputWord → Text → ArchiveInfo → BackupInfo → List ArchivedName → Text
+report_by AsText stanza archive backup names = report_text_of stanza archive backup names
+report_by AsJson stanza archive backup names = report_json_of stanza archive backup names
+
+-- a whole segment under an id, as a report tells it
+abbrev pub named : ArchiveId → Segment → ArchivedName
+named id segment = record { id = id; name = Whole segment }
+
+-- One of these names under the id is at or before the segment in byte order, and one at or behind it.
+pub record AreRound (id : ArchiveId) (segment : Segment) (names : List ArchivedName) : Type 0 where
+  pub first : (t : Segment) × In (named id t) names × (is_before (segment_text segment) (segment_text t) ≡ false)
+  pub last : (t : Segment) × In (named id t) names × (is_before (segment_text t) (segment_text segment) ≡ false)
+
+-- The names are of stored whole segments of these clusters, and of each cluster all that are stored lie between them. So they have the first and the last.
+pub record HaveEnds (stanza : Text) (history : List ClusterId) (f : Content) (names : List ArchivedName) : Type 0 where
+  pub each : (n : ArchivedName) → In n names → (c : ClusterId) × (segment : Segment) × In c history × (n ≡ named (id_kept c) segment) × StoresWhole stanza (id_kept c) f segment
+  pub round : (c : ClusterId) → In c history → (segment : Segment) → StoresWhole stanza (id_kept c) f segment → AreRound (id_kept c) segment names
+
+-- the lines are the report on what the repository holds: the values of its two pairs, and the first and the last stored segment of each cluster
+pub record IsReported (stanza : Text) (form : OutputWord) (repo : Option Content) (lines : Text) : Type 0 where
+  pub archive : ArchiveInfo
+  pub backup : BackupInfo
+  pub names : List ArchivedName
+  pub pairs : IfSome repo (λ f. HavePairs stanza f archive backup)
+  pub ends : IfSome repo (λ f. HaveEnds stanza archive.history f names)
+  pub is : lines ≡ report_by form stanza archive backup names
+
+-- ---- of the abstract repository
+
+-- an archived file, as a report tells it
+abbrev pub archived_as : Archived → ArchivedName
+archived_as a = record { id = a.id; name = a.name }
+
+-- the lines are the report on the stanza: its history, its backups, and its archived files
+abbrev pub ReportsStanza : OutputWord → Text → Stanza → Text → Type 0
+ReportsStanza form stanza s lines = lines ≡ report_by form stanza (archive_value s) (backup_value s None) (map archived_as s.archived)
+
+-- ---- how info ended
+
+-- the command came to its end, with lines of which this holds
+abbrev pub OnFinished : Outcome → (Text → Type 0) → Type 0
+OnFinished (Finished lines) P = P (string_bytes lines)
+OnFinished (Absent name) P = ⊥

@@ -1,0 +1,81 @@
+-- Why archive-push answers so.
+use Rattle.std.specs.Prelude.{◌≡◌, ◌≢◌, ◌⊎◌, [], Option, IfSome, string_bytes}
+use Rattle.sha1.specs.Sha1.{sha1}
+use Rattle.pgb_outside.specs.Content.{Content}
+use Rattle.pgb_outside.specs.Tree.{Nodes}
+use Rattle.pgb_model.specs.declared.clusters.ClusterId.{ClusterId}
+use Rattle.pgb_model.specs.declared.wal.ArchiveName.{ArchiveName}
+use Rattle.pgb_model.specs.Text.{Text}
+use Rattle.pgb_model.specs.Names.{wal_text}
+use Rattle.pgb_stanza.specs.declared.control.Control.{Control}
+use Rattle.pgb_stanza.specs.declared.fault.Identity.{Identity}
+use Rattle.pgb_stanza.specs.Pairs.{identity_kept, identity_told}
+use Rattle.pgb_archive.specs.declared.fault.ArchiveFault.{ArchiveFault}
+use Rattle.pgb_archive.specs.declared.fault.ArchiveFault.TheVariants.{HeaderForm as FormOf, SegmentSize as SizeOf, HeaderMismatch as MismatchOf, Ambiguous as AmbiguousOf, Duplicate as DuplicateOf, TooLong as LongOf}
+use Rattle.pgb_archive.specs.Causes.{IsFileOf, limit_of, PushCause as StoringCause}
+use Rattle.pgb_archive.specs.Stored.{StoresNone, StoresOnly}
+use Rattle.pgb_stage.specs.Cluster.{FolderTells}
+use Rattle.pgb_stage.specs.Current.{HasCurrent, id_kept}
+use Rattle.pgb_push.specs.declared.fault.PushFault.{PushFault}
+use Rattle.pgb_push.specs.declared.fault.PushFault.TheVariants.{SegmentName, PathOutside, StanzaMismatch, SegmentMissing, TooLong, HeaderForm, SegmentSize, HeaderMismatch, Ambiguous, Duplicate}
+use Rattle.pgb_push.specs.WalPath.{IsWalPath, HasWal}
+use Rattle.pgb_push.specs.WalCause.{WordCause, FileCause}
+use Rattle.pgb_push.specs.Outcomes.{same_line}
+
+-- the data folder tells this cluster, and the archive pair has it as its current one
+pub record IsCurrent (stanza : Text) (repo : Option Content) (nodes : Option Nodes) (told : Control) (c : ClusterId) : Type 0 where
+  pub tells : IfSome nodes (λ f. FolderTells f told)
+  pub current : IfSome repo (λ f. HasCurrent stanza f c)
+  pub same : identity_kept c ≡ identity_told told
+
+-- and the word names a file of the log, of which the data folder has these bytes
+pub record IsReady (stanza folder path : Text) (repo : Option Content) (nodes : Option Nodes) (wal : ArchiveName) (bytes : Text) (told : Control) (c : ClusterId) : Type 0 where
+  pub has : IfSome nodes (λ f. HasWal f folder path wal bytes)
+  pub of : IsCurrent stanza repo nodes told c
+
+-- the stanza's current cluster isn't the one that the data folder tells
+abbrev pub MismatchCause : Text → Option Content → Option Nodes → Identity → Identity → Type 0
+MismatchCause stanza repo nodes kept found = (told : Control) × IfSome nodes (λ f. FolderTells f told)
+    × ((kept ≢ found) × (found ≡ identity_told told) × ((c : ClusterId) × (kept ≡ identity_kept c) × IfSome repo (λ f. HasCurrent stanza f c)))
+
+-- the file is refused for its content
+pub record IsRefusedPush (stanza folder path : Text) (repo : Option Content) (nodes : Option Nodes) (fault : ArchiveFault) : Type 0 where
+  pub wal : ArchiveName
+  pub bytes : Text
+  pub told : Control
+  pub current : ClusterId
+  pub ready : IsReady stanza folder path repo nodes wal bytes told current
+  pub cause : StoringCause stanza (id_kept current) wal told.system bytes repo ⊥ fault
+
+-- the file isn't there or is too long, and all that is looked at before is well
+pub record IsRefusedFile (stanza folder path : Text) (repo : Option Content) (nodes : Option Nodes) (fault : PushFault) : Type 0 where
+  pub wal : ArchiveName
+  pub named : IsWalPath folder path wal
+  pub told : Control
+  pub current : ClusterId
+  pub of : IsCurrent stanza repo nodes told current
+  pub cause : FileCause path (wal_text wal) (limit_of wal) nodes fault
+
+-- Why archive-push is refused, from what the repository and the data folder held as it began to store the file.
+abbrev pub PushCause : Text → Text → Text → Option Content → Option Nodes → PushFault → Type 0
+PushCause stanza folder path repo nodes (SegmentName word) = WordCause folder path (SegmentName word)
+PushCause stanza folder path repo nodes (PathOutside word) = WordCause folder path (PathOutside word)
+PushCause stanza folder path repo nodes (StanzaMismatch kept found) = MismatchCause stanza repo nodes kept found
+PushCause stanza folder path repo nodes (SegmentMissing word) = IsRefusedFile stanza folder path repo nodes (SegmentMissing word)
+PushCause stanza folder path repo nodes (TooLong word limit) = IsRefusedFile stanza folder path repo nodes (TooLong word limit) ⊎ IsRefusedPush stanza folder path repo nodes (LongOf word limit)
+PushCause stanza folder path repo nodes (HeaderForm info) = IsRefusedPush stanza folder path repo nodes (FormOf info)
+PushCause stanza folder path repo nodes (SegmentSize told found) = IsRefusedPush stanza folder path repo nodes (SizeOf told found)
+PushCause stanza folder path repo nodes (HeaderMismatch kept found) = IsRefusedPush stanza folder path repo nodes (MismatchOf kept found)
+PushCause stanza folder path repo nodes (Ambiguous first second) = IsRefusedPush stanza folder path repo nodes (AmbiguousOf first second)
+PushCause stanza folder path repo nodes (Duplicate kept found) = IsRefusedPush stanza folder path repo nodes (DuplicateOf kept found)
+
+-- Ok of archive-push, with its lines: none where the file wasn't stored, and a warning where it was, with the same sum.
+pub record IsStored (stanza folder path : Text) (repo : Option Content) (nodes : Option Nodes) (lines : Text) : Type 0 where
+  pub wal : ArchiveName
+  pub bytes : Text
+  pub told : Control
+  pub current : ClusterId
+  pub ready : IsReady stanza folder path repo nodes wal bytes told current
+  pub valid : IsFileOf wal bytes told.system
+  pub told_by : ((lines ≡ []) × IfSome repo (λ f. StoresNone stanza (id_kept current) wal f))
+      ⊎ ((lines ≡ same_line (wal_text wal)) × IfSome repo (λ f. StoresOnly stanza (id_kept current) wal f (sha1 bytes)))

@@ -1,0 +1,21 @@
+-- What is told of a push that ended well (own).
+use Rattle.std.specs.Prelude.{[], ◌++◌, codes, string_bytes}
+use Rattle.pgb_model.specs.Text.{Text}
+use Rattle.pgb_archive.specs.declared.pushing.Pushed.{Pushed}
+use Rattle.pgb_archive.specs.declared.pushing.Pushed.TheVariants.{New, Same}
+use Rattle.pgb_stage.specs.declared.outcome.Outcome.{Outcome}
+use Rattle.pgb_stage.specs.declared.outcome.Outcome.TheVariants.{Finished, Absent}
+
+-- the command ended well, with lines of which this holds
+abbrev pub OnFinished : Outcome → (Text → Type 0) → Type 0
+OnFinished (Finished lines) P = P (string_bytes lines)
+OnFinished (Absent name) P = ⊥
+
+-- the warning of a push that finds its bytes stored
+abbrev pub same_line : Text → Text
+same_line name = codes "WARN: " ++ (name ++ codes " is already in the archive with the same checksum\n")
+
+-- the lines of a push of the file of this name
+abbrev pub pushed_lines : Pushed → Text → Text
+pushed_lines New name = []
+pushed_lines Same name = same_line name

@@ -1,0 +1,64 @@
+// The status and the message of each refusal.
+ghost use Rattle.std.specs.Prelude.{◌≡◌, ◌++◌, codes, IfOk};
+ghost use Rattle.pgb_text.specs.Sum.{sum_text};
+ghost use Rattle.pgb_push.specs.Texts.{push_status, push_message};
+
+use crate::fault::PushFault;
+use pgb_stage::{bytes_of, long_text, mismatch_text, quoted};
+use pgb_text::{NoMemory, Sum};
+use std::alloc::Global;
+
+/// The status of a refusal.
+pub fn push_status(fault: &PushFault) -> u8
+    ensures { result ≡ push_status fault.now }
+{
+    match fault {
+        PushFault::SegmentName { .. } => 30,
+        PushFault::PathOutside { .. } => 12,
+        PushFault::StanzaMismatch { .. } => 23,
+        PushFault::SegmentMissing { .. } => 37,
+        PushFault::TooLong { .. } => 70,
+        PushFault::HeaderForm { .. } => 32,
+        PushFault::SegmentSize { .. } => 31,
+        PushFault::HeaderMismatch { .. } => 33,
+        PushFault::Ambiguous { .. } => 36,
+        PushFault::Duplicate { .. } => 34,
+    }
+}
+
+// The message of a segment that is stored with other bytes.
+fn duplicate_text(alloc: Global, kept: &Sum, found: &Sum) -> Result<Vec<u8>, NoMemory>
+    ensures { IfOk result (λ line. line.items ≡ codes "archived with checksum " ++ (sum_text kept.now.0 ++ (codes ", now " ++ sum_text found.now.0))) }
+{
+    let kept = kept.hex(alloc)?;
+    let found = found.hex(alloc)?;
+    bytes_of(format!(in alloc; "archived with checksum {kept}, now {found}"))
+}
+
+/// The message of a refusal.
+pub fn push_message(alloc: Global, fault: &PushFault) -> Result<Vec<u8>, NoMemory>
+    ensures { IfOk result (λ line. line.items ≡ push_message fault.now) }
+{
+    match fault {
+        PushFault::SegmentName { name } => quoted(alloc, "'", name, "' is no WAL file name"),
+        PushFault::PathOutside { path } => {
+            quoted(alloc, "path '", path, "' is outside the data folder")
+        }
+        PushFault::StanzaMismatch { kept, found } => mismatch_text(alloc, kept, found),
+        PushFault::SegmentMissing { path } => quoted(alloc, "'", path, "' is missing"),
+        PushFault::TooLong { name, limit } => long_text(alloc, name, *limit),
+        PushFault::HeaderForm { .. } => {
+            bytes_of(String::from_str(alloc, "WAL header is not valid"))
+        }
+        PushFault::SegmentSize { told, found } => bytes_of(format!(in alloc;
+            "segment size {told}, found {found} bytes"
+        )),
+        PushFault::HeaderMismatch { kept, found } => bytes_of(format!(in alloc;
+            "stanza has system {kept}, WAL has system {found}"
+        )),
+        PushFault::Ambiguous { first, second } => bytes_of(format!(in alloc;
+            "'{first}' and '{second}' are both stored"
+        )),
+        PushFault::Duplicate { kept, found } => duplicate_text(alloc, kept, found),
+    }
+}
