@@ -1,0 +1,3 @@
+mod Talks
+mod Creates
+pub mod Statuses

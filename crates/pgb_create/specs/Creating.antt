@@ -47,10 +47,12 @@ create_early fault = true
 
 -- Why a fault of the stanza ends the command; a label may also find no memory for its text.
 pub data IsStanzaFault : StanzaFault → Halt CreateFault → Type 0 where
-  Damaged : (name : String Global) (main copy : MemberFault) → IsStanzaFault (DamagedOf name main copy) (Refused (InfoDamaged name main copy))
+  Damaged : (name : String Global) (main copy : MemberFault) →
+      IsStanzaFault (DamagedOf name main copy) (Refused (InfoDamaged name main copy))
   Differs : (at : ℕ) → IsStanzaFault (DiffersOf at) (Refused (HistoryDiffers at))
   Mismatch : (kept found : Identity) → IsStanzaFault (MismatchOf kept found) (Refused (StanzaMismatch kept found))
-  Lost : (label : Label) (text : String Global) → string_bytes text ≡ label_text label → IsStanzaFault (LostOf label) (Refused (ArchiveLost text))
+  Lost : (label : Label) (text : String Global) → string_bytes text ≡ label_text label →
+      IsStanzaFault (LostOf label) (Refused (ArchiveLost text))
   Unsaid : (label : Label) → IsStanzaFault (LostOf label) NoMemory
   Broken : IsStanzaFault DiskOf (Failed TheRepo)
   Starved : IsStanzaFault MemoryOf NoMemory
@@ -61,9 +63,11 @@ MakeCause stanza told repo (Talked fault) = ⊥
 MakeCause stanza told repo (InfoDamaged name main copy) = StanzaCause stanza told repo ⊥ (DamagedOf name main copy)
 MakeCause stanza told repo (HistoryDiffers at) = StanzaCause stanza told repo ⊥ (DiffersOf at)
 MakeCause stanza told repo (StanzaMismatch kept found) = StanzaCause stanza told repo ⊥ (MismatchOf kept found)
-MakeCause stanza told repo (ArchiveLost text) = (label : Label) × (string_bytes text ≡ label_text label) × StanzaCause stanza told repo ⊥ (LostOf label)
+MakeCause stanza told repo (ArchiveLost text) =
+    (label : Label) × (string_bytes text ≡ label_text label) × StanzaCause stanza told repo ⊥ (LostOf label)
 
 -- why stanza-create is refused: for what the server that is asked tells, or for what the repository held
 abbrev pub CreateCause : Text → Control → Option Server → Option Content → Option (List ℕ) → CreateFault → Type 0
-CreateCause stanza told server repo pending (Talked fault) = IsSome server × ¬ IsOutside fault × TellsFault told.system pending fault
+CreateCause stanza told server repo pending (Talked fault) =
+    IsSome server × ¬ IsOutside fault × TellsFault told.system pending fault
 CreateCause stanza told server repo pending other = MakeCause stanza told repo other

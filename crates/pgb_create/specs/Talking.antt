@@ -1,5 +1,5 @@
 -- The talk with the server that stanza-create asks for its system (PostgreSQL manual, "Message Flow").
-use Rattle.std.specs.Prelude.{◌≡◌, ◌⊎◌, ℕ, List, ◌++◌, Option, Some, None, option_map, IfSome, IsSome, Result, Ok}
+use Rattle.std.specs.Prelude.{◌≡◌, ◌≤◌, ◌⊎◌, ℕ, List, ◌++◌, Option, Some, None, option_map, IfSome, IsSome, Result, Ok}
 use Rattle.pgb_model.specs.Text.{Text}
 use Rattle.pgb_server.specs.declared.fault.ServerFault.{ServerFault}
 use Rattle.pgb_server.specs.declared.fault.ServerFault.TheVariants as server
@@ -19,7 +19,8 @@ use Rattle.pgb_create.specs.Server.{Server, socket_path}
 -- the server, where one is asked, was asked at its socket, and the talk was ended
 abbrev pub Asks : Option Server → Text → Option (List ℕ) → Option (List ℕ) → Type 0
 Asks None place old new = Unit {0}
-Asks (Some s) place old new = (place ≡ socket_path s) × (new ≡ option_map (λ said. said ++ questions s.user s.database) old)
+Asks (Some s) place old new = (place ≡ socket_path s)
+    × (new ≡ option_map (λ said. said ++ questions s.user s.database) old)
 
 -- the last that was said is the end, where that is told
 abbrev pub Ended : Option (List ℕ) → Type 0
@@ -30,6 +31,10 @@ abbrev pub Closes : Type 0 → Option (List ℕ) → Option (List ℕ) → Halt 
 Closes rose old new (Refused (Talked fault)) = Ended new ⊎ rose
 Closes rose old new other = Unit {0}
 
+-- the statuses of a server's answer that is refused; 70 is also that of a file that is too long
+abbrev pub IsServerRefusal : ℕ → Type 0
+IsServerRefusal status = ((47 ≤ status) × (status ≤ 51)) ⊎ ((70 ≤ status) × (status ≤ 71))
+
 -- ---- what is told
 
 -- the server is of this system, where that is told
@@ -38,7 +43,8 @@ IsOf system pending = IfSome pending (λ bytes. (size : ℕ) × Tells system byt
 
 -- it tells this fault, where that is told
 abbrev pub TellsFault : ℕ → Option (List ℕ) → ServerFault → Type 0
-TellsFault system pending fault = IfSome pending (λ bytes. (outcome : Result ℕ Refusal) × Tells system bytes outcome × Fails fault outcome)
+TellsFault system pending fault = IfSome pending
+    (λ bytes. (outcome : Result ℕ Refusal) × Tells system bytes outcome × Fails fault outcome)
 
 -- ---- why the talk fails
 

@@ -21,8 +21,10 @@ server_status server.Wire = 83
 server_status server.NoMemory = 90
 
 abbrev pub server_message : ServerFault → Text
-server_message (server.SystemMismatch kept found) = codes "control file has system " ++ (decimal kept ++ (codes ", server has system " ++ decimal found))
-server_message (server.ServerSaid code text) = codes "server: [" ++ (shown (string_bytes code) ++ (codes "] " ++ shown (string_bytes text)))
+server_message (server.SystemMismatch kept found) =
+    codes "control file has system " ++ (decimal kept ++ (codes ", server has system " ++ decimal found))
+server_message (server.ServerSaid code text) =
+    codes "server: [" ++ (shown (string_bytes code) ++ (codes "] " ++ shown (string_bytes text)))
 server_message (server.AuthUnsupported code) = codes "authentication " ++ (decimal code ++ codes " is not supported")
 server_message (server.ServerForm at) = codes "server byte " ++ (decimal at ++ codes " is not valid")
 server_message (server.ServerEnded at) = codes "server ended after " ++ (decimal at ++ codes " bytes")
@@ -45,4 +47,5 @@ create_message (Server fault) = server_message fault
 create_message (InfoDamaged name main copy) = damaged_text (string_bytes name) main copy
 create_message (HistoryDiffers at) = codes "archive history and backup history differ at " ++ decimal at
 create_message (StanzaMismatch kept found) = mismatch_text kept found
-create_message (ArchiveLost label) = codes "archive info is missing, backup info lists '" ++ (string_bytes label ++ codes "'")
+create_message (ArchiveLost label) = codes "archive info is missing, backup info lists '"
+    ++ (string_bytes label ++ codes "'")

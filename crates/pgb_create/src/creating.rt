@@ -18,12 +18,58 @@ ghost use Rattle.pgb_create.specs.Creating.{create_early, IsCreated, IsStanzaFau
 
 use crate::fault::CreateFault;
 use crate::server::Server;
+use crate::talking::check_server;
 use pgb_info::label_text;
 use pgb_outside::{Disk, Wire};
 use pgb_stage::{Halt, Object, Outcome};
 use pgb_stanza::{Control, StanzaFault, create};
 use std::alloc::Global;
 
+// What a fault of the stanza is.
+fn of_stanza(alloc: Global, fault: StanzaFault) -> Halt<CreateFault>
+    requires { IfLost fault IsLabel }
+    ensures { IsStanzaFault fault result }
+{
+    match fault {
+        StanzaFault::InfoDamaged { name, main, copy } => {
+            Halt::Refused(CreateFault::InfoDamaged { name, main, copy })
+        }
+        StanzaFault::HistoryDiffers { at } => Halt::Refused(CreateFault::HistoryDiffers { at }),
+        StanzaFault::StanzaMismatch { kept, found } => {
+            Halt::Refused(CreateFault::StanzaMismatch { kept, found })
+        }
+        StanzaFault::ArchiveLost { label } => match label_text(alloc, &label) {
+            Ok(label) => Halt::Refused(CreateFault::ArchiveLost { label }),
+            Err(_) => Halt::NoMemory,
+        },
+        StanzaFault::Disk => Halt::Failed(Object::Repo),
+        StanzaFault::NoMemory => Halt::NoMemory,
+    }
+}
+
+// Makes the stanza, or keeps the one that is there.
+fn make<D: Disk>(
+    alloc: Global,
+    repo: &mut D,
+    stanza: &str,
+    told: &Control,
+) -> Result<Outcome, Halt<CreateFault>>
+    ensures does { Does stanza.now (StanzaCreate (Some (first_cluster told.now))) (reached_by create_early result)
+        (D.state repo.old).view (D.state repo.new).view }
+    ensures made { IfOk result (IsCreated stanza.now told.now (D.state repo.old).view.now (D.state repo.new).view.now) }
+    ensures refused { OnNone (reached_by create_early result)
+        (IsStill (D.state repo.old).view (D.state repo.new).view) }
+    ensures frame { Frame (D.state repo.old) (D.state repo.new) }
+    ensures cause { IfErr result (HaltCause (MakeCause stanza.now told.now (D.state repo.old).view.now)
+        (Only TheRepo (Rises (D.state repo.old).faults (D.state repo.new).faults))) }
+{
+    match create(alloc, repo, stanza, told) {
+        Ok(_) => Ok(Outcome::Finished {
+            lines: String::new(alloc),
+        }),
+        Err(fault) => Err(of_stanza(alloc, fault)),
+    }
+}
 
 /// Makes the stanza of this cluster, or keeps the one that is there. Where a server is asked, it has to be of the
 /// cluster's system.
@@ -35,22 +81,29 @@ pub fn create_stanza<D: Disk, V: Wire>(
     told: &Control,
     server: Option<Server<'_>>,
 ) -> Result<Outcome, Halt<CreateFault>>
-    ensures does { Does stanza.now (StanzaCreate (Some (first_cluster told.now))) (reached_by create_early result) (D.state repo.old).view (D.state repo.new).view }
+    ensures does { Does stanza.now (StanzaCreate (Some (first_cluster told.now))) (reached_by create_early result)
+        (D.state repo.old).view (D.state repo.new).view }
     ensures made { IfOk result (IsCreated stanza.now told.now (D.state repo.old).view.now (D.state repo.new).view.now) }
-    ensures refused { OnNone (reached_by create_early result) (IsStill (D.state repo.old).view (D.state repo.new).view) }
+    ensures refused { OnNone (reached_by create_early result)
+        (IsStill (D.state repo.old).view (D.state repo.new).view) }
     ensures frame { Frame (D.state repo.old) (D.state repo.new) }
 
     // The server is asked at its socket, and the talk is ended; without one the connection isn't used.
     ensures same { OnOk result (IfSome server.entry (λ _. IsOf told.now.system (V.pending wire.old))) }
-    ensures asks { OnOk result (Asks (option_map server_view server.entry) (V.place wire.new) (V.sent wire.old) (V.sent wire.new)) }
+    ensures asks { OnOk result (Asks (option_map server_view server.entry)
+        (V.place wire.new) (V.sent wire.old) (V.sent wire.new)) }
     ensures quiet { server.entry ≡ None → wire.new ≡ wire.old }
-    ensures closed { IfErr result (Closes (Rises (V.faults wire.old) (V.faults wire.new)) (V.sent wire.old) (V.sent wire.new)) }
+    ensures closed { IfErr result (Closes (Rises (V.faults wire.old) (V.faults wire.new))
+        (V.sent wire.old) (V.sent wire.new)) }
     ensures later { V.faults wire.old ≤ V.faults wire.new }
 
-    ensures cause { IfErr result (HaltCause (CreateCause stanza.now told.now (option_map server_view server.entry) (D.state repo.old).view.now (V.pending wire.old)) (rose_in (record none {
-      repo = Rises (D.state repo.old).faults (D.state repo.new).faults;
-      server = Rises (V.faults wire.old) (V.faults wire.new);
-    }))) }
+    ensures cause { IfErr result (HaltCause
+        (CreateCause stanza.now told.now (option_map server_view server.entry) (D.state repo.old).view.now (V.pending wire.old))
+        (rose_in (record none {
+          repo = Rises (D.state repo.old).faults (D.state repo.new).faults;
+          server = Rises (V.faults wire.old) (V.faults wire.new);
+        }))) }
 {
-    Err(Halt::NoMemory)
+    check_server(alloc, wire, server, told.system)?;
+    make(alloc, repo, stanza, told)
 }

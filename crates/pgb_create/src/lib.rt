@@ -4,6 +4,7 @@
 mod creating;
 mod fault;
 mod server;
+mod talking;
 mod texts;
 
 pub use creating::create_stanza;

@@ -28,7 +28,8 @@ fn server_status(fault: &ServerFault) -> u8
 
 // The message of a server's own error.
 fn said_text(alloc: Global, code: &str, text: &str) -> Result<Vec<u8>, NoMemory>
-    ensures { IfOk result (λ line. line.items ≡ codes "server: [" ++ (shown code.now ++ (codes "] " ++ shown text.now))) }
+    ensures { IfOk result (λ line. line.items
+        ≡ codes "server: [" ++ (shown code.now ++ (codes "] " ++ shown text.now))) }
 {
     let mut line = quoted(alloc, "server: [", code, "] ")?;
     push_shown(&mut line, text)?;

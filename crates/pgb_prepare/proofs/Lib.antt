@@ -1,0 +1,7 @@
+mod Ends
+mod Found
+mod Fronts
+mod Heals
+mod Mended
+mod Readings
+mod Idle

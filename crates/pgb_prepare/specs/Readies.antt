@@ -1,5 +1,5 @@
 -- What the stages hand to a command.
-use Rattle.std.specs.Prelude.{◌≡◌, Bool, true, false, Option, IfSome, IsTrue, IsSomeAnd}
+use Rattle.std.specs.Prelude.{Bool, true, false, Option, IfSome, IsTrue, IsSomeAnd}
 use Rattle.pgb_outside.specs.Content.{Content}
 use Rattle.pgb_outside.specs.Tree.{Nodes}
 use Rattle.pgb_model.specs.declared.clusters.ArchiveInfo.{ArchiveInfo}
@@ -9,7 +9,6 @@ use Rattle.pgb_model.specs.Names.{backup_info}
 use Rattle.pgb_model.specs.Pair.{PairIs}
 use Rattle.pgb_model.specs.InfoFiles.{IsArchiveInfo, IsBackupInfo, IsBackupText}
 use Rattle.pgb_model.specs.Values.{archive_info_of, backup_info_of}
-use Rattle.pgb_stanza.specs.declared.control.Control.{Control}
 use Rattle.pgb_stage.specs.declared.plan.Plan.{Plan}
 use Rattle.pgb_stage.specs.declared.plan.Pairs.{Pairs}
 use Rattle.pgb_stage.specs.declared.plan.Pairs.TheVariants.{Unread, ReadBoth}
@@ -36,11 +35,11 @@ abbrev pub IsBackupOf : Text → Option Content → BackupInfo → Type 0
 IsBackupOf stanza repo v = IfSome repo (λ f. PairIs IsBackupText f (backup_info stanza) (backup_info_of v)) × IsBackupInfo (backup_info_of v)
 
 -- where it is asked for, there is one, and this holds of it
-abbrev pub IfAsked : {T : Type 0} → Bool → Option T → (T → Type 0) → Type 0
-IfAsked asked found P = IsTrue asked → IsSomeAnd found P
+abbrev pub IfAsked : {T : Type 0} → Bool → (T → Type 0) → Option T → Type 0
+IfAsked asked P found = IsTrue asked → IsSomeAnd found P
 
 -- What the plan asks for was read: the data folder's cluster, and the values that the pairs have now.
 pub record IsReady (plan : Plan) (stanza : Text) (repo : Option Content) (nodes : Option Nodes) (ready : Ready) : Type 0 where
-  pub control : IfAsked plan.control ready.control (IsTold nodes)
-  pub archive : IfAsked (has_archive plan.pairs) ready.archive (IsArchiveOf stanza repo)
-  pub backup : IfAsked (has_backup plan.pairs) ready.backup (IsBackupOf stanza repo)
+  pub control : IfAsked plan.control (IsTold nodes) ready.control
+  pub archive : IfAsked (has_archive plan.pairs) (IsArchiveOf stanza repo) ready.archive
+  pub backup : IfAsked (has_backup plan.pairs) (IsBackupOf stanza repo) ready.backup

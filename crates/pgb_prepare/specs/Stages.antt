@@ -1,11 +1,14 @@
 -- Why a command doesn't come to its own part.
-use Rattle.std.specs.Prelude.{◌≡◌, ◌⊎◌, Option, IfSome, IsTrue, string_bytes}
+use Rattle.std.specs.Prelude.{◌≡◌, ◌⊎◌, Option, IfSome, IsSome, IsTrue, string_bytes}
 use Rattle.pgb_outside.specs.Cause.{Rises}
 use Rattle.pgb_outside.specs.Content.{Content}
 use Rattle.pgb_outside.specs.States.{DiskState, TreeState}
 use Rattle.pgb_outside.specs.Tree.{Nodes}
+use Rattle.pgb_model.specs.InfoFiles.{IsArchiveText}
 use Rattle.pgb_model.specs.Names.{archive_info}
 use Rattle.pgb_model.specs.Text.{Text}
+use Rattle.pgb_info.specs.ArchiveForm.{IsArchiveForm}
+use Rattle.pgb_info.specs.Causes.{PairCause}
 use Rattle.pgb_info.specs.declared.fault.InfoFault.{InfoFault}
 use Rattle.pgb_info.specs.declared.fault.InfoFault.TheVariants.{Missing, Damaged, Disk as InfoDisk, NoMemory as InfoNoMemory}
 use Rattle.pgb_stanza.specs.declared.control.Control.{Control}
@@ -14,10 +17,13 @@ use Rattle.pgb_stage.specs.declared.fault.StageFault.{StageFault}
 use Rattle.pgb_stage.specs.declared.fault.StageFault.TheVariants.{StanzaMissing, InfoDamaged}
 use Rattle.pgb_stage.specs.declared.halt.Halt.{Halt}
 use Rattle.pgb_stage.specs.declared.halt.Halt.TheVariants.{Refused, Failed, NoMemory}
+use Rattle.pgb_stage.specs.declared.object.Object.{Object}
 use Rattle.pgb_stage.specs.declared.object.Object.TheVariants.{Repo}
+use Rattle.pgb_stage.specs.declared.plan.Pairs.{Pairs}
 use Rattle.pgb_stage.specs.Cluster.{FolderTells, ClusterCause}
 use Rattle.pgb_stage.specs.Current.{HasArchive, ArchiveCause, BackupCause}
 use Rattle.pgb_stage.specs.Halts.{HaltCause, Only}
+use Rattle.pgb_stage.specs.Plans.{Heals}
 use Rattle.pgb_stage.specs.Risen.{none, rose_in}
 use Rattle.pgb_prepare.specs.Readies.{has_archive, has_backup}
 use Rattle.pgb_prepare.specs.Taking.{HeldCause}
@@ -34,9 +40,27 @@ IsArchiveFault stanza InfoDisk (Failed object) = object ≡ Repo
 IsArchiveFault stanza InfoNoMemory NoMemory = Unit {0}
 IsArchiveFault stanza fault other = ⊥
 
--- a call on the repository was refused for this, or the repository failed
-abbrev pub RepoCause : (StageFault → Type 0) → DiskState → DiskState → Halt StageFault → Type 0
-RepoCause why old new halt = HaltCause why (Only Repo (Rises old.faults new.faults)) halt
+-- why a call on the archive pair gives no value
+abbrev pub ArchivePairCause : Text → DiskState → DiskState → InfoFault → Type 0
+ArchivePairCause stanza old new fault = PairCause IsArchiveText IsArchiveForm (archive_info stanza) old.view.now (Rises old.faults new.faults) fault
+
+-- the archive pair is read, and has no value
+abbrev pub NoArchive : Pairs → Text → Option Content → StageFault → Type 0
+NoArchive pairs stanza repo fault = IsTrue (has_archive pairs) × ArchiveCause stanza repo fault
+
+-- the backup pair is read, and has no value
+abbrev pub NoBackup : Pairs → Text → Option Content → StageFault → Type 0
+NoBackup pairs stanza repo fault = IsTrue (has_backup pairs) × BackupCause stanza repo fault
+
+-- ---- a call
+
+-- it was refused for this, or this disk failed
+abbrev pub DiskCause : Object → (StageFault → Type 0) → DiskState → DiskState → Halt StageFault → Type 0
+DiskCause object why old new halt = HaltCause why (Only object (Rises old.faults new.faults)) halt
+
+-- it was refused for this of what the repository holds, or the repository failed
+abbrev pub RepoCause : (Option Content → StageFault → Type 0) → DiskState → DiskState → Halt StageFault → Type 0
+RepoCause why old new halt = DiskCause Repo (why old.view.now) old new halt
 
 -- ---- all stages
 
@@ -46,7 +70,7 @@ TellsCluster plan nodes = IsTrue plan.control → IfSome nodes (λ f. (told : Co
 
 -- one of the pairs that the plan reads has no value: the archive pair comes first
 abbrev pub PairsCause : Plan → Text → Option Content → StageFault → Type 0
-PairsCause plan stanza repo fault = (IsTrue (has_archive plan.pairs) × ArchiveCause stanza repo fault)
+PairsCause plan stanza repo fault = NoArchive plan.pairs stanza repo fault
     ⊎ (IsTrue (has_backup plan.pairs) × HasArchive stanza repo × BackupCause stanza repo fault)
 
 -- what is found behind the locks: the control file, and then the pairs

@@ -1,12 +1,17 @@
 -- Which locks are held while they are taken.
-use Rattle.std.specs.Prelude.{◌≡◌, ◌⊎◌, List, [], ◌∷◌, Option, Some, None, option_map, string_bytes}
+use Rattle.std.specs.Prelude.{◌≡◌, ◌⊎◌, ℕ, List, String, [], ◌∷◌, Option, Some, None, option_map, string_bytes}
+use Rattle.std.specs.declared.alloc.Global.{Global}
+use Rattle.pgb_outside.specs.Cause.{Rises}
 use Rattle.pgb_outside.specs.Content.{Name}
 use Rattle.pgb_outside.specs.Locking.{without}
 use Rattle.pgb_model.specs.Text.{Text}
 use Rattle.pgb_stage.specs.declared.plan.Plan.{Plan}
 use Rattle.pgb_stage.specs.declared.fault.StageFault.{StageFault}
 use Rattle.pgb_stage.specs.declared.fault.StageFault.TheVariants.{Held}
-use Rattle.pgb_stage.specs.Plans.{first_lock, second_lock, IsLockOf}
+use Rattle.pgb_stage.specs.declared.halt.Halt.{Halt}
+use Rattle.pgb_stage.specs.declared.object.Object.TheVariants.{Locks}
+use Rattle.pgb_stage.specs.Halts.{HaltCause, Only}
+use Rattle.pgb_stage.specs.Plans.{with_one, first_lock, second_lock, IsLockOf}
 use Rattle.pgb_prepare.specs.declared.locking.LockNames.{LockNames}
 
 -- the lock is held too, or none more than before
@@ -35,6 +40,18 @@ abbrev pub HeldCause : Plan → Text → Type 0 → StageFault → Type 0
 HeldCause plan stanza held (Held name) = IsLockOf plan stanza (string_bytes name) × held
 HeldCause plan stanza held other = ⊥
 
+-- a call on the locks was refused for one that was held, or the locks failed
+abbrev pub LocksCause : (Type 0 → StageFault → Type 0) → ℕ → ℕ → ℕ → ℕ → Halt StageFault → Type 0
+LocksCause why refusals new_refusals faults new_faults halt = HaltCause (why (Rises refusals new_refusals)) (Only Locks (Rises faults new_faults)) halt
+
+-- the name of a lock, where there is one
+abbrev pub name_of : Option (String Global) → Option Text
+name_of name = option_map string_bytes name
+
 -- the names of the plan's locks
 abbrev pub AreNames : LockNames → Plan → Text → Type 0
-AreNames names plan stanza = (option_map string_bytes names.first ≡ first_lock plan stanza) × (option_map string_bytes names.second ≡ second_lock plan stanza)
+AreNames names plan stanza = (name_of names.first ≡ first_lock plan stanza) × (name_of names.second ≡ second_lock plan stanza)
+
+-- the plan's first lock was taken, or none was
+abbrev pub MayTake : Plan → Text → Text → Option (List (Text × Text)) → Option (List (Text × Text)) → Type 0
+MayTake plan folder stanza old new = (new ≡ old) ⊎ (new ≡ option_map (with_one folder (first_lock plan stanza)) old)

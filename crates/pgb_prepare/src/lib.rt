@@ -1,8 +1,10 @@
 //! The stages that each command goes through before its own part: places, locks, and what is found behind them.
 #![tactic(auto)]
 
+mod cluster;
 mod locking;
 mod opening;
+mod pairs;
 mod preparing;
 mod ready;
 

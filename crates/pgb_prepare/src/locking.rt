@@ -1,11 +1,8 @@
 // The locks of a command are taken, and released.
-ghost use Rattle.std.specs.Prelude.{◌≡◌, ◌≤◌, ◌++◌, [], ◌∷◌, List, Option, Some, None, option_map, OnOk, OnErr, IfOk, IfErr, IsSome, IfSome, Contains, string_bytes};
-ghost use Rattle.pgb_outside.specs.Cause.{Rises};
-ghost use Rattle.pgb_model.specs.Text.{Text};
-ghost use Rattle.pgb_stage.specs.Halts.{HaltCause, Only};
-ghost use Rattle.pgb_stage.specs.Plans.{when, with_one, first_lock, second_lock, with_locks, TakesLocks, IsLockOf};
-ghost use Rattle.pgb_prepare.specs.Taking.{AreNames, MayHold, HoldsOnly, IsHeldName, HeldCause, released};
-ghost use Rattle.pgb_stage.specs.declared.object.Object.TheVariants.{Locks as TheLocks};
+ghost use Rattle.std.specs.Prelude.{◌≡◌, ◌≤◌, false, None, ◌++◌, [], option_map, OnOk, OnErr, IfOk, IfErr, IfSome, Contains};
+ghost use Rattle.pgb_stage.specs.Plans.{when, with_one, first_lock, second_lock, TakesLocks};
+ghost use Rattle.pgb_prepare.specs.Taking.{name_of, AreNames, MayHold, HoldsOnly, MayTake, released};
+ghost use Rattle.pgb_prepare.specs.Taking.{IsHeldName, HeldCause, LocksCause};
 
 use pgb_outside::{Locks, Take};
 use pgb_stage::{Halt, Object, Plan, StageFault, halted};
@@ -19,7 +16,7 @@ pub struct LockNames {
 }
 
 fn named(alloc: Global, needed: bool, stanza: &str, end: &str) -> Result<Option<String>, AllocError>
-    ensures { IfOk result (λ name. option_map string_bytes name ≡ when needed (stanza.now ++ end.now)) }
+    ensures { IfOk result (λ name. name_of name ≡ when needed (stanza.now ++ end.now)) }
 {
     if needed {
         Ok(Some(format!(in alloc; "{stanza}{end}")?))
@@ -43,13 +40,16 @@ fn take_one<K: Locks>(
     folder: &str,
     name: &Option<String>,
 ) -> Result<(), Halt<StageFault>>
-    requires { IfSome (option_map string_bytes name.now) (λ n. ¬ Contains (K.taken locks.old) n) }
-    ensures may { MayHold (option_map string_bytes name.now) (K.taken locks.old) (K.taken locks.new) }
-    ensures took { OnOk result (K.took locks.new ≡ option_map (with_one folder.now (option_map string_bytes name.now)) (K.took locks.old)) }
+    requires { IfSome (name_of name.now) (λ n. ¬ Contains (K.taken locks.old) n) }
+    ensures may { MayHold (name_of name.now) (K.taken locks.old) (K.taken locks.new) }
+    ensures took { OnOk result (K.took locks.new ≡
+        option_map (with_one folder.now (name_of name.now)) (K.took locks.old)) }
     ensures free { OnErr result (K.took locks.new ≡ K.took locks.old) }
+    ensures none { name_of name.now ≡ None → locks.new ≡ locks.old }
     ensures later { K.faults locks.old ≤ K.faults locks.new }
     ensures refusals { K.refusals locks.old ≤ K.refusals locks.new }
-    ensures cause { IfErr result (HaltCause (IsHeldName (option_map string_bytes name.now) (Rises (K.refusals locks.old) (K.refusals locks.new))) (Only TheLocks (Rises (K.faults locks.old) (K.faults locks.new)))) }
+    ensures cause { IfErr result (LocksCause (IsHeldName (name_of name.now))
+        (K.refusals locks.old) (K.refusals locks.new) (K.faults locks.old) (K.faults locks.new)) }
 {
     let Some(name) = name else {
         return Ok(());
@@ -76,9 +76,12 @@ pub fn take_locks<K: Locks>(
     requires names { AreNames names.now plan.now stanza.now }
     ensures only { HoldsOnly (first_lock plan.now stanza.now) (second_lock plan.now stanza.now) (K.taken locks.new) }
     ensures took { OnOk result (TakesLocks plan.now folder.now stanza.now (K.took locks.old) (K.took locks.new)) }
+    ensures may { OnErr result (MayTake plan.now folder.now stanza.now (K.took locks.old) (K.took locks.new)) }
+    ensures idle { plan.now.backup_lock ≡ false → plan.now.archive_lock ≡ false → locks.new ≡ locks.old }
     ensures later { K.faults locks.old ≤ K.faults locks.new }
     ensures refusals { K.refusals locks.old ≤ K.refusals locks.new }
-    ensures cause { IfErr result (HaltCause (HeldCause plan.now stanza.now (Rises (K.refusals locks.old) (K.refusals locks.new))) (Only TheLocks (Rises (K.faults locks.old) (K.faults locks.new)))) }
+    ensures cause { IfErr result (LocksCause (HeldCause plan.now stanza.now)
+        (K.refusals locks.old) (K.refusals locks.new) (K.faults locks.old) (K.faults locks.new)) }
 {
     take_one(alloc, locks, folder, &names.first)?;
     take_one(alloc, locks, folder, &names.second)?;
@@ -86,7 +89,8 @@ pub fn take_locks<K: Locks>(
 }
 
 fn release_one<K: Locks>(locks: &mut K, name: &Option<String>)
-    ensures taken { K.taken locks.new ≡ released (option_map string_bytes name.now) (K.taken locks.old) }
+    ensures taken { K.taken locks.new ≡ released (name_of name.now) (K.taken locks.old) }
+    ensures none { name_of name.now ≡ None → locks.new ≡ locks.old }
     ensures took { K.took locks.new ≡ K.took locks.old }
     ensures refusals { K.refusals locks.new ≡ K.refusals locks.old }
     ensures faults { K.faults locks.new ≡ K.faults locks.old }
@@ -101,6 +105,7 @@ pub fn release_locks<K: Locks>(locks: &mut K, names: &LockNames, plan: &Plan, st
     requires names { AreNames names.now plan.now stanza.now }
     requires only { HoldsOnly (first_lock plan.now stanza.now) (second_lock plan.now stanza.now) (K.taken locks.old) }
     ensures released { K.taken locks.new ≡ [] }
+    ensures idle { plan.now.backup_lock ≡ false → plan.now.archive_lock ≡ false → locks.new ≡ locks.old }
     ensures took { K.took locks.new ≡ K.took locks.old }
     ensures refusals { K.refusals locks.new ≡ K.refusals locks.old }
     ensures faults { K.faults locks.new ≡ K.faults locks.old }

@@ -1,10 +1,10 @@
 // Places are opened.
 ghost use Rattle.std.specs.Prelude.{◌≡◌, ◌≤◌, None, IfErr, IfSome};
-ghost use Rattle.pgb_outside.specs.Cause.{Rises};
 ghost use Rattle.pgb_outside.specs.States.{Opens};
 ghost use Rattle.pgb_archive.specs.Still.{IsStill};
-ghost use Rattle.pgb_stage.specs.Halts.{HaltCause, Never, Only};
+ghost use Rattle.pgb_stage.specs.Halts.{Never};
 ghost use Rattle.pgb_prepare.specs.Folder.{FolderCause};
+ghost use Rattle.pgb_prepare.specs.Stages.{DiskCause};
 
 use pgb_outside::{Disk, Tree};
 use pgb_stage::{Halt, Object, StageFault, halted};
@@ -20,7 +20,7 @@ pub fn open_disk<D: Disk>(
     ensures still { IsStill (D.state disk.old).view (D.state disk.new).view }
     ensures proper { (D.state disk.new).misuses ≡ (D.state disk.old).misuses }
     ensures later { (D.state disk.old).faults ≤ (D.state disk.new).faults }
-    ensures cause { IfErr result (HaltCause Never (Only object (Rises (D.state disk.old).faults (D.state disk.new).faults))) }
+    ensures cause { IfErr result (DiskCause object Never (D.state disk.old) (D.state disk.new)) }
 {
     let Some(place) = place else {
         return Ok(());
@@ -38,7 +38,7 @@ pub fn open_tree<T: Tree>(tree: &mut T, place: Option<&str>) -> Result<(), Halt<
     ensures nodes { (T.state tree.new).nodes ≡ (T.state tree.old).nodes }
     ensures proper { (T.state tree.new).misuses ≡ (T.state tree.old).misuses }
     ensures later { (T.state tree.old).faults ≤ (T.state tree.new).faults }
-    ensures cause { IfErr result (FolderCause Never (T.state tree.old) (T.state tree.new)) }
+    ensures cause { IfErr result (FolderCause (λ _. Never) (T.state tree.old) (T.state tree.new)) }
 {
     let Some(place) = place else {
         return Ok(());

@@ -1,5 +1,5 @@
 // What is done behind the locks, before a command's own part.
-ghost use Rattle.std.specs.Prelude.{◌≡◌, false, OnOk, IfOk, IfErr, IfSome, IsSome};
+ghost use Rattle.std.specs.Prelude.{◌≡◌, false, OnOk, IfOk, IfErr, IfSome};
 ghost use Rattle.pgb_outside.specs.States.{Frame, Looks, LooksAt};
 ghost use Rattle.pgb_archive.specs.Still.{IsStill};
 ghost use Rattle.pgb_stage.specs.Halts.{Never};
@@ -8,6 +8,8 @@ ghost use Rattle.pgb_stage.specs.Runs.{Quiet, Mends, Begins};
 ghost use Rattle.pgb_prepare.specs.Readies.{IsReady};
 ghost use Rattle.pgb_prepare.specs.Stages.{RepoCause, StopCause};
 
+use crate::cluster::cluster_by;
+use crate::pairs::{archive_by, backup_by};
 use crate::ready::Ready;
 use pgb_disk::{StoreFault, begin};
 use pgb_outside::{Disk, Tree};
@@ -31,7 +33,51 @@ pub fn prepare<D: Disk, T: Tree>(
     ensures frame { Frame (D.state repo.old) (D.state repo.new) }
     ensures looks { LooksAt (T.state tree.old) (T.state tree.new) }
     ensures unread { plan.now.control ≡ false → tree.new ≡ tree.old }
-    ensures cause { IfErr result (StopCause plan.now stanza.now (D.state repo.old) (D.state repo.new) (T.state tree.old) (T.state tree.new)) }
+    ensures cause { IfErr result (StopCause plan.now stanza.now (D.state repo.old) (D.state repo.new)
+        (T.state tree.old) (T.state tree.new)) }
 {
-    Err(Halt::NoMemory)
+    settle(alloc, repo, stanza)?;
+    find(alloc, repo, tree, stanza, plan)
+}
+
+// Settles the stanza's folders.
+fn settle<D: Disk>(alloc: Global, repo: &mut D, stanza: &str) -> Result<(), Halt<StageFault>>
+    ensures begun { OnOk result (Begins stanza.now (D.state repo.old).view (D.state repo.new).view) }
+    ensures looks { Looks (D.state repo.old) (D.state repo.new) }
+    ensures cause { IfErr result (RepoCause (λ _. Never) (D.state repo.old) (D.state repo.new)) }
+{
+    match begin(alloc, repo, stanza) {
+        Ok(()) => Ok(()),
+        Err(StoreFault::Disk) => Err(Halt::Failed(Object::Repo)),
+        Err(StoreFault::TooLong { .. } | StoreFault::NoMemory) => Err(Halt::NoMemory),
+    }
+}
+
+// Reads the control file, and reads or heals the pairs.
+fn find<D: Disk, T: Tree>(
+    alloc: Global,
+    repo: &mut D,
+    tree: &mut T,
+    stanza: &str,
+    plan: &Plan,
+) -> Result<Ready, Halt<StageFault>>
+    ensures ready { IfOk result (IsReady plan.now stanza.now (D.state repo.new).view.now (T.state tree.old).nodes) }
+    ensures mends { Mends stanza.now (D.state repo.old).view (D.state repo.new).view }
+    ensures heals { OnOk result (Heals plan.now.pairs stanza.now (D.state repo.old).view.now (D.state repo.new).view.now) }
+    ensures healed { OnOk result (IfSome (D.state repo.new).view.now (AreHealed plan.now.pairs stanza.now)) }
+    ensures still { OnReading plan.now.pairs (IsStill (D.state repo.old).view (D.state repo.new).view) }
+    ensures frame { Frame (D.state repo.old) (D.state repo.new) }
+    ensures looks { LooksAt (T.state tree.old) (T.state tree.new) }
+    ensures unread { plan.now.control ≡ false → tree.new ≡ tree.old }
+    ensures cause { IfErr result (StopCause plan.now stanza.now (D.state repo.old) (D.state repo.new)
+        (T.state tree.old) (T.state tree.new)) }
+{
+    let control = cluster_by(alloc, tree, plan.control)?;
+    let archive = archive_by(alloc, repo, stanza, plan.pairs)?;
+    let backup = backup_by(alloc, repo, stanza, plan.pairs)?;
+    Ok(Ready {
+        control,
+        archive,
+        backup,
+    })
 }

@@ -1,11 +1,40 @@
-use Rattle.std.proofs.Common.{refl}
-use Rattle.pgb_archive.specs.Still.{rests_none}
+use Rattle.std.specs.Prelude.{Some, option_map}
+use Rattle.pgb_outside.specs.Cause.{Rises}
 use Rattle.pgb_model.specs.Steps.{StanzaCreate}
-use Rattle.std.specs.Prelude.{Some, ◌≡◌}
 use Rattle.pgb_stanza.specs.ControlFile.{first_cluster}
-use Rattle.pgb_stage.specs.Runs.{Reached, stopped, to_end}
-use Rattle.pgb_stage.proofs.Doing.{rests_does}
+use Rattle.pgb_stage.specs.Reached.{reached_by}
+use Rattle.pgb_create.specs.Server.{server_view}
+use Rattle.pgb_create.specs.Talking.{Closes}
+use Rattle.pgb_create.specs.Creating.{create_early}
+use Rattle.pgb_create.proofs.Creates.{made_cause, made_closes, asked_still, exit_does, exit_err, exit_cause}
 use Rattle.pgb_create.proofs.creating.create_stanza.Goals as goal
 
-pub returns-clause-does : goal.returns-clause-does
-returns-clause-does g c = rests_does c.args.stanza.now (StanzaCreate (Some (first_cluster c.args.told.now))) stopped _ _ (λ e. let x : ◌≡◌ {A = Reached} stopped to_end = e in cc) (rests_none (g.D.Disk.state c.args.repo.now).view) refl
+pub returns-in_err-check_server-clause-does : goal.returns-in_err-check_server-clause-does
+returns-in_err-check_server-clause-does g c =
+    exit_does c.from_residual.result c.in_err-check_server.field-0.0 c.from_residual.ensures.1 c.args.stanza.now
+    (StanzaCreate (Some (first_cluster c.args.told.now))) (g.D.Disk.state c.args.repo.now).view
+
+pub returns-in_err-check_server-clause-refused : goal.returns-in_err-check_server-clause-refused
+returns-in_err-check_server-clause-refused g c =
+    asked_still (reached_by create_early c.from_residual.result) (g.D.Disk.state c.args.repo.now).view
+
+pub returns-in_err-check_server-clause-closed : goal.returns-in_err-check_server-clause-closed
+returns-in_err-check_server-clause-closed g c =
+    exit_err c.from_residual.result c.in_err-check_server.field-0.0 c.from_residual.ensures.1
+    (Closes (Rises (g.V.Wire.faults c.args.wire.now) (g.V.Wire.faults c.check_server.new.wire))
+    (g.V.Wire.sent c.args.wire.now) (g.V.Wire.sent c.check_server.new.wire)) c.in_err-check_server.ensures.closed
+
+pub returns-in_err-check_server-clause-cause : goal.returns-in_err-check_server-clause-cause
+returns-in_err-check_server-clause-cause g c =
+    exit_cause c.from_residual.result c.in_err-check_server.field-0.0 c.from_residual.ensures.1
+    c.args.stanza.now c.args.told.now (option_map server_view c.args.server)
+    (g.D.Disk.state c.args.repo.now).view.now (g.V.Wire.pending c.args.wire.now) _ _ c.in_err-check_server.ensures.cause
+
+pub returns-clause-closed : goal.returns-clause-closed
+returns-clause-closed g c = made_closes c.args.stanza.now c.args.told.now _ _ _ (g.V.Wire.sent c.args.wire.now)
+    (g.V.Wire.sent c.check_server.new.wire) c.make.result c.make.ensures.cause
+
+pub returns-clause-cause : goal.returns-clause-cause
+returns-clause-cause g c = made_cause c.args.stanza.now c.args.told.now (option_map server_view c.args.server)
+    (g.D.Disk.state c.args.repo.now).view.now (g.V.Wire.pending c.args.wire.now) _ _ c.make.result _
+    (λ x. x) c.make.ensures.cause

@@ -1,5 +1,8 @@
-use Rattle.pgb_stage.proofs.Lifted.{still_quiet}
+use Rattle.pgb_stage.proofs.Lifted.{rests_quiet, mended_quiet}
 use Rattle.pgb_prepare.proofs.preparing.prepare.Goals as goal
 
+pub returns-in_err-settle-clause-quiet : goal.returns-in_err-settle-clause-quiet
+returns-in_err-settle-clause-quiet g c = rests_quiet c.args.stanza.now _ _ c.settle.ensures.looks.time c.settle.ensures.looks.now
+
 pub returns-clause-quiet : goal.returns-clause-quiet
-returns-clause-quiet g c = still_quiet c.args.stanza.now (g.D.Disk.state c.args.repo.now).view
+returns-clause-quiet g c = mended_quiet c.args.stanza.now _ _ _ c.settle.ensures.looks.time c.settle.ensures.looks.now c.in_ok-settle.ensures.begun c.find.ensures.mends

@@ -1,0 +1,43 @@
+-- What the status of a refusal tells of it.
+use Rattle.std.proofs.Common.{◌⊎◌, ◌≤◌, ℕ, arith, inl, inr, List, Option}
+use Rattle.pgb_server.specs.declared.fault.ServerFault.{ServerFault}
+use Rattle.pgb_server.specs.declared.fault.ServerFault.TheVariants as server
+use Rattle.pgb_stage.specs.declared.halt.Halt.TheVariants.{Refused}
+use Rattle.pgb_create.specs.declared.fault.CreateFault.{CreateFault}
+use Rattle.pgb_create.specs.declared.fault.CreateFault.TheVariants as faults
+use Rattle.pgb_create.specs.Talking.{Ended, Closes, IsServerRefusal}
+use Rattle.pgb_create.specs.Texts.{server_status, create_status}
+
+server_over : (fault : ServerFault) → 2 ≤ server_status fault
+server_over (server.SystemMismatch kept found) = omega arith
+server_over (server.ServerSaid code text) = omega arith
+server_over (server.AuthUnsupported code) = omega arith
+server_over (server.ServerForm at) = omega arith
+server_over (server.ServerEnded at) = omega arith
+server_over (server.TooLong length) = omega arith
+server_over (server.TooMany limit) = omega arith
+server_over server.Wire = omega arith
+server_over server.NoMemory = omega arith
+
+-- no refusal has the status of a command that ended well
+pub create_over : (fault : CreateFault) → 2 ≤ create_status fault
+create_over (faults.Server fault) = server_over fault
+create_over (faults.InfoDamaged name main copy) = omega arith
+create_over (faults.HistoryDiffers at) = omega arith
+create_over (faults.StanzaMismatch kept found) = omega arith
+create_over (faults.ArchiveLost label) = omega arith
+
+not_server : {P : Type 0} (n : ℕ) → (n ≤ 46) ⊎ (72 ≤ n) → IsServerRefusal n → P
+not_server n (inl a) (inl b) = absurd (omega (arith, a, b.0))
+not_server n (inl a) (inr b) = absurd (omega (arith, a, b.0))
+not_server n (inr a) (inl b) = absurd (omega (arith, a, b.1))
+not_server n (inr a) (inr b) = absurd (omega (arith, a, b.1))
+
+-- at the status of a server's answer the talk was ended
+pub create_closed : (rose : Type 0) (old new : Option (List ℕ)) (fault : CreateFault) →
+    IsServerRefusal (create_status fault) → Closes rose old new (Refused fault) → Ended new ⊎ rose
+create_closed rose old new (faults.Server fault) is closes = closes
+create_closed rose old new (faults.InfoDamaged name main copy) is closes = not_server 22 (inl (omega arith)) is
+create_closed rose old new (faults.HistoryDiffers at) is closes = not_server 101 (inr (omega arith)) is
+create_closed rose old new (faults.StanzaMismatch kept found) is closes = not_server 23 (inl (omega arith)) is
+create_closed rose old new (faults.ArchiveLost label) is closes = not_server 24 (inl (omega arith)) is

@@ -1,0 +1,158 @@
+-- What the healing of the archive pair does.
+use Rattle.std.proofs.Common.{◌≡◌, ◌≢◌, ⊎_elim, inl, inr, [], ◌≤◌, length, Option, Some, None, refl, ap, ◌∙◌, sym, subst, true, false}
+use Rattle.std.specs.Prelude.{IfSome, IsSome}
+use Rattle.pgb_outside.specs.Content.{Content, put, at}
+use Rattle.pgb_outside.specs.Moments.{View, Rests, is_loose}
+use Rattle.pgb_outside.specs.Crash.{Alike, IsTemporary, Crash, SomeOf, NowGoes}
+use Rattle.pgb_outside.proofs.Nows.{told_as}
+use Rattle.pgb_model.specs.Text.{Text}
+use Rattle.pgb_model.specs.Names.{archive_info, copy_of}
+use Rattle.pgb_model.specs.InfoText.{info_text}
+use Rattle.pgb_model.specs.InfoFiles.{IsArchiveText, IsArchiveInfo, archive_sections, info_limit}
+use Rattle.pgb_model.specs.Values.{ArchiveInfo}
+use Rattle.pgb_model.specs.Pair.{PairIs, PairAbsent}
+use Rattle.pgb_model.specs.Create.{member_writes}
+use Rattle.pgb_model.specs.Repository.{Stanza, Repository}
+use Rattle.pgb_model.specs.Stands.{Stands, IsVacant, archive_value}
+use Rattle.pgb_model.specs.Steps.{Reading}
+use Rattle.pgb_model.specs.Log.{Pair}
+use Rattle.pgb_model.specs.Now.{NowStands, NowDoes}
+use Rattle.pgb_model.specs.Steady.{IsSteady, Moves}
+use Rattle.pgb_model.proofs.Created.{put_other}
+use Rattle.pgb_model.proofs.Healed.{healed_moves, healed_steady, healed_now}
+use Rattle.pgb_model.proofs.Steady.{steady_rests, rests_moves}
+use Rattle.pgb_stage.specs.Current.{HasValue}
+use Rattle.pgb_stage.specs.Plans.{OnlyPairs}
+use Rattle.pgb_stage.specs.Runs.{Mends}
+
+abbrev text_of : ArchiveInfo → Text
+text_of v = info_text (archive_sections v)
+
+own_text : (v : ArchiveInfo) (bytes : Text) → IsArchiveText v bytes → IsArchiveText v (text_of v)
+own_text v bytes is = subst (IsArchiveText v) is.spelled is
+
+text_is : (f : Content) (name : Text) (v : ArchiveInfo) → PairIs IsArchiveText f name v → IsArchiveText v (text_of v)
+text_is f name v (inl m) = own_text v m.0 m.2
+text_is f name v (inr q) = own_text v q.1.0 q.1.2
+
+-- what has no member has no value
+no_pair : (f : Content) (name : Text) (v : ArchiveInfo) → PairAbsent f name → PairIs IsArchiveText f name v → ⊥
+no_pair f name v absent (inl m) = let e : ◌≡◌ {A = Option Text} None (Some m.0) = sym absent.0 ∙ m.1 in cc
+no_pair f name v absent (inr q) = let e : ◌≡◌ {A = Option Text} None (Some q.1.0) = sym absent.1 ∙ q.1.1 in cc
+
+told_at : (P : Content → Type 0) (o : Option Content) (f : Content) → o ≡ Some f → P f → IfSome o P
+told_at P o f is p = subst (λ (x : Option Content). IfSome x P) (sym is) p
+
+-- ---- what the calls on the pair tell
+
+-- this was written of the value that the pair has
+abbrev pub PartAt : Text → View → View → Type 0
+PartAt name old new = (v : ArchiveInfo) → IfSome old.now (λ f. PairIs IsArchiveText f name v) → NowGoes (SomeOf (member_writes name (text_of v))) old.now new.now
+
+abbrev pub CrashAt : Text → View → View → Type 0
+CrashAt name old new = (v : ArchiveInfo) → IfSome old.now (λ f. PairIs IsArchiveText f name v) → is_loose old name ≡ false → is_loose old (copy_of name) ≡ false →
+    Crash (SomeOf (member_writes name (text_of v))) old new
+
+-- a pair without a value is left alone
+abbrev pub IdleAt : Text → View → View → Type 0
+IdleAt name old new = ((v : ArchiveInfo) → IfSome old.now (λ f. PairIs IsArchiveText f name v → ⊥)) → IsSome old.now → (new.now ≡ old.now) × Rests old new
+
+module _ (stanza : Text) (old new : View) (part : PartAt (archive_info stanza) old new) (crash : CrashAt (archive_info stanza) old new)
+    (idle : IdleAt (archive_info stanza) old new) (told : IsSome old.now → IsSome new.now) where
+  abbrev Has : ArchiveInfo → Content → Type 0
+  Has v f = PairIs IsArchiveText f (archive_info stanza) v
+
+  idle_at : (f : Content) → old.now ≡ Some f → IsVacant stanza f → (new.now ≡ old.now) × Rests old new
+  idle_at f is vacant = idle (λ v. told_at (λ f. Has v f → ⊥) old.now f is (no_pair f (archive_info stanza) v vacant.archive_pair))
+      (subst (λ (o : Option Content). IsSome o) (sym is) refl)
+
+  now_stays : (r : Repository) → IsSome old.now → NowStands stanza r old.now → NowStands stanza r new.now
+  now_stays None some now = let f = told_as old.now some in
+      subst (λ (o : Option Content). NowStands stanza None o) (sym (idle_at f.0 f.1 (now.stands f.0 f.1)).0) now
+  now_stays (Some s) some now =
+      let f = told_as old.now some in
+      let pair = (now.stands f.0 f.1).archive_pair in
+      healed_now stanza s (text_of (archive_value s)) (text_is f.0 (archive_info stanza) (archive_value s) pair) old.now new.now some
+      (part (archive_value s) (told_at (Has (archive_value s)) old.now f.0 f.1 pair)) now
+
+  heal_stays : NowDoes stanza Reading true old.now new.now
+  heal_stays = record { told = told; does = λ r some now. ([], refl, now_stays r some now) }
+
+  module _ (s : Stanza) (steady : IsSteady stanza (Some s) old) (some : IsSome old.now) where
+    pair_at : (f : Content) × (old.now ≡ Some f) × PairIs IsArchiveText f (archive_info stanza) (archive_value s)
+    pair_at = let f = told_as old.now some in (f.0, f.1, (steady.stands f.0 (inl f.1)).archive_pair)
+
+    valid : IsArchiveText (archive_value s) (text_of (archive_value s))
+    valid = let f = pair_at in text_is f.0 (archive_info stanza) (archive_value s) f.2
+
+    crash_here : Crash (SomeOf (member_writes (archive_info stanza) (text_of (archive_value s)))) old new
+    crash_here = let f = pair_at in crash (archive_value s) (told_at (Has (archive_value s)) old.now f.0 f.1 f.2)
+        (steady.fixed (archive_info stanza) (Pair (inl refl))) (steady.fixed (copy_of (archive_info stanza)) (Pair (inr (inl refl))))
+
+    stanza_moves : Moves stanza (λ g. Stands stanza g (Some s)) old new
+    stanza_moves = healed_moves stanza s (text_of (archive_value s)) valid old new steady some crash_here
+
+    stanza_ends : IsSteady stanza (Some s) new
+    stanza_ends = healed_steady stanza s (text_of (archive_value s)) valid old new steady some crash_here
+
+  any_moves : (r : Repository) → IsSteady stanza r old → IsSome old.now → Moves stanza (λ g. Stands stanza g r) old new
+  any_moves None steady some = let f = told_as old.now some in let x = idle_at f.0 f.1 (steady.stands f.0 (inl f.1)) in
+      rests_moves stanza None (λ g. Stands stanza g None) old new x.1 x.0 steady some (λ g h. h)
+  any_moves (Some s) steady some = stanza_moves s steady some
+
+  any_ends : (r : Repository) → IsSteady stanza r old → IsSome old.now → IsSteady stanza r new
+  any_ends None steady some = let f = told_as old.now some in let x = idle_at f.0 f.1 (steady.stands f.0 (inl f.1)) in
+      steady_rests stanza None old new x.1 x.0 steady
+  any_ends (Some s) steady some = stanza_ends s steady some
+
+  heal_mends : Mends stanza old new
+  heal_mends = record { now = heal_stays; moves = λ r some steady. any_moves r steady some; ends = λ r some steady. any_ends r steady some }
+
+-- ---- other names
+
+put_apart : (name q : Text) (bytes : Text) (f g : Content) → q ≢ name → ¬ IsTemporary q → Alike (put name (Some bytes) f) g → g q ≡ f q
+put_apart name q bytes f g apart lasting a = a.same q lasting ∙ put_other name (Some bytes) f q apart
+
+some_keep : (name text q : Text) (f g : Content) → q ≢ name → q ≢ copy_of name → ¬ IsTemporary q → SomeOf (member_writes name text) f g → g q ≡ f q
+some_keep name text q f g main_apart copy_apart lasting w = ⊎_elim
+    (λ x. ⊎_elim (λ (a : Alike f g). a.same q lasting) (λ a. put_apart (copy_of name) q text f g copy_apart lasting a) x)
+    (λ x. ⊎_elim (λ a. put_apart name q text f g main_apart lasting a)
+    (λ a. put_apart (copy_of name) q text (put name (Some text) f) g copy_apart lasting a ∙ put_other name (Some text) f q main_apart) x) w
+
+heal_only : (stanza text : Text) (old new : Option Content) → IsSome old → NowGoes (SomeOf (member_writes (archive_info stanza) text)) old new → OnlyPairs stanza old new
+heal_only stanza text old new some goes = record {
+  others = λ q other lasting.
+      let f = told_as old some in
+      let g = told_as new (goes.told some) in
+      let same = some_keep (archive_info stanza) text q f.0 g.0 (λ is. other (inl is)) (λ is. other (inr (inl is))) lasting (goes.goes f.0 g.0 f.1 g.1) in
+      ap (at q) g.1 ∙ ap Some same ∙ ap (at q) (sym f.1);
+}
+
+-- ---- of a name that is the pair's
+
+module _ (stanza name : Text) (is : name ≡ archive_info stanza) (old new : View) (part : PartAt name old new) where
+  part_here : PartAt (archive_info stanza) old new
+  part_here = subst (λ (n : Text). PartAt n old new) is part
+
+  pub named_mends : CrashAt name old new → IdleAt name old new → (IsSome old.now → IsSome new.now) → Mends stanza old new
+  named_mends crash idle told = heal_mends stanza old new part_here
+      (subst (λ (n : Text). CrashAt n old new) is crash) (subst (λ (n : Text). IdleAt n old new) is idle) told
+
+  -- what the disk holds, but for the pair's members and temporary names
+  pub named_only : (v : ArchiveInfo) → IfSome old.now (λ f. PairIs IsArchiveText f name v) → IsSome old.now → OnlyPairs stanza old.now new.now
+  named_only v found some = heal_only stanza (text_of v) old.now new.now some
+      (part_here v (subst (λ (n : Text). IfSome old.now (λ f. PairIs IsArchiveText f n v)) is found))
+
+-- ---- the value and its text
+
+-- both members of the pair have this text
+abbrev pub BothAre : Text → Text → Content → Type 0
+BothAre name text f = (f name ≡ Some text) × (f (copy_of name) ≡ Some text)
+
+module _ (stanza name : Text) (is : name ≡ archive_info stanza) (v : ArchiveInfo) (valid : IsArchiveInfo v) (within : length (text_of v) ≤ info_limit) where
+  own : IsArchiveText v (text_of v)
+  own = record { rules = valid; spelled = refl; within = within }
+
+  pub named_value : (o : Option Content) → IfSome o (BothAre name (text_of v)) → IfSome o (λ f. HasValue stanza f v)
+  named_value None both = tt
+  named_value (Some f) both = inl (text_of v, ap f (sym is) ∙ both.0, own)

@@ -1,0 +1,49 @@
+-- What holds where the plan reads the backup pair: it heals none.
+use Rattle.std.proofs.Common.{false, Option, Some, None, subst}
+use Rattle.std.specs.Prelude.{IfSome, IsTrue, IsSomeAnd}
+use Rattle.pgb_outside.specs.Content.{Content}
+use Rattle.pgb_outside.specs.Moments.{View}
+use Rattle.pgb_model.specs.Text.{Text}
+use Rattle.pgb_model.specs.declared.clusters.ArchiveInfo.{ArchiveInfo}
+use Rattle.pgb_model.specs.InfoFiles.{IsArchiveInfo}
+use Rattle.pgb_model.specs.Values.{archive_info_of}
+use Rattle.pgb_archive.specs.Still.{IsStill}
+use Rattle.pgb_stage.specs.declared.fault.StageFault.{StageFault}
+use Rattle.pgb_stage.specs.declared.plan.Pairs.{Pairs}
+use Rattle.pgb_stage.specs.declared.plan.Pairs.TheVariants.{Unread, ReadArchive, HealArchive, ReadBoth}
+use Rattle.pgb_stage.specs.Current.{HasValue, HasArchive, BackupCause}
+use Rattle.pgb_stage.specs.Plans.{OnReading}
+use Rattle.pgb_prepare.specs.Readies.{has_archive, has_backup}
+
+never : IsTrue false → ⊥
+never is = cc
+
+-- a plan that reads the backup pair heals none
+both_reads : (pairs : Pairs) (P : Type 0) → IsTrue (has_backup pairs) → OnReading pairs P → P
+both_reads Unread P reads h = absurd (never reads)
+both_reads ReadArchive P reads h = absurd (never reads)
+both_reads HealArchive P reads h = absurd (never reads)
+both_reads ReadBoth P reads h = h
+
+both_has : (pairs : Pairs) → IsTrue (has_backup pairs) → IsTrue (has_archive pairs)
+both_has Unread reads = absurd (never reads)
+both_has ReadArchive reads = absurd (never reads)
+both_has HealArchive reads = absurd (never reads)
+both_has ReadBoth reads = reads
+
+-- the value that the archive pair has
+value_of : (stanza : Text) (now : Option Content) (archive : Option ArchiveInfo) →
+    IsSomeAnd archive (λ v. IfSome now (λ f. HasValue stanza f (archive_info_of v)) × IsArchiveInfo (archive_info_of v)) → HasArchive stanza now
+value_of stanza now (Some v) h = (archive_info_of v, h.0)
+value_of stanza now None h = absurd h
+
+-- why the backup pair has no value, behind the archive pair
+pub backup_refuses : (pairs : Pairs) (stanza : Text) (a b : View) (archive : Option ArchiveInfo) (e : StageFault) → OnReading pairs (IsStill a b) →
+    (IsTrue (has_archive pairs) → IsSomeAnd archive (λ v. IfSome b.now (λ f. HasValue stanza f (archive_info_of v)) × IsArchiveInfo (archive_info_of v))) →
+    IsTrue (has_backup pairs) × BackupCause stanza b.now e → IsTrue (has_backup pairs) × HasArchive stanza a.now × BackupCause stanza a.now e
+backup_refuses pairs stanza a b archive e still found cause =
+    let same = (both_reads pairs (IsStill a b) cause.0 still).now in (
+      cause.0,
+      subst (λ (o : Option Content). HasArchive stanza o) same (value_of stanza b.now archive (found (both_has pairs cause.0))),
+      subst (λ (o : Option Content). BackupCause stanza o e) same cause.1,
+    )

@@ -1,0 +1,23 @@
+use Rattle.pgb_model.specs.Values.{archive_info_of}
+use Rattle.pgb_stanza.proofs.Saves.{archive_name_is}
+use Rattle.pgb_prepare.proofs.Heals.{named_mends, named_only, named_value}
+use Rattle.pgb_prepare.proofs.pairs.heal_pair_at.Goals as goal
+
+pub heal_pair-requires : goal.heal_pair-requires
+heal_pair-requires g c = record { named = archive_name_is c.args.stanza.now c.args.name.now c.requires }
+
+pub returns-in_err-info-clause-mends : goal.returns-in_err-info-clause-mends
+returns-in_err-info-clause-mends g c = let h = c.heal_pair.ensures in
+    named_mends c.args.stanza.now c.args.name.now c.requires _ _ h.now_part h.crash h.idle h.told
+
+pub returns-clause-mends : goal.returns-clause-mends
+returns-clause-mends g c = let h = c.heal_pair.ensures in
+    named_mends c.args.stanza.now c.args.name.now c.requires _ _ h.now_part h.crash h.idle h.told
+
+pub returns-clause-found : goal.returns-clause-found
+returns-clause-found g c = let h = c.in_ok-info.ensures in
+    (named_value c.args.stanza.now c.args.name.now c.requires (archive_info_of c.in_ok-info.info) h.valid h.within _ h.healed, h.valid)
+
+pub returns-clause-only : goal.returns-clause-only
+returns-clause-only g c =
+    named_only c.args.stanza.now c.args.name.now c.requires (g.D.Disk.state c.args.repo.now).view (g.D.Disk.state c.heal_pair.new.d).view c.heal_pair.ensures.now_part (archive_info_of c.in_ok-info.info) c.in_ok-info.ensures.found

@@ -1,0 +1,20 @@
+use Rattle.pgb_stage.proofs.Lifted.{still_mends}
+use Rattle.pgb_prepare.proofs.Found.{backup_ends}
+use Rattle.pgb_prepare.proofs.Mended.{mends_on}
+use Rattle.pgb_prepare.proofs.preparing.find.Goals as goal
+
+pub returns-in_err-control-clause-mends : goal.returns-in_err-control-clause-mends
+returns-in_err-control-clause-mends g c = still_mends c.args.stanza.now (g.D.Disk.state c.args.repo.now).view
+
+pub returns-in_err-backup-clause-mends : goal.returns-in_err-backup-clause-mends
+returns-in_err-backup-clause-mends g c = let h = c.backup_by.ensures.looks in mends_on c.args.stanza.now _ _ _ c.archive_by.ensures.mends h.time h.now
+
+pub returns-in_err-backup-clause-cause : goal.returns-in_err-backup-clause-cause
+returns-in_err-backup-clause-cause g c = let h = c.archive_by.ensures in
+    backup_ends c.args.plan.now c.args.stanza.now (g.D.Disk.state c.args.repo.now) (g.D.Disk.state c.archive_by.new.repo) (g.D.Disk.state c.backup_by.new.repo)
+    (g.T.Tree.state c.args.tree.now) (g.T.Tree.state c.cluster_by.new.tree) c.in_ok-control.control c.in_ok-archive.archive
+    c.in_ok-control.ensures.told h.frame.later h.still c.in_ok-archive.ensures.found
+    c.from_residual-in_err-backup.result c.in_err-backup.field-0.0 c.from_residual-in_err-backup.ensures.1 c.in_err-backup.ensures.cause
+
+pub returns-clause-mends : goal.returns-clause-mends
+returns-clause-mends g c = let h = c.backup_by.ensures.looks in mends_on c.args.stanza.now _ _ _ c.archive_by.ensures.mends h.time h.now
