@@ -1,13 +1,13 @@
 -- Words and their configuration ask for one thing.
 use Rattle.std.proofs.Common.{◌≡◌, List, Option, Some, None, Result, Ok, Err, ap, sym, ◌∙◌, subst}
-use Rattle.std.specs.Prelude.{IsSome, OnOk}
+use Rattle.std.specs.Prelude.{IsSome}
 use Rattle.pgb_outside.specs.Content.{Content}
 use Rattle.pgb_model.specs.Text.{Text}
 use Rattle.pgb_options.specs.Faults.{Fault}
 use Rattle.pgb_options.specs.Paths.{Path, nowhere, usual, named}
 use Rattle.pgb_options.specs.Settings.{Settled, settled_words}
 use Rattle.pgb_create.specs.Server.{Server}
-use Rattle.pgb_command.specs.Asked.{MayHave, Settles, Request, Asked, IsAsked, MayAsk, Asks}
+use Rattle.pgb_command.specs.Asked.{MayHave, Settles, Request, Asked, IsAsked, MayAsk}
 
 ok_same : {X Y : Type 0} (a b : X) → ◌≡◌ {A = Result X Y} (Ok a) (Ok b) → a ≡ b
 ok_same a b e = cc
@@ -35,19 +35,8 @@ one_of s a b p q =
     ∙ ap (λ x. made b.stanza b.data_folder b.repository b.lock_folder x a.request) (p.server ∙ sym q.server)
     ∙ ap (λ x. made b.stanza b.data_folder b.repository b.lock_folder b.server x) (ok_same a.request b.request (sym p.request ∙ q.request))
 
-one_asked : (words : List Text) (files : Option Content) (a b : Asked) → IsSome files → MayAsk words files a → MayAsk words files b → a ≡ b
+pub one_asked : (words : List Text) (files : Option Content) (a b : Asked) → IsSome files → MayAsk words files a → MayAsk words files b → a ≡ b
 one_asked words None a b told p q = cc
 one_asked words (Some f) a b told p q =
     let same : p.settings ≡ q.settings = ok_same p.settings q.settings (one_settling words f (Ok p.settings) (Ok q.settings) p.settles q.settles) in
     one_of q.settings a b (subst (λ (s : Settled). IsAsked s a) same p.is) q.is
-
-pub may_ask : (words : List Text) (files : Option Content) (s : Settled) → Settles words files (Ok s) → (a : Asked) → IsAsked s a → MayAsk words files a
-may_ask words files s settles a is = record { settings = s; settles = settles; is = is }
-
--- what holds of that one holds of each
-pub for_asked : (words : List Text) (files : Option Content) (Q : Asked → Type 0) (b : Asked) → MayAsk words files b → Q b → (a : Asked) → Asks words files a → Q a
-for_asked words files Q b asks q a p = subst Q (sym (one_asked words files a b p.told p.asks asks)) q
-
-pub ok_as : {T E : Type 0} (result : Result T E) (X Y : Type 0) → (X → Y) → OnOk result X → OnOk result Y
-ok_as (Ok x) X Y to h = to h
-ok_as (Err e) X Y to h = tt

@@ -23,7 +23,7 @@ use Rattle.pgb_command.specs.declared.fault.Fault.TheVariants.{Usage, Stage, Com
 use Rattle.pgb_command.specs.Answers.{Ending, status, answer_of}
 use Rattle.pgb_command.specs.Asked.{Asked, Settles, IsAsked, requested}
 use Rattle.pgb_command.specs.Configuring.{ConfigCause}
-use Rattle.pgb_command.specs.Causes.{IsAnswered, Carries, Refuses, Obeys, Answers}
+use Rattle.pgb_command.specs.Causes.{IsAnswered, IsIdle, Carries, Refuses, Obeys, Answers}
 use Rattle.pgb_command.specs.Did.{Did, Brackets, Cause, Spares, Closes, OpensPlaces, ArePlacesOpened}
 use Rattle.pgb_command.specs.Output.{IsTold}
 use Rattle.pgb_command.proofs.Dids.{did_from, later_on}
@@ -111,6 +111,9 @@ answered_by unknown given b k o ended n words same t = record {
   wrote = subst (λ (x : SinkState). IsTold x.written (answer_of unknown ended) o.written (Rises x.faults o.faults) t.0) same (subst (λ (u : List Text). IsTold k.out.written (answer_of u ended) o.written (Rises k.out.faults o.faults) t.0) words t.2);
 }
 
+idle_written : (b : Seen) (o : SinkState) → IsIdle b (record b { out = o })
+idle_written b o = record { repo = still_self b.repo.view; opened = refl; spool = still_self b.spool.view; tree = refl; server = refl; locks = refl }
+
 -- ---- a command is obeyed
 
 pub carries : (c : Command) (a : Asked) (given : List Text) (b k : Seen) (o : SinkState) (ended : Result Outcome Fault) (n : ℕ) → given ≡ map string_bytes c.warnings.items → k.out ≡ b.out → k.out.faults ≤ o.faults → ((s : Settled) → IsCommand c s → IsAsked s a) →
@@ -124,7 +127,7 @@ carries c a given b k o ended n words same le asked did brackets t s is = inl (a
 
 pub unbuilt : (c : Command) (what : Unbuilt) (given : List Text) (b : Seen) (o : SinkState) (n : ℕ) → given ≡ map string_bytes c.warnings.items → ((s : Settled) → IsCommand c s → requested s ≡ Err what) →
     ToldOf given (Err (Stage (NotBuilt what))) b.out o n → (s : Settled) → IsCommand c s → Obeys s b (record b { out = o }) n
-unbuilt c what given b o n words asked t s is = inr (what, asked s is, answered_by s.warnings given b b o (Err (Stage (NotBuilt what))) n (words ∙ is.warnings) refl t)
+unbuilt c what given b o n words asked t s is = inr (what, asked s is, idle_written b o, answered_by s.warnings given b b o (Err (Stage (NotBuilt what))) n (words ∙ is.warnings) refl t)
 
 -- ---- from the words on
 
@@ -162,7 +165,7 @@ obeys_from s b k i n files le (inl x) = inl (x.0, x.1, record {
   brackets = brackets_from x.0 b k i x.2.ended x.2.brackets;
   answered = answered_from s.warnings b k i x.2.ended n x.2.answered;
 })
-obeys_from s b k i n files le (inr x) = inr (x.0, x.1, answered_from s.warnings b k i (Err (Stage (NotBuilt x.0))) n x.2)
+obeys_from s b k i n files le (inr x) = let idle = x.2 in inr (x.0, x.1, record { repo = idle.repo; opened = idle.opened; spool = idle.spool; tree = idle.tree; server = idle.server; locks = idle.locks }, answered_from s.warnings b k i (Err (Stage (NotBuilt x.0))) n x.3)
 
 -- what was settled is carried out
 pub runs_on : (words : List Text) (b k : Seen) (i : SourceState) (n : ℕ) (c : Command) → i.files ≡ b.config.files → b.config.faults ≤ i.faults → ((s : Settled) × Settles words b.config.files (Ok s) × IsCommand c s) →
@@ -174,6 +177,7 @@ pub runs_off : (words given : List Text) (b : Seen) (i : SourceState) (o : SinkS
 runs_off words given b i o n fault none cause t = inl (record {
   fault = fault;
   cause = cause;
+  idle = record { repo = still_self b.repo.view; opened = refl; spool = still_self b.spool.view; tree = refl; server = refl; locks = refl };
   answered = record {
     ending = t.0;
     is = t.1;

@@ -77,7 +77,7 @@ any_create (push path) P p = tt
 any_create (get name path) P p = tt
 any_create (report form) P p = tt
 
-any_other : (request : Request) (P : Type 0) → P → OnOther request P
+pub any_other : (request : Request) (P : Type 0) → P → OnOther request P
 any_other create P p = tt
 any_other (push path) P p = p
 any_other (get name path) P p = p
@@ -102,7 +102,7 @@ other_as (get name path) P Q to p = to p
 other_as (report form) P Q to p = to p
 
 -- the data folder is as it was
-folder_stays : (a : Asked) (request : Request) (repo : Option Content) (old new : Option Nodes) → new ≡ old → FolderGoes a request repo old new
+pub folder_stays : (a : Asked) (request : Request) (repo : Option Content) (old new : Option Nodes) → new ≡ old → FolderGoes a request repo old new
 folder_stays a create repo old new same = same
 folder_stays a (push path) repo old new same = same
 folder_stays a (get name path) repo old new same = subst (λ (n : Option Nodes). FolderGoes a (get name path) repo old n) (sym same) (record { told = λ some. some; others = λ q x y. refl; whole = inl refl })
@@ -231,7 +231,7 @@ did_released a b k l r took refusals faults did = subst (λ (x : LocksState). Di
 
 -- ---- a stage refuses
 
-stage_reached : (fault : Fault) → (¬ (reached_of (ending_of (Err fault)) ≡ to_end))
+pub stage_reached : (fault : Fault) → (¬ (reached_of (ending_of (Err fault)) ≡ to_end))
 stage_reached fault = go (is_early fault)
   where
     go : (early : Bool) → ¬ (back_if early ≡ to_end)

@@ -10,3 +10,5 @@ mod AskedOnce
 mod Words
 mod Readied
 mod Carried
+mod Statuses
+mod Follows

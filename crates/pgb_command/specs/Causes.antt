@@ -1,22 +1,25 @@
 -- What the program answers and does, from the words on.
-use Rattle.std.specs.Prelude.{◌≡◌, ◌≢◌, ◌≤◌, ◌⊎◌, ℕ, true, false, List, [], Option, IsSome, Result, Ok, Err, IfOk}
+use Rattle.std.specs.Prelude.{◌≡◌, ◌≢◌, ◌≤◌, ◌⊎◌, ◌++◌, ℕ, true, false, List, [], Option, None, IsSome, IfSome, Result, Ok, Err, option_map}
 use Rattle.pgb_outside.specs.Content.{Content}
 use Rattle.pgb_model.specs.Text.{Text}
 use Rattle.pgb_options.specs.Settings.{Settled}
+use Rattle.pgb_archive.specs.Still.{IsStill}
 use Rattle.pgb_stage.specs.declared.fault.Unbuilt.{Unbuilt}
 use Rattle.pgb_stage.specs.declared.fault.StageFault.TheVariants.{NotBuilt}
-use Rattle.pgb_stage.specs.declared.object.Object.TheVariants.{Config, Output}
+use Rattle.pgb_stage.specs.declared.object.Object.TheVariants.{Server, Config, Output}
 use Rattle.pgb_stage.specs.declared.outcome.Outcome.{Outcome}
+use Rattle.pgb_stage.specs.Plans.{AreHealed}
 use Rattle.pgb_stage.specs.Runs.{On, Leads, Passes, turns_of}
 use Rattle.pgb_stage.specs.Seen.{Seen, Failed}
 use Rattle.pgb_command.specs.declared.fault.Fault.{Fault}
 use Rattle.pgb_command.specs.declared.fault.Fault.TheVariants.{Stage, NoMemory}
-use Rattle.pgb_command.specs.Answers.{Ending, status, answer_of}
-use Rattle.pgb_command.specs.Asked.{Asked, Settles, IsAsked, requested}
+use Rattle.pgb_create.specs.Talking.{Ended, IsServerRefusal}
+use Rattle.pgb_command.specs.Answers.{Ending, status, ending_of, answer_of, lines_of}
+use Rattle.pgb_command.specs.Asked.{Asked, MayAsk, Asks, Settles, IsAsked, requested}
 use Rattle.pgb_command.specs.Configuring.{ConfigCause}
-use Rattle.pgb_command.specs.Did.{Did, Brackets, Cause}
+use Rattle.pgb_command.specs.Did.{Did, Brackets, Cause, OnReady, ArePlacesOpened, TakesAll}
 use Rattle.pgb_command.specs.Output.{IsTold}
-use Rattle.pgb_command.specs.Tables.{manner_of}
+use Rattle.pgb_command.specs.Tables.{known, plan_of, manner_of, Promise, OnReader, OnCreate, OnOther, FolderGoes}
 
 -- ---- how it is told
 
@@ -33,16 +36,26 @@ pub record Carries (a : Asked) (unknown : List Text) (before after : Seen) (resu
   pub brackets : Brackets a before after ended
   pub answered : IsAnswered unknown before after ended result
 
+-- Nothing was done: the objects but the configuration and the output are as they were.
+pub record IsIdle (before after : Seen) : Type 0 where
+  pub repo : IsStill before.repo.view after.repo.view
+  pub opened : after.repo.opened ≡ before.repo.opened
+  pub spool : IsStill before.spool.view after.spool.view
+  pub tree : after.tree ≡ before.tree
+  pub server : after.server ≡ before.server
+  pub locks : after.locks ≡ before.locks
+
 -- Words that don't settle a command do nothing: the configuration was read, and what refused them is told.
 pub record Refuses (words : List Text) (before after : Seen) (result : ℕ) : Type 0 where
   pub fault : Fault
   pub cause : ConfigCause words before.config.files (Failed before after Config) fault
+  pub idle : IsIdle before after
   pub answered : IsAnswered [] before after (Err fault) result
 
--- What the settled words ask for is done and told; or it isn't built.
+-- What the settled words ask for is done and told; or it isn't built, and nothing is done.
 abbrev pub Obeys : Settled → Seen → Seen → ℕ → Type 0
 Obeys s before after result = ((a : Asked) × IsAsked s a × Carries a s.warnings before after result)
-    ⊎ ((what : Unbuilt) × (requested s ≡ Err what) × IsAnswered s.warnings before after (Err (Stage (NotBuilt what))) result)
+    ⊎ ((what : Unbuilt) × (requested s ≡ Err what) × IsIdle before after × IsAnswered s.warnings before after (Err (Stage (NotBuilt what))) result)
 
 -- The words are refused, or they settle a command, which is obeyed.
 abbrev pub Answers : List Text → Seen → Seen → ℕ → Type 0
@@ -59,18 +72,53 @@ AllDone a before after = On (manner_of a.request a.data_folder before.tree.nodes
 abbrev pub PartDone : Asked → Seen → Seen → Type 0
 PartDone a before after = On (manner_of a.request a.data_folder before.tree.nodes) (λ command. Leads a.stanza command false before.repo.view before.spool.view after.repo.view after.spool.view × Passes a.stanza command before.repo.view after.repo.view)
 
--- none is
+-- none is but the pushes of its turns
 abbrev pub NoneDone : Asked → Seen → Seen → Type 0
 NoneDone a before after = On (manner_of a.request a.data_folder before.tree.nodes) (λ command. Leads a.stanza (turns_of command) false before.repo.view before.spool.view after.repo.view after.spool.view)
+
+-- at 0: all is done, the pairs that the command heals agree, its places were opened and its locks taken
+pub record Finishes (a : Asked) (before after : Seen) : Type 0 where
+  pub all : AllDone a before after
+  pub healed : IsSome before.repo.view.now → IfSome after.repo.view.now (AreHealed (plan_of a.request).pairs a.stanza)
+  pub opened : ArePlacesOpened a before after
+  pub took : TakesAll a before after
+
+-- at 0 and 1: it ended in this way, keeps its promise, and wrote its lines
+pub record Fulfils (a : Asked) (before after : Seen) (result : ℕ) : Type 0 where
+  pub outcome : Outcome
+  pub is : result ≡ status (ending_of (Ok outcome))
+  pub promise : OnReady a (known before) (λ old. Promise a a.request old (known after) outcome)
+  pub unknown : List Text
+  pub wrote : after.out.written ≡ option_map (λ (text : Text). text ++ lines_of (answer_of unknown (Ok outcome))) before.out.written
 
 -- the statuses of a command that ends before its own first step: it was refused for what was found, or the connection to the server failed
 abbrev pub IsEarly : ℕ → Type 0
 IsEarly status = ((1 ≤ status) × (status ≤ 72)) ⊎ ((status ≡ 83) ⊎ ((100 ≤ status) × (status ≤ 101)))
 
--- where no cause of a refusal holds, and the output didn't fail, the answer is Ok, or that the file isn't there, or want of memory
-abbrev pub Completes : Asked → Seen → Seen → ℕ → Type 0
-Completes a before after result = ((fault : Fault) → fault ≢ NoMemory → ¬ Cause a before after fault) → ¬ Failed before after Output → (result ≤ 1) ⊎ (result ≡ 90)
+-- then it has taken no step, has changed no file of the data folder, and of a new stanza nothing in the repository
+pub record TurnsBack (a : Asked) (before after : Seen) : Type 0 where
+  pub none : NoneDone a before after
+  pub nodes : after.tree.nodes ≡ before.tree.nodes
+  pub unmade : OnCreate a.request (after.repo.view.now ≡ before.repo.view.now)
 
--- the statuses of a server's answer that is refused; 70 is also that of a file that is too long
-abbrev pub IsServerRefusal : ℕ → Type 0
-IsServerRefusal status = ((47 ≤ status) × (status ≤ 51)) ⊎ ((70 ≤ status) × (status ≤ 71))
+-- after every answer: a reader has changed nothing in the repository, only archive-get the data folder, and the server only who asks it
+pub record LeavesRest (a : Asked) (before after : Seen) : Type 0 where
+  pub reads : OnReader a.request (IsStill before.repo.view after.repo.view)
+  pub folder : FolderGoes a a.request before.repo.view.now before.tree.nodes after.tree.nodes
+  pub quiet : a.server ≡ None → after.server ≡ before.server
+  pub others : OnOther a.request (after.server ≡ before.server)
+
+-- Where no cause of a refusal holds, what is asked for is built, and the output didn't fail, the answer is Ok, or that the file isn't there, or want of memory.
+abbrev pub Completes : List Text → Seen → Seen → ℕ → Type 0
+Completes words before after result = ((fault : Fault) → fault ≢ NoMemory → ¬ ConfigCause words before.config.files (Failed before after Config) fault)
+    → ((s : Settled) (what : Unbuilt) → Settles words before.config.files (Ok s) → requested s ≢ Err what)
+    → ((a : Asked) (fault : Fault) → MayAsk words before.config.files a → fault ≢ NoMemory → ¬ Cause a before after fault)
+    → ¬ Failed before after Output → (result ≤ 1) ⊎ (result ≡ 90)
+
+-- after a server's answer that is refused the last that was said to it is the end, unless the connection failed; at 70 a file may have been too long, and then nothing was said
+abbrev pub ClosesTalk : Seen → Seen → ℕ → Type 0
+ClosesTalk before after result = IsServerRefusal result → Ended after.server.sent ⊎ (Failed before after Server ⊎ ((result ≡ 70) × (after.server.sent ≡ before.server.sent)))
+
+-- this holds of each command that the words ask for
+abbrev pub Each : List Text → Option Content → (Asked → Type 0) → Type 0
+Each words files P = (a : Asked) → Asks words files a → P a

@@ -11,6 +11,7 @@ use Rattle.pgb_stage.specs.Plans.{Heals, AreHealed, TakesLocks}
 use Rattle.pgb_stage.specs.Runs.{Runs, Takes, On, OnNone}
 use Rattle.pgb_stage.specs.Seen.{Seen, Failed, AreLater}
 use Rattle.pgb_prepare.specs.Stages.{StageCause}
+use Rattle.pgb_prepare.specs.Taking.{MayTake}
 use Rattle.pgb_create.specs.declared.fault.CreateFault.TheVariants as create_fault
 use Rattle.pgb_create.specs.Talking.{Ended}
 use Rattle.pgb_command.specs.declared.fault.CommandFault.TheVariants.{Create}
@@ -105,9 +106,10 @@ pub record ArePlacesOpened (a : Asked) (before after : Seen) : Type 0 where
 abbrev pub TakesAll : Asked → Seen → Seen → Type 0
 TakesAll a before after = TakesLocks (plan_of a.request) a.lock_folder a.stanza before.locks.took after.locks.took
 
--- without them nothing is done
+-- Without its locks nothing is done: all were taken, or at most the first one was, and the disk is as before.
 abbrev pub OnlyLocked : Asked → Seen → Seen → Type 0
-OnlyLocked a before after = TakesAll a before after ⊎ IsStill before.repo.view after.repo.view
+OnlyLocked a before after = TakesAll a before after
+    ⊎ (MayTake (plan_of a.request) a.lock_folder a.stanza before.locks.took after.locks.took × IsStill before.repo.view after.repo.view)
 
 pub record Did (a : Asked) (before after : Seen) (result : Result Outcome Fault) : Type 0 where
   pub steps : On (manner_of a.request a.data_folder before.tree.nodes) (λ command. Takes a.stanza command (reached_of (ending_of result)) before.repo.view before.spool.view after.repo.view after.spool.view)

@@ -2,7 +2,6 @@
 use Rattle.std.specs.Prelude.{◌≡◌, option_map}
 use Rattle.pgb_model.specs.Text.{Text}
 use Rattle.pgb_create.specs.Server.{server_view}
-use Rattle.pgb_push.specs.Orders.{IsNamed}
 use Rattle.pgb_command.specs.declared.settings.Settings.{Settings}
 use Rattle.pgb_command.specs.declared.settings.Request as code
 use Rattle.pgb_command.specs.declared.settings.Request.TheVariants.{StanzaCreate, ArchivePush, ArchiveGet, Info}
@@ -22,7 +21,7 @@ asked_of s = record { stanza = s.stanza.now; data_folder = s.pg1_path.now; repos
 -- the order is what was asked for, with its words read
 abbrev pub IsOrder : Request → Text → Order → Type 0
 IsOrder create folder order.StanzaCreate = Unit {0}
-IsOrder (push path) folder (order.ArchivePush o) = IsNamed o × (o.folder.now ≡ folder) × (o.path.now ≡ path)
+IsOrder (push path) folder (order.ArchivePush o) = (o.folder.now ≡ folder) × (o.path.now ≡ path)
 IsOrder (get name path) folder (order.ArchiveGet o) = (o.folder.now ≡ folder) × (o.word.now ≡ name) × (o.path.now ≡ path)
 IsOrder (report form) folder (order.Info asked) = asked ≡ form
 IsOrder request folder other = ⊥

@@ -1,7 +1,6 @@
 // The commands' own parts, over all that is handed to the program: what the stages made ready goes to each.
-ghost use Rattle.std.specs.Prelude.{◌≡◌, false};
+ghost use Rattle.std.specs.Prelude.{◌≡◌, None};
 ghost use Rattle.pgb_prepare.specs.Readies.{IsReady};
-ghost use Rattle.pgb_push.specs.Orders.{IsNamed};
 ghost use Rattle.pgb_command.specs.Asked.{create as asks_create, push as asks_push, get as asks_get, report as asks_report};
 ghost use Rattle.pgb_command.specs.Did.{Ran};
 ghost use Rattle.pgb_command.specs.Told.{request_of, asked_of};
@@ -39,6 +38,7 @@ impl<
         requires ready { IsReady (plan_of (request_of settings.now.request)) settings.now.stanza.now (D.state self.old.repo).view.now (T.state self.old.tree).nodes ready.now }
         ensures ran { let told = ⟦<Outside<D, S, T, V, A, C, K, I, O> as Told>⟧.told in
             Ran (asked_of settings.now) (told self.old) (told self.new) result }
+        ensures quiet { settings.now.server ≡ None → self.new.server ≡ self.old.server }
         ensures rest { self.new ≡ record self.old { repo = self.new.repo; server = self.new.server } }
     {
         let Some(control) = &ready.control else {
@@ -62,7 +62,6 @@ impl<
         order: PushOrder<'_>,
         ready: &Ready,
     ) -> Result<Outcome, Fault>
-        requires named { IsNamed order }
         requires request { request_of settings.now.request ≡ asks_push order.path.now }
         requires folder { order.folder.now ≡ settings.now.pg1_path.now }
         requires ready { IsReady (plan_of (request_of settings.now.request)) settings.now.stanza.now (D.state self.old.repo).view.now (T.state self.old.tree).nodes ready.now }

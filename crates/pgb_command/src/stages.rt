@@ -6,6 +6,8 @@ ghost use Rattle.pgb_stage.specs.Seen.{Failed, AreRead};
 ghost use Rattle.pgb_prepare.specs.Readies.{IsReady};
 ghost use Rattle.pgb_prepare.specs.Taking.{AreNames, HoldsOnly};
 ghost use Rattle.pgb_command.specs.Did.{Ran, Did, Brackets, SamePlaces, OpensPlaces, ArePlacesOpened, TakesAll, OnlyLocked};
+ghost use Rattle.pgb_options.specs.declared.options.OutputWord.{OutputWord};
+ghost use Rattle.pgb_command.specs.Asked.{report};
 ghost use Rattle.pgb_command.specs.Told.{request_of, asked_of, IsOrder};
 ghost use Rattle.pgb_command.specs.Tables.{plan_of};
 
@@ -79,6 +81,8 @@ impl<
             Brackets (asked_of settings.now) (told self.old) (told self.new) result }
         ensures released { K.taken self.new.locks ≡ [] }
         ensures tree { plan.now.folder ≡ false → self.new.tree ≡ self.old.tree }
+        ensures quiet { settings.now.server ≡ None → self.new.server ≡ self.old.server }
+        ensures idle { plan.now.backup_lock ≡ false → plan.now.archive_lock ≡ false → self.new.locks ≡ self.old.locks }
         ensures rest { self.new ≡ record self.old { repo = self.new.repo; tree = self.new.tree; server = self.new.server; locks = self.new.locks } }
     {
         self.open(settings, plan)?;
@@ -93,6 +97,8 @@ impl<
         ensures brackets { let told = ⟦<Outside<D, S, T, V, A, C, K, I, O> as Told>⟧.told in
             Brackets (asked_of settings.now) (told self.old) (told self.new) result }
         ensures released { K.taken self.new.locks ≡ [] }
+        ensures quiet { settings.now.server ≡ None → self.new.server ≡ self.old.server }
+        ensures unused { (form : OutputWord) → request_of settings.now.request ≡ report form → (self.new.tree ≡ self.old.tree) × (self.new.locks ≡ self.old.locks) }
         ensures rest { self.new ≡ record self.old { repo = self.new.repo; tree = self.new.tree; server = self.new.server; locks = self.new.locks } }
     {
         let order = order_of(alloc, settings)?;
@@ -115,6 +121,7 @@ impl<
         ensures places { let told = ⟦<Outside<D, S, T, V, A, C, K, I, O> as Told>⟧.told in
             SamePlaces (told self.old) (told self.new) }
         ensures tree { plan.now.folder ≡ false → self.new.tree ≡ self.old.tree }
+        ensures quiet { settings.now.server ≡ None → self.new.server ≡ self.old.server }
         ensures rest { self.new ≡ record self.old { repo = self.new.repo; tree = self.new.tree; server = self.new.server } }
     {
         let ready = prepare(
@@ -150,6 +157,8 @@ impl<
         ensures only { let told = ⟦<Outside<D, S, T, V, A, C, K, I, O> as Told>⟧.told in
             OnlyLocked (asked_of settings.now) (told self.old) (told self.new) }
         ensures tree { plan.now.folder ≡ false → self.new.tree ≡ self.old.tree }
+        ensures quiet { settings.now.server ≡ None → self.new.server ≡ self.old.server }
+        ensures idle { plan.now.backup_lock ≡ false → plan.now.archive_lock ≡ false → self.new.locks ≡ self.old.locks }
         ensures rest { self.new ≡ record self.old { repo = self.new.repo; tree = self.new.tree; server = self.new.server; locks = self.new.locks } }
     {
         take_locks(
@@ -184,6 +193,8 @@ impl<
         ensures only { let told = ⟦<Outside<D, S, T, V, A, C, K, I, O> as Told>⟧.told in
             OnlyLocked (asked_of settings.now) (told self.old) (told self.new) }
         ensures tree { plan.now.folder ≡ false → self.new.tree ≡ self.old.tree }
+        ensures quiet { settings.now.server ≡ None → self.new.server ≡ self.old.server }
+        ensures idle { plan.now.backup_lock ≡ false → plan.now.archive_lock ≡ false → self.new.locks ≡ self.old.locks }
         ensures rest { self.new ≡ record self.old { repo = self.new.repo; tree = self.new.tree; server = self.new.server; locks = self.new.locks } }
     {
         let names = lock_names(alloc, plan, settings.stanza)?;
@@ -205,6 +216,7 @@ impl<
         ensures ran { let told = ⟦<Outside<D, S, T, V, A, C, K, I, O> as Told>⟧.told in
             Ran (asked_of settings.now) (told self.old) (told self.new) result }
         ensures tree { (plan_of (request_of settings.now.request)).folder ≡ false → self.new.tree ≡ self.old.tree }
+        ensures quiet { settings.now.server ≡ None → self.new.server ≡ self.old.server }
         ensures rest { self.new ≡ record self.old { repo = self.new.repo; tree = self.new.tree; server = self.new.server } }
     {
         match order {

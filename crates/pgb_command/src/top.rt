@@ -4,7 +4,8 @@ ghost use Rattle.pgb_model.specs.Text.{Text};
 ghost use Rattle.pgb_options.specs.Commands.{IsCommand};
 ghost use Rattle.pgb_options.specs.Settings.{Settled};
 ghost use Rattle.pgb_command.specs.Asked.{Asked, IsAsked, MayAsk, Asks, requested};
-ghost use Rattle.pgb_command.specs.Causes.{Answers, Obeys, Carries, AllDone, PartDone, IsEarly, NoneDone, Completes, IsServerRefusal};
+ghost use Rattle.pgb_command.specs.Causes.{Answers, Obeys, Each, Finishes, PartDone, IsEarly, TurnsBack, Fulfils, LeavesRest, Completes};
+ghost use Rattle.pgb_command.specs.Did.{OpensPlaces, OnlyLocked};
 
 use crate::config::read_command;
 use crate::fault::Fault;
@@ -74,9 +75,39 @@ pub fn run<
 ) -> u8
     requires free { K.taken outside.old.locks ≡ [] }
 
-    // The words are refused, and nothing is done; or what they settle is done and told.
+    // The words are refused, and nothing is done; or what they settle is done, with its cause, and told. All that follows is
+    // a part of this, for each command that the words ask for.
     ensures answers { let told = ⟦<Outside<D, S, T, V, A, C, K, I, O> as Told>⟧.told in
         Answers (map string_bytes words.now) (told outside.old) (told outside.new) result }
+
+    // At 0 all of the command's steps are done: in what the disks hold, and in all that a stop leaves.
+    ensures done { let told = ⟦<Outside<D, S, T, V, A, C, K, I, O> as Told>⟧.told in
+        result ≡ 0 → Each (map string_bytes words.now) (I.files outside.old.config) (λ a. Finishes a (told outside.old) (told outside.new)) }
+
+    // After every answer a part of them is, and at each moment between whatever a stop leaves stands for the log with a part.
+    ensures part { let told = ⟦<Outside<D, S, T, V, A, C, K, I, O> as Told>⟧.told in
+        Each (map string_bytes words.now) (I.files outside.old.config) (λ a. PartDone a (told outside.old) (told outside.new)) }
+
+    // A refusal for what was found takes no step, nor does one for a connection to the server that failed.
+    ensures stays { let told = ⟦<Outside<D, S, T, V, A, C, K, I, O> as Told>⟧.told in
+        IsEarly result → Each (map string_bytes words.now) (I.files outside.old.config) (λ a. TurnsBack a (told outside.old) (told outside.new)) }
+
+    // At 0 and 1 the command keeps its promise, and its lines are written.
+    ensures fulfils { let told = ⟦<Outside<D, S, T, V, A, C, K, I, O> as Told>⟧.told in
+        result ≤ 1 → Each (map string_bytes words.now) (I.files outside.old.config)
+        (λ a. Fulfils a (told outside.old) (told outside.new) result) }
+
+    // What the command has no use for stays, no place but those of the words is opened, and without its locks nothing is done.
+    ensures rests { let told = ⟦<Outside<D, S, T, V, A, C, K, I, O> as Told>⟧.told in
+        Each (map string_bytes words.now) (I.files outside.old.config) (λ a. LeavesRest a (told outside.old) (told outside.new)) }
+    ensures places { let told = ⟦<Outside<D, S, T, V, A, C, K, I, O> as Told>⟧.told in
+        Each (map string_bytes words.now) (I.files outside.old.config) (λ a. OpensPlaces a (told outside.old) (told outside.new)) }
+    ensures locked { let told = ⟦<Outside<D, S, T, V, A, C, K, I, O> as Told>⟧.told in
+        Each (map string_bytes words.now) (I.files outside.old.config) (λ a. OnlyLocked a (told outside.old) (told outside.new)) }
+
+    // Where no cause of a refusal holds the answer is Ok, or that the file isn't there, or want of memory.
+    ensures complete { let told = ⟦<Outside<D, S, T, V, A, C, K, I, O> as Told>⟧.told in
+        Completes (map string_bytes words.now) (told outside.old) (told outside.new) result }
 
     ensures released { K.taken outside.new.locks ≡ [] }
     ensures files { I.files outside.new.config ≡ I.files outside.old.config }

@@ -1,0 +1,7 @@
+mod Stops
+mod Searches
+mod ServedPaths
+mod Folders
+mod Passes
+mod Fetches
+mod Archived

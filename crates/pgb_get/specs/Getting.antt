@@ -55,7 +55,8 @@ HasSame history told = (c : ClusterId) × In c history × IsSame told c
 
 -- no such cluster with a higher number has the file
 abbrev pub NoneAbove : List ClusterId → Text → Control → ArchiveName → ClusterId → Content → Type 0
-NoneAbove history stanza told name c f = (d : ClusterId) → In d history → IsSame told d → c.id < d.id → StoresNone stanza (id_kept d) name f
+NoneAbove history stanza told name c f =
+    (d : ClusterId) → In d history → IsSame told d → c.id < d.id → StoresNone stanza (id_kept d) name f
 
 -- the highest of them that has the file has these bytes
 pub record FoundIn (history : List ClusterId) (stanza : Text) (told : Control) (name : ArchiveName) (bytes : Text) (f : Content) : Type 0 where
@@ -89,12 +90,22 @@ pub record IsWanted (folder word path : Text) (nodes : Option Nodes) (name : Arc
   pub inside : IsPath (served_path folder path)
   pub tells : IfSome nodes (λ f. FolderTells f told)
 
+-- the archive pair's history has the file with these bytes, under the highest id that has it
+abbrev pub IsFound : Text → Control → ArchiveName → Option Content → Text → Type 0
+IsFound stanza told name repo bytes =
+    IfSome repo (λ f. OnHistory stanza f (λ v. FoundIn v.history stanza told name bytes f))
+
+-- it has clusters of the data folder, and none of them has the file
+abbrev pub IsAbsent : Text → Control → ArchiveName → Option Content → Type 0
+IsAbsent stanza told name repo =
+    IfSome repo (λ f. OnHistory stanza f (λ v. HasSame v.history told × AbsentIn v.history stanza told name f))
+
 -- the repository has the file with these bytes
 pub record IsServed (stanza folder word path : Text) (repo : Option Content) (nodes : Option Nodes) (bytes : Text) : Type 0 where
   pub name : ArchiveName
   pub told : Control
   pub wanted : IsWanted folder word path nodes name told
-  pub found : IfSome repo (λ f. OnHistory stanza f (λ v. FoundIn v.history stanza told name bytes f))
+  pub found : IsFound stanza told name repo bytes
 
 -- a file of these bytes is at the path
 abbrev pub HasFile : Text → Text → Nodes → Type 0
@@ -108,22 +119,25 @@ pub record IsPut (path bytes : Text) (f : Nodes) : Type 0 where
 -- and the data folder has them now at the path
 abbrev pub Serves : Text → Text → Text → Text → Option Content → Option Nodes → Option Nodes → Type 0
 Serves stanza folder word path repo nodes now_nodes =
-    (bytes : Text) × IsServed stanza folder word path repo nodes bytes × IfSome now_nodes (IsPut (served_path folder path) bytes)
+    (bytes : Text) × IsServed stanza folder word path repo nodes bytes
+    × IfSome now_nodes (IsPut (served_path folder path) bytes)
 
 -- no id has the file of this name
 pub record IsMissing (stanza folder word path : Text) (repo : Option Content) (nodes : Option Nodes) : Type 0 where
   pub name : ArchiveName
   pub told : Control
   pub wanted : IsWanted folder word path nodes name told
-  pub absent : IfSome repo (λ f. OnHistory stanza f (λ v. HasSame v.history told × AbsentIn v.history stanza told name f))
+  pub absent : IsAbsent stanza told name repo
 
--- of the stanza's clusters that are the data folder's, the one of the highest number under whose id the file is archived has it with these bytes
+-- of the stanza's clusters that are the data folder's, the one of the highest number under whose id the file is
+-- archived has it with these bytes
 pub record IsArchivedFirst (s : Stanza) (told : Control) (name : ArchiveName) (bytes : Text) : Type 0 where
   pub cluster : Cluster
   pub listed : In cluster s.history
   pub same : IsSame told (identity_of cluster)
   pub archived : In (archived_file (id_of cluster) name bytes) s.archived
-  pub above : (d : Cluster) → In d s.history → IsSame told (identity_of d) → cluster.id < d.id → IsUnarchived (id_of d) name s.archived
+  pub above : (d : Cluster) → In d s.history → IsSame told (identity_of d) → cluster.id < d.id
+      → IsUnarchived (id_of d) name s.archived
 
 -- the data folder has at the path what the repository has archived
 pub record ServesArchived (s : Stanza) (folder word path : Text) (nodes now_nodes : Option Nodes) : Type 0 where
@@ -141,7 +155,8 @@ pub record LacksArchived (s : Stanza) (folder word path : Text) (nodes : Option 
   pub wanted : IsWanted folder word path nodes name told
   pub none : (d : Cluster) → In d s.history → IsSame told (identity_of d) → IsUnarchived (id_of d) name s.archived
 
--- The data folder is as it was but for one path and its temporary name; at the path is what was there, or a whole file with bytes of which this holds.
+-- The data folder is as it was but for one path and its temporary name; at the path is what was there, or a whole file
+-- with bytes of which this holds.
 pub record ChangesPath (path : Text) (IsOf : Text → Type 0) (old new : Option Nodes) : Type 0 where
   pub told : IsSome old → IsSome new
   pub others : (q : Name) → q ≢ path → q ≢ temporary_path path → at q new ≡ at q old
@@ -151,12 +166,18 @@ pub record ChangesPath (path : Text) (IsOf : Text → Type 0) (old new : Option 
 
 -- of the archive pair's history, the highest id that has the file has it twice, damaged, or too long
 abbrev pub RefusedOf : Text → Control → ArchiveName → Option Content → ArchiveFault → Type 0
-RefusedOf stanza told name repo fault = (v : ArchiveInfo) × IfSome repo (λ f. PairIs IsArchiveText f (archive_info stanza) v) × RefusedIn v.history stanza told name repo fault
+RefusedOf stanza told name repo fault =
+    (v : ArchiveInfo) × IfSome repo (λ f. PairIs IsArchiveText f (archive_info stanza) v)
+    × RefusedIn v.history stanza told name repo fault
+
+-- this is the archive pair's current cluster, and none of its history is the data folder's
+abbrev pub IsForeign : Text → Control → ClusterId → Content → Type 0
+IsForeign stanza told c f = OnHistory stanza f (λ v. (at_number v.current v.history ≡ Some c) × ¬ HasSame v.history told)
 
 -- why a file isn't had from the repository, for a data folder that tells this
 abbrev pub FetchCause : Text → Control → ArchiveName → Option Content → GetFault → Type 0
 FetchCause stanza told name repo (StanzaMismatch kept found) = (found ≡ identity_told told)
-    × ((c : ClusterId) × (kept ≡ identity_kept c) × IfSome repo (λ f. OnHistory stanza f (λ v. (at_number v.current v.history ≡ Some c) × ¬ HasSame v.history told)))
+    × ((c : ClusterId) × (kept ≡ identity_kept c) × IfSome repo (IsForeign stanza told c))
 FetchCause stanza told name repo (Ambiguous first second) = RefusedOf stanza told name repo (AmbiguousOf first second)
 FetchCause stanza told name repo (SegmentDamaged sum found) = RefusedOf stanza told name repo (DamagedOf sum found)
 FetchCause stanza told name repo (TooLong path limit) = RefusedOf stanza told name repo (LongOf path limit)
@@ -168,12 +189,16 @@ AreWords folder word path name = IsFileName word name × IsPath (served_path fol
 
 -- the cause is of what the words want
 abbrev pub WantedCause : Text → Text → Text → Text → Option Content → Option Nodes → GetFault → Type 0
-WantedCause stanza folder word path repo nodes fault = (name : ArchiveName) × (told : Control) × IsWanted folder word path nodes name told × FetchCause stanza told name repo fault
+WantedCause stanza folder word path repo nodes fault =
+    (name : ArchiveName) × (told : Control) × IsWanted folder word path nodes name told
+    × FetchCause stanza told name repo fault
 
 -- why the words are refused
 abbrev pub WordsCause : Text → Text → Text → GetFault → Type 0
-WordsCause folder word path (SegmentName told) = (string_bytes told ≡ word) × ((name : ArchiveName) → ¬ IsFileName word name)
-WordsCause folder word path (PathOutside told) = (string_bytes told ≡ path) × ((name : ArchiveName) × IsFileName word name) × ¬ IsPath (served_path folder path)
+WordsCause folder word path (SegmentName told) =
+    (string_bytes told ≡ word) × ((name : ArchiveName) → ¬ IsFileName word name)
+WordsCause folder word path (PathOutside told) =
+    (string_bytes told ≡ path) × ((name : ArchiveName) × IsFileName word name) × ¬ IsPath (served_path folder path)
 WordsCause folder word path other = ⊥
 
 -- Why archive-get is refused: the words come first.
@@ -190,8 +215,10 @@ get_early fault = true
 
 -- the file was served, or nothing was found
 abbrev pub GotBy : Text → Text → Text → Text → Option Content → Option Nodes → Option Nodes → Outcome → Type 0
-GotBy stanza folder word path repo nodes now_nodes (Finished lines) = (string_bytes lines ≡ []) × Serves stanza folder word path repo nodes now_nodes
-GotBy stanza folder word path repo nodes now_nodes (Absent name) = (string_bytes name ≡ word) × IsMissing stanza folder word path repo nodes
+GotBy stanza folder word path repo nodes now_nodes (Finished lines) =
+    (string_bytes lines ≡ []) × Serves stanza folder word path repo nodes now_nodes
+GotBy stanza folder word path repo nodes now_nodes (Absent name) =
+    (string_bytes name ≡ word) × IsMissing stanza folder word path repo nodes
 
 -- the same, of the stanza that the repository stands for
 abbrev pub GivenBy : Stanza → Text → Text → Text → Option Nodes → Option Nodes → Outcome → Type 0

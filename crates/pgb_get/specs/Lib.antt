@@ -1,2 +1,4 @@
 pub mod Getting
+pub mod Serving
 pub mod Texts
+pub mod Words

@@ -23,6 +23,7 @@ abbrev pub get_message : GetFault → Text
 get_message (SegmentName name) = codes "'" ++ (shown (string_bytes name) ++ codes "' is no WAL file name")
 get_message (PathOutside path) = codes "path '" ++ (shown (string_bytes path) ++ codes "' is outside the data folder")
 get_message (StanzaMismatch kept found) = mismatch_text kept found
-get_message (Ambiguous first second) = codes "'" ++ (string_bytes first ++ (codes "' and '" ++ (string_bytes second ++ codes "' are both stored")))
+get_message (Ambiguous first second) =
+    codes "'" ++ (string_bytes first ++ (codes "' and '" ++ (string_bytes second ++ codes "' are both stored")))
 get_message (SegmentDamaged told found) = sums_text told found
 get_message (TooLong name limit) = long_text (string_bytes name) limit

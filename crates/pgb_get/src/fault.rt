@@ -1,5 +1,6 @@
 // What archive-get finds alone.
 ghost use Rattle.std.specs.Prelude.{◌≡◌};
+ghost use Rattle.pgb_get.specs.Serving.{of_archive};
 
 use pgb_archive::ArchiveFault;
 use pgb_stage::{Halt, Object};
@@ -23,3 +24,27 @@ pub enum GetFault {
     TooLong { name: String, limit: u64 },
 }
 
+/// What a fault of the archive is to archive-get.
+pub(crate) fn of_archive(fault: ArchiveFault) -> Halt<GetFault>
+    ensures { result ≡ of_archive fault }
+{
+    match fault {
+        ArchiveFault::Ambiguous { first, second } => {
+            Halt::Refused(GetFault::Ambiguous { first, second })
+        }
+        ArchiveFault::SegmentDamaged { told, found } => {
+            Halt::Refused(GetFault::SegmentDamaged { told, found })
+        }
+        ArchiveFault::TooLong { name, limit } => Halt::Refused(GetFault::TooLong { name, limit }),
+        ArchiveFault::Disk => Halt::Failed(Object::Repo),
+        // That a file isn't there is no refusal, and is told by its reader. The others come of files that are stored or
+        // listed.
+        ArchiveFault::NotFound
+        | ArchiveFault::NoMemory
+        | ArchiveFault::HeaderForm { .. }
+        | ArchiveFault::SegmentSize { .. }
+        | ArchiveFault::HeaderMismatch { .. }
+        | ArchiveFault::Duplicate { .. }
+        | ArchiveFault::TooMany { .. } => Halt::NoMemory,
+    }
+}

@@ -3,7 +3,9 @@
 
 mod archive_get;
 mod fault;
+mod finding;
 mod order;
+mod serving;
 mod texts;
 
 pub use archive_get::get_file;

@@ -3,6 +3,7 @@ ghost use Rattle.std.specs.Prelude.{◌≡◌, ◌++◌, codes, string_bytes, If
 ghost use Rattle.pgb_model.specs.Paths.{IsPath};
 ghost use Rattle.pgb_stage.specs.Halts.{HaltCause};
 ghost use Rattle.pgb_get.specs.Getting.{AreWords, served_path, WordsCause};
+ghost use Rattle.pgb_get.specs.Words.{AreWords-prop};
 
 use crate::fault::GetFault;
 use pgb_model::ArchiveName;
@@ -21,6 +22,26 @@ pub struct GetOrder<'a> {
     pub name: ArchiveName,
     /// The path below the data folder.
     pub inside: &'a str,
+    // The words name a file of the archive and a path in the data folder.
+    ghost wanted: { AreWords folder.now word.now path.now name } by { AreWords-prop folder.now word.now path.now name },
+    ghost below: { inside.now ≡ served_path folder.now path.now },
+}
+
+fn front_of(alloc: Global, folder: &str) -> Result<String, AllocError>
+    ensures { IfOk result (λ front. string_bytes front ≡ folder.now ++ codes "/") }
+{
+    format!(in alloc; "{folder}/")
+}
+
+// The path below the data folder.
+fn served_path<'a>(alloc: Global, folder: &str, path: &'a str) -> Result<&'a str, AllocError>
+    ensures { IfOk result (λ inside. inside.now ≡ served_path folder.now path.now) }
+{
+    let front = front_of(alloc, folder)?;
+    match path.strip_prefix(front.as_str()) {
+        Some(inside) => Ok(inside),
+        None => Ok(path),
+    }
 }
 
 /// The order that the words give.
@@ -30,8 +51,27 @@ pub fn get_order<'a>(
     word: &'a str,
     path: &'a str,
 ) -> Result<GetOrder<'a>, Halt<GetFault>>
-    ensures order { IfOk result (λ o. (o.folder.now ≡ folder.now) × (o.word.now ≡ word.now) × (o.path.now ≡ path.now)) }
-    ensures cause { IfErr result (HaltCause (WordsCause folder.now word.now path.now) (λ _. ⊥)) }
+    ensures order { IfOk result (λ o. (o.folder.now ≡ folder.now) × (o.word.now ≡ word.now)
+        × (o.path.now ≡ path.now)) }
+    ensures cause { IfErr result (HaltCause
+        (WordsCause folder.now word.now path.now) (λ _. ⊥)) }
 {
-    Err(Halt::NoMemory)
+    let Some(name) = read_archive_name(word.as_bytes()) else {
+        return Err(Halt::Refused(GetFault::SegmentName {
+            name: String::from_str(alloc, word)?,
+        }));
+    };
+    let inside = served_path(alloc, folder, path)?;
+    if check_name(inside).is_err() {
+        return Err(Halt::Refused(GetFault::PathOutside {
+            path: String::from_str(alloc, path)?,
+        }));
+    }
+    Ok(GetOrder {
+        folder,
+        word,
+        path,
+        name,
+        inside,
+    })
 }

@@ -1,0 +1,6 @@
+mod EntryLines
+mod Ends
+mod ReportNames
+mod EndNames
+mod Places
+mod Reported

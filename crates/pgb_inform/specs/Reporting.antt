@@ -1,5 +1,5 @@
 -- What info reports (pgBackRest command reference, "Info Command").
-use Rattle.std.specs.Prelude.{◌≡◌, ◌⊎◌, false, List, map, Option, None, IfSome, string_bytes}
+use Rattle.std.specs.Prelude.{◌≡◌, false, List, map, Option, None, IfSome, string_bytes}
 use Rattle.pgb_outside.specs.Content.{Content}
 use Rattle.pgb_outside.specs.Order.{is_before}
 use Rattle.pgb_model.specs.declared.clusters.ClusterId.{ClusterId}
@@ -38,12 +38,16 @@ pub record AreRound (id : ArchiveId) (segment : Segment) (names : List ArchivedN
   pub first : (t : Segment) × In (named id t) names × (is_before (segment_text segment) (segment_text t) ≡ false)
   pub last : (t : Segment) × In (named id t) names × (is_before (segment_text t) (segment_text segment) ≡ false)
 
--- The names are of stored whole segments of these clusters, and of each cluster all that are stored lie between them. So they have the first and the last.
+-- The names are of stored whole segments of these clusters, and of each cluster all that are stored lie between them.
+-- So they have the first and the last.
 pub record HaveEnds (stanza : Text) (history : List ClusterId) (f : Content) (names : List ArchivedName) : Type 0 where
-  pub each : (n : ArchivedName) → In n names → (c : ClusterId) × (segment : Segment) × In c history × (n ≡ named (id_kept c) segment) × StoresWhole stanza (id_kept c) f segment
-  pub round : (c : ClusterId) → In c history → (segment : Segment) → StoresWhole stanza (id_kept c) f segment → AreRound (id_kept c) segment names
+  pub each : (n : ArchivedName) → In n names → (c : ClusterId) × (segment : Segment) × In c history
+      × (n ≡ named (id_kept c) segment) × StoresWhole stanza (id_kept c) f segment
+  pub round : (c : ClusterId) → In c history → (segment : Segment) → StoresWhole stanza (id_kept c) f segment
+      → AreRound (id_kept c) segment names
 
--- the lines are the report on what the repository holds: the values of its two pairs, and the first and the last stored segment of each cluster
+-- the lines are the report on what the repository holds: the values of its two pairs, and the first and the last stored
+-- segment of each cluster
 pub record IsReported (stanza : Text) (form : OutputWord) (repo : Option Content) (lines : Text) : Type 0 where
   pub archive : ArchiveInfo
   pub backup : BackupInfo
@@ -60,7 +64,8 @@ archived_as a = record { id = a.id; name = a.name }
 
 -- the lines are the report on the stanza: its history, its backups, and its archived files
 abbrev pub ReportsStanza : OutputWord → Text → Stanza → Text → Type 0
-ReportsStanza form stanza s lines = lines ≡ report_by form stanza (archive_value s) (backup_value s None) (map archived_as s.archived)
+ReportsStanza form stanza s lines =
+    lines ≡ report_by form stanza (archive_value s) (backup_value s None) (map archived_as s.archived)
 
 -- ---- how info ended
 

@@ -1,0 +1,6 @@
+pub mod WalNames
+pub mod Logged
+pub mod Doings
+pub mod Stores
+pub mod StoreCauses
+pub mod Opened

@@ -1,5 +1,5 @@
 -- Why archive-push answers so.
-use Rattle.std.specs.Prelude.{◌≡◌, ◌≢◌, ◌⊎◌, [], Option, IfSome, string_bytes}
+use Rattle.std.specs.Prelude.{◌≡◌, ◌≢◌, ◌⊎◌, [], Option, IfSome}
 use Rattle.sha1.specs.Sha1.{sha1}
 use Rattle.pgb_outside.specs.Content.{Content}
 use Rattle.pgb_outside.specs.Tree.{Nodes}
@@ -23,23 +23,27 @@ use Rattle.pgb_push.specs.WalCause.{WordCause, FileCause}
 use Rattle.pgb_push.specs.Outcomes.{same_line}
 
 -- the data folder tells this cluster, and the archive pair has it as its current one
-pub record IsCurrent (stanza : Text) (repo : Option Content) (nodes : Option Nodes) (told : Control) (c : ClusterId) : Type 0 where
+pub record IsCurrent (stanza : Text) (repo : Option Content) (nodes : Option Nodes) (told : Control)
+    (c : ClusterId) : Type 0 where
   pub tells : IfSome nodes (λ f. FolderTells f told)
   pub current : IfSome repo (λ f. HasCurrent stanza f c)
   pub same : identity_kept c ≡ identity_told told
 
 -- and the word names a file of the log, of which the data folder has these bytes
-pub record IsReady (stanza folder path : Text) (repo : Option Content) (nodes : Option Nodes) (wal : ArchiveName) (bytes : Text) (told : Control) (c : ClusterId) : Type 0 where
+pub record IsReady (stanza folder path : Text) (repo : Option Content) (nodes : Option Nodes) (wal : ArchiveName)
+    (bytes : Text) (told : Control) (c : ClusterId) : Type 0 where
   pub has : IfSome nodes (λ f. HasWal f folder path wal bytes)
   pub of : IsCurrent stanza repo nodes told c
 
 -- the stanza's current cluster isn't the one that the data folder tells
 abbrev pub MismatchCause : Text → Option Content → Option Nodes → Identity → Identity → Type 0
 MismatchCause stanza repo nodes kept found = (told : Control) × IfSome nodes (λ f. FolderTells f told)
-    × ((kept ≢ found) × (found ≡ identity_told told) × ((c : ClusterId) × (kept ≡ identity_kept c) × IfSome repo (λ f. HasCurrent stanza f c)))
+    × ((kept ≢ found) × (found ≡ identity_told told)
+    × ((c : ClusterId) × (kept ≡ identity_kept c) × IfSome repo (λ f. HasCurrent stanza f c)))
 
 -- the file is refused for its content
-pub record IsRefusedPush (stanza folder path : Text) (repo : Option Content) (nodes : Option Nodes) (fault : ArchiveFault) : Type 0 where
+pub record IsRefusedPush (stanza folder path : Text) (repo : Option Content) (nodes : Option Nodes)
+    (fault : ArchiveFault) : Type 0 where
   pub wal : ArchiveName
   pub bytes : Text
   pub told : Control
@@ -48,7 +52,8 @@ pub record IsRefusedPush (stanza folder path : Text) (repo : Option Content) (no
   pub cause : StoringCause stanza (id_kept current) wal told.system bytes repo ⊥ fault
 
 -- the file isn't there or is too long, and all that is looked at before is well
-pub record IsRefusedFile (stanza folder path : Text) (repo : Option Content) (nodes : Option Nodes) (fault : PushFault) : Type 0 where
+pub record IsRefusedFile (stanza folder path : Text) (repo : Option Content) (nodes : Option Nodes)
+    (fault : PushFault) : Type 0 where
   pub wal : ArchiveName
   pub named : IsWalPath folder path wal
   pub told : Control
@@ -61,16 +66,24 @@ abbrev pub PushCause : Text → Text → Text → Option Content → Option Node
 PushCause stanza folder path repo nodes (SegmentName word) = WordCause folder path (SegmentName word)
 PushCause stanza folder path repo nodes (PathOutside word) = WordCause folder path (PathOutside word)
 PushCause stanza folder path repo nodes (StanzaMismatch kept found) = MismatchCause stanza repo nodes kept found
-PushCause stanza folder path repo nodes (SegmentMissing word) = IsRefusedFile stanza folder path repo nodes (SegmentMissing word)
-PushCause stanza folder path repo nodes (TooLong word limit) = IsRefusedFile stanza folder path repo nodes (TooLong word limit) ⊎ IsRefusedPush stanza folder path repo nodes (LongOf word limit)
+PushCause stanza folder path repo nodes (SegmentMissing word) =
+    IsRefusedFile stanza folder path repo nodes (SegmentMissing word)
+PushCause stanza folder path repo nodes (TooLong word limit) =
+    IsRefusedFile stanza folder path repo nodes (TooLong word limit)
+    ⊎ IsRefusedPush stanza folder path repo nodes (LongOf word limit)
 PushCause stanza folder path repo nodes (HeaderForm info) = IsRefusedPush stanza folder path repo nodes (FormOf info)
-PushCause stanza folder path repo nodes (SegmentSize told found) = IsRefusedPush stanza folder path repo nodes (SizeOf told found)
-PushCause stanza folder path repo nodes (HeaderMismatch kept found) = IsRefusedPush stanza folder path repo nodes (MismatchOf kept found)
-PushCause stanza folder path repo nodes (Ambiguous first second) = IsRefusedPush stanza folder path repo nodes (AmbiguousOf first second)
-PushCause stanza folder path repo nodes (Duplicate kept found) = IsRefusedPush stanza folder path repo nodes (DuplicateOf kept found)
+PushCause stanza folder path repo nodes (SegmentSize told found) =
+    IsRefusedPush stanza folder path repo nodes (SizeOf told found)
+PushCause stanza folder path repo nodes (HeaderMismatch kept found) =
+    IsRefusedPush stanza folder path repo nodes (MismatchOf kept found)
+PushCause stanza folder path repo nodes (Ambiguous first second) =
+    IsRefusedPush stanza folder path repo nodes (AmbiguousOf first second)
+PushCause stanza folder path repo nodes (Duplicate kept found) =
+    IsRefusedPush stanza folder path repo nodes (DuplicateOf kept found)
 
 -- Ok of archive-push, with its lines: none where the file wasn't stored, and a warning where it was, with the same sum.
-pub record IsStored (stanza folder path : Text) (repo : Option Content) (nodes : Option Nodes) (lines : Text) : Type 0 where
+pub record IsStored (stanza folder path : Text) (repo : Option Content) (nodes : Option Nodes)
+    (lines : Text) : Type 0 where
   pub wal : ArchiveName
   pub bytes : Text
   pub told : Control

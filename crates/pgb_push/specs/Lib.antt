@@ -1,6 +1,7 @@
 pub mod WalPath
-pub mod Orders
+pub mod WalProps
 pub mod WalCause
+pub mod LogFile
 pub mod Faults
 pub mod Commands
 pub mod Causes

@@ -25,7 +25,11 @@ push_message (StanzaMismatch kept found) = mismatch_text kept found
 push_message (SegmentMissing path) = codes "'" ++ (shown (string_bytes path) ++ codes "' is missing")
 push_message (TooLong name limit) = long_text (string_bytes name) limit
 push_message (HeaderForm info) = codes "WAL header is not valid"
-push_message (SegmentSize told found) = codes "segment size " ++ (decimal told ++ (codes ", found " ++ (decimal found ++ codes " bytes")))
-push_message (HeaderMismatch kept found) = codes "stanza has system " ++ (decimal kept ++ (codes ", WAL has system " ++ decimal found))
-push_message (Ambiguous first second) = codes "'" ++ (string_bytes first ++ (codes "' and '" ++ (string_bytes second ++ codes "' are both stored")))
-push_message (Duplicate kept found) = codes "archived with checksum " ++ (sum_text kept.0 ++ (codes ", now " ++ sum_text found.0))
+push_message (SegmentSize told found) =
+    codes "segment size " ++ (decimal told ++ (codes ", found " ++ (decimal found ++ codes " bytes")))
+push_message (HeaderMismatch kept found) =
+    codes "stanza has system " ++ (decimal kept ++ (codes ", WAL has system " ++ decimal found))
+push_message (Ambiguous first second) =
+    codes "'" ++ (string_bytes first ++ (codes "' and '" ++ (string_bytes second ++ codes "' are both stored")))
+push_message (Duplicate kept found) =
+    codes "archived with checksum " ++ (sum_text kept.0 ++ (codes ", now " ++ sum_text found.0))

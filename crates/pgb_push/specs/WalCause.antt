@@ -11,12 +11,17 @@ use Rattle.pgb_push.specs.WalPath.{IsLastElement, wal_path, IsWalPath}
 
 -- the word isn't that of a file in the log's folder
 abbrev pub WordCause : Text → Text → PushFault → Type 0
-WordCause folder path (SegmentName word) = IsLastElement path (string_bytes word) × ((name : ArchiveName) → IsWalName name → string_bytes word ≢ wal_text name)
-WordCause folder path (PathOutside word) = (string_bytes word ≡ path) × ((name : ArchiveName) → ¬ IsWalPath folder path name) × ((name : ArchiveName) × IsLastElement path (wal_text name))
+WordCause folder path (SegmentName word) = IsLastElement path (string_bytes word)
+    × ((name : ArchiveName) → IsWalName name → string_bytes word ≢ wal_text name)
+WordCause folder path (PathOutside word) = (string_bytes word ≡ path)
+    × ((name : ArchiveName) → ¬ IsWalPath folder path name)
+    × ((name : ArchiveName) × IsLastElement path (wal_text name))
 WordCause folder path other = ⊥
 
 -- the data folder hasn't the file, or it is too long
 abbrev pub FileCause : Text → Text → ℕ → Option Nodes → PushFault → Type 0
-FileCause path name limit nodes (SegmentMissing word) = (string_bytes word ≡ path) × IfSome nodes (λ f. file_bytes (f (wal_path name)) ≡ None)
-FileCause path name limit nodes (TooLong word most) = (string_bytes word ≡ wal_path name) × (most ≡ limit) × IfSome nodes (λ f. IsSomeAnd (file_bytes (f (wal_path name))) (λ b. limit < length b))
+FileCause path name limit nodes (SegmentMissing word) = (string_bytes word ≡ path)
+    × IfSome nodes (λ f. file_bytes (f (wal_path name)) ≡ None)
+FileCause path name limit nodes (TooLong word most) = (string_bytes word ≡ wal_path name) × (most ≡ limit)
+    × IfSome nodes (λ f. IsSomeAnd (file_bytes (f (wal_path name))) (λ b. limit < length b))
 FileCause path name limit nodes other = ⊥

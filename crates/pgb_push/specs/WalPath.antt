@@ -9,7 +9,8 @@ use Rattle.pgb_model.specs.Stands.{IsWalName}
 
 -- what follows the last slash of a path, or the path where it has none
 abbrev pub IsLastElement : Text → Text → Type 0
-IsLastElement path last = AllByRecursion (λ c. c ≢ 47) last × ((path ≡ last) ⊎ ((front : Text) × (path ≡ front ++ 47 ∷ last)))
+IsLastElement path last = AllByRecursion (λ c. c ≢ 47) last
+    × ((path ≡ last) ⊎ ((front : Text) × (path ≡ front ++ 47 ∷ last)))
 
 -- the file's path below the data folder
 abbrev pub wal_path : Text → Text

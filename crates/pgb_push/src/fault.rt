@@ -51,7 +51,7 @@ fn of_archive(fault: ArchiveFault) -> Halt<PushFault>
         }
         ArchiveFault::TooLong { name, limit } => Halt::Refused(PushFault::TooLong { name, limit }),
         ArchiveFault::Disk => Halt::Failed(Object::Repo),
-        // A push neither reads a stored file whole nor lists any.
+        // No push ends with one of the first three: its cause is empty.
         ArchiveFault::NotFound
         | ArchiveFault::SegmentDamaged { .. }
         | ArchiveFault::TooMany { .. }

@@ -1,7 +1,9 @@
 //! archive-push: a file of the data folder's log is stored in the archive.
 #![tactic(auto)]
 
+mod current;
 mod fault;
+mod log_file;
 mod order;
 mod pushing;
 mod texts;

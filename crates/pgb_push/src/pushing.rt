@@ -18,11 +18,13 @@ ghost use Rattle.pgb_stage.specs.Runs.{OnNone, Does};
 ghost use Rattle.pgb_push.specs.Causes.{IsCurrent, IsStored, PushCause};
 ghost use Rattle.pgb_push.specs.Commands.{IsPushOf};
 ghost use Rattle.pgb_push.specs.Faults.{push_early};
-ghost use Rattle.pgb_push.specs.Orders.{IsNamed};
+ghost use Rattle.pgb_push.specs.LogFile.{IsOpened};
 ghost use Rattle.pgb_push.specs.Outcomes.{OnFinished, pushed_lines};
 ghost use Rattle.pgb_push.specs.WalPath.{wal_path};
 
+use crate::current::id_of;
 use crate::fault::{PushFault, of_store};
+use crate::log_file::{LogFile, open_log_file};
 use crate::order::PushOrder;
 use pgb_archive::{Pushed, push_from};
 use pgb_model::{ArchiveId, ArchiveInfo, ArchiveName};
@@ -31,6 +33,79 @@ use pgb_stage::{Halt, Outcome};
 use pgb_stanza::Control;
 use std::alloc::{AllocError, Global};
 
+// A segment has at most 1 GiB, and a history 1 MiB.
+fn limit_of(name: &ArchiveName) -> u64
+    ensures limit { result ≡ limit_of name.now }
+    ensures least { 65536 ≤ result }
+{
+    match name {
+        ArchiveName::Segment(_) | ArchiveName::Partial(_) => 1 << 30,
+        ArchiveName::History(_) | ArchiveName::Backup(..) => 1 << 20,
+    }
+}
+
+// What a push tells: a warning where the file was stored.
+fn pushed_lines(alloc: Global, pushed: Pushed, name: &str) -> Result<String, AllocError>
+    ensures { IfOk result (λ lines. string_bytes lines ≡ pushed_lines pushed name.now) }
+{
+    match pushed {
+        Pushed::New => Ok(String::new(alloc)),
+        Pushed::Same => format!(in alloc;
+            "WARN: {name} is already in the archive with the same checksum\n"
+        ),
+    }
+}
+
+// Stores the file that was opened.
+fn store<D: Disk, T: Tree>(
+    alloc: Global,
+    repo: &mut D,
+    tree: &mut T,
+    stanza: &str,
+    order: &PushOrder<'_>,
+    told: &Control,
+    id: &ArchiveId,
+    log: &LogFile,
+) -> Result<Outcome, Halt<PushFault>>
+    requires opened { IsOpened (T.state tree.old).nodes (wal_path (wal_text order.now.name)) log.now }
+    requires fits { (id.now.version < 2 ^ 32) × (id.now.number < 2 ^ 32) }
+    requires current { (c : ClusterId) × (id.now ≡ id_kept c)
+        × IsCurrent stanza.now (D.state repo.old).view.now (T.state tree.old).nodes told.now c }
+    ensures does { (command : Command)
+        → IsSomeAnd (T.state tree.old).nodes (λ f. IsPushOf f order.now.folder.now order.now.path.now command)
+        → Does stanza.now command (reached_by push_early result) (D.state repo.old).view (D.state repo.new).view }
+    ensures stored { IfOk result (λ o. OnFinished o (IsStored stanza.now order.now.folder.now order.now.path.now
+        (D.state repo.old).view.now (T.state tree.old).nodes)) }
+    ensures agrees { IfSome (D.state repo.old).view.now (AgreesAtPair stanza.now) → IsSome (D.state repo.old).view.now
+        → IfSome (D.state repo.new).view.now (AgreesAtPair stanza.now) }
+    ensures rest { OnNone (reached_by push_early result) (IsStill (D.state repo.old).view (D.state repo.new).view) }
+    ensures looks { LooksAt (T.state tree.old) (T.state tree.new) }
+    ensures frame { Frame (D.state repo.old) (D.state repo.new) }
+    ensures cause { IfErr result (HaltCause
+        (PushCause stanza.now order.now.folder.now order.now.path.now (D.state repo.old).view.now (T.state tree.old).nodes)
+        (rose_in (record none {
+          repo = Rises (D.state repo.old).faults (D.state repo.new).faults;
+          tree = Rises (T.state tree.old).faults (T.state tree.new).faults;
+        }))) }
+{
+    match push_from(
+        alloc,
+        repo,
+        tree,
+        stanza,
+        id,
+        &order.name,
+        told.system,
+        log,
+        log.front(),
+    ) {
+        Ok(pushed) => {
+            let lines = pushed_lines(alloc, pushed, &order.text)?;
+            Ok(Outcome::Finished { lines })
+        }
+        Err(fault) => Err(of_store(fault)),
+    }
+}
 
 /// Stores the file under the id of the current cluster.
 pub fn push_file<D: Disk, T: Tree>(
@@ -42,22 +117,28 @@ pub fn push_file<D: Disk, T: Tree>(
     told: &Control,
     info: &ArchiveInfo,
 ) -> Result<Outcome, Halt<PushFault>>
-    requires named { IsNamed order }
     requires tells { IfSome (T.state tree.old).nodes (λ f. FolderTells f told.now) }
     requires pair { IfSome (D.state repo.old).view.now (λ f. HasValue stanza.now f (archive_info_of info.now)) }
     requires valid { IsArchiveInfo (archive_info_of info.now) }
     // The command's steps are done, or a part of them, or none where it is refused.
-    ensures does { (command : Command) → IsSomeAnd (T.state tree.old).nodes (λ f. IsPushOf f order.entry.folder.now order.entry.path.now command)
+    ensures does { (command : Command)
+        → IsSomeAnd (T.state tree.old).nodes (λ f. IsPushOf f order.entry.folder.now order.entry.path.now command)
         → Does stanza.now command (reached_by push_early result) (D.state repo.old).view (D.state repo.new).view }
-    ensures stored { IfOk result (λ o. OnFinished o (IsStored stanza.now order.entry.folder.now order.entry.path.now (D.state repo.old).view.now (T.state tree.old).nodes)) }
-    ensures agrees { IfSome (D.state repo.old).view.now (AgreesAtPair stanza.now) → IsSome (D.state repo.old).view.now → IfSome (D.state repo.new).view.now (AgreesAtPair stanza.now) }
+    ensures stored { IfOk result (λ o. OnFinished o (IsStored stanza.now order.entry.folder.now order.entry.path.now
+        (D.state repo.old).view.now (T.state tree.old).nodes)) }
+    ensures agrees { IfSome (D.state repo.old).view.now (AgreesAtPair stanza.now) → IsSome (D.state repo.old).view.now
+        → IfSome (D.state repo.new).view.now (AgreesAtPair stanza.now) }
     ensures rest { OnNone (reached_by push_early result) (IsStill (D.state repo.old).view (D.state repo.new).view) }
     ensures looks { LooksAt (T.state tree.old) (T.state tree.new) }
     ensures frame { Frame (D.state repo.old) (D.state repo.new) }
-    ensures cause { IfErr result (HaltCause (PushCause stanza.now order.entry.folder.now order.entry.path.now (D.state repo.old).view.now (T.state tree.old).nodes) (rose_in (record none {
-      repo = Rises (D.state repo.old).faults (D.state repo.new).faults;
-      tree = Rises (T.state tree.old).faults (T.state tree.new).faults;
-    }))) }
+    ensures cause { IfErr result (HaltCause
+        (PushCause stanza.now order.entry.folder.now order.entry.path.now (D.state repo.old).view.now (T.state tree.old).nodes)
+        (rose_in (record none {
+          repo = Rises (D.state repo.old).faults (D.state repo.new).faults;
+          tree = Rises (T.state tree.old).faults (T.state tree.new).faults;
+        }))) }
 {
-    Err(Halt::NoMemory)
+    let id = id_of(info, told)?;
+    let log = open_log_file(alloc, tree, order.path, &order.text, limit_of(&order.name))?;
+    store(alloc, repo, tree, stanza, &order, told, &id, &log)
 }

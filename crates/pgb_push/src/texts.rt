@@ -28,7 +28,8 @@ pub fn push_status(fault: &PushFault) -> u8
 
 // The message of a segment that is stored with other bytes.
 fn duplicate_text(alloc: Global, kept: &Sum, found: &Sum) -> Result<Vec<u8>, NoMemory>
-    ensures { IfOk result (λ line. line.items ≡ codes "archived with checksum " ++ (sum_text kept.now.0 ++ (codes ", now " ++ sum_text found.now.0))) }
+    ensures { IfOk result (λ line. line.items
+        ≡ codes "archived with checksum " ++ (sum_text kept.now.0 ++ (codes ", now " ++ sum_text found.now.0))) }
 {
     let kept = kept.hex(alloc)?;
     let found = found.hex(alloc)?;

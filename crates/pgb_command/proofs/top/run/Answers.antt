@@ -1,5 +1,6 @@
 use Rattle.std.proofs.Common.{ap, ◌∙◌, map, string_bytes}
 use Rattle.pgb_command.proofs.Carried.{runs_on, runs_off}
+use Rattle.pgb_command.proofs.Follows.{found, finishes, part_done, turns_back, fulfils, leaves_rest, opens_places, only_locked, completes}
 use Rattle.pgb_command.proofs.top.run.Goals as goal
 
 pub returns-in-Err-clause-answers : goal.returns-in-Err-clause-answers
@@ -7,3 +8,51 @@ returns-in-Err-clause-answers g c = runs_off (map string_bytes c.args.words.now)
 
 pub returns-clause-answers : goal.returns-clause-answers
 returns-clause-answers g c = runs_on (map string_bytes c.args.words.now) _ _ _ c.carry.result c.in-Ok.command c.in-Ok.ensures.files c.in-Ok.ensures.later c.in-Ok.ensures.command c.carry.ensures.obeys
+
+pub returns-in-Err-clause-done : goal.returns-in-Err-clause-done
+returns-in-Err-clause-done g c = λ zero a asks. finishes a _ _ c.answer.result zero (found (map string_bytes c.args.words.now) _ _ c.answer.result (returns-in-Err-clause-answers g c) a asks)
+
+pub returns-in-Err-clause-part : goal.returns-in-Err-clause-part
+returns-in-Err-clause-part g c = λ a asks. part_done a _ _ c.answer.result (found (map string_bytes c.args.words.now) _ _ c.answer.result (returns-in-Err-clause-answers g c) a asks)
+
+pub returns-in-Err-clause-stays : goal.returns-in-Err-clause-stays
+returns-in-Err-clause-stays g c = λ early a asks. turns_back a _ _ c.answer.result early (found (map string_bytes c.args.words.now) _ _ c.answer.result (returns-in-Err-clause-answers g c) a asks)
+
+pub returns-in-Err-clause-fulfils : goal.returns-in-Err-clause-fulfils
+returns-in-Err-clause-fulfils g c = λ small a asks. fulfils a _ _ c.answer.result small (found (map string_bytes c.args.words.now) _ _ c.answer.result (returns-in-Err-clause-answers g c) a asks)
+
+pub returns-in-Err-clause-rests : goal.returns-in-Err-clause-rests
+returns-in-Err-clause-rests g c = λ a asks. leaves_rest a _ _ c.answer.result (found (map string_bytes c.args.words.now) _ _ c.answer.result (returns-in-Err-clause-answers g c) a asks)
+
+pub returns-in-Err-clause-places : goal.returns-in-Err-clause-places
+returns-in-Err-clause-places g c = λ a asks. opens_places a _ _ c.answer.result (found (map string_bytes c.args.words.now) _ _ c.answer.result (returns-in-Err-clause-answers g c) a asks)
+
+pub returns-in-Err-clause-locked : goal.returns-in-Err-clause-locked
+returns-in-Err-clause-locked g c = λ a asks. only_locked a _ _ c.answer.result (found (map string_bytes c.args.words.now) _ _ c.answer.result (returns-in-Err-clause-answers g c) a asks)
+
+pub returns-in-Err-clause-complete : goal.returns-in-Err-clause-complete
+returns-in-Err-clause-complete g c = completes (map string_bytes c.args.words.now) _ _ c.answer.result (returns-in-Err-clause-answers g c)
+
+pub returns-clause-done : goal.returns-clause-done
+returns-clause-done g c = λ zero a asks. finishes a _ _ c.carry.result zero (found (map string_bytes c.args.words.now) _ _ c.carry.result (returns-clause-answers g c) a asks)
+
+pub returns-clause-part : goal.returns-clause-part
+returns-clause-part g c = λ a asks. part_done a _ _ c.carry.result (found (map string_bytes c.args.words.now) _ _ c.carry.result (returns-clause-answers g c) a asks)
+
+pub returns-clause-stays : goal.returns-clause-stays
+returns-clause-stays g c = λ early a asks. turns_back a _ _ c.carry.result early (found (map string_bytes c.args.words.now) _ _ c.carry.result (returns-clause-answers g c) a asks)
+
+pub returns-clause-fulfils : goal.returns-clause-fulfils
+returns-clause-fulfils g c = λ small a asks. fulfils a _ _ c.carry.result small (found (map string_bytes c.args.words.now) _ _ c.carry.result (returns-clause-answers g c) a asks)
+
+pub returns-clause-rests : goal.returns-clause-rests
+returns-clause-rests g c = λ a asks. leaves_rest a _ _ c.carry.result (found (map string_bytes c.args.words.now) _ _ c.carry.result (returns-clause-answers g c) a asks)
+
+pub returns-clause-places : goal.returns-clause-places
+returns-clause-places g c = λ a asks. opens_places a _ _ c.carry.result (found (map string_bytes c.args.words.now) _ _ c.carry.result (returns-clause-answers g c) a asks)
+
+pub returns-clause-locked : goal.returns-clause-locked
+returns-clause-locked g c = λ a asks. only_locked a _ _ c.carry.result (found (map string_bytes c.args.words.now) _ _ c.carry.result (returns-clause-answers g c) a asks)
+
+pub returns-clause-complete : goal.returns-clause-complete
+returns-clause-complete g c = completes (map string_bytes c.args.words.now) _ _ c.carry.result (returns-clause-answers g c)

@@ -1,9 +1,28 @@
-use Rattle.std.proofs.Common.{refl}
-use Rattle.pgb_archive.specs.Still.{rests_none}
-use Rattle.std.specs.Prelude.{◌≡◌}
-use Rattle.pgb_stage.specs.Runs.{Reached, stopped, to_end}
-use Rattle.pgb_stage.proofs.Doing.{rests_does}
+use Rattle.pgb_model.specs.Values.{archive_info_of}
+use Rattle.pgb_push.proofs.Doings.{none_did, asked_on}
+use Rattle.pgb_push.proofs.Opened.{unopened_ends}
 use Rattle.pgb_push.proofs.pushing.push_file.Goals as goal
 
+pub returns-in_err-id-clause-does : goal.returns-in_err-id-clause-does
+returns-in_err-id-clause-does g c =
+    λ command asked. none_did c.args.stanza.now command
+    (g.D.Disk.state c.args.repo.now).view c.from_residual.result c.in_err-id.field-0.0 c.from_residual.ensures.1
+
+pub returns-in_err-log-clause-does : goal.returns-in_err-log-clause-does
+returns-in_err-log-clause-does g c =
+    λ command asked. none_did c.args.stanza.now command
+    (g.D.Disk.state c.args.repo.now).view c.from_residual-in_err-log.result c.in_err-log.field-0.0
+    c.from_residual-in_err-log.ensures.1
+
+pub returns-in_err-log-clause-cause : goal.returns-in_err-log-clause-cause
+returns-in_err-log-clause-cause g c =
+    unopened_ends c.args.stanza.now c.args.order (g.D.Disk.state c.args.repo.now).view.now
+    (g.T.Tree.state c.args.tree.now).nodes c.args.told.now c.in_ok-id.id
+    (archive_info_of c.args.info.now) c.requires.tells c.requires.pair c.in_ok-id.ensures.id
+    _ _ c.deref.result.now c.limit_of.result c.deref.ensures c.limit_of.ensures.limit c.from_residual-in_err-log.result
+    c.in_err-log.field-0.0 c.from_residual-in_err-log.ensures.1 c.in_err-log.ensures.cause
+
 pub returns-clause-does : goal.returns-clause-does
-returns-clause-does g c = λ command is. rests_does c.args.stanza.now command stopped _ _ (λ e. let x : ◌≡◌ {A = Reached} stopped to_end = e in cc) (rests_none (g.D.Disk.state c.args.repo.now).view) refl
+returns-clause-does g c = λ command asked. c.store.ensures.does command
+    (asked_on (g.T.Tree.state c.args.tree.now).nodes _ c.args.order.folder.now c.args.order.path.now command
+    c.open_log_file.ensures.looks.nodes asked)

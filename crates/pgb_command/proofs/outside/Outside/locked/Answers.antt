@@ -1,3 +1,7 @@
+use Rattle.std.proofs.Common.{inr, subst}
+use Rattle.pgb_stage.specs.declared.plan.Plan.{Plan}
+use Rattle.pgb_prepare.specs.Taking.{MayTake}
+use Rattle.pgb_archive.specs.Still.{still_self}
 use Rattle.pgb_command.specs.Told.{asked_of}
 use Rattle.pgb_command.proofs.Dids.{did_from, locks_read, not_taken}
 use Rattle.pgb_command.proofs.outside.Outside.locked.Goals as goal
@@ -11,3 +15,9 @@ pub returns-clause-did : goal.returns-clause-did
 returns-clause-did g c =
     let e = c.in_ok-take_locks.ensures in
     did_from (asked_of c.args.settings.now) _ _ _ c.work.result (locks_read _ _ e.refusals e.later) c.work.ensures.did
+
+pub returns-in_err-take_locks-clause-only : goal.returns-in_err-take_locks-clause-only
+returns-in_err-take_locks-clause-only g c = inr (
+  subst (λ (p : Plan). MayTake p c.args.settings.now.lock_path.now c.args.settings.now.stanza.now (g.K.Locks.took c.args.self.now.locks) (g.K.Locks.took c.take_locks.new.locks)) c.requires.plan c.in_err-take_locks.ensures.may,
+  still_self (g.D.Disk.state c.args.self.now.repo).view,
+)

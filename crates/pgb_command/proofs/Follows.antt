@@ -1,0 +1,184 @@
+-- What follows for a command that is asked for.
+use Rattle.std.proofs.Common.{Bool, true, false, ⊎_elim, ◌≡◌, ◌≢◌, ◌≤◌, ◌⊎◌, ◌∙◌, ℕ, List, [], ◌++◌, inl, inr, Option, Some, None, Result, Ok, Err, IfOk, IfErr, refl, sym, ap, subst, arith, map, string_bytes}
+use Rattle.std.specs.Prelude.{OnOk, IfSome, IsSome, option_map}
+use Rattle.pgb_outside.specs.Cause.{Rises}
+use Rattle.pgb_outside.specs.Content.{Content}
+use Rattle.pgb_outside.specs.Moments.{View}
+use Rattle.pgb_options.specs.Settings.{Settled}
+use Rattle.pgb_archive.specs.Still.{IsStill, rests_none}
+use Rattle.pgb_model.specs.Text.{Text}
+use Rattle.pgb_model.specs.Steps.{Command}
+use Rattle.pgb_stage.specs.declared.object.Object.TheVariants.{Server, Config, Output}
+use Rattle.pgb_stage.specs.declared.fault.Unbuilt.{Unbuilt}
+use Rattle.pgb_stage.specs.declared.fault.StageFault.TheVariants.{NotBuilt}
+use Rattle.pgb_stage.specs.declared.outcome.Outcome.{Outcome}
+use Rattle.pgb_stage.specs.declared.outcome.Outcome.TheVariants.{Finished, Absent}
+use Rattle.pgb_stage.specs.Plans.{TakesLocks}
+use Rattle.pgb_stage.specs.Reached.{back_if}
+use Rattle.pgb_stage.specs.Runs.{Reached, to_end, turned_back, stopped, OnAll, OnNone, Takes, On}
+use Rattle.pgb_outside.specs.States.{TreeState}
+use Rattle.pgb_stage.specs.States.{LocksState}
+use Rattle.pgb_stage.specs.Seen.{Seen, Failed}
+use Rattle.pgb_stage.proofs.Lifted.{on_as, still_quiet, quiet_takes, opened_takes}
+use Rattle.pgb_command.specs.declared.fault.Fault.{Fault}
+use Rattle.pgb_command.specs.declared.fault.Fault.TheVariants.{Usage, Stage, Command as OfCommand, Failed as ObjectFailed, NoMemory}
+use Rattle.pgb_command.specs.Answers.{Ending, finished, absent, refused, status, status_of, answer_of, ending_of, reached_of, is_early, lines_of}
+use Rattle.pgb_command.specs.Asked.{Request, create, push, get, report, Asked, Settles, IsAsked, MayAsk, Asks, requested}
+use Rattle.pgb_command.specs.Causes.{IsAnswered, IsIdle, Carries, Refuses, Obeys, Answers, AllDone, PartDone, NoneDone, Finishes, Fulfils, IsEarly, TurnsBack, LeavesRest, Completes}
+use Rattle.pgb_command.specs.Did.{Did, Cause, Brackets, OpensIf, OpensPlaces, ArePlacesOpened, TakesAll, OnlyLocked, Spares}
+use Rattle.pgb_command.specs.Output.{IsTold, Whole, Cut, Starved, Wordless}
+use Rattle.pgb_command.specs.Tables.{plan_of, manner_of, OnReader, OnCreate, OnOther, FolderGoes}
+use Rattle.pgb_command.proofs.AskedOnce.{one_asked}
+use Rattle.pgb_command.proofs.Dids.{idle, stage_reached, any_reader, any_create, any_other, folder_stays}
+use Rattle.pgb_command.proofs.Statuses.{over, zero_ends, early_ends, not_cut}
+
+-- ---- which of the answers it is
+
+-- the status is that of how it ended, unless the output or memory cut it short
+told_as : {P : Type 0} (unknown : List Text) (b k : Seen) (ended : Result Outcome Fault) (n : ℕ) → IsAnswered unknown b k ended n → (n ≡ status (ending_of ended) → P) → (n ≡ 87 → Failed b k Output → P) → (n ≡ 90 → P) → P
+told_as {P} unknown b k ended n t well cut starved = go t.ending t.is t.wrote
+  where
+    go : (ending : Ending) → n ≡ status ending → IsTold b.out.written (answer_of unknown ended) k.out.written (Failed b k Output) ending → P
+    go ending is (Whole e same wrote) = well (is ∙ ap status same)
+    go ending is (Cut rose front) = cut is rose
+    go ending is (Starved lines which front) = starved is
+    go ending is (Wordless rose front) = cut is rose
+
+-- nothing was done, or the command was carried out
+abbrev pub Either : Asked → Seen → Seen → ℕ → Type 0
+Either a b k n = (IsIdle b k × ((unknown : List Text) × ((fault : Fault) × IsAnswered unknown b k (Err fault) n))) ⊎ ((unknown : List Text) × Carries a unknown b k n)
+
+pub found : (words : List Text) (b k : Seen) (n : ℕ) → Answers words b k n → (a : Asked) → Asks words b.config.files a → Either a b k n
+found words b k n (inl r) a asks = inl (r.idle, ([], (r.fault, r.answered)))
+found words b k n (inr (s, settles, inl (other, is, carries))) a asks = inr (s.warnings, subst (λ (x : Asked). Carries x s.warnings b k n) (one_asked words b.config.files other a asks.told (record { settings = s; settles = settles; is = is }) asks.asks) carries)
+found words b k n (inr (s, settles, inr (what, is, still, answered))) a asks = inl (still, (s.warnings, (Stage (NotBuilt what), answered)))
+
+-- ---- nothing was done
+
+idle_takes : (a : Asked) (b k : Seen) (fault : Fault) → IsIdle b k → On (manner_of a.request a.data_folder b.tree.nodes) (λ command. Takes a.stanza command (reached_of (ending_of (Err fault))) b.repo.view b.spool.view k.repo.view k.spool.view)
+idle_takes a b k fault i = idle a.request a.data_folder b.tree.nodes _ (λ command. opened_takes a.stanza b.repo.view k.repo.view b.spool.view k.spool.view i.repo.time i.repo.now i.spool.time i.spool.now command (reached_of (ending_of (Err fault))) k.repo.view k.spool.view
+    (quiet_takes a.stanza command (reached_of (ending_of (Err fault))) k.repo.view k.repo.view k.spool.view (stage_reached fault) (still_quiet a.stanza k.repo.view)))
+
+idle_nodes : (b k : Seen) → IsIdle b k → k.tree.nodes ≡ b.tree.nodes
+idle_nodes b k i = ap (λ (t : TreeState). t.nodes) i.tree
+
+opens_none : (needed : Bool) (place : Text) (places other : List Text) → other ≡ places → OpensIf needed place places other
+opens_none true place places other is = inl is
+opens_none false place places other is = is
+
+-- ---- what was done, whichever it is
+
+all_at : (reached : Reached) (P : Type 0) → reached ≡ to_end → OnAll reached P → P
+all_at reached P is h = subst (λ (x : Reached). OnAll x P) is h
+
+none_at : (reached : Reached) (P : Type 0) → reached ≡ turned_back → OnNone reached P → P
+none_at reached P is h = subst (λ (x : Reached). OnNone x P) is h
+
+create_at : (request : Request) (reached : Reached) (P : Type 0) → reached ≡ turned_back → OnCreate request (OnNone reached P) → OnCreate request P
+create_at create reached P is h = none_at reached P is h
+create_at (push path) reached P is h = tt
+create_at (get name path) reached P is h = tt
+create_at (report form) reached P is h = tt
+
+ok_at : (ended : Result Outcome Fault) (P : Type 0) → status (ending_of ended) ≡ 0 → OnOk ended P → P
+ok_at (Ok x) P is h = h
+ok_at (Err e) P is h = absurd (omega (arith, is, over e))
+
+-- a refusal has another status than 0
+never_zero : {P : Type 0} (unknown : List Text) (b k : Seen) (fault : Fault) (n m : ℕ) → (m ≤ 1) → IsAnswered unknown b k (Err fault) n → n ≡ m → P
+never_zero unknown b k fault n m small t zero = told_as unknown b k (Err fault) n t (λ is. absurd (omega (arith, is, zero, small, over fault))) (λ is rose. absurd (omega (arith, is, zero, small))) (λ is. absurd (omega (arith, is, zero, small)))
+
+module _ (a : Asked) (b k : Seen) (n : ℕ) where
+  pub finishes : n ≡ 0 → Either a b k n → Finishes a b k
+  finishes zero (inl x) = never_zero x.1.0 b k x.1.1.0 n 0 (omega arith) x.1.1.1 zero
+  finishes zero (inr x) =
+      let c = x.1 in
+      let is : status (ending_of c.ended) ≡ 0 = told_as x.0 b k c.ended n c.answered (λ e. sym e ∙ zero) (λ e rose. absurd (omega (arith, e, zero))) (λ e. absurd (omega (arith, e, zero))) in
+      record {
+        all = on_as (manner_of a.request a.data_folder b.tree.nodes) _ _ (λ command h. all_at (reached_of (ending_of c.ended)) _ (zero_ends c.ended is) h.whole) c.did.steps;
+        healed = ok_at c.ended _ is c.did.healed;
+        opened = ok_at c.ended _ is c.brackets.opened;
+        took = ok_at c.ended _ is c.brackets.took;
+      }
+
+  pub part_done : Either a b k n → PartDone a b k
+  part_done (inl x) = on_as (manner_of a.request a.data_folder b.tree.nodes) _ _ (λ command h. (h.part, h.between)) (idle_takes a b k x.1.1.0 x.0)
+  part_done (inr x) = on_as (manner_of a.request a.data_folder b.tree.nodes) _ _ (λ command h. (h.part, h.between)) x.1.did.steps
+
+  early_at : (unknown : List Text) (ended : Result Outcome Fault) → IsAnswered unknown b k ended n → IsEarly n → reached_of (ending_of ended) ≡ turned_back
+  early_at unknown ended t early = told_as unknown b k ended n t (λ is. early_ends ended (subst IsEarly is early))
+      (λ is rose. absurd (not_cut n 87 is (omega arith) (omega arith) (λ e. absurd (omega (arith, e))) early)) (λ is. absurd (not_cut n 90 is (omega arith) (omega arith) (λ e. absurd (omega (arith, e))) early))
+
+  pub turns_back : IsEarly n → Either a b k n → TurnsBack a b k
+  turns_back early (inl x) = record {
+    none = on_as (manner_of a.request a.data_folder b.tree.nodes) _ _ (λ command h. none_at (reached_of (ending_of (Err x.1.1.0))) _ (early_at x.1.0 (Err x.1.1.0) x.1.1.1 early) h.turned) (idle_takes a b k x.1.1.0 x.0);
+    nodes = idle_nodes b k x.0;
+    unmade = any_create a.request _ x.0.repo.now;
+  }
+  turns_back early (inr x) =
+      let c = x.1 in
+      let is = early_at x.0 c.ended c.answered early in
+      record {
+        none = on_as (manner_of a.request a.data_folder b.tree.nodes) _ _ (λ command h. none_at (reached_of (ending_of c.ended)) _ is h.turned) c.did.steps;
+        nodes = none_at (reached_of (ending_of c.ended)) _ is c.did.spares.nodes;
+        unmade = create_at a.request (reached_of (ending_of c.ended)) _ is c.did.spares.unmade;
+      }
+
+  pub leaves_rest : Either a b k n → LeavesRest a b k
+  leaves_rest (inl x) = record {
+    reads = any_reader a.request _ x.0.repo;
+    folder = folder_stays a a.request b.repo.view.now b.tree.nodes k.tree.nodes (idle_nodes b k x.0);
+    quiet = λ none. x.0.server;
+    others = any_other a.request _ x.0.server;
+  }
+  leaves_rest (inr x) = let s = x.1.did.spares in record { reads = s.reads; folder = s.folder; quiet = s.quiet; others = s.others }
+
+  pub opens_places : Either a b k n → OpensPlaces a b k
+  opens_places (inl x) = record { folder = opens_none (plan_of a.request).folder a.data_folder b.tree.opened k.tree.opened (ap (λ (t : TreeState). t.opened) x.0.tree); repository = inl x.0.opened }
+  opens_places (inr x) = x.1.brackets.places
+
+  pub only_locked : Either a b k n → OnlyLocked a b k
+  only_locked (inl x) = inr (inl (ap (λ (l : LocksState). l.took) x.0.locks), x.0.repo)
+  only_locked (inr x) = x.1.brackets.locked
+
+  fulfils_by : (unknown : List Text) (ended : Result Outcome Fault) → (n ≤ 1) → Did a b k ended → IsAnswered unknown b k ended n → Fulfils a b k n
+  fulfils_by unknown (Err e) small did t = told_as unknown b k (Err e) n t (λ is. absurd (omega (arith, is, small, over e))) (λ is rose. absurd (omega (arith, is, small))) (λ is. absurd (omega (arith, is, small)))
+  fulfils_by unknown (Ok outcome) small did t = go t.ending t.is t.wrote
+    where
+      go : (ending : Ending) → n ≡ status ending → IsTold b.out.written (answer_of unknown (Ok outcome)) k.out.written (Failed b k Output) ending → Fulfils a b k n
+      go ending is (Whole e same wrote) = record { outcome = outcome; is = is ∙ ap status same; promise = did.promise; unknown = unknown; wrote = wrote }
+      go ending is (Cut rose front) = absurd (omega (arith, is, small))
+      go ending is (Starved lines which front) = absurd (omega (arith, is, small))
+      go ending is (Wordless rose front) = absurd (omega (arith, is, small))
+
+  pub fulfils : (n ≤ 1) → Either a b k n → Fulfils a b k n
+  fulfils small (inl x) = told_as x.1.0 b k (Err x.1.1.0) n x.1.1.1 (λ is. absurd (omega (arith, is, small, over x.1.1.0))) (λ is rose. absurd (omega (arith, is, small))) (λ is. absurd (omega (arith, is, small)))
+  fulfils small (inr x) = fulfils_by x.0 x.1.ended small x.1.did x.1.answered
+
+-- ---- where no cause of a refusal holds
+
+memory_or : (e : Fault) → (e ≡ NoMemory) ⊎ (e ≢ NoMemory)
+memory_or (Usage u) = inr (λ (is : ◌≡◌ {A = Fault} (Usage u) NoMemory). cc)
+memory_or (Stage u) = inr (λ (is : ◌≡◌ {A = Fault} (Stage u) NoMemory). cc)
+memory_or (OfCommand u) = inr (λ (is : ◌≡◌ {A = Fault} (OfCommand u) NoMemory). cc)
+memory_or (ObjectFailed u) = inr (λ (is : ◌≡◌ {A = Fault} (ObjectFailed u) NoMemory). cc)
+memory_or NoMemory = inl refl
+
+module _ (b k : Seen) (n : ℕ) (whole : ¬ Failed b k Output) where
+  only_memory : (unknown : List Text) (e : Fault) → ((e ≢ NoMemory) → ⊥) → IsAnswered unknown b k (Err e) n → (n ≤ 1) ⊎ (n ≡ 90)
+  only_memory unknown e never t = told_as unknown b k (Err e) n t (λ is. ⊎_elim (λ (m : e ≡ NoMemory). inr (is ∙ ap status_of m)) (λ other. absurd (never other)) (memory_or e)) (λ is rose. absurd (whole rose)) (λ is. inr is)
+
+  ends_well : (unknown : List Text) (ended : Result Outcome Fault) → IfErr ended (λ e. (e ≢ NoMemory) → ⊥) → IsAnswered unknown b k ended n → (n ≤ 1) ⊎ (n ≡ 90)
+  ends_well unknown (Ok (Finished lines)) never t = told_as unknown b k (Ok (Finished lines)) n t (λ is. inl (omega (arith, is))) (λ is rose. absurd (whole rose)) (λ is. inr is)
+  ends_well unknown (Ok (Absent name)) never t = told_as unknown b k (Ok (Absent name)) n t (λ is. inl (omega (arith, is))) (λ is rose. absurd (whole rose)) (λ is. inr is)
+  ends_well unknown (Err e) never t = only_memory unknown e never t
+
+err_to : (r : Result Outcome Fault) (P Q : Fault → Type 0) → ((fault : Fault) → P fault → Q fault) → IfErr r P → IfErr r Q
+err_to (Ok x) P Q to h = tt
+err_to (Err e) P Q to h = to e h
+
+pub completes : (words : List Text) (b k : Seen) (n : ℕ) → Answers words b k n → Completes words b k n
+completes words b k n (inl r) no_config built none whole = only_memory b k n whole [] r.fault (λ other. no_config r.fault other r.cause) r.answered
+completes words b k n (inr (s, settles, inl (a, is, c))) no_config built none whole =
+    ends_well b k n whole s.warnings c.ended (err_to c.ended _ _ (λ e cause other. none a e (record { settings = s; settles = settles; is = is }) other cause) c.did.cause) c.answered
+completes words b k n (inr (s, settles, inr (what, is, idle, answered))) no_config built none whole = absurd (built s what settles is)

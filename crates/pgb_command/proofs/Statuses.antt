@@ -1,0 +1,141 @@
+-- What the statuses of refusals tell, by layers.
+use Rattle.std.proofs.Common.{◌≡◌, ◌≤◌, ◌≢◌, ◌⊎◌, ◌∙◌, ℕ, true, inl, inr, Result, Ok, Err, refl, sym, ap, subst, arith}
+use Rattle.pgb_options.specs.declared.usage.Usage.{Usage}
+use Rattle.pgb_options.specs.declared.usage.Usage.TheVariants as usage
+use Rattle.pgb_stage.specs.declared.object.Object.{Object}
+use Rattle.pgb_stage.specs.declared.object.Object.TheVariants as object
+use Rattle.pgb_stage.specs.declared.fault.StageFault.{StageFault}
+use Rattle.pgb_stage.specs.declared.fault.StageFault.TheVariants as stage
+use Rattle.pgb_stage.specs.declared.outcome.Outcome.{Outcome}
+use Rattle.pgb_stage.specs.declared.outcome.Outcome.TheVariants.{Finished, Absent}
+use Rattle.pgb_stage.specs.Runs.{to_end, turned_back}
+use Rattle.pgb_stage.specs.Reached.{fails_early, back_if}
+use Rattle.pgb_stage.specs.Texts.{stage_status, object_status}
+use Rattle.pgb_create.proofs.Statuses.{create_over}
+use Rattle.pgb_push.specs.declared.fault.PushFault.{PushFault}
+use Rattle.pgb_push.specs.declared.fault.PushFault.TheVariants as pushes
+use Rattle.pgb_push.specs.Texts.{push_status}
+use Rattle.pgb_get.specs.declared.fault.GetFault.{GetFault}
+use Rattle.pgb_get.specs.declared.fault.GetFault.TheVariants as gets
+use Rattle.pgb_get.specs.Texts.{get_status}
+use Rattle.pgb_command.specs.declared.fault.CommandFault.{CommandFault}
+use Rattle.pgb_command.specs.declared.fault.CommandFault.TheVariants.{Create, Push, Get}
+use Rattle.pgb_command.specs.declared.fault.Fault.{Fault}
+use Rattle.pgb_command.specs.declared.fault.Fault.TheVariants as fault
+use Rattle.pgb_command.specs.Answers.{status, status_of, usage_status, command_status, command_early, is_early, ending_of, reached_of}
+use Rattle.pgb_command.specs.Causes.{IsEarly}
+
+-- ---- a refusal has no status of a command that ended well
+
+usage_over : (e : Usage) → 2 ≤ usage_status e
+usage_over usage.CommandMissing = omega arith
+usage_over (usage.CommandUnknown a) = omega arith
+usage_over (usage.OptionUnknown a) = omega arith
+usage_over (usage.OptionRepeated a) = omega arith
+usage_over (usage.OptionValue a) = omega arith
+usage_over (usage.OptionMissing a) = omega arith
+usage_over (usage.OptionNotFor a) = omega arith
+usage_over (usage.ConfigSyntax a) = omega arith
+usage_over (usage.ParameterCount a) = omega arith
+usage_over usage.ParameterUtf8 = omega arith
+usage_over usage.NoMemory = omega arith
+
+stage_over : (e : StageFault) → 2 ≤ stage_status e
+stage_over (stage.NotBuilt a) = omega arith
+stage_over (stage.ConfigMissing a) = omega arith
+stage_over (stage.ConfigLong a b) = omega arith
+stage_over (stage.Held a) = omega arith
+stage_over (stage.ControlMissing a) = omega arith
+stage_over (stage.ControlShort a) = omega arith
+stage_over stage.VersionText = omega arith
+stage_over (stage.VersionUnsupported a) = omega arith
+stage_over (stage.StanzaMissing a) = omega arith
+stage_over (stage.InfoDamaged a b c) = omega arith
+
+object_over : (e : Object) → 80 ≤ object_status e
+object_over object.Repo = omega arith
+object_over object.Spool = omega arith
+object_over object.DataFolder = omega arith
+object_over object.Server = omega arith
+object_over object.Others = omega arith
+object_over object.Clock = omega arith
+object_over object.Locks = omega arith
+object_over object.Config = omega arith
+object_over object.Output = omega arith
+
+push_over : (e : PushFault) → 2 ≤ push_status e
+push_over (pushes.SegmentName a) = omega arith
+push_over (pushes.PathOutside a) = omega arith
+push_over (pushes.StanzaMismatch a b) = omega arith
+push_over (pushes.SegmentMissing a) = omega arith
+push_over (pushes.TooLong a b) = omega arith
+push_over (pushes.HeaderForm a) = omega arith
+push_over (pushes.SegmentSize a b) = omega arith
+push_over (pushes.HeaderMismatch a b) = omega arith
+push_over (pushes.Ambiguous a b) = omega arith
+push_over (pushes.Duplicate a b) = omega arith
+
+get_over : (e : GetFault) → 2 ≤ get_status e
+get_over (gets.SegmentName a) = omega arith
+get_over (gets.PathOutside a) = omega arith
+get_over (gets.StanzaMismatch a b) = omega arith
+get_over (gets.Ambiguous a b) = omega arith
+get_over (gets.SegmentDamaged a b) = omega arith
+get_over (gets.TooLong a b) = omega arith
+
+command_over : (e : CommandFault) → 2 ≤ command_status e
+command_over (Create e) = create_over e
+command_over (Push e) = push_over e
+command_over (Get e) = get_over e
+
+pub over : (e : Fault) → 2 ≤ status_of e
+over (fault.Usage e) = usage_over e
+over (fault.Stage e) = stage_over e
+over (fault.Command e) = command_over e
+over (fault.Failed e) = omega (arith, object_over e)
+over fault.NoMemory = omega arith
+
+pub zero_ends : (ended : Result Outcome Fault) → status (ending_of ended) ≡ 0 → reached_of (ending_of ended) ≡ to_end
+zero_ends (Ok (Finished lines)) is = refl
+zero_ends (Ok (Absent name)) is = absurd (omega (arith, is))
+zero_ends (Err e) is = absurd (omega (arith, is, over e))
+
+-- ---- early ends
+
+pub late : (m : ℕ) → (73 ≤ m) → (m ≤ 99) → m ≢ 83 → ¬ IsEarly m
+late m lo hi apart (inl a) = absurd (omega (arith, lo, a.1))
+late m lo hi apart (inr (inl e)) = absurd (apart e)
+late m lo hi apart (inr (inr b)) = absurd (omega (arith, hi, b.0))
+
+early_object : (o : Object) → IsEarly (object_status o) → fails_early o ≡ true
+early_object object.Server h = refl
+early_object object.Repo h = absurd (late 80 (omega arith) (omega arith) (λ e. absurd (omega (arith, e))) h)
+early_object object.Spool h = absurd (late 81 (omega arith) (omega arith) (λ e. absurd (omega (arith, e))) h)
+early_object object.DataFolder h = absurd (late 82 (omega arith) (omega arith) (λ e. absurd (omega (arith, e))) h)
+early_object object.Others h = absurd (late 89 (omega arith) (omega arith) (λ e. absurd (omega (arith, e))) h)
+early_object object.Clock h = absurd (late 84 (omega arith) (omega arith) (λ e. absurd (omega (arith, e))) h)
+early_object object.Locks h = absurd (late 85 (omega arith) (omega arith) (λ e. absurd (omega (arith, e))) h)
+early_object object.Config h = absurd (late 86 (omega arith) (omega arith) (λ e. absurd (omega (arith, e))) h)
+early_object object.Output h = absurd (late 87 (omega arith) (omega arith) (λ e. absurd (omega (arith, e))) h)
+
+early_command : (e : CommandFault) → command_early e ≡ true
+early_command (Create e) = refl
+early_command (Push e) = refl
+early_command (Get e) = refl
+
+early_fault : (e : Fault) → IsEarly (status_of e) → is_early e ≡ true
+early_fault (fault.Usage e) h = refl
+early_fault (fault.Stage e) h = refl
+early_fault (fault.Command e) h = early_command e
+early_fault (fault.Failed o) h = early_object o h
+early_fault fault.NoMemory h = absurd (late 90 (omega arith) (omega arith) (λ e. absurd (omega (arith, e))) h)
+
+pub early_ends : (ended : Result Outcome Fault) → IsEarly (status (ending_of ended)) → reached_of (ending_of ended) ≡ turned_back
+early_ends (Ok (Finished lines)) (inl a) = absurd (omega (arith, a.0))
+early_ends (Ok (Finished lines)) (inr (inl e)) = absurd (omega (arith, e))
+early_ends (Ok (Finished lines)) (inr (inr b)) = absurd (omega (arith, b.0))
+early_ends (Ok (Absent name)) h = refl
+early_ends (Err e) h = ap back_if (early_fault e h)
+
+pub not_cut : (n m : ℕ) → n ≡ m → (73 ≤ m) → (m ≤ 99) → m ≢ 83 → ¬ IsEarly n
+not_cut n m is lo hi apart early = late m lo hi apart (subst IsEarly is early)

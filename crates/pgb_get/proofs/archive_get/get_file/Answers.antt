@@ -1,0 +1,54 @@
+use Rattle.std.proofs.Common.{rules, ◌≡◌, true, false}
+use Rattle.pgb_get.proofs.Archived.{serves_archived, misses_archived}
+use Rattle.pgb_get.proofs.Fetches.{serves, serves_only, misses}
+use Rattle.pgb_get.proofs.archive_get.get_file.Goals as goal
+
+pub returns-in_err-serve_file-clause-changes : goal.returns-in_err-serve_file-clause-changes
+returns-in_err-serve_file-clause-changes g c =
+    let o = c.args.order.now in
+    serves_only c.args.stanza.now o.folder.now o.word.now o.path.now (g.D.Disk.state c.args.repo.now).view.now (g.T.Tree.state c.args.tree.now).nodes o.name c.args.told.now o.inside.now o.wanted c.requires.tells o.below
+    _ c.serve_file.ensures.changes
+
+pub returns-then-branch-clause-got : goal.returns-then-branch-clause-got
+returns-then-branch-clause-got g c =
+    let o = c.args.order.now in
+    let yes : c.in_ok-serve_file.field-0 ≡ true = search rules in (
+      c.new.ensures.bytes,
+      serves c.args.stanza.now o.folder.now o.word.now o.path.now (g.D.Disk.state c.args.repo.now).view.now (g.T.Tree.state c.args.tree.now).nodes o.name c.args.told.now o.inside.now o.wanted c.requires.tells o.below
+          _ c.in_ok-serve_file.field-0 yes c.in_ok-serve_file.ensures.puts,
+    )
+
+pub returns-then-branch-clause-given : goal.returns-then-branch-clause-given
+returns-then-branch-clause-given g c = λ s some now.
+    let o = c.args.order.now in
+    let repo = (g.D.Disk.state c.args.repo.now).view.now in
+    let nodes = (g.T.Tree.state c.args.tree.now).nodes in
+    let yes : c.in_ok-serve_file.field-0 ≡ true = search rules in
+    serves_archived c.args.stanza.now o.folder.now o.word.now o.path.now repo nodes _ s some now
+    (serves c.args.stanza.now o.folder.now o.word.now o.path.now repo nodes o.name c.args.told.now o.inside.now o.wanted c.requires.tells o.below
+    _ c.in_ok-serve_file.field-0 yes c.in_ok-serve_file.ensures.puts)
+
+pub returns-then-branch-clause-changes : goal.returns-then-branch-clause-changes
+returns-then-branch-clause-changes g c =
+    let o = c.args.order.now in
+    serves_only c.args.stanza.now o.folder.now o.word.now o.path.now (g.D.Disk.state c.args.repo.now).view.now (g.T.Tree.state c.args.tree.now).nodes o.name c.args.told.now o.inside.now o.wanted c.requires.tells o.below
+    _ c.serve_file.ensures.changes
+
+pub returns-in_ok-from_str-clause-got : goal.returns-in_ok-from_str-clause-got
+returns-in_ok-from_str-clause-got g c =
+    let o = c.args.order.now in
+    let no : c.in_ok-serve_file.field-0 ≡ false = search rules in (
+      c.in_ok-from_str.ensures.ok,
+      misses c.args.stanza.now o.folder.now o.word.now o.path.now (g.D.Disk.state c.args.repo.now).view.now (g.T.Tree.state c.args.tree.now).nodes o.name c.args.told.now o.inside.now o.wanted c.requires.tells o.below
+          (g.T.Tree.state c.serve_file.new.tree).nodes c.in_ok-serve_file.field-0 no c.in_ok-serve_file.ensures.puts,
+    )
+
+pub returns-in_ok-from_str-clause-given : goal.returns-in_ok-from_str-clause-given
+returns-in_ok-from_str-clause-given g c = λ s some now.
+    let o = c.args.order.now in
+    let repo = (g.D.Disk.state c.args.repo.now).view.now in
+    let nodes = (g.T.Tree.state c.args.tree.now).nodes in
+    let no : c.in_ok-serve_file.field-0 ≡ false = search rules in
+    misses_archived c.args.stanza.now o.folder.now o.word.now o.path.now repo nodes s some now
+    (misses c.args.stanza.now o.folder.now o.word.now o.path.now repo nodes o.name c.args.told.now o.inside.now o.wanted c.requires.tells o.below
+    (g.T.Tree.state c.serve_file.new.tree).nodes c.in_ok-serve_file.field-0 no c.in_ok-serve_file.ensures.puts)

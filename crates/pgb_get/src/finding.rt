@@ -1,0 +1,220 @@
+// A file of the archive is served from under that of the stanza's ids that has it.
+ghost use Rattle.std.specs.Prelude.{◌≡◌, ◌≤◌, true, false, Decides, map, Some, IfErr, IfSome};
+ghost use Rattle.pgb_outside.specs.States.{Looks};
+ghost use Rattle.pgb_model.specs.declared.clusters.ClusterId.{ClusterId};
+ghost use Rattle.pgb_model.specs.InfoFiles.{AreFrom};
+ghost use Rattle.pgb_archive.specs.Paths.{has_sum};
+ghost use Rattle.pgb_archive.specs.Stored.{Finds};
+ghost use Rattle.pgb_stage.specs.Halts.{HaltCause};
+ghost use Rattle.pgb_get.specs.Getting.{IsSame, HasSame, ChangesPath};
+ghost use Rattle.pgb_get.specs.Serving.{EitherFailed, Puts, AreBytes, IsUnstored, FileCause};
+ghost use Rattle.pgb_get.specs.Serving.{AreBytesUnder, IsUnstoredUnder, UnderCause};
+ghost use Rattle.pgb_get.specs.Serving.{AreFoundIn, IsAbsentIn, SearchCause};
+
+use crate::fault::{GetFault, of_archive};
+use crate::order::GetOrder;
+use crate::serving::{Passed, pass_on, put_file};
+use pgb_archive::{ArchiveFault, Stored, get, has_sum, present};
+use pgb_model::{ArchiveId, ClusterId};
+use pgb_outside::{Disk, Tree};
+use pgb_stage::Halt;
+use pgb_stanza::Control;
+use std::alloc::Global;
+
+// Whether a cluster of the history is the data folder's.
+fn is_of(cluster: &ClusterId, told: &Control) -> bool
+    ensures { Decides result (IsSame told.now cluster.now) }
+{
+    cluster.system == told.system && cluster.version == told.version
+}
+
+/// Whether the history has a cluster that is the data folder's.
+pub(crate) fn has_cluster(history: &[ClusterId], told: &Control) -> bool
+    ensures there { result ≡ true → HasSame history.now told.now }
+    ensures absent { result ≡ false → ¬ HasSame history.now told.now }
+{
+    let mut rest = history;
+    while let Some((cluster, earlier)) = rest.split_last() {
+        if is_of(cluster, told) {
+            return true;
+        }
+        rest = earlier;
+    }
+    false
+}
+
+// Serves a file that is read whole, and tells whether it is archived under this id.
+fn serve_whole<D: Disk, T: Tree>(
+    alloc: Global,
+    repo: &mut D,
+    tree: &mut T,
+    stanza: &str,
+    id: &ArchiveId,
+    order: &GetOrder<'_>,
+) -> Result<bool, Halt<GetFault>>
+    ensures puts { Puts result
+        (AreBytes stanza.now id.now order.now.name (D.state repo.old).view.now)
+        (IsUnstored stanza.now id.now order.now.name (D.state repo.old).view.now)
+        order.now.inside.now (T.state tree.old).nodes (T.state tree.new).nodes }
+    ensures changes { ChangesPath order.now.inside.now
+        (AreBytes stanza.now id.now order.now.name (D.state repo.old).view.now)
+        (T.state tree.old).nodes (T.state tree.new).nodes }
+    ensures cause { IfErr result (HaltCause
+        (FileCause stanza.now id.now order.now.name (D.state repo.old).view.now)
+        (EitherFailed (D.state repo.old) (D.state repo.new) (T.state tree.old) (T.state tree.new))) }
+    ensures looks { Looks (D.state repo.old) (D.state repo.new) }
+    ensures tree_place { (T.state tree.new).opened ≡ (T.state tree.old).opened }
+    ensures tree_later { (T.state tree.old).faults ≤ (T.state tree.new).faults }
+{
+    match get(alloc, repo, stanza, id, &order.name) {
+        Ok(bytes) => {
+            put_file(alloc, tree, order.inside, &bytes)?;
+            Ok(true)
+        }
+        Err(ArchiveFault::NotFound) => Ok(false),
+        Err(fault) => Err(of_archive(fault)),
+    }
+}
+
+// Serves a segment that is stored: in one pass over its bytes, or else whole.
+fn serve_stored<D: Disk, T: Tree>(
+    alloc: Global,
+    repo: &mut D,
+    tree: &mut T,
+    stanza: &str,
+    id: &ArchiveId,
+    order: &GetOrder<'_>,
+    stored: Stored,
+) -> Result<bool, Halt<GetFault>>
+    requires segment { has_sum order.now.name ≡ true }
+    requires finds { IfSome (D.state repo.old).view.now
+        (λ f. Finds stanza.now id.now order.now.name f (Some stored)) }
+    ensures puts { Puts result
+        (AreBytes stanza.now id.now order.now.name (D.state repo.old).view.now)
+        (IsUnstored stanza.now id.now order.now.name (D.state repo.old).view.now)
+        order.now.inside.now (T.state tree.old).nodes (T.state tree.new).nodes }
+    ensures changes { ChangesPath order.now.inside.now
+        (AreBytes stanza.now id.now order.now.name (D.state repo.old).view.now)
+        (T.state tree.old).nodes (T.state tree.new).nodes }
+    ensures cause { IfErr result (HaltCause
+        (FileCause stanza.now id.now order.now.name (D.state repo.old).view.now)
+        (EitherFailed (D.state repo.old) (D.state repo.new) (T.state tree.old) (T.state tree.new))) }
+    ensures looks { Looks (D.state repo.old) (D.state repo.new) }
+    ensures tree_place { (T.state tree.new).opened ≡ (T.state tree.old).opened }
+    ensures tree_later { (T.state tree.old).faults ≤ (T.state tree.new).faults }
+{
+    // A segment has a sum, so this is never so.
+    let Some(sum) = stored.sum else {
+        return serve_whole(alloc, repo, tree, stanza, id, order);
+    };
+    match pass_on(alloc, repo, tree, stored.path, sum, order.inside)? {
+        Passed::Served => Ok(true),
+        // It was listed, and isn't there any more. That it isn't archived would end a recovery.
+        Passed::Lost => Err(Halt::NoMemory),
+        Passed::Barred => serve_whole(alloc, repo, tree, stanza, id, order),
+    }
+}
+
+// Serves a segment, and tells whether it is archived under this id.
+fn serve_segment<D: Disk, T: Tree>(
+    alloc: Global,
+    repo: &mut D,
+    tree: &mut T,
+    stanza: &str,
+    id: &ArchiveId,
+    order: &GetOrder<'_>,
+) -> Result<bool, Halt<GetFault>>
+    requires { has_sum order.now.name ≡ true }
+    ensures puts { Puts result
+        (AreBytes stanza.now id.now order.now.name (D.state repo.old).view.now)
+        (IsUnstored stanza.now id.now order.now.name (D.state repo.old).view.now)
+        order.now.inside.now (T.state tree.old).nodes (T.state tree.new).nodes }
+    ensures changes { ChangesPath order.now.inside.now
+        (AreBytes stanza.now id.now order.now.name (D.state repo.old).view.now)
+        (T.state tree.old).nodes (T.state tree.new).nodes }
+    ensures cause { IfErr result (HaltCause
+        (FileCause stanza.now id.now order.now.name (D.state repo.old).view.now)
+        (EitherFailed (D.state repo.old) (D.state repo.new) (T.state tree.old) (T.state tree.new))) }
+    ensures looks { Looks (D.state repo.old) (D.state repo.new) }
+    ensures tree_place { (T.state tree.new).opened ≡ (T.state tree.old).opened }
+    ensures tree_later { (T.state tree.old).faults ≤ (T.state tree.new).faults }
+{
+    match present(alloc, repo, stanza, id, &order.name) {
+        Ok(Some(stored)) => serve_stored(alloc, repo, tree, stanza, id, order, stored),
+        Ok(None) => Ok(false),
+        Err(fault) => Err(of_archive(fault)),
+    }
+}
+
+// Serves a file from under the id of a cluster, and tells whether it is the data folder's and has the file.
+fn serve_under<D: Disk, T: Tree>(
+    alloc: Global,
+    repo: &mut D,
+    tree: &mut T,
+    stanza: &str,
+    cluster: &ClusterId,
+    told: &Control,
+    order: &GetOrder<'_>,
+) -> Result<bool, Halt<GetFault>>
+    ensures puts { Puts result
+        (AreBytesUnder cluster.now stanza.now told.now order.now.name (D.state repo.old).view.now)
+        (IsUnstoredUnder cluster.now stanza.now told.now order.now.name (D.state repo.old).view.now)
+        order.now.inside.now (T.state tree.old).nodes (T.state tree.new).nodes }
+    ensures changes { ChangesPath order.now.inside.now
+        (AreBytesUnder cluster.now stanza.now told.now order.now.name (D.state repo.old).view.now)
+        (T.state tree.old).nodes (T.state tree.new).nodes }
+    ensures cause { IfErr result (HaltCause
+        (UnderCause cluster.now stanza.now told.now order.now.name (D.state repo.old).view.now)
+        (EitherFailed (D.state repo.old) (D.state repo.new) (T.state tree.old) (T.state tree.new))) }
+    ensures looks { Looks (D.state repo.old) (D.state repo.new) }
+    ensures tree_place { (T.state tree.new).opened ≡ (T.state tree.old).opened }
+    ensures tree_later { (T.state tree.old).faults ≤ (T.state tree.new).faults }
+{
+    if !is_of(cluster, told) {
+        return Ok(false);
+    }
+    let id = ArchiveId {
+        version: cluster.version,
+        number: cluster.id,
+    };
+    if has_sum(&order.name) {
+        serve_segment(alloc, repo, tree, stanza, &id, order)
+    } else {
+        serve_whole(alloc, repo, tree, stanza, &id, order)
+    }
+}
+
+/// Serves a file from under the highest number of the data folder's cluster that has it, and tells whether one has.
+pub(crate) fn search<D: Disk, T: Tree>(
+    alloc: Global,
+    repo: &mut D,
+    tree: &mut T,
+    stanza: &str,
+    history: &[ClusterId],
+    told: &Control,
+    order: &GetOrder<'_>,
+) -> Result<bool, Halt<GetFault>>
+    requires numbers { AreFrom 1 (map (λ (c : ClusterId). c.id) history.now) }
+    ensures puts { Puts result
+        (AreFoundIn history.now stanza.now told.now order.now.name (D.state repo.old).view.now)
+        (IsAbsentIn history.now stanza.now told.now order.now.name (D.state repo.old).view.now)
+        order.now.inside.now (T.state tree.old).nodes (T.state tree.new).nodes }
+    ensures changes { ChangesPath order.now.inside.now
+        (AreFoundIn history.now stanza.now told.now order.now.name (D.state repo.old).view.now)
+        (T.state tree.old).nodes (T.state tree.new).nodes }
+    ensures cause { IfErr result (HaltCause
+        (SearchCause history.now stanza.now told.now order.now.name (D.state repo.old).view.now)
+        (EitherFailed (D.state repo.old) (D.state repo.new) (T.state tree.old) (T.state tree.new))) }
+    ensures looks { Looks (D.state repo.old) (D.state repo.new) }
+    ensures tree_place { (T.state tree.new).opened ≡ (T.state tree.old).opened }
+    ensures tree_later { (T.state tree.old).faults ≤ (T.state tree.new).faults }
+{
+    let mut rest = history;
+    while let Some((cluster, earlier)) = rest.split_last() {
+        if serve_under(alloc, repo, tree, stanza, cluster, told, order)? {
+            return Ok(true);
+        }
+        rest = earlier;
+    }
+    Ok(false)
+}

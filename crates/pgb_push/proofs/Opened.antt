@@ -1,0 +1,139 @@
+-- A file that was opened, and what storing it does and answers; and why it isn't opened.
+use Rattle.std.proofs.Common.{◌≡◌, ◌∙◌, ℕ, ◌<◌, ◌^◌, [], ◌∷◌, Option, Some, Result}
+use Rattle.std.specs.Prelude.{IfSome, IsSome, IsSomeAnd, IfErr, IsErrAnd, string_bytes}
+use Rattle.sha1.specs.Sha1.{sha1}
+use Rattle.pgb_text.proofs.Digests.{IsSum-sha1}
+use Rattle.pgb_outside.specs.Content.{Content}
+use Rattle.pgb_outside.specs.Crash.{FirstOf, NowGoes}
+use Rattle.pgb_outside.specs.Moments.{View}
+use Rattle.pgb_outside.specs.Tree.{Nodes, known_path}
+use Rattle.pgb_model.specs.declared.clusters.ClusterId.{ClusterId}
+use Rattle.pgb_model.specs.declared.wal.ArchiveId.{ArchiveId}
+use Rattle.pgb_model.specs.Text.{Text}
+use Rattle.pgb_model.specs.Fields.{at_number}
+use Rattle.pgb_model.specs.Names.{wal_text}
+use Rattle.pgb_model.specs.Repository.{Stanza}
+use Rattle.pgb_model.specs.Steps.{Command, after_all, push_of}
+use Rattle.pgb_model.specs.Now.{NowStands}
+use Rattle.pgb_model.specs.Values.{ArchiveInfo}
+use Rattle.pgb_model.specs.Steady.{IsSteady, Moves}
+use Rattle.pgb_model.proofs.Segments.{IsPartOfPush, NowPartOfPush}
+use Rattle.pgb_stanza.specs.declared.control.Control.{Control}
+use Rattle.pgb_stanza.specs.Pairs.{identity_kept, identity_told}
+use Rattle.pgb_archive.specs.Causes.{limit_of}
+use Rattle.pgb_archive.specs.declared.fault.PushFault.{PushFault as StoreFault}
+use Rattle.pgb_archive.specs.declared.pushing.Pushed.{Pushed}
+use Rattle.pgb_archive.specs.Stored.{archive_path}
+use Rattle.pgb_archive.specs.Pushing.{IsPushedAs, PushFromCause}
+use Rattle.pgb_stage.specs.declared.object.Object.TheVariants.{DataFolder}
+use Rattle.pgb_stage.specs.declared.halt.Halt.{Halt}
+use Rattle.pgb_stage.specs.Cluster.{FolderTells}
+use Rattle.pgb_stage.specs.Current.{HasValue, AgreesAtPair, id_kept}
+use Rattle.pgb_stage.specs.Halts.{HaltCause, Only}
+use Rattle.pgb_stage.specs.Risen.{none, rose_in}
+use Rattle.pgb_stage.specs.Runs.{DoesPart, DoesWhole}
+use Rattle.pgb_push.specs.declared.fault.PushFault.{PushFault}
+use Rattle.pgb_push.specs.declared.log_file.LogFile.{LogFile}
+use Rattle.pgb_push.specs.declared.order.PushOrder.{PushOrder}
+use Rattle.pgb_push.specs.Causes.{IsCurrent, PushCause, IsStored}
+use Rattle.pgb_push.specs.Commands.{IsPushOf}
+use Rattle.pgb_push.specs.Faults.{of_store}
+use Rattle.pgb_push.specs.LogFile.{told_file, IsOpened}
+use Rattle.pgb_push.specs.Outcomes.{pushed_lines}
+use Rattle.pgb_push.specs.WalPath.{HasWal, wal_path}
+use Rattle.pgb_push.specs.WalCause.{FileCause}
+use Rattle.pgb_push.proofs.Doings.{as_err}
+use Rattle.pgb_push.proofs.Logged.{opened_there, told_bytes, read_bytes}
+use Rattle.pgb_push.proofs.Stores.{stores_part, stores_whole, agrees_on}
+use Rattle.pgb_push.proofs.StoreCauses.{file_of, is_current, file_ends, halt_ends, stored_as}
+
+module _ (stanza : Text) (order : PushOrder) (nodes : Option Nodes) (log : LogFile)
+    (opened : IsOpened nodes (wal_path (wal_text order.name)) log) (id : ArchiveId) where
+  abbrev place : Text
+  place = known_path log.what
+
+  has : (bytes : Text) → IfSome (told_file nodes place) (λ b. b ≡ bytes)
+      → IfSome nodes (λ f. HasWal f order.folder.now order.path.now order.name bytes)
+  has bytes is = read_bytes order.folder.now order.path.now order.name order.named place opened.lies nodes
+      (opened_there nodes log (wal_path (wal_text order.name)) opened) bytes is
+
+  told : (command : Command) → IsSomeAnd nodes (λ f. IsPushOf f order.folder.now order.path.now command)
+      → (bytes : Text) × (told_file nodes place ≡ Some bytes)
+      × IfSome nodes (λ f. HasWal f order.folder.now order.path.now order.name bytes)
+  told command asked = told_bytes order.folder.now order.path.now order.name order.named place opened.lies
+      (λ f. IsPushOf f order.folder.now order.path.now command) nodes
+      (opened_there nodes log (wal_path (wal_text order.name)) opened) asked
+
+  module _ (system : Control) (old new : View)
+      (at : (c : ClusterId) × (id ≡ id_kept c) × IsCurrent stanza old.now nodes system c)
+      (kept : IsSome old.now → IsSome new.now) where
+    pub opened_part : ((bytes : Text) → told_file nodes (known_path log.what) ≡ Some bytes → (s : Stanza)
+        → IsSome old.now → NowStands stanza (Some s) old.now
+        → NowPartOfPush stanza s (record { id = id; name = order.name; bytes = bytes }) new.now)
+        → ((bytes : Text) → told_file nodes (known_path log.what) ≡ Some bytes → (s : Stanza)
+        → IsSteady stanza (Some s) old → IsSome old.now
+        → Moves stanza (IsPartOfPush stanza s (record { id = id; name = order.name; bytes = bytes })) old new)
+        → (command : Command) → IsSomeAnd nodes (λ f. IsPushOf f order.folder.now order.path.now command)
+        → DoesPart stanza command old new
+    opened_part part moves command asked =
+        let b = told command asked in
+        stores_part stanza order.folder.now order.path.now nodes order.name b.0 b.2 id at.0 at.1 old new at.2.current
+        kept command asked (part b.0 b.1) (moves b.0 b.1)
+
+    pub opened_whole : ((bytes : Text) → told_file nodes (known_path log.what) ≡ Some bytes → (s : Stanza)
+        → IsSome old.now → NowStands stanza (Some s) old.now
+        → NowStands stanza (Some (after_all s (push_of s (record { id = id; name = order.name; bytes = bytes }))))
+        new.now)
+        → ((bytes : Text) → told_file nodes (known_path log.what) ≡ Some bytes → (s : Stanza)
+        → IsSteady stanza (Some s) old → IsSome old.now
+        → IsSteady stanza (Some (after_all s (push_of s (record { id = id; name = order.name; bytes = bytes }))))
+        new)
+        → (command : Command) → IsSomeAnd nodes (λ f. IsPushOf f order.folder.now order.path.now command)
+        → DoesWhole stanza command old new
+    opened_whole whole stored command asked =
+        let b = told command asked in
+        stores_whole stanza order.folder.now order.path.now nodes order.name b.0 b.2 id at.0 at.1 old new at.2.current
+        kept command asked (whole b.0 b.1) (stored b.0 b.1)
+
+  module _ (system : Control) (repo now : Option Content)
+      (at : (c : ClusterId) × (id ≡ id_kept c) × IsCurrent stanza repo nodes system c) (first : Text) (count : ℕ) where
+    pub opened_ends : (d t : Type 0) (h : Halt PushFault) (e : StoreFault) → h ≡ of_store e
+        → PushFromCause stanza id order.name system.system
+        (told_file nodes (known_path log.what)) first count repo d t e
+        → HaltCause (PushCause stanza order.folder.now order.path.now repo nodes)
+        (rose_in (record none { repo = d; tree = t })) h
+    opened_ends d t h e is cause = halt_ends stanza order.folder.now order.path.now repo nodes d t order.name
+        order.named system at.0 at.2 id at.1 (told_file nodes place) first count has h e is cause
+
+    pub opened_stored : (lines : Text) (pushed : Pushed) → lines ≡ pushed_lines pushed (wal_text order.name)
+        → IsPushedAs stanza id order.name system.system
+        (told_file nodes (known_path log.what)) first count repo now pushed
+        → IsStored stanza order.folder.now order.path.now repo nodes lines
+    opened_stored lines pushed is answered =
+        stored_as stanza order.folder.now order.path.now repo nodes ⊥ ⊥ order.name order.named system at.0 at.2 id at.1
+        (told_file nodes place) first count has lines pushed now is answered
+
+-- the pair's members stay as they are
+pub opened_agrees : (stanza : Text) (order : PushOrder) (id : ArchiveId) → (id.version < 2 ^ 32) × (id.number < 2 ^ 32)
+    → (known : Option Text) (old new : Option Content)
+    → (bytes : Text) × IfSome known (λ b. b ≡ bytes)
+    × NowGoes (FirstOf ((archive_path stanza id order.name (sha1 bytes), bytes) ∷ [])) old new
+    → IfSome old (AgreesAtPair stanza) → IsSome old → IfSome new (AgreesAtPair stanza)
+opened_agrees stanza order id fits known old new w agrees some =
+    agrees_on stanza (archive_path stanza id order.name (sha1 w.0)) w.0 old new
+    (file_of stanza id order.name (sha1 w.0) fits order.named.fits (IsSum-sha1 w.0)) w.2 some agrees
+
+-- the file isn't there, or it is too long
+pub unopened_ends : (stanza : Text) (order : PushOrder) (repo : Option Content) (nodes : Option Nodes) (told : Control)
+    (id : ArchiveId) (v : ArchiveInfo) → IfSome nodes (λ f. FolderTells f told) → IfSome repo (λ f. HasValue stanza f v)
+    → (c : ClusterId) × (at_number v.current v.history ≡ Some c) × (id ≡ id_kept c)
+    × (identity_kept c ≡ identity_told told) → (d t : Type 0) (name : Text) (limit : ℕ)
+    → name ≡ string_bytes order.text → limit ≡ limit_of order.name
+    → {T : Type 0} (result : Result T (Halt PushFault)) (h : Halt PushFault) → IsErrAnd result (λ k. k ≡ h)
+    → HaltCause (FileCause order.path.now name limit nodes) (Only DataFolder t) h
+    → IfErr result (HaltCause (PushCause stanza order.folder.now order.path.now repo nodes)
+    (rose_in (record none { repo = d; tree = t })))
+unopened_ends stanza order repo nodes told id v tells has at d t name limit is most result h ended cause =
+    let x = is_current stanza v repo nodes told id tells has at in
+    as_err result h _ ended (file_ends stanza order.folder.now order.path.now repo nodes d t order.name order.named told
+    x.0 x.2 name limit (is ∙ order.spelled) most h cause)

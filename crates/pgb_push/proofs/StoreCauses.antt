@@ -1,0 +1,182 @@
+-- Why a file isn't stored, and what is told where it is.
+use Rattle.std.proofs.Common.{◌≡◌, ◌⊎◌, inl, inr, ℕ, ◌<◌, ◌^◌, [], Option, Some, None, refl, sym, subst}
+use Rattle.std.specs.Prelude.{IfSome}
+use Rattle.sha1.specs.Sha1.{sha1}
+use Rattle.pgb_text.specs.Sum.{IsSum}
+use Rattle.pgb_outside.specs.Content.{Content}
+use Rattle.pgb_outside.specs.Tree.{Nodes}
+use Rattle.pgb_model.specs.declared.clusters.ClusterId.{ClusterId}
+use Rattle.pgb_model.specs.declared.wal.ArchiveId.{ArchiveId}
+use Rattle.pgb_model.specs.declared.wal.ArchiveName.{ArchiveName}
+use Rattle.pgb_model.specs.Fields.{at_number}
+use Rattle.pgb_model.specs.Text.{Text}
+use Rattle.pgb_model.specs.Names.{wal_text}
+use Rattle.pgb_model.specs.Stands.{IsArchiveFile, IsWalName}
+use Rattle.pgb_model.specs.Values.{ArchiveInfo}
+use Rattle.pgb_stanza.specs.declared.control.Control.{Control}
+use Rattle.pgb_stanza.specs.Pairs.{identity_kept, identity_told}
+use Rattle.pgb_archive.specs.declared.fault.ArchiveFault.{ArchiveFault}
+use Rattle.pgb_archive.specs.declared.fault.ArchiveFault.TheVariants as archive
+use Rattle.pgb_archive.specs.declared.fault.PushFault.{PushFault as StoreFault}
+use Rattle.pgb_archive.specs.declared.fault.PushFault.TheVariants.{Archive, Source}
+use Rattle.pgb_archive.specs.declared.pushing.Pushed.{Pushed}
+use Rattle.pgb_archive.specs.declared.pushing.Pushed.TheVariants.{New, Same}
+use Rattle.pgb_archive.specs.Stored.{StoresNone, StoresOnly, archive_path}
+use Rattle.pgb_archive.specs.Pushing.{IsPushedAs, PushFromCause}
+use Rattle.pgb_archive.specs.Causes.{IsFileOf, limit_of, PushCause as StoringCause}
+use Rattle.pgb_stage.specs.declared.object.Object.TheVariants.{DataFolder}
+use Rattle.pgb_stage.specs.declared.halt.Halt.{Halt}
+use Rattle.pgb_stage.specs.declared.halt.Halt.TheVariants.{Refused, Failed, NoMemory}
+use Rattle.pgb_stage.specs.Cluster.{FolderTells}
+use Rattle.pgb_stage.specs.Current.{HasCurrent, HasValue, id_kept}
+use Rattle.pgb_stage.specs.Halts.{HaltCause, Only}
+use Rattle.pgb_stage.specs.Risen.{none, rose_in}
+use Rattle.pgb_push.specs.declared.fault.PushFault.{PushFault}
+use Rattle.pgb_push.specs.declared.fault.PushFault.TheVariants.{SegmentName, PathOutside, StanzaMismatch, SegmentMissing, TooLong, HeaderForm, SegmentSize, HeaderMismatch, Ambiguous, Duplicate}
+use Rattle.pgb_push.specs.Causes.{IsCurrent, IsReady, IsRefusedPush, IsRefusedFile, PushCause, IsStored}
+use Rattle.pgb_push.specs.Faults.{of_archive, of_store}
+use Rattle.pgb_push.specs.Outcomes.{same_line, pushed_lines}
+use Rattle.pgb_push.specs.WalPath.{IsWalPath, HasWal}
+use Rattle.pgb_push.specs.WalCause.{FileCause}
+
+pub file_of : (stanza : Text) (id : ArchiveId) (wal : ArchiveName) (sum : Text) → (id.version < 2 ^ 32)
+    × (id.number < 2 ^ 32) → IsWalName wal → IsSum sum → IsArchiveFile stanza (archive_path stanza id wal sum)
+file_of stanza id wal sum fits named is_sum =
+    record {
+      id = id;
+      file = wal;
+      sum = sum;
+      fits =
+          record { version = fits.0; number = fits.1; fits = named; digest = is_sum };
+      is = refl;
+    }
+
+-- ---- the current cluster
+
+-- the value's current cluster is that of the disk
+current_as : (stanza : Text) (v : ArchiveInfo) (c : ClusterId) → at_number v.current v.history ≡ Some c
+    → (now : Option Content) → IfSome now (λ f. HasValue stanza f v) → IfSome now (λ f. HasCurrent stanza f c)
+current_as stanza v c at None has = tt
+current_as stanza v c at (Some f) has = (v, has, at)
+
+pub is_current : (stanza : Text) (v : ArchiveInfo) (repo : Option Content) (nodes : Option Nodes) (told : Control)
+    (id : ArchiveId) → IfSome nodes (λ f. FolderTells f told) → IfSome repo (λ f. HasValue stanza f v)
+    → (c : ClusterId) × (at_number v.current v.history ≡ Some c) × (id ≡ id_kept c)
+    × (identity_kept c ≡ identity_told told) → (c : ClusterId) × (id ≡ id_kept c)
+    × IsCurrent stanza repo nodes told c
+is_current stanza v repo nodes told id tells has x =
+    (x.0, x.2, record { tells = tells; current = current_as stanza v x.0 x.1 repo has; same = x.3 })
+
+-- ---- why it isn't stored
+
+module _ (stanza folder path : Text) (repo : Option Content) (nodes : Option Nodes) (d t : Type 0) where
+  -- why the push ends
+  abbrev Ends : Halt PushFault → Type 0
+  Ends = HaltCause (PushCause stanza folder path repo nodes) (rose_in (record none { repo = d; tree = t }))
+
+  module _ (wal : ArchiveName) (named : IsWalPath folder path wal) (told : Control) (c : ClusterId)
+      (of : IsCurrent stanza repo nodes told c) where
+    missing : (e : PushFault) → FileCause path (wal_text wal) (limit_of wal) nodes e
+        → IsRefusedFile stanza folder path repo nodes e
+    missing e cause = record { wal = wal; named = named; told = told; current = c; of = of; cause = cause }
+
+    file_refused : (e : PushFault) → FileCause path (wal_text wal) (limit_of wal) nodes e
+        → PushCause stanza folder path repo nodes e
+    file_refused (SegmentMissing word) cause = missing (SegmentMissing word) cause
+    file_refused (TooLong word most) cause = inl (missing (TooLong word most) cause)
+    file_refused (SegmentName word) cause = absurd cause
+    file_refused (PathOutside word) cause = absurd cause
+    file_refused (StanzaMismatch kept found) cause = absurd cause
+    file_refused (HeaderForm info) cause = absurd cause
+    file_refused (SegmentSize said found) cause = absurd cause
+    file_refused (HeaderMismatch kept found) cause = absurd cause
+    file_refused (Ambiguous first second) cause = absurd cause
+    file_refused (Duplicate kept found) cause = absurd cause
+
+    file_halts : (h : Halt PushFault)
+        → HaltCause (FileCause path (wal_text wal) (limit_of wal) nodes) (Only DataFolder t) h → Ends h
+    file_halts (Refused e) cause = file_refused e cause
+    file_halts (Failed object) cause = subst (rose_in (record none { repo = d; tree = t })) (sym cause.0) cause.1
+    file_halts NoMemory cause = tt
+
+    -- of a file that isn't opened
+    pub file_ends : (name : Text) (limit : ℕ) → name ≡ wal_text wal → limit ≡ limit_of wal → (h : Halt PushFault)
+        → HaltCause (FileCause path name limit nodes) (Only DataFolder t) h
+        → HaltCause (PushCause stanza folder path repo nodes) (rose_in (record none { repo = d; tree = t })) h
+    file_ends name limit is most h cause =
+        file_halts h (subst (λ (n : ℕ). HaltCause (FileCause path (wal_text wal) n nodes) (Only DataFolder t) h) most
+        (subst (λ (w : Text). HaltCause (FileCause path w limit nodes) (Only DataFolder t) h) is cause))
+
+    module _ (bytes : Text) (has : IfSome nodes (λ f. HasWal f folder path wal bytes)) where
+      abbrev ready : IsReady stanza folder path repo nodes wal bytes told c
+      ready = record { has = has; of = of }
+
+      refused : (e : ArchiveFault) → StoringCause stanza (id_kept c) wal told.system bytes repo ⊥ e
+          → IsRefusedPush stanza folder path repo nodes e
+      refused e cause = record { wal = wal; bytes = bytes; told = told; current = c; ready = ready; cause = cause }
+
+      archive_ends : (e : ArchiveFault) → StoringCause stanza (id_kept c) wal told.system bytes repo d e
+          → Ends (of_archive e)
+      archive_ends (archive.HeaderForm info) k = refused (archive.HeaderForm info) k
+      archive_ends (archive.SegmentSize said found) k = refused (archive.SegmentSize said found) k
+      archive_ends (archive.HeaderMismatch one found) k = refused (archive.HeaderMismatch one found) k
+      archive_ends (archive.Ambiguous first second) k = refused (archive.Ambiguous first second) k
+      archive_ends (archive.Duplicate one found) k = refused (archive.Duplicate one found) k
+      archive_ends (archive.TooLong said most) k = inr (refused (archive.TooLong said most) k)
+      archive_ends archive.NotFound k = tt
+      archive_ends (archive.SegmentDamaged said found) k = tt
+      archive_ends (archive.TooMany most) k = tt
+      archive_ends archive.Disk k = k.1
+      archive_ends archive.NoMemory k = tt
+
+      -- what is told at Ok
+      lines_for : (pushed : Pushed) → (pushed ≡ New → IfSome repo (StoresNone stanza (id_kept c) wal))
+          → (pushed ≡ Same → IfSome repo (λ f. StoresOnly stanza (id_kept c) wal f (sha1 bytes))) →
+          ((pushed_lines pushed (wal_text wal) ≡ []) × IfSome repo (λ f. StoresNone stanza (id_kept c) wal f))
+          ⊎ ((pushed_lines pushed (wal_text wal) ≡ same_line (wal_text wal))
+          × IfSome repo (λ f. StoresOnly stanza (id_kept c) wal f (sha1 bytes)))
+      lines_for New new one = inl (refl, new refl)
+      lines_for Same new one = inr (refl, one refl)
+
+      stored_so : (lines : Text) (pushed : Pushed) → lines ≡ pushed_lines pushed (wal_text wal)
+          → IsFileOf wal bytes told.system →
+          (pushed ≡ New → IfSome repo (StoresNone stanza (id_kept c) wal))
+          → (pushed ≡ Same → IfSome repo (λ f. StoresOnly stanza (id_kept c) wal f (sha1 bytes)))
+          → IsStored stanza folder path repo nodes lines
+      stored_so lines pushed is valid new one = record {
+        wal = wal;
+        bytes = bytes;
+        told = told;
+        current = c;
+        ready = ready;
+        valid = valid;
+        told_by = subst (λ (l : Text). ((l ≡ []) × IfSome repo (λ f. StoresNone stanza (id_kept c) wal f))
+            ⊎ ((l ≡ same_line (wal_text wal)) × IfSome repo (λ f. StoresOnly stanza (id_kept c) wal f (sha1 bytes))))
+            (sym is) (lines_for pushed new one);
+      }
+
+    -- ---- of a file that was opened, by its id
+
+    module _ (id : ArchiveId) (is : id ≡ id_kept c) (known : Option Text) (first : Text) (count : ℕ)
+        (has : (bytes : Text) → IfSome known (λ b. b ≡ bytes)
+        → IfSome nodes (λ f. HasWal f folder path wal bytes)) where
+      store_ends : (e : StoreFault) → PushFromCause stanza (id_kept c) wal told.system known first count repo d t e
+          → Ends (of_store e)
+      store_ends (Archive e) k = archive_ends k.0 (has k.0 k.1.told) e k.2
+      store_ends Source k = k
+
+      pub halt_ends : (h : Halt PushFault) (e : StoreFault) → h ≡ of_store e
+          → PushFromCause stanza id wal told.system known first count repo d t e
+          → HaltCause (PushCause stanza folder path repo nodes) (rose_in (record none { repo = d; tree = t })) h
+      halt_ends h e same k = subst Ends (sym same)
+          (store_ends e (subst (λ (i : ArchiveId). PushFromCause stanza i wal told.system known first count repo d t e)
+          is k))
+
+      pub stored_as : (lines : Text) (pushed : Pushed) (now : Option Content)
+          → lines ≡ pushed_lines pushed (wal_text wal)
+          → IsPushedAs stanza id wal told.system known first count repo now pushed
+          → IsStored stanza folder path repo nodes lines
+      stored_as lines pushed now same a = stored_so a.bytes (has a.bytes a.read.told) lines pushed same a.of_system
+          (λ new. subst (λ (i : ArchiveId). IfSome repo (StoresNone stanza i wal)) is (a.new new).0)
+          (λ one. subst (λ (i : ArchiveId). IfSome repo (λ f. StoresOnly stanza i wal f (sha1 a.bytes))) is
+          (a.same one).0)

@@ -1,0 +1,43 @@
+// The stanza's current cluster.
+ghost use Rattle.std.specs.Prelude.{◌≡◌, ◌≢◌, ◌<◌, ◌^◌, Some, IfOk, IfErr};
+ghost use Rattle.pgb_model.specs.declared.clusters.ClusterId.{ClusterId};
+ghost use Rattle.pgb_model.specs.Fields.{at_number};
+ghost use Rattle.pgb_model.specs.InfoFiles.{IsArchiveInfo};
+ghost use Rattle.pgb_model.specs.Values.{archive_info_of};
+ghost use Rattle.pgb_stanza.specs.Pairs.{identity_kept, identity_told};
+ghost use Rattle.pgb_stage.specs.declared.halt.Halt.TheVariants.{Refused as IsRefused};
+ghost use Rattle.pgb_stage.specs.Current.{id_kept};
+ghost use Rattle.pgb_push.specs.declared.fault.PushFault.TheVariants.{StanzaMismatch as Mismatch};
+
+use crate::fault::PushFault;
+use pgb_model::{ArchiveId, ArchiveInfo};
+use pgb_stage::Halt;
+use pgb_stanza::{Control, Identity};
+
+/// The archive id of the stanza's current cluster, where that is the data folder's.
+pub(crate) fn id_of(info: &ArchiveInfo, told: &Control) -> Result<ArchiveId, Halt<PushFault>>
+    requires { IsArchiveInfo (archive_info_of info.now) }
+    ensures fits { IfOk result (λ id. (id.version < 2 ^ 32) × (id.number < 2 ^ 32)) }
+    ensures id { IfOk result (λ id. (c : ClusterId) × (at_number info.now.current info.now.history.items ≡ Some c)
+        × (id ≡ id_kept c) × (identity_kept c ≡ identity_told told.now)) }
+    ensures mismatch { IfErr result (λ h. (c : ClusterId) × (at_number info.now.current info.now.history.items ≡ Some c)
+        × (h ≡ IsRefused (Mismatch (identity_kept c) (identity_told told.now)))
+        × (identity_kept c ≢ identity_told told.now)) }
+{
+    let current = &info.history[info.current as usize - 1];
+    let kept = Identity {
+        system: current.system,
+        version: current.version,
+    };
+    let found = Identity {
+        system: told.system,
+        version: told.version,
+    };
+    if kept != found {
+        return Err(Halt::Refused(PushFault::StanzaMismatch { kept, found }));
+    }
+    Ok(ArchiveId {
+        version: current.version,
+        number: current.id,
+    })
+}
