@@ -24,7 +24,7 @@ use Rattle.pgb_command.specs.Answers.{Ending, status, answer_of}
 use Rattle.pgb_command.specs.Asked.{Asked, Settles, IsAsked, requested}
 use Rattle.pgb_command.specs.Configuring.{ConfigCause}
 use Rattle.pgb_command.specs.Causes.{IsAnswered, IsIdle, Carries, Refuses, Obeys, Answers}
-use Rattle.pgb_command.specs.Did.{Did, Brackets, Cause, Spares, Closes, OpensPlaces, ArePlacesOpened}
+use Rattle.pgb_command.specs.Did.{Did, ComesBehind, Brackets, Cause, Spares, Closes, OpensPlaces, ArePlacesOpened}
 use Rattle.pgb_command.specs.Output.{IsTold}
 use Rattle.pgb_command.proofs.Dids.{did_from, later_on}
 use Rattle.pgb_command.proofs.Ends.{all_later}
@@ -117,9 +117,10 @@ idle_written b o = record { repo = still_self b.repo.view; opened = refl; spool 
 -- ---- a command is obeyed
 
 pub carries : (c : Command) (a : Asked) (given : List Text) (b k : Seen) (o : SinkState) (ended : Result Outcome Fault) (n : ℕ) → given ≡ map string_bytes c.warnings.items → k.out ≡ b.out → k.out.faults ≤ o.faults → ((s : Settled) → IsCommand c s → IsAsked s a) →
-    Did a b k ended → Brackets a b k ended → ToldOf given ended k.out o n → (s : Settled) → IsCommand c s → Obeys s b (record k { out = o }) n
-carries c a given b k o ended n words same le asked did brackets t s is = inl (a, asked s is, record {
+    ComesBehind a ended → Did a b k ended → Brackets a b k ended → ToldOf given ended k.out o n → (s : Settled) → IsCommand c s → Obeys s b (record k { out = o }) n
+carries c a given b k o ended n words same le asked behind did brackets t s is = inl (a, asked s is, record {
   ended = ended;
+  words = behind;
   did = did_written a b k o le ended did;
   brackets = brackets_written a b k o ended brackets;
   answered = answered_by s.warnings given b k o ended n (words ∙ is.warnings) same t;
@@ -161,6 +162,7 @@ brackets_from a b k i r h = record {
 obeys_from : (s : Settled) (b k : Seen) (i : SourceState) (n : ℕ) → i.files ≡ b.config.files → b.config.faults ≤ i.faults → Obeys s (record b { config = i }) k n → Obeys s b k n
 obeys_from s b k i n files le (inl x) = inl (x.0, x.1, record {
   ended = x.2.ended;
+  words = x.2.words;
   did = did_from x.0 b (record b { config = i }) k x.2.ended (config_read b i files le) x.2.did;
   brackets = brackets_from x.0 b k i x.2.ended x.2.brackets;
   answered = answered_from s.warnings b k i x.2.ended n x.2.answered;

@@ -35,7 +35,7 @@ use Rattle.pgb_command.proofs.Statuses.{over, zero_ends, early_ends, not_cut}
 -- ---- which of the answers it is
 
 -- the status is that of how it ended, unless the output or memory cut it short
-told_as : {P : Type 0} (unknown : List Text) (b k : Seen) (ended : Result Outcome Fault) (n : ℕ) → IsAnswered unknown b k ended n → (n ≡ status (ending_of ended) → P) → (n ≡ 87 → Failed b k Output → P) → (n ≡ 90 → P) → P
+pub told_as : {P : Type 0} (unknown : List Text) (b k : Seen) (ended : Result Outcome Fault) (n : ℕ) → IsAnswered unknown b k ended n → (n ≡ status (ending_of ended) → P) → (n ≡ 87 → Failed b k Output → P) → (n ≡ 90 → P) → P
 told_as {P} unknown b k ended n t well cut starved = go t.ending t.is t.wrote
   where
     go : (ending : Ending) → n ≡ status ending → IsTold b.out.written (answer_of unknown ended) k.out.written (Failed b k Output) ending → P

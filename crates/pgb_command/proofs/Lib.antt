@@ -12,3 +12,5 @@ mod Readied
 mod Carried
 mod Statuses
 mod Follows
+mod Closings
+mod Unused

@@ -1,5 +1,5 @@
 -- Why a command's words are refused.
-use Rattle.std.proofs.Common.{◌≡◌, Result, Ok, Err, IfErr, sym, subst}
+use Rattle.std.proofs.Common.{◌≡◌, inl, inr, Result, Ok, Err, IfErr, sym, subst}
 use Rattle.std.specs.Prelude.{IsErrAnd}
 use Rattle.pgb_outside.specs.Content.{Content}
 use Rattle.pgb_model.specs.Text.{Text}
@@ -13,14 +13,19 @@ use Rattle.pgb_push.specs.Causes.{PushCause}
 use Rattle.pgb_push.specs.WalCause.{WordCause}
 use Rattle.pgb_get.specs.declared.fault.GetFault.{GetFault}
 use Rattle.pgb_get.specs.declared.fault.GetFault.TheVariants as get_fault
-use Rattle.pgb_get.specs.Getting.{WordsCause as GetWords, GetCause}
+use Rattle.pgb_get.specs.Getting.{AreWords, WordsCause as GetWords, GetCause}
 use Rattle.pgb_command.specs.declared.fault.CommandFault.TheVariants.{Create, Push, Get}
 use Rattle.pgb_command.specs.declared.fault.Fault.{Fault}
 use Rattle.pgb_command.specs.declared.fault.Fault.TheVariants.{Usage, Stage, Command, Failed, NoMemory}
-use Rattle.pgb_command.specs.Asked.{Request, push, get, Asked}
+use Rattle.pgb_stage.specs.declared.outcome.Outcome.{Outcome}
+use Rattle.pgb_push.specs.WalPath.{IsWalPath}
+use Rattle.pgb_command.specs.declared.order.Order.{Order}
+use Rattle.pgb_command.specs.declared.order.Order.TheVariants as orders
+use Rattle.pgb_command.specs.Told.{IsOrder}
+use Rattle.pgb_command.specs.Asked.{Request, create, push, get, report, Asked}
 use Rattle.pgb_command.specs.Faults.{of_push, of_get}
-use Rattle.pgb_command.specs.Tables.{Known, CommandCause}
-use Rattle.pgb_command.specs.Did.{WordsCause}
+use Rattle.pgb_command.specs.Tables.{Known, WordsFit, CommandCause}
+use Rattle.pgb_command.specs.Did.{WordsCause, ComesBehind}
 
 push_word : (a : Asked) (path : Text) (old : Known) (e : PushFault) → WordCause a.data_folder path e → PushCause a.stanza a.data_folder path old.repo old.nodes e
 push_word a path old (push_fault.SegmentName name) h = h
@@ -62,3 +67,31 @@ module _ (a : Asked) where
 
   pub get_refused : (name path : Text) → a.request ≡ get name path → {T : Type 0} (result : Result T Fault) (h : Halt GetFault) → IsErrAnd result (λ f. f ≡ of_get h) → HaltCause (GetWords a.data_folder name path) (λ (object : Object). ⊥) h → IfErr result (WordsCause a)
   get_refused name path asked result h is cause = of_err result (of_get h) is (get_words name path asked h cause)
+
+-- ---- words that were read fit
+
+words_fit : (a : Asked) (q : Request) (o : Order) → IsOrder q a.data_folder o → WordsFit a q
+words_fit a create orders.StanzaCreate is = tt
+words_fit a create (orders.ArchivePush o) is = absurd is
+words_fit a create (orders.ArchiveGet o) is = absurd is
+words_fit a create (orders.Info asked) is = absurd is
+words_fit a (push path) orders.StanzaCreate is = absurd is
+words_fit a (push path) (orders.ArchivePush o) is = (o.name, subst (λ (f : Text). IsWalPath f path o.name) is.0 (subst (λ (p : Text). IsWalPath o.folder.now p o.name) is.1 o.named))
+words_fit a (push path) (orders.ArchiveGet o) is = absurd is
+words_fit a (push path) (orders.Info asked) is = absurd is
+words_fit a (get word path) orders.StanzaCreate is = absurd is
+words_fit a (get word path) (orders.ArchivePush o) is = absurd is
+words_fit a (get word path) (orders.ArchiveGet o) is = (o.name, subst (λ (f : Text). AreWords f word path o.name) is.0 (subst (λ (w : Text). AreWords o.folder.now w path o.name) is.1 (subst (λ (p : Text). AreWords o.folder.now o.word.now p o.name) is.2 o.wanted)))
+words_fit a (get word path) (orders.Info asked) is = absurd is
+words_fit a (report form) orders.StanzaCreate is = absurd is
+words_fit a (report form) (orders.ArchivePush o) is = absurd is
+words_fit a (report form) (orders.ArchiveGet o) is = absurd is
+words_fit a (report form) (orders.Info asked) is = tt
+
+pub behind_words : (a : Asked) (o : Order) → IsOrder a.request a.data_folder o → (result : Result Outcome Fault) → ComesBehind a result
+behind_words a o is (Ok x) = tt
+behind_words a o is (Err e) = inr (words_fit a a.request o is)
+
+pub is_behind : (a : Asked) (result : Result Outcome Fault) (e : Fault) → IsErrAnd result (λ f. f ≡ e) → WordsCause a e → ComesBehind a result
+is_behind a (Ok x) e is h = tt
+is_behind a (Err f) e is h = inl (subst (WordsCause a) (sym is) h)

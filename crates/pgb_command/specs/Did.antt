@@ -19,7 +19,7 @@ use Rattle.pgb_command.specs.declared.fault.Fault.{Fault}
 use Rattle.pgb_command.specs.declared.fault.Fault.TheVariants.{Usage, Stage, Command, Failed as ObjectFailed, NoMemory}
 use Rattle.pgb_command.specs.Answers.{reached_of, ending_of}
 use Rattle.pgb_command.specs.Asked.{Asked}
-use Rattle.pgb_command.specs.Tables.{Known, known, plan_of, manner_of, CommandCause, Promise, OnReader, OnCreate, OnOther, FolderGoes}
+use Rattle.pgb_command.specs.Tables.{Known, known, plan_of, manner_of, WordsFit, CommandCause, Promise, OnReader, OnCreate, OnOther, FolderGoes}
 
 -- ---- what stays
 
@@ -68,6 +68,10 @@ WordsCause a (Command (Create fault)) = ⊥
 WordsCause a (Command fault) = (old : Known) → CommandCause a a.request old fault
 WordsCause a NoMemory = Unit {0}
 WordsCause a other = ⊥
+
+-- a refusal is of the command's words, or comes behind words that fit
+abbrev pub ComesBehind : Asked → Result Outcome Fault → Type 0
+ComesBehind a result = IfErr result (λ fault. WordsCause a fault ⊎ WordsFit a a.request)
 
 -- ---- all of it
 

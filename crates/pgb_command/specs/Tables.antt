@@ -3,6 +3,7 @@ use Rattle.std.specs.Prelude.{◌≡◌, true, false, Option, Some, IfSome, IsSo
 use Rattle.pgb_outside.specs.Content.{Content}
 use Rattle.pgb_outside.specs.Tree.{Nodes}
 use Rattle.pgb_model.specs.declared.clusters.Cluster.{Cluster}
+use Rattle.pgb_model.specs.declared.wal.ArchiveName.{ArchiveName}
 use Rattle.pgb_model.specs.Text.{Text}
 use Rattle.pgb_model.specs.Repository.{Stanza}
 use Rattle.pgb_model.specs.Steps.{Command, StanzaCreate, Reading}
@@ -20,7 +21,8 @@ use Rattle.pgb_create.specs.Creating.{IsCreated, CreateCause}
 use Rattle.pgb_push.specs.Commands.{IsPushOf}
 use Rattle.pgb_push.specs.Causes.{IsStored, PushCause}
 use Rattle.pgb_push.specs.Outcomes.{OnFinished}
-use Rattle.pgb_get.specs.Getting.{GotBy, GivenBy, GetCause, IsServed, ChangesPath, served_path}
+use Rattle.pgb_push.specs.WalPath.{IsWalPath}
+use Rattle.pgb_get.specs.Getting.{AreWords, GotBy, GivenBy, GetCause, IsServed, ChangesPath, served_path}
 use Rattle.pgb_inform.specs.Reporting.{IsReported, ReportsStanza}
 use Rattle.pgb_command.specs.declared.fault.CommandFault.{CommandFault}
 use Rattle.pgb_command.specs.declared.fault.CommandFault.TheVariants.{Create, Push, Get}
@@ -56,6 +58,13 @@ manner_of (report form) folder nodes = each (λ command. command ≡ Reading)
 -- the data folder tells this cluster, and this holds of it
 abbrev pub OnCluster : Option Nodes → (Control → Type 0) → Type 0
 OnCluster nodes P = (told : Control) × IfSome nodes (λ f. FolderTells f told) × P told
+
+-- the command's own words name what they have to
+abbrev pub WordsFit : Asked → Request → Type 0
+WordsFit a create = Unit {0}
+WordsFit a (push path) = (name : ArchiveName) × IsWalPath a.data_folder path name
+WordsFit a (get word path) = (name : ArchiveName) × AreWords a.data_folder word path name
+WordsFit a (report form) = Unit {0}
 
 -- why a command is refused, from what the objects hold as its own part begins
 abbrev pub CommandCause : Asked → Request → Known → CommandFault → Type 0

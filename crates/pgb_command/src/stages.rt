@@ -5,7 +5,7 @@ ghost use Rattle.pgb_stage.specs.Halts.{HaltCause, Never};
 ghost use Rattle.pgb_stage.specs.Seen.{Failed, AreRead};
 ghost use Rattle.pgb_prepare.specs.Readies.{IsReady};
 ghost use Rattle.pgb_prepare.specs.Taking.{AreNames, HoldsOnly};
-ghost use Rattle.pgb_command.specs.Did.{Ran, Did, Brackets, SamePlaces, OpensPlaces, ArePlacesOpened, TakesAll, OnlyLocked};
+ghost use Rattle.pgb_command.specs.Did.{Ran, Did, ComesBehind, Brackets, SamePlaces, OpensPlaces, ArePlacesOpened, TakesAll, OnlyLocked};
 ghost use Rattle.pgb_options.specs.declared.options.OutputWord.{OutputWord};
 ghost use Rattle.pgb_command.specs.Asked.{report};
 ghost use Rattle.pgb_command.specs.Told.{request_of, asked_of, IsOrder};
@@ -96,6 +96,7 @@ impl<
             Did (asked_of settings.now) (told self.old) (told self.new) result }
         ensures brackets { let told = ⟦<Outside<D, S, T, V, A, C, K, I, O> as Told>⟧.told in
             Brackets (asked_of settings.now) (told self.old) (told self.new) result }
+        ensures words { ComesBehind (asked_of settings.now) result }
         ensures released { K.taken self.new.locks ≡ [] }
         ensures quiet { settings.now.server ≡ None → self.new.server ≡ self.old.server }
         ensures unused { (form : OutputWord) → request_of settings.now.request ≡ report form → (self.new.tree ≡ self.old.tree) × (self.new.locks ≡ self.old.locks) }

@@ -1,10 +1,10 @@
 // The top call.
-ghost use Rattle.std.specs.Prelude.{◌≡◌, ◌≤◌, ◌⊎◌, [], IfErr, map, string_bytes};
-ghost use Rattle.pgb_model.specs.Text.{Text};
+ghost use Rattle.std.specs.Prelude.{◌≡◌, ◌≤◌, [], None, Ok, IfErr, map, string_bytes};
+ghost use Rattle.pgb_options.specs.declared.options.OutputWord.{OutputWord};
 ghost use Rattle.pgb_options.specs.Commands.{IsCommand};
 ghost use Rattle.pgb_options.specs.Settings.{Settled};
-ghost use Rattle.pgb_command.specs.Asked.{Asked, IsAsked, MayAsk, Asks, requested};
-ghost use Rattle.pgb_command.specs.Causes.{Answers, Obeys, Each, Finishes, PartDone, IsEarly, TurnsBack, Fulfils, LeavesRest, Completes};
+ghost use Rattle.pgb_command.specs.Asked.{Asked, MayAsk, report, requested, server_asked};
+ghost use Rattle.pgb_command.specs.Causes.{Answers, Obeys, Each, Finishes, PartDone, IsEarly, TurnsBack, Fulfils, LeavesRest, Completes, ClosesTalk};
 ghost use Rattle.pgb_command.specs.Did.{OpensPlaces, OnlyLocked};
 
 use crate::config::read_command;
@@ -40,6 +40,9 @@ pub fn carry<
     ensures obeys { let told = ⟦<Outside<D, S, T, V, A, C, K, I, O> as Told>⟧.told in
         (s : Settled) → IsCommand command.now s → Obeys s (told outside.old) (told outside.new) result }
     ensures released { K.taken outside.new.locks ≡ [] }
+    ensures quiet { (s : Settled) → IsCommand command.now s → server_asked s ≡ None → outside.new.server ≡ outside.old.server }
+    ensures unused { (s : Settled) → IsCommand command.now s → (form : OutputWord) → requested s ≡ Ok (report form)
+        → (outside.new.tree ≡ outside.old.tree) × (outside.new.locks ≡ outside.old.locks) }
     ensures unbuilt { (s : Settled) → IsCommand command.now s → IfErr (requested s) (λ what. outside.new ≡ record outside.old { out = outside.new.out }) }
     ensures rest { outside.new ≡ record outside.old { repo = outside.new.repo; tree = outside.new.tree; server = outside.new.server; locks = outside.new.locks; out = outside.new.out } }
 {
@@ -109,6 +112,19 @@ pub fn run<
     ensures complete { let told = ⟦<Outside<D, S, T, V, A, C, K, I, O> as Told>⟧.told in
         Completes (map string_bytes words.now) (told outside.old) (told outside.new) result }
 
+    // After a server's answer that is refused the talk was ended.
+    ensures closed { let told = ⟦<Outside<D, S, T, V, A, C, K, I, O> as Told>⟧.told in
+        ClosesTalk (told outside.old) (told outside.new) result }
+
+    // Words that ask for nothing do nothing; who asks no server leaves the connection, and info the data folder and the locks.
+    ensures unasked { ((a : Asked) → ¬ MayAsk (map string_bytes words.now) (I.files outside.old.config) a)
+        → outside.new ≡ record outside.old { config = outside.new.config; out = outside.new.out } }
+    ensures quiet { ((a : Asked) → MayAsk (map string_bytes words.now) (I.files outside.old.config) a → a.server ≡ None)
+        → outside.new.server ≡ outside.old.server }
+    ensures unused { Each (map string_bytes words.now) (I.files outside.old.config) (λ a. (form : OutputWord) → a.request ≡ report form
+        → (outside.new.tree ≡ outside.old.tree) × (outside.new.locks ≡ outside.old.locks)) }
+
+    // No lock is held afterwards, and the configuration and all that no command uses are as they were.
     ensures released { K.taken outside.new.locks ≡ [] }
     ensures files { I.files outside.new.config ≡ I.files outside.old.config }
     ensures untouched { outside.new ≡ record outside.old { repo = outside.new.repo; tree = outside.new.tree; server = outside.new.server; locks = outside.new.locks; config = outside.new.config; out = outside.new.out } }

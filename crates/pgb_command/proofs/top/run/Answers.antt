@@ -1,4 +1,7 @@
-use Rattle.std.proofs.Common.{ap, ◌∙◌, map, string_bytes}
+use Rattle.std.proofs.Common.{◌≡◌, ap, sym, subst, ◌∙◌, map, string_bytes}
+use Rattle.pgb_command.specs.Asked.{requested}
+use Rattle.pgb_command.proofs.Closings.{closes_talk}
+use Rattle.pgb_command.proofs.Unused.{only_unbuilt, no_server_asked, report_asked, err_as}
 use Rattle.pgb_command.proofs.Carried.{runs_on, runs_off}
 use Rattle.pgb_command.proofs.Follows.{found, finishes, part_done, turns_back, fulfils, leaves_rest, opens_places, only_locked, completes}
 use Rattle.pgb_command.proofs.top.run.Goals as goal
@@ -56,3 +59,22 @@ returns-clause-locked g c = λ a asks. only_locked a _ _ c.carry.result (found (
 
 pub returns-clause-complete : goal.returns-clause-complete
 returns-clause-complete g c = completes (map string_bytes c.args.words.now) _ _ c.carry.result (returns-clause-answers g c)
+
+pub returns-in-Err-clause-closed : goal.returns-in-Err-clause-closed
+returns-in-Err-clause-closed g c = closes_talk _ _ c.answer.result (map string_bytes c.args.words.now) (returns-in-Err-clause-answers g c)
+
+pub returns-clause-closed : goal.returns-clause-closed
+returns-clause-closed g c = closes_talk _ _ c.carry.result (map string_bytes c.args.words.now) (returns-clause-answers g c)
+
+pub returns-clause-quiet : goal.returns-clause-quiet
+returns-clause-quiet g c = λ none. no_server_asked (map string_bytes c.args.words.now) (g.I.Source.files c.args.outside.now.config) c.in-Ok.command c.in-Ok.ensures.command _ c.carry.ensures.quiet
+    (λ s is. err_as (requested s) _ _ (λ e. ap (λ o. o.server) e) (c.carry.ensures.unbuilt s is)) none
+
+pub returns-clause-unused : goal.returns-clause-unused
+returns-clause-unused g c = λ a asks form is. report_asked (map string_bytes c.args.words.now) (g.I.Source.files c.args.outside.now.config) c.in-Ok.command c.in-Ok.ensures.command _ c.carry.ensures.unused a asks form is
+
+pub returns-clause-unasked : goal.returns-clause-unasked
+returns-clause-unasked g c = λ none.
+    let o = c.args.outside.now in
+    let e = only_unbuilt (map string_bytes c.args.words.now) (g.I.Source.files o.config) c.in-Ok.command c.in-Ok.ensures.command _ c.carry.ensures.unbuilt none in
+    subst (λ i. c.carry.new.outside ≡ record { repo = o.repo; spool = o.spool; tree = o.tree; server = o.server; aside = o.aside; clock = o.clock; locks = o.locks; config = i; out = c.carry.new.outside.out }) (ap (λ x. x.config) (sym e)) e

@@ -1,0 +1,184 @@
+-- After a server's answer that is refused the talk was ended.
+use Rattle.std.proofs.Common.{◌≡◌, ◌≤◌, ◌≢◌, ◌⊎◌, ◌∙◌, ℕ, List, [], inl, inr, Option, Result, Ok, Err, IfErr, refl, sym, ap, subst, arith}
+use Rattle.pgb_model.specs.Text.{Text}
+use Rattle.pgb_options.specs.declared.usage.Usage.{Usage}
+use Rattle.pgb_options.specs.declared.usage.Usage.TheVariants as usage
+use Rattle.pgb_stage.specs.declared.plan.Plan.{Plan}
+use Rattle.pgb_stage.specs.declared.object.Object.{Object}
+use Rattle.pgb_stage.specs.declared.object.Object.TheVariants as object
+use Rattle.pgb_stage.specs.declared.fault.StageFault.{StageFault}
+use Rattle.pgb_stage.specs.declared.fault.StageFault.TheVariants as stage
+use Rattle.pgb_stage.specs.declared.halt.Halt.TheVariants.{Refused}
+use Rattle.pgb_stage.specs.declared.outcome.Outcome.{Outcome}
+use Rattle.pgb_stage.specs.declared.outcome.Outcome.TheVariants.{Finished, Absent}
+use Rattle.pgb_stage.specs.Seen.{Seen, Failed}
+use Rattle.pgb_stage.specs.Texts.{stage_status, object_status}
+use Rattle.pgb_prepare.specs.Stages.{StageCause}
+use Rattle.pgb_create.specs.declared.fault.CreateFault.{CreateFault}
+use Rattle.pgb_create.specs.declared.fault.CreateFault.TheVariants as creates
+use Rattle.pgb_create.specs.Talking.{Ended, IsServerRefusal, Closes as CreateCloses}
+use Rattle.pgb_create.proofs.Statuses.{create_closed}
+use Rattle.pgb_push.specs.declared.fault.PushFault.{PushFault}
+use Rattle.pgb_push.specs.declared.fault.PushFault.TheVariants as pushes
+use Rattle.pgb_push.specs.Texts.{push_status}
+use Rattle.pgb_get.specs.declared.fault.GetFault.{GetFault}
+use Rattle.pgb_get.specs.declared.fault.GetFault.TheVariants as gets
+use Rattle.pgb_get.specs.Texts.{get_status}
+use Rattle.pgb_command.specs.declared.fault.CommandFault.{CommandFault}
+use Rattle.pgb_command.specs.declared.fault.CommandFault.TheVariants.{Create, Push, Get}
+use Rattle.pgb_command.specs.declared.fault.Fault.{Fault}
+use Rattle.pgb_command.specs.declared.fault.Fault.TheVariants as fault
+use Rattle.pgb_command.specs.Answers.{status, status_of, usage_status, ending_of}
+use Rattle.pgb_command.specs.Asked.{Request, create, push, get, report, Asked}
+use Rattle.pgb_command.specs.Causes.{IsAnswered, IsIdle, Carries, Answers, ClosesTalk}
+use Rattle.pgb_command.specs.Configuring.{ConfigCause}
+use Rattle.pgb_command.specs.Did.{Cause, Closes}
+use Rattle.pgb_command.specs.Tables.{Known, plan_of, CommandCause, OnOther}
+use Rattle.pgb_command.proofs.Follows.{told_as}
+
+-- ---- which refusals have such a status
+
+apart : {P : Type 0} (n : ℕ) → (n ≤ 46) ⊎ (72 ≤ n) → IsServerRefusal n → P
+apart n (inl a) (inl b) = absurd (omega (arith, a, b.0))
+apart n (inl a) (inr b) = absurd (omega (arith, a, b.0))
+apart n (inr a) (inl b) = absurd (omega (arith, a, b.1))
+apart n (inr a) (inr b) = absurd (omega (arith, a, b.1))
+
+low : {P : Type 0} (n : ℕ) → (n ≤ 46) → IsServerRefusal n → P
+low n le = apart n (inl le)
+
+high : {P : Type 0} (n : ℕ) → (72 ≤ n) → IsServerRefusal n → P
+high n le = apart n (inr le)
+
+usage_apart : {P : Type 0} (u : Usage) → IsServerRefusal (usage_status u) → P
+usage_apart usage.CommandMissing = low 2 (omega arith)
+usage_apart (usage.CommandUnknown a) = low 3 (omega arith)
+usage_apart (usage.OptionUnknown a) = low 4 (omega arith)
+usage_apart (usage.OptionRepeated a) = low 5 (omega arith)
+usage_apart (usage.OptionValue a) = low 6 (omega arith)
+usage_apart (usage.OptionMissing a) = low 7 (omega arith)
+usage_apart (usage.OptionNotFor a) = low 8 (omega arith)
+usage_apart (usage.ConfigSyntax a) = low 9 (omega arith)
+usage_apart (usage.ParameterCount a) = low 11 (omega arith)
+usage_apart usage.ParameterUtf8 = low 13 (omega arith)
+usage_apart usage.NoMemory = high 90 (omega arith)
+
+stage_long : (e : StageFault) → IsServerRefusal (stage_status e) → stage_status e ≡ 70
+stage_long (stage.NotBuilt a) = high 100 (omega arith)
+stage_long (stage.ConfigMissing a) = low 10 (omega arith)
+stage_long (stage.ConfigLong a b) = λ is. refl
+stage_long (stage.Held a) = low 20 (omega arith)
+stage_long (stage.ControlMissing a) = low 28 (omega arith)
+stage_long (stage.ControlShort a) = low 25 (omega arith)
+stage_long stage.VersionText = low 26 (omega arith)
+stage_long (stage.VersionUnsupported a) = low 27 (omega arith)
+stage_long (stage.StanzaMissing a) = low 21 (omega arith)
+stage_long (stage.InfoDamaged a b c) = low 22 (omega arith)
+
+-- no stage behind the words has it
+stage_apart : {P : Type 0} (plan : Plan) (stanza : Text) (b k : Seen) (e : StageFault) → IsServerRefusal (stage_status e) → StageCause plan stanza b k e → P
+stage_apart plan stanza b k (stage.ConfigLong name limit) is (inl held) = absurd held
+stage_apart plan stanza b k (stage.ConfigLong name limit) is (inr (inl found)) = absurd found.1
+stage_apart plan stanza b k (stage.ConfigLong name limit) is (inr (inr (tells, inl found))) = absurd found.1
+stage_apart plan stanza b k (stage.ConfigLong name limit) is (inr (inr (tells, inr (reads, has, none)))) = absurd none
+stage_apart plan stanza b k (stage.NotBuilt a) is cause = high 100 (omega arith) is
+stage_apart plan stanza b k (stage.ConfigMissing a) is cause = low 10 (omega arith) is
+stage_apart plan stanza b k (stage.Held a) is cause = low 20 (omega arith) is
+stage_apart plan stanza b k (stage.ControlMissing a) is cause = low 28 (omega arith) is
+stage_apart plan stanza b k (stage.ControlShort a) is cause = low 25 (omega arith) is
+stage_apart plan stanza b k stage.VersionText is cause = low 26 (omega arith) is
+stage_apart plan stanza b k (stage.VersionUnsupported a) is cause = low 27 (omega arith) is
+stage_apart plan stanza b k (stage.StanzaMissing a) is cause = low 21 (omega arith) is
+stage_apart plan stanza b k (stage.InfoDamaged a b' c) is cause = low 22 (omega arith) is
+
+object_apart : {P : Type 0} (o : Object) → IsServerRefusal (object_status o) → P
+object_apart object.Repo = high 80 (omega arith)
+object_apart object.Spool = high 81 (omega arith)
+object_apart object.DataFolder = high 82 (omega arith)
+object_apart object.Server = high 83 (omega arith)
+object_apart object.Others = high 89 (omega arith)
+object_apart object.Clock = high 84 (omega arith)
+object_apart object.Locks = high 85 (omega arith)
+object_apart object.Config = high 86 (omega arith)
+object_apart object.Output = high 87 (omega arith)
+
+push_long : (e : PushFault) → IsServerRefusal (push_status e) → push_status e ≡ 70
+push_long (pushes.SegmentName a) = low 30 (omega arith)
+push_long (pushes.PathOutside a) = low 12 (omega arith)
+push_long (pushes.StanzaMismatch a b) = low 23 (omega arith)
+push_long (pushes.SegmentMissing a) = low 37 (omega arith)
+push_long (pushes.TooLong a b) = λ is. refl
+push_long (pushes.HeaderForm a) = low 32 (omega arith)
+push_long (pushes.SegmentSize a b) = low 31 (omega arith)
+push_long (pushes.HeaderMismatch a b) = low 33 (omega arith)
+push_long (pushes.Ambiguous a b) = low 36 (omega arith)
+push_long (pushes.Duplicate a b) = low 34 (omega arith)
+
+get_long : (e : GetFault) → IsServerRefusal (get_status e) → get_status e ≡ 70
+get_long (gets.SegmentName a) = low 30 (omega arith)
+get_long (gets.PathOutside a) = low 12 (omega arith)
+get_long (gets.StanzaMismatch a b) = low 23 (omega arith)
+get_long (gets.Ambiguous a b) = low 36 (omega arith)
+get_long (gets.SegmentDamaged a b) = low 35 (omega arith)
+get_long (gets.TooLong a b) = λ is. refl
+
+-- ---- what was said then
+
+back_closes : (b k : Seen) (e : CreateFault) → Closes b k (fault.Command (Create e)) → CreateCloses (Failed b k object.Server) b.server.sent k.server.sent (Refused e)
+back_closes b k (creates.Server f) h = h
+back_closes b k (creates.InfoDamaged name main copy) h = tt
+back_closes b k (creates.HistoryDiffers at) h = tt
+back_closes b k (creates.StanzaMismatch kept found) h = tt
+back_closes b k (creates.ArchiveLost label) h = tt
+
+push_other : {P : Type 0} (a : Asked) (q : Request) (old : Known) (e : PushFault) → CommandCause a q old (Push e) → OnOther q P → P
+push_other a create old e cause p = absurd cause
+push_other a (push path) old e cause p = p
+push_other a (get name path) old e cause p = absurd cause
+push_other a (report form) old e cause p = absurd cause
+
+get_other : {P : Type 0} (a : Asked) (q : Request) (old : Known) (e : GetFault) → CommandCause a q old (Get e) → OnOther q P → P
+get_other a create old e cause p = absurd cause
+get_other a (push path) old e cause p = absurd cause
+get_other a (get name path) old e cause p = p
+get_other a (report form) old e cause p = absurd cause
+
+module _ (b k : Seen) (n : ℕ) where
+  abbrev Said : Type 0
+  Said = Ended k.server.sent ⊎ (Failed b k object.Server ⊎ ((n ≡ 70) × (k.server.sent ≡ b.server.sent)))
+
+  ended : Ended k.server.sent ⊎ Failed b k object.Server → Said
+  ended (inl e) = inl e
+  ended (inr f) = inr (inl f)
+
+  at_fault : (a : Asked) (e : Fault) → n ≡ status_of e → IsServerRefusal n → Cause a b k e → Closes b k e → OnOther a.request (k.server ≡ b.server) → Said
+  at_fault a (fault.Usage u) is refusal cause closes others = absurd cause
+  at_fault a (fault.Stage e) is refusal cause closes others = stage_apart (plan_of a.request) a.stanza b k e (subst IsServerRefusal is refusal) cause
+  at_fault a (fault.Command (Create e)) is refusal cause closes others = ended (create_closed (Failed b k object.Server) b.server.sent k.server.sent e (subst IsServerRefusal is refusal) (back_closes b k e closes))
+  at_fault a (fault.Command (Push e)) is refusal cause closes others = inr (inr (is ∙ push_long e (subst IsServerRefusal is refusal), ap (λ w. w.sent) (push_other a a.request _ e cause.2 others)))
+  at_fault a (fault.Command (Get e)) is refusal cause closes others = inr (inr (is ∙ get_long e (subst IsServerRefusal is refusal), ap (λ w. w.sent) (get_other a a.request _ e cause.2 others)))
+  at_fault a (fault.Failed o) is refusal cause closes others = object_apart o (subst IsServerRefusal is refusal)
+  at_fault a fault.NoMemory is refusal cause closes others = high 90 (omega arith) (subst IsServerRefusal is refusal)
+
+  at_words : (words : List Text) (e : Fault) → n ≡ status_of e → IsServerRefusal n → IsIdle b k → ConfigCause words b.config.files (Failed b k object.Config) e → Said
+  at_words words (fault.Usage u) is refusal idle cause = usage_apart u (subst IsServerRefusal is refusal)
+  at_words words (fault.Stage e) is refusal idle cause = inr (inr (is ∙ stage_long e (subst IsServerRefusal is refusal), ap (λ w. w.sent) idle.server))
+  at_words words (fault.Command e) is refusal idle cause = absurd cause
+  at_words words (fault.Failed o) is refusal idle cause = object_apart o (subst IsServerRefusal is refusal)
+  at_words words fault.NoMemory is refusal idle cause = high 90 (omega arith) (subst IsServerRefusal is refusal)
+
+  cut : {P : Type 0} (m : ℕ) → (72 ≤ m) → n ≡ m → IsServerRefusal n → P
+  cut m le is refusal = high m le (subst IsServerRefusal is refusal)
+
+  at_end : (a : Asked) (unknown : List Text) → (c : Carries a unknown b k n) → IsServerRefusal n → Said
+  at_end a unknown c refusal = go c.ended c.did.cause c.did.spares.closed c.answered
+    where
+      go : (r : Result Outcome Fault) → IfErr r (Cause a b k) → IfErr r (Closes b k) → IsAnswered unknown b k r n → Said
+      go (Ok (Finished lines)) cause closes t = told_as unknown b k (Ok (Finished lines)) n t (λ is. low 0 (omega arith) (subst IsServerRefusal is refusal)) (λ is rose. cut 87 (omega arith) is refusal) (λ is. cut 90 (omega arith) is refusal)
+      go (Ok (Absent name)) cause closes t = told_as unknown b k (Ok (Absent name)) n t (λ is. low 1 (omega arith) (subst IsServerRefusal is refusal)) (λ is rose. cut 87 (omega arith) is refusal) (λ is. cut 90 (omega arith) is refusal)
+      go (Err e) cause closes t = told_as unknown b k (Err e) n t (λ is. at_fault a e is refusal cause closes c.did.spares.others) (λ is rose. cut 87 (omega arith) is refusal) (λ is. cut 90 (omega arith) is refusal)
+
+  pub closes_talk : (words : List Text) → Answers words b k n → ClosesTalk b k n
+  closes_talk words (inl r) refusal = told_as [] b k (Err r.fault) n r.answered (λ is. at_words words r.fault is refusal r.idle r.cause) (λ is rose. cut 87 (omega arith) is refusal) (λ is. cut 90 (omega arith) is refusal)
+  closes_talk words (inr (s, settles, inl (a, is, c))) refusal = at_end a s.warnings c refusal
+  closes_talk words (inr (s, settles, inr (what, is, idle, t))) refusal = told_as s.warnings b k _ n t (λ e. high 100 (omega arith) (subst IsServerRefusal e refusal)) (λ e rose. cut 87 (omega arith) e refusal) (λ e. cut 90 (omega arith) e refusal)

@@ -1,0 +1,55 @@
+-- What a command doesn't use.
+use Rattle.std.proofs.Common.{◌≡◌, ◌∙◌, List, Option, Some, None, Result, Ok, Err, IfErr, refl, sym, subst}
+use Rattle.std.specs.Prelude.{IsSome}
+use Rattle.pgb_outside.specs.Content.{Content}
+use Rattle.pgb_model.specs.Text.{Text}
+use Rattle.pgb_options.specs.declared.options.OutputWord.{OutputWord}
+use Rattle.pgb_options.specs.declared.settle.Command.{Command}
+use Rattle.pgb_options.specs.declared.table.Opt.TheVariants.{Pg1Path, Repo1Path, LockPath}
+use Rattle.pgb_options.specs.Commands.{IsCommand}
+use Rattle.pgb_options.specs.Settings.{Settled}
+use Rattle.pgb_stage.specs.declared.fault.Unbuilt.{Unbuilt}
+use Rattle.pgb_command.specs.Asked.{Request, report, Asked, Settles, IsAsked, MayAsk, Asks, path_in, requested, server_asked}
+use Rattle.pgb_command.proofs.AskedOnce.{ok_same, one_settling}
+
+-- what settled words ask for
+abbrev asked_in : (s : Settled) (request : Request) → Asked
+asked_in s request = record { stanza = s.stanza; data_folder = path_in s.source Pg1Path; repository = path_in s.source Repo1Path; lock_folder = path_in s.source LockPath; server = server_asked s; request = request }
+
+is_asked : (s : Settled) (request : Request) → requested s ≡ Ok request → IsAsked s (asked_in s request)
+is_asked s request is = record { stanza = refl; data_folder = refl; repository = refl; lock_folder = refl; server = refl; request = is }
+
+module _ (words : List Text) (files : Option Content) (c : Command) (x : (s : Settled) × Settles words files (Ok s) × IsCommand c s) where
+  asks : (request : Request) → requested x.0 ≡ Ok request → MayAsk words files (asked_in x.0 request)
+  asks request is = record { settings = x.0; settles = x.1; is = is_asked x.0 request is }
+
+  -- nothing is asked for
+  pub only_unbuilt : (P : Type 0) → ((s : Settled) → IsCommand c s → IfErr (requested s) (λ what. P)) → ((a : Asked) → ¬ MayAsk words files a) → P
+  only_unbuilt P unbuilt none = go (requested x.0) refl (unbuilt x.0 x.2)
+    where
+      go : (r : Result Request Unbuilt) → requested x.0 ≡ r → IfErr r (λ what. P) → P
+      go (Ok request) is h = absurd (none (asked_in x.0 request) (asks request is))
+      go (Err what) is h = h
+
+  -- no server is asked
+  pub no_server_asked : (P : Type 0) → ((s : Settled) → IsCommand c s → server_asked s ≡ None → P) → ((s : Settled) → IsCommand c s → IfErr (requested s) (λ what. P)) → ((a : Asked) → MayAsk words files a → a.server ≡ None) → P
+  no_server_asked P quiet unbuilt none = go (requested x.0) refl (unbuilt x.0 x.2)
+    where
+      go : (r : Result Request Unbuilt) → requested x.0 ≡ r → IfErr r (λ what. P) → P
+      go (Ok request) is h = quiet x.0 x.2 (none (asked_in x.0 request) (asks request is))
+      go (Err what) is h = h
+
+  -- the report is asked for
+  pub report_asked : (P : Type 0) → ((s : Settled) → IsCommand c s → (form : OutputWord) → requested s ≡ Ok (report form) → P) → (a : Asked) → Asks words files a → (form : OutputWord) → a.request ≡ report form → P
+  report_asked P unused a told form is = unused x.0 x.2 form (subst (λ (s : Settled). requested s ≡ Ok (report form)) (same told.told told.asks) (subst (λ (q : Request). requested told.asks.settings ≡ Ok q) is told.asks.is.request))
+    where
+      same : IsSome files → (m : MayAsk words files a) → m.settings ≡ x.0
+      same some m = go files some m.settles x.1
+        where
+          go : (o : Option Content) → IsSome o → Settles words o (Ok m.settings) → Settles words o (Ok x.0) → m.settings ≡ x.0
+          go None some p q = cc
+          go (Some f) some p q = ok_same m.settings x.0 (one_settling words f (Ok m.settings) (Ok x.0) p q)
+
+pub err_as : {T E : Type 0} (r : Result T E) (P Q : Type 0) → (P → Q) → IfErr r (λ e. P) → IfErr r (λ e. Q)
+err_as (Ok x) P Q to h = tt
+err_as (Err e) P Q to h = to h
