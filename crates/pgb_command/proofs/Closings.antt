@@ -1,5 +1,5 @@
 -- After a server's answer that is refused the talk was ended.
-use Rattle.std.proofs.Common.{◌≡◌, ◌≤◌, ◌≢◌, ◌⊎◌, ◌∙◌, ℕ, List, [], inl, inr, Option, Result, Ok, Err, IfErr, refl, sym, ap, subst, arith}
+use Rattle.std.proofs.Common.{◌≡◌, ◌≤◌, ◌⊎◌, ◌∙◌, ℕ, List, [], inl, inr, Result, Ok, Err, IfErr, refl, ap, subst, arith}
 use Rattle.pgb_model.specs.Text.{Text}
 use Rattle.pgb_options.specs.declared.usage.Usage.{Usage}
 use Rattle.pgb_options.specs.declared.usage.Usage.TheVariants as usage
@@ -24,11 +24,10 @@ use Rattle.pgb_push.specs.Texts.{push_status}
 use Rattle.pgb_get.specs.declared.fault.GetFault.{GetFault}
 use Rattle.pgb_get.specs.declared.fault.GetFault.TheVariants as gets
 use Rattle.pgb_get.specs.Texts.{get_status}
-use Rattle.pgb_command.specs.declared.fault.CommandFault.{CommandFault}
 use Rattle.pgb_command.specs.declared.fault.CommandFault.TheVariants.{Create, Push, Get}
 use Rattle.pgb_command.specs.declared.fault.Fault.{Fault}
 use Rattle.pgb_command.specs.declared.fault.Fault.TheVariants as fault
-use Rattle.pgb_command.specs.Answers.{status, status_of, usage_status, ending_of}
+use Rattle.pgb_command.specs.Answers.{status_of, usage_status}
 use Rattle.pgb_command.specs.Asked.{Request, create, push, get, report, Asked}
 use Rattle.pgb_command.specs.Causes.{IsAnswered, IsIdle, Carries, Answers, ClosesTalk}
 use Rattle.pgb_command.specs.Configuring.{ConfigCause}

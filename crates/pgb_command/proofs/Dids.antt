@@ -1,5 +1,5 @@
 -- What the stages add to a command's own part: the same lemmas for every command.
-use Rattle.std.proofs.Common.{◌≡◌, ◌≤◌, ◌⊎◌, inl, inr, ℕ, List, [], Option, None, Result, Ok, Err, IfOk, IfErr, refl, sym, ◌∙◌, subst, ap, arith, Bool, true, false}
+use Rattle.std.proofs.Common.{◌≡◌, ◌≤◌, inl, inr, ℕ, List, Option, Result, Ok, Err, IfOk, IfErr, refl, sym, ◌∙◌, subst, ap, arith, Bool, true, false}
 use Rattle.std.specs.Prelude.{OnOk, IfSome, IsSome, IsErrAnd}
 use Rattle.pgb_outside.specs.Cause.{Rises}
 use Rattle.pgb_outside.specs.Content.{Content}
@@ -10,7 +10,7 @@ use Rattle.pgb_model.specs.Text.{Text}
 use Rattle.pgb_model.specs.Steps.{Command}
 use Rattle.pgb_stage.specs.declared.plan.Plan.{Plan}
 use Rattle.pgb_stage.specs.declared.object.Object.{Object}
-use Rattle.pgb_stage.specs.declared.object.Object.TheVariants.{Repo, Spool, DataFolder, Server, Others, Clock, Locks, Config, Output}
+use Rattle.pgb_stage.specs.declared.object.Object.TheVariants.{Locks}
 use Rattle.pgb_stage.specs.declared.fault.StageFault.{StageFault}
 use Rattle.pgb_stage.specs.declared.fault.StageFault.TheVariants.{Held}
 use Rattle.pgb_stage.specs.declared.halt.Halt.{Halt}
@@ -19,10 +19,10 @@ use Rattle.pgb_stage.specs.declared.outcome.Outcome.{Outcome}
 use Rattle.pgb_stage.specs.Halts.{HaltCause, Never, Only}
 use Rattle.pgb_stage.specs.Plans.{Heals, AreHealed, OnReading}
 use Rattle.pgb_stage.specs.Reached.{back_if}
-use Rattle.pgb_stage.specs.Runs.{Reached, to_end, turned_back, stopped, OnNone, Runs, Leads, Passes, Takes, Quiet, Begins, On}
-use Rattle.pgb_stage.specs.Seen.{Seen, faults_of, Failed, AreLater, AreRead}
-use Rattle.pgb_stage.specs.States.{WireState, LocksState, SinkState}
-use Rattle.pgb_stage.proofs.Counts.{rises_from, rises_to}
+use Rattle.pgb_stage.specs.Runs.{Reached, to_end, turned_back, stopped, OnNone, Runs, Takes, Quiet, Begins, On}
+use Rattle.pgb_stage.specs.Seen.{Seen, Failed, AreLater, AreRead}
+use Rattle.pgb_stage.specs.States.{WireState, LocksState}
+use Rattle.pgb_stage.proofs.Counts.{rises_from}
 use Rattle.pgb_stage.proofs.Lifted.{on_as, still_quiet, rests_quiet, quiet_takes, begun_takes, opened_takes}
 use Rattle.pgb_prepare.specs.Stages.{FoundCause, StageCause}
 use Rattle.pgb_prepare.specs.Taking.{HeldCause}
@@ -34,7 +34,7 @@ use Rattle.pgb_command.specs.Answers.{reached_of, ending_of, is_early}
 use Rattle.pgb_command.specs.Asked.{Request, create, push, get, report, Asked}
 use Rattle.pgb_command.specs.Faults.{of_stage}
 use Rattle.pgb_command.specs.Tables.{Known, known, plan_of, manner_of, CommandCause, Promise, OnReader, OnCreate, OnOther, FolderGoes}
-use Rattle.pgb_command.specs.Did.{Ran, OnReady, Cause, Did, OwnCause, SamePlaces, Spares, Closes, WordsCause}
+use Rattle.pgb_command.specs.Did.{Ran, OnReady, Cause, Did, OwnCause, Spares, Closes, WordsCause}
 use Rattle.pgb_command.proofs.Ends.{all_later, only_rose}
 
 -- ---- nothing was done: a line a command

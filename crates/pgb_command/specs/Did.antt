@@ -1,6 +1,5 @@
 -- What a command did, whichever it is.
-use Rattle.std.specs.Prelude.{◌≡◌, ◌⊎◌, Bool, true, false, List, Option, None, Result, Ok, Err, IfOk, IfErr, OnOk, IfSome, IsSome}
-use Rattle.pgb_outside.specs.Cause.{Rises}
+use Rattle.std.specs.Prelude.{◌≡◌, ◌⊎◌, Bool, true, false, List, Option, None, Result, IfOk, IfErr, OnOk, IfSome, IsSome}
 use Rattle.pgb_outside.specs.Content.{Content}
 use Rattle.pgb_outside.specs.States.{IsOpened, OpensOnly}
 use Rattle.pgb_model.specs.Text.{Text}

@@ -1,5 +1,5 @@
 -- What a plan asks of the stages (pgBackRest command reference; own which locks).
-use Rattle.std.specs.Prelude.{◌≡◌, ◌⊎◌, ◌++◌, Bool, true, false, List, [], ◌∷◌, codes, Option, Some, None, option_map, IfSome, IsSome, if◌then◌else◌}
+use Rattle.std.specs.Prelude.{◌≡◌, ◌⊎◌, ◌++◌, Bool, List, ◌∷◌, codes, Option, Some, None, option_map, IsSome, if◌then◌else◌}
 use Rattle.pgb_outside.specs.Content.{Content, Name, at}
 use Rattle.pgb_outside.specs.Crash.{IsTemporary}
 use Rattle.pgb_model.specs.Text.{Text}
