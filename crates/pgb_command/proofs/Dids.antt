@@ -203,7 +203,8 @@ stage_from a b m k read fault (inr found) = inr (subst (λ (o : Option Content).
 cause_from : (a : Asked) (b m k : Seen) → AreRead b m → (fault : Fault) → Cause a m k fault → Cause a b k fault
 cause_from a b m k read (Usage usage) h = h
 cause_from a b m k read (Stage fault) h = stage_from a b m k read fault h
-cause_from a b m k read (OfCommand fault) h = subst (λ (o : Known). OnReady a o (λ old. CommandCause a a.request old fault)) (known_same b m read) h
+cause_from a b m k read (OfCommand fault) (inl h) = inl h
+cause_from a b m k read (OfCommand fault) (inr h) = inr (subst (λ (o : Known). OnReady a o (λ old. CommandCause a a.request old fault)) (known_same b m read) h)
 cause_from a b m k read (ObjectFailed object) h = rises_from _ _ _ (read.later object) h
 cause_from a b m k read NoMemory h = h
 
@@ -274,7 +275,7 @@ did_ran a b m k r others nodes repo_later tree_later quiet begun heals healed st
     own : (fault : Fault) → OwnCause a m k fault → Cause a b k fault
     own (Usage usage) h = h
     own (Stage fault) h = absurd h
-    own (OfCommand fault) h = (m.repo.view.now, heals, subst (λ (o : Known). CommandCause a a.request o fault) known_is h)
+    own (OfCommand fault) h = inr (m.repo.view.now, heals, subst (λ (o : Known). CommandCause a a.request o fault) known_is h)
     own (ObjectFailed object) h = rises_from _ _ _ (later object) h
     own NoMemory h = h
 
@@ -322,12 +323,6 @@ pub starved : (a : Asked) (b : Seen) (r : Result Outcome Fault) → IsErrAnd r (
 starved a b r is = did_err a b b NoMemory r is (refused_at a b NoMemory tt tt)
 
 -- a command's words are refused
-heals_none : (request : Request) (stanza : Text) (repo : Option Content) → Heals (plan_of request).pairs stanza repo repo
-heals_none create stanza repo = refl
-heals_none (push path) stanza repo = λ some. record { others = λ n x y. refl }
-heals_none (get name path) stanza repo = refl
-heals_none (report form) stanza repo = refl
-
 word_closes : (a : Asked) (b : Seen) (fault : Fault) → WordsCause a fault → Closes b b fault
 word_closes a b (Usage usage) h = absurd h
 word_closes a b (Stage fault) h = absurd h
@@ -341,8 +336,8 @@ word_cause : (a : Asked) (b : Seen) (fault : Fault) → WordsCause a fault → C
 word_cause a b (Usage usage) h = absurd h
 word_cause a b (Stage fault) h = absurd h
 word_cause a b (OfCommand (Create fault)) h = absurd h
-word_cause a b (OfCommand (Push fault)) h = (b.repo.view.now, heals_none a.request a.stanza b.repo.view.now, h (known b))
-word_cause a b (OfCommand (Get fault)) h = (b.repo.view.now, heals_none a.request a.stanza b.repo.view.now, h (known b))
+word_cause a b (OfCommand (Push fault)) h = inl h
+word_cause a b (OfCommand (Get fault)) h = inl h
 word_cause a b (ObjectFailed object) h = absurd h
 word_cause a b NoMemory h = tt
 

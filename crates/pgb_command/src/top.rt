@@ -74,8 +74,8 @@ pub fn run<
 ) -> u8
     requires free { K.taken outside.old.locks ≡ [] }
 
-    // The words are refused, and nothing is done; or what they settle is done, with its cause, and told. All that follows is
-    // a part of this, for each command that the words ask for.
+    // The words are refused, and nothing is done; or what they settle is done, with its cause, and told. What follows of
+    // steps, promises and places is a part of this, for each command that the words ask for.
     ensures answers { let told = ⟦<Outside<D, S, T, V, A, C, K, I, O> as Told>⟧.told in
         Answers (map string_bytes words.now) (told outside.old) (told outside.new) result }
 
