@@ -1,8 +1,7 @@
 -- What was done, told by the output.
-use Rattle.std.proofs.Common.{◌≡◌, ◌≤◌, ◌⊎◌, ◌∙◌, ℕ, List, [], inl, inr, map, string_bytes, Option, Result, Ok, Err, IfErr, refl, sym, ap, subst, arith}
+use Rattle.std.proofs.Common.{◌≡◌, ◌≤◌, ◌∙◌, ℕ, List, [], inl, inr, map, string_bytes, Option, Result, Ok, Err, IfErr, refl, subst, arith}
 use Rattle.std.specs.Prelude.{OnOk}
 use Rattle.pgb_outside.specs.Cause.{Rises}
-use Rattle.pgb_outside.specs.Content.{Content}
 use Rattle.pgb_options.specs.declared.settle.Command.{Command}
 use Rattle.pgb_options.specs.Commands.{IsCommand}
 use Rattle.pgb_options.specs.Settings.{Settled}
@@ -23,8 +22,8 @@ use Rattle.pgb_command.specs.declared.fault.Fault.TheVariants.{Usage, Stage, Com
 use Rattle.pgb_command.specs.Answers.{Ending, status, answer_of}
 use Rattle.pgb_command.specs.Asked.{Asked, Settles, IsAsked, requested}
 use Rattle.pgb_command.specs.Configuring.{ConfigCause}
-use Rattle.pgb_command.specs.Causes.{IsAnswered, IsIdle, Carries, Refuses, Obeys, Answers}
-use Rattle.pgb_command.specs.Did.{Did, ComesBehind, Brackets, Cause, Spares, Closes, OpensPlaces, ArePlacesOpened}
+use Rattle.pgb_command.specs.Causes.{IsAnswered, IsIdle, Obeys, Answers}
+use Rattle.pgb_command.specs.Did.{Did, ComesBehind, Brackets, Cause, Closes, ArePlacesOpened}
 use Rattle.pgb_command.specs.Output.{IsTold}
 use Rattle.pgb_command.proofs.Dids.{did_from, later_on}
 use Rattle.pgb_command.proofs.Ends.{all_later}
@@ -118,13 +117,17 @@ idle_written b o = record { repo = still_self b.repo.view; opened = refl; spool 
 
 pub carries : (c : Command) (a : Asked) (given : List Text) (b k : Seen) (o : SinkState) (ended : Result Outcome Fault) (n : ℕ) → given ≡ map string_bytes c.warnings.items → k.out ≡ b.out → k.out.faults ≤ o.faults → ((s : Settled) → IsCommand c s → IsAsked s a) →
     ComesBehind a ended → Did a b k ended → Brackets a b k ended → ToldOf given ended k.out o n → (s : Settled) → IsCommand c s → Obeys s b (record k { out = o }) n
-carries c a given b k o ended n words same le asked behind did brackets t s is = inl (a, asked s is, record {
-  ended = ended;
-  words = behind;
-  did = did_written a b k o le ended did;
-  brackets = brackets_written a b k o ended brackets;
-  answered = answered_by s.warnings given b k o ended n (words ∙ is.warnings) same t;
-})
+carries c a given b k o ended n words same le asked behind did brackets t s is = inl (
+  a,
+  asked s is,
+  record {
+    ended = ended;
+    words = behind;
+    did = did_written a b k o le ended did;
+    brackets = brackets_written a b k o ended brackets;
+    answered = answered_by s.warnings given b k o ended n (words ∙ is.warnings) same t;
+  },
+)
 
 pub unbuilt : (c : Command) (what : Unbuilt) (given : List Text) (b : Seen) (o : SinkState) (n : ℕ) → given ≡ map string_bytes c.warnings.items → ((s : Settled) → IsCommand c s → requested s ≡ Err what) →
     ToldOf given (Err (Stage (NotBuilt what))) b.out o n → (s : Settled) → IsCommand c s → Obeys s b (record b { out = o }) n
@@ -160,13 +163,17 @@ brackets_from a b k i r h = record {
 }
 
 obeys_from : (s : Settled) (b k : Seen) (i : SourceState) (n : ℕ) → i.files ≡ b.config.files → b.config.faults ≤ i.faults → Obeys s (record b { config = i }) k n → Obeys s b k n
-obeys_from s b k i n files le (inl x) = inl (x.0, x.1, record {
-  ended = x.2.ended;
-  words = x.2.words;
-  did = did_from x.0 b (record b { config = i }) k x.2.ended (config_read b i files le) x.2.did;
-  brackets = brackets_from x.0 b k i x.2.ended x.2.brackets;
-  answered = answered_from s.warnings b k i x.2.ended n x.2.answered;
-})
+obeys_from s b k i n files le (inl x) = inl (
+  x.0,
+  x.1,
+  record {
+    ended = x.2.ended;
+    words = x.2.words;
+    did = did_from x.0 b (record b { config = i }) k x.2.ended (config_read b i files le) x.2.did;
+    brackets = brackets_from x.0 b k i x.2.ended x.2.brackets;
+    answered = answered_from s.warnings b k i x.2.ended n x.2.answered;
+  },
+)
 obeys_from s b k i n files le (inr x) = let idle = x.2 in inr (x.0, x.1, record { repo = idle.repo; opened = idle.opened; spool = idle.spool; tree = idle.tree; server = idle.server; locks = idle.locks }, answered_from s.warnings b k i (Err (Stage (NotBuilt x.0))) n x.3)
 
 -- what was settled is carried out

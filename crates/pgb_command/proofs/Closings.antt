@@ -1,5 +1,5 @@
 -- After a server's answer that is refused the talk was ended.
-use Rattle.std.proofs.Common.{◌≡◌, ◌≤◌, ◌≢◌, ◌⊎◌, ◌∙◌, ℕ, List, [], inl, inr, Option, Result, Ok, Err, IfErr, refl, sym, ap, subst, arith}
+use Rattle.std.proofs.Common.{◌≡◌, ◌≤◌, ◌⊎◌, ◌∙◌, ℕ, List, [], inl, inr, Result, Ok, Err, IfErr, refl, ap, subst, arith}
 use Rattle.pgb_model.specs.Text.{Text}
 use Rattle.pgb_options.specs.declared.usage.Usage.{Usage}
 use Rattle.pgb_options.specs.declared.usage.Usage.TheVariants as usage
@@ -24,16 +24,15 @@ use Rattle.pgb_push.specs.Texts.{push_status}
 use Rattle.pgb_get.specs.declared.fault.GetFault.{GetFault}
 use Rattle.pgb_get.specs.declared.fault.GetFault.TheVariants as gets
 use Rattle.pgb_get.specs.Texts.{get_status}
-use Rattle.pgb_command.specs.declared.fault.CommandFault.{CommandFault}
 use Rattle.pgb_command.specs.declared.fault.CommandFault.TheVariants.{Create, Push, Get}
 use Rattle.pgb_command.specs.declared.fault.Fault.{Fault}
 use Rattle.pgb_command.specs.declared.fault.Fault.TheVariants as fault
-use Rattle.pgb_command.specs.Answers.{status, status_of, usage_status, ending_of}
+use Rattle.pgb_command.specs.Answers.{status_of, usage_status}
 use Rattle.pgb_command.specs.Asked.{Request, create, push, get, report, Asked}
 use Rattle.pgb_command.specs.Causes.{IsAnswered, IsIdle, Carries, Answers, ClosesTalk}
 use Rattle.pgb_command.specs.Configuring.{ConfigCause}
 use Rattle.pgb_command.specs.Did.{Cause, Closes}
-use Rattle.pgb_command.specs.Tables.{Known, plan_of, CommandCause, OnOther}
+use Rattle.pgb_command.specs.Tables.{Known, known, CommandCause, OnOther, plan_of}
 use Rattle.pgb_command.proofs.Follows.{told_as}
 
 -- ---- which refusals have such a status
@@ -143,6 +142,14 @@ get_other a (push path) old e cause p = absurd cause
 get_other a (get name path) old e cause p = p
 get_other a (report form) old e cause p = absurd cause
 
+push_at : {P : Type 0} (a : Asked) (b k : Seen) (e : PushFault) → Cause a b k (fault.Command (Push e)) → OnOther a.request P → P
+push_at a b k e (inl words) p = push_other a a.request (known b) e (words (known b)) p
+push_at a b k e (inr ready) p = push_other a a.request _ e ready.2 p
+
+get_at : {P : Type 0} (a : Asked) (b k : Seen) (e : GetFault) → Cause a b k (fault.Command (Get e)) → OnOther a.request P → P
+get_at a b k e (inl words) p = get_other a a.request (known b) e (words (known b)) p
+get_at a b k e (inr ready) p = get_other a a.request _ e ready.2 p
+
 module _ (b k : Seen) (n : ℕ) where
   abbrev Said : Type 0
   Said = Ended k.server.sent ⊎ (Failed b k object.Server ⊎ ((n ≡ 70) × (k.server.sent ≡ b.server.sent)))
@@ -155,8 +162,8 @@ module _ (b k : Seen) (n : ℕ) where
   at_fault a (fault.Usage u) is refusal cause closes others = absurd cause
   at_fault a (fault.Stage e) is refusal cause closes others = stage_apart (plan_of a.request) a.stanza b k e (subst IsServerRefusal is refusal) cause
   at_fault a (fault.Command (Create e)) is refusal cause closes others = ended (create_closed (Failed b k object.Server) b.server.sent k.server.sent e (subst IsServerRefusal is refusal) (back_closes b k e closes))
-  at_fault a (fault.Command (Push e)) is refusal cause closes others = inr (inr (is ∙ push_long e (subst IsServerRefusal is refusal), ap (λ w. w.sent) (push_other a a.request _ e cause.2 others)))
-  at_fault a (fault.Command (Get e)) is refusal cause closes others = inr (inr (is ∙ get_long e (subst IsServerRefusal is refusal), ap (λ w. w.sent) (get_other a a.request _ e cause.2 others)))
+  at_fault a (fault.Command (Push e)) is refusal cause closes others = inr (inr (is ∙ push_long e (subst IsServerRefusal is refusal), ap (λ w. w.sent) (push_at a b k e cause others)))
+  at_fault a (fault.Command (Get e)) is refusal cause closes others = inr (inr (is ∙ get_long e (subst IsServerRefusal is refusal), ap (λ w. w.sent) (get_at a b k e cause others)))
   at_fault a (fault.Failed o) is refusal cause closes others = object_apart o (subst IsServerRefusal is refusal)
   at_fault a fault.NoMemory is refusal cause closes others = high 90 (omega arith) (subst IsServerRefusal is refusal)
 

@@ -1,5 +1,5 @@
 -- What the stages add to a command's own part: the same lemmas for every command.
-use Rattle.std.proofs.Common.{◌≡◌, ◌≤◌, ◌⊎◌, inl, inr, ℕ, List, [], Option, None, Result, Ok, Err, IfOk, IfErr, refl, sym, ◌∙◌, subst, ap, arith, Bool, true, false}
+use Rattle.std.proofs.Common.{◌≡◌, ◌≤◌, inl, inr, ℕ, List, Option, Result, Ok, Err, IfOk, IfErr, refl, sym, ◌∙◌, subst, ap, arith, Bool, true, false}
 use Rattle.std.specs.Prelude.{OnOk, IfSome, IsSome, IsErrAnd}
 use Rattle.pgb_outside.specs.Cause.{Rises}
 use Rattle.pgb_outside.specs.Content.{Content}
@@ -10,7 +10,7 @@ use Rattle.pgb_model.specs.Text.{Text}
 use Rattle.pgb_model.specs.Steps.{Command}
 use Rattle.pgb_stage.specs.declared.plan.Plan.{Plan}
 use Rattle.pgb_stage.specs.declared.object.Object.{Object}
-use Rattle.pgb_stage.specs.declared.object.Object.TheVariants.{Repo, Spool, DataFolder, Server, Others, Clock, Locks, Config, Output}
+use Rattle.pgb_stage.specs.declared.object.Object.TheVariants.{Locks}
 use Rattle.pgb_stage.specs.declared.fault.StageFault.{StageFault}
 use Rattle.pgb_stage.specs.declared.fault.StageFault.TheVariants.{Held}
 use Rattle.pgb_stage.specs.declared.halt.Halt.{Halt}
@@ -19,10 +19,10 @@ use Rattle.pgb_stage.specs.declared.outcome.Outcome.{Outcome}
 use Rattle.pgb_stage.specs.Halts.{HaltCause, Never, Only}
 use Rattle.pgb_stage.specs.Plans.{Heals, AreHealed, OnReading}
 use Rattle.pgb_stage.specs.Reached.{back_if}
-use Rattle.pgb_stage.specs.Runs.{Reached, to_end, turned_back, stopped, OnNone, Runs, Leads, Passes, Takes, Quiet, Begins, On}
-use Rattle.pgb_stage.specs.Seen.{Seen, faults_of, Failed, AreLater, AreRead}
-use Rattle.pgb_stage.specs.States.{WireState, LocksState, SinkState}
-use Rattle.pgb_stage.proofs.Counts.{rises_from, rises_to}
+use Rattle.pgb_stage.specs.Runs.{Reached, to_end, turned_back, stopped, OnNone, Runs, Takes, Quiet, Begins, On}
+use Rattle.pgb_stage.specs.Seen.{Seen, Failed, AreLater, AreRead}
+use Rattle.pgb_stage.specs.States.{WireState, LocksState}
+use Rattle.pgb_stage.proofs.Counts.{rises_from}
 use Rattle.pgb_stage.proofs.Lifted.{on_as, still_quiet, rests_quiet, quiet_takes, begun_takes, opened_takes}
 use Rattle.pgb_prepare.specs.Stages.{FoundCause, StageCause}
 use Rattle.pgb_prepare.specs.Taking.{HeldCause}
@@ -34,7 +34,7 @@ use Rattle.pgb_command.specs.Answers.{reached_of, ending_of, is_early}
 use Rattle.pgb_command.specs.Asked.{Request, create, push, get, report, Asked}
 use Rattle.pgb_command.specs.Faults.{of_stage}
 use Rattle.pgb_command.specs.Tables.{Known, known, plan_of, manner_of, CommandCause, Promise, OnReader, OnCreate, OnOther, FolderGoes}
-use Rattle.pgb_command.specs.Did.{Ran, OnReady, Cause, Did, OwnCause, SamePlaces, Spares, Closes, WordsCause}
+use Rattle.pgb_command.specs.Did.{Ran, OnReady, Cause, Did, OwnCause, Spares, Closes, WordsCause}
 use Rattle.pgb_command.proofs.Ends.{all_later, only_rose}
 
 -- ---- nothing was done: a line a command
@@ -203,7 +203,8 @@ stage_from a b m k read fault (inr found) = inr (subst (λ (o : Option Content).
 cause_from : (a : Asked) (b m k : Seen) → AreRead b m → (fault : Fault) → Cause a m k fault → Cause a b k fault
 cause_from a b m k read (Usage usage) h = h
 cause_from a b m k read (Stage fault) h = stage_from a b m k read fault h
-cause_from a b m k read (OfCommand fault) h = subst (λ (o : Known). OnReady a o (λ old. CommandCause a a.request old fault)) (known_same b m read) h
+cause_from a b m k read (OfCommand fault) (inl h) = inl h
+cause_from a b m k read (OfCommand fault) (inr h) = inr (subst (λ (o : Known). OnReady a o (λ old. CommandCause a a.request old fault)) (known_same b m read) h)
 cause_from a b m k read (ObjectFailed object) h = rises_from _ _ _ (read.later object) h
 cause_from a b m k read NoMemory h = h
 
@@ -274,7 +275,7 @@ did_ran a b m k r others nodes repo_later tree_later quiet begun heals healed st
     own : (fault : Fault) → OwnCause a m k fault → Cause a b k fault
     own (Usage usage) h = h
     own (Stage fault) h = absurd h
-    own (OfCommand fault) h = (m.repo.view.now, heals, subst (λ (o : Known). CommandCause a a.request o fault) known_is h)
+    own (OfCommand fault) h = inr (m.repo.view.now, heals, subst (λ (o : Known). CommandCause a a.request o fault) known_is h)
     own (ObjectFailed object) h = rises_from _ _ _ (later object) h
     own NoMemory h = h
 
@@ -322,12 +323,6 @@ pub starved : (a : Asked) (b : Seen) (r : Result Outcome Fault) → IsErrAnd r (
 starved a b r is = did_err a b b NoMemory r is (refused_at a b NoMemory tt tt)
 
 -- a command's words are refused
-heals_none : (request : Request) (stanza : Text) (repo : Option Content) → Heals (plan_of request).pairs stanza repo repo
-heals_none create stanza repo = refl
-heals_none (push path) stanza repo = λ some. record { others = λ n x y. refl }
-heals_none (get name path) stanza repo = refl
-heals_none (report form) stanza repo = refl
-
 word_closes : (a : Asked) (b : Seen) (fault : Fault) → WordsCause a fault → Closes b b fault
 word_closes a b (Usage usage) h = absurd h
 word_closes a b (Stage fault) h = absurd h
@@ -341,8 +336,8 @@ word_cause : (a : Asked) (b : Seen) (fault : Fault) → WordsCause a fault → C
 word_cause a b (Usage usage) h = absurd h
 word_cause a b (Stage fault) h = absurd h
 word_cause a b (OfCommand (Create fault)) h = absurd h
-word_cause a b (OfCommand (Push fault)) h = (b.repo.view.now, heals_none a.request a.stanza b.repo.view.now, h (known b))
-word_cause a b (OfCommand (Get fault)) h = (b.repo.view.now, heals_none a.request a.stanza b.repo.view.now, h (known b))
+word_cause a b (OfCommand (Push fault)) h = inl h
+word_cause a b (OfCommand (Get fault)) h = inl h
 word_cause a b (ObjectFailed object) h = absurd h
 word_cause a b NoMemory h = tt
 

@@ -1,33 +1,24 @@
 -- What follows for a command that is asked for.
-use Rattle.std.proofs.Common.{Bool, true, false, ⊎_elim, ◌≡◌, ◌≢◌, ◌≤◌, ◌⊎◌, ◌∙◌, ℕ, List, [], ◌++◌, inl, inr, Option, Some, None, Result, Ok, Err, IfOk, IfErr, refl, sym, ap, subst, arith, map, string_bytes}
-use Rattle.std.specs.Prelude.{OnOk, IfSome, IsSome, option_map}
-use Rattle.pgb_outside.specs.Cause.{Rises}
-use Rattle.pgb_outside.specs.Content.{Content}
-use Rattle.pgb_outside.specs.Moments.{View}
-use Rattle.pgb_options.specs.Settings.{Settled}
-use Rattle.pgb_archive.specs.Still.{IsStill, rests_none}
+use Rattle.std.proofs.Common.{Bool, true, false, ⊎_elim, ◌≡◌, ◌≢◌, ◌≤◌, ◌⊎◌, ◌∙◌, ℕ, List, [], inl, inr, Result, Ok, Err, IfErr, refl, sym, ap, subst, arith}
+use Rattle.std.specs.Prelude.{OnOk}
 use Rattle.pgb_model.specs.Text.{Text}
-use Rattle.pgb_model.specs.Steps.{Command}
-use Rattle.pgb_stage.specs.declared.object.Object.TheVariants.{Server, Config, Output}
-use Rattle.pgb_stage.specs.declared.fault.Unbuilt.{Unbuilt}
+use Rattle.pgb_stage.specs.declared.object.Object.TheVariants.{Output}
 use Rattle.pgb_stage.specs.declared.fault.StageFault.TheVariants.{NotBuilt}
 use Rattle.pgb_stage.specs.declared.outcome.Outcome.{Outcome}
 use Rattle.pgb_stage.specs.declared.outcome.Outcome.TheVariants.{Finished, Absent}
-use Rattle.pgb_stage.specs.Plans.{TakesLocks}
-use Rattle.pgb_stage.specs.Reached.{back_if}
-use Rattle.pgb_stage.specs.Runs.{Reached, to_end, turned_back, stopped, OnAll, OnNone, Takes, On}
+use Rattle.pgb_stage.specs.Runs.{Reached, to_end, turned_back, OnAll, OnNone, Takes, On}
 use Rattle.pgb_outside.specs.States.{TreeState}
 use Rattle.pgb_stage.specs.States.{LocksState}
 use Rattle.pgb_stage.specs.Seen.{Seen, Failed}
 use Rattle.pgb_stage.proofs.Lifted.{on_as, still_quiet, quiet_takes, opened_takes}
 use Rattle.pgb_command.specs.declared.fault.Fault.{Fault}
 use Rattle.pgb_command.specs.declared.fault.Fault.TheVariants.{Usage, Stage, Command as OfCommand, Failed as ObjectFailed, NoMemory}
-use Rattle.pgb_command.specs.Answers.{Ending, finished, absent, refused, status, status_of, answer_of, ending_of, reached_of, is_early, lines_of}
-use Rattle.pgb_command.specs.Asked.{Request, create, push, get, report, Asked, Settles, IsAsked, MayAsk, Asks, requested}
-use Rattle.pgb_command.specs.Causes.{IsAnswered, IsIdle, Carries, Refuses, Obeys, Answers, AllDone, PartDone, NoneDone, Finishes, Fulfils, IsEarly, TurnsBack, LeavesRest, Completes}
-use Rattle.pgb_command.specs.Did.{Did, Cause, Brackets, OpensIf, OpensPlaces, ArePlacesOpened, TakesAll, OnlyLocked, Spares}
+use Rattle.pgb_command.specs.Answers.{Ending, status, status_of, answer_of, ending_of, reached_of}
+use Rattle.pgb_command.specs.Asked.{Request, create, push, get, report, Asked, Asks}
+use Rattle.pgb_command.specs.Causes.{IsAnswered, IsIdle, Carries, Answers, PartDone, Finishes, Fulfils, IsEarly, TurnsBack, LeavesRest, Completes}
+use Rattle.pgb_command.specs.Did.{Did, OpensIf, OpensPlaces, OnlyLocked}
 use Rattle.pgb_command.specs.Output.{IsTold, Whole, Cut, Starved, Wordless}
-use Rattle.pgb_command.specs.Tables.{plan_of, manner_of, OnReader, OnCreate, OnOther, FolderGoes}
+use Rattle.pgb_command.specs.Tables.{plan_of, manner_of, OnCreate}
 use Rattle.pgb_command.proofs.AskedOnce.{one_asked}
 use Rattle.pgb_command.proofs.Dids.{idle, stage_reached, any_reader, any_create, any_other, folder_stays}
 use Rattle.pgb_command.proofs.Statuses.{over, zero_ends, early_ends, not_cut}

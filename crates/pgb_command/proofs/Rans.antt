@@ -1,21 +1,19 @@
 -- What each command did, told of all objects: a lemma a command.
-use Rattle.std.proofs.Common.{◌≡◌, ◌≤◌, ◌⊎◌, inl, inr, List, ◌∷◌, Option, Some, None, Result, Ok, Err, IfOk, IfErr, refl, sym, subst, ap, ◌∙◌, Bool, true}
+use Rattle.std.proofs.Common.{◌≡◌, inl, inr, List, ◌∷◌, Option, Some, None, Result, Ok, Err, IfOk, IfErr, refl, sym, subst, ap, ◌∙◌, Bool, true}
 use Rattle.std.specs.Prelude.{IfSome, IsSome, IsSomeAnd, OnOk}
-use Rattle.pgb_outside.specs.Cause.{Rises}
 use Rattle.pgb_outside.specs.Content.{Content}
 use Rattle.pgb_outside.specs.Moments.{View}
 use Rattle.pgb_outside.specs.Tree.{Nodes}
-use Rattle.pgb_model.specs.declared.clusters.Cluster.{Cluster}
 use Rattle.pgb_model.specs.Text.{Text}
 use Rattle.pgb_model.specs.Repository.{Repository}
-use Rattle.pgb_model.specs.Steps.{Command, StanzaCreate, ArchivePush, Reading}
+use Rattle.pgb_model.specs.Steps.{Command, StanzaCreate, Reading}
 use Rattle.pgb_model.specs.Log.{Done, KeepsSpool}
 use Rattle.pgb_model.proofs.Logged.{create_spool}
 use Rattle.pgb_model.proofs.PushDone.{push_spool}
 use Rattle.pgb_options.specs.declared.options.OutputWord.{OutputWord}
 use Rattle.pgb_stanza.specs.declared.control.Control.{Control}
 use Rattle.pgb_stanza.specs.ControlFile.{first_cluster}
-use Rattle.pgb_archive.specs.Still.{IsStill, still_self}
+use Rattle.pgb_archive.specs.Still.{IsStill}
 use Rattle.pgb_stage.specs.declared.object.Object.{Object}
 use Rattle.pgb_stage.specs.declared.object.Object.TheVariants.{Server as TheServer}
 use Rattle.pgb_stage.specs.declared.plan.Pairs.TheVariants.{HealArchive}
@@ -26,7 +24,7 @@ use Rattle.pgb_stage.specs.declared.outcome.Outcome.{Outcome}
 use Rattle.pgb_stage.specs.Cluster.{FolderTells}
 use Rattle.pgb_stage.specs.Halts.{HaltCause, Never}
 use Rattle.pgb_stage.specs.Plans.{AreHealed}
-use Rattle.pgb_stage.specs.Reached.{reached_by}
+use Rattle.pgb_stage.specs.Reached.{OnFinished, reached_by}
 use Rattle.pgb_stage.specs.Runs.{Reached, to_end, turned_back, stopped, Does, Runs, On, OnNone}
 use Rattle.pgb_stage.specs.Seen.{Seen, Failed, AreLater}
 use Rattle.pgb_stage.proofs.Doing.{reading_does}
@@ -39,18 +37,16 @@ use Rattle.pgb_push.specs.declared.fault.PushFault.{PushFault}
 use Rattle.pgb_push.specs.Causes.{IsStored, PushCause}
 use Rattle.pgb_push.specs.Commands.{IsPushOf}
 use Rattle.pgb_push.specs.Faults.{push_early}
-use Rattle.pgb_push.specs.Outcomes.{OnFinished}
 use Rattle.pgb_get.specs.declared.fault.GetFault.{GetFault}
-use Rattle.pgb_get.specs.Getting.{GotBy, GetCause, get_early}
-use Rattle.pgb_inform.specs.Reporting.{IsReported, ReportsStanza}
+use Rattle.pgb_get.specs.Getting.{GetCause, get_early}
 use Rattle.pgb_command.specs.declared.fault.Fault.{Fault}
 use Rattle.pgb_command.specs.declared.fault.Fault.TheVariants.{Stage, Command as OfCommand}
 use Rattle.pgb_command.specs.declared.fault.CommandFault.TheVariants.{Create, Push, Get}
 use Rattle.pgb_command.specs.Answers.{reached_of, ending_of, is_early}
 use Rattle.pgb_command.specs.Asked.{Request, create, push, get, report, Asked}
 use Rattle.pgb_command.specs.Faults.{of_halt, of_stage, of_create, of_push, of_get, lift}
-use Rattle.pgb_command.specs.Tables.{Known, known, Promise, Creates, plan_of, manner_of, IsCreateOf, OnReader, OnCreate, OnOther, FolderGoes}
-use Rattle.pgb_command.specs.Did.{SamePlaces, Closes, Spares, OwnCause, Ran}
+use Rattle.pgb_command.specs.Tables.{known, Promise, plan_of, manner_of, IsCreateOf, OnReader, OnCreate, OnOther, FolderGoes}
+use Rattle.pgb_command.specs.Did.{SamePlaces, Closes, OwnCause, Ran}
 use Rattle.pgb_command.proofs.Ends.{reached_same, lift_ok, lift_on, lift_err}
 use Rattle.pgb_command.proofs.OneCluster.{cluster_is}
 
@@ -165,7 +161,7 @@ module _ (a : Asked) (b k : Seen) (rest : k ≡ record b { repo = k.repo; server
   created_ran is does created still same asked quiet closed failed rose cause places later = as_ran a create b k ended is
       (ran_of asks b k (λ (e : CreateFault). OfCommand (Create e)) create_early (λ e. refl) (CreateCause a.stanza told a.server b.repo.view.now b.server.pending) (λ e h. (told, tells, h)) failed rose r ended lifted
       (λ command x. subst (λ (c : Command). Runs a.stanza c (reached_by create_early r) b.repo.view b.spool.view k.repo.view k.spool.view) (sym (create_of b.tree.nodes told command tells x)) (subst (λ (v : View). Runs a.stanza (StanzaCreate (Some (first_cluster told))) (reached_by create_early r) b.repo.view b.spool.view k.repo.view v) (sym (ap (λ (s : Seen). s.spool.view) rest))
-          (does_runs a.stanza (StanzaCreate (Some (first_cluster told))) (reached_by create_early r) b.repo.view k.repo.view b.spool.view (λ q log keeps. create_spool a.stanza (Some (first_cluster told)) true q log b.spool.view keeps) does)))
+      (does_runs a.stanza (StanzaCreate (Some (first_cluster told))) (reached_by create_early r) b.repo.view k.repo.view b.spool.view (λ q log keeps. create_spool a.stanza (Some (first_cluster told)) true q log b.spool.view keeps) does)))
       (ok_with r _ _ _ _ (λ o made agrees asks. record { told = told; tells = tells; created = made; agrees = agrees; asks = asks }) created same asked)
       cause
       (on_all r _ (λ some h. any_some k.repo.view.now))
@@ -201,7 +197,7 @@ module _ (a : Asked) (b k : Seen) (rest : k ≡ record b { repo = k.repo; tree =
   pushed_ran is in_it does stored agrees failed rose cause places later = in_folder a folder b k ended in_it (as_ran (with_folder a folder) (push path) b k ended is
       (ran_of pushes b k (λ (e : PushFault). OfCommand (Push e)) push_early (λ e. refl) (PushCause a.stanza folder path b.repo.view.now b.tree.nodes) (λ e h. h) failed rose r ended lifted
       (λ command x. subst (λ (v : View). Runs a.stanza command (reached_by push_early r) b.repo.view b.spool.view k.repo.view v) (sym (ap (λ (s : Seen). s.spool.view) rest))
-          (does_runs a.stanza command (reached_by push_early r) b.repo.view k.repo.view b.spool.view (push_receipts a.stanza b.tree.nodes folder path command x b.spool.view) (does command x)))
+      (does_runs a.stanza command (reached_by push_early r) b.repo.view k.repo.view b.spool.view (push_receipts a.stanza b.tree.nodes folder path command x b.spool.view) (does command x)))
       stored
       cause
       (on_all r _ (λ some h. agrees h some))

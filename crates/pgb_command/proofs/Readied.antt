@@ -10,7 +10,7 @@ use Rattle.pgb_prepare.specs.declared.ready.Ready.{Ready}
 use Rattle.pgb_prepare.specs.Readies.{IsReady}
 use Rattle.pgb_create.specs.declared.server.Server as code
 use Rattle.pgb_create.specs.Server.{server_view}
-use Rattle.pgb_command.specs.Asked.{Request, create, push, get, report}
+use Rattle.pgb_command.specs.Asked.{Request, create}
 use Rattle.pgb_command.specs.Tables.{plan_of}
 
 there : {T : Type 0} (o : Option T) (x : T) (P : T → Type 0) → o ≡ Some x → IsSomeAnd o P → P x

@@ -1,5 +1,5 @@
 -- What the statuses of refusals tell, by layers.
-use Rattle.std.proofs.Common.{◌≡◌, ◌≤◌, ◌≢◌, ◌⊎◌, ◌∙◌, ℕ, true, inl, inr, Result, Ok, Err, refl, sym, ap, subst, arith}
+use Rattle.std.proofs.Common.{◌≡◌, ◌≤◌, ◌≢◌, ℕ, true, inl, inr, Result, Ok, Err, refl, ap, subst, arith}
 use Rattle.pgb_options.specs.declared.usage.Usage.{Usage}
 use Rattle.pgb_options.specs.declared.usage.Usage.TheVariants as usage
 use Rattle.pgb_stage.specs.declared.object.Object.{Object}

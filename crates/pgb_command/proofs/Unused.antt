@@ -1,5 +1,5 @@
 -- What a command doesn't use.
-use Rattle.std.proofs.Common.{◌≡◌, ◌∙◌, List, Option, Some, None, Result, Ok, Err, IfErr, refl, sym, subst}
+use Rattle.std.proofs.Common.{◌≡◌, List, Option, Some, None, Result, Ok, Err, IfErr, refl, subst}
 use Rattle.std.specs.Prelude.{IsSome}
 use Rattle.pgb_outside.specs.Content.{Content}
 use Rattle.pgb_model.specs.Text.{Text}

@@ -1,7 +1,6 @@
 -- Why a command's words are refused.
 use Rattle.std.proofs.Common.{◌≡◌, inl, inr, Result, Ok, Err, IfErr, sym, subst}
 use Rattle.std.specs.Prelude.{IsErrAnd}
-use Rattle.pgb_outside.specs.Content.{Content}
 use Rattle.pgb_model.specs.Text.{Text}
 use Rattle.pgb_stage.specs.declared.object.Object.{Object}
 use Rattle.pgb_stage.specs.declared.halt.Halt.{Halt}
@@ -14,9 +13,8 @@ use Rattle.pgb_push.specs.WalCause.{WordCause}
 use Rattle.pgb_get.specs.declared.fault.GetFault.{GetFault}
 use Rattle.pgb_get.specs.declared.fault.GetFault.TheVariants as get_fault
 use Rattle.pgb_get.specs.Getting.{AreWords, WordsCause as GetWords, GetCause}
-use Rattle.pgb_command.specs.declared.fault.CommandFault.TheVariants.{Create, Push, Get}
+use Rattle.pgb_command.specs.declared.fault.CommandFault.TheVariants.{Push, Get}
 use Rattle.pgb_command.specs.declared.fault.Fault.{Fault}
-use Rattle.pgb_command.specs.declared.fault.Fault.TheVariants.{Usage, Stage, Command, Failed, NoMemory}
 use Rattle.pgb_stage.specs.declared.outcome.Outcome.{Outcome}
 use Rattle.pgb_push.specs.WalPath.{IsWalPath}
 use Rattle.pgb_command.specs.declared.order.Order.{Order}

@@ -96,7 +96,7 @@ pub record Fulfils (a : Asked) (before after : Seen) (result : ℕ) : Type 0 whe
 abbrev pub IsEarly : ℕ → Type 0
 IsEarly status = ((1 ≤ status) × (status ≤ 72)) ⊎ ((status ≡ 83) ⊎ ((100 ≤ status) × (status ≤ 101)))
 
--- then it has taken no step, has changed no file of the data folder, and of a new stanza nothing in the repository
+-- then it has taken no step, has changed no file of the data folder, and stanza-create none of the repository
 pub record TurnsBack (a : Asked) (before after : Seen) : Type 0 where
   pub none : NoneDone a before after
   pub nodes : after.tree.nodes ≡ before.tree.nodes

@@ -1,6 +1,5 @@
 -- What a command did, whichever it is.
-use Rattle.std.specs.Prelude.{◌≡◌, ◌⊎◌, Bool, true, false, List, Option, None, Result, Ok, Err, IfOk, IfErr, OnOk, IfSome, IsSome}
-use Rattle.pgb_outside.specs.Cause.{Rises}
+use Rattle.std.specs.Prelude.{◌≡◌, ◌⊎◌, Bool, true, false, List, Option, None, Result, IfOk, IfErr, OnOk, IfSome, IsSome}
 use Rattle.pgb_outside.specs.Content.{Content}
 use Rattle.pgb_outside.specs.States.{IsOpened, OpensOnly}
 use Rattle.pgb_model.specs.Text.{Text}
@@ -28,7 +27,7 @@ abbrev pub Closes : Seen → Seen → Fault → Type 0
 Closes before after (Command (Create (create_fault.Server fault))) = Ended after.server.sent ⊎ Failed before after Server
 Closes before after other = Unit {0}
 
--- What a command leaves as it was: of the repository all where it only reads, of the data folder all but a file that is served, and the server where it asks none. Refused before its first step it has changed no file.
+-- What a command leaves as it was: of the repository all where it only reads, of the data folder all but a file that is served, and the server where it asks none. Refused before its first step it has changed no file of the data folder, and stanza-create none of the repository.
 pub record Spares (a : Asked) (before after : Seen) (result : Result Outcome Fault) : Type 0 where
   pub reads : OnReader a.request (IsStill before.repo.view after.repo.view)
   pub folder : FolderGoes a a.request before.repo.view.now before.tree.nodes after.tree.nodes
@@ -75,7 +74,7 @@ ComesBehind a result = IfErr result (λ fault. WordsCause a fault ⊎ WordsFit a
 
 -- ---- all of it
 
--- this holds of what the objects held as the command's own part began: the pairs that it heals were healed
+-- this holds of what the objects held as the command's own part began: of the repository what it holds now, but that the archive pair was healed where the command heals it
 abbrev pub OnReady : Asked → Known → (Known → Type 0) → Type 0
 OnReady a old P = (repo : Option Content) × Heals (plan_of a.request).pairs a.stanza old.repo repo × P (record old { repo = repo })
 
@@ -83,7 +82,7 @@ OnReady a old P = (repo : Option Content) × Heals (plan_of a.request).pairs a.s
 abbrev pub Cause : Asked → Seen → Seen → Fault → Type 0
 Cause a before after (Usage usage) = ⊥
 Cause a before after (Stage fault) = StageCause (plan_of a.request) a.stanza before after fault
-Cause a before after (Command fault) = OnReady a (known before) (λ old. CommandCause a a.request old fault)
+Cause a before after (Command fault) = WordsCause a (Command fault) ⊎ OnReady a (known before) (λ old. CommandCause a a.request old fault)
 Cause a before after (ObjectFailed object) = Failed before after object
 Cause a before after NoMemory = Unit {0}
 

@@ -16,16 +16,3 @@ pub data IsTold (old : Option Text) (answer : Answer) (new : Option Text) (rose 
   Cut : rose → IsFrontWritten old (lines_of answer) new → IsTold old answer new rose (refused (Failed Output))
   Starved : (lines : Text) → (lines ≡ lines_of answer) ⊎ (lines ≡ error_line NoMemory) → IsFrontWritten old lines new → IsTold old answer new rose (refused NoMemory)
   Wordless : rose → IsFrontWritten old (error_line NoMemory) new → IsTold old answer new rose (refused (Failed Output))
-
--- The lines of an answer that has its cause were written in part.
-abbrev pub WroteFront : (Answer → Type 0) → Option Text → Option Text → Type 0
-WroteFront Has old new = (answer : Answer) × Has answer × IsFrontWritten old (lines_of answer) new
-
-abbrev pub WroteLines : (Answer → Type 0) → Option Text → Text → Ending → Option Text → Type 0
-WroteLines Has old lines (refused (Failed Output)) new = WroteFront Has old new
-WroteLines Has old lines (refused NoMemory) new = WroteFront Has old new
-WroteLines Has old lines other new = new ≡ option_map (λ (text : Text). text ++ lines) old
-
--- The answer's lines were written, and nothing else; where the sink failed, or memory did, a first part of the lines of an answer that has its cause.
-abbrev pub Wrote : (Answer → Type 0) → Option Text → Answer → Option Text → Type 0
-Wrote Has old answer new = WroteLines Has old (lines_of answer) answer.ending new

@@ -20,7 +20,7 @@ use Rattle.pgb_create.specs.Talking.{Asks, IsOf}
 use Rattle.pgb_create.specs.Creating.{IsCreated, CreateCause}
 use Rattle.pgb_push.specs.Commands.{IsPushOf}
 use Rattle.pgb_push.specs.Causes.{IsStored, PushCause}
-use Rattle.pgb_push.specs.Outcomes.{OnFinished}
+use Rattle.pgb_stage.specs.Reached.{OnFinished}
 use Rattle.pgb_push.specs.WalPath.{IsWalPath}
 use Rattle.pgb_get.specs.Getting.{AreWords, GotBy, GivenBy, GetCause, IsServed, ChangesPath, served_path}
 use Rattle.pgb_inform.specs.Reporting.{IsReported, ReportsStanza}
@@ -89,9 +89,9 @@ OnStanza a repo P = (s : Stanza) → IsSome repo → NowStands a.stanza (Some s)
 abbrev pub Promise : Asked → Request → Known → Known → Outcome → Type 0
 Promise a create old new outcome = Creates a old new outcome
 Promise a (push path) old new outcome = OnFinished outcome (IsStored a.stanza a.data_folder path old.repo old.nodes)
-Promise a (get name path) old new outcome = GotBy a.stanza a.data_folder name path old.repo old.nodes new.nodes outcome 
+Promise a (get name path) old new outcome = GotBy a.stanza a.data_folder name path old.repo old.nodes new.nodes outcome
     × OnStanza a old.repo (λ s. GivenBy s a.data_folder name path old.nodes new.nodes outcome)
-Promise a (report form) old new outcome = OnFinished outcome (IsReported a.stanza form old.repo) 
+Promise a (report form) old new outcome = OnFinished outcome (IsReported a.stanza form old.repo)
     × OnStanza a old.repo (λ s. OnFinished outcome (ReportsStanza form a.stanza s))
 
 -- ---- what stays

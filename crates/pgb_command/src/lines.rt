@@ -22,7 +22,12 @@ fn usage_message(alloc: Global, usage: &Usage) -> Result<Vec<u8>, NoMemory>
         Usage::OptionRepeated { name } => quoted(alloc, "option '", name, "' is repeated"),
         Usage::OptionValue { name } => quoted(alloc, "option '", name, "' has no valid value"),
         Usage::OptionMissing { name } => quoted(alloc, "option '", name, "' is missing"),
-        Usage::OptionNotFor { name } => quoted(alloc, "option '", name, "' is not for this command"),
+        Usage::OptionNotFor { name } => quoted(
+            alloc,
+            "option '",
+            name,
+            "' is not for this command",
+        ),
         Usage::ConfigSyntax { line } => bytes_of(format!(in alloc;
             "configuration line {line} is not valid"
         )),

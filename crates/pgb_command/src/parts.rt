@@ -30,10 +30,14 @@ impl<
     K: Locks,
     I: Source,
     O: Sink,
-> Outside<D, S, T, V, A, C, K, I, O>
-{
+> Outside<D, S, T, V, A, C, K, I, O> {
     /// stanza-create.
-    pub(crate) fn create(&mut self, alloc: Global, settings: &Settings<'_>, ready: &Ready) -> Result<Outcome, Fault>
+    pub(crate) fn create(
+        &mut self,
+        alloc: Global,
+        settings: &Settings<'_>,
+        ready: &Ready,
+    ) -> Result<Outcome, Fault>
         requires request { request_of settings.now.request ≡ asks_create }
         requires ready { IsReady (plan_of (request_of settings.now.request)) settings.now.stanza.now (D.state self.old.repo).view.now (T.state self.old.tree).nodes ready.now }
         ensures ran { let told = ⟦<Outside<D, S, T, V, A, C, K, I, O> as Told>⟧.told in

@@ -10,7 +10,7 @@ ghost use Rattle.pgb_command.specs.Told.{request_of, asked_of};
 use crate::server::server_of;
 use pgb_create::Server;
 use pgb_options::{Command, OutputWord, Verb};
-use pgb_stage::{Plan, Pairs, Unbuilt};
+use pgb_stage::{Pairs, Plan, Unbuilt};
 
 /// Which command is asked for.
 #[derive(Clone, Copy)]

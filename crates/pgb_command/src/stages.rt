@@ -17,7 +17,9 @@ use crate::outside::{Outside, Told};
 use crate::settings::{Settings, plan_of};
 use pgb_archive::Aside;
 use pgb_outside::{Clock, Disk, Locks, Sink, Source, Tree, Wire};
-use pgb_prepare::{LockNames, Ready, lock_names, open_disk, open_tree, prepare, release_locks, take_locks};
+use pgb_prepare::{
+    LockNames, Ready, lock_names, open_disk, open_tree, prepare, release_locks, take_locks,
+};
 use pgb_stage::{Halt, Object, Outcome, Plan, StageFault};
 use std::alloc::Global;
 
@@ -43,8 +45,7 @@ impl<
     K: Locks,
     I: Source,
     O: Sink,
-> Outside<D, S, T, V, A, C, K, I, O>
-{
+> Outside<D, S, T, V, A, C, K, I, O> {
     // Opens the places that the plan names: the data folder and the repository.
     fn open(&mut self, settings: &Settings<'_>, plan: &Plan) -> Result<(), Halt<StageFault>>
         requires { plan.now ≡ plan_of (request_of settings.now.request) }
@@ -125,13 +126,7 @@ impl<
         ensures quiet { settings.now.server ≡ None → self.new.server ≡ self.old.server }
         ensures rest { self.new ≡ record self.old { repo = self.new.repo; tree = self.new.tree; server = self.new.server } }
     {
-        let ready = prepare(
-            alloc,
-            &mut self.repo,
-            &mut self.tree,
-            settings.stanza,
-            plan,
-        )?;
+        let ready = prepare(alloc, &mut self.repo, &mut self.tree, settings.stanza, plan)?;
         self.dispatch(alloc, settings, order, ready)
     }
 

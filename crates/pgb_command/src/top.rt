@@ -9,8 +9,8 @@ ghost use Rattle.pgb_command.specs.Did.{OpensPlaces, OnlyLocked};
 
 use crate::config::read_command;
 use crate::fault::Fault;
-use crate::outside::{Outside, Told};
 use crate::output::answer;
+use crate::outside::{Outside, Told};
 use crate::settings::settings_of;
 use pgb_archive::Aside;
 use pgb_options::Command;
@@ -29,11 +29,7 @@ pub fn carry<
     K: Locks,
     I: Source,
     O: Sink,
->(
-    alloc: Global,
-    command: &Command,
-    outside: &mut Outside<D, S, T, V, A, C, K, I, O>,
-) -> u8
+>(alloc: Global, command: &Command, outside: &mut Outside<D, S, T, V, A, C, K, I, O>) -> u8
     requires free { K.taken outside.old.locks ≡ [] }
     requires settled { (s : Settled) × IsCommand command.now s }
     // What was asked for is done and told.
@@ -78,8 +74,8 @@ pub fn run<
 ) -> u8
     requires free { K.taken outside.old.locks ≡ [] }
 
-    // The words are refused, and nothing is done; or what they settle is done, with its cause, and told. All that follows is
-    // a part of this, for each command that the words ask for.
+    // The words are refused, and nothing is done; or what they settle is done, with its cause, and told. What follows of
+    // steps, promises and places is a part of this, for each command that the words ask for.
     ensures answers { let told = ⟦<Outside<D, S, T, V, A, C, K, I, O> as Told>⟧.told in
         Answers (map string_bytes words.now) (told outside.old) (told outside.new) result }
 

@@ -19,7 +19,7 @@ use Rattle.pgb_stage.specs.declared.object.Object.TheVariants.{Repo as TheRepo}
 use Rattle.pgb_stage.specs.declared.halt.Halt.{Halt}
 use Rattle.pgb_stage.specs.declared.halt.Halt.TheVariants.{Refused, Failed, NoMemory}
 use Rattle.pgb_stage.specs.declared.outcome.Outcome.{Outcome}
-use Rattle.pgb_stage.specs.declared.outcome.Outcome.TheVariants.{Finished, Absent}
+use Rattle.pgb_stage.specs.Reached.{OnFinished}
 use Rattle.pgb_create.specs.declared.fault.CreateFault.{CreateFault}
 use Rattle.pgb_create.specs.declared.fault.CreateFault.TheVariants.{Server as Talked, InfoDamaged, HistoryDiffers, StanzaMismatch, ArchiveLost}
 use Rattle.pgb_create.specs.Server.{Server}
@@ -27,14 +27,9 @@ use Rattle.pgb_create.specs.Talking.{TellsFault}
 
 -- ---- at its end
 
--- the command has nothing to say
-abbrev pub IsSilent : Outcome → Type 0
-IsSilent (Finished lines) = string_bytes lines ≡ []
-IsSilent (Absent name) = ⊥
-
 -- there was no stanza, or one of this cluster, and now its pairs agree; those of a new one have its texts
 pub record IsCreated (stanza : Text) (told : Control) (old new : Option Content) (outcome : Outcome) : Type 0 where
-  pub silent : IsSilent outcome
+  pub silent : OnFinished outcome (λ lines. lines ≡ [])
   pub was : IfSome old (LacksStanza stanza) ⊎ IfSome old (HasStanzaOf stanza told)
   pub members : IfSome old (LacksStanza stanza) → IsSome old → IfSome new (HasNewPairs stanza (first_cluster told))
   pub agrees : IsSome old → IfSome new (PairsAgree stanza)

@@ -1,8 +1,7 @@
 -- What archive-get serves is what the repository has archived.
-use Rattle.std.proofs.Common.{◌≡◌, inl, inr, ◌<◌, List, map, Option, Some, None, Err, refl, sym, ap, subst}
+use Rattle.std.proofs.Common.{◌≡◌, ◌<◌, List, map, Option, Some, None, Err, refl, sym, ap, subst}
 use Rattle.std.specs.Prelude.{IsSome}
 use Rattle.sha1.specs.Sha1.{sha1}
-use Rattle.pgb_text.specs.Sum.{IsSum}
 use Rattle.pgb_outside.specs.Content.{Content}
 use Rattle.pgb_outside.specs.Tree.{Nodes}
 use Rattle.pgb_model.specs.declared.clusters.ClusterId.{ClusterId}
@@ -12,11 +11,11 @@ use Rattle.pgb_model.specs.Text.{Text, In}
 use Rattle.pgb_model.specs.Names.{archive_info}
 use Rattle.pgb_model.specs.Pair.{PairIs}
 use Rattle.pgb_model.specs.Values.{ArchiveInfo}
-use Rattle.pgb_model.specs.InfoFiles.{IsClusterId, IsArchiveInfo, IsArchiveText}
+use Rattle.pgb_model.specs.InfoFiles.{IsArchiveText}
 use Rattle.pgb_model.specs.Repository.{Stanza, identity_of, id_of}
-use Rattle.pgb_model.specs.Stands.{HasStanza, IsWalName, IsArchivePlace, archive_value}
+use Rattle.pgb_model.specs.Stands.{HasStanza, IsWalName, archive_value}
 use Rattle.pgb_model.specs.Now.{NowStands}
-use Rattle.pgb_info.proofs.Numbers.{all_in, in_map, map_in}
+use Rattle.pgb_info.proofs.Numbers.{in_map, map_in}
 use Rattle.pgb_info.proofs.OneArchive.{one_archive_pair}
 use Rattle.pgb_stanza.specs.declared.control.Control.{Control}
 use Rattle.pgb_archive.specs.declared.fault.ArchiveFault.TheVariants.{NotFound}
@@ -24,23 +23,15 @@ use Rattle.pgb_archive.specs.Stored.{StoresNone}
 use Rattle.pgb_archive.specs.Causes.{StoresBytes, IsUnarchived}
 use Rattle.pgb_archive.proofs.Got.{got_archived, answer_none}
 use Rattle.pgb_stage.specs.Current.{id_kept}
+use Rattle.pgb_stage.proofs.Places.{place_of}
 use Rattle.pgb_get.specs.Getting.{IsSame, FoundIn, AbsentIn, IsArchivedFirst, Serves, IsMissing, ServesArchived, LacksArchived}
-
-rules_of : (f : Content) (name : Text) (v : ArchiveInfo) → PairIs IsArchiveText f name v → IsArchiveInfo v
-rules_of f name v (inl m) = m.2.rules
-rules_of f name v (inr m) = m.1.2.rules
 
 module _ (stanza : Text) (f : Content) (s : Stanza) (now : NowStands stanza (Some s) (Some f)) (name : ArchiveName) (fits : IsWalName name) where
   has : HasStanza stanza f s
   has = now.stands f refl
 
-  pub place_of : (d : Cluster) → In d s.history → (sum : Text) → IsSum sum → IsArchivePlace (id_of d) name sum
-  place_of d listed sum is =
-      let rules = all_in IsClusterId (map identity_of s.history) (identity_of d) (rules_of f (archive_info stanza) (archive_value s) has.archive_pair).clusters (in_map identity_of s.history d listed) in
-      record { version = rules.version; number = rules.id; fits = fits; digest = is }
-
   unarchived : (d : Cluster) → In d s.history → StoresNone stanza (id_of d) name f → IsUnarchived (id_of d) name s.archived
-  unarchived d listed none = answer_none stanza (id_of d) name (place_of d listed) {T = Text} (Some f) ⊥ (Err NotFound) none refl s refl now
+  unarchived d listed none = answer_none stanza (id_of d) name (place_of stanza f s now name fits d listed) {T = Text} (Some f) ⊥ (Err NotFound) none refl s refl now
 
   module _ (told : Control) (v : ArchiveInfo) (pair : PairIs IsArchiveText f (archive_info stanza) v) where
     history : v.history ≡ map identity_of s.history
@@ -56,7 +47,7 @@ module _ (stanza : Text) (f : Content) (s : Stanza) (now : NowStands stanza (Som
           cluster = x.0;
           listed = x.1;
           same = subst (IsSame told) x.2 found.same;
-          archived = got_archived stanza (id_of x.0) name (place_of x.0 x.1) (Some f) bytes (subst (λ (c : ClusterId). StoresBytes stanza (id_kept c) name f (sha1 bytes) bytes) x.2 found.has) s refl now;
+          archived = got_archived stanza (id_of x.0) name (place_of stanza f s now name fits x.0 x.1) (Some f) bytes (subst (λ (c : ClusterId). StoresBytes stanza (id_kept c) name f (sha1 bytes) bytes) x.2 found.has) s refl now;
           above = λ d listed same higher. unarchived d listed (found.above (identity_of d) (listed_in d listed) same (subst (λ (c : ClusterId). c.id < d.id) (sym x.2) higher));
         }
 

@@ -2,5 +2,4 @@ mod EntryLines
 mod Ends
 mod ReportNames
 mod EndNames
-mod Places
 mod Reported

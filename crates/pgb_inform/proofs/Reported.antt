@@ -43,7 +43,7 @@ use Rattle.pgb_report.specs.Labelled.{labelled_data}
 use Rattle.pgb_report.proofs.Sections.{labelled_entries}
 use Rattle.pgb_stage.specs.Current.{id_kept}
 use Rattle.pgb_inform.specs.Reporting.{report_by, named, AreRound, HaveEnds, IsReported, archived_as, ReportsStanza}
-use Rattle.pgb_inform.proofs.Places.{place_of}
+use Rattle.pgb_stage.proofs.Places.{place_of}
 use Rattle.pgb_inform.proofs.EntryLines.{same_backup_lines, same_status_text, same_status_data}
 use Rattle.pgb_inform.proofs.Ends.{Le, le_itself, AtOrBefore, AtOrBehind, same_least, same_greatest}
 use Rattle.pgb_inform.proofs.ReportNames.{segment_in, in_segments, SameEnds, same_names}

@@ -1,5 +1,5 @@
 -- What info reports (pgBackRest command reference, "Info Command").
-use Rattle.std.specs.Prelude.{◌≡◌, false, List, map, Option, None, IfSome, string_bytes}
+use Rattle.std.specs.Prelude.{◌≡◌, false, List, map, Option, None, IfSome}
 use Rattle.pgb_outside.specs.Content.{Content}
 use Rattle.pgb_outside.specs.Order.{is_before}
 use Rattle.pgb_model.specs.declared.clusters.ClusterId.{ClusterId}
@@ -18,8 +18,6 @@ use Rattle.pgb_archive.specs.Ends.{StoresWhole}
 use Rattle.pgb_report.specs.declared.report.ArchivedName.{ArchivedName}
 use Rattle.pgb_report.specs.ReportText.{report_text_of}
 use Rattle.pgb_report.specs.ReportData.{report_json_of}
-use Rattle.pgb_stage.specs.declared.outcome.Outcome.{Outcome}
-use Rattle.pgb_stage.specs.declared.outcome.Outcome.TheVariants.{Finished, Absent}
 use Rattle.pgb_stage.specs.Current.{id_kept}
 
 -- ---- what is reported
@@ -68,8 +66,3 @@ ReportsStanza form stanza s lines =
     lines ≡ report_by form stanza (archive_value s) (backup_value s None) (map archived_as s.archived)
 
 -- ---- how info ended
-
--- the command came to its end, with lines of which this holds
-abbrev pub OnFinished : Outcome → (Text → Type 0) → Type 0
-OnFinished (Finished lines) P = P (string_bytes lines)
-OnFinished (Absent name) P = ⊥

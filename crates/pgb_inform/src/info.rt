@@ -11,7 +11,8 @@ ghost use Rattle.pgb_archive.specs.Ends.{AreEnds};
 ghost use Rattle.pgb_stage.specs.declared.object.Object.TheVariants.{Repo};
 ghost use Rattle.pgb_stage.specs.Current.{id_kept};
 ghost use Rattle.pgb_stage.specs.Halts.{HaltCause, Never, Only};
-ghost use Rattle.pgb_inform.specs.Reporting.{report_by, named, HaveEnds, IsReported, ReportsStanza, OnFinished};
+ghost use Rattle.pgb_inform.specs.Reporting.{report_by, named, HaveEnds, IsReported, ReportsStanza};
+ghost use Rattle.pgb_stage.specs.Reached.{OnFinished};
 
 use pgb_archive::{ArchiveFault, ends};
 use pgb_model::{ArchiveId, ArchiveInfo, ArchiveName, BackupInfo, ClusterId, Segment};

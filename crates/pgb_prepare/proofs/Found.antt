@@ -1,6 +1,6 @@
 -- Why the backup pair has no value is what the stages found.
 use Rattle.std.proofs.Common.{◌≡◌, ◌≤◌, inr, Option, Some, None, Result}
-use Rattle.std.specs.Prelude.{IfErr, IfSome, IsErrAnd, IsSomeAnd, IsTrue}
+use Rattle.std.specs.Prelude.{IfErr, IfSome, IsErrAnd, IsSomeAnd}
 use Rattle.pgb_outside.specs.Cause.{Rises}
 use Rattle.pgb_outside.specs.States.{DiskState, TreeState}
 use Rattle.pgb_outside.specs.Tree.{Nodes}
@@ -13,12 +13,11 @@ use Rattle.pgb_stage.specs.declared.halt.Halt.{Halt}
 use Rattle.pgb_stage.specs.declared.object.Object.TheVariants.{Repo}
 use Rattle.pgb_stage.specs.declared.plan.Plan.{Plan}
 use Rattle.pgb_stage.specs.Cluster.{FolderTells}
-use Rattle.pgb_stage.specs.Current.{BackupCause}
 use Rattle.pgb_stage.specs.Halts.{Only}
 use Rattle.pgb_stage.specs.Plans.{OnReading}
 use Rattle.pgb_stage.proofs.Counts.{rises_from}
 use Rattle.pgb_prepare.specs.Folder.{IsTold}
-use Rattle.pgb_prepare.specs.Readies.{has_archive, has_backup, IfAsked, IsArchiveOf}
+use Rattle.pgb_prepare.specs.Readies.{has_archive, IfAsked, IsArchiveOf}
 use Rattle.pgb_prepare.specs.Stages.{FoundCause, NoBackup, RepoCause, StopCause}
 use Rattle.pgb_prepare.proofs.Ends.{Either, ends_as, of_repo}
 use Rattle.pgb_prepare.proofs.Readings.{backup_refuses}

@@ -1,7 +1,7 @@
 -- What the healing of the archive pair does.
 use Rattle.std.proofs.Common.{◌≡◌, ◌≢◌, ⊎_elim, inl, inr, [], ◌≤◌, length, Option, Some, None, refl, ap, ◌∙◌, sym, subst, true, false}
 use Rattle.std.specs.Prelude.{IfSome, IsSome}
-use Rattle.pgb_outside.specs.Content.{Content, put, at}
+use Rattle.pgb_outside.specs.Content.{Name, Content, put, at}
 use Rattle.pgb_outside.specs.Moments.{View, Rests, is_loose}
 use Rattle.pgb_outside.specs.Crash.{Alike, IsTemporary, Crash, SomeOf, NowGoes}
 use Rattle.pgb_outside.proofs.Nows.{told_as}
@@ -22,7 +22,7 @@ use Rattle.pgb_model.proofs.Created.{put_other}
 use Rattle.pgb_model.proofs.Healed.{healed_moves, healed_steady, healed_now}
 use Rattle.pgb_model.proofs.Steady.{steady_rests, rests_moves}
 use Rattle.pgb_stage.specs.Current.{HasValue}
-use Rattle.pgb_stage.specs.Plans.{OnlyPairs}
+use Rattle.pgb_stage.specs.Plans.{HealsArchive}
 use Rattle.pgb_stage.specs.Runs.{Mends}
 
 abbrev text_of : ArchiveInfo → Text
@@ -119,14 +119,13 @@ some_keep name text q f g main_apart copy_apart lasting w = ⊎_elim
     (λ x. ⊎_elim (λ a. put_apart name q text f g main_apart lasting a)
     (λ a. put_apart (copy_of name) q text (put name (Some text) f) g copy_apart lasting a ∙ put_other name (Some text) f q main_apart) x) w
 
-heal_only : (stanza text : Text) (old new : Option Content) → IsSome old → NowGoes (SomeOf (member_writes (archive_info stanza) text)) old new → OnlyPairs stanza old new
-heal_only stanza text old new some goes = record {
-  others = λ q other lasting.
-      let f = told_as old some in
-      let g = told_as new (goes.told some) in
-      let same = some_keep (archive_info stanza) text q f.0 g.0 (λ is. other (inl is)) (λ is. other (inr (inl is))) lasting (goes.goes f.0 g.0 f.1 g.1) in
-      ap (at q) g.1 ∙ ap Some same ∙ ap (at q) (sym f.1);
-}
+heal_others : (stanza text : Text) (old new : Option Content) → IsSome old → NowGoes (SomeOf (member_writes (archive_info stanza) text)) old new →
+    (q : Name) → q ≢ archive_info stanza → q ≢ copy_of (archive_info stanza) → ¬ IsTemporary q → at q new ≡ at q old
+heal_others stanza text old new some goes q main copy lasting =
+    let f = told_as old some in
+    let g = told_as new (goes.told some) in
+    let same = some_keep (archive_info stanza) text q f.0 g.0 main copy lasting (goes.goes f.0 g.0 f.1 g.1) in
+    ap (at q) g.1 ∙ ap Some same ∙ ap (at q) (sym f.1)
 
 -- ---- of a name that is the pair's
 
@@ -139,9 +138,10 @@ module _ (stanza name : Text) (is : name ≡ archive_info stanza) (old new : Vie
       (subst (λ (n : Text). CrashAt n old new) is crash) (subst (λ (n : Text). IdleAt n old new) is idle) told
 
   -- what the disk holds, but for the pair's members and temporary names
-  pub named_only : (v : ArchiveInfo) → IfSome old.now (λ f. PairIs IsArchiveText f name v) → IsSome old.now → OnlyPairs stanza old.now new.now
-  named_only v found some = heal_only stanza (text_of v) old.now new.now some
-      (part_here v (subst (λ (n : Text). IfSome old.now (λ f. PairIs IsArchiveText f n v)) is found))
+  pub named_only : (v : ArchiveInfo) → IfSome old.now (λ f. PairIs IsArchiveText f name v) → IfSome new.now (λ f. HasValue stanza f v) → IsSome old.now → HealsArchive stanza old.now new.now
+  named_only v found kept some =
+      let was = subst (λ (n : Text). IfSome old.now (λ f. PairIs IsArchiveText f n v)) is found in
+      record { others = heal_others stanza (text_of v) old.now new.now some (part_here v was); value = v; was = was; is = kept }
 
 -- ---- the value and its text
 

@@ -1,5 +1,5 @@
 -- The locks that a plan doesn't take have no name.
-use Rattle.std.proofs.Common.{◌≡◌, ◌∙◌, false, Option, None, ap}
+use Rattle.std.proofs.Common.{◌≡◌, ◌∙◌, false, None, ap}
 use Rattle.pgb_model.specs.Text.{Text}
 use Rattle.pgb_stage.specs.declared.plan.Plan.{Plan}
 use Rattle.pgb_stage.specs.Plans.{backup_lock, archive_lock, when}

@@ -1,5 +1,5 @@
 -- Why a command doesn't come to its own part.
-use Rattle.std.specs.Prelude.{◌≡◌, ◌⊎◌, Option, IfSome, IsSome, IsTrue, string_bytes}
+use Rattle.std.specs.Prelude.{◌≡◌, ◌⊎◌, Option, IfSome, IsTrue, string_bytes}
 use Rattle.pgb_outside.specs.Cause.{Rises}
 use Rattle.pgb_outside.specs.Content.{Content}
 use Rattle.pgb_outside.specs.States.{DiskState, TreeState}
@@ -23,7 +23,6 @@ use Rattle.pgb_stage.specs.declared.plan.Pairs.{Pairs}
 use Rattle.pgb_stage.specs.Cluster.{FolderTells, ClusterCause}
 use Rattle.pgb_stage.specs.Current.{HasArchive, ArchiveCause, BackupCause}
 use Rattle.pgb_stage.specs.Halts.{HaltCause, Only}
-use Rattle.pgb_stage.specs.Plans.{Heals}
 use Rattle.pgb_stage.specs.Risen.{none, rose_in}
 use Rattle.pgb_prepare.specs.Readies.{has_archive, has_backup}
 use Rattle.pgb_prepare.specs.Taking.{HeldCause}

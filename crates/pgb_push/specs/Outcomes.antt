@@ -1,15 +1,8 @@
 -- What is told of a push that ended well (own).
-use Rattle.std.specs.Prelude.{[], ◌++◌, codes, string_bytes}
+use Rattle.std.specs.Prelude.{[], ◌++◌, codes}
 use Rattle.pgb_model.specs.Text.{Text}
 use Rattle.pgb_archive.specs.declared.pushing.Pushed.{Pushed}
 use Rattle.pgb_archive.specs.declared.pushing.Pushed.TheVariants.{New, Same}
-use Rattle.pgb_stage.specs.declared.outcome.Outcome.{Outcome}
-use Rattle.pgb_stage.specs.declared.outcome.Outcome.TheVariants.{Finished, Absent}
-
--- the command ended well, with lines of which this holds
-abbrev pub OnFinished : Outcome → (Text → Type 0) → Type 0
-OnFinished (Finished lines) P = P (string_bytes lines)
-OnFinished (Absent name) P = ⊥
 
 -- the warning of a push that finds its bytes stored
 abbrev pub same_line : Text → Text

@@ -12,14 +12,14 @@ ghost use Rattle.pgb_archive.specs.Still.{IsStill};
 ghost use Rattle.pgb_stage.specs.Cluster.{FolderTells};
 ghost use Rattle.pgb_stage.specs.Current.{HasValue, AgreesAtPair, id_kept};
 ghost use Rattle.pgb_stage.specs.Halts.{HaltCause};
-ghost use Rattle.pgb_stage.specs.Reached.{reached_by};
+ghost use Rattle.pgb_stage.specs.Reached.{OnFinished, reached_by};
 ghost use Rattle.pgb_stage.specs.Risen.{none, rose_in};
 ghost use Rattle.pgb_stage.specs.Runs.{OnNone, Does};
 ghost use Rattle.pgb_push.specs.Causes.{IsCurrent, IsStored, PushCause};
 ghost use Rattle.pgb_push.specs.Commands.{IsPushOf};
 ghost use Rattle.pgb_push.specs.Faults.{push_early};
 ghost use Rattle.pgb_push.specs.LogFile.{IsOpened};
-ghost use Rattle.pgb_push.specs.Outcomes.{OnFinished, pushed_lines};
+ghost use Rattle.pgb_push.specs.Outcomes.{pushed_lines};
 ghost use Rattle.pgb_push.specs.WalPath.{wal_path};
 
 use crate::current::id_of;

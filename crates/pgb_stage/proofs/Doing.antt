@@ -1,11 +1,11 @@
 -- What a call does that only read.
-use Rattle.std.proofs.Common.{◌≡◌, [], Option, refl, sym, subst, true}
+use Rattle.std.proofs.Common.{◌≡◌, [], Option, refl, sym, subst}
 use Rattle.std.specs.Prelude.{IsSome}
 use Rattle.pgb_outside.specs.Content.{Content}
 use Rattle.pgb_outside.specs.Moments.{View, Rests}
 use Rattle.pgb_model.specs.Text.{Text}
 use Rattle.pgb_model.specs.Steps.{Command, Reading, steps_of}
-use Rattle.pgb_model.specs.Now.{NowStands, NowDoes}
+use Rattle.pgb_model.specs.Now.{NowStands}
 use Rattle.pgb_model.proofs.Done.{part_none, nothing_done}
 use Rattle.pgb_model.proofs.Steady.{rests_moves, steady_rests}
 use Rattle.pgb_stage.specs.Runs.{Reached, to_end, turned_back, stopped, turns_of, IsPart, DoesPart, DoesWhole, Does}

@@ -9,14 +9,14 @@ use Rattle.pgb_model.specs.Names.{receipt_name}
 use Rattle.pgb_model.specs.Repository.{Repository, IsSound}
 use Rattle.pgb_model.specs.Stands.{Stands}
 use Rattle.pgb_model.specs.Steps.{Step, Command, Reading, after, all_of, steps_of}
-use Rattle.pgb_model.specs.Log.{Done, Reaches, StandsAfter, KeepsRepository, KeepsSpool, Keeps}
+use Rattle.pgb_model.specs.Log.{Done, StandsAfter, KeepsRepository, KeepsSpool}
 use Rattle.pgb_model.specs.Now.{NowStands, NowDoes}
-use Rattle.pgb_model.specs.Steady.{IsSteady, IsBegun, Moves, LeavesOnly, KeepsOn}
+use Rattle.pgb_model.specs.Steady.{IsSteady, IsBegun, Moves, LeavesOnly}
 use Rattle.pgb_model.proofs.Done.{part_none, nothing_done}
 use Rattle.pgb_model.proofs.Logged.{rests_still}
 use Rattle.pgb_model.proofs.Steady.{rests_moves, steady_rests}
 use Rattle.pgb_archive.specs.Still.{rests_none}
-use Rattle.pgb_stage.specs.Runs.{Reached, to_end, turned_back, stopped, OnAll, OnNone, turns_of, IsPart, SpoolGoes, DoesPart, DoesWhole, Does, RunsPart, RunsWhole, Runs, Past, Passes, Leads, Takes, Quiet, Mends, Begins, Manner, each, one, On}
+use Rattle.pgb_stage.specs.Runs.{Reached, to_end, turned_back, stopped, OnAll, OnNone, turns_of, IsPart, DoesPart, Does, RunsPart, RunsWhole, Runs, Past, Passes, Leads, Takes, Quiet, Mends, Begins, Manner, each, one, On}
 
 pub all_as : (reached : Reached) (P Q : Type 0) → (P → Q) → OnAll reached P → OnAll reached Q
 all_as to_end P Q to h = to h
@@ -187,8 +187,7 @@ module _ (stanza : Text) (a b c : View) (rests : Rests a b) (same : b.now ≡ a.
     between = λ q log some keeps.
         let u = begun q log keeps some in
         let m = mends.moves u.repository (some_at some) u.steady in
-        let next : Past b c = record { later = m.later; kept = m.past; loose = m.past_loose } in
-        (
+        let next : Past b c = record { later = m.later; kept = m.past; loose = m.past_loose } in (
           past_past a b c (rests_past a b rests) next,
           leaves_then (StandsAfter stanza q log) a b c (rests_past a b rests) next
               (λ t f lo hi leaves. keeps.stands f (leaves_back a b rests same t lo hi f leaves))
@@ -244,8 +243,7 @@ module _ (stanza : Text) (a b : View) (quiet : Quiet stanza a b) (begun : Begins
     part_passed : IsSome a.now → KeepsRepository stanza q log a → (u : IsBegun stanza q log b) → Moves stanza (IsPart stanza command u.repository) b d → Past a d × LeavesOnly (StandsAfter stanza q (undone stanza command q log ∷ log)) a d
     part_passed some keeps u m =
         let x = quiet.between q log some keeps in
-        let next : Past b d = record { later = m.later; kept = m.past; loose = m.past_loose } in
-        (
+        let next : Past b d = record { later = m.later; kept = m.past; loose = m.past_loose } in (
           past_past a b d x.0 next,
           leaves_then (StandsAfter stanza q (undone stanza command q log ∷ log)) a b d x.0 next
               (λ w f lo hi leaves. still_after stanza command q log f (x.1 w f lo hi leaves))
@@ -311,8 +309,7 @@ module _ (stanza : Text) (a b s t : View) (rests : Rests a b) (same : b.now ≡ 
     part = leads_on command false d e h.part;
     between = record {
       between = λ q log some keeps.
-          let x = h.between.between q log (on_some a.now b.now same some) (rests_still stanza q log a b rests same keeps) in
-          (
+          let x = h.between.between q log (on_some a.now b.now same some) (rests_still stanza q log a b rests same keeps) in (
             past_past a b d (rests_past a b rests) x.0,
             leaves_then (StandsAfter stanza q (undone stanza command q log ∷ log)) a b d (rests_past a b rests) x.0
                 (λ w f lo hi leaves. still_after stanza command q log f (keeps.stands f (leaves_back a b rests same w lo hi f leaves))) x.1,

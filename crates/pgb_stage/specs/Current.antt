@@ -17,8 +17,7 @@ use Rattle.pgb_stage.specs.declared.fault.StageFault.TheVariants.{StanzaMissing,
 use Rattle.pgb_info.specs.Causes.{AreDamaged}
 use Rattle.pgb_info.specs.ArchiveForm.{IsArchiveForm}
 use Rattle.pgb_model.specs.Stands.{IsArchiveFile}
-use Rattle.pgb_stanza.specs.declared.control.Control.{Control}
-use Rattle.pgb_stanza.specs.Pairs.{identity_told, identity_kept, AgreeAt}
+use Rattle.pgb_stanza.specs.Pairs.{AgreeAt}
 
 -- the archive pair's current cluster
 abbrev pub HasCurrent : Text → Content → ClusterId → Type 0

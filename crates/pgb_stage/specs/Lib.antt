@@ -2,9 +2,9 @@ pub mod States
 pub mod Seen
 pub mod Halts
 pub mod Risen
-pub mod Plans
 pub mod Runs
 pub mod Reached
 pub mod Cluster
 pub mod Current
+pub mod Plans
 pub mod Texts

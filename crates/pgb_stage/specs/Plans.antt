@@ -1,11 +1,12 @@
 -- What a plan asks of the stages (pgBackRest command reference; own which locks).
-use Rattle.std.specs.Prelude.{◌≡◌, ◌⊎◌, ◌++◌, Bool, true, false, List, [], ◌∷◌, codes, Option, Some, None, option_map, IfSome, IsSome, if◌then◌else◌}
+use Rattle.std.specs.Prelude.{◌≡◌, ◌≢◌, ◌⊎◌, ◌++◌, Bool, List, ◌∷◌, codes, Option, Some, None, option_map, IsSome, if◌then◌else◌, IfSome}
 use Rattle.pgb_outside.specs.Content.{Content, Name, at}
 use Rattle.pgb_outside.specs.Crash.{IsTemporary}
 use Rattle.pgb_model.specs.Text.{Text}
-use Rattle.pgb_model.specs.Names.{archive_info}
-use Rattle.pgb_model.specs.Log.{IsPairMember}
+use Rattle.pgb_model.specs.Names.{archive_info, copy_of}
+use Rattle.pgb_model.specs.Values.{ArchiveInfo}
 use Rattle.pgb_stanza.specs.Pairs.{AgreeAt}
+use Rattle.pgb_stage.specs.Current.{HasValue}
 use Rattle.pgb_stage.specs.declared.plan.Plan.{Plan}
 use Rattle.pgb_stage.specs.declared.plan.Pairs.{Pairs}
 use Rattle.pgb_stage.specs.declared.plan.Pairs.TheVariants.{HealArchive}
@@ -51,13 +52,16 @@ abbrev pub AreHealed : Pairs → Text → Content → Type 0
 AreHealed HealArchive stanza f = AgreeAt (archive_info stanza) f
 AreHealed other stanza f = Unit {0}
 
--- the disk holds what it held, but for members of the pairs and temporary names
-pub record OnlyPairs (stanza : Text) (old new : Option Content) : Type 0 where
-  pub others : (n : Name) → ¬ IsPairMember stanza n → ¬ IsTemporary n → at n new ≡ at n old
+-- The disk holds what it held, but for the members of the archive pair and temporary names; and the pair has the value that it had.
+pub record HealsArchive (stanza : Text) (old new : Option Content) : Type 0 where
+  pub others : (n : Name) → n ≢ archive_info stanza → n ≢ copy_of (archive_info stanza) → ¬ IsTemporary n → at n new ≡ at n old
+  pub value : ArchiveInfo
+  pub was : IfSome old (λ f. HasValue stanza f value)
+  pub is : IfSome new (λ f. HasValue stanza f value)
 
--- what the disk holds as the command's own part begins
+-- What the disk holds as the command's own part begins. (A disk that tells nothing says nothing of what is healed.)
 abbrev pub Heals : Pairs → Text → Option Content → Option Content → Type 0
-Heals HealArchive stanza old new = IsSome old → OnlyPairs stanza old new
+Heals HealArchive stanza old new = IsSome old → HealsArchive stanza old new
 Heals other stanza old new = new ≡ old
 
 -- this holds where no pair is healed

@@ -1,5 +1,6 @@
--- How far a command came, by how it ended.
-use Rattle.std.specs.Prelude.{Bool, true, false, if◌then◌else◌, Result, Ok, Err}
+-- How a command ended, and how far it came by that.
+use Rattle.std.specs.Prelude.{Bool, true, false, if◌then◌else◌, Result, Ok, Err, string_bytes}
+use Rattle.pgb_model.specs.Text.{Text}
 use Rattle.pgb_stage.specs.declared.object.Object.{Object}
 use Rattle.pgb_stage.specs.declared.object.Object.TheVariants.{Server}
 use Rattle.pgb_stage.specs.declared.halt.Halt.{Halt}
@@ -7,6 +8,11 @@ use Rattle.pgb_stage.specs.declared.halt.Halt.TheVariants.{Refused, Failed, NoMe
 use Rattle.pgb_stage.specs.declared.outcome.Outcome.{Outcome}
 use Rattle.pgb_stage.specs.declared.outcome.Outcome.TheVariants.{Finished, Absent}
 use Rattle.pgb_stage.specs.Runs.{Reached, to_end, turned_back, stopped}
+
+-- the command ended well, with lines of which this holds
+abbrev pub OnFinished : Outcome → (Text → Type 0) → Type 0
+OnFinished (Finished lines) P = P (string_bytes lines)
+OnFinished (Absent name) P = ⊥
 
 -- the server is asked before a command's first own step
 abbrev pub fails_early : Object → Bool

@@ -5,7 +5,7 @@ use Rattle.pgb_outside.specs.Moments.{View}
 use Rattle.pgb_model.specs.Text.{Text}
 use Rattle.pgb_model.specs.Repository.{Repository, IsSound}
 use Rattle.pgb_model.specs.Stands.{Stands}
-use Rattle.pgb_model.specs.Steps.{Step, Command, StanzaCreate, ArchivePush, ArchivePushAsync, ArchivePushDrain, MakeBackup, Expire, Then, Reading, IsPartOf, after, all_of, steps_of}
+use Rattle.pgb_model.specs.Steps.{Step, Command, ArchivePushAsync, MakeBackup, Reading, IsPartOf, after, all_of, steps_of}
 use Rattle.pgb_model.specs.Log.{Done, StandsAfter, KeepsRepository, KeepsSpool}
 use Rattle.pgb_model.specs.Steady.{IsSteady, IsBegun, Moves, LeavesOnly, KeepsOn}
 use Rattle.pgb_model.specs.Now.{NowDoes}

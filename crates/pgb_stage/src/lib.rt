@@ -15,4 +15,7 @@ pub use object::Object;
 pub use outcome::Outcome;
 pub use plan::{Pairs, Plan};
 pub use reading::read_front;
-pub use texts::{bytes_of, damaged_text, long_text, mismatch_text, object_message, object_status, push_shown, quoted, stage_message, stage_status};
+pub use texts::{
+    bytes_of, damaged_text, long_text, mismatch_text, object_message, object_status, push_shown,
+    quoted, stage_message, stage_status,
+};

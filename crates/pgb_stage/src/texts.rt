@@ -159,7 +159,12 @@ pub fn stage_message(alloc: Global, fault: &StageFault) -> Result<Vec<u8>, NoMem
             let name = part_name(*what);
             bytes_of(format!(in alloc; "'{name}' is not built yet"))
         }
-        StageFault::ConfigMissing { path } => quoted(alloc, "configuration '", path, "' is missing"),
+        StageFault::ConfigMissing { path } => quoted(
+            alloc,
+            "configuration '",
+            path,
+            "' is missing",
+        ),
         StageFault::ConfigLong { path, limit } => long_text(alloc, path, *limit),
         StageFault::Held { name } => bytes_of(format!(in alloc; "lock '{name}' is held")),
         StageFault::ControlMissing { file } => {

@@ -9,10 +9,10 @@ use Rattle.pgb_command.proofs.output.answer.Goals as goal
 
 pub returns-in-Ok-write_all-clause-told : goal.returns-in-Ok-write_all-clause-told
 returns-in-Ok-write_all-clause-told g c = (
-    ending_of c.args.ended.now,
-    c.status_at_end.ensures,
-    Whole (ending_of c.args.ended.now) refl (c.in-Ok-write_all.ensures.ok ∙ ap (λ (t : List ℕ). more t (g.O.Sink.written c.args.out.now)) (c.deref.ensures.value ∙ c.in-Ok.ensures)),
-  )
+  ending_of c.args.ended.now,
+  c.status_at_end.ensures,
+  Whole (ending_of c.args.ended.now) refl (c.in-Ok-write_all.ensures.ok ∙ ap (λ (t : List ℕ). more t (g.O.Sink.written c.args.out.now)) (c.deref.ensures.value ∙ c.in-Ok.ensures)),
+)
 
 pub returns-in-Err-Failed-clause-told : goal.returns-in-Err-Failed-clause-told
 returns-in-Err-Failed-clause-told g c = (refused (Failed Output), c.status.ensures, Cut (c.in-Err-Failed.ensures.cause.failed (search rules)) (front_as _ _ _ _ (c.deref.ensures.value ∙ c.in-Ok.ensures) c.in-Err-Failed.ensures.err))

@@ -1,4 +1,4 @@
-use Rattle.std.proofs.Common.{refl, ap, sym, ◌∙◌, map, string_bytes}
+use Rattle.std.proofs.Common.{ap, sym, ◌∙◌, map, string_bytes}
 use Rattle.pgb_command.specs.Told.{asked_of}
 use Rattle.pgb_command.proofs.AskedOnce.{ok_same}
 use Rattle.pgb_command.proofs.Readied.{no_server}

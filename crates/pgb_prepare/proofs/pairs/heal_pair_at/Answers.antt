@@ -20,4 +20,4 @@ returns-clause-found g c = let h = c.in_ok-info.ensures in
 
 pub returns-clause-only : goal.returns-clause-only
 returns-clause-only g c =
-    named_only c.args.stanza.now c.args.name.now c.requires (g.D.Disk.state c.args.repo.now).view (g.D.Disk.state c.heal_pair.new.d).view c.heal_pair.ensures.now_part (archive_info_of c.in_ok-info.info) c.in_ok-info.ensures.found
+    named_only c.args.stanza.now c.args.name.now c.requires (g.D.Disk.state c.args.repo.now).view (g.D.Disk.state c.heal_pair.new.d).view c.heal_pair.ensures.now_part (archive_info_of c.in_ok-info.info) c.in_ok-info.ensures.found (returns-clause-found g c).0

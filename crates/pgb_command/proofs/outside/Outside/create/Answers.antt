@@ -1,5 +1,4 @@
 use Rattle.std.proofs.Common.{refl, ap, arith}
-use Rattle.pgb_stage.specs.States.{WireState}
 use Rattle.pgb_command.specs.Told.{request_of, asked_of}
 use Rattle.pgb_command.proofs.Ends.{rose_to, all_later}
 use Rattle.pgb_command.proofs.Rans.{created_ran}

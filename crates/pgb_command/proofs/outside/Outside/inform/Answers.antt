@@ -1,5 +1,4 @@
-use Rattle.std.proofs.Common.{refl, ap, arith, subst}
-use Rattle.pgb_stage.specs.declared.object.Object.{Object}
+use Rattle.std.proofs.Common.{refl, arith}
 use Rattle.pgb_command.specs.Told.{asked_of}
 use Rattle.pgb_command.proofs.Ends.{all_later, only_rose}
 use Rattle.pgb_command.proofs.Rans.{informed_ran, both_ok}

@@ -1,4 +1,4 @@
-use Rattle.std.proofs.Common.{refl, ap, arith}
+use Rattle.std.proofs.Common.{refl, arith}
 use Rattle.pgb_command.specs.Told.{asked_of}
 use Rattle.pgb_command.proofs.Ends.{rose_to, all_later}
 use Rattle.pgb_command.proofs.Rans.{pushed_ran}
