@@ -15,7 +15,6 @@ use Rattle.pgb_stage.specs.declared.outcome.Outcome.{Outcome}
 use Rattle.pgb_stage.specs.Seen.{Seen, Failed, AreLater, AreRead}
 use Rattle.pgb_stage.specs.States.{SinkState, SourceState}
 use Rattle.pgb_stage.proofs.Counts.{rises_to}
-use Rattle.pgb_create.specs.declared.fault.CreateFault.TheVariants as create_fault
 use Rattle.pgb_command.specs.declared.fault.CommandFault.TheVariants.{Create, Push, Get}
 use Rattle.pgb_command.specs.declared.fault.Fault.{Fault}
 use Rattle.pgb_command.specs.declared.fault.Fault.TheVariants.{Usage, Stage, Command as OfCommand, Failed as ObjectFailed, NoMemory}
@@ -55,11 +54,7 @@ module _ (a : Asked) (b k : Seen) (o : SinkState) (le : k.out.faults ≤ o.fault
   out_closes : (fault : Fault) → Closes b k fault → Closes b written fault
   out_closes (Usage usage) h = h
   out_closes (Stage fault) h = h
-  out_closes (OfCommand (Create (create_fault.Server fault))) h = h
-  out_closes (OfCommand (Create (create_fault.InfoDamaged name main copy))) h = h
-  out_closes (OfCommand (Create (create_fault.HistoryDiffers at))) h = h
-  out_closes (OfCommand (Create (create_fault.StanzaMismatch kept found))) h = h
-  out_closes (OfCommand (Create (create_fault.ArchiveLost label))) h = h
+  out_closes (OfCommand (Create fault)) h = h
   out_closes (OfCommand (Push fault)) h = h
   out_closes (OfCommand (Get fault)) h = h
   out_closes (ObjectFailed object) h = h

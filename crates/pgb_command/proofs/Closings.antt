@@ -8,21 +8,18 @@ use Rattle.pgb_stage.specs.declared.object.Object.{Object}
 use Rattle.pgb_stage.specs.declared.object.Object.TheVariants as object
 use Rattle.pgb_stage.specs.declared.fault.StageFault.{StageFault}
 use Rattle.pgb_stage.specs.declared.fault.StageFault.TheVariants as stage
-use Rattle.pgb_stage.specs.declared.halt.Halt.TheVariants.{Refused}
 use Rattle.pgb_stage.specs.declared.outcome.Outcome.{Outcome}
 use Rattle.pgb_stage.specs.declared.outcome.Outcome.TheVariants.{Finished, Absent}
 use Rattle.pgb_stage.specs.Seen.{Seen, Failed}
 use Rattle.pgb_stage.specs.Texts.{stage_status, object_status}
 use Rattle.pgb_prepare.specs.Stages.{StageCause}
-use Rattle.pgb_create.specs.declared.fault.CreateFault.{CreateFault}
-use Rattle.pgb_create.specs.declared.fault.CreateFault.TheVariants as creates
-use Rattle.pgb_create.specs.Talking.{Ended, IsServerRefusal, Closes as CreateCloses}
+use Rattle.pgb_create.specs.Talking.{Ended, IsServerRefusal}
 use Rattle.pgb_create.proofs.Statuses.{create_closed}
 use Rattle.pgb_push.specs.declared.fault.PushFault.{PushFault}
-use Rattle.pgb_push.specs.declared.fault.PushFault.TheVariants as pushes
+use Rattle.pgb_push.proofs.Refusals.{push_within}
 use Rattle.pgb_push.specs.Texts.{push_status}
 use Rattle.pgb_get.specs.declared.fault.GetFault.{GetFault}
-use Rattle.pgb_get.specs.declared.fault.GetFault.TheVariants as gets
+use Rattle.pgb_get.proofs.Refusals.{get_within}
 use Rattle.pgb_get.specs.Texts.{get_status}
 use Rattle.pgb_command.specs.declared.fault.CommandFault.TheVariants.{Create, Push, Get}
 use Rattle.pgb_command.specs.declared.fault.Fault.{Fault}
@@ -101,34 +98,12 @@ object_apart object.Locks = high 85 (omega arith)
 object_apart object.Config = high 86 (omega arith)
 object_apart object.Output = high 87 (omega arith)
 
-push_long : (e : PushFault) → IsServerRefusal (push_status e) → push_status e ≡ 70
-push_long (pushes.SegmentName a) = low 30 (omega arith)
-push_long (pushes.PathOutside a) = low 12 (omega arith)
-push_long (pushes.StanzaMismatch a b) = low 23 (omega arith)
-push_long (pushes.SegmentMissing a) = low 37 (omega arith)
-push_long (pushes.TooLong a b) = λ is. refl
-push_long (pushes.HeaderForm a) = low 32 (omega arith)
-push_long (pushes.SegmentSize a b) = low 31 (omega arith)
-push_long (pushes.HeaderMismatch a b) = low 33 (omega arith)
-push_long (pushes.Ambiguous a b) = low 36 (omega arith)
-push_long (pushes.Duplicate a b) = low 34 (omega arith)
-
-get_long : (e : GetFault) → IsServerRefusal (get_status e) → get_status e ≡ 70
-get_long (gets.SegmentName a) = low 30 (omega arith)
-get_long (gets.PathOutside a) = low 12 (omega arith)
-get_long (gets.StanzaMismatch a b) = low 23 (omega arith)
-get_long (gets.Ambiguous a b) = low 36 (omega arith)
-get_long (gets.SegmentDamaged a b) = low 35 (omega arith)
-get_long (gets.TooLong a b) = λ is. refl
+-- a command's refusal with such a status is of a file that is too long
+only_long : (m : ℕ) → (m ≤ 46) ⊎ (m ≡ 70) → IsServerRefusal m → m ≡ 70
+only_long m (inl le) is = low m le is
+only_long m (inr long) is = long
 
 -- ---- what was said then
-
-back_closes : (b k : Seen) (e : CreateFault) → Closes b k (fault.Command (Create e)) → CreateCloses (Failed b k object.Server) b.server.sent k.server.sent (Refused e)
-back_closes b k (creates.Server f) h = h
-back_closes b k (creates.InfoDamaged name main copy) h = tt
-back_closes b k (creates.HistoryDiffers at) h = tt
-back_closes b k (creates.StanzaMismatch kept found) h = tt
-back_closes b k (creates.ArchiveLost label) h = tt
 
 push_other : {P : Type 0} (a : Asked) (q : Request) (old : Known) (e : PushFault) → CommandCause a q old (Push e) → OnOther q P → P
 push_other a create old e cause p = absurd cause
@@ -161,9 +136,9 @@ module _ (b k : Seen) (n : ℕ) where
   at_fault : (a : Asked) (e : Fault) → n ≡ status_of e → IsServerRefusal n → Cause a b k e → Closes b k e → OnOther a.request (k.server ≡ b.server) → Said
   at_fault a (fault.Usage u) is refusal cause closes others = absurd cause
   at_fault a (fault.Stage e) is refusal cause closes others = stage_apart (plan_of a.request) a.stanza b k e (subst IsServerRefusal is refusal) cause
-  at_fault a (fault.Command (Create e)) is refusal cause closes others = ended (create_closed (Failed b k object.Server) b.server.sent k.server.sent e (subst IsServerRefusal is refusal) (back_closes b k e closes))
-  at_fault a (fault.Command (Push e)) is refusal cause closes others = inr (inr (is ∙ push_long e (subst IsServerRefusal is refusal), ap (λ w. w.sent) (push_at a b k e cause others)))
-  at_fault a (fault.Command (Get e)) is refusal cause closes others = inr (inr (is ∙ get_long e (subst IsServerRefusal is refusal), ap (λ w. w.sent) (get_at a b k e cause others)))
+  at_fault a (fault.Command (Create e)) is refusal cause closes others = ended (create_closed (Failed b k object.Server) k.server.sent e (subst IsServerRefusal is refusal) closes)
+  at_fault a (fault.Command (Push e)) is refusal cause closes others = inr (inr (is ∙ only_long (push_status e) (push_within e).1 (subst IsServerRefusal is refusal), ap (λ w. w.sent) (push_at a b k e cause others)))
+  at_fault a (fault.Command (Get e)) is refusal cause closes others = inr (inr (is ∙ only_long (get_status e) (get_within e).1 (subst IsServerRefusal is refusal), ap (λ w. w.sent) (get_at a b k e cause others)))
   at_fault a (fault.Failed o) is refusal cause closes others = object_apart o (subst IsServerRefusal is refusal)
   at_fault a fault.NoMemory is refusal cause closes others = high 90 (omega arith) (subst IsServerRefusal is refusal)
 

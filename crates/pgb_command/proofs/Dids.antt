@@ -10,7 +10,7 @@ use Rattle.pgb_model.specs.Text.{Text}
 use Rattle.pgb_model.specs.Steps.{Command}
 use Rattle.pgb_stage.specs.declared.plan.Plan.{Plan}
 use Rattle.pgb_stage.specs.declared.object.Object.{Object}
-use Rattle.pgb_stage.specs.declared.object.Object.TheVariants.{Locks}
+use Rattle.pgb_stage.specs.declared.object.Object.TheVariants.{Server as TheServer, Locks}
 use Rattle.pgb_stage.specs.declared.fault.StageFault.{StageFault}
 use Rattle.pgb_stage.specs.declared.fault.StageFault.TheVariants.{Held}
 use Rattle.pgb_stage.specs.declared.halt.Halt.{Halt}
@@ -26,7 +26,7 @@ use Rattle.pgb_stage.proofs.Counts.{rises_from}
 use Rattle.pgb_stage.proofs.Lifted.{on_as, still_quiet, rests_quiet, quiet_takes, begun_takes, opened_takes}
 use Rattle.pgb_prepare.specs.Stages.{FoundCause, StageCause}
 use Rattle.pgb_prepare.specs.Taking.{HeldCause}
-use Rattle.pgb_create.specs.declared.fault.CreateFault.TheVariants as create_fault
+use Rattle.pgb_create.proofs.Statuses.{closes_as}
 use Rattle.pgb_command.specs.declared.fault.CommandFault.TheVariants.{Create, Push, Get}
 use Rattle.pgb_command.specs.declared.fault.Fault.{Fault}
 use Rattle.pgb_command.specs.declared.fault.Fault.TheVariants.{Usage, Stage, Command as OfCommand, Failed as ObjectFailed, NoMemory}
@@ -145,12 +145,7 @@ all_none stopped P p = tt
 closes_from : (b m k : Seen) → b.server.faults ≤ m.server.faults → (fault : Fault) → Closes m k fault → Closes b k fault
 closes_from b m k le (Usage usage) h = tt
 closes_from b m k le (Stage fault) h = tt
-closes_from b m k le (OfCommand (Create (create_fault.Server fault))) (inl h) = inl h
-closes_from b m k le (OfCommand (Create (create_fault.Server fault))) (inr h) = inr (rises_from _ _ _ le h)
-closes_from b m k le (OfCommand (Create (create_fault.InfoDamaged name main copy))) h = tt
-closes_from b m k le (OfCommand (Create (create_fault.HistoryDiffers at))) h = tt
-closes_from b m k le (OfCommand (Create (create_fault.StanzaMismatch kept found))) h = tt
-closes_from b m k le (OfCommand (Create (create_fault.ArchiveLost label))) h = tt
+closes_from b m k le (OfCommand (Create fault)) h = closes_as (Failed m k TheServer) (Failed b k TheServer) k.server.sent (λ rose. rises_from _ _ _ le rose) fault h
 closes_from b m k le (OfCommand (Push fault)) h = tt
 closes_from b m k le (OfCommand (Get fault)) h = tt
 closes_from b m k le (ObjectFailed object) h = tt

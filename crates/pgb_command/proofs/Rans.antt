@@ -30,7 +30,6 @@ use Rattle.pgb_stage.specs.Seen.{Seen, Failed, AreLater}
 use Rattle.pgb_stage.proofs.Doing.{reading_does}
 use Rattle.pgb_stage.proofs.Lifted.{does_runs, reading_spool}
 use Rattle.pgb_create.specs.declared.fault.CreateFault.{CreateFault}
-use Rattle.pgb_create.specs.declared.fault.CreateFault.TheVariants as create_fault
 use Rattle.pgb_create.specs.Creating.{IsCreated, CreateCause, create_early}
 use Rattle.pgb_create.specs.Talking.{Asks, IsOf, Closes as CreateCloses}
 use Rattle.pgb_push.specs.declared.fault.PushFault.{PushFault}
@@ -137,12 +136,8 @@ none_as stopped P Q to h = tt
 
 -- ---- stanza-create
 
-create_closes : (b k : Seen) (h : Halt CreateFault) → CreateCloses (Failed b k TheServer) b.server.sent k.server.sent h → Closes b k (of_create h)
-create_closes b k (Refused (create_fault.Server fault)) h = h
-create_closes b k (Refused (create_fault.InfoDamaged name main copy)) h = tt
-create_closes b k (Refused (create_fault.HistoryDiffers at)) h = tt
-create_closes b k (Refused (create_fault.StanzaMismatch kept found)) h = tt
-create_closes b k (Refused (create_fault.ArchiveLost label)) h = tt
+create_closes : (b k : Seen) (h : Halt CreateFault) → CreateCloses (Failed b k TheServer) k.server.sent h → Closes b k (of_create h)
+create_closes b k (Refused fault) h = h
 create_closes b k (HaltFailed object) h = tt
 create_closes b k HaltMemory h = tt
 
@@ -156,7 +151,7 @@ module _ (a : Asked) (b k : Seen) (rest : k ≡ record b { repo = k.repo; server
 
   pub created_ran : a.request ≡ create → Does a.stanza (StanzaCreate (Some (first_cluster told))) (reached_by create_early r) b.repo.view k.repo.view → IfOk r (IsCreated a.stanza told b.repo.view.now k.repo.view.now) →
       OnNone (reached_by create_early r) (IsStill b.repo.view k.repo.view) → OnOk r (IfSome a.server (λ _. IsOf told.system b.server.pending)) → OnOk r (Asks a.server k.server.place b.server.sent k.server.sent) → (a.server ≡ None → k.server ≡ b.server) →
-      IfErr r (CreateCloses (Failed b k TheServer) b.server.sent k.server.sent) → (failed : Object → Type 0) → ((object : Object) → failed object → Failed b k object) →
+      IfErr r (CreateCloses (Failed b k TheServer) k.server.sent) → (failed : Object → Type 0) → ((object : Object) → failed object → Failed b k object) →
       IfErr r (HaltCause (CreateCause a.stanza told a.server b.repo.view.now b.server.pending) failed) → SamePlaces b k → AreLater b k → Ran a b k ended
   created_ran is does created still same asked quiet closed failed rose cause places later = as_ran a create b k ended is
       (ran_of asks b k (λ (e : CreateFault). OfCommand (Create e)) create_early (λ e. refl) (CreateCause a.stanza told a.server b.repo.view.now b.server.pending) (λ e h. (told, tells, h)) failed rose r ended lifted

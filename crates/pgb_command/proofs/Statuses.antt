@@ -12,12 +12,8 @@ use Rattle.pgb_stage.specs.Runs.{to_end, turned_back}
 use Rattle.pgb_stage.specs.Reached.{fails_early, back_if}
 use Rattle.pgb_stage.specs.Texts.{stage_status, object_status}
 use Rattle.pgb_create.proofs.Statuses.{create_over}
-use Rattle.pgb_push.specs.declared.fault.PushFault.{PushFault}
-use Rattle.pgb_push.specs.declared.fault.PushFault.TheVariants as pushes
-use Rattle.pgb_push.specs.Texts.{push_status}
-use Rattle.pgb_get.specs.declared.fault.GetFault.{GetFault}
-use Rattle.pgb_get.specs.declared.fault.GetFault.TheVariants as gets
-use Rattle.pgb_get.specs.Texts.{get_status}
+use Rattle.pgb_push.proofs.Refusals.{push_within}
+use Rattle.pgb_get.proofs.Refusals.{get_within}
 use Rattle.pgb_command.specs.declared.fault.CommandFault.{CommandFault}
 use Rattle.pgb_command.specs.declared.fault.CommandFault.TheVariants.{Create, Push, Get}
 use Rattle.pgb_command.specs.declared.fault.Fault.{Fault}
@@ -63,30 +59,10 @@ object_over object.Locks = omega arith
 object_over object.Config = omega arith
 object_over object.Output = omega arith
 
-push_over : (e : PushFault) → 2 ≤ push_status e
-push_over (pushes.SegmentName a) = omega arith
-push_over (pushes.PathOutside a) = omega arith
-push_over (pushes.StanzaMismatch a b) = omega arith
-push_over (pushes.SegmentMissing a) = omega arith
-push_over (pushes.TooLong a b) = omega arith
-push_over (pushes.HeaderForm a) = omega arith
-push_over (pushes.SegmentSize a b) = omega arith
-push_over (pushes.HeaderMismatch a b) = omega arith
-push_over (pushes.Ambiguous a b) = omega arith
-push_over (pushes.Duplicate a b) = omega arith
-
-get_over : (e : GetFault) → 2 ≤ get_status e
-get_over (gets.SegmentName a) = omega arith
-get_over (gets.PathOutside a) = omega arith
-get_over (gets.StanzaMismatch a b) = omega arith
-get_over (gets.Ambiguous a b) = omega arith
-get_over (gets.SegmentDamaged a b) = omega arith
-get_over (gets.TooLong a b) = omega arith
-
 command_over : (e : CommandFault) → 2 ≤ command_status e
 command_over (Create e) = create_over e
-command_over (Push e) = push_over e
-command_over (Get e) = get_over e
+command_over (Push e) = (push_within e).0
+command_over (Get e) = (get_within e).0
 
 pub over : (e : Fault) → 2 ≤ status_of e
 over (fault.Usage e) = usage_over e

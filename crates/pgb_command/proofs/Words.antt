@@ -7,12 +7,11 @@ use Rattle.pgb_stage.specs.declared.halt.Halt.{Halt}
 use Rattle.pgb_stage.specs.declared.halt.Halt.TheVariants.{Refused, Failed as HaltFailed, NoMemory as HaltMemory}
 use Rattle.pgb_stage.specs.Halts.{HaltCause}
 use Rattle.pgb_push.specs.declared.fault.PushFault.{PushFault}
-use Rattle.pgb_push.specs.declared.fault.PushFault.TheVariants as push_fault
-use Rattle.pgb_push.specs.Causes.{PushCause}
+use Rattle.pgb_push.proofs.Refusals.{push_word}
 use Rattle.pgb_push.specs.WalCause.{WordCause}
 use Rattle.pgb_get.specs.declared.fault.GetFault.{GetFault}
-use Rattle.pgb_get.specs.declared.fault.GetFault.TheVariants as get_fault
-use Rattle.pgb_get.specs.Getting.{AreWords, WordsCause as GetWords, GetCause}
+use Rattle.pgb_get.proofs.Refusals.{get_words as read_words}
+use Rattle.pgb_get.specs.Getting.{AreWords, WordsCause as GetWords}
 use Rattle.pgb_command.specs.declared.fault.CommandFault.TheVariants.{Push, Get}
 use Rattle.pgb_command.specs.declared.fault.Fault.{Fault}
 use Rattle.pgb_stage.specs.declared.outcome.Outcome.{Outcome}
@@ -22,37 +21,17 @@ use Rattle.pgb_command.specs.declared.order.Order.TheVariants as orders
 use Rattle.pgb_command.specs.Told.{IsOrder}
 use Rattle.pgb_command.specs.Asked.{Request, create, push, get, report, Asked}
 use Rattle.pgb_command.specs.Faults.{of_push, of_get}
-use Rattle.pgb_command.specs.Tables.{Known, WordsFit, CommandCause}
+use Rattle.pgb_command.specs.Tables.{WordsFit, CommandCause}
 use Rattle.pgb_command.specs.Did.{WordsCause, ComesBehind}
-
-push_word : (a : Asked) (path : Text) (old : Known) (e : PushFault) → WordCause a.data_folder path e → PushCause a.stanza a.data_folder path old.repo old.nodes e
-push_word a path old (push_fault.SegmentName name) h = h
-push_word a path old (push_fault.PathOutside path') h = h
-push_word a path old (push_fault.StanzaMismatch kept found) h = absurd h
-push_word a path old (push_fault.SegmentMissing path') h = absurd h
-push_word a path old (push_fault.TooLong name limit) h = absurd h
-push_word a path old (push_fault.HeaderForm info) h = absurd h
-push_word a path old (push_fault.SegmentSize told found) h = absurd h
-push_word a path old (push_fault.HeaderMismatch kept found) h = absurd h
-push_word a path old (push_fault.Ambiguous first second) h = absurd h
-push_word a path old (push_fault.Duplicate kept found) h = absurd h
-
-get_word : (a : Asked) (name path : Text) (old : Known) (e : GetFault) → GetWords a.data_folder name path e → GetCause a.stanza a.data_folder name path old.repo old.nodes e
-get_word a name path old (get_fault.SegmentName word) h = h
-get_word a name path old (get_fault.PathOutside word) h = h
-get_word a name path old (get_fault.StanzaMismatch kept found) h = absurd h
-get_word a name path old (get_fault.Ambiguous first second) h = absurd h
-get_word a name path old (get_fault.SegmentDamaged told found) h = absurd h
-get_word a name path old (get_fault.TooLong word limit) h = absurd h
 
 module _ (a : Asked) where
   push_words : (path : Text) → a.request ≡ push path → (h : Halt PushFault) → HaltCause (WordCause a.data_folder path) (λ (object : Object). ⊥) h → WordsCause a (of_push h)
-  push_words path is (Refused e) h = λ old. subst (λ (q : Request). CommandCause a q old (Push e)) (sym is) (push_word a path old e h)
+  push_words path is (Refused e) h = λ old. subst (λ (q : Request). CommandCause a q old (Push e)) (sym is) (push_word a.stanza a.data_folder path old.repo old.nodes e h)
   push_words path is (HaltFailed object) h = absurd h
   push_words path is HaltMemory h = tt
 
   get_words : (name path : Text) → a.request ≡ get name path → (h : Halt GetFault) → HaltCause (GetWords a.data_folder name path) (λ (object : Object). ⊥) h → WordsCause a (of_get h)
-  get_words name path is (Refused e) h = λ old. subst (λ (q : Request). CommandCause a q old (Get e)) (sym is) (get_word a name path old e h)
+  get_words name path is (Refused e) h = λ old. subst (λ (q : Request). CommandCause a q old (Get e)) (sym is) (read_words a.stanza a.data_folder name path old.repo old.nodes e h)
   get_words name path is (HaltFailed object) h = absurd h
   get_words name path is HaltMemory h = tt
 

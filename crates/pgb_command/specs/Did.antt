@@ -5,14 +5,14 @@ use Rattle.pgb_outside.specs.States.{IsOpened, OpensOnly}
 use Rattle.pgb_model.specs.Text.{Text}
 use Rattle.pgb_archive.specs.Still.{IsStill}
 use Rattle.pgb_stage.specs.declared.object.Object.TheVariants.{Server}
+use Rattle.pgb_stage.specs.declared.halt.Halt.TheVariants.{Refused}
 use Rattle.pgb_stage.specs.declared.outcome.Outcome.{Outcome}
 use Rattle.pgb_stage.specs.Plans.{Heals, AreHealed, TakesLocks}
 use Rattle.pgb_stage.specs.Runs.{Runs, Takes, On, OnNone}
 use Rattle.pgb_stage.specs.Seen.{Seen, Failed, AreLater}
 use Rattle.pgb_prepare.specs.Stages.{StageCause}
 use Rattle.pgb_prepare.specs.Taking.{MayTake}
-use Rattle.pgb_create.specs.declared.fault.CreateFault.TheVariants as create_fault
-use Rattle.pgb_create.specs.Talking.{Ended}
+use Rattle.pgb_create.specs.Talking.{Closes as CreateCloses}
 use Rattle.pgb_command.specs.declared.fault.CommandFault.TheVariants.{Create}
 use Rattle.pgb_command.specs.declared.fault.Fault.{Fault}
 use Rattle.pgb_command.specs.declared.fault.Fault.TheVariants.{Usage, Stage, Command, Failed as ObjectFailed, NoMemory}
@@ -24,7 +24,7 @@ use Rattle.pgb_command.specs.Tables.{Known, known, plan_of, manner_of, WordsFit,
 
 -- a talk that the server's answer ended was ended with the last message too, unless the connection failed
 abbrev pub Closes : Seen → Seen → Fault → Type 0
-Closes before after (Command (Create (create_fault.Server fault))) = Ended after.server.sent ⊎ Failed before after Server
+Closes before after (Command (Create fault)) = CreateCloses (Failed before after Server) after.server.sent (Refused fault)
 Closes before after other = Unit {0}
 
 -- What a command leaves as it was: of the repository all where it only reads, of the data folder all but a file that is served, and the server where it asks none. Refused before its first step it has changed no file of the data folder, and stanza-create none of the repository.

@@ -200,16 +200,16 @@ module _ (stanza : Text) (told : Control) (server : Option Server) (repo : Optio
 
 -- a refusal of the repository's isn't one of the server's
 pub made_closes : {T : Type 0} (stanza : Text) (told : Control) (repo : Option Content) (failed : Object → Type 0)
-    (rose : Type 0) (old new : Option (List ℕ)) (result : Result T (Halt CreateFault)) →
-    IfErr result (HaltCause (MakeCause stanza told repo) failed) → IfErr result (Closes rose old new)
-made_closes stanza told repo failed rose old new (Ok x) h = tt
-made_closes stanza told repo failed rose old new (Err (Refused (faults.Server fault))) h = absurd h
-made_closes stanza told repo failed rose old new (Err (Refused (faults.InfoDamaged name main copy))) h = tt
-made_closes stanza told repo failed rose old new (Err (Refused (faults.HistoryDiffers at))) h = tt
-made_closes stanza told repo failed rose old new (Err (Refused (faults.StanzaMismatch kept found))) h = tt
-made_closes stanza told repo failed rose old new (Err (Refused (faults.ArchiveLost label))) h = tt
-made_closes stanza told repo failed rose old new (Err (Failed object)) h = tt
-made_closes stanza told repo failed rose old new (Err NoMemory) h = tt
+    (rose : Type 0) (new : Option (List ℕ)) (result : Result T (Halt CreateFault)) →
+    IfErr result (HaltCause (MakeCause stanza told repo) failed) → IfErr result (Closes rose new)
+made_closes stanza told repo failed rose new (Ok x) h = tt
+made_closes stanza told repo failed rose new (Err (Refused (faults.Server fault))) h = absurd h
+made_closes stanza told repo failed rose new (Err (Refused (faults.InfoDamaged name main copy))) h = tt
+made_closes stanza told repo failed rose new (Err (Refused (faults.HistoryDiffers at))) h = tt
+made_closes stanza told repo failed rose new (Err (Refused (faults.StanzaMismatch kept found))) h = tt
+made_closes stanza told repo failed rose new (Err (Refused (faults.ArchiveLost label))) h = tt
+made_closes stanza told repo failed rose new (Err (Failed object)) h = tt
+made_closes stanza told repo failed rose new (Err NoMemory) h = tt
 
 -- ---- where the server ends the command, nothing was done yet
 

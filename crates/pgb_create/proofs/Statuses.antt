@@ -34,10 +34,19 @@ not_server n (inr a) (inl b) = absurd (omega (arith, a, b.1))
 not_server n (inr a) (inr b) = absurd (omega (arith, a, b.1))
 
 -- at the status of a server's answer the talk was ended
-pub create_closed : (rose : Type 0) (old new : Option (List ℕ)) (fault : CreateFault) →
-    IsServerRefusal (create_status fault) → Closes rose old new (Refused fault) → Ended new ⊎ rose
-create_closed rose old new (faults.Server fault) is closes = closes
-create_closed rose old new (faults.InfoDamaged name main copy) is closes = not_server 22 (inl (omega arith)) is
-create_closed rose old new (faults.HistoryDiffers at) is closes = not_server 101 (inr (omega arith)) is
-create_closed rose old new (faults.StanzaMismatch kept found) is closes = not_server 23 (inl (omega arith)) is
-create_closed rose old new (faults.ArchiveLost label) is closes = not_server 24 (inl (omega arith)) is
+pub create_closed : (rose : Type 0) (new : Option (List ℕ)) (fault : CreateFault) →
+    IsServerRefusal (create_status fault) → Closes rose new (Refused fault) → Ended new ⊎ rose
+create_closed rose new (faults.Server fault) is closes = closes
+create_closed rose new (faults.InfoDamaged name main copy) is closes = not_server 22 (inl (omega arith)) is
+create_closed rose new (faults.HistoryDiffers at) is closes = not_server 101 (inr (omega arith)) is
+create_closed rose new (faults.StanzaMismatch kept found) is closes = not_server 23 (inl (omega arith)) is
+create_closed rose new (faults.ArchiveLost label) is closes = not_server 24 (inl (omega arith)) is
+
+-- with another failure of the connection
+pub closes_as : (rose risen : Type 0) (new : Option (List ℕ)) → (rose → risen) → (fault : CreateFault) → Closes rose new (Refused fault) → Closes risen new (Refused fault)
+closes_as rose risen new to (faults.Server fault) (inl ended) = inl ended
+closes_as rose risen new to (faults.Server fault) (inr failed) = inr (to failed)
+closes_as rose risen new to (faults.InfoDamaged name main copy) closes = tt
+closes_as rose risen new to (faults.HistoryDiffers at) closes = tt
+closes_as rose risen new to (faults.StanzaMismatch kept found) closes = tt
+closes_as rose risen new to (faults.ArchiveLost label) closes = tt

@@ -27,9 +27,9 @@ abbrev pub Ended : Option (List ℕ) → Type 0
 Ended said = IfSome said (λ bytes. (front : List ℕ) × (bytes ≡ front ++ closing))
 
 -- a talk that the server's answer ended was ended with the last message too, unless the connection failed
-abbrev pub Closes : Type 0 → Option (List ℕ) → Option (List ℕ) → Halt CreateFault → Type 0
-Closes rose old new (Refused (Talked fault)) = Ended new ⊎ rose
-Closes rose old new other = Unit {0}
+abbrev pub Closes : Type 0 → Option (List ℕ) → Halt CreateFault → Type 0
+Closes rose new (Refused (Talked fault)) = Ended new ⊎ rose
+Closes rose new other = Unit {0}
 
 -- the statuses of a server's answer that is refused; 70 is also that of a file that is too long
 abbrev pub IsServerRefusal : ℕ → Type 0

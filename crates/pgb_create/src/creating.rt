@@ -94,7 +94,7 @@ pub fn create_stanza<D: Disk, V: Wire>(
         (V.place wire.new) (V.sent wire.old) (V.sent wire.new)) }
     ensures quiet { server.entry ≡ None → wire.new ≡ wire.old }
     ensures closed { IfErr result (Closes (Rises (V.faults wire.old) (V.faults wire.new))
-        (V.sent wire.old) (V.sent wire.new)) }
+        (V.sent wire.new)) }
     ensures later { V.faults wire.old ≤ V.faults wire.new }
 
     ensures cause { IfErr result (HaltCause

@@ -85,7 +85,7 @@ fn ask_system<V: Wire>(
     ensures asks { OnOk result (Asks (Some (server_view server.now))
         (V.place wire.new) (V.sent wire.old) (V.sent wire.new)) }
     ensures closed { IfErr result (Closes (Rises (V.faults wire.old) (V.faults wire.new))
-        (V.sent wire.old) (V.sent wire.new)) }
+        (V.sent wire.new)) }
     ensures later { V.faults wire.old ≤ V.faults wire.new }
     ensures cause { IfErr result (HaltCause (AskCause (Some (server_view server.now)) system (V.pending wire.old))
         (Only TheServer (Rises (V.faults wire.old) (V.faults wire.new)))) }
@@ -109,7 +109,7 @@ pub(crate) fn check_server<V: Wire>(
     ensures asks { OnOk result (Asks (option_map server_view server.entry)
         (V.place wire.new) (V.sent wire.old) (V.sent wire.new)) }
     ensures closed { IfErr result (Closes (Rises (V.faults wire.old) (V.faults wire.new))
-        (V.sent wire.old) (V.sent wire.new)) }
+        (V.sent wire.new)) }
     ensures later { V.faults wire.old ≤ V.faults wire.new }
     ensures cause { IfErr result (HaltCause (AskCause (option_map server_view server.entry) system (V.pending wire.old))
         (Only TheServer (Rises (V.faults wire.old) (V.faults wire.new)))) }

@@ -5,3 +5,4 @@ mod Folders
 mod Passes
 mod Fetches
 mod Archived
+pub mod Refusals

@@ -1,4 +1,4 @@
-// What archive-get finds alone.
+// Why archive-get is refused.
 ghost use Rattle.std.specs.Prelude.{◌≡◌};
 ghost use Rattle.pgb_get.specs.Serving.{of_archive};
 

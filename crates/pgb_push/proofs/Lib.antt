@@ -4,3 +4,4 @@ pub mod Doings
 pub mod Stores
 pub mod StoreCauses
 pub mod Opened
+pub mod Refusals

@@ -22,7 +22,7 @@ pub returns-in_err-check_server-clause-closed : goal.returns-in_err-check_server
 returns-in_err-check_server-clause-closed g c =
     exit_err c.from_residual.result c.in_err-check_server.field-0.0 c.from_residual.ensures.1
     (Closes (Rises (g.V.Wire.faults c.args.wire.now) (g.V.Wire.faults c.check_server.new.wire))
-    (g.V.Wire.sent c.args.wire.now) (g.V.Wire.sent c.check_server.new.wire)) c.in_err-check_server.ensures.closed
+    (g.V.Wire.sent c.check_server.new.wire)) c.in_err-check_server.ensures.closed
 
 pub returns-in_err-check_server-clause-cause : goal.returns-in_err-check_server-clause-cause
 returns-in_err-check_server-clause-cause g c =
@@ -31,7 +31,7 @@ returns-in_err-check_server-clause-cause g c =
     (g.D.Disk.state c.args.repo.now).view.now (g.V.Wire.pending c.args.wire.now) _ _ c.in_err-check_server.ensures.cause
 
 pub returns-clause-closed : goal.returns-clause-closed
-returns-clause-closed g c = made_closes c.args.stanza.now c.args.told.now _ _ _ (g.V.Wire.sent c.args.wire.now)
+returns-clause-closed g c = made_closes c.args.stanza.now c.args.told.now _ _ _
     (g.V.Wire.sent c.check_server.new.wire) c.make.result c.make.ensures.cause
 
 pub returns-clause-cause : goal.returns-clause-cause
