@@ -58,9 +58,11 @@ fn read_file<I: Source>(
     limit: usize,
 ) -> Result<Option<Vec<u8>>, Fault>
     requires { limit + 1 < 2 ^ 63 }
-    ensures bytes { IfOk result (λ r. IfSome (I.files config.old) (λ f. option_map (λ (v : Vec ℕ Global). v.items) r ≡ f path.now)) }
+    ensures bytes { IfOk result (λ r.
+        IfSome (I.files config.old) (λ f. option_map (λ (v : Vec ℕ Global). v.items) r ≡ f path.now)) }
     ensures fits { IfOk result (λ r. IfSome r (λ (v : Vec ℕ Global). length v.items ≤ limit)) }
-    ensures cause { IfErr result (SourceCause path.now limit (I.files config.old) (Rises (I.faults config.old) (I.faults config.new))) }
+    ensures cause { IfErr result (SourceCause path.now limit (I.files config.old)
+        (Rises (I.faults config.old) (I.faults config.new))) }
     ensures later { I.faults config.old ≤ I.faults config.new }
     ensures files { I.files config.new ≡ I.files config.old }
 {
@@ -91,9 +93,11 @@ fn configuration<I: Source>(
     limit: usize,
 ) -> Result<Vec<u8>, Fault>
     requires { limit ≡ config_limit }
-    ensures bytes { IfOk result (λ v. (path : Path) × (path_of_words (map string_bytes words.now) ≡ Ok path) × MayHave (I.files config.old) path v.items) }
+    ensures bytes { IfOk result (λ v. (path : Path) × (path_of_words (map string_bytes words.now) ≡ Ok path)
+        × MayHave (I.files config.old) path v.items) }
     ensures fits { IfOk result (λ v. length v.items ≤ limit) }
-    ensures cause { IfErr result (ConfigCause (map string_bytes words.now) (I.files config.old) (Rises (I.faults config.old) (I.faults config.new))) }
+    ensures cause { IfErr result (ConfigCause (map string_bytes words.now) (I.files config.old)
+        (Rises (I.faults config.old) (I.faults config.new))) }
     ensures later { I.faults config.old ≤ I.faults config.new }
     ensures files { I.files config.new ≡ I.files config.old }
 {
@@ -116,8 +120,10 @@ pub(crate) fn read_command<I: Source>(
     words: &[String],
     config: &mut I,
 ) -> Result<Command, Fault>
-    ensures command { IfOk result (λ c. (s : Settled) × Settles (map string_bytes words.now) (I.files config.old) (Ok s) × IsCommand c s) }
-    ensures cause { IfErr result (ConfigCause (map string_bytes words.now) (I.files config.old) (Rises (I.faults config.old) (I.faults config.new))) }
+    ensures command { IfOk result (λ c. (s : Settled) ×
+        Settles (map string_bytes words.now) (I.files config.old) (Ok s) × IsCommand c s) }
+    ensures cause { IfErr result (ConfigCause (map string_bytes words.now) (I.files config.old)
+        (Rises (I.faults config.old) (I.faults config.new))) }
     ensures later { I.faults config.old ≤ I.faults config.new }
     ensures files { I.files config.new ≡ I.files config.old }
 {

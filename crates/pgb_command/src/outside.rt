@@ -4,8 +4,8 @@ ghost use Rattle.pgb_stage.specs.Seen.{Seen};
 use pgb_archive::Aside;
 use pgb_outside::{Clock, Disk, Locks, Sink, Source, Tree, Wire};
 
-/// The objects that the program works on: the repository, the spool, the data folder, the connection to the server, other
-/// processes, the clock, the locks, the configuration and the output.
+/// The objects that the program works on: the repository, the spool, the data folder, the connection to the
+/// server, other processes, the clock, the locks, the configuration and the output.
 #[derive(Drop)]
 pub struct Outside<D, S, T, V, A, C, K, I, O> {
     pub repo: D,
@@ -39,8 +39,10 @@ impl<
       repo = D.state o.repo;
       spool = S.state o.spool;
       tree = T.state o.tree;
-      server = record { pending = V.pending o.server; sent = V.sent o.server; place = V.place o.server; faults = V.faults o.server };
-      others = record { account = A.account o.aside; turns = A.turns o.aside; started = A.started o.aside; faults = A.faults o.aside };
+      server = record {
+        pending = V.pending o.server; sent = V.sent o.server; place = V.place o.server; faults = V.faults o.server };
+      others = record {
+        account = A.account o.aside; turns = A.turns o.aside; started = A.started o.aside; faults = A.faults o.aside };
       clock = record { faults = C.faults o.clock };
       locks = record { took = K.took o.locks; refusals = K.refusals o.locks; faults = K.faults o.locks };
       config = record { files = I.files o.config; faults = I.faults o.config };

@@ -39,7 +39,8 @@ impl<
         ready: &Ready,
     ) -> Result<Outcome, Fault>
         requires request { request_of settings.now.request ≡ asks_create }
-        requires ready { IsReady (plan_of (request_of settings.now.request)) settings.now.stanza.now (D.state self.old.repo).view.now (T.state self.old.tree).nodes ready.now }
+        requires ready { IsReady (plan_of (request_of settings.now.request)) settings.now.stanza.now
+            (D.state self.old.repo).view.now (T.state self.old.tree).nodes ready.now }
         ensures ran { let told = ⟦<Outside<D, S, T, V, A, C, K, I, O> as Told>⟧.told in
             Ran (asked_of settings.now) (told self.old) (told self.new) result }
         ensures quiet { settings.now.server ≡ None → self.new.server ≡ self.old.server }
@@ -68,7 +69,8 @@ impl<
     ) -> Result<Outcome, Fault>
         requires request { request_of settings.now.request ≡ asks_push order.path.now }
         requires folder { order.folder.now ≡ settings.now.pg1_path.now }
-        requires ready { IsReady (plan_of (request_of settings.now.request)) settings.now.stanza.now (D.state self.old.repo).view.now (T.state self.old.tree).nodes ready.now }
+        requires ready { IsReady (plan_of (request_of settings.now.request)) settings.now.stanza.now
+            (D.state self.old.repo).view.now (T.state self.old.tree).nodes ready.now }
         ensures ran { let told = ⟦<Outside<D, S, T, V, A, C, K, I, O> as Told>⟧.told in
             Ran (asked_of settings.now) (told self.old) (told self.new) result }
         ensures rest { self.new ≡ record self.old { repo = self.new.repo; tree = self.new.tree } }
@@ -97,7 +99,8 @@ impl<
     ) -> Result<Outcome, Fault>
         requires request { request_of settings.now.request ≡ asks_get order.now.word.now order.now.path.now }
         requires folder { order.now.folder.now ≡ settings.now.pg1_path.now }
-        requires ready { IsReady (plan_of (request_of settings.now.request)) settings.now.stanza.now (D.state self.old.repo).view.now (T.state self.old.tree).nodes ready.now }
+        requires ready { IsReady (plan_of (request_of settings.now.request)) settings.now.stanza.now
+            (D.state self.old.repo).view.now (T.state self.old.tree).nodes ready.now }
         ensures ran { let told = ⟦<Outside<D, S, T, V, A, C, K, I, O> as Told>⟧.told in
             Ran (asked_of settings.now) (told self.old) (told self.new) result }
         ensures rest { self.new ≡ record self.old { repo = self.new.repo; tree = self.new.tree } }
@@ -125,7 +128,8 @@ impl<
         ready: &Ready,
     ) -> Result<Outcome, Fault>
         requires request { request_of settings.now.request ≡ asks_report form }
-        requires ready { IsReady (plan_of (request_of settings.now.request)) settings.now.stanza.now (D.state self.old.repo).view.now (T.state self.old.tree).nodes ready.now }
+        requires ready { IsReady (plan_of (request_of settings.now.request)) settings.now.stanza.now
+            (D.state self.old.repo).view.now (T.state self.old.tree).nodes ready.now }
         ensures ran { let told = ⟦<Outside<D, S, T, V, A, C, K, I, O> as Told>⟧.told in
             Ran (asked_of settings.now) (told self.old) (told self.new) result }
         ensures rest { self.new ≡ record self.old { repo = self.new.repo } }

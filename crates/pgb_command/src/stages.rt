@@ -84,7 +84,9 @@ impl<
         ensures tree { plan.now.folder ≡ false → self.new.tree ≡ self.old.tree }
         ensures quiet { settings.now.server ≡ None → self.new.server ≡ self.old.server }
         ensures idle { plan.now.backup_lock ≡ false → plan.now.archive_lock ≡ false → self.new.locks ≡ self.old.locks }
-        ensures rest { self.new ≡ record self.old { repo = self.new.repo; tree = self.new.tree; server = self.new.server; locks = self.new.locks } }
+        ensures rest { self.new ≡ record self.old {
+            repo = self.new.repo; tree = self.new.tree; server = self.new.server; locks = self.new.locks
+        } }
     {
         self.open(settings, plan)?;
         self.under_locks(alloc, settings, plan, order)
@@ -100,15 +102,19 @@ impl<
         ensures words { ComesBehind (asked_of settings.now) result }
         ensures released { K.taken self.new.locks ≡ [] }
         ensures quiet { settings.now.server ≡ None → self.new.server ≡ self.old.server }
-        ensures unused { (form : OutputWord) → request_of settings.now.request ≡ report form → (self.new.tree ≡ self.old.tree) × (self.new.locks ≡ self.old.locks) }
-        ensures rest { self.new ≡ record self.old { repo = self.new.repo; tree = self.new.tree; server = self.new.server; locks = self.new.locks } }
+        ensures unused { (form : OutputWord) → request_of settings.now.request ≡ report form →
+            (self.new.tree ≡ self.old.tree) × (self.new.locks ≡ self.old.locks) }
+        ensures rest { self.new ≡ record self.old {
+            repo = self.new.repo; tree = self.new.tree; server = self.new.server; locks = self.new.locks
+        } }
     {
         let order = order_of(alloc, settings)?;
         let plan = plan_of(&settings.request);
         self.perform(alloc, settings, &plan, order)
     }
 
-    // Behind the locks: the stanza is settled, the control file and the pairs are read, and then comes the command's own part.
+    // Behind the locks: the stanza is settled, the control file and the pairs are read, and then comes the command's
+    // own part.
     fn work(
         &mut self,
         alloc: Global,
@@ -124,7 +130,9 @@ impl<
             SamePlaces (told self.old) (told self.new) }
         ensures tree { plan.now.folder ≡ false → self.new.tree ≡ self.old.tree }
         ensures quiet { settings.now.server ≡ None → self.new.server ≡ self.old.server }
-        ensures rest { self.new ≡ record self.old { repo = self.new.repo; tree = self.new.tree; server = self.new.server } }
+        ensures rest { self.new ≡ record self.old {
+            repo = self.new.repo; tree = self.new.tree; server = self.new.server
+        } }
     {
         let ready = prepare(alloc, &mut self.repo, &mut self.tree, settings.stanza, plan)?;
         self.dispatch(alloc, settings, order, ready)
@@ -147,7 +155,8 @@ impl<
             Did (asked_of settings.now) (told self.old) (told self.new) result }
         ensures places { let told = ⟦<Outside<D, S, T, V, A, C, K, I, O> as Told>⟧.told in
             SamePlaces (told self.old) (told self.new) }
-        ensures held { HoldsOnly (first_lock plan.now settings.now.stanza.now) (second_lock plan.now settings.now.stanza.now) (K.taken self.new.locks) }
+        ensures held { HoldsOnly (first_lock plan.now settings.now.stanza.now)
+            (second_lock plan.now settings.now.stanza.now) (K.taken self.new.locks) }
         ensures took { let told = ⟦<Outside<D, S, T, V, A, C, K, I, O> as Told>⟧.told in
             OnOk result (TakesAll (asked_of settings.now) (told self.old) (told self.new)) }
         ensures only { let told = ⟦<Outside<D, S, T, V, A, C, K, I, O> as Told>⟧.told in
@@ -155,7 +164,9 @@ impl<
         ensures tree { plan.now.folder ≡ false → self.new.tree ≡ self.old.tree }
         ensures quiet { settings.now.server ≡ None → self.new.server ≡ self.old.server }
         ensures idle { plan.now.backup_lock ≡ false → plan.now.archive_lock ≡ false → self.new.locks ≡ self.old.locks }
-        ensures rest { self.new ≡ record self.old { repo = self.new.repo; tree = self.new.tree; server = self.new.server; locks = self.new.locks } }
+        ensures rest { self.new ≡ record self.old {
+            repo = self.new.repo; tree = self.new.tree; server = self.new.server; locks = self.new.locks
+        } }
     {
         take_locks(
             alloc,
@@ -191,7 +202,9 @@ impl<
         ensures tree { plan.now.folder ≡ false → self.new.tree ≡ self.old.tree }
         ensures quiet { settings.now.server ≡ None → self.new.server ≡ self.old.server }
         ensures idle { plan.now.backup_lock ≡ false → plan.now.archive_lock ≡ false → self.new.locks ≡ self.old.locks }
-        ensures rest { self.new ≡ record self.old { repo = self.new.repo; tree = self.new.tree; server = self.new.server; locks = self.new.locks } }
+        ensures rest { self.new ≡ record self.old {
+            repo = self.new.repo; tree = self.new.tree; server = self.new.server; locks = self.new.locks
+        } }
     {
         let names = lock_names(alloc, plan, settings.stanza)?;
         let ended = self.locked(alloc, settings, plan, &names, order);
@@ -208,12 +221,15 @@ impl<
         ready: Ready,
     ) -> Result<Outcome, Fault>
         requires order { IsOrder (request_of settings.now.request) settings.now.pg1_path.now order }
-        requires ready { IsReady (plan_of (request_of settings.now.request)) settings.now.stanza.now (D.state self.old.repo).view.now (T.state self.old.tree).nodes ready }
+        requires ready { IsReady (plan_of (request_of settings.now.request)) settings.now.stanza.now
+            (D.state self.old.repo).view.now (T.state self.old.tree).nodes ready }
         ensures ran { let told = ⟦<Outside<D, S, T, V, A, C, K, I, O> as Told>⟧.told in
             Ran (asked_of settings.now) (told self.old) (told self.new) result }
         ensures tree { (plan_of (request_of settings.now.request)).folder ≡ false → self.new.tree ≡ self.old.tree }
         ensures quiet { settings.now.server ≡ None → self.new.server ≡ self.old.server }
-        ensures rest { self.new ≡ record self.old { repo = self.new.repo; tree = self.new.tree; server = self.new.server } }
+        ensures rest { self.new ≡ record self.old {
+            repo = self.new.repo; tree = self.new.tree; server = self.new.server
+        } }
     {
         match order {
             Order::StanzaCreate => self.create(alloc, settings, &ready),

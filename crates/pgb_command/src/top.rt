@@ -36,11 +36,15 @@ pub fn carry<
     ensures obeys { let told = ⟦<Outside<D, S, T, V, A, C, K, I, O> as Told>⟧.told in
         (s : Settled) → IsCommand command.now s → Obeys s (told outside.old) (told outside.new) result }
     ensures released { K.taken outside.new.locks ≡ [] }
-    ensures quiet { (s : Settled) → IsCommand command.now s → server_asked s ≡ None → outside.new.server ≡ outside.old.server }
+    ensures quiet { (s : Settled) → IsCommand command.now s → server_asked s ≡ None
+        → outside.new.server ≡ outside.old.server }
     ensures unused { (s : Settled) → IsCommand command.now s → (form : OutputWord) → requested s ≡ Ok (report form)
         → (outside.new.tree ≡ outside.old.tree) × (outside.new.locks ≡ outside.old.locks) }
-    ensures unbuilt { (s : Settled) → IsCommand command.now s → IfErr (requested s) (λ what. outside.new ≡ record outside.old { out = outside.new.out }) }
-    ensures rest { outside.new ≡ record outside.old { repo = outside.new.repo; tree = outside.new.tree; server = outside.new.server; locks = outside.new.locks; out = outside.new.out } }
+    ensures unbuilt { (s : Settled) → IsCommand command.now s → IfErr (requested s)
+        (λ what. outside.new ≡ record outside.old { out = outside.new.out }) }
+    ensures rest { outside.new ≡ record outside.old {
+        repo = outside.new.repo; tree = outside.new.tree; server = outside.new.server; locks = outside.new.locks;
+        out = outside.new.out } }
 {
     let settings = match settings_of(command) {
         Ok(settings) => settings,
@@ -53,7 +57,8 @@ pub fn carry<
     answer(alloc, &mut outside.out, &command.warnings, &ended)
 }
 
-/// Does what the words and their configuration ask for, writes the output, and answers the status that the program ends with.
+/// Does what the words and their configuration ask for, writes the output, and answers the status that the program
+/// ends with.
 pub fn run<
     D: Disk,
     S: Disk,
@@ -74,35 +79,43 @@ pub fn run<
 ) -> u8
     requires free { K.taken outside.old.locks ≡ [] }
 
-    // The words are refused, and nothing is done; or what they settle is done, with its cause, and told. What follows of
-    // steps, promises and places is a part of this, for each command that the words ask for.
+    // The words are refused, and nothing is done; or what they settle is done, with its cause, and told. What
+    // follows of steps, promises and places is a part of this, for each command that the words ask for.
     ensures answers { let told = ⟦<Outside<D, S, T, V, A, C, K, I, O> as Told>⟧.told in
         Answers (map string_bytes words.now) (told outside.old) (told outside.new) result }
 
     // At 0 all of the command's steps are done: in what the disks hold, and in all that a stop leaves.
     ensures done { let told = ⟦<Outside<D, S, T, V, A, C, K, I, O> as Told>⟧.told in
-        result ≡ 0 → Each (map string_bytes words.now) (I.files outside.old.config) (λ a. Finishes a (told outside.old) (told outside.new)) }
+        result ≡ 0 → Each (map string_bytes words.now) (I.files outside.old.config)
+            (λ a. Finishes a (told outside.old) (told outside.new)) }
 
-    // After every answer a part of them is, and at each moment between whatever a stop leaves stands for the log with a part.
+    // After every answer a part of them is, and at each moment between whatever a stop leaves stands for the log
+    // with a part.
     ensures part { let told = ⟦<Outside<D, S, T, V, A, C, K, I, O> as Told>⟧.told in
-        Each (map string_bytes words.now) (I.files outside.old.config) (λ a. PartDone a (told outside.old) (told outside.new)) }
+        Each (map string_bytes words.now) (I.files outside.old.config)
+            (λ a. PartDone a (told outside.old) (told outside.new)) }
 
     // A refusal for what was found takes no step, nor does one for a connection to the server that failed.
     ensures stays { let told = ⟦<Outside<D, S, T, V, A, C, K, I, O> as Told>⟧.told in
-        IsEarly result → Each (map string_bytes words.now) (I.files outside.old.config) (λ a. TurnsBack a (told outside.old) (told outside.new)) }
+        IsEarly result → Each (map string_bytes words.now) (I.files outside.old.config)
+            (λ a. TurnsBack a (told outside.old) (told outside.new)) }
 
     // At 0 and 1 the command keeps its promise, and its lines are written.
     ensures fulfils { let told = ⟦<Outside<D, S, T, V, A, C, K, I, O> as Told>⟧.told in
         result ≤ 1 → Each (map string_bytes words.now) (I.files outside.old.config)
         (λ a. Fulfils a (told outside.old) (told outside.new) result) }
 
-    // What the command has no use for stays, no place but those of the words is opened, and without its locks nothing is done.
+    // What the command has no use for stays, no place but those of the words is opened, and without its locks
+    // nothing is done.
     ensures rests { let told = ⟦<Outside<D, S, T, V, A, C, K, I, O> as Told>⟧.told in
-        Each (map string_bytes words.now) (I.files outside.old.config) (λ a. LeavesRest a (told outside.old) (told outside.new)) }
+        Each (map string_bytes words.now) (I.files outside.old.config)
+            (λ a. LeavesRest a (told outside.old) (told outside.new)) }
     ensures places { let told = ⟦<Outside<D, S, T, V, A, C, K, I, O> as Told>⟧.told in
-        Each (map string_bytes words.now) (I.files outside.old.config) (λ a. OpensPlaces a (told outside.old) (told outside.new)) }
+        Each (map string_bytes words.now) (I.files outside.old.config)
+            (λ a. OpensPlaces a (told outside.old) (told outside.new)) }
     ensures locked { let told = ⟦<Outside<D, S, T, V, A, C, K, I, O> as Told>⟧.told in
-        Each (map string_bytes words.now) (I.files outside.old.config) (λ a. OnlyLocked a (told outside.old) (told outside.new)) }
+        Each (map string_bytes words.now) (I.files outside.old.config)
+            (λ a. OnlyLocked a (told outside.old) (told outside.new)) }
 
     // Where no cause of a refusal holds the answer is Ok, or that the file isn't there, or want of memory.
     ensures complete { let told = ⟦<Outside<D, S, T, V, A, C, K, I, O> as Told>⟧.told in
@@ -112,18 +125,22 @@ pub fn run<
     ensures closed { let told = ⟦<Outside<D, S, T, V, A, C, K, I, O> as Told>⟧.told in
         ClosesTalk (told outside.old) (told outside.new) result }
 
-    // Words that ask for nothing do nothing; who asks no server leaves the connection, and info the data folder and the locks.
+    // Words that ask for nothing do nothing; who asks no server leaves the connection, and info the data folder and
+    // the locks.
     ensures unasked { ((a : Asked) → ¬ MayAsk (map string_bytes words.now) (I.files outside.old.config) a)
         → outside.new ≡ record outside.old { config = outside.new.config; out = outside.new.out } }
     ensures quiet { ((a : Asked) → MayAsk (map string_bytes words.now) (I.files outside.old.config) a → a.server ≡ None)
         → outside.new.server ≡ outside.old.server }
-    ensures unused { Each (map string_bytes words.now) (I.files outside.old.config) (λ a. (form : OutputWord) → a.request ≡ report form
+    ensures unused { Each (map string_bytes words.now) (I.files outside.old.config) (λ a.
+        (form : OutputWord) → a.request ≡ report form
         → (outside.new.tree ≡ outside.old.tree) × (outside.new.locks ≡ outside.old.locks)) }
 
     // No lock is held afterwards, and the configuration and all that no command uses are as they were.
     ensures released { K.taken outside.new.locks ≡ [] }
     ensures files { I.files outside.new.config ≡ I.files outside.old.config }
-    ensures untouched { outside.new ≡ record outside.old { repo = outside.new.repo; tree = outside.new.tree; server = outside.new.server; locks = outside.new.locks; config = outside.new.config; out = outside.new.out } }
+    ensures untouched { outside.new ≡ record outside.old {
+        repo = outside.new.repo; tree = outside.new.tree; server = outside.new.server; locks = outside.new.locks;
+        config = outside.new.config; out = outside.new.out } }
     ensures links { links.new ≡ links.old }
     ensures turns { turns.new ≡ turns.old }
 {

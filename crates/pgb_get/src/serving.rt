@@ -169,8 +169,8 @@ fn refusal(copied: Copied, from: String, sum: Sum) -> Result<Passed, Halt<GetFau
 }
 
 /// Puts a stored file of this sum at a path of the data folder, in one pass: it is copied to the temporary name, where
-/// nothing is, and has its place once its sum is known. Any other copy is taken away; where a device failed, if that can
-/// be done.
+/// nothing is, and has its place once its sum is known. Any other copy is taken away; where a device failed, if
+/// that can be done.
 pub(crate) fn pass_on<D: Disk, T: Tree>(
     alloc: Global,
     repo: &mut D,

@@ -27,7 +27,8 @@ pub fn prepare<D: Disk, T: Tree>(
     ensures ready { IfOk result (IsReady plan.now stanza.now (D.state repo.new).view.now (T.state tree.old).nodes) }
     ensures quiet { Quiet stanza.now (D.state repo.old).view (D.state repo.new).view }
     ensures begun { OnOk result (Begins stanza.now (D.state repo.old).view (D.state repo.new).view) }
-    ensures heals { OnOk result (Heals plan.now.pairs stanza.now (D.state repo.old).view.now (D.state repo.new).view.now) }
+    ensures heals { OnOk result (Heals plan.now.pairs stanza.now (D.state repo.old).view.now
+        (D.state repo.new).view.now) }
     ensures healed { OnOk result (IfSome (D.state repo.new).view.now (AreHealed plan.now.pairs stanza.now)) }
     ensures still { OnReading plan.now.pairs (IsStill (D.state repo.old).view (D.state repo.new).view) }
     ensures frame { Frame (D.state repo.old) (D.state repo.new) }
@@ -63,7 +64,8 @@ fn find<D: Disk, T: Tree>(
 ) -> Result<Ready, Halt<StageFault>>
     ensures ready { IfOk result (IsReady plan.now stanza.now (D.state repo.new).view.now (T.state tree.old).nodes) }
     ensures mends { Mends stanza.now (D.state repo.old).view (D.state repo.new).view }
-    ensures heals { OnOk result (Heals plan.now.pairs stanza.now (D.state repo.old).view.now (D.state repo.new).view.now) }
+    ensures heals { OnOk result (Heals plan.now.pairs stanza.now (D.state repo.old).view.now
+        (D.state repo.new).view.now) }
     ensures healed { OnOk result (IfSome (D.state repo.new).view.now (AreHealed plan.now.pairs stanza.now)) }
     ensures still { OnReading plan.now.pairs (IsStill (D.state repo.old).view (D.state repo.new).view) }
     ensures frame { Frame (D.state repo.old) (D.state repo.new) }

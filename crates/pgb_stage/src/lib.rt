@@ -1,4 +1,5 @@
-//! What all commands share: how a call ends, which object failed, what a command's own part does, and texts of messages.
+//! What all commands share: how a call ends, which object failed, what a command's own part does, and texts of
+//! messages.
 #![tactic(auto)]
 
 mod fault;

@@ -16,7 +16,9 @@ pub fn read_front<T: Tree>(
     limit: usize,
 ) -> Result<Option<Vec<u8>>, Stop>
     requires { 0 < limit }
-    ensures bytes { IfOk result (λ r. IfSome (T.state tree.old).nodes (λ f. option_map (λ (v : Vec ℕ Global). v.items) r ≡ option_map (take limit) (file_bytes (f (known_path what.now))))) }
+    ensures bytes { IfOk result (λ r. IfSome (T.state tree.old).nodes (λ f.
+        option_map (λ (v : Vec ℕ Global). v.items) r
+            ≡ option_map (take limit) (file_bytes (f (known_path what.now))))) }
     ensures within { IfOk result (λ r. IfSome r (λ v. length v.items ≤ limit)) }
     ensures looks { LooksAt (T.state tree.old) (T.state tree.new) }
     ensures cause { HasCause (T.state tree.old).faults (T.state tree.new).faults result }
