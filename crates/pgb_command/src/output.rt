@@ -80,7 +80,7 @@ pub(crate) fn answer<O: Sink>(
 ) -> u8
     ensures told { (ending : Ending) × (result ≡ status ending)
         × IsTold (O.written out.old) (answer_of (map string_bytes unknown.now) ended.now) (O.written out.new)
-            (Rises (O.faults out.old) (O.faults out.new)) ending }
+        (Rises (O.faults out.old) (O.faults out.new)) ending }
     ensures later { O.faults out.old ≤ O.faults out.new }
 {
     match lines(alloc, unknown, ended) {

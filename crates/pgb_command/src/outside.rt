@@ -40,9 +40,17 @@ impl<
       spool = S.state o.spool;
       tree = T.state o.tree;
       server = record {
-        pending = V.pending o.server; sent = V.sent o.server; place = V.place o.server; faults = V.faults o.server };
+        pending = V.pending o.server;
+        sent = V.sent o.server;
+        place = V.place o.server;
+        faults = V.faults o.server;
+      };
       others = record {
-        account = A.account o.aside; turns = A.turns o.aside; started = A.started o.aside; faults = A.faults o.aside };
+        account = A.account o.aside;
+        turns = A.turns o.aside;
+        started = A.started o.aside;
+        faults = A.faults o.aside;
+      };
       clock = record { faults = C.faults o.clock };
       locks = record { took = K.took o.locks; refusals = K.refusals o.locks; faults = K.faults o.locks };
       config = record { files = I.files o.config; faults = I.faults o.config };

@@ -70,10 +70,10 @@ fn path_of(path: &Option<String>) -> &str
 fn request_of(command: &Command) -> Result<Request<'_>, Unbuilt>
     ensures asked { IfOk result
         (λ r. request_by command.now.verb command.now.options.archive_async command.now.options.output
-            (map string_bytes command.now.given.items) ≡ Ok (request_of r)) }
+        (map string_bytes command.now.given.items) ≡ Ok (request_of r)) }
     ensures unbuilt { IfErr result
         (λ what. request_by command.now.verb command.now.options.archive_async command.now.options.output
-            (map string_bytes command.now.given.items) ≡ Err what) }
+        (map string_bytes command.now.given.items) ≡ Err what) }
 {
     match command.verb {
         Verb::StanzaCreate => Ok(Request::StanzaCreate),

@@ -85,7 +85,10 @@ impl<
         ensures quiet { settings.now.server ≡ None → self.new.server ≡ self.old.server }
         ensures idle { plan.now.backup_lock ≡ false → plan.now.archive_lock ≡ false → self.new.locks ≡ self.old.locks }
         ensures rest { self.new ≡ record self.old {
-            repo = self.new.repo; tree = self.new.tree; server = self.new.server; locks = self.new.locks
+          repo = self.new.repo;
+          tree = self.new.tree;
+          server = self.new.server;
+          locks = self.new.locks;
         } }
     {
         self.open(settings, plan)?;
@@ -105,7 +108,10 @@ impl<
         ensures unused { (form : OutputWord) → request_of settings.now.request ≡ report form →
             (self.new.tree ≡ self.old.tree) × (self.new.locks ≡ self.old.locks) }
         ensures rest { self.new ≡ record self.old {
-            repo = self.new.repo; tree = self.new.tree; server = self.new.server; locks = self.new.locks
+          repo = self.new.repo;
+          tree = self.new.tree;
+          server = self.new.server;
+          locks = self.new.locks;
         } }
     {
         let order = order_of(alloc, settings)?;
@@ -131,7 +137,9 @@ impl<
         ensures tree { plan.now.folder ≡ false → self.new.tree ≡ self.old.tree }
         ensures quiet { settings.now.server ≡ None → self.new.server ≡ self.old.server }
         ensures rest { self.new ≡ record self.old {
-            repo = self.new.repo; tree = self.new.tree; server = self.new.server
+          repo = self.new.repo;
+          tree = self.new.tree;
+          server = self.new.server;
         } }
     {
         let ready = prepare(alloc, &mut self.repo, &mut self.tree, settings.stanza, plan)?;
@@ -165,7 +173,10 @@ impl<
         ensures quiet { settings.now.server ≡ None → self.new.server ≡ self.old.server }
         ensures idle { plan.now.backup_lock ≡ false → plan.now.archive_lock ≡ false → self.new.locks ≡ self.old.locks }
         ensures rest { self.new ≡ record self.old {
-            repo = self.new.repo; tree = self.new.tree; server = self.new.server; locks = self.new.locks
+          repo = self.new.repo;
+          tree = self.new.tree;
+          server = self.new.server;
+          locks = self.new.locks;
         } }
     {
         take_locks(
@@ -203,7 +214,10 @@ impl<
         ensures quiet { settings.now.server ≡ None → self.new.server ≡ self.old.server }
         ensures idle { plan.now.backup_lock ≡ false → plan.now.archive_lock ≡ false → self.new.locks ≡ self.old.locks }
         ensures rest { self.new ≡ record self.old {
-            repo = self.new.repo; tree = self.new.tree; server = self.new.server; locks = self.new.locks
+          repo = self.new.repo;
+          tree = self.new.tree;
+          server = self.new.server;
+          locks = self.new.locks;
         } }
     {
         let names = lock_names(alloc, plan, settings.stanza)?;
@@ -228,7 +242,9 @@ impl<
         ensures tree { (plan_of (request_of settings.now.request)).folder ≡ false → self.new.tree ≡ self.old.tree }
         ensures quiet { settings.now.server ≡ None → self.new.server ≡ self.old.server }
         ensures rest { self.new ≡ record self.old {
-            repo = self.new.repo; tree = self.new.tree; server = self.new.server
+          repo = self.new.repo;
+          tree = self.new.tree;
+          server = self.new.server;
         } }
     {
         match order {

@@ -43,8 +43,12 @@ pub fn carry<
     ensures unbuilt { (s : Settled) → IsCommand command.now s → IfErr (requested s)
         (λ what. outside.new ≡ record outside.old { out = outside.new.out }) }
     ensures rest { outside.new ≡ record outside.old {
-        repo = outside.new.repo; tree = outside.new.tree; server = outside.new.server; locks = outside.new.locks;
-        out = outside.new.out } }
+      repo = outside.new.repo;
+      tree = outside.new.tree;
+      server = outside.new.server;
+      locks = outside.new.locks;
+      out = outside.new.out;
+    } }
 {
     let settings = match settings_of(command) {
         Ok(settings) => settings,
@@ -87,18 +91,18 @@ pub fn run<
     // At 0 all of the command's steps are done: in what the disks hold, and in all that a stop leaves.
     ensures done { let told = ⟦<Outside<D, S, T, V, A, C, K, I, O> as Told>⟧.told in
         result ≡ 0 → Each (map string_bytes words.now) (I.files outside.old.config)
-            (λ a. Finishes a (told outside.old) (told outside.new)) }
+        (λ a. Finishes a (told outside.old) (told outside.new)) }
 
     // After every answer a part of them is, and at each moment between whatever a stop leaves stands for the log
     // with a part.
     ensures part { let told = ⟦<Outside<D, S, T, V, A, C, K, I, O> as Told>⟧.told in
         Each (map string_bytes words.now) (I.files outside.old.config)
-            (λ a. PartDone a (told outside.old) (told outside.new)) }
+        (λ a. PartDone a (told outside.old) (told outside.new)) }
 
     // A refusal for what was found takes no step, nor does one for a connection to the server that failed.
     ensures stays { let told = ⟦<Outside<D, S, T, V, A, C, K, I, O> as Told>⟧.told in
         IsEarly result → Each (map string_bytes words.now) (I.files outside.old.config)
-            (λ a. TurnsBack a (told outside.old) (told outside.new)) }
+        (λ a. TurnsBack a (told outside.old) (told outside.new)) }
 
     // At 0 and 1 the command keeps its promise, and its lines are written.
     ensures fulfils { let told = ⟦<Outside<D, S, T, V, A, C, K, I, O> as Told>⟧.told in
@@ -109,13 +113,13 @@ pub fn run<
     // nothing is done.
     ensures rests { let told = ⟦<Outside<D, S, T, V, A, C, K, I, O> as Told>⟧.told in
         Each (map string_bytes words.now) (I.files outside.old.config)
-            (λ a. LeavesRest a (told outside.old) (told outside.new)) }
+        (λ a. LeavesRest a (told outside.old) (told outside.new)) }
     ensures places { let told = ⟦<Outside<D, S, T, V, A, C, K, I, O> as Told>⟧.told in
         Each (map string_bytes words.now) (I.files outside.old.config)
-            (λ a. OpensPlaces a (told outside.old) (told outside.new)) }
+        (λ a. OpensPlaces a (told outside.old) (told outside.new)) }
     ensures locked { let told = ⟦<Outside<D, S, T, V, A, C, K, I, O> as Told>⟧.told in
         Each (map string_bytes words.now) (I.files outside.old.config)
-            (λ a. OnlyLocked a (told outside.old) (told outside.new)) }
+        (λ a. OnlyLocked a (told outside.old) (told outside.new)) }
 
     // Where no cause of a refusal holds the answer is Ok, or that the file isn't there, or want of memory.
     ensures complete { let told = ⟦<Outside<D, S, T, V, A, C, K, I, O> as Told>⟧.told in
@@ -139,8 +143,13 @@ pub fn run<
     ensures released { K.taken outside.new.locks ≡ [] }
     ensures files { I.files outside.new.config ≡ I.files outside.old.config }
     ensures untouched { outside.new ≡ record outside.old {
-        repo = outside.new.repo; tree = outside.new.tree; server = outside.new.server; locks = outside.new.locks;
-        config = outside.new.config; out = outside.new.out } }
+      repo = outside.new.repo;
+      tree = outside.new.tree;
+      server = outside.new.server;
+      locks = outside.new.locks;
+      config = outside.new.config;
+      out = outside.new.out;
+    } }
     ensures links { links.new ≡ links.old }
     ensures turns { turns.new ≡ turns.old }
 {

@@ -99,7 +99,7 @@ pub fn create_stanza<D: Disk, V: Wire>(
 
     ensures cause { IfErr result (HaltCause
         (CreateCause stanza.now told.now (option_map server_view server.entry) (D.state repo.old).view.now
-            (V.pending wire.old))
+        (V.pending wire.old))
         (rose_in (record none {
           repo = Rises (D.state repo.old).faults (D.state repo.new).faults;
           server = Rises (V.faults wire.old) (V.faults wire.new);

@@ -83,7 +83,7 @@ fn store<D: Disk, T: Tree>(
     ensures frame { Frame (D.state repo.old) (D.state repo.new) }
     ensures cause { IfErr result (HaltCause
         (PushCause stanza.now order.now.folder.now order.now.path.now (D.state repo.old).view.now
-            (T.state tree.old).nodes)
+        (T.state tree.old).nodes)
         (rose_in (record none {
           repo = Rises (D.state repo.old).faults (D.state repo.new).faults;
           tree = Rises (T.state tree.old).faults (T.state tree.new).faults;
@@ -134,7 +134,7 @@ pub fn push_file<D: Disk, T: Tree>(
     ensures frame { Frame (D.state repo.old) (D.state repo.new) }
     ensures cause { IfErr result (HaltCause
         (PushCause stanza.now order.entry.folder.now order.entry.path.now (D.state repo.old).view.now
-            (T.state tree.old).nodes)
+        (T.state tree.old).nodes)
         (rose_in (record none {
           repo = Rises (D.state repo.old).faults (D.state repo.new).faults;
           tree = Rises (T.state tree.old).faults (T.state tree.new).faults;
