@@ -186,7 +186,7 @@ module _ (a : Asked) (b k : Seen) (rest : k ≡ record b { repo = k.repo; tree =
   pushes = with_request (with_folder a folder) (push path)
 
   pub pushed_ran : a.request ≡ push path → folder ≡ a.data_folder → ((command : Command) → IsSomeAnd b.tree.nodes (λ f. IsPushOf f folder path command) → Does a.stanza command (reached_by push_early r) b.repo.view k.repo.view) →
-      IfOk r (λ o. OnFinished o (IsStored a.stanza folder path b.repo.view.now b.tree.nodes)) →
+      IfOk r (λ o. OnFinished o (IsStored a.stanza folder path b.tree.nodes b.repo.view.now k.repo.view.now)) →
       (IfSome b.repo.view.now (AreHealed HealArchive a.stanza) → IsSome b.repo.view.now → IfSome k.repo.view.now (AreHealed HealArchive a.stanza)) → (failed : Object → Type 0) → ((object : Object) → failed object → Failed b k object) →
       IfErr r (HaltCause (PushCause a.stanza folder path b.repo.view.now b.tree.nodes) failed) → SamePlaces b k → AreLater b k → Ran a b k ended
   pushed_ran is in_it does stored agrees failed rose cause places later = in_folder a folder b k ended in_it (as_ran (with_folder a folder) (push path) b k ended is

@@ -88,7 +88,7 @@ OnStanza a repo P = (s : Stanza) → IsSome repo → NowStands a.stanza (Some s)
 -- what a command promises where it ends well
 abbrev pub Promise : Asked → Request → Known → Known → Outcome → Type 0
 Promise a create old new outcome = Creates a old new outcome
-Promise a (push path) old new outcome = OnFinished outcome (IsStored a.stanza a.data_folder path old.repo old.nodes)
+Promise a (push path) old new outcome = OnFinished outcome (IsStored a.stanza a.data_folder path old.nodes old.repo new.repo)
 Promise a (get name path) old new outcome = GotBy a.stanza a.data_folder name path old.repo old.nodes new.nodes outcome
     × OnStanza a old.repo (λ s. GivenBy s a.data_folder name path old.nodes new.nodes outcome)
 Promise a (report form) old new outcome = OnFinished outcome (IsReported a.stanza form old.repo)

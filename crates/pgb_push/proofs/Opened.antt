@@ -108,7 +108,7 @@ module _ (stanza : Text) (order : PushOrder) (nodes : Option Nodes) (log : LogFi
     pub opened_stored : (lines : Text) (pushed : Pushed) → lines ≡ pushed_lines pushed (wal_text order.name)
         → IsPushedAs stanza id order.name system.system
         (told_file nodes (known_path log.what)) first count repo now pushed
-        → IsStored stanza order.folder.now order.path.now repo nodes lines
+        → IsStored stanza order.folder.now order.path.now nodes repo now lines
     opened_stored lines pushed is answered =
         stored_as stanza order.folder.now order.path.now repo nodes ⊥ ⊥ order.name order.named system at.0 at.2 id at.1
         (told_file nodes place) first count has lines pushed now is answered

@@ -21,7 +21,7 @@ use Rattle.pgb_archive.specs.declared.fault.PushFault.{PushFault as StoreFault}
 use Rattle.pgb_archive.specs.declared.fault.PushFault.TheVariants.{Archive, Source}
 use Rattle.pgb_archive.specs.declared.pushing.Pushed.{Pushed}
 use Rattle.pgb_archive.specs.declared.pushing.Pushed.TheVariants.{New, Same}
-use Rattle.pgb_archive.specs.Stored.{StoresNone, StoresOnly, archive_path}
+use Rattle.pgb_archive.specs.Stored.{archive_path}
 use Rattle.pgb_archive.specs.Pushing.{IsPushedAs, PushFromCause}
 use Rattle.pgb_archive.specs.Causes.{IsFileOf, limit_of, PushCause as StoringCause}
 use Rattle.pgb_stage.specs.declared.object.Object.TheVariants.{DataFolder}
@@ -33,7 +33,7 @@ use Rattle.pgb_stage.specs.Halts.{HaltCause, Only}
 use Rattle.pgb_stage.specs.Risen.{none, rose_in}
 use Rattle.pgb_push.specs.declared.fault.PushFault.{PushFault}
 use Rattle.pgb_push.specs.declared.fault.PushFault.TheVariants.{SegmentName, PathOutside, StanzaMismatch, SegmentMissing, TooLong, HeaderForm, SegmentSize, HeaderMismatch, Ambiguous, Duplicate}
-use Rattle.pgb_push.specs.Causes.{IsCurrent, IsReady, IsRefusedPush, IsRefusedFile, PushCause, IsStored}
+use Rattle.pgb_push.specs.Causes.{IsCurrent, IsReady, IsRefusedPush, IsRefusedFile, PushCause, IsPut, IsKept, IsStored}
 use Rattle.pgb_push.specs.Faults.{of_archive, of_store}
 use Rattle.pgb_push.specs.Outcomes.{same_line, pushed_lines}
 use Rattle.pgb_push.specs.WalPath.{IsWalPath, HasWal}
@@ -130,29 +130,30 @@ module _ (stanza folder path : Text) (repo : Option Content) (nodes : Option Nod
       archive_ends archive.NoMemory k = tt
 
       -- what is told at Ok
-      lines_for : (pushed : Pushed) → (pushed ≡ New → IfSome repo (StoresNone stanza (id_kept c) wal))
-          → (pushed ≡ Same → IfSome repo (λ f. StoresOnly stanza (id_kept c) wal f (sha1 bytes))) →
-          ((pushed_lines pushed (wal_text wal) ≡ []) × IfSome repo (λ f. StoresNone stanza (id_kept c) wal f))
+      lines_for : (now : Option Content) (pushed : Pushed)
+          → (pushed ≡ New → IsPut stanza (id_kept c) wal bytes repo now)
+          → (pushed ≡ Same → IsKept stanza (id_kept c) wal bytes repo now) →
+          ((pushed_lines pushed (wal_text wal) ≡ []) × IsPut stanza (id_kept c) wal bytes repo now)
           ⊎ ((pushed_lines pushed (wal_text wal) ≡ same_line (wal_text wal))
-          × IfSome repo (λ f. StoresOnly stanza (id_kept c) wal f (sha1 bytes)))
-      lines_for New new one = inl (refl, new refl)
-      lines_for Same new one = inr (refl, one refl)
+          × IsKept stanza (id_kept c) wal bytes repo now)
+      lines_for now New new one = inl (refl, new refl)
+      lines_for now Same new one = inr (refl, one refl)
 
-      stored_so : (lines : Text) (pushed : Pushed) → lines ≡ pushed_lines pushed (wal_text wal)
+      stored_so : (now : Option Content) (lines : Text) (pushed : Pushed) → lines ≡ pushed_lines pushed (wal_text wal)
           → IsFileOf wal bytes told.system →
-          (pushed ≡ New → IfSome repo (StoresNone stanza (id_kept c) wal))
-          → (pushed ≡ Same → IfSome repo (λ f. StoresOnly stanza (id_kept c) wal f (sha1 bytes)))
-          → IsStored stanza folder path repo nodes lines
-      stored_so lines pushed is valid new one = record {
+          (pushed ≡ New → IsPut stanza (id_kept c) wal bytes repo now)
+          → (pushed ≡ Same → IsKept stanza (id_kept c) wal bytes repo now)
+          → IsStored stanza folder path nodes repo now lines
+      stored_so now lines pushed is valid new one = record {
         wal = wal;
         bytes = bytes;
         told = told;
         current = c;
         ready = ready;
         valid = valid;
-        told_by = subst (λ (l : Text). ((l ≡ []) × IfSome repo (λ f. StoresNone stanza (id_kept c) wal f))
-            ⊎ ((l ≡ same_line (wal_text wal)) × IfSome repo (λ f. StoresOnly stanza (id_kept c) wal f (sha1 bytes))))
-            (sym is) (lines_for pushed new one);
+        told_by = subst (λ (l : Text). ((l ≡ []) × IsPut stanza (id_kept c) wal bytes repo now)
+            ⊎ ((l ≡ same_line (wal_text wal)) × IsKept stanza (id_kept c) wal bytes repo now))
+            (sym is) (lines_for now pushed new one);
       }
 
     -- ---- of a file that was opened, by its id
@@ -175,8 +176,10 @@ module _ (stanza folder path : Text) (repo : Option Content) (nodes : Option Nod
       pub stored_as : (lines : Text) (pushed : Pushed) (now : Option Content)
           → lines ≡ pushed_lines pushed (wal_text wal)
           → IsPushedAs stanza id wal told.system known first count repo now pushed
-          → IsStored stanza folder path repo nodes lines
-      stored_as lines pushed now same a = stored_so a.bytes (has a.bytes a.read.told) lines pushed same a.of_system
-          (λ new. subst (λ (i : ArchiveId). IfSome repo (StoresNone stanza i wal)) is (a.new new).0)
-          (λ one. subst (λ (i : ArchiveId). IfSome repo (λ f. StoresOnly stanza i wal f (sha1 a.bytes))) is
-          (a.same one).0)
+          → IsStored stanza folder path nodes repo now lines
+      stored_as lines pushed now same a =
+          stored_so a.bytes (has a.bytes a.read.told) now lines pushed same a.of_system
+          (λ new. subst (λ (i : ArchiveId). IsPut stanza i wal a.bytes repo now) is
+          (record { none = (a.new new).0; puts = (a.new new).1 }))
+          (λ one. subst (λ (i : ArchiveId). IsKept stanza i wal a.bytes repo now) is
+          (record { only = (a.same one).0; same = (a.same one).1 }))

@@ -1,9 +1,11 @@
 -- Why archive-push answers so.
-use Rattle.std.specs.Prelude.{◌≡◌, ◌≢◌, ◌⊎◌, [], Option, IfSome}
+use Rattle.std.specs.Prelude.{◌≡◌, ◌≢◌, ◌⊎◌, ◌∷◌, [], Option, IfSome}
 use Rattle.sha1.specs.Sha1.{sha1}
 use Rattle.pgb_outside.specs.Content.{Content}
+use Rattle.pgb_outside.specs.Crash.{NowGoes, AllOf}
 use Rattle.pgb_outside.specs.Tree.{Nodes}
 use Rattle.pgb_model.specs.declared.clusters.ClusterId.{ClusterId}
+use Rattle.pgb_model.specs.declared.wal.ArchiveId.{ArchiveId}
 use Rattle.pgb_model.specs.declared.wal.ArchiveName.{ArchiveName}
 use Rattle.pgb_model.specs.Text.{Text}
 use Rattle.pgb_model.specs.Names.{wal_text}
@@ -13,7 +15,7 @@ use Rattle.pgb_stanza.specs.Pairs.{identity_kept, identity_told}
 use Rattle.pgb_archive.specs.declared.fault.ArchiveFault.{ArchiveFault}
 use Rattle.pgb_archive.specs.declared.fault.ArchiveFault.TheVariants.{HeaderForm as FormOf, SegmentSize as SizeOf, HeaderMismatch as MismatchOf, Ambiguous as AmbiguousOf, Duplicate as DuplicateOf, TooLong as LongOf}
 use Rattle.pgb_archive.specs.Causes.{IsFileOf, limit_of, PushCause as StoringCause}
-use Rattle.pgb_archive.specs.Stored.{StoresNone, StoresOnly}
+use Rattle.pgb_archive.specs.Stored.{archive_path, StoresNone, StoresOnly}
 use Rattle.pgb_stage.specs.Cluster.{FolderTells}
 use Rattle.pgb_stage.specs.Current.{HasCurrent, id_kept}
 use Rattle.pgb_push.specs.declared.fault.PushFault.{PushFault}
@@ -81,14 +83,26 @@ PushCause stanza folder path repo nodes (Ambiguous first second) =
 PushCause stanza folder path repo nodes (Duplicate kept found) =
     IsRefusedPush stanza folder path repo nodes (DuplicateOf kept found)
 
--- Ok of archive-push, with its lines: none where the file wasn't stored, and a warning where it was, with the same sum.
-pub record IsStored (stanza folder path : Text) (repo : Option Content) (nodes : Option Nodes)
+-- the file was stored nowhere, and these bytes are put at its path; no other file changes
+pub record IsPut (stanza : Text) (id : ArchiveId) (wal : ArchiveName) (bytes : Text)
+    (old new : Option Content) : Type 0 where
+  pub none : IfSome old (λ f. StoresNone stanza id wal f)
+  pub puts : NowGoes (AllOf ((archive_path stanza id wal (sha1 bytes), bytes) ∷ [])) old new
+
+-- the file was stored with the sum of these bytes alone, and no file changes
+pub record IsKept (stanza : Text) (id : ArchiveId) (wal : ArchiveName) (bytes : Text)
+    (old new : Option Content) : Type 0 where
+  pub only : IfSome old (λ f. StoresOnly stanza id wal f (sha1 bytes))
+  pub same : new ≡ old
+
+-- Ok of archive-push, with its lines: none where the file is put, and a warning where it was stored with the same sum.
+pub record IsStored (stanza folder path : Text) (nodes : Option Nodes) (old new : Option Content)
     (lines : Text) : Type 0 where
   pub wal : ArchiveName
   pub bytes : Text
   pub told : Control
   pub current : ClusterId
-  pub ready : IsReady stanza folder path repo nodes wal bytes told current
+  pub ready : IsReady stanza folder path old nodes wal bytes told current
   pub valid : IsFileOf wal bytes told.system
-  pub told_by : ((lines ≡ []) × IfSome repo (λ f. StoresNone stanza (id_kept current) wal f))
-      ⊎ ((lines ≡ same_line (wal_text wal)) × IfSome repo (λ f. StoresOnly stanza (id_kept current) wal f (sha1 bytes)))
+  pub told_by : ((lines ≡ []) × IsPut stanza (id_kept current) wal bytes old new)
+      ⊎ ((lines ≡ same_line (wal_text wal)) × IsKept stanza (id_kept current) wal bytes old new)

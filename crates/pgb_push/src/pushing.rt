@@ -75,7 +75,7 @@ fn store<D: Disk, T: Tree>(
         → IsSomeAnd (T.state tree.old).nodes (λ f. IsPushOf f order.now.folder.now order.now.path.now command)
         → Does stanza.now command (reached_by push_early result) (D.state repo.old).view (D.state repo.new).view }
     ensures stored { IfOk result (λ o. OnFinished o (IsStored stanza.now order.now.folder.now order.now.path.now
-        (D.state repo.old).view.now (T.state tree.old).nodes)) }
+        (T.state tree.old).nodes (D.state repo.old).view.now (D.state repo.new).view.now)) }
     ensures agrees { IfSome (D.state repo.old).view.now (AgreesAtPair stanza.now) → IsSome (D.state repo.old).view.now
         → IfSome (D.state repo.new).view.now (AgreesAtPair stanza.now) }
     ensures rest { OnNone (reached_by push_early result) (IsStill (D.state repo.old).view (D.state repo.new).view) }
@@ -126,7 +126,7 @@ pub fn push_file<D: Disk, T: Tree>(
         → IsSomeAnd (T.state tree.old).nodes (λ f. IsPushOf f order.entry.folder.now order.entry.path.now command)
         → Does stanza.now command (reached_by push_early result) (D.state repo.old).view (D.state repo.new).view }
     ensures stored { IfOk result (λ o. OnFinished o (IsStored stanza.now order.entry.folder.now order.entry.path.now
-        (D.state repo.old).view.now (T.state tree.old).nodes)) }
+        (T.state tree.old).nodes (D.state repo.old).view.now (D.state repo.new).view.now)) }
     ensures agrees { IfSome (D.state repo.old).view.now (AgreesAtPair stanza.now) → IsSome (D.state repo.old).view.now
         → IfSome (D.state repo.new).view.now (AgreesAtPair stanza.now) }
     ensures rest { OnNone (reached_by push_early result) (IsStill (D.state repo.old).view (D.state repo.new).view) }
