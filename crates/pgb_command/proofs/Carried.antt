@@ -21,11 +21,12 @@ use Rattle.pgb_command.specs.declared.fault.Fault.TheVariants.{Usage, Stage, Com
 use Rattle.pgb_command.specs.Answers.{Ending, status, answer_of}
 use Rattle.pgb_command.specs.Asked.{Asked, Settles, IsAsked, requested}
 use Rattle.pgb_command.specs.Configuring.{ConfigCause}
-use Rattle.pgb_command.specs.Causes.{IsAnswered, IsIdle, Obeys, Answers}
-use Rattle.pgb_command.specs.Did.{Did, ComesBehind, Brackets, Cause, Closes, ArePlacesOpened}
+use Rattle.pgb_command.specs.Causes.{IsAnswered, Obeys, Answers}
+use Rattle.pgb_command.specs.Did.{IsIdle, Did, ComesBehind, Brackets, Cause, Closes, ArePlacesOpened}
 use Rattle.pgb_command.specs.Output.{IsTold}
 use Rattle.pgb_command.proofs.Dids.{did_from, later_on}
 use Rattle.pgb_command.proofs.Ends.{all_later}
+use Rattle.pgb_command.proofs.Words.{is_idle, behind_as}
 
 -- ---- the output is written
 
@@ -105,19 +106,19 @@ answered_by unknown given b k o ended n words same t = record {
   wrote = subst (λ (x : SinkState). IsTold x.written (answer_of unknown ended) o.written (Rises x.faults o.faults) t.0) same (subst (λ (u : List Text). IsTold k.out.written (answer_of u ended) o.written (Rises k.out.faults o.faults) t.0) words t.2);
 }
 
-idle_written : (b : Seen) (o : SinkState) → IsIdle b (record b { out = o })
-idle_written b o = record { repo = still_self b.repo.view; opened = refl; spool = still_self b.spool.view; tree = refl; server = refl; locks = refl }
+idle_written : (b k : Seen) (o : SinkState) → IsIdle b k → IsIdle b (record k { out = o })
+idle_written b k o h = record { repo = h.repo; opened = h.opened; spool = h.spool; tree = h.tree; server = h.server; locks = h.locks }
 
 -- ---- a command is obeyed
 
 pub carries : (c : Command) (a : Asked) (given : List Text) (b k : Seen) (o : SinkState) (ended : Result Outcome Fault) (n : ℕ) → given ≡ map string_bytes c.warnings.items → k.out ≡ b.out → k.out.faults ≤ o.faults → ((s : Settled) → IsCommand c s → IsAsked s a) →
-    ComesBehind a ended → Did a b k ended → Brackets a b k ended → ToldOf given ended k.out o n → (s : Settled) → IsCommand c s → Obeys s b (record k { out = o }) n
+    ComesBehind a b k ended → Did a b k ended → Brackets a b k ended → ToldOf given ended k.out o n → (s : Settled) → IsCommand c s → Obeys s b (record k { out = o }) n
 carries c a given b k o ended n words same le asked behind did brackets t s is = inl (
   a,
   asked s is,
   record {
     ended = ended;
-    words = behind;
+    words = behind_as a b k b (record k { out = o }) ended (idle_written b k o) behind;
     did = did_written a b k o le ended did;
     brackets = brackets_written a b k o ended brackets;
     answered = answered_by s.warnings given b k o ended n (words ∙ is.warnings) same t;
@@ -126,7 +127,7 @@ carries c a given b k o ended n words same le asked behind did brackets t s is =
 
 pub unbuilt : (c : Command) (what : Unbuilt) (given : List Text) (b : Seen) (o : SinkState) (n : ℕ) → given ≡ map string_bytes c.warnings.items → ((s : Settled) → IsCommand c s → requested s ≡ Err what) →
     ToldOf given (Err (Stage (NotBuilt what))) b.out o n → (s : Settled) → IsCommand c s → Obeys s b (record b { out = o }) n
-unbuilt c what given b o n words asked t s is = inr (what, asked s is, idle_written b o, answered_by s.warnings given b b o (Err (Stage (NotBuilt what))) n (words ∙ is.warnings) refl t)
+unbuilt c what given b o n words asked t s is = inr (what, asked s is, is_idle b o, answered_by s.warnings given b b o (Err (Stage (NotBuilt what))) n (words ∙ is.warnings) refl t)
 
 -- ---- from the words on
 
@@ -157,19 +158,22 @@ brackets_from a b k i r h = record {
   locked = h.locked;
 }
 
+idle_from : (b k : Seen) (i : SourceState) → IsIdle (record b { config = i }) k → IsIdle b k
+idle_from b k i h = record { repo = h.repo; opened = h.opened; spool = h.spool; tree = h.tree; server = h.server; locks = h.locks }
+
 obeys_from : (s : Settled) (b k : Seen) (i : SourceState) (n : ℕ) → i.files ≡ b.config.files → b.config.faults ≤ i.faults → Obeys s (record b { config = i }) k n → Obeys s b k n
 obeys_from s b k i n files le (inl x) = inl (
   x.0,
   x.1,
   record {
     ended = x.2.ended;
-    words = x.2.words;
+    words = behind_as x.0 (record b { config = i }) k b k x.2.ended (idle_from b k i) x.2.words;
     did = did_from x.0 b (record b { config = i }) k x.2.ended (config_read b i files le) x.2.did;
     brackets = brackets_from x.0 b k i x.2.ended x.2.brackets;
     answered = answered_from s.warnings b k i x.2.ended n x.2.answered;
   },
 )
-obeys_from s b k i n files le (inr x) = let idle = x.2 in inr (x.0, x.1, record { repo = idle.repo; opened = idle.opened; spool = idle.spool; tree = idle.tree; server = idle.server; locks = idle.locks }, answered_from s.warnings b k i (Err (Stage (NotBuilt x.0))) n x.3)
+obeys_from s b k i n files le (inr x) = inr (x.0, x.1, idle_from b k i x.2, answered_from s.warnings b k i (Err (Stage (NotBuilt x.0))) n x.3)
 
 -- what was settled is carried out
 pub runs_on : (words : List Text) (b k : Seen) (i : SourceState) (n : ℕ) (c : Command) → i.files ≡ b.config.files → b.config.faults ≤ i.faults → ((s : Settled) × Settles words b.config.files (Ok s) × IsCommand c s) →

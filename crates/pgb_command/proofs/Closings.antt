@@ -26,9 +26,9 @@ use Rattle.pgb_command.specs.declared.fault.Fault.{Fault}
 use Rattle.pgb_command.specs.declared.fault.Fault.TheVariants as fault
 use Rattle.pgb_command.specs.Answers.{status_of, usage_status}
 use Rattle.pgb_command.specs.Asked.{Request, create, push, get, report, Asked}
-use Rattle.pgb_command.specs.Causes.{IsAnswered, IsIdle, Carries, Answers, ClosesTalk}
+use Rattle.pgb_command.specs.Causes.{IsAnswered, Carries, Answers, ClosesTalk}
 use Rattle.pgb_command.specs.Configuring.{ConfigCause}
-use Rattle.pgb_command.specs.Did.{Cause, Closes}
+use Rattle.pgb_command.specs.Did.{IsIdle, Cause, Closes}
 use Rattle.pgb_command.specs.Tables.{Known, known, CommandCause, OnOther, plan_of}
 use Rattle.pgb_command.proofs.Follows.{told_as}
 

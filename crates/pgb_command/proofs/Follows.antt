@@ -15,8 +15,8 @@ use Rattle.pgb_command.specs.declared.fault.Fault.{Fault}
 use Rattle.pgb_command.specs.declared.fault.Fault.TheVariants.{Usage, Stage, Command as OfCommand, Failed as ObjectFailed, NoMemory}
 use Rattle.pgb_command.specs.Answers.{Ending, status, status_of, answer_of, ending_of, reached_of}
 use Rattle.pgb_command.specs.Asked.{Request, create, push, get, report, Asked, Asks}
-use Rattle.pgb_command.specs.Causes.{IsAnswered, IsIdle, Carries, Answers, PartDone, Finishes, Fulfils, IsEarly, TurnsBack, LeavesRest, Completes}
-use Rattle.pgb_command.specs.Did.{Did, OpensIf, OpensPlaces, OnlyLocked}
+use Rattle.pgb_command.specs.Causes.{IsAnswered, Carries, Answers, PartDone, Finishes, Fulfils, IsEarly, TurnsBack, LeavesRest, Completes}
+use Rattle.pgb_command.specs.Did.{IsIdle, Did, OpensIf, OpensPlaces, OnlyLocked}
 use Rattle.pgb_command.specs.Output.{IsTold, Whole, Cut, Starved, Wordless}
 use Rattle.pgb_command.specs.Tables.{plan_of, manner_of, OnCreate}
 use Rattle.pgb_command.proofs.AskedOnce.{one_asked}

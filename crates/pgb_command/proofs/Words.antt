@@ -1,11 +1,14 @@
 -- Why a command's words are refused.
-use Rattle.std.proofs.Common.{◌≡◌, inl, inr, Result, Ok, Err, IfErr, sym, subst}
+use Rattle.std.proofs.Common.{◌≡◌, inl, inr, Result, Ok, Err, IfErr, refl, sym, subst}
 use Rattle.std.specs.Prelude.{IsErrAnd}
 use Rattle.pgb_model.specs.Text.{Text}
+use Rattle.pgb_archive.specs.Still.{still_self}
 use Rattle.pgb_stage.specs.declared.object.Object.{Object}
 use Rattle.pgb_stage.specs.declared.halt.Halt.{Halt}
 use Rattle.pgb_stage.specs.declared.halt.Halt.TheVariants.{Refused, Failed as HaltFailed, NoMemory as HaltMemory}
 use Rattle.pgb_stage.specs.Halts.{HaltCause}
+use Rattle.pgb_stage.specs.Seen.{Seen}
+use Rattle.pgb_stage.specs.States.{SinkState}
 use Rattle.pgb_push.specs.declared.fault.PushFault.{PushFault}
 use Rattle.pgb_push.proofs.Refusals.{push_word}
 use Rattle.pgb_push.specs.WalCause.{WordCause}
@@ -22,7 +25,7 @@ use Rattle.pgb_command.specs.Told.{IsOrder}
 use Rattle.pgb_command.specs.Asked.{Request, create, push, get, report, Asked}
 use Rattle.pgb_command.specs.Faults.{of_push, of_get}
 use Rattle.pgb_command.specs.Tables.{WordsFit, CommandCause}
-use Rattle.pgb_command.specs.Did.{WordsCause, ComesBehind}
+use Rattle.pgb_command.specs.Did.{IsIdle, WordsCause, ComesBehind}
 
 module _ (a : Asked) where
   push_words : (path : Text) → a.request ≡ push path → (h : Halt PushFault) → HaltCause (WordCause a.data_folder path) (λ (object : Object). ⊥) h → WordsCause a (of_push h)
@@ -65,10 +68,20 @@ words_fit a (report form) (orders.ArchivePush o) is = absurd is
 words_fit a (report form) (orders.ArchiveGet o) is = absurd is
 words_fit a (report form) (orders.Info asked) is = tt
 
-pub behind_words : (a : Asked) (o : Order) → IsOrder a.request a.data_folder o → (result : Result Outcome Fault) → ComesBehind a result
-behind_words a o is (Ok x) = tt
-behind_words a o is (Err e) = inr (words_fit a a.request o is)
+pub behind_words : (a : Asked) (b k : Seen) (o : Order) → IsOrder a.request a.data_folder o → (result : Result Outcome Fault) → ComesBehind a b k result
+behind_words a b k o is (Ok x) = tt
+behind_words a b k o is (Err e) = inr (words_fit a a.request o is)
 
-pub is_behind : (a : Asked) (result : Result Outcome Fault) (e : Fault) → IsErrAnd result (λ f. f ≡ e) → WordsCause a e → ComesBehind a result
-is_behind a (Ok x) e is h = tt
-is_behind a (Err f) e is h = inl (subst (WordsCause a) (sym is) h)
+-- nothing was done but to write the output
+pub is_idle : (b : Seen) (o : SinkState) → IsIdle b (record b { out = o })
+is_idle b o = record { repo = still_self b.repo.view; opened = refl; spool = still_self b.spool.view; tree = refl; server = refl; locks = refl }
+
+pub is_behind : (a : Asked) (b : Seen) (result : Result Outcome Fault) (e : Fault) → IsErrAnd result (λ f. f ≡ e) → WordsCause a e → ComesBehind a b b result
+is_behind a b (Ok x) e is h = tt
+is_behind a b (Err f) e is h = inl (subst (WordsCause a) (sym is) h, is_idle b b.out)
+
+-- it is said of other moments where what it speaks of is the same
+pub behind_as : (a : Asked) (b k c l : Seen) (result : Result Outcome Fault) → (IsIdle b k → IsIdle c l) → ComesBehind a b k result → ComesBehind a c l result
+behind_as a b k c l (Ok x) same h = tt
+behind_as a b k c l (Err e) same (inl h) = inl (h.0, same h.1)
+behind_as a b k c l (Err e) same (inr h) = inr h

@@ -17,7 +17,7 @@ use Rattle.pgb_create.specs.Talking.{Ended, IsServerRefusal}
 use Rattle.pgb_command.specs.Answers.{Ending, status, ending_of, answer_of, lines_of}
 use Rattle.pgb_command.specs.Asked.{Asked, MayAsk, Asks, Settles, IsAsked, requested}
 use Rattle.pgb_command.specs.Configuring.{ConfigCause}
-use Rattle.pgb_command.specs.Did.{Did, ComesBehind, Brackets, Cause, OnReady, ArePlacesOpened, TakesAll}
+use Rattle.pgb_command.specs.Did.{IsIdle, Did, ComesBehind, Brackets, Cause, OnReady, ArePlacesOpened, TakesAll}
 use Rattle.pgb_command.specs.Output.{IsTold}
 use Rattle.pgb_command.specs.Tables.{known, plan_of, manner_of, Promise, OnReader, OnCreate, OnOther, FolderGoes}
 
@@ -32,19 +32,10 @@ pub record IsAnswered (unknown : List Text) (before after : Seen) (ended : Resul
 -- A command did what was asked for, and tells how it ended.
 pub record Carries (a : Asked) (unknown : List Text) (before after : Seen) (result : ℕ) : Type 0 where
   pub ended : Result Outcome Fault
-  pub words : ComesBehind a ended
+  pub words : ComesBehind a before after ended
   pub did : Did a before after ended
   pub brackets : Brackets a before after ended
   pub answered : IsAnswered unknown before after ended result
-
--- Nothing was done: the objects but the configuration and the output are as they were.
-pub record IsIdle (before after : Seen) : Type 0 where
-  pub repo : IsStill before.repo.view after.repo.view
-  pub opened : after.repo.opened ≡ before.repo.opened
-  pub spool : IsStill before.spool.view after.spool.view
-  pub tree : after.tree ≡ before.tree
-  pub server : after.server ≡ before.server
-  pub locks : after.locks ≡ before.locks
 
 -- Words that don't settle a command do nothing: the configuration was read, and what refused them is told.
 pub record Refuses (words : List Text) (before after : Seen) (result : ℕ) : Type 0 where

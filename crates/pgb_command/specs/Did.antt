@@ -37,6 +37,15 @@ pub record Spares (a : Asked) (before after : Seen) (result : Result Outcome Fau
   pub others : OnOther a.request (after.server ≡ before.server)
   pub closed : IfErr result (Closes before after)
 
+-- Nothing was done: the objects but the configuration and the output are as they were.
+pub record IsIdle (before after : Seen) : Type 0 where
+  pub repo : IsStill before.repo.view after.repo.view
+  pub opened : after.repo.opened ≡ before.repo.opened
+  pub spool : IsStill before.spool.view after.spool.view
+  pub tree : after.tree ≡ before.tree
+  pub server : after.server ≡ before.server
+  pub locks : after.locks ≡ before.locks
+
 -- the places that are open are those that were
 pub record SamePlaces (before after : Seen) : Type 0 where
   pub repo : after.repo.opened ≡ before.repo.opened
@@ -68,9 +77,9 @@ WordsCause a (Command fault) = (old : Known) → CommandCause a a.request old fa
 WordsCause a NoMemory = Unit {0}
 WordsCause a other = ⊥
 
--- a refusal is of the command's words, or comes behind words that fit
-abbrev pub ComesBehind : Asked → Result Outcome Fault → Type 0
-ComesBehind a result = IfErr result (λ fault. WordsCause a fault ⊎ WordsFit a a.request)
+-- a refusal is of the command's words, and nothing was done, not even a place opened; or it comes behind words that fit
+abbrev pub ComesBehind : Asked → Seen → Seen → Result Outcome Fault → Type 0
+ComesBehind a before after result = IfErr result (λ fault. (WordsCause a fault × IsIdle before after) ⊎ WordsFit a a.request)
 
 -- ---- all of it
 

@@ -102,7 +102,8 @@ impl<
             Did (asked_of settings.now) (told self.old) (told self.new) result }
         ensures brackets { let told = ⟦<Outside<D, S, T, V, A, C, K, I, O> as Told>⟧.told in
             Brackets (asked_of settings.now) (told self.old) (told self.new) result }
-        ensures words { ComesBehind (asked_of settings.now) result }
+        ensures words { let told = ⟦<Outside<D, S, T, V, A, C, K, I, O> as Told>⟧.told in
+            ComesBehind (asked_of settings.now) (told self.old) (told self.new) result }
         ensures released { K.taken self.new.locks ≡ [] }
         ensures quiet { settings.now.server ≡ None → self.new.server ≡ self.old.server }
         ensures unused { (form : OutputWord) → request_of settings.now.request ≡ report form →

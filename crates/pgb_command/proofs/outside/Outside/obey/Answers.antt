@@ -7,7 +7,7 @@ pub returns-in_err-order-clause-did : goal.returns-in_err-order-clause-did
 returns-in_err-order-clause-did g c = worded (asked_of c.args.settings.now) _ _ c.in_err-order.field-0.0 c.from_residual.ensures.1 c.in_err-order.ensures.cause
 
 pub returns-in_err-order-clause-words : goal.returns-in_err-order-clause-words
-returns-in_err-order-clause-words g c = is_behind (asked_of c.args.settings.now) c.from_residual.result c.in_err-order.field-0.0 c.from_residual.ensures.1 c.in_err-order.ensures.cause
+returns-in_err-order-clause-words g c = is_behind (asked_of c.args.settings.now) _ c.from_residual.result c.in_err-order.field-0.0 c.from_residual.ensures.1 c.in_err-order.ensures.cause
 
 pub returns-clause-words : goal.returns-clause-words
-returns-clause-words g c = behind_words (asked_of c.args.settings.now) c.in_ok-order.order c.in_ok-order.ensures.order c.perform.result
+returns-clause-words g c = behind_words (asked_of c.args.settings.now) _ _ c.in_ok-order.order c.in_ok-order.ensures.order c.perform.result
