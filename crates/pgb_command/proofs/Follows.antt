@@ -87,6 +87,7 @@ module _ (a : Asked) (b k : Seen) (n : ℕ) where
       let is : status (ending_of c.ended) ≡ 0 = told_as x.0 b k c.ended n c.answered (λ e. sym e ∙ zero) (λ e rose. absurd (omega (arith, e, zero))) (λ e. absurd (omega (arith, e, zero))) in
       record {
         all = on_as (manner_of a.request a.data_folder b.tree.nodes) _ _ (λ command h. all_at (reached_of (ending_of c.ended)) _ (zero_ends c.ended is) h.whole) c.did.steps;
+        ends = on_as (manner_of a.request a.data_folder b.tree.nodes) _ _ (λ command h. all_at (reached_of (ending_of c.ended)) _ (zero_ends c.ended is) h.ends) c.did.steps;
         healed = ok_at c.ended _ is c.did.healed;
         opened = ok_at c.ended _ is c.brackets.opened;
         took = ok_at c.ended _ is c.brackets.took;

@@ -9,7 +9,7 @@ use Rattle.pgb_stage.specs.declared.fault.StageFault.TheVariants.{NotBuilt}
 use Rattle.pgb_stage.specs.declared.object.Object.TheVariants.{Server, Config, Output}
 use Rattle.pgb_stage.specs.declared.outcome.Outcome.{Outcome}
 use Rattle.pgb_stage.specs.Plans.{AreHealed}
-use Rattle.pgb_stage.specs.Runs.{On, Leads, Passes, turns_of}
+use Rattle.pgb_stage.specs.Runs.{On, Leads, Passes, EndsAtOne, turns_of}
 use Rattle.pgb_stage.specs.Seen.{Seen, Failed}
 use Rattle.pgb_command.specs.declared.fault.Fault.{Fault}
 use Rattle.pgb_command.specs.declared.fault.Fault.TheVariants.{Stage, NoMemory}
@@ -60,6 +60,10 @@ Answers words before after result = Refuses words before after result
 abbrev pub AllDone : Asked → Seen → Seen → Type 0
 AllDone a before after = On (manner_of a.request a.data_folder before.tree.nodes) (λ command. Leads a.stanza command true before.repo.view before.spool.view after.repo.view after.spool.view)
 
+-- and all that a stop leaves stands for one repository, with all of them
+abbrev pub AllAtOne : Asked → Seen → Seen → Type 0
+AllAtOne a before after = On (manner_of a.request a.data_folder before.tree.nodes) (λ command. EndsAtOne a.stanza command before.repo.view after.repo.view)
+
 -- a part of them is, at its end and at each moment
 abbrev pub PartDone : Asked → Seen → Seen → Type 0
 PartDone a before after = On (manner_of a.request a.data_folder before.tree.nodes) (λ command. Leads a.stanza command false before.repo.view before.spool.view after.repo.view after.spool.view × Passes a.stanza command before.repo.view after.repo.view)
@@ -68,9 +72,10 @@ PartDone a before after = On (manner_of a.request a.data_folder before.tree.node
 abbrev pub NoneDone : Asked → Seen → Seen → Type 0
 NoneDone a before after = On (manner_of a.request a.data_folder before.tree.nodes) (λ command. Leads a.stanza (turns_of command) false before.repo.view before.spool.view after.repo.view after.spool.view)
 
--- at 0: all is done, the pairs that the command heals agree, its places were opened and its locks taken
+-- at 0: all is done, all that a stop leaves stands for one repository, the pairs that the command heals agree, its places were opened and its locks taken
 pub record Finishes (a : Asked) (before after : Seen) : Type 0 where
   pub all : AllDone a before after
+  pub ends : AllAtOne a before after
   pub healed : IsSome before.repo.view.now → IfSome after.repo.view.now (AreHealed (plan_of a.request).pairs a.stanza)
   pub opened : ArePlacesOpened a before after
   pub took : TakesAll a before after

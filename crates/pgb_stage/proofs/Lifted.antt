@@ -16,7 +16,7 @@ use Rattle.pgb_model.proofs.Done.{part_none, nothing_done}
 use Rattle.pgb_model.proofs.Logged.{rests_still}
 use Rattle.pgb_model.proofs.Steady.{rests_moves, steady_rests}
 use Rattle.pgb_archive.specs.Still.{rests_none}
-use Rattle.pgb_stage.specs.Runs.{Reached, to_end, turned_back, stopped, OnAll, OnNone, turns_of, IsPart, DoesPart, Does, RunsPart, RunsWhole, Runs, Past, Passes, Leads, Takes, Quiet, Mends, Begins, Manner, each, one, On}
+use Rattle.pgb_stage.specs.Runs.{Reached, to_end, turned_back, stopped, OnAll, OnNone, turns_of, IsPart, DoesPart, Does, RunsPart, RunsWhole, Runs, Past, Passes, Leads, Takes, Quiet, Mends, Begins, Manner, each, one, On, EndsAtOne}
 
 pub all_as : (reached : Reached) (P Q : Type 0) → (P → Q) → OnAll reached P → OnAll reached Q
 all_as to_end P Q to h = to h
@@ -213,8 +213,8 @@ module _ (stanza : Text) (command : Command) (a b s : View) (quiet : Quiet stanz
 
 pub quiet_takes : (stanza : Text) (command : Command) (reached : Reached) (a b s : View) → (¬ (reached ≡ to_end)) → Quiet stanza a b → Takes stanza command reached a s b s
 quiet_takes stanza command to_end a b s not quiet = absurd (not refl)
-quiet_takes stanza command turned_back a b s not quiet = record { part = quiet_leads stanza command a b s quiet; between = quiet_passes stanza command a b s quiet; whole = tt; turned = quiet_leads stanza (turns_of command) a b s quiet }
-quiet_takes stanza command stopped a b s not quiet = record { part = quiet_leads stanza command a b s quiet; between = quiet_passes stanza command a b s quiet; whole = tt; turned = tt }
+quiet_takes stanza command turned_back a b s not quiet = record { part = quiet_leads stanza command a b s quiet; between = quiet_passes stanza command a b s quiet; whole = tt; ends = tt; turned = quiet_leads stanza (turns_of command) a b s quiet }
+quiet_takes stanza command stopped a b s not quiet = record { part = quiet_leads stanza command a b s quiet; between = quiet_passes stanza command a b s quiet; whole = tt; ends = tt; turned = tt }
 
 -- ---- the stages, and then the command's own part
 
@@ -286,11 +286,23 @@ module _ (stanza : Text) (a b : View) (quiet : Quiet stanza a b) (begun : Begins
       };
     }
 
+    pub whole_ends : RunsWhole stanza command b s d t → EndsAtOne stanza command a d
+    whole_ends h = record {
+      begun = λ q log some keeps. let u = begun q log keeps some in
+          let x = h.does.ends u.repository (told_at some) u.steady u.sound in record {
+            repository = after u.repository (all_of (steps_of command u.repository));
+            reached = (u.repository, u.reached, (all_of (steps_of command u.repository), refl, refl));
+            sound = x.1;
+            steady = x.0;
+          };
+    }
+
   pub begun_takes : (command : Command) (reached : Reached) (s d t : View) → Runs stanza command reached b s d t → Takes stanza command reached a s d t
   begun_takes command reached s d t h = record {
     part = part_leads command s d t h.part;
     between = part_passes command s d t h.part;
     whole = all_as reached _ _ (whole_leads command s d t) h.whole;
+    ends = all_as reached _ _ (whole_ends command s d t) h.whole;
     turned = none_as reached _ _ (part_leads (turns_of command) s d t) h.turned;
   }
 
@@ -304,6 +316,9 @@ module _ (stanza : Text) (a b s t : View) (rests : Rests a b) (same : b.now ≡ 
         (record { repository = rests_still stanza q log a b rests same keeps.repository; receipts = spool_rests stanza q log s t spool_rest spool_same keeps.receipts });
   }
 
+  ends_on : (command : Command) (d : View) → EndsAtOne stanza command b d → EndsAtOne stanza command a d
+  ends_on command d h = record { begun = λ q log some keeps. h.begun q log (on_some a.now b.now same some) (rests_still stanza q log a b rests same keeps) }
+
   pub opened_takes : (command : Command) (reached : Reached) (d e : View) → Takes stanza command reached b t d e → Takes stanza command reached a s d e
   opened_takes command reached d e h = record {
     part = leads_on command false d e h.part;
@@ -316,6 +331,7 @@ module _ (stanza : Text) (a b s t : View) (rests : Rests a b) (same : b.now ≡ 
           );
     };
     whole = all_as reached _ _ (leads_on command true d e) h.whole;
+    ends = all_as reached _ _ (ends_on command d) h.ends;
     turned = none_as reached _ _ (leads_on (turns_of command) false d e) h.turned;
   }
 

@@ -92,11 +92,16 @@ pub record Leads (stanza : Text) (command : Command) (whole : Bool) (repo spool 
   pub now : NowDoes stanza command whole repo.now new_repo.now
   pub keeps : KeepsOn stanza command whole repo spool new_repo new_spool
 
+-- where a log is kept, the disk is steady at one repository, which the log with the whole command reaches: all that a stop leaves stands for it
+pub record EndsAtOne (stanza : Text) (command : Command) (old new : View) : Type 0 where
+  pub begun : (q : Repository) (log : List Done) → IsSome old.now → KeepsRepository stanza q log old → IsBegun stanza q (record { command = command; acknowledged = true } ∷ log) new
+
 -- What a command does: a part of its steps after every answer and at each moment, all of them where it came to its end, and none but its turns where it was refused.
 pub record Takes (stanza : Text) (command : Command) (reached : Reached) (repo spool new_repo new_spool : View) : Type 0 where
   pub part : Leads stanza command false repo spool new_repo new_spool
   pub between : Passes stanza command repo new_repo
   pub whole : OnAll reached (Leads stanza command true repo spool new_repo new_spool)
+  pub ends : OnAll reached (EndsAtOne stanza command repo new_repo)
   pub turned : OnNone reached (Leads stanza (turns_of command) false repo spool new_repo new_spool)
 
 -- ---- the stages before a command
