@@ -10,3 +10,4 @@ pub mod Looks
 pub mod Turns
 pub mod OnePush
 pub mod Ends
+pub mod Pushes

@@ -1,7 +1,8 @@
 // Under which paths a file is stored already.
-ghost use Rattle.std.specs.Prelude.{◌≡◌, ◌≤◌, true, false, IfOk, IfErr, IfSome, IsErrOf, option_map};
+ghost use Rattle.std.specs.Prelude.{◌≡◌, ◌≤◌, true, false, IfOk, IfErr, IfSome, IsErrOf, OnOk, option_map, string_bytes};
+ghost use Rattle.pgb_outside.specs.Content.{LiesDirectlyIn};
 ghost use Rattle.pgb_outside.specs.States.{Looks};
-ghost use Rattle.pgb_outside.specs.Moments.{Rests};
+ghost use Rattle.pgb_outside.specs.Moments.{Rests, Settles};
 ghost use Rattle.pgb_outside.specs.Cause.{Rises};
 ghost use Rattle.pgb_model.specs.declared.wal.ArchiveId.{ArchiveId};
 ghost use Rattle.pgb_model.specs.declared.wal.ArchiveName.{ArchiveName};
@@ -130,4 +131,21 @@ pub(crate) fn look_for<D: Disk>(
     } else {
         look_at(alloc, d, names)
     }
+}
+
+/// Settles the names of the file's folder and looks for the file there, so that a crash can't leave another answer.
+pub(crate) fn look_settled<D: Disk>(
+    alloc: Global,
+    d: &mut D,
+    names: &FileNames,
+) -> Result<Look, ArchiveFault>
+    ensures settled { OnOk result (Settles (LiesDirectlyIn (string_bytes names.now.folder))
+        (D.state d.old).view (D.state d.new).view) }
+    ensures shows { IfOk result (λ look. IfSome (D.state d.old).view.now
+        (λ f. (stanza : Text) (id : ArchiveId) (name : ArchiveName) → AreNamesOf stanza id name names.now → Shows stanza id name f look)) }
+    ensures cause { IfErr result (LookCause names.now (D.state d.old).view.now (Rises (D.state d.old).faults (D.state d.new).faults)) }
+    ensures looks { Looks (D.state d.old) (D.state d.new) }
+{
+    d.settle_in(names.folder.as_str())?;
+    look_for(alloc, d, names)
 }

@@ -1,22 +1,25 @@
 // Stored files are got and looked for.
-ghost use Rattle.std.specs.Prelude.{◌≡◌, ◌≤◌, ◌^◌, true, false, Some, IfOk, IfErr, IfSome, IsSome, IsErrOf, length, string_bytes};
+ghost use Rattle.std.specs.Prelude.{◌≡◌, ◌≤◌, ◌^◌, true, false, Some, IfOk, IfErr, IfSome, IsSome, IsErrOf, OnOk, length, string_bytes};
 ghost use Rattle.sha1.specs.Sha1.{sha1};
 ghost use Rattle.pgb_outside.specs.States.{Looks};
 ghost use Rattle.pgb_outside.specs.Moments.{Rests};
 ghost use Rattle.pgb_outside.specs.Cause.{Rises};
+ghost use Rattle.pgb_outside.specs.Crash.{IsAlikeAt};
 ghost use Rattle.pgb_model.specs.declared.wal.ArchiveId.{ArchiveId};
 ghost use Rattle.pgb_model.specs.declared.wal.ArchiveName.{ArchiveName};
 ghost use Rattle.pgb_model.specs.Repository.{Stanza};
 ghost use Rattle.pgb_model.specs.Now.{NowStands};
 ghost use Rattle.pgb_model.specs.Text.{Text, In};
+ghost use Rattle.pgb_model.specs.Walks.{IsTight};
 ghost use Rattle.pgb_archive.specs.Stored.{archived_file, Finds};
 ghost use Rattle.pgb_archive.specs.Paths.{has_sum};
+ghost use Rattle.pgb_archive.specs.Pushes.{IsPathOf};
 ghost use Rattle.pgb_archive.specs.Looks.{AreNamesOf, IsStoredAs};
 ghost use Rattle.pgb_archive.specs.Causes.{StoresBytes, GetCause, ReadCause, IsUnarchived, PresentCause, limit_of};
 
 use crate::fault::ArchiveFault;
 use crate::files::Stored;
-use crate::looking::{HISTORY_LIMIT, Kept, Look, look_for, look_in_folder};
+use crate::looking::{HISTORY_LIMIT, Kept, Look, look_in_folder, look_settled};
 use crate::names::{FileNames, file_names};
 use crate::paths::has_sum;
 use pgb_disk::read_whole;
@@ -125,6 +128,7 @@ fn stored_as(id: ArchiveId, name: ArchiveName, kept: Kept) -> Stored
 }
 
 /// Where a file is stored; None where it isn't. Only its names are looked at, and the bytes of a history or backup history file.
+/// The names of its folder are settled before.
 pub fn present<D: Disk>(
     alloc: Global,
     d: &mut D,
@@ -133,11 +137,14 @@ pub fn present<D: Disk>(
     name: &ArchiveName,
 ) -> Result<Option<Stored>, ArchiveFault>
     ensures finds { IfOk result (λ file. IfSome (D.state d.old).view.now (λ f. Finds stanza.now id.now name.now f file)) }
+    // All that a stop leaves is alike at the file's paths, so none takes the answer away.
+    ensures alike { OnOk result (IsTight stanza.now (D.state d.old).view → IsSome (D.state d.old).view.now
+        → IsAlikeAt (IsPathOf stanza.now id.now name.now) (D.state d.new).view) }
     ensures cause { IfErr result (PresentCause stanza.now id.now name.now (D.state d.old).view.now (Rises (D.state d.old).faults (D.state d.new).faults)) }
     ensures looks { Looks (D.state d.old) (D.state d.new) }
 {
     let names = file_names(alloc, stanza, *id, *name)?;
-    match look_for(alloc, d, &names)? {
+    match look_settled(alloc, d, &names)? {
         Look::Free => Ok(None),
         Look::One(kept) => Ok(Some(stored_as(*id, *name, kept))),
         Look::Two(first, second) => Err(ArchiveFault::Ambiguous { first, second }),

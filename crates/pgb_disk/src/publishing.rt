@@ -1,7 +1,7 @@
 // Staged bytes that are given a name.
 ghost use Rattle.std.specs.Prelude.{◌≡◌, ◌≢◌, ◌⊎◌, ◌≤◌, ℕ, List, Option, None, false, IfErr, OnOk, IsErrOf, IsTrue};
 ghost use Rattle.pgb_outside.specs.States.{Works};
-ghost use Rattle.pgb_outside.specs.Content.{Name, Value, Content, moved, is_below, Holds, IsThere, Changes};
+ghost use Rattle.pgb_outside.specs.Content.{Name, Value, Content, moved, LiesDirectlyIn, Holds, IsThere, Changes};
 ghost use Rattle.pgb_outside.specs.Moments.{Goes, MayKeep, is_loose};
 ghost use Rattle.pgb_outside.specs.Cause.{Rises};
 ghost use Rattle.pgb_disk.specs.Fault.{IsStop};
@@ -28,10 +28,10 @@ pub fn publish<D: Disk>(d: &mut D, staged: Staged, name: &str) -> Result<(), Sto
     publish_in(d, staged.name(), name, folder)
 }
 
-// The folder of a name that lies in one.
+// The folder of a name that lies in one, and in none within it.
 fn folder_of(name: &str) -> &str
     requires { (folder : Name) × LiesIn folder name.now }
-    ensures { IsTrue (is_below result.now name.now) }
+    ensures { LiesDirectlyIn result.now name.now }
 {
     match name.rsplit_once('/') {
         Some((folder, _)) => folder,
@@ -39,9 +39,9 @@ fn folder_of(name: &str) -> &str
     }
 }
 
-// Moves the bytes to the name and settles its folder, since a crash may undo a rename until then.
+// Moves the bytes to the name and settles the names of its folder, since a crash may undo a rename until then.
 fn publish_in<D: Disk>(d: &mut D, from: &str, name: &str, folder: &str) -> Result<(), StoreFault>
-    requires below { IsTrue (is_below folder.now name.now) }
+    requires lies { LiesDirectlyIn folder.now name.now }
     requires other { from.now ≢ name.now }
     requires synced { is_loose (D.state d.old).view from.now ≡ false }
     requires there { IsThere (D.state d.old).view.now from.now }
@@ -52,6 +52,6 @@ fn publish_in<D: Disk>(d: &mut D, from: &str, name: &str, folder: &str) -> Resul
     ensures refusals { IfErr result IsStop }
 {
     d.rename(from, name)?;
-    d.settle(folder)?;
+    d.settle_in(folder)?;
     Ok(())
 }

@@ -1,8 +1,8 @@
 -- After the folders are settled all that a crash leaves is what the disk stands for.
-use Rattle.std.proofs.Common.{◌≡◌, ⊎_elim, inl, inr, List, Option, Some, None, refl, ◌∙◌, sym, subst, arith, Bool, true, false, IsTrue}
+use Rattle.std.proofs.Common.{◌≡◌, ◌⊎◌, ⊎_elim, inl, inr, ℕ, ◌≤◌, List, Option, Some, None, refl, ◌∙◌, sym, subst, arith, Bool, true, false, IsTrue}
 use Rattle.std.specs.Prelude.{IsSome}
-use Rattle.pgb_outside.specs.Content.{Name, Value, Content, Holds}
-use Rattle.pgb_outside.specs.Moments.{View, IsImage, Rests, is_loose, MayKeep}
+use Rattle.pgb_outside.specs.Content.{Name, Content, Holds}
+use Rattle.pgb_outside.specs.Moments.{View, IsImage, Rests, Settles, is_loose}
 use Rattle.pgb_outside.specs.Crash.{Leaves}
 use Rattle.pgb_model.specs.Text.{Text}
 use Rattle.pgb_model.specs.Repository.{Repository}
@@ -11,15 +11,20 @@ use Rattle.pgb_model.specs.Log.{Done, KeepsRepository, IsFixed, IsPlaceOf}
 use Rattle.pgb_model.specs.Steady.{IsSteady, IsBegun}
 use Rattle.pgb_model.proofs.Frame.{Agrees, stands_same}
 
--- at each name of the stanza that isn't loose a crash leaves what the disk holds
-abbrev pub Settles : (Name → Bool) → View → View → Type 0
-Settles below a b = (n : Name) (v : Value) → IsTrue (below n) → is_loose a n ≡ false → MayKeep b n v → Holds a.now n v
+-- of two moments one isn't later than the other
+pub either : (t s : ℕ) → (t ≤ s) ⊎ (s ≤ t)
+either t s = grind arith
 
 -- time in which nothing was added
 module _ (a b : View) (rests : Rests a b) where
+  -- an image of a moment between is one of old
+  pub between_image : (t : ℕ) (f : Content) → a.moment ≤ t → t ≤ b.moment → IsImage b t f → IsImage a a.moment f
+  between_image t f lo hi image n = ⊎_elim
+      (λ k. ⊎_elim (λ o. inl o) (λ x. absurd x) (rests.grows t n (f n) lo hi k))
+      (λ l. ⊎_elim (λ o. inr (o, l.1)) (λ x. absurd x) (rests.loosens t n lo hi l.0)) (image n)
+
   pub old_image : (f : Content) → IsImage b b.moment f → IsImage a a.moment f
-  old_image f image n = ⊎_elim (λ k. ⊎_elim (λ o. inl o) (λ x. absurd x) (rests.grows b.moment n (f n) rests.later (omega arith) k))
-      (λ l. ⊎_elim (λ o. inr (o, l.1)) (λ x. absurd x) (rests.loosens b.moment n rests.later (omega arith) l.0)) (image n)
+  old_image f image = between_image b.moment f rests.later (omega arith) image
 
   pub still_tight : (n : Name) → is_loose a n ≡ false → is_loose b n ≡ false
   still_tight n was = cases (b.loose b.moment n) refl
@@ -32,7 +37,7 @@ module _ (a b : View) (rests : Rests a b) where
   old_leaves f same leaves = ⊎_elim (λ (e : b.now ≡ Some f). inl (sym same ∙ e)) (λ i. inr (old_image f i)) leaves
 
   module _ (stanza : Text) (q : Repository) (log : List Done) (below : Name → Bool) (same : b.now ≡ a.now)
-      (settled : Settles below a b) (f0 : Content) (now : a.now ≡ Some f0) (keeps : KeepsRepository stanza q log a)
+      (settled : Settles (λ n. IsTrue (below n)) a b) (f0 : Content) (now : a.now ≡ Some f0) (keeps : KeepsRepository stanza q log a)
       (of_fixed : (n : Name) → IsFixed stanza n → IsTrue (below n)) (of_places : (f : Content) (n : Name) → IsPlaceOf stanza f n → IsTrue (below n)) where
     kept_now : (f : Content) (n : Name) → IsImage b b.moment f → IsTrue (below n) → is_loose a n ≡ false → f n ≡ f0 n
     kept_now f n image is_below tight = ⊎_elim
@@ -57,7 +62,7 @@ module _ (a b : View) (rests : Rests a b) where
         some_same : (f g : Content) → ◌≡◌ {A = Option Content} (Some f) (Some g) → f ≡ g
         some_same f g e = cc
 
-pub begun : (a b : View) → Rests a b → (stanza : Text) (q : Repository) (log : List Done) (below : Name → Bool) → b.now ≡ a.now → Settles below a b →
+pub begun : (a b : View) → Rests a b → (stanza : Text) (q : Repository) (log : List Done) (below : Name → Bool) → b.now ≡ a.now → Settles (λ n. IsTrue (below n)) a b →
     ((n : Name) → IsFixed stanza n → IsTrue (below n)) → ((f : Content) (n : Name) → IsPlaceOf stanza f n → IsTrue (below n)) →
     KeepsRepository stanza q log a → IsSome a.now → IsBegun stanza q log b
 begun a b rests stanza q log below same settled of_fixed of_places keeps told = go (a.now) refl told

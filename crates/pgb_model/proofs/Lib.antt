@@ -20,3 +20,5 @@ pub mod PushDone
 pub mod Reopened
 pub mod Turned
 pub mod Waited
+pub mod Walking
+pub mod Each

@@ -1,5 +1,5 @@
 -- A log goes on by a command.
-use Rattle.std.proofs.Common.{◌≡◌, ◌⊎◌, ⊎_elim, inl, inr, ℕ, ◌≤◌, List, [], ◌∷◌, Option, Some, None, refl, ap, ◌∙◌, sym, subst, arith, Bool, true, false}
+use Rattle.std.proofs.Common.{◌≡◌, ◌⊎◌, ⊎_elim, inl, inr, ◌≤◌, List, [], ◌∷◌, Option, Some, None, refl, ap, ◌∙◌, sym, subst, arith, Bool, true, false}
 use Rattle.std.specs.Prelude.{IfSome}
 use Rattle.pgb_outside.specs.Content.{Content}
 use Rattle.pgb_outside.specs.Moments.{View, Rests, IsImage}
@@ -12,7 +12,7 @@ use Rattle.pgb_model.specs.Steps.{Step, One, Command, StanzaCreate, Create, IsPa
 use Rattle.pgb_model.specs.Log.{Done, KeepsRepository, KeepsSpool, StandsAfter, Reaches, IsDone, IsDrained}
 use Rattle.pgb_model.specs.Steady.{IsSteady, IsBegun, Moves, LeavesOnly}
 use Rattle.pgb_model.proofs.Done.{part_none}
-use Rattle.pgb_model.proofs.Begun.{old_leaves, still_tight}
+use Rattle.pgb_model.proofs.Begun.{either, between_image, old_leaves, still_tight}
 
 -- what a command's moves lead to is sound
 abbrev pub KeepsSound : Command → Type 0
@@ -45,17 +45,8 @@ module _ (stanza : Text) (command : Command) (q : Repository) (log : List Done) 
     pub rests_keeps : KeepsRepository stanza q (undone ∷ log) b
     rests_keeps = let k = rests_still stanza q log a b rests same keeps in record { fixed = k.fixed; places = k.places; stands = λ f leaves. still_after f (k.stands f leaves) }
 
-    -- an image of a moment between is one of old
-    between_image : (t : ℕ) (f : Content) → a.moment ≤ t → t ≤ b.moment → IsImage b t f → IsImage a a.moment f
-    between_image t f lo hi image n = ⊎_elim
-        (λ k. ⊎_elim (λ o. inl o) (λ x. absurd x) (rests.grows t n (f n) lo hi k))
-        (λ l. ⊎_elim (λ o. inr (o, l.1)) (λ x. absurd x) (rests.loosens t n lo hi l.0)) (image n)
-
     pub rests_between : LeavesOnly (StandsAfter stanza q (undone ∷ log)) a b
-    rests_between t f lo hi leaves = still_after f (keeps.stands f (⊎_elim (λ (now : b.now ≡ Some f). inl (sym same ∙ now)) (λ image. inr (between_image t f lo hi image)) leaves))
-
-    either : (t s : ℕ) → (t ≤ s) ⊎ (s ≤ t)
-    either t s = grind arith
+    rests_between t f lo hi leaves = still_after f (keeps.stands f (⊎_elim (λ (now : b.now ≡ Some f). inl (sym same ∙ now)) (λ image. inr (between_image a b rests t f lo hi image)) leaves))
 
     -- a part of the command, or all of it, where that keeps the repository sound
     module _ (begun : IsBegun stanza q log b) (sound : (whole : Bool) (done : List Step) → IsDone whole done (steps_of command begun.repository) → IsSound (after begun.repository done))
@@ -75,7 +66,7 @@ module _ (stanza : Text) (command : Command) (q : Repository) (log : List Done) 
       part_between t f lo hi leaves = ⊎_elim
           (λ (now : d.now ≡ Some f). by_part f (moves.leaves d.moment f moves.later (omega arith) (inl now)))
           (λ (image : IsImage d t f). ⊎_elim
-          (λ (le : t ≤ b.moment). still_after f (keeps.stands f (inr (between_image t f lo le (λ n. ⊎_elim (λ k. inl (moves.past t n (f n) le k)) (λ l. inr (sym (moves.past_loose t n le) ∙ l.0, l.1)) (image n))))))
+          (λ (le : t ≤ b.moment). still_after f (keeps.stands f (inr (between_image a b rests t f lo le (λ n. ⊎_elim (λ k. inl (moves.past t n (f n) le k)) (λ l. inr (sym (moves.past_loose t n le) ∙ l.0, l.1)) (image n))))))
           (λ (ge : b.moment ≤ t). by_part f (moves.leaves t f ge hi (inr image)))
           (either t b.moment)) leaves
 

@@ -17,7 +17,7 @@ use Rattle.pgb_model.specs.Create.{pair_writes, first_archive, first_backup, fir
 use Rattle.pgb_model.specs.Log.{IsPlaceOf}
 use Rattle.pgb_model.specs.Steady.{IsSteady, Moves}
 use Rattle.pgb_model.proofs.Marked.{mark, one_mark}
-use Rattle.pgb_model.proofs.Begun.{old_leaves, still_tight}
+use Rattle.pgb_model.proofs.Begun.{either, between_image, old_leaves, still_tight}
 use Rattle.pgb_model.proofs.Passing.{crash_moves, crash_steady}
 use Rattle.pgb_model.proofs.Created.{created_part, created_whole}
 
@@ -40,21 +40,16 @@ rests_moves stanza r P a b rests same s told part = record {
   places = (steady_rests stanza r a b rests same s).places;
   leaves = λ t g lo hi leaves. part g (⊎_elim
       (λ (now : b.now ≡ Some g). s.stands g (inl (sym same ∙ now)))
-      (λ image. s.stands g (inr (λ n. ⊎_elim
-      (λ k. ⊎_elim (λ o. inl o) (λ x. absurd x) (rests.grows t n (g n) lo hi k))
-      (λ l. ⊎_elim (λ o. inr (o, l.1)) (λ x. absurd x) (rests.loosens t n lo hi l.0)) (image n)))) leaves);
+      (λ image. s.stands g (inr (between_image a b rests t g lo hi image))) leaves);
 }
 
 -- reading calls before a command's way are part of it
 module _ (stanza : Text) (r : Repository) (P : Content → Type 0) (a b d : View) (rests : Rests a b) (steady : IsSteady stanza r a) (part : (g : Content) → Stands stanza g r → P g) (moves : Moves stanza P b d) where
   -- an image of the time before is one of old
   first_image : (t : ℕ) (g : Content) → a.moment ≤ t → t ≤ b.moment → IsImage d t g → IsImage a a.moment g
-  first_image t g lo hi image n = ⊎_elim
-      (λ k. ⊎_elim (λ o. inl o) (λ x. absurd x) (rests.grows t n (g n) lo hi (moves.past t n (g n) hi k)))
-      (λ l. ⊎_elim (λ o. inr (o, l.1)) (λ x. absurd x) (rests.loosens t n lo hi (sym (moves.past_loose t n hi) ∙ l.0))) (image n)
-
-  either : (t s : ℕ) → (t ≤ s) ⊎ (s ≤ t)
-  either t s = grind arith
+  first_image t g lo hi image = between_image a b rests t g lo hi (λ n. ⊎_elim
+      (λ k. inl (moves.past t n (g n) hi k))
+      (λ l. inr (sym (moves.past_loose t n hi) ∙ l.0, l.1)) (image n))
 
   pub front_moves : Moves stanza P a d
   front_moves = record {

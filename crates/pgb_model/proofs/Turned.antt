@@ -14,12 +14,12 @@ use Rattle.pgb_model.specs.Pair.{PairIs}
 use Rattle.pgb_model.specs.Values.{BackupInfo, Manifest}
 use Rattle.pgb_model.specs.Repository.{Backup, Archived, Drained, Stanza, Repository, id_of, IsSound, IsSoundStanza, AreSound}
 use Rattle.pgb_model.specs.Stands.{Stands, HasStanza, IsManifestOf, IsPending, backup_value}
-use Rattle.pgb_model.specs.Steps.{Step, Move, One, Any, Command, ArchivePushAsync, Turn, Named, Note, Push, IsPartOf, IsSomeOf, after, after_all, all_of, steps_of, changed, push_of, store_of, archived_of, is_archived}
-use Rattle.pgb_model.specs.Log.{IsDone, Done, KeepsRepository, StandsAfter, Reaches}
+use Rattle.pgb_model.specs.Steps.{Step, Move, One, Command, ArchivePushAsync, Turn, Named, Note, Push, IsPartOf, IsSomeOf, after, after_all, all_of, steps_of, changed, push_of, store_of, archived_of, is_archived}
+use Rattle.pgb_model.specs.Log.{IsDone, Done, StandsAfter}
 use Rattle.pgb_model.specs.Now.{NowStands, NowDoes}
 use Rattle.pgb_model.specs.Steady.{IsSteady, CarriesOn, PassesOnly}
 use Rattle.pgb_model.proofs.Done.{part_none}
-use Rattle.pgb_model.proofs.Logged.{IsPart, rests_still, rests_keeps, rests_between, one_part}
+use Rattle.pgb_model.proofs.Logged.{IsPart, rests_still, rests_between, one_part}
 use Rattle.pgb_model.proofs.PushDone.{all_one, after_some}
 use Rattle.pgb_model.proofs.PushSound.{pushed}
 use Rattle.pgb_model.proofs.Segments.{IsPartOfPush, NowPartOfPush}

@@ -1,5 +1,5 @@
 -- Turns one after another are one wait.
-use Rattle.std.proofs.Common.{◌≡◌, ◌⊎◌, ⊎_elim, inl, inr, ℕ, ◌≤◌, List, [], ◌∷◌, ◌++◌, map, Option, Some, None, refl, ap, ◌∙◌, sym, subst, arith, Bool, true, false, append_assoc}
+use Rattle.std.proofs.Common.{◌≡◌, ◌⊎◌, ⊎_elim, inl, inr, ℕ, ◌≤◌, List, [], ◌∷◌, ◌++◌, map, Some, None, refl, ap, ◌∙◌, sym, subst, arith, Bool, true, false, append_assoc}
 use Rattle.std.specs.Prelude.{IsSome, if◌then◌else◌}
 use Rattle.std.specs.List.{flat_map}
 use Rattle.std.proofs.lemmas.List.{append-nil}
@@ -8,7 +8,7 @@ use Rattle.pgb_outside.specs.Moments.{View, IsImage}
 use Rattle.pgb_outside.specs.Crash.{Leaves}
 use Rattle.pgb_model.specs.Text.{Text}
 use Rattle.pgb_model.specs.Repository.{Stanza, Repository}
-use Rattle.pgb_model.specs.Steps.{Step, Move, One, Any, Turn, ArchivePushAsync, IsPartOf, IsSomeOf, after, after_all, all_of, steps_of, step, changed, stores_of, turn_moves}
+use Rattle.pgb_model.specs.Steps.{Step, Move, One, Any, Turn, ArchivePushAsync, IsPartOf, IsSomeOf, after, after_all, all_of, step, changed, stores_of, turn_moves}
 use Rattle.pgb_model.specs.Log.{Done, Leads, Reaches, StandsAfter, KeepsRepository, IsDone}
 use Rattle.pgb_model.specs.Steady.{CarriesOn, PassesOnly}
 use Rattle.pgb_model.proofs.Done.{part_none}

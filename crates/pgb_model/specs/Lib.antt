@@ -17,3 +17,4 @@ pub mod Log
 pub mod Create
 pub mod Now
 pub mod Steady
+pub mod Walks

@@ -1,0 +1,42 @@
+-- What a push leaves, image by image.
+use Rattle.std.specs.Prelude.{◌≡◌, ◌∷◌, [], List, map, Some, IsSome}
+use Rattle.sha1.specs.Sha1.{sha1}
+use Rattle.pgb_text.specs.Sum.{IsSum}
+use Rattle.pgb_outside.specs.Content.{Content}
+use Rattle.pgb_outside.specs.Moments.{View}
+use Rattle.pgb_outside.specs.Crash.{Write, Ends, NowGoes}
+use Rattle.pgb_model.specs.declared.wal.ArchiveId.{ArchiveId}
+use Rattle.pgb_model.specs.declared.wal.ArchiveName.{ArchiveName}
+use Rattle.pgb_model.specs.Text.{Text}
+use Rattle.pgb_model.specs.Repository.{Stanza}
+use Rattle.pgb_model.specs.Stands.{Stands, HasStanza}
+use Rattle.pgb_model.specs.Steps.{Step, One, IsPartOf, after, after_all, push_of}
+use Rattle.pgb_model.specs.Walks.{IsTight, Walks}
+use Rattle.pgb_archive.specs.Stored.{archived_file, archive_path}
+
+-- the name is the file's, with some sum
+abbrev pub IsPathOf : Text → ArchiveId → ArchiveName → Text → Type 0
+IsPathOf stanza id name n = (sum : Text) × IsSum sum × (n ≡ archive_path stanza id name sum)
+
+-- the one write of a push: the bytes, at the path with their sum
+abbrev pub writes_of : Text → ArchiveId → ArchiveName → Text → List Write
+writes_of stanza id name bytes = (archive_path stanza id name (sha1 bytes), bytes) ∷ []
+
+-- whatever stanza f has, g stands for it after a part of the push
+abbrev pub PushesPart : Text → ArchiveId → ArchiveName → Text → Content → Content → Type 0
+PushesPart stanza id name bytes f g = (s : Stanza) → HasStanza stanza f s
+    → (done : List Step) × IsPartOf done (map One (push_of s (archived_file id name bytes))) × Stands stanza g (after (Some s) done)
+
+-- whatever stanza f has, g stands for it after all of the push
+abbrev pub PushesAll : Text → ArchiveId → ArchiveName → Text → Content → Content → Type 0
+PushesAll stanza id name bytes f g = (s : Stanza) → HasStanza stanza f s → Stands stanza g (Some (after_all s (push_of s (archived_file id name bytes))))
+
+-- After every answer what the disk holds comes by a part of the push from what it held; so does all that a stop leaves, at each moment.
+pub record LeavesPart (stanza : Text) (id : ArchiveId) (name : ArchiveName) (bytes : Text) (old new : View) : Type 0 where
+  pub now : NowGoes (PushesPart stanza id name bytes) old.now new.now
+  pub walks : IsTight stanza old → IsSome old.now → Walks stanza (PushesPart stanza id name bytes) old new
+
+-- At Ok it comes by all of the push.
+pub record LeavesAll (stanza : Text) (id : ArchiveId) (name : ArchiveName) (bytes : Text) (old new : View) : Type 0 where
+  pub now : NowGoes (PushesAll stanza id name bytes) old.now new.now
+  pub ends : IsTight stanza old → IsSome old.now → Ends (PushesAll stanza id name bytes) old new

@@ -1,0 +1,96 @@
+-- A log goes on by a command that is done to each image.
+use Rattle.std.proofs.Common.{◌≡◌, List, ◌∷◌, Option, Some, refl, sym, subst, inl, true, false, arith}
+use Rattle.std.specs.Prelude.{IsSome}
+use Rattle.pgb_outside.specs.Content.{Content}
+use Rattle.pgb_outside.specs.Moments.{View}
+use Rattle.pgb_outside.specs.Crash.{Leaves, Ends}
+use Rattle.pgb_outside.proofs.Nows.{told_as}
+use Rattle.pgb_model.specs.Text.{Text}
+use Rattle.pgb_model.specs.Repository.{Repository}
+use Rattle.pgb_model.specs.Stands.{Stands}
+use Rattle.pgb_model.specs.Steps.{Command, after, all_of, steps_of}
+use Rattle.pgb_model.specs.Log.{Done, KeepsRepository, StandsAfter}
+use Rattle.pgb_model.specs.Steady.{IsSteady, Moves, LeavesOnly, CarriesOn, PassesOnly}
+use Rattle.pgb_model.specs.Walks.{IsTight, Walks, DoesPart, DoesAll, StandsStill, StandsNow, GoesEach, EndsEach}
+use Rattle.pgb_model.proofs.Logged.{KeepsSound, IsPart}
+
+pub keeps_tight : (stanza : Text) (q : Repository) (log : List Done) (v : View) → KeepsRepository stanza q log v → IsTight stanza v
+keeps_tight stanza q log v keeps = record { fixed = keeps.fixed; places = keeps.places }
+
+pub keeps_now : (stanza : Text) (q : Repository) (log : List Done) (v : View) → IsSome v.now → KeepsRepository stanza q log v → StandsNow stanza v
+keeps_now stanza q log v some keeps = let f = told_as v.now some in let s = keeps.stands f.0 (inl f.1) in record { content = f.0; now = f.1; repository = s.repository; stands = s.stands }
+
+module _ (stanza : Text) (command : Command) (sound : KeepsSound command) (a d : View) where
+  module _ (q : Repository) (log : List Done) (keeps : KeepsRepository stanza q log a) where
+    abbrev undone : Done
+    undone = record { command = command; acknowledged = false }
+
+    abbrev acknowledged : Done
+    acknowledged = record { command = command; acknowledged = true }
+
+    by_part : (f g : Content) → Leaves a a.moment f → DoesPart stanza command f g → StandsAfter stanza q (undone ∷ log) g
+    by_part f g at does =
+        let s = keeps.stands f at in
+        let x = does s.repository s.stands in
+        record {
+          repository = after s.repository x.0;
+          reached = (s.repository, s.reached, (x.0, refl, x.1));
+          sound = sound s.repository false x.0 s.sound x.1;
+          stands = x.2;
+        }
+
+    by_all : (f g : Content) → Leaves a a.moment f → DoesAll stanza command f g → StandsAfter stanza q (acknowledged ∷ log) g
+    by_all f g at does =
+        let s = keeps.stands f at in
+        let steps = all_of (steps_of command s.repository) in
+        record {
+          repository = after s.repository steps;
+          reached = (s.repository, s.reached, (steps, refl, refl));
+          sound = sound s.repository true steps s.sound refl;
+          stands = does s.repository s.stands;
+        }
+
+    walks_between : Walks stanza (DoesPart stanza command) a d → LeavesOnly (StandsAfter stanza q (undone ∷ log)) a d
+    walks_between w t g lo hi leaves = let x = w.comes t g lo hi leaves in by_part x.0 g x.1 x.2
+
+    walks_keep : Walks stanza (DoesPart stanza command) a d → KeepsRepository stanza q (undone ∷ log) d
+    walks_keep w = record { fixed = w.tight.fixed; places = w.tight.places; stands = λ g leaves. walks_between w d.moment g w.later (omega arith) leaves }
+
+    walks_done : Walks stanza (DoesPart stanza command) a d → Ends (DoesAll stanza command) a d → IsSome a.now → KeepsRepository stanza q (acknowledged ∷ log) d
+    walks_done w ends told = record {
+      fixed = w.tight.fixed;
+      places = w.tight.places;
+      stands = λ g leaves. let x = ends.comes told g leaves in by_all x.0 g x.1 x.2;
+    }
+
+  module _ (goes : GoesEach stanza command a d) where
+    pub each_carries : CarriesOn stanza command false a d
+    each_carries = record { keeps = λ q log some keeps. walks_keep q log keeps (goes.goes (keeps_tight stanza q log a keeps) (keeps_now stanza q log a some keeps)) }
+
+    pub each_passes : PassesOnly stanza command a d
+    each_passes = record { between = λ q log some keeps. walks_between q log keeps (goes.goes (keeps_tight stanza q log a keeps) (keeps_now stanza q log a some keeps)) }
+
+    pub each_carried : EndsEach stanza command a d → CarriesOn stanza command true a d
+    each_carried ends = record {
+      keeps = λ q log some keeps. let t = keeps_tight stanza q log a keeps in let now = keeps_now stanza q log a some keeps in walks_done q log keeps (goes.goes t now) (ends.ends t now) some;
+    }
+
+-- A command that is told of one repository, over a disk of which all that is left stands for what the disk stands for.
+pub steady_goes : (stanza : Text) (command : Command) (b d : View) → ((f g : Content) → b.now ≡ Some f → Leaves b b.moment g → StandsStill stanza f g)
+    → ((r : Repository) → IsSteady stanza r b → IsSome b.now → Moves stanza (IsPart stanza command r) b d) → GoesEach stanza command b d
+steady_goes stanza command b d settled moves = record {
+  goes = λ tight now.
+      let told : IsSome b.now = subst (λ (o : Option Content). IsSome o) (sym now.now) refl in
+      let m = moves now.repository (by_record tight now now.repository now.stands) told in
+      record {
+        later = m.later;
+        past = m.past;
+        past_loose = m.past_loose;
+        told = m.told;
+        tight = record { fixed = m.fixed; places = m.places };
+        comes = λ t g lo hi leaves. (now.content, inl now.now, λ r h. (moves r (by_record tight now r h) told).leaves t g lo hi leaves);
+      };
+}
+  where
+    by_record : IsTight stanza b → (now : StandsNow stanza b) → (r : Repository) → Stands stanza now.content r → IsSteady stanza r b
+    by_record tight now r h = record { fixed = tight.fixed; places = tight.places; stands = λ f leaves. settled now.content f now.now leaves r h }
