@@ -3,7 +3,7 @@ ghost use Rattle.std.specs.Prelude.{◌≡◌, None, false, map, string_bytes};
 
 use crate::handles::Handles;
 use crate::place::{Place, no_memory};
-use crate::settle::{Settled, settle};
+use crate::settle::{Settled, settle, settle_in, sync_files};
 use crate::walk::{folders_in, nodes_below};
 use pgb_outside::{Disk, Found, Node, Seen, Stop};
 use pgb_system::Faults;
@@ -94,8 +94,18 @@ impl Disk for RealDisk {
         self.faults.told(done)
     }
 
+    fn sync_below(&mut self, folder: &str) -> Result<(), Stop> {
+        let done = sync_below(&self.place, folder);
+        self.faults.told(done)
+    }
+
     fn settle(&mut self, folder: &str) -> Result<(), Stop> {
         let done = settle(&self.place, &mut self.settled, folder);
+        self.faults.told(done)
+    }
+
+    fn settle_in(&mut self, folder: &str) -> Result<(), Stop> {
+        let done = settle_in(&self.place, &mut self.settled, folder);
         self.faults.told(done)
     }
 }
@@ -110,6 +120,11 @@ fn names_below(alloc: Global, place: &Place, folder: &str) -> io::Result<Vec<Fou
         }
     }
     Ok(found)
+}
+
+fn sync_below(place: &Place, folder: &str) -> io::Result<()> {
+    let files = names_below(place.rt.alloc(), place, folder)?;
+    sync_files(place, folder, &files)
 }
 
 // Folders are there by their names alone, so those that lack are made.

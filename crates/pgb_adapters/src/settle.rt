@@ -1,11 +1,12 @@
-// Makes the names below a folder durable.
+// Makes the names in a folder durable, and the bytes of the files below one.
 use crate::place::{Place, no_memory, sync_folder, unless_absent};
+use pgb_outside::Found;
 use std::fs::Metadata;
 use std::os::unix::fs::MetadataExt;
 use std::process::{Command, Stdio};
 use std::{fs, io};
 
-// With more folders than these, one sync of their file system is tried first.
+// With more folders or files than these, one sync of their file system is tried first.
 const FEW: usize = 8;
 
 #[derive(Drop)]
@@ -64,6 +65,36 @@ pub fn settle(place: &Place, settled: &mut Settled, folder: &str) -> io::Result<
         sync_each(place, &folders)?;
     }
     settled.note(folders)
+}
+
+/// The names directly in a folder lie in it; the folder itself lies in those that hold it.
+pub fn settle_in(place: &Place, settled: &mut Settled, folder: &str) -> io::Result<()> {
+    let mut folders = folders_above(place, settled, folder)?;
+    add_folder(place, place.path_of(folder)?, &mut folders)?;
+    sync_each(place, &folders)?;
+    settled.note(folders)
+}
+
+/// Makes the bytes of these files durable, which are all that lie below the folder.
+pub fn sync_files(place: &Place, folder: &str, files: &[Found]) -> io::Result<()> {
+    let are_many = files.len() > FEW;
+    if are_many && is_on_file_system(place, folder)? && sync_file_system(place).unwrap_or(false) {
+        return Ok(());
+    }
+    for file in files {
+        place.open_end(&file.name)?.sync_all()?;
+    }
+    Ok(())
+}
+
+// Whether the folder, and so all below it, lies on the root's file system.
+fn is_on_file_system(place: &Place, folder: &str) -> io::Result<bool> {
+    if may_hold_file_systems(place) {
+        return Ok(false);
+    }
+    let root = fs::metadata(&place.rt, place.root())?;
+    let told = fs::metadata(&place.rt, place.path_of(folder)?.as_str())?;
+    Ok(told.dev() == root.dev())
 }
 
 fn sync_each(place: &Place, folders: &[Folder]) -> io::Result<()> {

@@ -82,7 +82,7 @@ module _ (stanza : Text) (s : Stanza) (text : Text) (is : IsArchiveText (archive
       (λ x. ⊎_elim (λ a. alike_stands stanza (put main (Some text) f) g (Some s) a (main_written f h))
       (λ a. alike_stands stanza (put copy (Some text) (put main (Some text) f)) g (Some s) a (copy_written (put main (Some text) f) (main_written f h))) x) w
 
-  healed_past : (f g : Content) → SomeOf (member_writes (archive_info stanza) text) f g → AgreesPast stanza f g
+  pub healed_past : (f g : Content) → SomeOf (member_writes (archive_info stanza) text) f g → AgreesPast stanza f g
   healed_past f g w = ⊎_elim
       (λ x. ⊎_elim (λ a. past_alike stanza f g a) (λ a. by copy f refl a) x)
       (λ x. ⊎_elim (λ a. by main f refl a) (λ a. past_past stanza f (put main (Some text) f) g (put_past stanza main text f refl) (by copy (put main (Some text) f) refl a)) x) w

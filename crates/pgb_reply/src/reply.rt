@@ -1,13 +1,12 @@
 // Takes the frames of a reply.
-ghost use Rattle.std.specs.Prelude.{◌≡◌, ◌+◌, ◌^◌, ◌<◌, ◌≤◌, length, Option, IfOk, IfErr, OnOk};
-ghost use Rattle.pgb_outside.specs.Links.{Told, LinkState, last_five};
+ghost use Rattle.std.specs.Prelude.{◌≡◌, ◌+◌, ◌^◌, ◌<◌, ◌≤◌, length, IfOk, IfErr, OnOk};
+ghost use Rattle.pgb_outside.specs.Links.{LinkState, last_five};
 ghost use Rattle.pgb_frame.specs.Frames.{FitsJob, spell, part_size};
 ghost use Rattle.pgb_frame.specs.Frames.Frame.{Part, End, Vanished, Unread};
 ghost use Rattle.pgb_frame.specs.Views.{job_of};
-ghost use Rattle.pgb_keep.specs.KeepState.{Kept};
 ghost use Rattle.pgb_hear.specs.Hears.{IsHeard, frame_of};
-ghost use Rattle.pgb_hear.specs.Takes.{TakesFront};
-ghost use Rattle.pgb_reply.specs.Going.{At, IsAt, VerdictHolds, FaultHolds, IsUnread, KeepsCounts, CountsFrame, HeardOf, after_end};
+ghost use Rattle.pgb_reply.specs.Going.{IsAt, IsGiving, FrameLeaves, FrameFails, ItemFails, ReplyLeaves, ReplyFails};
+ghost use Rattle.pgb_reply.specs.Going.{IsUnread, KeepsCounts, CountsFrame, HeardOf, after_end};
 
 use crate::checks::{end_fault, may_be_absent, may_follow};
 use crate::fault::TakeFault;
@@ -43,11 +42,14 @@ fn take_part<W, K: Keep<W>>(
     requires fits { FitsJob (job_of job.now) }
     requires some { 0 < length bytes.now }
     requires few { length bytes.now ≤ part_size }
+    requires agrees { K.agrees keep.old on.old }
     ensures later { K.later keep.old on.old keep.new on.new }
-    ensures verdict { IfOk result (λ v. (from old new : Option Told) (k : Kept) → At from old (job_of job.now) number hearing.old (K.kept keep.old on.old) k → TakesFront old new (spell (Part bytes.now))
-        → VerdictHolds v from new (job_of job.now) number hearing.new k (K.kept keep.old on.old) (K.kept keep.new on.new)) }
+    ensures agrees { OnOk result (K.agrees keep.new on.new) }
+    ensures verdict { IfOk result (λ v. FrameLeaves v (spell (Part bytes.now)) (job_of job.now) number
+        hearing.old hearing.new (K.kept keep.old on.old) (K.kept keep.new on.new)) }
     ensures counts { IfOk result (λ v. CountsFrame v hearing.old.heard (5 + length bytes.now) hearing.new.heard) }
-    ensures fault { IfErr result (λ e. (from : Option Told) → FaultHolds e from (job_of job.now) hearing.old.item (K.kept keep.old on.old) (K.kept keep.new on.new)) }
+    ensures fault { IfErr result (λ e. ItemFails e (job_of job.now) hearing.old.item
+        (K.kept keep.old on.old) (K.kept keep.new on.new)) }
     ensures kept { IfErr result (λ e. ¬ IsUnread e) }
 {
     let heard = hearing.heard.saturating_add(5 + bytes.len() as u64);
@@ -71,11 +73,14 @@ fn take_end<W, K: Keep<W>>(
 ) -> Result<Verdict, TakeFault>
     requires at { IsAt (job_of job.now) number hearing.old (K.kept keep.old on.old) }
     requires fits { FitsJob (job_of job.now) }
+    requires agrees { K.agrees keep.old on.old }
     ensures later { K.later keep.old on.old keep.new on.new }
-    ensures verdict { IfOk result (λ v. (from old new : Option Told) (k : Kept) → At from old (job_of job.now) number hearing.old (K.kept keep.old on.old) k → TakesFront old new (spell (End length sum.0))
-        → VerdictHolds v from new (job_of job.now) number hearing.new k (K.kept keep.old on.old) (K.kept keep.new on.new)) }
+    ensures agrees { OnOk result (K.agrees keep.new on.new) }
+    ensures verdict { IfOk result (λ v. FrameLeaves v (spell (End length sum.0)) (job_of job.now) number
+        hearing.old hearing.new (K.kept keep.old on.old) (K.kept keep.new on.new)) }
     ensures counts { IfOk result (λ v. CountsFrame v hearing.old.heard 33 hearing.new.heard) }
-    ensures fault { IfErr result (λ e. (from : Option Told) → FaultHolds e from (job_of job.now) hearing.old.item (K.kept keep.old on.old) (K.kept keep.new on.new)) }
+    ensures fault { IfErr result (λ e. ItemFails e (job_of job.now) hearing.old.item
+        (K.kept keep.old on.old) (K.kept keep.new on.new)) }
     ensures kept { IfErr result (λ e. ¬ IsUnread e) }
 {
     let item = hearing.item;
@@ -99,11 +104,14 @@ fn take_absent<W, K: Keep<W>>(
 ) -> Result<Verdict, TakeFault>
     requires at { IsAt (job_of job.now) number hearing.old (K.kept keep.old on.old) }
     requires fits { FitsJob (job_of job.now) }
+    requires agrees { K.agrees keep.old on.old }
     ensures later { K.later keep.old on.old keep.new on.new }
-    ensures verdict { IfOk result (λ v. (from old new : Option Told) (k : Kept) → At from old (job_of job.now) number hearing.old (K.kept keep.old on.old) k → TakesFront old new (spell Vanished)
-        → VerdictHolds v from new (job_of job.now) number hearing.new k (K.kept keep.old on.old) (K.kept keep.new on.new)) }
+    ensures agrees { OnOk result (K.agrees keep.new on.new) }
+    ensures verdict { IfOk result (λ v. FrameLeaves v (spell Vanished) (job_of job.now) number
+        hearing.old hearing.new (K.kept keep.old on.old) (K.kept keep.new on.new)) }
     ensures counts { IfOk result (λ v. CountsFrame v hearing.old.heard 5 hearing.new.heard) }
-    ensures fault { IfErr result (λ e. (from : Option Told) → FaultHolds e from (job_of job.now) hearing.old.item (K.kept keep.old on.old) (K.kept keep.new on.new)) }
+    ensures fault { IfErr result (λ e. ItemFails e (job_of job.now) hearing.old.item
+        (K.kept keep.old on.old) (K.kept keep.new on.new)) }
     ensures kept { IfErr result (λ e. ¬ IsUnread e) }
 {
     let item = hearing.item;
@@ -128,12 +136,15 @@ fn take_frame<W, K: Keep<W>>(
     requires at { IsAt (job_of job.now) number hearing.old (K.kept keep.old on.old) }
     requires fits { FitsJob (job_of job.now) }
     requires heard { IsHeard frame }
+    requires agrees { K.agrees keep.old on.old }
     ensures later { K.later keep.old on.old keep.new on.new }
-    ensures verdict { IfOk result (λ v. (from old new : Option Told) (k : Kept) → At from old (job_of job.now) number hearing.old (K.kept keep.old on.old) k → TakesFront old new (spell (frame_of frame))
-        → VerdictHolds v from new (job_of job.now) number hearing.new k (K.kept keep.old on.old) (K.kept keep.new on.new)) }
-    ensures counts { IfOk result (λ v. CountsFrame v hearing.old.heard (length (spell (frame_of frame))) hearing.new.heard) }
-    ensures fault { IfErr result (λ e. (from old new : Option Told) (k : Kept) → At from old (job_of job.now) number hearing.old (K.kept keep.old on.old) k → TakesFront old new (spell (frame_of frame))
-        → FaultHolds e from (job_of job.now) hearing.old.item (K.kept keep.old on.old) (K.kept keep.new on.new)) }
+    ensures agrees { OnOk result (K.agrees keep.new on.new) }
+    ensures verdict { IfOk result (λ v. FrameLeaves v (spell (frame_of frame)) (job_of job.now) number
+        hearing.old hearing.new (K.kept keep.old on.old) (K.kept keep.new on.new)) }
+    ensures counts { IfOk result (λ v. CountsFrame v hearing.old.heard (length (spell (frame_of frame)))
+        hearing.new.heard) }
+    ensures fault { IfErr result (λ e. FrameFails e (spell (frame_of frame)) (job_of job.now) number
+        hearing.old (K.kept keep.old on.old) (K.kept keep.new on.new)) }
     ensures unread { IfErr result (λ e. IsUnread e → frame_of frame ≡ Unread) }
 {
     match frame {
@@ -144,7 +155,8 @@ fn take_frame<W, K: Keep<W>>(
     }
 }
 
-/// Hears a frame of the reply to the job of this number, and takes it. The keeper, which is for the job, gets what it brings.
+/// Hears a frame of the reply to the job of this number, and takes it. The keeper, which is for the job, gets what it
+/// brings.
 pub fn hear_reply<L: Link, W, K: Keep<W>>(
     alloc: Global,
     link: &mut L,
@@ -154,16 +166,19 @@ pub fn hear_reply<L: Link, W, K: Keep<W>>(
     keep: &mut K,
     on: &mut W,
 ) -> Result<Verdict, TakeFault>
-    requires at { (from : Option Told) × (k : Kept) × At from (L.link_state link.old).told (job_of job.now) number hearing.old (K.kept keep.old on.old) k }
+    requires at { IsGiving (L.link_state link.old).told (job_of job.now) number hearing.old (K.kept keep.old on.old) }
     requires fits { FitsJob (job_of job.now) }
+    requires agrees { K.agrees keep.old on.old }
     ensures later { K.later keep.old on.old keep.new on.new }
-    ensures verdict { IfOk result (λ v. (from : Option Told) (k : Kept) → At from (L.link_state link.old).told (job_of job.now) number hearing.old (K.kept keep.old on.old) k
-        → VerdictHolds v from (L.link_state link.new).told (job_of job.now) number hearing.new k (K.kept keep.old on.old) (K.kept keep.new on.new)) }
+    ensures agrees { OnOk result (K.agrees keep.new on.new) }
+    ensures verdict { IfOk result (λ v. ReplyLeaves v (job_of job.now) number hearing.old hearing.new
+        (K.kept keep.old on.old) (K.kept keep.new on.new) (L.link_state link.old) (L.link_state link.new)) }
     ensures counts { IfOk result (λ v. KeepsCounts v (L.link_state link.old) (L.link_state link.new)) }
     // How many bytes of the reply are heard, and why the link is lost.
-    ensures heard { IfOk result (λ v. HeardOf v hearing.old.heard hearing.new.heard (L.link_state link.old) (L.link_state link.new)) }
-    ensures fault { IfErr result (λ e. (from : Option Told) (k : Kept) → At from (L.link_state link.old).told (job_of job.now) number hearing.old (K.kept keep.old on.old) k
-        → FaultHolds e from (job_of job.now) hearing.old.item (K.kept keep.old on.old) (K.kept keep.new on.new)) }
+    ensures heard { IfOk result (λ v. HeardOf v hearing.old.heard hearing.new.heard
+        (L.link_state link.old) (L.link_state link.new)) }
+    ensures fault { IfErr result (λ e. ReplyFails e (job_of job.now) number hearing.old
+        (K.kept keep.old on.old) (K.kept keep.new on.new) (L.link_state link.old)) }
     // After Unread the last five bytes that the link gave are that frame.
     ensures unread { IfErr result (λ e. IsUnread e → last_five (L.link_state link.new).given ≡ spell Unread) }
 {

@@ -6,31 +6,44 @@ use Rattle.pgb_outside.specs.Moments.{View, Rests}
 use Rattle.pgb_model.specs.Text.{Text}
 use Rattle.pgb_model.specs.Steps.{Command, Reading, steps_of}
 use Rattle.pgb_model.specs.Now.{NowStands}
+use Rattle.pgb_model.specs.Walks.{StandsNow}
 use Rattle.pgb_model.proofs.Done.{part_none, nothing_done}
 use Rattle.pgb_model.proofs.Steady.{rests_moves, steady_rests}
-use Rattle.pgb_stage.specs.Runs.{Reached, to_end, turned_back, stopped, turns_of, IsPart, DoesPart, DoesWhole, Does}
+use Rattle.pgb_model.proofs.Walking.{rests_walks, rests_ends}
+use Rattle.pgb_stage.specs.declared.plan.Settling.{Settling}
+use Rattle.pgb_stage.specs.declared.plan.Settling.TheVariants.{Whole, Looked}
+use Rattle.pgb_stage.specs.Runs.{Reached, to_end, turned_back, stopped, turns_of, IsPart, PartEach, WholeEach, Goes, Comes, DoesPart, DoesWhole, Does}
+
+pub now_told : (stanza : Text) (v : View) → StandsNow stanza v → IsSome v.now
+now_told stanza v now = subst (λ (o : Option Content). IsSome o) (sym now.now) refl
 
 -- of any command it is a part
-pub rests_part : (stanza : Text) (command : Command) (a d : View) → Rests a d → d.now ≡ a.now → DoesPart stanza command a d
-rests_part stanza command a d rests same = record {
-  part = nothing_done stanza command a.now d.now same;
-  goes = λ r some steady sound. rests_moves stanza r (IsPart stanza command r) a d rests same steady some (λ g stands. ([], part_none (steps_of command r), stands, sound));
-}
+rests_go : (how : Settling) (stanza : Text) (command : Command) (a d : View) → Rests a d → d.now ≡ a.now → Goes how stanza command a d
+rests_go Whole stanza command a d rests same = λ r some steady sound. rests_moves stanza r (IsPart stanza command r) a d rests same steady some (λ g stands. ([], part_none (steps_of command r), stands, sound))
+rests_go Looked stanza command a d rests same = λ looked. rests_walks stanza a d rests same (PartEach stanza command) (λ f r stands sound. ([], part_none (steps_of command r), stands, sound)) (now_told stanza a looked.now) looked.tight
 
-pub rests_whole : (stanza : Text) (a d : View) → Rests a d → d.now ≡ a.now → DoesWhole stanza Reading a d
-rests_whole stanza a d rests same = record {
+rests_come : (how : Settling) (stanza : Text) (a d : View) → Rests a d → d.now ≡ a.now → Comes how stanza Reading a d
+rests_come Whole stanza a d rests same = λ r some steady sound. (steady_rests stanza r a d rests same steady, sound)
+rests_come Looked stanza a d rests same = λ looked. rests_ends stanza a d rests same (WholeEach stanza Reading) (λ f r stands sound. (stands, sound))
+
+pub rests_part : (how : Settling) (stanza : Text) (command : Command) (a d : View) → Rests a d → d.now ≡ a.now → DoesPart how stanza command a d
+rests_part how stanza command a d rests same = record { part = nothing_done stanza command a.now d.now same; goes = rests_go how stanza command a d rests same }
+
+pub rests_whole : (how : Settling) (stanza : Text) (a d : View) → Rests a d → d.now ≡ a.now → DoesWhole how stanza Reading a d
+rests_whole how stanza a d rests same = record {
   done = record { told = λ some. subst (λ (o : Option Content). IsSome o) (sym same) some; does = λ r some now. ([], refl, subst (λ (o : Option Content). NowStands stanza r o) (sym same) now) };
-  ends = λ r some steady sound. (steady_rests stanza r a d rests same steady, sound);
+  ends = rests_come how stanza a d rests same;
 }
 
--- a command that came to no end
-pub rests_does : (stanza : Text) (command : Command) (reached : Reached) (a d : View) → (¬ (reached ≡ to_end)) → Rests a d → d.now ≡ a.now → Does stanza command reached a d
-rests_does stanza command to_end a d not rests same = absurd (not refl)
-rests_does stanza command turned_back a d not rests same = record { part = rests_part stanza command a d rests same; whole = tt; turned = rests_part stanza (turns_of command) a d rests same }
-rests_does stanza command stopped a d not rests same = record { part = rests_part stanza command a d rests same; whole = tt; turned = tt }
+module _ (how : Settling) where
+  -- a command that came to no end
+  pub rests_does : (stanza : Text) (command : Command) (reached : Reached) (a d : View) → (¬ (reached ≡ to_end)) → Rests a d → d.now ≡ a.now → Does how stanza command reached a d
+  rests_does stanza command to_end a d not rests same = absurd (not refl)
+  rests_does stanza command turned_back a d not rests same = record { part = rests_part how stanza command a d rests same; whole = tt; turned = rests_part how stanza (turns_of command) a d rests same }
+  rests_does stanza command stopped a d not rests same = record { part = rests_part how stanza command a d rests same; whole = tt; turned = tt }
 
--- a command that changes nothing
-pub reading_does : (stanza : Text) (reached : Reached) (a d : View) → Rests a d → d.now ≡ a.now → Does stanza Reading reached a d
-reading_does stanza to_end a d rests same = record { part = rests_part stanza Reading a d rests same; whole = rests_whole stanza a d rests same; turned = tt }
-reading_does stanza turned_back a d rests same = record { part = rests_part stanza Reading a d rests same; whole = tt; turned = rests_part stanza Reading a d rests same }
-reading_does stanza stopped a d rests same = record { part = rests_part stanza Reading a d rests same; whole = tt; turned = tt }
+  -- a command that changes nothing
+  pub reading_does : (stanza : Text) (reached : Reached) (a d : View) → Rests a d → d.now ≡ a.now → Does how stanza Reading reached a d
+  reading_does stanza to_end a d rests same = record { part = rests_part how stanza Reading a d rests same; whole = rests_whole how stanza a d rests same; turned = tt }
+  reading_does stanza turned_back a d rests same = record { part = rests_part how stanza Reading a d rests same; whole = tt; turned = rests_part how stanza Reading a d rests same }
+  reading_does stanza stopped a d rests same = record { part = rests_part how stanza Reading a d rests same; whole = tt; turned = tt }

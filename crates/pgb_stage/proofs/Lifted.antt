@@ -4,19 +4,24 @@ use Rattle.std.specs.Prelude.{IsSome}
 use Rattle.pgb_outside.specs.Content.{Content, Name}
 use Rattle.pgb_outside.specs.Moments.{View, Rests, IsImage, is_loose}
 use Rattle.pgb_outside.specs.Crash.{Leaves}
+use Rattle.pgb_outside.proofs.Nows.{told_as}
 use Rattle.pgb_model.specs.Text.{Text}
 use Rattle.pgb_model.specs.Names.{receipt_name}
 use Rattle.pgb_model.specs.Repository.{Repository, IsSound}
 use Rattle.pgb_model.specs.Stands.{Stands}
 use Rattle.pgb_model.specs.Steps.{Step, Command, Reading, after, all_of, steps_of}
-use Rattle.pgb_model.specs.Log.{Done, StandsAfter, KeepsRepository, KeepsSpool}
+use Rattle.pgb_model.specs.Log.{Done, Reaches, StandsAfter, KeepsRepository, KeepsSpool}
 use Rattle.pgb_model.specs.Now.{NowStands, NowDoes}
-use Rattle.pgb_model.specs.Steady.{IsSteady, IsBegun, Moves, LeavesOnly}
-use Rattle.pgb_model.proofs.Done.{part_none, nothing_done}
+use Rattle.pgb_model.specs.Steady.{IsSteady, LeavesOnly}
+use Rattle.pgb_model.specs.Walks.{Walks, StandsStill}
+use Rattle.pgb_model.proofs.Done.{part_none}
+use Rattle.pgb_model.proofs.Each.{keeps_tight, keeps_now}
 use Rattle.pgb_model.proofs.Logged.{rests_still}
-use Rattle.pgb_model.proofs.Steady.{rests_moves, steady_rests}
+use Rattle.pgb_model.proofs.Walking.{steady_tight}
 use Rattle.pgb_archive.specs.Still.{rests_none}
-use Rattle.pgb_stage.specs.Runs.{Reached, to_end, turned_back, stopped, OnAll, OnNone, turns_of, IsPart, DoesPart, Does, RunsPart, RunsWhole, Runs, Past, Passes, Leads, Takes, Quiet, Mends, Begins, Manner, each, one, On, EndsAtOne}
+use Rattle.pgb_stage.specs.declared.plan.Settling.{Settling}
+use Rattle.pgb_stage.specs.declared.plan.Settling.TheVariants.{Whole, Looked}
+use Rattle.pgb_stage.specs.Runs.{Reached, to_end, turned_back, stopped, OnAll, OnNone, OnWhole, turns_of, IsPart, IsWhole, PartEach, WholeEach, IsLookedAt, Goes, Comes, DoesPart, Does, RunsPart, RunsWhole, Runs, Past, Passes, Leads, Takes, Quiet, Mends, Begins, Manner, each, one, On, EndsAtOne}
 
 pub all_as : (reached : Reached) (P Q : Type 0) → (P → Q) → OnAll reached P → OnAll reached Q
 all_as to_end P Q to h = to h
@@ -105,47 +110,6 @@ module _ (stanza : Text) (command : Command) (q : Repository) (log : List Done) 
     receipts = λ f leaves name sum fits has. let x = k.receipts f leaves name sum fits has in (x.0, (x.0, x.1, ([], refl, part_none (steps_of command x.0))), x.2);
   }
 
--- a command that did nothing
-pub still_runs : (stanza : Text) (command : Command) (v s : View) → RunsPart stanza command v s v s
-still_runs stanza command v s = record {
-  does = record {
-    part = nothing_done stanza command v.now v.now refl;
-    goes = λ r some steady sound. rests_moves stanza r (IsPart stanza command r) v v (rests_none v) refl steady some (λ g stands. ([], part_none (steps_of command r), stands, sound));
-  };
-  receipts = λ q log some begun keeps. still_spool stanza command q log s keeps;
-}
-
--- a command that only read
-module _ (stanza : Text) (command : Command) (is : command ≡ Reading) (a s d t : View) (rests : Rests a d) (same : d.now ≡ a.now) (spool : t ≡ s) where
-  read_part : RunsPart stanza Reading a s d t
-  read_part = record {
-    does = record {
-      part = nothing_done stanza Reading a.now d.now same;
-      goes = λ r some steady sound. rests_moves stanza r (IsPart stanza Reading r) a d rests same steady some (λ g stands. ([], refl, stands, sound));
-    };
-    receipts = λ q log some begun keeps. subst (λ (v : View). KeepsSpool stanza q (record { command = Reading; acknowledged = false } ∷ log) v) (sym spool) (still_spool stanza Reading q log s keeps);
-  }
-
-  read_whole : RunsWhole stanza Reading a s d t
-  read_whole = record {
-    does = record {
-      done = record { told = λ some. on_some a.now d.now same some; does = λ r some now. ([], refl, subst (λ (o : Option Content). NowStands stanza r o) (sym same) now) };
-      ends = λ r some steady sound. (steady_rests stanza r a d rests same steady, sound);
-    };
-    receipts = λ q log some begun keeps. subst (λ (v : View). KeepsSpool stanza q (record { command = Reading; acknowledged = true } ∷ log) v) (sym spool) (whole_spool q log keeps);
-  }
-    where
-      whole_spool : (q : Repository) (log : List Done) → KeepsSpool stanza q log s → KeepsSpool stanza q (record { command = Reading; acknowledged = true } ∷ log) s
-      whole_spool q log k = record { fixed = k.fixed; receipts = λ f leaves name sum fits has. let x = k.receipts f leaves name sum fits has in (x.0, (x.0, x.1, ([], refl, refl)), x.2) }
-
-  here : (reached : Reached) → Runs stanza Reading reached a s d t
-  here to_end = record { part = read_part; whole = read_whole; turned = tt }
-  here turned_back = record { part = read_part; whole = tt; turned = read_part }
-  here stopped = record { part = read_part; whole = tt; turned = tt }
-
-  pub read_runs : (reached : Reached) → Runs stanza command reached a s d t
-  read_runs reached = subst (λ (c : Command). Runs stanza c reached a s d t) (sym is) (here reached)
-
 -- nothing was done, or only was read
 pub rests_quiet : (stanza : Text) (a b : View) → Rests a b → b.now ≡ a.now → Quiet stanza a b
 rests_quiet stanza a b rests same = record {
@@ -157,43 +121,42 @@ rests_quiet stanza a b rests same = record {
 pub still_quiet : (stanza : Text) (v : View) → Quiet stanza v v
 still_quiet stanza v = rests_quiet stanza v v (rests_none v) refl
 
-pub still_mends : (stanza : Text) (v : View) → Mends stanza v v
-still_mends stanza v = record {
-  now = (still_quiet stanza v).now;
-  moves = λ r some steady. rests_moves stanza r (λ g. Stands stanza g r) v v (rests_none v) refl steady some (λ g h. h);
-  ends = λ r some steady. steady;
+-- one stage and then another
+pub quiet_then : (stanza : Text) (a b c : View) → Quiet stanza a b → Quiet stanza b c → Quiet stanza a c
+quiet_then stanza a b c first next = record {
+  now = record { told = λ some. next.now.told (first.now.told some); does = λ r some now. ([], refl, stays_at stanza b.now c.now next.now r (first.now.told some) (stays_at stanza a.now b.now first.now r some now)) };
+  keeps = λ q log some keeps. next.keeps q log (first.now.told some) (first.keeps q log some keeps);
+  between = λ q log some keeps.
+      let x = first.between q log some keeps in
+      let y = next.between q log (first.now.told some) (first.keeps q log some keeps) in
+      (past_past a b c x.0 y.0, leaves_then (StandsAfter stanza q log) a b c x.0 y.0 x.1 y.1);
 }
 
--- the folders are settled, and then the pairs are read or healed
-module _ (stanza : Text) (a b c : View) (rests : Rests a b) (same : b.now ≡ a.now) (begun : Begins stanza a b) (mends : Mends stanza b c) where
-  some_at : IsSome a.now → IsSome b.now
-  some_at some = on_some a.now b.now same some
+-- the pairs are read or healed
+module _ (stanza : Text) (a b : View) (mends : Mends stanza a b) where
+  still_after_mends : (q : Repository) (log : List Done) → KeepsRepository stanza q log a → (f g : Content) → Leaves a a.moment f → StandsStill stanza f g → StandsAfter stanza q log g
+  still_after_mends q log keeps f g at still = let s = keeps.stands f at in record { repository = s.repository; reached = s.reached; sound = s.sound; stands = still s.repository s.stands }
 
-  steady_at : (q : Repository) (log : List Done) → KeepsRepository stanza q log a → IsSome a.now → IsBegun stanza q log c
-  steady_at q log keeps some = let u = begun q log keeps some in
-      record { repository = u.repository; reached = u.reached; sound = u.sound; steady = mends.ends u.repository (some_at some) u.steady }
+  walked : (q : Repository) (log : List Done) → IsSome a.now → KeepsRepository stanza q log a → Walks stanza (StandsStill stanza) a b
+  walked q log some keeps = mends.walks (keeps_tight stanza q log a keeps) (keeps_now stanza q log a some keeps)
 
-  stands_by : (q : Repository) (log : List Done) (u : IsBegun stanza q log b) (g : Content) → Stands stanza g u.repository → StandsAfter stanza q log g
-  stands_by q log u g h = record { repository = u.repository; reached = u.reached; sound = u.sound; stands = h }
-
-  pub mended_begins : Begins stanza a c
-  mended_begins = steady_at
-
-  pub mended_quiet : Quiet stanza a c
-  mended_quiet = record {
-    now = subst (λ (o : Option Content). NowDoes stanza Reading true o c.now) same mends.now;
-    keeps = λ q log some keeps. let u = steady_at q log keeps some in
-        record { fixed = u.steady.fixed; places = u.steady.places; stands = λ f leaves. record { repository = u.repository; reached = u.reached; sound = u.sound; stands = u.steady.stands f leaves } };
-    between = λ q log some keeps.
-        let u = begun q log keeps some in
-        let m = mends.moves u.repository (some_at some) u.steady in
-        let next : Past b c = record { later = m.later; kept = m.past; loose = m.past_loose } in (
-          past_past a b c (rests_past a b rests) next,
-          leaves_then (StandsAfter stanza q log) a b c (rests_past a b rests) next
-              (λ t f lo hi leaves. keeps.stands f (leaves_back a b rests same t lo hi f leaves))
-              (λ t f lo hi leaves. stands_by q log u f (m.leaves t f lo hi leaves)),
-        );
+  pub mends_quiet : Quiet stanza a b
+  mends_quiet = record {
+    now = mends.now;
+    keeps = λ q log some keeps. let w = walked q log some keeps in
+        record { fixed = w.tight.fixed; places = w.tight.places; stands = λ g leaves. let x = w.comes b.moment g w.later (omega arith) leaves in still_after_mends q log keeps x.0 g x.1 x.2 };
+    between = λ q log some keeps. let w = walked q log some keeps in (
+      record { later = w.later; kept = w.past; loose = w.past_loose },
+      λ t g lo hi leaves. let x = w.comes t g lo hi leaves in still_after_mends q log keeps x.0 g x.1 x.2,
+    );
   }
+
+  -- a disk that is steady at one repository stays so
+  pub mends_steady : (r : Repository) → IsSome a.now → IsSteady stanza r a → IsSteady stanza r b
+  mends_steady r some steady =
+      let f = told_as a.now some in
+      let w = mends.walks (steady_tight stanza r a steady) (record { content = f.0; now = f.1; repository = r; stands = steady.stands f.0 (inl f.1) }) in
+      record { fixed = w.tight.fixed; places = w.tight.places; stands = λ g leaves. let x = w.comes b.moment g w.later (omega arith) leaves in x.2 r (steady.stands x.0 x.1) }
 
 -- the stages alone
 module _ (stanza : Text) (command : Command) (a b s : View) (quiet : Quiet stanza a b) where
@@ -211,100 +174,127 @@ module _ (stanza : Text) (command : Command) (a b s : View) (quiet : Quiet stanz
     between = λ q log some keeps. let x = quiet.between q log some keeps in (x.0, λ t f lo hi leaves. still_after stanza command q log f (x.1 t f lo hi leaves));
   }
 
-pub quiet_takes : (stanza : Text) (command : Command) (reached : Reached) (a b s : View) → (¬ (reached ≡ to_end)) → Quiet stanza a b → Takes stanza command reached a s b s
-quiet_takes stanza command to_end a b s not quiet = absurd (not refl)
-quiet_takes stanza command turned_back a b s not quiet = record { part = quiet_leads stanza command a b s quiet; between = quiet_passes stanza command a b s quiet; whole = tt; ends = tt; turned = quiet_leads stanza (turns_of command) a b s quiet }
-quiet_takes stanza command stopped a b s not quiet = record { part = quiet_leads stanza command a b s quiet; between = quiet_passes stanza command a b s quiet; whole = tt; ends = tt; turned = tt }
+pub quiet_takes : (how : Settling) (stanza : Text) (command : Command) (reached : Reached) (a b s : View) → (¬ (reached ≡ to_end)) → Quiet stanza a b → Takes how stanza command reached a s b s
+quiet_takes how stanza command to_end a b s not quiet = absurd (not refl)
+quiet_takes how stanza command turned_back a b s not quiet = record { part = quiet_leads stanza command a b s quiet; between = quiet_passes stanza command a b s quiet; whole = tt; ends = tt; turned = quiet_leads stanza (turns_of command) a b s quiet }
+quiet_takes how stanza command stopped a b s not quiet = record { part = quiet_leads stanza command a b s quiet; between = quiet_passes stanza command a b s quiet; whole = tt; ends = tt; turned = tt }
 
--- ---- the stages, and then the command's own part
+-- ---- what a command's own part leaves of a log
 
-module _ (stanza : Text) (a b : View) (quiet : Quiet stanza a b) (begun : Begins stanza a b) where
+module _ (stanza : Text) (command : Command) (q : Repository) (log : List Done) where
+  abbrev ended : Done
+  ended = record { command = command; acknowledged = true }
+
+  by_part : (r : Repository) → Reaches q log r → (g : Content) → IsPart stanza command r g → StandsAfter stanza q (undone stanza command q log ∷ log) g
+  by_part r reached g x = record { repository = after r x.0; reached = (r, reached, (x.0, refl, x.1)); sound = x.3; stands = x.2 }
+
+  by_whole : (r : Repository) → Reaches q log r → (g : Content) → IsWhole stanza command r g → StandsAfter stanza q (ended ∷ log) g
+  by_whole r reached g x = record {
+    repository = after r (all_of (steps_of command r));
+    reached = (r, reached, (all_of (steps_of command r), refl, refl));
+    sound = x.1;
+    stands = x.0;
+  }
+
+-- what is known behind the stages a to b, as the command's own part begins
+module _ (stanza : Text) (a b : View) (quiet : Quiet stanza a b) where
   told_at : IsSome a.now → IsSome b.now
   told_at some = quiet.now.told some
 
   does_on : (command : Command) (whole : Bool) (d : View) → NowDoes stanza command whole b.now d.now → NowDoes stanza command whole a.now d.now
   does_on command whole d h = record { told = λ some. h.told (told_at some); does = λ r some now. h.does r (told_at some) (stays_at stanza a.now b.now quiet.now r some now) }
 
-  module _ (command : Command) (s d t : View) (q : Repository) (log : List Done) where
-    by_part : (u : IsBegun stanza q log b) (g : Content) → IsPart stanza command u.repository g → StandsAfter stanza q (undone stanza command q log ∷ log) g
-    by_part u g x = record {
-      repository = after u.repository x.0;
-      reached = (u.repository, u.reached, (x.0, refl, x.1));
-      sound = x.3;
-      stands = x.2;
+  module _ (command : Command) (d : View) (q : Repository) (log : List Done) (some : IsSome a.now) (keeps : KeepsRepository stanza q log a) where
+    abbrev Left : Type 0
+    Left = KeepsRepository stanza q (undone stanza command q log ∷ log) d × Past b d × LeavesOnly (StandsAfter stanza q (undone stanza command q log ∷ log)) b d
+
+    looked : Begins Looked stanza a b → IsLookedAt stanza b
+    looked begun = let k = quiet.keeps q log some keeps in
+        record { tight = keeps_tight stanza q log b k; now = keeps_now stanza q log b (told_at some) k; pair = begun (keeps_tight stanza q log a keeps) some }
+
+    pub left : (how : Settling) → Begins how stanza a b → Goes how stanza command b d → Left
+    left Whole begun goes =
+        let u = begun q log keeps some in
+        let m = goes u.repository (told_at some) u.steady u.sound in (
+          record { fixed = m.fixed; places = m.places; stands = λ f leaves. by_part stanza command q log u.repository u.reached f (m.leaves d.moment f m.later (omega arith) leaves) },
+          record { later = m.later; kept = m.past; loose = m.past_loose },
+          λ w f lo hi leaves. by_part stanza command q log u.repository u.reached f (m.leaves w f lo hi leaves),
+        )
+    left Looked begun goes =
+        let w = goes (looked begun) in (
+          record { fixed = w.tight.fixed; places = w.tight.places; stands = λ g leaves. let x = w.comes d.moment g w.later (omega arith) leaves in each x.0 g x.1 x.2 },
+          record { later = w.later; kept = w.past; loose = w.past_loose },
+          λ t g lo hi leaves. let x = w.comes t g lo hi leaves in each x.0 g x.1 x.2,
+        )
+      where
+        each : (f g : Content) → Leaves b b.moment f → PartEach stanza command f g → StandsAfter stanza q (undone stanza command q log ∷ log) g
+        each f g at does = let s = (quiet.keeps q log some keeps).stands f at in by_part stanza command q log s.repository s.reached g (does s.repository s.stands s.sound)
+
+    pub left_whole : (how : Settling) → Begins how stanza a b → Goes how stanza command b d → Comes how stanza command b d → KeepsRepository stanza q (ended stanza command q log ∷ log) d
+    left_whole Whole begun goes comes =
+        let u = begun q log keeps some in
+        let x = comes u.repository (told_at some) u.steady u.sound in
+        record { fixed = x.0.fixed; places = x.0.places; stands = λ f leaves. by_whole stanza command q log u.repository u.reached f (x.0.stands f leaves, x.1) }
+    left_whole Looked begun goes comes =
+        let w = goes (looked begun) in
+        record { fixed = w.tight.fixed; places = w.tight.places; stands = λ g leaves. let x = (comes (looked begun)).comes (told_at some) g leaves in each x.0 g x.1 x.2 }
+      where
+        each : (f g : Content) → Leaves b b.moment f → WholeEach stanza command f g → StandsAfter stanza q (ended stanza command q log ∷ log) g
+        each f g at does = let s = (quiet.keeps q log some keeps).stands f at in by_whole stanza command q log s.repository s.reached g (does s.repository s.stands s.sound)
+
+-- ---- the stages, and then the command's own part
+
+module _ (how : Settling) (stanza : Text) (a b : View) (quiet : Quiet stanza a b) (begun : Begins how stanza a b) where
+  module _ (command : Command) (s d t : View) where
+    pub part_leads : RunsPart how stanza command b s d t → Leads stanza command false a s d t
+    part_leads h = record {
+      now = does_on stanza a b quiet command false d h.does.part;
+      keeps = λ q log some keeps. record {
+        repository = (left stanza a b quiet command d q log some keeps.repository how begun h.does.goes).0;
+        receipts = h.receipts q log (told_at stanza a b quiet some) (quiet.keeps q log some keeps.repository) keeps.receipts;
+      };
     }
 
-    moved : (u : IsBegun stanza q log b) → IsSome a.now → RunsPart stanza command b s d t → Moves stanza (IsPart stanza command u.repository) b d
-    moved u some h = h.does.goes u.repository (told_at some) u.steady u.sound
+    pub part_passes : RunsPart how stanza command b s d t → Passes stanza command a d
+    part_passes h = record {
+      between = λ q log some keeps.
+          let x = quiet.between q log some keeps in
+          let l = left stanza a b quiet command d q log some keeps how begun h.does.goes in (
+            past_past a b d x.0 l.1,
+            leaves_then (StandsAfter stanza q (undone stanza command q log ∷ log)) a b d x.0 l.1
+                (λ w f lo hi leaves. still_after stanza command q log f (x.1 w f lo hi leaves)) l.2,
+          );
+    }
 
-    part_kept : (u : IsBegun stanza q log b) → Moves stanza (IsPart stanza command u.repository) b d → KeepsRepository stanza q (undone stanza command q log ∷ log) d
-    part_kept u m = record { fixed = m.fixed; places = m.places; stands = λ f leaves. by_part u f (m.leaves d.moment f m.later (omega arith) leaves) }
+    pub whole_leads : RunsPart how stanza command b s d t → RunsWhole how stanza command b s d t → Leads stanza command true a s d t
+    whole_leads p h = record {
+      now = does_on stanza a b quiet command true d h.does.done;
+      keeps = λ q log some keeps. record {
+        repository = left_whole stanza a b quiet command d q log some keeps.repository how begun p.does.goes h.does.ends;
+        receipts = h.receipts q log (told_at stanza a b quiet some) (quiet.keeps q log some keeps.repository) keeps.receipts;
+      };
+    }
 
-    part_passed : IsSome a.now → KeepsRepository stanza q log a → (u : IsBegun stanza q log b) → Moves stanza (IsPart stanza command u.repository) b d → Past a d × LeavesOnly (StandsAfter stanza q (undone stanza command q log ∷ log)) a d
-    part_passed some keeps u m =
-        let x = quiet.between q log some keeps in
-        let next : Past b d = record { later = m.later; kept = m.past; loose = m.past_loose } in (
-          past_past a b d x.0 next,
-          leaves_then (StandsAfter stanza q (undone stanza command q log ∷ log)) a b d x.0 next
-              (λ w f lo hi leaves. still_after stanza command q log f (x.1 w f lo hi leaves))
-              (λ w f lo hi leaves. by_part u f (m.leaves w f lo hi leaves)),
-        )
-
-    whole_kept : (u : IsBegun stanza q log b) → IsSteady stanza (after u.repository (all_of (steps_of command u.repository))) d × IsSound (after u.repository (all_of (steps_of command u.repository))) → KeepsRepository stanza q (record { command = command; acknowledged = true } ∷ log) d
-    whole_kept u x = record {
-      fixed = x.0.fixed;
-      places = x.0.places;
-      stands = λ f leaves. record {
+whole_ends : (how : Settling) (stanza : Text) (a b : View) → Quiet stanza a b → Begins how stanza a b → (command : Command) (s d t : View) → RunsWhole how stanza command b s d t → OnWhole how (EndsAtOne stanza command a d)
+whole_ends Looked stanza a b quiet begun command s d t h = tt
+whole_ends Whole stanza a b quiet begun command s d t h = record {
+  begun = λ q log some keeps. let u = begun q log keeps some in
+      let x = h.does.ends u.repository (told_at stanza a b quiet some) u.steady u.sound in record {
         repository = after u.repository (all_of (steps_of command u.repository));
         reached = (u.repository, u.reached, (all_of (steps_of command u.repository), refl, refl));
         sound = x.1;
-        stands = x.0.stands f leaves;
+        steady = x.0;
       };
-    }
+}
 
-  module _ (command : Command) (s d t : View) where
-    pub part_leads : RunsPart stanza command b s d t → Leads stanza command false a s d t
-    part_leads h = record {
-      now = does_on command false d h.does.part;
-      keeps = λ q log some keeps. let u = begun q log keeps.repository some in record {
-        repository = part_kept command s d t q log u (moved command s d t q log u some h);
-        receipts = h.receipts q log (told_at some) u keeps.receipts;
-      };
-    }
-
-    pub part_passes : RunsPart stanza command b s d t → Passes stanza command a d
-    part_passes h = record {
-      between = λ q log some keeps. let u = begun q log keeps some in part_passed command s d t q log some keeps u (moved command s d t q log u some h);
-    }
-
-    pub whole_leads : RunsWhole stanza command b s d t → Leads stanza command true a s d t
-    whole_leads h = record {
-      now = does_on command true d h.does.done;
-      keeps = λ q log some keeps. let u = begun q log keeps.repository some in record {
-        repository = whole_kept command s d t q log u (h.does.ends u.repository (told_at some) u.steady u.sound);
-        receipts = h.receipts q log (told_at some) u keeps.receipts;
-      };
-    }
-
-    pub whole_ends : RunsWhole stanza command b s d t → EndsAtOne stanza command a d
-    whole_ends h = record {
-      begun = λ q log some keeps. let u = begun q log keeps some in
-          let x = h.does.ends u.repository (told_at some) u.steady u.sound in record {
-            repository = after u.repository (all_of (steps_of command u.repository));
-            reached = (u.repository, u.reached, (all_of (steps_of command u.repository), refl, refl));
-            sound = x.1;
-            steady = x.0;
-          };
-    }
-
-  pub begun_takes : (command : Command) (reached : Reached) (s d t : View) → Runs stanza command reached b s d t → Takes stanza command reached a s d t
-  begun_takes command reached s d t h = record {
-    part = part_leads command s d t h.part;
-    between = part_passes command s d t h.part;
-    whole = all_as reached _ _ (whole_leads command s d t) h.whole;
-    ends = all_as reached _ _ (whole_ends command s d t) h.whole;
-    turned = none_as reached _ _ (part_leads (turns_of command) s d t) h.turned;
-  }
+pub begun_takes : (how : Settling) (stanza : Text) (a b : View) → Quiet stanza a b → Begins how stanza a b → (command : Command) (reached : Reached) (s d t : View) → Runs how stanza command reached b s d t → Takes how stanza command reached a s d t
+begun_takes how stanza a b quiet begun command reached s d t h = record {
+  part = part_leads how stanza a b quiet begun command s d t h.part;
+  between = part_passes how stanza a b quiet begun command s d t h.part;
+  whole = all_as reached _ _ (whole_leads how stanza a b quiet begun command s d t h.part) h.whole;
+  ends = all_as reached _ _ (whole_ends how stanza a b quiet begun command s d t) h.whole;
+  turned = none_as reached _ _ (part_leads how stanza a b quiet begun (turns_of command) s d t) h.turned;
+}
 
 -- ---- places are opened, and then all that
 
@@ -319,8 +309,12 @@ module _ (stanza : Text) (a b s t : View) (rests : Rests a b) (same : b.now ≡ 
   ends_on : (command : Command) (d : View) → EndsAtOne stanza command b d → EndsAtOne stanza command a d
   ends_on command d h = record { begun = λ q log some keeps. h.begun q log (on_some a.now b.now same some) (rests_still stanza q log a b rests same keeps) }
 
-  pub opened_takes : (command : Command) (reached : Reached) (d e : View) → Takes stanza command reached b t d e → Takes stanza command reached a s d e
-  opened_takes command reached d e h = record {
+  one_on : (how : Settling) (command : Command) (d : View) → OnWhole how (EndsAtOne stanza command b d) → OnWhole how (EndsAtOne stanza command a d)
+  one_on Whole command d h = ends_on command d h
+  one_on Looked command d h = tt
+
+  pub opened_takes : (how : Settling) (command : Command) (reached : Reached) (d e : View) → Takes how stanza command reached b t d e → Takes how stanza command reached a s d e
+  opened_takes how command reached d e h = record {
     part = leads_on command false d e h.part;
     between = record {
       between = λ q log some keeps.
@@ -331,7 +325,7 @@ module _ (stanza : Text) (a b s t : View) (rests : Rests a b) (same : b.now ≡ 
           );
     };
     whole = all_as reached _ _ (leads_on command true d e) h.whole;
-    ends = all_as reached _ _ (ends_on command d) h.ends;
+    ends = all_as reached _ _ (one_on how command d) h.ends;
     turned = none_as reached _ _ (leads_on (turns_of command) false d e) h.turned;
   }
 
@@ -340,14 +334,14 @@ module _ (stanza : Text) (a b s t : View) (rests : Rests a b) (same : b.now ≡ 
 pub reading_spool : (stanza : Text) (q : Repository) (log : List Done) (s : View) → KeepsSpool stanza q log s → KeepsSpool stanza q (record { command = Reading; acknowledged = true } ∷ log) s
 reading_spool stanza q log s k = record { fixed = k.fixed; receipts = λ f leaves name sum fits has. let x = k.receipts f leaves name sum fits has in (x.0, (x.0, x.1, ([], refl, refl)), x.2) }
 
-runs_part : (stanza : Text) (command : Command) (a d s : View) → DoesPart stanza command a d → RunsPart stanza command a s d s
-runs_part stanza command a d s h = record { does = h; receipts = λ q log some begun keeps. still_spool stanza command q log s keeps }
+runs_part : (how : Settling) (stanza : Text) (command : Command) (a d s : View) → DoesPart how stanza command a d → RunsPart how stanza command a s d s
+runs_part how stanza command a d s h = record { does = h; receipts = λ q log some begun keeps. still_spool stanza command q log s keeps }
 
 -- a command that leaves the spool as it is, and whose steps keep what drains have stored
-pub does_runs : (stanza : Text) (command : Command) (reached : Reached) (a d s : View) → ((q : Repository) (log : List Done) → KeepsSpool stanza q log s → KeepsSpool stanza q (record { command = command; acknowledged = true } ∷ log) s) →
-    Does stanza command reached a d → Runs stanza command reached a s d s
-does_runs stanza command reached a d s keeps h = record {
-  part = runs_part stanza command a d s h.part;
+pub does_runs : (how : Settling) (stanza : Text) (command : Command) (reached : Reached) (a d s : View) → ((q : Repository) (log : List Done) → KeepsSpool stanza q log s → KeepsSpool stanza q (record { command = command; acknowledged = true } ∷ log) s) →
+    Does how stanza command reached a d → Runs how stanza command reached a s d s
+does_runs how stanza command reached a d s keeps h = record {
+  part = runs_part how stanza command a d s h.part;
   whole = all_as reached _ _ (λ w. record { does = w; receipts = λ q log some begun k. keeps q log k }) h.whole;
-  turned = none_as reached _ _ (runs_part stanza (turns_of command) a d s) h.turned;
+  turned = none_as reached _ _ (runs_part how stanza (turns_of command) a d s) h.turned;
 }

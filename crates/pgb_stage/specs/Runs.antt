@@ -1,7 +1,8 @@
--- What a command's own part does to the repository and the spool, from a steady disk on, and what the whole command then does.
-use Rattle.std.specs.Prelude.{◌≡◌, ◌≤◌, ℕ, Bool, true, false, List, ◌∷◌, IsSome}
+-- What a command's own part does to the repository and the spool, and what the whole command then does.
+use Rattle.std.specs.Prelude.{◌≡◌, ◌≤◌, ℕ, Bool, true, false, List, ◌∷◌, Some, IsSome}
 use Rattle.pgb_outside.specs.Content.{Content, Name, Value}
 use Rattle.pgb_outside.specs.Moments.{View}
+use Rattle.pgb_outside.specs.Crash.{Leaves, Ends}
 use Rattle.pgb_model.specs.Text.{Text}
 use Rattle.pgb_model.specs.Repository.{Repository, IsSound}
 use Rattle.pgb_model.specs.Stands.{Stands}
@@ -9,6 +10,11 @@ use Rattle.pgb_model.specs.Steps.{Step, Command, ArchivePushAsync, MakeBackup, R
 use Rattle.pgb_model.specs.Log.{Done, StandsAfter, KeepsRepository, KeepsSpool}
 use Rattle.pgb_model.specs.Steady.{IsSteady, IsBegun, Moves, LeavesOnly, KeepsOn}
 use Rattle.pgb_model.specs.Now.{NowDoes}
+use Rattle.pgb_model.specs.Values.{ArchiveInfo}
+use Rattle.pgb_model.specs.Walks.{IsTight, Walks, StandsNow, StandsStill}
+use Rattle.pgb_stage.specs.declared.plan.Settling.{Settling}
+use Rattle.pgb_stage.specs.declared.plan.Settling.TheVariants.{Whole, Looked}
+use Rattle.pgb_stage.specs.Current.{HasValue}
 
 -- how far a command came: to its end, or it was refused before its own first step, or it stopped somewhere
 pub data Reached : Type 0 where
@@ -34,46 +40,78 @@ turns_of other = Reading
 abbrev pub IsPart : Text → Command → Repository → Content → Type 0
 IsPart stanza command r g = (done : List Step) × IsPartOf done (steps_of command r) × Stands stanza g (after r done) × IsSound (after r done)
 
--- ---- from a steady disk: the repository
+-- ---- where names were settled before
+
+-- whatever sound repository f stands for, g stands for a sound one after a part of the command's steps
+abbrev pub PartEach : Text → Command → Content → Content → Type 0
+PartEach stanza command f g = (r : Repository) → Stands stanza f r → IsSound r → IsPart stanza command r g
+
+-- g stands for a sound repository, r after all of the command's steps
+abbrev pub IsWhole : Text → Command → Repository → Content → Type 0
+IsWhole stanza command r g = Stands stanza g (after r (all_of (steps_of command r))) × IsSound (after r (all_of (steps_of command r)))
+
+abbrev pub WholeEach : Text → Command → Content → Content → Type 0
+WholeEach stanza command f g = (r : Repository) → Stands stanza f r → IsSound r → IsWhole stanza command r g
+
+-- all that a crash leaves has the value of the archive pair that the disk has
+abbrev pub PairAlike : Text → View → Type 0
+PairAlike stanza v = (f g : Content) (x : ArchiveInfo) → v.now ≡ Some f → Leaves v v.moment g → HasValue stanza f x → HasValue stanza g x
+
+-- What a command begins from that settles what it looks at alone: no name that is looked at is loose, the disk stands for a repository, and all that a crash leaves has its archive pair.
+pub record IsLookedAt (stanza : Text) (v : View) : Type 0 where
+  pub tight : IsTight stanza v
+  pub now : StandsNow stanza v
+  pub pair : PairAlike stanza v
+
+-- At each moment all that may be left comes by a part of the command: from the one repository, or each from what might have been left before.
+abbrev pub Goes : Settling → Text → Command → View → View → Type 0
+Goes Whole stanza command repo new_repo = (r : Repository) → IsSome repo.now → IsSteady stanza r repo → IsSound r → Moves stanza (IsPart stanza command r) repo new_repo
+Goes Looked stanza command repo new_repo = IsLookedAt stanza repo → Walks stanza (PartEach stanza command) repo new_repo
+
+-- at the end it comes by all of the command
+abbrev pub Comes : Settling → Text → Command → View → View → Type 0
+Comes Whole stanza command repo new_repo =
+    (r : Repository) → IsSome repo.now → IsSteady stanza r repo → IsSound r → IsSteady stanza (after r (all_of (steps_of command r))) new_repo × IsSound (after r (all_of (steps_of command r)))
+Comes Looked stanza command repo new_repo = IsLookedAt stanza repo → Ends (WholeEach stanza command) repo new_repo
 
 -- a part of the command, at each moment
-pub record DoesPart (stanza : Text) (command : Command) (repo new_repo : View) : Type 0 where
+pub record DoesPart (how : Settling) (stanza : Text) (command : Command) (repo new_repo : View) : Type 0 where
   pub part : NowDoes stanza command false repo.now new_repo.now
-  pub goes : (r : Repository) → IsSome repo.now → IsSteady stanza r repo → IsSound r → Moves stanza (IsPart stanza command r) repo new_repo
+  pub goes : Goes how stanza command repo new_repo
 
 -- all of it
-pub record DoesWhole (stanza : Text) (command : Command) (repo new_repo : View) : Type 0 where
+pub record DoesWhole (how : Settling) (stanza : Text) (command : Command) (repo new_repo : View) : Type 0 where
   pub done : NowDoes stanza command true repo.now new_repo.now
-  pub ends : (r : Repository) → IsSome repo.now → IsSteady stanza r repo → IsSound r → IsSteady stanza (after r (all_of (steps_of command r))) new_repo × IsSound (after r (all_of (steps_of command r)))
+  pub ends : Comes how stanza command repo new_repo
 
 -- What a command's own part does to the repository: a part of its steps; all of them where it comes to its end; and none but its turns where it is refused before its first step.
-pub record Does (stanza : Text) (command : Command) (reached : Reached) (repo new_repo : View) : Type 0 where
-  pub part : DoesPart stanza command repo new_repo
-  pub whole : OnAll reached (DoesWhole stanza command repo new_repo)
-  pub turned : OnNone reached (DoesPart stanza (turns_of command) repo new_repo)
+pub record Does (how : Settling) (stanza : Text) (command : Command) (reached : Reached) (repo new_repo : View) : Type 0 where
+  pub part : DoesPart how stanza command repo new_repo
+  pub whole : OnAll reached (DoesWhole how stanza command repo new_repo)
+  pub turned : OnNone reached (DoesPart how stanza (turns_of command) repo new_repo)
 
--- ---- from a steady disk: the spool too
+-- ---- the spool too
 
 -- the receipts go on to those of the log with the command
 abbrev pub SpoolGoes : Text → Command → Bool → View → View → View → Type 0
 SpoolGoes stanza command whole repo spool new_spool =
-    (q : Repository) (log : List Done) → IsSome repo.now → IsBegun stanza q log repo → KeepsSpool stanza q log spool → KeepsSpool stanza q (record { command = command; acknowledged = whole } ∷ log) new_spool
+    (q : Repository) (log : List Done) → IsSome repo.now → KeepsRepository stanza q log repo → KeepsSpool stanza q log spool → KeepsSpool stanza q (record { command = command; acknowledged = whole } ∷ log) new_spool
 
 -- a part of the command, at each moment
-pub record RunsPart (stanza : Text) (command : Command) (repo spool new_repo new_spool : View) : Type 0 where
-  pub does : DoesPart stanza command repo new_repo
+pub record RunsPart (how : Settling) (stanza : Text) (command : Command) (repo spool new_repo new_spool : View) : Type 0 where
+  pub does : DoesPart how stanza command repo new_repo
   pub receipts : SpoolGoes stanza command false repo spool new_spool
 
 -- all of it
-pub record RunsWhole (stanza : Text) (command : Command) (repo spool new_repo new_spool : View) : Type 0 where
-  pub does : DoesWhole stanza command repo new_repo
+pub record RunsWhole (how : Settling) (stanza : Text) (command : Command) (repo spool new_repo new_spool : View) : Type 0 where
+  pub does : DoesWhole how stanza command repo new_repo
   pub receipts : SpoolGoes stanza command true repo spool new_spool
 
 -- What a command's own part does: a part of its steps; all of them where it comes to its end; and none but its turns where it is refused.
-pub record Runs (stanza : Text) (command : Command) (reached : Reached) (repo spool new_repo new_spool : View) : Type 0 where
-  pub part : RunsPart stanza command repo spool new_repo new_spool
-  pub whole : OnAll reached (RunsWhole stanza command repo spool new_repo new_spool)
-  pub turned : OnNone reached (RunsPart stanza (turns_of command) repo spool new_repo new_spool)
+pub record Runs (how : Settling) (stanza : Text) (command : Command) (reached : Reached) (repo spool new_repo new_spool : View) : Type 0 where
+  pub part : RunsPart how stanza command repo spool new_repo new_spool
+  pub whole : OnAll reached (RunsWhole how stanza command repo spool new_repo new_spool)
+  pub turned : OnNone reached (RunsPart how stanza (turns_of command) repo spool new_repo new_spool)
 
 -- ---- from any disk
 
@@ -96,12 +134,17 @@ pub record Leads (stanza : Text) (command : Command) (whole : Bool) (repo spool 
 pub record EndsAtOne (stanza : Text) (command : Command) (old new : View) : Type 0 where
   pub begun : (q : Repository) (log : List Done) → IsSome old.now → KeepsRepository stanza q log old → IsBegun stanza q (record { command = command; acknowledged = true } ∷ log) new
 
+-- this holds where the whole stanza was settled
+abbrev pub OnWhole : Settling → Type 0 → Type 0
+OnWhole Whole P = P
+OnWhole Looked P = Unit {0}
+
 -- What a command does: a part of its steps after every answer and at each moment, all of them where it came to its end, and none but its turns where it was refused.
-pub record Takes (stanza : Text) (command : Command) (reached : Reached) (repo spool new_repo new_spool : View) : Type 0 where
+pub record Takes (how : Settling) (stanza : Text) (command : Command) (reached : Reached) (repo spool new_repo new_spool : View) : Type 0 where
   pub part : Leads stanza command false repo spool new_repo new_spool
   pub between : Passes stanza command repo new_repo
   pub whole : OnAll reached (Leads stanza command true repo spool new_repo new_spool)
-  pub ends : OnAll reached (EndsAtOne stanza command repo new_repo)
+  pub ends : OnAll reached (OnWhole how (EndsAtOne stanza command repo new_repo))
   pub turned : OnNone reached (Leads stanza (turns_of command) false repo spool new_repo new_spool)
 
 -- ---- the stages before a command
@@ -112,15 +155,15 @@ pub record Quiet (stanza : Text) (old new : View) : Type 0 where
   pub keeps : (q : Repository) (log : List Done) → IsSome old.now → KeepsRepository stanza q log old → KeepsRepository stanza q log new
   pub between : (q : Repository) (log : List Done) → IsSome old.now → KeepsRepository stanza q log old → Past old new × LeavesOnly (StandsAfter stanza q log) old new
 
--- what the reading or healing of the pairs does to a steady disk: at each moment all that may be left stands for its repository
+-- What the reading or healing of the pairs does: whatever each content that may be left came from stood for, it stands for it.
 pub record Mends (stanza : Text) (old new : View) : Type 0 where
   pub now : NowDoes stanza Reading true old.now new.now
-  pub moves : (r : Repository) → IsSome old.now → IsSteady stanza r old → Moves stanza (λ g. Stands stanza g r) old new
-  pub ends : (r : Repository) → IsSome old.now → IsSteady stanza r old → IsSteady stanza r new
+  pub walks : IsTight stanza old → StandsNow stanza old → Walks stanza (StandsStill stanza) old new
 
--- behind them the disk is steady
-abbrev pub Begins : Text → View → View → Type 0
-Begins stanza old new = (q : Repository) (log : List Done) → KeepsRepository stanza q log old → IsSome old.now → IsBegun stanza q log new
+-- What a command's own part can begin from, behind the stages: a disk that is steady at one repository, or one of which all that a crash leaves has the same archive pair.
+abbrev pub Begins : Settling → Text → View → View → Type 0
+Begins Whole stanza old new = (q : Repository) (log : List Done) → KeepsRepository stanza q log old → IsSome old.now → IsBegun stanza q log new
+Begins Looked stanza old new = IsTight stanza old → IsSome old.now → PairAlike stanza new
 
 -- ---- which command
 

@@ -14,7 +14,7 @@ pub use fault::{ControlFile, StageFault, Unbuilt};
 pub use halt::{Halt, halted};
 pub use object::Object;
 pub use outcome::Outcome;
-pub use plan::{Pairs, Plan};
+pub use plan::{Pairs, Plan, Settling};
 pub use reading::read_front;
 pub use texts::{
     bytes_of, damaged_text, long_text, mismatch_text, object_message, object_status, push_shown,

@@ -9,9 +9,19 @@ pub enum Pairs {
     ReadBoth,
 }
 
-/// What a command needs: the data folder opened, locks taken, the control file read, the pairs read or healed.
+/// Which names a crash can no longer take back as a command's own part begins.
+#[derive(Clone, Copy, Debug, PartialEq, Eq)]
+pub enum Settling {
+    /// Those of all the stanza's folders, so that all that is left stands for one repository.
+    Whole,
+    /// Those that are looked at, each folder before the look.
+    Looked,
+}
+
+/// What a command needs: the data folder opened, locks taken, names settled, the control file read, the pairs read or healed.
 #[derive(Clone, Copy, Debug, PartialEq, Eq)]
 pub struct Plan {
+    pub settling: Settling,
     pub folder: bool,
     pub backup_lock: bool,
     pub archive_lock: bool,

@@ -58,8 +58,16 @@ impl Disk for Vanishing {
         self.other.remove(name)
     }
 
+    fn sync_below(&mut self, folder: &str) -> Result<(), Stop> {
+        self.other.sync_below(folder)
+    }
+
     fn settle(&mut self, folder: &str) -> Result<(), Stop> {
         self.other.settle(folder)
+    }
+
+    fn settle_in(&mut self, folder: &str) -> Result<(), Stop> {
+        self.other.settle_in(folder)
     }
 }
 
