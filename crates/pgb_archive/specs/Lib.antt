@@ -2,7 +2,6 @@ pub mod Stored
 pub mod Causes
 pub mod Still
 pub mod Pieces
-pub mod Pushing
 pub mod Fault
 pub mod Paths
 pub mod Listing
@@ -11,3 +10,4 @@ pub mod Turns
 pub mod OnePush
 pub mod Ends
 pub mod Pushes
+pub mod Pushing

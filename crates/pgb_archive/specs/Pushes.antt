@@ -1,10 +1,10 @@
 -- What a push leaves, image by image.
-use Rattle.std.specs.Prelude.{◌≡◌, ◌∷◌, [], List, map, Some, IsSome}
+use Rattle.std.specs.Prelude.{◌≡◌, ◌∷◌, [], List, map, Option, Some, IfSome, IsSome}
 use Rattle.sha1.specs.Sha1.{sha1}
 use Rattle.pgb_text.specs.Sum.{IsSum}
 use Rattle.pgb_outside.specs.Content.{Content}
 use Rattle.pgb_outside.specs.Moments.{View}
-use Rattle.pgb_outside.specs.Crash.{Write, Ends, NowGoes}
+use Rattle.pgb_outside.specs.Crash.{Write, Ends, NowGoes, FirstOf, IsAlikeAt}
 use Rattle.pgb_model.specs.declared.wal.ArchiveId.{ArchiveId}
 use Rattle.pgb_model.specs.declared.wal.ArchiveName.{ArchiveName}
 use Rattle.pgb_model.specs.Text.{Text}
@@ -12,7 +12,7 @@ use Rattle.pgb_model.specs.Repository.{Stanza}
 use Rattle.pgb_model.specs.Stands.{Stands, HasStanza}
 use Rattle.pgb_model.specs.Steps.{Step, One, IsPartOf, after, after_all, push_of}
 use Rattle.pgb_model.specs.Walks.{IsTight, Walks}
-use Rattle.pgb_archive.specs.Stored.{archived_file, archive_path}
+use Rattle.pgb_archive.specs.Stored.{archived_file, archive_path, ChangesArchive}
 
 -- the name is the file's, with some sum
 abbrev pub IsPathOf : Text → ArchiveId → ArchiveName → Text → Type 0
@@ -40,3 +40,14 @@ pub record LeavesPart (stanza : Text) (id : ArchiveId) (name : ArchiveName) (byt
 pub record LeavesAll (stanza : Text) (id : ArchiveId) (name : ArchiveName) (bytes : Text) (old new : View) : Type 0 where
   pub now : NowGoes (PushesAll stanza id name bytes) old.now new.now
   pub ends : IsTight stanza old → IsSome old.now → Ends (PushesAll stanza id name bytes) old new
+
+-- What a push leaves after every answer: of its file a part or all, where the bytes are known. Only the file's path and temporary names change, none outside the stanza's folder of the archive.
+pub record Leaves (stanza : Text) (id : ArchiveId) (name : ArchiveName) (known : Option Text) (old new : View) : Type 0 where
+  pub part : IfSome known (λ bytes. LeavesPart stanza id name bytes old new)
+  pub writes : (bytes : Text) × IfSome known (λ b. b ≡ bytes) × NowGoes (FirstOf (writes_of stanza id name bytes)) old.now new.now
+  pub only : ChangesArchive stanza old new
+
+-- What it leaves at Ok: the file, and alike in all that a stop leaves.
+pub record LeavesFile (stanza : Text) (id : ArchiveId) (name : ArchiveName) (known : Option Text) (old new : View) : Type 0 where
+  pub all : IfSome known (λ bytes. LeavesAll stanza id name bytes old new)
+  pub alike : IsTight stanza old → IsSome old.now → IsAlikeAt (IsPathOf stanza id name) new
