@@ -190,6 +190,10 @@ module _ (stanza : Text) (command : Command) (q : Repository) (log : List Done) 
     stands = x.0;
   }
 
+pub looked_at : (stanza : Text) (a b : View) → Quiet stanza a b → Begins Looked stanza a b → (q : Repository) (log : List Done) → IsSome a.now → KeepsRepository stanza q log a → IsLookedAt stanza b
+looked_at stanza a b quiet begun q log some keeps = let k = quiet.keeps q log some keeps in
+    record { tight = keeps_tight stanza q log b k; now = keeps_now stanza q log b (quiet.now.told some) k; pair = begun (keeps_tight stanza q log a keeps) some }
+
 -- what is known behind the stages a to b, as the command's own part begins
 module _ (stanza : Text) (a b : View) (quiet : Quiet stanza a b) where
   told_at : IsSome a.now → IsSome b.now
@@ -203,8 +207,7 @@ module _ (stanza : Text) (a b : View) (quiet : Quiet stanza a b) where
     Left = KeepsRepository stanza q (undone stanza command q log ∷ log) d × Past b d × LeavesOnly (StandsAfter stanza q (undone stanza command q log ∷ log)) b d
 
     looked : Begins Looked stanza a b → IsLookedAt stanza b
-    looked begun = let k = quiet.keeps q log some keeps in
-        record { tight = keeps_tight stanza q log b k; now = keeps_now stanza q log b (told_at some) k; pair = begun (keeps_tight stanza q log a keeps) some }
+    looked begun = looked_at stanza a b quiet begun q log some keeps
 
     pub left : (how : Settling) → Begins how stanza a b → Goes how stanza command b d → Left
     left Whole begun goes =
