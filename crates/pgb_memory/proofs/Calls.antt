@@ -1,10 +1,10 @@
 -- How time goes on in each call.
 use Rattle.std.proofs.Common.{◌≡◌, ◌⊎◌, inl, inr, ⊎_elim, ℕ, Bool, true, false, cond, ◌||◌, ◌&&◌, not, List, [], ◌∷◌, ◌++◌, length, Some, None, refl, sym, ◌∙◌, ap, subst, arith}
-use Rattle.std.specs.Prelude.{IsTrue}
-use Rattle.pgb_outside.specs.Content.{Name, Value, set_at, Holds, is_below}
+use Rattle.std.specs.Prelude.{IsTrue, is_some}
+use Rattle.pgb_outside.specs.Content.{Name, Value, set_at, Holds}
 use Rattle.pgb_outside.specs.Moments.{Goes}
 use Rattle.pgb_memory.specs.declared.change.Change.{Change}
-use Rattle.pgb_memory.specs.State.{State, after, Among, view_at, kept_at, loose_at, Adds, begun, appended, loosened, synced, renamed, removed, settled}
+use Rattle.pgb_memory.specs.State.{State, after, Among, view_at, kept_at, loose_at, Adds, begun, appended, loosened, synced, renamed, removed, settled, all_synced}
 use Rattle.pgb_memory.specs.Fair.{IsFair, set_cases, among_push, set_mark, more_kept}
 use Rattle.pgb_memory.proofs.Time.{goes_adds, whole}
 
@@ -71,10 +71,25 @@ not_loose true false h l = cc
 not_loose false b h l = cc
 
 module _ (first : State) (cs ds : List Change) (fair : IsFair (after first cs)) where
-  pub goes_settled : (folder : Name) → Adds first (settled folder) cs ds → Goes (λ _ _. ⊥) (λ _. ⊥) (view_at first cs) (view_at first ds)
-  goes_settled folder adds = let s = after first cs in goes_adds first cs ds (settled folder) (λ _ _. ⊥) (λ _. ⊥) adds
+  pub goes_settled : (these : Name → Bool) → Adds first (settled these) cs ds → Goes (λ _ _. ⊥) (λ _. ⊥) (view_at first cs) (view_at first ds)
+  goes_settled these adds = let s = after first cs in goes_adds first cs ds (settled these) (λ _ _. ⊥) (λ _. ⊥) adds
       (λ q v had. ⊎_elim
-      (λ h. ⊎_elim (λ l. absurd (not_loose (is_below folder q) (s.loose q) h.0 l)) (λ a. inl (subst (λ (x : Value). Among x (s.kept q)) (sym h.1) a)) (fair q))
+      (λ h. ⊎_elim (λ l. absurd (not_loose (these q) (s.loose q) h.0 l)) (λ a. inl (subst (λ (x : Value). Among x (s.kept q)) (sym h.1) a)) (fair q))
       (λ old. inl old)
-      (among_settled (is_below folder q && not (s.loose q)) (s.now q) v (s.kept q) had))
+      (among_settled (these q && not (s.loose q)) (s.now q) v (s.kept q) had))
       (λ q is. inl is)
+
+among_synced : (a b : Bool) (now v : Value) (kept : List Value) → Among v (cond (a && b) (kept ++ now ∷ []) kept) → Among v kept ⊎ ((a ≡ true) × (v ≡ now))
+among_synced true true now v kept had = ⊎_elim (λ h. inl h) (λ h. inr (refl, h)) (among_push v kept now had)
+among_synced true false now v kept had = inl had
+among_synced false b now v kept had = inl had
+
+still_loose : (b loose : Bool) → cond b false loose ≡ true → loose ≡ true
+still_loose true loose is = cc
+still_loose false loose is = is
+
+module _ (first : State) (cs ds : List Change) where
+  pub goes_all_synced : (these : Name → Bool) → Adds first (all_synced these) cs ds → Goes (λ q v. IsTrue (these q) × Holds (Some (after first cs).now) q v) (λ q. IsTrue (these q)) (view_at first cs) (view_at first ds)
+  goes_all_synced these adds = let s = after first cs in goes_adds first cs ds (all_synced these) (λ q v. IsTrue (these q) × Holds (Some s.now) q v) (λ q. IsTrue (these q)) adds
+      (λ q v had. among_synced (these q) (s.loose q && is_some (s.now q)) (s.now q) v (s.kept q) had)
+      (λ q is. inl (still_loose (these q && (s.loose q && is_some (s.now q))) (s.loose q) is))

@@ -1,14 +1,15 @@
 -- What a stop leaves is an image of the disk.
 use Rattle.std.proofs.Common.{◌≡◌, ◌⊎◌, inl, inr, ◌<◌, ◌-◌, ℕ, zero, suc, Bool, true, false, cond, ◌&&◌, not, ⊎_elim, bytes_eq, List, [], ◌∷◌, ◌++◌, length, Option, Some, None, IsSome, String, Vec, refl, sym, ◌∙◌, ap, subst, arith, length-append, get_or, take, Result, Ok, Err, string_bytes}
-use Rattle.std.specs.Prelude.{IsTrue, nat_lt, ◌↔◌, IfOk, OnOk, map, Contains}
+use Rattle.std.specs.Prelude.{IsTrue, is_some, nat_lt, ◌↔◌, IfOk, OnOk, map, Contains}
 use Rattle.std.specs.declared.alloc.Global.{Global}
 use Rattle.std.proofs.Math.Path.{fun_ext}
 use Rattle.std.proofs.lemmas.Bool.Decides.{nat_tests}
-use Rattle.pgb_outside.specs.Content.{Name, Value, Content, set_at, is_below}
+use Rattle.pgb_outside.specs.Content.{Name, Value, Content, set_at}
 use Rattle.pgb_outside.specs.Moments.{IsImage}
 use Rattle.pgb_memory.specs.declared.change.Change.{Change}
-use Rattle.pgb_memory.specs.declared.change.Change.TheVariants.{Begun, Appended, Loosened, Synced, Renamed, Removed, Settled}
-use Rattle.pgb_memory.specs.State.{State, step, after, first_state, state_at, Among, view_at, given_at}
+use Rattle.pgb_memory.specs.declared.change.Change.TheVariants.{Begun, Appended, Loosened, Synced, Renamed, Removed, Swept}
+use Rattle.pgb_memory.specs.declared.change.Sweep.TheVariants.{Settle, SettleIn, Sync}
+use Rattle.pgb_memory.specs.State.{State, step, after, first_state, state_at, Among, view_at, given_at, takes_in}
 use Rattle.pgb_memory.specs.Replay.{NameStates, states_of, value_of}
 use Rattle.pgb_memory.specs.Image.{picked, left_of, left_value, positions_at, image_of, are_loose, are_kept}
 use Rattle.pgb_memory.proofs.Left.{given_loose, position_kept}
@@ -41,7 +42,9 @@ step_full (Renamed from to) s full =
     let b = string_bytes to in
     set_full b (s.kept b) (s.now a) (set_at a (s.kept a ++ None ∷ []) s.kept) (set_full a (s.kept a) None s.kept full)
 step_full (Removed name) s full = let n = string_bytes name in set_full n (s.kept n) None s.kept full
-step_full (Settled folder) s full = λ q. full_cond (is_below (string_bytes folder) q && not (s.loose q)) (s.now q ∷ []) (s.kept q) (omega arith) (full q)
+step_full (Swept Settle folder) s full = λ q. full_cond (takes_in Settle (string_bytes folder) q && not (s.loose q)) (s.now q ∷ []) (s.kept q) (omega arith) (full q)
+step_full (Swept SettleIn folder) s full = λ q. full_cond (takes_in SettleIn (string_bytes folder) q && not (s.loose q)) (s.now q ∷ []) (s.kept q) (omega arith) (full q)
+step_full (Swept Sync folder) s full = λ q. full_cond (takes_in Sync (string_bytes folder) q && (s.loose q && is_some (s.now q))) (s.kept q ++ s.now q ∷ []) (s.kept q) (more_full (s.kept q) (s.now q)) (full q)
 
 after_full : (cs : List Change) (s : State) → IsFull s → IsFull (after s cs)
 after_full [] s full = full

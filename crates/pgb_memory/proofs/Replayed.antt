@@ -1,6 +1,6 @@
 -- The disk model name by name, against the model as a whole.
 use Rattle.std.proofs.Common.{◌≡◌, ◌+◌, ◌<◌, length, take, get_or, Result, ℕ, Bool, true, false, cond, ◌&&◌, ◌||◌, not, List, [], ◌∷◌, ◌++◌, Option, Some, None, String, string_bytes, bytes_eq, refl, sym, ◌∙◌, ap, arith}
-use Rattle.std.specs.Prelude.{OnOk, fold, filter, map, option_map}
+use Rattle.std.specs.Prelude.{OnOk, fold, filter, map, option_map, is_some}
 use Rattle.std.specs.List.{list_any}
 use Rattle.std.proofs.lemmas.Result.{on_ok_weaker}
 use Rattle.std.specs.declared.alloc.Global.{Global}
@@ -12,12 +12,14 @@ use Rattle.std.proofs.Math.Path.{fun_ext}
 use Rattle.std.proofs.lemmas.List.Sums.{fold_more}
 use Rattle.std.proofs.lemmas.Grind.{common_steps}
 use Rattle.std.proofs.lemmas.Slice.Eq.{bytes_eq-Decides}
-use Rattle.pgb_outside.specs.Content.{Name, Value, Content, set_at, put, is_below}
+use Rattle.pgb_outside.specs.Content.{Name, Value, Content, set_at, put}
 use Rattle.pgb_memory.specs.declared.change.Change.{Change}
-use Rattle.pgb_memory.specs.declared.change.Change.TheVariants.{Begun, Appended, Loosened, Synced, Renamed, Removed, Settled}
+use Rattle.pgb_memory.specs.declared.change.Change.TheVariants.{Begun, Appended, Loosened, Synced, Renamed, Removed, Swept}
+use Rattle.pgb_memory.specs.declared.change.Sweep.{Sweep}
+use Rattle.pgb_memory.specs.declared.change.Sweep.TheVariants.{Settle, SettleIn, Sync}
 use Rattle.pgb_memory.specs.declared.trace.Trace.{Trace}
-use Rattle.pgb_memory.specs.State.{State, step, after, first_state, given_at}
-use Rattle.pgb_memory.specs.Replay.{NameState, NameStates, first_at, begun_at, appended_at, loosened_at, synced_at, removed_at, arrived_at, settled_at, changed_at, renamed_at, settled_below, settled_names, names_under, step_at, states_of, state_of_trace, found_state, states_in}
+use Rattle.pgb_memory.specs.State.{State, step, after, first_state, given_at, takes_in}
+use Rattle.pgb_memory.specs.Replay.{NameState, NameStates, first_at, begun_at, appended_at, loosened_at, synced_at, removed_at, arrived_at, settled_at, all_synced_at, swept_at, changed_at, renamed_at, swept_names, each_swept, names_under, step_at, states_of, state_of_trace, found_state, states_in}
 use Rattle.pgb_memory.proofs.Maps.{shown_at, shown_put, shown_set}
 use Rattle.pgb_memory.proofs.Found.{none_found}
 use Rattle.pgb_memory.proofs.Given.{Given, given_more}
@@ -111,6 +113,14 @@ settled_case now kept true true = refl
 settled_case now kept true false = refl
 settled_case now kept false loose = refl
 
+all_synced_case : (now : Value) (kept : List Value) (b loose has : Bool) → is_some now ≡ has
+    → record { now = now; kept = cond (b && (loose && has)) (kept ++ now ∷ []) kept; loose = cond (b && (loose && has)) false loose }
+    ≡ cond b (cond (loose && has) (synced_at (record { now = now; kept = kept; loose = loose })) (record { now = now; kept = kept; loose = loose })) (record { now = now; kept = kept; loose = loose })
+all_synced_case now kept true true true is = refl
+all_synced_case now kept true true false is = refl
+all_synced_case now kept true false has is = refl
+all_synced_case now kept false loose has is = refl
+
 same : (n q : Name) → bytes_eq n q ≡ true → n ≡ q
 same n q = (bytes_eq-Decides n q).0
 
@@ -121,7 +131,9 @@ stepped (Loosened name) s = fun_ext (λ q. loosened_case s (string_bytes name) q
 stepped (Synced name) s = fun_ext (λ q. synced_case s (string_bytes name) q (bytes_eq (string_bytes name) q) (same (string_bytes name) q))
 stepped (Renamed from to) s = fun_ext (λ q. renamed_case s (string_bytes from) (string_bytes to) q (bytes_eq (string_bytes to) q) (bytes_eq (string_bytes from) q) (same (string_bytes from) q))
 stepped (Removed name) s = fun_ext (λ q. removed_case s (string_bytes name) q (bytes_eq (string_bytes name) q) (same (string_bytes name) q))
-stepped (Settled folder) s = fun_ext (λ q. settled_case (s.now q) (s.kept q) (is_below (string_bytes folder) q) (s.loose q))
+stepped (Swept Settle folder) s = fun_ext (λ q. settled_case (s.now q) (s.kept q) (takes_in Settle (string_bytes folder) q) (s.loose q))
+stepped (Swept SettleIn folder) s = fun_ext (λ q. settled_case (s.now q) (s.kept q) (takes_in SettleIn (string_bytes folder) q) (s.loose q))
+stepped (Swept Sync folder) s = fun_ext (λ q. all_synced_case (s.now q) (s.kept q) (takes_in Sync (string_bytes folder) q) (s.loose q) (is_some (s.now q)) refl)
 
 pub followed : (cs : List Change) (s : State) → states_of (after s cs) ≡ fold step_at (states_of s) cs
 followed [] s = refl
@@ -148,85 +160,101 @@ renamed_parts from to f g value loose v l is =
     both true e = fun_ext (λ q. to_itself (same from to e) q (bytes_eq to q) (bytes_eq from q) (same from q) (bytes_eq-Decides to q).1)
     both false e = ap (λ (s : NameState). set_at to (arrived_at (f from).now (f from).loose s) (changed_at from removed_at f)) (ap (λ b. cond b (removed_at (f from)) (f to)) e)
 
--- ---- the names below a folder, settled one by one
+-- ---- the names that a sweep takes in, swept one by one
 
-settled_twice : (s : NameState) → settled_at (settled_at s) ≡ settled_at s
-settled_twice s = at s.now s.kept s.loose
-  where
-    at : (now : Value) (kept : List Value) (loose : Bool) → settled_at (settled_at (record { now = now; kept = kept; loose = loose })) ≡ settled_at (record { now = now; kept = kept; loose = loose })
-    at now kept true = refl
-    at now kept false = refl
+settled_twice : (now : Value) (kept : List Value) (loose : Bool) → settled_at (settled_at (record { now = now; kept = kept; loose = loose })) ≡ settled_at (record { now = now; kept = kept; loose = loose })
+settled_twice now kept true = refl
+settled_twice now kept false = refl
 
--- one name more
-pub settled_more : (ns : List (String Global)) (i : ℕ) (n : String Global) (f g h : NameStates) (name : Name) → i < length ns → n ≡ get_or ns i n → name ≡ string_bytes n → h ≡ changed_at name settled_at g
-    → g ≡ settled_names (take i ns) f → h ≡ settled_names (take (i + 1) ns) f
-settled_more ns i n f g h name within is called did so_far =
-    did ∙ ap (λ (m : Name). changed_at m settled_at g) called ∙ ap (changed_at (string_bytes n) settled_at) so_far
-    ∙ ap (λ (m : String Global). changed_at (string_bytes m) settled_at (settled_names (take i ns) f)) is
-    ∙ sym (fold_more (λ (k : NameStates) (m : String Global). changed_at (string_bytes m) settled_at k) f ns i n within)
+all_synced_twice : (now : Value) (kept : List Value) (loose : Bool) → all_synced_at (all_synced_at (record { now = now; kept = kept; loose = loose })) ≡ all_synced_at (record { now = now; kept = kept; loose = loose })
+all_synced_twice (Some bytes) kept true = refl
+all_synced_twice None kept true = refl
+all_synced_twice now kept false = refl
 
 pub eq_sym : (n q : Name) → bytes_eq n q ≡ bytes_eq q n
 eq_sym n q = grind (arith, common_steps, bytes_eq-Decides n q, bytes_eq-Decides q n)
 
-abbrev settled_list : List Name → NameStates → NameStates
-settled_list ns f = fold (λ g n. changed_at n settled_at g) f ns
+module _ (sweep : Sweep) where
+  swept_twice : (s : NameState) → swept_at sweep (swept_at sweep s) ≡ swept_at sweep s
+  swept_twice s = by sweep
+    where
+      by : (w : Sweep) → swept_at w (swept_at w s) ≡ swept_at w s
+      by Settle = settled_twice s.now s.kept s.loose
+      by SettleIn = settled_twice s.now s.kept s.loose
+      by Sync = all_synced_twice s.now s.kept s.loose
 
-as_list : (ns : List (String Global)) (f : NameStates) → settled_names ns f ≡ settled_list (map string_bytes ns) f
-as_list [] f = refl
-as_list (n ∷ ns) f = as_list ns (changed_at (string_bytes n) settled_at f)
+  -- one name more
+  pub swept_more : (ns : List (String Global)) (i : ℕ) (n : String Global) (f g h : NameStates) (name : Name) → i < length ns → n ≡ get_or ns i n → name ≡ string_bytes n → h ≡ changed_at name (swept_at sweep) g
+      → g ≡ each_swept sweep (take i ns) f → h ≡ each_swept sweep (take (i + 1) ns) f
+  swept_more ns i n f g h name within is called did so_far =
+      did ∙ ap (λ (m : Name). changed_at m (swept_at sweep) g) called ∙ ap (changed_at (string_bytes n) (swept_at sweep)) so_far
+      ∙ ap (λ (m : String Global). changed_at (string_bytes m) (swept_at sweep) (each_swept sweep (take i ns) f)) is
+      ∙ sym (fold_more (λ (k : NameStates) (m : String Global). changed_at (string_bytes m) (swept_at sweep) k) f ns i n within)
 
-names_settled : (ns : List Name) (f : NameStates) (q : Name) → settled_list ns f q ≡ cond (list_any (bytes_eq q) ns) (settled_at (f q)) (f q)
-names_settled [] f q = refl
-names_settled (n ∷ ns) f q =
-    names_settled ns (changed_at n settled_at f) q
-    ∙ one (bytes_eq n q) (list_any (bytes_eq q) ns) (same n q)
-    ∙ ap (λ b. cond (b || list_any (bytes_eq q) ns) (settled_at (f q)) (f q)) (eq_sym n q)
-  where
-    one : (b c : Bool) → (b ≡ true → n ≡ q) → cond c (settled_at (cond b (settled_at (f n)) (f q))) (cond b (settled_at (f n)) (f q)) ≡ cond (b || c) (settled_at (f q)) (f q)
-    one true true is = settled_twice (f n) ∙ ap (λ (m : Name). settled_at (f m)) (is refl)
-    one true false is = ap (λ (m : Name). settled_at (f m)) (is refl)
-    one false c is = refl
+  abbrev swept_list : List Name → NameStates → NameStates
+  swept_list ns f = fold (λ g n. changed_at n (swept_at sweep) g) f ns
+
+  as_list : (ns : List (String Global)) (f : NameStates) → each_swept sweep ns f ≡ swept_list (map string_bytes ns) f
+  as_list [] f = refl
+  as_list (n ∷ ns) f = as_list ns (changed_at (string_bytes n) (swept_at sweep) f)
+
+  names_swept : (ns : List Name) (f : NameStates) (q : Name) → swept_list ns f q ≡ cond (list_any (bytes_eq q) ns) (swept_at sweep (f q)) (f q)
+  names_swept [] f q = refl
+  names_swept (n ∷ ns) f q =
+      names_swept ns (changed_at n (swept_at sweep) f) q
+      ∙ one (bytes_eq n q) (list_any (bytes_eq q) ns) (same n q)
+      ∙ ap (λ b. cond (b || list_any (bytes_eq q) ns) (swept_at sweep (f q)) (f q)) (eq_sym n q)
+    where
+      one : (b c : Bool) → (b ≡ true → n ≡ q) → cond c (swept_at sweep (cond b (swept_at sweep (f n)) (f q))) (cond b (swept_at sweep (f n)) (f q)) ≡ cond (b || c) (swept_at sweep (f q)) (f q)
+      one true true is = swept_twice (f n) ∙ ap (λ (m : Name). swept_at sweep (f m)) (is refl)
+      one true false is = ap (λ (m : Name). swept_at sweep (f m)) (is refl)
+      one false c is = refl
 
 and_false : (b : Bool) → (b && false) ≡ false
 and_false true = refl
 and_false false = refl
 
-first_below : (t c others : Bool) → (t ≡ true → true ≡ c) → (t || (c && others)) ≡ (c && (t || others))
-first_below true true others below = refl
-first_below true false others below = cc (below refl)
-first_below false c others below = refl
+first_in : (t c others : Bool) → (t ≡ true → true ≡ c) → (t || (c && others)) ≡ (c && (t || others))
+first_in true true others inside = refl
+first_in true false others inside = cc (inside refl)
+first_in false c others inside = refl
 
 first_beside : (t c others : Bool) → (t ≡ true → false ≡ c) → (c && others) ≡ (c && (t || others))
 first_beside true true others beside = cc (beside refl)
 first_beside true false others beside = refl
 first_beside false c others beside = refl
 
-module _ {X : Type 0} (folder q : Name) where
+module _ {X : Type 0} (these : Name → Bool) (q : Name) where
   abbrev has : List (String Global × X) → Bool
   has es = list_any (λ e. bytes_eq q (string_bytes e.0)) es
 
-  one_more : (e : String Global × X) (kept : List (String Global × X)) (b t others : Bool) → bytes_eq q (string_bytes e.0) ≡ t → (t ≡ true → b ≡ is_below folder q)
-      → list_any (bytes_eq q) (map (λ e. string_bytes e.0) kept) ≡ (is_below folder q && others)
-      → list_any (bytes_eq q) (map (λ e. string_bytes e.0) (cond b (e ∷ kept) kept)) ≡ (is_below folder q && (t || others))
-  one_more e kept true t others is below later =
-      ap (λ (c : Bool). c || list_any (bytes_eq q) (map (λ e. string_bytes e.0) kept)) is ∙ ap (λ (c : Bool). t || c) later ∙ first_below t (is_below folder q) others below
-  one_more e kept false t others is below later = later ∙ first_beside t (is_below folder q) others below
+  one_more : (e : String Global × X) (kept : List (String Global × X)) (b t others : Bool) → bytes_eq q (string_bytes e.0) ≡ t → (t ≡ true → b ≡ these q)
+      → list_any (bytes_eq q) (map (λ e. string_bytes e.0) kept) ≡ (these q && others)
+      → list_any (bytes_eq q) (map (λ e. string_bytes e.0) (cond b (e ∷ kept) kept)) ≡ (these q && (t || others))
+  one_more e kept true t others is inside later =
+      ap (λ (c : Bool). c || list_any (bytes_eq q) (map (λ e. string_bytes e.0) kept)) is ∙ ap (λ (c : Bool). t || c) later ∙ first_in t (these q) others inside
+  one_more e kept false t others is inside later = later ∙ first_beside t (these q) others inside
 
-  any_under : (es : List (String Global × X)) → list_any (bytes_eq q) (names_under folder es) ≡ (is_below folder q && has es)
-  any_under [] = sym (and_false (is_below folder q))
-  any_under (e ∷ es) = one_more e (filter (λ e. is_below folder (string_bytes e.0)) es) (is_below folder (string_bytes e.0)) (bytes_eq q (string_bytes e.0)) (has es) refl
-      (λ h. ap (is_below folder) (sym ((bytes_eq-Decides q (string_bytes e.0)).0 h))) (any_under es)
+  any_under : (es : List (String Global × X)) → list_any (bytes_eq q) (names_under these es) ≡ (these q && has es)
+  any_under [] = sym (and_false (these q))
+  any_under (e ∷ es) = one_more e (filter (λ e. these (string_bytes e.0)) es) (these (string_bytes e.0)) (bytes_eq q (string_bytes e.0)) (has es) refl
+      (λ h. ap these (sym ((bytes_eq-Decides q (string_bytes e.0)).0 h))) (any_under es)
 
 pub absent : (m : Traces) (q : Name) → list_any (λ e. bytes_eq q (string_bytes e.0)) m.entries ≡ false → states_in m q ≡ first_at None
 absent m q none = ap (λ (o : Option Trace). found_state (option_map state_of_trace o)) (none_found (bytes_eq q) m.entries q none ((bytes_eq-Decides q q).1 refl))
 
-pub settled_all : (folder : Name) (m : Traces) (ns : List (String Global)) → map string_bytes ns ≡ names_under folder m.entries → settled_names ns (states_in m) ≡ settled_below folder (states_in m)
-settled_all folder m ns are = as_list ns (states_in m) ∙ ap (λ (l : List Name). settled_list l (states_in m)) are ∙ fun_ext (λ q.
-    names_settled (names_under folder m.entries) (states_in m) q
-    ∙ ap (λ b. cond b (settled_at (states_in m q)) (states_in m q)) (any_under folder q m.entries)
-    ∙ one q (is_below folder q) (list_any (λ e. bytes_eq q (string_bytes e.0)) m.entries) (absent m q))
+swept_none : (sweep : Sweep) → swept_at sweep (first_at None) ≡ first_at None
+swept_none Settle = refl
+swept_none SettleIn = refl
+swept_none Sync = refl
+
+pub swept_all : (sweep : Sweep) (folder : Name) (m : Traces) (ns : List (String Global)) → map string_bytes ns ≡ names_under (takes_in sweep folder) m.entries → each_swept sweep ns (states_in m) ≡ swept_names sweep folder (states_in m)
+swept_all sweep folder m ns are = as_list sweep ns (states_in m) ∙ ap (λ (l : List Name). swept_list sweep l (states_in m)) are ∙ fun_ext (λ q.
+    names_swept sweep (names_under (takes_in sweep folder) m.entries) (states_in m) q
+    ∙ ap (λ b. cond b (swept_at sweep (states_in m q)) (states_in m q)) (any_under (takes_in sweep folder) q m.entries)
+    ∙ one q (takes_in sweep folder q) (list_any (λ e. bytes_eq q (string_bytes e.0)) m.entries) (absent m q))
   where
-    one : (q : Name) (b t : Bool) → (t ≡ false → states_in m q ≡ first_at None) → cond (b && t) (settled_at (states_in m q)) (states_in m q) ≡ cond b (settled_at (states_in m q)) (states_in m q)
+    one : (q : Name) (b t : Bool) → (t ≡ false → states_in m q ≡ first_at None) → cond (b && t) (swept_at sweep (states_in m q)) (states_in m q) ≡ cond b (swept_at sweep (states_in m q)) (states_in m q)
     one q true true none = refl
-    one q true false none = none refl ∙ sym (ap settled_at (none refl))
+    one q true false none = none refl ∙ sym (swept_none sweep) ∙ sym (ap (swept_at sweep) (none refl))
     one q false t none = refl

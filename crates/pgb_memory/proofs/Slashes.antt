@@ -1,11 +1,13 @@
 -- What lies below a folder begins with it and a slash.
-use Rattle.std.proofs.Common.{◌≡◌, ◌≢◌, Bool, true, false, ◌&&◌, [], ◌∷◌, ◌++◌, length, take, drop, nat_eq, refl, sym, ◌∙◌, ap, append_assoc, bytes_eq, take-append-drop}
-use Rattle.std.proofs.Math.Seq.{take-append_seam}
+use Rattle.std.proofs.Common.{◌≡◌, ◌≢◌, ◌+◌, ℕ, Bool, true, false, ◌&&◌, not, List, [], ◌∷◌, ◌++◌, length, Contains, subst, take, drop, nat_eq, refl, sym, ◌∙◌, ap, append_assoc, bytes_eq, take-append-drop}
+use Rattle.std.proofs.Math.Seq.{take-append_seam, drop-append-add}
 use Rattle.std.proofs.lemmas.Bool.{false≢true}
-use Rattle.std.specs.List.{starts_with}
+use Rattle.std.specs.List.{starts_with, list_any}
+use Rattle.std.proofs.lemmas.Map.Views.{Contains-from_any}
 use Rattle.std.proofs.lemmas.Bool.Decides.{Decides-eqb}
 use Rattle.std.proofs.lemmas.Slice.Eq.{starts_is, bytes_eq-Decides}
-use Rattle.pgb_outside.specs.Content.{Name, is_below}
+use Rattle.pgb_outside.specs.Content.{Name, is_below, LiesDirectlyIn}
+use Rattle.pgb_memory.specs.State.{is_directly_in}
 
 pub below_front : (folder x : Name) → is_below folder (folder ++ x) ≡ starts_with nat_eq x (47 ∷ [])
 below_front [] x = refl
@@ -37,3 +39,20 @@ pub below_other : (folder path : Name) → bytes_eq (take (length folder) path) 
 below_other folder path apart = not_below folder path (λ rest is.
     let same : bytes_eq (take (length folder) path) folder ≡ true = (bytes_eq-Decides (take (length folder) path) folder).1 (ap (take (length folder)) is ∙ take-append_seam folder rest) in
     false≢true (sym apart ∙ same))
+
+dropped : (folder last : Name) → drop (length folder + 1) (folder ++ 47 ∷ last) ≡ last
+dropped folder last = drop-append-add folder (47 ∷ last) 1
+
+lacks_any : (c : ℕ) (xs : List ℕ) → ¬ Contains xs c → list_any (nat_eq c) xs ≡ false
+lacks_any c xs lacks = at (list_any (nat_eq c) xs) refl
+  where
+    at : (b : Bool) → list_any (nat_eq c) xs ≡ b → b ≡ false
+    at false is = refl
+    at true is = absurd (lacks (Contains-from_any {eq = nat_eq} (λ x y e. (Decides-eqb x y).0 e) c xs is))
+
+-- the test for a name directly in a folder
+pub directly_in : (folder name : Name) → LiesDirectlyIn folder name → is_directly_in folder name ≡ true
+directly_in folder name (last, is, lacks) = subst (λ n. is_directly_in folder n ≡ true) (sym is) (
+    ap (λ b. b && not (list_any (nat_eq 47) (drop (length folder + 1) (folder ++ 47 ∷ last)))) (below_of folder last)
+    ∙ ap (λ (r : List ℕ). not (list_any (nat_eq 47) r)) (dropped folder last)
+    ∙ ap not (lacks_any 47 last lacks))

@@ -1,16 +1,16 @@
 -- What a call of a disk in memory did, as it is told.
 use Rattle.std.proofs.Common.{◌≡◌, ◌⊎◌, inl, inr, ℕ, Bool, true, false, cond, List, [], ◌∷◌, take, length, Result, Ok, Err, None, refl, sym, ◌∙◌, ap, subst, arith}
-use Rattle.std.specs.Prelude.{OnOk, OnErr, IsErrOf, IsTrue, ◌&&◌, not}
+use Rattle.std.specs.Prelude.{OnOk, OnErr, IsErrOf, IsTrue, ◌&&◌, not, is_some}
 use Rattle.pgb_outside.specs.declared.stop.Stop.{Stop}
 use Rattle.pgb_outside.specs.declared.stop.Stop.TheVariants.{Failed, NoMemory}
-use Rattle.pgb_outside.specs.Content.{Name, Value, Holds, is_below}
-use Rattle.pgb_outside.specs.Moments.{Goes, Rests, MayKeep, is_loose}
+use Rattle.pgb_outside.specs.Content.{Name, Value, Holds, HasBytes}
+use Rattle.pgb_outside.specs.Moments.{Goes, Rests, Settles, is_loose}
 use Rattle.pgb_memory.specs.declared.held.Held.{Held}
-use Rattle.pgb_memory.specs.State.{State, after, first_state, Among, view_at, begun, appended, synced, renamed, removed, settled}
+use Rattle.pgb_memory.specs.State.{State, after, first_state, Among, view_at, begun, appended, synced, renamed, removed, settled, all_synced}
 use Rattle.pgb_memory.specs.Held.{state_of, view_of, Notes, IsAsBefore, FailsAt}
 use Rattle.pgb_memory.specs.Fair.{fair_after, fair_first, set_same}
 use Rattle.pgb_memory.proofs.Time.{whole}
-use Rattle.pgb_memory.proofs.Calls.{goes_same, goes_loosened, goes_begun, goes_appended, goes_synced, goes_renamed, goes_removed, goes_settled}
+use Rattle.pgb_memory.proofs.Calls.{goes_same, goes_loosened, goes_begun, goes_appended, goes_synced, goes_renamed, goes_removed, goes_settled, goes_all_synced}
 
 module _ (old new : Held) where
   abbrev first : State
@@ -64,8 +64,11 @@ module _ (old new : Held) where
   pub removed_goes : (n : Name) → Notes (removed n) old new → Goes (λ q v. (q ≡ n) × (v ≡ None)) (λ _. ⊥) (view_of old) (view_of new)
   removed_goes n notes = lift _ (λ _. ⊥) notes.given (goes_removed first old.changes.items new.changes.items n notes.adds)
 
-  pub settled_goes : (folder : Name) → Notes (settled folder) old new → Rests (view_of old) (view_of new)
-  settled_goes folder notes = lift (λ _ _. ⊥) (λ _. ⊥) notes.given (goes_settled first old.changes.items new.changes.items (fair_after old.changes.items first (fair_first old.given.items)) folder notes.adds)
+  pub settled_goes : (these : Name → Bool) → Notes (settled these) old new → Rests (view_of old) (view_of new)
+  settled_goes these notes = lift (λ _ _. ⊥) (λ _. ⊥) notes.given (goes_settled first old.changes.items new.changes.items (fair_after old.changes.items first (fair_first old.given.items)) these notes.adds)
+
+  pub all_synced_goes : (these : Name → Bool) → Notes (all_synced these) old new → Goes (λ q v. IsTrue (these q) × Holds (view_of old).now q v) (λ q. IsTrue (these q)) (view_of old) (view_of new)
+  all_synced_goes these notes = lift _ (λ q. IsTrue (these q)) notes.given (goes_all_synced first old.changes.items new.changes.items these notes.adds)
 
   -- the state at the end of the new disk's moments
   at_end : (next : State → State) → Notes next old new → after (first_state new.given.items) (take (length new.changes.items) new.changes.items) ≡ next (state_of old)
@@ -78,8 +81,17 @@ module _ (old new : Held) where
   was_loose : (n : Name) → is_loose (view_of old) n ≡ (state_of old).loose n
   was_loose n = ap (λ (s : State). s.loose n) (whole first old.changes.items (length old.changes.items) (omega arith))
 
-  pub settled_settles : (folder : Name) → Notes (settled folder) old new → (n : Name) (v : Value) → IsTrue (is_below folder n) → is_loose (view_of old) n ≡ false → MayKeep (view_of new) n v → Holds (view_of old).now n v
-  settled_settles folder notes n v below tight may = one (is_below folder n) ((state_of old).loose n) below (sym (was_loose n) ∙ tight) (subst (λ (s : State). Among v (s.kept n)) (at_end (settled folder) notes) may)
+  pub all_synced_tight : (these : Name → Bool) → Notes (all_synced these) old new → (n : Name) → IsTrue (these n) → HasBytes (view_of old).now n → is_loose (view_of new) n ≡ false
+  all_synced_tight these notes n inside has = ap (λ (s : State). s.loose n) (at_end (all_synced these) notes) ∙ tight (these n) ((state_of old).loose n) (is_some ((state_of old).now n)) inside has
+    where
+      tight : (a loose has : Bool) → a ≡ true → has ≡ true → cond (a && (loose && has)) false loose ≡ false
+      tight true true true inside is = refl
+      tight true false has inside is = refl
+      tight false loose has inside is = cc
+      tight a loose false inside is = cc
+
+  pub settled_settles : (these : Name → Bool) → Notes (settled these) old new → Settles (λ n. IsTrue (these n)) (view_of old) (view_of new)
+  settled_settles these notes n v inside tight may = one (these n) ((state_of old).loose n) inside (sym (was_loose n) ∙ tight) (subst (λ (s : State). Among v (s.kept n)) (at_end (settled these) notes) may)
     where
       one : (a b : Bool) → a ≡ true → b ≡ false → Among v (cond (a && not b) ((state_of old).now n ∷ []) ((state_of old).kept n)) → v ≡ (state_of old).now n
       one true false below tight (inl is) = is

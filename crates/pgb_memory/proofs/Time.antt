@@ -1,10 +1,20 @@
 -- One change more.
-use Rattle.std.proofs.Common.{◌≡◌, ◌⊎◌, inl, inr, ⊎_elim, ℕ, ◌≤◌, true, List, [], ◌∷◌, ◌++◌, length, refl, sym, ◌∙◌, ap, subst, arith, length-append}
+use Rattle.std.proofs.Common.{◌≡◌, ◌⊎◌, inl, inr, ⊎_elim, ℕ, ◌≤◌, true, List, [], ◌∷◌, ◌++◌, length, String, refl, sym, ◌∙◌, ap, subst, arith, length-append}
+use Rattle.std.specs.declared.alloc.Global.{Global}
 use Rattle.std.proofs.lemmas.List.{take-append-le, take_all}
 use Rattle.pgb_outside.specs.Content.{Name, Value}
 use Rattle.pgb_outside.specs.Moments.{Goes}
 use Rattle.pgb_memory.specs.declared.change.Change.{Change}
+use Rattle.pgb_memory.specs.declared.change.Change.TheVariants.{Swept}
+use Rattle.pgb_memory.specs.declared.change.Sweep.{Sweep}
+use Rattle.pgb_memory.specs.declared.change.Sweep.TheVariants.{Settle, SettleIn, Sync}
 use Rattle.pgb_memory.specs.State.{State, step, after, Among, state_at, view_at, Adds}
+
+-- a sweep leaves what is held
+pub still_swept : (sweep : Sweep) (folder : String Global) (s : State) → (step (Swept sweep folder) s).now ≡ s.now
+still_swept Settle folder s = refl
+still_swept SettleIn folder s = refl
+still_swept Sync folder s = refl
 
 after_push : (s : State) (cs : List Change) (c : Change) → after s (cs ++ c ∷ []) ≡ step c (after s cs)
 after_push s [] c = refl

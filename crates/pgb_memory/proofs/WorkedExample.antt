@@ -2,7 +2,8 @@
 use Rattle.std.proofs.Common.{◌≡◌, true, false, [], ◌∷◌, Some, None, refl}
 use Rattle.std.specs.Prelude.{codes}
 use Rattle.pgb_outside.specs.Content.{Name, Value}
-use Rattle.pgb_memory.specs.State.{State, first_state, begun, appended, synced, renamed, settled}
+use Rattle.pgb_memory.specs.State.{State, first_state, begun, appended, synced, renamed, swept}
+use Rattle.pgb_memory.specs.declared.change.Sweep.TheVariants.{Settle, SettleIn, Sync}
 
 abbrev x : Name
 x = codes "archive/demo/x"
@@ -23,7 +24,18 @@ abbrev renamed_x : State
 renamed_x = renamed x y synced_x
 
 abbrev settled_x : State
-settled_x = settled (codes "archive/demo") renamed_x
+settled_x = swept Settle (codes "archive/demo") renamed_x
+
+-- both folders above it, settled without what lies deeper
+abbrev settled_above : State
+settled_above = swept SettleIn (codes "archive") renamed_x
+
+abbrev settled_here : State
+settled_here = swept SettleIn (codes "archive/demo") renamed_x
+
+-- all below a folder synced at once
+abbrev all_synced_x : State
+all_synced_x = swept Sync (codes "archive") appended_x
 
 appended_loose : appended_x.loose x ≡ true
 appended_loose = refl
@@ -42,3 +54,12 @@ renamed_kept = (refl, refl)
 
 settled_kept : (settled_x.kept x ≡ None ∷ []) × (settled_x.kept y ≡ a ∷ [])
 settled_kept = (refl, refl)
+
+settled_above_kept : settled_above.kept y ≡ None ∷ a ∷ []
+settled_above_kept = refl
+
+settled_here_kept : (settled_here.kept x ≡ None ∷ []) × (settled_here.kept y ≡ a ∷ [])
+settled_here_kept = (refl, refl)
+
+all_synced_kept : (all_synced_x.kept x ≡ None ∷ a ∷ []) × (all_synced_x.loose x ≡ false) × (all_synced_x.kept y ≡ None ∷ [])
+all_synced_kept = (refl, refl, refl)

@@ -1,13 +1,14 @@
 -- What a disk in memory holds may be left by a crash.
-use Rattle.std.specs.Prelude.{◌≡◌, ◌⊎◌, ℕ, String, Vec, Bool, true, false, cond, ◌||◌, ◌&&◌, not, List, [], ◌∷◌, ◌++◌, length, Some, None, refl, bytes_eq, Decides, string_bytes, take}
+use Rattle.std.specs.Prelude.{◌≡◌, ◌⊎◌, ℕ, String, Vec, Bool, true, false, cond, ◌||◌, ◌&&◌, not, is_some, List, [], ◌∷◌, ◌++◌, length, Some, None, refl, bytes_eq, Decides, string_bytes, take}
 use Rattle.std.proofs.Common.{inl, inr, ⊎_elim, sym, ◌∙◌, ap, subst, arith}
 use Rattle.std.proofs.lemmas.List.{take_all}
 use Rattle.std.proofs.lemmas.Slice.Eq.{bytes_eq-Decides}
-use Rattle.pgb_outside.specs.Content.{Name, Value, set_at, put, lengthened, moved, is_below}
+use Rattle.pgb_outside.specs.Content.{Name, Value, set_at, put, lengthened, moved}
 use Rattle.pgb_memory.specs.declared.change.Change.{Change}
-use Rattle.pgb_memory.specs.declared.change.Change.TheVariants.{Begun, Appended, Loosened, Synced, Renamed, Removed, Settled}
+use Rattle.pgb_memory.specs.declared.change.Change.TheVariants.{Begun, Appended, Loosened, Synced, Renamed, Removed, Swept}
+use Rattle.pgb_memory.specs.declared.change.Sweep.TheVariants.{Settle, SettleIn, Sync}
 use Rattle.std.specs.declared.alloc.Global.{Global}
-use Rattle.pgb_memory.specs.State.{State, step, after, first_state, Among, kept_at, loose_at}
+use Rattle.pgb_memory.specs.State.{State, step, after, first_state, Among, kept_at, loose_at, takes_in}
 
 decided : {X : Type 0} (P : Type 0) (x y : X) (b : Bool) → Decides b P → (P × (cond b x y ≡ x)) ⊎ (cond b x y ≡ y)
 decided P x y true d = inl (d.0 refl, refl)
@@ -75,6 +76,10 @@ one_left : (b : Bool) (now : Value) (kept : List Value) → Among now kept → A
 one_left true now kept a = inl refl
 one_left false now kept a = a
 
+all_kept : (b : Bool) (now : Value) (kept : List Value) (loose : Bool) → (loose ≡ true) ⊎ Among now kept → (cond b false loose ≡ true) ⊎ Among now (cond b (kept ++ now ∷ []) kept)
+all_kept true now kept loose fair = inr (among_last kept now)
+all_kept false now kept loose fair = fair
+
 pub fair_step : (c : Change) (s : State) → IsFair s → IsFair (step c s)
 fair_step (Begun name) s fair n = let m = string_bytes name in
     ⊎_elim (λ y. inl (set_yes m true s.loose n y))
@@ -110,7 +115,9 @@ fair_step (Removed name) s fair n = let m = string_bytes name in
     ⊎_elim (λ y. fair_new (put m None s.now) kept' s.loose n (s.kept m) None (set_yes m None s.now n y) (set_yes m _ s.kept n y))
     (λ no. fair_other s.now (put m None s.now) s.kept kept' s.loose s.loose n (set_no m None s.now n no) (set_no m _ s.kept n no) refl (fair n))
     (two (bytes_eq m n))
-fair_step (Settled folder) s fair n = ⊎_elim (λ l. inl l) (λ a. inr (one_left (is_below (string_bytes folder) n && not (s.loose n)) (s.now n) (s.kept n) a)) (fair n)
+fair_step (Swept Settle folder) s fair n = ⊎_elim (λ l. inl l) (λ a. inr (one_left (takes_in Settle (string_bytes folder) n && not (s.loose n)) (s.now n) (s.kept n) a)) (fair n)
+fair_step (Swept SettleIn folder) s fair n = ⊎_elim (λ l. inl l) (λ a. inr (one_left (takes_in SettleIn (string_bytes folder) n && not (s.loose n)) (s.now n) (s.kept n) a)) (fair n)
+fair_step (Swept Sync folder) s fair n = all_kept (takes_in Sync (string_bytes folder) n && (s.loose n && is_some (s.now n))) (s.now n) (s.kept n) (s.loose n) (fair n)
 
 pub fair_after : (cs : List Change) (s : State) → IsFair s → IsFair (after s cs)
 fair_after [] s fair = fair

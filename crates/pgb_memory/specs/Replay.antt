@@ -1,12 +1,14 @@
 -- The disk model name by name, and its changes followed anew.
 use Rattle.std.specs.declared.alloc.Global.{Global}
 use Rattle.std.specs.BTreeMap.{BTreeMap, get_by_text}
-use Rattle.std.specs.Prelude.{ℕ, Bool, true, false, ◌||◌, List, [], ◌∷◌, ◌++◌, Option, Some, None, option_map, String, Vec, string_bytes, map, filter, fold, if◌then◌else◌}
-use Rattle.pgb_outside.specs.Content.{Name, Value, set_at, is_below}
+use Rattle.std.specs.Prelude.{ℕ, Bool, true, false, ◌||◌, ◌&&◌, is_some, List, [], ◌∷◌, ◌++◌, Option, Some, None, option_map, String, Vec, string_bytes, map, filter, fold, if◌then◌else◌}
+use Rattle.pgb_outside.specs.Content.{Name, Value, set_at}
 use Rattle.pgb_memory.specs.declared.change.Change.{Change}
-use Rattle.pgb_memory.specs.declared.change.Change.TheVariants.{Begun, Appended, Loosened, Synced, Renamed, Removed, Settled}
+use Rattle.pgb_memory.specs.declared.change.Change.TheVariants.{Begun, Appended, Loosened, Synced, Renamed, Removed, Swept}
+use Rattle.pgb_memory.specs.declared.change.Sweep.{Sweep}
+use Rattle.pgb_memory.specs.declared.change.Sweep.TheVariants.{Settle, SettleIn, Sync}
 use Rattle.pgb_memory.specs.declared.trace.Trace.{Trace}
-use Rattle.pgb_memory.specs.State.{State}
+use Rattle.pgb_memory.specs.State.{State, takes_in}
 
 -- the state of a disk at one name
 pub record NameState : Type 0 where
@@ -50,6 +52,16 @@ arrived_at value loose s = record { now = value; kept = s.kept ++ value ∷ []; 
 abbrev pub settled_at : NameState → NameState
 settled_at s = if s.loose then s else record s { kept = s.now ∷ [] }
 
+-- what it holds is kept too, where it is loose and has bytes
+abbrev pub all_synced_at : NameState → NameState
+all_synced_at s = if s.loose && is_some s.now then synced_at s else s
+
+-- what a sweep does to each name
+abbrev pub swept_at : Sweep → NameState → NameState
+swept_at Settle = settled_at
+swept_at SettleIn = settled_at
+swept_at Sync = all_synced_at
+
 -- another state at one name
 abbrev pub changed_at : Name → (NameState → NameState) → NameStates → NameStates
 changed_at name change f = set_at name (change (f name)) f
@@ -58,9 +70,9 @@ changed_at name change f = set_at name (change (f name)) f
 abbrev pub renamed_at : Name → Name → NameStates → NameStates
 renamed_at from to f = set_at to (arrived_at (f from).now (f from).loose (f to)) (changed_at from removed_at f)
 
--- each name below the folder is settled
-abbrev pub settled_below : Name → NameStates → NameStates
-settled_below folder f q = if is_below folder q then settled_at (f q) else f q
+-- each name that the sweep takes in is swept
+abbrev pub swept_names : Sweep → Name → NameStates → NameStates
+swept_names sweep folder f q = if takes_in sweep folder q then swept_at sweep (f q) else f q
 
 -- after a change
 abbrev pub step_at : NameStates → Change → NameStates
@@ -70,7 +82,7 @@ step_at f (Loosened name) = changed_at (string_bytes name) loosened_at f
 step_at f (Synced name) = changed_at (string_bytes name) synced_at f
 step_at f (Renamed from to) = renamed_at (string_bytes from) (string_bytes to) f
 step_at f (Removed name) = changed_at (string_bytes name) removed_at f
-step_at f (Settled folder) = settled_below (string_bytes folder) f
+step_at f (Swept sweep folder) = swept_names sweep (string_bytes folder) f
 
 -- the state of a disk, name by name
 abbrev pub states_of : State → NameStates
@@ -93,10 +105,10 @@ found_state (Some s) = s
 abbrev pub states_in : BTreeMap (String Global) Trace → NameStates
 states_in traces q = found_state (option_map state_of_trace (get_by_text traces q))
 
--- the names of a map that lie below the folder
-abbrev pub names_under : {X : Type 0} → Name → List (String Global × X) → List Name
-names_under folder entries = map (λ e. string_bytes e.0) (filter (λ e. is_below folder (string_bytes e.0)) entries)
+-- the names of a map that pass a test
+abbrev pub names_under : {X : Type 0} → (Name → Bool) → List (String Global × X) → List Name
+names_under these entries = map (λ e. string_bytes e.0) (filter (λ e. these (string_bytes e.0)) entries)
 
--- each of the names is settled
-abbrev pub settled_names : List (String Global) → NameStates → NameStates
-settled_names names f = fold (λ g n. changed_at (string_bytes n) settled_at g) f names
+-- each of the names is swept
+abbrev pub each_swept : Sweep → List (String Global) → NameStates → NameStates
+each_swept sweep names f = fold (λ g n. changed_at (string_bytes n) (swept_at sweep) g) f names

@@ -1,10 +1,13 @@
 -- The disk model: what each change does to what a disk holds, keeps and has loose.
 use Rattle.std.specs.declared.alloc.Global.{Global}
-use Rattle.std.specs.Prelude.{◌≡◌, ◌≤◌, ◌+◌, length, String, Vec, ◌⊎◌, ◌&&◌, ◌||◌, not, ℕ, Bool, true, false, List, [], ◌∷◌, ◌++◌, Some, None, string_bytes, if◌then◌else◌, fold, take}
+use Rattle.std.specs.Prelude.{◌≡◌, ◌≤◌, ◌+◌, length, String, Vec, ◌⊎◌, ◌&&◌, ◌||◌, not, is_some, drop, nat_eq, ℕ, Bool, true, false, List, [], ◌∷◌, ◌++◌, Some, None, string_bytes, if◌then◌else◌, fold, take}
+use Rattle.std.specs.List.{list_any}
 use Rattle.pgb_outside.specs.Moments.{View}
 use Rattle.pgb_outside.specs.Content.{Name, Value, Content, set_at, put, lengthened, moved, is_below}
 use Rattle.pgb_memory.specs.declared.change.Change.{Change}
-use Rattle.pgb_memory.specs.declared.change.Change.TheVariants.{Begun, Appended, Loosened, Synced, Renamed, Removed, Settled}
+use Rattle.pgb_memory.specs.declared.change.Change.TheVariants.{Begun, Appended, Loosened, Synced, Renamed, Removed, Swept}
+use Rattle.pgb_memory.specs.declared.change.Sweep.{Sweep}
+use Rattle.pgb_memory.specs.declared.change.Sweep.TheVariants.{Settle, SettleIn, Sync}
 
 -- what a disk holds, the values that a crash may leave at each name, and where it may leave any bytes
 pub record State : Type 0 where
@@ -28,8 +31,27 @@ renamed a b s = record { now = moved a b s.now; kept = set_at b (s.kept b ++ s.n
 abbrev pub removed : Name → State → State
 removed n s = record s { now = put n None s.now; kept = set_at n (s.kept n ++ None ∷ []) s.kept }
 
-abbrev pub settled : Name → State → State
-settled folder s = record s { kept = λ q. if is_below folder q && not (s.loose q) then s.now q ∷ [] else s.kept q }
+abbrev pub settled : (Name → Bool) → State → State
+settled these s = record s { kept = λ q. if these q && not (s.loose q) then s.now q ∷ [] else s.kept q }
+
+-- a loose name that has bytes is synced, any other stays as it is
+abbrev pub all_synced : (Name → Bool) → State → State
+all_synced these s = record s { kept = λ q. if these q && (s.loose q && is_some (s.now q)) then s.kept q ++ s.now q ∷ [] else s.kept q; loose = λ q. if these q && (s.loose q && is_some (s.now q)) then false else s.loose q }
+
+-- the name lies in the folder, and in none within it
+abbrev pub is_directly_in : Name → Name → Bool
+is_directly_in folder name = is_below folder name && not (list_any (nat_eq 47) (drop (length folder + 1) name))
+
+-- the names that a sweep of a folder takes in
+abbrev pub takes_in : Sweep → Name → Name → Bool
+takes_in Settle = is_below
+takes_in SettleIn = is_directly_in
+takes_in Sync = is_below
+
+abbrev pub swept : Sweep → Name → State → State
+swept Settle folder = settled (takes_in Settle folder)
+swept SettleIn folder = settled (takes_in SettleIn folder)
+swept Sync folder = all_synced (takes_in Sync folder)
 
 -- a begin, an append or a sync that failed
 abbrev pub loosened : Name → State → State
@@ -42,7 +64,7 @@ step (Loosened name) = loosened (string_bytes name)
 step (Synced name) = synced (string_bytes name)
 step (Renamed from to) = renamed (string_bytes from) (string_bytes to)
 step (Removed name) = removed (string_bytes name)
-step (Settled folder) = settled (string_bytes folder)
+step (Swept sweep folder) = swept sweep (string_bytes folder)
 
 -- after these changes, the first of them first
 abbrev pub after : State → List Change → State

@@ -1,6 +1,9 @@
 // Whether a path lies below another, and through which folder.
 ghost use Rattle.std.specs.Prelude.{◌≡◌, ◌≢◌, ◌∷◌, ◌++◌, Some, option_map, IfSome, IfNone};
 ghost use Rattle.pgb_outside.specs.Content.{Name, is_below, IsFolderName};
+ghost use Rattle.pgb_memory.specs.State.{is_directly_in, takes_in};
+
+use crate::change::Sweep;
 
 /// Whether the path lies at some depth below the folder.
 pub(crate) fn lies_below(path: &str, folder: &str) -> bool
@@ -9,6 +12,23 @@ pub(crate) fn lies_below(path: &str, folder: &str) -> bool
     match path.as_bytes().strip_prefix(folder.as_bytes()) {
         Some(rest) => rest.starts_with(b"/"),
         None => false,
+    }
+}
+
+// Whether the path lies in the folder, and in none within it.
+fn lies_directly_in(path: &str, folder: &str) -> bool
+    ensures { result ≡ is_directly_in folder.now path.now }
+{
+    lies_below(path, folder) && !path.as_bytes()[folder.len() + 1..].contains(&b'/')
+}
+
+/// Whether a sweep of the folder takes the path in.
+pub(crate) fn is_taken_in(sweep: Sweep, path: &str, folder: &str) -> bool
+    ensures { result ≡ takes_in sweep folder.now path.now }
+{
+    match sweep {
+        Sweep::Settle | Sweep::Sync => lies_below(path, folder),
+        Sweep::SettleIn => lies_directly_in(path, folder),
     }
 }
 

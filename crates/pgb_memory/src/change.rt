@@ -7,5 +7,16 @@ pub(crate) enum Change {
     Synced(String),
     Renamed(String, String),
     Removed(String),
-    Settled(String),
+    Swept(Sweep, String),
+}
+
+/// What is done to many names of a folder at once.
+#[derive(Clone, Copy)]
+pub(crate) enum Sweep {
+    /// Each name below it is settled.
+    Settle,
+    /// Each name directly in it is settled.
+    SettleIn,
+    /// Each name below it is synced.
+    Sync,
 }

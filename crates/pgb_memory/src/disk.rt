@@ -8,10 +8,12 @@ ghost use Rattle.pgb_outside.specs.Moments.{IsImage};
 ghost use Rattle.pgb_memory.specs.Replay.{value_of};
 ghost use Rattle.pgb_memory.specs.Image.{states_then, image_of, are_loose, are_kept};
 ghost use Rattle.pgb_memory.specs.Counts.{is_to_fail, counted, tried, FailsWhere};
-ghost use Rattle.pgb_memory.specs.State.{Among, first_state, given_at, begun, appended, synced, renamed, removed, settled};
+ghost use Rattle.pgb_memory.specs.State.{Among, first_state, given_at, begun, appended, synced, renamed, removed, swept};
+ghost use Rattle.pgb_memory.specs.declared.change.Sweep.TheVariants.{Settle, SettleIn, Sync};
 ghost use Rattle.pgb_memory.specs.Held.{StartsWith, state_of, view_of, Notes, IsAsBefore, FailsAt};
 ghost use Rattle.pgb_memory.specs.Fair.{may_be_left, fair_first};
 
+use crate::change::Sweep;
 use crate::failing::Failing;
 use crate::held::Held;
 use crate::image::{ImageFault, image_in, kept_in, loose_in};
@@ -289,8 +291,8 @@ impl Disk for MemDisk {
         Ok(())
     }
 
-    fn settle(&mut self, folder: &str) -> Result<(), Stop>
-        ensures ok { OnOk result (Notes (settled folder.now) self.old.held self.new.held) }
+    fn sync_below(&mut self, folder: &str) -> Result<(), Stop>
+        ensures ok { OnOk result (Notes (swept Sync folder.now) self.old.held self.new.held) }
         ensures err { OnErr result (IsAsBefore self.old.held self.new.held) }
         ensures fails { FailsWhere (is_to_fail self.old.failing) result }
         ensures counts { self.new.failing ≡ counted self.old.failing }
@@ -300,7 +302,37 @@ impl Disk for MemDisk {
         if self.failing.fails() {
             return Err(Stop::Failed);
         }
-        self.held.settle(folder)?;
+        self.held.sweep(Sweep::Sync, folder)?;
+        Ok(())
+    }
+
+    fn settle(&mut self, folder: &str) -> Result<(), Stop>
+        ensures ok { OnOk result (Notes (swept Settle folder.now) self.old.held self.new.held) }
+        ensures err { OnErr result (IsAsBefore self.old.held self.new.held) }
+        ensures fails { FailsWhere (is_to_fail self.old.failing) result }
+        ensures counts { self.new.failing ≡ counted self.old.failing }
+        ensures opened { self.new.opened.items ≡ self.old.opened.items }
+        ensures cause { HasCause self.old.failing.faults self.new.failing.faults result }
+    {
+        if self.failing.fails() {
+            return Err(Stop::Failed);
+        }
+        self.held.sweep(Sweep::Settle, folder)?;
+        Ok(())
+    }
+
+    fn settle_in(&mut self, folder: &str) -> Result<(), Stop>
+        ensures ok { OnOk result (Notes (swept SettleIn folder.now) self.old.held self.new.held) }
+        ensures err { OnErr result (IsAsBefore self.old.held self.new.held) }
+        ensures fails { FailsWhere (is_to_fail self.old.failing) result }
+        ensures counts { self.new.failing ≡ counted self.old.failing }
+        ensures opened { self.new.opened.items ≡ self.old.opened.items }
+        ensures cause { HasCause self.old.failing.faults self.new.failing.faults result }
+    {
+        if self.failing.fails() {
+            return Err(Stop::Failed);
+        }
+        self.held.sweep(Sweep::SettleIn, folder)?;
         Ok(())
     }
 }

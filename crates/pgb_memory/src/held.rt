@@ -5,7 +5,7 @@ ghost use Rattle.pgb_memory.specs.Agrees.{Agrees, bytes_at};
 ghost use Rattle.pgb_memory.specs.State.{given_at};
 
 use crate::below::{folder_within, lies_below};
-use crate::change::Change;
+use crate::change::{Change, Sweep};
 use crate::copy::copy_part;
 use crate::replay::{Traces, traces_after};
 use pgb_outside::Found;
@@ -25,7 +25,7 @@ pub(crate) struct Held {
 }
 
 impl Held {
-    ghost use Rattle.pgb_memory.specs.State.{begun, appended, loosened, synced, renamed, removed, settled};
+    ghost use Rattle.pgb_memory.specs.State.{begun, appended, loosened, synced, renamed, removed, swept};
     ghost use Rattle.pgb_memory.specs.Held.{state_of, Notes, IsAsBefore};
     ghost use Rattle.pgb_memory.specs.Replay.{states_in};
     ghost use Rattle.pgb_memory.specs.Image.{states_then};
@@ -166,13 +166,13 @@ impl Held {
         Ok(())
     }
 
-    /// Notes that the folder was settled.
-    pub(crate) fn settle(&mut self, folder: &str) -> Result<(), AllocError>
-        ensures ok { OnOk result (Notes (settled folder.now) self.old self.new) }
+    /// Notes a sweep of the folder.
+    pub(crate) fn sweep(&mut self, sweep: Sweep, folder: &str) -> Result<(), AllocError>
+        ensures ok { OnOk result (Notes (swept sweep folder.now) self.old self.new) }
         ensures err { OnErr result (IsAsBefore self.old self.new) }
     {
         let noted = String::from_str(self.alloc, folder)?;
-        self.changes.push(Change::Settled(noted))?;
+        self.changes.push(Change::Swept(sweep, noted))?;
         Ok(())
     }
 

@@ -1,12 +1,12 @@
 // What the changes of a disk in memory leave at each name, followed from its first names on.
 ghost use Rattle.std.specs.Prelude.{◌≡◌, IfOk, OnOk, None, map, string_bytes, bytes_eq, if◌then◌else◌, fold, option_map};
 ghost use Rattle.std.specs.Map.{keys_of};
-ghost use Rattle.pgb_outside.specs.Content.{set_at, is_below};
-ghost use Rattle.pgb_memory.specs.State.{first_state, after};
-ghost use Rattle.pgb_memory.specs.Replay.{NameState, states_in, states_of, state_of_trace, changed_at, step_at, begun_at, appended_at, loosened_at, synced_at, removed_at, arrived_at, settled_at, settled_below, renamed_at, value_of, names_under, settled_names};
+ghost use Rattle.pgb_outside.specs.Content.{set_at};
+ghost use Rattle.pgb_memory.specs.State.{first_state, after, takes_in};
+ghost use Rattle.pgb_memory.specs.Replay.{NameState, states_in, states_of, state_of_trace, changed_at, step_at, begun_at, appended_at, loosened_at, synced_at, removed_at, arrived_at, swept_at, swept_names, renamed_at, value_of, names_under, each_swept};
 
-use crate::below::lies_below;
-use crate::change::Change;
+use crate::below::is_taken_in;
+use crate::change::{Change, Sweep};
 use crate::trace::Trace;
 use std::alloc::{AllocError, Global};
 use std::collections::BTreeMap;
@@ -51,7 +51,7 @@ fn follow(alloc: Global, traces: &mut Traces, change: &Change) -> Result<(), All
         Change::Synced(name) => sync(alloc, traces, name),
         Change::Renamed(from, to) => rename(alloc, traces, from, to),
         Change::Removed(name) => remove(alloc, traces, name),
-        Change::Settled(folder) => settle(alloc, traces, folder),
+        Change::Swept(sweep, folder) => sweep_folder(alloc, traces, *sweep, folder),
     }
 }
 
@@ -129,40 +129,60 @@ fn arrive(
     put(alloc, traces, name, trace)
 }
 
-fn settle(alloc: Global, traces: &mut Traces, folder: &str) -> Result<(), AllocError>
-    ensures { OnOk result (states_in traces.new ≡ settled_below folder.now (states_in traces.old)) }
+fn sweep_folder(
+    alloc: Global,
+    traces: &mut Traces,
+    sweep: Sweep,
+    folder: &str,
+) -> Result<(), AllocError>
+    ensures { OnOk result (states_in traces.new ≡ swept_names sweep folder.now (states_in traces.old)) }
 {
-    let names = names_below(alloc, traces, folder)?;
-    settle_each(alloc, traces, &names)
+    let names = names_taken_in(alloc, traces, sweep, folder)?;
+    sweep_each(alloc, traces, sweep, &names)
 }
 
-// The names of traces that lie below the folder.
-fn names_below(alloc: Global, traces: &Traces, folder: &str) -> Result<Vec<String>, AllocError>
-    ensures { IfOk result (λ names. map string_bytes names.items ≡ names_under folder.now traces.now.entries) }
+// The names of traces that the sweep takes in.
+fn names_taken_in(
+    alloc: Global,
+    traces: &Traces,
+    sweep: Sweep,
+    folder: &str,
+) -> Result<Vec<String>, AllocError>
+    ensures { IfOk result (λ names. map string_bytes names.items ≡ names_under (takes_in sweep folder.now) traces.now.entries) }
 {
     let mut names = Vec::new(alloc);
     for (name, _trace) in traces {
-        if lies_below(name, folder) {
+        if is_taken_in(sweep, name, folder) {
             names.push(name.clone()?)?;
         }
     }
     Ok(names)
 }
 
-fn settle_each(alloc: Global, traces: &mut Traces, names: &[String]) -> Result<(), AllocError>
-    ensures { OnOk result (states_in traces.new ≡ settled_names names.now (states_in traces.old)) }
+fn sweep_each(
+    alloc: Global,
+    traces: &mut Traces,
+    sweep: Sweep,
+    names: &[String],
+) -> Result<(), AllocError>
+    ensures { OnOk result (states_in traces.new ≡ each_swept sweep names.now (states_in traces.old)) }
 {
     for name in names {
-        settle_name(alloc, traces, name)?;
+        sweep_name(alloc, traces, sweep, name)?;
     }
     Ok(())
 }
 
-fn settle_name(alloc: Global, traces: &mut Traces, name: &str) -> Result<(), AllocError>
-    ensures { OnOk result (states_in traces.new ≡ changed_at name.now settled_at (states_in traces.old)) }
+fn sweep_name(
+    alloc: Global,
+    traces: &mut Traces,
+    sweep: Sweep,
+    name: &str,
+) -> Result<(), AllocError>
+    ensures { OnOk result (states_in traces.new ≡ changed_at name.now (swept_at sweep) (states_in traces.old)) }
 {
     let mut trace = take(alloc, traces, name)?;
-    trace.settle(alloc)?;
+    trace.sweep(alloc, sweep)?;
     put(alloc, traces, name, trace)
 }
 

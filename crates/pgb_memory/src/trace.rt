@@ -2,6 +2,7 @@
 ghost use Rattle.std.specs.Prelude.{◌≡◌, IfOk, map};
 ghost use Rattle.pgb_memory.specs.Replay.{value_of};
 
+use crate::change::Sweep;
 use std::alloc::{AllocError, Global};
 
 /// A name as the changes so far left it.
@@ -15,7 +16,7 @@ pub(crate) struct Trace {
 impl Trace {
     ghost use Rattle.std.specs.Prelude.{OnOk, length};
     ghost use Rattle.pgb_memory.specs.Image.{picked};
-    ghost use Rattle.pgb_memory.specs.Replay.{state_of_trace, first_at, begun_at, appended_at, loosened_at, synced_at, removed_at, arrived_at, settled_at};
+    ghost use Rattle.pgb_memory.specs.Replay.{state_of_trace, first_at, begun_at, appended_at, loosened_at, synced_at, removed_at, arrived_at, settled_at, all_synced_at, swept_at};
 
     /// A name that keeps this value alone.
     pub(crate) fn new(alloc: Global, bytes: Option<Vec<u8>>) -> Result<Self, AllocError>
@@ -85,7 +86,7 @@ impl Trace {
         Ok(())
     }
 
-    pub(crate) fn settle(&mut self, alloc: Global) -> Result<(), AllocError>
+    fn settle(&mut self, alloc: Global) -> Result<(), AllocError>
         ensures { OnOk result (state_of_trace self.new ≡ settled_at (state_of_trace self.old)) }
     {
         if self.loose {
@@ -95,6 +96,25 @@ impl Trace {
         kept.push(copy_of(alloc, &self.bytes)?)?;
         self.kept = kept;
         Ok(())
+    }
+
+    // Syncs a name that is loose and has bytes.
+    fn sync_loose(&mut self, alloc: Global) -> Result<(), AllocError>
+        ensures { OnOk result (state_of_trace self.new ≡ all_synced_at (state_of_trace self.old)) }
+    {
+        if self.loose && self.bytes.is_some() {
+            self.sync(alloc)?;
+        }
+        Ok(())
+    }
+
+    pub(crate) fn sweep(&mut self, alloc: Global, sweep: Sweep) -> Result<(), AllocError>
+        ensures { OnOk result (state_of_trace self.new ≡ swept_at sweep (state_of_trace self.old)) }
+    {
+        match sweep {
+            Sweep::Settle | Sweep::SettleIn => self.settle(alloc),
+            Sweep::Sync => self.sync_loose(alloc),
+        }
     }
 
     pub(crate) fn is_loose(&self) -> bool

@@ -33,6 +33,14 @@ moved from to f = put to (f from) (put from None f)
 abbrev pub is_below : Name → Name → Bool
 is_below folder name = starts_with nat_eq name (folder ++ 47 ∷ [])
 
+-- the name lies in the folder, and in none within it
+abbrev pub LiesDirectlyIn : Name → Name → Type 0
+LiesDirectlyIn folder name = (last : Name) × (name ≡ folder ++ 47 ∷ last) × ¬ Contains last 47
+
+-- the content is told, and has bytes at the name
+abbrev pub HasBytes : Option Content → Name → Type 0
+HasBytes content name = IsSomeAnd content (λ f. IsSome (f name))
+
 -- the content, where it is told, has this value at the name
 abbrev pub Holds : Option Content → Name → Value → Type 0
 Holds content name value = IsSomeAnd content (λ f. value ≡ f name)

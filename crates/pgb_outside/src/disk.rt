@@ -1,7 +1,7 @@
 // A disk: names with bytes, and what a crash may leave of them (POSIX `write`, `fsync` and `rename`).
 ghost use Rattle.std.specs.Prelude.{◌≡◌, ◌⊎◌, ◌≤◌, [], ℕ, List, Bool, Option, Some, None, false, true, map, option_map, IfOk, OnOk, OnErr, IfSome, length, IsTrue, string_bytes};
-ghost use Rattle.pgb_outside.specs.Content.{Name, Value, Content, put, moved, is_below, Holds, IsThere, Changes, Appends, IsListing, AreFolders, Reads};
-ghost use Rattle.pgb_outside.specs.Moments.{View, Goes, Rests, MayKeep, is_loose};
+ghost use Rattle.pgb_outside.specs.Content.{Name, Value, Content, put, moved, is_below, LiesDirectlyIn, HasBytes, Holds, IsThere, Changes, Appends, IsListing, AreFolders, Reads};
+ghost use Rattle.pgb_outside.specs.Moments.{View, Goes, Rests, Settles, MayKeep, is_loose};
 ghost use Rattle.pgb_outside.specs.States.{DiskState, Opens, Looks, Works};
 ghost use Rattle.pgb_outside.specs.Cause.{HasCause};
 
@@ -89,10 +89,23 @@ pub trait Disk {
         ensures works { Works (λ n v. (n ≡ name.now) × (v ≡ None)) (λ _. ⊥) (state self.old) (state self.new) }
         ensures cause { HasCause (state self.old).faults (state self.new).faults result };
 
+    /// After it a crash leaves each name below the folder its bytes or what was kept before.
+    fn sync_below(&mut self, folder: &str) -> Result<(), Stop>
+        ensures now { (state self.new).view.now ≡ (state self.old).view.now }
+        ensures works { Works (λ n v. IsTrue (is_below folder.now n) × Holds (state self.old).view.now n v) (λ n. IsTrue (is_below folder.now n)) (state self.old) (state self.new) }
+        ensures tight { OnOk result ((n : Name) → IsTrue (is_below folder.now n) → HasBytes (state self.old).view.now n → is_loose (state self.new).view n ≡ false) }
+        ensures cause { HasCause (state self.old).faults (state self.new).faults result };
+
     /// After it a crash leaves at each name below the folder that isn't loose what it holds.
     fn settle(&mut self, folder: &str) -> Result<(), Stop>
         ensures looks { Looks (state self.old) (state self.new) }
-        ensures settled { OnOk result ((n : Name) (v : Value) → IsTrue (is_below folder.now n) → is_loose (state self.old).view n ≡ false → MayKeep (state self.new).view n v → Holds (state self.old).view.now n v) }
+        ensures settled { OnOk result (Settles (λ n. IsTrue (is_below folder.now n)) (state self.old).view (state self.new).view) }
+        ensures cause { HasCause (state self.old).faults (state self.new).faults result };
+
+    /// The same for the names directly in the folder alone.
+    fn settle_in(&mut self, folder: &str) -> Result<(), Stop>
+        ensures looks { Looks (state self.old) (state self.new) }
+        ensures settled { OnOk result (Settles (LiesDirectlyIn folder.now) (state self.old).view (state self.new).view) }
         ensures cause { HasCause (state self.old).faults (state self.new).faults result };
 
     /// A crash may leave what it holds.

@@ -72,7 +72,15 @@ impl Disk for NotThere {
         self.fail()
     }
 
+    fn sync_below(&mut self, _folder: &str) -> Result<(), Stop> {
+        self.fail()
+    }
+
     fn settle(&mut self, _folder: &str) -> Result<(), Stop> {
+        self.fail()
+    }
+
+    fn settle_in(&mut self, _folder: &str) -> Result<(), Stop> {
         self.fail()
     }
 }

@@ -1,11 +1,13 @@
 use Rattle.std.proofs.Common.{rules, ◌≡◌, ◌⊎◌, None, ap, map, string_bytes}
 use Rattle.std.specs.Prelude.{IsTrue}
-use Rattle.pgb_outside.specs.Content.{Holds}
+use Rattle.pgb_outside.specs.Content.{Holds, LiesDirectlyIn}
 use Rattle.pgb_outside.specs.Moments.{is_loose}
 use Rattle.pgb_memory.specs.Counts.{is_to_fail}
-use Rattle.pgb_memory.specs.State.{begun, appended, synced, renamed, removed, settled}
+use Rattle.pgb_memory.specs.State.{begun, appended, synced, renamed, removed, settled, all_synced, takes_in}
+use Rattle.pgb_memory.specs.declared.change.Sweep.TheVariants.{Settle, SettleIn, Sync}
 use Rattle.pgb_memory.specs.Held.{view_of}
-use Rattle.pgb_memory.proofs.Tells.{loosening, changing, begun_goes, appended_goes, synced_goes, renamed_goes, removed_goes, settled_goes, synced_tight, settled_settles}
+use Rattle.pgb_memory.proofs.Tells.{loosening, changing, begun_goes, appended_goes, synced_goes, renamed_goes, removed_goes, settled_goes, all_synced_goes, synced_tight, all_synced_tight, settled_settles}
+use Rattle.pgb_memory.proofs.Slashes.{directly_in}
 use Rattle.std.proofs.lemmas.Result.{on_ok_weaker}
 use Rattle.pgb_memory.proofs.disk.MemDiskDisk.TheImpl.Goals as goal
 
@@ -87,17 +89,51 @@ remove-tells c =
       };
     }
 
+pub sync_below-tells : goal.sync_below-tells
+sync_below-tells c =
+    let old = c.args.self.now.held in
+    let new = c.new.self.now.held in
+    let these = takes_in Sync c.args.folder.now in
+    record {
+      now = search rules;
+      tight = on_ok_weaker c.result (all_synced_tight old new these) c.ensures.ok;
+      cause = c.ensures.cause;
+      works = record {
+        time = changing old new (λ n v. IsTrue (these n) × Holds (view_of old).now n v) (λ n. IsTrue (these n)) (all_synced these) c.result (all_synced_goes old new these) c.ensures.ok c.ensures.err;
+        opened = ap (map string_bytes) c.ensures.opened;
+        proper = search rules;
+        later = c.ensures.cause.later;
+      };
+    }
+
 pub settle-tells : goal.settle-tells
 settle-tells c =
     let old = c.args.self.now.held in
     let new = c.new.self.now.held in
-    let folder = c.args.folder.now in
+    let these = takes_in Settle c.args.folder.now in
     record {
-      settled = on_ok_weaker c.result (settled_settles old new folder) c.ensures.ok;
+      settled = on_ok_weaker c.result (settled_settles old new these) c.ensures.ok;
       cause = c.ensures.cause;
       looks = record {
         now = search rules;
-        time = changing old new (λ _ _. ⊥) (λ _. ⊥) (settled folder) c.result (settled_goes old new folder) c.ensures.ok c.ensures.err;
+        time = changing old new (λ _ _. ⊥) (λ _. ⊥) (settled these) c.result (settled_goes old new these) c.ensures.ok c.ensures.err;
+        opened = ap (map string_bytes) c.ensures.opened;
+        proper = search rules;
+        later = c.ensures.cause.later;
+      };
+    }
+
+pub settle_in-tells : goal.settle_in-tells
+settle_in-tells c =
+    let old = c.args.self.now.held in
+    let new = c.new.self.now.held in
+    let these = takes_in SettleIn c.args.folder.now in
+    record {
+      settled = on_ok_weaker c.result (λ notes n v (lies : LiesDirectlyIn c.args.folder.now n). settled_settles old new these notes n v (directly_in c.args.folder.now n lies)) c.ensures.ok;
+      cause = c.ensures.cause;
+      looks = record {
+        now = search rules;
+        time = changing old new (λ _ _. ⊥) (λ _. ⊥) (settled these) c.result (settled_goes old new these) c.ensures.ok c.ensures.err;
         opened = ap (map string_bytes) c.ensures.opened;
         proper = search rules;
         later = c.ensures.cause.later;
