@@ -12,7 +12,7 @@ use Rattle.pgb_outside.proofs.Nows.{told_as, now_rests}
 use Rattle.pgb_model.specs.declared.wal.ArchiveId.{ArchiveId}
 use Rattle.pgb_model.specs.declared.wal.ArchiveName.{ArchiveName}
 use Rattle.pgb_model.specs.Text.{Text}
-use Rattle.pgb_model.specs.Repository.{Stanza}
+use Rattle.pgb_model.specs.Repository.{Stanza, Repository}
 use Rattle.pgb_model.specs.Stands.{Stands, HasStanza, IsArchivePlace, IsArchiveFile}
 use Rattle.pgb_model.specs.Steps.{Step, One, IsPartOf, Push, changed, after, after_all, push_of}
 use Rattle.pgb_model.specs.Log.{File}
@@ -22,8 +22,11 @@ use Rattle.pgb_model.proofs.Frame.{AgreesPast, alike_stands, past_alike, past_pa
 use Rattle.pgb_model.proofs.Healed.{put_past}
 use Rattle.pgb_model.proofs.Pushed.{at_told, stored_stands}
 use Rattle.pgb_model.proofs.Temporary.{file_lasts}
+use Rattle.pgb_model.specs.Now.{NowStands}
+use Rattle.pgb_model.specs.Steady.{IsSteady, Moves}
 use Rattle.pgb_model.specs.Walks.{IsTight, Walks}
-use Rattle.pgb_model.proofs.Walking.{rests_tight, rests_walks, rests_ends, walks_on, ends_on, crash_walks, ends_with, settled_same}
+use Rattle.pgb_model.proofs.Segments.{IsPartOfPush, NowPartOfPush}
+use Rattle.pgb_model.proofs.Walking.{rests_tight, rests_walks, rests_ends, walks_on, ends_on, crash_walks, ends_with, settled_same, steady_tight, walks_moves, ends_steady}
 use Rattle.pgb_archive.specs.declared.names.FileNames.{FileNames}
 use Rattle.pgb_archive.specs.Stored.{archived_file, archive_path, HasSum, Stores, StoresNone}
 use Rattle.pgb_archive.specs.Looks.{AreNamesOf, path_with}
@@ -225,3 +228,36 @@ module _ (stanza : Text) (id : ArchiveId) (name : ArchiveName) (place : (sum : T
 
         pub put_alike : IsTight stanza v → IsSome v.now → IsAlikeAt (IsPathOf stanza id name) d
         put_alike tight told = new_alike v b rests same tight told settles read d lacks (put_crash tight told) (put_ends tight told)
+
+-- ---- of a disk that stands for one repository
+
+module _ (stanza : Text) (id : ArchiveId) (name : ArchiveName) (bytes : Text) (v d : View) (part : LeavesPart stanza id name bytes v d) where
+  now_stands : (r : Repository) (g : Content) → d.now ≡ Some g → Stands stanza g r → NowStands stanza r d.now
+  now_stands r g is stands = record { stands = λ h is'. subst (λ (k : Content). Stands stanza k r) (same_content g h d.now is is') stands }
+    where
+      same_content : (f g : Content) (o : Option Content) → o ≡ Some f → o ≡ Some g → f ≡ g
+      same_content f g o is is' = let e : ◌≡◌ {A = Option Content} (Some f) (Some g) = sym is ∙ is' in cc
+
+  pub part_now : (s : Stanza) → IsSome v.now → NowStands stanza (Some s) v.now → NowPartOfPush stanza s (archived_file id name bytes) d.now
+  part_now s some now =
+      let f = told_as v.now some in
+      let g = told_as d.now (part.now.told some) in
+      let x = part.now.goes f.0 g.0 f.1 g.1 s (now.stands f.0 f.1) in
+      (x.0, x.1, now_stands (after (Some s) x.0) g.0 g.1 x.2)
+
+  pub part_moves : (s : Stanza) → IsSteady stanza (Some s) v → IsSome v.now → Moves stanza (IsPartOfPush stanza s (archived_file id name bytes)) v d
+  part_moves s steady some = walks_moves stanza (Some s) (PushesPart stanza id name bytes) v d steady (part.walks (steady_tight stanza (Some s) v steady) some)
+      (IsPartOfPush stanza s (archived_file id name bytes)) (λ f g h p. p s h)
+
+  module _ (all : LeavesAll stanza id name bytes v d) where
+    pub all_now : (s : Stanza) → IsSome v.now → NowStands stanza (Some s) v.now → NowStands stanza (Some (after_all s (push_of s (archived_file id name bytes)))) d.now
+    all_now s some now =
+        let f = told_as v.now some in
+        let g = told_as d.now (all.now.told some) in
+        now_stands (Some (after_all s (push_of s (archived_file id name bytes)))) g.0 g.1 (all.now.goes f.0 g.0 f.1 g.1 s (now.stands f.0 f.1))
+
+    pub all_steady : (s : Stanza) → IsSteady stanza (Some s) v → IsSome v.now → IsSteady stanza (Some (after_all s (push_of s (archived_file id name bytes)))) d
+    all_steady s steady some =
+        let tight = steady_tight stanza (Some s) v steady in
+        ends_steady stanza (Some s) (PushesPart stanza id name bytes) v d steady (part.walks tight some) (PushesAll stanza id name bytes) some (all.ends tight some)
+        (Some (after_all s (push_of s (archived_file id name bytes)))) (λ f g h p. p s h)
