@@ -66,5 +66,5 @@ path_lies stanza id name n is =
       last,
       is.2 ∙ in_place stanza id name is.0,
       lacks_not 47 last (lacks_append 47 (wal_text name) (dash (has_sum name) ++ sum_digits (has_sum name) is.0) (wal_slash name)
-      (lacks_append 47 (dash (has_sum name)) (sum_digits (has_sum name) is.0) (dash_slash (has_sum name)) (sum_slash (has_sum name) is.0))),
+          (lacks_append 47 (dash (has_sum name)) (sum_digits (has_sum name) is.0) (dash_slash (has_sum name)) (sum_slash (has_sum name) is.0))),
     )

@@ -106,7 +106,10 @@ returns-in-Free-clause-answered g c =
       bytes = w.0;
       read = w.1;
       of_system = c.in_ok-names.ensures.right w.0 w.1.begins;
-      new = λ _. (free, put_written c.args.stanza.now c.args.id.now c.args.name.now c.args.system (g.P.Pieces.bytes c.args.pieces.now c.args.holder.now) c.args.front.bytes.now c.args.front.length c.requires.told c.requires.within
-          c.in_ok-names.ensures.places (g.D.Disk.state c.args.d.now).view (g.D.Disk.state c.look_checked.new.d).view c.look_checked.ensures.looks.time c.look_checked.ensures.looks.now c.in_ok-names.ensures.settled c.in_ok-names.names c.in_ok-names.ensures.names (g.D.Disk.state c.put_new.new.d).view free w.0 w.1 w.2 w.3);
+      new = λ _. (
+        free,
+        put_written c.args.stanza.now c.args.id.now c.args.name.now c.args.system (g.P.Pieces.bytes c.args.pieces.now c.args.holder.now) c.args.front.bytes.now c.args.front.length c.requires.told c.requires.within
+            c.in_ok-names.ensures.places (g.D.Disk.state c.args.d.now).view (g.D.Disk.state c.look_checked.new.d).view c.look_checked.ensures.looks.time c.look_checked.ensures.looks.now c.in_ok-names.ensures.settled c.in_ok-names.names c.in_ok-names.ensures.names (g.D.Disk.state c.put_new.new.d).view free w.0 w.1 w.2 w.3,
+      );
       same = λ e. cc e;
     }
