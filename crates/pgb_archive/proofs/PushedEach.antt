@@ -1,7 +1,6 @@
 -- The push of a file, image by image.
-use Rattle.std.proofs.Common.{◌≡◌, ◌⊎◌, ⊎_elim, inl, inr, List, [], ◌∷◌, map, Option, Some, None, refl, ap, ◌∙◌, sym, subst}
-use Rattle.std.specs.Prelude.{ℕ, false, IsSome, IfSome, string_bytes, bytes_eq, if◌then◌else◌}
-use Rattle.std.proofs.lemmas.Slice.Eq.{bytes_eq-Decides}
+use Rattle.std.proofs.Common.{◌≡◌, ⊎_elim, inl, inr, List, [], ◌∷◌, map, Option, Some, refl, ap, ◌∙◌, sym, subst}
+use Rattle.std.specs.Prelude.{false, IsSome, IfSome, string_bytes, bytes_eq, if◌then◌else◌}
 use Rattle.sha1.specs.Sha1.{sha1}
 use Rattle.pgb_text.specs.Sum.{IsSum}
 use Rattle.pgb_text.proofs.Digests.{IsSum-sha1}
@@ -27,7 +26,7 @@ use Rattle.pgb_model.specs.Now.{NowStands}
 use Rattle.pgb_model.specs.Steady.{IsSteady, Moves}
 use Rattle.pgb_model.specs.Walks.{IsTight, Walks}
 use Rattle.pgb_model.proofs.Segments.{IsPartOfPush, NowPartOfPush}
-use Rattle.pgb_model.proofs.Walking.{rests_tight, rests_walks, rests_ends, walks_on, ends_on, crash_walks, ends_with, settled_same, settles_on, steady_tight, walks_moves, ends_steady}
+use Rattle.pgb_model.proofs.Walking.{rests_tight, rests_walks, walks_on, ends_on, crash_walks, ends_with, settled_same, settles_on, steady_tight, walks_moves, ends_steady}
 use Rattle.pgb_archive.specs.declared.names.FileNames.{FileNames}
 use Rattle.pgb_archive.specs.Stored.{archived_file, archive_path, StoresNone}
 use Rattle.pgb_archive.specs.Looks.{AreNamesOf, path_with}
