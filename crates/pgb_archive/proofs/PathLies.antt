@@ -1,15 +1,13 @@
 -- A file's paths lie directly in its folder.
-use Rattle.std.proofs.Common.{rules, ◌≡◌, ◌≢◌, ◌<◌, ℕ, zero, suc, Bool, true, false, List, [], ◌∷◌, ◌++◌, ◌/◌, ◌%◌, slice_index, length, refl, ap, ◌∙◌, sym, subst, arith}
+use Rattle.std.proofs.Common.{rules, ◌≡◌, ◌≢◌, ◌<◌, ℕ, zero, suc, Bool, true, false, [], ◌∷◌, ◌++◌, ◌/◌, ◌%◌, slice_index, length, ◌∙◌, sym, arith}
 use Rattle.std.specs.Prelude.{Contains, codes, slice_index_or}
 use Rattle.hex.specs.Hex.{encode_with, lower_digits}
-use Rattle.pgb_text.specs.Sum.{sum_text}
 use Rattle.pgb_outside.specs.Content.{Name, LiesDirectlyIn}
 use Rattle.pgb_model.specs.declared.wal.ArchiveId.{ArchiveId}
 use Rattle.pgb_model.specs.declared.wal.ArchiveName.{ArchiveName}
 use Rattle.pgb_model.specs.declared.wal.ArchiveName.TheVariants.{Segment as Whole, Partial, History, Backup}
 use Rattle.pgb_model.specs.Text.{Text, hex_upper}
 use Rattle.pgb_model.specs.Names.{wal_text, segment_text}
-use Rattle.pgb_archive.specs.Stored.{archive_path}
 use Rattle.pgb_archive.specs.Paths.{Lacks, has_sum}
 use Rattle.pgb_archive.specs.Looks.{file_place, dash, sum_digits}
 use Rattle.pgb_archive.specs.Pushes.{IsPathOf}
@@ -66,5 +64,5 @@ path_lies stanza id name n is =
       last,
       is.2 ∙ in_place stanza id name is.0,
       lacks_not 47 last (lacks_append 47 (wal_text name) (dash (has_sum name) ++ sum_digits (has_sum name) is.0) (wal_slash name)
-      (lacks_append 47 (dash (has_sum name)) (sum_digits (has_sum name) is.0) (dash_slash (has_sum name)) (sum_slash (has_sum name) is.0))),
+          (lacks_append 47 (dash (has_sum name)) (sum_digits (has_sum name) is.0) (dash_slash (has_sum name)) (sum_slash (has_sum name) is.0))),
     )

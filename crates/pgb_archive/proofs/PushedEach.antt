@@ -1,7 +1,6 @@
 -- The push of a file, image by image.
-use Rattle.std.proofs.Common.{◌≡◌, ◌⊎◌, ⊎_elim, inl, inr, List, [], ◌∷◌, map, Option, Some, None, refl, ap, ◌∙◌, sym, subst}
-use Rattle.std.specs.Prelude.{ℕ, false, IsSome, IfSome, string_bytes, bytes_eq, if◌then◌else◌}
-use Rattle.std.proofs.lemmas.Slice.Eq.{bytes_eq-Decides}
+use Rattle.std.proofs.Common.{◌≡◌, ⊎_elim, inl, inr, List, [], ◌∷◌, map, Option, Some, refl, ap, ◌∙◌, sym, subst}
+use Rattle.std.specs.Prelude.{false, IsSome, IfSome, string_bytes, bytes_eq, if◌then◌else◌}
 use Rattle.sha1.specs.Sha1.{sha1}
 use Rattle.pgb_text.specs.Sum.{IsSum}
 use Rattle.pgb_text.proofs.Digests.{IsSum-sha1}
@@ -9,10 +8,11 @@ use Rattle.pgb_outside.specs.Content.{Content, LiesDirectlyIn, put}
 use Rattle.pgb_outside.specs.Moments.{View, Rests, Settles, is_loose}
 use Rattle.pgb_outside.specs.Crash.{IsTemporary, Leaves, Crash, Ends, NowGoes, FirstOf, AllOf, Alike, IsAlikeAt}
 use Rattle.pgb_outside.proofs.Nows.{told_as, now_rests}
+use Rattle.pgb_outside.proofs.Steps.{goes_on}
 use Rattle.pgb_model.specs.declared.wal.ArchiveId.{ArchiveId}
 use Rattle.pgb_model.specs.declared.wal.ArchiveName.{ArchiveName}
 use Rattle.pgb_model.specs.Text.{Text}
-use Rattle.pgb_model.specs.Repository.{Stanza}
+use Rattle.pgb_model.specs.Repository.{Stanza, Repository}
 use Rattle.pgb_model.specs.Stands.{Stands, HasStanza, IsArchivePlace, IsArchiveFile}
 use Rattle.pgb_model.specs.Steps.{Step, One, IsPartOf, Push, changed, after, after_all, push_of}
 use Rattle.pgb_model.specs.Log.{File}
@@ -22,13 +22,16 @@ use Rattle.pgb_model.proofs.Frame.{AgreesPast, alike_stands, past_alike, past_pa
 use Rattle.pgb_model.proofs.Healed.{put_past}
 use Rattle.pgb_model.proofs.Pushed.{at_told, stored_stands}
 use Rattle.pgb_model.proofs.Temporary.{file_lasts}
+use Rattle.pgb_model.specs.Now.{NowStands}
+use Rattle.pgb_model.specs.Steady.{IsSteady, Moves}
 use Rattle.pgb_model.specs.Walks.{IsTight, Walks}
-use Rattle.pgb_model.proofs.Walking.{rests_tight, rests_walks, rests_ends, walks_on, ends_on, crash_walks, ends_with, settled_same}
+use Rattle.pgb_model.proofs.Segments.{IsPartOfPush, NowPartOfPush}
+use Rattle.pgb_model.proofs.Walking.{rests_tight, rests_walks, walks_on, ends_on, crash_walks, ends_with, settled_same, settles_on, steady_tight, walks_moves, ends_steady}
 use Rattle.pgb_archive.specs.declared.names.FileNames.{FileNames}
-use Rattle.pgb_archive.specs.Stored.{archived_file, archive_path, HasSum, Stores, StoresNone}
+use Rattle.pgb_archive.specs.Stored.{archived_file, archive_path, StoresNone}
 use Rattle.pgb_archive.specs.Looks.{AreNamesOf, path_with}
 use Rattle.pgb_archive.specs.Pushes.{IsPathOf, PushesPart, PushesAll, LeavesPart, LeavesAll}
-use Rattle.pgb_archive.proofs.Owns.{stored_has}
+use Rattle.pgb_archive.proofs.AlikeFiles.{alike_stores, alike_none}
 use Rattle.pgb_archive.proofs.FilePushed.{StoresSome, lacks_at, new_push, no_push}
 use Rattle.pgb_archive.specs.Pushing.{PutsPart, PutsWhole}
 use Rattle.pgb_archive.proofs.PathLies.{path_lies}
@@ -50,15 +53,6 @@ pub settles_paths : (stanza : Text) (id : ArchiveId) (name : ArchiveName) (names
 settles_paths stanza id name names of v b settles n x is tight k = settles n x (subst (λ (folder : Text). LiesDirectlyIn folder n) (sym of.folder) (path_lies stanza id name n is)) tight k
 
 module _ (stanza : Text) (id : ArchiveId) (name : ArchiveName) (place : (sum : Text) → IsSum sum → IsArchivePlace id name sum) where
-  -- ---- contents that agree at the file's paths
-
-  module _ (f f0 : Content) (same : (n : Text) → IsPathOf stanza id name n → f n ≡ f0 n) where
-    stores_same : (sum : Text) → Stores stanza id name f sum → Stores stanza id name f0 sum
-    stores_same sum stores = subst (λ (o : Option Text). HasSum name o sum) (same (archive_path stanza id name sum) (sum, (stored_has name (f (archive_path stanza id name sum)) sum stores).0, refl)) stores
-
-    none_here : StoresNone stanza id name f0 → StoresNone stanza id name f
-    none_here none sum stores = none sum (stores_same sum stores)
-
   -- ---- one content
 
   module _ (bytes : Text) where
@@ -118,7 +112,7 @@ module _ (stanza : Text) (id : ArchiveId) (name : ArchiveName) (place : (sum : T
         comes = λ some g leaves.
             let f0 = told_as v.now told in
             let stores = at_told (StoresSome stanza id name) v.now f0.0 f0.1 has in
-            let there : StoresSome stanza id name g = (stores.0, stores_same f0.0 g (λ n is. sym (alike_here f0.0 f0.1 g leaves n is)) stores.0 stores.1) in
+            let there : StoresSome stanza id name g = (stores.0, alike_stores stanza id name f0.0 g (alike_here f0.0 f0.1 g leaves) stores.0 stores.1) in
             (g, old_leaves v b rests g same leaves, same_all bytes g there);
       }
 
@@ -130,7 +124,7 @@ module _ (stanza : Text) (id : ArchiveId) (name : ArchiveName) (place : (sum : T
         none_left : (f : Content) → Leaves b b.moment f → StoresNone stanza id name f
         none_left f leaves =
             let f0 = told_as v.now told in
-            none_here f f0.0 (alike_here f0.0 f0.1 f leaves) (at_told (StoresNone stanza id name) v.now f0.0 f0.1 lacks)
+            alike_none stanza id name f0.0 f (alike_here f0.0 f0.1 f leaves) (at_told (StoresNone stanza id name) v.now f0.0 f0.1 lacks)
 
         second : Walks stanza (PushesPart stanza id name bytes) b d
         second = crash_walks stanza (FirstOf ((archive_path stanza id name (sha1 bytes), bytes) ∷ [])) b d (rests_tight stanza v b rests same tight) some_b crash (new_past bytes)
@@ -172,6 +166,10 @@ module _ (stanza : Text) (id : ArchiveId) (name : ArchiveName) (place : (sum : T
     -- what the disk held at the file's paths it has in all that is left
     pub looked_alike : IsTight stanza v → IsSome v.now → IsAlikeAt (IsPathOf stanza id name) b
     looked_alike tight told = kept_alike v b rests same tight told settles
+
+    -- .. also behind calls that only read
+    pub behind_alike : (d : View) → Rests b d → d.now ≡ b.now → IsTight stanza v → IsSome v.now → IsAlikeAt (IsPathOf stanza id name) d
+    behind_alike d later still tight told = kept_alike v d (goes_on (λ _ _. ⊥) (λ _. ⊥) v b d rests later) (still ∙ same) tight told (settles_on (IsPathOf stanza id name) v b d settles later)
 
     -- it was stored
     pub stored_leaves : (bytes : Text) → IfSome v.now (StoresSome stanza id name) → LeavesAll stanza id name bytes v b
@@ -225,3 +223,36 @@ module _ (stanza : Text) (id : ArchiveId) (name : ArchiveName) (place : (sum : T
 
         pub put_alike : IsTight stanza v → IsSome v.now → IsAlikeAt (IsPathOf stanza id name) d
         put_alike tight told = new_alike v b rests same tight told settles read d lacks (put_crash tight told) (put_ends tight told)
+
+-- ---- of a disk that stands for one repository
+
+module _ (stanza : Text) (id : ArchiveId) (name : ArchiveName) (bytes : Text) (v d : View) (part : LeavesPart stanza id name bytes v d) where
+  now_stands : (r : Repository) (g : Content) → d.now ≡ Some g → Stands stanza g r → NowStands stanza r d.now
+  now_stands r g is stands = record { stands = λ h is'. subst (λ (k : Content). Stands stanza k r) (same_content g h d.now is is') stands }
+    where
+      same_content : (f g : Content) (o : Option Content) → o ≡ Some f → o ≡ Some g → f ≡ g
+      same_content f g o is is' = let e : ◌≡◌ {A = Option Content} (Some f) (Some g) = sym is ∙ is' in cc
+
+  pub part_now : (s : Stanza) → IsSome v.now → NowStands stanza (Some s) v.now → NowPartOfPush stanza s (archived_file id name bytes) d.now
+  part_now s some now =
+      let f = told_as v.now some in
+      let g = told_as d.now (part.now.told some) in
+      let x = part.now.goes f.0 g.0 f.1 g.1 s (now.stands f.0 f.1) in
+      (x.0, x.1, now_stands (after (Some s) x.0) g.0 g.1 x.2)
+
+  pub part_moves : (s : Stanza) → IsSteady stanza (Some s) v → IsSome v.now → Moves stanza (IsPartOfPush stanza s (archived_file id name bytes)) v d
+  part_moves s steady some = walks_moves stanza (Some s) (PushesPart stanza id name bytes) v d steady (part.walks (steady_tight stanza (Some s) v steady) some)
+      (IsPartOfPush stanza s (archived_file id name bytes)) (λ f g h p. p s h)
+
+  module _ (all : LeavesAll stanza id name bytes v d) where
+    pub all_now : (s : Stanza) → IsSome v.now → NowStands stanza (Some s) v.now → NowStands stanza (Some (after_all s (push_of s (archived_file id name bytes)))) d.now
+    all_now s some now =
+        let f = told_as v.now some in
+        let g = told_as d.now (all.now.told some) in
+        now_stands (Some (after_all s (push_of s (archived_file id name bytes)))) g.0 g.1 (all.now.goes f.0 g.0 f.1 g.1 s (now.stands f.0 f.1))
+
+    pub all_steady : (s : Stanza) → IsSteady stanza (Some s) v → IsSome v.now → IsSteady stanza (Some (after_all s (push_of s (archived_file id name bytes)))) d
+    all_steady s steady some =
+        let tight = steady_tight stanza (Some s) v steady in
+        ends_steady stanza (Some s) (PushesPart stanza id name bytes) v d steady (part.walks tight some) (PushesAll stanza id name bytes) some (all.ends tight some)
+        (Some (after_all s (push_of s (archived_file id name bytes)))) (λ f g h p. p s h)

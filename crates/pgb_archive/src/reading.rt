@@ -2,7 +2,7 @@
 ghost use Rattle.std.specs.Prelude.{◌≡◌, ◌≤◌, ◌^◌, true, false, Some, IfOk, IfErr, IfSome, IsSome, IsErrOf, OnOk, length, string_bytes};
 ghost use Rattle.sha1.specs.Sha1.{sha1};
 ghost use Rattle.pgb_outside.specs.States.{Looks};
-ghost use Rattle.pgb_outside.specs.Moments.{Rests};
+ghost use Rattle.pgb_outside.specs.Moments.{Rests, Settles};
 ghost use Rattle.pgb_outside.specs.Cause.{Rises};
 ghost use Rattle.pgb_outside.specs.Crash.{IsAlikeAt};
 ghost use Rattle.pgb_model.specs.declared.wal.ArchiveId.{ArchiveId};
@@ -14,8 +14,9 @@ ghost use Rattle.pgb_model.specs.Walks.{IsTight};
 ghost use Rattle.pgb_archive.specs.Stored.{archived_file, Finds};
 ghost use Rattle.pgb_archive.specs.Paths.{has_sum};
 ghost use Rattle.pgb_archive.specs.Pushes.{IsPathOf};
-ghost use Rattle.pgb_archive.specs.Looks.{AreNamesOf, IsStoredAs};
-ghost use Rattle.pgb_archive.specs.Causes.{StoresBytes, GetCause, ReadCause, IsUnarchived, PresentCause, limit_of};
+ghost use Rattle.pgb_archive.specs.Pushing.{HasPlaces};
+ghost use Rattle.pgb_archive.specs.Looks.{AreNamesOf, IsStoredAs, IsStop};
+ghost use Rattle.pgb_archive.specs.Causes.{StoresBytes, GetCause, ReadCause, IsUnarchived, PresentCause, OnAnswer, limit_of};
 
 use crate::fault::ArchiveFault;
 use crate::files::Stored;
@@ -87,7 +88,27 @@ fn get_other<D: Disk>(alloc: Global, d: &mut D, names: &FileNames) -> Result<Vec
     }
 }
 
-/// The bytes of a stored file. Of a segment they have the sum that its name tells.
+// The names of a file, of which those in its folder are settled.
+fn names_settled<D: Disk>(
+    alloc: Global,
+    d: &mut D,
+    stanza: &str,
+    id: ArchiveId,
+    name: &ArchiveName,
+) -> Result<FileNames, ArchiveFault>
+    ensures names { IfOk result (AreNamesOf stanza.now id name.now) }
+    ensures places { OnOk result (HasPlaces id name.now) }
+    ensures settled { OnOk result (Settles (IsPathOf stanza.now id name.now) (D.state d.old).view (D.state d.new).view) }
+    ensures cause { IsErrOf result ArchiveFault.Disk → Rises (D.state d.old).faults (D.state d.new).faults }
+    ensures stops { IfErr result IsStop }
+    ensures looks { Looks (D.state d.old) (D.state d.new) }
+{
+    let names = file_names(alloc, stanza, id, *name)?;
+    d.settle_in(names.folder.as_str())?;
+    Ok(names)
+}
+
+/// The bytes of a stored file. Of a segment they have the sum that its name tells. The names of its folder are settled before.
 pub fn get<D: Disk>(
     alloc: Global,
     d: &mut D,
@@ -102,10 +123,13 @@ pub fn get<D: Disk>(
         → In (archived_file id.now name.now bytes.items) s.archived) }
     ensures unarchived { IsErrOf result ArchiveFault.NotFound → (s : Stanza) → IsSome (D.state d.old).view.now → NowStands stanza.now (Some s) (D.state d.old).view.now
         → IsUnarchived id.now name.now s.archived }
+    // All that a stop leaves is alike at the file's paths, so none takes the answer away.
+    ensures alike { OnAnswer result (IsTight stanza.now (D.state d.old).view → IsSome (D.state d.old).view.now
+        → IsAlikeAt (IsPathOf stanza.now id.now name.now) (D.state d.new).view) }
     ensures cause { IfErr result (GetCause stanza.now id.now name.now (D.state d.old).view.now (Rises (D.state d.old).faults (D.state d.new).faults)) }
     ensures looks { Looks (D.state d.old) (D.state d.new) }
 {
-    let names = file_names(alloc, stanza, *id, *name)?;
+    let names = names_settled(alloc, d, stanza, *id, name)?;
     if names.has_sum {
         get_segment(alloc, d, &names)
     } else {
