@@ -19,11 +19,14 @@ use Rattle.pgb_stage.specs.declared.outcome.Outcome.{Outcome}
 use Rattle.pgb_stage.specs.Halts.{HaltCause, Never, Only}
 use Rattle.pgb_stage.specs.Plans.{Heals, AreHealed, OnReading}
 use Rattle.pgb_stage.specs.Reached.{back_if}
-use Rattle.pgb_stage.specs.Runs.{Reached, to_end, turned_back, stopped, OnNone, Runs, Takes, Quiet, Begins, On}
+use Rattle.pgb_stage.specs.declared.plan.Settling.{Settling}
+use Rattle.pgb_stage.specs.declared.plan.Settling.TheVariants.{Looked}
+use Rattle.pgb_stage.specs.Runs.{Reached, to_end, turned_back, stopped, OnNone, Runs, Takes, Quiet, Begins, IsLookedAt, On}
 use Rattle.pgb_stage.specs.Seen.{Seen, Failed, AreLater, AreRead}
 use Rattle.pgb_stage.specs.States.{WireState, LocksState}
 use Rattle.pgb_stage.proofs.Counts.{rises_from}
-use Rattle.pgb_stage.proofs.Lifted.{on_as, still_quiet, rests_quiet, quiet_takes, begun_takes, opened_takes}
+use Rattle.pgb_stage.proofs.Lifted.{on_as, still_quiet, rests_quiet, quiet_takes, looked_at, begun_takes, opened_takes}
+use Rattle.pgb_model.proofs.Logged.{rests_still}
 use Rattle.pgb_prepare.specs.Stages.{FoundCause, StageCause}
 use Rattle.pgb_prepare.specs.Taking.{HeldCause}
 use Rattle.pgb_create.proofs.Statuses.{closes_as}
@@ -33,7 +36,7 @@ use Rattle.pgb_command.specs.declared.fault.Fault.TheVariants.{Usage, Stage, Com
 use Rattle.pgb_command.specs.Answers.{reached_of, ending_of, is_early}
 use Rattle.pgb_command.specs.Asked.{Request, create, push, get, report, Asked}
 use Rattle.pgb_command.specs.Faults.{of_stage}
-use Rattle.pgb_command.specs.Tables.{Known, known, plan_of, manner_of, CommandCause, Promise, OnReader, OnCreate, OnOther, FolderGoes}
+use Rattle.pgb_command.specs.Tables.{Known, known, plan_of, manner_of, CommandCause, Promise, Lasts, OnReader, OnCreate, OnOther, FolderGoes}
 use Rattle.pgb_command.specs.Did.{Ran, OnReady, Cause, Did, OwnCause, Spares, Closes, WordsCause}
 use Rattle.pgb_command.proofs.Ends.{all_later, only_rose}
 
@@ -206,9 +209,11 @@ cause_from a b m k read NoMemory h = h
 -- what was only opened or read before it doesn't matter
 pub did_from : (a : Asked) (b m k : Seen) (r : Result Outcome Fault) → AreRead b m → Did a m k r → Did a b k r
 did_from a b m k r read did = record {
-  steps = subst (λ (o : Option Nodes). On (manner_of a.request a.data_folder o) (λ command. Takes a.stanza command (reached_of (ending_of r)) b.repo.view b.spool.view k.repo.view k.spool.view)) read.nodes
-      (on_as (manner_of a.request a.data_folder m.tree.nodes) _ _ (λ command h. opened_takes a.stanza b.repo.view m.repo.view b.spool.view m.spool.view read.repo.time read.repo.now read.spool.time read.spool.now command (reached_of (ending_of r)) k.repo.view k.spool.view h) did.steps);
+  steps = subst (λ (o : Option Nodes). On (manner_of a.request a.data_folder o) (λ command. Takes (plan_of a.request).settling a.stanza command (reached_of (ending_of r)) b.repo.view b.spool.view k.repo.view k.spool.view)) read.nodes
+      (on_as (manner_of a.request a.data_folder m.tree.nodes) _ _ (λ command h. opened_takes a.stanza b.repo.view m.repo.view b.spool.view m.spool.view read.repo.time read.repo.now read.spool.time read.spool.now (plan_of a.request).settling command (reached_of (ending_of r)) k.repo.view k.spool.view h) did.steps);
   promise = ok_as r _ _ (λ outcome h. subst (λ (o : Known). OnReady a o (λ old. Promise a a.request old (known k) outcome)) (known_same b m read) h) did.promise;
+  lasts = ok_as r _ _ (λ outcome h q log some keeps. subst (λ (n : Option Nodes). Lasts a a.request n k outcome) read.nodes
+      (h q log (subst (λ (o : Option Content). IsSome o) (sym read.repo.now) some) (rests_still a.stanza q log b.repo.view m.repo.view read.repo.time read.repo.now keeps))) did.lasts;
   cause = err_as r _ _ (cause_from a b m k read) did.cause;
   healed = on_ok r _ _ (λ h some. h (subst (λ (o : Option Content). IsSome o) (sym read.repo.now) some)) did.healed;
   spares = spares_on a b m k r (any_reader a.request _ read.repo) (any_create a.request _ read.repo) read.nodes read.server did.spares;
@@ -236,9 +241,10 @@ stage_reached fault = go (is_early fault)
 
 pub did_nothing : (a : Asked) (b k : Seen) (fault : Fault) → Quiet a.stanza b.repo.view k.repo.view → Rests b.spool.view k.spool.view → k.spool.view.now ≡ b.spool.view.now → Spares a b k (Err fault) → AreLater b k → Cause a b k fault → Did a b k (Err fault)
 did_nothing a b k fault quiet rests same spares later cause = record {
-  steps = idle a.request a.data_folder b.tree.nodes _ (λ command. opened_takes a.stanza b.repo.view b.repo.view b.spool.view k.spool.view (rests_none b.repo.view) refl rests same command (reached_of (ending_of (Err fault))) k.repo.view k.spool.view
-      (quiet_takes a.stanza command (reached_of (ending_of (Err fault))) b.repo.view k.repo.view k.spool.view (stage_reached fault) quiet));
+  steps = idle a.request a.data_folder b.tree.nodes _ (λ command. opened_takes a.stanza b.repo.view b.repo.view b.spool.view k.spool.view (rests_none b.repo.view) refl rests same (plan_of a.request).settling command (reached_of (ending_of (Err fault))) k.repo.view k.spool.view
+      (quiet_takes (plan_of a.request).settling a.stanza command (reached_of (ending_of (Err fault))) b.repo.view k.repo.view k.spool.view (stage_reached fault) quiet));
   promise = tt;
+  lasts = tt;
   cause = cause;
   healed = tt;
   spares = spares;
@@ -247,13 +253,22 @@ did_nothing a b k fault quiet rests same spares later cause = record {
 
 -- ---- behind the stages
 
+-- what holds of a disk whose names that are looked at were settled
+lasts_by : (a : Asked) (request : Request) (v : View) (nodes mid : Option Nodes) (k : Seen) (outcome : Outcome) → mid ≡ nodes → ((plan_of request).settling ≡ Looked → IsLookedAt a.stanza v) → (IsLookedAt a.stanza v → Lasts a request mid k outcome) → Lasts a request nodes k outcome
+lasts_by a create v nodes mid k outcome same at h = tt
+lasts_by a (push path) v nodes mid k outcome same at h = subst (λ (n : Option Nodes). Lasts a (push path) n k outcome) same (h (at refl))
+lasts_by a (get name path) v nodes mid k outcome same at h = subst (λ (n : Option Nodes). Lasts a (get name path) n k outcome) same (h (at refl))
+lasts_by a (report form) v nodes mid k outcome same at h = tt
+
 -- what the stages behind the locks add
-did_ran : (a : Asked) (b m k : Seen) (r : Result Outcome Fault) → m ≡ record b { repo = m.repo; tree = m.tree } → m.tree.nodes ≡ b.tree.nodes → b.repo.faults ≤ m.repo.faults → b.tree.faults ≤ m.tree.faults → Quiet a.stanza b.repo.view m.repo.view → Begins a.stanza b.repo.view m.repo.view →
+did_ran : (a : Asked) (b m k : Seen) (r : Result Outcome Fault) → m ≡ record b { repo = m.repo; tree = m.tree } → m.tree.nodes ≡ b.tree.nodes → b.repo.faults ≤ m.repo.faults → b.tree.faults ≤ m.tree.faults → Quiet a.stanza b.repo.view m.repo.view → Begins (plan_of a.request).settling a.stanza b.repo.view m.repo.view →
     Heals (plan_of a.request).pairs a.stanza b.repo.view.now m.repo.view.now → IfSome m.repo.view.now (AreHealed (plan_of a.request).pairs a.stanza) → OnReading (plan_of a.request).pairs (IsStill b.repo.view m.repo.view) → Ran a m k r → Did a b k r
 did_ran a b m k r others nodes repo_later tree_later quiet begun heals healed still ran = record {
-  steps = subst (λ (o : Option Nodes). On (manner_of a.request a.data_folder o) (λ command. Takes a.stanza command (reached_of (ending_of r)) b.repo.view b.spool.view k.repo.view k.spool.view)) nodes
-      (on_as (manner_of a.request a.data_folder m.tree.nodes) _ _ (λ command h. begun_takes a.stanza b.repo.view m.repo.view quiet begun command (reached_of (ending_of r)) b.spool.view k.repo.view k.spool.view (subst (λ (v : View). Runs a.stanza command (reached_of (ending_of r)) m.repo.view v k.repo.view k.spool.view) (ap (λ (s : Seen). s.spool.view) others) h)) ran.steps);
+  steps = subst (λ (o : Option Nodes). On (manner_of a.request a.data_folder o) (λ command. Takes (plan_of a.request).settling a.stanza command (reached_of (ending_of r)) b.repo.view b.spool.view k.repo.view k.spool.view)) nodes
+      (on_as (manner_of a.request a.data_folder m.tree.nodes) _ _ (λ command h. begun_takes (plan_of a.request).settling a.stanza b.repo.view m.repo.view quiet begun command (reached_of (ending_of r)) b.spool.view k.repo.view k.spool.view (subst (λ (v : View). Runs (plan_of a.request).settling a.stanza command (reached_of (ending_of r)) m.repo.view v k.repo.view k.spool.view) (ap (λ (s : Seen). s.spool.view) others) h)) ran.steps);
   promise = ok_as r _ _ (λ outcome h. (m.repo.view.now, heals, subst (λ (o : Known). Promise a a.request o (known k) outcome) known_is h)) ran.promise;
+  lasts = ok_as r _ _ (λ outcome h q log some keeps. lasts_by a a.request m.repo.view b.tree.nodes m.tree.nodes k outcome nodes
+      (λ is. looked_at a.stanza b.repo.view m.repo.view quiet (subst (λ (how : Settling). Begins how a.stanza b.repo.view m.repo.view) is begun) q log some keeps) h) ran.lasts;
   cause = err_as r _ _ own ran.cause;
   healed = on_ok r _ _ (λ h some. h (quiet.now.told some) healed) ran.healed;
   spares = spares_on a b m k r (reader_still a.request _ still) (create_still a.request _ still) nodes (ap (λ (s : Seen). s.server) others) ran.spares;
@@ -275,10 +290,10 @@ did_ran a b m k r others nodes repo_later tree_later quiet begun heals healed st
     own NoMemory h = h
 
 -- the same, by the code's plan
-pub worked : (a : Asked) (plan : Plan) → plan ≡ plan_of a.request → (b m k : Seen) (r : Result Outcome Fault) → m ≡ record b { repo = m.repo; tree = m.tree } → m.tree.nodes ≡ b.tree.nodes → b.repo.faults ≤ m.repo.faults → b.tree.faults ≤ m.tree.faults → Quiet a.stanza b.repo.view m.repo.view → Begins a.stanza b.repo.view m.repo.view →
+pub worked : (a : Asked) (plan : Plan) → plan ≡ plan_of a.request → (b m k : Seen) (r : Result Outcome Fault) → m ≡ record b { repo = m.repo; tree = m.tree } → m.tree.nodes ≡ b.tree.nodes → b.repo.faults ≤ m.repo.faults → b.tree.faults ≤ m.tree.faults → Quiet a.stanza b.repo.view m.repo.view → Begins plan.settling a.stanza b.repo.view m.repo.view →
     Heals plan.pairs a.stanza b.repo.view.now m.repo.view.now → IfSome m.repo.view.now (AreHealed plan.pairs a.stanza) → OnReading plan.pairs (IsStill b.repo.view m.repo.view) → Ran a m k r → Did a b k r
-worked a plan is b m k r others nodes repo_later tree_later quiet begun heals healed still ran = did_ran a b m k r others nodes repo_later tree_later quiet begun
-    (subst (λ (p : Plan). Heals p.pairs a.stanza b.repo.view.now m.repo.view.now) is heals) (subst (λ (p : Plan). IfSome m.repo.view.now (AreHealed p.pairs a.stanza)) is healed)
+worked a plan is b m k r others nodes repo_later tree_later quiet begun heals healed still ran = did_ran a b m k r others nodes repo_later tree_later quiet
+    (subst (λ (p : Plan). Begins p.settling a.stanza b.repo.view m.repo.view) is begun) (subst (λ (p : Plan). Heals p.pairs a.stanza b.repo.view.now m.repo.view.now) is heals) (subst (λ (p : Plan). IfSome m.repo.view.now (AreHealed p.pairs a.stanza)) is healed)
     (subst (λ (p : Plan). OnReading p.pairs (IsStill b.repo.view m.repo.view)) is still) ran
 
 -- a stage refuses, or an object fails in it

@@ -46,9 +46,9 @@ found words b k n (inr (s, settles, inr (what, is, still, answered))) a asks = i
 
 -- ---- nothing was done
 
-idle_takes : (a : Asked) (b k : Seen) (fault : Fault) → IsIdle b k → On (manner_of a.request a.data_folder b.tree.nodes) (λ command. Takes a.stanza command (reached_of (ending_of (Err fault))) b.repo.view b.spool.view k.repo.view k.spool.view)
-idle_takes a b k fault i = idle a.request a.data_folder b.tree.nodes _ (λ command. opened_takes a.stanza b.repo.view k.repo.view b.spool.view k.spool.view i.repo.time i.repo.now i.spool.time i.spool.now command (reached_of (ending_of (Err fault))) k.repo.view k.spool.view
-    (quiet_takes a.stanza command (reached_of (ending_of (Err fault))) k.repo.view k.repo.view k.spool.view (stage_reached fault) (still_quiet a.stanza k.repo.view)))
+idle_takes : (a : Asked) (b k : Seen) (fault : Fault) → IsIdle b k → On (manner_of a.request a.data_folder b.tree.nodes) (λ command. Takes (plan_of a.request).settling a.stanza command (reached_of (ending_of (Err fault))) b.repo.view b.spool.view k.repo.view k.spool.view)
+idle_takes a b k fault i = idle a.request a.data_folder b.tree.nodes _ (λ command. opened_takes a.stanza b.repo.view k.repo.view b.spool.view k.spool.view i.repo.time i.repo.now i.spool.time i.spool.now (plan_of a.request).settling command (reached_of (ending_of (Err fault))) k.repo.view k.spool.view
+    (quiet_takes (plan_of a.request).settling a.stanza command (reached_of (ending_of (Err fault))) k.repo.view k.repo.view k.spool.view (stage_reached fault) (still_quiet a.stanza k.repo.view)))
 
 idle_nodes : (b k : Seen) → IsIdle b k → k.tree.nodes ≡ b.tree.nodes
 idle_nodes b k i = ap (λ (t : TreeState). t.nodes) i.tree
@@ -138,7 +138,7 @@ module _ (a : Asked) (b k : Seen) (n : ℕ) where
   fulfils_by unknown (Ok outcome) small did t = go t.ending t.is t.wrote
     where
       go : (ending : Ending) → n ≡ status ending → IsTold b.out.written (answer_of unknown (Ok outcome)) k.out.written (Failed b k Output) ending → Fulfils a b k n
-      go ending is (Whole e same wrote) = record { outcome = outcome; is = is ∙ ap status same; promise = did.promise; unknown = unknown; wrote = wrote }
+      go ending is (Whole e same wrote) = record { outcome = outcome; is = is ∙ ap status same; promise = did.promise; lasts = did.lasts; unknown = unknown; wrote = wrote }
       go ending is (Cut rose front) = absurd (omega (arith, is, small))
       go ending is (Starved lines which front) = absurd (omega (arith, is, small))
       go ending is (Wordless rose front) = absurd (omega (arith, is, small))

@@ -2,12 +2,14 @@
 use Rattle.std.proofs.Common.{◌≡◌, inl, inr, List, ◌∷◌, Option, Some, None, Result, Ok, Err, IfOk, IfErr, refl, sym, subst, ap, ◌∙◌, Bool, true}
 use Rattle.std.specs.Prelude.{IfSome, IsSome, IsSomeAnd, OnOk}
 use Rattle.pgb_outside.specs.Content.{Content}
+use Rattle.pgb_outside.specs.Crash.{Leaves}
 use Rattle.pgb_outside.specs.Moments.{View}
 use Rattle.pgb_outside.specs.Tree.{Nodes}
 use Rattle.pgb_model.specs.Text.{Text}
 use Rattle.pgb_model.specs.Repository.{Repository}
 use Rattle.pgb_model.specs.Steps.{Command, StanzaCreate, Reading}
 use Rattle.pgb_model.specs.Log.{Done, KeepsSpool}
+use Rattle.pgb_model.specs.Walks.{IsTight}
 use Rattle.pgb_model.proofs.Logged.{create_spool}
 use Rattle.pgb_model.proofs.PushDone.{push_spool}
 use Rattle.pgb_options.specs.declared.options.OutputWord.{OutputWord}
@@ -17,6 +19,8 @@ use Rattle.pgb_archive.specs.Still.{IsStill}
 use Rattle.pgb_stage.specs.declared.object.Object.{Object}
 use Rattle.pgb_stage.specs.declared.object.Object.TheVariants.{Server as TheServer}
 use Rattle.pgb_stage.specs.declared.plan.Pairs.TheVariants.{HealArchive}
+use Rattle.pgb_stage.specs.declared.plan.Settling.{Settling}
+use Rattle.pgb_stage.specs.declared.plan.Settling.TheVariants.{Whole, Looked}
 use Rattle.pgb_stage.specs.declared.fault.StageFault.{StageFault}
 use Rattle.pgb_stage.specs.declared.halt.Halt.{Halt}
 use Rattle.pgb_stage.specs.declared.halt.Halt.TheVariants.{Refused, Failed as HaltFailed, NoMemory as HaltMemory}
@@ -25,26 +29,26 @@ use Rattle.pgb_stage.specs.Cluster.{FolderTells}
 use Rattle.pgb_stage.specs.Halts.{HaltCause, Never}
 use Rattle.pgb_stage.specs.Plans.{AreHealed}
 use Rattle.pgb_stage.specs.Reached.{OnFinished, reached_by}
-use Rattle.pgb_stage.specs.Runs.{Reached, to_end, turned_back, stopped, Does, Runs, On, OnNone}
+use Rattle.pgb_stage.specs.Runs.{Reached, to_end, turned_back, stopped, Does, Runs, On, OnNone, IsLookedAt, PairAlike}
 use Rattle.pgb_stage.specs.Seen.{Seen, Failed, AreLater}
-use Rattle.pgb_stage.proofs.Doing.{reading_does}
+use Rattle.pgb_stage.proofs.Doing.{reading_does, now_told}
 use Rattle.pgb_stage.proofs.Lifted.{does_runs, reading_spool}
 use Rattle.pgb_create.specs.declared.fault.CreateFault.{CreateFault}
 use Rattle.pgb_create.specs.Creating.{IsCreated, CreateCause, create_early}
 use Rattle.pgb_create.specs.Talking.{Asks, IsOf, Closes as CreateCloses}
 use Rattle.pgb_push.specs.declared.fault.PushFault.{PushFault}
-use Rattle.pgb_push.specs.Causes.{IsStored, PushCause}
+use Rattle.pgb_push.specs.Causes.{IsStored, IsLasting, PushCause}
 use Rattle.pgb_push.specs.Commands.{IsPushOf}
 use Rattle.pgb_push.specs.Faults.{push_early}
 use Rattle.pgb_get.specs.declared.fault.GetFault.{GetFault}
-use Rattle.pgb_get.specs.Getting.{GetCause, get_early}
+use Rattle.pgb_get.specs.Getting.{GotBy, GetCause, get_early}
 use Rattle.pgb_command.specs.declared.fault.Fault.{Fault}
 use Rattle.pgb_command.specs.declared.fault.Fault.TheVariants.{Stage, Command as OfCommand}
 use Rattle.pgb_command.specs.declared.fault.CommandFault.TheVariants.{Create, Push, Get}
 use Rattle.pgb_command.specs.Answers.{reached_of, ending_of, is_early}
 use Rattle.pgb_command.specs.Asked.{Request, create, push, get, report, Asked}
 use Rattle.pgb_command.specs.Faults.{of_halt, of_stage, of_create, of_push, of_get, lift}
-use Rattle.pgb_command.specs.Tables.{known, Promise, plan_of, manner_of, IsCreateOf, OnReader, OnCreate, OnOther, FolderGoes}
+use Rattle.pgb_command.specs.Tables.{known, Promise, Lasts, plan_of, manner_of, IsCreateOf, OnReader, OnCreate, OnOther, FolderGoes}
 use Rattle.pgb_command.specs.Did.{SamePlaces, Closes, OwnCause, Ran}
 use Rattle.pgb_command.proofs.Ends.{reached_same, lift_ok, lift_on, lift_err}
 use Rattle.pgb_command.proofs.OneCluster.{cluster_is}
@@ -69,14 +73,15 @@ module _ {E : Type 0} (a : Asked) (b k : Seen) (of : E → Fault) (early : E →
   create_reached (get name path) P h = h
   create_reached (report form) P h = h
 
-  pub ran_of : On (manner_of a.request a.data_folder b.tree.nodes) (λ command. Runs a.stanza command (reached_by early r) b.repo.view b.spool.view k.repo.view k.spool.view) → IfOk r (Promise a a.request (known b) (known k)) → IfErr r (HaltCause why failed) →
+  pub ran_of : On (manner_of a.request a.data_folder b.tree.nodes) (λ command. Runs (plan_of a.request).settling a.stanza command (reached_by early r) b.repo.view b.spool.view k.repo.view k.spool.view) → IfOk r (Promise a a.request (known b) (known k)) → IfOk r (λ o. IsLookedAt a.stanza b.repo.view → Lasts a a.request b.tree.nodes k o) → IfErr r (HaltCause why failed) →
       OnOk r (IsSome b.repo.view.now → IfSome b.repo.view.now (AreHealed (plan_of a.request).pairs a.stanza) → IfSome k.repo.view.now (AreHealed (plan_of a.request).pairs a.stanza)) →
       OnReader a.request (IsStill b.repo.view k.repo.view) → FolderGoes a a.request b.repo.view.now b.tree.nodes k.tree.nodes → OnNone (reached_by early r) (k.tree.nodes ≡ b.tree.nodes) →
       OnCreate a.request (OnNone (reached_by early r) (k.repo.view.now ≡ b.repo.view.now)) → (a.server ≡ None → k.server ≡ b.server) → OnOther a.request (k.server ≡ b.server) →
       IfErr (lift (of_halt of) r) (Closes b k) → SamePlaces b k → AreLater b k → Ran a b k ended
-  ran_of steps promise cause healed reads folder nodes unmade quiet others closed places later = subst (λ (e : Result Outcome Fault). Ran a b k e) (sym lifted) (record {
-    steps = subst (λ (reached : Reached). On (manner_of a.request a.data_folder b.tree.nodes) (λ command. Runs a.stanza command reached b.repo.view b.spool.view k.repo.view k.spool.view)) (sym (reached_same of early same r)) steps;
+  ran_of steps promise lasts cause healed reads folder nodes unmade quiet others closed places later = subst (λ (e : Result Outcome Fault). Ran a b k e) (sym lifted) (record {
+    steps = subst (λ (reached : Reached). On (manner_of a.request a.data_folder b.tree.nodes) (λ command. Runs (plan_of a.request).settling a.stanza command reached b.repo.view b.spool.view k.repo.view k.spool.view)) (sym (reached_same of early same r)) steps;
     promise = lift_ok (of_halt of) (Promise a a.request (known b) (known k)) r promise;
+    lasts = lift_ok (of_halt of) (λ o. IsLookedAt a.stanza b.repo.view → Lasts a a.request b.tree.nodes k o) r lasts;
     cause = lift_err (of_halt of) (HaltCause why failed) (OwnCause a b k) (own a b k of why failed each rose) r cause;
     healed = lift_on (of_halt of) _ r healed;
     spares = record {
@@ -103,6 +108,14 @@ with_folder a folder = record a { data_folder = folder }
 
 in_folder : (a : Asked) (folder : Text) (b k : Seen) (ended : Result Outcome Fault) → folder ≡ a.data_folder → Ran (with_folder a folder) b k ended → Ran a b k ended
 in_folder a folder b k ended is h = subst (λ (x : Text). Ran (with_folder a x) b k ended) is h
+
+any_ok : {E : Type 0} (r : Result Outcome E) (P : Outcome → Type 0) → ((o : Outcome) → P o) → IfOk r P
+any_ok (Ok o) P p = p o
+any_ok (Err e) P p = tt
+
+ok_as : {E : Type 0} (r : Result Outcome E) (P Q : Outcome → Type 0) → ((o : Outcome) → P o → Q o) → IfOk r P → IfOk r Q
+ok_as (Ok o) P Q to h = to o h
+ok_as (Err e) P Q to h = tt
 
 on_all : {X Y : Type 0} (r : Result X Y) (P : Type 0) → P → OnOk r P
 on_all (Ok x) P p = p
@@ -149,15 +162,16 @@ module _ (a : Asked) (b k : Seen) (rest : k ≡ record b { repo = k.repo; server
   abbrev asks : Asked
   asks = with_request a create
 
-  pub created_ran : a.request ≡ create → Does a.stanza (StanzaCreate (Some (first_cluster told))) (reached_by create_early r) b.repo.view k.repo.view → IfOk r (IsCreated a.stanza told b.repo.view.now k.repo.view.now) →
+  pub created_ran : a.request ≡ create → Does Whole a.stanza (StanzaCreate (Some (first_cluster told))) (reached_by create_early r) b.repo.view k.repo.view → IfOk r (IsCreated a.stanza told b.repo.view.now k.repo.view.now) →
       OnNone (reached_by create_early r) (IsStill b.repo.view k.repo.view) → OnOk r (IfSome a.server (λ _. IsOf told.system b.server.pending)) → OnOk r (Asks a.server k.server.place b.server.sent k.server.sent) → (a.server ≡ None → k.server ≡ b.server) →
       IfErr r (CreateCloses (Failed b k TheServer) k.server.sent) → (failed : Object → Type 0) → ((object : Object) → failed object → Failed b k object) →
       IfErr r (HaltCause (CreateCause a.stanza told a.server b.repo.view.now b.server.pending) failed) → SamePlaces b k → AreLater b k → Ran a b k ended
   created_ran is does created still same asked quiet closed failed rose cause places later = as_ran a create b k ended is
       (ran_of asks b k (λ (e : CreateFault). OfCommand (Create e)) create_early (λ e. refl) (CreateCause a.stanza told a.server b.repo.view.now b.server.pending) (λ e h. (told, tells, h)) failed rose r ended lifted
-      (λ command x. subst (λ (c : Command). Runs a.stanza c (reached_by create_early r) b.repo.view b.spool.view k.repo.view k.spool.view) (sym (create_of b.tree.nodes told command tells x)) (subst (λ (v : View). Runs a.stanza (StanzaCreate (Some (first_cluster told))) (reached_by create_early r) b.repo.view b.spool.view k.repo.view v) (sym (ap (λ (s : Seen). s.spool.view) rest))
-      (does_runs a.stanza (StanzaCreate (Some (first_cluster told))) (reached_by create_early r) b.repo.view k.repo.view b.spool.view (λ q log keeps. create_spool a.stanza (Some (first_cluster told)) true q log b.spool.view keeps) does)))
+      (λ command x. subst (λ (c : Command). Runs Whole a.stanza c (reached_by create_early r) b.repo.view b.spool.view k.repo.view k.spool.view) (sym (create_of b.tree.nodes told command tells x)) (subst (λ (v : View). Runs Whole a.stanza (StanzaCreate (Some (first_cluster told))) (reached_by create_early r) b.repo.view b.spool.view k.repo.view v) (sym (ap (λ (s : Seen). s.spool.view) rest))
+      (does_runs Whole a.stanza (StanzaCreate (Some (first_cluster told))) (reached_by create_early r) b.repo.view k.repo.view b.spool.view (λ q log keeps. create_spool a.stanza (Some (first_cluster told)) true q log b.spool.view keeps) does)))
       (ok_with r _ _ _ _ (λ o made agrees asks. record { told = told; tells = tells; created = made; agrees = agrees; asks = asks }) created same asked)
+      (any_ok r (λ o. IsLookedAt a.stanza b.repo.view → Unit {0}) (λ o looked. tt))
       cause
       (on_all r _ (λ some h. any_some k.repo.view.now))
       tt
@@ -185,15 +199,17 @@ module _ (a : Asked) (b k : Seen) (rest : k ≡ record b { repo = k.repo; tree =
   abbrev pushes : Asked
   pushes = with_request (with_folder a folder) (push path)
 
-  pub pushed_ran : a.request ≡ push path → folder ≡ a.data_folder → ((command : Command) → IsSomeAnd b.tree.nodes (λ f. IsPushOf f folder path command) → Does a.stanza command (reached_by push_early r) b.repo.view k.repo.view) →
+  pub pushed_ran : a.request ≡ push path → folder ≡ a.data_folder → ((command : Command) → IsSomeAnd b.tree.nodes (λ f. IsPushOf f folder path command) → Does Looked a.stanza command (reached_by push_early r) b.repo.view k.repo.view) →
       IfOk r (λ o. OnFinished o (IsStored a.stanza folder path b.tree.nodes b.repo.view.now k.repo.view.now)) →
+      IfOk r (λ o. IsTight a.stanza b.repo.view → IsSome b.repo.view.now → OnFinished o (λ lines. IsLasting a.stanza folder path k.repo.view)) →
       (IfSome b.repo.view.now (AreHealed HealArchive a.stanza) → IsSome b.repo.view.now → IfSome k.repo.view.now (AreHealed HealArchive a.stanza)) → (failed : Object → Type 0) → ((object : Object) → failed object → Failed b k object) →
       IfErr r (HaltCause (PushCause a.stanza folder path b.repo.view.now b.tree.nodes) failed) → SamePlaces b k → AreLater b k → Ran a b k ended
-  pushed_ran is in_it does stored agrees failed rose cause places later = in_folder a folder b k ended in_it (as_ran (with_folder a folder) (push path) b k ended is
+  pushed_ran is in_it does stored lasting agrees failed rose cause places later = in_folder a folder b k ended in_it (as_ran (with_folder a folder) (push path) b k ended is
       (ran_of pushes b k (λ (e : PushFault). OfCommand (Push e)) push_early (λ e. refl) (PushCause a.stanza folder path b.repo.view.now b.tree.nodes) (λ e h. h) failed rose r ended lifted
-      (λ command x. subst (λ (v : View). Runs a.stanza command (reached_by push_early r) b.repo.view b.spool.view k.repo.view v) (sym (ap (λ (s : Seen). s.spool.view) rest))
-      (does_runs a.stanza command (reached_by push_early r) b.repo.view k.repo.view b.spool.view (push_receipts a.stanza b.tree.nodes folder path command x b.spool.view) (does command x)))
+      (λ command x. subst (λ (v : View). Runs Looked a.stanza command (reached_by push_early r) b.repo.view b.spool.view k.repo.view v) (sym (ap (λ (s : Seen). s.spool.view) rest))
+      (does_runs Looked a.stanza command (reached_by push_early r) b.repo.view k.repo.view b.spool.view (push_receipts a.stanza b.tree.nodes folder path command x b.spool.view) (does command x)))
       stored
+      (ok_as r _ _ (λ o h looked. h looked.tight (now_told a.stanza b.repo.view looked.now)) lasting)
       cause
       (on_all r _ (λ some h. agrees h some))
       tt
@@ -207,9 +223,9 @@ module _ (a : Asked) (b k : Seen) (rest : k ≡ record b { repo = k.repo; tree =
 
 -- ---- commands that only read
 
-reading_runs : (stanza : Text) (command : Command) (reached : Reached) (b k : Seen) → command ≡ Reading → IsStill b.repo.view k.repo.view → k.spool.view ≡ b.spool.view → Runs stanza command reached b.repo.view b.spool.view k.repo.view k.spool.view
-reading_runs stanza command reached b k is still spool = subst (λ (c : Command). Runs stanza c reached b.repo.view b.spool.view k.repo.view k.spool.view) (sym is) (subst (λ (v : View). Runs stanza Reading reached b.repo.view b.spool.view k.repo.view v) (sym spool)
-    (does_runs stanza Reading reached b.repo.view k.repo.view b.spool.view (λ q log keeps. reading_spool stanza q log b.spool.view keeps) (reading_does stanza reached b.repo.view k.repo.view still.time still.now)))
+reading_runs : (how : Settling) (stanza : Text) (command : Command) (reached : Reached) (b k : Seen) → command ≡ Reading → IsStill b.repo.view k.repo.view → k.spool.view ≡ b.spool.view → Runs how stanza command reached b.repo.view b.spool.view k.repo.view k.spool.view
+reading_runs how stanza command reached b k is still spool = subst (λ (c : Command). Runs how stanza c reached b.repo.view b.spool.view k.repo.view k.spool.view) (sym is) (subst (λ (v : View). Runs how stanza Reading reached b.repo.view b.spool.view k.repo.view v) (sym spool)
+    (does_runs how stanza Reading reached b.repo.view k.repo.view b.spool.view (λ q log keeps. reading_spool stanza q log b.spool.view keeps) (reading_does how stanza reached b.repo.view k.repo.view still.time still.now)))
 
 get_closes : (b k : Seen) (h : Halt GetFault) → Closes b k (of_get h)
 get_closes b k (Refused e) = tt
@@ -220,13 +236,15 @@ module _ (a : Asked) (b k : Seen) (rest : k ≡ record b { repo = k.repo; tree =
   abbrev gets : Asked
   gets = with_request (with_folder a folder) (get word path)
 
-  pub got_ran : a.request ≡ get word path → folder ≡ a.data_folder → IfOk r (Promise gets (get word path) (known b) (known k)) → FolderGoes gets (get word path) b.repo.view.now b.tree.nodes k.tree.nodes →
+  pub got_ran : a.request ≡ get word path → folder ≡ a.data_folder → IfOk r (Promise gets (get word path) (known b) (known k)) →
+      IfOk r (λ o. IsTight a.stanza b.repo.view → IsSome b.repo.view.now → PairAlike a.stanza b.repo.view → (f : Content) → Leaves k.repo.view k.repo.view.moment f → GotBy a.stanza folder word path (Some f) b.tree.nodes k.tree.nodes o) → FolderGoes gets (get word path) b.repo.view.now b.tree.nodes k.tree.nodes →
       OnNone (reached_by get_early r) (k.tree.nodes ≡ b.tree.nodes) → (failed : Object → Type 0) → ((object : Object) → failed object → Failed b k object) →
       IfErr r (HaltCause (GetCause a.stanza folder word path b.repo.view.now b.tree.nodes) failed) → SamePlaces b k → AreLater b k → Ran a b k ended
-  got_ran is in_it got changes none failed rose cause places later = in_folder a folder b k ended in_it (as_ran (with_folder a folder) (get word path) b k ended is
+  got_ran is in_it got lasting changes none failed rose cause places later = in_folder a folder b k ended in_it (as_ran (with_folder a folder) (get word path) b k ended is
       (ran_of gets b k (λ (e : GetFault). OfCommand (Get e)) get_early (λ e. refl) (GetCause a.stanza folder word path b.repo.view.now b.tree.nodes) (λ e h. h) failed rose r ended lifted
-      (λ command x. reading_runs a.stanza command (reached_by get_early r) b k x still (ap (λ (s : Seen). s.spool.view) rest))
+      (λ command x. reading_runs Looked a.stanza command (reached_by get_early r) b k x still (ap (λ (s : Seen). s.spool.view) rest))
       got
+      (ok_as r _ _ (λ o h looked. h looked.tight (now_told a.stanza b.repo.view looked.now) looked.pair) lasting)
       cause
       (on_all r _ (λ some h. any_some k.repo.view.now))
       still
@@ -251,8 +269,9 @@ module _ (a : Asked) (b k : Seen) (rest : k ≡ record b { repo = k.repo }) (sti
       IfErr r (HaltCause Never failed) → SamePlaces b k → AreLater b k → Ran a b k ended
   informed_ran is told failed rose cause places later = as_ran a (report form) b k ended is
       (ran_of informs b k Stage (λ e. true) (λ e. refl) Never (λ e h. h) failed rose r ended lifted
-      (λ command x. reading_runs a.stanza command (reached_by (λ e. true) r) b k x still (ap (λ (s : Seen). s.spool.view) rest))
+      (λ command x. reading_runs Whole a.stanza command (reached_by (λ e. true) r) b k x still (ap (λ (s : Seen). s.spool.view) rest))
       told
+      (any_ok r (λ o. IsLookedAt a.stanza b.repo.view → Unit {0}) (λ o looked. tt))
       cause
       (on_all r _ (λ some h. any_some k.repo.view.now))
       still

@@ -9,7 +9,7 @@ use Rattle.pgb_stage.specs.declared.fault.StageFault.TheVariants.{NotBuilt}
 use Rattle.pgb_stage.specs.declared.object.Object.TheVariants.{Server, Config, Output}
 use Rattle.pgb_stage.specs.declared.outcome.Outcome.{Outcome}
 use Rattle.pgb_stage.specs.Plans.{AreHealed}
-use Rattle.pgb_stage.specs.Runs.{On, Leads, Passes, EndsAtOne, turns_of}
+use Rattle.pgb_stage.specs.Runs.{On, OnWhole, Leads, Passes, EndsAtOne, turns_of}
 use Rattle.pgb_stage.specs.Seen.{Seen, Failed}
 use Rattle.pgb_command.specs.declared.fault.Fault.{Fault}
 use Rattle.pgb_command.specs.declared.fault.Fault.TheVariants.{Stage, NoMemory}
@@ -17,7 +17,7 @@ use Rattle.pgb_create.specs.Talking.{Ended, IsServerRefusal}
 use Rattle.pgb_command.specs.Answers.{Ending, status, ending_of, answer_of, lines_of}
 use Rattle.pgb_command.specs.Asked.{Asked, MayAsk, Asks, Settles, IsAsked, requested}
 use Rattle.pgb_command.specs.Configuring.{ConfigCause}
-use Rattle.pgb_command.specs.Did.{IsIdle, Did, ComesBehind, Brackets, Cause, OnReady, ArePlacesOpened, TakesAll}
+use Rattle.pgb_command.specs.Did.{IsIdle, Did, ComesBehind, Brackets, Cause, OnReady, LastsAfter, ArePlacesOpened, TakesAll}
 use Rattle.pgb_command.specs.Output.{IsTold}
 use Rattle.pgb_command.specs.Tables.{known, plan_of, manner_of, Promise, OnReader, OnCreate, OnOther, FolderGoes}
 
@@ -60,9 +60,9 @@ Answers words before after result = Refuses words before after result
 abbrev pub AllDone : Asked → Seen → Seen → Type 0
 AllDone a before after = On (manner_of a.request a.data_folder before.tree.nodes) (λ command. Leads a.stanza command true before.repo.view before.spool.view after.repo.view after.spool.view)
 
--- and all that a stop leaves stands for one repository, with all of them
+-- and where the command settles the whole stanza, all that a stop leaves stands for one repository, with all of them
 abbrev pub AllAtOne : Asked → Seen → Seen → Type 0
-AllAtOne a before after = On (manner_of a.request a.data_folder before.tree.nodes) (λ command. EndsAtOne a.stanza command before.repo.view after.repo.view)
+AllAtOne a before after = On (manner_of a.request a.data_folder before.tree.nodes) (λ command. OnWhole (plan_of a.request).settling (EndsAtOne a.stanza command before.repo.view after.repo.view))
 
 -- a part of them is, at its end and at each moment
 abbrev pub PartDone : Asked → Seen → Seen → Type 0
@@ -72,7 +72,7 @@ PartDone a before after = On (manner_of a.request a.data_folder before.tree.node
 abbrev pub NoneDone : Asked → Seen → Seen → Type 0
 NoneDone a before after = On (manner_of a.request a.data_folder before.tree.nodes) (λ command. Leads a.stanza (turns_of command) false before.repo.view before.spool.view after.repo.view after.spool.view)
 
--- at 0: all is done, all that a stop leaves stands for one repository, the pairs that the command heals agree, its places were opened and its locks taken
+-- at 0: all is done, all that a stop leaves stands for one repository where the whole stanza was settled, the pairs that the command heals agree, its places were opened and its locks taken
 pub record Finishes (a : Asked) (before after : Seen) : Type 0 where
   pub all : AllDone a before after
   pub ends : AllAtOne a before after
@@ -80,11 +80,12 @@ pub record Finishes (a : Asked) (before after : Seen) : Type 0 where
   pub opened : ArePlacesOpened a before after
   pub took : TakesAll a before after
 
--- at 0 and 1: it ended in this way, keeps its promise, and wrote its lines
+-- at 0 and 1: it ended in this way, keeps its promise, also of all that a crash leaves, and wrote its lines
 pub record Fulfils (a : Asked) (before after : Seen) (result : ℕ) : Type 0 where
   pub outcome : Outcome
   pub is : result ≡ status (ending_of (Ok outcome))
   pub promise : OnReady a (known before) (λ old. Promise a a.request old (known after) outcome)
+  pub lasts : LastsAfter a before after outcome
   pub unknown : List Text
   pub wrote : after.out.written ≡ option_map (λ (text : Text). text ++ lines_of (answer_of unknown (Ok outcome))) before.out.written
 

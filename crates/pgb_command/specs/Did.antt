@@ -8,7 +8,9 @@ use Rattle.pgb_stage.specs.declared.object.Object.TheVariants.{Server}
 use Rattle.pgb_stage.specs.declared.halt.Halt.TheVariants.{Refused}
 use Rattle.pgb_stage.specs.declared.outcome.Outcome.{Outcome}
 use Rattle.pgb_stage.specs.Plans.{Heals, AreHealed, TakesLocks}
-use Rattle.pgb_stage.specs.Runs.{Runs, Takes, On, OnNone}
+use Rattle.pgb_model.specs.Log.{Done, KeepsRepository}
+use Rattle.pgb_model.specs.Repository.{Repository}
+use Rattle.pgb_stage.specs.Runs.{Runs, Takes, On, OnNone, IsLookedAt}
 use Rattle.pgb_stage.specs.Seen.{Seen, Failed, AreLater}
 use Rattle.pgb_prepare.specs.Stages.{StageCause}
 use Rattle.pgb_prepare.specs.Taking.{MayTake}
@@ -18,7 +20,7 @@ use Rattle.pgb_command.specs.declared.fault.Fault.{Fault}
 use Rattle.pgb_command.specs.declared.fault.Fault.TheVariants.{Usage, Stage, Command, Failed as ObjectFailed, NoMemory}
 use Rattle.pgb_command.specs.Answers.{reached_of, ending_of}
 use Rattle.pgb_command.specs.Asked.{Asked}
-use Rattle.pgb_command.specs.Tables.{Known, known, plan_of, manner_of, WordsFit, CommandCause, Promise, OnReader, OnCreate, OnOther, FolderGoes}
+use Rattle.pgb_command.specs.Tables.{Known, known, plan_of, manner_of, WordsFit, CommandCause, Promise, Lasts, OnReader, OnCreate, OnOther, FolderGoes}
 
 -- ---- what stays
 
@@ -62,8 +64,9 @@ OwnCause a before after (ObjectFailed object) = Failed before after object
 OwnCause a before after NoMemory = Unit {0}
 
 pub record Ran (a : Asked) (before after : Seen) (result : Result Outcome Fault) : Type 0 where
-  pub steps : On (manner_of a.request a.data_folder before.tree.nodes) (λ command. Runs a.stanza command (reached_of (ending_of result)) before.repo.view before.spool.view after.repo.view after.spool.view)
+  pub steps : On (manner_of a.request a.data_folder before.tree.nodes) (λ command. Runs (plan_of a.request).settling a.stanza command (reached_of (ending_of result)) before.repo.view before.spool.view after.repo.view after.spool.view)
   pub promise : IfOk result (Promise a a.request (known before) (known after))
+  pub lasts : IfOk result (λ outcome. IsLookedAt a.stanza before.repo.view → Lasts a a.request before.tree.nodes after outcome)
   pub cause : IfErr result (OwnCause a before after)
   pub healed : OnOk result (IsSome before.repo.view.now → IfSome before.repo.view.now (AreHealed (plan_of a.request).pairs a.stanza) → IfSome after.repo.view.now (AreHealed (plan_of a.request).pairs a.stanza))
   pub spares : Spares a before after result
@@ -123,9 +126,14 @@ abbrev pub OnlyLocked : Asked → Seen → Seen → Type 0
 OnlyLocked a before after = TakesAll a before after
     ⊎ (MayTake (plan_of a.request) a.lock_folder a.stanza before.locks.took after.locks.took × IsStill before.repo.view after.repo.view)
 
+-- where a log is kept, the answer holds of all that a crash leaves
+abbrev pub LastsAfter : Asked → Seen → Seen → Outcome → Type 0
+LastsAfter a before after outcome = (q : Repository) (log : List Done) → IsSome before.repo.view.now → KeepsRepository a.stanza q log before.repo.view → Lasts a a.request before.tree.nodes after outcome
+
 pub record Did (a : Asked) (before after : Seen) (result : Result Outcome Fault) : Type 0 where
-  pub steps : On (manner_of a.request a.data_folder before.tree.nodes) (λ command. Takes a.stanza command (reached_of (ending_of result)) before.repo.view before.spool.view after.repo.view after.spool.view)
+  pub steps : On (manner_of a.request a.data_folder before.tree.nodes) (λ command. Takes (plan_of a.request).settling a.stanza command (reached_of (ending_of result)) before.repo.view before.spool.view after.repo.view after.spool.view)
   pub promise : IfOk result (λ outcome. OnReady a (known before) (λ old. Promise a a.request old (known after) outcome))
+  pub lasts : IfOk result (LastsAfter a before after)
   pub cause : IfErr result (Cause a before after)
   pub healed : OnOk result (IsSome before.repo.view.now → IfSome after.repo.view.now (AreHealed (plan_of a.request).pairs a.stanza))
   pub spares : Spares a before after result

@@ -1,6 +1,7 @@
 -- The tables of the commands: a line for each in each.
 use Rattle.std.specs.Prelude.{◌≡◌, true, false, Option, Some, IfSome, IsSome, IsSomeAnd}
 use Rattle.pgb_outside.specs.Content.{Content}
+use Rattle.pgb_outside.specs.Crash.{Leaves}
 use Rattle.pgb_outside.specs.Tree.{Nodes}
 use Rattle.pgb_model.specs.declared.clusters.Cluster.{Cluster}
 use Rattle.pgb_model.specs.declared.wal.ArchiveName.{ArchiveName}
@@ -10,6 +11,7 @@ use Rattle.pgb_model.specs.Steps.{Command, StanzaCreate, Reading}
 use Rattle.pgb_model.specs.Now.{NowStands}
 use Rattle.pgb_stanza.specs.declared.control.Control.{Control}
 use Rattle.pgb_stage.specs.declared.plan.Plan.{Plan}
+use Rattle.pgb_stage.specs.declared.plan.Settling.TheVariants.{Whole, Looked}
 use Rattle.pgb_stage.specs.declared.plan.Pairs.TheVariants.{Unread, ReadArchive, HealArchive, ReadBoth}
 use Rattle.pgb_stage.specs.declared.outcome.Outcome.{Outcome}
 use Rattle.pgb_stage.specs.Cluster.{FolderTells, IsClusterOf}
@@ -19,7 +21,7 @@ use Rattle.pgb_stage.specs.States.{WireState}
 use Rattle.pgb_create.specs.Talking.{Asks, IsOf}
 use Rattle.pgb_create.specs.Creating.{IsCreated, CreateCause}
 use Rattle.pgb_push.specs.Commands.{IsPushOf}
-use Rattle.pgb_push.specs.Causes.{IsStored, PushCause}
+use Rattle.pgb_push.specs.Causes.{IsStored, IsLasting, PushCause}
 use Rattle.pgb_stage.specs.Reached.{OnFinished}
 use Rattle.pgb_push.specs.WalPath.{IsWalPath}
 use Rattle.pgb_get.specs.Getting.{AreWords, GotBy, GivenBy, GetCause, IsServed, ChangesPath, served_path}
@@ -37,12 +39,12 @@ pub record Known : Type 0 where
 abbrev pub known : Seen → Known
 known s = record { repo = s.repo.view.now; nodes = s.tree.nodes; server = s.server }
 
--- what a command needs of the stages: places, locks, the control file, and the pairs
+-- what a command needs of the stages: names settled, places, locks, the control file, and the pairs
 abbrev pub plan_of : Request → Plan
-plan_of create = record { folder = true; backup_lock = true; archive_lock = true; control = true; pairs = Unread }
-plan_of (push path) = record { folder = true; backup_lock = false; archive_lock = true; control = true; pairs = HealArchive }
-plan_of (get name path) = record { folder = true; backup_lock = false; archive_lock = false; control = true; pairs = ReadArchive }
-plan_of (report form) = record { folder = false; backup_lock = false; archive_lock = false; control = false; pairs = ReadBoth }
+plan_of create = record { settling = Whole; folder = true; backup_lock = true; archive_lock = true; control = true; pairs = Unread }
+plan_of (push path) = record { settling = Looked; folder = true; backup_lock = false; archive_lock = true; control = true; pairs = HealArchive }
+plan_of (get name path) = record { settling = Looked; folder = true; backup_lock = false; archive_lock = false; control = true; pairs = ReadArchive }
+plan_of (report form) = record { settling = Whole; folder = false; backup_lock = false; archive_lock = false; control = false; pairs = ReadBoth }
 
 -- stanza-create of the cluster that the folder tells, where it tells one
 abbrev pub IsCreateOf : Nodes → Command → Type 0
@@ -93,6 +95,12 @@ Promise a (get name path) old new outcome = GotBy a.stanza a.data_folder name pa
     × OnStanza a old.repo (λ s. GivenBy s a.data_folder name path old.nodes new.nodes outcome)
 Promise a (report form) old new outcome = OnFinished outcome (IsReported a.stanza form old.repo)
     × OnStanza a old.repo (λ s. OnFinished outcome (ReportsStanza form a.stanza s))
+
+-- what a command that settles what it looks at alone promises of all that a crash leaves: a pushed file is alike in it, and what archive-get answers holds of it
+abbrev pub Lasts : Asked → Request → Option Nodes → Seen → Outcome → Type 0
+Lasts a (push path) nodes after outcome = OnFinished outcome (λ lines. IsLasting a.stanza a.data_folder path after.repo.view)
+Lasts a (get name path) nodes after outcome = (f : Content) → Leaves after.repo.view after.repo.view.moment f → GotBy a.stanza a.data_folder name path (Some f) nodes after.tree.nodes outcome
+Lasts a request nodes after outcome = Unit {0}
 
 -- ---- what stays
 

@@ -10,7 +10,7 @@ ghost use Rattle.pgb_command.specs.Told.{request_of, asked_of};
 use crate::server::server_of;
 use pgb_create::Server;
 use pgb_options::{Command, OutputWord, Verb};
-use pgb_stage::{Pairs, Plan, Unbuilt};
+use pgb_stage::{Pairs, Plan, Settling, Unbuilt};
 
 /// Which command is asked for.
 #[derive(Clone, Copy)]
@@ -123,6 +123,7 @@ pub(crate) fn plan_of(request: &Request<'_>) -> Plan
     ensures { result ≡ plan_of (request_of request.now) }
 {
     let reading = Plan {
+        settling: Settling::Whole,
         folder: false,
         backup_lock: false,
         archive_lock: false,
@@ -131,6 +132,7 @@ pub(crate) fn plan_of(request: &Request<'_>) -> Plan
     };
     match request {
         Request::StanzaCreate => Plan {
+            settling: Settling::Whole,
             folder: true,
             backup_lock: true,
             archive_lock: true,
@@ -138,6 +140,7 @@ pub(crate) fn plan_of(request: &Request<'_>) -> Plan
             pairs: Pairs::Unread,
         },
         Request::ArchivePush { .. } => Plan {
+            settling: Settling::Looked,
             folder: true,
             archive_lock: true,
             control: true,
@@ -145,6 +148,7 @@ pub(crate) fn plan_of(request: &Request<'_>) -> Plan
             ..reading
         },
         Request::ArchiveGet { .. } => Plan {
+            settling: Settling::Looked,
             folder: true,
             control: true,
             pairs: Pairs::ReadArchive,

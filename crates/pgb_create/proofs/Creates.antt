@@ -31,6 +31,7 @@ use Rattle.pgb_stage.specs.declared.outcome.Outcome.{Outcome}
 use Rattle.pgb_stage.specs.Halts.{HaltCause, Only}
 use Rattle.pgb_stage.specs.Reached.{reached_by, back_if, fails_early}
 use Rattle.pgb_stage.specs.Risen.{none, rose_in}
+use Rattle.pgb_stage.specs.declared.plan.Settling.TheVariants.{Whole}
 use Rattle.pgb_stage.specs.Runs.{Reached, to_end, turned_back, stopped, OnNone, IsPart, DoesPart, DoesWhole, Does}
 use Rattle.pgb_stage.proofs.Doing.{rests_part, rests_does}
 use Rattle.pgb_create.specs.declared.fault.CreateFault.{CreateFault}
@@ -68,7 +69,7 @@ module _ (stanza : Text) (c : Cluster) (first : c.id ≡ 1) (a d : View) (told :
     leaves = λ t f lo hi leaves. sound_part r sound f (m.leaves t f lo hi leaves);
   }
 
-  does_part : DoesPart stanza command a d
+  does_part : DoesPart Whole stanza command a d
   does_part = record {
     part = now_part stanza c a.now a.now d.now refl told part;
     goes = λ r some steady sound. moves_part r sound (moves r steady some);
@@ -82,7 +83,7 @@ module _ (stanza : Text) (c : Cluster) (first : c.id ≡ 1) (a d : View) (told :
   does_whole :
       ((r : Repository) → IsSome a.now → NowStands stanza r a.now → NowStands stanza (step r (Create c)) d.now) →
       ((r : Repository) → IsSteady stanza r a → IsSome a.now → IsSteady stanza (step r (Create c)) d) →
-      DoesWhole stanza command a d
+      DoesWhole Whole stanza command a d
   does_whole done made = record {
     done = record { told = told; does = λ r some now. whole_of r (done r some now) };
     ends = λ r some steady sound. (
@@ -95,18 +96,18 @@ module _ (stanza : Text) (c : Cluster) (first : c.id ≡ 1) (a d : View) (told :
   pub made_does :
       ((r : Repository) → IsSome a.now → NowStands stanza r a.now → NowStands stanza (step r (Create c)) d.now) →
       ((r : Repository) → IsSteady stanza r a → IsSome a.now → IsSteady stanza (step r (Create c)) d) →
-      Does stanza command to_end a d
+      Does Whole stanza command to_end a d
   made_does done made = record { part = does_part; whole = does_whole done made; turned = tt }
 
-  refused_does : Rests a d → d.now ≡ a.now → Does stanza command turned_back a d
-  refused_does rests same = record { part = does_part; whole = tt; turned = rests_part stanza Reading a d rests same }
+  refused_does : Rests a d → d.now ≡ a.now → Does Whole stanza command turned_back a d
+  refused_does rests same = record { part = does_part; whole = tt; turned = rests_part Whole stanza Reading a d rests same }
 
-  stopped_does : Does stanza command stopped a d
+  stopped_does : Does Whole stanza command stopped a d
   stopped_does = record { part = does_part; whole = tt; turned = tt }
 
   -- it was refused, or stopped
   pub halted_does : (e : StanzaFault) (halt : Halt CreateFault) → IsStanzaFault e halt → OnContent e (Rests a d) →
-      OnContent e (d.now ≡ a.now) → Does stanza command (reached_by create_early (Err halt)) a d
+      OnContent e (d.now ≡ a.now) → Does Whole stanza command (reached_by create_early (Err halt)) a d
   halted_does e halt (Damaged name main copy) rests same = refused_does rests same
   halted_does e halt (Differs at) rests same = refused_does rests same
   halted_does e halt (Mismatch kept found) rests same = refused_does rests same
@@ -213,12 +214,12 @@ made_closes stanza told repo failed rose new (Err NoMemory) h = tt
 
 -- ---- where the server ends the command, nothing was done yet
 
-back_does : (stanza : Text) (command : Command) (early : Bool) (a : View) → Does stanza command (back_if early) a a
-back_does stanza command true a = rests_does stanza command turned_back a a (λ is. cc) (rests_none a) refl
-back_does stanza command false a = rests_does stanza command stopped a a (λ is. cc) (rests_none a) refl
+back_does : (stanza : Text) (command : Command) (early : Bool) (a : View) → Does Whole stanza command (back_if early) a a
+back_does stanza command true a = rests_does Whole stanza command turned_back a a (λ is. cc) (rests_none a) refl
+back_does stanza command false a = rests_does Whole stanza command stopped a a (λ is. cc) (rests_none a) refl
 
 asked_does : (stanza : Text) (command : Command) (a : View) (halt : Halt CreateFault) →
-    Does stanza command (reached_by create_early (Err halt)) a a
+    Does Whole stanza command (reached_by create_early (Err halt)) a a
 asked_does stanza command a (Refused e) = back_does stanza command (create_early e) a
 asked_does stanza command a (Failed object) = back_does stanza command (fails_early object) a
 asked_does stanza command a NoMemory = back_does stanza command false a
@@ -232,11 +233,11 @@ asked_still stopped a = tt
 module _ (result : Result Outcome (Halt CreateFault)) (halt : Halt CreateFault)
     (is : IsErrAnd result (λ h. h ≡ halt)) where
   pub exit_does : (stanza : Text) (command : Command) (a : View) →
-      Does stanza command (reached_by create_early result) a a
+      Does Whole stanza command (reached_by create_early result) a a
   exit_does stanza command a = go result is
     where
       go : (r : Result Outcome (Halt CreateFault)) → IsErrAnd r (λ h. h ≡ halt) →
-          Does stanza command (reached_by create_early r) a a
+          Does Whole stanza command (reached_by create_early r) a a
       go (Ok x) is = absurd is
       go (Err h) is = asked_does stanza command a h
 

@@ -11,6 +11,7 @@ ghost use Rattle.pgb_stage.specs.declared.object.Object.TheVariants.{Repo as The
 ghost use Rattle.pgb_stage.specs.Halts.{HaltCause, Only};
 ghost use Rattle.pgb_stage.specs.Reached.{reached_by};
 ghost use Rattle.pgb_stage.specs.Risen.{none, rose_in};
+ghost use Rattle.pgb_stage.specs.declared.plan.Settling.TheVariants.{Whole};
 ghost use Rattle.pgb_stage.specs.Runs.{OnNone, Does};
 ghost use Rattle.pgb_create.specs.Server.{server_view};
 ghost use Rattle.pgb_create.specs.Talking.{Asks, IsOf, Closes};
@@ -54,7 +55,7 @@ fn make<D: Disk>(
     stanza: &str,
     told: &Control,
 ) -> Result<Outcome, Halt<CreateFault>>
-    ensures does { Does stanza.now (StanzaCreate (Some (first_cluster told.now))) (reached_by create_early result)
+    ensures does { Does Whole stanza.now (StanzaCreate (Some (first_cluster told.now))) (reached_by create_early result)
         (D.state repo.old).view (D.state repo.new).view }
     ensures made { IfOk result (IsCreated stanza.now told.now (D.state repo.old).view.now (D.state repo.new).view.now) }
     ensures refused { OnNone (reached_by create_early result)
@@ -81,7 +82,7 @@ pub fn create_stanza<D: Disk, V: Wire>(
     told: &Control,
     server: Option<Server<'_>>,
 ) -> Result<Outcome, Halt<CreateFault>>
-    ensures does { Does stanza.now (StanzaCreate (Some (first_cluster told.now))) (reached_by create_early result)
+    ensures does { Does Whole stanza.now (StanzaCreate (Some (first_cluster told.now))) (reached_by create_early result)
         (D.state repo.old).view (D.state repo.new).view }
     ensures made { IfOk result (IsCreated stanza.now told.now (D.state repo.old).view.now (D.state repo.new).view.now) }
     ensures refused { OnNone (reached_by create_early result)

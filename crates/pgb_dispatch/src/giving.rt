@@ -30,15 +30,24 @@ fn give_job<L: Link, W, K: Keep<W>>(
     lost: &mut Vec<Lost>,
 ) -> Result<(), DispatchFault>
     requires idle { IsIdle core.old i }
-    requires runs { Runs (map job_of jobs.now) (state L.link_state core.old seats.old.items hears.old.items (K.kept keep.old on.old) lost.old.items) }
+    requires runs { Runs (map job_of jobs.now)
+        (state L.link_state core.old seats.old.items hears.old.items (K.kept keep.old on.old) lost.old.items) }
     requires fits { All (λ j. FitsJob (job_of j)) jobs.now }
+    requires agrees { K.agrees keep.old on.old }
     ensures later { K.later keep.old on.old keep.new on.new }
+    ensures agrees { OnOk result (K.agrees keep.new on.new) }
     ensures quiet { IfErr result (λ e. IsQuiet e (K.kept keep.old on.old).faults (K.kept keep.new on.new).faults) }
     ensures length { vec_len seats.new ≡ vec_len seats.old }
-    ensures going { OnOk result (GoesOn (map job_of jobs.now) (state L.link_state core.old seats.old.items hears.old.items (K.kept keep.old on.old) lost.old.items) (state L.link_state core.new seats.new.items hears.new.items (K.kept keep.new on.new) lost.new.items)) }
-    ensures gave { OnOk result (Gave (map job_of jobs.now) (state L.link_state core.old seats.old.items hears.old.items (K.kept keep.old on.old) lost.old.items) (state L.link_state core.new seats.new.items hears.new.items (K.kept keep.new on.new) lost.new.items)) }
+    ensures going { OnOk result (GoesOn (map job_of jobs.now)
+        (state L.link_state core.old seats.old.items hears.old.items (K.kept keep.old on.old) lost.old.items)
+        (state L.link_state core.new seats.new.items hears.new.items (K.kept keep.new on.new) lost.new.items)) }
+    ensures gave { OnOk result (Gave (map job_of jobs.now)
+        (state L.link_state core.old seats.old.items hears.old.items (K.kept keep.old on.old) lost.old.items)
+        (state L.link_state core.new seats.new.items hears.new.items (K.kept keep.new on.new) lost.new.items)) }
     ensures settles { OnOk result (Settles core.old core.new i) }
-    ensures told { OnErr result (TellsLosses (map job_of jobs.now) (state L.link_state core.old seats.old.items hears.old.items (K.kept keep.old on.old) lost.old.items) lost.new.items) }
+    ensures told { OnErr result (TellsLosses (map job_of jobs.now)
+        (state L.link_state core.old seats.old.items hears.old.items (K.kept keep.old on.old) lost.old.items)
+        lost.new.items) }
 {
     let Some(job) = core.give(i) else {
         return Ok(());
@@ -69,15 +78,24 @@ pub(crate) fn give_idle<L: Link, W, K: Keep<W>>(
     lost: &mut Vec<Lost>,
 ) -> Result<(), DispatchFault>
     requires within { i < length core.old.links }
-    requires runs { Runs (map job_of jobs.now) (state L.link_state core.old seats.old.items hears.old.items (K.kept keep.old on.old) lost.old.items) }
+    requires runs { Runs (map job_of jobs.now)
+        (state L.link_state core.old seats.old.items hears.old.items (K.kept keep.old on.old) lost.old.items) }
     requires fits { All (λ j. FitsJob (job_of j)) jobs.now }
+    requires agrees { K.agrees keep.old on.old }
     ensures later { K.later keep.old on.old keep.new on.new }
+    ensures agrees { OnOk result (K.agrees keep.new on.new) }
     ensures quiet { IfErr result (λ e. IsQuiet e (K.kept keep.old on.old).faults (K.kept keep.new on.new).faults) }
     ensures length { vec_len seats.new ≡ vec_len seats.old }
-    ensures going { OnOk result (GoesOn (map job_of jobs.now) (state L.link_state core.old seats.old.items hears.old.items (K.kept keep.old on.old) lost.old.items) (state L.link_state core.new seats.new.items hears.new.items (K.kept keep.new on.new) lost.new.items)) }
-    ensures gave { OnOk result (Gave (map job_of jobs.now) (state L.link_state core.old seats.old.items hears.old.items (K.kept keep.old on.old) lost.old.items) (state L.link_state core.new seats.new.items hears.new.items (K.kept keep.new on.new) lost.new.items)) }
+    ensures going { OnOk result (GoesOn (map job_of jobs.now)
+        (state L.link_state core.old seats.old.items hears.old.items (K.kept keep.old on.old) lost.old.items)
+        (state L.link_state core.new seats.new.items hears.new.items (K.kept keep.new on.new) lost.new.items)) }
+    ensures gave { OnOk result (Gave (map job_of jobs.now)
+        (state L.link_state core.old seats.old.items hears.old.items (K.kept keep.old on.old) lost.old.items)
+        (state L.link_state core.new seats.new.items hears.new.items (K.kept keep.new on.new) lost.new.items)) }
     ensures settles { OnOk result (Settles core.old core.new i) }
-    ensures told { OnErr result (TellsLosses (map job_of jobs.now) (state L.link_state core.old seats.old.items hears.old.items (K.kept keep.old on.old) lost.old.items) lost.new.items) }
+    ensures told { OnErr result (TellsLosses (map job_of jobs.now)
+        (state L.link_state core.old seats.old.items hears.old.items (K.kept keep.old on.old) lost.old.items)
+        lost.new.items) }
 {
     if core.is_idle(i) {
         return give_job(alloc, jobs, seats, core, hears, i, keep, on, lost);
@@ -97,15 +115,24 @@ pub(crate) fn give_all<L: Link, W, K: Keep<W>>(
     lost: &mut Vec<Lost>,
 ) -> Result<(), DispatchFault>
     requires few { vec_len seats.old < 2 ^ 32 }
-    requires runs { Runs (map job_of jobs.now) (state L.link_state core.old seats.old.items hears.old.items (K.kept keep.old on.old) lost.old.items) }
+    requires runs { Runs (map job_of jobs.now)
+        (state L.link_state core.old seats.old.items hears.old.items (K.kept keep.old on.old) lost.old.items) }
     requires fits { All (λ j. FitsJob (job_of j)) jobs.now }
+    requires agrees { K.agrees keep.old on.old }
     ensures later { K.later keep.old on.old keep.new on.new }
+    ensures agrees { OnOk result (K.agrees keep.new on.new) }
     ensures quiet { IfErr result (λ e. IsQuiet e (K.kept keep.old on.old).faults (K.kept keep.new on.new).faults) }
     ensures length { vec_len seats.new ≡ vec_len seats.old }
-    ensures going { OnOk result (GoesOn (map job_of jobs.now) (state L.link_state core.old seats.old.items hears.old.items (K.kept keep.old on.old) lost.old.items) (state L.link_state core.new seats.new.items hears.new.items (K.kept keep.new on.new) lost.new.items)) }
-    ensures gave { OnOk result (Gave (map job_of jobs.now) (state L.link_state core.old seats.old.items hears.old.items (K.kept keep.old on.old) lost.old.items) (state L.link_state core.new seats.new.items hears.new.items (K.kept keep.new on.new) lost.new.items)) }
+    ensures going { OnOk result (GoesOn (map job_of jobs.now)
+        (state L.link_state core.old seats.old.items hears.old.items (K.kept keep.old on.old) lost.old.items)
+        (state L.link_state core.new seats.new.items hears.new.items (K.kept keep.new on.new) lost.new.items)) }
+    ensures gave { OnOk result (Gave (map job_of jobs.now)
+        (state L.link_state core.old seats.old.items hears.old.items (K.kept keep.old on.old) lost.old.items)
+        (state L.link_state core.new seats.new.items hears.new.items (K.kept keep.new on.new) lost.new.items)) }
     ensures idle { OnOk result ((k : ℕ) → IsIdle core.new k → NoneWaits core.new) }
-    ensures told { OnErr result (TellsLosses (map job_of jobs.now) (state L.link_state core.old seats.old.items hears.old.items (K.kept keep.old on.old) lost.old.items) lost.new.items) }
+    ensures told { OnErr result (TellsLosses (map job_of jobs.now)
+        (state L.link_state core.old seats.old.items hears.old.items (K.kept keep.old on.old) lost.old.items)
+        lost.new.items) }
 {
     for i in 0..seats.len() {
         give_idle(alloc, jobs, seats, core, hears, i as u32, keep, on, lost)?;

@@ -20,8 +20,10 @@ use std::alloc::Global;
 
 /// Empties a job, which is to begin anew.
 fn begin_again<W, K: Keep<W>>(keep: &mut K, on: &mut W, job: u32) -> Result<(), DispatchFault>
-    requires { job < length (K.kept keep.old on.old).kept }
+    requires within { job < length (K.kept keep.old on.old).kept }
+    requires agrees { K.agrees keep.old on.old }
     ensures later { K.later keep.old on.old keep.new on.new }
+    ensures agrees { OnOk result (K.agrees keep.new on.new) }
     ensures quiet { IfErr result (λ e. IsQuiet e (K.kept keep.old on.old).faults (K.kept keep.new on.new).faults) }
     ensures kept { OnOk result (Changed Clears job (K.kept keep.old on.old) (K.kept keep.new on.new)) }
 {
@@ -43,14 +45,17 @@ pub(crate) fn lose_link<L: Link, W, K: Keep<W>>(
     requires has { Has core.old i job }
     requires seat { i < vec_len seats.old }
     requires within { job < length (K.kept keep.old on.old).kept }
+    requires agrees { K.agrees keep.old on.old }
     ensures later { K.later keep.old on.old keep.new on.new }
+    ensures agrees { OnOk result (K.agrees keep.new on.new) }
     ensures quiet { IfErr result (λ e. IsQuiet e (K.kept keep.old on.old).faults (K.kept keep.new on.new).faults) }
     ensures length { vec_len seats.new ≡ vec_len seats.old }
     ensures core { OnOk result (core.new ≡ after_lose core.old i job) }
     ensures seats { OnOk result (seats.new.items ≡ slice_set seats.old.items i None) }
     ensures kept { OnOk result (Changed Clears job (K.kept keep.old on.old) (K.kept keep.new on.new)) }
     ensures lost { OnOk result (lost.new.items ≡ lost.old.items ++ (record { place = i; cause = cause }) ∷ []) }
-    ensures told { OnErr result ((lost.new.items ≡ lost.old.items) ⊎ (lost.new.items ≡ lost.old.items ++ (record { place = i; cause = cause }) ∷ [])) }
+    ensures told { OnErr result ((lost.new.items ≡ lost.old.items)
+        ⊎ (lost.new.items ≡ lost.old.items ++ (record { place = i; cause = cause }) ∷ [])) }
 {
     lost.push(Lost { place: i, cause })?;
     seats[i as usize] = None;
@@ -62,7 +67,8 @@ pub(crate) fn lose_link<L: Link, W, K: Keep<W>>(
 /// Leaves only the link of a number.
 fn keep_only<L: Link>(seats: &mut Vec<Option<L>>, i: u32)
     requires { i < vec_len seats.old }
-    ensures { (seat : Option LinkState) → slice_get (map (option_map L.link_state) seats.old.items) i ≡ Some seat → map (option_map L.link_state) seats.new.items ≡ seat ∷ [] }
+    ensures { (seat : Option LinkState) → slice_get (map (option_map L.link_state) seats.old.items) i ≡ Some seat
+        → map (option_map L.link_state) seats.new.items ≡ seat ∷ [] }
 {
     seats.swap(0, i as usize);
     seats.truncate(1);
@@ -81,14 +87,25 @@ pub(crate) fn hear_job<L: Link, W, K: Keep<W>>(
     lost: &mut Vec<Lost>,
 ) -> Result<(), DispatchFault>
     requires busy { IsBusy core.old i }
-    requires runs { Runs (map job_of jobs.now) (state L.link_state core.old seats.old.items hears.old.items (K.kept keep.old on.old) lost.old.items) }
+    requires runs { Runs (map job_of jobs.now)
+        (state L.link_state core.old seats.old.items hears.old.items (K.kept keep.old on.old) lost.old.items) }
     requires fits { All (λ j. FitsJob (job_of j)) jobs.now }
+    requires agrees { K.agrees keep.old on.old }
     ensures later { K.later keep.old on.old keep.new on.new }
+    ensures agrees { OnOk result (K.agrees keep.new on.new) }
     ensures length { OnOk result (vec_len seats.new ≡ vec_len seats.old) }
-    ensures going { OnOk result (HearsOn (map job_of jobs.now) (state L.link_state core.old seats.old.items hears.old.items (K.kept keep.old on.old) lost.old.items) (state L.link_state core.new seats.new.items hears.new.items (K.kept keep.new on.new) lost.new.items)) }
-    ensures advances { OnOk result (Advances (map job_of jobs.now) (state L.link_state core.old seats.old.items hears.old.items (K.kept keep.old on.old) lost.old.items) (state L.link_state core.new seats.new.items hears.new.items (K.kept keep.new on.new) lost.new.items)) }
-    ensures fault { IfErr result (λ e. HearFault (map job_of jobs.now) e (state L.link_state core.old seats.old.items hears.old.items (K.kept keep.old on.old) lost.old.items) (state L.link_state core.new seats.new.items hears.new.items (K.kept keep.new on.new) lost.new.items)) }
-    ensures told { OnErr result (TellsLosses (map job_of jobs.now) (state L.link_state core.old seats.old.items hears.old.items (K.kept keep.old on.old) lost.old.items) lost.new.items) }
+    ensures going { OnOk result (HearsOn (map job_of jobs.now)
+        (state L.link_state core.old seats.old.items hears.old.items (K.kept keep.old on.old) lost.old.items)
+        (state L.link_state core.new seats.new.items hears.new.items (K.kept keep.new on.new) lost.new.items)) }
+    ensures advances { OnOk result (Advances (map job_of jobs.now)
+        (state L.link_state core.old seats.old.items hears.old.items (K.kept keep.old on.old) lost.old.items)
+        (state L.link_state core.new seats.new.items hears.new.items (K.kept keep.new on.new) lost.new.items)) }
+    ensures fault { IfErr result (λ e. HearFault (map job_of jobs.now) e
+        (state L.link_state core.old seats.old.items hears.old.items (K.kept keep.old on.old) lost.old.items)
+        (state L.link_state core.new seats.new.items hears.new.items (K.kept keep.new on.new) lost.new.items)) }
+    ensures told { OnErr result (TellsLosses (map job_of jobs.now)
+        (state L.link_state core.old seats.old.items hears.old.items (K.kept keep.old on.old) lost.old.items)
+        lost.new.items) }
 {
     let Some(job) = core.job(i) else {
         return Ok(());

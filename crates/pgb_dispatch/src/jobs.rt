@@ -45,18 +45,30 @@ fn run_links<L: Link, W, U: Turns, K: Keep<W>>(
     requires ready { (i : ℕ) (s : LinkState) → slice_get (map L.link_state links.old.items) i ≡ Some s → IsReady s }
     // The keeper is for these jobs, and holds nothing of them.
     requires keeps { (K.kept keep.old on.old).jobs ≡ map job_of jobs.now }
-    requires empty { (j : ℕ) → j < length (map job_of jobs.now) → IsSomeAnd (slice_get (K.kept keep.old on.old).kept j) IsFresh }
+    requires empty { (j : ℕ) → j < length (map job_of jobs.now)
+        → IsSomeAnd (slice_get (K.kept keep.old on.old).kept j) IsFresh }
+    requires agrees { K.agrees keep.old on.old }
     ensures later { K.later keep.old on.old keep.new on.new }
+    ensures agrees { OnOk result (K.agrees keep.new on.new) }
+    // The keeper hasn't failed.
+    ensures faults { OnOk result ((K.kept keep.new on.new).faults ≡ (K.kept keep.old on.old).faults) }
     // Each job has ended once, with what the link that ended it read.
-    ensures done { OnOk result (AllDone (map job_of jobs.now) (map L.link_state links.old.items) (K.kept keep.new on.new).kept) }
-    // The links that weren't lost are left, idle, each with as many new jobs as it may have. Each of the others is told, and no steady worker is.
-    ensures left { OnOk result (Left (map job_of jobs.now) (map L.link_state links.old.items) lost.old.items lost.new.items (map L.link_state links.new.items)) }
+    ensures done { OnOk result
+        (AllDone (map job_of jobs.now) (map L.link_state links.old.items) (K.kept keep.new on.new).kept) }
+    // The links that weren't lost are left, idle, each with as many new jobs as it may have. Each of the others is told,
+    // and no steady worker is.
+    ensures left { OnOk result
+        (Left (map job_of jobs.now) (map L.link_state links.old.items) lost.old.items lost.new.items
+        (map L.link_state links.new.items)) }
     ensures some { OnOk result (0 < length links.old.items → 0 < length links.new.items) }
     // Where no link could be lost, the counts of read jobs rose by just these jobs.
-    ensures reads { OnOk result (ReadsRise (map job_of jobs.now) (map L.link_state links.old.items) (map L.link_state links.new.items)) }
+    ensures reads { OnOk result
+        (ReadsRise (map job_of jobs.now) (map L.link_state links.old.items) (map L.link_state links.new.items)) }
     // Whatever comes of it, no entry is taken away, and each further one is of a link that isn't a steady worker.
     ensures told { AddsLosses (map job_of jobs.now) (map L.link_state links.old.items) lost.old.items lost.new.items }
-    ensures fault { IfErr result (λ e. JobsFault (map job_of jobs.now) e (map L.link_state links.old.items) lost.old.items lost.new.items (K.kept keep.old on.old).faults (K.kept keep.new on.new).faults (map L.link_state links.new.items)) }
+    ensures fault { IfErr result
+        (λ e. JobsFault (map job_of jobs.now) e (map L.link_state links.old.items) lost.old.items lost.new.items
+        (K.kept keep.old on.old).faults (K.kept keep.new on.new).faults (map L.link_state links.new.items)) }
 {
     let mut core = Core::new(alloc, jobs.len() as u32, links.len() as u32)?;
     let mut hears = start_all(alloc, links.len())?;
@@ -87,7 +99,8 @@ fn refuse<L: Link>(links: &mut Vec<L>, fault: DispatchFault) -> Result<(), Dispa
     Err(fault)
 }
 
-/// Has each job done by some link, in any order. After Unread the one link that answered so is left, after any other refusal none is.
+/// Has each job done by some link, in any order. After Unread the one link that answered so is left, after any other
+/// refusal none is.
 pub fn run_jobs<L: Link, W, U: Turns, K: Keep<W>>(
     alloc: Global,
     jobs: &[Job],
@@ -103,20 +116,33 @@ pub fn run_jobs<L: Link, W, U: Turns, K: Keep<W>>(
     requires ready { (i : ℕ) (s : LinkState) → slice_get (map L.link_state links.old.items) i ≡ Some s → IsReady s }
     // The keeper is for these jobs, and holds nothing of them.
     requires keeps { (K.kept keep.old on.old).jobs ≡ map job_of jobs.now }
-    requires empty { (j : ℕ) → j < length (map job_of jobs.now) → IsSomeAnd (slice_get (K.kept keep.old on.old).kept j) IsFresh }
+    requires empty { (j : ℕ) → j < length (map job_of jobs.now)
+        → IsSomeAnd (slice_get (K.kept keep.old on.old).kept j) IsFresh }
+    requires agrees { K.agrees keep.old on.old }
     ensures later { K.later keep.old on.old keep.new on.new }
+    ensures agrees { OnOk result (K.agrees keep.new on.new) }
+    // The keeper hasn't failed.
+    ensures faults { OnOk result ((K.kept keep.new on.new).faults ≡ (K.kept keep.old on.old).faults) }
     // Each job has ended once, with what the link that ended it read.
-    ensures done { OnOk result (AllDone (map job_of jobs.now) (map L.link_state links.old.items) (K.kept keep.new on.new).kept) }
+    ensures done { OnOk result
+        (AllDone (map job_of jobs.now) (map L.link_state links.old.items) (K.kept keep.new on.new).kept) }
     // Where all links read the same files, each item of each job ended as its file stands.
-    ensures payload { OnOk result (AllByFile (map job_of jobs.now) (map L.link_state links.old.items) (K.kept keep.new on.new).kept) }
-    // The links that weren't lost are left, idle, each with as many new jobs as it may have. Each of the others is told, and no steady worker is.
-    ensures left { OnOk result (Left (map job_of jobs.now) (map L.link_state links.old.items) lost.old.items lost.new.items (map L.link_state links.new.items)) }
+    ensures payload { OnOk result
+        (AllByFile (map job_of jobs.now) (map L.link_state links.old.items) (K.kept keep.new on.new).kept) }
+    // The links that weren't lost are left, idle, each with as many new jobs as it may have. Each of the others is told,
+    // and no steady worker is.
+    ensures left { OnOk result
+        (Left (map job_of jobs.now) (map L.link_state links.old.items) lost.old.items lost.new.items
+        (map L.link_state links.new.items)) }
     ensures some { OnOk result (0 < length links.old.items → 0 < length links.new.items) }
     // Where no link could be lost, the counts of read jobs rose by just these jobs.
-    ensures reads { OnOk result (ReadsRise (map job_of jobs.now) (map L.link_state links.old.items) (map L.link_state links.new.items)) }
+    ensures reads { OnOk result
+        (ReadsRise (map job_of jobs.now) (map L.link_state links.old.items) (map L.link_state links.new.items)) }
     // Whatever comes of it, no entry is taken away, and each further one is of a link that isn't a steady worker.
     ensures told { AddsLosses (map job_of jobs.now) (map L.link_state links.old.items) lost.old.items lost.new.items }
-    ensures fault { IfErr result (λ e. JobsFault (map job_of jobs.now) e (map L.link_state links.old.items) lost.old.items lost.new.items (K.kept keep.old on.old).faults (K.kept keep.new on.new).faults (map L.link_state links.new.items)) }
+    ensures fault { IfErr result
+        (λ e. JobsFault (map job_of jobs.now) e (map L.link_state links.old.items) lost.old.items lost.new.items
+        (K.kept keep.old on.old).faults (K.kept keep.new on.new).faults (map L.link_state links.new.items)) }
     ensures refused { IfErr result (λ e. IsUnread e ⊎ (links.new.items ≡ [])) }
 {
     match run_links(alloc, jobs, links, turns, keep, on, lost) {

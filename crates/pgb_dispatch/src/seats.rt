@@ -1,5 +1,5 @@
 // The links of a run, each in its seat until it is lost.
-ghost use Rattle.std.specs.Prelude.{◌≡◌, ◌<◌, Option, Some, None, option_map, map, vec_len, slice_get, IfOk, IfErr};
+ghost use Rattle.std.specs.Prelude.{◌≡◌, ◌<◌, Option, Some, None, option_map, map, vec_len, slice_get, IfOk, IfErr, OnOk};
 ghost use Rattle.pgb_outside.specs.Links.{LinkState};
 ghost use Rattle.pgb_frame.specs.Frames.{FitsJob};
 ghost use Rattle.pgb_frame.specs.Views.{job_of};
@@ -28,7 +28,8 @@ fn send_seat<L: Link>(seat: &mut Option<L>, frame: &[u8]) -> Result<(), Stop>
 pub(crate) fn send_at<L: Link>(seats: &mut Vec<Option<L>>, i: u32, frame: &[u8]) -> Result<(), Stop>
     requires { i < vec_len seats.old }
     ensures length { vec_len seats.new ≡ vec_len seats.old }
-    ensures states { ChangesAt (SeatSends result frame.now) (map (option_map L.link_state) seats.old.items) (map (option_map L.link_state) seats.new.items) i }
+    ensures states { ChangesAt (SeatSends result frame.now) (map (option_map L.link_state) seats.old.items)
+        (map (option_map L.link_state) seats.new.items) i }
 {
     send_seat(&mut seats[i as usize], frame)
 }
@@ -43,11 +44,18 @@ fn hear_seat<L: Link, W, K: Keep<W>>(
     keep: &mut K,
     on: &mut W,
 ) -> Result<Verdict, TakeFault>
-    requires at { IsHearing (option_map L.link_state seat.old) (job_of job.now) number hearing.old (K.kept keep.old on.old) }
+    requires at { IsHearing (option_map L.link_state seat.old) (job_of job.now) number hearing.old
+        (K.kept keep.old on.old) }
     requires fits { FitsJob (job_of job.now) }
+    requires agrees { K.agrees keep.old on.old }
     ensures later { K.later keep.old on.old keep.new on.new }
-    ensures verdict { IfOk result (λ v. Hears v (job_of job.now) number hearing.old hearing.new (K.kept keep.old on.old) (K.kept keep.new on.new) (option_map L.link_state seat.old) (option_map L.link_state seat.new)) }
-    ensures fault { IfErr result (λ e. HearFails e (job_of job.now) number hearing.old (K.kept keep.old on.old) (K.kept keep.new on.new) (option_map L.link_state seat.old) (option_map L.link_state seat.new)) }
+    ensures agrees { OnOk result (K.agrees keep.new on.new) }
+    ensures verdict { IfOk result
+        (λ v. Hears v (job_of job.now) number hearing.old hearing.new (K.kept keep.old on.old) (K.kept keep.new on.new)
+        (option_map L.link_state seat.old) (option_map L.link_state seat.new)) }
+    ensures fault { IfErr result
+        (λ e. HearFails e (job_of job.now) number hearing.old (K.kept keep.old on.old) (K.kept keep.new on.new)
+        (option_map L.link_state seat.old) (option_map L.link_state seat.new)) }
 {
     match seat {
         Some(link) => hear_reply(alloc, link, job, number, hearing, keep, on),
@@ -69,12 +77,22 @@ pub(crate) fn hear_at<L: Link, W, K: Keep<W>>(
 ) -> Result<Verdict, TakeFault>
     requires within { i < vec_len seats.old }
     requires within_hears { i < vec_len hears.old }
-    requires at { (h : Hearing) (seat : Option LinkState) → slice_get hears.old.items i ≡ Some h → slice_get (map (option_map L.link_state) seats.old.items) i ≡ Some seat → IsHearing seat (job_of job.now) number h (K.kept keep.old on.old) }
+    requires at { (h : Hearing) (seat : Option LinkState) → slice_get hears.old.items i ≡ Some h
+        → slice_get (map (option_map L.link_state) seats.old.items) i ≡ Some seat
+        → IsHearing seat (job_of job.now) number h (K.kept keep.old on.old) }
     requires fits { FitsJob (job_of job.now) }
+    requires agrees { K.agrees keep.old on.old }
     ensures later { K.later keep.old on.old keep.new on.new }
+    ensures agrees { OnOk result (K.agrees keep.new on.new) }
     ensures length { vec_len seats.new ≡ vec_len seats.old }
-    ensures verdict { IfOk result (λ v. HeardAt (λ h n. Hears v (job_of job.now) number h n (K.kept keep.old on.old) (K.kept keep.new on.new)) i (map (option_map L.link_state) seats.old.items) (map (option_map L.link_state) seats.new.items) hears.old.items hears.new.items) }
-    ensures fault { IfErr result (λ e. HeardAt (λ h n. HearFails e (job_of job.now) number h (K.kept keep.old on.old) (K.kept keep.new on.new)) i (map (option_map L.link_state) seats.old.items) (map (option_map L.link_state) seats.new.items) hears.old.items hears.new.items) }
+    ensures verdict { IfOk result
+        (λ v. HeardAt (λ h n. Hears v (job_of job.now) number h n (K.kept keep.old on.old) (K.kept keep.new on.new)) i
+        (map (option_map L.link_state) seats.old.items) (map (option_map L.link_state) seats.new.items) hears.old.items
+        hears.new.items) }
+    ensures fault { IfErr result
+        (λ e. HeardAt (λ h n. HearFails e (job_of job.now) number h (K.kept keep.old on.old) (K.kept keep.new on.new)) i
+        (map (option_map L.link_state) seats.old.items) (map (option_map L.link_state) seats.new.items) hears.old.items
+        hears.new.items) }
 {
     hear_seat(
         alloc,

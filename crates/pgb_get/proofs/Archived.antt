@@ -15,7 +15,7 @@ use Rattle.pgb_model.specs.InfoFiles.{IsArchiveText}
 use Rattle.pgb_model.specs.Repository.{Stanza, identity_of, id_of}
 use Rattle.pgb_model.specs.Stands.{HasStanza, IsWalName, archive_value}
 use Rattle.pgb_model.specs.Now.{NowStands}
-use Rattle.pgb_info.proofs.Numbers.{in_map, map_in}
+use Rattle.pgb_keys.proofs.Numbers.{in_map, map_in}
 use Rattle.pgb_info.proofs.OneArchive.{one_archive_pair}
 use Rattle.pgb_stanza.specs.declared.control.Control.{Control}
 use Rattle.pgb_archive.specs.declared.fault.ArchiveFault.TheVariants.{NotFound}

@@ -3,6 +3,7 @@ mod Searches
 mod ServedPaths
 mod Folders
 mod Passes
+mod Left
 mod Fetches
 mod Archived
 pub mod Refusals

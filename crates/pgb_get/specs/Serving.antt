@@ -1,20 +1,24 @@
 -- How a file of the archive is served: a segment in one pass, where nothing stands at the temporary name.
-use Rattle.std.specs.Prelude.{◌≡◌, ◌≢◌, ◌<◌, ◌^◌, ℕ, Bool, true, false, List, Option, Some, None, Result, Ok, Err, option_map, IfSome, IsSomeAnd, length, String, string_bytes}
+use Rattle.std.specs.Prelude.{◌≡◌, ◌≢◌, ◌⊎◌, ◌<◌, ◌^◌, ℕ, Bool, true, false, List, Option, Some, None, Result, Ok, Err, option_map, IfSome, IsSome, IsSomeAnd, length, String, string_bytes}
 use Rattle.std.specs.declared.alloc.Global.{Global}
 use Rattle.sha1.specs.Sha1.{sha1}
 use Rattle.pgb_text.specs.declared.sum.Sum.{Sum}
 use Rattle.pgb_outside.specs.Cause.{Rises}
 use Rattle.pgb_outside.specs.Content.{Content, SameBut}
+use Rattle.pgb_outside.specs.Crash.{Leaves, IsAlikeAt}
+use Rattle.pgb_outside.specs.Moments.{View}
 use Rattle.pgb_outside.specs.States.{DiskState, TreeState}
 use Rattle.pgb_outside.specs.Tree.{Nodes, file, with_node}
 use Rattle.pgb_model.specs.declared.clusters.ClusterId.{ClusterId}
 use Rattle.pgb_model.specs.declared.wal.ArchiveId.{ArchiveId}
 use Rattle.pgb_model.specs.declared.wal.ArchiveName.{ArchiveName}
 use Rattle.pgb_model.specs.Text.{Text}
+use Rattle.pgb_model.specs.Walks.{IsTight}
 use Rattle.pgb_stanza.specs.declared.control.Control.{Control}
 use Rattle.pgb_archive.specs.declared.fault.ArchiveFault.{ArchiveFault}
 use Rattle.pgb_archive.specs.declared.fault.ArchiveFault.TheVariants.{Ambiguous as AmbiguousOf, SegmentDamaged as DamagedOf, TooLong as LongOf, Disk as DiskOf}
 use Rattle.pgb_archive.specs.Causes.{StoresBytes, GetCause as ArchiveCause}
+use Rattle.pgb_archive.specs.Pushes.{IsPathOf}
 use Rattle.pgb_archive.specs.Stored.{StoresNone}
 use Rattle.pgb_stage.specs.declared.object.Object.{Object}
 use Rattle.pgb_stage.specs.declared.object.Object.TheVariants.{Repo}
@@ -116,6 +120,15 @@ AreBytes stanza id name repo bytes = IfSome repo (λ f. StoresBytes stanza id na
 -- it isn't stored under the id
 abbrev pub IsUnstored : Text → ArchiveId → ArchiveName → Option Content → Type 0
 IsUnstored stanza id name repo = IfSome repo (StoresNone stanza id name)
+
+-- what the repository held; or, where no name that is looked at was loose, what a crash leaves behind the call
+abbrev pub IsLeft : Text → View → View → Option Content → Type 0
+IsLeft stanza old new repo = (repo ≡ old.now)
+    ⊎ (IsTight stanza old × IsSome old.now × ((g : Content) × (repo ≡ Some g) × Leaves new new.moment g))
+
+-- where no name that is looked at was loose, all that a crash leaves is alike at the file's paths
+abbrev pub EndsAlike : Text → ArchiveId → ArchiveName → View → View → Type 0
+EndsAlike stanza id name old new = IsTight stanza old → IsSome old.now → IsAlikeAt (IsPathOf stanza id name) new
 
 -- its bytes under the id of a cluster, which is the data folder's
 abbrev pub AreBytesUnder : ClusterId → Text → Control → ArchiveName → Option Content → Text → Type 0

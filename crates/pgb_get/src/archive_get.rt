@@ -1,5 +1,7 @@
 // archive-get.
-ghost use Rattle.std.specs.Prelude.{◌≡◌, ◌≤◌, Some, IfOk, IfErr, IfSome, IsSome};
+ghost use Rattle.std.specs.Prelude.{◌≡◌, ◌≤◌, Option, Some, IfOk, IfErr, IfSome, IsSome};
+ghost use Rattle.pgb_outside.specs.Content.{Content};
+ghost use Rattle.pgb_outside.specs.Crash.{Leaves};
 ghost use Rattle.pgb_outside.specs.States.{Looks};
 ghost use Rattle.pgb_outside.specs.Cause.{Rises};
 ghost use Rattle.pgb_model.specs.declared.clusters.ClusterId.{ClusterId};
@@ -15,11 +17,12 @@ ghost use Rattle.pgb_stage.specs.Current.{HasValue};
 ghost use Rattle.pgb_stage.specs.Halts.{HaltCause};
 ghost use Rattle.pgb_stage.specs.Reached.{reached_by};
 ghost use Rattle.pgb_stage.specs.Risen.{none, rose_in};
-ghost use Rattle.pgb_stage.specs.Runs.{OnNone};
+ghost use Rattle.pgb_model.specs.Walks.{IsTight};
+ghost use Rattle.pgb_stage.specs.Runs.{OnNone, PairAlike};
 ghost use Rattle.pgb_get.specs.declared.fault.GetFault.TheVariants.{StanzaMismatch};
 ghost use Rattle.pgb_get.specs.Getting.{served_path, IsFound, IsAbsent, ChangesPath, FetchCause};
 ghost use Rattle.pgb_get.specs.Getting.{GotBy, GivenBy, IsServed, GetCause, get_early};
-ghost use Rattle.pgb_get.specs.Serving.{EitherFailed, Puts};
+ghost use Rattle.pgb_get.specs.Serving.{EitherFailed, Puts, IsLeft};
 
 use crate::fault::GetFault;
 use crate::finding::{has_cluster, search};
@@ -61,9 +64,11 @@ fn serve_file<D: Disk, T: Tree>(
 ) -> Result<bool, Halt<GetFault>>
     requires pair { IfSome (D.state repo.old).view.now (λ f. HasValue stanza.now f (archive_info_of info.now)) }
     requires valid { IsArchiveInfo (archive_info_of info.now) }
-    ensures puts { Puts result
-        (IsFound stanza.now told.now order.now.name (D.state repo.old).view.now)
-        (IsAbsent stanza.now told.now order.now.name (D.state repo.old).view.now)
+    ensures puts { (f : Option Content) → IsLeft stanza.now (D.state repo.old).view (D.state repo.new).view f
+        → IfSome f (λ f. HasValue stanza.now f (archive_info_of info.now))
+        → Puts result
+        (IsFound stanza.now told.now order.now.name f)
+        (IsAbsent stanza.now told.now order.now.name f)
         order.now.inside.now (T.state tree.old).nodes (T.state tree.new).nodes }
     ensures changes { ChangesPath order.now.inside.now
         (IsFound stanza.now told.now order.now.name (D.state repo.old).view.now)
@@ -98,6 +103,12 @@ pub fn get_file<D: Disk, T: Tree>(
     // The data folder has the file of the repository at Finished, and is as it was where the repository hasn't it.
     ensures got { IfOk result (GotBy stanza.now order.now.folder.now order.now.word.now order.now.path.now
         (D.state repo.old).view.now (T.state tree.old).nodes (T.state tree.new).nodes) }
+    // So it is in all that a crash leaves, where that has the archive pair.
+    ensures lasts { IfOk result (λ o. IsTight stanza.now (D.state repo.old).view
+        → IsSome (D.state repo.old).view.now → PairAlike stanza.now (D.state repo.old).view → (f : Content)
+        → Leaves (D.state repo.new).view (D.state repo.new).view.moment f
+        → GotBy stanza.now order.now.folder.now order.now.word.now order.now.path.now
+        (Some f) (T.state tree.old).nodes (T.state tree.new).nodes o) }
     ensures given { IfOk result (λ o. (s : Stanza) → IsSome (D.state repo.old).view.now
         → NowStands stanza.now (Some s) (D.state repo.old).view.now
         → GivenBy s order.now.folder.now order.now.word.now order.now.path.now

@@ -1,5 +1,6 @@
 // A file of the archive is served from under that of the stanza's ids that has it.
-ghost use Rattle.std.specs.Prelude.{◌≡◌, ◌≤◌, true, false, Decides, map, Some, IfErr, IfSome};
+ghost use Rattle.std.specs.Prelude.{◌≡◌, ◌≤◌, true, false, Decides, map, Option, Some, IfErr, IfSome, OnOk};
+ghost use Rattle.pgb_outside.specs.Content.{Content};
 ghost use Rattle.pgb_outside.specs.States.{Looks};
 ghost use Rattle.pgb_model.specs.declared.clusters.ClusterId.{ClusterId};
 ghost use Rattle.pgb_model.specs.InfoFiles.{AreFrom};
@@ -7,7 +8,7 @@ ghost use Rattle.pgb_archive.specs.Paths.{has_sum};
 ghost use Rattle.pgb_archive.specs.Stored.{Finds};
 ghost use Rattle.pgb_stage.specs.Halts.{HaltCause};
 ghost use Rattle.pgb_get.specs.Getting.{IsSame, HasSame, ChangesPath};
-ghost use Rattle.pgb_get.specs.Serving.{EitherFailed, Puts, AreBytes, IsUnstored, FileCause};
+ghost use Rattle.pgb_get.specs.Serving.{EitherFailed, Puts, AreBytes, IsUnstored, FileCause, IsLeft, EndsAlike};
 ghost use Rattle.pgb_get.specs.Serving.{AreBytesUnder, IsUnstoredUnder, UnderCause};
 ghost use Rattle.pgb_get.specs.Serving.{AreFoundIn, IsAbsentIn, SearchCause};
 
@@ -56,6 +57,8 @@ fn serve_whole<D: Disk, T: Tree>(
         (AreBytes stanza.now id.now order.now.name (D.state repo.old).view.now)
         (IsUnstored stanza.now id.now order.now.name (D.state repo.old).view.now)
         order.now.inside.now (T.state tree.old).nodes (T.state tree.new).nodes }
+    ensures alike { OnOk result (EndsAlike stanza.now id.now order.now.name
+        (D.state repo.old).view (D.state repo.new).view) }
     ensures changes { ChangesPath order.now.inside.now
         (AreBytes stanza.now id.now order.now.name (D.state repo.old).view.now)
         (T.state tree.old).nodes (T.state tree.new).nodes }
@@ -129,6 +132,8 @@ fn serve_segment<D: Disk, T: Tree>(
         (AreBytes stanza.now id.now order.now.name (D.state repo.old).view.now)
         (IsUnstored stanza.now id.now order.now.name (D.state repo.old).view.now)
         order.now.inside.now (T.state tree.old).nodes (T.state tree.new).nodes }
+    ensures alike { OnOk result (EndsAlike stanza.now id.now order.now.name
+        (D.state repo.old).view (D.state repo.new).view) }
     ensures changes { ChangesPath order.now.inside.now
         (AreBytes stanza.now id.now order.now.name (D.state repo.old).view.now)
         (T.state tree.old).nodes (T.state tree.new).nodes }
@@ -156,9 +161,10 @@ fn serve_under<D: Disk, T: Tree>(
     told: &Control,
     order: &GetOrder<'_>,
 ) -> Result<bool, Halt<GetFault>>
-    ensures puts { Puts result
-        (AreBytesUnder cluster.now stanza.now told.now order.now.name (D.state repo.old).view.now)
-        (IsUnstoredUnder cluster.now stanza.now told.now order.now.name (D.state repo.old).view.now)
+    ensures puts { (f : Option Content) → IsLeft stanza.now (D.state repo.old).view (D.state repo.new).view f
+        → Puts result
+        (AreBytesUnder cluster.now stanza.now told.now order.now.name f)
+        (IsUnstoredUnder cluster.now stanza.now told.now order.now.name f)
         order.now.inside.now (T.state tree.old).nodes (T.state tree.new).nodes }
     ensures changes { ChangesPath order.now.inside.now
         (AreBytesUnder cluster.now stanza.now told.now order.now.name (D.state repo.old).view.now)
@@ -195,9 +201,10 @@ pub(crate) fn search<D: Disk, T: Tree>(
     order: &GetOrder<'_>,
 ) -> Result<bool, Halt<GetFault>>
     requires numbers { AreFrom 1 (map (λ (c : ClusterId). c.id) history.now) }
-    ensures puts { Puts result
-        (AreFoundIn history.now stanza.now told.now order.now.name (D.state repo.old).view.now)
-        (IsAbsentIn history.now stanza.now told.now order.now.name (D.state repo.old).view.now)
+    ensures puts { (f : Option Content) → IsLeft stanza.now (D.state repo.old).view (D.state repo.new).view f
+        → Puts result
+        (AreFoundIn history.now stanza.now told.now order.now.name f)
+        (IsAbsentIn history.now stanza.now told.now order.now.name f)
         order.now.inside.now (T.state tree.old).nodes (T.state tree.new).nodes }
     ensures changes { ChangesPath order.now.inside.now
         (AreFoundIn history.now stanza.now told.now order.now.name (D.state repo.old).view.now)

@@ -10,12 +10,12 @@ use Rattle.pgb_model.specs.InfoText.{Section, IsInfo, head_name}
 use Rattle.pgb_model.specs.Fields.{Field, by_key, at_number, fields_of, whole}
 use Rattle.pgb_model.specs.InfoFiles.{IsClusterId, cluster_id_fields, cluster_id_field, archive_sections, IsArchiveInfo}
 use Rattle.pgb_model.specs.Values.{ArchiveInfo}
-use Rattle.pgb_info.specs.Agree.{HasKey, AgreeAt, db as db_name, db_history}
+use Rattle.pgb_keys.specs.Agree.{HasKey, AgreeAt, db as db_name, db_history}
 use Rattle.pgb_info.specs.History.{IsHistory, IsWrongHistory}
 use Rattle.pgb_info.specs.ArchiveForm.{Matches, TellsCluster, IsArchiveForm, IsWrongCurrent, section_names}
 use Rattle.pgb_info.proofs.ArchiveRules.{db, history, archive_sections_are}
-use Rattle.pgb_info.proofs.Numbers.{all_in, in_map, entry_at, read_at, same_digits}
-use Rattle.pgb_info.proofs.Sorted.{unique, fits, same_list, by_key_in, length_by_key}
+use Rattle.pgb_keys.proofs.Numbers.{all_in, in_map, entry_at, read_at, same_digits}
+use Rattle.pgb_keys.proofs.Sorted.{unique, fits, same_list, by_key_in, length_by_key}
 
 abbrev id_of : ClusterId → ℕ
 id_of c = c.id

@@ -9,7 +9,7 @@ use Rattle.pgb_model.specs.InfoFiles.{IsClusterId, cluster_id_fields, cluster_id
 use Rattle.pgb_model.specs.Values.{ArchiveInfo}
 use Rattle.pgb_text.proofs.Decimals.{IsUtf8-decimal}
 use Rattle.pgb_ini.proofs.Keys.{IsKey-built}
-use Rattle.pgb_info.proofs.ByKey.{history_rules, some_key}
+use Rattle.pgb_keys.proofs.ByKey.{history_rules, some_key}
 use Rattle.pgb_info.proofs.Clusters.{built_identity_fields, built_identity}
 use Rattle.pgb_info.proofs.Found.{found}
 use Rattle.pgb_info.proofs.PlainTexts.{is_key-decimal}

@@ -11,7 +11,7 @@ use Rattle.pgb_model.specs.Values.{Entry, BackupInfo}
 use Rattle.pgb_text.proofs.Decimals.{IsUtf8-decimal}
 use Rattle.pgb_ini.proofs.Keys.{IsKey-built}
 use Rattle.pgb_info.proofs.ArchiveRules.{some_section}
-use Rattle.pgb_info.proofs.ByKey.{history_rules, some_key}
+use Rattle.pgb_keys.proofs.ByKey.{history_rules, some_key}
 use Rattle.pgb_info.proofs.Clusters.{built_cluster_fields, built_cluster}
 use Rattle.pgb_info.proofs.EntryRules.{listed_rules}
 use Rattle.pgb_info.proofs.Found.{found}

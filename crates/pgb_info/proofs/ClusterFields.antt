@@ -9,7 +9,7 @@ use Rattle.pgb_text.proofs.Decimals.{IsUtf8-decimal}
 use Rattle.pgb_ini.proofs.Keys.{IsKey-built}
 use Rattle.pgb_info.specs.History.{AreNumbered}
 use Rattle.pgb_info.proofs.Clusters.{built_cluster}
-use Rattle.pgb_info.proofs.Numbers.{same_digits}
+use Rattle.pgb_keys.proofs.Numbers.{same_digits}
 use Rattle.pgb_info.proofs.PlainTexts.{is_key-decimal}
 
 -- the value of the first member, the second and so on

@@ -6,16 +6,8 @@ use Rattle.pgb_model.specs.declared.clusters.Cluster.{Cluster}
 use Rattle.pgb_model.specs.Text.{Text, In}
 use Rattle.pgb_model.specs.Fields.{Field, whole}
 use Rattle.pgb_model.specs.InfoFiles.{IsCluster, cluster_fields, version_value}
-use Rattle.pgb_info.specs.Agree.{KeysAgree, IsOrdered}
-use Rattle.pgb_info.specs.BackupForm.{IsFirstDifference, IsWrongCluster}
-use Rattle.pgb_info.proofs.Identities.{same_number, same_version}
-use Rattle.pgb_info.proofs.Keyed.{same_value}
-
-pub one_number : (ks : List Field) (key : Text) (d : Data) (m n : ℕ) → IsOrdered ks → In (key, d) ks → d ≡ whole m → In (key, whole n) ks → m ≡ n
-one_number ks key d m n order i is j = same_number m n (sym is ∙ same_value ks key d (whole n) order i j)
-
-pub one_version : (ks : List Field) (key : Text) (m n : ℕ) → m < 2 ^ 32 → n < 2 ^ 32 → IsOrdered ks → In (key, version_value m) ks → In (key, version_value n) ks → m ≡ n
-one_version ks key m n h g order i j = same_version m n (omega arith) (omega arith) (same_value ks key (version_value m) (version_value n) order i j)
+use Rattle.pgb_keys.specs.Agree.{KeysAgree, IsOrdered, IsFirstDifference}
+use Rattle.pgb_info.specs.BackupForm.{IsWrongCluster}
 
 -- what a candidate has of the keys
 pub record IsCandidate (ks : List Field) (c : Cluster) : Type 0 where

@@ -6,22 +6,14 @@ use Rattle.pgb_model.specs.declared.clusters.ClusterId.{ClusterId}
 use Rattle.pgb_model.specs.Text.{Text, In}
 use Rattle.pgb_model.specs.Fields.{Field, whole}
 use Rattle.pgb_model.specs.InfoFiles.{cluster_id_fields, version_value}
-use Rattle.pgb_info.specs.declared.fault.PartsFault.{PartsFault}
-use Rattle.pgb_info.specs.declared.fault.PartsFault.TheVariants.{Form, NoMemory}
-use Rattle.pgb_info.specs.Fault.{IfForm}
-use Rattle.pgb_info.specs.Agree.{db, IsOrdered}
+use Rattle.pgb_keys.specs.declared.fault.PartsFault.{PartsFault}
+use Rattle.pgb_keys.specs.declared.fault.PartsFault.TheVariants.{Form, NoMemory}
+use Rattle.pgb_keys.specs.Fault.{IfForm}
+use Rattle.pgb_keys.specs.Agree.{db, IsOrdered}
 use Rattle.pgb_info.specs.ArchiveForm.{cluster_keys, IsWrongCurrent}
-use Rattle.pgb_info.proofs.Keyed.{same_value}
-use Rattle.pgb_info.proofs.Sorted.{fits, same_list}
-
--- what holds of a section and a key holds where the fault tells them
-pub form_as : (e : PartsFault) (section key : Text) (P : Text → Text → Type 0) → IfForm e (λ s k. (s ≡ section) × (k ≡ key)) → P section key → IfForm e P
-form_as (Form s k) section key P told p = subst (λ (x : Text). P x (string_bytes k)) (sym told.0) (subst (λ (y : Text). P section y) (sym told.1) p)
-form_as NoMemory section key P told p = tt
-
-pub form_wide : (e : PartsFault) (P Q : Text → Text → Type 0) → IfForm e P → ((section key : Text) → P section key → Q section key) → IfForm e Q
-form_wide (Form s k) P Q h wide = wide (string_bytes s) (string_bytes k) h
-form_wide NoMemory P Q h wide = tt
+use Rattle.pgb_keys.proofs.Forms.{form_as}
+use Rattle.pgb_keys.proofs.Keyed.{same_value}
+use Rattle.pgb_keys.proofs.Sorted.{fits, same_list}
 
 abbrev Wrong : List Field → Text → Text → Type 0
 Wrong ks = λ section key. (section ≡ db) × IsWrongCurrent ks key

@@ -19,7 +19,7 @@ use Rattle.pgb_ini.specs.Built.{IsBuilt, AreBuilt}
 use Rattle.pgb_ini.proofs.Objects.{IsBuilt-object}
 use Rattle.pgb_ini.proofs.Keys.{IsKey-built}
 use Rattle.pgb_info.specs.Entries.{HasLabels}
-use Rattle.pgb_info.proofs.ByKey.{both, after_nothing}
+use Rattle.pgb_keys.proofs.ByKey.{both, after_nothing}
 use Rattle.pgb_info.proofs.PlainTexts.{label_some, is_key-label_text, IsUtf8-label_text, IsUtf8-segment_text}
 
 built_labels : (ls : List Label) → AllByRecursion IsLabel ls → AreBuilt (items_from (map label_value ls))

@@ -7,15 +7,15 @@ use Rattle.pgb_model.specs.Text.{Text, In}
 use Rattle.pgb_model.specs.Fields.{Field, by_key}
 use Rattle.pgb_model.specs.InfoFiles.{AreFrom}
 use Rattle.pgb_ini.proofs.Steps.{each_push}
-use Rattle.pgb_info.specs.declared.fault.PartsFault.{PartsFault}
-use Rattle.pgb_info.specs.declared.fault.PartsFault.TheVariants.{Form, NoMemory}
-use Rattle.pgb_info.specs.Fault.{IfForm}
-use Rattle.pgb_info.specs.Agree.{db_history, IsOrdered}
+use Rattle.pgb_keys.specs.declared.fault.PartsFault.{PartsFault}
+use Rattle.pgb_keys.specs.declared.fault.PartsFault.TheVariants.{Form, NoMemory}
+use Rattle.pgb_keys.specs.Fault.{IfForm}
+use Rattle.pgb_keys.specs.Agree.{db_history, IsOrdered}
 use Rattle.pgb_info.specs.History.{AreNumbered, IsHistory, IsWrongHistory}
-use Rattle.pgb_info.proofs.CurrentRules.{form_as}
-use Rattle.pgb_info.proofs.Numbers.{all_in, in_map, map_in, same_digits, entry_at, id_low, unique_id, get_in, read_at, from_push}
-use Rattle.pgb_info.proofs.Sorted.{by_key_in, in_by_key, length_by_key, same_list}
-use Rattle.pgb_info.proofs.ByKey.{history_rules}
+use Rattle.pgb_keys.proofs.Forms.{form_as}
+use Rattle.pgb_keys.proofs.Numbers.{all_in, in_map, map_in, same_digits, entry_at, id_low, unique_id, get_in, read_at, from_push}
+use Rattle.pgb_keys.proofs.Sorted.{by_key_in, in_by_key, length_by_key, same_list}
+use Rattle.pgb_keys.proofs.ByKey.{history_rules}
 
 module _ {X : Type 0} (IsOne : X → Type 0) (number : X → ℕ) (field : X → Field) where
   -- so far: the first clusters, which the keys tell

@@ -1,22 +1,12 @@
 -- The identity that an object's two members tell.
 use Rattle.std.proofs.Common.{◌≡◌, ℕ, ◌<◌, ◌^◌, List, Option, Some, decimal, refl, sym, ap, ◌∙◌, subst, arith}
-use Rattle.std.specs.Prelude.{codes, IfNone, Result, Ok, Err}
-use Rattle.std.specs.Result.{result_ok, OkIff}
-use Rattle.std.proofs.lemmas.Fmt.{decimal_injective}
+use Rattle.std.specs.Prelude.{codes}
 use Rattle.serde_json.specs.Data.{Data}
-use Rattle.serde_json.specs.Find.{get, as_str}
+use Rattle.serde_json.specs.Find.{get}
 use Rattle.pgb_model.specs.declared.clusters.ClusterId.{ClusterId}
 use Rattle.pgb_model.specs.Fields.{whole}
 use Rattle.pgb_model.specs.InfoFiles.{cluster_id_field, version_value}
-
-pub same_number : (n m : ℕ) → whole n ≡ whole m → n ≡ m
-same_number n m e = cc
-
-pub same_version : (n m : ℕ) → n < 2 ^ 64 → m < 2 ^ 64 → version_value n ≡ version_value m → n ≡ m
-same_version n m h g e = let d : decimal n ≡ decimal m = cc in decimal_injective n m h g d
-
-pub same_data : (d e : Data) → ◌≡◌ {A = Option Data} (Some d) (Some e) → d ≡ e
-same_data d e h = cc
+use Rattle.pgb_keys.proofs.Scalars.{same_number, same_version, same_data}
 
 pub system_of : (d found : Data) (n : ℕ) (e : ClusterId) → d ≡ (cluster_id_field e).1 → Some found ≡ get (codes "db-id") d → found ≡ whole n → n ≡ e.system
 system_of d found n e is at tells = same_number n e.system (sym tells ∙ same_data found (whole e.system) (at ∙ ap (get (codes "db-id")) is))
@@ -26,16 +16,3 @@ version_of d found n e h g is at tells = same_version n e.version h g (sym tells
 
 pub same_cluster : (id system version : ℕ) (e : ClusterId) → e.id ≡ id → system ≡ e.system → version ≡ e.version → ◌≡◌ {A = Option ClusterId} (Some (record { id = id; system = system; version = version })) (Some e)
 same_cluster id system version e i s v = rw (sym i, s, v) refl
-
-same_text : (s t : List ℕ) → ◌≡◌ {A = Option (List ℕ)} (Some s) (Some t) → s ≡ t
-same_text s t e = cc
-
--- digits of a number past 32 bits are of none within
-version_apart : (d : Data) (text : List ℕ) (n m : ℕ) → Some text ≡ as_str d → text ≡ decimal n → n < 2 ^ 64 → (n < 2 ^ 32 → ⊥) → m < 2 ^ 32 → d ≡ version_value m → ⊥
-version_apart d text n m at is h far g same =
-    let e : n ≡ m = decimal_injective n m h (omega arith) (sym is ∙ same_text text (decimal m) (at ∙ ap as_str same)) in
-    far (subst (λ (k : ℕ). k < 2 ^ 32) (sym e) g)
-
-pub version_none : {E : Type 0} (d : Data) (text : List ℕ) (n : ℕ) (r : Result ℕ E) (o : Option ℕ) → Some text ≡ as_str d → (text ≡ decimal n) × (n < 2 ^ 64) → o ≡ result_ok r → OkIff r (n < 2 ^ 32) n → IfNone o ((m : ℕ) → m < 2 ^ 32 → d ≡ version_value m → ⊥)
-version_none d text n (Ok x) o at tells is iff = subst (λ (p : Option ℕ). IfNone p ((m : ℕ) → m < 2 ^ 32 → d ≡ version_value m → ⊥)) (sym is) tt
-version_none d text n (Err e) o at tells is iff = subst (λ (p : Option ℕ). IfNone p ((m : ℕ) → m < 2 ^ 32 → d ≡ version_value m → ⊥)) (sym is) (λ m g same. version_apart d text n m at tells.0 tells.1 iff g same)

@@ -1,7 +1,6 @@
 pub mod Clusters
 pub mod First
 pub mod Found
-pub mod ByKey
 pub mod ArchiveRules
 pub mod Dates
 pub mod PlainTexts
@@ -12,12 +11,8 @@ pub mod Causes
 pub mod KindTexts
 pub mod FewKeys
 pub mod Mends
-pub mod Sorted
-pub mod Seeking
 pub mod Identities
-pub mod Keyed
 pub mod CurrentRules
-pub mod Numbers
 pub mod HistoryRules
 pub mod IdentityFields
 pub mod ClusterFields
@@ -26,11 +21,9 @@ pub mod OneArchive
 pub mod StampTexts
 pub mod LabelTexts
 pub mod EntryParts
-pub mod Read
-pub mod Walked
 pub mod ClusterKeys
 pub mod ListedKeys
-pub mod Halves
+pub mod BackupBuilt
 pub mod BackupForms
 pub mod Onward
 pub mod Saved

@@ -13,18 +13,18 @@ use Rattle.pgb_model.specs.Fields.{Field, or_null}
 use Rattle.pgb_model.specs.Names.{label_text}
 use Rattle.pgb_model.specs.InfoFiles.{IsLabel, label_value, entry_field, IsListedEntry, AreListed}
 use Rattle.pgb_model.specs.Values.{Entry}
-use Rattle.pgb_info.specs.Agree.{KeysAgree, IsOrdered}
+use Rattle.pgb_keys.specs.Agree.{KeysAgree, IsOrdered, KeysAgreeBefore}
 use Rattle.pgb_info.specs.Entries.{IsEntry}
-use Rattle.pgb_info.specs.BackupForm.{HasLabel, IsList, IsNext, IsWrongBackup, KeysAgreeBefore}
-use Rattle.pgb_info.proofs.ByKey.{both, after_nothing}
+use Rattle.pgb_info.specs.BackupForm.{HasLabel, IsList, IsNext, IsWrongBackup}
+use Rattle.pgb_keys.proofs.ByKey.{both, after_nothing}
 use Rattle.pgb_info.proofs.EntryParts.{same_label}
 use Rattle.pgb_info.proofs.EntryRules.{HasLabels-listed}
 use Rattle.pgb_info.proofs.LabelTexts.{label_text-injective}
-use Rattle.pgb_info.proofs.Numbers.{in_map, map_in}
+use Rattle.pgb_keys.proofs.Numbers.{in_map, map_in}
 use Rattle.pgb_info.proofs.PlainTexts.{label_some}
-use Rattle.pgb_info.proofs.Seeking.{opened}
-use Rattle.pgb_info.proofs.Sorted.{Before}
-use Rattle.pgb_info.proofs.Walked.{in_back, in_parts, front_first, behind, before_agree, head_not, sorted_front}
+use Rattle.pgb_keys.proofs.Seeking.{opened}
+use Rattle.pgb_keys.proofs.Sorted.{Before}
+use Rattle.pgb_keys.proofs.Walked.{in_back, in_parts, front_first, behind, before_agree, head_not, sorted_front}
 
 abbrev pub many : ℕ
 many = 4294967296

@@ -15,8 +15,8 @@ use Rattle.pgb_ini.proofs.OneText.{one_sections}
 use Rattle.pgb_info.proofs.ArchiveForms.{shape, same_cluster}
 use Rattle.pgb_info.proofs.ArchiveRules.{archive_is_info}
 use Rattle.pgb_info.proofs.IdentityFields.{same_field}
-use Rattle.pgb_info.proofs.Numbers.{all_in, map_in, id_low}
-use Rattle.pgb_info.proofs.Sorted.{by_key_in, in_by_key, length_by_key}
+use Rattle.pgb_keys.proofs.Numbers.{all_in, map_in, id_low}
+use Rattle.pgb_keys.proofs.Sorted.{by_key_in, in_by_key, length_by_key}
 
 abbrev id_of : ClusterId → ℕ
 id_of c = c.id

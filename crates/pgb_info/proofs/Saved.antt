@@ -1,4 +1,4 @@
--- The members of an info file are written, the copy at a name that is made from the main one's.
+-- Both members are written, the copy at a name that is made from the main one's.
 use Rattle.std.proofs.Common.{◌≡◌, List, [], ◌∷◌, ◌++◌, Option, sym, ap, subst, ◌∙◌, append_assoc}
 use Rattle.std.specs.Prelude.{false, codes}
 use Rattle.pgb_outside.specs.Content.{Content, Name}
@@ -8,20 +8,20 @@ use Rattle.pgb_disk.specs.Store.{LiesIn}
 use Rattle.pgb_model.specs.Text.{Text, ◌⫽◌}
 use Rattle.pgb_model.specs.Names.{copy_of}
 use Rattle.pgb_model.specs.Create.{member_writes}
-use Rattle.pgb_info.specs.Member.{IsInfoName}
+use Rattle.pgb_info.specs.Member.{IsMemberName}
 
--- a name that goes on behind an info file's lies in the same folder
-lies_on : (name more given : Text) (is : IsInfoName name) → given ≡ name ++ more → LiesIn is.folder given
-lies_on name more given is ends = ((is.front ++ codes ".info") ++ more, ends ∙ (ap (λ (n : Text). n ++ more) is.is ∙ append_assoc is.folder (47 ∷ (is.front ++ codes ".info")) more))
+-- a name that goes on behind a member's lies in the same folder
+lies_on : (name more given : Text) (is : IsMemberName name) → given ≡ name ++ more → LiesIn is.folder given
+lies_on name more given is ends = (is.last ++ more, ends ∙ (ap (λ (n : Text). n ++ more) is.is ∙ append_assoc is.folder (47 ∷ is.last) more))
 
-lies : (name : Text) (is : IsInfoName name) → LiesIn is.folder name
-lies name is = (is.front ++ codes ".info", is.is)
+lies : (name : Text) (is : IsMemberName name) → LiesIn is.folder name
+lies name is = (is.last, is.is)
 
--- both lie in the info file's folder
-pub main_folder : (name more temporary : Text) → IsInfoName name → temporary ≡ name ++ more → (folder : Name) × LiesIn folder temporary × LiesIn folder name
+-- both lie in the member's folder
+pub main_folder : (name more temporary : Text) → IsMemberName name → temporary ≡ name ++ more → (folder : Name) × LiesIn folder temporary × LiesIn folder name
 main_folder name more temporary is made = (is.folder, lies_on name more temporary is made, lies name is)
 
-pub copy_folder : (name more temporary copy : Text) → IsInfoName name → temporary ≡ name ++ more → copy ≡ copy_of name → (folder : Name) × LiesIn folder temporary × LiesIn folder copy
+pub copy_folder : (name more temporary copy : Text) → IsMemberName name → temporary ≡ name ++ more → copy ≡ copy_of name → (folder : Name) × LiesIn folder temporary × LiesIn folder copy
 copy_folder name more temporary copy is made same = (is.folder, lies_on name more temporary is made, lies_on name (codes ".copy") copy is same)
 
 module _ (name text given : Text) (is : given ≡ copy_of name) where

@@ -6,7 +6,7 @@ use Rattle.pgb_model.specs.InfoText.{Section}
 use Rattle.pgb_model.specs.Fields.{Field, at_number, fields_of}
 use Rattle.pgb_model.specs.InfoFiles.{IsClusterId, cluster_id_fields, archive_sections, IsArchiveInfo}
 use Rattle.pgb_model.specs.Values.{ArchiveInfo}
-use Rattle.pgb_info.specs.Agree.{AgreeAt, KeysAgree, db, db_history}
+use Rattle.pgb_keys.specs.Agree.{AgreeAt, KeysAgree, db, db_history}
 
 -- the current cluster is the one that the section `db` tells, and the history has a cluster for each of its keys
 pub record Matches (ss : List Section) (v : ArchiveInfo) : Type 0 where

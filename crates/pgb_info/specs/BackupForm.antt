@@ -11,7 +11,7 @@ use Rattle.pgb_model.specs.Names.{label_text}
 use Rattle.pgb_model.specs.InfoFiles.{IsCluster, cluster_fields, entry_field, AreListed, backup_sections, IsBackupInfo}
 use Rattle.pgb_model.specs.Values.{BackupInfo, Entry}
 use Rattle.pgb_info.specs.Entries.{IsEntry}
-use Rattle.pgb_info.specs.Agree.{AgreeAt, KeysAgree, db, db_history}
+use Rattle.pgb_keys.specs.Agree.{AgreeAt, KeysAgree, KeysAgreeBefore, db, db_history}
 
 abbrev pub backup_current : Text
 backup_current = codes "backup:current"
@@ -42,10 +42,6 @@ pub record IsBackupForm (ss : List Section) (section key : Text) : Type 0 where
 
 -- ---- section by section
 
--- one has at each earlier key what the other has
-abbrev pub KeysAgreeBefore : List Field → List Field → Text → Type 0
-KeysAgreeBefore xs ys key = (earlier : Text) → is_before earlier key ≡ true → KeysAgree xs ys earlier
-
 -- a list of backups, whatever the history
 pub record IsList (es : List Entry) : Type 0 where
   pub backups : AreListed 4294967296 [] es
@@ -70,15 +66,6 @@ pub record IsWrongBackup (ks : List Field) (key : Text) : Type 0 where
 pub record IsWrongCluster (ks : List Field) (key : Text) : Type 0 where
   pub told : (c : Cluster) × IsCluster c × (1 ≤ c.id) × KeysAgreeBefore (cluster_fields c) ks key
   pub wrong : (c : Cluster) → IsCluster c → 1 ≤ c.id → ¬ KeysAgree (cluster_fields c) ks key
-
--- up to this key the two are the same, and at it they differ
-pub record IsFirstDifference (xs ys : List Field) (key : Text) : Type 0 where
-  pub before : KeysAgreeBefore xs ys key
-  pub here : ¬ KeysAgree xs ys key
-
--- the keys of the section of this name, and none where there is no such section
-abbrev pub IsKeysOf : List Section → Text → List Field → Type 0
-IsKeysOf ss name ks = In (record { name = name; keys = ks }) ss ⊎ (((s : Section) → In s ss → s.name ≢ name) × (ks ≡ []))
 
 -- the sections of the text
 abbrev pub backup_names : List Text

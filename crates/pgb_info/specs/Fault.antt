@@ -7,8 +7,6 @@ use Rattle.pgb_info.specs.declared.fault.SaveFault.{SaveFault}
 use Rattle.pgb_info.specs.declared.fault.SaveFault.TheVariants.{Disk, NoMemory}
 use Rattle.pgb_info.specs.declared.fault.InfoFault.{InfoFault}
 use Rattle.pgb_info.specs.declared.fault.InfoFault.TheVariants.{Disk as InfoDisk, NoMemory as InfoNoMemory}
-use Rattle.pgb_info.specs.declared.fault.PartsFault.{PartsFault}
-use Rattle.pgb_info.specs.declared.fault.PartsFault.TheVariants.{Form, NoMemory as PartsNoMemory}
 
 abbrev pub fault_of : StoreFault → SaveFault
 fault_of StoreDisk = Disk
@@ -19,8 +17,3 @@ fault_of StoreNoMemory = NoMemory
 abbrev pub info_fault_of : SaveFault → InfoFault
 info_fault_of Disk = InfoDisk
 info_fault_of NoMemory = InfoNoMemory
-
--- what holds of the section and the key, where the fault tells them
-abbrev pub IfForm : PartsFault → (Text → Text → Type 0) → Type 0
-IfForm (Form section key) P = P (string_bytes section) (string_bytes key)
-IfForm PartsNoMemory P = Unit {0}

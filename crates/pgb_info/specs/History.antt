@@ -5,7 +5,7 @@ use Rattle.pgb_model.specs.Text.{Text}
 use Rattle.pgb_model.specs.InfoText.{IsKey}
 use Rattle.pgb_model.specs.Fields.{Field, at_number, by_key}
 use Rattle.pgb_model.specs.InfoFiles.{AreFrom}
-use Rattle.pgb_info.specs.Agree.{KeysAgree}
+use Rattle.pgb_keys.specs.Agree.{KeysAgree}
 
 -- A kind of cluster has its rules, its number, and its field in a history.
 module _ {X : Type 0} (IsOne : X → Type 0) (number : X → ℕ) (field : X → Field) where

@@ -4,7 +4,6 @@ pub mod Calendar
 pub mod Entries
 pub mod Causes
 pub mod Reading
-pub mod Agree
 pub mod History
 pub mod ArchiveForm
 pub mod BackupForm

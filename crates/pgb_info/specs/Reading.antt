@@ -4,7 +4,6 @@ use Rattle.std.specs.declared.alloc.Global.{Global}
 use Rattle.pgb_outside.specs.Content.{Content}
 use Rattle.pgb_model.specs.Text.{Text}
 use Rattle.pgb_model.specs.InfoText.{Section, IsInfo, info_text}
-use Rattle.pgb_model.specs.InfoFiles.{info_limit}
 use Rattle.pgb_model.specs.Pair.{MemberIs}
 use Rattle.pgb_ini.specs.declared.part.Part.{Part}
 use Rattle.pgb_ini.specs.Form.{IsFault, syntax, sum}
@@ -16,11 +15,11 @@ use Rattle.pgb_info.specs.declared.fault.InfoFault.TheVariants.{Missing, Damaged
 use Rattle.pgb_info.specs.Causes.{IsTextFault, HasFault}
 
 -- the bytes, or that there are none within the limit
-abbrev pub BytesAre : Option Text → Result (Vec ℕ Global) MemberFault → Type 0
-BytesAre value (Ok bytes) = (value ≡ Some bytes.items) × (length bytes.items ≤ info_limit)
-BytesAre None (Err Absent) = Unit {0}
-BytesAre (Some bytes) (Err TooLong) = info_limit < length bytes
-BytesAre value (Err fault) = ⊥
+abbrev pub BytesAre : ℕ → Option Text → Result (Vec ℕ Global) MemberFault → Type 0
+BytesAre limit value (Ok bytes) = (value ≡ Some bytes.items) × (length bytes.items ≤ limit)
+BytesAre limit None (Err Absent) = Unit {0}
+BytesAre limit (Some bytes) (Err TooLong) = limit < length bytes
+BytesAre limit value (Err fault) = ⊥
 
 -- the text is that of the sections, or of none
 abbrev pub SectionsAre : Text → Result (Vec Part Global) MemberFault → Type 0
@@ -37,9 +36,9 @@ module _ {X V : Type 0} (IsTextOf : V → Text → Type 0) (IsForm : List Sectio
   TextGives bytes (Err fault) = IsTextFault IsTextOf IsForm bytes fault × ((w : V) → ¬ IsTextOf w bytes)
 
   -- the value of the member, or the fault for which it has none
-  abbrev pub MemberGives : Content → Text → Result X MemberFault → Type 0
-  MemberGives f name (Ok x) = MemberIs IsTextOf f name (value x)
-  MemberGives f name (Err fault) = HasFault IsTextOf IsForm f name fault
+  abbrev pub MemberGives : ℕ → Content → Text → Result X MemberFault → Type 0
+  MemberGives limit f name (Ok x) = MemberIs IsTextOf f name (value x)
+  MemberGives limit f name (Err fault) = HasFault IsTextOf IsForm limit f name fault
 
 -- the fault of a pair whose members have these
 abbrev pub of_both : MemberFault → MemberFault → InfoFault

@@ -6,53 +6,15 @@ ghost use Rattle.pgb_model.specs.InfoText.{IsSection};
 ghost use Rattle.pgb_model.specs.Fields.{Field, whole};
 ghost use Rattle.pgb_model.specs.InfoFiles.{IsClusterId, cluster_id_fields, version_value};
 ghost use Rattle.pgb_ini.specs.Parts.{key_of, keys_of, section_of};
-ghost use Rattle.pgb_info.specs.Fault.{IfForm};
-ghost use Rattle.pgb_info.specs.Agree.{db, IsOrdered};
+ghost use Rattle.pgb_keys.specs.Fault.{IfForm};
+ghost use Rattle.pgb_keys.specs.Agree.{db, IsOrdered};
 ghost use Rattle.pgb_info.specs.ArchiveForm.{cluster_keys, IsWrongCurrent};
 
-use crate::cluster_ids::{number_of, version_of, whole_of};
-use crate::fault::PartsFault;
-use crate::finding::{find, form};
 use pgb_ini::Part;
+use pgb_keys::{PartsFault, form, number_at, version_at, whole_at};
 use pgb_model::ClusterId;
 use serde_json::Value;
 use std::alloc::Global;
-
-/// The number of 64 bits at a key.
-pub(crate) fn whole_at(keys: &[(String, Value)], key: &str) -> Option<u64>
-    requires { IsOrdered (map key_of keys.now) }
-    ensures some { IfSome result (λ n. In (key.now, whole n) (map key_of keys.now)) }
-    ensures none { IfNone result ((n : ℕ) → ¬ In (key.now, whole n) (map key_of keys.now)) }
-{
-    match find(keys, key) {
-        Some(value) => whole_of(value),
-        None => None,
-    }
-}
-
-/// The history number at a key.
-pub(crate) fn number_at(keys: &[(String, Value)], key: &str) -> Option<u32>
-    requires { IsOrdered (map key_of keys.now) }
-    ensures some { IfSome result (λ n. (1 ≤ n) × In (key.now, whole n) (map key_of keys.now)) }
-    ensures none { IfNone result ((n : ℕ) → n < 2 ^ 32 → 1 ≤ n → ¬ In (key.now, whole n) (map key_of keys.now)) }
-{
-    match find(keys, key) {
-        Some(value) => number_of(value),
-        None => None,
-    }
-}
-
-/// The version at a key.
-pub(crate) fn version_at(keys: &[(String, Value)], key: &str) -> Option<u32>
-    requires { IsOrdered (map key_of keys.now) }
-    ensures some { IfSome result (λ n. In (key.now, version_value n) (map key_of keys.now)) }
-    ensures none { IfNone result ((n : ℕ) → n < 2 ^ 32 → ¬ In (key.now, version_value n) (map key_of keys.now)) }
-{
-    match find(keys, key) {
-        Some(value) => version_of(value),
-        None => None,
-    }
-}
 
 fn is_cluster_key(key: &str) -> bool
     ensures known { result ≡ true → In key.now cluster_keys }

@@ -2,13 +2,13 @@
 ghost use Rattle.std.specs.Prelude.{◌≡◌, map, codes, IfOk};
 ghost use Rattle.serde_json.specs.View.{view};
 ghost use Rattle.pgb_model.specs.Fields.{by_key};
-ghost use Rattle.pgb_model.specs.InfoFiles.{cluster_id_field, cluster_id_fields, archive_sections, IsArchiveInfo};
+ghost use Rattle.pgb_model.specs.InfoFiles.{cluster_id_field, cluster_id_fields, archive_sections, IsArchiveInfo, info_limit};
 ghost use Rattle.pgb_model.specs.Values.{archive_info_of};
 ghost use Rattle.pgb_ini.specs.Parts.{section_of};
 
-use crate::by_key::place;
 use crate::info::Info;
 use pgb_ini::Part;
+use pgb_keys::place;
 use pgb_model::{ArchiveInfo, ClusterId};
 use pgb_text::{NoMemory, decimal};
 use serde_json::{Value, json};
@@ -49,6 +49,8 @@ impl Info for ArchiveInfo {
     ghost sections = { λ v. archive_sections (archive_info_of v) };
 
     ghost is_valid = { λ v. IsArchiveInfo (archive_info_of v) };
+
+    ghost limit = { info_limit };
 
     #[tactic(auto, using(crate::proofs::ArchiveRules::archive_is_info))]
     fn parts(&self, alloc: Global) -> Result<Vec<Part>, NoMemory> {

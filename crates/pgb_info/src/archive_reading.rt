@@ -1,20 +1,21 @@
 // From a text to the value of `archive.info`.
 ghost use Rattle.std.specs.Prelude.{◌≡◌, List, map, IfOk, IfErr, IfSome, IfNone, refl, true, false};
+ghost use Rattle.std.proofs.Common.{lit<};
 ghost use Rattle.pgb_model.specs.Text.{In};
 ghost use Rattle.pgb_model.specs.InfoText.{Section, IsSection, IsInfo, info_text};
 ghost use Rattle.pgb_model.specs.InfoFiles.{archive_sections, IsArchiveInfo, IsArchiveText};
 ghost use Rattle.pgb_model.specs.Values.{archive_info_of, ArchiveInfo as SpecArchiveInfo};
 ghost use Rattle.pgb_ini.specs.Parts.{section_of, sections_of};
-ghost use Rattle.pgb_info.specs.Fault.{IfForm};
+ghost use Rattle.pgb_keys.specs.Fault.{IfForm};
 ghost use Rattle.pgb_info.specs.ArchiveForm.{section_names, IsArchiveForm};
 
 use crate::archive_current::current_of;
-use crate::fault::{MemberFault, PartsFault};
-use crate::finding::{form, part_of};
+use crate::fault::MemberFault;
 use crate::history::history_of;
 use crate::read_info::ReadInfo;
-use crate::texts::sections_in;
+use crate::texts::{LIMIT, sections_in};
 use pgb_ini::Part;
+use pgb_keys::{PartsFault, form, part_of};
 use pgb_model::ArchiveInfo;
 use pgb_text::NoMemory;
 use std::alloc::Global;
@@ -85,6 +86,10 @@ impl ReadInfo for ArchiveInfo {
 
     ghost IsForm = { IsArchiveForm };
 
+    fn limit() -> u64 {
+        LIMIT
+    }
+
     fn read(alloc: Global, bytes: &[u8]) -> Result<Result<Self, MemberFault>, NoMemory> {
         let parts = match sections_in(alloc, bytes)? {
             Ok(parts) => parts,
@@ -102,4 +107,6 @@ impl ReadInfo for ArchiveInfo {
     ghost within = { λ v b h. h.within };
 
     ghost own_text = { λ v. refl };
+
+    ghost small = { lit< tt };
 }

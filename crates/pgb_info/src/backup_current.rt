@@ -7,33 +7,15 @@ ghost use Rattle.pgb_model.specs.InfoText.{IsKey};
 ghost use Rattle.pgb_model.specs.Fields.{whole};
 ghost use Rattle.pgb_model.specs.InfoFiles.{IsCluster, cluster_fields, version_value};
 ghost use Rattle.pgb_ini.specs.Parts.{key_of};
-ghost use Rattle.pgb_info.specs.Fault.{IfForm};
-ghost use Rattle.pgb_info.specs.Agree.{db, IsOrdered};
+ghost use Rattle.pgb_keys.specs.Fault.{IfForm};
+ghost use Rattle.pgb_keys.specs.Agree.{db, IsOrdered};
 ghost use Rattle.pgb_info.specs.BackupForm.{IsWrongCluster};
 
-use crate::archive_current::{number_at, version_at, whole_at};
-use crate::backup_info::current_part;
-use crate::cluster_reading::small_of;
-use crate::differences::first_difference;
-use crate::fault::PartsFault;
-use crate::finding::{find, form};
+use crate::backup_info::cluster_part;
+use pgb_keys::{PartsFault, first_difference, form, major_at, number_at, small_at, system_at};
 use pgb_model::Cluster;
 use serde_json::Value;
 use std::alloc::Global;
-
-// The number of 32 bits at a key, or 0.
-fn small_at(keys: &[(String, Value)], key: &str) -> u32
-    requires { IsOrdered (map key_of keys.now) }
-    ensures { (n : ℕ) → n < 2 ^ 32 → In (key.now, whole n) (map key_of keys.now) → result ≡ n }
-{
-    let Some(value) = find(keys, key) else {
-        return 0;
-    };
-    match small_of(value) {
-        Some(n) => n,
-        None => 0,
-    }
-}
 
 // The history number at a key, or 1.
 fn id_at(keys: &[(String, Value)], key: &str) -> u32
@@ -44,28 +26,6 @@ fn id_at(keys: &[(String, Value)], key: &str) -> u32
     match number_at(keys, key) {
         Some(n) => n,
         None => 1,
-    }
-}
-
-// The number of 64 bits at a key, or 0.
-fn system_at(keys: &[(String, Value)], key: &str) -> u64
-    requires { IsOrdered (map key_of keys.now) }
-    ensures { (n : ℕ) → In (key.now, whole n) (map key_of keys.now) → result ≡ n }
-{
-    match whole_at(keys, key) {
-        Some(n) => n,
-        None => 0,
-    }
-}
-
-// The version at a key, or 0.
-fn major_at(keys: &[(String, Value)], key: &str) -> u32
-    requires { IsOrdered (map key_of keys.now) }
-    ensures { (n : ℕ) → n < 2 ^ 32 → In (key.now, version_value n) (map key_of keys.now) → result ≡ n }
-{
-    match version_at(keys, key) {
-        Some(n) => n,
-        None => 0,
     }
 }
 
@@ -96,7 +56,7 @@ pub(crate) fn current_of(alloc: Global, keys: &[(String, Value)]) -> Result<Clus
     ensures fault { IfErr result (λ e. IfForm e (λ section key. (section ≡ db) × IsWrongCluster (map key_of keys.now) key)) }
 {
     let cluster = candidate(keys);
-    let expected = current_part(alloc, &cluster)?;
+    let expected = cluster_part(alloc, "db", &cluster)?;
     match first_difference(alloc, &expected.keys, keys)? {
         Some(key) => Err(form(alloc, "db", key)),
         None => Ok(cluster),

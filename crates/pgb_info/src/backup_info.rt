@@ -3,16 +3,16 @@ ghost use Rattle.std.specs.Prelude.{◌≡◌, map, codes, IfOk};
 ghost use Rattle.std.specs.List.{AllByRecursion};
 ghost use Rattle.serde_json.specs.View.{view};
 ghost use Rattle.pgb_model.specs.Fields.{by_key, section};
-ghost use Rattle.pgb_model.specs.InfoFiles.{cluster_field, cluster_fields, entry_field, backup_sections, IsBackupInfo};
+ghost use Rattle.pgb_model.specs.InfoFiles.{cluster_field, cluster_fields, entry_field, backup_sections, IsBackupInfo, info_limit};
 ghost use Rattle.pgb_model.specs.Values.{entry_of, backup_info_of};
 ghost use Rattle.pgb_ini.specs.Parts.{section_of, sections_of};
 ghost use Rattle.pgb_info.specs.Entries.{HasLabels};
 
-use crate::by_key::place;
 use crate::entries::entry_value;
 use crate::info::Info;
 use crate::labels::label_text;
 use pgb_ini::Part;
+use pgb_keys::place;
 use pgb_model::{BackupInfo, Cluster, Entry};
 use pgb_text::{NoMemory, decimal};
 use serde_json::{Value, json};
@@ -57,10 +57,11 @@ pub(crate) fn cluster_value(alloc: Global, c: &Cluster) -> Result<Value, NoMemor
     })?)
 }
 
-pub(crate) fn current_part(alloc: Global, c: &Cluster) -> Result<Part, NoMemory>
-    ensures { IfOk result (λ p. section_of p ≡ record { name = codes "db"; keys = cluster_fields c.now }) }
+/// A section of this name that tells the cluster.
+pub fn cluster_part(alloc: Global, name: &str, c: &Cluster) -> Result<Part, NoMemory>
+    ensures { IfOk result (λ p. section_of p ≡ record { name = name.now; keys = cluster_fields c.now }) }
 {
-    let mut part = Part::new(alloc, "db")?;
+    let mut part = Part::new(alloc, name)?;
     part.add(
         alloc,
         "db-catalog-version",
@@ -95,11 +96,13 @@ impl Info for BackupInfo {
 
     ghost is_valid = { λ v. IsBackupInfo (backup_info_of v) };
 
+    ghost limit = { info_limit };
+
     #[tactic(auto, using(crate::proofs::BackupRules::backup_is_info))]
     fn parts(&self, alloc: Global) -> Result<Vec<Part>, NoMemory> {
         let current = &self.history[self.current as usize - 1];
         let mut parts = listed_parts(alloc, &self.backups)?;
-        parts.push(current_part(alloc, current)?)?;
+        parts.push(cluster_part(alloc, "db", current)?)?;
         parts.push(history_part(alloc, &self.history)?)?;
         Ok(parts)
     }

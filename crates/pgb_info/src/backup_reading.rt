@@ -1,40 +1,28 @@
 // From a text to the value of `backup.info`.
 ghost use Rattle.std.specs.Prelude.{◌≡◌, ◌<◌, ◌≤◌, ◌^◌, List, map, max, length, IfOk, IfErr, IfSome, IfNone, refl, true, false};
+ghost use Rattle.std.proofs.Common.{lit<};
 ghost use Rattle.std.specs.List.{AllByRecursion};
 ghost use Rattle.pgb_model.specs.Text.{In};
 ghost use Rattle.pgb_model.specs.InfoText.{Section, IsKey, IsSection, IsInfo, info_text};
 ghost use Rattle.pgb_model.specs.InfoFiles.{backup_sections, IsBackupInfo, IsBackupText};
 ghost use Rattle.pgb_model.specs.Values.{backup_info_of, entry_of, BackupInfo as SpecBackupInfo};
 ghost use Rattle.pgb_ini.specs.Parts.{key_of, section_of, sections_of};
-ghost use Rattle.pgb_info.specs.Fault.{IfForm};
-ghost use Rattle.pgb_info.specs.Agree.{IsOrdered};
-ghost use Rattle.pgb_info.specs.BackupForm.{backup_names, highest, IsKeysOf, IsBackupForm};
+ghost use Rattle.pgb_keys.specs.Fault.{IfForm};
+ghost use Rattle.pgb_keys.specs.Agree.{IsOrdered, IsKeysOf};
+ghost use Rattle.pgb_info.specs.BackupForm.{backup_names, highest, IsBackupForm};
 
 use crate::backup_current::current_of;
-use crate::fault::{MemberFault, PartsFault};
-use crate::finding::{form, part_of};
+use crate::fault::MemberFault;
 use crate::history::history_of;
 use crate::listed::listed_of;
 use crate::read_info::ReadInfo;
-use crate::texts::sections_in;
+use crate::texts::{LIMIT, sections_in};
 use pgb_ini::Part;
+use pgb_keys::{PartsFault, form, keys_at, part_of};
 use pgb_model::{BackupInfo, Entry};
 use pgb_text::NoMemory;
 use serde_json::Value;
 use std::alloc::Global;
-
-// The keys of a section, and none where there is no such section.
-fn keys_at<'a>(parts: &'a [Part], name: &str) -> &'a [(String, Value)]
-    requires { IsInfo (sections_of parts.now) }
-    ensures is { IsKeysOf (sections_of parts.now) name.now (map key_of result.now) }
-    ensures keys { AllByRecursion IsKey (map key_of result.now) }
-    ensures order { IsOrdered (map key_of result.now) }
-{
-    match part_of(parts, name) {
-        Some(part) => &part.keys,
-        None => &[],
-    }
-}
 
 // The highest history number of the backups, or 0.
 fn highest(backups: &[Entry]) -> u32
@@ -116,6 +104,10 @@ impl ReadInfo for BackupInfo {
 
     ghost IsForm = { IsBackupForm };
 
+    fn limit() -> u64 {
+        LIMIT
+    }
+
     fn read(alloc: Global, bytes: &[u8]) -> Result<Result<Self, MemberFault>, NoMemory> {
         let parts = match sections_in(alloc, bytes)? {
             Ok(parts) => parts,
@@ -133,4 +125,6 @@ impl ReadInfo for BackupInfo {
     ghost within = { λ v b h. h.within };
 
     ghost own_text = { λ v. refl };
+
+    ghost small = { lit< tt };
 }

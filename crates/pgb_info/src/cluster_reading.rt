@@ -7,21 +7,12 @@ ghost use Rattle.pgb_model.specs.Fields.{whole};
 ghost use Rattle.pgb_model.specs.InfoFiles.{IsCluster, cluster_field};
 
 use crate::backup_info::cluster_value;
-use crate::cluster_ids::{are_same, version_of, whole_of};
 use crate::history::Numbered;
+use pgb_keys::{are_same, small_of, version_of, whole_of};
 use pgb_model::Cluster;
 use pgb_text::NoMemory;
 use serde_json::Value;
 use std::alloc::Global;
-
-/// The number of 32 bits that this value is.
-pub(crate) fn small_of(value: &Value) -> Option<u32>
-    ensures some { IfSome result (λ n. view value.now ≡ whole n) }
-    ensures none { IfNone result ((n : ℕ) → n < 2 ^ 32 → view value.now ≢ whole n) }
-{
-    let n = whole_of(value)?;
-    u32::try_from(n).ok()
-}
 
 // The cluster that these members tell, where the value is that of a cluster.
 fn members_in(id: u32, value: &Value) -> Option<Cluster>

@@ -15,7 +15,8 @@ use pgb_wal::segment_text;
 use serde_json::{Map, Value, put};
 use std::alloc::Global;
 
-fn kind_value(alloc: Global, kind: Kind) -> Result<Value, NoMemory>
+/// The value of a kind of backup.
+pub fn kind_value(alloc: Global, kind: Kind) -> Result<Value, NoMemory>
     ensures { IfOk result (λ v. view v ≡ string (kind_text kind)) }
 {
     let text = match kind {

@@ -13,17 +13,17 @@ ghost use Rattle.pgb_model.specs.Names.{label_text};
 ghost use Rattle.pgb_model.specs.InfoFiles.{IsLabel, IsSegment, label_value, segment_value};
 ghost use Rattle.pgb_info.specs.Entries.{between};
 
-use crate::cluster_ids::whole_of;
 use crate::labels::{label_text, read_label};
 use pgb_ini::is_before;
+use pgb_keys::whole_of;
 use pgb_model::{Label, Segment, Span};
 use pgb_text::NoMemory;
 use pgb_wal::read_segment;
 use serde_json::Value;
 use std::alloc::Global;
 
-// The label that this value is.
-fn label_in(value: &Value) -> Option<Label>
+/// The label that this value is.
+pub fn label_in(value: &Value) -> Option<Label>
     ensures some { IfSome result (λ l. IsLabel l × (view value.now ≡ label_value l)) }
     ensures none { IfNone result ((l : Label) → IsLabel l → view value.now ≢ label_value l) }
 {
@@ -110,7 +110,7 @@ pub(crate) fn are_in_order(alloc: Global, labels: &[Label]) -> Result<bool, NoMe
 }
 
 /// The second that this value is.
-pub(crate) fn second_in(value: &Value) -> Option<u64>
+pub fn second_in(value: &Value) -> Option<u64>
     ensures some { IfSome result (λ t. (t ≤ last_second) × (view value.now ≡ whole t)) }
     ensures none { IfNone result ((t : ℕ) → t ≤ last_second → view value.now ≢ whole t) }
 {

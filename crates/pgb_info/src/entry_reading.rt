@@ -11,23 +11,14 @@ ghost use Rattle.pgb_model.specs.InfoFiles.{IsLabel, label_kind, entry_field};
 ghost use Rattle.pgb_model.specs.Values.{entry_of, Entry as SpecEntry};
 ghost use Rattle.pgb_info.specs.Entries.{IsEntry};
 
-use crate::cluster_ids::{are_same, number_of, whole_of};
 use crate::entries::entry_value;
 use crate::entry_parts::{are_in_order, labels_in, prior_in, second_in, span_in};
-use pgb_model::{Entry, Kind, Label, Span};
+use crate::labels::label_kind;
+use pgb_keys::{are_same, number_of, whole_of};
+use pgb_model::{Entry, Label, Span};
 use pgb_text::NoMemory;
 use serde_json::Value;
 use std::alloc::Global;
-
-// The kind that a label tells.
-fn kind_of(label: &Label) -> Kind
-    ensures { result ≡ label_kind label.now }
-{
-    match label.later {
-        Some(later) => later.kind,
-        None => Kind::Full,
-    }
-}
 
 // The numbers of a listed backup.
 #[derive(Clone, Copy)]
@@ -114,7 +105,7 @@ fn entry_in(alloc: Global, label: &Label, value: &Value) -> Result<Option<Entry>
     };
     Ok(Some(Entry {
         label: *label,
-        kind: kind_of(label),
+        kind: label_kind(label),
         prior,
         references,
         db: numbers.db,

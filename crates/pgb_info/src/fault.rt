@@ -1,7 +1,6 @@
 // Why a call on an info file is refused.
 ghost use Rattle.std.specs.Prelude.{◌≡◌};
 ghost use Rattle.pgb_info.specs.declared.fault.SaveFault.TheVariants.{NoMemory as WithoutMemory};
-ghost use Rattle.pgb_info.specs.declared.fault.PartsFault.TheVariants.{NoMemory as PartsNoMemory};
 ghost use Rattle.pgb_info.specs.declared.fault.InfoFault.TheVariants.{NoMemory as InfoNoMemory};
 
 use pgb_disk::StoreFault;
@@ -44,38 +43,6 @@ impl From<AllocError> for SaveFault {
 
     fn from(_: AllocError) -> Self {
         SaveFault::NoMemory
-    }
-}
-
-/// Why sections are those of no value.
-#[derive(Debug, Drop)]
-pub enum PartsFault {
-    /// the first key, in the order of the text, that is missing, foreign or has another value than any of its kind
-    Form { section: String, key: String },
-    NoMemory,
-}
-
-impl From<pgb_text::NoMemory> for PartsFault {
-    ghost from_gives = { λ _ e. e ≡ PartsNoMemory };
-
-    fn from(_: pgb_text::NoMemory) -> Self {
-        PartsFault::NoMemory
-    }
-}
-
-impl From<AllocError> for PartsFault {
-    ghost from_gives = { λ _ e. e ≡ PartsNoMemory };
-
-    fn from(_: AllocError) -> Self {
-        PartsFault::NoMemory
-    }
-}
-
-impl<T: Drop> From<AllocFailed<T>> for PartsFault {
-    ghost from_gives = { λ _ e. e ≡ PartsNoMemory };
-
-    fn from(_: AllocFailed<T>) -> Self {
-        PartsFault::NoMemory
     }
 }
 

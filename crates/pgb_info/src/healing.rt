@@ -8,11 +8,10 @@ ghost use Rattle.pgb_outside.specs.Cause.{Rises};
 ghost use Rattle.pgb_disk.specs.Store.{LiesIn};
 ghost use Rattle.pgb_model.specs.Names.{copy_of};
 ghost use Rattle.pgb_model.specs.InfoText.{info_text};
-ghost use Rattle.pgb_model.specs.InfoFiles.{info_limit};
 ghost use Rattle.pgb_model.specs.Pair.{PairIs};
 ghost use Rattle.pgb_model.specs.Create.{member_writes};
 ghost use Rattle.pgb_info.specs.Causes.{PairCause, IfRefused};
-ghost use Rattle.pgb_info.specs.Member.{IsInfoName};
+ghost use Rattle.pgb_info.specs.Member.{IsMemberName};
 
 use crate::fault::{InfoFault, SaveFault};
 use crate::info::Info;
@@ -30,7 +29,7 @@ fn holds<D: Disk>(alloc: Global, d: &mut D, name: &str, text: &[u8]) -> Result<b
     ensures looks { Looks (D.state d.old) (D.state d.new) }
     ensures cause { IsErrOf result SaveFault.Disk → Rises (D.state d.old).faults (D.state d.new).faults }
 {
-    match read_bytes(alloc, d, name)? {
+    match read_bytes(alloc, d, name, text.len() as u64)? {
         Ok(bytes) => Ok(bytes.as_slice() == text),
         Err(_) => Ok(false),
     }
@@ -63,7 +62,7 @@ fn mend<D: Disk>(
 
 // Gives each member the text, where it hasn't it, the main one first.
 fn mend_both<D: Disk>(alloc: Global, d: &mut D, name: &str, text: &[u8]) -> Result<(), SaveFault>
-    requires { IsInfoName name.now }
+    requires { IsMemberName name.now }
     ensures crash { is_loose (D.state d.old).view name.now ≡ false → is_loose (D.state d.old).view (copy_of name.now) ≡ false → Crash (SomeOf (member_writes name.now text.now)) (D.state d.old).view (D.state d.new).view }
     ensures now_part { NowGoes (SomeOf (member_writes name.now text.now)) (D.state d.old).view.now (D.state d.new).view.now }
     ensures mended { OnOk result (IfSome (D.state d.new).view.now (λ f. (f name.now ≡ Some text.now) × (f (copy_of name.now) ≡ Some text.now))) }
@@ -83,7 +82,7 @@ pub fn mend_pair<D: Disk, I: Info>(
     name: &str,
     value: &I,
 ) -> Result<(), SaveFault>
-    requires named { IsInfoName name.now }
+    requires named { IsMemberName name.now }
     requires valid { I.is_valid value.now }
     ensures crash { is_loose (D.state d.old).view name.now ≡ false → is_loose (D.state d.old).view (copy_of name.now) ≡ false → Crash (SomeOf (member_writes name.now (info_text (I.sections value.now)))) (D.state d.old).view (D.state d.new).view }
     ensures now_part { NowGoes (SomeOf (member_writes name.now (info_text (I.sections value.now)))) (D.state d.old).view.now (D.state d.new).view.now }
@@ -97,10 +96,10 @@ pub fn mend_pair<D: Disk, I: Info>(
 
 /// The value of the pair. Each member that isn't its text is written anew, the main one first.
 pub fn heal_pair<D: Disk, I: ReadInfo>(alloc: Global, d: &mut D, name: &str) -> Result<I, InfoFault>
-    requires named { IsInfoName name.now }
+    requires named { IsMemberName name.now }
     ensures found { IfOk result (λ v. IfSome (D.state d.old).view.now (λ f. PairIs I.IsText f name.now (I.value v))) }
     ensures valid { IfOk result (λ v. I.is_valid v) }
-    ensures within { IfOk result (λ v. length (I.text (I.value v)) ≤ info_limit) }
+    ensures within { IfOk result (λ v. length (I.text (I.value v)) ≤ I.limit) }
     ensures healed { IfOk result (λ v. IfSome (D.state d.new).view.now (λ f. (f name.now ≡ Some (I.text (I.value v))) × (f (copy_of name.now) ≡ Some (I.text (I.value v))))) }
     ensures now_part { (v : I.Value) → IfSome (D.state d.old).view.now (λ f. PairIs I.IsText f name.now v) → NowGoes (SomeOf (member_writes name.now (I.text v))) (D.state d.old).view.now (D.state d.new).view.now }
     ensures crash { (v : I.Value) → IfSome (D.state d.old).view.now (λ f. PairIs I.IsText f name.now v) → is_loose (D.state d.old).view name.now ≡ false → is_loose (D.state d.old).view (copy_of name.now) ≡ false → Crash (SomeOf (member_writes name.now (I.text v))) (D.state d.old).view (D.state d.new).view }
@@ -109,7 +108,7 @@ pub fn heal_pair<D: Disk, I: ReadInfo>(alloc: Global, d: &mut D, name: &str) -> 
     ensures idle { ((v : I.Value) → IfSome (D.state d.old).view.now (λ f. ¬ PairIs I.IsText f name.now v)) → IsSome (D.state d.old).view.now → ((D.state d.new).view.now ≡ (D.state d.old).view.now) × Rests (D.state d.old).view (D.state d.new).view }
     ensures told { IsSome (D.state d.old).view.now → IsSome (D.state d.new).view.now }
     ensures frame { Frame (D.state d.old) (D.state d.new) }
-    ensures cause { IfErr result (PairCause I.IsText I.IsForm name.now (D.state d.old).view.now (Rises (D.state d.old).faults (D.state d.new).faults)) }
+    ensures cause { IfErr result (PairCause I.IsText I.IsForm I.limit name.now (D.state d.old).view.now (Rises (D.state d.old).faults (D.state d.new).faults)) }
 {
     let value = load_pair::<D, I>(alloc, d, name)?;
     mend_pair(alloc, d, name, &value)?;

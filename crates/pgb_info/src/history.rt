@@ -6,14 +6,12 @@ ghost use Rattle.pgb_model.specs.Text.{In};
 ghost use Rattle.pgb_model.specs.InfoText.{IsSection};
 ghost use Rattle.pgb_model.specs.Fields.{Field, by_key};
 ghost use Rattle.pgb_ini.specs.Parts.{keys_of, section_of};
-ghost use Rattle.pgb_info.specs.Fault.{IfForm};
-ghost use Rattle.pgb_info.specs.Agree.{db_history};
+ghost use Rattle.pgb_keys.specs.Fault.{IfForm};
+ghost use Rattle.pgb_keys.specs.Agree.{db_history};
 ghost use Rattle.pgb_info.specs.History.{AreNumbered, IsHistory, IsWrongHistory};
 
-use crate::cluster_ids::history_number;
-use crate::fault::PartsFault;
-use crate::finding::{find, form};
 use pgb_ini::Part;
+use pgb_keys::{PartsFault, find, form, history_number};
 use pgb_text::{NoMemory, decimal, read_decimal};
 use serde_json::Value;
 use std::alloc::Global;

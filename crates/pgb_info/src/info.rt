@@ -1,5 +1,5 @@
 // What is kept in an info file.
-ghost use Rattle.std.specs.Prelude.{◌≡◌, List, IfOk};
+ghost use Rattle.std.specs.Prelude.{◌≡◌, ℕ, List, IfOk};
 ghost use Rattle.pgb_ini.specs.Parts.{sections_of};
 ghost use Rattle.pgb_model.specs.InfoText.{Section, IsInfo};
 
@@ -14,6 +14,9 @@ pub trait Info {
 
     /// The rules of its kind.
     ghost is_valid: { Self → Type 0 };
+
+    /// The most bytes that its text may have.
+    ghost limit: { ℕ };
 
     /// The sections, as a program holds them. A value within the rules has a text.
     fn parts(&self, alloc: Global) -> Result<Vec<Part>, NoMemory>

@@ -6,7 +6,7 @@ ghost use Rattle.pgb_model.specs.declared.labels.Kind.TheVariants.{Full};
 ghost use Rattle.pgb_model.specs.declared.labels.Later.{Later};
 ghost use Rattle.pgb_model.specs.declared.labels.Label.{Label};
 ghost use Rattle.pgb_model.specs.Dates.{last_second, stamp};
-ghost use Rattle.pgb_model.specs.InfoFiles.{IsLabel};
+ghost use Rattle.pgb_model.specs.InfoFiles.{IsLabel, label_kind};
 ghost use Rattle.pgb_model.specs.Names.{label_text, later_text, letter};
 
 use crate::stamp_reading::{after, split_stamp};
@@ -102,5 +102,15 @@ pub fn label_time(label: &Label) -> u64
     match label.later {
         Some(later) => later.time,
         None => label.full,
+    }
+}
+
+/// The kind of the backup of a label.
+pub fn label_kind(label: &Label) -> Kind
+    ensures { result ≡ label_kind label.now }
+{
+    match label.later {
+        Some(later) => later.kind,
+        None => Kind::Full,
     }
 }

@@ -8,41 +8,18 @@ ghost use Rattle.pgb_model.specs.InfoText.{IsKey};
 ghost use Rattle.pgb_model.specs.InfoFiles.{IsLabel, entry_field};
 ghost use Rattle.pgb_model.specs.Values.{entry_of, Entry as SpecEntry};
 ghost use Rattle.pgb_ini.specs.Parts.{key_of};
-ghost use Rattle.pgb_info.specs.Fault.{IfForm};
-ghost use Rattle.pgb_info.specs.Agree.{IsOrdered};
+ghost use Rattle.pgb_keys.specs.Fault.{IfForm};
+ghost use Rattle.pgb_keys.specs.Agree.{IsOrdered};
 ghost use Rattle.pgb_info.specs.BackupForm.{backup_current, HasLabel, IsList, IsNext, IsWrongBackup};
 
 use crate::entry_reading::read_entry;
-use crate::fault::PartsFault;
-use crate::finding::form;
 use crate::labels::{label_text, read_label};
 use pgb_ini::is_before;
+use pgb_keys::{PartsFault, form, is_key};
 use pgb_model::{Entry, Label};
 use pgb_text::NoMemory;
 use serde_json::Value;
 use std::alloc::Global;
-
-// Whether one of the keys has this name; they are in byte order.
-fn is_key(keys: &[(String, Value)], key: &str) -> bool
-    requires { IsOrdered (map key_of keys.now) }
-    ensures { IsTrue result ↔ ((d : Data) × In (key.now, d) (map key_of keys.now)) }
-{
-    let mut low = 0;
-    let mut high = keys.len();
-    while low < high {
-        let middle = low + (high - low) / 2;
-        let name = keys[middle].0.as_str();
-        if name == key {
-            return true;
-        }
-        if is_before(key.as_bytes(), name.as_bytes()) {
-            high = middle;
-        } else {
-            low = middle + 1;
-        }
-    }
-    false
-}
 
 // Whether the prior backup is among these.
 fn has_prior(

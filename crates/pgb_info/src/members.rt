@@ -6,7 +6,7 @@ ghost use Rattle.pgb_outside.specs.Crash.{Crash, Ends, NowGoes, FirstOf, AllOf};
 ghost use Rattle.pgb_outside.specs.Cause.{Rises};
 ghost use Rattle.pgb_model.specs.Names.{copy_of};
 ghost use Rattle.pgb_model.specs.Create.{member_writes};
-ghost use Rattle.pgb_info.specs.Member.{IsInfoName};
+ghost use Rattle.pgb_info.specs.Member.{IsMemberName};
 
 use crate::fault::SaveFault;
 use pgb_disk::save_both;
@@ -25,14 +25,14 @@ pub(crate) fn temporary_name(alloc: Global, name: &str) -> Result<String, AllocE
     format!(in alloc; "{name}.pgbackrest.tmp")
 }
 
-/// Saves the text at an info file's name, then at its copy.
-pub(crate) fn save_members<D: Disk>(
+/// Saves the text at the main member's name, then at its copy's.
+pub fn save_text<D: Disk>(
     alloc: Global,
     d: &mut D,
     name: &str,
     text: &[u8],
 ) -> Result<(), SaveFault>
-    requires { IsInfoName name.now }
+    requires { IsMemberName name.now }
     ensures crash { is_loose (D.state d.old).view name.now ≡ false → is_loose (D.state d.old).view (copy_of name.now) ≡ false → Crash (FirstOf (member_writes name.now text.now)) (D.state d.old).view (D.state d.new).view }
     ensures whole { OnOk result (is_loose (D.state d.old).view name.now ≡ false → is_loose (D.state d.old).view (copy_of name.now) ≡ false → Ends (AllOf (member_writes name.now text.now)) (D.state d.old).view (D.state d.new).view) }
     ensures now_part { NowGoes (FirstOf (member_writes name.now text.now)) (D.state d.old).view.now (D.state d.new).view.now }

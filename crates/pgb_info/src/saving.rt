@@ -6,13 +6,12 @@ ghost use Rattle.pgb_outside.specs.Crash.{Crash, Ends, NowGoes, FirstOf, AllOf};
 ghost use Rattle.pgb_outside.specs.Cause.{Rises};
 ghost use Rattle.pgb_model.specs.Names.{copy_of};
 ghost use Rattle.pgb_model.specs.InfoText.{info_text};
-ghost use Rattle.pgb_model.specs.InfoFiles.{info_limit};
 ghost use Rattle.pgb_model.specs.Create.{member_writes};
-ghost use Rattle.pgb_info.specs.Member.{IsInfoName};
+ghost use Rattle.pgb_info.specs.Member.{IsMemberName};
 
 use crate::fault::SaveFault;
 use crate::info::Info;
-use crate::members::save_members;
+use crate::members::save_text;
 use pgb_ini::write_info_text;
 use pgb_outside::Disk;
 use pgb_text::NoMemory;
@@ -34,9 +33,9 @@ pub fn save_pair<D: Disk, I: Info>(
     name: &str,
     value: &I,
 ) -> Result<(), SaveFault>
-    requires named { IsInfoName name.now }
+    requires named { IsMemberName name.now }
     requires valid { I.is_valid value.now }
-    requires within { length (info_text (I.sections value.now)) ≤ info_limit }
+    requires within { length (info_text (I.sections value.now)) ≤ I.limit }
     ensures crash { is_loose (D.state d.old).view name.now ≡ false → is_loose (D.state d.old).view (copy_of name.now) ≡ false → Crash (FirstOf (member_writes name.now (info_text (I.sections value.now)))) (D.state d.old).view (D.state d.new).view }
     ensures whole { OnOk result (is_loose (D.state d.old).view name.now ≡ false → is_loose (D.state d.old).view (copy_of name.now) ≡ false → Ends (AllOf (member_writes name.now (info_text (I.sections value.now)))) (D.state d.old).view (D.state d.new).view) }
     ensures now_part { NowGoes (FirstOf (member_writes name.now (info_text (I.sections value.now)))) (D.state d.old).view.now (D.state d.new).view.now }
@@ -45,6 +44,6 @@ pub fn save_pair<D: Disk, I: Info>(
     ensures cause { IsErrOf result SaveFault.Disk → Rises (D.state d.old).faults (D.state d.new).faults }
 {
     let text = text_of(alloc, value)?;
-    save_members(alloc, d, name, &text)?;
+    save_text(alloc, d, name, &text)?;
     Ok(())
 }

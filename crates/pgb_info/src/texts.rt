@@ -1,6 +1,5 @@
 // From an info text to a value, whichever its kind.
-ghost use Rattle.std.specs.Prelude.{◌≤◌, ℕ, List, IfOk, IfErr, length, MatchResult};
-ghost use Rattle.pgb_model.specs.InfoFiles.{info_limit};
+ghost use Rattle.std.specs.Prelude.{◌<◌, ◌+◌, ◌^◌, ℕ, List, IfOk, IfErr, length, MatchResult};
 ghost use Rattle.pgb_ini.specs.Parts.{sections_of};
 ghost use Rattle.pgb_info.specs.Reading.{SectionsAre};
 
@@ -9,12 +8,12 @@ use pgb_ini::{IniFault, Part, read_info_text};
 use pgb_text::NoMemory;
 use std::alloc::Global;
 
+/// The texts of both info files have at most 64 MiB.
+pub(crate) const LIMIT: u64 = 67_108_864;
+
 /// The sections of a text, or why it has none.
-pub(crate) fn sections_in(
-    alloc: Global,
-    text: &[u8],
-) -> Result<Result<Vec<Part>, MemberFault>, NoMemory>
-    requires { length text.now ≤ info_limit }
+pub fn sections_in(alloc: Global, text: &[u8]) -> Result<Result<Vec<Part>, MemberFault>, NoMemory>
+    requires { length text.now + 1 < 2 ^ 32 }
     ensures { IfOk result (SectionsAre text.now) }
 {
     match read_info_text(alloc, text) {

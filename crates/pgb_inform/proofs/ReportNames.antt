@@ -13,7 +13,7 @@ use Rattle.pgb_model.specs.Text.{Text, In}
 use Rattle.pgb_model.specs.Values.{ArchiveInfo, BackupInfo}
 use Rattle.pgb_options.specs.declared.options.OutputWord.{OutputWord}
 use Rattle.pgb_options.specs.declared.options.OutputWord.TheVariants.{Text as AsText, Json as AsJson}
-use Rattle.pgb_info.proofs.Numbers.{in_map, map_in}
+use Rattle.pgb_keys.proofs.Numbers.{in_map, map_in}
 use Rattle.pgb_report.specs.declared.report.ArchivedName.{ArchivedName}
 use Rattle.pgb_report.specs.Archived.{id_of, is_same_id, whole_segment, segment_under, segments_under, least, greatest}
 use Rattle.pgb_report.specs.ReportText.{is_current, shown_clusters, archive_bounds, bounds_text, cluster_lines, report_text_of}

@@ -26,7 +26,7 @@ use Rattle.pgb_model.specs.Repository.{Stanza, identity_of, id_of}
 use Rattle.pgb_model.specs.Stands.{HasStanza, IsWalName, stored_name, archive_value, backup_value}
 use Rattle.pgb_model.specs.Now.{NowStands}
 use Rattle.pgb_model.proofs.Pushed.{file_of}
-use Rattle.pgb_info.proofs.Numbers.{in_map, map_in}
+use Rattle.pgb_keys.proofs.Numbers.{in_map, map_in}
 use Rattle.pgb_info.proofs.OneArchive.{one_archive_pair}
 use Rattle.pgb_options.specs.declared.options.OutputWord.{OutputWord}
 use Rattle.pgb_options.specs.declared.options.OutputWord.TheVariants.{Text as AsText, Json as AsJson}

@@ -1,5 +1,5 @@
 // A keeper in memory, of all bytes or of their number alone.
-ghost use Rattle.std.specs.Prelude.{◌≡◌, ◌<◌, ◌+◌, ◌^◌, ℕ, Bool, true, false, [], None, length, map, slice_get, All, IfOk, OnOk, IfErr, IfSome, IsSomeAnd};
+ghost use Rattle.std.specs.Prelude.{◌≡◌, ◌<◌, ◌+◌, ◌^◌, ℕ, Bool, true, false, [], None, ⊤, length, map, slice_get, All, IfOk, OnOk, IfErr, IfSome, IsSomeAnd};
 ghost use Rattle.std.proofs.Common.{refl, ◌∙◌};
 ghost use Rattle.pgb_frame.specs.Views.{job_of};
 ghost use Rattle.pgb_keep.specs.KeepState.{KeepLeaves, Adds, Ends, Clears, IsFresh, IsNext, HasRoom};
@@ -69,10 +69,12 @@ fn take_part(kept: &mut KeptJob, holds: bool, bytes: &[u8]) -> Result<(), Stop>
 }
 
 impl<'a> MemKeep<'a> {
-    /// It holds all bytes, and nothing of the jobs yet. `fail` has the numbers of the calls that are to fail, the first being 0.
+    /// It holds all bytes, and nothing of the jobs yet. `fail` has the numbers of the calls that are to fail, the first
+    /// being 0.
     pub fn new(alloc: Global, jobs: &'a [Job], fail: Vec<u64>) -> Result<Self, AllocError>
         ensures jobs { IfOk result (λ k. (⟦<MemKeep<'a> as Keep<()>>⟧.kept k tt).jobs ≡ map job_of jobs.now) }
-        ensures empty { IfOk result (λ k. (j : ℕ) → j < length (map job_of jobs.now) → IsSomeAnd (slice_get (⟦<MemKeep<'a> as Keep<()>>⟧.kept k tt).kept j) IsFresh) }
+        ensures empty { IfOk result (λ k. (j : ℕ) → j < length (map job_of jobs.now)
+            → IsSomeAnd (slice_get (⟦<MemKeep<'a> as Keep<()>>⟧.kept k tt).kept j) IsFresh) }
         ensures holds { IfOk result (λ k. k.holds ≡ true) }
         ensures counts { IfOk result (λ k. k.failing ≡ record { fail = fail; calls = 0; faults = 0 }) }
     {
@@ -88,9 +90,11 @@ impl<'a> MemKeep<'a> {
     /// It counts the bytes, and has none of the jobs yet. No call fails.
     pub fn counting(alloc: Global, jobs: &'a [Job]) -> Result<Self, AllocError>
         ensures jobs { IfOk result (λ k. (⟦<MemKeep<'a> as Keep<()>>⟧.kept k tt).jobs ≡ map job_of jobs.now) }
-        ensures empty { IfOk result (λ k. (j : ℕ) → j < length (map job_of jobs.now) → IsSomeAnd (slice_get (⟦<MemKeep<'a> as Keep<()>>⟧.kept k tt).kept j) IsFresh) }
+        ensures empty { IfOk result (λ k. (j : ℕ) → j < length (map job_of jobs.now)
+            → IsSomeAnd (slice_get (⟦<MemKeep<'a> as Keep<()>>⟧.kept k tt).kept j) IsFresh) }
         ensures holds { IfOk result (λ k. k.holds ≡ false) }
-        ensures counts { IfOk result (λ k. (k.failing.fail.items ≡ []) × (k.failing.calls ≡ 0) × (k.failing.faults ≡ 0)) }
+        ensures counts { IfOk result
+            (λ k. (k.failing.fail.items ≡ []) × (k.failing.calls ≡ 0) × (k.failing.faults ≡ 0)) }
     {
         Ok(MemKeep {
             alloc,
@@ -103,7 +107,8 @@ impl<'a> MemKeep<'a> {
 
     /// The items of a job that have ended, in order: none of a job that there isn't.
     pub fn ended(&self, job: usize) -> &[Ended]
-        ensures items { IfSome (slice_get (⟦<MemKeep<'a> as Keep<()>>⟧.kept self.now tt).kept job) (λ k. k.done ≡ map (done_of self.now.holds) result.now) }
+        ensures items { IfSome (slice_get (⟦<MemKeep<'a> as Keep<()>>⟧.kept self.now tt).kept job)
+            (λ k. k.done ≡ map (done_of self.now.holds) result.now) }
         ensures none { slice_get (⟦<MemKeep<'a> as Keep<()>>⟧.kept self.now tt).kept job ≡ None → result.now ≡ [] }
     {
         match self.kept.get(job) {
@@ -116,10 +121,13 @@ impl<'a> MemKeep<'a> {
 impl<'a> Keep<()> for MemKeep<'a> {
     ghost kept = { λ k _. state_of k };
 
+    ghost agrees = { λ _ _. ⊤ };
+
     ghost later = { λ a _ b _. (b.jobs ≡ a.jobs) × (b.holds ≡ a.holds) };
 
     fn part(&mut self, _on: &mut (), job: u32, item: u32, bytes: &[u8]) -> Result<(), Stop>
-        requires { HasRoom (state_of self.old) job item bytes.now }
+        requires room { HasRoom (state_of self.old) job item bytes.now }
+        ensures agrees { OnOk result ⊤ }
         ensures later { (self.new.jobs ≡ self.old.jobs) × (self.new.holds ≡ self.old.holds) }
         ensures kept { KeepLeaves result (Adds bytes.now) job (state_of self.old) (state_of self.new) }
         ensures fails { FailsWhere (is_to_fail self.old.failing) result }
@@ -133,7 +141,8 @@ impl<'a> Keep<()> for MemKeep<'a> {
     }
 
     fn end(&mut self, _on: &mut (), job: u32, item: u32, how: &ItemEnd) -> Result<(), Stop>
-        requires { IsNext (state_of self.old) job item }
+        requires next { IsNext (state_of self.old) job item }
+        ensures agrees { OnOk result ⊤ }
         ensures later { (self.new.jobs ≡ self.old.jobs) × (self.new.holds ≡ self.old.holds) }
         ensures kept { KeepLeaves result (Ends how.now) job (state_of self.old) (state_of self.new) }
         ensures fails { FailsWhere (is_to_fail self.old.failing) result }
@@ -155,7 +164,8 @@ impl<'a> Keep<()> for MemKeep<'a> {
     }
 
     fn again(&mut self, _on: &mut (), job: u32) -> Result<(), Stop>
-        requires { job < length (state_of self.old).kept }
+        requires job { job < length (state_of self.old).kept }
+        ensures agrees { OnOk result ⊤ }
         ensures later { (self.new.jobs ≡ self.old.jobs) × (self.new.holds ≡ self.old.holds) }
         ensures kept { KeepLeaves result (Clears) job (state_of self.old) (state_of self.new) }
         ensures fails { FailsWhere (is_to_fail self.old.failing) result }

@@ -1,29 +1,36 @@
 -- What the healing of the archive pair does.
-use Rattle.std.proofs.Common.{◌≡◌, ◌≢◌, ⊎_elim, inl, inr, [], ◌≤◌, length, Option, Some, None, refl, ap, ◌∙◌, sym, subst, true, false}
+use Rattle.std.proofs.Common.{◌≡◌, ◌≢◌, ⊎_elim, inl, inr, [], ◌≤◌, length, Option, Some, None, refl, ap, ◌∙◌, sym, subst, arith, true, false}
 use Rattle.std.specs.Prelude.{IfSome, IsSome}
 use Rattle.pgb_outside.specs.Content.{Name, Content, put, at}
 use Rattle.pgb_outside.specs.Moments.{View, Rests, is_loose}
-use Rattle.pgb_outside.specs.Crash.{Alike, IsTemporary, Crash, SomeOf, NowGoes}
+use Rattle.pgb_outside.specs.Crash.{Alike, IsTemporary, Leaves, Crash, SomeOf, NowGoes}
 use Rattle.pgb_outside.proofs.Nows.{told_as}
 use Rattle.pgb_model.specs.Text.{Text}
 use Rattle.pgb_model.specs.Names.{archive_info, copy_of}
 use Rattle.pgb_model.specs.InfoText.{info_text}
 use Rattle.pgb_model.specs.InfoFiles.{IsArchiveText, IsArchiveInfo, archive_sections, info_limit}
 use Rattle.pgb_model.specs.Values.{ArchiveInfo}
-use Rattle.pgb_model.specs.Pair.{PairIs, PairAbsent}
+use Rattle.pgb_model.specs.Pair.{PairIs, PairAbsent, MemberIs}
 use Rattle.pgb_model.specs.Create.{member_writes}
 use Rattle.pgb_model.specs.Repository.{Stanza, Repository}
 use Rattle.pgb_model.specs.Stands.{Stands, IsVacant, archive_value}
 use Rattle.pgb_model.specs.Steps.{Reading}
 use Rattle.pgb_model.specs.Log.{Pair}
 use Rattle.pgb_model.specs.Now.{NowStands, NowDoes}
-use Rattle.pgb_model.specs.Steady.{IsSteady, Moves}
-use Rattle.pgb_model.proofs.Created.{put_other}
-use Rattle.pgb_model.proofs.Healed.{healed_moves, healed_steady, healed_now}
-use Rattle.pgb_model.proofs.Steady.{steady_rests, rests_moves}
+use Rattle.pgb_model.specs.Walks.{IsTight, StandsStill, Walks}
+use Rattle.pgb_model.proofs.Created.{put_other, put_same}
+use Rattle.pgb_model.proofs.Frame.{pair_same}
+use Rattle.pgb_model.proofs.NameLemmas.{copy_apart}
+use Rattle.pgb_model.proofs.Temporary.{fixed_lasts}
+use Rattle.pgb_model.proofs.Walking.{crash_walks}
+use Rattle.pgb_info.proofs.OneArchive.{one_archive_pair}
+use Rattle.pgb_model.proofs.Healed.{healed_stands, healed_past, healed_now}
 use Rattle.pgb_stage.specs.Current.{HasValue}
 use Rattle.pgb_stage.specs.Plans.{HealsArchive}
-use Rattle.pgb_stage.specs.Runs.{Mends}
+use Rattle.pgb_stage.specs.Runs.{Mends, PairAlike}
+use Rattle.pgb_stage.proofs.Doing.{now_told}
+use Rattle.pgb_prepare.specs.Settled.{KeepsAlike}
+use Rattle.pgb_prepare.proofs.Mended.{reads_still}
 
 abbrev text_of : ArchiveInfo → Text
 text_of v = info_text (archive_sections v)
@@ -40,8 +47,41 @@ no_pair : (f : Content) (name : Text) (v : ArchiveInfo) → PairAbsent f name �
 no_pair f name v absent (inl m) = let e : ◌≡◌ {A = Option Text} None (Some m.0) = sym absent.0 ∙ m.1 in cc
 no_pair f name v absent (inr q) = let e : ◌≡◌ {A = Option Text} None (Some q.1.0) = sym absent.1 ∙ q.1.1 in cc
 
+told_here : (P : Content → Type 0) (o : Option Content) (f : Content) → o ≡ Some f → IfSome o P → P f
+told_here P o f is h = subst (λ (x : Option Content). IfSome x P) is h
+
 told_at : (P : Content → Type 0) (o : Option Content) (f : Content) → o ≡ Some f → P f → IfSome o P
 told_at P o f is p = subst (λ (x : Option Content). IfSome x P) (sym is) p
+
+-- ---- the pair after it is healed
+
+module _ (stanza : Text) (v : ArchiveInfo) where
+  abbrev main : Text
+  main = archive_info stanza
+
+  abbrev copy : Text
+  copy = copy_of (archive_info stanza)
+
+  alike_pair : (f g : Content) → Alike f g → PairIs IsArchiveText f (archive_info stanza) v → PairIs IsArchiveText g (archive_info stanza) v
+  alike_pair f g a pair = pair_same IsArchiveText f g main v (a.same main (fixed_lasts stanza main (Pair (inl refl)))) (a.same copy (fixed_lasts stanza copy (Pair (inr (inl refl))))) pair
+
+  main_pair : (f : Content) → IsArchiveText v (text_of v) → PairIs IsArchiveText (put main (Some (text_of v)) f) main v
+  main_pair f is = inl (text_of v, put_same main (Some (text_of v)) f, is)
+
+  copy_pair : (f : Content) → IsArchiveText v (text_of v) → PairIs IsArchiveText f main v → PairIs IsArchiveText (put copy (Some (text_of v)) f) main v
+  copy_pair f is pair =
+      let other : put copy (Some (text_of v)) f main ≡ f main = put_other copy (Some (text_of v)) f main (copy_apart main) in
+      ⊎_elim (λ (m : MemberIs IsArchiveText f main v). inl (m.0, other ∙ m.1, m.2))
+      (λ (q : ((w : ArchiveInfo) → ¬ MemberIs IsArchiveText f main w) × MemberIs IsArchiveText f copy v).
+      inr ((λ w m. q.0 w (m.0, sym other ∙ m.1, m.2)), (text_of v, put_same copy (Some (text_of v)) f, is))) pair
+
+  healed_pair : (f g : Content) → PairIs IsArchiveText f (archive_info stanza) v → SomeOf (member_writes (archive_info stanza) (text_of v)) f g → PairIs IsArchiveText g (archive_info stanza) v
+  healed_pair f g pair w =
+      let is = text_is f main v pair in
+      ⊎_elim
+      (λ x. ⊎_elim (λ a. alike_pair f g a pair) (λ a. alike_pair (put copy (Some (text_of v)) f) g a (copy_pair f is pair)) x)
+      (λ x. ⊎_elim (λ a. alike_pair (put main (Some (text_of v)) f) g a (main_pair f is))
+      (λ a. alike_pair (put copy (Some (text_of v)) (put main (Some (text_of v)) f)) g a (copy_pair (put main (Some (text_of v)) f) is (main_pair f is))) x) w
 
 -- ---- what the calls on the pair tell
 
@@ -78,35 +118,42 @@ module _ (stanza : Text) (old new : View) (part : PartAt (archive_info stanza) o
   heal_stays : NowDoes stanza Reading true old.now new.now
   heal_stays = record { told = told; does = λ r some now. ([], refl, now_stays r some now) }
 
-  module _ (s : Stanza) (steady : IsSteady stanza (Some s) old) (some : IsSome old.now) where
-    pair_at : (f : Content) × (old.now ≡ Some f) × PairIs IsArchiveText f (archive_info stanza) (archive_value s)
-    pair_at = let f = told_as old.now some in (f.0, f.1, (steady.stands f.0 (inl f.1)).archive_pair)
+  module _ (tight : IsTight stanza old) (some : IsSome old.now) (pair : PairAlike stanza old) (f : Content) (is : old.now ≡ Some f) where
+    -- of the value that the disk's pair has the writes are those of each content that is left
+    module _ (v : ArchiveInfo) (has : Has v f) where
+      crash_here : Crash (SomeOf (member_writes (archive_info stanza) (text_of v))) old new
+      crash_here = crash v (told_at (Has v) old.now f is has) (tight.fixed (archive_info stanza) (Pair (inl refl))) (tight.fixed (copy_of (archive_info stanza)) (Pair (inr (inl refl))))
 
-    valid : IsArchiveText (archive_value s) (text_of (archive_value s))
-    valid = let f = pair_at in text_is f.0 (archive_info stanza) (archive_value s) f.2
+      still : (g h : Content) → Leaves old old.moment g → SomeOf (member_writes (archive_info stanza) (text_of v)) g h → StandsStill stanza g h
+      still g h leaves w None vacant = absurd (no_pair g (archive_info stanza) v vacant.archive_pair (pair f g v is leaves has))
+      still g h leaves w (Some s) stands =
+          let had = pair f g v is leaves has in
+          healed_stands stanza s (text_of v)
+          (subst (λ (u : ArchiveInfo). IsArchiveText u (text_of v)) (one_archive_pair g (archive_info stanza) v (archive_value s) had stands.archive_pair) (text_is g (archive_info stanza) v had)) g h stands w
 
-    crash_here : Crash (SomeOf (member_writes (archive_info stanza) (text_of (archive_value s)))) old new
-    crash_here = let f = pair_at in crash (archive_value s) (told_at (Has (archive_value s)) old.now f.0 f.1 f.2)
-        (steady.fixed (archive_info stanza) (Pair (inl refl))) (steady.fixed (copy_of (archive_info stanza)) (Pair (inr (inl refl))))
+      pairs_left : (g : Content) → Leaves new new.moment g → Has v g
+      pairs_left g leaves = let x = crash_here.comes some new.moment g crash_here.later (omega arith) leaves in healed_pair stanza v x.0 g (pair f x.0 v is x.1 has) x.2
 
-    stanza_moves : Moves stanza (λ g. Stands stanza g (Some s)) old new
-    stanza_moves = healed_moves stanza s (text_of (archive_value s)) valid old new steady some crash_here
-
-    stanza_ends : IsSteady stanza (Some s) new
-    stanza_ends = healed_steady stanza s (text_of (archive_value s)) valid old new steady some crash_here
-
-  any_moves : (r : Repository) → IsSteady stanza r old → IsSome old.now → Moves stanza (λ g. Stands stanza g r) old new
-  any_moves None steady some = let f = told_as old.now some in let x = idle_at f.0 f.1 (steady.stands f.0 (inl f.1)) in
-      rests_moves stanza None (λ g. Stands stanza g None) old new x.1 x.0 steady some (λ g h. h)
-  any_moves (Some s) steady some = stanza_moves s steady some
-
-  any_ends : (r : Repository) → IsSteady stanza r old → IsSome old.now → IsSteady stanza r new
-  any_ends None steady some = let f = told_as old.now some in let x = idle_at f.0 f.1 (steady.stands f.0 (inl f.1)) in
-      steady_rests stanza None old new x.1 x.0 steady
-  any_ends (Some s) steady some = stanza_ends s steady some
+    walks_from : (r : Repository) → Stands stanza f r → Walks stanza (StandsStill stanza) old new
+    walks_from None vacant = let x = idle_at f is vacant in reads_still stanza old new x.1 x.0 tight some
+    walks_from (Some s) stands =
+        let v = archive_value s in
+        let has = stands.archive_pair in
+        crash_walks stanza (SomeOf (member_writes (archive_info stanza) (text_of v))) old new tight some (crash_here v has)
+        (healed_past stanza s (text_of v) (text_is f (archive_info stanza) v has)) (StandsStill stanza) (still v has)
 
   heal_mends : Mends stanza old new
-  heal_mends = record { now = heal_stays; moves = λ r some steady. any_moves r steady some; ends = λ r some steady. any_ends r steady some }
+  heal_mends = record {
+    now = heal_stays;
+    walks = λ at. walks_from at.tight (now_told stanza old at.now) at.pair at.now.content at.now.now at.now.repository at.now.stands;
+  }
+
+  -- the value that was read is in all that is left
+  heal_alike : (v : ArchiveInfo) → IfSome old.now (Has v) → IfSome new.now (Has v) → KeepsAlike stanza old new
+  heal_alike v was is = λ tight some pair f g x now leaves has.
+      let h = told_as old.now some in
+      let had : Has v f = told_here (Has v) new.now f now is in
+      subst (λ (u : ArchiveInfo). Has u g) (one_archive_pair f (archive_info stanza) v x had has) (pairs_left tight some pair h.0 h.1 v (told_here (Has v) old.now h.0 h.1 was) g leaves)
 
 -- ---- other names
 
@@ -136,6 +183,11 @@ module _ (stanza name : Text) (is : name ≡ archive_info stanza) (old new : Vie
   pub named_mends : CrashAt name old new → IdleAt name old new → (IsSome old.now → IsSome new.now) → Mends stanza old new
   named_mends crash idle told = heal_mends stanza old new part_here
       (subst (λ (n : Text). CrashAt n old new) is crash) (subst (λ (n : Text). IdleAt n old new) is idle) told
+
+  pub named_alike : CrashAt name old new → IdleAt name old new → (IsSome old.now → IsSome new.now) → (v : ArchiveInfo) → IfSome old.now (λ f. PairIs IsArchiveText f name v) → IfSome new.now (λ f. HasValue stanza f v) → KeepsAlike stanza old new
+  named_alike crash idle told v found kept = heal_alike stanza old new part_here
+      (subst (λ (n : Text). CrashAt n old new) is crash) (subst (λ (n : Text). IdleAt n old new) is idle) told v
+      (subst (λ (n : Text). IfSome old.now (λ f. PairIs IsArchiveText f n v)) is found) kept
 
   -- what the disk holds, but for the pair's members and temporary names
   pub named_only : (v : ArchiveInfo) → IfSome old.now (λ f. PairIs IsArchiveText f name v) → IfSome new.now (λ f. HasValue stanza f v) → IsSome old.now → HealsArchive stanza old.now new.now

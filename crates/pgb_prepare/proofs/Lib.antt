@@ -5,3 +5,4 @@ mod Heals
 mod Mended
 mod Readings
 mod Idle
+mod Begun

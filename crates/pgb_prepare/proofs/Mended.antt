@@ -1,17 +1,32 @@
 -- What reading calls are among those that mend the pairs.
-use Rattle.std.proofs.Common.{◌≡◌, ◌⊎◌, ⊎_elim, inl, inr, ℕ, ◌≤◌, [], Option, refl, ◌∙◌, sym, subst, arith, true}
+use Rattle.std.proofs.Common.{◌≡◌, inl, inr, [], Option, Some, refl, ◌∙◌, sym, subst, true}
 use Rattle.std.specs.Prelude.{IsSome}
 use Rattle.pgb_outside.specs.Content.{Content}
+use Rattle.pgb_outside.specs.Crash.{Leaves, IsAlikeAt}
 use Rattle.pgb_outside.specs.Moments.{View, Rests}
 use Rattle.pgb_model.specs.Text.{Text}
-use Rattle.pgb_model.specs.Stands.{Stands}
+use Rattle.pgb_model.specs.InfoFiles.{IsArchiveText}
+use Rattle.pgb_model.specs.Names.{archive_info, copy_of}
 use Rattle.pgb_model.specs.Steps.{Reading}
 use Rattle.pgb_model.specs.Now.{NowStands, NowDoes}
-use Rattle.pgb_model.specs.Steady.{Moves}
-use Rattle.pgb_model.proofs.Steady.{steady_rests, rests_moves}
-use Rattle.pgb_stage.specs.Runs.{Mends}
+use Rattle.pgb_model.specs.Values.{ArchiveInfo}
+use Rattle.pgb_model.specs.Walks.{IsTight, StandsNow, StandsStill, Walks}
+use Rattle.pgb_model.proofs.Begun.{old_leaves}
+use Rattle.pgb_model.proofs.Frame.{pair_same}
+use Rattle.pgb_model.proofs.Walking.{rests_walks, walks_on}
+use Rattle.pgb_stage.specs.Current.{HasValue}
+use Rattle.pgb_stage.specs.Runs.{Mends, PairAlike}
+use Rattle.pgb_stage.proofs.Doing.{now_told}
+use Rattle.pgb_prepare.specs.Settled.{IsArchiveMember, KeepsAlike}
 
 module _ (stanza : Text) where
+  -- nothing but reading
+  pub reads_still : (a b : View) → Rests a b → b.now ≡ a.now → IsTight stanza a → IsSome a.now → Walks stanza (StandsStill stanza) a b
+  reads_still a b rests same tight told = rests_walks stanza a b rests same (StandsStill stanza) (λ f r h. h) told tight
+
+  pub still_still : (a b d : View) → Walks stanza (StandsStill stanza) a b → Walks stanza (StandsStill stanza) b d → Walks stanza (StandsStill stanza) a d
+  still_still a b d first second = walks_on stanza (StandsStill stanza) (StandsStill stanza) (StandsStill stanza) (λ f g p. p) (λ f g h p q r x. q r (p r x)) a b d first second
+
   -- nothing was healed
   pub rests_mends : (old new : View) → Rests old new → new.now ≡ old.now → Mends stanza old new
   rests_mends old new rests same = record {
@@ -19,34 +34,24 @@ module _ (stanza : Text) where
       told = λ some. subst (λ (o : Option Content). IsSome o) (sym same) some;
       does = λ r some now. ([], refl, subst (λ (o : Option Content). NowStands stanza r o) (sym same) now);
     };
-    moves = λ r some steady. rests_moves stanza r (λ g. Stands stanza g r) old new rests same steady some (λ g h. h);
-    ends = λ r some steady. steady_rests stanza r old new rests same steady;
+    walks = λ at. reads_still old new rests same at.tight (now_told stanza old at.now);
   }
-
-  -- one way behind another
-  moves_then : (P : Content → Type 0) (a b d : View) → Moves stanza P a b → Moves stanza P b d → Moves stanza P a d
-  moves_then P a b d first next = record {
-    later = omega (arith, first.later, next.later);
-    past = λ t n v le k. first.past t n v le (next.past t n v (omega (arith, le, first.later)) k);
-    past_loose = λ t n le. next.past_loose t n (omega (arith, le, first.later)) ∙ first.past_loose t n le;
-    told = next.told;
-    fixed = next.fixed;
-    places = next.places;
-    leaves = λ t g lo hi leaves. ⊎_elim (λ now. next.leaves d.moment g next.later (omega arith) (inl now))
-        (λ image. ⊎_elim
-        (λ (le : t ≤ b.moment). first.leaves t g lo le (inr (λ n. ⊎_elim (λ k. inl (next.past t n (g n) le k)) (λ l. inr (sym (next.past_loose t n le) ∙ l.0, l.1)) (image n))))
-        (λ (ge : b.moment ≤ t). next.leaves t g ge hi (inr image))
-        (either t b.moment)) leaves;
-  }
-    where
-      either : (t s : ℕ) → (t ≤ s) ⊎ (s ≤ t)
-      either t s = grind arith
 
   -- the pairs were mended, and then only was read
   pub mends_on : (a b d : View) → Mends stanza a b → Rests b d → d.now ≡ b.now → Mends stanza a d
   mends_on a b d mends rests same = record {
     now = subst (λ (o : Option Content). NowDoes stanza Reading true a.now o) (sym same) mends.now;
-    moves = λ r some steady. moves_then (λ g. Stands stanza g r) a b d (mends.moves r some steady)
-        (rests_moves stanza r (λ g. Stands stanza g r) b d rests same (mends.ends r some steady) (mends.now.told some) (λ g h. h));
-    ends = λ r some steady. steady_rests stanza r b d rests same (mends.ends r some steady);
+    walks = λ at. let w = mends.walks at in still_still a b d w (reads_still b d rests same w.tight w.told);
   }
+
+  -- members that are alike have one value
+  alike_value : (v : View) → IsAlikeAt (IsArchiveMember stanza) v → PairAlike stanza v
+  alike_value v alike f g x now leaves has = pair_same IsArchiveText f g (archive_info stanza) x
+      (alike f g now leaves (archive_info stanza) (inl refl)) (alike f g now leaves (copy_of (archive_info stanza)) (inr refl)) has
+
+  -- while only is read the value stays alike
+  pub alike_on : (b d : View) → Rests b d → d.now ≡ b.now → PairAlike stanza b → PairAlike stanza d
+  alike_on b d rests same alike f g x now leaves has = alike f g x (sym same ∙ now) (old_leaves b d rests g same leaves) has
+
+  pub rests_alike : (a b : View) → Rests a b → b.now ≡ a.now → KeepsAlike stanza a b
+  rests_alike a b rests same = λ tight told alike. alike_on a b rests same alike

@@ -2,3 +2,4 @@ pub mod Folder
 pub mod Readies
 pub mod Taking
 pub mod Stages
+pub mod Settled

@@ -4,7 +4,7 @@ use Rattle.pgb_outside.specs.Cause.{Rises}
 use Rattle.pgb_outside.specs.Content.{Content}
 use Rattle.pgb_outside.specs.States.{DiskState, TreeState}
 use Rattle.pgb_outside.specs.Tree.{Nodes}
-use Rattle.pgb_model.specs.InfoFiles.{IsArchiveText}
+use Rattle.pgb_model.specs.InfoFiles.{IsArchiveText, info_limit}
 use Rattle.pgb_model.specs.Names.{archive_info}
 use Rattle.pgb_model.specs.Text.{Text}
 use Rattle.pgb_info.specs.ArchiveForm.{IsArchiveForm}
@@ -41,7 +41,7 @@ IsArchiveFault stanza fault other = ⊥
 
 -- why a call on the archive pair gives no value
 abbrev pub ArchivePairCause : Text → DiskState → DiskState → InfoFault → Type 0
-ArchivePairCause stanza old new fault = PairCause IsArchiveText IsArchiveForm (archive_info stanza) old.view.now (Rises old.faults new.faults) fault
+ArchivePairCause stanza old new fault = PairCause IsArchiveText IsArchiveForm info_limit (archive_info stanza) old.view.now (Rises old.faults new.faults) fault
 
 -- the archive pair is read, and has no value
 abbrev pub NoArchive : Pairs → Text → Option Content → StageFault → Type 0

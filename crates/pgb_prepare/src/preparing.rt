@@ -1,11 +1,14 @@
 // What is done behind the locks, before a command's own part.
-ghost use Rattle.std.specs.Prelude.{◌≡◌, false, OnOk, IfOk, IfErr, IfSome};
+ghost use Rattle.std.specs.Prelude.{◌≡◌, false, OnOk, IfOk, IfErr, IfSome, string_bytes};
 ghost use Rattle.pgb_outside.specs.States.{Frame, Looks, LooksAt};
 ghost use Rattle.pgb_archive.specs.Still.{IsStill};
+ghost use Rattle.pgb_stage.specs.declared.plan.Settling.TheVariants.{Whole, Looked};
 ghost use Rattle.pgb_stage.specs.Halts.{Never};
 ghost use Rattle.pgb_stage.specs.Plans.{Heals, AreHealed, OnReading};
+ghost use Rattle.pgb_model.specs.Names.{archive_folder};
 ghost use Rattle.pgb_stage.specs.Runs.{Quiet, Mends, Begins};
 ghost use Rattle.pgb_prepare.specs.Readies.{IsReady};
+ghost use Rattle.pgb_prepare.specs.Settled.{SettlesFor, KeepsAlike};
 ghost use Rattle.pgb_prepare.specs.Stages.{RepoCause, StopCause};
 
 use crate::cluster::cluster_by;
@@ -13,10 +16,11 @@ use crate::pairs::{archive_by, backup_by};
 use crate::ready::Ready;
 use pgb_disk::{StoreFault, begin};
 use pgb_outside::{Disk, Tree};
-use pgb_stage::{Halt, Object, Plan, StageFault};
-use std::alloc::Global;
+use pgb_stage::{Halt, Object, Plan, Settling, StageFault, halted};
+use std::alloc::{AllocError, Global};
 
-/// Settles the stanza's folders, reads the control file, and reads or heals the pairs, as far as the plan says so.
+/// Settles the stanza's folders or that of the archive pair, reads the control file, and reads or heals the pairs, as
+/// far as the plan says so.
 pub fn prepare<D: Disk, T: Tree>(
     alloc: Global,
     repo: &mut D,
@@ -26,7 +30,7 @@ pub fn prepare<D: Disk, T: Tree>(
 ) -> Result<Ready, Halt<StageFault>>
     ensures ready { IfOk result (IsReady plan.now stanza.now (D.state repo.new).view.now (T.state tree.old).nodes) }
     ensures quiet { Quiet stanza.now (D.state repo.old).view (D.state repo.new).view }
-    ensures begun { OnOk result (Begins stanza.now (D.state repo.old).view (D.state repo.new).view) }
+    ensures begun { OnOk result (Begins plan.now.settling stanza.now (D.state repo.old).view (D.state repo.new).view) }
     ensures heals { OnOk result (Heals plan.now.pairs stanza.now (D.state repo.old).view.now
         (D.state repo.new).view.now) }
     ensures healed { OnOk result (IfSome (D.state repo.new).view.now (AreHealed plan.now.pairs stanza.now)) }
@@ -37,13 +41,17 @@ pub fn prepare<D: Disk, T: Tree>(
     ensures cause { IfErr result (StopCause plan.now stanza.now (D.state repo.old) (D.state repo.new)
         (T.state tree.old) (T.state tree.new)) }
 {
-    settle(alloc, repo, stanza)?;
+    settle(alloc, repo, stanza, plan.settling)?;
     find(alloc, repo, tree, stanza, plan)
 }
 
-// Settles the stanza's folders.
-fn settle<D: Disk>(alloc: Global, repo: &mut D, stanza: &str) -> Result<(), Halt<StageFault>>
-    ensures begun { OnOk result (Begins stanza.now (D.state repo.old).view (D.state repo.new).view) }
+// Settles all of the stanza's folders.
+fn settle_whole<D: Disk>(
+    alloc: Global,
+    repo: &mut D,
+    stanza: &str,
+) -> Result<(), Halt<StageFault>>
+    ensures settled { OnOk result (SettlesFor Whole stanza.now (D.state repo.old).view (D.state repo.new).view) }
     ensures looks { Looks (D.state repo.old) (D.state repo.new) }
     ensures cause { IfErr result (RepoCause (λ _. Never) (D.state repo.old) (D.state repo.new)) }
 {
@@ -51,6 +59,42 @@ fn settle<D: Disk>(alloc: Global, repo: &mut D, stanza: &str) -> Result<(), Halt
         Ok(()) => Ok(()),
         Err(StoreFault::Disk) => Err(Halt::Failed(Object::Repo)),
         Err(StoreFault::TooLong { .. } | StoreFault::NoMemory) => Err(Halt::NoMemory),
+    }
+}
+
+fn pair_folder(alloc: Global, stanza: &str) -> Result<String, AllocError>
+    ensures { IfOk result (λ folder. string_bytes folder ≡ archive_folder stanza.now) }
+{
+    format!(in alloc; "archive/{stanza}")
+}
+
+// Settles the folder of the archive pair.
+fn settle_pair<D: Disk>(alloc: Global, repo: &mut D, stanza: &str) -> Result<(), Halt<StageFault>>
+    ensures settled { OnOk result (SettlesFor Looked stanza.now (D.state repo.old).view (D.state repo.new).view) }
+    ensures looks { Looks (D.state repo.old) (D.state repo.new) }
+    ensures cause { IfErr result (RepoCause (λ _. Never) (D.state repo.old) (D.state repo.new)) }
+{
+    let folder = pair_folder(alloc, stanza)?;
+    match repo.settle_in(&folder) {
+        Ok(()) => Ok(()),
+        Err(stop) => Err(halted(Object::Repo, stop)),
+    }
+}
+
+// Settles what is looked at before the command's own part.
+fn settle<D: Disk>(
+    alloc: Global,
+    repo: &mut D,
+    stanza: &str,
+    settling: Settling,
+) -> Result<(), Halt<StageFault>>
+    ensures settled { OnOk result (SettlesFor settling stanza.now (D.state repo.old).view (D.state repo.new).view) }
+    ensures looks { Looks (D.state repo.old) (D.state repo.new) }
+    ensures cause { IfErr result (RepoCause (λ _. Never) (D.state repo.old) (D.state repo.new)) }
+{
+    match settling {
+        Settling::Whole => settle_whole(alloc, repo, stanza),
+        Settling::Looked => settle_pair(alloc, repo, stanza),
     }
 }
 
@@ -64,6 +108,7 @@ fn find<D: Disk, T: Tree>(
 ) -> Result<Ready, Halt<StageFault>>
     ensures ready { IfOk result (IsReady plan.now stanza.now (D.state repo.new).view.now (T.state tree.old).nodes) }
     ensures mends { Mends stanza.now (D.state repo.old).view (D.state repo.new).view }
+    ensures alike { OnOk result (KeepsAlike stanza.now (D.state repo.old).view (D.state repo.new).view) }
     ensures heals { OnOk result (Heals plan.now.pairs stanza.now (D.state repo.old).view.now
         (D.state repo.new).view.now) }
     ensures healed { OnOk result (IfSome (D.state repo.new).view.now (AreHealed plan.now.pairs stanza.now)) }

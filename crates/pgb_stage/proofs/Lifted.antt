@@ -21,7 +21,7 @@ use Rattle.pgb_model.proofs.Walking.{steady_tight}
 use Rattle.pgb_archive.specs.Still.{rests_none}
 use Rattle.pgb_stage.specs.declared.plan.Settling.{Settling}
 use Rattle.pgb_stage.specs.declared.plan.Settling.TheVariants.{Whole, Looked}
-use Rattle.pgb_stage.specs.Runs.{Reached, to_end, turned_back, stopped, OnAll, OnNone, OnWhole, turns_of, IsPart, IsWhole, PartEach, WholeEach, IsLookedAt, Goes, Comes, DoesPart, Does, RunsPart, RunsWhole, Runs, Past, Passes, Leads, Takes, Quiet, Mends, Begins, Manner, each, one, On, EndsAtOne}
+use Rattle.pgb_stage.specs.Runs.{Reached, to_end, turned_back, stopped, OnAll, OnNone, OnWhole, turns_of, IsPart, IsWhole, PartEach, WholeEach, PairAlike, IsLookedAt, Goes, Comes, DoesPart, Does, RunsPart, RunsWhole, Runs, Past, Passes, Leads, Takes, Quiet, Mends, Begins, Manner, each, one, On, EndsAtOne}
 
 pub all_as : (reached : Reached) (P Q : Type 0) → (P → Q) → OnAll reached P → OnAll reached Q
 all_as to_end P Q to h = to h
@@ -121,42 +121,36 @@ rests_quiet stanza a b rests same = record {
 pub still_quiet : (stanza : Text) (v : View) → Quiet stanza v v
 still_quiet stanza v = rests_quiet stanza v v (rests_none v) refl
 
--- one stage and then another
-pub quiet_then : (stanza : Text) (a b c : View) → Quiet stanza a b → Quiet stanza b c → Quiet stanza a c
-quiet_then stanza a b c first next = record {
-  now = record { told = λ some. next.now.told (first.now.told some); does = λ r some now. ([], refl, stays_at stanza b.now c.now next.now r (first.now.told some) (stays_at stanza a.now b.now first.now r some now)) };
-  keeps = λ q log some keeps. next.keeps q log (first.now.told some) (first.keeps q log some keeps);
-  between = λ q log some keeps.
-      let x = first.between q log some keeps in
-      let y = next.between q log (first.now.told some) (first.keeps q log some keeps) in
-      (past_past a b c x.0 y.0, leaves_then (StandsAfter stanza q log) a b c x.0 y.0 x.1 y.1);
-}
+-- one stage, and then the pairs are read or healed
+module _ (stanza : Text) (a b c : View) (first : Quiet stanza a b) (paired : (q : Repository) (log : List Done) → KeepsRepository stanza q log a → IsSome a.now → PairAlike stanza b) (mends : Mends stanza b c) where
+  module _ (q : Repository) (log : List Done) (some : IsSome a.now) (keeps : KeepsRepository stanza q log a) where
+    kept : KeepsRepository stanza q log b
+    kept = first.keeps q log some keeps
 
--- the pairs are read or healed
-module _ (stanza : Text) (a b : View) (mends : Mends stanza a b) where
-  still_after_mends : (q : Repository) (log : List Done) → KeepsRepository stanza q log a → (f g : Content) → Leaves a a.moment f → StandsStill stanza f g → StandsAfter stanza q log g
-  still_after_mends q log keeps f g at still = let s = keeps.stands f at in record { repository = s.repository; reached = s.reached; sound = s.sound; stands = still s.repository s.stands }
+    still : (f g : Content) → Leaves b b.moment f → StandsStill stanza f g → StandsAfter stanza q log g
+    still f g at stands = let s = kept.stands f at in record { repository = s.repository; reached = s.reached; sound = s.sound; stands = stands s.repository s.stands }
 
-  walked : (q : Repository) (log : List Done) → IsSome a.now → KeepsRepository stanza q log a → Walks stanza (StandsStill stanza) a b
-  walked q log some keeps = mends.walks (keeps_tight stanza q log a keeps) (keeps_now stanza q log a some keeps)
+    walked : Walks stanza (StandsStill stanza) b c
+    walked = mends.walks (record { tight = keeps_tight stanza q log b kept; now = keeps_now stanza q log b (first.now.told some) kept; pair = paired q log keeps some })
 
-  pub mends_quiet : Quiet stanza a b
-  mends_quiet = record {
-    now = mends.now;
+  pub mended_quiet : Quiet stanza a c
+  mended_quiet = record {
+    now = record { told = λ some. mends.now.told (first.now.told some); does = λ r some now. ([], refl, stays_at stanza b.now c.now mends.now r (first.now.told some) (stays_at stanza a.now b.now first.now r some now)) };
     keeps = λ q log some keeps. let w = walked q log some keeps in
-        record { fixed = w.tight.fixed; places = w.tight.places; stands = λ g leaves. let x = w.comes b.moment g w.later (omega arith) leaves in still_after_mends q log keeps x.0 g x.1 x.2 };
-    between = λ q log some keeps. let w = walked q log some keeps in (
-      record { later = w.later; kept = w.past; loose = w.past_loose },
-      λ t g lo hi leaves. let x = w.comes t g lo hi leaves in still_after_mends q log keeps x.0 g x.1 x.2,
-    );
+        record { fixed = w.tight.fixed; places = w.tight.places; stands = λ g leaves. let x = w.comes c.moment g w.later (omega arith) leaves in still q log some keeps x.0 g x.1 x.2 };
+    between = λ q log some keeps.
+        let w = walked q log some keeps in
+        let x = first.between q log some keeps in
+        let next : Past b c = record { later = w.later; kept = w.past; loose = w.past_loose } in
+        (past_past a b c x.0 next, leaves_then (StandsAfter stanza q log) a b c x.0 next x.1 (λ t g lo hi leaves. let y = w.comes t g lo hi leaves in still q log some keeps y.0 g y.1 y.2));
   }
 
-  -- a disk that is steady at one repository stays so
-  pub mends_steady : (r : Repository) → IsSome a.now → IsSteady stanza r a → IsSteady stanza r b
-  mends_steady r some steady =
-      let f = told_as a.now some in
-      let w = mends.walks (steady_tight stanza r a steady) (record { content = f.0; now = f.1; repository = r; stands = steady.stands f.0 (inl f.1) }) in
-      record { fixed = w.tight.fixed; places = w.tight.places; stands = λ g leaves. let x = w.comes b.moment g w.later (omega arith) leaves in x.2 r (steady.stands x.0 x.1) }
+-- the pairs of a disk that is steady at one repository are read or healed
+pub mends_steady : (stanza : Text) (a b : View) → Mends stanza a b → PairAlike stanza a → (r : Repository) → IsSome a.now → IsSteady stanza r a → IsSteady stanza r b
+mends_steady stanza a b mends pair r some steady =
+    let f = told_as a.now some in
+    let w = mends.walks (record { tight = steady_tight stanza r a steady; now = record { content = f.0; now = f.1; repository = r; stands = steady.stands f.0 (inl f.1) }; pair = pair }) in
+    record { fixed = w.tight.fixed; places = w.tight.places; stands = λ g leaves. let x = w.comes b.moment g w.later (omega arith) leaves in x.2 r (steady.stands x.0 x.1) }
 
 -- the stages alone
 module _ (stanza : Text) (command : Command) (a b s : View) (quiet : Quiet stanza a b) where
@@ -196,6 +190,10 @@ module _ (stanza : Text) (command : Command) (q : Repository) (log : List Done) 
     stands = x.0;
   }
 
+pub looked_at : (stanza : Text) (a b : View) → Quiet stanza a b → Begins Looked stanza a b → (q : Repository) (log : List Done) → IsSome a.now → KeepsRepository stanza q log a → IsLookedAt stanza b
+looked_at stanza a b quiet begun q log some keeps = let k = quiet.keeps q log some keeps in
+    record { tight = keeps_tight stanza q log b k; now = keeps_now stanza q log b (quiet.now.told some) k; pair = begun (keeps_tight stanza q log a keeps) some }
+
 -- what is known behind the stages a to b, as the command's own part begins
 module _ (stanza : Text) (a b : View) (quiet : Quiet stanza a b) where
   told_at : IsSome a.now → IsSome b.now
@@ -209,8 +207,7 @@ module _ (stanza : Text) (a b : View) (quiet : Quiet stanza a b) where
     Left = KeepsRepository stanza q (undone stanza command q log ∷ log) d × Past b d × LeavesOnly (StandsAfter stanza q (undone stanza command q log ∷ log)) b d
 
     looked : Begins Looked stanza a b → IsLookedAt stanza b
-    looked begun = let k = quiet.keeps q log some keeps in
-        record { tight = keeps_tight stanza q log b k; now = keeps_now stanza q log b (told_at some) k; pair = begun (keeps_tight stanza q log a keeps) some }
+    looked begun = looked_at stanza a b quiet begun q log some keeps
 
     pub left : (how : Settling) → Begins how stanza a b → Goes how stanza command b d → Left
     left Whole begun goes =

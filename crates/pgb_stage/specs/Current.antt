@@ -8,7 +8,7 @@ use Rattle.pgb_model.specs.Fields.{at_number}
 use Rattle.pgb_model.specs.Names.{archive_info, backup_info}
 use Rattle.pgb_model.specs.Pair.{PairIs, PairAbsent}
 use Rattle.pgb_model.specs.Values.{ArchiveInfo}
-use Rattle.pgb_model.specs.InfoFiles.{IsArchiveText, IsBackupText}
+use Rattle.pgb_model.specs.InfoFiles.{IsArchiveText, IsBackupText, info_limit}
 use Rattle.pgb_info.specs.declared.fault.MemberFault.{MemberFault}
 use Rattle.pgb_info.specs.declared.fault.MemberFault.TheVariants.{Absent}
 use Rattle.pgb_info.specs.BackupForm.{IsBackupForm}
@@ -45,12 +45,12 @@ HasArchive stanza now = (v : ArchiveInfo) × IfSome now (λ f. HasValue stanza f
 -- why the archive pair has no value
 abbrev pub ArchiveCause : Text → Option Content → StageFault → Type 0
 ArchiveCause stanza now (StanzaMissing word) = (string_bytes word ≡ stanza) × IfSome now (λ f. PairAbsent f (archive_info stanza))
-ArchiveCause stanza now (InfoDamaged name main copy) = (string_bytes name ≡ archive_info stanza) × IfSome now (λ f. AreDamaged IsArchiveText IsArchiveForm f (archive_info stanza) main copy)
+ArchiveCause stanza now (InfoDamaged name main copy) = (string_bytes name ≡ archive_info stanza) × IfSome now (λ f. AreDamaged IsArchiveText IsArchiveForm info_limit f (archive_info stanza) main copy)
 ArchiveCause stanza now other = ⊥
 
 -- the members of the backup pair have these faults; where neither is there, both are absent
 abbrev pub LacksBackup : Text → Content → MemberFault → MemberFault → Type 0
-LacksBackup stanza f main copy = AreDamaged IsBackupText IsBackupForm f (backup_info stanza) main copy
+LacksBackup stanza f main copy = AreDamaged IsBackupText IsBackupForm info_limit f (backup_info stanza) main copy
     ⊎ (PairAbsent f (backup_info stanza) × (main ≡ Absent) × (copy ≡ Absent))
 
 -- why the backup pair has no value

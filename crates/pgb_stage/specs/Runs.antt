@@ -158,7 +158,7 @@ pub record Quiet (stanza : Text) (old new : View) : Type 0 where
 -- What the reading or healing of the pairs does: whatever each content that may be left came from stood for, it stands for it.
 pub record Mends (stanza : Text) (old new : View) : Type 0 where
   pub now : NowDoes stanza Reading true old.now new.now
-  pub walks : IsTight stanza old → StandsNow stanza old → Walks stanza (StandsStill stanza) old new
+  pub walks : IsLookedAt stanza old → Walks stanza (StandsStill stanza) old new
 
 -- What a command's own part can begin from, behind the stages: a disk that is steady at one repository, or one of which all that a crash leaves has the same archive pair.
 abbrev pub Begins : Settling → Text → View → View → Type 0

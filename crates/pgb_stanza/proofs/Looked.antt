@@ -9,7 +9,7 @@ use Rattle.pgb_model.specs.declared.clusters.BackupInfo as rust_backup_info
 use Rattle.pgb_model.specs.Text.{Text}
 use Rattle.pgb_model.specs.Names.{archive_info, backup_info}
 use Rattle.pgb_model.specs.Values.{BackupInfo, archive_info_of, backup_info_of}
-use Rattle.pgb_model.specs.InfoFiles.{IsArchiveText, IsBackupText}
+use Rattle.pgb_model.specs.InfoFiles.{IsArchiveText, IsBackupText, info_limit}
 use Rattle.pgb_model.specs.Pair.{PairIs, PairAbsent}
 use Rattle.pgb_info.specs.Causes.{AreDamaged}
 use Rattle.pgb_info.specs.BackupForm.{IsBackupForm}
@@ -47,15 +47,15 @@ module _ (stanza : Text) (told : Control) (now : Option Content) (archive : Opti
       at_told (λ f. PairAbsent f (archive_info stanza)) now f at missing
 
   -- why the backup pair isn't read
-  pub backup_cause : (rose more : Type 0) → (rose → more) → (name : Text) → name ≡ backup_info stanza → (e : StanzaFault) → ReadCause IsBackupText IsBackupForm name now rose e → CreateCause stanza told now more e
+  pub backup_cause : (rose more : Type 0) → (rose → more) → (name : Text) → name ≡ backup_info stanza → (e : StanzaFault) → ReadCause IsBackupText IsBackupForm info_limit name now rose e → CreateCause stanza told now more e
   backup_cause rose more wider name is (InfoDamaged word main copy) h = each now _ (λ f at. go archive refl f at)
     where
       same : string_bytes word ≡ backup_info stanza
       same = h.0 ∙ is
 
       go : (o : Option rust_archive_info.ArchiveInfo) → archive ≡ o → (f : Content) → now ≡ Some f → HasDamage stanza f (string_bytes word) main copy
-      go None none f at = OfBackup same (archive_absent none f at) (at_told _ now f at (subst (λ (n : Text). IfSome now (λ f. AreDamaged IsBackupText IsBackupForm f n main copy)) is h.1))
-      go (Some v) some f at = OfBackupBeside same (archive_info_of v) (archive_is v some f at) (at_told _ now f at (subst (λ (n : Text). IfSome now (λ f. AreDamaged IsBackupText IsBackupForm f n main copy)) is h.1))
+      go None none f at = OfBackup same (archive_absent none f at) (at_told _ now f at (subst (λ (n : Text). IfSome now (λ f. AreDamaged IsBackupText IsBackupForm info_limit f n main copy)) is h.1))
+      go (Some v) some f at = OfBackupBeside same (archive_info_of v) (archive_is v some f at) (at_told _ now f at (subst (λ (n : Text). IfSome now (λ f. AreDamaged IsBackupText IsBackupForm info_limit f n main copy)) is h.1))
   backup_cause rose more wider name is Disk h = wider h
   backup_cause rose more wider name is NoMemory h = tt
   backup_cause rose more wider name is (HistoryDiffers at) h = absurd h

@@ -26,7 +26,7 @@ use Rattle.pgb_model.proofs.Created.{put_other, put_same}
 use Rattle.pgb_model.proofs.Frame.{pair_same, place_past, place_lasts, past_alike, alike_stands}
 use Rattle.pgb_model.proofs.Healed.{healed_stands, put_past}
 use Rattle.pgb_model.proofs.Passing.{crash_moves}
-use Rattle.pgb_info.proofs.Numbers.{in_map, map_in}
+use Rattle.pgb_keys.proofs.Numbers.{in_map, map_in}
 use Rattle.pgb_stanza.specs.Mending.{mending_writes}
 use Rattle.pgb_stanza.proofs.BackupNames.{IsBackupMember, main_member, copy_member, manifest_apart, place_apart, manifest_same, place_same}
 use Rattle.pgb_stanza.proofs.OneBackup.{pair_agrees}

@@ -14,9 +14,9 @@ use Rattle.pgb_model.specs.Values.{BackupInfo, Entry}
 use Rattle.pgb_ini.proofs.OneText.{one_sections}
 use Rattle.pgb_info.proofs.BackupRules.{listed, db, history, backup_sections_are, backup_is_info}
 use Rattle.pgb_info.proofs.Found.{found}
-use Rattle.pgb_info.proofs.Numbers.{all_in, map_in, same_digits}
+use Rattle.pgb_keys.proofs.Numbers.{all_in, map_in, same_digits}
 use Rattle.pgb_info.proofs.Mends.{same_text}
-use Rattle.pgb_info.proofs.Sorted.{by_key_in, in_by_key, length_by_key}
+use Rattle.pgb_keys.proofs.Sorted.{by_key_in, in_by_key, length_by_key}
 
 -- ---- the clusters
 

@@ -20,7 +20,7 @@ use Rattle.pgb_model.specs.Steps.{step, Create}
 use Rattle.pgb_model.specs.Now.{NowStands}
 use Rattle.pgb_model.specs.Steady.{IsSteady, Moves}
 use Rattle.pgb_model.proofs.Steady.{steady_rests, front_moves}
-use Rattle.pgb_info.proofs.Numbers.{map_in}
+use Rattle.pgb_keys.proofs.Numbers.{map_in}
 use Rattle.pgb_info.proofs.OneArchive.{one_archive_pair}
 use Rattle.pgb_stanza.specs.declared.control.Control.{Control}
 use Rattle.pgb_stanza.specs.Tight.{AreTight}

@@ -10,20 +10,21 @@ use Rattle.pgb_model.specs.Values.{ArchiveInfo, BackupInfo}
 use Rattle.pgb_model.specs.InfoText.{info_text}
 use Rattle.pgb_model.specs.InfoFiles.{archive_sections, backup_sections, info_limit, IsCluster, IsArchiveInfo, IsBackupInfo}
 use Rattle.pgb_model.specs.Create.{first_archive, first_backup, first_archive_text, first_backup_text, member_writes}
-use Rattle.pgb_info.specs.Member.{IsInfoName}
+use Rattle.pgb_model.proofs.Temporary.{info_lasts}
+use Rattle.pgb_info.specs.Member.{IsMemberName}
 use Rattle.pgb_info.proofs.First.{first_archive_is, first_backup_is}
 
-archive_named : (stanza : Text) → IsInfoName (archive_info stanza)
-archive_named stanza = record { folder = archive_folder stanza; front = codes "archive"; is = refl; plain = search rules }
+archive_named : (stanza : Text) → IsMemberName (archive_info stanza)
+archive_named stanza = record { folder = archive_folder stanza; last = codes "archive.info"; is = refl; plain = search rules; lasting = info_lasts (archive_folder stanza) (codes "archive") (archive_info stanza) refl }
 
-backup_named : (stanza : Text) → IsInfoName (backup_info stanza)
-backup_named stanza = record { folder = backup_folder stanza; front = codes "backup"; is = refl; plain = search rules }
+backup_named : (stanza : Text) → IsMemberName (backup_info stanza)
+backup_named stanza = record { folder = backup_folder stanza; last = codes "backup.info"; is = refl; plain = search rules; lasting = info_lasts (backup_folder stanza) (codes "backup") (backup_info stanza) refl }
 
-pub archive_name_is : (stanza name : Text) → name ≡ archive_info stanza → IsInfoName name
-archive_name_is stanza name is = subst IsInfoName (sym is) (archive_named stanza)
+pub archive_name_is : (stanza name : Text) → name ≡ archive_info stanza → IsMemberName name
+archive_name_is stanza name is = subst IsMemberName (sym is) (archive_named stanza)
 
-pub backup_name_is : (stanza name : Text) → name ≡ backup_info stanza → IsInfoName name
-backup_name_is stanza name is = subst IsInfoName (sym is) (backup_named stanza)
+pub backup_name_is : (stanza name : Text) → name ≡ backup_info stanza → IsMemberName name
+backup_name_is stanza name is = subst IsMemberName (sym is) (backup_named stanza)
 
 module _ (c : Cluster) (is_cluster : IsCluster c) (first : c.id ≡ 1) where
   pub archive_valid : (v : ArchiveInfo) → v ≡ first_archive c → IsArchiveInfo v

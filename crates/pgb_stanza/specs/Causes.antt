@@ -6,7 +6,7 @@ use Rattle.pgb_model.specs.declared.clusters.ClusterId.{ClusterId}
 use Rattle.pgb_model.specs.Text.{Text}
 use Rattle.pgb_model.specs.Names.{archive_info, backup_info}
 use Rattle.pgb_model.specs.Values.{ArchiveInfo, BackupInfo, Entry}
-use Rattle.pgb_model.specs.InfoFiles.{IsArchiveText, IsBackupText}
+use Rattle.pgb_model.specs.InfoFiles.{IsArchiveText, IsBackupText, info_limit}
 use Rattle.pgb_model.specs.Pair.{PairIs, PairAbsent}
 use Rattle.pgb_info.specs.declared.fault.MemberFault.{MemberFault}
 use Rattle.pgb_info.specs.declared.fault.MemberFault.TheVariants.{Absent}
@@ -25,11 +25,11 @@ use Rattle.pgb_stanza.specs.Pairs.{identity_told, identity_kept, identities, Dif
 -- The pair of this main member is damaged: the archive pair is looked at first.
 pub data HasDamage (stanza : Text) (f : Content) (name : Text) (main copy : MemberFault) : Type 0 where
   -- the members of the archive pair have these faults
-  OfArchive : name ≡ archive_info stanza → AreDamaged IsArchiveText IsArchiveForm f (archive_info stanza) main copy → HasDamage stanza f name main copy
+  OfArchive : name ≡ archive_info stanza → AreDamaged IsArchiveText IsArchiveForm info_limit f (archive_info stanza) main copy → HasDamage stanza f name main copy
   -- those of the backup pair have, beside an archive pair that is missing
-  OfBackup : name ≡ backup_info stanza → PairAbsent f (archive_info stanza) → AreDamaged IsBackupText IsBackupForm f (backup_info stanza) main copy → HasDamage stanza f name main copy
+  OfBackup : name ≡ backup_info stanza → PairAbsent f (archive_info stanza) → AreDamaged IsBackupText IsBackupForm info_limit f (backup_info stanza) main copy → HasDamage stanza f name main copy
   -- those of the backup pair have, beside an archive pair that has a value
-  OfBackupBeside : name ≡ backup_info stanza → (a : ArchiveInfo) → PairIs IsArchiveText f (archive_info stanza) a → AreDamaged IsBackupText IsBackupForm f (backup_info stanza) main copy → HasDamage stanza f name main copy
+  OfBackupBeside : name ≡ backup_info stanza → (a : ArchiveInfo) → PairIs IsArchiveText f (archive_info stanza) a → AreDamaged IsBackupText IsBackupForm info_limit f (backup_info stanza) main copy → HasDamage stanza f name main copy
   -- the backup pair is missing beside an archive pair that has a value
   OfNoBackup : name ≡ backup_info stanza → (a : ArchiveInfo) → PairIs IsArchiveText f (archive_info stanza) a → PairAbsent f (backup_info stanza) → main ≡ Absent → copy ≡ Absent → HasDamage stanza f name main copy
 
@@ -64,9 +64,9 @@ pub record HasLost (stanza : Text) (f : Content) (label : Label) : Type 0 where
   pub is : label ≡ first.label
 
 -- why a pair isn't read
-module _ {V : Type 0} (IsTextOf : V → Text → Type 0) (IsForm : List Section → Text → Text → Type 0) where
+module _ {V : Type 0} (IsTextOf : V → Text → Type 0) (IsForm : List Section → Text → Text → Type 0) (limit : ℕ) where
   abbrev pub ReadCause : Text → Option Content → Type 0 → StanzaFault → Type 0
-  ReadCause name now rose (InfoDamaged word main copy) = (string_bytes word ≡ name) × IfSome now (λ f. AreDamaged IsTextOf IsForm f name main copy)
+  ReadCause name now rose (InfoDamaged word main copy) = (string_bytes word ≡ name) × IfSome now (λ f. AreDamaged IsTextOf IsForm limit f name main copy)
   ReadCause name now rose Disk = rose
   ReadCause name now rose NoMemory = Unit {0}
   ReadCause name now rose other = ⊥

@@ -30,7 +30,7 @@ fn read_pair<D: Disk, I: ReadInfo>(
     ensures missing { IfOk result (λ o. IfNone o (IfSome (D.state d.old).view.now (λ f. PairAbsent f name.now))) }
     ensures valid { IfOk result (λ o. IfSome o I.is_valid) }
     ensures looks { Looks (D.state d.old) (D.state d.new) }
-    ensures cause { IfErr result (ReadCause I.IsText I.IsForm name.now (D.state d.old).view.now (Rises (D.state d.old).faults (D.state d.new).faults)) }
+    ensures cause { IfErr result (ReadCause I.IsText I.IsForm I.limit name.now (D.state d.old).view.now (Rises (D.state d.old).faults (D.state d.new).faults)) }
     ensures label { IfErr result (λ e. IfLost e IsLabel) }
 {
     match load_pair::<D, I>(alloc, d, name) {

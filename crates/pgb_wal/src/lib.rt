@@ -15,4 +15,4 @@ pub use order::{compare, next};
 pub use pgb_model::{ArchiveName, Lsn, SegSize, Segment};
 pub use positions::read_lsn;
 pub use segments::{read_segment, segment_folder, segment_text};
-pub use sizes::read_seg_size;
+pub use sizes::{read_seg_size, segments_per_log};

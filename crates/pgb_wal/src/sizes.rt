@@ -18,7 +18,7 @@ pub fn read_seg_size(bytes: u64) -> Option<SegSize>
 }
 
 /// How many segments of this size a log has.
-pub(crate) fn segments_per_log(size: SegSize) -> u32
+pub fn segments_per_log(size: SegSize) -> u32
     requires { IsSegSize size.0 }
     ensures { result ≡ segments_per_log size.0 }
 {

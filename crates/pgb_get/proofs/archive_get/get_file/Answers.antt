@@ -1,4 +1,4 @@
-use Rattle.std.proofs.Common.{rules, ◌≡◌, true, false}
+use Rattle.std.proofs.Common.{rules, ◌≡◌, inl, refl, true, false}
 use Rattle.pgb_get.proofs.Archived.{serves_archived, misses_archived}
 use Rattle.pgb_get.proofs.Fetches.{serves, serves_only, misses}
 use Rattle.pgb_get.proofs.archive_get.get_file.Goals as goal
@@ -15,7 +15,7 @@ returns-then-branch-clause-got g c =
     let yes : c.in_ok-serve_file.field-0 ≡ true = search rules in (
       c.new.ensures.bytes,
       serves c.args.stanza.now o.folder.now o.word.now o.path.now (g.D.Disk.state c.args.repo.now).view.now (g.T.Tree.state c.args.tree.now).nodes o.name c.args.told.now o.inside.now o.wanted c.requires.tells o.below
-          _ c.in_ok-serve_file.field-0 yes c.in_ok-serve_file.ensures.puts,
+          _ c.in_ok-serve_file.field-0 yes (c.in_ok-serve_file.ensures.puts (g.D.Disk.state c.args.repo.now).view.now (inl refl) c.requires.pair),
     )
 
 pub returns-then-branch-clause-given : goal.returns-then-branch-clause-given
@@ -26,7 +26,7 @@ returns-then-branch-clause-given g c = λ s some now.
     let yes : c.in_ok-serve_file.field-0 ≡ true = search rules in
     serves_archived c.args.stanza.now o.folder.now o.word.now o.path.now repo nodes _ s some now
     (serves c.args.stanza.now o.folder.now o.word.now o.path.now repo nodes o.name c.args.told.now o.inside.now o.wanted c.requires.tells o.below
-    _ c.in_ok-serve_file.field-0 yes c.in_ok-serve_file.ensures.puts)
+    _ c.in_ok-serve_file.field-0 yes (c.in_ok-serve_file.ensures.puts (g.D.Disk.state c.args.repo.now).view.now (inl refl) c.requires.pair))
 
 pub returns-then-branch-clause-changes : goal.returns-then-branch-clause-changes
 returns-then-branch-clause-changes g c =
@@ -40,7 +40,7 @@ returns-in_ok-from_str-clause-got g c =
     let no : c.in_ok-serve_file.field-0 ≡ false = search rules in (
       c.in_ok-from_str.ensures.ok,
       misses c.args.stanza.now o.folder.now o.word.now o.path.now (g.D.Disk.state c.args.repo.now).view.now (g.T.Tree.state c.args.tree.now).nodes o.name c.args.told.now o.inside.now o.wanted c.requires.tells o.below
-          (g.T.Tree.state c.serve_file.new.tree).nodes c.in_ok-serve_file.field-0 no c.in_ok-serve_file.ensures.puts,
+          (g.T.Tree.state c.serve_file.new.tree).nodes c.in_ok-serve_file.field-0 no (c.in_ok-serve_file.ensures.puts (g.D.Disk.state c.args.repo.now).view.now (inl refl) c.requires.pair),
     )
 
 pub returns-in_ok-from_str-clause-given : goal.returns-in_ok-from_str-clause-given
@@ -51,4 +51,4 @@ returns-in_ok-from_str-clause-given g c = λ s some now.
     let no : c.in_ok-serve_file.field-0 ≡ false = search rules in
     misses_archived c.args.stanza.now o.folder.now o.word.now o.path.now repo nodes s some now
     (misses c.args.stanza.now o.folder.now o.word.now o.path.now repo nodes o.name c.args.told.now o.inside.now o.wanted c.requires.tells o.below
-    (g.T.Tree.state c.serve_file.new.tree).nodes c.in_ok-serve_file.field-0 no c.in_ok-serve_file.ensures.puts)
+    (g.T.Tree.state c.serve_file.new.tree).nodes c.in_ok-serve_file.field-0 no (c.in_ok-serve_file.ensures.puts (g.D.Disk.state c.args.repo.now).view.now (inl refl) c.requires.pair))

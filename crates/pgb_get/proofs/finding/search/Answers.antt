@@ -1,14 +1,15 @@
-use Rattle.std.proofs.Common.{rules, arith, ◌≡◌, ◌++◌, ◌∷◌, ◌∙◌, [], Bool, true, false, Option, Ok, subst}
+use Rattle.std.proofs.Common.{rules, arith, inl, refl, ◌≡◌, ◌++◌, ◌∷◌, ◌∙◌, [], Bool, true, false, Option, Ok, subst}
 use Rattle.std.specs.Prelude.{IfSome}
 use Rattle.pgb_outside.specs.Content.{Content}
 use Rattle.pgb_outside.specs.Cause.{Rises}
 use Rattle.pgb_archive.specs.Stored.{StoresNone}
 use Rattle.pgb_stage.specs.Current.{id_kept}
 use Rattle.pgb_get.specs.Getting.{IsSame, FoundIn}
-use Rattle.pgb_get.specs.Serving.{RoseIn, AreBytes, Puts, UnderCause, SearchCause}
+use Rattle.pgb_get.specs.Serving.{RoseIn, AreBytes, AreBytesUnder, IsUnstoredUnder, Puts, UnderCause, SearchCause, IsLeft}
 use Rattle.pgb_outside.proofs.States.{looks_on}
 use Rattle.pgb_stage.specs.Halts.{HaltCause}
 use Rattle.pgb_get.proofs.Stops.{handed_on}
+use Rattle.pgb_get.proofs.Left.{left_front, left_back}
 use Rattle.pgb_get.proofs.Passes.{goes_as}
 use Rattle.pgb_get.proofs.Searches.{parts_on, more_absent, found_in, cause_in}
 use Rattle.pgb_get.proofs.finding.search.Goals as goal
@@ -24,7 +25,7 @@ returns-in_err-serve_under-clause-changes g c =
     let is = parts_on c.args.history.now c.loop-cluster.rest.now c.in-Some.earlier.now cluster i.parts.0 i.parts.1 last in
     let now = (g.D.Disk.state c.args.repo.now).view.now in
     goes_as (λ b. IsSame told cluster × AreBytes stanza (id_kept cluster) name (g.D.Disk.state c.loop-cluster.repo).view.now b) (λ b. IfSome now (FoundIn c.args.history.now stanza told name b)) c.args.order.now.inside.now _ _ _ i.nodes
-    (λ b h. found_in stanza told name c.args.history.now c.in-Some.earlier.now cluster i.parts.0 is c.requires.numbers h.0 now b i.parts.2 (subst (λ (o : Option Content). AreBytes stanza (id_kept cluster) name o b) i.looks.now h.1))
+    (λ b h. found_in stanza told name c.args.history.now c.in-Some.earlier.now cluster i.parts.0 is c.requires.numbers h.0 now b (i.parts.2 now (inl refl)) (subst (λ (o : Option Content). AreBytes stanza (id_kept cluster) name o b) i.looks.now h.1))
     c.in_err-serve_under.ensures.changes
 
 pub returns-in_err-serve_under-clause-cause : goal.returns-in_err-serve_under-clause-cause
@@ -42,11 +43,11 @@ returns-in_err-serve_under-clause-cause g c =
     let e = c.in_err-serve_under.field-0.0 in
     let under = subst (λ (o : Option Content). HaltCause (UnderCause cluster stanza told name o) (RoseIn disk_rose tree_rose) e) i.looks.now c.in_err-serve_under.ensures.cause in
     handed_on (UnderCause cluster stanza told name now) (SearchCause c.args.history.now stanza told name now) disk_rose tree_rose _ _
-    (cause_in stanza told name c.args.history.now c.in-Some.earlier.now cluster i.parts.0 is c.requires.numbers now i.parts.2)
+    (cause_in stanza told name c.args.history.now c.in-Some.earlier.now cluster i.parts.0 is c.requires.numbers now (i.parts.2 now (inl refl)))
     (λ r. omega (arith, r, i.looks.later)) (λ r. omega (arith, r, i.tree_later)) c.from_residual.result e c.from_residual.ensures.1 under
 
 pub returns-then-branch-clause-puts : goal.returns-then-branch-clause-puts
-returns-then-branch-clause-puts g c =
+returns-then-branch-clause-puts g c = λ f left.
     let i = c.loop-cluster.invariant in
     let stanza = c.args.stanza.now in
     let told = c.args.told.now in
@@ -54,11 +55,13 @@ returns-then-branch-clause-puts g c =
     let cluster = c.in-Some.cluster.now in
     let last : c.loop-cluster.rest.now ≡ c.in-Some.earlier.now ++ cluster ∷ [] = search rules in
     let is = parts_on c.args.history.now c.loop-cluster.rest.now c.in-Some.earlier.now cluster i.parts.0 i.parts.1 last in
-    let now = (g.D.Disk.state c.args.repo.now).view.now in
     let served : c.in_ok-serve_under.field-0 ≡ true = search rules in
-    let h = subst (λ (b : Bool). Puts (Ok b) (λ b. IsSame told cluster × AreBytes stanza (id_kept cluster) name (g.D.Disk.state c.loop-cluster.repo).view.now b) (IsSame told cluster → IfSome (g.D.Disk.state c.loop-cluster.repo).view.now (StoresNone stanza (id_kept cluster) name)) c.args.order.now.inside.now (g.T.Tree.state c.loop-cluster.tree).nodes (g.T.Tree.state c.serve_under.new.tree).nodes) served c.in_ok-serve_under.ensures.puts in (
+    let looks = c.serve_under.ensures.looks in
+    let before = left_front stanza (g.D.Disk.state c.args.repo.now).view (g.D.Disk.state c.loop-cluster.repo).view (g.D.Disk.state c.serve_under.new.repo).view looks.time looks.now f left in
+    let behind = left_back stanza (g.D.Disk.state c.args.repo.now).view (g.D.Disk.state c.loop-cluster.repo).view (g.D.Disk.state c.serve_under.new.repo).view i.looks.time i.looks.now f left in
+    let h = subst (λ (b : Bool). Puts (Ok b) (AreBytesUnder cluster stanza told name f) (IsUnstoredUnder cluster stanza told name f) c.args.order.now.inside.now (g.T.Tree.state c.loop-cluster.tree).nodes (g.T.Tree.state c.serve_under.new.tree).nodes) served (c.in_ok-serve_under.ensures.puts f behind) in (
       h.0,
-      found_in stanza told name c.args.history.now c.in-Some.earlier.now cluster i.parts.0 is c.requires.numbers h.1.0 now h.0 i.parts.2 (subst (λ (o : Option Content). AreBytes stanza (id_kept cluster) name o h.0) i.looks.now h.1.1),
+      found_in stanza told name c.args.history.now c.in-Some.earlier.now cluster i.parts.0 is c.requires.numbers h.1.0 f h.0 (i.parts.2 f before) h.1.1,
       h.2,
     )
 
@@ -73,7 +76,7 @@ returns-then-branch-clause-changes g c =
     let is = parts_on c.args.history.now c.loop-cluster.rest.now c.in-Some.earlier.now cluster i.parts.0 i.parts.1 last in
     let now = (g.D.Disk.state c.args.repo.now).view.now in
     goes_as (λ b. IsSame told cluster × AreBytes stanza (id_kept cluster) name (g.D.Disk.state c.loop-cluster.repo).view.now b) (λ b. IfSome now (FoundIn c.args.history.now stanza told name b)) c.args.order.now.inside.now _ _ _ i.nodes
-    (λ b h. found_in stanza told name c.args.history.now c.in-Some.earlier.now cluster i.parts.0 is c.requires.numbers h.0 now b i.parts.2 (subst (λ (o : Option Content). AreBytes stanza (id_kept cluster) name o b) i.looks.now h.1))
+    (λ b h. found_in stanza told name c.args.history.now c.in-Some.earlier.now cluster i.parts.0 is c.requires.numbers h.0 now b (i.parts.2 now (inl refl)) (subst (λ (o : Option Content). AreBytes stanza (id_kept cluster) name o b) i.looks.now h.1))
     c.in_ok-serve_under.ensures.changes
 
 pub loop-cluster-preserved : goal.loop-cluster-preserved
@@ -85,13 +88,18 @@ loop-cluster-preserved g c =
     let cluster = c.in-Some.cluster.now in
     let last : c.loop-cluster.rest.now ≡ c.in-Some.earlier.now ++ cluster ∷ [] = search rules in
     let is = parts_on c.args.history.now c.loop-cluster.rest.now c.in-Some.earlier.now cluster i.parts.0 i.parts.1 last in
-    let now = (g.D.Disk.state c.args.repo.now).view.now in
     let none : c.in_ok-serve_under.field-0 ≡ false = search rules in
-    let h = subst (λ (b : Bool). Puts (Ok b) (λ b. IsSame told cluster × AreBytes stanza (id_kept cluster) name (g.D.Disk.state c.loop-cluster.repo).view.now b) (IsSame told cluster → IfSome (g.D.Disk.state c.loop-cluster.repo).view.now (StoresNone stanza (id_kept cluster) name)) c.args.order.now.inside.now (g.T.Tree.state c.loop-cluster.tree).nodes (g.T.Tree.state c.serve_under.new.tree).nodes) none c.in_ok-serve_under.ensures.puts in
+    let looks = c.serve_under.ensures.looks in
+    let was = (g.D.Disk.state c.args.repo.now).view in
+    let mid = (g.D.Disk.state c.loop-cluster.repo).view in
+    let end = (g.D.Disk.state c.serve_under.new.repo).view in
+    let missed = λ (f : Option Content) (left : IsLeft stanza was end f).
+    subst (λ (b : Bool). Puts (Ok b) (AreBytesUnder cluster stanza told name f) (IsUnstoredUnder cluster stanza told name f) c.args.order.now.inside.now (g.T.Tree.state c.loop-cluster.tree).nodes (g.T.Tree.state c.serve_under.new.tree).nodes) none
+    (c.in_ok-serve_under.ensures.puts f (left_back stanza was mid end i.looks.time i.looks.now f left)) in
     record {
-      parts = (cluster ∷ i.parts.0, is, more_absent stanza told name now cluster i.parts.0 (subst (λ (o : Option Content). IsSame told cluster → IfSome o (StoresNone stanza (id_kept cluster) name)) i.looks.now h.0) i.parts.2);
-      nodes = h.1 ∙ i.nodes;
-      looks = looks_on _ _ _ i.looks c.serve_under.ensures.looks;
+      parts = (cluster ∷ i.parts.0, is, λ f left. more_absent stanza told name f cluster i.parts.0 (missed f left).0 (i.parts.2 f (left_front stanza was mid end looks.time looks.now f left)));
+      nodes = (missed was.now (inl refl)).1 ∙ i.nodes;
+      looks = looks_on _ _ _ i.looks looks;
       tree_place = c.serve_under.ensures.tree_place ∙ i.tree_place;
       tree_later = omega (arith, i.tree_later, c.serve_under.ensures.tree_later);
     }

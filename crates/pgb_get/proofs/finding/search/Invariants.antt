@@ -1,13 +1,15 @@
-use Rattle.std.proofs.Common.{◌≡◌, ◌≤◌, ◌++◌, List, length}
+use Rattle.std.proofs.Common.{◌≡◌, ◌≤◌, ◌++◌, List, length, Option}
 use Rattle.std.specs.Prelude.{IfSome}
+use Rattle.pgb_outside.specs.Content.{Content}
 use Rattle.pgb_outside.specs.States.{Looks}
 use Rattle.pgb_model.specs.declared.clusters.ClusterId.{ClusterId}
 use Rattle.pgb_get.specs.Getting.{AbsentIn}
+use Rattle.pgb_get.specs.Serving.{IsLeft}
 use Rattle.pgb_get.proofs.finding.search.Given as goal
 
 abbrev pub invariant-loop-cluster : goal.invariant-loop-cluster
 invariant-loop-cluster g l = let D = g.D.Disk in let T = g.T.Tree in record {
-  parts : (seen : List ClusterId) × (l.history ≡ l.rest ++ seen) × IfSome (D.state l.fn.repo).view.now (AbsentIn seen l.stanza l.told l.order.name);
+  parts : (seen : List ClusterId) × (l.history ≡ l.rest ++ seen) × ((f : Option Content) → IsLeft l.stanza (D.state l.fn.repo).view (D.state l.repo).view f → IfSome f (AbsentIn seen l.stanza l.told l.order.name));
   nodes : (T.state l.tree).nodes ≡ (T.state l.fn.tree).nodes;
   looks : Looks (D.state l.fn.repo) (D.state l.repo);
   tree_place : (T.state l.tree).opened ≡ (T.state l.fn.tree).opened;

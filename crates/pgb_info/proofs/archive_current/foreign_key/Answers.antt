@@ -3,7 +3,7 @@ use Rattle.serde_json.specs.View.{view}
 use Rattle.pgb_model.specs.Text.{In}
 use Rattle.pgb_ini.specs.Parts.{key_of}
 use Rattle.pgb_info.specs.ArchiveForm.{cluster_keys}
-use Rattle.pgb_info.proofs.Seeking.{here, whole_next, others_next, others_end}
+use Rattle.pgb_keys.proofs.Seeking.{here, whole_next, others_next, others_end}
 use Rattle.pgb_info.proofs.archive_current.foreign_key.Goals as goal
 
 pub returns-then-not-is_cluster_key-clause-some : goal.returns-then-not-is_cluster_key-clause-some

@@ -1,7 +1,7 @@
 use Rattle.pgb_model.specs.Text.{In}
 use Rattle.pgb_ini.specs.Parts.{key_of}
 use Rattle.pgb_info.specs.ArchiveForm.{cluster_keys}
-use Rattle.pgb_info.proofs.Seeking.{Whole, Others}
+use Rattle.pgb_keys.proofs.Seeking.{Whole, Others}
 use Rattle.pgb_info.proofs.archive_current.foreign_key.Given as goal
 
 -- a key that isn't a cluster's is to come, and the keys to come are of the whole

@@ -5,12 +5,12 @@ use Rattle.pgb_model.specs.InfoText.{IsSection}
 use Rattle.pgb_model.specs.InfoFiles.{IsClusterId, cluster_id_field}
 use Rattle.pgb_ini.specs.Parts.{section_of, sections_of}
 use Rattle.pgb_info.specs.ArchiveForm.{IsArchiveForm, IsWrongCurrent}
-use Rattle.pgb_info.specs.Agree.{db as db_name, db_history}
+use Rattle.pgb_keys.specs.Agree.{db as db_name, db_history}
 use Rattle.pgb_info.specs.History.{IsWrongHistory}
 use Rattle.pgb_info.proofs.ArchiveForms.{no_db, db_form, db_found, no_history, history_form, value_sections}
-use Rattle.pgb_info.proofs.CurrentRules.{form_as, form_wide}
+use Rattle.pgb_keys.proofs.Forms.{form_as, form_wide}
 use Rattle.pgb_info.proofs.IdentityFields.{identities_are_numbered}
-use Rattle.pgb_info.proofs.Numbers.{all_in}
+use Rattle.pgb_keys.proofs.Numbers.{all_in}
 use Rattle.pgb_info.proofs.archive_reading.archive_of.Goals as goal
 
 pub returns-in_default-clause-fault : goal.returns-in_default-clause-fault

@@ -6,9 +6,9 @@ use Rattle.pgb_model.specs.InfoText.{IsSection, has_keys}
 use Rattle.pgb_ini.specs.Parts.{key_of, section_of, sections_of}
 use Rattle.pgb_info.specs.ArchiveForm.{IsArchiveForm}
 use Rattle.pgb_info.proofs.ArchiveForms.{foreign_form}
-use Rattle.pgb_info.proofs.CurrentRules.{form_as}
-use Rattle.pgb_info.proofs.Numbers.{all_in}
-use Rattle.pgb_info.proofs.Seeking.{here}
+use Rattle.pgb_keys.proofs.Forms.{form_as}
+use Rattle.pgb_keys.proofs.Numbers.{all_in}
+use Rattle.pgb_keys.proofs.Seeking.{here}
 use Rattle.pgb_info.proofs.archive_reading.foreign.Goals as goal
 
 abbrev Keys : Type 0

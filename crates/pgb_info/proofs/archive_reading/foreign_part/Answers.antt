@@ -2,7 +2,7 @@ use Rattle.std.proofs.Common.{inr, List, ℕ, subst}
 use Rattle.pgb_model.specs.Text.{In}
 use Rattle.pgb_ini.specs.Parts.{section_of}
 use Rattle.pgb_info.specs.ArchiveForm.{section_names}
-use Rattle.pgb_info.proofs.Seeking.{here, whole_next, others_next, others_end}
+use Rattle.pgb_keys.proofs.Seeking.{here, whole_next, others_next, others_end}
 use Rattle.pgb_info.proofs.archive_reading.foreign_part.Goals as goal
 
 pub returns-then-not-is_section-clause-some : goal.returns-then-not-is_section-clause-some

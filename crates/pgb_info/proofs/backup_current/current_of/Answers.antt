@@ -5,11 +5,11 @@ use Rattle.pgb_model.specs.InfoText.{Section, IsKey}
 use Rattle.pgb_model.specs.Fields.{Field}
 use Rattle.pgb_model.specs.InfoFiles.{IsCluster}
 use Rattle.pgb_ini.specs.Parts.{key_of}
-use Rattle.pgb_info.specs.Agree.{db as db_name, IsOrdered}
-use Rattle.pgb_info.specs.BackupForm.{IsFirstDifference, IsWrongCluster}
+use Rattle.pgb_keys.specs.Agree.{db as db_name, IsOrdered, IsFirstDifference}
+use Rattle.pgb_info.specs.BackupForm.{IsWrongCluster}
 use Rattle.pgb_info.proofs.BackupRules.{db_rules}
 use Rattle.pgb_info.proofs.ClusterKeys.{IsCandidate, wrong_cluster}
-use Rattle.pgb_info.proofs.CurrentRules.{form_as}
+use Rattle.pgb_keys.proofs.Forms.{form_as}
 use Rattle.pgb_info.proofs.backup_current.current_of.Goals as goal
 
 abbrev Keys : Type 0

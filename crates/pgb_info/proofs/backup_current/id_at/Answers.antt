@@ -1,7 +1,7 @@
 use Rattle.std.proofs.Common.{map, refl}
 use Rattle.pgb_model.specs.Fields.{whole}
 use Rattle.pgb_ini.specs.Parts.{key_of}
-use Rattle.pgb_info.proofs.ClusterKeys.{one_number}
+use Rattle.pgb_keys.proofs.Keyed.{one_number}
 use Rattle.pgb_info.proofs.backup_current.id_at.Goals as goal
 
 pub returns-in-Some-clause-only : goal.returns-in-Some-clause-only

@@ -8,13 +8,13 @@ use Rattle.pgb_model.specs.InfoText.{Section, IsSection}
 use Rattle.pgb_model.specs.InfoFiles.{IsCluster, cluster_field}
 use Rattle.pgb_model.specs.Values.{entry_of}
 use Rattle.pgb_ini.specs.Parts.{key_of, section_of, sections_of}
-use Rattle.pgb_info.specs.Agree.{db as db_name, db_history}
-use Rattle.pgb_info.specs.BackupForm.{backup_current, highest, IsBackupForm, IsKeysOf, IsWrongBackup, IsWrongCluster}
+use Rattle.pgb_keys.specs.Agree.{db as db_name, db_history, IsKeysOf}
+use Rattle.pgb_info.specs.BackupForm.{backup_current, highest, IsBackupForm, IsWrongBackup, IsWrongCluster}
 use Rattle.pgb_info.specs.History.{IsWrongHistory}
 use Rattle.pgb_info.proofs.BackupForms.{listed_form, db_form, no_history, history_form, value_rules, value_sections}
 use Rattle.pgb_info.proofs.ClusterFields.{clusters_are_numbered}
-use Rattle.pgb_info.proofs.CurrentRules.{form_as, form_wide}
-use Rattle.pgb_info.proofs.Numbers.{all_in}
+use Rattle.pgb_keys.proofs.Forms.{form_as, form_wide}
+use Rattle.pgb_keys.proofs.Numbers.{all_in}
 use Rattle.pgb_info.proofs.backup_reading.backup_of.Goals as goal
 
 named_as : (ss : List Section) (n m key : Text) → n ≡ m → IsBackupForm ss m key → IsBackupForm ss n key

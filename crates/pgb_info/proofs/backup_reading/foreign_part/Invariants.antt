@@ -1,7 +1,7 @@
 use Rattle.pgb_model.specs.Text.{In}
 use Rattle.pgb_ini.specs.Parts.{section_of}
 use Rattle.pgb_info.specs.BackupForm.{backup_names}
-use Rattle.pgb_info.proofs.Seeking.{Whole, Others}
+use Rattle.pgb_keys.proofs.Seeking.{Whole, Others}
 use Rattle.pgb_info.proofs.backup_reading.foreign_part.Given as goal
 
 -- a section that isn't one of the three is to come, and the sections to come are of the whole

@@ -6,7 +6,7 @@ use Rattle.pgb_model.specs.declared.clusters.Cluster.{Cluster}
 use Rattle.pgb_model.specs.Fields.{whole}
 use Rattle.pgb_model.specs.InfoFiles.{version_value}
 use Rattle.pgb_info.proofs.ClusterFields.{same_parts}
-use Rattle.pgb_info.proofs.Identities.{same_number, same_version, same_data}
+use Rattle.pgb_keys.proofs.Scalars.{same_number, same_version, same_data}
 use Rattle.pgb_info.proofs.cluster_reading.members_in.Goals as goal
 
 pub returns-clause-only : goal.returns-clause-only

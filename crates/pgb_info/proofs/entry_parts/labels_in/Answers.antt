@@ -8,9 +8,9 @@ use Rattle.pgb_model.specs.Text.{In}
 use Rattle.pgb_model.specs.InfoFiles.{IsLabel, label_value}
 use Rattle.pgb_ini.proofs.Steps.{each_push}
 use Rattle.pgb_info.proofs.EntryParts.{items_are, same_labels, some_labels}
-use Rattle.pgb_info.proofs.Numbers.{all_in, map_in}
-use Rattle.pgb_info.proofs.Read.{read_next, read_end}
-use Rattle.pgb_info.proofs.Seeking.{here, whole_next}
+use Rattle.pgb_keys.proofs.Numbers.{all_in, map_in}
+use Rattle.pgb_keys.proofs.Read.{read_next, read_end}
+use Rattle.pgb_keys.proofs.Seeking.{here, whole_next}
 use Rattle.pgb_info.proofs.entry_parts.labels_in.Goals as goal
 
 pub returns-in_default-label_in-clause-only : goal.returns-in_default-label_in-clause-only

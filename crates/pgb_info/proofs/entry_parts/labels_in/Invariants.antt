@@ -2,7 +2,7 @@ use Rattle.std.proofs.Common.{◌≡◌, ◌++◌, map, drop}
 use Rattle.std.specs.List.{AllByRecursion}
 use Rattle.serde_json.specs.View.{view}
 use Rattle.pgb_model.specs.InfoFiles.{IsLabel, label_value}
-use Rattle.pgb_info.proofs.Seeking.{Whole}
+use Rattle.pgb_keys.proofs.Seeking.{Whole}
 use Rattle.pgb_info.proofs.entry_parts.labels_in.Given as goal
 
 -- the labels that are read and the items to come are the whole

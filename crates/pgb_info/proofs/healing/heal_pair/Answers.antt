@@ -4,7 +4,7 @@ use Rattle.pgb_outside.specs.Crash.{NowGoes, SomeOf}
 use Rattle.pgb_model.specs.InfoText.{info_text}
 use Rattle.pgb_model.specs.Pair.{PairIs}
 use Rattle.pgb_model.specs.Create.{member_writes}
-use Rattle.pgb_model.proofs.Temporary.{info_lasts, copy_at_lasts}
+use Rattle.pgb_model.proofs.Temporary.{copy_at_lasts}
 use Rattle.pgb_info.proofs.Mends.{no_crash, rest_then, healed_crash, healed_now, no_value, still_told}
 use Rattle.pgb_info.proofs.healing.heal_pair.Goals as goal
 
@@ -24,8 +24,7 @@ returns-in_err-mend_pair-clause-crash g c = λ v has main copy.
     let name = c.args.name.now in
     let x = c.in_ok-value.value in
     let bytes = info_text (g.I.Info.sections x) in
-    let named = c.requires.named in
-    let written = rest_then name bytes _ _ _ (info_lasts named.folder named.front name named.is) (copy_at_lasts name _ refl) c.load_pair.ensures.looks.time c.load_pair.ensures.looks.now c.mend_pair.ensures.crash main copy in
+    let written = rest_then name bytes _ _ _ c.requires.named.lasting (copy_at_lasts name _ refl) c.load_pair.ensures.looks.time c.load_pair.ensures.looks.now c.mend_pair.ensures.crash main copy in
     healed_crash g.I.ReadInfo.IsText g.I.ReadInfo.text g.met.I.ReadInfo.one_text name v (g.I.ReadInfo.value x) bytes _ _ (g.met.I.ReadInfo.own_text x) c.in_ok-value.ensures.found has written
 
 pub returns-clause-now_part : goal.returns-clause-now_part
@@ -41,8 +40,7 @@ returns-clause-crash g c = λ v has main copy.
     let name = c.args.name.now in
     let x = c.in_ok-value.value in
     let bytes = info_text (g.I.Info.sections x) in
-    let named = c.requires.named in
-    let written = rest_then name bytes _ _ _ (info_lasts named.folder named.front name named.is) (copy_at_lasts name _ refl) c.load_pair.ensures.looks.time c.load_pair.ensures.looks.now c.mend_pair.ensures.crash main copy in
+    let written = rest_then name bytes _ _ _ c.requires.named.lasting (copy_at_lasts name _ refl) c.load_pair.ensures.looks.time c.load_pair.ensures.looks.now c.mend_pair.ensures.crash main copy in
     healed_crash g.I.ReadInfo.IsText g.I.ReadInfo.text g.met.I.ReadInfo.one_text name v (g.I.ReadInfo.value x) bytes _ _ (g.met.I.ReadInfo.own_text x) c.in_ok-value.ensures.found has written
 
 pub returns-in_err-mend_pair-clause-idle : goal.returns-in_err-mend_pair-clause-idle

@@ -1,6 +1,6 @@
 use Rattle.std.proofs.Common.{◌∙◌}
 use Rattle.std.proofs.lemmas.Result.{on_ok_weaker}
-use Rattle.pgb_model.proofs.Temporary.{info_lasts, copy_at_lasts}
+use Rattle.pgb_model.proofs.Temporary.{copy_at_lasts}
 use Rattle.pgb_info.proofs.Mends.{both_crash, both_now, both_held, first_crash, first_now, none_now, no_writes}
 use Rattle.pgb_info.proofs.Onward.{still, frame_on, rises_on}
 use Rattle.pgb_info.proofs.Saved.{main_folder, copy_folder}
@@ -13,7 +13,7 @@ pub returns-in_err-temporary-clause-crash : goal.returns-in_err-temporary-clause
 returns-in_err-temporary-clause-crash g c = λ main copy. no_writes c.args.name.now c.args.text.now _
 
 pub mend-requires-clause-lasting : goal.mend-requires-clause-lasting
-mend-requires-clause-lasting g c = info_lasts c.requires.folder c.requires.front c.args.name.now c.requires.is
+mend-requires-clause-lasting g c = c.requires.lasting
 
 pub returns-in_err-mend-clause-crash : goal.returns-in_err-mend-clause-crash
 returns-in_err-mend-clause-crash g c = λ main copy. first_crash c.args.name.now c.args.text.now _ _ (c.mend.ensures.crash main)
@@ -24,12 +24,12 @@ mend-requires-2-clause-lasting g c = copy_at_lasts c.args.name.now _ (c.as_str-3
 pub returns-clause-crash : goal.returns-clause-crash
 returns-clause-crash g c =
     let is = c.as_str-3.ensures.value ∙ c.in_ok-copy.ensures in
-    both_crash c.args.name.now c.args.text.now c.as_str-3.result.now is (info_lasts c.requires.folder c.requires.front c.args.name.now c.requires.is) (copy_at_lasts c.args.name.now _ is) _ _ _ c.mend.ensures.crash c.mend-2.ensures.crash
+    both_crash c.args.name.now c.args.text.now c.as_str-3.result.now is c.requires.lasting (copy_at_lasts c.args.name.now _ is) _ _ _ c.mend.ensures.crash c.mend-2.ensures.crash
 
 pub returns-clause-now_part : goal.returns-clause-now_part
 returns-clause-now_part g c =
     let is = c.as_str-3.ensures.value ∙ c.in_ok-copy.ensures in
-    both_now c.args.name.now c.args.text.now c.as_str-3.result.now is (info_lasts c.requires.folder c.requires.front c.args.name.now c.requires.is) (copy_at_lasts c.args.name.now _ is) _ _ _ c.mend.ensures.now_part c.mend-2.ensures.now_part
+    both_now c.args.name.now c.args.text.now c.as_str-3.result.now is c.requires.lasting (copy_at_lasts c.args.name.now _ is) _ _ _ c.mend.ensures.now_part c.mend-2.ensures.now_part
 
 pub mend-requires-clause-folder : goal.mend-requires-clause-folder
 mend-requires-clause-folder g c = main_folder c.args.name.now _ _ c.requires (c.as_str.ensures.value ∙ c.in_ok-temporary.ensures)
@@ -70,4 +70,4 @@ returns-clause-cause g c = λ bad. rises_on _ _ _ c.mend.ensures.frame.later (c.
 pub returns-clause-mended : goal.returns-clause-mended
 returns-clause-mended g c =
     let is = c.as_str-3.ensures.value ∙ c.in_ok-copy.ensures in
-    on_ok_weaker _ (λ held. both_held c.args.name.now c.args.text.now c.as_str-3.result.now is (info_lasts c.requires.folder c.requires.front c.args.name.now c.requires.is) (copy_at_lasts c.args.name.now _ is) _ _ c.mend-2.ensures.untold c.mend-2.ensures.now_part c.in_ok-mend.ensures.mended held) c.mend-2.ensures.mended
+    on_ok_weaker _ (λ held. both_held c.args.name.now c.args.text.now c.as_str-3.result.now is c.requires.lasting (copy_at_lasts c.args.name.now _ is) _ _ c.mend-2.ensures.untold c.mend-2.ensures.now_part c.in_ok-mend.ensures.mended held) c.mend-2.ensures.mended

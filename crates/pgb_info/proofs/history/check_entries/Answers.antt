@@ -6,8 +6,8 @@ use Rattle.pgb_model.specs.Text.{In}
 use Rattle.pgb_model.specs.InfoText.{IsKey}
 use Rattle.pgb_ini.specs.Parts.{key_of, keys_of}
 use Rattle.pgb_info.proofs.HistoryRules.{strange_here}
-use Rattle.pgb_info.proofs.Numbers.{all_in}
-use Rattle.pgb_info.proofs.Seeking.{here, whole_next}
+use Rattle.pgb_keys.proofs.Numbers.{all_in}
+use Rattle.pgb_keys.proofs.Seeking.{here, whole_next}
 use Rattle.pgb_info.proofs.history.check_entries.Goals as goal
 
 abbrev Keys : Type 0

@@ -1,6 +1,6 @@
 use Rattle.std.proofs.Common.{◌≡◌}
 use Rattle.pgb_ini.specs.Parts.{key_of}
-use Rattle.pgb_info.proofs.Seeking.{Whole}
+use Rattle.pgb_keys.proofs.Seeking.{Whole}
 use Rattle.pgb_info.proofs.history.check_entries.Given as goal
 
 -- the keys to come are of the section

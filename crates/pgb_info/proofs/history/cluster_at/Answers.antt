@@ -7,7 +7,7 @@ use Rattle.pgb_model.specs.Text.{In}
 use Rattle.pgb_model.specs.InfoText.{IsKey}
 use Rattle.pgb_ini.specs.Parts.{key_of, keys_of}
 use Rattle.pgb_info.proofs.HistoryRules.{missing, too_many, other_value, other_current, told}
-use Rattle.pgb_info.proofs.Numbers.{all_in, unlike}
+use Rattle.pgb_keys.proofs.Numbers.{all_in, unlike}
 use Rattle.pgb_info.proofs.history.cluster_at.Goals as goal
 
 abbrev Keys : Type 0

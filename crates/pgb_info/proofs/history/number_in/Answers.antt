@@ -1,5 +1,5 @@
 use Rattle.std.proofs.Common.{◌∙◌, sym, arith}
-use Rattle.pgb_info.proofs.Numbers.{no_number}
+use Rattle.pgb_keys.proofs.Numbers.{no_number}
 use Rattle.pgb_info.proofs.history.number_in.Goals as goal
 
 pub returns-in-Some-clause-none : goal.returns-in-Some-clause-none

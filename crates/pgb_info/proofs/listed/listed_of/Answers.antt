@@ -5,9 +5,9 @@ use Rattle.pgb_model.specs.InfoFiles.{entry_field, AreListed}
 use Rattle.pgb_model.specs.Values.{Entry, entry_of}
 use Rattle.pgb_ini.specs.Parts.{key_of}
 use Rattle.pgb_info.specs.BackupForm.{backup_current, IsWrongBackup}
-use Rattle.pgb_info.proofs.CurrentRules.{form_as}
+use Rattle.pgb_keys.proofs.Forms.{form_as}
 use Rattle.pgb_info.proofs.ListedKeys.{many, front_ordered, item_in, step_read, step_listed, step_wrong, walk_done, list_of_keys}
-use Rattle.pgb_info.proofs.Numbers.{all_in}
+use Rattle.pgb_keys.proofs.Numbers.{all_in}
 use Rattle.pgb_info.proofs.listed.listed_of.Goals as goal
 
 pub next_of-requires-clause-key : goal.next_of-requires-clause-key

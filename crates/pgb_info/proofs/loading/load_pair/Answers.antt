@@ -19,7 +19,7 @@ returns-in-Err-2-clause-looks g c = looks_on _ _ _ c.read_member.ensures.looks c
 pub returns-in-Err-2-clause-cause : goal.returns-in-Err-2-clause-cause
 returns-in-Err-2-clause-cause g c =
     let copy = copy_of c.args.name.now in
-    let second = subst (λ (o : Option Content). IfSome o (λ f. HasFault g.I.ReadInfo.IsText g.I.ReadInfo.IsForm f copy c.in-Err-2.copy)) c.read_member.ensures.looks.now (rw c.in-Err-2.is at c.in_ok-value-2.ensures.gives) in
-    cause_of g.I.ReadInfo.IsText g.I.ReadInfo.IsForm _ c.args.name.now copy _ c.in-Err.fault c.in-Err-2.copy c.of_both.result c.of_both.ensures refl
+    let second = subst (λ (o : Option Content). IfSome o (λ f. HasFault g.I.ReadInfo.IsText g.I.ReadInfo.IsForm g.I.Info.limit f copy c.in-Err-2.copy)) c.read_member.ensures.looks.now (rw c.in-Err-2.is at c.in_ok-value-2.ensures.gives) in
+    cause_of g.I.ReadInfo.IsText g.I.ReadInfo.IsForm g.I.Info.limit _ c.args.name.now copy _ c.in-Err.fault c.in-Err-2.copy c.of_both.result c.of_both.ensures refl
     (rw c.in-Err.is at c.in_ok-value.ensures.gives)
     second

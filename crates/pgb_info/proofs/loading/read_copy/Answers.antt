@@ -5,7 +5,7 @@ use Rattle.pgb_info.specs.Reading.{MemberGives}
 use Rattle.pgb_info.proofs.loading.read_copy.Goals as goal
 
 pub returns-clause-gives : goal.returns-clause-gives
-returns-clause-gives g c = subst (λ (n : Text). IfOk c.read_member.result (λ r. IfSome (g.D.Disk.state c.args.d.now).view.now (λ f. MemberGives g.I.ReadInfo.IsText g.I.ReadInfo.IsForm g.I.ReadInfo.value f n r))) (c.as_str.ensures.value ∙ c.in_ok-copy.ensures) c.read_member.ensures.gives
+returns-clause-gives g c = subst (λ (n : Text). IfOk c.read_member.result (λ r. IfSome (g.D.Disk.state c.args.d.now).view.now (λ f. MemberGives g.I.ReadInfo.IsText g.I.ReadInfo.IsForm g.I.ReadInfo.value g.I.Info.limit f n r))) (c.as_str.ensures.value ∙ c.in_ok-copy.ensures) c.read_member.ensures.gives
 
 pub returns-clause-valid : goal.returns-clause-valid
 returns-clause-valid g c = c.read_member.ensures.valid

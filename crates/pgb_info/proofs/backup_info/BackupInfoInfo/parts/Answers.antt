@@ -28,5 +28,5 @@ returns-clause-sections c =
     let at : at_number v.current clusters ≡ Some current = slice_get_read clusters (length clusters) (v.current - 1) current refl (omega arith) c.index-current.ensures in
     let kept : 0 < length clusters = omega arith in
     let entries = ap (λ es. listed (map entry_of es)) c.deref.ensures.value in
-    two_more c.in_ok-parts.parts.items _ _ _ _ (listed (map entry_of v.backups.items)) (db current) (history clusters) (c.in_ok-parts.ensures ∙ entries) c.in_ok-push.ensures.items c.in_ok-push-2.ensures.items c.in_ok-current_part.ensures (c.in_ok-history_part.ensures ∙ ap history c.deref-2.ensures.value)
+    two_more c.in_ok-parts.parts.items _ _ _ _ (listed (map entry_of v.backups.items)) (db current) (history clusters) (c.in_ok-parts.ensures ∙ entries) c.in_ok-push.ensures.items c.in_ok-push-2.ensures.items c.in_ok-cluster_part.ensures (c.in_ok-history_part.ensures ∙ ap history c.deref-2.ensures.value)
     ∙ sym (backup_sections_are (backup_info_of v) current kept at)

@@ -1,0 +1,78 @@
+-- What is served of the repository is so of what a crash leaves.
+use Rattle.std.proofs.Common.{◌≡◌, inl, inr, Bool, true, false, Option, Some, None, Result, Ok, Err, refl, sym, ◌∙◌, subst}
+use Rattle.std.specs.Prelude.{IfSome, IsSome, OnOk}
+use Rattle.sha1.specs.Sha1.{sha1}
+use Rattle.pgb_outside.specs.Content.{Name, Content}
+use Rattle.pgb_outside.specs.Crash.{Leaves, IsAlikeAt}
+use Rattle.pgb_outside.specs.Moments.{View, Rests}
+use Rattle.pgb_outside.specs.Tree.{Nodes}
+use Rattle.pgb_outside.proofs.Nows.{told_as}
+use Rattle.pgb_model.specs.declared.clusters.ClusterId.{ClusterId}
+use Rattle.pgb_model.specs.declared.wal.ArchiveId.{ArchiveId}
+use Rattle.pgb_model.specs.declared.wal.ArchiveName.{ArchiveName}
+use Rattle.pgb_model.specs.Text.{Text}
+use Rattle.pgb_model.specs.Walks.{IsTight}
+use Rattle.pgb_model.proofs.Begun.{old_leaves}
+use Rattle.pgb_model.proofs.Walking.{rests_tight}
+use Rattle.pgb_archive.specs.Pushes.{IsPathOf}
+use Rattle.pgb_archive.proofs.AlikeFiles.{alike_none, alike_bytes}
+use Rattle.pgb_stage.specs.declared.halt.Halt.{Halt}
+use Rattle.pgb_stage.specs.Current.{id_kept}
+use Rattle.pgb_stanza.specs.declared.control.Control.{Control}
+use Rattle.pgb_get.specs.declared.fault.GetFault.{GetFault}
+use Rattle.pgb_get.specs.Getting.{IsSame}
+use Rattle.pgb_get.specs.Serving.{Puts, AreBytes, IsUnstored, AreBytesUnder, IsUnstoredUnder, IsLeft, EndsAlike}
+
+-- ---- one call behind another
+
+module _ (stanza : Text) (a b d : View) where
+  -- it was left behind the first of two calls
+  pub left_front : Rests b d → d.now ≡ b.now → (f : Option Content) → IsLeft stanza a d f → IsLeft stanza a b f
+  left_front rests same f (inl is) = inl is
+  left_front rests same f (inr (tight, some, g, is, leaves)) = inr (tight, some, (g, is, old_leaves b d rests g same leaves))
+
+  -- it is left behind the second
+  pub left_back : Rests a b → b.now ≡ a.now → (f : Option Content) → IsLeft stanza a d f → IsLeft stanza b d f
+  left_back rests same f (inl is) = inl (is ∙ sym same)
+  left_back rests same f (inr (tight, some, g, is, leaves)) = inr (rests_tight stanza a b rests same tight, subst (λ (o : Option Content). IsSome o) (sym same) some, (g, is, leaves))
+
+-- what is alike stays so while only is read
+pub ends_alike_on : (stanza : Text) (id : ArchiveId) (name : ArchiveName) (a b d : View) → Rests b d → d.now ≡ b.now → EndsAlike stanza id name a b → EndsAlike stanza id name a d
+ends_alike_on stanza id name a b d rests same alike tight some f g now leaves n is = alike tight some f g (sym same ∙ now) (old_leaves b d rests g same leaves) n is
+
+-- ---- of what is alike
+
+module _ (stanza : Text) (id : ArchiveId) (name : ArchiveName) (a d : View) (same : d.now ≡ a.now) (alike : EndsAlike stanza id name a d) where
+  -- it has at the file's paths what the repository held
+  at_paths : (tight : IsTight stanza a) (some : IsSome a.now) (g : Content) → Leaves d d.moment g → (f : Content) × (a.now ≡ Some f) × ((n : Name) → IsPathOf stanza id name n → g n ≡ f n)
+  at_paths tight some g leaves = let f = told_as a.now some in (f.0, f.1, λ n is. alike tight some f.0 g (same ∙ f.1) leaves n is)
+
+  bytes_left : (f : Option Content) (bytes : Text) → IsLeft stanza a d f → AreBytes stanza id name a.now bytes → AreBytes stanza id name f bytes
+  bytes_left f bytes (inl is) h = subst (λ (o : Option Content). AreBytes stanza id name o bytes) (sym is) h
+  bytes_left f bytes (inr (tight, some, g, is, leaves)) h =
+      let x = at_paths tight some g leaves in
+      subst (λ (o : Option Content). AreBytes stanza id name o bytes) (sym is)
+      (alike_bytes stanza id name x.0 g x.2 (sha1 bytes) bytes (subst (λ (o : Option Content). AreBytes stanza id name o bytes) x.1 h))
+
+  unstored_left : (f : Option Content) → IsLeft stanza a d f → IsUnstored stanza id name a.now → IsUnstored stanza id name f
+  unstored_left f (inl is) h = subst (λ (o : Option Content). IsUnstored stanza id name o) (sym is) h
+  unstored_left f (inr (tight, some, g, is, leaves)) h =
+      let x = at_paths tight some g leaves in
+      subst (λ (o : Option Content). IsUnstored stanza id name o) (sym is)
+      (alike_none stanza id name x.0 g x.2 (subst (λ (o : Option Content). IsUnstored stanza id name o) x.1 h))
+
+-- what was served from under an id was so of all that is left
+pub puts_left : (stanza : Text) (id : ArchiveId) (name : ArchiveName) (a d : View) → d.now ≡ a.now → (result : Result Bool (Halt GetFault)) → OnOk result (EndsAlike stanza id name a d) → (inside : Text) (old new : Option Nodes)
+    → Puts result (AreBytes stanza id name a.now) (IsUnstored stanza id name a.now) inside old new
+    → (f : Option Content) → IsLeft stanza a d f → Puts result (AreBytes stanza id name f) (IsUnstored stanza id name f) inside old new
+puts_left stanza id name a d same (Ok true) alike inside old new h f left = (h.0, bytes_left stanza id name a d same alike f h.0 left h.1, h.2)
+puts_left stanza id name a d same (Ok false) alike inside old new h f left = (unstored_left stanza id name a d same alike f left h.0, h.1)
+puts_left stanza id name a d same (Err halt) alike inside old new h f left = h
+
+-- of the id of a cluster, which is the data folder's
+pub puts_under : (stanza : Text) (cluster : ClusterId) (told : Control) (name : ArchiveName) (f : Option Content) → IsSame told cluster → (id : ArchiveId) → id ≡ id_kept cluster → (result : Result Bool (Halt GetFault)) (inside : Text) (old new : Option Nodes)
+    → Puts result (AreBytes stanza id name f) (IsUnstored stanza id name f) inside old new
+    → Puts result (AreBytesUnder cluster stanza told name f) (IsUnstoredUnder cluster stanza told name f) inside old new
+puts_under stanza cluster told name f is id same (Ok true) inside old new h = (h.0, (is, subst (λ (i : ArchiveId). AreBytes stanza i name f h.0) same h.1), h.2)
+puts_under stanza cluster told name f is id same (Ok false) inside old new h = (λ of. subst (λ (i : ArchiveId). IsUnstored stanza i name f) same h.0, h.1)
+puts_under stanza cluster told name f is id same (Err halt) inside old new h = h

@@ -1,0 +1,10 @@
+pub mod Numbers
+pub mod Sorted
+pub mod Seeking
+pub mod Scalars
+pub mod Keyed
+pub mod ByKey
+pub mod Walked
+pub mod Halves
+pub mod Read
+pub mod Forms
