@@ -1,7 +1,7 @@
 -- What a push did, by what storing its file answers.
 use Rattle.std.proofs.Common.{◌≡◌, Option, Result, Ok, Err, refl, sym, subst}
 use Rattle.std.specs.Prelude.{IfErr, IsErrAnd, IsSomeAnd}
-use Rattle.pgb_outside.specs.Moments.{View, Rests}
+use Rattle.pgb_outside.specs.Moments.{View}
 use Rattle.pgb_outside.specs.Tree.{Nodes}
 use Rattle.pgb_model.specs.Text.{Text}
 use Rattle.pgb_model.specs.Steps.{Command}
@@ -11,7 +11,8 @@ use Rattle.pgb_archive.specs.declared.fault.PushFault.{PushFault as StoreFault}
 use Rattle.pgb_archive.specs.declared.fault.PushFault.TheVariants.{Archive, Source}
 use Rattle.pgb_archive.specs.Causes.{OnFinding}
 use Rattle.pgb_archive.specs.Pushing.{OnPushFinding}
-use Rattle.pgb_archive.specs.Still.{rests_none}
+use Rattle.pgb_archive.specs.Still.{IsStill, rests_none}
+use Rattle.pgb_stage.specs.declared.plan.Settling.TheVariants.{Looked}
 use Rattle.pgb_stage.specs.declared.object.Object.TheVariants as objects
 use Rattle.pgb_stage.specs.declared.halt.Halt.{Halt}
 use Rattle.pgb_stage.specs.declared.halt.Halt.TheVariants.{Refused, Failed, NoMemory as OutOfMemory}
@@ -47,10 +48,10 @@ halt_open OutOfMemory = stopped_open
 
 -- a call whose result is an error
 pub none_did : (stanza : Text) (command : Command) (v : View) (result : Result Outcome (Halt PushFault))
-    (e : Halt PushFault) → IsErrAnd result (λ h. h ≡ e) → Does stanza command (reached_by push_early result) v v
+    (e : Halt PushFault) → IsErrAnd result (λ h. h ≡ e) → Does Looked stanza command (reached_by push_early result) v v
 none_did stanza command v (Ok o) e is = absurd is
 none_did stanza command v (Err h) e is =
-    rests_does stanza command (reached_by push_early (Err h)) v v (halt_open h) (rests_none v) refl
+    rests_does Looked stanza command (reached_by push_early (Err h)) v v (halt_open h) (rests_none v) refl
 
 pub as_err : {T : Type 0} (result : Result T (Halt PushFault)) (e : Halt PushFault) (P : Halt PushFault → Type 0)
     → IsErrAnd result (λ h. h ≡ e) → P e → IfErr result P
@@ -59,18 +60,15 @@ as_err (Err h) e P is p = subst P (sym is) p
 
 -- ---- the file wasn't stored, or a part was done
 
-module _ (stanza : Text) (command : Command) (old new : View) (part : DoesPart stanza command old new) where
-  abbrev Same : Type 0
-  Same = (new.now ≡ old.now) × Rests old new
+module _ (stanza : Text) (command : Command) (old new : View) (part : DoesPart Looked stanza command old new) where
+  found : IsStill old new → Does Looked stanza command turned_back old new
+  found same = rests_does Looked stanza command turned_back old new back_open same.time same.now
 
-  found : Same → Does stanza command turned_back old new
-  found same = rests_does stanza command turned_back old new back_open same.1 same.0
-
-  halted : Does stanza command stopped old new
+  halted : Does Looked stanza command stopped old new
   halted = record { part = part; whole = tt; turned = tt }
 
-  archive_did : (e : ArchiveFault) → OnFinding e ((new.now ≡ old.now) × Rests old new)
-      → Does stanza command (reached_by push_early (Err (of_archive e))) old new
+  archive_did : (e : ArchiveFault) → OnFinding e (IsStill old new)
+      → Does Looked stanza command (reached_by push_early (Err (of_archive e))) old new
   archive_did (HeaderForm info) h = found h
   archive_did (SegmentSize told size) h = found h
   archive_did (HeaderMismatch kept other) h = found h
@@ -83,26 +81,26 @@ module _ (stanza : Text) (command : Command) (old new : View) (part : DoesPart s
   archive_did Disk h = halted
   archive_did NoMemory h = halted
 
-  store_did : (e : StoreFault) → OnPushFinding e ((new.now ≡ old.now) × Rests old new)
-      → Does stanza command (reached_by push_early (Err (of_store e))) old new
+  store_did : (e : StoreFault) → OnPushFinding e (IsStill old new)
+      → Does Looked stanza command (reached_by push_early (Err (of_store e))) old new
   store_did (Archive e) h = archive_did e h
   store_did Source h = halted
 
   pub halt_did : (h : Halt PushFault) (e : StoreFault) → h ≡ of_store e
-      → OnPushFinding e ((new.now ≡ old.now) × Rests old new)
-      → Does stanza command (reached_by push_early (Err h)) old new
+      → OnPushFinding e (IsStill old new)
+      → Does Looked stanza command (reached_by push_early (Err h)) old new
   halt_did h e is found_same = subst
-      (λ (k : Halt PushFault). Does stanza command (reached_by push_early (Err k)) old new) (sym is)
+      (λ (k : Halt PushFault). Does Looked stanza command (reached_by push_early (Err k)) old new) (sym is)
       (store_did e found_same)
 
   -- there was no memory behind it
   pub memory_did : (result : Result Outcome (Halt PushFault)) → IsErrAnd result (λ h. h ≡ OutOfMemory)
-      → Does stanza command (reached_by push_early result) old new
+      → Does Looked stanza command (reached_by push_early result) old new
   memory_did (Ok o) is = absurd is
-  memory_did (Err h) is = subst (λ (k : Halt PushFault). Does stanza command (reached_by push_early (Err k)) old new)
+  memory_did (Err h) is = subst (λ (k : Halt PushFault). Does Looked stanza command (reached_by push_early (Err k)) old new)
       (sym is) halted
 
-  pub end_did : DoesWhole stanza command old new → Does stanza command to_end old new
+  pub end_did : DoesWhole Looked stanza command old new → Does Looked stanza command to_end old new
   end_did whole = record { part = part; whole = whole; turned = tt }
 
 -- ---- a data folder that was only read

@@ -1,10 +1,10 @@
 -- A file that was opened, and what storing it does and answers; and why it isn't opened.
-use Rattle.std.proofs.Common.{◌≡◌, ◌∙◌, ℕ, ◌<◌, ◌^◌, [], ◌∷◌, Option, Some, Result}
+use Rattle.std.proofs.Common.{◌≡◌, ◌∙◌, ℕ, ◌<◌, ◌^◌, [], ◌∷◌, Option, Some, Result, subst}
 use Rattle.std.specs.Prelude.{IfSome, IsSome, IsSomeAnd, IfErr, IsErrAnd, string_bytes}
 use Rattle.sha1.specs.Sha1.{sha1}
 use Rattle.pgb_text.proofs.Digests.{IsSum-sha1}
 use Rattle.pgb_outside.specs.Content.{Content}
-use Rattle.pgb_outside.specs.Crash.{FirstOf, NowGoes}
+use Rattle.pgb_outside.specs.Crash.{FirstOf, NowGoes, IsAlikeAt}
 use Rattle.pgb_outside.specs.Moments.{View}
 use Rattle.pgb_outside.specs.Tree.{Nodes, known_path}
 use Rattle.pgb_model.specs.declared.clusters.ClusterId.{ClusterId}
@@ -12,19 +12,18 @@ use Rattle.pgb_model.specs.declared.wal.ArchiveId.{ArchiveId}
 use Rattle.pgb_model.specs.Text.{Text}
 use Rattle.pgb_model.specs.Fields.{at_number}
 use Rattle.pgb_model.specs.Names.{wal_text}
-use Rattle.pgb_model.specs.Repository.{Stanza}
-use Rattle.pgb_model.specs.Steps.{Command, after_all, push_of}
-use Rattle.pgb_model.specs.Now.{NowStands}
+use Rattle.pgb_model.specs.Steps.{Command}
 use Rattle.pgb_model.specs.Values.{ArchiveInfo}
-use Rattle.pgb_model.specs.Steady.{IsSteady, Moves}
-use Rattle.pgb_model.proofs.Segments.{IsPartOfPush, NowPartOfPush}
+use Rattle.pgb_model.specs.Walks.{IsTight}
 use Rattle.pgb_stanza.specs.declared.control.Control.{Control}
 use Rattle.pgb_stanza.specs.Pairs.{identity_kept, identity_told}
 use Rattle.pgb_archive.specs.Causes.{limit_of}
 use Rattle.pgb_archive.specs.declared.fault.PushFault.{PushFault as StoreFault}
 use Rattle.pgb_archive.specs.declared.pushing.Pushed.{Pushed}
 use Rattle.pgb_archive.specs.Stored.{archive_path}
+use Rattle.pgb_archive.specs.Pushes.{IsPathOf, LeavesPart, LeavesAll, Leaves, LeavesFile}
 use Rattle.pgb_archive.specs.Pushing.{IsPushedAs, PushFromCause}
+use Rattle.pgb_stage.specs.declared.plan.Settling.TheVariants.{Looked}
 use Rattle.pgb_stage.specs.declared.object.Object.TheVariants.{DataFolder}
 use Rattle.pgb_stage.specs.declared.halt.Halt.{Halt}
 use Rattle.pgb_stage.specs.Cluster.{FolderTells}
@@ -35,7 +34,7 @@ use Rattle.pgb_stage.specs.Runs.{DoesPart, DoesWhole}
 use Rattle.pgb_push.specs.declared.fault.PushFault.{PushFault}
 use Rattle.pgb_push.specs.declared.log_file.LogFile.{LogFile}
 use Rattle.pgb_push.specs.declared.order.PushOrder.{PushOrder}
-use Rattle.pgb_push.specs.Causes.{IsCurrent, PushCause, IsStored}
+use Rattle.pgb_push.specs.Causes.{IsCurrent, PushCause, IsStored, IsLasting}
 use Rattle.pgb_push.specs.Commands.{IsPushOf}
 use Rattle.pgb_push.specs.Faults.{of_store}
 use Rattle.pgb_push.specs.LogFile.{told_file, IsOpened}
@@ -44,7 +43,7 @@ use Rattle.pgb_push.specs.WalPath.{HasWal, wal_path}
 use Rattle.pgb_push.specs.WalCause.{FileCause}
 use Rattle.pgb_push.proofs.Doings.{as_err}
 use Rattle.pgb_push.proofs.Logged.{opened_there, told_bytes, read_bytes}
-use Rattle.pgb_push.proofs.Stores.{stores_part, stores_whole, agrees_on}
+use Rattle.pgb_push.proofs.Stores.{stores_part, stores_whole, agrees_on, current_on}
 use Rattle.pgb_push.proofs.StoreCauses.{file_of, is_current, file_ends, halt_ends, stored_as}
 
 module _ (stanza : Text) (order : PushOrder) (nodes : Option Nodes) (log : LogFile)
@@ -66,34 +65,39 @@ module _ (stanza : Text) (order : PushOrder) (nodes : Option Nodes) (log : LogFi
 
   module _ (system : Control) (old new : View)
       (at : (c : ClusterId) × (id ≡ id_kept c) × IsCurrent stanza old.now nodes system c)
-      (kept : IsSome old.now → IsSome new.now) where
-    pub opened_part : ((bytes : Text) → told_file nodes (known_path log.what) ≡ Some bytes → (s : Stanza)
-        → IsSome old.now → NowStands stanza (Some s) old.now
-        → NowPartOfPush stanza s (record { id = id; name = order.name; bytes = bytes }) new.now)
-        → ((bytes : Text) → told_file nodes (known_path log.what) ≡ Some bytes → (s : Stanza)
-        → IsSteady stanza (Some s) old → IsSome old.now
-        → Moves stanza (IsPartOfPush stanza s (record { id = id; name = order.name; bytes = bytes })) old new)
-        → (command : Command) → IsSomeAnd nodes (λ f. IsPushOf f order.folder.now order.path.now command)
-        → DoesPart stanza command old new
-    opened_part part moves command asked =
+      (leaves : Leaves stanza id order.name (told_file nodes (known_path log.what)) old new) where
+    of_known : (P : Text → Type 0) (bytes : Text) → told_file nodes place ≡ Some bytes → IfSome (told_file nodes place) P
+        → P bytes
+    of_known P bytes is h = subst (λ (o : Option Text). IfSome o P) is h
+
+    pub opened_part : (command : Command) → IsSomeAnd nodes (λ f. IsPushOf f order.folder.now order.path.now command)
+        → DoesPart Looked stanza command old new
+    opened_part command asked =
         let b = told command asked in
         stores_part stanza order.folder.now order.path.now nodes order.name b.0 b.2 id at.0 at.1 old new at.2.current
-        kept command asked (part b.0 b.1) (moves b.0 b.1)
+        command asked (of_known (λ t. LeavesPart stanza id order.name t old new) b.0 b.1 leaves.part)
 
-    pub opened_whole : ((bytes : Text) → told_file nodes (known_path log.what) ≡ Some bytes → (s : Stanza)
-        → IsSome old.now → NowStands stanza (Some s) old.now
-        → NowStands stanza (Some (after_all s (push_of s (record { id = id; name = order.name; bytes = bytes }))))
-        new.now)
-        → ((bytes : Text) → told_file nodes (known_path log.what) ≡ Some bytes → (s : Stanza)
-        → IsSteady stanza (Some s) old → IsSome old.now
-        → IsSteady stanza (Some (after_all s (push_of s (record { id = id; name = order.name; bytes = bytes }))))
-        new)
+    pub opened_whole : LeavesFile stanza id order.name (told_file nodes (known_path log.what)) old new
         → (command : Command) → IsSomeAnd nodes (λ f. IsPushOf f order.folder.now order.path.now command)
-        → DoesWhole stanza command old new
-    opened_whole whole stored command asked =
+        → DoesWhole Looked stanza command old new
+    opened_whole file command asked =
         let b = told command asked in
         stores_whole stanza order.folder.now order.path.now nodes order.name b.0 b.2 id at.0 at.1 old new at.2.current
-        kept command asked (whole b.0 b.1) (stored b.0 b.1)
+        command asked (of_known (λ t. LeavesPart stanza id order.name t old new) b.0 b.1 leaves.part)
+        (of_known (λ t. LeavesAll stanza id order.name t old new) b.0 b.1 file.all)
+
+    -- all that a crash leaves has the same at the file's paths
+    pub opened_lasts : (id.version < 2 ^ 32) × (id.number < 2 ^ 32)
+        → LeavesFile stanza id order.name (told_file nodes (known_path log.what)) old new
+        → IsTight stanza old → IsSome old.now → IsLasting stanza order.folder.now order.path.now new
+    opened_lasts fits file tight some = let w = leaves.writes in record {
+      wal = order.name;
+      named = order.named;
+      current = at.0;
+      has = current_on stanza (archive_path stanza id order.name (sha1 w.0)) w.0 at.0 old.now new.now
+          (file_of stanza id order.name (sha1 w.0) fits order.named.fits (IsSum-sha1 w.0)) w.2 at.2.current some;
+      alike = subst (λ (i : ArchiveId). IsAlikeAt (IsPathOf stanza i order.name) new) at.1 (file.alike tight some);
+    }
 
   module _ (system : Control) (repo now : Option Content)
       (at : (c : ClusterId) × (id ≡ id_kept c) × IsCurrent stanza repo nodes system c) (first : Text) (count : ℕ) where

@@ -3,7 +3,7 @@ use Rattle.std.proofs.Common.{◌≡◌, ◌≢◌, ◌⊎◌, ⊎_elim, inl, in
 use Rattle.std.specs.Prelude.{IfSome, IsSome, IsSomeAnd}
 use Rattle.pgb_outside.specs.Content.{Content, put}
 use Rattle.pgb_outside.specs.Moments.{View}
-use Rattle.pgb_outside.specs.Crash.{Alike, IsTemporary, FirstOf, NowGoes}
+use Rattle.pgb_outside.specs.Crash.{Alike, IsTemporary, Leaves, FirstOf, NowGoes}
 use Rattle.pgb_outside.specs.Tree.{Nodes, file_bytes}
 use Rattle.pgb_outside.proofs.Nows.{told_as}
 use Rattle.pgb_model.specs.declared.clusters.Cluster.{Cluster}
@@ -12,22 +12,27 @@ use Rattle.pgb_model.specs.declared.wal.ArchiveId.{ArchiveId}
 use Rattle.pgb_model.specs.declared.wal.ArchiveName.{ArchiveName}
 use Rattle.pgb_model.specs.Text.{Text}
 use Rattle.pgb_model.specs.Names.{archive_info, copy_of, wal_text}
+use Rattle.pgb_model.specs.InfoFiles.{IsArchiveText}
 use Rattle.pgb_model.specs.Fields.{at_number}
-use Rattle.pgb_model.specs.Repository.{Archived, Stanza, Repository, IsSound, id_of, identity_of, current_number}
+use Rattle.pgb_model.specs.Repository.{Archived, Stanza, Repository, id_of, identity_of, current_number}
 use Rattle.pgb_model.specs.Stands.{Stands, archive_value, IsArchiveFile}
-use Rattle.pgb_model.specs.Steps.{Step, Command, ArchivePush, Named, after, after_all, all_of, steps_of, push_of, archived_of}
-use Rattle.pgb_model.specs.Log.{IsDone}
+use Rattle.pgb_model.specs.Steps.{Step, Command, ArchivePush, Named, IsPartOf, after, after_all, all_of, steps_of, push_of, archived_of}
 use Rattle.pgb_model.specs.Now.{NowStands}
-use Rattle.pgb_model.specs.Steady.{IsSteady, Moves}
+use Rattle.pgb_model.specs.Walks.{DoesPart as DoesPartOf, DoesAll}
 use Rattle.pgb_model.proofs.Created.{put_other}
+use Rattle.pgb_model.proofs.Frame.{pair_same}
 use Rattle.pgb_model.proofs.NameLemmas.{file_info_apart, file_info_copy_apart}
 use Rattle.pgb_model.proofs.Temporary.{pair_lasts}
-use Rattle.pgb_model.proofs.PushDone.{stanza_of, current_of, push_is_part, push_is_whole, now_part, now_whole}
+use Rattle.pgb_model.proofs.PushDone.{stanza_of, current_of, push_is_part, now_whole}
 use Rattle.pgb_model.proofs.PushSound.{push_keeps_sound}
-use Rattle.pgb_model.proofs.Segments.{IsPartOfPush, NowPartOfPush}
+use Rattle.pgb_model.proofs.Segments.{IsPartOfPush}
+use Rattle.pgb_model.proofs.Walking.{walks_with, ends_with}
 use Rattle.pgb_info.proofs.OneArchive.{one_archive_pair}
+use Rattle.pgb_archive.specs.Pushes.{PushesPart, PushesAll, LeavesPart, LeavesAll}
+use Rattle.pgb_stage.specs.declared.plan.Settling.TheVariants.{Looked}
 use Rattle.pgb_stage.specs.Current.{HasCurrent, id_kept, AgreesAtPair}
-use Rattle.pgb_stage.specs.Runs.{IsPart, DoesPart, DoesWhole}
+use Rattle.pgb_stage.specs.Runs.{IsLookedAt, PartEach, WholeEach, DoesPart, DoesWhole}
+use Rattle.pgb_stage.proofs.Doing.{now_told}
 use Rattle.pgb_push.specs.Commands.{IsPushOf}
 use Rattle.pgb_push.specs.WalPath.{HasWal, wal_path}
 use Rattle.pgb_push.proofs.WalNames.{one_name}
@@ -75,146 +80,106 @@ current_told stanza now c f is h = subst (λ (o : Option Content). IfSome o (λ 
 
 -- ---- what it does
 
-moves_as : (stanza : Text) (P Q : Content → Type 0) (a b : View) → ((g : Content) → P g → Q g) → Moves stanza P a b
-    → Moves stanza Q a b
-moves_as stanza P Q a b with_q m = record {
-  later = m.later;
-  past = m.past;
-  past_loose = m.past_loose;
-  told = m.told;
-  fixed = m.fixed;
-  places = m.places;
-  leaves = λ t f lo hi leaves. with_q f (m.leaves t f lo hi leaves);
-}
+told_now : (stanza : Text) (r : Repository) (o : Option Content) (g : Content) → o ≡ Some g → Stands stanza g r → NowStands stanza r o
+told_now stanza r o g is stands = subst (λ (p : Option Content). NowStands stanza r p) (sym is) (record { stands = λ h is'. let e : g ≡ h = cc in subst (λ (k : Content). Stands stanza k r) e stands })
 
--- a part of the push leaves the stanza sound
-sound_part : (stanza : Text) (n : Named) (s : Stanza) (d : Cluster) → at_number (current_number s) s.history ≡ Some d
-    → IsSound (Some s) → (g : Content) → IsPartOfPush stanza s (archived_of (id_of d) n) g
-    → IsPart stanza (ArchivePush n) (Some s) g
-sound_part stanza n s d at sound g p = let q = push_is_part n s d at stanza g p in
-    (q.0, q.1, q.2, push_keeps_sound n (Some s) false q.0 sound q.1)
-
-module _ (stanza : Text) (n : Named) (c : ClusterId) (old new : View)
-    (current : IfSome old.now (λ f. HasCurrent stanza f c)) (kept : IsSome old.now → IsSome new.now) where
+module _ (stanza : Text) (n : Named) (c : ClusterId) where
   abbrev as_of : ClusterId → Archived
   as_of k = record { id = id_kept k; name = n.name; bytes = n.bytes }
 
-  now_at : (r : Repository) → IsSome old.now → NowStands stanza r old.now → (s : Stanza) × (r ≡ Some s)
-      × ((d : Cluster) × (at_number (current_number s) s.history ≡ Some d) × (c ≡ identity_of d))
-  now_at r some now = let f = told_as old.now some in
-      current_at stanza f.0 r c (current_told stanza old.now c f.0 f.1 current) (now.stands f.0 f.1)
+  -- where the archive pair has this cluster as its current one, the push is the command
+  push_part : (f g : Content) → HasCurrent stanza f c → PushesPart stanza (id_kept c) n.name n.bytes f g → DoesPartOf stanza (ArchivePush n) f g
+  push_part f g has pushes r stands =
+      let x = current_at stanza f r c has stands in
+      let here : Stands stanza f (Some x.0) = subst (Stands stanza f) x.1 stands in
+      let p : IsPartOfPush stanza x.0 (archived_of (id_of x.2.0) n) g =
+      subst (λ (k : ClusterId). IsPartOfPush stanza x.0 (as_of k) g) x.2.2 (pushes x.0 here) in
+      subst (λ (q : Repository). (done : List Step) × IsPartOf done (steps_of (ArchivePush n) q)
+      × Stands stanza g (after q done)) (sym x.1) (push_is_part n x.0 x.2.0 x.2.1 stanza g p)
 
-  steady_at : (r : Repository) → IsSome old.now → IsSteady stanza r old → (s : Stanza) × (r ≡ Some s)
-      × ((d : Cluster) × (at_number (current_number s) s.history ≡ Some d) × (c ≡ identity_of d))
-  steady_at r some steady = let f = told_as old.now some in
-      current_at stanza f.0 r c (current_told stanza old.now c f.0 f.1 current) (steady.stands f.0 (inl f.1))
+  push_all : (f g : Content) → HasCurrent stanza f c → PushesAll stanza (id_kept c) n.name n.bytes f g → DoesAll stanza (ArchivePush n) f g
+  push_all f g has pushes r stands =
+      let x = current_at stanza f r c has stands in
+      let here : Stands stanza f (Some x.0) = subst (Stands stanza f) x.1 stands in
+      let p : Stands stanza g (Some (after_all x.0 (push_of x.0 (archived_of (id_of x.2.0) n)))) =
+      subst (λ (k : ClusterId). Stands stanza g (Some (after_all x.0 (push_of x.0 (as_of k))))) x.2.2 (pushes x.0 here) in
+      let whole = now_whole n x.0 x.2.0 x.2.1 stanza (Some g) (told_now stanza (Some (after_all x.0 (push_of x.0 (archived_of (id_of x.2.0) n)))) (Some g) g refl p) in
+      let done : Stands stanza g (after (Some x.0) (all_of (steps_of (ArchivePush n) (Some x.0)))) =
+      subst (λ (steps : List Step). Stands stanza g (after (Some x.0) steps)) whole.1 (whole.2.stands g refl) in
+      subst (λ (q : Repository). Stands stanza g (after q (all_of (steps_of (ArchivePush n) q)))) (sym x.1) done
 
-  part_at : ((s : Stanza) → IsSome old.now → NowStands stanza (Some s) old.now
-      → NowPartOfPush stanza s (record { id = id_kept c; name = n.name; bytes = n.bytes }) new.now) →
-      (r : Repository) → IsSome old.now → NowStands stanza r old.now → (done : List Step)
-      × IsDone false done (steps_of (ArchivePush n) r) × NowStands stanza (after r done) new.now
-  part_at part r some now =
-      let x = now_at r some now in
-      let here : NowStands stanza (Some x.0) old.now = subst (λ (q : Repository). NowStands stanza q old.now) x.1 now in
-      let p : NowPartOfPush stanza x.0 (archived_of (id_of x.2.0) n) new.now =
-      subst (λ (k : ClusterId). NowPartOfPush stanza x.0 (as_of k) new.now) x.2.2 (part x.0 some here) in
-      subst (λ (q : Repository). (done : List Step) × IsDone false done (steps_of (ArchivePush n) q)
-      × NowStands stanza (after q done) new.now) (sym x.1) (now_part n x.0 x.2.0 x.2.1 stanza new.now p)
+  module _ (old new : View) (current : IfSome old.now (λ f. HasCurrent stanza f c))
+      (part : LeavesPart stanza (id_kept c) n.name n.bytes old new) where
+    here : (f : Content) → old.now ≡ Some f → HasCurrent stanza f c
+    here f is = current_told stanza old.now c f is current
 
-  whole_at : ((s : Stanza) → IsSome old.now → NowStands stanza (Some s) old.now
-      → NowStands stanza (Some (after_all s (push_of s (record { id = id_kept c; name = n.name; bytes = n.bytes }))))
-      new.now) →
-      (r : Repository) → IsSome old.now → NowStands stanza r old.now → (done : List Step)
-      × IsDone true done (steps_of (ArchivePush n) r) × NowStands stanza (after r done) new.now
-  whole_at whole r some now =
-      let x = now_at r some now in
-      let here : NowStands stanza (Some x.0) old.now = subst (λ (q : Repository). NowStands stanza q old.now) x.1 now in
-      let p : NowStands stanza (Some (after_all x.0 (push_of x.0 (archived_of (id_of x.2.0) n)))) new.now =
-      subst (λ (k : ClusterId). NowStands stanza (Some (after_all x.0 (push_of x.0 (as_of k)))) new.now) x.2.2
-      (whole x.0 some here) in
-      subst (λ (q : Repository). (done : List Step) × IsDone true done (steps_of (ArchivePush n) q)
-      × NowStands stanza (after q done) new.now) (sym x.1) (now_whole n x.0 x.2.0 x.2.1 stanza new.now p)
+    -- so it has in all that a crash leaves
+    everywhere : IsLookedAt stanza old → (g : Content) → Leaves old old.moment g → HasCurrent stanza g c
+    everywhere looked g leaves =
+        let h = here looked.now.content looked.now.now in
+        (h.0, looked.pair looked.now.content g h.0 looked.now.now leaves h.1, h.2)
 
-  moves_at : ((s : Stanza) → IsSteady stanza (Some s) old → IsSome old.now
-      → Moves stanza (IsPartOfPush stanza s (record { id = id_kept c; name = n.name; bytes = n.bytes })) old new) →
-      (r : Repository) → IsSome old.now → IsSteady stanza r old → IsSound r
-      → Moves stanza (IsPart stanza (ArchivePush n) r) old new
-  moves_at moves r some steady sound =
-      let x = steady_at r some steady in
-      let here : IsSteady stanza (Some x.0) old = subst (λ (q : Repository). IsSteady stanza q old) x.1 steady in
-      let well : IsSound (Some x.0) = subst IsSound x.1 sound in
-      let next : Moves stanza (IsPartOfPush stanza x.0 (archived_of (id_of x.2.0) n)) old new =
-      subst (λ (k : ClusterId). Moves stanza (IsPartOfPush stanza x.0 (as_of k)) old new) x.2.2
-      (moves x.0 here some) in
-      subst (λ (q : Repository). Moves stanza (IsPart stanza (ArchivePush n) q) old new) (sym x.1)
-      (moves_as stanza (IsPartOfPush stanza x.0 (archived_of (id_of x.2.0) n))
-      (IsPart stanza (ArchivePush n) (Some x.0)) old new (sound_part stanza n x.0 x.2.0 x.2.1 well) next)
+    pub part_done : DoesPart Looked stanza (ArchivePush n) old new
+    part_done = record {
+      part = record {
+        told = part.now.told;
+        does = λ r some now.
+            let f = told_as old.now some in
+            let g = told_as new.now (part.now.told some) in
+            let x = push_part f.0 g.0 (here f.0 f.1) (part.now.goes f.0 g.0 f.1 g.1) r (now.stands f.0 f.1) in
+            (x.0, x.1, told_now stanza (after r x.0) new.now g.0 g.1 x.2);
+      };
+      goes = λ looked.
+          walks_with stanza (PushesPart stanza (id_kept c) n.name n.bytes) (PartEach stanza (ArchivePush n)) old new
+          (λ f g leaves pushes r stands sound.
+          let x = push_part f g (everywhere looked f leaves) pushes r stands in
+          (x.0, x.1, x.2, push_keeps_sound n r false x.0 sound x.1))
+          (part.walks looked.tight (now_told stanza old looked.now));
+    }
 
-  ends_at : ((s : Stanza) → IsSteady stanza (Some s) old → IsSome old.now
-      → IsSteady stanza (Some (after_all s (push_of s (record { id = id_kept c; name = n.name; bytes = n.bytes }))))
-      new) →
-      (r : Repository) → IsSome old.now → IsSteady stanza r old
-      → IsSteady stanza (after r (all_of (steps_of (ArchivePush n) r))) new
-  ends_at stored r some steady =
-      let x = steady_at r some steady in
-      let here : IsSteady stanza (Some x.0) old = subst (λ (q : Repository). IsSteady stanza q old) x.1 steady in
-      let done : IsSteady stanza (Some (after_all x.0 (push_of x.0 (archived_of (id_of x.2.0) n)))) new =
-      subst (λ (k : ClusterId). IsSteady stanza (Some (after_all x.0 (push_of x.0 (as_of k)))) new) x.2.2
-      (stored x.0 here some) in
-      subst (λ (q : Repository). IsSteady stanza (after q (all_of (steps_of (ArchivePush n) q))) new) (sym x.1)
-      (push_is_whole n x.0 x.2.0 x.2.1 stanza new done)
+    pub whole_done : LeavesAll stanza (id_kept c) n.name n.bytes old new → DoesWhole Looked stanza (ArchivePush n) old new
+    whole_done all = record {
+      done = record {
+        told = all.now.told;
+        does = λ r some now.
+            let f = told_as old.now some in
+            let g = told_as new.now (all.now.told some) in (
+              all_of (steps_of (ArchivePush n) r),
+              refl,
+              told_now stanza (after r (all_of (steps_of (ArchivePush n) r))) new.now g.0 g.1
+                  (push_all f.0 g.0 (here f.0 f.1) (all.now.goes f.0 g.0 f.1 g.1) r (now.stands f.0 f.1)),
+            );
+      };
+      ends = λ looked.
+          ends_with (PushesAll stanza (id_kept c) n.name n.bytes) (WholeEach stanza (ArchivePush n)) old new
+          (all.ends looked.tight (now_told stanza old looked.now))
+          (λ f g leaves pushes r stands sound. (
+            push_all f g (everywhere looked f leaves) pushes r stands,
+            push_keeps_sound n r true (all_of (steps_of (ArchivePush n) r)) sound refl,
+          ));
+    }
 
 -- ---- from the words' file and the id
 
 module _ (stanza folder path : Text) (nodes : Option Nodes) (wal : ArchiveName) (bytes : Text)
     (has : IfSome nodes (λ f. HasWal f folder path wal bytes)) (id : ArchiveId) (c : ClusterId) (is : id ≡ id_kept c)
-    (old new : View)
-    (current : IfSome old.now (λ f. HasCurrent stanza f c)) (kept : IsSome old.now → IsSome new.now) (command : Command)
-    (asked : IsSomeAnd nodes (λ f. IsPushOf f folder path command)) where
+    (old new : View) (current : IfSome old.now (λ f. HasCurrent stanza f c)) (command : Command)
+    (asked : IsSomeAnd nodes (λ f. IsPushOf f folder path command))
+    (part : LeavesPart stanza id wal bytes old new) where
   abbrev n : Named
   n = record { name = wal; bytes = bytes }
 
-  abbrev with_id : ArchiveId → Archived
-  with_id i = record { id = i; name = wal; bytes = bytes }
+  part_of : LeavesPart stanza (id_kept c) wal bytes old new
+  part_of = subst (λ (i : ArchiveId). LeavesPart stanza i wal bytes old new) is part
 
-  pub stores_part : ((s : Stanza) → IsSome old.now → NowStands stanza (Some s) old.now
-      → NowPartOfPush stanza s (record { id = id; name = wal; bytes = bytes }) new.now)
-      → ((s : Stanza) → IsSteady stanza (Some s) old → IsSome old.now
-      → Moves stanza (IsPartOfPush stanza s (record { id = id; name = wal; bytes = bytes })) old new)
-      → DoesPart stanza command old new
-  stores_part part moves = subst (λ (k : Command). DoesPart stanza k old new)
-      (sym (push_is nodes folder path wal bytes command has asked)) (record {
-        part = record {
-          told = kept;
-          does = part_at stanza n c old new current kept
-              (subst (λ (i : ArchiveId). (s : Stanza) → IsSome old.now → NowStands stanza (Some s) old.now
-              → NowPartOfPush stanza s (with_id i) new.now) is part);
-        };
-        goes = moves_at stanza n c old new current kept
-            (subst (λ (i : ArchiveId). (s : Stanza) → IsSteady stanza (Some s) old → IsSome old.now
-            → Moves stanza (IsPartOfPush stanza s (with_id i)) old new) is moves);
-      })
+  pub stores_part : DoesPart Looked stanza command old new
+  stores_part = subst (λ (k : Command). DoesPart Looked stanza k old new)
+      (sym (push_is nodes folder path wal bytes command has asked)) (part_done stanza n c old new current part_of)
 
-  pub stores_whole : ((s : Stanza) → IsSome old.now → NowStands stanza (Some s) old.now
-      → NowStands stanza (Some (after_all s (push_of s (record { id = id; name = wal; bytes = bytes })))) new.now)
-      → ((s : Stanza) → IsSteady stanza (Some s) old → IsSome old.now
-      → IsSteady stanza (Some (after_all s (push_of s (record { id = id; name = wal; bytes = bytes })))) new)
-      → DoesWhole stanza command old new
-  stores_whole whole stored = subst (λ (k : Command). DoesWhole stanza k old new)
-      (sym (push_is nodes folder path wal bytes command has asked)) (record {
-        done = record {
-          told = kept;
-          does = whole_at stanza n c old new current kept
-              (subst (λ (i : ArchiveId). (s : Stanza) → IsSome old.now → NowStands stanza (Some s) old.now
-              → NowStands stanza (Some (after_all s (push_of s (with_id i)))) new.now) is whole);
-        };
-        ends = λ r some steady sound. (
-          ends_at stanza n c old new current kept
-              (subst (λ (i : ArchiveId). (s : Stanza) → IsSteady stanza (Some s) old → IsSome old.now
-              → IsSteady stanza (Some (after_all s (push_of s (with_id i)))) new) is stored) r some steady,
-          push_keeps_sound n r true (all_of (steps_of (ArchivePush n) r)) sound refl,
-        );
-      })
+  pub stores_whole : LeavesAll stanza id wal bytes old new → DoesWhole Looked stanza command old new
+  stores_whole all = subst (λ (k : Command). DoesWhole Looked stanza k old new)
+      (sym (push_is nodes folder path wal bytes command has asked))
+      (whole_done stanza n c old new current part_of (subst (λ (i : ArchiveId). LeavesAll stanza i wal bytes old new) is all))
 
 -- ---- the pair behind the push
 
@@ -245,3 +210,19 @@ agrees_on stanza name bytes old new file goes some agrees =
     let h : AgreesAtPair stanza f.0 = subst (λ (o : Option Content). IfSome o (AgreesAtPair stanza)) f.1 agrees in
     subst (λ (o : Option Content). IfSome o (AgreesAtPair stanza)) (sym g.1)
     (copy ∙ h.0 ∙ sym main, subst (λ (v : Option Text). IsSome v) (sym main) h.1)
+
+-- .. and its current cluster
+pub current_on : (stanza name bytes : Text) (c : ClusterId) (old new : Option Content) → IsArchiveFile stanza name
+    → NowGoes (FirstOf ((name, bytes) ∷ [])) old new → IfSome old (λ f. HasCurrent stanza f c) → IsSome old
+    → IfSome new (λ f. HasCurrent stanza f c)
+current_on stanza name bytes c old new file goes current some =
+    let f = told_as old some in
+    let g = told_as new (goes.told some) in
+    let w = goes.goes f.0 g.0 f.1 g.1 in
+    let main = kept_at stanza name bytes (archive_info stanza) f.0 g.0 file (inl refl)
+    (pair_lasts stanza (archive_info stanza) (inl refl)) w in
+    let copy = kept_at stanza name bytes (copy_of (archive_info stanza)) f.0 g.0 file (inr refl)
+    (pair_lasts stanza (copy_of (archive_info stanza)) (inr (inl refl))) w in
+    let h = current_told stanza old c f.0 f.1 current in
+    subst (λ (o : Option Content). IfSome o (λ f. HasCurrent stanza f c)) (sym g.1)
+    (h.0, pair_same IsArchiveText f.0 g.0 (archive_info stanza) h.0 main copy h.1, h.2)

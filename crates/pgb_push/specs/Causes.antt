@@ -2,7 +2,8 @@
 use Rattle.std.specs.Prelude.{◌≡◌, ◌≢◌, ◌⊎◌, ◌∷◌, [], Option, IfSome}
 use Rattle.sha1.specs.Sha1.{sha1}
 use Rattle.pgb_outside.specs.Content.{Content}
-use Rattle.pgb_outside.specs.Crash.{NowGoes, AllOf}
+use Rattle.pgb_outside.specs.Moments.{View}
+use Rattle.pgb_outside.specs.Crash.{NowGoes, AllOf, IsAlikeAt}
 use Rattle.pgb_outside.specs.Tree.{Nodes}
 use Rattle.pgb_model.specs.declared.clusters.ClusterId.{ClusterId}
 use Rattle.pgb_model.specs.declared.wal.ArchiveId.{ArchiveId}
@@ -15,6 +16,7 @@ use Rattle.pgb_stanza.specs.Pairs.{identity_kept, identity_told}
 use Rattle.pgb_archive.specs.declared.fault.ArchiveFault.{ArchiveFault}
 use Rattle.pgb_archive.specs.declared.fault.ArchiveFault.TheVariants.{HeaderForm as FormOf, SegmentSize as SizeOf, HeaderMismatch as MismatchOf, Ambiguous as AmbiguousOf, Duplicate as DuplicateOf, TooLong as LongOf}
 use Rattle.pgb_archive.specs.Causes.{IsFileOf, limit_of, PushCause as StoringCause}
+use Rattle.pgb_archive.specs.Pushes.{IsPathOf}
 use Rattle.pgb_archive.specs.Stored.{archive_path, StoresNone, StoresOnly}
 use Rattle.pgb_stage.specs.Cluster.{FolderTells}
 use Rattle.pgb_stage.specs.Current.{HasCurrent, id_kept}
@@ -106,3 +108,11 @@ pub record IsStored (stanza folder path : Text) (nodes : Option Nodes) (old new 
   pub valid : IsFileOf wal bytes told.system
   pub told_by : ((lines ≡ []) × IsPut stanza (id_kept current) wal bytes old new)
       ⊎ ((lines ≡ same_line (wal_text wal)) × IsKept stanza (id_kept current) wal bytes old new)
+
+-- In all that a crash leaves the file has at its paths what the repository has there.
+pub record IsLasting (stanza folder path : Text) (v : View) : Type 0 where
+  pub wal : ArchiveName
+  pub named : IsWalPath folder path wal
+  pub current : ClusterId
+  pub has : IfSome v.now (λ f. HasCurrent stanza f current)
+  pub alike : IsAlikeAt (IsPathOf stanza (id_kept current) wal) v

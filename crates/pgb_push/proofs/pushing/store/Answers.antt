@@ -2,7 +2,7 @@ use Rattle.std.proofs.Common.{◌∙◌, ap}
 use Rattle.pgb_push.specs.Outcomes.{pushed_lines}
 use Rattle.pgb_push.proofs.Doings.{halt_did, memory_did, end_did}
 use Rattle.pgb_push.proofs.Logged.{opened_read}
-use Rattle.pgb_push.proofs.Opened.{opened_agrees, opened_part, opened_whole, opened_ends, opened_stored}
+use Rattle.pgb_push.proofs.Opened.{opened_agrees, opened_part, opened_whole, opened_lasts, opened_ends, opened_stored}
 use Rattle.pgb_push.proofs.pushing.store.Goals as goal
 
 pub push_from-requires-clause-told : goal.push_from-requires-clause-told
@@ -17,14 +17,13 @@ returns-in-Err-clause-does g c = λ command asked.
     let part = opened_part c.args.stanza.now c.args.order.now
     (g.T.Tree.state c.args.tree.now).nodes c.args.log.now c.requires.opened c.args.id.now c.args.told.now
     (g.D.Disk.state c.args.repo.now).view
-    (g.D.Disk.state c.push_from.new.d).view c.requires.current c.push_from.ensures.told c.push_from.ensures.part
-    c.push_from.ensures.moves command asked in
+    (g.D.Disk.state c.push_from.new.d).view c.requires.current c.push_from.ensures.leaves command asked in
     halt_did c.args.stanza.now command _ _ part c.of_store.result c.in-Err.fault c.of_store.ensures
     c.in-Err.ensures.refused
 
 pub returns-in-Err-clause-agrees : goal.returns-in-Err-clause-agrees
 returns-in-Err-clause-agrees g c =
-    opened_agrees c.args.stanza.now c.args.order.now c.args.id.now c.requires.fits _ _ _ c.push_from.ensures.writes
+    opened_agrees c.args.stanza.now c.args.order.now c.args.id.now c.requires.fits _ _ _ c.push_from.ensures.leaves.writes
 
 pub returns-in-Err-clause-cause : goal.returns-in-Err-clause-cause
 returns-in-Err-clause-cause g c =
@@ -41,13 +40,12 @@ returns-in_err-lines-in-Ok-clause-does g c = λ command asked.
     let part = opened_part c.args.stanza.now c.args.order.now
     (g.T.Tree.state c.args.tree.now).nodes c.args.log.now c.requires.opened c.args.id.now c.args.told.now
     (g.D.Disk.state c.args.repo.now).view
-    (g.D.Disk.state c.push_from.new.d).view c.requires.current c.push_from.ensures.told c.push_from.ensures.part
-    c.push_from.ensures.moves command asked in
+    (g.D.Disk.state c.push_from.new.d).view c.requires.current c.push_from.ensures.leaves command asked in
     memory_did c.args.stanza.now command _ _ part c.from_residual.result c.from_residual.ensures.1
 
 pub returns-in_err-lines-in-Ok-clause-agrees : goal.returns-in_err-lines-in-Ok-clause-agrees
 returns-in_err-lines-in-Ok-clause-agrees g c =
-    opened_agrees c.args.stanza.now c.args.order.now c.args.id.now c.requires.fits _ _ _ c.push_from.ensures.writes
+    opened_agrees c.args.stanza.now c.args.order.now c.args.id.now c.requires.fits _ _ _ c.push_from.ensures.leaves.writes
 
 -- ---- it was stored
 
@@ -56,18 +54,24 @@ returns-in_ok-lines-in-Ok-clause-does g c = λ command asked.
     let part = opened_part c.args.stanza.now c.args.order.now
     (g.T.Tree.state c.args.tree.now).nodes c.args.log.now c.requires.opened c.args.id.now c.args.told.now
     (g.D.Disk.state c.args.repo.now).view
-    (g.D.Disk.state c.push_from.new.d).view c.requires.current c.push_from.ensures.told c.push_from.ensures.part
-    c.push_from.ensures.moves command asked in
+    (g.D.Disk.state c.push_from.new.d).view c.requires.current c.push_from.ensures.leaves command asked in
     end_did c.args.stanza.now command _ _ part
     (opened_whole c.args.stanza.now c.args.order.now
     (g.T.Tree.state c.args.tree.now).nodes c.args.log.now c.requires.opened c.args.id.now c.args.told.now
     (g.D.Disk.state c.args.repo.now).view
-    (g.D.Disk.state c.push_from.new.d).view c.requires.current c.push_from.ensures.told c.in-Ok.ensures.done
-    c.in-Ok.ensures.stored command asked)
+    (g.D.Disk.state c.push_from.new.d).view c.requires.current c.push_from.ensures.leaves c.in-Ok.ensures.file command asked)
+
+pub returns-in_ok-lines-in-Ok-clause-lasts : goal.returns-in_ok-lines-in-Ok-clause-lasts
+returns-in_ok-lines-in-Ok-clause-lasts g c = λ tight some.
+    opened_lasts c.args.stanza.now c.args.order.now
+    (g.T.Tree.state c.args.tree.now).nodes c.args.log.now c.requires.opened c.args.id.now c.args.told.now
+    (g.D.Disk.state c.args.repo.now).view
+    (g.D.Disk.state c.push_from.new.d).view c.requires.current c.push_from.ensures.leaves c.requires.fits
+    c.in-Ok.ensures.file tight some
 
 pub returns-in_ok-lines-in-Ok-clause-agrees : goal.returns-in_ok-lines-in-Ok-clause-agrees
 returns-in_ok-lines-in-Ok-clause-agrees g c =
-    opened_agrees c.args.stanza.now c.args.order.now c.args.id.now c.requires.fits _ _ _ c.push_from.ensures.writes
+    opened_agrees c.args.stanza.now c.args.order.now c.args.id.now c.requires.fits _ _ _ c.push_from.ensures.leaves.writes
 
 pub returns-in_ok-lines-in-Ok-clause-stored : goal.returns-in_ok-lines-in-Ok-clause-stored
 returns-in_ok-lines-in-Ok-clause-stored g c =
