@@ -1,5 +1,7 @@
-use Rattle.std.proofs.Common.{rules, ◌≡◌, inl, refl, true, false}
+use Rattle.std.proofs.Common.{rules, ◌≡◌, inl, inr, refl, Some, true, false}
+use Rattle.pgb_model.specs.Values.{archive_info_of}
 use Rattle.pgb_get.proofs.Archived.{serves_archived, misses_archived}
+use Rattle.pgb_get.proofs.Left.{pair_left}
 use Rattle.pgb_get.proofs.Fetches.{serves, serves_only, misses}
 use Rattle.pgb_get.proofs.archive_get.get_file.Goals as goal
 
@@ -52,3 +54,25 @@ returns-in_ok-from_str-clause-given g c = λ s some now.
     misses_archived c.args.stanza.now o.folder.now o.word.now o.path.now repo nodes s some now
     (misses c.args.stanza.now o.folder.now o.word.now o.path.now repo nodes o.name c.args.told.now o.inside.now o.wanted c.requires.tells o.below
     (g.T.Tree.state c.serve_file.new.tree).nodes c.in_ok-serve_file.field-0 no (c.in_ok-serve_file.ensures.puts (g.D.Disk.state c.args.repo.now).view.now (inl refl) c.requires.pair))
+
+pub returns-then-branch-clause-lasts : goal.returns-then-branch-clause-lasts
+returns-then-branch-clause-lasts g c = λ tight some alike f leaves.
+    let o = c.args.order.now in
+    let yes : c.in_ok-serve_file.field-0 ≡ true = search rules in
+    let looks = c.serve_file.ensures.looks in
+    let pair = pair_left c.args.stanza.now (g.D.Disk.state c.args.repo.now).view (g.D.Disk.state c.serve_file.new.repo).view looks.time looks.now alike some (archive_info_of c.args.info.now) c.requires.pair f leaves in (
+      c.new.ensures.bytes,
+      serves c.args.stanza.now o.folder.now o.word.now o.path.now (Some f) (g.T.Tree.state c.args.tree.now).nodes o.name c.args.told.now o.inside.now o.wanted c.requires.tells o.below
+          _ c.in_ok-serve_file.field-0 yes (c.in_ok-serve_file.ensures.puts (Some f) (inr (tight, some, (f, refl, leaves))) pair),
+    )
+
+pub returns-in_ok-from_str-clause-lasts : goal.returns-in_ok-from_str-clause-lasts
+returns-in_ok-from_str-clause-lasts g c = λ tight some alike f leaves.
+    let o = c.args.order.now in
+    let no : c.in_ok-serve_file.field-0 ≡ false = search rules in
+    let looks = c.serve_file.ensures.looks in
+    let pair = pair_left c.args.stanza.now (g.D.Disk.state c.args.repo.now).view (g.D.Disk.state c.serve_file.new.repo).view looks.time looks.now alike some (archive_info_of c.args.info.now) c.requires.pair f leaves in (
+      c.in_ok-from_str.ensures.ok,
+      misses c.args.stanza.now o.folder.now o.word.now o.path.now (Some f) (g.T.Tree.state c.args.tree.now).nodes o.name c.args.told.now o.inside.now o.wanted c.requires.tells o.below
+          (g.T.Tree.state c.serve_file.new.tree).nodes c.in_ok-serve_file.field-0 no (c.in_ok-serve_file.ensures.puts (Some f) (inr (tight, some, (f, refl, leaves))) pair),
+    )

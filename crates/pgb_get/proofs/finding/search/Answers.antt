@@ -9,10 +9,16 @@ use Rattle.pgb_get.specs.Serving.{RoseIn, AreBytes, AreBytesUnder, IsUnstoredUnd
 use Rattle.pgb_outside.proofs.States.{looks_on}
 use Rattle.pgb_stage.specs.Halts.{HaltCause}
 use Rattle.pgb_get.proofs.Stops.{handed_on}
-use Rattle.pgb_get.proofs.Left.{left_front, left_back}
+use Rattle.pgb_get.proofs.Left.{left_front, left_back, puts_handed}
 use Rattle.pgb_get.proofs.Passes.{goes_as}
 use Rattle.pgb_get.proofs.Searches.{parts_on, more_absent, found_in, cause_in}
 use Rattle.pgb_get.proofs.finding.search.Goals as goal
+
+pub returns-in_err-serve_under-clause-puts : goal.returns-in_err-serve_under-clause-puts
+returns-in_err-serve_under-clause-puts g c = λ f left.
+    let i = c.loop-cluster.invariant in
+    puts_handed c.from_residual.result c.in_err-serve_under.field-0.0 c.from_residual.ensures.1 _ _ c.args.order.now.inside.now _ _ _ i.nodes
+    (c.in_err-serve_under.ensures.puts f (left_back c.args.stanza.now (g.D.Disk.state c.args.repo.now).view (g.D.Disk.state c.loop-cluster.repo).view (g.D.Disk.state c.serve_under.new.repo).view i.looks.time i.looks.now f left))
 
 pub returns-in_err-serve_under-clause-changes : goal.returns-in_err-serve_under-clause-changes
 returns-in_err-serve_under-clause-changes g c =
