@@ -69,6 +69,7 @@ module _ (a : Asked) (b k : Seen) (o : SinkState) (le : k.out.faults ≤ o.fault
   did_written r did = record {
     steps = did.steps;
     promise = did.promise;
+    lasts = did.lasts;
     cause = err_as r _ _ out_cause did.cause;
     healed = did.healed;
     spares = record {

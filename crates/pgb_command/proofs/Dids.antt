@@ -212,7 +212,7 @@ did_from a b m k r read did = record {
   steps = subst (λ (o : Option Nodes). On (manner_of a.request a.data_folder o) (λ command. Takes (plan_of a.request).settling a.stanza command (reached_of (ending_of r)) b.repo.view b.spool.view k.repo.view k.spool.view)) read.nodes
       (on_as (manner_of a.request a.data_folder m.tree.nodes) _ _ (λ command h. opened_takes a.stanza b.repo.view m.repo.view b.spool.view m.spool.view read.repo.time read.repo.now read.spool.time read.spool.now (plan_of a.request).settling command (reached_of (ending_of r)) k.repo.view k.spool.view h) did.steps);
   promise = ok_as r _ _ (λ outcome h. subst (λ (o : Known). OnReady a o (λ old. Promise a a.request old (known k) outcome)) (known_same b m read) h) did.promise;
-  lasts = ok_as r _ _ (λ outcome h q log some keeps. subst (λ (n : Option Nodes). Lasts a a.request n k outcome) read.nodes
+  lasts = ok_as r _ _ (λ outcome h q log some keeps. subst (λ (n : Option Nodes). Lasts a a.request n k.repo.view k.tree.nodes outcome) read.nodes
       (h q log (subst (λ (o : Option Content). IsSome o) (sym read.repo.now) some) (rests_still a.stanza q log b.repo.view m.repo.view read.repo.time read.repo.now keeps))) did.lasts;
   cause = err_as r _ _ (cause_from a b m k read) did.cause;
   healed = on_ok r _ _ (λ h some. h (subst (λ (o : Option Content). IsSome o) (sym read.repo.now) some)) did.healed;
@@ -254,10 +254,10 @@ did_nothing a b k fault quiet rests same spares later cause = record {
 -- ---- behind the stages
 
 -- what holds of a disk whose names that are looked at were settled
-lasts_by : (a : Asked) (request : Request) (v : View) (nodes mid : Option Nodes) (k : Seen) (outcome : Outcome) → mid ≡ nodes → ((plan_of request).settling ≡ Looked → IsLookedAt a.stanza v) → (IsLookedAt a.stanza v → Lasts a request mid k outcome) → Lasts a request nodes k outcome
+lasts_by : (a : Asked) (request : Request) (v : View) (nodes mid : Option Nodes) (k : Seen) (outcome : Outcome) → mid ≡ nodes → ((plan_of request).settling ≡ Looked → IsLookedAt a.stanza v) → (IsLookedAt a.stanza v → Lasts a request mid k.repo.view k.tree.nodes outcome) → Lasts a request nodes k.repo.view k.tree.nodes outcome
 lasts_by a create v nodes mid k outcome same at h = tt
-lasts_by a (push path) v nodes mid k outcome same at h = subst (λ (n : Option Nodes). Lasts a (push path) n k outcome) same (h (at refl))
-lasts_by a (get name path) v nodes mid k outcome same at h = subst (λ (n : Option Nodes). Lasts a (get name path) n k outcome) same (h (at refl))
+lasts_by a (push path) v nodes mid k outcome same at h = subst (λ (n : Option Nodes). Lasts a (push path) n k.repo.view k.tree.nodes outcome) same (h (at refl))
+lasts_by a (get name path) v nodes mid k outcome same at h = subst (λ (n : Option Nodes). Lasts a (get name path) n k.repo.view k.tree.nodes outcome) same (h (at refl))
 lasts_by a (report form) v nodes mid k outcome same at h = tt
 
 -- what the stages behind the locks add

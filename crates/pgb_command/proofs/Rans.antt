@@ -73,7 +73,7 @@ module _ {E : Type 0} (a : Asked) (b k : Seen) (of : E → Fault) (early : E →
   create_reached (get name path) P h = h
   create_reached (report form) P h = h
 
-  pub ran_of : On (manner_of a.request a.data_folder b.tree.nodes) (λ command. Runs (plan_of a.request).settling a.stanza command (reached_by early r) b.repo.view b.spool.view k.repo.view k.spool.view) → IfOk r (Promise a a.request (known b) (known k)) → IfOk r (λ o. IsLookedAt a.stanza b.repo.view → Lasts a a.request b.tree.nodes k o) → IfErr r (HaltCause why failed) →
+  pub ran_of : On (manner_of a.request a.data_folder b.tree.nodes) (λ command. Runs (plan_of a.request).settling a.stanza command (reached_by early r) b.repo.view b.spool.view k.repo.view k.spool.view) → IfOk r (Promise a a.request (known b) (known k)) → IfOk r (λ o. IsLookedAt a.stanza b.repo.view → Lasts a a.request b.tree.nodes k.repo.view k.tree.nodes o) → IfErr r (HaltCause why failed) →
       OnOk r (IsSome b.repo.view.now → IfSome b.repo.view.now (AreHealed (plan_of a.request).pairs a.stanza) → IfSome k.repo.view.now (AreHealed (plan_of a.request).pairs a.stanza)) →
       OnReader a.request (IsStill b.repo.view k.repo.view) → FolderGoes a a.request b.repo.view.now b.tree.nodes k.tree.nodes → OnNone (reached_by early r) (k.tree.nodes ≡ b.tree.nodes) →
       OnCreate a.request (OnNone (reached_by early r) (k.repo.view.now ≡ b.repo.view.now)) → (a.server ≡ None → k.server ≡ b.server) → OnOther a.request (k.server ≡ b.server) →
@@ -81,7 +81,7 @@ module _ {E : Type 0} (a : Asked) (b k : Seen) (of : E → Fault) (early : E →
   ran_of steps promise lasts cause healed reads folder nodes unmade quiet others closed places later = subst (λ (e : Result Outcome Fault). Ran a b k e) (sym lifted) (record {
     steps = subst (λ (reached : Reached). On (manner_of a.request a.data_folder b.tree.nodes) (λ command. Runs (plan_of a.request).settling a.stanza command reached b.repo.view b.spool.view k.repo.view k.spool.view)) (sym (reached_same of early same r)) steps;
     promise = lift_ok (of_halt of) (Promise a a.request (known b) (known k)) r promise;
-    lasts = lift_ok (of_halt of) (λ o. IsLookedAt a.stanza b.repo.view → Lasts a a.request b.tree.nodes k o) r lasts;
+    lasts = lift_ok (of_halt of) (λ o. IsLookedAt a.stanza b.repo.view → Lasts a a.request b.tree.nodes k.repo.view k.tree.nodes o) r lasts;
     cause = lift_err (of_halt of) (HaltCause why failed) (OwnCause a b k) (own a b k of why failed each rose) r cause;
     healed = lift_on (of_halt of) _ r healed;
     spares = record {

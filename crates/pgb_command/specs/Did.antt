@@ -66,7 +66,7 @@ OwnCause a before after NoMemory = Unit {0}
 pub record Ran (a : Asked) (before after : Seen) (result : Result Outcome Fault) : Type 0 where
   pub steps : On (manner_of a.request a.data_folder before.tree.nodes) (λ command. Runs (plan_of a.request).settling a.stanza command (reached_of (ending_of result)) before.repo.view before.spool.view after.repo.view after.spool.view)
   pub promise : IfOk result (Promise a a.request (known before) (known after))
-  pub lasts : IfOk result (λ outcome. IsLookedAt a.stanza before.repo.view → Lasts a a.request before.tree.nodes after outcome)
+  pub lasts : IfOk result (λ outcome. IsLookedAt a.stanza before.repo.view → Lasts a a.request before.tree.nodes after.repo.view after.tree.nodes outcome)
   pub cause : IfErr result (OwnCause a before after)
   pub healed : OnOk result (IsSome before.repo.view.now → IfSome before.repo.view.now (AreHealed (plan_of a.request).pairs a.stanza) → IfSome after.repo.view.now (AreHealed (plan_of a.request).pairs a.stanza))
   pub spares : Spares a before after result
@@ -128,7 +128,7 @@ OnlyLocked a before after = TakesAll a before after
 
 -- where a log is kept, the answer holds of all that a crash leaves
 abbrev pub LastsAfter : Asked → Seen → Seen → Outcome → Type 0
-LastsAfter a before after outcome = (q : Repository) (log : List Done) → IsSome before.repo.view.now → KeepsRepository a.stanza q log before.repo.view → Lasts a a.request before.tree.nodes after outcome
+LastsAfter a before after outcome = (q : Repository) (log : List Done) → IsSome before.repo.view.now → KeepsRepository a.stanza q log before.repo.view → Lasts a a.request before.tree.nodes after.repo.view after.tree.nodes outcome
 
 pub record Did (a : Asked) (before after : Seen) (result : Result Outcome Fault) : Type 0 where
   pub steps : On (manner_of a.request a.data_folder before.tree.nodes) (λ command. Takes (plan_of a.request).settling a.stanza command (reached_of (ending_of result)) before.repo.view before.spool.view after.repo.view after.spool.view)

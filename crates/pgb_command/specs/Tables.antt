@@ -2,6 +2,7 @@
 use Rattle.std.specs.Prelude.{◌≡◌, true, false, Option, Some, IfSome, IsSome, IsSomeAnd}
 use Rattle.pgb_outside.specs.Content.{Content}
 use Rattle.pgb_outside.specs.Crash.{Leaves}
+use Rattle.pgb_outside.specs.Moments.{View}
 use Rattle.pgb_outside.specs.Tree.{Nodes}
 use Rattle.pgb_model.specs.declared.clusters.Cluster.{Cluster}
 use Rattle.pgb_model.specs.declared.wal.ArchiveName.{ArchiveName}
@@ -97,10 +98,10 @@ Promise a (report form) old new outcome = OnFinished outcome (IsReported a.stanz
     × OnStanza a old.repo (λ s. OnFinished outcome (ReportsStanza form a.stanza s))
 
 -- what a command that settles what it looks at alone promises of all that a crash leaves: a pushed file is alike in it, and what archive-get answers holds of it
-abbrev pub Lasts : Asked → Request → Option Nodes → Seen → Outcome → Type 0
-Lasts a (push path) nodes after outcome = OnFinished outcome (λ lines. IsLasting a.stanza a.data_folder path after.repo.view)
-Lasts a (get name path) nodes after outcome = (f : Content) → Leaves after.repo.view after.repo.view.moment f → GotBy a.stanza a.data_folder name path (Some f) nodes after.tree.nodes outcome
-Lasts a request nodes after outcome = Unit {0}
+abbrev pub Lasts : Asked → Request → Option Nodes → View → Option Nodes → Outcome → Type 0
+Lasts a (push path) nodes repo now_nodes outcome = OnFinished outcome (λ lines. IsLasting a.stanza a.data_folder path repo)
+Lasts a (get name path) nodes repo now_nodes outcome = (f : Content) → Leaves repo repo.moment f → GotBy a.stanza a.data_folder name path (Some f) nodes now_nodes outcome
+Lasts a request nodes repo now_nodes outcome = Unit {0}
 
 -- ---- what stays
 
