@@ -43,7 +43,7 @@ text_is f name v (inl m) = own_text v m.0 m.2
 text_is f name v (inr q) = own_text v q.1.0 q.1.2
 
 -- what has no member has no value
-no_pair : (f : Content) (name : Text) (v : ArchiveInfo) → PairAbsent f name → PairIs IsArchiveText f name v → ⊥
+pub no_pair : (f : Content) (name : Text) (v : ArchiveInfo) → PairAbsent f name → PairIs IsArchiveText f name v → ⊥
 no_pair f name v absent (inl m) = let e : ◌≡◌ {A = Option Text} None (Some m.0) = sym absent.0 ∙ m.1 in cc
 no_pair f name v absent (inr q) = let e : ◌≡◌ {A = Option Text} None (Some q.1.0) = sym absent.1 ∙ q.1.1 in cc
 

@@ -14,6 +14,7 @@ use Rattle.pgb_model.specs.Walks.{IsTight, StandsNow, StandsStill, Walks}
 use Rattle.pgb_model.proofs.Begun.{old_leaves}
 use Rattle.pgb_model.proofs.Frame.{pair_same}
 use Rattle.pgb_model.proofs.Walking.{rests_walks, walks_on}
+use Rattle.pgb_archive.specs.Still.{rests_none}
 use Rattle.pgb_stage.specs.Current.{HasValue}
 use Rattle.pgb_stage.specs.Runs.{Mends, PairAlike}
 use Rattle.pgb_stage.proofs.Doing.{now_told}
@@ -37,6 +38,9 @@ module _ (stanza : Text) where
     walks = λ at. reads_still old new rests same at.tight (now_told stanza old at.now);
   }
 
+  pub still_mends : (v : View) → Mends stanza v v
+  still_mends v = rests_mends v v (rests_none v) refl
+
   -- the pairs were mended, and then only was read
   pub mends_on : (a b d : View) → Mends stanza a b → Rests b d → d.now ≡ b.now → Mends stanza a d
   mends_on a b d mends rests same = record {
@@ -45,7 +49,7 @@ module _ (stanza : Text) where
   }
 
   -- members that are alike have one value
-  alike_value : (v : View) → IsAlikeAt (IsArchiveMember stanza) v → PairAlike stanza v
+  pub alike_value : (v : View) → IsAlikeAt (IsArchiveMember stanza) v → PairAlike stanza v
   alike_value v alike f g x now leaves has = pair_same IsArchiveText f g (archive_info stanza) x
       (alike f g now leaves (archive_info stanza) (inl refl)) (alike f g now leaves (copy_of (archive_info stanza)) (inr refl)) has
 

@@ -47,3 +47,10 @@ backup_refuses pairs stanza a b archive e still found cause =
       subst (λ (o : Option Content). HasArchive stanza o) same (value_of stanza b.now archive (found (both_has pairs cause.0))),
       subst (λ (o : Option Content). BackupCause stanza o e) same cause.1,
     )
+
+-- what holds where no pair is healed leads to this there
+pub reading_as : (pairs : Pairs) (P Q : Type 0) → (P → Q) → OnReading pairs P → OnReading pairs Q
+reading_as Unread P Q to h = to h
+reading_as ReadArchive P Q to h = to h
+reading_as HealArchive P Q to h = tt
+reading_as ReadBoth P Q to h = to h

@@ -46,11 +46,7 @@ pub fn prepare<D: Disk, T: Tree>(
 }
 
 // Settles all of the stanza's folders.
-fn settle_whole<D: Disk>(
-    alloc: Global,
-    repo: &mut D,
-    stanza: &str,
-) -> Result<(), Halt<StageFault>>
+fn settle_whole<D: Disk>(alloc: Global, repo: &mut D, stanza: &str) -> Result<(), Halt<StageFault>>
     ensures settled { OnOk result (SettlesFor Whole stanza.now (D.state repo.old).view (D.state repo.new).view) }
     ensures looks { Looks (D.state repo.old) (D.state repo.new) }
     ensures cause { IfErr result (RepoCause (λ _. Never) (D.state repo.old) (D.state repo.new)) }

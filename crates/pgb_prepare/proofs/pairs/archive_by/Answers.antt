@@ -1,5 +1,4 @@
-use Rattle.pgb_stage.proofs.Lifted.{still_mends}
-use Rattle.pgb_prepare.proofs.Mended.{rests_mends}
+use Rattle.pgb_prepare.proofs.Mended.{still_mends, rests_mends, rests_alike}
 use Rattle.pgb_prepare.proofs.pairs.archive_by.Goals as goal
 
 pub returns-in-Unread-clause-mends : goal.returns-in-Unread-clause-mends
@@ -10,3 +9,6 @@ returns-in_err-read_archive-in-ReadArchive-clause-mends g c = rests_mends c.args
 
 pub returns-in_ok-read_archive-in-ReadArchive-clause-mends : goal.returns-in_ok-read_archive-in-ReadArchive-clause-mends
 returns-in_ok-read_archive-in-ReadArchive-clause-mends g c = rests_mends c.args.stanza.now _ _ c.read_archive.ensures.looks.time c.read_archive.ensures.looks.now
+
+pub returns-in_ok-read_archive-in-ReadArchive-clause-alike : goal.returns-in_ok-read_archive-in-ReadArchive-clause-alike
+returns-in_ok-read_archive-in-ReadArchive-clause-alike g c = rests_alike c.args.stanza.now _ _ c.read_archive.ensures.looks.time c.read_archive.ensures.looks.now

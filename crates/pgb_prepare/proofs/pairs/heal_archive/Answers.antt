@@ -1,4 +1,4 @@
-use Rattle.pgb_stage.proofs.Lifted.{still_mends}
+use Rattle.pgb_prepare.proofs.Mended.{still_mends}
 use Rattle.pgb_prepare.proofs.pairs.heal_archive.Goals as goal
 
 pub returns-in_err-name-clause-mends : goal.returns-in_err-name-clause-mends

@@ -1,6 +1,6 @@
 use Rattle.pgb_model.specs.Values.{archive_info_of}
 use Rattle.pgb_stanza.proofs.Saves.{archive_name_is}
-use Rattle.pgb_prepare.proofs.Heals.{named_mends, named_only, named_value}
+use Rattle.pgb_prepare.proofs.Heals.{named_mends, named_alike, named_only, named_value}
 use Rattle.pgb_prepare.proofs.pairs.heal_pair_at.Goals as goal
 
 pub heal_pair-requires : goal.heal_pair-requires
@@ -21,3 +21,7 @@ returns-clause-found g c = let h = c.in_ok-info.ensures in
 pub returns-clause-only : goal.returns-clause-only
 returns-clause-only g c =
     named_only c.args.stanza.now c.args.name.now c.requires (g.D.Disk.state c.args.repo.now).view (g.D.Disk.state c.heal_pair.new.d).view c.heal_pair.ensures.now_part (archive_info_of c.in_ok-info.info) c.in_ok-info.ensures.found (returns-clause-found g c).0
+
+pub returns-clause-alike : goal.returns-clause-alike
+returns-clause-alike g c = let h = c.heal_pair.ensures in
+    named_alike c.args.stanza.now c.args.name.now c.requires (g.D.Disk.state c.args.repo.now).view (g.D.Disk.state c.heal_pair.new.d).view h.now_part h.crash h.idle h.told (archive_info_of c.in_ok-info.info) c.in_ok-info.ensures.found (returns-clause-found g c).0

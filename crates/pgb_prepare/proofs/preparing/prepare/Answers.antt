@@ -1,4 +1,7 @@
+use Rattle.std.proofs.lemmas.Result.{on_ok_weaker}
+use Rattle.pgb_archive.specs.Still.{still_on}
 use Rattle.pgb_stage.proofs.Lifted.{rests_quiet}
+use Rattle.pgb_prepare.proofs.Readings.{reading_as}
 use Rattle.pgb_prepare.proofs.Begun.{prepared_quiet, prepared_begins}
 use Rattle.pgb_prepare.proofs.preparing.prepare.Goals as goal
 
@@ -7,3 +10,11 @@ returns-in_err-settle-clause-quiet g c = rests_quiet c.args.stanza.now _ _ c.set
 
 pub returns-clause-quiet : goal.returns-clause-quiet
 returns-clause-quiet g c = let h = c.settle.ensures.looks in prepared_quiet c.args.stanza.now _ _ h.time h.now _ c.find.ensures.mends c.args.plan.now.settling c.in_ok-settle.ensures.settled
+
+pub returns-clause-begun : goal.returns-clause-begun
+returns-clause-begun g c = let h = c.settle.ensures.looks in
+    on_ok_weaker c.find.result (λ alike. prepared_begins c.args.stanza.now _ _ h.time h.now _ c.find.ensures.mends c.args.plan.now.settling c.in_ok-settle.ensures.settled alike) c.find.ensures.alike
+
+pub returns-clause-still : goal.returns-clause-still
+returns-clause-still g c = let h = c.settle.ensures.looks in
+    reading_as c.args.plan.now.pairs _ _ (λ still. still_on (g.D.Disk.state c.args.repo.now).view (g.D.Disk.state c.settle.new.repo).view (g.D.Disk.state c.find.new.repo).view (record { now = h.now; time = h.time }) still) c.find.ensures.still
