@@ -87,7 +87,8 @@ pub(crate) fn look_in_folder<D: Disk>(
     names: &FileNames,
 ) -> Result<Look, ArchiveFault>
     ensures shows { IfOk result (λ look. IfSome (D.state d.old).view.now
-        (λ f. (stanza : Text) (id : ArchiveId) (name : ArchiveName) → AreNamesOf stanza id name names.now → has_sum name ≡ true → Shows stanza id name f look)) }
+        (λ f. (stanza : Text) (id : ArchiveId) (name : ArchiveName) → AreNamesOf stanza id name names.now
+        → has_sum name ≡ true → Shows stanza id name f look)) }
     ensures looks { Looks (D.state d.old) (D.state d.new) }
     ensures cause { IsErrOf result ArchiveFault.Disk → Rises (D.state d.old).faults (D.state d.new).faults }
     ensures stops { IfErr result IsStop }
@@ -101,8 +102,10 @@ pub(crate) fn look_in_folder<D: Disk>(
 fn look_at<D: Disk>(alloc: Global, d: &mut D, names: &FileNames) -> Result<Look, ArchiveFault>
     requires { names.now.has_sum ≡ false }
     ensures shows { IfOk result (λ look. IfSome (D.state d.old).view.now
-        (λ f. (stanza : Text) (id : ArchiveId) (name : ArchiveName) → AreNamesOf stanza id name names.now → Shows stanza id name f look)) }
-    ensures cause { IfErr result (LookCause names.now (D.state d.old).view.now (Rises (D.state d.old).faults (D.state d.new).faults)) }
+        (λ f. (stanza : Text) (id : ArchiveId) (name : ArchiveName) → AreNamesOf stanza id name names.now
+        → Shows stanza id name f look)) }
+    ensures cause { IfErr result (LookCause names.now (D.state d.old).view.now (Rises (D.state d.old).faults
+        (D.state d.new).faults)) }
     ensures looks { Looks (D.state d.old) (D.state d.new) }
 {
     match read_whole(alloc, d, names.front.as_str(), HISTORY_LIMIT)? {
@@ -122,8 +125,10 @@ pub(crate) fn look_for<D: Disk>(
     names: &FileNames,
 ) -> Result<Look, ArchiveFault>
     ensures shows { IfOk result (λ look. IfSome (D.state d.old).view.now
-        (λ f. (stanza : Text) (id : ArchiveId) (name : ArchiveName) → AreNamesOf stanza id name names.now → Shows stanza id name f look)) }
-    ensures cause { IfErr result (LookCause names.now (D.state d.old).view.now (Rises (D.state d.old).faults (D.state d.new).faults)) }
+        (λ f. (stanza : Text) (id : ArchiveId) (name : ArchiveName) → AreNamesOf stanza id name names.now
+        → Shows stanza id name f look)) }
+    ensures cause { IfErr result (LookCause names.now (D.state d.old).view.now (Rises (D.state d.old).faults
+        (D.state d.new).faults)) }
     ensures looks { Looks (D.state d.old) (D.state d.new) }
 {
     if names.has_sum {
@@ -142,8 +147,10 @@ pub(crate) fn look_settled<D: Disk>(
     ensures settled { OnOk result (Settles (LiesDirectlyIn (string_bytes names.now.folder))
         (D.state d.old).view (D.state d.new).view) }
     ensures shows { IfOk result (λ look. IfSome (D.state d.old).view.now
-        (λ f. (stanza : Text) (id : ArchiveId) (name : ArchiveName) → AreNamesOf stanza id name names.now → Shows stanza id name f look)) }
-    ensures cause { IfErr result (LookCause names.now (D.state d.old).view.now (Rises (D.state d.old).faults (D.state d.new).faults)) }
+        (λ f. (stanza : Text) (id : ArchiveId) (name : ArchiveName) → AreNamesOf stanza id name names.now
+        → Shows stanza id name f look)) }
+    ensures cause { IfErr result (LookCause names.now (D.state d.old).view.now (Rises (D.state d.old).faults
+        (D.state d.new).faults)) }
     ensures looks { Looks (D.state d.old) (D.state d.new) }
 {
     d.settle_in(names.folder.as_str())?;

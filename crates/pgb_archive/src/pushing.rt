@@ -39,8 +39,10 @@ pub enum Pushed {
 fn check_bytes(name: &ArchiveName, system: u64, front: Front<'_>) -> Result<(), ArchiveFault>
     requires long { (40 ≤ length front.bytes.now) ⊎ (length front.bytes.now ≡ front.length) }
     requires within { length front.bytes.now ≤ front.length }
-    ensures right { OnOk result ((bytes : Text) → BeginsWith front.entry.bytes.now front.entry.length bytes → IsFileOf name.now bytes system) }
-    ensures wrong { IfErr result (λ e. (bytes : Text) → BeginsWith front.entry.bytes.now front.entry.length bytes → HeaderCause name.now bytes system e) }
+    ensures right { OnOk result ((bytes : Text) → BeginsWith front.entry.bytes.now front.entry.length bytes
+        → IsFileOf name.now bytes system) }
+    ensures wrong { IfErr result (λ e. (bytes : Text) → BeginsWith front.entry.bytes.now front.entry.length bytes
+        → HeaderCause name.now bytes system e) }
 {
     if !has_sum(name) {
         return Ok(());
@@ -63,7 +65,8 @@ fn look_checked<D: Disk>(
     requires within { length front.bytes.now ≤ front.length }
     ensures names { IfOk result (λ x. AreNamesOf stanza.now id name.now x.0) }
     ensures shows { IfOk result (λ x. IfSome (D.state d.old).view.now (λ f. Shows stanza.now id name.now f x.1)) }
-    ensures settled { OnOk result (Settles (IsPathOf stanza.now id name.now) (D.state d.old).view (D.state d.new).view) }
+    ensures settled { OnOk result (Settles (IsPathOf stanza.now id name.now) (D.state d.old).view
+        (D.state d.new).view) }
     ensures places { OnOk result (HasPlaces id name.now) }
     ensures right { OnOk result (AreOfSystem name.now system front.entry.bytes.now front.entry.length) }
     ensures cause { IfErr result (λ e. (bytes : Text) → BeginsWith front.entry.bytes.now front.entry.length bytes

@@ -35,9 +35,11 @@ const SEGMENT_LIMIT: u64 = 1 << 30;
 // The bytes at a path, which have the sum that it tells. A file that was listed and isn't there any more is told as want of
 // memory: that it isn't archived would end a recovery.
 fn read_kept<D: Disk>(alloc: Global, d: &mut D, kept: &Kept) -> Result<Vec<u8>, ArchiveFault>
-    ensures whole { IfOk result (λ bytes. (sha1 bytes.items ≡ kept.now.sum.0) × IfSome (D.state d.old).view.now (λ f. f (string_bytes kept.now.path) ≡ Some bytes.items)) }
+    ensures whole { IfOk result (λ bytes. (sha1 bytes.items ≡ kept.now.sum.0) × IfSome (D.state d.old).view.now
+        (λ f. f (string_bytes kept.now.path) ≡ Some bytes.items)) }
     ensures within { IfOk result (λ bytes. length bytes.items ≤ 2 ^ 30) }
-    ensures cause { IfErr result (ReadCause kept.now (D.state d.old).view.now (Rises (D.state d.old).faults (D.state d.new).faults)) }
+    ensures cause { IfErr result (ReadCause kept.now (D.state d.old).view.now (Rises (D.state d.old).faults
+        (D.state d.new).faults)) }
     ensures looks { Looks (D.state d.old) (D.state d.new) }
 {
     let Some(bytes) = read_whole(alloc, d, kept.path.as_str(), SEGMENT_LIMIT)? else {
@@ -60,9 +62,11 @@ fn get_segment<D: Disk>(
     names: &FileNames,
 ) -> Result<Vec<u8>, ArchiveFault>
     ensures got { IfOk result (λ bytes. IfSome (D.state d.old).view.now
-        (λ f. (stanza : Text) (id : ArchiveId) (name : ArchiveName) → AreNamesOf stanza id name names.now → has_sum name ≡ true → StoresBytes stanza id name f (sha1 bytes.items) bytes.items)) }
+        (λ f. (stanza : Text) (id : ArchiveId) (name : ArchiveName) → AreNamesOf stanza id name names.now
+        → has_sum name ≡ true → StoresBytes stanza id name f (sha1 bytes.items) bytes.items)) }
     ensures within { IfOk result (λ bytes. length bytes.items ≤ 2 ^ 30) }
-    ensures cause { IfErr result (λ e. (stanza : Text) (id : ArchiveId) (name : ArchiveName) → AreNamesOf stanza id name names.now → has_sum name ≡ true
+    ensures cause { IfErr result (λ e. (stanza : Text) (id : ArchiveId) (name : ArchiveName)
+        → AreNamesOf stanza id name names.now → has_sum name ≡ true
         → GetCause stanza id name (D.state d.old).view.now (Rises (D.state d.old).faults (D.state d.new).faults) e) }
     ensures looks { Looks (D.state d.old) (D.state d.new) }
 {
@@ -76,9 +80,11 @@ fn get_segment<D: Disk>(
 // A file whose path has no sum.
 fn get_other<D: Disk>(alloc: Global, d: &mut D, names: &FileNames) -> Result<Vec<u8>, ArchiveFault>
     ensures got { IfOk result (λ bytes. IfSome (D.state d.old).view.now
-        (λ f. (stanza : Text) (id : ArchiveId) (name : ArchiveName) → AreNamesOf stanza id name names.now → has_sum name ≡ false → StoresBytes stanza id name f (sha1 bytes.items) bytes.items)) }
+        (λ f. (stanza : Text) (id : ArchiveId) (name : ArchiveName) → AreNamesOf stanza id name names.now
+        → has_sum name ≡ false → StoresBytes stanza id name f (sha1 bytes.items) bytes.items)) }
     ensures within { IfOk result (λ bytes. length bytes.items ≤ 2 ^ 20) }
-    ensures cause { IfErr result (λ e. (stanza : Text) (id : ArchiveId) (name : ArchiveName) → AreNamesOf stanza id name names.now → has_sum name ≡ false
+    ensures cause { IfErr result (λ e. (stanza : Text) (id : ArchiveId) (name : ArchiveName)
+        → AreNamesOf stanza id name names.now → has_sum name ≡ false
         → GetCause stanza id name (D.state d.old).view.now (Rises (D.state d.old).faults (D.state d.new).faults) e) }
     ensures looks { Looks (D.state d.old) (D.state d.new) }
 {
@@ -98,7 +104,8 @@ fn names_settled<D: Disk>(
 ) -> Result<FileNames, ArchiveFault>
     ensures names { IfOk result (AreNamesOf stanza.now id name.now) }
     ensures places { OnOk result (HasPlaces id name.now) }
-    ensures settled { OnOk result (Settles (IsPathOf stanza.now id name.now) (D.state d.old).view (D.state d.new).view) }
+    ensures settled { OnOk result (Settles (IsPathOf stanza.now id name.now) (D.state d.old).view
+        (D.state d.new).view) }
     ensures cause { IsErrOf result ArchiveFault.Disk → Rises (D.state d.old).faults (D.state d.new).faults }
     ensures stops { IfErr result IsStop }
     ensures looks { Looks (D.state d.old) (D.state d.new) }
@@ -117,16 +124,20 @@ pub fn get<D: Disk>(
     name: &ArchiveName,
 ) -> Result<Vec<u8>, ArchiveFault>
     // They are stored with no other sum, and as a file of the repository.
-    ensures got { IfOk result (λ bytes. IfSome (D.state d.old).view.now (λ f. StoresBytes stanza.now id.now name.now f (sha1 bytes.items) bytes.items)) }
+    ensures got { IfOk result (λ bytes. IfSome (D.state d.old).view.now
+        (λ f. StoresBytes stanza.now id.now name.now f (sha1 bytes.items) bytes.items)) }
     ensures within { IfOk result (λ bytes. length bytes.items ≤ limit_of name.now) }
-    ensures archived { IfOk result (λ bytes. (s : Stanza) → IsSome (D.state d.old).view.now → NowStands stanza.now (Some s) (D.state d.old).view.now
+    ensures archived { IfOk result (λ bytes. (s : Stanza) → IsSome (D.state d.old).view.now
+        → NowStands stanza.now (Some s) (D.state d.old).view.now
         → In (archived_file id.now name.now bytes.items) s.archived) }
-    ensures unarchived { IsErrOf result ArchiveFault.NotFound → (s : Stanza) → IsSome (D.state d.old).view.now → NowStands stanza.now (Some s) (D.state d.old).view.now
+    ensures unarchived { IsErrOf result ArchiveFault.NotFound → (s : Stanza) → IsSome (D.state d.old).view.now
+        → NowStands stanza.now (Some s) (D.state d.old).view.now
         → IsUnarchived id.now name.now s.archived }
     // All that a stop leaves is alike at the file's paths, so none takes the answer away.
     ensures alike { OnAnswer result (IsTight stanza.now (D.state d.old).view → IsSome (D.state d.old).view.now
         → IsAlikeAt (IsPathOf stanza.now id.now name.now) (D.state d.new).view) }
-    ensures cause { IfErr result (GetCause stanza.now id.now name.now (D.state d.old).view.now (Rises (D.state d.old).faults (D.state d.new).faults)) }
+    ensures cause { IfErr result (GetCause stanza.now id.now name.now (D.state d.old).view.now (Rises
+        (D.state d.old).faults (D.state d.new).faults)) }
     ensures looks { Looks (D.state d.old) (D.state d.new) }
 {
     let names = names_settled(alloc, d, stanza, *id, name)?;
@@ -160,11 +171,13 @@ pub fn present<D: Disk>(
     id: &ArchiveId,
     name: &ArchiveName,
 ) -> Result<Option<Stored>, ArchiveFault>
-    ensures finds { IfOk result (λ file. IfSome (D.state d.old).view.now (λ f. Finds stanza.now id.now name.now f file)) }
+    ensures finds { IfOk result (λ file. IfSome (D.state d.old).view.now
+        (λ f. Finds stanza.now id.now name.now f file)) }
     // All that a stop leaves is alike at the file's paths, so none takes the answer away.
     ensures alike { OnOk result (IsTight stanza.now (D.state d.old).view → IsSome (D.state d.old).view.now
         → IsAlikeAt (IsPathOf stanza.now id.now name.now) (D.state d.new).view) }
-    ensures cause { IfErr result (PresentCause stanza.now id.now name.now (D.state d.old).view.now (Rises (D.state d.old).faults (D.state d.new).faults)) }
+    ensures cause { IfErr result (PresentCause stanza.now id.now name.now (D.state d.old).view.now (Rises
+        (D.state d.old).faults (D.state d.new).faults)) }
     ensures looks { Looks (D.state d.old) (D.state d.new) }
 {
     let names = file_names(alloc, stanza, *id, *name)?;

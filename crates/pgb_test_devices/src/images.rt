@@ -34,7 +34,12 @@ fn loose_then(alloc: Global, disk: &MemDisk, moment: u64) -> Result<String, Allo
 }
 
 // What a name keeps at a moment, `-` for nothing and else the bytes.
-fn kept_then(alloc: Global, disk: &MemDisk, moment: u64, name: &str) -> Result<String, AllocError> {
+pub(crate) fn kept_then(
+    alloc: Global,
+    disk: &MemDisk,
+    moment: u64,
+    name: &str,
+) -> Result<String, AllocError> {
     let mut text = String::new(alloc);
     for value in &disk.kept(alloc, moment, name)? {
         match value {

@@ -12,6 +12,8 @@ mod files;
 #[cfg(test)]
 mod images;
 #[cfg(test)]
+mod lasting;
+#[cfg(test)]
 mod locks;
 #[cfg(test)]
 mod pushes;

@@ -14,7 +14,7 @@ use pgb_outside::{NotThere, Stop};
 use std::alloc::{AllocError, Global};
 use std::process::Abort;
 
-const SYSTEM: u64 = 6917529027641081857;
+pub(crate) const SYSTEM: u64 = 6917529027641081857;
 
 fn word_of(pushed: Pushed) -> &'static str {
     match pushed {

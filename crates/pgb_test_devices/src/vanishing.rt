@@ -66,8 +66,8 @@ impl Disk for Vanishing {
         self.other.settle(folder)
     }
 
-    fn settle_in(&mut self, folder: &str) -> Result<(), Stop> {
-        self.other.settle_in(folder)
+    fn settle_in(&mut self, _folder: &str) -> Result<(), Stop> {
+        Ok(())
     }
 }
 
