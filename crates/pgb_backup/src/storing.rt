@@ -8,6 +8,7 @@ ghost use Rattle.pgb_dispatch.specs.Payloads.{AllByFile};
 ghost use Rattle.pgb_dispatch.specs.Run.{AllDone, AddsLosses, Left, IsReady};
 ghost use Rattle.pgb_label.specs.Keeping.{IsPlan, Agrees, is_own};
 ghost use Rattle.pgb_label.specs.Keeper.{names_of, progress_in, stored_in};
+ghost use Rattle.pgb_label.specs.Placed.{IsPlacedIn};
 ghost use Rattle.pgb_label.specs.Relation.{Touches};
 ghost use Rattle.pgb_label.specs.Sealed.{IsSealed};
 ghost use Rattle.pgb_backup.specs.Faults.{StoreFails};
@@ -38,9 +39,12 @@ pub fn store<'a, D: Disk, L: Link, U: Turns>(
     requires fits { All (λ j. FitsJob (job_of j)) jobs.now }
     requires ready { (i : ℕ) (s : LinkState) → slice_get (map L.link_state links.old.items) i ≡ Some s → IsReady s }
 
-    // No name but those of the folder's backup is touched. At Ok a crash leaves each of them as it is.
+    // No name but those of the folder's backup is touched. At Ok a crash leaves each of them as it is, and so each item
+    // with bytes lies at its job's name, behind the items before it.
     ensures touches { Touches (is_own folder.now) (D.state d.old).view (D.state d.new).view }
     ensures sealed { OnOk result (IsSealed (is_own folder.now) (D.state d.new).view) }
+    ensures placed { IfOk result (λ k. IsPlacedIn (names_of k) (stored_in k (D.state d.new).view.now)
+        (D.state d.new).view) }
     ensures frame { Frame (D.state d.old) (D.state d.new) }
 
     // Each job's bytes lie at its name, as many as the keeper tells, and they are what the links read.
@@ -56,7 +60,8 @@ pub fn store<'a, D: Disk, L: Link, U: Turns>(
         lost.old.items lost.new.items (map L.link_state links.new.items)) }
     ensures told { AddsLosses (map job_of jobs.now) (map L.link_state links.old.items) lost.old.items lost.new.items }
     ensures fault { IfErr result (λ e. StoreFails e (map job_of jobs.now) (map L.link_state links.old.items)
-        (map L.link_state links.new.items) lost.old.items lost.new.items (D.state d.old).faults (D.state d.new).faults) }
+        (map L.link_state links.new.items) lost.old.items lost.new.items
+        (D.state d.old).faults (D.state d.new).faults) }
 {
     let mut keep = BackupKeeper::new(alloc, folder, jobs, names)?;
     match run_jobs(alloc, jobs, links, turns, &mut keep, d, lost) {

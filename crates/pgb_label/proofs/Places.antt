@@ -4,12 +4,14 @@ use Rattle.std.specs.Prelude.{IsSome, IfSome, IsSomeAnd, option_map, unwrap_or, 
 use Rattle.std.proofs.lemmas.Bool.{true_from_ne_false}
 use Rattle.std.proofs.lemmas.List.{length-take-le, drop-drop}
 use Rattle.pgb_outside.specs.Content.{Name, Value, Content, HasBytes, Holds, at}
+use Rattle.pgb_outside.specs.Moments.{View}
 use Rattle.pgb_model.specs.Place.{LiesAt}
 use Rattle.pgb_keep.specs.KeepState.{Held, Done, Kept}
 use Rattle.pgb_label.specs.declared.keeper.Ended.{Ended}
 use Rattle.pgb_label.specs.Keeping.{Progress, keeps, kept_of, job_bytes, dones, total, Agrees, IsKept, IsPlan, is_own}
-use Rattle.pgb_label.proofs.Made.{HasStored}
-use Rattle.pgb_label.specs.Placed.{held_sum, IsPlaced}
+use Rattle.pgb_label.proofs.Made.{HasStored, sealed_in}
+use Rattle.pgb_label.specs.Placed.{held_sum, IsPlaced, IsPlacedIn}
+use Rattle.pgb_label.specs.Sealed.{IsSealed}
 use Rattle.pgb_label.proofs.Kept.{some_and, keeps_at, known}
 
 done_is : Ended → Option (List ℕ) → Done
@@ -88,6 +90,11 @@ module _ (folder : Name) (names : List Name) (ps : List Progress) (f g : Content
 pub placed : (folder : Name) (names : List Name) (ps : List Progress) (now : Option Content) (g : Content) → IsSome now → IsPlan folder names → Agrees names ps now → HasStored (is_own folder) now g → IsPlaced names (keeps names ps now) g
 placed folder names ps None g told plan agree has = cc
 placed folder names ps (Some f) g told plan agree has = placed_in folder names ps f g plan agree has
+
+-- what is sealed lies there whatever a crash leaves
+pub sealed_placed : (folder : Name) (names : List Name) (ps : List Progress) (v : View) → IsPlan folder names → Agrees names ps v.now → IsSealed (is_own folder) v → IsPlacedIn names (keeps names ps v.now) v
+sealed_placed folder names ps v plan agree sealed told g leaves =
+    placed folder names ps v.now g told plan agree (record { stored = λ n is lasts has. sealed_in (is_own folder) v sealed g leaves n is has })
 
 -- a name at which an item with bytes lies has bytes
 pub bytes_at : (names : List Name) (ps : List Progress) (now : Option Content) → IsSome now → Agrees names ps now → (j i : ℕ) (n : Name) (k : Kept) (d : Done) → slice_get names j ≡ Some n → slice_get (keeps names ps now) j ≡ Some k
