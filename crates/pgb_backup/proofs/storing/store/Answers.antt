@@ -1,0 +1,26 @@
+use Rattle.std.proofs.Common.{map, string_bytes, length, ap, arith, subst, sym, ◌∙◌}
+use Rattle.std.proofs.lemmas.List.{length-map}
+use Rattle.pgb_frame.specs.Views.{job_of}
+use Rattle.pgb_label.specs.Keeping.{progress_of, IsPlan, Agrees}
+use Rattle.pgb_label.specs.Keeper.{names_of, progress_in}
+use Rattle.pgb_label.proofs.Fresh.{fresh_keeps, fresh_agrees}
+use Rattle.pgb_label.proofs.Places.{sealed_placed}
+use Rattle.pgb_backup.proofs.storing.store.Goals as goal
+
+pub run_jobs-requires-clause-empty : goal.run_jobs-requires-clause-empty
+run_jobs-requires-clause-empty g c = λ j lt.
+    let k = c.in_ok-keep.keep in
+    fresh_keeps (names_of k) (progress_in k) (g.D.Disk.state c.args.d.now).view.now j c.in_ok-keep.ensures.empty
+    (omega (arith, k.same_states, k.states.ok, length-map k.states.items progress_of, length-map k.names.now string_bytes))
+    (omega (arith, lt, length-map c.args.jobs.now job_of, c.requires.same, ap length c.in_ok-keep.ensures.names, length-map c.args.names.now string_bytes))
+
+pub run_jobs-requires-clause-agrees : goal.run_jobs-requires-clause-agrees
+run_jobs-requires-clause-agrees g c = let k = c.in_ok-keep.keep in fresh_agrees (names_of k) (progress_in k) (g.D.Disk.state c.args.d.now).view.now c.in_ok-keep.ensures.empty
+
+pub returns-in-Ok-clause-placed : goal.returns-in-Ok-clause-placed
+returns-in-Ok-clause-placed g c =
+    let k = c.run_jobs.new.keep in
+    let v = (g.D.Disk.state c.seal.new.d).view in
+    let plan : IsPlan c.args.folder.now (names_of k) = subst (λ f. IsPlan f (names_of k)) (c.run_jobs.ensures.later.0.folder ∙ c.in_ok-keep.ensures.folder) k.plan in
+    let agree : Agrees (names_of k) (progress_in k) v.now = subst (λ o. Agrees (names_of k) (progress_in k) o) (sym c.seal.ensures.now) c.in-Ok.ensures.agrees in
+    sealed_placed c.args.folder.now (names_of k) (progress_in k) v plan agree c.in_ok-seal-in-Ok.ensures.sealed

@@ -1,0 +1,77 @@
+// The bytes of a backup.
+ghost use Rattle.std.specs.Prelude.{◌≡◌, ◌<◌, ◌^◌, ℕ, Some, All, map, length, vec_len, slice_get, string_bytes, IfOk, IfErr, OnOk};
+ghost use Rattle.pgb_outside.specs.Links.{LinkState};
+ghost use Rattle.pgb_outside.specs.States.{Frame};
+ghost use Rattle.pgb_frame.specs.Frames.{FitsJob};
+ghost use Rattle.pgb_frame.specs.Views.{job_of};
+ghost use Rattle.pgb_dispatch.specs.Payloads.{AllByFile};
+ghost use Rattle.pgb_dispatch.specs.Run.{AllDone, AddsLosses, Left, IsReady};
+ghost use Rattle.pgb_label.specs.Keeping.{IsPlan, Agrees, is_own};
+ghost use Rattle.pgb_label.specs.Keeper.{names_of, progress_in, stored_in};
+ghost use Rattle.pgb_label.specs.Placed.{IsPlacedIn};
+ghost use Rattle.pgb_label.specs.Relation.{Touches};
+ghost use Rattle.pgb_label.specs.Sealed.{IsSealed};
+ghost use Rattle.pgb_backup.specs.Faults.{StoreFails};
+
+use crate::fault::MakeFault;
+use pgb_dispatch::{DispatchFault, Lost, run_jobs};
+use pgb_frame::Job;
+use pgb_label::{BackupKeeper, seal};
+use pgb_outside::{Disk, Link, Turns};
+use std::alloc::Global;
+
+/// Has the jobs done, and stores the bytes of each at its name below the folder, to last. What is stored may be partial
+/// where it fails.
+pub fn store<'a, D: Disk, L: Link, U: Turns>(
+    alloc: Global,
+    d: &mut D,
+    links: &mut Vec<L>,
+    turns: &mut U,
+    lost: &mut Vec<Lost>,
+    folder: &'a str,
+    jobs: &'a [Job],
+    names: &'a [String],
+) -> Result<BackupKeeper<'a>, MakeFault>
+    requires plan { IsPlan folder.now (map string_bytes names.now) }
+    requires same { length jobs.now ≡ length names.now }
+    requires few { vec_len links.old < 2 ^ 32 }
+    requires few_jobs { length jobs.now < 2 ^ 32 }
+    requires fits { All (λ j. FitsJob (job_of j)) jobs.now }
+    requires ready { (i : ℕ) (s : LinkState) → slice_get (map L.link_state links.old.items) i ≡ Some s → IsReady s }
+
+    // No name but those of the folder's backup is touched. At Ok a crash leaves each of them as it is, and so each item
+    // with bytes lies at its job's name, behind the items before it.
+    ensures touches { Touches (is_own folder.now) (D.state d.old).view (D.state d.new).view }
+    ensures sealed { OnOk result (IsSealed (is_own folder.now) (D.state d.new).view) }
+    ensures placed { IfOk result (λ k. IsPlacedIn (names_of k) (stored_in k (D.state d.new).view.now)
+        (D.state d.new).view) }
+    ensures frame { Frame (D.state d.old) (D.state d.new) }
+
+    // Each job's bytes lie at its name, as many as the keeper tells, and they are what the links read.
+    ensures names { IfOk result (λ k. names_of k ≡ map string_bytes names.now) }
+    ensures agrees { IfOk result (λ k. Agrees (names_of k) (progress_in k) (D.state d.new).view.now) }
+    ensures done { IfOk result (λ k. AllDone (map job_of jobs.now) (map L.link_state links.old.items)
+        (stored_in k (D.state d.new).view.now)) }
+    ensures payload { IfOk result (λ k. AllByFile (map job_of jobs.now) (map L.link_state links.old.items)
+        (stored_in k (D.state d.new).view.now)) }
+
+    // The links that weren't lost are left at Ok, and each of the others is told.
+    ensures left { OnOk result (Left (map job_of jobs.now) (map L.link_state links.old.items)
+        lost.old.items lost.new.items (map L.link_state links.new.items)) }
+    ensures told { AddsLosses (map job_of jobs.now) (map L.link_state links.old.items) lost.old.items lost.new.items }
+    ensures fault { IfErr result (λ e. StoreFails e (map job_of jobs.now) (map L.link_state links.old.items)
+        (map L.link_state links.new.items) lost.old.items lost.new.items
+        (D.state d.old).faults (D.state d.new).faults) }
+{
+    let mut keep = BackupKeeper::new(alloc, folder, jobs, names)?;
+    match run_jobs(alloc, jobs, links, turns, &mut keep, d, lost) {
+        Ok(()) => {
+            seal(alloc, d, folder)?;
+            Ok(keep)
+        }
+        Err(DispatchFault::WorkersLost) => Err(MakeFault::WorkersLost),
+        Err(DispatchFault::Unread { job, item }) => Err(MakeFault::Unread { job, item }),
+        Err(DispatchFault::Keep) => Err(MakeFault::Disk),
+        Err(DispatchFault::NoMemory) => Err(MakeFault::NoMemory),
+    }
+}
