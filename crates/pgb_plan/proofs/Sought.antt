@@ -1,5 +1,5 @@
 -- The entry of a path among files in the order of their paths.
-use Rattle.std.proofs.Common.{◌≡◌, ⊎_elim, inl, inr, ℕ, ◌<◌, Bool, true, false, List, [], ◌∷◌, map, length, get_or, Ordering, Less, Equal, Greater, nat_cmp, Option, Some, None, refl, sym, ap, ◌∙◌, subst}
+use Rattle.std.proofs.Common.{◌≡◌, inl, inr, ℕ, ◌<◌, Bool, true, false, List, [], ◌∷◌, map, length, get_or, Less, Equal, Greater, nat_cmp, Option, Some, None, refl, sym, ap, ◌∙◌}
 use Rattle.std.specs.Prelude.{if◌then◌else◌, bytes_eq}
 use Rattle.std.specs.Cmp.Lexicographic.{slice_cmp}
 use Rattle.std.specs.List.{HoldsAt}
@@ -12,6 +12,7 @@ use Rattle.pgb_model.specs.Values.{FileEntry, file_entry_of}
 use Rattle.pgb_model.specs.declared.files.FileEntry as rust
 use Rattle.pgb_ini.proofs.Orders.{not_itself}
 use Rattle.pgb_plan.specs.Listed.{entry_at}
+use Rattle.pgb_plan.proofs.Lists.{in_map, of_map, map_map}
 use Rattle.pgb_plan.proofs.Searched.{in_at, later, found, absent}
 
 abbrev pub path_of : FileEntry → Text
@@ -43,20 +44,6 @@ entry_some key e (f ∷ fs) x order (inr i) same =
 ordered_some : (key : Text) (es : List FileEntry) (x : FileEntry) → are_in_order (map path_of es) ≡ true → In x es → x.path ≡ key → entry_at key es ≡ Some x
 ordered_some key [] x order i same = absurd i
 ordered_some key (e ∷ es) x order i same = entry_some key e es x order i same
-
-in_map : {X Y : Type 0} (f : X → Y) (xs : List X) (x : X) → In x xs → In (f x) (map f xs)
-in_map f [] x i = absurd i
-in_map f (y ∷ ys) x (inl e) = inl (ap f e)
-in_map f (y ∷ ys) x (inr j) = inr (in_map f ys x j)
-
-of_map : {X Y : Type 0} (f : X → Y) (xs : List X) (y : Y) → In y (map f xs) → (x : X) × In x xs × (f x ≡ y)
-of_map f [] y i = absurd i
-of_map f (x ∷ xs) y (inl e) = (x, inl refl, sym e)
-of_map f (x ∷ xs) y (inr j) = let r = of_map f xs y j in (r.0, inr r.1, r.2)
-
-map_map : {X Y Z : Type 0} (f : Y → Z) (g : X → Y) (xs : List X) → map f (map g xs) ≡ map (λ x. f (g x)) xs
-map_map f g [] = refl
-map_map f g (x ∷ xs) = ap (λ (zs : List _). f (g x) ∷ zs) (map_map f g xs)
 
 module _ (old : List rust.FileEntry) (order : are_in_order (map path_of (map file_entry_of old)) ≡ true) (key : Text) (i : ℕ) where
   -- the entry that a search finds
