@@ -13,7 +13,7 @@ use Rattle.pgb_model.specs.Text.{Text, In}
 use Rattle.pgb_model.specs.Paths.{elements}
 use Rattle.pgb_plan.specs.Omitted.{is_passing, is_omitted, is_by_name, is_of_top, is_settings_folder, is_file, is_cache}
 use Rattle.pgb_plan.specs.Listed.{Taken}
-use Rattle.pgb_plan.specs.Taken.{Listed, is_kept, is_special, kept, file_at, folder_at, files_of, folders_of}
+use Rattle.pgb_plan.specs.Filter.{ListedNode, is_kept, is_special, kept, file_at, folder_at, files_of, folders_of}
 use Rattle.pgb_plan.proofs.Lists.{in_parts}
 
 -- ---- a temporary name has a passing element
@@ -63,11 +63,11 @@ not_temporary path none t =
 
 -- ---- what is kept
 
-pub kept_is : (online : Bool) (seen : List Listed) (n : Listed) → In n (kept online seen) → (is_kept online n ≡ true) × In n seen
+pub kept_is : (online : Bool) (seen : List ListedNode) (n : ListedNode) → In n (kept online seen) → (is_kept online n ≡ true) × In n seen
 kept_is online [] n i = absurd i
 kept_is online (m ∷ ms) n i = by (is_kept online m) refl (kept_is online ms n) i where
   by : (b : Bool) → is_kept online m ≡ b → (In n (kept online ms) → (is_kept online n ≡ true) × In n ms) → In n (if b then m ∷ kept online ms else kept online ms) → (is_kept online n ≡ true) × In n (m ∷ ms)
-  by true is rest (inl e) = (subst (λ (k : Listed). is_kept online k ≡ true) (sym e) is, inl e)
+  by true is rest (inl e) = (subst (λ (k : ListedNode). is_kept online k ≡ true) (sym e) is, inl e)
   by true is rest (inr j) = let r = rest j in (r.0, inr r.1)
   by false is rest j = let r = rest j in (r.0, inr r.1)
 
@@ -75,7 +75,7 @@ not_true : (b : Bool) → not b ≡ true → b ≡ false
 not_true true h = sym h
 not_true false h = refl
 
-pub not_omitted : (online : Bool) (n : Listed) → is_kept online n ≡ true → is_omitted online n.0 n.1 ≡ false
+pub not_omitted : (online : Bool) (n : ListedNode) → is_kept online n ≡ true → is_omitted online n.0 n.1 ≡ false
 not_omitted online n keep = not_true (is_omitted online n.0 n.1) (and_parts (not (is_omitted online n.0 n.1)) (not (is_special n.1)) keep).0
 
 pub no_passing : (online : Bool) (path : Text) (node : Node) → is_omitted online path node ≡ false → list_any is_passing (elements path) ≡ false
@@ -90,23 +90,23 @@ not_named online name path node out keep e = let x : ◌≡◌ {A = Bool} true f
 
 -- ---- files and folders
 
-pub file_node : (ns : List Listed) (f : Taken) → In f (files_of ns) → In (f.path, nodes.File f.size f.time) ns
+pub file_node : (ns : List ListedNode) (f : Taken) → In f (files_of ns) → In (f.path, nodes.File f.size f.time) ns
 file_node [] f i = absurd i
 file_node (n ∷ ns) f i = ⊎_elim (λ (j : In f (file_at n.0 n.1)). inl (one n.0 n.1 j)) (λ (j : In f (files_of ns)). inr (file_node ns f j)) (in_parts (file_at n.0 n.1) (files_of ns) f i)
   where
-    one : (path : Text) (node : Node) → In f (file_at path node) → ◌≡◌ {A = Listed} (f.path, nodes.File f.size f.time) (path, node)
-    one path (nodes.File size time) (inl e) = ap (λ (g : Taken). let l : Listed = (g.path, nodes.File g.size g.time) in l) e
+    one : (path : Text) (node : Node) → In f (file_at path node) → ◌≡◌ {A = ListedNode} (f.path, nodes.File f.size f.time) (path, node)
+    one path (nodes.File size time) (inl e) = ap (λ (g : Taken). let l : ListedNode = (g.path, nodes.File g.size g.time) in l) e
     one path (nodes.File size time) (inr j) = absurd j
     one path nodes.Folder j = absurd j
     one path nodes.Link j = absurd j
     one path nodes.Other j = absurd j
 
-pub folder_node : (ns : List Listed) (p : Text) → In p (folders_of ns) → In (p, nodes.Folder) ns
+pub folder_node : (ns : List ListedNode) (p : Text) → In p (folders_of ns) → In (p, nodes.Folder) ns
 folder_node [] p i = absurd i
 folder_node (n ∷ ns) p i = ⊎_elim (λ (j : In p (folder_at n.0 n.1)). inl (one n.0 n.1 j)) (λ (j : In p (folders_of ns)). inr (folder_node ns p j)) (in_parts (folder_at n.0 n.1) (folders_of ns) p i)
   where
-    one : (path : Text) (node : Node) → In p (folder_at path node) → ◌≡◌ {A = Listed} (p, nodes.Folder) (path, node)
-    one path nodes.Folder (inl e) = ap (λ (q : Text). let l : Listed = (q, nodes.Folder) in l) e
+    one : (path : Text) (node : Node) → In p (folder_at path node) → ◌≡◌ {A = ListedNode} (p, nodes.Folder) (path, node)
+    one path nodes.Folder (inl e) = ap (λ (q : Text). let l : ListedNode = (q, nodes.Folder) in l) e
     one path nodes.Folder (inr j) = absurd j
     one path (nodes.File size time) j = absurd j
     one path nodes.Link j = absurd j

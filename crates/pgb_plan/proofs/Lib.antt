@@ -8,3 +8,5 @@ pub mod Taking
 pub mod Sizes
 pub mod Kept
 pub mod Outcomes
+pub mod Parents
+pub mod Orderly

@@ -8,7 +8,7 @@ use Rattle.pgb_model.specs.ManifestText.{IsFolder}
 use Rattle.pgb_plan.specs.declared.fault.PlanFault.TheVariants as faults
 use Rattle.pgb_plan.specs.Omitted.{is_omitted}
 use Rattle.pgb_plan.specs.Listed.{Taken}
-use Rattle.pgb_plan.specs.Taken.{Listed, kept, files_of, folders_of, AreFine, AreTimed, IsOrdered, IsWhole, IsWithinLimits, HasControl, IsMissing, IsPast, IsRefused, IsTaken, IsListing, Takes}
+use Rattle.pgb_plan.specs.Filter.{ListedNode, kept, files_of, folders_of, AreFine, AreTimed, IsOrdered, IsWhole, IsWithinLimits, HasControl, IsMissing, IsPast, IsRefused, IsTaken, IsListing, Takes}
 use Rattle.pgb_plan.proofs.Lists.{of_map}
 use Rattle.pgb_plan.proofs.Kept.{not_temporary, kept_is, not_omitted, no_passing, not_named, file_node, folder_node}
 
@@ -16,7 +16,7 @@ settings_folder : (online : Bool) → is_omitted online (codes "postgresql.auto.
 settings_folder true = refl
 settings_folder false = refl
 
-module _ (online : Bool) (seen : List Listed) (fs : List Taken) (folders : List Text) (fine : AreFine (kept online seen)) (files_are : fs ≡ files_of (kept online seen)) (folders_are : folders ≡ folders_of (kept online seen)) where
+module _ (online : Bool) (seen : List ListedNode) (fs : List Taken) (folders : List Text) (fine : AreFine (kept online seen)) (files_are : fs ≡ files_of (kept online seen)) (folders_are : folders ≡ folders_of (kept online seen)) where
   module _ (timed : AreTimed (kept online seen)) (order : IsOrdered fs folders) where
     file_taken : (f : Taken) → In f fs → IsTaken folders f
     file_taken f i =

@@ -4,7 +4,7 @@ use Rattle.std.proofs.lemmas.List.{take-map}
 use Rattle.std.proofs.lemmas.List.Sums.{sum_by-take-le, sum_by_push}
 use Rattle.pgb_plan.specs.declared.values.Taken as rust
 use Rattle.pgb_plan.specs.Listed.{Taken}
-use Rattle.pgb_plan.specs.Taken.{size_of}
+use Rattle.pgb_plan.specs.Filter.{size_of}
 use Rattle.pgb_plan.specs.Views.{taken_of}
 use Rattle.pgb_plan.proofs.Lists.{passed}
 

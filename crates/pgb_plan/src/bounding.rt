@@ -1,6 +1,6 @@
 // What a backup needs of its files, and how many it may have.
 ghost use Rattle.std.specs.Prelude.{◌≡◌, ◌↔◌, map, IsTrue, IfSome, IfNone};
-ghost use Rattle.pgb_plan.specs.Taken.{HasFile, HasControl, IsMissing, IsPast, IsWithinLimits};
+ghost use Rattle.pgb_plan.specs.Filter.{HasFile, HasControl, IsMissing, IsPast, IsWithinLimits};
 ghost use Rattle.pgb_plan.specs.Views.{taken_of};
 
 use crate::values::Taken;

@@ -1,6 +1,7 @@
 // What of a listing a backup takes.
 ghost use Rattle.std.specs.Prelude.{◌≡◌, ◌++◌, ◌∷◌, [], true, map, string_bytes, IfOk, IfErr, OnOk, OnErr};
-ghost use Rattle.pgb_plan.specs.Taken.{is_kept, kept, files_of, folders_of, IsFine, AreFine, IsRefused, IsRefusedNode, IsTimed, AreTimed, Takes};
+ghost use Rattle.pgb_outside.specs.Tree.{Nodes, IsTreeListing};
+ghost use Rattle.pgb_plan.specs.Filter.{is_kept, kept, files_of, folders_of, IsFine, AreFine, IsRefused, IsRefusedNode, IsTimed, AreTimed, Takes};
 ghost use Rattle.pgb_plan.specs.Views.{taken_of, seen_of};
 
 use crate::bounding::{missing_file, passed_limit};
@@ -94,6 +95,8 @@ fn collect(alloc: Global, seen: &[Seen], online: bool) -> Result<Listing, PlanFa
 pub fn filter(alloc: Global, seen: &[Seen], online: bool) -> Result<Listing, PlanFault>
     ensures takes { IfOk result (λ l. Takes online (map seen_of seen.now) (map taken_of l.files.items) (map string_bytes l.folders.items)) }
     ensures refused { IfErr result (IsRefused (kept online (map seen_of seen.now))) }
+    // A listing that shows a folder's nodes is never told to be out of order.
+    ensures orderly { result ≡ Err PlanFault.Unordered → (nodes : Nodes) → ¬ IsTreeListing nodes (map seen_of seen.now) }
 {
     let listing = collect(alloc, seen, online)?;
     if !is_ordered(&listing.files, &listing.folders) {

@@ -4,7 +4,7 @@ ghost use Rattle.pgb_outside.specs.Order.{are_in_order};
 ghost use Rattle.pgb_model.specs.Text.{Text, In};
 ghost use Rattle.pgb_model.specs.ManifestText.{HasItsFolders};
 ghost use Rattle.pgb_plan.specs.Listed.{Taken as SpecTaken};
-ghost use Rattle.pgb_plan.specs.Taken.{IsPlaced, IsOrdered, paths_of};
+ghost use Rattle.pgb_plan.specs.Filter.{IsPlaced, IsOrdered, paths_of};
 ghost use Rattle.pgb_plan.specs.Views.{taken_of};
 
 use crate::finding::order_of;

@@ -3,7 +3,7 @@ use Rattle.std.specs.Prelude.{Bool}
 use Rattle.std.proofs.lemmas.Slice.Eq.{bytes_eq-Decides}
 use Rattle.pgb_model.specs.Text.{Text, In}
 use Rattle.pgb_plan.specs.Listed.{Taken}
-use Rattle.pgb_plan.specs.Taken.{paths_of}
+use Rattle.pgb_plan.specs.Filter.{paths_of}
 use Rattle.pgb_plan.specs.Views.{taken_of}
 use Rattle.pgb_plan.proofs.Lists.{no_truth, in_map, of_map, there, all_next, all_end}
 use Rattle.pgb_plan.proofs.bounding.has_file.Goals as goal

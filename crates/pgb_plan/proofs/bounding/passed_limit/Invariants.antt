@@ -1,5 +1,5 @@
 use Rattle.std.proofs.Common.{◌≡◌, ◌+◌, map, take}
-use Rattle.pgb_plan.specs.Taken.{size_of, most_bytes}
+use Rattle.pgb_plan.specs.Filter.{size_of, most_bytes}
 use Rattle.pgb_plan.specs.Views.{taken_of}
 use Rattle.pgb_plan.proofs.bounding.passed_limit.Given as goal
 

@@ -2,7 +2,7 @@ use Rattle.std.proofs.Common.{List, map, subst}
 use Rattle.std.proofs.lemmas.List.{take_all}
 use Rattle.std.proofs.lemmas.Result.{err_from_is_err_and}
 use Rattle.pgb_outside.specs.declared.tree.Seen as rust
-use Rattle.pgb_plan.specs.Taken.{kept, IsFine, IsTimed, AreFine, AreTimed}
+use Rattle.pgb_plan.specs.Filter.{kept, IsFine, IsTimed, AreFine, AreTimed}
 use Rattle.pgb_plan.specs.Views.{seen_of}
 use Rattle.pgb_plan.proofs.Taking.{all_next, files_next, folders_next, refused_here}
 use Rattle.pgb_plan.proofs.filtering.collect.Goals as goal

@@ -1,5 +1,5 @@
 use Rattle.std.proofs.Common.{◌≡◌, map, take, string_bytes}
-use Rattle.pgb_plan.specs.Taken.{kept, files_of, folders_of, AreFine, AreTimed}
+use Rattle.pgb_plan.specs.Filter.{kept, files_of, folders_of, AreFine, AreTimed}
 use Rattle.pgb_plan.specs.Views.{taken_of, seen_of}
 use Rattle.pgb_plan.proofs.filtering.collect.Given as goal
 

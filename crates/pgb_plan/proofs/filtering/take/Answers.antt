@@ -1,4 +1,4 @@
-use Rattle.pgb_plan.specs.Taken.{IsTimed}
+use Rattle.pgb_plan.specs.Filter.{IsTimed}
 use Rattle.pgb_plan.specs.Views.{seen_of}
 use Rattle.pgb_plan.proofs.Taking.{all_of_one}
 use Rattle.pgb_plan.proofs.filtering.take.Goals as goal

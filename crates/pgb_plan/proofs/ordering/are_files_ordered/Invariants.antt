@@ -1,6 +1,6 @@
 use Rattle.std.proofs.Common.{◌≡◌, map, drop}
 use Rattle.pgb_outside.specs.Order.{are_after, are_in_order}
-use Rattle.pgb_plan.specs.Taken.{paths_of}
+use Rattle.pgb_plan.specs.Filter.{paths_of}
 use Rattle.pgb_plan.specs.Views.{taken_of}
 use Rattle.pgb_plan.proofs.ordering.are_files_ordered.Given as goal
 

@@ -1,5 +1,5 @@
 use Rattle.std.proofs.Common.{refl, map, string_bytes}
-use Rattle.pgb_plan.specs.Taken.{IsPlaced}
+use Rattle.pgb_plan.specs.Filter.{IsPlaced}
 use Rattle.pgb_plan.specs.Views.{taken_of}
 use Rattle.pgb_plan.proofs.Lists.{no_truth, there, all_next, all_end}
 use Rattle.pgb_plan.proofs.ordering.are_files_placed.Goals as goal

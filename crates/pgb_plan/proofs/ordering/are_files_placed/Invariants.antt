@@ -1,7 +1,7 @@
 use Rattle.std.proofs.Common.{map, take, string_bytes}
 use Rattle.pgb_model.specs.Text.{In}
 use Rattle.pgb_plan.specs.Listed.{Taken}
-use Rattle.pgb_plan.specs.Taken.{IsPlaced}
+use Rattle.pgb_plan.specs.Filter.{IsPlaced}
 use Rattle.pgb_plan.specs.Views.{taken_of}
 use Rattle.pgb_plan.proofs.ordering.are_files_placed.Given as goal
 

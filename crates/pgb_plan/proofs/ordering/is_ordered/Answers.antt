@@ -4,7 +4,7 @@ use Rattle.pgb_outside.specs.Order.{are_in_order}
 use Rattle.pgb_model.specs.Text.{Text, In}
 use Rattle.pgb_model.specs.ManifestText.{HasItsFolders}
 use Rattle.pgb_plan.specs.Listed.{Taken}
-use Rattle.pgb_plan.specs.Taken.{IsPlaced, IsOrdered, paths_of}
+use Rattle.pgb_plan.specs.Filter.{IsPlaced, IsOrdered, paths_of}
 use Rattle.pgb_plan.specs.Views.{taken_of}
 use Rattle.pgb_plan.proofs.ordering.is_ordered.Goals.{then-are_files_ordered, else-are_files_ordered, then-are_folders_ordered, else-are_folders_ordered}
 use Rattle.pgb_plan.proofs.ordering.is_ordered.Goals as goal

@@ -14,8 +14,8 @@ use Rattle.pgb_plan.specs.Omitted.{is_omitted}
 use Rattle.pgb_plan.specs.Listed.{Taken, control_path}
 
 -- a node of a listing, with its path
-abbrev pub Listed : Type 0
-Listed = Text × Node
+abbrev pub ListedNode : Type 0
+ListedNode = Text × Node
 
 abbrev pub is_special : Node → Bool
 is_special nodes.Other = true
@@ -24,11 +24,11 @@ is_special nodes.Folder = false
 is_special nodes.Link = false
 
 -- neither left out, nor a socket, a pipe or a device
-abbrev pub is_kept : Bool → Listed → Bool
+abbrev pub is_kept : Bool → ListedNode → Bool
 is_kept online n = not (is_omitted online n.0 n.1) && not (is_special n.1)
 
 -- the nodes that a backup looks at
-abbrev pub kept : Bool → List Listed → List Listed
+abbrev pub kept : Bool → List ListedNode → List ListedNode
 kept online seen = filter (is_kept online) seen
 
 -- the files among them, and the folders
@@ -44,11 +44,11 @@ folder_at path (nodes.File size time) = []
 folder_at path nodes.Link = []
 folder_at path nodes.Other = []
 
-abbrev pub files_of : List Listed → List Taken
+abbrev pub files_of : List ListedNode → List Taken
 files_of [] = []
 files_of (n ∷ ns) = file_at n.0 n.1 ++ files_of ns
 
-abbrev pub folders_of : List Listed → List Text
+abbrev pub folders_of : List ListedNode → List Text
 folders_of [] = []
 folders_of (n ∷ ns) = folder_at n.0 n.1 ++ folders_of ns
 
@@ -58,18 +58,18 @@ paths_of fs = map (λ (f : Taken). f.path) fs
 -- ---- what is refused
 
 -- the node may stand in a backup
-pub record IsFine (n : Listed) : Type 0 where
+pub record IsFine (n : ListedNode) : Type 0 where
   pub no_link : n.1 ≢ nodes.Link
   pub path : IsPath n.0
 
-abbrev pub AreFine : List Listed → Type 0
-AreFine ns = (n : Listed) → In n ns → IsFine n
+abbrev pub AreFine : List ListedNode → Type 0
+AreFine ns = (n : ListedNode) → In n ns → IsFine n
 
 -- the first of the nodes that isn't fine is so
-pub record IsFirst (P : Listed → Type 0) (ns : List Listed) : Type 0 where
-  pub front : List Listed
-  pub node : Listed
-  pub back : List Listed
+pub record IsFirst (P : ListedNode → Type 0) (ns : List ListedNode) : Type 0 where
+  pub front : List ListedNode
+  pub node : ListedNode
+  pub back : List ListedNode
   pub is : ns ≡ front ++ node ∷ back
   pub fine : AreFine front
   pub has : P node
@@ -134,7 +134,7 @@ pub record IsListing (fs : List Taken) (folders : List Text) : Type 0 where
   pub sizes : size_of fs ≤ most_bytes
 
 -- These are all files and folders of the listing that aren't left out, and a backup may be made of them.
-pub record Takes (online : Bool) (seen : List Listed) (fs : List Taken) (folders : List Text) : Type 0 where
+pub record Takes (online : Bool) (seen : List ListedNode) (fs : List Taken) (folders : List Text) : Type 0 where
   pub fine : AreFine (kept online seen)
   pub files : fs ≡ files_of (kept online seen)
   pub folders_are : folders ≡ folders_of (kept online seen)
@@ -143,7 +143,7 @@ pub record Takes (online : Bool) (seen : List Listed) (fs : List Taken) (folders
   pub listing : IsListing fs folders
 
 -- the files and folders are fine and in order
-pub record IsWhole (ns : List Listed) : Type 0 where
+pub record IsWhole (ns : List ListedNode) : Type 0 where
   pub fine : AreFine ns
   pub order : IsOrdered (files_of ns) (folders_of ns)
 
@@ -156,14 +156,14 @@ abbrev pub IsPast : ℕ → List Taken → Type 0
 IsPast limit fs = ((limit ≡ most_files) × (most_files < length fs)) ⊎ ((limit ≡ most_bytes) × (length fs ≤ most_files) × (most_bytes < size_of fs))
 
 -- a file's time is a number of 64 bits
-abbrev pub IsTimed : Listed → Type 0
+abbrev pub IsTimed : ListedNode → Type 0
 IsTimed n = (f : Taken) → In f (file_at n.0 n.1) → f.time < 2 ^ 64
 
-abbrev pub AreTimed : List Listed → Type 0
-AreTimed ns = (n : Listed) → In n ns → IsTimed n
+abbrev pub AreTimed : List ListedNode → Type 0
+AreTimed ns = (n : ListedNode) → In n ns → IsTimed n
 
 -- why a node is refused by itself
-abbrev pub IsRefusedNode : Listed → PlanFault → Type 0
+abbrev pub IsRefusedNode : ListedNode → PlanFault → Type 0
 IsRefusedNode n (faults.LinkFound path) = (n.0 ≡ string_bytes path) × (n.1 ≡ nodes.Link)
 IsRefusedNode n (faults.NameRefused path fault) = (n.0 ≡ string_bytes path) × (n.1 ≢ nodes.Link) × IsNameFault n.0 fault
 IsRefusedNode n faults.Unordered = ⊥
@@ -172,7 +172,7 @@ IsRefusedNode n (faults.TooMany limit) = ⊥
 IsRefusedNode n faults.NoMemory = Unit {0}
 
 -- why the nodes are refused
-abbrev pub IsRefused : List Listed → PlanFault → Type 0
+abbrev pub IsRefused : List ListedNode → PlanFault → Type 0
 IsRefused ns (faults.LinkFound path) = IsFirst (λ n. IsRefusedNode n (faults.LinkFound path)) ns
 IsRefused ns (faults.NameRefused path fault) = IsFirst (λ n. IsRefusedNode n (faults.NameRefused path fault)) ns
 IsRefused ns faults.Unordered = AreFine ns × ¬ IsOrdered (files_of ns) (folders_of ns)
