@@ -10,3 +10,4 @@ pub mod Kept
 pub mod Outcomes
 pub mod Parents
 pub mod Orderly
+pub mod Lasts
