@@ -11,3 +11,4 @@ pub mod Outcomes
 pub mod Parents
 pub mod Orderly
 pub mod Lasts
+pub mod Fitting

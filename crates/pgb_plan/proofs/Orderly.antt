@@ -1,6 +1,6 @@
 -- A true listing is in order, and so is what is taken of it.
-use Rattle.std.proofs.Common.{◌≡◌, ◌⊎◌, ⊎_elim, inl, inr, ℕ, Bool, true, false, List, [], ◌∷◌, ◌++◌, map, length, Less, refl, sym, ap, ◌∙◌, subst}
-use Rattle.std.specs.Prelude.{◌&&◌, not, Contains, if◌then◌else◌}
+use Rattle.std.proofs.Common.{◌≡◌, ◌⊎◌, ⊎_elim, inl, inr, Bool, true, false, List, [], ◌∷◌, ◌++◌, map, refl, sym, ap, ◌∙◌, subst}
+use Rattle.std.specs.Prelude.{◌&&◌, not, if◌then◌else◌}
 use Rattle.std.proofs.lemmas.Bool.{and_parts}
 use Rattle.std.proofs.lemmas.Cmp.{nat_list_cmp_total}
 use Rattle.pgb_outside.specs.Order.{is_before, are_after, are_in_order}
@@ -13,7 +13,7 @@ use Rattle.pgb_plan.specs.declared.fault.PlanFault.{PlanFault}
 use Rattle.pgb_plan.specs.declared.fault.PlanFault.TheVariants as faults
 use Rattle.pgb_plan.specs.Listed.{Taken}
 use Rattle.pgb_plan.specs.Omitted.{is_omitted}
-use Rattle.pgb_plan.specs.Filter.{ListedNode, is_kept, is_special, kept, file_at, folder_at, files_of, folders_of, paths_of, IsPlaced, IsOrdered, IsRefused}
+use Rattle.pgb_plan.specs.Filter.{ListedNode, is_kept, kept, file_at, folder_at, files_of, folders_of, paths_of, IsPlaced, IsOrdered, IsRefused}
 use Rattle.pgb_plan.proofs.Searched.{in_at, at_of, later}
 use Rattle.pgb_plan.proofs.Kept.{kept_is, not_omitted, file_node, folder_node}
 use Rattle.pgb_plan.proofs.Parents.{parent_kept}

@@ -1,7 +1,7 @@
 -- A folder with something in it that is kept is kept.
-use Rattle.std.proofs.Common.{◌≡◌, ⊎_elim, inl, inr, ℕ, Bool, true, false, List, [], ◌∷◌, ◌++◌, length, take, drop, refl, sym, ap, ◌∙◌, append_assoc, arith}
-use Rattle.std.specs.Prelude.{◌||◌, ◌&&◌, ◌==◌, nat_eq, codes, bytes_eq}
-use Rattle.std.specs.List.{list_any, slice_split, onto_first}
+use Rattle.std.proofs.Common.{◌≡◌, ℕ, Bool, true, false, List, [], ◌∷◌, ◌++◌, length, drop, refl, sym, ap, ◌∙◌, append_assoc, arith}
+use Rattle.std.specs.Prelude.{◌||◌, ◌&&◌, ◌==◌, codes, bytes_eq}
+use Rattle.std.specs.List.{list_any, onto_first}
 use Rattle.std.proofs.lemmas.Bool.{and_parts}
 use Rattle.std.proofs.lemmas.Bool.Decides.{Decides-eqb}
 use Rattle.std.proofs.lemmas.List.Folds.{list_any-append}
@@ -13,7 +13,7 @@ use Rattle.pgb_outside.specs.declared.tree.Node.TheVariants as nodes
 use Rattle.pgb_model.specs.Text.{Text, ◌⫽◌}
 use Rattle.pgb_model.specs.Paths.{elements}
 use Rattle.pgb_model.proofs.Below.{below_front}
-use Rattle.pgb_plan.specs.Omitted.{is_passing, is_cache, is_within, is_lock, is_signal, is_label, is_emptied, is_file, is_folder, is_settings_folder, is_of_top, is_by_name, is_omitted}
+use Rattle.pgb_plan.specs.Omitted.{is_passing, is_within, is_emptied, is_folder, is_settings_folder, is_of_top, is_by_name, is_omitted}
 
 -- what is so of one is so of the other
 abbrev Implies : Bool → Bool → Type 0

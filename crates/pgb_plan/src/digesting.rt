@@ -39,7 +39,8 @@ fn job_for(alloc: Global, file: &Taken) -> Result<Job, AllocError>
 /// A job for each file of the listing that may be the one of the prior backup.
 pub fn digests(alloc: Global, files: &[Taken], old: &[FileEntry]) -> Result<Vec<Job>, AllocError>
     requires { are_in_order (map (λ e. e.path) (map file_entry_of old.now)) ≡ true }
-    ensures { IfOk result (λ js. map job_of js.items ≡ digest_jobs (map file_entry_of old.now) (map taken_of files.now)) }
+    ensures { IfOk result (λ js. map job_of js.items ≡ digest_jobs (map file_entry_of old.now)
+        (map taken_of files.now)) }
 {
     let mut jobs = Vec::new(alloc);
     for file in files {

@@ -41,8 +41,10 @@ fn check_node(seen: &Seen) -> Result<(), PlanFault>
 
 // Adds a node to what is taken.
 fn add(listing: &mut Listing, seen: &Seen) -> Result<(), AllocError>
-    ensures files { OnOk result (map taken_of listing.new.files.items ≡ map taken_of listing.old.files.items ++ files_of (seen_of seen.now ∷ [])) }
-    ensures folders { OnOk result (map string_bytes listing.new.folders.items ≡ map string_bytes listing.old.folders.items ++ folders_of (seen_of seen.now ∷ [])) }
+    ensures files { OnOk result (map taken_of listing.new.files.items ≡ map taken_of listing.old.files.items
+        ++ files_of (seen_of seen.now ∷ [])) }
+    ensures folders { OnOk result (map string_bytes listing.new.folders.items
+        ≡ map string_bytes listing.old.folders.items ++ folders_of (seen_of seen.now ∷ [])) }
     ensures timed { OnOk result (IsTimed (seen_of seen.now)) }
 {
     match seen.node {
@@ -59,8 +61,10 @@ fn add(listing: &mut Listing, seen: &Seen) -> Result<(), AllocError>
 // Takes a node, where it isn't left out.
 fn take(listing: &mut Listing, seen: &Seen, online: bool) -> Result<(), PlanFault>
     ensures fine { OnOk result (AreFine (kept online (seen_of seen.now ∷ []))) }
-    ensures files { OnOk result (map taken_of listing.new.files.items ≡ map taken_of listing.old.files.items ++ files_of (kept online (seen_of seen.now ∷ []))) }
-    ensures folders { OnOk result (map string_bytes listing.new.folders.items ≡ map string_bytes listing.old.folders.items ++ folders_of (kept online (seen_of seen.now ∷ []))) }
+    ensures files { OnOk result (map taken_of listing.new.files.items ≡ map taken_of listing.old.files.items
+        ++ files_of (kept online (seen_of seen.now ∷ []))) }
+    ensures folders { OnOk result (map string_bytes listing.new.folders.items
+        ≡ map string_bytes listing.old.folders.items ++ folders_of (kept online (seen_of seen.now ∷ []))) }
     ensures timed { OnOk result (AreTimed (kept online (seen_of seen.now ∷ []))) }
     ensures kept { OnErr result (is_kept online (seen_of seen.now) ≡ true) }
     ensures refused { IfErr result (IsRefusedNode (seen_of seen.now)) }
@@ -77,7 +81,8 @@ fn take(listing: &mut Listing, seen: &Seen, online: bool) -> Result<(), PlanFaul
 fn collect(alloc: Global, seen: &[Seen], online: bool) -> Result<Listing, PlanFault>
     ensures fine { OnOk result (AreFine (kept online (map seen_of seen.now))) }
     ensures files { IfOk result (λ l. map taken_of l.files.items ≡ files_of (kept online (map seen_of seen.now))) }
-    ensures folders { IfOk result (λ l. map string_bytes l.folders.items ≡ folders_of (kept online (map seen_of seen.now))) }
+    ensures folders { IfOk result (λ l. map string_bytes l.folders.items ≡ folders_of (kept online
+        (map seen_of seen.now))) }
     ensures timed { OnOk result (AreTimed (kept online (map seen_of seen.now))) }
     ensures refused { IfErr result (IsRefused (kept online (map seen_of seen.now))) }
 {
@@ -93,10 +98,12 @@ fn collect(alloc: Global, seen: &[Seen], online: bool) -> Result<Listing, PlanFa
 
 /// The files and folders of a listing that a backup takes, with the server running (`online`) or stopped.
 pub fn filter(alloc: Global, seen: &[Seen], online: bool) -> Result<Listing, PlanFault>
-    ensures takes { IfOk result (λ l. Takes online (map seen_of seen.now) (map taken_of l.files.items) (map string_bytes l.folders.items)) }
+    ensures takes { IfOk result (λ l. Takes online (map seen_of seen.now) (map taken_of l.files.items)
+        (map string_bytes l.folders.items)) }
     ensures refused { IfErr result (IsRefused (kept online (map seen_of seen.now))) }
     // A listing that shows a folder's nodes is never told to be out of order.
-    ensures orderly { result ≡ Err PlanFault.Unordered → (nodes : Nodes) → ¬ IsTreeListing nodes (map seen_of seen.now) }
+    ensures orderly { result ≡ Err PlanFault.Unordered → (nodes : Nodes) → ¬ IsTreeListing nodes
+        (map seen_of seen.now) }
 {
     let listing = collect(alloc, seen, online)?;
     if !is_ordered(&listing.files, &listing.folders) {

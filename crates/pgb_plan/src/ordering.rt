@@ -76,7 +76,8 @@ fn is_placed(folders: &[String], file: &Taken) -> bool
 
 fn are_files_placed(files: &[Taken], folders: &[String]) -> bool
     requires { are_in_order (map string_bytes folders.now) ≡ true }
-    ensures { IsTrue result ↔ ((f : SpecTaken) → In f (map taken_of files.now) → IsPlaced (map string_bytes folders.now) f) }
+    ensures { IsTrue result ↔ ((f : SpecTaken) → In f (map taken_of files.now) → IsPlaced
+        (map string_bytes folders.now) f) }
 {
     for file in files {
         if !is_placed(folders, file) {
@@ -88,7 +89,8 @@ fn are_files_placed(files: &[Taken], folders: &[String]) -> bool
 
 fn are_folders_placed(folders: &[String]) -> bool
     requires { are_in_order (map string_bytes folders.now) ≡ true }
-    ensures { IsTrue result ↔ ((path : Text) → In path (map string_bytes folders.now) → HasItsFolders (map string_bytes folders.now) path) }
+    ensures { IsTrue result ↔ ((path : Text) → In path (map string_bytes folders.now) → HasItsFolders
+        (map string_bytes folders.now) path) }
 {
     for folder in folders {
         if !has_folders(folders, folder) {
