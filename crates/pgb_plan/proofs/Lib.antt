@@ -1,0 +1,14 @@
+pub mod Layouts
+pub mod Places
+pub mod Searched
+pub mod Sought
+pub mod Lists
+pub mod Among
+pub mod Taking
+pub mod Sizes
+pub mod Kept
+pub mod Outcomes
+pub mod Parents
+pub mod Orderly
+pub mod Lasts
+pub mod Fitting
