@@ -117,7 +117,7 @@ pub(crate) fn read<I: ReadInfo>(
 ) -> Result<Result<I, MemberFault>, NoMemory>
     ensures { IfOk result (λ r. IfOk r I.is_valid) }
 {
-    if text.len() > 67_108_864 {
+    if text.len() as u64 > I::limit() {
         return Ok(Err(MemberFault::TooLong));
     }
     I::read(alloc, text.as_bytes())
