@@ -1,0 +1,12 @@
+pub mod Sums
+pub mod Items
+pub mod Rows
+pub mod Left
+pub mod Maps
+pub mod Made
+pub mod Naming
+pub mod Sorted
+pub mod Recorded
+pub mod Held
+pub mod Rules
+pub mod Parts

@@ -1,0 +1,22 @@
+//! The record of a backup: the files of its manifest, of what was planned and of what came.
+//!
+//! - `names_of` gives each job of a plan its name below the label's folder (`specs/Naming`).
+//! - `places_of` and `went` tell how the jobs went: how each item ended, and how many bytes lie before it.
+//! - `entries_of` gives the manifest's files in the order of the listing, each by its choice (`specs/Entries`): what came, with
+//!   its number and sum; a file of the prior backup, which refers to the label that has its bytes; none that had vanished.
+//!
+//! The lemmas say what such a manifest is: each entry has its bytes (`Rows`), the manifest keeps its rules (`Rules`) and is
+//! that of the backup where the items lie in their places (`Recorded`).
+#![tactic(auto)]
+
+mod beginning;
+mod entries;
+mod names;
+mod places;
+mod ran;
+
+pub use beginning::went;
+pub use entries::entries_of;
+pub use names::names_of;
+pub use places::places_of;
+pub use ran::Ran;

@@ -1,0 +1,20 @@
+// How a backup went.
+ghost use Rattle.std.specs.Prelude.{◌≡◌, true, map, vec_items};
+ghost use Rattle.pgb_outside.specs.Order.{are_in_order};
+ghost use Rattle.pgb_model.specs.Values.{file_entry_of};
+ghost use Rattle.pgb_record.specs.Sums.{sums};
+
+use pgb_label::Ended;
+use pgb_model::{FileEntry, Label};
+
+/// How a backup went: the label and the files of the prior one, how many jobs are of single files, how each item of each job
+/// ended, and how many bytes lie before it.
+pub struct Ran<'a> {
+    pub(crate) prior: Label,
+    pub(crate) old: &'a [FileEntry],
+    pub(crate) singles: u32,
+    pub(crate) ends: &'a [Vec<Ended>],
+    pub(crate) places: &'a [Vec<u64>],
+    ghost order: { are_in_order (map (λ e. e.path) (map file_entry_of old.now)) ≡ true },
+    ghost places_are: { map (λ v. v.items) places.now ≡ map (sums 0) (map (λ v. v.items) ends.now) },
+}
