@@ -57,7 +57,9 @@ impl RealLocks {
     }
 
     fn take_file(&mut self, folder: &str, name: &str) -> io::Result<Take>
-        ensures taken { IfOk result (λ t. map (λ x. string_bytes x.name) self.new.taken.items ≡ with_lock t name.now (map (λ x. string_bytes x.name) self.old.taken.items)) }
+        ensures taken { IfOk result
+            (λ t. map (λ x. string_bytes x.name) self.new.taken.items ≡ with_lock t name.now
+            (map (λ x. string_bytes x.name) self.old.taken.items)) }
         ensures err { OnErr result (self.new.taken.items ≡ self.old.taken.items) }
         ensures held { IfOk result (λ t. t ≡ Held → Rises self.old.refusals self.new.refusals) }
         ensures later { self.old.refusals ≤ self.new.refusals }

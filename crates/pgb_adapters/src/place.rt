@@ -37,7 +37,8 @@ impl Place {
 
     // Takes a folder as the root, and answers whether it is there.
     fn take(&mut self, path: &str) -> io::Result<bool>
-        ensures { Opens result path.now (map string_bytes self.old.opened.items) (map string_bytes self.new.opened.items) }
+        ensures { Opens result path.now (map string_bytes self.old.opened.items)
+            (map string_bytes self.new.opened.items) }
     {
         let root = String::from_str(self.rt.alloc(), path)?;
         self.opened.insert(0, root).map_err(no_memory)?;
@@ -46,7 +47,8 @@ impl Place {
 
     /// Takes a folder as the root, and makes it where it is absent.
     pub fn open(&mut self, path: &str) -> io::Result<()>
-        ensures { Opens result path.now (map string_bytes self.old.opened.items) (map string_bytes self.new.opened.items) }
+        ensures { Opens result path.now (map string_bytes self.old.opened.items)
+            (map string_bytes self.new.opened.items) }
     {
         if self.take(path)? {
             Ok(())
@@ -57,7 +59,8 @@ impl Place {
 
     /// Takes a folder that is there as the root.
     pub fn enter(&mut self, path: &str) -> io::Result<()>
-        ensures { Opens result path.now (map string_bytes self.old.opened.items) (map string_bytes self.new.opened.items) }
+        ensures { Opens result path.now (map string_bytes self.old.opened.items)
+            (map string_bytes self.new.opened.items) }
     {
         if self.take(path)? {
             Ok(())
@@ -67,7 +70,8 @@ impl Place {
     }
 
     pub fn path_of(&self, name: &str) -> io::Result<String>
-        ensures { IfOk result (λ path. string_bytes path ≡ last_opened (map string_bytes self.now.opened.items) ++ 47 ∷ name.now) }
+        ensures { IfOk result (λ path. string_bytes path ≡ last_opened
+            (map string_bytes self.now.opened.items) ++ 47 ∷ name.now) }
     {
         let root = self.root();
         Ok(format!(in self.rt.alloc(); "{root}/{name}")?)
@@ -189,8 +193,10 @@ pub fn sync_folder(rt: &HostRuntime, path: &str) -> io::Result<()> {
 /// None where a name is absent; a path through a file leads to no name.
 pub fn unless_absent<T: Drop>(done: io::Result<T>) -> io::Result<Option<T>>
     ensures there { IfOk done (λ v. result ≡ Ok (Some v)) }
-    ensures absent { IfErr done (λ e. (error_kind e ≡ ErrorKind.NotFound) ⊎ (error_kind e ≡ ErrorKind.NotADirectory) → result ≡ Ok None) }
-    ensures error { IfErr done (λ e. error_kind e ≢ ErrorKind.NotFound → error_kind e ≢ ErrorKind.NotADirectory → result ≡ Err e) }
+    ensures absent { IfErr done (λ e. (error_kind e ≡ ErrorKind.NotFound) ⊎ (error_kind e ≡ ErrorKind.NotADirectory)
+        → result ≡ Ok None) }
+    ensures error { IfErr done (λ e. error_kind e ≢ ErrorKind.NotFound → error_kind e ≢ ErrorKind.NotADirectory
+        → result ≡ Err e) }
 {
     match done {
         Ok(value) => Ok(Some(value)),

@@ -192,12 +192,14 @@ pub fn push<D: Disk>(
     // At Ok it has the file, and all that a stop leaves is alike at the file's paths.
     ensures file { OnOk result (LeavesFile stanza.now id.now name.now (Some bytes.now)
         (D.state d.old).view (D.state d.new).view) }
-    ensures written { IfOk result (λ p. p ≡ Pushed.New → NowGoes (AllOf (writes_of stanza.now id.now name.now bytes.now))
+    ensures written { IfOk result
+        (λ p. p ≡ Pushed.New → NowGoes (AllOf (writes_of stanza.now id.now name.now bytes.now))
         (D.state d.old).view.now (D.state d.new).view.now) }
 
     // Each answer has its cause, and what was found changes nothing.
     ensures of_system { OnOk result (IsFileOf name.now bytes.now system) }
-    ensures new { IfOk result (λ p. p ≡ Pushed.New → IfSome (D.state d.old).view.now (StoresNone stanza.now id.now name.now)) }
+    ensures new { IfOk result
+        (λ p. p ≡ Pushed.New → IfSome (D.state d.old).view.now (StoresNone stanza.now id.now name.now)) }
     ensures same { IfOk result (λ p. p ≡ Pushed.Same
         → IfSome (D.state d.old).view.now (λ f. StoresOnly stanza.now id.now name.now f (sha1 bytes.now))
         × ((D.state d.new).view.now ≡ (D.state d.old).view.now)) }

@@ -16,8 +16,10 @@ use std::alloc::Global;
 pub fn drop_folder<D: Disk>(alloc: Global, d: &mut D, folder: &str) -> Result<(), StoreFault>
     ensures now { OnOk result ((D.state d.new).view.now ≡ option_map (without folder.now) (D.state d.old).view.now) }
     ensures drops { Drops (is_below folder.now) (D.state d.old).view.now (D.state d.new).view.now }
-    ensures settled { OnOk result ((n : Name) (v : Value) → IsTrue (is_below folder.now n) → is_loose (D.state d.old).view n ≡ false → MayKeep (D.state d.new).view n v → v ≡ None) }
-    ensures works { Works (λ n v. IsTrue (is_below folder.now n) × (v ≡ None)) (λ _. ⊥) (D.state d.old) (D.state d.new) }
+    ensures settled { OnOk result ((n : Name) (v : Value) → IsTrue (is_below folder.now n)
+        → is_loose (D.state d.old).view n ≡ false → MayKeep (D.state d.new).view n v → v ≡ None) }
+    ensures works { Works (λ n v. IsTrue (is_below folder.now n) × (v ≡ None)) (λ _. ⊥) (D.state d.old)
+        (D.state d.new) }
     ensures cause { IsErrOf result StoreFault.Disk → Rises (D.state d.old).faults (D.state d.new).faults }
     ensures refusals { IfErr result IsStop }
 {
@@ -30,7 +32,8 @@ pub fn drop_folder<D: Disk>(alloc: Global, d: &mut D, folder: &str) -> Result<()
 fn remove_below<D: Disk>(alloc: Global, d: &mut D, folder: &str) -> Result<(), StoreFault>
     ensures now { OnOk result ((D.state d.new).view.now ≡ option_map (without folder.now) (D.state d.old).view.now) }
     ensures drops { Drops (is_below folder.now) (D.state d.old).view.now (D.state d.new).view.now }
-    ensures works { Works (λ n v. IsTrue (is_below folder.now n) × (v ≡ None)) (λ _. ⊥) (D.state d.old) (D.state d.new) }
+    ensures works { Works (λ n v. IsTrue (is_below folder.now n) × (v ≡ None)) (λ _. ⊥) (D.state d.old)
+        (D.state d.new) }
     ensures cause { IsErrOf result StoreFault.Disk → Rises (D.state d.old).faults (D.state d.new).faults }
     ensures refusals { IfErr result IsStop }
 {
@@ -41,9 +44,12 @@ fn remove_below<D: Disk>(alloc: Global, d: &mut D, folder: &str) -> Result<(), S
 
 // Removes the names that have this in front: a disk that doesn't tell what it holds may list others.
 fn remove_each<D: Disk>(d: &mut D, found: &[Found], front: &str) -> Result<(), StoreFault>
-    ensures gone { OnOk result (All (λ x. starts_with nat_eq (string_bytes x.name) front.now ≡ true → IsAbsent (D.state d.new).view.now (string_bytes x.name)) found.now) }
+    ensures gone { OnOk result
+        (All (λ x. starts_with nat_eq (string_bytes x.name) front.now ≡ true
+        → IsAbsent (D.state d.new).view.now (string_bytes x.name)) found.now) }
     ensures drops { Drops (λ n. starts_with nat_eq n front.now) (D.state d.old).view.now (D.state d.new).view.now }
-    ensures works { Works (λ n v. IsTrue (starts_with nat_eq n front.now) × (v ≡ None)) (λ _. ⊥) (D.state d.old) (D.state d.new) }
+    ensures works { Works (λ n v. IsTrue (starts_with nat_eq n front.now) × (v ≡ None)) (λ _. ⊥) (D.state d.old)
+        (D.state d.new) }
     ensures cause { IsErrOf result StoreFault.Disk → Rises (D.state d.old).faults (D.state d.new).faults }
     ensures refusals { IfErr result IsStop }
 {

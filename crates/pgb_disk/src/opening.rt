@@ -17,9 +17,13 @@ use std::alloc::Global;
 /// Settles the stanza's folders, so that a crash leaves what each name there holds, unless it is loose. Where the disk keeps a
 /// log, all that a crash then leaves stands for what the disk stands for.
 pub fn begin<D: Disk>(alloc: Global, d: &mut D, stanza: &str) -> Result<(), StoreFault>
-    ensures begun { OnOk result ((q : Repository) (log : List Done) → KeepsRepository stanza.now q log (D.state d.old).view → IsSome (D.state d.old).view.now → IsBegun stanza.now q log (D.state d.new).view) }
+    ensures begun { OnOk result ((q : Repository) (log : List Done)
+        → KeepsRepository stanza.now q log (D.state d.old).view → IsSome (D.state d.old).view.now
+        → IsBegun stanza.now q log (D.state d.new).view) }
     ensures looks { Looks (D.state d.old) (D.state d.new) }
-    ensures settled { OnOk result ((n : Name) (v : Value) → IsTrue (is_of_stanza stanza.now n) → is_loose (D.state d.old).view n ≡ false → MayKeep (D.state d.new).view n v → Holds (D.state d.old).view.now n v) }
+    ensures settled { OnOk result ((n : Name) (v : Value) → IsTrue (is_of_stanza stanza.now n)
+        → is_loose (D.state d.old).view n ≡ false → MayKeep (D.state d.new).view n v
+        → Holds (D.state d.old).view.now n v) }
     ensures cause { IsErrOf result StoreFault.Disk → Rises (D.state d.old).faults (D.state d.new).faults }
     ensures refusals { IfErr result IsStop }
 {
@@ -30,7 +34,9 @@ pub fn begin<D: Disk>(alloc: Global, d: &mut D, stanza: &str) -> Result<(), Stor
 // Settles the two folders.
 fn settle_folders<D: Disk>(alloc: Global, d: &mut D, stanza: &str) -> Result<(), StoreFault>
     ensures looks { Looks (D.state d.old) (D.state d.new) }
-    ensures settled { OnOk result ((n : Name) (v : Value) → IsTrue (is_of_stanza stanza.now n) → is_loose (D.state d.old).view n ≡ false → MayKeep (D.state d.new).view n v → Holds (D.state d.old).view.now n v) }
+    ensures settled { OnOk result ((n : Name) (v : Value) → IsTrue (is_of_stanza stanza.now n)
+        → is_loose (D.state d.old).view n ≡ false → MayKeep (D.state d.new).view n v
+        → Holds (D.state d.old).view.now n v) }
     ensures cause { IsErrOf result StoreFault.Disk → Rises (D.state d.old).faults (D.state d.new).faults }
     ensures refusals { IfErr result IsStop }
 {

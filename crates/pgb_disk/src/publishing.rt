@@ -18,9 +18,12 @@ pub fn publish<D: Disk>(d: &mut D, staged: Staged, name: &str) -> Result<(), Sto
     requires other { staged_name staged ≢ name.now }
     requires synced { is_loose (D.state d.old).view (staged_name staged) ≡ false }
     requires there { IsThere (D.state d.old).view.now (staged_name staged) }
-    ensures now { Changes result (moved (staged_name staged) name.now) (D.state d.old).view.now (D.state d.new).view.now }
-    ensures published { OnOk result (is_loose (D.state d.old).view name.now ≡ false → (v : Value) → MayKeep (D.state d.new).view name.now v → Holds (D.state d.old).view.now (staged_name staged) v) }
-    ensures works { Works (λ n v. ((n ≡ name.now) × Holds (D.state d.old).view.now (staged_name staged) v) ⊎ ((n ≡ staged_name staged) × (v ≡ None))) (λ _. ⊥) (D.state d.old) (D.state d.new) }
+    ensures now { Changes result (moved (staged_name staged) name.now) (D.state d.old).view.now
+        (D.state d.new).view.now }
+    ensures published { OnOk result (is_loose (D.state d.old).view name.now ≡ false → (v : Value)
+        → MayKeep (D.state d.new).view name.now v → Holds (D.state d.old).view.now (staged_name staged) v) }
+    ensures works { Works (λ n v. ((n ≡ name.now) × Holds (D.state d.old).view.now (staged_name staged) v)
+        ⊎ ((n ≡ staged_name staged) × (v ≡ None))) (λ _. ⊥) (D.state d.old) (D.state d.new) }
     ensures cause { IsErrOf result StoreFault.Disk → Rises (D.state d.old).faults (D.state d.new).faults }
     ensures refusals { IfErr result IsStop }
 {
@@ -46,8 +49,10 @@ fn publish_in<D: Disk>(d: &mut D, from: &str, name: &str, folder: &str) -> Resul
     requires synced { is_loose (D.state d.old).view from.now ≡ false }
     requires there { IsThere (D.state d.old).view.now from.now }
     ensures now { Changes result (moved from.now name.now) (D.state d.old).view.now (D.state d.new).view.now }
-    ensures published { OnOk result (is_loose (D.state d.old).view name.now ≡ false → (v : Value) → MayKeep (D.state d.new).view name.now v → Holds (D.state d.old).view.now from.now v) }
-    ensures works { Works (λ n v. ((n ≡ name.now) × Holds (D.state d.old).view.now from.now v) ⊎ ((n ≡ from.now) × (v ≡ None))) (λ _. ⊥) (D.state d.old) (D.state d.new) }
+    ensures published { OnOk result (is_loose (D.state d.old).view name.now ≡ false → (v : Value)
+        → MayKeep (D.state d.new).view name.now v → Holds (D.state d.old).view.now from.now v) }
+    ensures works { Works (λ n v. ((n ≡ name.now) × Holds (D.state d.old).view.now from.now v)
+        ⊎ ((n ≡ from.now) × (v ≡ None))) (λ _. ⊥) (D.state d.old) (D.state d.new) }
     ensures cause { IsErrOf result StoreFault.Disk → Rises (D.state d.old).faults (D.state d.new).faults }
     ensures refusals { IfErr result IsStop }
 {

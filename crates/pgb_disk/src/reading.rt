@@ -18,10 +18,14 @@ pub fn read_whole<D: Disk>(
     name: &str,
     limit: u64,
 ) -> Result<Option<Vec<u8>>, StoreFault>
-    ensures bytes { IfOk result (λ r. IfSome (D.state d.old).view.now (λ f. (option_map (λ (v : Vec ℕ Global). v.items) r ≡ f name.now) × IfSome (f name.now) (λ b. length b ≤ limit))) }
+    ensures bytes { IfOk result
+        (λ r. IfSome (D.state d.old).view.now (λ f. (option_map (λ (v : Vec ℕ Global). v.items) r ≡ f name.now)
+        × IfSome (f name.now) (λ b. length b ≤ limit))) }
     ensures within { IfOk result (λ r. IfSome r (λ v. length v.items ≤ limit)) }
     ensures named { IfErr result (λ e. IfTooLong e (λ n l. (n ≡ name.now) × (l ≡ limit))) }
-    ensures too_long { IfErr result (λ e. IfTooLong e (λ _ _. IfSome (D.state d.old).view.now (λ f. IsSomeAnd (f name.now) (λ b. limit < length b)))) }
+    ensures too_long { IfErr result
+        (λ e. IfTooLong e (λ _ _. IfSome (D.state d.old).view.now
+        (λ f. IsSomeAnd (f name.now) (λ b. limit < length b)))) }
     ensures looks { Looks (D.state d.old) (D.state d.new) }
     ensures cause { IsErrOf result StoreFault.Disk → Rises (D.state d.old).faults (D.state d.new).faults }
 {

@@ -25,10 +25,14 @@ pub fn replace<D: Disk>(
     requires folder { (folder : Name) × LiesIn folder temp.now × LiesIn folder name.now }
     requires temporary { IsTemporary temp.now }
     requires lasting { ¬ IsTemporary name.now }
-    ensures crash { is_loose (D.state d.old).view name.now ≡ false → Crash (FirstOf ((name.now, bytes.now) ∷ [])) (D.state d.old).view (D.state d.new).view }
-    ensures whole { OnOk result (is_loose (D.state d.old).view name.now ≡ false → Ends (AllOf ((name.now, bytes.now) ∷ [])) (D.state d.old).view (D.state d.new).view) }
-    ensures now_part { NowGoes (FirstOf ((name.now, bytes.now) ∷ [])) (D.state d.old).view.now (D.state d.new).view.now }
-    ensures now_whole { OnOk result (NowGoes (AllOf ((name.now, bytes.now) ∷ [])) (D.state d.old).view.now (D.state d.new).view.now) }
+    ensures crash { is_loose (D.state d.old).view name.now ≡ false
+        → Crash (FirstOf ((name.now, bytes.now) ∷ [])) (D.state d.old).view (D.state d.new).view }
+    ensures whole { OnOk result (is_loose (D.state d.old).view name.now ≡ false
+        → Ends (AllOf ((name.now, bytes.now) ∷ [])) (D.state d.old).view (D.state d.new).view) }
+    ensures now_part { NowGoes (FirstOf ((name.now, bytes.now) ∷ [])) (D.state d.old).view.now
+        (D.state d.new).view.now }
+    ensures now_whole { OnOk result
+        (NowGoes (AllOf ((name.now, bytes.now) ∷ [])) (D.state d.old).view.now (D.state d.new).view.now) }
     ensures only { ChangesOnly (λ n. (n ≡ temp.now) ⊎ (n ≡ name.now)) (D.state d.old).view (D.state d.new).view }
     ensures untold { (D.state d.old).view.now ≡ None → (D.state d.new).view.now ≡ None }
     ensures frame { Frame (D.state d.old) (D.state d.new) }

@@ -27,10 +27,17 @@ pub fn save_both<D: Disk>(
     requires temporary { IsTemporary temp.now }
     requires main_lasts { ¬ IsTemporary main.now }
     requires copy_lasts { ¬ IsTemporary copy.now }
-    ensures crash { is_loose (D.state d.old).view main.now ≡ false → is_loose (D.state d.old).view copy.now ≡ false → Crash (FirstOf ((main.now, bytes.now) ∷ (copy.now, bytes.now) ∷ [])) (D.state d.old).view (D.state d.new).view }
-    ensures whole { OnOk result (is_loose (D.state d.old).view main.now ≡ false → is_loose (D.state d.old).view copy.now ≡ false → Ends (AllOf ((main.now, bytes.now) ∷ (copy.now, bytes.now) ∷ [])) (D.state d.old).view (D.state d.new).view) }
-    ensures now_part { NowGoes (FirstOf ((main.now, bytes.now) ∷ (copy.now, bytes.now) ∷ [])) (D.state d.old).view.now (D.state d.new).view.now }
-    ensures now_whole { OnOk result (NowGoes (AllOf ((main.now, bytes.now) ∷ (copy.now, bytes.now) ∷ [])) (D.state d.old).view.now (D.state d.new).view.now) }
+    ensures crash { is_loose (D.state d.old).view main.now ≡ false → is_loose (D.state d.old).view copy.now ≡ false
+        → Crash (FirstOf ((main.now, bytes.now) ∷ (copy.now, bytes.now) ∷ [])) (D.state d.old).view
+        (D.state d.new).view }
+    ensures whole { OnOk result (is_loose (D.state d.old).view main.now ≡ false
+        → is_loose (D.state d.old).view copy.now ≡ false → Ends
+        (AllOf ((main.now, bytes.now) ∷ (copy.now, bytes.now) ∷ [])) (D.state d.old).view (D.state d.new).view) }
+    ensures now_part { NowGoes (FirstOf ((main.now, bytes.now) ∷ (copy.now, bytes.now) ∷ [])) (D.state d.old).view.now
+        (D.state d.new).view.now }
+    ensures now_whole { OnOk result
+        (NowGoes (AllOf ((main.now, bytes.now) ∷ (copy.now, bytes.now) ∷ [])) (D.state d.old).view.now
+        (D.state d.new).view.now) }
     ensures frame { Frame (D.state d.old) (D.state d.new) }
     ensures cause { IsErrOf result StoreFault.Disk → Rises (D.state d.old).faults (D.state d.new).faults }
     ensures refusals { IfErr result IsStop }

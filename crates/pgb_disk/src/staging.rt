@@ -51,7 +51,8 @@ impl Staging {
 pub fn start_stage<D: Disk>(alloc: Global, d: &mut D, name: &str) -> Result<Staging, StoreFault>
     ensures name { IfOk result (λ staging. staging_name staging ≡ name.now) }
     ensures length { IfOk result (λ staging. staging_length staging ≡ 0) }
-    ensures now { OnOk result ((D.state d.new).view.now ≡ option_map (put name.now (Some [])) (D.state d.old).view.now) }
+    ensures now { OnOk result
+        ((D.state d.new).view.now ≡ option_map (put name.now (Some [])) (D.state d.old).view.now) }
     ensures holds { OnOk result (HasLength (D.state d.new).view.now name.now 0) }
     ensures others { SameBut name.now (D.state d.old).view.now (D.state d.new).view.now }
     ensures works { Works (λ _ _. ⊥) (λ n. n ≡ name.now) (D.state d.old) (D.state d.new) }
@@ -72,8 +73,10 @@ pub fn add_stage<D: Disk>(d: &mut D, staging: &mut Staging, bytes: &[u8]) -> Res
     requires room { staging_length staging.old + length bytes.now < 2 ^ 64 }
     ensures name { staging_name staging.new ≡ staging_name staging.old }
     ensures length { OnOk result (staging_length staging.new ≡ staging_length staging.old + length bytes.now) }
-    ensures now { Appends result (staging_name staging.old) bytes.now (D.state d.old).view.now (D.state d.new).view.now }
-    ensures holds { OnOk result (HasLength (D.state d.new).view.now (staging_name staging.new) (staging_length staging.new)) }
+    ensures now { Appends result (staging_name staging.old) bytes.now (D.state d.old).view.now
+        (D.state d.new).view.now }
+    ensures holds { OnOk result
+        (HasLength (D.state d.new).view.now (staging_name staging.new) (staging_length staging.new)) }
     ensures others { SameBut (staging_name staging.old) (D.state d.old).view.now (D.state d.new).view.now }
     ensures works { Works (λ _ _. ⊥) (λ n. n ≡ staging_name staging.old) (D.state d.old) (D.state d.new) }
     ensures cause { IsErrOf result StoreFault.Disk → Rises (D.state d.old).faults (D.state d.new).faults }
@@ -91,7 +94,8 @@ pub fn end_stage<D: Disk>(d: &mut D, staging: Staging) -> Result<Staged, StoreFa
     ensures now { (D.state d.new).view.now ≡ (D.state d.old).view.now }
     ensures there { OnOk result (IsThere (D.state d.new).view.now (staging_name staging)) }
     ensures tight { OnOk result (is_loose (D.state d.new).view (staging_name staging) ≡ false) }
-    ensures works { Works (λ n v. (n ≡ staging_name staging) × Holds (D.state d.old).view.now n v) (λ n. n ≡ staging_name staging) (D.state d.old) (D.state d.new) }
+    ensures works { Works (λ n v. (n ≡ staging_name staging) × Holds (D.state d.old).view.now n v)
+        (λ n. n ≡ staging_name staging) (D.state d.old) (D.state d.new) }
     ensures cause { IsErrOf result StoreFault.Disk → Rises (D.state d.old).faults (D.state d.new).faults }
     ensures refusals { IfErr result IsStop }
 {
@@ -107,7 +111,8 @@ pub fn stage<D: Disk>(
     bytes: &[u8],
 ) -> Result<Staged, StoreFault>
     ensures name { IfOk result (λ staged. staged_name staged ≡ name.now) }
-    ensures now { OnOk result ((D.state d.new).view.now ≡ option_map (put name.now (Some bytes.now)) (D.state d.old).view.now) }
+    ensures now { OnOk result
+        ((D.state d.new).view.now ≡ option_map (put name.now (Some bytes.now)) (D.state d.old).view.now) }
     ensures others { SameBut name.now (D.state d.old).view.now (D.state d.new).view.now }
     ensures tight { OnOk result (is_loose (D.state d.new).view name.now ≡ false) }
     ensures works { Works (λ n _. n ≡ name.now) (λ n. n ≡ name.now) (D.state d.old) (D.state d.new) }

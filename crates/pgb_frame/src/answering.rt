@@ -56,7 +56,8 @@ fn tell_bytes<O: Sink>(
 ) -> Result<(), ServeFault>
     requires room { length room.old ≡ 32773 }
     requires count { count ≤ 32768 }
-    ensures writes { Writes result (part_frames kind (take count (drop 5 room.old))) (O.written out.old) (O.written out.new) }
+    ensures writes { Writes result (part_frames kind (take count (drop 5 room.old))) (O.written out.old)
+        (O.written out.new) }
     ensures room { length room.new ≡ length room.old }
     ensures sink { IsErrOf result OutputFailed → Rises (O.faults out.old) (O.faults out.new) }
     ensures later { O.faults out.old ≤ O.faults out.new }
@@ -101,7 +102,10 @@ fn answer_bytes<O: Sink, F: Files>(
     requires room { length room.old ≡ 32773 }
     requires first { (first ≤ 32768) × (first ≤ item.now.size) }
     requires within { item.now.at + first < 2 ^ 64 }
-    ensures told { IfSome (F.files files.old) (λ f. (bytes : Text) → f (string_bytes item.now.path) ≡ Some bytes → take first (drop 5 room.old) ≡ take part_size (payload (item_of item.now) bytes) → ToldItem kind (item_of item.now) (Some bytes) (Rises (F.faults files.old) (F.faults files.new)) result (O.written out.old) (O.written out.new)) }
+    ensures told { IfSome (F.files files.old) (λ f. (bytes : Text) → f (string_bytes item.now.path) ≡ Some bytes
+        → take first (drop 5 room.old) ≡ take part_size (payload (item_of item.now) bytes)
+        → ToldItem kind (item_of item.now) (Some bytes) (Rises (F.faults files.old) (F.faults files.new)) result
+        (O.written out.old) (O.written out.new)) }
     ensures room { length room.new ≡ length room.old }
     ensures files { F.files files.new ≡ F.files files.old }
     ensures place { F.place files.new ≡ F.place files.old }
@@ -137,7 +141,9 @@ pub(crate) fn answer_item<O: Sink, F: Files>(
     room: &mut [u8],
 ) -> Result<bool, ServeFault>
     requires room { length room.old ≡ 32773 }
-    ensures told { IfSome (F.files files.old) (λ f. ToldItem kind (item_of item.now) (f (string_bytes item.now.path)) (Rises (F.faults files.old) (F.faults files.new)) result (O.written out.old) (O.written out.new)) }
+    ensures told { IfSome (F.files files.old)
+        (λ f. ToldItem kind (item_of item.now) (f (string_bytes item.now.path))
+        (Rises (F.faults files.old) (F.faults files.new)) result (O.written out.old) (O.written out.new)) }
     ensures room { length room.new ≡ length room.old }
     ensures files { F.files files.new ≡ F.files files.old }
     ensures place { F.place files.new ≡ F.place files.old }

@@ -164,7 +164,8 @@ pub(crate) fn path_of(
     rest: Rest<'_>,
 ) -> Result<(String, Rest<'_>), FrameFault>
     requires { rest.left ≤ end }
-    ensures value { Gives (λ x. (string_bytes x.0, rest_of x.1)) result (text_at (is_item_path root) end (rest_of rest.entry)) }
+    ensures value { Gives (λ x. (string_bytes x.0, rest_of x.1)) result
+        (text_at (is_item_path root) end (rest_of rest.entry)) }
     ensures left { IfOk result (λ x. x.1.left ≤ end) }
 {
     let (length, rest) = u16_of(end, rest)?;

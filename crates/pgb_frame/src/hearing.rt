@@ -31,7 +31,8 @@ fn read_some<I: Source>(
 ) -> Result<usize, ServeFault>
     requires room { 0 < length room.old }
     requires most { 0 < most }
-    ensures given { OnOk result ((total : Option Text) → Gives total bytes.old.items (I.left input.old) → Gives total bytes.new.items (I.left input.new)) }
+    ensures given { OnOk result ((total : Option Text) → Gives total bytes.old.items (I.left input.old)
+        → Gives total bytes.new.items (I.left input.new)) }
     ensures count { IfOk result (λ n. (n ≤ most) × (vec_len bytes.new ≡ vec_len bytes.old + n)) }
     ensures end { IfOk result (λ n. n ≡ 0 → IsOver (I.left input.new)) }
     ensures room { length room.new ≡ length room.old }
@@ -58,7 +59,8 @@ fn read_to<I: Source>(
 ) -> Result<(), ServeFault>
     requires room { 0 < length room.old }
     requires wanted { vec_len bytes.old ≤ wanted }
-    ensures given { OnOk result ((total : Option Text) → Gives total bytes.old.items (I.left input.old) → Gives total bytes.new.items (I.left input.new)) }
+    ensures given { OnOk result ((total : Option Text) → Gives total bytes.old.items (I.left input.old)
+        → Gives total bytes.new.items (I.left input.new)) }
     ensures wanted { OnOk result (vec_len bytes.new ≤ wanted) }
     ensures end { OnOk result (vec_len bytes.new < wanted → IsOver (I.left input.new)) }
     ensures room { length room.new ≡ length room.old }
@@ -125,7 +127,8 @@ fn hear<I: Source>(
     start: u64,
 ) -> Result<Option<(Frame, u64)>, ServeFault>
     requires { 0 < length room.old }
-    ensures heard { (rest : Text) → I.left input.old ≡ Some rest → Hears frame_of letter start rest result (I.left input.new) }
+    ensures heard { (rest : Text) → I.left input.old ≡ Some rest
+        → Hears frame_of letter start rest result (I.left input.new) }
     ensures room { length room.new ≡ length room.old }
     ensures read { IsErrOf result InputFailed → Rises (I.faults input.old) (I.faults input.new) }
     ensures later { I.faults input.old ≤ I.faults input.new }
@@ -162,7 +165,8 @@ pub(crate) fn hear_setup<I: Source>(
     room: &mut [u8],
 ) -> Result<Option<(Roots, u64)>, ServeFault>
     requires { 0 < length room.old }
-    ensures heard { (rest : Text) → I.left input.old ≡ Some rest → Hears (λ r. Setup (roots_of r)) 83 0 rest result (I.left input.new) }
+    ensures heard { (rest : Text) → I.left input.old ≡ Some rest
+        → Hears (λ r. Setup (roots_of r)) 83 0 rest result (I.left input.new) }
     ensures room { length room.new ≡ length room.old }
     ensures read { IsErrOf result InputFailed → Rises (I.faults input.old) (I.faults input.new) }
     ensures later { I.faults input.old ≤ I.faults input.new }
@@ -186,7 +190,8 @@ pub(crate) fn hear_job<I: Source>(
     start: u64,
 ) -> Result<Option<(Job, u64)>, ServeFault>
     requires { 0 < length room.old }
-    ensures heard { (rest : Text) → I.left input.old ≡ Some rest → Hears (λ j. Task (job_of j)) 74 start rest result (I.left input.new) }
+    ensures heard { (rest : Text) → I.left input.old ≡ Some rest
+        → Hears (λ j. Task (job_of j)) 74 start rest result (I.left input.new) }
     ensures room { length room.new ≡ length room.old }
     ensures read { IsErrOf result InputFailed → Rises (I.faults input.old) (I.faults input.new) }
     ensures later { I.faults input.old ≤ I.faults input.new }
@@ -209,7 +214,8 @@ pub(crate) fn is_over<I: Source>(
     room: &mut [u8],
 ) -> Result<bool, ServeFault>
     requires { 0 < length room.old }
-    ensures over { (rest : Text) → I.left input.old ≡ Some rest → IfOk result (λ b. MatchBool b (rest ≡ []) (0 < length rest)) }
+    ensures over { (rest : Text) → I.left input.old ≡ Some rest
+        → IfOk result (λ b. MatchBool b (rest ≡ []) (0 < length rest)) }
     ensures room { length room.new ≡ length room.old }
     ensures read { IsErrOf result InputFailed → Rises (I.faults input.old) (I.faults input.new) }
     ensures later { I.faults input.old ≤ I.faults input.new }

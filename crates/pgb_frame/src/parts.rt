@@ -21,7 +21,9 @@ fn read_on<F: Files>(
 ) -> Result<usize, Stop>
     requires have { have ≤ length buf.old }
     requires within { at + have < 2 ^ 64 }
-    ensures bytes { IfOk result (λ n. IfSome (F.files files.old) (λ f. IfSome (f name.now) (λ b. ReadsPart b (at + have) (length buf.old - have) (drop have buf.new) n))) }
+    ensures bytes { IfOk result
+        (λ n. IfSome (F.files files.old)
+        (λ f. IfSome (f name.now) (λ b. ReadsPart b (at + have) (length buf.old - have) (drop have buf.new) n))) }
     ensures front { take have buf.new ≡ take have buf.old }
     ensures length { length buf.new ≡ length buf.old }
     ensures room { IfOk result (λ n. n ≤ length buf.old - have) }
@@ -79,7 +81,9 @@ pub(crate) fn fill_part<F: Files>(
     requires room { length room.old ≡ 32773 }
     requires told { told ≤ item.now.size }
     requires within { item.now.at + told < 2 ^ 64 }
-    ensures told { IfOk result (λ r. IfSome (F.files files.old) (λ f. FillsPart (f (string_bytes item.now.path)) (item_of item.now) told room.new r)) }
+    ensures told { IfOk result
+        (λ r. IfSome (F.files files.old)
+        (λ f. FillsPart (f (string_bytes item.now.path)) (item_of item.now) told room.new r)) }
     ensures length { length room.new ≡ length room.old }
     ensures room { IfOk result (λ r. IfSome r (λ n. (n ≤ 32768) × (n ≤ item.now.size - told))) }
     ensures within { IfOk result (λ r. IfSome r (λ n. item.now.at + told + n < 2 ^ 64)) }
@@ -109,7 +113,9 @@ pub(crate) fn next_part<F: Files>(
     requires room { length room.old ≡ 32773 }
     requires told { told ≤ item.now.size }
     requires within { item.now.at + told < 2 ^ 64 }
-    ensures told { IfOk result (λ n. IfSome (F.files files.old) (λ f. (bytes : Text) → f (string_bytes item.now.path) ≡ Some bytes → IsNextPart (drop told (payload (item_of item.now) bytes)) last (drop 5 room.new) n)) }
+    ensures told { IfOk result
+        (λ n. IfSome (F.files files.old) (λ f. (bytes : Text) → f (string_bytes item.now.path) ≡ Some bytes
+        → IsNextPart (drop told (payload (item_of item.now) bytes)) last (drop 5 room.new) n)) }
     ensures length { length room.new ≡ length room.old }
     ensures room { IfOk result (λ n. (n ≤ 32768) × (n ≤ item.now.size - told)) }
     ensures within { IfOk result (λ n. item.now.at + told + n < 2 ^ 64) }

@@ -175,11 +175,13 @@ pub fn decode_frame(alloc: Global, bytes: &[u8]) -> Result<(Frame, usize), Frame
     // What is read keeps the rules, and is spelled so.
     ensures found { IfOk result (λ x. IsFront bytes.now (frame_of x.0) x.1) }
     // What is spelled so is read, unless memory runs out.
-    ensures only { (f : told.Frame) (rest : List ℕ) → FitsFrame f → bytes.now ≡ spell f ++ rest → Gives (λ x. (frame_of x.0, x.1)) result (read_as f) }
+    ensures only { (f : told.Frame) (rest : List ℕ) → FitsFrame f → bytes.now ≡ spell f ++ rest
+        → Gives (λ x. (frame_of x.0, x.1)) result (read_as f) }
     // It is short only where the frame isn't whole.
     ensures short { IfErr result (λ e. e ≡ Short → IsCutShort bytes.now) }
     // Every other answer is the same, whatever bytes follow.
-    ensures settled { (more : List ℕ) → result ≢ Err Short → Gives (λ x. (frame_of x.0, x.1)) result (frame_at (bytes.now ++ more)) }
+    ensures settled { (more : List ℕ) → result ≢ Err Short → Gives (λ x. (frame_of x.0, x.1)) result
+        (frame_at (bytes.now ++ more)) }
     // Which fault is the first.
     ensures exact { Gives (λ x. (frame_of x.0, x.1)) result (frame_at bytes.now) }
 {

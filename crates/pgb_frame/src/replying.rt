@@ -32,7 +32,10 @@ fn answer_next<O: Sink, F: Files>(
     room: &mut [u8],
 ) -> Result<bool, ServeFault>
     requires room { length room.old ≡ 32773 }
-    ensures told { IfSome (F.files files.old) (λ f. ToldItem kind (item_of item.now) (f (string_bytes item.now.path)) ((is_open ≡ false) ⊎ Rises (F.faults files.old) (F.faults files.new)) result (O.written out.old) (O.written out.new)) }
+    ensures told { IfSome (F.files files.old)
+        (λ f. ToldItem kind (item_of item.now) (f (string_bytes item.now.path))
+        ((is_open ≡ false) ⊎ Rises (F.faults files.old) (F.faults files.new)) result (O.written out.old)
+        (O.written out.new)) }
     ensures room { length room.new ≡ length room.old }
     ensures files { F.files files.new ≡ F.files files.old }
     ensures place { F.place files.new ≡ F.place files.old }
@@ -60,7 +63,10 @@ fn answer_of_root<O: Sink, F: Files, G: Files>(
     room: &mut [u8],
 ) -> Result<bool, ServeFault>
     requires room { length room.old ≡ 32773 }
-    ensures told { (ft fr : Content) → F.files tree.old ≡ Some ft → G.files repo.old ≡ Some fr → ToldItem kind (item_of item.now) (value_of ft fr (item_of item.now)) (FailedRoot opened (F.faults tree.old) (G.faults repo.old) (F.faults tree.new) (G.faults repo.new) item.now.root) result (O.written out.old) (O.written out.new) }
+    ensures told { (ft fr : Content) → F.files tree.old ≡ Some ft → G.files repo.old ≡ Some fr
+        → ToldItem kind (item_of item.now) (value_of ft fr (item_of item.now))
+        (FailedRoot opened (F.faults tree.old) (G.faults repo.old) (F.faults tree.new)
+        (G.faults repo.new) item.now.root) result (O.written out.old) (O.written out.new) }
     ensures room { length room.new ≡ length room.old }
     ensures tree { F.files tree.new ≡ F.files tree.old }
     ensures repo { G.files repo.new ≡ G.files repo.old }
@@ -89,7 +95,10 @@ pub(crate) fn answer_job<O: Sink, F: Files, G: Files>(
     room: &mut [u8],
 ) -> Result<(), ServeFault>
     requires room { length room.old ≡ 32773 }
-    ensures told { (ft fr : Content) → F.files tree.old ≡ Some ft → G.files repo.old ≡ Some fr → ToldJob (job_of job.now) ft fr (FailedRoot opened (F.faults tree.old) (G.faults repo.old) (F.faults tree.new) (G.faults repo.new)) result (O.written out.old) (O.written out.new) }
+    ensures told { (ft fr : Content) → F.files tree.old ≡ Some ft → G.files repo.old ≡ Some fr
+        → ToldJob (job_of job.now) ft fr
+        (FailedRoot opened (F.faults tree.old) (G.faults repo.old) (F.faults tree.new) (G.faults repo.new)) result
+        (O.written out.old) (O.written out.new) }
     ensures room { length room.new ≡ length room.old }
     ensures tree { F.files tree.new ≡ F.files tree.old }
     ensures repo { G.files repo.new ≡ G.files repo.old }

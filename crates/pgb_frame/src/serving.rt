@@ -66,8 +66,10 @@ fn serve_next<I: Source, O: Sink, F: Files, G: Files>(
     start: u64,
 ) -> Result<Option<u64>, ServeFault>
     requires room { length room.old ≡ 32773 }
-    ensures told { (ft fr : Content) (rest : Text) → F.files tree.old ≡ Some ft → G.files repo.old ≡ Some fr → I.left input.old ≡ Some rest
-        → ServedNext ft fr (FailedRoot opened (F.faults tree.old) (G.faults repo.old) (F.faults tree.new) (G.faults repo.new)) start rest result (I.left input.new) (O.written out.old) (O.written out.new) }
+    ensures told { (ft fr : Content) (rest : Text) → F.files tree.old ≡ Some ft → G.files repo.old ≡ Some fr
+        → I.left input.old ≡ Some rest
+        → ServedNext ft fr (FailedRoot opened (F.faults tree.old) (G.faults repo.old) (F.faults tree.new)
+            (G.faults repo.new)) start rest result (I.left input.new) (O.written out.old) (O.written out.new) }
     ensures room { length room.new ≡ length room.old }
     ensures tree { F.files tree.new ≡ F.files tree.old }
     ensures repo { G.files repo.new ≡ G.files repo.old }
@@ -134,8 +136,10 @@ fn serve_jobs<I: Source, O: Sink, F: Files, G: Files>(
     start: u64,
 ) -> Result<u64, ServeFault>
     requires room { length room.old ≡ 32773 }
-    ensures served { (ft fr : Content) (rest : Text) → F.files tree.old ≡ Some ft → G.files repo.old ≡ Some fr → I.left input.old ≡ Some rest
-        → ServedJobs ft fr (NotOpened opened) (counts (F.faults tree.old) (G.faults repo.old)) (counts (F.faults tree.new) (G.faults repo.new)) start rest result (O.written out.old) (O.written out.new) }
+    ensures served { (ft fr : Content) (rest : Text) → F.files tree.old ≡ Some ft → G.files repo.old ≡ Some fr
+        → I.left input.old ≡ Some rest
+        → ServedJobs ft fr (NotOpened opened) (counts (F.faults tree.old) (G.faults repo.old))
+            (counts (F.faults tree.new) (G.faults repo.new)) start rest result (O.written out.old) (O.written out.new) }
     ensures tree { F.files tree.new ≡ F.files tree.old }
     ensures repo { G.files repo.new ≡ G.files repo.old }
     ensures tree_place { F.place tree.new ≡ F.place tree.old }
@@ -175,8 +179,11 @@ pub fn serve<I: Source, O: Sink, F: Files, G: Files>(
     repo: &mut G,
 ) -> Result<u64, ServeFault>
     // Each job was answered by its reply, and the bytes of the input are why it ended.
-    ensures served { (ft fr : Content) (bytes : Text) → F.files tree.old ≡ Some ft → G.files repo.old ≡ Some fr → I.left input.old ≡ Some bytes
-        → Served ft fr bytes (counts (F.faults tree.old) (G.faults repo.old)) (counts (F.faults tree.new) (G.faults repo.new)) (F.place tree.new) (G.place repo.new) result (O.written out.old) (O.written out.new) }
+    ensures served { (ft fr : Content) (bytes : Text) → F.files tree.old ≡ Some ft → G.files repo.old ≡ Some fr
+        → I.left input.old ≡ Some bytes
+        → Served ft fr bytes (counts (F.faults tree.old) (G.faults repo.old))
+            (counts (F.faults tree.new) (G.faults repo.new)) (F.place tree.new) (G.place repo.new) result
+            (O.written out.old) (O.written out.new) }
     ensures read { IsErrOf result InputFailed → Rises (I.faults input.old) (I.faults input.new) }
     ensures sink { IsErrOf result OutputFailed → Rises (O.faults out.old) (O.faults out.new) }
     ensures tree { F.files tree.new ≡ F.files tree.old }

@@ -109,7 +109,8 @@ pub(crate) fn hear_bytes<L: Link>(
 
 /// A frame's type and the length of its body.
 pub(crate) fn hear_head<L: Link>(link: &mut L, before: u64) -> Result<(u8, u32), HearFault>
-    ensures takes { IfOk result (λ x. Takes (L.link_state link.old) (L.link_state link.new) (x.0 ∷ to_be_bytes w32 x.1)) }
+    ensures takes { IfOk result
+        (λ x. Takes (L.link_state link.old) (L.link_state link.new) (x.0 ∷ to_be_bytes w32 x.1)) }
     ensures lost { IfErr result (λ e. FaultLeaves e before (L.link_state link.old) (L.link_state link.new)) }
     ensures steady { IfErr result (λ e. Refutes e (OffersMany (L.link_state link.old) 5)) }
     ensures short { IfErr result IsShort }
@@ -121,7 +122,8 @@ pub(crate) fn hear_head<L: Link>(link: &mut L, before: u64) -> Result<(u8, u32),
 
 /// The number and the digest that end an item.
 pub(crate) fn hear_end<L: Link>(link: &mut L, before: u64) -> Result<(u64, Sum), HearFault>
-    ensures takes { IfOk result (λ x. Takes (L.link_state link.old) (L.link_state link.new) (to_be_bytes w64 x.0 ++ x.1.0)) }
+    ensures takes { IfOk result
+        (λ x. Takes (L.link_state link.old) (L.link_state link.new) (to_be_bytes w64 x.0 ++ x.1.0)) }
     ensures lost { IfErr result (λ e. FaultLeaves e before (L.link_state link.old) (L.link_state link.new)) }
     ensures steady { IfErr result (λ e. Refutes e (OffersMany (L.link_state link.old) 28)) }
     ensures short { IfErr result IsShort }

@@ -40,7 +40,8 @@ fn foreign_key<'a>(keys: &'a [(String, Value)]) -> Option<&'a str>
 pub(crate) fn current_of(alloc: Global, part: &Part) -> Result<ClusterId, PartsFault>
     requires { IsSection (section_of part.now) }
     ensures cluster { IfOk result (λ c. IsClusterId c × (1 ≤ c.id) × (keys_of part.now ≡ cluster_id_fields c)) }
-    ensures fault { IfErr result (λ e. IfForm e (λ section key. (section ≡ db) × IsWrongCurrent (keys_of part.now) key)) }
+    ensures fault { IfErr result
+        (λ e. IfForm e (λ section key. (section ≡ db) × IsWrongCurrent (keys_of part.now) key)) }
 {
     let keys = &part.keys;
     let Some(id) = number_at(keys, "db-id") else {

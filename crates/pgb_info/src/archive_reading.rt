@@ -29,7 +29,8 @@ fn is_section(name: &str) -> bool
 
 // The first section that no value has.
 fn foreign_part<'a>(parts: &'a [Part]) -> Option<&'a Part>
-    ensures some { IfSome result (λ p. In (section_of p.now) (sections_of parts.now) × ¬ In (section_of p.now).name section_names) }
+    ensures some { IfSome result (λ p. In (section_of p.now) (sections_of parts.now)
+        × ¬ In (section_of p.now).name section_names) }
     ensures none { IfNone result ((s : Section) → In s (sections_of parts.now) → In s.name section_names) }
 {
     for part in parts {

@@ -33,11 +33,14 @@ fn id_at(keys: &[(String, Value)], key: &str) -> u32
 fn candidate(keys: &[(String, Value)]) -> Cluster
     requires { IsOrdered (map key_of keys.now) }
     ensures low { 1 ≤ result.id }
-    ensures catalog { (n : ℕ) → n < 2 ^ 32 → In (codes "db-catalog-version", whole n) (map key_of keys.now) → result.catalog ≡ n }
-    ensures control { (n : ℕ) → n < 2 ^ 32 → In (codes "db-control-version", whole n) (map key_of keys.now) → result.control ≡ n }
+    ensures catalog { (n : ℕ) → n < 2 ^ 32 → In (codes "db-catalog-version", whole n) (map key_of keys.now)
+        → result.catalog ≡ n }
+    ensures control { (n : ℕ) → n < 2 ^ 32 → In (codes "db-control-version", whole n) (map key_of keys.now)
+        → result.control ≡ n }
     ensures id { (n : ℕ) → n < 2 ^ 32 → 1 ≤ n → In (codes "db-id", whole n) (map key_of keys.now) → result.id ≡ n }
     ensures system { (n : ℕ) → In (codes "db-system-id", whole n) (map key_of keys.now) → result.system ≡ n }
-    ensures version { (n : ℕ) → n < 2 ^ 32 → In (codes "db-version", version_value n) (map key_of keys.now) → result.version ≡ n }
+    ensures version { (n : ℕ) → n < 2 ^ 32 → In (codes "db-version", version_value n) (map key_of keys.now)
+        → result.version ≡ n }
 {
     Cluster {
         id: id_at(keys, "db-id"),
@@ -53,7 +56,8 @@ pub(crate) fn current_of(alloc: Global, keys: &[(String, Value)]) -> Result<Clus
     requires keys { AllByRecursion IsKey (map key_of keys.now) }
     requires order { IsOrdered (map key_of keys.now) }
     ensures cluster { IfOk result (λ c. IsCluster c × (1 ≤ c.id) × (map key_of keys.now ≡ cluster_fields c)) }
-    ensures fault { IfErr result (λ e. IfForm e (λ section key. (section ≡ db) × IsWrongCluster (map key_of keys.now) key)) }
+    ensures fault { IfErr result
+        (λ e. IfForm e (λ section key. (section ≡ db) × IsWrongCluster (map key_of keys.now) key)) }
 {
     let cluster = candidate(keys);
     let expected = cluster_part(alloc, "db", &cluster)?;

@@ -20,7 +20,8 @@ use std::alloc::Global;
 
 fn listed_part(alloc: Global, backups: &[Entry]) -> Result<Part, NoMemory>
     requires { AllByRecursion (λ e. HasLabels (entry_of e)) backups.now }
-    ensures { IfOk result (λ p. section_of p ≡ record { name = codes "backup:current"; keys = map entry_field (map entry_of backups.now) }) }
+    ensures { IfOk result (λ p. section_of p ≡ record { name = codes "backup:current";
+        keys = map entry_field (map entry_of backups.now) }) }
 {
     let mut part = Part::new(alloc, "backup:current")?;
     for e in backups {
@@ -34,7 +35,8 @@ fn listed_part(alloc: Global, backups: &[Entry]) -> Result<Part, NoMemory>
 // No section, where no backup is listed.
 fn listed_parts(alloc: Global, backups: &[Entry]) -> Result<Vec<Part>, NoMemory>
     requires { AllByRecursion (λ e. HasLabels (entry_of e)) backups.now }
-    ensures { IfOk result (λ ps. sections_of ps.items ≡ section (codes "backup:current") (map entry_field (map entry_of backups.now))) }
+    ensures { IfOk result (λ ps. sections_of ps.items ≡ section (codes "backup:current")
+        (map entry_field (map entry_of backups.now))) }
 {
     let mut parts = Vec::new(alloc);
     if backups.is_empty() {
@@ -80,7 +82,8 @@ pub fn cluster_part(alloc: Global, name: &str, c: &Cluster) -> Result<Part, NoMe
 }
 
 fn history_part(alloc: Global, history: &[Cluster]) -> Result<Part, NoMemory>
-    ensures { IfOk result (λ p. section_of p ≡ record { name = codes "db:history"; keys = by_key (map cluster_field history.now) }) }
+    ensures { IfOk result (λ p. section_of p ≡ record { name = codes "db:history";
+        keys = by_key (map cluster_field history.now) }) }
 {
     let mut part = Part::new(alloc, "db:history")?;
     for c in history {

@@ -17,7 +17,8 @@ use std::alloc::Global;
 // The cluster that these members tell, where the value is that of a cluster.
 fn identity_in(id: u32, value: &Value) -> Option<ClusterId>
     ensures rules { IfSome result (λ c. IsClusterId c × (c.id ≡ id)) }
-    ensures only { (c : ClusterId) → IsClusterId c → c.id ≡ id → view value.now ≡ (cluster_id_field c).1 → result ≡ Some c }
+    ensures only { (c : ClusterId) → IsClusterId c → c.id ≡ id → view value.now ≡ (cluster_id_field c).1
+        → result ≡ Some c }
 {
     let system = whole_of(value.get("db-id")?)?;
     let version = version_of(value.get("db-version")?)?;
@@ -31,8 +32,10 @@ fn identity_in(id: u32, value: &Value) -> Option<ClusterId>
 // The cluster of a history whose value this is.
 fn cluster_of(alloc: Global, id: u32, value: &Value) -> Result<Option<ClusterId>, NoMemory>
     requires { IsValue (view value.now) }
-    ensures some { IfOk result (λ o. IfSome o (λ c. IsClusterId c × (c.id ≡ id) × (view value.now ≡ (cluster_id_field c).1))) }
-    ensures none { IfOk result (λ o. IfNone o ((c : ClusterId) → IsClusterId c → c.id ≡ id → view value.now ≢ (cluster_id_field c).1)) }
+    ensures some { IfOk result
+        (λ o. IfSome o (λ c. IsClusterId c × (c.id ≡ id) × (view value.now ≡ (cluster_id_field c).1))) }
+    ensures none { IfOk result
+        (λ o. IfNone o ((c : ClusterId) → IsClusterId c → c.id ≡ id → view value.now ≢ (cluster_id_field c).1)) }
 {
     let Some(cluster) = identity_in(id, value) else {
         return Ok(None);

@@ -35,8 +35,10 @@ fn members_in(id: u32, value: &Value) -> Option<Cluster>
 // The cluster of a history whose value this is.
 fn cluster_of(alloc: Global, id: u32, value: &Value) -> Result<Option<Cluster>, NoMemory>
     requires { IsValue (view value.now) }
-    ensures some { IfOk result (λ o. IfSome o (λ c. IsCluster c × (c.id ≡ id) × (view value.now ≡ (cluster_field c).1))) }
-    ensures none { IfOk result (λ o. IfNone o ((c : Cluster) → IsCluster c → c.id ≡ id → view value.now ≢ (cluster_field c).1)) }
+    ensures some { IfOk result
+        (λ o. IfSome o (λ c. IsCluster c × (c.id ≡ id) × (view value.now ≡ (cluster_field c).1))) }
+    ensures none { IfOk result
+        (λ o. IfNone o ((c : Cluster) → IsCluster c → c.id ≡ id → view value.now ≢ (cluster_field c).1)) }
 {
     let Some(cluster) = members_in(id, value) else {
         return Ok(None);

@@ -73,7 +73,8 @@ fn add_log(
 ) -> Result<(), NoMemory>
     ensures { OnOk result (members_view members.new.entries
         ≡ put (codes "backup-archive-stop") (or_null (λ s. segment_value s.stop) span)
-        (put (codes "backup-archive-start") (or_null (λ s. segment_value s.start) span) (members_view members.old.entries))) }
+        (put (codes "backup-archive-start") (or_null (λ s. segment_value s.start) span)
+            (members_view members.old.entries))) }
 {
     put(
         members,

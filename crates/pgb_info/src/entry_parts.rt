@@ -68,7 +68,9 @@ fn between(start: Option<Segment>, stop: Option<Segment>) -> Option<Option<Span>
 
 /// The segments between which the log of a backup lies, or none where both ends are null.
 pub(crate) fn span_in(start: &Value, stop: &Value) -> Option<Option<Span>>
-    ensures { (o : Option Span) → IfSome o (λ s. IsSegment s.start × IsSegment s.stop) → view start.now ≡ or_null (λ s. segment_value s.start) o → view stop.now ≡ or_null (λ s. segment_value s.stop) o → result ≡ Some o }
+    ensures { (o : Option Span) → IfSome o (λ s. IsSegment s.start × IsSegment s.stop)
+        → view start.now ≡ or_null (λ s. segment_value s.start) o
+        → view stop.now ≡ or_null (λ s. segment_value s.stop) o → result ≡ Some o }
 {
     let first = end_in(start)?;
     let last = end_in(stop)?;
@@ -78,7 +80,8 @@ pub(crate) fn span_in(start: &Value, stop: &Value) -> Option<Option<Span>>
 /// The labels that this value lists.
 pub(crate) fn labels_in(alloc: Global, value: &Value) -> Result<Option<Vec<Label>>, NoMemory>
     ensures some { IfOk result (λ o. IfSome o (λ v. AllByRecursion IsLabel v.items)) }
-    ensures only { IfOk result (λ o. (ls : List Label) → AllByRecursion IsLabel ls → view value.now ≡ list_of (map label_value ls) → option_map (λ v. v.items) o ≡ Some ls) }
+    ensures only { IfOk result (λ o. (ls : List Label) → AllByRecursion IsLabel ls
+        → view value.now ≡ list_of (map label_value ls) → option_map (λ v. v.items) o ≡ Some ls) }
 {
     let Some(items) = value.as_array() else {
         return Ok(None);

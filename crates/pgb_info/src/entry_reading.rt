@@ -34,7 +34,8 @@ fn numbers_in(value: &Value) -> Option<Numbers>
     ensures db { IfSome result (λ n. 1 ≤ n.db) }
     ensures start { IfSome result (λ n. n.start ≤ last_second) }
     ensures stop { IfSome result (λ n. n.stop ≤ last_second) }
-    ensures only { (e : SpecEntry) → IsEntry e → view value.now ≡ (entry_field e).1 → result ≡ Some (record { db = e.db; start = e.start; stop = e.stop; size = e.size; stored = e.stored }) }
+    ensures only { (e : SpecEntry) → IsEntry e → view value.now ≡ (entry_field e).1
+        → result ≡ Some (record { db = e.db; start = e.start; stop = e.stop; size = e.size; stored = e.stored }) }
 {
     let stored = whole_of(value.get("backup-info-repo-size-delta")?)?;
     let size = whole_of(value.get("backup-info-size")?)?;
@@ -70,7 +71,8 @@ fn base_in(value: &Value) -> Option<Option<Label>>
 fn references_in(alloc: Global, value: &Value) -> Result<Option<Vec<Label>>, NoMemory>
     ensures rules { IfOk result (λ o. IfSome o (λ v. AllByRecursion IsLabel v.items)) }
     ensures order { IfOk result (λ o. IfSome o (λ v. are_in_order (map label_text v.items) ≡ true)) }
-    ensures only { IfOk result (λ o. (e : SpecEntry) → IsEntry e → view value.now ≡ (entry_field e).1 → option_map (λ v. v.items) o ≡ Some e.references) }
+    ensures only { IfOk result (λ o. (e : SpecEntry) → IsEntry e → view value.now ≡ (entry_field e).1
+        → option_map (λ v. v.items) o ≡ Some e.references) }
 {
     let Some(value) = value.get("backup-reference") else {
         return Ok(None);
@@ -89,7 +91,8 @@ fn references_in(alloc: Global, value: &Value) -> Result<Option<Vec<Label>>, NoM
 fn entry_in(alloc: Global, label: &Label, value: &Value) -> Result<Option<Entry>, NoMemory>
     requires { IsLabel label.now }
     ensures rules { IfOk result (λ o. IfSome o (λ e. IsEntry (entry_of e) × (e.label ≡ label.now))) }
-    ensures only { IfOk result (λ o. (e : SpecEntry) → IsEntry e → e.label ≡ label.now → view value.now ≡ (entry_field e).1 → option_map entry_of o ≡ Some e) }
+    ensures only { IfOk result (λ o. (e : SpecEntry) → IsEntry e → e.label ≡ label.now
+        → view value.now ≡ (entry_field e).1 → option_map entry_of o ≡ Some e) }
 {
     let Some(span) = log_in(value) else {
         return Ok(None);
@@ -125,8 +128,11 @@ pub(crate) fn read_entry(
 ) -> Result<Option<Entry>, NoMemory>
     requires label { IsLabel label.now }
     requires value { IsValue (view value.now) }
-    ensures some { IfOk result (λ o. IfSome o (λ e. IsEntry (entry_of e) × (e.label ≡ label.now) × (view value.now ≡ (entry_field (entry_of e)).1))) }
-    ensures none { IfOk result (λ o. IfNone o ((e : SpecEntry) → IsEntry e → e.label ≡ label.now → view value.now ≢ (entry_field e).1)) }
+    ensures some { IfOk result
+        (λ o. IfSome o (λ e. IsEntry (entry_of e) × (e.label ≡ label.now)
+        × (view value.now ≡ (entry_field (entry_of e)).1))) }
+    ensures none { IfOk result
+        (λ o. IfNone o ((e : SpecEntry) → IsEntry e → e.label ≡ label.now → view value.now ≢ (entry_field e).1)) }
 {
     let Some(entry) = entry_in(alloc, label, value)? else {
         return Ok(None);

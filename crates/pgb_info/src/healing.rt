@@ -46,7 +46,8 @@ fn mend<D: Disk>(
     requires folder { (folder : Name) × LiesIn folder temporary.now × LiesIn folder name.now }
     requires temporary { IsTemporary temporary.now }
     requires lasting { ¬ IsTemporary name.now }
-    ensures crash { is_loose (D.state d.old).view name.now ≡ false → Crash (SomeOf ((name.now, text.now) ∷ [])) (D.state d.old).view (D.state d.new).view }
+    ensures crash { is_loose (D.state d.old).view name.now ≡ false
+        → Crash (SomeOf ((name.now, text.now) ∷ [])) (D.state d.old).view (D.state d.new).view }
     ensures now_part { NowGoes (SomeOf ((name.now, text.now) ∷ [])) (D.state d.old).view.now (D.state d.new).view.now }
     ensures mended { OnOk result (IfSome (D.state d.new).view.now (λ f. f name.now ≡ Some text.now)) }
     ensures untold { (D.state d.old).view.now ≡ None → (D.state d.new).view.now ≡ None }
@@ -63,9 +64,13 @@ fn mend<D: Disk>(
 // Gives each member the text, where it hasn't it, the main one first.
 fn mend_both<D: Disk>(alloc: Global, d: &mut D, name: &str, text: &[u8]) -> Result<(), SaveFault>
     requires { IsMemberName name.now }
-    ensures crash { is_loose (D.state d.old).view name.now ≡ false → is_loose (D.state d.old).view (copy_of name.now) ≡ false → Crash (SomeOf (member_writes name.now text.now)) (D.state d.old).view (D.state d.new).view }
-    ensures now_part { NowGoes (SomeOf (member_writes name.now text.now)) (D.state d.old).view.now (D.state d.new).view.now }
-    ensures mended { OnOk result (IfSome (D.state d.new).view.now (λ f. (f name.now ≡ Some text.now) × (f (copy_of name.now) ≡ Some text.now))) }
+    ensures crash { is_loose (D.state d.old).view name.now ≡ false
+        → is_loose (D.state d.old).view (copy_of name.now) ≡ false
+        → Crash (SomeOf (member_writes name.now text.now)) (D.state d.old).view (D.state d.new).view }
+    ensures now_part { NowGoes (SomeOf (member_writes name.now text.now)) (D.state d.old).view.now
+        (D.state d.new).view.now }
+    ensures mended { OnOk result
+        (IfSome (D.state d.new).view.now (λ f. (f name.now ≡ Some text.now) × (f (copy_of name.now) ≡ Some text.now))) }
     ensures frame { Frame (D.state d.old) (D.state d.new) }
     ensures cause { IsErrOf result SaveFault.Disk → Rises (D.state d.old).faults (D.state d.new).faults }
 {
@@ -84,9 +89,15 @@ pub fn mend_pair<D: Disk, I: Info>(
 ) -> Result<(), SaveFault>
     requires named { IsMemberName name.now }
     requires valid { I.is_valid value.now }
-    ensures crash { is_loose (D.state d.old).view name.now ≡ false → is_loose (D.state d.old).view (copy_of name.now) ≡ false → Crash (SomeOf (member_writes name.now (info_text (I.sections value.now)))) (D.state d.old).view (D.state d.new).view }
-    ensures now_part { NowGoes (SomeOf (member_writes name.now (info_text (I.sections value.now)))) (D.state d.old).view.now (D.state d.new).view.now }
-    ensures mended { OnOk result (IfSome (D.state d.new).view.now (λ f. (f name.now ≡ Some (info_text (I.sections value.now))) × (f (copy_of name.now) ≡ Some (info_text (I.sections value.now))))) }
+    ensures crash { is_loose (D.state d.old).view name.now ≡ false
+        → is_loose (D.state d.old).view (copy_of name.now) ≡ false
+        → Crash (SomeOf (member_writes name.now (info_text (I.sections value.now)))) (D.state d.old).view
+        (D.state d.new).view }
+    ensures now_part { NowGoes (SomeOf (member_writes name.now (info_text (I.sections value.now))))
+        (D.state d.old).view.now (D.state d.new).view.now }
+    ensures mended { OnOk result
+        (IfSome (D.state d.new).view.now (λ f. (f name.now ≡ Some (info_text (I.sections value.now)))
+        × (f (copy_of name.now) ≡ Some (info_text (I.sections value.now))))) }
     ensures frame { Frame (D.state d.old) (D.state d.new) }
     ensures cause { IsErrOf result SaveFault.Disk → Rises (D.state d.old).faults (D.state d.new).faults }
 {
@@ -100,15 +111,26 @@ pub fn heal_pair<D: Disk, I: ReadInfo>(alloc: Global, d: &mut D, name: &str) -> 
     ensures found { IfOk result (λ v. IfSome (D.state d.old).view.now (λ f. PairIs I.IsText f name.now (I.value v))) }
     ensures valid { IfOk result (λ v. I.is_valid v) }
     ensures within { IfOk result (λ v. length (I.text (I.value v)) ≤ I.limit) }
-    ensures healed { IfOk result (λ v. IfSome (D.state d.new).view.now (λ f. (f name.now ≡ Some (I.text (I.value v))) × (f (copy_of name.now) ≡ Some (I.text (I.value v))))) }
-    ensures now_part { (v : I.Value) → IfSome (D.state d.old).view.now (λ f. PairIs I.IsText f name.now v) → NowGoes (SomeOf (member_writes name.now (I.text v))) (D.state d.old).view.now (D.state d.new).view.now }
-    ensures crash { (v : I.Value) → IfSome (D.state d.old).view.now (λ f. PairIs I.IsText f name.now v) → is_loose (D.state d.old).view name.now ≡ false → is_loose (D.state d.old).view (copy_of name.now) ≡ false → Crash (SomeOf (member_writes name.now (I.text v))) (D.state d.old).view (D.state d.new).view }
-    ensures refused { IfErr result (λ e. IfRefused e (((D.state d.new).view.now ≡ (D.state d.old).view.now) × Rests (D.state d.old).view (D.state d.new).view)) }
+    ensures healed { IfOk result
+        (λ v. IfSome (D.state d.new).view.now (λ f. (f name.now ≡ Some (I.text (I.value v)))
+        × (f (copy_of name.now) ≡ Some (I.text (I.value v))))) }
+    ensures now_part { (v : I.Value) → IfSome (D.state d.old).view.now (λ f. PairIs I.IsText f name.now v)
+        → NowGoes (SomeOf (member_writes name.now (I.text v))) (D.state d.old).view.now (D.state d.new).view.now }
+    ensures crash { (v : I.Value) → IfSome (D.state d.old).view.now (λ f. PairIs I.IsText f name.now v)
+        → is_loose (D.state d.old).view name.now ≡ false → is_loose (D.state d.old).view (copy_of name.now) ≡ false
+        → Crash (SomeOf (member_writes name.now (I.text v))) (D.state d.old).view (D.state d.new).view }
+    ensures refused { IfErr result
+        (λ e. IfRefused e (((D.state d.new).view.now ≡ (D.state d.old).view.now)
+        × Rests (D.state d.old).view (D.state d.new).view)) }
     // Where the pair has no value, only was read.
-    ensures idle { ((v : I.Value) → IfSome (D.state d.old).view.now (λ f. ¬ PairIs I.IsText f name.now v)) → IsSome (D.state d.old).view.now → ((D.state d.new).view.now ≡ (D.state d.old).view.now) × Rests (D.state d.old).view (D.state d.new).view }
+    ensures idle { ((v : I.Value) → IfSome (D.state d.old).view.now (λ f. ¬ PairIs I.IsText f name.now v))
+        → IsSome (D.state d.old).view.now → ((D.state d.new).view.now ≡ (D.state d.old).view.now)
+        × Rests (D.state d.old).view (D.state d.new).view }
     ensures told { IsSome (D.state d.old).view.now → IsSome (D.state d.new).view.now }
     ensures frame { Frame (D.state d.old) (D.state d.new) }
-    ensures cause { IfErr result (PairCause I.IsText I.IsForm I.limit name.now (D.state d.old).view.now (Rises (D.state d.old).faults (D.state d.new).faults)) }
+    ensures cause { IfErr result
+        (PairCause I.IsText I.IsForm I.limit name.now (D.state d.old).view.now
+        (Rises (D.state d.old).faults (D.state d.new).faults)) }
 {
     let value = load_pair::<D, I>(alloc, d, name)?;
     mend_pair(alloc, d, name, &value)?;

@@ -35,8 +35,10 @@ pub(crate) trait Numbered: Copy {
     /// The cluster of this number whose value this is.
     fn read(alloc: Global, number: u32, value: &Value) -> Result<Option<Self>, NoMemory>
         requires { IsValue (view value.now) }
-        ensures some { IfOk result (λ o. IfSome o (λ c. IsOne c × (number_of c ≡ number) × (view value.now ≡ (field c).1))) }
-        ensures none { IfOk result (λ o. IfNone o ((c : Self) → IsOne c → number_of c ≡ number → view value.now ≢ (field c).1)) };
+        ensures some { IfOk result
+            (λ o. IfSome o (λ c. IsOne c × (number_of c ≡ number) × (view value.now ≡ (field c).1))) }
+        ensures none { IfOk result
+            (λ o. IfNone o ((c : Self) → IsOne c → number_of c ≡ number → view value.now ≢ (field c).1)) };
 }
 
 // The history number whose digits these are: no number is 0.
@@ -54,7 +56,8 @@ fn number_in(key: &str) -> Option<u32>
 fn check_entry<C: Numbered>(alloc: Global, key: &str, value: &Value) -> Result<(), PartsFault>
     requires laws { AreNumbered C.IsOne C.number_of C.field }
     requires value { IsValue (view value.now) }
-    ensures { IfErr result (λ e. IfForm e (λ section k. (section ≡ db_history) × (k ≡ key.now) × ((c : C) → C.IsOne c → 1 ≤ C.number_of c → (key.now, view value.now) ≢ C.field c))) }
+    ensures { IfErr result (λ e. IfForm e (λ section k. (section ≡ db_history) × (k ≡ key.now)
+        × ((c : C) → C.IsOne c → 1 ≤ C.number_of c → (key.now, view value.now) ≢ C.field c))) }
 {
     let Some(id) = number_in(key) else {
         return Err(form(alloc, "db:history", key));
@@ -74,7 +77,8 @@ fn check_entries<C: Numbered>(
 ) -> Result<(), PartsFault>
     requires laws { AreNumbered C.IsOne C.number_of C.field }
     requires rules { IsSection (section_of part.now) }
-    ensures { IfErr result (λ e. IfForm e (λ section key. (section ≡ db_history) × IsWrongHistory C.IsOne C.number_of C.field current.now least (keys_of part.now) key)) }
+    ensures { IfErr result (λ e. IfForm e (λ section key. (section ≡ db_history)
+        × IsWrongHistory C.IsOne C.number_of C.field current.now least (keys_of part.now) key)) }
 {
     for k in &part.keys {
         check_entry::<C>(alloc, k.0.as_str(), &k.1)?;
@@ -94,8 +98,11 @@ fn cluster_at<C: Numbered>(
     requires rules { IsSection (section_of part.now) }
     requires low { 1 ≤ number }
     requires high { (number ≤ length part.now.keys.items) ⊎ (number ≤ least) }
-    ensures cluster { IfOk result (λ c. (C.number_of c ≡ number) × C.IsOne c × In (C.field c) (keys_of part.now) × (number ≡ C.number_of current.now → c ≡ current.now)) }
-    ensures fault { IfErr result (λ e. IfForm e (λ section key. (section ≡ db_history) × IsWrongHistory C.IsOne C.number_of C.field current.now least (keys_of part.now) key)) }
+    ensures cluster { IfOk result (λ c. (C.number_of c ≡ number) × C.IsOne c × In (C.field c) (keys_of part.now)
+        × (number ≡ C.number_of current.now → c ≡ current.now)) }
+    ensures fault { IfErr result
+        (λ e. IfForm e (λ section key. (section ≡ db_history)
+        × IsWrongHistory C.IsOne C.number_of C.field current.now least (keys_of part.now) key)) }
 {
     let key = decimal(alloc, number)?;
     let Some(id) = history_number(number) else {
@@ -124,9 +131,12 @@ pub(crate) fn history_of<C: Numbered>(
     requires rules { IsSection (section_of part.now) }
     requires low { 1 ≤ C.number_of current.now }
     requires under { C.number_of current.now ≤ least }
-    ensures history { IfOk result (λ h. IsHistory C.IsOne C.number_of C.field current.now least (length (keys_of part.now)) h.items) }
+    ensures history { IfOk result
+        (λ h. IsHistory C.IsOne C.number_of C.field current.now least (length (keys_of part.now)) h.items) }
     ensures keys { IfOk result (λ h. keys_of part.now ≡ by_key (map C.field h.items)) }
-    ensures fault { IfErr result (λ e. IfForm e (λ section key. (section ≡ db_history) × IsWrongHistory C.IsOne C.number_of C.field current.now least (keys_of part.now) key)) }
+    ensures fault { IfErr result
+        (λ e. IfForm e (λ section key. (section ≡ db_history)
+        × IsWrongHistory C.IsOne C.number_of C.field current.now least (keys_of part.now) key)) }
 {
     check_entries(alloc, part, current, least)?;
     clusters_of(alloc, part, current, least)
@@ -143,9 +153,12 @@ fn clusters_of<C: Numbered>(
     requires rules { IsSection (section_of part.now) }
     requires low { 1 ≤ C.number_of current.now }
     requires under { C.number_of current.now ≤ least }
-    ensures history { IfOk result (λ h. IsHistory C.IsOne C.number_of C.field current.now least (length (keys_of part.now)) h.items) }
+    ensures history { IfOk result
+        (λ h. IsHistory C.IsOne C.number_of C.field current.now least (length (keys_of part.now)) h.items) }
     ensures keys { IfOk result (λ h. keys_of part.now ≡ by_key (map C.field h.items)) }
-    ensures fault { IfErr result (λ e. IfForm e (λ section key. (section ≡ db_history) × IsWrongHistory C.IsOne C.number_of C.field current.now least (keys_of part.now) key)) }
+    ensures fault { IfErr result
+        (λ e. IfForm e (λ section key. (section ≡ db_history)
+        × IsWrongHistory C.IsOne C.number_of C.field current.now least (keys_of part.now) key)) }
 {
     let mut history = Vec::new(alloc);
     while history.len() < part.keys.len() || history.len() < least as usize {

@@ -64,8 +64,10 @@ fn read_letter(text: &[u8]) -> Option<Kind>
 
 // The second part of which this is the text.
 fn read_part(text: &[u8]) -> Option<Later>
-    ensures value { IfSome result (λ l. (l.time ≤ last_second) × (l.kind ≢ Full) × (text.now ≡ stamp l.time ++ letter l.kind ∷ [])) }
-    ensures none { IfNone result ((l : Later) → l.time ≤ last_second → l.kind ≢ Full → text.now ≢ stamp l.time ++ letter l.kind ∷ []) }
+    ensures value { IfSome result (λ l. (l.time ≤ last_second) × (l.kind ≢ Full)
+        × (text.now ≡ stamp l.time ++ letter l.kind ∷ [])) }
+    ensures none { IfNone result ((l : Later) → l.time ≤ last_second → l.kind ≢ Full
+        → text.now ≢ stamp l.time ++ letter l.kind ∷ []) }
 {
     let (time, rest) = split_stamp(text)?;
     let kind = read_letter(rest)?;
@@ -74,8 +76,10 @@ fn read_part(text: &[u8]) -> Option<Later>
 
 // What follows the first part of a label.
 fn read_later(text: &[u8]) -> Option<Option<Later>>
-    ensures value { IfSome result (λ o. IfSome o (λ l. (l.time ≤ last_second) × (l.kind ≢ Full)) × (text.now ≡ later_text o)) }
-    ensures none { IfNone result ((o : Option Later) → IfSome o (λ l. (l.time ≤ last_second) × (l.kind ≢ Full)) → text.now ≢ later_text o) }
+    ensures value { IfSome result (λ o. IfSome o (λ l. (l.time ≤ last_second) × (l.kind ≢ Full))
+        × (text.now ≡ later_text o)) }
+    ensures none { IfNone result ((o : Option Later) → IfSome o (λ l. (l.time ≤ last_second) × (l.kind ≢ Full))
+        → text.now ≢ later_text o) }
 {
     match text {
         [] => Some(None),

@@ -68,7 +68,8 @@ pub(crate) fn listed_of(alloc: Global, keys: &[(String, Value)]) -> Result<Vec<E
     requires order { IsOrdered (map key_of keys.now) }
     ensures list { IfOk result (λ v. IsList (map entry_of v.items)) }
     ensures keys { IfOk result (λ v. map key_of keys.now ≡ map entry_field (map entry_of v.items)) }
-    ensures fault { IfErr result (λ e. IfForm e (λ section key. (section ≡ backup_current) × IsWrongBackup (map key_of keys.now) key)) }
+    ensures fault { IfErr result
+        (λ e. IfForm e (λ section key. (section ≡ backup_current) × IsWrongBackup (map key_of keys.now) key)) }
 {
     let mut backups = Vec::new(alloc);
     for (i, k) in keys.iter().enumerate() {

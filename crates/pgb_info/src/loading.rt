@@ -42,7 +42,8 @@ fn read_member<D: Disk, I: ReadInfo>(
     d: &mut D,
     name: &str,
 ) -> Result<Result<I, MemberFault>, SaveFault>
-    ensures gives { IfOk result (λ r. IfSome (D.state d.old).view.now (λ f. MemberGives I.IsText I.IsForm I.value I.limit f name.now r)) }
+    ensures gives { IfOk result
+        (λ r. IfSome (D.state d.old).view.now (λ f. MemberGives I.IsText I.IsForm I.value I.limit f name.now r)) }
     ensures valid { IfOk result (λ r. IfOk r I.is_valid) }
     ensures within { IfOk result (λ r. IfOk r (λ v. length (I.text (I.value v)) ≤ I.limit)) }
     ensures looks { Looks (D.state d.old) (D.state d.new) }
@@ -60,7 +61,9 @@ fn read_copy<D: Disk, I: ReadInfo>(
     d: &mut D,
     name: &str,
 ) -> Result<Result<I, MemberFault>, SaveFault>
-    ensures gives { IfOk result (λ r. IfSome (D.state d.old).view.now (λ f. MemberGives I.IsText I.IsForm I.value I.limit f (copy_of name.now) r)) }
+    ensures gives { IfOk result
+        (λ r. IfSome (D.state d.old).view.now
+        (λ f. MemberGives I.IsText I.IsForm I.value I.limit f (copy_of name.now) r)) }
     ensures valid { IfOk result (λ r. IfOk r I.is_valid) }
     ensures within { IfOk result (λ r. IfOk r (λ v. length (I.text (I.value v)) ≤ I.limit)) }
     ensures looks { Looks (D.state d.old) (D.state d.new) }
@@ -86,7 +89,9 @@ pub fn load_pair<D: Disk, I: ReadInfo>(alloc: Global, d: &mut D, name: &str) -> 
     ensures valid { IfOk result (λ v. I.is_valid v) }
     ensures within { IfOk result (λ v. length (I.text (I.value v)) ≤ I.limit) }
     ensures looks { Looks (D.state d.old) (D.state d.new) }
-    ensures cause { IfErr result (PairCause I.IsText I.IsForm I.limit name.now (D.state d.old).view.now (Rises (D.state d.old).faults (D.state d.new).faults)) }
+    ensures cause { IfErr result
+        (PairCause I.IsText I.IsForm I.limit name.now (D.state d.old).view.now
+        (Rises (D.state d.old).faults (D.state d.new).faults)) }
 {
     let main = match read_member(alloc, d, name)? {
         Ok(value) => return Ok(value),

@@ -33,10 +33,16 @@ pub fn save_text<D: Disk>(
     text: &[u8],
 ) -> Result<(), SaveFault>
     requires { IsMemberName name.now }
-    ensures crash { is_loose (D.state d.old).view name.now ≡ false → is_loose (D.state d.old).view (copy_of name.now) ≡ false → Crash (FirstOf (member_writes name.now text.now)) (D.state d.old).view (D.state d.new).view }
-    ensures whole { OnOk result (is_loose (D.state d.old).view name.now ≡ false → is_loose (D.state d.old).view (copy_of name.now) ≡ false → Ends (AllOf (member_writes name.now text.now)) (D.state d.old).view (D.state d.new).view) }
-    ensures now_part { NowGoes (FirstOf (member_writes name.now text.now)) (D.state d.old).view.now (D.state d.new).view.now }
-    ensures now_whole { OnOk result (NowGoes (AllOf (member_writes name.now text.now)) (D.state d.old).view.now (D.state d.new).view.now) }
+    ensures crash { is_loose (D.state d.old).view name.now ≡ false
+        → is_loose (D.state d.old).view (copy_of name.now) ≡ false
+        → Crash (FirstOf (member_writes name.now text.now)) (D.state d.old).view (D.state d.new).view }
+    ensures whole { OnOk result (is_loose (D.state d.old).view name.now ≡ false
+        → is_loose (D.state d.old).view (copy_of name.now) ≡ false
+        → Ends (AllOf (member_writes name.now text.now)) (D.state d.old).view (D.state d.new).view) }
+    ensures now_part { NowGoes (FirstOf (member_writes name.now text.now)) (D.state d.old).view.now
+        (D.state d.new).view.now }
+    ensures now_whole { OnOk result
+        (NowGoes (AllOf (member_writes name.now text.now)) (D.state d.old).view.now (D.state d.new).view.now) }
     ensures frame { Frame (D.state d.old) (D.state d.new) }
     ensures cause { IsErrOf result SaveFault.Disk → Rises (D.state d.old).faults (D.state d.new).faults }
 {

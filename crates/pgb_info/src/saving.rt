@@ -36,10 +36,19 @@ pub fn save_pair<D: Disk, I: Info>(
     requires named { IsMemberName name.now }
     requires valid { I.is_valid value.now }
     requires within { length (info_text (I.sections value.now)) ≤ I.limit }
-    ensures crash { is_loose (D.state d.old).view name.now ≡ false → is_loose (D.state d.old).view (copy_of name.now) ≡ false → Crash (FirstOf (member_writes name.now (info_text (I.sections value.now)))) (D.state d.old).view (D.state d.new).view }
-    ensures whole { OnOk result (is_loose (D.state d.old).view name.now ≡ false → is_loose (D.state d.old).view (copy_of name.now) ≡ false → Ends (AllOf (member_writes name.now (info_text (I.sections value.now)))) (D.state d.old).view (D.state d.new).view) }
-    ensures now_part { NowGoes (FirstOf (member_writes name.now (info_text (I.sections value.now)))) (D.state d.old).view.now (D.state d.new).view.now }
-    ensures now_whole { OnOk result (NowGoes (AllOf (member_writes name.now (info_text (I.sections value.now)))) (D.state d.old).view.now (D.state d.new).view.now) }
+    ensures crash { is_loose (D.state d.old).view name.now ≡ false
+        → is_loose (D.state d.old).view (copy_of name.now) ≡ false
+        → Crash (FirstOf (member_writes name.now (info_text (I.sections value.now)))) (D.state d.old).view
+        (D.state d.new).view }
+    ensures whole { OnOk result (is_loose (D.state d.old).view name.now ≡ false
+        → is_loose (D.state d.old).view (copy_of name.now) ≡ false
+        → Ends (AllOf (member_writes name.now (info_text (I.sections value.now)))) (D.state d.old).view
+        (D.state d.new).view) }
+    ensures now_part { NowGoes (FirstOf (member_writes name.now (info_text (I.sections value.now))))
+        (D.state d.old).view.now (D.state d.new).view.now }
+    ensures now_whole { OnOk result
+        (NowGoes (AllOf (member_writes name.now (info_text (I.sections value.now)))) (D.state d.old).view.now
+        (D.state d.new).view.now) }
     ensures frame { Frame (D.state d.old) (D.state d.new) }
     ensures cause { IsErrOf result SaveFault.Disk → Rises (D.state d.old).faults (D.state d.new).faults }
 {

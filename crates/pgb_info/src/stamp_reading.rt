@@ -46,7 +46,8 @@ pub(crate) fn after(text: &[u8], byte: u8) -> Option<&[u8]>
 // A year in front, and what follows it.
 fn split_year(text: &[u8]) -> Option<(u16, &[u8])>
     ensures value { IfSome result (λ p. (p.0 < 10000) × (text.now ≡ two (p.0 / 100) ++ two (p.0 % 100) ++ p.1.now)) }
-    ensures none { IfNone result ((n : ℕ) (rest : List ℕ) → n < 10000 → text.now ≢ two (n / 100) ++ two (n % 100) ++ rest) }
+    ensures none { IfNone result ((n : ℕ) (rest : List ℕ) → n < 10000
+        → text.now ≢ two (n / 100) ++ two (n % 100) ++ rest) }
 {
     let (century, rest) = split_two(text)?;
     let (year, rest) = split_two(rest)?;
@@ -67,7 +68,8 @@ fn civil_date(year: u16, month: u8, day: u8) -> Option<Date>
 // A date in front, and what follows it.
 fn split_date(text: &[u8]) -> Option<(Date, &[u8])>
     ensures value { IfSome result (λ p. (pos 0 ≤ℤ p.0.year) × (text.now ≡ date_digits (parts_of p.0) ++ p.1.now)) }
-    ensures none { IfNone result ((d : Date) (rest : List ℕ) → pos 0 ≤ℤ d.year → text.now ≢ date_digits (parts_of d) ++ rest) }
+    ensures none { IfNone result ((d : Date) (rest : List ℕ) → pos 0 ≤ℤ d.year
+        → text.now ≢ date_digits (parts_of d) ++ rest) }
 {
     let (year, rest) = split_year(text)?;
     let (month, rest) = split_two(rest)?;
@@ -87,7 +89,8 @@ fn days_to(date: Date) -> Option<u64>
 // A date from 1970 on in front, as its count of days, and what follows it.
 fn split_day(text: &[u8]) -> Option<(u64, &[u8])>
     ensures value { IfSome result (λ p. (p.0 ≤ 2932896) × (text.now ≡ date_digits (date_after p.0) ++ p.1.now)) }
-    ensures none { IfNone result ((n : ℕ) (rest : List ℕ) → n ≤ 2932896 → text.now ≢ date_digits (date_after n) ++ rest) }
+    ensures none { IfNone result ((n : ℕ) (rest : List ℕ) → n ≤ 2932896
+        → text.now ≢ date_digits (date_after n) ++ rest) }
 {
     let (date, rest) = split_date(text)?;
     let days = days_to(date)?;

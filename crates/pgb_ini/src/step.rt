@@ -51,7 +51,8 @@ fn open(alloc: Global, done: Vec<Part>, name: &[u8]) -> Result<Option<State>, No
 
 // Ends a section.
 fn close(done: Vec<Part>, part: Part) -> Result<Option<State>, NoMemory>
-    ensures { IfOk result (λ o. option_map state_of o ≡ closed (sections_of done.items) (string_bytes part.name) (keys_of part)) }
+    ensures { IfOk result (λ o. option_map state_of o ≡ closed (sections_of done.items) (string_bytes part.name)
+        (keys_of part)) }
 {
     let mut done = done;
     if part.keys.is_empty() {
@@ -69,7 +70,8 @@ fn add(
     key: &[u8],
     value: &[u8],
 ) -> Result<Option<State>, NoMemory>
-    ensures { IfOk result (λ o. option_map state_of o ≡ more (sections_of done.items) (string_bytes part.name) (keys_of part) (key.now, value.now)) }
+    ensures { IfOk result (λ o. option_map state_of o ≡ more (sections_of done.items) (string_bytes part.name)
+        (keys_of part) (key.now, value.now)) }
 {
     let mut part = part;
     let Some(text) = text_of(key) else {

@@ -33,7 +33,9 @@ fn add_key(
 ) -> Result<(), AllocError>
     requires { has_float (view key.now.1) ≡ false }
     ensures text { OnOk result (text.new.items ≡ text.old.items ++ key_line (key_of key.now)) }
-    ensures json { OnOk result (json.new.items ≡ json.old.items ++ (comma_if later ++ (quoted (key_of key.now).0 ++ 58 ∷ compact_text (key_of key.now).1))) }
+    ensures json { OnOk result
+        (json.new.items ≡ json.old.items ++
+        (comma_if later ++ (quoted (key_of key.now).0 ++ 58 ∷ compact_text (key_of key.now).1))) }
 {
     let value = key.1.to_vec(alloc)?;
     text.extend_from_slice(key.0.as_bytes())?;
@@ -58,7 +60,8 @@ fn add_keys(
 ) -> Result<(), AllocError>
     requires { NoFloats keys.now }
     ensures text { OnOk result (text.new.items ≡ text.old.items ++ flat_map key_line (map key_of keys.now)) }
-    ensures json { OnOk result (json.new.items ≡ json.old.items ++ members_text false (members_from (map key_of keys.now))) }
+    ensures json { OnOk result
+        (json.new.items ≡ json.old.items ++ members_text false (members_from (map key_of keys.now))) }
 {
     let mut later = false;
     for key in keys {
@@ -78,7 +81,10 @@ fn add_section(
 ) -> Result<(), AllocError>
     requires { NoFloats part.now.keys.items }
     ensures text { OnOk result (text.new.items ≡ text.old.items ++ section_text (section_of part.now)) }
-    ensures json { OnOk result (json.new.items ≡ json.old.items ++ (44 ∷ (quoted (section_of part.now).name ++ 58 ∷ 123 ∷ members_text false (members_from (section_of part.now).keys)))) }
+    ensures json { OnOk result
+        (json.new.items ≡ json.old.items ++
+        (44 ∷ (quoted (section_of part.now).name ++ 58 ∷ 123 ∷ members_text false
+        (members_from (section_of part.now).keys)))) }
 {
     text.push(b'[')?;
     text.extend_from_slice(part.name.as_bytes())?;
@@ -100,7 +106,8 @@ fn add_sections(
 ) -> Result<(), AllocError>
     requires { AllByRecursion (λ p. NoFloats p.keys.items) parts.now }
     ensures text { OnOk result (text.new.items ≡ text.old.items ++ flat_map section_text (sections_of parts.now)) }
-    ensures json { OnOk result (json.new.items ≡ json.old.items ++ members_text true (sections_from (sections_of parts.now))) }
+    ensures json { OnOk result
+        (json.new.items ≡ json.old.items ++ members_text true (sections_from (sections_of parts.now))) }
 {
     for part in parts {
         add_section(alloc, part, text, json)?;

@@ -75,7 +75,8 @@ impl Core {
     /// Takes a frame from a busy link. The one that ends the reply ends the job.
     pub fn hear(&mut self, link: u32, ended: bool)
         requires { IsBusy self.old link }
-        ensures ends { (job : ℕ) → Has self.old link job → self.new ≡ (if ended then after_end self.old link job else self.old) }
+        ensures ends { (job : ℕ) → Has self.old link job → self.new ≡
+            (if ended then after_end self.old link job else self.old) }
         ensures step { Step self.old (Hear link ended) self.new }
     {
         if !ended {
@@ -111,7 +112,8 @@ impl Core {
     pub fn busy(&self, alloc: Global) -> Result<Vec<u32>, AllocError>
         ensures all { IfOk result (λ v. (k l : ℕ) → slice_get v.items k ≡ Some l → IsBusy self.now l) }
         ensures each { IfOk result (λ v. (l : ℕ) → IsBusy self.now l → (k : ℕ) × (slice_get v.items k ≡ Some l)) }
-        ensures with { IfOk result (λ v. v.items ≡ [] → (j l : ℕ) → slice_get self.now.jobs j ≡ Some (JobPlace.With l) → ⊥) }
+        ensures with { IfOk result (λ v. v.items ≡ [] → (j l : ℕ) → slice_get self.now.jobs j ≡ Some (JobPlace.With l)
+            → ⊥) }
     {
         busy_links(alloc, &self.holders)
     }
@@ -185,7 +187,8 @@ fn all_ended(places: &Vec<JobPlace>) -> bool
 fn lowest(places: &Vec<JobPlace>, low: u32) -> Option<u32>
     requires few { length places.now.items < 2 ^ 32 }
     requires low { (k : ℕ) → k < low → slice_get places.now.items k ≡ Some JobPlace.Waiting → ⊥ }
-    ensures found { IfSome result (λ job. (slice_get places.now.items job ≡ Some JobPlace.Waiting) × ((k : ℕ) → k < job → slice_get places.now.items k ≡ Some JobPlace.Waiting → ⊥)) }
+    ensures found { IfSome result (λ job. (slice_get places.now.items job ≡ Some JobPlace.Waiting)
+        × ((k : ℕ) → k < job → slice_get places.now.items k ≡ Some JobPlace.Waiting → ⊥)) }
     ensures none { IfNone result ((k : ℕ) → slice_get places.now.items k ≡ Some JobPlace.Waiting → ⊥) }
 {
     for i in low as usize..places.len() {
@@ -199,8 +202,10 @@ fn lowest(places: &Vec<JobPlace>, low: u32) -> Option<u32>
 /// The busy links.
 fn busy_links(alloc: Global, holders: &Vec<LinkPlace>) -> Result<Vec<u32>, AllocError>
     requires { length holders.now.items < 2 ^ 32 }
-    ensures all { IfOk result (λ v. (k l : ℕ) → slice_get v.items k ≡ Some l → (job : ℕ) × (slice_get holders.now.items l ≡ Some (LinkPlace.Busy job))) }
-    ensures each { IfOk result (λ v. (l j : ℕ) → slice_get holders.now.items l ≡ Some (LinkPlace.Busy j) → (k : ℕ) × (slice_get v.items k ≡ Some l)) }
+    ensures all { IfOk result (λ v. (k l : ℕ) → slice_get v.items k ≡ Some l → (job : ℕ)
+        × (slice_get holders.now.items l ≡ Some (LinkPlace.Busy job))) }
+    ensures each { IfOk result (λ v. (l j : ℕ) → slice_get holders.now.items l ≡ Some (LinkPlace.Busy j) → (k : ℕ)
+        × (slice_get v.items k ≡ Some l)) }
 {
     let mut busy = Vec::new(alloc);
     for i in 0..holders.len() {

@@ -24,7 +24,8 @@ fn place_of(keys: &[(String, Value)], key: &str) -> usize
 
 /// Adds the key at its place in byte order.
 pub fn place(keys: &mut Vec<(String, Value)>, key: String, value: Value) -> Result<(), NoMemory>
-    ensures { OnOk result (map key_of keys.new.items ≡ with_field (map key_of keys.old.items) (string_bytes key, view value)) }
+    ensures { OnOk result (map key_of keys.new.items ≡ with_field (map key_of keys.old.items)
+        (string_bytes key, view value)) }
 {
     let at = place_of(keys, key.as_str());
     keys.insert(at, (key, value))?;

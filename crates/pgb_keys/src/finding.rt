@@ -30,7 +30,8 @@ pub fn find<'a>(keys: &'a [(String, Value)], key: &str) -> Option<&'a Value>
 
 /// The section of a name.
 pub fn part_of<'a>(parts: &'a [Part], name: &str) -> Option<&'a Part>
-    ensures found { IfSome result (λ p. In (section_of p.now) (sections_of parts.now) × (string_bytes p.now.name ≡ name.now)) }
+    ensures found { IfSome result (λ p. In (section_of p.now) (sections_of parts.now)
+        × (string_bytes p.now.name ≡ name.now)) }
     ensures none { IfNone result ((s : Section) → In s (sections_of parts.now) → s.name ≢ name.now) }
 {
     for part in parts {

@@ -43,7 +43,8 @@ fn after_folder<'a>(path: &'a str, folder: &str) -> Option<&'a str>
 // What stands before the first slash, where it is a folder's name.
 fn first_folder(path: &str) -> Option<&str>
     ensures value { IfSome result (λ x. IsFolderName x.now) }
-    ensures first { (x rest : Name) → IsFolderName x → path.now ≡ x ++ 47 ∷ rest → option_map (λ t. t.now) result ≡ Some x }
+    ensures first { (x rest : Name) → IsFolderName x → path.now ≡ x ++ 47 ∷ rest
+        → option_map (λ t. t.now) result ≡ Some x }
 {
     let (name, _) = path.split_once('/')?;
     if name.is_empty() { None } else { Some(name) }
@@ -52,7 +53,8 @@ fn first_folder(path: &str) -> Option<&str>
 /// The name of the folder directly in this one through which the path leads, where it does.
 pub(crate) fn folder_within<'a>(path: &'a str, folder: &str) -> Option<&'a str>
     ensures value { IfSome result (λ x. IsFolderName x.now) }
-    ensures within { (x rest : Name) → IsFolderName x → path.now ≡ folder.now ++ 47 ∷ x ++ 47 ∷ rest → option_map (λ t. t.now) result ≡ Some x }
+    ensures within { (x rest : Name) → IsFolderName x → path.now ≡ folder.now ++ 47 ∷ x ++ 47 ∷ rest
+        → option_map (λ t. t.now) result ≡ Some x }
 {
     first_folder(after_folder(path, folder)?)
 }

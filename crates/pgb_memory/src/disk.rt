@@ -52,7 +52,8 @@ impl MemDisk {
 
     /// The bytes that a name holds, where it is there.
     pub fn bytes(&self, name: &str) -> Option<&[u8]>
-        ensures { IsSomeAnd (⟦<MemDisk as Disk>⟧.state self.now).view.now (λ f. option_map (λ b. b.now) result ≡ f name.now) }
+        ensures { IsSomeAnd (⟦<MemDisk as Disk>⟧.state self.now).view.now
+            (λ f. option_map (λ b. b.now) result ≡ f name.now) }
     {
         self.held.bytes(name)
     }
@@ -66,7 +67,8 @@ impl MemDisk {
 
     /// The names at which a stop at that moment may leave any bytes.
     pub fn loose(&self, alloc: Global, moment: u64) -> Result<Vec<String>, AllocError>
-        ensures { IfOk result (λ names. (n : List ℕ) → Contains (map string_bytes names.items) n ↔ ((⟦<MemDisk as Disk>⟧.state self.now).view.loose moment n ≡ true)) }
+        ensures { IfOk result (λ names. (n : List ℕ) → Contains (map string_bytes names.items) n
+            ↔ ((⟦<MemDisk as Disk>⟧.state self.now).view.loose moment n ≡ true)) }
     {
         let traces = self.held.traces(alloc, moment)?;
         loose_in(alloc, &traces)
@@ -79,8 +81,10 @@ impl MemDisk {
         moment: u64,
         name: &str,
     ) -> Result<Vec<Option<Vec<u8>>>, AllocError>
-        ensures values { IfOk result (λ values. map value_of values.items ≡ (states_then self.now.held moment name.now).kept) }
-        ensures kept { IfOk result (λ values. (v : Option (List ℕ)) → Among v (map value_of values.items) ↔ (⟦<MemDisk as Disk>⟧.state self.now).view.kept moment name.now v) }
+        ensures values { IfOk result
+            (λ values. map value_of values.items ≡ (states_then self.now.held moment name.now).kept) }
+        ensures kept { IfOk result (λ values. (v : Option (List ℕ)) → Among v (map value_of values.items)
+            ↔ (⟦<MemDisk as Disk>⟧.state self.now).view.kept moment name.now v) }
     {
         let traces = self.held.traces(alloc, moment)?;
         kept_in(alloc, &traces, name)
@@ -95,12 +99,16 @@ impl MemDisk {
         choice: &[(String, u32)],
         loose: &[(String, Vec<u8>)],
     ) -> Result<Vec<(String, Vec<u8>)>, ImageFault>
-        ensures image { IfOk result (λ names. IsImage (⟦<MemDisk as Disk>⟧.state self.now).view moment (given_at names.items)) }
-        ensures content { IfOk result (λ names. given_at names.items ≡ image_of (states_then self.now.held moment) choice.now loose.now) }
+        ensures image { IfOk result
+            (λ names. IsImage (⟦<MemDisk as Disk>⟧.state self.now).view moment (given_at names.items)) }
+        ensures content { IfOk result
+            (λ names. given_at names.items ≡ image_of (states_then self.now.held moment) choice.now loose.now) }
         ensures loose { OnOk result (are_loose (states_then self.now.held moment) loose.now ≡ true) }
         ensures kept { OnOk result (are_kept (states_then self.now.held moment) choice.now ≡ true) }
-        ensures not_loose { IsErrOf result ImageFault.NotLoose → are_loose (states_then self.now.held moment) loose.now ≡ false }
-        ensures position { IsErrOf result ImageFault.Position → are_kept (states_then self.now.held moment) choice.now ≡ false }
+        ensures not_loose { IsErrOf result ImageFault.NotLoose
+            → are_loose (states_then self.now.held moment) loose.now ≡ false }
+        ensures position { IsErrOf result ImageFault.Position
+            → are_kept (states_then self.now.held moment) choice.now ≡ false }
     {
         let traces = self.held.traces(alloc, moment)?;
         image_in(alloc, &traces, choice, loose)
@@ -139,12 +147,15 @@ impl MemDisk {
 }
 
 impl Disk for MemDisk {
-    ghost state = { λ d. record { view = view_of d.held; opened = map string_bytes d.opened.items; misuses = d.failing.misuses; faults = d.failing.faults } };
+    ghost state = { λ d. record { view = view_of d.held; opened = map string_bytes d.opened.items;
+        misuses = d.failing.misuses; faults = d.failing.faults } };
 
-    ghost now_may_be_left = { λ d n v holds. may_be_left (first_state d.held.given.items) (fair_first d.held.given.items) d.held.changes.items n v holds };
+    ghost now_may_be_left = { λ d n v holds. may_be_left (first_state d.held.given.items)
+        (fair_first d.held.given.items) d.held.changes.items n v holds };
 
     fn open(&mut self, path: &str) -> Result<(), Stop>
-        ensures opens { Opens result path.now (map string_bytes self.old.opened.items) (map string_bytes self.new.opened.items) }
+        ensures opens { Opens result path.now (map string_bytes self.old.opened.items)
+            (map string_bytes self.new.opened.items) }
         ensures same { IsAsBefore self.old.held self.new.held }
         ensures fails { FailsWhere (is_to_fail self.old.failing) result }
         ensures counts { self.new.failing ≡ counted self.old.failing }
@@ -159,7 +170,9 @@ impl Disk for MemDisk {
     }
 
     fn names(&mut self, alloc: Global, folder: &str) -> Result<Vec<Found>, Stop>
-        ensures listing { IfOk result (λ found. IsListing folder.now (state_of self.old.held).now (map (λ x. (string_bytes x.name, x.size)) found.items)) }
+        ensures listing { IfOk result
+            (λ found. IsListing folder.now (state_of self.old.held).now
+            (map (λ x. (string_bytes x.name, x.size)) found.items)) }
         ensures same { IsAsBefore self.old.held self.new.held }
         ensures fails { FailsWhere (is_to_fail self.old.failing) result }
         ensures counts { self.new.failing ≡ counted self.old.failing }
@@ -173,7 +186,8 @@ impl Disk for MemDisk {
     }
 
     fn folders(&mut self, alloc: Global, folder: &str) -> Result<Vec<String>, Stop>
-        ensures folders { IfOk result (λ told. AreFolders folder.now (state_of self.old.held).now (map string_bytes told.items)) }
+        ensures folders { IfOk result
+            (λ told. AreFolders folder.now (state_of self.old.held).now (map string_bytes told.items)) }
         ensures same { IsAsBefore self.old.held self.new.held }
         ensures fails { FailsWhere (is_to_fail self.old.failing) result }
         ensures counts { self.new.failing ≡ counted self.old.failing }
@@ -203,7 +217,8 @@ impl Disk for MemDisk {
 
     fn begin(&mut self, name: &str) -> Result<(), Stop>
         ensures ok { OnOk result (Notes (begun name.now) self.old.held self.new.held) }
-        ensures failed { IsErrOf result Failed → FailsAt name.now (is_to_fail self.old.failing) self.old.held self.new.held }
+        ensures failed { IsErrOf result Failed → FailsAt name.now
+            (is_to_fail self.old.failing) self.old.held self.new.held }
         ensures memory { IsErrOf result NoMemory → IsAsBefore self.old.held self.new.held }
         ensures fails { FailsWhere (is_to_fail self.old.failing) result }
         ensures counts { self.new.failing ≡ counted self.old.failing }
@@ -220,9 +235,11 @@ impl Disk for MemDisk {
 
     fn append(&mut self, name: &str, bytes: &[u8]) -> Result<(), Stop>
         ensures ok { OnOk result (Notes (appended name.now bytes.now) self.old.held self.new.held) }
-        ensures failed { IsErrOf result Failed → FailsAt name.now (is_to_fail self.old.failing) self.old.held self.new.held }
+        ensures failed { IsErrOf result Failed → FailsAt name.now
+            (is_to_fail self.old.failing) self.old.held self.new.held }
         ensures memory { IsErrOf result NoMemory → IsAsBefore self.old.held self.new.held }
-        ensures fails { FailsWhere (is_to_fail self.old.failing || not (is_some ((state_of self.old.held).now name.now))) result }
+        ensures fails { FailsWhere
+            (is_to_fail self.old.failing || not (is_some ((state_of self.old.held).now name.now))) result }
         ensures counts { self.new.failing ≡ tried (is_some ((state_of self.old.held).now name.now)) self.old.failing }
         ensures opened { self.new.opened.items ≡ self.old.opened.items }
         ensures cause { HasCause self.old.failing.faults self.new.failing.faults result }
@@ -240,9 +257,11 @@ impl Disk for MemDisk {
 
     fn sync(&mut self, name: &str) -> Result<(), Stop>
         ensures ok { OnOk result (Notes (synced name.now) self.old.held self.new.held) }
-        ensures failed { IsErrOf result Failed → FailsAt name.now (is_to_fail self.old.failing) self.old.held self.new.held }
+        ensures failed { IsErrOf result Failed → FailsAt name.now
+            (is_to_fail self.old.failing) self.old.held self.new.held }
         ensures memory { IsErrOf result NoMemory → IsAsBefore self.old.held self.new.held }
-        ensures fails { FailsWhere (is_to_fail self.old.failing || not (is_some ((state_of self.old.held).now name.now))) result }
+        ensures fails { FailsWhere
+            (is_to_fail self.old.failing || not (is_some ((state_of self.old.held).now name.now))) result }
         ensures counts { self.new.failing ≡ tried (is_some ((state_of self.old.held).now name.now)) self.old.failing }
         ensures opened { self.new.opened.items ≡ self.old.opened.items }
         ensures cause { HasCause self.old.failing.faults self.new.failing.faults result }
@@ -261,7 +280,8 @@ impl Disk for MemDisk {
     fn rename(&mut self, from: &str, to: &str) -> Result<(), Stop>
         ensures ok { OnOk result (Notes (renamed from.now to.now) self.old.held self.new.held) }
         ensures err { OnErr result (IsAsBefore self.old.held self.new.held) }
-        ensures fails { FailsWhere (is_to_fail self.old.failing || not (is_some ((state_of self.old.held).now from.now))) result }
+        ensures fails { FailsWhere
+            (is_to_fail self.old.failing || not (is_some ((state_of self.old.held).now from.now))) result }
         ensures counts { self.new.failing ≡ tried (is_some ((state_of self.old.held).now from.now)) self.old.failing }
         ensures opened { self.new.opened.items ≡ self.old.opened.items }
         ensures cause { HasCause self.old.failing.faults self.new.failing.faults result }

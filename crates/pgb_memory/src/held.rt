@@ -72,7 +72,8 @@ impl Held {
 
     /// Every name at any depth below the folder, with the length of its bytes, in byte order.
     pub(crate) fn below(&self, alloc: Global, folder: &str) -> Result<Vec<Found>, AllocError>
-        ensures { IfOk result (λ found. IsListing folder.now (state_of self.now).now (map (λ x. (string_bytes x.name, x.size)) found.items)) }
+        ensures { IfOk result (λ found. IsListing folder.now (state_of self.now).now
+            (map (λ x. (string_bytes x.name, x.size)) found.items)) }
     {
         names_below(alloc, &self.names, folder)
     }
@@ -200,7 +201,8 @@ pub(crate) fn names_of(alloc: Global, given: &[(String, Vec<u8>)]) -> Result<Nam
 
 // The names of a map that lie below the folder.
 fn names_below(alloc: Global, names: &Names, folder: &str) -> Result<Vec<Found>, AllocError>
-    ensures { IfOk result (λ found. IsListing folder.now (bytes_at names.now) (map (λ x. (string_bytes x.name, x.size)) found.items)) }
+    ensures { IfOk result (λ found. IsListing folder.now (bytes_at names.now)
+        (map (λ x. (string_bytes x.name, x.size)) found.items)) }
 {
     let mut found = Vec::new(alloc);
     for (name, bytes) in names {
@@ -216,7 +218,8 @@ fn names_below(alloc: Global, names: &Names, folder: &str) -> Result<Vec<Found>,
 
 // The folders directly in the folder through which the names that were found below it lead.
 fn folders_among(alloc: Global, found: &[Found], folder: &str) -> Result<Vec<String>, AllocError>
-    ensures { IfOk result (λ told. (f : Content) → IsListing folder.now f (map (λ x. (string_bytes x.name, x.size)) found.now) → AreFolders folder.now f (map string_bytes told.items)) }
+    ensures { IfOk result (λ told. (f : Content) → IsListing folder.now f
+        (map (λ x. (string_bytes x.name, x.size)) found.now) → AreFolders folder.now f (map string_bytes told.items)) }
 {
     let mut told = Vec::new(alloc);
     for Found { name, .. } in found {
@@ -266,7 +269,8 @@ fn copy_of(alloc: Global, names: &Names, name: &str) -> Result<Vec<u8>, AllocErr
 
 // Takes a name away, but not where it is the other one.
 fn drop_other(names: &mut Names, from: &str, to: &str)
-    ensures { bytes_at names.new ≡ (if bytes_eq from.now to.now then bytes_at names.old else put from.now None (bytes_at names.old)) }
+    ensures { bytes_at names.new ≡
+        (if bytes_eq from.now to.now then bytes_at names.old else put from.now None (bytes_at names.old)) }
 {
     if from != to {
         let _ = names.remove(from);

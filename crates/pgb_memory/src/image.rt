@@ -43,7 +43,8 @@ impl<T: Drop> From<AllocFailed<T>> for ImageFault {
 
 /// The loose names.
 pub(crate) fn loose_in(alloc: Global, traces: &Traces) -> Result<Vec<String>, AllocError>
-    ensures { IfOk result (λ names. (n : List ℕ) → Contains (map string_bytes names.items) n ↔ ((states_in traces.now n).loose ≡ true)) }
+    ensures { IfOk result (λ names. (n : List ℕ) → Contains (map string_bytes names.items) n
+        ↔ ((states_in traces.now n).loose ≡ true)) }
 {
     let mut names = Vec::new(alloc);
     for (name, trace) in traces {
@@ -79,7 +80,8 @@ pub(crate) fn image_in(
     choice: &[(String, u32)],
     loose: &[(String, Vec<u8>)],
 ) -> Result<Vec<(String, Vec<u8>)>, ImageFault>
-    ensures content { IfOk result (λ names. given_at names.items ≡ image_of (states_in traces.now) choice.now loose.now) }
+    ensures content { IfOk result
+        (λ names. given_at names.items ≡ image_of (states_in traces.now) choice.now loose.now) }
     ensures loose { OnOk result (are_loose (states_in traces.now) loose.now ≡ true) }
     ensures kept { OnOk result (are_kept (states_in traces.now) choice.now ≡ true) }
     ensures not_loose { IsErrOf result ImageFault.NotLoose → are_loose (states_in traces.now) loose.now ≡ false }
@@ -162,7 +164,8 @@ fn left_in(
     given: &Names,
 ) -> Result<Vec<(String, Vec<u8>)>, AllocError>
     requires { (n : List ℕ) → IsSome (bytes_at given.now n) → (states_in traces.now n).loose ≡ true }
-    ensures { IfOk result (λ names. given_at names.items ≡ left_of (states_in traces.now) (positions_in positions.now) (bytes_at given.now)) }
+    ensures { IfOk result (λ names. given_at names.items ≡ left_of (states_in traces.now) (positions_in positions.now)
+        (bytes_at given.now)) }
 {
     let mut names = Vec::new(alloc);
     for (name, trace) in traces {
@@ -182,7 +185,8 @@ fn left_at(
     positions: &Positions,
     given: &Names,
 ) -> Result<Option<Vec<u8>>, AllocError>
-    ensures { IfOk result (λ v. value_of v ≡ left_value (state_of_trace trace.now) (positions_in positions.now name.now) (bytes_at given.now name.now)) }
+    ensures { IfOk result (λ v. value_of v ≡ left_value (state_of_trace trace.now)
+        (positions_in positions.now name.now) (bytes_at given.now name.now)) }
 {
     match given.get(name) {
         Some(bytes) => Ok(Some(bytes.to_vec(alloc)?)),

@@ -82,8 +82,10 @@ impl MemLocks {
     // Notes a lock that was taken.
     fn note(&mut self, folder: &str, name: &str) -> Result<(), AllocError>
         ensures taken { OnOk result (names_in self.new.taken.items ≡ name.now ∷ names_in self.old.taken.items) }
-        ensures took { OnOk result (locks_in self.new.took.items ≡ (folder.now, name.now) ∷ locks_in self.old.took.items) }
-        ensures err { OnErr result ((self.new.taken.items ≡ self.old.taken.items) × (self.new.took.items ≡ self.old.took.items)) }
+        ensures took { OnOk result
+            (locks_in self.new.took.items ≡ (folder.now, name.now) ∷ locks_in self.old.took.items) }
+        ensures err { OnErr result ((self.new.taken.items ≡ self.old.taken.items)
+            × (self.new.took.items ≡ self.old.took.items)) }
         ensures others { self.new.others ≡ self.old.others }
         ensures refusals { self.new.refusals ≡ self.old.refusals }
         ensures counts { self.new.failing ≡ self.old.failing }
@@ -113,13 +115,16 @@ impl Locks for MemLocks {
 
     fn take(&mut self, folder: &str, name: &str) -> Result<Take, Stop>
         requires { ¬ Contains (names_in self.old.taken.items) name.now }
-        ensures taken { IfOk result (λ t. names_in self.new.taken.items ≡ with_lock t name.now (names_in self.old.taken.items)) }
-        ensures took { IfOk result (λ t. locks_in self.new.took.items ≡ with_lock t (folder.now, name.now) (locks_in self.old.took.items)) }
+        ensures taken { IfOk result
+            (λ t. names_in self.new.taken.items ≡ with_lock t name.now (names_in self.old.taken.items)) }
+        ensures took { IfOk result
+            (λ t. locks_in self.new.took.items ≡ with_lock t (folder.now, name.now) (locks_in self.old.took.items)) }
         ensures told { IfOk result (λ t. (t ≡ Held) ↔ Contains (names_in self.old.others.items) name.now) }
         ensures held { IfOk result (λ t. t ≡ Held → Rises self.old.refusals self.new.refusals) }
         ensures later { self.old.refusals ≤ self.new.refusals }
         ensures refusals { IfOk result (λ t. self.new.refusals ≡ refused t self.old.refusals) }
-        ensures err { OnErr result ((self.new.taken.items ≡ self.old.taken.items) × (self.new.took.items ≡ self.old.took.items)) }
+        ensures err { OnErr result ((self.new.taken.items ≡ self.old.taken.items)
+            × (self.new.took.items ≡ self.old.took.items)) }
         ensures err_refusals { OnErr result (self.new.refusals ≡ self.old.refusals) }
         ensures others { self.new.others ≡ self.old.others }
         ensures fails { FailsWhere (is_to_fail self.old.failing) result }

@@ -104,7 +104,8 @@ pub(crate) fn is_bare(nodes: &Nodes, path: &str) -> bool
 /// Every node, in byte order of the paths.
 pub(crate) fn list_nodes(alloc: Global, nodes: &Nodes) -> Result<Vec<Seen>, AllocError>
     requires { Rooted (nodes_at nodes.now) }
-    ensures { IfOk result (λ seen. IsTreeListing (nodes_at nodes.now) (map (λ s. (string_bytes s.path, s.node)) seen.items)) }
+    ensures { IfOk result (λ seen. IsTreeListing (nodes_at nodes.now)
+        (map (λ s. (string_bytes s.path, s.node)) seen.items)) }
 {
     let mut seen = Vec::new(alloc);
     for (path, node) in nodes {
@@ -139,7 +140,8 @@ pub(crate) fn read_known(
     at: u64,
     buf: &mut [u8],
 ) -> Result<Option<usize>, AllocError>
-    ensures reads { IfOk result (λ n. Reads (file_bytes (nodes_at nodes.now (known_path what.now))) at (length buf.old) buf.new n) }
+    ensures reads { IfOk result
+        (λ n. Reads (file_bytes (nodes_at nodes.now (known_path what.now))) at (length buf.old) buf.new n) }
     ensures room { IfOk result (λ n. IfSome n (λ n. n ≤ length buf.old)) }
 {
     let path = path_of(alloc, what)?;
@@ -223,7 +225,9 @@ pub(crate) fn empty_file(alloc: Global) -> MemNode
 
 /// Adds bytes at the end of a file, whose time stays.
 pub(crate) fn extend_file(nodes: &mut Nodes, path: &str, more: &[u8]) -> Result<(), AllocError>
-    ensures ok { OnOk result (nodes_at nodes.new ≡ with_node path.now (option_map (longer_node more.now) (nodes_at nodes.old path.now)) (nodes_at nodes.old)) }
+    ensures ok { OnOk result
+        (nodes_at nodes.new ≡ with_node path.now (option_map (longer_node more.now) (nodes_at nodes.old path.now))
+        (nodes_at nodes.old)) }
     ensures err { OnErr result (nodes_at nodes.new ≡ nodes_at nodes.old) }
 {
     match nodes.get_mut(path) {
@@ -268,7 +272,8 @@ fn copy_file(alloc: Global, nodes: &Nodes, path: &str) -> Result<MemNode, AllocE
 
 // Takes the node of a path away, but not where it is the other one.
 fn take_other(nodes: &mut Nodes, from: &str, to: &str)
-    ensures { nodes_at nodes.new ≡ (if bytes_eq from.now to.now then nodes_at nodes.old else with_node from.now None (nodes_at nodes.old)) }
+    ensures { nodes_at nodes.new ≡
+        (if bytes_eq from.now to.now then nodes_at nodes.old else with_node from.now None (nodes_at nodes.old)) }
 {
     if from != to {
         take_node(nodes, from);

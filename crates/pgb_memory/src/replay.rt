@@ -106,7 +106,9 @@ fn rename(alloc: Global, traces: &mut Traces, from: &str, to: &str) -> Result<()
 
 // Takes a name away, but not where it is the other one.
 fn remove_other(alloc: Global, traces: &mut Traces, from: &str, to: &str) -> Result<(), AllocError>
-    ensures { OnOk result (states_in traces.new ≡ (if bytes_eq from.now to.now then states_in traces.old else changed_at from.now removed_at (states_in traces.old))) }
+    ensures { OnOk result (states_in traces.new ≡
+        (if bytes_eq from.now to.now then states_in traces.old else changed_at from.now removed_at
+        (states_in traces.old))) }
 {
     if from != to {
         remove(alloc, traces, from)?;
@@ -122,7 +124,8 @@ fn arrive(
     value: Option<Vec<u8>>,
     loose: bool,
 ) -> Result<(), AllocError>
-    ensures { OnOk result (states_in traces.new ≡ changed_at name.now (arrived_at (value_of value) loose) (states_in traces.old)) }
+    ensures { OnOk result (states_in traces.new ≡ changed_at name.now (arrived_at (value_of value) loose)
+        (states_in traces.old)) }
 {
     let mut trace = take(alloc, traces, name)?;
     trace.arrive(alloc, value, loose)?;
@@ -148,7 +151,8 @@ fn names_taken_in(
     sweep: Sweep,
     folder: &str,
 ) -> Result<Vec<String>, AllocError>
-    ensures { IfOk result (λ names. map string_bytes names.items ≡ names_under (takes_in sweep folder.now) traces.now.entries) }
+    ensures { IfOk result (λ names. map string_bytes names.items ≡ names_under
+        (takes_in sweep folder.now) traces.now.entries) }
 {
     let mut names = Vec::new(alloc);
     for (name, _trace) in traces {
@@ -209,7 +213,8 @@ pub(crate) fn is_loose(traces: &Traces, name: &str) -> bool
 // Takes the trace of a name out, to be put back changed.
 fn take(alloc: Global, traces: &mut Traces, name: &str) -> Result<Trace, AllocError>
     ensures trace { IfOk result (λ t. state_of_trace t ≡ states_in traces.old name.now) }
-    ensures others { (s : NameState) → set_at name.now s (states_in traces.new) ≡ set_at name.now s (states_in traces.old) }
+    ensures others { (s : NameState) → set_at name.now s (states_in traces.new) ≡ set_at name.now s
+        (states_in traces.old) }
 {
     match traces.remove(name) {
         Some(trace) => Ok(trace),

@@ -74,7 +74,8 @@ impl Source for MemSource {
         ensures there { IfOk result (λ there. there ≡ is_some (value_of self.old.file)) }
         ensures start { OnOk result (self.new.at ≡ 0) }
         ensures place { OnOk result (string_bytes self.new.place ≡ path.now) }
-        ensures same { OnErr result ((self.new.at ≡ self.old.at) × (string_bytes self.new.place ≡ string_bytes self.old.place)) }
+        ensures same { OnErr result ((self.new.at ≡ self.old.at)
+            × (string_bytes self.new.place ≡ string_bytes self.old.place)) }
         ensures file { self.new.file ≡ self.old.file }
         ensures fails { FailsWhere (is_to_fail self.old.failing) result }
         ensures counts { self.new.failing ≡ counted self.old.failing }

@@ -77,7 +77,8 @@ impl MemTree {
 
     /// What stands at a path.
     pub fn node(&self, path: &str) -> Option<&MemNode>
-        ensures { IsSomeAnd (⟦<MemTree as Tree>⟧.state self.now).nodes (λ f. option_map (λ n. node_of n.now) result ≡ f path.now) }
+        ensures { IsSomeAnd (⟦<MemTree as Tree>⟧.state self.now).nodes
+            (λ f. option_map (λ n. node_of n.now) result ≡ f path.now) }
     {
         self.nodes.get(path)
     }
@@ -116,10 +117,12 @@ impl MemTree {
 }
 
 impl Tree for MemTree {
-    ghost state = { λ t. record { nodes = Some (nodes_at t.nodes); opened = map string_bytes t.opened.items; misuses = t.failing.misuses; faults = t.failing.faults } };
+    ghost state = { λ t. record { nodes = Some (nodes_at t.nodes); opened = map string_bytes t.opened.items;
+        misuses = t.failing.misuses; faults = t.failing.faults } };
 
     fn open(&mut self, path: &str) -> Result<(), Stop>
-        ensures opens { Opens result path.now (map string_bytes self.old.opened.items) (map string_bytes self.new.opened.items) }
+        ensures opens { Opens result path.now (map string_bytes self.old.opened.items)
+            (map string_bytes self.new.opened.items) }
         ensures same { nodes_at self.new.nodes ≡ nodes_at self.old.nodes }
         ensures fails { FailsWhere (is_to_fail self.old.failing) result }
         ensures counts { self.new.failing ≡ counted self.old.failing }
@@ -134,7 +137,8 @@ impl Tree for MemTree {
     }
 
     fn list(&mut self, alloc: Global) -> Result<Vec<Seen>, Stop>
-        ensures listing { IfOk result (λ seen. IsTreeListing (nodes_at self.old.nodes) (map (λ s. (string_bytes s.path, s.node)) seen.items)) }
+        ensures listing { IfOk result
+            (λ seen. IsTreeListing (nodes_at self.old.nodes) (map (λ s. (string_bytes s.path, s.node)) seen.items)) }
         ensures same { nodes_at self.new.nodes ≡ nodes_at self.old.nodes }
         ensures fails { FailsWhere (is_to_fail self.old.failing) result }
         ensures counts { self.new.failing ≡ counted self.old.failing }
@@ -148,7 +152,8 @@ impl Tree for MemTree {
     }
 
     fn read(&mut self, what: &Known, at: u64, buf: &mut [u8]) -> Result<Option<usize>, Stop>
-        ensures bytes { IfOk result (λ n. Reads (file_bytes (nodes_at self.old.nodes (known_path what.now))) at (length buf.old) buf.new n) }
+        ensures bytes { IfOk result
+            (λ n. Reads (file_bytes (nodes_at self.old.nodes (known_path what.now))) at (length buf.old) buf.new n) }
         ensures room { IfOk result (λ n. IfSome n (λ n. n ≤ length buf.old)) }
         ensures same { nodes_at self.new.nodes ≡ nodes_at self.old.nodes }
         ensures fails { FailsWhere (is_to_fail self.old.failing) result }
@@ -163,7 +168,8 @@ impl Tree for MemTree {
     }
 
     fn size(&mut self, what: &Known) -> Result<Option<u64>, Stop>
-        ensures size { IfOk result (λ n. n ≡ option_map length (file_bytes (nodes_at self.old.nodes (known_path what.now)))) }
+        ensures size { IfOk result
+            (λ n. n ≡ option_map length (file_bytes (nodes_at self.old.nodes (known_path what.now)))) }
         ensures same { nodes_at self.new.nodes ≡ nodes_at self.old.nodes }
         ensures fails { FailsWhere (is_to_fail self.old.failing) result }
         ensures counts { self.new.failing ≡ counted self.old.failing }
@@ -177,10 +183,13 @@ impl Tree for MemTree {
     }
 
     fn make(&mut self, folder: &str) -> Result<(), Stop>
-        ensures ok { OnOk result (nodes_at self.new.nodes ≡ with_node folder.now (Some folder_node) (nodes_at self.old.nodes)) }
+        ensures ok { OnOk result
+            (nodes_at self.new.nodes ≡ with_node folder.now (Some folder_node) (nodes_at self.old.nodes)) }
         ensures err { OnErr result (nodes_at self.new.nodes ≡ nodes_at self.old.nodes) }
-        ensures fails { FailsWhere (is_to_fail self.old.failing || not (may_make (nodes_at self.old.nodes) folder.now)) result }
-        ensures counts { let t = nodes_at self.old.nodes in self.new.failing ≡ tried_on (is_placed t folder.now) (takes_folder (t folder.now)) self.old.failing }
+        ensures fails { FailsWhere
+            (is_to_fail self.old.failing || not (may_make (nodes_at self.old.nodes) folder.now)) result }
+        ensures counts { let t = nodes_at self.old.nodes in self.new.failing ≡ tried_on (is_placed t folder.now)
+            (takes_folder (t folder.now)) self.old.failing }
         ensures opened { self.new.opened.items ≡ self.old.opened.items }
         ensures cause { HasCause self.old.failing.faults self.new.failing.faults result }
     {
@@ -199,10 +208,13 @@ impl Tree for MemTree {
 
     fn begin(&mut self, path: &str) -> Result<(), Stop>
         // A file that is begun has time 0.
-        ensures ok { OnOk result (nodes_at self.new.nodes ≡ with_node path.now (Some (file [] 0)) (nodes_at self.old.nodes)) }
+        ensures ok { OnOk result
+            (nodes_at self.new.nodes ≡ with_node path.now (Some (file [] 0)) (nodes_at self.old.nodes)) }
         ensures err { OnErr result (nodes_at self.new.nodes ≡ nodes_at self.old.nodes) }
-        ensures fails { FailsWhere (is_to_fail self.old.failing || not (may_begin (nodes_at self.old.nodes) path.now)) result }
-        ensures counts { let t = nodes_at self.old.nodes in self.new.failing ≡ tried_on (is_placed t path.now) (takes_file (t path.now)) self.old.failing }
+        ensures fails { FailsWhere
+            (is_to_fail self.old.failing || not (may_begin (nodes_at self.old.nodes) path.now)) result }
+        ensures counts { let t = nodes_at self.old.nodes in self.new.failing ≡ tried_on (is_placed t path.now)
+            (takes_file (t path.now)) self.old.failing }
         ensures opened { self.new.opened.items ≡ self.old.opened.items }
         ensures cause { HasCause self.old.failing.faults self.new.failing.faults result }
     {
@@ -223,9 +235,13 @@ impl Tree for MemTree {
     fn begin_new(&mut self, path: &str) -> Result<bool, Stop>
         ensures told { IfOk result (λ made. made ≡ is_none (nodes_at self.old.nodes path.now)) }
         // A file that is begun has time 0.
-        ensures ok { IfOk result (λ made. nodes_at self.new.nodes ≡ (if made then with_node path.now (Some (file [] 0)) (nodes_at self.old.nodes) else nodes_at self.old.nodes)) }
+        ensures ok { IfOk result
+            (λ made. nodes_at self.new.nodes ≡
+            (if made then with_node path.now (Some (file [] 0))
+            (nodes_at self.old.nodes) else nodes_at self.old.nodes)) }
         ensures err { OnErr result (nodes_at self.new.nodes ≡ nodes_at self.old.nodes) }
-        ensures fails { FailsWhere (is_to_fail self.old.failing || not (is_placed (nodes_at self.old.nodes) path.now)) result }
+        ensures fails { FailsWhere
+            (is_to_fail self.old.failing || not (is_placed (nodes_at self.old.nodes) path.now)) result }
         ensures counts { self.new.failing ≡ tried (is_placed (nodes_at self.old.nodes) path.now) self.old.failing }
         ensures opened { self.new.opened.items ≡ self.old.opened.items }
         ensures cause { HasCause self.old.failing.faults self.new.failing.faults result }
@@ -246,9 +262,12 @@ impl Tree for MemTree {
 
     fn append(&mut self, path: &str, bytes: &[u8]) -> Result<(), Stop>
         // The file's time stays.
-        ensures ok { OnOk result (nodes_at self.new.nodes ≡ with_node path.now (option_map (longer_node bytes.now) (nodes_at self.old.nodes path.now)) (nodes_at self.old.nodes)) }
+        ensures ok { OnOk result
+            (nodes_at self.new.nodes ≡ with_node path.now
+            (option_map (longer_node bytes.now) (nodes_at self.old.nodes path.now)) (nodes_at self.old.nodes)) }
         ensures err { OnErr result (nodes_at self.new.nodes ≡ nodes_at self.old.nodes) }
-        ensures fails { FailsWhere (is_to_fail self.old.failing || not (is_file (nodes_at self.old.nodes path.now))) result }
+        ensures fails { FailsWhere
+            (is_to_fail self.old.failing || not (is_file (nodes_at self.old.nodes path.now))) result }
         ensures counts { self.new.failing ≡ tried (is_file (nodes_at self.old.nodes path.now)) self.old.failing }
         ensures opened { self.new.opened.items ≡ self.old.opened.items }
         ensures cause { HasCause self.old.failing.faults self.new.failing.faults result }
@@ -266,8 +285,10 @@ impl Tree for MemTree {
     fn rename(&mut self, from: &str, to: &str) -> Result<(), Stop>
         ensures ok { OnOk result (nodes_at self.new.nodes ≡ moved_node from.now to.now (nodes_at self.old.nodes)) }
         ensures err { OnErr result (nodes_at self.new.nodes ≡ nodes_at self.old.nodes) }
-        ensures fails { FailsWhere (is_to_fail self.old.failing || not (may_move (nodes_at self.old.nodes) from.now to.now)) result }
-        ensures counts { let t = nodes_at self.old.nodes in self.new.failing ≡ tried_on (is_file (t from.now) && is_placed t to.now) (not (is_folder (t to.now))) self.old.failing }
+        ensures fails { FailsWhere
+            (is_to_fail self.old.failing || not (may_move (nodes_at self.old.nodes) from.now to.now)) result }
+        ensures counts { let t = nodes_at self.old.nodes in self.new.failing ≡ tried_on
+            (is_file (t from.now) && is_placed t to.now) (not (is_folder (t to.now))) self.old.failing }
         ensures opened { self.new.opened.items ≡ self.old.opened.items }
         ensures cause { HasCause self.old.failing.faults self.new.failing.faults result }
     {

@@ -28,7 +28,8 @@ fn add_path(
     found: Option<ConfigPath>,
     token: Token<'_>,
 ) -> Result<Option<ConfigPath>, Usage>
-    ensures { Gives (λ p. option_map path_view p) result (add_path (option_map path_view found) (token_view token.entry)) }
+    ensures { Gives (λ p. option_map path_view p) result
+        (add_path (option_map path_view found) (token_view token.entry)) }
 {
     match token {
         Token::Unknown(_) => Ok(found),

@@ -104,7 +104,8 @@ fn counts(sections: &[String], section: &str) -> bool
 // The lines that count: known keys, in these sections.
 #[tactic(auto, unfolding(crate::specs::Settings::known_settings))]
 fn known_settings(table: &[Opt], sections: &[String], lines: Vec<ConfigLine>) -> Vec<ConfigLine>
-    ensures { settings_of result.items ≡ known_settings table.now (map string_bytes sections.now) (settings_of lines.items) }
+    ensures { settings_of result.items ≡ known_settings table.now (map string_bytes sections.now)
+        (settings_of lines.items) }
 {
     let mut lines = lines;
     lines.retain(|line| {
@@ -121,7 +122,8 @@ pub(crate) fn source_of(
     sections: Vec<String>,
     lines: Vec<ConfigLine>,
 ) -> Source
-    ensures { source_view result ≡ source_of table.now verb (map given_view given.items) (map string_bytes sections.items) (settings_of lines.items) }
+    ensures { source_view result ≡ source_of table.now verb (map given_view given.items)
+        (map string_bytes sections.items) (settings_of lines.items) }
 {
     let lines = known_settings(table, &sections, lines);
     Source {
@@ -140,7 +142,8 @@ pub(crate) fn unknown_keys(
     sections: &[String],
     lines: &[ConfigLine],
 ) -> Result<Vec<String>, AllocError>
-    ensures { IfOk result (λ v. map string_bytes v.items ≡ unknown_keys table.now (map string_bytes sections.now) (settings_of lines.now)) }
+    ensures { IfOk result (λ v. map string_bytes v.items ≡ unknown_keys table.now (map string_bytes sections.now)
+        (settings_of lines.now)) }
 {
     let mut keys: Vec<String> = Vec::new(alloc);
     for line in lines {
@@ -255,7 +258,8 @@ fn add_sections(
     name: &str,
     word: &str,
 ) -> Result<(), AllocError>
-    ensures { OnOk result (map string_bytes sections.new.items ≡ map string_bytes sections.old.items ++ (name.now ++ codes ":" ++ word.now) ∷ name.now ∷ []) }
+    ensures { OnOk result (map string_bytes sections.new.items ≡ map string_bytes sections.old.items ++
+        (name.now ++ codes ":" ++ word.now) ∷ name.now ∷ []) }
 {
     sections.push(format!(in alloc; "{name}:{word}")?)?;
     sections.push(String::from_str(alloc, name)?)?;

@@ -44,7 +44,8 @@ fn value_in<'a>(lines: &'a [ConfigLine], section: &str, key: &str) -> Option<&'a
 }
 
 fn value_among<'a>(lines: &'a [ConfigLine], sections: &[String], key: &str) -> Option<&'a str>
-    ensures { option_map (λ t. t.now) result ≡ value_among (settings_of lines.now) (map string_bytes sections.now) key.now }
+    ensures { option_map (λ t. t.now) result ≡ value_among (settings_of lines.now)
+        (map string_bytes sections.now) key.now }
 {
     for section in sections {
         match value_in(lines, section.as_str(), key) {

@@ -23,7 +23,8 @@ pub trait Source {
     /// Opens a file at its start, and answers whether it is there.
     fn open(&mut self, path: &str) -> Result<bool, Stop>
         ensures there { IfOk result (λ there. IfSome (files self.old) (λ f. there ≡ is_some (f path.now))) }
-        ensures left { IfOk result (λ there. there ≡ true → left self.new ≡ option_and_then (λ (f : Content). f path.now) (files self.old)) }
+        ensures left { IfOk result
+            (λ there. there ≡ true → left self.new ≡ option_and_then (λ (f : Content). f path.now) (files self.old)) }
         ensures place { OnOk result (place self.new ≡ path.now) }
         ensures files { files self.new ≡ files self.old }
         ensures cause { HasCause (faults self.old) (faults self.new) result };

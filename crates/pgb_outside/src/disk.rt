@@ -31,20 +31,24 @@ pub trait Disk {
 
     /// Every name at any depth below the folder; an absent folder has none.
     fn names(&mut self, alloc: Global, folder: &str) -> Result<Vec<Found>, Stop>
-        ensures listing { IfOk result (λ found. IfSome (state self.old).view.now (λ f. IsListing folder.now f (map (λ x. (string_bytes x.name, x.size)) found.items))) }
+        ensures listing { IfOk result
+            (λ found. IfSome (state self.old).view.now (λ f.
+            IsListing folder.now f (map (λ x. (string_bytes x.name, x.size)) found.items))) }
         ensures looks { Looks (state self.old) (state self.new) }
         ensures cause { HasCause (state self.old).faults (state self.new).faults result };
 
     /// The own names of the folders that stand directly in the folder, in any order; one may come twice, and one may hold
     /// nothing. An absent folder has none.
     fn folders(&mut self, alloc: Global, folder: &str) -> Result<Vec<String>, Stop>
-        ensures folders { IfOk result (λ told. IfSome (state self.old).view.now (λ f. AreFolders folder.now f (map string_bytes told.items))) }
+        ensures folders { IfOk result
+            (λ told. IfSome (state self.old).view.now (λ f. AreFolders folder.now f (map string_bytes told.items))) }
         ensures looks { Looks (state self.old) (state self.new) }
         ensures cause { HasCause (state self.old).faults (state self.new).faults result };
 
     /// Bytes of a name from a place on: None where it is absent, 0 at its end.
     fn read(&mut self, name: &str, at: u64, buf: &mut [u8]) -> Result<Option<usize>, Stop>
-        ensures bytes { IfOk result (λ n. IfSome (state self.old).view.now (λ f. Reads (f name.now) at (length buf.old) buf.new n)) }
+        ensures bytes { IfOk result
+            (λ n. IfSome (state self.old).view.now (λ f. Reads (f name.now) at (length buf.old) buf.new n)) }
         ensures room { IfOk result (λ n. IfSome n (λ n. n ≤ length buf.old)) }
         ensures looks { Looks (state self.old) (state self.new) }
         ensures cause { HasCause (state self.old).faults (state self.new).faults result };
@@ -60,26 +64,32 @@ pub trait Disk {
         ensures now { Appends result name.now bytes.now (state self.old).view.now (state self.new).view.now }
         ensures time { Goes (λ _ _. ⊥) (λ n. n ≡ name.now) (state self.old).view (state self.new).view }
         ensures there { OnOk result (IsThere (state self.old).view.now name.now) }
-        ensures proper { IsThere (state self.old).view.now name.now → (state self.new).misuses ≡ (state self.old).misuses }
+        ensures proper { IsThere (state self.old).view.now name.now
+            → (state self.new).misuses ≡ (state self.old).misuses }
         ensures opened { (state self.new).opened ≡ (state self.old).opened }
         ensures cause { HasCause (state self.old).faults (state self.new).faults result };
 
     /// After it a crash leaves the bytes or what was kept before.
     fn sync(&mut self, name: &str) -> Result<(), Stop>
         ensures now { (state self.new).view.now ≡ (state self.old).view.now }
-        ensures time { Goes (λ n v. (n ≡ name.now) × Holds (state self.old).view.now n v) (λ n. n ≡ name.now) (state self.old).view (state self.new).view }
+        ensures time { Goes (λ n v. (n ≡ name.now) × Holds (state self.old).view.now n v) (λ n. n ≡ name.now)
+            (state self.old).view (state self.new).view }
         ensures tight { OnOk result (is_loose (state self.new).view name.now ≡ false) }
         ensures there { OnOk result (IsThere (state self.old).view.now name.now) }
-        ensures proper { IsThere (state self.old).view.now name.now → (state self.new).misuses ≡ (state self.old).misuses }
+        ensures proper { IsThere (state self.old).view.now name.now
+            → (state self.new).misuses ≡ (state self.old).misuses }
         ensures opened { (state self.new).opened ≡ (state self.old).opened }
         ensures cause { HasCause (state self.old).faults (state self.new).faults result };
 
     /// Moves the value of a name to another.
     fn rename(&mut self, from: &str, to: &str) -> Result<(), Stop>
         ensures now { Changes result (moved from.now to.now) (state self.old).view.now (state self.new).view.now }
-        ensures time { Goes (λ n v. ((n ≡ to.now) × Holds (state self.old).view.now from.now v) ⊎ ((n ≡ from.now) × (v ≡ None))) (λ n. (n ≡ to.now) × IsTrue (is_loose (state self.old).view from.now)) (state self.old).view (state self.new).view }
+        ensures time { Goes (λ n v. ((n ≡ to.now) × Holds (state self.old).view.now from.now v)
+            ⊎ ((n ≡ from.now) × (v ≡ None))) (λ n. (n ≡ to.now) × IsTrue (is_loose (state self.old).view from.now))
+            (state self.old).view (state self.new).view }
         ensures there { OnOk result (IsThere (state self.old).view.now from.now) }
-        ensures proper { IsThere (state self.old).view.now from.now → (state self.new).misuses ≡ (state self.old).misuses }
+        ensures proper { IsThere (state self.old).view.now from.now
+            → (state self.new).misuses ≡ (state self.old).misuses }
         ensures opened { (state self.new).opened ≡ (state self.old).opened }
         ensures cause { HasCause (state self.old).faults (state self.new).faults result };
 
@@ -92,22 +102,27 @@ pub trait Disk {
     /// After it a crash leaves each name below the folder its bytes or what was kept before.
     fn sync_below(&mut self, folder: &str) -> Result<(), Stop>
         ensures now { (state self.new).view.now ≡ (state self.old).view.now }
-        ensures works { Works (λ n v. IsTrue (is_below folder.now n) × Holds (state self.old).view.now n v) (λ n. IsTrue (is_below folder.now n)) (state self.old) (state self.new) }
-        ensures tight { OnOk result ((n : Name) → IsTrue (is_below folder.now n) → HasBytes (state self.old).view.now n → is_loose (state self.new).view n ≡ false) }
+        ensures works { Works (λ n v. IsTrue (is_below folder.now n) × Holds (state self.old).view.now n v)
+            (λ n. IsTrue (is_below folder.now n)) (state self.old) (state self.new) }
+        ensures tight { OnOk result ((n : Name) → IsTrue (is_below folder.now n) → HasBytes (state self.old).view.now n
+            → is_loose (state self.new).view n ≡ false) }
         ensures cause { HasCause (state self.old).faults (state self.new).faults result };
 
     /// After it a crash leaves at each name below the folder that isn't loose what it holds.
     fn settle(&mut self, folder: &str) -> Result<(), Stop>
         ensures looks { Looks (state self.old) (state self.new) }
-        ensures settled { OnOk result (Settles (λ n. IsTrue (is_below folder.now n)) (state self.old).view (state self.new).view) }
+        ensures settled { OnOk result
+            (Settles (λ n. IsTrue (is_below folder.now n)) (state self.old).view (state self.new).view) }
         ensures cause { HasCause (state self.old).faults (state self.new).faults result };
 
     /// The same for the names directly in the folder alone.
     fn settle_in(&mut self, folder: &str) -> Result<(), Stop>
         ensures looks { Looks (state self.old) (state self.new) }
-        ensures settled { OnOk result (Settles (LiesDirectlyIn folder.now) (state self.old).view (state self.new).view) }
+        ensures settled { OnOk result
+            (Settles (LiesDirectlyIn folder.now) (state self.old).view (state self.new).view) }
         ensures cause { HasCause (state self.old).faults (state self.new).faults result };
 
     /// A crash may leave what it holds.
-    ghost now_may_be_left: { (d : Self) (n : Name) (v : Value) → Holds (state d).view.now n v → MayKeep (state d).view n v ⊎ (is_loose (state d).view n ≡ true) };
+    ghost now_may_be_left: { (d : Self) (n : Name) (v : Value) → Holds (state d).view.now n v
+        → MayKeep (state d).view n v ⊎ (is_loose (state d).view n ≡ true) };
 }

@@ -36,7 +36,8 @@ pub trait Locks {
     fn take(&mut self, folder: &str, name: &str) -> Result<Take, Stop>
         requires { ¬ Contains (taken self.old) name.now }
         ensures taken { IfOk result (λ t. taken self.new ≡ with_lock t name.now (taken self.old)) }
-        ensures took { IfOk result (λ t. took self.new ≡ option_map (with_lock t (folder.now, name.now)) (took self.old)) }
+        ensures took { IfOk result
+            (λ t. took self.new ≡ option_map (with_lock t (folder.now, name.now)) (took self.old)) }
         ensures held { IfOk result (λ t. t ≡ Held → Rises (refusals self.old) (refusals self.new)) }
         ensures told { IfOk result (λ t. IfSome (others self.old) (λ names. (t ≡ Held) ↔ Contains names name.now)) }
         ensures err { OnErr result ((taken self.new ≡ taken self.old) × (took self.new ≡ took self.old)) }

@@ -16,7 +16,8 @@ pub trait Sink {
     fn write(&mut self, bytes: &[u8]) -> Result<usize, Stop>
         ensures room { IfOk result (λ n. n ≤ length bytes.now) }
         ensures some { IfOk result (λ n. n ≡ 0 → 0 < length bytes.now → Rises (faults self.old) (faults self.new)) }
-        ensures written { IfOk result (λ n. written self.new ≡ option_map (λ text. text ++ take n bytes.now) (written self.old)) }
+        ensures written { IfOk result
+            (λ n. written self.new ≡ option_map (λ text. text ++ take n bytes.now) (written self.old)) }
         ensures same { OnErr result (written self.new ≡ written self.old) }
         ensures cause { HasCause (faults self.old) (faults self.new) result };
 }

@@ -49,49 +49,61 @@ pub trait Tree {
 
     /// Every node below the root. Links aren't followed.
     fn list(&mut self, alloc: Global) -> Result<Vec<Seen>, Stop>
-        ensures listing { IfOk result (λ seen. IfSome (state self.old).nodes (λ f. IsTreeListing f (map (λ s. (string_bytes s.path, s.node)) seen.items))) }
+        ensures listing { IfOk result
+            (λ seen. IfSome (state self.old).nodes
+            (λ f. IsTreeListing f (map (λ s. (string_bytes s.path, s.node)) seen.items))) }
         ensures looks { LooksAt (state self.old) (state self.new) }
         ensures cause { HasCause (state self.old).faults (state self.new).faults result };
 
     /// Bytes of a known file from a place on: None where it isn't a file that is there, 0 at its end.
     fn read(&mut self, what: &Known, at: u64, buf: &mut [u8]) -> Result<Option<usize>, Stop>
-        ensures bytes { IfOk result (λ n. IfSome (state self.old).nodes (λ f. Reads (file_bytes (f (known_path what.now))) at (length buf.old) buf.new n)) }
+        ensures bytes { IfOk result
+            (λ n. IfSome (state self.old).nodes
+            (λ f. Reads (file_bytes (f (known_path what.now))) at (length buf.old) buf.new n)) }
         ensures room { IfOk result (λ n. IfSome n (λ n. n ≤ length buf.old)) }
         ensures looks { LooksAt (state self.old) (state self.new) }
         ensures cause { HasCause (state self.old).faults (state self.new).faults result };
 
     /// How many bytes a known file has: None where it isn't a file that is there.
     fn size(&mut self, what: &Known) -> Result<Option<u64>, Stop>
-        ensures size { IfOk result (λ n. IfSome (state self.old).nodes (λ f. n ≡ option_map length (file_bytes (f (known_path what.now))))) }
+        ensures size { IfOk result
+            (λ n. IfSome (state self.old).nodes (λ f. n ≡ option_map length (file_bytes (f (known_path what.now))))) }
         ensures looks { LooksAt (state self.old) (state self.new) }
         ensures cause { HasCause (state self.old).faults (state self.new).faults result };
 
     /// Makes a folder.
     fn make(&mut self, folder: &str) -> Result<(), Stop>
-        ensures nodes { ChangesTree result (with_node folder.now (Some folder_node)) (state self.old).nodes (state self.new).nodes }
-        ensures proper { IsPlaced (state self.old).nodes folder.now → (state self.new).misuses ≡ (state self.old).misuses }
+        ensures nodes { ChangesTree result (with_node folder.now (Some folder_node)) (state self.old).nodes
+            (state self.new).nodes }
+        ensures proper { IsPlaced (state self.old).nodes folder.now
+            → (state self.new).misuses ≡ (state self.old).misuses }
         ensures opened { (state self.new).opened ≡ (state self.old).opened }
         ensures cause { HasCause (state self.old).faults (state self.new).faults result };
 
     /// Makes the path a file of no bytes.
     fn begin(&mut self, path: &str) -> Result<(), Stop>
-        ensures nodes { ChangesFile result path.now (λ time. with_node path.now (Some (file [] time))) (state self.old).nodes (state self.new).nodes }
-        ensures proper { IsPlaced (state self.old).nodes path.now → (state self.new).misuses ≡ (state self.old).misuses }
+        ensures nodes { ChangesFile result path.now (λ time. with_node path.now (Some (file [] time)))
+            (state self.old).nodes (state self.new).nodes }
+        ensures proper { IsPlaced (state self.old).nodes path.now
+            → (state self.new).misuses ≡ (state self.old).misuses }
         ensures opened { (state self.new).opened ≡ (state self.old).opened }
         ensures cause { HasCause (state self.old).faults (state self.new).faults result };
 
     /// Makes the path a file of no bytes where nothing is there, and tells whether it did.
     fn begin_new(&mut self, path: &str) -> Result<bool, Stop>
         ensures nodes { BeginsNew result path.now (state self.old).nodes (state self.new).nodes }
-        ensures proper { IsPlaced (state self.old).nodes path.now → (state self.new).misuses ≡ (state self.old).misuses }
+        ensures proper { IsPlaced (state self.old).nodes path.now
+            → (state self.new).misuses ≡ (state self.old).misuses }
         ensures opened { (state self.new).opened ≡ (state self.old).opened }
         ensures cause { HasCause (state self.old).faults (state self.new).faults result };
 
     /// Adds bytes at the end of a file.
     fn append(&mut self, path: &str, bytes: &[u8]) -> Result<(), Stop>
-        ensures nodes { ChangesFile result path.now (lengthened_file path.now bytes.now) (state self.old).nodes (state self.new).nodes }
+        ensures nodes { ChangesFile result path.now (lengthened_file path.now bytes.now) (state self.old).nodes
+            (state self.new).nodes }
         ensures there { OnOk result (IsFileAt (state self.old).nodes path.now) }
-        ensures proper { IsFileAt (state self.old).nodes path.now → (state self.new).misuses ≡ (state self.old).misuses }
+        ensures proper { IsFileAt (state self.old).nodes path.now
+            → (state self.new).misuses ≡ (state self.old).misuses }
         ensures opened { (state self.new).opened ≡ (state self.old).opened }
         ensures cause { HasCause (state self.old).faults (state self.new).faults result };
 
@@ -99,7 +111,8 @@ pub trait Tree {
     fn rename(&mut self, from: &str, to: &str) -> Result<(), Stop>
         ensures nodes { ChangesTree result (moved_node from.now to.now) (state self.old).nodes (state self.new).nodes }
         ensures there { OnOk result (IsFileAt (state self.old).nodes from.now) }
-        ensures proper { IsFileAt (state self.old).nodes from.now → IsPlaced (state self.old).nodes to.now → (state self.new).misuses ≡ (state self.old).misuses }
+        ensures proper { IsFileAt (state self.old).nodes from.now → IsPlaced (state self.old).nodes to.now
+            → (state self.new).misuses ≡ (state self.old).misuses }
         ensures opened { (state self.new).opened ≡ (state self.old).opened }
         ensures cause { HasCause (state self.old).faults (state self.new).faults result };
 

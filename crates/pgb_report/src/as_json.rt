@@ -149,7 +149,8 @@ fn status_value(alloc: Global, backups: &[Entry]) -> Result<Value, NoMemory>
 
 fn report_value(alloc: Global, report: &Report<'_>) -> Result<Value, NoMemory>
     requires { IsBackupInfo (backup_info_of report.now.info.now) }
-    ensures { IfOk result (λ v. view v ≡ report_data report.now.stanza.now (archive_info_of report.now.archive.now) (backup_info_of report.now.info.now) report.now.archived.now) }
+    ensures { IfOk result (λ v. view v ≡ report_data report.now.stanza.now (archive_info_of report.now.archive.now)
+        (backup_info_of report.now.info.now) report.now.archived.now) }
 {
     let history = &report.archive.history;
     let archives = archives_value(alloc, report.archived, history)?;
@@ -181,7 +182,8 @@ fn report_value(alloc: Global, report: &Report<'_>) -> Result<Value, NoMemory>
 /// The report as one compact line of JSON, with its newline.
 pub fn report_json(alloc: Global, report: &Report<'_>) -> Result<String, NoMemory>
     requires { IsBackupInfo (backup_info_of report.now.info.now) }
-    ensures { IfOk result (λ t. string_bytes t ≡ report_json_of report.now.stanza.now (archive_info_of report.now.archive.now) (backup_info_of report.now.info.now) report.now.archived.now) }
+    ensures { IfOk result (λ t. string_bytes t ≡ report_json_of report.now.stanza.now
+        (archive_info_of report.now.archive.now) (backup_info_of report.now.info.now) report.now.archived.now) }
 {
     let value = report_value(alloc, report)?;
     let mut text = value.to_string(alloc)?;

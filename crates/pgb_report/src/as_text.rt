@@ -38,7 +38,8 @@ fn stanza_lines(alloc: Global, stanza: &str, backups: &[Entry]) -> Result<Vec<St
 /// The report as text, for a reader; each line ends with a newline.
 pub fn report_text(alloc: Global, report: &Report<'_>) -> Result<String, NoMemory>
     requires { IsBackupInfo (backup_info_of report.now.info.now) }
-    ensures { IfOk result (λ t. string_bytes t ≡ report_text_of report.now.stanza.now (archive_info_of report.now.archive.now) (backup_info_of report.now.info.now) report.now.archived.now) }
+    ensures { IfOk result (λ t. string_bytes t ≡ report_text_of report.now.stanza.now
+        (archive_info_of report.now.archive.now) (backup_info_of report.now.info.now) report.now.archived.now) }
 {
     let archive = report.archive;
     let backups = &report.info.backups;

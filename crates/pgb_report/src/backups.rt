@@ -131,7 +131,8 @@ pub(crate) fn add_backups(
     backups: &[Entry],
 ) -> Result<(), NoMemory>
     requires { AllByRecursion (λ e. HasTexts (entry_of e)) backups.now }
-    ensures { OnOk result (texts_of lines.new ≡ texts_of lines.old ++ flat_map backup_lines (map entry_of backups.now)) }
+    ensures { OnOk result (texts_of lines.new ≡ texts_of lines.old ++ flat_map backup_lines
+        (map entry_of backups.now)) }
 {
     for e in backups {
         add_backup(alloc, lines, e)?;

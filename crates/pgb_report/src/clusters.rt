@@ -89,7 +89,8 @@ fn add_each(
     archived: &[ArchivedName],
     clusters: &[ClusterId],
 ) -> Result<(), NoMemory>
-    ensures { OnOk result (texts_of lines.new ≡ texts_of lines.old ++ flat_map (cluster_lines current archived.now) clusters.now) }
+    ensures { OnOk result (texts_of lines.new ≡ texts_of lines.old ++ flat_map
+        (cluster_lines current archived.now) clusters.now) }
 {
     for cluster in clusters {
         add_cluster(alloc, lines, current, archived, cluster)?;
@@ -105,7 +106,8 @@ pub(crate) fn add_clusters(
     history: &[ClusterId],
     archived: &[ArchivedName],
 ) -> Result<(), NoMemory>
-    ensures { OnOk result (texts_of lines.new ≡ texts_of lines.old ++ flat_map (cluster_lines current archived.now) (shown_clusters current history.now)) }
+    ensures { OnOk result (texts_of lines.new ≡ texts_of lines.old ++ flat_map (cluster_lines current archived.now)
+        (shown_clusters current history.now)) }
 {
     let shown = shown_clusters(alloc, current, history)?;
     add_each(alloc, lines, current, archived, &shown)?;

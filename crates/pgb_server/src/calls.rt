@@ -23,7 +23,8 @@ fn hear_out<V: Wire>(
     columns: u16,
     session: Session,
 ) -> Result<Talk, ServerFault>
-    ensures read { Reads talk_view result (V.pending wire.old) (V.pending wire.new) (talk_at phase columns (session_view session)) }
+    ensures read { Reads talk_view result (V.pending wire.old) (V.pending wire.new)
+        (talk_at phase columns (session_view session)) }
     ensures sent { V.sent wire.new ≡ V.sent wire.old }
     ensures place { V.place wire.new ≡ V.place wire.old }
     ensures cause { HasCause (V.faults wire.old) (V.faults wire.new) result }
@@ -48,8 +49,11 @@ pub fn open<V: Wire>(
 ) -> Result<Session, ServerFault>
     requires { length user.now + length database.now + 26 < 2 ^ 32 }
     ensures read { Reads session_view result (V.pending wire.old) (V.pending wire.new) start_at }
-    ensures sent { OnOk result (V.sent wire.new ≡ option_map (λ s. s ++ startup_of user.now database.now) (V.sent wire.old)) }
-    ensures parted { IfErr result (λ e. ¬ IsOutside e → Sends (V.faults wire.old) (V.faults wire.new) (V.sent wire.old) (V.sent wire.new) (startup_of user.now database.now ++ closing)) }
+    ensures sent { OnOk result
+        (V.sent wire.new ≡ option_map (λ s. s ++ startup_of user.now database.now) (V.sent wire.old)) }
+    ensures parted { IfErr result
+        (λ e. ¬ IsOutside e → Sends (V.faults wire.old) (V.faults wire.new) (V.sent wire.old) (V.sent wire.new)
+        (startup_of user.now database.now ++ closing)) }
     ensures place { OnOk result (V.place wire.new ≡ path.now) }
     ensures cause { HasCause (V.faults wire.old) (V.faults wire.new) result }
 {
@@ -71,7 +75,8 @@ pub(crate) fn ask<V: Wire>(
     columns: u16,
 ) -> Result<Talk, ServerFault>
     requires { length text.now + 5 < 2 ^ 32 }
-    ensures read { Reads talk_view result (V.pending wire.old) (V.pending wire.new) (talk_at Heading columns (session_view session.now)) }
+    ensures read { Reads talk_view result (V.pending wire.old) (V.pending wire.new)
+        (talk_at Heading columns (session_view session.now)) }
     ensures sent { OnOk result (V.sent wire.new ≡ option_map (λ s. s ++ query_of text.now) (V.sent wire.old)) }
     ensures place { V.place wire.new ≡ V.place wire.old }
     ensures cause { HasCause (V.faults wire.old) (V.faults wire.new) result }
@@ -91,7 +96,8 @@ pub fn ask_row<V: Wire>(
     columns: u16,
 ) -> Result<Vec<Option<String>>, ServerFault>
     requires { length text.now + 5 < 2 ^ 32 }
-    ensures read { Reads (λ v. record { cells = cells_view v.items; taken = session_view session.new }) result (V.pending wire.old) (V.pending wire.new) (row_at columns (session_view session.old)) }
+    ensures read { Reads (λ v. record { cells = cells_view v.items; taken = session_view session.new }) result
+        (V.pending wire.old) (V.pending wire.new) (row_at columns (session_view session.old)) }
     ensures kept { OnErr result (session_view session.new ≡ session_view session.old) }
     ensures sent { OnOk result (V.sent wire.new ≡ option_map (λ s. s ++ query_of text.now) (V.sent wire.old)) }
     ensures place { V.place wire.new ≡ V.place wire.old }

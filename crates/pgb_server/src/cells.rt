@@ -27,7 +27,8 @@ fn text_cell<'a>(
     rest: &'a [u8],
 ) -> Result<Left<'a>, ServerFault>
     requires { left.at + 4 + length text.now < 2 ^ 64 }
-    ensures place { IfOk result (λ l. l.at + length l.rest.now ≤ left.entry.at + 4 + length text.now + length rest.now) }
+    ensures place { IfOk result
+        (λ l. l.at + length l.rest.now ≤ left.entry.at + 4 + length text.now + length rest.now) }
     ensures value { Gives left_view result (text_cell (left_view left.entry) (length text.now) text.now rest.now) }
     ensures cause { IfErr result (λ e. e ≢ Wire) }
 {

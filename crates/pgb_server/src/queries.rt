@@ -40,7 +40,8 @@ pub fn check_system<V: Wire>(
     session: &mut Session,
     system: u64,
 ) -> Result<SegSize, ServerFault>
-    ensures read { Answers (λ z. z.0) result (session_view session.new) (V.pending wire.old) (V.pending wire.new) (talk_at Heading 2 (session_view session.old)) (SystemOutcome system) }
+    ensures read { Answers (λ z. z.0) result (session_view session.new) (V.pending wire.old) (V.pending wire.new)
+        (talk_at Heading 2 (session_view session.old)) (SystemOutcome system) }
     ensures kept { OnErr result (session_view session.new ≡ session_view session.old) }
     ensures sent { OnOk result (V.sent wire.new ≡ option_map (λ s. s ++ query_of system_query) (V.sent wire.old)) }
     ensures place { V.place wire.new ≡ V.place wire.old }
@@ -78,9 +79,11 @@ pub fn start_backup<V: Wire>(
     session: &mut Session,
     fast: bool,
 ) -> Result<Started, ServerFault>
-    ensures read { Answers (λ s. s) result (session_view session.new) (V.pending wire.old) (V.pending wire.new) (talk_at Heading 2 (session_view session.old)) StartOutcome }
+    ensures read { Answers (λ s. s) result (session_view session.new) (V.pending wire.old) (V.pending wire.new)
+        (talk_at Heading 2 (session_view session.old)) StartOutcome }
     ensures kept { OnErr result (session_view session.new ≡ session_view session.old) }
-    ensures sent { OnOk result (V.sent wire.new ≡ option_map (λ s. s ++ query_of (start_query fast)) (V.sent wire.old)) }
+    ensures sent { OnOk result
+        (V.sent wire.new ≡ option_map (λ s. s ++ query_of (start_query fast)) (V.sent wire.old)) }
     ensures place { V.place wire.new ≡ V.place wire.old }
     ensures cause { HasCause (V.faults wire.old) (V.faults wire.new) result }
 {
@@ -125,7 +128,8 @@ pub fn stop_backup<V: Wire>(
     wire: &mut V,
     session: &mut Session,
 ) -> Result<Stopped, ServerFault>
-    ensures read { Answers stopped_view result (session_view session.new) (V.pending wire.old) (V.pending wire.new) (talk_at Heading 4 (session_view session.old)) StopOutcome }
+    ensures read { Answers stopped_view result (session_view session.new) (V.pending wire.old) (V.pending wire.new)
+        (talk_at Heading 4 (session_view session.old)) StopOutcome }
     ensures kept { OnErr result (session_view session.new ≡ session_view session.old) }
     ensures sent { OnOk result (V.sent wire.new ≡ option_map (λ s. s ++ query_of stop_query) (V.sent wire.old)) }
     ensures place { V.place wire.new ≡ V.place wire.old }

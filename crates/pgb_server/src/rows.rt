@@ -47,7 +47,8 @@ fn two_texts(row: &[Option<String>]) -> Option<(&str, &str)>
 // A position, and the name of a segment.
 fn read_place(lsn: &str, segment: &str) -> Option<(Lsn, Segment)>
     ensures value { IfSome result (λ p. IsLsn lsn.now p.0.0 × IsSegment p.1 × (segment.now ≡ segment_text p.1)) }
-    ensures none { IfNone result ((at : ℕ) (s : Segment) → IsLsn lsn.now at → IsSegment s → segment.now ≢ segment_text s) }
+    ensures none { IfNone result ((at : ℕ) (s : Segment) → IsLsn lsn.now at → IsSegment s
+        → segment.now ≢ segment_text s) }
 {
     let Some(lsn) = read_lsn(lsn.as_bytes()) else {
         return None;
@@ -84,8 +85,10 @@ pub(crate) fn start_row(talk: &Talk) -> Option<Started>
 }
 
 fn four_texts(row: &[Option<String>]) -> Option<(&str, &str, &str, &Option<String>)>
-    ensures value { IfSome result (λ p. cells_view row.now ≡ Some p.0.now ∷ Some p.1.now ∷ Some p.2.now ∷ option_map string_bytes p.3.now ∷ []) }
-    ensures none { IfNone result ((a b c : Text) (d : Option Text) → cells_view row.now ≢ Some a ∷ Some b ∷ Some c ∷ d ∷ []) }
+    ensures value { IfSome result
+        (λ p. cells_view row.now ≡ Some p.0.now ∷ Some p.1.now ∷ Some p.2.now ∷ option_map string_bytes p.3.now ∷ []) }
+    ensures none { IfNone result ((a b c : Text) (d : Option Text)
+        → cells_view row.now ≢ Some a ∷ Some b ∷ Some c ∷ d ∷ []) }
 {
     match row {
         [Some(first), Some(second), Some(third), last] => Some((first, second, third, last)),

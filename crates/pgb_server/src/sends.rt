@@ -59,7 +59,8 @@ pub(crate) fn send<V: Wire>(wire: &mut V, bytes: &[u8]) -> Result<(), ServerFaul
 /// Ends a session that was refused. That this failed isn't told, but for want of memory.
 pub(crate) fn part<V: Wire>(wire: &mut V, fault: ServerFault) -> ServerFault
     ensures fault { (result ≡ fault) ⊎ (result ≡ NoMemory) }
-    ensures sent { result ≢ NoMemory → Sends (V.faults wire.old) (V.faults wire.new) (V.sent wire.old) (V.sent wire.new) closing }
+    ensures sent { result ≢ NoMemory → Sends (V.faults wire.old) (V.faults wire.new) (V.sent wire.old)
+        (V.sent wire.new) closing }
     ensures later { V.faults wire.old ≤ V.faults wire.new }
 {
     match wire.send(b"X\0\0\0\x04".as_slice()) {

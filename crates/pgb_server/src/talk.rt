@@ -64,7 +64,8 @@ fn hear_grant(talk: Talk, body: &[u8]) -> Result<Talk, ServerFault>
 fn hear_row(alloc: Global, columns: u16, talk: Talk, body: &[u8]) -> Result<Talk, ServerFault>
     requires few { talk.session.messages < 1000000 }
     requires short { length body.now ≤ 16777216 }
-    ensures value { Gives talk_view result (hear_due columns Row (talk_view talk) (record { kind = 68; body = body.now })) }
+    ensures value { Gives talk_view result
+        (hear_due columns Row (talk_view talk) (record { kind = 68; body = body.now })) }
     ensures cause { IfErr result (λ e. e ≢ Wire) }
     ensures count { IfOk result (λ t. t.session.messages ≡ talk.session.messages + 1) }
 {
@@ -90,7 +91,8 @@ fn hear_due(
 ) -> Result<Talk, ServerFault>
     requires few { talk.session.messages < 1000000 }
     requires short { length body.now ≤ 16777216 }
-    ensures value { Gives talk_view result (hear_due columns talk.phase (talk_view talk) (record { kind = kind; body = body.now })) }
+    ensures value { Gives talk_view result
+        (hear_due columns talk.phase (talk_view talk) (record { kind = kind; body = body.now })) }
     ensures cause { IfErr result (λ e. e ≢ Wire) }
     ensures count { IfOk result (λ t. t.session.messages ≡ talk.session.messages + 1) }
 {
@@ -144,7 +146,8 @@ pub(crate) fn run<V: Wire>(
     start: Talk,
 ) -> Result<Talk, ServerFault>
     requires { start.session.messages + limit ≡ 1000000 }
-    ensures read { Reads talk_view result (V.pending wire.old) (V.pending wire.new) (run limit columns (talk_view start)) }
+    ensures read { Reads talk_view result (V.pending wire.old) (V.pending wire.new)
+        (run limit columns (talk_view start)) }
     ensures sent { V.sent wire.new ≡ V.sent wire.old }
     ensures place { V.place wire.new ≡ V.place wire.old }
     ensures cause { HasCause (V.faults wire.old) (V.faults wire.new) result }

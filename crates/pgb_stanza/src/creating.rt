@@ -39,25 +39,39 @@ pub fn create<D: Disk>(
 ) -> Result<Created, StanzaFault>
     // After every answer, and after every stop, the stanza is as before or made, and at Ok it is made.
     ensures part { (r : Repository) → IsSome (D.state d.old).view.now → NowStands stanza.now r (D.state d.old).view.now
-        → NowStands stanza.now r (D.state d.new).view.now ⊎ NowStands stanza.now (step r (Create (first_cluster control.now))) (D.state d.new).view.now }
-    ensures done { OnOk result ((r : Repository) → IsSome (D.state d.old).view.now → NowStands stanza.now r (D.state d.old).view.now
+        → NowStands stanza.now r (D.state d.new).view.now ⊎ NowStands stanza.now
+            (step r (Create (first_cluster control.now))) (D.state d.new).view.now }
+    ensures done { OnOk result ((r : Repository) → IsSome (D.state d.old).view.now
+        → NowStands stanza.now r (D.state d.old).view.now
         → NowStands stanza.now (step r (Create (first_cluster control.now))) (D.state d.new).view.now) }
     ensures moves { (r : Repository) → IsSteady stanza.now r (D.state d.old).view → IsSome (D.state d.old).view.now
-        → Moves stanza.now (λ g. Stands stanza.now g r ⊎ Stands stanza.now g (step r (Create (first_cluster control.now)))) (D.state d.old).view (D.state d.new).view }
-    ensures made { OnOk result ((r : Repository) → IsSteady stanza.now r (D.state d.old).view → IsSome (D.state d.old).view.now
+        → Moves stanza.now (λ g. Stands stanza.now g r ⊎ Stands stanza.now g
+            (step r (Create (first_cluster control.now)))) (D.state d.old).view (D.state d.new).view }
+    ensures made { OnOk result ((r : Repository) → IsSteady stanza.now r (D.state d.old).view
+        → IsSome (D.state d.old).view.now
         → IsSteady stanza.now (step r (Create (first_cluster control.now))) (D.state d.new).view) }
     // New comes exactly where the disk has no stanza, and Same where it has one of this cluster.
     ensures lacking { IfOk result (λ c. IfNew c (IfSome (D.state d.old).view.now (LacksStanza stanza.now))) }
-    ensures new { IfOk result (λ c. IfNew c ((r : Repository) → IsSome (D.state d.old).view.now → NowStands stanza.now r (D.state d.old).view.now → r ≡ None)) }
-    ensures members { IfOk result (λ c. IfNew c (IsSome (D.state d.old).view.now → IfSome (D.state d.new).view.now (HasNewPairs stanza.now (first_cluster control.now)))) }
-    ensures having { IfOk result (λ c. IfSame c (IfSome (D.state d.old).view.now (HasStanzaOf stanza.now control.now))) }
-    ensures same { IfOk result (λ c. IfSame c ((r : Repository) → IsSome (D.state d.old).view.now → NowStands stanza.now r (D.state d.old).view.now → (s : Stanza) × (r ≡ Some s) × IsStanzaOf control.now s)) }
-    ensures agrees { OnOk result (IsSome (D.state d.old).view.now → IfSome (D.state d.new).view.now (PairsAgree stanza.now)) }
+    ensures new { IfOk result
+        (λ c. IfNew c ((r : Repository) → IsSome (D.state d.old).view.now
+        → NowStands stanza.now r (D.state d.old).view.now → r ≡ None)) }
+    ensures members { IfOk result
+        (λ c. IfNew c (IsSome (D.state d.old).view.now → IfSome (D.state d.new).view.now
+        (HasNewPairs stanza.now (first_cluster control.now)))) }
+    ensures having { IfOk result
+        (λ c. IfSame c (IfSome (D.state d.old).view.now (HasStanzaOf stanza.now control.now))) }
+    ensures same { IfOk result
+        (λ c. IfSame c ((r : Repository) → IsSome (D.state d.old).view.now
+        → NowStands stanza.now r (D.state d.old).view.now → (s : Stanza) × (r ≡ Some s) × IsStanzaOf control.now s)) }
+    ensures agrees { OnOk result (IsSome (D.state d.old).view.now
+        → IfSome (D.state d.new).view.now (PairsAgree stanza.now)) }
     ensures refused { IfErr result (λ e. OnContent e ((D.state d.new).view.now ≡ (D.state d.old).view.now)) }
     ensures rests { IfErr result (λ e. OnContent e (Rests (D.state d.old).view (D.state d.new).view)) }
     ensures told { IsSome (D.state d.old).view.now → IsSome (D.state d.new).view.now }
     ensures frame { Frame (D.state d.old) (D.state d.new) }
-    ensures cause { IfErr result (CreateCause stanza.now control.now (D.state d.old).view.now (Rises (D.state d.old).faults (D.state d.new).faults)) }
+    ensures cause { IfErr result
+        (CreateCause stanza.now control.now (D.state d.old).view.now
+        (Rises (D.state d.old).faults (D.state d.new).faults)) }
     ensures label { IfErr result (λ e. IfLost e IsLabel) }
 {
     match look(alloc, d, stanza, control)? {

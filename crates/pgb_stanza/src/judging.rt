@@ -76,7 +76,8 @@ fn has_pending(archive: &ArchiveInfo, backup: &BackupInfo) -> bool
     requires { IsBackupInfo (backup_info_of backup.now) }
     ensures one { result ≡ true → length backup.now.history.items ≡ length archive.now.history.items + 1 }
     ensures current { result ≡ true → backup.now.current ≡ length backup.now.history.items }
-    ensures unused { result ≡ true → (e : SpecEntry) → In e (backup_info_of backup.now).backups → e.db ≢ backup.now.current }
+    ensures unused { result ≡ true → (e : SpecEntry) → In e (backup_info_of backup.now).backups
+        → e.db ≢ backup.now.current }
     ensures other { result ≡ false → ¬ HasPending (archive_info_of archive.now) (backup_info_of backup.now) }
 {
     if backup.history.len() != archive.history.len() + 1 {
@@ -107,7 +108,8 @@ fn without_last(mut backup: BackupInfo) -> BackupInfo
 fn settle(archive: &ArchiveInfo, backup: BackupInfo) -> Result<BackupInfo, StanzaFault>
     requires archive { IsArchiveInfo (archive_info_of archive.now) }
     requires backup { IsBackupInfo (backup_info_of backup) }
-    ensures settled { IfOk result (λ w. Settles (archive_info_of archive.now) (backup_info_of backup) (backup_info_of w)) }
+    ensures settled { IfOk result
+        (λ w. Settles (archive_info_of archive.now) (backup_info_of backup) (backup_info_of w)) }
     ensures valid { IfOk result (λ w. IsBackupInfo (backup_info_of w)) }
     ensures differ { IfErr result (TellsDifference (archive_info_of archive.now) (backup_info_of backup)) }
     ensures label { IfErr result (λ e. IfLost e IsLabel) }
@@ -154,7 +156,8 @@ pub(crate) fn fit(
     requires archive { IsArchiveInfo (archive_info_of archive) }
     requires backup { IsBackupInfo (backup_info_of backup) }
     ensures archive { IfOk result (λ k. k.archive ≡ archive) }
-    ensures settled { IfOk result (λ k. Settles (archive_info_of archive) (backup_info_of backup) (backup_info_of k.backup)) }
+    ensures settled { IfOk result
+        (λ k. Settles (archive_info_of archive) (backup_info_of backup) (backup_info_of k.backup)) }
     ensures of { IfOk result (λ k. IsOf told.now (archive_info_of archive)) }
     ensures valid { IfOk result (λ k. IsBackupInfo (backup_info_of k.backup)) }
     ensures unfit { IfErr result (Unfit told.now (archive_info_of archive) (backup_info_of backup)) }

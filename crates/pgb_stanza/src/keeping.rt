@@ -26,9 +26,16 @@ fn keep_archive<D: Disk>(
     value: &ArchiveInfo,
 ) -> Result<(), SaveFault>
     requires { IsArchiveInfo (archive_info_of value.now) }
-    ensures crash { is_loose (D.state d.old).view (archive_info stanza.now) ≡ false → is_loose (D.state d.old).view (copy_of (archive_info stanza.now)) ≡ false → Crash (SomeOf (member_writes (archive_info stanza.now) (archive_text (archive_info_of value.now)))) (D.state d.old).view (D.state d.new).view }
-    ensures now_part { NowGoes (SomeOf (member_writes (archive_info stanza.now) (archive_text (archive_info_of value.now)))) (D.state d.old).view.now (D.state d.new).view.now }
-    ensures mended { OnOk result (IfSome (D.state d.new).view.now (HoldBoth (archive_info stanza.now) (archive_text (archive_info_of value.now)))) }
+    ensures crash { is_loose (D.state d.old).view (archive_info stanza.now) ≡ false
+        → is_loose (D.state d.old).view (copy_of (archive_info stanza.now)) ≡ false
+        → Crash (SomeOf (member_writes (archive_info stanza.now) (archive_text (archive_info_of value.now))))
+        (D.state d.old).view (D.state d.new).view }
+    ensures now_part { NowGoes
+        (SomeOf (member_writes (archive_info stanza.now) (archive_text (archive_info_of value.now))))
+        (D.state d.old).view.now (D.state d.new).view.now }
+    ensures mended { OnOk result
+        (IfSome (D.state d.new).view.now
+        (HoldBoth (archive_info stanza.now) (archive_text (archive_info_of value.now)))) }
     ensures frame { Frame (D.state d.old) (D.state d.new) }
     ensures cause { IsErrOf result SaveFault.Disk → Rises (D.state d.old).faults (D.state d.new).faults }
 {
@@ -45,9 +52,15 @@ fn keep_backup<D: Disk>(
     value: &BackupInfo,
 ) -> Result<(), SaveFault>
     requires { IsBackupInfo (backup_info_of value.now) }
-    ensures crash { is_loose (D.state d.old).view (backup_info stanza.now) ≡ false → is_loose (D.state d.old).view (copy_of (backup_info stanza.now)) ≡ false → Crash (SomeOf (member_writes (backup_info stanza.now) (backup_text (backup_info_of value.now)))) (D.state d.old).view (D.state d.new).view }
-    ensures now_part { NowGoes (SomeOf (member_writes (backup_info stanza.now) (backup_text (backup_info_of value.now)))) (D.state d.old).view.now (D.state d.new).view.now }
-    ensures mended { OnOk result (IfSome (D.state d.new).view.now (HoldBoth (backup_info stanza.now) (backup_text (backup_info_of value.now)))) }
+    ensures crash { is_loose (D.state d.old).view (backup_info stanza.now) ≡ false
+        → is_loose (D.state d.old).view (copy_of (backup_info stanza.now)) ≡ false
+        → Crash (SomeOf (member_writes (backup_info stanza.now) (backup_text (backup_info_of value.now))))
+        (D.state d.old).view (D.state d.new).view }
+    ensures now_part { NowGoes
+        (SomeOf (member_writes (backup_info stanza.now) (backup_text (backup_info_of value.now))))
+        (D.state d.old).view.now (D.state d.new).view.now }
+    ensures mended { OnOk result
+        (IfSome (D.state d.new).view.now (HoldBoth (backup_info stanza.now) (backup_text (backup_info_of value.now)))) }
     ensures frame { Frame (D.state d.old) (D.state d.new) }
     ensures cause { IsErrOf result SaveFault.Disk → Rises (D.state d.old).faults (D.state d.new).faults }
 {
@@ -65,9 +78,16 @@ pub(crate) fn keep_stanza<D: Disk>(
 ) -> Result<(), SaveFault>
     requires archive { IsArchiveInfo (archive_info_of kept.now.archive) }
     requires backup { IsBackupInfo (backup_info_of kept.now.backup) }
-    ensures crash { AreTight stanza.now (D.state d.old).view → Crash (SomeOf (mending_writes stanza.now (archive_text (archive_info_of kept.now.archive)) (backup_text (backup_info_of kept.now.backup)))) (D.state d.old).view (D.state d.new).view }
-    ensures now_part { NowGoes (SomeOf (mending_writes stanza.now (archive_text (archive_info_of kept.now.archive)) (backup_text (backup_info_of kept.now.backup)))) (D.state d.old).view.now (D.state d.new).view.now }
-    ensures mended { OnOk result (IsSome (D.state d.old).view.now → IfSome (D.state d.new).view.now (HaveTexts stanza.now (archive_text (archive_info_of kept.now.archive)) (backup_text (backup_info_of kept.now.backup)))) }
+    ensures crash { AreTight stanza.now (D.state d.old).view
+        → Crash (SomeOf (mending_writes stanza.now (archive_text (archive_info_of kept.now.archive))
+        (backup_text (backup_info_of kept.now.backup)))) (D.state d.old).view (D.state d.new).view }
+    ensures now_part { NowGoes
+        (SomeOf (mending_writes stanza.now (archive_text (archive_info_of kept.now.archive))
+        (backup_text (backup_info_of kept.now.backup)))) (D.state d.old).view.now (D.state d.new).view.now }
+    ensures mended { OnOk result (IsSome (D.state d.old).view.now
+        → IfSome (D.state d.new).view.now
+        (HaveTexts stanza.now (archive_text (archive_info_of kept.now.archive))
+        (backup_text (backup_info_of kept.now.backup)))) }
     ensures frame { Frame (D.state d.old) (D.state d.new) }
     ensures cause { IsErrOf result SaveFault.Disk → Rises (D.state d.old).faults (D.state d.new).faults }
 {

@@ -39,15 +39,21 @@ pub(crate) fn make_stanza<D: Disk>(
     control: &Control,
 ) -> Result<(), SaveFault>
     requires { IfSome (D.state d.old).view.now (LacksStanza stanza.now) }
-    ensures new { (r : Repository) → IsSome (D.state d.old).view.now → NowStands stanza.now r (D.state d.old).view.now → r ≡ None }
+    ensures new { (r : Repository) → IsSome (D.state d.old).view.now → NowStands stanza.now r (D.state d.old).view.now
+        → r ≡ None }
     ensures part { (r : Repository) → IsSome (D.state d.old).view.now → NowStands stanza.now r (D.state d.old).view.now
-        → NowStands stanza.now r (D.state d.new).view.now ⊎ NowStands stanza.now (step r (Create (first_cluster control.now))) (D.state d.new).view.now }
-    ensures done { OnOk result ((r : Repository) → IsSome (D.state d.old).view.now → NowStands stanza.now r (D.state d.old).view.now
+        → NowStands stanza.now r (D.state d.new).view.now ⊎ NowStands stanza.now
+            (step r (Create (first_cluster control.now))) (D.state d.new).view.now }
+    ensures done { OnOk result ((r : Repository) → IsSome (D.state d.old).view.now
+        → NowStands stanza.now r (D.state d.old).view.now
         → NowStands stanza.now (step r (Create (first_cluster control.now))) (D.state d.new).view.now) }
-    ensures members { OnOk result (IsSome (D.state d.old).view.now → IfSome (D.state d.new).view.now (HasNewPairs stanza.now (first_cluster control.now))) }
+    ensures members { OnOk result (IsSome (D.state d.old).view.now
+        → IfSome (D.state d.new).view.now (HasNewPairs stanza.now (first_cluster control.now))) }
     ensures moves { (r : Repository) → IsSteady stanza.now r (D.state d.old).view → IsSome (D.state d.old).view.now
-        → Moves stanza.now (λ g. Stands stanza.now g r ⊎ Stands stanza.now g (step r (Create (first_cluster control.now)))) (D.state d.old).view (D.state d.new).view }
-    ensures made { OnOk result ((r : Repository) → IsSteady stanza.now r (D.state d.old).view → IsSome (D.state d.old).view.now
+        → Moves stanza.now (λ g. Stands stanza.now g r ⊎ Stands stanza.now g
+            (step r (Create (first_cluster control.now)))) (D.state d.old).view (D.state d.new).view }
+    ensures made { OnOk result ((r : Repository) → IsSteady stanza.now r (D.state d.old).view
+        → IsSome (D.state d.old).view.now
         → IsSteady stanza.now (step r (Create (first_cluster control.now))) (D.state d.new).view) }
     ensures told { IsSome (D.state d.old).view.now → IsSome (D.state d.new).view.now }
     ensures frame { Frame (D.state d.old) (D.state d.new) }

@@ -26,11 +26,14 @@ fn read_pair<D: Disk, I: ReadInfo>(
     d: &mut D,
     name: &str,
 ) -> Result<Option<I>, StanzaFault>
-    ensures found { IfOk result (λ o. IfSome o (λ v. IfSome (D.state d.old).view.now (λ f. PairIs I.IsText f name.now (I.value v)))) }
+    ensures found { IfOk result
+        (λ o. IfSome o (λ v. IfSome (D.state d.old).view.now (λ f. PairIs I.IsText f name.now (I.value v)))) }
     ensures missing { IfOk result (λ o. IfNone o (IfSome (D.state d.old).view.now (λ f. PairAbsent f name.now))) }
     ensures valid { IfOk result (λ o. IfSome o I.is_valid) }
     ensures looks { Looks (D.state d.old) (D.state d.new) }
-    ensures cause { IfErr result (ReadCause I.IsText I.IsForm I.limit name.now (D.state d.old).view.now (Rises (D.state d.old).faults (D.state d.new).faults)) }
+    ensures cause { IfErr result
+        (ReadCause I.IsText I.IsForm I.limit name.now (D.state d.old).view.now
+        (Rises (D.state d.old).faults (D.state d.new).faults)) }
     ensures label { IfErr result (λ e. IfLost e IsLabel) }
 {
     match load_pair::<D, I>(alloc, d, name) {
@@ -55,8 +58,12 @@ fn judge(
 ) -> Result<Option<Kept>, StanzaFault>
     requires archive { IfSome archive (λ a. IsArchiveInfo (archive_info_of a)) }
     requires backup { IfSome backup (λ b. IsBackupInfo (backup_info_of b)) }
-    ensures nothing { IfOk result (λ o. IfNone o ((archive ≡ None) × IfSome backup (λ b. (backup_info_of b).backups ≡ []))) }
-    ensures kept { IfOk result (λ o. IfSome o (λ k. (archive ≡ Some k.archive) × IsSomeAnd backup (λ b. Settles (archive_info_of k.archive) (backup_info_of b) (backup_info_of k.backup)) × IsOf told.now (archive_info_of k.archive))) }
+    ensures nothing { IfOk result
+        (λ o. IfNone o ((archive ≡ None) × IfSome backup (λ b. (backup_info_of b).backups ≡ []))) }
+    ensures kept { IfOk result
+        (λ o. IfSome o (λ k. (archive ≡ Some k.archive) × IsSomeAnd backup
+        (λ b. Settles (archive_info_of k.archive) (backup_info_of b) (backup_info_of k.backup))
+        × IsOf told.now (archive_info_of k.archive))) }
     ensures archive { IfOk result (λ o. IfSome o (λ k. IsArchiveInfo (archive_info_of k.archive))) }
     ensures backup { IfOk result (λ o. IfSome o (λ k. IsBackupInfo (backup_info_of k.backup))) }
     ensures refused { IfErr result (Refuses told.now archive backup name) }
@@ -85,11 +92,15 @@ pub(crate) fn look<D: Disk>(
     told: &Control,
 ) -> Result<Option<Kept>, StanzaFault>
     ensures lacking { IfOk result (λ o. IfNone o (IfSome (D.state d.old).view.now (LacksStanza stanza.now))) }
-    ensures kept { IfOk result (λ o. IfSome o (λ k. IfSome (D.state d.old).view.now (λ f. KeepsStanza stanza.now told.now f (archive_info_of k.archive) (backup_info_of k.backup)))) }
+    ensures kept { IfOk result
+        (λ o. IfSome o (λ k. IfSome (D.state d.old).view.now
+        (λ f. KeepsStanza stanza.now told.now f (archive_info_of k.archive) (backup_info_of k.backup)))) }
     ensures archive { IfOk result (λ o. IfSome o (λ k. IsArchiveInfo (archive_info_of k.archive))) }
     ensures backup { IfOk result (λ o. IfSome o (λ k. IsBackupInfo (backup_info_of k.backup))) }
     ensures looks { Looks (D.state d.old) (D.state d.new) }
-    ensures cause { IfErr result (CreateCause stanza.now told.now (D.state d.old).view.now (Rises (D.state d.old).faults (D.state d.new).faults)) }
+    ensures cause { IfErr result
+        (CreateCause stanza.now told.now (D.state d.old).view.now
+        (Rises (D.state d.old).faults (D.state d.new).faults)) }
     ensures label { IfErr result (λ e. IfLost e IsLabel) }
 {
     let archive_name = archive_info_name(alloc, stanza)?;

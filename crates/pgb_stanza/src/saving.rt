@@ -45,10 +45,19 @@ fn save_backup<D: Disk>(
 ) -> Result<(), SaveFault>
     requires first { cluster.now.id ≡ 1 }
     requires is_cluster { IsCluster cluster.now }
-    ensures crash { is_loose (D.state d.old).view (backup_info stanza.now) ≡ false → is_loose (D.state d.old).view (copy_of (backup_info stanza.now)) ≡ false → Crash (FirstOf (member_writes (backup_info stanza.now) (first_backup_text cluster.now))) (D.state d.old).view (D.state d.new).view }
-    ensures whole { OnOk result (is_loose (D.state d.old).view (backup_info stanza.now) ≡ false → is_loose (D.state d.old).view (copy_of (backup_info stanza.now)) ≡ false → Ends (AllOf (member_writes (backup_info stanza.now) (first_backup_text cluster.now))) (D.state d.old).view (D.state d.new).view) }
-    ensures now_part { NowGoes (FirstOf (member_writes (backup_info stanza.now) (first_backup_text cluster.now))) (D.state d.old).view.now (D.state d.new).view.now }
-    ensures now_whole { OnOk result (NowGoes (AllOf (member_writes (backup_info stanza.now) (first_backup_text cluster.now))) (D.state d.old).view.now (D.state d.new).view.now) }
+    ensures crash { is_loose (D.state d.old).view (backup_info stanza.now) ≡ false
+        → is_loose (D.state d.old).view (copy_of (backup_info stanza.now)) ≡ false
+        → Crash (FirstOf (member_writes (backup_info stanza.now) (first_backup_text cluster.now))) (D.state d.old).view
+        (D.state d.new).view }
+    ensures whole { OnOk result (is_loose (D.state d.old).view (backup_info stanza.now) ≡ false
+        → is_loose (D.state d.old).view (copy_of (backup_info stanza.now)) ≡ false
+        → Ends (AllOf (member_writes (backup_info stanza.now) (first_backup_text cluster.now))) (D.state d.old).view
+        (D.state d.new).view) }
+    ensures now_part { NowGoes (FirstOf (member_writes (backup_info stanza.now) (first_backup_text cluster.now)))
+        (D.state d.old).view.now (D.state d.new).view.now }
+    ensures now_whole { OnOk result
+        (NowGoes (AllOf (member_writes (backup_info stanza.now) (first_backup_text cluster.now)))
+        (D.state d.old).view.now (D.state d.new).view.now) }
     ensures frame { Frame (D.state d.old) (D.state d.new) }
     ensures cause { IsErrOf result SaveFault.Disk → Rises (D.state d.old).faults (D.state d.new).faults }
 {
@@ -67,10 +76,19 @@ fn save_archive<D: Disk>(
 ) -> Result<(), SaveFault>
     requires first { cluster.now.id ≡ 1 }
     requires is_cluster { IsCluster cluster.now }
-    ensures crash { is_loose (D.state d.old).view (archive_info stanza.now) ≡ false → is_loose (D.state d.old).view (copy_of (archive_info stanza.now)) ≡ false → Crash (FirstOf (member_writes (archive_info stanza.now) (first_archive_text cluster.now))) (D.state d.old).view (D.state d.new).view }
-    ensures whole { OnOk result (is_loose (D.state d.old).view (archive_info stanza.now) ≡ false → is_loose (D.state d.old).view (copy_of (archive_info stanza.now)) ≡ false → Ends (AllOf (member_writes (archive_info stanza.now) (first_archive_text cluster.now))) (D.state d.old).view (D.state d.new).view) }
-    ensures now_part { NowGoes (FirstOf (member_writes (archive_info stanza.now) (first_archive_text cluster.now))) (D.state d.old).view.now (D.state d.new).view.now }
-    ensures now_whole { OnOk result (NowGoes (AllOf (member_writes (archive_info stanza.now) (first_archive_text cluster.now))) (D.state d.old).view.now (D.state d.new).view.now) }
+    ensures crash { is_loose (D.state d.old).view (archive_info stanza.now) ≡ false
+        → is_loose (D.state d.old).view (copy_of (archive_info stanza.now)) ≡ false
+        → Crash (FirstOf (member_writes (archive_info stanza.now) (first_archive_text cluster.now)))
+        (D.state d.old).view (D.state d.new).view }
+    ensures whole { OnOk result (is_loose (D.state d.old).view (archive_info stanza.now) ≡ false
+        → is_loose (D.state d.old).view (copy_of (archive_info stanza.now)) ≡ false
+        → Ends (AllOf (member_writes (archive_info stanza.now) (first_archive_text cluster.now))) (D.state d.old).view
+        (D.state d.new).view) }
+    ensures now_part { NowGoes (FirstOf (member_writes (archive_info stanza.now) (first_archive_text cluster.now)))
+        (D.state d.old).view.now (D.state d.new).view.now }
+    ensures now_whole { OnOk result
+        (NowGoes (AllOf (member_writes (archive_info stanza.now) (first_archive_text cluster.now)))
+        (D.state d.old).view.now (D.state d.new).view.now) }
     ensures frame { Frame (D.state d.old) (D.state d.new) }
     ensures cause { IsErrOf result SaveFault.Disk → Rises (D.state d.old).faults (D.state d.new).faults }
 {
@@ -89,10 +107,14 @@ pub(crate) fn save_pairs<D: Disk>(
 ) -> Result<(), SaveFault>
     requires first { cluster.now.id ≡ 1 }
     requires is_cluster { IsCluster cluster.now }
-    ensures crash { AreTight stanza.now (D.state d.old).view → Crash (FirstOf (pair_writes stanza.now cluster.now)) (D.state d.old).view (D.state d.new).view }
-    ensures whole { OnOk result (AreTight stanza.now (D.state d.old).view → Ends (AllOf (pair_writes stanza.now cluster.now)) (D.state d.old).view (D.state d.new).view) }
-    ensures now_part { NowGoes (FirstOf (pair_writes stanza.now cluster.now)) (D.state d.old).view.now (D.state d.new).view.now }
-    ensures now_whole { OnOk result (NowGoes (AllOf (pair_writes stanza.now cluster.now)) (D.state d.old).view.now (D.state d.new).view.now) }
+    ensures crash { AreTight stanza.now (D.state d.old).view
+        → Crash (FirstOf (pair_writes stanza.now cluster.now)) (D.state d.old).view (D.state d.new).view }
+    ensures whole { OnOk result (AreTight stanza.now (D.state d.old).view
+        → Ends (AllOf (pair_writes stanza.now cluster.now)) (D.state d.old).view (D.state d.new).view) }
+    ensures now_part { NowGoes (FirstOf (pair_writes stanza.now cluster.now)) (D.state d.old).view.now
+        (D.state d.new).view.now }
+    ensures now_whole { OnOk result
+        (NowGoes (AllOf (pair_writes stanza.now cluster.now)) (D.state d.old).view.now (D.state d.new).view.now) }
     ensures frame { Frame (D.state d.old) (D.state d.new) }
     ensures cause { IsErrOf result SaveFault.Disk → Rises (D.state d.old).faults (D.state d.new).faults }
 {

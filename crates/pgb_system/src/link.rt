@@ -87,7 +87,8 @@ impl RealLink {
     }
 
     fn put(&mut self, frame: &[u8]) -> io::Result<()>
-        ensures { (self.new.jobs ≡ self.old.jobs) × (self.new.reads ≡ self.old.reads) × (self.new.given ≡ self.old.given) × (self.new.faults ≡ self.old.faults) }
+        ensures { (self.new.jobs ≡ self.old.jobs) × (self.new.reads ≡ self.old.reads)
+            × (self.new.given ≡ self.old.given) × (self.new.faults ≡ self.old.faults) }
     {
         if self.started.is_none() {
             self.started = Some(start(&self.rt, self.program.as_str(), &self.words)?);
@@ -103,7 +104,8 @@ impl RealLink {
 
     fn take(&mut self, buf: &mut [u8]) -> io::Result<usize>
         ensures room { IfOk result (λ n. n ≤ length buf.old) }
-        ensures same { (self.new.jobs ≡ self.old.jobs) × (self.new.reads ≡ self.old.reads) × (self.new.given ≡ self.old.given) × (self.new.faults ≡ self.old.faults) }
+        ensures same { (self.new.jobs ≡ self.old.jobs) × (self.new.reads ≡ self.old.reads)
+            × (self.new.given ≡ self.old.given) × (self.new.faults ≡ self.old.faults) }
     {
         match &mut self.started {
             Some(started) => read_some(&mut started.output, buf),
@@ -127,7 +129,8 @@ impl RealLink {
 }
 
 impl Link for RealLink {
-    ghost link_state = { λ l. record { faults = l.faults.count; jobs = l.jobs; reads = l.reads; given = tail_of l.given; told = None } };
+    ghost link_state = { λ l. record { faults = l.faults.count; jobs = l.jobs; reads = l.reads;
+        given = tail_of l.given; told = None } };
 
     fn send(&mut self, bytes: &[u8]) -> Result<(), Stop> {
         let done = self.put(bytes);

@@ -27,7 +27,8 @@ fn links_to(
     fails: &[&[u64]],
 ) -> Result<Vec<MemLink>, AllocError>
     ensures count { IfOk result (λ links. length links.items ≡ length fails.now) }
-    ensures ready { IfOk result (λ links. (i : ℕ) (s : LinkState) → slice_get (map ⟦<MemLink as Link>⟧.link_state links.items) i ≡ Some s → IsReady s) }
+    ensures ready { IfOk result (λ links. (i : ℕ) (s : LinkState)
+        → slice_get (map ⟦<MemLink as Link>⟧.link_state links.items) i ≡ Some s → IsReady s) }
 {
     let mut links = Vec::new(alloc);
     for fail in fails {

@@ -70,8 +70,10 @@ fn page_info(bytes: &[u8]) -> u16
 pub fn check_front(front: &[u8], count: u64, system: u64) -> Result<SegSize, HeaderFault>
     requires long { (40 ≤ length front.now) ⊎ (length front.now ≡ count) }
     requires within { length front.now ≤ count }
-    ensures valid { IfOk result (λ size. (bytes : Text) → BeginsWith front.now count bytes → IsOfSystem bytes system size.0) }
-    ensures refused { IfErr result (λ fault. (bytes : Text) → BeginsWith front.now count bytes → IsRefused bytes system fault) }
+    ensures valid { IfOk result (λ size. (bytes : Text) → BeginsWith front.now count bytes
+        → IsOfSystem bytes system size.0) }
+    ensures refused { IfErr result (λ fault. (bytes : Text) → BeginsWith front.now count bytes
+        → IsRefused bytes system fault) }
 {
     let info = page_info(front);
     if count < 40 || info & LONG_HEADER == 0 {
