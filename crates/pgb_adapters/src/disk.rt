@@ -41,8 +41,12 @@ impl RealDisk {
 }
 
 impl Disk for RealDisk {
-    ghost state = { λ d. record { view = record { now = None; moment = 0; kept = λ _ _ _. ⊥; loose = λ _ _. false };
-        opened = map string_bytes d.place.opened.items; misuses = 0; faults = d.faults.count } };
+    ghost state = { λ d. record {
+      view = record { now = None; moment = 0; kept = λ _ _ _. ⊥; loose = λ _ _. false };
+      opened = map string_bytes d.place.opened.items;
+      misuses = 0;
+      faults = d.faults.count;
+    } };
 
     ghost now_may_be_left = { λ d n v h. absurd h };
 

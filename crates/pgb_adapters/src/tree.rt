@@ -42,8 +42,12 @@ impl RealTree {
 }
 
 impl Tree for RealTree {
-    ghost state = { λ t. record { nodes = None; opened = map string_bytes t.place.opened.items; misuses = 0;
-        faults = t.faults.count } };
+    ghost state = { λ t. record {
+      nodes = None;
+      opened = map string_bytes t.place.opened.items;
+      misuses = 0;
+      faults = t.faults.count;
+    } };
 
     fn open(&mut self, path: &str) -> Result<(), Stop> {
         self.handles.forget();

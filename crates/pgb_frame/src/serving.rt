@@ -69,7 +69,7 @@ fn serve_next<I: Source, O: Sink, F: Files, G: Files>(
     ensures told { (ft fr : Content) (rest : Text) → F.files tree.old ≡ Some ft → G.files repo.old ≡ Some fr
         → I.left input.old ≡ Some rest
         → ServedNext ft fr (FailedRoot opened (F.faults tree.old) (G.faults repo.old) (F.faults tree.new)
-            (G.faults repo.new)) start rest result (I.left input.new) (O.written out.old) (O.written out.new) }
+        (G.faults repo.new)) start rest result (I.left input.new) (O.written out.old) (O.written out.new) }
     ensures room { length room.new ≡ length room.old }
     ensures tree { F.files tree.new ≡ F.files tree.old }
     ensures repo { G.files repo.new ≡ G.files repo.old }
@@ -139,7 +139,7 @@ fn serve_jobs<I: Source, O: Sink, F: Files, G: Files>(
     ensures served { (ft fr : Content) (rest : Text) → F.files tree.old ≡ Some ft → G.files repo.old ≡ Some fr
         → I.left input.old ≡ Some rest
         → ServedJobs ft fr (NotOpened opened) (counts (F.faults tree.old) (G.faults repo.old))
-            (counts (F.faults tree.new) (G.faults repo.new)) start rest result (O.written out.old) (O.written out.new) }
+        (counts (F.faults tree.new) (G.faults repo.new)) start rest result (O.written out.old) (O.written out.new) }
     ensures tree { F.files tree.new ≡ F.files tree.old }
     ensures repo { G.files repo.new ≡ G.files repo.old }
     ensures tree_place { F.place tree.new ≡ F.place tree.old }
@@ -182,8 +182,8 @@ pub fn serve<I: Source, O: Sink, F: Files, G: Files>(
     ensures served { (ft fr : Content) (bytes : Text) → F.files tree.old ≡ Some ft → G.files repo.old ≡ Some fr
         → I.left input.old ≡ Some bytes
         → Served ft fr bytes (counts (F.faults tree.old) (G.faults repo.old))
-            (counts (F.faults tree.new) (G.faults repo.new)) (F.place tree.new) (G.place repo.new) result
-            (O.written out.old) (O.written out.new) }
+        (counts (F.faults tree.new) (G.faults repo.new)) (F.place tree.new) (G.place repo.new) result
+        (O.written out.old) (O.written out.new) }
     ensures read { IsErrOf result InputFailed → Rises (I.faults input.old) (I.faults input.new) }
     ensures sink { IsErrOf result OutputFailed → Rises (O.faults out.old) (O.faults out.new) }
     ensures tree { F.files tree.new ≡ F.files tree.old }

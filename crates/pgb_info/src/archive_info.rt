@@ -34,8 +34,10 @@ fn current_part(alloc: Global, c: &ClusterId) -> Result<Part, NoMemory>
 }
 
 fn history_part(alloc: Global, history: &[ClusterId]) -> Result<Part, NoMemory>
-    ensures { IfOk result (λ p. section_of p ≡ record { name = codes "db:history";
-        keys = by_key (map cluster_id_field history.now) }) }
+    ensures { IfOk result (λ p. section_of p ≡ record {
+      name = codes "db:history";
+      keys = by_key (map cluster_id_field history.now);
+    }) }
 {
     let mut part = Part::new(alloc, "db:history")?;
     for c in history {

@@ -20,8 +20,10 @@ use std::alloc::Global;
 
 fn listed_part(alloc: Global, backups: &[Entry]) -> Result<Part, NoMemory>
     requires { AllByRecursion (λ e. HasLabels (entry_of e)) backups.now }
-    ensures { IfOk result (λ p. section_of p ≡ record { name = codes "backup:current";
-        keys = map entry_field (map entry_of backups.now) }) }
+    ensures { IfOk result (λ p. section_of p ≡ record {
+      name = codes "backup:current";
+      keys = map entry_field (map entry_of backups.now);
+    }) }
 {
     let mut part = Part::new(alloc, "backup:current")?;
     for e in backups {
@@ -82,8 +84,10 @@ pub fn cluster_part(alloc: Global, name: &str, c: &Cluster) -> Result<Part, NoMe
 }
 
 fn history_part(alloc: Global, history: &[Cluster]) -> Result<Part, NoMemory>
-    ensures { IfOk result (λ p. section_of p ≡ record { name = codes "db:history";
-        keys = by_key (map cluster_field history.now) }) }
+    ensures { IfOk result (λ p. section_of p ≡ record {
+      name = codes "db:history";
+      keys = by_key (map cluster_field history.now);
+    }) }
 {
     let mut part = Part::new(alloc, "db:history")?;
     for c in history {

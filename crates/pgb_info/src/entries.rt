@@ -74,7 +74,7 @@ fn add_log(
     ensures { OnOk result (members_view members.new.entries
         ≡ put (codes "backup-archive-stop") (or_null (λ s. segment_value s.stop) span)
         (put (codes "backup-archive-start") (or_null (λ s. segment_value s.start) span)
-            (members_view members.old.entries))) }
+        (members_view members.old.entries))) }
 {
     put(
         members,

@@ -147,8 +147,12 @@ impl MemDisk {
 }
 
 impl Disk for MemDisk {
-    ghost state = { λ d. record { view = view_of d.held; opened = map string_bytes d.opened.items;
-        misuses = d.failing.misuses; faults = d.failing.faults } };
+    ghost state = { λ d. record {
+      view = view_of d.held;
+      opened = map string_bytes d.opened.items;
+      misuses = d.failing.misuses;
+      faults = d.failing.faults;
+    } };
 
     ghost now_may_be_left = { λ d n v holds. may_be_left (first_state d.held.given.items)
         (fair_first d.held.given.items) d.held.changes.items n v holds };

@@ -117,8 +117,12 @@ impl MemTree {
 }
 
 impl Tree for MemTree {
-    ghost state = { λ t. record { nodes = Some (nodes_at t.nodes); opened = map string_bytes t.opened.items;
-        misuses = t.failing.misuses; faults = t.failing.faults } };
+    ghost state = { λ t. record {
+      nodes = Some (nodes_at t.nodes);
+      opened = map string_bytes t.opened.items;
+      misuses = t.failing.misuses;
+      faults = t.failing.faults;
+    } };
 
     fn open(&mut self, path: &str) -> Result<(), Stop>
         ensures opens { Opens result path.now (map string_bytes self.old.opened.items)

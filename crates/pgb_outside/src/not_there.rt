@@ -32,8 +32,12 @@ impl NotThere {
 }
 
 impl Disk for NotThere {
-    ghost state = { λ it. record { view = record { now = None; moment = 0; kept = λ _ _ _. ⊥; loose = λ _ _. false };
-        opened = []; misuses = 0; faults = it.faults } };
+    ghost state = { λ it. record {
+      view = record { now = None; moment = 0; kept = λ _ _ _. ⊥; loose = λ _ _. false };
+      opened = [];
+      misuses = 0;
+      faults = it.faults;
+    } };
 
     ghost now_may_be_left = { λ d n v h. absurd h };
 

@@ -76,13 +76,13 @@ fn store<D: Disk, T: Tree>(
     ensures does { (command : Command)
         → IsSomeAnd (T.state tree.old).nodes (λ f. IsPushOf f order.now.folder.now order.now.path.now command)
         → Does Looked stanza.now command (reached_by push_early result) (D.state repo.old).view
-            (D.state repo.new).view }
+        (D.state repo.new).view }
     ensures stored { IfOk result (λ o. OnFinished o (IsStored stanza.now order.now.folder.now order.now.path.now
         (T.state tree.old).nodes (D.state repo.old).view.now (D.state repo.new).view.now)) }
     // No stop takes it away.
     ensures lasts { IfOk result (λ o. IsTight stanza.now (D.state repo.old).view → IsSome (D.state repo.old).view.now
         → OnFinished o (λ lines. IsLasting stanza.now order.now.folder.now order.now.path.now
-            (D.state repo.new).view)) }
+        (D.state repo.new).view)) }
     ensures agrees { IfSome (D.state repo.old).view.now (AgreesAtPair stanza.now) → IsSome (D.state repo.old).view.now
         → IfSome (D.state repo.new).view.now (AgreesAtPair stanza.now) }
     ensures rest { OnNone (reached_by push_early result) (IsStill (D.state repo.old).view (D.state repo.new).view) }
@@ -132,13 +132,13 @@ pub fn push_file<D: Disk, T: Tree>(
     ensures does { (command : Command)
         → IsSomeAnd (T.state tree.old).nodes (λ f. IsPushOf f order.entry.folder.now order.entry.path.now command)
         → Does Looked stanza.now command (reached_by push_early result) (D.state repo.old).view
-            (D.state repo.new).view }
+        (D.state repo.new).view }
     ensures stored { IfOk result (λ o. OnFinished o (IsStored stanza.now order.entry.folder.now order.entry.path.now
         (T.state tree.old).nodes (D.state repo.old).view.now (D.state repo.new).view.now)) }
     // No stop takes it away.
     ensures lasts { IfOk result (λ o. IsTight stanza.now (D.state repo.old).view → IsSome (D.state repo.old).view.now
         → OnFinished o (λ lines. IsLasting stanza.now order.entry.folder.now order.entry.path.now
-            (D.state repo.new).view)) }
+        (D.state repo.new).view)) }
     ensures agrees { IfSome (D.state repo.old).view.now (AgreesAtPair stanza.now) → IsSome (D.state repo.old).view.now
         → IfSome (D.state repo.new).view.now (AgreesAtPair stanza.now) }
     ensures rest { OnNone (reached_by push_early result) (IsStill (D.state repo.old).view (D.state repo.new).view) }

@@ -40,13 +40,13 @@ pub fn create<D: Disk>(
     // After every answer, and after every stop, the stanza is as before or made, and at Ok it is made.
     ensures part { (r : Repository) → IsSome (D.state d.old).view.now → NowStands stanza.now r (D.state d.old).view.now
         → NowStands stanza.now r (D.state d.new).view.now ⊎ NowStands stanza.now
-            (step r (Create (first_cluster control.now))) (D.state d.new).view.now }
+        (step r (Create (first_cluster control.now))) (D.state d.new).view.now }
     ensures done { OnOk result ((r : Repository) → IsSome (D.state d.old).view.now
         → NowStands stanza.now r (D.state d.old).view.now
         → NowStands stanza.now (step r (Create (first_cluster control.now))) (D.state d.new).view.now) }
     ensures moves { (r : Repository) → IsSteady stanza.now r (D.state d.old).view → IsSome (D.state d.old).view.now
         → Moves stanza.now (λ g. Stands stanza.now g r ⊎ Stands stanza.now g
-            (step r (Create (first_cluster control.now)))) (D.state d.old).view (D.state d.new).view }
+        (step r (Create (first_cluster control.now)))) (D.state d.old).view (D.state d.new).view }
     ensures made { OnOk result ((r : Repository) → IsSteady stanza.now r (D.state d.old).view
         → IsSome (D.state d.old).view.now
         → IsSteady stanza.now (step r (Create (first_cluster control.now))) (D.state d.new).view) }

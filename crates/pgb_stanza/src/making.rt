@@ -43,7 +43,7 @@ pub(crate) fn make_stanza<D: Disk>(
         → r ≡ None }
     ensures part { (r : Repository) → IsSome (D.state d.old).view.now → NowStands stanza.now r (D.state d.old).view.now
         → NowStands stanza.now r (D.state d.new).view.now ⊎ NowStands stanza.now
-            (step r (Create (first_cluster control.now))) (D.state d.new).view.now }
+        (step r (Create (first_cluster control.now))) (D.state d.new).view.now }
     ensures done { OnOk result ((r : Repository) → IsSome (D.state d.old).view.now
         → NowStands stanza.now r (D.state d.old).view.now
         → NowStands stanza.now (step r (Create (first_cluster control.now))) (D.state d.new).view.now) }
@@ -51,7 +51,7 @@ pub(crate) fn make_stanza<D: Disk>(
         → IfSome (D.state d.new).view.now (HasNewPairs stanza.now (first_cluster control.now))) }
     ensures moves { (r : Repository) → IsSteady stanza.now r (D.state d.old).view → IsSome (D.state d.old).view.now
         → Moves stanza.now (λ g. Stands stanza.now g r ⊎ Stands stanza.now g
-            (step r (Create (first_cluster control.now)))) (D.state d.old).view (D.state d.new).view }
+        (step r (Create (first_cluster control.now)))) (D.state d.old).view (D.state d.new).view }
     ensures made { OnOk result ((r : Repository) → IsSteady stanza.now r (D.state d.old).view
         → IsSome (D.state d.old).view.now
         → IsSteady stanza.now (step r (Create (first_cluster control.now))) (D.state d.new).view) }

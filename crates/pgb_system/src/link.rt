@@ -129,8 +129,13 @@ impl RealLink {
 }
 
 impl Link for RealLink {
-    ghost link_state = { λ l. record { faults = l.faults.count; jobs = l.jobs; reads = l.reads;
-        given = tail_of l.given; told = None } };
+    ghost link_state = { λ l. record {
+      faults = l.faults.count;
+      jobs = l.jobs;
+      reads = l.reads;
+      given = tail_of l.given;
+      told = None;
+    } };
 
     fn send(&mut self, bytes: &[u8]) -> Result<(), Stop> {
         let done = self.put(bytes);
