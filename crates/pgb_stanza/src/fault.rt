@@ -3,7 +3,7 @@ ghost use Rattle.std.specs.Prelude.{◌≡◌};
 ghost use Rattle.pgb_stanza.specs.declared.fault.StanzaFault.TheVariants.{NoMemory as WithoutMemory};
 ghost use Rattle.pgb_stanza.specs.Fault.{fault_of};
 
-use pgb_info::{MemberFault, SaveFault};
+use pgb_pair::{MemberFault, SaveFault};
 use pgb_model::Label;
 use std::alloc::AllocError;
 

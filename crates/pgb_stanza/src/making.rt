@@ -13,7 +13,7 @@ ghost use Rattle.pgb_stanza.specs.Pairs.{LacksStanza, PairsAgree};
 
 use crate::control::Control;
 use crate::saving::save_pairs;
-use pgb_info::SaveFault;
+use pgb_pair::SaveFault;
 use pgb_model::Cluster;
 use pgb_outside::Disk;
 use std::alloc::Global;

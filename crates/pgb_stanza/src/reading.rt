@@ -15,7 +15,7 @@ use crate::control::Control;
 use crate::fault::StanzaFault;
 use crate::judging::{Kept, fit, lists_nothing};
 use crate::names::{archive_info_name, backup_info_name};
-use pgb_info::{InfoFault, MemberFault, ReadInfo, load_pair};
+use pgb_pair::{InfoFault, MemberFault, ReadInfo, load_pair};
 use pgb_model::{ArchiveInfo, BackupInfo};
 use pgb_outside::Disk;
 use std::alloc::Global;

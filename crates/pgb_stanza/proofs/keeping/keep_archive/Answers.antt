@@ -6,7 +6,7 @@ use Rattle.pgb_model.specs.Text.{Text}
 use Rattle.pgb_model.specs.Names.{archive_info, copy_of}
 use Rattle.pgb_model.specs.Create.{member_writes}
 use Rattle.pgb_model.specs.Values.{archive_info_of}
-use Rattle.pgb_info.proofs.Mends.{no_writes}
+use Rattle.pgb_pair.proofs.Mends.{no_writes}
 use Rattle.pgb_stanza.specs.Mending.{archive_text, HoldBoth}
 use Rattle.pgb_stanza.proofs.Saves.{archive_name_is}
 use Rattle.pgb_stanza.proofs.keeping.keep_archive.Goals as goal

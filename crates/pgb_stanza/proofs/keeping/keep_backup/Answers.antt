@@ -6,7 +6,7 @@ use Rattle.pgb_model.specs.Text.{Text}
 use Rattle.pgb_model.specs.Names.{backup_info, copy_of}
 use Rattle.pgb_model.specs.Create.{member_writes}
 use Rattle.pgb_model.specs.Values.{backup_info_of}
-use Rattle.pgb_info.proofs.Mends.{no_writes}
+use Rattle.pgb_pair.proofs.Mends.{no_writes}
 use Rattle.pgb_stanza.specs.Mending.{backup_text, HoldBoth}
 use Rattle.pgb_stanza.proofs.Saves.{backup_name_is}
 use Rattle.pgb_stanza.proofs.keeping.keep_backup.Goals as goal
