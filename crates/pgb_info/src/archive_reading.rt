@@ -10,14 +10,12 @@ ghost use Rattle.pgb_keys.specs.Fault.{IfForm};
 ghost use Rattle.pgb_info.specs.ArchiveForm.{section_names, IsArchiveForm};
 
 use crate::archive_current::current_of;
-use pgb_pair::MemberFault;
 use crate::history::history_of;
-use pgb_pair::ReadInfo;
 use crate::limits::LIMIT;
-use pgb_pair::sections_in;
 use pgb_ini::Part;
 use pgb_keys::{PartsFault, form, part_of};
 use pgb_model::ArchiveInfo;
+use pgb_pair::{MemberFault, ReadInfo, sections_in};
 use pgb_text::NoMemory;
 use std::alloc::Global;
 

@@ -3,8 +3,8 @@ ghost use Rattle.std.specs.Prelude.{◌≡◌};
 ghost use Rattle.pgb_stanza.specs.declared.fault.StanzaFault.TheVariants.{NoMemory as WithoutMemory};
 ghost use Rattle.pgb_stanza.specs.Fault.{fault_of};
 
-use pgb_pair::{MemberFault, SaveFault};
 use pgb_model::Label;
+use pgb_pair::{MemberFault, SaveFault};
 use std::alloc::AllocError;
 
 /// A cluster by its system identifier and its major version.

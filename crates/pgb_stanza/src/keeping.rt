@@ -13,9 +13,9 @@ ghost use Rattle.pgb_stanza.specs.Mending.{archive_text, backup_text, mending_wr
 
 use crate::judging::Kept;
 use crate::names::{archive_info_name, backup_info_name};
-use pgb_pair::{SaveFault, mend_pair};
 use pgb_model::{ArchiveInfo, BackupInfo};
 use pgb_outside::Disk;
+use pgb_pair::{SaveFault, mend_pair};
 use std::alloc::Global;
 
 // Gives each member of the archive pair the value's text, where it hasn't it.

@@ -15,9 +15,9 @@ use crate::control::Control;
 use crate::fault::StanzaFault;
 use crate::judging::{Kept, fit, lists_nothing};
 use crate::names::{archive_info_name, backup_info_name};
-use pgb_pair::{InfoFault, MemberFault, ReadInfo, load_pair};
 use pgb_model::{ArchiveInfo, BackupInfo};
 use pgb_outside::Disk;
+use pgb_pair::{InfoFault, MemberFault, ReadInfo, load_pair};
 use std::alloc::Global;
 
 // The value of a pair, or none where neither member is there.

@@ -12,9 +12,9 @@ ghost use Rattle.pgb_model.specs.Create.{first_archive, first_backup, first_arch
 
 use crate::judging::identity_of;
 use crate::names::{archive_info_name, backup_info_name};
-use pgb_pair::{SaveFault, save_pair};
 use pgb_model::{ArchiveInfo, BackupInfo, Cluster};
 use pgb_outside::Disk;
+use pgb_pair::{SaveFault, save_pair};
 use std::alloc::{AllocError, Global};
 
 fn first_backup(alloc: Global, cluster: &Cluster) -> Result<BackupInfo, AllocError>
