@@ -1,9 +1,9 @@
 -- Each option has its place in the table.
 use Rattle.std.proofs.Common.{arith, refl}
 use Rattle.std.specs.List.{Contains}
-use Rattle.pgb_options.specs.declared.table.TheConstants.{TABLE}
-use Rattle.pgb_options.specs.declared.table.Opt.{Opt}
-use Rattle.pgb_options.specs.declared.table.Opt.TheVariants.{Stanza, Pg1Path, Pg1Port, Pg1SocketPath, Pg1User, Pg1Database, Repo1Path, Repo1Type, Repo1CipherType, CompressType, Repo1RetentionFull, Repo1RetentionDiff, Repo1RetentionArchive, Repo1RetentionArchiveType, Repo1Bundle, Repo1BundleSize, Repo1BundleLimit, ProcessMax, BackupType, RestoreType, Delta, Online, StartFast, ArchiveTimeout, ArchiveAsync, ArchiveGetQueueMax, SpoolPath, LockPath, Set, ExpireAuto, Output, Number, Config, LogLevelConsole, LogLevelFile, LogLevelStderr, LogPath, LogTimestamp, BufferSize, CompressLevel, CompressLevelNetwork, DbTimeout, ProtocolTimeout, IoTimeout, ArchiveModeCheck}
+use Rattle.pgb_table.specs.declared.table.TheConstants.{TABLE}
+use Rattle.pgb_table.specs.declared.table.Opt.{Opt}
+use Rattle.pgb_table.specs.declared.table.Opt.TheVariants.{Stanza, Pg1Path, Pg1Port, Pg1SocketPath, Pg1User, Pg1Database, Repo1Path, Repo1Type, Repo1CipherType, CompressType, Repo1RetentionFull, Repo1RetentionDiff, Repo1RetentionArchive, Repo1RetentionArchiveType, Repo1Bundle, Repo1BundleSize, Repo1BundleLimit, ProcessMax, BackupType, RestoreType, Delta, Online, StartFast, ArchiveTimeout, ArchiveAsync, ArchiveGetQueueMax, SpoolPath, LockPath, Set, ExpireAuto, Output, Number, Config, LogLevelConsole, LogLevelFile, LogLevelStderr, LogPath, LogTimestamp, BufferSize, CompressLevel, CompressLevelNetwork, DbTimeout, ProtocolTimeout, IoTimeout, ArchiveModeCheck}
 
 pub listed : (o : Opt) → Contains TABLE o
 listed Stanza = (0, omega arith, refl)

@@ -1,7 +1,7 @@
 //! The commands and the options.
 
 ghost use Rattle.std.specs.Prelude.{◌≡◌};
-ghost use Rattle.pgb_options.specs.Table.{verb_word};
+ghost use Rattle.pgb_table.specs.Table.{verb_word};
 
 /// What is to be done.
 #[derive(Clone, Copy, Debug, PartialEq, Eq)]

@@ -2,8 +2,8 @@
 use Rattle.std.specs.Prelude.{ℕ, ◌+◌, ◌-◌, ◌*◌, ◌&&◌, ◌||◌, ◌==◌, nat_le, Bool, true, false, not, [], ◌∷◌, length, take, drop, Option, Some, None, option_and_then, unwrap_or, if◌then◌else◌}
 use Rattle.pgb_model.specs.Text.{Text}
 use Rattle.std.specs.List.{position}
-use Rattle.pgb_options.specs.declared.amount.Units.{Units}
-use Rattle.pgb_options.specs.declared.amount.Units.TheVariants.{Plain, Sizes, Times}
+use Rattle.pgb_table.specs.declared.amount.Units.{Units}
+use Rattle.pgb_table.specs.declared.amount.Units.TheVariants.{Plain, Sizes, Times}
 
 abbrev pub is_digit : ℕ → Bool
 is_digit b = nat_le 48 b && nat_le b 57

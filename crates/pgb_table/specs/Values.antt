@@ -2,10 +2,10 @@
 use Rattle.std.specs.Prelude.{ℕ, ◌&&◌, ◌||◌, ◌==◌, nat_le, nat_lt, Bool, true, false, not, [], ◌∷◌, length, codes, bytes_eq, Option, Some, None, option_map, if◌then◌else◌}
 use Rattle.pgb_model.specs.Text.{Text}
 use Rattle.std.specs.List.{list_any, list_all}
-use Rattle.pgb_options.specs.declared.amount.Units.TheVariants.{Plain, Sizes, Times}
-use Rattle.pgb_options.specs.Amounts.{amount}
-use Rattle.pgb_options.specs.Table as table
-use Rattle.pgb_options.specs.Table.{Kind}
+use Rattle.pgb_table.specs.declared.amount.Units.TheVariants.{Plain, Sizes, Times}
+use Rattle.pgb_table.specs.Amounts.{amount}
+use Rattle.pgb_table.specs.Table as table
+use Rattle.pgb_table.specs.Table.{Kind}
 
 -- none, as by `--no-config`; y or n; a whole number; a size in bytes or a time in seconds; a text
 pub data Value : Type 0 where

@@ -1,8 +1,8 @@
 //! The rows of the options, as the table of them.
 
 ghost use Rattle.std.specs.Prelude.{◌≡◌};
-ghost use Rattle.pgb_options.specs.Table.{row, option, word_option, every, unset, IsOfServer, IsOfRepository, IsOfRetention, IsOfBundle, IsOfRun, IsOfArchive, IsOfCommand, IsIgnored};
-ghost use Rattle.pgb_options.specs.Views.{row_view, kind_view, fallback_view};
+ghost use Rattle.pgb_table.specs.Table.{row, option, word_option, every, unset, IsOfServer, IsOfRepository, IsOfRetention, IsOfBundle, IsOfRun, IsOfArchive, IsOfCommand, IsIgnored};
+ghost use Rattle.pgb_table.specs.Views.{row_view, kind_view, fallback_view};
 
 use crate::table::{Fallback, Kind, Opt, Place, Row, Verb};
 

@@ -1,12 +1,13 @@
 -- The options, a row for each: its name, the commands that use it, where it may stand, its values, and what holds where none is given.
-use Rattle.std.specs.Prelude.{◌≡◌, ◌⊎◌, ℕ, List, [], ◌∷◌, ◌++◌, codes}
+use Rattle.std.specs.Prelude.{◌≡◌, ◌⊎◌, ◌==◌, ℕ, Bool, true, false, List, [], ◌∷◌, ◌++◌, codes, Option, Some, None}
+use Rattle.std.specs.List.{list_any}
 use Rattle.pgb_model.specs.Text.{Text}
-use Rattle.pgb_options.specs.declared.table.Verb.{Verb}
-use Rattle.pgb_options.specs.declared.table.Verb.TheVariants.{StanzaCreate, ArchivePush, ArchivePushAsync, ArchiveGet, ArchiveGetAsync, Backup, Expire, Restore, Verify, Info, Rehearse}
-use Rattle.pgb_options.specs.declared.table.Place.{Place}
-use Rattle.pgb_options.specs.declared.table.Place.TheVariants.{CommandLine, Anywhere}
-use Rattle.pgb_options.specs.declared.table.Opt.{Opt}
-use Rattle.pgb_options.specs.declared.table.Opt.TheVariants.{Stanza, Pg1Path, Pg1Port, Pg1SocketPath, Pg1User, Pg1Database, Repo1Path, Repo1Type, Repo1CipherType, CompressType, Repo1RetentionFull, Repo1RetentionDiff, Repo1RetentionArchive, Repo1RetentionArchiveType, Repo1Bundle, Repo1BundleSize, Repo1BundleLimit, ProcessMax, BackupType, RestoreType, Delta, Online, StartFast, ArchiveTimeout, ArchiveAsync, ArchiveGetQueueMax, SpoolPath, LockPath, Set, ExpireAuto, Output, Number, Config, LogLevelConsole, LogLevelFile, LogLevelStderr, LogPath, LogTimestamp, BufferSize, CompressLevel, CompressLevelNetwork, DbTimeout, ProtocolTimeout, IoTimeout, ArchiveModeCheck}
+use Rattle.pgb_table.specs.declared.table.Verb.{Verb}
+use Rattle.pgb_table.specs.declared.table.Verb.TheVariants.{StanzaCreate, ArchivePush, ArchivePushAsync, ArchiveGet, ArchiveGetAsync, Backup, Expire, Restore, Verify, Info, Rehearse}
+use Rattle.pgb_table.specs.declared.table.Place.{Place}
+use Rattle.pgb_table.specs.declared.table.Place.TheVariants.{CommandLine, Anywhere}
+use Rattle.pgb_table.specs.declared.table.Opt.{Opt}
+use Rattle.pgb_table.specs.declared.table.Opt.TheVariants.{Stanza, Pg1Path, Pg1Port, Pg1SocketPath, Pg1User, Pg1Database, Repo1Path, Repo1Type, Repo1CipherType, CompressType, Repo1RetentionFull, Repo1RetentionDiff, Repo1RetentionArchive, Repo1RetentionArchiveType, Repo1Bundle, Repo1BundleSize, Repo1BundleLimit, ProcessMax, BackupType, RestoreType, Delta, Online, StartFast, ArchiveTimeout, ArchiveAsync, ArchiveGetQueueMax, SpoolPath, LockPath, Set, ExpireAuto, Output, Number, Config, LogLevelConsole, LogLevelFile, LogLevelStderr, LogPath, LogTimestamp, BufferSize, CompressLevel, CompressLevelNetwork, DbTimeout, ProtocolTimeout, IoTimeout, ArchiveModeCheck}
 
 -- which values an option takes
 pub data Kind : Type 0 where
@@ -161,3 +162,38 @@ verb_word Restore = codes "restore"
 verb_word Verify = codes "verify"
 verb_word Info = codes "info"
 verb_word Rehearse = codes "rehearse"
+
+-- ---- a row by itself
+
+-- a number for each command
+abbrev pub verb_code : Verb → ℕ
+verb_code StanzaCreate = 0
+verb_code ArchivePush = 1
+verb_code ArchivePushAsync = 2
+verb_code ArchiveGet = 3
+verb_code ArchiveGetAsync = 4
+verb_code Backup = 5
+verb_code Expire = 6
+verb_code Restore = 7
+verb_code Verify = 8
+verb_code Info = 9
+verb_code Rehearse = 10
+
+abbrev pub verb_eq : Verb → Verb → Bool
+verb_eq a b = verb_code a == verb_code b
+
+-- the command has the option
+abbrev pub is_for : Verb → Opt → Bool
+is_for verb o = list_any (λ v. verb_eq v verb) (row o).commands
+
+-- the default, where there is one
+abbrev pub fallback_text : Fallback → Option Text
+fallback_text required = None
+fallback_text unset = None
+fallback_text (is value) = Some value
+
+-- a value has to be given
+abbrev pub is_required : Fallback → Bool
+is_required required = true
+is_required unset = false
+is_required (is value) = false

@@ -2,12 +2,11 @@
 use Rattle.std.specs.Prelude.{Bool, true, ◌&&◌, ◌||◌, not, List, [], ◌∷◌, map, bytes_eq, is_none, is_some, option_and_then}
 use Rattle.std.specs.List.{list_any, filter, Contains}
 use Rattle.pgb_model.specs.Text.{Text}
-use Rattle.pgb_options.specs.declared.table.TheConstants.{TABLE}
-use Rattle.pgb_options.specs.declared.table.Opt.{Opt}
-use Rattle.pgb_options.specs.declared.table.Verb.{Verb}
-use Rattle.pgb_options.specs.Settings.{fallback_text, is_for}
-use Rattle.pgb_options.specs.Table.{row}
-use Rattle.pgb_options.specs.Values.{value_of}
+use Rattle.pgb_table.specs.declared.table.TheConstants.{TABLE}
+use Rattle.pgb_table.specs.declared.table.Opt.{Opt}
+use Rattle.pgb_table.specs.declared.table.Verb.{Verb}
+use Rattle.pgb_table.specs.Table.{fallback_text, is_for, row}
+use Rattle.pgb_table.specs.Values.{value_of}
 
 -- a default is a value that the option takes
 unfoldable pub default_is_right : Opt → Bool
