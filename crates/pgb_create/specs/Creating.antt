@@ -6,7 +6,7 @@ use Rattle.pgb_model.specs.declared.labels.Label.{Label}
 use Rattle.pgb_model.specs.Text.{Text}
 use Rattle.pgb_model.specs.Names.{label_text}
 use Rattle.pgb_model.specs.Now.{HasNewPairs}
-use Rattle.pgb_pair.specs.declared.fault.MemberFault.{MemberFault}
+use Rattle.pgb_info.specs.declared.fault.MemberFault.{MemberFault}
 use Rattle.pgb_server.specs.Reads.{IsOutside}
 use Rattle.pgb_stanza.specs.declared.control.Control.{Control}
 use Rattle.pgb_stanza.specs.declared.fault.Identity.{Identity}

@@ -1,6 +1,6 @@
 // Why stanza-create is refused.
 
-use pgb_pair::MemberFault;
+use pgb_info::MemberFault;
 use pgb_server::ServerFault;
 use pgb_stanza::Identity;
 

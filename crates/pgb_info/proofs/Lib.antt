@@ -1,3 +1,4 @@
+pub mod KindTexts
 pub mod Clusters
 pub mod First
 pub mod Found

@@ -1,3 +1,4 @@
+pub mod Reading
 pub mod Entries
 pub mod History
 pub mod ArchiveForm

@@ -6,10 +6,10 @@ ghost use Rattle.pgb_model.specs.InfoFiles.{cluster_id_field, cluster_id_fields,
 ghost use Rattle.pgb_model.specs.Values.{archive_info_of};
 ghost use Rattle.pgb_ini.specs.Parts.{section_of};
 
+use crate::info::Info;
 use pgb_ini::Part;
 use pgb_keys::place;
 use pgb_model::{ArchiveInfo, ClusterId};
-use pgb_pair::Info;
 use pgb_text::{NoMemory, decimal};
 use serde_json::{Value, json};
 use std::alloc::Global;

@@ -10,12 +10,14 @@ ghost use Rattle.pgb_keys.specs.Fault.{IfForm};
 ghost use Rattle.pgb_info.specs.ArchiveForm.{section_names, IsArchiveForm};
 
 use crate::archive_current::current_of;
+use crate::fault::MemberFault;
 use crate::history::history_of;
 use crate::limits::LIMIT;
+use crate::read_info::ReadInfo;
+use crate::texts::sections_in;
 use pgb_ini::Part;
 use pgb_keys::{PartsFault, form, part_of};
 use pgb_model::ArchiveInfo;
-use pgb_pair::{MemberFault, ReadInfo, sections_in};
 use pgb_text::NoMemory;
 use std::alloc::Global;
 

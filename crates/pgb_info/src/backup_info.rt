@@ -9,10 +9,10 @@ ghost use Rattle.pgb_ini.specs.Parts.{section_of, sections_of};
 ghost use Rattle.pgb_info.specs.Entries.{HasLabels};
 
 use crate::entries::entry_value;
+use crate::info::Info;
 use pgb_ini::Part;
 use pgb_keys::place;
 use pgb_model::{BackupInfo, Cluster, Entry};
-use pgb_pair::Info;
 use pgb_stamp::label_text;
 use pgb_text::{NoMemory, decimal};
 use serde_json::{Value, json};

@@ -12,10 +12,18 @@ mod cluster_reading;
 mod entries;
 mod entry_parts;
 mod entry_reading;
+mod fault;
 mod history;
+mod info;
 mod limits;
 mod listed;
+mod read_info;
+mod texts;
 
 pub use backup_info::cluster_part;
 pub use entries::kind_value;
 pub use entry_parts::{label_in, second_in};
+pub use fault::MemberFault;
+pub use info::Info;
+pub use read_info::ReadInfo;
+pub use texts::sections_in;

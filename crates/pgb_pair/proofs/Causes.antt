@@ -5,8 +5,8 @@ use Rattle.pgb_outside.specs.Content.{Content}
 use Rattle.pgb_model.specs.Text.{Text}
 use Rattle.pgb_model.specs.Names.{copy_of}
 use Rattle.pgb_model.specs.InfoText.{Section}
-use Rattle.pgb_pair.specs.declared.fault.MemberFault.{MemberFault}
-use Rattle.pgb_pair.specs.declared.fault.MemberFault.TheVariants.{Absent, TooLong, Syntax, Sum, Form}
+use Rattle.pgb_info.specs.declared.fault.MemberFault.{MemberFault}
+use Rattle.pgb_info.specs.declared.fault.MemberFault.TheVariants.{Absent, TooLong, Syntax, Sum, Form}
 use Rattle.pgb_pair.specs.declared.fault.InfoFault.{InfoFault}
 use Rattle.pgb_pair.specs.Causes.{IsMemberFault, HasFault, AreDamaged, PairCause}
 use Rattle.pgb_pair.specs.Reading.{of_both}

@@ -1,5 +1,4 @@
 pub mod Causes
-pub mod KindTexts
 pub mod Mends
 pub mod Onward
 pub mod Saved

@@ -1,18 +1,15 @@
 -- What is read of a member.
-use Rattle.std.specs.Prelude.{◌≡◌, ◌≢◌, ◌≤◌, ◌<◌, ℕ, List, Option, None, Some, length, Result, Ok, Err, Vec}
+use Rattle.std.specs.Prelude.{◌≡◌, ◌≤◌, ◌<◌, ℕ, List, Option, None, Some, length, Result, Ok, Err, Vec}
 use Rattle.std.specs.declared.alloc.Global.{Global}
 use Rattle.pgb_outside.specs.Content.{Content}
 use Rattle.pgb_model.specs.Text.{Text}
-use Rattle.pgb_model.specs.InfoText.{Section, IsInfo, info_text}
+use Rattle.pgb_model.specs.InfoText.{Section}
 use Rattle.pgb_model.specs.Pair.{MemberIs}
-use Rattle.pgb_ini.specs.declared.part.Part.{Part}
-use Rattle.pgb_ini.specs.Form.{IsFault, syntax, sum}
-use Rattle.pgb_ini.specs.Parts.{sections_of}
-use Rattle.pgb_pair.specs.declared.fault.MemberFault.{MemberFault}
-use Rattle.pgb_pair.specs.declared.fault.MemberFault.TheVariants.{Absent, TooLong, Syntax, Sum}
+use Rattle.pgb_info.specs.declared.fault.MemberFault.{MemberFault}
+use Rattle.pgb_info.specs.declared.fault.MemberFault.TheVariants.{Absent, TooLong}
 use Rattle.pgb_pair.specs.declared.fault.InfoFault.{InfoFault}
 use Rattle.pgb_pair.specs.declared.fault.InfoFault.TheVariants.{Missing, Damaged}
-use Rattle.pgb_pair.specs.Causes.{IsTextFault, HasFault}
+use Rattle.pgb_pair.specs.Causes.{HasFault}
 
 -- the bytes, or that there are none within the limit
 abbrev pub BytesAre : ℕ → Option Text → Result (Vec ℕ Global) MemberFault → Type 0
@@ -21,20 +18,8 @@ BytesAre limit None (Err Absent) = Unit {0}
 BytesAre limit (Some bytes) (Err TooLong) = limit < length bytes
 BytesAre limit value (Err fault) = ⊥
 
--- the text is that of the sections, or of none
-abbrev pub SectionsAre : Text → Result (Vec Part Global) MemberFault → Type 0
-SectionsAre text (Ok parts) = IsInfo (sections_of parts.items) × (text ≡ info_text (sections_of parts.items))
-SectionsAre text (Err (Syntax line)) = IsFault text (syntax line) × ((ss : List Section) → IsInfo ss → text ≢ info_text ss)
-SectionsAre text (Err (Sum told found)) = IsFault text (sum told.0 found.0) × ((ss : List Section) → IsInfo ss → text ≢ info_text ss)
-SectionsAre text (Err fault) = ⊥
-
 -- A kind of text, with the value that a program's value stands for.
 module _ {X V : Type 0} (IsTextOf : V → Text → Type 0) (IsForm : List Section → Text → Text → Type 0) (value : X → V) where
-  -- the value of the text, or the fault for which it has none
-  abbrev pub TextGives : Text → Result X MemberFault → Type 0
-  TextGives bytes (Ok x) = IsTextOf (value x) bytes
-  TextGives bytes (Err fault) = IsTextFault IsTextOf IsForm bytes fault × ((w : V) → ¬ IsTextOf w bytes)
-
   -- the value of the member, or the fault for which it has none
   abbrev pub MemberGives : ℕ → Content → Text → Result X MemberFault → Type 0
   MemberGives limit f name (Ok x) = MemberIs IsTextOf f name (value x)

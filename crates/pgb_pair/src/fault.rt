@@ -4,7 +4,7 @@ ghost use Rattle.pgb_pair.specs.declared.fault.SaveFault.TheVariants.{NoMemory a
 ghost use Rattle.pgb_pair.specs.declared.fault.InfoFault.TheVariants.{NoMemory as InfoNoMemory};
 
 use pgb_disk::StoreFault;
-use pgb_text::Sum;
+use pgb_info::MemberFault;
 use std::alloc::{AllocError, AllocFailed};
 
 /// Why an info file was not saved.
@@ -44,19 +44,6 @@ impl From<AllocError> for SaveFault {
     fn from(_: AllocError) -> Self {
         SaveFault::NoMemory
     }
-}
-
-/// Why a member of a pair has no value.
-#[derive(Debug, Drop)]
-pub enum MemberFault {
-    Absent,
-    TooLong,
-    /// No info text goes on as this line does, or it ends too soon.
-    Syntax { line: u32 },
-    /// It tells another checksum than its own.
-    Sum { told: Sum, found: Sum },
-    /// The key is missing, foreign or of another kind.
-    Form { section: String, key: String },
 }
 
 /// Why a pair was not read.

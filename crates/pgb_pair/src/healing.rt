@@ -14,12 +14,11 @@ ghost use Rattle.pgb_pair.specs.Causes.{PairCause, IfRefused};
 ghost use Rattle.pgb_pair.specs.Member.{IsMemberName};
 
 use crate::fault::{InfoFault, SaveFault};
-use crate::info::Info;
 use crate::loading::{load_pair, read_bytes};
 use crate::members::{copy_name, temporary_name};
-use crate::read_info::ReadInfo;
 use crate::saving::text_of;
 use pgb_disk::replace;
+use pgb_info::{Info, ReadInfo};
 use pgb_outside::Disk;
 use std::alloc::Global;
 

@@ -3,18 +3,12 @@
 
 mod fault;
 mod healing;
-mod info;
 mod loading;
 mod members;
-mod read_info;
 mod saving;
-mod texts;
 
-pub use fault::{InfoFault, MemberFault, SaveFault};
+pub use fault::{InfoFault, SaveFault};
 pub use healing::{heal_pair, mend_pair};
-pub use info::Info;
 pub use loading::load_pair;
 pub use members::save_text;
-pub use read_info::ReadInfo;
 pub use saving::save_pair;
-pub use texts::sections_in;

@@ -8,10 +8,10 @@ ghost use Rattle.pgb_model.specs.Pair.{PairIs};
 ghost use Rattle.pgb_pair.specs.Causes.{PairCause};
 ghost use Rattle.pgb_pair.specs.Reading.{BytesAre, MemberGives, of_both};
 
-use crate::fault::{InfoFault, MemberFault, SaveFault};
+use crate::fault::{InfoFault, SaveFault};
 use crate::members::copy_name;
-use crate::read_info::ReadInfo;
 use pgb_disk::{StoreFault, read_whole};
+use pgb_info::{MemberFault, ReadInfo};
 use pgb_outside::Disk;
 use std::alloc::Global;
 

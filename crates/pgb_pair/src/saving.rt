@@ -10,8 +10,8 @@ ghost use Rattle.pgb_model.specs.Create.{member_writes};
 ghost use Rattle.pgb_pair.specs.Member.{IsMemberName};
 
 use crate::fault::SaveFault;
-use crate::info::Info;
 use crate::members::save_text;
+use pgb_info::Info;
 use pgb_ini::write_info_text;
 use pgb_outside::Disk;
 use pgb_text::NoMemory;

@@ -8,8 +8,8 @@ ghost use Rattle.pgb_model.specs.Values.{backup_info_of};
 ghost use Rattle.pgb_ini.specs.Parts.{key_of};
 ghost use Rattle.pgb_report.specs.ReportData.{with_key, backup_data};
 
+use pgb_info::Info;
 use pgb_model::BackupInfo;
-use pgb_pair::Info;
 use pgb_text::NoMemory;
 use serde_json::{Value, put};
 use std::alloc::Global;

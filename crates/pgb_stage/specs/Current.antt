@@ -9,8 +9,8 @@ use Rattle.pgb_model.specs.Names.{archive_info, backup_info}
 use Rattle.pgb_model.specs.Pair.{PairIs, PairAbsent}
 use Rattle.pgb_model.specs.Values.{ArchiveInfo}
 use Rattle.pgb_model.specs.InfoFiles.{IsArchiveText, IsBackupText, info_limit}
-use Rattle.pgb_pair.specs.declared.fault.MemberFault.{MemberFault}
-use Rattle.pgb_pair.specs.declared.fault.MemberFault.TheVariants.{Absent}
+use Rattle.pgb_info.specs.declared.fault.MemberFault.{MemberFault}
+use Rattle.pgb_info.specs.declared.fault.MemberFault.TheVariants.{Absent}
 use Rattle.pgb_info.specs.BackupForm.{IsBackupForm}
 use Rattle.pgb_stage.specs.declared.fault.StageFault.{StageFault}
 use Rattle.pgb_stage.specs.declared.fault.StageFault.TheVariants.{StanzaMissing, InfoDamaged}

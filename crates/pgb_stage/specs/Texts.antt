@@ -1,8 +1,8 @@
 -- The status and the message of each refusal before a command's own part (own), and texts that messages of commands share.
 use Rattle.std.specs.Prelude.{◌||◌, ◌==◌, ℕ, nat_lt, [], ◌++◌, map, codes, decimal, string_bytes, if◌then◌else◌}
 use Rattle.pgb_model.specs.Text.{Text}
-use Rattle.pgb_pair.specs.declared.fault.MemberFault.{MemberFault}
-use Rattle.pgb_pair.specs.declared.fault.MemberFault.TheVariants.{Absent, TooLong as LongMember, Syntax, Sum, Form}
+use Rattle.pgb_info.specs.declared.fault.MemberFault.{MemberFault}
+use Rattle.pgb_info.specs.declared.fault.MemberFault.TheVariants.{Absent, TooLong as LongMember, Syntax, Sum, Form}
 use Rattle.pgb_table.specs.Table.{verb_word}
 use Rattle.pgb_stanza.specs.declared.fault.Identity.{Identity}
 use Rattle.pgb_stage.specs.declared.object.Object.{Object}

@@ -1,6 +1,6 @@
 // What the stages before a command find.
 
-use pgb_pair::MemberFault;
+use pgb_info::MemberFault;
 use pgb_table::Verb;
 
 /// A part of the program that comes later.

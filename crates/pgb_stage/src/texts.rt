@@ -4,7 +4,7 @@ ghost use Rattle.pgb_stage.specs.Texts.{shown, shown_byte, part_name, file_text,
 
 use crate::fault::{ControlFile, StageFault, Unbuilt};
 use crate::object::Object;
-use pgb_pair::MemberFault;
+use pgb_info::MemberFault;
 use pgb_stanza::Identity;
 use pgb_table::verb_word;
 use pgb_text::NoMemory;

@@ -2,8 +2,8 @@
 
 use crate::same::{same, same_of};
 use crate::texts::{ARCHIVE, read};
+use pgb_info::{MemberFault, ReadInfo};
 use pgb_model::{ArchiveInfo, BackupInfo};
-use pgb_pair::{MemberFault, ReadInfo};
 use pgb_text::{NoMemory, Sum};
 use std::alloc::Global;
 use std::process::Abort;

@@ -2,7 +2,7 @@
 
 ghost use Rattle.std.specs.Prelude.{IfOk};
 
-use pgb_pair::{MemberFault, ReadInfo};
+use pgb_info::{MemberFault, ReadInfo};
 use pgb_text::NoMemory;
 use std::alloc::Global;
 use std::process::Abort;

@@ -6,7 +6,7 @@ use Rattle.pgb_ini.specs.declared.part.Part.{Part}
 use Rattle.pgb_ini.specs.Parts.{sections_of}
 use Rattle.pgb_info.specs.ArchiveForm.{IsArchiveForm}
 use Rattle.pgb_info.proofs.ArchiveRules.{archive_is_info}
-use Rattle.pgb_pair.proofs.KindTexts.{IsOfSections, unread, misfit}
+use Rattle.pgb_info.proofs.KindTexts.{IsOfSections, unread, misfit}
 use Rattle.pgb_info.proofs.archive_reading.ArchiveInfoReadInfo.read.Goals as goal
 
 of_sections : IsOfSections IsArchiveText archive_sections

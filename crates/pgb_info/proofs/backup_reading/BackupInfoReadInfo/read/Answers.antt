@@ -9,7 +9,7 @@ use Rattle.pgb_ini.specs.Parts.{sections_of}
 use Rattle.pgb_info.specs.BackupForm.{IsBackupForm}
 use Rattle.pgb_info.proofs.BackupRules.{backup_is_info}
 use Rattle.pgb_info.proofs.FewKeys.{few_keys}
-use Rattle.pgb_pair.proofs.KindTexts.{IsOfSections, unread, misfit}
+use Rattle.pgb_info.proofs.KindTexts.{IsOfSections, unread, misfit}
 use Rattle.pgb_info.proofs.backup_reading.BackupInfoReadInfo.read.Goals as goal
 
 of_sections : IsOfSections IsBackupText backup_sections

@@ -4,10 +4,10 @@ use Rattle.std.specs.Prelude.{Err}
 use Rattle.pgb_model.specs.Text.{Text}
 use Rattle.pgb_model.specs.InfoText.{Section, IsInfo, info_text}
 use Rattle.pgb_ini.proofs.OneText.{one_sections}
-use Rattle.pgb_pair.specs.declared.fault.MemberFault.{MemberFault}
-use Rattle.pgb_pair.specs.declared.fault.MemberFault.TheVariants.{Absent, TooLong, Syntax, Sum, Form}
-use Rattle.pgb_pair.specs.Causes.{IsFormFault}
-use Rattle.pgb_pair.specs.Reading.{SectionsAre, TextGives}
+use Rattle.pgb_info.specs.declared.fault.MemberFault.{MemberFault}
+use Rattle.pgb_info.specs.declared.fault.MemberFault.TheVariants.{Absent, TooLong, Syntax, Sum, Form}
+use Rattle.pgb_info.specs.Reading.{IsFormFault}
+use Rattle.pgb_info.specs.Reading.{SectionsAre, TextGives}
 
 -- a text of a value is that of its sections
 pub record IsOfSections {V : Type 0} (IsTextOf : V → Text → Type 0) (sections : V → List Section) : Type 0 where

@@ -1,7 +1,7 @@
 // What is read from an info file.
 ghost use Rattle.std.specs.Prelude.{◌≡◌, ◌+◌, ◌<◌, ◌≤◌, ◌^◌, ℕ, List, IfOk, length};
 ghost use Rattle.pgb_model.specs.InfoText.{Section, info_text};
-ghost use Rattle.pgb_pair.specs.Reading.{TextGives};
+ghost use Rattle.pgb_info.specs.Reading.{TextGives};
 
 use crate::fault::MemberFault;
 use crate::info::Info;

@@ -1,7 +1,7 @@
 // From an info text to a value, whichever its kind.
 ghost use Rattle.std.specs.Prelude.{◌<◌, ◌+◌, ◌^◌, ℕ, List, IfOk, IfErr, length, MatchResult};
 ghost use Rattle.pgb_ini.specs.Parts.{sections_of};
-ghost use Rattle.pgb_pair.specs.Reading.{SectionsAre};
+ghost use Rattle.pgb_info.specs.Reading.{SectionsAre};
 
 use crate::fault::MemberFault;
 use pgb_ini::{IniFault, Part, read_info_text};
