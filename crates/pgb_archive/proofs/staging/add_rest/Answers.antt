@@ -37,6 +37,7 @@ loop-piece-preserved g c =
         s.0 ++ take size new,
         read_more (g.P.Pieces.bytes c.args.pieces.now c.args.holder.now) c.args.front.bytes.now s.0 new count room size (s.2 ∙ sym c.length-in-loop-piece.ensures) s.1 reads fits,
         omega (arith, s.2, length-append s.0 (take size new), c.in_ok-add_stage.ensures.length),
-        staged_more temp (staging_name c.loop-piece.staging) s.0 (take size new) old.now mid.now now.now i.name s.3 c.in_ok-add_stage.ensures.now,
+        c.update-in-loop-piece.ensures s.0 s.3,
+        staged_more temp (staging_name c.loop-piece.staging) s.0 (take size new) old.now mid.now now.now i.name s.4 c.in_ok-add_stage.ensures.now,
       );
     }
