@@ -26,4 +26,5 @@ pub mod ListedKeys
 pub mod BackupBuilt
 pub mod BackupForms
 pub mod Onward
+pub mod Owned
 pub mod Saved

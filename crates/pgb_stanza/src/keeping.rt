@@ -4,10 +4,13 @@ ghost use Rattle.pgb_outside.specs.States.{Frame};
 ghost use Rattle.pgb_outside.specs.Moments.{is_loose};
 ghost use Rattle.pgb_outside.specs.Crash.{Crash, NowGoes, SomeOf};
 ghost use Rattle.pgb_outside.specs.Cause.{Rises};
+ghost use Rattle.pgb_disk.specs.Store.{ChangesOnly};
 ghost use Rattle.pgb_model.specs.Names.{archive_info, backup_info, copy_of};
 ghost use Rattle.pgb_model.specs.Create.{member_writes};
 ghost use Rattle.pgb_model.specs.Values.{archive_info_of, backup_info_of};
 ghost use Rattle.pgb_model.specs.InfoFiles.{IsArchiveInfo, IsBackupInfo};
+ghost use Rattle.pgb_info.specs.Member.{IsOfPair};
+ghost use Rattle.pgb_stanza.specs.Owned.{IsOfPairs};
 ghost use Rattle.pgb_stanza.specs.Tight.{AreTight};
 ghost use Rattle.pgb_stanza.specs.Mending.{archive_text, backup_text, mending_writes, HoldBoth, HaveTexts};
 
@@ -36,6 +39,7 @@ fn keep_archive<D: Disk>(
     ensures mended { OnOk result
         (IfSome (D.state d.new).view.now
         (HoldBoth (archive_info stanza.now) (archive_text (archive_info_of value.now)))) }
+    ensures only { ChangesOnly (IsOfPair (archive_info stanza.now)) (D.state d.old).view (D.state d.new).view }
     ensures frame { Frame (D.state d.old) (D.state d.new) }
     ensures cause { IsErrOf result SaveFault.Disk → Rises (D.state d.old).faults (D.state d.new).faults }
 {
@@ -61,6 +65,7 @@ fn keep_backup<D: Disk>(
         (D.state d.old).view.now (D.state d.new).view.now }
     ensures mended { OnOk result
         (IfSome (D.state d.new).view.now (HoldBoth (backup_info stanza.now) (backup_text (backup_info_of value.now)))) }
+    ensures only { ChangesOnly (IsOfPair (backup_info stanza.now)) (D.state d.old).view (D.state d.new).view }
     ensures frame { Frame (D.state d.old) (D.state d.new) }
     ensures cause { IsErrOf result SaveFault.Disk → Rises (D.state d.old).faults (D.state d.new).faults }
 {
@@ -88,6 +93,7 @@ pub(crate) fn keep_stanza<D: Disk>(
         → IfSome (D.state d.new).view.now
         (HaveTexts stanza.now (archive_text (archive_info_of kept.now.archive))
         (backup_text (backup_info_of kept.now.backup)))) }
+    ensures only { ChangesOnly (IsOfPairs stanza.now) (D.state d.old).view (D.state d.new).view }
     ensures frame { Frame (D.state d.old) (D.state d.new) }
     ensures cause { IsErrOf result SaveFault.Disk → Rises (D.state d.old).faults (D.state d.new).faults }
 {

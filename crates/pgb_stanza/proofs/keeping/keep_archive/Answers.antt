@@ -8,6 +8,7 @@ use Rattle.pgb_model.specs.Create.{member_writes}
 use Rattle.pgb_model.specs.Values.{archive_info_of}
 use Rattle.pgb_info.proofs.Mends.{no_writes}
 use Rattle.pgb_stanza.specs.Mending.{archive_text, HoldBoth}
+use Rattle.pgb_info.proofs.Owned.{none_owned, owned_as}
 use Rattle.pgb_stanza.proofs.Saves.{archive_name_is}
 use Rattle.pgb_stanza.proofs.keeping.keep_archive.Goals as goal
 
@@ -36,3 +37,12 @@ returns-clause-now_part g c =
 pub returns-clause-mended : goal.returns-clause-mended
 returns-clause-mended g c =
     subst (λ (n : Text). IfSome (g.D.Disk.state c.mend_pair.new.d).view.now (HoldBoth n (archive_text (archive_info_of c.args.value.now)))) (c.as_str.ensures.value ∙ c.in_ok-name.ensures) c.in_ok-mend_pair.ensures.mended
+
+pub returns-in_err-name-clause-only : goal.returns-in_err-name-clause-only
+returns-in_err-name-clause-only g c = none_owned (archive_info c.args.stanza.now) _
+
+pub returns-in_err-mend_pair-clause-only : goal.returns-in_err-mend_pair-clause-only
+returns-in_err-mend_pair-clause-only g c = owned_as (archive_info c.args.stanza.now) _ _ _ (c.as_str.ensures.value ∙ c.in_ok-name.ensures) c.mend_pair.ensures.only
+
+pub returns-clause-only : goal.returns-clause-only
+returns-clause-only g c = owned_as (archive_info c.args.stanza.now) _ _ _ (c.as_str.ensures.value ∙ c.in_ok-name.ensures) c.mend_pair.ensures.only

@@ -2,6 +2,7 @@ use Rattle.std.proofs.Common.{◌∙◌}
 use Rattle.pgb_outside.proofs.Crashes.{crash_none}
 use Rattle.pgb_model.specs.Names.{archive_info}
 use Rattle.pgb_model.specs.Create.{member_writes, first_archive_text}
+use Rattle.pgb_info.proofs.Owned.{none_owned, owned_as}
 use Rattle.pgb_stanza.proofs.Saves.{archive_name_is, archive_valid, archive_within, archive_spelled, part_as, whole_as, crash_as, ends_as}
 use Rattle.pgb_stanza.proofs.saving.save_archive.Goals as goal
 
@@ -35,3 +36,15 @@ returns-clause-crash g c = crash_as _ _ _ _ _ _ (c.as_str.ensures.value ∙ c.in
 
 pub returns-clause-whole : goal.returns-clause-whole
 returns-clause-whole g c = ends_as _ _ _ _ _ _ (c.as_str.ensures.value ∙ c.in_ok-name.ensures) (archive_spelled c.args.cluster.now _ c.in_ok-value.ensures) c.in_ok-save_pair.ensures.whole
+
+pub returns-in_err-name-clause-only : goal.returns-in_err-name-clause-only
+returns-in_err-name-clause-only g c = none_owned (archive_info c.args.stanza.now) _
+
+pub returns-in_err-value-clause-only : goal.returns-in_err-value-clause-only
+returns-in_err-value-clause-only g c = none_owned (archive_info c.args.stanza.now) _
+
+pub returns-in_err-save_pair-clause-only : goal.returns-in_err-save_pair-clause-only
+returns-in_err-save_pair-clause-only g c = owned_as (archive_info c.args.stanza.now) _ _ _ (c.as_str.ensures.value ∙ c.in_ok-name.ensures) c.save_pair.ensures.only
+
+pub returns-clause-only : goal.returns-clause-only
+returns-clause-only g c = owned_as (archive_info c.args.stanza.now) _ _ _ (c.as_str.ensures.value ∙ c.in_ok-name.ensures) c.save_pair.ensures.only
