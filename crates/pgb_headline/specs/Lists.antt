@@ -1,7 +1,7 @@
 -- What a list of acts over devices in memory makes of the logs.
 use Rattle.std.specs.Prelude.{ℕ, List, Some, map, string_bytes, is_some}
 use Rattle.pgb_memory.specs.Held.{view_of}
-use Rattle.pgb_memory.specs.Source.{value_of}
+use Rattle.pgb_memory.specs.Replay.{value_of}
 use Rattle.pgb_memory.specs.Nodes.{nodes_at}
 use Rattle.pgb_story.specs.Story.{Call, Disks}
 use Rattle.pgb_headline.specs.declared.playing.Act.{Act}

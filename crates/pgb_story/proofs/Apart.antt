@@ -1,11 +1,11 @@
 -- The names of two stanzas differ.
-use Rattle.std.proofs.Common.{◌≡◌, ◌⊎◌, inl, inr, ⊎_elim, ℕ, Bool, true, false, List, [], ◌∷◌, ◌++◌, length, take, drop, get_or, refl, sym, ◌∙◌, ap, ap₂, arith, append_assoc}
+use Rattle.std.proofs.Common.{◌≡◌, ◌⊎◌, inl, inr, ⊎_elim, ℕ, Bool, true, false, [], ◌∷◌, ◌++◌, length, take, drop, get_or, refl, sym, ◌∙◌, ap, ap₂, arith, append_assoc}
 use Rattle.std.specs.Prelude.{Contains, bytes_eq, ◌||◌, codes}
 use Rattle.std.proofs.lemmas.List.{take-append-drop, append_cancel_left}
 use Rattle.std.proofs.lemmas.List.Elements.{Contains-append_right}
 use Rattle.std.proofs.lemmas.Slice.Eq.{bytes_eq-Decides}
 use Rattle.pgb_outside.specs.Content.{Name, is_below}
-use Rattle.pgb_model.specs.Text.{Text, ◌⫽◌}
+use Rattle.pgb_model.specs.Text.{Text}
 use Rattle.pgb_model.specs.Names.{is_of_stanza, archive_folder, backup_folder}
 use Rattle.pgb_story.specs.Beside.{IsStanza}
 

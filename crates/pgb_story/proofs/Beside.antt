@@ -1,16 +1,15 @@
 -- A call that keeps to its stanza leaves the logs of all others as they are.
-use Rattle.std.proofs.Common.{◌≡◌, ◌≢◌, ◌⊎◌, inl, inr, ⊎_elim, ℕ, ◌≤◌, Bool, true, false, List, [], ◌∷◌, ◌++◌, Option, Some, None, refl, sym, ◌∙◌, ap, subst, arith, append_assoc}
+use Rattle.std.proofs.Common.{◌≡◌, ◌≢◌, ◌⊎◌, inl, inr, ⊎_elim, ℕ, ◌≤◌, Bool, true, false, List, [], ◌++◌, Option, Some, None, refl, sym, ◌∙◌, ap, subst, arith}
 use Rattle.std.specs.Prelude.{IsSome, IsTrue, codes, bytes_eq, if◌then◌else◌}
 use Rattle.std.proofs.lemmas.Slice.Eq.{bytes_eq-Decides}
-use Rattle.pgb_outside.specs.Content.{Name, Value, Content, Holds, at, is_below}
+use Rattle.pgb_outside.specs.Content.{Name, Value, Content, Holds, at}
 use Rattle.pgb_outside.specs.Moments.{View, IsImage, MayKeep, is_loose}
 use Rattle.pgb_outside.specs.Crash.{Leaves}
 use Rattle.pgb_model.specs.declared.wal.ArchiveName.{ArchiveName}
 use Rattle.pgb_model.specs.Text.{Text, ◌⫽◌}
-use Rattle.pgb_model.specs.Names.{is_of_stanza, archive_folder, backup_folder, receipt_name, wal_text}
+use Rattle.pgb_model.specs.Names.{is_of_stanza, receipt_name, wal_text}
 use Rattle.pgb_model.specs.Repository.{Repository}
-use Rattle.pgb_model.specs.Stands.{IsWalName}
-use Rattle.pgb_model.specs.Log.{Done, IsFixed, IsPlaceOf, HasReceipt, StandsAfter, KeepsRepository, KeepsSpool}
+use Rattle.pgb_model.specs.Log.{Done, StandsAfter, KeepsRepository, KeepsSpool}
 use Rattle.pgb_model.specs.Steady.{LeavesOnly}
 use Rattle.pgb_model.proofs.Frame.{Agrees, stands_same, place_past, past, beside as pairs_beside}
 use Rattle.pgb_model.proofs.Below.{fixed_of, places_of}

@@ -1,5 +1,5 @@
 -- After a story the two disks keep the log of each stanza.
-use Rattle.std.proofs.Common.{◌≡◌, ℕ, ◌≤◌, arith, inl, inr, List, [], ◌∷◌, Bool, true, false, Option, Some, None, refl, sym, subst}
+use Rattle.std.proofs.Common.{◌≡◌, ℕ, ◌≤◌, inr, List, [], ◌∷◌, Bool, true, false, Option, Some, None, refl, sym, subst}
 use Rattle.std.specs.Prelude.{IsSome, bytes_eq, if◌then◌else◌}
 use Rattle.std.proofs.lemmas.Slice.Eq.{bytes_eq-Decides}
 use Rattle.pgb_outside.specs.Content.{Content}
@@ -16,7 +16,7 @@ use Rattle.pgb_model.specs.Log.{KeepsSpool}
 use Rattle.pgb_model.specs.Names.{receipt_name}
 use Rattle.pgb_outside.specs.Moments.{Rests}
 use Rattle.pgb_story.specs.Beside.{IsStanza}
-use Rattle.pgb_story.specs.Story.{Disks, Call, stopped, log_of, went_on, HasReceiptsOf, Does, AreStill, AreFair, AreLeft, nothing, KeepsAll, StandAll, LeaveAll, Story, begins, calls, stops, refuses, rests}
+use Rattle.pgb_story.specs.Story.{Disks, Call, stopped, log_of, went_on, HasReceiptsOf, Does, AreStill, AreFair, AreLeft, nothing, KeepsAll, StandAll, LeaveAll, Story, begins, calls, stops, refuses, reopens}
 use Rattle.pgb_story.proofs.Apart.{beside as names_beside}
 use Rattle.pgb_story.proofs.Beside.{others_keep, others_between, others_spool, others_receipts}
 use Rattle.pgb_story.proofs.Opened.{opened_repository, opened_spool, empty_stands, empty_receipts}
@@ -128,7 +128,7 @@ kept _ _ (begins d repo spool) = opened_keep [] _ _ d repo spool empty_stand
 kept _ _ (calls before old new c story fair does) = all_keep c old new fair does before (kept before old story)
 kept _ _ (stops before old new opened c story fair does left) = all_opened (stopped c ∷ before) old new opened (all_leave c old new fair does before (kept before old story)) left
 kept _ _ (refuses before old new story still) = all_still old new still before (kept before old story)
-kept _ _ (rests before old new opened story still left) = all_opened before old new opened (all_rest old new still before (kept before old story)) left
+kept _ _ (reopens before old new opened story still left) = all_opened before old new opened (all_rest old new still before (kept before old story)) left
 
 -- What the disk holds, and whatever a stop now leaves, stands for the abstract repository after all steps of the acknowledged commands and a part of each other one's.
 pub headline : (before : List Call) (d : Disks) → Story before d → (stanza : Text) → IsStanza stanza → (f : Content) → Leaves d.repo d.repo.moment f → StandsAfter stanza None (log_of stanza before) f

@@ -1,5 +1,5 @@
 -- A list of calls goes on at its end.
-use Rattle.std.proofs.Common.{◌≡◌, ℕ, List, [], ◌∷◌, ◌++◌, refl, sym, subst}
+use Rattle.std.proofs.Common.{ℕ, List, [], ◌∷◌, ◌++◌, refl, subst}
 use Rattle.pgb_story.specs.Story.{Call}
 use Rattle.pgb_story.specs.Played.{ArePlayed}
 

@@ -1,5 +1,5 @@
 -- Calls that keep to their stanza, one behind another.
-use Rattle.std.proofs.Common.{◌≡◌, ℕ, true, refl, ◌∙◌, ap, inl, subst, arith}
+use Rattle.std.proofs.Common.{◌≡◌, true, ◌∙◌, ap}
 use Rattle.pgb_outside.specs.Content.{at}
 use Rattle.pgb_outside.specs.Moments.{View, Rests}
 use Rattle.pgb_outside.proofs.Steps.{goes_on, goes_wide}

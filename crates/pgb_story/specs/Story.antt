@@ -111,7 +111,7 @@ pub data Story : List Call → Disks → Type 1 where
   -- a call was refused before it did anything
   refuses : (before : List Call) (old new : Disks) → Story before old → AreStill old new → Story before new
   -- such a call was stopped, or a stop came between two calls
-  rests : (before : List Call) (old new opened : Disks) → Story before old → AreStill old new → AreLeft old new opened → Story before opened
+  reopens : (before : List Call) (old new opened : Disks) → Story before old → AreStill old new → AreLeft old new opened → Story before opened
 
 -- ---- what a story leads to
 
