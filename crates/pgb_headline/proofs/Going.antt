@@ -1,12 +1,11 @@
 -- From one call to the logs of all stanzas.
 use Rattle.std.proofs.Common.{◌≡◌, ◌≢◌, ◌⊎◌, inl, inr, ℕ, ◌≤◌, arith, is_some, map, ap, [], Some, None, Bool, true, false, List, ◌∷◌, Option, refl, sym, subst}
 use Rattle.pgb_outside.specs.Content.{Content}
-use Rattle.pgb_outside.specs.Moments.{View, IsImage}
 use Rattle.pgb_outside.specs.Tree.{Nodes}
 use Rattle.pgb_model.specs.Text.{Text}
-use Rattle.pgb_model.proofs.Reopened.{IsReopened}
 use Rattle.pgb_story.specs.Story.{Disks, Call, stopped, Does, AreStill, AreFair, KeepsAll, LeaveAll}
 use Rattle.pgb_story.proofs.Kept.{all_keep, all_leave, all_still, all_rest, opened_keep}
+use Rattle.pgb_headline.specs.Lists.{IsLeft}
 use Rattle.pgb_headline.specs.Acts.{IsCallOf, IsShown, GoesOn, Went}
 
 module _ (words : List Text) (files : Option Content) (nodes : Option Nodes) (status : ℕ) (before : List Call) (old new : Disks) (h : KeepsAll before old) where
@@ -43,14 +42,13 @@ module _ {X W : Type 0} (text_of : List W → List Text) (given words : List W) 
   pub ends_here : halt ≡ None → (after : List Call) × GoesOn (text_of words) files nodes status (is_some halt) before after × KeepsAll after new
   ends_here none = (w.after, subst (λ (o : Option X). GoesOn (text_of words) files nodes status (is_some o) before w.after) (sym none) (goes false w.after w.goes), w.keeps)
 
-  pub stops_here : (x : X) → halt ≡ Some x → (opened : Disks) (from spool_from t u : ℕ) → from ≡ old.repo.moment → spool_from ≡ old.spool.moment
-      → ((f : Content) × (from ≤ t) × (t ≤ new.repo.moment) × IsImage new.repo t f × IsReopened f opened.repo)
-      → ((g : Content) × (spool_from ≤ u) × (u ≤ new.spool.moment) × IsImage new.spool u g × IsReopened g opened.spool)
+  pub stops_here : (x : X) → halt ≡ Some x → (opened : Disks) (from spool_from t u : ℕ) → from ≡ old.repo.moment → spool_from ≡ old.spool.moment → IsLeft new.repo from t opened.repo → IsLeft new.spool spool_from u opened.spool
       → (after : List Call) × GoesOn (text_of words) files nodes status (is_some halt) before after × KeepsAll after opened
-  stops_here x some opened from spool_from t u is_from is_spool_from (f, lo, hi, image, is_opened) (g, spool_lo, spool_hi, spool_image, spool_opened) = (
+  stops_here x some opened from spool_from t u is_from is_spool_from r s = (
     w.cut,
     subst (λ (o : Option X). GoesOn (text_of words) files nodes status (is_some o) before w.cut) (sym some) (goes true w.cut w.stops),
-    opened_keep w.cut f g opened is_opened spool_opened (w.leaves t u f g (omega (arith, is_from, lo), hi) image (omega (arith, is_spool_from, spool_lo), spool_hi) spool_image),
+    opened_keep w.cut r.content s.content opened r.reopened s.reopened
+        (w.leaves t u r.content s.content (omega (arith, is_from, r.from), r.to) r.image (omega (arith, is_spool_from, s.from), s.to) s.image),
   )
 
 pub map_same : {X : Type 0} (xs : List X) → map (λ y. y) xs ≡ xs

@@ -18,8 +18,8 @@ fn note(statuses: &mut Vec<u8>, status: u8) -> Result<(), PlayFault>
     }
 }
 
-/// Plays acts one after another, and answers what each call ended with: disks that keep the logs of all stanzas keep them with
-/// all of these calls, in their order.
+/// Plays acts one after another, and answers what each call ended with: disks that keep the logs of all stanzas keep
+/// them with all of these calls, in their order.
 pub fn play<U: Turns>(
     alloc: Global,
     disks: Disks,
@@ -27,7 +27,8 @@ pub fn play<U: Turns>(
     links: &mut Vec<Box<dyn Link>>,
     turns: &mut U,
 ) -> Result<(Disks, Vec<u8>), PlayFault>
-    ensures keeps { IfOk result (λ r. (before : List Call) → KeepsAll before (views disks) → (after : List Call) × ArePlayed ActGoes acts.items r.1.items before after × KeepsAll after (views r.0)) }
+    ensures keeps { IfOk result (λ r. (before : List Call) → KeepsAll before (views disks)
+        → (after : List Call) × ArePlayed ActGoes acts.items r.1.items before after × KeepsAll after (views r.0)) }
 {
     let mut last = disks;
     let mut statuses = Vec::new(alloc);

@@ -2,13 +2,15 @@
 ghost use Rattle.std.specs.Prelude.{◌≡◌, ◌≤◌, [], List, map, string_bytes, is_some, IfOk};
 ghost use Rattle.pgb_outside.specs.Content.{Content};
 ghost use Rattle.pgb_outside.specs.Moments.{IsImage};
-ghost use Rattle.pgb_story.specs.Story.{Call, IsReopened, KeepsAll};
-ghost use Rattle.pgb_headline.specs.Acts.{both, GoesOn, Went};
+ghost use Rattle.pgb_model.proofs.Reopened.{IsReopened};
+ghost use Rattle.pgb_story.specs.Story.{Call, KeepsAll};
+ghost use Rattle.pgb_headline.specs.Acts.{Went};
+ghost use Rattle.pgb_headline.specs.Lists.{views, files_of, nodes_of, IsLeft, ActGoes};
 
-use crate::calling::went;
+use crate::calling::called;
 use pgb_command::Outside;
 use pgb_memory::{MemDisk, MemLocks, MemSink, MemSource, MemTree};
-use pgb_outside::{Disk, Link, Locks, NotThere, Source, Tree, Turns};
+use pgb_outside::{Disk, Link, NotThere, Turns};
 use pgb_server::memory::MemWire;
 use std::alloc::Global;
 
@@ -29,8 +31,8 @@ pub struct Halt {
     pub spool: Left,
 }
 
-/// A call of the program with these words, on this data folder, with this server, locks that others hold, and configuration; and
-/// the stop within it, where there is one.
+/// A call of the program with these words, on this data folder, with this server, locks that others hold, and
+/// configuration; and the stop within it, where there is one.
 #[derive(Drop)]
 pub struct Act {
     pub words: Vec<String>,
@@ -55,14 +57,18 @@ pub enum PlayFault {
     Moment,
     /// A stop doesn't leave this.
     Image,
-    /// It isn't proved yet.
-    Unproved,
     NoMemory,
 }
 
 // The disk, opened anew on what a stop at a moment from this one on leaves.
-fn reopened(alloc: Global, disk: &MemDisk, from: u64, left: Left) -> Result<MemDisk, PlayFault>
-    ensures opened { IfOk result (λ d. (f : Content) × (from ≤ left.moment) × (left.moment ≤ (⟦<MemDisk as Disk>⟧.view disk.now).moment) × IsImage (⟦<MemDisk as Disk>⟧.view disk.now) left.moment f × IsReopened f (⟦<MemDisk as Disk>⟧.view d)) }
+fn reopened(
+    alloc: Global,
+    disk: &MemDisk,
+    from: u64,
+    left: Left,
+) -> Result<MemDisk, PlayFault>
+    ensures opened { IfOk result (λ d. IsLeft (⟦<MemDisk as Disk>⟧.state disk.now).view from left.moment
+        (⟦<MemDisk as Disk>⟧.state d).view) }
 {
     if left.moment < from || disk.moment() < left.moment {
         return Err(PlayFault::Moment);
@@ -88,10 +94,10 @@ fn call_on<U: Turns>(
     config: MemSource,
     links: &mut Vec<Box<dyn Link>>,
     turns: &mut U,
-) -> Result<(Disks, u8), PlayFault>
-    ensures went { IfOk result (λ r. (before : List Call) → KeepsAll before (both (⟦<MemDisk as Disk>⟧.view disks.repo) (⟦<MemDisk as Disk>⟧.view disks.spool))
-        → Went (map string_bytes words.now) (⟦<MemSource as Source>⟧.files config) (⟦<MemTree as Tree>⟧.nodes tree) r.1 before
-        (both (⟦<MemDisk as Disk>⟧.view disks.repo) (⟦<MemDisk as Disk>⟧.view disks.spool)) (both (⟦<MemDisk as Disk>⟧.view r.0.repo) (⟦<MemDisk as Disk>⟧.view r.0.spool))) }
+) -> (Disks, u8)
+    ensures went { (before : List Call) → KeepsAll before (views disks)
+        → Went (map string_bytes words.now) (files_of config) (nodes_of tree) result.1 before
+        (views disks) (views result.0) }
 {
     let Disks { repo, spool } = disks;
     let mut outside = Outside {
@@ -105,33 +111,43 @@ fn call_on<U: Turns>(
         config,
         out: MemSink::new(alloc, Vec::new(alloc)),
     };
-    let went = went(alloc, words, &mut outside, links, turns);
+    let status = called(alloc, words, &mut outside, links, turns);
     let disks = Disks {
         repo: outside.repo,
         spool: outside.spool,
     };
-    match went {
-        Ok(status) => Ok((disks, status)),
-        Err(_) => Err(PlayFault::Unproved),
-    }
+    (disks, status)
 }
 
 // Opens both disks anew on what the stop leaves of each.
-fn both_reopened(alloc: Global, disks: &Disks, repo_from: u64, spool_from: u64, halt: Halt) -> Result<Disks, PlayFault>
-    ensures repo { IfOk result (λ d. (f : Content) × (repo_from ≤ halt.repo.moment) × (halt.repo.moment ≤ (⟦<MemDisk as Disk>⟧.view disks.now.repo).moment) × IsImage (⟦<MemDisk as Disk>⟧.view disks.now.repo) halt.repo.moment f × IsReopened f (⟦<MemDisk as Disk>⟧.view d.repo)) }
-    ensures spool { IfOk result (λ d. (f : Content) × (spool_from ≤ halt.spool.moment) × (halt.spool.moment ≤ (⟦<MemDisk as Disk>⟧.view disks.now.spool).moment) × IsImage (⟦<MemDisk as Disk>⟧.view disks.now.spool) halt.spool.moment f × IsReopened f (⟦<MemDisk as Disk>⟧.view d.spool)) }
+fn both_reopened(
+    alloc: Global,
+    disks: &Disks,
+    repo_from: u64,
+    spool_from: u64,
+    halt: Halt,
+) -> Result<Disks, PlayFault>
+    ensures repo { IfOk result (λ d. IsLeft (⟦<MemDisk as Disk>⟧.state disks.now.repo).view repo_from
+        halt.repo.moment (⟦<MemDisk as Disk>⟧.state d.repo).view) }
+    ensures spool { IfOk result (λ d. IsLeft (⟦<MemDisk as Disk>⟧.state disks.now.spool).view spool_from
+        halt.spool.moment (⟦<MemDisk as Disk>⟧.state d.spool).view) }
 {
     let repo = reopened(alloc, &disks.repo, repo_from, halt.repo)?;
     let spool = reopened(alloc, &disks.spool, spool_from, halt.spool)?;
     Ok(Disks { repo, spool })
 }
 
-/// Plays a call, with its stop where it has one: disks that keep the logs of all stanzas keep them with the call. It answers
-/// the status that the call ends with, or would have ended with.
-pub fn play_one<U: Turns>(alloc: Global, disks: Disks, act: Act, links: &mut Vec<Box<dyn Link>>, turns: &mut U) -> Result<(Disks, u8), PlayFault>
-    ensures keeps { IfOk result (λ r. (before : List Call) → KeepsAll before (both (⟦<MemDisk as Disk>⟧.view disks.repo) (⟦<MemDisk as Disk>⟧.view disks.spool))
-        → (after : List Call) × GoesOn (map string_bytes act.words.items) (⟦<MemSource as Source>⟧.files act.config) (⟦<MemTree as Tree>⟧.nodes act.tree) r.1 (is_some act.halt) before after
-        × KeepsAll after (both (⟦<MemDisk as Disk>⟧.view r.0.repo) (⟦<MemDisk as Disk>⟧.view r.0.spool))) }
+/// Plays a call, with its stop where it has one: disks that keep the logs of all stanzas keep them with the call. It
+/// answers the status that the call ends with, or would have ended with.
+pub fn play_one<U: Turns>(
+    alloc: Global,
+    disks: Disks,
+    act: Act,
+    links: &mut Vec<Box<dyn Link>>,
+    turns: &mut U,
+) -> Result<(Disks, u8), PlayFault>
+    ensures keeps { IfOk result (λ r. (before : List Call) → KeepsAll before (views disks)
+        → (after : List Call) × ActGoes act r.1 before after × KeepsAll after (views r.0)) }
 {
     let repo_from = disks.repo.moment();
     let spool_from = disks.spool.moment();
@@ -143,7 +159,9 @@ pub fn play_one<U: Turns>(alloc: Global, disks: Disks, act: Act, links: &mut Vec
         config,
         halt,
     } = act;
-    let (ended, status) = call_on(alloc, disks, &words, tree, server, held, config, links, turns)?;
+    let (ended, status) = call_on(
+        alloc, disks, &words, tree, server, held, config, links, turns,
+    );
     match halt {
         None => Ok((ended, status)),
         Some(halt) => {
