@@ -4,10 +4,10 @@ use Rattle.pgb_outside.specs.Content.{Content}
 use Rattle.pgb_model.specs.declared.wal.ArchiveId.{ArchiveId}
 use Rattle.pgb_model.specs.declared.wal.ArchiveName.{ArchiveName}
 use Rattle.pgb_model.specs.Text.{Text}
-use Rattle.pgb_archive.specs.Causes.{StoresBytes}
+use Rattle.pgb_stored.specs.Causes.{StoresBytes}
 use Rattle.pgb_archive.specs.Pushes.{IsPathOf}
-use Rattle.pgb_archive.specs.Stored.{archive_path, HasSum, Stores, StoresNone, StoresOnly}
-use Rattle.pgb_archive.proofs.Owns.{stored_has}
+use Rattle.pgb_stored.specs.Stored.{archive_path, HasSum, Stores, StoresNone, StoresOnly}
+use Rattle.pgb_stored.proofs.Owns.{stored_has}
 
 module _ (stanza : Text) (id : ArchiveId) (name : ArchiveName) (f g : Content) (same : (n : Text) → IsPathOf stanza id name n → g n ≡ f n) where
   pub alike_stores : (sum : Text) → Stores stanza id name f sum → Stores stanza id name g sum

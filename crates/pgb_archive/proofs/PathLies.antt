@@ -8,12 +8,12 @@ use Rattle.pgb_model.specs.declared.wal.ArchiveName.{ArchiveName}
 use Rattle.pgb_model.specs.declared.wal.ArchiveName.TheVariants.{Segment as Whole, Partial, History, Backup}
 use Rattle.pgb_model.specs.Text.{Text, hex_upper}
 use Rattle.pgb_model.specs.Names.{wal_text, segment_text}
-use Rattle.pgb_archive.specs.Paths.{Lacks, has_sum}
-use Rattle.pgb_archive.specs.Looks.{file_place, dash, sum_digits}
+use Rattle.pgb_stored.specs.Paths.{Lacks, has_sum}
+use Rattle.pgb_stored.specs.Looks.{file_place, dash, sum_digits}
 use Rattle.pgb_archive.specs.Pushes.{IsPathOf}
-use Rattle.pgb_archive.proofs.Cuts.{lacks_append, hex_lacks}
-use Rattle.pgb_archive.proofs.OnePath.{segment_lacks, history_lacks, history_slash}
-use Rattle.pgb_archive.proofs.Looked.{in_place}
+use Rattle.pgb_stored.proofs.Cuts.{lacks_append, hex_lacks}
+use Rattle.pgb_stored.proofs.OnePath.{segment_lacks, history_lacks, history_slash}
+use Rattle.pgb_stored.proofs.Looked.{in_place}
 
 index_lacks : (c : ℕ) (t : Text) → Lacks c t → c ≢ 0 → (i : ℕ) → slice_index t i ≢ c
 index_lacks c [] lacks some i e = some (sym e)

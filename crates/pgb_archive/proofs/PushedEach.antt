@@ -27,9 +27,9 @@ use Rattle.pgb_model.specs.Steady.{IsSteady, Moves}
 use Rattle.pgb_model.specs.Walks.{IsTight, Walks}
 use Rattle.pgb_model.proofs.Segments.{IsPartOfPush, NowPartOfPush}
 use Rattle.pgb_model.proofs.Walking.{rests_tight, rests_walks, walks_on, ends_on, crash_walks, ends_with, settled_same, settles_on, steady_tight, walks_moves, ends_steady}
-use Rattle.pgb_archive.specs.declared.names.FileNames.{FileNames}
-use Rattle.pgb_archive.specs.Stored.{archived_file, archive_path, StoresNone}
-use Rattle.pgb_archive.specs.Looks.{AreNamesOf, path_with}
+use Rattle.pgb_stored.specs.declared.names.FileNames.{FileNames}
+use Rattle.pgb_stored.specs.Stored.{archived_file, archive_path, StoresNone}
+use Rattle.pgb_stored.specs.Looks.{AreNamesOf, path_with}
 use Rattle.pgb_archive.specs.Pushes.{IsPathOf, PushesPart, PushesAll, LeavesPart, LeavesAll}
 use Rattle.pgb_archive.proofs.AlikeFiles.{alike_stores, alike_none}
 use Rattle.pgb_archive.proofs.FilePushed.{StoresSome, lacks_at, new_push, no_push}

@@ -1,13 +1,5 @@
-pub mod Stored
-pub mod Causes
+pub mod Fault
 pub mod Still
 pub mod Pieces
-pub mod Fault
-pub mod Paths
-pub mod Listing
-pub mod Looks
-pub mod Turns
-pub mod OnePush
-pub mod Ends
 pub mod Pushes
 pub mod Pushing

@@ -12,7 +12,7 @@ use Rattle.pgb_model.specs.Repository.{Stanza}
 use Rattle.pgb_model.specs.Stands.{Stands, HasStanza}
 use Rattle.pgb_model.specs.Steps.{Step, One, IsPartOf, after, after_all, push_of}
 use Rattle.pgb_model.specs.Walks.{IsTight, Walks}
-use Rattle.pgb_archive.specs.Stored.{archived_file, archive_path, ChangesArchive}
+use Rattle.pgb_stored.specs.Stored.{archived_file, archive_path, ChangesArchive}
 
 -- the name is the file's, with some sum
 abbrev pub IsPathOf : Text → ArchiveId → ArchiveName → Text → Type 0

@@ -7,22 +7,20 @@ ghost use Rattle.pgb_outside.specs.Cause.{Rises};
 ghost use Rattle.pgb_outside.specs.Crash.{NowGoes, AllOf};
 ghost use Rattle.pgb_model.specs.Text.{Text};
 ghost use Rattle.pgb_wal.specs.Header.{BeginsWith};
-ghost use Rattle.pgb_archive.specs.Causes.{IsFileOf, HeaderCause, PushCause, OnFinding};
-ghost use Rattle.pgb_archive.specs.Looks.{AreNamesOf, Shows};
+ghost use Rattle.pgb_stored.specs.Causes.{IsFileOf, HeaderCause, PushCause, OnFinding};
+ghost use Rattle.pgb_stored.specs.Looks.{AreNamesOf, Shows};
 ghost use Rattle.pgb_archive.specs.Pushes.{IsPathOf, writes_of, Leaves, LeavesFile};
 ghost use Rattle.pgb_archive.specs.Pushing.{IsPushedAs, PushFromCause, OnPushFinding, AreOfSystem, HasPlaces, ReadsSum, OtherCause};
 ghost use Rattle.pgb_archive.specs.Still.{IsStill};
-ghost use Rattle.pgb_archive.specs.Stored.{StoresNone, StoresOnly};
+ghost use Rattle.pgb_stored.specs.Stored.{StoresNone, StoresOnly};
 
-use crate::fault::{ArchiveFault, PushFault, source_fault};
-use crate::looking::{Kept, Look, look_settled};
-use crate::names::{FileNames, file_names};
-use crate::paths::has_sum;
+use crate::fault::{PushFault, source_fault};
 use crate::pieces::{Front, Held, Pieces};
 use crate::staging::put_new;
 use crate::summing::{PIECE_SIZE, sum_of};
 use pgb_model::{ArchiveId, ArchiveName};
 use pgb_outside::Disk;
+use pgb_stored::{ArchiveFault, FileNames, Kept, Look, file_names, has_sum, look_settled};
 use pgb_wal::check_front;
 use std::alloc::Global;
 

@@ -11,21 +11,20 @@ ghost use Rattle.pgb_model.specs.Repository.{Stanza};
 ghost use Rattle.pgb_model.specs.Now.{NowStands};
 ghost use Rattle.pgb_model.specs.Text.{Text, In};
 ghost use Rattle.pgb_model.specs.Walks.{IsTight};
-ghost use Rattle.pgb_archive.specs.Stored.{archived_file, Finds};
-ghost use Rattle.pgb_archive.specs.Paths.{has_sum};
+ghost use Rattle.pgb_stored.specs.Stored.{archived_file, Finds};
+ghost use Rattle.pgb_stored.specs.Paths.{has_sum};
 ghost use Rattle.pgb_archive.specs.Pushes.{IsPathOf};
 ghost use Rattle.pgb_archive.specs.Pushing.{HasPlaces};
-ghost use Rattle.pgb_archive.specs.Looks.{AreNamesOf, IsStoredAs, IsStop};
-ghost use Rattle.pgb_archive.specs.Causes.{StoresBytes, GetCause, ReadCause, IsUnarchived, PresentCause, OnAnswer, limit_of};
+ghost use Rattle.pgb_stored.specs.Looks.{AreNamesOf, IsStoredAs, IsStop};
+ghost use Rattle.pgb_stored.specs.Causes.{StoresBytes, GetCause, ReadCause, IsUnarchived, PresentCause, OnAnswer, limit_of};
 
-use crate::fault::ArchiveFault;
-use crate::files::Stored;
-use crate::looking::{HISTORY_LIMIT, Kept, Look, look_in_folder, look_settled};
-use crate::names::{FileNames, file_names};
-use crate::paths::has_sum;
 use pgb_disk::read_whole;
 use pgb_model::{ArchiveId, ArchiveName};
 use pgb_outside::Disk;
+use pgb_stored::{
+    ArchiveFault, FileNames, HISTORY_LIMIT, Kept, Look, Stored, file_names, has_sum,
+    look_in_folder, look_settled,
+};
 use pgb_text::Sum;
 use std::alloc::Global;
 

@@ -7,17 +7,17 @@ use Rattle.std.proofs.lemmas.Grind.{common_steps}
 use Rattle.pgb_outside.specs.Content.{Content}
 use Rattle.pgb_model.specs.Text.{Text}
 use Rattle.pgb_ini.specs.Config.{Setting}
-use Rattle.pgb_options.specs.declared.table.TheConstants.{TABLE, VERBS}
-use Rattle.pgb_options.specs.declared.table.Opt.{Opt}
-use Rattle.pgb_options.specs.declared.table.Opt.TheVariants.{Stanza}
-use Rattle.pgb_options.specs.declared.table.Verb.{Verb}
-use Rattle.pgb_options.specs.declared.table.Verb.TheVariants.{StanzaCreate, ArchivePush, ArchivePushAsync, ArchiveGet, ArchiveGetAsync, Backup, Expire, Restore, Verify, Info, Rehearse}
+use Rattle.pgb_table.specs.declared.table.TheConstants.{TABLE, VERBS}
+use Rattle.pgb_table.specs.declared.table.Opt.{Opt}
+use Rattle.pgb_table.specs.declared.table.Opt.TheVariants.{Stanza}
+use Rattle.pgb_table.specs.declared.table.Verb.{Verb}
+use Rattle.pgb_table.specs.declared.table.Verb.TheVariants.{StanzaCreate, ArchivePush, ArchivePushAsync, ArchiveGet, ArchiveGetAsync, Backup, Expire, Restore, Verify, Info, Rehearse}
 use Rattle.pgb_options.specs.Faults.{Fault, ◌>>=◌}
-use Rattle.pgb_options.specs.Table.{row}
-use Rattle.pgb_options.specs.Values.{is_stanza, is_stanza_byte}
+use Rattle.pgb_table.specs.Table.{row}
+use Rattle.pgb_table.specs.Values.{is_stanza, is_stanza_byte}
 use Rattle.pgb_options.specs.Words.{Words, read_words}
 use Rattle.pgb_options.specs.Settings.{Source, Settled, settle, settled_words, settled, source_of, sections_of, configured, accepted, command_of, each_is_for, stanza_of, value_given, value_configured, none_wrong, none_lacking, refused, is_wrong, is_for, in_force, value}
-use Rattle.pgb_archive.specs.Paths.{Lacks}
+use Rattle.pgb_stored.specs.Paths.{Lacks}
 use Rattle.pgb_archive.proofs.PathLies.{lacks_not}
 use Rattle.pgb_story.specs.Beside.{IsStanza}
 use Rattle.pgb_command.specs.Asked.{Settles, Asked, MayAsk}

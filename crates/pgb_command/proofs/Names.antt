@@ -3,12 +3,12 @@ use Rattle.std.proofs.Common.{◌≡◌, ◌≤◌, ◌<◌, ◌+◌, ◌^◌, a
 use Rattle.std.specs.Prelude.{option_and_then}
 use Rattle.std.proofs.lemmas.Grind.{common_steps}
 use Rattle.pgb_model.specs.Text.{Text}
-use Rattle.pgb_options.specs.declared.table.Opt.TheVariants.{Pg1User, Pg1Database}
+use Rattle.pgb_table.specs.declared.table.Opt.TheVariants.{Pg1User, Pg1Database}
 use Rattle.pgb_options.specs.Filled.{text_in, or_else}
 use Rattle.pgb_options.specs.Settings.{Source, in_force, value}
-use Rattle.pgb_options.specs.Table.{row}
-use Rattle.pgb_options.specs.Table as table
-use Rattle.pgb_options.specs.Values.{is_text, text_where, value_of}
+use Rattle.pgb_table.specs.Table.{row}
+use Rattle.pgb_table.specs.Table as table
+use Rattle.pgb_table.specs.Values.{is_text, text_where, value_of}
 use Rattle.pgb_command.specs.Asked.{path_in}
 
 within : (t : Text) (b : Bool) → is_text t ≡ b → length (or_else [] (text_in (text_where b t))) ≤ 1024

@@ -5,7 +5,7 @@ use Rattle.pgb_outside.specs.Content.{Content}
 use Rattle.pgb_model.specs.Text.{Text}
 use Rattle.pgb_options.specs.declared.options.OutputWord.{OutputWord}
 use Rattle.pgb_options.specs.declared.settle.Command.{Command}
-use Rattle.pgb_options.specs.declared.table.Opt.TheVariants.{Pg1Path, Repo1Path, LockPath}
+use Rattle.pgb_table.specs.declared.table.Opt.TheVariants.{Pg1Path, Repo1Path, LockPath}
 use Rattle.pgb_options.specs.Commands.{IsCommand}
 use Rattle.pgb_options.specs.Settings.{Settled}
 use Rattle.pgb_stage.specs.declared.fault.Unbuilt.{Unbuilt}

@@ -2,11 +2,11 @@
 use Rattle.std.specs.Prelude.{◌≡◌, ◌≤◌, ℕ, ◌^◌, Bool, false, List, [], ◌∷◌, length, Option, Some, None, Result, Ok, Err, IfSome, IsSome, if◌then◌else◌}
 use Rattle.pgb_outside.specs.Content.{Content}
 use Rattle.pgb_model.specs.Text.{Text}
-use Rattle.pgb_options.specs.declared.table.Opt.{Opt}
+use Rattle.pgb_table.specs.declared.table.Opt.{Opt}
 use Rattle.pgb_options.specs.declared.options.OutputWord.{OutputWord}
-use Rattle.pgb_options.specs.declared.table.Opt.TheVariants.{Pg1Path, Pg1SocketPath, Pg1Port, Pg1User, Pg1Database, Repo1Path, LockPath, Online, ArchiveAsync, Output}
-use Rattle.pgb_options.specs.declared.table.Verb.{Verb}
-use Rattle.pgb_options.specs.declared.table.Verb.TheVariants.{StanzaCreate, ArchivePush, ArchiveGet, Info}
+use Rattle.pgb_table.specs.declared.table.Opt.TheVariants.{Pg1Path, Pg1SocketPath, Pg1Port, Pg1User, Pg1Database, Repo1Path, LockPath, Online, ArchiveAsync, Output}
+use Rattle.pgb_table.specs.declared.table.Verb.{Verb}
+use Rattle.pgb_table.specs.declared.table.Verb.TheVariants.{StanzaCreate, ArchivePush, ArchiveGet, Info}
 use Rattle.pgb_options.specs.Faults.{Fault}
 use Rattle.pgb_options.specs.Filled.{text_in, number_in, flag_in, or_else, output_word, word_in}
 use Rattle.pgb_options.specs.Paths.{Path, nowhere, usual, named, path_of_words}

@@ -1,8 +1,8 @@
 // What is handed to the program.
 ghost use Rattle.pgb_stage.specs.Seen.{Seen};
 
-use pgb_archive::Aside;
 use pgb_outside::{Clock, Disk, Locks, Sink, Source, Tree, Wire};
+use pgb_turn::Aside;
 
 /// The objects that the program works on: the repository, the spool, the data folder, the connection to the
 /// server, other processes, the clock, the locks, the configuration and the output.

@@ -9,7 +9,6 @@ ghost use Rattle.pgb_command.specs.Tables.{plan_of};
 use crate::fault::{Fault, create_end, get_end, inform_end, push_end};
 use crate::outside::{Outside, Told};
 use crate::settings::Settings;
-use pgb_archive::Aside;
 use pgb_create::create_stanza;
 use pgb_get::{GetOrder, get_file};
 use pgb_inform::report_stanza;
@@ -18,6 +17,7 @@ use pgb_outside::{Clock, Disk, Locks, Sink, Source, Tree, Wire};
 use pgb_prepare::Ready;
 use pgb_push::{PushOrder, push_file};
 use pgb_stage::Outcome;
+use pgb_turn::Aside;
 use std::alloc::Global;
 
 impl<

@@ -6,7 +6,8 @@ ghost use Rattle.pgb_create.specs.Server.{server_view};
 ghost use Rattle.pgb_command.specs.Asked.{server_asked};
 
 use pgb_create::Server;
-use pgb_options::{Command, Verb};
+use pgb_options::Command;
+use pgb_table::Verb;
 
 /// The one that the command asks for its system, where it asks one.
 pub(crate) fn server_of(command: &Command) -> Option<Server<'_>>

@@ -9,8 +9,9 @@ ghost use Rattle.pgb_command.specs.Told.{request_of, asked_of};
 
 use crate::server::server_of;
 use pgb_create::Server;
-use pgb_options::{Command, OutputWord, Verb};
+use pgb_options::{Command, OutputWord};
 use pgb_stage::{Pairs, Plan, Settling, Unbuilt};
+use pgb_table::Verb;
 
 /// Which command is asked for.
 #[derive(Clone, Copy)]

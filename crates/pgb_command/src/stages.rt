@@ -15,12 +15,12 @@ use crate::fault::Fault;
 use crate::order::{Order, order_of};
 use crate::outside::{Outside, Told};
 use crate::settings::{Settings, plan_of};
-use pgb_archive::Aside;
 use pgb_outside::{Clock, Disk, Locks, Sink, Source, Tree, Wire};
 use pgb_prepare::{
     LockNames, Ready, lock_names, open_disk, open_tree, prepare, release_locks, take_locks,
 };
 use pgb_stage::{Halt, Object, Outcome, Plan, StageFault};
+use pgb_turn::Aside;
 use std::alloc::Global;
 
 // The data folder, where it is opened.

@@ -13,10 +13,10 @@ use crate::fault::Fault;
 use crate::output::answer;
 use crate::outside::{Outside, Told};
 use crate::settings::settings_of;
-use pgb_archive::Aside;
 use pgb_options::Command;
 use pgb_outside::{Clock, Disk, Link, Locks, Sink, Source, Tree, Turns, Wire};
 use pgb_stage::StageFault;
+use pgb_turn::Aside;
 use std::alloc::Global;
 
 /// Does what the command asks for, writes the output, and answers the status that the program ends with.

@@ -21,9 +21,9 @@ ghost use Rattle.pgb_create.specs.Creating.{create_early, IsCreated, IsStanzaFau
 use crate::fault::CreateFault;
 use crate::server::Server;
 use crate::talking::check_server;
-use pgb_info::label_text;
 use pgb_outside::{Disk, Wire};
 use pgb_stage::{Halt, Object, Outcome};
+use pgb_stamp::label_text;
 use pgb_stanza::{Control, StanzaFault, create};
 use std::alloc::Global;
 

@@ -7,11 +7,3 @@ pub mod Laws
 pub mod Settled
 pub mod Cut
 pub mod ReplyFrames
-pub mod Written
-pub mod Filled
-pub mod Parted
-pub mod BytesTold
-pub mod ItemTold
-pub mod JobTold
-pub mod Heard
-pub mod Served

@@ -2,8 +2,3 @@ pub mod Frames
 pub mod Replies
 pub mod Views
 pub mod Reading
-pub mod Writing
-pub mod Answers
-pub mod Opening
-pub mod Hearing
-pub mod Serving

@@ -18,9 +18,9 @@ use Rattle.pgb_model.specs.Now.{NowStands}
 use Rattle.pgb_keys.proofs.Numbers.{in_map, map_in}
 use Rattle.pgb_info.proofs.OneArchive.{one_archive_pair}
 use Rattle.pgb_stanza.specs.declared.control.Control.{Control}
-use Rattle.pgb_archive.specs.declared.fault.ArchiveFault.TheVariants.{NotFound}
-use Rattle.pgb_archive.specs.Stored.{StoresNone}
-use Rattle.pgb_archive.specs.Causes.{StoresBytes, IsUnarchived}
+use Rattle.pgb_stored.specs.declared.fault.ArchiveFault.TheVariants.{NotFound}
+use Rattle.pgb_stored.specs.Stored.{StoresNone}
+use Rattle.pgb_stored.specs.Causes.{StoresBytes, IsUnarchived}
 use Rattle.pgb_archive.proofs.Got.{got_archived, answer_none}
 use Rattle.pgb_stage.specs.Current.{id_kept}
 use Rattle.pgb_stage.proofs.Places.{place_of}

@@ -8,10 +8,10 @@ use Rattle.pgb_model.specs.declared.wal.ArchiveName.{ArchiveName}
 use Rattle.pgb_model.specs.Text.{Text, In}
 use Rattle.pgb_model.specs.InfoFiles.{AreFrom}
 use Rattle.pgb_stanza.specs.declared.control.Control.{Control}
-use Rattle.pgb_archive.specs.declared.fault.ArchiveFault.{ArchiveFault}
-use Rattle.pgb_archive.specs.declared.fault.ArchiveFault.TheVariants.{Ambiguous as AmbiguousOf, SegmentDamaged as DamagedOf, TooLong as LongOf}
-use Rattle.pgb_archive.specs.Stored.{StoresNone}
-use Rattle.pgb_archive.specs.Causes.{StoresBytes, GetCause as ArchiveCause}
+use Rattle.pgb_stored.specs.declared.fault.ArchiveFault.{ArchiveFault}
+use Rattle.pgb_stored.specs.declared.fault.ArchiveFault.TheVariants.{Ambiguous as AmbiguousOf, SegmentDamaged as DamagedOf, TooLong as LongOf}
+use Rattle.pgb_stored.specs.Stored.{StoresNone}
+use Rattle.pgb_stored.specs.Causes.{StoresBytes, GetCause as ArchiveCause}
 use Rattle.pgb_get.specs.declared.fault.GetFault.{GetFault}
 use Rattle.pgb_get.specs.declared.fault.GetFault.TheVariants.{SegmentName, PathOutside, StanzaMismatch, Ambiguous, SegmentDamaged, TooLong}
 use Rattle.pgb_stage.specs.Current.{id_kept}

@@ -16,10 +16,10 @@ use Rattle.pgb_model.specs.InfoFiles.{IsArchiveText}
 use Rattle.pgb_model.specs.Repository.{Stanza, identity_of, id_of}
 use Rattle.pgb_model.specs.Stands.{IsWalName}
 use Rattle.pgb_stanza.specs.declared.control.Control.{Control}
-use Rattle.pgb_archive.specs.declared.fault.ArchiveFault.{ArchiveFault}
-use Rattle.pgb_archive.specs.declared.fault.ArchiveFault.TheVariants.{Ambiguous as AmbiguousOf, SegmentDamaged as DamagedOf, TooLong as LongOf}
-use Rattle.pgb_archive.specs.Causes.{StoresBytes, GetCause as ArchiveCause, IsUnarchived}
-use Rattle.pgb_archive.specs.Stored.{archived_file, StoresNone}
+use Rattle.pgb_stored.specs.declared.fault.ArchiveFault.{ArchiveFault}
+use Rattle.pgb_stored.specs.declared.fault.ArchiveFault.TheVariants.{Ambiguous as AmbiguousOf, SegmentDamaged as DamagedOf, TooLong as LongOf}
+use Rattle.pgb_stored.specs.Causes.{StoresBytes, GetCause as ArchiveCause, IsUnarchived}
+use Rattle.pgb_stored.specs.Stored.{archived_file, StoresNone}
 use Rattle.pgb_stage.specs.Cluster.{FolderTells}
 use Rattle.pgb_stage.specs.Current.{id_kept}
 use Rattle.pgb_stage.specs.declared.outcome.Outcome.{Outcome}

@@ -15,11 +15,11 @@ use Rattle.pgb_model.specs.declared.wal.ArchiveName.{ArchiveName}
 use Rattle.pgb_model.specs.Text.{Text}
 use Rattle.pgb_model.specs.Walks.{IsTight}
 use Rattle.pgb_stanza.specs.declared.control.Control.{Control}
-use Rattle.pgb_archive.specs.declared.fault.ArchiveFault.{ArchiveFault}
-use Rattle.pgb_archive.specs.declared.fault.ArchiveFault.TheVariants.{Ambiguous as AmbiguousOf, SegmentDamaged as DamagedOf, TooLong as LongOf, Disk as DiskOf}
-use Rattle.pgb_archive.specs.Causes.{StoresBytes, GetCause as ArchiveCause}
+use Rattle.pgb_stored.specs.declared.fault.ArchiveFault.{ArchiveFault}
+use Rattle.pgb_stored.specs.declared.fault.ArchiveFault.TheVariants.{Ambiguous as AmbiguousOf, SegmentDamaged as DamagedOf, TooLong as LongOf, Disk as DiskOf}
+use Rattle.pgb_stored.specs.Causes.{StoresBytes, GetCause as ArchiveCause}
 use Rattle.pgb_archive.specs.Pushes.{IsPathOf}
-use Rattle.pgb_archive.specs.Stored.{StoresNone}
+use Rattle.pgb_stored.specs.Stored.{StoresNone}
 use Rattle.pgb_stage.specs.declared.object.Object.{Object}
 use Rattle.pgb_stage.specs.declared.object.Object.TheVariants.{Repo}
 use Rattle.pgb_stage.specs.declared.halt.Halt.{Halt}

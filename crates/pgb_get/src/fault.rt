@@ -2,9 +2,9 @@
 ghost use Rattle.std.specs.Prelude.{◌≡◌};
 ghost use Rattle.pgb_get.specs.Serving.{of_archive};
 
-use pgb_archive::ArchiveFault;
 use pgb_stage::{Halt, Object};
 use pgb_stanza::Identity;
+use pgb_stored::ArchiveFault;
 use pgb_text::Sum;
 
 /// Why archive-get is refused, in the order in which refusals come.

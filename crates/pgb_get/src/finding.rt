@@ -4,8 +4,8 @@ ghost use Rattle.pgb_outside.specs.Content.{Content};
 ghost use Rattle.pgb_outside.specs.States.{Looks};
 ghost use Rattle.pgb_model.specs.declared.clusters.ClusterId.{ClusterId};
 ghost use Rattle.pgb_model.specs.InfoFiles.{AreFrom};
-ghost use Rattle.pgb_archive.specs.Paths.{has_sum};
-ghost use Rattle.pgb_archive.specs.Stored.{Finds};
+ghost use Rattle.pgb_stored.specs.Paths.{has_sum};
+ghost use Rattle.pgb_stored.specs.Stored.{Finds};
 ghost use Rattle.pgb_stage.specs.Halts.{HaltCause};
 ghost use Rattle.pgb_get.specs.Getting.{IsSame, HasSame, ChangesPath};
 ghost use Rattle.pgb_get.specs.Serving.{EitherFailed, Puts, AreBytes, IsUnstored, FileCause, IsLeft, EndsAlike};
@@ -15,11 +15,12 @@ ghost use Rattle.pgb_get.specs.Serving.{AreFoundIn, IsAbsentIn, SearchCause};
 use crate::fault::{GetFault, of_archive};
 use crate::order::GetOrder;
 use crate::serving::{Passed, pass_on, put_file};
-use pgb_archive::{ArchiveFault, Stored, get, has_sum, present};
+use pgb_archive::{get, present};
 use pgb_model::{ArchiveId, ClusterId};
 use pgb_outside::{Disk, Tree};
 use pgb_stage::Halt;
 use pgb_stanza::Control;
+use pgb_stored::{ArchiveFault, Stored, has_sum};
 use std::alloc::Global;
 
 // Whether a cluster of the history is the data folder's.

@@ -21,7 +21,7 @@ use Rattle.pgb_wal.proofs.Compared.{text_cmp-hex_upper}
 use Rattle.pgb_wal.proofs.Digits.{same_front}
 use Rattle.pgb_info.specs.Entries.{between}
 use Rattle.pgb_keys.proofs.ByKey.{after_nothing}
-use Rattle.pgb_info.proofs.LabelTexts.{label_text-injective}
+use Rattle.pgb_stamp.proofs.LabelTexts.{label_text-injective}
 use Rattle.pgb_info.proofs.PlainTexts.{label_some}
 
 -- ---- segments

@@ -6,7 +6,7 @@ use Rattle.pgb_model.specs.InfoText.{Section, IsInfo, info_text}
 use Rattle.pgb_ini.proofs.OneText.{one_sections}
 use Rattle.pgb_info.specs.declared.fault.MemberFault.{MemberFault}
 use Rattle.pgb_info.specs.declared.fault.MemberFault.TheVariants.{Absent, TooLong, Syntax, Sum, Form}
-use Rattle.pgb_info.specs.Causes.{IsFormFault}
+use Rattle.pgb_info.specs.Reading.{IsFormFault}
 use Rattle.pgb_info.specs.Reading.{SectionsAre, TextGives}
 
 -- a text of a value is that of its sections

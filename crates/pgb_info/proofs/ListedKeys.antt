@@ -19,7 +19,7 @@ use Rattle.pgb_info.specs.BackupForm.{HasLabel, IsList, IsNext, IsWrongBackup}
 use Rattle.pgb_keys.proofs.ByKey.{both, after_nothing}
 use Rattle.pgb_info.proofs.EntryParts.{same_label}
 use Rattle.pgb_info.proofs.EntryRules.{HasLabels-listed}
-use Rattle.pgb_info.proofs.LabelTexts.{label_text-injective}
+use Rattle.pgb_stamp.proofs.LabelTexts.{label_text-injective}
 use Rattle.pgb_keys.proofs.Numbers.{in_map, map_in}
 use Rattle.pgb_info.proofs.PlainTexts.{label_some}
 use Rattle.pgb_keys.proofs.Seeking.{opened}

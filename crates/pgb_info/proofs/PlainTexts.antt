@@ -20,7 +20,7 @@ use Rattle.pgb_model.specs.Dates.{Date, two, date_digits, clock_digits, date_aft
 use Rattle.pgb_model.specs.Names.{letter, later_text, label_text, segment_text}
 use Rattle.pgb_model.specs.InfoText.{is_key_byte, begins_well, is_key}
 use Rattle.pgb_model.specs.InfoFiles.{IsLabel}
-use Rattle.pgb_info.proofs.Dates.{IsDated, IsDated-date_after}
+use Rattle.pgb_stamp.proofs.Dates.{IsDated, IsDated-date_after}
 
 -- a byte from `-` on, before the small letters, that is no `=` and no `[`
 record IsPlain (c : ℕ) : Type 0 where

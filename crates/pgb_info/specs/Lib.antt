@@ -1,9 +1,5 @@
-pub mod Fault
-pub mod Member
-pub mod Calendar
-pub mod Entries
-pub mod Causes
 pub mod Reading
+pub mod Entries
 pub mod History
 pub mod ArchiveForm
 pub mod BackupForm

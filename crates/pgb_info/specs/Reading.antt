@@ -1,25 +1,30 @@
--- What is read of a member.
-use Rattle.std.specs.Prelude.{◌≡◌, ◌≢◌, ◌≤◌, ◌<◌, ℕ, List, Option, None, Some, length, Result, Ok, Err, Vec}
+-- What is read of a text.
+use Rattle.std.specs.Prelude.{◌≡◌, ◌≢◌, List, string_bytes, Result, Ok, Err, Vec}
 use Rattle.std.specs.declared.alloc.Global.{Global}
-use Rattle.pgb_outside.specs.Content.{Content}
 use Rattle.pgb_model.specs.Text.{Text}
 use Rattle.pgb_model.specs.InfoText.{Section, IsInfo, info_text}
-use Rattle.pgb_model.specs.Pair.{MemberIs}
 use Rattle.pgb_ini.specs.declared.part.Part.{Part}
 use Rattle.pgb_ini.specs.Form.{IsFault, syntax, sum}
 use Rattle.pgb_ini.specs.Parts.{sections_of}
 use Rattle.pgb_info.specs.declared.fault.MemberFault.{MemberFault}
-use Rattle.pgb_info.specs.declared.fault.MemberFault.TheVariants.{Absent, TooLong, Syntax, Sum}
-use Rattle.pgb_info.specs.declared.fault.InfoFault.{InfoFault}
-use Rattle.pgb_info.specs.declared.fault.InfoFault.TheVariants.{Missing, Damaged}
-use Rattle.pgb_info.specs.Causes.{IsTextFault, HasFault}
+use Rattle.pgb_info.specs.declared.fault.MemberFault.TheVariants.{Absent, TooLong, Syntax, Sum, Form}
 
--- the bytes, or that there are none within the limit
-abbrev pub BytesAre : ℕ → Option Text → Result (Vec ℕ Global) MemberFault → Type 0
-BytesAre limit value (Ok bytes) = (value ≡ Some bytes.items) × (length bytes.items ≤ limit)
-BytesAre limit None (Err Absent) = Unit {0}
-BytesAre limit (Some bytes) (Err TooLong) = limit < length bytes
-BytesAre limit value (Err fault) = ⊥
+-- The text is that of some sections, and they break the rules of their kind at this key.
+pub record IsFormFault (IsForm : List Section → Text → Text → Type 0) (bytes section key : Text) : Type 0 where
+  pub sections : List Section
+  pub info : IsInfo sections
+  pub spelled : bytes ≡ info_text sections
+  pub form : IsForm sections section key
+
+-- A kind of text says which value a text is of, and which sections break its rules at a key.
+module _ {V : Type 0} (IsTextOf : V → Text → Type 0) (IsForm : List Section → Text → Text → Type 0) where
+  -- the fault is that of a text within the limit
+  abbrev pub IsTextFault : Text → MemberFault → Type 0
+  IsTextFault bytes Absent = ⊥
+  IsTextFault bytes TooLong = ⊥
+  IsTextFault bytes (Syntax line) = IsFault bytes (syntax line)
+  IsTextFault bytes (Sum told found) = IsFault bytes (sum told.0 found.0)
+  IsTextFault bytes (Form section key) = IsFormFault IsForm bytes (string_bytes section) (string_bytes key)
 
 -- the text is that of the sections, or of none
 abbrev pub SectionsAre : Text → Result (Vec Part Global) MemberFault → Type 0
@@ -34,13 +39,3 @@ module _ {X V : Type 0} (IsTextOf : V → Text → Type 0) (IsForm : List Sectio
   abbrev pub TextGives : Text → Result X MemberFault → Type 0
   TextGives bytes (Ok x) = IsTextOf (value x) bytes
   TextGives bytes (Err fault) = IsTextFault IsTextOf IsForm bytes fault × ((w : V) → ¬ IsTextOf w bytes)
-
-  -- the value of the member, or the fault for which it has none
-  abbrev pub MemberGives : ℕ → Content → Text → Result X MemberFault → Type 0
-  MemberGives limit f name (Ok x) = MemberIs IsTextOf f name (value x)
-  MemberGives limit f name (Err fault) = HasFault IsTextOf IsForm limit f name fault
-
--- the fault of a pair whose members have these
-abbrev pub of_both : MemberFault → MemberFault → InfoFault
-of_both Absent Absent = Missing
-of_both main copy = Damaged main copy

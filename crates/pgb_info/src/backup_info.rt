@@ -10,10 +10,10 @@ ghost use Rattle.pgb_info.specs.Entries.{HasLabels};
 
 use crate::entries::entry_value;
 use crate::info::Info;
-use crate::labels::label_text;
 use pgb_ini::Part;
 use pgb_keys::place;
 use pgb_model::{BackupInfo, Cluster, Entry};
+use pgb_stamp::label_text;
 use pgb_text::{NoMemory, decimal};
 use serde_json::{Value, json};
 use std::alloc::Global;

@@ -14,9 +14,10 @@ ghost use Rattle.pgb_info.specs.BackupForm.{backup_names, highest, IsBackupForm}
 use crate::backup_current::current_of;
 use crate::fault::MemberFault;
 use crate::history::history_of;
+use crate::limits::LIMIT;
 use crate::listed::listed_of;
 use crate::read_info::ReadInfo;
-use crate::texts::{LIMIT, sections_in};
+use crate::texts::sections_in;
 use pgb_ini::Part;
 use pgb_keys::{PartsFault, form, keys_at, part_of};
 use pgb_model::{BackupInfo, Entry};

@@ -8,8 +8,8 @@ ghost use Rattle.pgb_model.specs.InfoFiles.{IsLabel, label_value, segment_value,
 ghost use Rattle.pgb_model.specs.Values.{entry_of};
 ghost use Rattle.pgb_info.specs.Entries.{HasLabels};
 
-use crate::labels::label_text;
 use pgb_model::{Entry, Kind, Label, Span};
+use pgb_stamp::label_text;
 use pgb_text::NoMemory;
 use pgb_wal::segment_text;
 use serde_json::{Map, Value, put};

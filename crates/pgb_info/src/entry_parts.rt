@@ -13,10 +13,10 @@ ghost use Rattle.pgb_model.specs.Names.{label_text};
 ghost use Rattle.pgb_model.specs.InfoFiles.{IsLabel, IsSegment, label_value, segment_value};
 ghost use Rattle.pgb_info.specs.Entries.{between};
 
-use crate::labels::{label_text, read_label};
 use pgb_ini::is_before;
 use pgb_keys::whole_of;
 use pgb_model::{Label, Segment, Span};
+use pgb_stamp::{label_text, read_label};
 use pgb_text::NoMemory;
 use pgb_wal::read_segment;
 use serde_json::Value;

@@ -13,9 +13,9 @@ ghost use Rattle.pgb_info.specs.Entries.{IsEntry};
 
 use crate::entries::entry_value;
 use crate::entry_parts::{are_in_order, labels_in, prior_in, second_in, span_in};
-use crate::labels::label_kind;
 use pgb_keys::{are_same, number_of, whole_of};
 use pgb_model::{Entry, Label, Span};
+use pgb_stamp::label_kind;
 use pgb_text::NoMemory;
 use serde_json::Value;
 use std::alloc::Global;

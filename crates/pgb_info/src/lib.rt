@@ -1,4 +1,4 @@
-//! Info files: their values, and the two members in which each is kept.
+//! The two info files, `archive.info` and `backup.info`: their values, and the texts of these.
 #![tactic(auto)]
 
 mod archive_current;
@@ -13,28 +13,17 @@ mod entries;
 mod entry_parts;
 mod entry_reading;
 mod fault;
-mod healing;
 mod history;
 mod info;
-mod labels;
+mod limits;
 mod listed;
-mod loading;
-mod members;
 mod read_info;
-mod saving;
-mod stamp_reading;
-mod stamps;
 mod texts;
 
 pub use backup_info::cluster_part;
 pub use entries::kind_value;
 pub use entry_parts::{label_in, second_in};
-pub use fault::{InfoFault, MemberFault, SaveFault};
-pub use healing::{heal_pair, mend_pair};
+pub use fault::MemberFault;
 pub use info::Info;
-pub use labels::{label_kind, label_text, label_time, read_label};
-pub use loading::load_pair;
-pub use members::save_text;
 pub use read_info::ReadInfo;
-pub use saving::save_pair;
 pub use texts::sections_in;

@@ -13,10 +13,10 @@ ghost use Rattle.pgb_keys.specs.Agree.{IsOrdered};
 ghost use Rattle.pgb_info.specs.BackupForm.{backup_current, HasLabel, IsList, IsNext, IsWrongBackup};
 
 use crate::entry_reading::read_entry;
-use crate::labels::{label_text, read_label};
 use pgb_ini::is_before;
 use pgb_keys::{PartsFault, form, is_key};
 use pgb_model::{Entry, Label};
+use pgb_stamp::{label_text, read_label};
 use pgb_text::NoMemory;
 use serde_json::Value;
 use std::alloc::Global;

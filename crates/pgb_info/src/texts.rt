@@ -8,9 +8,6 @@ use pgb_ini::{IniFault, Part, read_info_text};
 use pgb_text::NoMemory;
 use std::alloc::Global;
 
-/// The texts of both info files have at most 64 MiB.
-pub(crate) const LIMIT: u64 = 67_108_864;
-
 /// The sections of a text, or why it has none.
 pub fn sections_in(alloc: Global, text: &[u8]) -> Result<Result<Vec<Part>, MemberFault>, NoMemory>
     requires { length text.now + 1 < 2 ^ 32 }

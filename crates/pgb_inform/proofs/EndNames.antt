@@ -8,7 +8,7 @@ use Rattle.pgb_model.specs.declared.wal.ArchiveId.{ArchiveId}
 use Rattle.pgb_model.specs.declared.wal.Segment.{Segment}
 use Rattle.pgb_model.specs.Text.{Text, In}
 use Rattle.pgb_keys.proofs.Numbers.{in_map, map_in}
-use Rattle.pgb_archive.specs.Ends.{StoresWhole, AreEnds}
+use Rattle.pgb_stored.specs.Ends.{StoresWhole, AreEnds}
 use Rattle.pgb_report.specs.declared.report.ArchivedName.{ArchivedName}
 use Rattle.pgb_stage.specs.Current.{id_kept}
 use Rattle.pgb_inform.specs.Reporting.{named, AreRound, HaveEnds}

@@ -31,8 +31,8 @@ use Rattle.pgb_info.proofs.OneArchive.{one_archive_pair}
 use Rattle.pgb_options.specs.declared.options.OutputWord.{OutputWord}
 use Rattle.pgb_options.specs.declared.options.OutputWord.TheVariants.{Text as AsText, Json as AsJson}
 use Rattle.pgb_stanza.proofs.OneBackup.{Agree, pair_agrees}
-use Rattle.pgb_archive.specs.Stored.{archive_path}
-use Rattle.pgb_archive.specs.Ends.{StoresWhole}
+use Rattle.pgb_stored.specs.Stored.{archive_path}
+use Rattle.pgb_stored.specs.Ends.{StoresWhole}
 use Rattle.pgb_archive.proofs.Got.{same_place}
 use Rattle.pgb_report.specs.declared.report.ArchivedName.{ArchivedName}
 use Rattle.pgb_report.specs.Archived.{segments_under}

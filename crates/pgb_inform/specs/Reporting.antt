@@ -14,7 +14,7 @@ use Rattle.pgb_model.specs.Stands.{archive_value, backup_value}
 use Rattle.pgb_options.specs.declared.options.OutputWord.{OutputWord}
 use Rattle.pgb_options.specs.declared.options.OutputWord.TheVariants.{Text as AsText, Json as AsJson}
 use Rattle.pgb_stanza.specs.Pairs.{HavePairs}
-use Rattle.pgb_archive.specs.Ends.{StoresWhole}
+use Rattle.pgb_stored.specs.Ends.{StoresWhole}
 use Rattle.pgb_report.specs.declared.report.ArchivedName.{ArchivedName}
 use Rattle.pgb_report.specs.ReportText.{report_text_of}
 use Rattle.pgb_report.specs.ReportData.{report_json_of}

@@ -7,19 +7,19 @@ ghost use Rattle.pgb_model.specs.Now.{NowStands};
 ghost use Rattle.pgb_model.specs.Repository.{Stanza};
 ghost use Rattle.pgb_model.specs.Values.{archive_info_of, backup_info_of};
 ghost use Rattle.pgb_stanza.specs.Pairs.{HavePairs};
-ghost use Rattle.pgb_archive.specs.Ends.{AreEnds};
+ghost use Rattle.pgb_stored.specs.Ends.{AreEnds};
 ghost use Rattle.pgb_stage.specs.declared.object.Object.TheVariants.{Repo};
 ghost use Rattle.pgb_stage.specs.Current.{id_kept};
 ghost use Rattle.pgb_stage.specs.Halts.{HaltCause, Never, Only};
 ghost use Rattle.pgb_inform.specs.Reporting.{report_by, named, HaveEnds, IsReported, ReportsStanza};
 ghost use Rattle.pgb_stage.specs.Reached.{OnFinished};
 
-use pgb_archive::{ArchiveFault, ends};
 use pgb_model::{ArchiveId, ArchiveInfo, ArchiveName, BackupInfo, ClusterId, Segment};
 use pgb_options::OutputWord;
 use pgb_outside::Disk;
 use pgb_report::{ArchivedName, Report, report_json, report_text};
 use pgb_stage::{Halt, Object, Outcome, StageFault};
+use pgb_stored::{ArchiveFault, ends};
 use pgb_text::NoMemory;
 use std::alloc::{AllocError, Global};
 

@@ -8,9 +8,9 @@ use Rattle.pgb_options.specs.declared.options.RestoreWord.{RestoreWord}
 use Rattle.pgb_options.specs.declared.options.RestoreWord.TheVariants as restores
 use Rattle.pgb_options.specs.declared.options.OutputWord.{OutputWord}
 use Rattle.pgb_options.specs.declared.options.OutputWord.TheVariants as outputs
-use Rattle.pgb_options.specs.declared.table.Opt.{Opt}
-use Rattle.pgb_options.specs.declared.table.Opt.TheVariants.{Pg1Path, Pg1Port, Pg1SocketPath, Pg1User, Pg1Database, Repo1Path, Repo1RetentionFull, Repo1RetentionDiff, Repo1RetentionArchive, Repo1RetentionArchiveType, Repo1Bundle, Repo1BundleSize, Repo1BundleLimit, ProcessMax, BackupType, RestoreType, Delta, Online, StartFast, ArchiveTimeout, ArchiveAsync, ArchiveGetQueueMax, SpoolPath, LockPath, Set, ExpireAuto, Output, Number, Config}
-use Rattle.pgb_options.specs.Values.{Value, absent, flag, number, amount_of, text}
+use Rattle.pgb_table.specs.declared.table.Opt.{Opt}
+use Rattle.pgb_table.specs.declared.table.Opt.TheVariants.{Pg1Path, Pg1Port, Pg1SocketPath, Pg1User, Pg1Database, Repo1Path, Repo1RetentionFull, Repo1RetentionDiff, Repo1RetentionArchive, Repo1RetentionArchiveType, Repo1Bundle, Repo1BundleSize, Repo1BundleLimit, ProcessMax, BackupType, RestoreType, Delta, Online, StartFast, ArchiveTimeout, ArchiveAsync, ArchiveGetQueueMax, SpoolPath, LockPath, Set, ExpireAuto, Output, Number, Config}
+use Rattle.pgb_table.specs.Values.{Value, absent, flag, number, amount_of, text}
 
 -- a text, where there is one
 abbrev pub text_in : Option Value → Option Text

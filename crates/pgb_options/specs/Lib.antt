@@ -1,12 +1,8 @@
-pub mod Amounts
 pub mod Commands
 pub mod Faults
 pub mod Filled
 pub mod Paths
 pub mod Settings
-pub mod Sound
 pub mod Sources
-pub mod Table
-pub mod Values
 pub mod Views
 pub mod Words

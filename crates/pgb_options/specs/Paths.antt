@@ -1,7 +1,7 @@
 -- Where the configuration lies.
 use Rattle.std.specs.Prelude.{◌==◌, List, [], ◌∷◌, length, codes, bytes_eq, is_some, unwrap_or, Option, Some, None, Result, Ok, Err, if◌then◌else◌}
 use Rattle.pgb_model.specs.Text.{Text}
-use Rattle.pgb_options.specs.declared.table.TheConstants.{TABLE}
+use Rattle.pgb_table.specs.declared.table.TheConstants.{TABLE}
 use Rattle.pgb_options.specs.Faults.{Fault, option_repeated, option_value, ◌>>=◌}
 use Rattle.pgb_options.specs.Words.{Token, unknown, gives, denies, plain, tokens}
 

@@ -6,33 +6,16 @@ use Rattle.std.specs.Option.{option_map_or, option_or}
 use Rattle.pgb_model.specs.Text.{Text}
 use Rattle.pgb_ini.specs.Config.{Setting}
 use Rattle.pgb_ini.specs.Config as config
-use Rattle.pgb_options.specs.declared.table.TheConstants.{TABLE, VERBS}
-use Rattle.pgb_options.specs.declared.table.Opt.{Opt}
-use Rattle.pgb_options.specs.declared.table.Place.{Place}
-use Rattle.pgb_options.specs.declared.table.Place.TheVariants.{CommandLine, Anywhere}
-use Rattle.pgb_options.specs.declared.table.Verb.{Verb}
-use Rattle.pgb_options.specs.declared.table.Verb.TheVariants.{StanzaCreate, ArchivePush, ArchivePushAsync, ArchiveGet, ArchiveGetAsync, Backup, Expire, Restore, Verify, Info, Rehearse}
+use Rattle.pgb_table.specs.declared.table.TheConstants.{TABLE, VERBS}
+use Rattle.pgb_table.specs.declared.table.Opt.{Opt}
+use Rattle.pgb_table.specs.declared.table.Place.{Place}
+use Rattle.pgb_table.specs.declared.table.Place.TheVariants.{CommandLine, Anywhere}
+use Rattle.pgb_table.specs.declared.table.Verb.{Verb}
+use Rattle.pgb_table.specs.declared.table.Verb.TheVariants.{StanzaCreate, ArchivePush, ArchivePushAsync, ArchiveGet, ArchiveGetAsync, Backup, Expire, Restore, Verify, Info, Rehearse}
 use Rattle.pgb_options.specs.Faults.{Fault, command_missing, command_unknown, option_repeated, option_value, option_missing, option_not_for, config_syntax, parameter_count, parameter_utf8, ◌>>=◌}
-use Rattle.pgb_options.specs.Table.{Fallback, required, unset, is, row, verb_word}
-use Rattle.pgb_options.specs.Values.{Value, value_of}
+use Rattle.pgb_table.specs.Table.{row, verb_word, is_for, fallback_text, is_required}
+use Rattle.pgb_table.specs.Values.{Value, value_of}
 use Rattle.pgb_options.specs.Words.{Words, read_words}
-
--- a number for each command
-abbrev pub verb_code : Verb → ℕ
-verb_code StanzaCreate = 0
-verb_code ArchivePush = 1
-verb_code ArchivePushAsync = 2
-verb_code ArchiveGet = 3
-verb_code ArchiveGetAsync = 4
-verb_code Backup = 5
-verb_code Expire = 6
-verb_code Restore = 7
-verb_code Verify = 8
-verb_code Info = 9
-verb_code Rehearse = 10
-
-abbrev pub verb_eq : Verb → Verb → Bool
-verb_eq a b = verb_code a == verb_code b
 
 -- ---- the value in force
 
@@ -60,19 +43,6 @@ value_among settings (s ∷ ss) key = option_or (value_in settings s key) (value
 abbrev pub value_configured : Place → Source → Text → Option Text
 value_configured CommandLine s name = None
 value_configured Anywhere s name = value_among s.settings s.sections name
-
-abbrev pub is_for : Verb → Opt → Bool
-is_for verb o = list_any (λ v. verb_eq v verb) (row o).commands
-
-abbrev pub fallback_text : Fallback → Option Text
-fallback_text required = None
-fallback_text unset = None
-fallback_text (is value) = Some value
-
-abbrev pub is_required : Fallback → Bool
-is_required required = true
-is_required unset = false
-is_required (is value) = false
 
 -- what the words tell, or else the configuration, where the command has the option
 abbrev pub told : Source → Opt → Option Text

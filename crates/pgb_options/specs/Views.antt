@@ -15,43 +15,6 @@ use Rattle.pgb_options.specs.Words.{Style, switch, valued, deniable, Token, unkn
 use Rattle.pgb_options.specs.declared.path.ConfigPath.{ConfigPath}
 use Rattle.pgb_options.specs.declared.path.ConfigPath.TheVariants as paths
 use Rattle.pgb_options.specs.Paths.{Path, nowhere, usual, named}
-use Rattle.pgb_options.specs.declared.table.Row as code_row
-use Rattle.pgb_options.specs.declared.table.Kind as code_kind
-use Rattle.pgb_options.specs.declared.table.Kind.TheVariants as kinds
-use Rattle.pgb_options.specs.declared.table.Fallback as code_fallback
-use Rattle.pgb_options.specs.declared.table.Fallback.TheVariants as fallbacks
-use Rattle.pgb_options.specs.declared.value.Value as code_value
-use Rattle.pgb_options.specs.declared.value.Value.TheVariants as held
-use Rattle.pgb_options.specs.Table.{Kind, Fallback, Row, stanza, path, text, anything, file, number, size, time, flag, words, required, unset, is}
-use Rattle.pgb_options.specs.Values as values
-use Rattle.pgb_options.specs.Values.{Value}
-
-abbrev pub kind_view : code_kind.Kind → Kind
-kind_view kinds.Stanza = stanza
-kind_view kinds.Path = path
-kind_view kinds.Text = text
-kind_view kinds.Anything = anything
-kind_view kinds.File = file
-kind_view (kinds.Number least most) = number least most
-kind_view (kinds.Size least most) = size least most
-kind_view (kinds.Time least most) = time least most
-kind_view kinds.Flag = flag
-kind_view (kinds.Words allowed) = words (map (λ w. w.now) allowed.now)
-
-abbrev pub fallback_view : code_fallback.Fallback → Fallback
-fallback_view fallbacks.Required = required
-fallback_view fallbacks.Unset = unset
-fallback_view (fallbacks.Is value) = is value.now
-
-abbrev pub row_view : code_row.Row → Row
-row_view r = record { name = r.name.now; commands = r.commands.now; place = r.place; kind = kind_view r.kind; fallback = fallback_view r.fallback }
-
-abbrev pub value_view : code_value.Value → Value
-value_view held.Absent = values.absent
-value_view (held.Flag b) = values.flag b
-value_view (held.Number n) = values.number n
-value_view (held.Amount n) = values.amount_of n
-value_view (held.Text t) = values.text t.now
 
 abbrev pub style_view : code_style.Style → Style
 style_view styles.Switch = switch

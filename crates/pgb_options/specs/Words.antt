@@ -3,9 +3,9 @@ use Rattle.std.specs.Prelude.{◌==◌, nat_eq, nat_lt, nat_le, Bool, true, not,
 use Rattle.pgb_model.specs.Text.{Text}
 use Rattle.std.specs.List.{list_any, find, starts_with, position_or_len, before_first, after_first}
 use Rattle.std.specs.Option.{option_map_or}
-use Rattle.pgb_options.specs.declared.table.Opt.{Opt}
-use Rattle.pgb_options.specs.Table as table
-use Rattle.pgb_options.specs.Table.{Kind, row}
+use Rattle.pgb_table.specs.declared.table.Opt.{Opt}
+use Rattle.pgb_table.specs.Table as table
+use Rattle.pgb_table.specs.Table.{Kind, row}
 use Rattle.pgb_options.specs.Faults.{Fault, option_unknown, option_repeated, option_value, ◌>>=◌}
 
 -- how an option takes its value: as --x and --no-x, from a word, or from a word or as --no-x

@@ -3,12 +3,11 @@
 ghost use Rattle.std.specs.Prelude.{◌≡◌, option_map, string_bytes, IfOk, [], false};
 ghost use Rattle.pgb_options.specs.Settings.{value};
 ghost use Rattle.pgb_options.specs.Sources.{source_view};
-ghost use Rattle.pgb_options.specs.Views.{value_view};
+ghost use Rattle.pgb_table.specs.Views.{value_view};
 ghost use Rattle.pgb_options.specs.Filled.{text_in, number_in, amount_in, flag_in, or_else, kind_word, restore_word, output_word, word_in, AreOptions};
 
 use crate::source::{Source, value};
-use crate::table::Opt;
-use crate::value::Value;
+use pgb_table::{Opt, Value};
 use std::alloc::{AllocError, Global};
 
 /// A kind of backup.

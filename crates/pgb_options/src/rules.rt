@@ -6,12 +6,11 @@ ghost use Rattle.pgb_options.specs.Settings.{none_wrong, none_lacking, is_known,
 ghost use Rattle.pgb_options.specs.Sources.{source_view};
 ghost use Rattle.pgb_options.specs.Views.{given_view, Gives};
 
-use crate::rows::row_for;
 use crate::source::{Source, is_for, is_lacking, is_wrong, value_given};
-use crate::table::{Opt, Verb, verb_word};
 use crate::usage::Usage;
 use crate::words::Given;
 use pgb_ini::ConfigLine;
+use pgb_table::{Opt, Verb, row_for, verb_word};
 use pgb_text::text_of;
 use std::alloc::{AllocError, Global};
 use std::collections::HashSet;

@@ -14,10 +14,10 @@ use crate::rules::{
     source_of, stanza_of, unknown_keys, utf8_of,
 };
 use crate::source::Source;
-use crate::table::{Opt, TABLE, VERBS, Verb};
 use crate::usage::Usage;
 use crate::words::read_words;
 use pgb_ini::{ConfigLine, IniFault, read_config};
+use pgb_table::{Opt, TABLE, VERBS, Verb};
 use std::alloc::Global;
 
 #[derive(Drop)]

@@ -3,15 +3,15 @@
 ghost use Rattle.std.specs.Prelude.{◌≡◌, ◌&&◌, map, option_map, string_bytes, bytes_eq};
 ghost use Rattle.std.specs.List.{list_any};
 ghost use Rattle.pgb_ini.specs.Views.{settings_of};
-ghost use Rattle.pgb_options.specs.Settings.{value_given, value_in, value_among, value_configured, verb_eq, is_for, fallback_text, told, in_force, value, is_wrong, is_required, is_lacking};
-ghost use Rattle.pgb_options.specs.Views.{given_view, fallback_view, value_view};
+ghost use Rattle.pgb_table.specs.Table.{verb_eq, is_for, fallback_text, is_required};
+ghost use Rattle.pgb_options.specs.Settings.{value_given, value_in, value_among, value_configured, told, in_force, value, is_wrong, is_lacking};
+ghost use Rattle.pgb_table.specs.Views.{fallback_view, value_view};
+ghost use Rattle.pgb_options.specs.Views.{given_view};
 ghost use Rattle.pgb_options.specs.Sources.{source_view};
 
-use crate::rows::row_for;
-use crate::table::{Fallback, Opt, Place, Verb};
-use crate::value::{Value, value_of};
 use crate::words::Given;
 use pgb_ini::ConfigLine;
+use pgb_table::{Fallback, Opt, Place, Value, Verb, row_for, value_of};
 
 #[derive(Drop)]
 pub(crate) struct Source {

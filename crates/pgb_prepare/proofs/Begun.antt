@@ -18,7 +18,7 @@ use Rattle.pgb_model.specs.Walks.{IsTight}
 use Rattle.pgb_model.proofs.Each.{keeps_tight}
 use Rattle.pgb_model.proofs.Walking.{settled_same, rests_tight}
 use Rattle.pgb_info.proofs.OneArchive.{one_archive_pair}
-use Rattle.pgb_archive.specs.Paths.{Lacks}
+use Rattle.pgb_stored.specs.Paths.{Lacks}
 use Rattle.pgb_archive.proofs.PathLies.{lacks_not}
 use Rattle.pgb_stage.specs.declared.plan.Settling.{Settling}
 use Rattle.pgb_stage.specs.declared.plan.Settling.TheVariants.{Whole, Looked}

@@ -26,7 +26,7 @@ use Rattle.pgb_model.proofs.Walking.{crash_walks}
 use Rattle.pgb_info.proofs.OneArchive.{one_archive_pair}
 use Rattle.pgb_model.proofs.Healed.{healed_stands, healed_past, healed_now}
 use Rattle.pgb_disk.specs.Store.{ChangesOnly}
-use Rattle.pgb_info.specs.Member.{IsOfPair}
+use Rattle.pgb_pair.specs.Member.{IsOfPair}
 use Rattle.pgb_story.specs.Beside.{StaysBeside}
 use Rattle.pgb_stage.proofs.Besides.{archive_pair_beside}
 use Rattle.pgb_stage.specs.Current.{HasValue}

@@ -8,9 +8,9 @@ use Rattle.pgb_model.specs.InfoFiles.{IsArchiveText, info_limit}
 use Rattle.pgb_model.specs.Names.{archive_info}
 use Rattle.pgb_model.specs.Text.{Text}
 use Rattle.pgb_info.specs.ArchiveForm.{IsArchiveForm}
-use Rattle.pgb_info.specs.Causes.{PairCause}
-use Rattle.pgb_info.specs.declared.fault.InfoFault.{InfoFault}
-use Rattle.pgb_info.specs.declared.fault.InfoFault.TheVariants.{Missing, Damaged, Disk as InfoDisk, NoMemory as InfoNoMemory}
+use Rattle.pgb_pair.specs.Causes.{PairCause}
+use Rattle.pgb_pair.specs.declared.fault.InfoFault.{InfoFault}
+use Rattle.pgb_pair.specs.declared.fault.InfoFault.TheVariants.{Missing, Damaged, Disk as InfoDisk, NoMemory as InfoNoMemory}
 use Rattle.pgb_stanza.specs.declared.control.Control.{Control}
 use Rattle.pgb_stage.specs.declared.plan.Plan.{Plan}
 use Rattle.pgb_stage.specs.declared.fault.StageFault.{StageFault}

@@ -11,9 +11,10 @@ ghost use Rattle.pgb_prepare.specs.Readies.{has_archive, has_backup, IfAsked, Is
 ghost use Rattle.pgb_prepare.specs.Settled.{KeepsAlike};
 ghost use Rattle.pgb_prepare.specs.Stages.{IsArchiveFault, ArchivePairCause, NoArchive, NoBackup, RepoCause};
 
-use pgb_info::{InfoFault, MemberFault, heal_pair, load_pair};
+use pgb_info::MemberFault;
 use pgb_model::{ArchiveInfo, BackupInfo};
 use pgb_outside::Disk;
+use pgb_pair::{InfoFault, heal_pair, load_pair};
 use pgb_stage::{Halt, Object, Pairs, StageFault};
 use pgb_stanza::{archive_info_name, backup_info_name};
 use std::alloc::Global;

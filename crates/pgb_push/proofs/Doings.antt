@@ -5,11 +5,11 @@ use Rattle.pgb_outside.specs.Moments.{View}
 use Rattle.pgb_outside.specs.Tree.{Nodes}
 use Rattle.pgb_model.specs.Text.{Text}
 use Rattle.pgb_model.specs.Steps.{Command}
-use Rattle.pgb_archive.specs.declared.fault.ArchiveFault.{ArchiveFault}
-use Rattle.pgb_archive.specs.declared.fault.ArchiveFault.TheVariants.{HeaderForm, SegmentSize, HeaderMismatch, Ambiguous, Duplicate, NotFound, SegmentDamaged, TooLong, TooMany, Disk, NoMemory}
+use Rattle.pgb_stored.specs.declared.fault.ArchiveFault.{ArchiveFault}
+use Rattle.pgb_stored.specs.declared.fault.ArchiveFault.TheVariants.{HeaderForm, SegmentSize, HeaderMismatch, Ambiguous, Duplicate, NotFound, SegmentDamaged, TooLong, TooMany, Disk, NoMemory}
 use Rattle.pgb_archive.specs.declared.fault.PushFault.{PushFault as StoreFault}
 use Rattle.pgb_archive.specs.declared.fault.PushFault.TheVariants.{Archive, Source}
-use Rattle.pgb_archive.specs.Causes.{OnFinding}
+use Rattle.pgb_stored.specs.Causes.{OnFinding}
 use Rattle.pgb_archive.specs.Pushing.{OnPushFinding}
 use Rattle.pgb_archive.specs.Still.{IsStill, rests_none}
 use Rattle.pgb_stage.specs.declared.plan.Settling.TheVariants.{Looked}

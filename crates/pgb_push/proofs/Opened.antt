@@ -17,10 +17,10 @@ use Rattle.pgb_model.specs.Values.{ArchiveInfo}
 use Rattle.pgb_model.specs.Walks.{IsTight}
 use Rattle.pgb_stanza.specs.declared.control.Control.{Control}
 use Rattle.pgb_stanza.specs.Pairs.{identity_kept, identity_told}
-use Rattle.pgb_archive.specs.Causes.{limit_of}
+use Rattle.pgb_stored.specs.Causes.{limit_of}
 use Rattle.pgb_archive.specs.declared.fault.PushFault.{PushFault as StoreFault}
 use Rattle.pgb_archive.specs.declared.pushing.Pushed.{Pushed}
-use Rattle.pgb_archive.specs.Stored.{archive_path}
+use Rattle.pgb_stored.specs.Stored.{archive_path}
 use Rattle.pgb_archive.specs.Pushes.{IsPathOf, LeavesPart, LeavesAll, Leaves, LeavesFile}
 use Rattle.pgb_archive.specs.Pushing.{IsPushedAs, PushFromCause}
 use Rattle.pgb_stage.specs.declared.plan.Settling.TheVariants.{Looked}

@@ -14,15 +14,15 @@ use Rattle.pgb_model.specs.Stands.{IsArchiveFile, IsWalName}
 use Rattle.pgb_model.specs.Values.{ArchiveInfo}
 use Rattle.pgb_stanza.specs.declared.control.Control.{Control}
 use Rattle.pgb_stanza.specs.Pairs.{identity_kept, identity_told}
-use Rattle.pgb_archive.specs.declared.fault.ArchiveFault.{ArchiveFault}
-use Rattle.pgb_archive.specs.declared.fault.ArchiveFault.TheVariants as archive
+use Rattle.pgb_stored.specs.declared.fault.ArchiveFault.{ArchiveFault}
+use Rattle.pgb_stored.specs.declared.fault.ArchiveFault.TheVariants as archive
 use Rattle.pgb_archive.specs.declared.fault.PushFault.{PushFault as StoreFault}
 use Rattle.pgb_archive.specs.declared.fault.PushFault.TheVariants.{Archive, Source}
 use Rattle.pgb_archive.specs.declared.pushing.Pushed.{Pushed}
 use Rattle.pgb_archive.specs.declared.pushing.Pushed.TheVariants.{New, Same}
-use Rattle.pgb_archive.specs.Stored.{archive_path}
+use Rattle.pgb_stored.specs.Stored.{archive_path}
 use Rattle.pgb_archive.specs.Pushing.{IsPushedAs, PushFromCause}
-use Rattle.pgb_archive.specs.Causes.{IsFileOf, limit_of, PushCause as StoringCause}
+use Rattle.pgb_stored.specs.Causes.{IsFileOf, limit_of, PushCause as StoringCause}
 use Rattle.pgb_stage.specs.declared.object.Object.TheVariants.{DataFolder}
 use Rattle.pgb_stage.specs.declared.halt.Halt.{Halt}
 use Rattle.pgb_stage.specs.declared.halt.Halt.TheVariants.{Refused, Failed, NoMemory}

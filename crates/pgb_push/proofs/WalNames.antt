@@ -4,7 +4,7 @@ use Rattle.std.specs.List.{AllByRecursion}
 use Rattle.pgb_model.specs.declared.wal.ArchiveName.{ArchiveName}
 use Rattle.pgb_model.specs.Text.{Text}
 use Rattle.pgb_model.specs.Names.{wal_text}
-use Rattle.pgb_archive.proofs.OnePath.{wal_injective}
+use Rattle.pgb_stored.proofs.OnePath.{wal_injective}
 use Rattle.pgb_push.specs.WalPath.{IsLastElement, IsPathOf, IsWalPath}
 
 -- ---- the last element

@@ -13,11 +13,11 @@ use Rattle.pgb_model.specs.Names.{wal_text}
 use Rattle.pgb_stanza.specs.declared.control.Control.{Control}
 use Rattle.pgb_stanza.specs.declared.fault.Identity.{Identity}
 use Rattle.pgb_stanza.specs.Pairs.{identity_kept, identity_told}
-use Rattle.pgb_archive.specs.declared.fault.ArchiveFault.{ArchiveFault}
-use Rattle.pgb_archive.specs.declared.fault.ArchiveFault.TheVariants.{HeaderForm as FormOf, SegmentSize as SizeOf, HeaderMismatch as MismatchOf, Ambiguous as AmbiguousOf, Duplicate as DuplicateOf, TooLong as LongOf}
-use Rattle.pgb_archive.specs.Causes.{IsFileOf, limit_of, PushCause as StoringCause}
+use Rattle.pgb_stored.specs.declared.fault.ArchiveFault.{ArchiveFault}
+use Rattle.pgb_stored.specs.declared.fault.ArchiveFault.TheVariants.{HeaderForm as FormOf, SegmentSize as SizeOf, HeaderMismatch as MismatchOf, Ambiguous as AmbiguousOf, Duplicate as DuplicateOf, TooLong as LongOf}
+use Rattle.pgb_stored.specs.Causes.{IsFileOf, limit_of, PushCause as StoringCause}
 use Rattle.pgb_archive.specs.Pushes.{IsPathOf}
-use Rattle.pgb_archive.specs.Stored.{archive_path, StoresNone, StoresOnly}
+use Rattle.pgb_stored.specs.Stored.{archive_path, StoresNone, StoresOnly}
 use Rattle.pgb_stage.specs.Cluster.{FolderTells}
 use Rattle.pgb_stage.specs.Current.{HasCurrent, id_kept}
 use Rattle.pgb_push.specs.declared.fault.PushFault.{PushFault}

@@ -2,9 +2,10 @@
 ghost use Rattle.std.specs.Prelude.{◌≡◌};
 ghost use Rattle.pgb_push.specs.Faults.{of_archive, of_store};
 
-use pgb_archive::{ArchiveFault, PushFault as StoreFault};
+use pgb_archive::PushFault as StoreFault;
 use pgb_stage::{Halt, Object};
 use pgb_stanza::Identity;
+use pgb_stored::ArchiveFault;
 use pgb_text::Sum;
 
 /// Why archive-push is refused, in the order in which refusals come.

@@ -8,7 +8,7 @@ ghost use Rattle.pgb_model.specs.Names.{wal_text};
 ghost use Rattle.pgb_model.specs.Steps.{Command};
 ghost use Rattle.pgb_model.specs.Values.{archive_info_of};
 ghost use Rattle.pgb_model.specs.Walks.{IsTight};
-ghost use Rattle.pgb_archive.specs.Causes.{limit_of};
+ghost use Rattle.pgb_stored.specs.Causes.{limit_of};
 ghost use Rattle.pgb_story.specs.Beside.{StaysBeside};
 ghost use Rattle.pgb_archive.specs.Still.{IsStill};
 ghost use Rattle.pgb_stage.specs.declared.plan.Settling.TheVariants.{Looked};

@@ -11,8 +11,8 @@ ghost use Rattle.pgb_report.specs.Shown.{HasTexts};
 
 use crate::lines::add_line;
 use crate::moments::moment;
-use pgb_info::label_text;
 use pgb_model::{Entry, Kind, Label, Span};
+use pgb_stamp::label_text;
 use pgb_text::{NoMemory, decimal};
 use pgb_wal::segment_text;
 use std::alloc::Global;

@@ -2,7 +2,7 @@
 ghost use Rattle.std.specs.Prelude.{◌≡◌, ◌<◌, ◌≤◌, ◌/◌, ◌%◌, ◌++◌, IfOk, OnOk, string_bytes, pos};
 ghost use Rattle.jiff_core.specs.Date.{epoch_day};
 ghost use Rattle.pgb_model.specs.Dates.{two, date_after, last_second};
-ghost use Rattle.pgb_info.specs.Calendar.{parts_of};
+ghost use Rattle.pgb_stamp.specs.Calendar.{parts_of};
 ghost use Rattle.pgb_report.specs.Moments.{shown_date, shown_clock, moment};
 
 use jiff_core::civil::Date;

@@ -9,9 +9,9 @@ use Rattle.pgb_model.specs.Text.{Text}
 use Rattle.pgb_model.specs.Names.{is_of_stanza, archive_folder, backup_folder, archive_info, backup_info}
 use Rattle.pgb_model.specs.Log.{Pair}
 use Rattle.pgb_model.proofs.Below.{fixed_of}
-use Rattle.pgb_info.specs.Member.{IsOfPair}
+use Rattle.pgb_pair.specs.Member.{IsOfPair}
 use Rattle.pgb_stanza.specs.Owned.{IsOfPairs}
-use Rattle.pgb_archive.specs.Stored.{ChangesArchive}
+use Rattle.pgb_stored.specs.Stored.{ChangesArchive}
 use Rattle.pgb_archive.specs.Still.{IsStill}
 use Rattle.pgb_story.specs.Beside.{StaysBeside}
 use Rattle.pgb_story.proofs.Named.{below_archive, in_archive, in_backup}

@@ -14,7 +14,7 @@ use Rattle.pgb_info.specs.declared.fault.MemberFault.TheVariants.{Absent}
 use Rattle.pgb_info.specs.BackupForm.{IsBackupForm}
 use Rattle.pgb_stage.specs.declared.fault.StageFault.{StageFault}
 use Rattle.pgb_stage.specs.declared.fault.StageFault.TheVariants.{StanzaMissing, InfoDamaged}
-use Rattle.pgb_info.specs.Causes.{AreDamaged}
+use Rattle.pgb_pair.specs.Causes.{AreDamaged}
 use Rattle.pgb_info.specs.ArchiveForm.{IsArchiveForm}
 use Rattle.pgb_model.specs.Stands.{IsArchiveFile}
 use Rattle.pgb_stanza.specs.Pairs.{AgreeAt}

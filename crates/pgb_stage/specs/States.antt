@@ -2,7 +2,7 @@
 use Rattle.std.specs.Prelude.{ℕ, List, Option}
 use Rattle.pgb_outside.specs.Content.{Name, Content}
 use Rattle.pgb_model.specs.Text.{Text}
-use Rattle.pgb_archive.specs.Turns.{Account}
+use Rattle.pgb_turn.specs.Turns.{Account}
 
 -- the connection to a server: what it will give, what it was sent, and the path that was opened last
 pub record WireState : Type 0 where

@@ -3,7 +3,7 @@ use Rattle.std.specs.Prelude.{◌||◌, ◌==◌, ℕ, nat_lt, [], ◌++◌, map
 use Rattle.pgb_model.specs.Text.{Text}
 use Rattle.pgb_info.specs.declared.fault.MemberFault.{MemberFault}
 use Rattle.pgb_info.specs.declared.fault.MemberFault.TheVariants.{Absent, TooLong as LongMember, Syntax, Sum, Form}
-use Rattle.pgb_options.specs.Table.{verb_word}
+use Rattle.pgb_table.specs.Table.{verb_word}
 use Rattle.pgb_stanza.specs.declared.fault.Identity.{Identity}
 use Rattle.pgb_stage.specs.declared.object.Object.{Object}
 use Rattle.pgb_stage.specs.declared.object.Object.TheVariants.{Repo, Spool, DataFolder, Server, Others, Clock, Locks, Config, Output}

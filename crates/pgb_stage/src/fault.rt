@@ -1,7 +1,7 @@
 // What the stages before a command find.
 
 use pgb_info::MemberFault;
-use pgb_options::Verb;
+use pgb_table::Verb;
 
 /// A part of the program that comes later.
 #[derive(Clone, Copy, Debug, PartialEq, Eq)]

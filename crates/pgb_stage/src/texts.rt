@@ -5,8 +5,8 @@ ghost use Rattle.pgb_stage.specs.Texts.{shown, shown_byte, part_name, file_text,
 use crate::fault::{ControlFile, StageFault, Unbuilt};
 use crate::object::Object;
 use pgb_info::MemberFault;
-use pgb_options::verb_word;
 use pgb_stanza::Identity;
+use pgb_table::verb_word;
 use pgb_text::NoMemory;
 use std::alloc::{AllocError, Global};
 

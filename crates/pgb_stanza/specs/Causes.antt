@@ -10,7 +10,7 @@ use Rattle.pgb_model.specs.InfoFiles.{IsArchiveText, IsBackupText, info_limit}
 use Rattle.pgb_model.specs.Pair.{PairIs, PairAbsent}
 use Rattle.pgb_info.specs.declared.fault.MemberFault.{MemberFault}
 use Rattle.pgb_info.specs.declared.fault.MemberFault.TheVariants.{Absent}
-use Rattle.pgb_info.specs.Causes.{AreDamaged}
+use Rattle.pgb_pair.specs.Causes.{AreDamaged}
 use Rattle.pgb_model.specs.InfoText.{Section}
 use Rattle.pgb_info.specs.ArchiveForm.{IsArchiveForm}
 use Rattle.pgb_info.specs.BackupForm.{IsBackupForm}

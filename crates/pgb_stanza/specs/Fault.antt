@@ -1,6 +1,6 @@
 -- Which fault of a stanza a fault below is.
-use Rattle.pgb_info.specs.declared.fault.SaveFault.{SaveFault}
-use Rattle.pgb_info.specs.declared.fault.SaveFault.TheVariants.{Disk as SaveDisk, NoMemory as SaveNoMemory}
+use Rattle.pgb_pair.specs.declared.fault.SaveFault.{SaveFault}
+use Rattle.pgb_pair.specs.declared.fault.SaveFault.TheVariants.{Disk as SaveDisk, NoMemory as SaveNoMemory}
 use Rattle.pgb_stanza.specs.declared.fault.StanzaFault.{StanzaFault}
 use Rattle.pgb_stanza.specs.declared.fault.StanzaFault.TheVariants.{Disk, NoMemory}
 

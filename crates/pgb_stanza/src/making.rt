@@ -15,9 +15,9 @@ ghost use Rattle.pgb_stanza.specs.Pairs.{LacksStanza, PairsAgree};
 
 use crate::control::Control;
 use crate::saving::save_pairs;
-use pgb_info::SaveFault;
 use pgb_model::Cluster;
 use pgb_outside::Disk;
+use pgb_pair::SaveFault;
 use std::alloc::Global;
 
 fn first_cluster(control: Control) -> Cluster

@@ -8,16 +8,16 @@ ghost use Rattle.pgb_disk.specs.Store.{ChangesOnly};
 ghost use Rattle.pgb_model.specs.Names.{archive_info, backup_info, copy_of};
 ghost use Rattle.pgb_model.specs.InfoFiles.{IsCluster};
 ghost use Rattle.pgb_model.specs.Values.{archive_info_of, backup_info_of};
-ghost use Rattle.pgb_info.specs.Member.{IsOfPair};
+ghost use Rattle.pgb_pair.specs.Member.{IsOfPair};
 ghost use Rattle.pgb_stanza.specs.Owned.{IsOfPairs};
 ghost use Rattle.pgb_stanza.specs.Tight.{AreTight};
 ghost use Rattle.pgb_model.specs.Create.{first_archive, first_backup, first_archive_text, first_backup_text, member_writes, pair_writes};
 
 use crate::judging::identity_of;
 use crate::names::{archive_info_name, backup_info_name};
-use pgb_info::{SaveFault, save_pair};
 use pgb_model::{ArchiveInfo, BackupInfo, Cluster};
 use pgb_outside::Disk;
+use pgb_pair::{SaveFault, save_pair};
 use std::alloc::{AllocError, Global};
 
 fn first_backup(alloc: Global, cluster: &Cluster) -> Result<BackupInfo, AllocError>

@@ -1,8 +1,9 @@
 // Files of the archive by hand, as pgBackRest lays them out, with digests of `sha1sum`.
 use crate::same::{same, well};
-use pgb_archive::{ArchiveFault, Stored, all, get, present};
+use pgb_archive::{get, present};
 use pgb_memory::{MemDisk, named_bytes};
 use pgb_model::{ArchiveId, ArchiveName, Segment};
+use pgb_stored::{ArchiveFault, Stored, all};
 use pgb_text::{NoMemory, Sum};
 use std::alloc::{AllocError, Global};
 use std::process::Abort;

@@ -4,8 +4,9 @@ use crate::disk::disk_of;
 use crate::images::kept_then;
 use crate::pushes::SYSTEM;
 use crate::same::{same, well};
-use pgb_archive::{ArchiveFault, Pushed, push};
+use pgb_archive::{Pushed, push};
 use pgb_memory::MemDisk;
+use pgb_stored::ArchiveFault;
 use std::alloc::Global;
 
 fn push_history(alloc: Global, disk: &mut MemDisk) -> Result<Pushed, ArchiveFault> {

@@ -7,10 +7,11 @@ use crate::archive::{
     got, told,
 };
 use crate::same::{same, well};
-use pgb_archive::{ArchiveFault, Front, Pieces, PushFault, Pushed, all, push, push_from};
+use pgb_archive::{Front, Pieces, PushFault, Pushed, push, push_from};
 use pgb_memory::MemDisk;
 use pgb_model::ArchiveName;
 use pgb_outside::{NotThere, Stop};
+use pgb_stored::{ArchiveFault, all};
 use std::alloc::{AllocError, Global};
 use std::process::Abort;
 

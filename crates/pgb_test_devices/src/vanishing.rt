@@ -1,8 +1,9 @@
 // A segment that is listed, and isn't there any more when it is read.
 use crate::archive::{ID, WHOLE};
 use crate::same::{same, well};
-use pgb_archive::{ArchiveFault, get, present};
+use pgb_archive::{get, present};
 use pgb_outside::{Disk, Found, NotThere, Stop};
+use pgb_stored::ArchiveFault;
 use std::alloc::Global;
 
 const LISTED: &str =

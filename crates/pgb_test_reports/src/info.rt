@@ -2,8 +2,9 @@
 
 use crate::same::{same, same_of};
 use crate::texts::{ARCHIVE, BACKUP, LONG_HISTORY, SYSTEM, TWO_BACKUPS, value_of};
-use pgb_info::{Info, label_text, label_time, read_label};
+use pgb_info::Info;
 use pgb_ini::write_info_text;
+use pgb_stamp::{label_text, label_time, read_label};
 use pgb_model::{
     ArchiveInfo, BackupInfo, Cluster, ClusterId, Entry, Kind, Label, Later, Segment, Span,
 };

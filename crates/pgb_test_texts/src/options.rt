@@ -2,9 +2,10 @@
 
 use crate::same::{same, same_of};
 use pgb_options::{
-    Command, ConfigPath, KindWord, Options, OutputWord, RestoreWord, Usage, Verb, config_path,
+    Command, ConfigPath, KindWord, Options, OutputWord, RestoreWord, Usage, config_path,
     settle_words,
 };
+use pgb_table::Verb;
 use std::alloc::{AllocError, Global};
 use std::fmt::Display;
 use std::process::Abort;

@@ -1,5 +1,5 @@
 // What `--help` and `--version` print.
-use pgb_options::{Fallback, Kind, Opt, Row, TABLE, VERBS, Verb, row_for, verb_word};
+use pgb_table::{Fallback, Kind, Opt, Row, TABLE, VERBS, Verb, row_for, verb_word};
 use std::alloc::{AllocError, Global};
 
 const VERSION: &str = "pgbackrest 0.1, repository format 5\n";

@@ -8,9 +8,9 @@ use pgb_adapters::{
     RealDisk, RealFiles, RealInput, RealLocks, RealSink, RealSource, RealTree, RealWire,
 };
 use pgb_command::{Outside, run};
-use pgb_frame::serve;
 use pgb_outside::{Link, NotThere};
 use pgb_system::{RealLink, RoundRobin};
+use pgb_worker::serve;
 use std::io::ErrorKind;
 use std::process::ExitCode;
 use std::{env, io};

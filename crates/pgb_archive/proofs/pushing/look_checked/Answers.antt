@@ -1,7 +1,7 @@
 use Rattle.pgb_outside.specs.Cause.{Rises}
 use Rattle.pgb_wal.specs.Header.{BeginsWith}
 use Rattle.pgb_model.specs.Text.{Text}
-use Rattle.pgb_archive.specs.Causes.{PushCause}
+use Rattle.pgb_stored.specs.Causes.{PushCause}
 use Rattle.pgb_archive.proofs.Got.{err_by}
 use Rattle.pgb_archive.proofs.Placed.{push_cause}
 use Rattle.pgb_archive.proofs.PushedEach.{settles_paths}

@@ -2,7 +2,7 @@ use Rattle.std.proofs.Common.{refl}
 use Rattle.sha1.specs.Sha1.{sha1}
 use Rattle.pgb_outside.specs.Cause.{Rises}
 use Rattle.pgb_archive.specs.declared.fault.PushFault.TheVariants.{Archive}
-use Rattle.pgb_archive.specs.declared.looking.Look.TheVariants.{Free, One, Two}
+use Rattle.pgb_stored.specs.declared.looking.Look.TheVariants.{Free, One, Two}
 use Rattle.pgb_archive.specs.Pushing.{PushFromCause}
 use Rattle.pgb_archive.proofs.Got.{err_by}
 use Rattle.pgb_archive.proofs.Placed.{temporary_of, lies_of, lasting_of, looks_as, one_only, one_some}

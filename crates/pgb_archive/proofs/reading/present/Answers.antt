@@ -1,7 +1,7 @@
 use Rattle.pgb_archive.proofs.PushedEach.{settles_paths, looked_alike}
 use Rattle.pgb_archive.proofs.Got.{present_cause, finds_one, err_by}
 use Rattle.pgb_outside.specs.Cause.{Rises}
-use Rattle.pgb_archive.specs.Causes.{PresentCause}
+use Rattle.pgb_stored.specs.Causes.{PresentCause}
 use Rattle.pgb_archive.proofs.reading.present.Goals as goal
 
 pub returns-in_err-look_settled-clause-cause : goal.returns-in_err-look_settled-clause-cause

@@ -2,7 +2,7 @@ use Rattle.std.proofs.Common.{rules, arith, inl, refl, ◌≡◌, ◌++◌, ◌�
 use Rattle.std.specs.Prelude.{IfSome}
 use Rattle.pgb_outside.specs.Content.{Content}
 use Rattle.pgb_outside.specs.Cause.{Rises}
-use Rattle.pgb_archive.specs.Stored.{StoresNone}
+use Rattle.pgb_stored.specs.Stored.{StoresNone}
 use Rattle.pgb_stage.specs.Current.{id_kept}
 use Rattle.pgb_get.specs.Getting.{IsSame, FoundIn}
 use Rattle.pgb_get.specs.Serving.{RoseIn, AreBytes, AreBytesUnder, IsUnstoredUnder, Puts, UnderCause, SearchCause, IsLeft}

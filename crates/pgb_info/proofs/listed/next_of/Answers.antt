@@ -2,7 +2,7 @@ use Rattle.std.proofs.Common.{List, ℕ, sym, ap, ap₂, ◌∙◌}
 use Rattle.serde_json.specs.Data.{Data}
 use Rattle.pgb_model.specs.Fields.{Field}
 use Rattle.pgb_model.specs.Names.{label_text}
-use Rattle.pgb_info.proofs.LabelTexts.{label_text-injective}
+use Rattle.pgb_stamp.proofs.LabelTexts.{label_text-injective}
 use Rattle.pgb_info.proofs.listed.next_of.Goals as goal
 
 pub returns-in_default-2-clause-none : goal.returns-in_default-2-clause-none

@@ -2,7 +2,7 @@ use Rattle.std.proofs.Common.{◌≡◌, ◌∙◌, ap, ◌++◌, map, get_or, s
 use Rattle.std.specs.Prelude.{IfSome}
 use Rattle.pgb_outside.specs.Content.{Content}
 use Rattle.pgb_model.specs.declared.wal.Segment.{Segment}
-use Rattle.pgb_archive.specs.Ends.{AreEnds}
+use Rattle.pgb_stored.specs.Ends.{AreEnds}
 use Rattle.pgb_model.specs.declared.clusters.ClusterId.{ClusterId}
 use Rattle.pgb_stage.specs.Current.{id_kept}
 use Rattle.pgb_inform.specs.Reporting.{named}

@@ -1,5 +1,5 @@
 use Rattle.std.proofs.Common.{◌/◌, arith}
-use Rattle.pgb_info.proofs.Dates.{date_of_day}
+use Rattle.pgb_stamp.proofs.Dates.{date_of_day}
 use Rattle.pgb_report.proofs.moments.date_of.Goals as goal
 
 pub returns : goal.returns

@@ -1,0 +1,5 @@
+pub mod Causes
+pub mod Mends
+pub mod Onward
+pub mod Saved
+pub mod Owned

@@ -1,0 +1,19 @@
+-- Which fault of an info file a fault of the store is. The store tells TooLong of a read alone.
+use Rattle.std.specs.Prelude.{string_bytes}
+use Rattle.pgb_disk.specs.declared.fault.StoreFault.{StoreFault}
+use Rattle.pgb_disk.specs.declared.fault.StoreFault.TheVariants.{Disk as StoreDisk, TooLong, NoMemory as StoreNoMemory}
+use Rattle.pgb_model.specs.Text.{Text}
+use Rattle.pgb_pair.specs.declared.fault.SaveFault.{SaveFault}
+use Rattle.pgb_pair.specs.declared.fault.SaveFault.TheVariants.{Disk, NoMemory}
+use Rattle.pgb_pair.specs.declared.fault.InfoFault.{InfoFault}
+use Rattle.pgb_pair.specs.declared.fault.InfoFault.TheVariants.{Disk as InfoDisk, NoMemory as InfoNoMemory}
+
+abbrev pub fault_of : StoreFault → SaveFault
+fault_of StoreDisk = Disk
+fault_of (TooLong name limit) = NoMemory
+fault_of StoreNoMemory = NoMemory
+
+-- a fault of saving, at a pair
+abbrev pub info_fault_of : SaveFault → InfoFault
+info_fault_of Disk = InfoDisk
+info_fault_of NoMemory = InfoNoMemory

@@ -1,0 +1,4 @@
+pub mod Fault
+pub mod Member
+pub mod Causes
+pub mod Reading

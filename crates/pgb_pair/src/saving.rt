@@ -1,0 +1,60 @@
+// An info file is saved.
+ghost use Rattle.std.specs.Prelude.{◌≡◌, ◌≤◌, false, IfOk, OnOk, IsErrOf, length};
+ghost use Rattle.pgb_outside.specs.States.{Frame};
+ghost use Rattle.pgb_outside.specs.Moments.{is_loose};
+ghost use Rattle.pgb_outside.specs.Crash.{Crash, Ends, NowGoes, FirstOf, AllOf};
+ghost use Rattle.pgb_outside.specs.Cause.{Rises};
+ghost use Rattle.pgb_disk.specs.Store.{ChangesOnly};
+ghost use Rattle.pgb_model.specs.Names.{copy_of};
+ghost use Rattle.pgb_model.specs.InfoText.{info_text};
+ghost use Rattle.pgb_model.specs.Create.{member_writes};
+ghost use Rattle.pgb_pair.specs.Member.{IsMemberName, IsOfPair};
+
+use crate::fault::SaveFault;
+use crate::members::save_text;
+use pgb_info::Info;
+use pgb_ini::write_info_text;
+use pgb_outside::Disk;
+use pgb_text::NoMemory;
+use std::alloc::Global;
+
+// The text of a value.
+pub(crate) fn text_of<I: Info>(alloc: Global, value: &I) -> Result<Vec<u8>, NoMemory>
+    requires { I.is_valid value.now }
+    ensures { IfOk result (λ text. text.items ≡ info_text (I.sections value.now)) }
+{
+    let parts = value.parts(alloc)?;
+    write_info_text(alloc, &parts)
+}
+
+/// Saves the value's text at the main member's name, then at its copy's.
+pub fn save_pair<D: Disk, I: Info>(
+    alloc: Global,
+    d: &mut D,
+    name: &str,
+    value: &I,
+) -> Result<(), SaveFault>
+    requires named { IsMemberName name.now }
+    requires valid { I.is_valid value.now }
+    requires within { length (info_text (I.sections value.now)) ≤ I.limit }
+    ensures crash { is_loose (D.state d.old).view name.now ≡ false
+        → is_loose (D.state d.old).view (copy_of name.now) ≡ false
+        → Crash (FirstOf (member_writes name.now (info_text (I.sections value.now)))) (D.state d.old).view
+        (D.state d.new).view }
+    ensures whole { OnOk result (is_loose (D.state d.old).view name.now ≡ false
+        → is_loose (D.state d.old).view (copy_of name.now) ≡ false
+        → Ends (AllOf (member_writes name.now (info_text (I.sections value.now)))) (D.state d.old).view
+        (D.state d.new).view) }
+    ensures now_part { NowGoes (FirstOf (member_writes name.now (info_text (I.sections value.now))))
+        (D.state d.old).view.now (D.state d.new).view.now }
+    ensures now_whole { OnOk result
+        (NowGoes (AllOf (member_writes name.now (info_text (I.sections value.now)))) (D.state d.old).view.now
+        (D.state d.new).view.now) }
+    ensures only { ChangesOnly (IsOfPair name.now) (D.state d.old).view (D.state d.new).view }
+    ensures frame { Frame (D.state d.old) (D.state d.new) }
+    ensures cause { IsErrOf result SaveFault.Disk → Rises (D.state d.old).faults (D.state d.new).faults }
+{
+    let text = text_of(alloc, value)?;
+    save_text(alloc, d, name, &text)?;
+    Ok(())
+}

@@ -1,0 +1,433 @@
+//! The rows of the options, as the table of them.
+
+ghost use Rattle.std.specs.Prelude.{◌≡◌};
+ghost use Rattle.pgb_table.specs.Table.{row, option, word_option, every, unset, IsOfServer, IsOfRepository, IsOfRetention, IsOfBundle, IsOfRun, IsOfArchive, IsOfCommand, IsIgnored};
+ghost use Rattle.pgb_table.specs.Views.{row_view, kind_view, fallback_view};
+
+use crate::table::{Fallback, Kind, Opt, Place, Row, Verb};
+
+// The commands that have an option.
+const EVERY: &[Verb] = &[
+    Verb::StanzaCreate,
+    Verb::ArchivePush,
+    Verb::ArchivePushAsync,
+    Verb::ArchiveGet,
+    Verb::ArchiveGetAsync,
+    Verb::Backup,
+    Verb::Expire,
+    Verb::Restore,
+    Verb::Verify,
+    Verb::Info,
+    Verb::Rehearse,
+];
+
+const WITH_DATA_FOLDER: &[Verb] = &[
+    Verb::StanzaCreate,
+    Verb::ArchivePush,
+    Verb::ArchivePushAsync,
+    Verb::ArchiveGet,
+    Verb::ArchiveGetAsync,
+    Verb::Backup,
+    Verb::Restore,
+    Verb::Rehearse,
+];
+
+const WITH_SERVER: &[Verb] = &[Verb::StanzaCreate, Verb::Backup];
+
+const PUSH_AND_BACKUP: &[Verb] = &[Verb::ArchivePush, Verb::ArchivePushAsync, Verb::Backup];
+
+const WITH_RETENTION: &[Verb] = &[Verb::Backup, Verb::Expire];
+
+const BACKUP: &[Verb] = &[Verb::Backup];
+
+const WITH_WORKERS: &[Verb] = &[Verb::Backup, Verb::Restore, Verb::Rehearse];
+
+const RESTORE: &[Verb] = &[Verb::Restore];
+
+const BACKUP_AND_RESTORE: &[Verb] = &[Verb::Backup, Verb::Restore];
+
+const PUSH_AND_GET: &[Verb] = &[
+    Verb::ArchivePush,
+    Verb::ArchivePushAsync,
+    Verb::ArchiveGet,
+    Verb::ArchiveGetAsync,
+];
+
+const GET: &[Verb] = &[Verb::ArchiveGet, Verb::ArchiveGetAsync];
+
+const WITH_SPOOL: &[Verb] = &[
+    Verb::ArchivePush,
+    Verb::ArchivePushAsync,
+    Verb::ArchiveGet,
+    Verb::ArchiveGetAsync,
+    Verb::Backup,
+];
+
+const WITH_LOCK: &[Verb] = &[
+    Verb::StanzaCreate,
+    Verb::ArchivePush,
+    Verb::ArchivePushAsync,
+    Verb::Backup,
+    Verb::Expire,
+    Verb::Rehearse,
+];
+
+const INFO: &[Verb] = &[Verb::Info];
+
+const REHEARSE: &[Verb] = &[Verb::Rehearse];
+
+// An option that may stand in the words and in the configuration.
+fn any_place(name: &'static str, commands: &'static [Verb], kind: Kind, fallback: Fallback) -> Row
+    ensures { row_view result ≡ option name.now commands.now (kind_view kind) (fallback_view fallback) }
+{
+    Row {
+        name,
+        commands,
+        place: Place::Anywhere,
+        kind,
+        fallback,
+    }
+}
+
+// One that may stand in the words alone.
+fn words_alone(name: &'static str, kind: Kind, fallback: Fallback) -> Row
+    ensures { row_view result ≡ word_option name.now every (kind_view kind) (fallback_view fallback) }
+{
+    Row {
+        name,
+        commands: EVERY,
+        place: Place::CommandLine,
+        kind,
+        fallback,
+    }
+}
+
+// One whose value isn't looked at.
+fn ignored(name: &'static str, kind: Kind) -> Row
+    ensures { row_view result ≡ option name.now every (kind_view kind) unset }
+{
+    any_place(name, EVERY, kind, Fallback::Unset)
+}
+
+// Of the stanza and its server.
+#[tactic(auto, unfolding(crate::specs::Table::row))]
+fn server_row(option: Opt) -> Row
+    requires { IsOfServer option }
+    ensures { row_view result ≡ row option }
+{
+    match option {
+        Opt::Stanza => words_alone("stanza", Kind::Stanza, Fallback::Required),
+        Opt::Pg1Path => any_place("pg1-path", WITH_DATA_FOLDER, Kind::Path, Fallback::Required),
+        Opt::Pg1Port => any_place(
+            "pg1-port",
+            WITH_SERVER,
+            Kind::Number {
+                least: 1,
+                most: 65535,
+            },
+            Fallback::Is("5432"),
+        ),
+        Opt::Pg1SocketPath => any_place(
+            "pg1-socket-path",
+            WITH_SERVER,
+            Kind::Path,
+            Fallback::Is("/tmp"),
+        ),
+        Opt::Pg1User => any_place(
+            "pg1-user",
+            WITH_SERVER,
+            Kind::Text,
+            Fallback::Is("postgres"),
+        ),
+        // Pg1Database, the one that is left.
+        _ => any_place(
+            "pg1-database",
+            WITH_SERVER,
+            Kind::Text,
+            Fallback::Is("postgres"),
+        ),
+    }
+}
+
+// Of the repository and how its files are stored.
+#[tactic(auto, unfolding(crate::specs::Table::row))]
+fn repository_row(option: Opt) -> Row
+    requires { IsOfRepository option }
+    ensures { row_view result ≡ row option }
+{
+    match option {
+        Opt::Repo1Path => any_place(
+            "repo1-path",
+            EVERY,
+            Kind::Path,
+            Fallback::Is("/var/lib/pgbackrest"),
+        ),
+        Opt::Repo1Type => any_place(
+            "repo1-type",
+            EVERY,
+            Kind::Words(&["posix"]),
+            Fallback::Is("posix"),
+        ),
+        Opt::Repo1CipherType => any_place(
+            "repo1-cipher-type",
+            EVERY,
+            Kind::Words(&["none"]),
+            Fallback::Is("none"),
+        ),
+        // CompressType, the one that is left.
+        _ => any_place(
+            "compress-type",
+            PUSH_AND_BACKUP,
+            Kind::Words(&["none"]),
+            Fallback::Is("none"),
+        ),
+    }
+}
+
+// Of what expire keeps.
+#[tactic(auto, unfolding(crate::specs::Table::row))]
+fn retention_row(option: Opt) -> Row
+    requires { IsOfRetention option }
+    ensures { row_view result ≡ row option }
+{
+    match option {
+        Opt::Repo1RetentionFull => any_place(
+            "repo1-retention-full",
+            WITH_RETENTION,
+            Kind::Number {
+                least: 1,
+                most: 9999999,
+            },
+            Fallback::Unset,
+        ),
+        Opt::Repo1RetentionDiff => any_place(
+            "repo1-retention-diff",
+            WITH_RETENTION,
+            Kind::Number {
+                least: 1,
+                most: 9999999,
+            },
+            Fallback::Unset,
+        ),
+        Opt::Repo1RetentionArchive => any_place(
+            "repo1-retention-archive",
+            WITH_RETENTION,
+            Kind::Number {
+                least: 1,
+                most: 9999999,
+            },
+            Fallback::Unset,
+        ),
+        // Repo1RetentionArchiveType, the one that is left.
+        _ => any_place(
+            "repo1-retention-archive-type",
+            WITH_RETENTION,
+            Kind::Words(&["full", "diff"]),
+            Fallback::Is("full"),
+        ),
+    }
+}
+
+// Of bundles.
+#[tactic(auto, unfolding(crate::specs::Table::row))]
+fn bundle_row(option: Opt) -> Row
+    requires { IsOfBundle option }
+    ensures { row_view result ≡ row option }
+{
+    match option {
+        Opt::Repo1Bundle => any_place("repo1-bundle", BACKUP, Kind::Flag, Fallback::Is("n")),
+        Opt::Repo1BundleSize => any_place(
+            "repo1-bundle-size",
+            BACKUP,
+            Kind::Size {
+                least: 1048576,
+                most: 1073741824,
+            },
+            Fallback::Is("20MiB"),
+        ),
+        // Repo1BundleLimit, the one that is left.
+        _ => any_place(
+            "repo1-bundle-limit",
+            BACKUP,
+            Kind::Size {
+                least: 8192,
+                most: 1073741824,
+            },
+            Fallback::Is("2MiB"),
+        ),
+    }
+}
+
+// Of how a backup or a restore is run.
+#[tactic(auto, unfolding(crate::specs::Table::row))]
+fn run_row(option: Opt) -> Row
+    requires { IsOfRun option }
+    ensures { row_view result ≡ row option }
+{
+    match option {
+        Opt::ProcessMax => any_place(
+            "process-max",
+            WITH_WORKERS,
+            Kind::Number { least: 1, most: 64 },
+            Fallback::Is("1"),
+        ),
+        Opt::BackupType => any_place(
+            "type",
+            BACKUP,
+            Kind::Words(&["full", "diff", "incr"]),
+            Fallback::Is("incr"),
+        ),
+        Opt::RestoreType => any_place(
+            "type",
+            RESTORE,
+            Kind::Words(&["default", "none"]),
+            Fallback::Is("default"),
+        ),
+        Opt::Delta => any_place("delta", BACKUP_AND_RESTORE, Kind::Flag, Fallback::Is("n")),
+        Opt::Online => any_place("online", WITH_SERVER, Kind::Flag, Fallback::Is("y")),
+        // StartFast, the one that is left.
+        _ => any_place("start-fast", BACKUP, Kind::Flag, Fallback::Is("n")),
+    }
+}
+
+// Of the archive, and the folders that it works in.
+#[tactic(auto, unfolding(crate::specs::Table::row))]
+fn archive_row(option: Opt) -> Row
+    requires { IsOfArchive option }
+    ensures { row_view result ≡ row option }
+{
+    match option {
+        Opt::ArchiveTimeout => any_place(
+            "archive-timeout",
+            PUSH_AND_BACKUP,
+            Kind::Time {
+                least: 1,
+                most: 86400,
+            },
+            Fallback::Is("60"),
+        ),
+        Opt::ArchiveAsync => any_place(
+            "archive-async",
+            PUSH_AND_GET,
+            Kind::Flag,
+            Fallback::Is("n"),
+        ),
+        Opt::ArchiveGetQueueMax => any_place(
+            "archive-get-queue-max",
+            GET,
+            Kind::Size {
+                least: 0,
+                most: 1099511627776,
+            },
+            Fallback::Is("128MiB"),
+        ),
+        Opt::SpoolPath => any_place(
+            "spool-path",
+            WITH_SPOOL,
+            Kind::Path,
+            Fallback::Is("/var/spool/pgbackrest"),
+        ),
+        // LockPath, the one that is left.
+        _ => any_place(
+            "lock-path",
+            WITH_LOCK,
+            Kind::Path,
+            Fallback::Is("/tmp/pgbackrest"),
+        ),
+    }
+}
+
+// Of one command, and the configuration.
+#[tactic(auto, unfolding(crate::specs::Table::row))]
+fn command_row(option: Opt) -> Row
+    requires { IsOfCommand option }
+    ensures { row_view result ≡ row option }
+{
+    match option {
+        Opt::Set => any_place("set", RESTORE, Kind::Text, Fallback::Unset),
+        Opt::ExpireAuto => any_place("expire-auto", BACKUP, Kind::Flag, Fallback::Is("y")),
+        Opt::Output => any_place(
+            "output",
+            INFO,
+            Kind::Words(&["text", "json"]),
+            Fallback::Is("text"),
+        ),
+        Opt::Number => any_place(
+            "number",
+            REHEARSE,
+            Kind::Number { least: 1, most: 64 },
+            Fallback::Required,
+        ),
+        // Config, the one that is left.
+        _ => words_alone("config", Kind::File, Fallback::Unset),
+    }
+}
+
+// Of what is not looked at.
+#[tactic(auto, unfolding(crate::specs::Table::row))]
+fn ignored_row(option: Opt) -> Row
+    requires { IsIgnored option }
+    ensures { row_view result ≡ row option }
+{
+    match option {
+        Opt::LogLevelConsole => ignored("log-level-console", Kind::Anything),
+        Opt::LogLevelFile => ignored("log-level-file", Kind::Anything),
+        Opt::LogLevelStderr => ignored("log-level-stderr", Kind::Anything),
+        Opt::LogPath => ignored("log-path", Kind::Anything),
+        Opt::LogTimestamp => ignored("log-timestamp", Kind::Flag),
+        Opt::BufferSize => ignored("buffer-size", Kind::Anything),
+        Opt::CompressLevel => ignored("compress-level", Kind::Anything),
+        Opt::CompressLevelNetwork => ignored("compress-level-network", Kind::Anything),
+        Opt::DbTimeout => ignored("db-timeout", Kind::Anything),
+        Opt::ProtocolTimeout => ignored("protocol-timeout", Kind::Anything),
+        Opt::IoTimeout => ignored("io-timeout", Kind::Anything),
+        // ArchiveModeCheck, the one that is left.
+        _ => ignored("archive-mode-check", Kind::Flag),
+    }
+}
+
+/// The row of an option.
+#[tactic(auto)]
+pub fn row_for(option: Opt) -> Row
+    ensures { row_view result ≡ row option }
+{
+    match option {
+        Opt::Stanza
+        | Opt::Pg1Path
+        | Opt::Pg1Port
+        | Opt::Pg1SocketPath
+        | Opt::Pg1User
+        | Opt::Pg1Database => server_row(option),
+        Opt::Repo1Path | Opt::Repo1Type | Opt::Repo1CipherType | Opt::CompressType =>
+            repository_row(option),
+        Opt::Repo1RetentionFull
+        | Opt::Repo1RetentionDiff
+        | Opt::Repo1RetentionArchive
+        | Opt::Repo1RetentionArchiveType => retention_row(option),
+        Opt::Repo1Bundle | Opt::Repo1BundleSize | Opt::Repo1BundleLimit => bundle_row(option),
+        Opt::ProcessMax
+        | Opt::BackupType
+        | Opt::RestoreType
+        | Opt::Delta
+        | Opt::Online
+        | Opt::StartFast => run_row(option),
+        Opt::ArchiveTimeout
+        | Opt::ArchiveAsync
+        | Opt::ArchiveGetQueueMax
+        | Opt::SpoolPath
+        | Opt::LockPath => archive_row(option),
+        Opt::Set | Opt::ExpireAuto | Opt::Output | Opt::Number | Opt::Config => command_row(option),
+        Opt::LogLevelConsole
+        | Opt::LogLevelFile
+        | Opt::LogLevelStderr
+        | Opt::LogPath
+        | Opt::LogTimestamp
+        | Opt::BufferSize
+        | Opt::CompressLevel
+        | Opt::CompressLevelNetwork
+        | Opt::DbTimeout
+        | Opt::ProtocolTimeout
+        | Opt::IoTimeout
+        | Opt::ArchiveModeCheck => ignored_row(option),
+    }
+}

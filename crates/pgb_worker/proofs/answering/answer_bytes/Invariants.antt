@@ -1,0 +1,26 @@
+use Rattle.std.proofs.Common.{◌≡◌, ◌<◌, ◌≤◌, ◌+◌, ◌-◌, ◌^◌, Some, length, take, drop, string_bytes}
+use Rattle.std.specs.Prelude.{IfSome}
+use Rattle.sha1.specs.Sha1.{Holds}
+use Rattle.pgb_model.specs.Text.{Text}
+use Rattle.pgb_frame.specs.Frames.{part_size}
+use Rattle.pgb_frame.specs.Views.{item_of}
+use Rattle.pgb_frame.specs.Replies.{payload}
+use Rattle.pgb_worker.proofs.BytesTold.{IsTold}
+use Rattle.pgb_worker.proofs.answering.answer_bytes.Given as goal
+
+abbrev pub invariant-loop-count : goal.invariant-loop-count
+invariant-loop-count g l = let F = g.F.Files in let O = g.O.Sink in record {
+  long : length l.room ≡ 32773;
+  small : l.count ≤ 32768;
+  size : l.told + l.count ≤ l.item.size;
+  within : l.item.at + l.told + l.count < 2 ^ 64;
+  files : F.files l.files ≡ F.files l.fn.files;
+  place : F.place l.files ≡ F.place l.fn.files;
+  failed : F.faults l.fn.files ≤ F.faults l.files;
+  later : O.faults l.fn.out ≤ O.faults l.out;
+  so_far : IfSome (F.files l.fn.files) (λ f. (bytes : Text) → f (string_bytes l.item.path) ≡ Some bytes → take l.first (drop 5 l.fn.room) ≡ take part_size (payload (item_of l.item) bytes)
+      → IsTold l.kind (item_of l.item) bytes l.told l.count l.room (O.written l.fn.out) (O.written l.out) × Holds l.digest (take l.told (payload (item_of l.item) bytes)));
+}
+
+abbrev pub decreases-loop-count : goal.decreases-loop-count
+decreases-loop-count g l = l.item.size - l.told

@@ -1,0 +1,58 @@
+use Rattle.std.proofs.Common.{◌≡◌, ◌<◌, ◌≤◌, ◌+◌, ℕ, Some, None, Option, length, take, vec_len, arith, ap, sym, refl, subst, ◌∙◌}
+use Rattle.std.specs.Prelude.{slice_index, IfSome, IfNone, IfErr}
+use Rattle.pgb_outside.specs.Streams.{Gives}
+use Rattle.pgb_model.specs.Text.{Text}
+use Rattle.pgb_frame.specs.Views.{frame_of}
+use Rattle.pgb_frame.specs.Frames.{IsFront}
+use Rattle.pgb_frame.specs.Reading.{IsCutShort}
+use Rattle.pgb_worker.specs.Hearing.{IsHeard, size_told, Hears, FaultAt}
+use Rattle.pgb_worker.proofs.Heard.{some_bytes, first_byte, was_read, heard_other, heard_frame, heard_fault, size_same, cut_then}
+use Rattle.pgb_worker.proofs.hearing.hear.Goals as goal
+
+pub returns-then-index-letter-clause-heard : goal.returns-then-index-letter-clause-heard
+returns-then-index-letter-clause-heard g c = λ rest is.
+    let left = g.I.Source.left c.read_to.new.input in
+    let bytes = c.read_to.new.bytes.items in
+    let r = was_read (g.I.Source.left c.args.input.now) left bytes rest is (c.in_ok-read_to.ensures.given (g.I.Source.left c.args.input.now) c.stages.invariant.given) in
+    let some : 0 < length bytes = omega (arith, some_bytes (vec_len c.read_to.new.bytes) c.if-is_empty.ensures, c.read_to.new.bytes.ok) in
+    heard_other bytes rest left r c.args.letter c.args.start (omega (arith, c.ranges.start.fits)) some (λ e. c.if-index-letter.true (sym (first_byte bytes c.index.result.now some c.index.ensures) ∙ e))
+
+pub returns-in-Err-clause-heard : goal.returns-in-Err-clause-heard
+returns-in-Err-clause-heard g c = λ rest is.
+    let left = g.I.Source.left c.read_to.new.input in
+    let bytes = c.read_to.new.bytes.items in
+    let r = was_read (g.I.Source.left c.args.input.now) left bytes rest is (c.in_ok-read_to.ensures.given (g.I.Source.left c.args.input.now) c.stages.invariant.given) in
+    let some : 0 < length bytes = omega (arith, some_bytes (vec_len c.read_to.new.bytes) c.if-is_empty.ensures, c.read_to.new.bytes.ok) in
+    heard_fault bytes rest left r c.args.letter c.args.start c.in-Err.fault some (first_byte bytes c.index.result.now some c.index.ensures ∙ c.if-index-letter.false)
+    (rw c.deref.ensures.value at c.in-Err.ensures.fault)
+
+pub returns-in-Ok-Some-clause-heard : goal.returns-in-Ok-Some-clause-heard
+returns-in-Ok-Some-clause-heard g c = λ rest is.
+    let left = g.I.Source.left c.read_to.new.input in
+    let bytes = c.read_to.new.bytes.items in
+    let r = was_read (g.I.Source.left c.args.input.now) left bytes rest is (c.in_ok-read_to.ensures.given (g.I.Source.left c.args.input.now) c.stages.invariant.given) in
+    let found : IsFront bytes (frame_of c.in-Ok-Some.frame) c.in-Ok-Some.field-0-0-1 = rw (← c.deref.ensures.value) (rw c.in-Ok-Some.field-0-is at c.in-Ok-Some.ensures.found) in
+    let size : vec_len c.read_to.new.bytes ≡ length bytes = omega (arith, c.read_to.new.bytes.ok) in
+    let most : length bytes ≤ c.stages.wanted = omega (arith, c.in_ok-read_to.ensures.wanted, size) in
+    subst (λ (n : ℕ). IsHeard (frame_of c.in-Ok-Some.frame) n rest left) (sym size ∙ sym c.len.ensures)
+    (heard_frame bytes rest left r (frame_of c.in-Ok-Some.frame) c.in-Ok-Some.field-0-0-1 found (omega (arith, most, c.stages.invariant.within rest is)))
+
+pub stages-preserved : goal.stages-preserved
+stages-preserved g c =
+    let i = c.stages.invariant in
+    let left = g.I.Source.left c.read_to.new.input in
+    let bytes = c.read_to.new.bytes.items in
+    let gives = c.in_ok-read_to.ensures.given (g.I.Source.left c.args.input.now) i.given in
+    let long : 5 ≤ length bytes = omega (arith, i.least, c.if-len-wanted.false, c.len-in-stages.ensures, c.read_to.new.bytes.ok) in
+    let n = c.next_size-wanted.ensures in
+    let told = (rw c.in-Ok-None.field-0-is at c.in-Ok-None.ensures.short) in
+    let more : length c.deref-in-stages.result.now < c.next_size-wanted.result = n.more (cut_then c.deref-in-stages.result.now (omega (arith, long, ap length c.deref-in-stages.ensures.value)) (subst IsCutShort (c.deref.ensures.value ∙ sym c.deref-in-stages.ensures.value) told.1)) in
+    record {
+      long = c.in_ok-read_to.ensures.room ∙ i.long;
+      more = omega (arith, more, ap length c.deref-in-stages.ensures.value, c.read_to.new.bytes.ok);
+      least = omega (arith, more, ap length c.deref-in-stages.ensures.value, long);
+      most = n.fits;
+      later = omega (arith, i.later, c.in_ok-read_to.ensures.later);
+      given = gives;
+      within = λ rest is. omega (arith, n.within, ap size_told c.deref-in-stages.ensures.value, size_same bytes rest left (was_read (g.I.Source.left c.args.input.now) left bytes rest is gives) long);
+    }

@@ -1,0 +1,19 @@
+use Rattle.std.proofs.Common.{◌≡◌, ◌<◌, ◌≤◌, ◌-◌, ◌^◌, length, vec_len, Some}
+use Rattle.pgb_outside.specs.Streams.{Gives}
+use Rattle.pgb_model.specs.Text.{Text}
+use Rattle.pgb_worker.specs.Hearing.{size_told}
+use Rattle.pgb_worker.proofs.hearing.hear.Given as goal
+
+abbrev pub invariant-stages : goal.invariant-stages
+invariant-stages g l = let I = g.I.Source in record {
+  long : length l.room ≡ length l.fn.room;
+  more : vec_len l.bytes < l.wanted;
+  least : 5 ≤ l.wanted;
+  most : l.wanted < 2 ^ 33;
+  later : I.faults l.fn.input ≤ I.faults l.input;
+  given : Gives (I.left l.fn.input) l.bytes.items (I.left l.input);
+  within : (rest : Text) → I.left l.fn.input ≡ Some rest → l.wanted ≤ size_told rest;
+}
+
+abbrev pub decreases-stages : goal.decreases-stages
+decreases-stages g l = 2 ^ 33 - l.wanted

@@ -1,0 +1,15 @@
+use Rattle.std.proofs.Common.{◌≡◌, ◌<◌, ◌≤◌, ◌-◌, length, vec_len, Option}
+use Rattle.pgb_outside.specs.Streams.{Gives}
+use Rattle.pgb_model.specs.Text.{Text}
+use Rattle.pgb_worker.proofs.hearing.read_to.Given as goal
+
+abbrev pub invariant-loop-bytes : goal.invariant-loop-bytes
+invariant-loop-bytes g l = let I = g.I.Source in record {
+  long : length l.room ≡ length l.fn.room;
+  within : vec_len l.bytes ≤ l.wanted;
+  later : I.faults l.fn.input ≤ I.faults l.input;
+  given : (total : Option Text) → Gives total l.fn.bytes.items (I.left l.fn.input) → Gives total l.bytes.items (I.left l.input);
+}
+
+abbrev pub decreases-loop-bytes : goal.decreases-loop-bytes
+decreases-loop-bytes g l = l.wanted - vec_len l.bytes

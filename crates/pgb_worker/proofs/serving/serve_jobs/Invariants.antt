@@ -1,0 +1,21 @@
+use Rattle.std.proofs.Common.{◌≡◌, ◌≤◌, Some, length}
+use Rattle.pgb_outside.specs.Content.{Content}
+use Rattle.pgb_model.specs.Text.{Text}
+use Rattle.pgb_worker.specs.Serving.{counts, NotOpened}
+use Rattle.pgb_worker.proofs.Served.{Going}
+use Rattle.pgb_worker.proofs.serving.serve_jobs.Given as goal
+
+abbrev pub invariant-loop-jobs : goal.invariant-loop-jobs
+invariant-loop-jobs g l = let F = g.F.Files in let G = g.G.Files in let O = g.O.Sink in let I = g.I.Source in record {
+  long : length l.room ≡ length l.fn.room;
+  tree : F.files l.tree ≡ F.files l.fn.tree;
+  repo : G.files l.repo ≡ G.files l.fn.repo;
+  tree_place : F.place l.tree ≡ F.place l.fn.tree;
+  repo_place : G.place l.repo ≡ G.place l.fn.repo;
+  tree_later : F.faults l.fn.tree ≤ F.faults l.tree;
+  repo_later : G.faults l.fn.repo ≤ G.faults l.repo;
+  in_later : I.faults l.fn.input ≤ I.faults l.input;
+  out_later : O.faults l.fn.out ≤ O.faults l.out;
+  so_far : (ft fr : Content) (rest : Text) → F.files l.fn.tree ≡ Some ft → G.files l.fn.repo ≡ Some fr → I.left l.fn.input ≡ Some rest
+      → Going ft fr (NotOpened l.opened) (counts (F.faults l.fn.tree) (G.faults l.fn.repo)) (counts (F.faults l.tree) (G.faults l.repo)) l.start rest l.jobs l.place (I.left l.input) (O.written l.fn.out) (O.written l.out);
+}

@@ -1,0 +1,13 @@
+use Rattle.std.proofs.Common.{◌≡◌, ◌≤◌, ◌++◌, ◌-◌, List, ℕ, length, take}
+use Rattle.pgb_worker.specs.Writing.{IsWritten}
+use Rattle.pgb_worker.proofs.telling.write_all.Given as goal
+
+abbrev pub invariant-loop-at : goal.invariant-loop-at
+invariant-loop-at g l = let O = g.O.Sink in record {
+  within : l.at ≤ length l.bytes;
+  written : IsWritten (O.written l.fn.out) (take l.at l.bytes) (O.written l.out);
+  later : O.faults l.fn.out ≤ O.faults l.out;
+}
+
+abbrev pub decreases-loop-at : goal.decreases-loop-at
+decreases-loop-at g l = length l.bytes - l.at

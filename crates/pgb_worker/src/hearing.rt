@@ -1,0 +1,224 @@
+// Hears frames from the parent.
+ghost use Rattle.std.specs.Prelude.{◌≡◌, ◌≢◌, ◌<◌, ◌≤◌, ◌+◌, ◌^◌, Option, Some, [], ℕ, take, length, vec_len, Err, OnOk, IfOk, IfErr, IfSome, IfNone, IsErrOf, MatchBool};
+ghost use Rattle.pgb_outside.specs.Cause.{Rises};
+ghost use Rattle.pgb_outside.specs.Streams.{Gives, IsOver};
+ghost use Rattle.pgb_model.specs.Text.{Text};
+ghost use Rattle.pgb_worker.specs.declared.serve_fault.ServeFault.TheVariants.{Read as InputFailed};
+ghost use Rattle.pgb_frame.specs.declared.fault.FrameFault.TheVariants as faults;
+ghost use Rattle.pgb_frame.specs.Frames.{IsFront};
+ghost use Rattle.pgb_frame.specs.Frames.Frame.{Setup, Task};
+ghost use Rattle.pgb_frame.specs.Views.{frame_of, roots_of, job_of};
+ghost use Rattle.pgb_frame.specs.Reading.{frame_at, IsCutShort};
+ghost use Rattle.pgb_worker.specs.Hearing.{size_told, IsInputFault, IsNotOutput, Hears, FaultAt};
+
+use crate::serve_fault::ServeFault;
+use crate::telling::HEAD_SIZE;
+use pgb_frame::{Frame, FrameFault, Job, Roots, decode_frame};
+use pgb_outside::{Source, Stop};
+use std::alloc::Global;
+
+// As much is read of a frame before its fields are looked at: no setup is longer.
+const FIRST_SIZE: usize = 131_079;
+
+// The next bytes, as many as come at once and at most so many; none is the end.
+fn read_some<I: Source>(
+    input: &mut I,
+    room: &mut [u8],
+    bytes: &mut Vec<u8>,
+    most: usize,
+) -> Result<usize, ServeFault>
+    requires room { 0 < length room.old }
+    requires most { 0 < most }
+    ensures given { OnOk result ((total : Option Text) → Gives total bytes.old.items (I.left input.old)
+        → Gives total bytes.new.items (I.left input.new)) }
+    ensures count { IfOk result (λ n. (n ≤ most) × (vec_len bytes.new ≡ vec_len bytes.old + n)) }
+    ensures end { IfOk result (λ n. n ≡ 0 → IsOver (I.left input.new)) }
+    ensures room { length room.new ≡ length room.old }
+    ensures read { IsErrOf result InputFailed → Rises (I.faults input.old) (I.faults input.new) }
+    ensures later { I.faults input.old ≤ I.faults input.new }
+    ensures only { IfErr result IsInputFault }
+{
+    let size = if room.len() < most { room.len() } else { most };
+    let count = match input.read(&mut room[..size]) {
+        Ok(count) => count,
+        Err(Stop::Failed) => return Err(ServeFault::Read),
+        Err(Stop::NoMemory) => return Err(ServeFault::NoMemory),
+    };
+    bytes.extend_from_slice(&room[..count])?;
+    Ok(count)
+}
+
+// Reads until so many bytes are there, or the input ends.
+fn read_to<I: Source>(
+    input: &mut I,
+    room: &mut [u8],
+    bytes: &mut Vec<u8>,
+    wanted: usize,
+) -> Result<(), ServeFault>
+    requires room { 0 < length room.old }
+    requires wanted { vec_len bytes.old ≤ wanted }
+    ensures given { OnOk result ((total : Option Text) → Gives total bytes.old.items (I.left input.old)
+        → Gives total bytes.new.items (I.left input.new)) }
+    ensures wanted { OnOk result (vec_len bytes.new ≤ wanted) }
+    ensures end { OnOk result (vec_len bytes.new < wanted → IsOver (I.left input.new)) }
+    ensures room { length room.new ≡ length room.old }
+    ensures read { IsErrOf result InputFailed → Rises (I.faults input.old) (I.faults input.new) }
+    ensures later { I.faults input.old ≤ I.faults input.new }
+    ensures only { IfErr result IsInputFault }
+{
+    while bytes.len() < wanted {
+        let most = wanted - bytes.len();
+        if read_some(input, room, bytes, most)? == 0 {
+            return Ok(());
+        }
+    }
+    Ok(())
+}
+
+// The length of a frame by its head.
+fn size_told(bytes: &[u8]) -> usize
+    requires { 5 ≤ length bytes.now }
+    ensures value { result ≡ size_told bytes.now }
+    ensures fits { result < 2 ^ 33 }
+{
+    let length = u32::from_be_bytes([bytes[1], bytes[2], bytes[3], bytes[4]]);
+    HEAD_SIZE + length as usize
+}
+
+// How much of a frame that isn't whole is read next.
+fn next_size(bytes: &[u8]) -> usize
+    requires { 5 ≤ length bytes.now }
+    ensures within { result ≤ size_told bytes.now }
+    ensures more { length bytes.now < size_told bytes.now → length bytes.now < result }
+    ensures fits { result < 2 ^ 33 }
+{
+    let size = size_told(bytes);
+    if bytes.len() < FIRST_SIZE && FIRST_SIZE < size {
+        return FIRST_SIZE;
+    }
+    size
+}
+
+// The frame that the bytes are, where it is whole.
+fn look(alloc: Global, bytes: &[u8], start: u64) -> Result<Option<(Frame, usize)>, ServeFault>
+    ensures found { IfOk result (λ r. IfSome r (λ x. IsFront bytes.now (frame_of x.0) x.1)) }
+    ensures short { IfOk result (λ r. IfNone r ((frame_at bytes.now ≡ Err faults.Short) × IsCutShort bytes.now)) }
+    ensures fault { IfErr result (FaultAt start bytes.now) }
+{
+    match decode_frame(alloc, bytes) {
+        Ok(found) => Ok(Some(found)),
+        Err(FrameFault::Short) => Ok(None),
+        Err(FrameFault::Form { at }) => Err(ServeFault::Form {
+            at: start.saturating_add(at),
+        }),
+        Err(FrameFault::TooLong { length }) => Err(ServeFault::TooLong { length }),
+        Err(FrameFault::NoMemory) => Err(ServeFault::NoMemory),
+    }
+}
+
+// The next frame, which is to be of this type, and its length; none where the input is over. So many bytes came before.
+fn hear<I: Source>(
+    alloc: Global,
+    input: &mut I,
+    room: &mut [u8],
+    letter: u8,
+    start: u64,
+) -> Result<Option<(Frame, u64)>, ServeFault>
+    requires { 0 < length room.old }
+    ensures heard { (rest : Text) → I.left input.old ≡ Some rest
+        → Hears frame_of letter start rest result (I.left input.new) }
+    ensures room { length room.new ≡ length room.old }
+    ensures read { IsErrOf result InputFailed → Rises (I.faults input.old) (I.faults input.new) }
+    ensures later { I.faults input.old ≤ I.faults input.new }
+    ensures only { IfErr result IsNotOutput }
+{
+    let mut bytes = Vec::new(alloc);
+    let mut wanted = HEAD_SIZE;
+    'stages: loop {
+        read_to(input, room, &mut bytes, wanted)?;
+        if bytes.is_empty() {
+            return Ok(None);
+        }
+        if bytes[0] != letter {
+            return Err(ServeFault::Form { at: start });
+        }
+        match look(alloc, &bytes, start) {
+            Ok(Some((frame, _))) => return Ok(Some((frame, bytes.len() as u64))),
+            Ok(None) => {}
+            Err(fault) => return Err(fault),
+        }
+        if bytes.len() < wanted {
+            return Err(ServeFault::Ended {
+                at: start.saturating_add(bytes.len() as u64),
+            });
+        }
+        wanted = next_size(&bytes);
+    }
+}
+
+/// The setup, and its length; none where the input is over.
+pub(crate) fn hear_setup<I: Source>(
+    alloc: Global,
+    input: &mut I,
+    room: &mut [u8],
+) -> Result<Option<(Roots, u64)>, ServeFault>
+    requires { 0 < length room.old }
+    ensures heard { (rest : Text) → I.left input.old ≡ Some rest
+        → Hears (λ r. Setup (roots_of r)) 83 0 rest result (I.left input.new) }
+    ensures room { length room.new ≡ length room.old }
+    ensures read { IsErrOf result InputFailed → Rises (I.faults input.old) (I.faults input.new) }
+    ensures later { I.faults input.old ≤ I.faults input.new }
+    ensures only { IfErr result IsNotOutput }
+{
+    let Some((frame, size)) = hear(alloc, input, room, b'S', 0)? else {
+        return Ok(None);
+    };
+    match frame {
+        Frame::Setup(roots) => Ok(Some((roots, size))),
+        // A frame that begins with `S` is no other.
+        _ => Err(ServeFault::Form { at: 0 }),
+    }
+}
+
+/// The next job, and its length; none where the input is over. So many bytes came before.
+pub(crate) fn hear_job<I: Source>(
+    alloc: Global,
+    input: &mut I,
+    room: &mut [u8],
+    start: u64,
+) -> Result<Option<(Job, u64)>, ServeFault>
+    requires { 0 < length room.old }
+    ensures heard { (rest : Text) → I.left input.old ≡ Some rest
+        → Hears (λ j. Task (job_of j)) 74 start rest result (I.left input.new) }
+    ensures room { length room.new ≡ length room.old }
+    ensures read { IsErrOf result InputFailed → Rises (I.faults input.old) (I.faults input.new) }
+    ensures later { I.faults input.old ≤ I.faults input.new }
+    ensures only { IfErr result IsNotOutput }
+{
+    let Some((frame, size)) = hear(alloc, input, room, b'J', start)? else {
+        return Ok(None);
+    };
+    match frame {
+        Frame::Job(job) => Ok(Some((job, size))),
+        // A frame that begins with `J` is no other.
+        _ => Err(ServeFault::Form { at: start }),
+    }
+}
+
+/// Whether the input is over.
+pub(crate) fn is_over<I: Source>(
+    alloc: Global,
+    input: &mut I,
+    room: &mut [u8],
+) -> Result<bool, ServeFault>
+    requires { 0 < length room.old }
+    ensures over { (rest : Text) → I.left input.old ≡ Some rest
+        → IfOk result (λ b. MatchBool b (rest ≡ []) (0 < length rest)) }
+    ensures room { length room.new ≡ length room.old }
+    ensures read { IsErrOf result InputFailed → Rises (I.faults input.old) (I.faults input.new) }
+    ensures later { I.faults input.old ≤ I.faults input.new }
+    ensures only { IfErr result IsInputFault }
+{
+    let mut bytes = Vec::new(alloc);
+    Ok(read_some(input, room, &mut bytes, 1)? == 0)
+}

@@ -1,0 +1,119 @@
+// Answers a job.
+ghost use Rattle.std.specs.Prelude.{◌≡◌, ◌≤◌, ◌⊎◌, Some, false, length, string_bytes, IfErr, IfSome, IsErrOf};
+ghost use Rattle.pgb_outside.specs.Cause.{Rises};
+ghost use Rattle.pgb_outside.specs.Content.{Content};
+ghost use Rattle.pgb_worker.specs.declared.serve_fault.ServeFault.TheVariants.{Sink as OutputFailed};
+ghost use Rattle.pgb_frame.specs.Views.{item_of, job_of};
+ghost use Rattle.pgb_worker.specs.Answers.{value_of, ToldItem, ToldJob};
+ghost use Rattle.pgb_worker.specs.Opening.{FailedRoot};
+ghost use Rattle.pgb_worker.specs.Writing.{IsOutputFault};
+
+use crate::answering::{answer_item, tell_unread};
+use crate::serve_fault::ServeFault;
+use pgb_frame::{Item, Job, JobKind, Root};
+use pgb_outside::{Files, Sink};
+use std::alloc::Global;
+
+/// Which of the roots were opened.
+#[derive(Clone, Copy)]
+pub(crate) struct Opened {
+    pub tree: bool,
+    pub repo: bool,
+}
+
+// Answers an item, and tells whether the reply goes on behind it.
+fn answer_next<O: Sink, F: Files>(
+    alloc: Global,
+    out: &mut O,
+    files: &mut F,
+    is_open: bool,
+    kind: JobKind,
+    item: &Item,
+    room: &mut [u8],
+) -> Result<bool, ServeFault>
+    requires room { length room.old ≡ 32773 }
+    ensures told { IfSome (F.files files.old)
+        (λ f. ToldItem kind (item_of item.now) (f (string_bytes item.now.path))
+        ((is_open ≡ false) ⊎ Rises (F.faults files.old) (F.faults files.new)) result (O.written out.old)
+        (O.written out.new)) }
+    ensures room { length room.new ≡ length room.old }
+    ensures files { F.files files.new ≡ F.files files.old }
+    ensures place { F.place files.new ≡ F.place files.old }
+    ensures failed { F.faults files.old ≤ F.faults files.new }
+    ensures sink { IsErrOf result OutputFailed → Rises (O.faults out.old) (O.faults out.new) }
+    ensures later { O.faults out.old ≤ O.faults out.new }
+    ensures only { IfErr result IsOutputFault }
+{
+    if is_open {
+        answer_item(alloc, out, files, kind, item, room)
+    } else {
+        tell_unread(alloc, out)
+    }
+}
+
+// The same of an item of either root.
+fn answer_of_root<O: Sink, F: Files, G: Files>(
+    alloc: Global,
+    out: &mut O,
+    tree: &mut F,
+    repo: &mut G,
+    opened: Opened,
+    kind: JobKind,
+    item: &Item,
+    room: &mut [u8],
+) -> Result<bool, ServeFault>
+    requires room { length room.old ≡ 32773 }
+    ensures told { (ft fr : Content) → F.files tree.old ≡ Some ft → G.files repo.old ≡ Some fr
+        → ToldItem kind (item_of item.now) (value_of ft fr (item_of item.now))
+        (FailedRoot opened (F.faults tree.old) (G.faults repo.old) (F.faults tree.new)
+        (G.faults repo.new) item.now.root) result (O.written out.old) (O.written out.new) }
+    ensures room { length room.new ≡ length room.old }
+    ensures tree { F.files tree.new ≡ F.files tree.old }
+    ensures repo { G.files repo.new ≡ G.files repo.old }
+    ensures tree_place { F.place tree.new ≡ F.place tree.old }
+    ensures repo_place { G.place repo.new ≡ G.place repo.old }
+    ensures tree_failed { F.faults tree.old ≤ F.faults tree.new }
+    ensures repo_failed { G.faults repo.old ≤ G.faults repo.new }
+    ensures sink { IsErrOf result OutputFailed → Rises (O.faults out.old) (O.faults out.new) }
+    ensures later { O.faults out.old ≤ O.faults out.new }
+    ensures only { IfErr result IsOutputFault }
+{
+    match item.root {
+        Root::Tree => answer_next(alloc, out, tree, opened.tree, kind, item, room),
+        Root::Repo => answer_next(alloc, out, repo, opened.repo, kind, item, room),
+    }
+}
+
+/// Answers a job.
+pub(crate) fn answer_job<O: Sink, F: Files, G: Files>(
+    alloc: Global,
+    out: &mut O,
+    tree: &mut F,
+    repo: &mut G,
+    opened: Opened,
+    job: &Job,
+    room: &mut [u8],
+) -> Result<(), ServeFault>
+    requires room { length room.old ≡ 32773 }
+    ensures told { (ft fr : Content) → F.files tree.old ≡ Some ft → G.files repo.old ≡ Some fr
+        → ToldJob (job_of job.now) ft fr
+        (FailedRoot opened (F.faults tree.old) (G.faults repo.old) (F.faults tree.new) (G.faults repo.new)) result
+        (O.written out.old) (O.written out.new) }
+    ensures room { length room.new ≡ length room.old }
+    ensures tree { F.files tree.new ≡ F.files tree.old }
+    ensures repo { G.files repo.new ≡ G.files repo.old }
+    ensures tree_place { F.place tree.new ≡ F.place tree.old }
+    ensures repo_place { G.place repo.new ≡ G.place repo.old }
+    ensures tree_failed { F.faults tree.old ≤ F.faults tree.new }
+    ensures repo_failed { G.faults repo.old ≤ G.faults repo.new }
+    ensures sink { IsErrOf result OutputFailed → Rises (O.faults out.old) (O.faults out.new) }
+    ensures later { O.faults out.old ≤ O.faults out.new }
+    ensures only { IfErr result IsOutputFault }
+{
+    for item in &job.items {
+        if !answer_of_root(alloc, out, tree, repo, opened, job.kind, item, room)? {
+            return Ok(());
+        }
+    }
+    Ok(())
+}

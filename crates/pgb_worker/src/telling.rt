@@ -1,0 +1,73 @@
+// Writes frames to the parent.
+ghost use Rattle.std.specs.Prelude.{◌≡◌, ◌<◌, ◌≤◌, ◌⊎◌, [], ◌∷◌, take, drop, length, IsErrOf, IfErr};
+ghost use Rattle.pgb_outside.specs.Cause.{Rises};
+ghost use Rattle.pgb_worker.specs.declared.serve_fault.ServeFault.TheVariants.{Sink as OutputFailed};
+ghost use Rattle.pgb_frame.specs.Frames.{FitsFrame, spell};
+ghost use Rattle.pgb_frame.specs.Frames.Frame.{Part};
+ghost use Rattle.pgb_frame.specs.Views.{frame_of};
+ghost use Rattle.pgb_worker.specs.Writing.{Adds, Writes, IsOutputFault};
+
+use crate::serve_fault::ServeFault;
+use pgb_frame::{Frame, encode_frame};
+use pgb_outside::{Sink, Stop};
+use std::alloc::Global;
+
+/// The longest part, in bytes.
+pub(crate) const PART_SIZE: usize = 32 << 10;
+
+/// A type and a length.
+pub(crate) const HEAD_SIZE: usize = 5;
+
+// Writes all of the bytes, or a first part of them where the sink stops.
+fn write_all<O: Sink>(out: &mut O, bytes: &[u8]) -> Result<(), ServeFault>
+    ensures adds { Adds result bytes.now (O.written out.old) (O.written out.new) }
+    ensures sink { IsErrOf result OutputFailed → Rises (O.faults out.old) (O.faults out.new) }
+    ensures later { O.faults out.old ≤ O.faults out.new }
+    ensures only { IfErr result IsOutputFault }
+{
+    let mut at = 0usize;
+    while at < bytes.len() {
+        let taken = match out.write(&bytes[at..]) {
+            Ok(taken) => taken,
+            Err(Stop::Failed) => return Err(ServeFault::Sink),
+            Err(Stop::NoMemory) => return Err(ServeFault::NoMemory),
+        };
+        if taken == 0 {
+            return Err(ServeFault::Sink);
+        }
+        at += taken;
+    }
+    Ok(())
+}
+
+/// Writes a frame that keeps the rules.
+pub(crate) fn tell<O: Sink>(alloc: Global, out: &mut O, frame: &Frame) -> Result<(), ServeFault>
+    requires { FitsFrame (frame_of frame.now) }
+    ensures writes { Writes result (frame_of frame.now ∷ []) (O.written out.old) (O.written out.new) }
+    ensures sink { IsErrOf result OutputFailed → Rises (O.faults out.old) (O.faults out.new) }
+    ensures later { O.faults out.old ≤ O.faults out.new }
+    ensures only { IfErr result IsOutputFault }
+{
+    let bytes = encode_frame(alloc, frame)?;
+    write_all(out, &bytes)
+}
+
+/// Writes the part of so many bytes that stands behind the room for its head.
+pub(crate) fn tell_part<O: Sink>(
+    out: &mut O,
+    room: &mut [u8],
+    count: usize,
+) -> Result<(), ServeFault>
+    requires room { length room.old ≡ 32773 }
+    requires count { count ≤ 32768 }
+    ensures writes { Writes result (Part (take count (drop 5 room.old)) ∷ []) (O.written out.old) (O.written out.new) }
+    ensures room { length room.new ≡ length room.old }
+    ensures sink { IsErrOf result OutputFailed → Rises (O.faults out.old) (O.faults out.new) }
+    ensures later { O.faults out.old ≤ O.faults out.new }
+    ensures only { IfErr result IsOutputFault }
+{
+    let length = (count as u32).to_be_bytes();
+    room[0] = b'P';
+    room[1..HEAD_SIZE].copy_from_slice(&length);
+    write_all(out, &room[..HEAD_SIZE + count])
+}
