@@ -3,7 +3,7 @@ ghost use Rattle.std.specs.Prelude.{◌≡◌, [], List, map, string_bytes, IsSo
 ghost use Rattle.pgb_story.specs.Story.{Call, KeepsAll};
 ghost use Rattle.pgb_headline.specs.Acts.{both, IsShown, Went};
 
-use pgb_archive::Aside;
+use pgb_turn::Aside;
 use pgb_command::{Outside, run};
 use pgb_outside::{Clock, Disk, Link, Locks, Sink, Source, Tree, Turns, Wire};
 use std::alloc::Global;

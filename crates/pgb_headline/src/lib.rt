@@ -8,8 +8,6 @@
 mod calling;
 mod listing;
 mod playing;
-#[cfg(test)]
-mod tests;
 
 pub use calling::called;
 pub use listing::play;
