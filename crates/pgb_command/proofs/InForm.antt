@@ -1,7 +1,7 @@
 -- The stanza that words settle is in form.
 use Rattle.std.proofs.Common.{◌≡◌, ◌≢◌, ⊎_elim, ℕ, Bool, true, false, List, [], ◌∷◌, length, codes, Option, Some, None, Result, Ok, Err, refl, sym, ap, subst, ◌∙◌, arith}
-use Rattle.std.specs.Prelude.{◌&&◌, Contains, is_some, is_none}
-use Rattle.std.specs.List.{list_all, find, AllByRecursion}
+use Rattle.std.specs.Prelude.{◌&&◌, is_some, is_none, if◌then◌else◌, option_and_then}
+use Rattle.std.specs.List.{list_all, find}
 use Rattle.std.specs.Option.{option_map_or, option_or}
 use Rattle.std.proofs.lemmas.Grind.{common_steps}
 use Rattle.pgb_outside.specs.Content.{Content}
@@ -13,8 +13,8 @@ use Rattle.pgb_table.specs.declared.table.Opt.TheVariants.{Stanza}
 use Rattle.pgb_table.specs.declared.table.Verb.{Verb}
 use Rattle.pgb_table.specs.declared.table.Verb.TheVariants.{StanzaCreate, ArchivePush, ArchivePushAsync, ArchiveGet, ArchiveGetAsync, Backup, Expire, Restore, Verify, Info, Rehearse}
 use Rattle.pgb_options.specs.Faults.{Fault, ◌>>=◌}
-use Rattle.pgb_table.specs.Table.{row}
-use Rattle.pgb_table.specs.Values.{is_stanza, is_stanza_byte}
+use Rattle.pgb_table.specs.Table.{row, stanza as stanza_kind}
+use Rattle.pgb_table.specs.Values.{is_stanza, is_stanza_byte, value_of, text_where}
 use Rattle.pgb_options.specs.Words.{Words, read_words}
 use Rattle.pgb_options.specs.Settings.{Source, Settled, settle, settled_words, settled, source_of, sections_of, configured, accepted, command_of, each_is_for, stanza_of, value_given, value_configured, none_wrong, none_lacking, refused, is_wrong, is_for, in_force, value}
 use Rattle.pgb_stored.specs.Paths.{Lacks}
@@ -35,7 +35,7 @@ head_right {A} fails fault x xs e = go (fails x) refl
   where
     go : (b : Bool) → fails x ≡ b → fails x ≡ false
     go false is = is
-    go true is = let found : find fails (x ∷ xs) ≡ Some x = grind (arith, common_steps, is) in
+    go true is = let found : find fails (x ∷ xs) ≡ Some x = ap (λ (b : Bool). if b then Some x else find fails xs) is in
         let u : ◌≡◌ {A = Result (Unit {0}) Fault} (Err (fault x)) (Ok tt) = sym (ap (λ (o : Option A). option_map_or (λ (y : A). Err (fault y)) o (Ok tt)) found) ∙ e in cc
 
 -- ---- the stanza is the value of its option
@@ -63,7 +63,10 @@ every_has Rehearse = refl
 
 in_force_is : (s : Source) (stanza : Text) → value_given s.given (codes "stanza") ≡ Some stanza → in_force s Stanza ≡ Some stanza
 unfolding in_force row
-in_force_is s stanza is = grind (arith, common_steps, is, every_has s.verb)
+in_force_is s stanza is =
+    let more = value_configured (row Stanza).place s (codes "stanza") in
+    ap (λ (b : Bool). option_or (if b then option_or (value_given s.given (codes "stanza")) more else None) None) (every_has s.verb)
+    ∙ ap (λ (o : Option Text). option_or (option_or o more) None) is
 
 right_is : (s : Source) (stanza : Text) → in_force s Stanza ≡ Some stanza → is_wrong s Stanza ≡ false → is_stanza stanza ≡ true
 unfolding value row
@@ -71,7 +74,10 @@ right_is s stanza is right = go (is_stanza stanza) refl
   where
     go : (b : Bool) → is_stanza stanza ≡ b → is_stanza stanza ≡ true
     go true e = e
-    go false e = grind (arith, common_steps, is, right, e)
+    go false e =
+        let wrong : is_wrong s Stanza ≡ true =
+            ap (λ (o : Option Text). is_some o && is_none (option_and_then (value_of stanza_kind) o)) is ∙ ap (λ (b : Bool). is_none (text_where b stanza)) e in
+        let u : ◌≡◌ {A = Bool} false true = sym right ∙ wrong in cc
 
 -- ---- what settles
 
@@ -98,15 +104,23 @@ settled_stanza words bytes s e = let x = in_steps words bytes s e in right_is x.
 
 -- ---- no slash
 
+and_left : (a b : Bool) → (a && b) ≡ true → a ≡ true
+and_left true b h = refl
+and_left false b h = h
+
+and_right : (a b : Bool) → (a && b) ≡ true → b ≡ true
+and_right true b h = h
+and_right false b h = let u : ◌≡◌ {A = Bool} false true = h in cc
+
 no_slash : (c : ℕ) → is_stanza_byte c ≡ true → c ≢ 47
 no_slash c is e = let u : ◌≡◌ {A = Bool} false true = ap is_stanza_byte (sym e) ∙ is in cc
 
 bytes_lack : (t : Text) → list_all is_stanza_byte t ≡ true → Lacks 47 t
 bytes_lack [] all = tt
-bytes_lack (c ∷ t) all = (no_slash c (grind (arith, common_steps, all)), bytes_lack t (grind (arith, common_steps, all)))
+bytes_lack (c ∷ t) all = (no_slash c (and_left (is_stanza_byte c) (list_all is_stanza_byte t) all), bytes_lack t (and_right (is_stanza_byte c) (list_all is_stanza_byte t) all))
 
 form_lacks : (t : Text) → is_stanza t ≡ true → IsStanza t
-form_lacks t is = lacks_not 47 t (bytes_lack t (grind (arith, common_steps, is)))
+form_lacks t is = lacks_not 47 t (bytes_lack t (and_right _ _ (and_left _ _ is)))
 
 -- the stanza of what is asked for is in form
 pub asked_in_form : (words : List Text) (files : Option Content) (a : Asked) → MayAsk words files a → IsStanza a.stanza

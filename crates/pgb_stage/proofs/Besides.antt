@@ -1,6 +1,7 @@
 -- Calls whose names are all of one stanza keep to it.
 use Rattle.std.proofs.Common.{◌≡◌, inl, inr, Bool, true, false, ◌∷◌, codes, sym, ◌∙◌, append_assoc}
-use Rattle.pgb_outside.specs.Content.{Name}
+use Rattle.std.specs.Prelude.{IsTrue}
+use Rattle.pgb_outside.specs.Content.{Name, is_below}
 use Rattle.pgb_outside.specs.Moments.{View}
 use Rattle.pgb_outside.specs.Crash.{IsTemporary}
 use Rattle.pgb_outside.proofs.Steps.{goes_wide}
@@ -48,7 +49,7 @@ module _ (stanza : Text) (a b : View) where
   pairs_beside p = only_beside stanza (IsOfPairs stanza) a b (pairs_of stanza) p
 
   pub archive_beside : ChangesArchive stanza a b → StaysBeside stanza a b
-  archive_beside p = only_beside stanza _ a b (λ n h. below_archive stanza n h) p
+  archive_beside p = only_beside stanza (λ n. IsTrue (is_below (archive_folder stanza) n)) a b (below_archive stanza) p
 
   pub still_beside : IsStill a b → StaysBeside stanza a b
   still_beside p = rests_beside stanza a b p.time p.now
