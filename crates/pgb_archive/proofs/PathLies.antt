@@ -42,7 +42,7 @@ sum_slash : (b : Bool) (sum : Text) → Lacks 47 (sum_digits b sum)
 sum_slash true sum = encoded_lacks 47 lower_digits sum digits_slash (λ e. let h : ◌≡◌ {A = ℕ} 47 0 = e in omega arith)
 sum_slash false sum = tt
 
-wal_slash : (name : ArchiveName) → Lacks 47 (wal_text name)
+pub wal_slash : (name : ArchiveName) → Lacks 47 (wal_text name)
 wal_slash (Whole s) = segment_lacks 47 s (omega arith)
 wal_slash (Partial s) = lacks_append 47 (segment_text s) (codes ".partial") (segment_lacks 47 s (omega arith)) partial_slash
 wal_slash (History t) = history_lacks 47 t (omega arith) history_slash

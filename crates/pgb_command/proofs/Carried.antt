@@ -73,6 +73,7 @@ module _ (a : Asked) (b k : Seen) (o : SinkState) (le : k.out.faults ≤ o.fault
     cause = err_as r _ _ out_cause did.cause;
     healed = did.healed;
     spares = record {
+      beside = did.spares.beside;
       reads = did.spares.reads;
       folder = did.spares.folder;
       nodes = did.spares.nodes;

@@ -24,6 +24,9 @@ use Rattle.pgb_stage.specs.declared.plan.Settling.TheVariants.{Looked}
 use Rattle.pgb_stage.specs.Runs.{Reached, to_end, turned_back, stopped, OnNone, Runs, Takes, Quiet, Begins, IsLookedAt, On}
 use Rattle.pgb_stage.specs.Seen.{Seen, Failed, AreLater, AreRead}
 use Rattle.pgb_stage.specs.States.{WireState, LocksState}
+use Rattle.pgb_story.specs.Beside.{StaysBeside}
+use Rattle.pgb_story.proofs.Stays.{beside_on}
+use Rattle.pgb_stage.proofs.Besides.{still_beside}
 use Rattle.pgb_stage.proofs.Counts.{rises_from}
 use Rattle.pgb_stage.proofs.Lifted.{on_as, still_quiet, rests_quiet, quiet_takes, looked_at, begun_takes, opened_takes}
 use Rattle.pgb_model.proofs.Logged.{rests_still}
@@ -155,8 +158,9 @@ closes_from b m k le (ObjectFailed object) h = tt
 closes_from b m k le NoMemory h = tt
 
 -- what was done before it left these as they were
-pub spares_on : (a : Asked) (b m k : Seen) (r : Result Outcome Fault) → OnReader a.request (IsStill b.repo.view m.repo.view) → OnCreate a.request (IsStill b.repo.view m.repo.view) → m.tree.nodes ≡ b.tree.nodes → m.server ≡ b.server → Spares a m k r → Spares a b k r
-spares_on a b m k r reads creates nodes server s = record {
+pub spares_on : (a : Asked) (b m k : Seen) (r : Result Outcome Fault) → StaysBeside a.stanza b.repo.view m.repo.view → OnReader a.request (IsStill b.repo.view m.repo.view) → OnCreate a.request (IsStill b.repo.view m.repo.view) → m.tree.nodes ≡ b.tree.nodes → m.server ≡ b.server → Spares a m k r → Spares a b k r
+spares_on a b m k r beside reads creates nodes server s = record {
+  beside = beside_on a.stanza b.repo.view m.repo.view k.repo.view beside s.beside;
   reads = reader_on a.request _ _ _ (still_on b.repo.view m.repo.view k.repo.view) reads s.reads;
   folder = folder_on a a.request b m k reads nodes s.folder;
   nodes = none_as (reached_of (ending_of r)) _ _ (λ h. h ∙ nodes) s.nodes;
@@ -167,8 +171,9 @@ spares_on a b m k r reads creates nodes server s = record {
 }
 
 -- a stage ended it
-pub spares_none : (a : Asked) (b k : Seen) (fault : Fault) → OnReader a.request (IsStill b.repo.view k.repo.view) → OnCreate a.request (IsStill b.repo.view k.repo.view) → k.tree.nodes ≡ b.tree.nodes → k.server ≡ b.server → Closes b k fault → Spares a b k (Err fault)
-spares_none a b k fault reads creates nodes server closes = record {
+pub spares_none : (a : Asked) (b k : Seen) (fault : Fault) → StaysBeside a.stanza b.repo.view k.repo.view → OnReader a.request (IsStill b.repo.view k.repo.view) → OnCreate a.request (IsStill b.repo.view k.repo.view) → k.tree.nodes ≡ b.tree.nodes → k.server ≡ b.server → Closes b k fault → Spares a b k (Err fault)
+spares_none a b k fault beside reads creates nodes server closes = record {
+  beside = beside;
   reads = reads;
   folder = folder_stays a a.request b.repo.view.now b.tree.nodes k.tree.nodes nodes;
   nodes = all_none (reached_of (ending_of (Err fault))) _ nodes;
@@ -216,7 +221,7 @@ did_from a b m k r read did = record {
       (h q log (subst (λ (o : Option Content). IsSome o) (sym read.repo.now) some) (rests_still a.stanza q log b.repo.view m.repo.view read.repo.time read.repo.now keeps))) did.lasts;
   cause = err_as r _ _ (cause_from a b m k read) did.cause;
   healed = on_ok r _ _ (λ h some. h (subst (λ (o : Option Content). IsSome o) (sym read.repo.now) some)) did.healed;
-  spares = spares_on a b m k r (any_reader a.request _ read.repo) (any_create a.request _ read.repo) read.nodes read.server did.spares;
+  spares = spares_on a b m k r (still_beside a.stanza b.repo.view m.repo.view read.repo) (any_reader a.request _ read.repo) (any_create a.request _ read.repo) read.nodes read.server did.spares;
   later = later_on b m k read.later did.later;
 }
 
@@ -271,7 +276,7 @@ did_ran a b m k r others nodes repo_later tree_later quiet begun heals healed st
       (λ is. looked_at a.stanza b.repo.view m.repo.view quiet (subst (λ (how : Settling). Begins how a.stanza b.repo.view m.repo.view) is begun) q log some keeps) h) ran.lasts;
   cause = err_as r _ _ own ran.cause;
   healed = on_ok r _ _ (λ h some. h (quiet.now.told some) healed) ran.healed;
-  spares = spares_on a b m k r (reader_still a.request _ still) (create_still a.request _ still) nodes (ap (λ (s : Seen). s.server) others) ran.spares;
+  spares = spares_on a b m k r quiet.beside (reader_still a.request _ still) (create_still a.request _ still) nodes (ap (λ (s : Seen). s.server) others) ran.spares;
   later = later_on b m k later ran.later;
 }
   where
@@ -316,7 +321,7 @@ halted_at : (a : Asked) (b k : Seen) (r : Result Outcome Fault) (halt : Halt Sta
     OnReader a.request (IsStill b.repo.view k.repo.view) → OnCreate a.request (IsStill b.repo.view k.repo.view) → k.tree.nodes ≡ b.tree.nodes → k.server ≡ b.server → AreLater b k →
     (why : StageFault → Type 0) (failed : Object → Type 0) → ((fault : StageFault) → why fault → StageCause (plan_of a.request) a.stanza b k fault) → ((object : Object) → failed object → Failed b k object) → HaltCause why failed halt → Did a b k r
 halted_at a b k r halt is quiet rests same reads creates nodes server later why failed each rose cause = did_err a b k (of_stage halt) r is (did_nothing a b k (of_stage halt) quiet rests same
-    (spares_none a b k (of_stage halt) reads creates nodes server (halt_closes b k halt)) later (halt_cause a b k why failed each rose halt cause))
+    (spares_none a b k (of_stage halt) quiet.beside reads creates nodes server (halt_closes b k halt)) later (halt_cause a b k why failed each rose halt cause))
 
 found_at : (a : Asked) (plan : Plan) → plan ≡ plan_of a.request → (b k : Seen) (fault : StageFault) → FoundCause plan a.stanza b.repo.view.now b.tree.nodes fault → StageCause (plan_of a.request) a.stanza b k fault
 found_at a plan is b k fault h = inr (subst (λ (p : Plan). FoundCause p a.stanza b.repo.view.now b.tree.nodes fault) is h)
@@ -327,7 +332,7 @@ held_at a plan is b k fault h = inl (subst (λ (p : Plan). HeldCause p a.stanza 
 -- the whole of nothing, for this fault
 pub refused_at : (a : Asked) (b : Seen) (fault : Fault) → Closes b b fault → Cause a b b fault → Did a b b (Err fault)
 refused_at a b fault closes cause = did_nothing a b b fault (still_quiet a.stanza b.repo.view) (rests_none b.spool.view) refl
-    (spares_none a b b fault (any_reader a.request _ (still_self b.repo.view)) (any_create a.request _ (still_self b.repo.view)) refl refl closes) (λ object. omega arith) cause
+    (spares_none a b b fault (still_beside a.stanza b.repo.view b.repo.view (still_self b.repo.view)) (any_reader a.request _ (still_self b.repo.view)) (any_create a.request _ (still_self b.repo.view)) refl refl closes) (λ object. omega arith) cause
 
 pub starved : (a : Asked) (b : Seen) (r : Result Outcome Fault) → IsErrAnd r (λ f. f ≡ NoMemory) → Did a b b r
 starved a b r is = did_err a b b NoMemory r is (refused_at a b NoMemory tt tt)

@@ -10,6 +10,7 @@ use Rattle.pgb_stage.specs.Runs.{Reached, to_end, turned_back, OnAll, OnNone, Ta
 use Rattle.pgb_outside.specs.States.{TreeState}
 use Rattle.pgb_stage.specs.States.{LocksState}
 use Rattle.pgb_stage.specs.Seen.{Seen, Failed}
+use Rattle.pgb_stage.proofs.Besides.{still_beside}
 use Rattle.pgb_stage.proofs.Lifted.{on_as, still_quiet, quiet_takes, opened_takes}
 use Rattle.pgb_command.specs.declared.fault.Fault.{Fault}
 use Rattle.pgb_command.specs.declared.fault.Fault.TheVariants.{Usage, Stage, Command as OfCommand, Failed as ObjectFailed, NoMemory}
@@ -118,12 +119,13 @@ module _ (a : Asked) (b k : Seen) (n : ℕ) where
 
   pub leaves_rest : Either a b k n → LeavesRest a b k
   leaves_rest (inl x) = record {
+    beside = still_beside a.stanza b.repo.view k.repo.view x.0.repo;
     reads = any_reader a.request _ x.0.repo;
     folder = folder_stays a a.request b.repo.view.now b.tree.nodes k.tree.nodes (idle_nodes b k x.0);
     quiet = λ none. x.0.server;
     others = any_other a.request _ x.0.server;
   }
-  leaves_rest (inr x) = let s = x.1.did.spares in record { reads = s.reads; folder = s.folder; quiet = s.quiet; others = s.others }
+  leaves_rest (inr x) = let s = x.1.did.spares in record { beside = s.beside; reads = s.reads; folder = s.folder; quiet = s.quiet; others = s.others }
 
   pub opens_places : Either a b k n → OpensPlaces a b k
   opens_places (inl x) = record { folder = opens_none (plan_of a.request).folder a.data_folder b.tree.opened k.tree.opened (ap (λ (t : TreeState). t.opened) x.0.tree); repository = inl x.0.opened }

@@ -10,7 +10,8 @@ mod AskedOnce
 mod Words
 mod Readied
 mod Carried
-mod Statuses
-mod Follows
+pub mod Statuses
+pub mod Follows
 mod Closings
 mod Unused
+pub mod InForm

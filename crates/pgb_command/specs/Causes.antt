@@ -4,6 +4,7 @@ use Rattle.pgb_outside.specs.Content.{Content}
 use Rattle.pgb_model.specs.Text.{Text}
 use Rattle.pgb_options.specs.Settings.{Settled}
 use Rattle.pgb_archive.specs.Still.{IsStill}
+use Rattle.pgb_story.specs.Beside.{StaysBeside}
 use Rattle.pgb_stage.specs.declared.fault.Unbuilt.{Unbuilt}
 use Rattle.pgb_stage.specs.declared.fault.StageFault.TheVariants.{NotBuilt}
 use Rattle.pgb_stage.specs.declared.object.Object.TheVariants.{Server, Config, Output}
@@ -99,8 +100,9 @@ pub record TurnsBack (a : Asked) (before after : Seen) : Type 0 where
   pub nodes : after.tree.nodes ≡ before.tree.nodes
   pub unmade : OnCreate a.request (after.repo.view.now ≡ before.repo.view.now)
 
--- after every answer: a reader has changed nothing in the repository, only archive-get the data folder, and the server only who asks it
+-- after every answer: the command has kept to its stanza, a reader has changed nothing in the repository, only archive-get the data folder, and the server only who asks it
 pub record LeavesRest (a : Asked) (before after : Seen) : Type 0 where
+  pub beside : StaysBeside a.stanza before.repo.view after.repo.view
   pub reads : OnReader a.request (IsStill before.repo.view after.repo.view)
   pub folder : FolderGoes a a.request before.repo.view.now before.tree.nodes after.tree.nodes
   pub quiet : a.server ≡ None → after.server ≡ before.server

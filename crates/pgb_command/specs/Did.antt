@@ -4,6 +4,7 @@ use Rattle.pgb_outside.specs.Content.{Content}
 use Rattle.pgb_outside.specs.States.{IsOpened, OpensOnly}
 use Rattle.pgb_model.specs.Text.{Text}
 use Rattle.pgb_archive.specs.Still.{IsStill}
+use Rattle.pgb_story.specs.Beside.{StaysBeside}
 use Rattle.pgb_stage.specs.declared.object.Object.TheVariants.{Server}
 use Rattle.pgb_stage.specs.declared.halt.Halt.TheVariants.{Refused}
 use Rattle.pgb_stage.specs.declared.outcome.Outcome.{Outcome}
@@ -29,8 +30,9 @@ abbrev pub Closes : Seen → Seen → Fault → Type 0
 Closes before after (Command (Create fault)) = CreateCloses (Failed before after Server) after.server.sent (Refused fault)
 Closes before after other = Unit {0}
 
--- What a command leaves as it was: of the repository all where it only reads, of the data folder all but a file that is served, and the server where it asks none. Refused before its first step it has changed no file of the data folder, and stanza-create none of the repository.
+-- What a command leaves as it was: of the repository all where it only reads, of the data folder all but a file that is served, and the server where it asks none. Refused before its first step it has changed no file of the data folder, and stanza-create none of the repository. Whatever it is, it keeps to its stanza.
 pub record Spares (a : Asked) (before after : Seen) (result : Result Outcome Fault) : Type 0 where
+  pub beside : StaysBeside a.stanza before.repo.view after.repo.view
   pub reads : OnReader a.request (IsStill before.repo.view after.repo.view)
   pub folder : FolderGoes a a.request before.repo.view.now before.tree.nodes after.tree.nodes
   pub nodes : OnNone (reached_of (ending_of result)) (after.tree.nodes ≡ before.tree.nodes)

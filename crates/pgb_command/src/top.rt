@@ -1,5 +1,6 @@
 // The top call.
 ghost use Rattle.std.specs.Prelude.{◌≡◌, ◌≤◌, [], None, Ok, IfErr, map, string_bytes};
+ghost use Rattle.pgb_story.specs.Beside.{KeepsOthers};
 ghost use Rattle.pgb_options.specs.declared.options.OutputWord.{OutputWord};
 ghost use Rattle.pgb_options.specs.Commands.{IsCommand};
 ghost use Rattle.pgb_options.specs.Settings.{Settled};
@@ -114,6 +115,9 @@ pub fn run<
     ensures rests { let told = ⟦<Outside<D, S, T, V, A, C, K, I, O> as Told>⟧.told in
         Each (map string_bytes words.now) (I.files outside.old.config)
         (λ a. LeavesRest a (told outside.old) (told outside.new)) }
+    // Of every other stanza in form all stays, at its end and in all that a stop leaves at each moment.
+    ensures others { Each (map string_bytes words.now) (I.files outside.old.config)
+        (λ a. KeepsOthers a.stanza (D.state outside.old.repo).view (D.state outside.new.repo).view) }
     ensures places { let told = ⟦<Outside<D, S, T, V, A, C, K, I, O> as Told>⟧.told in
         Each (map string_bytes words.now) (I.files outside.old.config)
         (λ a. OpensPlaces a (told outside.old) (told outside.new)) }

@@ -1,5 +1,5 @@
 -- Calls that change only some names.
-use Rattle.std.proofs.Common.{◌≡◌, ap, ◌∙◌}
+use Rattle.std.proofs.Common.{◌≡◌, ◌⊎◌, ⊎_elim, inl, inr, ℕ, true, refl, ap, subst, ◌∙◌, arith}
 use Rattle.pgb_outside.specs.Content.{Name, at}
 use Rattle.pgb_outside.specs.Moments.{View, Rests}
 use Rattle.pgb_outside.specs.Crash.{IsTemporary}
@@ -11,6 +11,20 @@ pub only_rests : (these : Name → Type 0) (a b : View) → Rests a b → b.now 
 only_rests these a b rests same = record {
   now = λ n off. ap (at n) same;
   time = goes_wide (λ _ _. ⊥) (λ n _. these n) (λ _. ⊥) (λ n. these n × IsTemporary n) a b (λ n v h. absurd h) (λ n h. absurd h) rests;
+}
+
+-- no call
+pub only_none : (these : Name → Type 0) (a : View) → ChangesOnly these a a
+only_none these a = record {
+  now = λ n off. refl;
+  time = record {
+    later = omega arith;
+    same = λ t n v le k. k;
+    stays = λ t n v le k. k;
+    same_loose = λ t n le. refl;
+    grows = λ t n v lo hi k. inl (let e : t ≡ a.moment = omega arith in subst (λ (m : ℕ). a.kept m n v) e k);
+    loosens = λ t n lo hi l. inl (let e : t ≡ a.moment = omega arith in subst (λ (m : ℕ). a.loose m n ≡ true) e l);
+  };
 }
 
 -- one call after another
@@ -26,3 +40,15 @@ only_wide these those a b wider p = record {
   now = λ n off. p.now n (λ h. off (wider n h));
   time = goes_wide (λ n _. these n) (λ n _. those n) (λ n. these n × IsTemporary n) (λ n. those n × IsTemporary n) a b (λ n v h. wider n h) (λ n h. (wider n h.0, h.1)) p.time;
 }
+
+-- one name after another, each by way of the same temporary one
+module _ (temp main copy : Name) where
+  abbrev Three : Name → Type 0
+  Three n = (n ≡ temp) ⊎ ((n ≡ main) ⊎ (n ≡ copy))
+
+  pub only_first : (a b : View) → ChangesOnly (λ n. (n ≡ temp) ⊎ (n ≡ main)) a b → ChangesOnly (λ n. (n ≡ temp) ⊎ ((n ≡ main) ⊎ (n ≡ copy))) a b
+  only_first a b p = only_wide (λ n. (n ≡ temp) ⊎ (n ≡ main)) Three a b (λ n h. ⊎_elim (λ (e : n ≡ temp). inl e) (λ (e : n ≡ main). inr (inl e)) h) p
+
+  pub only_both : (a b c : View) → ChangesOnly (λ n. (n ≡ temp) ⊎ (n ≡ main)) a b → ChangesOnly (λ n. (n ≡ temp) ⊎ (n ≡ copy)) b c → ChangesOnly (λ n. (n ≡ temp) ⊎ ((n ≡ main) ⊎ (n ≡ copy))) a c
+  only_both a b c p q = only_on Three a b c (only_first a b p)
+      (only_wide (λ n. (n ≡ temp) ⊎ (n ≡ copy)) Three b c (λ n h. ⊎_elim (λ (e : n ≡ temp). inl e) (λ (e : n ≡ copy). inr (inr e)) h) q)

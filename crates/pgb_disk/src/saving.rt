@@ -1,12 +1,12 @@
 // Bytes that are kept at two names.
-ghost use Rattle.std.specs.Prelude.{◌≡◌, ◌≤◌, [], ◌∷◌, ℕ, List, Option, false, IfErr, OnOk, IsErrOf};
+ghost use Rattle.std.specs.Prelude.{◌≡◌, ◌⊎◌, ◌≤◌, [], ◌∷◌, ℕ, List, Option, false, IfErr, OnOk, IsErrOf};
 ghost use Rattle.pgb_outside.specs.States.{Frame};
 ghost use Rattle.pgb_outside.specs.Content.{Name, Value, Content};
 ghost use Rattle.pgb_outside.specs.Moments.{is_loose};
 ghost use Rattle.pgb_outside.specs.Crash.{IsTemporary, Crash, Ends, NowGoes, FirstOf, AllOf};
 ghost use Rattle.pgb_outside.specs.Cause.{Rises};
 ghost use Rattle.pgb_disk.specs.Fault.{IsStop};
-ghost use Rattle.pgb_disk.specs.Store.{LiesIn};
+ghost use Rattle.pgb_disk.specs.Store.{LiesIn, ChangesOnly};
 
 use crate::fault::StoreFault;
 use crate::replacing::replace;
@@ -38,6 +38,8 @@ pub fn save_both<D: Disk>(
     ensures now_whole { OnOk result
         (NowGoes (AllOf ((main.now, bytes.now) ∷ (copy.now, bytes.now) ∷ [])) (D.state d.old).view.now
         (D.state d.new).view.now) }
+    ensures only { ChangesOnly (λ n. (n ≡ temp.now) ⊎ ((n ≡ main.now) ⊎ (n ≡ copy.now))) (D.state d.old).view
+        (D.state d.new).view }
     ensures frame { Frame (D.state d.old) (D.state d.new) }
     ensures cause { IsErrOf result StoreFault.Disk → Rises (D.state d.old).faults (D.state d.new).faults }
     ensures refusals { IfErr result IsStop }

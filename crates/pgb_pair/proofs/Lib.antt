@@ -2,3 +2,4 @@ pub mod Causes
 pub mod Mends
 pub mod Onward
 pub mod Saved
+pub mod Owned

@@ -1,17 +1,17 @@
 // A pair is read, and its members are mended.
-ghost use Rattle.std.specs.Prelude.{◌≡◌, ◌≤◌, [], ◌∷◌, ℕ, List, Some, None, true, false, IfOk, IfErr, IfSome, IsSome, OnOk, IsErrOf, length};
+ghost use Rattle.std.specs.Prelude.{◌≡◌, ◌⊎◌, ◌≤◌, [], ◌∷◌, ℕ, List, Some, None, true, false, IfOk, IfErr, IfSome, IsSome, OnOk, IsErrOf, length};
 ghost use Rattle.pgb_outside.specs.States.{Frame, Looks};
 ghost use Rattle.pgb_outside.specs.Content.{Name};
 ghost use Rattle.pgb_outside.specs.Moments.{Rests, is_loose};
 ghost use Rattle.pgb_outside.specs.Crash.{IsTemporary, Crash, NowGoes, SomeOf};
 ghost use Rattle.pgb_outside.specs.Cause.{Rises};
-ghost use Rattle.pgb_disk.specs.Store.{LiesIn};
+ghost use Rattle.pgb_disk.specs.Store.{LiesIn, ChangesOnly};
 ghost use Rattle.pgb_model.specs.Names.{copy_of};
 ghost use Rattle.pgb_model.specs.InfoText.{info_text};
 ghost use Rattle.pgb_model.specs.Pair.{PairIs};
 ghost use Rattle.pgb_model.specs.Create.{member_writes};
 ghost use Rattle.pgb_pair.specs.Causes.{PairCause, IfRefused};
-ghost use Rattle.pgb_pair.specs.Member.{IsMemberName};
+ghost use Rattle.pgb_pair.specs.Member.{IsMemberName, IsOfPair};
 
 use crate::fault::{InfoFault, SaveFault};
 use crate::loading::{load_pair, read_bytes};
@@ -50,6 +50,7 @@ fn mend<D: Disk>(
     ensures now_part { NowGoes (SomeOf ((name.now, text.now) ∷ [])) (D.state d.old).view.now (D.state d.new).view.now }
     ensures mended { OnOk result (IfSome (D.state d.new).view.now (λ f. f name.now ≡ Some text.now)) }
     ensures untold { (D.state d.old).view.now ≡ None → (D.state d.new).view.now ≡ None }
+    ensures only { ChangesOnly (λ n. (n ≡ temporary.now) ⊎ (n ≡ name.now)) (D.state d.old).view (D.state d.new).view }
     ensures frame { Frame (D.state d.old) (D.state d.new) }
     ensures cause { IsErrOf result SaveFault.Disk → Rises (D.state d.old).faults (D.state d.new).faults }
 {
@@ -70,6 +71,7 @@ fn mend_both<D: Disk>(alloc: Global, d: &mut D, name: &str, text: &[u8]) -> Resu
         (D.state d.new).view.now }
     ensures mended { OnOk result
         (IfSome (D.state d.new).view.now (λ f. (f name.now ≡ Some text.now) × (f (copy_of name.now) ≡ Some text.now))) }
+    ensures only { ChangesOnly (IsOfPair name.now) (D.state d.old).view (D.state d.new).view }
     ensures frame { Frame (D.state d.old) (D.state d.new) }
     ensures cause { IsErrOf result SaveFault.Disk → Rises (D.state d.old).faults (D.state d.new).faults }
 {
@@ -97,6 +99,7 @@ pub fn mend_pair<D: Disk, I: Info>(
     ensures mended { OnOk result
         (IfSome (D.state d.new).view.now (λ f. (f name.now ≡ Some (info_text (I.sections value.now)))
         × (f (copy_of name.now) ≡ Some (info_text (I.sections value.now))))) }
+    ensures only { ChangesOnly (IsOfPair name.now) (D.state d.old).view (D.state d.new).view }
     ensures frame { Frame (D.state d.old) (D.state d.new) }
     ensures cause { IsErrOf result SaveFault.Disk → Rises (D.state d.old).faults (D.state d.new).faults }
 {
@@ -126,6 +129,7 @@ pub fn heal_pair<D: Disk, I: ReadInfo>(alloc: Global, d: &mut D, name: &str) -> 
         → IsSome (D.state d.old).view.now → ((D.state d.new).view.now ≡ (D.state d.old).view.now)
         × Rests (D.state d.old).view (D.state d.new).view }
     ensures told { IsSome (D.state d.old).view.now → IsSome (D.state d.new).view.now }
+    ensures only { ChangesOnly (IsOfPair name.now) (D.state d.old).view (D.state d.new).view }
     ensures frame { Frame (D.state d.old) (D.state d.new) }
     ensures cause { IfErr result
         (PairCause I.IsText I.IsForm I.limit name.now (D.state d.old).view.now

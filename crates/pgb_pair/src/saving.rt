@@ -4,10 +4,11 @@ ghost use Rattle.pgb_outside.specs.States.{Frame};
 ghost use Rattle.pgb_outside.specs.Moments.{is_loose};
 ghost use Rattle.pgb_outside.specs.Crash.{Crash, Ends, NowGoes, FirstOf, AllOf};
 ghost use Rattle.pgb_outside.specs.Cause.{Rises};
+ghost use Rattle.pgb_disk.specs.Store.{ChangesOnly};
 ghost use Rattle.pgb_model.specs.Names.{copy_of};
 ghost use Rattle.pgb_model.specs.InfoText.{info_text};
 ghost use Rattle.pgb_model.specs.Create.{member_writes};
-ghost use Rattle.pgb_pair.specs.Member.{IsMemberName};
+ghost use Rattle.pgb_pair.specs.Member.{IsMemberName, IsOfPair};
 
 use crate::fault::SaveFault;
 use crate::members::save_text;
@@ -49,6 +50,7 @@ pub fn save_pair<D: Disk, I: Info>(
     ensures now_whole { OnOk result
         (NowGoes (AllOf (member_writes name.now (info_text (I.sections value.now)))) (D.state d.old).view.now
         (D.state d.new).view.now) }
+    ensures only { ChangesOnly (IsOfPair name.now) (D.state d.old).view (D.state d.new).view }
     ensures frame { Frame (D.state d.old) (D.state d.new) }
     ensures cause { IsErrOf result SaveFault.Disk → Rises (D.state d.old).faults (D.state d.new).faults }
 {

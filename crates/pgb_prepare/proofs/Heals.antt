@@ -25,6 +25,10 @@ use Rattle.pgb_model.proofs.Temporary.{fixed_lasts}
 use Rattle.pgb_model.proofs.Walking.{crash_walks}
 use Rattle.pgb_info.proofs.OneArchive.{one_archive_pair}
 use Rattle.pgb_model.proofs.Healed.{healed_stands, healed_past, healed_now}
+use Rattle.pgb_disk.specs.Store.{ChangesOnly}
+use Rattle.pgb_pair.specs.Member.{IsOfPair}
+use Rattle.pgb_story.specs.Beside.{StaysBeside}
+use Rattle.pgb_stage.proofs.Besides.{archive_pair_beside}
 use Rattle.pgb_stage.specs.Current.{HasValue}
 use Rattle.pgb_stage.specs.Plans.{HealsArchive}
 use Rattle.pgb_stage.specs.Runs.{Mends, PairAlike}
@@ -142,9 +146,10 @@ module _ (stanza : Text) (old new : View) (part : PartAt (archive_info stanza) o
         crash_walks stanza (SomeOf (member_writes (archive_info stanza) (text_of v))) old new tight some (crash_here v has)
         (healed_past stanza s (text_of v) (text_is f (archive_info stanza) v has)) (StandsStill stanza) (still v has)
 
-  heal_mends : Mends stanza old new
-  heal_mends = record {
+  heal_mends : StaysBeside stanza old new → Mends stanza old new
+  heal_mends beside = record {
     now = heal_stays;
+    beside = beside;
     walks = λ at. walks_from at.tight (now_told stanza old at.now) at.pair at.now.content at.now.now at.now.repository at.now.stands;
   }
 
@@ -180,9 +185,10 @@ module _ (stanza name : Text) (is : name ≡ archive_info stanza) (old new : Vie
   part_here : PartAt (archive_info stanza) old new
   part_here = subst (λ (n : Text). PartAt n old new) is part
 
-  pub named_mends : CrashAt name old new → IdleAt name old new → (IsSome old.now → IsSome new.now) → Mends stanza old new
-  named_mends crash idle told = heal_mends stanza old new part_here
+  pub named_mends : CrashAt name old new → IdleAt name old new → (IsSome old.now → IsSome new.now) → ChangesOnly (IsOfPair name) old new → Mends stanza old new
+  named_mends crash idle told only = heal_mends stanza old new part_here
       (subst (λ (n : Text). CrashAt n old new) is crash) (subst (λ (n : Text). IdleAt n old new) is idle) told
+      (archive_pair_beside stanza old new (subst (λ (n : Text). ChangesOnly (IsOfPair n) old new) is only))
 
   pub named_alike : CrashAt name old new → IdleAt name old new → (IsSome old.now → IsSome new.now) → (v : ArchiveInfo) → IfSome old.now (λ f. PairIs IsArchiveText f name v) → IfSome new.now (λ f. HasValue stanza f v) → KeepsAlike stanza old new
   named_alike crash idle told v found kept = heal_alike stanza old new part_here

@@ -15,6 +15,7 @@ use Rattle.pgb_model.proofs.Begun.{old_leaves}
 use Rattle.pgb_model.proofs.Frame.{pair_same}
 use Rattle.pgb_model.proofs.Walking.{rests_walks, walks_on}
 use Rattle.pgb_archive.specs.Still.{rests_none}
+use Rattle.pgb_story.proofs.Stays.{rests_beside, beside_on}
 use Rattle.pgb_stage.specs.Current.{HasValue}
 use Rattle.pgb_stage.specs.Runs.{Mends, PairAlike}
 use Rattle.pgb_stage.proofs.Doing.{now_told}
@@ -35,6 +36,7 @@ module _ (stanza : Text) where
       told = λ some. subst (λ (o : Option Content). IsSome o) (sym same) some;
       does = λ r some now. ([], refl, subst (λ (o : Option Content). NowStands stanza r o) (sym same) now);
     };
+    beside = rests_beside stanza old new rests same;
     walks = λ at. reads_still old new rests same at.tight (now_told stanza old at.now);
   }
 
@@ -45,6 +47,7 @@ module _ (stanza : Text) where
   pub mends_on : (a b d : View) → Mends stanza a b → Rests b d → d.now ≡ b.now → Mends stanza a d
   mends_on a b d mends rests same = record {
     now = subst (λ (o : Option Content). NowDoes stanza Reading true a.now o) (sym same) mends.now;
+    beside = beside_on stanza a b d mends.beside (rests_beside stanza b d rests same);
     walks = λ at. let w = mends.walks at in still_still a b d w (reads_still b d rests same w.tight w.told);
   }
 

@@ -9,6 +9,7 @@ ghost use Rattle.pgb_model.specs.Steps.{Command};
 ghost use Rattle.pgb_model.specs.Values.{archive_info_of};
 ghost use Rattle.pgb_model.specs.Walks.{IsTight};
 ghost use Rattle.pgb_stored.specs.Causes.{limit_of};
+ghost use Rattle.pgb_story.specs.Beside.{StaysBeside};
 ghost use Rattle.pgb_archive.specs.Still.{IsStill};
 ghost use Rattle.pgb_stage.specs.declared.plan.Settling.TheVariants.{Looked};
 ghost use Rattle.pgb_stage.specs.Cluster.{FolderTells};
@@ -87,6 +88,7 @@ fn store<D: Disk, T: Tree>(
         → IfSome (D.state repo.new).view.now (AgreesAtPair stanza.now) }
     ensures rest { OnNone (reached_by push_early result) (IsStill (D.state repo.old).view (D.state repo.new).view) }
     ensures looks { LooksAt (T.state tree.old) (T.state tree.new) }
+    ensures beside { StaysBeside stanza.now (D.state repo.old).view (D.state repo.new).view }
     ensures frame { Frame (D.state repo.old) (D.state repo.new) }
     ensures cause { IfErr result (HaltCause
         (PushCause stanza.now order.now.folder.now order.now.path.now (D.state repo.old).view.now
@@ -143,6 +145,7 @@ pub fn push_file<D: Disk, T: Tree>(
         → IfSome (D.state repo.new).view.now (AgreesAtPair stanza.now) }
     ensures rest { OnNone (reached_by push_early result) (IsStill (D.state repo.old).view (D.state repo.new).view) }
     ensures looks { LooksAt (T.state tree.old) (T.state tree.new) }
+    ensures beside { StaysBeside stanza.now (D.state repo.old).view (D.state repo.new).view }
     ensures frame { Frame (D.state repo.old) (D.state repo.new) }
     ensures cause { IfErr result (HaltCause
         (PushCause stanza.now order.entry.folder.now order.entry.path.now (D.state repo.old).view.now

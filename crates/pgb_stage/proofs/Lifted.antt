@@ -19,6 +19,7 @@ use Rattle.pgb_model.proofs.Each.{keeps_tight, keeps_now}
 use Rattle.pgb_model.proofs.Logged.{rests_still}
 use Rattle.pgb_model.proofs.Walking.{steady_tight}
 use Rattle.pgb_archive.specs.Still.{rests_none}
+use Rattle.pgb_story.proofs.Stays.{rests_beside, beside_on}
 use Rattle.pgb_stage.specs.declared.plan.Settling.{Settling}
 use Rattle.pgb_stage.specs.declared.plan.Settling.TheVariants.{Whole, Looked}
 use Rattle.pgb_stage.specs.Runs.{Reached, to_end, turned_back, stopped, OnAll, OnNone, OnWhole, turns_of, IsPart, IsWhole, PartEach, WholeEach, PairAlike, IsLookedAt, Goes, Comes, DoesPart, Does, RunsPart, RunsWhole, Runs, Past, Passes, Leads, Takes, Quiet, Mends, Begins, Manner, each, one, On, EndsAtOne}
@@ -114,6 +115,7 @@ module _ (stanza : Text) (command : Command) (q : Repository) (log : List Done) 
 pub rests_quiet : (stanza : Text) (a b : View) → Rests a b → b.now ≡ a.now → Quiet stanza a b
 rests_quiet stanza a b rests same = record {
   now = record { told = λ some. on_some a.now b.now same some; does = λ r some now. ([], refl, subst (λ (o : Option Content). NowStands stanza r o) (sym same) now) };
+  beside = rests_beside stanza a b rests same;
   keeps = λ q log some keeps. rests_still stanza q log a b rests same keeps;
   between = λ q log some keeps. (rests_past a b rests, λ t f lo hi leaves. keeps.stands f (leaves_back a b rests same t lo hi f leaves));
 }
@@ -136,6 +138,7 @@ module _ (stanza : Text) (a b c : View) (first : Quiet stanza a b) (paired : (q 
   pub mended_quiet : Quiet stanza a c
   mended_quiet = record {
     now = record { told = λ some. mends.now.told (first.now.told some); does = λ r some now. ([], refl, stays_at stanza b.now c.now mends.now r (first.now.told some) (stays_at stanza a.now b.now first.now r some now)) };
+    beside = beside_on stanza a b c first.beside mends.beside;
     keeps = λ q log some keeps. let w = walked q log some keeps in
         record { fixed = w.tight.fixed; places = w.tight.places; stands = λ g leaves. let x = w.comes c.moment g w.later (omega arith) leaves in still q log some keeps x.0 g x.1 x.2 };
     between = λ q log some keeps.

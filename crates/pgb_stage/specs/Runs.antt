@@ -12,6 +12,7 @@ use Rattle.pgb_model.specs.Steady.{IsSteady, IsBegun, Moves, LeavesOnly, KeepsOn
 use Rattle.pgb_model.specs.Now.{NowDoes}
 use Rattle.pgb_model.specs.Values.{ArchiveInfo}
 use Rattle.pgb_model.specs.Walks.{IsTight, Walks, StandsNow, StandsStill}
+use Rattle.pgb_story.specs.Beside.{StaysBeside}
 use Rattle.pgb_stage.specs.declared.plan.Settling.{Settling}
 use Rattle.pgb_stage.specs.declared.plan.Settling.TheVariants.{Whole, Looked}
 use Rattle.pgb_stage.specs.Current.{HasValue}
@@ -149,15 +150,17 @@ pub record Takes (how : Settling) (stanza : Text) (command : Command) (reached :
 
 -- ---- the stages before a command
 
--- The stages before a command leave what the disk stands for.
+-- The stages before a command leave what the disk stands for, and keep to the stanza.
 pub record Quiet (stanza : Text) (old new : View) : Type 0 where
   pub now : NowDoes stanza Reading true old.now new.now
+  pub beside : StaysBeside stanza old new
   pub keeps : (q : Repository) (log : List Done) → IsSome old.now → KeepsRepository stanza q log old → KeepsRepository stanza q log new
   pub between : (q : Repository) (log : List Done) → IsSome old.now → KeepsRepository stanza q log old → Past old new × LeavesOnly (StandsAfter stanza q log) old new
 
--- What the reading or healing of the pairs does: whatever each content that may be left came from stood for, it stands for it.
+-- What the reading or healing of the pairs does: whatever each content that may be left came from stood for, it stands for it. It keeps to the stanza.
 pub record Mends (stanza : Text) (old new : View) : Type 0 where
   pub now : NowDoes stanza Reading true old.now new.now
+  pub beside : StaysBeside stanza old new
   pub walks : IsLookedAt stanza old → Walks stanza (StandsStill stanza) old new
 
 -- What a command's own part can begin from, behind the stages: a disk that is steady at one repository, or one of which all that a crash leaves has the same archive pair.

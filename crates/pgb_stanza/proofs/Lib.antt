@@ -1,5 +1,6 @@
 mod Refused
 pub mod Saves
+mod Owned
 mod NewStanza
 mod BackupNames
 pub mod OneBackup

@@ -5,3 +5,4 @@ pub mod Judging
 pub mod Mending
 pub mod Pairs
 pub mod Tight
+pub mod Owned

@@ -3,11 +3,13 @@ ghost use Rattle.std.specs.Prelude.{◌≡◌, ◌≤◌, ◌⊎◌, None, Some,
 ghost use Rattle.pgb_outside.specs.States.{Frame};
 ghost use Rattle.pgb_outside.specs.Moments.{Rests};
 ghost use Rattle.pgb_outside.specs.Cause.{Rises};
+ghost use Rattle.pgb_disk.specs.Store.{ChangesOnly};
 ghost use Rattle.pgb_model.specs.Repository.{Repository, Stanza};
 ghost use Rattle.pgb_model.specs.Stands.{Stands};
 ghost use Rattle.pgb_model.specs.Steps.{step, Create};
 ghost use Rattle.pgb_model.specs.Steady.{IsSteady, Moves};
 ghost use Rattle.pgb_model.specs.Now.{NowStands, HasNewPairs};
+ghost use Rattle.pgb_stanza.specs.Owned.{IsOfPairs};
 ghost use Rattle.pgb_stanza.specs.ControlFile.{first_cluster};
 ghost use Rattle.pgb_stanza.specs.Pairs.{LacksStanza, HasStanzaOf, IsStanzaOf, PairsAgree};
 ghost use Rattle.pgb_model.specs.InfoFiles.{IsLabel};
@@ -68,6 +70,7 @@ pub fn create<D: Disk>(
     ensures refused { IfErr result (λ e. OnContent e ((D.state d.new).view.now ≡ (D.state d.old).view.now)) }
     ensures rests { IfErr result (λ e. OnContent e (Rests (D.state d.old).view (D.state d.new).view)) }
     ensures told { IsSome (D.state d.old).view.now → IsSome (D.state d.new).view.now }
+    ensures only { ChangesOnly (IsOfPairs stanza.now) (D.state d.old).view (D.state d.new).view }
     ensures frame { Frame (D.state d.old) (D.state d.new) }
     ensures cause { IfErr result
         (CreateCause stanza.now control.now (D.state d.old).view.now

@@ -4,9 +4,12 @@ ghost use Rattle.pgb_outside.specs.States.{Frame};
 ghost use Rattle.pgb_outside.specs.Moments.{is_loose};
 ghost use Rattle.pgb_outside.specs.Crash.{Crash, Ends, NowGoes, FirstOf, AllOf};
 ghost use Rattle.pgb_outside.specs.Cause.{Rises};
+ghost use Rattle.pgb_disk.specs.Store.{ChangesOnly};
 ghost use Rattle.pgb_model.specs.Names.{archive_info, backup_info, copy_of};
 ghost use Rattle.pgb_model.specs.InfoFiles.{IsCluster};
 ghost use Rattle.pgb_model.specs.Values.{archive_info_of, backup_info_of};
+ghost use Rattle.pgb_pair.specs.Member.{IsOfPair};
+ghost use Rattle.pgb_stanza.specs.Owned.{IsOfPairs};
 ghost use Rattle.pgb_stanza.specs.Tight.{AreTight};
 ghost use Rattle.pgb_model.specs.Create.{first_archive, first_backup, first_archive_text, first_backup_text, member_writes, pair_writes};
 
@@ -58,6 +61,7 @@ fn save_backup<D: Disk>(
     ensures now_whole { OnOk result
         (NowGoes (AllOf (member_writes (backup_info stanza.now) (first_backup_text cluster.now)))
         (D.state d.old).view.now (D.state d.new).view.now) }
+    ensures only { ChangesOnly (IsOfPair (backup_info stanza.now)) (D.state d.old).view (D.state d.new).view }
     ensures frame { Frame (D.state d.old) (D.state d.new) }
     ensures cause { IsErrOf result SaveFault.Disk → Rises (D.state d.old).faults (D.state d.new).faults }
 {
@@ -89,6 +93,7 @@ fn save_archive<D: Disk>(
     ensures now_whole { OnOk result
         (NowGoes (AllOf (member_writes (archive_info stanza.now) (first_archive_text cluster.now)))
         (D.state d.old).view.now (D.state d.new).view.now) }
+    ensures only { ChangesOnly (IsOfPair (archive_info stanza.now)) (D.state d.old).view (D.state d.new).view }
     ensures frame { Frame (D.state d.old) (D.state d.new) }
     ensures cause { IsErrOf result SaveFault.Disk → Rises (D.state d.old).faults (D.state d.new).faults }
 {
@@ -115,6 +120,7 @@ pub(crate) fn save_pairs<D: Disk>(
         (D.state d.new).view.now }
     ensures now_whole { OnOk result
         (NowGoes (AllOf (pair_writes stanza.now cluster.now)) (D.state d.old).view.now (D.state d.new).view.now) }
+    ensures only { ChangesOnly (IsOfPairs stanza.now) (D.state d.old).view (D.state d.new).view }
     ensures frame { Frame (D.state d.old) (D.state d.new) }
     ensures cause { IsErrOf result SaveFault.Disk → Rises (D.state d.old).faults (D.state d.new).faults }
 {

@@ -1,5 +1,7 @@
 use Rattle.std.proofs.Common.{◌≡◌, ap, sym, subst, ◌∙◌, map, string_bytes}
+use Rattle.pgb_story.proofs.Beside.{keeps_others}
 use Rattle.pgb_command.specs.Asked.{requested}
+use Rattle.pgb_command.proofs.InForm.{asked_in_form}
 use Rattle.pgb_command.proofs.Closings.{closes_talk}
 use Rattle.pgb_command.proofs.Unused.{only_unbuilt, no_server_asked, report_asked, err_as}
 use Rattle.pgb_command.proofs.Carried.{runs_on, runs_off}
@@ -78,3 +80,13 @@ returns-clause-unasked g c = λ none.
     let o = c.args.outside.now in
     let e = only_unbuilt (map string_bytes c.args.words.now) (g.I.Source.files o.config) c.in-Ok.command c.in-Ok.ensures.command _ c.carry.ensures.unbuilt none in
     subst (λ i. c.carry.new.outside ≡ record { repo = o.repo; spool = o.spool; tree = o.tree; server = o.server; aside = o.aside; clock = o.clock; locks = o.locks; config = i; out = c.carry.new.outside.out }) (ap (λ x. x.config) (sym e)) e
+
+pub returns-in-Err-clause-others : goal.returns-in-Err-clause-others
+returns-in-Err-clause-others g c = λ a asks.
+    keeps_others a.stanza (asked_in_form (map string_bytes c.args.words.now) _ a asks.asks) _ _ (g.met.D.Disk.now_may_be_left c.args.outside.now.repo)
+    (returns-in-Err-clause-rests g c a asks).beside
+
+pub returns-clause-others : goal.returns-clause-others
+returns-clause-others g c = λ a asks.
+    keeps_others a.stanza (asked_in_form (map string_bytes c.args.words.now) _ a asks.asks) _ _ (g.met.D.Disk.now_may_be_left c.args.outside.now.repo)
+    (returns-clause-rests g c a asks).beside

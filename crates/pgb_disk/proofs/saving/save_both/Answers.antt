@@ -2,6 +2,7 @@ use Rattle.std.proofs.Common.{[], ◌∷◌}
 use Rattle.pgb_outside.proofs.Crashes.{writes_on, writes_end, writes_part}
 use Rattle.pgb_outside.proofs.Lasting.{still_tight}
 use Rattle.pgb_outside.proofs.Nows.{now_writes_on, now_writes_end}
+use Rattle.pgb_disk.proofs.Changes.{only_first, only_both}
 use Rattle.pgb_disk.proofs.saving.save_both.Goals as goal
 
 pub returns-in_err-replace-clause-crash : goal.returns-in_err-replace-clause-crash
@@ -27,3 +28,12 @@ returns-clause-now_part g c = now_writes_on ((c.args.main.now, c.args.bytes.now)
 
 pub returns-clause-now_whole : goal.returns-clause-now_whole
 returns-clause-now_whole g c = now_writes_end ((c.args.main.now, c.args.bytes.now) ∷ []) ((c.args.copy.now, c.args.bytes.now) ∷ []) _ _ _ c.in_ok-replace.ensures.now_whole c.in_ok-replace-2.ensures.now_whole
+
+pub returns-in_err-replace-clause-only : goal.returns-in_err-replace-clause-only
+returns-in_err-replace-clause-only g c = only_first c.args.temp.now c.args.main.now c.args.copy.now _ _ c.replace.ensures.only
+
+pub returns-in_err-replace-2-clause-only : goal.returns-in_err-replace-2-clause-only
+returns-in_err-replace-2-clause-only g c = only_both c.args.temp.now c.args.main.now c.args.copy.now _ _ _ c.replace.ensures.only c.replace-2.ensures.only
+
+pub returns-clause-only : goal.returns-clause-only
+returns-clause-only g c = only_both c.args.temp.now c.args.main.now c.args.copy.now _ _ _ c.replace.ensures.only c.replace-2.ensures.only

@@ -5,6 +5,7 @@ use Rattle.pgb_model.specs.InfoText.{info_text}
 use Rattle.pgb_model.specs.Pair.{PairIs}
 use Rattle.pgb_model.specs.Create.{member_writes}
 use Rattle.pgb_model.proofs.Temporary.{copy_at_lasts}
+use Rattle.pgb_pair.proofs.Owned.{looked_owned, owned_on}
 use Rattle.pgb_pair.proofs.Mends.{no_crash, rest_then, healed_crash, healed_now, no_value, still_told}
 use Rattle.pgb_pair.proofs.healing.heal_pair.Goals as goal
 
@@ -54,3 +55,12 @@ returns-clause-idle g c = λ none some. absurd (no_value (λ f v. PairIs g.I.Rea
 
 pub returns-clause-told : goal.returns-clause-told
 returns-clause-told g c = still_told (SomeOf (member_writes c.args.name.now (info_text (g.I.Info.sections c.in_ok-value.value)))) _ _ _ c.load_pair.ensures.looks.now c.mend_pair.ensures.now_part
+
+pub returns-in_err-value-clause-only : goal.returns-in_err-value-clause-only
+returns-in_err-value-clause-only g c = looked_owned c.args.name.now _ _ c.load_pair.ensures.looks
+
+pub returns-in_err-mend_pair-clause-only : goal.returns-in_err-mend_pair-clause-only
+returns-in_err-mend_pair-clause-only g c = owned_on c.args.name.now _ _ _ c.load_pair.ensures.looks c.mend_pair.ensures.only
+
+pub returns-clause-only : goal.returns-clause-only
+returns-clause-only g c = owned_on c.args.name.now _ _ _ c.load_pair.ensures.looks c.mend_pair.ensures.only

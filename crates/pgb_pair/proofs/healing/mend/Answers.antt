@@ -1,4 +1,5 @@
 use Rattle.std.proofs.Common.{◌∙◌, rules}
+use Rattle.pgb_pair.proofs.Owned.{looked_two, two_on}
 use Rattle.pgb_pair.proofs.Mends.{read_crash, written_crash, read_now, written_now, written_held}
 use Rattle.pgb_pair.proofs.Onward.{looked, frame_on, rises_on}
 use Rattle.pgb_pair.proofs.healing.mend.Goals as goal
@@ -56,3 +57,15 @@ returns-clause-frame g c = frame_on _ _ _ (looked _ _ c.holds.ensures.looks) c.r
 
 pub returns-in_err-replace-clause-cause : goal.returns-in_err-replace-clause-cause
 returns-in_err-replace-clause-cause g c = λ bad. rises_on _ _ _ c.holds.ensures.looks.later (c.in_err-replace.ensures.cause (search rules))
+
+pub returns-in_err-holds-clause-only : goal.returns-in_err-holds-clause-only
+returns-in_err-holds-clause-only g c = looked_two c.args.temporary.now c.args.name.now _ _ c.holds.ensures.looks
+
+pub returns-then-branch-clause-only : goal.returns-then-branch-clause-only
+returns-then-branch-clause-only g c = looked_two c.args.temporary.now c.args.name.now _ _ c.holds.ensures.looks
+
+pub returns-in_err-replace-clause-only : goal.returns-in_err-replace-clause-only
+returns-in_err-replace-clause-only g c = two_on c.args.temporary.now c.args.name.now _ _ _ c.holds.ensures.looks c.replace.ensures.only
+
+pub returns-clause-only : goal.returns-clause-only
+returns-clause-only g c = two_on c.args.temporary.now c.args.name.now _ _ _ c.holds.ensures.looks c.replace.ensures.only

@@ -1,6 +1,7 @@
 use Rattle.std.proofs.Common.{◌∙◌}
 use Rattle.std.proofs.lemmas.Result.{on_ok_weaker}
 use Rattle.pgb_model.proofs.Temporary.{copy_at_lasts}
+use Rattle.pgb_pair.proofs.Owned.{none_owned, main_only, copy_only}
 use Rattle.pgb_pair.proofs.Mends.{both_crash, both_now, both_held, first_crash, first_now, none_now, no_writes}
 use Rattle.pgb_pair.proofs.Onward.{still, frame_on, rises_on}
 use Rattle.pgb_pair.proofs.Saved.{main_folder, copy_folder}
@@ -71,3 +72,18 @@ pub returns-clause-mended : goal.returns-clause-mended
 returns-clause-mended g c =
     let is = c.as_str-3.ensures.value ∙ c.in_ok-copy.ensures in
     on_ok_weaker _ (λ held. both_held c.args.name.now c.args.text.now c.as_str-3.result.now is c.requires.lasting (copy_at_lasts c.args.name.now _ is) _ _ c.mend-2.ensures.untold c.mend-2.ensures.now_part c.in_ok-mend.ensures.mended held) c.mend-2.ensures.mended
+
+pub returns-in_err-copy-clause-only : goal.returns-in_err-copy-clause-only
+returns-in_err-copy-clause-only g c = none_owned c.args.name.now _
+
+pub returns-in_err-temporary-clause-only : goal.returns-in_err-temporary-clause-only
+returns-in_err-temporary-clause-only g c = none_owned c.args.name.now _
+
+pub returns-in_err-mend-clause-only : goal.returns-in_err-mend-clause-only
+returns-in_err-mend-clause-only g c = main_only c.args.name.now _ (c.as_str.ensures.value ∙ c.in_ok-temporary.ensures) _ _ c.mend.ensures.only
+
+pub returns-clause-only : goal.returns-clause-only
+returns-clause-only g c =
+    let name = c.args.name.now in
+    copy_only name _ (c.as_str-2.ensures.value ∙ c.in_ok-temporary.ensures) _ _ _ _ (c.as_str-3.ensures.value ∙ c.in_ok-copy.ensures)
+    (main_only name _ (c.as_str.ensures.value ∙ c.in_ok-temporary.ensures) _ _ c.mend.ensures.only) c.mend-2.ensures.only

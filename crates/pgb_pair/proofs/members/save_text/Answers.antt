@@ -3,6 +3,7 @@ use Rattle.pgb_outside.proofs.Crashes.{crash_none}
 use Rattle.pgb_outside.proofs.Nows.{now_none}
 use Rattle.pgb_model.specs.Create.{member_writes}
 use Rattle.pgb_model.proofs.Temporary.{copy_at_lasts}
+use Rattle.pgb_pair.proofs.Owned.{none_owned, saved_only}
 use Rattle.pgb_pair.proofs.Onward.{still}
 use Rattle.pgb_pair.proofs.Saved.{main_folder, copy_folder, saved_crash, saved_whole, saved_part, saved_now}
 use Rattle.pgb_pair.proofs.members.save_text.Goals as goal
@@ -63,3 +64,15 @@ returns-clause-whole g c = saved_whole c.args.name.now c.args.text.now _ (c.as_s
 
 pub returns-clause-now_whole : goal.returns-clause-now_whole
 returns-clause-now_whole g c = saved_now c.args.name.now c.args.text.now _ (c.as_str-2.ensures.value ∙ c.in_ok-copy.ensures) _ _ c.in_ok-save_both.ensures.now_whole
+
+pub returns-in_err-copy-clause-only : goal.returns-in_err-copy-clause-only
+returns-in_err-copy-clause-only g c = none_owned c.args.name.now _
+
+pub returns-in_err-temporary-clause-only : goal.returns-in_err-temporary-clause-only
+returns-in_err-temporary-clause-only g c = none_owned c.args.name.now _
+
+pub returns-in_err-save_both-clause-only : goal.returns-in_err-save_both-clause-only
+returns-in_err-save_both-clause-only g c = saved_only c.args.name.now _ _ (c.as_str.ensures.value ∙ c.in_ok-temporary.ensures) (c.as_str-2.ensures.value ∙ c.in_ok-copy.ensures) _ _ c.save_both.ensures.only
+
+pub returns-clause-only : goal.returns-clause-only
+returns-clause-only g c = saved_only c.args.name.now _ _ (c.as_str.ensures.value ∙ c.in_ok-temporary.ensures) (c.as_str-2.ensures.value ∙ c.in_ok-copy.ensures) _ _ c.save_both.ensures.only

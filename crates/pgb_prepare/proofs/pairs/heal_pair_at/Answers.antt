@@ -8,11 +8,11 @@ heal_pair-requires g c = record { named = archive_name_is c.args.stanza.now c.ar
 
 pub returns-in_err-info-clause-mends : goal.returns-in_err-info-clause-mends
 returns-in_err-info-clause-mends g c = let h = c.heal_pair.ensures in
-    named_mends c.args.stanza.now c.args.name.now c.requires _ _ h.now_part h.crash h.idle h.told
+    named_mends c.args.stanza.now c.args.name.now c.requires _ _ h.now_part h.crash h.idle h.told h.only
 
 pub returns-clause-mends : goal.returns-clause-mends
 returns-clause-mends g c = let h = c.heal_pair.ensures in
-    named_mends c.args.stanza.now c.args.name.now c.requires _ _ h.now_part h.crash h.idle h.told
+    named_mends c.args.stanza.now c.args.name.now c.requires _ _ h.now_part h.crash h.idle h.told h.only
 
 pub returns-clause-found : goal.returns-clause-found
 returns-clause-found g c = let h = c.in_ok-info.ensures in

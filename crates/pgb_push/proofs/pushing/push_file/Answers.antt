@@ -1,4 +1,6 @@
 use Rattle.pgb_model.specs.Values.{archive_info_of}
+use Rattle.pgb_archive.specs.Still.{still_self}
+use Rattle.pgb_stage.proofs.Besides.{still_beside}
 use Rattle.pgb_push.proofs.Doings.{none_did, asked_on}
 use Rattle.pgb_push.proofs.Opened.{unopened_ends}
 use Rattle.pgb_push.proofs.pushing.push_file.Goals as goal
@@ -26,3 +28,9 @@ pub returns-clause-does : goal.returns-clause-does
 returns-clause-does g c = λ command asked. c.store.ensures.does command
     (asked_on (g.T.Tree.state c.args.tree.now).nodes _ c.args.order.folder.now c.args.order.path.now command
     c.open_log_file.ensures.looks.nodes asked)
+
+pub returns-in_err-id-clause-beside : goal.returns-in_err-id-clause-beside
+returns-in_err-id-clause-beside g c = still_beside c.args.stanza.now _ _ (still_self (g.D.Disk.state c.args.repo.now).view)
+
+pub returns-in_err-log-clause-beside : goal.returns-in_err-log-clause-beside
+returns-in_err-log-clause-beside g c = still_beside c.args.stanza.now _ _ (still_self (g.D.Disk.state c.args.repo.now).view)

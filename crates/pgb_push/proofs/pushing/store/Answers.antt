@@ -1,4 +1,5 @@
 use Rattle.std.proofs.Common.{◌∙◌, ap}
+use Rattle.pgb_stage.proofs.Besides.{archive_beside}
 use Rattle.pgb_push.specs.Outcomes.{pushed_lines}
 use Rattle.pgb_push.proofs.Doings.{halt_did, memory_did, end_did}
 use Rattle.pgb_push.proofs.Logged.{opened_read}
@@ -81,3 +82,12 @@ returns-in_ok-lines-in-Ok-clause-stored g c =
     (g.D.Disk.state c.push_from.new.d).view.now c.requires.current _ _ _ c.in-Ok.pushed
     (c.in_ok-lines-in-Ok.ensures ∙ ap (pushed_lines c.in-Ok.pushed) (c.deref.ensures ∙ c.args.order.now.spelled))
     c.in-Ok.ensures.answered
+
+pub returns-in-Err-clause-beside : goal.returns-in-Err-clause-beside
+returns-in-Err-clause-beside g c = archive_beside c.args.stanza.now _ _ c.push_from.ensures.leaves.only
+
+pub returns-in_err-lines-in-Ok-clause-beside : goal.returns-in_err-lines-in-Ok-clause-beside
+returns-in_err-lines-in-Ok-clause-beside g c = archive_beside c.args.stanza.now _ _ c.push_from.ensures.leaves.only
+
+pub returns-in_ok-lines-in-Ok-clause-beside : goal.returns-in_ok-lines-in-Ok-clause-beside
+returns-in_ok-lines-in-Ok-clause-beside g c = archive_beside c.args.stanza.now _ _ c.push_from.ensures.leaves.only

@@ -1,0 +1,104 @@
+-- Which command of the log the words ask for is decided by what the data folder tells.
+use Rattle.std.proofs.Common.{◌≡◌, ◌⊎◌, ⊎_elim, inl, inr, ℕ, ◌<◌, ◌≤◌, [], ◌∷◌, ◌++◌, length, take, drop, Option, Some, None, refl, sym, ◌∙◌, arith, append_assoc}
+use Rattle.std.specs.Prelude.{IsSome, IsSomeAnd, codes, decimal}
+use Rattle.pgb_outside.specs.Tree.{Nodes, file_bytes}
+use Rattle.pgb_model.specs.declared.wal.ArchiveName.{ArchiveName}
+use Rattle.pgb_model.specs.Text.{Text, little_endian}
+use Rattle.pgb_model.specs.Names.{wal_text}
+use Rattle.pgb_model.specs.Stands.{IsWalName}
+use Rattle.pgb_model.specs.Steps.{Command, StanzaCreate, ArchivePush, Reading, Named}
+use Rattle.pgb_stanza.specs.declared.control.Control.{Control}
+use Rattle.pgb_stanza.specs.ControlFile.{Tells, first_cluster}
+use Rattle.pgb_archive.proofs.PathLies.{wal_slash}
+use Rattle.pgb_stage.specs.Cluster.{control_bytes, version_bytes, FolderTells}
+use Rattle.pgb_stage.specs.Runs.{Manner, each, one, On}
+use Rattle.pgb_push.specs.WalPath.{wal_path, IsPathOf, IsLastElement, HasWal}
+use Rattle.pgb_push.specs.Commands.{IsPushOf}
+use Rattle.pgb_command.specs.Asked.{Request, create, push, get, report}
+use Rattle.pgb_command.specs.Tables.{IsCreateOf, manner_of}
+use Rattle.pgb_headline.specs.Acts.{IsOf}
+use Rattle.pgb_headline.proofs.Bounded.{Decided, SomeOrNone, same_text, either_of, both_of, some_below, some_name}
+
+-- ---- the cluster
+
+at_least : (k n : ℕ) → Decided (k ≤ n)
+at_least k n = ⊎_elim (λ (le : k ≤ n). inl le) (λ (lt : n < k). inr (λ le. omega (arith, le, lt))) (split k n)
+  where
+    split : (k n : ℕ) → (k ≤ n) ⊎ (n < k)
+    split k n = grind arith
+
+abbrev control_of : Text → ℕ → Control
+control_of c n = record { system = little_endian (take 8 c); control = little_endian (take 4 (drop 8 c)); catalog = little_endian (take 4 (drop 12 c)); version = n }
+
+tells_some : (c v : Text) → SomeOrNone (λ (told : Control). Tells c v told)
+tells_some c v = ⊎_elim
+    (λ (long : 16 ≤ length c). ⊎_elim
+    (λ (x : (n : ℕ) × ((n < 18) × ((15 ≤ n) × (v ≡ decimal n ++ 10 ∷ [])))). inl (control_of c x.0, record {
+      long = long;
+      system = refl;
+      control_version = refl;
+      catalog = refl;
+      version_text = x.3;
+      supported = (x.2, omega (arith, x.1));
+    }))
+    (λ none. inr (λ told t. none told.version (omega (arith, t.supported.1), t.supported.0, t.version_text)))
+    (some_below _ (λ n. both_of (at_least 15 n) (same_text v (decimal n ++ 10 ∷ []))) 18))
+    (λ short. inr (λ told t. short t.long)) (at_least 16 (length c))
+
+abbrev OfTwo : Option Text → Option Text → Control → Type 0
+OfTwo c v told = IsSomeAnd c (λ x. IsSomeAnd v (λ y. Tells x y told))
+
+two_tell : (c v : Option Text) → SomeOrNone (λ (told : Control). OfTwo c v told)
+two_tell None v = inr (λ told h. h)
+two_tell (Some c) None = inr (λ told h. h)
+two_tell (Some c) (Some v) = tells_some c v
+
+folder_tells : (f : Nodes) → SomeOrNone (λ (told : Control). FolderTells f told)
+folder_tells f = two_tell (control_bytes f) (version_bytes f)
+
+create_of : (f : Nodes) → (command : Command) × IsCreateOf f command
+create_of f = ⊎_elim
+    (λ (x : (told : Control) × FolderTells f told). (StanzaCreate (Some (first_cluster x.0)), (Some (first_cluster x.0), (x.0, x.1, refl), refl)))
+    (λ (none : (told : Control) → FolderTells f told → ⊥). (StanzaCreate None, (None, none, refl))) (folder_tells f)
+
+-- ---- the file
+
+some_bytes : (o : Option Text) → SomeOrNone (λ (bytes : Text). o ≡ Some bytes)
+some_bytes (Some b) = inl (b, refl)
+some_bytes None = inr (λ b e. let u : ◌≡◌ {A = Option Text} None (Some b) = e in cc)
+
+decided_bytes : (o : Option Text) → Decided ((bytes : Text) × (o ≡ Some bytes))
+decided_bytes o = ⊎_elim (λ (x : (bytes : Text) × (o ≡ Some bytes)). inl x) (λ none. inr (λ x. none x.0 x.1)) (some_bytes o)
+
+last_of : (folder path : Text) (name : ArchiveName) → IsPathOf folder path (wal_text name) → IsLastElement path (wal_text name)
+last_of folder path name (inl e) = (wal_slash name, inr (codes "pg_wal", e))
+last_of folder path name (inr e) = (wal_slash name, inr (folder ++ codes "/pg_wal", e ∙ sym (append_assoc folder (codes "/pg_wal") (47 ∷ wal_text name))))
+
+module _ (f : Nodes) (folder path : Text) where
+  abbrev Lies : ArchiveName → Type 0
+  Lies name = IsPathOf folder path (wal_text name) × ((bytes : Text) × (file_bytes (f (wal_path (wal_text name))) ≡ Some bytes))
+
+  lies : (name : ArchiveName) → Decided (Lies name)
+  lies name = both_of (either_of (same_text path (wal_path (wal_text name))) (same_text path (folder ++ (codes "/pg_wal/" ++ wal_text name)))) (decided_bytes (file_bytes (f (wal_path (wal_text name)))))
+
+  has_wal : SomeOrNone (λ (n : Named). HasWal f folder path n.name n.bytes)
+  has_wal = ⊎_elim
+      (λ (x : (name : ArchiveName) × (IsWalName name × Lies name)).
+        inl (record { name = x.0; bytes = x.2.1.0 }, record { named = record { fits = x.1; last = last_of folder path x.0 x.2.0; lies = x.2.0 }; is = x.2.1.1 }))
+      (λ none. inr (λ n h. none n.name (h.named.fits, (h.named.lies, (n.bytes, h.is))))) (some_name Lies lies)
+
+  push_of : (command : Command) × IsPushOf f folder path command
+  push_of = ⊎_elim
+      (λ (x : (n : Named) × HasWal f folder path n.name n.bytes). (ArchivePush x.0, inl (x.0, x.1, refl)))
+      (λ (none : (n : Named) → HasWal f folder path n.name n.bytes → ⊥). (Reading, inr (none, refl))) has_wal
+
+-- ---- whichever it is
+
+-- some command is asked for, and what holds of what is asked for holds of it
+pub some_command : (request : Request) (folder : Text) (nodes : Option Nodes) (P : Command → Type 0) → IsSome nodes → On (manner_of request folder nodes) P → (command : Command) × IsOf (manner_of request folder nodes) command × P command
+some_command create folder None P told on = cc
+some_command create folder (Some f) P told on = let x = create_of f in (x.0, x.1, on x.0 x.1)
+some_command (push path) folder None P told on = cc
+some_command (push path) folder (Some f) P told on = let x = push_of f folder path in (x.0, x.1, on x.0 x.1)
+some_command (get name path) folder nodes P told on = (Reading, refl, on Reading refl)
+some_command (report form) folder nodes P told on = (Reading, refl, on Reading refl)

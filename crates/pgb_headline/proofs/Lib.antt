@@ -1,0 +1,4 @@
+mod Bounded
+mod Deciding
+mod Shown
+mod Going

@@ -1,0 +1,101 @@
+-- From what `run` answers to what a call of a story does.
+use Rattle.std.proofs.Common.{◌≡◌, ◌≢◌, ◌⊎◌, ⊎_elim, inl, inr, ℕ, zero, suc, ◌≤◌, Bool, true, false, List, [], ◌∷◌, Result, Ok, Err, refl, sym, ◌∙◌, ap, subst, arith}
+use Rattle.std.specs.Prelude.{IsSome}
+use Rattle.pgb_outside.specs.Moments.{View}
+use Rattle.pgb_outside.specs.Crash.{Leaves}
+use Rattle.pgb_model.specs.Text.{Text}
+use Rattle.pgb_model.specs.Repository.{Repository}
+use Rattle.pgb_model.specs.Steps.{Command}
+use Rattle.pgb_model.specs.Log.{Done, Keeps}
+use Rattle.pgb_model.specs.Steady.{KeepsOn, LeavesOnly}
+use Rattle.pgb_story.specs.Beside.{IsStanza, StaysBeside}
+use Rattle.pgb_story.specs.Story.{Call, Does, HasReceiptsOf}
+use Rattle.pgb_archive.specs.Still.{still_self}
+use Rattle.pgb_stage.specs.declared.fault.StageFault.TheVariants.{NotBuilt}
+use Rattle.pgb_stage.specs.Runs.{Reached, to_end, OnAll, Leads, Passes, Takes}
+use Rattle.pgb_stage.specs.Seen.{Seen}
+use Rattle.pgb_stage.proofs.Besides.{still_beside}
+use Rattle.pgb_command.specs.declared.fault.Fault.{Fault}
+use Rattle.pgb_command.specs.declared.fault.Fault.TheVariants.{Stage}
+use Rattle.pgb_command.specs.Answers.{status_of, reached_of, ending_of}
+use Rattle.pgb_command.specs.Asked.{Asked, MayAsk}
+use Rattle.pgb_command.specs.Causes.{IsAnswered, Carries, Answers}
+use Rattle.pgb_command.specs.Did.{IsIdle}
+use Rattle.pgb_command.specs.Tables.{plan_of, manner_of}
+use Rattle.pgb_command.proofs.Follows.{told_as}
+use Rattle.pgb_command.proofs.Statuses.{over, zero_ends}
+use Rattle.pgb_command.proofs.InForm.{asked_in_form}
+use Rattle.pgb_headline.specs.Acts.{both, IsOf, IsCallOf, IsShown}
+use Rattle.pgb_headline.proofs.Deciding.{some_command}
+
+-- ---- a command that leaves the spool as it is
+
+abbrev the_call : Text → Command → Bool → Call
+the_call stanza command whole = record { stanza = stanza; done = record { command = command; acknowledged = whole } }
+
+module _ (stanza : Text) (command : Command) (whole : Bool) (repo spool new_repo new_spool : View) (same : new_spool ≡ spool) (form : IsStanza stanza)
+    (part : Leads stanza command false repo spool new_repo new_spool) (passes : Passes stanza command repo new_repo)
+    (keeps : KeepsOn stanza command whole repo spool new_repo new_spool) (beside : StaysBeside stanza repo new_repo) where
+  receipts : (q : Repository) (log : List Done) → IsSome repo.now → Keeps stanza q log repo spool → LeavesOnly (HasReceiptsOf stanza q (record { command = command; acknowledged = false } ∷ log)) spool new_spool
+  receipts q log told h t f lo hi leaves =
+      let e : t ≡ new_spool.moment = omega (arith, ap (λ (v : View). v.moment) same) in
+      (part.keeps q log told h).receipts.receipts f (subst (λ (m : ℕ). Leaves new_spool m f) e leaves)
+
+  call_does : Does (the_call stanza command whole) (both repo spool) (both new_repo new_spool)
+  call_does = record {
+    is_stanza = form;
+    told = part.now.told;
+    spool_told = λ told. subst (λ (v : View). IsSome v.now) (sym same) told;
+    keeps = keeps;
+    between = λ q log told h. (passes.between q log told h.repository).1;
+    receipts = record { between = receipts };
+    beside = beside;
+    spool_beside = subst (λ (v : View). StaysBeside stanza spool v) (sym same) (still_beside stanza spool spool (still_self spool));
+  }
+
+-- ---- what `run` answers
+
+zero_or : (n : ℕ) → (n ≡ 0) ⊎ (n ≢ 0)
+zero_or zero = inl refl
+zero_or (suc n) = inr (λ e. omega (arith, e))
+
+module _ (words : List Text) (b k : Seen) (n : ℕ) (same : k.spool.view ≡ b.spool.view) (told : IsSome b.tree.nodes) where
+  abbrev Shown : Type 0
+  Shown = IsShown words b.config.files b.tree.nodes n (both b.repo.view b.spool.view) (both k.repo.view k.spool.view)
+
+  -- the words were refused
+  refused : (unknown : List Text) (fault : Fault) → IsIdle b k → IsAnswered unknown b k (Err fault) n → Shown
+  refused unknown fault idle answered = inl (
+    told_as unknown b k (Err fault) n answered
+        (λ is z. let h : n ≡ status_of fault = is in omega (arith, h, z, over fault)) (λ is rose z. omega (arith, is, z)) (λ is z. omega (arith, is, z)),
+    record { now = idle.repo.now; time = idle.repo.time; spool_now = idle.spool.now; spool_time = idle.spool.time },
+  )
+
+  -- what they ask for was done
+  module _ (a : Asked) (asks : MayAsk words b.config.files a) (unknown : List Text) (c : Carries a unknown b k n) where
+    abbrev TakesAs : Command → Type 0
+    TakesAs command = Takes (plan_of a.request).settling a.stanza command (reached_of (ending_of c.ended)) b.repo.view b.spool.view k.repo.view k.spool.view
+
+    to_its_end : n ≡ 0 → reached_of (ending_of c.ended) ≡ to_end
+    to_its_end z = told_as unknown b k c.ended n c.answered (λ is. zero_ends c.ended (sym is ∙ z)) (λ is rose. absurd (omega (arith, is, z))) (λ is. absurd (omega (arith, is, z)))
+
+    by : (command : Command) → IsOf (manner_of a.request a.data_folder b.tree.nodes) command → TakesAs command → (n ≡ 0) ⊎ (n ≢ 0) → Shown
+    by command is takes (inl z) = inr (
+      the_call a.stanza command true,
+      record { asked = a; asks = asks; stanza = refl; command = is; acknowledged = ((λ e. z), (λ e. refl)) },
+      call_does a.stanza command true b.repo.view b.spool.view k.repo.view k.spool.view same (asked_in_form words b.config.files a asks) takes.part takes.between
+          (subst (λ (reached : Reached). OnAll reached (Leads a.stanza command true b.repo.view b.spool.view k.repo.view k.spool.view)) (to_its_end z) takes.whole).keeps c.did.spares.beside,
+    )
+    by command is takes (inr no) = inr (
+      the_call a.stanza command false,
+      record { asked = a; asks = asks; stanza = refl; command = is; acknowledged = ((λ (e : ◌≡◌ {A = Bool} false true). cc), (λ z. absurd (no z))) },
+      call_does a.stanza command false b.repo.view b.spool.view k.repo.view k.spool.view same (asked_in_form words b.config.files a asks) takes.part takes.between takes.part.keeps c.did.spares.beside,
+    )
+
+    obeyed : Shown
+    obeyed = let x = some_command a.request a.data_folder b.tree.nodes TakesAs told c.did.steps in by x.0 x.1 x.2 (zero_or n)
+
+  pub shown : Answers words b k n → Shown
+  shown (inl r) = refused [] r.fault r.idle r.answered
+  shown (inr (s, settles, inl (a, is, c))) = obeyed a (record { settings = s; settles = settles; is = is }) s.warnings c
+  shown (inr (s, settles, inr (what, is, idle, answered))) = refused s.warnings (Stage (NotBuilt what)) idle answered

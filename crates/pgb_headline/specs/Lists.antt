@@ -1,0 +1,37 @@
+-- What a list of acts over devices in memory makes of the logs.
+use Rattle.std.specs.Prelude.{◌≤◌, ℕ, List, Option, Some, map, string_bytes, is_some}
+use Rattle.pgb_outside.specs.Content.{Content}
+use Rattle.pgb_outside.specs.Moments.{View, IsImage}
+use Rattle.pgb_outside.specs.Tree.{Nodes}
+use Rattle.pgb_memory.specs.declared.source.MemSource.{MemSource}
+use Rattle.pgb_memory.specs.declared.tree.MemTree.{MemTree}
+use Rattle.pgb_memory.specs.Held.{view_of}
+use Rattle.pgb_memory.specs.Replay.{value_of}
+use Rattle.pgb_memory.specs.Nodes.{nodes_at}
+use Rattle.pgb_model.proofs.Reopened.{IsReopened}
+use Rattle.pgb_story.specs.Story.{Call, Disks}
+use Rattle.pgb_headline.specs.declared.playing.Act.{Act}
+use Rattle.pgb_headline.specs.declared.playing.Disks.{Disks as Pair}
+use Rattle.pgb_headline.specs.Acts.{both, GoesOn}
+
+abbrev pub views : Pair → Disks
+views d = both (view_of d.repo.held) (view_of d.spool.held)
+
+-- what a configuration and a data folder in memory hold
+abbrev pub files_of : MemSource → Option Content
+files_of s = Some (λ _. value_of s.file)
+
+abbrev pub nodes_of : MemTree → Option Nodes
+nodes_of t = Some (nodes_at t.nodes)
+
+-- the second disk was opened anew on what a stop of the first one left, at that moment, which isn't before this one
+pub record IsLeft (v : View) (first moment : ℕ) (opened : View) : Type 0 where
+  pub content : Content
+  pub from : first ≤ moment
+  pub to : moment ≤ v.moment
+  pub image : IsImage v moment content
+  pub reopened : IsReopened content opened
+
+-- the log goes on by the act, which ended with this status, or would have
+abbrev pub ActGoes : Act → ℕ → List Call → List Call → Type 0
+ActGoes x status before after = GoesOn (map string_bytes x.words.items) (files_of x.config) (nodes_of x.tree) status (is_some x.halt) before after

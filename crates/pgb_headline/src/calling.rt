@@ -1,0 +1,45 @@
+// One call of the program.
+ghost use Rattle.std.specs.Prelude.{◌≡◌, [], List, map, string_bytes, IsSome};
+ghost use Rattle.pgb_story.specs.Story.{Call, KeepsAll};
+ghost use Rattle.pgb_headline.specs.Acts.{both, IsShown, Went};
+
+use pgb_turn::Aside;
+use pgb_command::{Outside, run};
+use pgb_outside::{Clock, Disk, Link, Locks, Sink, Source, Tree, Turns, Wire};
+use std::alloc::Global;
+
+/// Calls the program on a data folder that tells what it holds.
+pub fn called<
+    D: Disk,
+    S: Disk,
+    T: Tree,
+    V: Wire,
+    A: Aside<D, S>,
+    C: Clock,
+    K: Locks,
+    I: Source,
+    O: Sink,
+    U: Turns,
+>(
+    alloc: Global,
+    words: &[String],
+    outside: &mut Outside<D, S, T, V, A, C, K, I, O>,
+    links: &mut Vec<Box<dyn Link>>,
+    turns: &mut U,
+) -> u8
+    requires free { K.taken outside.old.locks ≡ [] }
+    // The words are refused and nothing is done, or the call that they ask for is, as a story has it.
+    ensures shown { IsSome (T.state outside.old.tree).nodes
+        → IsShown (map string_bytes words.now) (I.files outside.old.config) (T.state outside.old.tree).nodes result
+        (both (D.state outside.old.repo).view (S.state outside.old.spool).view)
+        (both (D.state outside.new.repo).view (S.state outside.new.spool).view) }
+    // Disks that keep the logs of all stanzas go on with them, whether the call ends or is stopped.
+    ensures went { IsSome (T.state outside.old.tree).nodes → (before : List Call)
+        → KeepsAll before (both (D.state outside.old.repo).view (S.state outside.old.spool).view)
+        → Went (map string_bytes words.now) (I.files outside.old.config) (T.state outside.old.tree).nodes result before
+        (both (D.state outside.old.repo).view (S.state outside.old.spool).view)
+        (both (D.state outside.new.repo).view (S.state outside.new.spool).view) }
+    ensures free { K.taken outside.new.locks ≡ [] }
+{
+    run(alloc, words, outside, links, turns)
+}

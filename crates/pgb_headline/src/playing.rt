@@ -1,0 +1,172 @@
+// Calls and stops, one after another.
+ghost use Rattle.std.specs.Prelude.{◌≡◌, ◌≤◌, [], List, map, string_bytes, is_some, IfOk};
+ghost use Rattle.pgb_outside.specs.Content.{Content};
+ghost use Rattle.pgb_outside.specs.Moments.{IsImage};
+ghost use Rattle.pgb_model.proofs.Reopened.{IsReopened};
+ghost use Rattle.pgb_story.specs.Story.{Call, KeepsAll};
+ghost use Rattle.pgb_headline.specs.Acts.{Went};
+ghost use Rattle.pgb_headline.specs.Lists.{views, files_of, nodes_of, IsLeft, ActGoes};
+
+use crate::calling::called;
+use pgb_command::Outside;
+use pgb_memory::{MemDisk, MemLocks, MemSink, MemSource, MemTree};
+use pgb_outside::{Disk, Link, NotThere, Turns};
+use pgb_server::memory::MemWire;
+use std::alloc::Global;
+
+/// What a stop leaves of a disk: the moment of the stop, which kept value each name has, and the bytes of loose names; and
+/// which calls are to fail afterwards.
+#[derive(Drop)]
+pub struct Left {
+    pub moment: u64,
+    pub choice: Vec<(String, u32)>,
+    pub loose: Vec<(String, Vec<u8>)>,
+    pub fail: Vec<u64>,
+}
+
+/// A stop, of each disk at a moment of its own.
+#[derive(Drop)]
+pub struct Halt {
+    pub repo: Left,
+    pub spool: Left,
+}
+
+/// A call of the program with these words, on this data folder, with this server, locks that others hold, and
+/// configuration; and the stop within it, where there is one.
+#[derive(Drop)]
+pub struct Act {
+    pub words: Vec<String>,
+    pub tree: MemTree,
+    pub server: MemWire,
+    pub held: Vec<String>,
+    pub config: MemSource,
+    pub halt: Option<Halt>,
+}
+
+/// The two disks of the program.
+#[derive(Drop)]
+pub struct Disks {
+    pub repo: MemDisk,
+    pub spool: MemDisk,
+}
+
+/// Why a list of calls can't be played.
+#[derive(Clone, Copy, Debug, PartialEq, Eq)]
+pub enum PlayFault {
+    /// The moment isn't one of the call.
+    Moment,
+    /// A stop doesn't leave this.
+    Image,
+    NoMemory,
+}
+
+// The disk, opened anew on what a stop at a moment from this one on leaves.
+fn reopened(
+    alloc: Global,
+    disk: &MemDisk,
+    from: u64,
+    left: Left,
+) -> Result<MemDisk, PlayFault>
+    ensures opened { IfOk result (λ d. IsLeft (⟦<MemDisk as Disk>⟧.state disk.now).view from left.moment
+        (⟦<MemDisk as Disk>⟧.state d).view) }
+{
+    if left.moment < from || disk.moment() < left.moment {
+        return Err(PlayFault::Moment);
+    }
+    let names = match disk.image(alloc, left.moment, &left.choice, &left.loose) {
+        Ok(names) => names,
+        Err(_) => return Err(PlayFault::Image),
+    };
+    match MemDisk::new(alloc, names, left.fail) {
+        Ok(disk) => Ok(disk),
+        Err(_) => Err(PlayFault::NoMemory),
+    }
+}
+
+// Calls the program on the disks, and hands them back with the status.
+fn call_on<U: Turns>(
+    alloc: Global,
+    disks: Disks,
+    words: &[String],
+    tree: MemTree,
+    server: MemWire,
+    held: Vec<String>,
+    config: MemSource,
+    links: &mut Vec<Box<dyn Link>>,
+    turns: &mut U,
+) -> (Disks, u8)
+    ensures went { (before : List Call) → KeepsAll before (views disks)
+        → Went (map string_bytes words.now) (files_of config) (nodes_of tree) result.1 before
+        (views disks) (views result.0) }
+{
+    let Disks { repo, spool } = disks;
+    let mut outside = Outside {
+        repo,
+        spool,
+        tree,
+        server,
+        aside: NotThere::new(),
+        clock: NotThere::new(),
+        locks: MemLocks::new(alloc, held, Vec::new(alloc)),
+        config,
+        out: MemSink::new(alloc, Vec::new(alloc)),
+    };
+    let status = called(alloc, words, &mut outside, links, turns);
+    let disks = Disks {
+        repo: outside.repo,
+        spool: outside.spool,
+    };
+    (disks, status)
+}
+
+// Opens both disks anew on what the stop leaves of each.
+fn both_reopened(
+    alloc: Global,
+    disks: &Disks,
+    repo_from: u64,
+    spool_from: u64,
+    halt: Halt,
+) -> Result<Disks, PlayFault>
+    ensures repo { IfOk result (λ d. IsLeft (⟦<MemDisk as Disk>⟧.state disks.now.repo).view repo_from
+        halt.repo.moment (⟦<MemDisk as Disk>⟧.state d.repo).view) }
+    ensures spool { IfOk result (λ d. IsLeft (⟦<MemDisk as Disk>⟧.state disks.now.spool).view spool_from
+        halt.spool.moment (⟦<MemDisk as Disk>⟧.state d.spool).view) }
+{
+    let repo = reopened(alloc, &disks.repo, repo_from, halt.repo)?;
+    let spool = reopened(alloc, &disks.spool, spool_from, halt.spool)?;
+    Ok(Disks { repo, spool })
+}
+
+/// Plays a call, with its stop where it has one: disks that keep the logs of all stanzas keep them with the call. It
+/// answers the status that the call ends with, or would have ended with.
+pub fn play_one<U: Turns>(
+    alloc: Global,
+    disks: Disks,
+    act: Act,
+    links: &mut Vec<Box<dyn Link>>,
+    turns: &mut U,
+) -> Result<(Disks, u8), PlayFault>
+    ensures keeps { IfOk result (λ r. (before : List Call) → KeepsAll before (views disks)
+        → (after : List Call) × ActGoes act r.1 before after × KeepsAll after (views r.0)) }
+{
+    let repo_from = disks.repo.moment();
+    let spool_from = disks.spool.moment();
+    let Act {
+        words,
+        tree,
+        server,
+        held,
+        config,
+        halt,
+    } = act;
+    let (ended, status) = call_on(
+        alloc, disks, &words, tree, server, held, config, links, turns,
+    );
+    match halt {
+        None => Ok((ended, status)),
+        Some(halt) => {
+            let opened = both_reopened(alloc, &ended, repo_from, spool_from, halt)?;
+            Ok((opened, status))
+        }
+    }
+}

@@ -1,0 +1,23 @@
+-- A call that keeps to its stanza.
+use Rattle.std.specs.Prelude.{◌≡◌, ◌≢◌, true, false, List, Contains, IsSome}
+use Rattle.pgb_outside.specs.Content.{Name, at}
+use Rattle.pgb_outside.specs.Moments.{View, Goes}
+use Rattle.pgb_model.specs.Text.{Text}
+use Rattle.pgb_model.specs.Names.{is_of_stanza}
+use Rattle.pgb_model.specs.Repository.{Repository}
+use Rattle.pgb_model.specs.Log.{Done, StandsAfter, KeepsRepository}
+use Rattle.pgb_model.specs.Steady.{LeavesOnly}
+
+-- a stanza's name has no slash
+abbrev pub IsStanza : Text → Type 0
+IsStanza stanza = ¬ Contains stanza 47
+
+-- Beside the stanza's folders the disk holds the same, and a stop leaves no more than before.
+pub record StaysBeside (stanza : Text) (old new : View) : Type 0 where
+  pub now : (n : Name) → is_of_stanza stanza n ≡ false → at n new.now ≡ at n old.now
+  pub time : Goes (λ n _. is_of_stanza stanza n ≡ true) (λ n. is_of_stanza stanza n ≡ true) old new
+
+-- Of every other stanza the disk keeps the log that it kept, and at each moment all that a stop leaves stands for it.
+pub record KeepsOthers (stanza : Text) (old new : View) : Type 0 where
+  pub keeps : (other : Text) → IsStanza other → other ≢ stanza → (q : Repository) (log : List Done) → IsSome old.now → KeepsRepository other q log old → KeepsRepository other q log new
+  pub between : (other : Text) → IsStanza other → other ≢ stanza → (q : Repository) (log : List Done) → IsSome old.now → KeepsRepository other q log old → LeavesOnly (StandsAfter other q log) old new

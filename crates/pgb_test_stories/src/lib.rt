@@ -1,0 +1,9 @@
+//! Tests of calls and stops, one after another, over devices in memory.
+#![tactic(auto)]
+
+#[cfg(test)]
+mod acts;
+#[cfg(test)]
+mod same;
+#[cfg(test)]
+mod stories;

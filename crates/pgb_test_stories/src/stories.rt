@@ -1,0 +1,76 @@
+// Lists of calls and stops.
+use crate::acts::{act, played, stop_at};
+use crate::same::{same, well};
+use pgb_headline::{Act, PlayFault};
+use std::alloc::Global;
+
+const CREATE: &str =
+    "--stanza=demo --pg1-path=pg --repo1-path=repo --lock-path=lock --no-online stanza-create";
+
+const PUSH: &str = "--stanza=demo --pg1-path=pg --repo1-path=repo --lock-path=lock archive-push pg_wal/00000002.history";
+
+const GET: &str = "--stanza=demo --pg1-path=pg --repo1-path=repo archive-get 00000002.history pg_wal/RECOVERYHISTORY";
+
+const CREATE_OTHER: &str =
+    "--stanza=other --pg1-path=pg --repo1-path=repo --lock-path=lock --no-online stanza-create";
+
+const PUSH_OTHER: &str = "--stanza=other --pg1-path=pg --repo1-path=repo --lock-path=lock archive-push pg_wal/00000002.history";
+
+const STORED: &str = "archive/demo/16-1/00000002.history";
+
+const STORED_OTHER: &str = "archive/other/16-1/00000002.history";
+
+// The calls, of which the one of this number is stopped at that moment.
+fn calls(
+    alloc: Global,
+    words: &[&str],
+    number: usize,
+    moment: u64,
+) -> Result<Vec<Act>, PlayFault> {
+    let mut acts = Vec::new(alloc);
+    for at in 0..words.len() {
+        let halt = if at == number {
+            Some(stop_at(alloc, moment))
+        } else {
+            None
+        };
+        acts.push(act(alloc, words[at], halt)?)
+            .or(Err(PlayFault::NoMemory))?;
+    }
+    Ok(acts)
+}
+
+// A stop within the first call, at each of its moments, and then a push, a fetch and another stanza.
+#[test]
+fn calls_go_on_behind_a_stop(rt: HostRuntime) {
+    let alloc = rt.alloc();
+    let words = [CREATE, CREATE, PUSH, GET, CREATE_OTHER, PUSH_OTHER];
+    for moment in 0..4 {
+        let acts = well(&rt, calls(alloc, &words, 0, moment));
+        let (disks, statuses) = well(&rt, played(alloc, acts));
+        same(&rt, statuses.as_slice(), &[0, 0, 0, 0, 0, 0]);
+        same(&rt, disks.repo.bytes(STORED), Some(b"hello".as_slice()));
+        same(&rt, disks.repo.bytes(STORED_OTHER), Some(b"hello".as_slice()));
+    }
+}
+
+// A call is stopped at one of its own moments.
+#[test]
+fn a_stop_lies_within_its_call(rt: HostRuntime) {
+    let alloc = rt.alloc();
+    let acts = well(&rt, calls(alloc, &[CREATE], 0, 1000));
+    match played(alloc, acts) {
+        Ok(_) => same(&rt, true, false),
+        Err(fault) => same(&rt, fault, PlayFault::Moment),
+    }
+}
+
+// Words that are refused do nothing.
+#[test]
+fn refused_words_do_nothing(rt: HostRuntime) {
+    let alloc = rt.alloc();
+    let acts = well(&rt, calls(alloc, &["--stanza=a/b info", CREATE], 9, 0));
+    let (disks, statuses) = well(&rt, played(alloc, acts));
+    same(&rt, statuses.as_slice(), &[6, 0]);
+    same(&rt, disks.repo.bytes(STORED), None);
+}
