@@ -35,8 +35,10 @@ fn truth_at(keys: &[(String, Value)], key: &str) -> bool
 
 /// The section of the choices, which tells too whether a server was asked.
 pub(crate) fn choices_part(alloc: Global, choices: &Choices, online: bool) -> Result<Part, NoMemory>
-    ensures { IfOk result (λ p. section_of p ≡ record { name = codes "backup:option";
-        keys = choice_fields choices.now online }) }
+    ensures { IfOk result (λ p. section_of p ≡ record {
+      name = codes "backup:option";
+      keys = choice_fields choices.now online;
+    }) }
 {
     let mut part = Part::new(alloc, "backup:option")?;
     part.add(alloc, "option-bundle", Value::Bool(choices.bundle))?;

@@ -1,5 +1,5 @@
 // What the section `backup` tells.
-ghost use Rattle.std.specs.Prelude.{◌≡◌, ◌≤◌, List, map, codes, IfOk, IfErr};
+ghost use Rattle.std.specs.Prelude.{◌≡◌, ◌≤◌, List, map, codes, IfOk, IfErr, IfSome};
 ghost use Rattle.pgb_model.specs.declared.clusters.Cluster.{Cluster};
 ghost use Rattle.pgb_model.specs.declared.labels.Choices.{Choices};
 ghost use Rattle.pgb_model.specs.Text.{Text};
@@ -7,7 +7,7 @@ ghost use Rattle.pgb_model.specs.Dates.{last_second};
 ghost use Rattle.pgb_model.specs.Fields.{whole};
 ghost use Rattle.pgb_model.specs.InfoText.{IsInfo};
 ghost use Rattle.pgb_model.specs.InfoFiles.{IsLabel, label_value};
-ghost use Rattle.pgb_model.specs.ManifestText.{backup_fields};
+ghost use Rattle.pgb_model.specs.ManifestText.{backup_fields, HasItsPrior};
 ghost use Rattle.pgb_model.specs.Values.{FileEntry as SpecFile};
 ghost use Rattle.pgb_ini.specs.Parts.{key_of, sections_of};
 ghost use Rattle.pgb_keys.specs.Agree.{IsKeysOf, IsOrdered};
@@ -60,6 +60,19 @@ fn second_at(keys: &[(String, Value)], key: &str) -> u64
     }
 }
 
+// The prior backup, which each has but a full one.
+fn prior_of(keys: &[(String, Value)], kind: Kind) -> Option<Label>
+    requires { IsOrdered (map key_of keys.now) }
+    ensures has { HasItsPrior kind result }
+    ensures read { IfSome result (λ l. IsLabel l
+        × IsReadAt label_value IsLabel (map key_of keys.now) (codes "backup-prior") l) }
+{
+    match kind {
+        Kind::Full => None,
+        Kind::Diff | Kind::Incr => Some(label_at(keys, "backup-prior")),
+    }
+}
+
 // What the keys tell, where they are those of a manifest.
 fn head_of(keys: &[(String, Value)]) -> Head
     requires { IsOrdered (map key_of keys.now) }
@@ -67,14 +80,10 @@ fn head_of(keys: &[(String, Value)]) -> Head
 {
     let label = label_at(keys, "backup-label");
     let kind = label_kind(&label);
-    let prior = match kind {
-        Kind::Full => None,
-        _ => Some(label_at(keys, "backup-prior")),
-    };
     Head {
         label,
         kind,
-        prior,
+        prior: prior_of(keys, kind),
         start: second_at(keys, "backup-timestamp-start"),
         stop: second_at(keys, "backup-timestamp-stop"),
         wal: log_of(keys),

@@ -34,7 +34,7 @@ pub struct Place<'a> {
     pub size: u64,
 }
 
-fn holder(entry: &FileEntry) -> Holder
+fn holder_in(entry: &FileEntry) -> Holder
     ensures { (own : Label) → holder_of own result ≡ holder own (file_entry_of entry.now) }
 {
     match entry.reference {
@@ -53,7 +53,7 @@ pub fn locate(entry: &FileEntry) -> Option<Place<'_>>
     if entry.size == 0 {
         return None;
     }
-    let holder = holder(entry);
+    let holder = holder_in(entry);
     let size = entry.size;
     match entry.bundle {
         Some(bundle) => Some(Place {

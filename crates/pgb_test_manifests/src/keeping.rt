@@ -38,7 +38,11 @@ fn saved_and_loaded(rt: HostRuntime) -> Result<(), Fail> {
         panic!(rt; "no manifest")
     };
     let mut disk = disk_of(alloc, &[], &[])?;
-    same(&rt, save_manifest(alloc, &mut disk, "demo", &manifest), Ok(()));
+    same(
+        &rt,
+        save_manifest(alloc, &mut disk, "demo", &manifest),
+        Ok(()),
+    );
     same(&rt, disk.bytes(MAIN), Some(OFFLINE.as_bytes()));
     same(&rt, disk.bytes(COPY), Some(OFFLINE.as_bytes()));
     match load_manifest(alloc, &mut disk, "demo", &FULL) {

@@ -4,7 +4,8 @@ use crate::same::same;
 use crate::texts::{OFFLINE, ONLINE, read};
 use pgb_manifest::{Holder, Place, Spot, encode, locate};
 use pgb_model::{
-    Bundled, Choices, Cluster, FileEntry, Kind, Label, Later, Lsn, Manifest, SegSize, Segment, Span, WalPart,
+    Bundled, Choices, Cluster, FileEntry, Kind, Label, Later, Lsn, Manifest, SegSize, Segment,
+    Span, WalPart,
 };
 use pgb_text::{NoMemory, Sum};
 use std::alloc::Global;
@@ -62,7 +63,11 @@ type Told = (u64, u64, Sum, Option<Label>, Option<Bundled>);
 
 fn is_file(rt: &impl Abort, file: &FileEntry, path: &str, told: Told) {
     same(rt, file.path.as_str(), path);
-    same(rt, (file.size, file.time, file.sum, file.reference, file.bundle), told);
+    same(
+        rt,
+        (file.size, file.time, file.sum, file.reference, file.bundle),
+        told,
+    );
 }
 
 fn is_online(rt: &impl Abort, m: &Manifest) {
@@ -93,14 +98,38 @@ fn manifests_of_a_server(rt: HostRuntime) -> Result<(), Fail> {
         at: 4096,
     });
     let digits = Sum::of(b"0123456789");
-    is_file(&rt, version, "PG_VERSION", (3, 1704164000, Sum::of(b"abc"), None, first));
-    is_file(&rt, old, "base/1/2", (10, 1704164001, digits, Some(FULL), later));
-    is_file(&rt, empty, "base/1/3", (0, 1704164002, Sum::of(b""), None, None));
-    is_file(&rt, control, "global/pg_control", (10, 1704164003, digits, None, None));
+    is_file(
+        &rt,
+        version,
+        "PG_VERSION",
+        (3, 1704164000, Sum::of(b"abc"), None, first),
+    );
+    is_file(
+        &rt,
+        old,
+        "base/1/2",
+        (10, 1704164001, digits, Some(FULL), later),
+    );
+    is_file(
+        &rt,
+        empty,
+        "base/1/3",
+        (0, 1704164002, Sum::of(b""), None, None),
+    );
+    is_file(
+        &rt,
+        control,
+        "global/pg_control",
+        (10, 1704164003, digits, None, None),
+    );
     let [base, one, global] = m.folders.as_slice() else {
         panic!(rt; "{} folders", m.folders.len())
     };
-    same(&rt, (base.as_str(), one.as_str(), global.as_str()), ("base", "base/1", "global"));
+    same(
+        &rt,
+        (base.as_str(), one.as_str(), global.as_str()),
+        ("base", "base/1", "global"),
+    );
     Ok(())
 }
 
@@ -140,8 +169,18 @@ fn is_place(rt: &impl Abort, file: &FileEntry, want: Option<(Holder, u64, u64)>)
 
 fn name_of<'a>(place: Option<Place<'a>>) -> (Option<&'a str>, Option<u32>) {
     match place {
-        Some(Place { spot: Spot::Path(path), .. }) => (Some(path), None),
-        Some(Place { spot: Spot::Bundle(number), .. }) => (None, Some(number)),
+        Some(
+            Place {
+                spot: Spot::Path(path),
+                ..
+            },
+        ) => (Some(path), None),
+        Some(
+            Place {
+                spot: Spot::Bundle(number),
+                ..
+            },
+        ) => (None, Some(number)),
         None => (None, None),
     }
 }
@@ -157,6 +196,10 @@ fn places(rt: HostRuntime) -> Result<(), Fail> {
     is_place(&rt, empty, None);
     is_place(&rt, control, Some((Holder::Own, 0, 10)));
     same(&rt, name_of(locate(old)), (None, Some(7)));
-    same(&rt, name_of(locate(control)), (Some("global/pg_control"), None));
+    same(
+        &rt,
+        name_of(locate(control)),
+        (Some("global/pg_control"), None),
+    );
     Ok(())
 }
