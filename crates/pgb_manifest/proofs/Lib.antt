@@ -19,6 +19,6 @@ pub mod Clustered
 pub mod Valued
 pub mod ReadAt
 pub mod Halves
-pub mod Positions
+pub mod LsnTexts
 pub mod Headed
 pub mod HeadForms

@@ -1,7 +1,7 @@
 use Rattle.std.proofs.Common.{ℕ, List, sym, ◌∙◌, subst}
 use Rattle.pgb_model.specs.ManifestText.{lsn_text}
 use Rattle.pgb_wal.specs.Lsn.{IsLsn}
-use Rattle.pgb_manifest.proofs.Positions.{lsn_is, one_lsn}
+use Rattle.pgb_manifest.proofs.LsnTexts.{lsn_is, one_lsn}
 use Rattle.pgb_manifest.proofs.log.lsn_at.Goals as goal
 
 pub returns-in-Some-clause-read : goal.returns-in-Some-clause-read
