@@ -147,7 +147,7 @@ step k v = refl
 -- the digits that are written of a number of at most so many
 hex_onto : (k j v : ℕ) (acc : Text) → v < top (suc k) → k < j → digits_onto j 16 true v acc ≡ without_zeros (hex_upper (suc k) v) ++ acc
 hex_onto k zero v acc small fuel = absurd (omega arith)
-hex_onto k (suc j) v acc small fuel = by k small fuel (cases_eq (v / 16) 0)
+hex_onto k (suc j) v acc small fuel = by (λ n low more. hex_onto n j (v / 16) (digit_glyph true (v % 16) ∷ acc) low more) k small fuel (cases_eq (v / 16) 0)
   where
     same : digit_glyph true (v % 16) ≡ hex_digit (v % 16)
     same = glyph_is (v % 16) (omega arith)
@@ -158,19 +158,19 @@ hex_onto k (suc j) v acc small fuel = by k small fuel (cases_eq (v / 16) 0)
     first : v / 16 ≡ 0 → digits_onto (suc j) 16 true v acc ≡ hex_digit (v % 16) ∷ acc
     first e = let yes : (v / 16 == 0) ≡ true = grind (arith, nat_tests, e) in ap onto yes ∙ ap (λ (c : ℕ). c ∷ acc) same
 
-    by : (k : ℕ) → v < top (suc k) → k < suc j → (v / 16 ≡ 0) ⊎ (v / 16 ≡ 0 → ⊥) → digits_onto (suc j) 16 true v acc ≡ without_zeros (hex_upper (suc k) v) ++ acc
-    by zero low more (inl e) = first e ∙ sym (ap (λ (t : Text). without_zeros t ++ acc) (one v))
-    by zero low more (inr off) = let bound : v < 16 * 1 = low in let none : v / 16 ≡ 0 = omega (arith, bound) in absurd (off none)
-    by (suc k) low more (inl e) =
+    by : ((n : ℕ) → v / 16 < top (suc n) → n < j → digits_onto j 16 true (v / 16) (digit_glyph true (v % 16) ∷ acc) ≡ without_zeros (hex_upper (suc n) (v / 16)) ++ digit_glyph true (v % 16) ∷ acc) → (k : ℕ) → v < top (suc k) → k < suc j → (v / 16 ≡ 0) ⊎ (v / 16 ≡ 0 → ⊥) → digits_onto (suc j) 16 true v acc ≡ without_zeros (hex_upper (suc k) v) ++ acc
+    by rest zero low more (inl e) = first e ∙ sym (ap (λ (t : Text). without_zeros t ++ acc) (one v))
+    by rest zero low more (inr off) = let bound : v < 16 * 1 = low in let none : v / 16 ≡ 0 = omega (arith, bound) in absurd (off none)
+    by rest (suc k) low more (inl e) =
         let split = step (suc k) v ∙ ap (λ (q : ℕ). hex_upper (suc k) q ++ hex_digit (v % 16) ∷ []) e in
         first e ∙ sym (ap (λ (t : Text). without_zeros t ++ acc) split ∙ ap (λ (t : Text). t ++ acc) (zeros_gone (suc k) (hex_digit (v % 16))))
-    by (suc k) low more (inr off) =
+    by rest (suc k) low more (inr off) =
         let bound : v < 16 * top (suc k) = low in
         let no : (v / 16 == 0) ≡ false = grind (arith, nat_tests, off) in
         let front = hex_upper (suc k) (v / 16) in
         let value = hex_value (suc k) (v / 16) (omega (arith, bound)) in
         let some : 0 < v / 16 = omega (arith, off) in
-        let next = hex_onto k j (v / 16) (digit_glyph true (v % 16) ∷ acc) (omega (arith, bound)) (omega (arith, more)) in
+        let next = rest k (omega (arith, bound)) (omega (arith, more)) in
         let keeps = kept front (hex_digit (v % 16) ∷ []) (subst (λ (n : ℕ). 0 < n) (sym value) some) in
         ap onto no ∙ next ∙ ap (λ (c : ℕ). without_zeros front ++ c ∷ acc) same
         ∙ sym (ap (λ (t : Text). without_zeros t ++ acc) (step (suc k) v) ∙ ap (λ (t : Text). t ++ acc) keeps ∙ append_last (without_zeros front) acc (hex_digit (v % 16)))

@@ -30,11 +30,11 @@ abbrev pub of_head : Head → Manifest
 of_head h = manifest_with h (record { id = 0; system = 0; version = 0; control = 0; catalog = 0 }) (record { bundle = false; delta = false }) [] []
 
 -- what a manifest has at the key is what was read
-abbrev IsSame : Head → Manifest → Text → Type 0
+abbrev pub IsSame : Head → Manifest → Text → Type 0
 IsSame h m key = value_at key (head_fields h) ≡ value_at key (backup_fields m)
 
 -- a manifest has at the key what the text has
-abbrev HasThere : Manifest → List Field → Text → Type 0
+abbrev pub HasThere : Manifest → List Field → Text → Type 0
 HasThere m ks key = value_at key (backup_fields m) ≡ value_at key ks
 
 same_prior : (k : Kind) (o p : Option Label) (ks : List Field) → HasItsPrior k o → HasItsPrior k p → IfSome o IsLabel → option_map label_value o ≡ value_at (codes "backup-prior") ks → IfSome p (λ l. IsLabel l × IsReadAt label_value IsLabel ks (codes "backup-prior") l) → p ≡ o

@@ -22,3 +22,6 @@ pub mod Halves
 pub mod LsnTexts
 pub mod Headed
 pub mod HeadForms
+pub mod PartLists
+pub mod MemberNames
+pub mod KeyLists

@@ -31,7 +31,8 @@ fn add_span(alloc: Global, part: &mut Part, wal: Option<WalPart>) -> Result<(), 
     let start = segment_text(alloc, &wal.span.start)?;
     let stop = segment_text(alloc, &wal.span.stop)?;
     part.add(alloc, "backup-archive-start", Value::String(start))?;
-    part.add(alloc, "backup-archive-stop", Value::String(stop))
+    part.add(alloc, "backup-archive-stop", Value::String(stop))?;
+    Ok(())
 }
 
 // The positions between which it lies.
@@ -47,7 +48,8 @@ fn add_positions(alloc: Global, part: &mut Part, wal: Option<WalPart>) -> Result
     let from = lsn_text(alloc, wal.from)?;
     let to = lsn_text(alloc, wal.to)?;
     part.add(alloc, "backup-lsn-start", Value::String(from))?;
-    part.add(alloc, "backup-lsn-stop", Value::String(to))
+    part.add(alloc, "backup-lsn-stop", Value::String(to))?;
+    Ok(())
 }
 
 fn add_prior(alloc: Global, part: &mut Part, prior: Option<Label>) -> Result<(), NoMemory>
@@ -60,7 +62,8 @@ fn add_prior(alloc: Global, part: &mut Part, prior: Option<Label>) -> Result<(),
         return Ok(());
     };
     let text = label_text(alloc, &label)?;
-    part.add(alloc, "backup-prior", Value::String(text))
+    part.add(alloc, "backup-prior", Value::String(text))?;
+    Ok(())
 }
 
 // The times and the kind, which each manifest has.
@@ -73,7 +76,8 @@ fn add_times(alloc: Global, part: &mut Part, head: &Head) -> Result<(), NoMemory
     let kind = kind_value(alloc, head.kind)?;
     part.add(alloc, "backup-timestamp-start", Value::from(head.start))?;
     part.add(alloc, "backup-timestamp-stop", Value::from(head.stop))?;
-    part.add(alloc, "backup-type", kind)
+    part.add(alloc, "backup-type", kind)?;
+    Ok(())
 }
 
 fn add_size(alloc: Global, part: &mut Part, wal: Option<WalPart>) -> Result<(), NoMemory>
@@ -85,7 +89,8 @@ fn add_size(alloc: Global, part: &mut Part, wal: Option<WalPart>) -> Result<(), 
         return Ok(());
     };
     let size = u64::from(wal.size.0);
-    part.add(alloc, "backup-wal-segment-size", Value::from(size))
+    part.add(alloc, "backup-wal-segment-size", Value::from(size))?;
+    Ok(())
 }
 
 /// The section that tells this of a backup.

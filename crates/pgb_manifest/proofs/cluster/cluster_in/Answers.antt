@@ -15,7 +15,7 @@ use Rattle.pgb_manifest.proofs.cluster.cluster_in.Goals as goal
 pub first_difference-requires-clause-keys : goal.first_difference-requires-clause-keys
 first_difference-requires-clause-keys c =
     let is = ap (map key_of) c.deref.ensures.value ∙ ap (λ (s : Section). s.keys) c.in_ok-expected.ensures in
-    subst (AllByRecursion IsKey) (sym is) (db_rules c.cluster_of.result c.cluster_of.ensures.rules).keys
+    subst (AllByRecursion IsKey) (sym is) (db_rules c.cluster_of-cluster.result c.cluster_of-cluster.ensures.rules).keys
 
 pub first_difference-requires-clause-ordered : goal.first_difference-requires-clause-ordered
 first_difference-requires-clause-ordered c =
@@ -29,7 +29,7 @@ returns-in-Some-clause-fault c =
     let key = c.in-Some.key.now in
     let expected = ap (map key_of) c.deref.ensures.value ∙ ap (λ (s : Section). s.keys) c.in_ok-expected.ensures in
     let differ = subst (λ (xs : List Field). IsFirstDifference xs ks key) expected (rw c.in-Some.is at c.in_ok-key.ensures.some) in
-    let wrong = wrong_cluster ss c.requires ks c.keys_at-keys.ensures.is c.cluster_of.result c.cluster_of.ensures.read key differ in
+    let wrong = wrong_cluster ss c.requires ks c.keys_at-keys.ensures.is c.cluster_of-cluster.result c.cluster_of-cluster.ensures.read key differ in
     form_as c.form.result (codes "backup:db") key (IsManifestForm ss) c.form.ensures (form_of ss (codes "backup:db") key wrong)
 
 pub returns-clause-told : goal.returns-clause-told

@@ -44,19 +44,19 @@ some_read : (ks : List Field) (o : Option WalPart) (w : WalPart) → o ≡ Some 
 some_read ks o w e h = subst (λ (q : Option WalPart). IfSome q (IsLogRead ks)) e h
 
 pub head_part-requires-clause-prior : goal.head_part-requires-clause-prior
-head_part-requires-clause-prior c = earlier (map key_of c.keys_at-keys.result.now) c.head_of.result.prior c.head_of.ensures.prior
+head_part-requires-clause-prior c = earlier (map key_of c.keys_at-keys.result.now) c.head_of-head.result.prior c.head_of-head.ensures.prior
 
 pub first_difference-requires-clause-keys : goal.first_difference-requires-clause-keys
 first_difference-requires-clause-keys c =
     let ks = map key_of c.keys_at-keys.result.now in
-    let h = c.head_of.result in
-    let read = c.head_of.ensures in
+    let h = c.head_of-head.result in
+    let read = c.head_of-head.ensures in
     let is = ap (map key_of) c.deref.ensures.value ∙ ap (λ (s : Section). s.keys) c.in_ok-expected.ensures in
     subst (AllByRecursion IsKey) (sym is) (backup_keys (of_head h) read.label.0 (earlier ks h.prior read.prior) read.start.0 read.stop.0 (sized ks h.wal read.log))
 
 pub first_difference-requires-clause-ordered : goal.first_difference-requires-clause-ordered
 first_difference-requires-clause-ordered c =
-    let h = c.head_of.result in
+    let h = c.head_of-head.result in
     let is = ap (map key_of) c.deref.ensures.value ∙ ap (λ (s : Section). s.keys) c.in_ok-expected.ensures in
     subst IsOrdered (sym is) (backup_order h.wal h.prior (of_head h))
 
@@ -67,25 +67,25 @@ returns-in-Some-clause-fault c =
     let key = c.in-Some.key.now in
     let expected = ap (map key_of) c.deref.ensures.value ∙ ap (λ (s : Section). s.keys) c.in_ok-expected.ensures in
     let differ = subst (λ (xs : List Field). IsFirstDifference xs ks key) expected (rw c.in-Some.is at c.in_ok-key.ensures.some) in
-    let wrong = wrong_head ss c.requires ks c.keys_at-keys.ensures.is c.keys_at-keys.ensures.order c.head_of.result c.head_of.ensures key differ in
+    let wrong = wrong_head ss c.requires ks c.keys_at-keys.ensures.is c.keys_at-keys.ensures.order c.head_of-head.result c.head_of-head.ensures key differ in
     form_as c.form.result (codes "backup") key (IsManifestForm ss) c.form.ensures (form_of ss (codes "backup") key wrong)
 
 pub returns-then-not-has_span-clause-fault : goal.returns-then-not-has_span-clause-fault
 returns-then-not-has_span-clause-fault c =
     let ss = sections_of c.args.parts.now in
     let ks = map key_of c.keys_at-keys.result.now in
-    let h = c.head_of.result in
+    let h = c.head_of-head.result in
     let expected = ap (map key_of) c.deref.ensures.value ∙ ap (λ (s : Section). s.keys) c.in_ok-expected.ensures in
-    let same = sym expected ∙ (rw c.in-None.is at c.in_ok-key.ensures.none) in
+    let same = sym expected ∙ (rw c.in_default.is at c.in_ok-key.ensures.none) in
     let (w, is, off) = c.has_span.ensures.other c.if-not-has_span.true in
-    let wrong = wrong_log ss c.requires ks c.keys_at-keys.ensures.is c.keys_at-keys.ensures.order h same w is (some_read ks h.wal w is c.head_of.ensures.log) off in
-    form_as c.form.result (codes "backup") (codes "backup-wal-segment-size") (IsManifestForm ss) c.form.ensures (form_of ss (codes "backup") (codes "backup-wal-segment-size") wrong)
+    let wrong = wrong_log ss c.requires ks c.keys_at-keys.ensures.is c.keys_at-keys.ensures.order h same w is (some_read ks h.wal w is c.head_of-head.ensures.log) off in
+    form_as c.form-then-not-has_span.result (codes "backup") (codes "backup-wal-segment-size") (IsManifestForm ss) c.form-then-not-has_span.ensures (form_of ss (codes "backup") (codes "backup-wal-segment-size") wrong)
 
 pub returns-clause-rules : goal.returns-clause-rules
 returns-clause-rules c =
     let ks = map key_of c.keys_at-keys.result.now in
-    let h = c.head_of.result in
-    let read = c.head_of.ensures in
+    let h = c.head_of-head.result in
+    let read = c.head_of-head.ensures in
     record {
       label = read.label.0;
       kind = read.kind;
@@ -99,8 +99,8 @@ pub returns-clause-told : goal.returns-clause-told
 returns-clause-told c =
     let ss = sections_of c.args.parts.now in
     let expected = ap (map key_of) c.deref.ensures.value ∙ ap (λ (s : Section). s.keys) c.in_ok-expected.ensures in
-    let same = sym expected ∙ (rw c.in-None.is at c.in_ok-key.ensures.none) in
+    let same = sym expected ∙ (rw c.in_default.is at c.in_ok-key.ensures.none) in
     λ cluster o fs ps. subst (IsKeysOf ss (codes "backup")) (sym same) c.keys_at-keys.ensures.is
 
 pub has_span-requires : goal.has_span-requires
-has_span-requires c = sized (map key_of c.keys_at-keys.result.now) c.head_of.result.wal c.head_of.ensures.log
+has_span-requires c = sized (map key_of c.keys_at-keys.result.now) c.head_of-head.result.wal c.head_of-head.ensures.log
