@@ -1,9 +1,18 @@
 -- Keys that are added one after another.
-use Rattle.std.proofs.Common.{◌≡◌, List, [], ◌∷◌, ◌++◌, refl, ap, ap₂, ◌∙◌, append_assoc}
-use Rattle.serde_json.specs.Data.{Data}
+use Rattle.std.proofs.Common.{◌≡◌, List, [], ◌∷◌, ◌++◌, String, Global, string_bytes, ap, ap₂, ◌∙◌, append_assoc, rules}
+use Rattle.serde_json.specs.Data.{Data, string}
+use Rattle.serde_json.specs.View.{view}
+use Rattle.serde_json.specs.declared.value.Value.{String as Worded, the_lemmas}
 use Rattle.pgb_model.specs.Text.{Text}
 use Rattle.pgb_model.specs.InfoText.{Section}
 use Rattle.pgb_model.specs.Fields.{Field}
+
+own_text : (s : String Global) → view (Worded s) ≡ string (string_bytes s)
+own_text s = search (rules, the_lemmas)
+
+-- the value of a text is that of the text that it is equal to
+pub text_value : (s : String Global) (t : Text) → string_bytes s ≡ t → view (Worded s) ≡ string t
+text_value s t is = own_text s ∙ ap (λ (x : Text). string x) is
 
 pub one_key : (old new : List Field) (k : Text) (d e : Data) → new ≡ old ++ (k, d) ∷ [] → d ≡ e → new ≡ old ++ (k, e) ∷ []
 one_key old new k d e is value = is ∙ ap (λ (x : Data). old ++ (k, x) ∷ []) value
