@@ -1,5 +1,5 @@
 -- Where the bytes of a manifest's file lie, as a program tells it.
-use Rattle.std.specs.Prelude.{ℕ, string_bytes}
+use Rattle.std.specs.Prelude.{ℕ}
 use Rattle.pgb_model.specs.declared.labels.Label.{Label}
 use Rattle.pgb_model.specs.Text.{Text}
 use Rattle.pgb_model.specs.Names.{file_name, bundle_name}

@@ -1,4 +1,4 @@
-use Rattle.std.proofs.Common.{◌≡◌, List, String, Global, map, string_bytes, refl, sym, ap, ◌∙◌, subst}
+use Rattle.std.proofs.Common.{List, String, Global, map, string_bytes, sym, ap, ◌∙◌, subst}
 use Rattle.std.specs.Prelude.{IfSome, Bool}
 use Rattle.std.specs.List.{AllByRecursion}
 use Rattle.pgb_model.specs.declared.files.FileEntry as rust

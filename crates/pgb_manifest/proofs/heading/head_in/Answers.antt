@@ -1,5 +1,5 @@
-use Rattle.std.proofs.Common.{◌≡◌, List, Option, Some, None, map, refl, sym, ap, ◌∙◌, subst}
-use Rattle.std.specs.Prelude.{codes, IfSome, true}
+use Rattle.std.proofs.Common.{◌≡◌, List, Option, Some, None, map, sym, ap, ◌∙◌, subst}
+use Rattle.std.specs.Prelude.{codes, IfSome}
 use Rattle.std.specs.List.{AllByRecursion}
 use Rattle.pgb_model.specs.declared.labels.Label.{Label}
 use Rattle.pgb_model.specs.declared.wal.WalPart.{WalPart}
@@ -10,7 +10,6 @@ use Rattle.pgb_model.specs.ManifestText.{IsSegSize, IsWalPart}
 use Rattle.pgb_ini.specs.Parts.{key_of, sections_of}
 use Rattle.pgb_keys.specs.Agree.{IsKeysOf, IsFirstDifference, IsOrdered}
 use Rattle.pgb_keys.proofs.Forms.{form_as}
-use Rattle.pgb_manifest.specs.Head.{head_fields}
 use Rattle.pgb_manifest.specs.ManifestForm.{IsManifestForm}
 use Rattle.pgb_manifest.specs.Read.{IsReadAt, IsLogRead, IsSpanOf}
 use Rattle.pgb_manifest.proofs.HeadForms.{wrong_head, wrong_log}

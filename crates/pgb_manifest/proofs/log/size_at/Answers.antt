@@ -1,4 +1,4 @@
-use Rattle.std.proofs.Common.{◌≡◌, ℕ, map, refl, sym, ◌∙◌, subst, lit≤}
+use Rattle.std.proofs.Common.{map, refl, sym, ◌∙◌, subst, lit≤}
 use Rattle.pgb_model.specs.Fields.{whole}
 use Rattle.pgb_model.specs.ManifestText.{IsSegSize}
 use Rattle.pgb_ini.specs.Parts.{key_of}
