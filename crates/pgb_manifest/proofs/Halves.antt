@@ -1,10 +1,11 @@
 -- The digits of half a position.
-use Rattle.std.proofs.Common.{◌≡◌, ℕ, zero, suc, ◌+◌, ◌-◌, ◌*◌, ◌/◌, ◌%◌, ◌<◌, ◌≤◌, ◌^◌, ◌==◌, ◌⊎◌, inl, inr, Bool, true, false, if◌then◌else◌, [], ◌∷◌, ◌++◌, length, refl, sym, ap, ◌∙◌, subst, arith}
+use Rattle.std.proofs.Common.{◌≡◌, ℕ, zero, suc, ◌+◌, ◌-◌, ◌*◌, ◌/◌, ◌%◌, ◌<◌, ◌≤◌, ◌^◌, ◌==◌, ◌⊎◌, inl, inr, Bool, true, false, if◌then◌else◌, [], ◌∷◌, ◌++◌, length, refl, sym, ap, ◌∙◌, subst, arith, append_assoc}
 use Rattle.std.specs.Char.{digit_value}
 use Rattle.std.specs.Str.Parse.{AllDigits, digits_value}
 use Rattle.std.specs.Fmt.{digits, digits_onto, digit_glyph}
 use Rattle.std.proofs.lemmas.Bool.{cases_eq, cases_lt}
 use Rattle.std.proofs.lemmas.Bool.Decides.{nat_tests}
+use Rattle.std.proofs.lemmas.List.{append-nil}
 use Rattle.std.proofs.lemmas.Int.Digits.{digits_value_push}
 use Rattle.pgb_model.specs.Text.{Text, hex_digit, hex_upper, without_zeros}
 use Rattle.pgb_wal.specs.Lsn.{IsHalf}
@@ -132,10 +133,6 @@ kept (c ∷ d ∷ ds) ys h = elim (cases_eq c 48) [
   | inr off ↦ let is_not : (c == 48) ≡ false = grind (arith, nat_tests, off) in rw is_not refl
 ]
 
-append_last : (xs ys : Text) (c : ℕ) → (xs ++ c ∷ []) ++ ys ≡ xs ++ c ∷ ys
-append_last [] ys c = refl
-append_last (x ∷ xs) ys c = ap (λ (t : Text). x ∷ t) (append_last xs ys c)
-
 one : (v : ℕ) → hex_upper 1 v ≡ hex_digit (v % 16) ∷ []
 unfolding hex_upper
 one v = refl
@@ -173,12 +170,8 @@ hex_onto k (suc j) v acc small fuel = by (λ n low more. hex_onto n j (v / 16) (
         let next = rest k (omega (arith, bound)) (omega (arith, more)) in
         let keeps = kept front (hex_digit (v % 16) ∷ []) (subst (λ (n : ℕ). 0 < n) (sym value) some) in
         ap onto no ∙ next ∙ ap (λ (c : ℕ). without_zeros front ++ c ∷ acc) same
-        ∙ sym (ap (λ (t : Text). without_zeros t ++ acc) (step (suc k) v) ∙ ap (λ (t : Text). t ++ acc) keeps ∙ append_last (without_zeros front) acc (hex_digit (v % 16)))
-
-append_none : (xs : Text) → xs ++ [] ≡ xs
-append_none [] = refl
-append_none (x ∷ xs) = ap (λ (t : Text). x ∷ t) (append_none xs)
+        ∙ sym (ap (λ (t : Text). without_zeros t ++ acc) (step (suc k) v) ∙ ap (λ (t : Text). t ++ acc) keeps ∙ append_assoc (without_zeros front) (hex_digit (v % 16) ∷ []) acc)
 
 pub written : (v : ℕ) → v < 2 ^ 32 → digits 16 true v ≡ half v
 unfolding digits
-written v h = let e : top 8 ≡ 4294967296 = refl in hex_onto 7 64 v [] (omega (arith, e)) (omega arith) ∙ append_none (half v)
+written v h = let e : top 8 ≡ 4294967296 = refl in hex_onto 7 64 v [] (omega (arith, e)) (omega arith) ∙ append-nil (half v)

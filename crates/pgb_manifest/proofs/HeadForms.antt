@@ -26,7 +26,7 @@ use Rattle.pgb_manifest.specs.Wrong.{At, IsWrongAt}
 use Rattle.pgb_manifest.proofs.Agreements.{agree_keys}
 use Rattle.pgb_manifest.proofs.ManifestRules.{manifest_is_info, backup_order}
 use Rattle.pgb_manifest.proofs.Named.{fields_with, backup_at}
-use Rattle.pgb_manifest.proofs.Valued.{value_at, agree_values, wrong_value, start_at, stop_at, size_at}
+use Rattle.pgb_manifest.proofs.Valued.{none_data, some_data, value_at, agree_values, wrong_value, start_at, stop_at, size_at}
 use Rattle.pgb_manifest.proofs.Headed.{of_head, IsSame, HasThere, first_read, last_read, label_read, type_read, prior_read, start_read, stop_read, from_read, to_read, size_read}
 
 abbrev head_keys : List Text
@@ -108,12 +108,6 @@ module _ (ss : List Section) (info : IsInfo ss) (ks : List Field) (of : IsKeysOf
 
 -- ---- segments that don't fit together
 
-no_data : (d : Data) → ◌≡◌ {A = Option Data} None (Some d) → ⊥
-no_data d e = cc
-
-some_data : (d e : Data) → ◌≡◌ {A = Option Data} (Some d) (Some e) → d ≡ e
-some_data d e h = cc
-
 one_segment : (s t : Segment) → IsSegment s → IsSegment t → ◌≡◌ {A = Option Data} (Some (segment_value s)) (Some (segment_value t)) → s ≡ t
 one_segment s t h g e = same_segment s t h g (let x : segment_text s ≡ segment_text t = cc in x)
 
@@ -128,7 +122,7 @@ span_as n k s t size start stop h =
 no_part : (w : WalPart) → IsSegment w.span.start → IsSegment w.span.stop → ¬ IsSpanOf w.size.0 w.span → (q : Option WalPart) → IfSome q IsWalPart
     → option_map (λ (x : WalPart). whole x.size.0) q ≡ Some (whole w.size.0) → option_map (λ (x : WalPart). segment_value x.span.start) q ≡ Some (segment_value w.span.start)
     → option_map (λ (x : WalPart). segment_value x.span.stop) q ≡ Some (segment_value w.span.stop) → ⊥
-no_part w first last off None part size start stop = no_data (whole w.size.0) size
+no_part w first last off None part size start stop = none_data (whole w.size.0) size
 no_part w first last off (Some v) part size start stop =
     let own : IsSpanOf v.size.0 v.span = record { start = part.start.1; stop = part.stop.1; timeline = part.timeline; order = part.order; short = part.short } in
     off (span_as v.size.0 w.size.0 v.span w.span (same_number v.size.0 w.size.0 (some_data (whole v.size.0) (whole w.size.0) size)) (one_segment v.span.start w.span.start part.start.0 first start) (one_segment v.span.stop w.span.stop part.stop.0 last stop) own)

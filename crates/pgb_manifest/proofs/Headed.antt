@@ -16,10 +16,7 @@ use Rattle.pgb_keys.specs.Agree.{IsOrdered}
 use Rattle.pgb_manifest.specs.declared.head.Head.{Head}
 use Rattle.pgb_manifest.specs.Head.{head_fields, manifest_with}
 use Rattle.pgb_manifest.specs.Read.{IsReadAt, IsLogRead, IsHeadRead}
-use Rattle.pgb_manifest.proofs.Valued.{value_at, value_in, in_value, start_at, stop_at, label_at, from_at, to_at, prior_at, first_at, last_at, type_at, size_at}
-
-no_data : (d : Data) → ◌≡◌ {A = Option Data} None (Some d) → ⊥
-no_data d e = cc
+use Rattle.pgb_manifest.proofs.Valued.{none_data, value_at, value_in, in_value, start_at, stop_at, label_at, from_at, to_at, prior_at, first_at, last_at, type_at, size_at}
 
 -- what is read at a key, where a value of its kind stands there
 read_value : {X : Type 0} (value : X → Data) (IsOne : X → Type 0) (ks : List Field) (key : Text) (x y : X) → IsReadAt value IsOne ks key x → IsOne y → Some (value y) ≡ value_at key ks → x ≡ y
@@ -90,7 +87,7 @@ module _ (ks : List Field) (h : Head) (read : IsHeadRead ks h) (m : Manifest) (r
       → (q : Option WalPart) → IfSome q IsWalPart → option_map (λ (w : WalPart). segment_value w.span.start) q ≡ value_at (codes "backup-archive-start") ks → option_map f q ≡ value_at key ks → option_map f o ≡ option_map f q
   log_value order key f one None log none None part start at = refl
   log_value order key f one None log none (Some v) part start at = absurd (none (segment_value v.span.start) (value_in (codes "backup-archive-start") ks (segment_value v.span.start) (sym start)))
-  log_value order key f one (Some w) log none None part start at = absurd (no_data log.there.0 (start ∙ in_value (codes "backup-archive-start") ks order log.there.0 log.there.1))
+  log_value order key f one (Some w) log none None part start at = absurd (none_data log.there.0 (start ∙ in_value (codes "backup-archive-start") ks order log.there.0 log.there.1))
   log_value order key f one (Some w) log none (Some v) part start at = ap (λ (d : Data). Some d) (one w v log part at)
 
   module _ (order : IsOrdered ks) (there : HasThere m ks (codes "backup-archive-start")) where

@@ -24,10 +24,10 @@ abbrev pub value_at : Text → List Field → Option Data
 value_at key [] = None
 value_at key (k ∷ ks) = if bytes_eq key k.0 then Some k.1 else value_at key ks
 
-some_data : (d e : Data) → ◌≡◌ {A = Option Data} (Some d) (Some e) → d ≡ e
+pub some_data : (d e : Data) → ◌≡◌ {A = Option Data} (Some d) (Some e) → d ≡ e
 some_data d e h = cc
 
-none_data : (d : Data) → ◌≡◌ {A = Option Data} None (Some d) → ⊥
+pub none_data : (d : Data) → ◌≡◌ {A = Option Data} None (Some d) → ⊥
 none_data d h = cc
 
 pub value_in : (key : Text) (ks : List Field) (d : Data) → value_at key ks ≡ Some d → In (key, d) ks

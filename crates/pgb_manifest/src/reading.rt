@@ -142,6 +142,7 @@ pub(crate) fn manifest_in(alloc: Global, parts: &[Part]) -> Result<Manifest, Par
     ensures valid { IfOk result (λ m. IsManifest (manifest_of m)) }
     ensures fault { IfErr result (λ e. IfForm e (IsManifestForm (sections_of parts.now))) }
 {
+    check_names(alloc, parts)?;
     let head = head_in(alloc, parts)?;
     let cluster = cluster_in(alloc, parts)?;
     let choices = choices_in(alloc, parts, head.wal.is_some())?;
@@ -149,7 +150,6 @@ pub(crate) fn manifest_in(alloc: Global, parts: &[Part]) -> Result<Manifest, Par
     check_sizes(alloc, parts, &files)?;
     let folders = folders_in(alloc, parts)?;
     check_paths(alloc, parts, &files, &folders)?;
-    check_names(alloc, parts)?;
     Ok(Manifest {
         label: head.label,
         kind: head.kind,
