@@ -16,7 +16,8 @@ use Rattle.pgb_options.specs.Faults.{Fault, ◌>>=◌}
 use Rattle.pgb_table.specs.Table.{row, stanza as stanza_kind}
 use Rattle.pgb_table.specs.Values.{is_stanza, is_stanza_byte, value_of, text_where}
 use Rattle.pgb_options.specs.Words.{Words, read_words}
-use Rattle.pgb_options.specs.Settings.{Source, Settled, settle, settled_words, settled, source_of, sections_of, configured, accepted, command_of, each_is_for, stanza_of, value_given, value_configured, none_wrong, none_lacking, refused, is_wrong, is_for, in_force, value}
+use Rattle.pgb_table.specs.Table.{is_for}
+use Rattle.pgb_options.specs.Settings.{Source, Settled, settle, settled_words, settled, source_of, sections_of, configured, accepted, command_of, each_is_for, stanza_of, value_given, value_configured, none_wrong, none_lacking, refused, is_wrong, in_force, value}
 use Rattle.pgb_stored.specs.Paths.{Lacks}
 use Rattle.pgb_archive.proofs.PathLies.{lacks_not}
 use Rattle.pgb_story.specs.Beside.{IsStanza}

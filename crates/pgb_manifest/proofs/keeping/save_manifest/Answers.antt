@@ -1,0 +1,19 @@
+use Rattle.std.proofs.Common.{◌∙◌}
+use Rattle.pgb_outside.proofs.Crashes.{crash_none}
+use Rattle.pgb_model.specs.Create.{member_writes}
+use Rattle.pgb_model.specs.Values.{manifest_of}
+use Rattle.pgb_manifest.specs.Keeping.{manifest_text, own_name}
+use Rattle.pgb_manifest.proofs.MemberNames.{manifest_named}
+use Rattle.pgb_manifest.proofs.keeping.save_manifest.Goals as goal
+
+pub returns-in_err-name-clause-crash : goal.returns-in_err-name-clause-crash
+returns-in_err-name-clause-crash g c = λ main copy. crash_none (member_writes (own_name c.args.stanza.now c.args.m.now) (manifest_text (manifest_of c.args.m.now))) _
+
+pub returns-in_err-text-clause-crash : goal.returns-in_err-text-clause-crash
+returns-in_err-text-clause-crash g c = λ main copy. crash_none (member_writes (own_name c.args.stanza.now c.args.m.now) (manifest_text (manifest_of c.args.m.now))) _
+
+pub returns-then-length-gt-LIMIT-clause-crash : goal.returns-then-length-gt-LIMIT-clause-crash
+returns-then-length-gt-LIMIT-clause-crash g c = λ main copy. crash_none (member_writes (own_name c.args.stanza.now c.args.m.now) (manifest_text (manifest_of c.args.m.now))) _
+
+pub save_text-requires : goal.save_text-requires
+save_text-requires g c = manifest_named c.args.stanza.now c.args.m.now.label _ (c.as_str.ensures.value ∙ c.in_ok-name.ensures)
