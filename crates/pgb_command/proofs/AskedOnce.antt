@@ -7,7 +7,7 @@ use Rattle.pgb_options.specs.Faults.{Fault}
 use Rattle.pgb_options.specs.Paths.{Path, nowhere, usual, named}
 use Rattle.pgb_options.specs.Settings.{Settled, settled_words}
 use Rattle.pgb_create.specs.Server.{Server}
-use Rattle.pgb_command.specs.Asked.{MayHave, Settles, Request, Asked, IsAsked, MayAsk}
+use Rattle.pgb_command.specs.Asked.{MayHave, WordsSettle, Request, Asked, IsAsked, MayAsk}
 
 pub ok_same : {X Y : Type 0} (a b : X) → ◌≡◌ {A = Result X Y} (Ok a) (Ok b) → a ≡ b
 ok_same a b e = cc
@@ -17,7 +17,7 @@ one_text f nowhere a b p q = p ∙ sym q
 one_text f (usual path) a b p q = sym p ∙ q
 one_text f (named path) a b p q = let e : ◌≡◌ {A = Option Text} (Some a) (Some b) = sym p ∙ q in cc
 
-pub one_settling : (words : List Text) (f : Content) (x y : Result Settled Fault) → Settles words (Some f) x → Settles words (Some f) y → x ≡ y
+pub one_settling : (words : List Text) (f : Content) (x y : Result Settled Fault) → WordsSettle words (Some f) x → WordsSettle words (Some f) y → x ≡ y
 one_settling words f x y p q =
     let path : p.path ≡ q.path = ok_same p.path q.path (sym p.is_path ∙ q.is_path) in
     let text : p.bytes ≡ q.bytes = one_text f q.path p.bytes q.bytes (subst (λ (a : Path). MayHave (Some f) a p.bytes) path p.has) q.has in

@@ -19,7 +19,7 @@ use Rattle.pgb_command.specs.declared.fault.CommandFault.TheVariants.{Create, Pu
 use Rattle.pgb_command.specs.declared.fault.Fault.{Fault}
 use Rattle.pgb_command.specs.declared.fault.Fault.TheVariants.{Usage, Stage, Command as OfCommand, Failed as ObjectFailed, NoMemory}
 use Rattle.pgb_command.specs.Answers.{Ending, status, answer_of}
-use Rattle.pgb_command.specs.Asked.{Asked, Settles, IsAsked, requested}
+use Rattle.pgb_command.specs.Asked.{Asked, WordsSettle, IsAsked, requested}
 use Rattle.pgb_command.specs.Configuring.{ConfigCause}
 use Rattle.pgb_command.specs.Causes.{IsAnswered, Obeys, Answers}
 use Rattle.pgb_command.specs.Did.{IsIdle, Did, ComesBehind, Brackets, Cause, Closes, ArePlacesOpened}
@@ -178,7 +178,7 @@ obeys_from s b k i n files le (inl x) = inl (
 obeys_from s b k i n files le (inr x) = inr (x.0, x.1, idle_from b k i x.2, answered_from s.warnings b k i (Err (Stage (NotBuilt x.0))) n x.3)
 
 -- what was settled is carried out
-pub runs_on : (words : List Text) (b k : Seen) (i : SourceState) (n : ℕ) (c : Command) → i.files ≡ b.config.files → b.config.faults ≤ i.faults → ((s : Settled) × Settles words b.config.files (Ok s) × IsCommand c s) →
+pub runs_on : (words : List Text) (b k : Seen) (i : SourceState) (n : ℕ) (c : Command) → i.files ≡ b.config.files → b.config.faults ≤ i.faults → ((s : Settled) × WordsSettle words b.config.files (Ok s) × IsCommand c s) →
     ((s : Settled) → IsCommand c s → Obeys s (record b { config = i }) k n) → Answers words b k n
 runs_on words b k i n c files le x obeys = inr (x.0, x.1, obeys_from x.0 b k i n files le (obeys x.0 x.2))
 

@@ -9,12 +9,12 @@ use Rattle.pgb_options.specs.Paths.{Path, path_of_words}
 use Rattle.pgb_options.specs.Settings.{settled_words}
 use Rattle.pgb_options.specs.Views.{Fails}
 use Rattle.pgb_command.specs.declared.fault.Fault.{Fault}
-use Rattle.pgb_command.specs.Asked.{config_limit, MayHave, Settles}
+use Rattle.pgb_command.specs.Asked.{config_limit, MayHave, WordsSettle}
 use Rattle.pgb_command.specs.Configuring.{ConfigCause}
 use Rattle.pgb_command.specs.Faults.{of_usage}
 
 module _ (words : List Text) (files : Option Content) (rose : Type 0) (path : Path) (is_path : path_of_words words ≡ Ok path) (bytes : Text) (has : MayHave files path bytes) (fits : length bytes ≤ config_limit) where
-  settling : Settles words files (settled_words words bytes)
+  settling : WordsSettle words files (settled_words words bytes)
   settling = record { path = path; is_path = is_path; bytes = bytes; has = has; fits = fits; settled = refl }
 
   refused : (u : Usage) → Fails u (settled_words words bytes) → ConfigCause words files rose (of_usage u)

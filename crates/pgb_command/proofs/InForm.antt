@@ -21,7 +21,7 @@ use Rattle.pgb_options.specs.Settings.{Source, Settled, settle, settled_words, s
 use Rattle.pgb_stored.specs.Paths.{Lacks}
 use Rattle.pgb_archive.proofs.PathLies.{lacks_not}
 use Rattle.pgb_story.specs.Beside.{IsStanza}
-use Rattle.pgb_command.specs.Asked.{Settles, Asked, MayAsk}
+use Rattle.pgb_command.specs.Asked.{WordsSettle, Asked, MayAsk}
 use Rattle.pgb_command.proofs.AskedOnce.{ok_same}
 
 -- ---- what succeeds in steps succeeds in each
@@ -77,7 +77,7 @@ right_is s stanza is right = go (is_stanza stanza) refl
     go true e = e
     go false e =
         let wrong : is_wrong s Stanza ≡ true =
-            ap (λ (o : Option Text). is_some o && is_none (option_and_then (value_of stanza_kind) o)) is ∙ ap (λ (b : Bool). is_none (text_where b stanza)) e in
+        ap (λ (o : Option Text). is_some o && is_none (option_and_then (value_of stanza_kind) o)) is ∙ ap (λ (b : Bool). is_none (text_where b stanza)) e in
         let u : ◌≡◌ {A = Bool} false true = sym right ∙ wrong in cc
 
 -- ---- what settles

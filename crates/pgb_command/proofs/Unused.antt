@@ -9,7 +9,7 @@ use Rattle.pgb_table.specs.declared.table.Opt.TheVariants.{Pg1Path, Repo1Path, L
 use Rattle.pgb_options.specs.Commands.{IsCommand}
 use Rattle.pgb_options.specs.Settings.{Settled}
 use Rattle.pgb_stage.specs.declared.fault.Unbuilt.{Unbuilt}
-use Rattle.pgb_command.specs.Asked.{Request, report, Asked, Settles, IsAsked, MayAsk, Asks, path_in, requested, server_asked}
+use Rattle.pgb_command.specs.Asked.{Request, report, Asked, WordsSettle, IsAsked, MayAsk, Asks, path_in, requested, server_asked}
 use Rattle.pgb_command.proofs.AskedOnce.{ok_same, one_settling}
 
 -- what settled words ask for
@@ -19,7 +19,7 @@ asked_in s request = record { stanza = s.stanza; data_folder = path_in s.source 
 is_asked : (s : Settled) (request : Request) → requested s ≡ Ok request → IsAsked s (asked_in s request)
 is_asked s request is = record { stanza = refl; data_folder = refl; repository = refl; lock_folder = refl; server = refl; request = is }
 
-module _ (words : List Text) (files : Option Content) (c : Command) (x : (s : Settled) × Settles words files (Ok s) × IsCommand c s) where
+module _ (words : List Text) (files : Option Content) (c : Command) (x : (s : Settled) × WordsSettle words files (Ok s) × IsCommand c s) where
   asks : (request : Request) → requested x.0 ≡ Ok request → MayAsk words files (asked_in x.0 request)
   asks request is = record { settings = x.0; settles = x.1; is = is_asked x.0 request is }
 
@@ -46,7 +46,7 @@ module _ (words : List Text) (files : Option Content) (c : Command) (x : (s : Se
       same : IsSome files → (m : MayAsk words files a) → m.settings ≡ x.0
       same some m = go files some m.settles x.1
         where
-          go : (o : Option Content) → IsSome o → Settles words o (Ok m.settings) → Settles words o (Ok x.0) → m.settings ≡ x.0
+          go : (o : Option Content) → IsSome o → WordsSettle words o (Ok m.settings) → WordsSettle words o (Ok x.0) → m.settings ≡ x.0
           go None some p q = cc
           go (Some f) some p q = ok_same m.settings x.0 (one_settling words f (Ok m.settings) (Ok x.0) p q)
 

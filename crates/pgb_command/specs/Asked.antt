@@ -28,7 +28,7 @@ MayHave files (usual path) bytes = IfSome files (λ f. or_else [] (f path) ≡ b
 MayHave files (named path) bytes = IfSome files (λ f. f path ≡ Some bytes)
 
 -- what the words and their configuration settle: settings, or the first fault
-pub record Settles (words : List Text) (files : Option Content) (read : Result Settled Fault) : Type 0 where
+pub record WordsSettle (words : List Text) (files : Option Content) (read : Result Settled Fault) : Type 0 where
   pub path : Path
   pub is_path : path_of_words words ≡ Ok path
   pub bytes : Text
@@ -103,7 +103,7 @@ pub record IsAsked (s : Settled) (a : Asked) : Type 0 where
 -- the words ask for this, as far as the configuration is told
 pub record MayAsk (words : List Text) (files : Option Content) (a : Asked) : Type 0 where
   pub settings : Settled
-  pub settles : Settles words files (Ok settings)
+  pub settles : WordsSettle words files (Ok settings)
   pub is : IsAsked settings a
 
 -- the words ask for this

@@ -16,7 +16,7 @@ use Rattle.pgb_command.specs.declared.fault.Fault.{Fault}
 use Rattle.pgb_command.specs.declared.fault.Fault.TheVariants.{Stage, NoMemory}
 use Rattle.pgb_create.specs.Talking.{Ended, IsServerRefusal}
 use Rattle.pgb_command.specs.Answers.{Ending, status, ending_of, answer_of, lines_of}
-use Rattle.pgb_command.specs.Asked.{Asked, MayAsk, Asks, Settles, IsAsked, requested}
+use Rattle.pgb_command.specs.Asked.{Asked, MayAsk, Asks, WordsSettle, IsAsked, requested}
 use Rattle.pgb_command.specs.Configuring.{ConfigCause}
 use Rattle.pgb_command.specs.Did.{IsIdle, Did, ComesBehind, Brackets, Cause, OnReady, LastsAfter, ArePlacesOpened, TakesAll}
 use Rattle.pgb_command.specs.Output.{IsTold}
@@ -53,7 +53,7 @@ Obeys s before after result = ((a : Asked) × IsAsked s a × Carries a s.warning
 -- The words are refused, or they settle a command, which is obeyed.
 abbrev pub Answers : List Text → Seen → Seen → ℕ → Type 0
 Answers words before after result = Refuses words before after result
-    ⊎ ((s : Settled) × Settles words before.config.files (Ok s) × Obeys s before after result)
+    ⊎ ((s : Settled) × WordsSettle words before.config.files (Ok s) × Obeys s before after result)
 
 -- ---- what follows for a command that is asked for
 
@@ -111,7 +111,7 @@ pub record LeavesRest (a : Asked) (before after : Seen) : Type 0 where
 -- Where no cause of a refusal holds, what is asked for is built, and the output didn't fail, the answer is Ok, or that the file isn't there, or want of memory.
 abbrev pub Completes : List Text → Seen → Seen → ℕ → Type 0
 Completes words before after result = ((fault : Fault) → fault ≢ NoMemory → ¬ ConfigCause words before.config.files (Failed before after Config) fault)
-    → ((s : Settled) (what : Unbuilt) → Settles words before.config.files (Ok s) → requested s ≢ Err what)
+    → ((s : Settled) (what : Unbuilt) → WordsSettle words before.config.files (Ok s) → requested s ≢ Err what)
     → ((a : Asked) (fault : Fault) → MayAsk words before.config.files a → fault ≢ NoMemory → ¬ Cause a before after fault)
     → ¬ Failed before after Output → (result ≤ 1) ⊎ (result ≡ 90)
 

@@ -11,7 +11,7 @@ use Rattle.pgb_stage.specs.declared.fault.StageFault.{StageFault}
 use Rattle.pgb_stage.specs.declared.fault.StageFault.TheVariants.{ConfigMissing, ConfigLong}
 use Rattle.pgb_command.specs.declared.fault.Fault.{Fault}
 use Rattle.pgb_command.specs.declared.fault.Fault.TheVariants.{Usage, Stage, Command, Failed, NoMemory}
-use Rattle.pgb_command.specs.Asked.{config_limit, Settles}
+use Rattle.pgb_command.specs.Asked.{config_limit, WordsSettle}
 
 -- the path of a configuration that is read
 abbrev pub IsPathOf : Path → Text → Type 0
@@ -36,7 +36,7 @@ FileCause words files other = ⊥
 
 -- what the words say of the configuration is refused, or what the two settle is, or the configuration can't be had
 abbrev pub ConfigCause : List Text → Option Content → Type 0 → Fault → Type 0
-ConfigCause words files rose (Usage usage) = Fails usage (path_of_words words) ⊎ ((read : Result Settled Refusal) × Settles words files read × Fails usage read)
+ConfigCause words files rose (Usage usage) = Fails usage (path_of_words words) ⊎ ((read : Result Settled Refusal) × WordsSettle words files read × Fails usage read)
 ConfigCause words files rose (Stage fault) = FileCause words files fault
 ConfigCause words files rose (Command fault) = ⊥
 ConfigCause words files rose (Failed object) = (object ≡ Config) × rose

@@ -5,7 +5,7 @@ ghost use Rattle.pgb_outside.specs.Cause.{HasCause, Rises};
 ghost use Rattle.pgb_options.specs.Commands.{IsCommand};
 ghost use Rattle.pgb_options.specs.Paths.{Path, path_of_words};
 ghost use Rattle.pgb_options.specs.Settings.{Settled};
-ghost use Rattle.pgb_command.specs.Asked.{MayHave, Settles, config_limit};
+ghost use Rattle.pgb_command.specs.Asked.{MayHave, WordsSettle, config_limit};
 ghost use Rattle.pgb_stage.specs.declared.object.Object.TheVariants.{Config as TheConfig};
 ghost use Rattle.pgb_stage.specs.Halts.{halt_of};
 ghost use Rattle.pgb_command.specs.declared.fault.Fault.TheVariants.{Stage};
@@ -121,7 +121,7 @@ pub(crate) fn read_command<I: Source>(
     config: &mut I,
 ) -> Result<Command, Fault>
     ensures command { IfOk result (λ c. (s : Settled) ×
-        Settles (map string_bytes words.now) (I.files config.old) (Ok s) × IsCommand c s) }
+        WordsSettle (map string_bytes words.now) (I.files config.old) (Ok s) × IsCommand c s) }
     ensures cause { IfErr result (ConfigCause (map string_bytes words.now) (I.files config.old)
         (Rises (I.faults config.old) (I.faults config.new))) }
     ensures later { I.faults config.old ≤ I.faults config.new }

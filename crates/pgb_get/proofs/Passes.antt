@@ -8,7 +8,7 @@ use Rattle.pgb_model.specs.Text.{Text}
 use Rattle.pgb_get.specs.declared.serving.Copied.{Copied}
 use Rattle.pgb_get.specs.declared.serving.Copied.TheVariants.{Whole}
 use Rattle.pgb_get.specs.Getting.{HasFile, IsPut, ChangesPath, temporary_path}
-use Rattle.pgb_get.specs.Serving.{IsBegun, CopiedOf, Copies, HasBytes}
+use Rattle.pgb_get.specs.Serving.{IsBegun, CopiedOf, Copies, AreStoredAt}
 use Rattle.pgb_get.proofs.Folders.{set_other, set_same, changes_temporary, changes_on, changes_as, renames, renamed}
 
 -- ---- a file where nothing was
@@ -80,7 +80,7 @@ pub some_copy : (copied : Copied) (repo : Option Content) (from name : Text) (ol
 some_copy copied repo from name old new h = begun_same name h.0 old new h.2
 
 pub copied_right : (repo : Option Content) (from text : Text) (sum : Sum) (bytes : Text) → from ≡ text
-    → CopiedOf (Whole sum) repo from bytes → HasBytes repo text sum.0 bytes
+    → CopiedOf (Whole sum) repo from bytes → AreStoredAt repo text sum.0 bytes
 copied_right repo from text sum bytes same h = (subst (λ (n : Text). IfSome repo (λ f. f n ≡ Some bytes)) same h.0, sym h.1)
 
 -- ---- what was served

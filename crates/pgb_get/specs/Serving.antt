@@ -84,14 +84,14 @@ Copies (Err halt) repo from name old new = SameBut name old new
 -- ---- a pass
 
 -- the stored file has these bytes, and they have the sum
-abbrev pub HasBytes : Option Content → Text → Text → Text → Type 0
-HasBytes repo from sum bytes = IfSome repo (λ f. f from ≡ Some bytes) × (sha1 bytes ≡ sum)
+abbrev pub AreStoredAt : Option Content → Text → Text → Text → Type 0
+AreStoredAt repo from sum bytes = IfSome repo (λ f. f from ≡ Some bytes) × (sha1 bytes ≡ sum)
 
 -- a stored file with this sum was put at the path; or the folder is as it was
 abbrev pub Passes : Result Passed (Halt GetFault) → Option Content → Text → Text → Text → Option Nodes → Option Nodes
     → Type 0
 Passes (Ok Served) repo from sum path old new =
-    (bytes : Text) × HasBytes repo from sum bytes × IfSome new (IsPut path bytes)
+    (bytes : Text) × AreStoredAt repo from sum bytes × IfSome new (IsPut path bytes)
 Passes (Ok Lost) repo from sum path old new = IfSome repo (λ f. f from ≡ None) × (new ≡ old)
 Passes (Ok Barred) repo from sum path old new = new ≡ old
 Passes (Err halt) repo from sum path old new = OnRefused halt (new ≡ old)

@@ -6,7 +6,7 @@ ghost use Rattle.pgb_outside.specs.Moments.{Rests};
 ghost use Rattle.pgb_outside.specs.Cause.{HasCause, Rises};
 ghost use Rattle.pgb_get.specs.Getting.{IsPut, ChangesPath, temporary_path};
 ghost use Rattle.pgb_stage.specs.Halts.{HaltCause, Never};
-ghost use Rattle.pgb_get.specs.Serving.{RoseIn, EitherFailed, Copies, HasBytes, Passes, PassCause, refusal};
+ghost use Rattle.pgb_get.specs.Serving.{RoseIn, EitherFailed, Copies, AreStoredAt, Passes, PassCause, refusal};
 
 use crate::fault::GetFault;
 use pgb_outside::{Disk, Stop, Tree};
@@ -182,7 +182,7 @@ pub(crate) fn pass_on<D: Disk, T: Tree>(
     ensures passes { Passes result (D.state repo.old).view.now (string_bytes from) sum.0 path.now
         (T.state tree.old).nodes (T.state tree.new).nodes }
     ensures changes { ChangesPath path.now
-        (HasBytes (D.state repo.old).view.now (string_bytes from) sum.0)
+        (AreStoredAt (D.state repo.old).view.now (string_bytes from) sum.0)
         (T.state tree.old).nodes (T.state tree.new).nodes }
     ensures cause { IfErr result (HaltCause
         (PassCause (D.state repo.old).view.now (string_bytes from) sum.0)

@@ -4,13 +4,13 @@ use Rattle.pgb_outside.specs.Content.{SameBut}
 use Rattle.pgb_model.specs.Text.{Text}
 use Rattle.pgb_get.specs.declared.serving.Copied.{Copied}
 use Rattle.pgb_get.specs.declared.serving.Copied.TheVariants.{Whole}
-use Rattle.pgb_get.specs.Serving.{IsBegun, CopiedOf, HasBytes}
+use Rattle.pgb_get.specs.Serving.{IsBegun, CopiedOf, AreStoredAt}
 use Rattle.pgb_get.proofs.Passes.{same_on, changes_only, some_copy, copied_right, puts_copy, moves_copy}
 use Rattle.pgb_get.proofs.serving.pass_on.Goals as goal
 
 pub returns-in-Err-clause-changes : goal.returns-in-Err-clause-changes
 returns-in-Err-clause-changes g c =
-    changes_only c.args.path.now c.as_str-name.result.now (c.as_str-name.ensures.value ∙ c.in_ok-temporary.ensures) (HasBytes (g.D.Disk.state c.args.repo.now).view.now (string_bytes c.args.from) c.args.sum.0) _ _
+    changes_only c.args.path.now c.as_str-name.result.now (c.as_str-name.ensures.value ∙ c.in_ok-temporary.ensures) (AreStoredAt (g.D.Disk.state c.args.repo.now).view.now (string_bytes c.args.from) c.args.sum.0) _ _
     (same_on c.as_str-name.result.now _ _ _ c.in-Err.ensures.copies c.give_up.ensures.nodes)
 
 pub returns-in-Err-rename-clause-changes : goal.returns-in-Err-rename-clause-changes
@@ -18,7 +18,7 @@ returns-in-Err-rename-clause-changes g c =
     let name = c.as_str-name.result.now in
     let same : SameBut name (g.T.Tree.state c.args.tree.now).nodes (g.T.Tree.state c.copy_new.new.tree).nodes = some_copy c.in-Ok-Some.copied _ _ name _ _ (rw (c.in-Ok-Some.field-0-is) at c.in-Ok-Some.ensures.copies) in
     let still = subst (SameBut name (g.T.Tree.state c.args.tree.now).nodes) (sym c.in-Err-rename.ensures.nodes) same in
-    changes_only c.args.path.now name (c.as_str-name.ensures.value ∙ c.in_ok-temporary.ensures) (HasBytes (g.D.Disk.state c.args.repo.now).view.now (string_bytes c.args.from) c.args.sum.0) _ _
+    changes_only c.args.path.now name (c.as_str-name.ensures.value ∙ c.in_ok-temporary.ensures) (AreStoredAt (g.D.Disk.state c.args.repo.now).view.now (string_bytes c.args.from) c.args.sum.0) _ _
     (same_on name _ _ _ still c.give_up-in-Err-rename.ensures.nodes)
 
 pub returns-then-is_right-clause-passes : goal.returns-then-is_right-clause-passes
@@ -44,12 +44,12 @@ returns-then-is_right-clause-changes g c =
     let mid = (g.T.Tree.state c.copy_new.new.tree).nodes in
     let whole : c.in-Ok-Some.copied ≡ Whole c.args.sum = search rules in
     let x = subst (λ (k : Copied). (bytes : Text) × CopiedOf k repo from bytes × IsBegun name bytes old mid) whole (rw (c.in-Ok-Some.field-0-is) at c.in-Ok-Some.ensures.copies) in
-    moves_copy c.args.path.now name (c.as_str-name.ensures.value ∙ c.in_ok-temporary.ensures) x.0 old mid _ x.2 c.in_default.ensures.nodes (HasBytes repo (string_bytes c.args.from) c.args.sum.0)
+    moves_copy c.args.path.now name (c.as_str-name.ensures.value ∙ c.in_ok-temporary.ensures) x.0 old mid _ x.2 c.in_default.ensures.nodes (AreStoredAt repo (string_bytes c.args.from) c.args.sum.0)
     (copied_right repo from (string_bytes c.args.from) c.args.sum x.0 c.as_str.ensures.value x.1)
 
 pub returns-in-Err-remove-clause-changes : goal.returns-in-Err-remove-clause-changes
 returns-in-Err-remove-clause-changes g c =
     let name = c.as_str-name.result.now in
     let same : SameBut name (g.T.Tree.state c.args.tree.now).nodes (g.T.Tree.state c.copy_new.new.tree).nodes = some_copy c.in-Ok-Some.copied _ _ name _ _ (rw (c.in-Ok-Some.field-0-is) at c.in-Ok-Some.ensures.copies) in
-    changes_only c.args.path.now name (c.as_str-name.ensures.value ∙ c.in_ok-temporary.ensures) (HasBytes (g.D.Disk.state c.args.repo.now).view.now (string_bytes c.args.from) c.args.sum.0) _ _
+    changes_only c.args.path.now name (c.as_str-name.ensures.value ∙ c.in_ok-temporary.ensures) (AreStoredAt (g.D.Disk.state c.args.repo.now).view.now (string_bytes c.args.from) c.args.sum.0) _ _
     (subst (SameBut name (g.T.Tree.state c.args.tree.now).nodes) (sym c.in-Err-remove.ensures.nodes) same)
