@@ -1,4 +1,4 @@
-//! Tests of manifests: their texts, the faults of texts that are none's, the two members, and the places of files. By values from outside.
+//! Tests of manifests: their texts, the faults of other texts, the two members, and the places of files. By values from outside.
 #![tactic(auto)]
 
 #[cfg(test)]

@@ -1,4 +1,4 @@
-//! Texts that are no manifest's: each is that of the online backup with one part changed, and its checksum by `sha1sum`.
+//! Texts that are no manifest's: the online backup's with one part changed, each with its checksum by `sha1sum`.
 
 use crate::same::{same, same_of};
 use crate::texts::{OFFLINE, ONLINE, read};
