@@ -71,7 +71,7 @@ module _ (P : Segment → Type 0) (each : (s : Segment) → Decided (P s)) where
   some_segment : SomeOrNone (λ (s : Segment). IsSegment s × P s)
   some_segment = ⊎_elim
       (λ (x : (t : ℕ) × ((t < 2 ^ 32) × Middle t)).
-        inl (made x.0 x.1.1.0 x.1.1.1.1.0, (record { timeline = x.1.0; log = x.1.1.1.0; seg = x.1.1.1.1.1.0 }, x.1.1.1.1.1.1)))
+      inl (made x.0 x.1.1.0 x.1.1.1.1.0, (record { timeline = x.1.0; log = x.1.1.1.0; seg = x.1.1.1.1.1.0 }, x.1.1.1.1.1.1)))
       (λ (never : (t : ℕ) → ((t < 2 ^ 32) × Middle t) → ⊥). inr (λ s x. never s.timeline (x.0.timeline, (s.log, (x.0.log, (s.seg, (x.0.seg, x.1)))))))
       (some_below Middle middle (2 ^ 32))
 

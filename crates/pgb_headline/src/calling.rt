@@ -3,9 +3,9 @@ ghost use Rattle.std.specs.Prelude.{◌≡◌, [], List, map, string_bytes, IsSo
 ghost use Rattle.pgb_story.specs.Story.{Call, KeepsAll};
 ghost use Rattle.pgb_headline.specs.Acts.{both, IsShown, Went};
 
-use pgb_turn::Aside;
 use pgb_command::{Outside, run};
 use pgb_outside::{Clock, Disk, Link, Locks, Sink, Source, Tree, Turns, Wire};
+use pgb_turn::Aside;
 use std::alloc::Global;
 
 /// Calls the program on a data folder that tells what it holds.

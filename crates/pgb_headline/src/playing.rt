@@ -61,12 +61,7 @@ pub enum PlayFault {
 }
 
 // The disk, opened anew on what a stop at a moment from this one on leaves.
-fn reopened(
-    alloc: Global,
-    disk: &MemDisk,
-    from: u64,
-    left: Left,
-) -> Result<MemDisk, PlayFault>
+fn reopened(alloc: Global, disk: &MemDisk, from: u64, left: Left) -> Result<MemDisk, PlayFault>
     ensures opened { IfOk result (λ d. IsLeft (⟦<MemDisk as Disk>⟧.state disk.now).view from left.moment
         (⟦<MemDisk as Disk>⟧.state d).view) }
 {

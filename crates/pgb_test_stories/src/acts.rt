@@ -6,8 +6,7 @@ use pgb_server::memory::MemWire;
 use std::alloc::{AllocError, Global};
 
 // A control file as one of system 6917529027641081857 begins.
-const CONTROL: &[u8] =
-    b"\x01\x00\x00\x00\x00\x00\x00\x60\x14\x05\x00\x00\xff\xf5\x0e\x0c";
+const CONTROL: &[u8] = b"\x01\x00\x00\x00\x00\x00\x00\x60\x14\x05\x00\x00\xff\xf5\x0e\x0c";
 
 // No worker is ever heard.
 #[derive(Drop)]

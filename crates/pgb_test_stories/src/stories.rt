@@ -7,26 +7,24 @@ use std::alloc::Global;
 const CREATE: &str =
     "--stanza=demo --pg1-path=pg --repo1-path=repo --lock-path=lock --no-online stanza-create";
 
-const PUSH: &str = "--stanza=demo --pg1-path=pg --repo1-path=repo --lock-path=lock archive-push pg_wal/00000002.history";
+const PUSH: &str =
+    "--stanza=demo --pg1-path=pg --repo1-path=repo --lock-path=lock archive-push pg_wal/00000002.history";
 
-const GET: &str = "--stanza=demo --pg1-path=pg --repo1-path=repo archive-get 00000002.history pg_wal/RECOVERYHISTORY";
+const GET: &str =
+    "--stanza=demo --pg1-path=pg --repo1-path=repo archive-get 00000002.history pg_wal/RECOVERYHISTORY";
 
 const CREATE_OTHER: &str =
     "--stanza=other --pg1-path=pg --repo1-path=repo --lock-path=lock --no-online stanza-create";
 
-const PUSH_OTHER: &str = "--stanza=other --pg1-path=pg --repo1-path=repo --lock-path=lock archive-push pg_wal/00000002.history";
+const PUSH_OTHER: &str =
+    "--stanza=other --pg1-path=pg --repo1-path=repo --lock-path=lock archive-push pg_wal/00000002.history";
 
 const STORED: &str = "archive/demo/16-1/00000002.history";
 
 const STORED_OTHER: &str = "archive/other/16-1/00000002.history";
 
 // The calls, of which the one of this number is stopped at that moment.
-fn calls(
-    alloc: Global,
-    words: &[&str],
-    number: usize,
-    moment: u64,
-) -> Result<Vec<Act>, PlayFault> {
+fn calls(alloc: Global, words: &[&str], number: usize, moment: u64) -> Result<Vec<Act>, PlayFault> {
     let mut acts = Vec::new(alloc);
     for at in 0..words.len() {
         let halt = if at == number {
@@ -50,7 +48,11 @@ fn calls_go_on_behind_a_stop(rt: HostRuntime) {
         let (disks, statuses) = well(&rt, played(alloc, acts));
         same(&rt, statuses.as_slice(), &[0, 0, 0, 0, 0, 0]);
         same(&rt, disks.repo.bytes(STORED), Some(b"hello".as_slice()));
-        same(&rt, disks.repo.bytes(STORED_OTHER), Some(b"hello".as_slice()));
+        same(
+            &rt,
+            disks.repo.bytes(STORED_OTHER),
+            Some(b"hello".as_slice()),
+        );
     }
 }
 
