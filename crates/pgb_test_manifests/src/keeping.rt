@@ -1,7 +1,7 @@
 //! Manifests on a disk in memory.
 
 use crate::same::same;
-use crate::texts::{OFFLINE, ONLINE, read};
+use crate::texts::{OFFLINE, ONLINE, manifest_of};
 use pgb_info::MemberFault;
 use pgb_manifest::{WriteFault, load_manifest, manifest_name, save_manifest};
 use pgb_memory::{MemDisk, named_bytes};
@@ -35,9 +35,7 @@ fn names(rt: HostRuntime) -> Result<(), Fail> {
 #[test]
 fn saved_and_loaded(rt: HostRuntime) -> Result<(), Fail> {
     let alloc = rt.alloc();
-    let Ok(manifest) = read(alloc, OFFLINE)? else {
-        panic!(rt; "no manifest")
-    };
+    let manifest = manifest_of(&rt, alloc, OFFLINE)?;
     let mut disk = disk_of(alloc, &[], &[])?;
     same(
         &rt,
@@ -101,9 +99,7 @@ fn refusals(rt: HostRuntime) -> Result<(), Fail> {
 #[test]
 fn a_disk_that_fails(rt: HostRuntime) -> Result<(), Fail> {
     let alloc = rt.alloc();
-    let Ok(manifest) = read(alloc, OFFLINE)? else {
-        panic!(rt; "no manifest")
-    };
+    let manifest = manifest_of(&rt, alloc, OFFLINE)?;
     let mut disk = disk_of(alloc, &[], &[0])?;
     let failed = save_manifest(alloc, &mut disk, "demo", &manifest);
     same(&rt, failed, Err(WriteFault::Disk));

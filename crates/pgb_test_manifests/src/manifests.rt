@@ -1,14 +1,13 @@
 //! Manifests and their texts.
 
 use crate::same::same;
-use crate::texts::{OFFLINE, ONLINE, read};
+use crate::texts::{OFFLINE, ONLINE, manifest_of};
 use pgb_manifest::{Holder, Place, Spot, encode, locate};
 use pgb_model::{
     Bundled, Choices, Cluster, FileEntry, Kind, Label, Later, Lsn, Manifest, SegSize, Segment,
     Span, WalPart,
 };
-use pgb_text::{NoMemory, Sum};
-use std::alloc::Global;
+use pgb_text::Sum;
 use std::process::Abort;
 use std::test::Fail;
 
@@ -50,13 +49,6 @@ const LOG: WalPart = WalPart {
     to: Lsn(4311744824),
     size: SegSize(16777216),
 };
-
-fn manifest_of(rt: &impl Abort, alloc: Global, text: &str) -> Result<Manifest, NoMemory> {
-    match read(alloc, text)? {
-        Ok(manifest) => Ok(manifest),
-        Err(fault) => panic!(rt; "{fault:?}"),
-    }
-}
 
 // A file without its path.
 type Told = (u64, u64, Sum, Option<Label>, Option<Bundled>);
@@ -153,9 +145,7 @@ fn manifests_of_a_folder(rt: HostRuntime) -> Result<(), Fail> {
 #[test]
 fn texts_again(rt: HostRuntime) -> Result<(), Fail> {
     for text in [ONLINE, OFFLINE] {
-        let Ok(m) = read(rt.alloc(), text)? else {
-            panic!(rt; "no manifest")
-        };
+        let m = manifest_of(&rt, rt.alloc(), text)?;
         let written = encode(rt.alloc(), &m)?;
         same(&rt, str::from_utf8(&written).ok(), Some(text));
     }

@@ -1,10 +1,15 @@
 //! Texts of manifests, with their checksums by `sha1sum` of the JSON texts that the rule names.
 
+ghost use Rattle.std.specs.Prelude.{IfOk};
+ghost use Rattle.pgb_model.specs.ManifestText.{IsManifest};
+ghost use Rattle.pgb_model.specs.Values.{manifest_of};
+
 use pgb_info::MemberFault;
 use pgb_manifest::decode;
 use pgb_model::Manifest;
 use pgb_text::NoMemory;
 use std::alloc::Global;
+use std::process::Abort;
 
 /// An incremental backup of a running server.
 pub(crate) const ONLINE: &str = "[backrest]
@@ -80,9 +85,21 @@ backrest-checksum=\"5c0839d0362c9a897b294c91cd0ad3b8f323109d\"
 ";
 
 /// What a text gives; these texts are short.
-pub(crate) fn read(alloc: Global, text: &str) -> Result<Result<Manifest, MemberFault>, NoMemory> {
+pub(crate) fn read(alloc: Global, text: &str) -> Result<Result<Manifest, MemberFault>, NoMemory>
+    ensures { IfOk result (λ r. IfOk r (λ m. IsManifest (manifest_of m))) }
+{
     if text.len() > 1_000_000 {
         return Ok(Err(MemberFault::TooLong));
     }
     decode(alloc, text.as_bytes())
+}
+
+/// The manifest of a text that has one.
+pub(crate) fn manifest_of(rt: &impl Abort, alloc: Global, text: &str) -> Result<Manifest, NoMemory>
+    ensures { IfOk result (λ m. IsManifest (manifest_of m)) }
+{
+    match read(alloc, text)? {
+        Ok(manifest) => Ok(manifest),
+        Err(fault) => panic!(rt; "{fault:?}"),
+    }
 }
