@@ -1,5 +1,5 @@
 -- The stanza that words settle is in form.
-use Rattle.std.proofs.Common.{◌≡◌, ◌≢◌, ⊎_elim, ℕ, Bool, true, false, List, [], ◌∷◌, length, codes, Option, Some, None, Result, Ok, Err, refl, sym, ap, subst, ◌∙◌, arith}
+use Rattle.std.proofs.Common.{◌≡◌, ◌≢◌, ⊎_elim, ℕ, Bool, true, false, List, [], ◌∷◌, length, drop, codes, Option, Some, None, Result, Ok, Err, refl, sym, ap, subst, ◌∙◌, arith}
 use Rattle.std.specs.Prelude.{◌&&◌, is_some, is_none, if◌then◌else◌, option_and_then}
 use Rattle.std.specs.List.{list_all, find}
 use Rattle.std.specs.Option.{option_map_or, option_or}
@@ -12,11 +12,10 @@ use Rattle.pgb_table.specs.declared.table.Opt.{Opt}
 use Rattle.pgb_table.specs.declared.table.Opt.TheVariants.{Stanza}
 use Rattle.pgb_table.specs.declared.table.Verb.{Verb}
 use Rattle.pgb_table.specs.declared.table.Verb.TheVariants.{StanzaCreate, ArchivePush, ArchivePushAsync, ArchiveGet, ArchiveGetAsync, Backup, Expire, Restore, Verify, Info, Rehearse}
-use Rattle.pgb_options.specs.Faults.{Fault, ◌>>=◌}
-use Rattle.pgb_table.specs.Table.{row, stanza as stanza_kind}
+use Rattle.pgb_options.specs.Faults.{Fault, option_missing, option_value, ◌>>=◌}
+use Rattle.pgb_table.specs.Table.{row, is_for, stanza as stanza_kind}
 use Rattle.pgb_table.specs.Values.{is_stanza, is_stanza_byte, value_of, text_where}
 use Rattle.pgb_options.specs.Words.{Words, read_words}
-use Rattle.pgb_table.specs.Table.{is_for}
 use Rattle.pgb_options.specs.Settings.{Source, Settled, settle, settled_words, settled, source_of, sections_of, configured, accepted, command_of, each_is_for, stanza_of, value_given, value_configured, none_wrong, none_lacking, refused, is_wrong, in_force, value}
 use Rattle.pgb_stored.specs.Paths.{Lacks}
 use Rattle.pgb_archive.proofs.PathLies.{lacks_not}
@@ -45,8 +44,8 @@ given_is : (given : List (Text × Text)) (stanza : Text) → stanza_of given ≡
 given_is given stanza e = go (value_given given (codes "stanza")) refl
   where
     go : (o : Option Text) → value_given given (codes "stanza") ≡ o → value_given given (codes "stanza") ≡ Some stanza
-    go (Some t) is = let u : ◌≡◌ {A = Result Text Fault} (Ok t) (Ok stanza) = sym (ap (λ (o : Option Text). option_map_or (λ (s : Text). Ok s) o _) is) ∙ e in is ∙ ap Some (ok_same t stanza u)
-    go None is = let u : ◌≡◌ {A = Result Text Fault} (Err _) (Ok stanza) = sym (ap (λ (o : Option Text). option_map_or (λ (s : Text). Ok s) o _) is) ∙ e in cc
+    go (Some t) is = let u : ◌≡◌ {A = Result Text Fault} (Ok t) (Ok stanza) = sym (ap (λ (o : Option Text). option_map_or (λ (s : Text). Ok s) o (Err (option_missing (codes "stanza")))) is) ∙ e in is ∙ ap Some (ok_same t stanza u)
+    go None is = let u : ◌≡◌ {A = Result Text Fault} (Err (option_missing (codes "stanza"))) (Ok stanza) = sym (ap (λ (o : Option Text). option_map_or (λ (s : Text). Ok s) o (Err (option_missing (codes "stanza")))) is) ∙ e in cc
 
 every_has : (verb : Verb) → is_for verb Stanza ≡ true
 unfolding row
@@ -98,7 +97,7 @@ module _ (words : List Text) (bytes : Text) (s : Settled) where
 
 accepted_right : (source : Source) (count : ℕ) → accepted source TABLE count ≡ Ok tt → is_wrong source Stanza ≡ false
 unfolding accepted
-accepted_right source count e = head_right (is_wrong source) _ Stanza _ (bind_ok (none_wrong source TABLE) _ tt e).1
+accepted_right source count e = head_right (is_wrong source) (λ o. option_value (row o).name) Stanza (drop 1 TABLE) (bind_ok (none_wrong source TABLE) _ tt e).1
 
 settled_stanza : (words : List Text) (bytes : Text) (s : Settled) → settled_words words bytes ≡ Ok s → is_stanza s.stanza ≡ true
 settled_stanza words bytes s e = let x = in_steps words bytes s e in right_is x.0 s.stanza (in_force_is x.0 s.stanza x.2) (accepted_right x.0 x.1 x.3)

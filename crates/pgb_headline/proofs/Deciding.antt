@@ -40,11 +40,11 @@ tells_some c v = ⊎_elim
         system = refl;
         control_version = refl;
         catalog = refl;
-        version_text = x.3;
-        supported = (x.2, omega (arith, x.1));
+        version_text = x.1.1.1;
+        supported = (x.1.1.0, omega (arith, x.1.0));
       },
     ))
-    (λ none. inr (λ told t. none told.version (omega (arith, t.supported.1), t.supported.0, t.version_text)))
+    (λ none. inr (λ told t. none told.version (omega (arith, t.supported.1), (t.supported.0, t.version_text))))
     (some_below _ (λ n. both_of (at_least 15 n) (same_text v (decimal n ++ 10 ∷ []))) 18))
     (λ short. inr (λ told t. short t.long)) (at_least 16 (length c))
 
@@ -87,7 +87,7 @@ module _ (f : Nodes) (folder path : Text) where
   has_wal : SomeOrNone (λ (n : Named). HasWal f folder path n.name n.bytes)
   has_wal = ⊎_elim
       (λ (x : (name : ArchiveName) × (IsWalName name × Lies name)).
-      inl (record { name = x.0; bytes = x.2.1.0 }, record { named = record { fits = x.1; last = last_of folder path x.0 x.2.0; lies = x.2.0 }; is = x.2.1.1 }))
+      inl (record { name = x.0; bytes = x.1.1.1.0 }, record { named = record { fits = x.1.0; last = last_of folder path x.0 x.1.1.0; lies = x.1.1.0 }; is = x.1.1.1.1 }))
       (λ none. inr (λ n h. none n.name (h.named.fits, (h.named.lies, (n.bytes, h.is))))) (some_name Lies lies)
 
   push_of : (command : Command) × IsPushOf f folder path command
