@@ -14,9 +14,13 @@ mod entries;
 mod names;
 mod places;
 mod ran;
+mod recording;
+mod references;
+mod sizes;
 
 pub use beginning::went;
 pub use entries::entries_of;
 pub use names::names_of;
 pub use places::places_of;
 pub use ran::Ran;
+pub use recording::{Head, Record, RecordFault, record_of};
