@@ -112,7 +112,7 @@ module _ (stanza : Text) (label : Label) where
       (either_of (is_below (folder ⫽ codes "pg_data") n) (is_below (folder ⫽ codes "bundle") n) h)
 
   not_own : (n : Name) → ((x rest : Text) → n ≢ folder ⫽ x ⫽ rest) → is_own folder n ≡ false
-  not_own n off = false_from_ne_true (is_own folder n) (λ (h : is_own folder n ≡ true). let r = own_is n h in off r.0 r.1.0 r.1.1)
+  not_own n off = false_from_ne_true (is_own folder n) (λ (h : is_own folder n ≡ true). let r = own_is n h in off r.0 r.1 r.2)
 
   -- a name in the archive
   archive_out : (n : Name) → get_or n 0 0 ≡ 97 → is_own folder n ≡ false

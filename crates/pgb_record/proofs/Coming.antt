@@ -48,7 +48,7 @@ abbrev layout_size : Layout → ℕ
 layout_size l = jobs_size l.singles + jobs_size l.full + items_size l.current + jobs_size l.last
 
 jobs_append : (js ks : List Job) → jobs_size (js ++ ks) ≡ jobs_size js + jobs_size ks
-jobs_append [] ks = refl
+jobs_append [] ks = omega arith
 jobs_append (j ∷ js) ks = let rest = jobs_append js ks in omega (arith, rest)
 
 bundle_size : (xs : List Item) → jobs_size (bundle_job xs) ≡ items_size xs
@@ -56,7 +56,7 @@ bundle_size [] = refl
 bundle_size (x ∷ xs) = omega arith
 
 one_size : (f : Taken) → items_size (item_for f ∷ []) ≡ f.size
-one_size f = omega arith
+one_size f = let one = sum_by-cons (λ (x : Item). x.size) (item_for f) [] in omega (arith, one)
 
 module _ (f : Taken) where
   bundled_size : (b : Bool) (l : Layout) → layout_size (bundled_by b l f) ≤ layout_size l + f.size

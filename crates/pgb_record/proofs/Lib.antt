@@ -17,3 +17,4 @@ pub mod Coming
 pub mod Adding
 pub mod Planned
 pub mod Whole
+pub mod Listing

@@ -7,20 +7,54 @@ ghost use Rattle.pgb_model.specs.Text.{In};
 ghost use Rattle.pgb_model.specs.Values.{entry_of, file_entry_of};
 ghost use Rattle.pgb_record.specs.Making.{labels_of, RefersTo};
 
-use pgb_model::{Entry, FileEntry, Label};
+use pgb_model::{Entry, FileEntry, Kind, Label, Later};
 use std::alloc::{AllocError, Global};
 
-fn is_among(label: &Label, labels: &[Label]) -> bool
-    ensures { IsTrue result ↔ In label.now labels.now }
+fn is_same_kind(a: Kind, b: Kind) -> bool
+    ensures { IsTrue result ↔ (a ≡ b) }
 {
-    labels.contains(label)
+    match a {
+        Kind::Full => matches!(b, Kind::Full),
+        Kind::Diff => matches!(b, Kind::Diff),
+        Kind::Incr => matches!(b, Kind::Incr),
+    }
+}
+
+// Whether these are the second parts of one label.
+fn is_same_part(a: Option<Later>, b: Option<Later>) -> bool
+    ensures { IsTrue result ↔ (a ≡ b) }
+{
+    match a {
+        None => b.is_none(),
+        Some(x) => match b {
+            None => false,
+            Some(y) => x.time == y.time && is_same_kind(x.kind, y.kind),
+        },
+    }
+}
+
+fn is_same(a: Label, b: Label) -> bool
+    ensures { IsTrue result ↔ (a ≡ b) }
+{
+    a.full == b.full && is_same_part(a.later, b.later)
+}
+
+fn is_among(label: Label, labels: &[Label]) -> bool
+    ensures { IsTrue result ↔ In label labels.now }
+{
+    for other in labels {
+        if is_same(label, *other) {
+            return true;
+        }
+    }
+    false
 }
 
 // Adds the label, where it isn't there.
 fn note(labels: &mut Vec<Label>, label: Label) -> Result<(), AllocError>
     ensures { OnOk result ((l : spec_label.Label) → In l labels.new.items ↔ (In l labels.old.items ⊎ (l ≡ label))) }
 {
-    if !is_among(&label, labels.as_slice()) {
+    if !is_among(label, labels.as_slice()) {
         labels.push(label)?;
     }
     Ok(())
@@ -61,7 +95,7 @@ pub(crate) fn references_of(
 {
     let mut references = Vec::new(alloc);
     for backup in listed {
-        if is_among(&backup.label, labels) {
+        if is_among(backup.label, labels) {
             references.push(backup.label)?;
         }
     }
