@@ -1,5 +1,5 @@
-//! Makes a backup: workers read its files, and their bytes are stored in the folder of its label, to last; then its manifest
-//! is saved, and then the stanza's list with it.
+//! Makes a backup: workers read its files, and their bytes are stored in the folder of its label, to last; then its
+//! manifest is saved, and then the stanza's list with it.
 #![tactic(auto)]
 
 mod draft;

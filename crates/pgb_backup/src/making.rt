@@ -17,8 +17,8 @@ use pgb_manifest::save_manifest;
 use pgb_outside::{Clock, Disk, Link, Turns};
 use std::alloc::Global;
 
-/// Stores what the draft's jobs ask for in the folder of its label, saves the label's manifest, and then the stanza's list
-/// with the backup.
+/// Stores what the draft's jobs ask for in the folder of its label, saves the label's manifest, and then the stanza's
+/// list with the backup.
 pub fn make<D: Disk, L: Link, U: Turns, C: Clock>(
     alloc: Global,
     d: &mut D,
@@ -32,8 +32,8 @@ pub fn make<D: Disk, L: Link, U: Turns, C: Clock>(
     requires few { vec_len links.old < 2 ^ 32 }
     requires ready { (i : ℕ) (s : LinkState) → slice_get (map L.link_state links.old.items) i ≡ Some s → IsReady s }
 
-    // At each moment a stop leaves the stanza's list as it was, or the backup is listed, of the bytes that the links read.
-    // At Ok it is listed.
+    // At each moment a stop leaves the stanza's list as it was, or the backup is listed, of the bytes that the links
+    // read. At Ok it is listed.
     ensures made { IsTightAt (pair_of draft) (main_of draft) (D.state d.old).view → Outcome result draft
         (map L.link_state links.old.items) (D.state d.old).view (D.state d.new).view }
     ensures frame { Frame (D.state d.old) (D.state d.new) }

@@ -30,6 +30,7 @@ const LAST_SECOND: u64 = 253_402_300_799;
 const LIST_LIMIT: u64 = 67_108_864;
 
 /// What is saved of a backup: its manifest, and at this name the text of the stanza's list with it.
+#[derive(Drop)]
 pub(crate) struct Prepared {
     pub(crate) manifest: Manifest,
     pub(crate) main: String,
@@ -75,7 +76,8 @@ fn record_in(
     requires draft { IsDraft draft }
     requires stop { stop ≤ last_second }
     requires come { JobsCome (jobs_in draft) (map (λ v. v.items) ends.now) }
-    ensures manifest { IfOk result (λ r. manifest_of r.manifest ≡ manifest_at draft (map (λ v. v.items) ends.now) stop) }
+    ensures manifest { IfOk result (λ r. manifest_of r.manifest
+        ≡ manifest_at draft (map (λ v. v.items) ends.now) stop) }
     ensures rules { IfOk result (λ r. IsManifest (manifest_of r.manifest)) }
     ensures info { IfOk result (λ r. IsListWith (list_in draft) (manifest_of r.manifest) (backup_info_of r.info)) }
     ensures info_rules { IfOk result (λ r. IsBackupInfo (backup_info_of r.info)) }

@@ -93,6 +93,6 @@ module _ (stanza : Text) (names : List Name) (kept : List Kept) (h : Head) (w : 
   pub adds_prior : OneManifest → (p : Backup) (at : In p s.backups) (m : Manifest) (f : Content) → HasPrior stanza s (Some (record { label = p.entry.label; manifest = m })) f → w.prior ≡ p.entry.label → w.old ≡ m.files → h.prior ≡ Some p.entry.label
       → Adds stanza names kept (Some (record { label = p.entry.label; manifest = m })) made list s (backup_of p.files)
   adds_prior one p at m f has prior_is old_is head_is = adds_by p.files (Some (record { label = p.entry.label; manifest = m })) (λ e k bytes refers q. (
-        is_left one stanza s p at m w prior_is old_is e k bytes refers q h.label f has,
-        is_ancestor one stanza s p at m w prior_is old_is e k bytes refers q (backup_of p.files) f has head_is
-      ))
+    is_left one stanza s p at m w prior_is old_is e k bytes refers q h.label f has,
+    is_ancestor one stanza s p at m w prior_is old_is e k bytes refers q (backup_of p.files) f has head_is,
+  ))

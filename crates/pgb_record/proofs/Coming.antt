@@ -318,8 +318,7 @@ module _ (w : Went) (s : PlanSettings) (fs : List Taken) (es : List Bool) (same 
         let o = of_job (jobs_of the_layout) w.ends job item end came is in
         let r = read_whole o.item end.count end.how n sum how o.came in
         let number = r.number in
-        let counted = r.counted in
-        (
+        let counted = r.counted in (
           small_number job item end n is counted,
           subst IsSum (sym r.digest) (IsSum-sha1 r.bytes),
           λ zero_is. r.digest ∙ nothing_of r.bytes (sym zero_is ∙ r.number),

@@ -206,10 +206,10 @@ module _ (folder : Text) where
   bundle_named low (j ∷ js) n i = ⊎_elim
       (λ (e : n ≡ folder ⫽ codes "bundle" ⫽ decimal low). record { number = low; from = omega arith; below = omega arith; is = e })
       (λ (k : In n (bundles_in folder (low + 1) js)). (
-        let r = bundle_named (low + 1) js n k in
-        let a = r.from in
-        let b = r.below in
-        record { number = r.number; from = omega (arith, a); below = omega (arith, b); is = r.is }
+      let r = bundle_named (low + 1) js n k in
+      let a = r.from in
+      let b = r.below in
+      record { number = r.number; from = omega (arith, a); below = omega (arith, b); is = r.is }
       ))
       i
 
@@ -222,12 +222,12 @@ module _ (folder : Text) where
   distinct_bundles low [] small = tt
   distinct_bundles low (j ∷ js) small = (
     λ i. (
-      let r = bundle_named (low + 1) js (folder ⫽ codes "bundle" ⫽ decimal low) i in
-      let a = r.from in
-      let b = r.below in
-      let same = number_of low r.number (omega (arith, small)) (omega (arith, b, small)) r.is in
-      omega (arith, a, same)
-    ),
+        let r = bundle_named (low + 1) js (folder ⫽ codes "bundle" ⫽ decimal low) i in
+        let a = r.from in
+        let b = r.below in
+        let same = number_of low r.number (omega (arith, small)) (omega (arith, b, small)) r.is in
+        omega (arith, a, same)
+        ),
     distinct_bundles (low + 1) js (omega (arith, small)),
   )
 

@@ -117,10 +117,10 @@ module _ (listed : List rust_entry.Entry) (i : ℕ) (x : rust_entry.Entry) (less
         → are_in_order (map label_text (labels_of (map entry_of listed))) ≡ true → are_in_order (map label_text new ++ map label_text (labels_of (map entry_of (drop (i + 1) listed)))) ≡ true
     order_taken all new new_is order =
         let moved : map label_text new ++ map label_text (labels_of (map entry_of (drop (i + 1) listed))) ≡ map label_text refs ++ map label_text (labels_of (map entry_of (drop i listed))) =
-            ap (λ (ls : List Label). map label_text ls ++ map label_text (labels_of (map entry_of (drop (i + 1) listed)))) new_is
-            ∙ ap (λ (ts : List Text). ts ++ map label_text (labels_of (map entry_of (drop (i + 1) listed)))) (map-append label_text refs (x.label ∷ []))
-            ∙ append_assoc (map label_text refs) (label_text x.label ∷ []) (map label_text (labels_of (map entry_of (drop (i + 1) listed))))
-            ∙ ap (λ (ls : List Label). map label_text refs ++ map label_text ls) (sym rest_labels) in
+        ap (λ (ls : List Label). map label_text ls ++ map label_text (labels_of (map entry_of (drop (i + 1) listed)))) new_is
+        ∙ ap (λ (ts : List Text). ts ++ map label_text (labels_of (map entry_of (drop (i + 1) listed)))) (map-append label_text refs (x.label ∷ []))
+        ∙ append_assoc (map label_text refs) (label_text x.label ∷ []) (map label_text (labels_of (map entry_of (drop (i + 1) listed))))
+        ∙ ap (λ (ls : List Label). map label_text refs ++ map label_text ls) (sym rest_labels) in
         ap are_in_order moved ∙ all order
 
     pub order_left : (are_in_order (map label_text (labels_of (map entry_of listed))) ≡ true → are_in_order (map label_text refs ++ map label_text (labels_of (map entry_of (drop i listed)))) ≡ true)

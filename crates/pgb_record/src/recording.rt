@@ -45,9 +45,7 @@ pub struct Record {
 #[derive(Clone, Copy, Debug, PartialEq, Eq)]
 pub enum RecordFault {
     /// A file without which there is no backup vanished.
-    ControlMissing {
-        path: &'static str,
-    },
+    ControlMissing { path: &'static str },
     NoMemory,
 }
 

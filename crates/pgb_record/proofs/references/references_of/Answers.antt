@@ -11,7 +11,7 @@ loop-backup-preserved c =
     let labels = c.args.labels.now in
     let refs = c.loop-backup.references.items in
     elim c.if-is_among.branch [
-      then-is_among+in_ok-push w ↦ taken_items listed i x c.loop-backup-test.true c.backup-item.is labels refs c.loop-backup.invariant.each c.loop-backup.invariant.order c.if-is_among.references.items (ap (λ v. v.items) w.references-is ∙ w.in_ok-push.ensures.items) (c.is_among.ensures.0 w.if-is_among.true)
+      | then-is_among+in_ok-push w ↦ taken_items listed i x c.loop-backup-test.true c.backup-item.is labels refs c.loop-backup.invariant.each c.loop-backup.invariant.order c.if-is_among.references.items (ap (λ v. v.items) w.references-is ∙ w.in_ok-push.ensures.items) (c.is_among.ensures.0 w.if-is_among.true)
       | else-is_among w ↦ left_items listed i x c.loop-backup-test.true c.backup-item.is labels refs c.loop-backup.invariant.each c.loop-backup.invariant.order c.if-is_among.references.items (ap (λ v. v.items) w.references-is) (λ k. let t = c.is_among.ensures.1 k in let both : ◌≡◌ {A = Bool} true false = sym t ∙ w.if-is_among.false in cc)
     ]
 
