@@ -11,3 +11,4 @@ pub mod Labels
 pub mod Far
 pub mod Offline
 pub mod Mixing
+pub mod Causes

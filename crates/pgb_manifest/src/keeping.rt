@@ -13,20 +13,9 @@ ghost use Rattle.pgb_model.specs.Values.{manifest_of};
 ghost use Rattle.pgb_manifest.specs.Keeping.{manifest_text, own_name, IfTooLong};
 
 use crate::write_fault::WriteFault;
-use pgb_info::label_text;
-use pgb_model::{Label, Manifest};
+use pgb_model::Manifest;
 use pgb_outside::Disk;
-use pgb_text::NoMemory;
 use std::alloc::Global;
-
-/// The name of the main member that keeps a backup's manifest.
-pub fn manifest_name(alloc: Global, stanza: &str, label: &Label) -> Result<String, NoMemory>
-    requires { IsLabel label.now }
-    ensures { IfOk result (λ name. string_bytes name ≡ manifest_name stanza.now label.now) }
-{
-    let label = label_text(alloc, label)?;
-    Ok(format!(in alloc; "backup/{stanza}/{label}/backup.manifest")?)
-}
 
 /// Saves a manifest's text at the main member's name, then at its copy's.
 pub fn save_manifest<D: Disk>(

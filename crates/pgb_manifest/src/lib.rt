@@ -4,5 +4,5 @@
 mod keeping;
 mod write_fault;
 
-pub use keeping::{manifest_name, save_manifest};
+pub use keeping::save_manifest;
 pub use write_fault::WriteFault;
