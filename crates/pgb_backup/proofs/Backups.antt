@@ -48,7 +48,7 @@ module _ (draft : Draft) (is_draft : IsDraft draft) (links : List LinkState) (wh
     cluster = subst (λ (v : BackupInfo). In draft.cluster v.history) list_of (is_draft.follows 0 (omega arith)).cluster;
   }
 
-  listed : IsListWith (list_in draft) (manifest_at draft makes.ends makes.stop) makes.list
+  abbrev listed : IsListWith (list_in draft) (manifest_at draft makes.ends makes.stop) makes.list
   listed = record {
     references = makes.listed.references;
     are = subst (λ (m : Manifest). AreReferences (list_in draft).backups m.files makes.listed.references) makes.manifest_is makes.listed.are;

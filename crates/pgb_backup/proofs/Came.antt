@@ -15,7 +15,7 @@ use Rattle.pgb_keep.specs.KeepState.{Held, Done, Kept, Holds}
 use Rattle.pgb_reply.specs.Reads.{AllEnd, EndsAs, EndsWhole}
 use Rattle.pgb_dispatch.specs.Run.{AllDone, EndedBy}
 use Rattle.pgb_label.specs.declared.keeper.Ended.{Ended}
-use Rattle.pgb_label.specs.Keeping.{Progress, dones, job_bytes, keeps}
+use Rattle.pgb_label.specs.Keeping.{Progress, dones, job_bytes, kept_of, keeps}
 use Rattle.pgb_label.proofs.Kept.{some_and}
 use Rattle.pgb_record.proofs.Coming.{AreReads}
 use Rattle.pgb_record.specs.Ends.{AreEnds, AreAllEnds, AreReceived, IsReceived, HasCome, ComesAs, AllCome, JobsCome}
@@ -77,7 +77,8 @@ keeps_told (n ∷ ns) (p ∷ ps) f zero i k d is in_k = by (job_bytes p (Some (f
     by : (o : Option Text) → job_bytes p (Some (f n)) ≡ o → IsSome d.held.told
     by None e = absurd (let x : ◌≡◌ {A = Option Text} (job_bytes p (Some (f n))) None = e in cc)
     by (Some b) e =
-        let same : dones p.ended (Some b) ≡ k.done = ap (dones p.ended) (sym e) ∙ (let x : ◌≡◌ {A = Option Kept} (Some _) (Some k) = is in ap (λ (y : Kept). y.done) (let z : _ ≡ k = cc in z)) in
+        let here : kept_of p (Some (f n)) ≡ k = (let x : ◌≡◌ {A = Option Kept} (Some (kept_of p (Some (f n)))) (Some k) = is in cc) in
+        let same : dones p.ended (Some b) ≡ k.done = ap (dones p.ended) (sym e) ∙ ap (λ (y : Kept). y.done) here in
         dones_told p.ended b i d (ap (λ (ds : List Done). slice_get ds i) same ∙ in_k)
 keeps_told (n ∷ ns) (p ∷ ps) f (suc j) i k d is in_k = keeps_told ns ps f j i k d is in_k
 

@@ -49,6 +49,13 @@ module _ (draft : Draft) (links : List LinkState) (apart : AreApart (is_own_of d
   pub copy_tight : is_loose b (copy_of (pair_of draft)) ≡ false
   copy_tight = still (copy_of pair) apart.copy_out apart.copy_lasts tight.manifest_copy
 
+  -- what the manifest's saving leaves, at the name that it was given
+  pub crash_at : (m : Manifest) (e : View) (n : Name) → n ≡ pair_of draft → (is_loose b n ≡ false → is_loose b (copy_of n) ≡ false → Crash (FirstOf (member_writes n (manifest_text m))) b e) → Crash (FirstOf (member_writes (pair_of draft) (manifest_text m))) b e
+  crash_at m e n is h = subst (λ (k : Name). is_loose b k ≡ false → is_loose b (copy_of k) ≡ false → Crash (FirstOf (member_writes k (manifest_text m))) b e) is h pair_tight copy_tight
+
+  pub ends_at : (m : Manifest) (e : View) (n : Name) → n ≡ pair_of draft → (is_loose b n ≡ false → is_loose b (copy_of n) ≡ false → Ends (AllOf (member_writes n (manifest_text m))) b e) → Ends (AllOf (member_writes (pair_of draft) (manifest_text m))) b e
+  ends_at m e n is h = subst (λ (k : Name). is_loose b k ≡ false → is_loose b (copy_of k) ≡ false → Ends (AllOf (member_writes k (manifest_text m))) b e) is h pair_tight copy_tight
+
   module _ (m : Manifest) (e : View) (crash : Crash (FirstOf (member_writes (pair_of draft) (manifest_text m))) b e) where
     -- while the manifest is saved
     pub saved : Way (MayLoosen (is_own_of draft)) (IsBeside (is_own_of draft) (pair_of draft)) a e
@@ -62,6 +69,15 @@ module _ (draft : Draft) (links : List LinkState) (apart : AreApart (is_own_of d
 
     pub main_copy_tight : is_loose e (copy_of (main_of draft)) ≡ false
     main_copy_tight = later_still (copy_of main) apart.main_copy_out apart.main_copy_lasts tight.info_copy
+
+    -- what the list's saving leaves
+    pub list_crash : (text given : Text) (d : View) (n : Name) → n ≡ main_of draft → given ≡ text → (is_loose e n ≡ false → is_loose e (copy_of n) ≡ false → Crash (FirstOf (member_writes n given)) e d) → Crash (FirstOf (member_writes (main_of draft) text)) e d
+    list_crash text given d n is same h = subst (λ (t : Text). Crash (FirstOf (member_writes (main_of draft) t)) e d) same
+        (subst (λ (k : Name). is_loose e k ≡ false → is_loose e (copy_of k) ≡ false → Crash (FirstOf (member_writes k given)) e d) is h main_tight main_copy_tight)
+
+    pub list_ends : (text given : Text) (d : View) (n : Name) → n ≡ main_of draft → given ≡ text → (is_loose e n ≡ false → is_loose e (copy_of n) ≡ false → Ends (AllOf (member_writes n given)) e d) → Ends (AllOf (member_writes (main_of draft) text)) e d
+    list_ends text given d n is same h = subst (λ (t : Text). Ends (AllOf (member_writes (main_of draft) t)) e d) same
+        (subst (λ (k : Name). is_loose e k ≡ false → is_loose e (copy_of k) ≡ false → Ends (AllOf (member_writes k given)) e d) is h main_tight main_copy_tight)
 
     module _ (text : Text) (d : View) (ended : List (List Ended)) (sealed : IsSealed (is_own_of draft) b) (got : Stored draft links ended b.now) (prepares : Prepares draft ended m text) (within : length (manifest_text m) ≤ manifest_limit)
         (ends : Ends (AllOf (member_writes (pair_of draft) (manifest_text m))) b e) (last : Crash (FirstOf (member_writes (main_of draft) text)) e d) where

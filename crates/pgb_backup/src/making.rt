@@ -34,15 +34,15 @@ pub fn make<D: Disk, L: Link, U: Turns, C: Clock>(
 
     // At each moment a stop leaves the stanza's list as it was, or the backup is listed, of the bytes that the links
     // read. At Ok it is listed.
-    ensures made { IsTightAt (pair_of draft) (main_of draft) (D.state d.old).view → Outcome result draft
+    ensures made { IsTightAt (pair_of draft.entry) (main_of draft.entry) (D.state d.old).view → Outcome result draft.entry
         (map L.link_state links.old.items) (D.state d.old).view (D.state d.new).view }
     ensures frame { Frame (D.state d.old) (D.state d.new) }
 
     // Each link that was lost is told, and at Ok the others are left.
-    ensures left { OnOk result (Left (jobs_in draft) (map L.link_state links.old.items)
+    ensures left { OnOk result (Left (jobs_in draft.entry) (map L.link_state links.old.items)
         lost.old.items lost.new.items (map L.link_state links.new.items)) }
-    ensures told { AddsLosses (jobs_in draft) (map L.link_state links.old.items) lost.old.items lost.new.items }
-    ensures fault { IfErr result (λ e. MakeFails e draft (map L.link_state links.old.items)
+    ensures told { AddsLosses (jobs_in draft.entry) (map L.link_state links.old.items) lost.old.items lost.new.items }
+    ensures fault { IfErr result (λ e. MakeFails e draft.entry (map L.link_state links.old.items)
         (map L.link_state links.new.items) lost.old.items lost.new.items
         (D.state d.old).faults (D.state d.new).faults (C.faults clock.old) (C.faults clock.new)) }
 {

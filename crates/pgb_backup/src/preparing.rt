@@ -77,12 +77,12 @@ fn record_in(
     requires stop { stop ≤ last_second }
     requires come { JobsCome (jobs_in draft) (map (λ v. v.items) ends.now) }
     ensures manifest { IfOk result (λ r. manifest_of r.manifest
-        ≡ manifest_at draft (map (λ v. v.items) ends.now) stop) }
+        ≡ manifest_at draft.entry (map (λ v. v.items) ends.now) stop) }
     ensures rules { IfOk result (λ r. IsManifest (manifest_of r.manifest)) }
-    ensures info { IfOk result (λ r. IsListWith (list_in draft) (manifest_of r.manifest) (backup_info_of r.info)) }
+    ensures info { IfOk result (λ r. IsListWith (list_in draft.entry) (manifest_of r.manifest) (backup_info_of r.info)) }
     ensures info_rules { IfOk result (λ r. IsBackupInfo (backup_info_of r.info)) }
     ensures control { IfOk result (λ r. HasControl (manifest_of r.manifest).files) }
-    ensures fault { IfErr result (RecordFails (files_with draft (map (λ v. v.items) ends.now))) }
+    ensures fault { IfErr result (RecordFails (files_with draft.entry (map (λ v. v.items) ends.now))) }
 {
     let Draft {
         stanza: _,
@@ -119,10 +119,10 @@ pub(crate) fn prepare<C: Clock>(
 ) -> Result<Prepared, MakeFault>
     requires draft { IsDraft draft }
     requires come { JobsCome (jobs_in draft) (map (λ v. v.items) ends.now) }
-    ensures prepares { IfOk result (λ p. Prepares draft (map (λ v. v.items) ends.now) (manifest_of p.manifest)
+    ensures prepares { IfOk result (λ p. Prepares draft.entry (map (λ v. v.items) ends.now) (manifest_of p.manifest)
         p.text.items) }
-    ensures main { IfOk result (λ p. string_bytes p.main ≡ main_of draft) }
-    ensures fault { IfErr result (λ e. PrepareFails e draft (map (λ v. v.items) ends.now)
+    ensures main { IfOk result (λ p. string_bytes p.main ≡ main_of draft.entry) }
+    ensures fault { IfErr result (λ e. PrepareFails e draft.entry (map (λ v. v.items) ends.now)
         (C.faults clock.old) (C.faults clock.new)) }
 {
     let main = backup_info_name(alloc, draft.stanza)?;
