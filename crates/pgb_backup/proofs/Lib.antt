@@ -1,0 +1,14 @@
+pub mod Apart
+pub mod Came
+pub mod Commits
+pub mod Outcomes
+pub mod Sound
+pub mod Drafted
+pub mod Listed
+pub mod Moves
+pub mod Backups
+pub mod Labels
+pub mod Far
+pub mod Offline
+pub mod Mixing
+pub mod Causes

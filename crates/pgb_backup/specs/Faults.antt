@@ -1,24 +1,135 @@
 -- Why a backup isn't made, and what is left then. Own.
-use Rattle.std.specs.Prelude.{ℕ, List, Some, map}
+use Rattle.std.specs.Prelude.{◌≡◌, ◌<◌, ℕ, List, Some, map, length}
 use Rattle.pgb_outside.specs.Links.{LinkState}
 use Rattle.pgb_outside.specs.Cause.{Rises}
 use Rattle.pgb_outside.specs.declared.stop.Stop.{Stop}
 use Rattle.pgb_outside.specs.declared.stop.Stop.TheVariants as stops
 use Rattle.pgb_frame.specs.Frames.{Job}
+use Rattle.pgb_model.specs.Dates.{last_second}
+use Rattle.pgb_model.specs.InfoText.{info_text}
+use Rattle.pgb_model.specs.InfoFiles.{backup_sections, info_limit}
+use Rattle.pgb_model.specs.ManifestText.{manifest_limit}
+use Rattle.pgb_model.specs.Values.{BackupInfo}
+use Rattle.pgb_pair.specs.declared.fault.SaveFault.{SaveFault}
+use Rattle.pgb_pair.specs.declared.fault.SaveFault.TheVariants as saves
+use Rattle.pgb_manifest.specs.declared.write_fault.WriteFault.{WriteFault}
+use Rattle.pgb_manifest.specs.declared.write_fault.WriteFault.TheVariants as writes
+use Rattle.pgb_manifest.specs.Keeping.{manifest_text}
+use Rattle.pgb_keep.specs.KeepState.{Kept}
+use Rattle.pgb_label.specs.declared.keeper.Ended.{Ended}
 use Rattle.pgb_dispatch.specs.declared.fault.Lost.{Lost}
-use Rattle.pgb_dispatch.specs.Run.{AllLost, UnreadLeaves, begun}
+use Rattle.pgb_dispatch.specs.Run.{AllDone, AllLost, UnreadLeaves, begun}
+use Rattle.pgb_record.specs.declared.recording.RecordFault.{RecordFault}
+use Rattle.pgb_record.specs.declared.recording.RecordFault.TheVariants as records
+use Rattle.pgb_record.specs.Ends.{AreAllEnds}
+use Rattle.pgb_record.specs.Faults.{IsMissing}
+use Rattle.pgb_record.specs.Making.{IsListWith}
+use Rattle.pgb_backup.specs.declared.draft.Draft.{Draft}
 use Rattle.pgb_backup.specs.declared.fault.MakeFault.{MakeFault}
 use Rattle.pgb_backup.specs.declared.fault.MakeFault.TheVariants as faults
+use Rattle.pgb_backup.specs.Draft.{jobs_in, list_in, files_with, manifest_at}
 
 -- why a call of the disk stopped
 abbrev pub fault_of : Stop → MakeFault
 fault_of stops.Failed = faults.Disk
 fault_of stops.NoMemory = faults.NoMemory
 
+abbrev pub fault_of_record : RecordFault → MakeFault
+fault_of_record (records.ControlMissing path) = faults.ControlMissing path
+fault_of_record records.NoMemory = faults.NoMemory
+
+abbrev pub fault_of_write : WriteFault → MakeFault
+fault_of_write (writes.TooLong length) = faults.ManifestTooLong length
+fault_of_write writes.Disk = faults.Disk
+fault_of_write writes.NoMemory = faults.NoMemory
+
+abbrev pub fault_of_save : SaveFault → MakeFault
+fault_of_save saves.Disk = faults.Disk
+fault_of_save saves.NoMemory = faults.NoMemory
+
 -- Why the jobs over these links weren't stored: each link is lost, and its entry tells why; or the worker on the one link that is left
 -- couldn't read the item; or the disk failed, which its count shows; or memory ran out.
 abbrev pub StoreFails : MakeFault → List Job → List LinkState → List LinkState → List Lost → List Lost → ℕ → ℕ → Type 0
 StoreFails faults.WorkersLost jobs links left before after old new = AllLost jobs (begun links before) after
 StoreFails (faults.Unread job item) jobs links left before after old new = UnreadLeaves jobs (begun links before) job item (map Some left)
+StoreFails (faults.ControlMissing path) jobs links left before after old new = ⊥
+StoreFails (faults.TooLate now) jobs links left before after old new = ⊥
+StoreFails (faults.ManifestTooLong n) jobs links left before after old new = ⊥
+StoreFails (faults.ListTooLong n) jobs links left before after old new = ⊥
+StoreFails faults.Clock jobs links left before after old new = ⊥
 StoreFails faults.Disk jobs links left before after old new = Rises old new
 StoreFails faults.NoMemory jobs links left before after old new = Unit {0}
+
+-- ---- after the jobs
+
+-- the list would be too long with the manifest's backup
+pub record IsListTooLong (d : Draft) (ends : List (List Ended)) (n : ℕ) : Type 0 where
+  pub stop : ℕ
+  pub list : BackupInfo
+  pub listed : IsListWith (list_in d) (manifest_at d ends stop) list
+  pub count : n ≡ length (info_text (backup_sections list))
+  pub past : info_limit < n
+
+-- the manifest would be
+pub record IsManifestTooLong (d : Draft) (ends : List (List Ended)) (n : ℕ) : Type 0 where
+  pub stop : ℕ
+  pub count : n ≡ length (manifest_text (manifest_at d ends stop))
+  pub past : manifest_limit < n
+
+-- Why no second is told.
+abbrev pub StopFails : MakeFault → ℕ → ℕ → Type 0
+StopFails faults.WorkersLost old new = ⊥
+StopFails (faults.Unread job item) old new = ⊥
+StopFails (faults.ControlMissing path) old new = ⊥
+StopFails (faults.TooLate now) old new = last_second < now
+StopFails (faults.ManifestTooLong n) old new = ⊥
+StopFails (faults.ListTooLong n) old new = ⊥
+StopFails faults.Clock old new = Rises old new
+StopFails faults.Disk old new = ⊥
+StopFails faults.NoMemory old new = Unit {0}
+
+-- Why a list of so many bytes has no text.
+abbrev pub ListFails : MakeFault → ℕ → Type 0
+ListFails faults.WorkersLost count = ⊥
+ListFails (faults.Unread job item) count = ⊥
+ListFails (faults.ControlMissing path) count = ⊥
+ListFails (faults.TooLate now) count = ⊥
+ListFails (faults.ManifestTooLong n) count = ⊥
+ListFails (faults.ListTooLong n) count = (n ≡ count) × (info_limit < n)
+ListFails faults.Clock count = ⊥
+ListFails faults.Disk count = ⊥
+ListFails faults.NoMemory count = Unit {0}
+
+-- Why nothing is prepared of a draft whose jobs ended so, between two counts of the clock's faults.
+abbrev pub PrepareFails : MakeFault → Draft → List (List Ended) → ℕ → ℕ → Type 0
+PrepareFails faults.WorkersLost d ends old new = ⊥
+PrepareFails (faults.Unread job item) d ends old new = ⊥
+PrepareFails (faults.ControlMissing path) d ends old new = IsMissing path.now (files_with d ends)
+PrepareFails (faults.TooLate now) d ends old new = last_second < now
+PrepareFails (faults.ManifestTooLong n) d ends old new = ⊥
+PrepareFails (faults.ListTooLong n) d ends old new = IsListTooLong d ends n
+PrepareFails faults.Clock d ends old new = Rises old new
+PrepareFails faults.Disk d ends old new = ⊥
+PrepareFails faults.NoMemory d ends old new = Unit {0}
+
+-- links of these did the jobs, and each item ended so
+pub record IsDone (d : Draft) (links : List LinkState) (ends : List (List Ended)) : Type 0 where
+  pub kept : List Kept
+  pub received : AllDone (jobs_in d) links kept
+  pub are : AreAllEnds ends kept
+
+-- it is so of jobs that were done
+abbrev pub WhereDone : Draft → List LinkState → (List (List Ended) → Type 0) → Type 0
+WhereDone d links P = (ends : List (List Ended)) × IsDone d links ends × P ends
+
+-- Why a backup isn't made: of what is told above, and of what ended.
+abbrev pub MakeFails : MakeFault → Draft → List LinkState → List LinkState → List Lost → List Lost → ℕ → ℕ → ℕ → ℕ → Type 0
+MakeFails faults.WorkersLost d links left before after old new told tells = AllLost (jobs_in d) (begun links before) after
+MakeFails (faults.Unread job item) d links left before after old new told tells = UnreadLeaves (jobs_in d) (begun links before) job item (map Some left)
+MakeFails (faults.ControlMissing path) d links left before after old new told tells = WhereDone d links (λ ends. IsMissing path.now (files_with d ends))
+MakeFails (faults.TooLate now) d links left before after old new told tells = last_second < now
+MakeFails (faults.ManifestTooLong n) d links left before after old new told tells = WhereDone d links (λ ends. IsManifestTooLong d ends n)
+MakeFails (faults.ListTooLong n) d links left before after old new told tells = WhereDone d links (λ ends. IsListTooLong d ends n)
+MakeFails faults.Clock d links left before after old new told tells = Rises told tells
+MakeFails faults.Disk d links left before after old new told tells = Rises old new
+MakeFails faults.NoMemory d links left before after old new told tells = Unit {0}

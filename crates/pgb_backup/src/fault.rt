@@ -1,5 +1,8 @@
 // Why a backup isn't made.
+use pgb_manifest::WriteFault;
 use pgb_outside::Stop;
+use pgb_pair::SaveFault;
+use pgb_record::RecordFault;
 use std::alloc::AllocError;
 
 /// Why a backup isn't made.
@@ -9,6 +12,16 @@ pub enum MakeFault {
     WorkersLost,
     /// A worker couldn't read this item of this job.
     Unread { job: u32, item: u32 },
+    /// A file without which there is no backup vanished.
+    ControlMissing { path: &'static str },
+    /// The clock tells a second past the year 9999.
+    TooLate { now: u64 },
+    /// The manifest would have so many bytes, which are too many.
+    ManifestTooLong { length: u64 },
+    /// So would the stanza's list.
+    ListTooLong { length: u64 },
+    /// The clock failed.
+    Clock,
     /// The repository's disk failed.
     Disk,
     NoMemory,
@@ -25,6 +38,17 @@ impl From<AllocError> for MakeFault {
     }
 }
 
+impl From<pgb_text::NoMemory> for MakeFault {
+    ghost use Rattle.std.specs.Prelude.{◌≡◌};
+    ghost use Rattle.pgb_backup.specs.declared.fault.MakeFault.TheVariants.{NoMemory};
+
+    ghost from_gives = { λ _ e. e ≡ NoMemory };
+
+    fn from(_e: pgb_text::NoMemory) -> MakeFault {
+        MakeFault::NoMemory
+    }
+}
+
 impl From<Stop> for MakeFault {
     ghost use Rattle.std.specs.Prelude.{◌≡◌};
     ghost use Rattle.pgb_backup.specs.Faults.{fault_of};
@@ -35,6 +59,49 @@ impl From<Stop> for MakeFault {
         match stop {
             Stop::Failed => MakeFault::Disk,
             Stop::NoMemory => MakeFault::NoMemory,
+        }
+    }
+}
+
+impl From<RecordFault> for MakeFault {
+    ghost use Rattle.std.specs.Prelude.{◌≡◌};
+    ghost use Rattle.pgb_backup.specs.Faults.{fault_of_record};
+
+    ghost from_gives = { λ fault e. e ≡ fault_of_record fault };
+
+    fn from(fault: RecordFault) -> MakeFault {
+        match fault {
+            RecordFault::ControlMissing { path } => MakeFault::ControlMissing { path },
+            RecordFault::NoMemory => MakeFault::NoMemory,
+        }
+    }
+}
+
+impl From<WriteFault> for MakeFault {
+    ghost use Rattle.std.specs.Prelude.{◌≡◌};
+    ghost use Rattle.pgb_backup.specs.Faults.{fault_of_write};
+
+    ghost from_gives = { λ fault e. e ≡ fault_of_write fault };
+
+    fn from(fault: WriteFault) -> MakeFault {
+        match fault {
+            WriteFault::TooLong { length } => MakeFault::ManifestTooLong { length },
+            WriteFault::Disk => MakeFault::Disk,
+            WriteFault::NoMemory => MakeFault::NoMemory,
+        }
+    }
+}
+
+impl From<SaveFault> for MakeFault {
+    ghost use Rattle.std.specs.Prelude.{◌≡◌};
+    ghost use Rattle.pgb_backup.specs.Faults.{fault_of_save};
+
+    ghost from_gives = { λ fault e. e ≡ fault_of_save fault };
+
+    fn from(fault: SaveFault) -> MakeFault {
+        match fault {
+            SaveFault::Disk => MakeFault::Disk,
+            SaveFault::NoMemory => MakeFault::NoMemory,
         }
     }
 }

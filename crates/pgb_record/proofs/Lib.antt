@@ -10,3 +10,11 @@ pub mod Recorded
 pub mod Held
 pub mod Rules
 pub mod Parts
+pub mod Totals
+pub mod Behind
+pub mod Referring
+pub mod Coming
+pub mod Adding
+pub mod Planned
+pub mod Whole
+pub mod Listing

@@ -30,6 +30,7 @@ use Rattle.pgb_plan.specs.Spots.{HasItem, HaveItems}
 use Rattle.pgb_record.specs.Ends.{end_at, bytes_before}
 use Rattle.pgb_record.specs.Entries.{Went, entry_for, entries, with_some, empty_entry, copied, bundle_job_number, last_job_number}
 use Rattle.pgb_plan.specs.Filter.{IsTaken, IsListing}
+use Rattle.pgb_record.specs.Bounds.{HasBounds}
 use Rattle.pgb_record.proofs.Maps.{both}
 use Rattle.pgb_record.proofs.Items.{copied_is}
 use Rattle.pgb_record.proofs.Rows.{entry_in, left_is}
@@ -37,7 +38,7 @@ use Rattle.pgb_record.proofs.Sorted.{path_of, all_after, rises, order_rises, joi
 
 -- ---- order
 
-rises_order : (ps : List Text) → rises ps ≡ true → are_in_order ps ≡ true
+pub rises_order : (ps : List Text) → rises ps ≡ true → are_in_order ps ≡ true
 rises_order [] h = refl
 rises_order (p ∷ ps) h = let b = both (all_after p ps) (rises ps) h in after_of p ps b.0 b.1
   where
@@ -86,14 +87,6 @@ entries_each P w l (f ∷ fs) (c ∷ cs) have each e at = by (entries_each P w l
     by : (In e (entries w fs cs) → P e) → (o : Option FileEntry) → entry_for w f c ≡ o → In e (with_some o (entries w fs cs)) → P e
     by rest None is k = rest k
     by rest (Some x) is k = ⊎_elim (λ (same : e ≡ x). subst P (sym same) (each f c x (inl refl) have.0 is)) rest k
-
--- what is known of the numbers and sums that came, and of the prior backup's files
-pub record HasBounds (w : Went) (l : Layout) (old_folders : List Text) : Type 0 where
-  pub came : (job item : ℕ) (end : Ended) (n : ℕ) (sum : Sum) → end_at w.ends job item ≡ Some end → end.how ≡ Whole n sum → (n < 2 ^ 64) × IsSum sum.0 × (n ≡ 0 → sum.0 ≡ sha1 [])
-  pub before : (job item : ℕ) → bytes_before w.ends job item < 2 ^ 64
-  pub few : length (bundles l) < 2 ^ 32 - 1
-  pub prior : IsLabel w.prior
-  pub old : (e : FileEntry) → In e w.old → IsFileEntry old_folders e
 
 module _ (w : Went) (l : Layout) (folders old_folders : List Text) (bounds : HasBounds w l old_folders) where
   own_rules : (f : Taken) (at : Option Bundled) (job item : ℕ) (e : FileEntry) → IsTaken folders f → copied f at (end_at w.ends job item) ≡ Some e → IfSome at (λ b. (1 ≤ b.number) × (b.number < 2 ^ 32) × (b.at < 2 ^ 64)) → IsFileEntry folders e
@@ -173,7 +166,7 @@ module _ (w : Went) (l : Layout) (folders old_folders : List Text) (bounds : Has
 
   -- ---- their sizes, where none is longer than it was listed
 
-  sizes : (fs : List Taken) (cs : List Choice) → HaveItems w.old l fs cs → ((f : Taken) (c : Choice) (e : FileEntry) → HasItem w.old l f c → entry_for w f c ≡ Some e → e.size ≤ f.size)
+  pub sizes : (fs : List Taken) (cs : List Choice) → HaveItems w.old l fs cs → ((f : Taken) (c : Choice) (e : FileEntry) → HasItem w.old l f c → entry_for w f c ≡ Some e → e.size ≤ f.size)
       → sum_by (λ (e : FileEntry). e.size) (entries w fs cs) ≤ sum_by (λ (f : Taken). f.size) fs
   sizes [] cs have within = omega arith
   sizes (f ∷ fs) [] have within = absurd have

@@ -6,3 +6,6 @@ pub mod Sums
 pub mod Views
 pub mod Naming
 pub mod Rows
+pub mod Making
+pub mod Bounds
+pub mod Faults

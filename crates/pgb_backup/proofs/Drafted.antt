@@ -1,0 +1,143 @@
+-- What a draft keeps of its jobs, their names and what came of them.
+use Rattle.std.proofs.Common.{◌≡◌, ◌<◌, ◌≤◌, ◌-◌, ◌^◌, inl, inr, ℕ, zero, suc, true, List, [], ◌∷◌, length, map, get_or, Option, Some, None, refl, sym, ◌∙◌, ap, subst, arith, slice_get, string_bytes}
+use Rattle.std.specs.Prelude.{All, IfSome, IsSome, unwrap_or}
+use Rattle.std.specs.List.{AllByRecursion}
+use Rattle.std.proofs.lemmas.List.{length-map}
+use Rattle.pgb_outside.specs.Content.{Name, Content, HasBytes, Holds}
+use Rattle.pgb_outside.specs.Crash.{IsTemporary}
+use Rattle.pgb_outside.specs.Links.{LinkState}
+use Rattle.pgb_frame.specs.declared.frames.Job as rust
+use Rattle.pgb_frame.specs.Frames.{Job, FitsJob}
+use Rattle.pgb_frame.specs.Views.{job_of}
+use Rattle.pgb_model.specs.declared.labels.Label.{Label}
+use Rattle.pgb_model.specs.Text.{Text, In}
+use Rattle.pgb_model.specs.InfoFiles.{IsLabel}
+use Rattle.pgb_keep.specs.KeepState.{Done, Kept}
+use Rattle.pgb_dispatch.specs.Payloads.{AllByFile}
+use Rattle.pgb_dispatch.specs.Run.{AllDone}
+use Rattle.pgb_label.specs.declared.keeper.Ended.{Ended}
+use Rattle.pgb_label.specs.Keeping.{Progress, keeps as kept_in, total, Agrees, IsPlan}
+use Rattle.pgb_label.proofs.Places.{placed, bytes_at}
+use Rattle.pgb_plan.specs.Listed.{Taken, control_path}
+use Rattle.pgb_plan.specs.Layout.{Layout, layout, jobs_of, bundles}
+use Rattle.pgb_plan.specs.Filter.{HasFile, most_files}
+use Rattle.pgb_plan.proofs.Fitting.{jobs_fit}
+use Rattle.pgb_plan.proofs.Lasts.{one_last}
+use Rattle.pgb_plan.proofs.Lists.{of_map, there}
+use Rattle.pgb_record.specs.Naming.{IsPlanned, names_in}
+use Rattle.pgb_record.specs.Bounds.{KeepsBounds}
+use Rattle.pgb_record.specs.Ends.{JobsCome}
+use Rattle.pgb_record.proofs.Behind.{prior_label}
+use Rattle.pgb_record.proofs.Coming.{AreReads, jobs_read, jobs_few, bundles_few, keeps_bounds, totals_small}
+use Rattle.pgb_record.proofs.Held.{keeps_end}
+use Rattle.pgb_record.proofs.Naming.{names_count}
+use Rattle.pgb_record.proofs.Planned.{is_plan}
+use Rattle.pgb_backup.specs.declared.draft.Draft.{Draft}
+use Rattle.pgb_backup.specs.Draft.{stanza_of, taken_in, folders_in, old_in, jobs_in, list_in, folder_of, is_own_of, head_at, went_with, IsDraft}
+use Rattle.pgb_backup.specs.Stored.{AreNames, HasOwn, Stored}
+use Rattle.pgb_backup.proofs.Came.{jobs_came, received, told_of}
+
+module _ (d : Draft) (h : IsDraft d) where
+  abbrev pub laid_out : Layout
+  laid_out = layout h.plan.settings (old_in d) (taken_in d) h.plan.equal
+
+  pub one : length (layout h.plan.settings (old_in d) (taken_in d) h.plan.equal).last ≡ 1
+  one = one_last h.plan.settings (old_in d) (taken_in d) h.plan.equal h.plan.same h.listing.file_order h.control
+
+  pub planned : IsPlanned d.plan (layout h.plan.settings (old_in d) (taken_in d) h.plan.equal)
+  planned = record { singles = h.plan.singles; jobs = h.plan.jobs; last = one }
+
+  pub good_label : IsLabel d.label
+  good_label = (h.follows 0 (omega arith)).label
+
+  few_bundles : length (bundles (layout h.plan.settings (old_in d) (taken_in d) h.plan.equal)) < 2 ^ 32 - 1
+  few_bundles = let a = bundles_few h.plan.settings (old_in d) (taken_in d) h.plan.equal in let b = h.few in omega (arith, a, b)
+
+  pub few_jobs : length (jobs_in d) < 2 ^ 32
+  few_jobs =
+      let a = jobs_few h.plan.settings (old_in d) (taken_in d) h.plan.equal in
+      let b = h.few in
+      let c = one in
+      let e = ap (λ (js : List Job). length js) h.plan.jobs in
+      omega (arith, a, b, c, e)
+
+  pub reads : AreReads (jobs_in d)
+  reads = subst (λ (js : List Job). AreReads js) (sym h.plan.jobs) (jobs_read h.plan.settings (old_in d) (taken_in d) h.plan.equal)
+
+  pub job_fits : (j : Job) → In j (jobs_in d) → FitsJob j
+  job_fits j i = jobs_fit (taken_in d) (folders_in d) h.listing h.plan.settings (old_in d) h.plan.equal j (subst (λ (js : List Job). In j js) h.plan.jobs i)
+
+  pub all_fit : All (λ (j : rust.Job). FitsJob (job_of j)) d.plan.jobs.items
+  all_fit k x less = job_fits (job_of (get_or d.plan.jobs.items k x)) (in_jobs d.plan.jobs.items k x less)
+    where
+      in_jobs : (js : List rust.Job) (k : ℕ) (x : rust.Job) → k < length js → In (job_of (get_or js k x)) (map job_of js)
+      in_jobs [] k x less = absurd (omega (arith, less))
+      in_jobs (j ∷ js) zero x less = inl refl
+      in_jobs (j ∷ js) (suc k) x less = inr (in_jobs js k x (omega (arith, less)))
+
+  -- ---- what came of its jobs
+
+  prior_rules : IsLabel (unwrap_or d.prior d.label)
+  prior_rules = by d.prior (prior_label (head_at d 0) (list_in d) h.list (h.follows 0 (omega arith)))
+    where
+      by : (o : Option Label) → IfSome o IsLabel → IsLabel (unwrap_or o d.label)
+      by None x = good_label
+      by (Some l) x = x
+
+  few_files : length (taken_in d) < 2 ^ 32 - 1
+  few_files = let few = h.few in omega (arith, few)
+
+  module _ (ends : List (List Ended)) (come : JobsCome (jobs_in d) ends) where
+    laid_come : JobsCome (jobs_of (layout h.plan.settings (old_in d) (taken_in d) h.plan.equal)) ends
+    laid_come = subst (λ (js : List Job). JobsCome js ends) h.plan.jobs come
+
+    -- it may be recorded
+    pub keeps : KeepsBounds (went_with d ends) (taken_in d) d.plan.choices.items
+    keeps = subst (λ (cs : List _). KeepsBounds (went_with d ends) (taken_in d) cs) (sym h.plan.choices)
+        (keeps_bounds (went_with d ends) h.plan.settings (taken_in d) h.plan.equal h.plan.same few_files h.listing.sizes h.plan.singles one laid_come prior_rules h.old_folders h.old)
+
+    -- and the bytes of each job are few
+    pub totals : AllByRecursion (λ (es : List Ended). total es < 2 ^ 64) ends
+    totals = each ends (totals_small (went_with d ends) h.plan.settings (taken_in d) h.plan.equal h.plan.same few_files h.listing.sizes h.plan.singles one laid_come prior_rules h.old_folders h.old)
+      where
+        each : (ess : List (List Ended)) → ((j : ℕ) (es : List Ended) → slice_get ess j ≡ Some es → total es < 2 ^ 64) → AllByRecursion (λ (es : List Ended). total es < 2 ^ 64) ess
+        each [] all = tt
+        each (es ∷ ess) all = (all 0 es refl, each ess (λ j fs is. all (suc j) fs is))
+
+  module _ (names : List Name) (are : AreNames d names) where
+    names_is : names ≡ names_in (folder_of d) (layout h.plan.settings (old_in d) (taken_in d) h.plan.equal)
+    names_is = are (layout h.plan.settings (old_in d) (taken_in d) h.plan.equal) planned
+
+    pub names_plan : IsPlan (folder_of d) names
+    names_plan =
+        let r = of_map (λ (f : Taken). f.path) (taken_in d) control_path h.control in
+        subst (λ (ns : List Name). IsPlan (folder_of d) ns) (sym names_is)
+        (is_plan (stanza_of d) d.label h.plan.settings (old_in d) (taken_in d) (folders_in d) h.plan.equal h.listing.file_order h.listing.files r.0 r.1 few_bundles)
+
+    pub names_same : length (jobs_in d) ≡ length names
+    names_same = ap (λ (js : List Job). length js) h.plan.jobs ∙ sym (names_count (stanza_of d) d.label laid_out) ∙ ap (λ (ns : List Name). length ns) (sym names_is)
+
+    -- what the keeper tells of the jobs
+    module _ (links : List LinkState) (ps : List Progress) (now : Option Content) (count : length names ≡ length ps) (agree : Agrees names ps now) (done : AllDone (jobs_in d) links (kept_in names ps now)) (payload : AllByFile (jobs_in d) links (kept_in names ps now)) where
+      kept_count : length (kept_in names ps now) ≡ length (jobs_in d)
+      kept_count = by names ps count ∙ sym names_same
+        where
+          by : (ns : List Name) (qs : List Progress) → length ns ≡ length qs → length (kept_in ns qs now) ≡ length ns
+          by [] qs same = refl
+          by (n ∷ ns) [] same = absurd (omega (arith, same))
+          by (n ∷ ns) (q ∷ qs) same = ap suc (by ns qs (omega (arith, same)))
+
+      pub stored_as : Stored d links (map (λ (p : Progress). p.ended) ps) now
+      stored_as = record {
+        names = names;
+        names_are = are;
+        own = λ j n is. (names_plan.own j n is, names_plan.lasting j n is);
+        kept = kept_in names ps now;
+        received = done;
+        payload = payload;
+        are = keeps_end names ps now count;
+        come = jobs_came (jobs_in d) links (kept_in names ps now) (map (λ (p : Progress). p.ended) ps) reads kept_count done (keeps_end names ps now count);
+        got = λ told. received (jobs_in d) links (kept_in names ps now) reads kept_count done (told_of names ps now told);
+        placed = λ told g has. placed (folder_of d) names ps now g told names_plan agree (record { stored = has });
+        filled = λ told. bytes_at names ps now told agree;
+      }

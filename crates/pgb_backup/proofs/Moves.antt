@@ -1,0 +1,260 @@
+-- A backup as the way of a command: each content that may be left stands for the repository as it was, or with the backup.
+use Rattle.std.proofs.Common.{◌≡◌, ◌≢◌, ◌<◌, ◌≤◌, ◌⊎◌, ⊎_elim, inl, inr, ℕ, Bool, true, false, List, [], ◌∷◌, ◌++◌, length, map, take, Option, Some, None, refl, sym, ◌∙◌, ap, subst, arith, slice_get}
+use Rattle.std.specs.Prelude.{IsSome}
+use Rattle.pgb_outside.specs.Content.{Name, Content}
+use Rattle.pgb_outside.specs.Moments.{View, is_loose}
+use Rattle.pgb_outside.specs.Crash.{IsTemporary, Leaves}
+use Rattle.pgb_outside.specs.Links.{LinkState}
+use Rattle.pgb_model.specs.declared.labels.Label.{Label}
+use Rattle.pgb_model.specs.declared.clusters.Cluster.{Cluster}
+use Rattle.pgb_model.specs.Text.{Text, In}
+use Rattle.pgb_model.specs.Names.{copy_of, archive_info, backup_info, manifest_name}
+use Rattle.pgb_model.specs.Values.{Entry, FileEntry, Manifest, BackupInfo}
+use Rattle.pgb_model.specs.InfoFiles.{IsBackupText}
+use Rattle.pgb_model.specs.ManifestText.{IsManifestText}
+use Rattle.pgb_model.specs.Pair.{MemberIs, PairIs}
+use Rattle.pgb_model.specs.Place.{place}
+use Rattle.pgb_model.specs.Repository.{Backup, Stanza}
+use Rattle.pgb_model.specs.Stands.{Stands, HasStanza, IsArchiveFile, IsManifestOf, backup_value}
+use Rattle.pgb_model.specs.Steps.{changed, AddBackup}
+use Rattle.pgb_model.specs.Log.{IsFixed, IsPlaceOf, Lists}
+use Rattle.pgb_model.specs.Steady.{IsSteady, Moves}
+use Rattle.pgb_model.proofs.Temporary.{fixed_lasts}
+use Rattle.pgb_model.proofs.Frame.{pair_same}
+use Rattle.pgb_label.specs.Way.{MayLoosen, IsBeside}
+use Rattle.pgb_plan.proofs.Lists.{in_parts}
+use Rattle.pgb_record.specs.Item.{IsItem}
+use Rattle.pgb_record.specs.Making.{entry_with}
+use Rattle.pgb_record.specs.Record.{PriorRead, HasPrior, IsLeft, IsListOf, Adds}
+use Rattle.pgb_record.proofs.Coming.{AreReads}
+use Rattle.pgb_record.proofs.Recorded.{recorded}
+use Rattle.pgb_backup.specs.declared.draft.Draft.{Draft}
+use Rattle.pgb_backup.specs.Draft.{stanza_of, pair_of, main_of, is_own_of, jobs_in, list_in, IsDraft}
+use Rattle.pgb_backup.specs.Made.{HasBackup, Makes}
+use Rattle.pgb_backup.proofs.Came.{counts, kept_count}
+use Rattle.pgb_backup.proofs.Drafted.{reads}
+use Rattle.pgb_backup.proofs.Listed.{AgreesBelow, still_stands, listed_more_stands}
+
+-- the name is none that a backup changes
+pub record IsClear (own : Name → Bool) (pair main : Name) (n : Name) : Type 0 where
+  pub out : own n ≡ false
+  pub lasts : ¬ IsTemporary n
+  pub pair_off : n ≢ pair
+  pub copy_off : n ≢ copy_of pair
+  pub main_off : n ≢ main
+  pub main_copy_off : n ≢ copy_of main
+
+-- all that is looked at of a stanza that doesn't list the label is clear
+pub record IsFar (stanza : Text) (own : Name → Bool) (pair : Name) (s : Stanza) : Type 0 where
+  pub archive : IsClear own pair (backup_info stanza) (archive_info stanza) × IsClear own pair (backup_info stanza) (copy_of (archive_info stanza))
+  pub files : (n : Text) → IsArchiveFile stanza n → IsClear own pair (backup_info stanza) n
+  pub manifests : (f : Content) → HasStanza stanza f s → (l : Label) → Lists stanza f l → IsClear own pair (backup_info stanza) (manifest_name stanza l) × IsClear own pair (backup_info stanza) (copy_of (manifest_name stanza l))
+  pub places : (f : Content) → HasStanza stanza f s → (n : Text) → IsPlaceOf stanza f n → IsClear own pair (backup_info stanza) n
+  pub fixed : (n : Text) → IsFixed stanza n → own n ≡ false
+  pub list : (backup_info stanza ≢ pair) × (backup_info stanza ≢ copy_of pair) × (copy_of (backup_info stanza) ≢ pair) × (copy_of (backup_info stanza) ≢ copy_of pair)
+  pub list_lasts : (¬ IsTemporary (backup_info stanza)) × (¬ IsTemporary (copy_of (backup_info stanza)))
+  pub list_out : (own (backup_info stanza) ≡ false) × (own (copy_of (backup_info stanza)) ≡ false)
+
+-- Each content that may be left is, at all places that it leads to, like one that has the prior's manifest as it was read.
+abbrev pub IsMixed : Text → Stanza → Option PriorRead → View → Type 0
+IsMixed stanza s prior a = (f : Content) → Leaves a a.moment f → (h : Content) × Leaves a a.moment h × HasPrior stanza s prior h × ((n : Name) → IsPlaceOf stanza h n → h n ≡ f n)
+
+module _ (draft : Draft) (is_draft : IsDraft draft) (links : List LinkState) (whole : Bool) (s : Stanza) (a d : View) (told : IsSome a.now) (steady : IsSteady (stanza_of draft) (Some s) a) (makes : Makes draft links whole a d)
+    (far : IsFar (stanza_of draft) (is_own_of draft) (pair_of draft) s) (prior : Option PriorRead) (mixed : IsMixed (stanza_of draft) s prior a)
+    (list_of : IsListOf s (list_in draft)) (b : Backup) (adds : Adds (stanza_of draft) makes.names makes.kept prior makes.manifest makes.list s b) where
+  abbrev stanza : Text
+  stanza = stanza_of draft
+
+  abbrev own : Name → Bool
+  own = is_own_of draft
+
+  abbrev pair : Text
+  pair = pair_of draft
+
+  abbrev label : Label
+  label = draft.label
+
+  abbrev after : Stanza
+  after = changed (AddBackup b) s
+
+  abbrev Listed : Content → Content → Type 0
+  Listed f g = HasBackup own pair (backup_info stanza) makes.manifest makes.list makes.names makes.kept f g
+
+  named : b.entry.label ≡ label
+  named = sym adds.is.head.label ∙ ap (λ (m : Manifest). m.label) makes.manifest_is
+
+  beside_below : (f g : Content) → HasStanza stanza f s → IsBeside own pair f g → AgreesBelow stanza f g
+  beside_below f g h x = record {
+    archive = (by (archive_info stanza) far.archive.0, by (copy_of (archive_info stanza)) far.archive.1);
+    files = λ n file. by n (far.files n file);
+    manifests = λ l listed. let y = far.manifests f h l listed in (by (manifest_name stanza l) y.0, by (copy_of (manifest_name stanza l)) y.1);
+    places = λ n p. by n (far.places f h n p);
+  }
+    where
+      by : (n : Name) → IsClear own pair (backup_info stanza) n → g n ≡ f n
+      by n c = x.others n c.out c.lasts c.pair_off c.copy_off
+
+  beside_list : (f g : Content) → IsBeside own pair f g → (g (backup_info stanza) ≡ f (backup_info stanza)) × (g (copy_of (backup_info stanza)) ≡ f (copy_of (backup_info stanza)))
+  beside_list f g x = (
+    x.others (backup_info stanza) far.list_out.0 far.list_lasts.0 far.list.0 far.list.1,
+    x.others (copy_of (backup_info stanza)) far.list_out.1 far.list_lasts.1 far.list.2 far.list.3,
+  )
+
+  listed_same : (f g : Content) → Listed f g → (n : Name) → IsClear own pair (backup_info stanza) n → g n ≡ f n
+  listed_same f g x n c = x.others n c.out c.lasts c.pair_off c.copy_off c.main_off c.main_copy_off
+
+  listed_below : (f g : Content) → HasStanza stanza f s → Listed f g → AgreesBelow stanza f g
+  listed_below f g h x = record {
+    archive = (listed_same f g x (archive_info stanza) far.archive.0, listed_same f g x (copy_of (archive_info stanza)) far.archive.1);
+    files = λ n file. listed_same f g x n (far.files n file);
+    manifests = λ l listed. let y = far.manifests f h l listed in (listed_same f g x (manifest_name stanza l) y.0, listed_same f g x (copy_of (manifest_name stanza l)) y.1);
+    places = λ n p. listed_same f g x n (far.places f h n p);
+  }
+
+  -- a content beside one that has the stanza has it too
+  pub beside_stands : (f g : Content) → HasStanza (stanza_of draft) f s → IsBeside (is_own_of draft) (pair_of draft) f g → HasStanza (stanza_of draft) g s
+  beside_stands f g h x = still_stands stanza f g (beside_below f g h x) s h (beside_list f g x)
+
+  all_reads : AreReads (jobs_in draft)
+  all_reads = reads draft is_draft
+
+  -- the manifest is that of the backup where it is listed
+  record_is : (f g : Content) → Leaves a a.moment f → Listed f g → IsManifestOf stanza g after b makes.manifest
+  record_is f g leaves x =
+      let q = mixed f leaves in
+      recorded stanza makes.names makes.kept s prior b makes.manifest adds.is (makes.got told)
+      (counts (jobs_in draft) links makes.kept all_reads (kept_count (jobs_in draft) makes.kept makes.ends makes.are makes.come) makes.received)
+      q.0 g q.2 x.placed (λ e bytes left.
+      let p = left.place_is q.0 q.2 in
+      listed_same f g x (place stanza b.entry.label e).0 (far.places q.0 q.2.has (place stanza b.entry.label e).0 p) ∙ sym (q.3 (place stanza b.entry.label e).0 p))
+
+  -- a content with the backup has the stanza with it
+  pub listed_stands : (f g : Content) → Leaves a a.moment f → HasBackup (is_own_of draft) (pair_of draft) (main_of draft) makes.manifest makes.list makes.names makes.kept f g → HasStanza (stanza_of draft) g (changed (AddBackup b) s)
+  listed_stands f g leaves x =
+      let h = steady.stands f leaves in
+      listed_more_stands stanza f g (listed_below f g h x) s h b makes.manifest makes.list adds.list_is makes.list_valid makes.manifest_valid x.info_is
+      (ap (λ (l : Label). g (manifest_name stanza l)) named ∙ x.manifest_is) (record_is f g leaves x)
+
+  part : (g : Content) → (f : Content) × Leaves a a.moment f × (IsBeside own pair f g ⊎ Listed f g) → Stands stanza g (Some s) ⊎ Stands stanza g (Some after)
+  part g x = ⊎_elim (λ y. inl (beside_stands x.0 g (steady.stands x.0 x.1) y)) (λ y. inr (listed_stands x.0 g x.1 y)) x.2
+
+  out_of : (n : Name) → own n ≡ false → ¬ IsTemporary n → ¬ MayLoosen own n
+  out_of n out lasts m = ⊎_elim (λ (is : own n ≡ true). let u : ◌≡◌ {A = Bool} true false = sym is ∙ out in cc) lasts m
+
+  stays : (n : Name) → own n ≡ false → ¬ IsTemporary n → is_loose a n ≡ false → is_loose d n ≡ false
+  stays n out lasts h = makes.way.tight d.moment n makes.way.later (omega arith) (out_of n out lasts) h
+
+  fixed : (n : Text) → IsFixed stanza n → is_loose d n ≡ false
+  fixed n h = stays n (far.fixed n h) (fixed_lasts stanza n h) (steady.fixed n h)
+
+  -- ---- the places of what may be left
+
+  -- where f lists the label, a place of g is one of f
+  place_back : (f g : Content) → AgreesBelow stanza f g → (n : Text) → (p : IsPlaceOf stanza g n) → Lists stanza f p.label → IsPlaceOf stanza f n
+  place_back f g agrees n p listed = record {
+    label = p.label;
+    listed = listed;
+    manifest = p.manifest;
+    reads = pair_same IsManifestText g f (manifest_name stanza p.label) p.manifest (sym (agrees.manifests p.label listed).0) (sym (agrees.manifests p.label listed).1) p.reads;
+    entry = p.entry;
+    of_it = p.of_it;
+    filled = p.filled;
+    is = p.is;
+  }
+
+  old_place : (f g : Content) → Leaves a a.moment f → AgreesBelow stanza f g → (n : Text) → (p : IsPlaceOf stanza g n) → Lists stanza f p.label → is_loose d n ≡ false
+  old_place f g leaves agrees n p listed =
+      let q = place_back f g agrees n p listed in
+      let c = far.places f (steady.stands f leaves) n q in
+      stays n c.out c.lasts (steady.places f leaves n q)
+
+  beside_place : (f g : Content) → Leaves a a.moment f → IsBeside own pair f g → (n : Text) → IsPlaceOf stanza g n → is_loose d n ≡ false
+  beside_place f g leaves x n p =
+      let list = beside_list f g x in
+      old_place f g leaves (beside_below f g (steady.stands f leaves) x) n p (p.listed.0, pair_same IsBackupText g f (backup_info stanza) p.listed.0 (sym list.0) (sym list.1) p.listed.1, p.listed.2)
+
+  -- what the new list has is listed, or is the backup
+  entries_of : (c : Option Cluster) → (backup_value s c).backups ≡ (backup_value s None).backups
+  entries_of None = refl
+  entries_of (Some c) = refl
+
+  entries : (f : Content) → HasStanza stanza f s → (e : Entry) → In e makes.list.backups → Lists stanza f e.label ⊎ (e.label ≡ label)
+  entries f h e at =
+      let split : makes.list.backups ≡ (backup_value s None).backups ++ entry_with makes.manifest makes.listed.references ∷ [] = ap (λ (v : BackupInfo). v.backups) makes.listed.is ∙ ap (λ (v : BackupInfo). v.backups ++ entry_with makes.manifest makes.listed.references ∷ []) list_of in
+      ⊎_elim
+      (λ (was : In e (backup_value s None).backups). inl (backup_value s h.pending, h.backup_pair, (e, subst (λ (es : List Entry). In e es) (sym (entries_of h.pending)) was, refl)))
+      (λ (new : In e (entry_with makes.manifest makes.listed.references ∷ [])). ⊎_elim (λ (is : e ≡ entry_with makes.manifest makes.listed.references). inr (ap (λ (x : Entry). x.label) is ∙ ap (λ (m : Manifest). m.label) makes.manifest_is)) (λ (none : ⊥). absurd none) new)
+      (in_parts (backup_value s None).backups (entry_with makes.manifest makes.listed.references ∷ []) e (subst (λ (es : List Entry). In e es) split at))
+
+  -- an item has as many bytes as its entry tells
+  held : (e : FileEntry) (bytes : Text) (i : IsItem stanza b.entry.label makes.names makes.kept e bytes) → i.done.held.count ≡ e.size
+  held e bytes i =
+      let r = makes.got told i.job i.item i.of i.done e.size i.sum i.of_is i.done_is i.end in
+      let count = counts (jobs_in draft) links makes.kept all_reads (kept_count (jobs_in draft) makes.kept makes.ends makes.are makes.come) makes.received i.job i.item i.of i.done r.0 i.of_is i.done_is r.1.told in
+      count ∙ sym r.1.number
+
+  -- One text is of one value.
+  module _ (one_list : (v w : BackupInfo) (t : Text) → IsBackupText v t → IsBackupText w t → v ≡ w) (one_manifest : (v w : Manifest) (t : Text) → IsManifestText v t → IsManifestText w t → v ≡ w) where
+    one_member : {V : Type 0} (IsTextOf : V → Text → Type 0) → ((v w : V) (t : Text) → IsTextOf v t → IsTextOf w t → v ≡ w) → (g : Content) (name t : Text) (v w : V) → g name ≡ Some t → IsTextOf v t → PairIs IsTextOf g name w → w ≡ v
+    one_member IsTextOf one g name t v w is valid (inl x) = one w v t (subst (λ (u : Text). IsTextOf w u) (let e : ◌≡◌ {A = Option Text} (Some x.0) (Some t) = sym x.1 ∙ is in cc) x.2) valid
+    one_member IsTextOf one g name t v w is valid (inr x) = absurd (x.0 v (t, is, valid))
+
+    own_place : (e : FileEntry) → In e makes.manifest.files → e.reference ≡ None → 0 < e.size → is_loose d (place stanza label e).0 ≡ false
+    own_place e at none some =
+        let x = adds.is.received e at none some in
+        let i = x.1 in
+        let there : (place stanza b.entry.label e).0 ≡ i.name = ap (λ (q : Text × ℕ). q.0) (i.at some) in
+        subst (λ (n : Name). is_loose d n ≡ false) (sym (ap (λ (l : Label). (place stanza l e).0) (sym named) ∙ there))
+        (makes.tight told i.job i.item i.name i.of i.done i.name_is i.of_is i.done_is (subst (λ (k : ℕ). 0 < k) (sym (held e x.0 i)) some))
+
+    new_place : (f g : Content) → Leaves a a.moment f → Listed f g → (n : Text) → (p : IsPlaceOf stanza g n) → p.label ≡ label → is_loose d n ≡ false
+    new_place f g leaves x n p same =
+        let m_is : p.manifest ≡ makes.manifest = one_member IsManifestText one_manifest g pair _ makes.manifest p.manifest x.manifest_is makes.manifest_valid (subst (λ (l : Label). PairIs IsManifestText g (manifest_name stanza l) p.manifest) same p.reads) in
+        let at : In p.entry makes.manifest.files = subst (λ (m : Manifest). In p.entry m.files) m_is p.of_it in
+        let where_is : n ≡ (place stanza label p.entry).0 = p.is ∙ ap (λ (l : Label). (place stanza l p.entry).0) same in
+        subst (λ (k : Name). is_loose d k ≡ false) (sym where_is) (by p.entry at p.filled p.entry.reference refl)
+      where
+        by : (e : FileEntry) → In e makes.manifest.files → 0 < e.size → (o : Option Label) → e.reference ≡ o → is_loose d (place stanza label e).0 ≡ false
+        by e at some None none = own_place e at none some
+        by e at some (Some l) is =
+            let y = adds.is.left e l at is some in
+            let m = mixed f leaves in
+            let q : IsPlaceOf stanza m.0 (place stanza label e).0 = subst (λ (k : Label). IsPlaceOf stanza m.0 (place stanza k e).0) named (y.2.place_is m.0 m.2) in
+            let c = far.places m.0 m.2.has (place stanza label e).0 q in
+            stays (place stanza label e).0 c.out c.lasts (steady.places m.0 m.1 (place stanza label e).0 q)
+
+    listed_place : (f g : Content) → Leaves a a.moment f → Listed f g → (n : Text) → IsPlaceOf stanza g n → is_loose d n ≡ false
+    listed_place f g leaves x n p =
+        let h = steady.stands f leaves in
+        let v_same : p.listed.0 ≡ makes.list = one_member IsBackupText one_list g (backup_info stanza) _ makes.list p.listed.0 x.info_is makes.list_valid p.listed.1 in
+        let e = p.listed.2.0 in
+        let at : In e makes.list.backups = subst (λ (v : BackupInfo). In e v.backups) v_same p.listed.2.1 in
+        ⊎_elim
+        (λ (listed : Lists stanza f e.label). old_place f g leaves (listed_below f g h x) n p (subst (λ (l : Label). Lists stanza f l) p.listed.2.2 listed))
+        (λ (is : e.label ≡ label). new_place f g leaves x n p (sym p.listed.2.2 ∙ is))
+        (entries f h e at)
+
+    places : (g : Content) → Leaves d d.moment g → (n : Text) → IsPlaceOf stanza g n → is_loose d n ≡ false
+    places g leaves n p =
+        let x = makes.way.comes told d.moment g makes.way.later (omega arith) leaves in
+        ⊎_elim (λ y. beside_place x.0 g x.1 y n p) (λ y. listed_place x.0 g x.1 y n p) x.2
+
+    -- the command's way
+    pub backup_moves : Moves (stanza_of draft) (λ g. Stands (stanza_of draft) g (Some s) ⊎ Stands (stanza_of draft) g (Some (changed (AddBackup b) s))) a d
+    backup_moves = record {
+      later = makes.way.later;
+      past = makes.way.past;
+      past_loose = makes.way.past_loose;
+      told = makes.way.told told;
+      fixed = fixed;
+      places = places;
+      leaves = λ t g lo hi leaves. part g (makes.way.comes told t g lo hi leaves);
+    }
+
+    -- and at Ok the disk is steady at the repository with the backup
+    pub backup_steady : whole ≡ true → IsSteady (stanza_of draft) (Some (changed (AddBackup b) s)) d
+    backup_steady is = record {
+      fixed = fixed;
+      places = places;
+      stands = λ g leaves. let x = (makes.whole_way is).comes told g leaves in listed_stands x.0 g x.1 x.2;
+    }

@@ -1,0 +1,101 @@
+-- A backup that is to be made, and its manifest. Own.
+use Rattle.std.specs.Prelude.{◌≡◌, ◌≤◌, ℕ, true, Bool, List, [], length, map, string_bytes, Option, Some, None, unwrap_or}
+use Rattle.pgb_outside.specs.Order.{are_in_order}
+use Rattle.pgb_outside.specs.Content.{Name}
+use Rattle.pgb_frame.specs.Frames.{Job}
+use Rattle.pgb_frame.specs.Views.{job_of}
+use Rattle.pgb_model.specs.declared.labels.Label.{Label}
+use Rattle.pgb_model.specs.Text.{Text, In}
+use Rattle.pgb_model.specs.Dates.{last_second}
+use Rattle.pgb_model.specs.Names.{label_folder, manifest_name, backup_info}
+use Rattle.pgb_model.specs.InfoFiles.{IsBackupInfo}
+use Rattle.pgb_model.specs.ManifestText.{IsFileEntry}
+use Rattle.pgb_model.specs.Values.{BackupInfo, FileEntry, Manifest, backup_info_of, file_entry_of}
+use Rattle.pgb_label.specs.declared.keeper.Ended.{Ended}
+use Rattle.pgb_label.specs.Keeping.{is_own}
+use Rattle.pgb_plan.specs.declared.values.Choice.{Choice}
+use Rattle.pgb_plan.specs.declared.values.PlanSettings.{PlanSettings}
+use Rattle.pgb_plan.specs.Listed.{Taken, control_path}
+use Rattle.pgb_plan.specs.Layout.{Layout, layout, jobs_of}
+use Rattle.pgb_plan.specs.Filter.{IsListing, HasFile, most_files}
+use Rattle.pgb_plan.specs.Views.{taken_of}
+use Rattle.pgb_record.specs.declared.recording.Head.{Head}
+use Rattle.pgb_record.specs.Bounds.{MayFollow}
+use Rattle.pgb_record.specs.Entries.{Went, entries}
+use Rattle.pgb_record.specs.Making.{manifest_with}
+use Rattle.pgb_record.specs.Naming.{names_in}
+use Rattle.pgb_backup.specs.declared.draft.Draft.{Draft}
+
+abbrev pub stanza_of : Draft → Text
+stanza_of d = d.stanza.now
+
+abbrev pub taken_in : Draft → List Taken
+taken_in d = map taken_of d.listing.files.items
+
+abbrev pub folders_in : Draft → List Text
+folders_in d = map string_bytes d.listing.folders.items
+
+abbrev pub old_in : Draft → List FileEntry
+old_in d = map file_entry_of d.old.now
+
+abbrev pub jobs_in : Draft → List Job
+jobs_in d = map job_of d.plan.jobs.items
+
+-- the stanza's list, as it was before
+abbrev pub list_in : Draft → BackupInfo
+list_in d = backup_info_of d.before
+
+-- ---- names
+
+-- the label's folder, its manifest's main member, and that of the stanza's list
+abbrev pub folder_of : Draft → Name
+folder_of d = label_folder (stanza_of d) d.label
+
+abbrev pub pair_of : Draft → Name
+pair_of d = manifest_name (stanza_of d) d.label
+
+abbrev pub main_of : Draft → Name
+main_of d = backup_info (stanza_of d)
+
+-- the names at which its bytes are kept
+abbrev pub is_own_of : Draft → Name → Bool
+is_own_of d = is_own (folder_of d)
+
+-- ---- the manifest
+
+-- what it tells beside its files and folders, where the last job has ended by then
+abbrev pub head_at : Draft → ℕ → Head
+head_at d stop = record { label = d.label; prior = d.prior; start = d.start; stop = stop; cluster = d.cluster; wal = None; choices = d.choices }
+
+-- how the jobs went that ended so
+abbrev pub went_with : Draft → List (List Ended) → Went
+went_with d ends = record { prior = unwrap_or d.prior d.label; old = old_in d; singles = d.plan.singles; ends = ends }
+
+abbrev pub files_with : Draft → List (List Ended) → List FileEntry
+files_with d ends = entries (went_with d ends) (taken_in d) d.plan.choices.items
+
+abbrev pub manifest_at : Draft → List (List Ended) → ℕ → Manifest
+manifest_at d ends stop = manifest_with (head_at d stop) (files_with d ends) (folders_in d)
+
+-- ---- what a draft keeps
+
+-- The plan is that of these files, beside those of the prior backup.
+pub record IsPlanOf (d : Draft) : Type 0 where
+  pub settings : PlanSettings
+  pub equal : List Bool
+  pub same : length equal ≡ length (taken_in d)
+  pub choices : d.plan.choices.items ≡ (layout settings (old_in d) (taken_in d) equal).choices
+  pub singles : d.plan.singles ≡ length (layout settings (old_in d) (taken_in d) equal).singles
+  pub jobs : jobs_in d ≡ jobs_of (layout settings (old_in d) (taken_in d) equal)
+
+-- The files are within the limits, and are planned; its label, times and cluster fit the list; the prior backup's files are a manifest's.
+pub record IsDraft (d : Draft) : Type 0 where
+  pub listing : IsListing (taken_in d) (folders_in d)
+  pub control : HasFile control_path (taken_in d)
+  pub few : length (taken_in d) ≤ most_files
+  pub plan : IsPlanOf d
+  pub list : IsBackupInfo (list_in d)
+  pub follows : (stop : ℕ) → stop ≤ last_second → MayFollow (head_at d stop) (list_in d)
+  pub old_order : are_in_order (map (λ (e : FileEntry). e.path) (old_in d)) ≡ true
+  pub old_folders : List Text
+  pub old : (e : FileEntry) → In e (old_in d) → IsFileEntry old_folders e

@@ -1,0 +1,82 @@
+-- What a stop leaves of a backup, and which bytes it is made of (pgBackRest command reference, "Backup").
+use Rattle.std.specs.Prelude.{◌≡◌, ◌≢◌, ◌⊎◌, ◌<◌, ℕ, Bool, true, false, List, Option, Some, Result, Ok, Err, IsSome, slice_get}
+use Rattle.pgb_outside.specs.Content.{Name, Content}
+use Rattle.pgb_outside.specs.Moments.{View, is_loose}
+use Rattle.pgb_outside.specs.Crash.{IsTemporary, Ends}
+use Rattle.pgb_outside.specs.Links.{LinkState}
+use Rattle.pgb_model.specs.Text.{Text}
+use Rattle.pgb_model.specs.Names.{copy_of}
+use Rattle.pgb_model.specs.Values.{Manifest, BackupInfo}
+use Rattle.pgb_model.specs.InfoText.{info_text}
+use Rattle.pgb_model.specs.InfoFiles.{backup_sections, IsBackupText}
+use Rattle.pgb_model.specs.ManifestText.{IsManifestText}
+use Rattle.pgb_manifest.specs.Keeping.{manifest_text}
+use Rattle.pgb_keep.specs.KeepState.{Done, Kept}
+use Rattle.pgb_dispatch.specs.Payloads.{AllByFile}
+use Rattle.pgb_dispatch.specs.Run.{AllDone}
+use Rattle.pgb_label.specs.declared.keeper.Ended.{Ended}
+use Rattle.pgb_label.specs.Placed.{IsPlaced}
+use Rattle.pgb_label.specs.Way.{Way, MayLoosen, IsBeside}
+use Rattle.pgb_record.specs.Ends.{AreAllEnds, AreReceived, JobsCome}
+use Rattle.pgb_record.specs.Faults.{HasControl}
+use Rattle.pgb_record.specs.Making.{IsListWith}
+use Rattle.pgb_backup.specs.declared.draft.Draft.{Draft}
+use Rattle.pgb_backup.specs.declared.fault.MakeFault.{MakeFault}
+use Rattle.pgb_backup.specs.Draft.{jobs_in, list_in, pair_of, main_of, is_own_of, manifest_at}
+use Rattle.pgb_backup.specs.Stored.{AreNames}
+
+-- The two pairs' names aren't temporary, differ, and are none at which bytes are stored.
+pub record AreApart (own : Name → Bool) (pair main : Name) : Type 0 where
+  pub pair_lasts : ¬ IsTemporary pair
+  pub main_lasts : ¬ IsTemporary main
+  pub pair_two : pair ≢ copy_of pair
+  pub main_two : main ≢ copy_of main
+  pub pair_out : own pair ≡ false
+  pub copy_out : own (copy_of pair) ≡ false
+  pub main_out : own main ≡ false
+  pub main_copy_out : own (copy_of main) ≡ false
+  pub apart : (pair ≢ main) × (pair ≢ copy_of main)
+  pub copy_lasts : ¬ IsTemporary (copy_of pair)
+  pub main_copy_lasts : ¬ IsTemporary (copy_of main)
+
+-- none of the four members is loose
+pub record IsTightAt (pair main : Name) (v : View) : Type 0 where
+  pub manifest : is_loose v pair ≡ false
+  pub manifest_copy : is_loose v (copy_of pair) ≡ false
+  pub info : is_loose v main ≡ false
+  pub info_copy : is_loose v (copy_of main) ≡ false
+
+-- the two pairs have these values, and each item lies at its place
+pub record HasBackup (own : Name → Bool) (pair main : Name) (m : Manifest) (v : BackupInfo) (names : List Name) (kept : List Kept) (f g : Content) : Type 0 where
+  pub info_is : g main ≡ Some (info_text (backup_sections v))
+  pub manifest_is : g pair ≡ Some (manifest_text m)
+  pub placed : IsPlaced names kept g
+  pub others : (n : Name) → own n ≡ false → ¬ IsTemporary n → n ≢ pair → n ≢ copy_of pair → n ≢ main → n ≢ copy_of main → g n ≡ f n
+
+-- The backup may be listed: by these values, of what the links read.
+pub record Makes (d : Draft) (links : List LinkState) (whole : Bool) (old new : View) : Type 0 where
+  pub names : List Name
+  pub names_are : AreNames d names
+  pub ends : List (List Ended)
+  pub kept : List Kept
+  pub received : AllDone (jobs_in d) links kept
+  pub payload : AllByFile (jobs_in d) links kept
+  pub are : AreAllEnds ends kept
+  pub come : JobsCome (jobs_in d) ends
+  pub got : IsSome old.now → AreReceived kept
+  pub stop : ℕ
+  pub manifest : Manifest
+  pub manifest_is : manifest ≡ manifest_at d ends stop
+  pub manifest_valid : IsManifestText manifest (manifest_text manifest)
+  pub control : HasControl manifest.files
+  pub list : BackupInfo
+  pub listed : IsListWith (list_in d) manifest list
+  pub list_valid : IsBackupText list (info_text (backup_sections list))
+  pub tight : IsSome old.now → (j i : ℕ) (n : Name) (k : Kept) (x : Done) → slice_get names j ≡ Some n → slice_get kept j ≡ Some k → slice_get k.done i ≡ Some x → 0 < x.held.count → is_loose new n ≡ false
+  pub way : Way (MayLoosen (is_own_of d)) (λ f g. IsBeside (is_own_of d) (pair_of d) f g ⊎ HasBackup (is_own_of d) (pair_of d) (main_of d) manifest list names kept f g) old new
+  pub whole_way : whole ≡ true → Ends (HasBackup (is_own_of d) (pair_of d) (main_of d) manifest list names kept) old new
+
+-- at Ok it is listed; else nothing is, or it may be
+abbrev pub Outcome : Result (Unit {0}) MakeFault → Draft → List LinkState → View → View → Type 0
+Outcome (Ok x) d links old new = Makes d links true old new
+Outcome (Err e) d links old new = Way (MayLoosen (is_own_of d)) (IsBeside (is_own_of d) (pair_of d)) old new ⊎ Makes d links false old new

@@ -1,0 +1,21 @@
+-- What is saved of a backup. Own.
+use Rattle.std.specs.Prelude.{◌≡◌, ℕ, List}
+use Rattle.pgb_model.specs.Text.{Text}
+use Rattle.pgb_model.specs.InfoFiles.{IsBackupText}
+use Rattle.pgb_model.specs.ManifestText.{IsManifest}
+use Rattle.pgb_model.specs.Values.{BackupInfo, Manifest}
+use Rattle.pgb_label.specs.declared.keeper.Ended.{Ended}
+use Rattle.pgb_record.specs.Faults.{HasControl}
+use Rattle.pgb_record.specs.Making.{IsListWith}
+use Rattle.pgb_backup.specs.declared.draft.Draft.{Draft}
+use Rattle.pgb_backup.specs.Draft.{list_in, manifest_at}
+
+-- The manifest is that of a draft whose jobs ended so, and the text is that of the stanza's list with its backup.
+pub record Prepares (d : Draft) (ends : List (List Ended)) (m : Manifest) (text : Text) : Type 0 where
+  pub stop : ℕ
+  pub manifest_is : m ≡ manifest_at d ends stop
+  pub rules : IsManifest m
+  pub control : HasControl m.files
+  pub list : BackupInfo
+  pub listed : IsListWith (list_in d) m list
+  pub valid : IsBackupText list text

@@ -1,0 +1,73 @@
+// The jobs of a draft are done.
+ghost use Rattle.std.specs.Prelude.{◌≡◌, ◌<◌, ◌^◌, ℕ, Some, map, vec_len, slice_get, string_bytes, IfOk, IfErr, OnOk};
+ghost use Rattle.pgb_outside.specs.Links.{LinkState};
+ghost use Rattle.pgb_outside.specs.States.{Frame};
+ghost use Rattle.pgb_model.specs.InfoFiles.{IsLabel};
+ghost use Rattle.pgb_model.specs.Names.{label_folder};
+ghost use Rattle.pgb_dispatch.specs.Run.{AddsLosses, Left, IsReady};
+ghost use Rattle.pgb_label.specs.Keeping.{IsPlan};
+ghost use Rattle.pgb_label.specs.Relation.{Touches};
+ghost use Rattle.pgb_label.specs.Sealed.{IsSealed};
+ghost use Rattle.pgb_backup.specs.Draft.{IsDraft, jobs_in, folder_of, is_own_of};
+ghost use Rattle.pgb_backup.specs.Faults.{StoreFails};
+ghost use Rattle.pgb_backup.specs.Stored.{AreNames, Stored};
+
+use crate::draft::Draft;
+use crate::fault::MakeFault;
+use crate::storing::store;
+use pgb_dispatch::Lost;
+use pgb_label::Ended;
+use pgb_model::Label;
+use pgb_outside::{Disk, Link, Turns};
+use pgb_record::names_of;
+use pgb_stamp::label_text;
+use pgb_text::NoMemory;
+use std::alloc::Global;
+
+// The folder of a label.
+fn folder_name(alloc: Global, stanza: &str, label: &Label) -> Result<String, NoMemory>
+    requires { IsLabel label.now }
+    ensures { IfOk result (λ name. string_bytes name ≡ label_folder stanza.now label.now) }
+{
+    let label = label_text(alloc, label)?;
+    Ok(format!(in alloc; "backup/{stanza}/{label}")?)
+}
+
+/// Has the draft's jobs done, and stores what comes of them in the label's folder, to last.
+pub(crate) fn fetch<D: Disk, L: Link, U: Turns>(
+    alloc: Global,
+    d: &mut D,
+    links: &mut Vec<L>,
+    turns: &mut U,
+    lost: &mut Vec<Lost>,
+    draft: &Draft<'_>,
+) -> Result<Vec<Vec<Ended>>, MakeFault>
+    requires draft { IsDraft draft.now }
+    requires few { vec_len links.old < 2 ^ 32 }
+    requires ready { (i : ℕ) (s : LinkState) → slice_get (map L.link_state links.old.items) i ≡ Some s → IsReady s }
+    ensures touches { Touches (is_own_of draft.now) (D.state d.old).view (D.state d.new).view }
+    ensures sealed { OnOk result (IsSealed (is_own_of draft.now) (D.state d.new).view) }
+    ensures stored { IfOk result (λ ends. Stored draft.now (map L.link_state links.old.items)
+        (map (λ v. v.items) ends.items) (D.state d.new).view.now) }
+    ensures frame { Frame (D.state d.old) (D.state d.new) }
+    ensures left { OnOk result (Left (jobs_in draft.now) (map L.link_state links.old.items)
+        lost.old.items lost.new.items (map L.link_state links.new.items)) }
+    ensures told { AddsLosses (jobs_in draft.now) (map L.link_state links.old.items) lost.old.items lost.new.items }
+    ensures fault { IfErr result (λ e. StoreFails e (jobs_in draft.now) (map L.link_state links.old.items)
+        (map L.link_state links.new.items) lost.old.items lost.new.items
+        (D.state d.old).faults (D.state d.new).faults) }
+{
+    let folder = folder_name(alloc, draft.stanza, &draft.label)?;
+    let names = names_of(alloc, &folder, &draft.plan)?;
+    let keep = store(
+        alloc,
+        d,
+        links,
+        turns,
+        lost,
+        &folder,
+        &draft.plan.jobs,
+        &names,
+    )?;
+    Ok(keep.into_ends(alloc)?)
+}

@@ -1,0 +1,55 @@
+// A backup.
+ghost use Rattle.std.specs.Prelude.{◌≡◌, ◌<◌, ◌^◌, ℕ, Some, map, vec_len, slice_get, IfErr, OnOk};
+ghost use Rattle.pgb_outside.specs.Links.{LinkState};
+ghost use Rattle.pgb_outside.specs.States.{Frame};
+ghost use Rattle.pgb_dispatch.specs.Run.{AddsLosses, Left, IsReady};
+ghost use Rattle.pgb_backup.specs.Draft.{IsDraft, jobs_in, pair_of, main_of};
+ghost use Rattle.pgb_backup.specs.Faults.{MakeFails};
+ghost use Rattle.pgb_backup.specs.Made.{IsTightAt, Outcome};
+
+use crate::draft::Draft;
+use crate::fault::MakeFault;
+use crate::fetching::fetch;
+use crate::preparing::prepare;
+use pgb_dispatch::Lost;
+use pgb_manifest::save_manifest;
+use pgb_outside::{Clock, Disk, Link, Turns};
+use pgb_pair::save_text;
+use std::alloc::Global;
+
+/// Stores what the draft's jobs ask for in the folder of its label, saves the label's manifest, and then the stanza's
+/// list with the backup.
+pub fn make<D: Disk, L: Link, U: Turns, C: Clock>(
+    alloc: Global,
+    d: &mut D,
+    links: &mut Vec<L>,
+    turns: &mut U,
+    lost: &mut Vec<Lost>,
+    clock: &mut C,
+    draft: Draft<'_>,
+) -> Result<(), MakeFault>
+    requires draft { IsDraft draft }
+    requires few { vec_len links.old < 2 ^ 32 }
+    requires ready { (i : ℕ) (s : LinkState) → slice_get (map L.link_state links.old.items) i ≡ Some s → IsReady s }
+
+    // At each moment a stop leaves the stanza's list as it was, or the backup is listed, of the bytes that the links
+    // read. At Ok it is listed.
+    ensures made { IsTightAt (pair_of draft.entry) (main_of draft.entry) (D.state d.old).view → Outcome result draft.entry
+        (map L.link_state links.old.items) (D.state d.old).view (D.state d.new).view }
+    ensures frame { Frame (D.state d.old) (D.state d.new) }
+
+    // Each link that was lost is told, and at Ok the others are left.
+    ensures left { OnOk result (Left (jobs_in draft.entry) (map L.link_state links.old.items)
+        lost.old.items lost.new.items (map L.link_state links.new.items)) }
+    ensures told { AddsLosses (jobs_in draft.entry) (map L.link_state links.old.items) lost.old.items lost.new.items }
+    ensures fault { IfErr result (λ e. MakeFails e draft.entry (map L.link_state links.old.items)
+        (map L.link_state links.new.items) lost.old.items lost.new.items
+        (D.state d.old).faults (D.state d.new).faults (C.faults clock.old) (C.faults clock.new)) }
+{
+    let stanza = draft.stanza;
+    let ends = fetch(alloc, d, links, turns, lost, &draft)?;
+    let prepared = prepare(alloc, clock, draft, &ends)?;
+    save_manifest(alloc, d, stanza, &prepared.manifest)?;
+    save_text(alloc, d, &prepared.main, &prepared.text)?;
+    Ok(())
+}
