@@ -49,8 +49,7 @@ jobs_came [] links (k ∷ ks) ends reads same done are = absurd (omega (arith, s
 jobs_came (j ∷ js) links [] ends reads same done are = absurd (omega (arith, same))
 jobs_came (j ∷ js) links (k ∷ ks) [] reads same done are = absurd are
 jobs_came (j ∷ js) links (k ∷ ks) (es ∷ ess) reads same done are =
-    let e : EndedBy links j k = done 0 j refl in
-    (
+    let e : EndedBy links j k = done 0 j refl in (
       all_came e.from.told j.items k.done es (subst (λ (kind : JobKind). AllEnd e.from.told kind j.items k.done) (reads j (inl refl)) e.items) are.0,
       jobs_came js links ks ess (λ x i. reads x (inr i)) (omega (arith, same)) (λ i x is. done (suc i) x is) are.1,
     )

@@ -122,7 +122,7 @@ module _ (stanza : Text) (label : Label) where
   pub parts : (l : Label) (r t : Text) → label_folder stanza l ⫽ r ≡ folder ⫽ t → (label_text l ≡ label_text label) × (r ≡ t)
   parts l r t e =
       let moved : backup_folder stanza ++ 47 ∷ (label_text l ++ 47 ∷ r) ≡ backup_folder stanza ++ 47 ∷ (label_text label ++ 47 ∷ t) =
-          sym (append_assoc (backup_folder stanza) (47 ∷ label_text l) (47 ∷ r)) ∙ e ∙ append_assoc (backup_folder stanza) (47 ∷ label_text label) (47 ∷ t) in
+      sym (append_assoc (backup_folder stanza) (47 ∷ label_text l) (47 ∷ r)) ∙ e ∙ append_assoc (backup_folder stanza) (47 ∷ label_text label) (47 ∷ t) in
       let cut = append_cancel_left (backup_folder stanza) (47 ∷ (label_text l ++ 47 ∷ r)) (47 ∷ (label_text label ++ 47 ∷ t)) moved in
       first_part (label_text l) (label_text label) r t (label_plain l) (label_plain label) (let h : label_text l ++ 47 ∷ r ≡ label_text label ++ 47 ∷ t = cc in h)
 
@@ -267,7 +267,7 @@ module _ (one_manifest : OneManifest) (draft : Draft) (is_draft : IsDraft draft)
         let other = lists_other f h l x in (
           clear stanza label l (codes "backup.manifest") other (fixed_lasts stanza (manifest_name stanza l) (Manifested (l, inl refl))),
           subst (λ (m : Name). IsClear (is_own_of draft) (pair_of draft) (main_of draft) m) (sym (copy_in stanza label (label_folder stanza l) (codes "backup.manifest")))
-          (clear stanza label l (codes "backup.manifest.copy") other (subst (λ (m : Name). ¬ IsTemporary m) (copy_in stanza label (label_folder stanza l) (codes "backup.manifest")) (fixed_lasts stanza (copy_of (manifest_name stanza l)) (Manifested (l, inr refl))))),
+              (clear stanza label l (codes "backup.manifest.copy") other (subst (λ (m : Name). ¬ IsTemporary m) (copy_in stanza label (label_folder stanza l) (codes "backup.manifest")) (fixed_lasts stanza (copy_of (manifest_name stanza l)) (Manifested (l, inr refl))))),
         )
         );
     places = place_clear;

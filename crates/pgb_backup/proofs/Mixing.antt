@@ -101,11 +101,11 @@ module _ (stanza : Text) (s : Stanza) (a : View) (steady : IsSteady stanza (Some
   pub mixed_prior : IsMixed stanza s (Some (record { label = label; manifest = m })) a
   mixed_prior f leaves = ⊎_elim
       (λ (is : a.now ≡ Some f). (
-        let same : now ≡ f = (let e : ◌≡◌ {A = Option Content} (Some now) (Some f) = sym told ∙ is in cc) in
-        (f, leaves, record { has = steady.stands f leaves; reads = subst (λ (g : Content). PairIs IsManifestText g main m) same reads }, λ n p. refl)
+      let same : now ≡ f = (let e : ◌≡◌ {A = Option Content} (Some now) (Some f) = sym told ∙ is in cc) in
+      (f, leaves, record { has = steady.stands f leaves; reads = subst (λ (g : Content). PairIs IsManifestText g main m) same reads }, λ n p. refl)
       ))
       (λ (image : IsImage a a.moment f). (
-        let there : Leaves a a.moment (mix f) = inr (mixed_image f image) in
-        (mix f, there, record { has = steady.stands (mix f) there; reads = reads_mixed f }, λ n p. at_other f n (place_other (mix f) n p))
+      let there : Leaves a a.moment (mix f) = inr (mixed_image f image) in
+      (mix f, there, record { has = steady.stands (mix f) there; reads = reads_mixed f }, λ n p. at_other f n (place_other (mix f) n p))
       ))
       leaves

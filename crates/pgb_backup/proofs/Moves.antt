@@ -125,8 +125,8 @@ module _ (draft : Draft) (is_draft : IsDraft draft) (links : List LinkState) (wh
       recorded stanza makes.names makes.kept s prior b makes.manifest adds.is (makes.got told)
       (counts (jobs_in draft) links makes.kept all_reads (kept_count (jobs_in draft) makes.kept makes.ends makes.are makes.come) makes.received)
       q.0 g q.2 x.placed (λ e bytes left.
-          let p = left.place_is q.0 q.2 in
-          listed_same f g x (place stanza b.entry.label e).0 (far.places q.0 q.2.has (place stanza b.entry.label e).0 p) ∙ sym (q.3 (place stanza b.entry.label e).0 p))
+      let p = left.place_is q.0 q.2 in
+      listed_same f g x (place stanza b.entry.label e).0 (far.places q.0 q.2.has (place stanza b.entry.label e).0 p) ∙ sym (q.3 (place stanza b.entry.label e).0 p))
 
   -- a content with the backup has the stanza with it
   pub listed_stands : (f g : Content) → Leaves a a.moment f → HasBackup (is_own_of draft) (pair_of draft) (main_of draft) makes.manifest makes.list makes.names makes.kept f g → HasStanza (stanza_of draft) g (changed (AddBackup b) s)

@@ -11,26 +11,15 @@ pub enum MakeFault {
     /// No link is left, and a job hasn't ended.
     WorkersLost,
     /// A worker couldn't read this item of this job.
-    Unread {
-        job: u32,
-        item: u32,
-    },
+    Unread { job: u32, item: u32 },
     /// A file without which there is no backup vanished.
-    ControlMissing {
-        path: &'static str,
-    },
+    ControlMissing { path: &'static str },
     /// The clock tells a second past the year 9999.
-    TooLate {
-        now: u64,
-    },
+    TooLate { now: u64 },
     /// The manifest would have so many bytes, which are too many.
-    ManifestTooLong {
-        length: u64,
-    },
+    ManifestTooLong { length: u64 },
     /// So would the stanza's list.
-    ListTooLong {
-        length: u64,
-    },
+    ListTooLong { length: u64 },
     /// The clock failed.
     Clock,
     /// The repository's disk failed.

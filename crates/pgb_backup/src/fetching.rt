@@ -59,6 +59,15 @@ pub(crate) fn fetch<D: Disk, L: Link, U: Turns>(
 {
     let folder = folder_name(alloc, draft.stanza, &draft.label)?;
     let names = names_of(alloc, &folder, &draft.plan)?;
-    let keep = store(alloc, d, links, turns, lost, &folder, &draft.plan.jobs, &names)?;
+    let keep = store(
+        alloc,
+        d,
+        links,
+        turns,
+        lost,
+        &folder,
+        &draft.plan.jobs,
+        &names,
+    )?;
     Ok(keep.into_ends(alloc)?)
 }

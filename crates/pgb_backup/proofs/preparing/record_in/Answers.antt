@@ -17,6 +17,6 @@ pub record_of-requires-clause-came : goal.record_of-requires-clause-came
 record_of-requires-clause-came c =
     let draft = c.args.draft in
     let went = c.went-ran.ensures.went
-        ∙ ap (λ (l : Label). (let w : Went = record { prior = l; old = map file_entry_of draft.old.now; singles = draft.plan.singles; ends = map (λ v. v.items) c.args.ends.now } in w)) c.unwrap_or.ensures in
+    ∙ ap (λ (l : Label). (let w : Went = record { prior = l; old = map file_entry_of draft.old.now; singles = draft.plan.singles; ends = map (λ v. v.items) c.args.ends.now } in w)) c.unwrap_or.ensures in
     subst (λ (cs : List Choice). KeepsBounds (went_of c.went-ran.result) (taken_in draft) cs) (sym c.deref-2.ensures.value)
     (subst (λ (w : Went). KeepsBounds w (taken_in draft) draft.plan.choices.items) (sym went) (keeps draft c.requires.draft (map (λ v. v.items) c.args.ends.now) c.requires.come))
