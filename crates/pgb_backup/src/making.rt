@@ -34,8 +34,8 @@ pub fn make<D: Disk, L: Link, U: Turns, C: Clock>(
 
     // At each moment a stop leaves the stanza's list as it was, or the backup is listed, of the bytes that the links
     // read. At Ok it is listed.
-    ensures made { IsTightAt (pair_of draft.entry) (main_of draft.entry) (D.state d.old).view → Outcome result draft.entry
-        (map L.link_state links.old.items) (D.state d.old).view (D.state d.new).view }
+    ensures made { IsTightAt (pair_of draft.entry) (main_of draft.entry) (D.state d.old).view
+        → Outcome result draft.entry (map L.link_state links.old.items) (D.state d.old).view (D.state d.new).view }
     ensures frame { Frame (D.state d.old) (D.state d.new) }
 
     // Each link that was lost is told, and at Ok the others are left.

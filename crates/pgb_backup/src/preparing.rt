@@ -79,7 +79,8 @@ fn record_in(
     ensures manifest { IfOk result (λ r. manifest_of r.manifest
         ≡ manifest_at draft.entry (map (λ v. v.items) ends.now) stop) }
     ensures rules { IfOk result (λ r. IsManifest (manifest_of r.manifest)) }
-    ensures info { IfOk result (λ r. IsListWith (list_in draft.entry) (manifest_of r.manifest) (backup_info_of r.info)) }
+    ensures info { IfOk result (λ r. IsListWith (list_in draft.entry) (manifest_of r.manifest)
+        (backup_info_of r.info)) }
     ensures info_rules { IfOk result (λ r. IsBackupInfo (backup_info_of r.info)) }
     ensures control { IfOk result (λ r. HasControl (manifest_of r.manifest).files) }
     ensures fault { IfErr result (RecordFails (files_with draft.entry (map (λ v. v.items) ends.now))) }
