@@ -1,9 +1,10 @@
 -- What the stages add to a command's own part: the same lemmas for every command.
-use Rattle.std.proofs.Common.{◌≡◌, ◌≤◌, inl, inr, ℕ, List, Option, Result, Ok, Err, IfOk, IfErr, refl, sym, ◌∙◌, subst, ap, arith, Bool, true, false}
+use Rattle.std.proofs.Common.{◌≡◌, ◌≤◌, ◌⊎◌, ⊎_elim, inl, inr, ℕ, List, Option, Result, Ok, Err, IfOk, IfErr, refl, sym, ◌∙◌, subst, ap, arith, Bool, true, false}
 use Rattle.std.specs.Prelude.{OnOk, IfSome, IsSome, IsErrAnd}
 use Rattle.pgb_outside.specs.Cause.{Rises}
 use Rattle.pgb_outside.specs.Content.{Content}
 use Rattle.pgb_outside.specs.Moments.{View, Rests}
+use Rattle.pgb_outside.specs.States.{IsOpened, OpensOnly}
 use Rattle.pgb_outside.specs.Tree.{Nodes}
 use Rattle.pgb_archive.specs.Still.{IsStill, rests_none, still_self, still_on}
 use Rattle.pgb_model.specs.Text.{Text}
@@ -17,7 +18,7 @@ use Rattle.pgb_stage.specs.declared.halt.Halt.{Halt}
 use Rattle.pgb_stage.specs.declared.halt.Halt.TheVariants.{Refused, Failed as HaltFailed, NoMemory as HaltMemory}
 use Rattle.pgb_stage.specs.declared.outcome.Outcome.{Outcome}
 use Rattle.pgb_stage.specs.Halts.{HaltCause, Never, Only}
-use Rattle.pgb_stage.specs.Plans.{Heals, AreHealed, OnReading}
+use Rattle.pgb_stage.specs.Plans.{Heals, AreHealed, OnReading, TakesLocks}
 use Rattle.pgb_stage.specs.Reached.{back_if}
 use Rattle.pgb_stage.specs.declared.plan.Settling.{Settling}
 use Rattle.pgb_stage.specs.declared.plan.Settling.TheVariants.{Looked}
@@ -31,7 +32,7 @@ use Rattle.pgb_stage.proofs.Counts.{rises_from}
 use Rattle.pgb_stage.proofs.Lifted.{on_as, still_quiet, rests_quiet, quiet_takes, looked_at, begun_takes, opened_takes}
 use Rattle.pgb_model.proofs.Logged.{rests_still}
 use Rattle.pgb_prepare.specs.Stages.{FoundCause, StageCause}
-use Rattle.pgb_prepare.specs.Taking.{HeldCause}
+use Rattle.pgb_prepare.specs.Taking.{HeldCause, MayTake}
 use Rattle.pgb_create.proofs.Statuses.{closes_as}
 use Rattle.pgb_command.specs.declared.fault.CommandFault.TheVariants.{Create, Push, Get}
 use Rattle.pgb_command.specs.declared.fault.Fault.{Fault}
@@ -40,7 +41,7 @@ use Rattle.pgb_command.specs.Answers.{reached_of, ending_of, is_early}
 use Rattle.pgb_command.specs.Asked.{Request, create, push, get, report, Asked}
 use Rattle.pgb_command.specs.Faults.{of_stage}
 use Rattle.pgb_command.specs.Tables.{Known, known, plan_of, manner_of, CommandCause, Promise, Lasts, OnReader, OnCreate, OnOther, FolderGoes}
-use Rattle.pgb_command.specs.Did.{Ran, OnReady, Cause, Did, OwnCause, Spares, Closes, WordsCause}
+use Rattle.pgb_command.specs.Did.{Ran, OnReady, Cause, Did, OwnCause, Spares, Closes, WordsCause, Brackets, SamePlaces, OpensPlaces, ArePlacesOpened, OpensIf, IsOpenedIf, TakesAll, OnlyLocked}
 use Rattle.pgb_command.proofs.Ends.{all_later, only_rose}
 
 -- ---- nothing was done: a line a command
@@ -394,3 +395,26 @@ unprepared a plan is b k r halt err quiet rests same still nodes server later fa
 pub unopened : (a : Asked) (b k : Seen) (r : Result Outcome Fault) (halt : Halt StageFault) → IsErrAnd r (λ f. f ≡ of_stage halt) → AreRead b k → HaltCause Never (Failed b k) halt → Did a b k r
 unopened a b k r halt err read cause = halted_at a b k r halt err (rests_quiet a.stanza b.repo.view k.repo.view read.repo.time read.repo.now) read.spool.time read.spool.now
     (any_reader a.request _ read.repo) (any_create a.request _ read.repo) read.nodes read.server read.later Never (Failed b k) (λ fault h. absurd h) (λ object h. h) cause
+
+-- ---- places and locks
+
+all_ok : (r : Result Outcome Fault) (P : Type 0) → P → OnOk r P
+all_ok (Ok x) P p = p
+all_ok (Err e) P p = tt
+
+-- places are opened, and then locks are taken
+pub brackets_on : (a : Asked) (b m k : Seen) (r : Result Outcome Fault) → IsStill b.repo.view m.repo.view → m.locks.took ≡ b.locks.took → OpensPlaces a b m → ArePlacesOpened a b m → SamePlaces m k → OnOk r (TakesAll a m k) → OnlyLocked a m k → Brackets a b k r
+brackets_on a b m k r still none places opened same took only =
+    let plan = plan_of a.request in record {
+      places = record {
+        folder = subst (λ (ts : List Text). OpensIf plan.folder a.data_folder b.tree.opened ts) (sym same.tree) places.folder;
+        repository = subst (λ (ts : List Text). OpensOnly a.repository b.repo.opened ts) (sym same.repo) places.repository;
+      };
+      opened = all_ok r (ArePlacesOpened a b k) (record {
+        folder = subst (λ (ts : List Text). IsOpenedIf plan.folder a.data_folder b.tree.opened ts) (sym same.tree) opened.folder;
+        repository = subst (λ (ts : List Text). IsOpened a.repository b.repo.opened ts) (sym same.repo) opened.repository;
+      });
+      took = subst (λ (t : Option (List (Text × Text))). OnOk r (TakesLocks plan a.lock_folder a.stanza t k.locks.took)) none took;
+      locked = ⊎_elim (λ x. inl x) (λ x. inr (x.0, still_on b.repo.view m.repo.view k.repo.view still x.1))
+          (subst (λ (t : Option (List (Text × Text))). TakesLocks plan a.lock_folder a.stanza t k.locks.took ⊎ (MayTake plan a.lock_folder a.stanza t k.locks.took × IsStill m.repo.view k.repo.view)) none only);
+    }

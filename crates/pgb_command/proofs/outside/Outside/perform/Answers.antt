@@ -1,5 +1,6 @@
 use Rattle.pgb_command.specs.Told.{asked_of}
-use Rattle.pgb_command.proofs.Dids.{did_from, unopened}
+use Rattle.std.proofs.Common.{ap}
+use Rattle.pgb_command.proofs.Dids.{did_from, unopened, brackets_on}
 use Rattle.pgb_command.proofs.outside.Outside.perform.Goals as goal
 
 pub returns-in_err-open-clause-did : goal.returns-in_err-open-clause-did
@@ -11,3 +12,9 @@ pub returns-clause-did : goal.returns-clause-did
 returns-clause-did g c =
     let e = c.in_ok-open.ensures in
     did_from (asked_of c.args.settings.now) _ _ _ c.under_locks.result e.read c.under_locks.ensures.did
+
+pub returns-clause-brackets : goal.returns-clause-brackets
+returns-clause-brackets g c =
+    let e = c.in_ok-open.ensures in
+    let w = c.under_locks.ensures in
+    brackets_on (asked_of c.args.settings.now) _ _ _ c.under_locks.result e.read.repo (ap (λ s. g.K.Locks.took s.locks) e.rest) e.places e.opened w.places w.took w.only
