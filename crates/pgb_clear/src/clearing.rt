@@ -1,27 +1,15 @@
 // The data folder is made ready for a backup's files.
 ghost use Rattle.std.specs.Prelude.{◌≡◌, bytes_eq, map, option_map, OnOk, string_bytes};
-ghost use Rattle.std.specs.List.{list_any};
 ghost use Rattle.pgb_outside.specs.Cause.{HasCause};
 ghost use Rattle.pgb_model.specs.Values.{manifest_of};
-ghost use Rattle.pgb_clear.specs.Clearing.{control_path, stays, seen_of, without_one, without, with_folders, StaysNone};
+ghost use Rattle.pgb_clear.specs.Clearing.{control_path, stays, seen_of, without_one, without, with_folders, IsOrdered, StaysNone};
 
-use pgb_model::{FileEntry, Manifest};
+use crate::finding::{has_file, has_folder};
+use pgb_model::Manifest;
 use pgb_outside::{Node, Seen, Stop, Tree};
 
 // The file without which no server starts.
 const CONTROL: &str = "global/pg_control";
-
-fn has_file(files: &[FileEntry], path: &str) -> bool
-    ensures { result ≡ list_any (λ x. bytes_eq (string_bytes x.path) path.now) files.now }
-{
-    files.iter().any(|file| file.path.as_str() == path)
-}
-
-fn has_folder(folders: &[String], path: &str) -> bool
-    ensures { result ≡ list_any (λ x. bytes_eq (string_bytes x) path.now) folders.now }
-{
-    folders.iter().any(|folder| folder.as_str() == path)
-}
 
 pub fn is_control(path: &str) -> bool
     ensures { result ≡ bytes_eq path.now control_path }
@@ -31,6 +19,7 @@ pub fn is_control(path: &str) -> bool
 
 // Whether a node may stay.
 fn stays(manifest: &Manifest, node: &Seen) -> bool
+    requires { IsOrdered (manifest_of manifest.now) }
     ensures { result ≡ stays (manifest_of manifest.now) (string_bytes node.now.path) node.now.node }
 {
     match node.node {
@@ -42,6 +31,7 @@ fn stays(manifest: &Manifest, node: &Seen) -> bool
 
 // Takes a node away that may not stay.
 fn clear_one<T: Tree>(tree: &mut T, manifest: &Manifest, node: &Seen) -> Result<(), Stop>
+    requires { IsOrdered (manifest_of manifest.now) }
     ensures cleared { OnOk result
         ((T.state tree.new).nodes ≡ option_map (without_one (manifest_of manifest.now) (seen_of node.now))
         (T.state tree.old).nodes) }
@@ -56,11 +46,8 @@ fn clear_one<T: Tree>(tree: &mut T, manifest: &Manifest, node: &Seen) -> Result<
 }
 
 // Takes away what may not stay, what lies in a folder before the folder.
-pub fn clear<T: Tree>(
-    tree: &mut T,
-    manifest: &Manifest,
-    seen: &[Seen],
-) -> Result<(), Stop>
+pub fn clear<T: Tree>(tree: &mut T, manifest: &Manifest, seen: &[Seen]) -> Result<(), Stop>
+    requires order { IsOrdered (manifest_of manifest.now) }
     ensures cleared { OnOk result
         ((T.state tree.new).nodes ≡ option_map (without (manifest_of manifest.now) (map seen_of seen.now))
         (T.state tree.old).nodes) }
