@@ -1,0 +1,36 @@
+-- What a keeper over a data folder holds, and what its calls change. Own.
+use Rattle.std.specs.Prelude.{ℕ, ◌≡◌, ◌≢◌, ◌⊎◌, ◌<◌, ◌≤◌, List, map, Option}
+use Rattle.pgb_outside.specs.Content.{at}
+use Rattle.pgb_outside.specs.Cause.{Rises}
+use Rattle.pgb_outside.specs.States.{TreeState}
+use Rattle.pgb_outside.specs.Tree.{Nodes}
+use Rattle.pgb_model.specs.Text.{Text, In}
+use Rattle.pgb_frame.specs.Views.{job_of}
+use Rattle.pgb_keep.specs.KeepState.{KeepState}
+use Rattle.pgb_fill.specs.Files.{temporary_path, kept_of, wanted_of}
+use Rattle.pgb_fill.specs.declared.files.Wanted.{Wanted}
+use Rattle.pgb_fill.specs.declared.keeper.FileKeeper.{FileKeeper}
+
+abbrev pub state_of : FileKeeper → Option Nodes → KeepState
+state_of k nodes = record { faults = k.faults; jobs = map job_of k.jobs.now; kept = map (kept_of nodes) k.files.items }
+
+-- the path is none of these files', nor the temporary name of one
+abbrev pub IsNoneOf : List Wanted → Text → Type 0
+IsNoneOf ws q = (w : Wanted) → In w ws → (q ≢ w.path.now) × (q ≢ temporary_path w.path.now)
+
+-- within these two counts of the tree's faults, one rose
+pub record RoseWithin (f g : ℕ) : Type 0 where
+  pub before : ℕ
+  pub after : ℕ
+  pub from : f ≤ before
+  pub rose : Rises before after
+  pub to : after ≤ g
+
+-- it is for the same files, and only these have changed; it failed only where the data folder did
+pub record Later (a b : FileKeeper) (u v : TreeState) : Type 0 where
+  pub jobs : b.jobs ≡ a.jobs
+  pub wanted : map wanted_of b.files.items ≡ map wanted_of a.files.items
+  pub others : (q : Text) → IsNoneOf (map wanted_of a.files.items) q → at q v.nodes ≡ at q u.nodes
+  pub opened : v.opened ≡ u.opened
+  pub later : u.faults ≤ v.faults
+  pub failed : 0 < b.faults → (0 < a.faults) ⊎ RoseWithin u.faults v.faults

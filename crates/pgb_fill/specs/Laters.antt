@@ -1,0 +1,27 @@
+-- What a keeper changes, one call after another.
+use Rattle.std.proofs.Common.{ℕ, ◌≡◌, ◌≢◌, ◌<◌, ◌≤◌, ◌⊎◌, inl, inr, ⊎_elim, refl, sym, ap, ◌∙◌, subst, arith, List, map, Option}
+use Rattle.std.proofs.Math.Nat.{le_refl, le_trans}
+use Rattle.pgb_outside.specs.Content.{at}
+use Rattle.pgb_outside.specs.Cause.{Rises}
+use Rattle.pgb_outside.specs.States.{TreeState}
+use Rattle.pgb_model.specs.Text.{Text}
+use Rattle.pgb_fill.specs.declared.files.Wanted.{Wanted}
+use Rattle.pgb_fill.specs.declared.keeper.FileKeeper.{FileKeeper}
+use Rattle.pgb_fill.specs.Files.{wanted_of}
+use Rattle.pgb_fill.specs.Keeping.{IsNoneOf, RoseWithin, Later}
+
+pub later_same : (k : FileKeeper) (u : TreeState) → Later k k u u
+later_same k u = record { jobs = refl; wanted = refl; others = λ q none. refl; opened = refl; later = le_refl u.faults; failed = λ some. inl some }
+
+pub later_through : (a b c : FileKeeper) (u v w : TreeState) → Later a b u v → Later b c v w → Later a c u w
+later_through a b c u v w p q = record {
+  jobs = q.jobs ∙ p.jobs;
+  wanted = q.wanted ∙ p.wanted;
+  others = λ n none. q.others n (subst (λ (ws : List Wanted). IsNoneOf ws n) (sym p.wanted) none) ∙ p.others n none;
+  opened = q.opened ∙ p.opened;
+  later = le_trans p.later q.later;
+  failed = λ some. ⊎_elim
+      (λ was. ⊎_elim (λ x. inl x) (λ r. inr (record { before = r.before; after = r.after; from = r.from; rose = r.rose; to = le_trans r.to q.later })) (p.failed was))
+      (λ r. inr (record { before = r.before; after = r.after; from = le_trans p.later r.from; rose = r.rose; to = r.to }))
+      (q.failed some);
+}
