@@ -20,17 +20,17 @@ module _ (words : List Text) (files : Option Content) (nodes : Option Nodes) (st
   }
 
   refused_for : (status ≢ 0) → AreStill old new → Went words files nodes status before old new
-  refused_for no still = record {
+  refused_for off still = record {
     after = before;
-    goes = inl (no, refl);
+    goes = inl (off, refl);
     keeps = all_still old new still before h;
     cut = before;
-    stops = inl (no, refl);
+    stops = inl (off, refl);
     leaves = all_rest old new still before h;
   }
 
 pub shown_went : (words : List Text) (files : Option Content) (nodes : Option Nodes) (status : ℕ) (before : List Call) (old new : Disks) → AreFair old → KeepsAll before old → IsShown words files nodes status old new → Went words files nodes status before old new
-shown_went words files nodes status before old new fair h (inl (no, still)) = refused_for words files nodes status before old new h no still
+shown_went words files nodes status before old new fair h (inl (off, still)) = refused_for words files nodes status before old new h off still
 shown_went words files nodes status before old new fair h (inr (c, is, does)) = asked_for words files nodes status before old new h fair c is does
 
 -- whether the call is stopped, or goes to its end; given is the list of its words

@@ -86,9 +86,9 @@ module _ (words : List Text) (b k : Seen) (n : ℕ) (same : k.spool.view ≡ b.s
       call_does a.stanza command true b.repo.view b.spool.view k.repo.view k.spool.view same (asked_in_form words b.config.files a asks) takes.part takes.between
           (subst (λ (reached : Reached). OnAll reached (Leads a.stanza command true b.repo.view b.spool.view k.repo.view k.spool.view)) (to_its_end z) takes.whole).keeps c.did.spares.beside,
     )
-    by command is takes (inr no) = inr (
+    by command is takes (inr off) = inr (
       the_call a.stanza command false,
-      record { asked = a; asks = asks; stanza = refl; command = is; acknowledged = ((λ (e : ◌≡◌ {A = Bool} false true). cc), (λ z. absurd (no z))) },
+      record { asked = a; asks = asks; stanza = refl; command = is; acknowledged = ((λ (e : ◌≡◌ {A = Bool} false true). cc), (λ z. absurd (off z))) },
       call_does a.stanza command false b.repo.view b.spool.view k.repo.view k.spool.view same (asked_in_form words b.config.files a asks) takes.part takes.between takes.part.keeps c.did.spares.beside,
     )
 
