@@ -9,7 +9,7 @@ use Rattle.pgb_model.specs.declared.clusters.Cluster.{Cluster}
 use Rattle.pgb_model.specs.Text.{Text, Map, In}
 use Rattle.pgb_model.specs.Values.{BackupInfo, FileEntry, Manifest}
 use Rattle.pgb_model.specs.Repository.{Backup, File, Stanza}
-use Rattle.pgb_keep.specs.KeepState.{Kept}
+use Rattle.pgb_worker_keep.specs.KeepState.{Kept}
 use Rattle.pgb_plan.specs.Layout.{Layout, layout}
 use Rattle.pgb_plan.specs.Spots.{HaveItems}
 use Rattle.pgb_plan.proofs.Places.{have_items}

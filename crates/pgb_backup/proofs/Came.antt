@@ -6,14 +6,14 @@ use Rattle.pgb_text.specs.declared.sum.Sum.{Sum}
 use Rattle.pgb_outside.specs.Content.{Name, Content, at}
 use Rattle.pgb_outside.specs.Links.{LinkState, Told}
 use Rattle.pgb_model.specs.Text.{Text, In}
-use Rattle.pgb_frame.specs.declared.frames.JobKind.{JobKind}
-use Rattle.pgb_frame.specs.declared.frames.JobKind.TheVariants.{Read}
-use Rattle.pgb_frame.specs.Frames.{Item, Job}
-use Rattle.pgb_keep.specs.declared.ItemEnd.{ItemEnd}
-use Rattle.pgb_keep.specs.declared.ItemEnd.TheVariants.{Whole, Vanished}
-use Rattle.pgb_keep.specs.KeepState.{Held, Done, Kept, Holds}
-use Rattle.pgb_reply.specs.Reads.{AllEnd, EndsAs, EndsWhole}
-use Rattle.pgb_dispatch.specs.Run.{AllDone, EndedBy}
+use Rattle.pgb_worker_frame.specs.declared.frames.JobKind.{JobKind}
+use Rattle.pgb_worker_frame.specs.declared.frames.JobKind.TheVariants.{Read}
+use Rattle.pgb_worker_frame.specs.Frames.{Item, Job}
+use Rattle.pgb_worker_keep.specs.declared.ItemEnd.{ItemEnd}
+use Rattle.pgb_worker_keep.specs.declared.ItemEnd.TheVariants.{Whole, Vanished}
+use Rattle.pgb_worker_keep.specs.KeepState.{Held, Done, Kept, Holds}
+use Rattle.pgb_worker_reply.specs.Reads.{AllEnd, EndsAs, EndsWhole}
+use Rattle.pgb_worker_dispatch.specs.Run.{AllDone, EndedBy}
 use Rattle.pgb_label.specs.declared.keeper.Ended.{Ended}
 use Rattle.pgb_label.specs.Keeping.{Progress, dones, job_bytes, kept_of, keeps}
 use Rattle.pgb_label.proofs.Kept.{some_and}

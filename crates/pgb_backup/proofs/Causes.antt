@@ -12,7 +12,7 @@ use Rattle.pgb_manifest.specs.declared.write_fault.WriteFault.{WriteFault}
 use Rattle.pgb_manifest.specs.declared.write_fault.WriteFault.TheVariants as writes
 use Rattle.pgb_manifest.specs.Keeping.{manifest_text, IfTooLong}
 use Rattle.pgb_label.specs.declared.keeper.Ended.{Ended}
-use Rattle.pgb_dispatch.specs.declared.fault.Lost.{Lost}
+use Rattle.pgb_worker_dispatch.specs.declared.fault.Lost.{Lost}
 use Rattle.pgb_backup.specs.declared.draft.Draft.{Draft}
 use Rattle.pgb_backup.specs.declared.fault.MakeFault.{MakeFault}
 use Rattle.pgb_backup.specs.declared.fault.MakeFault.TheVariants as faults

@@ -13,7 +13,7 @@ use Rattle.pgb_model.specs.InfoText.{info_text}
 use Rattle.pgb_model.specs.InfoFiles.{backup_sections, IsBackupText}
 use Rattle.pgb_model.specs.ManifestText.{IsManifestText, manifest_limit}
 use Rattle.pgb_manifest.specs.Keeping.{manifest_text}
-use Rattle.pgb_keep.specs.KeepState.{Done, Kept}
+use Rattle.pgb_worker_keep.specs.KeepState.{Done, Kept}
 use Rattle.pgb_label.specs.declared.keeper.Ended.{Ended}
 use Rattle.pgb_label.specs.Relation.{Touches}
 use Rattle.pgb_label.specs.Sealed.{IsSealed}

@@ -6,15 +6,15 @@ use Rattle.std.proofs.lemmas.List.{length-map}
 use Rattle.pgb_outside.specs.Content.{Name, Content, HasBytes, Holds}
 use Rattle.pgb_outside.specs.Crash.{IsTemporary}
 use Rattle.pgb_outside.specs.Links.{LinkState}
-use Rattle.pgb_frame.specs.declared.frames.Job as rust
-use Rattle.pgb_frame.specs.Frames.{Job, FitsJob}
-use Rattle.pgb_frame.specs.Views.{job_of}
+use Rattle.pgb_worker_frame.specs.declared.frames.Job as rust
+use Rattle.pgb_worker_frame.specs.Frames.{Job, FitsJob}
+use Rattle.pgb_worker_frame.specs.Views.{job_of}
 use Rattle.pgb_model.specs.declared.labels.Label.{Label}
 use Rattle.pgb_model.specs.Text.{Text, In}
 use Rattle.pgb_model.specs.InfoFiles.{IsLabel}
-use Rattle.pgb_keep.specs.KeepState.{Done, Kept}
-use Rattle.pgb_dispatch.specs.Payloads.{AllByFile}
-use Rattle.pgb_dispatch.specs.Run.{AllDone}
+use Rattle.pgb_worker_keep.specs.KeepState.{Done, Kept}
+use Rattle.pgb_worker_dispatch.specs.Payloads.{AllByFile}
+use Rattle.pgb_worker_dispatch.specs.Run.{AllDone}
 use Rattle.pgb_label.specs.declared.keeper.Ended.{Ended}
 use Rattle.pgb_label.specs.Keeping.{Progress, keeps as kept_in, total, Agrees, IsPlan}
 use Rattle.pgb_label.proofs.Places.{placed, bytes_at}

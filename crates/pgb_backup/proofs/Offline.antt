@@ -8,19 +8,19 @@ use Rattle.pgb_text.specs.declared.sum.Sum.{Sum}
 use Rattle.pgb_outside.specs.Content.{Name, Content, Value}
 use Rattle.pgb_outside.specs.Moments.{View}
 use Rattle.pgb_outside.specs.Links.{LinkState}
-use Rattle.pgb_frame.specs.declared.frames.JobKind.{JobKind}
-use Rattle.pgb_frame.specs.declared.frames.JobKind.TheVariants.{Read}
-use Rattle.pgb_frame.specs.Frames.{Item, Job}
-use Rattle.pgb_frame.specs.Replies.{payload}
+use Rattle.pgb_worker_frame.specs.declared.frames.JobKind.{JobKind}
+use Rattle.pgb_worker_frame.specs.declared.frames.JobKind.TheVariants.{Read}
+use Rattle.pgb_worker_frame.specs.Frames.{Item, Job}
+use Rattle.pgb_worker_frame.specs.Replies.{payload}
 use Rattle.pgb_model.specs.declared.files.Bundled.{Bundled}
 use Rattle.pgb_model.specs.Text.{Text, Map, In}
 use Rattle.pgb_model.specs.Values.{FileEntry}
 use Rattle.pgb_model.specs.Repository.{File}
-use Rattle.pgb_keep.specs.declared.ItemEnd.{ItemEnd}
-use Rattle.pgb_keep.specs.declared.ItemEnd.TheVariants.{Whole, Vanished}
-use Rattle.pgb_keep.specs.KeepState.{Held, Done, Kept, Holds}
-use Rattle.pgb_reply.specs.Reads.{file_of}
-use Rattle.pgb_dispatch.specs.Payloads.{AllRead, EndsByFile, AllEndByFile}
+use Rattle.pgb_worker_keep.specs.declared.ItemEnd.{ItemEnd}
+use Rattle.pgb_worker_keep.specs.declared.ItemEnd.TheVariants.{Whole, Vanished}
+use Rattle.pgb_worker_keep.specs.KeepState.{Held, Done, Kept, Holds}
+use Rattle.pgb_worker_reply.specs.Reads.{file_of}
+use Rattle.pgb_worker_dispatch.specs.Payloads.{AllRead, EndsByFile, AllEndByFile}
 use Rattle.pgb_label.specs.declared.keeper.Ended.{Ended}
 use Rattle.pgb_label.proofs.Kept.{some_and}
 use Rattle.pgb_plan.specs.declared.values.Choice.{Choice}

@@ -2,8 +2,8 @@
 use Rattle.std.specs.Prelude.{◌≡◌, ◌≤◌, ℕ, true, Bool, List, [], length, map, string_bytes, Option, Some, None, unwrap_or}
 use Rattle.pgb_outside.specs.Order.{are_in_order}
 use Rattle.pgb_outside.specs.Content.{Name}
-use Rattle.pgb_frame.specs.Frames.{Job}
-use Rattle.pgb_frame.specs.Views.{job_of}
+use Rattle.pgb_worker_frame.specs.Frames.{Job}
+use Rattle.pgb_worker_frame.specs.Views.{job_of}
 use Rattle.pgb_model.specs.declared.labels.Label.{Label}
 use Rattle.pgb_model.specs.Text.{Text, In}
 use Rattle.pgb_model.specs.Dates.{last_second}

@@ -4,7 +4,7 @@ use Rattle.pgb_outside.specs.Links.{LinkState}
 use Rattle.pgb_outside.specs.Cause.{Rises}
 use Rattle.pgb_outside.specs.declared.stop.Stop.{Stop}
 use Rattle.pgb_outside.specs.declared.stop.Stop.TheVariants as stops
-use Rattle.pgb_frame.specs.Frames.{Job}
+use Rattle.pgb_worker_frame.specs.Frames.{Job}
 use Rattle.pgb_model.specs.Dates.{last_second}
 use Rattle.pgb_model.specs.InfoText.{info_text}
 use Rattle.pgb_model.specs.InfoFiles.{backup_sections, info_limit}
@@ -15,10 +15,10 @@ use Rattle.pgb_pair.specs.declared.fault.SaveFault.TheVariants as saves
 use Rattle.pgb_manifest.specs.declared.write_fault.WriteFault.{WriteFault}
 use Rattle.pgb_manifest.specs.declared.write_fault.WriteFault.TheVariants as writes
 use Rattle.pgb_manifest.specs.Keeping.{manifest_text}
-use Rattle.pgb_keep.specs.KeepState.{Kept}
+use Rattle.pgb_worker_keep.specs.KeepState.{Kept}
 use Rattle.pgb_label.specs.declared.keeper.Ended.{Ended}
-use Rattle.pgb_dispatch.specs.declared.fault.Lost.{Lost}
-use Rattle.pgb_dispatch.specs.Run.{AllDone, AllLost, UnreadLeaves, begun}
+use Rattle.pgb_worker_dispatch.specs.declared.fault.Lost.{Lost}
+use Rattle.pgb_worker_dispatch.specs.Run.{AllDone, AllLost, UnreadLeaves, begun}
 use Rattle.pgb_record.specs.declared.recording.RecordFault.{RecordFault}
 use Rattle.pgb_record.specs.declared.recording.RecordFault.TheVariants as records
 use Rattle.pgb_record.specs.Ends.{AreAllEnds}

@@ -11,9 +11,9 @@ use Rattle.pgb_model.specs.InfoText.{info_text}
 use Rattle.pgb_model.specs.InfoFiles.{backup_sections, IsBackupText}
 use Rattle.pgb_model.specs.ManifestText.{IsManifestText}
 use Rattle.pgb_manifest.specs.Keeping.{manifest_text}
-use Rattle.pgb_keep.specs.KeepState.{Done, Kept}
-use Rattle.pgb_dispatch.specs.Payloads.{AllByFile}
-use Rattle.pgb_dispatch.specs.Run.{AllDone}
+use Rattle.pgb_worker_keep.specs.KeepState.{Done, Kept}
+use Rattle.pgb_worker_dispatch.specs.Payloads.{AllByFile}
+use Rattle.pgb_worker_dispatch.specs.Run.{AllDone}
 use Rattle.pgb_label.specs.declared.keeper.Ended.{Ended}
 use Rattle.pgb_label.specs.Placed.{IsPlaced}
 use Rattle.pgb_label.specs.Way.{Way, MayLoosen, IsBeside}

@@ -3,11 +3,11 @@ use Rattle.std.specs.Prelude.{◌≡◌, ◌<◌, ℕ, true, List, Option, Some,
 use Rattle.pgb_outside.specs.Content.{Name, Content, HasBytes, Holds}
 use Rattle.pgb_outside.specs.Crash.{IsTemporary}
 use Rattle.pgb_outside.specs.Links.{LinkState}
-use Rattle.pgb_keep.specs.KeepState.{Done, Kept}
+use Rattle.pgb_worker_keep.specs.KeepState.{Done, Kept}
 use Rattle.pgb_label.specs.declared.keeper.Ended.{Ended}
 use Rattle.pgb_label.specs.Placed.{IsPlaced}
-use Rattle.pgb_dispatch.specs.Payloads.{AllByFile}
-use Rattle.pgb_dispatch.specs.Run.{AllDone}
+use Rattle.pgb_worker_dispatch.specs.Payloads.{AllByFile}
+use Rattle.pgb_worker_dispatch.specs.Run.{AllDone}
 use Rattle.pgb_plan.specs.Layout.{Layout}
 use Rattle.pgb_record.specs.Ends.{AreAllEnds, AreReceived, JobsCome}
 use Rattle.pgb_record.specs.Naming.{IsPlanned, names_in}

@@ -4,7 +4,7 @@ ghost use Rattle.pgb_outside.specs.Links.{LinkState};
 ghost use Rattle.pgb_outside.specs.States.{Frame};
 ghost use Rattle.pgb_model.specs.InfoFiles.{IsLabel};
 ghost use Rattle.pgb_model.specs.Names.{label_folder};
-ghost use Rattle.pgb_dispatch.specs.Run.{AddsLosses, Left, IsReady};
+ghost use Rattle.pgb_worker_dispatch.specs.Run.{AddsLosses, Left, IsReady};
 ghost use Rattle.pgb_label.specs.Keeping.{IsPlan};
 ghost use Rattle.pgb_label.specs.Relation.{Touches};
 ghost use Rattle.pgb_label.specs.Sealed.{IsSealed};
@@ -15,13 +15,13 @@ ghost use Rattle.pgb_backup.specs.Stored.{AreNames, Stored};
 use crate::draft::Draft;
 use crate::fault::MakeFault;
 use crate::storing::store;
-use pgb_dispatch::Lost;
 use pgb_label::Ended;
 use pgb_model::Label;
 use pgb_outside::{Disk, Link, Turns};
 use pgb_record::names_of;
 use pgb_stamp::label_text;
 use pgb_text::NoMemory;
+use pgb_worker_dispatch::Lost;
 use std::alloc::Global;
 
 // The folder of a label.

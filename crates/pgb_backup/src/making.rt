@@ -2,7 +2,7 @@
 ghost use Rattle.std.specs.Prelude.{◌≡◌, ◌<◌, ◌^◌, ℕ, Some, map, vec_len, slice_get, IfErr, OnOk};
 ghost use Rattle.pgb_outside.specs.Links.{LinkState};
 ghost use Rattle.pgb_outside.specs.States.{Frame};
-ghost use Rattle.pgb_dispatch.specs.Run.{AddsLosses, Left, IsReady};
+ghost use Rattle.pgb_worker_dispatch.specs.Run.{AddsLosses, Left, IsReady};
 ghost use Rattle.pgb_backup.specs.Draft.{IsDraft, jobs_in, pair_of, main_of};
 ghost use Rattle.pgb_backup.specs.Faults.{MakeFails};
 ghost use Rattle.pgb_backup.specs.Made.{IsTightAt, Outcome};
@@ -11,10 +11,10 @@ use crate::draft::Draft;
 use crate::fault::MakeFault;
 use crate::fetching::fetch;
 use crate::preparing::prepare;
-use pgb_dispatch::Lost;
 use pgb_manifest::save_manifest;
 use pgb_outside::{Clock, Disk, Link, Turns};
 use pgb_pair::save_text;
+use pgb_worker_dispatch::Lost;
 use std::alloc::Global;
 
 /// Stores what the draft's jobs ask for in the folder of its label, saves the label's manifest, and then the stanza's

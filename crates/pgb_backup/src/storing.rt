@@ -2,10 +2,10 @@
 ghost use Rattle.std.specs.Prelude.{◌≡◌, ◌<◌, ◌^◌, ℕ, Some, All, map, length, vec_len, slice_get, string_bytes, IfOk, IfErr, OnOk};
 ghost use Rattle.pgb_outside.specs.Links.{LinkState};
 ghost use Rattle.pgb_outside.specs.States.{Frame};
-ghost use Rattle.pgb_frame.specs.Frames.{FitsJob};
-ghost use Rattle.pgb_frame.specs.Views.{job_of};
-ghost use Rattle.pgb_dispatch.specs.Payloads.{AllByFile};
-ghost use Rattle.pgb_dispatch.specs.Run.{AllDone, AddsLosses, Left, IsReady};
+ghost use Rattle.pgb_worker_frame.specs.Frames.{FitsJob};
+ghost use Rattle.pgb_worker_frame.specs.Views.{job_of};
+ghost use Rattle.pgb_worker_dispatch.specs.Payloads.{AllByFile};
+ghost use Rattle.pgb_worker_dispatch.specs.Run.{AllDone, AddsLosses, Left, IsReady};
 ghost use Rattle.pgb_label.specs.Keeping.{IsPlan, Agrees, is_own};
 ghost use Rattle.pgb_label.specs.Keeper.{names_of, progress_in, stored_in};
 ghost use Rattle.pgb_label.specs.Placed.{IsPlacedIn};
@@ -14,10 +14,10 @@ ghost use Rattle.pgb_label.specs.Sealed.{IsSealed};
 ghost use Rattle.pgb_backup.specs.Faults.{StoreFails};
 
 use crate::fault::MakeFault;
-use pgb_dispatch::{DispatchFault, Lost, run_jobs};
-use pgb_frame::Job;
 use pgb_label::{BackupKeeper, seal};
 use pgb_outside::{Disk, Link, Turns};
+use pgb_worker_dispatch::{DispatchFault, Lost, run_jobs};
+use pgb_worker_frame::Job;
 use std::alloc::Global;
 
 /// Has the jobs done, and stores the bytes of each at its name below the folder, to last. What is stored may be partial

@@ -8,7 +8,7 @@ use Rattle.pgb_outside.specs.declared.stop.Stop.TheVariants.{Failed, NoMemory}
 use Rattle.pgb_outside.specs.States.{TreeState}
 use Rattle.pgb_outside.specs.Tree.{Nodes}
 use Rattle.pgb_model.specs.Text.{Text, In}
-use Rattle.pgb_keep.specs.KeepState.{Kept}
+use Rattle.pgb_worker_keep.specs.KeepState.{Kept}
 use Rattle.pgb_fill.specs.declared.files.Wanted.{Wanted}
 use Rattle.pgb_fill.specs.declared.files.Filed.{Filed}
 use Rattle.pgb_fill.specs.declared.keeper.FileKeeper.{FileKeeper}

@@ -3,9 +3,9 @@ use Rattle.std.specs.Prelude.{ℕ, zero, suc, Bool, true, false, ◌≡◌, ◌�
 use Rattle.pgb_outside.specs.Content.{at}
 use Rattle.pgb_outside.specs.Tree.{Nodes, file, file_bytes, with_node, moved_node, IsFileAt}
 use Rattle.pgb_model.specs.Text.{Text}
-use Rattle.pgb_keep.specs.declared.ItemEnd.{ItemEnd}
-use Rattle.pgb_keep.specs.declared.ItemEnd.TheVariants.{Whole, Vanished}
-use Rattle.pgb_keep.specs.KeepState.{Held, Done, Kept}
+use Rattle.pgb_worker_keep.specs.declared.ItemEnd.{ItemEnd}
+use Rattle.pgb_worker_keep.specs.declared.ItemEnd.TheVariants.{Whole, Vanished}
+use Rattle.pgb_worker_keep.specs.KeepState.{Held, Done, Kept}
 use Rattle.pgb_fill.specs.declared.files.Wanted.{Wanted}
 use Rattle.pgb_fill.specs.declared.files.Filed.{Filed}
 

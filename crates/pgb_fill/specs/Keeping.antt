@@ -5,8 +5,8 @@ use Rattle.pgb_outside.specs.Cause.{Rises}
 use Rattle.pgb_outside.specs.States.{TreeState}
 use Rattle.pgb_outside.specs.Tree.{Nodes}
 use Rattle.pgb_model.specs.Text.{Text, In}
-use Rattle.pgb_frame.specs.Views.{job_of}
-use Rattle.pgb_keep.specs.KeepState.{KeepState}
+use Rattle.pgb_worker_frame.specs.Views.{job_of}
+use Rattle.pgb_worker_keep.specs.KeepState.{KeepState}
 use Rattle.pgb_fill.specs.Files.{temporary_path, kept_of, wanted_of}
 use Rattle.pgb_fill.specs.declared.files.Wanted.{Wanted}
 use Rattle.pgb_fill.specs.declared.keeper.FileKeeper.{FileKeeper}

@@ -2,12 +2,12 @@
 ghost use Rattle.std.specs.Prelude.{◌≡◌, ◌≢◌, ◌≤◌, ◌+◌, length, None, Some, IfOk, OnOk, IfErr, string_bytes};
 ghost use Rattle.pgb_outside.specs.Cause.{HasCause};
 ghost use Rattle.pgb_outside.specs.Content.{SameBut};
-ghost use Rattle.pgb_keep.specs.KeepState.{Adds, Ends};
+ghost use Rattle.pgb_worker_keep.specs.KeepState.{Adds, Ends};
 ghost use Rattle.pgb_fill.specs.Files.{temporary_path, is_wanted, kept_of, SameBeside, IsTidy, Grows, IsBegun, IsPut};
 
-use pgb_keep::ItemEnd;
 use pgb_outside::{Stop, Tree};
 use pgb_text::Sum;
+use pgb_worker_keep::ItemEnd;
 use std::alloc::{AllocError, Global};
 
 /// A file that is to be written: its path in the data folder, and the number and the digest of its bytes.

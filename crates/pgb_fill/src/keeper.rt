@@ -1,15 +1,15 @@
 // A keeper over a data folder.
 ghost use Rattle.std.specs.Prelude.{◌≡◌, ◌<◌, ℕ, [], Some, map, length, slice_get, IfOk, IsSomeAnd};
-ghost use Rattle.pgb_frame.specs.Frames.{Job as Asked};
-ghost use Rattle.pgb_frame.specs.Views.{job_of};
-ghost use Rattle.pgb_keep.specs.KeepState.{IsFresh};
+ghost use Rattle.pgb_worker_frame.specs.Frames.{Job as Asked};
+ghost use Rattle.pgb_worker_frame.specs.Views.{job_of};
+ghost use Rattle.pgb_worker_keep.specs.KeepState.{IsFresh};
 ghost use Rattle.pgb_fill.specs.Files.{untouched_of, wanted_of, path_of, AllTidy};
 ghost use Rattle.pgb_fill.specs.Apart.{AreApart, HasOneItem, counted};
 
 use crate::files::{Filed, Wanted, add_part, end_file};
-use pgb_frame::Job;
-use pgb_keep::{ItemEnd, Keep};
 use pgb_outside::{Stop, Tree};
+use pgb_worker_frame::Job;
+use pgb_worker_keep::{ItemEnd, Keep};
 use std::alloc::{AllocError, Global};
 
 /// Writes the bytes of each job to its file. Jobs have one item each.

@@ -8,13 +8,13 @@ use Rattle.pgb_outside.specs.States.{DiskState, Frame, Works}
 use Rattle.pgb_outside.specs.Cause.{Rises, HasCause}
 use Rattle.pgb_outside.specs.declared.stop.Stop.{Stop}
 use Rattle.pgb_outside.specs.declared.stop.Stop.TheVariants.{Failed, NoMemory}
-use Rattle.pgb_frame.specs.Frames.{Job}
-use Rattle.pgb_keep.specs.KeepState.{Kept, KeepState, KeepLeaves, Adds, Ends, IsFresh, IsNext, HasRoom}
-use Rattle.pgb_keep.specs.Lists.{ChangesAt}
-use Rattle.pgb_keep.specs.declared.ItemEnd.{ItemEnd}
+use Rattle.pgb_worker_frame.specs.Frames.{Job}
+use Rattle.pgb_worker_keep.specs.KeepState.{Kept, KeepState, KeepLeaves, Adds, Ends, IsFresh, IsNext, HasRoom}
+use Rattle.pgb_worker_keep.specs.Lists.{ChangesAt}
+use Rattle.pgb_worker_keep.specs.declared.ItemEnd.{ItemEnd}
 use Rattle.pgb_label.specs.Keeping.{Progress, keeps, kept_of, total, Agrees, IsKept, IsPlan, grown, after_end, nothing, lengthened_from, Becomes, is_own, CountsFault}
 use Rattle.pgb_label.specs.Relation.{Touches, Later, touches_one}
-use Rattle.pgb_jobs.proofs.Places.{get_set_same, get_set_other}
+use Rattle.pgb_worker_jobs.proofs.Places.{get_set_same, get_set_other}
 use Rattle.pgb_label.proofs.Kept.{some_and, keeps_at, keeps_set, part_here, part_kept, end_here, end_kept, again_here, again_kept}
 
 same_kept : (x y : Kept) → ◌≡◌ {A = Option Kept} (Some x) (Some y) → y ≡ x

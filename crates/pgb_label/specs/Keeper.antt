@@ -3,9 +3,9 @@ use Rattle.std.specs.Prelude.{◌≡◌, ◌≤◌, ◌+◌, ℕ, List, map, str
 use Rattle.std.proofs.Common.{refl, ◌∙◌, ap}
 use Rattle.pgb_outside.specs.Content.{Name, Content}
 use Rattle.pgb_outside.specs.States.{DiskState}
-use Rattle.pgb_frame.specs.Frames.{Item, Job}
-use Rattle.pgb_frame.specs.Views.{job_of}
-use Rattle.pgb_keep.specs.KeepState.{Kept, KeepState}
+use Rattle.pgb_worker_frame.specs.Frames.{Item, Job}
+use Rattle.pgb_worker_frame.specs.Views.{job_of}
+use Rattle.pgb_worker_keep.specs.KeepState.{Kept, KeepState}
 use Rattle.pgb_label.specs.declared.keeper.BackupKeeper.{BackupKeeper}
 use Rattle.pgb_label.specs.Keeping.{Progress, progress_of, keeps, is_own}
 use Rattle.pgb_label.specs.Relation.{Later, later_same, later_on}

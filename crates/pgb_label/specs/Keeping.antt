@@ -6,8 +6,8 @@ use Rattle.pgb_outside.specs.Cause.{Rises}
 use Rattle.pgb_outside.specs.declared.stop.Stop.{Stop}
 use Rattle.pgb_outside.specs.declared.stop.Stop.TheVariants.{Failed, NoMemory}
 use Rattle.pgb_model.specs.Text.{Text, ◌⫽◌}
-use Rattle.pgb_keep.specs.declared.ItemEnd.{ItemEnd}
-use Rattle.pgb_keep.specs.KeepState.{Done, Kept}
+use Rattle.pgb_worker_keep.specs.declared.ItemEnd.{ItemEnd}
+use Rattle.pgb_worker_keep.specs.KeepState.{Done, Kept}
 use Rattle.pgb_label.specs.declared.keeper.Stored.{Stored}
 use Rattle.pgb_label.specs.declared.keeper.Ended.{Ended}
 

@@ -4,7 +4,7 @@ use Rattle.pgb_outside.specs.Content.{Name, Content}
 use Rattle.pgb_outside.specs.Moments.{View}
 use Rattle.pgb_outside.specs.Crash.{Leaves}
 use Rattle.pgb_model.specs.Place.{LiesAt}
-use Rattle.pgb_keep.specs.KeepState.{Done, Kept}
+use Rattle.pgb_worker_keep.specs.KeepState.{Done, Kept}
 
 -- how many bytes came of these items
 abbrev pub held_sum : List Done → ℕ

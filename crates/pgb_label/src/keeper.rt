@@ -3,9 +3,9 @@ ghost use Rattle.std.specs.Prelude.{◌≡◌, ◌<◌, length, map, string_byte
 ghost use Rattle.pgb_label.specs.Keeping.{IsPlan};
 
 use crate::parts::{add_part, remove_if};
-use pgb_frame::Job;
-use pgb_keep::{ItemEnd, Keep};
 use pgb_outside::{Disk, Stop};
+use pgb_worker_frame::Job;
+use pgb_worker_keep::{ItemEnd, Keep};
 use std::alloc::{AllocError, Global};
 
 /// An item that has ended: how many bytes came of it, and how it ended.
@@ -87,7 +87,7 @@ pub struct BackupKeeper<'a> {
 impl<'a> BackupKeeper<'a> {
     ghost use Rattle.std.specs.Prelude.{◌+◌, Some, Err, OnOk, IfOk, IfSome, IsSomeAnd, IsErrOf, All, slice_get};
     ghost use Rattle.pgb_outside.specs.declared.stop.Stop.TheVariants.{Failed};
-    ghost use Rattle.pgb_frame.specs.Views.{job_of};
+    ghost use Rattle.pgb_worker_frame.specs.Views.{job_of};
     ghost use Rattle.pgb_label.specs.Keeping.{Becomes, CountsFault, grown, after_end, nothing};
     ghost use Rattle.pgb_label.specs.Keeper.{folder_of, jobs_of, names_of, progress_in, faults_of, HasSpace, SamePlan};
 

@@ -1,9 +1,9 @@
 // What the workers are told, by the spelling of frames.
 ghost use Rattle.std.specs.Prelude.{IfOk, IfSome};
-ghost use Rattle.pgb_frame.specs.Frames.{FitsJob, FitsRoots};
-ghost use Rattle.pgb_frame.specs.Views.{job_of, roots_of};
+ghost use Rattle.pgb_worker_frame.specs.Frames.{FitsJob, FitsRoots};
+ghost use Rattle.pgb_worker_frame.specs.Views.{job_of, roots_of};
 
-use pgb_frame::{Frame, Job, Roots, decode_frame};
+use pgb_worker_frame::{Frame, Job, Roots, decode_frame};
 use std::alloc::{AllocError, Global};
 
 fn add_text(body: &mut Vec<u8>, text: &str) -> Result<(), AllocError> {

@@ -1,15 +1,15 @@
 // How fast workers are, and one sum.
 ghost use Rattle.std.specs.Prelude.{All, IfOk, IfSome, ◌<◌, ◌^◌, length, vec_len};
-ghost use Rattle.pgb_frame.specs.Frames.{FitsJob, FitsRoots};
-ghost use Rattle.pgb_frame.specs.Views.{job_of, roots_of};
+ghost use Rattle.pgb_worker_frame.specs.Frames.{FitsJob, FitsRoots};
+ghost use Rattle.pgb_worker_frame.specs.Views.{job_of, roots_of};
 
 use crate::Asked;
 use crate::asking::{read_job, roots_at};
-use pgb_dispatch::{run_jobs, setup};
-use pgb_frame::{Job, Roots};
-use pgb_links::MemKeep;
 use pgb_system::{RealLink, RoundRobin};
 use pgb_text::Sum;
+use pgb_worker_dispatch::{run_jobs, setup};
+use pgb_worker_frame::{Job, Roots};
+use pgb_worker_links::MemKeep;
 use std::alloc::{AllocError, Global};
 use std::io;
 use std::time::Instant;

@@ -1,11 +1,11 @@
 // Two workers that are processes of the system.
 ghost use Rattle.std.specs.Prelude.{IfOk};
-ghost use Rattle.pgb_frame.specs.Frames.{FitsJob, FitsRoots};
-ghost use Rattle.pgb_frame.specs.Views.{job_of, roots_of};
+ghost use Rattle.pgb_worker_frame.specs.Frames.{FitsJob, FitsRoots};
+ghost use Rattle.pgb_worker_frame.specs.Views.{job_of, roots_of};
 
 use crate::pace::read_all;
-use pgb_frame::{Frame, Job, Roots, decode_frame};
 use pgb_system::{RealLink, Scratch};
+use pgb_worker_frame::{Frame, Job, Roots, decode_frame};
 use std::alloc::Global;
 use std::test::Fail;
 use std::{fs, io};

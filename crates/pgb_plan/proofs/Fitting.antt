@@ -3,9 +3,9 @@ use Rattle.std.proofs.Common.{◌≡◌, ⊎_elim, inl, inr, ◌*◌, ◌<◌, �
 use Rattle.std.specs.Int.{w16, w32, w64, to_be_bytes}
 use Rattle.std.specs.List.{AllByRecursion, flat_map}
 use Rattle.std.proofs.lemmas.List.Sums.{sum_by-cons}
-use Rattle.pgb_frame.specs.declared.frames.JobKind.{JobKind}
-use Rattle.pgb_frame.specs.declared.frames.JobKind.TheVariants.{Read}
-use Rattle.pgb_frame.specs.Frames.{Item, Job, item_bytes, job_bytes, job_limit, short_text, FitsItem, FitsJob}
+use Rattle.pgb_worker_frame.specs.declared.frames.JobKind.{JobKind}
+use Rattle.pgb_worker_frame.specs.declared.frames.JobKind.TheVariants.{Read}
+use Rattle.pgb_worker_frame.specs.Frames.{Item, Job, item_bytes, job_bytes, job_limit, short_text, FitsItem, FitsJob}
 use Rattle.pgb_model.specs.Text.{Text, In}
 use Rattle.pgb_model.specs.Values.{FileEntry}
 use Rattle.pgb_plan.specs.declared.values.PlanSettings.{PlanSettings}

@@ -4,7 +4,7 @@ use Rattle.std.specs.Prelude.{bytes_eq, if◌then◌else◌, ◌==◌, ◌&&◌,
 use Rattle.std.proofs.lemmas.Bool.{and_parts}
 use Rattle.std.proofs.lemmas.Slice.Eq.{bytes_eq-Decides}
 use Rattle.pgb_outside.specs.Order.{is_before, are_after, are_in_order}
-use Rattle.pgb_frame.specs.Frames.{Job}
+use Rattle.pgb_worker_frame.specs.Frames.{Job}
 use Rattle.pgb_model.specs.Text.{In}
 use Rattle.pgb_model.specs.Values.{FileEntry}
 use Rattle.pgb_ini.proofs.Orders.{not_itself}

@@ -1,6 +1,6 @@
 -- From the program's values to those of the definitions.
 use Rattle.std.specs.Prelude.{map, string_bytes}
-use Rattle.pgb_frame.specs.Views.{job_of, items_of}
+use Rattle.pgb_worker_frame.specs.Views.{job_of, items_of}
 use Rattle.pgb_outside.specs.declared.tree.Seen as rust_seen
 use Rattle.pgb_outside.specs.declared.tree.Node.{Node}
 use Rattle.pgb_model.specs.Text.{Text}

@@ -2,15 +2,15 @@
 ghost use Rattle.std.specs.Prelude.{◌≡◌, true, [], ◌∷◌, map, option_map, IfOk};
 ghost use Rattle.pgb_outside.specs.Order.{are_in_order};
 ghost use Rattle.pgb_model.specs.Values.{file_entry_of};
-ghost use Rattle.pgb_frame.specs.Views.{job_of};
+ghost use Rattle.pgb_worker_frame.specs.Views.{job_of};
 ghost use Rattle.pgb_plan.specs.Digests.{is_asked, digest_job, digest_jobs};
 ghost use Rattle.pgb_plan.specs.Views.{taken_of};
 
 use crate::finding::find_entry;
 use crate::values::Taken;
 use crate::walking::item_of_file;
-use pgb_frame::{Job, JobKind};
 use pgb_model::FileEntry;
+use pgb_worker_frame::{Job, JobKind};
 use std::alloc::{AllocError, Global};
 
 // The file has bytes, is not the control file, and has the size of the prior backup's.

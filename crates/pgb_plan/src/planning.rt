@@ -2,7 +2,7 @@
 ghost use Rattle.std.specs.Prelude.{◌≡◌, true, ◌<◌, ◌^◌, ◌-◌, ◌++◌, map, length, IfOk};
 ghost use Rattle.pgb_outside.specs.Order.{are_in_order};
 ghost use Rattle.pgb_model.specs.Values.{file_entry_of};
-ghost use Rattle.pgb_frame.specs.Views.{job_of};
+ghost use Rattle.pgb_worker_frame.specs.Views.{job_of};
 ghost use Rattle.pgb_plan.specs.Layout.{layout, jobs_of, IsWithin};
 ghost use Rattle.pgb_plan.specs.Views.{taken_of, layout_of};
 
@@ -10,8 +10,8 @@ use crate::choosing::what_is;
 use crate::finding::find_entry;
 use crate::values::{Plan, PlanSettings, Taken};
 use crate::walking::{Walk, close};
-use pgb_frame::Job;
 use pgb_model::FileEntry;
+use pgb_worker_frame::Job;
 use std::alloc::{AllocError, Global};
 
 // The layout of a listing.

@@ -1,5 +1,5 @@
 // A listing, and what is made of it (pgBackRest command reference, "Backup").
-use pgb_frame::Job;
+use pgb_worker_frame::Job;
 
 /// A file of a listing. Its size is in bytes, its time in seconds since 1970.
 #[derive(Debug, Drop)]

@@ -11,7 +11,7 @@ use Rattle.pgb_model.specs.Values.{Entry, BackupInfo, FileEntry, Manifest}
 use Rattle.pgb_model.specs.Repository.{File, Backup, Stanza}
 use Rattle.pgb_model.specs.Stands.{IsAncestor, IsListed, backup_value}
 use Rattle.pgb_model.specs.Steps.{changed, AddBackup}
-use Rattle.pgb_keep.specs.KeepState.{Kept}
+use Rattle.pgb_worker_keep.specs.KeepState.{Kept}
 use Rattle.pgb_plan.specs.declared.values.Choice.{Choice}
 use Rattle.pgb_plan.specs.Listed.{Taken}
 use Rattle.pgb_plan.specs.Layout.{Layout}

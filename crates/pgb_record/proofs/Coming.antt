@@ -6,14 +6,14 @@ use Rattle.sha1.specs.Sha1.{sha1}
 use Rattle.pgb_text.specs.declared.sum.Sum.{Sum}
 use Rattle.pgb_text.specs.Sum.{IsSum}
 use Rattle.pgb_text.proofs.Digests.{IsSum-sha1}
-use Rattle.pgb_frame.specs.declared.frames.JobKind.TheVariants.{Read}
-use Rattle.pgb_frame.specs.Frames.{Item, Job}
+use Rattle.pgb_worker_frame.specs.declared.frames.JobKind.TheVariants.{Read}
+use Rattle.pgb_worker_frame.specs.Frames.{Item, Job}
 use Rattle.pgb_model.specs.Text.{Text, In}
 use Rattle.pgb_model.specs.InfoFiles.{IsLabel}
 use Rattle.pgb_model.specs.ManifestText.{IsFileEntry}
 use Rattle.pgb_model.specs.Values.{FileEntry}
-use Rattle.pgb_keep.specs.declared.ItemEnd.{ItemEnd}
-use Rattle.pgb_keep.specs.declared.ItemEnd.TheVariants.{Whole, Vanished}
+use Rattle.pgb_worker_keep.specs.declared.ItemEnd.{ItemEnd}
+use Rattle.pgb_worker_keep.specs.declared.ItemEnd.TheVariants.{Whole, Vanished}
 use Rattle.pgb_label.specs.declared.keeper.Ended.{Ended}
 use Rattle.pgb_label.specs.Keeping.{total}
 use Rattle.pgb_plan.specs.declared.values.Choice.{Choice}

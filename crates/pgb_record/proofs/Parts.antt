@@ -2,9 +2,9 @@
 use Rattle.std.proofs.Common.{◌≡◌, ℕ, zero, suc, ◌+◌, ◌-◌, ◌<◌, List, [], ◌∷◌, ◌++◌, map, take, drop, length, refl, sym, ap, ◌∙◌, arith, append_assoc, length-append, length-drop}
 use Rattle.std.specs.Prelude.{codes, decimal, min}
 use Rattle.std.proofs.lemmas.List.{take-map, take_all, length-map}
-use Rattle.pgb_frame.specs.declared.frames.Job as rust
-use Rattle.pgb_frame.specs.Frames.{Job}
-use Rattle.pgb_frame.specs.Views.{job_of}
+use Rattle.pgb_worker_frame.specs.declared.frames.Job as rust
+use Rattle.pgb_worker_frame.specs.Frames.{Job}
+use Rattle.pgb_worker_frame.specs.Views.{job_of}
 use Rattle.pgb_outside.specs.Content.{Name}
 use Rattle.pgb_model.specs.Text.{Text, ◌⫽◌}
 use Rattle.pgb_plan.specs.declared.values.Plan.{Plan}

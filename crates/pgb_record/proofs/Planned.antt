@@ -9,7 +9,7 @@ use Rattle.pgb_text.proofs.Digests.{IsSum-sha1}
 use Rattle.pgb_outside.specs.Content.{Name, is_below}
 use Rattle.pgb_outside.specs.Crash.{IsTemporary}
 use Rattle.pgb_outside.specs.Order.{is_before, are_after, are_in_order}
-use Rattle.pgb_frame.specs.Frames.{Item, Job}
+use Rattle.pgb_worker_frame.specs.Frames.{Item, Job}
 use Rattle.pgb_disk.proofs.Below.{below_front}
 use Rattle.pgb_ini.proofs.Orders.{not_itself}
 use Rattle.pgb_model.specs.declared.labels.Label.{Label}

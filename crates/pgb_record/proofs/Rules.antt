@@ -18,7 +18,7 @@ use Rattle.pgb_model.specs.ManifestText.{IsFileEntry, IsFolder, HasItsFolders}
 use Rattle.pgb_model.specs.Paths.{IsPath}
 use Rattle.pgb_outside.specs.Crash.{IsTemporary}
 use Rattle.pgb_text.specs.declared.sum.Sum.{Sum}
-use Rattle.pgb_keep.specs.declared.ItemEnd.TheVariants.{Whole}
+use Rattle.pgb_worker_keep.specs.declared.ItemEnd.TheVariants.{Whole}
 use Rattle.pgb_label.specs.declared.keeper.Ended.{Ended}
 use Rattle.std.proofs.lemmas.Option.{slice_get_within}
 use Rattle.pgb_model.specs.Values.{FileEntry}

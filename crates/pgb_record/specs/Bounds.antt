@@ -11,7 +11,7 @@ use Rattle.pgb_model.specs.Names.{label_text}
 use Rattle.pgb_model.specs.InfoFiles.{IsLabel, label_kind}
 use Rattle.pgb_model.specs.ManifestText.{IsFileEntry, IsWalPart, HasItsPrior}
 use Rattle.pgb_model.specs.Values.{BackupInfo, FileEntry}
-use Rattle.pgb_keep.specs.declared.ItemEnd.TheVariants.{Whole}
+use Rattle.pgb_worker_keep.specs.declared.ItemEnd.TheVariants.{Whole}
 use Rattle.pgb_label.specs.declared.keeper.Ended.{Ended}
 use Rattle.pgb_plan.specs.declared.values.Choice.{Choice}
 use Rattle.pgb_plan.specs.Listed.{Taken}

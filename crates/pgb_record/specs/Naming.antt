@@ -1,9 +1,9 @@
 -- The names at which the bytes of a backup's jobs are kept.
 use Rattle.std.specs.Prelude.{◌≡◌, ◌+◌, ℕ, List, [], ◌∷◌, ◌++◌, length, map, codes, decimal, Some, slice_get}
 use Rattle.pgb_outside.specs.Content.{Name}
-use Rattle.pgb_frame.specs.Frames.{Item, Job}
+use Rattle.pgb_worker_frame.specs.Frames.{Item, Job}
 use Rattle.pgb_model.specs.declared.labels.Label.{Label}
-use Rattle.pgb_frame.specs.Views.{job_of}
+use Rattle.pgb_worker_frame.specs.Views.{job_of}
 use Rattle.pgb_model.specs.Text.{Text, In, ◌⫽◌}
 use Rattle.pgb_model.specs.Names.{label_folder, file_name, bundle_name}
 use Rattle.pgb_plan.specs.declared.values.Plan.{Plan}

@@ -8,11 +8,11 @@ ghost use Rattle.pgb_record.specs.Views.{went_of};
 
 use crate::places::{end_of, sum_at};
 use crate::ran::Ran;
-use pgb_keep::ItemEnd;
 use pgb_label::Ended;
 use pgb_model::{Bundled, FileEntry, Label};
 use pgb_plan::{Choice, Taken, find_entry};
 use pgb_text::Sum;
+use pgb_worker_keep::ItemEnd;
 use std::alloc::{AllocError, Global};
 
 // A file that was read, where it hadn't vanished.

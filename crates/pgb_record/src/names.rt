@@ -1,11 +1,11 @@
 // The names at which the bytes of a backup's jobs are kept.
 ghost use Rattle.std.specs.Prelude.{◌≡◌, ◌++◌, map, string_bytes, IfOk, OnOk};
-ghost use Rattle.pgb_frame.specs.Views.{job_of};
+ghost use Rattle.pgb_worker_frame.specs.Views.{job_of};
 ghost use Rattle.pgb_plan.specs.Layout.{Layout};
 ghost use Rattle.pgb_record.specs.Naming.{single_in, bundles_in, names_in, IsPlanned};
 
-use pgb_frame::Job;
 use pgb_plan::Plan;
+use pgb_worker_frame::Job;
 use std::alloc::{AllocError, Global};
 
 // The name of a job of one file.

@@ -15,7 +15,7 @@ use Rattle.pgb_model.specs.Text.{Text, ◌⫽◌}
 use Rattle.pgb_model.specs.Values.{FileEntry}
 use Rattle.pgb_table.specs.Values.{is_stanza}
 use Rattle.pgb_paths.specs.Faults.{IsPathWithin}
-use Rattle.pgb_frame.specs.Frames.{Item, Job, item_bytes, job_bytes, job_limit, repo_limit, short_text, FitsItem, FitsJob}
+use Rattle.pgb_worker_frame.specs.Frames.{Item, Job, item_bytes, job_bytes, job_limit, repo_limit, short_text, FitsItem, FitsJob}
 use Rattle.pgb_source.specs.Sources.{IsEntry, source, reading}
 use Rattle.pgb_source.proofs.Parts.{IsPart, joined}
 use Rattle.pgb_source.proofs.Words.{short_stanza, stanza_part, number_part, short_label, label_part}

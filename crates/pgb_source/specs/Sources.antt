@@ -5,9 +5,9 @@ use Rattle.pgb_model.specs.Text.{Text}
 use Rattle.pgb_model.specs.Values.{FileEntry}
 use Rattle.pgb_model.specs.ManifestText.{IsFileEntry}
 use Rattle.pgb_model.specs.Place.{place}
-use Rattle.pgb_frame.specs.declared.frames.Root.TheVariants.{Repo}
-use Rattle.pgb_frame.specs.declared.frames.JobKind.TheVariants.{Read}
-use Rattle.pgb_frame.specs.Frames.{Item, Job}
+use Rattle.pgb_worker_frame.specs.declared.frames.Root.TheVariants.{Repo}
+use Rattle.pgb_worker_frame.specs.declared.frames.JobKind.TheVariants.{Read}
+use Rattle.pgb_worker_frame.specs.Frames.{Item, Job}
 
 -- an entry that a manifest may have
 abbrev pub IsEntry : FileEntry → Type 0

@@ -6,14 +6,14 @@ ghost use Rattle.pgb_model.specs.Place.{holder, place};
 ghost use Rattle.pgb_model.specs.Values.{file_entry_of};
 ghost use Rattle.pgb_model.specs.declared.labels.Label as labels;
 ghost use Rattle.pgb_table.specs.Values.{is_stanza};
-ghost use Rattle.pgb_frame.specs.Frames.{FitsItem, FitsJob};
-ghost use Rattle.pgb_frame.specs.Views.{item_of, job_of};
+ghost use Rattle.pgb_worker_frame.specs.Frames.{FitsItem, FitsJob};
+ghost use Rattle.pgb_worker_frame.specs.Views.{item_of, job_of};
 ghost use Rattle.pgb_source.specs.Sources.{IsEntry, source, reading};
 
-use pgb_frame::{Item, Job, JobKind, Root};
 use pgb_model::{FileEntry, Label};
 use pgb_stamp::label_text;
 use pgb_text::NoMemory;
+use pgb_worker_frame::{Item, Job, JobKind, Root};
 use std::alloc::{AllocError, Global};
 
 // The label in whose folder the bytes lie.

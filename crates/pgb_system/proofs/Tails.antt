@@ -4,7 +4,7 @@ use Rattle.std.proofs.Math.ListN.{get_or}
 use Rattle.std.proofs.lemmas.Grind.{take_at_read}
 use Rattle.std.proofs.Math.Seq.{drop-append_seam, drop-append-add, take-length}
 use Rattle.pgb_outside.specs.Links.{last_five}
-use Rattle.pgb_hear.proofs.Fronts.{five_joins}
+use Rattle.pgb_worker_hear.proofs.Fronts.{five_joins}
 
 five_short : (t b : List ℕ) → length b - 5 ≡ 0 → last_five (t ++ last_five b) ≡ last_five (t ++ b)
 five_short t b e = ap (λ k. last_five (t ++ drop k b)) e

@@ -1,10 +1,10 @@
 //! Which jobs copy the files of a listing (pgBackRest command reference, "Backup").
 
 use crate::same::same_of;
-use pgb_frame::Job;
 use pgb_model::FileEntry;
 use pgb_plan::{Choice, Plan, PlanSettings, Taken, digests, plan};
 use pgb_text::Sum;
+use pgb_worker_frame::Job;
 use std::alloc::{AllocError, Global};
 use std::test::Fail;
 

@@ -1,16 +1,16 @@
 // Jobs over links that give fixed bytes, with digests of `sha1sum`.
 ghost use Rattle.std.specs.Prelude.{◌≡◌, ◌<◌, ◌^◌, ℕ, Some, All, IfOk, length, map, vec_len, slice_get};
 ghost use Rattle.pgb_outside.specs.Links.{LinkState};
-ghost use Rattle.pgb_frame.specs.Frames.{FitsJob};
-ghost use Rattle.pgb_frame.specs.Views.{job_of};
-ghost use Rattle.pgb_dispatch.specs.Run.{IsReady};
+ghost use Rattle.pgb_worker_frame.specs.Frames.{FitsJob};
+ghost use Rattle.pgb_worker_frame.specs.Views.{job_of};
+ghost use Rattle.pgb_worker_dispatch.specs.Run.{IsReady};
 
 use crate::same::{same, well};
 use crate::wire::{ASKS_A, SETUP, X, YZ};
-use pgb_dispatch::{run_jobs, setup};
-use pgb_frame::{Frame, FrameFault, Job, decode_frame};
-use pgb_links::{MemKeep, MemTurns, RawLink};
 use pgb_outside::Link;
+use pgb_worker_dispatch::{run_jobs, setup};
+use pgb_worker_frame::{Frame, FrameFault, Job, decode_frame};
+use pgb_worker_links::{MemKeep, MemTurns, RawLink};
 use std::alloc::{AllocError, Global};
 use std::process::Abort;
 

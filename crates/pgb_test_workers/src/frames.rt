@@ -1,7 +1,7 @@
 // Frames that are decoded, and encoded again.
 use crate::same::{same, well};
 use crate::wire::{DIGEST, DIGEST_JOB};
-use pgb_frame::{Frame, FrameFault, Item, JobKind, Root, decode_frame, encode_frame};
+use pgb_worker_frame::{Frame, FrameFault, Item, JobKind, Root, decode_frame, encode_frame};
 use std::alloc::Global;
 use std::process::Abort;
 

@@ -1,9 +1,9 @@
 // What a link to a worker in memory gives.
 use crate::same::{same, well};
 use crate::wire::{ASKS_A, DIGEST, DIGEST_JOB, X, YZ};
-use pgb_links::{MeetLink, MemLink};
 use pgb_memory::named_bytes;
 use pgb_outside::{Link, Stop};
+use pgb_worker_links::{MeetLink, MemLink};
 use std::alloc::{AllocError, Global};
 use std::process::Abort;
 

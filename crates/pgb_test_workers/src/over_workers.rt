@@ -1,15 +1,15 @@
 // Jobs over links to workers in memory, which read their files.
 ghost use Rattle.std.specs.Prelude.{◌≡◌, ℕ, Some, IfOk, length, map, slice_get};
 ghost use Rattle.pgb_outside.specs.Links.{LinkState};
-ghost use Rattle.pgb_dispatch.specs.Run.{IsReady};
+ghost use Rattle.pgb_worker_dispatch.specs.Run.{IsReady};
 
 use crate::dispatch::{ASKS_LONG, jobs_of, told};
 use crate::same::{same, well};
-use pgb_dispatch::run_jobs;
-use pgb_frame::FrameFault;
-use pgb_links::{MeetLink, MemKeep, MemLink, MemTurns};
 use pgb_memory::named_bytes;
 use pgb_outside::Link;
+use pgb_worker_dispatch::run_jobs;
+use pgb_worker_frame::FrameFault;
+use pgb_worker_links::{MeetLink, MemKeep, MemLink, MemTurns};
 use std::alloc::{AllocError, Global};
 use std::process::Abort;
 

@@ -1,10 +1,10 @@
 // A worker over devices in memory.
 use crate::same::{same, well};
 use crate::wire::{DIGEST, DIGEST_JOB, SETUP};
-use pgb_frame::{Frame, decode_frame};
 use pgb_memory::{MemFiles, MemSink, MemSource, named_bytes};
 use pgb_outside::{Source, Stop};
 use pgb_worker::{ServeFault, serve};
+use pgb_worker_frame::{Frame, decode_frame};
 use std::alloc::{AllocError, Global};
 use std::process::Abort;
 

@@ -12,15 +12,15 @@ use Rattle.pgb_outside.specs.Cause.{Rises}
 use Rattle.pgb_outside.specs.Content.{Value}
 use Rattle.pgb_model.specs.Text.{Text}
 use Rattle.pgb_worker.specs.declared.serve_fault.ServeFault.{ServeFault}
-use Rattle.pgb_frame.specs.declared.frames.JobKind.{JobKind}
-use Rattle.pgb_frame.specs.declared.frames.JobKind.TheVariants.{Read, Digest}
-use Rattle.pgb_frame.specs.Frames.{Item, Frame, spell, part_size}
-use Rattle.pgb_frame.specs.Frames.Frame.{Part, End, Unread}
-use Rattle.pgb_frame.specs.Replies.{parts, payload, item_rest, item_reply}
+use Rattle.pgb_worker_frame.specs.declared.frames.JobKind.{JobKind}
+use Rattle.pgb_worker_frame.specs.declared.frames.JobKind.TheVariants.{Read, Digest}
+use Rattle.pgb_worker_frame.specs.Frames.{Item, Frame, spell, part_size}
+use Rattle.pgb_worker_frame.specs.Frames.Frame.{Part, End, Unread}
+use Rattle.pgb_worker_frame.specs.Replies.{parts, payload, item_rest, item_reply}
 use Rattle.pgb_worker.specs.Writing.{IsWritten, IsFrontWritten, Writes}
 use Rattle.pgb_worker.specs.Answers.{part_frames, ToldItem, Tells, ToldUnread, IsNextPart}
 use Rattle.pgb_worker.proofs.Written.{none_written, nothing_written, frames_more, frames_front}
-use Rattle.pgb_frame.proofs.ReplyFrames.{parts_none, parts_more}
+use Rattle.pgb_worker_frame.proofs.ReplyFrames.{parts_none, parts_more}
 
 -- ---- the frames of a part
 

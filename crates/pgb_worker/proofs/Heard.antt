@@ -6,15 +6,15 @@ use Rattle.std.proofs.lemmas.Bool.Decides.{nat_tests}
 use Rattle.std.proofs.lemmas.List.{append-nil, take-append-le, take-append-drop, length-append, length-drop}
 use Rattle.pgb_outside.specs.Streams.{Gives, IsOver}
 use Rattle.pgb_model.specs.Text.{Text}
-use Rattle.pgb_frame.specs.declared.fault.FrameFault.{FrameFault}
-use Rattle.pgb_frame.specs.declared.fault.FrameFault.TheVariants as faults
+use Rattle.pgb_worker_frame.specs.declared.fault.FrameFault.{FrameFault}
+use Rattle.pgb_worker_frame.specs.declared.fault.FrameFault.TheVariants as faults
 use Rattle.pgb_worker.specs.declared.serve_fault.ServeFault.{ServeFault}
 use Rattle.pgb_worker.specs.declared.serve_fault.ServeFault.TheVariants.{Form, TooLong, TooMany, Ended, Read, Sink, NoMemory}
-use Rattle.pgb_frame.specs.Frames.{Frame, FitsFrame, IsFront, spell}
-use Rattle.pgb_frame.specs.Reading.{◌>>=◌, Rest, body_at, is_type, whole, frame_at, IsCutShort}
+use Rattle.pgb_worker_frame.specs.Frames.{Frame, FitsFrame, IsFront, spell}
+use Rattle.pgb_worker_frame.specs.Reading.{◌>>=◌, Rest, body_at, is_type, whole, frame_at, IsCutShort}
 use Rattle.pgb_worker.specs.Hearing.{size_told, IsInputFault, IsFormAt, StopsAt, IsHeard, FaultAt}
-use Rattle.pgb_frame.proofs.Takes.{bind_ok, test_ok}
-use Rattle.pgb_frame.proofs.Laws.{frame_again}
+use Rattle.pgb_worker_frame.proofs.Takes.{bind_ok, test_ok}
+use Rattle.pgb_worker_frame.proofs.Laws.{frame_again}
 
 -- ---- the length that is told is the frame's
 

@@ -4,12 +4,12 @@ use Rattle.std.specs.List.{flat_map}
 use Rattle.pgb_outside.specs.Content.{Value}
 use Rattle.pgb_model.specs.Text.{Text}
 use Rattle.pgb_worker.specs.declared.serve_fault.ServeFault.{ServeFault}
-use Rattle.pgb_frame.specs.declared.frames.Root.{Root}
-use Rattle.pgb_frame.specs.declared.frames.Root.TheVariants.{Tree, Repo}
-use Rattle.pgb_frame.specs.declared.frames.JobKind.{JobKind}
-use Rattle.pgb_frame.specs.Frames.{Item, Frame, spell}
-use Rattle.pgb_frame.specs.Frames.Frame.{Vanished, Unread}
-use Rattle.pgb_frame.specs.Replies.{item_reply, absent_reply}
+use Rattle.pgb_worker_frame.specs.declared.frames.Root.{Root}
+use Rattle.pgb_worker_frame.specs.declared.frames.Root.TheVariants.{Tree, Repo}
+use Rattle.pgb_worker_frame.specs.declared.frames.JobKind.{JobKind}
+use Rattle.pgb_worker_frame.specs.Frames.{Item, Frame, spell}
+use Rattle.pgb_worker_frame.specs.Frames.Frame.{Vanished, Unread}
+use Rattle.pgb_worker_frame.specs.Replies.{item_reply, absent_reply}
 use Rattle.pgb_worker.specs.Writing.{IsFrontWritten}
 use Rattle.pgb_worker.specs.Answers.{FillsPart, GoesOn, AnswersItem, ToldItem, Tells, ToldUnread, ToldAbsent}
 use Rattle.pgb_worker.proofs.Written.{none_written}

@@ -9,15 +9,15 @@ use Rattle.pgb_outside.specs.Cause.{Rises}
 use Rattle.pgb_outside.specs.Content.{Content, Value}
 use Rattle.pgb_model.specs.Text.{Text}
 use Rattle.pgb_worker.specs.declared.serve_fault.ServeFault.{ServeFault}
-use Rattle.pgb_frame.specs.declared.frames.Item as rust_item
-use Rattle.pgb_frame.specs.declared.frames.Root.{Root}
-use Rattle.pgb_frame.specs.declared.frames.Root.TheVariants.{Tree, Repo}
-use Rattle.pgb_frame.specs.declared.frames.JobKind.{JobKind}
-use Rattle.pgb_frame.specs.declared.frames.JobKind.TheVariants.{Read, Digest}
-use Rattle.pgb_frame.specs.Frames.{Item, Job, Frame, spell}
-use Rattle.pgb_frame.specs.Frames.Frame.{Part, End, Vanished, Unread}
-use Rattle.pgb_frame.specs.Views.{item_of, items_of}
-use Rattle.pgb_frame.specs.Replies.{parts, payload, item_rest, item_reply, replies, absent_reply}
+use Rattle.pgb_worker_frame.specs.declared.frames.Item as rust_item
+use Rattle.pgb_worker_frame.specs.declared.frames.Root.{Root}
+use Rattle.pgb_worker_frame.specs.declared.frames.Root.TheVariants.{Tree, Repo}
+use Rattle.pgb_worker_frame.specs.declared.frames.JobKind.{JobKind}
+use Rattle.pgb_worker_frame.specs.declared.frames.JobKind.TheVariants.{Read, Digest}
+use Rattle.pgb_worker_frame.specs.Frames.{Item, Job, Frame, spell}
+use Rattle.pgb_worker_frame.specs.Frames.Frame.{Part, End, Vanished, Unread}
+use Rattle.pgb_worker_frame.specs.Views.{item_of, items_of}
+use Rattle.pgb_worker_frame.specs.Replies.{parts, payload, item_rest, item_reply, replies, absent_reply}
 use Rattle.pgb_worker.specs.Writing.{IsWritten, IsFrontWritten, Writes}
 use Rattle.pgb_worker.specs.declared.replying.Opened.{Opened}
 use Rattle.pgb_worker.specs.Opening.{FailedRoot}

@@ -6,8 +6,8 @@ use Rattle.std.proofs.lemmas.Bool.{cases_lt}
 use borrow.Rule.Slice.PartMut.{put_mid}
 use Rattle.pgb_outside.specs.Content.{Value, Content}
 use Rattle.pgb_model.specs.Text.{Text}
-use Rattle.pgb_frame.specs.Frames.{Item, part_size}
-use Rattle.pgb_frame.specs.Replies.{payload}
+use Rattle.pgb_worker_frame.specs.Frames.{Item, part_size}
+use Rattle.pgb_worker_frame.specs.Replies.{payload}
 use Rattle.pgb_worker.specs.Answers.{Fills, FillsPart}
 
 -- the first bytes behind the head are those that were read

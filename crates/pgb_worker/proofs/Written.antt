@@ -6,7 +6,7 @@ use Rattle.std.proofs.lemmas.List.{take-append-le, take_min}
 use Rattle.std.proofs.lemmas.Grind.{flat_map-append}
 use Rattle.pgb_model.specs.Text.{Text}
 use Rattle.pgb_worker.specs.declared.serve_fault.ServeFault.{ServeFault}
-use Rattle.pgb_frame.specs.Frames.{Frame, spell}
+use Rattle.pgb_worker_frame.specs.Frames.{Frame, spell}
 use Rattle.pgb_worker.specs.Writing.{IsWritten, IsFrontWritten, Adds, Writes}
 
 abbrev pub more : Text → Option Text → Option Text

@@ -5,13 +5,13 @@ use Rattle.pgb_outside.specs.Cause.{Rises}
 use Rattle.pgb_outside.specs.Content.{Content, Value}
 use Rattle.pgb_model.specs.Text.{Text}
 use Rattle.pgb_worker.specs.declared.serve_fault.ServeFault.{ServeFault}
-use Rattle.pgb_frame.specs.declared.frames.Root.{Root}
-use Rattle.pgb_frame.specs.declared.frames.Root.TheVariants.{Tree, Repo}
-use Rattle.pgb_frame.specs.declared.frames.JobKind.{JobKind}
-use Rattle.pgb_frame.specs.declared.frames.JobKind.TheVariants.{Read, Digest}
-use Rattle.pgb_frame.specs.Frames.{Item, Job, Frame, spell, part_size}
-use Rattle.pgb_frame.specs.Frames.Frame.{Part, Unread}
-use Rattle.pgb_frame.specs.Replies.{payload, files_of, absent_reply, item_reply, replies}
+use Rattle.pgb_worker_frame.specs.declared.frames.Root.{Root}
+use Rattle.pgb_worker_frame.specs.declared.frames.Root.TheVariants.{Tree, Repo}
+use Rattle.pgb_worker_frame.specs.declared.frames.JobKind.{JobKind}
+use Rattle.pgb_worker_frame.specs.declared.frames.JobKind.TheVariants.{Read, Digest}
+use Rattle.pgb_worker_frame.specs.Frames.{Item, Job, Frame, spell, part_size}
+use Rattle.pgb_worker_frame.specs.Frames.Frame.{Part, Unread}
+use Rattle.pgb_worker_frame.specs.Replies.{payload, files_of, absent_reply, item_reply, replies}
 use Rattle.pgb_worker.specs.Writing.{IsWritten, IsFrontWritten, Writes}
 
 -- what filling a buffer from a place on gives: none where the file is absent, else all that is there and fits

@@ -2,11 +2,11 @@
 use Rattle.std.specs.Prelude.{◌≡◌, ◌≢◌, ◌⊎◌, ◌<◌, ◌≤◌, ◌+◌, ◌-◌, ◌^◌, ℕ, min, [], ◌++◌, length, take, drop, slice_index, Option, Some, None, Result, Ok, Err}
 use Rattle.std.specs.Int.{w32, from_be_bytes}
 use Rattle.pgb_model.specs.Text.{Text}
-use Rattle.pgb_frame.specs.declared.fault.FrameFault.TheVariants as faults
+use Rattle.pgb_worker_frame.specs.declared.fault.FrameFault.TheVariants as faults
 use Rattle.pgb_worker.specs.declared.serve_fault.ServeFault.{ServeFault}
 use Rattle.pgb_worker.specs.declared.serve_fault.ServeFault.TheVariants.{Form, TooLong, TooMany, Ended, Read, Sink, NoMemory}
-use Rattle.pgb_frame.specs.Frames.{Frame, FitsFrame, spell}
-use Rattle.pgb_frame.specs.Reading.{frame_at}
+use Rattle.pgb_worker_frame.specs.Frames.{Frame, FitsFrame, spell}
+use Rattle.pgb_worker_frame.specs.Reading.{frame_at}
 
 -- the length of the frame at the front of the bytes, by its own length
 abbrev pub size_told : Text → ℕ

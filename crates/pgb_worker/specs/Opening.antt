@@ -1,8 +1,8 @@
 -- Why an item may be answered by `U` (own).
 use Rattle.std.specs.Prelude.{◌≡◌, ◌⊎◌, ℕ, false}
 use Rattle.pgb_outside.specs.Cause.{Rises}
-use Rattle.pgb_frame.specs.declared.frames.Root.{Root}
-use Rattle.pgb_frame.specs.declared.frames.Root.TheVariants.{Tree, Repo}
+use Rattle.pgb_worker_frame.specs.declared.frames.Root.{Root}
+use Rattle.pgb_worker_frame.specs.declared.frames.Root.TheVariants.{Tree, Repo}
 use Rattle.pgb_worker.specs.declared.replying.Opened.{Opened}
 
 -- the root wasn't opened, or its count of faults rose

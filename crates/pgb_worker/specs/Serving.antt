@@ -4,12 +4,12 @@ use Rattle.std.specs.List.{flat_map, AllByRecursion}
 use Rattle.pgb_outside.specs.Cause.{Rises}
 use Rattle.pgb_outside.specs.Content.{Content}
 use Rattle.pgb_model.specs.Text.{Text}
-use Rattle.pgb_frame.specs.declared.frames.Root.{Root}
+use Rattle.pgb_worker_frame.specs.declared.frames.Root.{Root}
 use Rattle.pgb_worker.specs.declared.replying.Opened.{Opened}
 use Rattle.pgb_worker.specs.declared.serve_fault.ServeFault.{ServeFault}
 use Rattle.pgb_worker.specs.declared.serve_fault.ServeFault.TheVariants.{Form, TooLong, TooMany, Ended, Read, Sink, NoMemory}
-use Rattle.pgb_frame.specs.Frames.{Roots, Job, Frame, FitsFrame, spell}
-use Rattle.pgb_frame.specs.Frames.Frame.{Setup, Task}
+use Rattle.pgb_worker_frame.specs.Frames.{Roots, Job, Frame, FitsFrame, spell}
+use Rattle.pgb_worker_frame.specs.Frames.Frame.{Setup, Task}
 use Rattle.pgb_worker.specs.Writing.{IsWritten, IsFrontWritten, IsOutputFault}
 use Rattle.pgb_worker.specs.Hearing.{StopsAt, IsHeard}
 use Rattle.pgb_worker.specs.Answers.{of_root, AnswersJob, ToldJob}

@@ -4,7 +4,7 @@ use Rattle.std.specs.List.{flat_map}
 use Rattle.pgb_model.specs.Text.{Text}
 use Rattle.pgb_worker.specs.declared.serve_fault.ServeFault.{ServeFault}
 use Rattle.pgb_worker.specs.declared.serve_fault.ServeFault.TheVariants.{Sink, NoMemory}
-use Rattle.pgb_frame.specs.Frames.{Frame, spell}
+use Rattle.pgb_worker_frame.specs.Frames.{Frame, spell}
 
 -- these bytes were written
 abbrev pub IsWritten : Option Text → Text → Option Text → Type 0

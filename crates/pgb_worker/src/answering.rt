@@ -4,19 +4,19 @@ ghost use Rattle.sha1.specs.Sha1.{Holds};
 ghost use Rattle.pgb_outside.specs.Cause.{Rises};
 ghost use Rattle.pgb_model.specs.Text.{Text};
 ghost use Rattle.pgb_worker.specs.declared.serve_fault.ServeFault.TheVariants.{Sink as OutputFailed};
-ghost use Rattle.pgb_frame.specs.Frames.{part_size};
-ghost use Rattle.pgb_frame.specs.Frames.Frame.{End};
-ghost use Rattle.pgb_frame.specs.Views.{item_of};
-ghost use Rattle.pgb_frame.specs.Replies.{payload};
+ghost use Rattle.pgb_worker_frame.specs.Frames.{part_size};
+ghost use Rattle.pgb_worker_frame.specs.Frames.Frame.{End};
+ghost use Rattle.pgb_worker_frame.specs.Views.{item_of};
+ghost use Rattle.pgb_worker_frame.specs.Replies.{payload};
 ghost use Rattle.pgb_worker.specs.Answers.{part_frames, Tells, ToldItem, ToldAbsent, ToldUnread};
 ghost use Rattle.pgb_worker.specs.Writing.{Writes, IsOutputFault};
 
 use crate::parts::{fill_part, next_part};
 use crate::serve_fault::ServeFault;
 use crate::telling::{HEAD_SIZE, PART_SIZE, tell, tell_part};
-use pgb_frame::{Frame, Item, JobKind, Root};
 use pgb_outside::{Files, Sink, Stop};
 use pgb_text::Sum;
+use pgb_worker_frame::{Frame, Item, JobKind, Root};
 use sha1::Sha1;
 use std::alloc::Global;
 

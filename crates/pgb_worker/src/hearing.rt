@@ -4,17 +4,17 @@ ghost use Rattle.pgb_outside.specs.Cause.{Rises};
 ghost use Rattle.pgb_outside.specs.Streams.{Gives, IsOver};
 ghost use Rattle.pgb_model.specs.Text.{Text};
 ghost use Rattle.pgb_worker.specs.declared.serve_fault.ServeFault.TheVariants.{Read as InputFailed};
-ghost use Rattle.pgb_frame.specs.declared.fault.FrameFault.TheVariants as faults;
-ghost use Rattle.pgb_frame.specs.Frames.{IsFront};
-ghost use Rattle.pgb_frame.specs.Frames.Frame.{Setup, Task};
-ghost use Rattle.pgb_frame.specs.Views.{frame_of, roots_of, job_of};
-ghost use Rattle.pgb_frame.specs.Reading.{frame_at, IsCutShort};
+ghost use Rattle.pgb_worker_frame.specs.declared.fault.FrameFault.TheVariants as faults;
+ghost use Rattle.pgb_worker_frame.specs.Frames.{IsFront};
+ghost use Rattle.pgb_worker_frame.specs.Frames.Frame.{Setup, Task};
+ghost use Rattle.pgb_worker_frame.specs.Views.{frame_of, roots_of, job_of};
+ghost use Rattle.pgb_worker_frame.specs.Reading.{frame_at, IsCutShort};
 ghost use Rattle.pgb_worker.specs.Hearing.{size_told, IsInputFault, IsNotOutput, Hears, FaultAt};
 
 use crate::serve_fault::ServeFault;
 use crate::telling::HEAD_SIZE;
-use pgb_frame::{Frame, FrameFault, Job, Roots, decode_frame};
 use pgb_outside::{Source, Stop};
+use pgb_worker_frame::{Frame, FrameFault, Job, Roots, decode_frame};
 use std::alloc::Global;
 
 // As much is read of a frame before its fields are looked at: no setup is longer.

@@ -2,14 +2,14 @@
 ghost use Rattle.std.specs.Prelude.{◌≡◌, ◌<◌, ◌≤◌, ◌+◌, ◌-◌, ◌^◌, ℕ, Option, Some, min, take, drop, length, string_bytes, IfOk, IfSome};
 ghost use Rattle.pgb_outside.specs.Cause.{HasCause};
 ghost use Rattle.pgb_outside.specs.Content.{ReadsPart};
-ghost use Rattle.pgb_frame.specs.Views.{item_of};
+ghost use Rattle.pgb_worker_frame.specs.Views.{item_of};
 ghost use Rattle.pgb_model.specs.Text.{Text};
-ghost use Rattle.pgb_frame.specs.Replies.{payload};
+ghost use Rattle.pgb_worker_frame.specs.Replies.{payload};
 ghost use Rattle.pgb_worker.specs.Answers.{Fills, FillsPart, IsNextPart};
 
 use crate::telling::{HEAD_SIZE, PART_SIZE};
-use pgb_frame::Item;
 use pgb_outside::{Files, Stop};
+use pgb_worker_frame::Item;
 
 // Reads bytes behind those that the buffer has. A file that went away meanwhile has ended.
 fn read_on<F: Files>(

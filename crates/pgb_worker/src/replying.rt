@@ -3,15 +3,15 @@ ghost use Rattle.std.specs.Prelude.{◌≡◌, ◌≤◌, ◌⊎◌, Some, false
 ghost use Rattle.pgb_outside.specs.Cause.{Rises};
 ghost use Rattle.pgb_outside.specs.Content.{Content};
 ghost use Rattle.pgb_worker.specs.declared.serve_fault.ServeFault.TheVariants.{Sink as OutputFailed};
-ghost use Rattle.pgb_frame.specs.Views.{item_of, job_of};
+ghost use Rattle.pgb_worker_frame.specs.Views.{item_of, job_of};
 ghost use Rattle.pgb_worker.specs.Answers.{value_of, ToldItem, ToldJob};
 ghost use Rattle.pgb_worker.specs.Opening.{FailedRoot};
 ghost use Rattle.pgb_worker.specs.Writing.{IsOutputFault};
 
 use crate::answering::{answer_item, tell_unread};
 use crate::serve_fault::ServeFault;
-use pgb_frame::{Item, Job, JobKind, Root};
 use pgb_outside::{Files, Sink};
+use pgb_worker_frame::{Item, Job, JobKind, Root};
 use std::alloc::Global;
 
 /// Which of the roots were opened.

@@ -12,8 +12,8 @@ use crate::hearing::{hear_job, hear_setup, is_over};
 use crate::replying::{Opened, answer_job};
 use crate::serve_fault::ServeFault;
 use crate::telling::{HEAD_SIZE, PART_SIZE};
-use pgb_frame::Roots;
 use pgb_outside::{Files, Sink, Source, Stop};
+use pgb_worker_frame::Roots;
 use std::alloc::Global;
 
 /// So many frames are taken, the setup among them.

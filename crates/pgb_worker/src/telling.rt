@@ -2,14 +2,14 @@
 ghost use Rattle.std.specs.Prelude.{◌≡◌, ◌<◌, ◌≤◌, ◌⊎◌, [], ◌∷◌, take, drop, length, IsErrOf, IfErr};
 ghost use Rattle.pgb_outside.specs.Cause.{Rises};
 ghost use Rattle.pgb_worker.specs.declared.serve_fault.ServeFault.TheVariants.{Sink as OutputFailed};
-ghost use Rattle.pgb_frame.specs.Frames.{FitsFrame, spell};
-ghost use Rattle.pgb_frame.specs.Frames.Frame.{Part};
-ghost use Rattle.pgb_frame.specs.Views.{frame_of};
+ghost use Rattle.pgb_worker_frame.specs.Frames.{FitsFrame, spell};
+ghost use Rattle.pgb_worker_frame.specs.Frames.Frame.{Part};
+ghost use Rattle.pgb_worker_frame.specs.Views.{frame_of};
 ghost use Rattle.pgb_worker.specs.Writing.{Adds, Writes, IsOutputFault};
 
 use crate::serve_fault::ServeFault;
-use pgb_frame::{Frame, encode_frame};
 use pgb_outside::{Sink, Stop};
+use pgb_worker_frame::{Frame, encode_frame};
 use std::alloc::Global;
 
 /// The longest part, in bytes.

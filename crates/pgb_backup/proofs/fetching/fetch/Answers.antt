@@ -1,12 +1,12 @@
 use Rattle.std.proofs.Common.{◌≡◌, ◌∙◌, List, length, map, string_bytes, ap, sym, subst, arith}
 use Rattle.std.specs.Prelude.{All}
 use Rattle.std.proofs.lemmas.List.{length-map}
-use Rattle.pgb_frame.specs.declared.frames.Job as rust
-use Rattle.pgb_frame.specs.Frames.{FitsJob}
-use Rattle.pgb_frame.specs.Views.{job_of}
+use Rattle.pgb_worker_frame.specs.declared.frames.Job as rust
+use Rattle.pgb_worker_frame.specs.Frames.{FitsJob}
+use Rattle.pgb_worker_frame.specs.Views.{job_of}
 use Rattle.pgb_outside.specs.Content.{Name}
-use Rattle.pgb_dispatch.specs.Payloads.{AllByFile}
-use Rattle.pgb_dispatch.specs.Run.{AllDone}
+use Rattle.pgb_worker_dispatch.specs.Payloads.{AllByFile}
+use Rattle.pgb_worker_dispatch.specs.Run.{AllDone}
 use Rattle.pgb_label.specs.declared.keeper.Ended.{Ended}
 use Rattle.pgb_label.specs.Keeping.{IsPlan, progress_of}
 use Rattle.pgb_label.specs.Keeper.{names_of, progress_in, stored_in}

@@ -1,6 +1,6 @@
 use Rattle.std.proofs.Common.{map, string_bytes, length, ap, arith, subst, sym, ◌∙◌}
 use Rattle.std.proofs.lemmas.List.{length-map}
-use Rattle.pgb_frame.specs.Views.{job_of}
+use Rattle.pgb_worker_frame.specs.Views.{job_of}
 use Rattle.pgb_label.specs.Keeping.{progress_of, IsPlan, Agrees}
 use Rattle.pgb_label.specs.Keeper.{names_of, progress_in}
 use Rattle.pgb_label.proofs.Fresh.{fresh_keeps, fresh_agrees}

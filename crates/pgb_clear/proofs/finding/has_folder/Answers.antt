@@ -3,7 +3,7 @@ use Rattle.std.specs.Option.{is_some}
 use Rattle.std.specs.Prelude.{is_ok}
 use Rattle.std.specs.Cmp.Lexicographic.{slice_cmp}
 use Rattle.std.proofs.lemmas.Fn.{always_returns_same}
-use Rattle.pgb_frame.proofs.ItemPaths.{agree}
+use Rattle.pgb_worker_frame.proofs.ItemPaths.{agree}
 use Rattle.pgb_plan.proofs.Among.{told}
 use Rattle.pgb_clear.specs.Clearing.{has_path}
 use Rattle.pgb_clear.proofs.Paths.{has_in, in_has}

@@ -1,5 +1,5 @@
 use Rattle.std.proofs.Common.{refl}
-use Rattle.pgb_dispatch.proofs.Ready.{untold_are_ready}
+use Rattle.pgb_worker_dispatch.proofs.Ready.{untold_are_ready}
 use Rattle.pgb_pace.proofs.pace.read_all.Goals as goal
 
 pub setup-requires-clause-ready : goal.setup-requires-clause-ready

@@ -1,6 +1,6 @@
 use Rattle.std.proofs.Common.{◌++◌, ◌∷◌, [], ◌+◌, map, drop, sym, ap, ◌∙◌, string_bytes, append_assoc, List, String, Global}
 use Rattle.std.proofs.lemmas.List.{map-append}
-use Rattle.pgb_frame.specs.Views.{job_of}
+use Rattle.pgb_worker_frame.specs.Views.{job_of}
 use Rattle.pgb_outside.specs.Content.{Name}
 use Rattle.pgb_record.specs.Naming.{bundles_in}
 use Rattle.pgb_record.proofs.Parts.{next_bundle}

@@ -1,5 +1,5 @@
 use Rattle.std.proofs.Common.{◌≡◌, ◌++◌, map, take, string_bytes}
-use Rattle.pgb_frame.specs.Views.{job_of}
+use Rattle.pgb_worker_frame.specs.Views.{job_of}
 use Rattle.pgb_record.specs.Naming.{single_in}
 use Rattle.pgb_record.proofs.names.add_singles.Given as goal
 

@@ -1,7 +1,7 @@
 use Rattle.std.proofs.Common.{◌<◌, ◌^◌, sym, subst}
 use Rattle.pgb_model.specs.Values.{file_entry_of}
-use Rattle.pgb_frame.specs.declared.frames.Root.TheVariants.{Repo}
-use Rattle.pgb_frame.specs.Frames.{IsItemPath}
+use Rattle.pgb_worker_frame.specs.declared.frames.Root.TheVariants.{Repo}
+use Rattle.pgb_worker_frame.specs.Frames.{IsItemPath}
 use Rattle.pgb_source.proofs.Fitting.{fits_source}
 use Rattle.pgb_source.proofs.naming.source_item.Goals as goal
 

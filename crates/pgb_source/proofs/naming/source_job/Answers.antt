@@ -1,8 +1,8 @@
 use Rattle.std.proofs.Common.{◌≡◌, ◌∙◌, ◌++◌, ◌∷◌, [], sym, ap, subst}
 use Rattle.pgb_model.specs.Values.{file_entry_of}
-use Rattle.pgb_frame.specs.declared.frames.JobKind.TheVariants.{Read}
-use Rattle.pgb_frame.specs.Frames.{Job, FitsJob}
-use Rattle.pgb_frame.specs.Views.{items_of}
+use Rattle.pgb_worker_frame.specs.declared.frames.JobKind.TheVariants.{Read}
+use Rattle.pgb_worker_frame.specs.Frames.{Job, FitsJob}
+use Rattle.pgb_worker_frame.specs.Views.{items_of}
 use Rattle.pgb_source.specs.Sources.{source}
 use Rattle.pgb_source.proofs.Fitting.{fits_reading}
 use Rattle.pgb_source.proofs.naming.source_job.Goals as goal

@@ -6,9 +6,9 @@ use Rattle.pgb_outside.specs.Content.{Content}
 use Rattle.pgb_outside.specs.declared.stop.Stop.{Stop}
 use Rattle.pgb_worker.specs.declared.serve_fault.ServeFault.TheVariants.{NoMemory}
 use Rattle.pgb_model.specs.Text.{Text}
-use Rattle.pgb_frame.specs.Frames.{part_size}
-use Rattle.pgb_frame.specs.Views.{item_of}
-use Rattle.pgb_frame.specs.Replies.{payload}
+use Rattle.pgb_worker_frame.specs.Frames.{part_size}
+use Rattle.pgb_worker_frame.specs.Views.{item_of}
+use Rattle.pgb_worker_frame.specs.Replies.{payload}
 use Rattle.pgb_worker.specs.Answers.{ToldItem}
 use Rattle.pgb_worker.proofs.BytesTold.{if_some, if_both, any_fault, rises_from, IsTold, part_failed, part_told, part_hashed, told_next, told_unread, told_stopped, end_told}
 use Rattle.pgb_worker.proofs.answering.answer_bytes.Goals as goal

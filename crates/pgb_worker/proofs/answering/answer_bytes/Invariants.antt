@@ -2,9 +2,9 @@ use Rattle.std.proofs.Common.{◌≡◌, ◌<◌, ◌≤◌, ◌+◌, ◌-◌, �
 use Rattle.std.specs.Prelude.{IfSome}
 use Rattle.sha1.specs.Sha1.{Holds}
 use Rattle.pgb_model.specs.Text.{Text}
-use Rattle.pgb_frame.specs.Frames.{part_size}
-use Rattle.pgb_frame.specs.Views.{item_of}
-use Rattle.pgb_frame.specs.Replies.{payload}
+use Rattle.pgb_worker_frame.specs.Frames.{part_size}
+use Rattle.pgb_worker_frame.specs.Views.{item_of}
+use Rattle.pgb_worker_frame.specs.Replies.{payload}
 use Rattle.pgb_worker.proofs.BytesTold.{IsTold}
 use Rattle.pgb_worker.proofs.answering.answer_bytes.Given as goal
 

@@ -2,7 +2,7 @@ use Rattle.std.proofs.Common.{Err, ap, string_bytes}
 use Rattle.pgb_outside.specs.declared.stop.Stop.{Stop}
 use Rattle.pgb_outside.specs.Cause.{Rises}
 use Rattle.pgb_worker.specs.declared.serve_fault.ServeFault.TheVariants.{NoMemory}
-use Rattle.pgb_frame.specs.Views.{item_of}
+use Rattle.pgb_worker_frame.specs.Views.{item_of}
 use Rattle.pgb_worker.proofs.BytesTold.{if_some, each_some}
 use Rattle.pgb_worker.proofs.ItemTold.{fills_none, absent_told, unread_told, nothing_told}
 use Rattle.pgb_worker.proofs.answering.answer_item.Goals as goal

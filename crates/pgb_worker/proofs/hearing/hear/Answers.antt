@@ -2,9 +2,9 @@ use Rattle.std.proofs.Common.{◌≡◌, ◌<◌, ◌≤◌, ◌+◌, ℕ, Some,
 use Rattle.std.specs.Prelude.{slice_index, IfSome, IfNone, IfErr}
 use Rattle.pgb_outside.specs.Streams.{Gives}
 use Rattle.pgb_model.specs.Text.{Text}
-use Rattle.pgb_frame.specs.Views.{frame_of}
-use Rattle.pgb_frame.specs.Frames.{IsFront}
-use Rattle.pgb_frame.specs.Reading.{IsCutShort}
+use Rattle.pgb_worker_frame.specs.Views.{frame_of}
+use Rattle.pgb_worker_frame.specs.Frames.{IsFront}
+use Rattle.pgb_worker_frame.specs.Reading.{IsCutShort}
 use Rattle.pgb_worker.specs.Hearing.{IsHeard, size_told, Hears, FaultAt}
 use Rattle.pgb_worker.proofs.Heard.{some_bytes, first_byte, was_read, heard_other, heard_frame, heard_fault, size_same, cut_then}
 use Rattle.pgb_worker.proofs.hearing.hear.Goals as goal

@@ -1,5 +1,5 @@
 use Rattle.std.proofs.Common.{◌≡◌, ◌+◌, length, arith, string_bytes, rules}
-use Rattle.pgb_frame.specs.Views.{item_of}
+use Rattle.pgb_worker_frame.specs.Views.{item_of}
 use Rattle.pgb_worker.proofs.Parted.{fills_behind}
 use Rattle.pgb_worker.proofs.parts.fill_part.Goals as goal
 

@@ -2,9 +2,9 @@ use Rattle.std.proofs.Common.{◌≡◌, ◌<◌, ◌⊎◌, arith, inl, inr, st
 use Rattle.std.specs.Prelude.{IfSome}
 use Rattle.pgb_outside.specs.Content.{Content}
 use Rattle.pgb_model.specs.Text.{Text}
-use Rattle.pgb_frame.specs.Frames.{part_size}
-use Rattle.pgb_frame.specs.Views.{item_of}
-use Rattle.pgb_frame.specs.Replies.{payload}
+use Rattle.pgb_worker_frame.specs.Frames.{part_size}
+use Rattle.pgb_worker_frame.specs.Views.{item_of}
+use Rattle.pgb_worker_frame.specs.Replies.{payload}
 use Rattle.pgb_worker.specs.Answers.{IsNextPart}
 use Rattle.pgb_worker.proofs.BytesTold.{no_next, each_some}
 use Rattle.pgb_worker.proofs.parts.next_part.Goals as goal

@@ -2,10 +2,10 @@ use Rattle.std.proofs.Common.{◌≡◌, ◌<◌, ◌≤◌, ◌+◌, ◌++◌, 
 use Rattle.std.proofs.lemmas.List.{map_more, take_all}
 use Rattle.pgb_outside.specs.Content.{Content}
 use Rattle.pgb_model.specs.Text.{Text}
-use Rattle.pgb_frame.specs.declared.frames.Root.{Root}
-use Rattle.pgb_frame.specs.declared.frames.Item as rust_item
-use Rattle.pgb_frame.specs.Frames.{Item}
-use Rattle.pgb_frame.specs.Views.{item_of, items_of}
+use Rattle.pgb_worker_frame.specs.declared.frames.Root.{Root}
+use Rattle.pgb_worker_frame.specs.declared.frames.Item as rust_item
+use Rattle.pgb_worker_frame.specs.Frames.{Item}
+use Rattle.pgb_worker_frame.specs.Views.{item_of, items_of}
 use Rattle.pgb_worker.specs.Opening.{FailedRoot}
 use Rattle.pgb_worker.specs.Answers.{ToldItem, ToldJob, value_of}
 use Rattle.pgb_worker.proofs.Written.{none_written}

@@ -1,6 +1,6 @@
 use Rattle.std.proofs.Common.{◌≡◌, ◌≤◌, Some, length, take}
 use Rattle.pgb_outside.specs.Content.{Content}
-use Rattle.pgb_frame.specs.Views.{items_of}
+use Rattle.pgb_worker_frame.specs.Views.{items_of}
 use Rattle.pgb_worker.proofs.JobTold.{AreAnswered}
 use Rattle.pgb_worker.proofs.replying.answer_job.Given as goal
 

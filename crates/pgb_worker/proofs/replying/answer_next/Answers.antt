@@ -1,5 +1,5 @@
 use Rattle.std.proofs.Common.{inl, string_bytes}
-use Rattle.pgb_frame.specs.Views.{item_of}
+use Rattle.pgb_worker_frame.specs.Views.{item_of}
 use Rattle.pgb_worker.proofs.BytesTold.{each_some}
 use Rattle.pgb_worker.proofs.ItemTold.{unread_told}
 use Rattle.pgb_worker.proofs.replying.answer_next.Goals as goal

@@ -2,7 +2,7 @@ use Rattle.std.proofs.Common.{◌≡◌, ◌≤◌, ◌∙◌, ℕ, Err, arith, 
 use Rattle.pgb_model.specs.Text.{Text}
 use Rattle.pgb_worker.specs.declared.serve_fault.ServeFault.{ServeFault}
 use Rattle.pgb_worker.specs.declared.serve_fault.ServeFault.TheVariants.{NoMemory}
-use Rattle.pgb_frame.specs.Views.{roots_of}
+use Rattle.pgb_worker_frame.specs.Views.{roots_of}
 use Rattle.pgb_worker.specs.Hearing.{StopsAt}
 use Rattle.pgb_worker.specs.Serving.{counts, Served}
 use Rattle.pgb_worker.proofs.Served.{silent, silent_end, not_opened, served_so, same_counts}

@@ -1,6 +1,6 @@
 use Rattle.std.proofs.Common.{◌≡◌, inr, ℕ, Err, Some, None, Option, refl, subst}
 use Rattle.pgb_worker.specs.declared.serve_fault.ServeFault.{ServeFault}
-use Rattle.pgb_frame.specs.Views.{job_of}
+use Rattle.pgb_worker_frame.specs.Views.{job_of}
 use Rattle.pgb_worker.specs.Hearing.{IsNotOutput}
 use Rattle.pgb_worker.proofs.Served.{not_output}
 use Rattle.pgb_worker.proofs.serving.serve_next.Goals as goal

@@ -1,7 +1,7 @@
 use Rattle.std.proofs.Common.{refl, rules, inl, ◌≡◌, ◌<◌, length, None, arith}
 use Rattle.std.proofs.Math.Nat.{le_refl}
 use Rattle.std.proofs.lemmas.List.{length-map}
-use Rattle.pgb_keep.specs.KeepState.{Clears}
+use Rattle.pgb_worker_keep.specs.KeepState.{Clears}
 use Rattle.pgb_fill.specs.declared.files.Filed.{Filed}
 use Rattle.pgb_fill.specs.Files.{kept_of}
 use Rattle.pgb_fill.proofs.Filing.{open_tidy, cleared}

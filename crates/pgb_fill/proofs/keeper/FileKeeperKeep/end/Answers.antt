@@ -1,5 +1,5 @@
 use Rattle.std.proofs.Common.{refl, inl, ap}
-use Rattle.pgb_keep.specs.KeepState.{Ends}
+use Rattle.pgb_worker_keep.specs.KeepState.{Ends}
 use Rattle.pgb_fill.proofs.Listing.{changes_at, apart_still, tidy_still}
 use Rattle.pgb_fill.proofs.Stepping.{within, later_at, failed_by}
 use Rattle.pgb_fill.proofs.keeper.FileKeeperKeep.end.Goals as goal

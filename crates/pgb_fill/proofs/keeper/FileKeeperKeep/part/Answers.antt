@@ -1,5 +1,5 @@
 use Rattle.std.proofs.Common.{refl, inl, ap}
-use Rattle.pgb_keep.specs.KeepState.{Adds}
+use Rattle.pgb_worker_keep.specs.KeepState.{Adds}
 use Rattle.pgb_fill.proofs.Filing.{open_tidy}
 use Rattle.pgb_fill.proofs.Listing.{changes_at, apart_still, tidy_still}
 use Rattle.pgb_fill.proofs.Stepping.{within, later_at, failed_by}

@@ -1,8 +1,8 @@
 use Rattle.std.proofs.Common.{sym, subst, ap, map, string_bytes, arith}
 use Rattle.std.proofs.lemmas.List.{length-map}
-use Rattle.pgb_frame.specs.Views.{job_of}
-use Rattle.pgb_keep.specs.KeepState.{Clears}
-use Rattle.pgb_keep.specs.Lists.{ChangesAt}
+use Rattle.pgb_worker_frame.specs.Views.{job_of}
+use Rattle.pgb_worker_keep.specs.KeepState.{Clears}
+use Rattle.pgb_worker_keep.specs.Lists.{ChangesAt}
 use Rattle.pgb_label.specs.Keeping.{keeps, Agrees}
 use Rattle.pgb_label.specs.Keeper.{names_of, progress_in, folder_of}
 use Rattle.pgb_label.proofs.Calls.{again_done, length_within}

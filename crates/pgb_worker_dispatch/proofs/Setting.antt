@@ -1,0 +1,203 @@
+-- What telling workers their roots leaves.
+use Rattle.std.proofs.Common.{ℕ, zero, suc, ◌≡◌, ◌<◌, ◌≤◌, ◌+◌, ◌-◌, ◌^◌, ◌⊎◌, inl, inr, List, [], ◌∷◌, ◌++◌, true, Option, Some, None, Result, Ok, Err, length, map, refl, sym, ap, subst, arith, ◌∙◌, append_assoc, length-append, slice_get}
+use Rattle.std.specs.Prelude.{IfSome, IsSomeAnd, OnOk, OnErr, min}
+use Rattle.std.specs.List.{AllByRecursion}
+use Rattle.std.specs.Iterator.{Yields}
+use Rattle.std.specs.Vec.Iter.{into_iter_items, into_iter_steps}
+use Rattle.std.specs.declared.vec.IntoIter.{IntoIter}
+use Rattle.std.proofs.lemmas.Option.{slice_get_within}
+use Rattle.pgb_outside.specs.Content.{Content}
+use Rattle.pgb_outside.specs.Links.{LinkState, Told, Sends, Answers}
+use Rattle.pgb_model.specs.Text.{Text}
+use Rattle.pgb_worker_frame.specs.Frames.{Roots, FitsRoots, spell}
+use Rattle.pgb_worker_frame.specs.Frames.Frame.{Setup}
+use Rattle.pgb_worker_hear.specs.declared.cause.LostCause.TheVariants.{Device}
+use Rattle.pgb_worker_reply.specs.Reads.{Reads, IsSteadyWorker}
+use Rattle.pgb_worker_reply.specs.Going.{IsSame, IsDrained}
+use Rattle.pgb_worker_dispatch.specs.declared.fault.Lost.{Lost as Entry}
+use Rattle.pgb_worker_dispatch.specs.declared.fault.DispatchFault.{DispatchFault}
+use Rattle.pgb_worker_dispatch.specs.Setups.{Kept}
+use Rattle.pgb_worker_dispatch.specs.Run.{Rests, IsLoss, IsReady, Left, AddsLosses, AllLost, begun}
+use Rattle.pgb_worker_dispatch.proofs.Going.{some_same, all_push, at_push, get_front}
+use Rattle.pgb_worker_dispatch.proofs.Whole.{somes_push, somes_none, append_none}
+
+-- ---- one link
+
+sent_drained : (old new : Option Told) (frame : Text) (roots : Roots) → Answers old new frame → FitsRoots roots → frame ≡ spell (Setup roots) → IfSome old (λ t. (tree repo : Content) → Reads tree repo t → t.pending ≡ []) → IsDrained old new
+sent_drained None None frame roots a f e r = tt
+sent_drained None (Some c) frame roots a f e r = absurd (let q : Some c ≡ None = a in cc)
+sent_drained (Some t) None frame roots a f e r = absurd (let q : None ≡ Some (record t { pending = t.pending ++ t.answer frame }) = a in cc)
+sent_drained (Some t) (Some c) frame roots a f e r =
+    let same : record t { pending = t.pending ++ t.answer frame } ≡ c = (let w = a in cc) in
+    subst (λ x. IsDrained (Some t) (Some x)) same
+    ((refl, refl), λ tree repo reads. ap (λ l. l ++ t.answer frame) (r tree repo reads) ∙ ap t.answer e ∙ reads.setup roots f)
+
+setup_sent : (old new : LinkState) (frame : Text) (roots : Roots) → Sends old new frame → frame ≡ spell (Setup roots) → new.jobs ≡ old.jobs
+setup_sent old new frame roots s e = subst (λ f. Sends old new f → new.jobs ≡ old.jobs) (sym e) (λ t. t.jobs) s
+
+few : (links : List LinkState) (x : LinkState) → length (links ++ x ∷ []) ≤ 0 → ⊥
+few links x h = omega (arith, h, length-append links (x ∷ []))
+
+set_rests : (links : List LinkState) (before : List Entry) (old new : LinkState) (frame : Text) (roots : Roots) → Sends old new frame → FitsRoots roots → frame ≡ spell (Setup roots) → IsReady old → Rests (begun (links ++ old ∷ []) before) 0 old new
+set_rests links before old new frame roots s f e r = record {
+  drained = sent_drained old.told new.told frame roots s.told f e r;
+  faults = s.faults;
+  later = subst (λ n. min old.jobs (2 ^ 64 - 1) ≤ n) (sym (setup_sent old new frame roots s e)) (omega arith);
+  sent = λ all le. absurd (few links old le);
+}
+
+-- ---- one more link
+
+rests_more : (links : List LinkState) (x : LinkState) (before : List Entry) (from s : LinkState) → Rests (begun links before) 0 from s → Rests (begun (links ++ x ∷ []) before) 0 from s
+rests_more links x before from s r = record { drained = r.drained; faults = r.faults; later = r.later; sent = λ all le. absurd (few links x le) }
+
+loss_more : (links : List LinkState) (x : LinkState) (e : Entry) → IsLoss [] links e → IsLoss [] (links ++ x ∷ []) e
+loss_more links x e l = record { from = l.from; is = get_front links x l.from e.place l.is; unsteady = l.unsteady; told = l.told; blamed = l.blamed; seen = l.seen }
+
+losses_grow : (links : List LinkState) (x : LinkState) (es : List Entry) → AllByRecursion (IsLoss [] links) es → AllByRecursion (IsLoss [] (links ++ x ∷ [])) es
+losses_grow links x [] h = tt
+losses_grow links x (e ∷ es) h = (loss_more links x e h.0, losses_grow links x es h.1)
+
+-- an element of a list with one more: of the list, or the new one
+at_either : {X : Type 0} (xs : List X) (x m : X) (k : ℕ) → slice_get (xs ++ x ∷ []) k ≡ Some m → (slice_get xs k ≡ Some m) ⊎ ((k ≡ length xs) × (m ≡ x))
+at_either [] x m zero e = inr (refl, sym (some_same x m e))
+at_either [] x m (suc k) e = absurd (let f : None ≡ Some m = e in cc)
+at_either (y ∷ xs) x m zero e = inl e
+at_either (y ∷ xs) x m (suc k) e = elim (at_either xs x m k e) [ inl h ↦ inl h | inr h ↦ inr (ap suc h.0, h.1) ]
+
+lower : {X : Type 0} (xs : List X) (x y m : X) (k : ℕ) → k < length xs → slice_get (xs ++ x ∷ []) k ≡ Some m → slice_get xs k ≡ Some m
+lower xs x y m k lt e = elim (at_either xs x m k e) [ inl h ↦ h | inr h ↦ absurd (omega (arith, lt, h.0)) ]
+
+left_some : (links : List LinkState) (before after : List Entry) (now : List LinkState) (old new : LinkState) → Left [] links before after now → Rests (begun (links ++ old ∷ []) before) 0 old new → Left [] (links ++ old ∷ []) before after (now ++ new ∷ [])
+left_some links before after now old new l r = record {
+  seats = l.seats ++ Some new ∷ [];
+  seat_count = length-append l.seats (Some new ∷ []) ∙ (let n = l.seat_count in let q : length l.seats + 1 ≡ length (links ++ old ∷ []) = omega (arith, n, length-append links (old ∷ [])) in q);
+  now_are = ap (λ x. x ++ new ∷ []) l.now_are ∙ sym (somes_push l.seats new);
+  rests = λ i from s is at. elim (at_either l.seats (Some new) (Some s) i at) [
+    | inl h ↦ rests_more links old before from s (l.rests i from s (lower links old old from i (let w = slice_get_within l.seats i (Some s) h in omega (arith, w, l.seat_count)) is) h)
+    | inr h ↦
+        let same : s ≡ new = some_same s new h.1 in
+        let first : from ≡ old = some_same from old (sym is ∙ ap (slice_get (links ++ old ∷ [])) (h.0 ∙ l.seat_count) ∙ at_push links old) in
+        subst (λ x. Rests (begun (links ++ old ∷ []) before) 0 x s) (sym first) (subst (λ x. Rests (begun (links ++ old ∷ []) before) 0 old x) (sym same) r)
+  ];
+  entries = l.entries;
+  is = l.is;
+  each = losses_grow links old l.entries l.each;
+  gone = λ i at. elim (at_either l.seats (Some new) None i at) [
+    | inl h ↦ l.gone i h
+    | inr h ↦ absurd (let f : None ≡ Some new = h.1 in cc)
+  ];
+  once = omega (arith, l.once, length-append now (new ∷ []), length-append links (old ∷ []));
+}
+
+left_none : (links : List LinkState) (before after later : List Entry) (now : List LinkState) (old : LinkState) (e : Entry) → Left [] links before after now → later ≡ after ++ e ∷ [] → e.place ≡ length links → IsLoss [] (links ++ old ∷ []) e → Left [] (links ++ old ∷ []) before later now
+left_none links before after later now old e l is place loss = record {
+  seats = l.seats ++ None ∷ [];
+  seat_count = length-append l.seats (None ∷ []) ∙ (let n = l.seat_count in let q : length l.seats + 1 ≡ length (links ++ old ∷ []) = omega (arith, n, length-append links (old ∷ [])) in q);
+  now_are = l.now_are ∙ sym (somes_none l.seats);
+  rests = λ i from s is at. elim (at_either l.seats None (Some s) i at) [
+    | inl h ↦ rests_more links old before from s (l.rests i from s (lower links old old from i (let w = slice_get_within l.seats i (Some s) h in omega (arith, w, l.seat_count)) is) h)
+    | inr h ↦ absurd (let f : Some s ≡ None = h.1 in cc)
+  ];
+  entries = l.entries ++ e ∷ [];
+  is = is ∙ ap (λ es. es ++ e ∷ []) l.is ∙ append_assoc before l.entries (e ∷ []);
+  each = all_push (IsLoss [] (links ++ old ∷ [])) l.entries e (losses_grow links old l.entries l.each) loss;
+  gone = λ i at. elim (at_either l.seats None None i at) [
+    | inl h ↦ (let w = l.gone i h in (w.0, w.1, get_front l.entries e w.1 w.0 w.2, w.3))
+    | inr h ↦ (length l.entries, e, at_push l.entries e, place ∙ sym l.seat_count ∙ sym h.0)
+  ];
+  once = omega (arith, l.once, length-append l.entries (e ∷ []), length-append links (old ∷ []));
+}
+
+same_told : (told : Option Told) → IsSame told told
+same_told None = tt
+same_told (Some t) = (refl, refl)
+
+worker_steady : (told : Option Told) → IsSteadyWorker told → IsSomeAnd told (λ t. t.steady ≡ true)
+worker_steady None h = h
+worker_steady (Some t) h = h.steady
+
+pub left_more : (links : List LinkState) (before after later : List Entry) (now after_now : List LinkState) (old : LinkState) (frame : Text) (place : ℕ) → Left [] links before after now → Kept frame place old now after_now after later → place ≡ length links → IsReady old → (r : (roots : Roots) × FitsRoots roots × (frame ≡ spell (Setup roots))) → Left [] (links ++ old ∷ []) before later after_now
+left_more links before after later now after_now old frame place l (inl k) p ready r =
+    let first = left_some links before after now old k.0 l (set_rests links before old k.0 frame r.0 k.1 r.1 r.2 ready) in
+    subst (λ x. Left [] (links ++ old ∷ []) before x after_now) (sym k.3) (subst (λ x. Left [] (links ++ old ∷ []) before after x) (sym k.2) first)
+left_more links before after later now after_now old frame place l (inr k) p ready r =
+    subst (λ x. Left [] (links ++ old ∷ []) before later x) (sym k.2)
+    (left_none links before after later now old (record { place = place; cause = Device }) l k.3 p
+    (record {
+      from = old;
+      is = ap (slice_get (links ++ old ∷ [])) p ∙ at_push links old;
+      unsteady = λ w. k.1.unsteady (worker_steady old.told w);
+      told = tt;
+      blamed = tt;
+      seen = record { begun = old; last = k.0; same = same_told old.told; faults = refl; holds = k.1.rises };
+    }))
+
+pub left_first : (before : List Entry) → Left [] [] before before []
+left_first before = record {
+  seats = [];
+  seat_count = refl;
+  now_are = refl;
+  rests = λ i from s is at. absurd (let f : None ≡ Some (Some s) = at in cc);
+  entries = [];
+  is = sym (append_none before);
+  each = tt;
+  gone = λ i at. absurd (let f : None ≡ Some None = at in cc);
+  once = refl;
+}
+
+pub all_lost_left : (links : List LinkState) (before after : List Entry) (now : List LinkState) → Left [] links before after now → now ≡ [] → AllLost [] (begun links before) after
+all_lost_left links before after now l none = record { entries = l.entries; is = l.is; each = l.each; count = (let n : length now ≡ 0 = ap length none in omega (arith, n, l.once)) }
+
+-- ---- one link after the other
+
+-- what an iterator has given is a front of its items
+pub taken_front : {X Z : Type 0} (s : IntoIter X Z) (xs : List X) (t : IntoIter X Z) → Yields into_iter_steps s xs t → into_iter_items s ≡ xs ++ into_iter_items t
+taken_front s [] t y = ap into_iter_items y
+taken_front s (x ∷ xs) t y = y.1.0 ∙ ap (λ ys. x ∷ ys) (taken_front y.0 xs t y.2)
+
+mid_at : {A : Type 0} (f : A → LinkState) (ys : List A) (x : A) (rest : List A) → slice_get (map f (ys ++ x ∷ rest)) (length ys) ≡ Some (f x)
+mid_at f [] x rest = refl
+mid_at f (y ∷ ys) x rest = mid_at f ys x rest
+
+pub ready_of : {A : Type 0} (f : A → LinkState) (xs ys : List A) (x : A) (rest : List A) → xs ≡ ys ++ x ∷ rest → ((i : ℕ) (s : LinkState) → slice_get (map f xs) i ≡ Some s → IsReady s) → IsReady (f x)
+ready_of f xs ys x rest e h = h (length ys) (f x) (ap (λ l. slice_get (map f l) (length ys)) e ∙ mid_at f ys x rest)
+
+pub place_next : {A : Type 0} (xs ys : List A) (x : A) (rest : List A) (place next : ℕ) → xs ≡ ys ++ x ∷ rest → length xs < 2 ^ 32 → place ≡ length ys → next ≡ min (place + 1) (2 ^ 32 - 1) → next ≡ length (ys ++ x ∷ [])
+place_next xs ys x rest place next e few p n = omega (arith, few, p, n, ap length e, length-append ys (x ∷ rest), length-append ys (x ∷ []))
+
+pub map_push : {A : Type 0} (f : A → LinkState) (ys : List A) (x : A) → map f (ys ++ x ∷ []) ≡ map f ys ++ f x ∷ []
+map_push f [] x = refl
+map_push f (y ∷ ys) x = ap (λ l. f y ∷ l) (map_push f ys x)
+
+-- ---- what is told of lost links
+
+get_behind : {X : Type 0} (xs ys : List X) (m : X) (k : ℕ) → slice_get xs k ≡ Some m → slice_get (xs ++ ys) k ≡ Some m
+get_behind [] ys m k e = absurd (let f : None ≡ Some m = e in cc)
+get_behind (x ∷ xs) ys m zero e = e
+get_behind (x ∷ xs) ys m (suc k) e = get_behind xs ys m k e
+
+losses_within : (links more : List LinkState) (es : List Entry) → AllByRecursion (IsLoss [] links) es → AllByRecursion (IsLoss [] (links ++ more)) es
+losses_within links more [] h = tt
+losses_within links more (e ∷ es) h = (record { from = h.0.from; is = get_behind links more h.0.from e.place h.0.is; unsteady = h.0.unsteady; told = h.0.told; blamed = h.0.blamed; seen = h.0.seen }, losses_within links more es h.1)
+
+map_front : {A : Type 0} (f : A → LinkState) (ys rest : List A) → map f (ys ++ rest) ≡ map f ys ++ map f rest
+map_front f [] rest = refl
+map_front f (y ∷ ys) rest = ap (λ l. f y ∷ l) (map_front f ys rest)
+
+-- the losses of a front are losses of all
+pub told_front : {A : Type 0} (f : A → LinkState) (xs ys rest : List A) (before after : List Entry) (now : List LinkState) → xs ≡ ys ++ rest → Left [] (map f ys) before after now → AddsLosses [] (map f xs) before after
+told_front f xs ys rest before after now e l = record {
+  entries = l.entries;
+  is = l.is;
+  each = subst (λ (links : List LinkState). AllByRecursion (IsLoss [] links) l.entries) (sym (ap (map f) e ∙ map_front f ys rest)) (losses_within (map f ys) (map f rest) l.entries l.each);
+}
+
+pub on_err : {A : Type 0} (r : Result A DispatchFault) (P : Type 0) → P → OnErr r P
+on_err (Ok x) P p = tt
+on_err (Err e) P p = p
+
+-- whatever came of it
+pub setup_told : (r : Result (Unit {0}) DispatchFault) (links : List LinkState) (before after : List Entry) (now : List LinkState) → OnOk r (Left [] links before after now) → OnErr r (AddsLosses [] links before after) → AddsLosses [] links before after
+setup_told (Ok u) links before after now l h = record { entries = l.entries; is = l.is; each = l.each }
+setup_told (Err e) links before after now l h = h

@@ -1,0 +1,28 @@
+-- What telling a worker its roots leaves. Own.
+use Rattle.std.specs.Prelude.{ℕ, ◌≡◌, ◌⊎◌, List, [], ◌∷◌, ◌++◌}
+use Rattle.pgb_outside.specs.Links.{LinkState, Sends, Fails}
+use Rattle.pgb_model.specs.Text.{Text}
+use Rattle.pgb_worker_frame.specs.Frames.{Roots, FitsRoots, spell}
+use Rattle.pgb_worker_frame.specs.Frames.Frame.{Setup}
+use Rattle.pgb_worker_hear.specs.declared.cause.LostCause.TheVariants.{Device}
+use Rattle.pgb_worker_dispatch.specs.declared.fault.DispatchFault.{DispatchFault}
+use Rattle.pgb_worker_dispatch.specs.declared.fault.DispatchFault.TheVariants as faults
+use Rattle.pgb_worker_dispatch.specs.Run.{AllLost, begun}
+use Rattle.pgb_worker_dispatch.specs.declared.fault.Lost.{Lost as Entry}
+
+-- the link stands at the end of the others, or the call on it failed and it is told
+abbrev pub Kept : Text → ℕ → LinkState → List LinkState → List LinkState → List Entry → List Entry → Type 0
+Kept frame place link old new before after =
+    ((now : LinkState) × Sends link now frame × (new ≡ old ++ now ∷ []) × (after ≡ before))
+    ⊎ ((last : LinkState) × Fails link last × (new ≡ old) × (after ≡ before ++ (record { place = place; cause = Device }) ∷ []))
+
+-- the frame tells two roots
+abbrev pub IsSetup : Text → Type 0
+IsSetup frame = (roots : Roots) × FitsRoots roots × (frame ≡ spell (Setup roots))
+
+-- no link is left, and each has its entry; or memory ran out
+abbrev pub SetupFault : DispatchFault → List LinkState → List Entry → List Entry → Type 0
+SetupFault faults.WorkersLost links before after = AllLost [] (begun links before) after
+SetupFault (faults.Unread job item) links before after = ⊥
+SetupFault faults.Keep links before after = ⊥
+SetupFault faults.NoMemory links before after = Unit {0}
