@@ -25,13 +25,7 @@ impl RealInput {
 }
 
 impl Source for RealInput {
-    ghost files = { λ _. None };
-
-    ghost left = { λ _. None };
-
-    ghost place = { λ _. [] };
-
-    ghost faults = { λ s. s.faults.count };
+    ghost state = { λ s. record { files = None; left = None; place = []; faults = s.faults.count } };
 
     fn open(&mut self, _path: &str) -> Result<bool, Stop> {
         self.faults

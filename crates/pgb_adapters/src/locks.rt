@@ -31,7 +31,7 @@ pub struct RealLocks {
 
 impl RealLocks {
     pub fn new(rt: HostRuntime) -> Self
-        ensures taken { ⟦<RealLocks as Locks>⟧.taken result ≡ [] }
+        ensures taken { (⟦<RealLocks as Locks>⟧.state result).taken ≡ [] }
         ensures faults { result.faults.count ≡ 0 }
     {
         RealLocks {
@@ -44,14 +44,14 @@ impl RealLocks {
 
     /// How often a lock was held by others.
     pub fn refusals(&self) -> u64
-        ensures { result ≡ ⟦<RealLocks as Locks>⟧.refusals self.now }
+        ensures { result ≡ (⟦<RealLocks as Locks>⟧.state self.now).refusals }
     {
         self.refusals
     }
 
     /// How often a take failed.
     pub fn faults(&self) -> u64
-        ensures { result ≡ ⟦<RealLocks as Locks>⟧.faults self.now }
+        ensures { result ≡ (⟦<RealLocks as Locks>⟧.state self.now).faults }
     {
         self.faults.count
     }
@@ -84,15 +84,13 @@ impl RealLocks {
 }
 
 impl Locks for RealLocks {
-    ghost taken = { λ l. map (λ x. string_bytes x.name) l.taken.items };
-
-    ghost took = { λ _. None };
-
-    ghost others = { λ _. None };
-
-    ghost refusals = { λ l. l.refusals };
-
-    ghost faults = { λ l. l.faults.count };
+    ghost state = { λ l. record {
+      taken = map (λ x. string_bytes x.name) l.taken.items;
+      took = None;
+      others = None;
+      refusals = l.refusals;
+      faults = l.faults.count;
+    } };
 
     fn take(&mut self, folder: &str, name: &str) -> Result<Take, Stop> {
         let done = self.take_file(folder, name);

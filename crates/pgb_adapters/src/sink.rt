@@ -25,9 +25,7 @@ impl RealSink {
 }
 
 impl Sink for RealSink {
-    ghost written = { λ _. None };
-
-    ghost faults = { λ s. s.faults.count };
+    ghost state = { λ s. record { written = None; faults = s.faults.count } };
 
     fn write(&mut self, bytes: &[u8]) -> Result<usize, Stop> {
         let done = write_some(&self.rt, bytes);

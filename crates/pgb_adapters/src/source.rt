@@ -31,7 +31,7 @@ impl RealSource {
 
     /// How often a call failed.
     pub fn faults(&self) -> u64
-        ensures { result ≡ ⟦<RealSource as Source>⟧.faults self.now }
+        ensures { result ≡ (⟦<RealSource as Source>⟧.state self.now).faults }
     {
         self.faults.count
     }
@@ -48,13 +48,7 @@ impl RealSource {
 }
 
 impl Source for RealSource {
-    ghost files = { λ _. None };
-
-    ghost left = { λ _. None };
-
-    ghost place = { λ s. string_bytes s.place };
-
-    ghost faults = { λ s. s.faults.count };
+    ghost state = { λ s. record { files = None; left = None; place = string_bytes s.place; faults = s.faults.count } };
 
     fn open(&mut self, path: &str) -> Result<bool, Stop> {
         let done = self.open_place(path);

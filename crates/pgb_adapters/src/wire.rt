@@ -30,7 +30,7 @@ impl RealWire {
 
     /// How often a call failed.
     pub fn faults(&self) -> u64
-        ensures { result ≡ ⟦<RealWire as Wire>⟧.faults self.now }
+        ensures { result ≡ (⟦<RealWire as Wire>⟧.state self.now).faults }
     {
         self.faults.count
     }
@@ -47,13 +47,7 @@ impl RealWire {
 }
 
 impl Wire for RealWire {
-    ghost pending = { λ _. None };
-
-    ghost sent = { λ _. None };
-
-    ghost place = { λ w. string_bytes w.place };
-
-    ghost faults = { λ w. w.faults.count };
+    ghost state = { λ w. record { pending = None; sent = None; place = string_bytes w.place; faults = w.faults.count } };
 
     fn open(&mut self, path: &str) -> Result<(), Stop> {
         let done = self.open_place(path);

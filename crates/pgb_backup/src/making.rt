@@ -44,7 +44,7 @@ pub fn make<D: Disk, L: Link, U: Turns, C: Clock>(
     ensures told { AddsLosses (jobs_in draft.entry) (map L.link_state links.old.items) lost.old.items lost.new.items }
     ensures fault { IfErr result (λ e. MakeFails e draft.entry (map L.link_state links.old.items)
         (map L.link_state links.new.items) lost.old.items lost.new.items
-        (D.state d.old).faults (D.state d.new).faults (C.faults clock.old) (C.faults clock.new)) }
+        (D.state d.old).faults (D.state d.new).faults (C.state clock.old).faults (C.state clock.new).faults) }
 {
     let stanza = draft.stanza;
     let ends = fetch(alloc, d, links, turns, lost, &draft)?;

@@ -40,7 +40,7 @@ pub(crate) struct Prepared {
 // The second in which the last job has ended.
 fn stop_of<C: Clock>(clock: &mut C) -> Result<u64, MakeFault>
     ensures within { IfOk result (λ now. now ≤ last_second) }
-    ensures fault { IfErr result (λ e. StopFails e (C.faults clock.old) (C.faults clock.new)) }
+    ensures fault { IfErr result (λ e. StopFails e (C.state clock.old).faults (C.state clock.new).faults) }
 {
     match clock.now() {
         Err(Stop::Failed) => Err(MakeFault::Clock),
@@ -124,7 +124,7 @@ pub(crate) fn prepare<C: Clock>(
         p.text.items) }
     ensures main { IfOk result (λ p. string_bytes p.main ≡ main_of draft.entry) }
     ensures fault { IfErr result (λ e. PrepareFails e draft.entry (map (λ v. v.items) ends.now)
-        (C.faults clock.old) (C.faults clock.new)) }
+        (C.state clock.old).faults (C.state clock.new).faults) }
 {
     let main = backup_info_name(alloc, draft.stanza)?;
     let stop = stop_of(clock)?;

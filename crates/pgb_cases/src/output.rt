@@ -29,9 +29,7 @@ impl Output {
 }
 
 impl Sink for Output {
-    ghost written = { λ _. None };
-
-    ghost faults = { λ s. s.faults };
+    ghost state = { λ s. record { written = None; faults = s.faults } };
 
     fn write(&mut self, bytes: &[u8]) -> Result<usize, Stop> {
         let number = self.writes;

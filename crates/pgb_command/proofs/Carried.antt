@@ -13,7 +13,7 @@ use Rattle.pgb_stage.specs.declared.fault.Unbuilt.{Unbuilt}
 use Rattle.pgb_stage.specs.declared.fault.StageFault.TheVariants.{NotBuilt}
 use Rattle.pgb_stage.specs.declared.outcome.Outcome.{Outcome}
 use Rattle.pgb_stage.specs.Seen.{Seen, Failed, AreLater, AreRead}
-use Rattle.pgb_stage.specs.States.{SinkState, SourceState}
+use Rattle.pgb_outside.specs.States.{SinkState, SourceState}
 use Rattle.pgb_stage.proofs.Counts.{rises_to}
 use Rattle.pgb_command.specs.declared.fault.CommandFault.TheVariants.{Create, Push, Get}
 use Rattle.pgb_command.specs.declared.fault.Fault.{Fault}

@@ -4,7 +4,7 @@ use Rattle.std.specs.Prelude.{OnOk, IfSome, IsSome, IsErrAnd}
 use Rattle.pgb_outside.specs.Cause.{Rises}
 use Rattle.pgb_outside.specs.Content.{Content}
 use Rattle.pgb_outside.specs.Moments.{View, Rests}
-use Rattle.pgb_outside.specs.States.{IsOpened, OpensOnly}
+use Rattle.pgb_outside.specs.States.{IsOpened, OpensOnly, WireState}
 use Rattle.pgb_outside.specs.Tree.{Nodes}
 use Rattle.pgb_archive.specs.Still.{IsStill, rests_none, still_self, still_on}
 use Rattle.pgb_model.specs.Text.{Text}
@@ -23,8 +23,7 @@ use Rattle.pgb_stage.specs.Reached.{back_if}
 use Rattle.pgb_stage.specs.declared.plan.Settling.{Settling}
 use Rattle.pgb_stage.specs.declared.plan.Settling.TheVariants.{Looked}
 use Rattle.pgb_stage.specs.Runs.{Reached, to_end, turned_back, stopped, OnNone, Runs, Takes, Quiet, Begins, IsLookedAt, On}
-use Rattle.pgb_stage.specs.Seen.{Seen, Failed, AreLater, AreRead}
-use Rattle.pgb_stage.specs.States.{WireState, LocksState}
+use Rattle.pgb_stage.specs.Seen.{LocksSeen, Seen, Failed, AreLater, AreRead}
 use Rattle.pgb_story.specs.Beside.{StaysBeside}
 use Rattle.pgb_story.proofs.Stays.{beside_on}
 use Rattle.pgb_stage.proofs.Besides.{still_beside}
@@ -226,12 +225,12 @@ did_from a b m k r read did = record {
   later = later_on b m k read.later did.later;
 }
 
-abbrev as_locks : Option (List (List ℕ × List ℕ)) → ℕ → ℕ → LocksState
+abbrev as_locks : Option (List (List ℕ × List ℕ)) → ℕ → ℕ → LocksSeen
 as_locks t u v = record { took = t; refusals = u; faults = v }
 
 -- that no lock is held any more doesn't matter
-pub did_released : (a : Asked) (b k : Seen) (l : LocksState) (r : Result Outcome Fault) → l.took ≡ k.locks.took → l.refusals ≡ k.locks.refusals → l.faults ≡ k.locks.faults → Did a b k r → Did a b (record k { locks = l }) r
-did_released a b k l r took refusals faults did = subst (λ (x : LocksState). Did a b (record k { locks = x }) r) (sym same) did
+pub did_released : (a : Asked) (b k : Seen) (l : LocksSeen) (r : Result Outcome Fault) → l.took ≡ k.locks.took → l.refusals ≡ k.locks.refusals → l.faults ≡ k.locks.faults → Did a b k r → Did a b (record k { locks = l }) r
+did_released a b k l r took refusals faults did = subst (λ (x : LocksSeen). Did a b (record k { locks = x }) r) (sym same) did
   where
     same : l ≡ k.locks
     same = ap (λ t. as_locks t l.refusals l.faults) took ∙ ap (λ u. as_locks k.locks.took u l.faults) refusals ∙ ap (λ v. as_locks k.locks.took k.locks.refusals v) faults
@@ -361,7 +360,7 @@ pub worded : (a : Asked) (b : Seen) (r : Result Outcome Fault) (fault : Fault) �
 worded a b r fault is h = did_err a b b fault r is (refused_at a b fault (word_closes a b fault h) (word_cause a b fault h))
 
 -- locks that were taken change nothing that is held
-pub locks_read : (b : Seen) (l : LocksState) → b.locks.refusals ≤ l.refusals → b.locks.faults ≤ l.faults → AreRead b (record b { locks = l })
+pub locks_read : (b : Seen) (l : LocksSeen) → b.locks.refusals ≤ l.refusals → b.locks.faults ≤ l.faults → AreRead b (record b { locks = l })
 locks_read b l refusals faults = record {
   repo = still_self b.repo.view;
   spool = still_self b.spool.view;
@@ -374,10 +373,10 @@ locks_read b l refusals faults = record {
   later = locks_later b l faults;
 }
   where
-    locks_later : (b : Seen) (l : LocksState) → b.locks.faults ≤ l.faults → AreLater b (record b { locks = l })
+    locks_later : (b : Seen) (l : LocksSeen) → b.locks.faults ≤ l.faults → AreLater b (record b { locks = l })
     locks_later b l faults = all_later b (record b { locks = l }) (omega arith) (omega arith) (omega arith) (omega arith) (omega arith) (omega arith) faults (omega arith) (omega arith)
 
-pub not_taken : (a : Asked) (plan : Plan) → plan ≡ plan_of a.request → (b : Seen) (l : LocksState) (r : Result Outcome Fault) (halt : Halt StageFault) → IsErrAnd r (λ f. f ≡ of_stage halt) → b.locks.refusals ≤ l.refusals → b.locks.faults ≤ l.faults →
+pub not_taken : (a : Asked) (plan : Plan) → plan ≡ plan_of a.request → (b : Seen) (l : LocksSeen) (r : Result Outcome Fault) (halt : Halt StageFault) → IsErrAnd r (λ f. f ≡ of_stage halt) → b.locks.refusals ≤ l.refusals → b.locks.faults ≤ l.faults →
     HaltCause (HeldCause plan a.stanza (Rises b.locks.refusals l.refusals)) (Only Locks (Rises b.locks.faults l.faults)) halt → Did a b (record b { locks = l }) r
 not_taken a plan is b l r halt err refusals faults cause = halted_at a b (record b { locks = l }) r halt err (still_quiet a.stanza b.repo.view) (rests_none b.spool.view) refl
     (any_reader a.request _ (still_self b.repo.view)) (any_create a.request _ (still_self b.repo.view)) refl refl (locks_read b l refusals faults).later

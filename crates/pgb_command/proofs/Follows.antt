@@ -8,8 +8,7 @@ use Rattle.pgb_stage.specs.declared.outcome.Outcome.{Outcome}
 use Rattle.pgb_stage.specs.declared.outcome.Outcome.TheVariants.{Finished, Absent}
 use Rattle.pgb_stage.specs.Runs.{Reached, to_end, turned_back, OnAll, OnNone, Takes, On}
 use Rattle.pgb_outside.specs.States.{TreeState}
-use Rattle.pgb_stage.specs.States.{LocksState}
-use Rattle.pgb_stage.specs.Seen.{Seen, Failed}
+use Rattle.pgb_stage.specs.Seen.{LocksSeen, Seen, Failed}
 use Rattle.pgb_stage.proofs.Besides.{still_beside}
 use Rattle.pgb_stage.proofs.Lifted.{on_as, still_quiet, quiet_takes, opened_takes}
 use Rattle.pgb_command.specs.declared.fault.Fault.{Fault}
@@ -132,7 +131,7 @@ module _ (a : Asked) (b k : Seen) (n : ℕ) where
   opens_places (inr x) = x.1.brackets.places
 
   pub only_locked : Either a b k n → OnlyLocked a b k
-  only_locked (inl x) = inr (inl (ap (λ (l : LocksState). l.took) x.0.locks), x.0.repo)
+  only_locked (inl x) = inr (inl (ap (λ (l : LocksSeen). l.took) x.0.locks), x.0.repo)
   only_locked (inr x) = x.1.brackets.locked
 
   fulfils_by : (unknown : List Text) (ended : Result Outcome Fault) → (n ≤ 1) → Did a b k ended → IsAnswered unknown b k ended n → Fulfils a b k n

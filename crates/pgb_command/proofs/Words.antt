@@ -8,7 +8,7 @@ use Rattle.pgb_stage.specs.declared.halt.Halt.{Halt}
 use Rattle.pgb_stage.specs.declared.halt.Halt.TheVariants.{Refused, Failed as HaltFailed, NoMemory as HaltMemory}
 use Rattle.pgb_stage.specs.Halts.{HaltCause}
 use Rattle.pgb_stage.specs.Seen.{Seen}
-use Rattle.pgb_stage.specs.States.{SinkState}
+use Rattle.pgb_outside.specs.States.{SinkState}
 use Rattle.pgb_push.specs.declared.fault.PushFault.{PushFault}
 use Rattle.pgb_push.proofs.Refusals.{push_word}
 use Rattle.pgb_push.specs.WalCause.{WordCause}

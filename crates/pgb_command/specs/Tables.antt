@@ -18,7 +18,7 @@ use Rattle.pgb_stage.specs.declared.outcome.Outcome.{Outcome}
 use Rattle.pgb_stage.specs.Cluster.{FolderTells, IsClusterOf}
 use Rattle.pgb_stage.specs.Runs.{Manner, each}
 use Rattle.pgb_stage.specs.Seen.{Seen}
-use Rattle.pgb_stage.specs.States.{WireState}
+use Rattle.pgb_outside.specs.States.{WireState}
 use Rattle.pgb_create.specs.Talking.{Asks, IsOf}
 use Rattle.pgb_create.specs.Creating.{IsCreated, CreateCause}
 use Rattle.pgb_push.specs.Commands.{IsPushOf}

@@ -33,9 +33,9 @@ fn of_stop(stop: Stop) -> Fault
 
 // The first bytes that are left, at most `limit`.
 fn read_front<I: Source>(alloc: Global, config: &mut I, limit: usize) -> Result<Vec<u8>, Stop>
-    ensures bytes { IfOk result (λ v. IfSome (I.left config.old) (λ bytes. v.items ≡ take limit bytes)) }
-    ensures files { I.files config.new ≡ I.files config.old }
-    ensures cause { HasCause (I.faults config.old) (I.faults config.new) result }
+    ensures bytes { IfOk result (λ v. IfSome (I.state config.old).left (λ bytes. v.items ≡ take limit bytes)) }
+    ensures files { (I.state config.new).files ≡ (I.state config.old).files }
+    ensures cause { HasCause (I.state config.old).faults (I.state config.new).faults result }
 {
     let mut bytes = Vec::new(alloc);
     let mut buf = [0u8; 32768];
@@ -59,12 +59,12 @@ fn read_file<I: Source>(
 ) -> Result<Option<Vec<u8>>, Fault>
     requires { limit + 1 < 2 ^ 63 }
     ensures bytes { IfOk result (λ r.
-        IfSome (I.files config.old) (λ f. option_map (λ (v : Vec ℕ Global). v.items) r ≡ f path.now)) }
+        IfSome (I.state config.old).files (λ f. option_map (λ (v : Vec ℕ Global). v.items) r ≡ f path.now)) }
     ensures fits { IfOk result (λ r. IfSome r (λ (v : Vec ℕ Global). length v.items ≤ limit)) }
-    ensures cause { IfErr result (SourceCause path.now limit (I.files config.old)
-        (Rises (I.faults config.old) (I.faults config.new))) }
-    ensures later { I.faults config.old ≤ I.faults config.new }
-    ensures files { I.files config.new ≡ I.files config.old }
+    ensures cause { IfErr result (SourceCause path.now limit (I.state config.old).files
+        (Rises (I.state config.old).faults (I.state config.new).faults)) }
+    ensures later { (I.state config.old).faults ≤ (I.state config.new).faults }
+    ensures files { (I.state config.new).files ≡ (I.state config.old).files }
 {
     match config.open(path) {
         Ok(true) => {}
@@ -94,12 +94,12 @@ fn configuration<I: Source>(
 ) -> Result<Vec<u8>, Fault>
     requires { limit ≡ config_limit }
     ensures bytes { IfOk result (λ v. (path : Path) × (path_of_words (map string_bytes words.now) ≡ Ok path)
-        × MayHave (I.files config.old) path v.items) }
+        × MayHave (I.state config.old).files path v.items) }
     ensures fits { IfOk result (λ v. length v.items ≤ limit) }
-    ensures cause { IfErr result (ConfigCause (map string_bytes words.now) (I.files config.old)
-        (Rises (I.faults config.old) (I.faults config.new))) }
-    ensures later { I.faults config.old ≤ I.faults config.new }
-    ensures files { I.files config.new ≡ I.files config.old }
+    ensures cause { IfErr result (ConfigCause (map string_bytes words.now) (I.state config.old).files
+        (Rises (I.state config.old).faults (I.state config.new).faults)) }
+    ensures later { (I.state config.old).faults ≤ (I.state config.new).faults }
+    ensures files { (I.state config.new).files ≡ (I.state config.old).files }
 {
     match config_path(alloc, words)? {
         ConfigPath::Nowhere => Ok(Vec::new(alloc)),
@@ -121,11 +121,11 @@ pub(crate) fn read_command<I: Source>(
     config: &mut I,
 ) -> Result<Command, Fault>
     ensures command { IfOk result (λ c. (s : Settled) ×
-        WordsSettle (map string_bytes words.now) (I.files config.old) (Ok s) × IsCommand c s) }
-    ensures cause { IfErr result (ConfigCause (map string_bytes words.now) (I.files config.old)
-        (Rises (I.faults config.old) (I.faults config.new))) }
-    ensures later { I.faults config.old ≤ I.faults config.new }
-    ensures files { I.files config.new ≡ I.files config.old }
+        WordsSettle (map string_bytes words.now) (I.state config.old).files (Ok s) × IsCommand c s) }
+    ensures cause { IfErr result (ConfigCause (map string_bytes words.now) (I.state config.old).files
+        (Rises (I.state config.old).faults (I.state config.new).faults)) }
+    ensures later { (I.state config.old).faults ≤ (I.state config.new).faults }
+    ensures files { (I.state config.new).files ≡ (I.state config.old).files }
 {
     let bytes = configuration(alloc, words, config, CONFIG_LIMIT)?;
     let command = settle_words(alloc, words, &bytes)?;

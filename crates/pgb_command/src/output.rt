@@ -79,9 +79,10 @@ pub(crate) fn answer<O: Sink>(
     ended: &Result<Outcome, Fault>,
 ) -> u8
     ensures told { (ending : Ending) × (result ≡ status ending)
-        × IsTold (O.written out.old) (answer_of (map string_bytes unknown.now) ended.now) (O.written out.new)
-        (Rises (O.faults out.old) (O.faults out.new)) ending }
-    ensures later { O.faults out.old ≤ O.faults out.new }
+        × IsTold (O.state out.old).written (answer_of (map string_bytes unknown.now) ended.now)
+        (O.state out.new).written
+        (Rises (O.state out.old).faults (O.state out.new).faults) ending }
+    ensures later { (O.state out.old).faults ≤ (O.state out.new).faults }
 {
     match lines(alloc, unknown, ended) {
         Ok(text) => match write_all(out, &text) {
@@ -99,9 +100,10 @@ pub(crate) fn answer<O: Sink>(
 
 // Writes all of the bytes, or a first part of them where the sink stops.
 fn write_all<O: Sink>(out: &mut O, bytes: &[u8]) -> Result<(), Stop>
-    ensures ok { OnOk result (O.written out.new ≡ option_map (λ text. text ++ bytes.now) (O.written out.old)) }
-    ensures err { OnErr result (IsFrontWritten (O.written out.old) bytes.now (O.written out.new)) }
-    ensures cause { HasCause (O.faults out.old) (O.faults out.new) result }
+    ensures ok { OnOk result ((O.state out.new).written ≡ option_map (λ text. text ++ bytes.now)
+        (O.state out.old).written) }
+    ensures err { OnErr result (IsFrontWritten (O.state out.old).written bytes.now (O.state out.new).written) }
+    ensures cause { HasCause (O.state out.old).faults (O.state out.new).faults result }
 {
     let mut at = 0usize;
     while at < bytes.len() {

@@ -39,21 +39,15 @@ impl<
       repo = D.state o.repo;
       spool = S.state o.spool;
       tree = T.state o.tree;
-      server = record {
-        pending = V.pending o.server;
-        sent = V.sent o.server;
-        place = V.place o.server;
-        faults = V.faults o.server;
+      server = V.state o.server;
+      others = A.state o.aside;
+      clock = C.state o.clock;
+      locks = record {
+        took = (K.state o.locks).took;
+        refusals = (K.state o.locks).refusals;
+        faults = (K.state o.locks).faults;
       };
-      others = record {
-        account = A.account o.aside;
-        turns = A.turns o.aside;
-        started = A.started o.aside;
-        faults = A.faults o.aside;
-      };
-      clock = record { faults = C.faults o.clock };
-      locks = record { took = K.took o.locks; refusals = K.refusals o.locks; faults = K.faults o.locks };
-      config = record { files = I.files o.config; faults = I.faults o.config };
-      out = record { written = O.written o.out; faults = O.faults o.out };
+      config = I.state o.config;
+      out = O.state o.out;
     } };
 }

@@ -73,14 +73,14 @@ impl<
         plan: &Plan,
         order: Order<'_>,
     ) -> Result<Outcome, Fault>
-        requires free { K.taken self.old.locks ≡ [] }
+        requires free { (K.state self.old.locks).taken ≡ [] }
         requires plan { plan.now ≡ plan_of (request_of settings.now.request) }
         requires order { IsOrder (request_of settings.now.request) settings.now.pg1_path.now order }
         ensures did { let told = ⟦<Outside<D, S, T, V, A, C, K, I, O> as Told>⟧.told in
             Did (asked_of settings.now) (told self.old) (told self.new) result }
         ensures brackets { let told = ⟦<Outside<D, S, T, V, A, C, K, I, O> as Told>⟧.told in
             Brackets (asked_of settings.now) (told self.old) (told self.new) result }
-        ensures released { K.taken self.new.locks ≡ [] }
+        ensures released { (K.state self.new.locks).taken ≡ [] }
         ensures tree { plan.now.folder ≡ false → self.new.tree ≡ self.old.tree }
         ensures quiet { settings.now.server ≡ None → self.new.server ≡ self.old.server }
         ensures idle { plan.now.backup_lock ≡ false → plan.now.archive_lock ≡ false → self.new.locks ≡ self.old.locks }
@@ -97,14 +97,14 @@ impl<
 
     /// Does what is asked for: the command's words are read, and then come its stages.
     pub(crate) fn obey(&mut self, alloc: Global, settings: &Settings<'_>) -> Result<Outcome, Fault>
-        requires free { K.taken self.old.locks ≡ [] }
+        requires free { (K.state self.old.locks).taken ≡ [] }
         ensures did { let told = ⟦<Outside<D, S, T, V, A, C, K, I, O> as Told>⟧.told in
             Did (asked_of settings.now) (told self.old) (told self.new) result }
         ensures brackets { let told = ⟦<Outside<D, S, T, V, A, C, K, I, O> as Told>⟧.told in
             Brackets (asked_of settings.now) (told self.old) (told self.new) result }
         ensures words { let told = ⟦<Outside<D, S, T, V, A, C, K, I, O> as Told>⟧.told in
             ComesBehind (asked_of settings.now) (told self.old) (told self.new) result }
-        ensures released { K.taken self.new.locks ≡ [] }
+        ensures released { (K.state self.new.locks).taken ≡ [] }
         ensures quiet { settings.now.server ≡ None → self.new.server ≡ self.old.server }
         ensures unused { (form : OutputWord) → request_of settings.now.request ≡ report form →
             (self.new.tree ≡ self.old.tree) × (self.new.locks ≡ self.old.locks) }
@@ -156,7 +156,7 @@ impl<
         names: &LockNames,
         order: Order<'_>,
     ) -> Result<Outcome, Fault>
-        requires free { K.taken self.old.locks ≡ [] }
+        requires free { (K.state self.old.locks).taken ≡ [] }
         requires plan { plan.now ≡ plan_of (request_of settings.now.request) }
         requires names { AreNames names.now plan.now settings.now.stanza.now }
         requires order { IsOrder (request_of settings.now.request) settings.now.pg1_path.now order }
@@ -165,7 +165,7 @@ impl<
         ensures places { let told = ⟦<Outside<D, S, T, V, A, C, K, I, O> as Told>⟧.told in
             SamePlaces (told self.old) (told self.new) }
         ensures held { HoldsOnly (first_lock plan.now settings.now.stanza.now)
-            (second_lock plan.now settings.now.stanza.now) (K.taken self.new.locks) }
+            (second_lock plan.now settings.now.stanza.now) (K.state self.new.locks).taken }
         ensures took { let told = ⟦<Outside<D, S, T, V, A, C, K, I, O> as Told>⟧.told in
             OnOk result (TakesAll (asked_of settings.now) (told self.old) (told self.new)) }
         ensures only { let told = ⟦<Outside<D, S, T, V, A, C, K, I, O> as Told>⟧.told in
@@ -199,14 +199,14 @@ impl<
         plan: &Plan,
         order: Order<'_>,
     ) -> Result<Outcome, Fault>
-        requires free { K.taken self.old.locks ≡ [] }
+        requires free { (K.state self.old.locks).taken ≡ [] }
         requires plan { plan.now ≡ plan_of (request_of settings.now.request) }
         requires order { IsOrder (request_of settings.now.request) settings.now.pg1_path.now order }
         ensures did { let told = ⟦<Outside<D, S, T, V, A, C, K, I, O> as Told>⟧.told in
             Did (asked_of settings.now) (told self.old) (told self.new) result }
         ensures places { let told = ⟦<Outside<D, S, T, V, A, C, K, I, O> as Told>⟧.told in
             SamePlaces (told self.old) (told self.new) }
-        ensures released { K.taken self.new.locks ≡ [] }
+        ensures released { (K.state self.new.locks).taken ≡ [] }
         ensures took { let told = ⟦<Outside<D, S, T, V, A, C, K, I, O> as Told>⟧.told in
             OnOk result (TakesAll (asked_of settings.now) (told self.old) (told self.new)) }
         ensures only { let told = ⟦<Outside<D, S, T, V, A, C, K, I, O> as Told>⟧.told in

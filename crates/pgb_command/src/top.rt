@@ -31,12 +31,12 @@ pub fn carry<
     I: Source,
     O: Sink,
 >(alloc: Global, command: &Command, outside: &mut Outside<D, S, T, V, A, C, K, I, O>) -> u8
-    requires free { K.taken outside.old.locks ≡ [] }
+    requires free { (K.state outside.old.locks).taken ≡ [] }
     requires settled { (s : Settled) × IsCommand command.now s }
     // What was asked for is done and told.
     ensures obeys { let told = ⟦<Outside<D, S, T, V, A, C, K, I, O> as Told>⟧.told in
         (s : Settled) → IsCommand command.now s → Obeys s (told outside.old) (told outside.new) result }
-    ensures released { K.taken outside.new.locks ≡ [] }
+    ensures released { (K.state outside.new.locks).taken ≡ [] }
     ensures quiet { (s : Settled) → IsCommand command.now s → server_asked s ≡ None
         → outside.new.server ≡ outside.old.server }
     ensures unused { (s : Settled) → IsCommand command.now s → (form : OutputWord) → requested s ≡ Ok (report form)
@@ -82,7 +82,7 @@ pub fn run<
     links: &mut Vec<Box<dyn Link>>,
     turns: &mut U,
 ) -> u8
-    requires free { K.taken outside.old.locks ≡ [] }
+    requires free { (K.state outside.old.locks).taken ≡ [] }
 
     // The words are refused, and nothing is done; or what they settle is done, with its cause, and told. What
     // follows of steps, promises and places is a part of this, for each command that the words ask for.
@@ -91,38 +91,38 @@ pub fn run<
 
     // At 0 all of the command's steps are done: in what the disks hold, and in all that a stop leaves.
     ensures done { let told = ⟦<Outside<D, S, T, V, A, C, K, I, O> as Told>⟧.told in
-        result ≡ 0 → Each (map string_bytes words.now) (I.files outside.old.config)
+        result ≡ 0 → Each (map string_bytes words.now) (I.state outside.old.config).files
         (λ a. Finishes a (told outside.old) (told outside.new)) }
 
     // After every answer a part of them is, and at each moment between whatever a stop leaves stands for the log
     // with a part.
     ensures part { let told = ⟦<Outside<D, S, T, V, A, C, K, I, O> as Told>⟧.told in
-        Each (map string_bytes words.now) (I.files outside.old.config)
+        Each (map string_bytes words.now) (I.state outside.old.config).files
         (λ a. PartDone a (told outside.old) (told outside.new)) }
 
     // A refusal for what was found takes no step, nor does one for a connection to the server that failed.
     ensures stays { let told = ⟦<Outside<D, S, T, V, A, C, K, I, O> as Told>⟧.told in
-        IsEarly result → Each (map string_bytes words.now) (I.files outside.old.config)
+        IsEarly result → Each (map string_bytes words.now) (I.state outside.old.config).files
         (λ a. TurnsBack a (told outside.old) (told outside.new)) }
 
     // At 0 and 1 the command keeps its promise, and its lines are written.
     ensures fulfils { let told = ⟦<Outside<D, S, T, V, A, C, K, I, O> as Told>⟧.told in
-        result ≤ 1 → Each (map string_bytes words.now) (I.files outside.old.config)
+        result ≤ 1 → Each (map string_bytes words.now) (I.state outside.old.config).files
         (λ a. Fulfils a (told outside.old) (told outside.new) result) }
 
     // What the command has no use for stays, no place but those of the words is opened, and without its locks
     // nothing is done.
     ensures rests { let told = ⟦<Outside<D, S, T, V, A, C, K, I, O> as Told>⟧.told in
-        Each (map string_bytes words.now) (I.files outside.old.config)
+        Each (map string_bytes words.now) (I.state outside.old.config).files
         (λ a. LeavesRest a (told outside.old) (told outside.new)) }
     // Of every other stanza in form all stays, at its end and in all that a stop leaves at each moment.
-    ensures others { Each (map string_bytes words.now) (I.files outside.old.config)
+    ensures others { Each (map string_bytes words.now) (I.state outside.old.config).files
         (λ a. KeepsOthers a.stanza (D.state outside.old.repo).view (D.state outside.new.repo).view) }
     ensures places { let told = ⟦<Outside<D, S, T, V, A, C, K, I, O> as Told>⟧.told in
-        Each (map string_bytes words.now) (I.files outside.old.config)
+        Each (map string_bytes words.now) (I.state outside.old.config).files
         (λ a. OpensPlaces a (told outside.old) (told outside.new)) }
     ensures locked { let told = ⟦<Outside<D, S, T, V, A, C, K, I, O> as Told>⟧.told in
-        Each (map string_bytes words.now) (I.files outside.old.config)
+        Each (map string_bytes words.now) (I.state outside.old.config).files
         (λ a. OnlyLocked a (told outside.old) (told outside.new)) }
 
     // Where no cause of a refusal holds the answer is Ok, or that the file isn't there, or want of memory.
@@ -135,17 +135,18 @@ pub fn run<
 
     // Words that ask for nothing do nothing; who asks no server leaves the connection, and info the data folder and
     // the locks.
-    ensures unasked { ((a : Asked) → ¬ MayAsk (map string_bytes words.now) (I.files outside.old.config) a)
+    ensures unasked { ((a : Asked) → ¬ MayAsk (map string_bytes words.now) (I.state outside.old.config).files a)
         → outside.new ≡ record outside.old { config = outside.new.config; out = outside.new.out } }
-    ensures quiet { ((a : Asked) → MayAsk (map string_bytes words.now) (I.files outside.old.config) a → a.server ≡ None)
+    ensures quiet { ((a : Asked) → MayAsk (map string_bytes words.now) (I.state outside.old.config).files a
+        → a.server ≡ None)
         → outside.new.server ≡ outside.old.server }
-    ensures unused { Each (map string_bytes words.now) (I.files outside.old.config) (λ a.
+    ensures unused { Each (map string_bytes words.now) (I.state outside.old.config).files (λ a.
         (form : OutputWord) → a.request ≡ report form
         → (outside.new.tree ≡ outside.old.tree) × (outside.new.locks ≡ outside.old.locks)) }
 
     // No lock is held afterwards, and the configuration and all that no command uses are as they were.
-    ensures released { K.taken outside.new.locks ≡ [] }
-    ensures files { I.files outside.new.config ≡ I.files outside.old.config }
+    ensures released { (K.state outside.new.locks).taken ≡ [] }
+    ensures files { (I.state outside.new.config).files ≡ (I.state outside.old.config).files }
     ensures untouched { outside.new ≡ record outside.old {
       repo = outside.new.repo;
       tree = outside.new.tree;

@@ -93,20 +93,20 @@ pub fn create_stanza<D: Disk, V: Wire>(
     ensures frame { Frame (D.state repo.old) (D.state repo.new) }
 
     // The server is asked at its socket, and the talk is ended; without one the connection isn't used.
-    ensures same { OnOk result (IfSome server.entry (λ _. IsOf told.now.system (V.pending wire.old))) }
+    ensures same { OnOk result (IfSome server.entry (λ _. IsOf told.now.system (V.state wire.old).pending)) }
     ensures asks { OnOk result (Asks (option_map server_view server.entry)
-        (V.place wire.new) (V.sent wire.old) (V.sent wire.new)) }
+        (V.state wire.new).place (V.state wire.old).sent (V.state wire.new).sent) }
     ensures quiet { server.entry ≡ None → wire.new ≡ wire.old }
-    ensures closed { IfErr result (Closes (Rises (V.faults wire.old) (V.faults wire.new))
-        (V.sent wire.new)) }
-    ensures later { V.faults wire.old ≤ V.faults wire.new }
+    ensures closed { IfErr result (Closes (Rises (V.state wire.old).faults (V.state wire.new).faults)
+        (V.state wire.new).sent) }
+    ensures later { (V.state wire.old).faults ≤ (V.state wire.new).faults }
 
     ensures cause { IfErr result (HaltCause
         (CreateCause stanza.now told.now (option_map server_view server.entry) (D.state repo.old).view.now
-        (V.pending wire.old))
+        (V.state wire.old).pending)
         (rose_in (record none {
           repo = Rises (D.state repo.old).faults (D.state repo.new).faults;
-          server = Rises (V.faults wire.old) (V.faults wire.new);
+          server = Rises (V.state wire.old).faults (V.state wire.new).faults;
         }))) }
 {
     check_server(alloc, wire, server, told.system)?;

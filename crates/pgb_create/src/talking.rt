@@ -38,8 +38,9 @@ fn server_halt(fault: ServerFault) -> Halt<CreateFault>
 // Ends a session that was refused. That this failed isn't told, but for want of memory.
 fn part<V: Wire>(wire: &mut V, session: Session, fault: ServerFault) -> ServerFault
     ensures fault { (result ≡ fault) ⊎ (result ≡ OutOfMemory) }
-    ensures ended { result ≢ OutOfMemory → Ended (V.sent wire.new) ⊎ Rises (V.faults wire.old) (V.faults wire.new) }
-    ensures later { V.faults wire.old ≤ V.faults wire.new }
+    ensures ended { result ≢ OutOfMemory → Ended (V.state wire.new).sent
+        ⊎ Rises (V.state wire.old).faults (V.state wire.new).faults }
+    ensures later { (V.state wire.old).faults ≤ (V.state wire.new).faults }
 {
     match close(wire, session) {
         Ok(()) => fault,
@@ -56,14 +57,14 @@ fn talk<V: Wire>(
     path: &str,
     system: u64,
 ) -> Result<(), ServerFault>
-    ensures same { OnOk result (IsOf system (V.pending wire.old)) }
-    ensures asks { OnOk result ((V.place wire.new ≡ path.now)
-        × (V.sent wire.new ≡ option_map (λ said. said ++ questions server.now.user.now server.now.database.now)
-        (V.sent wire.old))) }
-    ensures told { IfErr result (λ e. ¬ IsOutside e → TellsFault system (V.pending wire.old) e) }
+    ensures same { OnOk result (IsOf system (V.state wire.old).pending) }
+    ensures asks { OnOk result (((V.state wire.new).place ≡ path.now)
+        × ((V.state wire.new).sent ≡ option_map (λ said. said ++ questions server.now.user.now server.now.database.now)
+        (V.state wire.old).sent)) }
+    ensures told { IfErr result (λ e. ¬ IsOutside e → TellsFault system (V.state wire.old).pending e) }
     ensures ended { IfErr result (λ e. ¬ IsOutside e →
-        Ended (V.sent wire.new) ⊎ Rises (V.faults wire.old) (V.faults wire.new)) }
-    ensures cause { HasCause (V.faults wire.old) (V.faults wire.new) result }
+        Ended (V.state wire.new).sent ⊎ Rises (V.state wire.old).faults (V.state wire.new).faults) }
+    ensures cause { HasCause (V.state wire.old).faults (V.state wire.new).faults result }
 {
     let mut session = match open(alloc, wire, path, server.user, server.database) {
         Ok(session) => session,
@@ -81,14 +82,14 @@ fn ask_system<V: Wire>(
     server: &Server,
     system: u64,
 ) -> Result<(), Halt<CreateFault>>
-    ensures same { OnOk result (IsOf system (V.pending wire.old)) }
+    ensures same { OnOk result (IsOf system (V.state wire.old).pending) }
     ensures asks { OnOk result (Asks (Some (server_view server.now))
-        (V.place wire.new) (V.sent wire.old) (V.sent wire.new)) }
-    ensures closed { IfErr result (Closes (Rises (V.faults wire.old) (V.faults wire.new))
-        (V.sent wire.new)) }
-    ensures later { V.faults wire.old ≤ V.faults wire.new }
-    ensures cause { IfErr result (HaltCause (AskCause (Some (server_view server.now)) system (V.pending wire.old))
-        (Only TheServer (Rises (V.faults wire.old) (V.faults wire.new)))) }
+        (V.state wire.new).place (V.state wire.old).sent (V.state wire.new).sent) }
+    ensures closed { IfErr result (Closes (Rises (V.state wire.old).faults (V.state wire.new).faults)
+        (V.state wire.new).sent) }
+    ensures later { (V.state wire.old).faults ≤ (V.state wire.new).faults }
+    ensures cause { IfErr result (HaltCause (AskCause (Some (server_view server.now)) system (V.state wire.old).pending)
+        (Only TheServer (Rises (V.state wire.old).faults (V.state wire.new).faults))) }
 {
     let path = socket_path(alloc, server)?;
     match talk(alloc, wire, server, &path, system) {
@@ -105,14 +106,15 @@ pub(crate) fn check_server<V: Wire>(
     system: u64,
 ) -> Result<(), Halt<CreateFault>>
     ensures quiet { server.entry ≡ None → wire.new ≡ wire.old }
-    ensures same { OnOk result (IfSome server.entry (λ _. IsOf system (V.pending wire.old))) }
+    ensures same { OnOk result (IfSome server.entry (λ _. IsOf system (V.state wire.old).pending)) }
     ensures asks { OnOk result (Asks (option_map server_view server.entry)
-        (V.place wire.new) (V.sent wire.old) (V.sent wire.new)) }
-    ensures closed { IfErr result (Closes (Rises (V.faults wire.old) (V.faults wire.new))
-        (V.sent wire.new)) }
-    ensures later { V.faults wire.old ≤ V.faults wire.new }
-    ensures cause { IfErr result (HaltCause (AskCause (option_map server_view server.entry) system (V.pending wire.old))
-        (Only TheServer (Rises (V.faults wire.old) (V.faults wire.new)))) }
+        (V.state wire.new).place (V.state wire.old).sent (V.state wire.new).sent) }
+    ensures closed { IfErr result (Closes (Rises (V.state wire.old).faults (V.state wire.new).faults)
+        (V.state wire.new).sent) }
+    ensures later { (V.state wire.old).faults ≤ (V.state wire.new).faults }
+    ensures cause { IfErr result (HaltCause (AskCause (option_map server_view server.entry) system
+        (V.state wire.old).pending)
+        (Only TheServer (Rises (V.state wire.old).faults (V.state wire.new).faults))) }
 {
     match server {
         Some(server) => ask_system(alloc, wire, &server, system),

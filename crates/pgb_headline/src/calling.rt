@@ -27,19 +27,21 @@ pub fn called<
     links: &mut Vec<Box<dyn Link>>,
     turns: &mut U,
 ) -> u8
-    requires free { K.taken outside.old.locks ≡ [] }
+    requires free { (K.state outside.old.locks).taken ≡ [] }
     // The words are refused and nothing is done, or the call that they ask for is, as a story has it.
     ensures shown { IsSome (T.state outside.old.tree).nodes
-        → IsShown (map string_bytes words.now) (I.files outside.old.config) (T.state outside.old.tree).nodes result
+        → IsShown (map string_bytes words.now) (I.state outside.old.config).files
+        (T.state outside.old.tree).nodes result
         (both (D.state outside.old.repo).view (S.state outside.old.spool).view)
         (both (D.state outside.new.repo).view (S.state outside.new.spool).view) }
     // Disks that keep the logs of all stanzas go on with them, whether the call ends or is stopped.
     ensures went { IsSome (T.state outside.old.tree).nodes → (before : List Call)
         → KeepsAll before (both (D.state outside.old.repo).view (S.state outside.old.spool).view)
-        → Went (map string_bytes words.now) (I.files outside.old.config) (T.state outside.old.tree).nodes result before
+        → Went (map string_bytes words.now) (I.state outside.old.config).files
+        (T.state outside.old.tree).nodes result before
         (both (D.state outside.old.repo).view (S.state outside.old.spool).view)
         (both (D.state outside.new.repo).view (S.state outside.new.spool).view) }
-    ensures free { K.taken outside.new.locks ≡ [] }
+    ensures free { (K.state outside.new.locks).taken ≡ [] }
 {
     run(alloc, words, outside, links, turns)
 }

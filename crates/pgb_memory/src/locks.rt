@@ -28,10 +28,10 @@ impl MemLocks {
     /// Locks of which others hold those of the names in `held`. `fail` has the numbers of the takes that are to fail, the
     /// first being 0.
     pub fn new(alloc: Global, held: Vec<String>, fail: Vec<u64>) -> Self
-        ensures taken { ⟦<MemLocks as Locks>⟧.taken result ≡ [] }
-        ensures took { ⟦<MemLocks as Locks>⟧.took result ≡ Some [] }
-        ensures others { ⟦<MemLocks as Locks>⟧.others result ≡ Some (names_in held.items) }
-        ensures refusals { ⟦<MemLocks as Locks>⟧.refusals result ≡ 0 }
+        ensures taken { (⟦<MemLocks as Locks>⟧.state result).taken ≡ [] }
+        ensures took { (⟦<MemLocks as Locks>⟧.state result).took ≡ Some [] }
+        ensures others { (⟦<MemLocks as Locks>⟧.state result).others ≡ Some (names_in held.items) }
+        ensures refusals { (⟦<MemLocks as Locks>⟧.state result).refusals ≡ 0 }
         ensures counts { result.failing ≡ record { fail = fail; calls = 0; faults = 0; misuses = 0 } }
     {
         MemLocks {
@@ -46,35 +46,35 @@ impl MemLocks {
 
     /// Whether the lock was taken and not released.
     pub fn has(&self, name: &str) -> bool
-        ensures { IsTrue result ↔ Contains (⟦<MemLocks as Locks>⟧.taken self.now) name.now }
+        ensures { IsTrue result ↔ Contains (⟦<MemLocks as Locks>⟧.state self.now).taken name.now }
     {
         has_name(&self.taken, name)
     }
 
     /// Folder and name of each lock that was ever taken, the last one first.
     pub fn took(&self) -> &[(String, String)]
-        ensures { ⟦<MemLocks as Locks>⟧.took self.now ≡ Some (locks_in result.now) }
+        ensures { (⟦<MemLocks as Locks>⟧.state self.now).took ≡ Some (locks_in result.now) }
     {
         &self.took
     }
 
     /// The names that were taken and not released, the last one first.
     pub fn taken(&self) -> &[String]
-        ensures { ⟦<MemLocks as Locks>⟧.taken self.now ≡ names_in result.now }
+        ensures { (⟦<MemLocks as Locks>⟧.state self.now).taken ≡ names_in result.now }
     {
         &self.taken
     }
 
     /// How often a lock was held by others.
     pub fn refusals(&self) -> u64
-        ensures { result ≡ ⟦<MemLocks as Locks>⟧.refusals self.now }
+        ensures { result ≡ (⟦<MemLocks as Locks>⟧.state self.now).refusals }
     {
         self.refusals
     }
 
     /// How often a take failed.
     pub fn faults(&self) -> u64
-        ensures { result ≡ ⟦<MemLocks as Locks>⟧.faults self.now }
+        ensures { result ≡ (⟦<MemLocks as Locks>⟧.state self.now).faults }
     {
         self.failing.faults()
     }
@@ -103,15 +103,13 @@ impl MemLocks {
 }
 
 impl Locks for MemLocks {
-    ghost taken = { λ l. names_in l.taken.items };
-
-    ghost took = { λ l. Some (locks_in l.took.items) };
-
-    ghost others = { λ l. Some (names_in l.others.items) };
-
-    ghost refusals = { λ l. l.refusals };
-
-    ghost faults = { λ l. l.failing.faults };
+    ghost state = { λ l. record {
+      taken = names_in l.taken.items;
+      took = Some (locks_in l.took.items);
+      others = Some (names_in l.others.items);
+      refusals = l.refusals;
+      faults = l.failing.faults;
+    } };
 
     fn take(&mut self, folder: &str, name: &str) -> Result<Take, Stop>
         requires { ¬ Contains (names_in self.old.taken.items) name.now }

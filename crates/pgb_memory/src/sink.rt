@@ -17,7 +17,7 @@ pub struct MemSink {
 impl MemSink {
     /// A sink with nothing written. `fail` has the numbers of the writes that are to fail, the first being 0.
     pub fn new(alloc: Global, fail: Vec<u64>) -> Self
-        ensures written { ⟦<MemSink as Sink>⟧.written result ≡ Some [] }
+        ensures written { (⟦<MemSink as Sink>⟧.state result).written ≡ Some [] }
         ensures counts { result.failing ≡ record { fail = fail; calls = 0; faults = 0; misuses = 0 } }
     {
         MemSink {
@@ -28,23 +28,21 @@ impl MemSink {
 
     /// What was written so far.
     pub fn written(&self) -> &[u8]
-        ensures { ⟦<MemSink as Sink>⟧.written self.now ≡ Some result.now }
+        ensures { (⟦<MemSink as Sink>⟧.state self.now).written ≡ Some result.now }
     {
         &self.text
     }
 
     /// How often a write failed.
     pub fn faults(&self) -> u64
-        ensures { result ≡ ⟦<MemSink as Sink>⟧.faults self.now }
+        ensures { result ≡ (⟦<MemSink as Sink>⟧.state self.now).faults }
     {
         self.failing.faults()
     }
 }
 
 impl Sink for MemSink {
-    ghost written = { λ s. Some s.text.items };
-
-    ghost faults = { λ s. s.failing.faults };
+    ghost state = { λ s. record { written = Some s.text.items; faults = s.failing.faults } };
 
     fn write(&mut self, bytes: &[u8]) -> Result<usize, Stop>
         // An `Ok` took all of the bytes, and an `Err` none.

@@ -26,9 +26,9 @@ impl MemSource {
 
     /// A file of these bytes, or none. `fail` has the numbers of the calls that are to fail, the first being 0.
     pub fn new(alloc: Global, file: Option<Vec<u8>>, fail: Vec<u64>) -> Self
-        ensures files { ⟦<MemSource as Source>⟧.files result ≡ Some (λ _. value_of file) }
-        ensures left { ⟦<MemSource as Source>⟧.left result ≡ Some [] }
-        ensures place { ⟦<MemSource as Source>⟧.place result ≡ [] }
+        ensures files { (⟦<MemSource as Source>⟧.state result).files ≡ Some (λ _. value_of file) }
+        ensures left { (⟦<MemSource as Source>⟧.state result).left ≡ Some [] }
+        ensures place { (⟦<MemSource as Source>⟧.state result).place ≡ [] }
         ensures counts { result.failing ≡ record { fail = fail; calls = 0; faults = 0; misuses = 0 } }
     {
         let at = match &file {
@@ -46,14 +46,14 @@ impl MemSource {
 
     /// The path that was opened last.
     pub fn place(&self) -> &str
-        ensures { result.now ≡ ⟦<MemSource as Source>⟧.place self.now }
+        ensures { result.now ≡ (⟦<MemSource as Source>⟧.state self.now).place }
     {
         &self.place
     }
 
     /// How often a call failed.
     pub fn faults(&self) -> u64
-        ensures { result ≡ ⟦<MemSource as Source>⟧.faults self.now }
+        ensures { result ≡ (⟦<MemSource as Source>⟧.state self.now).faults }
     {
         self.failing.faults()
     }
@@ -62,13 +62,12 @@ impl MemSource {
 impl Source for MemSource {
     ghost use Rattle.pgb_memory.specs.Source.{left_of};
 
-    ghost files = { λ s. Some (λ _. value_of s.file) };
-
-    ghost left = { λ s. Some (left_of s) };
-
-    ghost place = { λ s. string_bytes s.place };
-
-    ghost faults = { λ s. s.failing.faults };
+    ghost state = { λ s. record {
+      files = Some (λ _. value_of s.file);
+      left = Some (left_of s);
+      place = string_bytes s.place;
+      faults = s.failing.faults;
+    } };
 
     fn open(&mut self, path: &str) -> Result<bool, Stop>
         ensures there { IfOk result (λ there. there ≡ is_some (value_of self.old.file)) }

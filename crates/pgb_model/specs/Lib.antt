@@ -14,6 +14,7 @@ pub mod Repository
 pub mod Stands
 pub mod Steps
 pub mod Log
+pub mod Restored
 pub mod Create
 pub mod Now
 pub mod Steady

@@ -17,6 +17,8 @@ use Rattle.pgb_model.specs.Repository.{Backup, Archived, Drained, Stanza, Reposi
 pub data Step : Type 0 where
   -- a stanza of one cluster, with nothing in it
   Create : Cluster → Step
+  -- a further cluster, which becomes the current one ("Stanza Upgrade Command")
+  Upgrade : Cluster → Step
   -- one archived file more
   Push : Archived → Step
   -- one file more that a drain has stored
@@ -38,6 +40,7 @@ new_stanza c = record { history = c ∷ []; backups = []; archived = []; drained
 -- a step within a stanza
 abbrev pub changed : Step → Stanza → Stanza
 changed (Create c) s = s
+changed (Upgrade c) s = record s { history = s.history ++ c ∷ [] }
 changed (Push a) s = record s { archived = s.archived ++ a ∷ [] }
 changed (Note d) s = record s { drained = s.drained ++ d ∷ [] }
 changed (AddBackup b) s = record s { backups = s.backups ++ b ∷ [] }

@@ -1,6 +1,6 @@
--- What a device tells, as one value, and what a call leaves of it.
+-- What each device tells, as one value, and what a call leaves of it.
 use Rattle.std.specs.Prelude.{◌≡◌, ◌⊎◌, ◌≤◌, [], ◌∷◌, ℕ, List, Option, Result, MatchResult}
-use Rattle.pgb_outside.specs.Content.{Name, Value}
+use Rattle.pgb_outside.specs.Content.{Name, Value, Content}
 use Rattle.pgb_outside.specs.Moments.{View, Goes, Rests}
 use Rattle.pgb_outside.specs.Tree.{Nodes}
 
@@ -74,3 +74,65 @@ pub record LooksAt (old new : TreeState) : Type 0 where
   pub opened : new.opened ≡ old.opened
   pub proper : new.misuses ≡ old.misuses
   pub later : old.faults ≤ new.faults
+
+-- ---- a connection to a server
+
+pub record WireState : Type 0 where
+  -- what it will give and what it was sent, where it tells that
+  pub pending : Option (List ℕ)
+  pub sent : Option (List ℕ)
+  -- the path that was opened last
+  pub place : Name
+  -- how often it failed
+  pub faults : ℕ
+
+-- ---- a clock
+
+-- the last second of year 9999
+abbrev pub last_second : ℕ
+last_second = 253402300799
+
+pub record ClockState : Type 0 where
+  -- no second that it tells from now on is less
+  pub least : ℕ
+  -- how often it failed
+  pub faults : ℕ
+
+-- the second was told, and no later one is less
+pub record TellsSecond (second : ℕ) (old new : ClockState) : Type 0 where
+  pub later : old.least ≤ second
+  pub in_range : second ≤ last_second
+  pub least : second ≤ new.least
+
+-- ---- locks
+
+pub record LocksState : Type 0 where
+  -- the names that were taken and not released
+  pub taken : List Name
+  -- each lock that was ever taken, by its folder and name, the last one first, where it tells that
+  pub took : Option (List (Name × Name))
+  -- the names that others hold, where it tells that
+  pub others : Option (List Name)
+  -- how often a lock was held by another
+  pub refusals : ℕ
+  -- how often they failed
+  pub faults : ℕ
+
+-- ---- a source of the configuration
+
+pub record SourceState : Type 0 where
+  -- what each file holds, and what is left of the opened one, where it tells that
+  pub files : Option Content
+  pub left : Option (List ℕ)
+  -- the path that was opened last
+  pub place : Name
+  -- how often it failed
+  pub faults : ℕ
+
+-- ---- an output
+
+pub record SinkState : Type 0 where
+  -- what was written so far, where it tells that
+  pub written : Option (List ℕ)
+  -- how often it failed
+  pub faults : ℕ

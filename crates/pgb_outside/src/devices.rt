@@ -1,88 +1,77 @@
-// The other objects that are handed in: of some, only their calls and counts of faults.
-ghost use Rattle.std.specs.Prelude.{◌≡◌, ◌<◌, ◌≤◌, ◌++◌, ℕ, true, List, Option, option_map, option_and_then, is_some, take, length, IfOk, OnOk, IfSome};
+// The source of the configuration, the connection to a server, and the clock.
+ghost use Rattle.std.specs.Prelude.{◌≡◌, ◌<◌, ◌≤◌, ◌++◌, ℕ, true, Option, option_map, option_and_then, is_some, take, length, IfOk, OnOk, IfSome};
 ghost use Rattle.pgb_outside.specs.Cause.{HasCause};
-ghost use Rattle.pgb_outside.specs.Content.{Name, Content};
+ghost use Rattle.pgb_outside.specs.Content.{Content};
+ghost use Rattle.pgb_outside.specs.States.{SourceState, WireState, ClockState, TellsSecond};
 ghost use Rattle.pgb_outside.specs.Streams.{Gives, IsOver};
 
 use crate::Stop;
 
 /// Where the configuration file is read.
 pub trait Source {
-    /// What each file holds, where it tells that.
-    ghost files: { Self → Option Content };
-
-    /// What is left of the opened file, where it tells that.
-    ghost left: { Self → Option (List ℕ) };
-
-    /// How often it failed.
-    ghost faults: { Self → ℕ };
-
-    /// The path that was opened last.
-    ghost place: { Self → Name };
+    /// What its files hold, what is left of the one that was opened last, and its count of faults.
+    ghost state: { Self → SourceState };
 
     /// Opens a file at its start, and answers whether it is there.
     fn open(&mut self, path: &str) -> Result<bool, Stop>
-        ensures there { IfOk result (λ there. IfSome (files self.old) (λ f. there ≡ is_some (f path.now))) }
-        ensures left { IfOk result
-            (λ there. there ≡ true → left self.new ≡ option_and_then (λ (f : Content). f path.now) (files self.old)) }
-        ensures place { OnOk result (place self.new ≡ path.now) }
-        ensures files { files self.new ≡ files self.old }
-        ensures cause { HasCause (faults self.old) (faults self.new) result };
+        ensures there { IfOk result (λ there. IfSome (state self.old).files (λ f. there ≡ is_some (f path.now))) }
+        ensures left { IfOk result (λ there. there ≡ true
+            → (state self.new).left ≡ option_and_then (λ (f : Content). f path.now) (state self.old).files) }
+        ensures place { OnOk result ((state self.new).place ≡ path.now) }
+        ensures files { (state self.new).files ≡ (state self.old).files }
+        ensures cause { HasCause (state self.old).faults (state self.new).faults result };
 
     /// The next bytes: 0 into a buffer that has room is the end.
     fn read(&mut self, buf: &mut [u8]) -> Result<usize, Stop>
         ensures room { IfOk result (λ n. n ≤ length buf.old) }
-        ensures gives { IfOk result (λ n. Gives (left self.old) (take n buf.new) (left self.new)) }
-        ensures end { IfOk result (λ n. n ≡ 0 → 0 < length buf.old → IsOver (left self.old)) }
-        ensures place { place self.new ≡ place self.old }
-        ensures files { files self.new ≡ files self.old }
-        ensures cause { HasCause (faults self.old) (faults self.new) result };
+        ensures gives { IfOk result (λ n. Gives (state self.old).left (take n buf.new) (state self.new).left) }
+        ensures end { IfOk result (λ n. n ≡ 0 → 0 < length buf.old → IsOver (state self.old).left) }
+        ensures place { (state self.new).place ≡ (state self.old).place }
+        ensures files { (state self.new).files ≡ (state self.old).files }
+        ensures cause { HasCause (state self.old).faults (state self.new).faults result };
 }
 
 /// The connection to a server.
 pub trait Wire {
-    /// What it will give, where it tells that.
-    ghost pending: { Self → Option (List ℕ) };
-
-    /// What it was sent, where it tells that.
-    ghost sent: { Self → Option (List ℕ) };
-
-    /// How often it failed.
-    ghost faults: { Self → ℕ };
-
-    /// The path that was opened last.
-    ghost place: { Self → Name };
+    /// What it will give, what it was sent, the path that was opened last, and its count of faults.
+    ghost state: { Self → WireState };
 
     fn open(&mut self, path: &str) -> Result<(), Stop>
-        ensures place { OnOk result (place self.new ≡ path.now) }
-        ensures pending { pending self.new ≡ pending self.old }
-        ensures sent { sent self.new ≡ sent self.old }
-        ensures cause { HasCause (faults self.old) (faults self.new) result };
+        ensures place { OnOk result ((state self.new).place ≡ path.now) }
+        ensures pending { (state self.new).pending ≡ (state self.old).pending }
+        ensures sent { (state self.new).sent ≡ (state self.old).sent }
+        ensures cause { HasCause (state self.old).faults (state self.new).faults result };
 
     fn send(&mut self, bytes: &[u8]) -> Result<(), Stop>
-        ensures sent { OnOk result (sent self.new ≡ option_map (λ s. s ++ bytes.now) (sent self.old)) }
-        ensures pending { pending self.new ≡ pending self.old }
-        ensures place { place self.new ≡ place self.old }
-        ensures cause { HasCause (faults self.old) (faults self.new) result };
+        ensures sent { OnOk result ((state self.new).sent ≡ option_map (λ s. s ++ bytes.now) (state self.old).sent) }
+        ensures pending { (state self.new).pending ≡ (state self.old).pending }
+        ensures place { (state self.new).place ≡ (state self.old).place }
+        ensures cause { HasCause (state self.old).faults (state self.new).faults result };
 
     /// The next bytes: 0 into a buffer that has room is the end.
     fn receive(&mut self, buf: &mut [u8]) -> Result<usize, Stop>
         ensures room { IfOk result (λ n. n ≤ length buf.old) }
-        ensures gives { IfOk result (λ n. Gives (pending self.old) (take n buf.new) (pending self.new)) }
-        ensures end { IfOk result (λ n. n ≡ 0 → 0 < length buf.old → IsOver (pending self.old)) }
-        ensures sent { sent self.new ≡ sent self.old }
-        ensures place { place self.new ≡ place self.old }
-        ensures cause { HasCause (faults self.old) (faults self.new) result };
+        ensures gives { IfOk result (λ n. Gives (state self.old).pending (take n buf.new) (state self.new).pending) }
+        ensures end { IfOk result (λ n. n ≡ 0 → 0 < length buf.old → IsOver (state self.old).pending) }
+        ensures sent { (state self.new).sent ≡ (state self.old).sent }
+        ensures place { (state self.new).place ≡ (state self.old).place }
+        ensures cause { HasCause (state self.old).faults (state self.new).faults result };
 }
 
-/// The clock, in seconds since 1970.
+/// The clock, in seconds since 1970. It never goes back.
 pub trait Clock {
-    /// How often it failed.
-    ghost faults: { Self → ℕ };
+    /// The least second that it may tell next, and its count of faults.
+    ghost state: { Self → ClockState };
 
+    /// The present second. One after year 9999 is a fault of the clock.
     fn now(&mut self) -> Result<u64, Stop>
-        ensures { HasCause (faults self.old) (faults self.new) result };
+        ensures tells { IfOk result (λ second. TellsSecond second (state self.old) (state self.new)) }
+        ensures later { (state self.old).least ≤ (state self.new).least }
+        ensures cause { HasCause (state self.old).faults (state self.new).faults result };
 
+    /// Waits until the second is over.
     fn wait_past(&mut self, second: u64) -> Result<(), Stop>
-        ensures { HasCause (faults self.old) (faults self.new) result };
+        ensures past { OnOk result (second < (state self.new).least) }
+        ensures later { (state self.old).least ≤ (state self.new).least }
+        ensures cause { HasCause (state self.old).faults (state self.new).faults result };
 }

@@ -91,13 +91,7 @@ impl Disk for NotThere {
 }
 
 impl Wire for NotThere {
-    ghost pending = { λ _. None };
-
-    ghost sent = { λ _. None };
-
-    ghost place = { λ _. [] };
-
-    ghost faults = { λ it. it.faults };
+    ghost state = { λ it. record { pending = None; sent = None; place = []; faults = it.faults } };
 
     fn open(&mut self, _path: &str) -> Result<(), Stop> {
         self.fail()
@@ -125,7 +119,7 @@ impl Link for NotThere {
 }
 
 impl Clock for NotThere {
-    ghost faults = { λ it. it.faults };
+    ghost state = { λ it. record { least = 0; faults = it.faults } };
 
     fn now(&mut self) -> Result<u64, Stop> {
         self.fail()
@@ -137,15 +131,7 @@ impl Clock for NotThere {
 }
 
 impl Locks for NotThere {
-    ghost taken = { λ _. [] };
-
-    ghost took = { λ _. None };
-
-    ghost others = { λ _. None };
-
-    ghost refusals = { λ _. 0 };
-
-    ghost faults = { λ it. it.faults };
+    ghost state = { λ it. record { taken = []; took = None; others = None; refusals = 0; faults = it.faults } };
 
     fn take(&mut self, _folder: &str, _name: &str) -> Result<Take, Stop> {
         self.fail()
@@ -155,13 +141,7 @@ impl Locks for NotThere {
 }
 
 impl Source for NotThere {
-    ghost files = { λ _. None };
-
-    ghost left = { λ _. None };
-
-    ghost place = { λ _. [] };
-
-    ghost faults = { λ it. it.faults };
+    ghost state = { λ it. record { files = None; left = None; place = []; faults = it.faults } };
 
     fn open(&mut self, _path: &str) -> Result<bool, Stop> {
         self.fail()

@@ -40,16 +40,17 @@ fn take_one<K: Locks>(
     folder: &str,
     name: &Option<String>,
 ) -> Result<(), Halt<StageFault>>
-    requires { IfSome (name_of name.now) (λ n. ¬ Contains (K.taken locks.old) n) }
-    ensures may { MayHold (name_of name.now) (K.taken locks.old) (K.taken locks.new) }
-    ensures took { OnOk result (K.took locks.new ≡
-        option_map (with_one folder.now (name_of name.now)) (K.took locks.old)) }
-    ensures free { OnErr result (K.took locks.new ≡ K.took locks.old) }
+    requires { IfSome (name_of name.now) (λ n. ¬ Contains (K.state locks.old).taken n) }
+    ensures may { MayHold (name_of name.now) (K.state locks.old).taken (K.state locks.new).taken }
+    ensures took { OnOk result ((K.state locks.new).took ≡
+        option_map (with_one folder.now (name_of name.now)) (K.state locks.old).took) }
+    ensures free { OnErr result ((K.state locks.new).took ≡ (K.state locks.old).took) }
     ensures none { name_of name.now ≡ None → locks.new ≡ locks.old }
-    ensures later { K.faults locks.old ≤ K.faults locks.new }
-    ensures refusals { K.refusals locks.old ≤ K.refusals locks.new }
+    ensures later { (K.state locks.old).faults ≤ (K.state locks.new).faults }
+    ensures refusals { (K.state locks.old).refusals ≤ (K.state locks.new).refusals }
     ensures cause { IfErr result (LocksCause (IsHeldName (name_of name.now))
-        (K.refusals locks.old) (K.refusals locks.new) (K.faults locks.old) (K.faults locks.new)) }
+        (K.state locks.old).refusals (K.state locks.new).refusals (K.state locks.old).faults
+        (K.state locks.new).faults) }
 {
     let Some(name) = name else {
         return Ok(());
@@ -72,16 +73,20 @@ pub fn take_locks<K: Locks>(
     plan: &Plan,
     stanza: &str,
 ) -> Result<(), Halt<StageFault>>
-    requires free { K.taken locks.old ≡ [] }
+    requires free { (K.state locks.old).taken ≡ [] }
     requires names { AreNames names.now plan.now stanza.now }
-    ensures only { HoldsOnly (first_lock plan.now stanza.now) (second_lock plan.now stanza.now) (K.taken locks.new) }
-    ensures took { OnOk result (TakesLocks plan.now folder.now stanza.now (K.took locks.old) (K.took locks.new)) }
-    ensures may { OnErr result (MayTake plan.now folder.now stanza.now (K.took locks.old) (K.took locks.new)) }
+    ensures only { HoldsOnly (first_lock plan.now stanza.now) (second_lock plan.now stanza.now)
+        (K.state locks.new).taken }
+    ensures took { OnOk result (TakesLocks plan.now folder.now stanza.now (K.state locks.old).took
+        (K.state locks.new).took) }
+    ensures may { OnErr result (MayTake plan.now folder.now stanza.now (K.state locks.old).took
+        (K.state locks.new).took) }
     ensures idle { plan.now.backup_lock ≡ false → plan.now.archive_lock ≡ false → locks.new ≡ locks.old }
-    ensures later { K.faults locks.old ≤ K.faults locks.new }
-    ensures refusals { K.refusals locks.old ≤ K.refusals locks.new }
+    ensures later { (K.state locks.old).faults ≤ (K.state locks.new).faults }
+    ensures refusals { (K.state locks.old).refusals ≤ (K.state locks.new).refusals }
     ensures cause { IfErr result (LocksCause (HeldCause plan.now stanza.now)
-        (K.refusals locks.old) (K.refusals locks.new) (K.faults locks.old) (K.faults locks.new)) }
+        (K.state locks.old).refusals (K.state locks.new).refusals (K.state locks.old).faults
+        (K.state locks.new).faults) }
 {
     take_one(alloc, locks, folder, &names.first)?;
     take_one(alloc, locks, folder, &names.second)?;
@@ -89,11 +94,11 @@ pub fn take_locks<K: Locks>(
 }
 
 fn release_one<K: Locks>(locks: &mut K, name: &Option<String>)
-    ensures taken { K.taken locks.new ≡ released (name_of name.now) (K.taken locks.old) }
+    ensures taken { (K.state locks.new).taken ≡ released (name_of name.now) (K.state locks.old).taken }
     ensures none { name_of name.now ≡ None → locks.new ≡ locks.old }
-    ensures took { K.took locks.new ≡ K.took locks.old }
-    ensures refusals { K.refusals locks.new ≡ K.refusals locks.old }
-    ensures faults { K.faults locks.new ≡ K.faults locks.old }
+    ensures took { (K.state locks.new).took ≡ (K.state locks.old).took }
+    ensures refusals { (K.state locks.new).refusals ≡ (K.state locks.old).refusals }
+    ensures faults { (K.state locks.new).faults ≡ (K.state locks.old).faults }
 {
     if let Some(name) = name {
         locks.release(name);
@@ -103,12 +108,13 @@ fn release_one<K: Locks>(locks: &mut K, name: &Option<String>)
 /// Releases the locks of these names, the last one first.
 pub fn release_locks<K: Locks>(locks: &mut K, names: &LockNames, plan: &Plan, stanza: &str)
     requires names { AreNames names.now plan.now stanza.now }
-    requires only { HoldsOnly (first_lock plan.now stanza.now) (second_lock plan.now stanza.now) (K.taken locks.old) }
-    ensures released { K.taken locks.new ≡ [] }
+    requires only { HoldsOnly (first_lock plan.now stanza.now) (second_lock plan.now stanza.now)
+        (K.state locks.old).taken }
+    ensures released { (K.state locks.new).taken ≡ [] }
     ensures idle { plan.now.backup_lock ≡ false → plan.now.archive_lock ≡ false → locks.new ≡ locks.old }
-    ensures took { K.took locks.new ≡ K.took locks.old }
-    ensures refusals { K.refusals locks.new ≡ K.refusals locks.old }
-    ensures faults { K.faults locks.new ≡ K.faults locks.old }
+    ensures took { (K.state locks.new).took ≡ (K.state locks.old).took }
+    ensures refusals { (K.state locks.new).refusals ≡ (K.state locks.old).refusals }
+    ensures faults { (K.state locks.new).faults ≡ (K.state locks.old).faults }
 {
     release_one(locks, &names.second);
     release_one(locks, &names.first);

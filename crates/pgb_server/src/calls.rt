@@ -23,11 +23,11 @@ fn hear_out<V: Wire>(
     columns: u16,
     session: Session,
 ) -> Result<Talk, ServerFault>
-    ensures read { Reads talk_view result (V.pending wire.old) (V.pending wire.new)
+    ensures read { Reads talk_view result (V.state wire.old).pending (V.state wire.new).pending
         (talk_at phase columns (session_view session)) }
-    ensures sent { V.sent wire.new ≡ V.sent wire.old }
-    ensures place { V.place wire.new ≡ V.place wire.old }
-    ensures cause { HasCause (V.faults wire.old) (V.faults wire.new) result }
+    ensures sent { (V.state wire.new).sent ≡ (V.state wire.old).sent }
+    ensures place { (V.state wire.new).place ≡ (V.state wire.old).place }
+    ensures cause { HasCause (V.state wire.old).faults (V.state wire.new).faults result }
 {
     let limit = session.left();
     let start = Talk {
@@ -48,14 +48,15 @@ pub fn open<V: Wire>(
     database: &str,
 ) -> Result<Session, ServerFault>
     requires { length user.now + length database.now + 26 < 2 ^ 32 }
-    ensures read { Reads session_view result (V.pending wire.old) (V.pending wire.new) start_at }
+    ensures read { Reads session_view result (V.state wire.old).pending (V.state wire.new).pending start_at }
     ensures sent { OnOk result
-        (V.sent wire.new ≡ option_map (λ s. s ++ startup_of user.now database.now) (V.sent wire.old)) }
+        ((V.state wire.new).sent ≡ option_map (λ s. s ++ startup_of user.now database.now) (V.state wire.old).sent) }
     ensures parted { IfErr result
-        (λ e. ¬ IsOutside e → Sends (V.faults wire.old) (V.faults wire.new) (V.sent wire.old) (V.sent wire.new)
+        (λ e. ¬ IsOutside e → Sends (V.state wire.old).faults (V.state wire.new).faults (V.state wire.old).sent
+        (V.state wire.new).sent
         (startup_of user.now database.now ++ closing)) }
-    ensures place { OnOk result (V.place wire.new ≡ path.now) }
-    ensures cause { HasCause (V.faults wire.old) (V.faults wire.new) result }
+    ensures place { OnOk result ((V.state wire.new).place ≡ path.now) }
+    ensures cause { HasCause (V.state wire.old).faults (V.state wire.new).faults result }
 {
     let message = startup(alloc, user, database)?;
     open_wire(wire, path)?;
@@ -75,11 +76,12 @@ pub(crate) fn ask<V: Wire>(
     columns: u16,
 ) -> Result<Talk, ServerFault>
     requires { length text.now + 5 < 2 ^ 32 }
-    ensures read { Reads talk_view result (V.pending wire.old) (V.pending wire.new)
+    ensures read { Reads talk_view result (V.state wire.old).pending (V.state wire.new).pending
         (talk_at Heading columns (session_view session.now)) }
-    ensures sent { OnOk result (V.sent wire.new ≡ option_map (λ s. s ++ query_of text.now) (V.sent wire.old)) }
-    ensures place { V.place wire.new ≡ V.place wire.old }
-    ensures cause { HasCause (V.faults wire.old) (V.faults wire.new) result }
+    ensures sent { OnOk result ((V.state wire.new).sent ≡ option_map (λ s. s ++ query_of text.now)
+        (V.state wire.old).sent) }
+    ensures place { (V.state wire.new).place ≡ (V.state wire.old).place }
+    ensures cause { HasCause (V.state wire.old).faults (V.state wire.new).faults result }
 {
     let message = query(alloc, text)?;
     send(wire, &message)?;
@@ -97,11 +99,12 @@ pub fn ask_row<V: Wire>(
 ) -> Result<Vec<Option<String>>, ServerFault>
     requires { length text.now + 5 < 2 ^ 32 }
     ensures read { Reads (λ v. record { cells = cells_view v.items; taken = session_view session.new }) result
-        (V.pending wire.old) (V.pending wire.new) (row_at columns (session_view session.old)) }
+        (V.state wire.old).pending (V.state wire.new).pending (row_at columns (session_view session.old)) }
     ensures kept { OnErr result (session_view session.new ≡ session_view session.old) }
-    ensures sent { OnOk result (V.sent wire.new ≡ option_map (λ s. s ++ query_of text.now) (V.sent wire.old)) }
-    ensures place { V.place wire.new ≡ V.place wire.old }
-    ensures cause { HasCause (V.faults wire.old) (V.faults wire.new) result }
+    ensures sent { OnOk result ((V.state wire.new).sent ≡ option_map (λ s. s ++ query_of text.now)
+        (V.state wire.old).sent) }
+    ensures place { (V.state wire.new).place ≡ (V.state wire.old).place }
+    ensures cause { HasCause (V.state wire.old).faults (V.state wire.new).faults result }
 {
     match ask(alloc, wire, session, text, columns) {
         Ok(talk) => {
@@ -114,11 +117,11 @@ pub fn ask_row<V: Wire>(
 
 /// Ends a session.
 pub fn close<V: Wire>(wire: &mut V, session: Session) -> Result<(), ServerFault>
-    ensures sent { OnOk result (V.sent wire.new ≡ option_map (λ s. s ++ closing) (V.sent wire.old)) }
-    ensures pending { V.pending wire.new ≡ V.pending wire.old }
-    ensures place { V.place wire.new ≡ V.place wire.old }
+    ensures sent { OnOk result ((V.state wire.new).sent ≡ option_map (λ s. s ++ closing) (V.state wire.old).sent) }
+    ensures pending { (V.state wire.new).pending ≡ (V.state wire.old).pending }
+    ensures place { (V.state wire.new).place ≡ (V.state wire.old).place }
     ensures outside { IfErr result IsOutside }
-    ensures cause { HasCause (V.faults wire.old) (V.faults wire.new) result }
+    ensures cause { HasCause (V.state wire.old).faults (V.state wire.new).faults result }
 {
     send(wire, b"X\0\0\0\x04".as_slice())
 }

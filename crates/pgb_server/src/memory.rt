@@ -50,9 +50,9 @@ pub struct MemWire {
 impl MemWire {
     /// `fail` has the numbers of the calls that are to fail, the first being 0.
     pub fn new(alloc: Global, input: Vec<u8>, cuts: Vec<u32>, fail: Vec<u64>) -> Self
-        ensures pending { ⟦<MemWire as Wire>⟧.pending result ≡ Some input.items }
-        ensures sent { ⟦<MemWire as Wire>⟧.sent result ≡ Some [] }
-        ensures faults { ⟦<MemWire as Wire>⟧.faults result ≡ 0 }
+        ensures pending { (⟦<MemWire as Wire>⟧.state result).pending ≡ Some input.items }
+        ensures sent { (⟦<MemWire as Wire>⟧.state result).sent ≡ Some [] }
+        ensures faults { (⟦<MemWire as Wire>⟧.state result).faults ≡ 0 }
     {
         MemWire {
             alloc,
@@ -72,14 +72,14 @@ impl MemWire {
 
     /// What it was sent.
     pub fn sent(&self) -> &[u8]
-        ensures { Some result.now ≡ ⟦<MemWire as Wire>⟧.sent self.now }
+        ensures { Some result.now ≡ (⟦<MemWire as Wire>⟧.state self.now).sent }
     {
         &self.sent
     }
 
     /// The path that was opened last.
     pub fn place(&self) -> &str
-        ensures { result.now ≡ ⟦<MemWire as Wire>⟧.place self.now }
+        ensures { result.now ≡ (⟦<MemWire as Wire>⟧.state self.now).place }
     {
         &self.place
     }
@@ -96,13 +96,12 @@ impl MemWire {
 }
 
 impl Wire for MemWire {
-    ghost pending = { λ w. Some (drop w.at w.input.items) };
-
-    ghost sent = { λ w. Some w.sent.items };
-
-    ghost faults = { λ w. w.calls.faults };
-
-    ghost place = { λ w. string_bytes w.place };
+    ghost state = { λ w. record {
+      pending = Some (drop w.at w.input.items);
+      sent = Some w.sent.items;
+      place = string_bytes w.place;
+      faults = w.calls.faults;
+    } };
 
     fn open(&mut self, path: &str) -> Result<(), Stop> {
         if self.calls.fails() {

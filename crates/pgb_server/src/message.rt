@@ -107,10 +107,11 @@ fn message_of<V: Wire>(
     count: usize,
 ) -> Result<Message, ServerFault>
     requires place { at + 5 + count < 2 ^ 64 }
-    ensures read { Reads message_view result (V.pending wire.old) (V.pending wire.new) (message_of at (kind, count)) }
-    ensures sent { V.sent wire.new ≡ V.sent wire.old }
-    ensures place { V.place wire.new ≡ V.place wire.old }
-    ensures cause { HasCause (V.faults wire.old) (V.faults wire.new) result }
+    ensures read { Reads message_view result (V.state wire.old).pending (V.state wire.new).pending
+        (message_of at (kind, count)) }
+    ensures sent { (V.state wire.new).sent ≡ (V.state wire.old).sent }
+    ensures place { (V.state wire.new).place ≡ (V.state wire.old).place }
+    ensures cause { HasCause (V.state wire.old).faults (V.state wire.new).faults result }
     ensures bound { IfOk result (λ m. length m.body.items ≤ count) }
 {
     let body = take(alloc, wire, count)?;
@@ -125,10 +126,11 @@ pub(crate) fn message_at<V: Wire>(
     at: u64,
 ) -> Result<Message, ServerFault>
     requires { at + 16777221 < 2 ^ 64 }
-    ensures read { Reads message_view result (V.pending wire.old) (V.pending wire.new) (message_at phase at) }
-    ensures sent { V.sent wire.new ≡ V.sent wire.old }
-    ensures place { V.place wire.new ≡ V.place wire.old }
-    ensures cause { HasCause (V.faults wire.old) (V.faults wire.new) result }
+    ensures read { Reads message_view result (V.state wire.old).pending (V.state wire.new).pending
+        (message_at phase at) }
+    ensures sent { (V.state wire.new).sent ≡ (V.state wire.old).sent }
+    ensures place { (V.state wire.new).place ≡ (V.state wire.old).place }
+    ensures cause { HasCause (V.state wire.old).faults (V.state wire.new).faults result }
     ensures bound { IfOk result (λ m. length m.body.items ≤ 16777216) }
 {
     let header = take(alloc, wire, 5)?;

@@ -40,12 +40,14 @@ pub fn check_system<V: Wire>(
     session: &mut Session,
     system: u64,
 ) -> Result<SegSize, ServerFault>
-    ensures read { Answers (λ z. z.0) result (session_view session.new) (V.pending wire.old) (V.pending wire.new)
+    ensures read { Answers (λ z. z.0) result (session_view session.new) (V.state wire.old).pending
+        (V.state wire.new).pending
         (talk_at Heading 2 (session_view session.old)) (SystemOutcome system) }
     ensures kept { OnErr result (session_view session.new ≡ session_view session.old) }
-    ensures sent { OnOk result (V.sent wire.new ≡ option_map (λ s. s ++ query_of system_query) (V.sent wire.old)) }
-    ensures place { V.place wire.new ≡ V.place wire.old }
-    ensures cause { HasCause (V.faults wire.old) (V.faults wire.new) result }
+    ensures sent { OnOk result ((V.state wire.new).sent ≡ option_map (λ s. s ++ query_of system_query)
+        (V.state wire.old).sent) }
+    ensures place { (V.state wire.new).place ≡ (V.state wire.old).place }
+    ensures cause { HasCause (V.state wire.old).faults (V.state wire.new).faults result }
 {
     let text =
         "select system_identifier::text, (select setting from pg_catalog.pg_settings where name = 'wal_segment_size') from pg_catalog.pg_control_system()";
@@ -79,13 +81,14 @@ pub fn start_backup<V: Wire>(
     session: &mut Session,
     fast: bool,
 ) -> Result<Started, ServerFault>
-    ensures read { Answers (λ s. s) result (session_view session.new) (V.pending wire.old) (V.pending wire.new)
+    ensures read { Answers (λ s. s) result (session_view session.new) (V.state wire.old).pending
+        (V.state wire.new).pending
         (talk_at Heading 2 (session_view session.old)) StartOutcome }
     ensures kept { OnErr result (session_view session.new ≡ session_view session.old) }
     ensures sent { OnOk result
-        (V.sent wire.new ≡ option_map (λ s. s ++ query_of (start_query fast)) (V.sent wire.old)) }
-    ensures place { V.place wire.new ≡ V.place wire.old }
-    ensures cause { HasCause (V.faults wire.old) (V.faults wire.new) result }
+        ((V.state wire.new).sent ≡ option_map (λ s. s ++ query_of (start_query fast)) (V.state wire.old).sent) }
+    ensures place { (V.state wire.new).place ≡ (V.state wire.old).place }
+    ensures cause { HasCause (V.state wire.old).faults (V.state wire.new).faults result }
 {
     let talk = match ask(alloc, wire, session, start_text(fast), 2) {
         Ok(talk) => talk,
@@ -128,12 +131,14 @@ pub fn stop_backup<V: Wire>(
     wire: &mut V,
     session: &mut Session,
 ) -> Result<Stopped, ServerFault>
-    ensures read { Answers stopped_view result (session_view session.new) (V.pending wire.old) (V.pending wire.new)
+    ensures read { Answers stopped_view result (session_view session.new) (V.state wire.old).pending
+        (V.state wire.new).pending
         (talk_at Heading 4 (session_view session.old)) StopOutcome }
     ensures kept { OnErr result (session_view session.new ≡ session_view session.old) }
-    ensures sent { OnOk result (V.sent wire.new ≡ option_map (λ s. s ++ query_of stop_query) (V.sent wire.old)) }
-    ensures place { V.place wire.new ≡ V.place wire.old }
-    ensures cause { HasCause (V.faults wire.old) (V.faults wire.new) result }
+    ensures sent { OnOk result ((V.state wire.new).sent ≡ option_map (λ s. s ++ query_of stop_query)
+        (V.state wire.old).sent) }
+    ensures place { (V.state wire.new).place ≡ (V.state wire.old).place }
+    ensures cause { HasCause (V.state wire.old).faults (V.state wire.new).faults result }
 {
     let text =
         "select lsn::text, pg_catalog.pg_walfile_name(lsn), labelfile, spcmapfile from pg_catalog.pg_backup_stop(false)";

@@ -44,10 +44,10 @@ pub(crate) fn query(alloc: Global, text: &str) -> Result<Vec<u8>, AllocError>
 /// Sends a whole message.
 pub(crate) fn send<V: Wire>(wire: &mut V, bytes: &[u8]) -> Result<(), ServerFault>
     ensures outside { IfErr result IsOutside }
-    ensures sent { OnOk result (V.sent wire.new ≡ option_map (λ s. s ++ bytes.now) (V.sent wire.old)) }
-    ensures pending { V.pending wire.new ≡ V.pending wire.old }
-    ensures place { V.place wire.new ≡ V.place wire.old }
-    ensures cause { HasCause (V.faults wire.old) (V.faults wire.new) result }
+    ensures sent { OnOk result ((V.state wire.new).sent ≡ option_map (λ s. s ++ bytes.now) (V.state wire.old).sent) }
+    ensures pending { (V.state wire.new).pending ≡ (V.state wire.old).pending }
+    ensures place { (V.state wire.new).place ≡ (V.state wire.old).place }
+    ensures cause { HasCause (V.state wire.old).faults (V.state wire.new).faults result }
 {
     match wire.send(bytes) {
         Ok(()) => Ok(()),
@@ -59,9 +59,9 @@ pub(crate) fn send<V: Wire>(wire: &mut V, bytes: &[u8]) -> Result<(), ServerFaul
 /// Ends a session that was refused. That this failed isn't told, but for want of memory.
 pub(crate) fn part<V: Wire>(wire: &mut V, fault: ServerFault) -> ServerFault
     ensures fault { (result ≡ fault) ⊎ (result ≡ NoMemory) }
-    ensures sent { result ≢ NoMemory → Sends (V.faults wire.old) (V.faults wire.new) (V.sent wire.old)
-        (V.sent wire.new) closing }
-    ensures later { V.faults wire.old ≤ V.faults wire.new }
+    ensures sent { result ≢ NoMemory → Sends (V.state wire.old).faults (V.state wire.new).faults (V.state wire.old).sent
+        (V.state wire.new).sent closing }
+    ensures later { (V.state wire.old).faults ≤ (V.state wire.new).faults }
 {
     match wire.send(b"X\0\0\0\x04".as_slice()) {
         Ok(()) => fault,
@@ -73,10 +73,10 @@ pub(crate) fn part<V: Wire>(wire: &mut V, fault: ServerFault) -> ServerFault
 /// Opens the server's socket.
 pub(crate) fn open_wire<V: Wire>(wire: &mut V, path: &str) -> Result<(), ServerFault>
     ensures outside { IfErr result IsOutside }
-    ensures place { OnOk result (V.place wire.new ≡ path.now) }
-    ensures sent { V.sent wire.new ≡ V.sent wire.old }
-    ensures pending { V.pending wire.new ≡ V.pending wire.old }
-    ensures cause { HasCause (V.faults wire.old) (V.faults wire.new) result }
+    ensures place { OnOk result ((V.state wire.new).place ≡ path.now) }
+    ensures sent { (V.state wire.new).sent ≡ (V.state wire.old).sent }
+    ensures pending { (V.state wire.new).pending ≡ (V.state wire.old).pending }
+    ensures cause { HasCause (V.state wire.old).faults (V.state wire.new).faults result }
 {
     match wire.open(path) {
         Ok(()) => Ok(()),

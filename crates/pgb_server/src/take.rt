@@ -10,12 +10,12 @@ use std::alloc::Global;
 // Up to so many bytes: fewer only at the end.
 fn gather<V: Wire>(alloc: Global, wire: &mut V, count: usize) -> Result<Vec<u8>, ServerFault>
     ensures outside { IfErr result IsOutside }
-    ensures bytes { IfOk result (λ v. IfSome (V.pending wire.old) (λ s. v.items ≡ take count s)) }
-    ensures rest { OnOk result (V.pending wire.new ≡ option_map (drop count) (V.pending wire.old)) }
+    ensures bytes { IfOk result (λ v. IfSome (V.state wire.old).pending (λ s. v.items ≡ take count s)) }
+    ensures rest { OnOk result ((V.state wire.new).pending ≡ option_map (drop count) (V.state wire.old).pending) }
     ensures room { IfOk result (λ v. length v.items ≤ count) }
-    ensures sent { V.sent wire.new ≡ V.sent wire.old }
-    ensures place { V.place wire.new ≡ V.place wire.old }
-    ensures cause { HasCause (V.faults wire.old) (V.faults wire.new) result }
+    ensures sent { (V.state wire.new).sent ≡ (V.state wire.old).sent }
+    ensures place { (V.state wire.new).place ≡ (V.state wire.old).place }
+    ensures cause { HasCause (V.state wire.old).faults (V.state wire.new).faults result }
 {
     let mut bytes: Vec<u8> = Vec::new(alloc);
     let mut piece = [0u8; 4096];
@@ -39,11 +39,11 @@ pub(crate) fn take<V: Wire>(
     wire: &mut V,
     count: usize,
 ) -> Result<Vec<u8>, ServerFault>
-    ensures read { Reads (λ v. v.items) result (V.pending wire.old) (V.pending wire.new) (take_at count) }
+    ensures read { Reads (λ v. v.items) result (V.state wire.old).pending (V.state wire.new).pending (take_at count) }
     ensures room { IfOk result (λ v. length v.items ≤ count) }
-    ensures sent { V.sent wire.new ≡ V.sent wire.old }
-    ensures place { V.place wire.new ≡ V.place wire.old }
-    ensures cause { HasCause (V.faults wire.old) (V.faults wire.new) result }
+    ensures sent { (V.state wire.new).sent ≡ (V.state wire.old).sent }
+    ensures place { (V.state wire.new).place ≡ (V.state wire.old).place }
+    ensures cause { HasCause (V.state wire.old).faults (V.state wire.new).faults result }
 {
     gather(alloc, wire, count)
 }

@@ -146,11 +146,11 @@ pub(crate) fn run<V: Wire>(
     start: Talk,
 ) -> Result<Talk, ServerFault>
     requires { start.session.messages + limit ≡ 1000000 }
-    ensures read { Reads talk_view result (V.pending wire.old) (V.pending wire.new)
+    ensures read { Reads talk_view result (V.state wire.old).pending (V.state wire.new).pending
         (run limit columns (talk_view start)) }
-    ensures sent { V.sent wire.new ≡ V.sent wire.old }
-    ensures place { V.place wire.new ≡ V.place wire.old }
-    ensures cause { HasCause (V.faults wire.old) (V.faults wire.new) result }
+    ensures sent { (V.state wire.new).sent ≡ (V.state wire.old).sent }
+    ensures place { (V.state wire.new).place ≡ (V.state wire.old).place }
+    ensures cause { HasCause (V.state wire.old).faults (V.state wire.new).faults result }
 {
     let mut talk = start;
     for i in 0..limit {

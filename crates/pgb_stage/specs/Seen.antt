@@ -1,11 +1,18 @@
 -- What all handed-in objects tell together, and which of them failed between two times.
-use Rattle.std.specs.Prelude.{◌≡◌, ◌≤◌, ℕ}
+use Rattle.std.specs.Prelude.{◌≡◌, ◌≤◌, ℕ, List, Option}
 use Rattle.pgb_outside.specs.Cause.{Rises}
 use Rattle.pgb_archive.specs.Still.{IsStill}
-use Rattle.pgb_outside.specs.States.{DiskState, TreeState}
-use Rattle.pgb_stage.specs.States.{WireState, OthersState, ClockState, LocksState, SourceState, SinkState}
+use Rattle.pgb_outside.specs.Content.{Name}
+use Rattle.pgb_outside.specs.States.{DiskState, TreeState, WireState, ClockState, SourceState, SinkState}
+use Rattle.pgb_turn.specs.Turns.{OthersState}
 use Rattle.pgb_stage.specs.declared.object.Object.{Object}
 use Rattle.pgb_stage.specs.declared.object.Object.TheVariants.{Repo, Spool, DataFolder, Server, Others, Clock, Locks, Config, Output}
+
+-- the locks that were ever taken, how often one was held by another, and how often they failed
+pub record LocksSeen : Type 0 where
+  pub took : Option (List (Name × Name))
+  pub refusals : ℕ
+  pub faults : ℕ
 
 pub record Seen : Type 1 where
   pub repo : DiskState
@@ -14,7 +21,7 @@ pub record Seen : Type 1 where
   pub server : WireState
   pub others : OthersState
   pub clock : ClockState
-  pub locks : LocksState
+  pub locks : LocksSeen
   pub config : SourceState
   pub out : SinkState
 

@@ -8,7 +8,7 @@ use std::alloc::{AllocError, Global};
 use std::process::Abort;
 
 fn take_by<L: Locks>(locks: &mut L, folder: &str, name: &str) -> Result<Take, Stop>
-    requires { ¬ Contains (L.taken locks.old) name.now }
+    requires { ¬ Contains (L.state locks.old).taken name.now }
 {
     locks.take(folder, name)
 }

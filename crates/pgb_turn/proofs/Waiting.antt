@@ -14,7 +14,7 @@ use Rattle.pgb_model.specs.Text.{Text, In}
 use Rattle.pgb_model.specs.Names.{archive_folder, receipt_name}
 use Rattle.pgb_model.specs.Repository.{Drained, Stanza, Repository, IsSound}
 use Rattle.pgb_model.specs.Stands.{Stands, IsWalName}
-use Rattle.pgb_model.specs.Steps.{Step, Create, Push, Note, AddBackup, Condemn, Forget, Move, One, Any, Turn, Named, ArchivePushAsync, IsPartOf, after, after_all, all_of, changed, steps_of, push_of, store_of, stores_of, archived_of, turn_moves}
+use Rattle.pgb_model.specs.Steps.{Step, Create, Upgrade, Push, Note, AddBackup, Condemn, Forget, Move, One, Any, Turn, Named, ArchivePushAsync, IsPartOf, after, after_all, all_of, changed, steps_of, push_of, store_of, stores_of, archived_of, turn_moves}
 use Rattle.pgb_model.specs.Log.{Done, Keeps, KeepsRepository, StandsAfter, Leads, Reaches, IsDone, IsDrained, HasReceipt}
 use Rattle.pgb_model.specs.Steady.{IsSteady, Moves}
 use Rattle.pgb_model.proofs.Logged.{IsPart}
@@ -36,6 +36,7 @@ keeps_notes d (Note e) s at = in_left d s.drained (e ∷ []) at
 keeps_notes d (AddBackup b) s at = at
 keeps_notes d (Condemn test) s at = at
 keeps_notes d (Forget a) s at = at
+keeps_notes d (Upgrade c) s at = at
 
 all_keep_notes : (d : Drained) (steps : List Step) (s : Stanza) → In d s.drained → In d (after_all s steps).drained
 all_keep_notes d [] s at = at

@@ -4,7 +4,7 @@ ghost use Rattle.pgb_outside.specs.States.{Frame};
 ghost use Rattle.pgb_outside.specs.Cause.{HasCause, Rises};
 ghost use Rattle.pgb_model.specs.Text.{Text};
 ghost use Rattle.pgb_stored.specs.Stored.{ChangesArchive};
-ghost use Rattle.pgb_turn.specs.Turns.{Account, GoesOn, OnTurn, GoesByTurn, GivesReceipts, LeavesMarks};
+ghost use Rattle.pgb_turn.specs.Turns.{OthersState, GoesOn, OnTurn, GoesByTurn, GivesReceipts, LeavesMarks};
 
 use pgb_outside::{Disk, NotThere, Stop};
 
@@ -18,68 +18,54 @@ pub enum TurnStop {
 
 /// What other processes do to the repository and the spool while this one waits: they push files of one stanza.
 pub trait Aside<D: Disk, S: Disk> {
-    /// The turns so far, where it tells them. It may end telling, and doesn't begin.
-    ghost account: { Self → Option Account };
-
-    /// How many turns ended well.
-    ghost turns: { Self → ℕ };
-
-    /// The words of each start, where it tells them.
-    ghost started: { Self → Option (List (List Text)) };
-
-    /// How often it failed.
-    ghost faults: { Self → ℕ };
+    /// Its turns, the words of each start, and its count of faults.
+    ghost state: { Self → OthersState };
 
     /// Waits for a turn of other processes.
     fn turn(&mut self, repo: &mut D, spool: &mut S) -> Result<(), TurnStop>
-        ensures account { GoesOn (is_ok result) (account self.old) (account self.new) }
+        ensures account { GoesOn (is_ok result) (state self.old).account (state self.new).account }
 
         // Its pushes are all that it does to the repository.
-        ensures repository { OnTurn (account self.old) (account self.new)
+        ensures repository { OnTurn (state self.old).account (state self.new).account
             (λ stanza t. GoesByTurn stanza t.turn (D.state repo.old).view (D.state repo.new).view) }
 
         // A receipt that it gives is of a file that it stored before.
-        ensures receipts { OnTurn (account self.old) (account self.new)
+        ensures receipts { OnTurn (state self.old).account (state self.new).account
             (λ stanza t. GivesReceipts stanza t.turn (D.state repo.old).view (D.state repo.new).view
             (S.state spool.old).view (S.state spool.new).view) }
         ensures marks { OnOk result
-            (OnTurn (account self.old) (account self.new) (λ stanza t.
+            (OnTurn (state self.old).account (state self.new).account (λ stanza t.
             LeavesMarks stanza t.marks (S.state spool.old).view.now (S.state spool.new).view.now)) }
 
         // It changes nothing else.
-        ensures repo_only { OnTurn (account self.old) (account self.new)
+        ensures repo_only { OnTurn (state self.old).account (state self.new).account
             (λ stanza t. ChangesArchive stanza (D.state repo.old).view (D.state repo.new).view) }
-        ensures spool_only { OnTurn (account self.old) (account self.new)
+        ensures spool_only { OnTurn (state self.old).account (state self.new).account
             (λ stanza t. ChangesArchive stanza (S.state spool.old).view (S.state spool.new).view) }
         ensures repo_frame { Frame (D.state repo.old) (D.state repo.new) }
         ensures spool_frame { Frame (S.state spool.old) (S.state spool.new) }
-        ensures started { started self.new ≡ started self.old }
+        ensures started { (state self.new).started ≡ (state self.old).started }
 
         // It is counted, and each refusal has its cause.
-        ensures counted { OnOk result (turns self.new ≡ min (turns self.old + 1) (2 ^ 64 - 1)) }
-        ensures uncounted { OnErr result (turns self.new ≡ turns self.old) }
+        ensures counted { OnOk result ((state self.new).turns ≡ min ((state self.old).turns + 1) (2 ^ 64 - 1)) }
+        ensures uncounted { OnErr result ((state self.new).turns ≡ (state self.old).turns) }
         ensures repo { IsErrOf result TurnStop.Repo → Rises (D.state repo.old).faults (D.state repo.new).faults }
         ensures spool { IsErrOf result TurnStop.Spool → Rises (S.state spool.old).faults (S.state spool.new).faults }
-        ensures later { faults self.old ≤ faults self.new };
+        ensures later { (state self.old).faults ≤ (state self.new).faults };
 
     /// Starts this program with these words.
     fn start(&mut self, words: &[String]) -> Result<(), Stop>
         ensures started { OnOk result
-            (started self.new ≡ option_map (λ past. past ++ map string_bytes words.now ∷ []) (started self.old)) }
-        ensures refused { OnErr result (started self.new ≡ started self.old) }
-        ensures account { account self.new ≡ account self.old }
-        ensures turns { turns self.new ≡ turns self.old }
-        ensures cause { HasCause (faults self.old) (faults self.new) result };
+            ((state self.new).started ≡ option_map (λ past. past ++ map string_bytes words.now ∷ [])
+            (state self.old).started) }
+        ensures refused { OnErr result ((state self.new).started ≡ (state self.old).started) }
+        ensures account { (state self.new).account ≡ (state self.old).account }
+        ensures turns { (state self.new).turns ≡ (state self.old).turns }
+        ensures cause { HasCause (state self.old).faults (state self.new).faults result };
 }
 
 impl<D: Disk, S: Disk> Aside<D, S> for NotThere {
-    ghost account = { λ _. None };
-
-    ghost turns = { λ _. 0 };
-
-    ghost started = { λ _. None };
-
-    ghost faults = { λ it. it.faults };
+    ghost state = { λ it. record { account = None; turns = 0; started = None; faults = it.faults } };
 
     fn turn(&mut self, _repo: &mut D, _spool: &mut S) -> Result<(), TurnStop>
         ensures repo { _repo.new ≡ _repo.old }

@@ -294,13 +294,12 @@ pub(crate) struct OnePush {
 }
 
 impl<D: Disk, S: Disk> Aside<D, S> for OnePush {
-    ghost account = { λ it. account_of (string_bytes it.stanza) it.id it.segment it.bytes.items it.state };
-
-    ghost turns = { λ it. it.turns };
-
-    ghost started = { λ _. None };
-
-    ghost faults = { λ it. it.faults };
+    ghost state = { λ it. record {
+      account = account_of (string_bytes it.stanza) it.id it.segment it.bytes.items it.state;
+      turns = it.turns;
+      started = None;
+      faults = it.faults;
+    } };
 
     fn turn(&mut self, repo: &mut D, spool: &mut S) -> Result<(), TurnStop> {
         match self.state {

@@ -22,9 +22,9 @@ use std::alloc::Global;
 
 /// Tells that an item can't be read, which ends the reply.
 pub(crate) fn tell_unread<O: Sink>(alloc: Global, out: &mut O) -> Result<bool, ServeFault>
-    ensures told { ToldUnread result (O.written out.old) (O.written out.new) }
-    ensures sink { IsErrOf result OutputFailed → Rises (O.faults out.old) (O.faults out.new) }
-    ensures later { O.faults out.old ≤ O.faults out.new }
+    ensures told { ToldUnread result (O.state out.old).written (O.state out.new).written }
+    ensures sink { IsErrOf result OutputFailed → Rises (O.state out.old).faults (O.state out.new).faults }
+    ensures later { (O.state out.old).faults ≤ (O.state out.new).faults }
     ensures only { IfErr result IsOutputFault }
 {
     tell(alloc, out, &Frame::Unread)?;
@@ -33,9 +33,9 @@ pub(crate) fn tell_unread<O: Sink>(alloc: Global, out: &mut O) -> Result<bool, S
 
 // Tells that an item's file is absent. Behind one of the repository the reply has ended.
 fn tell_absent<O: Sink>(alloc: Global, out: &mut O, root: Root) -> Result<bool, ServeFault>
-    ensures told { ToldAbsent root result (O.written out.old) (O.written out.new) }
-    ensures sink { IsErrOf result OutputFailed → Rises (O.faults out.old) (O.faults out.new) }
-    ensures later { O.faults out.old ≤ O.faults out.new }
+    ensures told { ToldAbsent root result (O.state out.old).written (O.state out.new).written }
+    ensures sink { IsErrOf result OutputFailed → Rises (O.state out.old).faults (O.state out.new).faults }
+    ensures later { (O.state out.old).faults ≤ (O.state out.new).faults }
     ensures only { IfErr result IsOutputFault }
 {
     match root {
@@ -56,11 +56,11 @@ fn tell_bytes<O: Sink>(
 ) -> Result<(), ServeFault>
     requires room { length room.old ≡ 32773 }
     requires count { count ≤ 32768 }
-    ensures writes { Writes result (part_frames kind (take count (drop 5 room.old))) (O.written out.old)
-        (O.written out.new) }
+    ensures writes { Writes result (part_frames kind (take count (drop 5 room.old))) (O.state out.old).written
+        (O.state out.new).written }
     ensures room { length room.new ≡ length room.old }
-    ensures sink { IsErrOf result OutputFailed → Rises (O.faults out.old) (O.faults out.new) }
-    ensures later { O.faults out.old ≤ O.faults out.new }
+    ensures sink { IsErrOf result OutputFailed → Rises (O.state out.old).faults (O.state out.new).faults }
+    ensures later { (O.state out.old).faults ≤ (O.state out.new).faults }
     ensures only { IfErr result IsOutputFault }
 {
     match kind {
@@ -71,9 +71,9 @@ fn tell_bytes<O: Sink>(
 
 // Tells the end of an item's bytes.
 fn tell_end<O: Sink>(alloc: Global, out: &mut O, length: u64, sum: Sum) -> Result<bool, ServeFault>
-    ensures told { Tells (End length sum.0 ∷ []) true result (O.written out.old) (O.written out.new) }
-    ensures sink { IsErrOf result OutputFailed → Rises (O.faults out.old) (O.faults out.new) }
-    ensures later { O.faults out.old ≤ O.faults out.new }
+    ensures told { Tells (End length sum.0 ∷ []) true result (O.state out.old).written (O.state out.new).written }
+    ensures sink { IsErrOf result OutputFailed → Rises (O.state out.old).faults (O.state out.new).faults }
+    ensures later { (O.state out.old).faults ≤ (O.state out.new).faults }
     ensures only { IfErr result IsOutputFault }
 {
     tell(alloc, out, &Frame::End { length, sum })?;
@@ -105,13 +105,13 @@ fn answer_bytes<O: Sink, F: Files>(
     ensures told { IfSome (F.files files.old) (λ f. (bytes : Text) → f (string_bytes item.now.path) ≡ Some bytes
         → take first (drop 5 room.old) ≡ take part_size (payload (item_of item.now) bytes)
         → ToldItem kind (item_of item.now) (Some bytes) (Rises (F.faults files.old) (F.faults files.new)) result
-        (O.written out.old) (O.written out.new)) }
+        (O.state out.old).written (O.state out.new).written) }
     ensures room { length room.new ≡ length room.old }
     ensures files { F.files files.new ≡ F.files files.old }
     ensures place { F.place files.new ≡ F.place files.old }
     ensures failed { F.faults files.old ≤ F.faults files.new }
-    ensures sink { IsErrOf result OutputFailed → Rises (O.faults out.old) (O.faults out.new) }
-    ensures later { O.faults out.old ≤ O.faults out.new }
+    ensures sink { IsErrOf result OutputFailed → Rises (O.state out.old).faults (O.state out.new).faults }
+    ensures later { (O.state out.old).faults ≤ (O.state out.new).faults }
     ensures only { IfErr result IsOutputFault }
 {
     let mut digest = Sha1::new();
@@ -143,13 +143,13 @@ pub(crate) fn answer_item<O: Sink, F: Files>(
     requires room { length room.old ≡ 32773 }
     ensures told { IfSome (F.files files.old)
         (λ f. ToldItem kind (item_of item.now) (f (string_bytes item.now.path))
-        (Rises (F.faults files.old) (F.faults files.new)) result (O.written out.old) (O.written out.new)) }
+        (Rises (F.faults files.old) (F.faults files.new)) result (O.state out.old).written (O.state out.new).written) }
     ensures room { length room.new ≡ length room.old }
     ensures files { F.files files.new ≡ F.files files.old }
     ensures place { F.place files.new ≡ F.place files.old }
     ensures failed { F.faults files.old ≤ F.faults files.new }
-    ensures sink { IsErrOf result OutputFailed → Rises (O.faults out.old) (O.faults out.new) }
-    ensures later { O.faults out.old ≤ O.faults out.new }
+    ensures sink { IsErrOf result OutputFailed → Rises (O.state out.old).faults (O.state out.new).faults }
+    ensures later { (O.state out.old).faults ≤ (O.state out.new).faults }
     ensures only { IfErr result IsOutputFault }
 {
     // A place is a `u64`.

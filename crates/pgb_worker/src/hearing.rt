@@ -29,13 +29,13 @@ fn read_some<I: Source>(
 ) -> Result<usize, ServeFault>
     requires room { 0 < length room.old }
     requires most { 0 < most }
-    ensures given { OnOk result ((total : Option Text) → Gives total bytes.old.items (I.left input.old)
-        → Gives total bytes.new.items (I.left input.new)) }
+    ensures given { OnOk result ((total : Option Text) → Gives total bytes.old.items (I.state input.old).left
+        → Gives total bytes.new.items (I.state input.new).left) }
     ensures count { IfOk result (λ n. (n ≤ most) × (vec_len bytes.new ≡ vec_len bytes.old + n)) }
-    ensures end { IfOk result (λ n. n ≡ 0 → IsOver (I.left input.new)) }
+    ensures end { IfOk result (λ n. n ≡ 0 → IsOver (I.state input.new).left) }
     ensures room { length room.new ≡ length room.old }
-    ensures read { IsErrOf result InputFailed → Rises (I.faults input.old) (I.faults input.new) }
-    ensures later { I.faults input.old ≤ I.faults input.new }
+    ensures read { IsErrOf result InputFailed → Rises (I.state input.old).faults (I.state input.new).faults }
+    ensures later { (I.state input.old).faults ≤ (I.state input.new).faults }
     ensures only { IfErr result IsInputFault }
 {
     let size = if room.len() < most { room.len() } else { most };
@@ -57,13 +57,13 @@ fn read_to<I: Source>(
 ) -> Result<(), ServeFault>
     requires room { 0 < length room.old }
     requires wanted { vec_len bytes.old ≤ wanted }
-    ensures given { OnOk result ((total : Option Text) → Gives total bytes.old.items (I.left input.old)
-        → Gives total bytes.new.items (I.left input.new)) }
+    ensures given { OnOk result ((total : Option Text) → Gives total bytes.old.items (I.state input.old).left
+        → Gives total bytes.new.items (I.state input.new).left) }
     ensures wanted { OnOk result (vec_len bytes.new ≤ wanted) }
-    ensures end { OnOk result (vec_len bytes.new < wanted → IsOver (I.left input.new)) }
+    ensures end { OnOk result (vec_len bytes.new < wanted → IsOver (I.state input.new).left) }
     ensures room { length room.new ≡ length room.old }
-    ensures read { IsErrOf result InputFailed → Rises (I.faults input.old) (I.faults input.new) }
-    ensures later { I.faults input.old ≤ I.faults input.new }
+    ensures read { IsErrOf result InputFailed → Rises (I.state input.old).faults (I.state input.new).faults }
+    ensures later { (I.state input.old).faults ≤ (I.state input.new).faults }
     ensures only { IfErr result IsInputFault }
 {
     while bytes.len() < wanted {
@@ -125,11 +125,11 @@ fn hear<I: Source>(
     start: u64,
 ) -> Result<Option<(Frame, u64)>, ServeFault>
     requires { 0 < length room.old }
-    ensures heard { (rest : Text) → I.left input.old ≡ Some rest
-        → Hears frame_of letter start rest result (I.left input.new) }
+    ensures heard { (rest : Text) → (I.state input.old).left ≡ Some rest
+        → Hears frame_of letter start rest result (I.state input.new).left }
     ensures room { length room.new ≡ length room.old }
-    ensures read { IsErrOf result InputFailed → Rises (I.faults input.old) (I.faults input.new) }
-    ensures later { I.faults input.old ≤ I.faults input.new }
+    ensures read { IsErrOf result InputFailed → Rises (I.state input.old).faults (I.state input.new).faults }
+    ensures later { (I.state input.old).faults ≤ (I.state input.new).faults }
     ensures only { IfErr result IsNotOutput }
 {
     let mut bytes = Vec::new(alloc);
@@ -163,11 +163,11 @@ pub(crate) fn hear_setup<I: Source>(
     room: &mut [u8],
 ) -> Result<Option<(Roots, u64)>, ServeFault>
     requires { 0 < length room.old }
-    ensures heard { (rest : Text) → I.left input.old ≡ Some rest
-        → Hears (λ r. Setup (roots_of r)) 83 0 rest result (I.left input.new) }
+    ensures heard { (rest : Text) → (I.state input.old).left ≡ Some rest
+        → Hears (λ r. Setup (roots_of r)) 83 0 rest result (I.state input.new).left }
     ensures room { length room.new ≡ length room.old }
-    ensures read { IsErrOf result InputFailed → Rises (I.faults input.old) (I.faults input.new) }
-    ensures later { I.faults input.old ≤ I.faults input.new }
+    ensures read { IsErrOf result InputFailed → Rises (I.state input.old).faults (I.state input.new).faults }
+    ensures later { (I.state input.old).faults ≤ (I.state input.new).faults }
     ensures only { IfErr result IsNotOutput }
 {
     let Some((frame, size)) = hear(alloc, input, room, b'S', 0)? else {
@@ -188,11 +188,11 @@ pub(crate) fn hear_job<I: Source>(
     start: u64,
 ) -> Result<Option<(Job, u64)>, ServeFault>
     requires { 0 < length room.old }
-    ensures heard { (rest : Text) → I.left input.old ≡ Some rest
-        → Hears (λ j. Task (job_of j)) 74 start rest result (I.left input.new) }
+    ensures heard { (rest : Text) → (I.state input.old).left ≡ Some rest
+        → Hears (λ j. Task (job_of j)) 74 start rest result (I.state input.new).left }
     ensures room { length room.new ≡ length room.old }
-    ensures read { IsErrOf result InputFailed → Rises (I.faults input.old) (I.faults input.new) }
-    ensures later { I.faults input.old ≤ I.faults input.new }
+    ensures read { IsErrOf result InputFailed → Rises (I.state input.old).faults (I.state input.new).faults }
+    ensures later { (I.state input.old).faults ≤ (I.state input.new).faults }
     ensures only { IfErr result IsNotOutput }
 {
     let Some((frame, size)) = hear(alloc, input, room, b'J', start)? else {
@@ -212,11 +212,11 @@ pub(crate) fn is_over<I: Source>(
     room: &mut [u8],
 ) -> Result<bool, ServeFault>
     requires { 0 < length room.old }
-    ensures over { (rest : Text) → I.left input.old ≡ Some rest
+    ensures over { (rest : Text) → (I.state input.old).left ≡ Some rest
         → IfOk result (λ b. MatchBool b (rest ≡ []) (0 < length rest)) }
     ensures room { length room.new ≡ length room.old }
-    ensures read { IsErrOf result InputFailed → Rises (I.faults input.old) (I.faults input.new) }
-    ensures later { I.faults input.old ≤ I.faults input.new }
+    ensures read { IsErrOf result InputFailed → Rises (I.state input.old).faults (I.state input.new).faults }
+    ensures later { (I.state input.old).faults ≤ (I.state input.new).faults }
     ensures only { IfErr result IsInputFault }
 {
     let mut bytes = Vec::new(alloc);

@@ -34,14 +34,14 @@ fn answer_next<O: Sink, F: Files>(
     requires room { length room.old ≡ 32773 }
     ensures told { IfSome (F.files files.old)
         (λ f. ToldItem kind (item_of item.now) (f (string_bytes item.now.path))
-        ((is_open ≡ false) ⊎ Rises (F.faults files.old) (F.faults files.new)) result (O.written out.old)
-        (O.written out.new)) }
+        ((is_open ≡ false) ⊎ Rises (F.faults files.old) (F.faults files.new)) result (O.state out.old).written
+        (O.state out.new).written) }
     ensures room { length room.new ≡ length room.old }
     ensures files { F.files files.new ≡ F.files files.old }
     ensures place { F.place files.new ≡ F.place files.old }
     ensures failed { F.faults files.old ≤ F.faults files.new }
-    ensures sink { IsErrOf result OutputFailed → Rises (O.faults out.old) (O.faults out.new) }
-    ensures later { O.faults out.old ≤ O.faults out.new }
+    ensures sink { IsErrOf result OutputFailed → Rises (O.state out.old).faults (O.state out.new).faults }
+    ensures later { (O.state out.old).faults ≤ (O.state out.new).faults }
     ensures only { IfErr result IsOutputFault }
 {
     if is_open {
@@ -66,7 +66,7 @@ fn answer_of_root<O: Sink, F: Files, G: Files>(
     ensures told { (ft fr : Content) → F.files tree.old ≡ Some ft → G.files repo.old ≡ Some fr
         → ToldItem kind (item_of item.now) (value_of ft fr (item_of item.now))
         (FailedRoot opened (F.faults tree.old) (G.faults repo.old) (F.faults tree.new)
-        (G.faults repo.new) item.now.root) result (O.written out.old) (O.written out.new) }
+        (G.faults repo.new) item.now.root) result (O.state out.old).written (O.state out.new).written }
     ensures room { length room.new ≡ length room.old }
     ensures tree { F.files tree.new ≡ F.files tree.old }
     ensures repo { G.files repo.new ≡ G.files repo.old }
@@ -74,8 +74,8 @@ fn answer_of_root<O: Sink, F: Files, G: Files>(
     ensures repo_place { G.place repo.new ≡ G.place repo.old }
     ensures tree_failed { F.faults tree.old ≤ F.faults tree.new }
     ensures repo_failed { G.faults repo.old ≤ G.faults repo.new }
-    ensures sink { IsErrOf result OutputFailed → Rises (O.faults out.old) (O.faults out.new) }
-    ensures later { O.faults out.old ≤ O.faults out.new }
+    ensures sink { IsErrOf result OutputFailed → Rises (O.state out.old).faults (O.state out.new).faults }
+    ensures later { (O.state out.old).faults ≤ (O.state out.new).faults }
     ensures only { IfErr result IsOutputFault }
 {
     match item.root {
@@ -98,7 +98,7 @@ pub(crate) fn answer_job<O: Sink, F: Files, G: Files>(
     ensures told { (ft fr : Content) → F.files tree.old ≡ Some ft → G.files repo.old ≡ Some fr
         → ToldJob (job_of job.now) ft fr
         (FailedRoot opened (F.faults tree.old) (G.faults repo.old) (F.faults tree.new) (G.faults repo.new)) result
-        (O.written out.old) (O.written out.new) }
+        (O.state out.old).written (O.state out.new).written }
     ensures room { length room.new ≡ length room.old }
     ensures tree { F.files tree.new ≡ F.files tree.old }
     ensures repo { G.files repo.new ≡ G.files repo.old }
@@ -106,8 +106,8 @@ pub(crate) fn answer_job<O: Sink, F: Files, G: Files>(
     ensures repo_place { G.place repo.new ≡ G.place repo.old }
     ensures tree_failed { F.faults tree.old ≤ F.faults tree.new }
     ensures repo_failed { G.faults repo.old ≤ G.faults repo.new }
-    ensures sink { IsErrOf result OutputFailed → Rises (O.faults out.old) (O.faults out.new) }
-    ensures later { O.faults out.old ≤ O.faults out.new }
+    ensures sink { IsErrOf result OutputFailed → Rises (O.state out.old).faults (O.state out.new).faults }
+    ensures later { (O.state out.old).faults ≤ (O.state out.new).faults }
     ensures only { IfErr result IsOutputFault }
 {
     for item in &job.items {

@@ -67,9 +67,10 @@ fn serve_next<I: Source, O: Sink, F: Files, G: Files>(
 ) -> Result<Option<u64>, ServeFault>
     requires room { length room.old ≡ 32773 }
     ensures told { (ft fr : Content) (rest : Text) → F.files tree.old ≡ Some ft → G.files repo.old ≡ Some fr
-        → I.left input.old ≡ Some rest
+        → (I.state input.old).left ≡ Some rest
         → ServedNext ft fr (FailedRoot opened (F.faults tree.old) (G.faults repo.old) (F.faults tree.new)
-        (G.faults repo.new)) start rest result (I.left input.new) (O.written out.old) (O.written out.new) }
+        (G.faults repo.new)) start rest result (I.state input.new).left (O.state out.old).written
+        (O.state out.new).written }
     ensures room { length room.new ≡ length room.old }
     ensures tree { F.files tree.new ≡ F.files tree.old }
     ensures repo { G.files repo.new ≡ G.files repo.old }
@@ -77,10 +78,10 @@ fn serve_next<I: Source, O: Sink, F: Files, G: Files>(
     ensures repo_place { G.place repo.new ≡ G.place repo.old }
     ensures tree_later { F.faults tree.old ≤ F.faults tree.new }
     ensures repo_later { G.faults repo.old ≤ G.faults repo.new }
-    ensures read { IsErrOf result InputFailed → Rises (I.faults input.old) (I.faults input.new) }
-    ensures in_later { I.faults input.old ≤ I.faults input.new }
-    ensures sink { IsErrOf result OutputFailed → Rises (O.faults out.old) (O.faults out.new) }
-    ensures out_later { O.faults out.old ≤ O.faults out.new }
+    ensures read { IsErrOf result InputFailed → Rises (I.state input.old).faults (I.state input.new).faults }
+    ensures in_later { (I.state input.old).faults ≤ (I.state input.new).faults }
+    ensures sink { IsErrOf result OutputFailed → Rises (O.state out.old).faults (O.state out.new).faults }
+    ensures out_later { (O.state out.old).faults ≤ (O.state out.new).faults }
 {
     let (job, size) = match hear_job(alloc, input, room, start) {
         Ok(Some(heard)) => heard,
@@ -112,10 +113,10 @@ fn end_of_jobs<I: Source>(
     requires room { 0 < length room.old }
     requires jobs { jobs + 1 ≡ frame_limit }
     requires fits { jobs + 1 < 2 ^ 64 }
-    ensures told { (start : ℕ) (rest : Text) → I.left input.old ≡ Some rest → JobsEnd jobs start rest result }
+    ensures told { (start : ℕ) (rest : Text) → (I.state input.old).left ≡ Some rest → JobsEnd jobs start rest result }
     ensures room { length room.new ≡ length room.old }
-    ensures read { IsErrOf result InputFailed → Rises (I.faults input.old) (I.faults input.new) }
-    ensures later { I.faults input.old ≤ I.faults input.new }
+    ensures read { IsErrOf result InputFailed → Rises (I.state input.old).faults (I.state input.new).faults }
+    ensures later { (I.state input.old).faults ≤ (I.state input.new).faults }
     ensures only { IfErr result IsNotOutput }
 {
     if is_over(alloc, input, room)? {
@@ -137,17 +138,18 @@ fn serve_jobs<I: Source, O: Sink, F: Files, G: Files>(
 ) -> Result<u64, ServeFault>
     requires room { length room.old ≡ 32773 }
     ensures served { (ft fr : Content) (rest : Text) → F.files tree.old ≡ Some ft → G.files repo.old ≡ Some fr
-        → I.left input.old ≡ Some rest
+        → (I.state input.old).left ≡ Some rest
         → ServedJobs ft fr (NotOpened opened) (counts (F.faults tree.old) (G.faults repo.old))
-        (counts (F.faults tree.new) (G.faults repo.new)) start rest result (O.written out.old) (O.written out.new) }
+        (counts (F.faults tree.new) (G.faults repo.new)) start rest result (O.state out.old).written
+        (O.state out.new).written }
     ensures tree { F.files tree.new ≡ F.files tree.old }
     ensures repo { G.files repo.new ≡ G.files repo.old }
     ensures tree_place { F.place tree.new ≡ F.place tree.old }
     ensures repo_place { G.place repo.new ≡ G.place repo.old }
     ensures tree_later { F.faults tree.old ≤ F.faults tree.new }
     ensures repo_later { G.faults repo.old ≤ G.faults repo.new }
-    ensures read { IsErrOf result InputFailed → Rises (I.faults input.old) (I.faults input.new) }
-    ensures sink { IsErrOf result OutputFailed → Rises (O.faults out.old) (O.faults out.new) }
+    ensures read { IsErrOf result InputFailed → Rises (I.state input.old).faults (I.state input.new).faults }
+    ensures sink { IsErrOf result OutputFailed → Rises (O.state out.old).faults (O.state out.new).faults }
 {
     let limit = job_limit();
     let mut place = start;
@@ -180,12 +182,12 @@ pub fn serve<I: Source, O: Sink, F: Files, G: Files>(
 ) -> Result<u64, ServeFault>
     // Each job was answered by its reply, and the bytes of the input are why it ended.
     ensures served { (ft fr : Content) (bytes : Text) → F.files tree.old ≡ Some ft → G.files repo.old ≡ Some fr
-        → I.left input.old ≡ Some bytes
+        → (I.state input.old).left ≡ Some bytes
         → Served ft fr bytes (counts (F.faults tree.old) (G.faults repo.old))
         (counts (F.faults tree.new) (G.faults repo.new)) (F.place tree.new) (G.place repo.new) result
-        (O.written out.old) (O.written out.new) }
-    ensures read { IsErrOf result InputFailed → Rises (I.faults input.old) (I.faults input.new) }
-    ensures sink { IsErrOf result OutputFailed → Rises (O.faults out.old) (O.faults out.new) }
+        (O.state out.old).written (O.state out.new).written }
+    ensures read { IsErrOf result InputFailed → Rises (I.state input.old).faults (I.state input.new).faults }
+    ensures sink { IsErrOf result OutputFailed → Rises (O.state out.old).faults (O.state out.new).faults }
     ensures tree { F.files tree.new ≡ F.files tree.old }
     ensures repo { G.files repo.new ≡ G.files repo.old }
 {

@@ -20,9 +20,9 @@ pub(crate) const HEAD_SIZE: usize = 5;
 
 // Writes all of the bytes, or a first part of them where the sink stops.
 fn write_all<O: Sink>(out: &mut O, bytes: &[u8]) -> Result<(), ServeFault>
-    ensures adds { Adds result bytes.now (O.written out.old) (O.written out.new) }
-    ensures sink { IsErrOf result OutputFailed → Rises (O.faults out.old) (O.faults out.new) }
-    ensures later { O.faults out.old ≤ O.faults out.new }
+    ensures adds { Adds result bytes.now (O.state out.old).written (O.state out.new).written }
+    ensures sink { IsErrOf result OutputFailed → Rises (O.state out.old).faults (O.state out.new).faults }
+    ensures later { (O.state out.old).faults ≤ (O.state out.new).faults }
     ensures only { IfErr result IsOutputFault }
 {
     let mut at = 0usize;
@@ -43,9 +43,9 @@ fn write_all<O: Sink>(out: &mut O, bytes: &[u8]) -> Result<(), ServeFault>
 /// Writes a frame that keeps the rules.
 pub(crate) fn tell<O: Sink>(alloc: Global, out: &mut O, frame: &Frame) -> Result<(), ServeFault>
     requires { FitsFrame (frame_of frame.now) }
-    ensures writes { Writes result (frame_of frame.now ∷ []) (O.written out.old) (O.written out.new) }
-    ensures sink { IsErrOf result OutputFailed → Rises (O.faults out.old) (O.faults out.new) }
-    ensures later { O.faults out.old ≤ O.faults out.new }
+    ensures writes { Writes result (frame_of frame.now ∷ []) (O.state out.old).written (O.state out.new).written }
+    ensures sink { IsErrOf result OutputFailed → Rises (O.state out.old).faults (O.state out.new).faults }
+    ensures later { (O.state out.old).faults ≤ (O.state out.new).faults }
     ensures only { IfErr result IsOutputFault }
 {
     let bytes = encode_frame(alloc, frame)?;
@@ -60,10 +60,11 @@ pub(crate) fn tell_part<O: Sink>(
 ) -> Result<(), ServeFault>
     requires room { length room.old ≡ 32773 }
     requires count { count ≤ 32768 }
-    ensures writes { Writes result (Part (take count (drop 5 room.old)) ∷ []) (O.written out.old) (O.written out.new) }
+    ensures writes { Writes result (Part (take count (drop 5 room.old)) ∷ []) (O.state out.old).written
+        (O.state out.new).written }
     ensures room { length room.new ≡ length room.old }
-    ensures sink { IsErrOf result OutputFailed → Rises (O.faults out.old) (O.faults out.new) }
-    ensures later { O.faults out.old ≤ O.faults out.new }
+    ensures sink { IsErrOf result OutputFailed → Rises (O.state out.old).faults (O.state out.new).faults }
+    ensures later { (O.state out.old).faults ≤ (O.state out.new).faults }
     ensures only { IfErr result IsOutputFault }
 {
     let length = (count as u32).to_be_bytes();

@@ -62,7 +62,7 @@ fn is_job(alloc: Global, frame: &[u8]) -> Result<bool, NoMemory>
 
 /// A setup and a frame behind it, to be read.
 fn open_talk(alloc: Global, frame: &[u8]) -> Result<MemSource, NoMemory>
-    ensures { IfOk result (λ s. IsTalk frame.now (⟦<MemSource as Source>⟧.left s)) }
+    ensures { IfOk result (λ s. IsTalk frame.now (⟦<MemSource as Source>⟧.state s).left) }
 {
     let roots = Roots {
         tree: String::new(alloc),

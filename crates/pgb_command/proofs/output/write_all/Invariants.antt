@@ -4,8 +4,8 @@ use Rattle.pgb_command.proofs.output.write_all.Given as goal
 abbrev pub invariant-loop-at : goal.invariant-loop-at
 invariant-loop-at g l = let O = g.O.Sink in record {
   within : l.at ≤ length l.bytes;
-  written : O.written l.out ≡ option_map (λ (text : List ℕ). text ++ take l.at l.bytes) (O.written l.fn.out);
-  later : O.faults l.fn.out ≤ O.faults l.out;
+  written : (O.state l.out).written ≡ option_map (λ (text : List ℕ). text ++ take l.at l.bytes) (O.state l.fn.out).written;
+  later : (O.state l.fn.out).faults ≤ (O.state l.out).faults;
 }
 
 abbrev pub decreases-loop-at : goal.decreases-loop-at

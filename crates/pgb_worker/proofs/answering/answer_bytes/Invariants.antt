@@ -17,9 +17,9 @@ invariant-loop-count g l = let F = g.F.Files in let O = g.O.Sink in record {
   files : F.files l.files ≡ F.files l.fn.files;
   place : F.place l.files ≡ F.place l.fn.files;
   failed : F.faults l.fn.files ≤ F.faults l.files;
-  later : O.faults l.fn.out ≤ O.faults l.out;
+  later : (O.state l.fn.out).faults ≤ (O.state l.out).faults;
   so_far : IfSome (F.files l.fn.files) (λ f. (bytes : Text) → f (string_bytes l.item.path) ≡ Some bytes → take l.first (drop 5 l.fn.room) ≡ take part_size (payload (item_of l.item) bytes)
-      → IsTold l.kind (item_of l.item) bytes l.told l.count l.room (O.written l.fn.out) (O.written l.out) × Holds l.digest (take l.told (payload (item_of l.item) bytes)));
+      → IsTold l.kind (item_of l.item) bytes l.told l.count l.room (O.state l.fn.out).written (O.state l.out).written × Holds l.digest (take l.told (payload (item_of l.item) bytes)));
 }
 
 abbrev pub decreases-loop-count : goal.decreases-loop-count

@@ -10,9 +10,9 @@ invariant-stages g l = let I = g.I.Source in record {
   more : vec_len l.bytes < l.wanted;
   least : 5 ≤ l.wanted;
   most : l.wanted < 2 ^ 33;
-  later : I.faults l.fn.input ≤ I.faults l.input;
-  given : Gives (I.left l.fn.input) l.bytes.items (I.left l.input);
-  within : (rest : Text) → I.left l.fn.input ≡ Some rest → l.wanted ≤ size_told rest;
+  later : (I.state l.fn.input).faults ≤ (I.state l.input).faults;
+  given : Gives (I.state l.fn.input).left l.bytes.items (I.state l.input).left;
+  within : (rest : Text) → (I.state l.fn.input).left ≡ Some rest → l.wanted ≤ size_told rest;
 }
 
 abbrev pub decreases-stages : goal.decreases-stages

@@ -7,8 +7,8 @@ abbrev pub invariant-loop-bytes : goal.invariant-loop-bytes
 invariant-loop-bytes g l = let I = g.I.Source in record {
   long : length l.room ≡ length l.fn.room;
   within : vec_len l.bytes ≤ l.wanted;
-  later : I.faults l.fn.input ≤ I.faults l.input;
-  given : (total : Option Text) → Gives total l.fn.bytes.items (I.left l.fn.input) → Gives total l.bytes.items (I.left l.input);
+  later : (I.state l.fn.input).faults ≤ (I.state l.input).faults;
+  given : (total : Option Text) → Gives total l.fn.bytes.items (I.state l.fn.input).left → Gives total l.bytes.items (I.state l.input).left;
 }
 
 abbrev pub decreases-loop-bytes : goal.decreases-loop-bytes

@@ -13,6 +13,6 @@ invariant-loop-item g l = let F = g.F.Files in let G = g.G.Files in let O = g.O.
   repo_place : G.place l.repo ≡ G.place l.fn.repo;
   tree_failed : F.faults l.fn.tree ≤ F.faults l.tree;
   repo_failed : G.faults l.fn.repo ≤ G.faults l.repo;
-  later : O.faults l.fn.out ≤ O.faults l.out;
-  so_far : (ft fr : Content) → F.files l.fn.tree ≡ Some ft → G.files l.fn.repo ≡ Some fr → AreAnswered l.job.kind ft fr (items_of (take l.item-index l.job.items.items)) (O.written l.fn.out) (O.written l.out);
+  later : (O.state l.fn.out).faults ≤ (O.state l.out).faults;
+  so_far : (ft fr : Content) → F.files l.fn.tree ≡ Some ft → G.files l.fn.repo ≡ Some fr → AreAnswered l.job.kind ft fr (items_of (take l.item-index l.job.items.items)) (O.state l.fn.out).written (O.state l.out).written;
 }

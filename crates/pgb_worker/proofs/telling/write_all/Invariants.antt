@@ -5,8 +5,8 @@ use Rattle.pgb_worker.proofs.telling.write_all.Given as goal
 abbrev pub invariant-loop-at : goal.invariant-loop-at
 invariant-loop-at g l = let O = g.O.Sink in record {
   within : l.at ≤ length l.bytes;
-  written : IsWritten (O.written l.fn.out) (take l.at l.bytes) (O.written l.out);
-  later : O.faults l.fn.out ≤ O.faults l.out;
+  written : IsWritten (O.state l.fn.out).written (take l.at l.bytes) (O.state l.out).written;
+  later : (O.state l.fn.out).faults ≤ (O.state l.out).faults;
 }
 
 abbrev pub decreases-loop-at : goal.decreases-loop-at
