@@ -33,7 +33,6 @@ module _ (d : Draft) (links left : List LinkState) (before after : List Lost) (t
   store_fails faults.WorkersLost old new h = h
   store_fails (faults.Unread job item) old new h = h
   store_fails (faults.ControlMissing path) old new h = absurd h
-  store_fails (faults.TooLate now) old new h = absurd h
   store_fails (faults.ManifestTooLong n) old new h = absurd h
   store_fails (faults.ListTooLong n) old new h = absurd h
   store_fails faults.Clock old new h = absurd h
@@ -45,7 +44,6 @@ module _ (d : Draft) (links left : List LinkState) (before after : List Lost) (t
     prepare_fails faults.WorkersLost old new h = absurd h
     prepare_fails (faults.Unread job item) old new h = absurd h
     prepare_fails (faults.ControlMissing path) old new h = (ends, done, h)
-    prepare_fails (faults.TooLate now) old new h = h
     prepare_fails (faults.ManifestTooLong n) old new h = absurd h
     prepare_fails (faults.ListTooLong n) old new h = (ends, done, h)
     prepare_fails faults.Clock old new h = h

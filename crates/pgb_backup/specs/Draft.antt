@@ -6,7 +6,7 @@ use Rattle.pgb_worker_frame.specs.Frames.{Job}
 use Rattle.pgb_worker_frame.specs.Views.{job_of}
 use Rattle.pgb_model.specs.declared.labels.Label.{Label}
 use Rattle.pgb_model.specs.Text.{Text, In}
-use Rattle.pgb_model.specs.Dates.{last_second}
+use Rattle.pgb_outside.specs.States.{last_second}
 use Rattle.pgb_model.specs.Names.{label_folder, manifest_name, backup_info}
 use Rattle.pgb_model.specs.InfoFiles.{IsBackupInfo}
 use Rattle.pgb_model.specs.ManifestText.{IsFileEntry}

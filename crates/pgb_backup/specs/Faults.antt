@@ -5,7 +5,6 @@ use Rattle.pgb_outside.specs.Cause.{Rises}
 use Rattle.pgb_outside.specs.declared.stop.Stop.{Stop}
 use Rattle.pgb_outside.specs.declared.stop.Stop.TheVariants as stops
 use Rattle.pgb_worker_frame.specs.Frames.{Job}
-use Rattle.pgb_model.specs.Dates.{last_second}
 use Rattle.pgb_model.specs.InfoText.{info_text}
 use Rattle.pgb_model.specs.InfoFiles.{backup_sections, info_limit}
 use Rattle.pgb_model.specs.ManifestText.{manifest_limit}
@@ -53,7 +52,6 @@ abbrev pub StoreFails : MakeFault → List Job → List LinkState → List LinkS
 StoreFails faults.WorkersLost jobs links left before after old new = AllLost jobs (begun links before) after
 StoreFails (faults.Unread job item) jobs links left before after old new = UnreadLeaves jobs (begun links before) job item (map Some left)
 StoreFails (faults.ControlMissing path) jobs links left before after old new = ⊥
-StoreFails (faults.TooLate now) jobs links left before after old new = ⊥
 StoreFails (faults.ManifestTooLong n) jobs links left before after old new = ⊥
 StoreFails (faults.ListTooLong n) jobs links left before after old new = ⊥
 StoreFails faults.Clock jobs links left before after old new = ⊥
@@ -81,7 +79,6 @@ abbrev pub StopFails : MakeFault → ℕ → ℕ → Type 0
 StopFails faults.WorkersLost old new = ⊥
 StopFails (faults.Unread job item) old new = ⊥
 StopFails (faults.ControlMissing path) old new = ⊥
-StopFails (faults.TooLate now) old new = last_second < now
 StopFails (faults.ManifestTooLong n) old new = ⊥
 StopFails (faults.ListTooLong n) old new = ⊥
 StopFails faults.Clock old new = Rises old new
@@ -93,7 +90,6 @@ abbrev pub ListFails : MakeFault → ℕ → Type 0
 ListFails faults.WorkersLost count = ⊥
 ListFails (faults.Unread job item) count = ⊥
 ListFails (faults.ControlMissing path) count = ⊥
-ListFails (faults.TooLate now) count = ⊥
 ListFails (faults.ManifestTooLong n) count = ⊥
 ListFails (faults.ListTooLong n) count = (n ≡ count) × (info_limit < n)
 ListFails faults.Clock count = ⊥
@@ -105,7 +101,6 @@ abbrev pub PrepareFails : MakeFault → Draft → List (List Ended) → ℕ → 
 PrepareFails faults.WorkersLost d ends old new = ⊥
 PrepareFails (faults.Unread job item) d ends old new = ⊥
 PrepareFails (faults.ControlMissing path) d ends old new = IsMissing path.now (files_with d ends)
-PrepareFails (faults.TooLate now) d ends old new = last_second < now
 PrepareFails (faults.ManifestTooLong n) d ends old new = ⊥
 PrepareFails (faults.ListTooLong n) d ends old new = IsListTooLong d ends n
 PrepareFails faults.Clock d ends old new = Rises old new
@@ -127,7 +122,6 @@ abbrev pub MakeFails : MakeFault → Draft → List LinkState → List LinkState
 MakeFails faults.WorkersLost d links left before after old new told tells = AllLost (jobs_in d) (begun links before) after
 MakeFails (faults.Unread job item) d links left before after old new told tells = UnreadLeaves (jobs_in d) (begun links before) job item (map Some left)
 MakeFails (faults.ControlMissing path) d links left before after old new told tells = WhereDone d links (λ ends. IsMissing path.now (files_with d ends))
-MakeFails (faults.TooLate now) d links left before after old new told tells = last_second < now
 MakeFails (faults.ManifestTooLong n) d links left before after old new told tells = WhereDone d links (λ ends. IsManifestTooLong d ends n)
 MakeFails (faults.ListTooLong n) d links left before after old new told tells = WhereDone d links (λ ends. IsListTooLong d ends n)
 MakeFails faults.Clock d links left before after old new told tells = Rises told tells

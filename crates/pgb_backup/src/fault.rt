@@ -14,8 +14,6 @@ pub enum MakeFault {
     Unread { job: u32, item: u32 },
     /// A file without which there is no backup vanished.
     ControlMissing { path: &'static str },
-    /// The clock tells a second past the year 9999.
-    TooLate { now: u64 },
     /// The manifest would have so many bytes, which are too many.
     ManifestTooLong { length: u64 },
     /// So would the stanza's list.

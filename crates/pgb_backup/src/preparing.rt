@@ -1,6 +1,6 @@
 // What is saved of a backup once its jobs are done.
 ghost use Rattle.std.specs.Prelude.{◌≡◌, ◌≤◌, length, map, string_bytes, IfOk, IfErr};
-ghost use Rattle.pgb_model.specs.Dates.{last_second};
+ghost use Rattle.pgb_outside.specs.States.{last_second};
 ghost use Rattle.pgb_model.specs.InfoText.{info_text};
 ghost use Rattle.pgb_model.specs.InfoFiles.{backup_sections, info_limit, IsBackupInfo};
 ghost use Rattle.pgb_model.specs.ManifestText.{IsManifest};
@@ -23,9 +23,6 @@ use pgb_record::{Head, Record, RecordFault, places_of, record_of, went};
 use pgb_stanza::backup_info_name;
 use std::alloc::Global;
 
-/// The last second of the year 9999.
-const LAST_SECOND: u64 = 253_402_300_799;
-
 /// The texts of a stanza's list have at most 64 MiB.
 const LIST_LIMIT: u64 = 67_108_864;
 
@@ -45,7 +42,6 @@ fn stop_of<C: Clock>(clock: &mut C) -> Result<u64, MakeFault>
     match clock.now() {
         Err(Stop::Failed) => Err(MakeFault::Clock),
         Err(Stop::NoMemory) => Err(MakeFault::NoMemory),
-        Ok(now) if now > LAST_SECOND => Err(MakeFault::TooLate { now }),
         Ok(now) => Ok(now),
     }
 }

@@ -16,7 +16,8 @@ use Rattle.pgb_model.specs.declared.labels.Later.{Later}
 use Rattle.pgb_model.specs.declared.labels.Label.{Label}
 use Rattle.pgb_model.specs.declared.wal.Segment.{Segment}
 use Rattle.pgb_model.specs.Text.{hex_digit, hex_upper}
-use Rattle.pgb_model.specs.Dates.{Date, two, date_digits, clock_digits, date_after, stamp, last_second}
+use Rattle.pgb_outside.specs.States.{last_second}
+use Rattle.pgb_model.specs.Dates.{Date, two, date_digits, clock_digits, date_after, stamp}
 use Rattle.pgb_model.specs.Names.{letter, later_text, label_text, segment_text}
 use Rattle.pgb_model.specs.InfoText.{is_key_byte, begins_well, is_key}
 use Rattle.pgb_model.specs.InfoFiles.{IsLabel}

@@ -4,7 +4,7 @@ use Rattle.std.specs.List.{AllByRecursion}
 use Rattle.pgb_outside.specs.Order.{are_in_order}
 use Rattle.pgb_model.specs.declared.wal.Segment.{Segment}
 use Rattle.pgb_model.specs.declared.wal.Span.{Span}
-use Rattle.pgb_model.specs.Dates.{last_second}
+use Rattle.pgb_outside.specs.States.{last_second}
 use Rattle.pgb_model.specs.Names.{label_text}
 use Rattle.pgb_model.specs.InfoFiles.{IsLabel, IsSegment, label_kind}
 use Rattle.pgb_model.specs.Values.{Entry}

@@ -7,7 +7,7 @@ ghost use Rattle.pgb_outside.specs.Order.{are_in_order};
 ghost use Rattle.pgb_model.specs.declared.labels.Label.{Label};
 ghost use Rattle.pgb_model.specs.declared.wal.Segment.{Segment};
 ghost use Rattle.pgb_model.specs.declared.wal.Span.{Span};
-ghost use Rattle.pgb_model.specs.Dates.{last_second};
+ghost use Rattle.pgb_outside.specs.States.{last_second};
 ghost use Rattle.pgb_model.specs.Fields.{whole, list_of, or_null};
 ghost use Rattle.pgb_model.specs.Names.{label_text};
 ghost use Rattle.pgb_model.specs.InfoFiles.{IsLabel, IsSegment, label_value, segment_value};

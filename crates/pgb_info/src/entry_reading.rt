@@ -5,7 +5,7 @@ ghost use Rattle.std.specs.Option.{option_map_or};
 ghost use Rattle.serde_json.specs.View.{view};
 ghost use Rattle.pgb_outside.specs.Order.{are_in_order};
 ghost use Rattle.pgb_model.specs.Json.{IsValue};
-ghost use Rattle.pgb_model.specs.Dates.{last_second};
+ghost use Rattle.pgb_outside.specs.States.{last_second};
 ghost use Rattle.pgb_model.specs.Names.{label_text};
 ghost use Rattle.pgb_model.specs.InfoFiles.{IsLabel, label_kind, entry_field};
 ghost use Rattle.pgb_model.specs.Values.{entry_of, Entry as SpecEntry};

@@ -7,7 +7,7 @@ use Rattle.pgb_model.specs.declared.labels.Kind.TheVariants.{Full, Diff, Incr}
 use Rattle.pgb_model.specs.declared.labels.Label.{Label}
 use Rattle.pgb_model.specs.declared.wal.WalPart.{WalPart}
 use Rattle.pgb_model.specs.Text.{Text, In}
-use Rattle.pgb_model.specs.Dates.{last_second}
+use Rattle.pgb_outside.specs.States.{last_second}
 use Rattle.pgb_model.specs.Fields.{Field, whole}
 use Rattle.pgb_model.specs.InfoFiles.{IsLabel, IsSegment, label_value, label_kind, kind_text, segment_value}
 use Rattle.pgb_model.specs.ManifestText.{lsn_text, HasItsPrior, IsSegSize, backup_fields, IsManifest, IsWalPart}

@@ -14,7 +14,7 @@ use Rattle.pgb_model.specs.declared.labels.Kind.{Kind}
 use Rattle.pgb_model.specs.declared.labels.Kind.TheVariants.{Full, Diff, Incr}
 use Rattle.pgb_model.specs.declared.wal.WalPart.{WalPart}
 use Rattle.pgb_model.specs.declared.wal.Segment.{Segment}
-use Rattle.pgb_model.specs.Dates.{last_second}
+use Rattle.pgb_outside.specs.States.{last_second}
 use Rattle.pgb_model.specs.Names.{label_text, segment_text}
 use Rattle.pgb_model.specs.Text.{Text, hex_digit, hex_upper, without_zeros}
 use Rattle.pgb_model.specs.InfoText.{IsKey, IsSection, IsInfo, is_key}

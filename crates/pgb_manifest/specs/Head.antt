@@ -4,7 +4,7 @@ use Rattle.serde_json.specs.Data.{boolean}
 use Rattle.pgb_model.specs.declared.clusters.Cluster.{Cluster}
 use Rattle.pgb_model.specs.declared.labels.Choices.{Choices}
 use Rattle.pgb_model.specs.Text.{Text}
-use Rattle.pgb_model.specs.Dates.{last_second}
+use Rattle.pgb_outside.specs.States.{last_second}
 use Rattle.pgb_model.specs.Fields.{Field}
 use Rattle.pgb_model.specs.InfoFiles.{IsLabel, label_kind}
 use Rattle.pgb_model.specs.ManifestText.{backup_fields, HasItsPrior, IsWalPart}

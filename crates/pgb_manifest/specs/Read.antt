@@ -5,7 +5,7 @@ use Rattle.pgb_model.specs.declared.clusters.Cluster.{Cluster}
 use Rattle.pgb_model.specs.declared.wal.Span.{Span}
 use Rattle.pgb_model.specs.declared.wal.WalPart.{WalPart}
 use Rattle.pgb_model.specs.Text.{Text, In}
-use Rattle.pgb_model.specs.Dates.{last_second}
+use Rattle.pgb_outside.specs.States.{last_second}
 use Rattle.pgb_model.specs.Fields.{Field, whole}
 use Rattle.pgb_model.specs.InfoFiles.{IsLabel, IsSegment, label_kind, label_value, segment_value, version_value}
 use Rattle.pgb_model.specs.ManifestText.{lsn_text, segments_per_log, position, HasItsPrior, IsSegSize}

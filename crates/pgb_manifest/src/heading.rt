@@ -3,7 +3,7 @@ ghost use Rattle.std.specs.Prelude.{◌≡◌, ◌≤◌, List, map, codes, IfOk
 ghost use Rattle.pgb_model.specs.declared.clusters.Cluster.{Cluster};
 ghost use Rattle.pgb_model.specs.declared.labels.Choices.{Choices};
 ghost use Rattle.pgb_model.specs.Text.{Text};
-ghost use Rattle.pgb_model.specs.Dates.{last_second};
+ghost use Rattle.pgb_outside.specs.States.{last_second};
 ghost use Rattle.pgb_model.specs.Fields.{whole};
 ghost use Rattle.pgb_model.specs.InfoText.{IsInfo};
 ghost use Rattle.pgb_model.specs.InfoFiles.{IsLabel, label_value};

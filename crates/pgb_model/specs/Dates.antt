@@ -41,7 +41,3 @@ clock_digits s = two (s / 3600) ++ two (s % 3600 / 60) ++ two (s % 60)
 -- the digits of a second, counted from 1970 on
 unfoldable pub stamp : ℕ → Text
 stamp t = date_digits (date_after (t / 86400)) ++ 45 ∷ clock_digits (t % 86400)
-
--- the last second of the year 9999
-abbrev pub last_second : ℕ
-last_second = 253402300799

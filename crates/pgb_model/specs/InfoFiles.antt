@@ -13,7 +13,7 @@ use Rattle.pgb_model.specs.declared.clusters.Cluster.{Cluster}
 use Rattle.pgb_model.specs.declared.wal.Span.{Span}
 use Rattle.pgb_model.specs.declared.wal.Segment.{Segment}
 use Rattle.pgb_model.specs.Text.{Text}
-use Rattle.pgb_model.specs.Dates.{last_second}
+use Rattle.pgb_outside.specs.States.{last_second}
 use Rattle.pgb_model.specs.Names.{label_text, segment_text}
 use Rattle.pgb_model.specs.InfoText.{Section, info_text}
 use Rattle.pgb_model.specs.Values.{ArchiveInfo, BackupInfo, Entry}

@@ -12,7 +12,7 @@ use Rattle.pgb_model.specs.declared.wal.Segment.{Segment}
 use Rattle.pgb_model.specs.declared.wal.WalPart.{WalPart}
 use Rattle.pgb_model.specs.declared.files.Bundled.{Bundled}
 use Rattle.pgb_model.specs.Text.{Text, ◌⫽◌, In, hex_upper, without_zeros}
-use Rattle.pgb_model.specs.Dates.{last_second}
+use Rattle.pgb_outside.specs.States.{last_second}
 use Rattle.pgb_model.specs.InfoText.{Section, info_text}
 use Rattle.pgb_model.specs.Values.{FileEntry, Manifest}
 use Rattle.pgb_model.specs.Fields.{Field, whole, fields, section}

@@ -5,7 +5,7 @@ use Rattle.sha1.specs.Sha1.{sha1}
 use Rattle.pgb_text.specs.Sum.{IsSum}
 use Rattle.pgb_text.proofs.Digests.{IsSum-sha1}
 use Rattle.std.proofs.lemmas.List.Sums.{sum_by-cons}
-use Rattle.pgb_model.specs.Dates.{last_second}
+use Rattle.pgb_outside.specs.States.{last_second}
 use Rattle.pgb_model.specs.InfoFiles.{IsCluster, label_kind}
 use Rattle.pgb_model.specs.ManifestText.{IsManifest, IsWalPart, HasItsPrior}
 use Rattle.pgb_model.specs.Values.{Manifest}

@@ -6,7 +6,7 @@ use Rattle.pgb_text.specs.Sum.{IsSum}
 use Rattle.pgb_outside.specs.Order.{is_before}
 use Rattle.pgb_model.specs.declared.labels.Label.{Label}
 use Rattle.pgb_model.specs.Text.{Text, In}
-use Rattle.pgb_model.specs.Dates.{last_second}
+use Rattle.pgb_outside.specs.States.{last_second}
 use Rattle.pgb_model.specs.Names.{label_text}
 use Rattle.pgb_model.specs.InfoFiles.{IsLabel, label_kind}
 use Rattle.pgb_model.specs.ManifestText.{IsFileEntry, IsWalPart, HasItsPrior}

@@ -1,6 +1,6 @@
 -- Which backups can be shown.
 use Rattle.std.specs.Prelude.{◌≤◌}
-use Rattle.pgb_model.specs.Dates.{last_second}
+use Rattle.pgb_outside.specs.States.{last_second}
 use Rattle.pgb_model.specs.Values.{Entry}
 use Rattle.pgb_info.specs.Entries.{HasLabels}
 

@@ -4,7 +4,7 @@ ghost use Rattle.std.specs.List.{AllByRecursion, join_by};
 ghost use Rattle.pgb_model.specs.InfoFiles.{IsLabel, kind_text};
 ghost use Rattle.pgb_model.specs.Names.{label_text};
 ghost use Rattle.pgb_model.specs.Values.{entry_of};
-ghost use Rattle.pgb_model.specs.Dates.{last_second};
+ghost use Rattle.pgb_outside.specs.States.{last_second};
 ghost use Rattle.pgb_report.specs.Lines.{texts_of};
 ghost use Rattle.pgb_report.specs.ReportText.{name_line, times_line, wal_text, wal_line, sizes_line, reference_line, reference_lines, backup_lines};
 ghost use Rattle.pgb_report.specs.Shown.{HasTexts};

@@ -1,7 +1,8 @@
 // Seconds since 1970 as a reader sees them.
 ghost use Rattle.std.specs.Prelude.{◌≡◌, ◌<◌, ◌≤◌, ◌/◌, ◌%◌, ◌++◌, IfOk, OnOk, string_bytes, pos};
 ghost use Rattle.jiff_core.specs.Date.{epoch_day};
-ghost use Rattle.pgb_model.specs.Dates.{two, date_after, last_second};
+ghost use Rattle.pgb_outside.specs.States.{last_second};
+ghost use Rattle.pgb_model.specs.Dates.{two, date_after};
 ghost use Rattle.pgb_stamp.specs.Calendar.{parts_of};
 ghost use Rattle.pgb_report.specs.Moments.{shown_date, shown_clock, moment};
 

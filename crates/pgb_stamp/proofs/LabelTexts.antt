@@ -5,7 +5,8 @@ use Rattle.pgb_model.specs.declared.labels.Kind.{Kind}
 use Rattle.pgb_model.specs.declared.labels.Kind.TheVariants.{Full, Diff, Incr}
 use Rattle.pgb_model.specs.declared.labels.Later.{Later}
 use Rattle.pgb_model.specs.declared.labels.Label.{Label}
-use Rattle.pgb_model.specs.Dates.{stamp, last_second}
+use Rattle.pgb_outside.specs.States.{last_second}
+use Rattle.pgb_model.specs.Dates.{stamp}
 use Rattle.pgb_model.specs.Names.{letter, later_text, label_text}
 use Rattle.pgb_model.specs.InfoFiles.{IsLabel}
 use Rattle.pgb_stamp.proofs.StampTexts.{same_stamp}

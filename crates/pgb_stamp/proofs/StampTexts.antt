@@ -6,7 +6,8 @@ use Rattle.jiff_core.specs.Date.{epoch_day}
 use Rattle.jiff_core.proofs.SignedLemmas.{signed_arith}
 use Rattle.jiff_core.proofs.CalendarLemmas.{days_in_month_bounds}
 use Rattle.jiff_core.proofs.DateLemmas.{civil}
-use Rattle.pgb_model.specs.Dates.{Date, two, date_digits, clock_digits, date_after, stamp, last_second}
+use Rattle.pgb_outside.specs.States.{last_second}
+use Rattle.pgb_model.specs.Dates.{Date, two, date_digits, clock_digits, date_after, stamp}
 use Rattle.pgb_stamp.specs.Calendar.{parts_of}
 use Rattle.pgb_stamp.proofs.Dates.{IsDated, number, number_of_day, in_calendar, IsDated-date_after}
 

@@ -5,7 +5,8 @@ ghost use Rattle.pgb_model.specs.declared.labels.Kind.{Kind};
 ghost use Rattle.pgb_model.specs.declared.labels.Kind.TheVariants.{Full};
 ghost use Rattle.pgb_model.specs.declared.labels.Later.{Later};
 ghost use Rattle.pgb_model.specs.declared.labels.Label.{Label};
-ghost use Rattle.pgb_model.specs.Dates.{last_second, stamp};
+ghost use Rattle.pgb_outside.specs.States.{last_second};
+ghost use Rattle.pgb_model.specs.Dates.{stamp};
 ghost use Rattle.pgb_model.specs.InfoFiles.{IsLabel, label_kind};
 ghost use Rattle.pgb_model.specs.Names.{label_text, later_text, letter};
 

@@ -1,7 +1,8 @@
 // The digits of a second.
 ghost use Rattle.std.specs.Prelude.{◌≡◌, ◌<◌, ◌≤◌, ◌/◌, ◌++◌, OnOk, string_bytes, pos};
 ghost use Rattle.jiff_core.specs.Date.{epoch_day};
-ghost use Rattle.pgb_model.specs.Dates.{two, date_digits, clock_digits, date_after, stamp, last_second};
+ghost use Rattle.pgb_outside.specs.States.{last_second};
+ghost use Rattle.pgb_model.specs.Dates.{two, date_digits, clock_digits, date_after, stamp};
 ghost use Rattle.pgb_stamp.specs.Calendar.{parts_of};
 
 use jiff_core::civil::Date;

@@ -1,6 +1,6 @@
 use Rattle.std.proofs.Common.{◌≤◌, map}
 use Rattle.serde_json.specs.View.{view}
-use Rattle.pgb_model.specs.Dates.{last_second}
+use Rattle.pgb_outside.specs.States.{last_second}
 use Rattle.pgb_model.specs.Fields.{whole}
 use Rattle.pgb_ini.specs.Parts.{key_of}
 use Rattle.pgb_keys.proofs.Scalars.{same_number}
