@@ -11,7 +11,7 @@ pub returns-in-Ok-write_all-clause-told : goal.returns-in-Ok-write_all-clause-to
 returns-in-Ok-write_all-clause-told g c = (
   ending_of c.args.ended.now,
   c.status_at_end.ensures,
-  Whole (ending_of c.args.ended.now) refl (c.in-Ok-write_all.ensures.ok ∙ ap (λ (t : List ℕ). more t (g.O.Sink.written c.args.out.now)) (c.deref.ensures.value ∙ c.in-Ok.ensures)),
+  Whole (ending_of c.args.ended.now) refl (c.in-Ok-write_all.ensures.ok ∙ ap (λ (t : List ℕ). more t (g.O.Sink.state c.args.out.now).written) (c.deref.ensures.value ∙ c.in-Ok.ensures)),
 )
 
 pub returns-in-Err-Failed-clause-told : goal.returns-in-Err-Failed-clause-told

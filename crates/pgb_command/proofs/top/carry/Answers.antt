@@ -10,7 +10,7 @@ returns-in-Err-clause-obeys g c = unbuilt c.args.command.now c.in-Err.what (map 
 
 pub returns-clause-obeys : goal.returns-clause-obeys
 returns-clause-obeys g c = carries c.args.command.now (asked_of c.in-Ok.settings) (map string_bytes c.deref-2.result.now) _ _ _ c.obey-ended.result c.answer-2.result (ap (map string_bytes) c.deref-2.ensures.value)
-    (ap (λ o. sink (g.O.Sink.written o.out) (g.O.Sink.faults o.out)) c.obey-ended.ensures.rest) c.answer-2.ensures.later c.in-Ok.ensures.asked c.obey-ended.ensures.words c.obey-ended.ensures.did c.obey-ended.ensures.brackets c.answer-2.ensures.told
+    (ap (λ o. sink (g.O.Sink.state o.out).written (g.O.Sink.state o.out).faults) c.obey-ended.ensures.rest) c.answer-2.ensures.later c.in-Ok.ensures.asked c.obey-ended.ensures.words c.obey-ended.ensures.did c.obey-ended.ensures.brackets c.answer-2.ensures.told
 
 pub returns-clause-quiet : goal.returns-clause-quiet
 returns-clause-quiet g c = λ s is none. c.obey-ended.ensures.quiet (no_server c.in-Ok.settings.server ((c.in-Ok.ensures.asked s is).server ∙ none))

@@ -69,16 +69,16 @@ pub returns-clause-closed : goal.returns-clause-closed
 returns-clause-closed g c = closes_talk _ _ c.carry.result (map string_bytes c.args.words.now) (returns-clause-answers g c)
 
 pub returns-clause-quiet : goal.returns-clause-quiet
-returns-clause-quiet g c = λ none. no_server_asked (map string_bytes c.args.words.now) (g.I.Source.files c.args.outside.now.config) c.in-Ok.command c.in-Ok.ensures.command _ c.carry.ensures.quiet
+returns-clause-quiet g c = λ none. no_server_asked (map string_bytes c.args.words.now) (g.I.Source.state c.args.outside.now.config).files c.in-Ok.command c.in-Ok.ensures.command _ c.carry.ensures.quiet
     (λ s is. err_as (requested s) _ _ (λ e. ap (λ o. o.server) e) (c.carry.ensures.unbuilt s is)) none
 
 pub returns-clause-unused : goal.returns-clause-unused
-returns-clause-unused g c = λ a asks form is. report_asked (map string_bytes c.args.words.now) (g.I.Source.files c.args.outside.now.config) c.in-Ok.command c.in-Ok.ensures.command _ c.carry.ensures.unused a asks form is
+returns-clause-unused g c = λ a asks form is. report_asked (map string_bytes c.args.words.now) (g.I.Source.state c.args.outside.now.config).files c.in-Ok.command c.in-Ok.ensures.command _ c.carry.ensures.unused a asks form is
 
 pub returns-clause-unasked : goal.returns-clause-unasked
 returns-clause-unasked g c = λ none.
     let o = c.args.outside.now in
-    let e = only_unbuilt (map string_bytes c.args.words.now) (g.I.Source.files o.config) c.in-Ok.command c.in-Ok.ensures.command _ c.carry.ensures.unbuilt none in
+    let e = only_unbuilt (map string_bytes c.args.words.now) (g.I.Source.state o.config).files c.in-Ok.command c.in-Ok.ensures.command _ c.carry.ensures.unbuilt none in
     subst (λ i. c.carry.new.outside ≡ record { repo = o.repo; spool = o.spool; tree = o.tree; server = o.server; aside = o.aside; clock = o.clock; locks = o.locks; config = i; out = c.carry.new.outside.out }) (ap (λ x. x.config) (sym e)) e
 
 pub returns-in-Err-clause-others : goal.returns-in-Err-clause-others

@@ -23,22 +23,22 @@ returns-in_err-check_server-clause-refused g c =
 pub returns-in_err-check_server-clause-closed : goal.returns-in_err-check_server-clause-closed
 returns-in_err-check_server-clause-closed g c =
     exit_err c.from_residual.result c.in_err-check_server.field-0.0 c.from_residual.ensures.1
-    (Closes (Rises (g.V.Wire.faults c.args.wire.now) (g.V.Wire.faults c.check_server.new.wire))
-    (g.V.Wire.sent c.check_server.new.wire)) c.in_err-check_server.ensures.closed
+    (Closes (Rises (g.V.Wire.state c.args.wire.now).faults (g.V.Wire.state c.check_server.new.wire).faults)
+    (g.V.Wire.state c.check_server.new.wire).sent) c.in_err-check_server.ensures.closed
 
 pub returns-in_err-check_server-clause-cause : goal.returns-in_err-check_server-clause-cause
 returns-in_err-check_server-clause-cause g c =
     exit_cause c.from_residual.result c.in_err-check_server.field-0.0 c.from_residual.ensures.1
     c.args.stanza.now c.args.told.now (option_map server_view c.args.server)
-    (g.D.Disk.state c.args.repo.now).view.now (g.V.Wire.pending c.args.wire.now) _ _ c.in_err-check_server.ensures.cause
+    (g.D.Disk.state c.args.repo.now).view.now (g.V.Wire.state c.args.wire.now).pending _ _ c.in_err-check_server.ensures.cause
 
 pub returns-clause-closed : goal.returns-clause-closed
 returns-clause-closed g c = made_closes c.args.stanza.now c.args.told.now _ _ _
-    (g.V.Wire.sent c.check_server.new.wire) c.make.result c.make.ensures.cause
+    (g.V.Wire.state c.check_server.new.wire).sent c.make.result c.make.ensures.cause
 
 pub returns-clause-cause : goal.returns-clause-cause
 returns-clause-cause g c = made_cause c.args.stanza.now c.args.told.now (option_map server_view c.args.server)
-    (g.D.Disk.state c.args.repo.now).view.now (g.V.Wire.pending c.args.wire.now) _ _ c.make.result _
+    (g.D.Disk.state c.args.repo.now).view.now (g.V.Wire.state c.args.wire.now).pending _ _ c.make.result _
     (λ x. x) c.make.ensures.cause
 
 pub returns-in_err-check_server-clause-beside : goal.returns-in_err-check_server-clause-beside

@@ -8,9 +8,9 @@ use Rattle.pgb_server.proofs.calls.ask_row.Goals as goal
 pub returns-in-Ok-clause-read : goal.returns-in-Ok-clause-read
 unfolding row_at
 returns-in-Ok-clause-read g c =
-    reads_part asked (talk_view c.in-Ok.talk) (g.V.Wire.pending c.args.wire.now) (g.V.Wire.pending c.ask.new.wire) (talk_at Heading c.args.columns (session_view c.args.session.now)) c.in-Ok.ensures.read
+    reads_part asked (talk_view c.in-Ok.talk) (g.V.Wire.state c.args.wire.now).pending (g.V.Wire.state c.ask.new.wire).pending (talk_at Heading c.args.columns (session_view c.args.session.now)) c.in-Ok.ensures.read
 
 pub returns-in-Err-clause-read : goal.returns-in-Err-clause-read
 unfolding row_at
 returns-in-Err-clause-read g c =
-    fails_first c.in-Err.fault (g.V.Wire.pending c.args.wire.now) (talk_at Heading c.args.columns (session_view c.args.session.now)) (part_of asked) c.in-Err.ensures.read
+    fails_first c.in-Err.fault (g.V.Wire.state c.args.wire.now).pending (talk_at Heading c.args.columns (session_view c.args.session.now)) (part_of asked) c.in-Err.ensures.read

@@ -9,9 +9,9 @@ use Rattle.pgb_server.proofs.message.message_at.Goals as goal
 pub returns-in-Ok-clause-read : goal.returns-in-Ok-clause-read
 unfolding message_at
 returns-in-Ok-clause-read g c =
-    let old = g.V.Wire.pending c.args.wire.now in
-    let mid = g.V.Wire.pending c.take.new.wire in
-    let new = g.V.Wire.pending c.message_of.new.wire in
+    let old = (g.V.Wire.state c.args.wire.now).pending in
+    let mid = (g.V.Wire.state c.take.new.wire).pending in
+    let new = (g.V.Wire.state c.message_of.new.wire).pending in
     let header = c.in_ok-header.header.items in
     let e = subst (λ (h : List ℕ). header_of c.args.phase c.args.at h ≡ Ok (c.in-Ok.kind, c.in-Ok.count)) c.deref.ensures.value c.in-Ok.ensures.value in
     reads_on message_view header c.message_of.result old mid new (take_at 5) (λ p. header_of c.args.phase c.args.at p.0 >>= λ h. message_of c.args.at h p.1)
@@ -21,8 +21,8 @@ returns-in-Ok-clause-read g c =
 pub returns-clause-read : goal.returns-clause-read
 unfolding message_at
 returns-clause-read g c =
-    let old = g.V.Wire.pending c.args.wire.now in
-    let mid = g.V.Wire.pending c.take.new.wire in
+    let old = (g.V.Wire.state c.args.wire.now).pending in
+    let mid = (g.V.Wire.state c.take.new.wire).pending in
     let header = c.in_ok-header.header.items in
     let e = subst (λ (h : List ℕ). Fails c.in-Err.fault (header_of c.args.phase c.args.at h)) c.deref.ensures.value c.in-Err.ensures.value in
     reads_on message_view header (Err c.in-Err.fault) old mid mid (take_at 5) (λ p. header_of c.args.phase c.args.at p.0 >>= λ h. message_of c.args.at h p.1)

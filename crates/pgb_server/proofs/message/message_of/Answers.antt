@@ -7,7 +7,7 @@ use Rattle.pgb_server.proofs.message.message_of.Goals as goal
 
 pub returns-clause-read : goal.returns-clause-read
 returns-clause-read g c =
-    let last = g.V.Wire.pending c.take.new.wire in
-    reads_on message_view c.in_ok-body.body.items c.body_of.result (g.V.Wire.pending c.args.wire.now) last last (take_at c.args.count) (λ b. body_of c.args.at c.args.kind c.args.count b.0 >>= λ m. Ok (m, b.1))
+    let last = (g.V.Wire.state c.take.new.wire).pending in
+    reads_on message_view c.in_ok-body.body.items c.body_of.result (g.V.Wire.state c.args.wire.now).pending last last (take_at c.args.count) (λ b. body_of c.args.at c.args.kind c.args.count b.0 >>= λ m. Ok (m, b.1))
     c.in_ok-body.ensures.read
     (gives_reads message_view c.body_of.result last (body_of c.args.at c.args.kind c.args.count c.in_ok-body.body.items) c.body_of.ensures.value)

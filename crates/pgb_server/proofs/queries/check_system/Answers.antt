@@ -7,4 +7,4 @@ use Rattle.pgb_server.proofs.queries.check_system.Goals as goal
 
 pub returns-clause-read : goal.returns-clause-read
 returns-clause-read g c =
-    told_refuses (SystemOutcome c.args.system) (g.V.Wire.pending c.args.wire.now) (talk_at Heading 2 (session_view c.args.session.now)) c.in-Err-system_of.fault (talk_view c.in-Ok.talk) (g.V.Wire.pending c.ask.new.wire) c.in-Ok.ensures.read c.in-Err-system_of.ensures.value
+    told_refuses (SystemOutcome c.args.system) (g.V.Wire.state c.args.wire.now).pending (talk_at Heading 2 (session_view c.args.session.now)) c.in-Err-system_of.fault (talk_view c.in-Ok.talk) (g.V.Wire.state c.ask.new.wire).pending c.in-Ok.ensures.read c.in-Err-system_of.ensures.value

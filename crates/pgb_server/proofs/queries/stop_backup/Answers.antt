@@ -7,4 +7,4 @@ use Rattle.pgb_server.proofs.queries.stop_backup.Goals as goal
 
 pub returns-clause-read : goal.returns-clause-read
 returns-clause-read g c =
-    told_refuses StopOutcome (g.V.Wire.pending c.args.wire.now) (talk_at Heading 4 (session_view c.args.session.now)) c.in-Err-stop_of.fault (talk_view c.in-Ok.talk) (g.V.Wire.pending c.ask.new.wire) c.in-Ok.ensures.read c.in-Err-stop_of.ensures.value
+    told_refuses StopOutcome (g.V.Wire.state c.args.wire.now).pending (talk_at Heading 4 (session_view c.args.session.now)) c.in-Err-stop_of.fault (talk_view c.in-Ok.talk) (g.V.Wire.state c.ask.new.wire).pending c.in-Ok.ensures.read c.in-Err-stop_of.ensures.value

@@ -8,22 +8,22 @@ use Rattle.pgb_server.proofs.talk.run.Goals as goal
 
 pub returns-then-is_over-clause-read : goal.returns-then-is_over-clause-read
 returns-then-is_over-clause-read g c =
-    sym c.loop-i.invariant.stream ∙ over_all (c.args.limit - c.loop-i.i) c.args.columns (talk_view c.loop-i.talk) (g.V.Wire.pending c.loop-i.wire) (sym c.is_over.ensures ∙ c.if-is_over.true)
+    sym c.loop-i.invariant.stream ∙ over_all (c.args.limit - c.loop-i.i) c.args.columns (talk_view c.loop-i.talk) (g.V.Wire.state c.loop-i.wire).pending (sym c.is_over.ensures ∙ c.if-is_over.true)
 
 pub returns-in-Err-clause-read : goal.returns-in-Err-clause-read
 returns-in-Err-clause-read g c =
-    on_message_fault (c.args.limit - (c.loop-i.i + 1)) (c.args.limit - c.loop-i.i) c.args.columns (talk_view c.loop-i.talk) (g.V.Wire.pending c.loop-i.wire) (g.V.Wire.pending c.args.wire.now) (talk_view c.args.start) c.args.limit
+    on_message_fault (c.args.limit - (c.loop-i.i + 1)) (c.args.limit - c.loop-i.i) c.args.columns (talk_view c.loop-i.talk) (g.V.Wire.state c.loop-i.wire).pending (g.V.Wire.state c.args.wire.now).pending (talk_view c.args.start) c.args.limit
     (left c.args.limit c.loop-i.i (omega arith)) c.loop-i.invariant.stream (sym c.is_over.ensures ∙ c.if-is_over.false) c.in-Err.fault c.in-Err.ensures.read
 
 pub returns-in-Err-hear-clause-read : goal.returns-in-Err-hear-clause-read
 returns-in-Err-hear-clause-read g c =
-    on_hear_fault (c.args.limit - (c.loop-i.i + 1)) (c.args.limit - c.loop-i.i) c.args.columns (talk_view c.loop-i.talk) (g.V.Wire.pending c.loop-i.wire) (g.V.Wire.pending c.args.wire.now) (talk_view c.args.start) c.args.limit
-    (left c.args.limit c.loop-i.i (omega arith)) c.loop-i.invariant.stream (sym c.is_over.ensures ∙ c.if-is_over.false) c.in-Err-hear.fault (message_view c.in-Ok.message) (g.V.Wire.pending c.message_at.new.wire) c.in-Ok.ensures.read c.in-Err-hear.ensures.value
+    on_hear_fault (c.args.limit - (c.loop-i.i + 1)) (c.args.limit - c.loop-i.i) c.args.columns (talk_view c.loop-i.talk) (g.V.Wire.state c.loop-i.wire).pending (g.V.Wire.state c.args.wire.now).pending (talk_view c.args.start) c.args.limit
+    (left c.args.limit c.loop-i.i (omega arith)) c.loop-i.invariant.stream (sym c.is_over.ensures ∙ c.if-is_over.false) c.in-Err-hear.fault (message_view c.in-Ok.message) (g.V.Wire.state c.message_at.new.wire).pending c.in-Ok.ensures.read c.in-Err-hear.ensures.value
 
 pub loop-i-preserved : goal.loop-i-preserved
 loop-i-preserved g c = record {
-  stream = on_next (c.args.limit - (c.loop-i.i + 1)) (c.args.limit - c.loop-i.i) c.args.columns (talk_view c.loop-i.talk) (g.V.Wire.pending c.loop-i.wire) (g.V.Wire.pending c.args.wire.now) (talk_view c.args.start) c.args.limit
-      (left c.args.limit c.loop-i.i (omega arith)) c.loop-i.invariant.stream (sym c.is_over.ensures ∙ c.if-is_over.false) (talk_view c.in-Ok-hear.next) (message_view c.in-Ok.message) (g.V.Wire.pending c.message_at.new.wire) c.in-Ok.ensures.read c.in-Ok-hear.ensures.value;
+  stream = on_next (c.args.limit - (c.loop-i.i + 1)) (c.args.limit - c.loop-i.i) c.args.columns (talk_view c.loop-i.talk) (g.V.Wire.state c.loop-i.wire).pending (g.V.Wire.state c.args.wire.now).pending (talk_view c.args.start) c.args.limit
+      (left c.args.limit c.loop-i.i (omega arith)) c.loop-i.invariant.stream (sym c.is_over.ensures ∙ c.if-is_over.false) (talk_view c.in-Ok-hear.next) (message_view c.in-Ok.message) (g.V.Wire.state c.message_at.new.wire).pending c.in-Ok.ensures.read c.in-Ok-hear.ensures.value;
   count = let a = c.in-Ok-hear.ensures.count in let b = c.loop-i.invariant.count in omega arith;
   place = c.in-Ok.ensures.place ∙ c.loop-i.invariant.place;
   later = let a = c.in-Ok.ensures.cause.later in let b = c.loop-i.invariant.later in omega arith;
@@ -32,10 +32,10 @@ loop-i-preserved g c = record {
 
 pub returns-then-is_over-2-clause-read : goal.returns-then-is_over-2-clause-read
 returns-then-is_over-2-clause-read g c =
-    sym c.loop-i.invariant.stream ∙ over_all (c.args.limit - c.loop-i.i) c.args.columns (talk_view c.loop-i.talk) (g.V.Wire.pending c.loop-i.wire) (sym c.is_over-2.ensures ∙ c.if-is_over-2.true)
+    sym c.loop-i.invariant.stream ∙ over_all (c.args.limit - c.loop-i.i) c.args.columns (talk_view c.loop-i.talk) (g.V.Wire.state c.loop-i.wire).pending (sym c.is_over-2.ensures ∙ c.if-is_over-2.true)
 
 pub returns-else-is_over-2-clause-read : goal.returns-else-is_over-2-clause-read
 returns-else-is_over-2-clause-read g c =
     let e : c.args.limit - c.loop-i.i ≡ 0 = omega arith in
-    let stream = subst (λ n. option_map (run n c.args.columns (talk_view c.loop-i.talk)) (g.V.Wire.pending c.loop-i.wire) ≡ option_map (run c.args.limit c.args.columns (talk_view c.args.start)) (g.V.Wire.pending c.args.wire.now)) e c.loop-i.invariant.stream in
-    subst (λ o. IfSome o (Fails (faults.TooMany 1000000))) stream (end_all c.args.columns (talk_view c.loop-i.talk) (g.V.Wire.pending c.loop-i.wire) (sym c.is_over-2.ensures ∙ c.if-is_over-2.false))
+    let stream = subst (λ n. option_map (run n c.args.columns (talk_view c.loop-i.talk)) (g.V.Wire.state c.loop-i.wire).pending ≡ option_map (run c.args.limit c.args.columns (talk_view c.args.start)) (g.V.Wire.state c.args.wire.now).pending) e c.loop-i.invariant.stream in
+    subst (λ o. IfSome o (Fails (faults.TooMany 1000000))) stream (end_all c.args.columns (talk_view c.loop-i.talk) (g.V.Wire.state c.loop-i.wire).pending (sym c.is_over-2.ensures ∙ c.if-is_over-2.false))

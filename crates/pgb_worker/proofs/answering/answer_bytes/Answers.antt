@@ -17,33 +17,33 @@ pub returns-in_err-tell_bytes-clause-told : goal.returns-in_err-tell_bytes-claus
 returns-in_err-tell_bytes-clause-told g c =
     let i = c.loop-count.invariant in
     let item = item_of c.args.item.now in
-    let old = g.O.Sink.written c.args.out.now in
-    let new = g.O.Sink.written c.tell_bytes.new.out in
+    let old = (g.O.Sink.state c.args.out.now).written in
+    let new = (g.O.Sink.state c.tell_bytes.new.out).written in
     if_some (g.F.Files.files c.args.files.now) _ _ (λ f so bytes is first.
     any_fault c.args.kind item (Some bytes) _ c.from_residual.result old new c.from_residual.ensures.0 (λ e.
-    part_failed c.args.kind item bytes c.loop-count.told c.loop-count.count c.loop-count.room old (g.O.Sink.written c.loop-count.out) i.long i.small (omega arith) (so bytes is first).0 _ e new c.in_err-tell_bytes.ensures.writes)) i.so_far
+    part_failed c.args.kind item bytes c.loop-count.told c.loop-count.count c.loop-count.room old (g.O.Sink.state c.loop-count.out).written i.long i.small (omega arith) (so bytes is first).0 _ e new c.in_err-tell_bytes.ensures.writes)) i.so_far
 
 pub returns-in-Err-Failed-clause-told : goal.returns-in-Err-Failed-clause-told
 returns-in-Err-Failed-clause-told g c =
     let i = c.loop-count.invariant in
     let item = item_of c.args.item.now in
-    let old = g.O.Sink.written c.args.out.now in
-    let mid = g.O.Sink.written c.tell_bytes.new.out in
+    let old = (g.O.Sink.state c.args.out.now).written in
+    let mid = (g.O.Sink.state c.tell_bytes.new.out).written in
     if_some (g.F.Files.files c.args.files.now) _ _ (λ f so bytes is first.
     told_unread c.args.kind item bytes (c.loop-count.told + c.loop-count.count) c.loop-count.count old mid
-    (part_told c.args.kind item bytes c.loop-count.told c.loop-count.count c.loop-count.room old (g.O.Sink.written c.loop-count.out) i.long i.small (omega arith) (so bytes is first).0 mid c.in_ok-tell_bytes.ensures.writes)
-    _ c.tell_unread.result (g.O.Sink.written c.tell_unread.new.out)
+    (part_told c.args.kind item bytes c.loop-count.told c.loop-count.count c.loop-count.room old (g.O.Sink.state c.loop-count.out).written i.long i.small (omega arith) (so bytes is first).0 mid c.in_ok-tell_bytes.ensures.writes)
+    _ c.tell_unread.result (g.O.Sink.state c.tell_unread.new.out).written
     (rises_from _ (g.F.Files.faults c.loop-count.files) _ i.failed (c.in-Err-Failed.ensures.cause.failed (ap (λ (s : Stop). Err s) c.in-Err-Failed.field-0-is))) c.tell_unread.ensures.told) i.so_far
 
 pub returns-in-Err-NoMemory-clause-told : goal.returns-in-Err-NoMemory-clause-told
 returns-in-Err-NoMemory-clause-told g c =
     let i = c.loop-count.invariant in
     let item = item_of c.args.item.now in
-    let old = g.O.Sink.written c.args.out.now in
-    let mid = g.O.Sink.written c.tell_bytes.new.out in
+    let old = (g.O.Sink.state c.args.out.now).written in
+    let mid = (g.O.Sink.state c.tell_bytes.new.out).written in
     if_some (g.F.Files.files c.args.files.now) _ _ (λ f so bytes is first.
     told_stopped c.args.kind item bytes (c.loop-count.told + c.loop-count.count) c.loop-count.count old mid
-    (part_told c.args.kind item bytes c.loop-count.told c.loop-count.count c.loop-count.room old (g.O.Sink.written c.loop-count.out) i.long i.small (omega arith) (so bytes is first).0 mid c.in_ok-tell_bytes.ensures.writes)
+    (part_told c.args.kind item bytes c.loop-count.told c.loop-count.count c.loop-count.room old (g.O.Sink.state c.loop-count.out).written i.long i.small (omega arith) (so bytes is first).0 mid c.in_ok-tell_bytes.ensures.writes)
     (Rises (g.F.Files.faults c.args.files.now) (g.F.Files.faults c.next_part.new.files)) NoMemory) i.so_far
 
 pub loop-count-preserved : goal.loop-count-preserved
@@ -51,9 +51,9 @@ loop-count-preserved g c =
     let i = c.loop-count.invariant in
     let r = c.in-Ok.ensures in
     let item = item_of c.args.item.now in
-    let old = g.O.Sink.written c.args.out.now in
-    let now = g.O.Sink.written c.loop-count.out in
-    let mid = g.O.Sink.written c.tell_bytes.new.out in
+    let old = (g.O.Sink.state c.args.out.now).written in
+    let now = (g.O.Sink.state c.loop-count.out).written in
+    let mid = (g.O.Sink.state c.tell_bytes.new.out).written in
     record {
       long = r.length ∙ c.in_ok-tell_bytes.ensures.room ∙ i.long;
       small = r.room.0;
@@ -75,10 +75,10 @@ pub returns-clause-told : goal.returns-clause-told
 returns-clause-told g c =
     let i = c.loop-count.invariant in
     let item = item_of c.args.item.now in
-    let old = g.O.Sink.written c.args.out.now in
-    let now = g.O.Sink.written c.loop-count.out in
+    let old = (g.O.Sink.state c.args.out.now).written in
+    let now = (g.O.Sink.state c.loop-count.out).written in
     let over : c.loop-count.count ≡ 0 = omega arith in
     if_some (g.F.Files.files c.args.files.now) _ _ (λ f so bytes is first.
     end_told c.args.kind item bytes c.loop-count.told c.loop-count.room old now (Rises (g.F.Files.faults c.args.files.now) (g.F.Files.faults c.loop-count.files)) c.loop-count.digest c.finalize.result
     (subst (λ (n : ℕ). IsTold c.args.kind item bytes c.loop-count.told n c.loop-count.room old now) over (so bytes is first).0) (so bytes is first).1 c.finalize.ensures
-    c.tell_end.result (g.O.Sink.written c.tell_end.new.out) c.tell_end.ensures.told) i.so_far
+    c.tell_end.result (g.O.Sink.state c.tell_end.new.out).written c.tell_end.ensures.told) i.so_far

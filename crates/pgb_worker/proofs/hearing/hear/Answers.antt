@@ -11,26 +11,26 @@ use Rattle.pgb_worker.proofs.hearing.hear.Goals as goal
 
 pub returns-then-index-letter-clause-heard : goal.returns-then-index-letter-clause-heard
 returns-then-index-letter-clause-heard g c = λ rest is.
-    let left = g.I.Source.left c.read_to.new.input in
+    let left = (g.I.Source.state c.read_to.new.input).left in
     let bytes = c.read_to.new.bytes.items in
-    let r = was_read (g.I.Source.left c.args.input.now) left bytes rest is (c.in_ok-read_to.ensures.given (g.I.Source.left c.args.input.now) c.stages.invariant.given) in
+    let r = was_read (g.I.Source.state c.args.input.now).left left bytes rest is (c.in_ok-read_to.ensures.given (g.I.Source.state c.args.input.now).left c.stages.invariant.given) in
     let some : 0 < length bytes = omega (arith, some_bytes (vec_len c.read_to.new.bytes) c.if-is_empty.ensures, c.read_to.new.bytes.ok) in
     heard_other bytes rest left r c.args.letter c.args.start (omega (arith, c.ranges.start.fits)) some (λ e. c.if-index-letter.true (sym (first_byte bytes c.index.result.now some c.index.ensures) ∙ e))
 
 pub returns-in-Err-clause-heard : goal.returns-in-Err-clause-heard
 returns-in-Err-clause-heard g c = λ rest is.
-    let left = g.I.Source.left c.read_to.new.input in
+    let left = (g.I.Source.state c.read_to.new.input).left in
     let bytes = c.read_to.new.bytes.items in
-    let r = was_read (g.I.Source.left c.args.input.now) left bytes rest is (c.in_ok-read_to.ensures.given (g.I.Source.left c.args.input.now) c.stages.invariant.given) in
+    let r = was_read (g.I.Source.state c.args.input.now).left left bytes rest is (c.in_ok-read_to.ensures.given (g.I.Source.state c.args.input.now).left c.stages.invariant.given) in
     let some : 0 < length bytes = omega (arith, some_bytes (vec_len c.read_to.new.bytes) c.if-is_empty.ensures, c.read_to.new.bytes.ok) in
     heard_fault bytes rest left r c.args.letter c.args.start c.in-Err.fault some (first_byte bytes c.index.result.now some c.index.ensures ∙ c.if-index-letter.false)
     (rw c.deref.ensures.value at c.in-Err.ensures.fault)
 
 pub returns-in-Ok-Some-clause-heard : goal.returns-in-Ok-Some-clause-heard
 returns-in-Ok-Some-clause-heard g c = λ rest is.
-    let left = g.I.Source.left c.read_to.new.input in
+    let left = (g.I.Source.state c.read_to.new.input).left in
     let bytes = c.read_to.new.bytes.items in
-    let r = was_read (g.I.Source.left c.args.input.now) left bytes rest is (c.in_ok-read_to.ensures.given (g.I.Source.left c.args.input.now) c.stages.invariant.given) in
+    let r = was_read (g.I.Source.state c.args.input.now).left left bytes rest is (c.in_ok-read_to.ensures.given (g.I.Source.state c.args.input.now).left c.stages.invariant.given) in
     let found : IsFront bytes (frame_of c.in-Ok-Some.frame) c.in-Ok-Some.field-0-0-1 = rw (← c.deref.ensures.value) (rw c.in-Ok-Some.field-0-is at c.in-Ok-Some.ensures.found) in
     let size : vec_len c.read_to.new.bytes ≡ length bytes = omega (arith, c.read_to.new.bytes.ok) in
     let most : length bytes ≤ c.stages.wanted = omega (arith, c.in_ok-read_to.ensures.wanted, size) in
@@ -40,9 +40,9 @@ returns-in-Ok-Some-clause-heard g c = λ rest is.
 pub stages-preserved : goal.stages-preserved
 stages-preserved g c =
     let i = c.stages.invariant in
-    let left = g.I.Source.left c.read_to.new.input in
+    let left = (g.I.Source.state c.read_to.new.input).left in
     let bytes = c.read_to.new.bytes.items in
-    let gives = c.in_ok-read_to.ensures.given (g.I.Source.left c.args.input.now) i.given in
+    let gives = c.in_ok-read_to.ensures.given (g.I.Source.state c.args.input.now).left i.given in
     let long : 5 ≤ length bytes = omega (arith, i.least, c.if-len-wanted.false, c.len-in-stages.ensures, c.read_to.new.bytes.ok) in
     let n = c.next_size-wanted.ensures in
     let told = (rw c.in-Ok-None.field-0-is at c.in-Ok-None.ensures.short) in
@@ -54,5 +54,5 @@ stages-preserved g c =
       most = n.fits;
       later = omega (arith, i.later, c.in_ok-read_to.ensures.later);
       given = gives;
-      within = λ rest is. omega (arith, n.within, ap size_told c.deref-in-stages.ensures.value, size_same bytes rest left (was_read (g.I.Source.left c.args.input.now) left bytes rest is gives) long);
+      within = λ rest is. omega (arith, n.within, ap size_told c.deref-in-stages.ensures.value, size_same bytes rest left (was_read (g.I.Source.state c.args.input.now).left left bytes rest is gives) long);
     }

@@ -22,7 +22,7 @@ loop-item-init g c = record {
   tree_failed = omega arith;
   repo_failed = omega arith;
   later = omega arith;
-  so_far = λ ft fr tree repo. none_answered c.args.job.now.kind ft fr (g.O.Sink.written c.args.out.now);
+  so_far = λ ft fr tree repo. none_answered c.args.job.now.kind ft fr (g.O.Sink.state c.args.out.now).written;
 }
 
 pub returns-in_err-answer_of_root-clause-told : goal.returns-in_err-answer_of_root-clause-told
@@ -32,9 +32,9 @@ returns-in_err-answer_of_root-clause-told g c = λ ft fr tree repo.
     let k = c.loop-item.item-index in
     let kind = c.args.job.now.kind in
     let item = item_of c.item-item.result in
-    let old = g.O.Sink.written c.args.out.now in
-    let now = g.O.Sink.written c.loop-item.out in
-    let new = g.O.Sink.written c.answer_of_root.new.out in
+    let old = (g.O.Sink.state c.args.out.now).written in
+    let now = (g.O.Sink.state c.loop-item.out).written in
+    let new = (g.O.Sink.state c.answer_of_root.new.out).written in
     let Failed = FailedRoot c.args.opened (g.F.Files.faults c.args.tree.now) (g.G.Files.faults c.args.repo.now) (g.F.Files.faults c.answer_of_root.new.tree) (g.G.Files.faults c.answer_of_root.new.repo) in
     subst (λ (is : List Item). ToldJob (record { kind = kind; items = is }) ft fr Failed c.from_residual.result old new) (sym (cut_at items k c.item-item.result (omega (arith, ap length c.deref-item-items.ensures.value)) (rw c.deref-item-items.ensures.value at c.item-item.is)))
     (any_job_fault _ ft fr Failed c.from_residual.result old new c.from_residual.ensures.0 (λ e.
@@ -48,9 +48,9 @@ returns-then-not-branch-clause-told g c = λ ft fr tree repo.
     let k = c.loop-item.item-index in
     let kind = c.args.job.now.kind in
     let item = item_of c.item-item.result in
-    let old = g.O.Sink.written c.args.out.now in
-    let now = g.O.Sink.written c.loop-item.out in
-    let new = g.O.Sink.written c.answer_of_root.new.out in
+    let old = (g.O.Sink.state c.args.out.now).written in
+    let now = (g.O.Sink.state c.loop-item.out).written in
+    let new = (g.O.Sink.state c.answer_of_root.new.out).written in
     let Failed = FailedRoot c.args.opened (g.F.Files.faults c.args.tree.now) (g.G.Files.faults c.args.repo.now) (g.F.Files.faults c.answer_of_root.new.tree) (g.G.Files.faults c.answer_of_root.new.repo) in
     let told = told_for kind item (value_of ft fr item) _ (Failed item.root) (Ok c.in_ok-answer_of_root.field-0) now new (failed_from c.args.opened _ _ _ _ _ _ item.root i.tree_failed i.repo_failed) (c.in_ok-answer_of_root.ensures.told ft fr (i.tree ∙ tree) (i.repo ∙ repo)) in
     subst (λ (is : List Item). ToldJob (record { kind = kind; items = is }) ft fr Failed (Ok tt) old new) (sym (cut_at items k c.item-item.result (omega (arith, ap length c.deref-item-items.ensures.value)) (rw c.deref-item-items.ensures.value at c.item-item.is)))
@@ -65,9 +65,9 @@ loop-item-preserved g c =
     let k = c.loop-item.item-index in
     let kind = c.args.job.now.kind in
     let item = item_of c.item-item.result in
-    let old = g.O.Sink.written c.args.out.now in
-    let now = g.O.Sink.written c.loop-item.out in
-    let new = g.O.Sink.written c.answer_of_root.new.out in
+    let old = (g.O.Sink.state c.args.out.now).written in
+    let now = (g.O.Sink.state c.loop-item.out).written in
+    let new = (g.O.Sink.state c.answer_of_root.new.out).written in
     let Failed = FailedRoot c.args.opened (g.F.Files.faults c.loop-item.tree) (g.G.Files.faults c.loop-item.repo) (g.F.Files.faults c.answer_of_root.new.tree) (g.G.Files.faults c.answer_of_root.new.repo) in
     record {
       long = r.room ∙ i.long;
@@ -89,5 +89,5 @@ returns-clause-told g c = λ ft fr tree repo.
     let i = c.loop-item.invariant in
     let items = c.args.job.now.items.items in
     let all : take c.loop-item.item-index items ≡ items = take_all c.loop-item.item-index items (omega (arith, ap length c.deref-item-items.ensures.value)) in
-    items_answered c.args.job.now.kind ft fr _ (items_of items) (g.O.Sink.written c.args.out.now) (g.O.Sink.written c.loop-item.out)
-    (subst (λ (is : List rust_item.Item). AreAnswered c.args.job.now.kind ft fr (items_of is) (g.O.Sink.written c.args.out.now) (g.O.Sink.written c.loop-item.out)) all (i.so_far ft fr tree repo))
+    items_answered c.args.job.now.kind ft fr _ (items_of items) (g.O.Sink.state c.args.out.now).written (g.O.Sink.state c.loop-item.out).written
+    (subst (λ (is : List rust_item.Item). AreAnswered c.args.job.now.kind ft fr (items_of is) (g.O.Sink.state c.args.out.now).written (g.O.Sink.state c.loop-item.out).written) all (i.so_far ft fr tree repo))

@@ -8,4 +8,4 @@ pub returns-else-is_open-clause-told : goal.returns-else-is_open-clause-told
 returns-else-is_open-clause-told g c =
     let i = c.args.item.now in
     each_some (g.F.Files.files c.args.files.now) _ (λ f.
-    unread_told c.args.kind (item_of i) (f (string_bytes i.path)) _ c.tell_unread.result (g.O.Sink.written c.args.out.now) (g.O.Sink.written c.tell_unread.new.out) (inl c.if-is_open.false) c.tell_unread.ensures.told)
+    unread_told c.args.kind (item_of i) (f (string_bytes i.path)) _ c.tell_unread.result (g.O.Sink.state c.args.out.now).written (g.O.Sink.state c.tell_unread.new.out).written (inl c.if-is_open.false) c.tell_unread.ensures.told)

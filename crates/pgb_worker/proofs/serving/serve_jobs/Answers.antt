@@ -11,8 +11,8 @@ returns-in-Ok-None-clause-served g c = λ ft fr rest tree repo left.
     let r = c.in-Ok-None.ensures in
     let so = i.so_far ft fr rest tree repo left in
     going_over ft fr c.args.opened (counts (g.F.Files.faults c.args.tree.now) (g.G.Files.faults c.args.repo.now)) (counts (g.F.Files.faults c.loop-jobs.tree) (g.G.Files.faults c.loop-jobs.repo)) (counts (g.F.Files.faults c.serve_next.new.tree) (g.G.Files.faults c.serve_next.new.repo))
-    c.args.start rest c.loop-jobs.jobs c.loop-jobs.place (g.I.Source.left c.loop-jobs.input) (g.O.Sink.written c.args.out.now) (g.O.Sink.written c.loop-jobs.out) so (record { tree = r.tree_later; repo = r.repo_later })
-    (g.I.Source.left c.serve_next.new.input) (g.O.Sink.written c.serve_next.new.out)
+    c.args.start rest c.loop-jobs.jobs c.loop-jobs.place (g.I.Source.state c.loop-jobs.input).left (g.O.Sink.state c.args.out.now).written (g.O.Sink.state c.loop-jobs.out).written so (record { tree = r.tree_later; repo = r.repo_later })
+    (g.I.Source.state c.serve_next.new.input).left (g.O.Sink.state c.serve_next.new.out).written
     (rw c.in-Ok-None.field-0-is at (r.told ft fr so.rest (i.tree ∙ tree) (i.repo ∙ repo) so.left_is))
 
 pub returns-in-Err-clause-served : goal.returns-in-Err-clause-served
@@ -21,8 +21,8 @@ returns-in-Err-clause-served g c = λ ft fr rest tree repo left.
     let r = c.in-Err.ensures in
     let so = i.so_far ft fr rest tree repo left in
     going_failed ft fr c.args.opened (counts (g.F.Files.faults c.args.tree.now) (g.G.Files.faults c.args.repo.now)) (counts (g.F.Files.faults c.loop-jobs.tree) (g.G.Files.faults c.loop-jobs.repo)) (counts (g.F.Files.faults c.serve_next.new.tree) (g.G.Files.faults c.serve_next.new.repo))
-    c.args.start rest c.loop-jobs.jobs c.loop-jobs.place (g.I.Source.left c.loop-jobs.input) (g.O.Sink.written c.args.out.now) (g.O.Sink.written c.loop-jobs.out) so (record { tree = r.tree_later; repo = r.repo_later })
-    c.in-Err.fault (g.I.Source.left c.serve_next.new.input) (g.O.Sink.written c.serve_next.new.out)
+    c.args.start rest c.loop-jobs.jobs c.loop-jobs.place (g.I.Source.state c.loop-jobs.input).left (g.O.Sink.state c.args.out.now).written (g.O.Sink.state c.loop-jobs.out).written so (record { tree = r.tree_later; repo = r.repo_later })
+    c.in-Err.fault (g.I.Source.state c.serve_next.new.input).left (g.O.Sink.state c.serve_next.new.out).written
     (r.told ft fr so.rest (i.tree ∙ tree) (i.repo ∙ repo) so.left_is)
 
 pub loop-jobs-preserved : goal.loop-jobs-preserved
@@ -42,8 +42,8 @@ loop-jobs-preserved g c =
       so_far = λ ft fr rest tree repo left.
           let so = i.so_far ft fr rest tree repo left in
           going_more ft fr c.args.opened (counts (g.F.Files.faults c.args.tree.now) (g.G.Files.faults c.args.repo.now)) (counts (g.F.Files.faults c.loop-jobs.tree) (g.G.Files.faults c.loop-jobs.repo)) (counts (g.F.Files.faults c.serve_next.new.tree) (g.G.Files.faults c.serve_next.new.repo))
-          c.args.start rest c.loop-jobs.jobs c.loop-jobs.place (g.I.Source.left c.loop-jobs.input) (g.O.Sink.written c.args.out.now) (g.O.Sink.written c.loop-jobs.out) so (record { tree = r.tree_later; repo = r.repo_later })
-          c.in-Ok-Some.size c.saturating_add-place.result (g.I.Source.left c.serve_next.new.input) (g.O.Sink.written c.serve_next.new.out) (omega (arith, c.saturating_add-place.ensures))
+          c.args.start rest c.loop-jobs.jobs c.loop-jobs.place (g.I.Source.state c.loop-jobs.input).left (g.O.Sink.state c.args.out.now).written (g.O.Sink.state c.loop-jobs.out).written so (record { tree = r.tree_later; repo = r.repo_later })
+          c.in-Ok-Some.size c.saturating_add-place.result (g.I.Source.state c.serve_next.new.input).left (g.O.Sink.state c.serve_next.new.out).written (omega (arith, c.saturating_add-place.ensures))
           (rw c.in-Ok-Some.field-0-is at (r.told ft fr so.rest (i.tree ∙ tree) (i.repo ∙ repo) so.left_is));
     }
 
@@ -52,5 +52,5 @@ returns-clause-served g c = λ ft fr rest tree repo left.
     let i = c.loop-jobs.invariant in
     let so = i.so_far ft fr rest tree repo left in
     going_ended ft fr c.args.opened (counts (g.F.Files.faults c.args.tree.now) (g.G.Files.faults c.args.repo.now)) (counts (g.F.Files.faults c.loop-jobs.tree) (g.G.Files.faults c.loop-jobs.repo))
-    c.args.start rest c.loop-jobs.jobs c.loop-jobs.place (g.I.Source.left c.loop-jobs.input) (g.O.Sink.written c.args.out.now) (g.O.Sink.written c.loop-jobs.out) c.end_of_jobs.result so
+    c.args.start rest c.loop-jobs.jobs c.loop-jobs.place (g.I.Source.state c.loop-jobs.input).left (g.O.Sink.state c.args.out.now).written (g.O.Sink.state c.loop-jobs.out).written c.end_of_jobs.result so
     (λ begin. subst (λ (n : ℕ). JobsEnd n begin so.rest c.end_of_jobs.result) (omega arith) (c.end_of_jobs.ensures.told begin so.rest so.left_is))

@@ -11,6 +11,6 @@ loop-at-preserved g c =
     let rest : take (length bytes - at) (drop at bytes) ≡ drop at bytes = take_all (length bytes - at) (drop at bytes) (omega (arith, length-drop at bytes)) in
     record {
       within = omega (arith, i.within, c.in-Ok.ensures.room, ap length rest, length-drop at bytes);
-      written = more_written _ _ _ bytes at c.in-Ok.taken _ i.written (c.in-Ok.ensures.written ∙ ap (λ (t : List ℕ). more (take c.in-Ok.taken t) (g.O.Sink.written c.loop-at.out)) rest) refl;
+      written = more_written _ _ _ bytes at c.in-Ok.taken _ i.written (c.in-Ok.ensures.written ∙ ap (λ (t : List ℕ). more (take c.in-Ok.taken t) (g.O.Sink.state c.loop-at.out).written) rest) refl;
       later = omega (arith, i.later, c.write.ensures.cause.later);
     }

@@ -17,4 +17,4 @@ pub returns-clause-brackets : goal.returns-clause-brackets
 returns-clause-brackets g c =
     let e = c.in_ok-open.ensures in
     let w = c.under_locks.ensures in
-    brackets_on (asked_of c.args.settings.now) _ _ _ c.under_locks.result e.read.repo (ap (λ s. g.K.Locks.took s.locks) e.rest) e.places e.opened w.places w.took w.only
+    brackets_on (asked_of c.args.settings.now) _ _ _ c.under_locks.result e.read.repo (ap (λ s. (g.K.Locks.state s.locks).took) e.rest) e.places e.opened w.places w.took w.only
