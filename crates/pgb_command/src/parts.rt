@@ -1,5 +1,6 @@
 // The commands' own parts, over all that is handed to the program: what the stages made ready goes to each.
 ghost use Rattle.std.specs.Prelude.{◌≡◌, None};
+ghost use Rattle.pgb_stage.specs.Plans.{AreHeld};
 ghost use Rattle.pgb_prepare.specs.Readies.{IsReady};
 ghost use Rattle.pgb_command.specs.Asked.{create as asks_create, push as asks_push, get as asks_get, report as asks_report};
 ghost use Rattle.pgb_command.specs.Did.{Ran};
@@ -39,6 +40,8 @@ impl<
         ready: &Ready,
     ) -> Result<Outcome, Fault>
         requires request { request_of settings.now.request ≡ asks_create }
+        requires locked { AreHeld (plan_of (request_of settings.now.request)) settings.now.stanza.now
+            (K.state self.old.locks).taken }
         requires ready { IsReady (plan_of (request_of settings.now.request)) settings.now.stanza.now
             (D.state self.old.repo).view.now (T.state self.old.tree).nodes ready.now }
         ensures ran { let told = ⟦<Outside<D, S, T, V, A, C, K, I, O> as Told>⟧.told in
@@ -53,6 +56,7 @@ impl<
             alloc,
             &mut self.repo,
             &mut self.server,
+            &self.locks,
             settings.stanza,
             control,
             settings.server,
@@ -68,6 +72,8 @@ impl<
         ready: &Ready,
     ) -> Result<Outcome, Fault>
         requires request { request_of settings.now.request ≡ asks_push order.path.now }
+        requires locked { AreHeld (plan_of (request_of settings.now.request)) settings.now.stanza.now
+            (K.state self.old.locks).taken }
         requires folder { order.folder.now ≡ settings.now.pg1_path.now }
         requires ready { IsReady (plan_of (request_of settings.now.request)) settings.now.stanza.now
             (D.state self.old.repo).view.now (T.state self.old.tree).nodes ready.now }
@@ -82,6 +88,7 @@ impl<
             alloc,
             &mut self.repo,
             &mut self.tree,
+            &self.locks,
             settings.stanza,
             order,
             control,

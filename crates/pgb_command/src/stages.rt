@@ -1,6 +1,6 @@
 // The stages of a command, over all that is handed to the program.
 ghost use Rattle.std.specs.Prelude.{◌≡◌, true, false, Some, None, OnOk, IfErr, [], ◌⊎◌, map};
-ghost use Rattle.pgb_stage.specs.Plans.{first_lock, second_lock};
+ghost use Rattle.pgb_stage.specs.Plans.{first_lock, second_lock, AreHeld};
 ghost use Rattle.pgb_stage.specs.Halts.{HaltCause, Never};
 ghost use Rattle.pgb_stage.specs.Seen.{Failed, AreRead};
 ghost use Rattle.pgb_prepare.specs.Readies.{IsReady};
@@ -130,6 +130,7 @@ impl<
         order: Order<'_>,
     ) -> Result<Outcome, Fault>
         requires plan { plan.now ≡ plan_of (request_of settings.now.request) }
+        requires locked { AreHeld plan.now settings.now.stanza.now (K.state self.old.locks).taken }
         requires order { IsOrder (request_of settings.now.request) settings.now.pg1_path.now order }
         ensures did { let told = ⟦<Outside<D, S, T, V, A, C, K, I, O> as Told>⟧.told in
             Did (asked_of settings.now) (told self.old) (told self.new) result }
@@ -143,7 +144,14 @@ impl<
           server = self.new.server;
         } }
     {
-        let ready = prepare(alloc, &mut self.repo, &mut self.tree, settings.stanza, plan)?;
+        let ready = prepare(
+            alloc,
+            &mut self.repo,
+            &mut self.tree,
+            &self.locks,
+            settings.stanza,
+            plan,
+        )?;
         self.dispatch(alloc, settings, order, ready)
     }
 
@@ -235,6 +243,8 @@ impl<
         order: Order<'_>,
         ready: Ready,
     ) -> Result<Outcome, Fault>
+        requires locked { AreHeld (plan_of (request_of settings.now.request)) settings.now.stanza.now
+            (K.state self.old.locks).taken }
         requires order { IsOrder (request_of settings.now.request) settings.now.pg1_path.now order }
         requires ready { IsReady (plan_of (request_of settings.now.request)) settings.now.stanza.now
             (D.state self.old.repo).view.now (T.state self.old.tree).nodes ready }

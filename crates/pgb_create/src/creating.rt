@@ -1,5 +1,5 @@
 // stanza-create.
-ghost use Rattle.std.specs.Prelude.{◌≡◌, ◌≤◌, None, Some, option_map, OnOk, IfOk, IfErr, IfSome};
+ghost use Rattle.std.specs.Prelude.{◌≡◌, ◌∷◌, [], ◌≤◌, None, Some, option_map, OnOk, IfOk, IfErr, IfSome};
 ghost use Rattle.pgb_outside.specs.Cause.{Rises};
 ghost use Rattle.pgb_outside.specs.States.{Frame};
 ghost use Rattle.pgb_model.specs.InfoFiles.{IsLabel};
@@ -10,6 +10,7 @@ ghost use Rattle.pgb_story.specs.Beside.{StaysBeside};
 ghost use Rattle.pgb_archive.specs.Still.{IsStill};
 ghost use Rattle.pgb_stage.specs.declared.object.Object.TheVariants.{Repo as TheRepo};
 ghost use Rattle.pgb_stage.specs.Halts.{HaltCause, Only};
+ghost use Rattle.pgb_stage.specs.Plans.{archive_lock, backup_lock};
 ghost use Rattle.pgb_stage.specs.Reached.{reached_by};
 ghost use Rattle.pgb_stage.specs.Risen.{none, rose_in};
 ghost use Rattle.pgb_stage.specs.declared.plan.Settling.TheVariants.{Whole};
@@ -21,7 +22,7 @@ ghost use Rattle.pgb_create.specs.Creating.{create_early, IsCreated, IsStanzaFau
 use crate::fault::CreateFault;
 use crate::server::Server;
 use crate::talking::check_server;
-use pgb_outside::{Disk, Wire};
+use pgb_outside::{Disk, Locks, Wire};
 use pgb_stage::{Halt, Object, Outcome};
 use pgb_stamp::label_text;
 use pgb_stanza::{Control, StanzaFault, create};
@@ -75,15 +76,17 @@ fn make<D: Disk>(
 }
 
 /// Makes the stanza of this cluster, or keeps the one that is there. Where a server is asked, it has to be of the
-/// cluster's system.
-pub fn create_stanza<D: Disk, V: Wire>(
+/// cluster's system. As long as it has the locks nobody can release them.
+pub fn create_stanza<D: Disk, V: Wire, K: Locks>(
     alloc: Global,
     repo: &mut D,
     wire: &mut V,
+    _locks: &K,
     stanza: &str,
     told: &Control,
     server: Option<Server<'_>>,
 ) -> Result<Outcome, Halt<CreateFault>>
+    requires locked { (K.state _locks.now).taken ≡ archive_lock stanza.now ∷ backup_lock stanza.now ∷ [] }
     ensures does { Does Whole stanza.now (StanzaCreate (Some (first_cluster told.now))) (reached_by create_early result)
         (D.state repo.old).view (D.state repo.new).view }
     ensures made { IfOk result (IsCreated stanza.now told.now (D.state repo.old).view.now (D.state repo.new).view.now) }

@@ -1,6 +1,6 @@
 // The locks of a command are taken, and released.
 ghost use Rattle.std.specs.Prelude.{◌≡◌, ◌≤◌, false, None, ◌++◌, [], option_map, OnOk, OnErr, IfOk, IfErr, IfSome, Contains};
-ghost use Rattle.pgb_stage.specs.Plans.{when, with_one, first_lock, second_lock, TakesLocks};
+ghost use Rattle.pgb_stage.specs.Plans.{when, with_one, with_held, first_lock, second_lock, TakesLocks, AreHeld};
 ghost use Rattle.pgb_prepare.specs.Taking.{name_of, AreNames, MayHold, HoldsOnly, MayTake, released};
 ghost use Rattle.pgb_prepare.specs.Taking.{IsHeldName, HeldCause, LocksCause};
 
@@ -41,6 +41,7 @@ fn take_one<K: Locks>(
     name: &Option<String>,
 ) -> Result<(), Halt<StageFault>>
     requires { IfSome (name_of name.now) (λ n. ¬ Contains (K.state locks.old).taken n) }
+    ensures held { OnOk result ((K.state locks.new).taken ≡ with_held (name_of name.now) (K.state locks.old).taken) }
     ensures may { MayHold (name_of name.now) (K.state locks.old).taken (K.state locks.new).taken }
     ensures took { OnOk result ((K.state locks.new).took ≡
         option_map (with_one folder.now (name_of name.now)) (K.state locks.old).took) }
@@ -75,6 +76,7 @@ pub fn take_locks<K: Locks>(
 ) -> Result<(), Halt<StageFault>>
     requires free { (K.state locks.old).taken ≡ [] }
     requires names { AreNames names.now plan.now stanza.now }
+    ensures held { OnOk result (AreHeld plan.now stanza.now (K.state locks.new).taken) }
     ensures only { HoldsOnly (first_lock plan.now stanza.now) (second_lock plan.now stanza.now)
         (K.state locks.new).taken }
     ensures took { OnOk result (TakesLocks plan.now folder.now stanza.now (K.state locks.old).took

@@ -4,7 +4,7 @@ ghost use Rattle.pgb_outside.specs.States.{Frame, Looks, LooksAt};
 ghost use Rattle.pgb_archive.specs.Still.{IsStill};
 ghost use Rattle.pgb_stage.specs.declared.plan.Settling.TheVariants.{Whole, Looked};
 ghost use Rattle.pgb_stage.specs.Halts.{Never};
-ghost use Rattle.pgb_stage.specs.Plans.{Heals, AreHealed, OnReading};
+ghost use Rattle.pgb_stage.specs.Plans.{Heals, AreHealed, AreHeld, OnReading};
 ghost use Rattle.pgb_model.specs.Names.{archive_folder};
 ghost use Rattle.pgb_stage.specs.Runs.{Quiet, Mends, Begins};
 ghost use Rattle.pgb_prepare.specs.Readies.{IsReady};
@@ -15,19 +15,21 @@ use crate::cluster::cluster_by;
 use crate::pairs::{archive_by, backup_by};
 use crate::ready::Ready;
 use pgb_disk::{StoreFault, begin};
-use pgb_outside::{Disk, Tree};
+use pgb_outside::{Disk, Locks, Tree};
 use pgb_stage::{Halt, Object, Plan, Settling, StageFault, halted};
 use std::alloc::{AllocError, Global};
 
 /// Settles the stanza's folders or that of the archive pair, reads the control file, and reads or heals the pairs, as
-/// far as the plan says so.
-pub fn prepare<D: Disk, T: Tree>(
+/// far as the plan says so. As long as it has the locks nobody can release them.
+pub fn prepare<D: Disk, T: Tree, K: Locks>(
     alloc: Global,
     repo: &mut D,
     tree: &mut T,
+    _locks: &K,
     stanza: &str,
     plan: &Plan,
 ) -> Result<Ready, Halt<StageFault>>
+    requires locked { AreHeld plan.now stanza.now (K.state _locks.now).taken }
     ensures ready { IfOk result (IsReady plan.now stanza.now (D.state repo.new).view.now (T.state tree.old).nodes) }
     ensures quiet { Quiet stanza.now (D.state repo.old).view (D.state repo.new).view }
     ensures begun { OnOk result (Begins plan.now.settling stanza.now (D.state repo.old).view (D.state repo.new).view) }

@@ -1,5 +1,5 @@
 // The file is stored.
-ghost use Rattle.std.specs.Prelude.{◌≡◌, ◌≤◌, ◌<◌, ◌^◌, IfOk, IfErr, IfSome, IsSome, IsSomeAnd, string_bytes};
+ghost use Rattle.std.specs.Prelude.{◌≡◌, ◌∷◌, [], ◌≤◌, ◌<◌, ◌^◌, IfOk, IfErr, IfSome, IsSome, IsSomeAnd, string_bytes};
 ghost use Rattle.pgb_outside.specs.Cause.{Rises};
 ghost use Rattle.pgb_outside.specs.States.{Frame, LooksAt};
 ghost use Rattle.pgb_model.specs.declared.clusters.ClusterId.{ClusterId};
@@ -15,6 +15,7 @@ ghost use Rattle.pgb_stage.specs.declared.plan.Settling.TheVariants.{Looked};
 ghost use Rattle.pgb_stage.specs.Cluster.{FolderTells};
 ghost use Rattle.pgb_stage.specs.Current.{HasValue, AgreesAtPair, id_kept};
 ghost use Rattle.pgb_stage.specs.Halts.{HaltCause};
+ghost use Rattle.pgb_stage.specs.Plans.{archive_lock};
 ghost use Rattle.pgb_stage.specs.Reached.{OnFinished, reached_by};
 ghost use Rattle.pgb_stage.specs.Risen.{none, rose_in};
 ghost use Rattle.pgb_stage.specs.Runs.{OnNone, Does};
@@ -31,7 +32,7 @@ use crate::log_file::{LogFile, open_log_file};
 use crate::order::PushOrder;
 use pgb_archive::{Pushed, push_from};
 use pgb_model::{ArchiveId, ArchiveInfo, ArchiveName};
-use pgb_outside::{Disk, Tree};
+use pgb_outside::{Disk, Locks, Tree};
 use pgb_stage::{Halt, Outcome};
 use pgb_stanza::Control;
 use std::alloc::{AllocError, Global};
@@ -117,16 +118,18 @@ fn store<D: Disk, T: Tree>(
     }
 }
 
-/// Stores the file under the id of the current cluster.
-pub fn push_file<D: Disk, T: Tree>(
+/// Stores the file under the id of the current cluster. As long as it has the locks nobody can release them.
+pub fn push_file<D: Disk, T: Tree, K: Locks>(
     alloc: Global,
     repo: &mut D,
     tree: &mut T,
+    _locks: &K,
     stanza: &str,
     order: PushOrder<'_>,
     told: &Control,
     info: &ArchiveInfo,
 ) -> Result<Outcome, Halt<PushFault>>
+    requires locked { (K.state _locks.now).taken ≡ archive_lock stanza.now ∷ [] }
     requires tells { IfSome (T.state tree.old).nodes (λ f. FolderTells f told.now) }
     requires pair { IfSome (D.state repo.old).view.now (λ f. HasValue stanza.now f (archive_info_of info.now)) }
     requires valid { IsArchiveInfo (archive_info_of info.now) }

@@ -1,5 +1,5 @@
 -- What a plan asks of the stages (pgBackRest command reference; own which locks).
-use Rattle.std.specs.Prelude.{◌≡◌, ◌≢◌, ◌⊎◌, ◌++◌, Bool, List, ◌∷◌, codes, Option, Some, None, option_map, IsSome, if◌then◌else◌, IfSome}
+use Rattle.std.specs.Prelude.{◌≡◌, ◌≢◌, ◌⊎◌, ◌++◌, Bool, List, [], ◌∷◌, codes, Option, Some, None, option_map, IsSome, if◌then◌else◌, IfSome}
 use Rattle.pgb_outside.specs.Content.{Content, Name, at}
 use Rattle.pgb_outside.specs.Crash.{IsTemporary}
 use Rattle.pgb_model.specs.Text.{Text}
@@ -40,6 +40,15 @@ with_locks plan folder stanza locks = with_one folder (second_lock plan stanza) 
 
 abbrev pub TakesLocks : Plan → Text → Text → Option (List (Text × Text)) → Option (List (Text × Text)) → Type 0
 TakesLocks plan folder stanza old new = new ≡ option_map (with_locks plan folder stanza) old
+
+-- one more lock is held
+abbrev pub with_held : Option Text → List Name → List Name
+with_held None held = held
+with_held (Some name) held = name ∷ held
+
+-- the locks that are held are the plan's
+abbrev pub AreHeld : Plan → Text → List Name → Type 0
+AreHeld plan stanza held = held ≡ with_held (second_lock plan stanza) (with_held (first_lock plan stanza) [])
 
 -- the name is that of one of the plan's locks
 abbrev pub IsLockOf : Plan → Text → Text → Type 0
