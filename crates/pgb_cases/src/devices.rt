@@ -3,9 +3,8 @@ use crate::node::Node;
 use crate::output::Output;
 use crate::world::Wanted;
 use pgb_command::{Outside, run};
-use pgb_memory::{MemDisk, MemLocks, MemNode, MemSource, MemTree};
+use pgb_memory::{MemDisk, MemLocks, MemNode, MemSource, MemTree, MemWire};
 use pgb_outside::{Link, NotThere, Turns};
-use pgb_server::memory::MemWire;
 use std::alloc::{AllocError, Global};
 
 /// A call that is to fail, by its device and its number, the first being 0.

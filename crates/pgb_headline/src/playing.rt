@@ -9,9 +9,8 @@ ghost use Rattle.pgb_headline.specs.Lists.{views, files_of, nodes_of, IsLeft, Ac
 
 use crate::calling::called;
 use pgb_command::Outside;
-use pgb_memory::{MemDisk, MemLocks, MemSink, MemSource, MemTree};
+use pgb_memory::{MemDisk, MemLocks, MemSink, MemSource, MemTree, MemWire};
 use pgb_outside::{Disk, Link, NotThere, Turns};
-use pgb_server::memory::MemWire;
 use std::alloc::Global;
 
 /// What a stop leaves of a disk: the moment of the stop, which kept value each name has, and the bytes of loose names; and

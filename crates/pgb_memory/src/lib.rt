@@ -3,6 +3,7 @@
 
 mod below;
 mod change;
+mod clock;
 mod copy;
 mod disk;
 mod failing;
@@ -17,7 +18,9 @@ mod sink;
 mod source;
 mod trace;
 mod tree;
+mod wire;
 
+pub use clock::MemClock;
 pub use disk::MemDisk;
 pub use files::MemFiles;
 pub use image::ImageFault;
@@ -27,3 +30,4 @@ pub use nodes::MemNode;
 pub use sink::MemSink;
 pub use source::MemSource;
 pub use tree::{MemTree, TreeFault};
+pub use wire::MemWire;

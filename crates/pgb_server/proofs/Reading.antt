@@ -85,10 +85,3 @@ gives_reads view (Err f) mid p h = fails_all f mid p (λ z rest. Ok (z, rest)) h
 pub reads_part : {Y W : Type 0} (f : Y → W) (y : Y) (old new : Option (List ℕ)) (read : List ℕ → Result (Y × List ℕ) Fault)
     → option_map read old ≡ option_map (λ rest. Ok (y, rest)) new → option_map (λ s. read s >>= part_of f) old ≡ option_map (λ rest. Ok (f y, rest)) new
 reads_part f y old new read h = reads_then y old new read (part_of f) h
-
--- a piece of what is left
-pub piece : (x rest xs : List ℕ) (n at : ℕ) → at + n ≤ length xs → x ≡ take n (drop at xs) → take n (x ++ rest) ++ drop (at + n) xs ≡ drop at xs
-piece x rest xs n at h e =
-    let len : length x ≡ n = ap length e ∙ length-take-le n (drop at xs) (simp length-drop (omega arith)) in
-    let seam : take n (x ++ rest) ≡ x = subst (λ k. take k (x ++ rest) ≡ x) len (take-append_seam x rest) in
-    ap (λ t. t ++ drop (at + n) xs) seam ∙ ap (λ t. x ++ t) (sym (drop-drop n at xs)) ∙ ap (λ t. t ++ drop n (drop at xs)) e ∙ take-append-drop n (drop at xs)

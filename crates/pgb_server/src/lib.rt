@@ -5,7 +5,6 @@ mod calls;
 mod cells;
 mod fault;
 mod fields;
-pub mod memory;
 mod message;
 mod phase;
 mod queries;

@@ -2,7 +2,7 @@
 
 use crate::answers::{answer, greeting};
 use crate::serve::serve;
-use pgb_server::memory::MemWire;
+use pgb_memory::MemWire;
 use pgb_server::{
     ServerFault, Started, Stopped, check_system, close, open, start_backup, stop_backup,
 };

@@ -2,7 +2,7 @@
 
 use crate::same::same;
 use crate::texts::SYSTEM;
-use pgb_server::memory::MemWire;
+use pgb_memory::MemWire;
 use pgb_server::{
     ServerFault, Session, Started, Stopped, ask_row, check_system, close, open, start_backup,
     stop_backup,

@@ -1,8 +1,7 @@
 // Calls of the program on one data folder, and what a list of them leaves.
 use pgb_headline::{Act, Disks, Halt, Left, PlayFault, play};
-use pgb_memory::{MemDisk, MemNode, MemSource, MemTree};
+use pgb_memory::{MemDisk, MemNode, MemSource, MemTree, MemWire};
 use pgb_outside::{Link, Turns};
-use pgb_server::memory::MemWire;
 use std::alloc::{AllocError, Global};
 
 // A control file as one of system 6917529027641081857 begins.

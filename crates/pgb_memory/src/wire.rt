@@ -1,37 +1,12 @@
-//! A connection in memory.
+// A connection in memory.
+ghost use Rattle.std.specs.Prelude.{◌≡◌, ◌≤◌, [], Some, drop, vec_len, string_bytes};
 
-ghost use Rattle.std.specs.Prelude.{◌≡◌, ◌≤◌, [], IsTrue, Some, drop, vec_len, string_bytes};
-ghost use Rattle.pgb_outside.specs.Cause.{Rises};
-
+use crate::failing::Failing;
 use pgb_outside::{Stop, Wire};
 use std::alloc::Global;
 
-// Which calls are to fail, and how many calls and faults there were.
-#[derive(Drop)]
-struct Calls {
-    fail: Vec<u64>,
-    calls: u64,
-    faults: u64,
-}
-
-impl Calls {
-    // Counts a call, and answers whether it is to fail, which is a fault.
-    fn fails(&mut self) -> bool
-        ensures later { self.old.faults ≤ self.new.faults }
-        ensures rises { IsTrue result → Rises self.old.faults self.new.faults }
-    {
-        let number = self.calls;
-        let faults = self.faults;
-        self.calls = number.saturating_add(1);
-        let fails = self.fail.contains(&number);
-        if fails {
-            self.faults = faults.saturating_add(1);
-        }
-        fails
-    }
-}
-
-/// Gives its input in pieces of these sizes, and as much as fits after the last, and keeps what it was sent.
+/// A connection that gives its input in pieces of these sizes, and as much as fits after the last, and keeps what it was
+/// sent.
 #[derive(Drop)]
 pub struct MemWire {
     alloc: Global,
@@ -43,7 +18,7 @@ pub struct MemWire {
     cut: usize,
     sent: Vec<u8>,
     place: String,
-    calls: Calls,
+    failing: Failing,
     ghost within: { at ≤ vec_len input },
 }
 
@@ -62,11 +37,7 @@ impl MemWire {
             cut: 0,
             sent: Vec::new(alloc),
             place: String::new(alloc),
-            calls: Calls {
-                fail,
-                calls: 0,
-                faults: 0,
-            },
+            failing: Failing::new(fail),
         }
     }
 
@@ -100,11 +71,11 @@ impl Wire for MemWire {
       pending = Some (drop w.at w.input.items);
       sent = Some w.sent.items;
       place = string_bytes w.place;
-      faults = w.calls.faults;
+      faults = w.failing.faults;
     } };
 
     fn open(&mut self, path: &str) -> Result<(), Stop> {
-        if self.calls.fails() {
+        if self.failing.fails() {
             return Err(Stop::Failed);
         }
         self.place = String::from_str(self.alloc, path)?;
@@ -112,17 +83,15 @@ impl Wire for MemWire {
     }
 
     fn send(&mut self, bytes: &[u8]) -> Result<(), Stop> {
-        if self.calls.fails() {
+        if self.failing.fails() {
             return Err(Stop::Failed);
         }
-        match self.sent.extend_from_slice(bytes) {
-            Ok(()) => Ok(()),
-            Err(_) => Err(Stop::NoMemory),
-        }
+        self.sent.extend_from_slice(bytes)?;
+        Ok(())
     }
 
     fn receive(&mut self, buf: &mut [u8]) -> Result<usize, Stop> {
-        if self.calls.fails() {
+        if self.failing.fails() {
             return Err(Stop::Failed);
         }
         let left = self.input.len() - self.at;
