@@ -1,7 +1,5 @@
 -- Readings of what is pending, one after another.
-use Rattle.std.proofs.Common.{◌≡◌, ℕ, List, take, drop, Option, Some, None, option_map, Result, Ok, Err, refl, sym, subst, ap, IfSome, IfOk, IfErr, OnOk, ◌∙◌, ◌+◌, ◌≤◌, ◌⊎◌, inl, inr, ◌++◌, length, length-drop, arith}
-use Rattle.std.proofs.lemmas.List.{length-take-le, drop-drop, take-append-drop}
-use Rattle.std.proofs.Math.Seq.{take-append_seam}
+use Rattle.std.proofs.Common.{◌≡◌, ℕ, List, take, drop, Option, Some, None, option_map, Result, Ok, Err, refl, sym, subst, ap, IfSome, IfOk, IfErr, OnOk, ◌∙◌, ◌⊎◌, inl, inr, length}
 use Rattle.pgb_server.specs.declared.fault.ServerFault.{ServerFault}
 use Rattle.pgb_server.specs.declared.fault.ServerFault.TheVariants as faults
 use Rattle.pgb_server.specs.Fault.{Fault, ◌>>=◌}
