@@ -7,7 +7,8 @@ use Rattle.pgb_text.proofs.Digests.{IsSum-sha1}
 use Rattle.pgb_outside.specs.Content.{Content, LiesDirectlyIn, put}
 use Rattle.pgb_outside.specs.Moments.{View, Rests, Settles, is_loose}
 use Rattle.pgb_outside.specs.Crash.{IsTemporary, Leaves, Crash, Ends, NowGoes, FirstOf, AllOf, Alike, IsAlikeAt}
-use Rattle.pgb_outside.proofs.Nows.{told_as, now_rests}
+use Rattle.pgb_outside.proofs.Crashes.{crash_ends, crash_rests, first_none, writes_on}
+use Rattle.pgb_outside.proofs.Nows.{told_as, now_none, now_rests}
 use Rattle.pgb_outside.proofs.Steps.{goes_on}
 use Rattle.pgb_model.specs.declared.wal.ArchiveId.{ArchiveId}
 use Rattle.pgb_model.specs.declared.wal.ArchiveName.{ArchiveName}
@@ -30,7 +31,7 @@ use Rattle.pgb_model.proofs.Walking.{rests_tight, rests_walks, walks_on, ends_on
 use Rattle.pgb_stored.specs.declared.names.FileNames.{FileNames}
 use Rattle.pgb_stored.specs.Stored.{archived_file, archive_path, StoresNone}
 use Rattle.pgb_stored.specs.Looks.{AreNamesOf, path_with}
-use Rattle.pgb_archive.specs.Pushes.{IsPathOf, PushesPart, PushesAll, LeavesPart, LeavesAll}
+use Rattle.pgb_archive.specs.Pushes.{IsPathOf, writes_of, PushesPart, PushesAll, LeavesPart, LeavesAll, Writes}
 use Rattle.pgb_archive.proofs.AlikeFiles.{alike_stores, alike_none}
 use Rattle.pgb_archive.proofs.FilePushed.{StoresSome, lacks_at, new_push, no_push}
 use Rattle.pgb_archive.specs.Pushing.{PutsPart, PutsWhole}
@@ -46,6 +47,13 @@ pub rests_leave : (stanza : Text) (id : ArchiveId) (name : ArchiveName) (bytes :
 rests_leave stanza id name bytes v b rests same = record {
   now = now_rests (PushesPart stanza id name bytes) v.now b.now (still_pushes stanza id name bytes) same;
   walks = λ tight told. rests_walks stanza v b rests same (PushesPart stanza id name bytes) (still_pushes stanza id name bytes) told tight;
+}
+
+-- .. and so the write wasn't made
+pub rests_write : (stanza : Text) (id : ArchiveId) (name : ArchiveName) (bytes : Text) (v b : View) → Rests v b → b.now ≡ v.now → Writes stanza id name bytes v b
+rests_write stanza id name bytes v b rests same = record {
+  now = now_none (writes_of stanza id name bytes) v.now b.now same;
+  crash = λ tight told. crash_rests (FirstOf (writes_of stanza id name bytes)) v b (first_none (writes_of stanza id name bytes)) rests same;
 }
 
 -- what is settled in the file's folder is so at its paths
@@ -197,13 +205,22 @@ module _ (stanza : Text) (id : ArchiveId) (name : ArchiveName) (place : (sum : T
       put_crash : IsTight stanza v → IsSome v.now → Crash (FirstOf ((archive_path stanza id name (sha1 read), read) ∷ [])) b d
       put_crash tight told = subst (λ (n : Text). Crash (FirstOf ((n, read) ∷ [])) b d) put_path (part.crash (some_b v b rests same tight told settles) (put_tight tight))
 
+      -- the write was made, or not
+      pub put_writes : Writes stanza id name read v d
+      put_writes =
+          let reading = crash_rests (FirstOf []) v b (first_none []) rests same in
+          record {
+            now = put_goes stanza id name names of place read (sha1 read) refl FirstOf v.now b.now d.now same part.now;
+            crash = λ tight told. writes_on [] (writes_of stanza id name read) v b d reading (crash_ends (AllOf []) v b reading) (put_crash tight told);
+          }
+
       -- what the disk held has the file nowhere
       was_none : (f : Content) → v.now ≡ Some f → StoresNone stanza id name f
       was_none f is = at_told (StoresNone stanza id name) v.now f is lacks
 
       now_part : NowGoes (PushesPart stanza id name read) v.now d.now
       now_part =
-          let goes = put_goes stanza id name names of place read (sha1 read) refl FirstOf v.now b.now d.now same part.now in
+          let goes = put_writes.now in
           record { told = goes.told; goes = λ f g is is'. new_part read f g (was_none f is) (goes.goes f g is is') }
 
       pub put_leaves : LeavesPart stanza id name read v d

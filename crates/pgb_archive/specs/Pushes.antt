@@ -4,7 +4,7 @@ use Rattle.sha1.specs.Sha1.{sha1}
 use Rattle.pgb_text.specs.Sum.{IsSum}
 use Rattle.pgb_outside.specs.Content.{Content}
 use Rattle.pgb_outside.specs.Moments.{View}
-use Rattle.pgb_outside.specs.Crash.{Write, Ends, NowGoes, FirstOf, IsAlikeAt}
+use Rattle.pgb_outside.specs.Crash.{Write, Crash, Ends, NowGoes, FirstOf, IsAlikeAt}
 use Rattle.pgb_model.specs.declared.wal.ArchiveId.{ArchiveId}
 use Rattle.pgb_model.specs.declared.wal.ArchiveName.{ArchiveName}
 use Rattle.pgb_model.specs.Text.{Text}
@@ -41,10 +41,15 @@ pub record LeavesAll (stanza : Text) (id : ArchiveId) (name : ArchiveName) (byte
   pub now : NowGoes (PushesAll stanza id name bytes) old.now new.now
   pub ends : IsTight stanza old → IsSome old.now → Ends (PushesAll stanza id name bytes) old new
 
+-- Of the bytes the one write is made or not: what the disk holds comes by it, and so does all that a stop leaves, at each moment.
+pub record Writes (stanza : Text) (id : ArchiveId) (name : ArchiveName) (bytes : Text) (old new : View) : Type 0 where
+  pub now : NowGoes (FirstOf (writes_of stanza id name bytes)) old.now new.now
+  pub crash : IsTight stanza old → IsSome old.now → Crash (FirstOf (writes_of stanza id name bytes)) old new
+
 -- What a push leaves after every answer: of its file a part or all, where the bytes are known. Only the file's path and temporary names change, none outside the stanza's folder of the archive.
 pub record Leaves (stanza : Text) (id : ArchiveId) (name : ArchiveName) (known : Option Text) (old new : View) : Type 0 where
   pub part : IfSome known (λ bytes. LeavesPart stanza id name bytes old new)
-  pub writes : (bytes : Text) × IfSome known (λ b. b ≡ bytes) × NowGoes (FirstOf (writes_of stanza id name bytes)) old.now new.now
+  pub writes : (bytes : Text) × IfSome known (λ b. b ≡ bytes) × Writes stanza id name bytes old new
   pub only : ChangesArchive stanza old new
 
 -- What it leaves at Ok: the file, and alike in all that a stop leaves.

@@ -3,3 +3,4 @@ pub mod Mends
 pub mod Onward
 pub mod Saved
 pub mod Owned
+pub mod Lasts

@@ -1,8 +1,6 @@
 -- Members that are written anew where they need it.
-use Rattle.std.proofs.Common.{◌≡◌, ◌≢◌, ⊎_elim, List, [], ◌∷◌, ◌++◌, length, Option, Some, None, refl, sym, ap, subst, ◌∙◌, arith, length-append}
-use Rattle.std.specs.Prelude.{false, IfSome, IsSome, codes}
-use Rattle.std.proofs.lemmas.Grind.{common_steps}
-use Rattle.std.proofs.lemmas.Slice.Eq.{bytes_eq-Decides}
+use Rattle.std.proofs.Common.{◌≡◌, ◌≢◌, ⊎_elim, List, [], ◌∷◌, Option, Some, None, refl, sym, ap, subst, ◌∙◌}
+use Rattle.std.specs.Prelude.{false, IfSome, IsSome}
 use Rattle.pgb_outside.specs.Content.{Value, Content, put}
 use Rattle.pgb_outside.specs.Moments.{View, Rests, is_loose}
 use Rattle.pgb_outside.specs.Crash.{IsTemporary, Alike, Crash, NowGoes, Write, AllOf, FirstOf, SomeOf}
@@ -13,8 +11,10 @@ use Rattle.pgb_model.specs.Text.{Text}
 use Rattle.pgb_model.specs.Names.{copy_of}
 use Rattle.pgb_model.specs.Create.{member_writes}
 use Rattle.pgb_model.specs.Pair.{MemberIs, PairIs}
+use Rattle.pgb_model.proofs.Created.{put_other, put_same}
+use Rattle.pgb_model.proofs.NameLemmas.{copy_apart}
 
-abbrev one : Text → Text → List Write
+abbrev pub one : Text → Text → List Write
 one name text = (name, text) ∷ []
 
 -- the member was only read
@@ -33,24 +33,15 @@ written_crash name text a b c lasts rests now written tight =
     let reading = crash_rests (SomeOf []) a b (some_none []) rests now in
     somes_on [] (one name text) a b c reading (crash_as (FirstOf (one name text)) (SomeOf (one name text)) b c (first_some (one name text)) (written (still_tight (SomeOf []) a b name reading lasts tight)))
 
-put_same : (name : Text) (v : Value) (f : Content) → put name v f name ≡ v
-put_same name v f = grind (arith, common_steps, bytes_eq-Decides name name)
-
-put_other : (name : Text) (v : Value) (f : Content) (q : Text) → q ≢ name → put name v f q ≡ f q
-put_other name v f q apart = grind (arith, common_steps, bytes_eq-Decides name q)
-
 -- the member that was written has the text
 pub written_held : (name text : Text) (a b : Option Content) → ¬ IsTemporary name → (a ≡ None → b ≡ None) → NowGoes (AllOf (one name text)) a b → IfSome b (λ f. f name ≡ Some text)
 written_held name text a None lasts still goes = tt
 written_held name text None (Some g) lasts still goes = absurd (untold (Some g) (still refl) refl)
 written_held name text (Some f) (Some g) lasts still goes = (goes.goes f g refl refl).same name lasts ∙ put_same name (Some text) f
 
-longer : (name : Text) → name ≢ copy_of name
-longer name e = let l : length name ≡ length (name ++ codes ".copy") = ap length e in omega (arith, length-append name (codes ".copy"))
-
 module _ (name text given : Text) (is : given ≡ copy_of name) (lasts : ¬ IsTemporary name) (copy_lasts : ¬ IsTemporary given) where
   apart : name ≢ given
-  apart e = longer name (e ∙ is)
+  apart e = copy_apart name (e ∙ is)
 
   abbrev first : List Write
   first = one name text

@@ -1,7 +1,8 @@
 -- The names of main members.
-use Rattle.std.specs.Prelude.{◌≡◌, ◌≢◌, ◌⊎◌, ◌++◌, codes}
+use Rattle.std.specs.Prelude.{◌≡◌, ◌≢◌, ◌⊎◌, ◌++◌, codes, false, IsSome}
 use Rattle.std.specs.List.{AllByRecursion}
-use Rattle.pgb_outside.specs.Crash.{IsTemporary}
+use Rattle.pgb_outside.specs.Moments.{View, is_loose}
+use Rattle.pgb_outside.specs.Crash.{IsTemporary, IsAlikeAt}
 use Rattle.pgb_model.specs.Text.{Text, ◌⫽◌}
 use Rattle.pgb_model.specs.Names.{copy_of}
 
@@ -17,6 +18,14 @@ pub record IsMemberName (name : Text) : Type 0 where
   pub plain : IsPlain last
   pub lasting : ¬ IsTemporary name
 
--- a member of the pair with this main member, or the name at which a member's bytes are put first
+-- a member of the pair with this main member
+abbrev pub IsMember : Text → Text → Type 0
+IsMember name n = (n ≡ name) ⊎ (n ≡ copy_of name)
+
+-- a member of it, or the name at which a member's bytes are put first
 abbrev pub IsOfPair : Text → Text → Type 0
-IsOfPair name n = (n ≡ name ++ codes ".pgbackrest.tmp") ⊎ ((n ≡ name) ⊎ (n ≡ copy_of name))
+IsOfPair name n = (n ≡ name ++ codes ".pgbackrest.tmp") ⊎ IsMember name n
+
+-- where no member was loose, and all that a crash left had of both what the disk held, it does so still
+abbrev pub KeepsMembers : Text → View → View → Type 0
+KeepsMembers name old new = is_loose old name ≡ false → is_loose old (copy_of name) ≡ false → IsSome old.now → IsAlikeAt (IsMember name) old → IsAlikeAt (IsMember name) new

@@ -3,7 +3,7 @@ ghost use Rattle.std.specs.Prelude.{◌≡◌, ◌⊎◌, ◌≤◌, [], ◌∷�
 ghost use Rattle.pgb_outside.specs.States.{Frame, Looks};
 ghost use Rattle.pgb_outside.specs.Content.{Name};
 ghost use Rattle.pgb_outside.specs.Moments.{Rests, is_loose};
-ghost use Rattle.pgb_outside.specs.Crash.{IsTemporary, Crash, NowGoes, SomeOf};
+ghost use Rattle.pgb_outside.specs.Crash.{IsTemporary, Crash, IsAlikeAt, NowGoes, SomeOf};
 ghost use Rattle.pgb_outside.specs.Cause.{Rises};
 ghost use Rattle.pgb_disk.specs.Store.{LiesIn, ChangesOnly};
 ghost use Rattle.pgb_model.specs.Names.{copy_of};
@@ -11,7 +11,7 @@ ghost use Rattle.pgb_model.specs.InfoText.{info_text};
 ghost use Rattle.pgb_model.specs.Pair.{PairIs};
 ghost use Rattle.pgb_model.specs.Create.{member_writes};
 ghost use Rattle.pgb_pair.specs.Causes.{PairCause, IfRefused};
-ghost use Rattle.pgb_pair.specs.Member.{IsMemberName, IsOfPair};
+ghost use Rattle.pgb_pair.specs.Member.{IsMemberName, IsOfPair, KeepsMembers};
 
 use crate::fault::{InfoFault, SaveFault};
 use crate::loading::{load_pair, read_bytes};
@@ -49,6 +49,9 @@ fn mend<D: Disk>(
         → Crash (SomeOf ((name.now, text.now) ∷ [])) (D.state d.old).view (D.state d.new).view }
     ensures now_part { NowGoes (SomeOf ((name.now, text.now) ∷ [])) (D.state d.old).view.now (D.state d.new).view.now }
     ensures mended { OnOk result (IfSome (D.state d.new).view.now (λ f. f name.now ≡ Some text.now)) }
+    // No stop takes it away.
+    ensures lasts { OnOk result (is_loose (D.state d.old).view name.now ≡ false → IsSome (D.state d.old).view.now
+        → IsAlikeAt (λ n. n ≡ name.now) (D.state d.old).view → IsAlikeAt (λ n. n ≡ name.now) (D.state d.new).view) }
     ensures untold { (D.state d.old).view.now ≡ None → (D.state d.new).view.now ≡ None }
     ensures only { ChangesOnly (λ n. (n ≡ temporary.now) ⊎ (n ≡ name.now)) (D.state d.old).view (D.state d.new).view }
     ensures frame { Frame (D.state d.old) (D.state d.new) }
@@ -71,6 +74,7 @@ fn mend_both<D: Disk>(alloc: Global, d: &mut D, name: &str, text: &[u8]) -> Resu
         (D.state d.new).view.now }
     ensures mended { OnOk result
         (IfSome (D.state d.new).view.now (λ f. (f name.now ≡ Some text.now) × (f (copy_of name.now) ≡ Some text.now))) }
+    ensures lasts { OnOk result (KeepsMembers name.now (D.state d.old).view (D.state d.new).view) }
     ensures only { ChangesOnly (IsOfPair name.now) (D.state d.old).view (D.state d.new).view }
     ensures frame { Frame (D.state d.old) (D.state d.new) }
     ensures cause { IsErrOf result SaveFault.Disk → Rises (D.state d.old).faults (D.state d.new).faults }
@@ -99,6 +103,7 @@ pub fn mend_pair<D: Disk, I: Info>(
     ensures mended { OnOk result
         (IfSome (D.state d.new).view.now (λ f. (f name.now ≡ Some (info_text (I.sections value.now)))
         × (f (copy_of name.now) ≡ Some (info_text (I.sections value.now))))) }
+    ensures lasts { OnOk result (KeepsMembers name.now (D.state d.old).view (D.state d.new).view) }
     ensures only { ChangesOnly (IsOfPair name.now) (D.state d.old).view (D.state d.new).view }
     ensures frame { Frame (D.state d.old) (D.state d.new) }
     ensures cause { IsErrOf result SaveFault.Disk → Rises (D.state d.old).faults (D.state d.new).faults }
@@ -116,6 +121,8 @@ pub fn heal_pair<D: Disk, I: ReadInfo>(alloc: Global, d: &mut D, name: &str) -> 
     ensures healed { IfOk result
         (λ v. IfSome (D.state d.new).view.now (λ f. (f name.now ≡ Some (I.text (I.value v)))
         × (f (copy_of name.now) ≡ Some (I.text (I.value v))))) }
+    // No stop takes them away.
+    ensures lasts { OnOk result (KeepsMembers name.now (D.state d.old).view (D.state d.new).view) }
     ensures now_part { (v : I.Value) → IfSome (D.state d.old).view.now (λ f. PairIs I.IsText f name.now v)
         → NowGoes (SomeOf (member_writes name.now (I.text v))) (D.state d.old).view.now (D.state d.new).view.now }
     ensures crash { (v : I.Value) → IfSome (D.state d.old).view.now (λ f. PairIs I.IsText f name.now v)

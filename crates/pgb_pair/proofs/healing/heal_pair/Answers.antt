@@ -6,6 +6,7 @@ use Rattle.pgb_model.specs.Pair.{PairIs}
 use Rattle.pgb_model.specs.Create.{member_writes}
 use Rattle.pgb_model.proofs.Temporary.{copy_at_lasts}
 use Rattle.pgb_pair.proofs.Owned.{looked_owned, owned_on}
+use Rattle.pgb_pair.proofs.Lasts.{members_on}
 use Rattle.pgb_pair.proofs.Mends.{no_crash, rest_then, healed_crash, healed_now, no_value, still_told}
 use Rattle.pgb_pair.proofs.healing.heal_pair.Goals as goal
 
@@ -64,3 +65,7 @@ returns-in_err-mend_pair-clause-only g c = owned_on c.args.name.now _ _ _ c.load
 
 pub returns-clause-only : goal.returns-clause-only
 returns-clause-only g c = owned_on c.args.name.now _ _ _ c.load_pair.ensures.looks c.mend_pair.ensures.only
+
+pub returns-clause-lasts : goal.returns-clause-lasts
+returns-clause-lasts g c = let name = c.args.name.now in
+    members_on name (g.D.Disk.state c.args.d.now).view (g.D.Disk.state c.load_pair.new.d).view (g.D.Disk.state c.mend_pair.new.d).view c.requires.named.lasting (copy_at_lasts name _ refl) c.load_pair.ensures.looks.time c.load_pair.ensures.looks.now c.in_ok-mend_pair.ensures.lasts

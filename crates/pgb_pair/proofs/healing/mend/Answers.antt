@@ -1,6 +1,7 @@
-use Rattle.std.proofs.Common.{◌∙◌, rules}
+use Rattle.std.proofs.Common.{◌≡◌, ◌∙◌, rules}
 use Rattle.pgb_pair.proofs.Owned.{looked_two, two_on}
 use Rattle.pgb_pair.proofs.Mends.{read_crash, written_crash, read_now, written_now, written_held}
+use Rattle.pgb_pair.proofs.Lasts.{looked_alike, written_alike}
 use Rattle.pgb_pair.proofs.Onward.{looked, frame_on, rises_on}
 use Rattle.pgb_pair.proofs.healing.mend.Goals as goal
 
@@ -69,3 +70,9 @@ returns-in_err-replace-clause-only g c = two_on c.args.temporary.now c.args.name
 
 pub returns-clause-only : goal.returns-clause-only
 returns-clause-only g c = two_on c.args.temporary.now c.args.name.now _ _ _ c.holds.ensures.looks c.replace.ensures.only
+
+pub returns-then-branch-clause-lasts : goal.returns-then-branch-clause-lasts
+returns-then-branch-clause-lasts g c = λ tight some alike. looked_alike (λ n. n ≡ c.args.name.now) _ _ c.holds.ensures.looks.time c.holds.ensures.looks.now alike
+
+pub returns-clause-lasts : goal.returns-clause-lasts
+returns-clause-lasts g c = λ tight some alike. written_alike c.args.name.now c.args.text.now c.requires.lasting _ _ _ c.holds.ensures.looks.time c.holds.ensures.looks.now c.in_ok-replace.ensures.whole tight some

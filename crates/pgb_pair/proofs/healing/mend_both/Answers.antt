@@ -3,6 +3,7 @@ use Rattle.std.proofs.lemmas.Result.{on_ok_weaker}
 use Rattle.pgb_model.proofs.Temporary.{copy_at_lasts}
 use Rattle.pgb_pair.proofs.Owned.{none_owned, main_only, copy_only}
 use Rattle.pgb_pair.proofs.Mends.{both_crash, both_now, both_held, first_crash, first_now, none_now, no_writes}
+use Rattle.pgb_pair.proofs.Lasts.{both_alike}
 use Rattle.pgb_pair.proofs.Onward.{still, frame_on, rises_on}
 use Rattle.pgb_pair.proofs.Saved.{main_folder, copy_folder}
 use Rattle.pgb_pair.proofs.healing.mend_both.Goals as goal
@@ -87,3 +88,8 @@ returns-clause-only g c =
     let name = c.args.name.now in
     copy_only name _ (c.as_str-2.ensures.value ∙ c.in_ok-temporary.ensures) _ _ _ _ (c.as_str-3.ensures.value ∙ c.in_ok-copy.ensures)
     (main_only name _ (c.as_str.ensures.value ∙ c.in_ok-temporary.ensures) _ _ c.mend.ensures.only) c.mend-2.ensures.only
+
+pub returns-clause-lasts : goal.returns-clause-lasts
+returns-clause-lasts g c =
+    let is = c.as_str-3.ensures.value ∙ c.in_ok-copy.ensures in
+    on_ok_weaker _ (λ copy. both_alike c.args.name.now c.args.text.now c.as_str-3.result.now is c.requires.lasting (copy_at_lasts c.args.name.now _ is) _ _ _ c.mend.ensures.crash c.mend-2.ensures.crash c.in_ok-mend.ensures.lasts copy) c.mend-2.ensures.lasts
