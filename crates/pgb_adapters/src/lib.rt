@@ -1,6 +1,7 @@
 //! The system's devices: its files, its output and its sockets, as the commands and a worker are handed them.
 #![tactic(auto)]
 
+mod clock;
 mod disk;
 mod files;
 mod handles;
@@ -14,6 +15,7 @@ mod tree;
 mod walk;
 mod wire;
 
+pub use clock::RealClock;
 pub use disk::RealDisk;
 pub use files::RealFiles;
 pub use input::RealInput;

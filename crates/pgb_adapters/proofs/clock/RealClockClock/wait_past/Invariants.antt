@@ -1,0 +1,6 @@
+use Rattle.std.proofs.Common.{◌≤◌}
+use Rattle.pgb_adapters.proofs.clock.RealClockClock.wait_past.Given as goal
+
+-- the clock goes on, and no fault is taken back
+abbrev pub invariant-loop : goal.invariant-loop
+invariant-loop l = (l.fn.self.least ≤ l.self.least) × (l.fn.self.faults.count ≤ l.self.faults.count)

@@ -1,0 +1,51 @@
+-- The latest second of a list's labels, and a draft of what was taken.
+use Rattle.std.proofs.Common.{◌≡◌, ⊎_elim, inl, inr, ℕ, ◌+◌, ◌<◌, ◌≤◌, Bool, true, false, List, [], ◌∷◌, ◌++◌, length, map, max, take, get_or, Option, Some, None, refl, sym, ◌∙◌, ap, subst, arith}
+use Rattle.std.specs.Prelude.{IfSome}
+use Rattle.std.proofs.lemmas.List.{map-append}
+use Rattle.pgb_outside.specs.Order.{is_before}
+use Rattle.pgb_outside.specs.States.{last_second}
+use Rattle.pgb_model.specs.declared.labels.Entry as rust_entry
+use Rattle.pgb_model.specs.declared.labels.Label.{Label}
+use Rattle.pgb_model.specs.declared.labels.Later.{Later}
+use Rattle.pgb_model.specs.declared.clusters.Cluster.{Cluster}
+use Rattle.pgb_model.specs.declared.wal.WalPart.{WalPart}
+use Rattle.pgb_model.specs.InfoFiles.{IsLabel, label_kind}
+use Rattle.pgb_model.specs.ManifestText.{IsWalPart, HasItsPrior}
+use Rattle.pgb_model.specs.Text.{In}
+use Rattle.pgb_model.specs.Names.{label_text}
+use Rattle.pgb_model.specs.Values.{Entry, BackupInfo, entry_of}
+use Rattle.pgb_plan.proofs.Lists.{in_parts, passed}
+use Rattle.pgb_record.specs.declared.recording.Head.{Head}
+use Rattle.pgb_record.specs.Bounds.{MayFollow}
+use Rattle.pgb_record.specs.Making.{labels_of}
+use Rattle.pgb_draft.specs.Seconds.{later_second, second_of, AreBefore, IsNext}
+use Rattle.pgb_draft.proofs.StampOrder.{label_before}
+
+-- one entry more
+pub latest_more : (listed : List rust_entry.Entry) (i latest : ℕ) (x : rust_entry.Entry) → i < length listed → x ≡ get_or listed i x → AreBefore (labels_of (map entry_of (take i listed))) (latest + 1) →
+    (new : ℕ) → second_of x.label ≤ new → latest ≤ new → AreBefore (labels_of (map entry_of (take (i + 1) listed))) (new + 1)
+latest_more listed i latest x less is before new here rest l at = ⊎_elim
+    (λ (old : In l (labels_of (map entry_of (take i listed)))). omega (arith, before l old, rest))
+    (λ (last : In l (x.label ∷ [])). ⊎_elim (λ (e : l ≡ x.label). subst (λ (m : Label). second_of m < new + 1) (sym e) (omega (arith, here))) (λ (none : ⊥). absurd none) last)
+    (in_parts (labels_of (map entry_of (take i listed))) (x.label ∷ []) l (subst (λ (ls : List Label). In l ls) all at))
+  where
+    all : labels_of (map entry_of (take (i + 1) listed)) ≡ labels_of (map entry_of (take i listed)) ++ x.label ∷ []
+    all = ap labels_of (passed entry_of listed i x less is) ∙ map-append (λ (e : Entry). e.label) (map entry_of (take i listed)) (entry_of x ∷ [])
+
+-- a label is named by no later second than it tells
+full_within : (full : ℕ) (later : Option Later) → full ≤ later_second full later
+full_within full None = omega arith
+full_within full (Some l) = omega arith
+
+-- a full backup that is named by such a second may be listed behind the others
+pub may_follow : (second : ℕ) (before : BackupInfo) (h : Head) → IsNext second before → In h.cluster before.history → h.label ≡ record { full = second; later = None } → h.prior ≡ None → h.wal ≡ None → h.start ≡ second → h.stop ≤ last_second → MayFollow h before
+may_follow second before h next cluster label prior wal start stop = record {
+  label = subst (λ (l : Label). IsLabel l) (sym label) (record { full = next.in_range; later = tt });
+  later = λ l at. ap (λ (m : Label). is_before (label_text l) (label_text m)) label ∙ label_before l second (omega (arith, next.later l at, full_within l.full l.later)) next.in_range;
+  prior = subst (λ (l : Label). HasItsPrior (label_kind l) h.prior) (sym label) prior;
+  listed = subst (λ (o : Option Label). IfSome o (λ l. In l (labels_of before.backups))) (sym prior) tt;
+  start = omega (arith, start, next.in_range);
+  stop = stop;
+  cluster = cluster;
+  wal = subst (λ (o : Option WalPart). IfSome o IsWalPart) (sym wal) tt;
+}

@@ -1,0 +1,2 @@
+pub mod StampOrder
+pub mod Latest
