@@ -1,10 +1,12 @@
 -- What a plan asks of the stages (pgBackRest command reference; own which locks).
 use Rattle.std.specs.Prelude.{◌≡◌, ◌≢◌, ◌⊎◌, ◌++◌, Bool, List, [], ◌∷◌, codes, Option, Some, None, option_map, IsSome, if◌then◌else◌, IfSome}
 use Rattle.pgb_outside.specs.Content.{Content, Name, at}
-use Rattle.pgb_outside.specs.Crash.{IsTemporary}
+use Rattle.pgb_outside.specs.Crash.{IsTemporary, IsAlikeAt}
+use Rattle.pgb_outside.specs.Moments.{View}
 use Rattle.pgb_model.specs.Text.{Text}
 use Rattle.pgb_model.specs.Names.{archive_info, copy_of}
 use Rattle.pgb_model.specs.Values.{ArchiveInfo}
+use Rattle.pgb_pair.specs.Member.{IsMember}
 use Rattle.pgb_stanza.specs.Pairs.{AgreeAt}
 use Rattle.pgb_stage.specs.Current.{HasValue}
 use Rattle.pgb_stage.specs.declared.plan.Plan.{Plan}
@@ -60,6 +62,11 @@ IsLockOf plan stanza name = (first_lock plan stanza ≡ Some name) ⊎ (second_l
 abbrev pub AreHealed : Pairs → Text → Content → Type 0
 AreHealed HealArchive stanza f = AgreeAt (archive_info stanza) f
 AreHealed other stanza f = Unit {0}
+
+-- all that a stop leaves has of both members of each pair that is healed what the disk holds
+abbrev pub HealsToLast : Pairs → Text → View → Type 0
+HealsToLast HealArchive stanza v = IsAlikeAt (IsMember (archive_info stanza)) v
+HealsToLast other stanza v = Unit {0}
 
 -- The disk holds what it held, but for the members of the archive pair and temporary names; and the pair has the value that it had.
 pub record HealsArchive (stanza : Text) (old new : Option Content) : Type 0 where
