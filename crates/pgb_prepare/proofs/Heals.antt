@@ -1,5 +1,5 @@
 -- What the healing of the archive pair does.
-use Rattle.std.proofs.Common.{◌≡◌, ◌≢◌, ⊎_elim, inl, inr, [], ◌≤◌, length, Option, Some, None, refl, ap, ◌∙◌, sym, subst, arith, true, false}
+use Rattle.std.proofs.Common.{◌≡◌, ◌≢◌, ⊎_elim, inl, inr, [], ◌≤◌, length, Option, Some, None, refl, ap, ◌∙◌, sym, subst, true, false}
 use Rattle.std.specs.Prelude.{IfSome, IsSome}
 use Rattle.pgb_outside.specs.Content.{Name, Content, put, at}
 use Rattle.pgb_outside.specs.Moments.{View, Rests, is_loose}
@@ -10,18 +10,15 @@ use Rattle.pgb_model.specs.Names.{archive_info, copy_of}
 use Rattle.pgb_model.specs.InfoText.{info_text}
 use Rattle.pgb_model.specs.InfoFiles.{IsArchiveText, IsArchiveInfo, archive_sections, info_limit}
 use Rattle.pgb_model.specs.Values.{ArchiveInfo}
-use Rattle.pgb_model.specs.Pair.{PairIs, PairAbsent, MemberIs}
+use Rattle.pgb_model.specs.Pair.{PairIs, PairAbsent}
 use Rattle.pgb_model.specs.Create.{member_writes}
-use Rattle.pgb_model.specs.Repository.{Stanza, Repository}
+use Rattle.pgb_model.specs.Repository.{Repository}
 use Rattle.pgb_model.specs.Stands.{Stands, IsVacant, archive_value}
 use Rattle.pgb_model.specs.Steps.{Reading}
 use Rattle.pgb_model.specs.Log.{Pair}
 use Rattle.pgb_model.specs.Now.{NowStands, NowDoes}
 use Rattle.pgb_model.specs.Walks.{IsTight, StandsStill, Walks}
-use Rattle.pgb_model.proofs.Created.{put_other, put_same}
-use Rattle.pgb_model.proofs.Frame.{pair_same}
-use Rattle.pgb_model.proofs.NameLemmas.{copy_apart}
-use Rattle.pgb_model.proofs.Temporary.{fixed_lasts}
+use Rattle.pgb_model.proofs.Created.{put_other}
 use Rattle.pgb_model.proofs.Walking.{crash_walks}
 use Rattle.pgb_info.proofs.OneArchive.{one_archive_pair}
 use Rattle.pgb_model.proofs.Healed.{healed_stands, healed_past, healed_now}
@@ -33,7 +30,6 @@ use Rattle.pgb_stage.specs.Current.{HasValue}
 use Rattle.pgb_stage.specs.Plans.{HealsArchive}
 use Rattle.pgb_stage.specs.Runs.{Mends, PairAlike}
 use Rattle.pgb_stage.proofs.Doing.{now_told}
-use Rattle.pgb_prepare.specs.Settled.{KeepsAlike}
 use Rattle.pgb_prepare.proofs.Mended.{reads_still}
 
 abbrev text_of : ArchiveInfo → Text
@@ -51,41 +47,8 @@ pub no_pair : (f : Content) (name : Text) (v : ArchiveInfo) → PairAbsent f nam
 no_pair f name v absent (inl m) = let e : ◌≡◌ {A = Option Text} None (Some m.0) = sym absent.0 ∙ m.1 in cc
 no_pair f name v absent (inr q) = let e : ◌≡◌ {A = Option Text} None (Some q.1.0) = sym absent.1 ∙ q.1.1 in cc
 
-told_here : (P : Content → Type 0) (o : Option Content) (f : Content) → o ≡ Some f → IfSome o P → P f
-told_here P o f is h = subst (λ (x : Option Content). IfSome x P) is h
-
 told_at : (P : Content → Type 0) (o : Option Content) (f : Content) → o ≡ Some f → P f → IfSome o P
 told_at P o f is p = subst (λ (x : Option Content). IfSome x P) (sym is) p
-
--- ---- the pair after it is healed
-
-module _ (stanza : Text) (v : ArchiveInfo) where
-  abbrev main : Text
-  main = archive_info stanza
-
-  abbrev copy : Text
-  copy = copy_of (archive_info stanza)
-
-  alike_pair : (f g : Content) → Alike f g → PairIs IsArchiveText f (archive_info stanza) v → PairIs IsArchiveText g (archive_info stanza) v
-  alike_pair f g a pair = pair_same IsArchiveText f g main v (a.same main (fixed_lasts stanza main (Pair (inl refl)))) (a.same copy (fixed_lasts stanza copy (Pair (inr (inl refl))))) pair
-
-  main_pair : (f : Content) → IsArchiveText v (text_of v) → PairIs IsArchiveText (put main (Some (text_of v)) f) main v
-  main_pair f is = inl (text_of v, put_same main (Some (text_of v)) f, is)
-
-  copy_pair : (f : Content) → IsArchiveText v (text_of v) → PairIs IsArchiveText f main v → PairIs IsArchiveText (put copy (Some (text_of v)) f) main v
-  copy_pair f is pair =
-      let other : put copy (Some (text_of v)) f main ≡ f main = put_other copy (Some (text_of v)) f main (copy_apart main) in
-      ⊎_elim (λ (m : MemberIs IsArchiveText f main v). inl (m.0, other ∙ m.1, m.2))
-      (λ (q : ((w : ArchiveInfo) → ¬ MemberIs IsArchiveText f main w) × MemberIs IsArchiveText f copy v).
-      inr ((λ w m. q.0 w (m.0, sym other ∙ m.1, m.2)), (text_of v, put_same copy (Some (text_of v)) f, is))) pair
-
-  healed_pair : (f g : Content) → PairIs IsArchiveText f (archive_info stanza) v → SomeOf (member_writes (archive_info stanza) (text_of v)) f g → PairIs IsArchiveText g (archive_info stanza) v
-  healed_pair f g pair w =
-      let is = text_is f main v pair in
-      ⊎_elim
-      (λ x. ⊎_elim (λ a. alike_pair f g a pair) (λ a. alike_pair (put copy (Some (text_of v)) f) g a (copy_pair f is pair)) x)
-      (λ x. ⊎_elim (λ a. alike_pair (put main (Some (text_of v)) f) g a (main_pair f is))
-      (λ a. alike_pair (put copy (Some (text_of v)) (put main (Some (text_of v)) f)) g a (copy_pair (put main (Some (text_of v)) f) is (main_pair f is))) x) w
 
 -- ---- what the calls on the pair tell
 
@@ -135,9 +98,6 @@ module _ (stanza : Text) (old new : View) (part : PartAt (archive_info stanza) o
           healed_stands stanza s (text_of v)
           (subst (λ (u : ArchiveInfo). IsArchiveText u (text_of v)) (one_archive_pair g (archive_info stanza) v (archive_value s) had stands.archive_pair) (text_is g (archive_info stanza) v had)) g h stands w
 
-      pairs_left : (g : Content) → Leaves new new.moment g → Has v g
-      pairs_left g leaves = let x = crash_here.comes some new.moment g crash_here.later (omega arith) leaves in healed_pair stanza v x.0 g (pair f x.0 v is x.1 has) x.2
-
     walks_from : (r : Repository) → Stands stanza f r → Walks stanza (StandsStill stanza) old new
     walks_from None vacant = let x = idle_at f is vacant in reads_still stanza old new x.1 x.0 tight some
     walks_from (Some s) stands =
@@ -152,13 +112,6 @@ module _ (stanza : Text) (old new : View) (part : PartAt (archive_info stanza) o
     beside = beside;
     walks = λ at. walks_from at.tight (now_told stanza old at.now) at.pair at.now.content at.now.now at.now.repository at.now.stands;
   }
-
-  -- the value that was read is in all that is left
-  heal_alike : (v : ArchiveInfo) → IfSome old.now (Has v) → IfSome new.now (Has v) → KeepsAlike stanza old new
-  heal_alike v was is = λ tight some pair f g x now leaves has.
-      let h = told_as old.now some in
-      let had : Has v f = told_here (Has v) new.now f now is in
-      subst (λ (u : ArchiveInfo). Has u g) (one_archive_pair f (archive_info stanza) v x had has) (pairs_left tight some pair h.0 h.1 v (told_here (Has v) old.now h.0 h.1 was) g leaves)
 
 -- ---- other names
 
@@ -189,11 +142,6 @@ module _ (stanza name : Text) (is : name ≡ archive_info stanza) (old new : Vie
   named_mends crash idle told only = heal_mends stanza old new part_here
       (subst (λ (n : Text). CrashAt n old new) is crash) (subst (λ (n : Text). IdleAt n old new) is idle) told
       (archive_pair_beside stanza old new (subst (λ (n : Text). ChangesOnly (IsOfPair n) old new) is only))
-
-  pub named_alike : CrashAt name old new → IdleAt name old new → (IsSome old.now → IsSome new.now) → (v : ArchiveInfo) → IfSome old.now (λ f. PairIs IsArchiveText f name v) → IfSome new.now (λ f. HasValue stanza f v) → KeepsAlike stanza old new
-  named_alike crash idle told v found kept = heal_alike stanza old new part_here
-      (subst (λ (n : Text). CrashAt n old new) is crash) (subst (λ (n : Text). IdleAt n old new) is idle) told v
-      (subst (λ (n : Text). IfSome old.now (λ f. PairIs IsArchiveText f n v)) is found) kept
 
   -- what the disk holds, but for the pair's members and temporary names
   pub named_only : (v : ArchiveInfo) → IfSome old.now (λ f. PairIs IsArchiveText f name v) → IfSome new.now (λ f. HasValue stanza f v) → IsSome old.now → HealsArchive stanza old.now new.now

@@ -1,25 +1,23 @@
 -- What reading calls are among those that mend the pairs.
-use Rattle.std.proofs.Common.{◌≡◌, inl, inr, [], Option, Some, refl, ◌∙◌, sym, subst, true}
+use Rattle.std.proofs.Common.{◌≡◌, inl, inr, [], Option, refl, sym, subst, true}
 use Rattle.std.specs.Prelude.{IsSome}
 use Rattle.pgb_outside.specs.Content.{Content}
-use Rattle.pgb_outside.specs.Crash.{Leaves, IsAlikeAt}
+use Rattle.pgb_outside.specs.Crash.{IsAlikeAt}
 use Rattle.pgb_outside.specs.Moments.{View, Rests}
 use Rattle.pgb_model.specs.Text.{Text}
 use Rattle.pgb_model.specs.InfoFiles.{IsArchiveText}
 use Rattle.pgb_model.specs.Names.{archive_info, copy_of}
 use Rattle.pgb_model.specs.Steps.{Reading}
 use Rattle.pgb_model.specs.Now.{NowStands, NowDoes}
-use Rattle.pgb_model.specs.Values.{ArchiveInfo}
-use Rattle.pgb_model.specs.Walks.{IsTight, StandsNow, StandsStill, Walks}
-use Rattle.pgb_model.proofs.Begun.{old_leaves}
+use Rattle.pgb_model.specs.Walks.{IsTight, StandsStill, Walks}
 use Rattle.pgb_model.proofs.Frame.{pair_same}
 use Rattle.pgb_model.proofs.Walking.{rests_walks, walks_on}
+use Rattle.pgb_pair.specs.Member.{IsMember, KeepsMembers}
+use Rattle.pgb_pair.proofs.Lasts.{looked_alike}
 use Rattle.pgb_archive.specs.Still.{rests_none}
 use Rattle.pgb_story.proofs.Stays.{rests_beside, beside_on}
-use Rattle.pgb_stage.specs.Current.{HasValue}
 use Rattle.pgb_stage.specs.Runs.{Mends, PairAlike}
 use Rattle.pgb_stage.proofs.Doing.{now_told}
-use Rattle.pgb_prepare.specs.Settled.{IsArchiveMember, KeepsAlike}
 
 module _ (stanza : Text) where
   -- nothing but reading
@@ -52,13 +50,14 @@ module _ (stanza : Text) where
   }
 
   -- members that are alike have one value
-  pub alike_value : (v : View) → IsAlikeAt (IsArchiveMember stanza) v → PairAlike stanza v
+  pub alike_value : (v : View) → IsAlikeAt (IsMember (archive_info stanza)) v → PairAlike stanza v
   alike_value v alike f g x now leaves has = pair_same IsArchiveText f g (archive_info stanza) x
       (alike f g now leaves (archive_info stanza) (inl refl)) (alike f g now leaves (copy_of (archive_info stanza)) (inr refl)) has
 
-  -- while only is read the value stays alike
-  pub alike_on : (b d : View) → Rests b d → d.now ≡ b.now → PairAlike stanza b → PairAlike stanza d
-  alike_on b d rests same alike f g x now leaves has = alike f g x (sym same ∙ now) (old_leaves b d rests g same leaves) has
+  -- while only is read the members stay alike
+  pub rests_members : (a b : View) → Rests a b → b.now ≡ a.now → KeepsMembers (archive_info stanza) a b
+  rests_members a b rests same = λ main copy told alike. looked_alike (IsMember (archive_info stanza)) a b rests same alike
 
-  pub rests_alike : (a b : View) → Rests a b → b.now ≡ a.now → KeepsAlike stanza a b
-  rests_alike a b rests same = λ tight told alike. alike_on a b rests same alike
+  -- .. behind what kept them so
+  pub members_then : (a b d : View) → KeepsMembers (archive_info stanza) a b → Rests b d → d.now ≡ b.now → KeepsMembers (archive_info stanza) a d
+  members_then a b d keeps rests same = λ main copy told alike. looked_alike (IsMember (archive_info stanza)) b d rests same (keeps main copy told alike)

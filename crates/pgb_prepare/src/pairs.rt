@@ -2,13 +2,13 @@
 ghost use Rattle.std.specs.Prelude.{◌≡◌, string_bytes, OnOk, IfOk, IfErr, IfSome};
 ghost use Rattle.pgb_outside.specs.States.{Frame, Looks};
 ghost use Rattle.pgb_model.specs.Names.{archive_info};
+ghost use Rattle.pgb_pair.specs.Member.{KeepsMembers};
 ghost use Rattle.pgb_archive.specs.Still.{IsStill};
 ghost use Rattle.pgb_stage.specs.declared.plan.Pairs.TheVariants.{HealArchive as Healing};
 ghost use Rattle.pgb_stage.specs.Current.{AgreesAtPair, ArchiveCause, BackupCause};
 ghost use Rattle.pgb_stage.specs.Plans.{Heals, OnReading, AreHealed};
 ghost use Rattle.pgb_stage.specs.Runs.{Mends};
 ghost use Rattle.pgb_prepare.specs.Readies.{has_archive, has_backup, IfAsked, IsArchiveOf, IsBackupOf};
-ghost use Rattle.pgb_prepare.specs.Settled.{KeepsAlike};
 ghost use Rattle.pgb_prepare.specs.Stages.{IsArchiveFault, ArchivePairCause, NoArchive, NoBackup, RepoCause};
 
 use pgb_info::MemberFault;
@@ -65,7 +65,8 @@ fn heal_pair_at<D: Disk>(
     ensures found { IfOk result (IsArchiveOf stanza.now (D.state repo.new).view.now) }
     ensures agrees { OnOk result (IfSome (D.state repo.new).view.now (AgreesAtPair stanza.now)) }
     ensures mends { Mends stanza.now (D.state repo.old).view (D.state repo.new).view }
-    ensures alike { OnOk result (KeepsAlike stanza.now (D.state repo.old).view (D.state repo.new).view) }
+    ensures lasts { OnOk result (KeepsMembers (archive_info stanza.now) (D.state repo.old).view
+        (D.state repo.new).view) }
     ensures only { OnOk result (Heals Healing stanza.now (D.state repo.old).view.now (D.state repo.new).view.now) }
     ensures frame { Frame (D.state repo.old) (D.state repo.new) }
     ensures cause { IfErr result (ArchivePairCause stanza.now (D.state repo.old) (D.state repo.new)) }
@@ -83,7 +84,8 @@ fn heal_archive<D: Disk>(
     ensures found { IfOk result (IsArchiveOf stanza.now (D.state repo.new).view.now) }
     ensures agrees { OnOk result (IfSome (D.state repo.new).view.now (AgreesAtPair stanza.now)) }
     ensures mends { Mends stanza.now (D.state repo.old).view (D.state repo.new).view }
-    ensures alike { OnOk result (KeepsAlike stanza.now (D.state repo.old).view (D.state repo.new).view) }
+    ensures lasts { OnOk result (KeepsMembers (archive_info stanza.now) (D.state repo.old).view
+        (D.state repo.new).view) }
     ensures only { OnOk result (Heals Healing stanza.now (D.state repo.old).view.now (D.state repo.new).view.now) }
     ensures frame { Frame (D.state repo.old) (D.state repo.new) }
     ensures cause { IfErr result (RepoCause (ArchiveCause stanza.now) (D.state repo.old) (D.state repo.new)) }
@@ -132,7 +134,8 @@ pub(crate) fn archive_by<D: Disk>(
     ensures healed { OnOk result (IfSome (D.state repo.new).view.now (AreHealed pairs stanza.now)) }
     ensures heals { OnOk result (Heals pairs stanza.now (D.state repo.old).view.now (D.state repo.new).view.now) }
     ensures mends { Mends stanza.now (D.state repo.old).view (D.state repo.new).view }
-    ensures alike { OnOk result (KeepsAlike stanza.now (D.state repo.old).view (D.state repo.new).view) }
+    ensures lasts { OnOk result (KeepsMembers (archive_info stanza.now) (D.state repo.old).view
+        (D.state repo.new).view) }
     ensures still { OnReading pairs (IsStill (D.state repo.old).view (D.state repo.new).view) }
     ensures frame { Frame (D.state repo.old) (D.state repo.new) }
     ensures cause { IfErr result (RepoCause (NoArchive pairs stanza.now) (D.state repo.old) (D.state repo.new)) }

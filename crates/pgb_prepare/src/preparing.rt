@@ -1,14 +1,17 @@
 // What is done behind the locks, before a command's own part.
-ghost use Rattle.std.specs.Prelude.{◌≡◌, false, OnOk, IfOk, IfErr, IfSome, string_bytes};
+ghost use Rattle.std.specs.Prelude.{◌≡◌, false, OnOk, IfOk, IfErr, IfSome, IsSome, string_bytes};
+ghost use Rattle.pgb_outside.specs.Moments.{Settles};
 ghost use Rattle.pgb_outside.specs.States.{Frame, Looks, LooksAt};
+ghost use Rattle.pgb_pair.specs.Member.{IsMember, KeepsMembers};
 ghost use Rattle.pgb_archive.specs.Still.{IsStill};
 ghost use Rattle.pgb_stage.specs.declared.plan.Settling.TheVariants.{Whole, Looked};
 ghost use Rattle.pgb_stage.specs.Halts.{Never};
-ghost use Rattle.pgb_stage.specs.Plans.{Heals, AreHealed, AreHeld, OnReading};
-ghost use Rattle.pgb_model.specs.Names.{archive_folder};
+ghost use Rattle.pgb_stage.specs.Plans.{Heals, AreHealed, HealsToLast, AreHeld, OnReading};
+ghost use Rattle.pgb_model.specs.Names.{archive_folder, archive_info};
+ghost use Rattle.pgb_model.specs.Walks.{IsTight};
 ghost use Rattle.pgb_stage.specs.Runs.{Quiet, Mends, Begins};
 ghost use Rattle.pgb_prepare.specs.Readies.{IsReady};
-ghost use Rattle.pgb_prepare.specs.Settled.{SettlesFor, KeepsAlike};
+ghost use Rattle.pgb_prepare.specs.Settled.{SettlesFor};
 ghost use Rattle.pgb_prepare.specs.Stages.{RepoCause, StopCause};
 
 use crate::cluster::cluster_by;
@@ -36,6 +39,9 @@ pub fn prepare<D: Disk, T: Tree, K: Locks>(
     ensures heals { OnOk result (Heals plan.now.pairs stanza.now (D.state repo.old).view.now
         (D.state repo.new).view.now) }
     ensures healed { OnOk result (IfSome (D.state repo.new).view.now (AreHealed plan.now.pairs stanza.now)) }
+    // No stop takes it away.
+    ensures lasts { OnOk result (IsTight stanza.now (D.state repo.old).view → IsSome (D.state repo.old).view.now
+        → HealsToLast plan.now.pairs stanza.now (D.state repo.new).view) }
     ensures still { OnReading plan.now.pairs (IsStill (D.state repo.old).view (D.state repo.new).view) }
     ensures frame { Frame (D.state repo.old) (D.state repo.new) }
     ensures looks { LooksAt (T.state tree.old) (T.state tree.new) }
@@ -50,6 +56,8 @@ pub fn prepare<D: Disk, T: Tree, K: Locks>(
 // Settles all of the stanza's folders.
 fn settle_whole<D: Disk>(alloc: Global, repo: &mut D, stanza: &str) -> Result<(), Halt<StageFault>>
     ensures settled { OnOk result (SettlesFor Whole stanza.now (D.state repo.old).view (D.state repo.new).view) }
+    ensures members { OnOk result (Settles (IsMember (archive_info stanza.now)) (D.state repo.old).view
+        (D.state repo.new).view) }
     ensures looks { Looks (D.state repo.old) (D.state repo.new) }
     ensures cause { IfErr result (RepoCause (λ _. Never) (D.state repo.old) (D.state repo.new)) }
 {
@@ -69,6 +77,8 @@ fn pair_folder(alloc: Global, stanza: &str) -> Result<String, AllocError>
 // Settles the folder of the archive pair.
 fn settle_pair<D: Disk>(alloc: Global, repo: &mut D, stanza: &str) -> Result<(), Halt<StageFault>>
     ensures settled { OnOk result (SettlesFor Looked stanza.now (D.state repo.old).view (D.state repo.new).view) }
+    ensures members { OnOk result (Settles (IsMember (archive_info stanza.now)) (D.state repo.old).view
+        (D.state repo.new).view) }
     ensures looks { Looks (D.state repo.old) (D.state repo.new) }
     ensures cause { IfErr result (RepoCause (λ _. Never) (D.state repo.old) (D.state repo.new)) }
 {
@@ -87,6 +97,8 @@ fn settle<D: Disk>(
     settling: Settling,
 ) -> Result<(), Halt<StageFault>>
     ensures settled { OnOk result (SettlesFor settling stanza.now (D.state repo.old).view (D.state repo.new).view) }
+    ensures members { OnOk result (Settles (IsMember (archive_info stanza.now)) (D.state repo.old).view
+        (D.state repo.new).view) }
     ensures looks { Looks (D.state repo.old) (D.state repo.new) }
     ensures cause { IfErr result (RepoCause (λ _. Never) (D.state repo.old) (D.state repo.new)) }
 {
@@ -106,7 +118,8 @@ fn find<D: Disk, T: Tree>(
 ) -> Result<Ready, Halt<StageFault>>
     ensures ready { IfOk result (IsReady plan.now stanza.now (D.state repo.new).view.now (T.state tree.old).nodes) }
     ensures mends { Mends stanza.now (D.state repo.old).view (D.state repo.new).view }
-    ensures alike { OnOk result (KeepsAlike stanza.now (D.state repo.old).view (D.state repo.new).view) }
+    ensures lasts { OnOk result (KeepsMembers (archive_info stanza.now) (D.state repo.old).view
+        (D.state repo.new).view) }
     ensures heals { OnOk result (Heals plan.now.pairs stanza.now (D.state repo.old).view.now
         (D.state repo.new).view.now) }
     ensures healed { OnOk result (IfSome (D.state repo.new).view.now (AreHealed plan.now.pairs stanza.now)) }

@@ -1,27 +1,29 @@
 -- A file that was opened, and what storing it does and answers; and why it isn't opened.
-use Rattle.std.proofs.Common.{◌≡◌, ◌∙◌, ℕ, ◌<◌, ◌^◌, [], ◌∷◌, Option, Some, Result, subst}
+use Rattle.std.proofs.Common.{◌≡◌, ◌∙◌, ℕ, ◌<◌, ◌^◌, Option, Some, Result, subst}
 use Rattle.std.specs.Prelude.{IfSome, IsSome, IsSomeAnd, IfErr, IsErrAnd, string_bytes}
 use Rattle.sha1.specs.Sha1.{sha1}
 use Rattle.pgb_text.proofs.Digests.{IsSum-sha1}
 use Rattle.pgb_outside.specs.Content.{Content}
-use Rattle.pgb_outside.specs.Crash.{FirstOf, NowGoes, IsAlikeAt}
+use Rattle.pgb_outside.specs.Crash.{IsAlikeAt}
 use Rattle.pgb_outside.specs.Moments.{View}
 use Rattle.pgb_outside.specs.Tree.{Nodes, known_path}
 use Rattle.pgb_model.specs.declared.clusters.ClusterId.{ClusterId}
 use Rattle.pgb_model.specs.declared.wal.ArchiveId.{ArchiveId}
 use Rattle.pgb_model.specs.Text.{Text}
 use Rattle.pgb_model.specs.Fields.{at_number}
-use Rattle.pgb_model.specs.Names.{wal_text}
+use Rattle.pgb_model.specs.Names.{archive_info, wal_text}
+use Rattle.pgb_model.specs.Stands.{IsArchiveFile}
 use Rattle.pgb_model.specs.Steps.{Command}
 use Rattle.pgb_model.specs.Values.{ArchiveInfo}
 use Rattle.pgb_model.specs.Walks.{IsTight}
+use Rattle.pgb_pair.specs.Member.{IsMember}
 use Rattle.pgb_stanza.specs.declared.control.Control.{Control}
 use Rattle.pgb_stanza.specs.Pairs.{identity_kept, identity_told}
 use Rattle.pgb_stored.specs.Causes.{limit_of}
 use Rattle.pgb_archive.specs.declared.fault.PushFault.{PushFault as StoreFault}
 use Rattle.pgb_archive.specs.declared.pushing.Pushed.{Pushed}
 use Rattle.pgb_stored.specs.Stored.{archive_path}
-use Rattle.pgb_archive.specs.Pushes.{IsPathOf, LeavesPart, LeavesAll, Leaves, LeavesFile}
+use Rattle.pgb_archive.specs.Pushes.{IsPathOf, LeavesPart, LeavesAll, Writes, Leaves, LeavesFile}
 use Rattle.pgb_archive.specs.Pushing.{IsPushedAs, PushFromCause}
 use Rattle.pgb_stage.specs.declared.plan.Settling.TheVariants.{Looked}
 use Rattle.pgb_stage.specs.declared.object.Object.TheVariants.{DataFolder}
@@ -43,7 +45,7 @@ use Rattle.pgb_push.specs.WalPath.{HasWal, wal_path}
 use Rattle.pgb_push.specs.WalCause.{FileCause}
 use Rattle.pgb_push.proofs.Doings.{as_err}
 use Rattle.pgb_push.proofs.Logged.{opened_there, told_bytes, read_bytes}
-use Rattle.pgb_push.proofs.Stores.{stores_part, stores_whole, agrees_on, current_on}
+use Rattle.pgb_push.proofs.Stores.{stores_part, stores_whole, agrees_on, members_on, current_on}
 use Rattle.pgb_push.proofs.StoreCauses.{file_of, is_current, file_ends, halt_ends, stored_as}
 
 module _ (stanza : Text) (order : PushOrder) (nodes : Option Nodes) (log : LogFile)
@@ -95,7 +97,7 @@ module _ (stanza : Text) (order : PushOrder) (nodes : Option Nodes) (log : LogFi
       named = order.named;
       current = at.0;
       has = current_on stanza (archive_path stanza id order.name (sha1 w.0)) w.0 at.0 old.now new.now
-          (file_of stanza id order.name (sha1 w.0) fits order.named.fits (IsSum-sha1 w.0)) w.2 at.2.current some;
+          (file_of stanza id order.name (sha1 w.0) fits order.named.fits (IsSum-sha1 w.0)) w.2.now at.2.current some;
       alike = subst (λ (i : ArchiveId). IsAlikeAt (IsPathOf stanza i order.name) new) at.1 (file.alike tight some);
     }
 
@@ -118,14 +120,20 @@ module _ (stanza : Text) (order : PushOrder) (nodes : Option Nodes) (log : LogFi
         (told_file nodes place) first count has lines pushed now is answered
 
 -- the pair's members stay as they are
-pub opened_agrees : (stanza : Text) (order : PushOrder) (id : ArchiveId) → (id.version < 2 ^ 32) × (id.number < 2 ^ 32)
-    → (known : Option Text) (old new : Option Content)
-    → (bytes : Text) × IfSome known (λ b. b ≡ bytes)
-    × NowGoes (FirstOf ((archive_path stanza id order.name (sha1 bytes), bytes) ∷ [])) old new
-    → IfSome old (AgreesAtPair stanza) → IsSome old → IfSome new (AgreesAtPair stanza)
-opened_agrees stanza order id fits known old new w agrees some =
-    agrees_on stanza (archive_path stanza id order.name (sha1 w.0)) w.0 old new
-    (file_of stanza id order.name (sha1 w.0) fits order.named.fits (IsSum-sha1 w.0)) w.2 some agrees
+module _ (stanza : Text) (order : PushOrder) (id : ArchiveId) (fits : (id.version < 2 ^ 32) × (id.number < 2 ^ 32))
+    (known : Option Text) (old new : View)
+    (w : (bytes : Text) × IfSome known (λ b. b ≡ bytes) × Writes stanza id order.name bytes old new) where
+  file : IsArchiveFile stanza (archive_path stanza id order.name (sha1 w.0))
+  file = file_of stanza id order.name (sha1 w.0) fits order.named.fits (IsSum-sha1 w.0)
+
+  pub opened_agrees : IfSome old.now (AgreesAtPair stanza) → IsSome old.now → IfSome new.now (AgreesAtPair stanza)
+  opened_agrees agrees some =
+      agrees_on stanza (archive_path stanza id order.name (sha1 w.0)) w.0 old.now new.now file w.2.now some agrees
+
+  pub opened_alike : IsTight stanza old → IsSome old.now → IsAlikeAt (IsMember (archive_info stanza)) old
+      → IsAlikeAt (IsMember (archive_info stanza)) new
+  opened_alike tight some alike =
+      members_on stanza (archive_path stanza id order.name (sha1 w.0)) w.0 old new file (w.2.crash tight some) some alike
 
 -- the file isn't there, or it is too long
 pub unopened_ends : (stanza : Text) (order : PushOrder) (repo : Option Content) (nodes : Option Nodes) (told : Control)

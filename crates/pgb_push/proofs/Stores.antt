@@ -3,8 +3,9 @@ use Rattle.std.proofs.Common.{◌≡◌, ◌≢◌, ◌⊎◌, ⊎_elim, inl, in
 use Rattle.std.specs.Prelude.{IfSome, IsSome, IsSomeAnd}
 use Rattle.pgb_outside.specs.Content.{Content, put}
 use Rattle.pgb_outside.specs.Moments.{View}
-use Rattle.pgb_outside.specs.Crash.{Alike, IsTemporary, Leaves, FirstOf, NowGoes}
+use Rattle.pgb_outside.specs.Crash.{Alike, IsTemporary, Leaves, Crash, FirstOf, NowGoes, IsAlikeAt}
 use Rattle.pgb_outside.specs.Tree.{Nodes, file_bytes}
+use Rattle.pgb_outside.proofs.Crashes.{crash_ends}
 use Rattle.pgb_outside.proofs.Nows.{told_as}
 use Rattle.pgb_model.specs.declared.clusters.Cluster.{Cluster}
 use Rattle.pgb_model.specs.declared.clusters.ClusterId.{ClusterId}
@@ -28,6 +29,8 @@ use Rattle.pgb_model.proofs.PushSound.{push_keeps_sound}
 use Rattle.pgb_model.proofs.Segments.{IsPartOfPush}
 use Rattle.pgb_model.proofs.Walking.{walks_with, ends_with}
 use Rattle.pgb_info.proofs.OneArchive.{one_archive_pair}
+use Rattle.pgb_pair.specs.Member.{IsMember}
+use Rattle.pgb_pair.proofs.Lasts.{ends_alike}
 use Rattle.pgb_archive.specs.Pushes.{PushesPart, PushesAll, LeavesPart, LeavesAll}
 use Rattle.pgb_stage.specs.declared.plan.Settling.TheVariants.{Looked}
 use Rattle.pgb_stage.specs.Current.{HasCurrent, id_kept, AgreesAtPair}
@@ -210,6 +213,16 @@ agrees_on stanza name bytes old new file goes some agrees =
     let h : AgreesAtPair stanza f.0 = subst (λ (o : Option Content). IfSome o (AgreesAtPair stanza)) f.1 agrees in
     subst (λ (o : Option Content). IfSome o (AgreesAtPair stanza)) (sym g.1)
     (copy ∙ h.0 ∙ sym main, subst (λ (v : Option Text). IsSome v) (sym main) h.1)
+
+-- .. in all that a crash leaves too
+pub members_on : (stanza name bytes : Text) (old new : View) → IsArchiveFile stanza name
+    → Crash (FirstOf ((name, bytes) ∷ [])) old new → IsSome old.now → IsAlikeAt (IsMember (archive_info stanza)) old
+    → IsAlikeAt (IsMember (archive_info stanza)) new
+members_on stanza name bytes old new file crash some alike =
+    ends_alike (IsMember (archive_info stanza)) old new (FirstOf ((name, bytes) ∷ []))
+    (λ f g w n is. kept_at stanza name bytes n f g file is (pair_lasts stanza n
+    (⊎_elim (λ (e : n ≡ archive_info stanza). inl e) (λ (e : n ≡ copy_of (archive_info stanza)). inr (inl e)) is)) w)
+    (crash_ends (FirstOf ((name, bytes) ∷ [])) old new crash) some alike
 
 -- .. and its current cluster
 pub current_on : (stanza name bytes : Text) (c : ClusterId) (old new : Option Content) → IsArchiveFile stanza name

@@ -1,13 +1,15 @@
 // The file is stored.
 ghost use Rattle.std.specs.Prelude.{◌≡◌, ◌∷◌, [], ◌≤◌, ◌<◌, ◌^◌, IfOk, IfErr, IfSome, IsSome, IsSomeAnd, string_bytes};
 ghost use Rattle.pgb_outside.specs.Cause.{Rises};
+ghost use Rattle.pgb_outside.specs.Crash.{IsAlikeAt};
 ghost use Rattle.pgb_outside.specs.States.{Frame, LooksAt};
 ghost use Rattle.pgb_model.specs.declared.clusters.ClusterId.{ClusterId};
 ghost use Rattle.pgb_model.specs.InfoFiles.{IsArchiveInfo};
-ghost use Rattle.pgb_model.specs.Names.{wal_text};
+ghost use Rattle.pgb_model.specs.Names.{archive_info, wal_text};
 ghost use Rattle.pgb_model.specs.Steps.{Command};
 ghost use Rattle.pgb_model.specs.Values.{archive_info_of};
 ghost use Rattle.pgb_model.specs.Walks.{IsTight};
+ghost use Rattle.pgb_pair.specs.Member.{IsMember};
 ghost use Rattle.pgb_stored.specs.Causes.{limit_of};
 ghost use Rattle.pgb_story.specs.Beside.{StaysBeside};
 ghost use Rattle.pgb_archive.specs.Still.{IsStill};
@@ -87,6 +89,9 @@ fn store<D: Disk, T: Tree>(
         (D.state repo.new).view)) }
     ensures agrees { IfSome (D.state repo.old).view.now (AgreesAtPair stanza.now) → IsSome (D.state repo.old).view.now
         → IfSome (D.state repo.new).view.now (AgreesAtPair stanza.now) }
+    ensures alike { IsTight stanza.now (D.state repo.old).view → IsSome (D.state repo.old).view.now
+        → IsAlikeAt (IsMember (archive_info stanza.now)) (D.state repo.old).view
+        → IsAlikeAt (IsMember (archive_info stanza.now)) (D.state repo.new).view }
     ensures rest { OnNone (reached_by push_early result) (IsStill (D.state repo.old).view (D.state repo.new).view) }
     ensures looks { LooksAt (T.state tree.old) (T.state tree.new) }
     ensures beside { StaysBeside stanza.now (D.state repo.old).view (D.state repo.new).view }
@@ -146,6 +151,9 @@ pub fn push_file<D: Disk, T: Tree, K: Locks>(
         (D.state repo.new).view)) }
     ensures agrees { IfSome (D.state repo.old).view.now (AgreesAtPair stanza.now) → IsSome (D.state repo.old).view.now
         → IfSome (D.state repo.new).view.now (AgreesAtPair stanza.now) }
+    ensures alike { IsTight stanza.now (D.state repo.old).view → IsSome (D.state repo.old).view.now
+        → IsAlikeAt (IsMember (archive_info stanza.now)) (D.state repo.old).view
+        → IsAlikeAt (IsMember (archive_info stanza.now)) (D.state repo.new).view }
     ensures rest { OnNone (reached_by push_early result) (IsStill (D.state repo.old).view (D.state repo.new).view) }
     ensures looks { LooksAt (T.state tree.old) (T.state tree.new) }
     ensures beside { StaysBeside stanza.now (D.state repo.old).view (D.state repo.new).view }

@@ -1,6 +1,9 @@
+use Rattle.std.proofs.Common.{subst}
+use Rattle.pgb_model.specs.Text.{Text}
 use Rattle.pgb_model.specs.Values.{archive_info_of}
+use Rattle.pgb_pair.specs.Member.{KeepsMembers}
 use Rattle.pgb_stanza.proofs.Saves.{archive_name_is}
-use Rattle.pgb_prepare.proofs.Heals.{named_mends, named_alike, named_only, named_value}
+use Rattle.pgb_prepare.proofs.Heals.{named_mends, named_only, named_value}
 use Rattle.pgb_prepare.proofs.pairs.heal_pair_at.Goals as goal
 
 pub heal_pair-requires : goal.heal_pair-requires
@@ -22,6 +25,5 @@ pub returns-clause-only : goal.returns-clause-only
 returns-clause-only g c =
     named_only c.args.stanza.now c.args.name.now c.requires (g.D.Disk.state c.args.repo.now).view (g.D.Disk.state c.heal_pair.new.d).view c.heal_pair.ensures.now_part (archive_info_of c.in_ok-info.info) c.in_ok-info.ensures.found (returns-clause-found g c).0
 
-pub returns-clause-alike : goal.returns-clause-alike
-returns-clause-alike g c = let h = c.heal_pair.ensures in
-    named_alike c.args.stanza.now c.args.name.now c.requires (g.D.Disk.state c.args.repo.now).view (g.D.Disk.state c.heal_pair.new.d).view h.now_part h.crash h.idle h.told (archive_info_of c.in_ok-info.info) c.in_ok-info.ensures.found (returns-clause-found g c).0
+pub returns-clause-lasts : goal.returns-clause-lasts
+returns-clause-lasts g c = subst (λ (n : Text). KeepsMembers n (g.D.Disk.state c.args.repo.now).view (g.D.Disk.state c.heal_pair.new.d).view) c.requires c.in_ok-info.ensures.lasts

@@ -1,7 +1,7 @@
 use Rattle.pgb_archive.specs.Still.{still_on}
 use Rattle.pgb_prepare.proofs.Found.{backup_ends}
 use Rattle.pgb_prepare.proofs.Readings.{reading_as}
-use Rattle.pgb_prepare.proofs.Mended.{still_mends, mends_on, alike_on}
+use Rattle.pgb_prepare.proofs.Mended.{still_mends, mends_on, members_then}
 use Rattle.pgb_prepare.proofs.preparing.find.Goals as goal
 
 pub returns-in_err-control-clause-mends : goal.returns-in_err-control-clause-mends
@@ -20,8 +20,8 @@ returns-in_err-backup-clause-cause g c = let h = c.archive_by.ensures in
 pub returns-clause-mends : goal.returns-clause-mends
 returns-clause-mends g c = let h = c.backup_by.ensures.looks in mends_on c.args.stanza.now _ _ _ c.archive_by.ensures.mends h.time h.now
 
-pub returns-clause-alike : goal.returns-clause-alike
-returns-clause-alike g c = λ tight told alike. alike_on c.args.stanza.now _ _ c.backup_by.ensures.looks.time c.backup_by.ensures.looks.now (c.in_ok-archive.ensures.alike tight told alike)
+pub returns-clause-lasts : goal.returns-clause-lasts
+returns-clause-lasts g c = let h = c.backup_by.ensures.looks in members_then c.args.stanza.now (g.D.Disk.state c.args.repo.now).view (g.D.Disk.state c.archive_by.new.repo).view (g.D.Disk.state c.backup_by.new.repo).view c.in_ok-archive.ensures.lasts h.time h.now
 
 pub returns-in_err-backup-clause-still : goal.returns-in_err-backup-clause-still
 returns-in_err-backup-clause-still g c = let h = c.backup_by.ensures.looks in

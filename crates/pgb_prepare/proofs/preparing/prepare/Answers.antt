@@ -2,7 +2,7 @@ use Rattle.std.proofs.lemmas.Result.{on_ok_weaker}
 use Rattle.pgb_archive.specs.Still.{still_on}
 use Rattle.pgb_stage.proofs.Lifted.{rests_quiet}
 use Rattle.pgb_prepare.proofs.Readings.{reading_as}
-use Rattle.pgb_prepare.proofs.Begun.{prepared_quiet, prepared_begins}
+use Rattle.pgb_prepare.proofs.Begun.{prepared_quiet, prepared_begins, prepared_lasts}
 use Rattle.pgb_prepare.proofs.preparing.prepare.Goals as goal
 
 pub returns-in_err-settle-clause-quiet : goal.returns-in_err-settle-clause-quiet
@@ -13,7 +13,11 @@ returns-clause-quiet g c = let h = c.settle.ensures.looks in prepared_quiet c.ar
 
 pub returns-clause-begun : goal.returns-clause-begun
 returns-clause-begun g c = let h = c.settle.ensures.looks in
-    on_ok_weaker c.find.result (λ alike. prepared_begins c.args.stanza.now _ _ h.time h.now _ c.find.ensures.mends c.args.plan.now.settling c.in_ok-settle.ensures.settled alike) c.find.ensures.alike
+    on_ok_weaker c.find.result (λ keeps. prepared_begins c.args.stanza.now (g.D.Disk.state c.args.repo.now).view (g.D.Disk.state c.settle.new.repo).view h.time h.now (g.D.Disk.state c.find.new.repo).view c.find.ensures.mends c.args.plan.now.settling c.in_ok-settle.ensures.settled c.in_ok-settle.ensures.members keeps) c.find.ensures.lasts
+
+pub returns-clause-lasts : goal.returns-clause-lasts
+returns-clause-lasts g c = let h = c.settle.ensures.looks in
+    on_ok_weaker c.find.result (λ keeps. prepared_lasts c.args.stanza.now (g.D.Disk.state c.args.repo.now).view (g.D.Disk.state c.settle.new.repo).view h.time h.now (g.D.Disk.state c.find.new.repo).view c.in_ok-settle.ensures.members keeps c.args.plan.now.pairs) c.find.ensures.lasts
 
 pub returns-clause-still : goal.returns-clause-still
 returns-clause-still g c = let h = c.settle.ensures.looks in

@@ -3,7 +3,7 @@ use Rattle.pgb_stage.proofs.Besides.{archive_beside}
 use Rattle.pgb_push.specs.Outcomes.{pushed_lines}
 use Rattle.pgb_push.proofs.Doings.{halt_did, memory_did, end_did}
 use Rattle.pgb_push.proofs.Logged.{opened_read}
-use Rattle.pgb_push.proofs.Opened.{opened_agrees, opened_part, opened_whole, opened_lasts, opened_ends, opened_stored}
+use Rattle.pgb_push.proofs.Opened.{opened_agrees, opened_alike, opened_part, opened_whole, opened_lasts, opened_ends, opened_stored}
 use Rattle.pgb_push.proofs.pushing.store.Goals as goal
 
 pub push_from-requires-clause-told : goal.push_from-requires-clause-told
@@ -24,7 +24,8 @@ returns-in-Err-clause-does g c = λ command asked.
 
 pub returns-in-Err-clause-agrees : goal.returns-in-Err-clause-agrees
 returns-in-Err-clause-agrees g c =
-    opened_agrees c.args.stanza.now c.args.order.now c.args.id.now c.requires.fits _ _ _ c.push_from.ensures.leaves.writes
+    opened_agrees c.args.stanza.now c.args.order.now c.args.id.now c.requires.fits _
+    (g.D.Disk.state c.args.repo.now).view (g.D.Disk.state c.push_from.new.d).view c.push_from.ensures.leaves.writes
 
 pub returns-in-Err-clause-cause : goal.returns-in-Err-clause-cause
 returns-in-Err-clause-cause g c =
@@ -46,7 +47,8 @@ returns-in_err-lines-in-Ok-clause-does g c = λ command asked.
 
 pub returns-in_err-lines-in-Ok-clause-agrees : goal.returns-in_err-lines-in-Ok-clause-agrees
 returns-in_err-lines-in-Ok-clause-agrees g c =
-    opened_agrees c.args.stanza.now c.args.order.now c.args.id.now c.requires.fits _ _ _ c.push_from.ensures.leaves.writes
+    opened_agrees c.args.stanza.now c.args.order.now c.args.id.now c.requires.fits _
+    (g.D.Disk.state c.args.repo.now).view (g.D.Disk.state c.push_from.new.d).view c.push_from.ensures.leaves.writes
 
 -- ---- it was stored
 
@@ -72,7 +74,8 @@ returns-in_ok-lines-in-Ok-clause-lasts g c = λ tight some.
 
 pub returns-in_ok-lines-in-Ok-clause-agrees : goal.returns-in_ok-lines-in-Ok-clause-agrees
 returns-in_ok-lines-in-Ok-clause-agrees g c =
-    opened_agrees c.args.stanza.now c.args.order.now c.args.id.now c.requires.fits _ _ _ c.push_from.ensures.leaves.writes
+    opened_agrees c.args.stanza.now c.args.order.now c.args.id.now c.requires.fits _
+    (g.D.Disk.state c.args.repo.now).view (g.D.Disk.state c.push_from.new.d).view c.push_from.ensures.leaves.writes
 
 pub returns-in_ok-lines-in-Ok-clause-stored : goal.returns-in_ok-lines-in-Ok-clause-stored
 returns-in_ok-lines-in-Ok-clause-stored g c =
@@ -91,3 +94,18 @@ returns-in_err-lines-in-Ok-clause-beside g c = archive_beside c.args.stanza.now 
 
 pub returns-in_ok-lines-in-Ok-clause-beside : goal.returns-in_ok-lines-in-Ok-clause-beside
 returns-in_ok-lines-in-Ok-clause-beside g c = archive_beside c.args.stanza.now _ _ c.push_from.ensures.leaves.only
+
+pub returns-in-Err-clause-alike : goal.returns-in-Err-clause-alike
+returns-in-Err-clause-alike g c =
+    opened_alike c.args.stanza.now c.args.order.now c.args.id.now c.requires.fits _
+    (g.D.Disk.state c.args.repo.now).view (g.D.Disk.state c.push_from.new.d).view c.push_from.ensures.leaves.writes
+
+pub returns-in_err-lines-in-Ok-clause-alike : goal.returns-in_err-lines-in-Ok-clause-alike
+returns-in_err-lines-in-Ok-clause-alike g c =
+    opened_alike c.args.stanza.now c.args.order.now c.args.id.now c.requires.fits _
+    (g.D.Disk.state c.args.repo.now).view (g.D.Disk.state c.push_from.new.d).view c.push_from.ensures.leaves.writes
+
+pub returns-in_ok-lines-in-Ok-clause-alike : goal.returns-in_ok-lines-in-Ok-clause-alike
+returns-in_ok-lines-in-Ok-clause-alike g c =
+    opened_alike c.args.stanza.now c.args.order.now c.args.id.now c.requires.fits _
+    (g.D.Disk.state c.args.repo.now).view (g.D.Disk.state c.push_from.new.d).view c.push_from.ensures.leaves.writes
