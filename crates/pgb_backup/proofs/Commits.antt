@@ -3,7 +3,7 @@ use Rattle.std.proofs.Common.{◌≡◌, ◌≢◌, ◌≤◌, ◌⊎◌, ℕ, B
 use Rattle.std.specs.Prelude.{IsSome}
 use Rattle.pgb_outside.specs.Content.{Name, Content, Holds, HasBytes}
 use Rattle.pgb_outside.specs.Moments.{View, is_loose}
-use Rattle.pgb_outside.specs.Crash.{Crash, Ends, FirstOf, AllOf, IsTemporary}
+use Rattle.pgb_outside.specs.Crash.{Crash, Ends, FirstOf, AllOf, IsTemporary, NowGoes, Write}
 use Rattle.pgb_outside.specs.Links.{LinkState}
 use Rattle.pgb_model.specs.Text.{Text}
 use Rattle.pgb_model.specs.Names.{copy_of}
@@ -24,9 +24,10 @@ use Rattle.pgb_backup.specs.declared.draft.Draft.{Draft}
 use Rattle.pgb_backup.specs.Draft.{pair_of, main_of, is_own_of, list_in}
 use Rattle.pgb_backup.specs.Stored.{Stored}
 use Rattle.pgb_backup.specs.Prepared.{Prepares}
-use Rattle.pgb_backup.specs.Made.{AreApart, IsTightAt, HasBackup, Makes}
+use Rattle.pgb_backup.specs.Made.{AreApart, IsTightAt, HasBackup, LeavesList, Makes}
+use Rattle.pgb_backup.proofs.Nows.{stored_now, saved_now, listed_now, made_now}
 
-module _ (draft : Draft) (links : List LinkState) (apart : AreApart (is_own_of draft) (pair_of draft) (main_of draft)) (a b : View) (law : Law a) (tight : IsTightAt (pair_of draft) (main_of draft) a) (touches : Touches (is_own_of draft) a b) where
+module _ (draft : Draft) (links : List LinkState) (apart : AreApart (is_own_of draft) (pair_of draft) (main_of draft)) (a b : View) (law : Law a) (touches : Touches (is_own_of draft) a b) where
   abbrev own : Name → Bool
   own = is_own_of draft
 
@@ -36,6 +37,9 @@ module _ (draft : Draft) (links : List LinkState) (apart : AreApart (is_own_of d
   abbrev main : Name
   main = main_of draft
 
+  abbrev Tight : Type 0
+  Tight = IsTightAt (pair_of draft) (main_of draft) a
+
   -- while the bytes are stored
   pub stored : Way (MayLoosen (is_own_of draft)) (IsBeside (is_own_of draft) (pair_of draft)) a b
   stored = stored_way own pair main [] [] apart.pair_lasts apart.main_lasts apart.pair_two apart.main_two apart.pair_out apart.copy_out apart.main_out apart.main_copy_out apart.apart a b law touches
@@ -43,44 +47,62 @@ module _ (draft : Draft) (links : List LinkState) (apart : AreApart (is_own_of d
   still : (n : Name) → own n ≡ false → ¬ IsTemporary n → is_loose a n ≡ false → is_loose b n ≡ false
   still n out lasts h = stored.tight b.moment n stored.later (omega arith) (λ m. ⊎_elim (λ (is : own n ≡ true). let u : ◌≡◌ {A = Bool} true false = sym is ∙ out in cc) lasts m) h
 
-  pub pair_tight : is_loose b (pair_of draft) ≡ false
-  pair_tight = still pair apart.pair_out apart.pair_lasts tight.manifest
+  pair_tight : Tight → is_loose b (pair_of draft) ≡ false
+  pair_tight tight = still pair apart.pair_out apart.pair_lasts tight.manifest
 
-  pub copy_tight : is_loose b (copy_of (pair_of draft)) ≡ false
-  copy_tight = still (copy_of pair) apart.copy_out apart.copy_lasts tight.manifest_copy
+  copy_tight : Tight → is_loose b (copy_of (pair_of draft)) ≡ false
+  copy_tight tight = still (copy_of pair) apart.copy_out apart.copy_lasts tight.manifest_copy
+
+  -- what the disk holds then
+  pub stored_goes : NowGoes (IsBeside (is_own_of draft) (pair_of draft)) a.now b.now
+  stored_goes = stored_now own pair main [] [] apart.pair_lasts apart.main_lasts apart.pair_two apart.main_two apart.pair_out apart.copy_out apart.main_out apart.main_copy_out apart.apart a b stored.told touches
+
+  pub stays_stored : LeavesList draft a b
+  stays_stored = record { now = stored_goes; way = λ tight. stored }
 
   -- what the manifest's saving leaves, at the name that it was given
-  pub crash_at : (m : Manifest) (e : View) (n : Name) → n ≡ pair_of draft → (is_loose b n ≡ false → is_loose b (copy_of n) ≡ false → Crash (FirstOf (member_writes n (manifest_text m))) b e) → Crash (FirstOf (member_writes (pair_of draft) (manifest_text m))) b e
-  crash_at m e n is h = subst (λ (k : Name). is_loose b k ≡ false → is_loose b (copy_of k) ≡ false → Crash (FirstOf (member_writes k (manifest_text m))) b e) is h pair_tight copy_tight
+  pub crash_at : (m : Manifest) (e : View) (n : Name) → n ≡ pair_of draft → (is_loose b n ≡ false → is_loose b (copy_of n) ≡ false → Crash (FirstOf (member_writes n (manifest_text m))) b e) → Tight → Crash (FirstOf (member_writes (pair_of draft) (manifest_text m))) b e
+  crash_at m e n is h tight = subst (λ (k : Name). is_loose b k ≡ false → is_loose b (copy_of k) ≡ false → Crash (FirstOf (member_writes k (manifest_text m))) b e) is h (pair_tight tight) (copy_tight tight)
 
-  pub ends_at : (m : Manifest) (e : View) (n : Name) → n ≡ pair_of draft → (is_loose b n ≡ false → is_loose b (copy_of n) ≡ false → Ends (AllOf (member_writes n (manifest_text m))) b e) → Ends (AllOf (member_writes (pair_of draft) (manifest_text m))) b e
-  ends_at m e n is h = subst (λ (k : Name). is_loose b k ≡ false → is_loose b (copy_of k) ≡ false → Ends (AllOf (member_writes k (manifest_text m))) b e) is h pair_tight copy_tight
+  pub ends_at : (m : Manifest) (e : View) (n : Name) → n ≡ pair_of draft → (is_loose b n ≡ false → is_loose b (copy_of n) ≡ false → Ends (AllOf (member_writes n (manifest_text m))) b e) → Tight → Ends (AllOf (member_writes (pair_of draft) (manifest_text m))) b e
+  ends_at m e n is h tight = subst (λ (k : Name). is_loose b k ≡ false → is_loose b (copy_of k) ≡ false → Ends (AllOf (member_writes k (manifest_text m))) b e) is h (pair_tight tight) (copy_tight tight)
 
-  module _ (m : Manifest) (e : View) (crash : Crash (FirstOf (member_writes (pair_of draft) (manifest_text m))) b e) where
+  -- the names of the writes that the disk holds
+  pub goes_at : (Of : List Write → Content → Content → Type 0) (text given : Text) (old new : Option Content) (name n : Name) → n ≡ name → given ≡ text → NowGoes (Of (member_writes n given)) old new → NowGoes (Of (member_writes name text)) old new
+  goes_at Of text given old new name n is same h = subst (λ (t : Text). NowGoes (Of (member_writes name t)) old new) same (subst (λ (k : Name). NowGoes (Of (member_writes k given)) old new) is h)
+
+  module _ (m : Manifest) (e : View) (crash : Tight → Crash (FirstOf (member_writes (pair_of draft) (manifest_text m))) b e) where
     -- while the manifest is saved
-    pub saved : Way (MayLoosen (is_own_of draft)) (IsBeside (is_own_of draft) (pair_of draft)) a e
-    saved = manifest_way own pair main (manifest_text m) [] apart.pair_lasts apart.main_lasts apart.pair_two apart.main_two apart.pair_out apart.copy_out apart.main_out apart.main_copy_out apart.apart a b e stored crash
+    pub saved : Tight → Way (MayLoosen (is_own_of draft)) (IsBeside (is_own_of draft) (pair_of draft)) a e
+    saved tight = manifest_way own pair main (manifest_text m) [] apart.pair_lasts apart.main_lasts apart.pair_two apart.main_two apart.pair_out apart.copy_out apart.main_out apart.main_copy_out apart.apart a b e stored (crash tight)
 
-    later_still : (n : Name) → own n ≡ false → ¬ IsTemporary n → is_loose a n ≡ false → is_loose e n ≡ false
-    later_still n out lasts h = saved.tight e.moment n saved.later (omega arith) (λ x. ⊎_elim (λ (is : own n ≡ true). let u : ◌≡◌ {A = Bool} true false = sym is ∙ out in cc) lasts x) h
+    pub stays_saved : NowGoes (FirstOf (member_writes (pair_of draft) (manifest_text m))) b.now e.now → LeavesList draft a e
+    stays_saved goes = record {
+      now = saved_now own pair main (manifest_text m) [] apart.pair_lasts apart.main_lasts apart.pair_two apart.main_two apart.pair_out apart.copy_out apart.main_out apart.main_copy_out apart.apart a.now b.now e.now stored_goes goes;
+      way = saved;
+    }
 
-    pub main_tight : is_loose e (main_of draft) ≡ false
-    main_tight = later_still main apart.main_out apart.main_lasts tight.info
+    later_still : Tight → (n : Name) → own n ≡ false → ¬ IsTemporary n → is_loose a n ≡ false → is_loose e n ≡ false
+    later_still tight n out lasts h = (saved tight).tight e.moment n (saved tight).later (omega arith) (λ x. ⊎_elim (λ (is : own n ≡ true). let u : ◌≡◌ {A = Bool} true false = sym is ∙ out in cc) lasts x) h
 
-    pub main_copy_tight : is_loose e (copy_of (main_of draft)) ≡ false
-    main_copy_tight = later_still (copy_of main) apart.main_copy_out apart.main_copy_lasts tight.info_copy
+    main_tight : Tight → is_loose e (main_of draft) ≡ false
+    main_tight tight = later_still tight main apart.main_out apart.main_lasts tight.info
+
+    main_copy_tight : Tight → is_loose e (copy_of (main_of draft)) ≡ false
+    main_copy_tight tight = later_still tight (copy_of main) apart.main_copy_out apart.main_copy_lasts tight.info_copy
 
     -- what the list's saving leaves
-    pub list_crash : (text given : Text) (d : View) (n : Name) → n ≡ main_of draft → given ≡ text → (is_loose e n ≡ false → is_loose e (copy_of n) ≡ false → Crash (FirstOf (member_writes n given)) e d) → Crash (FirstOf (member_writes (main_of draft) text)) e d
-    list_crash text given d n is same h = subst (λ (t : Text). Crash (FirstOf (member_writes (main_of draft) t)) e d) same
-        (subst (λ (k : Name). is_loose e k ≡ false → is_loose e (copy_of k) ≡ false → Crash (FirstOf (member_writes k given)) e d) is h main_tight main_copy_tight)
+    pub list_crash : (text given : Text) (d : View) (n : Name) → n ≡ main_of draft → given ≡ text → (is_loose e n ≡ false → is_loose e (copy_of n) ≡ false → Crash (FirstOf (member_writes n given)) e d) → Tight → Crash (FirstOf (member_writes (main_of draft) text)) e d
+    list_crash text given d n is same h tight = subst (λ (t : Text). Crash (FirstOf (member_writes (main_of draft) t)) e d) same
+        (subst (λ (k : Name). is_loose e k ≡ false → is_loose e (copy_of k) ≡ false → Crash (FirstOf (member_writes k given)) e d) is h (main_tight tight) (main_copy_tight tight))
 
-    pub list_ends : (text given : Text) (d : View) (n : Name) → n ≡ main_of draft → given ≡ text → (is_loose e n ≡ false → is_loose e (copy_of n) ≡ false → Ends (AllOf (member_writes n given)) e d) → Ends (AllOf (member_writes (main_of draft) text)) e d
-    list_ends text given d n is same h = subst (λ (t : Text). Ends (AllOf (member_writes (main_of draft) t)) e d) same
-        (subst (λ (k : Name). is_loose e k ≡ false → is_loose e (copy_of k) ≡ false → Ends (AllOf (member_writes k given)) e d) is h main_tight main_copy_tight)
+    pub list_ends : (text given : Text) (d : View) (n : Name) → n ≡ main_of draft → given ≡ text → (is_loose e n ≡ false → is_loose e (copy_of n) ≡ false → Ends (AllOf (member_writes n given)) e d) → Tight → Ends (AllOf (member_writes (main_of draft) text)) e d
+    list_ends text given d n is same h tight = subst (λ (t : Text). Ends (AllOf (member_writes (main_of draft) t)) e d) same
+        (subst (λ (k : Name). is_loose e k ≡ false → is_loose e (copy_of k) ≡ false → Ends (AllOf (member_writes k given)) e d) is h (main_tight tight) (main_copy_tight tight))
 
     module _ (text : Text) (d : View) (ended : List (List Ended)) (sealed : IsSealed (is_own_of draft) b) (got : Stored draft links ended b.now) (prepares : Prepares draft ended m text) (within : length (manifest_text m) ≤ manifest_limit)
-        (ends : Ends (AllOf (member_writes (pair_of draft) (manifest_text m))) b e) (last : Crash (FirstOf (member_writes (main_of draft) text)) e d) where
+        (ends : Tight → Ends (AllOf (member_writes (pair_of draft) (manifest_text m))) b e) (last : Tight → Crash (FirstOf (member_writes (main_of draft) text)) e d)
+        (pair_goes : NowGoes (AllOf (member_writes (pair_of draft) (manifest_text m))) b.now e.now) (list_goes : NowGoes (FirstOf (member_writes (main_of draft) text)) e.now d.now) where
       spelled : text ≡ info_text (backup_sections prepares.list)
       spelled = prepares.valid.spelled
 
@@ -92,20 +114,28 @@ module _ (draft : Draft) (links : List LinkState) (apart : AreApart (is_own_of d
         others = made.others;
       }
 
-      done_way : Way (MayLoosen own) (λ f g. IsBeside own pair f g ⊎ HasBackup own pair main m prepares.list got.names got.kept f g) a d
-      done_way = way_as (MayLoosen own) (λ f g. IsBeside own pair f g ⊎ IsMade own pair main (manifest_text m) text b.now f g) (λ f g. IsBeside own pair f g ⊎ HasBackup own pair main m prepares.list got.names got.kept f g) a d
+      done_way : Tight → Way (MayLoosen own) (λ f g. IsBeside own pair f g ⊎ HasBackup own pair main m prepares.list got.names got.kept f g) a d
+      done_way tight = way_as (MayLoosen own) (λ f g. IsBeside own pair f g ⊎ IsMade own pair main (manifest_text m) text b.now f g) (λ f g. IsBeside own pair f g ⊎ HasBackup own pair main m prepares.list got.names got.kept f g) a d
           (λ told f g s. ⊎_elim inl (λ made. inr (has_backup told f g made)) s)
-          (made_way own pair main (manifest_text m) text apart.pair_lasts apart.main_lasts apart.pair_two apart.main_two apart.pair_out apart.copy_out apart.main_out apart.main_copy_out apart.apart a b e d stored saved sealed ends last)
+          (made_way own pair main (manifest_text m) text apart.pair_lasts apart.main_lasts apart.pair_two apart.main_two apart.pair_out apart.copy_out apart.main_out apart.main_copy_out apart.apart a b e d stored (saved tight) sealed (ends tight) (last tight))
 
       -- no name with an item's bytes is loose
-      lasting : IsSome a.now → (j i : ℕ) (n : Name) (k : Kept) (x : Done) → slice_get got.names j ≡ Some n → slice_get got.kept j ≡ Some k → slice_get k.done i ≡ Some x → 0 < x.held.count → is_loose d n ≡ false
-      lasting told j i n k x is_n is_k is_x some =
+      lasting : Tight → IsSome a.now → (j i : ℕ) (n : Name) (k : Kept) (x : Done) → slice_get got.names j ≡ Some n → slice_get got.kept j ≡ Some k → slice_get k.done i ≡ Some x → 0 < x.held.count → is_loose d n ≡ false
+      lasting tight told j i n k x is_n is_k is_x some =
           let has = got.filled (stored.told told) j i n k x is_n is_k is_x some in
           let own_n = got.own j n is_n in
-          last.tight d.moment n last.later (omega arith) own_n.1 (crash.tight e.moment n crash.later (omega arith) own_n.1 (sealed.tight n own_n.0 has))
+          (last tight).tight d.moment n (last tight).later (omega arith) own_n.1 ((crash tight).tight e.moment n (crash tight).later (omega arith) own_n.1 (sealed.tight n own_n.0 has))
 
-      makes : (whole : Bool) → (whole ≡ true → Ends (HasBackup own pair main m prepares.list got.names got.kept) a d) → Makes draft links whole a d
-      makes whole at_end = record {
+      some_of : (o : Option Content) (f : Content) → o ≡ Some f → IsSome o
+      some_of o f is = subst (λ (x : Option Content). IsSome x) (sym is) refl
+
+      done_goes : NowGoes (λ f g. IsBeside own pair f g ⊎ HasBackup own pair main m prepares.list got.names got.kept f g) a.now d.now
+      done_goes =
+          let x = listed_now own pair main (manifest_text m) text apart.pair_lasts apart.main_lasts apart.pair_two apart.main_two apart.pair_out apart.copy_out apart.main_out apart.main_copy_out apart.apart a.now b.now e.now stored_goes d.now pair_goes list_goes in
+          record { told = x.told; goes = λ f g is_f is_g. ⊎_elim inl (λ made. inr (has_backup (some_of a.now f is_f) f g made)) (x.goes f g is_f is_g) }
+
+      makes : (whole : Bool) → (Tight → whole ≡ true → Ends (HasBackup own pair main m prepares.list got.names got.kept) a d) → (whole ≡ true → NowGoes (HasBackup own pair main m prepares.list got.names got.kept) a.now d.now) → Makes draft links whole a d
+      makes whole at_end all_now = record {
         names = got.names;
         names_are = got.names_are;
         ends = ended;
@@ -123,6 +153,8 @@ module _ (draft : Draft) (links : List LinkState) (apart : AreApart (is_own_of d
         list = prepares.list;
         listed = prepares.listed;
         list_valid = subst (IsBackupText prepares.list) spelled prepares.valid;
+        now = done_goes;
+        whole_now = all_now;
         tight = lasting;
         way = done_way;
         whole_way = at_end;
@@ -130,11 +162,14 @@ module _ (draft : Draft) (links : List LinkState) (apart : AreApart (is_own_of d
 
       -- the stanza's list may have been saved
       pub makes_part : Makes draft links false a d
-      makes_part = makes false (λ (none : false ≡ true). cc)
+      makes_part = makes false (λ tight (none : false ≡ true). cc) (λ (none : false ≡ true). cc)
 
       -- it was
-      pub makes_whole : Ends (AllOf (member_writes (main_of draft) text)) e d → Makes draft links true a d
-      makes_whole all = makes true (λ is. record {
-        comes = λ told g leaves. let x = (made_ends own pair main (manifest_text m) text apart.pair_lasts apart.main_lasts apart.pair_two apart.main_two apart.pair_out apart.copy_out apart.main_out apart.main_copy_out apart.apart a b e d stored saved sealed ends all).comes told g leaves in
-            (x.0, x.1, has_backup told x.0 g x.2);
-      })
+      pub makes_whole : (Tight → Ends (AllOf (member_writes (main_of draft) text)) e d) → NowGoes (AllOf (member_writes (main_of draft) text)) e.now d.now → Makes draft links true a d
+      makes_whole all all_goes = makes true
+          (λ tight is. record {
+            comes = λ told g leaves. let x = (made_ends own pair main (manifest_text m) text apart.pair_lasts apart.main_lasts apart.pair_two apart.main_two apart.pair_out apart.copy_out apart.main_out apart.main_copy_out apart.apart a b e d stored (saved tight) sealed (ends tight) (all tight)).comes told g leaves in
+                (x.0, x.1, has_backup told x.0 g x.2);
+          })
+          (λ is. let x = made_now own pair main (manifest_text m) text apart.pair_lasts apart.main_lasts apart.pair_two apart.main_two apart.pair_out apart.copy_out apart.main_out apart.main_copy_out apart.apart a.now b.now e.now stored_goes d.now pair_goes all_goes in
+          record { told = x.told; goes = λ f g is_f is_g. has_backup (some_of a.now f is_f) f g (x.goes f g is_f is_g) })

@@ -1,5 +1,6 @@
 pub mod Apart
 pub mod Came
+pub mod Nows
 pub mod Commits
 pub mod Outcomes
 pub mod Sound

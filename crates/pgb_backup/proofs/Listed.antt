@@ -1,5 +1,6 @@
 -- Contents that agree on what a stanza's list leads to stand for the same; and one backup more.
 use Rattle.std.proofs.Common.{◌≡◌, ◌≢◌, ◌<◌, ◌⊎◌, ◌↔◌, ⊎_elim, inl, inr, List, [], ◌∷◌, ◌++◌, length, map, Option, Some, None, refl, sym, ◌∙◌, ap, subst}
+use Rattle.std.proofs.lemmas.List.{append-nil}
 use Rattle.std.specs.FinMap.{get, keys}
 use Rattle.sha1.specs.Sha1.{sha1}
 use Rattle.pgb_outside.specs.Content.{Content}
@@ -102,12 +103,8 @@ module _ (stanza : Text) (f g : Content) (agrees : AgreesBelow stanza f g) (s : 
 
   -- where the list is as it was
   module _ (main : (g (backup_info stanza) ≡ f (backup_info stanza)) × (g (copy_of (backup_info stanza)) ≡ f (copy_of (backup_info stanza)))) where
-    append_nil : {X : Type 0} (xs : List X) → xs ++ [] ≡ xs
-    append_nil [] = refl
-    append_nil (x ∷ xs) = ap (λ (ys : List _). x ∷ ys) (append_nil xs)
-
     same_stanza : (record s { backups = s.backups ++ [] }) ≡ s
-    same_stanza = ap (λ (bs : List Backup). record s { backups = bs }) (append_nil s.backups)
+    same_stanza = ap (λ (bs : List Backup). record s { backups = bs }) (append-nil s.backups)
 
     pub still_stands : HasStanza stanza g s
     still_stands = record {

@@ -30,7 +30,7 @@ use Rattle.pgb_record.proofs.Coming.{AreReads}
 use Rattle.pgb_record.proofs.Recorded.{recorded}
 use Rattle.pgb_backup.specs.declared.draft.Draft.{Draft}
 use Rattle.pgb_backup.specs.Draft.{stanza_of, pair_of, main_of, is_own_of, jobs_in, list_in, IsDraft}
-use Rattle.pgb_backup.specs.Made.{HasBackup, Makes}
+use Rattle.pgb_backup.specs.Made.{IsTightAt, HasBackup, Makes}
 use Rattle.pgb_backup.proofs.Came.{counts, kept_count}
 use Rattle.pgb_backup.proofs.Drafted.{reads}
 use Rattle.pgb_backup.proofs.Listed.{AgreesBelow, still_stands, listed_more_stands}
@@ -59,8 +59,12 @@ pub record IsFar (stanza : Text) (own : Name → Bool) (pair : Name) (s : Stanza
 abbrev pub IsMixed : Text → Stanza → Option PriorRead → View → Type 0
 IsMixed stanza s prior a = (f : Content) → Leaves a a.moment f → (h : Content) × Leaves a a.moment h × HasPrior stanza s prior h × ((n : Name) → IsPlaceOf stanza h n → h n ≡ f n)
 
-module _ (draft : Draft) (is_draft : IsDraft draft) (links : List LinkState) (whole : Bool) (s : Stanza) (a d : View) (told : IsSome a.now) (steady : IsSteady (stanza_of draft) (Some s) a) (makes : Makes draft links whole a d)
-    (far : IsFar (stanza_of draft) (is_own_of draft) (pair_of draft) s) (prior : Option PriorRead) (mixed : IsMixed (stanza_of draft) s prior a)
+-- the content is like one that has the prior's manifest as it was read
+abbrev pub IsLike : Text → Stanza → Option PriorRead → Content → Type 0
+IsLike stanza s prior f = (h : Content) × HasPrior stanza s prior h × ((n : Name) → IsPlaceOf stanza h n → h n ≡ f n)
+
+module _ (draft : Draft) (is_draft : IsDraft draft) (links : List LinkState) (whole : Bool) (s : Stanza) (a d : View) (told : IsSome a.now) (makes : Makes draft links whole a d)
+    (far : IsFar (stanza_of draft) (is_own_of draft) (pair_of draft) s) (prior : Option PriorRead)
     (list_of : IsListOf s (list_in draft)) (b : Backup) (adds : Adds (stanza_of draft) makes.names makes.kept prior makes.manifest makes.list s b) where
   abbrev stanza : Text
   stanza = stanza_of draft
@@ -119,142 +123,144 @@ module _ (draft : Draft) (is_draft : IsDraft draft) (links : List LinkState) (wh
   all_reads = reads draft is_draft
 
   -- the manifest is that of the backup where it is listed
-  record_is : (f g : Content) → Leaves a a.moment f → Listed f g → IsManifestOf stanza g after b makes.manifest
-  record_is f g leaves x =
-      let q = mixed f leaves in
+  record_is : (f g : Content) → IsLike (stanza_of draft) s prior f → Listed f g → IsManifestOf stanza g after b makes.manifest
+  record_is f g q x =
       recorded stanza makes.names makes.kept s prior b makes.manifest adds.is (makes.got told)
       (counts (jobs_in draft) links makes.kept all_reads (kept_count (jobs_in draft) makes.kept makes.ends makes.are makes.come) makes.received)
-      q.0 g q.2 x.placed (λ e bytes left.
-      let p = left.place_is q.0 q.2 in
-      listed_same f g x (place stanza b.entry.label e).0 (far.places q.0 q.2.has (place stanza b.entry.label e).0 p) ∙ sym (q.3 (place stanza b.entry.label e).0 p))
+      q.0 g q.1 x.placed (λ e bytes left.
+      let p = left.place_is q.0 q.1 in
+      listed_same f g x (place stanza b.entry.label e).0 (far.places q.0 q.1.has (place stanza b.entry.label e).0 p) ∙ sym (q.2 (place stanza b.entry.label e).0 p))
 
   -- a content with the backup has the stanza with it
-  pub listed_stands : (f g : Content) → Leaves a a.moment f → HasBackup (is_own_of draft) (pair_of draft) (main_of draft) makes.manifest makes.list makes.names makes.kept f g → HasStanza (stanza_of draft) g (changed (AddBackup b) s)
-  listed_stands f g leaves x =
-      let h = steady.stands f leaves in
-      listed_more_stands stanza f g (listed_below f g h x) s h b makes.manifest makes.list adds.list_is makes.list_valid makes.manifest_valid x.info_is
-      (ap (λ (l : Label). g (manifest_name stanza l)) named ∙ x.manifest_is) (record_is f g leaves x)
+  pub listed_stands : (f g : Content) → HasStanza (stanza_of draft) f s → IsLike (stanza_of draft) s prior f → HasBackup (is_own_of draft) (pair_of draft) (main_of draft) makes.manifest makes.list makes.names makes.kept f g
+      → HasStanza (stanza_of draft) g (changed (AddBackup b) s)
+  listed_stands f g h like x = listed_more_stands stanza f g (listed_below f g h x) s h b makes.manifest makes.list adds.list_is makes.list_valid makes.manifest_valid x.info_is
+      (ap (λ (l : Label). g (manifest_name stanza l)) named ∙ x.manifest_is) (record_is f g like x)
 
-  part : (g : Content) → (f : Content) × Leaves a a.moment f × (IsBeside own pair f g ⊎ Listed f g) → Stands stanza g (Some s) ⊎ Stands stanza g (Some after)
-  part g x = ⊎_elim (λ y. inl (beside_stands x.0 g (steady.stands x.0 x.1) y)) (λ y. inr (listed_stands x.0 g x.1 y)) x.2
+  module _ (steady : IsSteady (stanza_of draft) (Some s) a) (mixed : IsMixed (stanza_of draft) s prior a) (tight : IsTightAt (pair_of draft) (main_of draft) a) where
+    with_it : (f g : Content) → Leaves a a.moment f → Listed f g → HasStanza stanza g after
+    with_it f g leaves x = let m = mixed f leaves in listed_stands f g (steady.stands f leaves) (m.0, m.2, m.3) x
 
-  out_of : (n : Name) → own n ≡ false → ¬ IsTemporary n → ¬ MayLoosen own n
-  out_of n out lasts m = ⊎_elim (λ (is : own n ≡ true). let u : ◌≡◌ {A = Bool} true false = sym is ∙ out in cc) lasts m
+    part : (g : Content) → (f : Content) × Leaves a a.moment f × (IsBeside own pair f g ⊎ Listed f g) → Stands stanza g (Some s) ⊎ Stands stanza g (Some after)
+    part g x = ⊎_elim (λ y. inl (beside_stands x.0 g (steady.stands x.0 x.1) y)) (λ y. inr (with_it x.0 g x.1 y)) x.2
 
-  stays : (n : Name) → own n ≡ false → ¬ IsTemporary n → is_loose a n ≡ false → is_loose d n ≡ false
-  stays n out lasts h = makes.way.tight d.moment n makes.way.later (omega arith) (out_of n out lasts) h
+    out_of : (n : Name) → own n ≡ false → ¬ IsTemporary n → ¬ MayLoosen own n
+    out_of n out lasts m = ⊎_elim (λ (is : own n ≡ true). let u : ◌≡◌ {A = Bool} true false = sym is ∙ out in cc) lasts m
 
-  fixed : (n : Text) → IsFixed stanza n → is_loose d n ≡ false
-  fixed n h = stays n (far.fixed n h) (fixed_lasts stanza n h) (steady.fixed n h)
+    stays : (n : Name) → own n ≡ false → ¬ IsTemporary n → is_loose a n ≡ false → is_loose d n ≡ false
+    stays n out lasts h = (makes.way tight).tight d.moment n (makes.way tight).later (omega arith) (out_of n out lasts) h
 
-  -- ---- the places of what may be left
+    fixed : (n : Text) → IsFixed stanza n → is_loose d n ≡ false
+    fixed n h = stays n (far.fixed n h) (fixed_lasts stanza n h) (steady.fixed n h)
 
-  -- where f lists the label, a place of g is one of f
-  place_back : (f g : Content) → AgreesBelow stanza f g → (n : Text) → (p : IsPlaceOf stanza g n) → Lists stanza f p.label → IsPlaceOf stanza f n
-  place_back f g agrees n p listed = record {
-    label = p.label;
-    listed = listed;
-    manifest = p.manifest;
-    reads = pair_same IsManifestText g f (manifest_name stanza p.label) p.manifest (sym (agrees.manifests p.label listed).0) (sym (agrees.manifests p.label listed).1) p.reads;
-    entry = p.entry;
-    of_it = p.of_it;
-    filled = p.filled;
-    is = p.is;
-  }
+    -- ---- the places of what may be left
 
-  old_place : (f g : Content) → Leaves a a.moment f → AgreesBelow stanza f g → (n : Text) → (p : IsPlaceOf stanza g n) → Lists stanza f p.label → is_loose d n ≡ false
-  old_place f g leaves agrees n p listed =
-      let q = place_back f g agrees n p listed in
-      let c = far.places f (steady.stands f leaves) n q in
-      stays n c.out c.lasts (steady.places f leaves n q)
+    -- where f lists the label, a place of g is one of f
+    place_back : (f g : Content) → AgreesBelow stanza f g → (n : Text) → (p : IsPlaceOf stanza g n) → Lists stanza f p.label → IsPlaceOf stanza f n
+    place_back f g agrees n p listed = record {
+      label = p.label;
+      listed = listed;
+      manifest = p.manifest;
+      reads = pair_same IsManifestText g f (manifest_name stanza p.label) p.manifest (sym (agrees.manifests p.label listed).0) (sym (agrees.manifests p.label listed).1) p.reads;
+      entry = p.entry;
+      of_it = p.of_it;
+      filled = p.filled;
+      is = p.is;
+    }
 
-  beside_place : (f g : Content) → Leaves a a.moment f → IsBeside own pair f g → (n : Text) → IsPlaceOf stanza g n → is_loose d n ≡ false
-  beside_place f g leaves x n p =
-      let list = beside_list f g x in
-      old_place f g leaves (beside_below f g (steady.stands f leaves) x) n p (p.listed.0, pair_same IsBackupText g f (backup_info stanza) p.listed.0 (sym list.0) (sym list.1) p.listed.1, p.listed.2)
+    old_place : (f g : Content) → Leaves a a.moment f → AgreesBelow stanza f g → (n : Text) → (p : IsPlaceOf stanza g n) → Lists stanza f p.label → is_loose d n ≡ false
+    old_place f g leaves agrees n p listed =
+        let q = place_back f g agrees n p listed in
+        let c = far.places f (steady.stands f leaves) n q in
+        stays n c.out c.lasts (steady.places f leaves n q)
 
-  -- what the new list has is listed, or is the backup
-  entries_of : (c : Option Cluster) → (backup_value s c).backups ≡ (backup_value s None).backups
-  entries_of None = refl
-  entries_of (Some c) = refl
+    beside_place : (f g : Content) → Leaves a a.moment f → IsBeside own pair f g → (n : Text) → IsPlaceOf stanza g n → is_loose d n ≡ false
+    beside_place f g leaves x n p =
+        let list = beside_list f g x in
+        old_place f g leaves (beside_below f g (steady.stands f leaves) x) n p (p.listed.0, pair_same IsBackupText g f (backup_info stanza) p.listed.0 (sym list.0) (sym list.1) p.listed.1, p.listed.2)
 
-  entries : (f : Content) → HasStanza stanza f s → (e : Entry) → In e makes.list.backups → Lists stanza f e.label ⊎ (e.label ≡ label)
-  entries f h e at =
-      let split : makes.list.backups ≡ (backup_value s None).backups ++ entry_with makes.manifest makes.listed.references ∷ [] = ap (λ (v : BackupInfo). v.backups) makes.listed.is ∙ ap (λ (v : BackupInfo). v.backups ++ entry_with makes.manifest makes.listed.references ∷ []) list_of in
-      ⊎_elim
-      (λ (was : In e (backup_value s None).backups). inl (backup_value s h.pending, h.backup_pair, (e, subst (λ (es : List Entry). In e es) (sym (entries_of h.pending)) was, refl)))
-      (λ (new : In e (entry_with makes.manifest makes.listed.references ∷ [])). ⊎_elim (λ (is : e ≡ entry_with makes.manifest makes.listed.references). inr (ap (λ (x : Entry). x.label) is ∙ ap (λ (m : Manifest). m.label) makes.manifest_is)) (λ (none : ⊥). absurd none) new)
-      (in_parts (backup_value s None).backups (entry_with makes.manifest makes.listed.references ∷ []) e (subst (λ (es : List Entry). In e es) split at))
+    -- what the new list has is listed, or is the backup
+    entries_of : (c : Option Cluster) → (backup_value s c).backups ≡ (backup_value s None).backups
+    entries_of None = refl
+    entries_of (Some c) = refl
 
-  -- an item has as many bytes as its entry tells
-  held : (e : FileEntry) (bytes : Text) (i : IsItem stanza b.entry.label makes.names makes.kept e bytes) → i.done.held.count ≡ e.size
-  held e bytes i =
-      let r = makes.got told i.job i.item i.of i.done e.size i.sum i.of_is i.done_is i.end in
-      let count = counts (jobs_in draft) links makes.kept all_reads (kept_count (jobs_in draft) makes.kept makes.ends makes.are makes.come) makes.received i.job i.item i.of i.done r.0 i.of_is i.done_is r.1.told in
-      count ∙ sym r.1.number
-
-  -- One text is of one value.
-  module _ (one_list : (v w : BackupInfo) (t : Text) → IsBackupText v t → IsBackupText w t → v ≡ w) (one_manifest : (v w : Manifest) (t : Text) → IsManifestText v t → IsManifestText w t → v ≡ w) where
-    one_member : {V : Type 0} (IsTextOf : V → Text → Type 0) → ((v w : V) (t : Text) → IsTextOf v t → IsTextOf w t → v ≡ w) → (g : Content) (name t : Text) (v w : V) → g name ≡ Some t → IsTextOf v t → PairIs IsTextOf g name w → w ≡ v
-    one_member IsTextOf one g name t v w is valid (inl x) = one w v t (subst (λ (u : Text). IsTextOf w u) (let e : ◌≡◌ {A = Option Text} (Some x.0) (Some t) = sym x.1 ∙ is in cc) x.2) valid
-    one_member IsTextOf one g name t v w is valid (inr x) = absurd (x.0 v (t, is, valid))
-
-    own_place : (e : FileEntry) → In e makes.manifest.files → e.reference ≡ None → 0 < e.size → is_loose d (place stanza label e).0 ≡ false
-    own_place e at none some =
-        let x = adds.is.received e at none some in
-        let i = x.1 in
-        let there : (place stanza b.entry.label e).0 ≡ i.name = ap (λ (q : Text × ℕ). q.0) (i.at some) in
-        subst (λ (n : Name). is_loose d n ≡ false) (sym (ap (λ (l : Label). (place stanza l e).0) (sym named) ∙ there))
-        (makes.tight told i.job i.item i.name i.of i.done i.name_is i.of_is i.done_is (subst (λ (k : ℕ). 0 < k) (sym (held e x.0 i)) some))
-
-    new_place : (f g : Content) → Leaves a a.moment f → Listed f g → (n : Text) → (p : IsPlaceOf stanza g n) → p.label ≡ label → is_loose d n ≡ false
-    new_place f g leaves x n p same =
-        let m_is : p.manifest ≡ makes.manifest = one_member IsManifestText one_manifest g pair _ makes.manifest p.manifest x.manifest_is makes.manifest_valid (subst (λ (l : Label). PairIs IsManifestText g (manifest_name stanza l) p.manifest) same p.reads) in
-        let at : In p.entry makes.manifest.files = subst (λ (m : Manifest). In p.entry m.files) m_is p.of_it in
-        let where_is : n ≡ (place stanza label p.entry).0 = p.is ∙ ap (λ (l : Label). (place stanza l p.entry).0) same in
-        subst (λ (k : Name). is_loose d k ≡ false) (sym where_is) (by p.entry at p.filled p.entry.reference refl)
-      where
-        by : (e : FileEntry) → In e makes.manifest.files → 0 < e.size → (o : Option Label) → e.reference ≡ o → is_loose d (place stanza label e).0 ≡ false
-        by e at some None none = own_place e at none some
-        by e at some (Some l) is =
-            let y = adds.is.left e l at is some in
-            let m = mixed f leaves in
-            let q : IsPlaceOf stanza m.0 (place stanza label e).0 = subst (λ (k : Label). IsPlaceOf stanza m.0 (place stanza k e).0) named (y.2.place_is m.0 m.2) in
-            let c = far.places m.0 m.2.has (place stanza label e).0 q in
-            stays (place stanza label e).0 c.out c.lasts (steady.places m.0 m.1 (place stanza label e).0 q)
-
-    listed_place : (f g : Content) → Leaves a a.moment f → Listed f g → (n : Text) → IsPlaceOf stanza g n → is_loose d n ≡ false
-    listed_place f g leaves x n p =
-        let h = steady.stands f leaves in
-        let v_same : p.listed.0 ≡ makes.list = one_member IsBackupText one_list g (backup_info stanza) _ makes.list p.listed.0 x.info_is makes.list_valid p.listed.1 in
-        let e = p.listed.2.0 in
-        let at : In e makes.list.backups = subst (λ (v : BackupInfo). In e v.backups) v_same p.listed.2.1 in
+    entries : (f : Content) → HasStanza stanza f s → (e : Entry) → In e makes.list.backups → Lists stanza f e.label ⊎ (e.label ≡ label)
+    entries f h e at =
+        let split : makes.list.backups ≡ (backup_value s None).backups ++ entry_with makes.manifest makes.listed.references ∷ [] = ap (λ (v : BackupInfo). v.backups) makes.listed.is ∙ ap (λ (v : BackupInfo). v.backups ++ entry_with makes.manifest makes.listed.references ∷ []) list_of in
         ⊎_elim
-        (λ (listed : Lists stanza f e.label). old_place f g leaves (listed_below f g h x) n p (subst (λ (l : Label). Lists stanza f l) p.listed.2.2 listed))
-        (λ (is : e.label ≡ label). new_place f g leaves x n p (sym p.listed.2.2 ∙ is))
-        (entries f h e at)
+        (λ (was : In e (backup_value s None).backups). inl (backup_value s h.pending, h.backup_pair, (e, subst (λ (es : List Entry). In e es) (sym (entries_of h.pending)) was, refl)))
+        (λ (new : In e (entry_with makes.manifest makes.listed.references ∷ [])). ⊎_elim (λ (is : e ≡ entry_with makes.manifest makes.listed.references). inr (ap (λ (x : Entry). x.label) is ∙ ap (λ (m : Manifest). m.label) makes.manifest_is)) (λ (none : ⊥). absurd none) new)
+        (in_parts (backup_value s None).backups (entry_with makes.manifest makes.listed.references ∷ []) e (subst (λ (es : List Entry). In e es) split at))
 
-    places : (g : Content) → Leaves d d.moment g → (n : Text) → IsPlaceOf stanza g n → is_loose d n ≡ false
-    places g leaves n p =
-        let x = makes.way.comes told d.moment g makes.way.later (omega arith) leaves in
-        ⊎_elim (λ y. beside_place x.0 g x.1 y n p) (λ y. listed_place x.0 g x.1 y n p) x.2
+    -- an item has as many bytes as its entry tells
+    held : (e : FileEntry) (bytes : Text) (i : IsItem stanza b.entry.label makes.names makes.kept e bytes) → i.done.held.count ≡ e.size
+    held e bytes i =
+        let r = makes.got told i.job i.item i.of i.done e.size i.sum i.of_is i.done_is i.end in
+        let count = counts (jobs_in draft) links makes.kept all_reads (kept_count (jobs_in draft) makes.kept makes.ends makes.are makes.come) makes.received i.job i.item i.of i.done r.0 i.of_is i.done_is r.1.told in
+        count ∙ sym r.1.number
 
-    -- the command's way
-    pub backup_moves : Moves (stanza_of draft) (λ g. Stands (stanza_of draft) g (Some s) ⊎ Stands (stanza_of draft) g (Some (changed (AddBackup b) s))) a d
-    backup_moves = record {
-      later = makes.way.later;
-      past = makes.way.past;
-      past_loose = makes.way.past_loose;
-      told = makes.way.told told;
-      fixed = fixed;
-      places = places;
-      leaves = λ t g lo hi leaves. part g (makes.way.comes told t g lo hi leaves);
-    }
+    -- One text is of one value.
+    module _ (one_list : (v w : BackupInfo) (t : Text) → IsBackupText v t → IsBackupText w t → v ≡ w) (one_manifest : (v w : Manifest) (t : Text) → IsManifestText v t → IsManifestText w t → v ≡ w) where
+      one_member : {V : Type 0} (IsTextOf : V → Text → Type 0) → ((v w : V) (t : Text) → IsTextOf v t → IsTextOf w t → v ≡ w) → (g : Content) (name t : Text) (v w : V) → g name ≡ Some t → IsTextOf v t → PairIs IsTextOf g name w → w ≡ v
+      one_member IsTextOf one g name t v w is valid (inl x) = one w v t (subst (λ (u : Text). IsTextOf w u) (let e : ◌≡◌ {A = Option Text} (Some x.0) (Some t) = sym x.1 ∙ is in cc) x.2) valid
+      one_member IsTextOf one g name t v w is valid (inr x) = absurd (x.0 v (t, is, valid))
 
-    -- and at Ok the disk is steady at the repository with the backup
-    pub backup_steady : whole ≡ true → IsSteady (stanza_of draft) (Some (changed (AddBackup b) s)) d
-    backup_steady is = record {
-      fixed = fixed;
-      places = places;
-      stands = λ g leaves. let x = (makes.whole_way is).comes told g leaves in listed_stands x.0 g x.1 x.2;
-    }
+      own_place : (e : FileEntry) → In e makes.manifest.files → e.reference ≡ None → 0 < e.size → is_loose d (place stanza label e).0 ≡ false
+      own_place e at none some =
+          let x = adds.is.received e at none some in
+          let i = x.1 in
+          let there : (place stanza b.entry.label e).0 ≡ i.name = ap (λ (q : Text × ℕ). q.0) (i.at some) in
+          subst (λ (n : Name). is_loose d n ≡ false) (sym (ap (λ (l : Label). (place stanza l e).0) (sym named) ∙ there))
+          (makes.tight tight told i.job i.item i.name i.of i.done i.name_is i.of_is i.done_is (subst (λ (k : ℕ). 0 < k) (sym (held e x.0 i)) some))
+
+      new_place : (f g : Content) → Leaves a a.moment f → Listed f g → (n : Text) → (p : IsPlaceOf stanza g n) → p.label ≡ label → is_loose d n ≡ false
+      new_place f g leaves x n p same =
+          let m_is : p.manifest ≡ makes.manifest = one_member IsManifestText one_manifest g pair _ makes.manifest p.manifest x.manifest_is makes.manifest_valid (subst (λ (l : Label). PairIs IsManifestText g (manifest_name stanza l) p.manifest) same p.reads) in
+          let at : In p.entry makes.manifest.files = subst (λ (m : Manifest). In p.entry m.files) m_is p.of_it in
+          let where_is : n ≡ (place stanza label p.entry).0 = p.is ∙ ap (λ (l : Label). (place stanza l p.entry).0) same in
+          subst (λ (k : Name). is_loose d k ≡ false) (sym where_is) (by p.entry at p.filled p.entry.reference refl)
+        where
+          by : (e : FileEntry) → In e makes.manifest.files → 0 < e.size → (o : Option Label) → e.reference ≡ o → is_loose d (place stanza label e).0 ≡ false
+          by e at some None none = own_place e at none some
+          by e at some (Some l) is =
+              let y = adds.is.left e l at is some in
+              let m = mixed f leaves in
+              let q : IsPlaceOf stanza m.0 (place stanza label e).0 = subst (λ (k : Label). IsPlaceOf stanza m.0 (place stanza k e).0) named (y.2.place_is m.0 m.2) in
+              let c = far.places m.0 m.2.has (place stanza label e).0 q in
+              stays (place stanza label e).0 c.out c.lasts (steady.places m.0 m.1 (place stanza label e).0 q)
+
+      listed_place : (f g : Content) → Leaves a a.moment f → Listed f g → (n : Text) → IsPlaceOf stanza g n → is_loose d n ≡ false
+      listed_place f g leaves x n p =
+          let h = steady.stands f leaves in
+          let v_same : p.listed.0 ≡ makes.list = one_member IsBackupText one_list g (backup_info stanza) _ makes.list p.listed.0 x.info_is makes.list_valid p.listed.1 in
+          let e = p.listed.2.0 in
+          let at : In e makes.list.backups = subst (λ (v : BackupInfo). In e v.backups) v_same p.listed.2.1 in
+          ⊎_elim
+          (λ (listed : Lists stanza f e.label). old_place f g leaves (listed_below f g h x) n p (subst (λ (l : Label). Lists stanza f l) p.listed.2.2 listed))
+          (λ (is : e.label ≡ label). new_place f g leaves x n p (sym p.listed.2.2 ∙ is))
+          (entries f h e at)
+
+      places : (g : Content) → Leaves d d.moment g → (n : Text) → IsPlaceOf stanza g n → is_loose d n ≡ false
+      places g leaves n p =
+          let x = (makes.way tight).comes told d.moment g (makes.way tight).later (omega arith) leaves in
+          ⊎_elim (λ y. beside_place x.0 g x.1 y n p) (λ y. listed_place x.0 g x.1 y n p) x.2
+
+      -- the command's way
+      pub backup_moves : Moves (stanza_of draft) (λ g. Stands (stanza_of draft) g (Some s) ⊎ Stands (stanza_of draft) g (Some (changed (AddBackup b) s))) a d
+      backup_moves = record {
+        later = (makes.way tight).later;
+        past = (makes.way tight).past;
+        past_loose = (makes.way tight).past_loose;
+        told = (makes.way tight).told told;
+        fixed = fixed;
+        places = places;
+        leaves = λ t g lo hi leaves. part g ((makes.way tight).comes told t g lo hi leaves);
+      }
+
+      -- and at Ok the disk is steady at the repository with the backup
+      pub backup_steady : whole ≡ true → IsSteady (stanza_of draft) (Some (changed (AddBackup b) s)) d
+      backup_steady is = record {
+        fixed = fixed;
+        places = places;
+        stands = λ g leaves. let x = (makes.whole_way tight is).comes told g leaves in with_it x.0 g x.1 x.2;
+      }

@@ -2,7 +2,7 @@
 use Rattle.std.proofs.Common.{◌≡◌, ◌≢◌, ⊎_elim, inl, inr, ◌==◌, ◌<◌, ◌≤◌, ◌+◌, ◌-◌, ℕ, zero, suc, Bool, true, false, List, [], ◌∷◌, ◌++◌, length, map, take, drop, Option, Some, None, refl, sym, ◌∙◌, ap, subst, arith, slice_get, append_assoc}
 use Rattle.std.specs.Prelude.{IfSome, IsSome, IsSomeAnd, unwrap_or, option_map, bytes_eq, if◌then◌else◌, ◌&&◌, nat_lt}
 use Rattle.std.proofs.lemmas.Bool.{eqb-true}
-use Rattle.std.proofs.lemmas.List.{take_all}
+use Rattle.std.proofs.lemmas.List.{take_all, append-nil}
 use Rattle.sha1.specs.Sha1.{sha1}
 use Rattle.pgb_text.specs.declared.sum.Sum.{Sum}
 use Rattle.pgb_outside.specs.Content.{Name, Content, Value}
@@ -77,12 +77,8 @@ AreSized [] cs = Unit {0}
 AreSized (f ∷ fs) [] = ⊥
 AreSized (f ∷ fs) (c ∷ cs) = (c ≡ Empty → f.size ≡ 0) × AreSized fs cs
 
-none_more : {X : Type 0} (xs : List X) → xs ≡ xs ++ []
-none_more [] = refl
-none_more (x ∷ xs) = ap (λ (ys : List _). x ∷ ys) (none_more xs)
-
 all_sized : (s : PlanSettings) (old : List FileEntry) (l : Layout) (fs : List Taken) (es : List Bool) → length es ≡ length fs → (cs : List Choice) × ((laid_all s old l fs es).choices ≡ l.choices ++ cs) × AreSized fs cs
-all_sized s old l [] es same = ([], none_more l.choices, tt)
+all_sized s old l [] es same = ([], sym (append-nil l.choices), tt)
 all_sized s old l (f ∷ fs) [] same = absurd (omega (arith, same))
 all_sized s old l (f ∷ fs) (e ∷ es) same =
     let w = what s (entry_at f.path old) f e in

@@ -2,15 +2,13 @@
 use Rattle.std.proofs.Common.{◌≡◌, true, false, List, Result, Ok, Err, sym, subst, inl, inr}
 use Rattle.pgb_outside.specs.Moments.{View}
 use Rattle.pgb_outside.specs.Links.{LinkState}
-use Rattle.pgb_label.specs.Way.{Way, MayLoosen, IsBeside}
 use Rattle.pgb_backup.specs.declared.draft.Draft.{Draft}
 use Rattle.pgb_backup.specs.declared.fault.MakeFault.{MakeFault}
-use Rattle.pgb_backup.specs.Draft.{pair_of, is_own_of}
-use Rattle.pgb_backup.specs.Made.{Makes, Outcome}
+use Rattle.pgb_backup.specs.Made.{LeavesList, Makes, Outcome}
 
 module _ (draft : Draft) (links : List LinkState) (a d : View) (r : Result (Unit {0}) MakeFault) (e : MakeFault) (is : r ≡ Err e) where
-  pub nothing_listed : Way (MayLoosen (is_own_of draft)) (IsBeside (is_own_of draft) (pair_of draft)) a d → Outcome r draft links a d
-  nothing_listed way = subst (λ (x : Result (Unit {0}) MakeFault). Outcome x draft links a d) (sym is) (inl way)
+  pub nothing_listed : LeavesList draft a d → Outcome r draft links a d
+  nothing_listed stays = subst (λ (x : Result (Unit {0}) MakeFault). Outcome x draft links a d) (sym is) (inl stays)
 
   pub may_be_listed : Makes draft links false a d → Outcome r draft links a d
   may_be_listed makes = subst (λ (x : Result (Unit {0}) MakeFault). Outcome x draft links a d) (sym is) (inr makes)

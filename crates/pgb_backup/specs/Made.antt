@@ -2,7 +2,7 @@
 use Rattle.std.specs.Prelude.{◌≡◌, ◌≢◌, ◌⊎◌, ◌<◌, ℕ, Bool, true, false, List, Option, Some, Result, Ok, Err, IsSome, slice_get}
 use Rattle.pgb_outside.specs.Content.{Name, Content}
 use Rattle.pgb_outside.specs.Moments.{View, is_loose}
-use Rattle.pgb_outside.specs.Crash.{IsTemporary, Ends}
+use Rattle.pgb_outside.specs.Crash.{IsTemporary, Ends, NowGoes}
 use Rattle.pgb_outside.specs.Links.{LinkState}
 use Rattle.pgb_model.specs.Text.{Text}
 use Rattle.pgb_model.specs.Names.{copy_of}
@@ -72,11 +72,20 @@ pub record Makes (d : Draft) (links : List LinkState) (whole : Bool) (old new : 
   pub list : BackupInfo
   pub listed : IsListWith (list_in d) manifest list
   pub list_valid : IsBackupText list (info_text (backup_sections list))
-  pub tight : IsSome old.now → (j i : ℕ) (n : Name) (k : Kept) (x : Done) → slice_get names j ≡ Some n → slice_get kept j ≡ Some k → slice_get k.done i ≡ Some x → 0 < x.held.count → is_loose new n ≡ false
-  pub way : Way (MayLoosen (is_own_of d)) (λ f g. IsBeside (is_own_of d) (pair_of d) f g ⊎ HasBackup (is_own_of d) (pair_of d) (main_of d) manifest list names kept f g) old new
-  pub whole_way : whole ≡ true → Ends (HasBackup (is_own_of d) (pair_of d) (main_of d) manifest list names kept) old new
+  -- what the disk holds is as before, or the backup is listed
+  pub now : NowGoes (λ f g. IsBeside (is_own_of d) (pair_of d) f g ⊎ HasBackup (is_own_of d) (pair_of d) (main_of d) manifest list names kept f g) old.now new.now
+  pub whole_now : whole ≡ true → NowGoes (HasBackup (is_own_of d) (pair_of d) (main_of d) manifest list names kept) old.now new.now
+  -- and where no member was loose, so is what a stop leaves
+  pub tight : IsTightAt (pair_of d) (main_of d) old → IsSome old.now → (j i : ℕ) (n : Name) (k : Kept) (x : Done) → slice_get names j ≡ Some n → slice_get kept j ≡ Some k → slice_get k.done i ≡ Some x → 0 < x.held.count → is_loose new n ≡ false
+  pub way : IsTightAt (pair_of d) (main_of d) old → Way (MayLoosen (is_own_of d)) (λ f g. IsBeside (is_own_of d) (pair_of d) f g ⊎ HasBackup (is_own_of d) (pair_of d) (main_of d) manifest list names kept f g) old new
+  pub whole_way : IsTightAt (pair_of d) (main_of d) old → whole ≡ true → Ends (HasBackup (is_own_of d) (pair_of d) (main_of d) manifest list names kept) old new
+
+-- The stanza's list stays: in what the disk holds, and in what a stop leaves where no member was loose.
+pub record LeavesList (d : Draft) (old new : View) : Type 0 where
+  pub now : NowGoes (IsBeside (is_own_of d) (pair_of d)) old.now new.now
+  pub way : IsTightAt (pair_of d) (main_of d) old → Way (MayLoosen (is_own_of d)) (IsBeside (is_own_of d) (pair_of d)) old new
 
 -- at Ok it is listed; else nothing is, or it may be
 abbrev pub Outcome : Result (Unit {0}) MakeFault → Draft → List LinkState → View → View → Type 0
 Outcome (Ok x) d links old new = Makes d links true old new
-Outcome (Err e) d links old new = Way (MayLoosen (is_own_of d)) (IsBeside (is_own_of d) (pair_of d)) old new ⊎ Makes d links false old new
+Outcome (Err e) d links old new = LeavesList d old new ⊎ Makes d links false old new

@@ -3,9 +3,9 @@ ghost use Rattle.std.specs.Prelude.{◌≡◌, ◌<◌, ◌^◌, ℕ, Some, map,
 ghost use Rattle.pgb_outside.specs.Links.{LinkState};
 ghost use Rattle.pgb_outside.specs.States.{Frame};
 ghost use Rattle.pgb_worker_dispatch.specs.Run.{AddsLosses, Left, IsReady};
-ghost use Rattle.pgb_backup.specs.Draft.{IsDraft, jobs_in, pair_of, main_of};
+ghost use Rattle.pgb_backup.specs.Draft.{IsDraft, jobs_in};
 ghost use Rattle.pgb_backup.specs.Faults.{MakeFails};
-ghost use Rattle.pgb_backup.specs.Made.{IsTightAt, Outcome};
+ghost use Rattle.pgb_backup.specs.Made.{Outcome};
 
 use crate::draft::Draft;
 use crate::fault::MakeFault;
@@ -32,10 +32,10 @@ pub fn make<D: Disk, L: Link, U: Turns, C: Clock>(
     requires few { vec_len links.old < 2 ^ 32 }
     requires ready { (i : ℕ) (s : LinkState) → slice_get (map L.link_state links.old.items) i ≡ Some s → IsReady s }
 
-    // At each moment a stop leaves the stanza's list as it was, or the backup is listed, of the bytes that the links
-    // read. At Ok it is listed.
-    ensures made { IsTightAt (pair_of draft.entry) (main_of draft.entry) (D.state d.old).view
-        → Outcome result draft.entry (map L.link_state links.old.items) (D.state d.old).view (D.state d.new).view }
+    // The stanza's list is as it was, or the backup is listed, of the bytes that the links read; and so it is in what a
+    // stop leaves, at each moment. At Ok it is listed.
+    ensures made { Outcome result draft.entry (map L.link_state links.old.items) (D.state d.old).view
+        (D.state d.new).view }
     ensures frame { Frame (D.state d.old) (D.state d.new) }
 
     // Each link that was lost is told, and at Ok the others are left.
