@@ -22,13 +22,17 @@ use Rattle.pgb_command.specs.Answers.{Ending, status, answer_of}
 use Rattle.pgb_command.specs.Asked.{Asked, WordsSettle, IsAsked, requested}
 use Rattle.pgb_command.specs.Configuring.{ConfigCause}
 use Rattle.pgb_command.specs.Causes.{IsAnswered, Obeys, Answers}
-use Rattle.pgb_command.specs.Did.{IsIdle, Did, ComesBehind, Brackets, Cause, Closes, ArePlacesOpened}
+use Rattle.pgb_command.specs.Did.{IsIdle, HealsPairs, Did, ComesBehind, Brackets, Cause, Closes, ArePlacesOpened}
 use Rattle.pgb_command.specs.Output.{IsTold}
 use Rattle.pgb_command.proofs.Dids.{did_from, later_on}
 use Rattle.pgb_command.proofs.Ends.{all_later}
 use Rattle.pgb_command.proofs.Words.{is_idle, behind_as}
 
 -- ---- the output is written
+
+on_ok : (r : Result Outcome Fault) (P Q : Type 0) → (P → Q) → OnOk r P → OnOk r Q
+on_ok (Ok x) P Q to h = to h
+on_ok (Err e) P Q to h = tt
 
 module _ (a : Asked) (b k : Seen) (o : SinkState) (le : k.out.faults ≤ o.faults) where
   abbrev written : Seen
@@ -71,7 +75,7 @@ module _ (a : Asked) (b k : Seen) (o : SinkState) (le : k.out.faults ≤ o.fault
     promise = did.promise;
     lasts = did.lasts;
     cause = err_as r _ _ out_cause did.cause;
-    healed = did.healed;
+    healed = on_ok r (HealsPairs a b k) (HealsPairs a b written) (λ h. record { agree = h.agree; lasts = h.lasts }) did.healed;
     spares = record {
       beside = did.spares.beside;
       reads = did.spares.reads;
@@ -84,10 +88,6 @@ module _ (a : Asked) (b k : Seen) (o : SinkState) (le : k.out.faults ≤ o.fault
     };
     later = later_on b k written did.later (all_later k written (omega arith) (omega arith) (omega arith) (omega arith) (omega arith) (omega arith) (omega arith) (omega arith) le);
   }
-
-on_ok : (r : Result Outcome Fault) (P Q : Type 0) → (P → Q) → OnOk r P → OnOk r Q
-on_ok (Ok x) P Q to h = to h
-on_ok (Err e) P Q to h = tt
 
 brackets_written : (a : Asked) (b k : Seen) (o : SinkState) (r : Result Outcome Fault) → Brackets a b k r → Brackets a b (record k { out = o }) r
 brackets_written a b k o r h = record {

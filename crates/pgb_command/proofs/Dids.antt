@@ -9,6 +9,8 @@ use Rattle.pgb_outside.specs.Tree.{Nodes}
 use Rattle.pgb_archive.specs.Still.{IsStill, rests_none, still_self, still_on}
 use Rattle.pgb_model.specs.Text.{Text}
 use Rattle.pgb_model.specs.Steps.{Command}
+use Rattle.pgb_model.specs.Walks.{IsTight}
+use Rattle.pgb_model.proofs.Each.{keeps_tight}
 use Rattle.pgb_stage.specs.declared.plan.Plan.{Plan}
 use Rattle.pgb_stage.specs.declared.object.Object.{Object}
 use Rattle.pgb_stage.specs.declared.object.Object.TheVariants.{Server as TheServer, Locks}
@@ -18,7 +20,7 @@ use Rattle.pgb_stage.specs.declared.halt.Halt.{Halt}
 use Rattle.pgb_stage.specs.declared.halt.Halt.TheVariants.{Refused, Failed as HaltFailed, NoMemory as HaltMemory}
 use Rattle.pgb_stage.specs.declared.outcome.Outcome.{Outcome}
 use Rattle.pgb_stage.specs.Halts.{HaltCause, Never, Only}
-use Rattle.pgb_stage.specs.Plans.{Heals, AreHealed, OnReading, TakesLocks}
+use Rattle.pgb_stage.specs.Plans.{Heals, AreHealed, HealsToLast, OnReading, TakesLocks}
 use Rattle.pgb_stage.specs.Reached.{back_if}
 use Rattle.pgb_stage.specs.declared.plan.Settling.{Settling}
 use Rattle.pgb_stage.specs.declared.plan.Settling.TheVariants.{Looked}
@@ -40,7 +42,7 @@ use Rattle.pgb_command.specs.Answers.{reached_of, ending_of, is_early}
 use Rattle.pgb_command.specs.Asked.{Request, create, push, get, report, Asked}
 use Rattle.pgb_command.specs.Faults.{of_stage}
 use Rattle.pgb_command.specs.Tables.{Known, known, plan_of, manner_of, CommandCause, Promise, Lasts, OnReader, OnCreate, OnOther, FolderGoes}
-use Rattle.pgb_command.specs.Did.{Ran, OnReady, Cause, Did, OwnCause, Spares, Closes, WordsCause, Brackets, SamePlaces, OpensPlaces, ArePlacesOpened, OpensIf, IsOpenedIf, TakesAll, OnlyLocked}
+use Rattle.pgb_command.specs.Did.{Ran, StaysHealed, OnReady, Cause, HealsPairs, Did, OwnCause, Spares, Closes, WordsCause, Brackets, SamePlaces, OpensPlaces, ArePlacesOpened, OpensIf, IsOpenedIf, TakesAll, OnlyLocked}
 use Rattle.pgb_command.proofs.Ends.{all_later, only_rose}
 
 -- ---- nothing was done: a line a command
@@ -220,7 +222,10 @@ did_from a b m k r read did = record {
   lasts = ok_as r _ _ (λ outcome h q log some keeps. subst (λ (n : Option Nodes). Lasts a a.request n k.repo.view k.tree.nodes outcome) read.nodes
       (h q log (subst (λ (o : Option Content). IsSome o) (sym read.repo.now) some) (rests_still a.stanza q log b.repo.view m.repo.view read.repo.time read.repo.now keeps))) did.lasts;
   cause = err_as r _ _ (cause_from a b m k read) did.cause;
-  healed = on_ok r _ _ (λ h some. h (subst (λ (o : Option Content). IsSome o) (sym read.repo.now) some)) did.healed;
+  healed = on_ok r (HealsPairs a m k) (HealsPairs a b k) (λ h. record {
+    agree = λ some. h.agree (subst (λ (o : Option Content). IsSome o) (sym read.repo.now) some);
+    lasts = λ q log some keeps. h.lasts q log (subst (λ (o : Option Content). IsSome o) (sym read.repo.now) some) (rests_still a.stanza q log b.repo.view m.repo.view read.repo.time read.repo.now keeps);
+  }) did.healed;
   spares = spares_on a b m k r (still_beside a.stanza b.repo.view m.repo.view read.repo) (any_reader a.request _ read.repo) (any_create a.request _ read.repo) read.nodes read.server did.spares;
   later = later_on b m k read.later did.later;
 }
@@ -265,17 +270,30 @@ lasts_by a (push path) v nodes mid k outcome same at h = subst (λ (n : Option N
 lasts_by a (get name path) v nodes mid k outcome same at h = subst (λ (n : Option Nodes). Lasts a (get name path) n k.repo.view k.tree.nodes outcome) same (h (at refl))
 lasts_by a (report form) v nodes mid k outcome same at h = tt
 
+-- the members of a healed pair too
+heals_by : (a : Asked) (request : Request) (v : View) (k : Seen) → ((plan_of request).settling ≡ Looked → IsLookedAt a.stanza v) → HealsToLast (plan_of request).pairs a.stanza v →
+    (IsLookedAt a.stanza v → HealsToLast (plan_of request).pairs a.stanza v → HealsToLast (plan_of request).pairs a.stanza k.repo.view) → HealsToLast (plan_of request).pairs a.stanza k.repo.view
+heals_by a create v k at had h = tt
+heals_by a (push path) v k at had h = h (at refl) had
+heals_by a (get name path) v k at had h = tt
+heals_by a (report form) v k at had h = tt
+
 -- what the stages behind the locks add
 did_ran : (a : Asked) (b m k : Seen) (r : Result Outcome Fault) → m ≡ record b { repo = m.repo; tree = m.tree } → m.tree.nodes ≡ b.tree.nodes → b.repo.faults ≤ m.repo.faults → b.tree.faults ≤ m.tree.faults → Quiet a.stanza b.repo.view m.repo.view → Begins (plan_of a.request).settling a.stanza b.repo.view m.repo.view →
-    Heals (plan_of a.request).pairs a.stanza b.repo.view.now m.repo.view.now → IfSome m.repo.view.now (AreHealed (plan_of a.request).pairs a.stanza) → OnReading (plan_of a.request).pairs (IsStill b.repo.view m.repo.view) → Ran a m k r → Did a b k r
-did_ran a b m k r others nodes repo_later tree_later quiet begun heals healed still ran = record {
+    Heals (plan_of a.request).pairs a.stanza b.repo.view.now m.repo.view.now → IfSome m.repo.view.now (AreHealed (plan_of a.request).pairs a.stanza) → (IsTight a.stanza b.repo.view → IsSome b.repo.view.now → HealsToLast (plan_of a.request).pairs a.stanza m.repo.view) → OnReading (plan_of a.request).pairs (IsStill b.repo.view m.repo.view) → Ran a m k r → Did a b k r
+did_ran a b m k r others nodes repo_later tree_later quiet begun heals healed durable still ran = record {
   steps = subst (λ (o : Option Nodes). On (manner_of a.request a.data_folder o) (λ command. Takes (plan_of a.request).settling a.stanza command (reached_of (ending_of r)) b.repo.view b.spool.view k.repo.view k.spool.view)) nodes
       (on_as (manner_of a.request a.data_folder m.tree.nodes) _ _ (λ command h. begun_takes (plan_of a.request).settling a.stanza b.repo.view m.repo.view quiet begun command (reached_of (ending_of r)) b.spool.view k.repo.view k.spool.view (subst (λ (v : View). Runs (plan_of a.request).settling a.stanza command (reached_of (ending_of r)) m.repo.view v k.repo.view k.spool.view) (ap (λ (s : Seen). s.spool.view) others) h)) ran.steps);
   promise = ok_as r _ _ (λ outcome h. (m.repo.view.now, heals, subst (λ (o : Known). Promise a a.request o (known k) outcome) known_is h)) ran.promise;
   lasts = ok_as r _ _ (λ outcome h q log some keeps. lasts_by a a.request m.repo.view b.tree.nodes m.tree.nodes k outcome nodes
       (λ is. looked_at a.stanza b.repo.view m.repo.view quiet (subst (λ (how : Settling). Begins how a.stanza b.repo.view m.repo.view) is begun) q log some keeps) h) ran.lasts;
   cause = err_as r _ _ own ran.cause;
-  healed = on_ok r _ _ (λ h some. h (quiet.now.told some) healed) ran.healed;
+  healed = on_ok r (StaysHealed a m k) (HealsPairs a b k) (λ h. record {
+    agree = λ some. h.agree (quiet.now.told some) healed;
+    lasts = λ q log some keeps. heals_by a a.request m.repo.view k
+        (λ is. looked_at a.stanza b.repo.view m.repo.view quiet (subst (λ (how : Settling). Begins how a.stanza b.repo.view m.repo.view) is begun) q log some keeps)
+        (durable (keeps_tight a.stanza q log b.repo.view keeps) some) h.lasts;
+  }) ran.healed;
   spares = spares_on a b m k r quiet.beside (reader_still a.request _ still) (create_still a.request _ still) nodes (ap (λ (s : Seen). s.server) others) ran.spares;
   later = later_on b m k later ran.later;
 }
@@ -296,9 +314,10 @@ did_ran a b m k r others nodes repo_later tree_later quiet begun heals healed st
 
 -- the same, by the code's plan
 pub worked : (a : Asked) (plan : Plan) → plan ≡ plan_of a.request → (b m k : Seen) (r : Result Outcome Fault) → m ≡ record b { repo = m.repo; tree = m.tree } → m.tree.nodes ≡ b.tree.nodes → b.repo.faults ≤ m.repo.faults → b.tree.faults ≤ m.tree.faults → Quiet a.stanza b.repo.view m.repo.view → Begins plan.settling a.stanza b.repo.view m.repo.view →
-    Heals plan.pairs a.stanza b.repo.view.now m.repo.view.now → IfSome m.repo.view.now (AreHealed plan.pairs a.stanza) → OnReading plan.pairs (IsStill b.repo.view m.repo.view) → Ran a m k r → Did a b k r
-worked a plan is b m k r others nodes repo_later tree_later quiet begun heals healed still ran = did_ran a b m k r others nodes repo_later tree_later quiet
+    Heals plan.pairs a.stanza b.repo.view.now m.repo.view.now → IfSome m.repo.view.now (AreHealed plan.pairs a.stanza) → (IsTight a.stanza b.repo.view → IsSome b.repo.view.now → HealsToLast plan.pairs a.stanza m.repo.view) → OnReading plan.pairs (IsStill b.repo.view m.repo.view) → Ran a m k r → Did a b k r
+worked a plan is b m k r others nodes repo_later tree_later quiet begun heals healed durable still ran = did_ran a b m k r others nodes repo_later tree_later quiet
     (subst (λ (p : Plan). Begins p.settling a.stanza b.repo.view m.repo.view) is begun) (subst (λ (p : Plan). Heals p.pairs a.stanza b.repo.view.now m.repo.view.now) is heals) (subst (λ (p : Plan). IfSome m.repo.view.now (AreHealed p.pairs a.stanza)) is healed)
+    (λ tight some. subst (λ (p : Plan). HealsToLast p.pairs a.stanza m.repo.view) is (durable tight some))
     (subst (λ (p : Plan). OnReading p.pairs (IsStill b.repo.view m.repo.view)) is still) ran
 
 -- a stage refuses, or an object fails in it

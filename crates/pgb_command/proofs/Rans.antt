@@ -27,7 +27,7 @@ use Rattle.pgb_stage.specs.declared.halt.Halt.TheVariants.{Refused, Failed as Ha
 use Rattle.pgb_stage.specs.declared.outcome.Outcome.{Outcome}
 use Rattle.pgb_stage.specs.Cluster.{FolderTells}
 use Rattle.pgb_stage.specs.Halts.{HaltCause, Never}
-use Rattle.pgb_stage.specs.Plans.{AreHealed}
+use Rattle.pgb_stage.specs.Plans.{AreHealed, HealsToLast}
 use Rattle.pgb_stage.specs.Reached.{OnFinished, reached_by}
 use Rattle.pgb_stage.specs.Runs.{Reached, to_end, turned_back, stopped, Does, Runs, On, OnNone, IsLookedAt, PairAlike}
 use Rattle.pgb_stage.specs.Seen.{Seen, Failed, AreLater}
@@ -51,7 +51,7 @@ use Rattle.pgb_command.specs.Answers.{reached_of, ending_of, is_early}
 use Rattle.pgb_command.specs.Asked.{Request, create, push, get, report, Asked}
 use Rattle.pgb_command.specs.Faults.{of_halt, of_stage, of_create, of_push, of_get, lift}
 use Rattle.pgb_command.specs.Tables.{known, Promise, Lasts, plan_of, manner_of, IsCreateOf, OnReader, OnCreate, OnOther, FolderGoes}
-use Rattle.pgb_command.specs.Did.{SamePlaces, Closes, OwnCause, Ran}
+use Rattle.pgb_command.specs.Did.{SamePlaces, Closes, OwnCause, StaysHealed, Ran}
 use Rattle.pgb_command.proofs.Ends.{reached_same, lift_ok, lift_on, lift_err}
 use Rattle.pgb_command.proofs.OneCluster.{cluster_is}
 
@@ -76,7 +76,7 @@ module _ {E : Type 0} (a : Asked) (b k : Seen) (of : E → Fault) (early : E →
   create_reached (report form) P h = h
 
   pub ran_of : On (manner_of a.request a.data_folder b.tree.nodes) (λ command. Runs (plan_of a.request).settling a.stanza command (reached_by early r) b.repo.view b.spool.view k.repo.view k.spool.view) → IfOk r (Promise a a.request (known b) (known k)) → IfOk r (λ o. IsLookedAt a.stanza b.repo.view → Lasts a a.request b.tree.nodes k.repo.view k.tree.nodes o) → IfErr r (HaltCause why failed) →
-      OnOk r (IsSome b.repo.view.now → IfSome b.repo.view.now (AreHealed (plan_of a.request).pairs a.stanza) → IfSome k.repo.view.now (AreHealed (plan_of a.request).pairs a.stanza)) →
+      OnOk r (StaysHealed a b k) →
       StaysBeside a.stanza b.repo.view k.repo.view → OnReader a.request (IsStill b.repo.view k.repo.view) → FolderGoes a a.request b.repo.view.now b.tree.nodes k.tree.nodes → OnNone (reached_by early r) (k.tree.nodes ≡ b.tree.nodes) →
       OnCreate a.request (OnNone (reached_by early r) (k.repo.view.now ≡ b.repo.view.now)) → (a.server ≡ None → k.server ≡ b.server) → OnOther a.request (k.server ≡ b.server) →
       IfErr (lift (of_halt of) r) (Closes b k) → SamePlaces b k → AreLater b k → Ran a b k ended
@@ -176,7 +176,7 @@ module _ (a : Asked) (b k : Seen) (rest : k ≡ record b { repo = k.repo; server
       (ok_with r _ _ _ _ (λ o made agrees asks. record { told = told; tells = tells; created = made; agrees = agrees; asks = asks }) created same asked)
       (any_ok r (λ o. IsLookedAt a.stanza b.repo.view → Unit {0}) (λ o looked. tt))
       cause
-      (on_all r _ (λ some h. any_some k.repo.view.now))
+      (on_all r (StaysHealed asks b k) (record { agree = λ some h. any_some k.repo.view.now; lasts = λ looked h. tt }))
       beside
       tt
       (ap (λ (s : Seen). s.tree.nodes) rest)
@@ -206,16 +206,17 @@ module _ (a : Asked) (b k : Seen) (rest : k ≡ record b { repo = k.repo; tree =
   pub pushed_ran : a.request ≡ push path → folder ≡ a.data_folder → StaysBeside a.stanza b.repo.view k.repo.view → ((command : Command) → IsSomeAnd b.tree.nodes (λ f. IsPushOf f folder path command) → Does Looked a.stanza command (reached_by push_early r) b.repo.view k.repo.view) →
       IfOk r (λ o. OnFinished o (IsStored a.stanza folder path b.tree.nodes b.repo.view.now k.repo.view.now)) →
       IfOk r (λ o. IsTight a.stanza b.repo.view → IsSome b.repo.view.now → OnFinished o (λ lines. IsLasting a.stanza folder path k.repo.view)) →
-      (IfSome b.repo.view.now (AreHealed HealArchive a.stanza) → IsSome b.repo.view.now → IfSome k.repo.view.now (AreHealed HealArchive a.stanza)) → (failed : Object → Type 0) → ((object : Object) → failed object → Failed b k object) →
+      (IfSome b.repo.view.now (AreHealed HealArchive a.stanza) → IsSome b.repo.view.now → IfSome k.repo.view.now (AreHealed HealArchive a.stanza)) →
+      (IsTight a.stanza b.repo.view → IsSome b.repo.view.now → HealsToLast HealArchive a.stanza b.repo.view → HealsToLast HealArchive a.stanza k.repo.view) → (failed : Object → Type 0) → ((object : Object) → failed object → Failed b k object) →
       IfErr r (HaltCause (PushCause a.stanza folder path b.repo.view.now b.tree.nodes) failed) → SamePlaces b k → AreLater b k → Ran a b k ended
-  pushed_ran is in_it beside does stored lasting agrees failed rose cause places later = in_folder a folder b k ended in_it (as_ran (with_folder a folder) (push path) b k ended is
+  pushed_ran is in_it beside does stored lasting agrees alike failed rose cause places later = in_folder a folder b k ended in_it (as_ran (with_folder a folder) (push path) b k ended is
       (ran_of pushes b k (λ (e : PushFault). OfCommand (Push e)) push_early (λ e. refl) (PushCause a.stanza folder path b.repo.view.now b.tree.nodes) (λ e h. h) failed rose r ended lifted
       (λ command x. subst (λ (v : View). Runs Looked a.stanza command (reached_by push_early r) b.repo.view b.spool.view k.repo.view v) (sym (ap (λ (s : Seen). s.spool.view) rest))
       (does_runs Looked a.stanza command (reached_by push_early r) b.repo.view k.repo.view b.spool.view (push_receipts a.stanza b.tree.nodes folder path command x b.spool.view) (does command x)))
       stored
       (ok_as r _ _ (λ o h looked. h looked.tight (now_told a.stanza b.repo.view looked.now)) lasting)
       cause
-      (on_all r _ (λ some h. agrees h some))
+      (on_all r (StaysHealed pushes b k) (record { agree = λ some h. agrees h some; lasts = λ looked h. alike looked.tight (now_told a.stanza b.repo.view looked.now) h }))
       beside
       tt
       nodes
@@ -251,7 +252,7 @@ module _ (a : Asked) (b k : Seen) (rest : k ≡ record b { repo = k.repo; tree =
       got
       (ok_as r _ _ (λ o h looked. h looked.tight (now_told a.stanza b.repo.view looked.now) looked.pair) lasting)
       cause
-      (on_all r _ (λ some h. any_some k.repo.view.now))
+      (on_all r (StaysHealed gets b k) (record { agree = λ some h. any_some k.repo.view.now; lasts = λ looked h. tt }))
       (still_beside a.stanza b.repo.view k.repo.view still)
       still
       changes
@@ -279,7 +280,7 @@ module _ (a : Asked) (b k : Seen) (rest : k ≡ record b { repo = k.repo }) (sti
       told
       (any_ok r (λ o. IsLookedAt a.stanza b.repo.view → Unit {0}) (λ o looked. tt))
       cause
-      (on_all r _ (λ some h. any_some k.repo.view.now))
+      (on_all r (StaysHealed informs b k) (record { agree = λ some h. any_some k.repo.view.now; lasts = λ looked h. tt }))
       (still_beside a.stanza b.repo.view k.repo.view still)
       still
       (ap (λ (s : Seen). s.tree.nodes) rest)

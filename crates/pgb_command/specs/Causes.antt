@@ -1,5 +1,5 @@
 -- What the program answers and does, from the words on.
-use Rattle.std.specs.Prelude.{◌≡◌, ◌≢◌, ◌≤◌, ◌⊎◌, ◌++◌, ℕ, true, false, List, [], Option, None, IsSome, IfSome, Result, Ok, Err, option_map}
+use Rattle.std.specs.Prelude.{◌≡◌, ◌≢◌, ◌≤◌, ◌⊎◌, ◌++◌, ℕ, true, false, List, [], Option, None, Result, Ok, Err, option_map}
 use Rattle.pgb_outside.specs.Content.{Content}
 use Rattle.pgb_model.specs.Text.{Text}
 use Rattle.pgb_options.specs.Settings.{Settled}
@@ -9,7 +9,6 @@ use Rattle.pgb_stage.specs.declared.fault.Unbuilt.{Unbuilt}
 use Rattle.pgb_stage.specs.declared.fault.StageFault.TheVariants.{NotBuilt}
 use Rattle.pgb_stage.specs.declared.object.Object.TheVariants.{Server, Config, Output}
 use Rattle.pgb_stage.specs.declared.outcome.Outcome.{Outcome}
-use Rattle.pgb_stage.specs.Plans.{AreHealed}
 use Rattle.pgb_stage.specs.Runs.{On, OnWhole, Leads, Passes, EndsAtOne, turns_of}
 use Rattle.pgb_stage.specs.Seen.{Seen, Failed}
 use Rattle.pgb_command.specs.declared.fault.Fault.{Fault}
@@ -18,7 +17,7 @@ use Rattle.pgb_create.specs.Talking.{Ended, IsServerRefusal}
 use Rattle.pgb_command.specs.Answers.{Ending, status, ending_of, answer_of, lines_of}
 use Rattle.pgb_command.specs.Asked.{Asked, MayAsk, Asks, WordsSettle, IsAsked, requested}
 use Rattle.pgb_command.specs.Configuring.{ConfigCause}
-use Rattle.pgb_command.specs.Did.{IsIdle, Did, ComesBehind, Brackets, Cause, OnReady, LastsAfter, ArePlacesOpened, TakesAll}
+use Rattle.pgb_command.specs.Did.{IsIdle, Did, ComesBehind, Brackets, Cause, OnReady, LastsAfter, HealsPairs, ArePlacesOpened, TakesAll}
 use Rattle.pgb_command.specs.Output.{IsTold}
 use Rattle.pgb_command.specs.Tables.{known, plan_of, manner_of, Promise, OnReader, OnCreate, OnOther, FolderGoes}
 
@@ -73,11 +72,11 @@ PartDone a before after = On (manner_of a.request a.data_folder before.tree.node
 abbrev pub NoneDone : Asked → Seen → Seen → Type 0
 NoneDone a before after = On (manner_of a.request a.data_folder before.tree.nodes) (λ command. Leads a.stanza (turns_of command) false before.repo.view before.spool.view after.repo.view after.spool.view)
 
--- at 0: all is done, all that a stop leaves stands for one repository where the whole stanza was settled, the pairs that the command heals agree, its places were opened and its locks taken
+-- at 0: all is done, all that a stop leaves stands for one repository where the whole stanza was settled, the pairs that the command heals agree and no stop takes a member of them away, its places were opened and its locks taken
 pub record Finishes (a : Asked) (before after : Seen) : Type 0 where
   pub all : AllDone a before after
   pub ends : AllAtOne a before after
-  pub healed : IsSome before.repo.view.now → IfSome after.repo.view.now (AreHealed (plan_of a.request).pairs a.stanza)
+  pub healed : HealsPairs a before after
   pub opened : ArePlacesOpened a before after
   pub took : TakesAll a before after
 

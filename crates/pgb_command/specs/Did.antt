@@ -8,7 +8,7 @@ use Rattle.pgb_story.specs.Beside.{StaysBeside}
 use Rattle.pgb_stage.specs.declared.object.Object.TheVariants.{Server}
 use Rattle.pgb_stage.specs.declared.halt.Halt.TheVariants.{Refused}
 use Rattle.pgb_stage.specs.declared.outcome.Outcome.{Outcome}
-use Rattle.pgb_stage.specs.Plans.{Heals, AreHealed, TakesLocks}
+use Rattle.pgb_stage.specs.Plans.{Heals, AreHealed, HealsToLast, TakesLocks}
 use Rattle.pgb_model.specs.Log.{Done, KeepsRepository}
 use Rattle.pgb_model.specs.Repository.{Repository}
 use Rattle.pgb_stage.specs.Runs.{Runs, Takes, On, OnNone, IsLookedAt}
@@ -65,12 +65,17 @@ OwnCause a before after (Command fault) = CommandCause a a.request (known before
 OwnCause a before after (ObjectFailed object) = Failed before after object
 OwnCause a before after NoMemory = Unit {0}
 
+-- the pairs that the command heals agree still, and no stop takes a member of them away
+pub record StaysHealed (a : Asked) (before after : Seen) : Type 0 where
+  pub agree : IsSome before.repo.view.now → IfSome before.repo.view.now (AreHealed (plan_of a.request).pairs a.stanza) → IfSome after.repo.view.now (AreHealed (plan_of a.request).pairs a.stanza)
+  pub lasts : IsLookedAt a.stanza before.repo.view → HealsToLast (plan_of a.request).pairs a.stanza before.repo.view → HealsToLast (plan_of a.request).pairs a.stanza after.repo.view
+
 pub record Ran (a : Asked) (before after : Seen) (result : Result Outcome Fault) : Type 0 where
   pub steps : On (manner_of a.request a.data_folder before.tree.nodes) (λ command. Runs (plan_of a.request).settling a.stanza command (reached_of (ending_of result)) before.repo.view before.spool.view after.repo.view after.spool.view)
   pub promise : IfOk result (Promise a a.request (known before) (known after))
   pub lasts : IfOk result (λ outcome. IsLookedAt a.stanza before.repo.view → Lasts a a.request before.tree.nodes after.repo.view after.tree.nodes outcome)
   pub cause : IfErr result (OwnCause a before after)
-  pub healed : OnOk result (IsSome before.repo.view.now → IfSome before.repo.view.now (AreHealed (plan_of a.request).pairs a.stanza) → IfSome after.repo.view.now (AreHealed (plan_of a.request).pairs a.stanza))
+  pub healed : OnOk result (StaysHealed a before after)
   pub spares : Spares a before after result
   pub places : SamePlaces before after
   pub later : AreLater before after
@@ -132,12 +137,17 @@ OnlyLocked a before after = TakesAll a before after
 abbrev pub LastsAfter : Asked → Seen → Seen → Outcome → Type 0
 LastsAfter a before after outcome = (q : Repository) (log : List Done) → IsSome before.repo.view.now → KeepsRepository a.stanza q log before.repo.view → Lasts a a.request before.tree.nodes after.repo.view after.tree.nodes outcome
 
+-- the pairs that the command heals agree, and where a log is kept no stop takes a member of them away
+pub record HealsPairs (a : Asked) (before after : Seen) : Type 0 where
+  pub agree : IsSome before.repo.view.now → IfSome after.repo.view.now (AreHealed (plan_of a.request).pairs a.stanza)
+  pub lasts : (q : Repository) (log : List Done) → IsSome before.repo.view.now → KeepsRepository a.stanza q log before.repo.view → HealsToLast (plan_of a.request).pairs a.stanza after.repo.view
+
 pub record Did (a : Asked) (before after : Seen) (result : Result Outcome Fault) : Type 0 where
   pub steps : On (manner_of a.request a.data_folder before.tree.nodes) (λ command. Takes (plan_of a.request).settling a.stanza command (reached_of (ending_of result)) before.repo.view before.spool.view after.repo.view after.spool.view)
   pub promise : IfOk result (λ outcome. OnReady a (known before) (λ old. Promise a a.request old (known after) outcome))
   pub lasts : IfOk result (LastsAfter a before after)
   pub cause : IfErr result (Cause a before after)
-  pub healed : OnOk result (IsSome before.repo.view.now → IfSome after.repo.view.now (AreHealed (plan_of a.request).pairs a.stanza))
+  pub healed : OnOk result (HealsPairs a before after)
   pub spares : Spares a before after result
   pub later : AreLater before after
 
