@@ -1,5 +1,5 @@
 -- The latest second of a list's labels, and a draft of what was taken.
-use Rattle.std.proofs.Common.{◌≡◌, ⊎_elim, inl, inr, ℕ, ◌+◌, ◌<◌, ◌≤◌, Bool, true, false, List, [], ◌∷◌, ◌++◌, length, map, max, take, get_or, Option, Some, None, refl, sym, ◌∙◌, ap, subst, arith}
+use Rattle.std.proofs.Common.{◌≡◌, ⊎_elim, inl, inr, ℕ, zero, suc, ◌+◌, ◌<◌, ◌≤◌, Bool, true, false, List, [], ◌∷◌, ◌++◌, length, map, max, take, get_or, Option, Some, None, refl, sym, ◌∙◌, ap, subst, arith}
 use Rattle.std.specs.Prelude.{IfSome}
 use Rattle.std.proofs.lemmas.List.{map-append}
 use Rattle.pgb_outside.specs.Order.{is_before}
@@ -20,6 +20,12 @@ use Rattle.pgb_record.specs.Bounds.{MayFollow}
 use Rattle.pgb_record.specs.Making.{labels_of}
 use Rattle.pgb_draft.specs.Seconds.{later_second, second_of, AreBefore, IsNext}
 use Rattle.pgb_draft.proofs.StampOrder.{label_before}
+
+-- what lies at a place of a list is in it
+pub in_got : {X : Type 0} (xs : List X) (i : ℕ) (x : X) → i < length xs → x ≡ get_or xs i x → In x xs
+in_got [] i x less e = absurd (omega (arith, less))
+in_got (y ∷ ys) zero x less e = inl e
+in_got (y ∷ ys) (suc i) x less e = inr (in_got ys i x (omega (arith, less)) e)
 
 -- one entry more
 pub latest_more : (listed : List rust_entry.Entry) (i latest : ℕ) (x : rust_entry.Entry) → i < length listed → x ≡ get_or listed i x → AreBefore (labels_of (map entry_of (take i listed))) (latest + 1) →

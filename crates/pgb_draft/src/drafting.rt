@@ -13,7 +13,7 @@ ghost use Rattle.pgb_draft.specs.Seconds.{IsNext};
 
 use pgb_backup::Draft;
 use pgb_model::{BackupInfo, Choices, Cluster, Label};
-use pgb_plan::{Listing, PlanSettings, plan};
+use pgb_plan::{Listing, PlanSettings, Taken, plan};
 use std::alloc::{AllocError, Global};
 
 /// Every file is copied to a name of its own.
@@ -31,6 +31,15 @@ pub fn current_cluster(list: &BackupInfo) -> Cluster
     ensures listed { In result (backup_info_of list.now).history }
 {
     list.history[list.current as usize - 1]
+}
+
+// Of no file the bytes are those of an earlier backup.
+fn none_equal(alloc: Global, files: &[Taken]) -> Result<Vec<bool>, AllocError>
+    ensures { IfOk result (λ equal. length equal.items ≡ length files.now) }
+{
+    let mut equal = Vec::new(alloc);
+    equal.resize(files.len(), false)?;
+    Ok(equal)
 }
 
 /// The draft of a full backup of these files and folders, whose label is named by the second.
@@ -51,8 +60,7 @@ pub fn draft_of<'a>(
     ensures draft { IfOk result (λ d. IsDraft d) }
     ensures full { IfOk result (λ d. IsFullOf stanza.entry.now second cluster listing before d) }
 {
-    let mut equal = Vec::new(alloc);
-    equal.resize(listing.files.len(), false)?;
+    let equal = none_equal(alloc, &listing.files)?;
     let plan = plan(alloc, &listing.files, &[], &equal, &PLAIN)?;
     Ok(Draft {
         stanza,
