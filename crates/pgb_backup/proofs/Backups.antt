@@ -1,21 +1,19 @@
 -- The backup that a record tells of, of what a draft's jobs gave.
-use Rattle.std.proofs.Common.{◌≡◌, inl, inr, ◌<◌, Bool, List, [], length, map, Option, Some, None, refl, sym, ◌∙◌, ap, subst, arith}
+use Rattle.std.proofs.Common.{◌≡◌, Bool, List, [], length, map, Option, Some, None, sym, ◌∙◌, ap, subst, arith}
 use Rattle.std.specs.Prelude.{IsSome, unwrap_or}
 use Rattle.pgb_outside.specs.Content.{Name, Content}
 use Rattle.pgb_outside.specs.Moments.{View}
 use Rattle.pgb_outside.specs.Links.{LinkState}
 use Rattle.pgb_model.specs.declared.labels.Label.{Label}
-use Rattle.pgb_model.specs.declared.clusters.Cluster.{Cluster}
-use Rattle.pgb_model.specs.Text.{Text, Map, In}
-use Rattle.pgb_model.specs.Values.{BackupInfo, FileEntry, Manifest}
+use Rattle.pgb_model.specs.Text.{Map, In}
+use Rattle.pgb_model.specs.Values.{BackupInfo, Manifest}
 use Rattle.pgb_model.specs.Repository.{Backup, File, Stanza}
-use Rattle.pgb_worker_keep.specs.KeepState.{Kept}
 use Rattle.pgb_plan.specs.Layout.{Layout, layout}
 use Rattle.pgb_plan.specs.Spots.{HaveItems}
 use Rattle.pgb_plan.proofs.Places.{have_items}
-use Rattle.pgb_record.specs.Making.{manifest_with, entry_with, backup_with, list_with, AreReferences, IsListWith}
-use Rattle.pgb_record.specs.Entries.{entries, rows, file_of}
-use Rattle.pgb_record.specs.Naming.{IsNaming, names_for}
+use Rattle.pgb_record.specs.Making.{entry_with, backup_with, list_with, AreReferences, IsListWith}
+use Rattle.pgb_record.specs.Entries.{rows, file_of}
+use Rattle.pgb_record.specs.Naming.{IsNaming}
 use Rattle.pgb_record.specs.Record.{PriorRead, HasPrior, IsListOf, Adds}
 use Rattle.pgb_record.proofs.Adding.{IsMadeOf, adds_none, adds_prior}
 use Rattle.pgb_record.proofs.Coming.{came_jobs}

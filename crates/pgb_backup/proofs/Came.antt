@@ -1,11 +1,11 @@
 -- What the links gave of the jobs is what came of them.
-use Rattle.std.proofs.Common.{◌≡◌, ◌≤◌, inl, inr, ℕ, zero, suc, List, [], ◌∷◌, length, map, take, drop, Option, Some, None, refl, sym, ◌∙◌, ap, subst, arith, slice_get}
-use Rattle.std.specs.Prelude.{IfSome, IsSome, IsSomeAnd, option_map}
+use Rattle.std.proofs.Common.{◌≡◌, inl, inr, ℕ, zero, suc, List, [], ◌∷◌, length, take, drop, Option, Some, None, refl, sym, ◌∙◌, ap, subst, arith, slice_get}
+use Rattle.std.specs.Prelude.{IfSome, IsSome}
 use Rattle.sha1.specs.Sha1.{sha1}
 use Rattle.pgb_text.specs.declared.sum.Sum.{Sum}
-use Rattle.pgb_outside.specs.Content.{Name, Content, at}
+use Rattle.pgb_outside.specs.Content.{Name, Content}
 use Rattle.pgb_outside.specs.Links.{LinkState, Told}
-use Rattle.pgb_model.specs.Text.{Text, In}
+use Rattle.pgb_model.specs.Text.{Text}
 use Rattle.pgb_worker_frame.specs.declared.frames.JobKind.{JobKind}
 use Rattle.pgb_worker_frame.specs.declared.frames.JobKind.TheVariants.{Read}
 use Rattle.pgb_worker_frame.specs.Frames.{Item, Job}
@@ -16,9 +16,8 @@ use Rattle.pgb_worker_reply.specs.Reads.{AllEnd, EndsAs, EndsWhole}
 use Rattle.pgb_worker_dispatch.specs.Run.{AllDone, EndedBy}
 use Rattle.pgb_label.specs.declared.keeper.Ended.{Ended}
 use Rattle.pgb_label.specs.Keeping.{Progress, dones, job_bytes, kept_of, keeps}
-use Rattle.pgb_label.proofs.Kept.{some_and}
 use Rattle.pgb_record.proofs.Coming.{AreReads}
-use Rattle.pgb_record.specs.Ends.{AreEnds, AreAllEnds, AreReceived, IsReceived, HasCome, ComesAs, AllCome, JobsCome}
+use Rattle.pgb_record.specs.Ends.{AreEnds, AreAllEnds, AreReceived, IsReceived, ComesAs, AllCome, JobsCome}
 
 -- ---- a job
 

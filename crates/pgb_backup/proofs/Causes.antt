@@ -3,7 +3,6 @@ use Rattle.std.proofs.Common.{◌≡◌, ◌≤◌, ◌<◌, ℕ, List, length, 
 use Rattle.std.specs.Prelude.{IfErr, IsErrAnd}
 use Rattle.pgb_outside.specs.Cause.{Rises}
 use Rattle.pgb_outside.specs.Links.{LinkState}
-use Rattle.pgb_outside.specs.Content.{Content}
 use Rattle.pgb_model.specs.ManifestText.{manifest_limit}
 use Rattle.pgb_model.specs.Values.{Manifest}
 use Rattle.pgb_pair.specs.declared.fault.SaveFault.{SaveFault}
@@ -17,8 +16,7 @@ use Rattle.pgb_backup.specs.declared.draft.Draft.{Draft}
 use Rattle.pgb_backup.specs.declared.fault.MakeFault.{MakeFault}
 use Rattle.pgb_backup.specs.declared.fault.MakeFault.TheVariants as faults
 use Rattle.pgb_backup.specs.Draft.{jobs_in, manifest_at}
-use Rattle.pgb_backup.specs.Faults.{StoreFails, PrepareFails, IsDone, WhereDone, MakeFails, IsManifestTooLong, fault_of_write, fault_of_save}
-use Rattle.pgb_backup.specs.Prepared.{Prepares}
+use Rattle.pgb_backup.specs.Faults.{StoreFails, PrepareFails, IsDone, MakeFails, fault_of_write, fault_of_save}
 
 pub err_by : {T E : Type 0} (P : E → Type 0) (r : Result T E) (fault : E) → IsErrAnd r (λ e. e ≡ fault) → P fault → IfErr r P
 err_by P (Ok x) fault is p = tt

@@ -1,17 +1,17 @@
 -- A backup from the calls that make it.
-use Rattle.std.proofs.Common.{◌≡◌, ◌≢◌, ◌≤◌, ◌⊎◌, ℕ, Bool, true, false, List, [], ◌<◌, slice_get, length, map, Option, Some, None, refl, sym, ◌∙◌, ap, subst, arith, inl, inr, ⊎_elim}
+use Rattle.std.proofs.Common.{◌≡◌, ◌≤◌, ◌⊎◌, ℕ, Bool, true, false, List, [], ◌<◌, slice_get, length, Option, Some, refl, sym, ◌∙◌, ap, subst, arith, inl, inr, ⊎_elim}
 use Rattle.std.specs.Prelude.{IsSome}
-use Rattle.pgb_outside.specs.Content.{Name, Content, Holds, HasBytes}
+use Rattle.pgb_outside.specs.Content.{Name, Content}
 use Rattle.pgb_outside.specs.Moments.{View, is_loose}
 use Rattle.pgb_outside.specs.Crash.{Crash, Ends, FirstOf, AllOf, IsTemporary, NowGoes, Write}
 use Rattle.pgb_outside.specs.Links.{LinkState}
 use Rattle.pgb_model.specs.Text.{Text}
 use Rattle.pgb_model.specs.Names.{copy_of}
 use Rattle.pgb_model.specs.Create.{member_writes}
-use Rattle.pgb_model.specs.Values.{Manifest, BackupInfo}
+use Rattle.pgb_model.specs.Values.{Manifest}
 use Rattle.pgb_model.specs.InfoText.{info_text}
 use Rattle.pgb_model.specs.InfoFiles.{backup_sections, IsBackupText}
-use Rattle.pgb_model.specs.ManifestText.{IsManifestText, manifest_limit}
+use Rattle.pgb_model.specs.ManifestText.{manifest_limit}
 use Rattle.pgb_manifest.specs.Keeping.{manifest_text}
 use Rattle.pgb_worker_keep.specs.KeepState.{Done, Kept}
 use Rattle.pgb_label.specs.declared.keeper.Ended.{Ended}
@@ -21,7 +21,7 @@ use Rattle.pgb_label.specs.Way.{Way, MayLoosen, IsBeside}
 use Rattle.pgb_label.proofs.Ways.{Law, way_as}
 use Rattle.pgb_label.proofs.Made.{IsMade, stored_way, manifest_way, made_way, made_ends}
 use Rattle.pgb_backup.specs.declared.draft.Draft.{Draft}
-use Rattle.pgb_backup.specs.Draft.{pair_of, main_of, is_own_of, list_in}
+use Rattle.pgb_backup.specs.Draft.{pair_of, main_of, is_own_of}
 use Rattle.pgb_backup.specs.Stored.{Stored}
 use Rattle.pgb_backup.specs.Prepared.{Prepares}
 use Rattle.pgb_backup.specs.Made.{AreApart, IsTightAt, HasBackup, LeavesList, Makes}

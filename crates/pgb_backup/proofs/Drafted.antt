@@ -1,18 +1,15 @@
 -- What a draft keeps of its jobs, their names and what came of them.
-use Rattle.std.proofs.Common.{◌≡◌, ◌<◌, ◌≤◌, ◌-◌, ◌^◌, inl, inr, ℕ, zero, suc, true, List, [], ◌∷◌, length, map, get_or, Option, Some, None, refl, sym, ◌∙◌, ap, subst, arith, slice_get, string_bytes}
-use Rattle.std.specs.Prelude.{All, IfSome, IsSome, unwrap_or}
+use Rattle.std.proofs.Common.{◌≡◌, ◌<◌, ◌-◌, ◌^◌, inl, inr, ℕ, zero, suc, List, [], ◌∷◌, length, map, get_or, Option, Some, None, refl, sym, ◌∙◌, ap, subst, arith, slice_get}
+use Rattle.std.specs.Prelude.{All, IfSome, unwrap_or}
 use Rattle.std.specs.List.{AllByRecursion}
-use Rattle.std.proofs.lemmas.List.{length-map}
-use Rattle.pgb_outside.specs.Content.{Name, Content, HasBytes, Holds}
-use Rattle.pgb_outside.specs.Crash.{IsTemporary}
+use Rattle.pgb_outside.specs.Content.{Name, Content}
 use Rattle.pgb_outside.specs.Links.{LinkState}
 use Rattle.pgb_worker_frame.specs.declared.frames.Job as rust
 use Rattle.pgb_worker_frame.specs.Frames.{Job, FitsJob}
 use Rattle.pgb_worker_frame.specs.Views.{job_of}
 use Rattle.pgb_model.specs.declared.labels.Label.{Label}
-use Rattle.pgb_model.specs.Text.{Text, In}
+use Rattle.pgb_model.specs.Text.{In}
 use Rattle.pgb_model.specs.InfoFiles.{IsLabel}
-use Rattle.pgb_worker_keep.specs.KeepState.{Done, Kept}
 use Rattle.pgb_worker_dispatch.specs.Payloads.{AllByFile}
 use Rattle.pgb_worker_dispatch.specs.Run.{AllDone}
 use Rattle.pgb_label.specs.declared.keeper.Ended.{Ended}
@@ -20,10 +17,9 @@ use Rattle.pgb_label.specs.Keeping.{Progress, keeps as kept_in, total, Agrees, I
 use Rattle.pgb_label.proofs.Places.{placed, bytes_at}
 use Rattle.pgb_plan.specs.Listed.{Taken, control_path}
 use Rattle.pgb_plan.specs.Layout.{Layout, layout, jobs_of, bundles}
-use Rattle.pgb_plan.specs.Filter.{HasFile, most_files}
 use Rattle.pgb_plan.proofs.Fitting.{jobs_fit}
 use Rattle.pgb_plan.proofs.Lasts.{one_last}
-use Rattle.pgb_plan.proofs.Lists.{of_map, there}
+use Rattle.pgb_plan.proofs.Lists.{of_map}
 use Rattle.pgb_record.specs.Naming.{IsPlanned, names_in}
 use Rattle.pgb_record.specs.Bounds.{KeepsBounds}
 use Rattle.pgb_record.specs.Ends.{JobsCome}
@@ -33,8 +29,8 @@ use Rattle.pgb_record.proofs.Held.{keeps_end}
 use Rattle.pgb_record.proofs.Naming.{names_count}
 use Rattle.pgb_record.proofs.Planned.{is_plan}
 use Rattle.pgb_backup.specs.declared.draft.Draft.{Draft}
-use Rattle.pgb_backup.specs.Draft.{stanza_of, taken_in, folders_in, old_in, jobs_in, list_in, folder_of, is_own_of, head_at, went_with, IsDraft}
-use Rattle.pgb_backup.specs.Stored.{AreNames, HasOwn, Stored}
+use Rattle.pgb_backup.specs.Draft.{stanza_of, taken_in, folders_in, old_in, jobs_in, list_in, folder_of, head_at, went_with, IsDraft}
+use Rattle.pgb_backup.specs.Stored.{AreNames, Stored}
 use Rattle.pgb_backup.proofs.Came.{jobs_came, received, told_of}
 
 module _ (d : Draft) (h : IsDraft d) where

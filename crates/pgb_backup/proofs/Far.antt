@@ -1,7 +1,6 @@
 -- All that is looked at of a stanza is apart from what a backup of a new label changes.
-use Rattle.std.proofs.Common.{◌≡◌, ◌≢◌, ◌⊎◌, ⊎_elim, inl, inr, ℕ, zero, suc, ◌+◌, ◌/◌, ◌%◌, ◌<◌, Bool, true, false, List, [], ◌∷◌, ◌++◌, length, map, take, drop, get_or, Option, Some, None, refl, sym, ◌∙◌, ap, subst, arith, append_assoc, take-append-drop, rules}
-use Rattle.std.specs.Prelude.{codes, bytes_eq, decimal, unwrap_or, ◌||◌}
-use Rattle.std.specs.List.{AllByRecursion}
+use Rattle.std.proofs.Common.{◌≡◌, ◌≢◌, ◌⊎◌, ⊎_elim, inl, inr, ℕ, ◌+◌, Bool, true, false, List, [], ◌∷◌, ◌++◌, length, take, drop, get_or, Option, Some, None, refl, sym, ◌∙◌, ap, subst, arith, append_assoc, take-append-drop, rules}
+use Rattle.std.specs.Prelude.{codes, decimal, unwrap_or, ◌||◌}
 use Rattle.std.proofs.lemmas.Bool.{false_from_ne_true}
 use Rattle.std.proofs.lemmas.List.{append_cancel_left}
 use Rattle.std.proofs.lemmas.Slice.Eq.{bytes_eq-Decides}
@@ -10,7 +9,6 @@ use Rattle.std.specs.declared.cmp.Ordering.TheVariants.{Less, Equal, Greater}
 use Rattle.std.specs.Ordering.{match_ordering}
 use Rattle.pgb_outside.specs.Content.{Name, Content, is_below}
 use Rattle.pgb_outside.specs.Crash.{IsTemporary}
-use Rattle.pgb_outside.specs.Order.{is_before}
 use Rattle.pgb_model.specs.declared.clusters.Cluster.{Cluster}
 use Rattle.pgb_model.specs.declared.files.Bundled.{Bundled}
 use Rattle.pgb_model.specs.declared.labels.Label.{Label}
@@ -19,14 +17,14 @@ use Rattle.pgb_model.specs.declared.labels.Kind.{Kind}
 use Rattle.pgb_model.specs.declared.labels.Kind.TheVariants.{Full, Diff, Incr}
 use Rattle.pgb_model.specs.Text.{Text, In, ◌⫽◌}
 use Rattle.pgb_model.specs.Dates.{stamp}
-use Rattle.pgb_model.specs.Names.{copy_of, archive_info, backup_info, backup_folder, label_folder, label_text, later_text, letter, manifest_name, file_name, bundle_name}
-use Rattle.pgb_model.specs.InfoFiles.{IsLabel, IsListedEntry, AreListed, IsBackupText, entry_field}
+use Rattle.pgb_model.specs.Names.{copy_of, archive_info, backup_info, backup_folder, label_folder, label_text, later_text, letter, manifest_name}
+use Rattle.pgb_model.specs.InfoFiles.{IsLabel, entry_field}
 use Rattle.pgb_model.specs.ManifestText.{IsManifestText}
-use Rattle.pgb_model.specs.Pair.{MemberIs, PairIs}
+use Rattle.pgb_model.specs.Pair.{PairIs}
 use Rattle.pgb_model.specs.Place.{place, place_by, holder}
 use Rattle.pgb_model.specs.Values.{Entry, FileEntry, Manifest, BackupInfo}
 use Rattle.pgb_model.specs.Repository.{Backup, Stanza}
-use Rattle.pgb_model.specs.Stands.{HasStanza, IsArchiveFile, IsListed, backup_value}
+use Rattle.pgb_model.specs.Stands.{HasStanza, IsArchiveFile, backup_value}
 use Rattle.pgb_model.specs.Log.{IsFixed, Pair, File, Manifested, IsPlaceOf, Lists}
 use Rattle.pgb_model.proofs.Temporary.{fixed_lasts, entry_lasts}
 use Rattle.pgb_pair.specs.Member.{IsPlain}
@@ -34,14 +32,12 @@ use Rattle.pgb_ini.proofs.Orders.{not_itself}
 use Rattle.pgb_stanza.proofs.OneBackup.{pair_agrees, backup_rules}
 use Rattle.pgb_stamp.proofs.LabelTexts.{label_text-injective}
 use Rattle.pgb_label.specs.Keeping.{is_own}
-use Rattle.pgb_record.specs.Making.{labels_of}
 use Rattle.pgb_record.specs.Record.{IsListOf}
 use Rattle.pgb_record.proofs.Behind.{label_of}
 use Rattle.pgb_record.proofs.Left.{OneManifest, pair_one}
 use Rattle.pgb_record.proofs.Made.{in_map, of_map}
 use Rattle.pgb_backup.specs.declared.draft.Draft.{Draft}
-use Rattle.pgb_backup.specs.Draft.{stanza_of, folder_of, pair_of, main_of, is_own_of, list_in, IsDraft}
-use Rattle.pgb_backup.specs.Made.{AreApart}
+use Rattle.pgb_backup.specs.Draft.{stanza_of, pair_of, main_of, is_own_of, list_in, IsDraft}
 use Rattle.pgb_backup.proofs.Labels.{apart}
 use Rattle.pgb_backup.proofs.Moves.{IsClear, IsFar}
 

@@ -1,7 +1,6 @@
 -- The text of a label begins with a digit.
-use Rattle.std.proofs.Common.{◌≡◌, ◌≢◌, ◌<◌, ◌+◌, ◌/◌, ◌≤◌, ℕ, get_or, arith}
+use Rattle.std.proofs.Common.{◌≡◌, ◌≢◌, ◌+◌, ◌/◌, ℕ, get_or, arith}
 use Rattle.pgb_model.specs.declared.labels.Label.{Label}
-use Rattle.pgb_outside.specs.States.{last_second}
 use Rattle.pgb_model.specs.Dates.{date_after, stamp}
 use Rattle.pgb_model.specs.Names.{label_text}
 use Rattle.pgb_model.specs.InfoFiles.{IsLabel}

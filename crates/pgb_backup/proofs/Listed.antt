@@ -1,8 +1,6 @@
 -- Contents that agree on what a stanza's list leads to stand for the same; and one backup more.
-use Rattle.std.proofs.Common.{◌≡◌, ◌≢◌, ◌<◌, ◌⊎◌, ◌↔◌, ⊎_elim, inl, inr, List, [], ◌∷◌, ◌++◌, length, map, Option, Some, None, refl, sym, ◌∙◌, ap, subst}
+use Rattle.std.proofs.Common.{◌≡◌, ◌↔◌, ⊎_elim, inl, inr, List, [], ◌∷◌, ◌++◌, map, Option, Some, None, refl, sym, ◌∙◌, ap, subst}
 use Rattle.std.proofs.lemmas.List.{append-nil}
-use Rattle.std.specs.FinMap.{get, keys}
-use Rattle.sha1.specs.Sha1.{sha1}
 use Rattle.pgb_outside.specs.Content.{Content}
 use Rattle.pgb_model.specs.declared.labels.Label.{Label}
 use Rattle.pgb_model.specs.declared.clusters.Cluster.{Cluster}
@@ -12,12 +10,11 @@ use Rattle.pgb_model.specs.Values.{Entry, FileEntry, Manifest, BackupInfo}
 use Rattle.pgb_model.specs.InfoText.{info_text}
 use Rattle.pgb_model.specs.InfoFiles.{IsArchiveText, IsBackupText, backup_sections}
 use Rattle.pgb_model.specs.ManifestText.{IsManifestText}
-use Rattle.pgb_model.specs.Pair.{MemberIs, PairIs}
-use Rattle.pgb_model.specs.Place.{place, LiesAt}
+use Rattle.pgb_model.specs.Pair.{PairIs}
 use Rattle.pgb_model.specs.Repository.{File, Backup, Archived, Stanza}
-use Rattle.pgb_model.specs.Stands.{HasStanza, IsArchiveFile, IsManifestOf, IsEntryOf, IsAncestor, IsListed, Prior, Earlier, stored_name, archive_value, backup_value, IsPending}
+use Rattle.pgb_model.specs.Stands.{HasStanza, IsArchiveFile, IsManifestOf, IsEntryOf, IsAncestor, IsListed, Prior, Earlier, stored_name, archive_value, backup_value}
 use Rattle.pgb_model.specs.Steps.{changed, AddBackup}
-use Rattle.pgb_model.specs.Log.{IsPairMember, IsPlaceOf, Lists}
+use Rattle.pgb_model.specs.Log.{IsPlaceOf, Lists}
 use Rattle.pgb_model.proofs.Frame.{pair_same}
 use Rattle.pgb_model.proofs.Pushed.{in_left, in_either}
 use Rattle.pgb_manifest.specs.Keeping.{manifest_text}

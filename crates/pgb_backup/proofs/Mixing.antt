@@ -1,6 +1,6 @@
 -- A content that may be left, with the two members of the prior backup's manifest as the disk holds them.
-use Rattle.std.proofs.Common.{◌≡◌, ◌≢◌, ◌⊎◌, ⊎_elim, inl, inr, ℕ, Bool, true, false, List, [], ◌∷◌, Option, Some, None, refl, sym, ◌∙◌, ap, subst}
-use Rattle.std.specs.Prelude.{IsSome, IsTrue, bytes_eq, if◌then◌else◌, ◌||◌, codes, decimal}
+use Rattle.std.proofs.Common.{◌≡◌, ◌⊎◌, ⊎_elim, inl, inr, Bool, true, false, Option, Some, None, refl, sym, ◌∙◌, ap, subst}
+use Rattle.std.specs.Prelude.{IsSome, IsTrue, bytes_eq, ◌||◌, codes, decimal}
 use Rattle.std.proofs.lemmas.Slice.Eq.{bytes_eq-Decides}
 use Rattle.pgb_outside.specs.Content.{Name, Value, Content, Holds}
 use Rattle.pgb_outside.specs.Moments.{View, IsImage, is_loose, MayKeep}
@@ -11,14 +11,13 @@ use Rattle.pgb_model.specs.Text.{Text, ◌⫽◌}
 use Rattle.pgb_model.specs.Names.{copy_of, label_folder, manifest_name}
 use Rattle.pgb_model.specs.ManifestText.{IsManifestText}
 use Rattle.pgb_model.specs.Pair.{PairIs}
-use Rattle.pgb_model.specs.Place.{place, place_by, holder}
+use Rattle.pgb_model.specs.Place.{place_by, holder}
 use Rattle.pgb_model.specs.Values.{FileEntry, Manifest}
 use Rattle.pgb_model.specs.Repository.{Stanza}
 use Rattle.pgb_model.specs.Log.{Manifested, IsPlaceOf}
 use Rattle.pgb_model.specs.Steady.{IsSteady}
 use Rattle.pgb_model.proofs.Frame.{pair_same}
 use Rattle.pgb_label.proofs.Ways.{Law}
-use Rattle.pgb_record.specs.Record.{PriorRead, HasPrior}
 use Rattle.pgb_backup.proofs.Moves.{IsMixed}
 use Rattle.pgb_backup.proofs.Far.{no_slash, parts, copy_in, manifest_plain, manifest_copy_plain}
 

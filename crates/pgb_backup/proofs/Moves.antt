@@ -1,5 +1,5 @@
 -- A backup as the way of a command: each content that may be left stands for the repository as it was, or with the backup.
-use Rattle.std.proofs.Common.{◌≡◌, ◌≢◌, ◌<◌, ◌≤◌, ◌⊎◌, ⊎_elim, inl, inr, ℕ, Bool, true, false, List, [], ◌∷◌, ◌++◌, length, map, take, Option, Some, None, refl, sym, ◌∙◌, ap, subst, arith, slice_get}
+use Rattle.std.proofs.Common.{◌≡◌, ◌≢◌, ◌<◌, ◌⊎◌, ⊎_elim, inl, inr, ℕ, Bool, true, false, List, [], ◌∷◌, ◌++◌, Option, Some, None, refl, sym, ◌∙◌, ap, subst, arith}
 use Rattle.std.specs.Prelude.{IsSome}
 use Rattle.pgb_outside.specs.Content.{Name, Content}
 use Rattle.pgb_outside.specs.Moments.{View, is_loose}
@@ -12,7 +12,7 @@ use Rattle.pgb_model.specs.Names.{copy_of, archive_info, backup_info, manifest_n
 use Rattle.pgb_model.specs.Values.{Entry, FileEntry, Manifest, BackupInfo}
 use Rattle.pgb_model.specs.InfoFiles.{IsBackupText}
 use Rattle.pgb_model.specs.ManifestText.{IsManifestText}
-use Rattle.pgb_model.specs.Pair.{MemberIs, PairIs}
+use Rattle.pgb_model.specs.Pair.{PairIs}
 use Rattle.pgb_model.specs.Place.{place}
 use Rattle.pgb_model.specs.Repository.{Backup, Stanza}
 use Rattle.pgb_model.specs.Stands.{Stands, HasStanza, IsArchiveFile, IsManifestOf, backup_value}
@@ -25,7 +25,7 @@ use Rattle.pgb_label.specs.Way.{MayLoosen, IsBeside}
 use Rattle.pgb_plan.proofs.Lists.{in_parts}
 use Rattle.pgb_record.specs.Item.{IsItem}
 use Rattle.pgb_record.specs.Making.{entry_with}
-use Rattle.pgb_record.specs.Record.{PriorRead, HasPrior, IsLeft, IsListOf, Adds}
+use Rattle.pgb_record.specs.Record.{PriorRead, HasPrior, IsListOf, Adds}
 use Rattle.pgb_record.proofs.Coming.{AreReads}
 use Rattle.pgb_record.proofs.Recorded.{recorded}
 use Rattle.pgb_backup.specs.declared.draft.Draft.{Draft}

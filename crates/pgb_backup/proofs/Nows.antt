@@ -1,7 +1,7 @@
 -- A backup that is stored and then listed: what the disk holds.
 use Rattle.std.proofs.Common.{◌≡◌, ◌≢◌, ◌⊎◌, Bool, true, false, Option, Some, None, refl, sym, ◌∙◌, ap, subst, inl, inr, ⊎_elim}
 use Rattle.std.specs.Prelude.{IsSome}
-use Rattle.pgb_outside.specs.Content.{Name, Value, Content, HasBytes, Holds, at}
+use Rattle.pgb_outside.specs.Content.{Name, Value, Content, Holds, at}
 use Rattle.pgb_outside.specs.Crash.{IsTemporary, Alike, FirstOf, AllOf, NowGoes}
 use Rattle.pgb_outside.specs.Moments.{View}
 use Rattle.pgb_model.specs.Text.{Text}
@@ -9,7 +9,7 @@ use Rattle.pgb_model.specs.Names.{copy_of}
 use Rattle.pgb_model.specs.Create.{member_writes}
 use Rattle.pgb_label.specs.Relation.{Touches}
 use Rattle.pgb_label.specs.Way.{IsBeside}
-use Rattle.pgb_label.proofs.Made.{IsMade, HasStored, first_other, first_main, all_other, all_main}
+use Rattle.pgb_label.proofs.Made.{IsMade, first_other, first_main, all_other, all_main}
 
 -- what it holds, where it is told
 held : (o : Option Content) → IsSome o → (f : Content) × (o ≡ Some f)

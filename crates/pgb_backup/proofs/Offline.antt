@@ -1,11 +1,11 @@
 -- A full backup of a stopped server holds the data folder's files, where all links read what the folder holds.
-use Rattle.std.proofs.Common.{◌≡◌, ◌≢◌, ⊎_elim, inl, inr, ◌==◌, ◌<◌, ◌≤◌, ◌+◌, ◌-◌, ℕ, zero, suc, Bool, true, false, List, [], ◌∷◌, ◌++◌, length, map, take, drop, Option, Some, None, refl, sym, ◌∙◌, ap, subst, arith, slice_get, append_assoc}
+use Rattle.std.proofs.Common.{◌≡◌, ◌≢◌, inl, inr, ◌==◌, ◌+◌, ℕ, zero, suc, Bool, true, false, List, [], ◌∷◌, ◌++◌, length, map, Option, Some, None, refl, sym, ◌∙◌, ap, subst, arith, slice_get, append_assoc}
 use Rattle.std.specs.Prelude.{IfSome, IsSome, IsSomeAnd, unwrap_or, option_map, bytes_eq, if◌then◌else◌, ◌&&◌, nat_lt}
 use Rattle.std.proofs.lemmas.Bool.{eqb-true}
 use Rattle.std.proofs.lemmas.List.{take_all, append-nil}
 use Rattle.sha1.specs.Sha1.{sha1}
 use Rattle.pgb_text.specs.declared.sum.Sum.{Sum}
-use Rattle.pgb_outside.specs.Content.{Name, Content, Value}
+use Rattle.pgb_outside.specs.Content.{Content, Value}
 use Rattle.pgb_outside.specs.Moments.{View}
 use Rattle.pgb_outside.specs.Links.{LinkState}
 use Rattle.pgb_worker_frame.specs.declared.frames.JobKind.{JobKind}
@@ -13,12 +13,12 @@ use Rattle.pgb_worker_frame.specs.declared.frames.JobKind.TheVariants.{Read}
 use Rattle.pgb_worker_frame.specs.Frames.{Item, Job}
 use Rattle.pgb_worker_frame.specs.Replies.{payload}
 use Rattle.pgb_model.specs.declared.files.Bundled.{Bundled}
-use Rattle.pgb_model.specs.Text.{Text, Map, In}
+use Rattle.pgb_model.specs.Text.{Text, In}
 use Rattle.pgb_model.specs.Values.{FileEntry}
 use Rattle.pgb_model.specs.Repository.{File}
 use Rattle.pgb_worker_keep.specs.declared.ItemEnd.{ItemEnd}
 use Rattle.pgb_worker_keep.specs.declared.ItemEnd.TheVariants.{Whole, Vanished}
-use Rattle.pgb_worker_keep.specs.KeepState.{Held, Done, Kept, Holds}
+use Rattle.pgb_worker_keep.specs.KeepState.{Held, Done, Kept}
 use Rattle.pgb_worker_reply.specs.Reads.{file_of}
 use Rattle.pgb_worker_dispatch.specs.Payloads.{AllRead, EndsByFile, AllEndByFile}
 use Rattle.pgb_label.specs.declared.keeper.Ended.{Ended}
@@ -29,13 +29,13 @@ use Rattle.pgb_plan.specs.declared.values.PlanSettings.{PlanSettings}
 use Rattle.pgb_plan.specs.declared.values.What.{What}
 use Rattle.pgb_plan.specs.declared.values.What.TheVariants.{Leave, Nothing, Single, Small, Control}
 use Rattle.pgb_plan.specs.Listed.{Taken, entry_at, what, is_unchanged, control_path}
-use Rattle.pgb_plan.specs.Layout.{Layout, item_for, read_job, takes, bundled_by, laid, laid_all, layout, begin, bundles, jobs_of}
+use Rattle.pgb_plan.specs.Layout.{Layout, item_for, read_job, takes, laid, laid_all, layout, begin, bundles, jobs_of}
 use Rattle.pgb_plan.specs.Spots.{HasItem, HaveItems}
 use Rattle.pgb_plan.proofs.Layouts.{bundle_choices}
 use Rattle.pgb_plan.proofs.Places.{at_front, choice_of, have_items}
 use Rattle.pgb_record.specs.Ends.{end_at, bytes_before, AreEnds, AreAllEnds, JobsCome}
 use Rattle.pgb_record.specs.Entries.{Went, read_entry, copied, entry_for, rows, bytes_for, told_at, with_some, file_of as row_file, bundle_job_number, last_job_number}
-use Rattle.pgb_record.proofs.Coming.{AreReads, came_jobs, bundle_at, last_at}
+use Rattle.pgb_record.proofs.Coming.{bundle_at, last_at}
 use Rattle.pgb_record.proofs.Items.{told_is}
 use Rattle.pgb_record.proofs.Maps.{map_of}
 use Rattle.pgb_backup.specs.declared.draft.Draft.{Draft}

@@ -1,5 +1,5 @@
 -- What comes of a backup, by its result.
-use Rattle.std.proofs.Common.{◌≡◌, true, false, List, Result, Ok, Err, sym, subst, inl, inr}
+use Rattle.std.proofs.Common.{◌≡◌, false, List, Result, Err, sym, subst, inl, inr}
 use Rattle.pgb_outside.specs.Moments.{View}
 use Rattle.pgb_outside.specs.Links.{LinkState}
 use Rattle.pgb_backup.specs.declared.draft.Draft.{Draft}

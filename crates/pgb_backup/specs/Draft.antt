@@ -1,10 +1,9 @@
 -- A backup that is to be made, and its manifest. Own.
-use Rattle.std.specs.Prelude.{◌≡◌, ◌≤◌, ℕ, true, Bool, List, [], length, map, string_bytes, Option, Some, None, unwrap_or}
+use Rattle.std.specs.Prelude.{◌≡◌, ◌≤◌, ℕ, true, Bool, List, length, map, string_bytes, None, unwrap_or}
 use Rattle.pgb_outside.specs.Order.{are_in_order}
 use Rattle.pgb_outside.specs.Content.{Name}
 use Rattle.pgb_worker_frame.specs.Frames.{Job}
 use Rattle.pgb_worker_frame.specs.Views.{job_of}
-use Rattle.pgb_model.specs.declared.labels.Label.{Label}
 use Rattle.pgb_model.specs.Text.{Text, In}
 use Rattle.pgb_outside.specs.States.{last_second}
 use Rattle.pgb_model.specs.Names.{label_folder, manifest_name, backup_info}
@@ -13,17 +12,15 @@ use Rattle.pgb_model.specs.ManifestText.{IsFileEntry}
 use Rattle.pgb_model.specs.Values.{BackupInfo, FileEntry, Manifest, backup_info_of, file_entry_of}
 use Rattle.pgb_label.specs.declared.keeper.Ended.{Ended}
 use Rattle.pgb_label.specs.Keeping.{is_own}
-use Rattle.pgb_plan.specs.declared.values.Choice.{Choice}
 use Rattle.pgb_plan.specs.declared.values.PlanSettings.{PlanSettings}
 use Rattle.pgb_plan.specs.Listed.{Taken, control_path}
-use Rattle.pgb_plan.specs.Layout.{Layout, layout, jobs_of}
+use Rattle.pgb_plan.specs.Layout.{layout, jobs_of}
 use Rattle.pgb_plan.specs.Filter.{IsListing, HasFile, most_files}
 use Rattle.pgb_plan.specs.Views.{taken_of}
 use Rattle.pgb_record.specs.declared.recording.Head.{Head}
 use Rattle.pgb_record.specs.Bounds.{MayFollow}
 use Rattle.pgb_record.specs.Entries.{Went, entries}
 use Rattle.pgb_record.specs.Making.{manifest_with}
-use Rattle.pgb_record.specs.Naming.{names_in}
 use Rattle.pgb_backup.specs.declared.draft.Draft.{Draft}
 
 abbrev pub stanza_of : Draft → Text

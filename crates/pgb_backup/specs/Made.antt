@@ -1,10 +1,9 @@
 -- What a stop leaves of a backup, and which bytes it is made of (pgBackRest command reference, "Backup").
-use Rattle.std.specs.Prelude.{◌≡◌, ◌≢◌, ◌⊎◌, ◌<◌, ℕ, Bool, true, false, List, Option, Some, Result, Ok, Err, IsSome, slice_get}
+use Rattle.std.specs.Prelude.{◌≡◌, ◌≢◌, ◌⊎◌, ◌<◌, ℕ, Bool, true, false, List, Some, Result, Ok, Err, IsSome, slice_get}
 use Rattle.pgb_outside.specs.Content.{Name, Content}
 use Rattle.pgb_outside.specs.Moments.{View, is_loose}
 use Rattle.pgb_outside.specs.Crash.{IsTemporary, Ends, NowGoes}
 use Rattle.pgb_outside.specs.Links.{LinkState}
-use Rattle.pgb_model.specs.Text.{Text}
 use Rattle.pgb_model.specs.Names.{copy_of}
 use Rattle.pgb_model.specs.Values.{Manifest, BackupInfo}
 use Rattle.pgb_model.specs.InfoText.{info_text}

@@ -1,5 +1,5 @@
 -- The latest second of a list's labels, and a draft of what was taken.
-use Rattle.std.proofs.Common.{◌≡◌, ⊎_elim, inl, inr, ℕ, zero, suc, ◌+◌, ◌<◌, ◌≤◌, Bool, true, false, List, [], ◌∷◌, ◌++◌, length, map, max, take, get_or, Option, Some, None, refl, sym, ◌∙◌, ap, subst, arith}
+use Rattle.std.proofs.Common.{◌≡◌, ⊎_elim, inl, inr, ℕ, zero, suc, ◌+◌, ◌<◌, ◌≤◌, List, [], ◌∷◌, ◌++◌, length, map, take, get_or, Option, Some, None, sym, ◌∙◌, ap, subst, arith}
 use Rattle.std.specs.Prelude.{IfSome}
 use Rattle.std.proofs.lemmas.List.{map-append}
 use Rattle.pgb_outside.specs.Order.{is_before}
@@ -7,7 +7,6 @@ use Rattle.pgb_outside.specs.States.{last_second}
 use Rattle.pgb_model.specs.declared.labels.Entry as rust_entry
 use Rattle.pgb_model.specs.declared.labels.Label.{Label}
 use Rattle.pgb_model.specs.declared.labels.Later.{Later}
-use Rattle.pgb_model.specs.declared.clusters.Cluster.{Cluster}
 use Rattle.pgb_model.specs.declared.wal.WalPart.{WalPart}
 use Rattle.pgb_model.specs.InfoFiles.{IsLabel, label_kind}
 use Rattle.pgb_model.specs.ManifestText.{IsWalPart, HasItsPrior}

@@ -1,6 +1,5 @@
 -- The draft of a full backup (pgBackRest user guide, "Backup"). Own.
-use Rattle.std.specs.Prelude.{◌≡◌, ℕ, [], Option, None}
-use Rattle.std.specs.declared.alloc.Global.{Global}
+use Rattle.std.specs.Prelude.{◌≡◌, ℕ, [], None}
 use Rattle.pgb_model.specs.declared.clusters.BackupInfo as rust_info
 use Rattle.pgb_model.specs.declared.clusters.Cluster.{Cluster}
 use Rattle.pgb_model.specs.Text.{Text}

@@ -12,7 +12,7 @@ use Rattle.pgb_label.specs.Keeping.{IsPlan, progress_of}
 use Rattle.pgb_label.specs.Keeper.{names_of, progress_in, stored_in}
 use Rattle.pgb_record.specs.Naming.{names_in}
 use Rattle.pgb_backup.specs.Stored.{AreNames, Stored}
-use Rattle.pgb_backup.proofs.Drafted.{good_label, few_jobs, all_fit, names_plan, names_same, stored_as}
+use Rattle.pgb_backup.proofs.Drafted.{few_jobs, all_fit, names_plan, names_same, stored_as}
 use Rattle.pgb_backup.proofs.fetching.fetch.Goals as goal
 
 pub store-requires-clause-plan : goal.store-requires-clause-plan

@@ -1,4 +1,4 @@
-use Rattle.std.proofs.Common.{◌≡◌, ◌∙◌, List, map, ap, refl, sym, subst}
+use Rattle.std.proofs.Common.{◌∙◌, List, map, ap, refl, subst}
 use Rattle.std.proofs.lemmas.Result.{err_from_is_err_and}
 use Rattle.pgb_model.specs.Names.{manifest_name}
 use Rattle.pgb_model.specs.Values.{Manifest, manifest_of}

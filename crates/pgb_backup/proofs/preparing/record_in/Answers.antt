@@ -1,8 +1,7 @@
-use Rattle.std.proofs.Common.{◌≡◌, ◌∙◌, List, map, ap, sym, subst}
+use Rattle.std.proofs.Common.{◌∙◌, List, map, ap, sym, subst}
 use Rattle.pgb_model.specs.declared.labels.Label.{Label}
 use Rattle.pgb_model.specs.Values.{file_entry_of}
 use Rattle.pgb_plan.specs.declared.values.Choice.{Choice}
-use Rattle.pgb_plan.specs.Views.{taken_of}
 use Rattle.pgb_record.specs.Bounds.{KeepsBounds}
 use Rattle.pgb_record.specs.Entries.{Went}
 use Rattle.pgb_record.specs.Views.{went_of}

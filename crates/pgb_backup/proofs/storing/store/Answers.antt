@@ -1,4 +1,4 @@
-use Rattle.std.proofs.Common.{map, string_bytes, length, ap, arith, subst, sym, ◌∙◌}
+use Rattle.std.proofs.Common.{string_bytes, length, ap, arith, subst, sym, ◌∙◌}
 use Rattle.std.proofs.lemmas.List.{length-map}
 use Rattle.pgb_worker_frame.specs.Views.{job_of}
 use Rattle.pgb_label.specs.Keeping.{progress_of, IsPlan, Agrees}
