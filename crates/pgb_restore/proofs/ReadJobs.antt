@@ -26,7 +26,7 @@ use Rattle.pgb_restore.specs.Entries.{is_read, read_one, reads_of, Want, want_of
 use Rattle.pgb_restore.proofs.Names.{lasts}
 use Rattle.pgb_restore.proofs.ReadEntries.{in_read, read_some}
 
-path_of : FileEntry → Text
+abbrev pub path_of : FileEntry → Text
 path_of e = e.path
 
 -- ---- going through files
@@ -75,17 +75,17 @@ in_at (y ∷ xs) (suc i) x e = inr (in_at xs i x e)
 -- entries that are read have one path each
 once_read : (es : List FileEntry) → are_in_order (map path_of es) ≡ true → (i j : ℕ) (d e : FileEntry) → slice_get (reads_of es) i ≡ Some d → slice_get (reads_of es) j ≡ Some e → d.path ≡ e.path → i ≡ j
 once_read [] order i j d e at_i at_j same = cc
-once_read (f ∷ es) order i j d e at_i at_j same = go (is_read f) i j at_i at_j
+once_read (f ∷ es) order i j d e at_i at_j same = go (is_read f) i j (λ k l x y. once_read es (tail_order path_of f es order) k l d e x y same) at_i at_j
   where
     behind : (k : ℕ) (x : FileEntry) → slice_get (reads_of es) k ≡ Some x → f.path ≡ x.path → ⊥
     behind k x is eq = not_itself f.path x.path (later path_of f.path es x order (in_read es x (in_at (reads_of es) k x is)).0) eq
 
-    go : (b : Bool) (k l : ℕ) → slice_get (cond b (f ∷ []) [] ++ reads_of es) k ≡ Some d → slice_get (cond b (f ∷ []) [] ++ reads_of es) l ≡ Some e → k ≡ l
-    go false k l x y = once_read es (tail_order path_of f es order) k l d e x y same
-    go true zero zero x y = refl
-    go true zero (suc l) x y = let h : ◌≡◌ {A = Option FileEntry} (Some f) (Some d) = x in let eq : f ≡ d = cc in absurd (behind l e y (ap path_of eq ∙ same))
-    go true (suc k) zero x y = let h : ◌≡◌ {A = Option FileEntry} (Some f) (Some e) = y in let eq : f ≡ e = cc in absurd (behind k d x (ap path_of eq ∙ sym same))
-    go true (suc k) (suc l) x y = ap (λ n. suc n) (once_read es (tail_order path_of f es order) k l d e x y same)
+    go : (b : Bool) (k l : ℕ) → ((m n : ℕ) → slice_get (reads_of es) m ≡ Some d → slice_get (reads_of es) n ≡ Some e → m ≡ n) → slice_get (cond b (f ∷ []) [] ++ reads_of es) k ≡ Some d → slice_get (cond b (f ∷ []) [] ++ reads_of es) l ≡ Some e → k ≡ l
+    go false k l next x y = next k l x y
+    go true zero zero next x y = refl
+    go true zero (suc l) next x y = let h : ◌≡◌ {A = Option FileEntry} (Some f) (Some d) = x in let eq : f ≡ d = cc in absurd (behind l e y (ap path_of eq ∙ same))
+    go true (suc k) zero next x y = let h : ◌≡◌ {A = Option FileEntry} (Some f) (Some e) = y in let eq : f ≡ e = cc in absurd (behind k d x (ap path_of eq ∙ sym same))
+    go true (suc k) (suc l) next x y = ap (λ n. suc n) (next k l x y)
 
 -- ---- the plan
 

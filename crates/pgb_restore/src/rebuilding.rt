@@ -25,7 +25,8 @@ use pgb_outside::{Link, Seen, Stop, Tree, Turns};
 use pgb_worker_dispatch::Lost;
 use std::alloc::Global;
 
-// Makes the folder ready: nothing is left that the backup hasn't, and its folders and its files without bytes are there.
+// Makes the folder ready: nothing is left that the backup hasn't, and its folders and its files without bytes are
+// there.
 fn prepare<T: Tree>(tree: &mut T, manifest: &Manifest, seen: &[Seen]) -> Result<(), Stop>
     requires rules { IsManifest (manifest_of manifest.now) }
     ensures ready { OnOk result

@@ -37,8 +37,8 @@ pub(crate) fn run_files<'a, T: Tree, L: Link, U: Turns>(
     requires apart { AreApart (map (λ w. w.path.now) wanted.now) }
     // Each file whose item ended as is wanted has bytes that a link read, and so many, with this digest.
     ensures written { IfOk result
-        (λ files. AllWritten (map L.link_state links.old.items) (T.state tree.new).nodes (map job_of jobs.now) wanted.now
-        files.items) }
+        (λ files. AllWritten (map L.link_state links.old.items) (T.state tree.new).nodes (map job_of jobs.now)
+        wanted.now files.items) }
     // Whatever comes of it, only these files and their temporary names have changed.
     ensures others { (q : Text) → IsNoneOf wanted.now q
         → at q (T.state tree.new).nodes ≡ at q (T.state tree.old).nodes }
