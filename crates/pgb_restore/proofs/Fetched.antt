@@ -116,27 +116,27 @@ module _ (stanza : Text) (own : Label) (e : FileEntry) (j : Job) (w : Wanted) (j
   -- why it wasn't fetched, by the entry's own name
   pub fetch_fails : (links left : List LinkState) (before after : List Lost) (old new : ℕ) (fault named : FillFault) → WriteFails fault (j ∷ []) (w ∷ []) links left before after old new → Renames e.path fault named
       → FillFails named stanza own (e ∷ []) links left before after old new
-  fetch_fails links left before after old new (faults.FileDamaged at told found) (faults.FileDamaged path told' found') x as =
+  fetch_fails links left before after old new (faults.FileDamaged waiting told found) (faults.FileDamaged path told' found') x r =
       let same : w ≡ x.wanted = at_first w x.place x.wanted x.wanted_is in
       let its : j ≡ x.job = at_first j x.place x.job x.job_is in
       let item : x.item ≡ source stanza own e = (let h : ◌≡◌ {A = List Item} (x.item ∷ []) (source stanza own e ∷ []) = sym x.items ∙ ap (λ (k : Job). k.items) (sym its ∙ job) in cc) in
       record {
         entry = e;
         listed = inl refl;
-        path_is = as.0;
-        told_is = ap (λ (s : Sum). s.0) (as.1 ∙ x.told_is) ∙ ap (λ (y : Wanted). y.sum.0) (sym same) ∙ sum;
+        path_is = r.0;
+        told_is = ap (λ (s : Sum). s.0) (r.1 ∙ x.told_is) ∙ ap (λ (y : Wanted). y.sum.0) (sym same) ∙ sum;
         bytes = x.bytes;
         read = subst (λ (i : Item). IsReadOf links i x.bytes) item x.read;
-        found_is = ap (λ (s : Sum). s.0) as.2 ∙ x.found_is;
+        found_is = ap (λ (s : Sum). s.0) r.2 ∙ x.found_is;
         wrong = λ are. x.wrong (are.0 ∙ sym size ∙ ap (λ (y : Wanted). y.size) same, are.1 ∙ sym sum ∙ ap (λ (y : Wanted). y.sum.0) same);
       }
-  fetch_fails links left before after old new (faults.Unread at) (faults.Unread path) x as =
+  fetch_fails links left before after old new (faults.Unread waiting) (faults.Unread path) x r =
       let leaves = x.leaves in
       let its : j ≡ leaves.job = at_first j x.place leaves.job leaves.job_is in
       record {
         entry = e;
         listed = inl refl;
-        path_is = as;
+        path_is = r;
         now = leaves.now;
         is = one_left left leaves.now leaves.is;
         given = leaves.given;
@@ -146,26 +146,26 @@ module _ (stanza : Text) (own : Label) (e : FileEntry) (j : Job) (w : Wanted) (j
         item = x.item;
         unread = λ i at_i. leaves.unread i (ap (λ (k : Job). slice_get k.items x.item) (sym its ∙ job) ∙ at_i);
       }
-  fetch_fails links left before after old new faults.WorkersLost faults.WorkersLost x as = record { entries = x.entries; is = x.is; count = x.count }
-  fetch_fails links left before after old new faults.Tree faults.Tree x as = x
-  fetch_fails links left before after old new faults.NoMemory faults.NoMemory x as = tt
-  fetch_fails links left before after old new (faults.FileDamaged at told found) faults.WorkersLost x as = absurd as
-  fetch_fails links left before after old new (faults.FileDamaged at told found) (faults.Unread path) x as = absurd as
-  fetch_fails links left before after old new (faults.FileDamaged at told found) faults.Tree x as = absurd as
-  fetch_fails links left before after old new (faults.FileDamaged at told found) faults.NoMemory x as = absurd as
-  fetch_fails links left before after old new faults.WorkersLost (faults.FileDamaged path told' found') x as = absurd as
-  fetch_fails links left before after old new faults.WorkersLost (faults.Unread path) x as = absurd as
-  fetch_fails links left before after old new faults.WorkersLost faults.Tree x as = absurd as
-  fetch_fails links left before after old new faults.WorkersLost faults.NoMemory x as = absurd as
-  fetch_fails links left before after old new (faults.Unread at) (faults.FileDamaged path told' found') x as = absurd as
-  fetch_fails links left before after old new (faults.Unread at) faults.WorkersLost x as = absurd as
-  fetch_fails links left before after old new (faults.Unread at) faults.Tree x as = absurd as
-  fetch_fails links left before after old new (faults.Unread at) faults.NoMemory x as = absurd as
-  fetch_fails links left before after old new faults.Tree (faults.FileDamaged path told' found') x as = absurd as
-  fetch_fails links left before after old new faults.Tree faults.WorkersLost x as = absurd as
-  fetch_fails links left before after old new faults.Tree (faults.Unread path) x as = absurd as
-  fetch_fails links left before after old new faults.Tree faults.NoMemory x as = absurd as
-  fetch_fails links left before after old new faults.NoMemory (faults.FileDamaged path told' found') x as = absurd as
-  fetch_fails links left before after old new faults.NoMemory faults.WorkersLost x as = absurd as
-  fetch_fails links left before after old new faults.NoMemory (faults.Unread path) x as = absurd as
-  fetch_fails links left before after old new faults.NoMemory faults.Tree x as = absurd as
+  fetch_fails links left before after old new faults.WorkersLost faults.WorkersLost x r = record { entries = x.entries; is = x.is; count = x.count }
+  fetch_fails links left before after old new faults.Tree faults.Tree x r = x
+  fetch_fails links left before after old new faults.NoMemory faults.NoMemory x r = tt
+  fetch_fails links left before after old new (faults.FileDamaged waiting told found) faults.WorkersLost x r = absurd r
+  fetch_fails links left before after old new (faults.FileDamaged waiting told found) (faults.Unread path) x r = absurd r
+  fetch_fails links left before after old new (faults.FileDamaged waiting told found) faults.Tree x r = absurd r
+  fetch_fails links left before after old new (faults.FileDamaged waiting told found) faults.NoMemory x r = absurd r
+  fetch_fails links left before after old new faults.WorkersLost (faults.FileDamaged path told' found') x r = absurd r
+  fetch_fails links left before after old new faults.WorkersLost (faults.Unread path) x r = absurd r
+  fetch_fails links left before after old new faults.WorkersLost faults.Tree x r = absurd r
+  fetch_fails links left before after old new faults.WorkersLost faults.NoMemory x r = absurd r
+  fetch_fails links left before after old new (faults.Unread waiting) (faults.FileDamaged path told' found') x r = absurd r
+  fetch_fails links left before after old new (faults.Unread waiting) faults.WorkersLost x r = absurd r
+  fetch_fails links left before after old new (faults.Unread waiting) faults.Tree x r = absurd r
+  fetch_fails links left before after old new (faults.Unread waiting) faults.NoMemory x r = absurd r
+  fetch_fails links left before after old new faults.Tree (faults.FileDamaged path told' found') x r = absurd r
+  fetch_fails links left before after old new faults.Tree faults.WorkersLost x r = absurd r
+  fetch_fails links left before after old new faults.Tree (faults.Unread path) x r = absurd r
+  fetch_fails links left before after old new faults.Tree faults.NoMemory x r = absurd r
+  fetch_fails links left before after old new faults.NoMemory (faults.FileDamaged path told' found') x r = absurd r
+  fetch_fails links left before after old new faults.NoMemory faults.WorkersLost x r = absurd r
+  fetch_fails links left before after old new faults.NoMemory (faults.Unread path) x r = absurd r
+  fetch_fails links left before after old new faults.NoMemory faults.Tree x r = absurd r

@@ -133,6 +133,10 @@ no_file seen f none l = go (f control_path) refl
     go (Some link) is = cc (any_control seen (shown link) none (l.all control_path link is))
     go (Some other) is = cc (any_control seen (shown other) none (l.all control_path other is))
 
+pub any_map : {A B : Type 0} (p : B → Bool) (f : A → B) (xs : List A) → list_any p (map f xs) ≡ list_any (λ x. p (f x)) xs
+any_map p f [] = refl
+any_map p f (x ∷ xs) = ap (λ (b : Bool). p (f x) || b) (any_map p f xs)
+
 -- where the listing has no control file
 pub listed_none : (seen : List (Text × Node)) (o : Option Nodes) → list_any is_control_node seen ≡ false → IfSome o (λ f. IsTreeListing f seen) → IfSome o (λ f. IsListedBut f seen)
 listed_none seen None none l = tt

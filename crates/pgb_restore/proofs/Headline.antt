@@ -4,7 +4,7 @@ use Rattle.std.specs.Prelude.{IfSome, IsSomeAnd}
 use Rattle.std.specs.List.{AllByRecursion, list_any}
 use Rattle.std.specs.FinMap.{get, keys, contains_key-keys}
 use Rattle.std.specs.Option.{is_some}
-use Rattle.std.specs.Cmp.{eq_by_cmp}
+use Rattle.std.specs.Ordering.{eq_by_cmp}
 use Rattle.std.proofs.lemmas.Map.Text.{is_eq-slice_cmp}
 use Rattle.std.proofs.lemmas.Slice.Eq.{bytes_eq-Decides}
 use Rattle.sha1.specs.Sha1.{sha1}
@@ -53,11 +53,11 @@ either n = grind arith
 
 any_in : (ks : List Text) (q : Text) → list_any (eq_by_cmp text_cmp q) ks ≡ true → In q ks
 any_in [] q h = cc
-any_in (k ∷ ks) q h = by (eq_by_cmp text_cmp q k) (sym (is_eq-slice_cmp q k)) h
+any_in (k ∷ ks) q h = by (eq_by_cmp text_cmp q k) (sym (is_eq-slice_cmp q k)) h (any_in ks q)
   where
-    by : (b : Bool) → bytes_eq q k ≡ b → (b || list_any (eq_by_cmp text_cmp q) ks) ≡ true → In q (k ∷ ks)
-    by true is t = inl ((bytes_eq-Decides q k).0 is)
-    by false is t = inr (any_in ks q t)
+    by : (b : Bool) → bytes_eq q k ≡ b → (b || list_any (eq_by_cmp text_cmp q) ks) ≡ true → (list_any (eq_by_cmp text_cmp q) ks ≡ true → In q ks) → In q (k ∷ ks)
+    by true is t next = inl ((bytes_eq-Decides q k).0 is)
+    by false is t next = inr (next t)
 
 or_true : (b : Bool) → (b || true) ≡ true
 or_true true = refl

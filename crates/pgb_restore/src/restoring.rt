@@ -32,14 +32,9 @@ fn is_control_node(node: &Seen) -> bool
 }
 
 fn has_control(seen: &[Seen]) -> bool
-    ensures { result ≡ list_any is_control_node (map seen_of seen.now) }
+    ensures { result ≡ list_any (λ s. is_control_node (seen_of s)) seen.now }
 {
-    for node in seen {
-        if is_control_node(node) {
-            return true;
-        }
-    }
-    false
+    seen.iter().any(|node| is_control_node(node))
 }
 
 // Takes the control file away before anything else.
@@ -51,10 +46,10 @@ fn remove_control<T: Tree>(tree: &mut T, seen: &[Seen]) -> Result<(), Stop>
     ensures opened { (T.state tree.new).opened ≡ (T.state tree.old).opened }
     ensures cause { HasCause (T.state tree.old).faults (T.state tree.new).faults result }
 {
-    if !has_control(seen) {
-        return Ok(());
+    if has_control(seen) {
+        return tree.remove(CONTROL);
     }
-    tree.remove(CONTROL)
+    Ok(())
 }
 
 // The control file comes last, where there is one.
