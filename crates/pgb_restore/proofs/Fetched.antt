@@ -34,6 +34,7 @@ one_apart p = record { once = first; lasting = last }
     first zero (suc j) q a b = cc
     first (suc i) zero q a b = cc
     first (suc i) (suc j) q a b = cc
+
     last : (i j : ℕ) (q r : Text) → slice_get (p ∷ []) i ≡ Some q → slice_get (p ∷ []) j ≡ Some r → q ≢ temporary_path r
     last zero zero q r a b e =
         let h : ◌≡◌ {A = Option Text} (Some p) (Some q) = a in

@@ -32,7 +32,7 @@ returns-in-Some-clause-finishes g c =
     let listed = subst (λ (l : List rust_file.FileEntry). In (file_entry_of c.in-Some.file.now) (map file_entry_of l)) c.deref.ensures.value c.in-Some.ensures.some.0 in
     on_ok_three c.put_control.result _ _ _ _
     (λ put waiting clean. λ first before after left plain.
-      put_finishes c.args.stanza.now first m c.requires.rules e listed c.in-Some.ensures.some.1 o r (some_before c.args.stanza.now first now before after m r left e control_path put) waiting clean c.put_control.ensures.others plain)
+    put_finishes c.args.stanza.now first m c.requires.rules e listed c.in-Some.ensures.some.1 o r (some_before c.args.stanza.now first now before after m r left e control_path put) waiting clean c.put_control.ensures.others plain)
     c.put_control.ensures.put c.put_control.ensures.waiting c.put_control.ensures.clean
 
 pub returns-in-Some-clause-fault : goal.returns-in-Some-clause-fault

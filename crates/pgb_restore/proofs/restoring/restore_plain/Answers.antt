@@ -32,5 +32,5 @@ returns-clause-fault g c =
     let h = (g.T.Tree.state c.put_last.new.tree).faults in
     IfErr-weaker c.put_last.result _ _
     (λ e x. fails_later c.args.stanza.now m.label m.files first left start after f k h e (omega (arith, c.remove_control.ensures.cause.later, c.rebuild.ensures.later))
-      (fails_before c.args.stanza.now m.label m.files first links left start before after k h e c.in_ok-rebuild.ensures.left x))
+    (fails_before c.args.stanza.now m.label m.files first links left start before after k h e c.in_ok-rebuild.ensures.left x))
     c.put_last.ensures.fault
