@@ -1,8 +1,13 @@
 // The data folder is made ready for a backup's files.
-ghost use Rattle.std.specs.Prelude.{◌≡◌, bytes_eq, map, option_map, OnOk, string_bytes};
+ghost use Rattle.std.specs.Prelude.{◌≡◌, ◌≢◌, true, false, bytes_eq, map, option_map, IfSome, OnOk, string_bytes};
 ghost use Rattle.pgb_outside.specs.Cause.{HasCause};
+ghost use Rattle.pgb_outside.specs.Content.{at};
+ghost use Rattle.pgb_outside.specs.Order.{are_in_order};
+ghost use Rattle.pgb_outside.specs.Tree.{IsBare};
+ghost use Rattle.pgb_model.specs.ManifestText.{HasItsFolders};
+ghost use Rattle.pgb_model.specs.Text.{Text, In};
 ghost use Rattle.pgb_model.specs.Values.{manifest_of};
-ghost use Rattle.pgb_clear.specs.Clearing.{control_path, stays, seen_of, without_one, without, with_folders, IsOrdered, StaysNone};
+ghost use Rattle.pgb_clear.specs.Clearing.{control_path, stays, seen_of, without_one, without, with_folders, IsOrdered, IsSpared, IsListed, HaveTheirFolders, StaysNone};
 
 use crate::finding::{has_file, has_folder};
 use pgb_model::Manifest;
@@ -35,7 +40,14 @@ fn clear_one<T: Tree>(tree: &mut T, manifest: &Manifest, node: &Seen) -> Result<
     ensures cleared { OnOk result
         ((T.state tree.new).nodes ≡ option_map (without_one (manifest_of manifest.now) (seen_of node.now))
         (T.state tree.old).nodes) }
+    ensures others { (q : Text)
+        → (stays (manifest_of manifest.now) (string_bytes node.now.path) node.now.node ≡ false
+        → q ≢ string_bytes node.now.path)
+        → at q (T.state tree.new).nodes ≡ at q (T.state tree.old).nodes }
     ensures control { StaysNone control_path (T.state tree.old).nodes (T.state tree.new).nodes }
+    ensures proper { (stays (manifest_of manifest.now) (string_bytes node.now.path) node.now.node ≡ false
+        → IsBare (T.state tree.old).nodes (string_bytes node.now.path))
+        → (T.state tree.new).misuses ≡ (T.state tree.old).misuses }
     ensures opened { (T.state tree.new).opened ≡ (T.state tree.old).opened }
     ensures cause { HasCause (T.state tree.old).faults (T.state tree.new).faults result }
 {
@@ -51,7 +63,14 @@ pub fn clear<T: Tree>(tree: &mut T, manifest: &Manifest, seen: &[Seen]) -> Resul
     ensures cleared { OnOk result
         ((T.state tree.new).nodes ≡ option_map (without (manifest_of manifest.now) (map seen_of seen.now))
         (T.state tree.old).nodes) }
+    // Whatever comes of it, only what is listed and may not stay has changed.
+    ensures others { (q : Text) → IsSpared (manifest_of manifest.now) (map seen_of seen.now) q
+        → at q (T.state tree.new).nodes ≡ at q (T.state tree.old).nodes }
     ensures control { StaysNone control_path (T.state tree.old).nodes (T.state tree.new).nodes }
+    // Where all that is there is listed, no folder is taken away that holds something.
+    ensures proper { IfSome (T.state tree.old).nodes (IsListed (map seen_of seen.now))
+        → HaveTheirFolders (manifest_of manifest.now)
+        → (T.state tree.new).misuses ≡ (T.state tree.old).misuses }
     ensures opened { (T.state tree.new).opened ≡ (T.state tree.old).opened }
     ensures cause { HasCause (T.state tree.old).faults (T.state tree.new).faults result }
 {
@@ -67,7 +86,14 @@ pub fn clear<T: Tree>(tree: &mut T, manifest: &Manifest, seen: &[Seen]) -> Resul
 pub fn make_folders<T: Tree>(tree: &mut T, folders: &[String]) -> Result<(), Stop>
     ensures made { OnOk result
         ((T.state tree.new).nodes ≡ option_map (with_folders (map string_bytes folders.now)) (T.state tree.old).nodes) }
+    // Whatever comes of it, only these paths have changed.
+    ensures others { (q : Text) → ¬ In q (map string_bytes folders.now)
+        → at q (T.state tree.new).nodes ≡ at q (T.state tree.old).nodes }
     ensures control { StaysNone control_path (T.state tree.old).nodes (T.state tree.new).nodes }
+    // In byte order each is made where the folder that holds it is there.
+    ensures proper { are_in_order (map string_bytes folders.now) ≡ true
+        → ((p : Text) → In p (map string_bytes folders.now) → HasItsFolders (map string_bytes folders.now) p)
+        → (T.state tree.new).misuses ≡ (T.state tree.old).misuses }
     ensures opened { (T.state tree.new).opened ≡ (T.state tree.old).opened }
     ensures cause { HasCause (T.state tree.old).faults (T.state tree.new).faults result }
 {

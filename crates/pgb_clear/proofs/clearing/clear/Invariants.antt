@@ -1,16 +1,26 @@
 use Rattle.std.proofs.Common.{◌≡◌, ◌≤◌, map, drop, length, option_map}
+use Rattle.std.specs.Prelude.{IfSome}
+use Rattle.pgb_outside.specs.Content.{at}
+use Rattle.pgb_model.specs.Text.{Text}
 use Rattle.pgb_model.specs.Values.{manifest_of}
-use Rattle.pgb_clear.specs.Clearing.{control_path, without, seen_of, StaysNone}
+use Rattle.pgb_clear.specs.Clearing.{control_path, without, seen_of, IsSpared, IsListed, HaveTheirFolders, StaysNone}
 use Rattle.pgb_clear.proofs.clearing.clear.Given as goal
 
 abbrev pub invariant-loop-left : goal.invariant-loop-left
-invariant-loop-left g l = let T = g.T.Tree in record {
-  within : l.left ≤ length l.seen;
-  cleared : (T.state l.tree).nodes ≡ option_map (without (manifest_of l.manifest) (map seen_of (drop l.left l.seen))) (T.state l.fn.tree).nodes;
-  control : StaysNone control_path (T.state l.fn.tree).nodes (T.state l.tree).nodes;
-  opened : (T.state l.tree).opened ≡ (T.state l.fn.tree).opened;
-  later : (T.state l.fn.tree).faults ≤ (T.state l.tree).faults;
-}
+invariant-loop-left g l =
+    let was = g.T.Tree.state l.fn.tree in
+    let now = g.T.Tree.state l.tree in
+    let m = manifest_of l.manifest in
+    let ss = map seen_of l.seen in
+    record {
+      within : l.left ≤ length l.seen;
+      cleared : now.nodes ≡ option_map (without m (map seen_of (drop l.left l.seen))) was.nodes;
+      others : (q : Text) → IsSpared m ss q → at q now.nodes ≡ at q was.nodes;
+      control : StaysNone control_path was.nodes now.nodes;
+      proper : IfSome was.nodes (IsListed ss) → HaveTheirFolders m → now.misuses ≡ was.misuses;
+      opened : now.opened ≡ was.opened;
+      later : was.faults ≤ now.faults;
+    }
 
 abbrev pub decreases-loop-left : goal.decreases-loop-left
 decreases-loop-left g l = l.left

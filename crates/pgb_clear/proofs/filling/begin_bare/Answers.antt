@@ -2,7 +2,7 @@ use Rattle.std.proofs.Common.{◌≡◌, ◌+◌, ◌∙◌, sym, ap, subst, ref
 use Rattle.std.proofs.lemmas.List.{map-append}
 use Rattle.pgb_model.specs.Values.{FileEntry, file_entry_of}
 use Rattle.pgb_clear.specs.Clearing.{Bares}
-use Rattle.pgb_clear.proofs.Bare.{bares_more, in_take, in_at}
+use Rattle.pgb_clear.proofs.Bare.{bares_more, in_take, in_at, still_placed}
 use Rattle.pgb_clear.proofs.Paths.{take_more}
 use Rattle.pgb_clear.proofs.filling.begin_bare.Goals as goal
 
@@ -20,6 +20,10 @@ loop-file-preserved g c =
     record {
       bares = subst (λ (l : List FileEntry). Bares l (g.T.Tree.state c.args.tree.now).nodes (g.T.Tree.state c.begin_one.new.tree).nodes) (sym list)
           (bares_more (map file_entry_of (take n fs)) (file_entry_of f) (g.T.Tree.state c.args.tree.now).nodes (g.T.Tree.state c.loop-file.tree).nodes (g.T.Tree.state c.begin_one.new.tree).nodes c.loop-file.invariant.bares c.in_ok-begin_one.ensures.bare c.begin_one.ensures.others);
+      proper = λ placed. c.begin_one.ensures.proper (still_placed (map file_entry_of c.args.files.now) (file_entry_of c.file-item.result) (g.T.Tree.state c.args.tree.now).nodes (g.T.Tree.state c.loop-file.tree).nodes (in_at file_entry_of c.args.files.now c.loop-file.file-index c.file-item.result c.loop-file-test.true c.file-item.is) placed (λ q off. c.loop-file.invariant.bares.others q (λ e i _. off e (in_take file_entry_of c.args.files.now c.loop-file.file-index e i)))) ∙ c.loop-file.invariant.proper placed;
       opened = c.begin_one.ensures.opened ∙ c.loop-file.invariant.opened;
       later = omega (arith, c.loop-file.invariant.later, c.begin_one.ensures.cause.later);
     }
+
+pub returns-in_err-begin_one-clause-proper : goal.returns-in_err-begin_one-clause-proper
+returns-in_err-begin_one-clause-proper g c = λ placed. c.begin_one.ensures.proper (still_placed (map file_entry_of c.args.files.now) (file_entry_of c.file-item.result) (g.T.Tree.state c.args.tree.now).nodes (g.T.Tree.state c.loop-file.tree).nodes (in_at file_entry_of c.args.files.now c.loop-file.file-index c.file-item.result c.loop-file-test.true c.file-item.is) placed (λ q off. c.loop-file.invariant.bares.others q (λ e i _. off e (in_take file_entry_of c.args.files.now c.loop-file.file-index e i)))) ∙ c.loop-file.invariant.proper placed

@@ -1,0 +1,100 @@
+-- Why files weren't filled, of a part and of the whole.
+use Rattle.std.proofs.Common.{ℕ, ◌≡◌, ◌⊎◌, inl, inr, ⊎_elim, ◌≤◌, ◌<◌, refl, sym, ap, ◌∙◌, subst, arith, List, [], ◌∷◌, ◌++◌, length, length-append, Option, Some, None, append_assoc, string_bytes}
+use Rattle.pgb_outside.specs.Cause.{Rises}
+use Rattle.pgb_outside.specs.Links.{LinkState, Told}
+use Rattle.pgb_model.specs.declared.labels.Label.{Label}
+use Rattle.pgb_model.specs.Text.{Text, In}
+use Rattle.pgb_model.specs.Values.{FileEntry}
+use Rattle.pgb_worker_frame.specs.Frames.{Item}
+use Rattle.pgb_worker_reply.specs.Reads.{UnreadBy}
+use Rattle.pgb_worker_reply.specs.Going.{IsSame}
+use Rattle.pgb_worker_dispatch.specs.declared.fault.Lost.{Lost}
+use Rattle.pgb_source.specs.Sources.{source}
+use Rattle.pgb_restore.specs.declared.fault.FillFault.{FillFault}
+use Rattle.pgb_restore.specs.declared.fault.FillFault.TheVariants as faults
+use Rattle.pgb_restore.specs.Left.{IsLeft}
+use Rattle.pgb_restore.specs.Faults.{IsDamaged, IsUnread, FillFails}
+use Rattle.pgb_restore.proofs.Links.{reads_as, read_before}
+
+rises_later : (f g h : ℕ) → f ≤ g → Rises g h → Rises f h
+rises_later f g h le rose = grind arith
+
+-- the folder's count was lower before
+pub fails_later : (stanza : Text) (own : Label) (es : List FileEntry) (links left : List LinkState) (before after : List Lost) (f g h : ℕ) (e : FillFault) → f ≤ g → FillFails e stanza own es links left before after g h
+    → FillFails e stanza own es links left before after f h
+fails_later stanza own es links left before after f g h (faults.FileDamaged path told found) le x = x
+fails_later stanza own es links left before after f g h faults.WorkersLost le x = x
+fails_later stanza own es links left before after f g h (faults.Unread path) le x = x
+fails_later stanza own es links left before after f g h faults.Tree le x = rises_later f g h le x
+fails_later stanza own es links left before after f g h faults.NoMemory le x = x
+
+-- the entry is one of more
+pub fails_more : (stanza : Text) (own : Label) (d : FileEntry) (es : List FileEntry) (links left : List LinkState) (before after : List Lost) (f g : ℕ) (e : FillFault) → In d es → FillFails e stanza own (d ∷ []) links left before after f g
+    → FillFails e stanza own es links left before after f g
+fails_more stanza own d es links left before after f g (faults.FileDamaged path told found) i x = record {
+  entry = x.entry;
+  listed = ⊎_elim (λ (e : x.entry ≡ d). subst (λ (y : FileEntry). In y es) (sym e) i) (λ (n : ⊥). absurd n) x.listed;
+  path_is = x.path_is;
+  told_is = x.told_is;
+  bytes = x.bytes;
+  read = x.read;
+  found_is = x.found_is;
+  wrong = x.wrong;
+}
+fails_more stanza own d es links left before after f g faults.WorkersLost i x = x
+fails_more stanza own d es links left before after f g (faults.Unread path) i x = record {
+  entry = x.entry;
+  listed = ⊎_elim (λ (e : x.entry ≡ d). subst (λ (y : FileEntry). In y es) (sym e) i) (λ (n : ⊥). absurd n) x.listed;
+  path_is = x.path_is;
+  now = x.now;
+  is = x.is;
+  given = x.given;
+  link = x.link;
+  from = x.from;
+  from_is = x.from_is;
+  item = x.item;
+  unread = x.unread;
+}
+fails_more stanza own d es links left before after f g faults.Tree i x = x
+fails_more stanza own d es links left before after f g faults.NoMemory i x = x
+
+unread_told : (a b : Option Told) (item : Item) → IsSame a b → UnreadBy b item → UnreadBy a item
+unread_told None b item same r = tt
+unread_told (Some a) None item same r = absurd same
+unread_told (Some a) (Some b) item same r = λ tree repo reads. r tree repo (reads_as tree repo b a same.0 reads)
+
+-- the links were those that others had left
+pub fails_before : (stanza : Text) (own : Label) (es : List FileEntry) (first links left : List LinkState) (start before after : List Lost) (f g : ℕ) (e : FillFault) → IsLeft first links start before → FillFails e stanza own es links left before after f g
+    → FillFails e stanza own es first left start after f g
+fails_before stanza own es first links left start before after f g (faults.FileDamaged path told found) was x = record {
+  entry = x.entry;
+  listed = x.listed;
+  path_is = x.path_is;
+  told_is = x.told_is;
+  bytes = x.bytes;
+  read = read_before first links start before (source stanza own x.entry) x.bytes was x.read;
+  found_is = x.found_is;
+  wrong = x.wrong;
+}
+fails_before stanza own es first links left start before after f g faults.WorkersLost was x = record {
+  entries = was.entries ++ x.entries;
+  is = x.is ∙ ap (λ (l : List Lost). l ++ x.entries) was.is ∙ append_assoc start was.entries x.entries;
+  count = omega (arith, length-append was.entries x.entries, was.count, x.count);
+}
+fails_before stanza own es first links left start before after f g (faults.Unread path) was x =
+    let from = was.each x.link x.from x.from_is in
+    record {
+      entry = x.entry;
+      listed = x.listed;
+      path_is = x.path_is;
+      now = x.now;
+      is = x.is;
+      given = x.given;
+      link = from.link;
+      from = from.from;
+      from_is = from.is;
+      item = x.item;
+      unread = λ i at_i. unread_told from.from.told x.from.told i from.same (x.unread i at_i);
+    }
+fails_before stanza own es first links left start before after f g faults.Tree was x = x
+fails_before stanza own es first links left start before after f g faults.NoMemory was x = x

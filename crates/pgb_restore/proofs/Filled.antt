@@ -1,0 +1,116 @@
+-- From the files that were written to the entries of a manifest.
+use Rattle.std.proofs.Common.{ℕ, ◌≡◌, ◌≢◌, refl, sym, ap, ◌∙◌, subst, List, [], ◌∷◌, length, map, Option, Some, None, slice_get, string_bytes}
+use Rattle.std.specs.Prelude.{IfSome}
+use Rattle.sha1.specs.Sha1.{sha1}
+use Rattle.pgb_outside.specs.Content.{at}
+use Rattle.pgb_outside.specs.Links.{LinkState}
+use Rattle.pgb_outside.specs.Tree.{Nodes}
+use Rattle.pgb_text.specs.declared.sum.Sum.{Sum}
+use Rattle.pgb_model.specs.declared.labels.Label.{Label}
+use Rattle.pgb_model.specs.Text.{Text, In}
+use Rattle.pgb_model.specs.Values.{FileEntry}
+use Rattle.pgb_worker_frame.specs.Frames.{Item, Job}
+use Rattle.pgb_worker_reply.specs.Reads.{UnreadBy}
+use Rattle.pgb_worker_dispatch.specs.Run.{UnreadLeaves, begun}
+use Rattle.pgb_worker_dispatch.specs.declared.fault.Lost.{Lost}
+use Rattle.pgb_clear.specs.Clearing.{control_path, HasFile}
+use Rattle.pgb_fill.specs.declared.files.Wanted.{Wanted}
+use Rattle.pgb_fill.specs.Files.{temporary_path}
+use Rattle.pgb_fill.specs.Keeping.{IsNoneOf}
+use Rattle.pgb_source.specs.Sources.{source, reading}
+use Rattle.pgb_restore.specs.declared.fault.FillFault.{FillFault}
+use Rattle.pgb_restore.specs.declared.fault.FillFault.TheVariants as faults
+use Rattle.pgb_restore.specs.Written.{IsReadOf, IsFetched, AllFetched}
+use Rattle.pgb_restore.specs.Entries.{reads_of, Want, want_of, want_in, IsFilled, Fills}
+use Rattle.pgb_restore.specs.Faults.{IsWrongFile, IsUnreadFile, WriteFails, IsDamaged, IsUnread, FillFails}
+use Rattle.pgb_restore.proofs.ReadJobs.{at_in, in_at, entry_at, wanted_of_entry, job_at}
+use Rattle.pgb_restore.proofs.ReadEntries.{in_read, read_off}
+use Rattle.pgb_restore.proofs.Names.{control_lasts}
+
+pub one_left : (left : List LinkState) (now : LinkState) → map (λ (s : LinkState). Some s) left ≡ Some now ∷ [] → left ≡ now ∷ []
+one_left [] now e = cc
+one_left (s ∷ []) now e = let h : ◌≡◌ {A = List (Option LinkState)} (Some s ∷ []) (Some now ∷ []) = e in cc
+one_left (s ∷ t ∷ rest) now e = let h : ◌≡◌ {A = List (Option LinkState)} (Some s ∷ Some t ∷ map (λ (s : LinkState). Some s) rest) (Some now ∷ []) = e in cc
+
+module _ (stanza : Text) (own : Label) (links : List LinkState) (files : List FileEntry) (jobs : List Job) (ws : List Wanted) (jobs_are : jobs ≡ map (reading stanza own) (reads_of files)) (wanted_are : map want_in ws ≡ map want_of (reads_of files)) where
+  filled_by : (e : FileEntry) (w : Wanted) (nodes : Option Nodes) → want_in w ≡ want_of e → IfSome nodes (IsFetched links (reading stanza own e) w) → IfSome nodes (IsFilled stanza own links e)
+  filled_by e w None is x = tt
+  filled_by e w (Some g) is x =
+      let item : x.item ≡ source stanza own e = (let h : ◌≡◌ {A = List Item} (source stanza own e ∷ []) (x.item ∷ []) = x.items in cc) in
+      let path : w.path.now ≡ e.path = ap (λ (y : Want). y.path) is in
+      record {
+        bytes = x.bytes;
+        file = subst (λ (p : Text). HasFile p x.bytes g) path x.file;
+        are = (x.size ∙ ap (λ (y : Want). y.size) is, x.sum ∙ ap (λ (y : Want). y.sum) is);
+        read = subst (λ (i : Item). IsReadOf links i x.bytes) item x.read;
+        alone = ap (λ (p : Text). g (temporary_path p)) (sym path) ∙ x.alone;
+      }
+
+  none_written : (q : Text) → ((e : FileEntry) → In e (reads_of files) → (q ≢ e.path) × (q ≢ temporary_path e.path)) → IsNoneOf ws q
+  none_written q off w i =
+      let k = at_in ws w i in
+      let e = entry_at stanza own files jobs ws jobs_are wanted_are k.0 w k.1 in
+      let path : e.0.path ≡ w.path.now = ap (λ (y : Want). y.path) e.2 in
+      let both = off e.0 (in_at (reads_of files) k.0 e.0 e.1) in
+      (λ is. both.0 (is ∙ sym path), λ is. both.1 (is ∙ ap temporary_path (sym path)))
+
+  pub fills : (old new : Option Nodes) → AllFetched links new jobs ws → ((q : Text) → IsNoneOf ws q → at q new ≡ at q old) → Fills stanza own links (reads_of files) old new
+  fills old new fetched others = record {
+    each = λ e i.
+        let k = at_in (reads_of files) e i in
+        let w = wanted_of_entry stanza own files jobs ws jobs_are wanted_are k.0 e k.1 in
+        filled_by e w.0 new w.2 (fetched k.0 (reading stanza own e) w.0 (job_at stanza own files jobs ws jobs_are wanted_are k.0 e k.1) w.1);
+    others = λ q off. others q (none_written q off);
+  }
+
+  -- the control file is none of those that are written
+  pub none_of_control : IsNoneOf ws control_path
+  none_of_control = none_written control_path (λ e i. (λ is. read_off e (in_read files e i).1 (sym is), control_lasts e.path))
+
+  -- ---- faults
+
+  damaged : (path : Text) (told found : Sum) → IsWrongFile links jobs ws path told found → IsDamaged stanza own links files path told found
+  damaged path told found x =
+      let e = entry_at stanza own files jobs ws jobs_are wanted_are x.place x.wanted x.wanted_is in
+      let h : ◌≡◌ {A = Option Job} (Some x.job) (Some (reading stanza own e.0)) = sym x.job_is ∙ job_at stanza own files jobs ws jobs_are wanted_are x.place e.0 e.1 in
+      let job : x.job ≡ reading stanza own e.0 = cc in
+      let item : x.item ≡ source stanza own e.0 = (let k : ◌≡◌ {A = List Item} (x.item ∷ []) (source stanza own e.0 ∷ []) = sym x.items ∙ ap (λ (j : Job). j.items) job in cc) in
+      let size : e.0.size ≡ x.wanted.size = ap (λ (y : Want). y.size) e.2 in
+      let sum : e.0.sum ≡ x.wanted.sum.0 = ap (λ (y : Want). y.sum) e.2 in
+      record {
+        entry = e.0;
+        listed = (in_read files e.0 (in_at (reads_of files) x.place e.0 e.1)).0;
+        path_is = x.path_is ∙ sym (ap (λ (y : Want). y.path) e.2);
+        told_is = ap (λ (s : Sum). s.0) x.told_is ∙ sym sum;
+        bytes = x.bytes;
+        read = subst (λ (i : Item). IsReadOf links i x.bytes) item x.read;
+        found_is = x.found_is;
+        wrong = λ are. x.wrong (are.0 ∙ size, are.1 ∙ sum);
+      }
+
+  unread : (left : List LinkState) (before : List Lost) (path : Text) → IsUnreadFile jobs ws links left before path → IsUnread stanza own links left files path
+  unread left before path x =
+      let e = entry_at stanza own files jobs ws jobs_are wanted_are x.place x.wanted x.wanted_is in
+      let leaves = x.leaves in
+      let h : ◌≡◌ {A = Option Job} (Some leaves.job) (Some (reading stanza own e.0)) = sym leaves.job_is ∙ job_at stanza own files jobs ws jobs_are wanted_are x.place e.0 e.1 in
+      let job : leaves.job ≡ reading stanza own e.0 = cc in
+      record {
+        entry = e.0;
+        listed = (in_read files e.0 (in_at (reads_of files) x.place e.0 e.1)).0;
+        path_is = x.path_is ∙ sym (ap (λ (y : Want). y.path) e.2);
+        now = leaves.now;
+        is = one_left left leaves.now leaves.is;
+        given = leaves.given;
+        link = leaves.link;
+        from = leaves.from;
+        from_is = leaves.from_is;
+        item = x.item;
+        unread = λ i at_i. leaves.unread i (ap (λ (j : Job). slice_get j.items x.item) job ∙ at_i);
+      }
+
+  pub fill_fails : (left : List LinkState) (before after : List Lost) (old new : ℕ) (e : FillFault) → WriteFails e jobs ws links left before after old new → FillFails e stanza own files links left before after old new
+  fill_fails left before after old new (faults.FileDamaged path told found) h = damaged (string_bytes path) told found h
+  fill_fails left before after old new faults.WorkersLost h = record { entries = h.entries; is = h.is; count = h.count }
+  fill_fails left before after old new (faults.Unread path) h = unread left before (string_bytes path) h
+  fill_fails left before after old new faults.Tree h = h
+  fill_fails left before after old new faults.NoMemory h = tt

@@ -1,0 +1,14 @@
+pub mod Names
+pub mod ReadEntries
+pub mod Writes
+pub mod Checked
+pub mod Links
+pub mod ReadJobs
+pub mod Filled
+pub mod Plain
+pub mod Prepared
+pub mod Rebuilt
+pub mod Fetched
+pub mod Failing
+pub mod Finished
+pub mod Headline

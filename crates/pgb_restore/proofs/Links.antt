@@ -1,0 +1,66 @@
+-- Links that are left behind some jobs.
+use Rattle.std.proofs.Common.{ℕ, zero, suc, ◌≡◌, ◌<◌, ◌≤◌, refl, sym, ap, ◌∙◌, subst, arith, List, [], ◌∷◌, length, Option, Some, None, slice_get}
+use Rattle.std.specs.Prelude.{IfSome}
+use Rattle.pgb_outside.specs.Content.{Content}
+use Rattle.pgb_outside.specs.Links.{LinkState, Told}
+use Rattle.pgb_model.specs.Text.{Text}
+use Rattle.pgb_worker_frame.specs.Frames.{Item, Job, Roots, spell}
+use Rattle.pgb_worker_frame.specs.Frames.Frame.{Setup, Task}
+use Rattle.pgb_worker_reply.specs.Reads.{Reads, ReadBy}
+use Rattle.pgb_worker_reply.specs.Going.{IsSame, IsDrained}
+use Rattle.pgb_worker_dispatch.specs.Run.{somes}
+use Rattle.pgb_worker_dispatch.specs.Run.{IsReady, Left}
+use Rattle.pgb_worker_dispatch.specs.declared.fault.Lost.{Lost as Entry}
+use Rattle.pgb_fill.proofs.Listing.{some_within}
+use Rattle.pgb_restore.specs.Written.{IsReadOf}
+use Rattle.pgb_restore.specs.Left.{IsOneOf, IsLeft}
+use Rattle.pgb_restore.proofs.Writes.{get_some}
+
+-- what a link reads rests on its answers alone
+pub reads_as : (tree repo : Content) (a b : Told) → a.answer ≡ b.answer → Reads tree repo b → Reads tree repo a
+reads_as tree repo a b same r = record {
+  job = λ j fits. ap (λ (f : Text → Text). f (spell (Task j))) same ∙ r.job j fits;
+  setup = λ x fits. ap (λ (f : Text → Text). f (spell (Setup x))) same ∙ r.setup x fits;
+}
+
+same_told : (a b : Option Told) → IsDrained a b → IsSame a b
+same_told None None d = tt
+same_told None (Some b) d = absurd d
+same_told (Some a) None d = absurd d
+same_told (Some a) (Some b) d = d.0
+
+ready_told : (a b : Option Told) → IsDrained a b → IfSome b (λ (t : Told). (tree repo : Content) → Reads tree repo t → t.pending ≡ [])
+ready_told None None d = tt
+ready_told None (Some b) d = absurd d
+ready_told (Some a) None d = tt
+ready_told (Some a) (Some b) d = λ tree repo reads. d.1 tree repo (reads_as tree repo a b (sym d.0.0) reads)
+
+-- a link that is left has a seat
+seat_of : (seats : List (Option LinkState)) (k : ℕ) (s : LinkState) → slice_get (somes seats) k ≡ Some s → (i : ℕ) × (slice_get seats i ≡ Some (Some s))
+seat_of [] k s e = cc
+seat_of (None ∷ seats) k s e = let h = seat_of seats k s e in (suc h.0, h.1)
+seat_of (Some t ∷ seats) zero s e = let h : ◌≡◌ {A = Option LinkState} (Some t) (Some s) = e in (0, ap (λ (x : LinkState). Some (Some x)) cc)
+seat_of (Some t ∷ seats) (suc k) s e = let h = seat_of seats k s e in (suc h.0, h.1)
+
+pub left_is : (jobs : List Job) (links : List LinkState) (before after : List Entry) (now : List LinkState) → Left jobs links before after now → IsLeft links now before after
+left_is jobs links before after now left = record {
+  entries = left.entries;
+  is = left.is;
+  count = left.once;
+  each = λ k s is.
+      let seat = seat_of left.seats k s (ap (λ (l : List LinkState). slice_get l k) (sym left.now_are) ∙ is) in
+      let from = get_some links seat.0 (omega (arith, some_within left.seats seat.0 (Some s) seat.1, left.seat_count)) in
+      let rests = left.rests seat.0 from.0 s from.1 seat.1 in
+      record { ready = ready_told from.0.told s.told rests.drained; link = seat.0; from = from.0; is = from.1; same = same_told from.0.told s.told rests.drained };
+}
+
+-- what is read by a link that is left is read by one of the first
+read_told : (a b : Option Told) (item : Item) (bytes : Text) → IsSame a b → ReadBy b item bytes → ReadBy a item bytes
+read_told None b item bytes same r = tt
+read_told (Some a) None item bytes same r = absurd same
+read_told (Some a) (Some b) item bytes same r = λ tree repo reads. r tree repo (reads_as tree repo b a same.0 reads)
+
+pub read_before : (links now : List LinkState) (before after : List Entry) (item : Item) (bytes : Text) → IsLeft links now before after → IsReadOf now item bytes → IsReadOf links item bytes
+read_before links now before after item bytes left r =
+    let x = left.each r.link r.from r.is in
+    record { link = x.link; from = x.from; is = x.is; read = read_told x.from.told r.from.told item bytes x.same r.read }

@@ -1,0 +1,59 @@
+-- A whole plain restore but the control file; and the control file, which stays away.
+use Rattle.std.proofs.Common.{ℕ, zero, suc, Bool, true, false, not, ◌≡◌, ◌≢◌, ◌⊎◌, inl, inr, ◌<◌, ◌&&◌, refl, sym, ap, ◌∙◌, subst, arith, List, [], ◌∷◌, ◌++◌, map, Option, Some, None, option_map, bytes_eq}
+use Rattle.std.specs.Prelude.{IfSome, codes, nat_lt, ◌==◌}
+use Rattle.std.proofs.lemmas.Grind.{common_steps}
+use Rattle.std.proofs.lemmas.Bool.Decides.{nat_tests}
+use Rattle.std.proofs.lemmas.Slice.Eq.{bytes_eq-Decides}
+use Rattle.pgb_outside.specs.Content.{at}
+use Rattle.pgb_outside.specs.Links.{LinkState}
+use Rattle.pgb_outside.specs.declared.tree.Node.{Node}
+use Rattle.pgb_outside.specs.Tree.{Nodes, Held}
+use Rattle.pgb_model.specs.Text.{Text, In}
+use Rattle.pgb_model.specs.Values.{FileEntry, Manifest}
+use Rattle.pgb_model.specs.ManifestText.{IsManifest}
+use Rattle.pgb_worker_frame.specs.Frames.{Job}
+use Rattle.pgb_fill.specs.declared.files.Wanted.{Wanted}
+use Rattle.pgb_fill.specs.Files.{temporary_path}
+use Rattle.pgb_fill.specs.Keeping.{IsNoneOf}
+use Rattle.pgb_clear.specs.Clearing.{control_path, is_bare, Bares, without, with_folders, StaysNone}
+use Rattle.pgb_restore.specs.Entries.{is_read, reads_of, Fills}
+use Rattle.pgb_restore.specs.Listed.{IsListedBut, IsPlain, IsPrepared}
+use Rattle.pgb_clear.proofs.Nodes.{none_at}
+use Rattle.pgb_restore.proofs.Names.{control_lasts}
+use Rattle.pgb_restore.proofs.ReadEntries.{read_in, in_read, read_off, read_some, read_by}
+use Rattle.pgb_restore.proofs.Plain.{bare_no_control, plain}
+
+-- ---- the control file
+
+module _ (stanza : Text) (links : List LinkState) (m : Manifest) where
+  pub bares_control : (old new : Option Nodes) → ((q : Text) → ((e : FileEntry) → In e m.files → is_bare e ≡ true → q ≢ e.path) → at q new ≡ at q old) → at control_path new ≡ at control_path old
+  bares_control old new others = others control_path (λ e i bare is. bare_no_control e bare (sym is))
+
+  pub fills_control : (old new : Option Nodes) → Fills stanza m.label links (reads_of m.files) old new → at control_path new ≡ at control_path old
+  fills_control old new fills = fills.others control_path (λ e i. (λ is. read_off e (in_read m.files e i).1 (sym is), control_lasts e.path))
+
+  untold : (q : Text) (new : Option Nodes) → at q new ≡ None → new ≡ None
+  untold q None e = refl
+  untold q (Some g) e = let h : ◌≡◌ {A = Option (Option Held)} (Some (g q)) None = e in cc
+
+  told_from : (q : Text) (f : Nodes) (new : Option Nodes) → at q new ≡ at q (Some f) → (g : Nodes) × (new ≡ Some g)
+  told_from q f None e = let h : ◌≡◌ {A = Option (Option Held)} None (Some (f q)) = e in cc
+  told_from q f (Some g) e = (g, refl)
+
+  pub rebuilt : IsManifest m → (seen : List (Text × Node)) (o p r : Option Nodes) → IfSome o (λ f. IsListedBut f seen) → IsPrepared m seen o p → Fills stanza m.label links (reads_of m.files) p r → IfSome r (IsPlain stanza links m)
+  rebuilt rules seen None p r listed prepared fills =
+      let none : p ≡ None = untold control_path p (subst (λ (x : Option Nodes). at control_path p ≡ at control_path x) prepared.mid_is (bares_control prepared.mid p prepared.bares.others)) in
+      let last : r ≡ None = untold control_path r (subst (λ (x : Option Nodes). at control_path r ≡ at control_path x) none (fills_control p r fills)) in
+      subst (λ (x : Option Nodes). IfSome x (IsPlain stanza links m)) (sym last) tt
+  rebuilt rules seen (Some g) p r listed prepared fills =
+      let start : Nodes = with_folders m.folders (without m seen g) in
+      let bares = subst (λ (x : Option Nodes). Bares m.files x p) prepared.mid_is prepared.bares in
+      let h = told_from control_path start p (bares_control (Some start) p bares.others) in
+      let k = told_from control_path h.0 r (subst (λ (x : Option Nodes). at control_path r ≡ at control_path x) h.1 (fills_control p r fills)) in
+      subst (λ (x : Option Nodes). IfSome x (IsPlain stanza links m)) (sym k.1)
+      (plain stanza links m rules (reads_of m.files)
+      (λ e i. let x = in_read m.files e i in (x.0, read_some e x.1, read_off e x.1))
+      seen g listed h.0 k.0
+      (subst (λ (x : Option Nodes). Bares m.files (Some start) x) h.1 bares)
+      (subst (λ (x : Option Nodes). Fills stanza m.label links (reads_of m.files) (Some h.0) x) k.1 (subst (λ (x : Option Nodes). Fills stanza m.label links (reads_of m.files) x r) h.1 fills))
+      (λ e i some off. read_in m.files e i (read_by e some off)))

@@ -1,0 +1,21 @@
+use Rattle.std.proofs.Common.{◌≡◌, ◌∙◌, map, sym, ap}
+use Rattle.pgb_outside.specs.Content.{at}
+use Rattle.pgb_model.specs.Values.{file_entry_of}
+use Rattle.pgb_clear.specs.Clearing.{control_path}
+use Rattle.pgb_clear.proofs.Nodes.{none_at}
+use Rattle.pgb_restore.specs.Finished.{waiting_path}
+use Rattle.pgb_restore.proofs.Fetched.{on_err, entry_moved, moved_at}
+use Rattle.pgb_restore.proofs.Names.{control_lasts}
+use Rattle.pgb_restore.proofs.control.put_control.Goals as goal
+
+pub returns-in_err-stage-clause-none : goal.returns-in_err-stage-clause-none
+returns-in_err-stage-clause-none g c = on_err c.from_residual.result _ (none_at control_path (g.T.Tree.state c.args.tree.now).nodes (g.T.Tree.state c.stage.new.tree).nodes (c.stage.ensures.others control_path (control_lasts control_path) (control_lasts waiting_path)))
+
+pub returns-in_err-rename-clause-none : goal.returns-in_err-rename-clause-none
+returns-in_err-rename-clause-none g c = on_err c.from_residual-in_err-rename.result _ (none_at control_path (g.T.Tree.state c.args.tree.now).nodes (g.T.Tree.state c.rename.new.self).nodes (ap (at control_path) c.in_err-rename.ensures.nodes ∙ c.stage.ensures.others control_path (control_lasts control_path) (control_lasts waiting_path)))
+
+pub returns-clause-put : goal.returns-clause-put
+returns-clause-put g c = entry_moved c.args.stanza.now c.args.own.now (map g.L.Link.link_state c.args.links.now.items) (file_entry_of c.args.file.now) waiting_path control_path (g.T.Tree.state c.stage.new.tree).nodes (g.T.Tree.state c.rename.new.self).nodes c.in_ok-stage.ensures.waits c.in_ok-rename.ensures.nodes
+
+pub returns-clause-others : goal.returns-clause-others
+returns-clause-others g c = λ q off off_waiting off_temp. moved_at waiting_path control_path q (g.T.Tree.state c.stage.new.tree).nodes (g.T.Tree.state c.rename.new.self).nodes off_waiting off c.in_ok-rename.ensures.nodes ∙ c.stage.ensures.others q off_waiting off_temp

@@ -1,0 +1,44 @@
+use Rattle.std.specs.Prelude.{◌≢◌}
+use Rattle.std.proofs.Common.{◌≡◌, sym, ap, subst, map, List}
+use Rattle.std.proofs.lemmas.Result.{IfErr-weaker}
+use Rattle.pgb_model.specs.declared.files.FileEntry as rust_file
+use Rattle.pgb_model.specs.Text.{In}
+use Rattle.pgb_model.specs.Values.{FileEntry, file_entry_of, manifest_of}
+use Rattle.pgb_clear.specs.Clearing.{control_path}
+use Rattle.pgb_restore.proofs.Failing.{fails_more}
+use Rattle.pgb_restore.proofs.Finished.{finished_none, put_finishes, on_ok_three, some_before}
+use Rattle.pgb_restore.proofs.restoring.put_last.Goals as goal
+
+pub returns-in-None-clause-finishes : goal.returns-in-None-clause-finishes
+returns-in-None-clause-finishes g c = λ first before after left plain.
+    let m = manifest_of c.args.manifest.now in
+    finished_none c.args.stanza.now first m c.requires.rules
+    (subst (λ (l : List rust_file.FileEntry). (e : FileEntry) → In e (map file_entry_of l) → e.path ≢ control_path) c.deref.ensures.value c.in-None.ensures.none)
+    (g.T.Tree.state c.args.tree.now).nodes plain
+
+pub put_control-requires-clause-entry : goal.put_control-requires-clause-entry
+put_control-requires-clause-entry g c =
+    let m = manifest_of c.args.manifest.now in
+    let listed = subst (λ (l : List rust_file.FileEntry). In (file_entry_of c.in-Some.file.now) (map file_entry_of l)) c.deref.ensures.value c.in-Some.ensures.some.0 in
+    (m.folders, c.requires.rules.files (file_entry_of c.in-Some.file.now) listed)
+
+pub returns-in-Some-clause-finishes : goal.returns-in-Some-clause-finishes
+returns-in-Some-clause-finishes g c =
+    let m = manifest_of c.args.manifest.now in
+    let now = map g.L.Link.link_state c.args.links.now.items in
+    let o = (g.T.Tree.state c.args.tree.now).nodes in
+    let r = (g.T.Tree.state c.put_control.new.tree).nodes in
+    let e = file_entry_of c.in-Some.file.now in
+    let listed = subst (λ (l : List rust_file.FileEntry). In (file_entry_of c.in-Some.file.now) (map file_entry_of l)) c.deref.ensures.value c.in-Some.ensures.some.0 in
+    on_ok_three c.put_control.result _ _ _ _
+    (λ put waiting clean. λ first before after left plain.
+    put_finishes c.args.stanza.now first m c.requires.rules e listed c.in-Some.ensures.some.1 o r (some_before c.args.stanza.now first now before after m r left e control_path put) waiting clean c.put_control.ensures.others plain)
+    c.put_control.ensures.put c.put_control.ensures.waiting c.put_control.ensures.clean
+
+pub returns-in-Some-clause-fault : goal.returns-in-Some-clause-fault
+returns-in-Some-clause-fault g c =
+    let m = manifest_of c.args.manifest.now in
+    let listed = subst (λ (l : List rust_file.FileEntry). In (file_entry_of c.in-Some.file.now) (map file_entry_of l)) c.deref.ensures.value c.in-Some.ensures.some.0 in
+    IfErr-weaker c.put_control.result _ _
+    (λ x h. fails_more c.args.stanza.now m.label (file_entry_of c.in-Some.file.now) m.files (map g.L.Link.link_state c.args.links.now.items) (map g.L.Link.link_state c.put_control.new.links.items) c.args.lost.now.items c.put_control.new.lost.items (g.T.Tree.state c.args.tree.now).faults (g.T.Tree.state c.put_control.new.tree).faults x listed h)
+    c.put_control.ensures.fault

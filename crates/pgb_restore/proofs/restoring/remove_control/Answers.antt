@@ -1,0 +1,16 @@
+use Rattle.std.proofs.Common.{◌≡◌, ◌∙◌, sym, map, None}
+use Rattle.pgb_outside.specs.Tree.{with_node}
+use Rattle.pgb_clear.specs.Clearing.{control_path, seen_of}
+use Rattle.pgb_restore.specs.Listed.{is_control_node}
+use Rattle.pgb_restore.proofs.Finished.{on_removed, listed_but, listed_none, none_there, any_map}
+use Rattle.pgb_restore.proofs.restoring.remove_control.Goals as goal
+
+pub returns-then-has_control-clause-listed : goal.returns-then-has_control-clause-listed
+returns-then-has_control-clause-listed g c = on_removed c.remove.result _ (with_node control_path None) (g.T.Tree.state c.args.tree.now).nodes (g.T.Tree.state c.remove.new.self).nodes c.remove.ensures.nodes
+    (λ is. listed_but (map seen_of c.args.seen.now) (g.T.Tree.state c.args.tree.now).nodes (g.T.Tree.state c.remove.new.self).nodes c.requires.seen is)
+
+pub returns-clause-listed : goal.returns-clause-listed
+returns-clause-listed g c = listed_none (map seen_of c.args.seen.now) (g.T.Tree.state c.args.tree.now).nodes (any_map is_control_node seen_of c.args.seen.now ∙ sym c.has_control.ensures ∙ c.if-has_control.false) c.requires.seen
+
+pub returns-clause-none : goal.returns-clause-none
+returns-clause-none g c = none_there (map seen_of c.args.seen.now) (g.T.Tree.state c.args.tree.now).nodes (any_map is_control_node seen_of c.args.seen.now ∙ sym c.has_control.ensures ∙ c.if-has_control.false) c.requires.seen

@@ -1,0 +1,34 @@
+use Rattle.std.proofs.Common.{◌≡◌, ◌∙◌, sym, ap, subst, map, List}
+use Rattle.pgb_worker_frame.specs.Views.{job_of}
+use Rattle.pgb_worker_dispatch.specs.Run.{AllDone}
+use Rattle.pgb_fill.specs.declared.files.Wanted.{Wanted}
+use Rattle.pgb_fill.specs.declared.files.Filed.{Filed}
+use Rattle.pgb_fill.specs.Files.{kept_of, wanted_of, AllTidy}
+use Rattle.pgb_fill.specs.Keeping.{IsNoneOf}
+use Rattle.pgb_restore.proofs.Links.{left_is}
+use Rattle.pgb_restore.proofs.Writes.{one_item, all_written}
+use Rattle.pgb_restore.proofs.running.run_files.Goals as goal
+
+pub new-requires-clause-one : goal.new-requires-clause-one
+new-requires-clause-one g c = λ j job is. one_item c.args.wanted.now (map job_of c.args.jobs.now) c.requires.jobs j job is
+
+pub returns-in_err-run_jobs-clause-others : goal.returns-in_err-run_jobs-clause-others
+returns-in_err-run_jobs-clause-others g c = λ q none. c.run_jobs.ensures.later.others q (subst (λ (ws : List Wanted). IsNoneOf ws q) (sym c.in_ok-keep.ensures.wanted) none)
+
+pub returns-clause-others : goal.returns-clause-others
+returns-clause-others g c = λ q none. c.run_jobs.ensures.later.others q (subst (λ (ws : List Wanted). IsNoneOf ws q) (sym c.in_ok-keep.ensures.wanted) none)
+
+pub returns-clause-written : goal.returns-clause-written
+returns-clause-written g c =
+    let links = map g.L.Link.link_state c.args.links.now.items in
+    let new = (g.T.Tree.state c.run_jobs.new.on).nodes in
+    let jobs = map job_of c.args.jobs.now in
+    let files : c.into_files.result.items ≡ c.run_jobs.new.keep.files.items = ap (λ v. v.items) c.into_files.ensures in
+    all_written links new jobs c.args.wanted.now c.into_files.result.items
+    (ap (map wanted_of) files ∙ c.run_jobs.ensures.later.wanted ∙ c.in_ok-keep.ensures.wanted)
+    c.requires.jobs
+    (subst (λ (l : List Filed). AllDone jobs links (map (kept_of new) l)) (sym files) c.in_ok-run_jobs.ensures.done)
+    (subst (AllTidy new) (sym files) c.in_ok-run_jobs.ensures.agrees)
+
+pub returns-clause-left : goal.returns-clause-left
+returns-clause-left g c = left_is (map job_of c.args.jobs.now) (map g.L.Link.link_state c.args.links.now.items) c.args.lost.now.items c.run_jobs.new.lost.items (map g.L.Link.link_state c.run_jobs.new.links.items) c.in_ok-run_jobs.ensures.left

@@ -1,0 +1,154 @@
+-- Why the files of a backup aren't all in their places. Own.
+use Rattle.std.specs.Prelude.{ℕ, Bool, true, false, ◌≡◌, ◌<◌, [], ◌∷◌, List, ◌++◌, length, Option, Some, None, map, string_bytes, slice_get}
+use Rattle.sha1.specs.Sha1.{sha1}
+use Rattle.pgb_outside.specs.Cause.{Rises}
+use Rattle.pgb_outside.specs.Links.{LinkState, last_five}
+use Rattle.pgb_outside.specs.declared.stop.Stop.{Stop}
+use Rattle.pgb_outside.specs.declared.stop.Stop.TheVariants as stops
+use Rattle.pgb_text.specs.declared.sum.Sum.{Sum}
+use Rattle.pgb_model.specs.declared.labels.Label.{Label}
+use Rattle.pgb_model.specs.Text.{Text, In}
+use Rattle.pgb_model.specs.Values.{FileEntry}
+use Rattle.pgb_worker_frame.specs.Frames.{Item, Job, spell}
+use Rattle.pgb_worker_frame.specs.Frames.Frame.{Unread}
+use Rattle.pgb_worker_keep.specs.declared.ItemEnd.{ItemEnd}
+use Rattle.pgb_worker_keep.specs.declared.ItemEnd.TheVariants.{Whole, Vanished}
+use Rattle.pgb_worker_reply.specs.Reads.{UnreadBy}
+use Rattle.pgb_worker_dispatch.specs.Run.{AllLost, UnreadLeaves, begun}
+use Rattle.pgb_worker_dispatch.specs.declared.fault.Lost.{Lost}
+use Rattle.pgb_worker_dispatch.specs.declared.fault.DispatchFault.{DispatchFault}
+use Rattle.pgb_worker_dispatch.specs.declared.fault.DispatchFault.TheVariants as dispatch
+use Rattle.pgb_fill.specs.declared.files.Wanted.{Wanted}
+use Rattle.pgb_fill.specs.declared.files.Filed.{Filed}
+use Rattle.pgb_fill.specs.Files.{is_wanted}
+use Rattle.pgb_source.specs.Sources.{source, reading}
+use Rattle.pgb_restore.specs.declared.fault.FillFault.{FillFault}
+use Rattle.pgb_restore.specs.declared.fault.FillFault.TheVariants as faults
+use Rattle.pgb_restore.specs.Written.{IsReadOf}
+use Rattle.pgb_restore.specs.Entries.{AreOf}
+
+abbrev pub of_stop : Stop → FillFault
+of_stop stops.Failed = faults.Tree
+of_stop stops.NoMemory = faults.NoMemory
+
+-- ---- what a run of jobs tells
+
+-- the digest that was found, where there is one
+abbrev pub found_by : Option ItemEnd → Sum → Sum
+found_by None told = told
+found_by (Some (Whole n sum)) told = sum
+found_by (Some Vanished) told = told
+
+-- the fault tells of this file, that it isn't as is wanted
+abbrev pub TellsDamage : Filed → FillFault → Type 0
+TellsDamage f (faults.FileDamaged path told found) = (string_bytes path ≡ f.wanted.path.now) × (told ≡ f.wanted.sum) × (found ≡ found_by f.end f.wanted.sum)
+TellsDamage f faults.WorkersLost = ⊥
+TellsDamage f (faults.Unread path) = ⊥
+TellsDamage f faults.Tree = ⊥
+TellsDamage f faults.NoMemory = ⊥
+
+-- one of these files isn't as is wanted, and the fault tells of it; or memory ran out
+abbrev pub TellsWrong : List Filed → FillFault → Type 0
+TellsWrong fs (faults.FileDamaged path told found) = (i : ℕ) × (f : Filed) × (slice_get fs i ≡ Some f) × (is_wanted f.wanted f.end ≡ false) × TellsDamage f (faults.FileDamaged path told found)
+TellsWrong fs faults.WorkersLost = ⊥
+TellsWrong fs (faults.Unread path) = ⊥
+TellsWrong fs faults.Tree = ⊥
+TellsWrong fs faults.NoMemory = Unit {0}
+
+-- where a worker couldn't read a job, there is a file for the job
+abbrev pub HasItsFile : DispatchFault → ℕ → Type 0
+HasItsFile dispatch.WorkersLost n = Unit {0}
+HasItsFile (dispatch.Unread j item) n = j < n
+HasItsFile dispatch.Keep n = Unit {0}
+HasItsFile dispatch.NoMemory n = Unit {0}
+
+-- the fault of the run, by the names of files; or memory ran out
+abbrev pub Names : List Wanted → DispatchFault → FillFault → Type 0
+Names ws fault (faults.FileDamaged path told found) = ⊥
+Names ws fault faults.WorkersLost = fault ≡ dispatch.WorkersLost
+Names ws fault (faults.Unread path) = (j item : ℕ) × (w : Wanted) × (fault ≡ dispatch.Unread j item) × (slice_get ws j ≡ Some w) × (string_bytes path ≡ w.path.now)
+Names ws fault faults.Tree = fault ≡ dispatch.Keep
+Names ws fault faults.NoMemory = Unit {0}
+
+-- ---- why files weren't written
+
+-- a link read bytes of another number or digest than are wanted
+pub record IsWrongFile (links : List LinkState) (jobs : List Job) (ws : List Wanted) (path : Text) (told found : Sum) : Type 0 where
+  pub place : ℕ
+  pub wanted : Wanted
+  pub wanted_is : slice_get ws place ≡ Some wanted
+  pub job : Job
+  pub job_is : slice_get jobs place ≡ Some job
+  pub path_is : path ≡ wanted.path.now
+  pub told_is : told ≡ wanted.sum
+  pub item : Item
+  pub items : job.items ≡ item ∷ []
+  pub bytes : Text
+  pub read : IsReadOf links item bytes
+  pub found_is : found.0 ≡ sha1 bytes
+  pub wrong : ¬ ((length bytes ≡ wanted.size) × (sha1 bytes ≡ wanted.sum.0))
+
+-- the worker on the one link that is left couldn't read the file's job
+pub record IsUnreadFile (jobs : List Job) (ws : List Wanted) (links left : List LinkState) (before : List Lost) (path : Text) : Type 0 where
+  pub place : ℕ
+  pub item : ℕ
+  pub wanted : Wanted
+  pub wanted_is : slice_get ws place ≡ Some wanted
+  pub path_is : path ≡ wanted.path.now
+  pub leaves : UnreadLeaves jobs (begun links before) place item (map Some left)
+
+abbrev pub WriteFails : FillFault → List Job → List Wanted → List LinkState → List LinkState → List Lost → List Lost → ℕ → ℕ → Type 0
+WriteFails (faults.FileDamaged path told found) jobs ws links left before after old new = IsWrongFile links jobs ws (string_bytes path) told found
+WriteFails faults.WorkersLost jobs ws links left before after old new = AllLost jobs (begun links before) after
+WriteFails (faults.Unread path) jobs ws links left before after old new = IsUnreadFile jobs ws links left before (string_bytes path)
+WriteFails faults.Tree jobs ws links left before after old new = Rises old new
+WriteFails faults.NoMemory jobs ws links left before after old new = Unit {0}
+
+-- ---- why a backup's files weren't
+
+-- a link read other bytes at an entry's place than the entry tells
+pub record IsDamaged (stanza : Text) (own : Label) (links : List LinkState) (es : List FileEntry) (path : Text) (told found : Sum) : Type 0 where
+  pub entry : FileEntry
+  pub listed : In entry es
+  pub path_is : path ≡ entry.path
+  pub told_is : told.0 ≡ entry.sum
+  pub bytes : Text
+  pub read : IsReadOf links (source stanza own entry) bytes
+  pub found_is : found.0 ≡ sha1 bytes
+  pub wrong : ¬ AreOf entry bytes
+
+-- the worker on the one link that is left couldn't read an entry's job
+pub record IsUnread (stanza : Text) (own : Label) (links left : List LinkState) (es : List FileEntry) (path : Text) : Type 0 where
+  pub entry : FileEntry
+  pub listed : In entry es
+  pub path_is : path ≡ entry.path
+  pub now : LinkState
+  pub is : left ≡ now ∷ []
+  pub given : last_five now.given ≡ spell Unread
+  pub link : ℕ
+  pub from : LinkState
+  pub from_is : slice_get links link ≡ Some from
+  pub item : ℕ
+  pub unread : (i : Item) → slice_get (reading stanza own entry).items item ≡ Some i → UnreadBy from.told i
+
+-- each of these links has an entry
+pub record AreLost (links : List LinkState) (before after : List Lost) : Type 0 where
+  pub entries : List Lost
+  pub is : after ≡ before ++ entries
+  pub count : length entries ≡ length links
+
+abbrev pub FillFails : FillFault → Text → Label → List FileEntry → List LinkState → List LinkState → List Lost → List Lost → ℕ → ℕ → Type 0
+FillFails (faults.FileDamaged path told found) stanza own es links left before after old new = IsDamaged stanza own links es (string_bytes path) told found
+FillFails faults.WorkersLost stanza own es links left before after old new = AreLost links before after
+FillFails (faults.Unread path) stanza own es links left before after old new = IsUnread stanza own links left es (string_bytes path)
+FillFails faults.Tree stanza own es links left before after old new = Rises old new
+FillFails faults.NoMemory stanza own es links left before after old new = Unit {0}
+
+-- the fault of a file that was written under another name, by its own
+abbrev pub Renames : Text → FillFault → FillFault → Type 0
+Renames path (faults.FileDamaged at told found) (faults.FileDamaged own told' found') = (string_bytes own ≡ path) × (told' ≡ told) × (found' ≡ found)
+Renames path (faults.Unread at) (faults.Unread own) = string_bytes own ≡ path
+Renames path faults.WorkersLost faults.WorkersLost = Unit {0}
+Renames path faults.Tree faults.Tree = Unit {0}
+Renames path faults.NoMemory faults.NoMemory = Unit {0}
+Renames path old new = ⊥

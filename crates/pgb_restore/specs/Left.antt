@@ -1,0 +1,21 @@
+-- Which links are left behind some jobs. Own.
+use Rattle.std.specs.Prelude.{ℕ, ◌≡◌, ◌+◌, List, ◌++◌, length, Some, slice_get}
+use Rattle.pgb_outside.specs.Links.{LinkState}
+use Rattle.pgb_worker_reply.specs.Going.{IsSame}
+use Rattle.pgb_worker_dispatch.specs.Run.{IsReady}
+use Rattle.pgb_worker_dispatch.specs.declared.fault.Lost.{Lost}
+
+-- a link that is ready, and reads what one of those reads
+pub record IsOneOf (links : List LinkState) (s : LinkState) : Type 0 where
+  pub ready : IsReady s
+  pub link : ℕ
+  pub from : LinkState
+  pub is : slice_get links link ≡ Some from
+  pub same : IsSame from.told s.told
+
+-- Each link that is left is one of those, and ready for further jobs. Each of the others has an entry.
+pub record IsLeft (links now : List LinkState) (before after : List Lost) : Type 0 where
+  pub entries : List Lost
+  pub is : after ≡ before ++ entries
+  pub count : length entries + length now ≡ length links
+  pub each : (k : ℕ) (s : LinkState) → slice_get now k ≡ Some s → IsOneOf links s

@@ -1,0 +1,40 @@
+-- From a listed tree to that of a backup without its control file. Own.
+use Rattle.std.specs.Prelude.{ℕ, Bool, true, false, not, ◌≡◌, ◌≢◌, ◌&&◌, ◌⊎◌, ◌<◌, List, [], bytes_eq, Option, Some, None, option_map}
+use Rattle.pgb_outside.specs.Links.{LinkState}
+use Rattle.pgb_outside.specs.Tree.{Nodes, folder, IsTreeListing}
+use Rattle.pgb_outside.specs.declared.tree.Node.{Node}
+use Rattle.pgb_outside.specs.declared.tree.Node.TheVariants.{File, Folder, Link, Other}
+use Rattle.pgb_model.specs.Text.{Text, In}
+use Rattle.pgb_model.specs.Values.{FileEntry, Manifest}
+use Rattle.pgb_clear.specs.Clearing.{control_path, HasFile, is_bare, Bares, without, with_folders}
+use Rattle.pgb_restore.specs.Entries.{IsFilled}
+
+abbrev pub is_folder : Node → Bool
+is_folder (File size time) = false
+is_folder Folder = true
+is_folder Link = false
+is_folder Other = false
+
+-- the control file, or what stands in its place, but no folder
+abbrev pub is_control_node : Text × Node → Bool
+is_control_node s = bytes_eq s.0 control_path && not (is_folder s.1)
+
+-- the listing is of this tree, but for the control file, which was taken away
+pub record IsListedBut (g : Nodes) (seen : List (Text × Node)) : Type 0 where
+  pub listed : Nodes
+  pub listing : IsTreeListing listed seen
+  pub others : (q : Text) → q ≢ control_path → g q ≡ listed q
+  pub control : (g control_path ≡ None) ⊎ ((g control_path ≡ Some folder) × (listed control_path ≡ Some folder))
+
+-- a listed tree without what the manifest hasn't, with its folders and its files without bytes
+pub record IsPrepared (m : Manifest) (seen : List (Text × Node)) (old new : Option Nodes) : Type 0 where
+  pub mid : Option Nodes
+  pub mid_is : mid ≡ option_map (λ f. with_folders m.folders (without m seen f)) old
+  pub bares : Bares m.files mid new
+
+-- All of a plain restore but the control file: every other file of the manifest, its folders, and nothing else.
+pub record IsPlain (stanza : Text) (links : List LinkState) (m : Manifest) (f : Nodes) : Type 0 where
+  pub bare : (e : FileEntry) → In e m.files → is_bare e ≡ true → HasFile e.path [] f
+  pub filled : (e : FileEntry) → In e m.files → 0 < e.size → e.path ≢ control_path → IsFilled stanza m.label links e f
+  pub folder : (path : Text) → In path m.folders → f path ≡ Some folder
+  pub nothing : (path : Text) → ¬ In path m.folders → ((e : FileEntry) → In e m.files → path ≢ control_path → path ≢ e.path) → f path ≡ None

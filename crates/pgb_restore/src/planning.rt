@@ -1,0 +1,121 @@
+// Which jobs a restore has.
+ghost use Rattle.std.specs.Prelude.{◌≡◌, ◌<◌, ◌^◌, ◌++◌, true, map, length, IfOk, OnOk};
+ghost use Rattle.pgb_model.specs.InfoFiles.{IsLabel};
+ghost use Rattle.pgb_model.specs.Text.{In};
+ghost use Rattle.pgb_model.specs.Values.{FileEntry as Entry, file_entry_of};
+ghost use Rattle.pgb_table.specs.Values.{is_stanza};
+ghost use Rattle.pgb_worker_frame.specs.Views.{job_of};
+ghost use Rattle.pgb_source.specs.Sources.{IsEntry, reading};
+ghost use Rattle.pgb_restore.specs.Entries.{is_read, read_one, reads_of, want_of, want_in};
+
+use pgb_clear::is_control;
+use pgb_fill::Wanted;
+use pgb_model::{FileEntry, Label};
+use pgb_source::source_job;
+use pgb_text::NoMemory;
+use pgb_worker_frame::Job;
+use std::alloc::Global;
+
+// The read jobs of a restore, and the files that they are for.
+#[derive(Drop)]
+pub(crate) struct Planned<'a> {
+    pub(crate) jobs: Vec<Job>,
+    pub(crate) wanted: Vec<Wanted<'a>>,
+}
+
+// Whether a file has bytes, and isn't the control file.
+fn is_read(file: &FileEntry) -> bool
+    ensures { result ≡ is_read (file_entry_of file.now) }
+{
+    file.size > 0 && !is_control(&file.path)
+}
+
+fn want<'a>(file: &'a FileEntry) -> Wanted<'a>
+    ensures { want_in result ≡ want_of (file_entry_of file.now) }
+{
+    Wanted {
+        path: &file.path,
+        size: file.size,
+        sum: file.sum,
+    }
+}
+
+// Adds the job of a file that is to be read.
+fn add_file<'a>(
+    alloc: Global,
+    planned: &mut Planned<'a>,
+    stanza: &str,
+    own: &Label,
+    file: &'a FileEntry,
+) -> Result<(), NoMemory>
+    requires stanza { is_stanza stanza.now ≡ true }
+    requires own { IsLabel own.now }
+    requires entry { IsEntry (file_entry_of file.now) }
+    ensures jobs { OnOk result
+        (map job_of planned.new.jobs.items
+        ≡ map job_of planned.old.jobs.items
+        ++ map (reading stanza.now own.now) (read_one (file_entry_of file.now))) }
+    ensures wanted { OnOk result
+        (map want_in planned.new.wanted.items
+        ≡ map want_in planned.old.wanted.items ++ map want_of (read_one (file_entry_of file.now))) }
+{
+    if !is_read(file) {
+        return Ok(());
+    }
+    let job = source_job(alloc, stanza, own, file)?;
+    planned.jobs.push(job)?;
+    planned.wanted.push(want(file))?;
+    Ok(())
+}
+
+// Adds the jobs of all files that are to be read.
+fn add_files<'a>(
+    alloc: Global,
+    planned: &mut Planned<'a>,
+    stanza: &str,
+    own: &Label,
+    files: &'a [FileEntry],
+) -> Result<(), NoMemory>
+    requires stanza { is_stanza stanza.now ≡ true }
+    requires own { IsLabel own.now }
+    requires entries { (e : Entry) → In e (map file_entry_of files.now) → IsEntry e }
+    ensures jobs { OnOk result
+        (map job_of planned.new.jobs.items
+        ≡ map job_of planned.old.jobs.items
+        ++ map (reading stanza.now own.now) (reads_of (map file_entry_of files.now))) }
+    ensures wanted { OnOk result
+        (map want_in planned.new.wanted.items
+        ≡ map want_in planned.old.wanted.items ++ map want_of (reads_of (map file_entry_of files.now))) }
+{
+    for file in files {
+        add_file(alloc, planned, stanza, own, file)?;
+    }
+    Ok(())
+}
+
+/// A job for each file with bytes but the control file. A plan of 2^32 jobs or more counts as want of memory.
+pub(crate) fn plan_files<'a>(
+    alloc: Global,
+    stanza: &str,
+    own: &Label,
+    files: &'a [FileEntry],
+) -> Result<Planned<'a>, NoMemory>
+    requires stanza { is_stanza stanza.now ≡ true }
+    requires own { IsLabel own.now }
+    requires entries { (e : Entry) → In e (map file_entry_of files.now) → IsEntry e }
+    ensures few { IfOk result (λ p. length p.jobs.items < 2 ^ 32) }
+    ensures jobs { IfOk result
+        (λ p. map job_of p.jobs.items ≡ map (reading stanza.now own.now) (reads_of (map file_entry_of files.now))) }
+    ensures wanted { IfOk result
+        (λ p. map want_in p.wanted.items ≡ map want_of (reads_of (map file_entry_of files.now))) }
+{
+    let mut planned = Planned {
+        jobs: Vec::new(alloc),
+        wanted: Vec::new(alloc),
+    };
+    add_files(alloc, &mut planned, stanza, own, files)?;
+    if planned.jobs.len() > u32::MAX as usize {
+        return Err(NoMemory);
+    }
+    Ok(planned)
+}

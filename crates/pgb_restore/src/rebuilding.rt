@@ -1,0 +1,129 @@
+// All files of a backup but the control file are put in their places.
+ghost use Rattle.std.specs.Prelude.{◌≡◌, ◌<◌, ◌≤◌, ◌^◌, ℕ, Some, true, map, vec_len, slice_get, OnOk, IfErr, IfSome};
+ghost use Rattle.pgb_outside.specs.Links.{LinkState};
+ghost use Rattle.pgb_outside.specs.Cause.{HasCause};
+ghost use Rattle.pgb_outside.specs.Order.{are_in_order};
+ghost use Rattle.pgb_model.specs.InfoFiles.{IsLabel};
+ghost use Rattle.pgb_model.specs.ManifestText.{IsManifest};
+ghost use Rattle.pgb_model.specs.Text.{In};
+ghost use Rattle.pgb_model.specs.Values.{FileEntry as Entry, file_entry_of, manifest_of};
+ghost use Rattle.pgb_table.specs.Values.{is_stanza};
+ghost use Rattle.pgb_worker_dispatch.specs.Run.{IsReady};
+ghost use Rattle.pgb_clear.specs.Clearing.{control_path, seen_of, IsListed, StaysNone};
+ghost use Rattle.pgb_source.specs.Sources.{IsEntry};
+ghost use Rattle.pgb_restore.specs.Entries.{reads_of, Fills};
+ghost use Rattle.pgb_restore.specs.Listed.{IsListedBut, IsPlain, IsPrepared};
+ghost use Rattle.pgb_restore.specs.Left.{IsLeft};
+ghost use Rattle.pgb_restore.specs.Faults.{FillFails};
+
+use crate::fault::FillFault;
+use crate::planning::plan_files;
+use crate::writing::write_files;
+use pgb_clear::{begin_bare, clear, make_folders};
+use pgb_model::{FileEntry, Label, Manifest};
+use pgb_outside::{Link, Seen, Stop, Tree, Turns};
+use pgb_worker_dispatch::Lost;
+use std::alloc::Global;
+
+// Makes the folder ready: nothing is left that the backup hasn't, and its folders and its files without bytes are
+// there.
+fn prepare<T: Tree>(tree: &mut T, manifest: &Manifest, seen: &[Seen]) -> Result<(), Stop>
+    requires rules { IsManifest (manifest_of manifest.now) }
+    ensures ready { OnOk result
+        (IsPrepared (manifest_of manifest.now) (map seen_of seen.now) (T.state tree.old).nodes
+        (T.state tree.new).nodes) }
+    ensures control { StaysNone control_path (T.state tree.old).nodes (T.state tree.new).nodes }
+    // Where all that is there is listed, no call is faulty: each folder is made before what lies in it.
+    ensures proper { IfSome (T.state tree.old).nodes (IsListed (map seen_of seen.now))
+        → (T.state tree.new).misuses ≡ (T.state tree.old).misuses }
+    ensures opened { (T.state tree.new).opened ≡ (T.state tree.old).opened }
+    ensures cause { HasCause (T.state tree.old).faults (T.state tree.new).faults result }
+{
+    clear(tree, manifest, seen)?;
+    make_folders(tree, &manifest.folders)?;
+    begin_bare(tree, &manifest.files)
+}
+
+// Writes the files that have bytes, but no control file.
+fn fill<T: Tree, L: Link, U: Turns>(
+    alloc: Global,
+    stanza: &str,
+    own: &Label,
+    files: &[FileEntry],
+    links: &mut Vec<L>,
+    turns: &mut U,
+    tree: &mut T,
+    lost: &mut Vec<Lost>,
+) -> Result<(), FillFault>
+    requires few { vec_len links.old < 2 ^ 32 }
+    requires ready { (i : ℕ) (s : LinkState) → slice_get (map L.link_state links.old.items) i ≡ Some s → IsReady s }
+    requires stanza { is_stanza stanza.now ≡ true }
+    requires own { IsLabel own.now }
+    requires entries { (e : Entry) → In e (map file_entry_of files.now) → IsEntry e }
+    requires order { are_in_order (map (λ e. e.path) (map file_entry_of files.now)) ≡ true }
+    ensures fills { OnOk result
+        (Fills stanza.now own.now (map L.link_state links.old.items) (reads_of (map file_entry_of files.now))
+        (T.state tree.old).nodes (T.state tree.new).nodes) }
+    ensures control { StaysNone control_path (T.state tree.old).nodes (T.state tree.new).nodes }
+    ensures opened { (T.state tree.new).opened ≡ (T.state tree.old).opened }
+    ensures later { (T.state tree.old).faults ≤ (T.state tree.new).faults }
+    ensures left { OnOk result
+        (IsLeft (map L.link_state links.old.items) (map L.link_state links.new.items) lost.old.items lost.new.items) }
+    ensures fault { IfErr result
+        (λ e. FillFails e stanza.now own.now (map file_entry_of files.now) (map L.link_state links.old.items)
+        (map L.link_state links.new.items) lost.old.items lost.new.items (T.state tree.old).faults
+        (T.state tree.new).faults) }
+{
+    let planned = plan_files(alloc, stanza, own, files)?;
+    write_files(
+        alloc,
+        &planned.jobs,
+        &planned.wanted,
+        links,
+        turns,
+        tree,
+        lost,
+    )
+}
+
+/// Every file of a backup but the control file is put in its place, its folders are made, and nothing else is left.
+pub(crate) fn rebuild<T: Tree, L: Link, U: Turns>(
+    alloc: Global,
+    stanza: &str,
+    manifest: &Manifest,
+    seen: &[Seen],
+    links: &mut Vec<L>,
+    turns: &mut U,
+    tree: &mut T,
+    lost: &mut Vec<Lost>,
+) -> Result<(), FillFault>
+    requires few { vec_len links.old < 2 ^ 32 }
+    requires ready { (i : ℕ) (s : LinkState) → slice_get (map L.link_state links.old.items) i ≡ Some s → IsReady s }
+    requires stanza { is_stanza stanza.now ≡ true }
+    requires rules { IsManifest (manifest_of manifest.now) }
+    requires seen { IfSome (T.state tree.old).nodes (λ f. IsListedBut f (map seen_of seen.now)) }
+    ensures plain { OnOk result
+        (IfSome (T.state tree.new).nodes
+        (IsPlain stanza.now (map L.link_state links.old.items) (manifest_of manifest.now))) }
+    ensures control { StaysNone control_path (T.state tree.old).nodes (T.state tree.new).nodes }
+    ensures opened { (T.state tree.new).opened ≡ (T.state tree.old).opened }
+    ensures later { (T.state tree.old).faults ≤ (T.state tree.new).faults }
+    ensures left { OnOk result
+        (IsLeft (map L.link_state links.old.items) (map L.link_state links.new.items) lost.old.items lost.new.items) }
+    ensures fault { IfErr result
+        (λ e. FillFails e stanza.now manifest.now.label (manifest_of manifest.now).files
+        (map L.link_state links.old.items) (map L.link_state links.new.items) lost.old.items lost.new.items
+        (T.state tree.old).faults (T.state tree.new).faults) }
+{
+    prepare(tree, manifest, seen)?;
+    fill(
+        alloc,
+        stanza,
+        &manifest.label,
+        &manifest.files,
+        links,
+        turns,
+        tree,
+        lost,
+    )
+}

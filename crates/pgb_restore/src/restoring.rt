@@ -1,0 +1,132 @@
+// A backup is put into a data folder: everything else first, the control file last.
+ghost use Rattle.std.specs.Prelude.{◌≡◌, ◌⊎◌, ◌<◌, ◌≤◌, ◌^◌, ℕ, Some, true, map, vec_len, slice_get, OnOk, OnErr, IfErr, IfSome};
+ghost use Rattle.std.specs.List.{list_any};
+ghost use Rattle.pgb_outside.specs.Cause.{HasCause};
+ghost use Rattle.pgb_outside.specs.Links.{LinkState};
+ghost use Rattle.pgb_outside.specs.Tree.{IsTreeListing};
+ghost use Rattle.pgb_model.specs.ManifestText.{IsManifest};
+ghost use Rattle.pgb_model.specs.Values.{manifest_of};
+ghost use Rattle.pgb_table.specs.Values.{is_stanza};
+ghost use Rattle.pgb_worker_dispatch.specs.Run.{IsReady};
+ghost use Rattle.pgb_clear.specs.Clearing.{control_path, seen_of, HasNone, StaysNone};
+ghost use Rattle.pgb_restore.specs.Listed.{is_control_node, IsListedBut};
+ghost use Rattle.pgb_restore.specs.Finished.{IsFinished, Finishes, Restores};
+ghost use Rattle.pgb_restore.specs.Faults.{FillFails};
+
+use crate::control::{control_of, put_control};
+use crate::fault::FillFault;
+use crate::rebuilding::rebuild;
+use pgb_clear::is_control;
+use pgb_model::Manifest;
+use pgb_outside::{Link, Node, Seen, Stop, Tree, Turns};
+use pgb_worker_dispatch::Lost;
+use std::alloc::Global;
+
+const CONTROL: &str = "global/pg_control";
+
+// Whether it is the control file, or what stands in its place, but no folder.
+fn is_control_node(node: &Seen) -> bool
+    ensures { result ≡ is_control_node (seen_of node.now) }
+{
+    is_control(&node.path) && !matches!(&node.node, Node::Folder)
+}
+
+fn has_control(seen: &[Seen]) -> bool
+    ensures { result ≡ list_any (λ s. is_control_node (seen_of s)) seen.now }
+{
+    seen.iter().any(|node| is_control_node(node))
+}
+
+// Takes the control file away before anything else.
+fn remove_control<T: Tree>(tree: &mut T, seen: &[Seen]) -> Result<(), Stop>
+    requires seen { IfSome (T.state tree.old).nodes (λ f. IsTreeListing f (map seen_of seen.now)) }
+    ensures listed { OnOk result (IfSome (T.state tree.new).nodes (λ f. IsListedBut f (map seen_of seen.now))) }
+    ensures none { OnOk result (HasNone control_path (T.state tree.new).nodes) }
+    ensures same { OnErr result ((T.state tree.new).nodes ≡ (T.state tree.old).nodes) }
+    ensures opened { (T.state tree.new).opened ≡ (T.state tree.old).opened }
+    ensures cause { HasCause (T.state tree.old).faults (T.state tree.new).faults result }
+{
+    if has_control(seen) {
+        return tree.remove(CONTROL);
+    }
+    Ok(())
+}
+
+// The control file comes last, where there is one.
+fn put_last<T: Tree, L: Link, U: Turns>(
+    alloc: Global,
+    stanza: &str,
+    manifest: &Manifest,
+    links: &mut Vec<L>,
+    turns: &mut U,
+    tree: &mut T,
+    lost: &mut Vec<Lost>,
+) -> Result<(), FillFault>
+    requires few { vec_len links.old < 2 ^ 32 }
+    requires ready { (i : ℕ) (s : LinkState) → slice_get (map L.link_state links.old.items) i ≡ Some s → IsReady s }
+    requires stanza { is_stanza stanza.now ≡ true }
+    requires rules { IsManifest (manifest_of manifest.now) }
+    ensures finishes { OnOk result
+        (Finishes stanza.now (map L.link_state links.old.items) (manifest_of manifest.now) (T.state tree.old).nodes
+        (T.state tree.new).nodes) }
+    ensures none { OnErr result (StaysNone control_path (T.state tree.old).nodes (T.state tree.new).nodes) }
+    ensures opened { (T.state tree.new).opened ≡ (T.state tree.old).opened }
+    ensures later { (T.state tree.old).faults ≤ (T.state tree.new).faults }
+    ensures fault { IfErr result
+        (λ e. FillFails e stanza.now manifest.now.label (manifest_of manifest.now).files
+        (map L.link_state links.old.items) (map L.link_state links.new.items) lost.old.items lost.new.items
+        (T.state tree.old).faults (T.state tree.new).faults) }
+{
+    match control_of(&manifest.files) {
+        Some(file) => put_control(
+            alloc,
+            stanza,
+            &manifest.label,
+            file,
+            links,
+            turns,
+            tree,
+            lost,
+        ),
+        None => Ok(()),
+    }
+}
+
+/// Restores a backup into a data folder that was listed just before, without settings of a recovery.
+pub fn restore_plain<T: Tree, L: Link, U: Turns>(
+    alloc: Global,
+    stanza: &str,
+    manifest: &Manifest,
+    seen: &[Seen],
+    links: &mut Vec<L>,
+    turns: &mut U,
+    tree: &mut T,
+    lost: &mut Vec<Lost>,
+) -> Result<(), FillFault>
+    requires few { vec_len links.old < 2 ^ 32 }
+    requires ready { (i : ℕ) (s : LinkState) → slice_get (map L.link_state links.old.items) i ≡ Some s → IsReady s }
+    requires stanza { is_stanza stanza.now ≡ true }
+    requires rules { IsManifest (manifest_of manifest.now) }
+    requires seen { IfSome (T.state tree.old).nodes (λ f. IsTreeListing f (map seen_of seen.now)) }
+    // The tree has each file of the manifest, with bytes that a link read at its place, its folders, and nothing else.
+    ensures finished { OnOk result
+        (IfSome (T.state tree.new).nodes
+        (IsFinished stanza.now (map L.link_state links.old.items) (manifest_of manifest.now))) }
+    // Over links that read the repository it is the restored tree of the manifest's backup.
+    ensures restored { OnOk result
+        (IfSome (T.state tree.new).nodes
+        (Restores stanza.now (map L.link_state links.old.items) (manifest_of manifest.now))) }
+    // After a refusal there is no control file, unless nothing was changed.
+    ensures control { OnErr result
+        (((T.state tree.new).nodes ≡ (T.state tree.old).nodes) ⊎ HasNone control_path (T.state tree.new).nodes) }
+    ensures opened { (T.state tree.new).opened ≡ (T.state tree.old).opened }
+    ensures later { (T.state tree.old).faults ≤ (T.state tree.new).faults }
+    ensures fault { IfErr result
+        (λ e. FillFails e stanza.now manifest.now.label (manifest_of manifest.now).files
+        (map L.link_state links.old.items) (map L.link_state links.new.items) lost.old.items lost.new.items
+        (T.state tree.old).faults (T.state tree.new).faults) }
+{
+    remove_control(tree, seen)?;
+    rebuild(alloc, stanza, manifest, seen, links, turns, tree, lost)?;
+    put_last(alloc, stanza, manifest, links, turns, tree, lost)
+}

@@ -1,0 +1,66 @@
+// Files are written by workers, or the first that isn't is told.
+ghost use Rattle.std.specs.Prelude.{◌≡◌, ◌<◌, ◌≤◌, ◌^◌, ℕ, Some, All, map, length, vec_len, slice_get, IfErr, OnOk};
+ghost use Rattle.pgb_outside.specs.Content.{at};
+ghost use Rattle.pgb_outside.specs.Links.{LinkState};
+ghost use Rattle.pgb_model.specs.Text.{Text};
+ghost use Rattle.pgb_worker_frame.specs.Frames.{FitsJob};
+ghost use Rattle.pgb_worker_frame.specs.Views.{job_of};
+ghost use Rattle.pgb_worker_dispatch.specs.Counts.{ReadsRise};
+ghost use Rattle.pgb_worker_dispatch.specs.Run.{AddsLosses, IsReady};
+ghost use Rattle.pgb_fill.specs.Apart.{AreApart};
+ghost use Rattle.pgb_fill.specs.Keeping.{IsNoneOf};
+ghost use Rattle.pgb_restore.specs.Written.{AreJobsOf, AllFetched};
+ghost use Rattle.pgb_restore.specs.Left.{IsLeft};
+ghost use Rattle.pgb_restore.specs.Faults.{WriteFails};
+
+use crate::checking::{check_files, named};
+use crate::fault::FillFault;
+use crate::running::run_files;
+use pgb_fill::Wanted;
+use pgb_outside::{Link, Tree, Turns};
+use pgb_worker_dispatch::Lost;
+use pgb_worker_frame::Job;
+use std::alloc::Global;
+
+/// Has each file read by its job and written. A file whose bytes aren't those that are wanted is refused after all
+/// were read.
+pub fn write_files<'a, T: Tree, L: Link, U: Turns>(
+    alloc: Global,
+    jobs: &'a [Job],
+    wanted: &[Wanted<'a>],
+    links: &mut Vec<L>,
+    turns: &mut U,
+    tree: &mut T,
+    lost: &mut Vec<Lost>,
+) -> Result<(), FillFault>
+    requires few { vec_len links.old < 2 ^ 32 }
+    requires few_jobs { length jobs.now < 2 ^ 32 }
+    requires fits { All (λ j. FitsJob (job_of j)) jobs.now }
+    requires ready { (i : ℕ) (s : LinkState) → slice_get (map L.link_state links.old.items) i ≡ Some s → IsReady s }
+    requires jobs { AreJobsOf wanted.now (map job_of jobs.now) }
+    requires apart { AreApart (map (λ w. w.path.now) wanted.now) }
+    // Each file has bytes that a link read, with the number and the digest that are wanted.
+    ensures fetched { OnOk result
+        (AllFetched (map L.link_state links.old.items) (T.state tree.new).nodes (map job_of jobs.now) wanted.now) }
+    // Whatever comes of it, only these files and their temporary names have changed.
+    ensures others { (q : Text) → IsNoneOf wanted.now q
+        → at q (T.state tree.new).nodes ≡ at q (T.state tree.old).nodes }
+    ensures opened { (T.state tree.new).opened ≡ (T.state tree.old).opened }
+    ensures later { (T.state tree.old).faults ≤ (T.state tree.new).faults }
+    // The links that weren't lost are left at Ok, and each of the others is told.
+    ensures left { OnOk result
+        (IsLeft (map L.link_state links.old.items) (map L.link_state links.new.items) lost.old.items lost.new.items) }
+    ensures some { OnOk result (0 < length links.old.items → 0 < length links.new.items) }
+    ensures reads { OnOk result
+        (ReadsRise (map job_of jobs.now) (map L.link_state links.old.items) (map L.link_state links.new.items)) }
+    ensures told { AddsLosses (map job_of jobs.now) (map L.link_state links.old.items) lost.old.items lost.new.items }
+    ensures fault { IfErr result
+        (λ e. WriteFails e (map job_of jobs.now) wanted.now (map L.link_state links.old.items)
+        (map L.link_state links.new.items) lost.old.items lost.new.items (T.state tree.old).faults
+        (T.state tree.new).faults) }
+{
+    match run_files(alloc, jobs, wanted, links, turns, tree, lost) {
+        Ok(files) => check_files(alloc, &files),
+        Err(fault) => Err(named(alloc, wanted, fault)?),
+    }
+}
