@@ -53,6 +53,14 @@ fn contents(alloc: Global, disk: &mut MemDisk) -> Result<String, AllocError> {
 const CONTENTS: &str =
     "PG_VERSION 3 Some([49, 53, 10]); base/1/112 5 Some([104, 101, 108, 108, 111]); base/1/113 0 None; global/pg_control 4 Some([104, 101, 97, 100]); ";
 
+/// A disk with a backup.
+pub(crate) fn backed_up_well(rt: &impl Abort, alloc: Global) -> MemDisk {
+    let mut disk = well(rt, disk_of(alloc, &[]));
+    let ending = well(rt, told(alloc, &mut disk, &[], FILES, &[&[]]));
+    same(rt, ending.as_str(), "made");
+    disk
+}
+
 fn check_made(rt: &impl Abort, alloc: Global, fails: &[&[u64]]) {
     let mut disk = well(rt, disk_of(alloc, &[]));
     let ending = well(rt, told(alloc, &mut disk, &[], FILES, fails));

@@ -1,11 +1,14 @@
-//! Tests of backups: one is made over devices in memory, with each call of each device failing in turn, and at each of its
-//! moments stopped; and which second names it. By values from outside.
+//! Tests of backups and restores over devices in memory: one is made, with each call of the disk failing in turn, and at
+//! each of its moments stopped; it is restored, with each call of the data folder failing in turn; and which second names
+//! a backup. By values from outside.
 #![tactic(auto)]
 
 #[cfg(test)]
 mod backups;
 #[cfg(test)]
 mod fixture;
+#[cfg(test)]
+mod restores;
 #[cfg(test)]
 mod same;
 #[cfg(test)]

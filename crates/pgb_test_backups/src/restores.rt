@@ -1,0 +1,209 @@
+// Restores of a backup over devices in memory.
+ghost use Rattle.std.specs.Prelude.{◌≡◌, ℕ, Some, IfOk, length, map, slice_get};
+ghost use Rattle.pgb_outside.specs.Links.{LinkState};
+ghost use Rattle.pgb_worker_dispatch.specs.Run.{IsReady};
+
+use crate::backups::backed_up_well;
+use crate::fixture::SECOND;
+use crate::same::{same, well};
+use pgb_manifest::load_manifest;
+use pgb_memory::{MemDisk, MemNode, MemTree};
+use pgb_model::Label;
+use pgb_outside::{Link, Tree};
+use pgb_restore::restore_plain;
+use pgb_worker_links::{MemLink, MemTurns};
+use std::alloc::{AllocError, Global};
+
+// The names of a disk with their bytes, but with these bytes at one of them, or without it.
+fn names_of(
+    alloc: Global,
+    disk: &MemDisk,
+    other: Option<(&str, Option<&[u8]>)>,
+) -> Result<Vec<(String, Vec<u8>)>, AllocError> {
+    let names = match disk.image(alloc, disk.moment(), &[], &[]) {
+        Ok(names) => names,
+        Err(_) => Vec::new(alloc),
+    };
+    let mut changed = Vec::new(alloc);
+    for (name, bytes) in names {
+        match other {
+            Some((path, None)) if path == name.as_str() => {}
+            Some((path, Some(given))) if path == name.as_str() => {
+                changed.push((name, given.to_vec(alloc)?))?;
+            }
+            _ => changed.push((name, bytes))?,
+        }
+    }
+    Ok(changed)
+}
+
+// A link to a worker that reads these names of the repository.
+fn links_over(
+    alloc: Global,
+    disk: &MemDisk,
+    other: Option<(&str, Option<&[u8]>)>,
+    fail: &[u64],
+) -> Result<Vec<MemLink>, AllocError>
+    ensures count { IfOk result (λ links. length links.items ≡ 1) }
+    ensures ready { IfOk result (λ links. (i : ℕ) (s : LinkState)
+        → slice_get (map ⟦<MemLink as Link>⟧.link_state links.items) i ≡ Some s → IsReady s) }
+{
+    let names = names_of(alloc, disk, other)?;
+    let link = MemLink::new(alloc, Vec::new(alloc), names, fail.to_vec(alloc)?)?;
+    let mut links = Vec::new(alloc);
+    links.push(link)?;
+    Ok(links)
+}
+
+// A data folder with these files and folders, in byte order; a folder has no bytes.
+fn tree_of(
+    alloc: Global,
+    nodes: &[(&str, Option<&[u8]>)],
+    fail: &[u64],
+) -> Result<MemTree, AllocError> {
+    let mut given = Vec::new(alloc);
+    for (path, bytes) in nodes {
+        let node = match bytes {
+            Some(bytes) => MemNode::File {
+                bytes: bytes.to_vec(alloc)?,
+                time: 1,
+            },
+            None => MemNode::Folder,
+        };
+        given.push((String::from_str(alloc, path)?, node))?;
+    }
+    match MemTree::new(alloc, given, fail.to_vec(alloc)?) {
+        Ok(tree) => Ok(tree),
+        Err(_) => Err(AllocError),
+    }
+}
+
+// All that a data folder holds.
+fn held_by(alloc: Global, tree: &mut MemTree) -> Result<String, AllocError> {
+    let mut text = String::new(alloc);
+    let seen = match tree.list(alloc) {
+        Ok(seen) => seen,
+        Err(_) => return format!(in alloc; "no listing"),
+    };
+    for node in &seen {
+        let path = node.path.as_str();
+        match tree.node(path) {
+            Some(MemNode::File { bytes, .. }) => write!(text, "{path} {}; ", bytes.len())?,
+            _ => write!(text, "{path}/; ")?,
+        }
+    }
+    Ok(text)
+}
+
+// What comes of a restore of the disk's backup into the folder.
+fn restored(
+    alloc: Global,
+    disk: &mut MemDisk,
+    tree: &mut MemTree,
+    other: Option<(&str, Option<&[u8]>)>,
+    fail: &[u64],
+) -> Result<String, AllocError> {
+    let mut links = links_over(alloc, disk, other, fail)?;
+    let label = Label {
+        full: SECOND,
+        later: None,
+    };
+    let manifest = match load_manifest(alloc, disk, "demo", &label) {
+        Ok(manifest) => manifest,
+        Err(fault) => return format!(in alloc; "{fault:?}"),
+    };
+    let seen = match tree.list(alloc) {
+        Ok(seen) => seen,
+        Err(_) => return format!(in alloc; "no listing"),
+    };
+    let mut turns = MemTurns::new(Vec::new(alloc));
+    let mut lost = Vec::new(alloc);
+    let ending = restore_plain(
+        alloc, "demo", &manifest, &seen, &mut links, &mut turns, tree, &mut lost,
+    );
+    match ending {
+        Ok(()) => format!(in alloc; "restored"),
+        Err(fault) => format!(in alloc; "{fault:?}"),
+    }
+}
+
+const WHOLE: &str =
+    "PG_VERSION 3; base/; base/1/; base/1/112 5; base/1/113 0; global/; global/pg_control 4; ";
+
+/// What the folder holds before.
+const BEFORE: &[&[(&str, Option<&[u8]>)]] = &[
+    &[],
+    &[
+        ("PG_VERSION", Some(b"14\n")),
+        ("base", Some(b"no folder")),
+        ("global", None),
+        ("global/pg_control", Some(b"older")),
+        ("pg_wal", None),
+        ("pg_wal/000000010000000000000001", Some(b"log")),
+    ],
+    &[
+        ("base", None),
+        ("base/1", None),
+        ("base/1/112", None),
+        ("base/1/112/x", Some(b"x")),
+        ("global", None),
+        ("global/pg_control", None),
+    ],
+];
+
+#[test]
+fn into_each_folder(rt: HostRuntime) {
+    let alloc = rt.alloc();
+    let mut disk = backed_up_well(&rt, alloc);
+    for nodes in BEFORE {
+        let mut tree = well(&rt, tree_of(alloc, nodes, &[]));
+        let ending = well(&rt, restored(alloc, &mut disk, &mut tree, None, &[]));
+        same(&rt, ending.as_str(), "restored");
+        same(&rt, well(&rt, held_by(alloc, &mut tree)).as_str(), WHOLE);
+        same(&rt, tree.misuses(), 0);
+    }
+}
+
+#[test]
+fn each_call_of_the_folder_fails(rt: HostRuntime) {
+    let alloc = rt.alloc();
+    let mut disk = backed_up_well(&rt, alloc);
+    for number in 1u64..60 {
+        let mut tree = well(&rt, tree_of(alloc, BEFORE[1], &[number]));
+        let ending = well(&rt, restored(alloc, &mut disk, &mut tree, None, &[]));
+        if tree.faults() == 0 {
+            same(&rt, ending.as_str(), "restored");
+            return;
+        }
+        same(&rt, ending.as_str(), "Tree");
+        // the first call of a restore removes the control file
+        let has_control = tree.node("global/pg_control").is_some();
+        same(&rt, has_control, number == 1);
+    }
+    panic!(&rt; "nothing is restored without a fault");
+}
+
+const STORED: &str = "backup/demo/20240102-030405F/pg_data/base/1/112";
+
+/// The bytes of a stored file, the calls of the worker that fail, and what comes of it.
+const ENDINGS: &[(Option<&[u8]>, &[u64], &str)] = &[
+    (Some(b"hello"), &[], "restored"),
+    (Some(b"hellp"), &[], "FileDamaged"),
+    (Some(b"hell"), &[], "FileDamaged"),
+    (None, &[], "Unread"),
+    (Some(b"hello"), &[0], "WorkersLost"),
+];
+
+#[test]
+fn endings(rt: HostRuntime) {
+    let alloc = rt.alloc();
+    let mut disk = backed_up_well(&rt, alloc);
+    for (stored, fail, want) in ENDINGS {
+        let mut tree = well(&rt, tree_of(alloc, BEFORE[1], &[]));
+        let other = Some((STORED, *stored));
+        let ending = well(&rt, restored(alloc, &mut disk, &mut tree, other, fail));
+        assert!(&rt; ending.starts_with(*want), "found {ending}, want {want}");
+        let has_control = tree.node("global/pg_control").is_some();
+        same(&rt, has_control, *want == "restored");
+    }
+}
