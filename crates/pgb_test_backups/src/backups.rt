@@ -27,7 +27,7 @@ fn told(
     fails: &[&[u64]],
 ) -> Result<String, AllocError> {
     let mut clock = clock_of(alloc, clock_fails)?;
-    let mut links = links_to(alloc, files, fails)?;
+    let mut links = links_to(alloc, files, &[], fails)?;
     backed_up(alloc, disk, &mut clock, &mut links, NODES)
 }
 

@@ -61,10 +61,24 @@ pub(crate) fn reopened(alloc: Global, disk: &MemDisk, fail: &[u64]) -> Result<Me
     MemDisk::new(alloc, names, fail.to_vec(alloc)?)
 }
 
-/// As many links as there are lists of calls that fail, each to a worker whose data folder holds these files.
+// The same names with the same bytes.
+fn copied(
+    alloc: Global,
+    names: &[(String, Vec<u8>)],
+) -> Result<Vec<(String, Vec<u8>)>, AllocError> {
+    let mut copy = Vec::new(alloc);
+    for (name, bytes) in names {
+        copy.push((name.clone()?, bytes.clone()?))?;
+    }
+    Ok(copy)
+}
+
+/// As many links as there are lists of calls that fail, each to a worker whose data folder holds these files, and whose
+/// repository these names.
 pub(crate) fn links_to(
     alloc: Global,
     files: &[(&str, &[u8])],
+    names: &[(String, Vec<u8>)],
     fails: &[&[u64]],
 ) -> Result<Vec<MemLink>, AllocError>
     ensures count { IfOk result (λ links. length links.items ≡ length fails.now) }
@@ -74,7 +88,8 @@ pub(crate) fn links_to(
     let mut links = Vec::new(alloc);
     for fail in fails {
         let tree = named_bytes(alloc, files)?;
-        links.push(MemLink::new(alloc, tree, Vec::new(alloc), fail.to_vec(alloc)?)?)?;
+        let repo = copied(alloc, names)?;
+        links.push(MemLink::new(alloc, tree, repo, fail.to_vec(alloc)?)?)?;
     }
     Ok(links)
 }

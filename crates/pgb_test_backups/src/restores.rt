@@ -1,17 +1,13 @@
 // Restores of a backup over devices in memory.
-ghost use Rattle.std.specs.Prelude.{◌≡◌, ℕ, Some, IfOk, length, map, slice_get};
-ghost use Rattle.pgb_outside.specs.Links.{LinkState};
-ghost use Rattle.pgb_worker_dispatch.specs.Run.{IsReady};
-
 use crate::backups::backed_up_well;
-use crate::fixture::SECOND;
+use crate::fixture::{SECOND, links_to};
 use crate::same::{same, well};
 use pgb_manifest::load_manifest;
 use pgb_memory::{MemDisk, MemNode, MemTree};
 use pgb_model::Label;
-use pgb_outside::{Link, Tree};
+use pgb_outside::Tree;
 use pgb_restore::restore_plain;
-use pgb_worker_links::{MemLink, MemTurns};
+use pgb_worker_links::MemTurns;
 use std::alloc::{AllocError, Global};
 
 // The names of a disk with their bytes, but with these bytes at one of them, or without it.
@@ -35,24 +31,6 @@ fn names_of(
         }
     }
     Ok(changed)
-}
-
-// A link to a worker that reads these names of the repository.
-fn links_over(
-    alloc: Global,
-    disk: &MemDisk,
-    other: Option<(&str, Option<&[u8]>)>,
-    fail: &[u64],
-) -> Result<Vec<MemLink>, AllocError>
-    ensures count { IfOk result (λ links. length links.items ≡ 1) }
-    ensures ready { IfOk result (λ links. (i : ℕ) (s : LinkState)
-        → slice_get (map ⟦<MemLink as Link>⟧.link_state links.items) i ≡ Some s → IsReady s) }
-{
-    let names = names_of(alloc, disk, other)?;
-    let link = MemLink::new(alloc, Vec::new(alloc), names, fail.to_vec(alloc)?)?;
-    let mut links = Vec::new(alloc);
-    links.push(link)?;
-    Ok(links)
 }
 
 // A data folder with these files and folders, in byte order; a folder has no bytes.
@@ -103,7 +81,8 @@ fn restored(
     other: Option<(&str, Option<&[u8]>)>,
     fail: &[u64],
 ) -> Result<String, AllocError> {
-    let mut links = links_over(alloc, disk, other, fail)?;
+    let names = names_of(alloc, disk, other)?;
+    let mut links = links_to(alloc, &[], &names, &[fail])?;
     let label = Label {
         full: SECOND,
         later: None,
