@@ -78,6 +78,7 @@ module _ (a : Asked) (b k : Seen) (o : SinkState) (le : k.out.faults ≤ o.fault
     healed = on_ok r (HealsPairs a b k) (HealsPairs a b written) (λ h. record { agree = h.agree; lasts = h.lasts }) did.healed;
     spares = record {
       beside = did.spares.beside;
+      pairs = did.spares.pairs;
       reads = did.spares.reads;
       folder = did.spares.folder;
       nodes = did.spares.nodes;

@@ -6,6 +6,8 @@ use Rattle.pgb_outside.specs.Content.{Content}
 use Rattle.pgb_outside.specs.Moments.{View, Rests}
 use Rattle.pgb_outside.specs.States.{IsOpened, OpensOnly, WireState}
 use Rattle.pgb_outside.specs.Tree.{Nodes}
+use Rattle.pgb_disk.proofs.Changes.{only_on, only_rests}
+use Rattle.pgb_stanza.specs.Owned.{IsOfPairs}
 use Rattle.pgb_archive.specs.Still.{IsStill, rests_none, still_self, still_on}
 use Rattle.pgb_model.specs.Text.{Text}
 use Rattle.pgb_model.specs.Steps.{Command}
@@ -163,6 +165,7 @@ closes_from b m k le NoMemory h = tt
 pub spares_on : (a : Asked) (b m k : Seen) (r : Result Outcome Fault) → StaysBeside a.stanza b.repo.view m.repo.view → OnReader a.request (IsStill b.repo.view m.repo.view) → OnCreate a.request (IsStill b.repo.view m.repo.view) → m.tree.nodes ≡ b.tree.nodes → m.server ≡ b.server → Spares a m k r → Spares a b k r
 spares_on a b m k r beside reads creates nodes server s = record {
   beside = beside_on a.stanza b.repo.view m.repo.view k.repo.view beside s.beside;
+  pairs = create_on a.request _ _ _ (λ (p : IsStill b.repo.view m.repo.view) h. only_on (IsOfPairs a.stanza) b.repo.view m.repo.view k.repo.view (only_rests (IsOfPairs a.stanza) b.repo.view m.repo.view p.time p.now) h) creates s.pairs;
   reads = reader_on a.request _ _ _ (still_on b.repo.view m.repo.view k.repo.view) reads s.reads;
   folder = folder_on a a.request b m k reads nodes s.folder;
   nodes = none_as (reached_of (ending_of r)) _ _ (λ h. h ∙ nodes) s.nodes;
@@ -176,6 +179,7 @@ spares_on a b m k r beside reads creates nodes server s = record {
 pub spares_none : (a : Asked) (b k : Seen) (fault : Fault) → StaysBeside a.stanza b.repo.view k.repo.view → OnReader a.request (IsStill b.repo.view k.repo.view) → OnCreate a.request (IsStill b.repo.view k.repo.view) → k.tree.nodes ≡ b.tree.nodes → k.server ≡ b.server → Closes b k fault → Spares a b k (Err fault)
 spares_none a b k fault beside reads creates nodes server closes = record {
   beside = beside;
+  pairs = create_on a.request _ (Unit {0}) _ (λ (p : IsStill b.repo.view k.repo.view) h. only_rests (IsOfPairs a.stanza) b.repo.view k.repo.view p.time p.now) creates (any_create a.request (Unit {0}) tt);
   reads = reads;
   folder = folder_stays a a.request b.repo.view.now b.tree.nodes k.tree.nodes nodes;
   nodes = all_none (reached_of (ending_of (Err fault))) _ nodes;

@@ -18,6 +18,8 @@ use Rattle.pgb_command.specs.Asked.{Request, create, push, get, report, Asked, A
 use Rattle.pgb_command.specs.Causes.{IsAnswered, Carries, Answers, PartDone, Finishes, Fulfils, IsEarly, TurnsBack, LeavesRest, Completes}
 use Rattle.pgb_command.specs.Did.{IsIdle, Did, OpensIf, OpensPlaces, OnlyLocked}
 use Rattle.pgb_command.specs.Output.{IsTold, Whole, Cut, Starved, Wordless}
+use Rattle.pgb_disk.proofs.Changes.{only_rests}
+use Rattle.pgb_stanza.specs.Owned.{IsOfPairs}
 use Rattle.pgb_command.specs.Tables.{plan_of, manner_of, OnCreate}
 use Rattle.pgb_command.proofs.AskedOnce.{one_asked}
 use Rattle.pgb_command.proofs.Dids.{idle, stage_reached, any_reader, any_create, any_other, folder_stays}
@@ -119,12 +121,13 @@ module _ (a : Asked) (b k : Seen) (n : ℕ) where
   pub leaves_rest : Either a b k n → LeavesRest a b k
   leaves_rest (inl x) = record {
     beside = still_beside a.stanza b.repo.view k.repo.view x.0.repo;
+    pairs = any_create a.request _ (only_rests (IsOfPairs a.stanza) b.repo.view k.repo.view x.0.repo.time x.0.repo.now);
     reads = any_reader a.request _ x.0.repo;
     folder = folder_stays a a.request b.repo.view.now b.tree.nodes k.tree.nodes (idle_nodes b k x.0);
     quiet = λ none. x.0.server;
     others = any_other a.request _ x.0.server;
   }
-  leaves_rest (inr x) = let s = x.1.did.spares in record { beside = s.beside; reads = s.reads; folder = s.folder; quiet = s.quiet; others = s.others }
+  leaves_rest (inr x) = let s = x.1.did.spares in record { beside = s.beside; pairs = s.pairs; reads = s.reads; folder = s.folder; quiet = s.quiet; others = s.others }
 
   pub opens_places : Either a b k n → OpensPlaces a b k
   opens_places (inl x) = record { folder = opens_none (plan_of a.request).folder a.data_folder b.tree.opened k.tree.opened (ap (λ (t : TreeState). t.opened) x.0.tree); repository = inl x.0.opened }

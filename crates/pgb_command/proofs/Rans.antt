@@ -14,7 +14,9 @@ use Rattle.pgb_model.proofs.Logged.{create_spool}
 use Rattle.pgb_model.proofs.PushDone.{push_spool}
 use Rattle.pgb_options.specs.declared.options.OutputWord.{OutputWord}
 use Rattle.pgb_stanza.specs.declared.control.Control.{Control}
+use Rattle.pgb_disk.specs.Store.{ChangesOnly}
 use Rattle.pgb_stanza.specs.ControlFile.{first_cluster}
+use Rattle.pgb_stanza.specs.Owned.{IsOfPairs}
 use Rattle.pgb_archive.specs.Still.{IsStill}
 use Rattle.pgb_stage.specs.declared.object.Object.{Object}
 use Rattle.pgb_stage.specs.declared.object.Object.TheVariants.{Server as TheServer}
@@ -32,7 +34,7 @@ use Rattle.pgb_stage.specs.Reached.{OnFinished, reached_by}
 use Rattle.pgb_stage.specs.Runs.{Reached, to_end, turned_back, stopped, Does, Runs, On, OnNone, IsLookedAt, PairAlike}
 use Rattle.pgb_stage.specs.Seen.{Seen, Failed, AreLater}
 use Rattle.pgb_story.specs.Beside.{StaysBeside}
-use Rattle.pgb_stage.proofs.Besides.{still_beside}
+use Rattle.pgb_stage.proofs.Besides.{still_beside, pairs_beside}
 use Rattle.pgb_stage.proofs.Doing.{reading_does, now_told}
 use Rattle.pgb_stage.proofs.Lifted.{does_runs, reading_spool}
 use Rattle.pgb_create.specs.declared.fault.CreateFault.{CreateFault}
@@ -77,10 +79,10 @@ module _ {E : Type 0} (a : Asked) (b k : Seen) (of : E → Fault) (early : E →
 
   pub ran_of : On (manner_of a.request a.data_folder b.tree.nodes) (λ command. Runs (plan_of a.request).settling a.stanza command (reached_by early r) b.repo.view b.spool.view k.repo.view k.spool.view) → IfOk r (Promise a a.request (known b) (known k)) → IfOk r (λ o. IsLookedAt a.stanza b.repo.view → Lasts a a.request b.tree.nodes k.repo.view k.tree.nodes o) → IfErr r (HaltCause why failed) →
       OnOk r (StaysHealed a b k) →
-      StaysBeside a.stanza b.repo.view k.repo.view → OnReader a.request (IsStill b.repo.view k.repo.view) → FolderGoes a a.request b.repo.view.now b.tree.nodes k.tree.nodes → OnNone (reached_by early r) (k.tree.nodes ≡ b.tree.nodes) →
+      StaysBeside a.stanza b.repo.view k.repo.view → OnCreate a.request (ChangesOnly (IsOfPairs a.stanza) b.repo.view k.repo.view) → OnReader a.request (IsStill b.repo.view k.repo.view) → FolderGoes a a.request b.repo.view.now b.tree.nodes k.tree.nodes → OnNone (reached_by early r) (k.tree.nodes ≡ b.tree.nodes) →
       OnCreate a.request (OnNone (reached_by early r) (k.repo.view.now ≡ b.repo.view.now)) → (a.server ≡ None → k.server ≡ b.server) → OnOther a.request (k.server ≡ b.server) →
       IfErr (lift (of_halt of) r) (Closes b k) → SamePlaces b k → AreLater b k → Ran a b k ended
-  ran_of steps promise lasts cause healed beside reads folder nodes unmade quiet others closed places later = subst (λ (e : Result Outcome Fault). Ran a b k e) (sym lifted) (record {
+  ran_of steps promise lasts cause healed beside pairs reads folder nodes unmade quiet others closed places later = subst (λ (e : Result Outcome Fault). Ran a b k e) (sym lifted) (record {
     steps = subst (λ (reached : Reached). On (manner_of a.request a.data_folder b.tree.nodes) (λ command. Runs (plan_of a.request).settling a.stanza command reached b.repo.view b.spool.view k.repo.view k.spool.view)) (sym (reached_same of early same r)) steps;
     promise = lift_ok (of_halt of) (Promise a a.request (known b) (known k)) r promise;
     lasts = lift_ok (of_halt of) (λ o. IsLookedAt a.stanza b.repo.view → Lasts a a.request b.tree.nodes k.repo.view k.tree.nodes o) r lasts;
@@ -88,6 +90,7 @@ module _ {E : Type 0} (a : Asked) (b k : Seen) (of : E → Fault) (early : E →
     healed = lift_on (of_halt of) _ r healed;
     spares = record {
       beside = beside;
+      pairs = pairs;
       reads = reads;
       folder = folder;
       nodes = as_reached _ nodes;
@@ -165,11 +168,11 @@ module _ (a : Asked) (b k : Seen) (rest : k ≡ record b { repo = k.repo; server
   abbrev asks : Asked
   asks = with_request a create
 
-  pub created_ran : a.request ≡ create → StaysBeside a.stanza b.repo.view k.repo.view → Does Whole a.stanza (StanzaCreate (Some (first_cluster told))) (reached_by create_early r) b.repo.view k.repo.view → IfOk r (IsCreated a.stanza told b.repo.view.now k.repo.view.now) →
+  pub created_ran : a.request ≡ create → ChangesOnly (IsOfPairs a.stanza) b.repo.view k.repo.view → Does Whole a.stanza (StanzaCreate (Some (first_cluster told))) (reached_by create_early r) b.repo.view k.repo.view → IfOk r (IsCreated a.stanza told b.repo.view.now k.repo.view.now) →
       OnNone (reached_by create_early r) (IsStill b.repo.view k.repo.view) → OnOk r (IfSome a.server (λ _. IsOf told.system b.server.pending)) → OnOk r (Asks a.server k.server.place b.server.sent k.server.sent) → (a.server ≡ None → k.server ≡ b.server) →
       IfErr r (CreateCloses (Failed b k TheServer) k.server.sent) → (failed : Object → Type 0) → ((object : Object) → failed object → Failed b k object) →
       IfErr r (HaltCause (CreateCause a.stanza told a.server b.repo.view.now b.server.pending) failed) → SamePlaces b k → AreLater b k → Ran a b k ended
-  created_ran is beside does created still same asked quiet closed failed rose cause places later = as_ran a create b k ended is
+  created_ran is only does created still same asked quiet closed failed rose cause places later = as_ran a create b k ended is
       (ran_of asks b k (λ (e : CreateFault). OfCommand (Create e)) create_early (λ e. refl) (CreateCause a.stanza told a.server b.repo.view.now b.server.pending) (λ e h. (told, tells, h)) failed rose r ended lifted
       (λ command x. subst (λ (c : Command). Runs Whole a.stanza c (reached_by create_early r) b.repo.view b.spool.view k.repo.view k.spool.view) (sym (create_of b.tree.nodes told command tells x)) (subst (λ (v : View). Runs Whole a.stanza (StanzaCreate (Some (first_cluster told))) (reached_by create_early r) b.repo.view b.spool.view k.repo.view v) (sym (ap (λ (s : Seen). s.spool.view) rest))
       (does_runs Whole a.stanza (StanzaCreate (Some (first_cluster told))) (reached_by create_early r) b.repo.view k.repo.view b.spool.view (λ q log keeps. create_spool a.stanza (Some (first_cluster told)) true q log b.spool.view keeps) does)))
@@ -177,7 +180,8 @@ module _ (a : Asked) (b k : Seen) (rest : k ≡ record b { repo = k.repo; server
       (any_ok r (λ o. IsLookedAt a.stanza b.repo.view → Unit {0}) (λ o looked. tt))
       cause
       (on_all r (StaysHealed asks b k) (record { agree = λ some h. any_some k.repo.view.now; lasts = λ looked h. tt }))
-      beside
+      (pairs_beside a.stanza b.repo.view k.repo.view only)
+      only
       tt
       (ap (λ (s : Seen). s.tree.nodes) rest)
       (all_none (reached_by create_early r) _ (ap (λ (s : Seen). s.tree.nodes) rest))
@@ -219,6 +223,7 @@ module _ (a : Asked) (b k : Seen) (rest : k ≡ record b { repo = k.repo; tree =
       (on_all r (StaysHealed pushes b k) (record { agree = λ some h. agrees h some; lasts = λ looked h. alike looked.tight (now_told a.stanza b.repo.view looked.now) h }))
       beside
       tt
+      tt
       nodes
       (all_none (reached_by push_early r) _ nodes)
       tt
@@ -254,6 +259,7 @@ module _ (a : Asked) (b k : Seen) (rest : k ≡ record b { repo = k.repo; tree =
       cause
       (on_all r (StaysHealed gets b k) (record { agree = λ some h. any_some k.repo.view.now; lasts = λ looked h. tt }))
       (still_beside a.stanza b.repo.view k.repo.view still)
+      tt
       still
       changes
       none
@@ -282,6 +288,7 @@ module _ (a : Asked) (b k : Seen) (rest : k ≡ record b { repo = k.repo }) (sti
       cause
       (on_all r (StaysHealed informs b k) (record { agree = λ some h. any_some k.repo.view.now; lasts = λ looked h. tt }))
       (still_beside a.stanza b.repo.view k.repo.view still)
+      tt
       still
       (ap (λ (s : Seen). s.tree.nodes) rest)
       (all_none (reached_by (λ e. true) r) _ (ap (λ (s : Seen). s.tree.nodes) rest))

@@ -1,6 +1,8 @@
 -- What the program answers and does, from the words on.
 use Rattle.std.specs.Prelude.{◌≡◌, ◌≢◌, ◌≤◌, ◌⊎◌, ◌++◌, ℕ, true, false, List, [], Option, None, Result, Ok, Err, option_map}
 use Rattle.pgb_outside.specs.Content.{Content}
+use Rattle.pgb_disk.specs.Store.{ChangesOnly}
+use Rattle.pgb_stanza.specs.Owned.{IsOfPairs}
 use Rattle.pgb_model.specs.Text.{Text}
 use Rattle.pgb_options.specs.Settings.{Settled}
 use Rattle.pgb_archive.specs.Still.{IsStill}
@@ -99,9 +101,10 @@ pub record TurnsBack (a : Asked) (before after : Seen) : Type 0 where
   pub nodes : after.tree.nodes ≡ before.tree.nodes
   pub unmade : OnCreate a.request (after.repo.view.now ≡ before.repo.view.now)
 
--- after every answer: the command has kept to its stanza, a reader has changed nothing in the repository, only archive-get the data folder, and the server only who asks it
+-- after every answer: the command has kept to its stanza, stanza-create to the members of its two pairs, a reader has changed nothing in the repository, only archive-get the data folder, and the server only who asks it
 pub record LeavesRest (a : Asked) (before after : Seen) : Type 0 where
   pub beside : StaysBeside a.stanza before.repo.view after.repo.view
+  pub pairs : OnCreate a.request (ChangesOnly (IsOfPairs a.stanza) before.repo.view after.repo.view)
   pub reads : OnReader a.request (IsStill before.repo.view after.repo.view)
   pub folder : FolderGoes a a.request before.repo.view.now before.tree.nodes after.tree.nodes
   pub quiet : a.server ≡ None → after.server ≡ before.server

@@ -2,7 +2,9 @@
 use Rattle.std.specs.Prelude.{◌≡◌, ◌⊎◌, Bool, true, false, List, Option, None, Result, IfOk, IfErr, OnOk, IfSome, IsSome}
 use Rattle.pgb_outside.specs.Content.{Content}
 use Rattle.pgb_outside.specs.States.{IsOpened, OpensOnly}
+use Rattle.pgb_disk.specs.Store.{ChangesOnly}
 use Rattle.pgb_model.specs.Text.{Text}
+use Rattle.pgb_stanza.specs.Owned.{IsOfPairs}
 use Rattle.pgb_archive.specs.Still.{IsStill}
 use Rattle.pgb_story.specs.Beside.{StaysBeside}
 use Rattle.pgb_stage.specs.declared.object.Object.TheVariants.{Server}
@@ -30,9 +32,10 @@ abbrev pub Closes : Seen → Seen → Fault → Type 0
 Closes before after (Command (Create fault)) = CreateCloses (Failed before after Server) after.server.sent (Refused fault)
 Closes before after other = Unit {0}
 
--- What a command leaves as it was: of the repository all where it only reads, of the data folder all but a file that is served, and the server where it asks none. Refused before its first step it has changed no file of the data folder, and stanza-create none of the repository. Whatever it is, it keeps to its stanza.
+-- What a command leaves as it was: of the repository all where it only reads, of the data folder all but a file that is served, and the server where it asks none. Refused before its first step it has changed no file of the data folder, and stanza-create none of the repository. Whatever it is, it keeps to its stanza, and stanza-create to the members of its two pairs.
 pub record Spares (a : Asked) (before after : Seen) (result : Result Outcome Fault) : Type 0 where
   pub beside : StaysBeside a.stanza before.repo.view after.repo.view
+  pub pairs : OnCreate a.request (ChangesOnly (IsOfPairs a.stanza) before.repo.view after.repo.view)
   pub reads : OnReader a.request (IsStill before.repo.view after.repo.view)
   pub folder : FolderGoes a a.request before.repo.view.now before.tree.nodes after.tree.nodes
   pub nodes : OnNone (reached_of (ending_of result)) (after.tree.nodes ≡ before.tree.nodes)

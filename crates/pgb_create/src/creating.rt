@@ -2,11 +2,12 @@
 ghost use Rattle.std.specs.Prelude.{◌≡◌, ◌∷◌, [], ◌≤◌, None, Some, option_map, OnOk, IfOk, IfErr, IfSome};
 ghost use Rattle.pgb_outside.specs.Cause.{Rises};
 ghost use Rattle.pgb_outside.specs.States.{Frame};
+ghost use Rattle.pgb_disk.specs.Store.{ChangesOnly};
 ghost use Rattle.pgb_model.specs.InfoFiles.{IsLabel};
 ghost use Rattle.pgb_model.specs.Steps.{StanzaCreate};
 ghost use Rattle.pgb_stanza.specs.Causes.{IfLost};
 ghost use Rattle.pgb_stanza.specs.ControlFile.{first_cluster};
-ghost use Rattle.pgb_story.specs.Beside.{StaysBeside};
+ghost use Rattle.pgb_stanza.specs.Owned.{IsOfPairs};
 ghost use Rattle.pgb_archive.specs.Still.{IsStill};
 ghost use Rattle.pgb_stage.specs.declared.object.Object.TheVariants.{Repo as TheRepo};
 ghost use Rattle.pgb_stage.specs.Halts.{HaltCause, Only};
@@ -62,7 +63,7 @@ fn make<D: Disk>(
     ensures made { IfOk result (IsCreated stanza.now told.now (D.state repo.old).view.now (D.state repo.new).view.now) }
     ensures refused { OnNone (reached_by create_early result)
         (IsStill (D.state repo.old).view (D.state repo.new).view) }
-    ensures beside { StaysBeside stanza.now (D.state repo.old).view (D.state repo.new).view }
+    ensures only { ChangesOnly (IsOfPairs stanza.now) (D.state repo.old).view (D.state repo.new).view }
     ensures frame { Frame (D.state repo.old) (D.state repo.new) }
     ensures cause { IfErr result (HaltCause (MakeCause stanza.now told.now (D.state repo.old).view.now)
         (Only TheRepo (Rises (D.state repo.old).faults (D.state repo.new).faults))) }
@@ -92,7 +93,7 @@ pub fn create_stanza<D: Disk, V: Wire, K: Locks>(
     ensures made { IfOk result (IsCreated stanza.now told.now (D.state repo.old).view.now (D.state repo.new).view.now) }
     ensures refused { OnNone (reached_by create_early result)
         (IsStill (D.state repo.old).view (D.state repo.new).view) }
-    ensures beside { StaysBeside stanza.now (D.state repo.old).view (D.state repo.new).view }
+    ensures only { ChangesOnly (IsOfPairs stanza.now) (D.state repo.old).view (D.state repo.new).view }
     ensures frame { Frame (D.state repo.old) (D.state repo.new) }
 
     // The server is asked at its socket, and the talk is ended; without one the connection isn't used.

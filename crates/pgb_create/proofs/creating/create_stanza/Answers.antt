@@ -2,8 +2,8 @@ use Rattle.std.specs.Prelude.{Some, option_map}
 use Rattle.pgb_outside.specs.Cause.{Rises}
 use Rattle.pgb_model.specs.Steps.{StanzaCreate}
 use Rattle.pgb_stanza.specs.ControlFile.{first_cluster}
-use Rattle.pgb_archive.specs.Still.{still_self}
-use Rattle.pgb_stage.proofs.Besides.{still_beside}
+use Rattle.pgb_stanza.specs.Owned.{IsOfPairs}
+use Rattle.pgb_disk.proofs.Changes.{only_none}
 use Rattle.pgb_stage.specs.Reached.{reached_by}
 use Rattle.pgb_create.specs.Server.{server_view}
 use Rattle.pgb_create.specs.Talking.{Closes}
@@ -41,5 +41,5 @@ returns-clause-cause g c = made_cause c.args.stanza.now c.args.told.now (option_
     (g.D.Disk.state c.args.repo.now).view.now (g.V.Wire.state c.args.wire.now).pending _ _ c.make.result _
     (λ x. x) c.make.ensures.cause
 
-pub returns-in_err-check_server-clause-beside : goal.returns-in_err-check_server-clause-beside
-returns-in_err-check_server-clause-beside g c = still_beside c.args.stanza.now _ _ (still_self (g.D.Disk.state c.args.repo.now).view)
+pub returns-in_err-check_server-clause-only : goal.returns-in_err-check_server-clause-only
+returns-in_err-check_server-clause-only g c = only_none (IsOfPairs c.args.stanza.now) (g.D.Disk.state c.args.repo.now).view

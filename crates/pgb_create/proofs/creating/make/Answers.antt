@@ -1,6 +1,5 @@
 use Rattle.std.proofs.Common.{refl, rules}
 use Rattle.pgb_stanza.specs.ControlFile.{first_cluster}
-use Rattle.pgb_stage.proofs.Besides.{pairs_beside}
 use Rattle.pgb_create.proofs.Creates.{made_does, halted_does, halted_still, members_of, was_of, make_cause}
 use Rattle.pgb_create.proofs.creating.make.Goals as goal
 
@@ -31,9 +30,3 @@ returns-in-Err-clause-refused g c = halted_still (g.D.Disk.state c.args.repo.now
 pub returns-in-Err-clause-cause : goal.returns-in-Err-clause-cause
 returns-in-Err-clause-cause g c = make_cause c.args.stanza.now c.args.told.now _ _ c.in-Err.fault c.of_stanza.result
     c.of_stanza.ensures c.in-Err.ensures.cause
-
-pub returns-in-Ok-clause-beside : goal.returns-in-Ok-clause-beside
-returns-in-Ok-clause-beside g c = pairs_beside c.args.stanza.now _ _ c.create.ensures.only
-
-pub returns-in-Err-clause-beside : goal.returns-in-Err-clause-beside
-returns-in-Err-clause-beside g c = pairs_beside c.args.stanza.now _ _ c.create.ensures.only
