@@ -11,6 +11,9 @@ use std::process::Abort;
 
 const LISTED: &str = "1704164645 of 12 bytes, 12 stored. ";
 
+// A command has at most so many links.
+const MOST_LINKS: usize = 64;
+
 fn clock_of(alloc: Global, fail: &[u64]) -> Result<MemClock, AllocError> {
     Ok(MemClock::new(
         [SECOND, SECOND, SECOND + 9].to_vec(alloc)?,
@@ -28,6 +31,9 @@ fn told(
 ) -> Result<String, AllocError> {
     let mut clock = clock_of(alloc, clock_fails)?;
     let mut links = links_to(alloc, files, &[], fails)?;
+    if links.len() > MOST_LINKS {
+        return Err(AllocError);
+    }
     backed_up(alloc, disk, &mut clock, &mut links, NODES)
 }
 

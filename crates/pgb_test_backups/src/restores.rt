@@ -74,10 +74,10 @@ fn held_by(alloc: Global, tree: &mut MemTree) -> Result<String, AllocError> {
 }
 
 // What comes of a restore of the disk's backup into the folder.
-fn restored(
+fn restored<T: Tree>(
     alloc: Global,
     disk: &mut MemDisk,
-    tree: &mut MemTree,
+    tree: &mut T,
     other: Option<(&str, Option<&[u8]>)>,
     fail: &[u64],
 ) -> Result<String, AllocError> {
