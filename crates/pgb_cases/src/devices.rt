@@ -4,7 +4,8 @@ use crate::output::Output;
 use crate::world::Wanted;
 use pgb_command::{Outside, run};
 use pgb_memory::{MemDisk, MemLocks, MemNode, MemSource, MemTree, MemWire};
-use pgb_outside::{Link, NotThere, Turns};
+use pgb_outside::NotThere;
+use pgb_worker_links::{MemLink, MemTurns};
 use std::alloc::{AllocError, Global};
 
 /// A call that is to fail, by its device and its number, the first being 0.
@@ -77,16 +78,6 @@ pub(crate) struct Ran {
     pub locks: MemLocks,
     pub config: MemSource,
     pub out: Output,
-}
-
-// No worker is ever heard.
-#[derive(Drop)]
-struct First;
-
-impl Turns for First {
-    fn pick(&mut self, _count: u64) -> u64 {
-        0
-    }
 }
 
 /// A repository that holds what is wanted of it.
@@ -166,6 +157,7 @@ pub(crate) fn run_on(
         config,
         out,
     } = ready;
+    let links: Vec<MemLink> = Vec::new(alloc);
     let mut outside = Outside {
         repo,
         spool: NotThere::new(),
@@ -176,9 +168,10 @@ pub(crate) fn run_on(
         locks: MemLocks::new(alloc, others, failing),
         config,
         out,
+        links,
+        turns: MemTurns::new(Vec::new(alloc)),
     };
-    let mut links: Vec<Box<dyn Link>> = Vec::new(alloc);
-    let status = run(alloc, words, &mut outside, &mut links, &mut First);
+    let status = run(alloc, words, &mut outside);
     let ran = Ran {
         status,
         server: outside.server,

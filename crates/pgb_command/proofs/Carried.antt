@@ -85,6 +85,8 @@ module _ (a : Asked) (b k : Seen) (o : SinkState) (le : k.out.faults ≤ o.fault
       unmade = did.spares.unmade;
       quiet = did.spares.quiet;
       others = did.spares.others;
+      workers = did.spares.workers;
+      clock = did.spares.clock;
       closed = err_as r _ _ out_closes did.spares.closed;
     };
     later = later_on b k written did.later (all_later k written (omega arith) (omega arith) (omega arith) (omega arith) (omega arith) (omega arith) (omega arith) (omega arith) le);
@@ -110,7 +112,7 @@ answered_by unknown given b k o ended n words same t = record {
 }
 
 idle_written : (b k : Seen) (o : SinkState) → IsIdle b k → IsIdle b (record k { out = o })
-idle_written b k o h = record { repo = h.repo; opened = h.opened; spool = h.spool; tree = h.tree; server = h.server; locks = h.locks }
+idle_written b k o h = record { repo = h.repo; opened = h.opened; spool = h.spool; tree = h.tree; server = h.server; clock = h.clock; locks = h.locks; links = h.links }
 
 -- ---- a command is obeyed
 
@@ -141,6 +143,8 @@ config_read b i files le = record {
   nodes = refl;
   server = refl;
   others = refl;
+  clock = refl;
+  links = refl;
   files = files;
   out = refl;
   refusals = omega arith;
@@ -162,7 +166,7 @@ brackets_from a b k i r h = record {
 }
 
 idle_from : (b k : Seen) (i : SourceState) → IsIdle (record b { config = i }) k → IsIdle b k
-idle_from b k i h = record { repo = h.repo; opened = h.opened; spool = h.spool; tree = h.tree; server = h.server; locks = h.locks }
+idle_from b k i h = record { repo = h.repo; opened = h.opened; spool = h.spool; tree = h.tree; server = h.server; clock = h.clock; locks = h.locks; links = h.links }
 
 obeys_from : (s : Settled) (b k : Seen) (i : SourceState) (n : ℕ) → i.files ≡ b.config.files → b.config.faults ≤ i.faults → Obeys s (record b { config = i }) k n → Obeys s b k n
 obeys_from s b k i n files le (inl x) = inl (
@@ -188,7 +192,7 @@ pub runs_off : (words given : List Text) (b : Seen) (i : SourceState) (o : SinkS
 runs_off words given b i o n fault none cause t = inl (record {
   fault = fault;
   cause = cause;
-  idle = record { repo = still_self b.repo.view; opened = refl; spool = still_self b.spool.view; tree = refl; server = refl; locks = refl };
+  idle = record { repo = still_self b.repo.view; opened = refl; spool = still_self b.spool.view; tree = refl; server = refl; clock = refl; locks = refl; links = refl };
   answered = record {
     ending = t.0;
     is = t.1;

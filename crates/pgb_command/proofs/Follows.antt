@@ -20,9 +20,9 @@ use Rattle.pgb_command.specs.Did.{IsIdle, Did, OpensIf, OpensPlaces, OnlyLocked}
 use Rattle.pgb_command.specs.Output.{IsTold, Whole, Cut, Starved, Wordless}
 use Rattle.pgb_disk.proofs.Changes.{only_rests}
 use Rattle.pgb_stanza.specs.Owned.{IsOfPairs}
-use Rattle.pgb_command.specs.Tables.{plan_of, manner_of, OnCreate}
+use Rattle.pgb_command.specs.Tables.{known, plan_of, manner_of, OnCreate, uses_workers, uses_clock}
 use Rattle.pgb_command.proofs.AskedOnce.{one_asked}
-use Rattle.pgb_command.proofs.Dids.{idle, stage_reached, any_reader, any_create, any_other, folder_stays}
+use Rattle.pgb_command.proofs.Dids.{idle, stage_reached, any_reader, any_create, any_other, any_unless, folder_stays}
 use Rattle.pgb_command.proofs.Statuses.{over, zero_ends, early_ends, not_cut}
 
 -- ---- which of the answers it is
@@ -48,8 +48,8 @@ found words b k n (inr (s, settles, inr (what, is, still, answered))) a asks = i
 
 -- ---- nothing was done
 
-idle_takes : (a : Asked) (b k : Seen) (fault : Fault) → IsIdle b k → On (manner_of a.request a.data_folder b.tree.nodes) (λ command. Takes (plan_of a.request).settling a.stanza command (reached_of (ending_of (Err fault))) b.repo.view b.spool.view k.repo.view k.spool.view)
-idle_takes a b k fault i = idle a.request a.data_folder b.tree.nodes _ (λ command. opened_takes a.stanza b.repo.view k.repo.view b.spool.view k.spool.view i.repo.time i.repo.now i.spool.time i.spool.now (plan_of a.request).settling command (reached_of (ending_of (Err fault))) k.repo.view k.spool.view
+idle_takes : (a : Asked) (b k : Seen) (fault : Fault) → IsIdle b k → On (manner_of a.request a.data_folder b.tree.nodes b.links) (λ command. Takes (plan_of a.request).settling a.stanza command (reached_of (ending_of (Err fault))) b.repo.view b.spool.view k.repo.view k.spool.view)
+idle_takes a b k fault i = idle a.request a.data_folder b.tree.nodes b.links _ (λ command. opened_takes a.stanza b.repo.view k.repo.view b.spool.view k.spool.view i.repo.time i.repo.now i.spool.time i.spool.now (plan_of a.request).settling command (reached_of (ending_of (Err fault))) k.repo.view k.spool.view
     (quiet_takes (plan_of a.request).settling a.stanza command (reached_of (ending_of (Err fault))) k.repo.view k.repo.view k.spool.view (stage_reached fault) (still_quiet a.stanza k.repo.view)))
 
 idle_nodes : (b k : Seen) → IsIdle b k → k.tree.nodes ≡ b.tree.nodes
@@ -88,24 +88,24 @@ module _ (a : Asked) (b k : Seen) (n : ℕ) where
       let c = x.1 in
       let is : status (ending_of c.ended) ≡ 0 = told_as x.0 b k c.ended n c.answered (λ e. sym e ∙ zero) (λ e rose. absurd (omega (arith, e, zero))) (λ e. absurd (omega (arith, e, zero))) in
       record {
-        all = on_as (manner_of a.request a.data_folder b.tree.nodes) _ _ (λ command h. all_at (reached_of (ending_of c.ended)) _ (zero_ends c.ended is) h.whole) c.did.steps;
-        ends = on_as (manner_of a.request a.data_folder b.tree.nodes) _ _ (λ command h. all_at (reached_of (ending_of c.ended)) _ (zero_ends c.ended is) h.ends) c.did.steps;
+        all = on_as (manner_of a.request a.data_folder b.tree.nodes b.links) _ _ (λ command h. all_at (reached_of (ending_of c.ended)) _ (zero_ends c.ended is) h.whole) c.did.steps;
+        ends = on_as (manner_of a.request a.data_folder b.tree.nodes b.links) _ _ (λ command h. all_at (reached_of (ending_of c.ended)) _ (zero_ends c.ended is) h.ends) c.did.steps;
         healed = ok_at c.ended _ is c.did.healed;
         opened = ok_at c.ended _ is c.brackets.opened;
         took = ok_at c.ended _ is c.brackets.took;
       }
 
   pub part_done : Either a b k n → PartDone a b k
-  part_done (inl x) = on_as (manner_of a.request a.data_folder b.tree.nodes) _ _ (λ command h. (h.part, h.between)) (idle_takes a b k x.1.1.0 x.0)
-  part_done (inr x) = on_as (manner_of a.request a.data_folder b.tree.nodes) _ _ (λ command h. (h.part, h.between)) x.1.did.steps
+  part_done (inl x) = on_as (manner_of a.request a.data_folder b.tree.nodes b.links) _ _ (λ command h. (h.part, h.between)) (idle_takes a b k x.1.1.0 x.0)
+  part_done (inr x) = on_as (manner_of a.request a.data_folder b.tree.nodes b.links) _ _ (λ command h. (h.part, h.between)) x.1.did.steps
 
-  early_at : (unknown : List Text) (ended : Result Outcome Fault) → IsAnswered unknown b k ended n → IsEarly n → reached_of (ending_of ended) ≡ turned_back
-  early_at unknown ended t early = told_as unknown b k ended n t (λ is. early_ends ended (subst IsEarly is early))
-      (λ is rose. absurd (not_cut n 87 is (omega arith) (omega arith) (λ e. absurd (omega (arith, e))) early)) (λ is. absurd (not_cut n 90 is (omega arith) (omega arith) (λ e. absurd (omega (arith, e))) early))
+  early_at : (unknown : List Text) (ended : Result Outcome Fault) → IsAnswered unknown b k ended n → IsEarly a.request n → reached_of (ending_of ended) ≡ turned_back
+  early_at unknown ended t early = told_as unknown b k ended n t (λ is. early_ends a.request ended (subst (IsEarly a.request) is early))
+      (λ is rose. absurd (not_cut a.request n 87 is (omega arith) (omega arith) (λ e. absurd (omega (arith, e))) early)) (λ is. absurd (not_cut a.request n 90 is (omega arith) (omega arith) (λ e. absurd (omega (arith, e))) early))
 
-  pub turns_back : IsEarly n → Either a b k n → TurnsBack a b k
+  pub turns_back : IsEarly a.request n → Either a b k n → TurnsBack a b k
   turns_back early (inl x) = record {
-    none = on_as (manner_of a.request a.data_folder b.tree.nodes) _ _ (λ command h. none_at (reached_of (ending_of (Err x.1.1.0))) _ (early_at x.1.0 (Err x.1.1.0) x.1.1.1 early) h.turned) (idle_takes a b k x.1.1.0 x.0);
+    none = on_as (manner_of a.request a.data_folder b.tree.nodes b.links) _ _ (λ command h. none_at (reached_of (ending_of (Err x.1.1.0))) _ (early_at x.1.0 (Err x.1.1.0) x.1.1.1 early) h.turned) (idle_takes a b k x.1.1.0 x.0);
     nodes = idle_nodes b k x.0;
     unmade = any_create a.request _ x.0.repo.now;
   }
@@ -113,7 +113,7 @@ module _ (a : Asked) (b k : Seen) (n : ℕ) where
       let c = x.1 in
       let is = early_at x.0 c.ended c.answered early in
       record {
-        none = on_as (manner_of a.request a.data_folder b.tree.nodes) _ _ (λ command h. none_at (reached_of (ending_of c.ended)) _ is h.turned) c.did.steps;
+        none = on_as (manner_of a.request a.data_folder b.tree.nodes b.links) _ _ (λ command h. none_at (reached_of (ending_of c.ended)) _ is h.turned) c.did.steps;
         nodes = none_at (reached_of (ending_of c.ended)) _ is c.did.spares.nodes;
         unmade = create_at a.request (reached_of (ending_of c.ended)) _ is c.did.spares.unmade;
       }
@@ -123,11 +123,13 @@ module _ (a : Asked) (b k : Seen) (n : ℕ) where
     beside = still_beside a.stanza b.repo.view k.repo.view x.0.repo;
     pairs = any_create a.request _ (only_rests (IsOfPairs a.stanza) b.repo.view k.repo.view x.0.repo.time x.0.repo.now);
     reads = any_reader a.request _ x.0.repo;
-    folder = folder_stays a a.request b.repo.view.now b.tree.nodes k.tree.nodes (idle_nodes b k x.0);
+    folder = folder_stays a a.request (known b) k.tree.nodes (idle_nodes b k x.0);
     quiet = λ none. x.0.server;
     others = any_other a.request _ x.0.server;
+    workers = any_unless (uses_workers a.request) _ x.0.links;
+    clock = any_unless (uses_clock a.request) _ x.0.clock;
   }
-  leaves_rest (inr x) = let s = x.1.did.spares in record { beside = s.beside; pairs = s.pairs; reads = s.reads; folder = s.folder; quiet = s.quiet; others = s.others }
+  leaves_rest (inr x) = let s = x.1.did.spares in record { beside = s.beside; pairs = s.pairs; reads = s.reads; folder = s.folder; quiet = s.quiet; others = s.others; workers = s.workers; clock = s.clock }
 
   pub opens_places : Either a b k n → OpensPlaces a b k
   opens_places (inl x) = record { folder = opens_none (plan_of a.request).folder a.data_folder b.tree.opened k.tree.opened (ap (λ (t : TreeState). t.opened) x.0.tree); repository = inl x.0.opened }

@@ -15,3 +15,4 @@ pub mod Follows
 mod Closings
 mod Unused
 pub mod InForm
+pub mod Workers

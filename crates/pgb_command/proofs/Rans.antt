@@ -52,7 +52,7 @@ use Rattle.pgb_command.specs.declared.fault.CommandFault.TheVariants.{Create, Pu
 use Rattle.pgb_command.specs.Answers.{reached_of, ending_of, is_early}
 use Rattle.pgb_command.specs.Asked.{Request, create, push, get, report, Asked}
 use Rattle.pgb_command.specs.Faults.{of_halt, of_stage, of_create, of_push, of_get, lift}
-use Rattle.pgb_command.specs.Tables.{known, Promise, Lasts, plan_of, manner_of, IsCreateOf, OnReader, OnCreate, OnOther, FolderGoes}
+use Rattle.pgb_command.specs.Tables.{known, Promise, Lasts, plan_of, manner_of, IsCreateOf, OnReader, OnCreate, OnOther, FolderGoes, Unless, uses_workers, uses_clock}
 use Rattle.pgb_command.specs.Did.{SamePlaces, Closes, OwnCause, StaysHealed, Ran}
 use Rattle.pgb_command.proofs.Ends.{reached_same, lift_ok, lift_on, lift_err}
 use Rattle.pgb_command.proofs.OneCluster.{cluster_is}
@@ -77,13 +77,13 @@ module _ {E : Type 0} (a : Asked) (b k : Seen) (of : E → Fault) (early : E →
   create_reached (get name path) P h = h
   create_reached (report form) P h = h
 
-  pub ran_of : On (manner_of a.request a.data_folder b.tree.nodes) (λ command. Runs (plan_of a.request).settling a.stanza command (reached_by early r) b.repo.view b.spool.view k.repo.view k.spool.view) → IfOk r (Promise a a.request (known b) (known k)) → IfOk r (λ o. IsLookedAt a.stanza b.repo.view → Lasts a a.request b.tree.nodes k.repo.view k.tree.nodes o) → IfErr r (HaltCause why failed) →
+  pub ran_of : On (manner_of a.request a.data_folder b.tree.nodes b.links) (λ command. Runs (plan_of a.request).settling a.stanza command (reached_by early r) b.repo.view b.spool.view k.repo.view k.spool.view) → IfOk r (Promise a a.request (known b) (known k)) → IfOk r (λ o. IsLookedAt a.stanza b.repo.view → Lasts a a.request b.tree.nodes k.repo.view k.tree.nodes o) → IfErr r (HaltCause why failed) →
       OnOk r (StaysHealed a b k) →
-      StaysBeside a.stanza b.repo.view k.repo.view → OnCreate a.request (ChangesOnly (IsOfPairs a.stanza) b.repo.view k.repo.view) → OnReader a.request (IsStill b.repo.view k.repo.view) → FolderGoes a a.request b.repo.view.now b.tree.nodes k.tree.nodes → OnNone (reached_by early r) (k.tree.nodes ≡ b.tree.nodes) →
-      OnCreate a.request (OnNone (reached_by early r) (k.repo.view.now ≡ b.repo.view.now)) → (a.server ≡ None → k.server ≡ b.server) → OnOther a.request (k.server ≡ b.server) →
+      StaysBeside a.stanza b.repo.view k.repo.view → OnCreate a.request (ChangesOnly (IsOfPairs a.stanza) b.repo.view k.repo.view) → OnReader a.request (IsStill b.repo.view k.repo.view) → FolderGoes a a.request (known b) k.tree.nodes → OnNone (reached_by early r) (k.tree.nodes ≡ b.tree.nodes) →
+      OnCreate a.request (OnNone (reached_by early r) (k.repo.view.now ≡ b.repo.view.now)) → (a.server ≡ None → k.server ≡ b.server) → OnOther a.request (k.server ≡ b.server) → Unless (uses_workers a.request) (k.links ≡ b.links) → Unless (uses_clock a.request) (k.clock ≡ b.clock) →
       IfErr (lift (of_halt of) r) (Closes b k) → SamePlaces b k → AreLater b k → Ran a b k ended
-  ran_of steps promise lasts cause healed beside pairs reads folder nodes unmade quiet others closed places later = subst (λ (e : Result Outcome Fault). Ran a b k e) (sym lifted) (record {
-    steps = subst (λ (reached : Reached). On (manner_of a.request a.data_folder b.tree.nodes) (λ command. Runs (plan_of a.request).settling a.stanza command reached b.repo.view b.spool.view k.repo.view k.spool.view)) (sym (reached_same of early same r)) steps;
+  ran_of steps promise lasts cause healed beside pairs reads folder nodes unmade quiet others workers clock closed places later = subst (λ (e : Result Outcome Fault). Ran a b k e) (sym lifted) (record {
+    steps = subst (λ (reached : Reached). On (manner_of a.request a.data_folder b.tree.nodes b.links) (λ command. Runs (plan_of a.request).settling a.stanza command reached b.repo.view b.spool.view k.repo.view k.spool.view)) (sym (reached_same of early same r)) steps;
     promise = lift_ok (of_halt of) (Promise a a.request (known b) (known k)) r promise;
     lasts = lift_ok (of_halt of) (λ o. IsLookedAt a.stanza b.repo.view → Lasts a a.request b.tree.nodes k.repo.view k.tree.nodes o) r lasts;
     cause = lift_err (of_halt of) (HaltCause why failed) (OwnCause a b k) (own a b k of why failed each rose) r cause;
@@ -97,6 +97,8 @@ module _ {E : Type 0} (a : Asked) (b k : Seen) (of : E → Fault) (early : E →
       unmade = create_reached a.request _ unmade;
       quiet = quiet;
       others = others;
+      workers = workers;
+      clock = clock;
       closed = closed;
     };
     places = places;
@@ -188,6 +190,8 @@ module _ (a : Asked) (b k : Seen) (rest : k ≡ record b { repo = k.repo; server
       (none_as (reached_by create_early r) _ _ (λ (s : IsStill b.repo.view k.repo.view). s.now) still)
       quiet
       tt
+      (ap (λ (s : Seen). s.links) rest)
+      (ap (λ (s : Seen). s.clock) rest)
       (lift_err of_create _ (Closes b k) (create_closes b k) r closed)
       places later)
 
@@ -229,6 +233,8 @@ module _ (a : Asked) (b k : Seen) (rest : k ≡ record b { repo = k.repo; tree =
       tt
       (λ none. ap (λ (s : Seen). s.server) rest)
       (ap (λ (s : Seen). s.server) rest)
+      (ap (λ (s : Seen). s.links) rest)
+      (ap (λ (s : Seen). s.clock) rest)
       (never_closes b k of_push (push_closes b k) r)
       places later))
 
@@ -248,7 +254,7 @@ module _ (a : Asked) (b k : Seen) (rest : k ≡ record b { repo = k.repo; tree =
   gets = with_request (with_folder a folder) (get word path)
 
   pub got_ran : a.request ≡ get word path → folder ≡ a.data_folder → IfOk r (Promise gets (get word path) (known b) (known k)) →
-      IfOk r (λ o. IsTight a.stanza b.repo.view → IsSome b.repo.view.now → PairAlike a.stanza b.repo.view → (f : Content) → Leaves k.repo.view k.repo.view.moment f → GotBy a.stanza folder word path (Some f) b.tree.nodes k.tree.nodes o) → FolderGoes gets (get word path) b.repo.view.now b.tree.nodes k.tree.nodes →
+      IfOk r (λ o. IsTight a.stanza b.repo.view → IsSome b.repo.view.now → PairAlike a.stanza b.repo.view → (f : Content) → Leaves k.repo.view k.repo.view.moment f → GotBy a.stanza folder word path (Some f) b.tree.nodes k.tree.nodes o) → FolderGoes gets (get word path) (known b) k.tree.nodes →
       OnNone (reached_by get_early r) (k.tree.nodes ≡ b.tree.nodes) → (failed : Object → Type 0) → ((object : Object) → failed object → Failed b k object) →
       IfErr r (HaltCause (GetCause a.stanza folder word path b.repo.view.now b.tree.nodes) failed) → SamePlaces b k → AreLater b k → Ran a b k ended
   got_ran is in_it got lasting changes none failed rose cause places later = in_folder a folder b k ended in_it (as_ran (with_folder a folder) (get word path) b k ended is
@@ -266,6 +272,8 @@ module _ (a : Asked) (b k : Seen) (rest : k ≡ record b { repo = k.repo; tree =
       tt
       (λ none. ap (λ (s : Seen). s.server) rest)
       (ap (λ (s : Seen). s.server) rest)
+      (ap (λ (s : Seen). s.links) rest)
+      (ap (λ (s : Seen). s.clock) rest)
       (never_closes b k of_get (get_closes b k) r)
       places later))
 
@@ -295,6 +303,8 @@ module _ (a : Asked) (b k : Seen) (rest : k ≡ record b { repo = k.repo }) (sti
       tt
       (λ none. ap (λ (s : Seen). s.server) rest)
       (ap (λ (s : Seen). s.server) rest)
+      (ap (λ (s : Seen). s.links) rest)
+      (ap (λ (s : Seen). s.clock) rest)
       (never_closes b k of_stage (inform_closes b k) r)
       places later)
 

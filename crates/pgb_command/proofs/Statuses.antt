@@ -1,5 +1,5 @@
 -- What the statuses of refusals tell, by layers.
-use Rattle.std.proofs.Common.{◌≡◌, ◌≤◌, ◌≢◌, ℕ, true, inl, inr, Result, Ok, Err, refl, ap, subst, arith}
+use Rattle.std.proofs.Common.{◌≡◌, ◌≤◌, ◌≢◌, ◌⊎◌, ℕ, true, inl, inr, Result, Ok, Err, refl, ap, subst, arith}
 use Rattle.pgb_options.specs.declared.usage.Usage.{Usage}
 use Rattle.pgb_options.specs.declared.usage.Usage.TheVariants as usage
 use Rattle.pgb_stage.specs.declared.object.Object.{Object}
@@ -19,7 +19,8 @@ use Rattle.pgb_command.specs.declared.fault.CommandFault.TheVariants.{Create, Pu
 use Rattle.pgb_command.specs.declared.fault.Fault.{Fault}
 use Rattle.pgb_command.specs.declared.fault.Fault.TheVariants as fault
 use Rattle.pgb_command.specs.Answers.{status, status_of, usage_status, command_status, command_early, is_early, ending_of, reached_of}
-use Rattle.pgb_command.specs.Causes.{IsEarly}
+use Rattle.pgb_command.specs.Asked.{Request, create, push, get, report}
+use Rattle.pgb_command.specs.Causes.{IsRefusal, IsEarly}
 
 -- ---- a refusal has no status of a command that ended well
 
@@ -78,12 +79,22 @@ zero_ends (Err e) is = absurd (omega (arith, is, over e))
 
 -- ---- early ends
 
-pub late : (m : ℕ) → (73 ≤ m) → (m ≤ 99) → m ≢ 83 → ¬ IsEarly m
-late m lo hi apart (inl a) = absurd (omega (arith, lo, a.1))
-late m lo hi apart (inr (inl e)) = absurd (apart e)
-late m lo hi apart (inr (inr b)) = absurd (omega (arith, hi, b.0))
+-- an early end of any command
+abbrev AnyEarly : ℕ → Type 0
+AnyEarly n = IsRefusal n ⊎ (n ≡ 83)
 
-early_object : (o : Object) → IsEarly (object_status o) → fails_early o ≡ true
+any_early : (q : Request) (n : ℕ) → IsEarly q n → AnyEarly n
+any_early create n h = h
+any_early (push path) n h = inl h
+any_early (get name path) n h = inl h
+any_early (report form) n h = inl h
+
+late : (m : ℕ) → (73 ≤ m) → (m ≤ 99) → m ≢ 83 → ¬ AnyEarly m
+late m lo hi apart (inl (inl a)) = absurd (omega (arith, lo, a.1))
+late m lo hi apart (inl (inr b)) = absurd (omega (arith, hi, b.0))
+late m lo hi apart (inr e) = absurd (apart e)
+
+early_object : (o : Object) → AnyEarly (object_status o) → fails_early o ≡ true
 early_object object.Server h = refl
 early_object object.Repo h = absurd (late 80 (omega arith) (omega arith) (λ e. absurd (omega (arith, e))) h)
 early_object object.Spool h = absurd (late 81 (omega arith) (omega arith) (λ e. absurd (omega (arith, e))) h)
@@ -99,19 +110,22 @@ early_command (Create e) = refl
 early_command (Push e) = refl
 early_command (Get e) = refl
 
-early_fault : (e : Fault) → IsEarly (status_of e) → is_early e ≡ true
+early_fault : (e : Fault) → AnyEarly (status_of e) → is_early e ≡ true
 early_fault (fault.Usage e) h = refl
 early_fault (fault.Stage e) h = refl
 early_fault (fault.Command e) h = early_command e
 early_fault (fault.Failed o) h = early_object o h
 early_fault fault.NoMemory h = absurd (late 90 (omega arith) (omega arith) (λ e. absurd (omega (arith, e))) h)
 
-pub early_ends : (ended : Result Outcome Fault) → IsEarly (status (ending_of ended)) → reached_of (ending_of ended) ≡ turned_back
-early_ends (Ok (Finished lines)) (inl a) = absurd (omega (arith, a.0))
-early_ends (Ok (Finished lines)) (inr (inl e)) = absurd (omega (arith, e))
-early_ends (Ok (Finished lines)) (inr (inr b)) = absurd (omega (arith, b.0))
-early_ends (Ok (Absent name)) h = refl
-early_ends (Err e) h = ap back_if (early_fault e h)
+any_ends : (ended : Result Outcome Fault) → AnyEarly (status (ending_of ended)) → reached_of (ending_of ended) ≡ turned_back
+any_ends (Ok (Finished lines)) (inl (inl a)) = absurd (omega (arith, a.0))
+any_ends (Ok (Finished lines)) (inl (inr b)) = absurd (omega (arith, b.0))
+any_ends (Ok (Finished lines)) (inr e) = absurd (omega (arith, e))
+any_ends (Ok (Absent name)) h = refl
+any_ends (Err e) h = ap back_if (early_fault e h)
 
-pub not_cut : (n m : ℕ) → n ≡ m → (73 ≤ m) → (m ≤ 99) → m ≢ 83 → ¬ IsEarly n
-not_cut n m is lo hi apart early = late m lo hi apart (subst IsEarly is early)
+pub early_ends : (q : Request) (ended : Result Outcome Fault) → IsEarly q (status (ending_of ended)) → reached_of (ending_of ended) ≡ turned_back
+early_ends q ended h = any_ends ended (any_early q (status (ending_of ended)) h)
+
+pub not_cut : (q : Request) (n m : ℕ) → n ≡ m → (73 ≤ m) → (m ≤ 99) → m ≢ 83 → ¬ IsEarly q n
+not_cut q n m is lo hi apart early = late m lo hi apart (subst AnyEarly is (any_early q n early))

@@ -39,9 +39,9 @@ module _ (words : List Text) (files : Option Content) (c : Command) (x : (s : Se
       go (Ok request) is h = quiet x.0 x.2 (none (asked_in x.0 request) (asks request is))
       go (Err what) is h = h
 
-  -- the report is asked for
-  pub report_asked : (P : Type 0) → ((s : Settled) → IsCommand c s → (form : OutputWord) → requested s ≡ Ok (report form) → P) → (a : Asked) → Asks words files a → (form : OutputWord) → a.request ≡ report form → P
-  report_asked P unused a told form is = unused x.0 x.2 form (subst (λ (s : Settled). requested s ≡ Ok (report form)) (same told.told told.asks) (subst (λ (q : Request). requested told.asks.settings ≡ Ok q) is told.asks.is.request))
+  -- what the command is asked for is what its settings ask for
+  pub request_asked : (P : Type 0) (a : Asked) → ((s : Settled) → IsCommand c s → requested s ≡ Ok a.request → P) → Asks words files a → P
+  request_asked P a asked told = asked x.0 x.2 (subst (λ (s : Settled). requested s ≡ Ok a.request) (same told.told told.asks) told.asks.is.request)
     where
       same : IsSome files → (m : MayAsk words files a) → m.settings ≡ x.0
       same some m = go files some m.settles x.1

@@ -74,7 +74,7 @@ behind_words a b k o is (Err e) = inr (words_fit a a.request o is)
 
 -- nothing was done but to write the output
 pub is_idle : (b : Seen) (o : SinkState) → IsIdle b (record b { out = o })
-is_idle b o = record { repo = still_self b.repo.view; opened = refl; spool = still_self b.spool.view; tree = refl; server = refl; locks = refl }
+is_idle b o = record { repo = still_self b.repo.view; opened = refl; spool = still_self b.spool.view; tree = refl; server = refl; clock = refl; locks = refl; links = refl }
 
 pub is_behind : (a : Asked) (b : Seen) (result : Result Outcome Fault) (e : Fault) → IsErrAnd result (λ f. f ≡ e) → WordsCause a e → ComesBehind a b b result
 is_behind a b (Ok x) e is h = tt

@@ -23,7 +23,7 @@ use Rattle.pgb_command.specs.declared.fault.Fault.{Fault}
 use Rattle.pgb_command.specs.declared.fault.Fault.TheVariants.{Usage, Stage, Command, Failed as ObjectFailed, NoMemory}
 use Rattle.pgb_command.specs.Answers.{reached_of, ending_of}
 use Rattle.pgb_command.specs.Asked.{Asked}
-use Rattle.pgb_command.specs.Tables.{Known, known, plan_of, manner_of, WordsFit, CommandCause, Promise, Lasts, OnReader, OnCreate, OnOther, FolderGoes}
+use Rattle.pgb_command.specs.Tables.{Known, known, plan_of, manner_of, WordsFit, CommandCause, Promise, Lasts, OnReader, OnCreate, OnOther, FolderGoes, Unless, uses_workers, uses_clock}
 
 -- ---- what stays
 
@@ -32,16 +32,18 @@ abbrev pub Closes : Seen → Seen → Fault → Type 0
 Closes before after (Command (Create fault)) = CreateCloses (Failed before after Server) after.server.sent (Refused fault)
 Closes before after other = Unit {0}
 
--- What a command leaves as it was: of the repository all where it only reads, of the data folder all but a file that is served, and the server where it asks none. Refused before its first step it has changed no file of the data folder, and stanza-create none of the repository. Whatever it is, it keeps to its stanza, and stanza-create to the members of its two pairs.
+-- What a command leaves as it was: of the repository all where it only reads, of the data folder all but a file that is served, the server where it asks none, and the workers and the clock where it doesn't use them. Refused before its first step it has changed no file of the data folder, and stanza-create none of the repository. Whatever it is, it keeps to its stanza, and stanza-create to the members of its two pairs.
 pub record Spares (a : Asked) (before after : Seen) (result : Result Outcome Fault) : Type 0 where
   pub beside : StaysBeside a.stanza before.repo.view after.repo.view
   pub pairs : OnCreate a.request (ChangesOnly (IsOfPairs a.stanza) before.repo.view after.repo.view)
   pub reads : OnReader a.request (IsStill before.repo.view after.repo.view)
-  pub folder : FolderGoes a a.request before.repo.view.now before.tree.nodes after.tree.nodes
+  pub folder : FolderGoes a a.request (known before) after.tree.nodes
   pub nodes : OnNone (reached_of (ending_of result)) (after.tree.nodes ≡ before.tree.nodes)
   pub unmade : OnCreate a.request (OnNone (reached_of (ending_of result)) (after.repo.view.now ≡ before.repo.view.now))
   pub quiet : a.server ≡ None → after.server ≡ before.server
   pub others : OnOther a.request (after.server ≡ before.server)
+  pub workers : Unless (uses_workers a.request) (after.links ≡ before.links)
+  pub clock : Unless (uses_clock a.request) (after.clock ≡ before.clock)
   pub closed : IfErr result (Closes before after)
 
 -- Nothing was done: the objects but the configuration and the output are as they were.
@@ -51,7 +53,9 @@ pub record IsIdle (before after : Seen) : Type 0 where
   pub spool : IsStill before.spool.view after.spool.view
   pub tree : after.tree ≡ before.tree
   pub server : after.server ≡ before.server
+  pub clock : after.clock ≡ before.clock
   pub locks : after.locks ≡ before.locks
+  pub links : after.links ≡ before.links
 
 -- the places that are open are those that were
 pub record SamePlaces (before after : Seen) : Type 0 where
@@ -74,7 +78,7 @@ pub record StaysHealed (a : Asked) (before after : Seen) : Type 0 where
   pub lasts : IsLookedAt a.stanza before.repo.view → HealsToLast (plan_of a.request).pairs a.stanza before.repo.view → HealsToLast (plan_of a.request).pairs a.stanza after.repo.view
 
 pub record Ran (a : Asked) (before after : Seen) (result : Result Outcome Fault) : Type 0 where
-  pub steps : On (manner_of a.request a.data_folder before.tree.nodes) (λ command. Runs (plan_of a.request).settling a.stanza command (reached_of (ending_of result)) before.repo.view before.spool.view after.repo.view after.spool.view)
+  pub steps : On (manner_of a.request a.data_folder before.tree.nodes before.links) (λ command. Runs (plan_of a.request).settling a.stanza command (reached_of (ending_of result)) before.repo.view before.spool.view after.repo.view after.spool.view)
   pub promise : IfOk result (Promise a a.request (known before) (known after))
   pub lasts : IfOk result (λ outcome. IsLookedAt a.stanza before.repo.view → Lasts a a.request before.tree.nodes after.repo.view after.tree.nodes outcome)
   pub cause : IfErr result (OwnCause a before after)
@@ -146,7 +150,7 @@ pub record HealsPairs (a : Asked) (before after : Seen) : Type 0 where
   pub lasts : (q : Repository) (log : List Done) → IsSome before.repo.view.now → KeepsRepository a.stanza q log before.repo.view → HealsToLast (plan_of a.request).pairs a.stanza after.repo.view
 
 pub record Did (a : Asked) (before after : Seen) (result : Result Outcome Fault) : Type 0 where
-  pub steps : On (manner_of a.request a.data_folder before.tree.nodes) (λ command. Takes (plan_of a.request).settling a.stanza command (reached_of (ending_of result)) before.repo.view before.spool.view after.repo.view after.spool.view)
+  pub steps : On (manner_of a.request a.data_folder before.tree.nodes before.links) (λ command. Takes (plan_of a.request).settling a.stanza command (reached_of (ending_of result)) before.repo.view before.spool.view after.repo.view after.spool.view)
   pub promise : IfOk result (λ outcome. OnReady a (known before) (λ old. Promise a a.request old (known after) outcome))
   pub lasts : IfOk result (LastsAfter a before after)
   pub cause : IfErr result (Cause a before after)

@@ -1,7 +1,8 @@
 -- The tables of the commands: a line for each in each.
-use Rattle.std.specs.Prelude.{◌≡◌, true, false, Option, Some, IfSome, IsSome, IsSomeAnd}
+use Rattle.std.specs.Prelude.{◌≡◌, Bool, true, false, List, Option, Some, IfSome, IsSome, IsSomeAnd}
 use Rattle.pgb_outside.specs.Content.{Content}
 use Rattle.pgb_outside.specs.Crash.{Leaves}
+use Rattle.pgb_outside.specs.Links.{LinkState}
 use Rattle.pgb_outside.specs.Moments.{View}
 use Rattle.pgb_outside.specs.Tree.{Nodes}
 use Rattle.pgb_model.specs.declared.clusters.Cluster.{Cluster}
@@ -18,7 +19,7 @@ use Rattle.pgb_stage.specs.declared.outcome.Outcome.{Outcome}
 use Rattle.pgb_stage.specs.Cluster.{FolderTells, IsClusterOf}
 use Rattle.pgb_stage.specs.Runs.{Manner, each}
 use Rattle.pgb_stage.specs.Seen.{Seen}
-use Rattle.pgb_outside.specs.States.{WireState}
+use Rattle.pgb_outside.specs.States.{WireState, ClockState}
 use Rattle.pgb_create.specs.Talking.{Asks, IsOf}
 use Rattle.pgb_create.specs.Creating.{IsCreated, CreateCause}
 use Rattle.pgb_push.specs.Commands.{IsPushOf}
@@ -36,9 +37,11 @@ pub record Known : Type 0 where
   pub repo : Option Content
   pub nodes : Option Nodes
   pub server : WireState
+  pub clock : ClockState
+  pub links : List LinkState
 
 abbrev pub known : Seen → Known
-known s = record { repo = s.repo.view.now; nodes = s.tree.nodes; server = s.server }
+known s = record { repo = s.repo.view.now; nodes = s.tree.nodes; server = s.server; clock = s.clock; links = s.links }
 
 -- what a command needs of the stages: names settled, places, locks, the control file, and the pairs
 abbrev pub plan_of : Request → Plan
@@ -52,11 +55,11 @@ abbrev pub IsCreateOf : Nodes → Command → Type 0
 IsCreateOf f command = (cluster : Option Cluster) × IsClusterOf f cluster × (command ≡ StanzaCreate cluster)
 
 -- which command of the repository's log it is
-abbrev pub manner_of : Request → Text → Option Nodes → Manner
-manner_of create folder nodes = each (λ command. IsSomeAnd nodes (λ f. IsCreateOf f command))
-manner_of (push path) folder nodes = each (λ command. IsSomeAnd nodes (λ f. IsPushOf f folder path command))
-manner_of (get name path) folder nodes = each (λ command. command ≡ Reading)
-manner_of (report form) folder nodes = each (λ command. command ≡ Reading)
+abbrev pub manner_of : Request → Text → Option Nodes → List LinkState → Manner
+manner_of create folder nodes links = each (λ command. IsSomeAnd nodes (λ f. IsCreateOf f command))
+manner_of (push path) folder nodes links = each (λ command. IsSomeAnd nodes (λ f. IsPushOf f folder path command))
+manner_of (get name path) folder nodes links = each (λ command. command ≡ Reading)
+manner_of (report form) folder nodes links = each (λ command. command ≡ Reading)
 
 -- the data folder tells this cluster, and this holds of it
 abbrev pub OnCluster : Option Nodes → (Control → Type 0) → Type 0
@@ -122,6 +125,18 @@ OnOther create P = Unit {0}
 OnOther other P = P
 
 -- only archive-get changes the data folder, and puts there what is served
-abbrev pub FolderGoes : Asked → Request → Option Content → Option Nodes → Option Nodes → Type 0
-FolderGoes a (get name path) repo old new = ChangesPath (served_path a.data_folder path) (IsServed a.stanza a.data_folder name path repo old) old new
-FolderGoes a request repo old new = new ≡ old
+abbrev pub FolderGoes : Asked → Request → Known → Option Nodes → Type 0
+FolderGoes a (get name path) old new = ChangesPath (served_path a.data_folder path) (IsServed a.stanza a.data_folder name path old.repo old.nodes) old.nodes new
+FolderGoes a request old new = new ≡ old.nodes
+
+-- no command that is built uses the workers, or the clock
+abbrev pub uses_workers : Request → Bool
+uses_workers request = false
+
+abbrev pub uses_clock : Request → Bool
+uses_clock request = false
+
+-- this holds of a command that doesn't use it
+abbrev pub Unless : Bool → Type 0 → Type 0
+Unless true P = Unit {0}
+Unless false P = P

@@ -1,5 +1,7 @@
 -- What the code's settings stand for.
-use Rattle.std.specs.Prelude.{◌≡◌, option_map}
+use Rattle.std.specs.Prelude.{ℕ, ◌≡◌, ◌<◌, ◌^◌, List, length, slice_get, Some, option_map}
+use Rattle.pgb_outside.specs.Links.{LinkState}
+use Rattle.pgb_worker_dispatch.specs.Run.{IsReady}
 use Rattle.pgb_model.specs.Text.{Text}
 use Rattle.pgb_create.specs.Server.{server_view}
 use Rattle.pgb_command.specs.declared.settings.Settings.{Settings}
@@ -8,6 +10,11 @@ use Rattle.pgb_command.specs.declared.settings.Request.TheVariants.{StanzaCreate
 use Rattle.pgb_command.specs.declared.order.Order.{Order}
 use Rattle.pgb_command.specs.declared.order.Order.TheVariants as order
 use Rattle.pgb_command.specs.Asked.{Request, create, push, get, report, Asked}
+
+-- the workers can be numbered, and none has bytes of an earlier answer to give
+pub record AreWorkers (links : List LinkState) : Type 0 where
+  pub few : length links < 2 ^ 32
+  pub ready : (i : ℕ) (s : LinkState) → slice_get links i ≡ Some s → IsReady s
 
 abbrev pub request_of : code.Request → Request
 request_of StanzaCreate = create

@@ -14,7 +14,7 @@ use pgb_create::create_stanza;
 use pgb_get::{GetOrder, get_file};
 use pgb_inform::report_stanza;
 use pgb_options::OutputWord;
-use pgb_outside::{Clock, Disk, Locks, Sink, Source, Tree, Wire};
+use pgb_outside::{Clock, Disk, Link, Locks, Sink, Source, Tree, Turns, Wire};
 use pgb_prepare::Ready;
 use pgb_push::{PushOrder, push_file};
 use pgb_stage::Outcome;
@@ -31,7 +31,9 @@ impl<
     K: Locks,
     I: Source,
     O: Sink,
-> Outside<D, S, T, V, A, C, K, I, O> {
+    L: Link,
+    U: Turns,
+> Outside<D, S, T, V, A, C, K, I, O, L, U> {
     /// stanza-create.
     pub(crate) fn create(
         &mut self,
@@ -44,7 +46,7 @@ impl<
             (K.state self.old.locks).taken }
         requires ready { IsReady (plan_of (request_of settings.now.request)) settings.now.stanza.now
             (D.state self.old.repo).view.now (T.state self.old.tree).nodes ready.now }
-        ensures ran { let told = ⟦<Outside<D, S, T, V, A, C, K, I, O> as Told>⟧.told in
+        ensures ran { let told = ⟦<Outside<D, S, T, V, A, C, K, I, O, L, U> as Told>⟧.told in
             Ran (asked_of settings.now) (told self.old) (told self.new) result }
         ensures quiet { settings.now.server ≡ None → self.new.server ≡ self.old.server }
         ensures rest { self.new ≡ record self.old { repo = self.new.repo; server = self.new.server } }
@@ -77,7 +79,7 @@ impl<
         requires folder { order.folder.now ≡ settings.now.pg1_path.now }
         requires ready { IsReady (plan_of (request_of settings.now.request)) settings.now.stanza.now
             (D.state self.old.repo).view.now (T.state self.old.tree).nodes ready.now }
-        ensures ran { let told = ⟦<Outside<D, S, T, V, A, C, K, I, O> as Told>⟧.told in
+        ensures ran { let told = ⟦<Outside<D, S, T, V, A, C, K, I, O, L, U> as Told>⟧.told in
             Ran (asked_of settings.now) (told self.old) (told self.new) result }
         ensures rest { self.new ≡ record self.old { repo = self.new.repo; tree = self.new.tree } }
     {
@@ -108,7 +110,7 @@ impl<
         requires folder { order.now.folder.now ≡ settings.now.pg1_path.now }
         requires ready { IsReady (plan_of (request_of settings.now.request)) settings.now.stanza.now
             (D.state self.old.repo).view.now (T.state self.old.tree).nodes ready.now }
-        ensures ran { let told = ⟦<Outside<D, S, T, V, A, C, K, I, O> as Told>⟧.told in
+        ensures ran { let told = ⟦<Outside<D, S, T, V, A, C, K, I, O, L, U> as Told>⟧.told in
             Ran (asked_of settings.now) (told self.old) (told self.new) result }
         ensures rest { self.new ≡ record self.old { repo = self.new.repo; tree = self.new.tree } }
     {
@@ -137,7 +139,7 @@ impl<
         requires request { request_of settings.now.request ≡ asks_report form }
         requires ready { IsReady (plan_of (request_of settings.now.request)) settings.now.stanza.now
             (D.state self.old.repo).view.now (T.state self.old.tree).nodes ready.now }
-        ensures ran { let told = ⟦<Outside<D, S, T, V, A, C, K, I, O> as Told>⟧.told in
+        ensures ran { let told = ⟦<Outside<D, S, T, V, A, C, K, I, O, L, U> as Told>⟧.told in
             Ran (asked_of settings.now) (told self.old) (told self.new) result }
         ensures rest { self.new ≡ record self.old { repo = self.new.repo } }
     {

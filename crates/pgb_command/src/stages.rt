@@ -8,14 +8,14 @@ ghost use Rattle.pgb_prepare.specs.Taking.{AreNames, HoldsOnly};
 ghost use Rattle.pgb_command.specs.Did.{Ran, Did, ComesBehind, Brackets, SamePlaces, OpensPlaces, ArePlacesOpened, TakesAll, OnlyLocked};
 ghost use Rattle.pgb_options.specs.declared.options.OutputWord.{OutputWord};
 ghost use Rattle.pgb_command.specs.Asked.{report};
-ghost use Rattle.pgb_command.specs.Told.{request_of, asked_of, IsOrder};
-ghost use Rattle.pgb_command.specs.Tables.{plan_of};
+ghost use Rattle.pgb_command.specs.Told.{request_of, asked_of, AreWorkers, IsOrder};
+ghost use Rattle.pgb_command.specs.Tables.{plan_of, uses_workers};
 
 use crate::fault::Fault;
 use crate::order::{Order, order_of};
 use crate::outside::{Outside, Told};
 use crate::settings::{Settings, plan_of};
-use pgb_outside::{Clock, Disk, Locks, Sink, Source, Tree, Wire};
+use pgb_outside::{Clock, Disk, Link, Locks, Sink, Source, Tree, Turns, Wire};
 use pgb_prepare::{
     LockNames, Ready, lock_names, open_disk, open_tree, prepare, release_locks, take_locks,
 };
@@ -45,17 +45,19 @@ impl<
     K: Locks,
     I: Source,
     O: Sink,
-> Outside<D, S, T, V, A, C, K, I, O> {
+    L: Link,
+    U: Turns,
+> Outside<D, S, T, V, A, C, K, I, O, L, U> {
     // Opens the places that the plan names: the data folder and the repository.
     fn open(&mut self, settings: &Settings<'_>, plan: &Plan) -> Result<(), Halt<StageFault>>
         requires { plan.now ≡ plan_of (request_of settings.now.request) }
-        ensures read { let told = ⟦<Outside<D, S, T, V, A, C, K, I, O> as Told>⟧.told in
+        ensures read { let told = ⟦<Outside<D, S, T, V, A, C, K, I, O, L, U> as Told>⟧.told in
             AreRead (told self.old) (told self.new) }
-        ensures places { let told = ⟦<Outside<D, S, T, V, A, C, K, I, O> as Told>⟧.told in
+        ensures places { let told = ⟦<Outside<D, S, T, V, A, C, K, I, O, L, U> as Told>⟧.told in
             OpensPlaces (asked_of settings.now) (told self.old) (told self.new) }
-        ensures opened { let told = ⟦<Outside<D, S, T, V, A, C, K, I, O> as Told>⟧.told in
+        ensures opened { let told = ⟦<Outside<D, S, T, V, A, C, K, I, O, L, U> as Told>⟧.told in
             OnOk result (ArePlacesOpened (asked_of settings.now) (told self.old) (told self.new)) }
-        ensures cause { let told = ⟦<Outside<D, S, T, V, A, C, K, I, O> as Told>⟧.told in
+        ensures cause { let told = ⟦<Outside<D, S, T, V, A, C, K, I, O, L, U> as Told>⟧.told in
             IfErr result (HaltCause Never (Failed (told self.old) (told self.new))) }
         ensures rest { self.new ≡ record self.old { repo = self.new.repo; tree = self.new.tree } }
         ensures tree { plan.now.folder ≡ false → self.new.tree ≡ self.old.tree }
@@ -73,22 +75,28 @@ impl<
         plan: &Plan,
         order: Order<'_>,
     ) -> Result<Outcome, Fault>
+        requires workers { AreWorkers (map L.link_state self.old.links.items) }
         requires free { (K.state self.old.locks).taken ≡ [] }
         requires plan { plan.now ≡ plan_of (request_of settings.now.request) }
         requires order { IsOrder (request_of settings.now.request) settings.now.pg1_path.now order }
-        ensures did { let told = ⟦<Outside<D, S, T, V, A, C, K, I, O> as Told>⟧.told in
+        ensures did { let told = ⟦<Outside<D, S, T, V, A, C, K, I, O, L, U> as Told>⟧.told in
             Did (asked_of settings.now) (told self.old) (told self.new) result }
-        ensures brackets { let told = ⟦<Outside<D, S, T, V, A, C, K, I, O> as Told>⟧.told in
+        ensures brackets { let told = ⟦<Outside<D, S, T, V, A, C, K, I, O, L, U> as Told>⟧.told in
             Brackets (asked_of settings.now) (told self.old) (told self.new) result }
         ensures released { (K.state self.new.locks).taken ≡ [] }
         ensures tree { plan.now.folder ≡ false → self.new.tree ≡ self.old.tree }
         ensures quiet { settings.now.server ≡ None → self.new.server ≡ self.old.server }
+        ensures alone { uses_workers (request_of settings.now.request) ≡ false
+            → (self.new.links ≡ self.old.links) × (self.new.turns ≡ self.old.turns) }
         ensures idle { plan.now.backup_lock ≡ false → plan.now.archive_lock ≡ false → self.new.locks ≡ self.old.locks }
         ensures rest { self.new ≡ record self.old {
           repo = self.new.repo;
           tree = self.new.tree;
           server = self.new.server;
+          clock = self.new.clock;
           locks = self.new.locks;
+          links = self.new.links;
+          turns = self.new.turns;
         } }
     {
         self.open(settings, plan)?;
@@ -97,22 +105,28 @@ impl<
 
     /// Does what is asked for: the command's words are read, and then come its stages.
     pub(crate) fn obey(&mut self, alloc: Global, settings: &Settings<'_>) -> Result<Outcome, Fault>
+        requires workers { AreWorkers (map L.link_state self.old.links.items) }
         requires free { (K.state self.old.locks).taken ≡ [] }
-        ensures did { let told = ⟦<Outside<D, S, T, V, A, C, K, I, O> as Told>⟧.told in
+        ensures did { let told = ⟦<Outside<D, S, T, V, A, C, K, I, O, L, U> as Told>⟧.told in
             Did (asked_of settings.now) (told self.old) (told self.new) result }
-        ensures brackets { let told = ⟦<Outside<D, S, T, V, A, C, K, I, O> as Told>⟧.told in
+        ensures brackets { let told = ⟦<Outside<D, S, T, V, A, C, K, I, O, L, U> as Told>⟧.told in
             Brackets (asked_of settings.now) (told self.old) (told self.new) result }
-        ensures words { let told = ⟦<Outside<D, S, T, V, A, C, K, I, O> as Told>⟧.told in
+        ensures words { let told = ⟦<Outside<D, S, T, V, A, C, K, I, O, L, U> as Told>⟧.told in
             ComesBehind (asked_of settings.now) (told self.old) (told self.new) result }
         ensures released { (K.state self.new.locks).taken ≡ [] }
         ensures quiet { settings.now.server ≡ None → self.new.server ≡ self.old.server }
+        ensures alone { uses_workers (request_of settings.now.request) ≡ false
+            → (self.new.links ≡ self.old.links) × (self.new.turns ≡ self.old.turns) }
         ensures unused { (form : OutputWord) → request_of settings.now.request ≡ report form →
             (self.new.tree ≡ self.old.tree) × (self.new.locks ≡ self.old.locks) }
         ensures rest { self.new ≡ record self.old {
           repo = self.new.repo;
           tree = self.new.tree;
           server = self.new.server;
+          clock = self.new.clock;
           locks = self.new.locks;
+          links = self.new.links;
+          turns = self.new.turns;
         } }
     {
         let order = order_of(alloc, settings)?;
@@ -129,19 +143,25 @@ impl<
         plan: &Plan,
         order: Order<'_>,
     ) -> Result<Outcome, Fault>
+        requires workers { AreWorkers (map L.link_state self.old.links.items) }
         requires plan { plan.now ≡ plan_of (request_of settings.now.request) }
         requires locked { AreHeld plan.now settings.now.stanza.now (K.state self.old.locks).taken }
         requires order { IsOrder (request_of settings.now.request) settings.now.pg1_path.now order }
-        ensures did { let told = ⟦<Outside<D, S, T, V, A, C, K, I, O> as Told>⟧.told in
+        ensures did { let told = ⟦<Outside<D, S, T, V, A, C, K, I, O, L, U> as Told>⟧.told in
             Did (asked_of settings.now) (told self.old) (told self.new) result }
-        ensures places { let told = ⟦<Outside<D, S, T, V, A, C, K, I, O> as Told>⟧.told in
+        ensures places { let told = ⟦<Outside<D, S, T, V, A, C, K, I, O, L, U> as Told>⟧.told in
             SamePlaces (told self.old) (told self.new) }
         ensures tree { plan.now.folder ≡ false → self.new.tree ≡ self.old.tree }
         ensures quiet { settings.now.server ≡ None → self.new.server ≡ self.old.server }
+        ensures alone { uses_workers (request_of settings.now.request) ≡ false
+            → (self.new.links ≡ self.old.links) × (self.new.turns ≡ self.old.turns) }
         ensures rest { self.new ≡ record self.old {
           repo = self.new.repo;
           tree = self.new.tree;
           server = self.new.server;
+          clock = self.new.clock;
+          links = self.new.links;
+          turns = self.new.turns;
         } }
     {
         let ready = prepare(
@@ -164,28 +184,34 @@ impl<
         names: &LockNames,
         order: Order<'_>,
     ) -> Result<Outcome, Fault>
+        requires workers { AreWorkers (map L.link_state self.old.links.items) }
         requires free { (K.state self.old.locks).taken ≡ [] }
         requires plan { plan.now ≡ plan_of (request_of settings.now.request) }
         requires names { AreNames names.now plan.now settings.now.stanza.now }
         requires order { IsOrder (request_of settings.now.request) settings.now.pg1_path.now order }
-        ensures did { let told = ⟦<Outside<D, S, T, V, A, C, K, I, O> as Told>⟧.told in
+        ensures did { let told = ⟦<Outside<D, S, T, V, A, C, K, I, O, L, U> as Told>⟧.told in
             Did (asked_of settings.now) (told self.old) (told self.new) result }
-        ensures places { let told = ⟦<Outside<D, S, T, V, A, C, K, I, O> as Told>⟧.told in
+        ensures places { let told = ⟦<Outside<D, S, T, V, A, C, K, I, O, L, U> as Told>⟧.told in
             SamePlaces (told self.old) (told self.new) }
         ensures held { HoldsOnly (first_lock plan.now settings.now.stanza.now)
             (second_lock plan.now settings.now.stanza.now) (K.state self.new.locks).taken }
-        ensures took { let told = ⟦<Outside<D, S, T, V, A, C, K, I, O> as Told>⟧.told in
+        ensures took { let told = ⟦<Outside<D, S, T, V, A, C, K, I, O, L, U> as Told>⟧.told in
             OnOk result (TakesAll (asked_of settings.now) (told self.old) (told self.new)) }
-        ensures only { let told = ⟦<Outside<D, S, T, V, A, C, K, I, O> as Told>⟧.told in
+        ensures only { let told = ⟦<Outside<D, S, T, V, A, C, K, I, O, L, U> as Told>⟧.told in
             OnlyLocked (asked_of settings.now) (told self.old) (told self.new) }
         ensures tree { plan.now.folder ≡ false → self.new.tree ≡ self.old.tree }
         ensures quiet { settings.now.server ≡ None → self.new.server ≡ self.old.server }
+        ensures alone { uses_workers (request_of settings.now.request) ≡ false
+            → (self.new.links ≡ self.old.links) × (self.new.turns ≡ self.old.turns) }
         ensures idle { plan.now.backup_lock ≡ false → plan.now.archive_lock ≡ false → self.new.locks ≡ self.old.locks }
         ensures rest { self.new ≡ record self.old {
           repo = self.new.repo;
           tree = self.new.tree;
           server = self.new.server;
+          clock = self.new.clock;
           locks = self.new.locks;
+          links = self.new.links;
+          turns = self.new.turns;
         } }
     {
         take_locks(
@@ -207,26 +233,32 @@ impl<
         plan: &Plan,
         order: Order<'_>,
     ) -> Result<Outcome, Fault>
+        requires workers { AreWorkers (map L.link_state self.old.links.items) }
         requires free { (K.state self.old.locks).taken ≡ [] }
         requires plan { plan.now ≡ plan_of (request_of settings.now.request) }
         requires order { IsOrder (request_of settings.now.request) settings.now.pg1_path.now order }
-        ensures did { let told = ⟦<Outside<D, S, T, V, A, C, K, I, O> as Told>⟧.told in
+        ensures did { let told = ⟦<Outside<D, S, T, V, A, C, K, I, O, L, U> as Told>⟧.told in
             Did (asked_of settings.now) (told self.old) (told self.new) result }
-        ensures places { let told = ⟦<Outside<D, S, T, V, A, C, K, I, O> as Told>⟧.told in
+        ensures places { let told = ⟦<Outside<D, S, T, V, A, C, K, I, O, L, U> as Told>⟧.told in
             SamePlaces (told self.old) (told self.new) }
         ensures released { (K.state self.new.locks).taken ≡ [] }
-        ensures took { let told = ⟦<Outside<D, S, T, V, A, C, K, I, O> as Told>⟧.told in
+        ensures took { let told = ⟦<Outside<D, S, T, V, A, C, K, I, O, L, U> as Told>⟧.told in
             OnOk result (TakesAll (asked_of settings.now) (told self.old) (told self.new)) }
-        ensures only { let told = ⟦<Outside<D, S, T, V, A, C, K, I, O> as Told>⟧.told in
+        ensures only { let told = ⟦<Outside<D, S, T, V, A, C, K, I, O, L, U> as Told>⟧.told in
             OnlyLocked (asked_of settings.now) (told self.old) (told self.new) }
         ensures tree { plan.now.folder ≡ false → self.new.tree ≡ self.old.tree }
         ensures quiet { settings.now.server ≡ None → self.new.server ≡ self.old.server }
+        ensures alone { uses_workers (request_of settings.now.request) ≡ false
+            → (self.new.links ≡ self.old.links) × (self.new.turns ≡ self.old.turns) }
         ensures idle { plan.now.backup_lock ≡ false → plan.now.archive_lock ≡ false → self.new.locks ≡ self.old.locks }
         ensures rest { self.new ≡ record self.old {
           repo = self.new.repo;
           tree = self.new.tree;
           server = self.new.server;
+          clock = self.new.clock;
           locks = self.new.locks;
+          links = self.new.links;
+          turns = self.new.turns;
         } }
     {
         let names = lock_names(alloc, plan, settings.stanza)?;
@@ -243,19 +275,25 @@ impl<
         order: Order<'_>,
         ready: Ready,
     ) -> Result<Outcome, Fault>
+        requires workers { AreWorkers (map L.link_state self.old.links.items) }
         requires locked { AreHeld (plan_of (request_of settings.now.request)) settings.now.stanza.now
             (K.state self.old.locks).taken }
         requires order { IsOrder (request_of settings.now.request) settings.now.pg1_path.now order }
         requires ready { IsReady (plan_of (request_of settings.now.request)) settings.now.stanza.now
             (D.state self.old.repo).view.now (T.state self.old.tree).nodes ready }
-        ensures ran { let told = ⟦<Outside<D, S, T, V, A, C, K, I, O> as Told>⟧.told in
+        ensures ran { let told = ⟦<Outside<D, S, T, V, A, C, K, I, O, L, U> as Told>⟧.told in
             Ran (asked_of settings.now) (told self.old) (told self.new) result }
         ensures tree { (plan_of (request_of settings.now.request)).folder ≡ false → self.new.tree ≡ self.old.tree }
         ensures quiet { settings.now.server ≡ None → self.new.server ≡ self.old.server }
+        ensures alone { uses_workers (request_of settings.now.request) ≡ false
+            → (self.new.links ≡ self.old.links) × (self.new.turns ≡ self.old.turns) }
         ensures rest { self.new ≡ record self.old {
           repo = self.new.repo;
           tree = self.new.tree;
           server = self.new.server;
+          clock = self.new.clock;
+          links = self.new.links;
+          turns = self.new.turns;
         } }
     {
         match order {

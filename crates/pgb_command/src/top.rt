@@ -4,9 +4,11 @@ ghost use Rattle.pgb_story.specs.Beside.{KeepsOthers};
 ghost use Rattle.pgb_options.specs.declared.options.OutputWord.{OutputWord};
 ghost use Rattle.pgb_options.specs.Commands.{IsCommand};
 ghost use Rattle.pgb_options.specs.Settings.{Settled};
-ghost use Rattle.pgb_command.specs.Asked.{Asked, MayAsk, report, requested, server_asked};
+ghost use Rattle.pgb_command.specs.Asked.{Request, Asked, MayAsk, report, requested, server_asked};
 ghost use Rattle.pgb_command.specs.Causes.{Answers, Obeys, Each, Finishes, PartDone, IsEarly, TurnsBack, Fulfils, LeavesRest, Completes, ClosesTalk};
 ghost use Rattle.pgb_command.specs.Did.{OpensPlaces, OnlyLocked};
+ghost use Rattle.pgb_command.specs.Tables.{uses_workers};
+ghost use Rattle.pgb_command.specs.Told.{AreWorkers};
 
 use crate::config::read_command;
 use crate::fault::Fault;
@@ -30,15 +32,21 @@ pub fn carry<
     K: Locks,
     I: Source,
     O: Sink,
->(alloc: Global, command: &Command, outside: &mut Outside<D, S, T, V, A, C, K, I, O>) -> u8
+    L: Link,
+    U: Turns,
+>(alloc: Global, command: &Command, outside: &mut Outside<D, S, T, V, A, C, K, I, O, L, U>) -> u8
     requires free { (K.state outside.old.locks).taken ≡ [] }
+    requires workers { AreWorkers (map L.link_state outside.old.links.items) }
     requires settled { (s : Settled) × IsCommand command.now s }
     // What was asked for is done and told.
-    ensures obeys { let told = ⟦<Outside<D, S, T, V, A, C, K, I, O> as Told>⟧.told in
+    ensures obeys { let told = ⟦<Outside<D, S, T, V, A, C, K, I, O, L, U> as Told>⟧.told in
         (s : Settled) → IsCommand command.now s → Obeys s (told outside.old) (told outside.new) result }
     ensures released { (K.state outside.new.locks).taken ≡ [] }
     ensures quiet { (s : Settled) → IsCommand command.now s → server_asked s ≡ None
         → outside.new.server ≡ outside.old.server }
+    ensures alone { (s : Settled) → IsCommand command.now s → (request : Request) → requested s ≡ Ok request
+        → uses_workers request ≡ false
+        → (outside.new.links ≡ outside.old.links) × (outside.new.turns ≡ outside.old.turns) }
     ensures unused { (s : Settled) → IsCommand command.now s → (form : OutputWord) → requested s ≡ Ok (report form)
         → (outside.new.tree ≡ outside.old.tree) × (outside.new.locks ≡ outside.old.locks) }
     ensures unbuilt { (s : Settled) → IsCommand command.now s → IfErr (requested s)
@@ -47,8 +55,11 @@ pub fn carry<
       repo = outside.new.repo;
       tree = outside.new.tree;
       server = outside.new.server;
+      clock = outside.new.clock;
       locks = outside.new.locks;
       out = outside.new.out;
+      links = outside.new.links;
+      turns = outside.new.turns;
     } }
 {
     let settings = match settings_of(command) {
@@ -74,72 +85,76 @@ pub fn run<
     K: Locks,
     I: Source,
     O: Sink,
+    L: Link,
     U: Turns,
 >(
     alloc: Global,
     words: &[String],
-    outside: &mut Outside<D, S, T, V, A, C, K, I, O>,
-    links: &mut Vec<Box<dyn Link>>,
-    turns: &mut U,
+    outside: &mut Outside<D, S, T, V, A, C, K, I, O, L, U>,
 ) -> u8
     requires free { (K.state outside.old.locks).taken ≡ [] }
+    requires workers { AreWorkers (map L.link_state outside.old.links.items) }
 
     // The words are refused, and nothing is done; or what they settle is done, with its cause, and told. What
     // follows of steps, promises and places is a part of this, for each command that the words ask for.
-    ensures answers { let told = ⟦<Outside<D, S, T, V, A, C, K, I, O> as Told>⟧.told in
+    ensures answers { let told = ⟦<Outside<D, S, T, V, A, C, K, I, O, L, U> as Told>⟧.told in
         Answers (map string_bytes words.now) (told outside.old) (told outside.new) result }
 
     // At 0 all of the command's steps are done: in what the disks hold, and in all that a stop leaves.
-    ensures done { let told = ⟦<Outside<D, S, T, V, A, C, K, I, O> as Told>⟧.told in
+    ensures done { let told = ⟦<Outside<D, S, T, V, A, C, K, I, O, L, U> as Told>⟧.told in
         result ≡ 0 → Each (map string_bytes words.now) (I.state outside.old.config).files
         (λ a. Finishes a (told outside.old) (told outside.new)) }
 
     // After every answer a part of them is, and at each moment between whatever a stop leaves stands for the log
     // with a part.
-    ensures part { let told = ⟦<Outside<D, S, T, V, A, C, K, I, O> as Told>⟧.told in
+    ensures part { let told = ⟦<Outside<D, S, T, V, A, C, K, I, O, L, U> as Told>⟧.told in
         Each (map string_bytes words.now) (I.state outside.old.config).files
         (λ a. PartDone a (told outside.old) (told outside.new)) }
 
-    // A refusal for what was found takes no step, nor does one for a connection to the server that failed.
-    ensures stays { let told = ⟦<Outside<D, S, T, V, A, C, K, I, O> as Told>⟧.told in
-        IsEarly result → Each (map string_bytes words.now) (I.state outside.old.config).files
-        (λ a. TurnsBack a (told outside.old) (told outside.new)) }
+    // A refusal for what was found takes no step, nor does one of stanza-create for a connection to the server that
+    // failed.
+    ensures stays { let told = ⟦<Outside<D, S, T, V, A, C, K, I, O, L, U> as Told>⟧.told in
+        Each (map string_bytes words.now) (I.state outside.old.config).files
+        (λ a. IsEarly a.request result → TurnsBack a (told outside.old) (told outside.new)) }
 
     // At 0 and 1 the command keeps its promise, and its lines are written.
-    ensures fulfils { let told = ⟦<Outside<D, S, T, V, A, C, K, I, O> as Told>⟧.told in
+    ensures fulfils { let told = ⟦<Outside<D, S, T, V, A, C, K, I, O, L, U> as Told>⟧.told in
         result ≤ 1 → Each (map string_bytes words.now) (I.state outside.old.config).files
         (λ a. Fulfils a (told outside.old) (told outside.new) result) }
 
     // What the command has no use for stays, no place but those of the words is opened, and without its locks
     // nothing is done.
-    ensures rests { let told = ⟦<Outside<D, S, T, V, A, C, K, I, O> as Told>⟧.told in
+    ensures rests { let told = ⟦<Outside<D, S, T, V, A, C, K, I, O, L, U> as Told>⟧.told in
         Each (map string_bytes words.now) (I.state outside.old.config).files
         (λ a. LeavesRest a (told outside.old) (told outside.new)) }
     // Of every other stanza in form all stays, at its end and in all that a stop leaves at each moment.
     ensures others { Each (map string_bytes words.now) (I.state outside.old.config).files
         (λ a. KeepsOthers a.stanza (D.state outside.old.repo).view (D.state outside.new.repo).view) }
-    ensures places { let told = ⟦<Outside<D, S, T, V, A, C, K, I, O> as Told>⟧.told in
+    ensures places { let told = ⟦<Outside<D, S, T, V, A, C, K, I, O, L, U> as Told>⟧.told in
         Each (map string_bytes words.now) (I.state outside.old.config).files
         (λ a. OpensPlaces a (told outside.old) (told outside.new)) }
-    ensures locked { let told = ⟦<Outside<D, S, T, V, A, C, K, I, O> as Told>⟧.told in
+    ensures locked { let told = ⟦<Outside<D, S, T, V, A, C, K, I, O, L, U> as Told>⟧.told in
         Each (map string_bytes words.now) (I.state outside.old.config).files
         (λ a. OnlyLocked a (told outside.old) (told outside.new)) }
 
     // Where no cause of a refusal holds the answer is Ok, or that the file isn't there, or want of memory.
-    ensures complete { let told = ⟦<Outside<D, S, T, V, A, C, K, I, O> as Told>⟧.told in
+    ensures complete { let told = ⟦<Outside<D, S, T, V, A, C, K, I, O, L, U> as Told>⟧.told in
         Completes (map string_bytes words.now) (told outside.old) (told outside.new) result }
 
     // After a server's answer that is refused the talk was ended.
-    ensures closed { let told = ⟦<Outside<D, S, T, V, A, C, K, I, O> as Told>⟧.told in
+    ensures closed { let told = ⟦<Outside<D, S, T, V, A, C, K, I, O, L, U> as Told>⟧.told in
         ClosesTalk (told outside.old) (told outside.new) result }
 
-    // Words that ask for nothing do nothing; who asks no server leaves the connection, and info the data folder and
-    // the locks.
+    // Words that ask for nothing do nothing; who asks no server leaves the connection, who uses no worker the workers,
+    // and info the data folder and the locks.
     ensures unasked { ((a : Asked) → ¬ MayAsk (map string_bytes words.now) (I.state outside.old.config).files a)
         → outside.new ≡ record outside.old { config = outside.new.config; out = outside.new.out } }
     ensures quiet { ((a : Asked) → MayAsk (map string_bytes words.now) (I.state outside.old.config).files a
         → a.server ≡ None)
         → outside.new.server ≡ outside.old.server }
+    ensures alone { Each (map string_bytes words.now) (I.state outside.old.config).files (λ a.
+        uses_workers a.request ≡ false
+        → (outside.new.links ≡ outside.old.links) × (outside.new.turns ≡ outside.old.turns)) }
     ensures unused { Each (map string_bytes words.now) (I.state outside.old.config).files (λ a.
         (form : OutputWord) → a.request ≡ report form
         → (outside.new.tree ≡ outside.old.tree) × (outside.new.locks ≡ outside.old.locks)) }
@@ -151,15 +166,14 @@ pub fn run<
       repo = outside.new.repo;
       tree = outside.new.tree;
       server = outside.new.server;
+      clock = outside.new.clock;
       locks = outside.new.locks;
       config = outside.new.config;
       out = outside.new.out;
+      links = outside.new.links;
+      turns = outside.new.turns;
     } }
-    ensures links { links.new ≡ links.old }
-    ensures turns { turns.new ≡ turns.old }
 {
-    let _ = links;
-    let _ = turns;
     let command = match read_command(alloc, words, &mut outside.config) {
         Ok(command) => command,
         Err(fault) => {

@@ -1,6 +1,7 @@
 -- Which command of the log the words ask for is decided by what the data folder tells.
 use Rattle.std.proofs.Common.{◌≡◌, ◌⊎◌, ⊎_elim, inl, inr, ℕ, ◌<◌, ◌≤◌, [], ◌∷◌, ◌++◌, length, take, drop, Option, Some, None, refl, sym, ◌∙◌, arith, append_assoc}
 use Rattle.std.specs.Prelude.{IsSome, IsSomeAnd, codes, decimal}
+use Rattle.pgb_outside.specs.Links.{LinkState}
 use Rattle.pgb_outside.specs.Tree.{Nodes, file_bytes}
 use Rattle.pgb_model.specs.declared.wal.ArchiveName.{ArchiveName}
 use Rattle.pgb_model.specs.Text.{Text, little_endian}
@@ -98,10 +99,10 @@ module _ (f : Nodes) (folder path : Text) where
 -- ---- whichever it is
 
 -- some command is asked for, and what holds of what is asked for holds of it
-pub some_command : (request : Request) (folder : Text) (nodes : Option Nodes) (P : Command → Type 0) → IsSome nodes → On (manner_of request folder nodes) P → (command : Command) × IsOf (manner_of request folder nodes) command × P command
-some_command create folder None P told on = cc
-some_command create folder (Some f) P told on = let x = create_of f in (x.0, x.1, on x.0 x.1)
-some_command (push path) folder None P told on = cc
-some_command (push path) folder (Some f) P told on = let x = push_of f folder path in (x.0, x.1, on x.0 x.1)
-some_command (get name path) folder nodes P told on = (Reading, refl, on Reading refl)
-some_command (report form) folder nodes P told on = (Reading, refl, on Reading refl)
+pub some_command : (request : Request) (folder : Text) (nodes : Option Nodes) (links : List LinkState) (P : Command → Type 0) → IsSome nodes → On (manner_of request folder nodes links) P → (command : Command) × IsOf (manner_of request folder nodes links) command × P command
+some_command create folder None links P told on = cc
+some_command create folder (Some f) links P told on = let x = create_of f in (x.0, x.1, on x.0 x.1)
+some_command (push path) folder None links P told on = cc
+some_command (push path) folder (Some f) links P told on = let x = push_of f folder path in (x.0, x.1, on x.0 x.1)
+some_command (get name path) folder nodes links P told on = (Reading, refl, on Reading refl)
+some_command (report form) folder nodes links P told on = (Reading, refl, on Reading refl)

@@ -1,6 +1,7 @@
 -- From one call to the logs of all stanzas.
 use Rattle.std.proofs.Common.{◌≡◌, ◌≢◌, ◌⊎◌, inl, inr, ℕ, ◌≤◌, arith, is_some, map, ap, [], Some, None, Bool, true, false, List, ◌∷◌, Option, refl, sym, subst}
 use Rattle.pgb_outside.specs.Content.{Content}
+use Rattle.pgb_outside.specs.Links.{LinkState}
 use Rattle.pgb_outside.specs.Tree.{Nodes}
 use Rattle.pgb_model.specs.Text.{Text}
 use Rattle.pgb_story.specs.Story.{Disks, Call, stopped, Does, AreStill, AreFair, KeepsAll, LeaveAll}
@@ -8,8 +9,8 @@ use Rattle.pgb_story.proofs.Kept.{all_keep, all_leave, all_still, all_rest, open
 use Rattle.pgb_headline.specs.Lists.{IsLeft}
 use Rattle.pgb_headline.specs.Acts.{IsCallOf, IsShown, GoesOn, Went}
 
-module _ (words : List Text) (files : Option Content) (nodes : Option Nodes) (status : ℕ) (before : List Call) (old new : Disks) (h : KeepsAll before old) where
-  asked_for : AreFair old → (c : Call) → IsCallOf words files nodes status c → Does c old new → Went words files nodes status before old new
+module _ (words : List Text) (files : Option Content) (nodes : Option Nodes) (links : List LinkState) (status : ℕ) (before : List Call) (old new : Disks) (h : KeepsAll before old) where
+  asked_for : AreFair old → (c : Call) → IsCallOf words files nodes links status c → Does c old new → Went words files nodes links status before old new
   asked_for fair c is does = record {
     after = c ∷ before;
     goes = inr (c, is, refl);
@@ -19,7 +20,7 @@ module _ (words : List Text) (files : Option Content) (nodes : Option Nodes) (st
     leaves = all_leave c old new fair does before h;
   }
 
-  refused_for : (status ≢ 0) → AreStill old new → Went words files nodes status before old new
+  refused_for : (status ≢ 0) → AreStill old new → Went words files nodes links status before old new
   refused_for off still = record {
     after = before;
     goes = inl (off, refl);
@@ -29,24 +30,24 @@ module _ (words : List Text) (files : Option Content) (nodes : Option Nodes) (st
     leaves = all_rest old new still before h;
   }
 
-pub shown_went : (words : List Text) (files : Option Content) (nodes : Option Nodes) (status : ℕ) (before : List Call) (old new : Disks) → AreFair old → KeepsAll before old → IsShown words files nodes status old new → Went words files nodes status before old new
-shown_went words files nodes status before old new fair h (inl (off, still)) = refused_for words files nodes status before old new h off still
-shown_went words files nodes status before old new fair h (inr (c, is, does)) = asked_for words files nodes status before old new h fair c is does
+pub shown_went : (words : List Text) (files : Option Content) (nodes : Option Nodes) (links : List LinkState) (status : ℕ) (before : List Call) (old new : Disks) → AreFair old → KeepsAll before old → IsShown words files nodes links status old new → Went words files nodes links status before old new
+shown_went words files nodes links status before old new fair h (inl (off, still)) = refused_for words files nodes links status before old new h off still
+shown_went words files nodes links status before old new fair h (inr (c, is, does)) = asked_for words files nodes links status before old new h fair c is does
 
 -- whether the call is stopped, or goes to its end; given is the list of its words
-module _ {X W : Type 0} (text_of : List W → List Text) (given words : List W) (is : given ≡ words) (files : Option Content) (nodes : Option Nodes) (status : ℕ) (before : List Call) (old new : Disks)
-    (w : Went (text_of given) files nodes status before old new) (halt : Option X) where
-  goes : (stopped_now : Bool) (after : List Call) → GoesOn (text_of given) files nodes status stopped_now before after → GoesOn (text_of words) files nodes status stopped_now before after
-  goes stopped_now after = subst (λ (ws : List W). GoesOn (text_of given) files nodes status stopped_now before after → GoesOn (text_of ws) files nodes status stopped_now before after) is (λ g. g)
+module _ {X W : Type 0} (text_of : List W → List Text) (given words : List W) (is : given ≡ words) (files : Option Content) (nodes : Option Nodes) (links : List LinkState) (status : ℕ) (before : List Call) (old new : Disks)
+    (w : Went (text_of given) files nodes links status before old new) (halt : Option X) where
+  goes : (stopped_now : Bool) (after : List Call) → GoesOn (text_of given) files nodes links status stopped_now before after → GoesOn (text_of words) files nodes links status stopped_now before after
+  goes stopped_now after = subst (λ (ws : List W). GoesOn (text_of given) files nodes links status stopped_now before after → GoesOn (text_of ws) files nodes links status stopped_now before after) is (λ g. g)
 
-  pub ends_here : halt ≡ None → (after : List Call) × GoesOn (text_of words) files nodes status (is_some halt) before after × KeepsAll after new
-  ends_here none = (w.after, subst (λ (o : Option X). GoesOn (text_of words) files nodes status (is_some o) before w.after) (sym none) (goes false w.after w.goes), w.keeps)
+  pub ends_here : halt ≡ None → (after : List Call) × GoesOn (text_of words) files nodes links status (is_some halt) before after × KeepsAll after new
+  ends_here none = (w.after, subst (λ (o : Option X). GoesOn (text_of words) files nodes links status (is_some o) before w.after) (sym none) (goes false w.after w.goes), w.keeps)
 
   pub stops_here : (x : X) → halt ≡ Some x → (opened : Disks) (from spool_from t u : ℕ) → from ≡ old.repo.moment → spool_from ≡ old.spool.moment → IsLeft new.repo from t opened.repo → IsLeft new.spool spool_from u opened.spool
-      → (after : List Call) × GoesOn (text_of words) files nodes status (is_some halt) before after × KeepsAll after opened
+      → (after : List Call) × GoesOn (text_of words) files nodes links status (is_some halt) before after × KeepsAll after opened
   stops_here x some opened from spool_from t u is_from is_spool_from r s = (
     w.cut,
-    subst (λ (o : Option X). GoesOn (text_of words) files nodes status (is_some o) before w.cut) (sym some) (goes true w.cut w.stops),
+    subst (λ (o : Option X). GoesOn (text_of words) files nodes links status (is_some o) before w.cut) (sym some) (goes true w.cut w.stops),
     opened_keep w.cut r.content s.content opened r.reopened s.reopened
         (w.leaves t u r.content s.content (omega (arith, is_from, r.from), r.to) r.image (omega (arith, is_spool_from, s.from), s.to) s.image),
   )

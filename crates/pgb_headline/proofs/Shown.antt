@@ -61,7 +61,7 @@ zero_or (suc n) = inr (λ e. omega (arith, e))
 
 module _ (words : List Text) (b k : Seen) (n : ℕ) (same : k.spool.view ≡ b.spool.view) (told : IsSome b.tree.nodes) where
   abbrev Shown : Type 0
-  Shown = IsShown words b.config.files b.tree.nodes n (both b.repo.view b.spool.view) (both k.repo.view k.spool.view)
+  Shown = IsShown words b.config.files b.tree.nodes b.links n (both b.repo.view b.spool.view) (both k.repo.view k.spool.view)
 
   -- the words were refused
   refused : (unknown : List Text) (fault : Fault) → IsIdle b k → IsAnswered unknown b k (Err fault) n → Shown
@@ -79,7 +79,7 @@ module _ (words : List Text) (b k : Seen) (n : ℕ) (same : k.spool.view ≡ b.s
     to_its_end : n ≡ 0 → reached_of (ending_of c.ended) ≡ to_end
     to_its_end z = told_as unknown b k c.ended n c.answered (λ is. zero_ends c.ended (sym is ∙ z)) (λ is rose. absurd (omega (arith, is, z))) (λ is. absurd (omega (arith, is, z)))
 
-    by : (command : Command) → IsOf (manner_of a.request a.data_folder b.tree.nodes) command → TakesAs command → (n ≡ 0) ⊎ (n ≢ 0) → Shown
+    by : (command : Command) → IsOf (manner_of a.request a.data_folder b.tree.nodes b.links) command → TakesAs command → (n ≡ 0) ⊎ (n ≢ 0) → Shown
     by command is takes (inl z) = inr (
       the_call a.stanza command true,
       record { asked = a; asks = asks; stanza = refl; command = is; acknowledged = ((λ e. z), (λ e. refl)) },
@@ -93,7 +93,7 @@ module _ (words : List Text) (b k : Seen) (n : ℕ) (same : k.spool.view ≡ b.s
     )
 
     obeyed : Shown
-    obeyed = let x = some_command a.request a.data_folder b.tree.nodes TakesAs told c.did.steps in by x.0 x.1 x.2 (zero_or n)
+    obeyed = let x = some_command a.request a.data_folder b.tree.nodes b.links TakesAs told c.did.steps in by x.0 x.1 x.2 (zero_or n)
 
   pub shown : Answers words b k n → Shown
   shown (inl r) = refused [] r.fault r.idle r.answered

@@ -3,6 +3,7 @@ use Rattle.std.specs.Prelude.{◌≤◌, ℕ, List, Option, Some, map, string_by
 use Rattle.pgb_outside.specs.Content.{Content}
 use Rattle.pgb_outside.specs.Moments.{View, IsImage}
 use Rattle.pgb_outside.specs.Tree.{Nodes}
+use Rattle.pgb_outside.specs.Links.{LinkState}
 use Rattle.pgb_memory.specs.declared.source.MemSource.{MemSource}
 use Rattle.pgb_memory.specs.declared.tree.MemTree.{MemTree}
 use Rattle.pgb_memory.specs.Held.{view_of}
@@ -12,6 +13,8 @@ use Rattle.pgb_model.proofs.Reopened.{IsReopened}
 use Rattle.pgb_story.specs.Story.{Call, Disks}
 use Rattle.pgb_headline.specs.declared.playing.Act.{Act}
 use Rattle.pgb_headline.specs.declared.playing.Disks.{Disks as Pair}
+use Rattle.pgb_headline.specs.declared.playing.Workers.{Workers}
+use Rattle.pgb_worker_links.specs.Workers.{state_of}
 use Rattle.pgb_headline.specs.Acts.{both, GoesOn}
 
 abbrev pub views : Pair → Disks
@@ -24,6 +27,10 @@ files_of s = Some (λ _. value_of s.file)
 abbrev pub nodes_of : MemTree → Option Nodes
 nodes_of t = Some (nodes_at t.nodes)
 
+-- what the workers tell
+abbrev pub links_of : Workers → List LinkState
+links_of w = map state_of w.links.items
+
 -- the second disk was opened anew on what a stop of the first one left, at that moment, which isn't before this one
 pub record IsLeft (v : View) (first moment : ℕ) (opened : View) : Type 0 where
   pub content : Content
@@ -34,4 +41,4 @@ pub record IsLeft (v : View) (first moment : ℕ) (opened : View) : Type 0 where
 
 -- the log goes on by the act, which ended with this status, or would have
 abbrev pub ActGoes : Act → ℕ → List Call → List Call → Type 0
-ActGoes x status before after = GoesOn (map string_bytes x.words.items) (files_of x.config) (nodes_of x.tree) status (is_some x.halt) before after
+ActGoes x status before after = GoesOn (map string_bytes x.words.items) (files_of x.config) (nodes_of x.tree) (links_of x.workers) status (is_some x.halt) before after

@@ -1,6 +1,7 @@
 // One call of the program.
 ghost use Rattle.std.specs.Prelude.{◌≡◌, [], List, map, string_bytes, IsSome};
 ghost use Rattle.pgb_story.specs.Story.{Call, KeepsAll};
+ghost use Rattle.pgb_command.specs.Told.{AreWorkers};
 ghost use Rattle.pgb_headline.specs.Acts.{both, IsShown, Went};
 
 use pgb_command::{Outside, run};
@@ -19,29 +20,29 @@ pub fn called<
     K: Locks,
     I: Source,
     O: Sink,
+    L: Link,
     U: Turns,
 >(
     alloc: Global,
     words: &[String],
-    outside: &mut Outside<D, S, T, V, A, C, K, I, O>,
-    links: &mut Vec<Box<dyn Link>>,
-    turns: &mut U,
+    outside: &mut Outside<D, S, T, V, A, C, K, I, O, L, U>,
 ) -> u8
     requires free { (K.state outside.old.locks).taken ≡ [] }
+    requires workers { AreWorkers (map L.link_state outside.old.links.items) }
     // The words are refused and nothing is done, or the call that they ask for is, as a story has it.
     ensures shown { IsSome (T.state outside.old.tree).nodes
         → IsShown (map string_bytes words.now) (I.state outside.old.config).files
-        (T.state outside.old.tree).nodes result
+        (T.state outside.old.tree).nodes (map L.link_state outside.old.links.items) result
         (both (D.state outside.old.repo).view (S.state outside.old.spool).view)
         (both (D.state outside.new.repo).view (S.state outside.new.spool).view) }
     // Disks that keep the logs of all stanzas go on with them, whether the call ends or is stopped.
     ensures went { IsSome (T.state outside.old.tree).nodes → (before : List Call)
         → KeepsAll before (both (D.state outside.old.repo).view (S.state outside.old.spool).view)
         → Went (map string_bytes words.now) (I.state outside.old.config).files
-        (T.state outside.old.tree).nodes result before
+        (T.state outside.old.tree).nodes (map L.link_state outside.old.links.items) result before
         (both (D.state outside.old.repo).view (S.state outside.old.spool).view)
         (both (D.state outside.new.repo).view (S.state outside.new.spool).view) }
     ensures free { (K.state outside.new.locks).taken ≡ [] }
 {
-    run(alloc, words, outside, links, turns)
+    run(alloc, words, outside)
 }

@@ -11,4 +11,4 @@ mod playing;
 
 pub use calling::called;
 pub use listing::play;
-pub use playing::{Act, Disks, Halt, Left, PlayFault, play_one};
+pub use playing::{Act, Disks, Halt, Left, PlayFault, Workers, play_one};

@@ -5,7 +5,6 @@ ghost use Rattle.pgb_story.specs.Played.{ArePlayed};
 ghost use Rattle.pgb_headline.specs.Lists.{views, ActGoes};
 
 use crate::playing::{Act, Disks, PlayFault, play_one};
-use pgb_outside::{Link, Turns};
 use std::alloc::Global;
 
 // Adds a status.
@@ -20,12 +19,10 @@ fn note(statuses: &mut Vec<u8>, status: u8) -> Result<(), PlayFault>
 
 /// Plays acts one after another, and answers what each call ended with: disks that keep the logs of all stanzas keep
 /// them with all of these calls, in their order.
-pub fn play<U: Turns>(
+pub fn play(
     alloc: Global,
     disks: Disks,
     acts: Vec<Act>,
-    links: &mut Vec<Box<dyn Link>>,
-    turns: &mut U,
 ) -> Result<(Disks, Vec<u8>), PlayFault>
     ensures keeps { IfOk result (λ r. (before : List Call) → KeepsAll before (views disks)
         → (after : List Call) × ArePlayed ActGoes acts.items r.1.items before after × KeepsAll after (views r.0)) }
@@ -33,7 +30,7 @@ pub fn play<U: Turns>(
     let mut last = disks;
     let mut statuses = Vec::new(alloc);
     for act in acts {
-        let (next, status) = play_one(alloc, last, act, links, turns)?;
+        let (next, status) = play_one(alloc, last, act)?;
         last = next;
         note(&mut statuses, status)?;
     }

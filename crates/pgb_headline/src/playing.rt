@@ -5,12 +5,14 @@ ghost use Rattle.pgb_outside.specs.Moments.{IsImage};
 ghost use Rattle.pgb_model.proofs.Reopened.{IsReopened};
 ghost use Rattle.pgb_story.specs.Story.{Call, KeepsAll};
 ghost use Rattle.pgb_headline.specs.Acts.{Went};
-ghost use Rattle.pgb_headline.specs.Lists.{views, files_of, nodes_of, IsLeft, ActGoes};
+ghost use Rattle.pgb_command.specs.Told.{AreWorkers};
+ghost use Rattle.pgb_headline.specs.Lists.{views, files_of, nodes_of, links_of, IsLeft, ActGoes};
 
 use crate::calling::called;
 use pgb_command::Outside;
-use pgb_memory::{MemDisk, MemLocks, MemSink, MemSource, MemTree, MemWire};
-use pgb_outside::{Disk, Link, NotThere, Turns};
+use pgb_memory::{MemClock, MemDisk, MemLocks, MemSink, MemSource, MemTree, MemWire};
+use pgb_outside::{Disk, Link, NotThere};
+use pgb_worker_links::{MemLink, MemTurns};
 use std::alloc::Global;
 
 /// What a stop leaves of a disk: the moment of the stop, which kept value each name has, and the bytes of loose names; and
@@ -30,15 +32,36 @@ pub struct Halt {
     pub spool: Left,
 }
 
-/// A call of the program with these words, on this data folder, with this server, locks that others hold, and
-/// configuration; and the stop within it, where there is one.
+/// Workers in memory: not too many, and none has bytes of an earlier answer to give.
+#[derive(Drop)]
+pub struct Workers {
+    pub links: Vec<MemLink>,
+    ghost are: { AreWorkers (map ⟦<MemLink as Link>⟧.link_state links.items) },
+}
+
+impl Workers {
+    /// No workers.
+    pub fn none(alloc: Global) -> Self
+        ensures { result.links.items ≡ [] }
+    {
+        Workers {
+            links: Vec::new(alloc),
+        }
+    }
+}
+
+/// A call of the program with these words, on this data folder, with this server, clock, locks that others hold,
+/// configuration and workers, which are heard by these picks; and the stop within it, where there is one.
 #[derive(Drop)]
 pub struct Act {
     pub words: Vec<String>,
     pub tree: MemTree,
     pub server: MemWire,
+    pub clock: MemClock,
     pub held: Vec<String>,
     pub config: MemSource,
+    pub workers: Workers,
+    pub picks: Vec<u64>,
     pub halt: Option<Halt>,
 }
 
@@ -78,19 +101,20 @@ fn reopened(alloc: Global, disk: &MemDisk, from: u64, left: Left) -> Result<MemD
 }
 
 // Calls the program on the disks, and hands them back with the status.
-fn call_on<U: Turns>(
+fn call_on(
     alloc: Global,
     disks: Disks,
     words: &[String],
     tree: MemTree,
     server: MemWire,
+    clock: MemClock,
     held: Vec<String>,
     config: MemSource,
-    links: &mut Vec<Box<dyn Link>>,
-    turns: &mut U,
+    workers: Workers,
+    picks: Vec<u64>,
 ) -> (Disks, u8)
     ensures went { (before : List Call) → KeepsAll before (views disks)
-        → Went (map string_bytes words.now) (files_of config) (nodes_of tree) result.1 before
+        → Went (map string_bytes words.now) (files_of config) (nodes_of tree) (links_of workers) result.1 before
         (views disks) (views result.0) }
 {
     let Disks { repo, spool } = disks;
@@ -100,12 +124,14 @@ fn call_on<U: Turns>(
         tree,
         server,
         aside: NotThere::new(),
-        clock: NotThere::new(),
+        clock,
         locks: MemLocks::new(alloc, held, Vec::new(alloc)),
         config,
         out: MemSink::new(alloc, Vec::new(alloc)),
+        links: workers.links,
+        turns: MemTurns::new(picks),
     };
-    let status = called(alloc, words, &mut outside, links, turns);
+    let status = called(alloc, words, &mut outside);
     let disks = Disks {
         repo: outside.repo,
         spool: outside.spool,
@@ -133,12 +159,10 @@ fn both_reopened(
 
 /// Plays a call, with its stop where it has one: disks that keep the logs of all stanzas keep them with the call. It
 /// answers the status that the call ends with, or would have ended with.
-pub fn play_one<U: Turns>(
+pub fn play_one(
     alloc: Global,
     disks: Disks,
     act: Act,
-    links: &mut Vec<Box<dyn Link>>,
-    turns: &mut U,
 ) -> Result<(Disks, u8), PlayFault>
     ensures keeps { IfOk result (λ r. (before : List Call) → KeepsAll before (views disks)
         → (after : List Call) × ActGoes act r.1 before after × KeepsAll after (views r.0)) }
@@ -149,12 +173,15 @@ pub fn play_one<U: Turns>(
         words,
         tree,
         server,
+        clock,
         held,
         config,
+        workers,
+        picks,
         halt,
     } = act;
     let (ended, status) = call_on(
-        alloc, disks, &words, tree, server, held, config, links, turns,
+        alloc, disks, &words, tree, server, clock, held, config, workers, picks,
     );
     match halt {
         None => Ok((ended, status)),

@@ -8,8 +8,20 @@ use pgb_table::Verb;
 pub enum Unbuilt {
     /// a command
     Command(Verb),
-    /// archive-push in the background
+    /// archive-push and archive-get in the background
     Background,
+    /// a backup of a running server
+    Online,
+    /// another kind of backup than a full one
+    Kind,
+    /// a backup or a restore that compares digests
+    Delta,
+    /// a backup that joins small files
+    Bundles,
+    /// an expiry behind a backup
+    Expiry,
+    /// a restore that writes settings of a recovery
+    Recovery,
 }
 
 /// A file that tells the cluster.

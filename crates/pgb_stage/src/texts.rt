@@ -16,6 +16,11 @@ fn part_name(what: Unbuilt) -> &'static str
     match what {
         Unbuilt::Command(verb) => verb_word(verb),
         Unbuilt::Background => "archive-async",
+        Unbuilt::Online => "online",
+        Unbuilt::Kind | Unbuilt::Recovery => "type",
+        Unbuilt::Delta => "delta",
+        Unbuilt::Bundles => "repo1-bundle",
+        Unbuilt::Expiry => "expire-auto",
     }
 }
 

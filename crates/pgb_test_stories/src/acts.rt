@@ -1,21 +1,10 @@
 // Calls of the program on one data folder, and what a list of them leaves.
-use pgb_headline::{Act, Disks, Halt, Left, PlayFault, play};
-use pgb_memory::{MemDisk, MemNode, MemSource, MemTree, MemWire};
-use pgb_outside::{Link, Turns};
+use pgb_headline::{Act, Disks, Halt, Left, PlayFault, Workers, play};
+use pgb_memory::{MemClock, MemDisk, MemNode, MemSource, MemTree, MemWire};
 use std::alloc::{AllocError, Global};
 
 // A control file as one of system 6917529027641081857 begins.
 const CONTROL: &[u8] = b"\x01\x00\x00\x00\x00\x00\x00\x60\x14\x05\x00\x00\xff\xf5\x0e\x0c";
-
-// No worker is ever heard.
-#[derive(Drop)]
-struct First;
-
-impl Turns for First {
-    fn pick(&mut self, _count: u64) -> u64 {
-        0
-    }
-}
 
 fn file(alloc: Global, path: &str, bytes: &[u8]) -> Result<(String, MemNode), AllocError> {
     let bytes = bytes.to_vec(alloc)?;
@@ -76,8 +65,11 @@ pub(crate) fn act(alloc: Global, words: &str, halt: Option<Halt>) -> Result<Act,
         words: words_of(alloc, words).or(Err(PlayFault::NoMemory))?,
         tree: tree(alloc)?,
         server: MemWire::new(alloc, Vec::new(alloc), Vec::new(alloc), Vec::new(alloc)),
+        clock: MemClock::new(Vec::new(alloc), Vec::new(alloc)),
         held: Vec::new(alloc),
         config: MemSource::new(alloc, None, Vec::new(alloc)),
+        workers: Workers::none(alloc),
+        picks: Vec::new(alloc),
         halt,
     })
 }
@@ -92,6 +84,5 @@ pub(crate) fn played(alloc: Global, acts: Vec<Act>) -> Result<(Disks, Vec<u8>), 
         repo: empty(alloc).or(Err(PlayFault::NoMemory))?,
         spool: empty(alloc).or(Err(PlayFault::NoMemory))?,
     };
-    let mut links: Vec<Box<dyn Link>> = Vec::new(alloc);
-    play(alloc, disks, acts, &mut links, &mut First)
+    play(alloc, disks, acts)
 }

@@ -1,14 +1,16 @@
 //! The program: the system's files and output, handed to the commands.
 #![tactic(auto)]
 
+ghost use Rattle.std.specs.Prelude.{◌≤◌, length, IfOk};
+
 mod help;
 
 use help::asked_for;
 use pgb_adapters::{
-    RealDisk, RealFiles, RealInput, RealLocks, RealSink, RealSource, RealTree, RealWire,
+    RealClock, RealDisk, RealFiles, RealInput, RealLocks, RealSink, RealSource, RealTree, RealWire,
 };
 use pgb_command::{Outside, run};
-use pgb_outside::{Link, NotThere};
+use pgb_outside::NotThere;
 use pgb_system::{RealLink, RoundRobin};
 use pgb_worker::serve;
 use std::io::ErrorKind;
@@ -82,25 +84,34 @@ fn worker(rt: HostRuntime, program: &str) -> io::Result<RealLink> {
     Ok(RealLink::new(rt, String::from_str(alloc, program)?, words))
 }
 
+// All workers that a command may use.
+fn workers(rt: HostRuntime, program: &str) -> io::Result<Vec<RealLink>>
+    ensures { IfOk result (λ links. length links.items ≤ 64) }
+{
+    let mut links = Vec::new(rt.alloc());
+    for _ in 0..WORKERS {
+        links
+            .push(worker(rt, program)?)
+            .map_err(|_| ErrorKind::OutOfMemory)?;
+    }
+    Ok(links)
+}
+
 fn status_of(rt: HostRuntime, words: &[String]) -> io::Result<u8> {
     let alloc = rt.alloc();
     let program = env::args(&rt)?.next().unwrap_or(String::new(alloc));
-    let mut links: Vec<Box<dyn Link>> = Vec::new(alloc);
-    for _ in 0..WORKERS {
-        let link = Box::new(alloc, worker(rt, &program)?)?;
-        links.push(link).map_err(|_| ErrorKind::OutOfMemory)?;
-    }
-    let mut turns = RoundRobin::new();
     let mut outside = Outside {
         repo: RealDisk::new(rt),
         spool: NotThere::new(),
         tree: RealTree::new(rt),
         server: RealWire::new(rt),
         aside: NotThere::new(),
-        clock: NotThere::new(),
+        clock: RealClock::new(rt),
         locks: RealLocks::new(rt),
         config: RealSource::new(rt),
         out: RealSink::new(rt),
+        links: workers(rt, &program)?,
+        turns: RoundRobin::new(),
     };
-    Ok(run(alloc, words, &mut outside, &mut links, &mut turns))
+    Ok(run(alloc, words, &mut outside))
 }

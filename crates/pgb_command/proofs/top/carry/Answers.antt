@@ -1,4 +1,5 @@
 use Rattle.std.proofs.Common.{ap, sym, ◌∙◌, map, string_bytes}
+use Rattle.pgb_command.specs.Tables.{uses_workers}
 use Rattle.pgb_command.specs.Told.{asked_of}
 use Rattle.pgb_command.proofs.AskedOnce.{ok_same}
 use Rattle.pgb_command.proofs.Readied.{no_server}
@@ -14,6 +15,9 @@ returns-clause-obeys g c = carries c.args.command.now (asked_of c.in-Ok.settings
 
 pub returns-clause-quiet : goal.returns-clause-quiet
 returns-clause-quiet g c = λ s is none. c.obey-ended.ensures.quiet (no_server c.in-Ok.settings.server ((c.in-Ok.ensures.asked s is).server ∙ none))
+
+pub returns-clause-alone : goal.returns-clause-alone
+returns-clause-alone g c = λ s is request asked off. c.obey-ended.ensures.alone (ap uses_workers (ok_same _ _ (sym (c.in-Ok.ensures.asked s is).request ∙ asked)) ∙ off)
 
 pub returns-clause-unused : goal.returns-clause-unused
 returns-clause-unused g c = λ s is form reports. c.obey-ended.ensures.unused form (ok_same _ _ (sym (c.in-Ok.ensures.asked s is).request ∙ reports))

@@ -1,9 +1,9 @@
-use Rattle.std.proofs.Common.{◌≡◌, ap, sym, subst, ◌∙◌, map, string_bytes}
+use Rattle.std.proofs.Common.{◌≡◌, Ok, ap, sym, subst, ◌∙◌, map, string_bytes}
 use Rattle.pgb_story.proofs.Beside.{keeps_others}
 use Rattle.pgb_command.specs.Asked.{requested}
 use Rattle.pgb_command.proofs.InForm.{asked_in_form}
 use Rattle.pgb_command.proofs.Closings.{closes_talk}
-use Rattle.pgb_command.proofs.Unused.{only_unbuilt, no_server_asked, report_asked, err_as}
+use Rattle.pgb_command.proofs.Unused.{only_unbuilt, no_server_asked, request_asked, err_as}
 use Rattle.pgb_command.proofs.Carried.{runs_on, runs_off}
 use Rattle.pgb_command.proofs.Follows.{found, finishes, part_done, turns_back, fulfils, leaves_rest, opens_places, only_locked, completes}
 use Rattle.pgb_command.proofs.top.run.Goals as goal
@@ -21,7 +21,7 @@ pub returns-in-Err-clause-part : goal.returns-in-Err-clause-part
 returns-in-Err-clause-part g c = λ a asks. part_done a _ _ c.answer.result (found (map string_bytes c.args.words.now) _ _ c.answer.result (returns-in-Err-clause-answers g c) a asks)
 
 pub returns-in-Err-clause-stays : goal.returns-in-Err-clause-stays
-returns-in-Err-clause-stays g c = λ early a asks. turns_back a _ _ c.answer.result early (found (map string_bytes c.args.words.now) _ _ c.answer.result (returns-in-Err-clause-answers g c) a asks)
+returns-in-Err-clause-stays g c = λ a asks early. turns_back a _ _ c.answer.result early (found (map string_bytes c.args.words.now) _ _ c.answer.result (returns-in-Err-clause-answers g c) a asks)
 
 pub returns-in-Err-clause-fulfils : goal.returns-in-Err-clause-fulfils
 returns-in-Err-clause-fulfils g c = λ small a asks. fulfils a _ _ c.answer.result small (found (map string_bytes c.args.words.now) _ _ c.answer.result (returns-in-Err-clause-answers g c) a asks)
@@ -45,7 +45,7 @@ pub returns-clause-part : goal.returns-clause-part
 returns-clause-part g c = λ a asks. part_done a _ _ c.carry.result (found (map string_bytes c.args.words.now) _ _ c.carry.result (returns-clause-answers g c) a asks)
 
 pub returns-clause-stays : goal.returns-clause-stays
-returns-clause-stays g c = λ early a asks. turns_back a _ _ c.carry.result early (found (map string_bytes c.args.words.now) _ _ c.carry.result (returns-clause-answers g c) a asks)
+returns-clause-stays g c = λ a asks early. turns_back a _ _ c.carry.result early (found (map string_bytes c.args.words.now) _ _ c.carry.result (returns-clause-answers g c) a asks)
 
 pub returns-clause-fulfils : goal.returns-clause-fulfils
 returns-clause-fulfils g c = λ small a asks. fulfils a _ _ c.carry.result small (found (map string_bytes c.args.words.now) _ _ c.carry.result (returns-clause-answers g c) a asks)
@@ -73,13 +73,18 @@ returns-clause-quiet g c = λ none. no_server_asked (map string_bytes c.args.wor
     (λ s is. err_as (requested s) _ _ (λ e. ap (λ o. o.server) e) (c.carry.ensures.unbuilt s is)) none
 
 pub returns-clause-unused : goal.returns-clause-unused
-returns-clause-unused g c = λ a asks form is. report_asked (map string_bytes c.args.words.now) (g.I.Source.state c.args.outside.now.config).files c.in-Ok.command c.in-Ok.ensures.command _ c.carry.ensures.unused a asks form is
+returns-clause-unused g c = λ a asks form is. request_asked (map string_bytes c.args.words.now) (g.I.Source.state c.args.outside.now.config).files c.in-Ok.command c.in-Ok.ensures.command _ a
+    (λ s settled asked. c.carry.ensures.unused s settled form (asked ∙ ap Ok is)) asks
+
+pub returns-clause-alone : goal.returns-clause-alone
+returns-clause-alone g c = λ a asks off. request_asked (map string_bytes c.args.words.now) (g.I.Source.state c.args.outside.now.config).files c.in-Ok.command c.in-Ok.ensures.command _ a
+    (λ s settled asked. c.carry.ensures.alone s settled a.request asked off) asks
 
 pub returns-clause-unasked : goal.returns-clause-unasked
 returns-clause-unasked g c = λ none.
     let o = c.args.outside.now in
     let e = only_unbuilt (map string_bytes c.args.words.now) (g.I.Source.state o.config).files c.in-Ok.command c.in-Ok.ensures.command _ c.carry.ensures.unbuilt none in
-    subst (λ i. c.carry.new.outside ≡ record { repo = o.repo; spool = o.spool; tree = o.tree; server = o.server; aside = o.aside; clock = o.clock; locks = o.locks; config = i; out = c.carry.new.outside.out }) (ap (λ x. x.config) (sym e)) e
+    subst (λ i. c.carry.new.outside ≡ record { repo = o.repo; spool = o.spool; tree = o.tree; server = o.server; aside = o.aside; clock = o.clock; locks = o.locks; config = i; out = c.carry.new.outside.out; links = o.links; turns = o.turns }) (ap (λ x. x.config) (sym e)) e
 
 pub returns-in-Err-clause-others : goal.returns-in-Err-clause-others
 returns-in-Err-clause-others g c = λ a asks.
