@@ -21,11 +21,14 @@ use Rattle.pgb_push.specs.Texts.{push_status}
 use Rattle.pgb_get.specs.declared.fault.GetFault.{GetFault}
 use Rattle.pgb_get.proofs.Refusals.{get_within}
 use Rattle.pgb_get.specs.Texts.{get_status}
-use Rattle.pgb_command.specs.declared.fault.CommandFault.TheVariants.{Create, Push, Get}
+use Rattle.pgb_take.specs.declared.fault.TakeFault.{TakeFault}
+use Rattle.pgb_take.specs.Texts.{take_status}
+use Rattle.pgb_take.proofs.Statuses.{take_within}
+use Rattle.pgb_command.specs.declared.fault.CommandFault.TheVariants.{Create, Push, Get, Take}
 use Rattle.pgb_command.specs.declared.fault.Fault.{Fault}
 use Rattle.pgb_command.specs.declared.fault.Fault.TheVariants as fault
 use Rattle.pgb_command.specs.Answers.{status_of, usage_status}
-use Rattle.pgb_command.specs.Asked.{Request, create, push, get, report, Asked}
+use Rattle.pgb_command.specs.Asked.{Request, create, push, get, backup, report, Asked}
 use Rattle.pgb_command.specs.Causes.{IsAnswered, Carries, Answers, ClosesTalk}
 use Rattle.pgb_command.specs.Configuring.{ConfigCause}
 use Rattle.pgb_command.specs.Did.{IsIdle, Cause, Closes}
@@ -99,9 +102,15 @@ object_apart object.Config = high 86 (omega arith)
 object_apart object.Output = high 87 (omega arith)
 
 -- a command's refusal with such a status is of a file that is too long
-only_long : (m : ℕ) → (m ≤ 46) ⊎ (m ≡ 70) → IsServerRefusal m → m ≡ 70
+only_long : (m : ℕ) → (m ≤ 46) ⊎ (m ≡ 70) → IsServerRefusal m → 70 ≤ m
 only_long m (inl le) is = low m le is
-only_long m (inr long) is = long
+only_long m (inr long) is = omega (arith, long)
+
+-- or of too many of something
+only_many : (m : ℕ) → (m ≤ 46) ⊎ (52 ≤ m) → IsServerRefusal m → 70 ≤ m
+only_many m (inl le) is = low m le is
+only_many m (inr over) (inl x) = absurd (omega (arith, over, x.1))
+only_many m (inr over) (inr x) = x.0
 
 -- ---- what was said then
 
@@ -109,13 +118,22 @@ push_other : {P : Type 0} (a : Asked) (q : Request) (old : Known) (e : PushFault
 push_other a create old e cause p = absurd cause
 push_other a (push path) old e cause p = p
 push_other a (get name path) old e cause p = absurd cause
+push_other a (backup workers) old e cause p = absurd cause
 push_other a (report form) old e cause p = absurd cause
 
 get_other : {P : Type 0} (a : Asked) (q : Request) (old : Known) (e : GetFault) → CommandCause a q old (Get e) → OnOther q P → P
 get_other a create old e cause p = absurd cause
 get_other a (push path) old e cause p = absurd cause
 get_other a (get name path) old e cause p = p
+get_other a (backup workers) old e cause p = absurd cause
 get_other a (report form) old e cause p = absurd cause
+
+take_other : {P : Type 0} (a : Asked) (q : Request) (old : Known) (e : TakeFault) → CommandCause a q old (Take e) → OnOther q P → P
+take_other a create old e cause p = absurd cause
+take_other a (push path) old e cause p = absurd cause
+take_other a (get name path) old e cause p = absurd cause
+take_other a (backup workers) old e cause p = p
+take_other a (report form) old e cause p = absurd cause
 
 push_at : {P : Type 0} (a : Asked) (b k : Seen) (e : PushFault) → Cause a b k (fault.Command (Push e)) → OnOther a.request P → P
 push_at a b k e (inl words) p = push_other a a.request (known b) e (words (known b)) p
@@ -125,9 +143,16 @@ get_at : {P : Type 0} (a : Asked) (b k : Seen) (e : GetFault) → Cause a b k (f
 get_at a b k e (inl words) p = get_other a a.request (known b) e (words (known b)) p
 get_at a b k e (inr ready) p = get_other a a.request _ e ready.2 p
 
+take_at : {P : Type 0} (a : Asked) (b k : Seen) (e : TakeFault) → Cause a b k (fault.Command (Take e)) → OnOther a.request P → P
+take_at a b k e (inl words) p = absurd words
+take_at a b k e (inr ready) p = take_other a a.request _ e ready.2 p
+
+long_is : (n m : ℕ) → n ≡ m → 70 ≤ m → 70 ≤ n
+long_is n m is le = omega (arith, is, le)
+
 module _ (b k : Seen) (n : ℕ) where
   abbrev Said : Type 0
-  Said = Ended k.server.sent ⊎ (Failed b k object.Server ⊎ ((n ≡ 70) × (k.server.sent ≡ b.server.sent)))
+  Said = Ended k.server.sent ⊎ (Failed b k object.Server ⊎ ((70 ≤ n) × (k.server.sent ≡ b.server.sent)))
 
   ended : Ended k.server.sent ⊎ Failed b k object.Server → Said
   ended (inl e) = inl e
@@ -137,14 +162,15 @@ module _ (b k : Seen) (n : ℕ) where
   at_fault a (fault.Usage u) is refusal cause closes others = absurd cause
   at_fault a (fault.Stage e) is refusal cause closes others = stage_apart (plan_of a.request) a.stanza b k e (subst IsServerRefusal is refusal) cause
   at_fault a (fault.Command (Create e)) is refusal cause closes others = ended (create_closed (Failed b k object.Server) k.server.sent e (subst IsServerRefusal is refusal) closes)
-  at_fault a (fault.Command (Push e)) is refusal cause closes others = inr (inr (is ∙ only_long (push_status e) (push_within e).1 (subst IsServerRefusal is refusal), ap (λ w. w.sent) (push_at a b k e cause others)))
-  at_fault a (fault.Command (Get e)) is refusal cause closes others = inr (inr (is ∙ only_long (get_status e) (get_within e).1 (subst IsServerRefusal is refusal), ap (λ w. w.sent) (get_at a b k e cause others)))
+  at_fault a (fault.Command (Push e)) is refusal cause closes others = inr (inr (long_is n (push_status e) is (only_long (push_status e) (push_within e).1 (subst IsServerRefusal is refusal)), ap (λ w. w.sent) (push_at a b k e cause others)))
+  at_fault a (fault.Command (Get e)) is refusal cause closes others = inr (inr (long_is n (get_status e) is (only_long (get_status e) (get_within e).1 (subst IsServerRefusal is refusal)), ap (λ w. w.sent) (get_at a b k e cause others)))
+  at_fault a (fault.Command (Take e)) is refusal cause closes others = inr (inr (long_is n (take_status e) is (only_many (take_status e) (take_within e).1 (subst IsServerRefusal is refusal)), ap (λ w. w.sent) (take_at a b k e cause others)))
   at_fault a (fault.Failed o) is refusal cause closes others = object_apart o (subst IsServerRefusal is refusal)
   at_fault a fault.NoMemory is refusal cause closes others = high 90 (omega arith) (subst IsServerRefusal is refusal)
 
   at_words : (words : List Text) (e : Fault) → n ≡ status_of e → IsServerRefusal n → IsIdle b k → ConfigCause words b.config.files (Failed b k object.Config) e → Said
   at_words words (fault.Usage u) is refusal idle cause = usage_apart u (subst IsServerRefusal is refusal)
-  at_words words (fault.Stage e) is refusal idle cause = inr (inr (is ∙ stage_long e (subst IsServerRefusal is refusal), ap (λ w. w.sent) idle.server))
+  at_words words (fault.Stage e) is refusal idle cause = inr (inr (long_is n (stage_status e) is (omega (arith, stage_long e (subst IsServerRefusal is refusal))), ap (λ w. w.sent) idle.server))
   at_words words (fault.Command e) is refusal idle cause = absurd cause
   at_words words (fault.Failed o) is refusal idle cause = object_apart o (subst IsServerRefusal is refusal)
   at_words words fault.NoMemory is refusal idle cause = high 90 (omega arith) (subst IsServerRefusal is refusal)

@@ -1,6 +1,6 @@
 -- What the stages add to a command's own part: the same lemmas for every command.
 use Rattle.std.proofs.Common.{◌≡◌, ◌≤◌, ◌⊎◌, ⊎_elim, inl, inr, ℕ, List, Option, Result, Ok, Err, IfOk, IfErr, refl, sym, ◌∙◌, subst, ap, arith, Bool, true, false}
-use Rattle.std.specs.Prelude.{OnOk, IfSome, IsSome, IsErrAnd}
+use Rattle.std.specs.Prelude.{OnOk, IfSome, IsSome, IsErrAnd, take, [], None}
 use Rattle.pgb_outside.specs.Cause.{Rises}
 use Rattle.pgb_outside.specs.Content.{Content}
 use Rattle.pgb_outside.specs.Moments.{View, Rests}
@@ -11,7 +11,7 @@ use Rattle.pgb_disk.proofs.Changes.{only_on, only_rests}
 use Rattle.pgb_stanza.specs.Owned.{IsOfPairs}
 use Rattle.pgb_archive.specs.Still.{IsStill, rests_none, still_self, still_on}
 use Rattle.pgb_model.specs.Text.{Text}
-use Rattle.pgb_model.specs.Steps.{Command}
+use Rattle.pgb_model.specs.Steps.{Command, MakeBackup}
 use Rattle.pgb_model.specs.Walks.{IsTight}
 use Rattle.pgb_model.proofs.Each.{keeps_tight}
 use Rattle.pgb_stage.specs.declared.plan.Plan.{Plan}
@@ -38,11 +38,12 @@ use Rattle.pgb_model.proofs.Logged.{rests_still}
 use Rattle.pgb_prepare.specs.Stages.{FoundCause, StageCause}
 use Rattle.pgb_prepare.specs.Taking.{HeldCause, MayTake}
 use Rattle.pgb_create.proofs.Statuses.{closes_as}
-use Rattle.pgb_command.specs.declared.fault.CommandFault.TheVariants.{Create, Push, Get}
+use Rattle.pgb_logged.proofs.Reading.{no_files, no_files_read}
+use Rattle.pgb_command.specs.declared.fault.CommandFault.TheVariants.{Create, Push, Get, Take}
 use Rattle.pgb_command.specs.declared.fault.Fault.{Fault}
 use Rattle.pgb_command.specs.declared.fault.Fault.TheVariants.{Usage, Stage, Command as OfCommand, Failed as ObjectFailed, NoMemory}
 use Rattle.pgb_command.specs.Answers.{reached_of, ending_of, is_early}
-use Rattle.pgb_command.specs.Asked.{Request, create, push, get, report, Asked}
+use Rattle.pgb_command.specs.Asked.{Request, create, push, get, backup, report, Asked}
 use Rattle.pgb_command.specs.Faults.{of_stage}
 use Rattle.pgb_command.specs.Tables.{Known, known, plan_of, manner_of, CommandCause, Promise, Lasts, OnReader, OnCreate, OnOther, FolderGoes, Unless, uses_workers, uses_clock}
 use Rattle.pgb_command.specs.Did.{Ran, StaysHealed, OnReady, Cause, HealsPairs, Did, OwnCause, Spares, Closes, WordsCause, Brackets, SamePlaces, OpensPlaces, ArePlacesOpened, OpensIf, IsOpenedIf, TakesAll, OnlyLocked}
@@ -54,6 +55,7 @@ pub idle : (request : Request) (folder : Text) (nodes : Option Nodes) (links : L
 idle create folder nodes links P p = λ command is. p command
 idle (push path) folder nodes links P p = λ command is. p command
 idle (get name path) folder nodes links P p = λ command is. p command
+idle (backup workers) folder nodes links P p = (MakeBackup [] no_files None, (no_files, refl, no_files_read (take workers links)), p (MakeBackup [] no_files None))
 idle (report form) folder nodes links P p = λ command is. p command
 
 -- a command that opens no data folder reads no control file
@@ -61,6 +63,7 @@ pub no_control : (request : Request) → (plan_of request).folder ≡ false → 
 no_control create is = cc is
 no_control (push path) is = cc is
 no_control (get name path) is = cc is
+no_control (backup workers) is = cc is
 no_control (report form) is = refl
 
 -- what holds where no pair is healed holds of readers and of stanza-create
@@ -68,48 +71,56 @@ pub reader_still : (request : Request) (P : Type 0) → OnReading (plan_of reque
 reader_still create P h = tt
 reader_still (push path) P h = tt
 reader_still (get name path) P h = h
+reader_still (backup workers) P h = tt
 reader_still (report form) P h = h
 
 pub create_still : (request : Request) (P : Type 0) → OnReading (plan_of request).pairs P → OnCreate request P
 create_still create P h = h
 create_still (push path) P h = tt
 create_still (get name path) P h = tt
+create_still (backup workers) P h = tt
 create_still (report form) P h = tt
 
 pub any_reader : (request : Request) (P : Type 0) → P → OnReader request P
 any_reader create P p = tt
 any_reader (push path) P p = tt
 any_reader (get name path) P p = p
+any_reader (backup workers) P p = tt
 any_reader (report form) P p = p
 
 pub any_create : (request : Request) (P : Type 0) → P → OnCreate request P
 any_create create P p = p
 any_create (push path) P p = tt
 any_create (get name path) P p = tt
+any_create (backup workers) P p = tt
 any_create (report form) P p = tt
 
 pub any_other : (request : Request) (P : Type 0) → P → OnOther request P
 any_other create P p = tt
 any_other (push path) P p = p
 any_other (get name path) P p = p
+any_other (backup workers) P p = p
 any_other (report form) P p = p
 
 reader_on : (request : Request) (P Q R : Type 0) → (P → Q → R) → OnReader request P → OnReader request Q → OnReader request R
 reader_on create P Q R to p q = tt
 reader_on (push path) P Q R to p q = tt
 reader_on (get name path) P Q R to p q = to p q
+reader_on (backup workers) P Q R to p q = tt
 reader_on (report form) P Q R to p q = to p q
 
 create_on : (request : Request) (P Q R : Type 0) → (P → Q → R) → OnCreate request P → OnCreate request Q → OnCreate request R
 create_on create P Q R to p q = to p q
 create_on (push path) P Q R to p q = tt
 create_on (get name path) P Q R to p q = tt
+create_on (backup workers) P Q R to p q = tt
 create_on (report form) P Q R to p q = tt
 
 other_as : (request : Request) (P Q : Type 0) → (P → Q) → OnOther request P → OnOther request Q
 other_as create P Q to p = tt
 other_as (push path) P Q to p = to p
 other_as (get name path) P Q to p = to p
+other_as (backup workers) P Q to p = to p
 other_as (report form) P Q to p = to p
 
 -- it doesn't use it
@@ -129,6 +140,7 @@ pub folder_stays : (a : Asked) (request : Request) (old : Known) (new : Option N
 folder_stays a create old new same = same
 folder_stays a (push path) old new same = same
 folder_stays a (get name path) old new same = subst (λ (n : Option Nodes). FolderGoes a (get name path) old n) (sym same) (record { told = λ some. some; others = λ q x y. refl; whole = inl refl })
+folder_stays a (backup workers) old new same = same
 folder_stays a (report form) old new same = same
 
 folder_on : (a : Asked) (request : Request) (b m k : Seen) → OnReader request (IsStill b.repo.view m.repo.view) → m.tree.nodes ≡ b.tree.nodes → FolderGoes a request (known m) k.tree.nodes → FolderGoes a request (known b) k.tree.nodes
@@ -136,6 +148,7 @@ folder_on a create b m k still nodes h = h ∙ nodes
 folder_on a (push path) b m k still nodes h = h ∙ nodes
 folder_on a (get name path) b m k still nodes h = subst (λ (o : Option Content). FolderGoes a (get name path) (as_known o b.tree.nodes b.server b.clock b.links) k.tree.nodes) still.now
     (subst (λ (n : Option Nodes). FolderGoes a (get name path) (as_known m.repo.view.now n b.server b.clock b.links) k.tree.nodes) nodes h)
+folder_on a (backup workers) b m k still nodes h = h ∙ nodes
 folder_on a (report form) b m k still nodes h = h ∙ nodes
 
 -- ---- causes and ends
@@ -171,6 +184,7 @@ closes_from b m k le (Stage fault) h = tt
 closes_from b m k le (OfCommand (Create fault)) h = closes_as (Failed m k TheServer) (Failed b k TheServer) k.server.sent (λ rose. rises_from _ _ _ le rose) fault h
 closes_from b m k le (OfCommand (Push fault)) h = tt
 closes_from b m k le (OfCommand (Get fault)) h = tt
+closes_from b m k le (OfCommand (Take fault)) h = tt
 closes_from b m k le (ObjectFailed object) h = tt
 closes_from b m k le NoMemory h = tt
 
@@ -292,6 +306,7 @@ lasts_by : (a : Asked) (request : Request) (v : View) (nodes mid : Option Nodes)
 lasts_by a create v nodes mid k outcome same at h = tt
 lasts_by a (push path) v nodes mid k outcome same at h = subst (λ (n : Option Nodes). Lasts a (push path) n k.repo.view k.tree.nodes outcome) same (h (at refl))
 lasts_by a (get name path) v nodes mid k outcome same at h = subst (λ (n : Option Nodes). Lasts a (get name path) n k.repo.view k.tree.nodes outcome) same (h (at refl))
+lasts_by a (backup workers) v nodes mid k outcome same at h = tt
 lasts_by a (report form) v nodes mid k outcome same at h = tt
 
 -- the members of a healed pair too
@@ -300,6 +315,7 @@ heals_by : (a : Asked) (request : Request) (v : View) (k : Seen) → ((plan_of r
 heals_by a create v k at had h = tt
 heals_by a (push path) v k at had h = h (at refl) had
 heals_by a (get name path) v k at had h = tt
+heals_by a (backup workers) v k at had h = tt
 heals_by a (report form) v k at had h = tt
 
 -- what the stages behind the locks add
@@ -390,6 +406,7 @@ word_closes a b (Stage fault) h = absurd h
 word_closes a b (OfCommand (Create fault)) h = absurd h
 word_closes a b (OfCommand (Push fault)) h = tt
 word_closes a b (OfCommand (Get fault)) h = tt
+word_closes a b (OfCommand (Take fault)) h = absurd h
 word_closes a b (ObjectFailed object) h = absurd h
 word_closes a b NoMemory h = tt
 
@@ -399,6 +416,7 @@ word_cause a b (Stage fault) h = absurd h
 word_cause a b (OfCommand (Create fault)) h = absurd h
 word_cause a b (OfCommand (Push fault)) h = inl h
 word_cause a b (OfCommand (Get fault)) h = inl h
+word_cause a b (OfCommand (Take fault)) h = absurd h
 word_cause a b (ObjectFailed object) h = absurd h
 word_cause a b NoMemory h = tt
 

@@ -1,14 +1,17 @@
 -- What each command did, told of all objects: a lemma a command.
 use Rattle.std.proofs.Common.{◌≡◌, inl, inr, List, ◌∷◌, Option, Some, None, Result, Ok, Err, IfOk, IfErr, refl, sym, subst, ap, ◌∙◌, Bool, true}
-use Rattle.std.specs.Prelude.{IfSome, IsSome, IsSomeAnd, OnOk}
+use Rattle.std.specs.Prelude.{ℕ, [], take, IfSome, IsSome, IsSomeAnd, OnOk}
 use Rattle.pgb_outside.specs.Content.{Content}
+use Rattle.pgb_outside.specs.Links.{LinkState}
 use Rattle.pgb_outside.specs.Crash.{Leaves}
 use Rattle.pgb_outside.specs.Moments.{View}
 use Rattle.pgb_outside.specs.Tree.{Nodes}
 use Rattle.pgb_model.specs.Text.{Text}
 use Rattle.pgb_model.specs.Repository.{Repository}
-use Rattle.pgb_model.specs.Steps.{Command, StanzaCreate, Reading}
-use Rattle.pgb_model.specs.Log.{Done, KeepsSpool}
+use Rattle.pgb_model.specs.Repository.{Backup}
+use Rattle.pgb_model.specs.Steps.{Command, StanzaCreate, MakeBackup, Reading, after, all_of, steps_of}
+use Rattle.pgb_model.specs.Log.{Done, Reaches, IsDrained, KeepsSpool}
+use Rattle.pgb_model.specs.declared.wal.ArchiveName.{ArchiveName}
 use Rattle.pgb_model.specs.Walks.{IsTight}
 use Rattle.pgb_model.proofs.Logged.{create_spool}
 use Rattle.pgb_model.proofs.PushDone.{push_spool}
@@ -31,12 +34,12 @@ use Rattle.pgb_stage.specs.Cluster.{FolderTells}
 use Rattle.pgb_stage.specs.Halts.{HaltCause, Never}
 use Rattle.pgb_stage.specs.Plans.{AreHealed, HealsToLast}
 use Rattle.pgb_stage.specs.Reached.{OnFinished, reached_by}
-use Rattle.pgb_stage.specs.Runs.{Reached, to_end, turned_back, stopped, Does, Runs, On, OnNone, IsLookedAt, PairAlike}
+use Rattle.pgb_stage.specs.Runs.{one, Reached, to_end, turned_back, stopped, Does, Runs, On, OnNone, IsLookedAt, PairAlike}
 use Rattle.pgb_stage.specs.Seen.{Seen, Failed, AreLater}
 use Rattle.pgb_story.specs.Beside.{StaysBeside}
 use Rattle.pgb_stage.proofs.Besides.{still_beside, pairs_beside}
 use Rattle.pgb_stage.proofs.Doing.{reading_does, now_told}
-use Rattle.pgb_stage.proofs.Lifted.{does_runs, reading_spool}
+use Rattle.pgb_stage.proofs.Lifted.{on_as, does_runs, reading_spool}
 use Rattle.pgb_create.specs.declared.fault.CreateFault.{CreateFault}
 use Rattle.pgb_create.specs.Creating.{IsCreated, CreateCause, create_early}
 use Rattle.pgb_create.specs.Talking.{Asks, IsOf, Closes as CreateCloses}
@@ -45,14 +48,19 @@ use Rattle.pgb_push.specs.Causes.{IsStored, IsLasting, PushCause}
 use Rattle.pgb_push.specs.Commands.{IsPushOf}
 use Rattle.pgb_push.specs.Faults.{push_early}
 use Rattle.pgb_get.specs.declared.fault.GetFault.{GetFault}
+use Rattle.pgb_logged.specs.Backups.{IsFullBackup}
+use Rattle.pgb_take.specs.declared.fault.TakeFault.{TakeFault}
+use Rattle.pgb_take.specs.Causes.{TakeCause}
+use Rattle.pgb_take.specs.Faults.{take_early}
+use Rattle.pgb_take.specs.Taken.{IsTaken}
 use Rattle.pgb_get.specs.Getting.{GotBy, GetCause, get_early}
 use Rattle.pgb_command.specs.declared.fault.Fault.{Fault}
 use Rattle.pgb_command.specs.declared.fault.Fault.TheVariants.{Stage, Command as OfCommand}
-use Rattle.pgb_command.specs.declared.fault.CommandFault.TheVariants.{Create, Push, Get}
+use Rattle.pgb_command.specs.declared.fault.CommandFault.TheVariants.{Create, Push, Get, Take}
 use Rattle.pgb_command.specs.Answers.{reached_of, ending_of, is_early}
-use Rattle.pgb_command.specs.Asked.{Request, create, push, get, report, Asked}
-use Rattle.pgb_command.specs.Faults.{of_halt, of_stage, of_create, of_push, of_get, lift}
-use Rattle.pgb_command.specs.Tables.{known, Promise, Lasts, plan_of, manner_of, IsCreateOf, OnReader, OnCreate, OnOther, FolderGoes, Unless, uses_workers, uses_clock}
+use Rattle.pgb_command.specs.Asked.{Request, create, push, get, backup, report, Asked}
+use Rattle.pgb_command.specs.Faults.{of_halt, of_stage, of_create, of_push, of_get, of_take, lift}
+use Rattle.pgb_command.specs.Tables.{known, found_by, Promise, Lasts, plan_of, manner_of, IsCreateOf, OnReader, OnCreate, OnOther, FolderGoes, Unless, uses_workers, uses_clock}
 use Rattle.pgb_command.specs.Did.{SamePlaces, Closes, OwnCause, StaysHealed, Ran}
 use Rattle.pgb_command.proofs.Ends.{reached_same, lift_ok, lift_on, lift_err}
 use Rattle.pgb_command.proofs.OneCluster.{cluster_is}
@@ -75,6 +83,7 @@ module _ {E : Type 0} (a : Asked) (b k : Seen) (of : E → Fault) (early : E →
   create_reached create P h = as_reached P h
   create_reached (push path) P h = h
   create_reached (get name path) P h = h
+  create_reached (backup workers) P h = h
   create_reached (report form) P h = h
 
   pub ran_of : On (manner_of a.request a.data_folder b.tree.nodes b.links) (λ command. Runs (plan_of a.request).settling a.stanza command (reached_by early r) b.repo.view b.spool.view k.repo.view k.spool.view) → IfOk r (Promise a a.request (known b) (known k)) → IfOk r (λ o. IsLookedAt a.stanza b.repo.view → Lasts a a.request b.tree.nodes k.repo.view k.tree.nodes o) → IfErr r (HaltCause why failed) →
@@ -276,6 +285,62 @@ module _ (a : Asked) (b k : Seen) (rest : k ≡ record b { repo = k.repo; tree =
       (ap (λ (s : Seen). s.clock) rest)
       (never_closes b k of_get (get_closes b k) r)
       places later))
+
+-- ---- backup
+
+-- a backup takes nothing from what a drain has stored
+backup_drained : (b : Backup) (q : Repository) (log : List Done) (name : ArchiveName) (sum : Text) (r : Repository) → Reaches q log r → IsDrained r name sum →
+    (x : Repository) × Reaches q (record { command = MakeBackup [] b None; acknowledged = true } ∷ log) x × IsDrained x name sum
+backup_drained b q log name sum None reached drained = absurd drained
+backup_drained b q log name sum (Some s) reached drained = (
+  after (Some s) (all_of (steps_of (MakeBackup [] b None) (Some s))),
+  (Some s, reached, (all_of (steps_of (MakeBackup [] b None) (Some s)), refl, refl)),
+  drained,
+)
+
+backup_receipts : (stanza : Text) (links : List LinkState) (command : Command) → IsFullBackup links command → (v : View) (q : Repository) (log : List Done) → KeepsSpool stanza q log v → KeepsSpool stanza q (record { command = command; acknowledged = true } ∷ log) v
+backup_receipts stanza links command is v q log keeps = subst (λ (c : Command). KeepsSpool stanza q (record { command = c; acknowledged = true } ∷ log) v) (sym is.1) (record {
+  fixed = keeps.fixed;
+  receipts = λ f leaves name sum fits receipt. let x = keeps.receipts f leaves name sum fits receipt in backup_drained is.0 q log name sum x.0 x.1 x.2;
+})
+
+take_closes : (b k : Seen) (h : Halt TakeFault) → Closes b k (of_take h)
+take_closes b k (Refused e) = tt
+take_closes b k (HaltFailed object) = tt
+take_closes b k HaltMemory = tt
+
+module _ (a : Asked) (b k : Seen) (rest : k ≡ record b { repo = k.repo; tree = k.tree; clock = k.clock; links = k.links }) (nodes : k.tree.nodes ≡ b.tree.nodes) (workers : ℕ) (told : Control) (tells : IfSome b.tree.nodes (λ f. FolderTells f told))
+    (r : Result Outcome (Halt TakeFault)) (ended : Result Outcome Fault) (lifted : ended ≡ lift of_take r) where
+  abbrev takes : Asked
+  takes = with_request a (backup workers)
+
+  abbrev used : List LinkState
+  used = take workers b.links
+
+  pub taken_ran : a.request ≡ backup workers → StaysBeside a.stanza b.repo.view k.repo.view →
+      On (one (IsFullBackup (take workers b.links))) (λ command. Does Whole a.stanza command (reached_by take_early r) b.repo.view k.repo.view) →
+      IfOk r (λ o. OnFinished o (IsTaken a.stanza told b.tree.nodes (take workers b.links) b.repo.view.now k.repo.view.now)) → (failed : Object → Type 0) → ((object : Object) → failed object → Failed b k object) →
+      IfErr r (HaltCause (TakeCause (found_by a workers (known b) told)) failed) → SamePlaces b k → AreLater b k → Ran a b k ended
+  taken_ran is beside does taken failed rose cause places later = as_ran a (backup workers) b k ended is
+      (ran_of takes b k (λ (e : TakeFault). OfCommand (Take e)) take_early (λ e. refl) (TakeCause (found_by a workers (known b) told)) (λ e h. (told, tells, h)) failed rose r ended lifted
+      (does.0, does.1, subst (λ (v : View). Runs Whole a.stanza does.0 (reached_by take_early r) b.repo.view b.spool.view k.repo.view v) (sym (ap (λ (s : Seen). s.spool.view) rest))
+      (does_runs Whole a.stanza does.0 (reached_by take_early r) b.repo.view k.repo.view b.spool.view (backup_receipts a.stanza used does.0 does.1 b.spool.view) does.2))
+      (ok_as r _ _ (λ o h. (told, tells, h)) taken)
+      (any_ok r (λ o. IsLookedAt a.stanza b.repo.view → Unit {0}) (λ o looked. tt))
+      cause
+      (on_all r (StaysHealed takes b k) (record { agree = λ some h. any_some k.repo.view.now; lasts = λ looked h. tt }))
+      beside
+      tt
+      tt
+      nodes
+      (all_none (reached_by take_early r) _ nodes)
+      tt
+      (λ none. ap (λ (s : Seen). s.server) rest)
+      (ap (λ (s : Seen). s.server) rest)
+      tt
+      tt
+      (never_closes b k of_take (take_closes b k) r)
+      places later)
 
 inform_closes : (b k : Seen) (h : Halt StageFault) → Closes b k (of_stage h)
 inform_closes b k (Refused e) = tt

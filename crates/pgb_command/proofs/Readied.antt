@@ -1,5 +1,5 @@
 -- What the stages made ready, by the command.
-use Rattle.std.proofs.Common.{◌≡◌, Option, Some, None, refl, subst}
+use Rattle.std.proofs.Common.{◌≡◌, ℕ, Option, Some, None, refl, subst}
 use Rattle.std.specs.Prelude.{IfSome, IsSomeAnd, OnOk, Result, Ok, Err, option_map}
 use Rattle.pgb_outside.specs.Content.{Content}
 use Rattle.pgb_outside.specs.Tree.{Nodes}
@@ -10,7 +10,7 @@ use Rattle.pgb_prepare.specs.declared.ready.Ready.{Ready}
 use Rattle.pgb_prepare.specs.Readies.{IsReady}
 use Rattle.pgb_create.specs.declared.server.Server as code
 use Rattle.pgb_create.specs.Server.{server_view}
-use Rattle.pgb_command.specs.Asked.{Request, create}
+use Rattle.pgb_command.specs.Asked.{Request, create, backup}
 use Rattle.pgb_command.specs.Tables.{plan_of}
 
 there : {T : Type 0} (o : Option T) (x : T) (P : T → Type 0) → o ≡ Some x → IsSomeAnd o P → P x
@@ -22,6 +22,9 @@ module _ (q : Request) (stanza : Text) (repo : Option Content) (nodes : Option N
 
   pub create_tells : q ≡ create → (told : Control) → ready.control ≡ Some told → IfSome nodes (λ f. FolderTells f told)
   create_tells is told some = there ready.control told _ some ((by create is).control refl)
+
+  pub backup_tells : (workers : ℕ) → q ≡ backup workers → (told : Control) → ready.control ≡ Some told → IfSome nodes (λ f. FolderTells f told)
+  backup_tells workers is told some = there ready.control told _ some ((by (backup workers) is).control refl)
 
 -- ---- the server
 

@@ -22,7 +22,7 @@ use Rattle.pgb_push.specs.WalPath.{IsWalPath}
 use Rattle.pgb_command.specs.declared.order.Order.{Order}
 use Rattle.pgb_command.specs.declared.order.Order.TheVariants as orders
 use Rattle.pgb_command.specs.Told.{IsOrder}
-use Rattle.pgb_command.specs.Asked.{Request, create, push, get, report, Asked}
+use Rattle.pgb_command.specs.Asked.{Request, create, push, get, backup, report, Asked}
 use Rattle.pgb_command.specs.Faults.{of_push, of_get}
 use Rattle.pgb_command.specs.Tables.{WordsFit, CommandCause}
 use Rattle.pgb_command.specs.Did.{IsIdle, WordsCause, ComesBehind}
@@ -54,18 +54,27 @@ words_fit : (a : Asked) (q : Request) (o : Order) → IsOrder q a.data_folder o 
 words_fit a create orders.StanzaCreate is = tt
 words_fit a create (orders.ArchivePush o) is = absurd is
 words_fit a create (orders.ArchiveGet o) is = absurd is
+words_fit a create (orders.Backup o) is = absurd is
 words_fit a create (orders.Info asked) is = absurd is
 words_fit a (push path) orders.StanzaCreate is = absurd is
 words_fit a (push path) (orders.ArchivePush o) is = (o.name, subst (λ (f : Text). IsWalPath f path o.name) is.0 (subst (λ (p : Text). IsWalPath o.folder.now p o.name) is.1 o.named))
 words_fit a (push path) (orders.ArchiveGet o) is = absurd is
+words_fit a (push path) (orders.Backup o) is = absurd is
 words_fit a (push path) (orders.Info asked) is = absurd is
 words_fit a (get word path) orders.StanzaCreate is = absurd is
 words_fit a (get word path) (orders.ArchivePush o) is = absurd is
 words_fit a (get word path) (orders.ArchiveGet o) is = (o.name, subst (λ (f : Text). AreWords f word path o.name) is.0 (subst (λ (w : Text). AreWords o.folder.now w path o.name) is.1 (subst (λ (p : Text). AreWords o.folder.now o.word.now p o.name) is.2 o.wanted)))
+words_fit a (get word path) (orders.Backup o) is = absurd is
 words_fit a (get word path) (orders.Info asked) is = absurd is
+words_fit a (backup workers) orders.StanzaCreate is = absurd is
+words_fit a (backup workers) (orders.ArchivePush o) is = absurd is
+words_fit a (backup workers) (orders.ArchiveGet o) is = absurd is
+words_fit a (backup workers) (orders.Backup o) is = tt
+words_fit a (backup workers) (orders.Info asked) is = absurd is
 words_fit a (report form) orders.StanzaCreate is = absurd is
 words_fit a (report form) (orders.ArchivePush o) is = absurd is
 words_fit a (report form) (orders.ArchiveGet o) is = absurd is
+words_fit a (report form) (orders.Backup o) is = absurd is
 words_fit a (report form) (orders.Info asked) is = tt
 
 pub behind_words : (a : Asked) (b k : Seen) (o : Order) → IsOrder a.request a.data_folder o → (result : Result Outcome Fault) → ComesBehind a b k result

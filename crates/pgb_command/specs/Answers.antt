@@ -16,8 +16,10 @@ use Rattle.pgb_push.specs.Texts.{push_status, push_message}
 use Rattle.pgb_push.specs.Faults.{push_early}
 use Rattle.pgb_get.specs.Texts.{get_status, get_message}
 use Rattle.pgb_get.specs.Getting.{get_early}
+use Rattle.pgb_take.specs.Faults.{take_early}
+use Rattle.pgb_take.specs.Texts.{take_status, take_message}
 use Rattle.pgb_command.specs.declared.fault.CommandFault.{CommandFault}
-use Rattle.pgb_command.specs.declared.fault.CommandFault.TheVariants.{Create, Push, Get}
+use Rattle.pgb_command.specs.declared.fault.CommandFault.TheVariants.{Create, Push, Get, Take}
 use Rattle.pgb_command.specs.declared.fault.Fault.{Fault}
 use Rattle.pgb_command.specs.declared.fault.Fault.TheVariants.{Usage as OfUsage, Stage, Command, Failed, NoMemory}
 
@@ -42,6 +44,7 @@ abbrev pub command_status : CommandFault → ℕ
 command_status (Create fault) = create_status fault
 command_status (Push fault) = push_status fault
 command_status (Get fault) = get_status fault
+command_status (Take fault) = take_status fault
 
 abbrev pub status_of : Fault → ℕ
 status_of (OfUsage usage) = usage_status usage
@@ -57,6 +60,7 @@ abbrev pub command_early : CommandFault → Bool
 command_early (Create fault) = create_early fault
 command_early (Push fault) = push_early fault
 command_early (Get fault) = get_early fault
+command_early (Take fault) = take_early fault
 
 -- the command ended before its own first step
 abbrev pub is_early : Fault → Bool
@@ -118,6 +122,7 @@ abbrev pub command_message : CommandFault → Text
 command_message (Create fault) = create_message fault
 command_message (Push fault) = push_message fault
 command_message (Get fault) = get_message fault
+command_message (Take fault) = take_message fault
 
 abbrev pub message_of : Fault → Text
 message_of (OfUsage usage) = usage_message usage

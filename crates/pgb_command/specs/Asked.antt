@@ -1,19 +1,21 @@
 -- What a command is told by its words and its configuration (pgBackRest command reference and configuration reference).
-use Rattle.std.specs.Prelude.{◌≡◌, ◌≤◌, ℕ, ◌^◌, Bool, false, List, [], ◌∷◌, length, Option, Some, None, Result, Ok, Err, IfSome, IsSome, if◌then◌else◌}
+use Rattle.std.specs.Prelude.{◌≡◌, ◌≤◌, ℕ, ◌^◌, Bool, true, false, List, [], ◌∷◌, length, Option, Some, None, Result, Ok, Err, IfSome, IsSome, if◌then◌else◌}
 use Rattle.pgb_outside.specs.Content.{Content}
 use Rattle.pgb_model.specs.Text.{Text}
 use Rattle.pgb_table.specs.declared.table.Opt.{Opt}
+use Rattle.pgb_options.specs.declared.options.KindWord.{KindWord}
+use Rattle.pgb_options.specs.declared.options.KindWord.TheVariants.{Full, Diff, Incr}
 use Rattle.pgb_options.specs.declared.options.OutputWord.{OutputWord}
-use Rattle.pgb_table.specs.declared.table.Opt.TheVariants.{Pg1Path, Pg1SocketPath, Pg1Port, Pg1User, Pg1Database, Repo1Path, LockPath, Online, ArchiveAsync, Output}
+use Rattle.pgb_table.specs.declared.table.Opt.TheVariants.{Pg1Path, Pg1SocketPath, Pg1Port, Pg1User, Pg1Database, Repo1Path, LockPath, Online, ArchiveAsync, Output, BackupType, Delta, Repo1Bundle, ExpireAuto, ProcessMax}
 use Rattle.pgb_table.specs.declared.table.Verb.{Verb}
-use Rattle.pgb_table.specs.declared.table.Verb.TheVariants.{StanzaCreate, ArchivePush, ArchiveGet, Info}
+use Rattle.pgb_table.specs.declared.table.Verb.TheVariants.{StanzaCreate, ArchivePush, ArchiveGet, Backup, Info}
 use Rattle.pgb_options.specs.Faults.{Fault}
-use Rattle.pgb_options.specs.Filled.{text_in, number_in, flag_in, or_else, output_word, word_in}
+use Rattle.pgb_options.specs.Filled.{text_in, number_in, flag_in, or_else, kind_word, output_word, word_in}
 use Rattle.pgb_options.specs.Paths.{Path, nowhere, usual, named, path_of_words}
 use Rattle.pgb_options.specs.Settings.{Source, Settled, value, settled_words}
 use Rattle.pgb_create.specs.Server.{Server}
 use Rattle.pgb_stage.specs.declared.fault.Unbuilt.{Unbuilt}
-use Rattle.pgb_stage.specs.declared.fault.Unbuilt.TheVariants.{Command, Background}
+use Rattle.pgb_stage.specs.declared.fault.Unbuilt.TheVariants.{Command, Background, Online as RunningServer, Kind, Delta as Digests, Bundles, Expiry}
 
 -- ---- the configuration
 
@@ -38,11 +40,12 @@ pub record WordsSettle (words : List Text) (files : Option Content) (read : Resu
 
 -- ---- what is asked
 
--- which command, the file that archive-push is to store, the file that archive-get is to serve and where, and the form of info's report
+-- which command, the file that archive-push is to store, the file that archive-get is to serve and where, how many workers a backup may use, and the form of info's report
 pub data Request : Type 0 where
   create : Request
   push : (path : Text) → Request
   get : (name path : Text) → Request
+  backup : (workers : ℕ) → Request
   report : (form : OutputWord) → Request
 
 abbrev pub first_of : List Text → Text
@@ -53,13 +56,36 @@ abbrev pub second_of : List Text → Text
 second_of [] = []
 second_of (x ∷ xs) = first_of xs
 
--- what a verb asks for, in the background where that is in force, in a form of output, and its parameters; or what isn't built
-abbrev pub request_by : Verb → Bool → OutputWord → List Text → Result Request Unbuilt
-request_by StanzaCreate background form given = Ok create
-request_by ArchivePush background form given = if background then Err Background else Ok (push (first_of given))
-request_by ArchiveGet background form given = if background then Err Background else Ok (get (first_of given) (second_of given))
-request_by Info background form given = Ok (report form)
-request_by verb background form given = Err (Command verb)
+-- what the options say of how a command goes on
+pub record Wanted : Type 0 where
+  pub background : Bool
+  pub form : OutputWord
+  pub online : Bool
+  pub kind : KindWord
+  pub delta : Bool
+  pub bundles : Bool
+  pub expires : Bool
+  pub workers : ℕ
+
+abbrev pub is_full : KindWord → Bool
+is_full Full = true
+is_full Diff = false
+is_full Incr = false
+
+-- a full backup of a stopped server, with nothing more; or what of it isn't built
+abbrev pub backup_by : Wanted → Result Request Unbuilt
+backup_by m = if m.online then Err RunningServer
+    else if is_full m.kind then (if m.delta then Err Digests else if m.bundles then Err Bundles else if m.expires then Err Expiry else Ok (backup m.workers))
+    else Err Kind
+
+-- what a verb asks for, in this manner and with its parameters; or what isn't built
+abbrev pub request_by : Verb → Wanted → List Text → Result Request Unbuilt
+request_by StanzaCreate m given = Ok create
+request_by ArchivePush m given = if m.background then Err Background else Ok (push (first_of given))
+request_by ArchiveGet m given = if m.background then Err Background else Ok (get (first_of given) (second_of given))
+request_by Backup m given = backup_by m
+request_by Info m given = Ok (report m.form)
+request_by verb m given = Err (Command verb)
 
 abbrev pub path_in : Source → Opt → Text
 path_in source option = or_else [] (text_in (value source option))
@@ -67,8 +93,20 @@ path_in source option = or_else [] (text_in (value source option))
 abbrev pub is_on : Source → Opt → Bool
 is_on source option = or_else false (flag_in (value source option))
 
+abbrev pub wanted_in : Source → Wanted
+wanted_in s = record {
+  background = is_on s ArchiveAsync;
+  form = output_word (word_in (value s Output));
+  online = is_on s Online;
+  kind = kind_word (word_in (value s BackupType));
+  delta = is_on s Delta;
+  bundles = is_on s Repo1Bundle;
+  expires = is_on s ExpireAuto;
+  workers = or_else 0 (number_in (value s ProcessMax));
+}
+
 abbrev pub requested : Settled → Result Request Unbuilt
-requested s = request_by s.source.verb (is_on s.source ArchiveAsync) (output_word (word_in (value s.source Output))) s.parameters
+requested s = request_by s.source.verb (wanted_in s.source) s.parameters
 
 -- the server of the source
 abbrev pub server_in : Source → Server

@@ -124,9 +124,9 @@ Completes words before after result = ((fault : Fault) → fault ≢ NoMemory �
     → ((a : Asked) (fault : Fault) → MayAsk words before.config.files a → fault ≢ NoMemory → ¬ Cause a before after fault)
     → ¬ Failed before after Output → (result ≤ 1) ⊎ (result ≡ 90)
 
--- after a server's answer that is refused the last that was said to it is the end, unless the connection failed; at 70 a file may have been too long, and then nothing was said
+-- after a server's answer that is refused the last that was said to it is the end, unless the connection failed; at 70 and 71 it may have been something else that was too long or too many, and then nothing was said
 abbrev pub ClosesTalk : Seen → Seen → ℕ → Type 0
-ClosesTalk before after result = IsServerRefusal result → Ended after.server.sent ⊎ (Failed before after Server ⊎ ((result ≡ 70) × (after.server.sent ≡ before.server.sent)))
+ClosesTalk before after result = IsServerRefusal result → Ended after.server.sent ⊎ (Failed before after Server ⊎ ((70 ≤ result) × (after.server.sent ≡ before.server.sent)))
 
 -- this holds of each command that the words ask for
 abbrev pub Each : List Text → Option Content → (Asked → Type 0) → Type 0

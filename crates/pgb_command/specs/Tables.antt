@@ -1,5 +1,5 @@
 -- The tables of the commands: a line for each in each.
-use Rattle.std.specs.Prelude.{◌≡◌, Bool, true, false, List, Option, Some, IfSome, IsSome, IsSomeAnd}
+use Rattle.std.specs.Prelude.{◌≡◌, ℕ, take, Bool, true, false, List, Option, Some, IfSome, IsSome, IsSomeAnd}
 use Rattle.pgb_outside.specs.Content.{Content}
 use Rattle.pgb_outside.specs.Crash.{Leaves}
 use Rattle.pgb_outside.specs.Links.{LinkState}
@@ -17,7 +17,7 @@ use Rattle.pgb_stage.specs.declared.plan.Settling.TheVariants.{Whole, Looked}
 use Rattle.pgb_stage.specs.declared.plan.Pairs.TheVariants.{Unread, ReadArchive, HealArchive, ReadBoth}
 use Rattle.pgb_stage.specs.declared.outcome.Outcome.{Outcome}
 use Rattle.pgb_stage.specs.Cluster.{FolderTells, IsClusterOf}
-use Rattle.pgb_stage.specs.Runs.{Manner, each}
+use Rattle.pgb_stage.specs.Runs.{Manner, each, one}
 use Rattle.pgb_stage.specs.Seen.{Seen}
 use Rattle.pgb_outside.specs.States.{WireState, ClockState}
 use Rattle.pgb_create.specs.Talking.{Asks, IsOf}
@@ -27,10 +27,13 @@ use Rattle.pgb_push.specs.Causes.{IsStored, IsLasting, PushCause}
 use Rattle.pgb_stage.specs.Reached.{OnFinished}
 use Rattle.pgb_push.specs.WalPath.{IsWalPath}
 use Rattle.pgb_get.specs.Getting.{AreWords, GotBy, GivenBy, GetCause, IsServed, ChangesPath, served_path}
+use Rattle.pgb_logged.specs.Backups.{IsFullBackup}
+use Rattle.pgb_take.specs.Causes.{Before, TakeCause}
+use Rattle.pgb_take.specs.Taken.{IsTaken}
 use Rattle.pgb_inform.specs.Reporting.{IsReported, ReportsStanza}
 use Rattle.pgb_command.specs.declared.fault.CommandFault.{CommandFault}
-use Rattle.pgb_command.specs.declared.fault.CommandFault.TheVariants.{Create, Push, Get}
-use Rattle.pgb_command.specs.Asked.{Request, create, push, get, report, Asked}
+use Rattle.pgb_command.specs.declared.fault.CommandFault.TheVariants.{Create, Push, Get, Take}
+use Rattle.pgb_command.specs.Asked.{Request, create, push, get, backup, report, Asked}
 
 -- what the objects hold, as far as they tell it
 pub record Known : Type 0 where
@@ -48,6 +51,7 @@ abbrev pub plan_of : Request → Plan
 plan_of create = record { settling = Whole; folder = true; backup_lock = true; archive_lock = true; control = true; pairs = Unread }
 plan_of (push path) = record { settling = Looked; folder = true; backup_lock = false; archive_lock = true; control = true; pairs = HealArchive }
 plan_of (get name path) = record { settling = Looked; folder = true; backup_lock = false; archive_lock = false; control = true; pairs = ReadArchive }
+plan_of (backup workers) = record { settling = Whole; folder = true; backup_lock = true; archive_lock = false; control = true; pairs = ReadBoth }
 plan_of (report form) = record { settling = Whole; folder = false; backup_lock = false; archive_lock = false; control = false; pairs = ReadBoth }
 
 -- stanza-create of the cluster that the folder tells, where it tells one
@@ -59,6 +63,7 @@ abbrev pub manner_of : Request → Text → Option Nodes → List LinkState → 
 manner_of create folder nodes links = each (λ command. IsSomeAnd nodes (λ f. IsCreateOf f command))
 manner_of (push path) folder nodes links = each (λ command. IsSomeAnd nodes (λ f. IsPushOf f folder path command))
 manner_of (get name path) folder nodes links = each (λ command. command ≡ Reading)
+manner_of (backup workers) folder nodes links = one (IsFullBackup (take workers links))
 manner_of (report form) folder nodes links = each (λ command. command ≡ Reading)
 
 -- the data folder tells this cluster, and this holds of it
@@ -70,13 +75,19 @@ abbrev pub WordsFit : Asked → Request → Type 0
 WordsFit a create = Unit {0}
 WordsFit a (push path) = (name : ArchiveName) × IsWalPath a.data_folder path name
 WordsFit a (get word path) = (name : ArchiveName) × AreWords a.data_folder word path name
+WordsFit a (backup workers) = Unit {0}
 WordsFit a (report form) = Unit {0}
+
+-- what a backup finds as its own part begins
+abbrev pub found_by : Asked → ℕ → Known → Control → Before
+found_by a workers old told = record { stanza = a.stanza; told = told; repo = old.repo; nodes = old.nodes; least = old.clock.least; used = take workers old.links }
 
 -- why a command is refused, from what the objects hold as its own part begins
 abbrev pub CommandCause : Asked → Request → Known → CommandFault → Type 0
 CommandCause a create old (Create fault) = OnCluster old.nodes (λ told. CreateCause a.stanza told a.server old.repo old.server.pending fault)
 CommandCause a (push path) old (Push fault) = PushCause a.stanza a.data_folder path old.repo old.nodes fault
 CommandCause a (get name path) old (Get fault) = GetCause a.stanza a.data_folder name path old.repo old.nodes fault
+CommandCause a (backup workers) old (Take fault) = OnCluster old.nodes (λ told. TakeCause (found_by a workers old told) fault)
 CommandCause a request old fault = ⊥
 
 -- Ok of stanza-create: the stanza is made, or was there; and where a server is asked it was asked at its socket and is of the folder's system
@@ -97,6 +108,7 @@ Promise a create old new outcome = Creates a old new outcome
 Promise a (push path) old new outcome = OnFinished outcome (IsStored a.stanza a.data_folder path old.nodes old.repo new.repo)
 Promise a (get name path) old new outcome = GotBy a.stanza a.data_folder name path old.repo old.nodes new.nodes outcome
     × OnStanza a old.repo (λ s. GivenBy s a.data_folder name path old.nodes new.nodes outcome)
+Promise a (backup workers) old new outcome = OnCluster old.nodes (λ told. OnFinished outcome (IsTaken a.stanza told old.nodes (take workers old.links) old.repo new.repo))
 Promise a (report form) old new outcome = OnFinished outcome (IsReported a.stanza form old.repo)
     × OnStanza a old.repo (λ s. OnFinished outcome (ReportsStanza form a.stanza s))
 
@@ -113,6 +125,7 @@ abbrev pub OnReader : Request → Type 0 → Type 0
 OnReader create P = Unit {0}
 OnReader (push path) P = Unit {0}
 OnReader (get name path) P = P
+OnReader (backup workers) P = Unit {0}
 OnReader (report form) P = P
 
 -- this holds of stanza-create, and of every other command
@@ -129,11 +142,13 @@ abbrev pub FolderGoes : Asked → Request → Known → Option Nodes → Type 0
 FolderGoes a (get name path) old new = ChangesPath (served_path a.data_folder path) (IsServed a.stanza a.data_folder name path old.repo old.nodes) old.nodes new
 FolderGoes a request old new = new ≡ old.nodes
 
--- no command that is built uses the workers, or the clock
+-- only a backup uses workers, and the clock
 abbrev pub uses_workers : Request → Bool
+uses_workers (backup workers) = true
 uses_workers request = false
 
 abbrev pub uses_clock : Request → Bool
+uses_clock (backup workers) = true
 uses_clock request = false
 
 -- this holds of a command that doesn't use it

@@ -3,13 +3,14 @@ use Rattle.std.specs.Prelude.{ℕ, ◌≡◌, ◌<◌, ◌^◌, List, length, sl
 use Rattle.pgb_outside.specs.Links.{LinkState}
 use Rattle.pgb_worker_dispatch.specs.Run.{IsReady}
 use Rattle.pgb_model.specs.Text.{Text}
+use Rattle.pgb_options.specs.declared.options.Options.{Options}
 use Rattle.pgb_create.specs.Server.{server_view}
 use Rattle.pgb_command.specs.declared.settings.Settings.{Settings}
 use Rattle.pgb_command.specs.declared.settings.Request as code
-use Rattle.pgb_command.specs.declared.settings.Request.TheVariants.{StanzaCreate, ArchivePush, ArchiveGet, Info}
+use Rattle.pgb_command.specs.declared.settings.Request.TheVariants.{StanzaCreate, ArchivePush, ArchiveGet, Backup, Info}
 use Rattle.pgb_command.specs.declared.order.Order.{Order}
 use Rattle.pgb_command.specs.declared.order.Order.TheVariants as order
-use Rattle.pgb_command.specs.Asked.{Request, create, push, get, report, Asked}
+use Rattle.pgb_command.specs.Asked.{Request, create, push, get, backup, report, Asked, Wanted}
 
 -- the workers can be numbered, and none has bytes of an earlier answer to give
 pub record AreWorkers (links : List LinkState) : Type 0 where
@@ -20,7 +21,21 @@ abbrev pub request_of : code.Request → Request
 request_of StanzaCreate = create
 request_of (ArchivePush path) = push path.now
 request_of (ArchiveGet name path) = get name.now path.now
+request_of (Backup workers) = backup workers
 request_of (Info form) = report form
+
+-- how a command goes on by its options
+abbrev pub wanted_told : Options → Wanted
+wanted_told o = record {
+  background = o.archive_async;
+  form = o.output;
+  online = o.online;
+  kind = o.backup_type;
+  delta = o.delta;
+  bundles = o.repo1_bundle;
+  expires = o.expire_auto;
+  workers = o.process_max;
+}
 
 abbrev pub asked_of : Settings → Asked
 asked_of s = record { stanza = s.stanza.now; data_folder = s.pg1_path.now; repository = s.repo1_path.now; lock_folder = s.lock_path.now; server = option_map server_view s.server; request = request_of s.request }
@@ -30,5 +45,6 @@ abbrev pub IsOrder : Request → Text → Order → Type 0
 IsOrder create folder order.StanzaCreate = Unit {0}
 IsOrder (push path) folder (order.ArchivePush o) = (o.folder.now ≡ folder) × (o.path.now ≡ path)
 IsOrder (get name path) folder (order.ArchiveGet o) = (o.folder.now ≡ folder) × (o.word.now ≡ name) × (o.path.now ≡ path)
+IsOrder (backup workers) folder (order.Backup o) = (o.data_folder.now ≡ folder) × (o.workers ≡ workers)
 IsOrder (report form) folder (order.Info asked) = asked ≡ form
 IsOrder request folder other = ⊥

@@ -1,13 +1,14 @@
 // What a command answers in place of Ok, by layers.
 ghost use Rattle.std.specs.Prelude.{◌≡◌};
 ghost use Rattle.pgb_command.specs.Answers.{status_of, usage_status, command_status};
-ghost use Rattle.pgb_command.specs.Faults.{lift, of_stage, of_create, of_push, of_get};
+ghost use Rattle.pgb_command.specs.Faults.{lift, of_stage, of_create, of_push, of_get, of_take};
 
 use pgb_create::{CreateFault, create_status};
 use pgb_get::{GetFault, get_status};
 use pgb_options::Usage;
 use pgb_push::{PushFault, push_status};
 use pgb_stage::{Halt, Object, Outcome, StageFault, object_status, stage_status};
+use pgb_take::{TakeFault, take_status};
 use std::alloc::AllocError;
 
 /// Why a command refuses, by the command.
@@ -16,6 +17,7 @@ pub enum CommandFault {
     Create(CreateFault),
     Push(PushFault),
     Get(GetFault),
+    Take(TakeFault),
 }
 
 /// Why a command is refused, in the order in which refusals come; or which object failed; or that there is no memory.
@@ -116,6 +118,21 @@ impl From<Halt<GetFault>> for Fault {
     }
 }
 
+impl From<Halt<TakeFault>> for Fault {
+    ghost use Rattle.std.specs.Prelude.{◌≡◌};
+    ghost use Rattle.pgb_command.specs.Faults.{of_take};
+
+    ghost from_gives = { λ h e. e ≡ of_take h };
+
+    fn from(halt: Halt<TakeFault>) -> Self {
+        match halt {
+            Halt::Refused(fault) => Fault::Command(CommandFault::Take(fault)),
+            Halt::Failed(object) => Fault::Failed(object),
+            Halt::NoMemory => Fault::NoMemory,
+        }
+    }
+}
+
 /// How stanza-create ended.
 pub(crate) fn create_end(ended: Result<Outcome, Halt<CreateFault>>) -> Result<Outcome, Fault>
     ensures { result ≡ lift of_create ended }
@@ -139,6 +156,16 @@ pub(crate) fn push_end(ended: Result<Outcome, Halt<PushFault>>) -> Result<Outcom
 /// How archive-get ended.
 pub(crate) fn get_end(ended: Result<Outcome, Halt<GetFault>>) -> Result<Outcome, Fault>
     ensures { result ≡ lift of_get ended }
+{
+    match ended {
+        Ok(outcome) => Ok(outcome),
+        Err(halt) => Err(Fault::from(halt)),
+    }
+}
+
+/// How backup ended.
+pub(crate) fn take_end(ended: Result<Outcome, Halt<TakeFault>>) -> Result<Outcome, Fault>
+    ensures { result ≡ lift of_take ended }
 {
     match ended {
         Ok(outcome) => Ok(outcome),
@@ -182,6 +209,7 @@ fn command_status(fault: &CommandFault) -> u8
         CommandFault::Create(fault) => create_status(fault),
         CommandFault::Push(fault) => push_status(fault),
         CommandFault::Get(fault) => get_status(fault),
+        CommandFault::Take(fault) => take_status(fault),
     }
 }
 

@@ -8,6 +8,7 @@ use pgb_get::get_message;
 use pgb_options::Usage;
 use pgb_push::push_message;
 use pgb_stage::{Object, bytes_of, object_message, push_shown, quoted, stage_message};
+use pgb_take::take_message;
 use pgb_text::NoMemory;
 use std::alloc::{AllocError, Global};
 
@@ -44,6 +45,7 @@ fn command_message(alloc: Global, fault: &CommandFault) -> Result<Vec<u8>, NoMem
         CommandFault::Create(fault) => create_message(alloc, fault),
         CommandFault::Push(fault) => push_message(alloc, fault),
         CommandFault::Get(fault) => get_message(alloc, fault),
+        CommandFault::Take(fault) => take_message(alloc, fault),
     }
 }
 

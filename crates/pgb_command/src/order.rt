@@ -8,6 +8,7 @@ use crate::settings::{Request, Settings};
 use pgb_get::{GetOrder, get_order};
 use pgb_options::OutputWord;
 use pgb_push::{PushOrder, push_order};
+use pgb_take::TakeOrder;
 use std::alloc::Global;
 
 /// What a command does.
@@ -16,6 +17,7 @@ pub enum Order<'a> {
     StanzaCreate,
     ArchivePush(PushOrder<'a>),
     ArchiveGet(GetOrder<'a>),
+    Backup(TakeOrder<'a>),
     Info(OutputWord),
 }
 
@@ -35,6 +37,11 @@ pub(crate) fn order_of<'a>(alloc: Global, settings: &Settings<'a>) -> Result<Ord
             name,
             path,
         )?)),
+        Request::Backup { workers } => Ok(Order::Backup(TakeOrder {
+            data_folder: settings.pg1_path,
+            repository: settings.repo1_path,
+            workers,
+        })),
         Request::Info { form } => Ok(Order::Info(form)),
     }
 }

@@ -1,13 +1,13 @@
 // The commands' own parts, over all that is handed to the program: what the stages made ready goes to each.
-ghost use Rattle.std.specs.Prelude.{◌≡◌, None};
+ghost use Rattle.std.specs.Prelude.{◌≡◌, None, map};
 ghost use Rattle.pgb_stage.specs.Plans.{AreHeld};
 ghost use Rattle.pgb_prepare.specs.Readies.{IsReady};
-ghost use Rattle.pgb_command.specs.Asked.{create as asks_create, push as asks_push, get as asks_get, report as asks_report};
+ghost use Rattle.pgb_command.specs.Asked.{create as asks_create, push as asks_push, get as asks_get, backup as asks_backup, report as asks_report};
 ghost use Rattle.pgb_command.specs.Did.{Ran};
-ghost use Rattle.pgb_command.specs.Told.{request_of, asked_of};
+ghost use Rattle.pgb_command.specs.Told.{request_of, asked_of, AreWorkers};
 ghost use Rattle.pgb_command.specs.Tables.{plan_of};
 
-use crate::fault::{Fault, create_end, get_end, inform_end, push_end};
+use crate::fault::{Fault, create_end, get_end, inform_end, push_end, take_end};
 use crate::outside::{Outside, Told};
 use crate::settings::Settings;
 use pgb_create::create_stanza;
@@ -18,6 +18,7 @@ use pgb_outside::{Clock, Disk, Link, Locks, Sink, Source, Tree, Turns, Wire};
 use pgb_prepare::Ready;
 use pgb_push::{PushOrder, push_file};
 use pgb_stage::Outcome;
+use pgb_take::{TakeOrder, take_backup};
 use pgb_turn::Aside;
 use std::alloc::Global;
 
@@ -125,6 +126,51 @@ impl<
             order,
             control,
             archive,
+        ))
+    }
+
+    /// backup.
+    pub(crate) fn take(
+        &mut self,
+        alloc: Global,
+        settings: &Settings<'_>,
+        order: TakeOrder<'_>,
+        ready: Ready,
+    ) -> Result<Outcome, Fault>
+        requires request { request_of settings.now.request ≡ asks_backup order.workers }
+        requires locked { AreHeld (plan_of (request_of settings.now.request)) settings.now.stanza.now
+            (K.state self.old.locks).taken }
+        requires workers { AreWorkers (map L.link_state self.old.links.items) }
+        requires ready { IsReady (plan_of (request_of settings.now.request)) settings.now.stanza.now
+            (D.state self.old.repo).view.now (T.state self.old.tree).nodes ready }
+        ensures ran { let told = ⟦<Outside<D, S, T, V, A, C, K, I, O, L, U> as Told>⟧.told in
+            Ran (asked_of settings.now) (told self.old) (told self.new) result }
+        ensures rest { self.new ≡ record self.old {
+          repo = self.new.repo;
+          tree = self.new.tree;
+          clock = self.new.clock;
+          links = self.new.links;
+          turns = self.new.turns;
+        } }
+    {
+        let (Some(control), Some(archive), Some(backup)) =
+            (ready.control, ready.archive, ready.backup)
+        else {
+            unreachable!();
+        };
+        take_end(take_backup(
+            alloc,
+            &mut self.repo,
+            &mut self.tree,
+            &mut self.clock,
+            &self.locks,
+            &mut self.links,
+            &mut self.turns,
+            settings.stanza,
+            order,
+            &control,
+            &archive,
+            backup,
         ))
     }
 

@@ -1,15 +1,15 @@
 // What a command is told, from its options.
-ghost use Rattle.std.specs.Prelude.{◌≡◌, [], List, Ok, Err, map, IfOk, IfErr, Result, MatchResult, option_map, string_bytes};
+ghost use Rattle.std.specs.Prelude.{◌≡◌, ◌<◌, ◌^◌, length, [], List, Ok, Err, map, IfOk, IfErr, Result, MatchResult, option_map, string_bytes};
 ghost use Rattle.pgb_options.specs.Commands.{IsCommand};
 ghost use Rattle.pgb_options.specs.Filled.{or_else};
 ghost use Rattle.pgb_options.specs.Settings.{Settled};
-ghost use Rattle.pgb_command.specs.Asked.{request_by, first_of, second_of, requested, IsAsked};
+ghost use Rattle.pgb_command.specs.Asked.{request_by, backup_by, is_full, first_of, second_of, requested, IsAsked};
 ghost use Rattle.pgb_command.specs.Tables.{plan_of};
-ghost use Rattle.pgb_command.specs.Told.{request_of, asked_of};
+ghost use Rattle.pgb_command.specs.Told.{request_of, asked_of, wanted_told};
 
 use crate::server::server_of;
 use pgb_create::Server;
-use pgb_options::{Command, OutputWord};
+use pgb_options::{Command, KindWord, Options, OutputWord};
 use pgb_stage::{Pairs, Plan, Settling, Unbuilt};
 use pgb_table::Verb;
 
@@ -21,6 +21,8 @@ pub enum Request<'a> {
     ArchivePush { path: &'a str },
     /// The archived file that is to be served, and where.
     ArchiveGet { name: &'a str, path: &'a str },
+    /// A full backup of a stopped server, with as many workers at most.
+    Backup { workers: u32 },
     /// The report, in this form.
     Info { form: OutputWord },
 }
@@ -35,6 +37,8 @@ pub struct Settings<'a> {
     /// The server that is asked, where one is.
     pub server: Option<Server<'a>>,
     pub request: Request<'a>,
+    // Each worker is told both folders, with lengths of 16 bits.
+    ghost short: { (length pg1_path.now < 2 ^ 16) × (length repo1_path.now < 2 ^ 16) },
 }
 
 // The first parameter.
@@ -67,13 +71,42 @@ fn path_of(path: &Option<String>) -> &str
     }
 }
 
+// What a backup is to do, where that is built.
+fn backup_request<'a>(options: &Options) -> Result<Request<'a>, Unbuilt>
+    ensures asked { IfOk result (λ r. backup_by (wanted_told options.now) ≡ Ok (request_of r)) }
+    ensures unbuilt { IfErr result (λ what. backup_by (wanted_told options.now) ≡ Err what) }
+{
+    if options.online {
+        return Err(Unbuilt::Online);
+    }
+    if !is_full(options.backup_type) {
+        return Err(Unbuilt::Kind);
+    }
+    if options.delta {
+        return Err(Unbuilt::Delta);
+    }
+    if options.repo1_bundle {
+        return Err(Unbuilt::Bundles);
+    }
+    if options.expire_auto {
+        return Err(Unbuilt::Expiry);
+    }
+    Ok(Request::Backup {
+        workers: options.process_max,
+    })
+}
+
+fn is_full(kind: KindWord) -> bool
+    ensures { result ≡ is_full kind }
+{
+    matches!(kind, KindWord::Full)
+}
+
 // What the command is to do, where that is built.
 fn request_of(command: &Command) -> Result<Request<'_>, Unbuilt>
-    ensures asked { IfOk result
-        (λ r. request_by command.now.verb command.now.options.archive_async command.now.options.output
+    ensures asked { IfOk result (λ r. request_by command.now.verb (wanted_told command.now.options)
         (map string_bytes command.now.given.items) ≡ Ok (request_of r)) }
-    ensures unbuilt { IfErr result
-        (λ what. request_by command.now.verb command.now.options.archive_async command.now.options.output
+    ensures unbuilt { IfErr result (λ what. request_by command.now.verb (wanted_told command.now.options)
         (map string_bytes command.now.given.items) ≡ Err what) }
 {
     match command.verb {
@@ -95,6 +128,7 @@ fn request_of(command: &Command) -> Result<Request<'_>, Unbuilt>
                 path: second_of(&command.given),
             })
         }
+        Verb::Backup => backup_request(&command.options),
         Verb::Info => Ok(Request::Info {
             form: command.options.output,
         }),
@@ -153,6 +187,12 @@ pub(crate) fn plan_of(request: &Request<'_>) -> Plan
             folder: true,
             control: true,
             pairs: Pairs::ReadArchive,
+            ..reading
+        },
+        Request::Backup { .. } => Plan {
+            folder: true,
+            backup_lock: true,
+            control: true,
             ..reading
         },
         Request::Info { .. } => reading,

@@ -300,6 +300,7 @@ impl<
             Order::StanzaCreate => self.create(alloc, settings, &ready),
             Order::ArchivePush(order) => self.push(alloc, settings, order, &ready),
             Order::ArchiveGet(order) => self.get(alloc, settings, &order, &ready),
+            Order::Backup(order) => self.take(alloc, settings, order, ready),
             Order::Info(form) => self.inform(alloc, settings, form, &ready),
         }
     }
