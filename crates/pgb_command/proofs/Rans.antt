@@ -322,9 +322,12 @@ module _ (a : Asked) (b k : Seen) (rest : k ≡ record b { repo = k.repo; tree =
       IfOk r (λ o. OnFinished o (IsTaken a.stanza told b.tree.nodes (take workers b.links) b.repo.view.now k.repo.view.now)) → (failed : Object → Type 0) → ((object : Object) → failed object → Failed b k object) →
       IfErr r (HaltCause (TakeCause (found_by a workers (known b) told)) failed) → SamePlaces b k → AreLater b k → Ran a b k ended
   taken_ran is beside does taken failed rose cause places later = as_ran a (backup workers) b k ended is
-      (ran_of takes b k (λ (e : TakeFault). OfCommand (Take e)) take_early (λ e. refl) (TakeCause (found_by a workers (known b) told)) (λ e h. (told, tells, h)) failed rose r ended lifted
-      (does.0, does.1, subst (λ (v : View). Runs Whole a.stanza does.0 (reached_by take_early r) b.repo.view b.spool.view k.repo.view v) (sym (ap (λ (s : Seen). s.spool.view) rest))
-      (does_runs Whole a.stanza does.0 (reached_by take_early r) b.repo.view k.repo.view b.spool.view (backup_receipts a.stanza used does.0 does.1 b.spool.view) does.2))
+      (ran_of takes b k (λ (e : TakeFault). OfCommand (Take e)) take_early (λ e. refl) (TakeCause (found_by a workers (known b) told)) (λ e h. (told, tells, h)) failed rose r ended lifted (
+        does.0,
+        does.1,
+        subst (λ (v : View). Runs Whole a.stanza does.0 (reached_by take_early r) b.repo.view b.spool.view k.repo.view v) (sym (ap (λ (s : Seen). s.spool.view) rest))
+            (does_runs Whole a.stanza does.0 (reached_by take_early r) b.repo.view k.repo.view b.spool.view (backup_receipts a.stanza used does.0 does.1 b.spool.view) does.2),
+      )
       (ok_as r _ _ (λ o h. (told, tells, h)) taken)
       (any_ok r (λ o. IsLookedAt a.stanza b.repo.view → Unit {0}) (λ o looked. tt))
       cause

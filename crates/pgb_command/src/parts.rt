@@ -153,9 +153,11 @@ impl<
           turns = self.new.turns;
         } }
     {
-        let (Some(control), Some(archive), Some(backup)) =
-            (ready.control, ready.archive, ready.backup)
-        else {
+        let (Some(control), Some(archive), Some(backup)) = (
+            ready.control,
+            ready.archive,
+            ready.backup,
+        ) else {
             unreachable!();
         };
         take_end(take_backup(

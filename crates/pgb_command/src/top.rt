@@ -87,11 +87,7 @@ pub fn run<
     O: Sink,
     L: Link,
     U: Turns,
->(
-    alloc: Global,
-    words: &[String],
-    outside: &mut Outside<D, S, T, V, A, C, K, I, O, L, U>,
-) -> u8
+>(alloc: Global, words: &[String], outside: &mut Outside<D, S, T, V, A, C, K, I, O, L, U>) -> u8
     requires free { (K.state outside.old.locks).taken ≡ [] }
     requires workers { AreWorkers (map L.link_state outside.old.links.items) }
 

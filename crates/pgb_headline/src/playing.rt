@@ -159,11 +159,7 @@ fn both_reopened(
 
 /// Plays a call, with its stop where it has one: disks that keep the logs of all stanzas keep them with the call. It
 /// answers the status that the call ends with, or would have ended with.
-pub fn play_one(
-    alloc: Global,
-    disks: Disks,
-    act: Act,
-) -> Result<(Disks, u8), PlayFault>
+pub fn play_one(alloc: Global, disks: Disks, act: Act) -> Result<(Disks, u8), PlayFault>
     ensures keeps { IfOk result (λ r. (before : List Call) → KeepsAll before (views disks)
         → (after : List Call) × ActGoes act r.1 before after × KeepsAll after (views r.0)) }
 {
