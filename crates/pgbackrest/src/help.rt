@@ -79,7 +79,7 @@ fn add_commands(alloc: Global, text: &mut String, built: bool) -> Result<(), All
 fn is_built(verb: Verb) -> bool {
     matches!(
         verb,
-        Verb::StanzaCreate | Verb::ArchivePush | Verb::ArchiveGet | Verb::Info
+        Verb::StanzaCreate | Verb::ArchivePush | Verb::ArchiveGet | Verb::Backup | Verb::Info
     )
 }
 
@@ -93,7 +93,7 @@ fn purpose_of(verb: Verb) -> Option<&'static str> {
         Verb::ArchiveGet => Some(
             " NAME PATH: fetches a file of the write-ahead log, for restore_command",
         ),
-        Verb::Backup => Some(": makes a full, differential or incremental backup"),
+        Verb::Backup => Some(": makes a full backup of a stopped server"),
         Verb::Expire => Some(": removes what the retention no longer keeps"),
         Verb::Restore => Some(": makes the data folder of a backup"),
         Verb::Verify => Some(": looks for damage in the repository"),

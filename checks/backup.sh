@@ -1,0 +1,121 @@
+#!/usr/bin/env bash
+# backup of a stopped cluster of PostgreSQL 15: the files of the label's folder are the cluster's, byte by byte, and its manifest tells
+# each with its sum; what is refused leaves the list as it was; and one that was killed hurts nothing.
+. "$(dirname "$0")/common"
+
+program() {
+    "$top/bin/pgbackrest" --stanza=demo --pg1-path="$room/pg" --repo1-path="$room/repo" --lock-path="$room/lock" "$@"
+}
+
+full=(--no-online --type=full --no-expire-auto)
+
+# back_up OPTION..: a full backup, whose label is then in `label`.
+back_up() {
+    program "${full[@]}" "$@" backup >output 2>errors || complain "the backup ended with $?: $(cat output errors)"
+    label=$(sed -n 's/^INFO: new backup label = \([0-9]\{8\}-[0-9]\{6\}F\)$/\1/p' output)
+    [ "$(wc -l <output)" = 1 ] && [ -n "$label" ] || complain "the backup wrote '$(cat output)'"
+    [ ! -s errors ] || complain "the backup wrote to standard error: $(cat errors)"
+}
+
+# compare LABEL: the files of this backup are those of the cluster.
+compare() {
+    local folder=repo/backup/demo/$1 path sum size
+    (cd pg && find . -type f -size +0 | LC_ALL=C sort) >wanted
+    (cd "$folder/pg_data" && find . -type f | LC_ALL=C sort) >found
+    cmp -s wanted found || complain "$1 has other files: $(diff wanted found | head -n 5)"
+    while read -r path; do
+        path=${path#./}
+        cmp -s "pg/$path" "$folder/pg_data/$path" || complain "$path isn't stored as it is"
+    done <found
+    (cd pg && find . -type f) | while read -r path; do
+        path=${path#./}
+        sum=$(sum_of "pg/$path")
+        size=$(stat -c %s "pg/$path")
+        grep -q "^pg_data/$path={\"checksum\":\"$sum\",\"size\":$size,\"timestamp\":[0-9]*}$" "$folder/backup.manifest" ||
+            printf '%s\n' "$path"
+    done >untold
+    [ ! -s untold ] || complain "the manifest of $1 doesn't tell $(head -n 3 untold)"
+    cmp -s "$folder/backup.manifest" "$folder/backup.manifest.copy" || complain "the members of the manifest of $1 differ"
+    [ -z "$(find "$folder" -type f ! -perm 600)" ] || complain 'a file has another mode than 600'
+}
+
+# is_listed LABEL: info lists it.
+is_listed() {
+    program info | grep -q "full backup: $1$"
+}
+
+# The list as the info file tells it.
+listed() {
+    sed -n '/^\[backup:current\]$/,/^$/p' repo/backup/demo/backup.info
+}
+
+want 21 "ERROR: [021]: stanza 'demo' does not exist
+" "${full[@]}" backup
+want 0 '' --no-online stanza-create
+back_up
+compare "$label"
+is_listed "$label" || complain "info doesn't list $label"
+first=$label
+back_up --process-max=3
+compare "$label"
+[ "$label" != "$first" ] || complain "two backups have the label $label"
+is_listed "$first" && is_listed "$label" || complain 'info lists other backups'
+cmp -s repo/backup/demo/backup.info repo/backup/demo/backup.info.copy || complain "the members of the list's pair differ"
+
+# What is refused lists nothing.
+listed >kept
+refuse() {
+    want "$1" "$2" "${full[@]}" backup
+    listed | cmp -s kept - || complain "the list changed at status $1"
+}
+touch pg/postmaster.pid
+refuse 41 'ERROR: [041]: postmaster.pid is there
+'
+rm pg/postmaster.pid
+ln -s base pg/elsewhere
+refuse 44 "ERROR: [044]: 'elsewhere' is a link
+"
+rm pg/elsewhere
+touch "pg/a=b"
+refuse 45 "ERROR: [045]: name 'a=b' is refused
+"
+rm "pg/a=b"
+mv pg/global/pg_control control
+refuse 28 "ERROR: [028]: 'global/pg_control' is missing
+"
+mv control pg/global/pg_control
+mkdir -p lock
+for option in online type delta expire-auto; do
+    words=("${full[@]}")
+    case $option in
+    online) words[0]=--online ;;
+    type) words[1]=--type=incr ;;
+    delta) words+=(--delta) ;;
+    expire-auto) words[2]=--expire-auto ;;
+    esac
+    want 100 "ERROR: [100]: '$option' is not built yet
+" "${words[@]}" backup
+done
+if command -v flock >/dev/null; then
+    {
+        flock -n 9
+        refuse 20 "ERROR: [020]: lock 'demo-backup.lock' is held
+"
+    } 9>lock/demo-backup.lock
+fi
+
+# A backup that is killed at any moment leaves a list of whole backups, and the next one ends well.
+for moment in 0.02 0.05 0.1 0.2 0.4; do
+    program "${full[@]}" backup >output 2>errors &
+    sleep "$moment"
+    kill -9 $! 2>/dev/null || true
+    wait $! 2>/dev/null || true
+    pkill -9 -f "$top/bin/pgbackrest local" 2>/dev/null || true
+    for one in $(listed | sed -n 's/^\([0-9]*-[0-9]*F\)=.*/\1/p'); do
+        [ -f "repo/backup/demo/$one/backup.manifest" ] || complain "$one is listed without its manifest"
+    done
+done
+back_up
+compare "$label"
+is_listed "$first" && is_listed "$label" || complain 'info lists other backups after the kills'
+exit "$wrong"
