@@ -13,7 +13,7 @@ use pgb_command::Outside;
 use pgb_memory::{MemClock, MemDisk, MemLocks, MemSink, MemSource, MemTree, MemWire};
 use pgb_outside::{Disk, Link, NotThere};
 use pgb_worker_links::{MemLink, MemTurns};
-use std::alloc::Global;
+use std::alloc::{AllocError, Global};
 
 /// What a stop leaves of a disk: the moment of the stop, which kept value each name has, and the bytes of loose names; and
 /// which calls are to fail afterwards.
@@ -47,6 +47,19 @@ impl Workers {
         Workers {
             links: Vec::new(alloc),
         }
+    }
+
+    /// One worker, whose data folder has these files and whose repository these names, and of whose link the calls with
+    /// these numbers fail.
+    pub fn one(
+        alloc: Global,
+        tree: Vec<(String, Vec<u8>)>,
+        repo: Vec<(String, Vec<u8>)>,
+        fail: Vec<u64>,
+    ) -> Result<Self, AllocError> {
+        let mut links = Vec::new(alloc);
+        links.push(MemLink::new(alloc, tree, repo, fail)?)?;
+        Ok(Workers { links })
     }
 }
 

@@ -59,16 +59,35 @@ fn left_at(alloc: Global, moment: u64) -> Left {
     }
 }
 
-/// A call with these words, and its stop.
-pub(crate) fn act(alloc: Global, words: &str, halt: Option<Halt>) -> Result<Act, PlayFault> {
+fn bytes(alloc: Global, path: &str, bytes: &[u8]) -> Result<(String, Vec<u8>), AllocError> {
+    Ok((String::from_str(alloc, path)?, bytes.to_vec(alloc)?))
+}
+
+// One worker, which reads the same data folder.
+fn worker(alloc: Global) -> Result<Workers, AllocError> {
+    let mut files = Vec::new(alloc);
+    files.push(bytes(alloc, "global/pg_control", CONTROL)?)?;
+    files.push(bytes(alloc, "PG_VERSION", b"16\n")?)?;
+    files.push(bytes(alloc, "pg_wal/00000002.history", b"hello")?)?;
+    Workers::one(alloc, files, Vec::new(alloc), Vec::new(alloc))
+}
+
+/// A call with these words, at this second, and its stop.
+pub(crate) fn act(
+    alloc: Global,
+    words: &str,
+    second: u64,
+    halt: Option<Halt>,
+) -> Result<Act, PlayFault> {
+    let seconds = [second, second, second].to_vec(alloc);
     Ok(Act {
         words: words_of(alloc, words).or(Err(PlayFault::NoMemory))?,
         tree: tree(alloc)?,
         server: MemWire::new(alloc, Vec::new(alloc), Vec::new(alloc), Vec::new(alloc)),
-        clock: MemClock::new(Vec::new(alloc), Vec::new(alloc)),
+        clock: MemClock::new(seconds.or(Err(PlayFault::NoMemory))?, Vec::new(alloc)),
         held: Vec::new(alloc),
         config: MemSource::new(alloc, None, Vec::new(alloc)),
-        workers: Workers::none(alloc),
+        workers: worker(alloc).or(Err(PlayFault::NoMemory))?,
         picks: Vec::new(alloc),
         halt,
     })

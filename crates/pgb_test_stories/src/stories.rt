@@ -19,9 +19,15 @@ const CREATE_OTHER: &str =
 const PUSH_OTHER: &str =
     "--stanza=other --pg1-path=pg --repo1-path=repo --lock-path=lock archive-push pg_wal/00000002.history";
 
+const BACKUP: &str =
+    "--stanza=demo --pg1-path=pg --repo1-path=repo --lock-path=lock --no-online --type=full --no-expire-auto backup";
+
 const STORED: &str = "archive/demo/16-1/00000002.history";
 
 const STORED_OTHER: &str = "archive/other/16-1/00000002.history";
+
+// The second of the first call, 2024-01-02 03:04:05; each further call comes a second later.
+const FIRST: u64 = 1704164645;
 
 // The calls, of which the one of this number is stopped at that moment.
 fn calls(alloc: Global, words: &[&str], number: usize, moment: u64) -> Result<Vec<Act>, PlayFault> {
@@ -32,7 +38,7 @@ fn calls(alloc: Global, words: &[&str], number: usize, moment: u64) -> Result<Ve
         } else {
             None
         };
-        acts.push(act(alloc, words[at], halt)?)
+        acts.push(act(alloc, words[at], FIRST + at as u64, halt)?)
             .or(Err(PlayFault::NoMemory))?;
     }
     Ok(acts)
@@ -54,6 +60,31 @@ fn calls_go_on_behind_a_stop(rt: HostRuntime) {
             Some(b"hello".as_slice()),
         );
     }
+}
+
+// A backup is stopped at each of its moments, and the next one is made and listed.
+#[test]
+fn backups_go_on_behind_a_stop(rt: HostRuntime) {
+    let alloc = rt.alloc();
+    for moment in 0..200u64 {
+        let acts = well(&rt, calls(alloc, &[CREATE, BACKUP, BACKUP], 1, moment));
+        let (disks, statuses) = match played(alloc, acts) {
+            Ok(end) => end,
+            Err(fault) => {
+                same(&rt, (fault, 8 < moment), (PlayFault::Moment, true));
+                return;
+            }
+        };
+        same(&rt, statuses.as_slice(), &[0, 0, 0]);
+        same(
+            &rt,
+            disks.repo.bytes("backup/demo/20240102-030407F/pg_data/PG_VERSION"),
+            Some(b"16\n".as_slice()),
+        );
+        let manifest = disks.repo.bytes("backup/demo/20240102-030407F/backup.manifest");
+        same(&rt, manifest.is_some(), true);
+    }
+    panic!(&rt; "a backup has no last moment");
 }
 
 // A call is stopped at one of its own moments.
