@@ -24,11 +24,14 @@ use Rattle.pgb_get.specs.Texts.{get_status}
 use Rattle.pgb_take.specs.declared.fault.TakeFault.{TakeFault}
 use Rattle.pgb_take.specs.Texts.{take_status}
 use Rattle.pgb_take.proofs.Statuses.{take_within}
-use Rattle.pgb_command.specs.declared.fault.CommandFault.TheVariants.{Create, Push, Get, Take}
+use Rattle.pgb_recover.specs.declared.fault.RecoverFault.{RecoverFault}
+use Rattle.pgb_recover.specs.declared.fault.RecoverFault.TheVariants as recovers
+use Rattle.pgb_recover.specs.Texts.{recover_status}
+use Rattle.pgb_command.specs.declared.fault.CommandFault.TheVariants.{Create, Push, Get, Take, Recover}
 use Rattle.pgb_command.specs.declared.fault.Fault.{Fault}
 use Rattle.pgb_command.specs.declared.fault.Fault.TheVariants as fault
 use Rattle.pgb_command.specs.Answers.{status_of, usage_status}
-use Rattle.pgb_command.specs.Asked.{Request, create, push, get, backup, report, Asked}
+use Rattle.pgb_command.specs.Asked.{Request, create, push, get, backup, restore, report, Asked}
 use Rattle.pgb_command.specs.Causes.{IsAnswered, Carries, Answers, ClosesTalk}
 use Rattle.pgb_command.specs.Configuring.{ConfigCause}
 use Rattle.pgb_command.specs.Did.{IsIdle, Cause, Closes}
@@ -42,6 +45,10 @@ apart n (inl a) (inl b) = absurd (omega (arith, a, b.0))
 apart n (inl a) (inr b) = absurd (omega (arith, a, b.0))
 apart n (inr a) (inl b) = absurd (omega (arith, a, b.1))
 apart n (inr a) (inr b) = absurd (omega (arith, a, b.1))
+
+between : {P : Type 0} (n : ℕ) → 52 ≤ n → n ≤ 69 → IsServerRefusal n → P
+between n lo hi (inl b) = absurd (omega (arith, lo, b.1))
+between n lo hi (inr b) = absurd (omega (arith, hi, b.0))
 
 low : {P : Type 0} (n : ℕ) → (n ≤ 46) → IsServerRefusal n → P
 low n le = apart n (inl le)
@@ -119,6 +126,7 @@ push_other a create old e cause p = absurd cause
 push_other a (push path) old e cause p = p
 push_other a (get name path) old e cause p = absurd cause
 push_other a (backup workers) old e cause p = absurd cause
+push_other a (restore set workers) old e cause p = absurd cause
 push_other a (report form) old e cause p = absurd cause
 
 get_other : {P : Type 0} (a : Asked) (q : Request) (old : Known) (e : GetFault) → CommandCause a q old (Get e) → OnOther q P → P
@@ -126,6 +134,7 @@ get_other a create old e cause p = absurd cause
 get_other a (push path) old e cause p = absurd cause
 get_other a (get name path) old e cause p = p
 get_other a (backup workers) old e cause p = absurd cause
+get_other a (restore set workers) old e cause p = absurd cause
 get_other a (report form) old e cause p = absurd cause
 
 take_other : {P : Type 0} (a : Asked) (q : Request) (old : Known) (e : TakeFault) → CommandCause a q old (Take e) → OnOther q P → P
@@ -133,6 +142,7 @@ take_other a create old e cause p = absurd cause
 take_other a (push path) old e cause p = absurd cause
 take_other a (get name path) old e cause p = absurd cause
 take_other a (backup workers) old e cause p = p
+take_other a (restore set workers) old e cause p = absurd cause
 take_other a (report form) old e cause p = absurd cause
 
 push_at : {P : Type 0} (a : Asked) (b k : Seen) (e : PushFault) → Cause a b k (fault.Command (Push e)) → OnOther a.request P → P
@@ -146,6 +156,18 @@ get_at a b k e (inr ready) p = get_other a a.request _ e ready.2 p
 take_at : {P : Type 0} (a : Asked) (b k : Seen) (e : TakeFault) → Cause a b k (fault.Command (Take e)) → OnOther a.request P → P
 take_at a b k e (inl words) p = absurd words
 take_at a b k e (inr ready) p = take_other a a.request _ e ready.2 p
+
+-- no refusal of a restore has such a status
+recover_apart : {P : Type 0} (e : RecoverFault) → IsServerRefusal (recover_status e) → P
+recover_apart recovers.SetForm = low 6 (omega arith)
+recover_apart recovers.NoBackup = between 60 (omega arith) (omega arith)
+recover_apart (recovers.SetMissing label) = between 61 (omega arith) (omega arith)
+recover_apart recovers.Running = low 41 (omega arith)
+recover_apart (recovers.NotEmpty path) = between 62 (omega arith) (omega arith)
+recover_apart (recovers.ManifestDamaged label main copy) = between 64 (omega arith) (omega arith)
+recover_apart (recovers.WorkersLost lost) = between 55 (omega arith) (omega arith)
+recover_apart (recovers.Unread path) = between 56 (omega arith) (omega arith)
+recover_apart (recovers.FileDamaged path told found) = between 63 (omega arith) (omega arith)
 
 long_is : (n m : ℕ) → n ≡ m → 70 ≤ m → 70 ≤ n
 long_is n m is le = omega (arith, is, le)
@@ -165,6 +187,7 @@ module _ (b k : Seen) (n : ℕ) where
   at_fault a (fault.Command (Push e)) is refusal cause closes others = inr (inr (long_is n (push_status e) is (only_long (push_status e) (push_within e).1 (subst IsServerRefusal is refusal)), ap (λ w. w.sent) (push_at a b k e cause others)))
   at_fault a (fault.Command (Get e)) is refusal cause closes others = inr (inr (long_is n (get_status e) is (only_long (get_status e) (get_within e).1 (subst IsServerRefusal is refusal)), ap (λ w. w.sent) (get_at a b k e cause others)))
   at_fault a (fault.Command (Take e)) is refusal cause closes others = inr (inr (long_is n (take_status e) is (only_many (take_status e) (take_within e).1 (subst IsServerRefusal is refusal)), ap (λ w. w.sent) (take_at a b k e cause others)))
+  at_fault a (fault.Command (Recover e)) is refusal cause closes others = recover_apart e (subst IsServerRefusal is refusal)
   at_fault a (fault.Failed o) is refusal cause closes others = object_apart o (subst IsServerRefusal is refusal)
   at_fault a fault.NoMemory is refusal cause closes others = high 90 (omega arith) (subst IsServerRefusal is refusal)
 

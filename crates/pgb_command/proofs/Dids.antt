@@ -39,13 +39,16 @@ use Rattle.pgb_prepare.specs.Stages.{FoundCause, StageCause}
 use Rattle.pgb_prepare.specs.Taking.{HeldCause, MayTake}
 use Rattle.pgb_create.proofs.Statuses.{closes_as}
 use Rattle.pgb_logged.proofs.Reading.{no_files, no_files_read}
-use Rattle.pgb_command.specs.declared.fault.CommandFault.TheVariants.{Create, Push, Get, Take}
+use Rattle.pgb_model.specs.Values.{Manifest}
+use Rattle.pgb_restore.specs.Finished.{IsFinished}
+use Rattle.pgb_clear.specs.Clearing.{control_path, HasNone}
+use Rattle.pgb_command.specs.declared.fault.CommandFault.TheVariants.{Create, Push, Get, Take, Recover}
 use Rattle.pgb_command.specs.declared.fault.Fault.{Fault}
 use Rattle.pgb_command.specs.declared.fault.Fault.TheVariants.{Usage, Stage, Command as OfCommand, Failed as ObjectFailed, NoMemory}
-use Rattle.pgb_command.specs.Answers.{reached_of, ending_of, is_early}
-use Rattle.pgb_command.specs.Asked.{Request, create, push, get, backup, report, Asked}
+use Rattle.pgb_command.specs.Answers.{status, reached_of, ending_of, is_early}
+use Rattle.pgb_command.specs.Asked.{Request, create, push, get, backup, restore, report, Asked}
 use Rattle.pgb_command.specs.Faults.{of_stage}
-use Rattle.pgb_command.specs.Tables.{Known, known, plan_of, manner_of, CommandCause, Promise, Lasts, OnReader, OnCreate, OnOther, FolderGoes, Unless, uses_workers, uses_clock}
+use Rattle.pgb_command.specs.Tables.{Known, known, plan_of, manner_of, CommandCause, Promise, Lasts, OnReader, OnCreate, OnOther, FolderGoes, FolderStays, Unless, uses_workers, uses_clock}
 use Rattle.pgb_command.specs.Did.{Ran, StaysHealed, OnReady, Cause, HealsPairs, Did, OwnCause, Spares, Closes, WordsCause, Brackets, SamePlaces, OpensPlaces, ArePlacesOpened, OpensIf, IsOpenedIf, TakesAll, OnlyLocked}
 use Rattle.pgb_command.proofs.Ends.{all_later, only_rose}
 
@@ -56,6 +59,7 @@ idle create folder nodes links P p = λ command is. p command
 idle (push path) folder nodes links P p = λ command is. p command
 idle (get name path) folder nodes links P p = λ command is. p command
 idle (backup workers) folder nodes links P p = (MakeBackup [] no_files None, (no_files, refl, no_files_read (take workers links)), p (MakeBackup [] no_files None))
+idle (restore set workers) folder nodes links P p = λ command is. p command
 idle (report form) folder nodes links P p = λ command is. p command
 
 -- a command that opens no data folder reads no control file
@@ -64,6 +68,7 @@ no_control create is = cc is
 no_control (push path) is = cc is
 no_control (get name path) is = cc is
 no_control (backup workers) is = cc is
+no_control (restore set workers) is = refl
 no_control (report form) is = refl
 
 -- what holds where no pair is healed holds of readers and of stanza-create
@@ -72,6 +77,7 @@ reader_still create P h = tt
 reader_still (push path) P h = tt
 reader_still (get name path) P h = h
 reader_still (backup workers) P h = tt
+reader_still (restore set workers) P h = h
 reader_still (report form) P h = h
 
 pub create_still : (request : Request) (P : Type 0) → OnReading (plan_of request).pairs P → OnCreate request P
@@ -79,6 +85,7 @@ create_still create P h = h
 create_still (push path) P h = tt
 create_still (get name path) P h = tt
 create_still (backup workers) P h = tt
+create_still (restore set workers) P h = tt
 create_still (report form) P h = tt
 
 pub any_reader : (request : Request) (P : Type 0) → P → OnReader request P
@@ -86,6 +93,7 @@ any_reader create P p = tt
 any_reader (push path) P p = tt
 any_reader (get name path) P p = p
 any_reader (backup workers) P p = tt
+any_reader (restore set workers) P p = p
 any_reader (report form) P p = p
 
 pub any_create : (request : Request) (P : Type 0) → P → OnCreate request P
@@ -93,6 +101,7 @@ any_create create P p = p
 any_create (push path) P p = tt
 any_create (get name path) P p = tt
 any_create (backup workers) P p = tt
+any_create (restore set workers) P p = tt
 any_create (report form) P p = tt
 
 pub any_other : (request : Request) (P : Type 0) → P → OnOther request P
@@ -100,6 +109,7 @@ any_other create P p = tt
 any_other (push path) P p = p
 any_other (get name path) P p = p
 any_other (backup workers) P p = p
+any_other (restore set workers) P p = p
 any_other (report form) P p = p
 
 reader_on : (request : Request) (P Q R : Type 0) → (P → Q → R) → OnReader request P → OnReader request Q → OnReader request R
@@ -107,6 +117,7 @@ reader_on create P Q R to p q = tt
 reader_on (push path) P Q R to p q = tt
 reader_on (get name path) P Q R to p q = to p q
 reader_on (backup workers) P Q R to p q = tt
+reader_on (restore set workers) P Q R to p q = to p q
 reader_on (report form) P Q R to p q = to p q
 
 create_on : (request : Request) (P Q R : Type 0) → (P → Q → R) → OnCreate request P → OnCreate request Q → OnCreate request R
@@ -114,6 +125,7 @@ create_on create P Q R to p q = to p q
 create_on (push path) P Q R to p q = tt
 create_on (get name path) P Q R to p q = tt
 create_on (backup workers) P Q R to p q = tt
+create_on (restore set workers) P Q R to p q = tt
 create_on (report form) P Q R to p q = tt
 
 other_as : (request : Request) (P Q : Type 0) → (P → Q) → OnOther request P → OnOther request Q
@@ -121,7 +133,25 @@ other_as create P Q to p = tt
 other_as (push path) P Q to p = to p
 other_as (get name path) P Q to p = to p
 other_as (backup workers) P Q to p = to p
+other_as (restore set workers) P Q to p = to p
 other_as (report form) P Q to p = to p
+
+-- the data folder stays after a refusal
+pub any_stays : (request : Request) (n : ℕ) (P : Type 0) → P → FolderStays request n P
+any_stays create n P p = p
+any_stays (push path) n P p = p
+any_stays (get name path) n P p = p
+any_stays (backup workers) n P p = p
+any_stays (restore set workers) n P p = λ lost unread damaged. p
+any_stays (report form) n P p = p
+
+pub stays_as : (request : Request) (n : ℕ) (P Q : Type 0) → (P → Q) → FolderStays request n P → FolderStays request n Q
+stays_as create n P Q to p = to p
+stays_as (push path) n P Q to p = to p
+stays_as (get name path) n P Q to p = to p
+stays_as (backup workers) n P Q to p = to p
+stays_as (restore set workers) n P Q to p = λ lost unread damaged. to (p lost unread damaged)
+stays_as (report form) n P Q to p = to p
 
 -- it doesn't use it
 pub any_unless : (uses : Bool) (P : Type 0) → P → Unless uses P
@@ -141,14 +171,15 @@ folder_stays a create old new same = same
 folder_stays a (push path) old new same = same
 folder_stays a (get name path) old new same = subst (λ (n : Option Nodes). FolderGoes a (get name path) old n) (sym same) (record { told = λ some. some; others = λ q x y. refl; whole = inl refl })
 folder_stays a (backup workers) old new same = same
+folder_stays a (restore set workers) old new same = inl same
 folder_stays a (report form) old new same = same
 
-folder_on : (a : Asked) (request : Request) (b m k : Seen) → OnReader request (IsStill b.repo.view m.repo.view) → m.tree.nodes ≡ b.tree.nodes → FolderGoes a request (known m) k.tree.nodes → FolderGoes a request (known b) k.tree.nodes
-folder_on a create b m k still nodes h = h ∙ nodes
-folder_on a (push path) b m k still nodes h = h ∙ nodes
-folder_on a (get name path) b m k still nodes h = subst (λ (o : Option Content). FolderGoes a (get name path) (as_known o b.tree.nodes b.server b.clock b.links) k.tree.nodes) still.now
+folder_on : (a : Asked) (request : Request) (b m k : Seen) → OnReader request (IsStill b.repo.view m.repo.view) → m.tree.nodes ≡ b.tree.nodes → m.links ≡ b.links → FolderGoes a request (known m) k.tree.nodes → FolderGoes a request (known b) k.tree.nodes
+folder_on a create b m k still nodes links h = h ∙ nodes
+folder_on a (push path) b m k still nodes links h = h ∙ nodes
+folder_on a (get name path) b m k still nodes links h = subst (λ (o : Option Content). FolderGoes a (get name path) (as_known o b.tree.nodes b.server b.clock b.links) k.tree.nodes) still.now
     (subst (λ (n : Option Nodes). FolderGoes a (get name path) (as_known m.repo.view.now n b.server b.clock b.links) k.tree.nodes) nodes h)
-folder_on a (backup workers) b m k still nodes h = h ∙ nodes
+folder_on a (backup workers) b m k still nodes links h = h ∙ nodes
 folder_on a (report form) b m k still nodes h = h ∙ nodes
 
 -- ---- causes and ends
@@ -185,6 +216,7 @@ closes_from b m k le (OfCommand (Create fault)) h = closes_as (Failed m k TheSer
 closes_from b m k le (OfCommand (Push fault)) h = tt
 closes_from b m k le (OfCommand (Get fault)) h = tt
 closes_from b m k le (OfCommand (Take fault)) h = tt
+closes_from b m k le (OfCommand (Recover fault)) h = tt
 closes_from b m k le (ObjectFailed object) h = tt
 closes_from b m k le NoMemory h = tt
 
@@ -194,8 +226,8 @@ spares_on a b m k r beside reads creates nodes server links clock s = record {
   beside = beside_on a.stanza b.repo.view m.repo.view k.repo.view beside s.beside;
   pairs = create_on a.request _ _ _ (λ (p : IsStill b.repo.view m.repo.view) h. only_on (IsOfPairs a.stanza) b.repo.view m.repo.view k.repo.view (only_rests (IsOfPairs a.stanza) b.repo.view m.repo.view p.time p.now) h) creates s.pairs;
   reads = reader_on a.request _ _ _ (still_on b.repo.view m.repo.view k.repo.view) reads s.reads;
-  folder = folder_on a a.request b m k reads nodes s.folder;
-  nodes = none_as (reached_of (ending_of r)) _ _ (λ h. h ∙ nodes) s.nodes;
+  folder = folder_on a a.request b m k reads nodes links s.folder;
+  nodes = none_as (reached_of (ending_of r)) _ _ (stays_as a.request (status (ending_of r)) _ _ (λ h. h ∙ nodes)) s.nodes;
   unmade = create_on a.request _ _ _ (λ (p : IsStill b.repo.view m.repo.view) h. none_as (reached_of (ending_of r)) _ _ (λ e. e ∙ p.now) h) creates s.unmade;
   quiet = λ none. s.quiet none ∙ server;
   others = other_as a.request _ _ (λ e. e ∙ server) s.others;
@@ -211,7 +243,7 @@ spares_none a b k fault beside reads creates nodes server links clock closes = r
   pairs = create_on a.request _ (Unit {0}) _ (λ (p : IsStill b.repo.view k.repo.view) h. only_rests (IsOfPairs a.stanza) b.repo.view k.repo.view p.time p.now) creates (any_create a.request (Unit {0}) tt);
   reads = reads;
   folder = folder_stays a a.request (known b) k.tree.nodes nodes;
-  nodes = all_none (reached_of (ending_of (Err fault))) _ nodes;
+  nodes = all_none (reached_of (ending_of (Err fault))) _ (any_stays a.request (status (ending_of (Err fault))) _ nodes);
   unmade = create_on a.request _ (Unit {0}) _ (λ (p : IsStill b.repo.view k.repo.view) h. all_none (reached_of (ending_of (Err fault))) _ p.now) creates (any_create a.request (Unit {0}) tt);
   quiet = λ none. server;
   others = any_other a.request _ server;
@@ -307,6 +339,7 @@ lasts_by a create v nodes mid k outcome same at h = tt
 lasts_by a (push path) v nodes mid k outcome same at h = subst (λ (n : Option Nodes). Lasts a (push path) n k.repo.view k.tree.nodes outcome) same (h (at refl))
 lasts_by a (get name path) v nodes mid k outcome same at h = subst (λ (n : Option Nodes). Lasts a (get name path) n k.repo.view k.tree.nodes outcome) same (h (at refl))
 lasts_by a (backup workers) v nodes mid k outcome same at h = tt
+lasts_by a (restore set workers) v nodes mid k outcome same at h = tt
 lasts_by a (report form) v nodes mid k outcome same at h = tt
 
 -- the members of a healed pair too
@@ -316,6 +349,7 @@ heals_by a create v k at had h = tt
 heals_by a (push path) v k at had h = h (at refl) had
 heals_by a (get name path) v k at had h = tt
 heals_by a (backup workers) v k at had h = tt
+heals_by a (restore set workers) v k at had h = tt
 heals_by a (report form) v k at had h = tt
 
 -- what the stages behind the locks add
@@ -407,6 +441,7 @@ word_closes a b (OfCommand (Create fault)) h = absurd h
 word_closes a b (OfCommand (Push fault)) h = tt
 word_closes a b (OfCommand (Get fault)) h = tt
 word_closes a b (OfCommand (Take fault)) h = absurd h
+word_closes a b (OfCommand (Recover fault)) h = tt
 word_closes a b (ObjectFailed object) h = absurd h
 word_closes a b NoMemory h = tt
 
@@ -417,6 +452,7 @@ word_cause a b (OfCommand (Create fault)) h = absurd h
 word_cause a b (OfCommand (Push fault)) h = inl h
 word_cause a b (OfCommand (Get fault)) h = inl h
 word_cause a b (OfCommand (Take fault)) h = absurd h
+word_cause a b (OfCommand (Recover fault)) h = inl h
 word_cause a b (ObjectFailed object) h = absurd h
 word_cause a b NoMemory h = tt
 

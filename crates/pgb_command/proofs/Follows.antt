@@ -14,15 +14,15 @@ use Rattle.pgb_stage.proofs.Lifted.{on_as, still_quiet, quiet_takes, opened_take
 use Rattle.pgb_command.specs.declared.fault.Fault.{Fault}
 use Rattle.pgb_command.specs.declared.fault.Fault.TheVariants.{Usage, Stage, Command as OfCommand, Failed as ObjectFailed, NoMemory}
 use Rattle.pgb_command.specs.Answers.{Ending, status, status_of, answer_of, ending_of, reached_of}
-use Rattle.pgb_command.specs.Asked.{Request, create, push, get, backup, report, Asked, Asks}
+use Rattle.pgb_command.specs.Asked.{Request, create, push, get, backup, restore, report, Asked, Asks}
 use Rattle.pgb_command.specs.Causes.{IsAnswered, Carries, Answers, PartDone, Finishes, Fulfils, IsEarly, TurnsBack, LeavesRest, Completes}
 use Rattle.pgb_command.specs.Did.{IsIdle, Did, OpensIf, OpensPlaces, OnlyLocked}
 use Rattle.pgb_command.specs.Output.{IsTold, Whole, Cut, Starved, Wordless}
 use Rattle.pgb_disk.proofs.Changes.{only_rests}
 use Rattle.pgb_stanza.specs.Owned.{IsOfPairs}
-use Rattle.pgb_command.specs.Tables.{known, plan_of, manner_of, OnCreate, uses_workers, uses_clock}
+use Rattle.pgb_command.specs.Tables.{known, plan_of, manner_of, OnCreate, FolderStays, uses_workers, uses_clock}
 use Rattle.pgb_command.proofs.AskedOnce.{one_asked}
-use Rattle.pgb_command.proofs.Dids.{idle, stage_reached, any_reader, any_create, any_other, any_unless, folder_stays}
+use Rattle.pgb_command.proofs.Dids.{idle, stage_reached, any_reader, any_create, any_other, any_unless, any_stays, folder_stays}
 use Rattle.pgb_command.proofs.Statuses.{over, zero_ends, early_ends, not_cut}
 
 -- ---- which of the answers it is
@@ -72,6 +72,7 @@ create_at create reached P is h = none_at reached P is h
 create_at (push path) reached P is h = tt
 create_at (get name path) reached P is h = tt
 create_at (backup workers) reached P is h = tt
+create_at (restore set workers) reached P is h = tt
 create_at (report form) reached P is h = tt
 
 ok_at : (ended : Result Outcome Fault) (P : Type 0) → status (ending_of ended) ≡ 0 → OnOk ended P → P
@@ -104,10 +105,15 @@ module _ (a : Asked) (b k : Seen) (n : ℕ) where
   early_at unknown ended t early = told_as unknown b k ended n t (λ is. early_ends a.request ended (subst (IsEarly a.request) is early))
       (λ is rose. absurd (not_cut a.request n 87 is (omega arith) (omega arith) (λ e. absurd (omega (arith, e))) early)) (λ is. absurd (not_cut a.request n 90 is (omega arith) (omega arith) (λ e. absurd (omega (arith, e))) early))
 
-  pub turns_back : IsEarly a.request n → Either a b k n → TurnsBack a b k
+  -- the status is that of how it ended
+  status_at : (unknown : List Text) (ended : Result Outcome Fault) → IsAnswered unknown b k ended n → IsEarly a.request n → n ≡ status (ending_of ended)
+  status_at unknown ended t early = told_as unknown b k ended n t (λ is. is)
+      (λ is rose. absurd (not_cut a.request n 87 is (omega arith) (omega arith) (λ e. absurd (omega (arith, e))) early)) (λ is. absurd (not_cut a.request n 90 is (omega arith) (omega arith) (λ e. absurd (omega (arith, e))) early))
+
+  pub turns_back : IsEarly a.request n → Either a b k n → TurnsBack a b k n
   turns_back early (inl x) = record {
     none = on_as (manner_of a.request a.data_folder b.tree.nodes b.links) _ _ (λ command h. none_at (reached_of (ending_of (Err x.1.1.0))) _ (early_at x.1.0 (Err x.1.1.0) x.1.1.1 early) h.turned) (idle_takes a b k x.1.1.0 x.0);
-    nodes = idle_nodes b k x.0;
+    nodes = any_stays a.request n _ (idle_nodes b k x.0);
     unmade = any_create a.request _ x.0.repo.now;
   }
   turns_back early (inr x) =
@@ -115,7 +121,7 @@ module _ (a : Asked) (b k : Seen) (n : ℕ) where
       let is = early_at x.0 c.ended c.answered early in
       record {
         none = on_as (manner_of a.request a.data_folder b.tree.nodes b.links) _ _ (λ command h. none_at (reached_of (ending_of c.ended)) _ is h.turned) c.did.steps;
-        nodes = none_at (reached_of (ending_of c.ended)) _ is c.did.spares.nodes;
+        nodes = subst (λ (m : ℕ). FolderStays a.request m (k.tree.nodes ≡ b.tree.nodes)) (sym (status_at x.0 c.ended c.answered early)) (none_at (reached_of (ending_of c.ended)) _ is c.did.spares.nodes);
         unmade = create_at a.request (reached_of (ending_of c.ended)) _ is c.did.spares.unmade;
       }
 

@@ -122,6 +122,10 @@ bytes_lack (c ∷ t) all = (no_slash c (and_left (is_stanza_byte c) (list_all is
 form_lacks : (t : Text) → is_stanza t ≡ true → IsStanza t
 form_lacks t is = lacks_not 47 t (bytes_lack t (and_right _ _ (and_left _ _ is)))
 
+-- that of the command that was settled is
+pub command_in_form : (words : List Text) (files : Option Content) (c : Command) → ((s : Settled) × WordsSettle words files (Ok s) × IsCommand c s) → is_stanza (string_bytes c.stanza) ≡ true
+command_in_form words files c x = subst (λ (t : Text). is_stanza t ≡ true) (sym x.2.stanza) (settled_stanza words x.1.bytes x.0 x.1.settled)
+
 -- the stanza of what is asked for is in form
 pub asked_in_form : (words : List Text) (files : Option Content) (a : Asked) → MayAsk words files a → IsStanza a.stanza
 asked_in_form words files a asks = subst IsStanza (sym asks.is.stanza) (form_lacks asks.settings.stanza (settled_stanza words asks.settles.bytes asks.settings asks.settles.settled))

@@ -15,12 +15,13 @@ use Rattle.pgb_create.proofs.Statuses.{create_over}
 use Rattle.pgb_push.proofs.Refusals.{push_within}
 use Rattle.pgb_get.proofs.Refusals.{get_within}
 use Rattle.pgb_take.proofs.Statuses.{take_within}
+use Rattle.pgb_recover.proofs.Statuses.{recover_over}
 use Rattle.pgb_command.specs.declared.fault.CommandFault.{CommandFault}
-use Rattle.pgb_command.specs.declared.fault.CommandFault.TheVariants.{Create, Push, Get, Take}
+use Rattle.pgb_command.specs.declared.fault.CommandFault.TheVariants.{Create, Push, Get, Take, Recover}
 use Rattle.pgb_command.specs.declared.fault.Fault.{Fault}
 use Rattle.pgb_command.specs.declared.fault.Fault.TheVariants as fault
 use Rattle.pgb_command.specs.Answers.{status, status_of, usage_status, command_status, command_early, is_early, ending_of, reached_of}
-use Rattle.pgb_command.specs.Asked.{Request, create, push, get, backup, report}
+use Rattle.pgb_command.specs.Asked.{Request, create, push, get, backup, restore, report}
 use Rattle.pgb_command.specs.Causes.{IsRefusal, IsEarly}
 
 -- ---- a refusal has no status of a command that ended well
@@ -66,6 +67,7 @@ command_over (Create e) = create_over e
 command_over (Push e) = (push_within e).0
 command_over (Get e) = (get_within e).0
 command_over (Take e) = (take_within e).0
+command_over (Recover e) = recover_over e
 
 pub over : (e : Fault) → 2 ≤ status_of e
 over (fault.Usage e) = usage_over e
@@ -90,6 +92,7 @@ any_early create n h = h
 any_early (push path) n h = inl h
 any_early (get name path) n h = inl h
 any_early (backup workers) n h = inl h
+any_early (restore set workers) n h = inl h
 any_early (report form) n h = inl h
 
 late : (m : ℕ) → (73 ≤ m) → (m ≤ 99) → m ≢ 83 → ¬ AnyEarly m
@@ -113,6 +116,7 @@ early_command (Create e) = refl
 early_command (Push e) = refl
 early_command (Get e) = refl
 early_command (Take e) = refl
+early_command (Recover e) = refl
 
 early_fault : (e : Fault) → AnyEarly (status_of e) → is_early e ≡ true
 early_fault (fault.Usage e) h = refl

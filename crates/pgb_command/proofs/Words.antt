@@ -1,5 +1,5 @@
 -- Why a command's words are refused.
-use Rattle.std.proofs.Common.{◌≡◌, inl, inr, Result, Ok, Err, IfErr, refl, sym, subst}
+use Rattle.std.proofs.Common.{◌≡◌, ap, ℕ, Option, inl, inr, Result, Ok, Err, IfErr, refl, sym, subst}
 use Rattle.std.specs.Prelude.{IsErrAnd}
 use Rattle.pgb_model.specs.Text.{Text}
 use Rattle.pgb_archive.specs.Still.{still_self}
@@ -13,17 +13,20 @@ use Rattle.pgb_push.specs.declared.fault.PushFault.{PushFault}
 use Rattle.pgb_push.proofs.Refusals.{push_word}
 use Rattle.pgb_push.specs.WalCause.{WordCause}
 use Rattle.pgb_get.specs.declared.fault.GetFault.{GetFault}
+use Rattle.pgb_recover.specs.declared.fault.RecoverFault.{RecoverFault}
+use Rattle.pgb_recover.specs.Words.{IsSetOf, WordCause as SetCause}
+use Rattle.pgb_recover.specs.declared.order.RecoverOrder.{RecoverOrder}
 use Rattle.pgb_get.proofs.Refusals.{get_words as read_words}
 use Rattle.pgb_get.specs.Getting.{AreWords, WordsCause as GetWords}
-use Rattle.pgb_command.specs.declared.fault.CommandFault.TheVariants.{Push, Get}
+use Rattle.pgb_command.specs.declared.fault.CommandFault.TheVariants.{Push, Get, Recover}
 use Rattle.pgb_command.specs.declared.fault.Fault.{Fault}
 use Rattle.pgb_stage.specs.declared.outcome.Outcome.{Outcome}
 use Rattle.pgb_push.specs.WalPath.{IsWalPath}
 use Rattle.pgb_command.specs.declared.order.Order.{Order}
 use Rattle.pgb_command.specs.declared.order.Order.TheVariants as orders
 use Rattle.pgb_command.specs.Told.{IsOrder}
-use Rattle.pgb_command.specs.Asked.{Request, create, push, get, backup, report, Asked}
-use Rattle.pgb_command.specs.Faults.{of_push, of_get}
+use Rattle.pgb_command.specs.Asked.{Request, create, push, get, backup, restore, report, Asked}
+use Rattle.pgb_command.specs.Faults.{of_push, of_get, of_recover}
 use Rattle.pgb_command.specs.Tables.{WordsFit, CommandCause}
 use Rattle.pgb_command.specs.Did.{IsIdle, WordsCause, ComesBehind}
 
@@ -38,6 +41,11 @@ module _ (a : Asked) where
   get_words name path is (HaltFailed object) h = absurd h
   get_words name path is HaltMemory h = tt
 
+  set_words : (set : Option Text) (workers : ℕ) → a.request ≡ restore set workers → (h : Halt RecoverFault) → HaltCause (SetCause set) (λ (object : Object). ⊥) h → WordsCause a (of_recover h)
+  set_words set workers is (Refused e) h = λ old. subst (λ (q : Request). CommandCause a q old (Recover e)) (sym is) (inl h)
+  set_words set workers is (HaltFailed object) h = absurd h
+  set_words set workers is HaltMemory h = tt
+
   of_err : {T : Type 0} (result : Result T Fault) (e : Fault) → IsErrAnd result (λ f. f ≡ e) → WordsCause a e → IfErr result (WordsCause a)
   of_err (Ok x) e is h = tt
   of_err (Err f) e is h = subst (WordsCause a) (sym is) h
@@ -48,6 +56,9 @@ module _ (a : Asked) where
   pub get_refused : (name path : Text) → a.request ≡ get name path → {T : Type 0} (result : Result T Fault) (h : Halt GetFault) → IsErrAnd result (λ f. f ≡ of_get h) → HaltCause (GetWords a.data_folder name path) (λ (object : Object). ⊥) h → IfErr result (WordsCause a)
   get_refused name path asked result h is cause = of_err result (of_get h) is (get_words name path asked h cause)
 
+  pub restore_refused : (set : Option Text) (workers : ℕ) → a.request ≡ restore set workers → {T : Type 0} (result : Result T Fault) (h : Halt RecoverFault) → IsErrAnd result (λ f. f ≡ of_recover h) → HaltCause (SetCause set) (λ (object : Object). ⊥) h → IfErr result (WordsCause a)
+  restore_refused set workers asked result h is cause = of_err result (of_recover h) is (set_words set workers asked h cause)
+
 -- ---- words that were read fit
 
 words_fit : (a : Asked) (q : Request) (o : Order) → IsOrder q a.data_folder o → WordsFit a q
@@ -55,27 +66,47 @@ words_fit a create orders.StanzaCreate is = tt
 words_fit a create (orders.ArchivePush o) is = absurd is
 words_fit a create (orders.ArchiveGet o) is = absurd is
 words_fit a create (orders.Backup o) is = absurd is
+words_fit a create (orders.Restore o) is = absurd is
 words_fit a create (orders.Info asked) is = absurd is
 words_fit a (push path) orders.StanzaCreate is = absurd is
 words_fit a (push path) (orders.ArchivePush o) is = (o.name, subst (λ (f : Text). IsWalPath f path o.name) is.0 (subst (λ (p : Text). IsWalPath o.folder.now p o.name) is.1 o.named))
 words_fit a (push path) (orders.ArchiveGet o) is = absurd is
 words_fit a (push path) (orders.Backup o) is = absurd is
+words_fit a (push path) (orders.Restore o) is = absurd is
 words_fit a (push path) (orders.Info asked) is = absurd is
 words_fit a (get word path) orders.StanzaCreate is = absurd is
 words_fit a (get word path) (orders.ArchivePush o) is = absurd is
 words_fit a (get word path) (orders.ArchiveGet o) is = (o.name, subst (λ (f : Text). AreWords f word path o.name) is.0 (subst (λ (w : Text). AreWords o.folder.now w path o.name) is.1 (subst (λ (p : Text). AreWords o.folder.now o.word.now p o.name) is.2 o.wanted)))
 words_fit a (get word path) (orders.Backup o) is = absurd is
+words_fit a (get word path) (orders.Restore o) is = absurd is
 words_fit a (get word path) (orders.Info asked) is = absurd is
 words_fit a (backup workers) orders.StanzaCreate is = absurd is
 words_fit a (backup workers) (orders.ArchivePush o) is = absurd is
 words_fit a (backup workers) (orders.ArchiveGet o) is = absurd is
 words_fit a (backup workers) (orders.Backup o) is = tt
+words_fit a (backup workers) (orders.Restore o) is = absurd is
 words_fit a (backup workers) (orders.Info asked) is = absurd is
+words_fit a (restore set workers) orders.StanzaCreate is = absurd is
+words_fit a (restore set workers) (orders.ArchivePush o) is = absurd is
+words_fit a (restore set workers) (orders.ArchiveGet o) is = absurd is
+words_fit a (restore set workers) (orders.Backup o) is = absurd is
+words_fit a (restore set workers) (orders.Restore o) is = (o.set, is.2)
+words_fit a (restore set workers) (orders.Info asked) is = absurd is
 words_fit a (report form) orders.StanzaCreate is = absurd is
 words_fit a (report form) (orders.ArchivePush o) is = absurd is
 words_fit a (report form) (orders.ArchiveGet o) is = absurd is
 words_fit a (report form) (orders.Backup o) is = absurd is
+words_fit a (report form) (orders.Restore o) is = absurd is
 words_fit a (report form) (orders.Info asked) is = tt
+
+-- the order of a restore is asked for
+pub restore_asked : (q : Request) (folder : Text) (o : RecoverOrder) → IsOrder q folder (orders.Restore o) → (set : Option Text) × (q ≡ restore set o.workers) × IsSetOf set o.set
+restore_asked create folder o is = absurd is
+restore_asked (push path) folder o is = absurd is
+restore_asked (get word path) folder o is = absurd is
+restore_asked (backup workers) folder o is = absurd is
+restore_asked (restore set workers) folder o is = (set, ap (restore set) (sym is.1), is.2)
+restore_asked (report form) folder o is = absurd is
 
 pub behind_words : (a : Asked) (b k : Seen) (o : Order) → IsOrder a.request a.data_folder o → (result : Result Outcome Fault) → ComesBehind a b k result
 behind_words a b k o is (Ok x) = tt

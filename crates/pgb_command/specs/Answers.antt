@@ -18,8 +18,10 @@ use Rattle.pgb_get.specs.Texts.{get_status, get_message}
 use Rattle.pgb_get.specs.Getting.{get_early}
 use Rattle.pgb_take.specs.Faults.{take_early}
 use Rattle.pgb_take.specs.Texts.{take_status, take_message}
+use Rattle.pgb_recover.specs.Ends.{recover_early}
+use Rattle.pgb_recover.specs.Texts.{recover_status, recover_message}
 use Rattle.pgb_command.specs.declared.fault.CommandFault.{CommandFault}
-use Rattle.pgb_command.specs.declared.fault.CommandFault.TheVariants.{Create, Push, Get, Take}
+use Rattle.pgb_command.specs.declared.fault.CommandFault.TheVariants.{Create, Push, Get, Take, Recover}
 use Rattle.pgb_command.specs.declared.fault.Fault.{Fault}
 use Rattle.pgb_command.specs.declared.fault.Fault.TheVariants.{Usage as OfUsage, Stage, Command, Failed, NoMemory}
 
@@ -45,6 +47,7 @@ command_status (Create fault) = create_status fault
 command_status (Push fault) = push_status fault
 command_status (Get fault) = get_status fault
 command_status (Take fault) = take_status fault
+command_status (Recover fault) = recover_status fault
 
 abbrev pub status_of : Fault → ℕ
 status_of (OfUsage usage) = usage_status usage
@@ -61,6 +64,7 @@ command_early (Create fault) = create_early fault
 command_early (Push fault) = push_early fault
 command_early (Get fault) = get_early fault
 command_early (Take fault) = take_early fault
+command_early (Recover fault) = recover_early fault
 
 -- the command ended before its own first step
 abbrev pub is_early : Fault → Bool
@@ -123,6 +127,7 @@ command_message (Create fault) = create_message fault
 command_message (Push fault) = push_message fault
 command_message (Get fault) = get_message fault
 command_message (Take fault) = take_message fault
+command_message (Recover fault) = recover_message fault
 
 abbrev pub message_of : Fault → Text
 message_of (OfUsage usage) = usage_message usage

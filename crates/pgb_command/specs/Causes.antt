@@ -21,7 +21,7 @@ use Rattle.pgb_command.specs.Asked.{Request, create, Asked, MayAsk, Asks, WordsS
 use Rattle.pgb_command.specs.Configuring.{ConfigCause}
 use Rattle.pgb_command.specs.Did.{IsIdle, Did, ComesBehind, Brackets, Cause, OnReady, LastsAfter, HealsPairs, ArePlacesOpened, TakesAll}
 use Rattle.pgb_command.specs.Output.{IsTold}
-use Rattle.pgb_command.specs.Tables.{known, plan_of, manner_of, Promise, OnReader, OnCreate, OnOther, FolderGoes, Unless, uses_workers, uses_clock}
+use Rattle.pgb_command.specs.Tables.{known, plan_of, manner_of, Promise, OnReader, OnCreate, OnOther, FolderGoes, FolderStays, Unless, uses_workers, uses_clock}
 
 -- ---- how it is told
 
@@ -100,10 +100,10 @@ abbrev pub IsEarly : Request → ℕ → Type 0
 IsEarly create status = IsRefusal status ⊎ (status ≡ 83)
 IsEarly request status = IsRefusal status
 
--- then it has taken no step, has changed no file of the data folder, and stanza-create none of the repository
-pub record TurnsBack (a : Asked) (before after : Seen) : Type 0 where
+-- then it has taken no step, has changed no file of the data folder, unless it is a restore that has started workers, and stanza-create none of the repository
+pub record TurnsBack (a : Asked) (before after : Seen) (result : ℕ) : Type 0 where
   pub none : NoneDone a before after
-  pub nodes : after.tree.nodes ≡ before.tree.nodes
+  pub nodes : FolderStays a.request result (after.tree.nodes ≡ before.tree.nodes)
   pub unmade : OnCreate a.request (after.repo.view.now ≡ before.repo.view.now)
 
 -- after every answer: the command has kept to its stanza, stanza-create to the members of its two pairs, a reader has changed nothing in the repository, only archive-get the data folder, the server only who asks it, and the workers and the clock only who uses them

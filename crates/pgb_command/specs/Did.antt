@@ -21,9 +21,9 @@ use Rattle.pgb_create.specs.Talking.{Closes as CreateCloses}
 use Rattle.pgb_command.specs.declared.fault.CommandFault.TheVariants.{Create, Take}
 use Rattle.pgb_command.specs.declared.fault.Fault.{Fault}
 use Rattle.pgb_command.specs.declared.fault.Fault.TheVariants.{Usage, Stage, Command, Failed as ObjectFailed, NoMemory}
-use Rattle.pgb_command.specs.Answers.{reached_of, ending_of}
+use Rattle.pgb_command.specs.Answers.{status, reached_of, ending_of}
 use Rattle.pgb_command.specs.Asked.{Asked}
-use Rattle.pgb_command.specs.Tables.{Known, known, plan_of, manner_of, WordsFit, CommandCause, Promise, Lasts, OnReader, OnCreate, OnOther, FolderGoes, Unless, uses_workers, uses_clock}
+use Rattle.pgb_command.specs.Tables.{Known, known, plan_of, manner_of, WordsFit, CommandCause, Promise, Lasts, OnReader, OnCreate, OnOther, FolderGoes, FolderStays, Unless, uses_workers, uses_clock}
 
 -- ---- what stays
 
@@ -32,13 +32,13 @@ abbrev pub Closes : Seen → Seen → Fault → Type 0
 Closes before after (Command (Create fault)) = CreateCloses (Failed before after Server) after.server.sent (Refused fault)
 Closes before after other = Unit {0}
 
--- What a command leaves as it was: of the repository all where it only reads, of the data folder all but a file that is served, the server where it asks none, and the workers and the clock where it doesn't use them. Refused before its first step it has changed no file of the data folder, and stanza-create none of the repository. Whatever it is, it keeps to its stanza, and stanza-create to the members of its two pairs.
+-- What a command leaves as it was: of the repository all where it only reads, of the data folder all but a file that is served, the server where it asks none, and the workers and the clock where it doesn't use them. Refused before its first step it has changed no file of the data folder, unless it is a restore that has started workers, and stanza-create none of the repository. Whatever it is, it keeps to its stanza, and stanza-create to the members of its two pairs.
 pub record Spares (a : Asked) (before after : Seen) (result : Result Outcome Fault) : Type 0 where
   pub beside : StaysBeside a.stanza before.repo.view after.repo.view
   pub pairs : OnCreate a.request (ChangesOnly (IsOfPairs a.stanza) before.repo.view after.repo.view)
   pub reads : OnReader a.request (IsStill before.repo.view after.repo.view)
   pub folder : FolderGoes a a.request (known before) after.tree.nodes
-  pub nodes : OnNone (reached_of (ending_of result)) (after.tree.nodes ≡ before.tree.nodes)
+  pub nodes : OnNone (reached_of (ending_of result)) (FolderStays a.request (status (ending_of result)) (after.tree.nodes ≡ before.tree.nodes))
   pub unmade : OnCreate a.request (OnNone (reached_of (ending_of result)) (after.repo.view.now ≡ before.repo.view.now))
   pub quiet : a.server ≡ None → after.server ≡ before.server
   pub others : OnOther a.request (after.server ≡ before.server)

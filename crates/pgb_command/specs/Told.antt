@@ -1,16 +1,17 @@
 -- What the code's settings stand for.
-use Rattle.std.specs.Prelude.{ℕ, ◌≡◌, ◌<◌, ◌^◌, List, length, slice_get, Some, option_map}
+use Rattle.std.specs.Prelude.{ℕ, ◌≡◌, ◌<◌, ◌^◌, List, length, slice_get, Some, option_map, string_bytes}
 use Rattle.pgb_outside.specs.Links.{LinkState}
 use Rattle.pgb_worker_dispatch.specs.Run.{IsReady}
 use Rattle.pgb_model.specs.Text.{Text}
 use Rattle.pgb_options.specs.declared.options.Options.{Options}
 use Rattle.pgb_create.specs.Server.{server_view}
+use Rattle.pgb_recover.specs.Words.{IsSetOf}
 use Rattle.pgb_command.specs.declared.settings.Settings.{Settings}
 use Rattle.pgb_command.specs.declared.settings.Request as code
-use Rattle.pgb_command.specs.declared.settings.Request.TheVariants.{StanzaCreate, ArchivePush, ArchiveGet, Backup, Info}
+use Rattle.pgb_command.specs.declared.settings.Request.TheVariants.{StanzaCreate, ArchivePush, ArchiveGet, Backup, Restore, Info}
 use Rattle.pgb_command.specs.declared.order.Order.{Order}
 use Rattle.pgb_command.specs.declared.order.Order.TheVariants as order
-use Rattle.pgb_command.specs.Asked.{Request, create, push, get, backup, report, Asked, Wanted}
+use Rattle.pgb_command.specs.Asked.{Request, create, push, get, backup, restore, report, Asked, Wanted}
 
 -- the workers can be numbered, and none has bytes of an earlier answer to give
 pub record AreWorkers (links : List LinkState) : Type 0 where
@@ -22,6 +23,7 @@ request_of StanzaCreate = create
 request_of (ArchivePush path) = push path.now
 request_of (ArchiveGet name path) = get name.now path.now
 request_of (Backup workers) = backup workers
+request_of (Restore set workers) = restore (option_map (λ w. w.now) set) workers
 request_of (Info form) = report form
 
 -- how a command goes on by its options
@@ -34,6 +36,8 @@ wanted_told o = record {
   delta = o.delta;
   bundles = o.repo1_bundle;
   expires = o.expire_auto;
+  recovery = o.restore_type;
+  set = option_map string_bytes o.set;
   workers = o.process_max;
 }
 
@@ -46,5 +50,6 @@ IsOrder create folder order.StanzaCreate = Unit {0}
 IsOrder (push path) folder (order.ArchivePush o) = (o.folder.now ≡ folder) × (o.path.now ≡ path)
 IsOrder (get name path) folder (order.ArchiveGet o) = (o.folder.now ≡ folder) × (o.word.now ≡ name) × (o.path.now ≡ path)
 IsOrder (backup workers) folder (order.Backup o) = (o.data_folder.now ≡ folder) × (o.workers ≡ workers)
+IsOrder (restore set workers) folder (order.Restore o) = (o.data_folder.now ≡ folder) × (o.workers ≡ workers) × IsSetOf set o.set
 IsOrder (report form) folder (order.Info asked) = asked ≡ form
 IsOrder request folder other = ⊥

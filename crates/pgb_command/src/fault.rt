@@ -1,12 +1,13 @@
 // What a command answers in place of Ok, by layers.
 ghost use Rattle.std.specs.Prelude.{◌≡◌};
 ghost use Rattle.pgb_command.specs.Answers.{status_of, usage_status, command_status};
-ghost use Rattle.pgb_command.specs.Faults.{lift, of_stage, of_create, of_push, of_get, of_take};
+ghost use Rattle.pgb_command.specs.Faults.{lift, of_stage, of_create, of_push, of_get, of_take, of_recover};
 
 use pgb_create::{CreateFault, create_status};
 use pgb_get::{GetFault, get_status};
 use pgb_options::Usage;
 use pgb_push::{PushFault, push_status};
+use pgb_recover::{RecoverFault, recover_status};
 use pgb_stage::{Halt, Object, Outcome, StageFault, object_status, stage_status};
 use pgb_take::{TakeFault, take_status};
 use std::alloc::AllocError;
@@ -18,6 +19,7 @@ pub enum CommandFault {
     Push(PushFault),
     Get(GetFault),
     Take(TakeFault),
+    Recover(RecoverFault),
 }
 
 /// Why a command is refused, in the order in which refusals come; or which object failed; or that there is no memory.
@@ -133,6 +135,21 @@ impl From<Halt<TakeFault>> for Fault {
     }
 }
 
+impl From<Halt<RecoverFault>> for Fault {
+    ghost use Rattle.std.specs.Prelude.{◌≡◌};
+    ghost use Rattle.pgb_command.specs.Faults.{of_recover};
+
+    ghost from_gives = { λ h e. e ≡ of_recover h };
+
+    fn from(halt: Halt<RecoverFault>) -> Self {
+        match halt {
+            Halt::Refused(fault) => Fault::Command(CommandFault::Recover(fault)),
+            Halt::Failed(object) => Fault::Failed(object),
+            Halt::NoMemory => Fault::NoMemory,
+        }
+    }
+}
+
 /// How stanza-create ended.
 pub(crate) fn create_end(ended: Result<Outcome, Halt<CreateFault>>) -> Result<Outcome, Fault>
     ensures { result ≡ lift of_create ended }
@@ -166,6 +183,16 @@ pub(crate) fn get_end(ended: Result<Outcome, Halt<GetFault>>) -> Result<Outcome,
 /// How backup ended.
 pub(crate) fn take_end(ended: Result<Outcome, Halt<TakeFault>>) -> Result<Outcome, Fault>
     ensures { result ≡ lift of_take ended }
+{
+    match ended {
+        Ok(outcome) => Ok(outcome),
+        Err(halt) => Err(Fault::from(halt)),
+    }
+}
+
+/// How restore ended.
+pub(crate) fn recover_end(ended: Result<Outcome, Halt<RecoverFault>>) -> Result<Outcome, Fault>
+    ensures { result ≡ lift of_recover ended }
 {
     match ended {
         Ok(outcome) => Ok(outcome),
@@ -210,6 +237,7 @@ fn command_status(fault: &CommandFault) -> u8
         CommandFault::Push(fault) => push_status(fault),
         CommandFault::Get(fault) => get_status(fault),
         CommandFault::Take(fault) => take_status(fault),
+        CommandFault::Recover(fault) => recover_status(fault),
     }
 }
 

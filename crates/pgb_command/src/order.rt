@@ -8,6 +8,7 @@ use crate::settings::{Request, Settings};
 use pgb_get::{GetOrder, get_order};
 use pgb_options::OutputWord;
 use pgb_push::{PushOrder, push_order};
+use pgb_recover::{RecoverOrder, recover_order};
 use pgb_take::TakeOrder;
 use std::alloc::Global;
 
@@ -18,6 +19,7 @@ pub enum Order<'a> {
     ArchivePush(PushOrder<'a>),
     ArchiveGet(GetOrder<'a>),
     Backup(TakeOrder<'a>),
+    Restore(RecoverOrder<'a>),
     Info(OutputWord),
 }
 
@@ -42,6 +44,12 @@ pub(crate) fn order_of<'a>(alloc: Global, settings: &Settings<'a>) -> Result<Ord
             repository: settings.repo1_path,
             workers,
         })),
+        Request::Restore { set, workers } => Ok(Order::Restore(recover_order(
+            settings.pg1_path,
+            settings.repo1_path,
+            set,
+            workers,
+        )?)),
         Request::Info { form } => Ok(Order::Info(form)),
     }
 }

@@ -4,10 +4,11 @@ ghost use Rattle.pgb_stage.specs.Plans.{AreHeld};
 ghost use Rattle.pgb_prepare.specs.Readies.{IsReady};
 ghost use Rattle.pgb_command.specs.Asked.{create as asks_create, push as asks_push, get as asks_get, backup as asks_backup, report as asks_report};
 ghost use Rattle.pgb_command.specs.Did.{Ran};
-ghost use Rattle.pgb_command.specs.Told.{request_of, asked_of, AreWorkers};
+ghost use Rattle.pgb_command.specs.Told.{request_of, asked_of, AreWorkers, IsOrder};
+ghost use Rattle.pgb_command.specs.declared.order.Order.TheVariants.{Restore as RestoreOrder};
 ghost use Rattle.pgb_command.specs.Tables.{plan_of};
 
-use crate::fault::{Fault, create_end, get_end, inform_end, push_end, take_end};
+use crate::fault::{Fault, create_end, get_end, inform_end, push_end, recover_end, take_end};
 use crate::outside::{Outside, Told};
 use crate::settings::Settings;
 use pgb_create::create_stanza;
@@ -17,6 +18,7 @@ use pgb_options::OutputWord;
 use pgb_outside::{Clock, Disk, Link, Locks, Sink, Source, Tree, Turns, Wire};
 use pgb_prepare::Ready;
 use pgb_push::{PushOrder, push_file};
+use pgb_recover::{RecoverOrder, recover_backup};
 use pgb_stage::Outcome;
 use pgb_take::{TakeOrder, take_backup};
 use pgb_turn::Aside;
@@ -172,6 +174,43 @@ impl<
             order,
             &control,
             &archive,
+            backup,
+        ))
+    }
+
+    /// restore.
+    pub(crate) fn recover(
+        &mut self,
+        alloc: Global,
+        settings: &Settings<'_>,
+        order: &RecoverOrder<'_>,
+        ready: &Ready,
+    ) -> Result<Outcome, Fault>
+        requires order { IsOrder (request_of settings.now.request) settings.now.pg1_path.now
+            (RestoreOrder order.now) }
+        requires workers { AreWorkers (map L.link_state self.old.links.items) }
+        requires ready { IsReady (plan_of (request_of settings.now.request)) settings.now.stanza.now
+            (D.state self.old.repo).view.now (T.state self.old.tree).nodes ready.now }
+        ensures ran { let told = ⟦<Outside<D, S, T, V, A, C, K, I, O, L, U> as Told>⟧.told in
+            Ran (asked_of settings.now) (told self.old) (told self.new) result }
+        ensures rest { self.new ≡ record self.old {
+          repo = self.new.repo;
+          tree = self.new.tree;
+          links = self.new.links;
+          turns = self.new.turns;
+        } }
+    {
+        let Some(backup) = &ready.backup else {
+            unreachable!();
+        };
+        recover_end(recover_backup(
+            alloc,
+            &mut self.repo,
+            &mut self.tree,
+            &mut self.links,
+            &mut self.turns,
+            settings.stanza,
+            order,
             backup,
         ))
     }

@@ -1,15 +1,16 @@
 // What a command is told, from its options.
-ghost use Rattle.std.specs.Prelude.{◌≡◌, ◌<◌, ◌^◌, length, [], List, Ok, Err, map, IfOk, IfErr, Result, MatchResult, option_map, string_bytes};
+ghost use Rattle.std.specs.Prelude.{◌≡◌, ◌<◌, ◌^◌, length, true, [], List, Ok, Err, map, IfOk, IfErr, Result, MatchResult, option_map, string_bytes};
 ghost use Rattle.pgb_options.specs.Commands.{IsCommand};
 ghost use Rattle.pgb_options.specs.Filled.{or_else};
+ghost use Rattle.pgb_table.specs.Values.{is_stanza};
 ghost use Rattle.pgb_options.specs.Settings.{Settled};
-ghost use Rattle.pgb_command.specs.Asked.{request_by, backup_by, is_full, first_of, second_of, requested, IsAsked};
+ghost use Rattle.pgb_command.specs.Asked.{request_by, backup_by, is_full, restore_by, is_plain, first_of, second_of, requested, IsAsked};
 ghost use Rattle.pgb_command.specs.Tables.{plan_of};
 ghost use Rattle.pgb_command.specs.Told.{request_of, asked_of, wanted_told};
 
 use crate::server::server_of;
 use pgb_create::Server;
-use pgb_options::{Command, KindWord, Options, OutputWord};
+use pgb_options::{Command, KindWord, Options, OutputWord, RestoreWord};
 use pgb_stage::{Pairs, Plan, Settling, Unbuilt};
 use pgb_table::Verb;
 
@@ -23,6 +24,8 @@ pub enum Request<'a> {
     ArchiveGet { name: &'a str, path: &'a str },
     /// A full backup of a stopped server, with as many workers at most.
     Backup { workers: u32 },
+    /// The backup of this label, or the last one, into an empty folder, with as many workers at most.
+    Restore { set: Option<&'a str>, workers: u32 },
     /// The report, in this form.
     Info { form: OutputWord },
 }
@@ -37,6 +40,7 @@ pub struct Settings<'a> {
     /// The server that is asked, where one is.
     pub server: Option<Server<'a>>,
     pub request: Request<'a>,
+    ghost form: { is_stanza stanza.now ≡ true },
     // Each worker is told both folders, with lengths of 16 bits.
     ghost short: { (length pg1_path.now < 2 ^ 16) × (length repo1_path.now < 2 ^ 16) },
 }
@@ -96,6 +100,38 @@ fn backup_request<'a>(options: &Options) -> Result<Request<'a>, Unbuilt>
     })
 }
 
+// What a restore is to do, where that is built.
+fn restore_request(options: &Options) -> Result<Request<'_>, Unbuilt>
+    ensures asked { IfOk result (λ r. restore_by (wanted_told options.now) ≡ Ok (request_of r)) }
+    ensures unbuilt { IfErr result (λ what. restore_by (wanted_told options.now) ≡ Err what) }
+{
+    if options.delta {
+        return Err(Unbuilt::Delta);
+    }
+    if !is_plain(options.restore_type) {
+        return Err(Unbuilt::Recovery);
+    }
+    Ok(Request::Restore {
+        set: label_of(&options.set),
+        workers: options.process_max,
+    })
+}
+
+fn label_of(set: &Option<String>) -> Option<&str>
+    ensures { option_map (λ w. w.now) result ≡ option_map string_bytes set.now }
+{
+    match set {
+        Some(label) => Some(label.as_str()),
+        None => None,
+    }
+}
+
+fn is_plain(word: RestoreWord) -> bool
+    ensures { result ≡ is_plain word }
+{
+    matches!(word, RestoreWord::Plain)
+}
+
 fn is_full(kind: KindWord) -> bool
     ensures { result ≡ is_full kind }
 {
@@ -129,6 +165,7 @@ fn request_of(command: &Command) -> Result<Request<'_>, Unbuilt>
             })
         }
         Verb::Backup => backup_request(&command.options),
+        Verb::Restore => restore_request(&command.options),
         Verb::Info => Ok(Request::Info {
             form: command.options.output,
         }),
@@ -138,7 +175,8 @@ fn request_of(command: &Command) -> Result<Request<'_>, Unbuilt>
 
 /// What the command is told, where it is built.
 pub(crate) fn settings_of(command: &Command) -> Result<Settings<'_>, Unbuilt>
-    requires { (s : Settled) × IsCommand command.now s }
+    requires command { (s : Settled) × IsCommand command.now s }
+    requires form { is_stanza (string_bytes command.now.stanza) ≡ true }
     ensures asked { IfOk result (λ x. (s : Settled) → IsCommand command.now s → IsAsked s (asked_of x)) }
     ensures unbuilt { IfErr result (λ what. (s : Settled) → IsCommand command.now s → requested s ≡ Err what) }
 {
@@ -193,6 +231,10 @@ pub(crate) fn plan_of(request: &Request<'_>) -> Plan
             folder: true,
             backup_lock: true,
             control: true,
+            ..reading
+        },
+        Request::Restore { .. } => Plan {
+            folder: true,
             ..reading
         },
         Request::Info { .. } => reading,

@@ -301,6 +301,7 @@ impl<
             Order::ArchivePush(order) => self.push(alloc, settings, order, &ready),
             Order::ArchiveGet(order) => self.get(alloc, settings, &order, &ready),
             Order::Backup(order) => self.take(alloc, settings, order, ready),
+            Order::Restore(order) => self.recover(alloc, settings, &order, &ready),
             Order::Info(form) => self.inform(alloc, settings, form, &ready),
         }
     }

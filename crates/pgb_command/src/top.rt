@@ -1,9 +1,10 @@
 // The top call.
-ghost use Rattle.std.specs.Prelude.{◌≡◌, ◌≤◌, false, [], None, Ok, IfErr, map, string_bytes};
+ghost use Rattle.std.specs.Prelude.{◌≡◌, ◌≤◌, true, false, [], None, Ok, IfErr, map, string_bytes};
 ghost use Rattle.pgb_story.specs.Beside.{KeepsOthers};
 ghost use Rattle.pgb_options.specs.declared.options.OutputWord.{OutputWord};
 ghost use Rattle.pgb_options.specs.Commands.{IsCommand};
 ghost use Rattle.pgb_options.specs.Settings.{Settled};
+ghost use Rattle.pgb_table.specs.Values.{is_stanza};
 ghost use Rattle.pgb_command.specs.Asked.{Request, Asked, MayAsk, report, requested, server_asked};
 ghost use Rattle.pgb_command.specs.Causes.{Answers, Obeys, Each, Finishes, PartDone, IsEarly, TurnsBack, Fulfils, LeavesRest, Completes, ClosesTalk};
 ghost use Rattle.pgb_command.specs.Did.{OpensPlaces, OnlyLocked};
@@ -38,6 +39,7 @@ pub fn carry<
     requires free { (K.state outside.old.locks).taken ≡ [] }
     requires workers { AreWorkers (map L.link_state outside.old.links.items) }
     requires settled { (s : Settled) × IsCommand command.now s }
+    requires form { is_stanza (string_bytes command.now.stanza) ≡ true }
     // What was asked for is done and told.
     ensures obeys { let told = ⟦<Outside<D, S, T, V, A, C, K, I, O, L, U> as Told>⟧.told in
         (s : Settled) → IsCommand command.now s → Obeys s (told outside.old) (told outside.new) result }
@@ -111,7 +113,7 @@ pub fn run<
     // failed.
     ensures stays { let told = ⟦<Outside<D, S, T, V, A, C, K, I, O, L, U> as Told>⟧.told in
         Each (map string_bytes words.now) (I.state outside.old.config).files
-        (λ a. IsEarly a.request result → TurnsBack a (told outside.old) (told outside.new)) }
+        (λ a. IsEarly a.request result → TurnsBack a (told outside.old) (told outside.new) result) }
 
     // At 0 and 1 the command keeps its promise, and its lines are written.
     ensures fulfils { let told = ⟦<Outside<D, S, T, V, A, C, K, I, O, L, U> as Told>⟧.told in
