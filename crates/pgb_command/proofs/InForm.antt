@@ -1,6 +1,6 @@
 -- The stanza that words settle is in form.
 use Rattle.std.proofs.Common.{◌≡◌, ◌≢◌, ⊎_elim, ℕ, Bool, true, false, List, [], ◌∷◌, length, drop, codes, Option, Some, None, Result, Ok, Err, refl, sym, ap, subst, ◌∙◌, arith}
-use Rattle.std.specs.Prelude.{◌&&◌, is_some, is_none, if◌then◌else◌, option_and_then}
+use Rattle.std.specs.Prelude.{string_bytes, ◌&&◌, is_some, is_none, if◌then◌else◌, option_and_then}
 use Rattle.std.specs.List.{list_all, find}
 use Rattle.std.specs.Option.{option_map_or, option_or}
 use Rattle.std.proofs.lemmas.Grind.{common_steps}
@@ -20,6 +20,8 @@ use Rattle.pgb_options.specs.Settings.{Source, Settled, settle, settled_words, s
 use Rattle.pgb_stored.specs.Paths.{Lacks}
 use Rattle.pgb_archive.proofs.PathLies.{lacks_not}
 use Rattle.pgb_story.specs.Beside.{IsStanza}
+use Rattle.pgb_options.specs.declared.settle.Command.{Command}
+use Rattle.pgb_options.specs.Commands.{IsCommand}
 use Rattle.pgb_command.specs.Asked.{WordsSettle, Asked, MayAsk}
 use Rattle.pgb_command.proofs.AskedOnce.{ok_same}
 
