@@ -79,7 +79,7 @@ fn add_commands(alloc: Global, text: &mut String, built: bool) -> Result<(), All
 fn is_built(verb: Verb) -> bool {
     matches!(
         verb,
-        Verb::StanzaCreate | Verb::ArchivePush | Verb::ArchiveGet | Verb::Backup | Verb::Info
+        Verb::StanzaCreate | Verb::ArchivePush | Verb::ArchiveGet | Verb::Backup | Verb::Restore | Verb::Info
     )
 }
 
@@ -95,7 +95,7 @@ fn purpose_of(verb: Verb) -> Option<&'static str> {
         ),
         Verb::Backup => Some(": makes a full backup of a stopped server"),
         Verb::Expire => Some(": removes what the retention no longer keeps"),
-        Verb::Restore => Some(": makes the data folder of a backup"),
+        Verb::Restore => Some(": makes the data folder of a backup, where it is empty"),
         Verb::Verify => Some(": looks for damage in the repository"),
         Verb::Info => Some(": tells which backups and segments there are"),
         Verb::Rehearse => Some(": tries all of it on empty folders"),
