@@ -180,7 +180,9 @@ folder_on a (push path) b m k still nodes links h = h ∙ nodes
 folder_on a (get name path) b m k still nodes links h = subst (λ (o : Option Content). FolderGoes a (get name path) (as_known o b.tree.nodes b.server b.clock b.links) k.tree.nodes) still.now
     (subst (λ (n : Option Nodes). FolderGoes a (get name path) (as_known m.repo.view.now n b.server b.clock b.links) k.tree.nodes) nodes h)
 folder_on a (backup workers) b m k still nodes links h = h ∙ nodes
-folder_on a (report form) b m k still nodes h = h ∙ nodes
+folder_on a (restore set workers) b m k still nodes links h = ⊎_elim (λ (e : k.tree.nodes ≡ m.tree.nodes). inl (e ∙ nodes))
+    (λ x. inr (subst (λ (ls : List LinkState). HasNone control_path k.tree.nodes ⊎ ((v : Manifest) × IfSome k.tree.nodes (IsFinished a.stanza (take workers ls) v))) links x)) h
+folder_on a (report form) b m k still nodes links h = h ∙ nodes
 
 -- ---- causes and ends
 
