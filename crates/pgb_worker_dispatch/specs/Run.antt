@@ -288,6 +288,7 @@ pub record AllLost (jobs : List Job) (b : Began) (after : List Entry) : Type 0 w
   pub entries : List Entry
   pub is : after ≡ b.lost ++ entries
   pub each : AllByRecursion (IsLoss jobs b.links) entries
+  pub has : (l : ℕ) → l < length b.links → (k : ℕ) × (e : Entry) × (slice_get entries k ≡ Some e) × (e.place ≡ l)
   pub count : length entries ≡ length b.links
 
 -- why a run ended early
