@@ -3,6 +3,8 @@ pub mod Came
 pub mod Nows
 pub mod Commits
 pub mod Outcomes
+pub mod Besides
+pub mod Unreads
 pub mod Sound
 pub mod Drafted
 pub mod Listed

@@ -254,6 +254,7 @@ pub record UnreadLeaves (jobs : List Job) (b : Began) (j item : ℕ) (seats : Li
   pub from_is : slice_get b.links link ≡ Some from
   pub job : Job
   pub job_is : slice_get jobs j ≡ Some job
+  pub within : item < length job.items
   pub unread : (i : Item) → slice_get job.items item ≡ Some i → UnreadBy from.told i
 
 -- why a frame wasn't taken
