@@ -1,0 +1,5 @@
+pub mod Statuses
+pub mod Links
+pub mod Beginnings
+pub mod Makings
+pub mod Takings
