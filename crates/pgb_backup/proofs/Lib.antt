@@ -8,6 +8,7 @@ pub mod Unreads
 pub mod Sound
 pub mod Drafted
 pub mod Listed
+pub mod Unlisted
 pub mod Moves
 pub mod Backups
 pub mod Labels
