@@ -1,7 +1,7 @@
 -- A field of a manifest is of one file or of one folder.
-use Rattle.std.proofs.Common.{◌≡◌, inl, inr, List, [], ◌∷◌, map, drop, Option, Some, None, codes, refl, sym, ap, ap₂, ◌∙◌}
+use Rattle.std.proofs.Common.{◌≡◌, ℕ, inl, inr, List, [], ◌∷◌, map, drop, Option, Some, None, codes, refl, sym, ap, ap₂, ◌∙◌}
 use Rattle.std.specs.Prelude.{option_map, IfSome}
-use Rattle.serde_json.specs.Data.{string}
+use Rattle.serde_json.specs.Data.{Data, string}
 use Rattle.serde_json.specs.Find.{get}
 use Rattle.pgb_text.specs.Sum.{sum_text}
 use Rattle.pgb_text.proofs.Sums.{sum_text-injective}
@@ -15,7 +15,7 @@ use Rattle.pgb_model.specs.Values.{FileEntry}
 use Rattle.pgb_keys.proofs.Scalars.{same_number, same_data}
 use Rattle.pgb_info.proofs.EntryParts.{same_label}
 use Rattle.pgb_manifest.specs.Alone.{IsFile}
-use Rattle.pgb_manifest.proofs.FileValues.{at_checksum, at_size, at_timestamp, at_reference, at_bni, at_bno, same_string}
+use Rattle.pgb_manifest.proofs.FileValues.{at_checksum, at_size, at_timestamp, at_reference, at_bni, at_bno}
 
 pub same_labelled : (o p : Option Label) → IfSome o IsLabel → IfSome p IsLabel → option_map label_value o ≡ option_map label_value p → o ≡ p
 same_labelled None None h g e = refl
@@ -38,6 +38,9 @@ same_bundle (Some b) (Some c) number at =
 same_path : (p q : Text) → data_path p ≡ data_path q → p ≡ q
 same_path p q e = ap (drop 8) e
 
+same_sum_text : (s t : List ℕ) → ◌≡◌ {A = Option Data} (Some (string (sum_text s))) (Some (string (sum_text t))) → sum_text s ≡ sum_text t
+same_sum_text s t e = cc
+
 -- ---- files
 
 module _ (e f : FileEntry) (h : IsFile e) (g : IsFile f) (same : file_field e ≡ file_field f) where
@@ -45,7 +48,7 @@ module _ (e f : FileEntry) (h : IsFile e) (g : IsFile f) (same : file_field e �
   at key = ap (λ (k : Field). get key k.1) same
 
   sum : e.sum ≡ f.sum
-  sum = sum_text-injective e.sum f.sum h.sum g.sum (same_string (sum_text e.sum) (sum_text f.sum) (same_data (string (sum_text e.sum)) (string (sum_text f.sum)) (sym (at_checksum e) ∙ at (codes "checksum") ∙ at_checksum f)))
+  sum = sum_text-injective e.sum f.sum h.sum g.sum (same_sum_text e.sum f.sum (sym (at_checksum e) ∙ at (codes "checksum") ∙ at_checksum f))
 
   size : e.size ≡ f.size
   size = same_number e.size f.size (same_data (whole e.size) (whole f.size) (sym (at_size e) ∙ at (codes "size") ∙ at_size f))
