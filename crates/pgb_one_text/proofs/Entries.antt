@@ -3,10 +3,9 @@ use Rattle.std.proofs.Common.{◌≡◌, ℕ, List, [], ◌∷◌, ◌++◌, map
 use Rattle.std.specs.Prelude.{codes, IfSome}
 use Rattle.serde_json.specs.Data.{Data, array, Items}
 use Rattle.serde_json.specs.Find.{get}
-use Rattle.pgb_model.specs.declared.labels.Label.{Label}
 use Rattle.pgb_model.specs.declared.wal.Segment.{Segment}
 use Rattle.pgb_model.specs.declared.wal.Span.{Span}
-use Rattle.pgb_model.specs.Names.{label_text, segment_text}
+use Rattle.pgb_model.specs.Names.{segment_text}
 use Rattle.pgb_model.specs.Fields.{Field, whole, items_from, list_of, or_null}
 use Rattle.pgb_model.specs.InfoFiles.{IsSegment, label_value, segment_value, label_kind, entry_field, AreListed}
 use Rattle.pgb_model.specs.Values.{Entry}

@@ -2,7 +2,7 @@
 use Rattle.std.proofs.Common.{◌≡◌, List, [], ◌∷◌, ◌++◌, length, refl, sym, ap, ◌∙◌}
 use Rattle.pgb_model.specs.declared.clusters.Cluster.{Cluster}
 use Rattle.pgb_model.specs.Text.{Text}
-use Rattle.pgb_model.specs.InfoText.{Section, info_text}
+use Rattle.pgb_model.specs.InfoText.{Section}
 use Rattle.pgb_model.specs.Fields.{Field}
 use Rattle.pgb_model.specs.InfoFiles.{cluster_fields, backup_sections, IsBackupInfo, IsBackupText}
 use Rattle.pgb_model.specs.Values.{BackupInfo, Entry}
