@@ -1,6 +1,7 @@
 -- How the making of a backup ends the command, and why.
 use Rattle.std.proofs.Common.{◌≡◌, ◌⊎◌, inl, inr, ℕ, ◌<◌, ◌≤◌, ◌+◌, ◌^◌, List, Bool, true, Option, Some, None, String, Global, string_bytes, refl, sym, ◌∙◌, ap, subst, length, arith}
 use Rattle.std.specs.Prelude.{IfErr, IfSome, Result, Ok, Err}
+use Rattle.std.specs.Result.{IsErrAnd, is_ok}
 use Rattle.pgb_outside.specs.Cause.{Rises}
 use Rattle.pgb_outside.specs.Links.{LinkState}
 use Rattle.pgb_outside.specs.Moments.{View}
@@ -114,8 +115,8 @@ module _ (d : Draft) (links left : List LinkState) (before after : List Lost) (o
 -- ---- how far the command came by that
 
 -- where it came to its end, the backup was made, with the line that tells it
-pub finish_ok : (d : Draft) (made : Result (Unit {0}) MakeFault) (result : Result Outcome (Halt TakeFault)) → IsEndOf d made result → reached_by take_early result ≡ to_end → (u : Unit {0}) × (made ≡ Ok u)
-finish_ok d made result (Well u lines is) at = (u, refl)
+pub finish_ok : (d : Draft) (made : Result (Unit {0}) MakeFault) (result : Result Outcome (Halt TakeFault)) → IsEndOf d made result → reached_by take_early result ≡ to_end → is_ok made ≡ true
+finish_ok d made result (Well u lines is) at = refl
 finish_ok d made result (Ill lost fault halt is) at = absurd (by lost fault halt is at)
   where
     by : (lost : ℕ) (fault : MakeFault) (halt : Halt TakeFault) → IsHaltOf (stanza_of d) d.label lost fault halt → reached_by take_early (Err halt) ≡ to_end → ⊥
@@ -129,9 +130,9 @@ finish_ok d made result (Ill lost fault halt is) at = absurd (by lost fault halt
     by lost fault halt (Starved f) at = let e : stopped ≡ to_end = at in cc
 
 -- where it was turned back, no backup may be listed
-pub finish_early : (d : Draft) (made : Result (Unit {0}) MakeFault) (result : Result Outcome (Halt TakeFault)) → IsEndOf d made result → reached_by take_early result ≡ turned_back → (e : MakeFault) × (made ≡ Err e) × ¬ MayBeListed e
+pub finish_early : (d : Draft) (made : Result (Unit {0}) MakeFault) (result : Result Outcome (Halt TakeFault)) → IsEndOf d made result → reached_by take_early result ≡ turned_back → IsErrAnd made (λ e. ¬ MayBeListed e)
 finish_early d made result (Well u lines is) at = absurd (let e : to_end ≡ turned_back = at in cc)
-finish_early d made result (Ill lost fault halt is) at = (fault, refl, by lost fault halt is at)
+finish_early d made result (Ill lost fault halt is) at = by lost fault halt is at
   where
     by : (lost : ℕ) (fault : MakeFault) (halt : Halt TakeFault) → IsHaltOf (stanza_of d) d.label lost fault halt → reached_by take_early (Err halt) ≡ turned_back → ¬ MayBeListed fault
     by lost fault halt NoneLeft at = λ h. h

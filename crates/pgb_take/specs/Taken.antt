@@ -1,5 +1,5 @@
 -- What a full backup of a stopped server is (pgBackRest command reference, "Backup").
-use Rattle.std.specs.Prelude.{◌≡◌, ◌<◌, ℕ, List, length, Option, Some, None, IfSome}
+use Rattle.std.specs.Prelude.{◌≡◌, ◌<◌, ℕ, List, length, Option, Some, None, IfSome, IsSome}
 use Rattle.pgb_outside.specs.Content.{Content}
 use Rattle.pgb_outside.specs.Links.{LinkState}
 use Rattle.pgb_outside.specs.Tree.{Nodes}
@@ -38,6 +38,6 @@ pub record IsTaken (stanza : Text) (told : Control) (nodes : Option Nodes) (used
   pub read : IsReadBy used backup
   pub adds : AddsBackup stanza backup old new
   -- where the links read this folder, it is the folder's
-  pub folder : (f : Nodes) (repo : Content) → nodes ≡ Some f → AllRead (bytes_in f) repo used → IsOfFolder f backup
+  pub folder : (f : Nodes) (repo : Content) → nodes ≡ Some f → IsSome old → AllRead (bytes_in f) repo used → IsOfFolder f backup
   -- both members of the backup pair are alike
-  pub alike : IfSome new (AgreeAt (backup_info stanza))
+  pub alike : IsSome old → IfSome new (AgreeAt (backup_info stanza))

@@ -1,5 +1,5 @@
 // The backup is made.
-ghost use Rattle.std.specs.Prelude.{◌≡◌, ◌≤◌, ◌<◌, ◌^◌, ℕ, Some, map, vec_len, slice_get, string_bytes, length, IfOk, IfErr, IfSome, OnOk};
+ghost use Rattle.std.specs.Prelude.{◌≡◌, ◌≤◌, ◌<◌, ◌^◌, ℕ, Some, map, vec_len, slice_get, string_bytes, length, IfOk, IfErr, IfSome, IsSome, OnOk};
 ghost use Rattle.pgb_outside.specs.Cause.{Rises};
 ghost use Rattle.pgb_outside.specs.Links.{LinkState};
 ghost use Rattle.pgb_outside.specs.States.{Frame};
@@ -57,7 +57,8 @@ pub(crate) fn finish<D: Disk, L: Link, U: Turns, C: Clock>(
     requires ready { (i : ℕ) (s : LinkState) → slice_get (map L.link_state links.old.items) i ≡ Some s → IsReady s }
     ensures made { Finishes draft.entry (map L.link_state links.old.items) (D.state repo.old).view
         (D.state repo.new).view result }
-    ensures alike { OnOk result (IfSome (D.state repo.new).view.now (AgreeAt (main_of draft.entry))) }
+    ensures alike { OnOk result (IsSome (D.state repo.old).view.now
+        → IfSome (D.state repo.new).view.now (AgreeAt (main_of draft.entry))) }
     ensures beside { StaysBeside draft.entry.stanza.now (D.state repo.old).view (D.state repo.new).view }
     ensures frame { Frame (D.state repo.old) (D.state repo.new) }
     ensures later { (C.state clock.old).faults ≤ (C.state clock.new).faults }
