@@ -129,9 +129,12 @@ module _ (stanza : Text) (used now : List LinkState) (comes : Comes used now) (a
     (draft : Draft) (stanza_is : stanza_of draft ≡ stanza) (begins : BeginsFull draft b.now) (result : Result Outcome (Halt TakeFault)) (f : Finishes draft now b d result) where
   pub finished_does : On (one (IsFullBackup used)) (λ command. Does Whole stanza command (reached_by take_early result) a d)
   finished_does =
-      let x = does_full one_list one_manifest draft now b d begins f.made (reached_by take_early result) f.outcome (finish_ok draft f.made result f.end) (finish_early draft f.made result f.end) in
-      (x.0, full_by_used used now comes x.0 x.1, does_after stanza x.0 (reached_by take_early result) a b d rests same
-      (subst (λ (s : Text). Does Whole s x.0 (reached_by take_early result) b d) stanza_is x.2))
+      let x = does_full one_list one_manifest draft now b d begins f.made (reached_by take_early result) f.outcome (finish_ok draft f.made result f.end) (finish_early draft f.made result f.end) in (
+        x.0,
+        full_by_used used now comes x.0 x.1,
+        does_after stanza x.0 (reached_by take_early result) a b d rests same
+            (subst (λ (s : Text). Does Whole s x.0 (reached_by take_early result) b d) stanza_is x.2),
+      )
 
 module _ (stanza : Text) (told : Control) (archive : rust_archive_info.ArchiveInfo) (backup : rust_backup_info.BackupInfo) (old : Option Content) (is_archive : IsArchiveOf stanza old archive) (is_backup : IsBackupOf stanza old backup)
     (seen : List ListedNode) (list : BackupInfo) (settles : Settles (archive_info_of archive) (backup_info_of backup) list) (of : IsOf told (archive_info_of archive)) (room : length list.backups < most_backups)
