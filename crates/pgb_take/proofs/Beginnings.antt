@@ -67,16 +67,13 @@ same_backups a b w (Without pending is) = ap (λ (v : BackupInfo). v.backups) is
 abbrev is_pid : rust_seen.Seen → Bool
 is_pid s = bytes_eq (string_bytes s.path) server_path
 
+first_pid : (s : rust_seen.Seen) (ss : List rust_seen.Seen) (b : Bool) → is_pid s ≡ b → (b || list_any is_pid ss) ≡ true → (list_any is_pid ss ≡ true → (node : Node) × Contains (map seen_of ss) (server_path, node)) → (node : Node) × Contains (map seen_of (s ∷ ss)) (server_path, node)
+first_pid s ss true eq any rest = (s.node, (zero, omega arith, ap (λ (p : Text). (let n : ListedNode = (p, s.node) in n)) ((bytes_eq-Decides (string_bytes s.path) server_path).0 eq)))
+first_pid s ss false eq any rest = let x = rest any in (x.0, Contains-append_right (seen_of s ∷ []) (map seen_of ss) (server_path, x.0) x.1)
+
 pid_at : (seen : List rust_seen.Seen) → list_any is_pid seen ≡ true → (node : Node) × Contains (map seen_of seen) (server_path, node)
 pid_at [] is = let e : ◌≡◌ {A = Bool} false true = is in cc
-pid_at (s ∷ ss) is = by (is_pid s) refl is
-  where
-    here : string_bytes s.path ≡ server_path → seen_of s ≡ (server_path, s.node)
-    here same = ap (λ (p : Text). (let n : ListedNode = (p, s.node) in n)) same
-
-    by : (b : Bool) → is_pid s ≡ b → (b || list_any is_pid ss) ≡ true → (node : Node) × Contains (map seen_of (s ∷ ss)) (server_path, node)
-    by true eq any = (s.node, (zero, omega arith, here ((bytes_eq-Decides (string_bytes s.path) server_path).0 eq)))
-    by false eq any = let x = pid_at ss any in (x.0, Contains-append_right (seen_of s ∷ []) (map seen_of ss) (server_path, x.0) x.1)
+pid_at (s ∷ ss) is = first_pid s ss (is_pid s) refl is (λ any. pid_at ss any)
 
 true_or : (b c : Bool) → b ≡ true → (b || c) ≡ true
 true_or true c is = refl

@@ -1,20 +1,25 @@
 -- Why a backup is refused, from what stood before.
-use Rattle.std.proofs.Common.{◌≡◌, inl, inr, ℕ, ◌<◌, ◌≤◌, ◌^◌, List, [], Option, Some, None, refl, sym, ◌∙◌, subst, length}
+use Rattle.std.proofs.Common.{◌≡◌, inl, inr, ℕ, ◌<◌, ◌≤◌, ◌^◌, List, [], Option, Some, None, Bool, false, string_bytes, refl, sym, ◌∙◌, subst, length}
 use Rattle.std.specs.Prelude.{IfSome}
 use Rattle.pgb_outside.specs.Content.{Content}
 use Rattle.pgb_outside.specs.Links.{LinkState}
 use Rattle.pgb_outside.specs.Tree.{Nodes, IsTreeListing}
 use Rattle.pgb_model.specs.declared.clusters.ArchiveInfo as rust_archive_info
 use Rattle.pgb_model.specs.declared.clusters.BackupInfo as rust_backup_info
+use Rattle.pgb_model.specs.InfoFiles.{IsBackupText}
+use Rattle.pgb_model.specs.Names.{backup_info}
+use Rattle.pgb_model.specs.Pair.{PairIs}
 use Rattle.pgb_model.specs.Values.{ArchiveInfo, BackupInfo, archive_info_of, backup_info_of}
 use Rattle.pgb_worker_dispatch.specs.declared.fault.Lost.{Lost}
 use Rattle.pgb_worker_dispatch.specs.Run.{Left}
-use Rattle.pgb_plan.specs.Filter.{ListedNode}
+use Rattle.pgb_plan.specs.Filter.{ListedNode, Takes}
 use Rattle.pgb_label.specs.declared.keeper.Ended.{Ended}
 use Rattle.pgb_record.specs.Faults.{IsMissing}
+use Rattle.pgb_stage.specs.Current.{HasValue}
+use Rattle.pgb_stanza.specs.Causes.{HistoriesDiffer, HasOther}
 use Rattle.pgb_stanza.specs.Judging.{Settles}
 use Rattle.pgb_backup.specs.declared.draft.Draft.{Draft}
-use Rattle.pgb_backup.specs.Draft.{jobs_in, files_with, list_in}
+use Rattle.pgb_backup.specs.Draft.{taken_in, folders_in, jobs_in, files_with, list_in}
 use Rattle.pgb_backup.specs.Faults.{IsManifestTooLong, IsListTooLong}
 use Rattle.pgb_stage.specs.declared.object.Object.{Object}
 use Rattle.pgb_stage.specs.declared.object.Object.TheVariants as objects
@@ -24,7 +29,7 @@ use Rattle.pgb_prepare.specs.Readies.{IsArchiveOf, IsBackupOf}
 use Rattle.pgb_take.specs.declared.fault.TakeFault.{TakeFault}
 use Rattle.pgb_take.specs.declared.fault.TakeFault.TheVariants as faults
 use Rattle.pgb_take.specs.Beginning.{BeginCause}
-use Rattle.pgb_take.specs.Causes.{Before, SettlesTo, IsDraftOf, TakeCause}
+use Rattle.pgb_take.specs.Causes.{Before, SettlesTo, IsDraftOf, IsFull, TakeCause}
 use Rattle.pgb_take.specs.Drafting.{IsFullOf, ListingCause, DraftCause}
 use Rattle.pgb_take.specs.Making.{MakeCause, LosesAll}
 use Rattle.pgb_take.proofs.Links.{Comes, left_comes, where_done, unread_used, all_used_lost, within_count}
@@ -85,18 +90,18 @@ module _ (b : Before) (seen : List ListedNode) (listing : IfSome b.nodes (λ f. 
 
 module _ (b : Before) (archive : rust_archive_info.ArchiveInfo) (backup : rust_backup_info.BackupInfo) (is_archive : IsArchiveOf b.stanza b.repo archive) (is_backup : IsBackupOf b.stanza b.repo backup) where
   -- what both pairs have
-  pub of_pairs : (P : Content → Type 0) → ((f : Content) → _ → _ → P f) → IfSome b.repo P
-  of_pairs P to = if_both _ _ P b.repo is_archive.0 is_backup.0 to
+  pub of_pairs : (P : Content → Type 0) → ((f : Content) → HasValue b.stanza f (archive_info_of archive) → PairIs IsBackupText f (backup_info b.stanza) (backup_info_of backup) → P f) → IfSome b.repo P
+  of_pairs P to = if_both (λ f. HasValue b.stanza f (archive_info_of archive)) (λ f. PairIs IsBackupText f (backup_info b.stanza) (backup_info_of backup)) P b.repo is_archive.0 is_backup.0 to
 
   pub begin_takes : (e : TakeFault) → BeginCause b.told (archive_info_of archive) (backup_info_of backup) b.nodes b.used e → TakeCause b e
-  begin_takes (faults.HistoryDiffers at) h = of_pairs _ (λ f p q. record {
+  begin_takes (faults.HistoryDiffers at) h = of_pairs (λ f. HistoriesDiffer b.stanza f at) (λ f p q. record {
     archive = archive_info_of archive;
     backup = backup_info_of backup;
     pairs = record { archive = p; backup = q };
     differ = h.0;
     settled = h.1;
   })
-  begin_takes (faults.StanzaMismatch kept found) h = of_pairs _ (λ f p q. record {
+  begin_takes (faults.StanzaMismatch kept found) h = of_pairs (λ f. HasOther b.stanza b.told f kept found) (λ f p q. record {
     archive = archive_info_of archive;
     backup = backup_info_of backup;
     pairs = record { archive = p; backup = q };
@@ -108,7 +113,7 @@ module _ (b : Before) (archive : rust_archive_info.ArchiveInfo) (backup : rust_b
     apart = h.1;
   })
   begin_takes faults.Running h = h
-  begin_takes (faults.TooMany limit) h = inl (h.0, if_as _ _ b.repo is_backup.0 (λ f q. (backup_info_of backup, q, h.1)))
+  begin_takes (faults.TooMany limit) h = inl (h.0, if_as (λ f. PairIs IsBackupText f (backup_info b.stanza) (backup_info_of backup)) (IsFull b.stanza) b.repo is_backup.0 (λ f q. (backup_info_of backup, q, h.1)))
   begin_takes (faults.WorkersLost lost) h = h
   begin_takes (faults.ClockBehind latest now) h = absurd h
   begin_takes (faults.LinkFound path) h = absurd h
@@ -123,8 +128,8 @@ module _ (b : Before) (archive : rust_archive_info.ArchiveInfo) (backup : rust_b
   draft_of seen listing list settles d full = record {
     stanza_is = full.stanza_is;
     full = (full.full, full.prior, full.old);
-    takes = if_as (λ f. IsTreeListing f seen) _ b.nodes listing (λ f l. (seen, l, full.takes));
-    list = of_pairs _ (λ f p q. record {
+    takes = if_as (λ f. IsTreeListing f seen) (λ f. (ns : List ListedNode) × IsTreeListing f ns × Takes false ns (taken_in d) (folders_in d)) b.nodes listing (λ f l. (seen, l, full.takes));
+    list = of_pairs (SettlesTo b.stanza (list_in d)) (λ f p q. record {
       archive = archive_info_of archive;
       backup = backup_info_of backup;
       pairs = record { archive = p; backup = q };
@@ -149,7 +154,7 @@ module _ (b : Before) (d : Draft) (of : IsDraftOf b d) (now : List LinkState) (m
   make_takes (faults.LinkFound path) h = absurd h
   make_takes (faults.NameRefused path) h = absurd h
   make_takes faults.ListingUnordered h = absurd h
-  make_takes (faults.ControlMissing path) h = inr (d, of, where_done b.used now comes d _ h)
+  make_takes (faults.ControlMissing path) h = inr (d, of, where_done b.used now comes d (λ ends. IsMissing (string_bytes path) (files_with d ends)) h)
   make_takes (faults.Unread path) h = (d, of, unread_used b.used now comes d path h)
-  make_takes (faults.TooLong name limit) (inl h) = (d, of, inl (h.0, h.1, where_done b.used now comes d _ h.2))
-  make_takes (faults.TooLong name limit) (inr h) = (d, of, inr (h.0, h.1, where_done b.used now comes d _ h.2))
+  make_takes (faults.TooLong name limit) (inl h) = (d, of, inl (h.0, h.1, where_done b.used now comes d (λ ends. (n : ℕ) × IsManifestTooLong d ends n) h.2))
+  make_takes (faults.TooLong name limit) (inr h) = (d, of, inr (h.0, h.1, where_done b.used now comes d (λ ends. (n : ℕ) × IsListTooLong d ends n) h.2))

@@ -1,5 +1,5 @@
 -- How the making of a backup ends the command, and why.
-use Rattle.std.proofs.Common.{◌≡◌, ◌⊎◌, inl, inr, ℕ, ◌<◌, ◌≤◌, ◌+◌, ◌^◌, List, Bool, true, Option, Some, None, String, Global, string_bytes, refl, sym, ◌∙◌, ap, subst, length, arith}
+use Rattle.std.proofs.Common.{◌≡◌, ◌⊎◌, inl, inr, ℕ, ◌<◌, ◌≤◌, ◌+◌, ◌^◌, List, Bool, true, false, Option, Some, None, String, Global, string_bytes, refl, sym, ◌∙◌, ap, subst, length, arith}
 use Rattle.std.specs.Prelude.{IfErr, IfSome, Result, Ok, Err}
 use Rattle.std.specs.Result.{IsErrAnd, is_ok}
 use Rattle.pgb_outside.specs.Cause.{Rises}
@@ -45,10 +45,10 @@ use Rattle.pgb_take.specs.Making.{IsEndOf, Well, Ill, Finishes, CannotRead, IsPa
 -- ---- a draft
 
 -- no backup may be made of a listing that is refused so
-pub plan_cause : (seen : List ListedNode) (result : Result _ PlanFault) (fault : PlanFault) (h : Halt TakeFault) → h ≡ of_plan fault → IsRefused (kept _ seen) fault → (result ≡ Err plans.Unordered → (nodes : Nodes) → ¬ IsTreeListing nodes seen) → result ≡ Err fault → HaltCause (ListingCause seen) (λ _. ⊥) h
+pub plan_cause : {T : Type 0} (seen : List ListedNode) (result : Result T PlanFault) (fault : PlanFault) (h : Halt TakeFault) → h ≡ of_plan fault → IsRefused (kept false seen) fault → (result ≡ Err plans.Unordered → (nodes : Nodes) → ¬ IsTreeListing nodes seen) → result ≡ Err fault → HaltCause (ListingCause seen) (λ _. ⊥) h
 plan_cause seen result fault h is refused orderly at = subst (HaltCause (ListingCause seen) (λ _. ⊥)) (sym is) (by fault refused at)
   where
-    by : (f : PlanFault) → IsRefused (kept _ seen) f → result ≡ Err f → HaltCause (ListingCause seen) (λ _. ⊥) (of_plan f)
+    by : (f : PlanFault) → IsRefused (kept false seen) f → result ≡ Err f → HaltCause (ListingCause seen) (λ _. ⊥) (of_plan f)
     by (plans.LinkFound path) r at = r
     by (plans.NameRefused path fault) r at = (fault, r)
     by plans.Unordered r at = orderly at

@@ -77,8 +77,8 @@ whole_after stanza command a b d rests same h = record {
 pub does_after : (stanza : Text) (command : Command) (reached : Reached) (a b d : View) → Rests a b → b.now ≡ a.now → Does Whole stanza command reached b d → Does Whole stanza command reached a d
 does_after stanza command reached a b d rests same h = record {
   part = part_after stanza command a b d rests same h.part;
-  whole = all_as reached _ _ (whole_after stanza command a b d rests same) h.whole;
-  turned = none_as reached _ _ (part_after stanza (turns_of command) a b d rests same) h.turned;
+  whole = all_as reached (DoesWhole Whole stanza command b d) (DoesWhole Whole stanza command a d) (whole_after stanza command a b d rests same) h.whole;
+  turned = none_as reached (DoesPart Whole stanza (turns_of command) b d) (DoesPart Whole stanza (turns_of command) a d) (part_after stanza (turns_of command) a b d rests same) h.turned;
 }
 
 -- ---- where it is refused before
@@ -140,7 +140,7 @@ module _ (stanza : Text) (told : Control) (archive : rust_archive_info.ArchiveIn
     (seen : List ListedNode) (list : BackupInfo) (settles : Settles (archive_info_of archive) (backup_info_of backup) list) (of : IsOf told (archive_info_of archive)) (room : length list.backups < most_backups)
     (draft : Draft) (is_draft : IsDraft draft) (full : IsFullOf stanza seen list draft) where
   follows : (label : Label) → label ≡ draft.label → IfSome old (MayFollow stanza told label)
-  follows label is = if_both _ _ (MayFollow stanza told label) old is_archive.0 is_backup.0 (λ f p q. record {
+  follows label is = if_both (λ f. HasValue stanza f (archive_info_of archive)) (λ f. PairIs IsBackupText f (backup_info stanza) (backup_info_of backup)) (MayFollow stanza told label) old is_archive.0 is_backup.0 (λ f p q. record {
     archive = archive_info_of archive;
     backup = backup_info_of backup;
     pairs = record { archive = p; backup = q };

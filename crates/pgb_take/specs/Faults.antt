@@ -1,6 +1,7 @@
 -- Which refusal of a backup a fault below is, and which refusals come before its first step.
 use Rattle.std.specs.Prelude.{◌≡◌, ℕ, Bool, true, String, string_bytes}
 use Rattle.std.specs.declared.alloc.Global.{Global}
+use Rattle.std.specs.Borrow.{Bor}
 use Rattle.pgb_model.specs.declared.labels.Label.{Label}
 use Rattle.pgb_model.specs.InfoFiles.{info_limit}
 use Rattle.pgb_model.specs.ManifestText.{manifest_limit}
@@ -53,7 +54,7 @@ of_second seconds.NoMemory = NoMemory
 pub data IsHaltOf (stanza : Text) (label : Label) (lost : ℕ) : MakeFault → Halt TakeFault → Type 0 where
   NoneLeft : IsHaltOf stanza label lost makes.WorkersLost (Refused (WorkersLost lost))
   NotRead : (path : String Global) → IsHaltOf stanza label lost (makes.Unread path) (Refused (Unread path))
-  Vanished : (path : _) (text : String Global) → string_bytes text ≡ path.now →
+  Vanished : (path : Bor Text) (text : String Global) → string_bytes text ≡ path.now →
       IsHaltOf stanza label lost (makes.ControlMissing path) (Refused (ControlMissing text))
   LongManifest : (length : ℕ) (name : String Global) → string_bytes name ≡ manifest_name stanza label →
       IsHaltOf stanza label lost (makes.ManifestTooLong length) (Refused (TooLong name manifest_limit))
