@@ -30,10 +30,6 @@ no_backup links stanza reached a d not still = (
 )
 
 module _ (one_list : OneList) (one_manifest : OneManifest) (draft : Draft) (links : List LinkState) (a d : View) (begins : BeginsFull draft a.now) where
-  -- how far it came, by its result
-  abbrev EndsAt : Result (Unit {0}) MakeFault → Reached → Type 0
-  EndsAt r reached = (reached ≡ to_end → is_ok r ≡ true) × (reached ≡ turned_back → IsErrAnd r (λ e. ¬ MayBeListed e))
-
   listed : (reached : Reached) (makes : Makes draft links true a d) → ¬ (reached ≡ turned_back) → Does Whole (stanza_of draft) (MakeBackup [] (full_backup draft links true a d makes) None) reached a d
   listed to_end makes not = record { part = made_part one_list one_manifest draft links a d begins true makes; whole = made_whole one_list one_manifest draft links a d begins true makes refl; turned = tt }
   listed turned_back makes not = absurd (not refl)

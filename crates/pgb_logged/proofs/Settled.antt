@@ -5,14 +5,13 @@ use Rattle.pgb_outside.specs.Content.{Content}
 use Rattle.pgb_model.specs.declared.clusters.Cluster.{Cluster}
 use Rattle.pgb_model.specs.Text.{Text}
 use Rattle.pgb_model.specs.Names.{copy_of, archive_info, backup_info}
-use Rattle.pgb_model.specs.Pair.{MemberIs, PairIs}
+use Rattle.pgb_model.specs.Pair.{MemberIs, PairIs, PairAbsent}
 use Rattle.pgb_model.specs.InfoFiles.{IsArchiveText, IsBackupText}
 use Rattle.pgb_model.specs.Values.{ArchiveInfo, BackupInfo, Entry}
 use Rattle.pgb_model.specs.Repository.{Stanza, Repository, identity_of}
 use Rattle.pgb_model.specs.Stands.{Stands, HasStanza, archive_value, backup_value}
 use Rattle.pgb_info.proofs.OneArchive.{one_archive_pair}
 use Rattle.pgb_stanza.specs.Judging.{Settles, As, Without}
-use Rattle.pgb_stanza.proofs.NewStanza.{no_pair}
 use Rattle.pgb_stage.specs.Current.{HasValue}
 use Rattle.pgb_record.specs.Record.{IsListOf}
 
@@ -31,6 +30,10 @@ one_pair one f n v w (inl x) (inr y) = absurd (y.0 v x)
 one_pair one f n v w (inr x) (inl y) = absurd (x.0 w y)
 one_pair one f n v w (inr x) (inr y) = one_member one f (copy_of n) v w x.1 y.1
 
+no_pair : (f : Content) (n : Text) (v : ArchiveInfo) → PairAbsent f n → PairIs IsArchiveText f n v → ⊥
+no_pair f n v absent (inl x) = let e : ◌≡◌ {A = Option Text} None (Some x.0) = sym absent.0 ∙ x.1 in cc
+no_pair f n v absent (inr x) = let e : ◌≡◌ {A = Option Text} None (Some x.1.0) = sym absent.1 ∙ x.1.1 in cc
+
 -- lists with one more at the end
 same_front : (xs ys : List Cluster) (x y : Cluster) → xs ++ x ∷ [] ≡ ys ++ y ∷ [] → xs ≡ ys
 same_front [] [] x y e = refl
@@ -44,7 +47,7 @@ same_front (a ∷ xs) (b ∷ ys) x y e =
 module _ (stanza : Text) (f : Content) (a : ArchiveInfo) (archive : HasValue stanza f a) where
   -- where the archive pair has a value there is a stanza
   pub has_stanza : (r : Repository) → Stands stanza f r → (s : Stanza) × (r ≡ Some s) × HasStanza stanza f s
-  has_stanza None x = absurd (no_pair IsArchiveText f (archive_info stanza) a x.archive_pair archive)
+  has_stanza None x = absurd (no_pair f (archive_info stanza) a x.archive_pair archive)
   has_stanza (Some s) h = (s, refl, h)
 
   module _ (one_list : OneList) (v w : BackupInfo) (backup : PairIs IsBackupText f (backup_info stanza) v) (settles : Settles a v w) (s : Stanza) (h : HasStanza stanza f s) where

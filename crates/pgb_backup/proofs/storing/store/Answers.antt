@@ -45,4 +45,4 @@ returns-in-Err-Unread-clause-fault g c =
     let links = map g.L.Link.link_state c.args.links.now.items in
     let left = map g.L.Link.link_state c.run_jobs.new.links.items in
     let u = unread_of (map job_of c.args.jobs.now) c.in-Err-Unread.field-0 c.in-Err-Unread.job c.in-Err-Unread.item links left c.args.lost.now.items c.run_jobs.new.lost.items c.in_ok-keep.keep.faults c.run_jobs.new.keep.faults c.in-Err-Unread.field-0-is c.in-Err-Unread.ensures.fault in
-    unread_item c.args.jobs.now links left c.args.lost.now.items c.in-Err-Unread.job c.in-Err-Unread.item u c.index-jobs-job.result c.index-jobs-job.is (string_bytes c.in_ok-path.path) c.in_ok-path.ensures
+    unread_item c.args.jobs.now links left c.args.lost.now.items c.in-Err-Unread.job c.in-Err-Unread.item u c.index-jobs-job.result c.index-jobs-job.is (string_bytes c.in_ok-path-in-Err-Unread.path) c.in_ok-path-in-Err-Unread.ensures
