@@ -1,5 +1,5 @@
 -- A backup as the way of a command: each content that may be left stands for the repository as it was, or with the backup.
-use Rattle.std.proofs.Common.{◌≡◌, ◌≢◌, ◌<◌, ◌⊎◌, ⊎_elim, inl, inr, ℕ, Bool, true, false, List, [], ◌∷◌, ◌++◌, Option, Some, None, refl, sym, ◌∙◌, ap, subst, arith}
+use Rattle.std.proofs.Common.{◌≡◌, ◌<◌, ◌⊎◌, ⊎_elim, inl, inr, ℕ, Bool, true, false, List, [], ◌∷◌, ◌++◌, Option, Some, None, refl, sym, ◌∙◌, ap, subst, arith}
 use Rattle.std.specs.Prelude.{IsSome}
 use Rattle.pgb_outside.specs.Content.{Name, Content}
 use Rattle.pgb_outside.specs.Moments.{View, is_loose}
@@ -15,7 +15,7 @@ use Rattle.pgb_model.specs.ManifestText.{IsManifestText}
 use Rattle.pgb_model.specs.Pair.{PairIs}
 use Rattle.pgb_model.specs.Place.{place}
 use Rattle.pgb_model.specs.Repository.{Backup, Stanza}
-use Rattle.pgb_model.specs.Stands.{Stands, HasStanza, IsArchiveFile, IsManifestOf, backup_value}
+use Rattle.pgb_model.specs.Stands.{Stands, HasStanza, IsManifestOf, backup_value}
 use Rattle.pgb_model.specs.Steps.{changed, AddBackup}
 use Rattle.pgb_model.specs.Log.{IsFixed, IsPlaceOf, Lists}
 use Rattle.pgb_model.specs.Steady.{IsSteady, Moves}
