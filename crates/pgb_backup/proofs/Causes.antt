@@ -29,7 +29,7 @@ later_rise a b c le rises = omega (arith, le, rises)
 module _ (d : Draft) (links left : List LinkState) (before after : List Lost) (told tells : ℕ) where
   pub store_fails : (e : MakeFault) (old new : ℕ) → StoreFails e (jobs_in d) links left before after old new → MakeFails e d links left before after old new told tells
   store_fails faults.WorkersLost old new h = h
-  store_fails (faults.Unread job item) old new h = h
+  store_fails (faults.Unread path) old new h = h
   store_fails (faults.ControlMissing path) old new h = absurd h
   store_fails (faults.ManifestTooLong n) old new h = absurd h
   store_fails (faults.ListTooLong n) old new h = absurd h
@@ -40,7 +40,7 @@ module _ (d : Draft) (links left : List LinkState) (before after : List Lost) (t
   module _ (ends : List (List Ended)) (done : IsDone d links ends) where
     pub prepare_fails : (e : MakeFault) (old new : ℕ) → PrepareFails e d ends told tells → MakeFails e d links left before after old new told tells
     prepare_fails faults.WorkersLost old new h = absurd h
-    prepare_fails (faults.Unread job item) old new h = absurd h
+    prepare_fails (faults.Unread path) old new h = absurd h
     prepare_fails (faults.ControlMissing path) old new h = (ends, done, h)
     prepare_fails (faults.ManifestTooLong n) old new h = absurd h
     prepare_fails (faults.ListTooLong n) old new h = (ends, done, h)

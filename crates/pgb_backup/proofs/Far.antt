@@ -39,7 +39,7 @@ use Rattle.pgb_record.proofs.Made.{in_map, of_map}
 use Rattle.pgb_backup.specs.declared.draft.Draft.{Draft}
 use Rattle.pgb_backup.specs.Draft.{stanza_of, pair_of, main_of, is_own_of, list_in, IsDraft}
 use Rattle.pgb_backup.proofs.Labels.{apart}
-use Rattle.pgb_backup.proofs.Moves.{IsClear, IsFar}
+use Rattle.pgb_backup.proofs.Unlisted.{IsClear, IsFar}
 
 -- ---- texts without a slash
 

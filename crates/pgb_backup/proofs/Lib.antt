@@ -3,9 +3,12 @@ pub mod Came
 pub mod Nows
 pub mod Commits
 pub mod Outcomes
+pub mod Besides
+pub mod Unreads
 pub mod Sound
 pub mod Drafted
 pub mod Listed
+pub mod Unlisted
 pub mod Moves
 pub mod Backups
 pub mod Labels
@@ -13,3 +16,4 @@ pub mod Far
 pub mod Offline
 pub mod Mixing
 pub mod Causes
+pub mod Alikes

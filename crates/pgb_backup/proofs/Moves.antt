@@ -1,5 +1,5 @@
 -- A backup as the way of a command: each content that may be left stands for the repository as it was, or with the backup.
-use Rattle.std.proofs.Common.{◌≡◌, ◌≢◌, ◌<◌, ◌⊎◌, ⊎_elim, inl, inr, ℕ, Bool, true, false, List, [], ◌∷◌, ◌++◌, Option, Some, None, refl, sym, ◌∙◌, ap, subst, arith}
+use Rattle.std.proofs.Common.{◌≡◌, ◌<◌, ◌⊎◌, ⊎_elim, inl, inr, ℕ, Bool, true, false, List, [], ◌∷◌, ◌++◌, Option, Some, None, refl, sym, ◌∙◌, ap, subst, arith}
 use Rattle.std.specs.Prelude.{IsSome}
 use Rattle.pgb_outside.specs.Content.{Name, Content}
 use Rattle.pgb_outside.specs.Moments.{View, is_loose}
@@ -15,13 +15,11 @@ use Rattle.pgb_model.specs.ManifestText.{IsManifestText}
 use Rattle.pgb_model.specs.Pair.{PairIs}
 use Rattle.pgb_model.specs.Place.{place}
 use Rattle.pgb_model.specs.Repository.{Backup, Stanza}
-use Rattle.pgb_model.specs.Stands.{Stands, HasStanza, IsArchiveFile, IsManifestOf, backup_value}
+use Rattle.pgb_model.specs.Stands.{Stands, HasStanza, IsManifestOf, backup_value}
 use Rattle.pgb_model.specs.Steps.{changed, AddBackup}
 use Rattle.pgb_model.specs.Log.{IsFixed, IsPlaceOf, Lists}
 use Rattle.pgb_model.specs.Steady.{IsSteady, Moves}
-use Rattle.pgb_model.proofs.Temporary.{fixed_lasts}
-use Rattle.pgb_model.proofs.Frame.{pair_same}
-use Rattle.pgb_label.specs.Way.{MayLoosen, IsBeside}
+use Rattle.pgb_label.specs.Way.{IsBeside}
 use Rattle.pgb_plan.proofs.Lists.{in_parts}
 use Rattle.pgb_record.specs.Item.{IsItem}
 use Rattle.pgb_record.specs.Making.{entry_with}
@@ -33,27 +31,8 @@ use Rattle.pgb_backup.specs.Draft.{stanza_of, pair_of, main_of, is_own_of, jobs_
 use Rattle.pgb_backup.specs.Made.{IsTightAt, HasBackup, Makes}
 use Rattle.pgb_backup.proofs.Came.{counts, kept_count}
 use Rattle.pgb_backup.proofs.Drafted.{reads}
-use Rattle.pgb_backup.proofs.Listed.{AgreesBelow, still_stands, listed_more_stands}
-
--- the name is none that a backup changes
-pub record IsClear (own : Name → Bool) (pair main : Name) (n : Name) : Type 0 where
-  pub out : own n ≡ false
-  pub lasts : ¬ IsTemporary n
-  pub pair_off : n ≢ pair
-  pub copy_off : n ≢ copy_of pair
-  pub main_off : n ≢ main
-  pub main_copy_off : n ≢ copy_of main
-
--- all that is looked at of a stanza that doesn't list the label is clear
-pub record IsFar (stanza : Text) (own : Name → Bool) (pair : Name) (s : Stanza) : Type 0 where
-  pub archive : IsClear own pair (backup_info stanza) (archive_info stanza) × IsClear own pair (backup_info stanza) (copy_of (archive_info stanza))
-  pub files : (n : Text) → IsArchiveFile stanza n → IsClear own pair (backup_info stanza) n
-  pub manifests : (f : Content) → HasStanza stanza f s → (l : Label) → Lists stanza f l → IsClear own pair (backup_info stanza) (manifest_name stanza l) × IsClear own pair (backup_info stanza) (copy_of (manifest_name stanza l))
-  pub places : (f : Content) → HasStanza stanza f s → (n : Text) → IsPlaceOf stanza f n → IsClear own pair (backup_info stanza) n
-  pub fixed : (n : Text) → IsFixed stanza n → own n ≡ false
-  pub list : (backup_info stanza ≢ pair) × (backup_info stanza ≢ copy_of pair) × (copy_of (backup_info stanza) ≢ pair) × (copy_of (backup_info stanza) ≢ copy_of pair)
-  pub list_lasts : (¬ IsTemporary (backup_info stanza)) × (¬ IsTemporary (copy_of (backup_info stanza)))
-  pub list_out : (own (backup_info stanza) ≡ false) × (own (copy_of (backup_info stanza)) ≡ false)
+use Rattle.pgb_backup.proofs.Listed.{AgreesBelow, listed_more_stands}
+use Rattle.pgb_backup.proofs.Unlisted.{IsClear, IsFar, beside_stands, stays_tight, fixed_tight, old_place_tight, beside_place_tight}
 
 -- Each content that may be left is, at all places that it leads to, like one that has the prior's manifest as it was read.
 abbrev pub IsMixed : Text → Stanza → Option PriorRead → View → Type 0
@@ -87,23 +66,6 @@ module _ (draft : Draft) (is_draft : IsDraft draft) (links : List LinkState) (wh
   named : b.entry.label ≡ label
   named = sym adds.is.head.label ∙ ap (λ (m : Manifest). m.label) makes.manifest_is
 
-  beside_below : (f g : Content) → HasStanza stanza f s → IsBeside own pair f g → AgreesBelow stanza f g
-  beside_below f g h x = record {
-    archive = (by (archive_info stanza) far.archive.0, by (copy_of (archive_info stanza)) far.archive.1);
-    files = λ n file. by n (far.files n file);
-    manifests = λ l listed. let y = far.manifests f h l listed in (by (manifest_name stanza l) y.0, by (copy_of (manifest_name stanza l)) y.1);
-    places = λ n p. by n (far.places f h n p);
-  }
-    where
-      by : (n : Name) → IsClear own pair (backup_info stanza) n → g n ≡ f n
-      by n c = x.others n c.out c.lasts c.pair_off c.copy_off
-
-  beside_list : (f g : Content) → IsBeside own pair f g → (g (backup_info stanza) ≡ f (backup_info stanza)) × (g (copy_of (backup_info stanza)) ≡ f (copy_of (backup_info stanza)))
-  beside_list f g x = (
-    x.others (backup_info stanza) far.list_out.0 far.list_lasts.0 far.list.0 far.list.1,
-    x.others (copy_of (backup_info stanza)) far.list_out.1 far.list_lasts.1 far.list.2 far.list.3,
-  )
-
   listed_same : (f g : Content) → Listed f g → (n : Name) → IsClear own pair (backup_info stanza) n → g n ≡ f n
   listed_same f g x n c = x.others n c.out c.lasts c.pair_off c.copy_off c.main_off c.main_copy_off
 
@@ -114,10 +76,6 @@ module _ (draft : Draft) (is_draft : IsDraft draft) (links : List LinkState) (wh
     manifests = λ l listed. let y = far.manifests f h l listed in (listed_same f g x (manifest_name stanza l) y.0, listed_same f g x (copy_of (manifest_name stanza l)) y.1);
     places = λ n p. listed_same f g x n (far.places f h n p);
   }
-
-  -- a content beside one that has the stanza has it too
-  pub beside_stands : (f g : Content) → HasStanza (stanza_of draft) f s → IsBeside (is_own_of draft) (pair_of draft) f g → HasStanza (stanza_of draft) g s
-  beside_stands f g h x = still_stands stanza f g (beside_below f g h x) s h (beside_list f g x)
 
   all_reads : AreReads (jobs_in draft)
   all_reads = reads draft is_draft
@@ -142,42 +100,21 @@ module _ (draft : Draft) (is_draft : IsDraft draft) (links : List LinkState) (wh
     with_it f g leaves x = let m = mixed f leaves in listed_stands f g (steady.stands f leaves) (m.0, m.2, m.3) x
 
     part : (g : Content) → (f : Content) × Leaves a a.moment f × (IsBeside own pair f g ⊎ Listed f g) → Stands stanza g (Some s) ⊎ Stands stanza g (Some after)
-    part g x = ⊎_elim (λ y. inl (beside_stands x.0 g (steady.stands x.0 x.1) y)) (λ y. inr (with_it x.0 g x.1 y)) x.2
-
-    out_of : (n : Name) → own n ≡ false → ¬ IsTemporary n → ¬ MayLoosen own n
-    out_of n out lasts m = ⊎_elim (λ (is : own n ≡ true). let u : ◌≡◌ {A = Bool} true false = sym is ∙ out in cc) lasts m
+    part g x = ⊎_elim (λ y. inl (beside_stands draft s far x.0 g (steady.stands x.0 x.1) y)) (λ y. inr (with_it x.0 g x.1 y)) x.2
 
     stays : (n : Name) → own n ≡ false → ¬ IsTemporary n → is_loose a n ≡ false → is_loose d n ≡ false
-    stays n out lasts h = (makes.way tight).tight d.moment n (makes.way tight).later (omega arith) (out_of n out lasts) h
+    stays n out lasts h = stays_tight draft s far a d _ (makes.way tight) steady n out lasts h
 
     fixed : (n : Text) → IsFixed stanza n → is_loose d n ≡ false
-    fixed n h = stays n (far.fixed n h) (fixed_lasts stanza n h) (steady.fixed n h)
+    fixed n h = fixed_tight draft s far a d _ (makes.way tight) steady n h
 
     -- ---- the places of what may be left
 
-    -- where f lists the label, a place of g is one of f
-    place_back : (f g : Content) → AgreesBelow stanza f g → (n : Text) → (p : IsPlaceOf stanza g n) → Lists stanza f p.label → IsPlaceOf stanza f n
-    place_back f g agrees n p listed = record {
-      label = p.label;
-      listed = listed;
-      manifest = p.manifest;
-      reads = pair_same IsManifestText g f (manifest_name stanza p.label) p.manifest (sym (agrees.manifests p.label listed).0) (sym (agrees.manifests p.label listed).1) p.reads;
-      entry = p.entry;
-      of_it = p.of_it;
-      filled = p.filled;
-      is = p.is;
-    }
-
     old_place : (f g : Content) → Leaves a a.moment f → AgreesBelow stanza f g → (n : Text) → (p : IsPlaceOf stanza g n) → Lists stanza f p.label → is_loose d n ≡ false
-    old_place f g leaves agrees n p listed =
-        let q = place_back f g agrees n p listed in
-        let c = far.places f (steady.stands f leaves) n q in
-        stays n c.out c.lasts (steady.places f leaves n q)
+    old_place f g leaves agrees n p listed = old_place_tight draft s far a d _ (makes.way tight) steady f g leaves agrees n p listed
 
     beside_place : (f g : Content) → Leaves a a.moment f → IsBeside own pair f g → (n : Text) → IsPlaceOf stanza g n → is_loose d n ≡ false
-    beside_place f g leaves x n p =
-        let list = beside_list f g x in
-        old_place f g leaves (beside_below f g (steady.stands f leaves) x) n p (p.listed.0, pair_same IsBackupText g f (backup_info stanza) p.listed.0 (sym list.0) (sym list.1) p.listed.1, p.listed.2)
+    beside_place f g leaves x n p = beside_place_tight draft s far a d _ (makes.way tight) steady f g leaves x n p
 
     -- what the new list has is listed, or is the backup
     entries_of : (c : Option Cluster) → (backup_value s c).backups ≡ (backup_value s None).backups

@@ -42,6 +42,7 @@ use Rattle.pgb_backup.specs.declared.draft.Draft.{Draft}
 use Rattle.pgb_backup.specs.Draft.{taken_in, old_in, jobs_in, went_with, IsDraft}
 use Rattle.pgb_backup.specs.Made.{Makes}
 use Rattle.pgb_backup.proofs.Drafted.{one, reads}
+use Rattle.pgb_backup.proofs.Unreads.{in_at}
 
 -- ---- a file without a job is empty
 
@@ -120,11 +121,6 @@ read_there x file held Vanished h = absurd h
 
 kind_of : (kind : JobKind) (tree repo : Content) (xs : List Item) (ds : List Done) → kind ≡ Read → AllEndByFile kind tree repo xs ds → AllEndByFile Read tree repo xs ds
 kind_of kind tree repo xs ds is all = subst (λ (k : JobKind). AllEndByFile k tree repo xs ds) is all
-
-in_at : {X : Type 0} (xs : List X) (i : ℕ) (x : X) → slice_get xs i ≡ Some x → In x xs
-in_at [] i x is = absurd (let e : ◌≡◌ {A = Option _} None (Some x) = is in cc)
-in_at (y ∷ ys) zero x is = inl (let e : ◌≡◌ {A = Option _} (Some y) (Some x) = is in cc)
-in_at (y ∷ ys) (suc i) x is = inr (in_at ys i x is)
 
 no_bytes : (t : Text) → length t ≡ 0 → [] ≡ t
 no_bytes [] e = refl

@@ -1,10 +1,12 @@
 -- Why a backup isn't made, and what is left then. Own.
-use Rattle.std.specs.Prelude.{◌≡◌, ◌<◌, ℕ, List, Some, map, length}
-use Rattle.pgb_outside.specs.Links.{LinkState}
+use Rattle.std.specs.Prelude.{◌≡◌, ◌<◌, ℕ, List, [], ◌∷◌, Some, length, slice_get, string_bytes}
+use Rattle.pgb_outside.specs.Links.{LinkState, last_five}
 use Rattle.pgb_outside.specs.Cause.{Rises}
 use Rattle.pgb_outside.specs.declared.stop.Stop.{Stop}
 use Rattle.pgb_outside.specs.declared.stop.Stop.TheVariants as stops
-use Rattle.pgb_worker_frame.specs.Frames.{Job}
+use Rattle.pgb_worker_frame.specs.Frames.{Item, Job, spell}
+use Rattle.pgb_worker_frame.specs.Frames.Frame.{Unread}
+use Rattle.pgb_model.specs.Text.{Text, In}
 use Rattle.pgb_model.specs.InfoText.{info_text}
 use Rattle.pgb_model.specs.InfoFiles.{backup_sections, info_limit}
 use Rattle.pgb_model.specs.ManifestText.{manifest_limit}
@@ -17,7 +19,8 @@ use Rattle.pgb_manifest.specs.Keeping.{manifest_text}
 use Rattle.pgb_worker_keep.specs.KeepState.{Kept}
 use Rattle.pgb_label.specs.declared.keeper.Ended.{Ended}
 use Rattle.pgb_worker_dispatch.specs.declared.fault.Lost.{Lost}
-use Rattle.pgb_worker_dispatch.specs.Run.{AllDone, AllLost, UnreadLeaves, begun}
+use Rattle.pgb_worker_reply.specs.Reads.{UnreadBy}
+use Rattle.pgb_worker_dispatch.specs.Run.{AllDone, AllLost, begun}
 use Rattle.pgb_record.specs.declared.recording.RecordFault.{RecordFault}
 use Rattle.pgb_record.specs.declared.recording.RecordFault.TheVariants as records
 use Rattle.pgb_record.specs.Ends.{AreAllEnds}
@@ -46,11 +49,26 @@ abbrev pub fault_of_save : SaveFault → MakeFault
 fault_of_save saves.Disk = faults.Disk
 fault_of_save saves.NoMemory = faults.NoMemory
 
+-- A worker on one of these links couldn't read an item of this path, which is one of the jobs', and answered so. Its link alone is left.
+pub record IsUnread (jobs : List Job) (links left : List LinkState) (path : Text) : Type 0 where
+  pub now : LinkState
+  pub is : left ≡ now ∷ []
+  pub given : last_five now.given ≡ spell Unread
+  pub link : ℕ
+  pub from : LinkState
+  pub from_is : slice_get links link ≡ Some from
+  pub job : Job
+  pub asked : In job jobs
+  pub item : Item
+  pub of_job : In item job.items
+  pub path_is : item.path ≡ path
+  pub unread : UnreadBy from.told item
+
 -- Why the jobs over these links weren't stored: each link is lost, and its entry tells why; or the worker on the one link that is left
--- couldn't read the item; or the disk failed, which its count shows; or memory ran out.
+-- couldn't read a file; or the disk failed, which its count shows; or memory ran out.
 abbrev pub StoreFails : MakeFault → List Job → List LinkState → List LinkState → List Lost → List Lost → ℕ → ℕ → Type 0
 StoreFails faults.WorkersLost jobs links left before after old new = AllLost jobs (begun links before) after
-StoreFails (faults.Unread job item) jobs links left before after old new = UnreadLeaves jobs (begun links before) job item (map Some left)
+StoreFails (faults.Unread path) jobs links left before after old new = IsUnread jobs links left (string_bytes path)
 StoreFails (faults.ControlMissing path) jobs links left before after old new = ⊥
 StoreFails (faults.ManifestTooLong n) jobs links left before after old new = ⊥
 StoreFails (faults.ListTooLong n) jobs links left before after old new = ⊥
@@ -77,7 +95,7 @@ pub record IsManifestTooLong (d : Draft) (ends : List (List Ended)) (n : ℕ) : 
 -- Why no second is told.
 abbrev pub StopFails : MakeFault → ℕ → ℕ → Type 0
 StopFails faults.WorkersLost old new = ⊥
-StopFails (faults.Unread job item) old new = ⊥
+StopFails (faults.Unread path) old new = ⊥
 StopFails (faults.ControlMissing path) old new = ⊥
 StopFails (faults.ManifestTooLong n) old new = ⊥
 StopFails (faults.ListTooLong n) old new = ⊥
@@ -88,7 +106,7 @@ StopFails faults.NoMemory old new = Unit {0}
 -- Why a list of so many bytes has no text.
 abbrev pub ListFails : MakeFault → ℕ → Type 0
 ListFails faults.WorkersLost count = ⊥
-ListFails (faults.Unread job item) count = ⊥
+ListFails (faults.Unread path) count = ⊥
 ListFails (faults.ControlMissing path) count = ⊥
 ListFails (faults.ManifestTooLong n) count = ⊥
 ListFails (faults.ListTooLong n) count = (n ≡ count) × (info_limit < n)
@@ -99,7 +117,7 @@ ListFails faults.NoMemory count = Unit {0}
 -- Why nothing is prepared of a draft whose jobs ended so, between two counts of the clock's faults.
 abbrev pub PrepareFails : MakeFault → Draft → List (List Ended) → ℕ → ℕ → Type 0
 PrepareFails faults.WorkersLost d ends old new = ⊥
-PrepareFails (faults.Unread job item) d ends old new = ⊥
+PrepareFails (faults.Unread path) d ends old new = ⊥
 PrepareFails (faults.ControlMissing path) d ends old new = IsMissing path.now (files_with d ends)
 PrepareFails (faults.ManifestTooLong n) d ends old new = ⊥
 PrepareFails (faults.ListTooLong n) d ends old new = IsListTooLong d ends n
@@ -120,7 +138,7 @@ WhereDone d links P = (ends : List (List Ended)) × IsDone d links ends × P end
 -- Why a backup isn't made: of what is told above, and of what ended.
 abbrev pub MakeFails : MakeFault → Draft → List LinkState → List LinkState → List Lost → List Lost → ℕ → ℕ → ℕ → ℕ → Type 0
 MakeFails faults.WorkersLost d links left before after old new told tells = AllLost (jobs_in d) (begun links before) after
-MakeFails (faults.Unread job item) d links left before after old new told tells = UnreadLeaves (jobs_in d) (begun links before) job item (map Some left)
+MakeFails (faults.Unread path) d links left before after old new told tells = IsUnread (jobs_in d) links left (string_bytes path)
 MakeFails (faults.ControlMissing path) d links left before after old new told tells = WhereDone d links (λ ends. IsMissing path.now (files_with d ends))
 MakeFails (faults.ManifestTooLong n) d links left before after old new told tells = WhereDone d links (λ ends. IsManifestTooLong d ends n)
 MakeFails (faults.ListTooLong n) d links left before after old new told tells = WhereDone d links (λ ends. IsListTooLong d ends n)

@@ -21,6 +21,7 @@ use Rattle.pgb_record.specs.Faults.{HasControl}
 use Rattle.pgb_record.specs.Making.{IsListWith}
 use Rattle.pgb_backup.specs.declared.draft.Draft.{Draft}
 use Rattle.pgb_backup.specs.declared.fault.MakeFault.{MakeFault}
+use Rattle.pgb_backup.specs.declared.fault.MakeFault.TheVariants as faults
 use Rattle.pgb_backup.specs.Draft.{jobs_in, list_in, pair_of, main_of, is_own_of, manifest_at}
 use Rattle.pgb_backup.specs.Stored.{AreNames}
 
@@ -84,7 +85,18 @@ pub record LeavesList (d : Draft) (old new : View) : Type 0 where
   pub now : NowGoes (IsBeside (is_own_of d) (pair_of d)) old.now new.now
   pub way : IsTightAt (pair_of d) (main_of d) old → Way (MayLoosen (is_own_of d)) (IsBeside (is_own_of d) (pair_of d)) old new
 
--- at Ok it is listed; else nothing is, or it may be
+-- after such a fault the backup may be listed: the list's saving may have come to it
+abbrev pub MayBeListed : MakeFault → Type 0
+MayBeListed faults.WorkersLost = ⊥
+MayBeListed (faults.Unread path) = ⊥
+MayBeListed (faults.ControlMissing path) = ⊥
+MayBeListed (faults.ManifestTooLong n) = ⊥
+MayBeListed (faults.ListTooLong n) = ⊥
+MayBeListed faults.Clock = ⊥
+MayBeListed faults.Disk = Unit {0}
+MayBeListed faults.NoMemory = Unit {0}
+
+-- at Ok it is listed; else the list stays, or after some faults it may be
 abbrev pub Outcome : Result (Unit {0}) MakeFault → Draft → List LinkState → View → View → Type 0
 Outcome (Ok x) d links old new = Makes d links true old new
-Outcome (Err e) d links old new = LeavesList d old new ⊎ Makes d links false old new
+Outcome (Err e) d links old new = LeavesList d old new ⊎ (MayBeListed e × Makes d links false old new)

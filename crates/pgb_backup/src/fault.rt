@@ -6,12 +6,12 @@ use pgb_record::RecordFault;
 use std::alloc::AllocError;
 
 /// Why a backup isn't made.
-#[derive(Clone, Copy, Debug, PartialEq, Eq)]
+#[derive(Debug, Drop)]
 pub enum MakeFault {
     /// No link is left, and a job hasn't ended.
     WorkersLost,
-    /// A worker couldn't read this item of this job.
-    Unread { job: u32, item: u32 },
+    /// A worker couldn't read the file of this path.
+    Unread { path: String },
     /// A file without which there is no backup vanished.
     ControlMissing { path: &'static str },
     /// The manifest would have so many bytes, which are too many.

@@ -1,9 +1,11 @@
 // A backup.
-ghost use Rattle.std.specs.Prelude.{◌≡◌, ◌<◌, ◌^◌, ℕ, Some, map, vec_len, slice_get, IfErr, OnOk};
+ghost use Rattle.std.specs.Prelude.{◌≡◌, ◌<◌, ◌≤◌, ◌^◌, ℕ, Some, map, vec_len, slice_get, IfErr, IfSome, IsSome, OnOk};
 ghost use Rattle.pgb_outside.specs.Links.{LinkState};
 ghost use Rattle.pgb_outside.specs.States.{Frame};
+ghost use Rattle.pgb_story.specs.Beside.{StaysBeside};
 ghost use Rattle.pgb_worker_dispatch.specs.Run.{AddsLosses, Left, IsReady};
-ghost use Rattle.pgb_backup.specs.Draft.{IsDraft, jobs_in};
+ghost use Rattle.pgb_backup.specs.Draft.{IsDraft, jobs_in, main_of};
+ghost use Rattle.pgb_stanza.specs.Pairs.{AgreeAt};
 ghost use Rattle.pgb_backup.specs.Faults.{MakeFails};
 ghost use Rattle.pgb_backup.specs.Made.{Outcome};
 
@@ -33,10 +35,15 @@ pub fn make<D: Disk, L: Link, U: Turns, C: Clock>(
     requires ready { (i : ℕ) (s : LinkState) → slice_get (map L.link_state links.old.items) i ≡ Some s → IsReady s }
 
     // The stanza's list is as it was, or the backup is listed, of the bytes that the links read; and so it is in what a
-    // stop leaves, at each moment. At Ok it is listed.
+    // stop leaves, at each moment. At Ok both members of the list's pair have it, and at an error it may be listed only
+    // where the disk failed or memory ran out. Nothing beside the stanza's folders is changed.
     ensures made { Outcome result draft.entry (map L.link_state links.old.items) (D.state d.old).view
         (D.state d.new).view }
+    ensures alike { OnOk result (IsSome (D.state d.old).view.now
+        → IfSome (D.state d.new).view.now (AgreeAt (main_of draft.entry))) }
+    ensures beside { StaysBeside draft.entry.stanza.now (D.state d.old).view (D.state d.new).view }
     ensures frame { Frame (D.state d.old) (D.state d.new) }
+    ensures later { (C.state clock.old).faults ≤ (C.state clock.new).faults }
 
     // Each link that was lost is told, and at Ok the others are left.
     ensures left { OnOk result (Left (jobs_in draft.entry) (map L.link_state links.old.items)

@@ -37,6 +37,7 @@ pub(crate) struct Prepared {
 // The second in which the last job has ended.
 fn stop_of<C: Clock>(clock: &mut C) -> Result<u64, MakeFault>
     ensures within { IfOk result (λ now. now ≤ last_second) }
+    ensures later { (C.state clock.old).faults ≤ (C.state clock.new).faults }
     ensures fault { IfErr result (λ e. StopFails e (C.state clock.old).faults (C.state clock.new).faults) }
 {
     match clock.now() {
@@ -119,6 +120,7 @@ pub(crate) fn prepare<C: Clock>(
     ensures prepares { IfOk result (λ p. Prepares draft.entry (map (λ v. v.items) ends.now) (manifest_of p.manifest)
         p.text.items) }
     ensures main { IfOk result (λ p. string_bytes p.main ≡ main_of draft.entry) }
+    ensures later { (C.state clock.old).faults ≤ (C.state clock.new).faults }
     ensures fault { IfErr result (λ e. PrepareFails e draft.entry (map (λ v. v.items) ends.now)
         (C.state clock.old).faults (C.state clock.new).faults) }
 {

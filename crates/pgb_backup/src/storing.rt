@@ -2,7 +2,7 @@
 ghost use Rattle.std.specs.Prelude.{◌≡◌, ◌<◌, ◌^◌, ℕ, Some, All, map, length, vec_len, slice_get, string_bytes, IfOk, IfErr, OnOk};
 ghost use Rattle.pgb_outside.specs.Links.{LinkState};
 ghost use Rattle.pgb_outside.specs.States.{Frame};
-ghost use Rattle.pgb_worker_frame.specs.Frames.{FitsJob};
+ghost use Rattle.pgb_worker_frame.specs.Frames.{FitsJob, Item};
 ghost use Rattle.pgb_worker_frame.specs.Views.{job_of};
 ghost use Rattle.pgb_worker_dispatch.specs.Payloads.{AllByFile};
 ghost use Rattle.pgb_worker_dispatch.specs.Run.{AllDone, AddsLosses, Left, IsReady};
@@ -18,7 +18,16 @@ use pgb_label::{BackupKeeper, seal};
 use pgb_outside::{Disk, Link, Turns};
 use pgb_worker_dispatch::{DispatchFault, Lost, run_jobs};
 use pgb_worker_frame::Job;
-use std::alloc::Global;
+use std::alloc::{AllocError, Global};
+
+// The path of an item of a job.
+fn path_at(alloc: Global, job: &Job, item: u32) -> Result<String, AllocError>
+    requires { item < vec_len job.now.items }
+    ensures { IfOk result (λ path. (i : Item) → slice_get (job_of job.now).items item ≡ Some i
+        → i.path ≡ string_bytes path) }
+{
+    String::from_str(alloc, &job.items[item as usize].path)
+}
 
 /// Has the jobs done, and stores the bytes of each at its name below the folder, to last. What is stored may be partial
 /// where it fails.
@@ -70,7 +79,10 @@ pub fn store<'a, D: Disk, L: Link, U: Turns>(
             Ok(keep)
         }
         Err(DispatchFault::WorkersLost) => Err(MakeFault::WorkersLost),
-        Err(DispatchFault::Unread { job, item }) => Err(MakeFault::Unread { job, item }),
+        Err(DispatchFault::Unread { job, item }) => {
+            let path = path_at(alloc, &jobs[job as usize], item)?;
+            Err(MakeFault::Unread { path })
+        }
         Err(DispatchFault::Keep) => Err(MakeFault::Disk),
         Err(DispatchFault::NoMemory) => Err(MakeFault::NoMemory),
     }

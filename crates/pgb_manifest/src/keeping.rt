@@ -4,6 +4,7 @@ ghost use Rattle.pgb_outside.specs.States.{Looks, Frame};
 ghost use Rattle.pgb_outside.specs.Moments.{is_loose};
 ghost use Rattle.pgb_outside.specs.Crash.{Crash, Ends, NowGoes, FirstOf, AllOf};
 ghost use Rattle.pgb_outside.specs.Cause.{Rises};
+ghost use Rattle.pgb_disk.specs.Store.{ChangesOnly};
 ghost use Rattle.pgb_model.specs.Create.{member_writes};
 ghost use Rattle.pgb_model.specs.InfoText.{info_text};
 ghost use Rattle.pgb_model.specs.InfoFiles.{IsLabel};
@@ -12,6 +13,7 @@ ghost use Rattle.pgb_model.specs.Names.{copy_of, manifest_name};
 ghost use Rattle.pgb_model.specs.Pair.{PairIs};
 ghost use Rattle.pgb_model.specs.Values.{manifest_of};
 ghost use Rattle.pgb_pair.specs.Causes.{PairCause};
+ghost use Rattle.pgb_pair.specs.Member.{IsOfPair};
 ghost use Rattle.pgb_manifest.specs.Keeping.{manifest_text, own_name, IfTooLong};
 ghost use Rattle.pgb_manifest.specs.ManifestForm.{IsManifestForm};
 
@@ -80,6 +82,7 @@ pub fn save_manifest<D: Disk>(
     ensures now_whole { OnOk result
         (NowGoes (AllOf (member_writes (own_name stanza.now m.now) (manifest_text (manifest_of m.now))))
         (D.state d.old).view.now (D.state d.new).view.now) }
+    ensures only { ChangesOnly (IsOfPair (own_name stanza.now m.now)) (D.state d.old).view (D.state d.new).view }
     ensures frame { Frame (D.state d.old) (D.state d.new) }
     ensures within { OnOk result (length (manifest_text (manifest_of m.now)) ≤ manifest_limit) }
     ensures long { IfErr result (λ e. IfTooLong e

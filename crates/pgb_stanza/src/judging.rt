@@ -147,6 +147,27 @@ fn check_current(archive: &ArchiveInfo, told: &Control) -> Result<(), StanzaFaul
     Ok(())
 }
 
+/// The stanza's list without a cluster that is still to come, where the two values fit together and are of the cluster
+/// that is told.
+pub fn fit_list(
+    archive: &ArchiveInfo,
+    backup: BackupInfo,
+    told: &Control,
+) -> Result<BackupInfo, StanzaFault>
+    requires archive { IsArchiveInfo (archive_info_of archive.now) }
+    requires backup { IsBackupInfo (backup_info_of backup) }
+    ensures settled { IfOk result
+        (λ w. Settles (archive_info_of archive.now) (backup_info_of backup) (backup_info_of w)) }
+    ensures of { OnOk result (IsOf told.now (archive_info_of archive.now)) }
+    ensures valid { IfOk result (λ w. IsBackupInfo (backup_info_of w)) }
+    ensures unfit { IfErr result (Unfit told.now (archive_info_of archive.now) (backup_info_of backup)) }
+    ensures label { IfErr result (λ e. IfLost e IsLabel) }
+{
+    let backup = settle(archive, backup)?;
+    check_current(archive, told)?;
+    Ok(backup)
+}
+
 /// What is kept of two values that fit together and are of the cluster that is told.
 pub(crate) fn fit(
     archive: ArchiveInfo,
@@ -163,8 +184,7 @@ pub(crate) fn fit(
     ensures unfit { IfErr result (Unfit told.now (archive_info_of archive) (backup_info_of backup)) }
     ensures label { IfErr result (λ e. IfLost e IsLabel) }
 {
-    let backup = settle(&archive, backup)?;
-    check_current(&archive, told)?;
+    let backup = fit_list(&archive, backup, told)?;
     Ok(Kept { archive, backup })
 }
 

@@ -4,6 +4,7 @@ use Rattle.pgb_model.specs.Create.{member_writes}
 use Rattle.pgb_model.specs.Values.{manifest_of}
 use Rattle.pgb_manifest.specs.Keeping.{manifest_text, own_name}
 use Rattle.pgb_manifest.proofs.MemberNames.{manifest_named}
+use Rattle.pgb_pair.proofs.Owned.{none_owned, owned_as}
 use Rattle.pgb_manifest.proofs.keeping.save_manifest.Goals as goal
 
 pub returns-in_err-name-clause-crash : goal.returns-in_err-name-clause-crash
@@ -17,3 +18,18 @@ returns-then-length-gt-LIMIT-clause-crash g c = λ main copy. crash_none (member
 
 pub save_text-requires : goal.save_text-requires
 save_text-requires g c = manifest_named c.args.stanza.now c.args.m.now.label _ (c.as_str.ensures.value ∙ c.in_ok-name.ensures)
+
+pub returns-in_err-name-clause-only : goal.returns-in_err-name-clause-only
+returns-in_err-name-clause-only g c = none_owned (own_name c.args.stanza.now c.args.m.now) _
+
+pub returns-in_err-text-clause-only : goal.returns-in_err-text-clause-only
+returns-in_err-text-clause-only g c = none_owned (own_name c.args.stanza.now c.args.m.now) _
+
+pub returns-then-length-gt-LIMIT-clause-only : goal.returns-then-length-gt-LIMIT-clause-only
+returns-then-length-gt-LIMIT-clause-only g c = none_owned (own_name c.args.stanza.now c.args.m.now) _
+
+pub returns-in_err-save_text-clause-only : goal.returns-in_err-save_text-clause-only
+returns-in_err-save_text-clause-only g c = owned_as (own_name c.args.stanza.now c.args.m.now) _ _ _ (c.as_str.ensures.value ∙ c.in_ok-name.ensures) c.save_text.ensures.only
+
+pub returns-clause-only : goal.returns-clause-only
+returns-clause-only g c = owned_as (own_name c.args.stanza.now c.args.m.now) _ _ _ (c.as_str.ensures.value ∙ c.in_ok-name.ensures) c.save_text.ensures.only

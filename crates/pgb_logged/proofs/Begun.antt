@@ -1,0 +1,65 @@
+-- What a full backup begins from.
+use Rattle.std.proofs.Common.{◌≡◌, inl, Bool, true, false, [], Option, Some, None, refl, sym, ◌∙◌, subst}
+use Rattle.std.specs.Prelude.{IfSome, IsSome}
+use Rattle.pgb_outside.specs.Content.{Content}
+use Rattle.pgb_outside.specs.Moments.{View}
+use Rattle.pgb_model.specs.Text.{Text}
+use Rattle.pgb_model.specs.Names.{backup_info}
+use Rattle.pgb_model.specs.InfoFiles.{IsBackupText}
+use Rattle.pgb_model.specs.Pair.{PairIs}
+use Rattle.pgb_model.specs.Values.{ArchiveInfo, BackupInfo}
+use Rattle.pgb_model.specs.Repository.{Stanza, Repository}
+use Rattle.pgb_model.specs.Stands.{Stands, HasStanza}
+use Rattle.pgb_model.specs.Now.{NowStands}
+use Rattle.pgb_model.specs.Steady.{IsSteady}
+use Rattle.pgb_stanza.specs.Judging.{Settles}
+use Rattle.pgb_stage.specs.Current.{HasValue}
+use Rattle.pgb_record.specs.Record.{IsListOf}
+use Rattle.pgb_backup.specs.declared.draft.Draft.{Draft}
+use Rattle.pgb_backup.specs.Draft.{stanza_of, old_in, list_in, IsDraft}
+use Rattle.pgb_logged.proofs.Settled.{OneList, has_stanza, settled_list}
+
+-- The draft is that of a full backup, and its list is what is kept of the values of the stanza's two pairs.
+pub record BeginsFull (draft : Draft) (now : Option Content) : Type 0 where
+  pub is_draft : IsDraft draft
+  pub no_old : old_in draft ≡ []
+  pub no_prior : draft.prior ≡ None
+  pub archive : ArchiveInfo
+  pub backup : BackupInfo
+  pub archive_read : IfSome now (λ f. HasValue (stanza_of draft) f archive)
+  pub backup_read : IfSome now (λ f. PairIs IsBackupText f (backup_info (stanza_of draft)) backup)
+  pub settles : Settles archive backup (list_in draft)
+
+-- what the disk holds, where it is told
+pub told_as : (o : Option Content) → IsSome o → (f : Content) × (o ≡ Some f)
+told_as None told = cc
+told_as (Some f) told = (f, refl)
+
+if_some : (now : Option Content) (f : Content) (P : Content → Type 0) → IfSome now P → now ≡ Some f → P f
+if_some now f P h is = let x : IfSome (Some f) P = subst (λ (o : Option Content). IfSome o P) is h in x
+
+-- what is told stands for a repository
+pub at_now : (stanza : Text) (now : Option Content) (g : Content) → now ≡ Some g → (r : Repository) → Stands stanza g r → NowStands stanza r now
+at_now stanza now g is r x = record {
+  stands = λ k is_k. let same : g ≡ k = (let e : ◌≡◌ {A = Option Content} (Some g) (Some k) = sym is ∙ is_k in cc) in subst (λ (c : Content). Stands stanza c r) same x;
+}
+
+module _ (one_list : OneList) (draft : Draft) (a : View) (begins : BeginsFull draft a.now) where
+  -- it stands for a stanza
+  pub stanza_there : (f : Content) → a.now ≡ Some f → (r : Repository) → Stands (stanza_of draft) f r → (s : Stanza) × (r ≡ Some s) × HasStanza (stanza_of draft) f s
+  stanza_there f is = has_stanza (stanza_of draft) f begins.archive (if_some a.now f (λ f. HasValue (stanza_of draft) f begins.archive) begins.archive_read is)
+
+  -- whose list is the draft's
+  pub list_there : (f : Content) → a.now ≡ Some f → (s : Stanza) → HasStanza (stanza_of draft) f s → IsListOf s (list_in draft)
+  list_there f is s h = settled_list (stanza_of draft) f begins.archive (if_some a.now f (λ f. HasValue (stanza_of draft) f begins.archive) begins.archive_read is) one_list begins.backup (list_in draft)
+      (if_some a.now f (λ f. PairIs IsBackupText f (backup_info (stanza_of draft)) begins.backup) begins.backup_read is) begins.settles s h
+
+  -- a steady disk is steady at one
+  pub no_vacant : IsSome a.now → ¬ IsSteady (stanza_of draft) None a
+  no_vacant some steady =
+      let f = told_as a.now some in
+      let x = stanza_there f.0 f.1 None (steady.stands f.0 (inl f.1)) in
+      let e : ◌≡◌ {A = Option Stanza} None (Some x.0) = x.1 in cc
+
+  pub steady_list : IsSome a.now → (s : Stanza) → IsSteady (stanza_of draft) (Some s) a → IsListOf s (list_in draft)
+  steady_list some s steady = let f = told_as a.now some in list_there f.0 f.1 s (steady.stands f.0 (inl f.1))

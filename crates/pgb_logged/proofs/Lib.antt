@@ -1,0 +1,9 @@
+pub mod Values
+pub mod Settled
+pub mod Reading
+pub mod Folders
+pub mod Begun
+pub mod Unlisted
+pub mod Made
+pub mod Full
+pub mod Added

@@ -1,0 +1,151 @@
+-- The files of a full backup have the bytes that its links read.
+use Rattle.std.proofs.Common.{◌≡◌, ◌<◌, ℕ, zero, suc, Bool, true, false, List, [], ◌∷◌, ◌++◌, length, map, Option, Some, None, refl, sym, ◌∙◌, ap, subst, arith, slice_get}
+use Rattle.std.specs.Prelude.{IfSome, unwrap_or, option_and_then}
+use Rattle.std.specs.FinMap.{is_sorted, get, get-empty, empty}
+use Rattle.pgb_outside.specs.Moments.{View}
+use Rattle.pgb_outside.specs.Links.{LinkState, Told}
+use Rattle.pgb_worker_frame.specs.declared.frames.JobKind.{JobKind}
+use Rattle.pgb_worker_frame.specs.declared.frames.JobKind.TheVariants.{Read}
+use Rattle.pgb_worker_frame.specs.declared.frames.Root.TheVariants.{Tree}
+use Rattle.pgb_worker_frame.specs.Frames.{Item, Job}
+use Rattle.pgb_model.specs.declared.labels.Kind.TheVariants.{Full}
+use Rattle.pgb_model.specs.Text.{Text, text_cmp}
+use Rattle.pgb_model.specs.Values.{FileEntry}
+use Rattle.pgb_model.specs.Repository.{File, Backup}
+use Rattle.pgb_worker_keep.specs.declared.ItemEnd.{ItemEnd}
+use Rattle.pgb_worker_keep.specs.declared.ItemEnd.TheVariants.{Whole, Vanished}
+use Rattle.pgb_worker_keep.specs.KeepState.{Held, Done, Kept}
+use Rattle.pgb_worker_reply.specs.Reads.{ReadBy, EndsAs, AllEnd}
+use Rattle.pgb_worker_dispatch.specs.Run.{EndedBy}
+use Rattle.pgb_label.specs.declared.keeper.Ended.{Ended}
+use Rattle.pgb_label.proofs.Kept.{some_and}
+use Rattle.pgb_plan.specs.declared.values.Choice.{Choice}
+use Rattle.pgb_plan.specs.declared.values.Choice.TheVariants.{Skip, Empty, Alone, Bundle, Last}
+use Rattle.pgb_plan.specs.Listed.{Taken, entry_at}
+use Rattle.pgb_plan.specs.Layout.{Layout, item_for, read_job, layout, bundles, jobs_of}
+use Rattle.pgb_plan.specs.Spots.{HasItem, HaveItems}
+use Rattle.pgb_plan.proofs.Places.{at_front, have_items}
+use Rattle.pgb_record.specs.Ends.{JobsCome}
+use Rattle.pgb_record.specs.Entries.{Went, entry_for, rows, bytes_for, told_at, file_of, bundle_job_number, last_job_number}
+use Rattle.pgb_record.specs.Making.{backup_with}
+use Rattle.pgb_record.proofs.Coming.{bundle_at, last_at}
+use Rattle.pgb_record.proofs.Made.{of_map}
+use Rattle.pgb_record.proofs.Maps.{map_of}
+use Rattle.pgb_record.proofs.Rows.{rows_each}
+use Rattle.pgb_record.proofs.Sorted.{path_of, rows_sorted}
+use Rattle.pgb_backup.specs.declared.draft.Draft.{Draft}
+use Rattle.pgb_backup.specs.Draft.{taken_in, old_in, jobs_in, went_with, IsDraft}
+use Rattle.pgb_backup.specs.Made.{Makes}
+use Rattle.pgb_backup.proofs.Drafted.{one, reads}
+use Rattle.pgb_backup.proofs.Unreads.{in_at}
+use Rattle.pgb_logged.specs.Backups.{IsReadBy}
+use Rattle.pgb_logged.proofs.Values.{value_in}
+
+-- each file's entry with the bytes that came of it
+abbrev pub rows_of : Draft → List (List Ended) → List Kept → List (FileEntry × Text)
+rows_of draft ends kept = rows (went_with draft ends) (map_of []) kept (taken_in draft) draft.plan.choices.items
+
+-- the backup that is made of what came
+abbrev pub full_backup : (draft : Draft) (links : List LinkState) (whole : Bool) (a d : View) → Makes draft links whole a d → Backup
+full_backup draft links whole a d makes = backup_with makes.manifest makes.listed.references (map_of (map file_of (rows_of draft makes.ends makes.kept)))
+
+-- a backup without files
+abbrev pub no_files : Backup
+no_files = record {
+  entry = record { label = record { full = 0; later = None }; kind = Full; prior = None; references = []; db = 0; span = None; start = 0; stop = 0; size = 0; stored = 0 };
+  wal = None;
+  choices = record { bundle = false; delta = false };
+  folders = [];
+  files = empty;
+}
+
+pub no_files_read : (links : List LinkState) → IsReadBy links no_files
+no_files_read links = record { read = λ path x is some. absurd (let e : ◌≡◌ {A = Option File} None (Some x) = sym (get-empty {X = File} text_cmp path) ∙ is in cc) }
+
+-- one of these links read the bytes in the data folder at the path
+abbrev IsOfLink : List LinkState → Text → Text → Type 0
+IsOfLink links path bytes = (link : ℕ) × (from : LinkState) × (i : Item) × (slice_get links link ≡ Some from) × (i.root ≡ Tree) × (i.path ≡ path) × ReadBy from.told i bytes
+
+-- ---- an item that ended
+
+held_is : (o : Option Text) (b : Text) → IfSome o (λ t. t ≡ b) → 0 < length (unwrap_or o []) → unwrap_or o [] ≡ b
+held_is None b h some = absurd (omega (arith, some))
+held_is (Some t) b h some = h
+
+item_read : (from : Option Told) (i : Item) (held : Held) (how : ItemEnd) → EndsAs from Read i held how → 0 < length (unwrap_or held.told []) → ReadBy from i (unwrap_or held.told [])
+item_read from i held (Whole n sum) h some = subst (λ (t : Text). ReadBy from i t) (sym (held_is held.told h.bytes h.holds.1 some)) h.read
+item_read from i held Vanished h some = let none = ap (λ (t : Text). length t) (held_is held.told [] h.0.1 some) in absurd (omega (arith, some, none))
+
+item_ended : (from : Option Told) (xs : List Item) (ds : List Done) (k : ℕ) (x : Item) → AllEnd from Read xs ds → slice_get xs k ≡ Some x → (d : Done) × (slice_get ds k ≡ Some d) × EndsAs from Read x d.held d.end
+item_ended from [] [] k x all is = absurd (let e : ◌≡◌ {A = Option Item} None (Some x) = is in cc)
+item_ended from [] (d ∷ ds) k x all is = absurd all
+item_ended from (y ∷ xs) [] k x all is = absurd all
+item_ended from (y ∷ xs) (d ∷ ds) zero x all is = let same : y ≡ x = (let e : ◌≡◌ {A = Option Item} (Some y) (Some x) = is in cc) in (d, refl, subst (λ (z : Item). EndsAs from Read z d.held d.end) same all.0)
+item_ended from (y ∷ xs) (d ∷ ds) (suc k) x all is = item_ended from xs ds k x all.1 is
+
+held_at : (kept : List Kept) (job item : ℕ) (k : Kept) (d : Done) → slice_get kept job ≡ Some k → slice_get k.done item ≡ Some d → told_at kept job item ≡ unwrap_or d.held.told []
+held_at kept job item k d a b =
+    ap (λ (o : Option Kept). unwrap_or (option_and_then (λ (k : Kept). option_and_then (λ (d : Done). d.held.told) (slice_get k.done item)) o) []) a
+    ∙ ap (λ (o : Option Done). unwrap_or (option_and_then (λ (d : Done). d.held.told) o) []) b
+
+-- ---- the files
+
+module _ (draft : Draft) (is_draft : IsDraft draft) (links : List LinkState) (whole : Bool) (a d : View) (makes : Makes draft links whole a d) (full : old_in draft ≡ []) where
+  abbrev w : Went
+  w = went_with draft makes.ends
+
+  abbrev l : Layout
+  l = layout is_draft.plan.settings (old_in draft) (taken_in draft) is_draft.plan.equal
+
+  come : JobsCome (jobs_of l) makes.ends
+  come = subst (λ (js : List Job). JobsCome js makes.ends) is_draft.plan.jobs makes.come
+
+  -- what came of a file's item was read by a link
+  came : (f : Taken) (job item : ℕ) (asked : Job) → slice_get (jobs_of l) job ≡ Some asked → slice_get asked.items item ≡ Some (item_for f) → 0 < length (told_at makes.kept job item) → IsOfLink links f.path (told_at makes.kept job item)
+  came f job item asked asked_is item_is some =
+      let in_jobs : slice_get (jobs_in draft) job ≡ Some asked = ap (λ (js : List Job). slice_get js job) is_draft.plan.jobs ∙ asked_is in
+      let k = some_and (slice_get makes.kept job) (λ k. EndedBy links asked k) (makes.received job asked in_jobs) in
+      let e : EndedBy links asked k.0 = k.2 in
+      let reading = reads draft is_draft asked (in_at (jobs_in draft) job asked in_jobs) in
+      let all : AllEnd e.from.told Read asked.items k.0.done = subst (λ (kind : JobKind). AllEnd e.from.told kind asked.items k.0.done) reading e.items in
+      let x = item_ended e.from.told asked.items k.0.done item (item_for f) all item_is in
+      let told = held_at makes.kept job item k.0 x.0 k.1 x.1 in
+      let read = item_read e.from.told (item_for f) x.0.held x.0.end x.2 (subst (λ (t : Text). 0 < length t) told some) in
+      (e.link, e.from, item_for f, e.is, refl, refl, subst (λ (t : Text). ReadBy e.from.told (item_for f) t) (sym told) read)
+
+  came_of : (f : Taken) (c : Choice) → HasItem (old_in draft) l f c → 0 < length (bytes_for w (map_of []) makes.kept f c) → IsOfLink links f.path (bytes_for w (map_of []) makes.kept f c)
+  came_of f Skip was some = absurd (let x : ◌≡◌ {A = Option FileEntry} None (Some was.entry) = ap (λ (es : List FileEntry). entry_at f.path es) (sym full) ∙ was.is in cc)
+  came_of f Empty was some = absurd (omega (arith, some))
+  came_of f (Alone job) was some =
+      let here = at_front (l.singles ++ bundles l) l.last job (read_job (item_for f ∷ [])) (at_front l.singles (bundles l) job (read_job (item_for f ∷ [])) was) in
+      came f job 0 (read_job (item_for f ∷ [])) here refl some
+  came_of f (Bundle number item) was some =
+      let here = bundle_at w l is_draft.plan.singles (one draft is_draft) come number (read_job was.1.items) was.1.is in
+      came f (bundle_job_number w number) item (read_job was.1.items) here was.1.item_is some
+  came_of f Last was some =
+      let here = last_at w l is_draft.plan.singles (one draft is_draft) come (read_job (item_for f ∷ [])) was in
+      came f (last_job_number w) 0 (read_job (item_for f ∷ [])) here refl some
+
+  abbrev IsRowRead : FileEntry × Text → Type 0
+  IsRowRead r = 0 < length r.1 → IsOfLink links r.0.path r.1
+
+  row : (f : Taken) (c : Choice) (e : FileEntry) → HasItem (old_in draft) l f c → entry_for w f c ≡ Some e → 0 < length (bytes_for w (map_of []) makes.kept f c) → IsOfLink links e.path (bytes_for w (map_of []) makes.kept f c)
+  row f c e was is some = subst (λ (p : Text). IsOfLink links p (bytes_for w (map_of []) makes.kept f c)) (sym (path_of w f c e is)) (came_of f c was some)
+
+  have : HaveItems (old_in draft) l (taken_in draft) draft.plan.choices.items
+  have = subst (λ (cs : List Choice). HaveItems (old_in draft) l (taken_in draft) cs) (sym is_draft.plan.choices) (have_items is_draft.plan.settings (old_in draft) (taken_in draft) is_draft.plan.equal is_draft.plan.same)
+
+  pub files_sorted : is_sorted text_cmp (map file_of (rows_of draft makes.ends makes.kept)) ≡ true
+  files_sorted = rows_sorted w (map_of []) makes.kept (taken_in draft) draft.plan.choices.items is_draft.listing.file_order
+
+  file_read : (path : Text) (x : File) → get (map_of (map file_of (rows_of draft makes.ends makes.kept))) path ≡ Some x → 0 < length x.bytes → IsOfLink links path x.bytes
+  file_read path x is some =
+      let at = value_in (map file_of (rows_of draft makes.ends makes.kept)) path x files_sorted is in
+      let r = of_map file_of (let z : Text × File = (path, x) in z) (rows_of draft makes.ends makes.kept) at in
+      let same_path : path ≡ r.0.0.path = ap (λ (z : Text × File). z.0) r.2 in
+      let same_bytes : x.bytes ≡ r.0.1 = ap (λ (z : Text × File). z.1.bytes) r.2 in
+      let read = rows_each IsRowRead w (map_of []) makes.kept l row (taken_in draft) draft.plan.choices.items have r.0 r.1 (subst (λ (t : Text). 0 < length t) same_bytes some) in
+      subst (λ (p : Text). IsOfLink links p x.bytes) (sym same_path) (subst (λ (t : Text). IsOfLink links r.0.0.path t) (sym same_bytes) read)
+
+  pub full_read : IsReadBy links (full_backup draft links whole a d makes)
+  full_read = record { read = file_read }

@@ -1,0 +1,160 @@
+-- Why a backup is refused, from what stood before.
+use Rattle.std.proofs.Common.{◌≡◌, inl, inr, ℕ, ◌<◌, ◌≤◌, ◌^◌, List, [], Option, Some, None, Bool, false, string_bytes, refl, sym, ◌∙◌, subst, length}
+use Rattle.std.specs.Prelude.{IfSome}
+use Rattle.pgb_outside.specs.Content.{Content}
+use Rattle.pgb_outside.specs.Links.{LinkState}
+use Rattle.pgb_outside.specs.Tree.{Nodes, IsTreeListing}
+use Rattle.pgb_model.specs.declared.clusters.ArchiveInfo as rust_archive_info
+use Rattle.pgb_model.specs.declared.clusters.BackupInfo as rust_backup_info
+use Rattle.pgb_model.specs.InfoFiles.{IsBackupText}
+use Rattle.pgb_model.specs.Names.{backup_info}
+use Rattle.pgb_model.specs.Pair.{PairIs}
+use Rattle.pgb_model.specs.Values.{ArchiveInfo, BackupInfo, archive_info_of, backup_info_of}
+use Rattle.pgb_worker_dispatch.specs.declared.fault.Lost.{Lost}
+use Rattle.pgb_worker_dispatch.specs.Run.{Left}
+use Rattle.pgb_plan.specs.Filter.{ListedNode, Takes}
+use Rattle.pgb_label.specs.declared.keeper.Ended.{Ended}
+use Rattle.pgb_record.specs.Faults.{IsMissing}
+use Rattle.pgb_stage.specs.Current.{HasValue}
+use Rattle.pgb_stanza.specs.Causes.{HistoriesDiffer, HasOther}
+use Rattle.pgb_stanza.specs.Judging.{Settles}
+use Rattle.pgb_backup.specs.declared.draft.Draft.{Draft}
+use Rattle.pgb_backup.specs.Draft.{taken_in, folders_in, jobs_in, files_with, list_in}
+use Rattle.pgb_backup.specs.Faults.{IsManifestTooLong, IsListTooLong}
+use Rattle.pgb_stage.specs.declared.object.Object.{Object}
+use Rattle.pgb_stage.specs.declared.object.Object.TheVariants as objects
+use Rattle.pgb_stage.specs.Halts.{Only}
+use Rattle.pgb_stage.specs.Risen.{none, rose_in}
+use Rattle.pgb_prepare.specs.Readies.{IsArchiveOf, IsBackupOf}
+use Rattle.pgb_take.specs.declared.fault.TakeFault.{TakeFault}
+use Rattle.pgb_take.specs.declared.fault.TakeFault.TheVariants as faults
+use Rattle.pgb_take.specs.Beginning.{BeginCause}
+use Rattle.pgb_take.specs.Causes.{Before, SettlesTo, IsDraftOf, IsFull, TakeCause}
+use Rattle.pgb_take.specs.Drafting.{IsFullOf, ListingCause, DraftCause}
+use Rattle.pgb_take.specs.Making.{MakeCause, LosesAll}
+use Rattle.pgb_take.proofs.Links.{Comes, left_comes, where_done, unread_used, all_used_lost, within_count}
+use Rattle.pgb_take.proofs.Makings.{Either}
+
+-- ---- what is told of a content
+
+pub if_as : {X : Type 0} (P Q : X → Type 0) (o : Option X) → IfSome o P → ((x : X) → P x → Q x) → IfSome o Q
+if_as P Q None p to = tt
+if_as P Q (Some x) p to = to x p
+
+pub if_both : {X : Type 0} (P Q R : X → Type 0) (o : Option X) → IfSome o P → IfSome o Q → ((x : X) → P x → Q x → R x) → IfSome o R
+if_both P Q R None p q to = tt
+if_both P Q R (Some x) p q to = to x p q
+
+-- ---- which object failed
+
+abbrev pub Any : Type 0 → Type 0 → Type 0 → Object → Type 0
+Any repo tree clock = rose_in (record none { repo = repo; tree = tree; clock = clock })
+
+pub folder_any : (repo tree clock : Type 0) (o : Object) → Only objects.DataFolder tree o → Any repo tree clock o
+folder_any repo tree clock o h = subst (Any repo tree clock) (sym h.0) h.1
+
+pub either_any : (repo later tree clock past : Type 0) → (repo → later) → (clock → past) → (o : Object) → Either repo clock o → Any later tree past o
+either_any repo later tree clock past to_repo to_clock objects.Repo h = to_repo h
+either_any repo later tree clock past to_repo to_clock objects.Spool h = absurd h
+either_any repo later tree clock past to_repo to_clock objects.DataFolder h = absurd h
+either_any repo later tree clock past to_repo to_clock objects.Server h = absurd h
+either_any repo later tree clock past to_repo to_clock objects.Others h = absurd h
+either_any repo later tree clock past to_repo to_clock objects.Clock h = to_clock h
+either_any repo later tree clock past to_repo to_clock objects.Locks h = absurd h
+either_any repo later tree clock past to_repo to_clock objects.Config h = absurd h
+either_any repo later tree clock past to_repo to_clock objects.Output h = absurd h
+
+-- ---- what a listing is refused for
+
+none_shows : (seen : List ListedNode) (nodes : Option Nodes) → IfSome nodes (λ f. IsTreeListing f seen) → ((f : Nodes) → ¬ IsTreeListing f seen) → nodes ≡ None
+none_shows seen None listing not = refl
+none_shows seen (Some f) listing not = absurd (not f listing)
+
+module _ (b : Before) (seen : List ListedNode) (listing : IfSome b.nodes (λ f. IsTreeListing f seen)) where
+  shows : (P : List ListedNode → Type 0) → P seen → IfSome b.nodes (λ f. (ns : List ListedNode) × IsTreeListing f ns × P ns)
+  shows P p = if_as (λ f. IsTreeListing f seen) (λ f. (ns : List ListedNode) × IsTreeListing f ns × P ns) b.nodes listing (λ f l. (seen, l, p))
+
+  pub draft_takes : (e : TakeFault) → DraftCause seen b.least e → TakeCause b e
+  draft_takes (faults.HistoryDiffers at) h = absurd h
+  draft_takes (faults.StanzaMismatch kept found) h = absurd h
+  draft_takes faults.Running h = absurd h
+  draft_takes (faults.TooMany limit) h = inr (shows (λ ns. ListingCause ns (faults.TooMany limit)) h)
+  draft_takes (faults.WorkersLost lost) h = absurd h
+  draft_takes (faults.ClockBehind latest now) h = h
+  draft_takes (faults.LinkFound path) h = shows (λ ns. ListingCause ns (faults.LinkFound path)) h
+  draft_takes (faults.NameRefused path) h = shows (λ ns. ListingCause ns (faults.NameRefused path)) h
+  draft_takes faults.ListingUnordered h = none_shows seen b.nodes listing h
+  draft_takes (faults.ControlMissing path) h = inl (shows (λ ns. ListingCause ns (faults.ControlMissing path)) h)
+  draft_takes (faults.Unread path) h = absurd h
+  draft_takes (faults.TooLong name limit) h = absurd h
+
+module _ (b : Before) (archive : rust_archive_info.ArchiveInfo) (backup : rust_backup_info.BackupInfo) (is_archive : IsArchiveOf b.stanza b.repo archive) (is_backup : IsBackupOf b.stanza b.repo backup) where
+  -- what both pairs have
+  pub of_pairs : (P : Content → Type 0) → ((f : Content) → HasValue b.stanza f (archive_info_of archive) → PairIs IsBackupText f (backup_info b.stanza) (backup_info_of backup) → P f) → IfSome b.repo P
+  of_pairs P to = if_both (λ f. HasValue b.stanza f (archive_info_of archive)) (λ f. PairIs IsBackupText f (backup_info b.stanza) (backup_info_of backup)) P b.repo is_archive.0 is_backup.0 to
+
+  pub begin_takes : (e : TakeFault) → BeginCause b.told (archive_info_of archive) (backup_info_of backup) b.nodes b.used e → TakeCause b e
+  begin_takes (faults.HistoryDiffers at) h = of_pairs (λ f. HistoriesDiffer b.stanza f at) (λ f p q. record {
+    archive = archive_info_of archive;
+    backup = backup_info_of backup;
+    pairs = record { archive = p; backup = q };
+    differ = h.0;
+    settled = h.1;
+  })
+  begin_takes (faults.StanzaMismatch kept found) h = of_pairs (λ f. HasOther b.stanza b.told f kept found) (λ f p q. record {
+    archive = archive_info_of archive;
+    backup = backup_info_of backup;
+    pairs = record { archive = p; backup = q };
+    together = h.0;
+    current = h.3.0;
+    is_current = h.3.1;
+    is_kept = h.3.2;
+    is_found = h.2;
+    apart = h.1;
+  })
+  begin_takes faults.Running h = h
+  begin_takes (faults.TooMany limit) h = inl (h.0, if_as (λ f. PairIs IsBackupText f (backup_info b.stanza) (backup_info_of backup)) (IsFull b.stanza) b.repo is_backup.0 (λ f q. (backup_info_of backup, q, h.1)))
+  begin_takes (faults.WorkersLost lost) h = h
+  begin_takes (faults.ClockBehind latest now) h = absurd h
+  begin_takes (faults.LinkFound path) h = absurd h
+  begin_takes (faults.NameRefused path) h = absurd h
+  begin_takes faults.ListingUnordered h = absurd h
+  begin_takes (faults.ControlMissing path) h = absurd h
+  begin_takes (faults.Unread path) h = absurd h
+  begin_takes (faults.TooLong name limit) h = absurd h
+
+  -- a draft of the folder that was listed
+  pub draft_of : (seen : List ListedNode) → IfSome b.nodes (λ f. IsTreeListing f seen) → (list : BackupInfo) → Settles (archive_info_of archive) (backup_info_of backup) list → (d : Draft) → IsFullOf b.stanza seen list d → IsDraftOf b d
+  draft_of seen listing list settles d full = record {
+    stanza_is = full.stanza_is;
+    full = (full.full, full.prior, full.old);
+    takes = if_as (λ f. IsTreeListing f seen) (λ f. (ns : List ListedNode) × IsTreeListing f ns × Takes false ns (taken_in d) (folders_in d)) b.nodes listing (λ f l. (seen, l, full.takes));
+    list = of_pairs (SettlesTo b.stanza (list_in d)) (λ f p q. record {
+      archive = archive_info_of archive;
+      backup = backup_info_of backup;
+      pairs = record { archive = p; backup = q };
+      settles = subst (λ (w : BackupInfo). Settles (archive_info_of archive) (backup_info_of backup) w) (sym full.list_is) settles;
+    });
+  }
+
+-- ---- why the draft's backup isn't made
+
+module _ (b : Before) (d : Draft) (of : IsDraftOf b d) (now : List LinkState) (mid : List Lost) (l : Left [] b.used [] mid now) (few : length b.used < 2 ^ 32) where
+  comes : Comes b.used now
+  comes = left_comes b.used now [] mid l
+
+  pub make_takes : (e : TakeFault) → MakeCause d now mid e → TakeCause b e
+  make_takes (faults.HistoryDiffers at) h = absurd h
+  make_takes (faults.StanzaMismatch kept found) h = absurd h
+  make_takes faults.Running h = absurd h
+  make_takes (faults.TooMany limit) h = absurd h
+  make_takes (faults.WorkersLost lost) h = all_used_lost (jobs_in d) b.used now mid h.after l h.all lost
+      (within_count (jobs_in d) b.used now mid h.after l h.all lost (2 ^ 32) h.count few)
+  make_takes (faults.ClockBehind latest second) h = absurd h
+  make_takes (faults.LinkFound path) h = absurd h
+  make_takes (faults.NameRefused path) h = absurd h
+  make_takes faults.ListingUnordered h = absurd h
+  make_takes (faults.ControlMissing path) h = inr (d, of, where_done b.used now comes d (λ ends. IsMissing (string_bytes path) (files_with d ends)) h)
+  make_takes (faults.Unread path) h = (d, of, unread_used b.used now comes d path h)
+  make_takes (faults.TooLong name limit) (inl h) = (d, of, inl (h.0, h.1, where_done b.used now comes d (λ ends. (n : ℕ) × IsManifestTooLong d ends n) h.2))
+  make_takes (faults.TooLong name limit) (inr h) = (d, of, inr (h.0, h.1, where_done b.used now comes d (λ ends. (n : ℕ) × IsListTooLong d ends n) h.2))

@@ -1,0 +1,6 @@
+pub mod Statuses
+pub mod Links
+pub mod Beginnings
+pub mod Makings
+pub mod Causes
+pub mod Takings

@@ -1,0 +1,145 @@
+-- How the making of a backup ends the command, and why.
+use Rattle.std.proofs.Common.{◌≡◌, ◌⊎◌, inl, inr, ℕ, ◌<◌, ◌≤◌, ◌+◌, ◌^◌, List, Bool, true, false, Option, Some, None, String, Global, string_bytes, refl, sym, ◌∙◌, ap, subst, length, arith}
+use Rattle.std.specs.Prelude.{IfErr, IfSome, Result, Ok, Err}
+use Rattle.std.specs.Result.{IsErrAnd, is_ok}
+use Rattle.pgb_outside.specs.Cause.{Rises}
+use Rattle.pgb_outside.specs.Links.{LinkState}
+use Rattle.pgb_outside.specs.Moments.{View}
+use Rattle.pgb_outside.specs.States.{ClockState}
+use Rattle.pgb_outside.specs.Tree.{Nodes, IsTreeListing}
+use Rattle.pgb_model.specs.InfoFiles.{info_limit}
+use Rattle.pgb_model.specs.ManifestText.{manifest_limit}
+use Rattle.pgb_model.specs.Text.{Text}
+use Rattle.pgb_worker_dispatch.specs.declared.fault.Lost.{Lost}
+use Rattle.pgb_worker_dispatch.specs.Run.{AllLost, begun}
+use Rattle.pgb_plan.specs.declared.fault.PlanFault.{PlanFault}
+use Rattle.pgb_plan.specs.declared.fault.PlanFault.TheVariants as plans
+use Rattle.pgb_plan.specs.Filter.{ListedNode, kept, IsRefused}
+use Rattle.pgb_label.specs.declared.keeper.Ended.{Ended}
+use Rattle.pgb_record.specs.Faults.{IsMissing}
+use Rattle.pgb_draft.specs.declared.fault.SecondFault.{SecondFault}
+use Rattle.pgb_draft.specs.declared.fault.SecondFault.TheVariants as seconds
+use Rattle.pgb_draft.specs.Seconds.{SecondCause}
+use Rattle.pgb_backup.specs.declared.draft.Draft.{Draft}
+use Rattle.pgb_backup.specs.declared.fault.MakeFault.{MakeFault}
+use Rattle.pgb_backup.specs.declared.fault.MakeFault.TheVariants as makes
+use Rattle.pgb_backup.specs.Draft.{stanza_of, jobs_in, files_with, pair_of, main_of}
+use Rattle.pgb_backup.specs.Faults.{MakeFails, IsUnread, WhereDone, IsManifestTooLong, IsListTooLong}
+use Rattle.pgb_backup.specs.Made.{Outcome as Makes, MayBeListed}
+use Rattle.pgb_stage.specs.declared.object.Object.{Object}
+use Rattle.pgb_stage.specs.declared.object.Object.TheVariants as objects
+use Rattle.pgb_stage.specs.declared.halt.Halt.{Halt}
+use Rattle.pgb_stage.specs.declared.halt.Halt.TheVariants.{Refused, Failed, NoMemory}
+use Rattle.pgb_stage.specs.declared.outcome.Outcome.{Outcome}
+use Rattle.pgb_stage.specs.declared.outcome.Outcome.TheVariants.{Finished, Absent}
+use Rattle.pgb_stage.specs.Halts.{HaltCause}
+use Rattle.pgb_stage.specs.Reached.{reached_by}
+use Rattle.pgb_stage.specs.Risen.{none, rose_in}
+use Rattle.pgb_stage.specs.Runs.{Reached, to_end, turned_back, stopped}
+use Rattle.pgb_take.specs.declared.fault.TakeFault.{TakeFault}
+use Rattle.pgb_take.specs.declared.fault.TakeFault.TheVariants as faults
+use Rattle.pgb_take.specs.Drafting.{ListingCause, DraftCause}
+use Rattle.pgb_take.specs.Faults.{take_early, of_plan, of_second, IsHaltOf, NoneLeft, NotRead, Vanished, LongManifest, LongList, NoClock, NoDisk, Starved}
+use Rattle.pgb_take.specs.Making.{IsEndOf, Well, Ill, Finishes, CannotRead, IsPast, LosesAll, MakeCause}
+
+-- ---- a draft
+
+-- no backup may be made of a listing that is refused so
+pub plan_cause : {T : Type 0} (seen : List ListedNode) (result : Result T PlanFault) (fault : PlanFault) (h : Halt TakeFault) → h ≡ of_plan fault → IsRefused (kept false seen) fault → (result ≡ Err plans.Unordered → (nodes : Nodes) → ¬ IsTreeListing nodes seen) → result ≡ Err fault → HaltCause (ListingCause seen) (λ _. ⊥) h
+plan_cause seen result fault h is refused orderly at = subst (HaltCause (ListingCause seen) (λ _. ⊥)) (sym is) (by fault refused at)
+  where
+    by : (f : PlanFault) → IsRefused (kept false seen) f → result ≡ Err f → HaltCause (ListingCause seen) (λ _. ⊥) (of_plan f)
+    by (plans.LinkFound path) r at = r
+    by (plans.NameRefused path fault) r at = (fault, r)
+    by plans.Unordered r at = orderly at
+    by (plans.ControlMissing path) r at = r
+    by (plans.TooMany limit) r at = r
+    by plans.NoMemory r at = tt
+
+-- the repository failed, or the clock did
+abbrev pub Either : Type 0 → Type 0 → Object → Type 0
+Either repo clock = rose_in (record none { repo = repo; clock = clock })
+
+pub second_cause : (seen : List ListedNode) (fault : SecondFault) (h : Halt TakeFault) (old new : ℕ) (clock new_clock : ClockState) → h ≡ of_second fault → SecondCause fault old new clock new_clock → HaltCause (DraftCause seen clock.least) (Either (Rises old new) (Rises clock.faults new_clock.faults)) h
+second_cause seen fault h old new clock new_clock is cause = subst (HaltCause (DraftCause seen clock.least) (Either (Rises old new) (Rises clock.faults new_clock.faults))) (sym is) (by fault cause)
+  where
+    by : (f : SecondFault) → SecondCause f old new clock new_clock → HaltCause (DraftCause seen clock.least) (Either (Rises old new) (Rises clock.faults new_clock.faults)) (of_second f)
+    by (seconds.ClockBehind latest now) k = k
+    by seconds.Clock k = k
+    by seconds.Disk k = k
+    by seconds.NoMemory k = tt
+
+-- what a listing is refused for, the draft is
+pub listing_drafts : (seen : List ListedNode) (least : ℕ) (e : TakeFault) → ListingCause seen e → DraftCause seen least e
+listing_drafts seen least (faults.HistoryDiffers at) h = absurd h
+listing_drafts seen least (faults.StanzaMismatch kept found) h = absurd h
+listing_drafts seen least faults.Running h = absurd h
+listing_drafts seen least (faults.TooMany limit) h = h
+listing_drafts seen least (faults.WorkersLost lost) h = absurd h
+listing_drafts seen least (faults.ClockBehind latest now) h = absurd h
+listing_drafts seen least (faults.LinkFound path) h = h
+listing_drafts seen least (faults.NameRefused path) h = h
+listing_drafts seen least faults.ListingUnordered h = h
+listing_drafts seen least (faults.ControlMissing path) h = h
+listing_drafts seen least (faults.Unread path) h = absurd h
+listing_drafts seen least (faults.TooLong name limit) h = absurd h
+
+-- ---- the backup is made
+
+module _ (d : Draft) (links left : List LinkState) (before after : List Lost) (old new told tells : ℕ) (lost : ℕ) (count : length after < 2 ^ 32 → lost ≡ length after) where
+  unread : (path : String Global) → IsUnread (jobs_in d) links left (string_bytes path) → CannotRead d links path
+  unread path h = record {
+    link = h.link;
+    from = h.from;
+    from_is = h.from_is;
+    job = h.job;
+    job_is = h.asked;
+    item = h.item;
+    item_is = h.of_job;
+    path_is = h.path_is;
+    unread = h.unread;
+  }
+
+  -- why the command ends by that of the making
+  pub made_cause : (fault : MakeFault) (h : Halt TakeFault) → IsHaltOf (stanza_of d) d.label lost fault h → MakeFails fault d links left before after old new told tells
+      → HaltCause (MakeCause d links before) (Either (Rises old new) (Rises told tells)) h
+  made_cause fault h NoneLeft k = record { after = after; all = k; count = count }
+  made_cause fault h (NotRead path) k = unread path k
+  made_cause fault h (Vanished path text same) k = (k.0, k.1, subst (λ (t : Text). IsMissing t (files_with d k.0)) (sym same) k.2)
+  made_cause fault h (LongManifest n name is) k = inl (is, refl, (k.0, k.1, (n, k.2)))
+  made_cause fault h (LongList n name is) k = inr (is, refl, (k.0, k.1, (n, k.2)))
+  made_cause fault h NoClock k = k
+  made_cause fault h NoDisk k = k
+  made_cause fault h (Starved f) k = tt
+
+-- ---- how far the command came by that
+
+-- where it came to its end, the backup was made, with the line that tells it
+pub finish_ok : (d : Draft) (made : Result (Unit {0}) MakeFault) (result : Result Outcome (Halt TakeFault)) → IsEndOf d made result → reached_by take_early result ≡ to_end → is_ok made ≡ true
+finish_ok d made result (Well u lines is) at = refl
+finish_ok d made result (Ill lost fault halt is) at = absurd (by lost fault halt is at)
+  where
+    by : (lost : ℕ) (fault : MakeFault) (halt : Halt TakeFault) → IsHaltOf (stanza_of d) d.label lost fault halt → reached_by take_early (Err halt) ≡ to_end → ⊥
+    by lost fault halt NoneLeft at = let e : turned_back ≡ to_end = at in cc
+    by lost fault halt (NotRead path) at = let e : turned_back ≡ to_end = at in cc
+    by lost fault halt (Vanished path text same) at = let e : turned_back ≡ to_end = at in cc
+    by lost fault halt (LongManifest n name same) at = let e : turned_back ≡ to_end = at in cc
+    by lost fault halt (LongList n name same) at = let e : turned_back ≡ to_end = at in cc
+    by lost fault halt NoClock at = let e : stopped ≡ to_end = at in cc
+    by lost fault halt NoDisk at = let e : stopped ≡ to_end = at in cc
+    by lost fault halt (Starved f) at = let e : stopped ≡ to_end = at in cc
+
+-- where it was turned back, no backup may be listed
+pub finish_early : (d : Draft) (made : Result (Unit {0}) MakeFault) (result : Result Outcome (Halt TakeFault)) → IsEndOf d made result → reached_by take_early result ≡ turned_back → IsErrAnd made (λ e. ¬ MayBeListed e)
+finish_early d made result (Well u lines is) at = absurd (let e : to_end ≡ turned_back = at in cc)
+finish_early d made result (Ill lost fault halt is) at = by lost fault halt is at
+  where
+    by : (lost : ℕ) (fault : MakeFault) (halt : Halt TakeFault) → IsHaltOf (stanza_of d) d.label lost fault halt → reached_by take_early (Err halt) ≡ turned_back → ¬ MayBeListed fault
+    by lost fault halt NoneLeft at = λ h. h
+    by lost fault halt (NotRead path) at = λ h. h
+    by lost fault halt (Vanished path text same) at = λ h. h
+    by lost fault halt (LongManifest n name same) at = λ h. h
+    by lost fault halt (LongList n name same) at = λ h. h
+    by lost fault halt NoClock at = absurd (let e : stopped ≡ turned_back = at in cc)
+    by lost fault halt NoDisk at = absurd (let e : stopped ≡ turned_back = at in cc)
+    by lost fault halt (Starved f) at = absurd (let e : stopped ≡ turned_back = at in cc)

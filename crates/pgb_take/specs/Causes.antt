@@ -1,0 +1,81 @@
+-- Why a backup is refused, from what stood before.
+use Rattle.std.specs.Prelude.{◌≡◌, ◌⊎◌, ◌≤◌, ◌<◌, ◌+◌, ℕ, List, [], length, false, Option, None, IfSome, IsSome, string_bytes}
+use Rattle.pgb_outside.specs.Content.{Content}
+use Rattle.pgb_outside.specs.Links.{LinkState}
+use Rattle.pgb_outside.specs.Tree.{Nodes, IsTreeListing}
+use Rattle.pgb_model.specs.InfoFiles.{IsBackupText}
+use Rattle.pgb_model.specs.Names.{backup_info}
+use Rattle.pgb_model.specs.Pair.{PairIs}
+use Rattle.pgb_model.specs.Text.{Text}
+use Rattle.pgb_model.specs.Values.{ArchiveInfo, BackupInfo}
+use Rattle.pgb_paths.specs.declared.names.NameFault.{NameFault}
+use Rattle.pgb_plan.specs.declared.fault.PlanFault.{PlanFault}
+use Rattle.pgb_plan.specs.declared.fault.PlanFault.TheVariants as plans
+use Rattle.pgb_plan.specs.Filter.{ListedNode, kept, IsRefused, Takes}
+use Rattle.pgb_record.specs.Faults.{IsMissing}
+use Rattle.pgb_stanza.specs.declared.control.Control.{Control}
+use Rattle.pgb_stanza.specs.Causes.{HistoriesDiffer, HasOther}
+use Rattle.pgb_stanza.specs.Judging.{Settles}
+use Rattle.pgb_stanza.specs.Pairs.{HavePairs}
+use Rattle.pgb_backup.specs.declared.draft.Draft.{Draft}
+use Rattle.pgb_backup.specs.Draft.{stanza_of, taken_in, folders_in, old_in, list_in, files_with}
+use Rattle.pgb_backup.specs.Faults.{WhereDone}
+use Rattle.pgb_take.specs.declared.fault.TakeFault.{TakeFault}
+use Rattle.pgb_take.specs.declared.fault.TakeFault.TheVariants.{HistoryDiffers, StanzaMismatch, Running, TooMany, WorkersLost, ClockBehind, LinkFound, NameRefused, ListingUnordered, ControlMissing, Unread, TooLong}
+use Rattle.pgb_take.specs.Beginning.{most_backups, server_path, AreLost}
+use Rattle.pgb_take.specs.Making.{CannotRead, IsPast}
+
+-- What stands before: the repository and the data folder, the least second that the clock may tell, and the links that are used.
+pub record Before : Type 0 where
+  pub stanza : Text
+  pub told : Control
+  pub repo : Option Content
+  pub nodes : Option Nodes
+  pub least : ℕ
+  pub used : List LinkState
+
+-- what the folder shows is this
+abbrev pub Shows : Before → (List ListedNode → Type 0) → Type 0
+Shows b P = IfSome b.nodes (λ f. (seen : List ListedNode) × IsTreeListing f seen × P seen)
+
+-- the folder is refused for this
+abbrev pub Refuses : Before → PlanFault → Type 0
+Refuses b fault = Shows b (λ seen. IsRefused (kept false seen) fault)
+
+-- f's pairs settle to this list
+pub record SettlesTo (stanza : Text) (list : BackupInfo) (f : Content) : Type 0 where
+  pub archive : ArchiveInfo
+  pub backup : BackupInfo
+  pub pairs : HavePairs stanza f archive backup
+  pub settles : Settles archive backup list
+
+-- a draft of a full backup of the folder, beside those of the stanza
+pub record IsDraftOf (b : Before) (d : Draft) : Type 0 where
+  pub stanza_is : stanza_of d ≡ b.stanza
+  pub full : (d.label.later ≡ None) × (d.prior ≡ None) × (old_in d ≡ [])
+  pub takes : Shows b (λ seen. Takes false seen (taken_in d) (folders_in d))
+  pub list : IfSome b.repo (SettlesTo b.stanza (list_in d))
+
+-- it is so of such a draft
+abbrev pub OfDraft : Before → (Draft → Type 0) → Type 0
+OfDraft b P = (d : Draft) × IsDraftOf b d × P d
+
+-- f lists so many backups that there is no room for one more
+abbrev pub IsFull : Text → Content → Type 0
+IsFull stanza f = (list : BackupInfo) × PairIs IsBackupText f (backup_info stanza) list × (most_backups ≤ length list.backups)
+
+-- why a backup is refused
+abbrev pub TakeCause : Before → TakeFault → Type 0
+TakeCause b (HistoryDiffers at) = IfSome b.repo (λ f. HistoriesDiffer b.stanza f at)
+TakeCause b (StanzaMismatch kept found) = IfSome b.repo (λ f. HasOther b.stanza b.told f kept found)
+TakeCause b Running = IfSome b.nodes (λ f. IsSome (f server_path))
+TakeCause b (TooMany limit) = ((limit ≡ most_backups) × IfSome b.repo (IsFull b.stanza)) ⊎ Refuses b (plans.TooMany limit)
+TakeCause b (WorkersLost lost) = AreLost b.used lost
+TakeCause b (ClockBehind latest now) = (now + 10 < latest) × (b.least ≤ now)
+TakeCause b (LinkFound path) = Refuses b (plans.LinkFound path)
+TakeCause b (NameRefused path) = Shows b (λ seen. (fault : NameFault) × IsRefused (kept false seen) (plans.NameRefused path fault))
+TakeCause b ListingUnordered = b.nodes ≡ None
+TakeCause b (ControlMissing path) = Refuses b (plans.ControlMissing path)
+    ⊎ OfDraft b (λ d. WhereDone d b.used (λ ends. IsMissing (string_bytes path) (files_with d ends)))
+TakeCause b (Unread path) = OfDraft b (λ d. CannotRead d b.used path)
+TakeCause b (TooLong name limit) = OfDraft b (λ d. IsPast d b.used name limit)

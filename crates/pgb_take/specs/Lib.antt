@@ -1,0 +1,7 @@
+pub mod Faults
+pub mod Texts
+pub mod Beginning
+pub mod Drafting
+pub mod Making
+pub mod Taken
+pub mod Causes

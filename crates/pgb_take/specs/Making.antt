@@ -1,0 +1,70 @@
+-- How the making of a backup ends the command, and why. Own.
+use Rattle.std.specs.Prelude.{◌≡◌, ◌⊎◌, ◌<◌, ◌^◌, ℕ, List, length, Some, Result, Ok, Err, String, string_bytes, slice_get}
+use Rattle.std.specs.declared.alloc.Global.{Global}
+use Rattle.pgb_outside.specs.Links.{LinkState}
+use Rattle.pgb_outside.specs.Moments.{View}
+use Rattle.pgb_model.specs.InfoFiles.{info_limit}
+use Rattle.pgb_model.specs.ManifestText.{manifest_limit}
+use Rattle.pgb_model.specs.Text.{In}
+use Rattle.pgb_worker_frame.specs.Frames.{Item, Job}
+use Rattle.pgb_worker_reply.specs.Reads.{UnreadBy}
+use Rattle.pgb_worker_dispatch.specs.declared.fault.Lost.{Lost}
+use Rattle.pgb_worker_dispatch.specs.Run.{AllLost, begun}
+use Rattle.pgb_record.specs.Faults.{IsMissing}
+use Rattle.pgb_backup.specs.declared.draft.Draft.{Draft}
+use Rattle.pgb_backup.specs.declared.fault.MakeFault.{MakeFault}
+use Rattle.pgb_backup.specs.Draft.{stanza_of, pair_of, main_of, jobs_in, files_with}
+use Rattle.pgb_backup.specs.Faults.{WhereDone, IsManifestTooLong, IsListTooLong}
+use Rattle.pgb_backup.specs.Made as backup
+use Rattle.pgb_stage.specs.declared.halt.Halt.{Halt}
+use Rattle.pgb_stage.specs.declared.outcome.Outcome.{Outcome}
+use Rattle.pgb_stage.specs.declared.outcome.Outcome.TheVariants.{Finished}
+use Rattle.pgb_take.specs.declared.fault.TakeFault.{TakeFault}
+use Rattle.pgb_take.specs.declared.fault.TakeFault.TheVariants.{WorkersLost, ControlMissing, Unread, TooLong}
+use Rattle.pgb_take.specs.Faults.{IsHaltOf}
+use Rattle.pgb_take.specs.Texts.{label_line}
+
+-- the command's end by that of the backup's making: with the line that tells its label, or with its fault
+pub data IsEndOf (d : Draft) : Result (Unit {0}) MakeFault → Result Outcome (Halt TakeFault) → Type 0 where
+  Well : (u : Unit {0}) (lines : String Global) → string_bytes lines ≡ label_line d.label → IsEndOf d (Ok u) (Ok (Finished lines))
+  Ill : (lost : ℕ) (fault : MakeFault) (halt : Halt TakeFault) → IsHaltOf (stanza_of d) d.label lost fault halt → IsEndOf d (Err fault) (Err halt)
+
+-- The draft's backup was made of what these links read, and the command ended so; or it wasn't.
+pub record Finishes (d : Draft) (links : List LinkState) (old new : View) (result : Result Outcome (Halt TakeFault)) : Type 0 where
+  pub made : Result (Unit {0}) MakeFault
+  pub outcome : backup.Outcome made d links old new
+  pub end : IsEndOf d made result
+
+-- ---- why it isn't made
+
+-- a link couldn't read the file of this path, which a job asks for
+pub record CannotRead (d : Draft) (links : List LinkState) (path : String Global) : Type 0 where
+  pub link : ℕ
+  pub from : LinkState
+  pub from_is : slice_get links link ≡ Some from
+  pub job : Job
+  pub job_is : In job (jobs_in d)
+  pub item : Item
+  pub item_is : In item job.items
+  pub path_is : item.path ≡ string_bytes path
+  pub unread : UnreadBy from.told item
+
+-- the manifest, or the list with the backup, would have more bytes than the limit
+abbrev pub IsPast : Draft → List LinkState → String Global → ℕ → Type 0
+IsPast d links name limit =
+    ((string_bytes name ≡ pair_of d) × (limit ≡ manifest_limit) × WhereDone d links (λ ends. (n : ℕ) × IsManifestTooLong d ends n))
+    ⊎ ((string_bytes name ≡ main_of d) × (limit ≡ info_limit) × WhereDone d links (λ ends. (n : ℕ) × IsListTooLong d ends n))
+
+-- each link was lost; with those that were lost before they are so many
+pub record LosesAll (d : Draft) (links : List LinkState) (before : List Lost) (lost : ℕ) : Type 0 where
+  pub after : List Lost
+  pub all : AllLost (jobs_in d) (begun links before) after
+  pub count : length after < 2 ^ 32 → lost ≡ length after
+
+-- why the draft's backup isn't made over these links
+abbrev pub MakeCause : Draft → List LinkState → List Lost → TakeFault → Type 0
+MakeCause d links before (WorkersLost lost) = LosesAll d links before lost
+MakeCause d links before (ControlMissing path) = WhereDone d links (λ ends. IsMissing (string_bytes path) (files_with d ends))
+MakeCause d links before (Unread path) = CannotRead d links path
+MakeCause d links before (TooLong name limit) = IsPast d links name limit
+MakeCause d links before other = ⊥
