@@ -1,7 +1,7 @@
 -- What hearing a frame leaves of a run.
 use Rattle.std.proofs.Common.{ℕ, zero, suc, ◌≡◌, ◌≢◌, ◌<◌, ◌≤◌, ◌+◌, ◌-◌, ◌*◌, ◌^◌, List, [], ◌∷◌, ◌++◌, true, Option, Some, None, Result, Ok, Err, length, map, refl, sym, ap, subst, arith, ◌∙◌, slice_get, slice_index_or, set, length-set}
 use Rattle.std.specs.Prelude.{IfErr, OnOk, OnErr, ◌⊎◌, All, min, option_map}
-use Rattle.std.proofs.lemmas.List.{map-set}
+use Rattle.std.proofs.lemmas.List.{map-set, length-append}
 use Rattle.std.proofs.lemmas.Option.{slice_get_within}
 use Rattle.pgb_outside.specs.Cause.{Rises}
 use Rattle.pgb_outside.specs.Links.{LinkState, last_five}
@@ -312,6 +312,13 @@ unread_leaves e item jobs s i j job after only newer held q has is h left b g =
       from_is = f.at.from_is;
       job = f.at.goes.job;
       job_is = f.at.goes.job_is;
+      within = (
+          let g = f.at.goes.goes in
+          let here = f.holds.1 in
+          let index = g.index in
+          let count = ap length g.split ∙ length-append g.past (g.next ∷ g.left) in
+          omega (arith, here, index, count)
+          );
       unread = f.holds.2;
     }
 

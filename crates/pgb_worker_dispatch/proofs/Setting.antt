@@ -17,7 +17,7 @@ use Rattle.pgb_worker_reply.specs.Going.{IsSame, IsDrained}
 use Rattle.pgb_worker_dispatch.specs.declared.fault.Lost.{Lost as Entry}
 use Rattle.pgb_worker_dispatch.specs.declared.fault.DispatchFault.{DispatchFault}
 use Rattle.pgb_worker_dispatch.specs.Setups.{Kept}
-use Rattle.pgb_worker_dispatch.specs.Run.{Rests, IsLoss, IsReady, Left, AddsLosses, AllLost, begun}
+use Rattle.pgb_worker_dispatch.specs.Run.{Rests, IsLoss, IsReady, Left, AddsLosses, AllLost, begun, somes}
 use Rattle.pgb_worker_dispatch.proofs.Going.{some_same, all_push, at_push, get_front}
 use Rattle.pgb_worker_dispatch.proofs.Whole.{somes_push, somes_none, append_none}
 
@@ -146,8 +146,21 @@ left_first before = record {
   once = refl;
 }
 
+-- where none is left, each seat is empty
+all_empty : (seats : List (Option LinkState)) (i : ℕ) → somes seats ≡ [] → i < length seats → slice_get seats i ≡ Some None
+all_empty [] i none lt = absurd (omega (arith, lt))
+all_empty (None ∷ seats) zero none lt = refl
+all_empty (None ∷ seats) (suc i) none lt = all_empty seats i none (omega (arith, lt))
+all_empty (Some s ∷ seats) i none lt = absurd (let n : length (s ∷ somes seats) ≡ 0 = ap length none in omega (arith, n))
+
 pub all_lost_left : (links : List LinkState) (before after : List Entry) (now : List LinkState) → Left [] links before after now → now ≡ [] → AllLost [] (begun links before) after
-all_lost_left links before after now l none = record { entries = l.entries; is = l.is; each = l.each; count = (let n : length now ≡ 0 = ap length none in omega (arith, n, l.once)) }
+all_lost_left links before after now l none = record {
+  entries = l.entries;
+  is = l.is;
+  each = l.each;
+  has = λ i lt. l.gone i (all_empty l.seats i (sym l.now_are ∙ none) (omega (arith, lt, l.seat_count)));
+  count = (let n : length now ≡ 0 = ap length none in omega (arith, n, l.once));
+}
 
 -- ---- one link after the other
 

@@ -1,5 +1,5 @@
 -- What turns leave of a run.
-use Rattle.std.proofs.Common.{ℕ, suc, ◌≡◌, List, [], ◌∷◌, true, false, Some, Result, Ok, Err, length, refl, ap, subst, arith, ◌∙◌, slice_get}
+use Rattle.std.proofs.Common.{ℕ, zero, suc, ◌≡◌, ◌<◌, List, [], ◌∷◌, true, false, Some, Result, Ok, Err, length, refl, ap, subst, arith, ◌∙◌, slice_get}
 use Rattle.std.specs.Prelude.{IfErr}
 use Rattle.pgb_worker_frame.specs.Frames.{Job}
 use Rattle.pgb_worker_jobs.specs.Dispatch.{Dispatch, IsIdle, NoneWaits, AllEnded}
@@ -42,11 +42,20 @@ pub none_left : (core : Dispatch) → NoneWith core → NoneBusy core → ((k : 
 none_left core w b idle more =
     live_none core.links (lost_of core b (λ k e. more (λ j lt. let x = get_some core.jobs j lt in x.1 ∙ ap Some (over_of core w (idle k e) j x.0 x.1))))
 
+-- where none is live, each is lost
+all_gone : (ls : List LinkPlace) (l : ℕ) → live ls ≡ 0 → l < length ls → slice_get ls l ≡ Some Lost
+all_gone [] l none lt = absurd (omega (arith, lt))
+all_gone (Lost ∷ ls) zero none lt = refl
+all_gone (Lost ∷ ls) (suc l) none lt = all_gone ls l none (omega (arith, lt))
+all_gone (Idle ∷ ls) l none lt = absurd (omega (arith, none))
+all_gone (Busy j ∷ ls) l none lt = absurd (omega (arith, none))
+
 pub all_lost : (jobs : List Job) (s : State) → live s.core.links ≡ 0 → (b : Began) → b.all ≡ true → Going jobs b s → AllLost jobs b s.lost
 all_lost jobs s none b all g = record {
   entries = g.losses.entries;
   is = g.losses.is;
   each = g.losses.each;
+  has = λ l lt. g.losses.has l (all_gone s.core.links l none (omega (arith, lt, g.link_count, g.start_count)));
   count = omega (arith, none, g.losses.count, g.link_count, g.start_count);
 }
 

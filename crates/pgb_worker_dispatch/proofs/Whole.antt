@@ -373,6 +373,7 @@ unread_back jobs b j item seats now u e = record {
   from_is = u.from_is;
   job = u.job;
   job_is = u.job_is;
+  within = u.within;
   unread = u.unread;
 }
 

@@ -254,6 +254,7 @@ pub record UnreadLeaves (jobs : List Job) (b : Began) (j item : ℕ) (seats : Li
   pub from_is : slice_get b.links link ≡ Some from
   pub job : Job
   pub job_is : slice_get jobs j ≡ Some job
+  pub within : item < length job.items
   pub unread : (i : Item) → slice_get job.items item ≡ Some i → UnreadBy from.told i
 
 -- why a frame wasn't taken
@@ -288,6 +289,7 @@ pub record AllLost (jobs : List Job) (b : Began) (after : List Entry) : Type 0 w
   pub entries : List Entry
   pub is : after ≡ b.lost ++ entries
   pub each : AllByRecursion (IsLoss jobs b.links) entries
+  pub has : (l : ℕ) → l < length b.links → (k : ℕ) × (e : Entry) × (slice_get entries k ≡ Some e) × (e.place ≡ l)
   pub count : length entries ≡ length b.links
 
 -- why a run ended early
