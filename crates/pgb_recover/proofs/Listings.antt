@@ -32,24 +32,24 @@ contains_in xs x has = go xs has.0 has.1 has.2
 abbrev pub is_server : rust_seen.Seen → Bool
 is_server s = bytes_eq (string_bytes s.path) server_path
 
+server_first : (s : rust_seen.Seen) (ss : List rust_seen.Seen) (b : Bool) → is_server s ≡ b → (b || list_any is_server ss) ≡ true → (list_any is_server ss ≡ true → (node : Node) × In (server_path, node) (map seen_of ss)) → (node : Node) × In (server_path, node) (map seen_of (s ∷ ss))
+server_first s ss true is t next = (s.node, inl (ap (λ (p : Text). (p, s.node)) (sym ((bytes_eq-Decides (string_bytes s.path) server_path).0 is))))
+server_first s ss false is t next = let x = next t in (x.0, inr x.1)
+
 pub server_in : (seen : List rust_seen.Seen) → list_any is_server seen ≡ true → (node : Node) × In (server_path, node) (map seen_of seen)
 server_in [] h = cc
-server_in (s ∷ ss) h = by (is_server s) refl h
-  where
-    by : (b : Bool) → is_server s ≡ b → (b || list_any is_server ss) ≡ true → (node : Node) × In (server_path, node) (map seen_of (s ∷ ss))
-    by true is t = (s.node, inl (ap (λ (p : Text). (p, s.node)) (sym ((bytes_eq-Decides (string_bytes s.path) server_path).0 is))))
-    by false is t = let x = server_in ss t in (x.0, inr x.1)
+server_in (s ∷ ss) h = server_first s ss (is_server s) refl h (server_in ss)
+
+server_other : (s : rust_seen.Seen) (ss : List rust_seen.Seen) (node : Node) (b : Bool) → is_server s ≡ b → (b || list_any is_server ss) ≡ false → (list_any is_server ss ≡ false → ¬ In (server_path, node) (map seen_of ss)) → ¬ In (server_path, node) (map seen_of (s ∷ ss))
+server_other s ss node true is f next i = cc
+server_other s ss node false is f next (inl e) =
+    let same : server_path ≡ string_bytes s.path = ap (λ (x : Shown). x.0) e in
+    let t : ◌≡◌ {A = Bool} false true = sym is ∙ (bytes_eq-Decides (string_bytes s.path) server_path).1 (sym same) in cc
+server_other s ss node false is f next (inr j) = next f j
 
 pub server_not_in : (seen : List rust_seen.Seen) → list_any is_server seen ≡ false → (node : Node) → ¬ In (server_path, node) (map seen_of seen)
 server_not_in [] h node i = i
-server_not_in (s ∷ ss) h node i = by (is_server s) refl h i
-  where
-    by : (b : Bool) → is_server s ≡ b → (b || list_any is_server ss) ≡ false → ¬ In (server_path, node) (map seen_of (s ∷ ss))
-    by true is f j = cc
-    by false is f (inl e) =
-        let same : server_path ≡ string_bytes s.path = ap (λ (x : Shown). x.0) e in
-        let t : ◌≡◌ {A = Bool} false true = sym is ∙ (bytes_eq-Decides (string_bytes s.path) server_path).1 (sym same) in cc
-    by false is f (inr j) = server_not_in ss f node j
+server_not_in (s ∷ ss) h node i = server_other s ss node (is_server s) refl h (λ f. server_not_in ss f node) i
 
 module _ (f : Nodes) (seen : List Shown) (listing : IsTreeListing f seen) where
   there : (path : Text) (node : Node) → In (path, node) seen → IsSome (f path)
