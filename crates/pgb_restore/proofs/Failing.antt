@@ -14,7 +14,7 @@ use Rattle.pgb_restore.specs.declared.fault.FillFault.{FillFault}
 use Rattle.pgb_restore.specs.declared.fault.FillFault.TheVariants as faults
 use Rattle.pgb_restore.specs.Left.{IsLeft}
 use Rattle.pgb_restore.specs.Faults.{IsDamaged, IsUnread, FillFails}
-use Rattle.pgb_restore.proofs.Links.{reads_as, read_before}
+use Rattle.pgb_restore.proofs.Links.{reads_as, read_before, steady_as}
 
 rises_later : (f g h : ℕ) → f ≤ g → Rises g h → Rises f h
 rises_later f g h le rose = grind arith
@@ -52,7 +52,6 @@ fails_more stanza own d es links left before after f g (faults.Unread path) i x 
   link = x.link;
   from = x.from;
   from_is = x.from_is;
-  item = x.item;
   unread = x.unread;
 }
 fails_more stanza own d es links left before after f g faults.Tree i x = x
@@ -80,6 +79,7 @@ fails_before stanza own es first links left start before after f g faults.Worker
   entries = was.entries ++ x.entries;
   is = x.is ∙ ap (λ (l : List Lost). l ++ x.entries) was.is ∙ append_assoc start was.entries x.entries;
   count = omega (arith, length-append was.entries x.entries, was.count, x.count);
+  unsteady = λ i s is w. let same = was.steady i s is w in x.unsteady same.0 same.1 same.2 (steady_as s.told same.1.told same.3 w);
 }
 fails_before stanza own es first links left start before after f g (faults.Unread path) was x =
     let from = was.each x.link x.from x.from_is in
@@ -93,8 +93,7 @@ fails_before stanza own es first links left start before after f g (faults.Unrea
       link = from.link;
       from = from.from;
       from_is = from.is;
-      item = x.item;
-      unread = λ i at_i. unread_told from.from.told x.from.told i from.same (x.unread i at_i);
+      unread = unread_told from.from.told x.from.told (source stanza own x.entry) from.same x.unread;
     }
 fails_before stanza own es first links left start before after f g faults.Tree was x = x
 fails_before stanza own es first links left start before after f g faults.NoMemory was x = x

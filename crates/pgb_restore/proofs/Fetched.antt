@@ -24,7 +24,7 @@ use Rattle.pgb_restore.specs.Written.{IsJobOf, AreJobsOf, IsReadOf, IsFetched}
 use Rattle.pgb_restore.specs.Finished.{HasEntry}
 use Rattle.pgb_restore.specs.Faults.{WriteFails, FillFails, Renames}
 use Rattle.pgb_restore.proofs.Names.{not_temporary}
-use Rattle.pgb_restore.proofs.Filled.{one_left}
+use Rattle.pgb_restore.proofs.Filled.{one_left, the_one, all_gone}
 
 pub one_apart : (p : Text) → AreApart (p ∷ [])
 one_apart p = record { once = first; lasting = last }
@@ -144,10 +144,9 @@ module _ (stanza : Text) (own : Label) (e : FileEntry) (j : Job) (w : Wanted) (j
         link = leaves.link;
         from = leaves.from;
         from_is = leaves.from_is;
-        item = x.item;
-        unread = λ i at_i. leaves.unread i (ap (λ (k : Job). slice_get k.items x.item) (sym its ∙ job) ∙ at_i);
+        unread = the_one (source stanza own e) leaves.from.told leaves.job.items x.item (ap (λ (k : Job). k.items) (sym its ∙ job)) leaves.within leaves.unread;
       }
-  fetch_fails links left before after old new faults.WorkersLost faults.WorkersLost x r = record { entries = x.entries; is = x.is; count = x.count }
+  fetch_fails links left before after old new faults.WorkersLost faults.WorkersLost x r = all_gone (j ∷ []) links before after x
   fetch_fails links left before after old new faults.Tree faults.Tree x r = x
   fetch_fails links left before after old new faults.NoMemory faults.NoMemory x r = tt
   fetch_fails links left before after old new (faults.FileDamaged waiting told found) faults.WorkersLost x r = absurd r

@@ -1,9 +1,9 @@
 -- From the files that were written to the entries of a manifest.
-use Rattle.std.proofs.Common.{ℕ, ◌≡◌, ◌≢◌, refl, sym, ap, ◌∙◌, subst, List, [], ◌∷◌, length, map, Option, Some, None, slice_get, string_bytes}
+use Rattle.std.proofs.Common.{ℕ, ◌≡◌, ◌≢◌, ◌<◌, arith, refl, sym, ap, ◌∙◌, subst, List, [], ◌∷◌, length, map, Option, Some, None, slice_get, string_bytes}
 use Rattle.std.specs.Prelude.{IfSome}
 use Rattle.sha1.specs.Sha1.{sha1}
 use Rattle.pgb_outside.specs.Content.{at}
-use Rattle.pgb_outside.specs.Links.{LinkState}
+use Rattle.pgb_outside.specs.Links.{LinkState, Told}
 use Rattle.pgb_outside.specs.Tree.{Nodes}
 use Rattle.pgb_text.specs.declared.sum.Sum.{Sum}
 use Rattle.pgb_model.specs.declared.labels.Label.{Label}
@@ -11,7 +11,7 @@ use Rattle.pgb_model.specs.Text.{Text, In}
 use Rattle.pgb_model.specs.Values.{FileEntry}
 use Rattle.pgb_worker_frame.specs.Frames.{Item, Job}
 use Rattle.pgb_worker_reply.specs.Reads.{UnreadBy}
-use Rattle.pgb_worker_dispatch.specs.Run.{UnreadLeaves, begun}
+use Rattle.pgb_worker_dispatch.specs.Run.{AllLost, begun}
 use Rattle.pgb_worker_dispatch.specs.declared.fault.Lost.{Lost}
 use Rattle.pgb_clear.specs.Clearing.{control_path, HasFile}
 use Rattle.pgb_fill.specs.declared.files.Wanted.{Wanted}
@@ -22,15 +22,32 @@ use Rattle.pgb_restore.specs.declared.fault.FillFault.{FillFault}
 use Rattle.pgb_restore.specs.declared.fault.FillFault.TheVariants as faults
 use Rattle.pgb_restore.specs.Written.{IsReadOf, IsFetched, AllFetched}
 use Rattle.pgb_restore.specs.Entries.{reads_of, Want, want_of, want_in, IsFilled, Fills}
-use Rattle.pgb_restore.specs.Faults.{IsWrongFile, IsUnreadFile, WriteFails, IsDamaged, IsUnread, FillFails}
+use Rattle.pgb_restore.specs.Faults.{IsWrongFile, IsUnreadFile, WriteFails, IsDamaged, IsUnread, AreLost, FillFails}
 use Rattle.pgb_restore.proofs.ReadJobs.{at_in, in_at, entry_at, wanted_of_entry, job_at}
 use Rattle.pgb_restore.proofs.ReadEntries.{in_read, read_off}
 use Rattle.pgb_restore.proofs.Names.{control_lasts}
+use Rattle.pgb_restore.proofs.Links.{unsteady_loss}
+use Rattle.pgb_fill.proofs.Listing.{some_within}
 
 pub one_left : (left : List LinkState) (now : LinkState) → map (λ (s : LinkState). Some s) left ≡ Some now ∷ [] → left ≡ now ∷ []
 one_left [] now e = cc
 one_left (s ∷ []) now e = let h : ◌≡◌ {A = List (Option LinkState)} (Some s ∷ []) (Some now ∷ []) = e in cc
 one_left (s ∷ t ∷ rest) now e = let h : ◌≡◌ {A = List (Option LinkState)} (Some s ∷ Some t ∷ map (λ (s : LinkState). Some s) rest) (Some now ∷ []) = e in cc
+
+-- a job's only item is the one that couldn't be read
+pub the_one : (its : Item) (told : Option Told) (items : List Item) (item : ℕ) → items ≡ its ∷ [] → item < length items → ((i : Item) → slice_get items item ≡ Some i → UnreadBy told i) → UnreadBy told its
+the_one its told items item is lt unread =
+    let none : item ≡ 0 = omega (arith, lt, ap (λ (l : List Item). length l) is) in
+    unread its (ap (λ (n : ℕ). slice_get items n) none ∙ ap (λ (l : List Item). slice_get l 0) is)
+
+-- all links that jobs lost
+pub all_gone : (jobs : List Job) (links : List LinkState) (before after : List Lost) → AllLost jobs (begun links before) after → AreLost links before after
+all_gone jobs links before after all = record {
+  entries = all.entries;
+  is = all.is;
+  count = all.count;
+  unsteady = λ i s is. unsteady_loss jobs links all.entries all.each i s is (all.has i (some_within links i s is));
+}
 
 module _ (stanza : Text) (own : Label) (links : List LinkState) (files : List FileEntry) (jobs : List Job) (ws : List Wanted) (jobs_are : jobs ≡ map (reading stanza own) (reads_of files)) (wanted_are : map want_in ws ≡ map want_of (reads_of files)) where
   filled_by : (e : FileEntry) (w : Wanted) (nodes : Option Nodes) → want_in w ≡ want_of e → IfSome nodes (IsFetched links (reading stanza own e) w) → IfSome nodes (IsFilled stanza own links e)
@@ -104,13 +121,12 @@ module _ (stanza : Text) (own : Label) (links : List LinkState) (files : List Fi
         link = leaves.link;
         from = leaves.from;
         from_is = leaves.from_is;
-        item = x.item;
-        unread = λ i at_i. leaves.unread i (ap (λ (j : Job). slice_get j.items x.item) job ∙ at_i);
+        unread = the_one (source stanza own e.0) leaves.from.told leaves.job.items x.item (ap (λ (j : Job). j.items) job) leaves.within leaves.unread;
       }
 
   pub fill_fails : (left : List LinkState) (before after : List Lost) (old new : ℕ) (e : FillFault) → WriteFails e jobs ws links left before after old new → FillFails e stanza own files links left before after old new
   fill_fails left before after old new (faults.FileDamaged path told found) h = damaged (string_bytes path) told found h
-  fill_fails left before after old new faults.WorkersLost h = record { entries = h.entries; is = h.is; count = h.count }
+  fill_fails left before after old new faults.WorkersLost h = all_gone jobs links before after h
   fill_fails left before after old new (faults.Unread path) h = unread left before (string_bytes path) h
   fill_fails left before after old new faults.Tree h = h
   fill_fails left before after old new faults.NoMemory h = tt

@@ -1,19 +1,20 @@
 -- Links that are left behind some jobs.
 use Rattle.std.proofs.Common.{ℕ, zero, suc, ◌≡◌, ◌<◌, ◌≤◌, refl, sym, ap, ◌∙◌, subst, arith, List, [], ◌∷◌, length, Option, Some, None, slice_get}
 use Rattle.std.specs.Prelude.{IfSome}
+use Rattle.std.specs.List.{AllByRecursion}
 use Rattle.pgb_outside.specs.Content.{Content}
 use Rattle.pgb_outside.specs.Links.{LinkState, Told}
 use Rattle.pgb_model.specs.Text.{Text}
 use Rattle.pgb_worker_frame.specs.Frames.{Item, Job, Roots, spell}
 use Rattle.pgb_worker_frame.specs.Frames.Frame.{Setup, Task}
-use Rattle.pgb_worker_reply.specs.Reads.{Reads, ReadBy}
+use Rattle.pgb_worker_reply.specs.Reads.{Reads, ReadBy, IsSteadyWorker}
 use Rattle.pgb_worker_reply.specs.Going.{IsSame, IsDrained}
-use Rattle.pgb_worker_dispatch.specs.Run.{somes}
-use Rattle.pgb_worker_dispatch.specs.Run.{IsReady, Left}
+use Rattle.pgb_worker_dispatch.specs.Run.{somes, IsLoss, IsReady, Left}
 use Rattle.pgb_worker_dispatch.specs.declared.fault.Lost.{Lost as Entry}
+use Rattle.pgb_worker_dispatch.proofs.Reading.{all_at}
 use Rattle.pgb_fill.proofs.Listing.{some_within}
 use Rattle.pgb_restore.specs.Written.{IsReadOf}
-use Rattle.pgb_restore.specs.Left.{IsOneOf, IsLeft}
+use Rattle.pgb_restore.specs.Left.{IsOneOf, HasSame, IsLeft}
 use Rattle.pgb_restore.proofs.Writes.{get_some}
 
 -- what a link reads rests on its answers alone
@@ -42,17 +43,52 @@ seat_of (None ∷ seats) k s e = let h = seat_of seats k s e in (suc h.0, h.1)
 seat_of (Some t ∷ seats) zero s e = let h : ◌≡◌ {A = Option LinkState} (Some t) (Some s) = e in (0, ap (λ (x : LinkState). Some (Some x)) cc)
 seat_of (Some t ∷ seats) (suc k) s e = let h = seat_of seats k s e in (suc h.0, h.1)
 
+-- ---- a steady worker is left
+
+-- a link with the seat is left
+at_seat : (seats : List (Option LinkState)) (i : ℕ) (s : LinkState) → slice_get seats i ≡ Some (Some s) → (k : ℕ) × (slice_get (somes seats) k ≡ Some s)
+at_seat [] i s e = cc
+at_seat (None ∷ seats) zero s e = let h : ◌≡◌ {A = Option (Option LinkState)} (Some None) (Some (Some s)) = e in cc
+at_seat (None ∷ seats) (suc i) s e = at_seat seats i s e
+at_seat (Some t ∷ seats) zero s e = let h : ◌≡◌ {A = Option (Option LinkState)} (Some (Some t)) (Some (Some s)) = e in (0, cc)
+at_seat (Some t ∷ seats) (suc i) s e = let h = at_seat seats i s e in (suc h.0, h.1)
+
+-- a link that has its loss isn't a steady worker
+pub unsteady_loss : (jobs : List Job) (links : List LinkState) (entries : List Entry) → AllByRecursion (IsLoss jobs links) entries → (i : ℕ) (s : LinkState) → slice_get links i ≡ Some s
+    → (k : ℕ) × (e : Entry) × (slice_get entries k ≡ Some e) × (e.place ≡ i) → ¬ IsSteadyWorker s.told
+unsteady_loss jobs links entries each i s is x w =
+    let loss = all_at (IsLoss jobs links) entries x.0 x.1 each x.2 in
+    let e : ◌≡◌ {A = Option LinkState} (Some loss.from) (Some s) = sym loss.is ∙ ap (λ (n : ℕ). slice_get links n) x.3 ∙ is in
+    let same : loss.from ≡ s = cc in
+    loss.unsteady (subst (λ (l : LinkState). IsSteadyWorker l.told) (sym same) w)
+
+steady_seat : (jobs : List Job) (links : List LinkState) (before after : List Entry) (now : List LinkState) (left : Left jobs links before after now) (i : ℕ) (s : LinkState) → slice_get links i ≡ Some s → IsSteadyWorker s.told
+    → (o : Option LinkState) → slice_get left.seats i ≡ Some o → HasSame now s
+steady_seat jobs links before after now left i s is w None at = absurd (unsteady_loss jobs links left.entries left.each i s is (left.gone i at) w)
+steady_seat jobs links before after now left i s is w (Some t) at =
+    let x = at_seat left.seats i t at in
+    (x.0, t, ap (λ (l : List LinkState). slice_get l x.0) left.now_are ∙ x.1, same_told s.told t.told (left.rests i s t is at).drained)
+
 pub left_is : (jobs : List Job) (links : List LinkState) (before after : List Entry) (now : List LinkState) → Left jobs links before after now → IsLeft links now before after
 left_is jobs links before after now left = record {
   entries = left.entries;
   is = left.is;
   count = left.once;
+  steady = λ i s is w.
+      let at = get_some left.seats i (omega (arith, some_within links i s is, left.seat_count)) in
+      steady_seat jobs links before after now left i s is w at.0 at.1;
   each = λ k s is.
       let seat = seat_of left.seats k s (ap (λ (l : List LinkState). slice_get l k) (sym left.now_are) ∙ is) in
       let from = get_some links seat.0 (omega (arith, some_within left.seats seat.0 (Some s) seat.1, left.seat_count)) in
       let rests = left.rests seat.0 from.0 s from.1 seat.1 in
       record { ready = ready_told from.0.told s.told rests.drained; link = seat.0; from = from.0; is = from.1; same = same_told from.0.told s.told rests.drained };
 }
+
+-- what reads the same as a steady worker is one
+pub steady_as : (a b : Option Told) → IsSame a b → IsSteadyWorker a → IsSteadyWorker b
+steady_as None b same w = absurd w
+steady_as (Some a) None same w = absurd same
+steady_as (Some a) (Some b) same w = record { steady = same.1 ∙ w.steady; tree = w.tree; repo = w.repo; reads = reads_as w.tree w.repo b a (sym same.0) w.reads }
 
 -- what is read by a link that is left is read by one of the first
 read_told : (a b : Option Told) (item : Item) (bytes : Text) → IsSame a b → ReadBy b item bytes → ReadBy a item bytes

@@ -13,7 +13,7 @@ use Rattle.pgb_worker_frame.specs.Frames.{Item, Job, spell}
 use Rattle.pgb_worker_frame.specs.Frames.Frame.{Unread}
 use Rattle.pgb_worker_keep.specs.declared.ItemEnd.{ItemEnd}
 use Rattle.pgb_worker_keep.specs.declared.ItemEnd.TheVariants.{Whole, Vanished}
-use Rattle.pgb_worker_reply.specs.Reads.{UnreadBy}
+use Rattle.pgb_worker_reply.specs.Reads.{UnreadBy, IsSteadyWorker}
 use Rattle.pgb_worker_dispatch.specs.Run.{AllLost, UnreadLeaves, begun}
 use Rattle.pgb_worker_dispatch.specs.declared.fault.Lost.{Lost}
 use Rattle.pgb_worker_dispatch.specs.declared.fault.DispatchFault.{DispatchFault}
@@ -21,7 +21,7 @@ use Rattle.pgb_worker_dispatch.specs.declared.fault.DispatchFault.TheVariants as
 use Rattle.pgb_fill.specs.declared.files.Wanted.{Wanted}
 use Rattle.pgb_fill.specs.declared.files.Filed.{Filed}
 use Rattle.pgb_fill.specs.Files.{is_wanted}
-use Rattle.pgb_source.specs.Sources.{source, reading}
+use Rattle.pgb_source.specs.Sources.{source}
 use Rattle.pgb_restore.specs.declared.fault.FillFault.{FillFault}
 use Rattle.pgb_restore.specs.declared.fault.FillFault.TheVariants as faults
 use Rattle.pgb_restore.specs.Written.{IsReadOf}
@@ -128,14 +128,14 @@ pub record IsUnread (stanza : Text) (own : Label) (links left : List LinkState) 
   pub link : ℕ
   pub from : LinkState
   pub from_is : slice_get links link ≡ Some from
-  pub item : ℕ
-  pub unread : (i : Item) → slice_get (reading stanza own entry).items item ≡ Some i → UnreadBy from.told i
+  pub unread : UnreadBy from.told (source stanza own entry)
 
--- each of these links has an entry
+-- each of these links has an entry, and none is a steady worker
 pub record AreLost (links : List LinkState) (before after : List Lost) : Type 0 where
   pub entries : List Lost
   pub is : after ≡ before ++ entries
   pub count : length entries ≡ length links
+  pub unsteady : (i : ℕ) (s : LinkState) → slice_get links i ≡ Some s → ¬ IsSteadyWorker s.told
 
 abbrev pub FillFails : FillFault → Text → Label → List FileEntry → List LinkState → List LinkState → List Lost → List Lost → ℕ → ℕ → Type 0
 FillFails (faults.FileDamaged path told found) stanza own es links left before after old new = IsDamaged stanza own links es (string_bytes path) told found

@@ -2,6 +2,7 @@
 use Rattle.std.specs.Prelude.{ℕ, ◌≡◌, ◌+◌, List, ◌++◌, length, Some, slice_get}
 use Rattle.pgb_outside.specs.Links.{LinkState}
 use Rattle.pgb_worker_reply.specs.Going.{IsSame}
+use Rattle.pgb_worker_reply.specs.Reads.{IsSteadyWorker}
 use Rattle.pgb_worker_dispatch.specs.Run.{IsReady}
 use Rattle.pgb_worker_dispatch.specs.declared.fault.Lost.{Lost}
 
@@ -13,9 +14,14 @@ pub record IsOneOf (links : List LinkState) (s : LinkState) : Type 0 where
   pub is : slice_get links link ≡ Some from
   pub same : IsSame from.told s.told
 
--- Each link that is left is one of those, and ready for further jobs. Each of the others has an entry.
+-- one of these links reads what that one reads
+abbrev pub HasSame : List LinkState → LinkState → Type 0
+HasSame now s = (k : ℕ) × (t : LinkState) × (slice_get now k ≡ Some t) × IsSame s.told t.told
+
+-- Each link that is left is one of those, and ready for further jobs. Each of the others has an entry, and no steady worker is one of them.
 pub record IsLeft (links now : List LinkState) (before after : List Lost) : Type 0 where
   pub entries : List Lost
   pub is : after ≡ before ++ entries
   pub count : length entries + length now ≡ length links
   pub each : (k : ℕ) (s : LinkState) → slice_get now k ≡ Some s → IsOneOf links s
+  pub steady : (i : ℕ) (s : LinkState) → slice_get links i ≡ Some s → IsSteadyWorker s.told → HasSame now s

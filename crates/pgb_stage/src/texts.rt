@@ -88,9 +88,13 @@ pub fn bytes_of(text: Result<String, AllocError>) -> Result<Vec<u8>, NoMemory>
     Ok(text?.into_bytes())
 }
 
-// What follows the name of an info file: the faults of both members.
+/// What follows the name of an info file or a manifest: the faults of both members.
 #[tactic(auto, unfolding(crate::specs::Texts::damage_text))]
-fn damage_text(alloc: Global, main: &MemberFault, copy: &MemberFault) -> Result<String, AllocError>
+pub fn damage_text(
+    alloc: Global,
+    main: &MemberFault,
+    copy: &MemberFault,
+) -> Result<String, AllocError>
     ensures { IfOk result (λ text. string_bytes text ≡ damage_text main.now copy.now) }
 {
     let main = member_text(alloc, main)?;

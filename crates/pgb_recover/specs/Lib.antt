@@ -1,0 +1,9 @@
+pub mod Words
+pub mod Choosing
+pub mod Looking
+pub mod Loading
+pub mod Filling
+pub mod Ends
+pub mod Texts
+pub mod Restoring
+pub mod Causes

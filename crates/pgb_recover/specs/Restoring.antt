@@ -1,0 +1,48 @@
+-- What a restore does (pgBackRest command reference, "Restore Command").
+use Rattle.std.specs.Prelude.{◌≡◌, List, Option, IfSome}
+use Rattle.pgb_outside.specs.Content.{Content}
+use Rattle.pgb_outside.specs.Links.{LinkState}
+use Rattle.pgb_outside.specs.Tree.{Nodes}
+use Rattle.pgb_model.specs.declared.labels.Label.{Label}
+use Rattle.pgb_model.specs.Repository.{Backup, Stanza}
+use Rattle.pgb_model.specs.Restored.{IsRestored}
+use Rattle.pgb_model.specs.Restored.Recovery.{Nothing}
+use Rattle.pgb_model.specs.Text.{Text}
+use Rattle.pgb_model.specs.Values.{Manifest}
+use Rattle.pgb_worker_dispatch.specs.Payloads.{AllRead}
+use Rattle.pgb_restore.specs.Finished.{IsFinished}
+use Rattle.pgb_recover.specs.Choosing.{OnList, IsChosen, IsSetOf}
+use Rattle.pgb_recover.specs.Loading.{HasManifest}
+use Rattle.pgb_recover.specs.Looking.{IsEmpty}
+use Rattle.pgb_recover.specs.Texts.{restored_line}
+
+-- what stands before: the repository and the data folder, the label that is asked for, and the links that are used
+pub record Before : Type 0 where
+  pub stanza : Text
+  pub set : Option Label
+  pub repo : Option Content
+  pub nodes : Option Nodes
+  pub used : List LinkState
+
+-- the label is chosen from the repository's list
+abbrev pub Chooses : Before → Label → Type 0
+Chooses b label = IfSome b.repo (λ f. OnList b.stanza f (λ v. IsChosen b.set v label))
+
+-- The folder was empty, and has now all that a manifest of the chosen label tells, as the used links read it, and nothing
+-- else. The one line tells the label.
+pub record Recovers (b : Before) (now_nodes : Option Nodes) (lines : Text) : Type 0 where
+  pub label : Label
+  pub line : lines ≡ restored_line label
+  pub chosen : Chooses b label
+  pub empty : IfSome b.nodes IsEmpty
+  pub manifest : Manifest
+  pub has : IfSome b.repo (HasManifest b.stanza label manifest)
+  pub finished : IfSome now_nodes (IsFinished b.stanza b.used manifest)
+
+-- The folder has now the files and folders of one of the stanza's backups, the one that was asked for or the last, where
+-- all used links read the repository f. The one line tells its label.
+pub record GivesBackup (s : Stanza) (b : Before) (f : Content) (now_nodes : Option Nodes) (lines : Text) : Type 0 where
+  pub backup : Backup
+  pub is : IsSetOf b.set s.backups backup
+  pub line : lines ≡ restored_line backup.entry.label
+  pub restored : (tree : Content) → AllRead tree f b.used → IfSome now_nodes (IsRestored backup Nothing)

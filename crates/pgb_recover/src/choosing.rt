@@ -1,0 +1,48 @@
+// The backup that is restored is chosen.
+ghost use Rattle.std.specs.Prelude.{◌≡◌, ◌≢◌, true, false, map, IfOk, IfErr};
+ghost use Rattle.pgb_model.specs.InfoFiles.{IsBackupInfo, IsLabel};
+ghost use Rattle.pgb_model.specs.Text.{In};
+ghost use Rattle.pgb_model.specs.Values.{Entry as SpecEntry, backup_info_of, entry_of};
+ghost use Rattle.pgb_stage.specs.Halts.{HaltCause};
+ghost use Rattle.pgb_recover.specs.Choosing.{IsChosen, ChooseCause};
+ghost use Rattle.pgb_recover.specs.Words.{IsSet};
+
+use crate::fault::{RecoverFault, missing};
+use pgb_model::{BackupInfo, Entry, Label};
+use pgb_stage::Halt;
+use std::alloc::Global;
+
+// Whether one of these backups has the label.
+fn has_label(backups: &[Entry], label: &Label) -> bool
+    ensures some { result ≡ true → (e : SpecEntry) × In e (map entry_of backups.now) × (e.label ≡ label.now) }
+    ensures none { result ≡ false → (e : SpecEntry) → In e (map entry_of backups.now) → e.label ≢ label.now }
+{
+    for entry in backups {
+        if entry.label == *label {
+            return true;
+        }
+    }
+    false
+}
+
+/// The label that is asked for, or that of the last backup.
+pub(crate) fn choose(
+    alloc: Global,
+    list: &BackupInfo,
+    set: Option<Label>,
+) -> Result<Label, Halt<RecoverFault>>
+    requires list { IsBackupInfo (backup_info_of list.now) }
+    requires set { IsSet set }
+    ensures chosen { IfOk result (λ label. IsChosen set (backup_info_of list.now) label) }
+    ensures rules { IfOk result (λ label. IsLabel label) }
+    ensures cause { IfErr result (HaltCause (ChooseCause set (backup_info_of list.now)) (λ _. ⊥)) }
+{
+    let Some(last) = list.backups.last() else {
+        return Err(Halt::Refused(RecoverFault::NoBackup));
+    };
+    match set {
+        None => Ok(last.label),
+        Some(label) if has_label(&list.backups, &label) => Ok(label),
+        Some(label) => Err(missing(alloc, &label)),
+    }
+}

@@ -1,0 +1,105 @@
+// Why a restore is refused.
+ghost use Rattle.std.specs.Prelude.{◌≡◌};
+ghost use Rattle.pgb_model.specs.InfoFiles.{IsLabel};
+ghost use Rattle.pgb_stage.specs.Halts.{HaltCause};
+ghost use Rattle.pgb_recover.specs.Choosing.{TellsMissing};
+ghost use Rattle.pgb_recover.specs.Filling.{of_fill};
+ghost use Rattle.pgb_recover.specs.Loading.{TellsDamage, TellsPair, FailsPair};
+
+use pgb_info::MemberFault;
+use pgb_model::Label;
+use pgb_pair::InfoFault;
+use pgb_restore::FillFault;
+use pgb_stage::{Halt, Object};
+use pgb_stamp::label_text;
+use pgb_text::Sum;
+use std::alloc::Global;
+
+/// Why a restore is refused, in the order in which refusals come.
+#[derive(Debug, Drop)]
+pub enum RecoverFault {
+    /// The word of the option `set` is no backup's label.
+    SetForm,
+    /// The stanza has no backup.
+    NoBackup,
+    /// The stanza has no backup of the label that is asked for.
+    SetMissing {
+        label: String,
+    },
+    /// The data folder has a server's `postmaster.pid`.
+    Running,
+    /// The data folder holds something; `path` is the first of it.
+    NotEmpty {
+        path: String,
+    },
+    /// Neither member of the manifest can be read.
+    ManifestDamaged {
+        label: String,
+        main: MemberFault,
+        copy: MemberFault,
+    },
+    /// All of these workers were lost.
+    WorkersLost {
+        lost: u32,
+    },
+    /// A worker couldn't read the bytes of this file.
+    Unread {
+        path: String,
+    },
+    /// A worker read other bytes of this file than the manifest tells.
+    FileDamaged {
+        path: String,
+        told: Sum,
+        found: Sum,
+    },
+}
+
+/// The refusal of a label that isn't listed.
+pub(crate) fn missing(alloc: Global, label: &Label) -> Halt<RecoverFault>
+    requires { IsLabel label.now }
+    ensures { HaltCause (TellsMissing label.now) (λ _. ⊥) result }
+{
+    match label_text(alloc, label) {
+        Ok(label) => Halt::Refused(RecoverFault::SetMissing { label }),
+        Err(_) => Halt::NoMemory,
+    }
+}
+
+// The refusal of a manifest whose members have these faults.
+fn damaged(alloc: Global, label: &Label, main: MemberFault, copy: MemberFault) -> Halt<RecoverFault>
+    requires { IsLabel label.now }
+    ensures { HaltCause (TellsDamage label.now main copy) (λ _. ⊥) result }
+{
+    match label_text(alloc, label) {
+        Ok(label) => Halt::Refused(RecoverFault::ManifestDamaged { label, main, copy }),
+        Err(_) => Halt::NoMemory,
+    }
+}
+
+/// Why the manifest of this label isn't read.
+pub(crate) fn of_pair(alloc: Global, label: &Label, fault: InfoFault) -> Halt<RecoverFault>
+    requires { IsLabel label.now }
+    ensures { HaltCause (TellsPair label.now fault) (FailsPair fault) result }
+{
+    match fault {
+        InfoFault::Missing => damaged(alloc, label, MemberFault::Absent, MemberFault::Absent),
+        InfoFault::Damaged { main, copy } => damaged(alloc, label, main, copy),
+        InfoFault::Disk => Halt::Failed(Object::Repo),
+        InfoFault::NoMemory => Halt::NoMemory,
+    }
+}
+
+/// Why the files aren't all in their places; so many workers were lost by then.
+pub(crate) fn of_fill(lost: u32, fault: FillFault) -> Halt<RecoverFault>
+    ensures { result ≡ of_fill lost fault }
+{
+    match fault {
+        FillFault::FileDamaged { path, told, found } => {
+            Halt::Refused(RecoverFault::FileDamaged { path, told, found })
+        }
+        FillFault::WorkersLost => Halt::Refused(RecoverFault::WorkersLost { lost }),
+        FillFault::Unread { path } => Halt::Refused(RecoverFault::Unread { path }),
+        FillFault::Tree => Halt::Failed(Object::DataFolder),
+        FillFault::NoMemory => Halt::NoMemory,
+    }
+}

@@ -1,0 +1,93 @@
+// The backup's files are put into the folder.
+ghost use Rattle.std.specs.Prelude.{◌≡◌, ◌⊎◌, ◌≤◌, ◌<◌, ◌^◌, ℕ, List, [], Some, true, false, map, take, length, vec_len, slice_get, IfErr, IfSome, OnOk, OnErr};
+ghost use Rattle.pgb_outside.specs.Cause.{Rises};
+ghost use Rattle.pgb_outside.specs.Links.{LinkState};
+ghost use Rattle.pgb_outside.specs.Tree.{IsTreeListing};
+ghost use Rattle.pgb_model.specs.ManifestText.{IsManifest};
+ghost use Rattle.pgb_model.specs.Values.{manifest_of};
+ghost use Rattle.pgb_table.specs.Values.{is_stanza};
+ghost use Rattle.pgb_worker_dispatch.specs.Run.{IsReady, Left};
+ghost use Rattle.pgb_clear.specs.Clearing.{control_path, seen_of, HasNone};
+ghost use Rattle.pgb_restore.specs.Finished.{IsFinished};
+ghost use Rattle.pgb_stage.specs.declared.object.Object.TheVariants.{DataFolder as TheFolder};
+ghost use Rattle.pgb_stage.specs.Halts.{HaltCause, Only};
+ghost use Rattle.pgb_recover.specs.Ends.{leaves_folder};
+ghost use Rattle.pgb_recover.specs.Filling.{FillCause};
+
+use crate::fault::{RecoverFault, of_fill};
+use crate::order::RecoverOrder;
+use crate::starting::{count_of, start_workers};
+use pgb_model::Manifest;
+use pgb_outside::{Link, Seen, Tree, Turns};
+use pgb_restore::restore_plain;
+use pgb_stage::Halt;
+use pgb_worker_dispatch::Lost;
+use std::alloc::Global;
+
+// Puts the files into the folder over links that were told it; `lost` has those that were lost by that.
+fn put_files<T: Tree, L: Link, U: Turns>(
+    alloc: Global,
+    stanza: &str,
+    manifest: &Manifest,
+    seen: &[Seen],
+    links: &mut Vec<L>,
+    turns: &mut U,
+    tree: &mut T,
+    lost: &mut Vec<Lost>,
+) -> Result<(), Halt<RecoverFault>>
+    requires few { vec_len links.old < 2 ^ 32 }
+    requires ready { (i : ℕ) (s : LinkState) → slice_get (map L.link_state links.old.items) i ≡ Some s → IsReady s }
+    requires stanza { is_stanza stanza.now ≡ true }
+    requires rules { IsManifest (manifest_of manifest.now) }
+    requires seen { IfSome (T.state tree.old).nodes (λ f. IsTreeListing f (map seen_of seen.now)) }
+    ensures finished { OnOk result (IfSome (T.state tree.new).nodes
+        (IsFinished stanza.now (map L.link_state links.old.items) (manifest_of manifest.now))) }
+    ensures control { OnErr result
+        (((T.state tree.new).nodes ≡ (T.state tree.old).nodes) ⊎ HasNone control_path (T.state tree.new).nodes) }
+    ensures changes { IfErr result (λ halt. leaves_folder halt ≡ false) }
+    ensures opened { (T.state tree.new).opened ≡ (T.state tree.old).opened }
+    ensures later { (T.state tree.old).faults ≤ (T.state tree.new).faults }
+    // Where the used links are those of which these are left, the cause is of them.
+    ensures cause { (used : List LinkState) → length used < 2 ^ 32
+        → Left [] used [] lost.old.items (map L.link_state links.old.items)
+        → IfErr result (HaltCause (FillCause stanza.now (manifest_of manifest.now) used)
+        (Only TheFolder (Rises (T.state tree.old).faults (T.state tree.new).faults))) }
+{
+    match restore_plain(alloc, stanza, manifest, seen, links, turns, tree, lost) {
+        Ok(()) => Ok(()),
+        Err(fault) => Err(of_fill(count_of(lost), fault)),
+    }
+}
+
+/// Starts the workers, and puts the files of the manifest's backup into the listed folder.
+pub(crate) fn fill<T: Tree, L: Link, U: Turns>(
+    alloc: Global,
+    stanza: &str,
+    order: &RecoverOrder<'_>,
+    manifest: &Manifest,
+    seen: &[Seen],
+    links: &mut Vec<L>,
+    turns: &mut U,
+    tree: &mut T,
+) -> Result<(), Halt<RecoverFault>>
+    requires few { vec_len links.old < 2 ^ 32 }
+    requires ready { (i : ℕ) (s : LinkState) → slice_get (map L.link_state links.old.items) i ≡ Some s → IsReady s }
+    requires stanza { is_stanza stanza.now ≡ true }
+    requires rules { IsManifest (manifest_of manifest.now) }
+    requires seen { IfSome (T.state tree.old).nodes (λ f. IsTreeListing f (map seen_of seen.now)) }
+    ensures finished { OnOk result (IfSome (T.state tree.new).nodes
+        (IsFinished stanza.now (take order.now.workers (map L.link_state links.old.items))
+        (manifest_of manifest.now))) }
+    ensures control { OnErr result
+        (((T.state tree.new).nodes ≡ (T.state tree.old).nodes) ⊎ HasNone control_path (T.state tree.new).nodes) }
+    ensures changes { IfErr result (λ halt. leaves_folder halt ≡ false) }
+    ensures opened { (T.state tree.new).opened ≡ (T.state tree.old).opened }
+    ensures later { (T.state tree.old).faults ≤ (T.state tree.new).faults }
+    ensures cause { IfErr result (HaltCause
+        (FillCause stanza.now (manifest_of manifest.now) (take order.now.workers (map L.link_state links.old.items)))
+        (Only TheFolder (Rises (T.state tree.old).faults (T.state tree.new).faults))) }
+{
+    let mut lost = Vec::new(alloc);
+    start_workers(alloc, links, order, &mut lost)?;
+    put_files(alloc, stanza, manifest, seen, links, turns, tree, &mut lost)
+}

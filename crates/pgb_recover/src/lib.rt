@@ -1,0 +1,21 @@
+//! restore: a backup of the stanza is put into an empty data folder.
+//!
+//! The backup is chosen from the stanza's list first; then the data folder is looked at, which has to be empty, and the
+//! backup's manifest is read. Only then the workers are told their folders, and the files are fetched. The repository is
+//! read alone.
+#![tactic(auto)]
+
+mod choosing;
+mod fault;
+mod filling;
+mod loading;
+mod looking;
+mod order;
+mod recovering;
+mod starting;
+mod texts;
+
+pub use fault::RecoverFault;
+pub use order::{RecoverOrder, recover_order};
+pub use recovering::recover_backup;
+pub use texts::{recover_message, recover_status};
