@@ -40,7 +40,12 @@ impl State {
 
     // Whether the other node was changed later, by the same clock.
     fn is_before(&self, other: &State) -> bool {
-        self.device == other.device && (self.seconds, self.nanos) < (other.seconds, other.nanos)
+        let is_less = if self.seconds == other.seconds {
+            self.nanos < other.nanos
+        } else {
+            self.seconds < other.seconds
+        };
+        self.device == other.device && is_less
     }
 
     fn is_same_node(&self, other: &State) -> bool {
@@ -171,17 +176,14 @@ fn read_note(place: &Place) -> io::Result<Option<(State, Vec<State>)>> {
     Ok(states.map(|states| (State::of(&seen), states)))
 }
 
-// Writes over the note, which need be there only when it is whole again: the sum tells whether it is. The state of a young folder is
-// written only where the clock, which the first line's writing tells, is past it.
+// Writes over the note, which need not be whole meanwhile: the sum that ends it tells whether it is.
 fn write_note(place: &Place, young: Option<State>, synced: &[State]) -> io::Result<()> {
     let alloc = place.rt.alloc();
     let before = read_note(place).unwrap_or(None);
     let file = open_note(place)?;
-    file.write_all_at(HEAD.as_bytes(), 0)?;
-    let now = State::of(&file.metadata()?);
     let mut states = Vec::new(alloc);
     if let Some(young) = young {
-        if young.is_before(&now) {
+        if is_past(&file, &young)? {
             states.push(young).map_err(no_memory)?;
         }
     }
@@ -192,6 +194,21 @@ fn write_note(place: &Place, young: Option<State>, synced: &[State]) -> io::Resu
     let text = text_of(alloc, &states)?;
     file.write_all_at(text.as_bytes(), 0)?;
     file.set_len(text.len() as u64)
+}
+
+// Whether the clock of the note's file system is past the state by now. Newer systems tell it more finely once it was looked at.
+fn is_past(file: &File, state: &State) -> io::Result<bool> {
+    let first = touch(file)?;
+    if state.is_before(&first) {
+        return Ok(true);
+    }
+    let second = touch(file)?;
+    Ok(state.is_before(&second))
+}
+
+fn touch(file: &File) -> io::Result<State> {
+    file.write_all_at(HEAD.as_bytes(), 0)?;
+    Ok(State::of(&file.metadata()?))
 }
 
 fn open_note(place: &Place) -> io::Result<File> {
@@ -223,7 +240,7 @@ fn text_of(alloc: Global, states: &[State]) -> io::Result<String> {
             inode,
             seconds,
             nanos,
-        } = state;
+        } = *state;
         lines.push_str(&format!(in alloc; "{device} {inode} {seconds} {nanos}\n")?)?;
     }
     let sum = sum_of(&lines);

@@ -209,30 +209,28 @@ const NOTES: &[(&str, &str)] = &[
     ),
 ];
 
-// Each stands for a program of its own.
-fn change_and_settle(rt: HostRuntime, root: &str) {
-    let mut disk = RealDisk::new(rt);
-    same(&rt, disk.open(root), Ok(()));
-    same(&rt, disk.settle_in("a"), Ok(()));
-    same(&rt, disk.begin("a/f"), Ok(()));
-    same(&rt, disk.rename("a/f", "a/g"), Ok(()));
-    same(&rt, disk.settle_in("a"), Ok(()));
+// Each disk stands for a program of its own.
+fn change_and_settle(rt: &impl Abort, mut disk: RealDisk, root: &str) {
+    same(rt, disk.open(root), Ok(()));
+    same(rt, disk.settle_in("a"), Ok(()));
+    same(rt, disk.begin("a/f"), Ok(()));
+    same(rt, disk.rename("a/f", "a/g"), Ok(()));
+    same(rt, disk.settle_in("a"), Ok(()));
 }
 
-fn only_settle(rt: HostRuntime, root: &str) {
-    let mut disk = RealDisk::new(rt);
-    same(&rt, disk.open(root), Ok(()));
-    same(&rt, disk.settle_in("a"), Ok(()));
+fn only_settle(rt: &impl Abort, mut disk: RealDisk, root: &str) {
+    same(rt, disk.open(root), Ok(()));
+    same(rt, disk.settle_in("a"), Ok(()));
 }
 
 #[test]
 fn notes_what_is_settled(rt: HostRuntime) {
     let scratch = well(&rt, Scratch::new(rt, "noted"));
-    only_settle(rt, &scratch.path);
+    only_settle(&rt, RealDisk::new(rt), &scratch.path);
     shell(&rt, &scratch, IS_ABSENT);
     for (before, after) in NOTES {
         shell(&rt, &scratch, before);
-        change_and_settle(rt, &scratch.path);
+        change_and_settle(&rt, RealDisk::new(rt), &scratch.path);
         shell(&rt, &scratch, after);
     }
     well(&rt, scratch.remove());
@@ -241,11 +239,11 @@ fn notes_what_is_settled(rt: HostRuntime) {
 #[test]
 fn writes_no_note_where_nothing_is_changed(rt: HostRuntime) {
     let scratch = well(&rt, Scratch::new(rt, "unnoted"));
-    change_and_settle(rt, &scratch.path);
+    change_and_settle(&rt, RealDisk::new(rt), &scratch.path);
     shell(&rt, &scratch, "cp settled.note kept; mkdir b; touch a/h");
-    only_settle(rt, &scratch.path);
+    only_settle(&rt, RealDisk::new(rt), &scratch.path);
     shell(&rt, &scratch, "cmp settled.note kept; rm settled.note");
-    only_settle(rt, &scratch.path);
+    only_settle(&rt, RealDisk::new(rt), &scratch.path);
     shell(&rt, &scratch, IS_ABSENT);
     well(&rt, scratch.remove());
 }
