@@ -19,7 +19,7 @@ syncs() {
     shift 2
     want "$@"
     count=$(grep -c 'sync[a-z_]*(' calls) || true
-    [ "$count" = "$wanted" ] || complain "${*:3} $when makes $count syncs and not $wanted: $(cat calls)"
+    [ "$count" = "$wanted" ] || complain "${*:3} $when makes $count syncs and not $wanted"
 }
 
 # push COUNT WHEN NUMBER and push_again, get, get_nothing COUNT WHEN

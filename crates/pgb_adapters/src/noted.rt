@@ -1,7 +1,7 @@
 // The note in the root, of folders whose names are durable: it spares a command the sync of each. A node's time of change is set by the
 // system alone, from a clock that goes on, and each change of a name in a folder sets the folder's. So once the clock is past it, a
 // folder of the same time has the same names.
-use crate::place::{FILE_MODE, Place, folder_of, no_memory, sync_folder, unless_absent};
+use crate::place::{FILE_MODE, Place, folder_of, no_memory, sync_folder};
 use std::alloc::Global;
 use std::fs::{File, Metadata, OpenOptions};
 use std::io::ErrorKind;
