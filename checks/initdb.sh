@@ -33,7 +33,8 @@ files=$(find repo -type f 2>/dev/null | LC_ALL=C sort) || true
 [ "$files" = 'repo/archive/demo/archive.info
 repo/archive/demo/archive.info.copy
 repo/backup/demo/backup.info
-repo/backup/demo/backup.info.copy' ] || complain "the repository has '$files'"
+repo/backup/demo/backup.info.copy
+repo/settled.note' ] || complain "the repository has '$files'"
 
 system=$(told 'Database system identifier')
 control=$(told 'pg_control version number')

@@ -25,7 +25,7 @@ told() {
 }
 
 ask_online 0 '' repo
-[ "$(find repo -type f | wc -l)" = 4 ] || complain 'the stanza is not made'
+[ "$(find repo/archive repo/backup -type f | wc -l)" = 4 ] || complain 'the stanza is not made'
 ask_online 0 '' repo
 
 # Another data folder than the server's.

@@ -37,6 +37,6 @@ beside 47 'ERROR: [047]: control file has system 6917529027641081858, server has
 [ -z "$(find repo -type f)" ] || complain 'files were written after a refusal'
 for _ in 1 2; do
     beside 0 '' --pg1-path=same
-    [ "$(find repo -type f | wc -l)" = 4 ] || complain 'the stanza is not made'
+    [ "$(find repo/archive repo/backup -type f | wc -l)" = 4 ] || complain 'the stanza is not made'
 done
 exit "$wrong"

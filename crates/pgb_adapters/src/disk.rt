@@ -95,7 +95,7 @@ impl Disk for RealDisk {
 
     fn remove(&mut self, name: &str) -> Result<(), Stop> {
         self.handles.forget();
-        let done = self.place.remove(name);
+        let done = remove_name(&self.place, &mut self.settled, name);
         self.faults.told(done)
     }
 
@@ -139,6 +139,7 @@ fn begin_in_folders(
     settled: &mut Settled,
     name: &str,
 ) -> io::Result<()> {
+    settled.noted.change(place, name)?;
     match handles.begin(place, name) {
         Err(e) if e.kind() == ErrorKind::NotFound => {
             settled.forget();
@@ -155,6 +156,7 @@ fn rename_into_folders(
     from: &str,
     to: &str,
 ) -> io::Result<()> {
+    settled.noted.change(place, to)?;
     match place.rename(from, to) {
         Err(e) if e.kind() == ErrorKind::NotFound => {
             settled.forget();
@@ -163,4 +165,9 @@ fn rename_into_folders(
         }
         done => done,
     }
+}
+
+fn remove_name(place: &Place, settled: &mut Settled, name: &str) -> io::Result<()> {
+    settled.noted.change(place, name)?;
+    place.remove(name)
 }

@@ -7,6 +7,7 @@ mod files;
 mod handles;
 mod input;
 mod locks;
+mod noted;
 mod place;
 mod settle;
 mod sink;

@@ -182,12 +182,13 @@ pub fn make_folders(rt: &HostRuntime, path: &str) -> io::Result<()> {
     how.mode(FOLDER_MODE).recursive(true).create(rt, path)
 }
 
-/// Makes the names in a folder durable, where the folder is there.
-pub fn sync_folder(rt: &HostRuntime, path: &str) -> io::Result<()> {
-    match unless_absent(File::open(rt, path))? {
-        Some(folder) => folder.sync_all(),
-        None => Ok(()),
-    }
+/// Makes the names in a folder durable, and answers the folder: None where it is absent.
+pub fn sync_folder(rt: &HostRuntime, path: &str) -> io::Result<Option<File>> {
+    let Some(folder) = unless_absent(File::open(rt, path))? else {
+        return Ok(None);
+    };
+    folder.sync_all()?;
+    Ok(Some(folder))
 }
 
 /// None where a name is absent; a path through a file leads to no name.
@@ -219,7 +220,8 @@ fn is_folder(rt: &HostRuntime, path: &str) -> bool {
     }
 }
 
-fn folder_of(path: &str) -> &str {
+/// The folder that holds a path's last element.
+pub fn folder_of(path: &str) -> &str {
     match path.rsplit_once('/') {
         Some(("", _)) => "/",
         Some((folder, _)) => folder,
@@ -241,7 +243,10 @@ fn make_durable(rt: &HostRuntime, path: &str) -> io::Result<()> {
 
 fn make_one_durable(rt: &HostRuntime, path: &str) -> io::Result<()> {
     match DirBuilder::new().mode(FOLDER_MODE).create(rt, path) {
-        Ok(()) => sync_folder(rt, folder_of(path)),
+        Ok(()) => {
+            sync_folder(rt, folder_of(path))?;
+            Ok(())
+        }
         Err(_) if is_folder(rt, path) => Ok(()),
         Err(e) => Err(e),
     }

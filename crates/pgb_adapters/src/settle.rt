@@ -1,4 +1,5 @@
 // Makes the names in a folder durable, and the bytes of the files below one.
+use crate::noted::{Noted, State};
 use crate::place::{Place, no_memory, sync_folder, unless_absent};
 use pgb_outside::Found;
 use std::fs::Metadata;
@@ -12,7 +13,7 @@ const FEW: usize = 8;
 #[derive(Drop)]
 struct Folder {
     path: String,
-    device: u64,
+    state: State,
     // how many folders it holds, where the file system counts them
     held: Option<u64>,
 }
@@ -21,12 +22,14 @@ struct Folder {
 #[derive(Drop)]
 pub struct Settled {
     paths: Vec<String>,
+    pub noted: Noted,
 }
 
 impl Settled {
     pub fn new(rt: &HostRuntime) -> Self {
         Settled {
             paths: Vec::new(rt.alloc()),
+            noted: Noted::new(rt),
         }
     }
 
@@ -39,7 +42,7 @@ impl Settled {
         self.paths.iter().any(|settled| settled.as_str() == path)
     }
 
-    fn note(&mut self, folders: Vec<Folder>) -> io::Result<()> {
+    fn add(&mut self, folders: Vec<Folder>) -> io::Result<()> {
         for folder in folders {
             self.paths.push(folder.path).map_err(no_memory)?;
         }
@@ -64,15 +67,16 @@ pub fn settle(place: &Place, settled: &mut Settled, folder: &str) -> io::Result<
         add_folders_below(place, next, usize::MAX, &mut folders)?;
         sync_each(place, &folders)?;
     }
-    settled.note(folders)
+    settled.add(folders)
 }
 
-/// The names directly in a folder lie in it; the folder itself lies in those that hold it.
+/// The names directly in a folder lie in it; the folder itself lies in those that hold it. What the note tells isn't synced again.
 pub fn settle_in(place: &Place, settled: &mut Settled, folder: &str) -> io::Result<()> {
     let mut folders = folders_above(place, settled, folder)?;
     add_folder(place, place.path_of(folder)?, &mut folders)?;
-    sync_each(place, &folders)?;
-    settled.note(folders)
+    sync_unless_told(place, &mut settled.noted, &folders)?;
+    settled.noted.write(place);
+    settled.add(folders)
 }
 
 /// Makes the bytes of these files durable, which are all that lie below the folder.
@@ -102,6 +106,21 @@ fn sync_each(place: &Place, folders: &[Folder]) -> io::Result<()> {
         sync_folder(&place.rt, &folder.path)?;
     }
     Ok(())
+}
+
+fn sync_unless_told(place: &Place, noted: &mut Noted, folders: &[Folder]) -> io::Result<()> {
+    let told = noted.told(place);
+    see_each(noted, folders);
+    for folder in folders {
+        noted.sync(place, &told, &folder.path, folder.state)?;
+    }
+    Ok(())
+}
+
+fn see_each(noted: &mut Noted, folders: &[Folder]) {
+    for folder in folders {
+        noted.see(folder.state);
+    }
 }
 
 // The folders that hold the folder, up to the root, but for those that are settled.
@@ -149,7 +168,7 @@ fn add_folder(place: &Place, path: String, folders: &mut Vec<Folder>) -> io::Res
 fn push_folder(path: String, told: &Metadata, folders: &mut Vec<Folder>) -> io::Result<()> {
     let folder = Folder {
         path,
-        device: told.dev(),
+        state: State::of(told),
         held: told.nlink().checked_sub(2),
     };
     folders.push(folder).map_err(no_memory)
@@ -198,7 +217,9 @@ fn add_folders_in(place: &Place, path: &str, folders: &mut Vec<Folder>) -> io::R
 
 fn lie_on_one_device(folders: &[Folder]) -> bool {
     match folders.first() {
-        Some(first) => folders.iter().all(|folder| folder.device == first.device),
+        Some(first) => folders
+            .iter()
+            .all(|folder| folder.state.device == first.state.device),
         None => true,
     }
 }

@@ -14,6 +14,7 @@ enum Call {
     RenameTo(&'static str),
     Remove,
     Settle,
+    SettleIn,
 }
 
 fn answer(disk: &mut RealDisk, call: Call, name: &str) -> Result<(), Stop> {
@@ -24,6 +25,7 @@ fn answer(disk: &mut RealDisk, call: Call, name: &str) -> Result<(), Stop> {
         Call::RenameTo(to) => disk.rename(name, to),
         Call::Remove => disk.remove(name),
         Call::Settle => disk.settle(name),
+        Call::SettleIn => disk.settle_in(name),
     }
 }
 
@@ -52,6 +54,10 @@ const CALLS: &[(Call, &str, Result<(), Stop>)] = &[
     (Call::Settle, "c", Ok(())),
     (Call::Settle, "absent/x", Ok(())),
     (Call::Settle, "c/d/f", Ok(())),
+    (Call::SettleIn, "c/d", Ok(())),
+    (Call::SettleIn, "c/d", Ok(())),
+    (Call::SettleIn, "absent/x", Ok(())),
+    (Call::SettleIn, "c/d/f", Ok(())),
     // what is begun again is empty
     (Call::Begin, "e", Ok(())),
     (Call::Settle, "many", Ok(())),
@@ -176,5 +182,68 @@ fn tells_folders(rt: HostRuntime) {
     shell(&rt, &scratch, "mkdir a/$(printf '\\377')");
     assert!(rt; disk.folders(rt.alloc(), "a").is_err());
     same(&rt, disk.faults(), 1);
+    well(&rt, scratch.remove());
+}
+
+const IS_ABSENT: &str = "[ ! -e settled.note ]";
+
+// It ends with its sum, and no part of what stood there before is left.
+const IS_WHOLE: &str = "[ \"$(head -n 1 settled.note)\" = 'settled folders' ]
+tail -n 1 settled.note | grep -Eqx '[0-9]+'
+[ -z \"$(grep -Evx 'settled folders|[0-9]+( [0-9]+){3}|[0-9]+' settled.note)\" ]
+[ \"$(stat -c %a settled.note)\" = 600 ]";
+
+// What is done to the note, and what it is once a program has changed a name and settled its folder.
+const NOTES: &[(&str, &str)] = &[
+    ("true", IS_WHOLE),
+    ("true", IS_WHOLE),
+    ("printf x >>settled.note", IS_WHOLE),
+    ("printf 'settled folders\\n1 2 3' >settled.note", IS_WHOLE),
+    ("printf '\\377' >settled.note", IS_WHOLE),
+    ("head -c 70000 /dev/zero >settled.note", IS_WHOLE),
+    ("rm settled.note; mkdir settled.note", "[ -d settled.note ]"),
+    // a link, also to a file, is left as it is
+    (
+        "rmdir settled.note; echo 1 >other; ln -s other settled.note",
+        "[ -L settled.note ]; [ \"$(cat other)\" = 1 ]",
+    ),
+];
+
+// Each disk stands for a program of its own.
+fn change_and_settle(rt: &impl Abort, mut disk: RealDisk, root: &str) {
+    same(rt, disk.open(root), Ok(()));
+    same(rt, disk.settle_in("a"), Ok(()));
+    same(rt, disk.begin("a/f"), Ok(()));
+    same(rt, disk.rename("a/f", "a/g"), Ok(()));
+    same(rt, disk.settle_in("a"), Ok(()));
+}
+
+fn only_settle(rt: &impl Abort, mut disk: RealDisk, root: &str) {
+    same(rt, disk.open(root), Ok(()));
+    same(rt, disk.settle_in("a"), Ok(()));
+}
+
+#[test]
+fn notes_what_is_settled(rt: HostRuntime) {
+    let scratch = well(&rt, Scratch::new(rt, "noted"));
+    only_settle(&rt, RealDisk::new(rt), &scratch.path);
+    shell(&rt, &scratch, IS_ABSENT);
+    for (before, after) in NOTES {
+        shell(&rt, &scratch, before);
+        change_and_settle(&rt, RealDisk::new(rt), &scratch.path);
+        shell(&rt, &scratch, after);
+    }
+    well(&rt, scratch.remove());
+}
+
+#[test]
+fn writes_no_note_where_nothing_is_changed(rt: HostRuntime) {
+    let scratch = well(&rt, Scratch::new(rt, "unnoted"));
+    change_and_settle(&rt, RealDisk::new(rt), &scratch.path);
+    shell(&rt, &scratch, "cp settled.note kept; mkdir b; touch a/h");
+    only_settle(&rt, RealDisk::new(rt), &scratch.path);
+    shell(&rt, &scratch, "cmp settled.note kept; rm settled.note");
+    only_settle(&rt, RealDisk::new(rt), &scratch.path);
+    shell(&rt, &scratch, IS_ABSENT);
     well(&rt, scratch.remove());
 }
