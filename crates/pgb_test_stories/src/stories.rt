@@ -66,12 +66,15 @@ fn calls_go_on_behind_a_stop(rt: HostRuntime) {
 #[test]
 fn backups_go_on_behind_a_stop(rt: HostRuntime) {
     let alloc = rt.alloc();
-    for moment in 0..200u64 {
+    let made = well(&rt, calls(alloc, &[CREATE], 9, 0));
+    let first = well(&rt, played(alloc, made)).0.repo.moment();
+    for number in 0..200u64 {
+        let moment = first.saturating_add(number);
         let acts = well(&rt, calls(alloc, &[CREATE, BACKUP, BACKUP], 1, moment));
         let (disks, statuses) = match played(alloc, acts) {
             Ok(end) => end,
             Err(fault) => {
-                same(&rt, (fault, 8 < moment), (PlayFault::Moment, true));
+                same(&rt, (fault, 8 < number), (PlayFault::Moment, true));
                 return;
             }
         };
