@@ -50,7 +50,7 @@ each() {
     get_nothing "$@"
 }
 
-make_segments 16 8
+make_segments 16 12
 want 0 '' --lock-path="$room/lock" --no-online stanza-create
 want 0 '' --lock-path="$room/lock" archive-push "$(segment 16)"
 push 2 'behind a push' 17
@@ -64,6 +64,19 @@ each 1 'where the folder has another name'
 rm "$folder/other"
 push 3 'where the folder has lost a name' 19
 each 0 'behind that push'
+
+# A push that is killed as it comes to sync the folder, or whose sync of it fails: who finds what it stored syncs it first.
+number=20
+for fault in signal=KILL error=EIO; do
+    pushed=$(segment "$number")
+    strace -f -qq -o calls -e trace=fsync -e "inject=fsync:$fault:when=2" "$top/bin/pgbackrest" "${places[@]}" \
+        --lock-path="$room/lock" archive-push "$pushed" >output 2>&1 || true
+    each 1 "behind a push with $fault"
+    push 3 "behind a push with $fault" $((number + 1))
+    each 0 "behind that push"
+    number=$((number + 2))
+done
+
 chmod 711 repo/archive
 chmod 700 repo/archive
 each 1 'where a folder above has changed'
@@ -81,9 +94,9 @@ rm "$note"
 each 5 'without the note'
 [ ! -e "$note" ] || complain 'a command that changes no name wrote the note'
 # The root has another name with a new note, and is noted once the clock is past that: at the second push or the one behind it.
-push 7 'without the note' 20
+push 7 'without the note' 24
 each 1 'behind the push that made the note'
-push 3 'behind the push that made the note' 21
-want 0 '' --lock-path="$room/lock" archive-push "$(segment 22)"
-push 2 'with the new note' 23
+push 3 'behind the push that made the note' 25
+want 0 '' --lock-path="$room/lock" archive-push "$(segment 26)"
+push 2 'with the new note' 27
 exit "$wrong"
