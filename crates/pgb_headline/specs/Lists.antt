@@ -13,7 +13,7 @@ use Rattle.pgb_model.proofs.Reopened.{IsReopened}
 use Rattle.pgb_story.specs.Story.{Call, Disks}
 use Rattle.pgb_headline.specs.declared.playing.Act.{Act}
 use Rattle.pgb_headline.specs.declared.playing.Disks.{Disks as Pair}
-use Rattle.pgb_headline.specs.declared.playing.Workers.{Workers}
+use Rattle.pgb_headline.specs.declared.workers.Workers.{Workers}
 use Rattle.pgb_worker_links.specs.Workers.{state_of}
 use Rattle.pgb_headline.specs.Acts.{both, GoesOn}
 

@@ -8,7 +8,9 @@
 mod calling;
 mod listing;
 mod playing;
+mod workers;
 
 pub use calling::called;
 pub use listing::play;
-pub use playing::{Act, Disks, Halt, Left, PlayFault, Workers, play_one};
+pub use playing::{Act, Disks, Halt, Left, PlayFault, play_one};
+pub use workers::Workers;

@@ -5,15 +5,15 @@ ghost use Rattle.pgb_outside.specs.Moments.{IsImage};
 ghost use Rattle.pgb_model.proofs.Reopened.{IsReopened};
 ghost use Rattle.pgb_story.specs.Story.{Call, KeepsAll};
 ghost use Rattle.pgb_headline.specs.Acts.{Went};
-ghost use Rattle.pgb_command.specs.Told.{AreWorkers};
 ghost use Rattle.pgb_headline.specs.Lists.{views, files_of, nodes_of, links_of, IsLeft, ActGoes};
 
 use crate::calling::called;
+use crate::workers::Workers;
 use pgb_command::Outside;
 use pgb_memory::{MemClock, MemDisk, MemLocks, MemSink, MemSource, MemTree, MemWire};
-use pgb_outside::{Disk, Link, NotThere};
-use pgb_worker_links::{MemLink, MemTurns};
-use std::alloc::{AllocError, Global};
+use pgb_outside::{Disk, NotThere};
+use pgb_worker_links::MemTurns;
+use std::alloc::Global;
 
 /// What a stop leaves of a disk: the moment of the stop, which kept value each name has, and the bytes of loose names; and
 /// which calls are to fail afterwards.
@@ -30,37 +30,6 @@ pub struct Left {
 pub struct Halt {
     pub repo: Left,
     pub spool: Left,
-}
-
-/// Workers in memory: not too many, and none has bytes of an earlier answer to give.
-#[derive(Drop)]
-pub struct Workers {
-    pub links: Vec<MemLink>,
-    ghost are: { AreWorkers (map ⟦<MemLink as Link>⟧.link_state links.items) },
-}
-
-impl Workers {
-    /// No workers.
-    pub fn none(alloc: Global) -> Self
-        ensures { result.links.items ≡ [] }
-    {
-        Workers {
-            links: Vec::new(alloc),
-        }
-    }
-
-    /// One worker, whose data folder has these files and whose repository these names, and of whose link the calls with
-    /// these numbers fail.
-    pub fn one(
-        alloc: Global,
-        tree: Vec<(String, Vec<u8>)>,
-        repo: Vec<(String, Vec<u8>)>,
-        fail: Vec<u64>,
-    ) -> Result<Self, AllocError> {
-        let mut links = Vec::new(alloc);
-        links.push(MemLink::new(alloc, tree, repo, fail)?)?;
-        Ok(Workers { links })
-    }
 }
 
 /// A call of the program with these words, on this data folder, with this server, clock, locks that others hold,
