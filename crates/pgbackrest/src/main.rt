@@ -89,7 +89,7 @@ fn workers(rt: HostRuntime, program: &str) -> io::Result<Vec<RealLink>>
     ensures { IfOk result (λ links. length links.items ≤ 64) }
 {
     let mut links = Vec::new(rt.alloc());
-    for _ in 0..WORKERS {
+    for number in 0..WORKERS {
         links
             .push(worker(rt, program)?)
             .map_err(|_| ErrorKind::OutOfMemory)?;
