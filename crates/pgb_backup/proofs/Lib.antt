@@ -15,4 +15,3 @@ pub mod Labels
 pub mod Far
 pub mod Offline
 pub mod Mixing
-pub mod Causes
