@@ -27,6 +27,7 @@ use Rattle.pgb_recover.specs.Choosing.{OnList, IsLast, IsChosen, IsSetOf}
 use Rattle.pgb_recover.specs.Loading.{HasManifest}
 use Rattle.pgb_recover.specs.Restoring.{Before, Recovers, GivesBackup}
 use Rattle.pgb_recover.specs.Texts.{restored_line}
+use Rattle.pgb_recover.proofs.Chosen.{in_last}
 
 -- ---- one text, one value
 
@@ -58,13 +59,6 @@ last_in {X} {Y} g (x ∷ x2 ∷ xs) y (z ∷ front, e) =
     let rest : map g (x2 ∷ xs) ≡ front ++ y ∷ [] = cc in
     let r = last_in g (x2 ∷ xs) y (front, rest) in
     (r.0, (x ∷ r.1.0, ap (λ (l : List X). x ∷ l) r.1.1), r.2)
-
-in_end : {X : Type 0} (front : List X) (x : X) → In x (front ++ x ∷ [])
-in_end [] x = inl refl
-in_end (y ∷ front) x = inr (in_end front x)
-
-in_last : {X : Type 0} (xs : List X) (x : X) → IsLast xs x → In x xs
-in_last {X} xs x last = subst (λ (l : List X). In x l) (sym last.1) (in_end last.0 x)
 
 chosen_of : (set : Option Label) (s : Stanza) (v : BackupInfo) (label : Label) → v.backups ≡ map (λ (b : Backup). b.entry) s.backups → IsChosen set v label
     → (b : Backup) × IsSetOf set s.backups b × In b s.backups × (b.entry.label ≡ label)

@@ -1,5 +1,6 @@
 -- The links that are left when the workers were started, and those that are used.
-use Rattle.std.proofs.Common.{◌≡◌, ℕ, ◌<◌, ◌+◌, ◌^◌, List, [], ◌++◌, length, Option, Some, None, string_bytes, slice_get, refl, sym, ap, ◌∙◌, subst, arith}
+use Rattle.std.proofs.Common.{◌≡◌, ℕ, zero, suc, ◌<◌, ◌^◌, List, [], ◌∷◌, length, length-take, map, take, Option, Some, None, string_bytes, slice_get, refl, sym, ap, ◌∙◌, arith}
+use Rattle.std.proofs.lemmas.List.{take-map, length-map}
 use Rattle.std.specs.Prelude.{IfSome}
 use Rattle.pgb_outside.specs.Cause.{Rises}
 use Rattle.pgb_outside.specs.Links.{LinkState}
@@ -7,7 +8,7 @@ use Rattle.pgb_outside.specs.Tree.{Nodes}
 use Rattle.pgb_model.specs.Text.{Text, In}
 use Rattle.pgb_model.specs.Values.{FileEntry, Manifest}
 use Rattle.pgb_worker_dispatch.specs.declared.fault.Lost.{Lost}
-use Rattle.pgb_worker_dispatch.specs.Run.{AllLost, Left, begun}
+use Rattle.pgb_worker_dispatch.specs.Run.{AllLost, IsReady, Left, begun}
 use Rattle.pgb_restore.specs.declared.fault.FillFault.{FillFault}
 use Rattle.pgb_restore.specs.declared.fault.FillFault.TheVariants as fills
 use Rattle.pgb_restore.specs.Faults.{FillFails, AreLost as AllGone, IsUnread}
@@ -22,6 +23,31 @@ use Rattle.pgb_stage.specs.declared.halt.Halt.{Halt}
 use Rattle.pgb_stage.specs.Halts.{HaltCause, Only}
 use Rattle.pgb_recover.specs.declared.fault.RecoverFault.{RecoverFault}
 use Rattle.pgb_recover.specs.Filling.{of_fill, AreLost, CannotRead, FillCause}
+
+-- ---- the first links
+
+take_get : {X : Type 0} (n : ℕ) (xs : List X) (i : ℕ) (x : X) → slice_get (take n xs) i ≡ Some x → slice_get xs i ≡ Some x
+take_get zero xs i x e = cc
+take_get (suc n) [] i x e = e
+take_get (suc n) (y ∷ ys) zero x e = e
+take_get (suc n) (y ∷ ys) (suc i) x e = take_get n ys i x e
+
+module _ {A : Type 0} (of : A → LinkState) (n : ℕ) (links now : List A) (are : now ≡ take n links) where
+  pub first_links : map of now ≡ take n (map of links)
+  first_links = ap (map of) are ∙ sym (take-map of n links)
+
+  -- what holds of all holds of them
+  pub each_first : (P : LinkState → Type 0) → ((i : ℕ) (s : LinkState) → slice_get (map of links) i ≡ Some s → P s) → (i : ℕ) (s : LinkState) → slice_get (map of now) i ≡ Some s → P s
+  each_first P each i s is = each i s (take_get n (map of links) i s (ap (λ (l : List LinkState). slice_get l i) (sym first_links) ∙ is))
+
+  pub few_first : (most : ℕ) → length links < most → length (take n (map of links)) < most
+  few_first most few = omega (arith, length-take n (map of links), length-map links of, few)
+
+-- links that are left are ready
+pub left_ready : (used now : List LinkState) (mid : List Lost) → Left [] used [] mid now → (i : ℕ) (s : LinkState) → slice_get now i ≡ Some s → IsReady s
+left_ready used now mid left i s is = ((left_is [] used [] mid now left).each i s is).ready
+
+-- ---- the links that were lost
 
 -- so many entries as links
 lost_count : (used : List LinkState) (after : List Lost) (lost : ℕ) → AllGone used [] after → (length after < 2 ^ 32 → lost ≡ length after) → length used < 2 ^ 32 → AreLost used lost

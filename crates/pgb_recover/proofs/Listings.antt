@@ -1,5 +1,5 @@
 -- From what a listing shows to the data folder.
-use Rattle.std.proofs.Common.{◌≡◌, ◌≢◌, ◌⊎◌, inl, inr, ℕ, zero, suc, ◌<◌, List, [], ◌∷◌, map, length, get_or, Contains, Bool, true, false, ◌||◌, bytes_eq, Option, Some, None, string_bytes, refl, sym, ap, ◌∙◌, subst, arith}
+use Rattle.std.proofs.Common.{◌≡◌, ◌≢◌, ◌⊎◌, inl, inr, ℕ, zero, suc, ◌<◌, List, [], ◌∷◌, map, length, get_or, slice_get, Contains, Bool, true, false, ◌||◌, bytes_eq, Option, Some, None, string_bytes, refl, sym, ap, ◌∙◌, subst, arith}
 use Rattle.std.specs.Prelude.{IfSome, IsSome}
 use Rattle.std.specs.List.{list_any}
 use Rattle.std.proofs.lemmas.Slice.Eq.{bytes_eq-Decides}
@@ -50,6 +50,14 @@ server_other s ss node false is f next (inr j) = next f j
 pub server_not_in : (seen : List rust_seen.Seen) → list_any is_server seen ≡ false → (node : Node) → ¬ In (server_path, node) (map seen_of seen)
 server_not_in [] h node i = i
 server_not_in (s ∷ ss) h node i = server_other s ss node (is_server s) refl h (λ f. server_not_in ss f node) i
+
+-- what a listing shows first
+pub first_shown : (seen : List rust_seen.Seen) (s : rust_seen.Seen) → slice_get seen 0 ≡ Some s → (path : Text) → path ≡ string_bytes s.path → (node : Node) × (rest : List Shown) × (map seen_of seen ≡ (path, node) ∷ rest)
+first_shown [] s is path same = cc
+first_shown (x ∷ seen) s is path same =
+    let h : ◌≡◌ {A = Option rust_seen.Seen} (Some x) (Some s) = is in
+    let one : string_bytes x.path ≡ path = (let e : x ≡ s = cc in ap (λ (y : rust_seen.Seen). string_bytes y.path) e ∙ sym same) in
+    (x.node, map seen_of seen, ap (λ (p : Text). (p, x.node) ∷ map seen_of seen) one)
 
 module _ (f : Nodes) (seen : List Shown) (listing : IsTreeListing f seen) where
   there : (path : Text) (node : Node) → In (path, node) seen → IsSome (f path)

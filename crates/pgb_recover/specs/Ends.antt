@@ -21,7 +21,7 @@ comes_first other = true
 -- the repository is only read before they are
 abbrev pub fails_first : Object → Bool
 fails_first Repo = true
-fails_first other = false
+fails_first _ = false
 
 -- a restore that ended so has left the folder as it was
 abbrev pub leaves_folder : Halt RecoverFault → Bool

@@ -37,12 +37,15 @@ pub(crate) fn choose(
     ensures rules { IfOk result (λ label. IsLabel label) }
     ensures cause { IfErr result (HaltCause (ChooseCause set (backup_info_of list.now)) (λ _. ⊥)) }
 {
-    let Some(last) = list.backups.last() else {
+    let backups = list.backups.as_slice();
+    let Some(last) = backups.last() else {
         return Err(Halt::Refused(RecoverFault::NoBackup));
     };
-    match set {
-        None => Ok(last.label),
-        Some(label) if has_label(&list.backups, &label) => Ok(label),
-        Some(label) => Err(missing(alloc, &label)),
+    let Some(label) = set else {
+        return Ok(last.label);
+    };
+    if !has_label(backups, &label) {
+        return Err(missing(alloc, &label));
     }
+    Ok(label)
 }

@@ -1,11 +1,9 @@
 // The status and the message of each refusal, and the line of a restore that ended well.
-ghost use Rattle.std.specs.Prelude.{◌≡◌, ◌++◌, codes, string_bytes, IfOk};
+ghost use Rattle.std.specs.Prelude.{◌≡◌, string_bytes, IfOk};
 ghost use Rattle.pgb_model.specs.InfoFiles.{IsLabel};
-ghost use Rattle.pgb_stage.specs.Texts.{damage_text};
 ghost use Rattle.pgb_recover.specs.Texts.{recover_status, recover_message, restored_line, sums_end};
 
 use crate::fault::RecoverFault;
-use pgb_info::MemberFault;
 use pgb_model::Label;
 use pgb_stage::{bytes_of, damage_text, quoted};
 use pgb_stamp::label_text;
@@ -27,20 +25,6 @@ pub fn recover_status(fault: &RecoverFault) -> u8
         RecoverFault::Unread { .. } => 56,
         RecoverFault::FileDamaged { .. } => 63,
     }
-}
-
-// What is told of a manifest that can't be read.
-fn damaged_text(
-    alloc: Global,
-    label: &str,
-    main: &MemberFault,
-    copy: &MemberFault,
-) -> Result<Vec<u8>, NoMemory>
-    ensures { IfOk result (λ line. line.items
-        ≡ codes "manifest of '" ++ (label.now ++ damage_text main.now copy.now)) }
-{
-    let end = damage_text(alloc, main, copy)?;
-    bytes_of(format!(in alloc; "manifest of '{label}{end}"))
 }
 
 // What follows the path of a file whose bytes haven't their sum.
@@ -67,7 +51,8 @@ pub fn recover_message(alloc: Global, fault: &RecoverFault) -> Result<Vec<u8>, N
         RecoverFault::Running => bytes_of(String::from_str(alloc, "postmaster.pid is there")),
         RecoverFault::NotEmpty { path } => quoted(alloc, "folder is not empty: '", path, "'"),
         RecoverFault::ManifestDamaged { label, main, copy } => {
-            damaged_text(alloc, label, main, copy)
+            let end = damage_text(alloc, main, copy)?;
+            quoted(alloc, "manifest of '", label, &end)
         }
         RecoverFault::WorkersLost { lost } => bytes_of(format!(in alloc; "{lost} workers lost")),
         RecoverFault::Unread { path } => quoted(alloc, "'", path, "' could not be read"),

@@ -88,7 +88,7 @@ left_is jobs links before after now left = record {
 pub steady_as : (a b : Option Told) → IsSame a b → IsSteadyWorker a → IsSteadyWorker b
 steady_as None b same w = absurd w
 steady_as (Some a) None same w = absurd same
-steady_as (Some a) (Some b) same w = record { steady = same.1 ∙ w.steady; tree = w.tree; repo = w.repo; reads = reads_as w.tree w.repo b a (sym same.0) w.reads }
+steady_as (Some a) (Some b) same w = record { steady = same.1 ∙ w.steady; tree = w.tree; repo = w.repo; reads = reads_as w.tree w.repo b a same.0 w.reads }
 
 -- what is read by a link that is left is read by one of the first
 read_told : (a b : Option Told) (item : Item) (bytes : Text) → IsSame a b → ReadBy b item bytes → ReadBy a item bytes

@@ -1,5 +1,6 @@
-use Rattle.std.proofs.Common.{rules, ◌≡◌, map, subst, List}
+use Rattle.std.proofs.Common.{List, map, subst}
 use Rattle.pgb_outside.specs.Cause.{Rises}
+use Rattle.pgb_outside.specs.declared.tree.Seen.{Seen}
 use Rattle.pgb_clear.specs.Clearing.{seen_of}
 use Rattle.pgb_stage.specs.declared.object.Object.TheVariants.{DataFolder}
 use Rattle.pgb_stage.specs.Halts.{HaltCause, Only}
@@ -9,4 +10,11 @@ use Rattle.pgb_recover.proofs.Listings.{seen_cause}
 use Rattle.pgb_recover.proofs.looking.look.Goals as goal
 
 pub returns-in_err-check_empty-clause-cause : goal.returns-in_err-check_empty-clause-cause
-returns-in_err-check_empty-clause-cause g c = ?
+returns-in_err-check_empty-clause-cause g c =
+    let nodes = (g.T.Tree.state c.args.tree.now).nodes in
+    let rose = Only DataFolder (Rises (g.T.Tree.state c.args.tree.now).faults (g.T.Tree.state c.list.new.self).faults) in
+    let halt = c.in_err-check_empty.field-0.0 in
+    let seen = c.in-Ok.seen.items in
+    let cause = subst (λ (ss : List Seen). HaltCause (SeenCause (map seen_of ss)) (λ _. ⊥) halt) c.deref.ensures.value c.in_err-check_empty.ensures.cause in
+    ends_with (HaltCause (FolderCause nodes) rose) c.from_residual.result halt c.from_residual.ensures.1
+    (halt_as (SeenCause (map seen_of seen)) (FolderCause nodes) (λ _. ⊥) rose (seen_cause nodes (map seen_of seen) c.in-Ok.ensures.listing) (none_failed rose) halt cause)

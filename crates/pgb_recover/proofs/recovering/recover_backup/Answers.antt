@@ -1,0 +1,55 @@
+use Rattle.std.proofs.Common.{map, take, string_bytes}
+use Rattle.std.specs.Prelude.{IfSome}
+use Rattle.pgb_outside.specs.Cause.{Rises}
+use Rattle.pgb_model.specs.Values.{backup_info_of, manifest_of}
+use Rattle.pgb_stage.specs.declared.object.Object.TheVariants.{DataFolder}
+use Rattle.pgb_stage.specs.Halts.{HaltCause, Only}
+use Rattle.pgb_stage.specs.Risen.{none, rose_in}
+use Rattle.pgb_recover.specs.Causes.{RecoverCause}
+use Rattle.pgb_recover.specs.Choosing.{IsChosen}
+use Rattle.pgb_recover.specs.Filling.{FillCause}
+use Rattle.pgb_recover.specs.Restoring.{Before, Chooses, Recovers}
+use Rattle.pgb_recover.proofs.Causing.{on_list, fill_recovers, folder_fails, rises_from}
+use Rattle.pgb_recover.proofs.Giving.{gives_backup}
+use Rattle.pgb_recover.proofs.Halts.{halt_as, ends_with}
+use Rattle.pgb_recover.proofs.recovering.recover_backup.Goals as goal
+
+pub returns-in_err-fill-clause-cause : goal.returns-in_err-fill-clause-cause
+returns-in_err-fill-clause-cause g c =
+    let stanza = c.args.stanza.now in
+    let set = c.args.order.now.set in
+    let repo = (g.D.Disk.state c.args.repo.now).view.now in
+    let b : Before = record { stanza = stanza; set = set; repo = repo; nodes = (g.T.Tree.state c.args.tree.now).nodes; used = take c.args.order.now.workers (map g.L.Link.link_state c.args.links.now.items) } in
+    let label = c.in_ok-label.label in
+    let m = manifest_of c.in_ok-manifest.manifest in
+    let first = (g.T.Tree.state c.args.tree.now).faults in
+    let old = (g.T.Tree.state c.look.new.tree).faults in
+    let new = (g.T.Tree.state c.fill.new.tree).faults in
+    let repo_rose = Rises (g.D.Disk.state c.args.repo.now).faults (g.D.Disk.state c.load.new.repo).faults in
+    let rose = rose_in (record none { repo = repo_rose; tree = Rises first new }) in
+    let halt = c.in_err-fill.field-0.0 in
+    let chosen : Chooses b label = on_list stanza repo (backup_info_of c.args.backup.now) c.requires.backup.0 (λ v. IsChosen set v label) c.in_ok-label.ensures.chosen in
+    ends_with (HaltCause (RecoverCause b) rose) c.from_residual-in_err-fill.result halt c.from_residual-in_err-fill.ensures.1
+    (halt_as (FillCause stanza m b.used) (RecoverCause b) (Only DataFolder (Rises old new)) rose
+    (fill_recovers b label chosen c.in_ok-seen.ensures.empty m c.in_ok-manifest.ensures.found)
+    (folder_fails repo_rose (Rises first new) (Rises old new) (rises_from first old new c.in_ok-seen.ensures.looks.later))
+    halt c.in_err-fill.ensures.cause)
+
+pub returns-clause-given : goal.returns-clause-given
+returns-clause-given g c = λ s f told now.
+    let stanza = c.args.stanza.now in
+    let set = c.args.order.now.set in
+    let repo = (g.D.Disk.state c.args.repo.now).view.now in
+    let b : Before = record { stanza = stanza; set = set; repo = repo; nodes = (g.T.Tree.state c.args.tree.now).nodes; used = take c.args.order.now.workers (map g.L.Link.link_state c.args.links.now.items) } in
+    let label = c.in_ok-label.label in
+    let nodes = (g.T.Tree.state c.fill.new.tree).nodes in
+    let recovers : Recovers b nodes (string_bytes c.in-Ok.lines) = record {
+      label = label;
+      line = c.in-Ok.ensures;
+      chosen = on_list stanza repo (backup_info_of c.args.backup.now) c.requires.backup.0 (λ v. IsChosen set v label) c.in_ok-label.ensures.chosen;
+      empty = c.in_ok-seen.ensures.empty;
+      manifest = manifest_of c.in_ok-manifest.manifest;
+      has = c.in_ok-manifest.ensures.found;
+      finished = c.in_ok-fill.ensures.finished;
+    } in
+    gives_backup b nodes (string_bytes c.in-Ok.lines) recovers s f told now
