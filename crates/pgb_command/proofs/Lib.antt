@@ -6,6 +6,7 @@ mod Written
 mod Fronts
 mod Configured
 mod Names
+mod Wanted
 mod AskedOnce
 mod Words
 mod Readied

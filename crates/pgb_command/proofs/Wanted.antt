@@ -1,0 +1,33 @@
+-- What the options say is what is in force.
+use Rattle.std.proofs.Common.{◌≡◌, ◌∙◌, List, Result, Ok, Err, IfOk, IfErr, sym, ap, subst}
+use Rattle.std.specs.Prelude.{map, string_bytes}
+use Rattle.pgb_model.specs.Text.{Text}
+use Rattle.pgb_options.specs.declared.options.Options.{Options}
+use Rattle.pgb_options.specs.declared.settle.Command.{Command}
+use Rattle.pgb_options.specs.Commands.{IsCommand}
+use Rattle.pgb_options.specs.Filled.{AreOptions}
+use Rattle.pgb_options.specs.Settings.{Source, Settled, value}
+use Rattle.pgb_table.specs.declared.table.Verb.{Verb}
+use Rattle.pgb_command.specs.Asked.{Request, Wanted, wanted_in, request_by, requested}
+use Rattle.pgb_command.specs.Told.{wanted_told}
+
+wanted_is : (o : Options) (s : Source) → AreOptions o (value s) → wanted_told o ≡ wanted_in s
+wanted_is o s is =
+    let background = is.archive_async in
+    let form = is.output in
+    let online = is.online in
+    let kind = is.backup_type in
+    let delta = is.delta in
+    let bundles = is.repo1_bundle in
+    let expires = is.expire_auto in
+    let recovery = is.restore_type in
+    let label = is.set in
+    let workers = is.process_max in
+    cc
+
+-- what the command asks for is what its settings ask for
+pub request_is : (c : Command) (s : Settled) → IsCommand c s → request_by c.verb (wanted_told c.options) (map string_bytes c.given.items) ≡ requested s
+request_is c s is =
+    ap (λ (v : Verb). request_by v (wanted_told c.options) (map string_bytes c.given.items)) is.verb
+    ∙ ap (λ (w : Wanted). request_by s.source.verb w (map string_bytes c.given.items)) (wanted_is c.options s.source is.options)
+    ∙ ap (λ (g : List Text). request_by s.source.verb (wanted_in s.source) g) is.given
