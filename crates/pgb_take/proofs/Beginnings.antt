@@ -64,7 +64,7 @@ same_backups a b w (Without pending is) = ap (λ (v : BackupInfo). v.backups) is
 
 -- ---- the listing
 
-abbrev is_pid : rust_seen.Seen → Bool
+abbrev pub is_pid : rust_seen.Seen → Bool
 is_pid s = bytes_eq (string_bytes s.path) server_path
 
 first_pid : (s : rust_seen.Seen) (ss : List rust_seen.Seen) (b : Bool) → is_pid s ≡ b → (b || list_any is_pid ss) ≡ true → (list_any is_pid ss ≡ true → (node : Node) × Contains (map seen_of ss) (server_path, node)) → (node : Node) × Contains (map seen_of (s ∷ ss)) (server_path, node)

@@ -1,6 +1,21 @@
-use Rattle.pgb_take.proofs.Beginnings.{look_stops, is_there, is_not_there}
+use Rattle.std.proofs.Common.{◌≡◌, List, map, Bool, true, false, IfSome, sym, ◌∙◌, ap, subst}
+use Rattle.std.specs.List.{list_any}
+use Rattle.pgb_outside.specs.declared.tree.Seen as rust_seen
+use Rattle.pgb_outside.specs.Tree.{IsTreeListing}
+use Rattle.pgb_plan.specs.Views.{seen_of}
+use Rattle.pgb_take.proofs.Beginnings.{is_pid, look_stops, is_there, is_not_there}
 use Rattle.pgb_take.proofs.looking.look.Goals as goal
 
 pub returns-in-Err-clause-cause : goal.returns-in-Err-clause-cause
 returns-in-Err-clause-cause g c = look_stops (g.T.Tree.state c.args.tree.now).nodes _ _ c.list.result c.in-Err.stop c.halted.result
     c.in-Err.is c.list.ensures.cause c.halted.ensures
+
+pub returns-then-is_running-clause-cause : goal.returns-then-is_running-clause-cause
+returns-then-is_running-clause-cause g c =
+    let any : list_any is_pid c.in-Ok.seen.items ≡ true = ap (λ (ss : List rust_seen.Seen). list_any is_pid ss) (sym c.deref.ensures.value) ∙ sym c.is_running.ensures ∙ c.if-is_running.true in
+    is_there (g.T.Tree.state c.args.tree.now).nodes c.in-Ok.seen.items c.in-Ok.ensures.listing any
+
+pub returns-clause-stopped : goal.returns-clause-stopped
+returns-clause-stopped g c =
+    let none : list_any is_pid c.in-Ok.seen.items ≡ false = ap (λ (ss : List rust_seen.Seen). list_any is_pid ss) (sym c.deref.ensures.value) ∙ sym c.is_running.ensures ∙ c.if-is_running.false in
+    is_not_there (g.T.Tree.state c.args.tree.now).nodes c.in-Ok.seen.items c.in-Ok.ensures.listing none
