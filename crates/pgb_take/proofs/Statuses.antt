@@ -1,5 +1,5 @@
 -- What the status of a refusal tells of it.
-use Rattle.std.proofs.Common.{◌≤◌, arith}
+use Rattle.std.proofs.Common.{◌≤◌, ◌⊎◌, inl, inr, arith}
 use Rattle.pgb_take.specs.declared.fault.TakeFault.{TakeFault}
 use Rattle.pgb_take.specs.declared.fault.TakeFault.TheVariants as faults
 use Rattle.pgb_take.specs.Texts.{take_status}
@@ -18,3 +18,21 @@ take_over faults.ListingUnordered = omega arith
 take_over (faults.ControlMissing path) = omega arith
 take_over (faults.Unread path) = omega arith
 take_over (faults.TooLong name limit) = omega arith
+
+-- none has a status of a server's refusal that is 47 to 51
+apart : (fault : TakeFault) → (take_status fault ≤ 46) ⊎ (52 ≤ take_status fault)
+apart (faults.HistoryDiffers at) = inr (omega arith)
+apart (faults.StanzaMismatch kept found) = inl (omega arith)
+apart faults.Running = inl (omega arith)
+apart (faults.TooMany limit) = inr (omega arith)
+apart (faults.WorkersLost lost) = inr (omega arith)
+apart (faults.ClockBehind latest now) = inl (omega arith)
+apart (faults.LinkFound path) = inl (omega arith)
+apart (faults.NameRefused path) = inl (omega arith)
+apart faults.ListingUnordered = inl (omega arith)
+apart (faults.ControlMissing path) = inl (omega arith)
+apart (faults.Unread path) = inr (omega arith)
+apart (faults.TooLong name limit) = inr (omega arith)
+
+pub take_within : (fault : TakeFault) → (2 ≤ take_status fault) × ((take_status fault ≤ 46) ⊎ (52 ≤ take_status fault))
+take_within fault = (take_over fault, apart fault)
