@@ -1,3 +1,4 @@
+mod Fresh
 mod Bounded
 mod Deciding
 mod Shown
