@@ -45,10 +45,6 @@ pub err_as : {T E : Type 0} (P Q : Halt E → Type 0) (result : Result T (Halt E
 err_as P Q (Ok x) to h = tt
 err_as P Q (Err e) to h = to e h
 
--- no object fails by this
-pub none_failed : (G : Object → Type 0) (o : Object) → ⊥ → G o
-none_failed G o h = absurd h
-
 -- ---- the values of the pairs
 
 pub unfit_cause : (told : Control) (a : ArchiveInfo) (b : BackupInfo) (e : StanzaFault) (h : Halt TakeFault) → h ≡ of_stanza e → Unfit told a b e → HaltCause (FitCause told a b) (λ _. ⊥) h
@@ -115,62 +111,3 @@ is_not_there (Some f) seen listing is = by (f server_path) refl
 pub look_stops : {T : Type 0} (nodes : Option Nodes) (old new : ℕ) (result : Result T Stop) (stop : Stop) (h : Halt TakeFault) → result ≡ Err stop → HasCause old new result → h ≡ halt_of DataFolder stop → HaltCause (RunningCause nodes) (Only DataFolder (Rises old new)) h
 look_stops nodes old new result stops.Failed h is cause at = subst (HaltCause (RunningCause nodes) (Only DataFolder (Rises old new))) (sym at) (refl, cause.failed is)
 look_stops nodes old new result stops.NoMemory h is cause at = subst (HaltCause (RunningCause nodes) (Only DataFolder (Rises old new))) (sym at) tt
-
--- ---- each is one of the beginning's
-
-module _ (told : Control) (a : ArchiveInfo) (b : BackupInfo) (nodes : Option Nodes) (used : List LinkState) where
-  pub fit_begins : (e : TakeFault) → FitCause told a b e → BeginCause told a b nodes used e
-  fit_begins (faults.HistoryDiffers at) h = h
-  fit_begins (faults.StanzaMismatch kept found) h = h
-  fit_begins faults.Running h = absurd h
-  fit_begins (faults.TooMany limit) h = absurd h
-  fit_begins (faults.WorkersLost lost) h = absurd h
-  fit_begins (faults.ClockBehind latest now) h = absurd h
-  fit_begins (faults.LinkFound path) h = absurd h
-  fit_begins (faults.NameRefused path) h = absurd h
-  fit_begins faults.ListingUnordered h = absurd h
-  fit_begins (faults.ControlMissing path) h = absurd h
-  fit_begins (faults.Unread path) h = absurd h
-  fit_begins (faults.TooLong name limit) h = absurd h
-
-  pub running_begins : (e : TakeFault) → RunningCause nodes e → BeginCause told a b nodes used e
-  running_begins (faults.HistoryDiffers at) h = absurd h
-  running_begins (faults.StanzaMismatch kept found) h = absurd h
-  running_begins faults.Running h = h
-  running_begins (faults.TooMany limit) h = absurd h
-  running_begins (faults.WorkersLost lost) h = absurd h
-  running_begins (faults.ClockBehind latest now) h = absurd h
-  running_begins (faults.LinkFound path) h = absurd h
-  running_begins (faults.NameRefused path) h = absurd h
-  running_begins faults.ListingUnordered h = absurd h
-  running_begins (faults.ControlMissing path) h = absurd h
-  running_begins (faults.Unread path) h = absurd h
-  running_begins (faults.TooLong name limit) h = absurd h
-
-  pub room_begins : (w : BackupInfo) → w.backups ≡ b.backups → (e : TakeFault) → RoomCause w e → BeginCause told a b nodes used e
-  room_begins w same (faults.HistoryDiffers at) h = absurd h
-  room_begins w same (faults.StanzaMismatch kept found) h = absurd h
-  room_begins w same faults.Running h = absurd h
-  room_begins w same (faults.TooMany limit) h = (h.0, subst (λ (es : List Entry). most_backups ≤ length es) same h.1)
-  room_begins w same (faults.WorkersLost lost) h = absurd h
-  room_begins w same (faults.ClockBehind latest now) h = absurd h
-  room_begins w same (faults.LinkFound path) h = absurd h
-  room_begins w same (faults.NameRefused path) h = absurd h
-  room_begins w same faults.ListingUnordered h = absurd h
-  room_begins w same (faults.ControlMissing path) h = absurd h
-  room_begins w same (faults.Unread path) h = absurd h
-  room_begins w same (faults.TooLong name limit) h = absurd h
-
-  pub lost_begins : (e : TakeFault) → LostCause used e → BeginCause told a b nodes used e
-  lost_begins (faults.HistoryDiffers at) h = absurd h
-  lost_begins (faults.StanzaMismatch kept found) h = absurd h
-  lost_begins faults.Running h = absurd h
-  lost_begins (faults.TooMany limit) h = absurd h
-  lost_begins (faults.WorkersLost lost) h = h
-  lost_begins (faults.ClockBehind latest now) h = absurd h
-  lost_begins (faults.LinkFound path) h = absurd h
-  lost_begins (faults.NameRefused path) h = absurd h
-  lost_begins faults.ListingUnordered h = absurd h
-  lost_begins (faults.ControlMissing path) h = absurd h
-  lost_begins (faults.Unread path) h = absurd h
-  lost_begins (faults.TooLong name limit) h = absurd h

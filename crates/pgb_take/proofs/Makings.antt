@@ -70,49 +70,6 @@ plan_cause seen result fault h is refused orderly at = subst (HaltCause (Listing
 abbrev pub Either : Type 0 → Type 0 → Object → Type 0
 Either repo clock = rose_in (record none { repo = repo; clock = clock })
 
-pub second_cause : (seen : List ListedNode) (fault : SecondFault) (h : Halt TakeFault) (old new : ℕ) (clock new_clock : ClockState) → h ≡ of_second fault → SecondCause fault old new clock new_clock → HaltCause (DraftCause seen clock.least) (Either (Rises old new) (Rises clock.faults new_clock.faults)) h
-second_cause seen fault h old new clock new_clock is cause = subst (HaltCause (DraftCause seen clock.least) (Either (Rises old new) (Rises clock.faults new_clock.faults))) (sym is) (by fault cause)
-  where
-    by : (f : SecondFault) → SecondCause f old new clock new_clock → HaltCause (DraftCause seen clock.least) (Either (Rises old new) (Rises clock.faults new_clock.faults)) (of_second f)
-    by (seconds.ClockBehind latest now) k = k
-    by seconds.Clock k = k
-    by seconds.Disk k = k
-    by seconds.NoMemory k = tt
-
--- what a listing is refused for, the draft is
-pub listing_drafts : (seen : List ListedNode) (least : ℕ) (e : TakeFault) → ListingCause seen e → DraftCause seen least e
-listing_drafts seen least (faults.HistoryDiffers at) h = absurd h
-listing_drafts seen least (faults.StanzaMismatch kept found) h = absurd h
-listing_drafts seen least faults.Running h = absurd h
-listing_drafts seen least (faults.TooMany limit) h = h
-listing_drafts seen least (faults.WorkersLost lost) h = absurd h
-listing_drafts seen least (faults.ClockBehind latest now) h = absurd h
-listing_drafts seen least (faults.LinkFound path) h = h
-listing_drafts seen least (faults.NameRefused path) h = h
-listing_drafts seen least faults.ListingUnordered h = h
-listing_drafts seen least (faults.ControlMissing path) h = h
-listing_drafts seen least (faults.Unread path) h = absurd h
-listing_drafts seen least (faults.TooLong name limit) h = absurd h
-
--- the draft of a full backup of what was taken of the listing
-module _ (stanza : Text) (second : ℕ) (cluster : Cluster) (listing : Listing) (before : rust_info.BackupInfo) (d : Draft) (drafted : IsDrafted stanza second cluster listing before d) (next : IsNext second (backup_info_of before)) where
-  pub full_of : (seen : List ListedNode) → Takes false seen (map taken_of listing.files.items) (map string_bytes listing.folders.items) → IsFullOf stanza seen (backup_info_of before) d
-  full_of seen takes = record {
-    stanza_is = drafted.stanza_is;
-    full = drafted.label.1;
-    prior = drafted.prior;
-    old = ap (λ (es : List rust_entry.FileEntry). map file_entry_of es) drafted.old;
-    takes = subst (λ (l : Listing). Takes false seen (map taken_of l.files.items) (map string_bytes l.folders.items)) (sym drafted.listing_is) takes;
-    list_is = ap backup_info_of drafted.before_is;
-    next = subst (λ (n : ℕ). IsNext n (backup_info_of before)) (sym drafted.label.0) next;
-  }
-
-  pub label_of : IsLabel d.label
-  label_of = record {
-    full = subst (λ (n : ℕ). n ≤ last_second) (sym drafted.label.0) next.in_range;
-    later = subst (λ (o : Option Later). IfSome o (λ p. (p.time ≤ last_second) × (p.kind ≢ Full))) (sym drafted.label.1) tt;
-  }
-
 -- ---- the backup is made
 
 module _ (d : Draft) (links left : List LinkState) (before after : List Lost) (old new told tells : ℕ) (lost : ℕ) (count : length after < 2 ^ 32 → lost ≡ length after) where

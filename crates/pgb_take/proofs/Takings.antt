@@ -97,11 +97,6 @@ pub refused_does : (used : List LinkState) (stanza : Text) (result : Result Outc
     → On (one (IsFullBackup used)) (λ command. Does Whole stanza command (reached_by take_early result) a b)
 refused_does used stanza result h is a b rests same = no_backup used stanza (reached_by take_early result) a b (not_end result h is) (record { now = same; time = rests })
 
--- an error tells of no backup
-pub not_taken : (result : Result Outcome (Halt TakeFault)) (h : Halt TakeFault) (P : Outcome → Type 0) → IsErrAnd result (λ x. x ≡ h) → IfOk result P
-not_taken (Ok x) h P is = absurd is
-not_taken (Err e) h P is = tt
-
 -- ---- what it begins from
 
 pub begins_full : (stanza : Text) (archive : rust_archive_info.ArchiveInfo) (backup : rust_backup_info.BackupInfo) (old mid : Option Content) → mid ≡ old → IsArchiveOf stanza old archive → IsBackupOf stanza old backup
@@ -178,10 +173,7 @@ module _ (stanza : Text) (told : Control) (archive : rust_archive_info.ArchiveIn
     pub finished_taken : (result : Result Outcome (Halt TakeFault)) → Finishes draft now b d result → OnOk result (IsSome b.now → IfSome d.now (AgreeAt (main_of draft))) → IfOk result (λ o. OnFinished o (IsTaken stanza told nodes used old d.now))
     finished_taken result f alike = taken_by f.made result f.end f.outcome alike
 
--- ---- frames and counts
-
-pub looks_frame : (a b c : DiskState) → Looks a b → Frame b c → Frame a c
-looks_frame a b c p q = record { opened = q.opened ∙ p.opened; proper = q.proper ∙ p.proper; later = omega (arith, p.later, q.later) }
+-- ---- counts
 
 pub used_few : {A : Type 0} (of : A → LinkState) (n most : ℕ) (xs : List A) → length xs < most → length (take n (map of xs)) < most
 used_few of n most xs few = omega (arith, few, length-take n (map of xs), length-map xs of)
