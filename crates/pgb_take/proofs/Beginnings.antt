@@ -1,18 +1,17 @@
 -- Why a backup is refused before the repository is looked at.
-use Rattle.std.proofs.Common.{◌≡◌, inl, inr, ℕ, zero, suc, ◌≤◌, ◌<◌, arith, List, [], ◌∷◌, map, Bool, true, false, Option, Some, None, String, Global, string_bytes, refl, sym, ◌∙◌, ap, subst}
-use Rattle.std.specs.Prelude.{IfErr, IfSome, IsSome, IsErrAnd, IsErrOf, Result, Ok, Err, bytes_eq, Contains, ◌||◌, length, slice_index_or}
+use Rattle.std.proofs.Common.{◌≡◌, ℕ, zero, suc, ◌<◌, arith, List, [], ◌∷◌, map, Bool, true, false, Option, Some, None, string_bytes, refl, sym, ◌∙◌, ap, subst}
+use Rattle.std.specs.Prelude.{IfErr, IfSome, IsSome, IsErrAnd, Result, Ok, Err, bytes_eq, Contains, ◌||◌, length, slice_index_or}
 use Rattle.std.specs.List.{list_any}
 use Rattle.std.proofs.lemmas.List.Elements.{Contains-append_right}
 use Rattle.std.proofs.lemmas.Slice.Eq.{bytes_eq-Decides}
 use Rattle.pgb_outside.specs.Cause.{HasCause, Rises}
-use Rattle.pgb_outside.specs.Links.{LinkState}
 use Rattle.pgb_outside.specs.declared.stop.Stop.{Stop}
 use Rattle.pgb_outside.specs.declared.stop.Stop.TheVariants as stops
 use Rattle.pgb_outside.specs.declared.tree.Node.{Node}
 use Rattle.pgb_outside.specs.declared.tree.Seen as rust_seen
 use Rattle.pgb_outside.specs.Tree.{Nodes, Held, IsTreeListing, shown}
 use Rattle.pgb_model.specs.Text.{Text}
-use Rattle.pgb_model.specs.Values.{ArchiveInfo, BackupInfo, Entry}
+use Rattle.pgb_model.specs.Values.{ArchiveInfo, BackupInfo}
 use Rattle.pgb_plan.specs.Filter.{ListedNode}
 use Rattle.pgb_plan.specs.Views.{seen_of}
 use Rattle.pgb_stanza.specs.declared.control.Control.{Control}
@@ -24,9 +23,8 @@ use Rattle.pgb_stage.specs.declared.halt.Halt.{Halt}
 use Rattle.pgb_stage.specs.declared.halt.Halt.TheVariants.{Refused, Failed, NoMemory}
 use Rattle.pgb_stage.specs.Halts.{HaltCause, Only, halt_of}
 use Rattle.pgb_take.specs.declared.fault.TakeFault.{TakeFault}
-use Rattle.pgb_take.specs.declared.fault.TakeFault.TheVariants as faults
 use Rattle.pgb_take.specs.Faults.{of_stanza}
-use Rattle.pgb_take.specs.Beginning.{most_backups, server_path, IsStopped, FitCause, RunningCause, RoomCause, LostCause, BeginCause}
+use Rattle.pgb_take.specs.Beginning.{server_path, IsStopped, FitCause, RunningCause}
 
 -- ---- causes of parts are causes of the whole
 

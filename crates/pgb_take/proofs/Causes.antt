@@ -1,5 +1,5 @@
 -- Why a backup is refused, from what stood before.
-use Rattle.std.proofs.Common.{◌≡◌, inl, inr, ℕ, ◌<◌, ◌≤◌, ◌^◌, List, [], Option, Some, None, Bool, false, string_bytes, refl, sym, ◌∙◌, subst, length}
+use Rattle.std.proofs.Common.{◌≡◌, inl, inr, ℕ, ◌<◌, ◌^◌, List, [], Option, Some, None, false, string_bytes, refl, sym, subst, length}
 use Rattle.std.specs.Prelude.{IfSome}
 use Rattle.pgb_outside.specs.Content.{Content}
 use Rattle.pgb_outside.specs.Links.{LinkState}
@@ -9,29 +9,25 @@ use Rattle.pgb_model.specs.declared.clusters.BackupInfo as rust_backup_info
 use Rattle.pgb_model.specs.InfoFiles.{IsBackupText}
 use Rattle.pgb_model.specs.Names.{backup_info}
 use Rattle.pgb_model.specs.Pair.{PairIs}
-use Rattle.pgb_model.specs.Values.{ArchiveInfo, BackupInfo, archive_info_of, backup_info_of}
+use Rattle.pgb_model.specs.Values.{BackupInfo, archive_info_of, backup_info_of}
 use Rattle.pgb_worker_dispatch.specs.declared.fault.Lost.{Lost}
 use Rattle.pgb_worker_dispatch.specs.Run.{Left}
 use Rattle.pgb_plan.specs.Filter.{ListedNode, Takes}
-use Rattle.pgb_label.specs.declared.keeper.Ended.{Ended}
 use Rattle.pgb_record.specs.Faults.{IsMissing}
 use Rattle.pgb_stage.specs.Current.{HasValue}
-use Rattle.pgb_stanza.specs.Causes.{HistoriesDiffer, HasOther}
 use Rattle.pgb_stanza.specs.Judging.{Settles}
 use Rattle.pgb_backup.specs.declared.draft.Draft.{Draft}
 use Rattle.pgb_backup.specs.Draft.{taken_in, folders_in, jobs_in, files_with, list_in}
 use Rattle.pgb_backup.specs.Faults.{IsManifestTooLong, IsListTooLong}
 use Rattle.pgb_stage.specs.declared.object.Object.{Object}
 use Rattle.pgb_stage.specs.declared.object.Object.TheVariants as objects
-use Rattle.pgb_stage.specs.Halts.{Only}
 use Rattle.pgb_stage.specs.Risen.{none, rose_in}
 use Rattle.pgb_prepare.specs.Readies.{IsArchiveOf, IsBackupOf}
 use Rattle.pgb_take.specs.declared.fault.TakeFault.{TakeFault}
 use Rattle.pgb_take.specs.declared.fault.TakeFault.TheVariants as faults
-use Rattle.pgb_take.specs.Beginning.{BeginCause}
-use Rattle.pgb_take.specs.Causes.{Before, SettlesTo, IsDraftOf, IsFull, TakeCause}
+use Rattle.pgb_take.specs.Causes.{Before, SettlesTo, IsDraftOf, TakeCause}
 use Rattle.pgb_take.specs.Drafting.{IsFullOf, ListingCause, DraftCause}
-use Rattle.pgb_take.specs.Making.{MakeCause, LosesAll}
+use Rattle.pgb_take.specs.Making.{MakeCause}
 use Rattle.pgb_take.proofs.Links.{Comes, left_comes, where_done, unread_used, all_used_lost, within_count}
 use Rattle.pgb_take.proofs.Makings.{Either}
 
