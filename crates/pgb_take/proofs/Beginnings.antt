@@ -1,18 +1,17 @@
 -- Why a backup is refused before the repository is looked at.
-use Rattle.std.proofs.Common.{◌≡◌, inl, inr, ℕ, zero, suc, ◌≤◌, ◌<◌, arith, List, [], ◌∷◌, map, Bool, true, false, Option, Some, None, String, Global, string_bytes, refl, sym, ◌∙◌, ap, subst}
-use Rattle.std.specs.Prelude.{IfErr, IfSome, IsSome, IsErrAnd, IsErrOf, Result, Ok, Err, bytes_eq, Contains, ◌||◌, length, slice_index_or}
+use Rattle.std.proofs.Common.{◌≡◌, ℕ, zero, suc, ◌<◌, arith, List, [], ◌∷◌, map, Bool, true, false, Option, Some, None, string_bytes, refl, sym, ◌∙◌, ap, subst}
+use Rattle.std.specs.Prelude.{IfErr, IfSome, IsSome, IsErrAnd, Result, Ok, Err, bytes_eq, Contains, ◌||◌, length, slice_index_or}
 use Rattle.std.specs.List.{list_any}
 use Rattle.std.proofs.lemmas.List.Elements.{Contains-append_right}
 use Rattle.std.proofs.lemmas.Slice.Eq.{bytes_eq-Decides}
 use Rattle.pgb_outside.specs.Cause.{HasCause, Rises}
-use Rattle.pgb_outside.specs.Links.{LinkState}
 use Rattle.pgb_outside.specs.declared.stop.Stop.{Stop}
 use Rattle.pgb_outside.specs.declared.stop.Stop.TheVariants as stops
 use Rattle.pgb_outside.specs.declared.tree.Node.{Node}
 use Rattle.pgb_outside.specs.declared.tree.Seen as rust_seen
 use Rattle.pgb_outside.specs.Tree.{Nodes, Held, IsTreeListing, shown}
 use Rattle.pgb_model.specs.Text.{Text}
-use Rattle.pgb_model.specs.Values.{ArchiveInfo, BackupInfo, Entry}
+use Rattle.pgb_model.specs.Values.{ArchiveInfo, BackupInfo}
 use Rattle.pgb_plan.specs.Filter.{ListedNode}
 use Rattle.pgb_plan.specs.Views.{seen_of}
 use Rattle.pgb_stanza.specs.declared.control.Control.{Control}
@@ -24,9 +23,8 @@ use Rattle.pgb_stage.specs.declared.halt.Halt.{Halt}
 use Rattle.pgb_stage.specs.declared.halt.Halt.TheVariants.{Refused, Failed, NoMemory}
 use Rattle.pgb_stage.specs.Halts.{HaltCause, Only, halt_of}
 use Rattle.pgb_take.specs.declared.fault.TakeFault.{TakeFault}
-use Rattle.pgb_take.specs.declared.fault.TakeFault.TheVariants as faults
 use Rattle.pgb_take.specs.Faults.{of_stanza}
-use Rattle.pgb_take.specs.Beginning.{most_backups, server_path, IsStopped, FitCause, RunningCause, RoomCause, LostCause, BeginCause}
+use Rattle.pgb_take.specs.Beginning.{server_path, IsStopped, FitCause, RunningCause}
 
 -- ---- causes of parts are causes of the whole
 
@@ -44,10 +42,6 @@ ends_with Q (Err x) h is q = subst Q (sym is) q
 pub err_as : {T E : Type 0} (P Q : Halt E → Type 0) (result : Result T (Halt E)) → ((h : Halt E) → P h → Q h) → IfErr result P → IfErr result Q
 err_as P Q (Ok x) to h = tt
 err_as P Q (Err e) to h = to e h
-
--- no object fails by this
-pub none_failed : (G : Object → Type 0) (o : Object) → ⊥ → G o
-none_failed G o h = absurd h
 
 -- ---- the values of the pairs
 
@@ -115,62 +109,3 @@ is_not_there (Some f) seen listing is = by (f server_path) refl
 pub look_stops : {T : Type 0} (nodes : Option Nodes) (old new : ℕ) (result : Result T Stop) (stop : Stop) (h : Halt TakeFault) → result ≡ Err stop → HasCause old new result → h ≡ halt_of DataFolder stop → HaltCause (RunningCause nodes) (Only DataFolder (Rises old new)) h
 look_stops nodes old new result stops.Failed h is cause at = subst (HaltCause (RunningCause nodes) (Only DataFolder (Rises old new))) (sym at) (refl, cause.failed is)
 look_stops nodes old new result stops.NoMemory h is cause at = subst (HaltCause (RunningCause nodes) (Only DataFolder (Rises old new))) (sym at) tt
-
--- ---- each is one of the beginning's
-
-module _ (told : Control) (a : ArchiveInfo) (b : BackupInfo) (nodes : Option Nodes) (used : List LinkState) where
-  pub fit_begins : (e : TakeFault) → FitCause told a b e → BeginCause told a b nodes used e
-  fit_begins (faults.HistoryDiffers at) h = h
-  fit_begins (faults.StanzaMismatch kept found) h = h
-  fit_begins faults.Running h = absurd h
-  fit_begins (faults.TooMany limit) h = absurd h
-  fit_begins (faults.WorkersLost lost) h = absurd h
-  fit_begins (faults.ClockBehind latest now) h = absurd h
-  fit_begins (faults.LinkFound path) h = absurd h
-  fit_begins (faults.NameRefused path) h = absurd h
-  fit_begins faults.ListingUnordered h = absurd h
-  fit_begins (faults.ControlMissing path) h = absurd h
-  fit_begins (faults.Unread path) h = absurd h
-  fit_begins (faults.TooLong name limit) h = absurd h
-
-  pub running_begins : (e : TakeFault) → RunningCause nodes e → BeginCause told a b nodes used e
-  running_begins (faults.HistoryDiffers at) h = absurd h
-  running_begins (faults.StanzaMismatch kept found) h = absurd h
-  running_begins faults.Running h = h
-  running_begins (faults.TooMany limit) h = absurd h
-  running_begins (faults.WorkersLost lost) h = absurd h
-  running_begins (faults.ClockBehind latest now) h = absurd h
-  running_begins (faults.LinkFound path) h = absurd h
-  running_begins (faults.NameRefused path) h = absurd h
-  running_begins faults.ListingUnordered h = absurd h
-  running_begins (faults.ControlMissing path) h = absurd h
-  running_begins (faults.Unread path) h = absurd h
-  running_begins (faults.TooLong name limit) h = absurd h
-
-  pub room_begins : (w : BackupInfo) → w.backups ≡ b.backups → (e : TakeFault) → RoomCause w e → BeginCause told a b nodes used e
-  room_begins w same (faults.HistoryDiffers at) h = absurd h
-  room_begins w same (faults.StanzaMismatch kept found) h = absurd h
-  room_begins w same faults.Running h = absurd h
-  room_begins w same (faults.TooMany limit) h = (h.0, subst (λ (es : List Entry). most_backups ≤ length es) same h.1)
-  room_begins w same (faults.WorkersLost lost) h = absurd h
-  room_begins w same (faults.ClockBehind latest now) h = absurd h
-  room_begins w same (faults.LinkFound path) h = absurd h
-  room_begins w same (faults.NameRefused path) h = absurd h
-  room_begins w same faults.ListingUnordered h = absurd h
-  room_begins w same (faults.ControlMissing path) h = absurd h
-  room_begins w same (faults.Unread path) h = absurd h
-  room_begins w same (faults.TooLong name limit) h = absurd h
-
-  pub lost_begins : (e : TakeFault) → LostCause used e → BeginCause told a b nodes used e
-  lost_begins (faults.HistoryDiffers at) h = absurd h
-  lost_begins (faults.StanzaMismatch kept found) h = absurd h
-  lost_begins faults.Running h = absurd h
-  lost_begins (faults.TooMany limit) h = absurd h
-  lost_begins (faults.WorkersLost lost) h = h
-  lost_begins (faults.ClockBehind latest now) h = absurd h
-  lost_begins (faults.LinkFound path) h = absurd h
-  lost_begins (faults.NameRefused path) h = absurd h
-  lost_begins faults.ListingUnordered h = absurd h
-  lost_begins (faults.ControlMissing path) h = absurd h
-  lost_begins (faults.Unread path) h = absurd h
-  lost_begins (faults.TooLong name limit) h = absurd h

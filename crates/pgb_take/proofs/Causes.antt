@@ -1,5 +1,5 @@
 -- Why a backup is refused, from what stood before.
-use Rattle.std.proofs.Common.{◌≡◌, inl, inr, ℕ, ◌<◌, ◌≤◌, ◌^◌, List, [], Option, Some, None, Bool, false, string_bytes, refl, sym, ◌∙◌, subst, length}
+use Rattle.std.proofs.Common.{◌≡◌, inl, inr, ℕ, ◌<◌, ◌^◌, List, [], Option, Some, None, false, string_bytes, refl, sym, subst, length}
 use Rattle.std.specs.Prelude.{IfSome}
 use Rattle.pgb_outside.specs.Content.{Content}
 use Rattle.pgb_outside.specs.Links.{LinkState}
@@ -9,29 +9,25 @@ use Rattle.pgb_model.specs.declared.clusters.BackupInfo as rust_backup_info
 use Rattle.pgb_model.specs.InfoFiles.{IsBackupText}
 use Rattle.pgb_model.specs.Names.{backup_info}
 use Rattle.pgb_model.specs.Pair.{PairIs}
-use Rattle.pgb_model.specs.Values.{ArchiveInfo, BackupInfo, archive_info_of, backup_info_of}
+use Rattle.pgb_model.specs.Values.{BackupInfo, archive_info_of, backup_info_of}
 use Rattle.pgb_worker_dispatch.specs.declared.fault.Lost.{Lost}
 use Rattle.pgb_worker_dispatch.specs.Run.{Left}
 use Rattle.pgb_plan.specs.Filter.{ListedNode, Takes}
-use Rattle.pgb_label.specs.declared.keeper.Ended.{Ended}
 use Rattle.pgb_record.specs.Faults.{IsMissing}
 use Rattle.pgb_stage.specs.Current.{HasValue}
-use Rattle.pgb_stanza.specs.Causes.{HistoriesDiffer, HasOther}
 use Rattle.pgb_stanza.specs.Judging.{Settles}
 use Rattle.pgb_backup.specs.declared.draft.Draft.{Draft}
 use Rattle.pgb_backup.specs.Draft.{taken_in, folders_in, jobs_in, files_with, list_in}
 use Rattle.pgb_backup.specs.Faults.{IsManifestTooLong, IsListTooLong}
 use Rattle.pgb_stage.specs.declared.object.Object.{Object}
 use Rattle.pgb_stage.specs.declared.object.Object.TheVariants as objects
-use Rattle.pgb_stage.specs.Halts.{Only}
 use Rattle.pgb_stage.specs.Risen.{none, rose_in}
 use Rattle.pgb_prepare.specs.Readies.{IsArchiveOf, IsBackupOf}
 use Rattle.pgb_take.specs.declared.fault.TakeFault.{TakeFault}
 use Rattle.pgb_take.specs.declared.fault.TakeFault.TheVariants as faults
-use Rattle.pgb_take.specs.Beginning.{BeginCause}
-use Rattle.pgb_take.specs.Causes.{Before, SettlesTo, IsDraftOf, IsFull, TakeCause}
+use Rattle.pgb_take.specs.Causes.{Before, SettlesTo, IsDraftOf, TakeCause}
 use Rattle.pgb_take.specs.Drafting.{IsFullOf, ListingCause, DraftCause}
-use Rattle.pgb_take.specs.Making.{MakeCause, LosesAll}
+use Rattle.pgb_take.specs.Making.{MakeCause}
 use Rattle.pgb_take.proofs.Links.{Comes, left_comes, where_done, unread_used, all_used_lost, within_count}
 use Rattle.pgb_take.proofs.Makings.{Either}
 
@@ -49,9 +45,6 @@ if_both P Q R (Some x) p q to = to x p q
 
 abbrev pub Any : Type 0 → Type 0 → Type 0 → Object → Type 0
 Any repo tree clock = rose_in (record none { repo = repo; tree = tree; clock = clock })
-
-pub folder_any : (repo tree clock : Type 0) (o : Object) → Only objects.DataFolder tree o → Any repo tree clock o
-folder_any repo tree clock o h = subst (Any repo tree clock) (sym h.0) h.1
 
 pub either_any : (repo later tree clock past : Type 0) → (repo → later) → (clock → past) → (o : Object) → Either repo clock o → Any later tree past o
 either_any repo later tree clock past to_repo to_clock objects.Repo h = to_repo h
@@ -92,36 +85,6 @@ module _ (b : Before) (archive : rust_archive_info.ArchiveInfo) (backup : rust_b
   -- what both pairs have
   pub of_pairs : (P : Content → Type 0) → ((f : Content) → HasValue b.stanza f (archive_info_of archive) → PairIs IsBackupText f (backup_info b.stanza) (backup_info_of backup) → P f) → IfSome b.repo P
   of_pairs P to = if_both (λ f. HasValue b.stanza f (archive_info_of archive)) (λ f. PairIs IsBackupText f (backup_info b.stanza) (backup_info_of backup)) P b.repo is_archive.0 is_backup.0 to
-
-  pub begin_takes : (e : TakeFault) → BeginCause b.told (archive_info_of archive) (backup_info_of backup) b.nodes b.used e → TakeCause b e
-  begin_takes (faults.HistoryDiffers at) h = of_pairs (λ f. HistoriesDiffer b.stanza f at) (λ f p q. record {
-    archive = archive_info_of archive;
-    backup = backup_info_of backup;
-    pairs = record { archive = p; backup = q };
-    differ = h.0;
-    settled = h.1;
-  })
-  begin_takes (faults.StanzaMismatch kept found) h = of_pairs (λ f. HasOther b.stanza b.told f kept found) (λ f p q. record {
-    archive = archive_info_of archive;
-    backup = backup_info_of backup;
-    pairs = record { archive = p; backup = q };
-    together = h.0;
-    current = h.3.0;
-    is_current = h.3.1;
-    is_kept = h.3.2;
-    is_found = h.2;
-    apart = h.1;
-  })
-  begin_takes faults.Running h = h
-  begin_takes (faults.TooMany limit) h = inl (h.0, if_as (λ f. PairIs IsBackupText f (backup_info b.stanza) (backup_info_of backup)) (IsFull b.stanza) b.repo is_backup.0 (λ f q. (backup_info_of backup, q, h.1)))
-  begin_takes (faults.WorkersLost lost) h = h
-  begin_takes (faults.ClockBehind latest now) h = absurd h
-  begin_takes (faults.LinkFound path) h = absurd h
-  begin_takes (faults.NameRefused path) h = absurd h
-  begin_takes faults.ListingUnordered h = absurd h
-  begin_takes (faults.ControlMissing path) h = absurd h
-  begin_takes (faults.Unread path) h = absurd h
-  begin_takes (faults.TooLong name limit) h = absurd h
 
   -- a draft of the folder that was listed
   pub draft_of : (seen : List ListedNode) → IfSome b.nodes (λ f. IsTreeListing f seen) → (list : BackupInfo) → Settles (archive_info_of archive) (backup_info_of backup) list → (d : Draft) → IsFullOf b.stanza seen list d → IsDraftOf b d

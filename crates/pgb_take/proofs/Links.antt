@@ -1,5 +1,5 @@
 -- Links that were told their folders read what the used links read.
-use Rattle.std.proofs.Common.{ℕ, zero, suc, ◌≡◌, ◌<◌, ◌+◌, List, [], ◌∷◌, ◌++◌, Option, Some, None, length, refl, sym, ap, subst, ◌∙◌, arith, slice_get, length-append}
+use Rattle.std.proofs.Common.{ℕ, zero, suc, ◌≡◌, ◌<◌, ◌+◌, List, [], ◌∷◌, Option, Some, None, length, refl, sym, ap, subst, ◌∙◌, arith, slice_get, length-append}
 use Rattle.std.specs.Prelude.{IfSome, IsSomeAnd, String}
 use Rattle.std.specs.declared.alloc.Global.{Global}
 use Rattle.std.specs.List.{AllByRecursion}
@@ -28,10 +28,10 @@ use Rattle.pgb_worker_dispatch.proofs.Reading.{all_at}
 use Rattle.pgb_label.specs.declared.keeper.Ended.{Ended}
 use Rattle.pgb_backup.specs.declared.draft.Draft.{Draft}
 use Rattle.pgb_backup.specs.Draft.{jobs_in}
-use Rattle.pgb_backup.specs.Faults.{IsDone, WhereDone}
+use Rattle.pgb_backup.specs.Faults.{WhereDone}
 use Rattle.pgb_logged.specs.Backups.{IsReadBy, IsFullBackup}
 use Rattle.pgb_take.specs.Beginning.{AreLost}
-use Rattle.pgb_take.specs.Making.{CannotRead, IsPast, LosesAll}
+use Rattle.pgb_take.specs.Making.{CannotRead}
 
 -- ---- one link
 

@@ -1,56 +1,32 @@
 -- How the making of a backup ends the command, and why.
-use Rattle.std.proofs.Common.{◌≡◌, ◌≢◌, ◌⊎◌, map, inl, inr, ℕ, ◌<◌, ◌≤◌, ◌+◌, ◌^◌, List, Bool, true, false, Option, Some, None, String, Global, string_bytes, refl, sym, ◌∙◌, ap, subst, length, arith}
-use Rattle.std.specs.Prelude.{IfErr, IfSome, Result, Ok, Err}
+use Rattle.std.proofs.Common.{◌≡◌, inl, inr, ℕ, ◌<◌, ◌^◌, List, true, false, String, Global, string_bytes, refl, sym, subst, length}
+use Rattle.std.specs.Prelude.{Result, Err}
 use Rattle.std.specs.Result.{IsErrAnd, is_ok}
 use Rattle.pgb_outside.specs.Cause.{Rises}
 use Rattle.pgb_outside.specs.Links.{LinkState}
-use Rattle.pgb_outside.specs.Moments.{View}
-use Rattle.pgb_outside.specs.States.{ClockState}
 use Rattle.pgb_outside.specs.Tree.{Nodes, IsTreeListing}
-use Rattle.pgb_outside.specs.States.{last_second}
-use Rattle.pgb_model.specs.declared.clusters.BackupInfo as rust_info
-use Rattle.pgb_model.specs.declared.clusters.Cluster.{Cluster}
-use Rattle.pgb_model.specs.declared.files.FileEntry as rust_entry
-use Rattle.pgb_model.specs.declared.labels.Kind.TheVariants.{Full}
-use Rattle.pgb_model.specs.declared.labels.Later.{Later}
-use Rattle.pgb_model.specs.InfoFiles.{info_limit, IsLabel}
-use Rattle.pgb_model.specs.Values.{backup_info_of, file_entry_of}
-use Rattle.pgb_plan.specs.declared.values.Listing.{Listing}
-use Rattle.pgb_plan.specs.Views.{taken_of}
-use Rattle.pgb_draft.specs.Full.{IsFullOf as IsDrafted}
-use Rattle.pgb_model.specs.ManifestText.{manifest_limit}
 use Rattle.pgb_model.specs.Text.{Text}
 use Rattle.pgb_worker_dispatch.specs.declared.fault.Lost.{Lost}
-use Rattle.pgb_worker_dispatch.specs.Run.{AllLost, begun}
 use Rattle.pgb_plan.specs.declared.fault.PlanFault.{PlanFault}
 use Rattle.pgb_plan.specs.declared.fault.PlanFault.TheVariants as plans
-use Rattle.pgb_plan.specs.Filter.{ListedNode, kept, IsRefused, Takes}
-use Rattle.pgb_label.specs.declared.keeper.Ended.{Ended}
+use Rattle.pgb_plan.specs.Filter.{ListedNode, kept, IsRefused}
 use Rattle.pgb_record.specs.Faults.{IsMissing}
-use Rattle.pgb_draft.specs.declared.fault.SecondFault.{SecondFault}
-use Rattle.pgb_draft.specs.declared.fault.SecondFault.TheVariants as seconds
-use Rattle.pgb_draft.specs.Seconds.{SecondCause, IsNext}
 use Rattle.pgb_backup.specs.declared.draft.Draft.{Draft}
 use Rattle.pgb_backup.specs.declared.fault.MakeFault.{MakeFault}
-use Rattle.pgb_backup.specs.declared.fault.MakeFault.TheVariants as makes
-use Rattle.pgb_backup.specs.Draft.{stanza_of, jobs_in, files_with, pair_of, main_of}
-use Rattle.pgb_backup.specs.Faults.{MakeFails, IsUnread, WhereDone, IsManifestTooLong, IsListTooLong}
-use Rattle.pgb_backup.specs.Made.{Outcome as Makes, MayBeListed}
+use Rattle.pgb_backup.specs.Draft.{stanza_of, jobs_in, files_with}
+use Rattle.pgb_backup.specs.Faults.{MakeFails, IsUnread}
+use Rattle.pgb_backup.specs.Made.{MayBeListed}
 use Rattle.pgb_stage.specs.declared.object.Object.{Object}
-use Rattle.pgb_stage.specs.declared.object.Object.TheVariants as objects
 use Rattle.pgb_stage.specs.declared.halt.Halt.{Halt}
-use Rattle.pgb_stage.specs.declared.halt.Halt.TheVariants.{Refused, Failed, NoMemory}
 use Rattle.pgb_stage.specs.declared.outcome.Outcome.{Outcome}
-use Rattle.pgb_stage.specs.declared.outcome.Outcome.TheVariants.{Finished, Absent}
 use Rattle.pgb_stage.specs.Halts.{HaltCause}
 use Rattle.pgb_stage.specs.Reached.{reached_by}
 use Rattle.pgb_stage.specs.Risen.{none, rose_in}
-use Rattle.pgb_stage.specs.Runs.{Reached, to_end, turned_back, stopped}
+use Rattle.pgb_stage.specs.Runs.{to_end, turned_back, stopped}
 use Rattle.pgb_take.specs.declared.fault.TakeFault.{TakeFault}
-use Rattle.pgb_take.specs.declared.fault.TakeFault.TheVariants as faults
-use Rattle.pgb_take.specs.Drafting.{IsFullOf, ListingCause, DraftCause}
-use Rattle.pgb_take.specs.Faults.{take_early, of_plan, of_second, IsHaltOf, NoneLeft, NotRead, Vanished, LongManifest, LongList, NoClock, NoDisk, Starved}
-use Rattle.pgb_take.specs.Making.{IsEndOf, Well, Ill, Finishes, CannotRead, IsPast, LosesAll, MakeCause}
+use Rattle.pgb_take.specs.Drafting.{ListingCause}
+use Rattle.pgb_take.specs.Faults.{take_early, of_plan, IsHaltOf, NoneLeft, NotRead, Vanished, LongManifest, LongList, NoClock, NoDisk, Starved}
+use Rattle.pgb_take.specs.Making.{IsEndOf, Well, Ill, CannotRead, MakeCause}
 
 -- ---- a draft
 
@@ -69,49 +45,6 @@ plan_cause seen result fault h is refused orderly at = subst (HaltCause (Listing
 -- the repository failed, or the clock did
 abbrev pub Either : Type 0 → Type 0 → Object → Type 0
 Either repo clock = rose_in (record none { repo = repo; clock = clock })
-
-pub second_cause : (seen : List ListedNode) (fault : SecondFault) (h : Halt TakeFault) (old new : ℕ) (clock new_clock : ClockState) → h ≡ of_second fault → SecondCause fault old new clock new_clock → HaltCause (DraftCause seen clock.least) (Either (Rises old new) (Rises clock.faults new_clock.faults)) h
-second_cause seen fault h old new clock new_clock is cause = subst (HaltCause (DraftCause seen clock.least) (Either (Rises old new) (Rises clock.faults new_clock.faults))) (sym is) (by fault cause)
-  where
-    by : (f : SecondFault) → SecondCause f old new clock new_clock → HaltCause (DraftCause seen clock.least) (Either (Rises old new) (Rises clock.faults new_clock.faults)) (of_second f)
-    by (seconds.ClockBehind latest now) k = k
-    by seconds.Clock k = k
-    by seconds.Disk k = k
-    by seconds.NoMemory k = tt
-
--- what a listing is refused for, the draft is
-pub listing_drafts : (seen : List ListedNode) (least : ℕ) (e : TakeFault) → ListingCause seen e → DraftCause seen least e
-listing_drafts seen least (faults.HistoryDiffers at) h = absurd h
-listing_drafts seen least (faults.StanzaMismatch kept found) h = absurd h
-listing_drafts seen least faults.Running h = absurd h
-listing_drafts seen least (faults.TooMany limit) h = h
-listing_drafts seen least (faults.WorkersLost lost) h = absurd h
-listing_drafts seen least (faults.ClockBehind latest now) h = absurd h
-listing_drafts seen least (faults.LinkFound path) h = h
-listing_drafts seen least (faults.NameRefused path) h = h
-listing_drafts seen least faults.ListingUnordered h = h
-listing_drafts seen least (faults.ControlMissing path) h = h
-listing_drafts seen least (faults.Unread path) h = absurd h
-listing_drafts seen least (faults.TooLong name limit) h = absurd h
-
--- the draft of a full backup of what was taken of the listing
-module _ (stanza : Text) (second : ℕ) (cluster : Cluster) (listing : Listing) (before : rust_info.BackupInfo) (d : Draft) (drafted : IsDrafted stanza second cluster listing before d) (next : IsNext second (backup_info_of before)) where
-  pub full_of : (seen : List ListedNode) → Takes false seen (map taken_of listing.files.items) (map string_bytes listing.folders.items) → IsFullOf stanza seen (backup_info_of before) d
-  full_of seen takes = record {
-    stanza_is = drafted.stanza_is;
-    full = drafted.label.1;
-    prior = drafted.prior;
-    old = ap (λ (es : List rust_entry.FileEntry). map file_entry_of es) drafted.old;
-    takes = subst (λ (l : Listing). Takes false seen (map taken_of l.files.items) (map string_bytes l.folders.items)) (sym drafted.listing_is) takes;
-    list_is = ap backup_info_of drafted.before_is;
-    next = subst (λ (n : ℕ). IsNext n (backup_info_of before)) (sym drafted.label.0) next;
-  }
-
-  pub label_of : IsLabel d.label
-  label_of = record {
-    full = subst (λ (n : ℕ). n ≤ last_second) (sym drafted.label.0) next.in_range;
-    later = subst (λ (o : Option Later). IfSome o (λ p. (p.time ≤ last_second) × (p.kind ≢ Full))) (sym drafted.label.1) tt;
-  }
 
 -- ---- the backup is made
 

@@ -30,8 +30,5 @@ module _ {A : Type 0} (of : A → LinkState) (n : ℕ) (xs ys : List A) (is : ys
     lost_used lost all count = told_lost (take n (map of xs)) after lost
         (subst (λ (us : List LinkState). AllLost [] (begun us []) after) used_is (subst (λ (es : List Lost). AllLost [] (begun (map of ys) es) after) none all)) count
 
-    pub few_left : (now : List LinkState) (most : ℕ) → length xs < most → Left [] (map of ys) before after now → length now < most
-    few_left now most few l = omega (arith, few, l.once, length-map ys of, ap (λ (zs : List A). length zs) is, length-take n xs)
-
     pub few_lost : (most : ℕ) → length xs < most → AllLost [] (begun (map of ys) before) after → length after < most
     few_lost most few all = omega (arith, few, all.count, ap (λ (es : List Lost). length es) all.is, ap (λ (es : List Lost). length es) none, length-append before all.entries, length-map ys of, ap (λ (zs : List A). length zs) is, length-take n xs)

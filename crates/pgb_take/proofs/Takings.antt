@@ -1,20 +1,18 @@
 -- What a full backup does, and what is told of it.
-use Rattle.std.proofs.Common.{◌≡◌, inl, inr, ℕ, ◌<◌, ◌≤◌, List, [], take, map, length, Bool, true, false, Option, Some, None, refl, sym, ◌∙◌, ap, subst, arith, length-take}
+use Rattle.std.proofs.Common.{◌≡◌, inl, inr, ℕ, ◌<◌, List, [], take, map, length, Bool, true, false, Option, Some, refl, sym, ◌∙◌, ap, subst, arith, length-take}
 use Rattle.std.specs.Prelude.{IfOk, IfSome, IsSome, IsErrAnd, OnOk, Result, Ok, Err}
 use Rattle.std.proofs.lemmas.List.{length-map}
 use Rattle.pgb_outside.specs.Content.{Content}
 use Rattle.pgb_outside.specs.Links.{LinkState}
 use Rattle.pgb_outside.specs.Moments.{View, Rests}
-use Rattle.pgb_outside.specs.States.{DiskState, Looks, Frame}
 use Rattle.pgb_outside.specs.Tree.{Nodes, IsTreeListing}
 use Rattle.pgb_model.specs.declared.clusters.ArchiveInfo as rust_archive_info
 use Rattle.pgb_model.specs.declared.clusters.BackupInfo as rust_backup_info
 use Rattle.pgb_model.specs.declared.labels.Label.{Label}
 use Rattle.pgb_model.specs.InfoFiles.{IsBackupText}
 use Rattle.pgb_model.specs.Names.{backup_info}
-use Rattle.pgb_model.specs.Now.{NowDoes, NowStands}
+use Rattle.pgb_model.specs.Now.{NowDoes}
 use Rattle.pgb_model.specs.Pair.{PairIs}
-use Rattle.pgb_model.specs.Repository.{Backup}
 use Rattle.pgb_model.specs.Steps.{Command, steps_of}
 use Rattle.pgb_model.specs.Text.{Text}
 use Rattle.pgb_model.specs.Values.{ArchiveInfo, BackupInfo, Entry, archive_info_of, backup_info_of}
@@ -22,7 +20,6 @@ use Rattle.pgb_model.proofs.Done.{part_none}
 use Rattle.pgb_model.proofs.Steady.{steady_rests, front_moves}
 use Rattle.pgb_one_text.proofs.Lists.{one_list}
 use Rattle.pgb_one_text.proofs.Manifests.{one_manifest}
-use Rattle.pgb_worker_dispatch.specs.declared.fault.Lost.{Lost}
 use Rattle.pgb_plan.specs.Filter.{ListedNode}
 use Rattle.pgb_record.specs.Making.{labels_of}
 use Rattle.pgb_stanza.specs.declared.control.Control.{Control}
@@ -31,16 +28,15 @@ use Rattle.pgb_stanza.specs.Pairs.{AgreeAt, AreTogether}
 use Rattle.pgb_draft.specs.Seconds.{AreBefore}
 use Rattle.pgb_backup.specs.declared.draft.Draft.{Draft}
 use Rattle.pgb_backup.specs.declared.fault.MakeFault.{MakeFault}
-use Rattle.pgb_backup.specs.Draft.{stanza_of, list_in, main_of, IsDraft}
+use Rattle.pgb_backup.specs.Draft.{stanza_of, main_of, IsDraft}
 use Rattle.pgb_backup.specs.Made.{Outcome as Makes}
-use Rattle.pgb_archive.specs.Still.{still_self, still_on}
 use Rattle.pgb_stage.specs.declared.halt.Halt.{Halt}
 use Rattle.pgb_stage.specs.declared.halt.Halt.TheVariants.{Refused, Failed, NoMemory}
 use Rattle.pgb_stage.specs.declared.outcome.Outcome.{Outcome}
 use Rattle.pgb_stage.specs.declared.plan.Settling.TheVariants.{Whole}
 use Rattle.pgb_stage.specs.Current.{HasValue}
 use Rattle.pgb_stage.specs.Reached.{OnFinished, reached_by, back_if, fails_early}
-use Rattle.pgb_stage.specs.Runs.{Reached, to_end, turned_back, stopped, OnAll, OnNone, turns_of, IsPart, DoesPart, DoesWhole, Does, On, one}
+use Rattle.pgb_stage.specs.Runs.{Reached, to_end, turned_back, stopped, turns_of, IsPart, DoesPart, DoesWhole, Does, On, one}
 use Rattle.pgb_stage.proofs.Lifted.{all_as, none_as}
 use Rattle.pgb_prepare.specs.Readies.{IsArchiveOf, IsBackupOf}
 use Rattle.pgb_logged.specs.Backups.{IsFullBackup, AddsBackup, bytes_in}
@@ -96,11 +92,6 @@ not_end (Err NoMemory) h is at = let e : stopped ≡ to_end = at in cc
 pub refused_does : (used : List LinkState) (stanza : Text) (result : Result Outcome (Halt TakeFault)) (h : Halt TakeFault) → IsErrAnd result (λ x. x ≡ h) → (a b : View) → Rests a b → b.now ≡ a.now
     → On (one (IsFullBackup used)) (λ command. Does Whole stanza command (reached_by take_early result) a b)
 refused_does used stanza result h is a b rests same = no_backup used stanza (reached_by take_early result) a b (not_end result h is) (record { now = same; time = rests })
-
--- an error tells of no backup
-pub not_taken : (result : Result Outcome (Halt TakeFault)) (h : Halt TakeFault) (P : Outcome → Type 0) → IsErrAnd result (λ x. x ≡ h) → IfOk result P
-not_taken (Ok x) h P is = absurd is
-not_taken (Err e) h P is = tt
 
 -- ---- what it begins from
 
@@ -178,10 +169,7 @@ module _ (stanza : Text) (told : Control) (archive : rust_archive_info.ArchiveIn
     pub finished_taken : (result : Result Outcome (Halt TakeFault)) → Finishes draft now b d result → OnOk result (IsSome b.now → IfSome d.now (AgreeAt (main_of draft))) → IfOk result (λ o. OnFinished o (IsTaken stanza told nodes used old d.now))
     finished_taken result f alike = taken_by f.made result f.end f.outcome alike
 
--- ---- frames and counts
-
-pub looks_frame : (a b c : DiskState) → Looks a b → Frame b c → Frame a c
-looks_frame a b c p q = record { opened = q.opened ∙ p.opened; proper = q.proper ∙ p.proper; later = omega (arith, p.later, q.later) }
+-- ---- counts
 
 pub used_few : {A : Type 0} (of : A → LinkState) (n most : ℕ) (xs : List A) → length xs < most → length (take n (map of xs)) < most
 used_few of n most xs few = omega (arith, few, length-take n (map of xs), length-map xs of)

@@ -7,7 +7,6 @@ use Rattle.pgb_model.specs.Text.{Text}
 use Rattle.pgb_model.specs.Values.{ArchiveInfo, BackupInfo}
 use Rattle.pgb_worker_reply.specs.Reads.{IsSteadyWorker}
 use Rattle.pgb_stanza.specs.declared.control.Control.{Control}
-use Rattle.pgb_stanza.specs.declared.fault.Identity.{Identity}
 use Rattle.pgb_stanza.specs.Pairs.{identity_kept, identity_told, identities, DifferFirst, HasPending, AreTogether, IsCurrent}
 use Rattle.pgb_take.specs.declared.fault.TakeFault.{TakeFault}
 use Rattle.pgb_take.specs.declared.fault.TakeFault.TheVariants.{HistoryDiffers, StanzaMismatch, Running, TooMany, WorkersLost}

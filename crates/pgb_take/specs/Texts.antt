@@ -1,5 +1,5 @@
 -- The status and the message of each refusal of a backup, and what is told of one that was made (own).
-use Rattle.std.specs.Prelude.{ℕ, [], ◌∷◌, ◌++◌, codes, decimal, string_bytes}
+use Rattle.std.specs.Prelude.{ℕ, ◌++◌, codes, decimal, string_bytes}
 use Rattle.pgb_model.specs.declared.labels.Label.{Label}
 use Rattle.pgb_model.specs.Names.{label_text}
 use Rattle.pgb_model.specs.Text.{Text}

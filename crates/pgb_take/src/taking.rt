@@ -76,12 +76,8 @@ pub fn take_backup<D: Disk, T: Tree, C: Clock, K: Locks, L: Link, U: Turns>(
         }))) }
 {
     let mut lost = Vec::new(alloc);
-    let begun = begin(
-        alloc, tree, links, &mut lost, &order, told, archive, backup,
-    )?;
+    let begun = begin(alloc, tree, links, &mut lost, &order, told, archive, backup)?;
     let list = begun.list;
     let (draft, line) = draft_full(alloc, repo, clock, stanza, &begun.seen, list)?;
-    finish(
-        alloc, repo, links, turns, &mut lost, clock, draft, line,
-    )
+    finish(alloc, repo, links, turns, &mut lost, clock, draft, line)
 }

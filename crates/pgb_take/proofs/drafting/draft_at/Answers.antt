@@ -1,6 +1,6 @@
 use Rattle.std.proofs.Common.{map}
 use Rattle.pgb_plan.specs.Views.{seen_of}
-use Rattle.pgb_take.proofs.Makings.{plan_cause, full_of, label_of}
+use Rattle.pgb_take.proofs.Makings.{plan_cause}
 use Rattle.pgb_take.proofs.drafting.draft_at.Goals as goal
 
 pub returns-in-Err-clause-cause : goal.returns-in-Err-clause-cause

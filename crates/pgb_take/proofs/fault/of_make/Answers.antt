@@ -1,7 +1,6 @@
 use Rattle.std.proofs.Common.{sym, subst}
 use Rattle.pgb_backup.specs.declared.fault.MakeFault.{MakeFault}
-use Rattle.pgb_stage.specs.declared.halt.Halt.{Halt}
-use Rattle.pgb_stage.specs.declared.halt.Halt.TheVariants.{Refused, Failed, NoMemory}
+use Rattle.pgb_stage.specs.declared.halt.Halt.TheVariants.{Refused, Failed}
 use Rattle.pgb_stage.specs.declared.object.Object.TheVariants.{Repo, Clock}
 use Rattle.pgb_model.specs.InfoFiles.{info_limit}
 use Rattle.pgb_model.specs.ManifestText.{manifest_limit}

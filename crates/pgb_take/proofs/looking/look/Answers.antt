@@ -1,8 +1,6 @@
-use Rattle.std.proofs.Common.{◌≡◌, List, map, Bool, true, false, IfSome, sym, ◌∙◌, ap, subst}
+use Rattle.std.proofs.Common.{◌≡◌, List, true, false, sym, ◌∙◌, ap}
 use Rattle.std.specs.List.{list_any}
 use Rattle.pgb_outside.specs.declared.tree.Seen as rust_seen
-use Rattle.pgb_outside.specs.Tree.{IsTreeListing}
-use Rattle.pgb_plan.specs.Views.{seen_of}
 use Rattle.pgb_take.proofs.Beginnings.{is_pid, look_stops, is_there, is_not_there}
 use Rattle.pgb_take.proofs.looking.look.Goals as goal
 

@@ -1,4 +1,4 @@
-use Rattle.std.proofs.Common.{◌<◌, ◌^◌, ℕ, List, [], map, take, length, refl, sym, subst, arith}
+use Rattle.std.proofs.Common.{◌<◌, ◌^◌, List, [], map, take, length, refl, sym, subst, arith}
 use Rattle.std.specs.Prelude.{IfSome}
 use Rattle.pgb_outside.specs.Cause.{Rises}
 use Rattle.pgb_outside.specs.declared.tree.Seen as rust_seen
@@ -61,7 +61,7 @@ returns-clause-does g c =
     let looks = c.draft_full.ensures.looks in
     let full = c.in_ok-draft.ensures.full in
     let begins = begins_full c.args.stanza.now c.args.archive.now c.args.backup a.now b.now looks.now c.requires.archive c.requires.backup
-        (map seen_of c.deref.result.now) (backup_info_of c.in_ok-begun.begun.list) c.in_ok-draft.draft c.in_ok-draft.ensures.draft full c.in_ok-begun.ensures.settled in
+    (map seen_of c.deref.result.now) (backup_info_of c.in_ok-begun.begun.list) c.in_ok-draft.draft c.in_ok-draft.ensures.draft full c.in_ok-begun.ensures.settled in
     finished_does c.args.stanza.now used now (left_comes used now [] c.begin.new.lost.items c.in_ok-begun.ensures.left) a b d looks.time looks.now
     c.in_ok-draft.draft full.stanza_is begins c.finish.result c.finish.ensures.made
 
