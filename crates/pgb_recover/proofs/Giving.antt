@@ -1,5 +1,5 @@
 -- What is restored is one of the stanza's backups.
-use Rattle.std.proofs.Common.{◌≡◌, inl, inr, ⊎_elim, List, [], ◌∷◌, ◌++◌, map, Option, Some, None, refl, sym, ap, ◌∙◌, subst}
+use Rattle.std.proofs.Common.{◌≡◌, inl, inr, List, [], ◌∷◌, ◌++◌, map, Option, Some, None, refl, sym, ap, ◌∙◌, subst}
 use Rattle.std.specs.Prelude.{IfSome}
 use Rattle.pgb_outside.specs.Content.{Content}
 use Rattle.pgb_outside.specs.Links.{LinkState}
@@ -21,7 +21,7 @@ use Rattle.pgb_keys.proofs.Numbers.{map_in}
 use Rattle.pgb_one_text.proofs.Lists.{one_list}
 use Rattle.pgb_one_text.proofs.Manifests.{one_manifest}
 use Rattle.pgb_worker_dispatch.specs.Payloads.{AllRead}
-use Rattle.pgb_restore.specs.Finished.{IsFinished, Restores}
+use Rattle.pgb_restore.specs.Finished.{Restores}
 use Rattle.pgb_restore.proofs.Headline.{finished_restores}
 use Rattle.pgb_recover.specs.Choosing.{OnList, IsLast, IsChosen, IsSetOf}
 use Rattle.pgb_recover.specs.Loading.{HasManifest}
