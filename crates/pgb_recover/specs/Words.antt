@@ -18,11 +18,11 @@ IsSet-prop None = hlevel props
 IsSet-prop (Some l) = hlevel props
 
 -- no label is asked for, or the one of which this word is the text
-abbrev pub IsSetOf : Option Text → Option Label → Type 0
-IsSetOf None None = Unit {0}
-IsSetOf None (Some l) = ⊥
-IsSetOf (Some word) None = ⊥
-IsSetOf (Some word) (Some l) = word ≡ label_text l
+abbrev pub TellsSet : Option Text → Option Label → Type 0
+TellsSet None None = Unit {0}
+TellsSet None (Some l) = ⊥
+TellsSet (Some word) None = ⊥
+TellsSet (Some word) (Some l) = word ≡ label_text l
 
 -- the word is the text of no label
 abbrev pub IsNoLabel : Option Text → Type 0
