@@ -1,6 +1,5 @@
 // What is to be restored.
-ghost use Rattle.std.specs.Prelude.{◌≡◌, ◌<◌, ◌^◌, length, option_map, IfOk, IfErr, IfSome};
-ghost use Rattle.pgb_model.specs.InfoFiles.{IsLabel};
+ghost use Rattle.std.specs.Prelude.{◌≡◌, ◌<◌, ◌^◌, length, option_map, IfOk, IfErr};
 ghost use Rattle.pgb_stage.specs.Halts.{HaltCause};
 ghost use Rattle.pgb_recover.specs.Words.{TellsSet, WordCause, IsSet-prop, IsSet};
 
