@@ -1,27 +1,26 @@
 -- Each part's cause is one of the restore's.
-use Rattle.std.proofs.Common.{◌≡◌, ◌≤◌, ℕ, Option, Some, None, sym, subst, arith}
+use Rattle.std.proofs.Common.{◌≤◌, ℕ, Option, Some, None, sym, subst, arith}
 use Rattle.std.specs.Prelude.{IfSome}
 use Rattle.pgb_outside.specs.Cause.{Rises}
 use Rattle.pgb_outside.specs.Content.{Content}
-use Rattle.pgb_model.specs.declared.clusters.BackupInfo as rust_backup_info
 use Rattle.pgb_model.specs.declared.labels.Label.{Label}
 use Rattle.pgb_model.specs.InfoFiles.{IsBackupText}
 use Rattle.pgb_model.specs.Names.{backup_info}
 use Rattle.pgb_model.specs.Pair.{PairIs}
 use Rattle.pgb_model.specs.Text.{Text}
-use Rattle.pgb_model.specs.Values.{BackupInfo, Manifest, backup_info_of}
+use Rattle.pgb_model.specs.Values.{BackupInfo, Manifest}
 use Rattle.pgb_stage.specs.declared.object.Object.{Object}
 use Rattle.pgb_stage.specs.declared.object.Object.TheVariants.{Repo, DataFolder}
 use Rattle.pgb_stage.specs.Halts.{Only}
 use Rattle.pgb_stage.specs.Risen.{none, rose_in}
 use Rattle.pgb_recover.specs.declared.fault.RecoverFault.{RecoverFault}
 use Rattle.pgb_recover.specs.declared.fault.RecoverFault.TheVariants as faults
-use Rattle.pgb_recover.specs.Choosing.{OnList, IsChosen, TellsMissing, ChooseCause}
+use Rattle.pgb_recover.specs.Choosing.{OnList, ChooseCause}
 use Rattle.pgb_recover.specs.Filling.{FillCause}
 use Rattle.pgb_recover.specs.Loading.{HasManifest, LoadCause}
 use Rattle.pgb_recover.specs.Looking.{IsEmpty, FolderCause}
 use Rattle.pgb_recover.specs.Restoring.{Before, Chooses}
-use Rattle.pgb_recover.specs.Causes.{ListCause, ManifestCause, FilesCause, RecoverCause}
+use Rattle.pgb_recover.specs.Causes.{RecoverCause}
 
 -- what holds of the value of the backup pair holds of the repository's list
 pub on_list : (stanza : Text) (repo : Option Content) (v : BackupInfo) → IfSome repo (λ f. PairIs IsBackupText f (backup_info stanza) v) → (P : BackupInfo → Type 0) → P v → IfSome repo (λ f. OnList stanza f P)

@@ -1,5 +1,5 @@
 -- What is restored is one of the stanza's backups.
-use Rattle.std.proofs.Common.{◌≡◌, inl, inr, ⊎_elim, List, [], ◌∷◌, ◌++◌, map, Option, Some, None, refl, sym, ap, ◌∙◌, subst}
+use Rattle.std.proofs.Common.{◌≡◌, inl, inr, List, [], ◌∷◌, ◌++◌, map, Option, Some, None, refl, sym, ap, ◌∙◌, subst}
 use Rattle.std.specs.Prelude.{IfSome}
 use Rattle.pgb_outside.specs.Content.{Content}
 use Rattle.pgb_outside.specs.Links.{LinkState}
@@ -21,9 +21,9 @@ use Rattle.pgb_keys.proofs.Numbers.{map_in}
 use Rattle.pgb_one_text.proofs.Lists.{one_list}
 use Rattle.pgb_one_text.proofs.Manifests.{one_manifest}
 use Rattle.pgb_worker_dispatch.specs.Payloads.{AllRead}
-use Rattle.pgb_restore.specs.Finished.{IsFinished, Restores}
+use Rattle.pgb_restore.specs.Finished.{Restores}
 use Rattle.pgb_restore.proofs.Headline.{finished_restores}
-use Rattle.pgb_recover.specs.Choosing.{OnList, IsLast, IsChosen, IsSetOf}
+use Rattle.pgb_recover.specs.Choosing.{OnList, IsLast, IsChosen, IsChosenOf}
 use Rattle.pgb_recover.specs.Loading.{HasManifest}
 use Rattle.pgb_recover.specs.Restoring.{Before, Recovers, GivesBackup}
 use Rattle.pgb_recover.specs.Texts.{restored_line}
@@ -61,7 +61,7 @@ last_in {X} {Y} g (x ∷ x2 ∷ xs) y (z ∷ front, e) =
     (r.0, (x ∷ r.1.0, ap (λ (l : List X). x ∷ l) r.1.1), r.2)
 
 chosen_of : (set : Option Label) (s : Stanza) (v : BackupInfo) (label : Label) → v.backups ≡ map (λ (b : Backup). b.entry) s.backups → IsChosen set v label
-    → (b : Backup) × IsSetOf set s.backups b × In b s.backups × (b.entry.label ≡ label)
+    → (b : Backup) × IsChosenOf set s.backups b × In b s.backups × (b.entry.label ≡ label)
 chosen_of (Some asked) s v label same h =
     let listed = h.1 in
     let x = map_in (λ (b : Backup). b.entry) s.backups listed.0 (subst (λ (es : List Entry). In listed.0 es) same listed.1) in

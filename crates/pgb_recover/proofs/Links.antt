@@ -5,7 +5,7 @@ use Rattle.std.specs.Prelude.{IfSome}
 use Rattle.pgb_outside.specs.Cause.{Rises}
 use Rattle.pgb_outside.specs.Links.{LinkState}
 use Rattle.pgb_outside.specs.Tree.{Nodes}
-use Rattle.pgb_model.specs.Text.{Text, In}
+use Rattle.pgb_model.specs.Text.{Text}
 use Rattle.pgb_model.specs.Values.{FileEntry, Manifest}
 use Rattle.pgb_worker_dispatch.specs.declared.fault.Lost.{Lost}
 use Rattle.pgb_worker_dispatch.specs.Run.{AllLost, IsReady, Left, begun}
@@ -19,9 +19,7 @@ use Rattle.pgb_restore.proofs.Filled.{all_gone}
 use Rattle.pgb_restore.proofs.Links.{left_is, read_before}
 use Rattle.pgb_source.specs.Sources.{source}
 use Rattle.pgb_stage.specs.declared.object.Object.TheVariants.{DataFolder}
-use Rattle.pgb_stage.specs.declared.halt.Halt.{Halt}
 use Rattle.pgb_stage.specs.Halts.{HaltCause, Only}
-use Rattle.pgb_recover.specs.declared.fault.RecoverFault.{RecoverFault}
 use Rattle.pgb_recover.specs.Filling.{of_fill, AreLost, CannotRead, FillCause}
 
 -- ---- the first links

@@ -29,9 +29,9 @@ IsChosen (Some asked) v label = (label ≡ asked) × Lists v label
 IsChosen None v label = (last : Entry) × IsLast v.backups last × (last.label ≡ label)
 
 -- the backup of the label that is asked for; where none is, the last one
-abbrev pub IsSetOf : Option Label → List Backup → Backup → Type 0
-IsSetOf (Some asked) backups b = In b backups × (b.entry.label ≡ asked)
-IsSetOf None backups b = IsLast backups b
+abbrev pub IsChosenOf : Option Label → List Backup → Backup → Type 0
+IsChosenOf (Some asked) backups b = In b backups × (b.entry.label ≡ asked)
+IsChosenOf None backups b = IsLast backups b
 
 -- the refusal tells this label
 abbrev pub TellsMissing : Label → RecoverFault → Type 0

@@ -11,7 +11,7 @@ use Rattle.pgb_model.specs.Text.{Text}
 use Rattle.pgb_model.specs.Values.{Manifest}
 use Rattle.pgb_worker_dispatch.specs.Payloads.{AllRead}
 use Rattle.pgb_restore.specs.Finished.{IsFinished}
-use Rattle.pgb_recover.specs.Choosing.{OnList, IsChosen, IsSetOf}
+use Rattle.pgb_recover.specs.Choosing.{OnList, IsChosen, IsChosenOf}
 use Rattle.pgb_recover.specs.Loading.{HasManifest}
 use Rattle.pgb_recover.specs.Looking.{IsEmpty}
 use Rattle.pgb_recover.specs.Texts.{restored_line}
@@ -43,6 +43,6 @@ pub record Recovers (b : Before) (now_nodes : Option Nodes) (lines : Text) : Typ
 -- all used links read the repository f. The one line tells its label.
 pub record GivesBackup (s : Stanza) (b : Before) (f : Content) (now_nodes : Option Nodes) (lines : Text) : Type 0 where
   pub backup : Backup
-  pub is : IsSetOf b.set s.backups backup
+  pub is : IsChosenOf b.set s.backups backup
   pub line : lines ≡ restored_line backup.entry.label
   pub restored : (tree : Content) → AllRead tree f b.used → IfSome now_nodes (IsRestored backup Nothing)

@@ -1,5 +1,5 @@
 -- The word of the option `set`.
-use Rattle.std.specs.Prelude.{◌≡◌, ◌≢◌, Option, Some, None, IfSome}
+use Rattle.std.specs.Prelude.{◌≡◌, ◌≢◌, Option, Some, None}
 use Rattle.std.proofs.Props.{props}
 use Rattle.pgb_model.specs.declared.labels.Label.{Label}
 use Rattle.pgb_model.specs.InfoFiles.{IsLabel}
@@ -18,11 +18,11 @@ IsSet-prop None = hlevel props
 IsSet-prop (Some l) = hlevel props
 
 -- no label is asked for, or the one of which this word is the text
-abbrev pub IsSetOf : Option Text → Option Label → Type 0
-IsSetOf None None = Unit {0}
-IsSetOf None (Some l) = ⊥
-IsSetOf (Some word) None = ⊥
-IsSetOf (Some word) (Some l) = word ≡ label_text l
+abbrev pub TellsSet : Option Text → Option Label → Type 0
+TellsSet None None = Unit {0}
+TellsSet None (Some l) = ⊥
+TellsSet (Some word) None = ⊥
+TellsSet (Some word) (Some l) = word ≡ label_text l
 
 -- the word is the text of no label
 abbrev pub IsNoLabel : Option Text → Type 0

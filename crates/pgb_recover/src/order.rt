@@ -1,8 +1,7 @@
 // What is to be restored.
-ghost use Rattle.std.specs.Prelude.{◌≡◌, ◌<◌, ◌^◌, length, option_map, IfOk, IfErr, IfSome};
-ghost use Rattle.pgb_model.specs.InfoFiles.{IsLabel};
+ghost use Rattle.std.specs.Prelude.{◌≡◌, ◌<◌, ◌^◌, length, option_map, IfOk, IfErr};
 ghost use Rattle.pgb_stage.specs.Halts.{HaltCause};
-ghost use Rattle.pgb_recover.specs.Words.{IsSetOf, WordCause, IsSet-prop, IsSet};
+ghost use Rattle.pgb_recover.specs.Words.{TellsSet, WordCause, IsSet-prop, IsSet};
 
 use crate::fault::RecoverFault;
 use pgb_model::Label;
@@ -33,7 +32,7 @@ pub fn recover_order<'a>(
     requires short { length data_folder.now < 2 ^ 16 }
     requires repository_short { length repository.now < 2 ^ 16 }
     ensures order { IfOk result (λ o. (o.data_folder.now ≡ data_folder.now) × (o.repository.now ≡ repository.now)
-        × (o.workers ≡ workers) × IsSetOf (option_map (λ w. w.now) set.entry) o.set) }
+        × (o.workers ≡ workers) × TellsSet (option_map (λ w. w.now) set.entry) o.set) }
     ensures cause { IfErr result (HaltCause (WordCause (option_map (λ w. w.now) set.entry)) (λ _. ⊥)) }
 {
     let set = match set {

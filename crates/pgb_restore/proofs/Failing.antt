@@ -1,5 +1,5 @@
 -- Why files weren't filled, of a part and of the whole.
-use Rattle.std.proofs.Common.{ℕ, ◌≡◌, ◌⊎◌, inl, inr, ⊎_elim, ◌≤◌, ◌<◌, refl, sym, ap, ◌∙◌, subst, arith, List, [], ◌∷◌, ◌++◌, length, length-append, Option, Some, None, append_assoc, string_bytes}
+use Rattle.std.proofs.Common.{ℕ, ◌≡◌, ⊎_elim, ◌≤◌, sym, ap, ◌∙◌, subst, arith, List, [], ◌∷◌, ◌++◌, length-append, Option, Some, None, append_assoc}
 use Rattle.pgb_outside.specs.Cause.{Rises}
 use Rattle.pgb_outside.specs.Links.{LinkState, Told}
 use Rattle.pgb_model.specs.declared.labels.Label.{Label}
@@ -13,7 +13,7 @@ use Rattle.pgb_source.specs.Sources.{source}
 use Rattle.pgb_restore.specs.declared.fault.FillFault.{FillFault}
 use Rattle.pgb_restore.specs.declared.fault.FillFault.TheVariants as faults
 use Rattle.pgb_restore.specs.Left.{IsLeft}
-use Rattle.pgb_restore.specs.Faults.{IsDamaged, IsUnread, FillFails}
+use Rattle.pgb_restore.specs.Faults.{FillFails}
 use Rattle.pgb_restore.proofs.Links.{reads_as, read_before, steady_as}
 
 rises_later : (f g h : ℕ) → f ≤ g → Rises g h → Rises f h

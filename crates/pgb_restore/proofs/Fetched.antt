@@ -1,13 +1,12 @@
 -- One file that is read and written; and one that gets its own name last.
-use Rattle.std.proofs.Common.{ℕ, zero, suc, ◌≡◌, ◌≢◌, ◌⊎◌, inl, inr, ⊎_elim, ◌<◌, refl, sym, ap, ◌∙◌, subst, arith, List, [], ◌∷◌, length, length-append, map, Option, Some, None, option_map, slice_get, true}
-use Rattle.std.specs.Prelude.{IfSome, OnErr, Result, Ok, Err, codes}
-use Rattle.sha1.specs.Sha1.{sha1}
+use Rattle.std.proofs.Common.{ℕ, zero, suc, ◌≡◌, ◌≢◌, inl, inr, ◌<◌, refl, sym, ap, ◌∙◌, subst, List, [], ◌∷◌, Option, Some, None, option_map, slice_get}
+use Rattle.std.specs.Prelude.{IfSome, OnErr, Result, Ok, Err}
 use Rattle.pgb_outside.specs.Content.{at}
 use Rattle.pgb_outside.specs.Links.{LinkState}
-use Rattle.pgb_outside.specs.Tree.{Nodes, Held, file, with_node, moved_node}
+use Rattle.pgb_outside.specs.Tree.{Nodes, Held, with_node, moved_node}
 use Rattle.pgb_text.specs.declared.sum.Sum.{Sum}
 use Rattle.pgb_model.specs.declared.labels.Label.{Label}
-use Rattle.pgb_model.specs.Text.{Text, In}
+use Rattle.pgb_model.specs.Text.{Text}
 use Rattle.pgb_model.specs.Values.{FileEntry}
 use Rattle.pgb_worker_frame.specs.Frames.{Item, Job}
 use Rattle.pgb_worker_dispatch.specs.declared.fault.Lost.{Lost}

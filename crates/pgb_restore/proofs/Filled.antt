@@ -1,7 +1,6 @@
 -- From the files that were written to the entries of a manifest.
-use Rattle.std.proofs.Common.{ℕ, ◌≡◌, ◌≢◌, ◌<◌, arith, refl, sym, ap, ◌∙◌, subst, List, [], ◌∷◌, length, map, Option, Some, None, slice_get, string_bytes}
+use Rattle.std.proofs.Common.{ℕ, ◌≡◌, ◌≢◌, ◌<◌, arith, sym, ap, ◌∙◌, subst, List, [], ◌∷◌, length, map, Option, Some, None, slice_get, string_bytes}
 use Rattle.std.specs.Prelude.{IfSome}
-use Rattle.sha1.specs.Sha1.{sha1}
 use Rattle.pgb_outside.specs.Content.{at}
 use Rattle.pgb_outside.specs.Links.{LinkState, Told}
 use Rattle.pgb_outside.specs.Tree.{Nodes}

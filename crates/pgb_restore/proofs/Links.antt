@@ -1,20 +1,20 @@
 -- Links that are left behind some jobs.
-use Rattle.std.proofs.Common.{ℕ, zero, suc, ◌≡◌, ◌<◌, ◌≤◌, refl, sym, ap, ◌∙◌, subst, arith, List, [], ◌∷◌, length, Option, Some, None, slice_get}
+use Rattle.std.proofs.Common.{ℕ, zero, suc, ◌≡◌, sym, ap, ◌∙◌, subst, arith, List, [], ◌∷◌, Option, Some, None, slice_get}
 use Rattle.std.specs.Prelude.{IfSome}
 use Rattle.std.specs.List.{AllByRecursion}
 use Rattle.pgb_outside.specs.Content.{Content}
 use Rattle.pgb_outside.specs.Links.{LinkState, Told}
 use Rattle.pgb_model.specs.Text.{Text}
-use Rattle.pgb_worker_frame.specs.Frames.{Item, Job, Roots, spell}
+use Rattle.pgb_worker_frame.specs.Frames.{Item, Job, spell}
 use Rattle.pgb_worker_frame.specs.Frames.Frame.{Setup, Task}
 use Rattle.pgb_worker_reply.specs.Reads.{Reads, ReadBy, IsSteadyWorker}
 use Rattle.pgb_worker_reply.specs.Going.{IsSame, IsDrained}
-use Rattle.pgb_worker_dispatch.specs.Run.{somes, IsLoss, IsReady, Left}
+use Rattle.pgb_worker_dispatch.specs.Run.{somes, IsLoss, Left}
 use Rattle.pgb_worker_dispatch.specs.declared.fault.Lost.{Lost as Entry}
 use Rattle.pgb_worker_dispatch.proofs.Reading.{all_at}
 use Rattle.pgb_fill.proofs.Listing.{some_within}
 use Rattle.pgb_restore.specs.Written.{IsReadOf}
-use Rattle.pgb_restore.specs.Left.{IsOneOf, HasSame, IsLeft}
+use Rattle.pgb_restore.specs.Left.{HasSame, IsLeft}
 use Rattle.pgb_restore.proofs.Writes.{get_some}
 
 -- what a link reads rests on its answers alone

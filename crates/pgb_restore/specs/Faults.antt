@@ -1,5 +1,5 @@
 -- Why the files of a backup aren't all in their places. Own.
-use Rattle.std.specs.Prelude.{ℕ, Bool, true, false, ◌≡◌, ◌<◌, [], ◌∷◌, List, ◌++◌, length, Option, Some, None, map, string_bytes, slice_get}
+use Rattle.std.specs.Prelude.{ℕ, false, ◌≡◌, ◌<◌, [], ◌∷◌, List, ◌++◌, length, Option, Some, None, map, string_bytes, slice_get}
 use Rattle.sha1.specs.Sha1.{sha1}
 use Rattle.pgb_outside.specs.Cause.{Rises}
 use Rattle.pgb_outside.specs.Links.{LinkState, last_five}

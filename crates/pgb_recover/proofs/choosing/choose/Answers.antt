@@ -1,4 +1,4 @@
-use Rattle.std.proofs.Common.{rules, ◌≡◌, ◌-◌, List, Some, None, false, length, map, slice_get, refl, sym, subst, ◌∙◌, ap}
+use Rattle.std.proofs.Common.{rules, ◌≡◌, ◌-◌, List, Some, None, false, length, map, slice_get, refl, sym, subst}
 use Rattle.pgb_model.specs.declared.labels.Entry as rust_entry
 use Rattle.pgb_model.specs.Text.{In}
 use Rattle.pgb_model.specs.Values.{backup_info_of, entry_of}

@@ -1,4 +1,4 @@
-use Rattle.std.proofs.Common.{rules, ◌≡◌, Some, slice_get, map, true, false, string_bytes}
+use Rattle.std.proofs.Common.{rules, ◌≡◌, Some, slice_get, true, false, string_bytes}
 use Rattle.std.specs.List.{list_any}
 use Rattle.pgb_recover.proofs.Listings.{is_server, server_in, server_not_in, first_shown}
 use Rattle.pgb_recover.proofs.looking.check_empty.Goals as goal

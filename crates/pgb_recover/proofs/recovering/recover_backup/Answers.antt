@@ -1,5 +1,4 @@
 use Rattle.std.proofs.Common.{map, take, string_bytes}
-use Rattle.std.specs.Prelude.{IfSome}
 use Rattle.pgb_outside.specs.Cause.{Rises}
 use Rattle.pgb_model.specs.Values.{backup_info_of, manifest_of}
 use Rattle.pgb_stage.specs.declared.object.Object.TheVariants.{DataFolder}
