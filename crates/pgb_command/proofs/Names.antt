@@ -46,5 +46,5 @@ unfolding value row
 repository_short s = path_short (in_force s Repo1Path)
 
 -- the length of each fits into 16 bits
-pub folders_fit : (s : Source) (data repository : Text) → data ≡ path_in s Pg1Path → repository ≡ path_in s Repo1Path → (length data < 2 ^ 16) × (length repository < 2 ^ 16)
-folders_fit s data repository is also = (omega (arith, ap length is, data_short s), omega (arith, ap length also, repository_short s))
+pub folders_fit : (s : Source) (folder repository : Text) → folder ≡ path_in s Pg1Path → repository ≡ path_in s Repo1Path → (length folder < 2 ^ 16) × (length repository < 2 ^ 16)
+folders_fit s folder repository is also = (omega (arith, ap length is, data_short s), omega (arith, ap length also, repository_short s))

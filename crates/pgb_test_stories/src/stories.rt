@@ -81,10 +81,14 @@ fn backups_go_on_behind_a_stop(rt: HostRuntime) {
         same(&rt, statuses.as_slice(), &[0, 0, 0]);
         same(
             &rt,
-            disks.repo.bytes("backup/demo/20240102-030407F/pg_data/PG_VERSION"),
+            disks
+                .repo
+                .bytes("backup/demo/20240102-030407F/pg_data/PG_VERSION"),
             Some(b"16\n".as_slice()),
         );
-        let manifest = disks.repo.bytes("backup/demo/20240102-030407F/backup.manifest");
+        let manifest = disks
+            .repo
+            .bytes("backup/demo/20240102-030407F/backup.manifest");
         same(&rt, manifest.is_some(), true);
     }
     panic!(&rt; "a backup has no last moment");

@@ -79,7 +79,12 @@ fn add_commands(alloc: Global, text: &mut String, built: bool) -> Result<(), All
 fn is_built(verb: Verb) -> bool {
     matches!(
         verb,
-        Verb::StanzaCreate | Verb::ArchivePush | Verb::ArchiveGet | Verb::Backup | Verb::Restore | Verb::Info
+        Verb::StanzaCreate
+            | Verb::ArchivePush
+            | Verb::ArchiveGet
+            | Verb::Backup
+            | Verb::Restore
+            | Verb::Info
     )
 }
 
