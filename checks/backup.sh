@@ -17,31 +17,33 @@ back_up() {
     [ ! -s errors ] || complain "the backup wrote to standard error: $(cat errors)"
 }
 
+# The files of the cluster that a backup takes: not those that a server makes anew.
+taken() {
+    (cd pg && find . -type f ! -path './pg_subtrans/*' ! -path './pg_notify/*' "$@" | LC_ALL=C sort)
+}
+
 # compare LABEL: the files of this backup are those of the cluster.
 compare() {
     local folder=repo/backup/demo/$1 path sum size
-    (cd pg && find . -type f -size +0 | LC_ALL=C sort) >wanted
+    taken -size +0 >wanted
     (cd "$folder/pg_data" && find . -type f | LC_ALL=C sort) >found
     cmp -s wanted found || complain "$1 has other files: $(diff wanted found | head -n 5)"
     while read -r path; do
-        path=${path#./}
         cmp -s "pg/$path" "$folder/pg_data/$path" || complain "$path isn't stored as it is"
     done <found
-    (cd pg && find . -type f) | while read -r path; do
-        path=${path#./}
-        sum=$(sum_of "pg/$path")
-        size=$(stat -c %s "pg/$path")
-        grep -q "^pg_data/$path={\"checksum\":\"$sum\",\"size\":$size,\"timestamp\":[0-9]*}$" "$folder/backup.manifest" ||
-            printf '%s\n' "$path"
-    done >untold
-    [ ! -s untold ] || complain "the manifest of $1 doesn't tell $(head -n 3 untold)"
+    # Each as `pg_data/PATH={"checksum":"SUM","size":BYTES,`, and so in the manifest, but for the time.
+    taken -exec sha1sum {} + | while read -r sum path; do
+        printf 'pg_data/%s={"checksum":"%s","size":%s\n' "${path#./}" "$sum" "$(stat -c %s "pg/$path")"
+    done | LC_ALL=C sort >wanted
+    sed -n 's/^\(pg_data\/.*={"checksum":"[0-9a-f]*","size":[0-9]*\),"timestamp":[0-9]*}$/\1/p' "$folder/backup.manifest" | LC_ALL=C sort >found
+    cmp -s wanted found || complain "the manifest of $1 tells other files: $(diff wanted found | head -n 5)"
     cmp -s "$folder/backup.manifest" "$folder/backup.manifest.copy" || complain "the members of the manifest of $1 differ"
     [ -z "$(find "$folder" -type f ! -perm 600)" ] || complain 'a file has another mode than 600'
 }
 
 # is_listed LABEL: info lists it.
 is_listed() {
-    program info | grep -q "full backup: $1$"
+    "$top/bin/pgbackrest" --stanza=demo --repo1-path="$room/repo" info | grep -q "full backup: $1$"
 }
 
 # The list as the info file tells it.

@@ -31,8 +31,10 @@ restore 60 'ERROR: [060]: no backup exists
 ' empty
 back_up
 first=$label
-printf 'more\n' >>pg/postgresql.auto.conf
+printf '# more\n' >>pg/postgresql.auto.conf
 cp -a pg whole
+# What a server makes anew isn't backed up.
+rm -f whole/pg_subtrans/* whole/pg_notify/*
 back_up
 [ -n "$label" ] && [ "$label" != "$first" ] || complain "two backups have the label $label"
 

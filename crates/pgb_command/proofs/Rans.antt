@@ -68,7 +68,7 @@ use Rattle.pgb_recover.specs.declared.fault.RecoverFault.TheVariants as recovers
 use Rattle.pgb_recover.specs.Causes.{RecoverCause}
 use Rattle.pgb_recover.specs.Ends.{recover_early, leaves_folder}
 use Rattle.pgb_recover.specs.Texts.{recover_status}
-use Rattle.pgb_recover.specs.Words.{IsSetOf}
+use Rattle.pgb_recover.specs.Words.{TellsSet}
 use Rattle.pgb_model.specs.declared.labels.Label.{Label}
 use Rattle.pgb_get.specs.Getting.{GotBy, GetCause, get_early}
 use Rattle.pgb_command.specs.declared.fault.Fault.{Fault}
@@ -418,7 +418,7 @@ silent_ok P (Ok (Finished lines)) h = tt
 silent_ok P (Ok (Absent name)) h = absurd h
 silent_ok P (Err e) h = tt
 
-module _ (a : Asked) (b k : Seen) (rest : k ≡ record b { repo = k.repo; tree = k.tree; links = k.links }) (still : IsStill b.repo.view k.repo.view) (set : Option Text) (label : Option Label) (is_set : IsSetOf set label) (workers : ℕ)
+module _ (a : Asked) (b k : Seen) (rest : k ≡ record b { repo = k.repo; tree = k.tree; links = k.links }) (still : IsStill b.repo.view k.repo.view) (set : Option Text) (label : Option Label) (is_set : TellsSet set label) (workers : ℕ)
     (r : Result Outcome (Halt RecoverFault)) (ended : Result Outcome Fault) (lifted : ended ≡ lift of_recover r) where
   abbrev restores : Asked
   restores = with_request a (restore set workers)

@@ -14,7 +14,7 @@ use Rattle.pgb_push.proofs.Refusals.{push_word}
 use Rattle.pgb_push.specs.WalCause.{WordCause}
 use Rattle.pgb_get.specs.declared.fault.GetFault.{GetFault}
 use Rattle.pgb_recover.specs.declared.fault.RecoverFault.{RecoverFault}
-use Rattle.pgb_recover.specs.Words.{IsSetOf, WordCause as SetCause}
+use Rattle.pgb_recover.specs.Words.{TellsSet, WordCause as SetCause}
 use Rattle.pgb_recover.specs.declared.order.RecoverOrder.{RecoverOrder}
 use Rattle.pgb_get.proofs.Refusals.{get_words as read_words}
 use Rattle.pgb_get.specs.Getting.{AreWords, WordsCause as GetWords}
@@ -100,7 +100,7 @@ words_fit a (report form) (orders.Restore o) is = absurd is
 words_fit a (report form) (orders.Info asked) is = tt
 
 -- the order of a restore is asked for
-pub restore_asked : (q : Request) (folder : Text) (o : RecoverOrder) → IsOrder q folder (orders.Restore o) → (set : Option Text) × (q ≡ restore set o.workers) × IsSetOf set o.set
+pub restore_asked : (q : Request) (folder : Text) (o : RecoverOrder) → IsOrder q folder (orders.Restore o) → (set : Option Text) × (q ≡ restore set o.workers) × TellsSet set o.set
 restore_asked create folder o is = absurd is
 restore_asked (push path) folder o is = absurd is
 restore_asked (get word path) folder o is = absurd is

@@ -33,7 +33,7 @@ use Rattle.pgb_logged.specs.Backups.{IsFullBackup}
 use Rattle.pgb_take.specs.Causes.{Before, TakeCause}
 use Rattle.pgb_take.specs.Taken.{IsTaken}
 use Rattle.pgb_recover.specs.declared.fault.RecoverFault.{RecoverFault}
-use Rattle.pgb_recover.specs.Words.{IsSetOf, WordCause}
+use Rattle.pgb_recover.specs.Words.{TellsSet, WordCause}
 use Rattle.pgb_recover.specs.Restoring.{Before as BeforeRestore, Recovers, GivesBackup}
 use Rattle.pgb_recover.specs.Causes.{RecoverCause}
 use Rattle.pgb_restore.specs.Finished.{IsFinished}
@@ -86,7 +86,7 @@ WordsFit a create = Unit {0}
 WordsFit a (push path) = (name : ArchiveName) × IsWalPath a.data_folder path name
 WordsFit a (get word path) = (name : ArchiveName) × AreWords a.data_folder word path name
 WordsFit a (backup workers) = Unit {0}
-WordsFit a (restore set workers) = (label : Option Label) × IsSetOf set label
+WordsFit a (restore set workers) = (label : Option Label) × TellsSet set label
 WordsFit a (report form) = Unit {0}
 
 -- what a backup finds as its own part begins
@@ -99,7 +99,7 @@ found_for a set workers old = record { stanza = a.stanza; set = set; repo = old.
 
 -- the word names no label, or a backup isn't restored for this
 abbrev pub RestoreCause : Asked → Option Text → ℕ → Known → RecoverFault → Type 0
-RestoreCause a set workers old fault = WordCause set fault ⊎ ((label : Option Label) × IsSetOf set label × RecoverCause (found_for a label workers old) fault)
+RestoreCause a set workers old fault = WordCause set fault ⊎ ((label : Option Label) × TellsSet set label × RecoverCause (found_for a label workers old) fault)
 
 -- why a command is refused, from what the objects hold as its own part begins
 abbrev pub CommandCause : Asked → Request → Known → CommandFault → Type 0
@@ -125,7 +125,7 @@ OnStanza a repo P = (s : Stanza) → IsSome repo → NowStands a.stanza (Some s)
 -- Ok of restore: the backup that was asked for, or the last one, is in the folder
 pub record Restores (a : Asked) (set : Option Text) (workers : ℕ) (old new : Known) (outcome : Outcome) : Type 0 where
   pub label : Option Label
-  pub is : IsSetOf set label
+  pub is : TellsSet set label
   pub recovers : OnFinished outcome (Recovers (found_for a label workers old) new.nodes)
   pub gives : (s : Stanza) (f : Content) → old.repo ≡ Some f → NowStands a.stanza (Some s) old.repo → OnFinished outcome (GivesBackup s (found_for a label workers old) f new.nodes)
 

@@ -5,7 +5,7 @@ use Rattle.pgb_worker_dispatch.specs.Run.{IsReady}
 use Rattle.pgb_model.specs.Text.{Text}
 use Rattle.pgb_options.specs.declared.options.Options.{Options}
 use Rattle.pgb_create.specs.Server.{server_view}
-use Rattle.pgb_recover.specs.Words.{IsSetOf}
+use Rattle.pgb_recover.specs.Words.{TellsSet}
 use Rattle.pgb_command.specs.declared.settings.Settings.{Settings}
 use Rattle.pgb_command.specs.declared.settings.Request as code
 use Rattle.pgb_command.specs.declared.settings.Request.TheVariants.{StanzaCreate, ArchivePush, ArchiveGet, Backup, Restore, Info}
@@ -50,6 +50,6 @@ IsOrder create folder order.StanzaCreate = Unit {0}
 IsOrder (push path) folder (order.ArchivePush o) = (o.folder.now ≡ folder) × (o.path.now ≡ path)
 IsOrder (get name path) folder (order.ArchiveGet o) = (o.folder.now ≡ folder) × (o.word.now ≡ name) × (o.path.now ≡ path)
 IsOrder (backup workers) folder (order.Backup o) = (o.data_folder.now ≡ folder) × (o.workers ≡ workers)
-IsOrder (restore set workers) folder (order.Restore o) = (o.data_folder.now ≡ folder) × (o.workers ≡ workers) × IsSetOf set o.set
+IsOrder (restore set workers) folder (order.Restore o) = (o.data_folder.now ≡ folder) × (o.workers ≡ workers) × TellsSet set o.set
 IsOrder (report form) folder (order.Info asked) = asked ≡ form
 IsOrder request folder other = ⊥

@@ -1,6 +1,7 @@
 //! The commands, from words to a status.
 #![tactic(auto)]
 
+mod asking;
 mod config;
 mod fault;
 mod lines;

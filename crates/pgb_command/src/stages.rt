@@ -11,10 +11,11 @@ ghost use Rattle.pgb_command.specs.Asked.{report};
 ghost use Rattle.pgb_command.specs.Told.{request_of, asked_of, AreWorkers, IsOrder};
 ghost use Rattle.pgb_command.specs.Tables.{plan_of, uses_workers};
 
+use crate::asking::plan_of;
 use crate::fault::Fault;
 use crate::order::{Order, order_of};
 use crate::outside::{Outside, Told};
-use crate::settings::{Settings, plan_of};
+use crate::settings::Settings;
 use pgb_outside::{Clock, Disk, Link, Locks, Sink, Source, Tree, Turns, Wire};
 use pgb_prepare::{
     LockNames, Ready, lock_names, open_disk, open_tree, prepare, release_locks, take_locks,

@@ -11,11 +11,11 @@ ghost use Rattle.pgb_command.specs.Did.{OpensPlaces, OnlyLocked};
 ghost use Rattle.pgb_command.specs.Tables.{uses_workers};
 ghost use Rattle.pgb_command.specs.Told.{AreWorkers};
 
+use crate::asking::settings_of;
 use crate::config::read_command;
 use crate::fault::Fault;
 use crate::output::answer;
 use crate::outside::{Outside, Told};
-use crate::settings::settings_of;
 use pgb_options::Command;
 use pgb_outside::{Clock, Disk, Link, Locks, Sink, Source, Tree, Turns, Wire};
 use pgb_stage::StageFault;

@@ -1,0 +1,211 @@
+// What a command is told, from its options.
+ghost use Rattle.std.specs.Prelude.{◌≡◌, [], List, Ok, Err, map, IfOk, IfErr, Result, MatchResult, option_map, string_bytes, true};
+ghost use Rattle.pgb_options.specs.Commands.{IsCommand};
+ghost use Rattle.pgb_options.specs.Filled.{or_else};
+ghost use Rattle.pgb_table.specs.Values.{is_stanza};
+ghost use Rattle.pgb_options.specs.Settings.{Settled};
+ghost use Rattle.pgb_command.specs.Asked.{request_by, backup_by, is_full, restore_by, is_plain, first_of, second_of, requested, IsAsked};
+ghost use Rattle.pgb_command.specs.Tables.{plan_of};
+ghost use Rattle.pgb_command.specs.Told.{request_of, asked_of, wanted_told};
+
+use crate::server::server_of;
+use crate::settings::{Request, Settings};
+use pgb_options::{Command, KindWord, Options, RestoreWord};
+use pgb_stage::{Pairs, Plan, Settling, Unbuilt};
+use pgb_table::Verb;
+
+// The first parameter.
+fn first_of(given: &[String]) -> &str
+    ensures { result.now ≡ first_of (map string_bytes given.now) }
+{
+    match given.first() {
+        Some(first) => first.as_str(),
+        None => "",
+    }
+}
+
+// The second parameter.
+fn second_of(given: &[String]) -> &str
+    ensures { result.now ≡ second_of (map string_bytes given.now) }
+{
+    match given {
+        [_, second, ..] => second.as_str(),
+        _ => "",
+    }
+}
+
+// A path, or nothing.
+fn path_of(path: &Option<String>) -> &str
+    ensures { result.now ≡ or_else [] (option_map string_bytes path.now) }
+{
+    match path {
+        Some(path) => path.as_str(),
+        None => "",
+    }
+}
+
+// What a backup is to do, where that is built.
+fn backup_request<'a>(options: &Options) -> Result<Request<'a>, Unbuilt>
+    ensures asked { IfOk result (λ r. backup_by (wanted_told options.now) ≡ Ok (request_of r)) }
+    ensures unbuilt { IfErr result (λ what. backup_by (wanted_told options.now) ≡ Err what) }
+{
+    if options.online {
+        return Err(Unbuilt::Online);
+    }
+    if !is_full(options.backup_type) {
+        return Err(Unbuilt::Kind);
+    }
+    if options.delta {
+        return Err(Unbuilt::Delta);
+    }
+    if options.repo1_bundle {
+        return Err(Unbuilt::Bundles);
+    }
+    if options.expire_auto {
+        return Err(Unbuilt::Expiry);
+    }
+    Ok(Request::Backup {
+        workers: options.process_max,
+    })
+}
+
+// What a restore is to do, where that is built.
+fn restore_request(options: &Options) -> Result<Request<'_>, Unbuilt>
+    ensures asked { IfOk result (λ r. restore_by (wanted_told options.now) ≡ Ok (request_of r)) }
+    ensures unbuilt { IfErr result (λ what. restore_by (wanted_told options.now) ≡ Err what) }
+{
+    if options.delta {
+        return Err(Unbuilt::Delta);
+    }
+    if !is_plain(options.restore_type) {
+        return Err(Unbuilt::Recovery);
+    }
+    Ok(Request::Restore {
+        set: label_of(&options.set),
+        workers: options.process_max,
+    })
+}
+
+fn label_of(set: &Option<String>) -> Option<&str>
+    ensures { option_map (λ w. w.now) result ≡ option_map string_bytes set.now }
+{
+    match set {
+        Some(label) => Some(label.as_str()),
+        None => None,
+    }
+}
+
+fn is_plain(word: RestoreWord) -> bool
+    ensures { result ≡ is_plain word }
+{
+    matches!(word, RestoreWord::Plain)
+}
+
+fn is_full(kind: KindWord) -> bool
+    ensures { result ≡ is_full kind }
+{
+    matches!(kind, KindWord::Full)
+}
+
+// What the command is to do, where that is built.
+fn request_of(command: &Command) -> Result<Request<'_>, Unbuilt>
+    ensures asked { IfOk result (λ r. request_by command.now.verb (wanted_told command.now.options)
+        (map string_bytes command.now.given.items) ≡ Ok (request_of r)) }
+    ensures unbuilt { IfErr result (λ what. request_by command.now.verb (wanted_told command.now.options)
+        (map string_bytes command.now.given.items) ≡ Err what) }
+{
+    match command.verb {
+        Verb::StanzaCreate => Ok(Request::StanzaCreate),
+        Verb::ArchivePush => {
+            if command.options.archive_async {
+                return Err(Unbuilt::Background);
+            }
+            Ok(Request::ArchivePush {
+                path: first_of(&command.given),
+            })
+        }
+        Verb::ArchiveGet => {
+            if command.options.archive_async {
+                return Err(Unbuilt::Background);
+            }
+            Ok(Request::ArchiveGet {
+                name: first_of(&command.given),
+                path: second_of(&command.given),
+            })
+        }
+        Verb::Backup => backup_request(&command.options),
+        Verb::Restore => restore_request(&command.options),
+        Verb::Info => Ok(Request::Info {
+            form: command.options.output,
+        }),
+        verb => Err(Unbuilt::Command(verb)),
+    }
+}
+
+/// What the command is told, where it is built.
+pub(crate) fn settings_of(command: &Command) -> Result<Settings<'_>, Unbuilt>
+    requires command { (s : Settled) × IsCommand command.now s }
+    requires form { is_stanza (string_bytes command.now.stanza) ≡ true }
+    ensures asked { IfOk result (λ x. (s : Settled) → IsCommand command.now s → IsAsked s (asked_of x)) }
+    ensures unbuilt { IfErr result (λ what. (s : Settled) → IsCommand command.now s → requested s ≡ Err what) }
+{
+    let request = request_of(command)?;
+    Ok(Settings {
+        stanza: &command.stanza,
+        pg1_path: path_of(&command.options.pg1_path),
+        repo1_path: &command.options.repo1_path,
+        lock_path: &command.options.lock_path,
+        server: server_of(command),
+        request,
+    })
+}
+
+/// What the stages do for a request.
+pub(crate) fn plan_of(request: &Request<'_>) -> Plan
+    ensures { result ≡ plan_of (request_of request.now) }
+{
+    let reading = Plan {
+        settling: Settling::Whole,
+        folder: false,
+        backup_lock: false,
+        archive_lock: false,
+        control: false,
+        pairs: Pairs::ReadBoth,
+    };
+    match request {
+        Request::StanzaCreate => Plan {
+            settling: Settling::Whole,
+            folder: true,
+            backup_lock: true,
+            archive_lock: true,
+            control: true,
+            pairs: Pairs::Unread,
+        },
+        Request::ArchivePush { .. } => Plan {
+            settling: Settling::Looked,
+            folder: true,
+            archive_lock: true,
+            control: true,
+            pairs: Pairs::HealArchive,
+            ..reading
+        },
+        Request::ArchiveGet { .. } => Plan {
+            settling: Settling::Looked,
+            folder: true,
+            control: true,
+            pairs: Pairs::ReadArchive,
+            ..reading
+        },
+        Request::Backup { .. } => Plan {
+            folder: true,
+            backup_lock: true,
+            control: true,
+            ..reading
+        },
+        Request::Restore { .. } => Plan {
+            folder: true,
+            ..reading
+        },
+        Request::Info { .. } => reading,
+    }
+}
