@@ -15,5 +15,4 @@ pub mod Labels
 pub mod Far
 pub mod Offline
 pub mod Mixing
-pub mod Causes
 pub mod Alikes

@@ -1,5 +1,5 @@
 -- What is known of a full backup that is listed.
-use Rattle.std.proofs.Common.{◌≡◌, inl, inr, Bool, true, false, List, Option, refl, ap, Result, Ok, Err}
+use Rattle.std.proofs.Common.{◌≡◌, Bool, true, false, List, Option, refl, ap, Result, Ok, Err}
 use Rattle.std.specs.Prelude.{IsSome}
 use Rattle.std.specs.Result.{is_ok}
 use Rattle.pgb_outside.specs.Content.{Content}

@@ -1,5 +1,5 @@
 -- What a full backup begins from.
-use Rattle.std.proofs.Common.{◌≡◌, inl, Bool, true, false, [], Option, Some, None, refl, sym, ◌∙◌, subst}
+use Rattle.std.proofs.Common.{◌≡◌, inl, [], Option, Some, None, refl, sym, ◌∙◌, subst}
 use Rattle.std.specs.Prelude.{IfSome, IsSome}
 use Rattle.pgb_outside.specs.Content.{Content}
 use Rattle.pgb_outside.specs.Moments.{View}

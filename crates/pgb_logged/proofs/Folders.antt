@@ -1,5 +1,5 @@
 -- A full backup holds the data folder, where all its links read what that folder holds.
-use Rattle.std.proofs.Common.{◌≡◌, ◌↔◌, inl, inr, ℕ, Bool, true, false, List, [], ◌∷◌, ◌++◌, length, map, Option, Some, None, refl, sym, ◌∙◌, ap, subst}
+use Rattle.std.proofs.Common.{◌≡◌, ◌↔◌, inl, inr, ℕ, Bool, true, false, List, [], ◌∷◌, ◌++◌, length, map, Option, Some, refl, sym, ◌∙◌, ap, subst}
 use Rattle.std.specs.Prelude.{IsSome, IsSomeAnd, unwrap_or, if◌then◌else◌}
 use Rattle.std.specs.FinMap.{get}
 use Rattle.pgb_outside.specs.declared.tree.Node.{Node}
@@ -9,7 +9,7 @@ use Rattle.pgb_outside.specs.Moments.{View}
 use Rattle.pgb_outside.specs.Links.{LinkState}
 use Rattle.pgb_outside.specs.Tree.{Held, Nodes, IsTreeListing, file, folder, link, other, shown, file_bytes}
 use Rattle.pgb_model.specs.Text.{Text, In}
-use Rattle.pgb_model.specs.Values.{FileEntry, Manifest}
+use Rattle.pgb_model.specs.Values.{Manifest}
 use Rattle.pgb_model.specs.Repository.{File}
 use Rattle.pgb_worker_dispatch.specs.Payloads.{AllRead}
 use Rattle.pgb_plan.specs.Listed.{Taken}

@@ -10,7 +10,7 @@ use Rattle.pgb_model.specs.Text.{In}
 use Rattle.pgb_model.specs.Values.{Manifest}
 use Rattle.pgb_model.specs.Repository.{Backup, Stanza, Repository, IsSound, IsSoundStanza, IsSoundBackup, HasItsSegments}
 use Rattle.pgb_model.specs.Stands.{Stands, HasStanza}
-use Rattle.pgb_model.specs.Steps.{Step, Command, MakeBackup, AddBackup, IsPartOf, changed, after, all_of, steps_of}
+use Rattle.pgb_model.specs.Steps.{Step, Command, MakeBackup, AddBackup, changed, after, all_of, steps_of}
 use Rattle.pgb_model.specs.Log.{IsDone}
 use Rattle.pgb_model.specs.Now.{NowStands}
 use Rattle.pgb_model.specs.Steady.{IsSteady, Moves}

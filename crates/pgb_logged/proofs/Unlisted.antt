@@ -1,5 +1,5 @@
 -- A backup that isn't listed is a part of any command.
-use Rattle.std.proofs.Common.{◌≡◌, [], List, Option, Some, None, sym, subst}
+use Rattle.std.proofs.Common.{[], Some, None, sym, subst}
 use Rattle.std.specs.Prelude.{IsSome}
 use Rattle.pgb_outside.specs.Content.{Content}
 use Rattle.pgb_outside.specs.Moments.{View}
