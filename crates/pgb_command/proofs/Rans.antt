@@ -120,7 +120,7 @@ module _ {E : Type 0} (a : Asked) (b k : Seen) (of : E → Fault) (early : E →
       pairs = pairs;
       reads = reads;
       folder = folder;
-      nodes = as_reached _ nodes;
+      nodes = as_reached _ (subst (λ (e : Result Outcome Fault). OnNone (reached_by early r) (FolderStays a.request (status (ending_of e)) (k.tree.nodes ≡ b.tree.nodes))) lifted nodes);
       unmade = create_reached a.request _ unmade;
       quiet = quiet;
       others = others;

@@ -1,12 +1,15 @@
 use Rattle.std.proofs.Common.{◌≡◌, Ok, ap, sym, subst, ◌∙◌, map, string_bytes}
 use Rattle.pgb_story.proofs.Beside.{keeps_others}
 use Rattle.pgb_command.specs.Asked.{requested}
-use Rattle.pgb_command.proofs.InForm.{asked_in_form}
+use Rattle.pgb_command.proofs.InForm.{command_in_form, asked_in_form}
 use Rattle.pgb_command.proofs.Closings.{closes_talk}
 use Rattle.pgb_command.proofs.Unused.{only_unbuilt, no_server_asked, request_asked, err_as}
 use Rattle.pgb_command.proofs.Carried.{runs_on, runs_off}
 use Rattle.pgb_command.proofs.Follows.{found, finishes, part_done, turns_back, fulfils, leaves_rest, opens_places, only_locked, completes}
 use Rattle.pgb_command.proofs.top.run.Goals as goal
+
+pub carry-requires-clause-form : goal.carry-requires-clause-form
+carry-requires-clause-form g c = command_in_form (map string_bytes c.args.words.now) _ c.in-Ok.command c.in-Ok.ensures.command
 
 pub returns-in-Err-clause-answers : goal.returns-in-Err-clause-answers
 returns-in-Err-clause-answers g c = runs_off (map string_bytes c.args.words.now) (map string_bytes c.deref.result.now) _ _ _ c.answer.result c.in-Err.fault (ap (map string_bytes) (c.deref.ensures.value ∙ c.new-unknown.ensures.items)) c.in-Err.ensures.cause c.answer.ensures.told

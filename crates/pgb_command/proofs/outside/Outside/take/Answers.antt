@@ -8,8 +8,8 @@ use Rattle.pgb_command.proofs.outside.Outside.take.Goals as goal
 pub returns-clause-ran : goal.returns-clause-ran
 returns-clause-ran g c =
     let e = c.take_backup.ensures in
-    let tells = backup_tells (request_of c.args.settings.now.request) c.args.settings.now.stanza.now _ _ c.args.ready c.requires.ready c.args.order.workers c.requires.request c.in-Some.control c.in-Some.is in
-    taken_ran (asked_of c.args.settings.now) _ _ refl e.looks.nodes c.args.order.workers c.in-Some.control tells c.take_backup.result c.take_end.result c.take_end.ensures c.requires.request e.beside e.does e.taken
+    let tells = backup_tells (request_of c.args.settings.now.request) c.args.settings.now.stanza.now _ _ c.args.ready c.requires.ready c.args.order.workers c.requires.request c.in-Some-Some-Some.control c.in-Some-Some-Some.is-0 in
+    taken_ran (asked_of c.args.settings.now) _ _ refl e.looks.nodes c.args.order.workers c.in-Some-Some-Some.control tells c.take_backup.result c.take_end.result c.take_end.ensures c.requires.request e.beside e.does e.taken
     _ (rose_to _ _ _ (λ h. h) (λ h. absurd h) (λ h. h) (λ h. absurd h) (λ h. absurd h) (λ h. h) (λ h. absurd h) (λ h. absurd h) (λ h. absurd h)) e.cause
     (record { repo = e.frame.opened; tree = e.looks.opened })
     (all_later _ _ e.frame.later (omega arith) e.looks.later (omega arith) (omega arith) e.later (omega arith) (omega arith) (omega arith))
