@@ -1,22 +1,19 @@
 -- The stanza that words settle is in form.
-use Rattle.std.proofs.Common.{◌≡◌, ◌≢◌, ⊎_elim, ℕ, Bool, true, false, List, [], ◌∷◌, length, drop, codes, Option, Some, None, Result, Ok, Err, refl, sym, ap, subst, ◌∙◌, arith}
+use Rattle.std.proofs.Common.{◌≡◌, ◌≢◌, ℕ, Bool, true, false, List, [], ◌∷◌, length, drop, codes, Option, Some, None, Result, Ok, Err, refl, sym, ap, subst, ◌∙◌}
 use Rattle.std.specs.Prelude.{string_bytes, ◌&&◌, is_some, is_none, if◌then◌else◌, option_and_then}
 use Rattle.std.specs.List.{list_all, find}
 use Rattle.std.specs.Option.{option_map_or, option_or}
-use Rattle.std.proofs.lemmas.Grind.{common_steps}
 use Rattle.pgb_outside.specs.Content.{Content}
 use Rattle.pgb_model.specs.Text.{Text}
-use Rattle.pgb_ini.specs.Config.{Setting}
 use Rattle.pgb_table.specs.declared.table.TheConstants.{TABLE, VERBS}
-use Rattle.pgb_table.specs.declared.table.Opt.{Opt}
 use Rattle.pgb_table.specs.declared.table.Opt.TheVariants.{Stanza}
 use Rattle.pgb_table.specs.declared.table.Verb.{Verb}
 use Rattle.pgb_table.specs.declared.table.Verb.TheVariants.{StanzaCreate, ArchivePush, ArchivePushAsync, ArchiveGet, ArchiveGetAsync, Backup, Expire, Restore, Verify, Info, Rehearse}
 use Rattle.pgb_options.specs.Faults.{Fault, option_missing, option_value, ◌>>=◌}
 use Rattle.pgb_table.specs.Table.{row, is_for, stanza as stanza_kind}
 use Rattle.pgb_table.specs.Values.{is_stanza, is_stanza_byte, value_of, text_where}
-use Rattle.pgb_options.specs.Words.{Words, read_words}
-use Rattle.pgb_options.specs.Settings.{Source, Settled, settle, settled_words, settled, source_of, sections_of, configured, accepted, command_of, each_is_for, stanza_of, value_given, value_configured, none_wrong, none_lacking, refused, is_wrong, in_force, value}
+use Rattle.pgb_options.specs.Words.{read_words}
+use Rattle.pgb_options.specs.Settings.{Source, Settled, settle, settled_words, settled, source_of, sections_of, configured, accepted, command_of, each_is_for, stanza_of, value_given, value_configured, none_wrong, refused, is_wrong, in_force, value}
 use Rattle.pgb_stored.specs.Paths.{Lacks}
 use Rattle.pgb_archive.proofs.PathLies.{lacks_not}
 use Rattle.pgb_story.specs.Beside.{IsStanza}

@@ -49,7 +49,7 @@ use Rattle.pgb_stage.specs.Seen.{Seen, Failed, AreLater}
 use Rattle.pgb_story.specs.Beside.{StaysBeside}
 use Rattle.pgb_stage.proofs.Besides.{still_beside, pairs_beside}
 use Rattle.pgb_stage.proofs.Doing.{reading_does, now_told}
-use Rattle.pgb_stage.proofs.Lifted.{on_as, does_runs, reading_spool}
+use Rattle.pgb_stage.proofs.Lifted.{does_runs, reading_spool}
 use Rattle.pgb_create.specs.declared.fault.CreateFault.{CreateFault}
 use Rattle.pgb_create.specs.Creating.{IsCreated, CreateCause, create_early}
 use Rattle.pgb_create.specs.Talking.{Asks, IsOf, Closes as CreateCloses}
@@ -77,7 +77,7 @@ use Rattle.pgb_command.specs.declared.fault.CommandFault.TheVariants.{Create, Pu
 use Rattle.pgb_command.specs.Answers.{status, reached_of, ending_of, is_early}
 use Rattle.pgb_command.specs.Asked.{Request, create, push, get, backup, restore, report, Asked}
 use Rattle.pgb_command.specs.Faults.{of_halt, of_stage, of_create, of_push, of_get, of_take, of_recover, lift}
-use Rattle.pgb_command.specs.Tables.{Known, known, found_by, found_for, Restores, RestoreCause, Promise, Lasts, plan_of, manner_of, IsCreateOf, OnReader, OnCreate, OnOther, FolderGoes, FolderStays, Unless, uses_workers, uses_clock}
+use Rattle.pgb_command.specs.Tables.{Known, known, found_by, found_for, Promise, Lasts, plan_of, manner_of, IsCreateOf, OnReader, OnCreate, OnOther, FolderGoes, FolderStays, Unless, uses_workers, uses_clock}
 use Rattle.pgb_command.specs.Did.{SamePlaces, Closes, OwnCause, StaysHealed, Ran}
 use Rattle.pgb_command.proofs.Ends.{reached_same, lift_ok, lift_on, lift_err}
 use Rattle.pgb_command.proofs.OneCluster.{cluster_is}

@@ -3,13 +3,12 @@ use Rattle.std.proofs.Common.{◌≡◌, List, Option, Some, None, Result, Ok, E
 use Rattle.std.specs.Prelude.{IsSome}
 use Rattle.pgb_outside.specs.Content.{Content}
 use Rattle.pgb_model.specs.Text.{Text}
-use Rattle.pgb_options.specs.declared.options.OutputWord.{OutputWord}
 use Rattle.pgb_options.specs.declared.settle.Command.{Command}
 use Rattle.pgb_table.specs.declared.table.Opt.TheVariants.{Pg1Path, Repo1Path, LockPath}
 use Rattle.pgb_options.specs.Commands.{IsCommand}
 use Rattle.pgb_options.specs.Settings.{Settled}
 use Rattle.pgb_stage.specs.declared.fault.Unbuilt.{Unbuilt}
-use Rattle.pgb_command.specs.Asked.{Request, report, Asked, WordsSettle, IsAsked, MayAsk, Asks, path_in, requested, server_asked}
+use Rattle.pgb_command.specs.Asked.{Request, Asked, WordsSettle, IsAsked, MayAsk, Asks, path_in, requested, server_asked}
 use Rattle.pgb_command.proofs.AskedOnce.{ok_same, one_settling}
 
 -- what settled words ask for

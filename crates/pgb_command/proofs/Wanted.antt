@@ -1,5 +1,5 @@
 -- What the options say is what is in force.
-use Rattle.std.proofs.Common.{◌≡◌, ◌∙◌, List, Result, Ok, Err, IfOk, IfErr, sym, ap, subst}
+use Rattle.std.proofs.Common.{◌≡◌, ◌∙◌, List, ap}
 use Rattle.std.specs.Prelude.{map, string_bytes}
 use Rattle.pgb_model.specs.Text.{Text}
 use Rattle.pgb_options.specs.declared.options.Options.{Options}
@@ -8,7 +8,7 @@ use Rattle.pgb_options.specs.Commands.{IsCommand}
 use Rattle.pgb_options.specs.Filled.{AreOptions}
 use Rattle.pgb_options.specs.Settings.{Source, Settled, value}
 use Rattle.pgb_table.specs.declared.table.Verb.{Verb}
-use Rattle.pgb_command.specs.Asked.{Request, Wanted, wanted_in, request_by, requested}
+use Rattle.pgb_command.specs.Asked.{Wanted, wanted_in, request_by, requested}
 use Rattle.pgb_command.specs.Told.{wanted_told}
 
 wanted_is : (o : Options) (s : Source) → AreOptions o (value s) → wanted_told o ≡ wanted_in s

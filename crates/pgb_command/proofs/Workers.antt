@@ -1,5 +1,5 @@
 -- Workers that can be handed in.
-use Rattle.std.proofs.Common.{◌≡◌, ◌≤◌, ◌<◌, ◌^◌, ℕ, List, [], Some, Option, None, map, length, slice_get, sym, subst, arith}
+use Rattle.std.proofs.Common.{◌≡◌, ◌≤◌, List, [], Some, Option, None, map, length, sym, subst, arith}
 use Rattle.std.proofs.lemmas.List.{length-map}
 use Rattle.pgb_outside.specs.Links.{LinkState}
 use Rattle.pgb_worker_dispatch.proofs.Ready.{untold_are_ready}

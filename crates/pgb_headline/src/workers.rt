@@ -2,6 +2,7 @@
 ghost use Rattle.std.specs.Prelude.{◌≡◌, [], map};
 ghost use Rattle.pgb_worker_links.specs.Workers.{state_of};
 ghost use Rattle.pgb_command.specs.Told.{AreWorkers};
+ghost use Rattle.pgb_headline.specs.Props.{AreWorkers-prop};
 
 use pgb_worker_links::MemLink;
 use std::alloc::{AllocError, Global};
@@ -10,7 +11,7 @@ use std::alloc::{AllocError, Global};
 #[derive(Drop)]
 pub struct Workers {
     pub links: Vec<MemLink>,
-    ghost are: { AreWorkers (map state_of links.items) },
+    ghost are: { AreWorkers (map state_of links.items) } by { AreWorkers-prop (map state_of links.items) },
 }
 
 impl Workers {

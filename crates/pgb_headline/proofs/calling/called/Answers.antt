@@ -9,6 +9,6 @@ returns-clause-shown g c = λ told. let e = c.run.ensures in
 
 pub returns-clause-went : goal.returns-clause-went
 returns-clause-went g c = λ told before h.
-    shown_went (map string_bytes c.args.words.now) _ _ c.run.result before _ _
+    shown_went (map string_bytes c.args.words.now) _ _ _ c.run.result before _ _
     (record { repo = g.met.D.Disk.now_may_be_left c.args.outside.now.repo; spool = g.met.S.Disk.now_may_be_left c.args.outside.now.spool })
     h (returns-clause-shown g c told)

@@ -9,7 +9,7 @@ use Rattle.pgb_headline.specs.Lists.{ActGoes}
 use Rattle.pgb_headline.proofs.listing.play.Goals as goal
 
 pub loop-act-preserved : goal.loop-act-preserved
-loop-act-preserved g c = λ before h.
+loop-act-preserved c = λ before h.
     let x = c.loop-act.invariant before h in
     let y = c.in_ok-next.ensures.keeps x.0 x.2 in (
       y.0,
@@ -18,7 +18,7 @@ loop-act-preserved g c = λ before h.
     )
 
 pub returns : goal.returns
-returns g c = record {
+returns c = record {
   keeps = λ before h.
       let x = c.loop-act.invariant before h in
       let gives = c.into_iter-act-iterator.ensures.into_iter_gives in
