@@ -1,6 +1,6 @@
 -- What the stages add to a command's own part: the same lemmas for every command.
 use Rattle.std.proofs.Common.{◌≡◌, ◌≤◌, ◌⊎◌, ⊎_elim, inl, inr, ℕ, List, Option, Result, Ok, Err, IfOk, IfErr, refl, sym, ◌∙◌, subst, ap, arith, Bool, true, false}
-use Rattle.std.specs.Prelude.{OnOk, IfSome, IsSome, IsErrAnd, take, [], None}
+use Rattle.std.specs.Prelude.{OnOk, IfSome, IsSome, IsErrAnd}
 use Rattle.pgb_outside.specs.Cause.{Rises}
 use Rattle.pgb_outside.specs.Content.{Content}
 use Rattle.pgb_outside.specs.Moments.{View, Rests}
@@ -11,7 +11,7 @@ use Rattle.pgb_disk.proofs.Changes.{only_on, only_rests}
 use Rattle.pgb_stanza.specs.Owned.{IsOfPairs}
 use Rattle.pgb_archive.specs.Still.{IsStill, rests_none, still_self, still_on}
 use Rattle.pgb_model.specs.Text.{Text}
-use Rattle.pgb_model.specs.Steps.{Command, MakeBackup}
+use Rattle.pgb_model.specs.Steps.{Command}
 use Rattle.pgb_model.specs.Walks.{IsTight}
 use Rattle.pgb_model.proofs.Each.{keeps_tight}
 use Rattle.pgb_stage.specs.declared.plan.Plan.{Plan}
@@ -38,151 +38,16 @@ use Rattle.pgb_model.proofs.Logged.{rests_still}
 use Rattle.pgb_prepare.specs.Stages.{FoundCause, StageCause}
 use Rattle.pgb_prepare.specs.Taking.{HeldCause, MayTake}
 use Rattle.pgb_create.proofs.Statuses.{closes_as}
-use Rattle.pgb_logged.proofs.Reading.{no_files, no_files_read}
-use Rattle.pgb_model.specs.Values.{Manifest}
-use Rattle.pgb_restore.specs.Finished.{IsFinished}
-use Rattle.pgb_clear.specs.Clearing.{control_path, HasNone}
 use Rattle.pgb_command.specs.declared.fault.CommandFault.TheVariants.{Create, Push, Get, Take, Recover}
 use Rattle.pgb_command.specs.declared.fault.Fault.{Fault}
 use Rattle.pgb_command.specs.declared.fault.Fault.TheVariants.{Usage, Stage, Command as OfCommand, Failed as ObjectFailed, NoMemory}
 use Rattle.pgb_command.specs.Answers.{status, reached_of, ending_of, is_early}
 use Rattle.pgb_command.specs.Asked.{Request, create, push, get, backup, restore, report, Asked}
 use Rattle.pgb_command.specs.Faults.{of_stage}
-use Rattle.pgb_command.specs.Tables.{Known, known, plan_of, manner_of, CommandCause, Promise, Lasts, OnReader, OnCreate, OnOther, FolderGoes, FolderStays, Unless, uses_workers, uses_clock}
+use Rattle.pgb_command.specs.Tables.{Known, known, plan_of, manner_of, CommandCause, Promise, Lasts, OnReader, OnCreate, uses_workers, uses_clock}
 use Rattle.pgb_command.specs.Did.{Ran, StaysHealed, OnReady, Cause, HealsPairs, Did, OwnCause, Spares, Closes, WordsCause, Brackets, SamePlaces, OpensPlaces, ArePlacesOpened, OpensIf, IsOpenedIf, TakesAll, OnlyLocked}
 use Rattle.pgb_command.proofs.Ends.{all_later, only_rose}
-
--- ---- nothing was done: a line a command
-
-pub idle : (request : Request) (folder : Text) (nodes : Option Nodes) (links : List LinkState) (P : Command → Type 0) → ((command : Command) → P command) → On (manner_of request folder nodes links) P
-idle create folder nodes links P p = λ command is. p command
-idle (push path) folder nodes links P p = λ command is. p command
-idle (get name path) folder nodes links P p = λ command is. p command
-idle (backup workers) folder nodes links P p = (MakeBackup [] no_files None, (no_files, refl, no_files_read (take workers links)), p (MakeBackup [] no_files None))
-idle (restore set workers) folder nodes links P p = λ command is. p command
-idle (report form) folder nodes links P p = λ command is. p command
-
--- a command that opens no data folder reads no control file
-pub no_control : (request : Request) → (plan_of request).folder ≡ false → (plan_of request).control ≡ false
-no_control create is = cc is
-no_control (push path) is = cc is
-no_control (get name path) is = cc is
-no_control (backup workers) is = cc is
-no_control (restore set workers) is = refl
-no_control (report form) is = refl
-
--- what holds where no pair is healed holds of readers and of stanza-create
-pub reader_still : (request : Request) (P : Type 0) → OnReading (plan_of request).pairs P → OnReader request P
-reader_still create P h = tt
-reader_still (push path) P h = tt
-reader_still (get name path) P h = h
-reader_still (backup workers) P h = tt
-reader_still (restore set workers) P h = h
-reader_still (report form) P h = h
-
-pub create_still : (request : Request) (P : Type 0) → OnReading (plan_of request).pairs P → OnCreate request P
-create_still create P h = h
-create_still (push path) P h = tt
-create_still (get name path) P h = tt
-create_still (backup workers) P h = tt
-create_still (restore set workers) P h = tt
-create_still (report form) P h = tt
-
-pub any_reader : (request : Request) (P : Type 0) → P → OnReader request P
-any_reader create P p = tt
-any_reader (push path) P p = tt
-any_reader (get name path) P p = p
-any_reader (backup workers) P p = tt
-any_reader (restore set workers) P p = p
-any_reader (report form) P p = p
-
-pub any_create : (request : Request) (P : Type 0) → P → OnCreate request P
-any_create create P p = p
-any_create (push path) P p = tt
-any_create (get name path) P p = tt
-any_create (backup workers) P p = tt
-any_create (restore set workers) P p = tt
-any_create (report form) P p = tt
-
-pub any_other : (request : Request) (P : Type 0) → P → OnOther request P
-any_other create P p = tt
-any_other (push path) P p = p
-any_other (get name path) P p = p
-any_other (backup workers) P p = p
-any_other (restore set workers) P p = p
-any_other (report form) P p = p
-
-reader_on : (request : Request) (P Q R : Type 0) → (P → Q → R) → OnReader request P → OnReader request Q → OnReader request R
-reader_on create P Q R to p q = tt
-reader_on (push path) P Q R to p q = tt
-reader_on (get name path) P Q R to p q = to p q
-reader_on (backup workers) P Q R to p q = tt
-reader_on (restore set workers) P Q R to p q = to p q
-reader_on (report form) P Q R to p q = to p q
-
-create_on : (request : Request) (P Q R : Type 0) → (P → Q → R) → OnCreate request P → OnCreate request Q → OnCreate request R
-create_on create P Q R to p q = to p q
-create_on (push path) P Q R to p q = tt
-create_on (get name path) P Q R to p q = tt
-create_on (backup workers) P Q R to p q = tt
-create_on (restore set workers) P Q R to p q = tt
-create_on (report form) P Q R to p q = tt
-
-other_as : (request : Request) (P Q : Type 0) → (P → Q) → OnOther request P → OnOther request Q
-other_as create P Q to p = tt
-other_as (push path) P Q to p = to p
-other_as (get name path) P Q to p = to p
-other_as (backup workers) P Q to p = to p
-other_as (restore set workers) P Q to p = to p
-other_as (report form) P Q to p = to p
-
--- the data folder stays after a refusal
-pub any_stays : (request : Request) (n : ℕ) (P : Type 0) → P → FolderStays request n P
-any_stays create n P p = p
-any_stays (push path) n P p = p
-any_stays (get name path) n P p = p
-any_stays (backup workers) n P p = p
-any_stays (restore set workers) n P p = λ lost unread damaged. p
-any_stays (report form) n P p = p
-
-pub stays_as : (request : Request) (n : ℕ) (P Q : Type 0) → (P → Q) → FolderStays request n P → FolderStays request n Q
-stays_as create n P Q to p = to p
-stays_as (push path) n P Q to p = to p
-stays_as (get name path) n P Q to p = to p
-stays_as (backup workers) n P Q to p = to p
-stays_as (restore set workers) n P Q to p = λ lost unread damaged. to (p lost unread damaged)
-stays_as (report form) n P Q to p = to p
-
--- it doesn't use it
-pub any_unless : (uses : Bool) (P : Type 0) → P → Unless uses P
-any_unless true P p = tt
-any_unless false P p = p
-
-pub unless_as : (uses : Bool) (P Q : Type 0) → (P → Q) → Unless uses P → Unless uses Q
-unless_as true P Q to p = tt
-unless_as false P Q to p = to p
-
-abbrev as_known : Option Content → Option Nodes → WireState → ClockState → List LinkState → Known
-as_known repo nodes server clock links = record { repo = repo; nodes = nodes; server = server; clock = clock; links = links }
-
--- the data folder is as it was
-pub folder_stays : (a : Asked) (request : Request) (old : Known) (new : Option Nodes) → new ≡ old.nodes → FolderGoes a request old new
-folder_stays a create old new same = same
-folder_stays a (push path) old new same = same
-folder_stays a (get name path) old new same = subst (λ (n : Option Nodes). FolderGoes a (get name path) old n) (sym same) (record { told = λ some. some; others = λ q x y. refl; whole = inl refl })
-folder_stays a (backup workers) old new same = same
-folder_stays a (restore set workers) old new same = inl same
-folder_stays a (report form) old new same = same
-
-folder_on : (a : Asked) (request : Request) (b m k : Seen) → OnReader request (IsStill b.repo.view m.repo.view) → m.tree.nodes ≡ b.tree.nodes → m.links ≡ b.links → FolderGoes a request (known m) k.tree.nodes → FolderGoes a request (known b) k.tree.nodes
-folder_on a create b m k still nodes links h = h ∙ nodes
-folder_on a (push path) b m k still nodes links h = h ∙ nodes
-folder_on a (get name path) b m k still nodes links h = subst (λ (o : Option Content). FolderGoes a (get name path) (as_known o b.tree.nodes b.server b.clock b.links) k.tree.nodes) still.now
-    (subst (λ (n : Option Nodes). FolderGoes a (get name path) (as_known m.repo.view.now n b.server b.clock b.links) k.tree.nodes) nodes h)
-folder_on a (backup workers) b m k still nodes links h = h ∙ nodes
-folder_on a (restore set workers) b m k still nodes links h = ⊎_elim (λ (e : k.tree.nodes ≡ m.tree.nodes). inl (e ∙ nodes))
-    (λ x. inr (subst (λ (ls : List LinkState). HasNone control_path k.tree.nodes ⊎ ((v : Manifest) × IfSome k.tree.nodes (IsFinished a.stanza (take workers ls) v))) links x)) h
-folder_on a (report form) b m k still nodes links h = h ∙ nodes
+use Rattle.pgb_command.proofs.ByRequest.{as_known, idle, reader_still, create_still, any_reader, any_create, any_other, reader_on, create_on, other_as, any_stays, stays_as, any_unless, unless_as, folder_stays, folder_on}
 
 -- ---- causes and ends
 

@@ -22,7 +22,8 @@ use Rattle.pgb_disk.proofs.Changes.{only_rests}
 use Rattle.pgb_stanza.specs.Owned.{IsOfPairs}
 use Rattle.pgb_command.specs.Tables.{known, plan_of, manner_of, OnCreate, FolderStays, uses_workers, uses_clock}
 use Rattle.pgb_command.proofs.AskedOnce.{one_asked}
-use Rattle.pgb_command.proofs.Dids.{idle, stage_reached, any_reader, any_create, any_other, any_unless, any_stays, folder_stays}
+use Rattle.pgb_command.proofs.ByRequest.{idle, any_reader, any_create, any_other, any_unless, any_stays, folder_stays}
+use Rattle.pgb_command.proofs.Dids.{stage_reached}
 use Rattle.pgb_command.proofs.Statuses.{over, zero_ends, early_ends, not_cut}
 
 -- ---- which of the answers it is

@@ -1,6 +1,7 @@
 mod Ends
 mod OneCluster
 mod Rans
+mod ByRequest
 mod Dids
 mod Written
 mod Fronts

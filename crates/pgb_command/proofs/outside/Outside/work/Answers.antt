@@ -3,7 +3,8 @@ use Rattle.pgb_stage.specs.declared.plan.Plan.{Plan}
 use Rattle.pgb_archive.specs.Still.{rests_none}
 use Rattle.pgb_command.specs.Told.{request_of, asked_of}
 use Rattle.pgb_command.proofs.Ends.{rose_to, all_later}
-use Rattle.pgb_command.proofs.Dids.{worked, unprepared, no_control}
+use Rattle.pgb_command.proofs.ByRequest.{no_control}
+use Rattle.pgb_command.proofs.Dids.{worked, unprepared}
 use Rattle.pgb_command.proofs.outside.Outside.work.Goals as goal
 
 pub returns-in_err-ready-clause-did : goal.returns-in_err-ready-clause-did
