@@ -93,6 +93,55 @@ pub(crate) fn act(
     })
 }
 
+// One worker, which reads a repository in whose backup of this label a version file of these bytes lies, or none, and of whose
+// link the calls with these numbers fail.
+fn reader(
+    alloc: Global,
+    label: &str,
+    version: Option<&[u8]>,
+    fail: &[u64],
+) -> Result<Workers, AllocError> {
+    let mut files = Vec::new(alloc);
+    files.push(stored(alloc, label, "global/pg_control", CONTROL)?)?;
+    if let Some(version) = version {
+        files.push(stored(alloc, label, "PG_VERSION", version)?)?;
+    }
+    files.push(stored(alloc, label, "pg_wal/00000002.history", b"hello")?)?;
+    Workers::one(alloc, Vec::new(alloc), files, fail.to_vec(alloc)?)
+}
+
+fn stored(
+    alloc: Global,
+    label: &str,
+    path: &str,
+    content: &[u8],
+) -> Result<(String, Vec<u8>), AllocError> {
+    let mut name = String::from_str(alloc, "backup/demo/")?;
+    name.push_str(label)?;
+    name.push_str("/pg_data/")?;
+    name.push_str(path)?;
+    Ok((name, content.to_vec(alloc)?))
+}
+
+/// A restore with these words into a folder that holds this file, or nothing, by one such worker.
+pub(crate) fn restore(
+    alloc: Global,
+    words: &str,
+    held: Option<&str>,
+    version: Option<&[u8]>,
+    fail: &[u64],
+) -> Result<Act, PlayFault> {
+    let mut nodes = Vec::new(alloc);
+    if let Some(path) = held {
+        let node = file(alloc, path, b"").or(Err(PlayFault::NoMemory))?;
+        nodes.push(node).or(Err(PlayFault::NoMemory))?;
+    }
+    let mut done = act(alloc, words, 0, None)?;
+    done.tree = MemTree::new(alloc, nodes, Vec::new(alloc)).or(Err(PlayFault::NoMemory))?;
+    done.workers = reader(alloc, "20240102-030406F", version, fail).or(Err(PlayFault::NoMemory))?;
+    Ok(done)
+}
+
 fn empty(alloc: Global) -> Result<MemDisk, AllocError> {
     MemDisk::new(alloc, Vec::new(alloc), Vec::new(alloc))
 }

@@ -1,5 +1,5 @@
 // Lists of calls and stops.
-use crate::acts::{act, played, stop_at};
+use crate::acts::{act, played, restore, stop_at};
 use crate::same::{same, well};
 use pgb_headline::{Act, PlayFault};
 use std::alloc::Global;
@@ -21,6 +21,8 @@ const PUSH_OTHER: &str =
 
 const BACKUP: &str =
     "--stanza=demo --pg1-path=pg --repo1-path=repo --lock-path=lock --no-online --type=full --no-expire-auto backup";
+
+const RESTORE: &str = "--stanza=demo --pg1-path=pg --repo1-path=repo --type=none restore";
 
 const STORED: &str = "archive/demo/16-1/00000002.history";
 
@@ -92,6 +94,43 @@ fn backups_go_on_behind_a_stop(rt: HostRuntime) {
         same(&rt, manifest.is_some(), true);
     }
     panic!(&rt; "a backup has no last moment");
+}
+
+// With these words, into a folder that holds this file, by a worker that reads these bytes of the version file, and of whose link
+// these calls fail: how a restore ends.
+type Restore<'a> = (&'a str, Option<&'a str>, Option<&'a [u8]>, &'a [u64], u8);
+
+const RESTORES: [Restore; 10] = [
+    ("", None, Some(b"16\n"), &[], 0),
+    ("--set=20240102-030406F ", None, Some(b"16\n"), &[], 0),
+    ("--process-max=3 ", None, Some(b"16\n"), &[], 0),
+    ("--set=20240102-030405F ", None, Some(b"16\n"), &[], 61),
+    ("--set=yesterday ", None, Some(b"16\n"), &[], 6),
+    ("", Some("left"), Some(b"16\n"), &[], 62),
+    ("", Some("postmaster.pid"), Some(b"16\n"), &[], 41),
+    ("", None, Some(b"15\n"), &[], 63),
+    ("", None, None, &[], 56),
+    ("", None, Some(b"16\n"), &[0], 55),
+];
+
+// A backup is restored, or why not is told; and behind no backup nothing is.
+#[test]
+fn restores_end_as_they_must(rt: HostRuntime) {
+    let alloc = rt.alloc();
+    for (option, held, version, fail, status) in RESTORES {
+        let mut words = well(&rt, String::from_str(alloc, option));
+        well(&rt, words.push_str(RESTORE));
+        let mut acts = well(&rt, calls(alloc, &[CREATE, BACKUP], 9, 0));
+        let last = well(&rt, restore(alloc, &words, held, version, fail));
+        well(&rt, acts.push(last));
+        let (_, statuses) = well(&rt, played(alloc, acts));
+        same(&rt, statuses.as_slice(), &[0, 0, status]);
+    }
+    let mut acts = well(&rt, calls(alloc, &[CREATE], 9, 0));
+    let last = well(&rt, restore(alloc, RESTORE, None, None, &[]));
+    well(&rt, acts.push(last));
+    let (_, statuses) = well(&rt, played(alloc, acts));
+    same(&rt, statuses.as_slice(), &[0, 60]);
 }
 
 // A call is stopped at one of its own moments.
