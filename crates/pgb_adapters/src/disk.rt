@@ -3,9 +3,9 @@ ghost use Rattle.std.specs.Prelude.{◌≡◌, None, false, map, string_bytes};
 
 use crate::handles::Handles;
 use crate::place::{Place, no_memory};
+use crate::progress::Progress;
 use crate::settle::{Settled, settle, settle_in, sync_files};
 use crate::walk::{folders_in, nodes_below};
-use crate::progress::Progress;
 use pgb_outside::{Disk, Found, Node, Seen, Stop};
 use pgb_system::Faults;
 use std::alloc::Global;
@@ -77,12 +77,14 @@ impl Disk for RealDisk {
 
     fn names(&mut self, alloc: Global, folder: &str) -> Result<Vec<Found>, Stop> {
         let done = names_below(alloc, &self.place, folder);
-        self.faults.told(&self.place.call("listing of", folder), done)
+        self.faults
+            .told(&self.place.call("listing of", folder), done)
     }
 
     fn folders(&mut self, alloc: Global, folder: &str) -> Result<Vec<String>, Stop> {
         let done = folders_in(alloc, &self.place, folder);
-        self.faults.told(&self.place.call("listing of", folder), done)
+        self.faults
+            .told(&self.place.call("listing of", folder), done)
     }
 
     fn read(&mut self, name: &str, at: u64, buf: &mut [u8]) -> Result<Option<usize>, Stop> {
@@ -92,7 +94,8 @@ impl Disk for RealDisk {
 
     fn begin(&mut self, name: &str) -> Result<(), Stop> {
         let done = begin_in_folders(&self.place, &mut self.handles, &mut self.settled, name);
-        self.faults.told(&self.place.call("creation of", name), done)
+        self.faults
+            .told(&self.place.call("creation of", name), done)
     }
 
     fn append(&mut self, name: &str, bytes: &[u8]) -> Result<(), Stop> {

@@ -1,5 +1,5 @@
 // The files that stay open between calls: those that are being written, and the last one that was read.
-ghost use Rattle.std.specs.Prelude.{◌≡◌, ◌↔◌, ◌<◌, ◌≤◌, None, IfOk, IfSome, IsSomeAnd, IsTrue, length, string_bytes};
+ghost use Rattle.std.specs.Prelude.{◌≡◌, [], ◌↔◌, ◌<◌, ◌≤◌, None, IfOk, IfSome, IsSomeAnd, IsTrue, length, string_bytes};
 
 use crate::place::{Place, no_memory};
 use std::alloc::Global;
@@ -35,6 +35,7 @@ impl Handles {
 
     /// Closes all, since each name may come to mean another file.
     pub fn forget(&mut self)
+        ensures writing { self.new.writing.items ≡ [] }
         ensures reading { self.new.reading ≡ None }
     {
         self.writing.clear();
@@ -91,7 +92,11 @@ impl Handles {
             let file = place.open_end(name)?;
             self.write_in(place, name, file)?;
         }
-        match self.writing.iter_mut().find(|kept| kept.name.as_str() == name) {
+        match self
+            .writing
+            .iter_mut()
+            .find(|kept| kept.name.as_str() == name)
+        {
             Some(kept) => Ok(&mut kept.file),
             None => Err(io::Error::from(ErrorKind::NotFound)),
         }

@@ -57,7 +57,8 @@ impl Source for RealSource {
 
     fn open(&mut self, path: &str) -> Result<bool, Stop> {
         let done = self.open_place(path);
-        self.faults.told(&call_of(&self.rt, "opening of", path), done)
+        self.faults
+            .told(&call_of(&self.rt, "opening of", path), done)
     }
 
     fn read(&mut self, buf: &mut [u8]) -> Result<usize, Stop> {

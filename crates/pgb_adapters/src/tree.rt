@@ -4,8 +4,8 @@ ghost use Rattle.pgb_outside.specs.Tree.{known_path};
 
 use crate::handles::Handles;
 use crate::place::Place;
-use crate::walk::nodes_below;
 use crate::progress::Progress;
+use crate::walk::nodes_below;
 use pgb_outside::{Known, Seen, Stop, Tree};
 use pgb_system::Faults;
 use std::alloc::{AllocError, Global};
@@ -88,28 +88,33 @@ impl Tree for RealTree {
             at,
             buf,
         );
-        self.faults.told(&self.place.call("reading of", &path), done)
+        self.faults
+            .told(&self.place.call("reading of", &path), done)
     }
 
     fn size(&mut self, what: &Known) -> Result<Option<u64>, Stop> {
         let path = path_of(self.place.rt.alloc(), what)?;
         let done = size_of(&self.place, &self.handles, self.size, &path);
-        self.faults.told(&self.place.call("reading of", &path), done)
+        self.faults
+            .told(&self.place.call("reading of", &path), done)
     }
 
     fn make(&mut self, folder: &str) -> Result<(), Stop> {
         let done = self.place.make_folder(folder);
-        self.faults.told(&self.place.call("creation of", folder), done)
+        self.faults
+            .told(&self.place.call("creation of", folder), done)
     }
 
     fn begin(&mut self, path: &str) -> Result<(), Stop> {
         let done = begin_file(&self.place, &mut self.handles, path);
-        self.faults.told(&self.place.call("creation of", path), done)
+        self.faults
+            .told(&self.place.call("creation of", path), done)
     }
 
     fn begin_new(&mut self, path: &str) -> Result<bool, Stop> {
         let done = self.handles.begin_new(&self.place, path);
-        self.faults.told(&self.place.call("creation of", path), done)
+        self.faults
+            .told(&self.place.call("creation of", path), done)
     }
 
     fn append(&mut self, path: &str, bytes: &[u8]) -> Result<(), Stop> {

@@ -57,7 +57,8 @@ impl Wire for RealWire {
 
     fn open(&mut self, path: &str) -> Result<(), Stop> {
         let done = self.open_place(path);
-        self.faults.told(&call_of(&self.rt, "opening of", path), done)
+        self.faults
+            .told(&call_of(&self.rt, "opening of", path), done)
     }
 
     fn send(&mut self, bytes: &[u8]) -> Result<(), Stop> {

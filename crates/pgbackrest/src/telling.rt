@@ -1,7 +1,5 @@
 // What a person is told on standard error, where `log-level-stderr` asks for it. It never changes what a command does.
-use pgb_adapters::{
-    RealClock, RealDisk, RealLocks, RealSink, RealSource, RealTree, RealWire,
-};
+use pgb_adapters::{RealClock, RealDisk, RealLocks, RealSink, RealSource, RealTree, RealWire};
 use pgb_command::Outside;
 use pgb_options::{Command, ConfigPath, LogWord, config_path, settle_words};
 use pgb_outside::{NotThere, Source};
@@ -63,12 +61,14 @@ fn command_of(rt: HostRuntime, words: &[String]) -> Option<Command> {
     let alloc = rt.alloc();
     let config = match config_path(alloc, words).ok()? {
         ConfigPath::Nowhere => Vec::new(alloc),
-        ConfigPath::Usual(path) | ConfigPath::Named(path) => configuration(rt, &path)?,
+        ConfigPath::Usual(path) | ConfigPath::Named(path) => configuration(rt, &path).unwrap_or(
+            Vec::new(alloc),
+        ),
     };
     settle_words(alloc, words, &config).ok()
 }
 
-// The bytes of the configuration; none where it isn't there.
+// The bytes of the configuration; none where it isn't there, and None where it can't be read.
 fn configuration(rt: HostRuntime, path: &str) -> Option<Vec<u8>> {
     let mut source = RealSource::new(rt);
     let mut bytes = Vec::new(rt.alloc());
