@@ -1,0 +1,6 @@
+mod Held
+mod Coming
+mod Moves
+mod Folds
+mod Turns
+mod Waits
