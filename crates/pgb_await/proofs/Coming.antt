@@ -1,7 +1,8 @@
 -- The walk over the segments of a part.
-use Rattle.std.proofs.Common.{◌≡◌, ℕ, ◌+◌, ◌*◌, ◌<◌, ◌^◌, refl, ◌∙◌, arith}
-use Rattle.std.specs.Prelude.{IfSome}
+use Rattle.std.proofs.Common.{◌≤◌, ◌≡◌, ℕ, ◌+◌, ◌*◌, ◌<◌, ◌^◌, refl, ◌∙◌, arith, Option, Some, None, Result, Ok, Err}
+use Rattle.std.specs.Prelude.{IfSome, IfNone, IfOk, IfErr}
 use Rattle.pgb_outside.specs.Cause.{Rises}
+use Rattle.pgb_outside.specs.Content.{Content}
 use Rattle.pgb_outside.specs.States.{DiskState, Looks}
 use Rattle.pgb_outside.proofs.States.{looks_on}
 use Rattle.pgb_model.specs.declared.wal.ArchiveId.{ArchiveId}
@@ -18,7 +19,7 @@ use Rattle.pgb_await.specs.declared.fault.AwaitFault.{AwaitFault}
 use Rattle.pgb_await.specs.declared.fault.AwaitFault.TheVariants.{NotArrived, Ambiguous, Repo, Spool, NoMemory}
 use Rattle.pgb_await.specs.Causes.{LookCause, PartCause}
 use Rattle.pgb_await.specs.Stored.{HoldsSegment, HoldsBefore, HoldsPart, IsFirstMissing, Lasts}
-use Rattle.pgb_await.proofs.Held.{none_before, more_lasts, part_lasts, first_here, not_last}
+use Rattle.pgb_await.proofs.Held.{lasts_on, none_before, more_lasts, part_lasts, first_here, not_last}
 
 -- the walk has come to this segment, behind so many that are held
 pub record HasCome (stanza : Text) (id : ArchiveId) (w : WalPart) (count : ℕ) (segment : Segment) (old new : DiskState) : Type 0 where
@@ -29,6 +30,15 @@ pub record HasCome (stanza : Text) (id : ArchiveId) (w : WalPart) (count : ℕ) 
 
 looks_none : (d : DiskState) → Looks d d
 looks_none d = record { now = refl; time = rests_none d.view; opened = refl; proper = refl; later = omega arith }
+
+-- a fault's cause, from an earlier count on
+look_from : (stanza : Text) (id : ArchiveId) (s : Segment) (now : Option Content) (a b c : ℕ) → a ≤ b → (e : AwaitFault) →
+    LookCause stanza id s now (Rises b c) e → LookCause stanza id s now (Rises a c) e
+look_from stanza id s now a b c le (NotArrived t n) cause = cause
+look_from stanza id s now a b c le (Ambiguous x y) cause = cause
+look_from stanza id s now a b c le Repo cause = omega (arith, cause, le)
+look_from stanza id s now a b c le Spool cause = cause
+look_from stanza id s now a b c le NoMemory cause = cause
 
 module _ (stanza : Text) (id : ArchiveId) (w : WalPart) (rules : IsWalPart w) where
   pub come_first : (old : DiskState) → HasCome stanza id w 0 w.span.start old old
@@ -79,12 +89,29 @@ module _ (stanza : Text) (id : ArchiveId) (w : WalPart) (rules : IsWalPart w) wh
 
     pub cause_here : (e : AwaitFault) → LookCause stanza id segment new.view.now (Rises mid.faults new.faults) e →
         PartCause stanza id w new.view.now (Rises old.faults new.faults) e
-    cause_here e cause = (segment, come.within, by e cause)
-      where
-        by : (e : AwaitFault) → LookCause stanza id segment new.view.now (Rises mid.faults new.faults) e →
-            LookCause stanza id segment new.view.now (Rises old.faults new.faults) e
-        by (NotArrived s n) cause = cause
-        by (Ambiguous x y) cause = cause
-        by Repo cause = omega (arith, cause, come.looks.later)
-        by Spool cause = cause
-        by NoMemory cause = cause
+    cause_here e cause = (segment, come.within, look_from stanza id segment new.view.now old.faults mid.faults new.faults come.looks.later e cause)
+
+-- ---- two walks
+
+module _ (stanza : Text) (id : ArchiveId) (w : WalPart) (old mid new : DiskState) (first : Looks old mid) (second : Looks mid new) where
+  abbrev Found : DiskState → DiskState → Type 0
+  Found a b = Lasts stanza (HoldsPart stanza id w) a.view b.view
+
+  -- what is found the second time lasts since before the first
+  pub twice_there : Found old mid → (r : Result (Option Segment) AwaitFault) →
+      IfOk r (λ o. IfNone o (Lasts stanza (HoldsPart stanza id w) mid.view new.view)) →
+      IfOk r (λ o. IfNone o (Lasts stanza (HoldsPart stanza id w) old.view new.view))
+  twice_there p (Ok None) q = lasts_on stanza (HoldsPart stanza id w) (HoldsPart stanza id w) (HoldsPart stanza id w)
+      (λ f _ again. again) old.view mid.view new.view first.time first.now second.time second.now p q
+  twice_there p (Ok (Some s)) q = tt
+  twice_there p (Err e) q = tt
+
+  pub twice_cause : (r : Result (Option Segment) AwaitFault) →
+      IfErr r (PartCause stanza id w new.view.now (Rises mid.faults new.faults)) →
+      IfErr r (PartCause stanza id w new.view.now (Rises old.faults new.faults))
+  twice_cause (Ok o) cause = tt
+  twice_cause (Err e) cause = (
+    cause.0,
+    cause.1,
+    look_from stanza id cause.0 new.view.now old.faults mid.faults new.faults first.later e cause.2,
+  )

@@ -19,7 +19,7 @@ use Rattle.pgb_await.proofs.Moves.{turns_do}
 
 -- ---- no turn
 
-no_moves : (r : Repository) → steps_of (ArchivePushAsync []) r ≡ []
+pub no_moves : (r : Repository) → steps_of (ArchivePushAsync []) r ≡ []
 no_moves None = refl
 no_moves (Some s) = refl
 
@@ -57,7 +57,7 @@ one_goes stanza t a b goes = record {
 
 -- ---- turns, and then more of them
 
-ended_on : (ts us : List Turn) → all_ended ts ≡ true → all_ended us ≡ all_ended (ts ++ us)
+pub ended_on : (ts us : List Turn) → all_ended ts ≡ true → all_ended us ≡ all_ended (ts ++ us)
 ended_on [] us e = refl
 ended_on (t ∷ ts) us e = by t.ended (all_ended ts) (all_ended us) (all_ended (ts ++ us)) (ended_on ts us) e
   where

@@ -2,5 +2,6 @@ mod Held
 mod Coming
 mod Moves
 mod Folds
+mod Marks
 mod Turns
 mod Waits

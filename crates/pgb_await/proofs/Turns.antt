@@ -1,5 +1,5 @@
 -- What a wait is told of turns.
-use Rattle.std.proofs.Common.{◌≡◌, List, [], ◌∷◌, ◌++◌, Option, Some, None, refl, sym, ap, ◌∙◌, subst, Bool, true, append_assoc}
+use Rattle.std.proofs.Common.{◌≡◌, List, [], ◌∷◌, ◌++◌, Option, Some, None, refl, sym, ap, ◌∙◌, subst, Bool, true, append_assoc, IsSome}
 use Rattle.std.specs.Prelude.{IfSome}
 use Rattle.std.proofs.Math.Bool.{and-true}
 use Rattle.std.proofs.lemmas.List.{map-append, append-nil}
@@ -7,17 +7,20 @@ use Rattle.pgb_outside.specs.Moments.{View, Rests}
 use Rattle.pgb_disk.proofs.Changes.{only_on, only_none, only_rests}
 use Rattle.pgb_model.specs.Steps.{Turn}
 use Rattle.pgb_stored.specs.Stored.{ChangesArchive}
-use Rattle.pgb_turn.specs.Turns.{Turned, Account, GoesOn, GoesOnBy, OnTurn, GoesByTurn}
-use Rattle.pgb_await.specs.Went.{all_ended, turns_of, GoesByTurns, Went}
+use Rattle.pgb_turn.specs.Turns.{Turned, Account, GoesOn, GoesOnBy, OnTurn, GoesByTurn, GivesReceipts}
+use Rattle.pgb_await.specs.Went.{all_ended, turns_of, GoesByTurns, MarksByTurns, Went}
 use Rattle.pgb_await.proofs.Folds.{still_goes, one_goes, goes_behind, both_ended}
+use Rattle.pgb_await.proofs.Marks.{none_marks, one_marks, marks_behind}
 
 -- ---- one turn
 
 pub turn_went : (ended : Bool) (old new : Option Account) (a b s t : View) → GoesOn ended old new →
     OnTurn old new (λ stanza t. GoesByTurn stanza t.turn a b) → OnTurn old new (λ stanza t. ChangesArchive stanza a b) →
-    OnTurn old new (λ stanza _. ChangesArchive stanza s t) → IfSome new (λ k. Went ended old k a b s t)
-turn_went ended old None a b s t on goes repo spool = tt
-turn_went ended old (Some k) a b s t on goes repo spool =
+    OnTurn old new (λ stanza _. ChangesArchive stanza s t) →
+    OnTurn old new (λ stanza k. GivesReceipts stanza k.turn a b s t) → (IsSome s.now → IsSome t.now) →
+    IfSome new (λ k. Went ended old k a b s t)
+turn_went ended old None a b s t on goes repo spool gives told = tt
+turn_went ended old (Some k) a b s t on goes repo spool gives told =
     let x = on refl in
     let by : GoesOnBy x.1 x.0 old (Some k) = x.2 in
     let e : k ≡ record { stanza = x.0; turns = by.before ++ x.1 ∷ [] } = (let h = by.is in cc) in
@@ -28,6 +31,7 @@ turn_went ended old (Some k) a b s t on goes repo spool =
       is = refl;
       ended = λ w. and-true x.1.turn.ended ∙ x.3 ∙ w;
       repository = one_goes x.0 x.1.turn a b (goes x.0 x.1 by);
+      spool = one_marks x.0 x.1.turn a b s t (goes x.0 x.1 by) (gives x.0 x.1 by) (spool x.0 x.1 by) told;
       repo_only = repo x.0 x.1 by;
       spool_only = spool x.0 x.1 by;
     })
@@ -44,6 +48,7 @@ none_went whole (Some k) a b s rests same = record {
   is = sym (append-nil k.turns);
   ended = λ w. refl;
   repository = still_goes k.stanza a b rests same;
+  spool = none_marks k.stanza a s;
   repo_only = only_rests _ a b rests same;
   spool_only = only_none _ s;
 }
@@ -66,6 +71,8 @@ module _ (whole : Bool) (old mid : Option Account) (a b c s t u : View) where
             (both_ended new.stanza (turns_of first.turned) (turns_of q.turned) a b c (first.ended refl) (q.ended w));
         repository = subst (λ (l : List Turn). GoesByTurns new.stanza l a c) turns
             (goes_behind new.stanza (turns_of first.turned) (turns_of q.turned) a b c (first.ended refl) first.repository q.repository q.repo_only);
+        spool = subst (λ (l : List Turn). MarksByTurns new.stanza l a s u) turns
+            (marks_behind new.stanza (turns_of first.turned) (turns_of q.turned) a b s t u (first.ended refl) first.repository first.spool q.spool q.spool_only);
         repo_only = only_on _ a b c first.repo_only q.repo_only;
         spool_only = only_on _ s t u first.spool_only q.spool_only;
       }

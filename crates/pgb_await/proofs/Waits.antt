@@ -87,6 +87,7 @@ module _ (count : ℕ) (others others2 : OthersState) (repo repo2 spool spool2 :
         is = w.is;
         ended = λ e. w.ended refl;
         repository = w.repository;
+        spool = w.spool;
         repo_only = w.repo_only;
         spool_only = w.spool_only;
       }) waited.went

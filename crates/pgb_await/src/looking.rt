@@ -83,8 +83,8 @@ fn behind_first(wal: &WalPart) -> u64
     last - first
 }
 
-/// The first segment of the part that isn't stored, where one is. The folders are settled before.
-pub(crate) fn first_missing<D: Disk>(
+// The first segment of the part that isn't stored, where one is; each folder is settled before it is looked at.
+fn look_once<D: Disk>(
     alloc: Global,
     repo: &mut D,
     stanza: &str,
@@ -111,5 +111,30 @@ pub(crate) fn first_missing<D: Disk>(
         Ok(None)
     } else {
         Ok(Some(segment))
+    }
+}
+
+/// The first segment of the part that isn't stored, where one is. Others work meanwhile: a file may come between the
+/// settling of its folder and the look, and not be settled itself. So where none is missing, all are looked for once more.
+pub(crate) fn first_missing<D: Disk>(
+    alloc: Global,
+    repo: &mut D,
+    stanza: &str,
+    id: &ArchiveId,
+    wal: &WalPart,
+) -> Result<Option<Segment>, AwaitFault>
+    requires { IsWalPart wal.now }
+    ensures there { IfOk result (λ o. IfNone o (Lasts stanza.now (HoldsPart stanza.now id.now wal.now)
+        (D.state repo.old).view (D.state repo.new).view)) }
+    ensures missing { IfOk result (λ o. IfSome o (λ s. IsWithinSpan wal.now.size.0 wal.now.span s
+        × IfSome (D.state repo.new).view.now (IsFirstMissing stanza.now id.now wal.now s))) }
+    ensures looks { Looks (D.state repo.old) (D.state repo.new) }
+    ensures cause { IfErr result (PartCause stanza.now id.now wal.now (D.state repo.new).view.now
+        (Rises (D.state repo.old).faults (D.state repo.new).faults)) }
+{
+    match look_once(alloc, repo, stanza, id, wal) {
+        Ok(None) => look_once(alloc, repo, stanza, id, wal),
+        Ok(Some(segment)) => Ok(Some(segment)),
+        Err(fault) => Err(fault),
     }
 }

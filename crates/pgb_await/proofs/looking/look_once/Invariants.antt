@@ -1,5 +1,5 @@
 use Rattle.pgb_await.proofs.Coming.{HasCome}
-use Rattle.pgb_await.proofs.looking.first_missing.Given as goal
+use Rattle.pgb_await.proofs.looking.look_once.Given as goal
 
 abbrev pub invariant-loop : goal.invariant-loop
 invariant-loop g l =
