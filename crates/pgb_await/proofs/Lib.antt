@@ -1,0 +1,7 @@
+mod Held
+mod Coming
+mod Moves
+mod Folds
+mod Marks
+mod Turns
+mod Waits
