@@ -26,5 +26,4 @@ pub mod Remaining
 pub mod Carried
 pub mod Touched
 pub mod Whole
-pub mod Carries
 pub mod Behind

@@ -12,16 +12,15 @@ use Rattle.pgb_model.specs.Pair.{PairIs}
 use Rattle.pgb_retain.specs.declared.rules.Rules.{Rules}
 use Rattle.pgb_retain.specs.Labels.{has_label, labels_of}
 use Rattle.pgb_retain.specs.Condemned.{is_condemned, condemned_labels}
-use Rattle.pgb_expire.specs.Planning.{IsPlan, IsCurrentOf, left_of}
+use Rattle.pgb_expire.specs.Planning.{IsPlan, left_of}
 use Rattle.pgb_retain.proofs.Lists.{in_filter, filter_in, in_map}
 use Rattle.pgb_retain.proofs.LabelTests.{has_in, in_has}
 
 pub named_pair : (now : Option Content) (name info : Text) (v : BackupInfo) → name ≡ info → IfSome now (λ f. PairIs IsBackupText f name v) → IfSome now (λ f. PairIs IsBackupText f info v)
 named_pair now name info v is h = subst (λ (n : Text). IfSome now (λ f. PairIs IsBackupText f n v)) is h
 
-pub named_current : (now : Option Content) (stanza name : Text) (v : ArchiveInfo) → name ≡ archive_info stanza → IfSome now (λ f. PairIs IsArchiveText f name v) → IfSome now (λ f. IsCurrentOf stanza f v.current)
-named_current None stanza name v is h = tt
-named_current (Some f) stanza name v is h = (v, subst (λ (n : Text). PairIs IsArchiveText f n v) is h, refl)
+pub named_archive : (now : Option Content) (name info : Text) (v : ArchiveInfo) → name ≡ info → IfSome now (λ f. PairIs IsArchiveText f name v) → IfSome now (λ f. PairIs IsArchiveText f info v)
+named_archive now name info v is h = subst (λ (n : Text). IfSome now (λ f. PairIs IsArchiveText f n v)) is h
 
 pub filter_on : {X : Type 0} (p q : X → Bool) (xs : List X) → ((x : X) → In x xs → p x ≡ q x) → filter p xs ≡ filter q xs
 filter_on p q [] same = refl
@@ -46,10 +45,3 @@ labels_gone rules moment labels es fs are is = is ∙ ap (λ (ls : List Label). 
 
 pub value_left : (rules : Rules) (moment : ℕ) (v : BackupInfo) (es : List Entry) → es ≡ filter (λ e. not (is_condemned rules moment v.backups e.label)) v.backups → ◌≡◌ {A = BackupInfo} (record { current = v.current; history = v.history; backups = es }) (left_of rules moment v)
 value_left rules moment v es is = ap (λ (xs : List Entry). (let w : BackupInfo = record { current = v.current; history = v.history; backups = xs } in w)) is
-
-pub planned_of : (old mid : Option Content) (stanza : Text) (rules : Rules) (moment : ℕ) (labels : List Label) (left : BackupInfo) (current : ℕ) (v : BackupInfo) → mid ≡ old
-    → IfSome old (λ f. IsCurrentOf stanza f current) → IfSome mid (λ f. PairIs IsBackupText f (backup_info stanza) v) → labels ≡ condemned_labels rules moment v.backups → left ≡ left_of rules moment v → IfSome old (λ f. IsPlan stanza rules moment f labels left current)
-planned_of None mid stanza rules moment labels left current v same number pair are is = tt
-planned_of (Some f) mid stanza rules moment labels left current v same number pair are is =
-    let here : IfSome (Some f) (λ f. PairIs IsBackupText f (backup_info stanza) v) = subst (λ (o : Option Content). IfSome o (λ f. PairIs IsBackupText f (backup_info stanza) v)) same pair in
-    record { archive = number.0; reads_archive = number.1; is_current = number.2; backup = v; reads = here; is_left = is; are_gone = are }

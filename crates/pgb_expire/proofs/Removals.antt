@@ -1,16 +1,39 @@
--- Names that are removed one by one.
-use Rattle.std.proofs.Common.{◌≡◌, ◌⊎◌, ⊎_elim, inl, inr, ℕ, ◌+◌, ◌<◌, ◌≤◌, Bool, true, false, List, map, length, get_or, drop, Option, Result, Ok, Err, Some, None, refl, ap, ◌∙◌, sym, subst, arith, string_bytes, IsTrue}
-use Rattle.std.specs.Prelude.{option_map}
-use Rattle.pgb_outside.specs.Content.{Name, Value, Content, Holds, at, put, Changes, is_below}
-use Rattle.pgb_outside.specs.Moments.{View, Goes, Rests, MayKeep, is_loose}
-use Rattle.pgb_outside.specs.States.{DiskState, Works}
+-- Files of the archive that are removed one by one, by the listings of folders.
+use Rattle.std.proofs.Common.{◌≡◌, ◌⊎◌, ⊎_elim, inl, inr, ℕ, ◌+◌, ◌<◌, ◌≤◌, Bool, true, false, List, [], ◌∷◌, ◌++◌, map, length, get_or, drop, Option, Result, Ok, Err, Some, None, refl, ap, ◌∙◌, sym, subst, arith, string_bytes, IsTrue}
+use Rattle.std.specs.Prelude.{IfSome, IsSome, option_map}
+use Rattle.pgb_outside.specs.declared.disk.Found.{Found}
+use Rattle.pgb_outside.specs.Content.{Name, Value, Content, Holds, at, put, Changes, is_below, IsListing}
+use Rattle.pgb_outside.specs.Moments.{View, Goes, MayKeep, is_loose}
+use Rattle.pgb_outside.specs.States.{DiskState, Looks, Works}
 use Rattle.pgb_disk.specs.Dropped.{IsAbsent}
 use Rattle.pgb_disk.proofs.Images.{put_same, put_other, by_name}
-use Rattle.pgb_model.specs.Text.{In}
-use Rattle.pgb_keys.proofs.Seeking.{opened, ended, Whole, here}
-use Rattle.pgb_stored.specs.declared.files.Stored.{Stored}
-use Rattle.pgb_expire.specs.Losing.{Drops, TakesAway}
-use Rattle.pgb_expire.proofs.Losses.{takes_on, takes_wide}
+use Rattle.pgb_model.specs.Text.{Text, In, ◌⫽◌}
+use Rattle.pgb_keys.proofs.Seeking.{opened, ended}
+use Rattle.pgb_stored.proofs.Looked.{pair_of, found_at}
+use Rattle.pgb_retain.specs.declared.rules.Kept.{Kept}
+use Rattle.pgb_retain.proofs.Lists.{in_map}
+use Rattle.pgb_expire.specs.Losing.{Drops, TakesAway, names_of}
+use Rattle.pgb_expire.specs.Unneeded.{IsForgotten, Forgets, front_of}
+use Rattle.pgb_expire.proofs.Losses.{takes_none, takes_looks, takes_on, takes_wide}
+
+-- ---- names that stay absent
+
+untold_absent : (o : Option Content) (n : Name) → at n o ≡ None → IsAbsent o n
+untold_absent None n e = tt
+untold_absent (Some f) n e = let no : ◌≡◌ {A = Option Value} (Some (f n)) None = e in cc
+
+none_absent : (o : Option Content) (n : Name) → at n o ≡ Some None → IsAbsent o n
+none_absent None n e = tt
+none_absent (Some f) n e = let is : ◌≡◌ {A = Option Value} (Some (f n)) (Some None) = e in let same : f n ≡ None = cc in same
+
+pub absent_stays : (these : Name → Type 0) (a b : DiskState) (n : Name) → TakesAway these a b → IsAbsent a.view.now n → IsAbsent b.view.now n
+absent_stays these a b n p h = by a.view.now refl (p.now n) h
+  where
+    by : (o : Option Content) → a.view.now ≡ o → (at n b.view.now ≡ at n a.view.now) ⊎ (these n × (at n b.view.now ≡ option_map (λ _. None) a.view.now)) → IsAbsent a.view.now n → IsAbsent b.view.now n
+    by None e (inl same) k = untold_absent b.view.now n (same ∙ ap (at n) e)
+    by None e (inr x) k = untold_absent b.view.now n (x.1 ∙ ap (option_map (λ (f : Content). let none : Value = None in none)) e)
+    by (Some f) e (inl same) k = let none : IsAbsent (Some f) n = subst (λ (o : Option Content). IsAbsent o n) e k in none_absent b.view.now n (same ∙ ap (at n) e ∙ ap (λ (v : Value). Some v) none)
+    by (Some f) e (inr x) k = none_absent b.view.now n (x.1 ∙ ap (option_map (λ (f : Content). let none : Value = None in none)) e)
 
 -- ---- one name
 
@@ -25,48 +48,62 @@ dropped (Ok x) name old new is = dropped_whole name old new is
 dropped (Err e) name old new (inl is) = λ n. inl (ap (at n) is)
 dropped (Err e) name old new (inr is) = dropped_whole name old new is
 
-pub removed_takes : {T E : Type 0} (result : Result T E) (name : Name) (a b : DiskState) → Works (λ n v. (n ≡ name) × (v ≡ None)) (λ _. ⊥) a b → Changes result (put name None) a.view.now b.view.now → TakesAway (λ n. n ≡ name) a b
-removed_takes result name a b works changes = record { works = works; now = dropped result name a.view.now b.view.now changes }
+pub removed_takes : {T E : Type 0} (result : Result T E) (these : Name → Type 0) (name : Name) (a b : DiskState) → these name → Works (λ n v. (n ≡ name) × (v ≡ None)) (λ _. ⊥) a b → Changes result (put name None) a.view.now b.view.now → TakesAway these a b
+removed_takes result these name a b one works changes =
+    let p : TakesAway (λ n. n ≡ name) a b = record { works = works; now = dropped result name a.view.now b.view.now changes } in
+    takes_wide (λ n. n ≡ name) these a b (λ n e. subst these (sym e) one) p
 
-absent_new : (name : Name) (old new : Option Content) → new ≡ option_map (put name None) old → IsAbsent new name
+pub absent_new : (name : Name) (old new : Option Content) → new ≡ option_map (put name None) old → IsAbsent new name
 absent_new name None new is = subst (λ (o : Option Content). IsAbsent o name) (sym is) tt
 absent_new name (Some f) new is = subst (λ (o : Option Content). IsAbsent o name) (sym is) (put_same name None f)
 
-absent_still : (name n : Name) (old new : Option Content) → new ≡ option_map (put name None) old → IsAbsent old n → IsAbsent new n
-absent_still name n None new is h = subst (λ (o : Option Content). IsAbsent o n) (sym is) tt
-absent_still name n (Some f) new is h = subst (λ (o : Option Content). IsAbsent o n) (sym is) (by_name name n (λ (v : Value). v ≡ None) None (f n) (λ e. refl) (λ off. h))
+-- ---- the files of a listing
 
--- ---- the files of a list
+-- each that isn't kept is absent, or still to come
+abbrev pub GoneBut : Text → Kept → List Found → ℕ → Option Content → Type 0
+GoneBut front kept found i now = (stanza : Text) → front ≡ front_of stanza → (n : Name) → In n (names_of found) → IsForgotten stanza kept n → IsAbsent now n ⊎ In n (names_of (drop i found))
 
-abbrev pub path : Stored → Name
-path file = string_bytes file.path
-
--- what isn't absent yet is still to come
-abbrev pub GoneBut : List Stored → ℕ → Option Content → Type 0
-GoneBut files i now = (n : Name) → In n (map path files) → IsAbsent now n ⊎ In n (map path (drop i files))
-
-pub gone_first : (files : List Stored) (now : Option Content) → GoneBut files 0 now
-gone_first files now n at = inr at
-
-module _ (files : List Stored) (i : ℕ) (x : Stored) (low : i < length files) (is : x ≡ get_or files i x) where
-  pub gone_next : (name : Name) (old new : Option Content) → name ≡ path x → new ≡ option_map (put name None) old → GoneBut files i old → GoneBut files (i + 1) new
-  gone_next name old new named removed gone n at = ⊎_elim
-      (λ absent. inl (absent_still name n old new removed absent))
-      (λ (j : In n (map path (drop i files))). ⊎_elim
-      (λ (e : n ≡ path x). inl (subst (λ (k : Name). IsAbsent new k) (named ∙ sym e) (absent_new name old new removed)))
+module _ (front : Text) (kept : Kept) where
+  pub gone_next : (found : List Found) (i : ℕ) (x : Found) (name : Name) (a b : DiskState) → i < length found → x ≡ get_or found i x → name ≡ string_bytes x.name → TakesAway (Forgets front kept) a b
+      → ((stanza : Text) → front ≡ front_of stanza → IsForgotten stanza kept name → IsAbsent b.view.now name) → GoneBut front kept found i a.view.now → GoneBut front kept found (i + 1) b.view.now
+  gone_next found i x name a b low is named takes one gone stanza front_is n at off = ⊎_elim
+      (λ absent. inl (absent_stays (Forgets front kept) a b n takes absent))
+      (λ (j : In n (names_of (drop i found))). ⊎_elim
+      (λ (e : n ≡ string_bytes x.name). inl (subst (λ (k : Name). IsAbsent b.view.now k) (named ∙ sym e) (one stanza front_is (subst (IsForgotten stanza kept) (e ∙ sym named) off))))
       (λ k. inr k)
-      (subst (λ (l : List Stored). In n (map path l)) (opened path files i x low is) j))
-      (gone n at)
+      (subst (λ (l : List Found). In n (names_of l)) (opened (λ (y : Found). string_bytes y.name) found i x low is) j))
+      (gone stanza front_is n at off)
 
-  module _ (name : Name) (named : name ≡ path x) (whole : Whole path files i) where
-    of_list : (n : Name) → n ≡ name → In n (map path files)
-    of_list n e = subst (λ (k : Name). In k (map path files)) (sym (e ∙ named)) (here path files i x low is whole)
+  pub gone_last : (found : List Found) (i : ℕ) (now : Option Content) → length found ≤ i → GoneBut front kept found i now → (stanza : Text) → front ≡ front_of stanza → (n : Name) → In n (names_of found) → IsForgotten stanza kept n → IsAbsent now n
+  gone_last found i now end gone stanza front_is n at off = ⊎_elim (λ h. h) (λ (j : In n (names_of (drop i found))). absurd (subst (λ (l : List Found). In n (names_of l)) (ended (λ (y : Found). string_bytes y.name) found i end) j)) (gone stanza front_is n at off)
 
-    pub takes_next : {T E : Type 0} (result : Result T E) (first a b : DiskState) → TakesAway (λ n. In n (map path files)) first a → Works (λ n v. (n ≡ name) × (v ≡ None)) (λ _. ⊥) a b → Changes result (put name None) a.view.now b.view.now → TakesAway (λ n. In n (map path files)) first b
-    takes_next result first a b p works changes = takes_on (λ n. In n (map path files)) first a b p (takes_wide (λ n. n ≡ name) (λ n. In n (map path files)) a b of_list (removed_takes result name a b works changes))
+-- what the listing doesn't tell is absent
+pub found_gone : (these : Name → Type 0) (place : Name) (found : List Found) (a m b : DiskState) → Looks a m → IfSome a.view.now (λ f. IsListing place f (map pair_of found)) → TakesAway these m b
+    → (n : Name) → IsTrue (is_below place n) → (In n (names_of found) → IsAbsent b.view.now n) → IsAbsent b.view.now n
+found_gone these place found a m b looks listing takes n below gone = by a.view.now refl listing
+  where
+    by : (o : Option Content) → a.view.now ≡ o → IfSome o (λ f. IsListing place f (map pair_of found)) → IsAbsent b.view.now n
+    by None e l = absent_stays these m b n takes (subst (λ (o : Option Content). IsAbsent o n) (sym (looks.now ∙ e)) tt)
+    by (Some f) e l = there (f n) refl
+      where
+        there : (v : Value) → f n ≡ v → IsAbsent b.view.now n
+        there None none = absent_stays these m b n takes (subst (λ (o : Option Content). IsAbsent o n) (sym (looks.now ∙ e)) none)
+        there (Some bytes) some =
+            let x = found_at place f found l n below (subst (λ (v : Value). IsSome v) (sym some) refl) in
+            gone (subst (λ (k : Name). In k (names_of found)) x.2 (in_map (λ (y : Found). string_bytes y.name) x.0 found x.1))
 
-pub gone_last : (files : List Stored) (i : ℕ) (now : Option Content) → length files ≤ i → GoneBut files i now → (n : Name) → In n (map path files) → IsAbsent now n
-gone_last files i now end gone n at = ⊎_elim (λ h. h) (λ (j : In n (map path (drop i files))). absurd (subst (λ (l : List Stored). In n (map path l)) (ended path files i end) j)) (gone n at)
+-- ---- folders within a place
+
+abbrev pub GoneWithin : Text → Kept → Text → List Text → List Text → Option Content → Type 0
+GoneWithin front kept place all ahead now = (stanza : Text) → front ≡ front_of stanza → (n x : Name) → In x all → IsTrue (is_below (place ⫽ x) n) → IsForgotten stanza kept n → IsAbsent now n ⊎ In x ahead
+
+module _ (front : Text) (kept : Kept) (place : Text) (all : List Text) where
+  pub within_next : (y : Text) (rest : List Text) (a b : DiskState) → TakesAway (Forgets front kept) a b
+      → ((stanza : Text) → front ≡ front_of stanza → (n : Name) → IsTrue (is_below (place ⫽ y) n) → IsForgotten stanza kept n → IsAbsent b.view.now n) → GoneWithin front kept place all (y ∷ rest) a.view.now → GoneWithin front kept place all rest b.view.now
+  within_next y rest a b takes one gone stanza front_is n x at below off = ⊎_elim
+      (λ absent. inl (absent_stays (Forgets front kept) a b n takes absent))
+      (λ j. ⊎_elim (λ (e : x ≡ y). inl (one stanza front_is n (subst (λ (t : Text). IsTrue (is_below (place ⫽ t) n)) e below) off)) (λ k. inr k) j)
+      (gone stanza front_is n x at below off)
 
 -- ---- settled
 

@@ -1,6 +1,6 @@
 -- Which names an expiry changes.
 use Rattle.std.proofs.Common.{◌≡◌, ◌⊎◌, inl, inr, Bool, true, false, List, [], ◌∷◌, ◌++◌, Option, Some, refl, ap, ◌∙◌, sym, subst, append_assoc}
-use Rattle.std.specs.Prelude.{IsTrue, IsSome}
+use Rattle.pgb_text.specs.Sum.{sum_text}
 use Rattle.pgb_outside.specs.Content.{Name, is_below}
 use Rattle.pgb_outside.specs.Moments.{View}
 use Rattle.pgb_outside.specs.Crash.{IsTemporary}
@@ -12,13 +12,13 @@ use Rattle.pgb_model.specs.declared.labels.Label.{Label}
 use Rattle.pgb_model.specs.declared.wal.ArchiveId.{ArchiveId}
 use Rattle.pgb_model.specs.declared.wal.ArchiveName.{ArchiveName}
 use Rattle.pgb_model.specs.declared.wal.ArchiveName.TheVariants.{Segment as Whole, Partial, History, Backup}
-use Rattle.pgb_model.specs.Text.{Text}
-use Rattle.pgb_model.specs.Names.{is_of_stanza, archive_folder, backup_folder, backup_info, label_folder, label_text}
+use Rattle.pgb_model.specs.Text.{Text, ◌⫽◌}
+use Rattle.pgb_model.specs.Names.{is_of_stanza, archive_text, id_text, backup_folder, backup_info, label_folder, label_text}
 use Rattle.pgb_model.specs.Values.{Entry}
 use Rattle.pgb_pair.specs.Member.{IsOfPair}
 use Rattle.pgb_stanza.specs.Owned.{IsOfPairs}
 use Rattle.pgb_story.specs.Beside.{StaysBeside}
-use Rattle.pgb_story.proofs.Named.{below_archive, in_backup}
+use Rattle.pgb_story.proofs.Named.{in_archive, in_backup}
 use Rattle.pgb_story.proofs.Stays.{beside_on}
 use Rattle.pgb_stage.proofs.Besides.{pairs_beside}
 use Rattle.pgb_retain.specs.declared.rules.Rules.{Rules}
@@ -69,9 +69,9 @@ module _ (stanza : Text) (labels : List Label) (a b c d : DiskState) (saved : Ch
     dropped_only = only_on (MayExpire stanza) a.view b.view c.view saved_only
         (only_wide (IsUnlisted stanza labels) (MayExpire stanza) b.view c.view (λ n u. inr (inl (record { label = u.label; is_label = u.is_label; below = u.below }))) (takes_only (IsUnlisted stanza labels) b c dropped))
 
-    pub gone_beside : TakesAway (λ n. IsTrue (is_below (archive_folder stanza) n)) c d → StaysBeside stanza a.view d.view
-    gone_beside gone = beside_on stanza a.view c.view d.view dropped_beside
-        (only_beside stanza (λ n. IsTrue (is_below (archive_folder stanza) n)) c.view d.view (below_archive stanza) (takes_only (λ n. IsTrue (is_below (archive_folder stanza) n)) c d gone))
+    pub gone_beside : (keeps : ArchiveId → ArchiveName → Bool) → TakesAway (IsUnneeded stanza keeps) c d → StaysBeside stanza a.view d.view
+    gone_beside keeps gone = beside_on stanza a.view c.view d.view dropped_beside
+        (only_beside stanza (IsUnneeded stanza keeps) c.view d.view (λ n u. in_archive stanza n (id_text u.id ⫽ archive_text u.file (sum_text u.sum)) u.is) (takes_only (IsUnneeded stanza keeps) c d gone))
 
     pub gone_only : (rules : Rules) (current : _) (es : List Entry) → TakesAway (IsUnneeded stanza (keeps_by rules current es)) c d → ChangesOnly (MayExpire stanza) a.view d.view
     gone_only rules current es gone = only_on (MayExpire stanza) a.view c.view d.view dropped_only

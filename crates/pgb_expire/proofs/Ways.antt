@@ -1,21 +1,23 @@
 -- From the calls of an expiry to what it does to the repository.
-use Rattle.std.proofs.Common.{◌≡◌, ◌⊎◌, ⊎_elim, inl, inr, ℕ, ◌≤◌, List, [], ◌∷◌, ◌++◌, length, Option, Some, None, refl, ap, ◌∙◌, sym, subst, arith, false}
-use Rattle.std.specs.Prelude.{IsSome, IfSome, filter, not}
+use Rattle.std.proofs.Common.{◌≡◌, ◌⊎◌, ⊎_elim, inl, inr, ℕ, ◌≤◌, List, [], ◌∷◌, ◌++◌, length, map, Option, Some, None, refl, ap, ◌∙◌, sym, subst, arith, false}
+use Rattle.std.specs.Prelude.{IsSome, IfSome, IsTrue, filter, not}
 use Rattle.std.proofs.lemmas.Bool.{not-true, false_from_ne_true, false≢true}
-use Rattle.pgb_outside.specs.Content.{Content}
-use Rattle.pgb_outside.specs.Moments.{View, IsImage, is_loose}
-use Rattle.pgb_outside.specs.Crash.{Crash, Ends, FirstOf, AllOf}
+use Rattle.pgb_outside.specs.Content.{Name, Value, Content, Holds, is_below}
+use Rattle.pgb_outside.specs.Moments.{View, Goes, IsImage, MayKeep, is_loose}
+use Rattle.pgb_outside.specs.Crash.{Crash, Ends, NowGoes, FirstOf, AllOf}
+use Rattle.pgb_disk.specs.Dropped.{IsAbsent}
+use Rattle.pgb_disk.proofs.Images.{Law}
 use Rattle.pgb_outside.proofs.Nows.{told_as}
 use Rattle.pgb_model.specs.declared.clusters.Cluster.{Cluster}
 use Rattle.pgb_model.specs.declared.labels.Label.{Label}
 use Rattle.pgb_model.specs.Text.{Text, In}
-use Rattle.pgb_model.specs.Names.{archive_info, backup_info}
+use Rattle.pgb_model.specs.Names.{archive_folder, archive_info, backup_info}
 use Rattle.pgb_model.specs.Values.{ArchiveInfo, BackupInfo, Entry}
 use Rattle.pgb_model.specs.InfoText.{info_text}
 use Rattle.pgb_model.specs.InfoFiles.{IsBackupText, IsBackupInfo, backup_sections, info_limit}
 use Rattle.pgb_model.specs.Pair.{PairIs}
 use Rattle.pgb_model.specs.Create.{member_writes}
-use Rattle.pgb_model.specs.Repository.{Archived, Backup, Stanza, current_number, IsSoundStanza}
+use Rattle.pgb_model.specs.Repository.{Archived, Backup, Stanza, current_number, identity_of, IsSoundStanza}
 use Rattle.pgb_model.specs.Stands.{Stands, HasStanza, IsArchiveFile, archive_value, backup_value}
 use Rattle.pgb_model.specs.Steps.{Step, Condemn, Retention, IsPartOf, IsSomeOf, changed, after, all_of, expiry_moves}
 use Rattle.pgb_model.specs.Log.{File as FileName}
@@ -29,6 +31,7 @@ use Rattle.pgb_retain.specs.Condemned.{is_condemned}
 use Rattle.pgb_expire.specs.Expiry.{listed, retention, IsPartOfExpiry}
 use Rattle.pgb_expire.specs.Losing.{Loses, LosesAll, IsUnlisted, IsUnneeded}
 use Rattle.pgb_expire.specs.Planning.{IsPlan, left_of, left_text, keeps_by}
+use Rattle.pgb_expire.specs.Unneeded.{ids_in}
 use Rattle.pgb_retain.proofs.Lists.{in_map, map_filter}
 use Rattle.pgb_retain.proofs.LabelTests.{in_has}
 use Rattle.pgb_expire.proofs.Leaving.{entries_of}
@@ -40,6 +43,7 @@ use Rattle.pgb_expire.proofs.Forgets.{groups}
 use Rattle.pgb_expire.proofs.Forgotten.{forgotten_moves, forgotten_steady}
 use Rattle.pgb_expire.proofs.RetentionHolds.{closed_here}
 use Rattle.pgb_expire.proofs.OneValue.{one_backup_pair}
+use Rattle.pgb_expire.proofs.Emptied.{all_ends}
 use Rattle.pgb_expire.proofs.Shorter.{PriorsStay, rules_left, shorter_text}
 
 -- ---- ways of a command, one behind the other
@@ -67,7 +71,7 @@ moves_as stanza P Q a b wider p = record { later = p.later; past = p.past; past_
 
 -- ---- what was planned
 
-module _ (stanza : Text) (rules : Rules) (moment : ℕ) (f : Content) (labels : List Label) (w : BackupInfo) (current : ℕ) (plan : IsPlan stanza rules moment f labels w current) where
+module _ (stanza : Text) (rules : Rules) (moment : ℕ) (f : Content) (labels : List Label) (w : BackupInfo) (archive : ArchiveInfo) (plan : IsPlan stanza rules moment f labels w archive) where
   stays : IsBackupInfo plan.backup → PriorsStay (λ e. not (is_condemned rules moment plan.backup.backups e.label)) plan.backup.backups
   stays is e at pass l prior x same =
       ap not (ap (is_condemned rules moment plan.backup.backups) same ∙ false_from_ne_true (is_condemned rules moment plan.backup.backups l) (λ on.
@@ -126,12 +130,18 @@ module _ (stanza : Text) (rules : Rules) (moment : ℕ) (f : Content) (labels : 
     pub covers : Covers (labels_of w.backups) left
     covers b at = in_has (labels_of w.backups) b.entry.label (subst (λ (es : List Entry). In b.entry.label (labels_of es)) (sym left_entries) (in_map (λ (e : Entry). e.label) b.entry (listed left) (in_map (λ (b : Backup). b.entry) b left.backups at)))
 
-    pub current_is : current ≡ current_number left
-    current_is = plan.is_current ∙ ap (λ (v : ArchiveInfo). v.current) (one_archive_pair f (archive_info stanza) plan.archive (archive_value s) plan.reads_archive h.archive_pair)
+    archive_is : archive ≡ archive_value s
+    archive_is = one_archive_pair f (archive_info stanza) archive (archive_value s) plan.reads_archive h.archive_pair
+
+    pub current_is : archive.current ≡ current_number left
+    current_is = ap (λ (v : ArchiveInfo). v.current) archive_is
+
+    pub history_is : archive.history ≡ map identity_of s.history
+    history_is = ap (λ (v : ArchiveInfo). v.history) archive_is
 
 -- ---- the whole way
 
-module _ (stanza : Text) (rules : Rules) (moment : ℕ) (labels : List Label) (w : BackupInfo) (current : ℕ) (s : Stanza) where
+module _ (stanza : Text) (rules : Rules) (moment : ℕ) (labels : List Label) (w : BackupInfo) (archive : ArchiveInfo) (s : Stanza) where
   abbrev kept : Retention
   kept = retention rules moment
 
@@ -160,21 +170,21 @@ module _ (stanza : Text) (rules : Rules) (moment : ℕ) (labels : List Label) (w
   forgotten g x = (Condemn (kept.condemned s) ∷ x.0, some_forgotten x.0 x.1, x.2)
 
   -- which files aren't kept is the same of what was planned
-  module _ (es : List Entry) (entries : es ≡ listed (changed (Condemn (is_condemned rules moment (listed s))) s)) (number : current ≡ current_number (changed (Condemn (is_condemned rules moment (listed s))) s)) where
-    pub same_unneeded : (Step : (Content → Content → Type 0) → Type 0) → Step (Loses (IsUnneeded stanza (keeps_by rules current es))) → Step (Loses (IsUnneeded stanza (keeps_by rules (current_number rest_of) (listed rest_of))))
+  module _ (es : List Entry) (entries : es ≡ listed (changed (Condemn (is_condemned rules moment (listed s))) s)) (number : archive.current ≡ current_number (changed (Condemn (is_condemned rules moment (listed s))) s)) where
+    pub same_unneeded : (Step : (Content → Content → Type 0) → Type 0) → Step (Loses (IsUnneeded stanza (keeps_by rules archive.current es))) → Step (Loses (IsUnneeded stanza (keeps_by rules (current_number rest_of) (listed rest_of))))
     same_unneeded Step x = subst (λ (k : List Entry). Step (Loses (IsUnneeded stanza (keeps_by rules (current_number rest_of) k)))) entries (subst (λ (n : ℕ). Step (Loses (IsUnneeded stanza (keeps_by rules n es)))) number x)
 
-    pub all_unneeded : (Step : (Content → Content → Type 0) → Type 0) → Step (LosesAll (IsUnneeded stanza (keeps_by rules current es))) → Step (LosesAll (IsUnneeded stanza (keeps_by rules (current_number rest_of) (listed rest_of))))
+    pub all_unneeded : (Step : (Content → Content → Type 0) → Type 0) → Step (LosesAll (IsUnneeded stanza (keeps_by rules archive.current es))) → Step (LosesAll (IsUnneeded stanza (keeps_by rules (current_number rest_of) (listed rest_of))))
     all_unneeded Step x = subst (λ (k : List Entry). Step (LosesAll (IsUnneeded stanza (keeps_by rules (current_number rest_of) k)))) entries (subst (λ (n : ℕ). Step (LosesAll (IsUnneeded stanza (keeps_by rules n es)))) number x)
 
   -- ---- what may be rest_of
 
-  module _ (a : View) (steady : IsSteady stanza (Some s) a) (sound : IsSoundStanza s) (told : IsSome a.now) (plan : IfSome a.now (λ f. IsPlan stanza rules moment f labels w current)) where
+  module _ (a : View) (steady : IsSteady stanza (Some s) a) (sound : IsSoundStanza s) (told : IsSome a.now) (plan : IfSome a.now (λ f. IsPlan stanza rules moment f labels w archive)) where
     start : (f : Content) × (a.now ≡ Some f)
     start = told_as a.now told
 
-    planned : IsPlan stanza rules moment start.0 labels w current
-    planned = let P : Option Content → Type 0 = λ o. IfSome o (λ f. IsPlan stanza rules moment f labels w current) in let at : P (Some start.0) = subst P start.1 plan in at
+    planned : IsPlan stanza rules moment start.0 labels w archive
+    planned = let P : Option Content → Type 0 = λ o. IfSome o (λ f. IsPlan stanza rules moment f labels w archive) in let at : P (Some start.0) = subst P start.1 plan in at
 
     has : HasStanza stanza start.0 s
     has = steady.stands start.0 (inl start.1)
@@ -191,18 +201,18 @@ module _ (stanza : Text) (rules : Rules) (moment : ℕ) (labels : List Label) (w
     module _ (b : View) (saved : Crash (FirstOf (member_writes (backup_info stanza) (left_text w))) a b) where
       pub saved_moves : Moves stanza (IsPartOfExpiry stanza (retention rules moment) s) a b
       saved_moves = moves_as stanza (λ g. Stands stanza g (Some s) ⊎ Stands stanza g (Some rest_of)) (IsPartOfExpiry stanza kept s) a b (λ g h. ⊎_elim (at_start g) (condemned g) h)
-          (condemned_moves stanza (left_text w) s (is_condemned rules moment (listed s)) closed has.pending has.is_pending (text_is stanza rules moment start.0 labels w current planned s has) a b steady told saved)
+          (condemned_moves stanza (left_text w) s (is_condemned rules moment (listed s)) closed has.pending has.is_pending (text_is stanza rules moment start.0 labels w archive planned s has) a b steady told saved)
 
       module _ (saved_all : Ends (AllOf (member_writes (backup_info stanza) (left_text w))) a b) where
         steady_b : IsSteady stanza (Some rest_of) b
-        steady_b = condemned_steady stanza (left_text w) s (is_condemned rules moment (listed s)) closed has.pending has.is_pending (text_is stanza rules moment start.0 labels w current planned s has) a b steady told saved saved_all
+        steady_b = condemned_steady stanza (left_text w) s (is_condemned rules moment (listed s)) closed has.pending has.is_pending (text_is stanza rules moment start.0 labels w archive planned s has) a b steady told saved saved_all
 
         told_b : IsSome b.now
         told_b = saved.told told
 
         module _ (c : View) (lost : Crash (Loses (IsUnlisted stanza (labels_of w.backups))) b c) where
           covers_left : Covers (labels_of w.backups) rest_of
-          covers_left = covers stanza rules moment start.0 labels w current planned s has
+          covers_left = covers stanza rules moment start.0 labels w archive planned s has
 
           pub lost_moves : Moves stanza (IsPartOfExpiry stanza (retention rules moment) s) a c
           lost_moves = moves_on stanza (IsPartOfExpiry stanza kept s) a b c saved_moves
@@ -214,15 +224,18 @@ module _ (stanza : Text) (rules : Rules) (moment : ℕ) (labels : List Label) (w
           told_c : IsSome c.now
           told_c = lost.told told_b
 
-          module _ (d : View) (gone : Crash (Loses (IsUnneeded stanza (keeps_by rules current w.backups))) c d) where
+          module _ (d : View) (gone : Crash (Loses (IsUnneeded stanza (keeps_by rules archive.current w.backups))) c d) where
             gone_left : Crash (Loses (IsUnneeded stanza (keeps_by rules (current_number rest_of) (listed rest_of)))) c d
-            gone_left = same_unneeded w.backups (left_entries stanza rules moment start.0 labels w current planned s has) (current_is stanza rules moment start.0 labels w current planned s has) (λ S. Crash S c d) gone
+            gone_left = same_unneeded w.backups (left_entries stanza rules moment start.0 labels w archive planned s has) (current_is stanza rules moment start.0 labels w archive planned s has) (λ S. Crash S c d) gone
 
             pub gone_moves : Moves stanza (IsPartOfExpiry stanza (retention rules moment) s) a d
             gone_moves = moves_on stanza (IsPartOfExpiry stanza kept s) a c d lost_moves
                 (moves_as stanza (λ g. (done : List Step) × IsSomeOf done (groups xs) × Stands stanza g (after (Some rest_of) done)) (IsPartOfExpiry stanza kept s) c d forgotten
                 (forgotten_moves stanza (keeps_by rules (current_number rest_of) (listed rest_of)) rest_of sound.apart c d steady_c told_c gone_left))
 
-            pub gone_steady : (((n : Text) → IsArchiveFile stanza n → is_loose c n ≡ false) → Ends (LosesAll (IsUnneeded stanza (keeps_by rules current w.backups))) c d) → IsSteady stanza (after (Some s) (all_of (expiry_moves (retention rules moment) s))) d
-            gone_steady settled = let all = settled (λ n file. steady_c.fixed n (FileName file)) in forgotten_steady stanza (keeps_by rules (current_number rest_of) (listed rest_of)) rest_of sound.apart c d steady_c told_c gone_left
-                (all_unneeded w.backups (left_entries stanza rules moment start.0 labels w current planned s has) (current_is stanza rules moment start.0 labels w current planned s has) (λ S. Ends S c d) all)
+            pub gone_steady : Law c → Goes (λ n v. IsUnneeded stanza (keeps_by rules archive.current w.backups) n × (v ≡ None)) (λ _. ⊥) c d → NowGoes (Loses (IsUnneeded stanza (keeps_by rules archive.current w.backups))) c.now d.now
+                → ((n : Name) → (u : IsUnneeded stanza (keeps_by rules archive.current w.backups) n) → In u.id (ids_in archive.history) → IsAbsent d.now n)
+                → ((n : Name) (v : Value) → IsTrue (is_below (archive_folder stanza) n) → is_loose c n ≡ false → MayKeep d n v → Holds d.now n v) → IsSteady stanza (after (Some s) (all_of (expiry_moves (retention rules moment) s))) d
+            gone_steady law goes part absent settled = forgotten_steady stanza (keeps_by rules (current_number rest_of) (listed rest_of)) rest_of sound.apart c d steady_c told_c gone_left
+                (all_unneeded w.backups (left_entries stanza rules moment start.0 labels w archive planned s has) (current_is stanza rules moment start.0 labels w archive planned s has) (λ S. Ends S c d)
+                (all_ends stanza (keeps_by rules archive.current w.backups) rest_of sound.ids archive.history (history_is stanza rules moment start.0 labels w archive planned s has) c d part absent steady_c law goes settled))

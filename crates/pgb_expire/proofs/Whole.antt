@@ -44,14 +44,14 @@ module _ (stanza : Text) (rules : Rules) (moment : ℕ) where
   }
 
   -- what is planned is of the stanza that a content has
-  plan_at : (labels : List Label) (w : BackupInfo) (current : ℕ) (o : Option Content) (f : Content) → o ≡ Some f → IfSome o (λ f. IsPlan stanza rules moment f labels w current) → IsPlan stanza rules moment f labels w current
-  plan_at labels w current o f is plan = let P : Option Content → Type 0 = λ x. IfSome x (λ f. IsPlan stanza rules moment f labels w current) in let at : P (Some f) = subst P is plan in at
+  plan_at : (labels : List Label) (w : BackupInfo) (archive : ArchiveInfo) (o : Option Content) (f : Content) → o ≡ Some f → IfSome o (λ f. IsPlan stanza rules moment f labels w archive) → IsPlan stanza rules moment f labels w archive
+  plan_at labels w archive o f is plan = let P : Option Content → Type 0 = λ x. IfSome x (λ f. IsPlan stanza rules moment f labels w archive) in let at : P (Some f) = subst P is plan in at
 
-  module _ (labels : List Label) (w : BackupInfo) (current : ℕ) (a m b : View) (rests : Rests a m) (same : m.now ≡ a.now) (plan : IfSome a.now (λ f. IsPlan stanza rules moment f labels w current)) where
+  module _ (labels : List Label) (w : BackupInfo) (archive : ArchiveInfo) (a m b : View) (rests : Rests a m) (same : m.now ≡ a.now) (plan : IfSome a.now (λ f. IsPlan stanza rules moment f labels w archive)) where
     abbrev Plan : Option Content → Type 0
-    Plan o = IfSome o (λ f. IsPlan stanza rules moment f labels w current)
+    Plan o = IfSome o (λ f. IsPlan stanza rules moment f labels w archive)
 
-    plan_m : IfSome m.now (λ f. IsPlan stanza rules moment f labels w current)
+    plan_m : IfSome m.now (λ f. IsPlan stanza rules moment f labels w archive)
     plan_m = subst Plan (sym same) plan
 
     told_m : IsSome a.now → IsSome m.now
@@ -62,9 +62,9 @@ module _ (stanza : Text) (rules : Rules) (moment : ℕ) where
 
     -- there is a stanza
     not_vacant : (X : Type 0) → (f : Content) → a.now ≡ Some f → IsVacant stanza f → X
-    not_vacant X f is vacant = let p = plan_at labels w current a.now f is plan in absurd (no_pair f (archive_info stanza) p.archive vacant.archive_pair p.reads_archive)
+    not_vacant X f is vacant = let p = plan_at labels w archive a.now f is plan in absurd (no_pair f (archive_info stanza) archive vacant.archive_pair p.reads_archive)
 
-    module _ (part : (s : Stanza) → IfSome m.now (λ f. IsPlan stanza rules moment f labels w current) → IsSoundStanza s → IsSome m.now → PartFrom stanza (retention rules moment) s m b) where
+    module _ (part : (s : Stanza) → IfSome m.now (λ f. IsPlan stanza rules moment f labels w archive) → IsSoundStanza s → IsSome m.now → PartFrom stanza (retention rules moment) s m b) where
       part_does : (r : Repository) → IsSound r → IsSome a.now → NowStands stanza r a.now → (done : List Step) × IsPartOf done (steps_of (Expire (retention rules moment)) r) × NowStands stanza (after r done) b.now
       part_does None sound told now = let f = told_as a.now told in not_vacant _ f.0 f.1 (now.stands f.0 f.1)
       part_does (Some s) sound told now = (part s plan_m sound (told_m told)).now (now_m (Some s) now)
@@ -81,7 +81,7 @@ module _ (stanza : Text) (rules : Rules) (moment : ℕ) where
       pub carried_part : (IsSome m.now → IsSome b.now) → ExpiresPart stanza (retention rules moment) a b
       carried_part told = record { now = record { told = λ some. told (told_m some); does = part_does }; goes = part_goes }
 
-    module _ (whole : (s : Stanza) → IfSome m.now (λ f. IsPlan stanza rules moment f labels w current) → IsSoundStanza s → IsSome m.now → WholeFrom stanza (retention rules moment) s m b) where
+    module _ (whole : (s : Stanza) → IfSome m.now (λ f. IsPlan stanza rules moment f labels w archive) → IsSoundStanza s → IsSome m.now → WholeFrom stanza (retention rules moment) s m b) where
       whole_does : (r : Repository) → IsSound r → IsSome a.now → NowStands stanza r a.now → (done : List Step) × (done ≡ all_of (steps_of (Expire (retention rules moment)) r)) × NowStands stanza (after r done) b.now
       whole_does None sound told now = let f = told_as a.now told in not_vacant _ f.0 f.1 (now.stands f.0 f.1)
       whole_does (Some s) sound told now = (all_of (expiry_moves (retention rules moment) s), refl, (whole s plan_m sound (told_m told)).now (now_m (Some s) now))
@@ -105,8 +105,8 @@ module _ (stanza : Text) (rules : Rules) (moment : ℕ) where
       needed_here stanza rules moment f.0 s (steady.stands f.0 (inl f.1)) g x.0 x.1 x.2
 
   -- the labels that go are those of the stanza
-  pub labels_are : (labels : List Label) (w : BackupInfo) (current : ℕ) (o : Option Content) → IfSome o (λ f. IsPlan stanza rules moment f labels w current) → (s : Stanza) → IsSome o → NowStands stanza (Some s) o → labels ≡ condemned_labels rules moment (listed s)
-  labels_are labels w current o plan s told now =
+  pub labels_are : (labels : List Label) (w : BackupInfo) (archive : ArchiveInfo) (o : Option Content) → IfSome o (λ f. IsPlan stanza rules moment f labels w archive) → (s : Stanza) → IsSome o → NowStands stanza (Some s) o → labels ≡ condemned_labels rules moment (listed s)
+  labels_are labels w archive o plan s told now =
       let f = told_as o told in
-      let here = plan_at labels w current o f.0 f.1 plan in
-      here.are_gone ∙ ap (λ (es : List Entry). condemned_labels rules moment es) (entries_are stanza rules moment f.0 labels w current here s (now.stands f.0 f.1))
+      let here = plan_at labels w archive o f.0 f.1 plan in
+      here.are_gone ∙ ap (λ (es : List Entry). condemned_labels rules moment es) (entries_are stanza rules moment f.0 labels w archive here s (now.stands f.0 f.1))

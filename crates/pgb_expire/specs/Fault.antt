@@ -15,8 +15,7 @@ use Rattle.pgb_info.specs.ArchiveForm.{IsArchiveForm}
 use Rattle.pgb_info.specs.BackupForm.{IsBackupForm}
 use Rattle.pgb_pair.specs.Causes.{PairCause}
 use Rattle.pgb_pair.specs.Causes as info_causes
-use Rattle.pgb_stored.specs.Causes.{AllCause}
-use Rattle.pgb_expire.specs.declared.fault.ExpireFault.TheVariants.{Info, Archive, Disk, NoMemory}
+use Rattle.pgb_expire.specs.declared.fault.ExpireFault.TheVariants.{Info, Disk, NoMemory}
 
 abbrev pub fault_of_save : SaveFault → ExpireFault
 fault_of_save SaveDisk = Disk
@@ -31,30 +30,20 @@ abbrev pub fault_of_stop : Stop → ExpireFault
 fault_of_stop Failed = Disk
 fault_of_stop StopNoMemory = NoMemory
 
--- The fault is why one of the pairs had no value, or why the files that are still stored aren't told; or a count of faults rose, or memory ran out.
-abbrev pub ExpireCause : Text → Option Content → Option Content → Type 0 → ExpireFault → Type 0
-ExpireCause stanza old new rose (Info fault) = PairCause IsArchiveText IsArchiveForm info_limit (archive_info stanza) old rose fault ⊎ PairCause IsBackupText IsBackupForm info_limit (backup_info stanza) old rose fault
-ExpireCause stanza old new rose (Archive fault) = AllCause stanza new rose fault
-ExpireCause stanza old new rose Disk = rose
-ExpireCause stanza old new rose NoMemory = Unit {0}
+-- The fault is why one of the pairs has no value; or the count of faults rose, or memory ran out.
+abbrev pub ExpireCause : Text → Option Content → Type 0 → ExpireFault → Type 0
+ExpireCause stanza old rose (Info fault) = PairCause IsArchiveText IsArchiveForm info_limit (archive_info stanza) old rose fault ⊎ PairCause IsBackupText IsBackupForm info_limit (backup_info stanza) old rose fault
+ExpireCause stanza old rose Disk = rose
+ExpireCause stanza old rose NoMemory = Unit {0}
 
 -- what holds where a pair has no value
 abbrev pub IfRefused : ExpireFault → Type 0 → Type 0
 IfRefused (Info fault) P = info_causes.IfRefused fault P
-IfRefused (Archive fault) P = Unit {0}
 IfRefused Disk P = Unit {0}
 IfRefused NoMemory P = Unit {0}
 
--- a count of faults rose, or memory ran out
+-- the count of faults rose, or memory ran out
 abbrev pub IsStop : Type 0 → ExpireFault → Type 0
 IsStop rose (Info fault) = ⊥
-IsStop rose (Archive fault) = ⊥
 IsStop rose Disk = rose
 IsStop rose NoMemory = Unit {0}
-
--- why what was planned isn't carried out
-abbrev pub CarryCause : Text → Option Content → Type 0 → ExpireFault → Type 0
-CarryCause stanza new rose (Info fault) = ⊥
-CarryCause stanza new rose (Archive fault) = AllCause stanza new rose fault
-CarryCause stanza new rose Disk = rose
-CarryCause stanza new rose NoMemory = Unit {0}

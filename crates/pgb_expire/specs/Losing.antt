@@ -11,7 +11,7 @@ use Rattle.pgb_model.specs.Text.{Text}
 use Rattle.pgb_model.specs.Names.{backup_info, label_folder, label_text, archive_name}
 use Rattle.pgb_model.specs.InfoFiles.{IsLabel}
 use Rattle.pgb_model.specs.Stands.{IsArchivePlace}
-use Rattle.pgb_stored.specs.declared.files.Stored.{Stored}
+use Rattle.pgb_outside.specs.declared.disk.Found.{Found}
 use Rattle.pgb_pair.specs.Member.{IsOfPair}
 use Rattle.pgb_retain.specs.Labels.{has_label}
 
@@ -56,9 +56,9 @@ pub record IsTextUnlisted (labels : List Label) (text : Text) : Type 0 where
   pub text_is : text ≡ label_text label
   pub not_listed : has_label labels label ≡ false
 
--- where the files lie
-abbrev pub paths_of : List Stored → List Name
-paths_of files = map (λ (file : Stored). string_bytes file.path) files
+-- the names that a listing tells
+abbrev pub names_of : List Found → List Name
+names_of found = map (λ (x : Found). string_bytes x.name) found
 
 -- ---- what an expiry may change
 

@@ -3,14 +3,14 @@ ghost use Rattle.std.specs.Prelude.{◌≤◌, ℕ, IfErr, IfSome, IsSome, OnOk,
 ghost use Rattle.pgb_outside.specs.States.{Frame};
 ghost use Rattle.pgb_disk.specs.Store.{ChangesOnly};
 ghost use Rattle.pgb_outside.specs.Cause.{Rises};
-ghost use Rattle.pgb_model.specs.Values.{backup_info_of};
+ghost use Rattle.pgb_model.specs.Values.{archive_info_of, backup_info_of};
 ghost use Rattle.pgb_model.specs.InfoFiles.{IsBackupInfo, info_limit};
 ghost use Rattle.pgb_model.specs.Repository.{Stanza, IsSoundStanza};
 ghost use Rattle.pgb_story.specs.Beside.{StaysBeside};
 ghost use Rattle.pgb_expire.specs.Expiry.{retention, PartFrom, WholeFrom};
 ghost use Rattle.pgb_expire.specs.Losing.{MayExpire};
 ghost use Rattle.pgb_expire.specs.Planning.{IsPlan, left_text};
-ghost use Rattle.pgb_expire.specs.Fault.{CarryCause};
+ghost use Rattle.pgb_expire.specs.Fault.{IsStop};
 
 use crate::dropping::drop_unlisted;
 use crate::fault::ExpireFault;
@@ -32,21 +32,31 @@ pub(crate) fn carry_out<D: Disk>(
     requires valid { IsBackupInfo (backup_info_of plan.now.left) }
     requires within { length (left_text (backup_info_of plan.now.left)) ≤ info_limit }
     ensures part { (moment : ℕ) (s : Stanza) → IfSome (D.state d.old).view.now (λ f. IsPlan stanza.now rules.now
-        moment f plan.now.labels.items (backup_info_of plan.now.left) plan.now.current) → IsSoundStanza s
+        moment f plan.now.labels.items (backup_info_of plan.now.left) (archive_info_of plan.now.archive))
+        → IsSoundStanza s
         → IsSome (D.state d.old).view.now
         → PartFrom stanza.now (retention rules.now moment) s (D.state d.old).view (D.state d.new).view }
     ensures whole { OnOk result ((moment : ℕ) (s : Stanza) → IfSome (D.state d.old).view.now (λ f. IsPlan stanza.now
-        rules.now moment f plan.now.labels.items (backup_info_of plan.now.left) plan.now.current) → IsSoundStanza s
+        rules.now moment f plan.now.labels.items (backup_info_of plan.now.left) (archive_info_of plan.now.archive))
+        → IsSoundStanza s
         → IsSome (D.state d.old).view.now
         → WholeFrom stanza.now (retention rules.now moment) s (D.state d.old).view (D.state d.new).view) }
     ensures told { IsSome (D.state d.old).view.now → IsSome (D.state d.new).view.now }
-    ensures only { IsSome (D.state d.old).view.now
-        → ChangesOnly (MayExpire stanza.now) (D.state d.old).view (D.state d.new).view }
+    ensures only { ChangesOnly (MayExpire stanza.now) (D.state d.old).view (D.state d.new).view }
     ensures beside { StaysBeside stanza.now (D.state d.old).view (D.state d.new).view }
     ensures frame { Frame (D.state d.old) (D.state d.new) }
-    ensures cause { IfErr result (CarryCause stanza.now (D.state d.new).view.now (Rises (D.state d.old).faults (D.state d.new).faults)) }
+    ensures cause { IfErr result (IsStop (Rises (D.state d.old).faults (D.state d.new).faults)) }
 {
     save_left(alloc, d, stanza, &plan.left)?;
     drop_unlisted(alloc, d, stanza, &plan.left.backups)?;
-    forget(alloc, d, stanza, &plan.left.backups, plan.current, rules)
+    let archive = &plan.archive;
+    forget(
+        alloc,
+        d,
+        stanza,
+        &archive.history,
+        &plan.left.backups,
+        archive.current,
+        rules,
+    )
 }

@@ -27,9 +27,10 @@ pub struct Expired {
     pub removed: u64,
 }
 
-/// Takes away what the rules let go at a moment, in seconds since 1970: first the backup pair is saved without the labels,
-/// then the folders of all labels that aren't listed are dropped, and then the files of the archive that the backups left
-/// don't need. What an expiry leaves that was stopped is taken away by the next.
+/// Takes away what the rules let go at a moment, in seconds since 1970: first the backup pair is saved without the
+/// labels, then the folders of all labels that aren't listed are dropped, and then the files of the archive that the
+/// backups left don't need (pgBackRest command reference, "Expire Command"). What a stopped expiry leaves is taken away
+/// by the next.
 pub fn expire<D: Disk>(
     alloc: Global,
     d: &mut D,
@@ -51,12 +52,13 @@ pub fn expire<D: Disk>(
         → e.labels.items ≡ condemned_labels rules.now moment (listed s)) }
     // Where one of the pairs has no value, only was read.
     ensures refused { IfErr result (λ e. IfRefused e (Looks (D.state d.old) (D.state d.new))) }
-    // Nothing changes but the backup pair, folders of labels, and files of the archive that aren't histories of timelines.
-    ensures only { IsSome (D.state d.old).view.now
-        → ChangesOnly (MayExpire stanza.now) (D.state d.old).view (D.state d.new).view }
+    // Nothing changes but the backup pair, folders of labels, and files of the archive that aren't histories of
+    // timelines.
+    ensures only { ChangesOnly (MayExpire stanza.now) (D.state d.old).view (D.state d.new).view }
     ensures beside { StaysBeside stanza.now (D.state d.old).view (D.state d.new).view }
     ensures frame { Frame (D.state d.old) (D.state d.new) }
-    ensures cause { IfErr result (ExpireCause stanza.now (D.state d.old).view.now (D.state d.new).view.now (Rises (D.state d.old).faults (D.state d.new).faults)) }
+    ensures cause { IfErr result (ExpireCause stanza.now (D.state d.old).view.now
+        (Rises (D.state d.old).faults (D.state d.new).faults)) }
 {
     let planned = plan(alloc, d, stanza, rules, moment)?;
     let removed = carry_out(alloc, d, stanza, rules, &planned)?;

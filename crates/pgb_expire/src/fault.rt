@@ -5,16 +5,14 @@ ghost use Rattle.pgb_expire.specs.declared.fault.ExpireFault.TheVariants.{NoMemo
 use pgb_disk::StoreFault;
 use pgb_outside::Stop;
 use pgb_pair::{InfoFault, SaveFault};
-use pgb_stored::ArchiveFault;
 use std::alloc::AllocError;
 
-/// Why an expiry isn't done, or not whole.
+/// Why an expiry isn't done, or not whole. The next makes good what it left.
 #[derive(Debug, Drop)]
 pub enum ExpireFault {
-    /// One of the two pairs has no value.
+    /// `archive.info` or `backup.info` has no value.
     Info(InfoFault),
-    Archive(ArchiveFault),
-    /// the disk's count of faults rose
+    /// The disk's count of faults rose.
     Disk,
     NoMemory,
 }
@@ -27,17 +25,6 @@ impl From<InfoFault> for ExpireFault {
 
     fn from(fault: InfoFault) -> Self {
         ExpireFault::Info(fault)
-    }
-}
-
-impl From<ArchiveFault> for ExpireFault {
-    ghost use Rattle.std.specs.Prelude.{◌≡◌};
-    ghost use Rattle.pgb_expire.specs.declared.fault.ExpireFault.TheVariants.{Archive};
-
-    ghost from_gives = { λ f e. e ≡ Archive f };
-
-    fn from(fault: ArchiveFault) -> Self {
-        ExpireFault::Archive(fault)
     }
 }
 

@@ -1,71 +1,113 @@
 // The files of the archive that aren't needed are taken away.
-ghost use Rattle.std.specs.Prelude.{◌≡◌, ◌≤◌, false, map, IfOk, IfErr, IfSome, IsSome, IsTrue, OnOk, length};
-ghost use Rattle.pgb_outside.specs.Content.{Name, is_below};
-ghost use Rattle.pgb_outside.specs.Moments.{is_loose};
-ghost use Rattle.pgb_outside.specs.Crash.{Ends, NowGoes};
-ghost use Rattle.pgb_outside.specs.States.{Looks};
+ghost use Rattle.std.specs.Prelude.{◌≡◌, List, false, map, IfErr, IsTrue, OnOk};
+ghost use Rattle.pgb_outside.specs.Content.{Name, Value, Holds, is_below};
+ghost use Rattle.pgb_outside.specs.Moments.{MayKeep, is_loose};
 ghost use Rattle.pgb_outside.specs.Cause.{Rises};
-ghost use Rattle.pgb_model.specs.Text.{In};
+ghost use Rattle.pgb_disk.specs.Dropped.{IsAbsent};
+ghost use Rattle.pgb_model.specs.Text.{Text, In};
 ghost use Rattle.pgb_model.specs.Names.{archive_folder};
 ghost use Rattle.pgb_model.specs.Values.{entry_of};
-ghost use Rattle.pgb_model.specs.Stands.{IsArchiveFile};
-ghost use Rattle.pgb_stored.specs.Stored.{AreStored};
-ghost use Rattle.pgb_stored.specs.Causes.{AllCause};
-ghost use Rattle.pgb_expire.specs.Losing.{TakesAway, LosesAll, IsUnneeded, paths_of};
+ghost use Rattle.pgb_expire.specs.Losing.{TakesAway, IsUnneeded};
 ghost use Rattle.pgb_expire.specs.Planning.{keeps_by};
-ghost use Rattle.pgb_expire.specs.Fault.{CarryCause};
+ghost use Rattle.pgb_expire.specs.Unneeded.{front_of, id_in, ids_in};
+ghost use Rattle.pgb_expire.specs.Fault.{IsStop};
 
 use crate::fault::ExpireFault;
-use crate::removing::take_away;
-use crate::unneeded::unneeded_among;
-use pgb_model::Entry;
+use crate::removing::remove_within;
+use pgb_model::{ArchiveId, ClusterId, Entry};
 use pgb_outside::Disk;
-use pgb_retain::Rules;
-use pgb_stored::{ArchiveFault, Stored, all};
+use pgb_retain::{Rules, spans};
 use std::alloc::Global;
 
-// The stored files of the stanza. A disk that doesn't tell what it holds may list others.
-fn stored_below<D: Disk>(
-    alloc: Global,
-    d: &mut D,
-    stanza: &str,
-) -> Result<Vec<Stored>, ArchiveFault>
-    ensures all { IfOk result (λ files. IfSome (D.state d.old).view.now (λ f. AreStored stanza.now f files.items)) }
-    ensures below { IfOk result (λ files. (n : Name) → In n (paths_of files.items)
-        → IsTrue (is_below (archive_folder stanza.now) n)) }
-    ensures cause { IfErr result (AllCause stanza.now (D.state d.old).view.now
-        (Rises (D.state d.old).faults (D.state d.new).faults)) }
-    ensures looks { Looks (D.state d.old) (D.state d.new) }
+// The id of a cluster's files.
+fn id_of(cluster: &ClusterId) -> ArchiveId
+    ensures { result ≡ id_in cluster.now }
 {
-    let front = format!(in alloc; "archive/{stanza}/")?;
-    let mut files = all(alloc, d, stanza)?;
-    files.retain(|file| file.path.as_bytes().starts_with(front.as_bytes()));
-    Ok(files)
+    ArchiveId {
+        version: cluster.version,
+        number: cluster.id,
+    }
 }
 
-/// Takes away the files that aren't kept with these backups listed, and tells how many there were.
-pub(crate) fn forget<D: Disk>(
+// Takes the files of one cluster away that aren't kept with these backups listed, and tells how many there were. The front
+// is the stanza's folder of the archive with a slash.
+fn forget_under<D: Disk>(
     alloc: Global,
     d: &mut D,
-    stanza: &str,
+    front: &str,
+    id: ArchiveId,
     entries: &[Entry],
     current: u32,
     rules: &Rules,
 ) -> Result<u64, ExpireFault>
-    ensures takes { IsSome (D.state d.old).view.now → TakesAway
-        (IsUnneeded stanza.now (keeps_by rules.now current (map entry_of entries.now))) (D.state d.old) (D.state d.new) }
-    ensures below { TakesAway (λ n. IsTrue (is_below (archive_folder stanza.now) n)) (D.state d.old) (D.state d.new) }
-    ensures whole { OnOk result (((n : Name) → IsArchiveFile stanza.now n → is_loose (D.state d.old).view n ≡ false)
-        → Ends (LosesAll (IsUnneeded stanza.now (keeps_by rules.now current (map entry_of entries.now))))
-        (D.state d.old).view (D.state d.new).view) }
-    ensures now_whole { OnOk result
-        (NowGoes (LosesAll (IsUnneeded stanza.now (keeps_by rules.now current (map entry_of entries.now))))
-        (D.state d.old).view.now (D.state d.new).view.now) }
-    ensures cause { IfErr result (CarryCause stanza.now (D.state d.new).view.now
-        (Rises (D.state d.old).faults (D.state d.new).faults)) }
+    ensures takes { TakesAway (λ n. (stanza : Text) → front.now ≡ front_of stanza
+        → IsUnneeded stanza (keeps_by rules.now current (map entry_of entries.now)) n) (D.state d.old) (D.state d.new) }
+    ensures gone { OnOk result ((stanza : Text) → front.now ≡ front_of stanza → (n : Name)
+        → (u : IsUnneeded stanza (keeps_by rules.now current (map entry_of entries.now)) n) → u.id ≡ id
+        → IsAbsent (D.state d.new).view.now n) }
+    ensures cause { IfErr result (IsStop (Rises (D.state d.old).faults (D.state d.new).faults)) }
 {
-    let files = stored_below(alloc, d, stanza)?;
-    let unneeded = unneeded_among(alloc, files, entries, current, rules)?;
-    take_away(alloc, d, stanza, &unneeded)?;
-    Ok(unneeded.len() as u64)
+    let kept = spans(alloc, entries, &id, id.number == current, rules)?;
+    if kept.all {
+        return Ok(0);
+    }
+    let ArchiveId { version, number } = id;
+    let place = format!(in alloc; "{front}{version}-{number}")?;
+    let folders = d.folders(alloc, place.as_str())?;
+    remove_within(alloc, d, place.as_str(), &folders, front, &kept)
+}
+
+// The same of all clusters.
+fn forget_each<D: Disk>(
+    alloc: Global,
+    d: &mut D,
+    front: &str,
+    history: &[ClusterId],
+    entries: &[Entry],
+    current: u32,
+    rules: &Rules,
+) -> Result<u64, ExpireFault>
+    ensures takes { TakesAway (λ n. (stanza : Text) → front.now ≡ front_of stanza
+        → IsUnneeded stanza (keeps_by rules.now current (map entry_of entries.now)) n) (D.state d.old) (D.state d.new) }
+    ensures gone { OnOk result ((stanza : Text) → front.now ≡ front_of stanza → (n : Name)
+        → (u : IsUnneeded stanza (keeps_by rules.now current (map entry_of entries.now)) n) → In u.id (ids_in history.now)
+        → IsAbsent (D.state d.new).view.now n) }
+    ensures cause { IfErr result (IsStop (Rises (D.state d.old).faults (D.state d.new).faults)) }
+{
+    let mut removed = 0u64;
+    for cluster in history {
+        let id = id_of(cluster);
+        removed = removed.saturating_add(forget_under(
+            alloc, d, front, id, entries, current, rules,
+        )?);
+    }
+    Ok(removed)
+}
+
+/// Takes the files of these clusters away that aren't kept with these backups listed, and settles the stanza's folder of the
+/// archive, so that a crash leaves there what the disk holds. Tells how many files there were.
+pub(crate) fn forget<D: Disk>(
+    alloc: Global,
+    d: &mut D,
+    stanza: &str,
+    history: &[ClusterId],
+    entries: &[Entry],
+    current: u32,
+    rules: &Rules,
+) -> Result<u64, ExpireFault>
+    ensures takes { TakesAway (IsUnneeded stanza.now (keeps_by rules.now current (map entry_of entries.now)))
+        (D.state d.old) (D.state d.new) }
+    ensures gone { OnOk result ((n : Name)
+        → (u : IsUnneeded stanza.now (keeps_by rules.now current (map entry_of entries.now)) n)
+        → In u.id (ids_in history.now) → IsAbsent (D.state d.new).view.now n) }
+    ensures settled { OnOk result ((n : Name) (v : Value) → IsTrue (is_below (archive_folder stanza.now) n)
+        → is_loose (D.state d.old).view n ≡ false → MayKeep (D.state d.new).view n v
+        → Holds (D.state d.new).view.now n v) }
+    ensures cause { IfErr result (IsStop (Rises (D.state d.old).faults (D.state d.new).faults)) }
+{
+    let folder = format!(in alloc; "archive/{stanza}")?;
+    let front = format!(in alloc; "archive/{stanza}/")?;
+    let removed = forget_each(alloc, d, front.as_str(), history, entries, current, rules)?;
+    d.settle(folder.as_str())?;
+    Ok(removed)
 }

@@ -1,8 +1,9 @@
-//! An expiry: the backups that retention rules let go are taken out of `backup.info`, then the folders of labels that it
-//! doesn't list are dropped, and then the files of the archive that the backups left don't need.
+//! An expiry: the backups that retention rules let go are taken out of `backup.info`, then the folders of labels that
+//! it doesn't list are dropped, and then the files of the archive that the backups left don't need.
 //!
-//! `expire` promises that after every answer, and at every moment of it after every stop, the repository is as before, or
-//! without the backups that go and without some of the files that aren't needed; and at `Ok` without all of these.
+//! `expire` promises that after every answer, and in all that a stop leaves at any moment of it, the repository is as
+//! before, or without the backups that go and without some of the files that aren't needed; and at `Ok` without all of
+//! these. What it holds at a time is the list of backups and the names of one folder.
 #![tactic(auto)]
 
 mod carrying;

@@ -3,12 +3,12 @@ ghost use Rattle.std.specs.Prelude.{◌≡◌, ◌≤◌, IfOk, IfErr, IfSome, l
 ghost use Rattle.pgb_outside.specs.Moments.{Rests};
 ghost use Rattle.pgb_outside.specs.States.{Looks};
 ghost use Rattle.pgb_outside.specs.Cause.{Rises};
-ghost use Rattle.pgb_model.specs.Names.{backup_info};
+ghost use Rattle.pgb_model.specs.Names.{archive_info, backup_info};
 ghost use Rattle.pgb_model.specs.Pair.{PairIs};
-ghost use Rattle.pgb_model.specs.Values.{backup_info_of};
-ghost use Rattle.pgb_model.specs.InfoFiles.{IsBackupInfo, IsBackupText, info_limit};
+ghost use Rattle.pgb_model.specs.Values.{archive_info_of, backup_info_of};
+ghost use Rattle.pgb_model.specs.InfoFiles.{IsArchiveText, IsBackupInfo, IsBackupText, info_limit};
 ghost use Rattle.pgb_retain.specs.Condemned.{condemned_labels};
-ghost use Rattle.pgb_expire.specs.Planning.{IsPlan, IsCurrentOf, left_of, left_text};
+ghost use Rattle.pgb_expire.specs.Planning.{IsPlan, left_of, left_text};
 ghost use Rattle.pgb_expire.specs.Fault.{ExpireCause};
 
 use crate::fault::ExpireFault;
@@ -21,12 +21,12 @@ use pgb_stanza::{archive_info_name, backup_info_name};
 use pgb_text::NoMemory;
 use std::alloc::Global;
 
-/// What is left of the backup pair's value, the labels that go, and the current history number.
+/// The labels that go, what is left of the backup pair's value, and the archive pair's value.
 #[derive(Drop)]
 pub(crate) struct Planned {
     pub labels: Vec<Label>,
     pub left: BackupInfo,
-    pub current: u32,
+    pub archive: ArchiveInfo,
 }
 
 // The value without the backups that the rules let go, and their labels.
@@ -53,24 +53,28 @@ fn shorten(
     Ok((labels, left))
 }
 
-// The current number of the archive pair.
-fn current_number<D: Disk>(alloc: Global, d: &mut D, stanza: &str) -> Result<u32, ExpireFault>
-    ensures found { IfOk result (λ n. IfSome (D.state d.old).view.now (λ f. IsCurrentOf stanza.now f n)) }
+// The value of the archive pair.
+fn clusters<D: Disk>(alloc: Global, d: &mut D, stanza: &str) -> Result<ArchiveInfo, ExpireFault>
+    ensures found { IfOk result (λ v. IfSome (D.state d.old).view.now
+        (λ f. PairIs IsArchiveText f (archive_info stanza.now) (archive_info_of v))) }
     ensures looks { Looks (D.state d.old) (D.state d.new) }
-    ensures cause { IfErr result (ExpireCause stanza.now (D.state d.old).view.now (D.state d.new).view.now (Rises (D.state d.old).faults (D.state d.new).faults)) }
+    ensures cause { IfErr result (ExpireCause stanza.now (D.state d.old).view.now
+        (Rises (D.state d.old).faults (D.state d.new).faults)) }
 {
     let name = archive_info_name(alloc, stanza)?;
     let value = load_pair::<D, ArchiveInfo>(alloc, d, name.as_str())?;
-    Ok(value.current)
+    Ok(value)
 }
 
 // The value of the backup pair.
 fn backups<D: Disk>(alloc: Global, d: &mut D, stanza: &str) -> Result<BackupInfo, ExpireFault>
-    ensures found { IfOk result (λ v. IfSome (D.state d.old).view.now (λ f. PairIs IsBackupText f (backup_info stanza.now) (backup_info_of v))) }
+    ensures found { IfOk result (λ v. IfSome (D.state d.old).view.now
+        (λ f. PairIs IsBackupText f (backup_info stanza.now) (backup_info_of v))) }
     ensures valid { IfOk result (λ v. IsBackupInfo (backup_info_of v)) }
     ensures within { IfOk result (λ v. length (left_text (backup_info_of v)) ≤ info_limit) }
     ensures looks { Looks (D.state d.old) (D.state d.new) }
-    ensures cause { IfErr result (ExpireCause stanza.now (D.state d.old).view.now (D.state d.new).view.now (Rises (D.state d.old).faults (D.state d.new).faults)) }
+    ensures cause { IfErr result (ExpireCause stanza.now (D.state d.old).view.now
+        (Rises (D.state d.old).faults (D.state d.new).faults)) }
 {
     let name = backup_info_name(alloc, stanza)?;
     let value = load_pair::<D, BackupInfo>(alloc, d, name.as_str())?;
@@ -87,16 +91,19 @@ pub(crate) fn plan<D: Disk>(
 ) -> Result<Planned, ExpireFault>
     ensures valid { IfOk result (λ p. IsBackupInfo (backup_info_of p.left)) }
     ensures within { IfOk result (λ p. length (left_text (backup_info_of p.left)) ≤ info_limit) }
-    ensures planned { IfOk result (λ p. IfSome (D.state d.old).view.now (λ f. IsPlan stanza.now rules.now moment f p.labels.items (backup_info_of p.left) p.current)) }
+    ensures planned { IfOk result (λ p. IfSome (D.state d.old).view.now
+        (λ f. IsPlan stanza.now rules.now moment f p.labels.items (backup_info_of p.left)
+        (archive_info_of p.archive))) }
     ensures looks { Looks (D.state d.old) (D.state d.new) }
-    ensures cause { IfErr result (ExpireCause stanza.now (D.state d.old).view.now (D.state d.new).view.now (Rises (D.state d.old).faults (D.state d.new).faults)) }
+    ensures cause { IfErr result (ExpireCause stanza.now (D.state d.old).view.now
+        (Rises (D.state d.old).faults (D.state d.new).faults)) }
 {
-    let current = current_number(alloc, d, stanza)?;
+    let archive = clusters(alloc, d, stanza)?;
     let value = backups(alloc, d, stanza)?;
     let (labels, left) = shorten(alloc, value, rules, moment)?;
     Ok(Planned {
         labels,
         left,
-        current,
+        archive,
     })
 }

@@ -29,12 +29,17 @@ pub(crate) fn save_left<D: Disk>(
     requires within { length (left_text (backup_info_of left.now)) ≤ info_limit }
     ensures crash { is_loose (D.state d.old).view (backup_info stanza.now) ≡ false
         → is_loose (D.state d.old).view (copy_of (backup_info stanza.now)) ≡ false
-        → Crash (FirstOf (member_writes (backup_info stanza.now) (left_text (backup_info_of left.now)))) (D.state d.old).view (D.state d.new).view }
+        → Crash (FirstOf (member_writes (backup_info stanza.now) (left_text (backup_info_of left.now))))
+        (D.state d.old).view (D.state d.new).view }
     ensures whole { OnOk result (is_loose (D.state d.old).view (backup_info stanza.now) ≡ false
         → is_loose (D.state d.old).view (copy_of (backup_info stanza.now)) ≡ false
-        → Ends (AllOf (member_writes (backup_info stanza.now) (left_text (backup_info_of left.now)))) (D.state d.old).view (D.state d.new).view) }
-    ensures now_part { NowGoes (FirstOf (member_writes (backup_info stanza.now) (left_text (backup_info_of left.now)))) (D.state d.old).view.now (D.state d.new).view.now }
-    ensures now_whole { OnOk result (NowGoes (AllOf (member_writes (backup_info stanza.now) (left_text (backup_info_of left.now)))) (D.state d.old).view.now (D.state d.new).view.now) }
+        → Ends (AllOf (member_writes (backup_info stanza.now) (left_text (backup_info_of left.now))))
+        (D.state d.old).view (D.state d.new).view) }
+    ensures now_part { NowGoes (FirstOf (member_writes (backup_info stanza.now) (left_text (backup_info_of left.now))))
+        (D.state d.old).view.now (D.state d.new).view.now }
+    ensures now_whole { OnOk result
+        (NowGoes (AllOf (member_writes (backup_info stanza.now) (left_text (backup_info_of left.now))))
+        (D.state d.old).view.now (D.state d.new).view.now) }
     ensures only { ChangesOnly (IsOfPair (backup_info stanza.now)) (D.state d.old).view (D.state d.new).view }
     ensures frame { Frame (D.state d.old) (D.state d.new) }
     ensures cause { IsErrOf result SaveFault.Disk → Rises (D.state d.old).faults (D.state d.new).faults }

@@ -161,8 +161,8 @@ pub(crate) fn diff_labels(
     gone: &[Label],
     rule: Option<u32>,
 ) -> Result<Vec<Label>, NoMemory>
-    ensures { IfOk result (λ labels. labels.items
-        ≡ labels_of (diffs_gone rule (filter (λ e. not (has_label gone.now e.label)) (map entry_of entries.now)))) }
+    ensures { IfOk result (λ labels. labels.items ≡ labels_of
+        (diffs_gone rule (filter (λ e. not (has_label gone.now e.label)) (map entry_of entries.now)))) }
 {
     let Some(n) = rule else {
         return Ok(Vec::new(alloc));
