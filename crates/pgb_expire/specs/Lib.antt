@@ -1,0 +1,5 @@
+pub mod Fault
+pub mod Expiry
+pub mod Losing
+pub mod Planning
+pub mod Unneeded
