@@ -5,6 +5,7 @@ ghost use Rattle.pgb_recover.specs.Words.{TellsSet, WordCause, IsSet-prop, IsSet
 
 use crate::fault::RecoverFault;
 use pgb_model::Label;
+use pgb_restore::RestoreOptions;
 use pgb_stage::Halt;
 use pgb_stamp::read_label;
 
@@ -16,6 +17,7 @@ pub struct RecoverOrder<'a> {
     pub repository: &'a str,
     pub set: Option<Label>,
     pub workers: u32,
+    pub options: RestoreOptions<'a>,
     // Each worker is told both folders, with lengths of 16 bits.
     ghost short: { length data_folder.now < 2 ^ 16 },
     ghost repository_short: { length repository.now < 2 ^ 16 },
@@ -28,11 +30,12 @@ pub fn recover_order<'a>(
     repository: &'a str,
     set: Option<&'a str>,
     workers: u32,
+    options: RestoreOptions<'a>,
 ) -> Result<RecoverOrder<'a>, Halt<RecoverFault>>
     requires short { length data_folder.now < 2 ^ 16 }
     requires repository_short { length repository.now < 2 ^ 16 }
     ensures order { IfOk result (λ o. (o.data_folder.now ≡ data_folder.now) × (o.repository.now ≡ repository.now)
-        × (o.workers ≡ workers) × TellsSet (option_map (λ w. w.now) set.entry) o.set) }
+        × (o.workers ≡ workers) × (o.options ≡ options.entry) × TellsSet (option_map (λ w. w.now) set.entry) o.set) }
     ensures cause { IfErr result (HaltCause (WordCause (option_map (λ w. w.now) set.entry)) (λ _. ⊥)) }
 {
     let set = match set {
@@ -47,5 +50,6 @@ pub fn recover_order<'a>(
         repository,
         set,
         workers,
+        options,
     })
 }

@@ -9,6 +9,7 @@ ghost use Rattle.pgb_model.specs.Repository.{Stanza};
 ghost use Rattle.pgb_table.specs.Values.{is_stanza};
 ghost use Rattle.pgb_worker_dispatch.specs.Run.{IsReady};
 ghost use Rattle.pgb_clear.specs.Clearing.{control_path, HasNone};
+ghost use Rattle.pgb_restore.specs.Options.{options_of};
 ghost use Rattle.pgb_stage.specs.Halts.{HaltCause};
 ghost use Rattle.pgb_stage.specs.Reached.{OnFinished};
 ghost use Rattle.pgb_stage.specs.Risen.{none, rose_in};
@@ -29,8 +30,8 @@ use pgb_outside::{Disk, Link, Tree, Turns};
 use pgb_stage::{Halt, Outcome};
 use std::alloc::Global;
 
-/// Puts a backup of the stanza into an empty data folder, and nothing else: the one that is asked for, or the last. The
-/// first links read the repository, as many as the order has workers; the others aren't used.
+/// Puts a backup of the stanza into the data folder, and nothing else: the one that is asked for, or the last. The folder
+/// is empty, or with delta holds a cluster whose equal files stay. The first links read the repository, as many as the order has workers; the others aren't used.
 pub fn recover_backup<D: Disk, T: Tree, L: Link, U: Turns>(
     alloc: Global,
     repo: &mut D,
@@ -52,6 +53,7 @@ pub fn recover_backup<D: Disk, T: Tree, L: Link, U: Turns>(
       repo = (D.state repo.old).view.now;
       nodes = (T.state tree.old).nodes;
       used = take order.now.workers (map L.link_state links.old.items);
+      options = options_of order.now.options;
     }) (T.state tree.new).nodes)) }
     // Where the repository stands for a stanza, the backup is one of the stanza's.
     ensures given { IfOk result (λ outcome. (s : Stanza) (f : Content) → (D.state repo.old).view.now ≡ Some f
@@ -61,6 +63,7 @@ pub fn recover_backup<D: Disk, T: Tree, L: Link, U: Turns>(
           repo = (D.state repo.old).view.now;
           nodes = (T.state tree.old).nodes;
           used = take order.now.workers (map L.link_state links.old.items);
+          options = options_of order.now.options;
         }) f (T.state tree.new).nodes)) }
     // After a refusal there is no control file, unless nothing was changed.
     ensures control { OnErr result
@@ -75,13 +78,14 @@ pub fn recover_backup<D: Disk, T: Tree, L: Link, U: Turns>(
       repo = (D.state repo.old).view.now;
       nodes = (T.state tree.old).nodes;
       used = take order.now.workers (map L.link_state links.old.items);
+      options = options_of order.now.options;
     })) (rose_in (record none {
       repo = Rises (D.state repo.old).faults (D.state repo.new).faults;
       tree = Rises (T.state tree.old).faults (T.state tree.new).faults;
     }))) }
 {
     let label = choose(alloc, backup, order.set)?;
-    let seen = look(alloc, tree)?;
+    let seen = look(alloc, order.options.delta, tree)?;
     let manifest = load(alloc, repo, stanza, &label)?;
     let Ok(lines) = restored_line(alloc, &label) else {
         return Err(Halt::NoMemory);
