@@ -23,9 +23,9 @@ fill first
 stop_server fast
 back_up
 cp -a pg whole
-rm -f whole/pg_subtrans/* whole/pg_notify/*
 # The files that a backup leaves out.
-rm -rf whole/postmaster.* whole/log
+rm -rf whole/postmaster.* whole/{pg_dynshmem,pg_notify,pg_replslot,pg_serial,pg_snapshots,pg_stat_tmp,pg_subtrans}/*
+find whole -name 'pg_internal.init*' -delete
 
 start_server
 fill second
