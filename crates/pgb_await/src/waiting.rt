@@ -42,8 +42,8 @@ fn wait_turn<D: Disk, S: Disk, A: Aside<D, S>>(
     }
 }
 
-/// Waits until each segment of the part is archived under the id, for this many turns of other processes at most. While none
-/// is missing no turn is taken. pgBackRest's option `archive-timeout`.
+/// Waits until each segment of the part is archived under the id, for this many turns of other processes at most. Where
+/// none is missing no turn is taken. pgBackRest's option `archive-timeout`.
 pub fn await_segments<D: Disk, S: Disk, A: Aside<D, S>>(
     alloc: Global,
     repo: &mut D,
