@@ -5,3 +5,4 @@ mod Folds
 mod Marks
 mod Turns
 mod Waits
+pub mod Backups

@@ -13,7 +13,7 @@ use Rattle.pgb_model.proofs.PushDone.{after_some}
 use Rattle.pgb_model.proofs.Waited.{all_after, steps, own, own_all}
 
 -- all of some moves, and then what is done of more
-part_behind : (xs ys : List Move) (more : List Step) → IsPartOf more ys → IsPartOf (all_of xs ++ more) (xs ++ ys)
+pub part_behind : (xs ys : List Move) (more : List Step) → IsPartOf more ys → IsPartOf (all_of xs ++ more) (xs ++ ys)
 part_behind [] ys more p = p
 part_behind (One t ∷ xs) ys more p = inr (all_of xs ++ more, refl, part_behind xs ys more p)
 part_behind (Any groups ∷ xs) ys more p =
@@ -25,7 +25,7 @@ all_behind (One t ∷ xs) ys = ap (λ (l : List Step). t ∷ l) (all_behind xs y
 all_behind (Any groups ∷ xs) ys = append_assoc (flat_map (λ g. g) groups) (all_of xs) (all_of ys)
     ∙ ap (λ (l : List Step). flat_map (λ g. g) groups ++ l) (all_behind xs ys)
 
-done_behind : (whole : Bool) (xs ys : List Move) (more : List Step) → IsDone whole more ys →
+pub done_behind : (whole : Bool) (xs ys : List Move) (more : List Step) → IsDone whole more ys →
     IsDone whole (all_of xs ++ more) (xs ++ ys)
 done_behind true xs ys more is = ap (λ (l : List Step). all_of xs ++ l) is ∙ all_behind xs ys
 done_behind false xs ys more is = part_behind xs ys more is
@@ -49,7 +49,7 @@ turns_done whole s (t ∷ ts) us more is =
     (sym (append_assoc (all_of (own s t)) (all_of rest) more)
     ∙ ap (λ (l : List Step). l ++ more) (all_behind (own s t) rest)) outer
 
-after_behind : (r : Repository) (xs ys : List Step) → after r (xs ++ ys) ≡ after (after r xs) ys
+pub after_behind : (r : Repository) (xs ys : List Step) → after r (xs ++ ys) ≡ after (after r xs) ys
 after_behind r [] ys = refl
 after_behind r (t ∷ xs) ys = after_behind (step r t) xs ys
 
@@ -73,7 +73,7 @@ leads_on ts us whole (Some s) mid new l k =
     )
 
 -- a part of the first is a part of both
-part_under : (xs ys zs : List Move) (done : List Step) →
+pub part_under : (xs ys zs : List Move) (done : List Step) →
     ((d : List Step) → IsPartOf d ys → IsPartOf d zs) → IsPartOf done (xs ++ ys) → IsPartOf done (xs ++ zs)
 part_under [] ys zs done more p = more done p
 part_under (One t ∷ xs) ys zs done more p = ⊎_elim (λ (e : done ≡ []). inl e)

@@ -31,7 +31,8 @@ abbrev pub HoldsPart : Text → ArchiveId → WalPart → Content → Type 0
 HoldsPart stanza id w f = (segment : Segment) → IsWithinSpan w.size.0 w.span segment → HoldsSegment stanza id f segment
 
 -- the segment is of the part, and f stores it with no sum, but all that stand before it
-pub record IsFirstMissing (stanza : Text) (id : ArchiveId) (w : WalPart) (segment : Segment) (f : Content) : Type 0 where
+pub record IsFirstMissing (stanza : Text) (id : ArchiveId) (w : WalPart) (segment : Segment) (f : Content)
+    : Type 0 where
   pub missing : StoresNone stanza id (Whole segment) f
   pub before : HoldsBefore stanza id w (position w.size.0 segment) f
 

@@ -26,19 +26,20 @@ pub record GoesByTurns (stanza : Text) (ts : List Turn) (old new : View) : Type 
   pub carries : CarriesOn stanza (ArchivePushAsync ts) (all_ended ts) old new
   pub between : PassesOnly stanza (ArchivePushAsync ts) old new
 
--- The spool keeps the log of a command that waits for these turns, as the repository does. At each moment each receipt that
--- the spool has, or a stop leaves, is of a file that a log with a part of them has stored.
+-- The spool keeps the log of a command that waits for these turns, as the repository does. At each moment each receipt
+-- that the spool has, or a stop leaves, is of a file that a log with a part of them has stored.
 pub record MarksByTurns (stanza : Text) (ts : List Turn) (repo spool new_spool : View) : Type 0 where
   pub told : IsSome spool.now → IsSome new_spool.now
   pub keeps : (q : Repository) (log : List Done) → IsSome repo.now → IsSome spool.now → Keeps stanza q log repo spool →
       KeepsSpool stanza q (record { command = ArchivePushAsync ts; acknowledged = all_ended ts } ∷ log) new_spool
-  pub between : (q : Repository) (log : List Done) → IsSome repo.now → IsSome spool.now → Keeps stanza q log repo spool →
-      LeavesOnly (HasReceiptsOf stanza q (record { command = ArchivePushAsync ts; acknowledged = false } ∷ log))
-      spool new_spool
+  pub between : (q : Repository) (log : List Done) → IsSome repo.now → IsSome spool.now →
+      Keeps stanza q log repo spool → LeavesOnly
+      (HasReceiptsOf stanza q (record { command = ArchivePushAsync ts; acknowledged = false } ∷ log)) spool new_spool
 
--- The account went on by turns, and these are all that was done to the repository and the spool. With `whole` each of them
--- ended well.
-pub record Went (whole : Bool) (old : Option Account) (new : Account) (repo new_repo old_spool new_spool : View) : Type 0 where
+-- The account went on by turns, and these are all that was done to the repository and the spool. With `whole` each of
+-- them ended well.
+pub record Went (whole : Bool) (old : Option Account) (new : Account) (repo new_repo old_spool new_spool : View)
+    : Type 0 where
   pub before : List Turned
   pub turned : List Turned
   pub was : old ≡ Some (record { stanza = new.stanza; turns = before })

@@ -115,7 +115,7 @@ fn look_once<D: Disk>(
 }
 
 /// The first segment of the part that isn't stored, where one is. Others work meanwhile: a file may come between the
-/// settling of its folder and the look, and not be settled itself. So where none is missing, all are looked for once more.
+/// settling of its folder and the look, and not be settled itself. So where none is missing, all are looked for again.
 pub(crate) fn first_missing<D: Disk>(
     alloc: Global,
     repo: &mut D,

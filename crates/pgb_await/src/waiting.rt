@@ -42,8 +42,8 @@ fn wait_turn<D: Disk, S: Disk, A: Aside<D, S>>(
     }
 }
 
-/// Waits until each segment of the part is archived under the id, for this many turns of other processes at most. While none
-/// is missing no turn is taken. pgBackRest's option `archive-timeout`.
+/// Waits until each segment of the part is archived under the id, for this many turns of other processes at most. Where
+/// none is missing no turn is taken. pgBackRest's option `archive-timeout`.
 pub fn await_segments<D: Disk, S: Disk, A: Aside<D, S>>(
     alloc: Global,
     repo: &mut D,
@@ -72,7 +72,7 @@ pub fn await_segments<D: Disk, S: Disk, A: Aside<D, S>>(
     ensures few { (n : ℕ) × (n ≤ turns) × Counts n (A.state aside.old).turns (A.state aside.new).turns }
     ensures later { (A.state aside.old).faults ≤ (A.state aside.new).faults }
     ensures quiet { IsSomeAnd (D.state repo.old).view.now (HoldsPart stanza.now id.now wal.now)
-        → aside.new ≡ aside.old }
+        → (aside.new ≡ aside.old) × (spool.new ≡ spool.old) }
 
     ensures cause { IfErr result (WaitCause stanza.now id.now wal.now turns (D.state repo.new).view.now
         (Rises (D.state repo.old).faults (D.state repo.new).faults)

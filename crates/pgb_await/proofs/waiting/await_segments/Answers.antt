@@ -9,7 +9,7 @@ use Rattle.pgb_await.proofs.waiting.await_segments.Goals as goal
 pub loop-init : goal.loop-init
 loop-init g c = record {
   waited = wait_begins (g.A.Aside.state c.args.aside.now) (g.D.Disk.state c.args.repo.now) (g.S.Disk.state c.args.spool.now);
-  quiet = λ h. (refl, refl);
+  quiet = λ h. (refl, refl, refl);
 }
 
 -- ---- within the loop
@@ -58,7 +58,7 @@ loop-preserved g c =
           × IfSome (g.D.Disk.state c.first_missing.new.repo).view.now (IsFirstMissing c.args.stanza.now c.args.id.now c.args.wal.now s)))
           c.in-Ok-Some.field-0-is c.in-Ok-Some.ensures.missing in
           absurd (none_missing c.args.stanza.now c.args.id.now c.args.wal.now c.in-Ok-Some.field-0-0 _ _ h
-          (c.first_missing.ensures.looks.now ∙ (c.loop.invariant.quiet h).1) missing.0 missing.1);
+          (c.first_missing.ensures.looks.now ∙ (c.loop.invariant.quiet h).2) missing.0 missing.1);
     }
 
 -- ---- behind it
