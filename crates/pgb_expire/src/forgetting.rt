@@ -1,5 +1,5 @@
 // The files of the archive that aren't needed are taken away.
-ghost use Rattle.std.specs.Prelude.{◌≡◌, List, false, map, IfErr, IsTrue, OnOk};
+ghost use Rattle.std.specs.Prelude.{◌≡◌, List, false, map, IfOk, IfErr, IsSome, IsTrue, OnOk};
 ghost use Rattle.pgb_outside.specs.Content.{Name, Value, Holds, is_below};
 ghost use Rattle.pgb_outside.specs.Moments.{MayKeep, is_loose};
 ghost use Rattle.pgb_outside.specs.Cause.{Rises};
@@ -9,6 +9,7 @@ ghost use Rattle.pgb_model.specs.Names.{archive_folder};
 ghost use Rattle.pgb_model.specs.Values.{entry_of};
 ghost use Rattle.pgb_expire.specs.Losing.{TakesAway, IsUnneeded};
 ghost use Rattle.pgb_expire.specs.Planning.{keeps_by};
+ghost use Rattle.pgb_expire.specs.Removed.{Counted};
 ghost use Rattle.pgb_expire.specs.Unneeded.{front_of, id_in, ids_in};
 ghost use Rattle.pgb_expire.specs.Fault.{IsStop};
 
@@ -45,6 +46,9 @@ fn forget_under<D: Disk>(
     ensures gone { OnOk result ((stanza : Text) → front.now ≡ front_of stanza → (n : Name)
         → (u : IsUnneeded stanza (keeps_by rules.now current (map entry_of entries.now)) n) → u.id ≡ id
         → IsAbsent (D.state d.new).view.now n) }
+    ensures counts { IfOk result (λ k. IsSome (D.state d.old).view.now → Counted (λ n. (stanza : Text) → front.now ≡ front_of stanza
+        → IsUnneeded stanza (keeps_by rules.now current (map entry_of entries.now)) n) k
+        (D.state d.old).view.now (D.state d.new).view.now) }
     ensures cause { IfErr result (IsStop (Rises (D.state d.old).faults (D.state d.new).faults)) }
 {
     let kept = spans(alloc, entries, &id, id.number == current, rules)?;
@@ -72,6 +76,9 @@ fn forget_each<D: Disk>(
     ensures gone { OnOk result ((stanza : Text) → front.now ≡ front_of stanza → (n : Name)
         → (u : IsUnneeded stanza (keeps_by rules.now current (map entry_of entries.now)) n) → In u.id (ids_in history.now)
         → IsAbsent (D.state d.new).view.now n) }
+    ensures counts { IfOk result (λ k. IsSome (D.state d.old).view.now → Counted (λ n. (stanza : Text) → front.now ≡ front_of stanza
+        → IsUnneeded stanza (keeps_by rules.now current (map entry_of entries.now)) n) k
+        (D.state d.old).view.now (D.state d.new).view.now) }
     ensures cause { IfErr result (IsStop (Rises (D.state d.old).faults (D.state d.new).faults)) }
 {
     let mut removed = 0u64;
@@ -103,6 +110,9 @@ pub(crate) fn forget<D: Disk>(
     ensures settled { OnOk result ((n : Name) (v : Value) → IsTrue (is_below (archive_folder stanza.now) n)
         → is_loose (D.state d.old).view n ≡ false → MayKeep (D.state d.new).view n v
         → Holds (D.state d.new).view.now n v) }
+    ensures counts { IfOk result (λ k. IsSome (D.state d.old).view.now
+        → Counted (IsUnneeded stanza.now (keeps_by rules.now current (map entry_of entries.now))) k
+        (D.state d.old).view.now (D.state d.new).view.now) }
     ensures cause { IfErr result (IsStop (Rises (D.state d.old).faults (D.state d.new).faults)) }
 {
     let folder = format!(in alloc; "archive/{stanza}")?;
