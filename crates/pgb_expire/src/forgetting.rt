@@ -42,7 +42,8 @@ fn forget_under<D: Disk>(
     rules: &Rules,
 ) -> Result<u64, ExpireFault>
     ensures takes { TakesAway (λ n. (stanza : Text) → front.now ≡ front_of stanza
-        → IsUnneeded stanza (keeps_by rules.now current (map entry_of entries.now)) n) (D.state d.old) (D.state d.new) }
+        → IsUnneeded stanza (keeps_by rules.now current (map entry_of entries.now)) n)
+        (D.state d.old) (D.state d.new) }
     ensures gone { OnOk result ((stanza : Text) → front.now ≡ front_of stanza → (n : Name)
         → (u : IsUnneeded stanza (keeps_by rules.now current (map entry_of entries.now)) n) → u.id ≡ id
         → IsAbsent (D.state d.new).view.now n) }
@@ -72,9 +73,11 @@ fn forget_each<D: Disk>(
     rules: &Rules,
 ) -> Result<u64, ExpireFault>
     ensures takes { TakesAway (λ n. (stanza : Text) → front.now ≡ front_of stanza
-        → IsUnneeded stanza (keeps_by rules.now current (map entry_of entries.now)) n) (D.state d.old) (D.state d.new) }
+        → IsUnneeded stanza (keeps_by rules.now current (map entry_of entries.now)) n)
+        (D.state d.old) (D.state d.new) }
     ensures gone { OnOk result ((stanza : Text) → front.now ≡ front_of stanza → (n : Name)
-        → (u : IsUnneeded stanza (keeps_by rules.now current (map entry_of entries.now)) n) → In u.id (ids_in history.now)
+        → (u : IsUnneeded stanza (keeps_by rules.now current (map entry_of entries.now)) n)
+        → In u.id (ids_in history.now)
         → IsAbsent (D.state d.new).view.now n) }
     ensures counts { IfOk result (λ k. IsSome (D.state d.old).view.now → Counted (λ n. (stanza : Text) → front.now ≡ front_of stanza
         → IsUnneeded stanza (keeps_by rules.now current (map entry_of entries.now)) n) k

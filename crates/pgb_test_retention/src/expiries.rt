@@ -132,7 +132,8 @@ fn check_left(rt: &impl Abort, alloc: Global, disk: &mut MemDisk) {
     check_done(rt, disk);
 }
 
-// Opened anew on what a stop at that moment leaves: the newest kept values; or the oldest, and garbage where any bytes may be.
+// Opened anew on what a stop at that moment leaves: the newest kept values; or the oldest, and garbage where any bytes may
+// be.
 fn stopped(
     alloc: Global,
     disk: &MemDisk,
