@@ -30,8 +30,8 @@ fn id_of(cluster: &ClusterId) -> ArchiveId
     }
 }
 
-// Takes the files of one cluster away that aren't kept with these backups listed, and tells how many there were. The front
-// is the stanza's folder of the archive with a slash.
+// Takes the files of one cluster away that aren't kept with these backups listed, and tells how many there were. The
+// front is the stanza's folder of the archive with a slash.
 fn forget_under<D: Disk>(
     alloc: Global,
     d: &mut D,
@@ -47,7 +47,8 @@ fn forget_under<D: Disk>(
     ensures gone { OnOk result ((stanza : Text) → front.now ≡ front_of stanza → (n : Name)
         → (u : IsUnneeded stanza (keeps_by rules.now current (map entry_of entries.now)) n) → u.id ≡ id
         → IsAbsent (D.state d.new).view.now n) }
-    ensures counts { IfOk result (λ k. IsSome (D.state d.old).view.now → Counted (λ n. (stanza : Text) → front.now ≡ front_of stanza
+    ensures counts { IfOk result (λ k. IsSome (D.state d.old).view.now
+        → Counted (λ n. (stanza : Text) → front.now ≡ front_of stanza
         → IsUnneeded stanza (keeps_by rules.now current (map entry_of entries.now)) n) k
         (D.state d.old).view.now (D.state d.new).view.now) }
     ensures cause { IfErr result (IsStop (Rises (D.state d.old).faults (D.state d.new).faults)) }
@@ -79,7 +80,8 @@ fn forget_each<D: Disk>(
         → (u : IsUnneeded stanza (keeps_by rules.now current (map entry_of entries.now)) n)
         → In u.id (ids_in history.now)
         → IsAbsent (D.state d.new).view.now n) }
-    ensures counts { IfOk result (λ k. IsSome (D.state d.old).view.now → Counted (λ n. (stanza : Text) → front.now ≡ front_of stanza
+    ensures counts { IfOk result (λ k. IsSome (D.state d.old).view.now
+        → Counted (λ n. (stanza : Text) → front.now ≡ front_of stanza
         → IsUnneeded stanza (keeps_by rules.now current (map entry_of entries.now)) n) k
         (D.state d.old).view.now (D.state d.new).view.now) }
     ensures cause { IfErr result (IsStop (Rises (D.state d.old).faults (D.state d.new).faults)) }
@@ -94,8 +96,8 @@ fn forget_each<D: Disk>(
     Ok(removed)
 }
 
-/// Takes the files of these clusters away that aren't kept with these backups listed, and settles the stanza's folder of the
-/// archive, so that a crash leaves there what the disk holds. Tells how many files there were.
+/// Takes the files of these clusters away that aren't kept with these backups listed, and settles the stanza's folder of
+/// the archive, so that a crash leaves there what the disk holds. Tells how many files there were.
 pub(crate) fn forget<D: Disk>(
     alloc: Global,
     d: &mut D,
