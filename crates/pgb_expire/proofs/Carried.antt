@@ -15,6 +15,7 @@ use Rattle.pgb_model.specs.Steady.{IsSteady}
 use Rattle.pgb_retain.specs.declared.rules.Rules.{Rules}
 use Rattle.pgb_retain.specs.Labels.{labels_of}
 use Rattle.pgb_expire.specs.Losing.{TakesAway, IsUnlisted, IsUnneeded}
+use Rattle.pgb_expire.specs.Removed.{Counted}
 use Rattle.pgb_expire.specs.Unneeded.{ids_in}
 use Rattle.pgb_expire.specs.Planning.{keeps_by}
 
@@ -31,6 +32,9 @@ module _ (stanza : Text) (es fs : List rust_entry.Entry) (same : es ≡ fs) wher
   module _ (rules : Rules) (current : ℕ) where
     pub unneeded_as : (a b : DiskState) → TakesAway (IsUnneeded stanza (keeps_by rules current (map entry_of es))) a b → TakesAway (IsUnneeded stanza (keeps_by rules current (map entry_of fs))) a b
     unneeded_as a b p = subst (λ (xs : List rust_entry.Entry). TakesAway (IsUnneeded stanza (keeps_by rules current (map entry_of xs))) a b) same p
+
+    pub counts_as : (k : ℕ) (o p : Option Content) → Counted (IsUnneeded stanza (keeps_by rules current (map entry_of es))) k o p → Counted (IsUnneeded stanza (keeps_by rules current (map entry_of fs))) k o p
+    counts_as k o p c = subst (λ (xs : List rust_entry.Entry). Counted (IsUnneeded stanza (keeps_by rules current (map entry_of xs))) k o p) same c
 
     pub gone_as : (history ids : List ClusterId) (o : Option Content) → history ≡ ids → ((n : Name) → (u : IsUnneeded stanza (keeps_by rules current (map entry_of es)) n) → In u.id (ids_in history) → IsAbsent o n)
         → (n : Name) → (u : IsUnneeded stanza (keeps_by rules current (map entry_of fs)) n) → In u.id (ids_in ids) → IsAbsent o n

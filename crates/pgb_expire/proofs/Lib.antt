@@ -19,11 +19,13 @@ pub mod WaysNow
 pub mod Planned
 pub mod Spelled
 pub mod Droppings
+pub mod Counts
 pub mod Removals
 pub mod Tellings
 pub mod Emptied
 pub mod Remaining
 pub mod Carried
+pub mod Gone
 pub mod Touched
 pub mod Whole
 pub mod Behind

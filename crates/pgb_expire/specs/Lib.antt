@@ -3,3 +3,4 @@ pub mod Expiry
 pub mod Losing
 pub mod Planning
 pub mod Unneeded
+pub mod Removed

@@ -1,5 +1,5 @@
 // What was planned is carried out: the backup pair first, then the folders, then the files of the archive.
-ghost use Rattle.std.specs.Prelude.{◌≤◌, ℕ, IfErr, IfSome, IsSome, OnOk, length};
+ghost use Rattle.std.specs.Prelude.{◌≤◌, ℕ, IfOk, IfErr, IfSome, IsSome, OnOk, length};
 ghost use Rattle.pgb_outside.specs.States.{Frame};
 ghost use Rattle.pgb_disk.specs.Store.{ChangesOnly};
 ghost use Rattle.pgb_outside.specs.Cause.{Rises};
@@ -9,6 +9,7 @@ ghost use Rattle.pgb_model.specs.Repository.{Stanza, IsSoundStanza};
 ghost use Rattle.pgb_story.specs.Beside.{StaysBeside};
 ghost use Rattle.pgb_expire.specs.Expiry.{retention, PartFrom, WholeFrom};
 ghost use Rattle.pgb_expire.specs.Losing.{MayExpire};
+ghost use Rattle.pgb_expire.specs.Removed.{CountsGone};
 ghost use Rattle.pgb_expire.specs.Planning.{IsPlan, left_text};
 ghost use Rattle.pgb_expire.specs.Fault.{IsStop};
 
@@ -41,6 +42,8 @@ pub(crate) fn carry_out<D: Disk>(
         → IsSoundStanza s
         → IsSome (D.state d.old).view.now
         → WholeFrom stanza.now (retention rules.now moment) s (D.state d.old).view (D.state d.new).view) }
+    ensures removed { IfOk result
+        (λ k. CountsGone stanza.now k (D.state d.old).view.now (D.state d.new).view.now) }
     ensures told { IsSome (D.state d.old).view.now → IsSome (D.state d.new).view.now }
     ensures only { ChangesOnly (MayExpire stanza.now) (D.state d.old).view (D.state d.new).view }
     ensures beside { StaysBeside stanza.now (D.state d.old).view (D.state d.new).view }

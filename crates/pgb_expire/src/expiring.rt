@@ -10,6 +10,7 @@ ghost use Rattle.pgb_story.specs.Beside.{StaysBeside};
 ghost use Rattle.pgb_retain.specs.Condemned.{condemned_labels};
 ghost use Rattle.pgb_expire.specs.Expiry.{listed, retention, ExpiresPart, ExpiresWhole, HasNeeded};
 ghost use Rattle.pgb_expire.specs.Losing.{MayExpire};
+ghost use Rattle.pgb_expire.specs.Removed.{CountsGone};
 ghost use Rattle.pgb_expire.specs.Fault.{ExpireCause, IfRefused};
 
 use crate::carrying::carry_out;
@@ -50,6 +51,8 @@ pub fn expire<D: Disk>(
     ensures labels { IfOk result (λ e. (s : Stanza) → IsSome (D.state d.old).view.now
         → NowStands stanza.now (Some s) (D.state d.old).view.now
         → e.labels.items ≡ condemned_labels rules.now moment (listed s)) }
+    ensures removed { IfOk result
+        (λ e. CountsGone stanza.now e.removed (D.state d.old).view.now (D.state d.new).view.now) }
     // Where one of the pairs has no value, only was read.
     ensures refused { IfErr result (λ e. IfRefused e (Looks (D.state d.old) (D.state d.new))) }
     // Nothing changes but the backup pair, folders of labels, and files of the archive that aren't histories of

@@ -10,7 +10,7 @@ use std::alloc::AllocError;
 /// Why an expiry isn't done, or not whole. The next makes good what it left.
 #[derive(Debug, Drop)]
 pub enum ExpireFault {
-    /// `archive.info` or `backup.info` has no value.
+    /// `archive.info` or `backup.info` is missing or damaged.
     Info(InfoFault),
     /// The disk's count of faults rose.
     Disk,
@@ -19,12 +19,16 @@ pub enum ExpireFault {
 
 impl From<InfoFault> for ExpireFault {
     ghost use Rattle.std.specs.Prelude.{◌≡◌};
-    ghost use Rattle.pgb_expire.specs.declared.fault.ExpireFault.TheVariants.{Info};
+    ghost use Rattle.pgb_expire.specs.Fault.{fault_of_info};
 
-    ghost from_gives = { λ f e. e ≡ Info f };
+    ghost from_gives = { λ f e. e ≡ fault_of_info f };
 
     fn from(fault: InfoFault) -> Self {
-        ExpireFault::Info(fault)
+        match fault {
+            InfoFault::Disk => ExpireFault::Disk,
+            InfoFault::NoMemory => ExpireFault::NoMemory,
+            found => ExpireFault::Info(found),
+        }
     }
 }
 

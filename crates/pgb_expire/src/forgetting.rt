@@ -1,5 +1,5 @@
 // The files of the archive that aren't needed are taken away.
-ghost use Rattle.std.specs.Prelude.{◌≡◌, List, false, map, IfErr, IsTrue, OnOk};
+ghost use Rattle.std.specs.Prelude.{◌≡◌, List, false, map, IfOk, IfErr, IsSome, IsTrue, OnOk};
 ghost use Rattle.pgb_outside.specs.Content.{Name, Value, Holds, is_below};
 ghost use Rattle.pgb_outside.specs.Moments.{MayKeep, is_loose};
 ghost use Rattle.pgb_outside.specs.Cause.{Rises};
@@ -9,6 +9,7 @@ ghost use Rattle.pgb_model.specs.Names.{archive_folder};
 ghost use Rattle.pgb_model.specs.Values.{entry_of};
 ghost use Rattle.pgb_expire.specs.Losing.{TakesAway, IsUnneeded};
 ghost use Rattle.pgb_expire.specs.Planning.{keeps_by};
+ghost use Rattle.pgb_expire.specs.Removed.{Counted};
 ghost use Rattle.pgb_expire.specs.Unneeded.{front_of, id_in, ids_in};
 ghost use Rattle.pgb_expire.specs.Fault.{IsStop};
 
@@ -29,8 +30,8 @@ fn id_of(cluster: &ClusterId) -> ArchiveId
     }
 }
 
-// Takes the files of one cluster away that aren't kept with these backups listed, and tells how many there were. The front
-// is the stanza's folder of the archive with a slash.
+// Takes the files of one cluster away that aren't kept with these backups listed, and tells how many there were. The
+// front is the stanza's folder of the archive with a slash.
 fn forget_under<D: Disk>(
     alloc: Global,
     d: &mut D,
@@ -41,10 +42,15 @@ fn forget_under<D: Disk>(
     rules: &Rules,
 ) -> Result<u64, ExpireFault>
     ensures takes { TakesAway (λ n. (stanza : Text) → front.now ≡ front_of stanza
-        → IsUnneeded stanza (keeps_by rules.now current (map entry_of entries.now)) n) (D.state d.old) (D.state d.new) }
+        → IsUnneeded stanza (keeps_by rules.now current (map entry_of entries.now)) n)
+        (D.state d.old) (D.state d.new) }
     ensures gone { OnOk result ((stanza : Text) → front.now ≡ front_of stanza → (n : Name)
         → (u : IsUnneeded stanza (keeps_by rules.now current (map entry_of entries.now)) n) → u.id ≡ id
         → IsAbsent (D.state d.new).view.now n) }
+    ensures counts { IfOk result (λ k. IsSome (D.state d.old).view.now
+        → Counted (λ n. (stanza : Text) → front.now ≡ front_of stanza
+        → IsUnneeded stanza (keeps_by rules.now current (map entry_of entries.now)) n) k
+        (D.state d.old).view.now (D.state d.new).view.now) }
     ensures cause { IfErr result (IsStop (Rises (D.state d.old).faults (D.state d.new).faults)) }
 {
     let kept = spans(alloc, entries, &id, id.number == current, rules)?;
@@ -68,10 +74,16 @@ fn forget_each<D: Disk>(
     rules: &Rules,
 ) -> Result<u64, ExpireFault>
     ensures takes { TakesAway (λ n. (stanza : Text) → front.now ≡ front_of stanza
-        → IsUnneeded stanza (keeps_by rules.now current (map entry_of entries.now)) n) (D.state d.old) (D.state d.new) }
+        → IsUnneeded stanza (keeps_by rules.now current (map entry_of entries.now)) n)
+        (D.state d.old) (D.state d.new) }
     ensures gone { OnOk result ((stanza : Text) → front.now ≡ front_of stanza → (n : Name)
-        → (u : IsUnneeded stanza (keeps_by rules.now current (map entry_of entries.now)) n) → In u.id (ids_in history.now)
+        → (u : IsUnneeded stanza (keeps_by rules.now current (map entry_of entries.now)) n)
+        → In u.id (ids_in history.now)
         → IsAbsent (D.state d.new).view.now n) }
+    ensures counts { IfOk result (λ k. IsSome (D.state d.old).view.now
+        → Counted (λ n. (stanza : Text) → front.now ≡ front_of stanza
+        → IsUnneeded stanza (keeps_by rules.now current (map entry_of entries.now)) n) k
+        (D.state d.old).view.now (D.state d.new).view.now) }
     ensures cause { IfErr result (IsStop (Rises (D.state d.old).faults (D.state d.new).faults)) }
 {
     let mut removed = 0u64;
@@ -84,8 +96,8 @@ fn forget_each<D: Disk>(
     Ok(removed)
 }
 
-/// Takes the files of these clusters away that aren't kept with these backups listed, and settles the stanza's folder of the
-/// archive, so that a crash leaves there what the disk holds. Tells how many files there were.
+/// Takes the files of these clusters away that aren't kept with these backups listed, and settles the stanza's folder of
+/// the archive, so that a crash leaves there what the disk holds. Tells how many files there were.
 pub(crate) fn forget<D: Disk>(
     alloc: Global,
     d: &mut D,
@@ -103,6 +115,9 @@ pub(crate) fn forget<D: Disk>(
     ensures settled { OnOk result ((n : Name) (v : Value) → IsTrue (is_below (archive_folder stanza.now) n)
         → is_loose (D.state d.old).view n ≡ false → MayKeep (D.state d.new).view n v
         → Holds (D.state d.new).view.now n v) }
+    ensures counts { IfOk result (λ k. IsSome (D.state d.old).view.now
+        → Counted (IsUnneeded stanza.now (keeps_by rules.now current (map entry_of entries.now))) k
+        (D.state d.old).view.now (D.state d.new).view.now) }
     ensures cause { IfErr result (IsStop (Rises (D.state d.old).faults (D.state d.new).faults)) }
 {
     let folder = format!(in alloc; "archive/{stanza}")?;

@@ -1,3 +1,6 @@
+use Rattle.std.proofs.Common.{Option, subst}
+use Rattle.pgb_outside.specs.Content.{Content}
+use Rattle.pgb_expire.specs.Removed.{CountsGone}
 use Rattle.pgb_disk.proofs.Changes.{only_on, only_rests}
 use Rattle.pgb_model.specs.Values.{archive_info_of, backup_info_of}
 use Rattle.pgb_story.proofs.Stays.{rests_beside, beside_on}
@@ -37,6 +40,9 @@ returns-clause-beside g c = beside_on c.args.stanza.now (g.D.Disk.state c.args.d
 
 pub returns-clause-only : goal.returns-clause-only
 returns-clause-only g c = only_on (MayExpire c.args.stanza.now) (g.D.Disk.state c.args.d.now).view (g.D.Disk.state c.plan.new.d).view (g.D.Disk.state c.carry_out.new.d).view (only_rests (MayExpire c.args.stanza.now) (g.D.Disk.state c.args.d.now).view (g.D.Disk.state c.plan.new.d).view c.plan.ensures.looks.time c.plan.ensures.looks.now) c.carry_out.ensures.only
+
+pub returns-clause-removed : goal.returns-clause-removed
+returns-clause-removed g c = subst (λ (o : Option Content). CountsGone c.args.stanza.now c.in_ok-removed.removed o (g.D.Disk.state c.carry_out.new.d).view.now) c.plan.ensures.looks.now c.in_ok-removed.ensures.removed
 
 pub returns-clause-labels : goal.returns-clause-labels
 returns-clause-labels g c = λ s told now. labels_are c.args.stanza.now c.args.rules.now c.args.moment c.in_ok-planned.planned.labels.items (backup_info_of c.in_ok-planned.planned.left) (archive_info_of c.in_ok-planned.planned.archive) (g.D.Disk.state c.args.d.now).view.now c.in_ok-planned.ensures.planned s told now
