@@ -7,6 +7,7 @@
 
 mod choosing;
 mod fault;
+mod fetching;
 mod filling;
 mod loading;
 mod looking;
@@ -16,6 +17,6 @@ mod starting;
 mod texts;
 
 pub use fault::RecoverFault;
-pub use order::{RecoverOrder, recover_order};
+pub use order::{RecoverOrder, RecoveryType, recover_order};
 pub use recovering::recover_backup;
 pub use texts::{recover_message, recover_status};
