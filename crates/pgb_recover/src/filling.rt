@@ -84,7 +84,8 @@ pub(crate) fn fill<T: Tree, L: Link, U: Turns>(
     requires seen { IfSome (T.state tree.old).nodes (λ f. IsTreeListing f (map seen_of seen.now)) }
     ensures finished { OnOk result (IfSome (T.state tree.new).nodes
         (IsFinished stanza.now (take order.now.workers (map L.link_state links.old.items))
-        (options_by stanza.now order.now.delta (recovery_type order.now.recovery)) (manifest_of manifest.now) (T.state tree.old).nodes)) }
+        (options_by stanza.now order.now.delta (recovery_type order.now.recovery)) (manifest_of manifest.now)
+        (T.state tree.old).nodes)) }
     ensures control { OnErr result
         (((T.state tree.new).nodes ≡ (T.state tree.old).nodes) ⊎ HasNone control_path (T.state tree.new).nodes) }
     ensures changes { IfErr result (λ halt. leaves_folder halt ≡ false) }

@@ -48,7 +48,8 @@ pub fn recover_order<'a>(
     requires repository_short { length repository.now < 2 ^ 16 }
     ensures order { IfOk result (λ o. (o.data_folder.now ≡ data_folder.now) × (o.repository.now ≡ repository.now)
         × (o.workers ≡ workers) × (o.delta ≡ delta)
-        × (recovery_type o.recovery ≡ recovery_type recovery.entry) × TellsSet (option_map (λ w. w.now) set.entry) o.set) }
+        × (recovery_type o.recovery ≡ recovery_type recovery.entry)
+        × TellsSet (option_map (λ w. w.now) set.entry) o.set) }
     ensures cause { IfErr result (HaltCause (WordCause (option_map (λ w. w.now) set.entry)) (λ _. ⊥)) }
 {
     let set = match set {

@@ -30,8 +30,9 @@ use pgb_outside::{Disk, Link, Tree, Turns};
 use pgb_stage::{Halt, Outcome};
 use std::alloc::Global;
 
-/// Puts a backup of the stanza into the data folder, and nothing else: the one that is asked for, or the last. The folder
-/// is empty, or with delta holds a cluster whose equal files stay. The first links read the repository, as many as the order has workers; the others aren't used.
+/// Puts a backup of the stanza into the data folder, and nothing else: the one that is asked for, or the last. The
+/// folder is empty, or with delta holds a cluster whose equal files stay. The first links read the repository, as many
+/// as the order has workers; the others aren't used.
 pub fn recover_backup<D: Disk, T: Tree, L: Link, U: Turns>(
     alloc: Global,
     repo: &mut D,
