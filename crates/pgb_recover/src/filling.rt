@@ -12,10 +12,12 @@ ghost use Rattle.pgb_restore.specs.Options.{options_of};
 ghost use Rattle.pgb_restore.specs.Finished.{IsFinished};
 ghost use Rattle.pgb_stage.specs.declared.object.Object.TheVariants.{DataFolder as TheFolder};
 ghost use Rattle.pgb_stage.specs.Halts.{HaltCause, Only};
+ghost use Rattle.pgb_recover.specs.Fetching.{recovery_type, options_by};
 ghost use Rattle.pgb_recover.specs.Ends.{leaves_folder};
 ghost use Rattle.pgb_recover.specs.Filling.{FillCause};
 
 use crate::fault::{RecoverFault, of_fill};
+use crate::fetching::{fetch_of, recovery_by};
 use crate::order::RecoverOrder;
 use crate::starting::{count_of, start_workers};
 use pgb_model::Manifest;
@@ -82,7 +84,8 @@ pub(crate) fn fill<T: Tree, L: Link, U: Turns>(
     requires seen { IfSome (T.state tree.old).nodes (λ f. IsTreeListing f (map seen_of seen.now)) }
     ensures finished { OnOk result (IfSome (T.state tree.new).nodes
         (IsFinished stanza.now (take order.now.workers (map L.link_state links.old.items))
-        (options_of order.now.options) (manifest_of manifest.now) (T.state tree.old).nodes)) }
+        (options_by stanza.now order.now.delta (recovery_type order.now.recovery)) (manifest_of manifest.now)
+        (T.state tree.old).nodes)) }
     ensures control { OnErr result
         (((T.state tree.new).nodes ≡ (T.state tree.old).nodes) ⊎ HasNone control_path (T.state tree.new).nodes) }
     ensures changes { IfErr result (λ halt. leaves_folder halt ≡ false) }
@@ -92,17 +95,16 @@ pub(crate) fn fill<T: Tree, L: Link, U: Turns>(
         (FillCause stanza.now (manifest_of manifest.now) (take order.now.workers (map L.link_state links.old.items)))
         (Only TheFolder (Rises (T.state tree.old).faults (T.state tree.new).faults))) }
 {
+    let Ok(fetch) = fetch_of(alloc, stanza, &order.recovery) else {
+        return Err(Halt::NoMemory);
+    };
+    let options = RestoreOptions {
+        delta: order.delta,
+        recovery: recovery_by(&order.recovery, &fetch),
+    };
     let mut lost = Vec::new(alloc);
     start_workers(alloc, links, order, &mut lost)?;
     put_files(
-        alloc,
-        stanza,
-        &order.options,
-        manifest,
-        seen,
-        links,
-        turns,
-        tree,
-        &mut lost,
+        alloc, stanza, &options, manifest, seen, links, turns, tree, &mut lost,
     )
 }

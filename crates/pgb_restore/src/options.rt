@@ -17,8 +17,9 @@ pub(crate) const SIGNAL: &str = "recovery.signal";
 pub enum Recovery<'a> {
     /// Not at all: only the files of the backup are restored.
     Nothing,
-    /// To the end of the archive. `fetch` is the command by which it fetches a log file, with each single quote doubled.
-    ToTheEnd { fetch: &'a str },
+    /// To the end of the archive. `fetch` is the command by which it fetches a log file; each single quote in it is
+    /// doubled.
+    ToTheEnd { fetch: &'a [u8] },
 }
 
 /// How a backup is to be restored (pgBackRest command reference, "Restore Command", options `delta` and `type`).

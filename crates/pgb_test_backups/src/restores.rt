@@ -307,7 +307,7 @@ fn settings_of_a_recovery(rt: HostRuntime) {
         options: RestoreOptions {
             delta: false,
             recovery: Recovery::ToTheEnd {
-                fetch: "pgbackrest --stanza=demo archive-get %f \"%p\"",
+                fetch: b"pgbackrest --stanza=demo archive-get %f \"%p\"",
             },
         },
         files: &[],

@@ -3,13 +3,13 @@ use Rattle.std.specs.Prelude.{IfSome}
 use Rattle.pgb_outside.specs.Cause.{Rises}
 use Rattle.pgb_outside.specs.Tree.{Nodes}
 use Rattle.pgb_model.specs.Values.{backup_info_of, manifest_of}
-use Rattle.pgb_restore.specs.Options.{options_of}
 use Rattle.pgb_restore.specs.Finished.{IsFinished}
 use Rattle.pgb_stage.specs.declared.object.Object.TheVariants.{DataFolder}
 use Rattle.pgb_stage.specs.Halts.{HaltCause, Only}
 use Rattle.pgb_stage.specs.Risen.{none, rose_in}
 use Rattle.pgb_recover.specs.Causes.{RecoverCause}
 use Rattle.pgb_recover.specs.Choosing.{IsChosen}
+use Rattle.pgb_recover.specs.Fetching.{recovery_type, options_by}
 use Rattle.pgb_recover.specs.Filling.{FillCause}
 use Rattle.pgb_recover.specs.Restoring.{Before, Chooses, Recovers}
 use Rattle.pgb_recover.proofs.Causing.{on_list, fill_recovers, folder_fails, rises_from}
@@ -22,7 +22,7 @@ returns-in_err-fill-clause-cause g c =
     let stanza = c.args.stanza.now in
     let set = c.args.order.now.set in
     let repo = (g.D.Disk.state c.args.repo.now).view.now in
-    let b : Before = record { stanza = stanza; set = set; repo = repo; nodes = (g.T.Tree.state c.args.tree.now).nodes; used = take c.args.order.now.workers (map g.L.Link.link_state c.args.links.now.items); options = options_of c.args.order.now.options } in
+    let b : Before = record { stanza = stanza; set = set; repo = repo; nodes = (g.T.Tree.state c.args.tree.now).nodes; used = take c.args.order.now.workers (map g.L.Link.link_state c.args.links.now.items); options = options_by stanza c.args.order.now.delta (recovery_type c.args.order.now.recovery) } in
     let label = c.in_ok-label.label in
     let m = manifest_of c.in_ok-manifest.manifest in
     let first = (g.T.Tree.state c.args.tree.now).faults in
@@ -43,7 +43,7 @@ returns-clause-given g c = λ s f told now.
     let stanza = c.args.stanza.now in
     let set = c.args.order.now.set in
     let repo = (g.D.Disk.state c.args.repo.now).view.now in
-    let b : Before = record { stanza = stanza; set = set; repo = repo; nodes = (g.T.Tree.state c.args.tree.now).nodes; used = take c.args.order.now.workers (map g.L.Link.link_state c.args.links.now.items); options = options_of c.args.order.now.options } in
+    let b : Before = record { stanza = stanza; set = set; repo = repo; nodes = (g.T.Tree.state c.args.tree.now).nodes; used = take c.args.order.now.workers (map g.L.Link.link_state c.args.links.now.items); options = options_by stanza c.args.order.now.delta (recovery_type c.args.order.now.recovery) } in
     let label = c.in_ok-label.label in
     let nodes = (g.T.Tree.state c.fill.new.tree).nodes in
     let recovers : Recovers b nodes (string_bytes c.in-Ok.lines) = record {
