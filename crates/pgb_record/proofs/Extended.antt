@@ -20,7 +20,7 @@ use Rattle.pgb_plan.specs.Listed.{Taken}
 use Rattle.pgb_record.specs.declared.recording.Head.{Head}
 use Rattle.pgb_record.specs.Ends.{AreReceived, IsReceived}
 use Rattle.pgb_record.specs.Entries.{Went, entries, rows, file_of}
-use Rattle.pgb_record.specs.Further.{put_in, with_further, MayBeAdded, Further, IsFurther, entry_in, with_name, with_kept, with_row, kept_of}
+use Rattle.pgb_record.specs.Further.{put_in, with_further, MayBeAdded, Further, IsFurther, entry_in, with_name, with_kept, with_row, kept_of, sum_in}
 use Rattle.pgb_record.specs.Item.{IsItem}
 use Rattle.pgb_record.specs.Making.{manifest_with, size_of}
 use Rattle.pgb_record.specs.Rows.{IsRow}
@@ -92,7 +92,7 @@ rows_sorted x w files kept fs cs order free =
 -- ---- its item, behind those of the jobs
 
 abbrev first_done : Further → Done
-first_done x = record { held = record { count = length x.bytes; told = Some x.bytes }; end = Whole x.entry.size x.sum }
+first_done x = record { held = record { count = length x.bytes; told = Some x.bytes }; end = Whole x.entry.size (sum_in x) }
 
 at_front : {X : Type 0} (xs ys : List X) (n : ℕ) (x : X) → slice_get xs n ≡ Some x → slice_get (xs ++ ys) n ≡ Some x
 at_front [] ys n x is = absurd (let e : ◌≡◌ {A = Option _} None (Some x) = is in cc)
@@ -113,10 +113,10 @@ module _ (stanza : Text) (label : Label) (kept : List Kept) where
   own_done : (x : Further) → IsFurther stanza label x → (i : ℕ) (d : Done) (n : ℕ) (sum : Sum) → slice_get (kept_of x).done i ≡ Some d → d.end ≡ Whole n sum → (bytes : Text) × IsReceived d n sum.0 bytes
   own_done x is zero d n sum at end =
       let same : first_done x ≡ d = (let e : ◌≡◌ {A = Option Done} (Some (first_done x)) (Some d) = at in cc) in
-      let ends : ◌≡◌ {A = ItemEnd} (Whole x.entry.size x.sum) (Whole n sum) = ap (λ (y : Done). y.end) same ∙ end in
+      let ends : ◌≡◌ {A = ItemEnd} (Whole x.entry.size (sum_in x)) (Whole n sum) = ap (λ (y : Done). y.end) same ∙ end in
       let size : x.entry.size ≡ n = cc in
-      let sum_is : x.sum ≡ sum = cc in
-      (x.bytes, record { told = ap (λ (y : Done). y.held.told) (sym same); number = sym size ∙ is.size; digest = ap (λ (y : Sum). y.0) (sym sum_is) ∙ sym is.sum_is ∙ is.digest })
+      let sum_is : sum_in x ≡ sum = cc in
+      (x.bytes, record { told = ap (λ (y : Done). y.held.told) (sym same); number = sym size ∙ is.size; digest = ap (λ (y : Sum). y.0) (sym sum_is) ∙ is.digest })
   own_done x is (suc i) d n sum at end = absurd (let e : ◌≡◌ {A = Option Done} None (Some d) = at in cc)
 
   -- what is received of all jobs, and of it
@@ -174,9 +174,9 @@ module _ (stanza : Text) (label : Label) (kept : List Kept) where
       of_is = at_end kept (kept_of x);
       done_is = refl;
       told = refl;
-      sum = x.sum;
+      sum = sum_in x;
       end = refl;
-      sum_is = is.sum_is;
+      sum_is = refl;
       at = λ some. is.at;
     }
 

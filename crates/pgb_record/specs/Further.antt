@@ -34,10 +34,9 @@ pub record MayBeAdded (fs : List Taken) (folders : List Text) (e : FileEntry) : 
 
 -- ---- its bytes
 
--- such a file: its entry, with its sum as the program has it, its bytes, and the name at which they lie
+-- such a file: its entry, its bytes, and the name at which they lie
 pub record Further : Type 0 where
   pub entry : FileEntry
-  pub sum : Sum
   pub bytes : Text
   pub name : Name
 
@@ -46,12 +45,14 @@ pub record IsFurther (stanza : Text) (label : Label) (x : Further) : Type 0 wher
   pub own : x.entry.reference ≡ None
   pub size : x.entry.size ≡ length x.bytes
   pub digest : x.entry.sum ≡ sha1 x.bytes
-  pub sum_is : x.entry.sum ≡ x.sum.0
   pub at : place stanza label x.entry ≡ (x.name, 0)
 
 abbrev pub entry_in : Option Further → Option FileEntry
 entry_in None = None
 entry_in (Some x) = Some x.entry
+
+abbrev pub sum_in : Further → Sum
+sum_in x = record { 0 = x.entry.sum }
 
 -- it counts as one job more, of one item
 abbrev pub with_name : Option Further → List Name → List Name
@@ -59,7 +60,7 @@ with_name None names = names
 with_name (Some x) names = names ++ x.name ∷ []
 
 abbrev pub kept_of : Further → Kept
-kept_of x = record { done = record { held = record { count = length x.bytes; told = Some x.bytes }; end = Whole x.entry.size x.sum } ∷ []; held = record { count = 0; told = Some [] } }
+kept_of x = record { done = record { held = record { count = length x.bytes; told = Some x.bytes }; end = Whole x.entry.size (sum_in x) } ∷ []; held = record { count = 0; told = Some [] } }
 
 abbrev pub with_kept : Option Further → List Kept → List Kept
 with_kept None kept = kept
