@@ -1,14 +1,18 @@
 -- A manifest with a further file, and the rows of its backup.
-use Rattle.std.proofs.Common.{◌≡◌, ◌⊎◌, ⊎_elim, inl, inr, ◌≤◌, ℕ, zero, suc, true, List, [], ◌∷◌, ◌++◌, length, map, Option, Some, None, refl, sym, ◌∙◌, ap, subst, arith, slice_get}
-use Rattle.std.specs.Prelude.{IfSome, option_map}
+use Rattle.std.proofs.Common.{◌≡◌, ◌⊎◌, ⊎_elim, ◌+◌, ◌-◌, inl, inr, ◌≤◌, ℕ, zero, suc, true, List, [], ◌∷◌, ◌++◌, length, map, Option, Some, None, refl, sym, ◌∙◌, ap, subst, arith, slice_get}
+use Rattle.std.specs.Prelude.{IfSome, IsSomeAnd, option_map, take, slice_range}
+use Rattle.std.proofs.lemmas.List.{take_all}
+use Rattle.std.proofs.lemmas.Option.{slice_get_within}
 use Rattle.std.specs.FinMap.{is_sorted}
 use Rattle.pgb_text.specs.declared.sum.Sum.{Sum}
-use Rattle.pgb_outside.specs.Content.{Name}
+use Rattle.pgb_outside.specs.Content.{Name, Content}
 use Rattle.pgb_outside.specs.Order.{are_in_order}
 use Rattle.pgb_model.specs.declared.labels.Label.{Label}
 use Rattle.pgb_model.specs.Text.{Text, Map, In, text_cmp}
 use Rattle.pgb_model.specs.ManifestText.{IsManifest, IsFileEntry}
+use Rattle.pgb_model.specs.Place.{LiesAt}
 use Rattle.pgb_model.specs.Repository.{File}
+use Rattle.pgb_label.specs.Placed.{IsPlaced, held_sum}
 use Rattle.pgb_model.specs.declared.files.FileEntry as rust
 use Rattle.pgb_model.specs.Values.{FileEntry, file_entry_of}
 use Rattle.pgb_worker_keep.specs.declared.ItemEnd.{ItemEnd}
@@ -91,6 +95,9 @@ rows_sorted x w files kept fs cs order free =
 
 -- ---- its item, behind those of the jobs
 
+slice_range_all : (t : Text) → slice_range t 0 (0 + length t) ≡ t
+slice_range_all t = let n : (0 + length t) - 0 ≡ length t = omega arith in ap (λ (k : ℕ). take k t) n ∙ take_all (length t) t (omega arith)
+
 abbrev first_done : Further → Done
 first_done x = record { held = record { count = length x.bytes; told = Some x.bytes }; end = Whole x.entry.size (sum_in x) }
 
@@ -144,6 +151,37 @@ module _ (stanza : Text) (label : Label) (kept : List Kept) where
       (λ (was : slice_get kept j ≡ Some k). counts j i k d bytes was at_d told)
       (λ (r : (j ≡ length kept) × (k ≡ kept_of x)). own_count x i d bytes (subst (λ (q : Kept). slice_get q.done i ≡ Some d) r.1 at_d) told)
       (at_either kept (kept_of x) j k at_k)
+
+  -- a job and what is held of it, or the file
+  pub at_both : (names : List Name) (x : Further) → length names ≡ length kept → (j : ℕ) (n : Name) (k : Kept) → slice_get (names ++ x.name ∷ []) j ≡ Some n → slice_get (kept ++ kept_of x ∷ []) j ≡ Some k
+      → ((slice_get names j ≡ Some n) × (slice_get kept j ≡ Some k)) ⊎ ((n ≡ x.name) × (k ≡ kept_of x))
+  at_both names x count j n k at_n at_k = ⊎_elim
+      (λ (a : slice_get names j ≡ Some n). ⊎_elim
+      (λ (b : slice_get kept j ≡ Some k). inl (a, b))
+      (λ (b : (j ≡ length kept) × (k ≡ kept_of x)). let within = slice_get_within names j n a in let last = b.0 in absurd (omega (arith, within, last, count)))
+      (at_either kept (kept_of x) j k at_k))
+      (λ (a : (j ≡ length names) × (n ≡ x.name)). ⊎_elim
+      (λ (b : slice_get kept j ≡ Some k). let within = slice_get_within kept j k b in let last = a.0 in absurd (omega (arith, within, last, count)))
+      (λ (b : (j ≡ length kept) × (k ≡ kept_of x)). inr (a.1, b.1))
+      (at_either kept (kept_of x) j k at_k))
+      (at_either names x.name j n at_n)
+
+  own_placed : (x : Further) (g : Content) → g x.name ≡ Some x.bytes → (i : ℕ) (d : Done) → slice_get (kept_of x).done i ≡ Some d → IsSomeAnd d.held.told (λ bytes. LiesAt g (x.name, held_sum (take i (kept_of x).done)) bytes × (length bytes ≡ d.held.count))
+  own_placed x g is zero d at =
+      let same : first_done x ≡ d = (let e : ◌≡◌ {A = Option Done} (Some (first_done x)) (Some d) = at in cc) in
+      subst (λ (y : Done). IsSomeAnd y.held.told (λ bytes. LiesAt g (x.name, 0) bytes × (length bytes ≡ y.held.count))) same ((x.bytes, is, slice_range_all x.bytes), refl)
+  own_placed x g is (suc i) d at = absurd (let e : ◌≡◌ {A = Option Done} None (Some d) = at in cc)
+
+  -- all lie in their places
+  pub with_placed : (names : List Name) (x : Option Further) (g : Content) → length names ≡ length kept → IfSome x (λ y. g y.name ≡ Some y.bytes) → IsPlaced names kept g → IsPlaced (with_name x names) (with_kept x kept) g
+  with_placed names None g count is placed = placed
+  with_placed names (Some x) g count is placed = record {
+    placed = λ j i n k d at_n at_k at_d some. ⊎_elim
+        (λ (y : (slice_get names j ≡ Some n) × (slice_get kept j ≡ Some k)). placed.placed j i n k d y.0 y.1 at_d some)
+        (λ (y : (n ≡ x.name) × (k ≡ kept_of x)). subst (λ (m : Name). IsSomeAnd d.held.told (λ bytes. LiesAt g (m, held_sum (take i k.done)) bytes × (length bytes ≡ d.held.count))) (sym y.0)
+        (subst (λ (q : Kept). IsSomeAnd d.held.told (λ bytes. LiesAt g (x.name, held_sum (take i q.done)) bytes × (length bytes ≡ d.held.count))) (sym y.1) (own_placed x g is i d (subst (λ (q : Kept). slice_get q.done i ≡ Some d) y.1 at_d))))
+        (at_both names x count j n k at_n at_k);
+  }
 
   module _ (names : List Name) where
     item_stays : (x : Further) (e : FileEntry) (bytes : Text) → IsItem stanza label names kept e bytes → IsItem stanza label (names ++ x.name ∷ []) (kept ++ kept_of x ∷ []) e bytes
