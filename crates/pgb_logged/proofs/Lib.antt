@@ -4,6 +4,7 @@ pub mod Reading
 pub mod Folders
 pub mod Begun
 pub mod Unlisted
+pub mod Listed
 pub mod Made
 pub mod Full
 pub mod Added

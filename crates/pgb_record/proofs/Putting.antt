@@ -41,6 +41,14 @@ module _ {X : Type 0} (path : X → Text) (x : X) where
       by true rest k = k
       by false rest k = ⊎_elim (λ (e : y ≡ z). inr (inl e)) (λ (r : In y (put_in path x zs)). ⊎_elim inl (λ (h : In y zs). inr (inr h)) (rest r)) k
 
+  pub put_there : (xs : List X) → In x (put_in path x xs)
+  put_there [] = inl refl
+  put_there (z ∷ zs) = by (is_before (path x) (path z)) (put_there zs)
+    where
+      by : (b : Bool) → In x (put_in path x zs) → In x (if b then x ∷ z ∷ zs else z ∷ put_in path x zs)
+      by true rest = inl refl
+      by false rest = inr rest
+
   pub put_sum : (f : X → ℕ) (xs : List X) → sum_by f (put_in path x xs) ≡ f x + sum_by f xs
   put_sum f [] = sum_by-cons f x []
   put_sum f (z ∷ zs) = by (is_before (path x) (path z)) (put_sum f zs)
