@@ -1,14 +1,12 @@
 -- A full backup that may be listed is a part of its command, and one that is listed is all of it.
-use Rattle.std.proofs.Common.{◌≡◌, ◌⊎◌, ⊎_elim, inl, inr, Bool, true, false, List, [], ◌∷◌, Option, Some, None, refl, sym, ◌∙◌, ap, subst}
-use Rattle.std.specs.Prelude.{IfSome, IsSome}
+use Rattle.std.proofs.Common.{◌≡◌, ◌⊎◌, ⊎_elim, inl, inr, Bool, true, false, List, [], ◌∷◌, Option, Some, None, refl, sym, ap, subst}
+use Rattle.std.specs.Prelude.{IsSome}
 use Rattle.pgb_outside.specs.Content.{Content}
 use Rattle.pgb_outside.specs.Moments.{View}
 use Rattle.pgb_outside.specs.Links.{LinkState}
-use Rattle.pgb_model.specs.declared.labels.Label.{Label}
 use Rattle.pgb_model.specs.declared.wal.WalPart.{WalPart}
-use Rattle.pgb_model.specs.Text.{In}
 use Rattle.pgb_model.specs.Values.{Manifest}
-use Rattle.pgb_model.specs.Repository.{Backup, Stanza, Repository, IsSound, IsSoundStanza, IsSoundBackup, HasItsSegments}
+use Rattle.pgb_model.specs.Repository.{Backup, Stanza, Repository, IsSound, IsSoundStanza, HasItsSegments}
 use Rattle.pgb_model.specs.Stands.{Stands, HasStanza}
 use Rattle.pgb_model.specs.Steps.{Step, Command, MakeBackup, AddBackup, changed, after, all_of, steps_of}
 use Rattle.pgb_model.specs.Log.{IsDone}

@@ -6,7 +6,6 @@ use Rattle.pgb_outside.specs.Moments.{View}
 use Rattle.pgb_outside.specs.Links.{LinkState, Told}
 use Rattle.pgb_worker_frame.specs.declared.frames.JobKind.{JobKind}
 use Rattle.pgb_worker_frame.specs.declared.frames.JobKind.TheVariants.{Read}
-use Rattle.pgb_worker_frame.specs.declared.frames.Root.TheVariants.{Tree}
 use Rattle.pgb_worker_frame.specs.Frames.{Item, Job}
 use Rattle.pgb_model.specs.declared.labels.Kind.TheVariants.{Full}
 use Rattle.pgb_model.specs.Text.{Text, In, text_cmp}
