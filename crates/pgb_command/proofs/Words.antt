@@ -1,5 +1,5 @@
 -- Why a command's words are refused.
-use Rattle.std.proofs.Common.{◌≡◌, ap, ℕ, Option, inl, inr, Result, Ok, Err, IfErr, refl, sym, subst}
+use Rattle.std.proofs.Common.{◌≡◌, ap, Option, inl, inr, Result, Ok, Err, IfErr, refl, sym, subst}
 use Rattle.std.specs.Prelude.{IsErrAnd}
 use Rattle.pgb_model.specs.Text.{Text}
 use Rattle.pgb_archive.specs.Still.{still_self}

@@ -1,7 +1,6 @@
 -- The command by which a restored server fetches the log.
-use Rattle.std.proofs.Common.{ℕ, zero, suc, ◌<◌, ◌+◌, arith, add-one, length, take, get_or, ◌≡◌, refl, sym, ap, ◌∙◌, List, [], ◌∷◌, ◌++◌, append_assoc}
+use Rattle.std.proofs.Common.{ℕ, zero, suc, ◌<◌, ◌+◌, arith, add-one, length, take, get_or, ◌≡◌, refl, sym, ap, ◌∙◌, [], ◌∷◌, ◌++◌, append_assoc}
 use Rattle.std.proofs.lemmas.List.{append-nil}
-use Rattle.pgb_model.specs.Restored.{Recovery}
 use Rattle.pgb_model.specs.Text.{Text}
 use Rattle.pgb_recover.specs.Fetching.{RecoveryType, doubled, doubled_byte, fetch_of, recovery_by, recovery_with}
 use Rattle.pgb_recover.specs.Fetching.RecoveryType.{Default, Without}

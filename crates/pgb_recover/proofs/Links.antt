@@ -1,5 +1,5 @@
 -- The links that are left when the workers were started, and those that are used.
-use Rattle.std.proofs.Common.{◌≡◌, ℕ, zero, suc, ◌<◌, ◌^◌, List, [], ◌∷◌, length, length-take, map, take, Option, Some, None, string_bytes, slice_get, refl, sym, ap, ◌∙◌, arith}
+use Rattle.std.proofs.Common.{◌≡◌, ℕ, zero, suc, ◌<◌, ◌^◌, List, [], ◌∷◌, length, length-take, map, take, Option, Some, string_bytes, slice_get, refl, sym, ap, ◌∙◌, arith}
 use Rattle.std.proofs.lemmas.List.{take-map, length-map}
 use Rattle.std.specs.Prelude.{IfSome}
 use Rattle.pgb_outside.specs.Cause.{Rises}

@@ -1,5 +1,5 @@
 -- How a restored server fetches the log (pgBackRest command reference, "Restore Command", option "type"; PostgreSQL manual, "restore_command").
-use Rattle.std.specs.Prelude.{ℕ, Bool, ◌==◌, List, [], ◌∷◌, ◌++◌, codes, Option, Some, None, option_map, if◌then◌else◌}
+use Rattle.std.specs.Prelude.{ℕ, Bool, ◌==◌, [], ◌∷◌, ◌++◌, codes, Option, Some, None, option_map, if◌then◌else◌}
 use Rattle.pgb_model.specs.Restored.{Recovery}
 use Rattle.pgb_model.specs.Restored.Recovery.{ToTheEnd, Nothing}
 use Rattle.pgb_model.specs.Text.{Text}

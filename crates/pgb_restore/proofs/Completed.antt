@@ -1,16 +1,15 @@
 -- From the marks to what was kept, and to the folder as it was before the control file went.
-use Rattle.std.proofs.Common.{ℕ, Bool, true, false, ◌≡◌, ◌≢◌, ◌⊎◌, inl, inr, ⊎_elim, refl, sym, ap, ◌∙◌, subst, List, length, Option, Some, None}
+use Rattle.std.proofs.Common.{ℕ, Bool, ◌≡◌, inl, inr, refl, sym, ap, ◌∙◌, subst, List, length, Option, Some, None}
 use Rattle.std.specs.Prelude.{IfSome}
-use Rattle.pgb_outside.specs.Content.{Content, at, SameBut}
+use Rattle.pgb_outside.specs.Content.{at, SameBut}
 use Rattle.pgb_outside.specs.Links.{LinkState}
 use Rattle.pgb_outside.specs.declared.tree.Node.{Node}
 use Rattle.pgb_outside.specs.declared.tree.Node.TheVariants.{File}
 use Rattle.pgb_outside.specs.Tree.{Nodes, Held, file, folder, link, other, file_bytes, IsTreeListing}
 use Rattle.pgb_model.specs.Text.{Text, In}
 use Rattle.pgb_model.specs.Values.{FileEntry, Manifest}
-use Rattle.pgb_worker_dispatch.specs.Payloads.{AllRead}
 use Rattle.pgb_clear.specs.Clearing.{control_path}
-use Rattle.pgb_restore.specs.Options.{Options, is_ordinary}
+use Rattle.pgb_restore.specs.Options.{Options}
 use Rattle.pgb_restore.specs.Entries.{AreOf}
 use Rattle.pgb_restore.specs.Kept.{IsKept, IsShown, MarksAlike, AreFilesOf, KeepsAlike}
 use Rattle.pgb_restore.specs.Finished.{HasCome, IsMarked, IsFinished}

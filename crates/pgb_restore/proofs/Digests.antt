@@ -1,27 +1,24 @@
 -- Jobs of one item each over a keeper in memory: how they end, and why they fail.
-use Rattle.std.proofs.Common.{ℕ, zero, suc, ◌≡◌, ◌≤◌, ◌<◌, ◌+◌, refl, sym, ap, ◌∙◌, subst, arith, lit<, List, [], ◌∷◌, ◌++◌, length, take, drop, map, Option, Some, None, slice_get, get_or, string_bytes}
+use Rattle.std.proofs.Common.{ℕ, zero, suc, ◌≡◌, ◌≤◌, ◌<◌, ◌+◌, refl, sym, ap, ◌∙◌, subst, arith, lit<, List, [], ◌∷◌, ◌++◌, length, take, drop, map, Option, Some, None, slice_get, get_or}
 use Rattle.std.specs.Prelude.{IsSomeAnd}
 use Rattle.std.proofs.lemmas.List.{length-map, map-append}
 use Rattle.sha1.specs.Sha1.{sha1}
 use Rattle.pgb_outside.specs.Content.{Content, Value}
 use Rattle.pgb_outside.specs.Links.{LinkState, Told}
 use Rattle.pgb_model.specs.declared.labels.Label.{Label}
-use Rattle.pgb_model.specs.Text.{Text, In}
+use Rattle.pgb_model.specs.Text.{Text}
 use Rattle.pgb_model.specs.Values.{FileEntry}
-use Rattle.pgb_worker_frame.specs.declared.frames.Root.{Root}
 use Rattle.pgb_worker_frame.specs.declared.frames.Root.TheVariants.{Tree, Repo}
-use Rattle.pgb_worker_frame.specs.declared.frames.JobKind.{JobKind}
 use Rattle.pgb_worker_frame.specs.declared.frames.JobKind.TheVariants.{Digest}
 use Rattle.pgb_worker_frame.specs.Frames.{Item, Job, FitsJob}
 use Rattle.pgb_worker_keep.specs.declared.ItemEnd.{ItemEnd}
 use Rattle.pgb_worker_keep.specs.declared.ItemEnd.TheVariants.{Whole, Vanished}
-use Rattle.pgb_worker_keep.specs.KeepState.{Held, Done, Kept}
+use Rattle.pgb_worker_keep.specs.KeepState.{Done, Kept}
 use Rattle.pgb_worker_reply.specs.Reads.{AllEnd, EndsAs, SumsBy, UnreadBy}
-use Rattle.pgb_worker_dispatch.specs.Payloads.{AllRead, AllByFile, AllEndByFile, EndsByFile}
+use Rattle.pgb_worker_dispatch.specs.Payloads.{AllByFile, AllEndByFile, EndsByFile}
 use Rattle.pgb_worker_dispatch.specs.Run.{EndedBy, AllDone, JobsFault}
 use Rattle.pgb_worker_dispatch.specs.declared.fault.Lost.{Lost}
 use Rattle.pgb_worker_dispatch.specs.declared.fault.DispatchFault.{DispatchFault}
-use Rattle.pgb_worker_dispatch.specs.declared.fault.DispatchFault.TheVariants as dispatch
 use Rattle.pgb_clear.proofs.Paths.{take_more, take_whole}
 use Rattle.pgb_fill.proofs.Listing.{map_get, some_within}
 use Rattle.pgb_source.specs.Sources.{IsEntry, source}
@@ -32,7 +29,7 @@ use Rattle.pgb_restore.specs.declared.fault.FillFault.TheVariants as faults
 use Rattle.pgb_restore.specs.Entries.{AreOf}
 use Rattle.pgb_restore.specs.Written.{IsWhole}
 use Rattle.pgb_restore.specs.Kept.{in_folder, digesting, IsDigestedBy}
-use Rattle.pgb_restore.specs.Digested.{file_of, first_end, end_of, IsEndOf, IsEndByFile, AreEnds, NamesCandidate}
+use Rattle.pgb_restore.specs.Digested.{file_of, first_end, end_of, IsEndByFile, AreEnds, NamesCandidate}
 use Rattle.pgb_restore.specs.Faults.{FillFails}
 use Rattle.pgb_restore.proofs.Filled.{one_left, the_one, all_gone}
 use Rattle.pgb_restore.proofs.ReadJobs.{in_at}

@@ -1,5 +1,5 @@
 -- A restore over links that are left, by the links that there were before.
-use Rattle.std.proofs.Common.{ℕ, zero, suc, Bool, ◌≡◌, ◌⊎◌, inl, inr, refl, sym, ap, ◌∙◌, subst, List, [], ◌∷◌, Option, Some, None, slice_get}
+use Rattle.std.proofs.Common.{ℕ, suc, ◌≡◌, inl, inr, refl, List, [], ◌∷◌, Option, Some, None, slice_get}
 use Rattle.std.specs.Prelude.{IfSome, IsSomeAnd}
 use Rattle.std.specs.List.{AllByRecursion}
 use Rattle.pgb_outside.specs.Content.{Content}
@@ -18,10 +18,10 @@ use Rattle.pgb_worker_dispatch.specs.declared.fault.Lost.{Lost}
 use Rattle.pgb_worker_dispatch.proofs.Reading.{all_at}
 use Rattle.pgb_source.specs.Sources.{source}
 use Rattle.pgb_restore.specs.Options.{Options}
-use Rattle.pgb_restore.specs.Kept.{IsDigestedBy, IsKept, KeepsAlike}
+use Rattle.pgb_restore.specs.Kept.{IsDigestedBy}
 use Rattle.pgb_restore.specs.Settings.{HasAdded}
 use Rattle.pgb_restore.specs.Left.{IsLeft}
-use Rattle.pgb_restore.specs.Finished.{HasEntry, HasCome, IsFinished}
+use Rattle.pgb_restore.specs.Finished.{HasCome, IsFinished}
 use Rattle.pgb_restore.proofs.Links.{reads_as, read_before}
 use Rattle.pgb_restore.proofs.Settled.{held_before}
 

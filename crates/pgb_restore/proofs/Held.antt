@@ -1,5 +1,5 @@
 -- A change of one job, seen as a keeper's.
-use Rattle.std.proofs.Common.{ℕ, zero, suc, refl, sym, ◌+◌, length-append, ◌≡◌, ◌<◌, List, [], ◌∷◌, ◌++◌, length, Some, map, All, subst, ap, ◌∙◌, slice_get, set, get_or, IsSomeAnd, arith}
+use Rattle.std.proofs.Common.{ℕ, zero, suc, ◌+◌, ◌≡◌, ◌<◌, List, [], ◌∷◌, ◌++◌, length, map, All, subst, ap, ◌∙◌, slice_get, set, get_or, IsSomeAnd, arith}
 use Rattle.std.proofs.lemmas.List.{map-set, map-append}
 use Rattle.pgb_worker_keep.specs.KeepState.{Kept, Holds, Adds, Ends, Clears, IsFresh}
 use Rattle.pgb_worker_keep.specs.Lists.{ChangesAt}

@@ -1,8 +1,8 @@
 -- One file of the backup that is read into memory.
-use Rattle.std.proofs.Common.{ℕ, zero, suc, ◌≡◌, ◌<◌, ◌≤◌, inl, refl, sym, ap, ◌∙◌, subst, arith, get_or, List, [], ◌∷◌, length, map, Option, Some, None, slice_get, string_bytes}
+use Rattle.std.proofs.Common.{ℕ, zero, suc, ◌≡◌, ◌≤◌, inl, refl, sym, ap, ◌∙◌, subst, arith, get_or, List, [], ◌∷◌, length, map, Option, Some, slice_get, string_bytes}
 use Rattle.std.specs.Prelude.{IfSome, OnOk, Result, Ok, Err}
 use Rattle.sha1.specs.Sha1.{sha1}
-use Rattle.pgb_outside.specs.Links.{LinkState, Told}
+use Rattle.pgb_outside.specs.Links.{LinkState}
 use Rattle.pgb_text.specs.declared.sum.Sum.{Sum}
 use Rattle.pgb_model.specs.declared.labels.Label.{Label}
 use Rattle.pgb_model.specs.Text.{Text}
@@ -12,7 +12,7 @@ use Rattle.pgb_worker_frame.specs.Frames.{Job}
 use Rattle.pgb_worker_keep.specs.declared.ItemEnd.{ItemEnd}
 use Rattle.pgb_worker_keep.specs.declared.ItemEnd.TheVariants.{Whole, Vanished}
 use Rattle.pgb_worker_keep.specs.KeepState.{Done, Kept}
-use Rattle.pgb_worker_reply.specs.Reads.{AllEnd, EndsAs, EndsWhole}
+use Rattle.pgb_worker_reply.specs.Reads.{AllEnd, EndsAs}
 use Rattle.pgb_worker_dispatch.specs.Run.{EndedBy, AllDone}
 use Rattle.pgb_worker_dispatch.specs.declared.fault.Lost.{Lost}
 use Rattle.pgb_source.specs.Sources.{source, reading}

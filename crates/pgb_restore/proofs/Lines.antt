@@ -1,9 +1,9 @@
 -- A settings file: its last line is ended, and it is written.
-use Rattle.std.proofs.Common.{ℕ, zero, suc, Bool, true, false, ◌≡◌, ◌≢◌, ◌<◌, ◌-◌, refl, sym, ap, ◌∙◌, subst, arith, cond, List, [], ◌∷◌, ◌++◌, append_assoc, length, Option, Some, None, option_map, slice_get, Result, Ok, Err}
+use Rattle.std.proofs.Common.{ℕ, suc, Bool, true, false, ◌≡◌, ◌≢◌, ◌-◌, refl, sym, ap, ◌∙◌, subst, arith, cond, List, [], ◌∷◌, ◌++◌, append_assoc, length, Option, Some, None, option_map, slice_get, Result, Ok, Err}
 use Rattle.std.specs.Prelude.{◌==◌, IfSome, OnOk, codes}
 use Rattle.std.proofs.lemmas.Bool.Decides.{nat_tests}
-use Rattle.pgb_outside.specs.Content.{Name, at}
-use Rattle.pgb_outside.specs.Tree.{Nodes, Held, file, with_node, longer, lengthened_file, ChangesFile}
+use Rattle.pgb_outside.specs.Content.{Name}
+use Rattle.pgb_outside.specs.Tree.{Nodes, file, with_node, longer, lengthened_file, ChangesFile}
 use Rattle.pgb_outside.specs.Links.{LinkState}
 use Rattle.pgb_model.specs.declared.labels.Label.{Label}
 use Rattle.pgb_model.specs.Restored.{conf_path, signal_path, line_end, settings_block}

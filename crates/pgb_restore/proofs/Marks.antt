@@ -1,24 +1,24 @@
 -- Marks of files that are kept.
-use Rattle.std.proofs.Common.{ℕ, zero, suc, Bool, true, false, cond, ◌≡◌, ◌≢◌, ◌⊎◌, inl, inr, ⊎_elim, ◌<◌, ◌≤◌, ◌+◌, ◌&&◌, refl, sym, ap, ◌∙◌, subst, arith, List, [], ◌∷◌, ◌++◌, length, map, set, Option, Some, None, slice_get, get_or, bytes_eq}
-use Rattle.std.specs.Prelude.{IsSomeAnd, ◌==◌, unwrap_or}
+use Rattle.std.proofs.Common.{ℕ, zero, suc, Bool, true, false, cond, ◌≡◌, ◌≢◌, ◌⊎◌, ⊎_elim, ◌<◌, ◌≤◌, ◌+◌, ◌&&◌, refl, sym, ap, ◌∙◌, subst, arith, List, [], ◌∷◌, ◌++◌, length, map, set, Option, Some, None, slice_get, get_or, bytes_eq}
+use Rattle.std.specs.Prelude.{◌==◌, unwrap_or}
 use Rattle.std.proofs.lemmas.Bool.{and_parts}
 use Rattle.std.proofs.lemmas.Bool.Decides.{nat_tests}
 use Rattle.std.proofs.lemmas.List.{length-set}
 use Rattle.std.proofs.lemmas.Slice.Eq.{bytes_eq-Decides}
-use Rattle.pgb_outside.specs.Links.{LinkState, Told}
+use Rattle.pgb_outside.specs.Links.{LinkState}
 use Rattle.pgb_outside.specs.declared.tree.Node.{Node}
 use Rattle.pgb_model.specs.Restored.{Recovery}
 use Rattle.pgb_model.specs.Text.{Text, In}
 use Rattle.pgb_model.specs.Values.{FileEntry}
 use Rattle.pgb_worker_keep.specs.declared.ItemEnd.{ItemEnd}
 use Rattle.pgb_worker_keep.specs.declared.ItemEnd.TheVariants.{Whole, Vanished}
-use Rattle.pgb_fill.proofs.Listing.{got, get_set_other, get_set_same, either_is, some_within}
+use Rattle.pgb_fill.proofs.Listing.{get_set_other, either_is, some_within}
 use Rattle.pgb_restore.specs.declared.candidates.Candidate.{Candidate}
-use Rattle.pgb_restore.specs.Options.{Options, is_ordinary}
+use Rattle.pgb_restore.specs.Options.{Options}
 use Rattle.pgb_restore.specs.Entries.{AreOf}
 use Rattle.pgb_restore.specs.Written.{IsWhole}
 use Rattle.pgb_restore.specs.Kept.{mark_at, marked, IsAlike, AllAlike, MarksAlike}
-use Rattle.pgb_restore.specs.Digested.{file_of, is_equal, AreCandidates, HasCandidates, AreEnds, marked_one, NoneMarked, IsEqualAt, IsMarkedBy, MarksEqual}
+use Rattle.pgb_restore.specs.Digested.{file_of, is_equal, AreCandidates, HasCandidates, AreEnds, marked_one, NoneMarked, IsMarkedBy, MarksEqual}
 use Rattle.pgb_restore.proofs.Digests.{some_is}
 use Rattle.pgb_restore.proofs.ReadEntries.{at_marked, marked_at}
 use Rattle.pgb_restore.proofs.ReadJobs.{at_in, in_at, got_map}

@@ -1,6 +1,6 @@
 -- Which entries are read, and which are kept.
-use Rattle.std.proofs.Common.{ℕ, zero, suc, Bool, true, false, not, ◌≡◌, ◌≢◌, ◌⊎◌, inl, inr, ⊎_elim, ◌<◌, ◌+◌, ◌&&◌, refl, sym, ap, ◌∙◌, subst, arith, add-one, List, [], ◌∷◌, ◌++◌, length, map, take, Option, Some, None, slice_get, bytes_eq, cond}
-use Rattle.std.specs.Prelude.{nat_lt, ◌==◌}
+use Rattle.std.proofs.Common.{ℕ, zero, suc, Bool, true, false, not, ◌≡◌, ◌≢◌, ◌⊎◌, inl, inr, ⊎_elim, ◌<◌, ◌+◌, ◌&&◌, refl, sym, ap, ◌∙◌, arith, add-one, List, [], ◌∷◌, ◌++◌, length, map, take, Option, Some, slice_get, bytes_eq, cond}
+use Rattle.std.specs.Prelude.{nat_lt}
 use Rattle.std.proofs.lemmas.Bool.{and_parts}
 use Rattle.std.proofs.lemmas.Bool.Decides.{nat_tests}
 use Rattle.std.proofs.lemmas.Slice.Eq.{bytes_eq-Decides}
@@ -12,7 +12,7 @@ use Rattle.pgb_clear.specs.Clearing.{control_path}
 use Rattle.pgb_clear.proofs.Ordered.{one_name}
 use Rattle.pgb_restore.specs.Options.{is_added, is_ordinary}
 use Rattle.pgb_restore.specs.Kept.{mark_at, marked}
-use Rattle.pgb_restore.specs.Entries.{is_read, read_one, reads_of}
+use Rattle.pgb_restore.specs.Entries.{is_read, reads_of}
 
 pub not_true : (b : Bool) → not b ≡ true → b ≡ true → ⊥
 not_true true e f = cc

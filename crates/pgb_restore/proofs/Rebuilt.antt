@@ -1,9 +1,6 @@
 -- A whole plain restore but the control file; and the control file, which stays away.
-use Rattle.std.proofs.Common.{ℕ, zero, suc, Bool, true, false, not, ◌≡◌, ◌≢◌, ◌⊎◌, inl, inr, ◌<◌, ◌&&◌, refl, sym, ap, ◌∙◌, subst, arith, List, [], ◌∷◌, ◌++◌, map, Option, Some, None, option_map, bytes_eq}
-use Rattle.std.specs.Prelude.{IfSome, codes, nat_lt, ◌==◌}
-use Rattle.std.proofs.lemmas.Grind.{common_steps}
-use Rattle.std.proofs.lemmas.Bool.Decides.{nat_tests}
-use Rattle.std.proofs.lemmas.Slice.Eq.{bytes_eq-Decides}
+use Rattle.std.proofs.Common.{Bool, true, false, ◌≡◌, ◌≢◌, refl, sym, subst, List, Option, Some, None}
+use Rattle.std.specs.Prelude.{IfSome}
 use Rattle.pgb_outside.specs.Content.{at}
 use Rattle.pgb_outside.specs.Links.{LinkState}
 use Rattle.pgb_outside.specs.declared.tree.Node.{Node}
@@ -12,21 +9,16 @@ use Rattle.pgb_model.specs.Restored.Recovery.{Nothing}
 use Rattle.pgb_model.specs.Text.{Text, In}
 use Rattle.pgb_model.specs.Values.{FileEntry, Manifest}
 use Rattle.pgb_model.specs.ManifestText.{IsManifest}
-use Rattle.pgb_worker_frame.specs.Frames.{Job}
-use Rattle.pgb_fill.specs.declared.files.Wanted.{Wanted}
-use Rattle.pgb_fill.specs.Files.{temporary_path}
-use Rattle.pgb_fill.specs.Keeping.{IsNoneOf}
-use Rattle.pgb_clear.specs.Clearing.{control_path, is_bare, Bares, without, with_folders, StaysNone}
+use Rattle.pgb_clear.specs.Clearing.{control_path, is_bare, Bares, without, with_folders}
 use Rattle.pgb_restore.specs.Options.{Options}
 use Rattle.pgb_restore.specs.Entries.{reads_of, IsFilled, Fills}
-use Rattle.pgb_restore.specs.Kept.{marked, AllAlike}
+use Rattle.pgb_restore.specs.Kept.{marked}
 use Rattle.pgb_restore.specs.Left.{IsLeft}
 use Rattle.pgb_restore.specs.Finished.{Rebuilds}
 use Rattle.pgb_worker_dispatch.specs.declared.fault.Lost.{Lost}
 use Rattle.pgb_source.specs.Sources.{source}
 use Rattle.pgb_restore.proofs.Links.{read_before}
 use Rattle.pgb_restore.specs.Listed.{IsListedBut, IsPlain, IsPrepared}
-use Rattle.pgb_clear.proofs.Nodes.{none_at}
 use Rattle.pgb_restore.proofs.Names.{control_lasts}
 use Rattle.pgb_restore.proofs.ReadEntries.{read_in, in_read, marked_in, ordinary_off, ordinary_some}
 use Rattle.pgb_restore.proofs.Plain.{bare_no_control, plain}

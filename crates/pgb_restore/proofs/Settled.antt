@@ -1,20 +1,20 @@
 -- The settings of a recovery beside all else.
-use Rattle.std.proofs.Common.{ℕ, Bool, true, false, ◌≡◌, ◌≢◌, ◌<◌, refl, sym, ap, ◌∙◌, subst, List, [], ◌∷◌, Option, Some, None}
+use Rattle.std.proofs.Common.{Bool, false, ◌≡◌, refl, sym, ap, ◌∙◌, subst, List, [], Option, Some, None}
 use Rattle.std.specs.Prelude.{IfSome}
 use Rattle.pgb_outside.specs.Content.{at}
 use Rattle.pgb_outside.specs.Links.{LinkState}
 use Rattle.pgb_outside.specs.Tree.{Nodes, Held}
 use Rattle.pgb_model.specs.declared.labels.Label.{Label}
 use Rattle.pgb_model.specs.ManifestText.{IsManifest}
-use Rattle.pgb_model.specs.Restored.{Recovery, conf_path, signal_path}
+use Rattle.pgb_model.specs.Restored.{Recovery, conf_path}
 use Rattle.pgb_model.specs.Restored.Recovery.{ToTheEnd, Nothing}
-use Rattle.pgb_model.specs.Text.{Text, In}
+use Rattle.pgb_model.specs.Text.{Text}
 use Rattle.pgb_model.specs.Values.{FileEntry, Manifest}
 use Rattle.pgb_worker_dispatch.specs.declared.fault.Lost.{Lost}
 use Rattle.pgb_fill.specs.Files.{temporary_path}
 use Rattle.pgb_source.specs.Sources.{source}
 use Rattle.pgb_restore.specs.Options.{Options, is_added}
-use Rattle.pgb_restore.specs.Settings.{IsBytesOf, WasHeld, HasSettings, HasAdded}
+use Rattle.pgb_restore.specs.Settings.{WasHeld, HasSettings}
 use Rattle.pgb_restore.specs.Listed.{IsPlain}
 use Rattle.pgb_restore.specs.Left.{IsLeft}
 use Rattle.pgb_restore.specs.Finished.{Settles}

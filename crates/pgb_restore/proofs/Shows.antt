@@ -1,5 +1,5 @@
 -- Candidates among the nodes that a listing shows.
-use Rattle.std.proofs.Common.{ℕ, zero, suc, Bool, true, false, ◌≡◌, ◌≢◌, ◌⊎◌, inl, inr, ⊎_elim, ◌<◌, ◌&&◌, refl, sym, ap, ◌∙◌, subst, arith, List, [], ◌∷◌, ◌++◌, length, map, Option, Some, None, slice_get, get_or, string_bytes, Less, Equal, Greater, nat_cmp}
+use Rattle.std.proofs.Common.{ℕ, zero, suc, Bool, true, false, ◌≡◌, ◌≢◌, ◌⊎◌, inl, inr, ⊎_elim, ◌<◌, ◌&&◌, refl, sym, ap, ◌∙◌, subst, arith, List, [], ◌∷◌, ◌++◌, length, map, Option, Some, slice_get, get_or, Less, Equal, Greater, nat_cmp}
 use Rattle.std.specs.Prelude.{◌==◌}
 use Rattle.std.specs.Cmp.Lexicographic.{slice_cmp}
 use Rattle.std.specs.List.{HoldsAt}
@@ -18,12 +18,12 @@ use Rattle.pgb_plan.proofs.Searched.{found, absent}
 use Rattle.pgb_plan.proofs.Sought.{name_of}
 use Rattle.pgb_clear.proofs.Bare.{in_left, in_split}
 use Rattle.pgb_clear.proofs.Ordered.{one_name}
-use Rattle.pgb_fill.proofs.Listing.{got, map_get, some_within}
+use Rattle.pgb_fill.proofs.Listing.{map_get}
 use Rattle.pgb_restore.specs.declared.candidates.Candidate.{Candidate}
 use Rattle.pgb_restore.specs.Options.{is_ordinary}
 use Rattle.pgb_restore.specs.Kept.{IsShown}
 use Rattle.pgb_restore.specs.Digested.{file_of, is_like, IsPlaceOf, IsLike, IsCandidate, IsCandidateBy, AddsCandidate, AreCandidates, HasCandidates}
-use Rattle.pgb_restore.proofs.ReadJobs.{at_in, in_at}
+use Rattle.pgb_restore.proofs.ReadJobs.{in_at}
 use Rattle.pgb_restore.proofs.Writes.{get_some}
 
 -- ---- a place that is looked for

@@ -1,11 +1,10 @@
 -- Which files of the data folder are kept. Own.
-use Rattle.std.specs.Prelude.{ℕ, Bool, true, false, ◌≡◌, ◌≤◌, List, [], ◌∷◌, length, Option, Some, None, IfSome, IsSomeAnd, slice_get, unwrap_or}
+use Rattle.std.specs.Prelude.{ℕ, Bool, true, false, ◌≡◌, List, [], ◌∷◌, length, Option, Some, IfSome, slice_get, unwrap_or}
 use Rattle.pgb_outside.specs.Content.{Content, at}
-use Rattle.pgb_outside.specs.Links.{LinkState, Told}
+use Rattle.pgb_outside.specs.Links.{LinkState}
 use Rattle.pgb_outside.specs.Tree.{Nodes, file, file_bytes}
 use Rattle.pgb_outside.specs.declared.tree.Node.{Node}
 use Rattle.pgb_outside.specs.declared.tree.Node.TheVariants.{File}
-use Rattle.pgb_model.specs.Restored.{Recovery}
 use Rattle.pgb_model.specs.Text.{Text, In}
 use Rattle.pgb_model.specs.Values.{FileEntry}
 use Rattle.pgb_worker_frame.specs.declared.frames.Root.TheVariants.{Tree}

@@ -1,5 +1,5 @@
 -- From a listed tree to that of a backup without its control file. Own.
-use Rattle.std.specs.Prelude.{ℕ, Bool, true, false, not, ◌≡◌, ◌≢◌, ◌&&◌, ◌⊎◌, ◌<◌, List, [], bytes_eq, Option, Some, None, option_map}
+use Rattle.std.specs.Prelude.{Bool, true, false, not, ◌≡◌, ◌≢◌, ◌&&◌, ◌⊎◌, List, [], bytes_eq, Option, Some, None, option_map}
 use Rattle.pgb_outside.specs.Links.{LinkState}
 use Rattle.pgb_outside.specs.Tree.{Nodes, folder, IsTreeListing}
 use Rattle.pgb_outside.specs.declared.tree.Node.{Node}

@@ -1,4 +1,4 @@
-use Rattle.std.proofs.Common.{◌+◌, take, get_or, arith}
+use Rattle.std.proofs.Common.{◌+◌, take, get_or}
 use Rattle.pgb_recover.proofs.Fetch.{doubled_more, take_byte}
 use Rattle.pgb_recover.proofs.fetching.add_doubled.Goals as goal
 

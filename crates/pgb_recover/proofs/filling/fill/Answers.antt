@@ -1,4 +1,4 @@
-use Rattle.std.proofs.Common.{◌≡◌, ◌∙◌, ap, subst, map, take}
+use Rattle.std.proofs.Common.{◌≡◌, ◌∙◌, subst, map, take}
 use Rattle.std.specs.Prelude.{IfSome}
 use Rattle.std.proofs.lemmas.Result.{on_ok_weaker}
 use Rattle.pgb_model.specs.Restored.{Recovery}

@@ -1,7 +1,5 @@
-use Rattle.std.proofs.Common.{◌≡◌, ◌∙◌, sym, ap, map, string_bytes}
-use Rattle.std.specs.Prelude.{◌≢◌}
-use Rattle.pgb_model.specs.Text.{In}
-use Rattle.pgb_model.specs.Values.{FileEntry, file_entry_of}
+use Rattle.std.proofs.Common.{◌∙◌, sym, map, string_bytes}
+use Rattle.pgb_model.specs.Values.{file_entry_of}
 use Rattle.pgb_fill.proofs.Listing.{got, map_get}
 use Rattle.pgb_restore.specs.Options.{recovery_of}
 use Rattle.pgb_restore.proofs.Shows.{none_like, unlike, path_at}

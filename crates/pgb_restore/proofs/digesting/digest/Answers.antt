@@ -1,6 +1,4 @@
-use Rattle.std.proofs.Common.{◌≡◌, ◌∙◌, ◌≤◌, map, length, refl, subst, sym, ap, arith, List, Option}
-use Rattle.std.proofs.lemmas.List.{length-map}
-use Rattle.pgb_worker_frame.specs.Frames.{Job}
+use Rattle.std.proofs.Common.{◌∙◌, map, length, refl, subst, sym, ap, arith, List, Option}
 use Rattle.pgb_worker_frame.specs.Views.{job_of}
 use Rattle.pgb_worker_keep.specs.declared.ItemEnd.{ItemEnd}
 use Rattle.pgb_source.specs.Sources.{source}

@@ -1,4 +1,4 @@
-use Rattle.std.proofs.Common.{◌≡◌, ◌∙◌, sym, ap, subst, arith, length, map, Some, slice_get, Option}
+use Rattle.std.proofs.Common.{◌≡◌, ◌∙◌, sym, ap, subst, arith, map, Option}
 use Rattle.std.specs.Prelude.{IfSome}
 use Rattle.pgb_worker_keep.specs.KeepState.{Kept}
 use Rattle.pgb_restore.specs.Holdings.{done_item, state_of}

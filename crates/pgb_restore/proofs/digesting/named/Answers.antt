@@ -1,4 +1,4 @@
-use Rattle.std.proofs.Common.{◌<◌, ◌∙◌, sym, ap, subst, length}
+use Rattle.std.proofs.Common.{◌∙◌, sym, ap, subst, length}
 use Rattle.pgb_worker_dispatch.specs.declared.fault.DispatchFault.{DispatchFault}
 use Rattle.pgb_fill.proofs.Listing.{got}
 use Rattle.pgb_restore.specs.declared.candidates.Candidate.{Candidate}

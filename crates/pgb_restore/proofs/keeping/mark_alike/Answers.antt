@@ -1,4 +1,4 @@
-use Rattle.std.proofs.Common.{◌≡◌, ◌≤◌, sym, subst, length, map, List, Option}
+use Rattle.std.proofs.Common.{sym, subst, map, List, Option}
 use Rattle.pgb_worker_keep.specs.declared.ItemEnd.{ItemEnd}
 use Rattle.pgb_restore.specs.Digested.{AreEnds}
 use Rattle.pgb_restore.proofs.Marks.{ends_long}

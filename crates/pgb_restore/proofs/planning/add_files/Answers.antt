@@ -1,6 +1,6 @@
-use Rattle.std.proofs.Common.{◌≡◌, ◌+◌, ◌∙◌, ◌++◌, ◌∷◌, [], sym, ap, map, take, Some, slice_get, Bool, List, length, arith}
+use Rattle.std.proofs.Common.{◌≡◌, ◌+◌, ◌∙◌, ◌++◌, ◌∷◌, [], sym, ap, map, take, Bool, List, arith}
 use Rattle.std.proofs.lemmas.List.{length-map}
-use Rattle.pgb_model.specs.Values.{FileEntry, file_entry_of}
+use Rattle.pgb_model.specs.Values.{file_entry_of}
 use Rattle.pgb_worker_frame.specs.Views.{job_of}
 use Rattle.pgb_clear.proofs.Bare.{in_at}
 use Rattle.pgb_clear.proofs.Paths.{take_whole}

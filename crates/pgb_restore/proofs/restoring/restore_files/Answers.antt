@@ -1,4 +1,4 @@
-use Rattle.std.proofs.Common.{◌≡◌, ◌∙◌, sym, ap, subst, map, arith, List, Bool}
+use Rattle.std.proofs.Common.{◌≡◌, sym, ap, subst, map, List, Bool}
 use Rattle.std.proofs.lemmas.Result.{on_ok_weaker, IfErr-weaker}
 use Rattle.pgb_model.specs.Text.{In}
 use Rattle.pgb_model.specs.Values.{FileEntry, file_entry_of, manifest_of}

@@ -1,4 +1,4 @@
-use Rattle.std.proofs.Common.{◌≡◌, ◌∙◌, ap, subst, map, List}
+use Rattle.std.proofs.Common.{◌∙◌, ap, subst, map, List}
 use Rattle.pgb_model.specs.Text.{In}
 use Rattle.pgb_model.specs.Values.{FileEntry, file_entry_of, manifest_of}
 use Rattle.pgb_restore.specs.Settings.{HoldsConf}

@@ -1,6 +1,5 @@
 use Rattle.std.proofs.Common.{◌≡◌, sym, ap, map}
 use Rattle.std.proofs.lemmas.Result.{on_ok_weaker}
-use Rattle.pgb_model.specs.Restored.{Recovery}
 use Rattle.pgb_model.specs.Restored.Recovery.{ToTheEnd}
 use Rattle.pgb_model.specs.Values.{manifest_of}
 use Rattle.pgb_clear.specs.Clearing.{control_path}

@@ -1,4 +1,3 @@
-use Rattle.std.proofs.Common.{◌≡◌, ◌∙◌, ◌++◌, ap}
 use Rattle.pgb_restore.proofs.Lines.{block_is}
 use Rattle.pgb_restore.proofs.settings.block.Goals as goal
 

@@ -1,4 +1,4 @@
-use Rattle.std.proofs.Common.{refl, ◌≡◌, ◌∙◌, ◌++◌, ap, sym, subst, Some, List, Bool, true, false}
+use Rattle.std.proofs.Common.{refl, ◌≡◌, ◌∙◌, ◌++◌, ap, sym, subst, Some, Bool, true, false}
 use Rattle.pgb_worker_keep.specs.declared.ItemEnd.{ItemEnd}
 use Rattle.pgb_model.specs.Values.{file_entry_of}
 use Rattle.pgb_restore.specs.Written.{IsWhole}
