@@ -21,7 +21,7 @@ use pgb_outside::Disk;
 use pgb_retain::Rules;
 use std::alloc::Global;
 
-/// What an expiry took away: the backups of these labels, in the order of the list, and so many files of the archive.
+/// What an expiry took away: the labels of the backups, in the order of the list, and the number of archive files.
 #[derive(Debug, Drop)]
 pub struct Expired {
     pub labels: Vec<Label>,
@@ -39,8 +39,8 @@ pub fn expire<D: Disk>(
     rules: &Rules,
     moment: u64,
 ) -> Result<Expired, ExpireFault>
-    // After every answer, and at each moment after a stop, the repository is as after a part of the expiry, and at Ok as
-    // after all of it.
+    // After every answer, and at each moment after a stop, the repository is as after a part of the expiry, and at Ok
+    // as after all of it.
     ensures part { ExpiresPart stanza.now (retention rules.now moment) (D.state d.old).view (D.state d.new).view }
     ensures whole { OnOk result
         (ExpiresWhole stanza.now (retention rules.now moment) (D.state d.old).view (D.state d.new).view) }
