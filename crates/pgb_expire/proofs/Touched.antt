@@ -23,7 +23,7 @@ use Rattle.pgb_story.proofs.Stays.{beside_on}
 use Rattle.pgb_stage.proofs.Besides.{pairs_beside}
 use Rattle.pgb_retain.specs.declared.rules.Rules.{Rules}
 use Rattle.pgb_retain.specs.Needed.{keeps_file, keeping_of}
-use Rattle.pgb_expire.specs.Losing.{TakesAway, IsUnlisted, IsUnneeded, IsInLabel, IsPassing, is_passing, MayExpire}
+use Rattle.pgb_expire.specs.Losing.{TakesAway, IsUnlisted, IsUnneeded, IsInLabel, IsPassing, is_passing, MayExpire, MayTouch}
 use Rattle.pgb_expire.specs.Planning.{keeps_by}
 use Rattle.pgb_expire.proofs.LabelFolders.{below_is}
 use Rattle.pgb_expire.proofs.Losses.{takes_only}
@@ -50,29 +50,35 @@ is_unkept rules current es id (Partial segment) off = refl
 is_unkept rules current es id (History timeline) off = let no : ◌≡◌ {A = Bool} true false = off in cc
 is_unkept rules current es id (Backup segment offset) off = refl
 
-unneeded_passing : (stanza : Text) (rules : Rules) (current : _) (es : List Entry) (n : Name) → IsUnneeded stanza (keeps_by rules current es) n → IsPassing stanza n
-unneeded_passing stanza rules current es n u = record { id = u.id; file = u.file; sum = u.sum; fits = u.fits; is = u.is; passing = is_unkept rules current es u.id u.file u.not_kept }
+-- whatever the list and the rules are
+pub touch_expires : (stanza : Text) (labels : List Label) (rules : Rules) (current : _) (es : List Entry) (a b : View) → ChangesOnly (MayTouch stanza labels (keeps_by rules current es)) a b → ChangesOnly (MayExpire stanza) a b
+touch_expires stanza labels rules current es a b p = only_wide (MayTouch stanza labels (keeps_by rules current es)) (MayExpire stanza) a b wider p
+  where
+    wider : (n : Name) → MayTouch stanza labels (keeps_by rules current es) n → MayExpire stanza n
+    wider n (inl h) = inl h
+    wider n (inr (inl u)) = inr (inl (record { label = u.label; is_label = u.is_label; below = u.below }))
+    wider n (inr (inr u)) = inr (inr (record { id = u.id; file = u.file; sum = u.sum; fits = u.fits; is = u.is; passing = is_unkept rules current es u.id u.file u.not_kept }))
 
 module _ (stanza : Text) (labels : List Label) (a b c d : DiskState) (saved : ChangesOnly (IsOfPair (backup_info stanza)) a.view b.view) where
   pub saved_beside : StaysBeside stanza a.view b.view
   saved_beside = pairs_beside stanza a.view b.view (only_wide (IsOfPair (backup_info stanza)) (IsOfPairs stanza) a.view b.view (λ n h. inr h) saved)
 
-  pub saved_only : ChangesOnly (MayExpire stanza) a.view b.view
-  saved_only = only_wide (IsOfPair (backup_info stanza)) (MayExpire stanza) a.view b.view (λ n h. inl h) saved
+  pub saved_only : (keeps : ArchiveId → ArchiveName → Bool) → ChangesOnly (MayTouch stanza labels keeps) a.view b.view
+  saved_only keeps = only_wide (IsOfPair (backup_info stanza)) (MayTouch stanza labels keeps) a.view b.view (λ n h. inl h) saved
 
   module _ (dropped : TakesAway (IsUnlisted stanza labels) b c) where
     pub dropped_beside : StaysBeside stanza a.view c.view
     dropped_beside = beside_on stanza a.view b.view c.view saved_beside
         (only_beside stanza (IsUnlisted stanza labels) b.view c.view (λ n u. in_label stanza u.label n u.below) (takes_only (IsUnlisted stanza labels) b c dropped))
 
-    pub dropped_only : ChangesOnly (MayExpire stanza) a.view c.view
-    dropped_only = only_on (MayExpire stanza) a.view b.view c.view saved_only
-        (only_wide (IsUnlisted stanza labels) (MayExpire stanza) b.view c.view (λ n u. inr (inl (record { label = u.label; is_label = u.is_label; below = u.below }))) (takes_only (IsUnlisted stanza labels) b c dropped))
+    pub dropped_only : (keeps : ArchiveId → ArchiveName → Bool) → ChangesOnly (MayTouch stanza labels keeps) a.view c.view
+    dropped_only keeps = only_on (MayTouch stanza labels keeps) a.view b.view c.view (saved_only keeps)
+        (only_wide (IsUnlisted stanza labels) (MayTouch stanza labels keeps) b.view c.view (λ n u. inr (inl u)) (takes_only (IsUnlisted stanza labels) b c dropped))
 
     pub gone_beside : (keeps : ArchiveId → ArchiveName → Bool) → TakesAway (IsUnneeded stanza keeps) c d → StaysBeside stanza a.view d.view
     gone_beside keeps gone = beside_on stanza a.view c.view d.view dropped_beside
         (only_beside stanza (IsUnneeded stanza keeps) c.view d.view (λ n u. in_archive stanza n (id_text u.id ⫽ archive_text u.file (sum_text u.sum)) u.is) (takes_only (IsUnneeded stanza keeps) c d gone))
 
-    pub gone_only : (rules : Rules) (current : _) (es : List Entry) → TakesAway (IsUnneeded stanza (keeps_by rules current es)) c d → ChangesOnly (MayExpire stanza) a.view d.view
-    gone_only rules current es gone = only_on (MayExpire stanza) a.view c.view d.view dropped_only
-        (only_wide (IsUnneeded stanza (keeps_by rules current es)) (MayExpire stanza) c.view d.view (λ n u. inr (inr (unneeded_passing stanza rules current es n u))) (takes_only (IsUnneeded stanza (keeps_by rules current es)) c d gone))
+    pub gone_only : (keeps : ArchiveId → ArchiveName → Bool) → TakesAway (IsUnneeded stanza keeps) c d → ChangesOnly (MayTouch stanza labels keeps) a.view d.view
+    gone_only keeps gone = only_on (MayTouch stanza labels keeps) a.view c.view d.view (dropped_only keeps)
+        (only_wide (IsUnneeded stanza keeps) (MayTouch stanza labels keeps) c.view d.view (λ n u. inr (inr u)) (takes_only (IsUnneeded stanza keeps) c d gone))

@@ -10,7 +10,7 @@ use Rattle.pgb_model.specs.Names.{archive_info}
 use Rattle.pgb_model.specs.Pair.{PairIs, PairAbsent}
 use Rattle.pgb_model.specs.InfoFiles.{IsArchiveText}
 use Rattle.pgb_model.specs.Values.{ArchiveInfo, BackupInfo, Entry}
-use Rattle.pgb_model.specs.Repository.{Stanza, Repository, IsSound, IsSoundStanza}
+use Rattle.pgb_model.specs.Repository.{Stanza, Repository, IsSound, IsSoundStanza, current_number}
 use Rattle.pgb_model.specs.Stands.{Stands, HasStanza, IsVacant}
 use Rattle.pgb_model.specs.Steps.{Step, Command, Expire, IsPartOf, expiry_moves, after, all_of, steps_of}
 use Rattle.pgb_model.specs.Now.{NowStands}
@@ -20,9 +20,12 @@ use Rattle.pgb_model.proofs.Steady.{steady_rests, rests_moves, front_moves}
 use Rattle.pgb_stage.specs.Runs.{IsPart}
 use Rattle.pgb_retain.specs.declared.rules.Rules.{Rules}
 use Rattle.pgb_retain.specs.Condemned.{condemned_labels}
-use Rattle.pgb_expire.specs.Expiry.{listed, retention, IsPartOfExpiry, PartFrom, WholeFrom, ExpiresPart, ExpiresWhole, HasNeeded}
-use Rattle.pgb_expire.specs.Planning.{IsPlan}
-use Rattle.pgb_expire.proofs.Ways.{entries_are, moves_as}
+use Rattle.pgb_expire.specs.Expiry.{IsTouched, listed, retention, IsPartOfExpiry, PartFrom, WholeFrom, ExpiresPart, ExpiresWhole, HasNeeded}
+use Rattle.pgb_disk.specs.Store.{ChangesOnly}
+use Rattle.pgb_retain.specs.Labels.{labels_of}
+use Rattle.pgb_expire.specs.Losing.{MayTouch}
+use Rattle.pgb_expire.specs.Planning.{IsPlan, keeps_by}
+use Rattle.pgb_expire.proofs.Ways.{entries_are, moves_as, left_entries, current_is}
 use Rattle.pgb_expire.proofs.RetentionHolds.{sound_here, needed_here}
 
 no_pair : (f : Content) (n : Text) (v : ArchiveInfo) → PairAbsent f n → PairIs IsArchiveText f n v → ⊥
@@ -110,3 +113,15 @@ module _ (stanza : Text) (rules : Rules) (moment : ℕ) where
       let f = told_as o told in
       let here = plan_at labels w archive o f.0 f.1 plan in
       here.are_gone ∙ ap (λ (es : List Entry). condemned_labels rules moment es) (entries_are stanza rules moment f.0 labels w archive here s (now.stands f.0 f.1))
+
+  -- what is changed is of the stanza
+  pub touched : (labels : List Label) (w : BackupInfo) (archive : ArchiveInfo) (a b : View) → IfSome a.now (λ f. IsPlan stanza rules moment f labels w archive) → ChangesOnly (MayTouch stanza (labels_of w.backups) (keeps_by rules archive.current w.backups)) a b
+      → (s : Stanza) → IsSome a.now → NowStands stanza (Some s) a.now → ChangesOnly (IsTouched stanza rules moment s) a b
+  touched labels w archive a b plan only s told now =
+      let f = told_as a.now told in
+      let here = plan_at labels w archive a.now f.0 f.1 plan in
+      let has = now.stands f.0 f.1 in
+      let entries = left_entries stanza rules moment f.0 labels w archive here s has in
+      let number = current_is stanza rules moment f.0 labels w archive here s has in
+      subst (λ (es : List Entry). ChangesOnly (MayTouch stanza (labels_of es) (keeps_by rules (current_number s) es)) a b) entries
+      (subst (λ (n : ℕ). ChangesOnly (MayTouch stanza (labels_of w.backups) (keeps_by rules n w.backups)) a b) number only)

@@ -15,7 +15,10 @@ use Rattle.pgb_stage.specs.Runs.{Goes, Comes}
 use Rattle.pgb_retain.specs.declared.rules.Rules.{Rules}
 use Rattle.pgb_retain.specs.Condemned.{is_condemned}
 use Rattle.pgb_retain.specs.Descent.{listed_in}
+use Rattle.pgb_retain.specs.Labels.{labels_of}
 use Rattle.pgb_retain.specs.Needed.{keeping_of, keeps_file}
+use Rattle.pgb_expire.specs.Losing.{MayTouch}
+use Rattle.pgb_expire.specs.Planning.{keeps_by}
 
 -- the stanza's backups as `backup.info` lists them
 abbrev pub listed : Stanza → List Entry
@@ -77,3 +80,9 @@ pub record HasNeeded (stanza : Text) (kept : Retention) (s : Stanza) (g : Conten
   pub has : HasStanza stanza g left
   pub backups : (b : Backup) → In b s.backups → kept.condemned s b.entry.label ≡ false → In b left.backups
   pub files : (a : Archived) → In a s.archived → kept.needed (changed (Condemn (kept.condemned s)) s) a ≡ true → In a left.archived
+
+-- what the expiry of a stanza may change: the backup pair, folders of labels that aren't listed in the end, and files that aren't needed then
+abbrev pub IsTouched : Text → Rules → ℕ → Stanza → Text → Type 0
+IsTouched stanza rules moment s name =
+    let left = changed (Condemn (is_condemned rules moment (listed s))) s in
+    MayTouch stanza (labels_of (listed left)) (keeps_by rules (current_number left) (listed left)) name

@@ -87,3 +87,7 @@ pub record IsPassing (stanza : Text) (name : Text) : Type 0 where
 -- a member of the backup pair or the name at which one is put first, a name in the folder of a label, or an archive file
 abbrev pub MayExpire : Text → Text → Type 0
 MayExpire stanza name = IsOfPair (backup_info stanza) name ⊎ (IsInLabel stanza name ⊎ IsPassing stanza name)
+
+-- a name of the backup pair, one in the folder of a label that isn't among these, or that of a file that isn't kept
+abbrev pub MayTouch : Text → List Label → (ArchiveId → ArchiveName → Bool) → Text → Type 0
+MayTouch stanza labels keeps name = IsOfPair (backup_info stanza) name ⊎ (IsUnlisted stanza labels name ⊎ IsUnneeded stanza keeps name)

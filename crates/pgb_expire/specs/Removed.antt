@@ -23,13 +23,13 @@ pub data Took (these : Name → Type 0) : List Name → Option Content → Optio
 abbrev pub IsCount : ℕ → List Name → Type 0
 IsCount k ns = k ≡ min (length ns) (2 ^ 64 - 1)
 
--- so many of these names were taken away, and nothing else changed
+-- k of these names were taken away, and nothing else changed
 pub record Counted (these : Name → Type 0) (k : ℕ) (old new : Option Content) : Type 0 where
   pub names : List Name
   pub took : Took these names old new
   pub count : IsCount k names
 
--- so many archive files are gone that the disk had, where that is told
+-- k archive files are gone that the disk had, where that is told
 pub record CountsGone (stanza : Text) (k : ℕ) (old new : Option Content) : Type 0 where
   pub counts : (f g : Content) → old ≡ Some f → new ≡ Some g
       → (names : List Name) × AreDistinct names × ((n : Name) → In n names ↔ (IsArchiveFile stanza n × IsSome (f n) × (g n ≡ None))) × IsCount k names

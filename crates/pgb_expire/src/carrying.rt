@@ -8,9 +8,10 @@ ghost use Rattle.pgb_model.specs.InfoFiles.{IsBackupInfo, info_limit};
 ghost use Rattle.pgb_model.specs.Repository.{Stanza, IsSoundStanza};
 ghost use Rattle.pgb_story.specs.Beside.{StaysBeside};
 ghost use Rattle.pgb_expire.specs.Expiry.{retention, PartFrom, WholeFrom};
-ghost use Rattle.pgb_expire.specs.Losing.{MayExpire};
+ghost use Rattle.pgb_expire.specs.Losing.{MayTouch};
+ghost use Rattle.pgb_retain.specs.Labels.{labels_of};
 ghost use Rattle.pgb_expire.specs.Removed.{CountsGone};
-ghost use Rattle.pgb_expire.specs.Planning.{IsPlan, left_text};
+ghost use Rattle.pgb_expire.specs.Planning.{IsPlan, keeps_by, left_text};
 ghost use Rattle.pgb_expire.specs.Fault.{IsStop};
 
 use crate::dropping::drop_unlisted;
@@ -45,7 +46,9 @@ pub(crate) fn carry_out<D: Disk>(
     ensures removed { IfOk result
         (λ k. CountsGone stanza.now k (D.state d.old).view.now (D.state d.new).view.now) }
     ensures told { IsSome (D.state d.old).view.now → IsSome (D.state d.new).view.now }
-    ensures only { ChangesOnly (MayExpire stanza.now) (D.state d.old).view (D.state d.new).view }
+    ensures touches { ChangesOnly (MayTouch stanza.now (labels_of (backup_info_of plan.now.left).backups)
+        (keeps_by rules.now (archive_info_of plan.now.archive).current (backup_info_of plan.now.left).backups))
+        (D.state d.old).view (D.state d.new).view }
     ensures beside { StaysBeside stanza.now (D.state d.old).view (D.state d.new).view }
     ensures frame { Frame (D.state d.old) (D.state d.new) }
     ensures cause { IfErr result (IsStop (Rises (D.state d.old).faults (D.state d.new).faults)) }

@@ -8,7 +8,7 @@ ghost use Rattle.pgb_model.specs.Now.{NowStands};
 ghost use Rattle.pgb_model.specs.Steady.{IsSteady, LeavesOnly};
 ghost use Rattle.pgb_story.specs.Beside.{StaysBeside};
 ghost use Rattle.pgb_retain.specs.Condemned.{condemned_labels};
-ghost use Rattle.pgb_expire.specs.Expiry.{listed, retention, ExpiresPart, ExpiresWhole, HasNeeded};
+ghost use Rattle.pgb_expire.specs.Expiry.{IsTouched, listed, retention, ExpiresPart, ExpiresWhole, HasNeeded};
 ghost use Rattle.pgb_expire.specs.Losing.{MayExpire};
 ghost use Rattle.pgb_expire.specs.Removed.{CountsGone};
 ghost use Rattle.pgb_expire.specs.Fault.{ExpireCause, IfRefused};
@@ -21,7 +21,7 @@ use pgb_outside::Disk;
 use pgb_retain::Rules;
 use std::alloc::Global;
 
-/// What an expiry took away: the backups of these labels, in the order of the list, and so many files of the archive.
+/// What an expiry took away: the labels of the backups, in the order of the list, and the number of archive files.
 #[derive(Debug, Drop)]
 pub struct Expired {
     pub labels: Vec<Label>,
@@ -39,8 +39,8 @@ pub fn expire<D: Disk>(
     rules: &Rules,
     moment: u64,
 ) -> Result<Expired, ExpireFault>
-    // After every answer, and at each moment after a stop, the repository is as after a part of the expiry, and at Ok as
-    // after all of it.
+    // After every answer, and at each moment after a stop, the repository is as after a part of the expiry, and at Ok
+    // as after all of it.
     ensures part { ExpiresPart stanza.now (retention rules.now moment) (D.state d.old).view (D.state d.new).view }
     ensures whole { OnOk result
         (ExpiresWhole stanza.now (retention rules.now moment) (D.state d.old).view (D.state d.new).view) }
@@ -58,6 +58,9 @@ pub fn expire<D: Disk>(
     // Nothing changes but the backup pair, folders of labels, and files of the archive that aren't histories of
     // timelines.
     ensures only { ChangesOnly (MayExpire stanza.now) (D.state d.old).view (D.state d.new).view }
+    ensures touches { (s : Stanza) → IsSome (D.state d.old).view.now
+        → NowStands stanza.now (Some s) (D.state d.old).view.now
+        → ChangesOnly (IsTouched stanza.now rules.now moment s) (D.state d.old).view (D.state d.new).view }
     ensures beside { StaysBeside stanza.now (D.state d.old).view (D.state d.new).view }
     ensures frame { Frame (D.state d.old) (D.state d.new) }
     ensures cause { IfErr result (ExpireCause stanza.now (D.state d.old).view.now

@@ -96,8 +96,8 @@ fn forget_each<D: Disk>(
     Ok(removed)
 }
 
-/// Takes the files of these clusters away that aren't kept with these backups listed, and settles the stanza's folder of
-/// the archive, so that a crash leaves there what the disk holds. Tells how many files there were.
+/// Takes the files of these clusters away that aren't kept with these backups listed, and settles the stanza's folder
+/// of the archive, so that a crash leaves there what the disk holds. Tells how many files there were.
 pub(crate) fn forget<D: Disk>(
     alloc: Global,
     d: &mut D,

@@ -15,8 +15,8 @@ fn is_id(a: &ArchiveId, b: &ArchiveId) -> bool
     *a == *b
 }
 
-/// Whether the name is that of a file which isn't kept under its id. The front is the stanza's folder of the archive with
-/// a slash.
+/// Whether the name is that of a file which isn't kept under its id. The front is the stanza's folder of the archive
+/// with a slash.
 pub(crate) fn is_unneeded(name: &str, front: &str, kept: &Kept) -> bool
     ensures yes { result ≡ true → Forgets front.now kept.now name.now }
     ensures no { result ≡ false → (stanza : Text) → front.now ≡ front_of stanza

@@ -61,7 +61,7 @@ gone_first Unset moment fulls = refl
 gone_first (Count n) moment fulls = ap (λ (k : ℕ). take k fulls) (sym (taken (length fulls - n) fulls (omega arith)))
 gone_first (Days days) moment fulls = before_first (is_old moment days) fulls
 
--- the labels that are left of all, where so many are
+-- the first n of all labels, where n backups go
 pub full_taken : (rule : FullRule) (moment : ℕ) (fulls : List Entry) (all left : List Label) (n : ℕ) → all ≡ labels_of fulls → n ≡ length (full_gone rule moment fulls) → left ≡ take n all → left ≡ labels_of (full_gone rule moment fulls)
 full_taken rule moment fulls all left n all_is n_is left_is =
     left_is ∙ ap (λ (l : List Label). take n l) all_is ∙ take-map (λ (e : Entry). e.label) n fulls ∙ ap (λ (k : ℕ). labels_of (take k fulls)) n_is ∙ ap labels_of (sym (gone_first rule moment fulls))

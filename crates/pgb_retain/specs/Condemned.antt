@@ -32,17 +32,17 @@ abbrev pub before_last : {X : Type 0} → (X → Bool) → List X → List X
 before_last passes [] = []
 before_last passes (x ∷ xs) = if has_some passes xs then x ∷ before_last passes xs else []
 
--- a backup that ended so many days ago, or earlier
+-- a backup that ended at least this number of days ago
 abbrev pub is_old : ℕ → ℕ → Entry → Bool
 is_old now days e = nat_le (e.stop + days * 86400) now
 
--- the full backups that the rule lets go: all but the last so many; or all before the last that is so old
+-- the full backups that the rule lets go: all but the last n; or all before the last old one
 abbrev pub full_gone : FullRule → ℕ → List Entry → List Entry
 full_gone Unset now fulls = []
 full_gone (Count n) now fulls = all_but_last n fulls
 full_gone (Days d) now fulls = before_last (is_old now d) fulls
 
--- the differentials that aren't among the last so many full and differential backups
+-- the differentials that aren't among the last n full and differential backups
 abbrev pub diffs_gone : Option ℕ → List Entry → List Entry
 diffs_gone None es = []
 diffs_gone (Some n) es = filter is_diff (all_but_last n (filter is_counted es))

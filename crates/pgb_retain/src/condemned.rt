@@ -46,8 +46,9 @@ fn listed_among(alloc: Global, entries: &[Entry], labels: &[Label]) -> Result<Ve
     Ok(out)
 }
 
-/// The labels of the backups that the rules let go at a moment, in the order of the list. The moment is in seconds since
-/// 1970, and counts only where the rule on full backups is one of days (`repo-retention-full`, `repo-retention-diff`).
+/// The labels of the backups that the rules let go at a moment, in the order of the list. The moment is in seconds
+/// since 1970, and counts only where the rule on full backups is one of days (`repo-retention-full`,
+/// `repo-retention-diff`).
 pub fn expired(
     alloc: Global,
     entries: &[Entry],

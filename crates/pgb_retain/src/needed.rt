@@ -36,7 +36,7 @@ pub fn spans(
     })
 }
 
-// How many backups with a span keep the log, of so many that there are.
+// How many backups with a span keep the log, where there are `count` of them.
 fn archive_number(rules: &Rules, count: u64) -> Option<u64>
     ensures { result ≡ archive_number rules.now count }
 {
@@ -67,7 +67,7 @@ fn keeps_all(current: bool, number: Option<u64>, count: u64) -> bool
     }
 }
 
-// The start of the span that stands so many from the end, or of the first.
+// The start of the span with this place from the end, or of the first where there are fewer.
 fn start_from(number: Option<u64>, spans: &[Span]) -> Option<Segment>
     ensures { result ≡ start_from number spans.now }
 {

@@ -1,8 +1,8 @@
 // What is to be kept (pgBackRest configuration reference, "Repository Options").
 use pgb_model::{ArchiveId, Kind, Segment, Span};
 
-/// How long full backups are kept (`repo-retention-full`, `repo-retention-full-type`): for ever, the last so many, or all
-/// from the last one on that ended at least so many days ago.
+/// How long full backups are kept (`repo-retention-full`, `repo-retention-full-type`): for ever; the last `Count`; or all
+/// from the last one on that ended at least `Days` days ago.
 #[derive(Clone, Copy, Debug, PartialEq, Eq)]
 pub enum FullRule {
     Unset,
@@ -22,8 +22,8 @@ pub struct Rules {
     pub archive_kind: Kind,
 }
 
-/// What is kept of the files under an id: all; or what isn't before `from`, where there is one, and what lies within the
-/// spans. Histories of timelines are always kept.
+/// What is kept of the files under an id: all; or what isn't before `from`, where there is one, and what lies within
+/// the spans. Histories of timelines are always kept.
 #[derive(Debug, Drop)]
 pub struct Kept {
     pub id: ArchiveId,

@@ -50,7 +50,7 @@ fn labels_of_full(alloc: Global, entries: &[Entry]) -> Result<Vec<Label>, NoMemo
     Ok(labels)
 }
 
-// Whether a backup ended at least so many days before the moment, which is in seconds since 1970.
+// Whether a backup ended at least this number of days before the moment, which is in seconds since 1970.
 fn is_old(entry: &Entry, days: u32, moment: u64) -> bool
     ensures { result ≡ is_old moment days (entry_of entry.now) }
 {
@@ -58,7 +58,7 @@ fn is_old(entry: &Entry, days: u32, moment: u64) -> bool
     age <= moment && entry.stop <= moment - age
 }
 
-// How many full backups stand before the last one that is so old.
+// How many full backups stand before the last old one.
 fn before_last_old(entries: &[Entry], days: u32, moment: u64) -> usize
     ensures { result ≡ length (before_last (is_old moment days) (filter is_full (map entry_of entries.now))) }
 {
@@ -75,7 +75,7 @@ fn before_last_old(entries: &[Entry], days: u32, moment: u64) -> usize
     before
 }
 
-// How many of the full backups the rule lets go, of so many that there are: they stand before all others.
+// How many of the full backups the rule lets go, where there are `fulls` of them: they stand before all others.
 fn count_gone(entries: &[Entry], fulls: usize, rule: FullRule, moment: u64) -> usize
     requires { fulls ≡ length (filter is_full (map entry_of entries.now)) }
     ensures { result ≡ length (full_gone rule moment (filter is_full (map entry_of entries.now))) }
@@ -153,8 +153,8 @@ fn diffs_of(alloc: Global, marks: &[Mark]) -> Result<Vec<Label>, NoMemory>
     Ok(labels)
 }
 
-/// The labels of the differentials that aren't among the last so many of the full and differential backups without these
-/// labels.
+/// The labels of the differentials that aren't among the last n full and differential backups, where those that go by
+/// these labels aren't counted.
 pub(crate) fn diff_labels(
     alloc: Global,
     entries: &[Entry],

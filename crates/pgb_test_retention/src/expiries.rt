@@ -16,7 +16,7 @@ const NONE: &[&str] = &[];
 
 const ALL: &[&[Held]] = &[GOES, UNLISTED, STAYS];
 
-// So many full backups are kept, and the log from so many on.
+// How many full backups are kept, and from how many on the log is.
 fn rules(full: u32, archive: Option<u32>) -> Rules {
     Rules {
         full: FullRule::Count(full),
@@ -132,8 +132,8 @@ fn check_left(rt: &impl Abort, alloc: Global, disk: &mut MemDisk) {
     check_done(rt, disk);
 }
 
-// Opened anew on what a stop at that moment leaves: the newest kept values; or the oldest, and garbage where any bytes may
-// be.
+// Opened anew on what a stop at that moment leaves: the newest kept values; or the oldest, and garbage where any bytes
+// may be.
 fn stopped(
     alloc: Global,
     disk: &MemDisk,

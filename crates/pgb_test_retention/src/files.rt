@@ -36,8 +36,8 @@ const NEXT: &[Listed] = &[(F2, None, 2, Some((5, 5)), 4)];
 /// A backup of a stopped server.
 const OFFLINE: &[Listed] = &[(F2, None, 1, None, 4)];
 
-/// The backups, whether cluster 1 is the current one, the rules on full backups, on the archive and its kind, and which of
-/// segments 1 to 6 are kept.
+/// The backups, whether cluster 1 is the current one, the rules on full backups, on the archive and its kind, and
+/// which of segments 1 to 6 are kept.
 type Row = (
     &'static [Listed],
     bool,

@@ -1,5 +1,5 @@
-// A stanza with two full backups, of which the first has segment 2 and the second segment 5, and six segments. Checksums of
-// texts and digests of segments are by `sha1sum`.
+// A stanza with two full backups, of which the first has segment 2 and the second segment 5, and six segments.
+// Checksums of texts and digests of segments are by `sha1sum`.
 use pgb_memory::{MemDisk, named_bytes};
 use std::alloc::{AllocError, Global};
 

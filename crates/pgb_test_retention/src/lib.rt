@@ -1,5 +1,5 @@
-//! Tests of retention: which backups and which files the rules let go, by tables, and expiries over a disk in memory, stopped
-//! at each of their moments, and with each call failing in turn. By values from outside.
+//! Tests of retention: which backups and which files the rules let go, by tables, and expiries over a disk in memory,
+//! stopped at each of their moments, and with each call failing in turn. By values from outside.
 #![tactic(auto)]
 
 #[cfg(test)]

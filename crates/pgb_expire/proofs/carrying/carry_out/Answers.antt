@@ -50,17 +50,17 @@ returns-in_err-drop_unlisted-clause-told g c = λ told. ((takes_goes (IsUnlisted
 pub returns-in_err-save_left-clause-beside : goal.returns-in_err-save_left-clause-beside
 returns-in_err-save_left-clause-beside g c = saved_beside c.args.stanza.now (labels_of (map entry_of c.args.plan.now.left.backups.items)) (g.D.Disk.state c.args.d.now) (g.D.Disk.state c.save_left.new.d) (g.D.Disk.state c.save_left.new.d) (g.D.Disk.state c.save_left.new.d) c.save_left.ensures.only
 
-pub returns-in_err-save_left-clause-only : goal.returns-in_err-save_left-clause-only
-returns-in_err-save_left-clause-only g c = saved_only c.args.stanza.now (labels_of (map entry_of c.args.plan.now.left.backups.items)) (g.D.Disk.state c.args.d.now) (g.D.Disk.state c.save_left.new.d) (g.D.Disk.state c.save_left.new.d) (g.D.Disk.state c.save_left.new.d) c.save_left.ensures.only
+pub returns-in_err-save_left-clause-touches : goal.returns-in_err-save_left-clause-touches
+returns-in_err-save_left-clause-touches g c = saved_only c.args.stanza.now (labels_of (map entry_of c.args.plan.now.left.backups.items)) (g.D.Disk.state c.args.d.now) (g.D.Disk.state c.save_left.new.d) (g.D.Disk.state c.save_left.new.d) (g.D.Disk.state c.save_left.new.d) c.save_left.ensures.only (keeps_by c.args.rules.now c.args.plan.now.archive.current (map entry_of c.args.plan.now.left.backups.items))
 
 pub returns-in_err-drop_unlisted-clause-beside : goal.returns-in_err-drop_unlisted-clause-beside
 returns-in_err-drop_unlisted-clause-beside g c = dropped_beside c.args.stanza.now (labels_of (map entry_of c.args.plan.now.left.backups.items)) (g.D.Disk.state c.args.d.now) (g.D.Disk.state c.save_left.new.d) (g.D.Disk.state c.drop_unlisted.new.d) (g.D.Disk.state c.drop_unlisted.new.d) c.save_left.ensures.only (unlisted_as c.args.stanza.now _ _ c.deref.ensures.value (g.D.Disk.state c.save_left.new.d) (g.D.Disk.state c.drop_unlisted.new.d) c.drop_unlisted.ensures.takes)
 
-pub returns-in_err-drop_unlisted-clause-only : goal.returns-in_err-drop_unlisted-clause-only
-returns-in_err-drop_unlisted-clause-only g c = dropped_only c.args.stanza.now (labels_of (map entry_of c.args.plan.now.left.backups.items)) (g.D.Disk.state c.args.d.now) (g.D.Disk.state c.save_left.new.d) (g.D.Disk.state c.drop_unlisted.new.d) (g.D.Disk.state c.drop_unlisted.new.d) c.save_left.ensures.only (unlisted_as c.args.stanza.now _ _ c.deref.ensures.value (g.D.Disk.state c.save_left.new.d) (g.D.Disk.state c.drop_unlisted.new.d) c.drop_unlisted.ensures.takes)
+pub returns-in_err-drop_unlisted-clause-touches : goal.returns-in_err-drop_unlisted-clause-touches
+returns-in_err-drop_unlisted-clause-touches g c = dropped_only c.args.stanza.now (labels_of (map entry_of c.args.plan.now.left.backups.items)) (g.D.Disk.state c.args.d.now) (g.D.Disk.state c.save_left.new.d) (g.D.Disk.state c.drop_unlisted.new.d) (g.D.Disk.state c.drop_unlisted.new.d) c.save_left.ensures.only (unlisted_as c.args.stanza.now _ _ c.deref.ensures.value (g.D.Disk.state c.save_left.new.d) (g.D.Disk.state c.drop_unlisted.new.d) c.drop_unlisted.ensures.takes) (keeps_by c.args.rules.now c.args.plan.now.archive.current (map entry_of c.args.plan.now.left.backups.items))
 
 pub returns-clause-beside : goal.returns-clause-beside
 returns-clause-beside g c = gone_beside c.args.stanza.now (labels_of (map entry_of c.args.plan.now.left.backups.items)) (g.D.Disk.state c.args.d.now) (g.D.Disk.state c.save_left.new.d) (g.D.Disk.state c.drop_unlisted.new.d) (g.D.Disk.state c.forget.new.d) c.save_left.ensures.only (unlisted_as c.args.stanza.now _ _ c.deref.ensures.value (g.D.Disk.state c.save_left.new.d) (g.D.Disk.state c.drop_unlisted.new.d) c.drop_unlisted.ensures.takes) (keeps_by c.args.rules.now c.args.plan.now.archive.current (map entry_of c.args.plan.now.left.backups.items)) (unneeded_as c.args.stanza.now _ _ c.deref-3.ensures.value c.args.rules.now c.args.plan.now.archive.current (g.D.Disk.state c.drop_unlisted.new.d) (g.D.Disk.state c.forget.new.d) c.forget.ensures.takes)
 
-pub returns-clause-only : goal.returns-clause-only
-returns-clause-only g c = gone_only c.args.stanza.now (labels_of (map entry_of c.args.plan.now.left.backups.items)) (g.D.Disk.state c.args.d.now) (g.D.Disk.state c.save_left.new.d) (g.D.Disk.state c.drop_unlisted.new.d) (g.D.Disk.state c.forget.new.d) c.save_left.ensures.only (unlisted_as c.args.stanza.now _ _ c.deref.ensures.value (g.D.Disk.state c.save_left.new.d) (g.D.Disk.state c.drop_unlisted.new.d) c.drop_unlisted.ensures.takes) c.args.rules.now c.args.plan.now.archive.current _ (unneeded_as c.args.stanza.now _ _ c.deref-3.ensures.value c.args.rules.now c.args.plan.now.archive.current (g.D.Disk.state c.drop_unlisted.new.d) (g.D.Disk.state c.forget.new.d) c.forget.ensures.takes)
+pub returns-clause-touches : goal.returns-clause-touches
+returns-clause-touches g c = gone_only c.args.stanza.now (labels_of (map entry_of c.args.plan.now.left.backups.items)) (g.D.Disk.state c.args.d.now) (g.D.Disk.state c.save_left.new.d) (g.D.Disk.state c.drop_unlisted.new.d) (g.D.Disk.state c.forget.new.d) c.save_left.ensures.only (unlisted_as c.args.stanza.now _ _ c.deref.ensures.value (g.D.Disk.state c.save_left.new.d) (g.D.Disk.state c.drop_unlisted.new.d) c.drop_unlisted.ensures.takes) (keeps_by c.args.rules.now c.args.plan.now.archive.current (map entry_of c.args.plan.now.left.backups.items)) (unneeded_as c.args.stanza.now _ _ c.deref-3.ensures.value c.args.rules.now c.args.plan.now.archive.current (g.D.Disk.state c.drop_unlisted.new.d) (g.D.Disk.state c.forget.new.d) c.forget.ensures.takes)
