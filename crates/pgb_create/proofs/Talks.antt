@@ -1,10 +1,8 @@
 -- The talk that asks a server for its system.
-use Rattle.std.proofs.Common.{◌≡◌, ◌⊎◌, ◌++◌, ℕ, List, Option, Some, None, option_map, Result, Ok, Err, inl, inr, refl, sym, subst}
-use Rattle.std.specs.Prelude.{IfSome, OnOk, string_bytes}
-use Rattle.std.proofs.lemmas.List.{append_assoc}
+use Rattle.std.proofs.Common.{◌≡◌, ◌⊎◌, ℕ, List, Option, Some, None, option_map, Result, Ok, Err, inl, inr, sym, subst}
+use Rattle.std.specs.Prelude.{IfSome, OnOk}
 use Rattle.pgb_server.specs.declared.fault.ServerFault.{ServerFault}
 use Rattle.pgb_server.specs.declared.fault.ServerFault.TheVariants as faults
-use Rattle.pgb_server.specs.Fault.{Fault as Refusal, ended, form, too_long, too_many, said, auth, mismatch}
 use Rattle.pgb_server.specs.Reads.{Fails, IsOutside}
 use Rattle.pgb_server.specs.Rows.{Refuses, by_talk, by_row, Rows, SystemOutcome}
 use Rattle.pgb_server.specs.Session.{start_at}

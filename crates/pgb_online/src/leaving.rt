@@ -26,8 +26,8 @@ fn leave<V: Wire>(wire: &mut V, session: Session) -> Result<(), NoMemory>
     }
 }
 
-/// Ends the session of a backup that is given up, and the server then drops the backup. That this failed isn't told, but
-/// for want of memory.
+/// Ends the session of a backup that is given up, and the server then drops the backup. That this failed isn't told,
+/// but for want of memory.
 pub fn abandon<V: Wire>(wire: &mut V, backup: Begun) -> Result<(), NoMemory>
     ensures sent { OnOk result (Sends (V.state wire.old).faults (V.state wire.new).faults (V.state wire.old).sent
         (V.state wire.new).sent closing) }

@@ -1,6 +1,6 @@
 //! The talk of an online backup with the server: the backup is started, and stopped with the part of the log that a
-//! restore of it needs. A talk that is refused or given up is ended with the last message too, and the server then drops
-//! the backup.
+//! restore of it needs. A talk that is refused or given up is ended with the last message too, and the server then
+//! drops the backup.
 #![tactic(auto)]
 
 mod begun;
