@@ -13,14 +13,6 @@ use Rattle.pgb_outside.proofs.Steps.{goes_on, goes_wide}
 use Rattle.pgb_expire.specs.Losing.{Loses, LosesAll, Drops, TakesAway}
 
 module _ (these : Name → Type 0) where
-  pub loses_none : (f : Content) → Loses these f f
-  loses_none f n = inl refl
-
-  pub loses_on : (f g h : Content) → Loses these f g → Loses these g h → Loses these f h
-  loses_on f g h p q n = ⊎_elim
-      (λ (e : h n ≡ g n). ⊎_elim (λ (d : g n ≡ f n). inl (e ∙ d)) (λ (d : these n × (g n ≡ None)). inr (d.0, e ∙ d.1)) (p n))
-      (λ x. inr x) (q n)
-
   module _ (a b : View) (goes : Goes (λ n v. these n × (v ≡ None)) (λ _. ⊥) a b) (law : Law a) where
     abbrev MayBe : Name → Value → Type 0
     MayBe n x = a.kept a.moment n x ⊎ (IsTrue (a.loose a.moment n) × IsSome x)
