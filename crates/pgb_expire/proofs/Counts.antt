@@ -1,19 +1,19 @@
 -- Names that are taken away, counted.
-use Rattle.std.proofs.Common.{◌≡◌, ◌≢◌, ◌⊎◌, ⊎_elim, inl, inr, ℕ, suc, zero, ◌+◌, ◌-◌, ◌^◌, ◌<◌, ◌≤◌, Bool, true, false, List, [], ◌∷◌, ◌++◌, map, length, length-append, drop, get_or, Option, Some, None, refl, ap, ◌∙◌, sym, subst, arith, string_bytes}
+use Rattle.std.proofs.Common.{◌≡◌, ◌≢◌, ◌⊎◌, ⊎_elim, inl, inr, ℕ, suc, zero, ◌+◌, ◌-◌, ◌^◌, ◌<◌, Bool, true, false, List, [], ◌∷◌, ◌++◌, map, length, length-append, drop, get_or, Option, Some, None, refl, ap, ◌∙◌, sym, subst, arith, string_bytes}
 use Rattle.std.specs.Prelude.{IsSome, option_map, min}
 use Rattle.std.proofs.lemmas.Bool.{and_parts}
 use Rattle.pgb_outside.specs.declared.disk.Found.{Found}
 use Rattle.pgb_outside.specs.Content.{Name, Value, Content, IsThere, IsListing, SameBut, at, put}
 use Rattle.pgb_outside.specs.Order.{is_before, are_after, are_in_order}
-use Rattle.pgb_disk.proofs.Images.{put_same, put_other, by_name}
-use Rattle.pgb_model.specs.Text.{Text, In}
+use Rattle.pgb_disk.proofs.Images.{put_same, put_other}
+use Rattle.pgb_model.specs.Text.{In}
 use Rattle.pgb_keys.proofs.Seeking.{opened}
 use Rattle.pgb_stored.proofs.Orders.{not_itself}
 use Rattle.pgb_stored.proofs.Picked.{each_after}
 use Rattle.pgb_stored.proofs.Looked.{held_at, found_order}
-use Rattle.pgb_retain.proofs.Lists.{map_in}
+use Rattle.pgb_keys.proofs.Numbers.{map_in}
 use Rattle.pgb_expire.specs.Losing.{names_of}
-use Rattle.pgb_expire.specs.Removed.{pair_of, Took, Nothing, Further, Counted, IsCount, AreDistinct}
+use Rattle.pgb_expire.specs.Removed.{pair_of, Took, Nothing, Further, Counted, AreDistinct}
 
 module _ (these : Name → Type 0) where
   pub counted_none : (o p : Option Content) → p ≡ o → Counted these 0 o p
@@ -65,7 +65,7 @@ at_there (Some f) (Some g) n e h = let is : ◌≡◌ {A = Option Value} (Some (
 
 pub there_first : (place : Name) (found : List Found) (f : Content) (now : Option Content) → now ≡ Some f → IsListing place f (map pair_of found) → AreThere found 0 now
 there_first place found f now told listing n i =
-    let (x, j, same) = map_in (λ (y : Found). string_bytes y.name) n found i in
+    let (x, j, same) = map_in (λ (y : Found). string_bytes y.name) found n i in
     let held = held_at place f found listing x j in
     subst (λ (o : Option Content). IsThere o n) (sym told) (subst (λ (k : Name). IsSome (f k)) (sym same) (subst (λ (v : Value). IsSome v) (sym held.1) refl))
 

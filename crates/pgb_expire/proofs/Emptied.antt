@@ -1,5 +1,5 @@
 -- All files that aren't needed are taken away, where those under the ids of a sound stanza's clusters are.
-use Rattle.std.proofs.Common.{◌≡◌, ⊎_elim, inl, inr, Bool, false, List, map, Option, Some, None, refl, ap, ◌∙◌, sym, subst, IsTrue}
+use Rattle.std.proofs.Common.{◌≡◌, ⊎_elim, inl, Bool, false, List, map, Option, Some, None, refl, ◌∙◌, sym, subst, IsTrue}
 use Rattle.std.specs.Prelude.{IsSome}
 use Rattle.sha1.specs.Sha1.{sha1}
 use Rattle.pgb_text.specs.Sum.{sum_text}
@@ -22,7 +22,7 @@ use Rattle.pgb_model.specs.Stands.{HasStanza, IsArchiveFile}
 use Rattle.pgb_model.specs.Now.{NowStands}
 use Rattle.pgb_model.specs.Log.{File as FileName}
 use Rattle.pgb_model.specs.Steady.{IsSteady}
-use Rattle.pgb_retain.proofs.Lists.{in_map}
+use Rattle.pgb_keys.proofs.Numbers.{in_map}
 use Rattle.pgb_expire.specs.Losing.{Loses, LosesAll, IsUnneeded}
 use Rattle.pgb_expire.specs.Unneeded.{id_in, ids_in}
 use Rattle.pgb_expire.proofs.Forgets.{one_name}
@@ -45,7 +45,7 @@ module _ (stanza : Text) (keeps : ArchiveId → ArchiveName → Bool) (s : Stanz
       let (a, i, named, b) = (h.archived n bytes (file_of n u)).0 is in
       let who = one_name stanza a.id u.id a.name u.file (sha1 a.bytes) u.sum (h.named a i) u.fits (sym named ∙ u.is) in
       let (c, in_c, id) = under a i in
-      let there : In (id_of c) (ids_in (map identity_of s.history)) = in_map id_in (identity_of c) (map identity_of s.history) (in_map identity_of c s.history in_c) in
+      let there : In (id_of c) (ids_in (map identity_of s.history)) = in_map id_in (map identity_of s.history) (identity_of c) (in_map identity_of s.history c in_c) in
       subst (λ (cs : List ClusterId). In u.id (ids_in cs)) (sym history_is) (subst (λ (k : ArchiveId). In k (ids_in (map identity_of s.history))) (sym id ∙ who.0) there)
 
   module _ (c d : View) (part : NowGoes (Loses (IsUnneeded stanza keeps)) c.now d.now) (gone : (n : Name) → (u : IsUnneeded stanza keeps n) → In u.id (ids_in history) → IsAbsent d.now n) where

@@ -33,9 +33,6 @@ use Rattle.pgb_expire.proofs.Leaving.{all_kept, AgreesOn, IsStoredIn, has_left, 
 use Rattle.pgb_expire.proofs.Dropped.{file_begins}
 use Rattle.pgb_expire.proofs.Forgets.{itself, same_file, one_name, apart_one, groups, forgets, forgets_some, all_forgets, files_left, with_files, after_forgets, of_left, stays_left, IsSpared}
 
-pub some_bytes : (x y : Text) → ◌≡◌ {A = Option Text} (Some x) (Some y) → x ≡ y
-some_bytes x y e = cc
-
 absent_some : (o : Option Text) (x : Text) → o ≡ None → o ≡ Some x → ⊥
 absent_some o x none some = let e : ◌≡◌ {A = Option Text} None (Some x) = sym none ∙ some in cc
 
@@ -148,9 +145,6 @@ module _ (stanza : Text) (keeps : ArchiveId → ArchiveName → Bool) (s : Stanz
       (forgotten_stands apart f h g all.loses (λ _. true) (λ x i e. all.gone (stored_name stanza x) (name_of f h x i)) (λ x i e. refl))
 
   module _ (apart : AreApart s.archived) (a d : View) (steady : IsSteady stanza (Some s) a) (told : IsSome a.now) (crash : Crash (Loses (IsUnneeded stanza keeps)) a d) where
-    abbrev IsSomeLeft : Content → Type 0
-    IsSomeLeft g = (done : List Step) × IsSomeOf done (groups (filter (λ a. not (keeps a.id a.name)) s.archived)) × Stands stanza g (after (Some s) done)
-
     places : (g : Content) → Leaves d d.moment g → (n : Text) → IsPlaceOf stanza g n → is_loose d n ≡ false
     places g leaves n p =
         let x = crash.comes told d.moment g crash.later (omega arith) leaves in

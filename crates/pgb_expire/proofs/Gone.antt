@@ -17,8 +17,7 @@ use Rattle.pgb_pair.specs.Member.{IsOfPair}
 use Rattle.pgb_expire.specs.Losing.{TakesAway, IsUnlisted, IsUnneeded}
 use Rattle.pgb_expire.specs.Removed.{AreDistinct, IsCount, Counted, CountsGone}
 use Rattle.pgb_expire.proofs.LabelFolders.{label_begins}
-use Rattle.pgb_expire.proofs.Losses.{takes_goes}
-use Rattle.pgb_expire.proofs.Counts.{Tells, took_tells}
+use Rattle.pgb_expire.proofs.Counts.{took_tells}
 
 -- a name is in a list, or it isn't
 is_in : (n : Name) (ns : List Name) → In n ns ⊎ (¬ In n ns)

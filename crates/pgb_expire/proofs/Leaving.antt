@@ -17,7 +17,7 @@ use Rattle.pgb_model.specs.Stands.{HasStanza, IsManifestOf, IsAncestor, IsListed
 use Rattle.pgb_model.specs.Log.{IsPlaceOf, Lists}
 use Rattle.pgb_model.proofs.Frame.{pair_same}
 use Rattle.pgb_stanza.proofs.OneBackup.{pair_agrees}
-use Rattle.pgb_retain.proofs.Lists.{in_map, map_in}
+use Rattle.pgb_keys.proofs.Numbers.{in_map, map_in}
 use Rattle.pgb_expire.proofs.BackupNames.{manifest_same, place_same}
 
 pub entries_of : (s : Stanza) (c : Option Cluster) → (backup_value s c).backups ≡ map (λ b. b.entry) s.backups
@@ -93,11 +93,11 @@ module _ (stanza : Text) (f g : Content) (s : Stanza) (kept : List Backup) (file
     pub place_left : (n : Text) → IsPlaceOf stanza g n → IsPlaceOf stanza f n
     place_left n p =
         let agree = pair_agrees g (backup_info stanza) p.listed.0 (backup_value left pending) p.listed.1 pair in
-        let at = subst (λ (ks : List Field). In (entry_field p.listed.2.0) ks) (agree.entries ∙ ap (map entry_field) (entries_of left pending)) (in_map entry_field p.listed.2.0 p.listed.0.backups p.listed.2.1) in
-        let (e, there, same) = map_in entry_field (entry_field p.listed.2.0) (map (λ (b : Backup). b.entry) kept) at in
-        let (b, in_b, is_b) = map_in (λ (b : Backup). b.entry) e kept there in
+        let at = subst (λ (ks : List Field). In (entry_field p.listed.2.0) ks) (agree.entries ∙ ap (map entry_field) (entries_of left pending)) (in_map entry_field p.listed.0.backups p.listed.2.0 p.listed.2.1) in
+        let (e, there, same) = map_in entry_field (map (λ (b : Backup). b.entry) kept) (entry_field p.listed.2.0) at in
+        let (b, in_b, is_b) = map_in (λ (b : Backup). b.entry) kept e there in
         let text : label_text p.label ≡ label_text b.entry.label = ap label_text (sym p.listed.2.2) ∙ ap (λ (k : Field). k.0) same ∙ ap (λ (x : Entry). label_text x.label) is_b in
-        let lists : Lists stanza f b.entry.label = (backup_value s h.pending, h.backup_pair, (b.entry, subst (λ (es : List Entry). In b.entry es) (sym (entries_of s h.pending)) (in_map (λ (b : Backup). b.entry) b s.backups (are.of_it b in_b)), refl)) in
+        let lists : Lists stanza f b.entry.label = (backup_value s h.pending, h.backup_pair, (b.entry, subst (λ (es : List Entry). In b.entry es) (sym (entries_of s h.pending)) (in_map (λ (b : Backup). b.entry) s.backups b (are.of_it b in_b)), refl)) in
         let in_g = subst (λ (k : Text). PairIs IsManifestText g k p.manifest) (manifest_same stanza p.label b.entry.label text) p.reads in
         record {
           label = b.entry.label;

@@ -2,52 +2,17 @@
 use Rattle.std.proofs.Common.{◌≡◌, ◌⊎◌, ⊎_elim, inl, inr, ℕ, ◌≤◌, Bool, true, false, [], Option, Some, None, refl, ap, ◌∙◌, sym, subst, arith, IsTrue}
 use Rattle.std.specs.Prelude.{IsSome, option_map}
 use Rattle.pgb_outside.specs.Content.{Name, Value, Content, Holds, at}
-use Rattle.pgb_outside.specs.Moments.{View, Goes, Rests, IsImage, is_loose, MayKeep}
-use Rattle.pgb_outside.specs.Crash.{IsTemporary, Leaves, Crash, Ends, NowGoes}
-use Rattle.pgb_outside.proofs.Nows.{told_as, now_on, now_rests}
-use Rattle.pgb_outside.proofs.Crashes.{crash_on, crash_ends, crash_rests, untold}
+use Rattle.pgb_outside.specs.Moments.{View, Goes, IsImage, is_loose, MayKeep}
+use Rattle.pgb_outside.specs.Crash.{IsTemporary, Crash, Ends, NowGoes}
+use Rattle.pgb_outside.proofs.Nows.{told_as}
+use Rattle.pgb_outside.proofs.Crashes.{untold}
 use Rattle.pgb_disk.proofs.Images.{Law}
 use Rattle.pgb_disk.specs.Store.{ChangesOnly}
-use Rattle.pgb_outside.specs.States.{DiskState, Frame, Looks}
+use Rattle.pgb_outside.specs.States.{DiskState, Looks}
 use Rattle.pgb_outside.proofs.Steps.{goes_on, goes_wide}
 use Rattle.pgb_expire.specs.Losing.{Loses, LosesAll, Drops, TakesAway}
 
 module _ (these : Name → Type 0) where
-  pub loses_none : (f : Content) → Loses these f f
-  loses_none f n = inl refl
-
-  pub loses_on : (f g h : Content) → Loses these f g → Loses these g h → Loses these f h
-  loses_on f g h p q n = ⊎_elim
-      (λ (e : h n ≡ g n). ⊎_elim (λ (d : g n ≡ f n). inl (e ∙ d)) (λ (d : these n × (g n ≡ None)). inr (d.0, e ∙ d.1)) (p n))
-      (λ x. inr x) (q n)
-
-  -- some names are taken away, then some more
-  pub lost_on : (a b c : View) → Crash (Loses these) a b → Crash (Loses these) b c → Crash (Loses these) a c
-  lost_on a b c p q = crash_on (Loses these) (Loses these) (Loses these) (Loses these) a b c p (crash_ends (Loses these) a b p) q (λ f g x. x) loses_on
-
-  pub lost_rests : (a b : View) → Rests a b → b.now ≡ a.now → Crash (Loses these) a b
-  lost_rests a b rests same = crash_rests (Loses these) a b loses_none rests same
-
-  pub lost_now_on : (a b c : Option Content) → NowGoes (Loses these) a b → NowGoes (Loses these) b c → NowGoes (Loses these) a c
-  lost_now_on a b c p q = now_on (Loses these) (Loses these) (Loses these) a b c p q loses_on
-
-  pub lost_now_rests : (a b : Option Content) → b ≡ a → NowGoes (Loses these) a b
-  lost_now_rests a b same = now_rests (Loses these) a b loses_none same
-
-  pub lost_none : (a : View) → Crash (Loses these) a a
-  lost_none a = record {
-    later = omega arith;
-    past = λ t n v le h. h;
-    past_loose = λ t n le. refl;
-    told = λ s. s;
-    tight = λ t n lo hi apart h. subst (λ (m : ℕ). a.loose m n ≡ false) (let e : a.moment ≡ t = omega (arith, lo, hi) in e) h;
-    comes = λ s t g lo hi leaves. (g, subst (λ (m : ℕ). Leaves a m g) (let e : t ≡ a.moment = omega (arith, lo, hi) in e) leaves, loses_none g);
-  }
-
-  -- a call that takes such names away
-  abbrev pub Taking : View → View → Type 0
-  Taking a b = Goes (λ n v. these n × (v ≡ None)) (λ _. ⊥) a b
-
   module _ (a b : View) (goes : Goes (λ n v. these n × (v ≡ None)) (λ _. ⊥) a b) (law : Law a) where
     abbrev MayBe : Name → Value → Type 0
     MayBe n x = a.kept a.moment n x ⊎ (IsTrue (a.loose a.moment n) × IsSome x)
@@ -110,14 +75,6 @@ module _ (these : Name → Type 0) where
         gone : (n : Name) → these n → (g : Content) → IsImage b b.moment g → g n ≡ None
         gone n x g image = ⊎_elim (λ k. settled n (g n) x k)
             (λ (l : IsTrue (b.loose b.moment n) × IsSome (g n)). let u : ◌≡◌ {A = Bool} false true = sym (still_tight b.moment n goes.later (omega arith) (tight n x)) ∙ l.0 in cc) (image n)
-
--- what was lost of fewer names
-pub loses_wide : (these those : Name → Type 0) → ((n : Name) → these n → those n) → (f g : Content) → Loses these f g → Loses those f g
-loses_wide these those wider f g p n = ⊎_elim (λ e. inl e) (λ (x : these n × (g n ≡ None)). inr (wider n x.0, x.1)) (p n)
-
--- some names are taken away, and then those that are still there
-pub all_on : (these : Name → Type 0) (f g h : Content) → Loses these f g → LosesAll these g h → LosesAll these f h
-all_on these f g h p q = record { loses = loses_on these f g h p q.loses; gone = q.gone }
 
 -- no call
 pub no_time : (these : Name → Type 0) (a : View) → Goes (λ n v. these n × (v ≡ None)) (λ _. ⊥) a a
@@ -214,9 +171,6 @@ module _ (these : Name → Type 0) where
     now = λ n off. ⊎_elim (λ e. e) (λ x. absurd (off x.0)) (p.now n);
     time = goes_wide (λ n v. these n × (v ≡ None)) (λ n _. these n) (λ _. ⊥) (λ n. these n × IsTemporary n) a.view b.view (λ n v h. h.0) (λ n h. absurd h) p.works.time;
   }
-
-  pub takes_frame : (a b : DiskState) → TakesAway these a b → Frame a b
-  takes_frame a b p = record { opened = p.works.opened; proper = p.works.proper; later = p.works.later }
 
 -- fewer names are some of more
 pub takes_wide : (these those : Name → Type 0) (a b : DiskState) → ((n : Name) → these n → those n) → TakesAway these a b → TakesAway those a b

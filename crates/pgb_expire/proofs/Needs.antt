@@ -1,12 +1,12 @@
 -- What an expiry leaves has each backup that stays, and each file that these need.
-use Rattle.std.proofs.Common.{◌≡◌, inl, inr, Bool, true, false, List, [], ◌∷◌, ◌++◌, Option, Some, refl, ap, ◌∙◌, sym, subst}
+use Rattle.std.proofs.Common.{◌≡◌, inl, inr, true, List, [], ◌∷◌, ◌++◌, Some, ap, ◌∙◌, sym, subst}
 use Rattle.std.specs.Prelude.{filter, not}
 use Rattle.std.specs.List.{flat_map}
 use Rattle.pgb_outside.specs.Content.{Content}
 use Rattle.pgb_model.specs.Text.{Text, In}
 use Rattle.pgb_model.specs.Repository.{Archived, Backup, Stanza, Repository}
 use Rattle.pgb_model.specs.Stands.{Stands}
-use Rattle.pgb_model.specs.Steps.{Step, Condemn, Any, Retention, IsPartOf, IsSomeOf, changed, after, expiry_moves}
+use Rattle.pgb_model.specs.Steps.{Step, Condemn, Retention, IsPartOf, IsSomeOf, changed, after, expiry_moves}
 use Rattle.pgb_retain.proofs.Lists.{filter_in}
 use Rattle.pgb_expire.specs.Expiry.{HasNeeded}
 use Rattle.pgb_expire.proofs.Forgets.{FitsPlace, groups, some_are, forgets_some, all_forgets, with_files}

@@ -1,19 +1,19 @@
 -- What is read, and what is left of it.
-use Rattle.std.proofs.Common.{◌≡◌, inl, inr, ℕ, Bool, true, false, List, [], ◌∷◌, cond, Option, Some, None, refl, ap, ap₂, ◌∙◌, sym, subst}
+use Rattle.std.proofs.Common.{◌≡◌, inl, inr, ℕ, Bool, true, false, List, [], ◌∷◌, cond, Option, refl, ap, ap₂, ◌∙◌, sym, subst}
 use Rattle.std.specs.Prelude.{IfSome, filter, not}
 use Rattle.std.proofs.lemmas.Bool.{false≢true, false_from_ne_true}
 use Rattle.pgb_outside.specs.Content.{Content}
 use Rattle.pgb_model.specs.declared.labels.Label.{Label}
 use Rattle.pgb_model.specs.Text.{Text, In}
-use Rattle.pgb_model.specs.Names.{archive_info, backup_info}
 use Rattle.pgb_model.specs.Values.{ArchiveInfo, BackupInfo, Entry}
 use Rattle.pgb_model.specs.InfoFiles.{IsArchiveText, IsBackupText}
 use Rattle.pgb_model.specs.Pair.{PairIs}
 use Rattle.pgb_retain.specs.declared.rules.Rules.{Rules}
 use Rattle.pgb_retain.specs.Labels.{has_label, labels_of}
 use Rattle.pgb_retain.specs.Condemned.{is_condemned, condemned_labels}
-use Rattle.pgb_expire.specs.Planning.{IsPlan, left_of}
-use Rattle.pgb_retain.proofs.Lists.{in_filter, filter_in, in_map}
+use Rattle.pgb_expire.specs.Planning.{left_of}
+use Rattle.pgb_retain.proofs.Lists.{in_filter, filter_in}
+use Rattle.pgb_keys.proofs.Numbers.{in_map}
 use Rattle.pgb_retain.proofs.LabelTests.{has_in, in_has}
 
 pub named_pair : (now : Option Content) (name info : Text) (v : BackupInfo) → name ≡ info → IfSome now (λ f. PairIs IsBackupText f name v) → IfSome now (λ f. PairIs IsBackupText f info v)
@@ -36,7 +36,7 @@ among : (p : Label → Bool) (es : List Entry) (e : Entry) → In e es → has_l
 among p es e at = by (p e.label) refl
   where
     by : (b : Bool) → p e.label ≡ b → has_label (filter p (labels_of es)) e.label ≡ b
-    by true is = in_has (filter p (labels_of es)) e.label (filter_in p e.label (labels_of es) (in_map (λ (x : Entry). x.label) e es at) is)
+    by true is = in_has (filter p (labels_of es)) e.label (filter_in p e.label (labels_of es) (in_map (λ (x : Entry). x.label) es e at) is)
     by false is = false_from_ne_true (has_label (filter p (labels_of es)) e.label) (λ on. false≢true (sym is ∙ (in_filter p e.label (labels_of es) (has_in (filter p (labels_of es)) e.label on)).1))
 
 pub labels_gone : (rules : Rules) (moment : ℕ) (labels : List Label) (es fs : List Entry) → labels ≡ condemned_labels rules moment es → fs ≡ filter (λ e. not (has_label labels e.label)) es → fs ≡ filter (λ e. not (is_condemned rules moment es e.label)) es

@@ -1,5 +1,5 @@
 -- Listed backups are in line: each label is there once, and a prior stands before its backup.
-use Rattle.std.proofs.Common.{◌≡◌, ◌≢◌, ⊎_elim, inl, inr, true, List, [], ◌∷◌, ◌++◌, map, Option, Some, None, refl, ap, ◌∙◌, sym, subst, ℕ}
+use Rattle.std.proofs.Common.{◌≡◌, ◌≢◌, ⊎_elim, inl, inr, true, List, [], ◌∷◌, ◌++◌, map, Option, Some, None, refl, ◌∙◌, sym, subst, ℕ}
 use Rattle.std.specs.Prelude.{IfSome, Any}
 use Rattle.std.proofs.lemmas.Bool.{and_parts}
 use Rattle.pgb_outside.specs.Order.{is_before, are_after, are_in_order}

@@ -1,5 +1,5 @@
 -- Files of the archive that are removed one by one, by the listings of folders.
-use Rattle.std.proofs.Common.{◌≡◌, ◌⊎◌, ⊎_elim, inl, inr, ℕ, ◌+◌, ◌<◌, ◌≤◌, Bool, true, false, List, [], ◌∷◌, ◌++◌, map, length, get_or, drop, Option, Result, Ok, Err, Some, None, refl, ap, ◌∙◌, sym, subst, arith, string_bytes, IsTrue}
+use Rattle.std.proofs.Common.{◌≡◌, ◌⊎◌, ⊎_elim, inl, inr, ℕ, ◌+◌, ◌<◌, ◌≤◌, Bool, true, false, List, ◌∷◌, map, length, get_or, drop, Option, Result, Ok, Err, Some, None, refl, ap, ◌∙◌, sym, subst, arith, string_bytes, IsTrue}
 use Rattle.std.specs.Prelude.{IfSome, IsSome, option_map}
 use Rattle.pgb_outside.specs.declared.disk.Found.{Found}
 use Rattle.pgb_outside.specs.Content.{Name, Value, Content, Holds, at, put, Changes, is_below, IsListing}
@@ -11,10 +11,10 @@ use Rattle.pgb_model.specs.Text.{Text, In, ◌⫽◌}
 use Rattle.pgb_keys.proofs.Seeking.{opened, ended}
 use Rattle.pgb_stored.proofs.Looked.{pair_of, found_at}
 use Rattle.pgb_retain.specs.declared.rules.Kept.{Kept}
-use Rattle.pgb_retain.proofs.Lists.{in_map}
+use Rattle.pgb_keys.proofs.Numbers.{in_map}
 use Rattle.pgb_expire.specs.Losing.{Drops, TakesAway, names_of}
 use Rattle.pgb_expire.specs.Unneeded.{IsForgotten, Forgets, front_of}
-use Rattle.pgb_expire.proofs.Losses.{takes_none, takes_looks, takes_on, takes_wide}
+use Rattle.pgb_expire.proofs.Losses.{takes_wide}
 
 -- ---- names that stay absent
 
@@ -90,7 +90,7 @@ found_gone these place found a m b looks listing takes n below gone = by a.view.
         there None none = absent_stays these m b n takes (subst (λ (o : Option Content). IsAbsent o n) (sym (looks.now ∙ e)) none)
         there (Some bytes) some =
             let x = found_at place f found l n below (subst (λ (v : Value). IsSome v) (sym some) refl) in
-            gone (subst (λ (k : Name). In k (names_of found)) x.2 (in_map (λ (y : Found). string_bytes y.name) x.0 found x.1))
+            gone (subst (λ (k : Name). In k (names_of found)) x.2 (in_map (λ (y : Found). string_bytes y.name) found x.0 x.1))
 
 -- ---- folders within a place
 

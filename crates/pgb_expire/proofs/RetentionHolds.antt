@@ -23,7 +23,8 @@ use Rattle.pgb_retain.specs.declared.rules.Rules.{Rules}
 use Rattle.pgb_retain.specs.Condemned.{is_condemned}
 use Rattle.pgb_retain.specs.Needed.{keeping_of, keeps_file}
 use Rattle.pgb_expire.specs.Expiry.{listed, retention, HasNeeded}
-use Rattle.pgb_retain.proofs.Lists.{in_map, in_filter}
+use Rattle.pgb_retain.proofs.Lists.{in_filter}
+use Rattle.pgb_keys.proofs.Numbers.{in_map}
 use Rattle.pgb_expire.proofs.Leaving.{entries_of}
 use Rattle.pgb_retain.specs.Descent.{AreInLine}
 use Rattle.pgb_retain.proofs.Closed.{condemned_closed}
@@ -45,7 +46,7 @@ module _ (stanza : Text) (rules : Rules) (now : ℕ) (f : Content) (s : Stanza) 
   are_proper = subst AreInLine (entries_of s h.pending) (proper (backup_value s h.pending) (backup_rules f (backup_info stanza) (backup_value s h.pending) h.backup_pair))
 
   pub closed_here : IsClosed s (is_condemned rules now (listed s))
-  closed_here b at l prior on = condemned_closed rules now (listed s) are_proper b.entry (in_map (λ (x : Backup). x.entry) b s.backups at) l prior on
+  closed_here b at l prior on = condemned_closed rules now (listed s) are_proper b.entry (in_map (λ (x : Backup). x.entry) s.backups b at) l prior on
 
   abbrev left : Stanza
   left = changed (Condemn (is_condemned rules now (listed s))) s
@@ -81,7 +82,7 @@ module _ (stanza : Text) (rules : Rules) (now : ℕ) (f : Content) (s : Stanza) 
           let number : b.entry.db ≡ a.id.number = sym (ap (λ (k : ArchiveId). k.number) id ∙ db) in
           subst (λ (k : ArchiveName). keeps_file (keeping_of rules (current_number left) (listed left) a.id.number) k ≡ true) (sym name)
           (subst (λ (n : ℕ). keeps_file (keeping_of rules (current_number left) (listed left) n) (Whole segment) ≡ true) number
-          (span_kept rules (current_number left) (listed left) b.entry w.span segment (in_map (λ (x : Backup). x.entry) b left.backups at) span inside))
+          (span_kept rules (current_number left) (listed left) b.entry w.span segment (in_map (λ (x : Backup). x.entry) left.backups b at) span inside))
 
   alike : (a b : Archived) → a.id ≡ b.id → a.name ≡ b.name → (retention rules now).needed left a ≡ (retention rules now).needed left b
   alike a b id name = ap₂ (λ (i : ArchiveId) (n : ArchiveName). keeps_file (keeping_of rules (current_number left) (listed left) i.number) n) id name

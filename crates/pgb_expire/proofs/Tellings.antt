@@ -1,6 +1,6 @@
 -- The files of one cluster that aren't kept, and those of all clusters.
-use Rattle.std.proofs.Common.{◌≡◌, ◌≢◌, ◌⊎◌, ⊎_elim, inl, inr, ℕ, suc, ◌+◌, ◌<◌, arith, length, get_or, drop, drop-cons, Bool, true, false, List, [], ◌∷◌, ◌++◌, map, Option, Some, None, refl, ap, ap₂, ◌∙◌, sym, subst, append_assoc, string_bytes, IsTrue, codes}
-use Rattle.std.specs.Prelude.{IfSome, IsSome, nat_eq, decimal}
+use Rattle.std.proofs.Common.{◌≡◌, ◌≢◌, ◌⊎◌, ⊎_elim, inl, inr, ℕ, suc, ◌+◌, ◌<◌, arith, length, get_or, drop, drop-cons, true, false, List, [], ◌∷◌, ◌++◌, Option, Some, None, refl, ap, ◌∙◌, sym, subst, append_assoc, IsTrue, codes}
+use Rattle.std.specs.Prelude.{IfSome, IsSome, nat_eq}
 use Rattle.std.proofs.lemmas.Bool.{false≢true}
 use Rattle.pgb_text.specs.Sum.{IsSum, sum_text}
 use Rattle.pgb_outside.specs.Content.{Name, Value, Content, is_below, AreFolders}
@@ -26,8 +26,8 @@ use Rattle.pgb_expire.specs.Losing.{TakesAway, IsUnneeded}
 use Rattle.pgb_expire.specs.Planning.{keeps_by}
 use Rattle.pgb_expire.specs.Unneeded.{IsForgotten, Forgets, front_of, id_in, ids_in}
 use Rattle.pgb_expire.proofs.Forgets.{one_name}
-use Rattle.pgb_expire.proofs.Losses.{takes_looks, takes_on, takes_wide}
-use Rattle.pgb_expire.proofs.Removals.{absent_stays, GoneWithin}
+use Rattle.pgb_expire.proofs.Losses.{takes_wide}
+use Rattle.pgb_expire.proofs.Removals.{absent_stays}
 
 -- whichever stanza's folder the front is
 abbrev pub Unneeds : Text → Rules → ℕ → List Entry → Name → Type 0

@@ -1,5 +1,5 @@
 -- Which names an expiry changes.
-use Rattle.std.proofs.Common.{◌≡◌, ◌⊎◌, inl, inr, Bool, true, false, List, [], ◌∷◌, ◌++◌, Option, Some, refl, ap, ◌∙◌, sym, subst, append_assoc}
+use Rattle.std.proofs.Common.{◌≡◌, inl, inr, Bool, true, false, List, ◌∷◌, ◌++◌, refl, ◌∙◌, sym, append_assoc}
 use Rattle.pgb_text.specs.Sum.{sum_text}
 use Rattle.pgb_outside.specs.Content.{Name, is_below}
 use Rattle.pgb_outside.specs.Moments.{View}
@@ -22,8 +22,7 @@ use Rattle.pgb_story.proofs.Named.{in_archive, in_backup}
 use Rattle.pgb_story.proofs.Stays.{beside_on}
 use Rattle.pgb_stage.proofs.Besides.{pairs_beside}
 use Rattle.pgb_retain.specs.declared.rules.Rules.{Rules}
-use Rattle.pgb_retain.specs.Needed.{keeps_file, keeping_of}
-use Rattle.pgb_expire.specs.Losing.{TakesAway, IsUnlisted, IsUnneeded, IsInLabel, IsPassing, is_passing, MayExpire, MayTouch}
+use Rattle.pgb_expire.specs.Losing.{TakesAway, IsUnlisted, IsUnneeded, is_passing, MayExpire, MayTouch}
 use Rattle.pgb_expire.specs.Planning.{keeps_by}
 use Rattle.pgb_expire.proofs.LabelFolders.{below_is}
 use Rattle.pgb_expire.proofs.Losses.{takes_only}

@@ -18,9 +18,8 @@ use Rattle.pgb_model.specs.InfoFiles.{IsBackupText, IsBackupInfo, backup_section
 use Rattle.pgb_model.specs.Pair.{PairIs}
 use Rattle.pgb_model.specs.Create.{member_writes}
 use Rattle.pgb_model.specs.Repository.{Archived, Backup, Stanza, current_number, identity_of, IsSoundStanza}
-use Rattle.pgb_model.specs.Stands.{Stands, HasStanza, IsArchiveFile, archive_value, backup_value}
+use Rattle.pgb_model.specs.Stands.{Stands, HasStanza, archive_value, backup_value}
 use Rattle.pgb_model.specs.Steps.{Step, Condemn, Retention, IsPartOf, IsSomeOf, changed, after, all_of, expiry_moves}
-use Rattle.pgb_model.specs.Log.{File as FileName}
 use Rattle.pgb_model.specs.Steady.{IsSteady, Moves}
 use Rattle.pgb_model.proofs.Done.{part_none}
 use Rattle.pgb_info.proofs.OneArchive.{one_archive_pair}
@@ -32,7 +31,8 @@ use Rattle.pgb_expire.specs.Expiry.{listed, retention, IsPartOfExpiry}
 use Rattle.pgb_expire.specs.Losing.{Loses, LosesAll, IsUnlisted, IsUnneeded}
 use Rattle.pgb_expire.specs.Planning.{IsPlan, left_of, left_text, keeps_by}
 use Rattle.pgb_expire.specs.Unneeded.{ids_in}
-use Rattle.pgb_retain.proofs.Lists.{in_map, map_filter}
+use Rattle.pgb_retain.proofs.Lists.{map_filter}
+use Rattle.pgb_keys.proofs.Numbers.{in_map}
 use Rattle.pgb_retain.proofs.LabelTests.{in_has}
 use Rattle.pgb_expire.proofs.Leaving.{entries_of}
 use Rattle.pgb_retain.proofs.Closed.{condemned_closed}
@@ -128,7 +128,7 @@ module _ (stanza : Text) (rules : Rules) (moment : ℕ) (f : Content) (labels : 
     left_entries = ap (λ (v : BackupInfo). v.backups) left_is ∙ entries_of left h.pending
 
     pub covers : Covers (labels_of w.backups) left
-    covers b at = in_has (labels_of w.backups) b.entry.label (subst (λ (es : List Entry). In b.entry.label (labels_of es)) (sym left_entries) (in_map (λ (e : Entry). e.label) b.entry (listed left) (in_map (λ (b : Backup). b.entry) b left.backups at)))
+    covers b at = in_has (labels_of w.backups) b.entry.label (subst (λ (es : List Entry). In b.entry.label (labels_of es)) (sym left_entries) (in_map (λ (e : Entry). e.label) (listed left) b.entry (in_map (λ (b : Backup). b.entry) left.backups b at)))
 
     archive_is : archive ≡ archive_value s
     archive_is = one_archive_pair f (archive_info stanza) archive (archive_value s) plan.reads_archive h.archive_pair
@@ -188,12 +188,6 @@ module _ (stanza : Text) (rules : Rules) (moment : ℕ) (labels : List Label) (w
 
     has : HasStanza stanza start.0 s
     has = steady.stands start.0 (inl start.1)
-
-    abbrev writes : Content → Content → Type 0
-    writes = FirstOf (member_writes (backup_info stanza) (left_text w))
-
-    abbrev all_writes : Content → Content → Type 0
-    all_writes = AllOf (member_writes (backup_info stanza) (left_text w))
 
     closed : IsClosed s (is_condemned rules moment (listed s))
     closed = closed_here stanza rules moment start.0 s has

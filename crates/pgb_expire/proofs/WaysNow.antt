@@ -20,7 +20,7 @@ use Rattle.pgb_retain.specs.declared.rules.Rules.{Rules}
 use Rattle.pgb_retain.specs.Labels.{labels_of}
 use Rattle.pgb_retain.specs.Condemned.{is_condemned}
 use Rattle.pgb_expire.specs.Expiry.{listed, retention, NowPartOfExpiry}
-use Rattle.pgb_expire.specs.Losing.{Loses, LosesAll, IsUnlisted, IsUnneeded}
+use Rattle.pgb_expire.specs.Losing.{Loses, IsUnlisted, IsUnneeded}
 use Rattle.pgb_expire.specs.Planning.{IsPlan, left_text, keeps_by}
 use Rattle.pgb_expire.proofs.CondemnedStands.{IsClosed, condemned_now, condemned_all}
 use Rattle.pgb_expire.proofs.Dropped.{dropped_now}

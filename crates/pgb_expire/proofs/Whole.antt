@@ -11,7 +11,7 @@ use Rattle.pgb_model.specs.Pair.{PairIs, PairAbsent}
 use Rattle.pgb_model.specs.InfoFiles.{IsArchiveText}
 use Rattle.pgb_model.specs.Values.{ArchiveInfo, BackupInfo, Entry}
 use Rattle.pgb_model.specs.Repository.{Stanza, Repository, IsSound, IsSoundStanza, current_number}
-use Rattle.pgb_model.specs.Stands.{Stands, HasStanza, IsVacant}
+use Rattle.pgb_model.specs.Stands.{IsVacant}
 use Rattle.pgb_model.specs.Steps.{Step, Command, Expire, IsPartOf, expiry_moves, after, all_of, steps_of}
 use Rattle.pgb_model.specs.Now.{NowStands}
 use Rattle.pgb_model.specs.Steady.{IsSteady, Moves, LeavesOnly}

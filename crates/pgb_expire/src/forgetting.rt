@@ -1,5 +1,5 @@
 // The files of the archive that aren't needed are taken away.
-ghost use Rattle.std.specs.Prelude.{◌≡◌, List, false, map, IfOk, IfErr, IsSome, IsTrue, OnOk};
+ghost use Rattle.std.specs.Prelude.{◌≡◌, false, map, IfOk, IfErr, IsSome, IsTrue, OnOk};
 ghost use Rattle.pgb_outside.specs.Content.{Name, Value, Holds, is_below};
 ghost use Rattle.pgb_outside.specs.Moments.{MayKeep, is_loose};
 ghost use Rattle.pgb_outside.specs.Cause.{Rises};

@@ -1,7 +1,7 @@
 -- Backups that a rule tells to go stand before all others that it counts.
-use Rattle.std.proofs.Common.{◌≡◌, ℕ, zero, suc, ◌+◌, ◌-◌, ◌<◌, ◌≤◌, Bool, true, false, List, [], ◌∷◌, ◌++◌, map, length, take, get_or, Option, Some, None, refl, ap, ◌∙◌, sym, arith, append-nil}
-use Rattle.std.specs.Prelude.{filter, not, ◌||◌, if◌then◌else◌}
-use Rattle.std.proofs.lemmas.List.{map-append, take-map, map_more, length-take, length-map, length-append}
+use Rattle.std.proofs.Common.{◌≡◌, ℕ, ◌+◌, ◌-◌, ◌<◌, ◌≤◌, Bool, true, false, List, [], ◌∷◌, ◌++◌, map, length, take, get_or, Option, Some, refl, ap, ◌∙◌, sym, arith, append-nil}
+use Rattle.std.specs.Prelude.{filter, ◌||◌, if◌then◌else◌}
+use Rattle.std.proofs.lemmas.List.{take-map, map_more, length-take, length-map, length-append}
 use Rattle.std.proofs.lemmas.Simd.{map-map}
 use Rattle.std.proofs.lemmas.List.Elements.{filter-append}
 use Rattle.pgb_model.specs.declared.labels.Kind.TheVariants.{Diff}

@@ -1,7 +1,6 @@
 pub mod Lists
 pub mod LabelTests
 pub mod Closed
-pub mod Gathered
 pub mod Counted
 pub mod Keepings
 pub mod Depending

@@ -1,11 +1,10 @@
 -- A backup goes exactly where it is told to, or one of its ancestors is.
-use Rattle.std.proofs.Common.{◌≡◌, ◌⊎◌, ⊎_elim, inl, inr, Bool, true, false, List, [], ◌∷◌, map, ℕ, Option, Some, None, refl, ap, ◌∙◌, sym, subst}
+use Rattle.std.proofs.Common.{◌≡◌, ◌⊎◌, ⊎_elim, inl, inr, Bool, true, false, List, [], ◌∷◌, ℕ, Option, Some, None, refl, ap, ◌∙◌, sym, subst}
 use Rattle.std.specs.Prelude.{◌&&◌, ◌||◌, not, filter}
 use Rattle.std.specs.Option.{option_map_or}
 use Rattle.std.proofs.lemmas.Bool.{or_cases, or_left, or_right, and_parts, false≢true}
 use Rattle.pgb_model.specs.declared.labels.Label.{Label}
 use Rattle.pgb_model.specs.Text.{In}
-use Rattle.pgb_model.specs.Values.{Entry}
 use Rattle.pgb_model.specs.Repository.{Backup}
 use Rattle.pgb_model.specs.Stands.{IsAncestor, Prior, Earlier}
 use Rattle.pgb_retain.specs.declared.rules.Rules.{Rules}

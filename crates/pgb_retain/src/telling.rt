@@ -1,8 +1,8 @@
 // Which backups the two counting rules tell to go.
 ghost use Rattle.std.specs.Prelude.{◌≡◌, ◌++◌, ◌∷◌, [], not, Option, IfOk, OnOk, map, filter, length};
 ghost use Rattle.pgb_model.specs.Values.{entry_of};
-ghost use Rattle.pgb_retain.specs.Labels.{has_label, is_kind, labels_of};
-ghost use Rattle.pgb_retain.specs.Condemned.{is_full, is_diff, is_counted, is_old, before_last, full_gone, diffs_gone};
+ghost use Rattle.pgb_retain.specs.Labels.{has_label, labels_of};
+ghost use Rattle.pgb_retain.specs.Condemned.{is_full, is_counted, is_old, before_last, full_gone, diffs_gone};
 ghost use Rattle.pgb_retain.specs.Told.{mark_of, diffs_marked};
 
 use crate::labels::has_label;

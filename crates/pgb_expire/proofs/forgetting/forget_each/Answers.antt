@@ -1,4 +1,4 @@
-use Rattle.std.proofs.Common.{inr, refl, map, drop, subst, sym, ap, ◌∙◌, ◌+◌, List, ⊎_elim}
+use Rattle.std.proofs.Common.{inr, refl, map, drop, subst, ◌+◌, List, ⊎_elim}
 use Rattle.pgb_model.specs.declared.wal.ArchiveId.{ArchiveId}
 use Rattle.pgb_model.specs.Text.{In}
 use Rattle.pgb_model.specs.Values.{entry_of}

@@ -1,4 +1,4 @@
-use Rattle.std.proofs.Common.{IsTrue, refl, Option, map, subst, sym, ◌∙◌, ap, string_bytes, List, ◌≡◌}
+use Rattle.std.proofs.Common.{IsTrue, refl, Option, map, subst, sym, string_bytes}
 use Rattle.std.specs.Prelude.{IfSome, IsSome}
 use Rattle.std.proofs.lemmas.Result.{on_ok_weaker}
 use Rattle.pgb_outside.specs.Content.{Content, AreFolders, is_below}

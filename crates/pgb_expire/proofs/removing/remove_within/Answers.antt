@@ -1,8 +1,8 @@
 use Rattle.std.proofs.Common.{inr, refl, map, drop, string_bytes, subst, sym, ap, ◌∙◌, ◌+◌, List, IsTrue, ⊎_elim}
 use Rattle.pgb_outside.specs.Content.{is_below}
-use Rattle.pgb_model.specs.Text.{Text, In, ◌⫽◌}
+use Rattle.pgb_model.specs.Text.{Text, In}
 use Rattle.pgb_keys.proofs.Seeking.{opened, ended}
-use Rattle.pgb_expire.specs.Unneeded.{Forgets, IsForgotten}
+use Rattle.pgb_expire.specs.Unneeded.{Forgets}
 use Rattle.pgb_expire.proofs.Losses.{takes_none, takes_on, takes_goes}
 use Rattle.pgb_expire.proofs.Counts.{counted_none, counted_on}
 use Rattle.pgb_expire.proofs.Removals.{GoneWithin, within_next}

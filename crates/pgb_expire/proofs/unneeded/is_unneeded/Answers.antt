@@ -1,4 +1,4 @@
-use Rattle.std.proofs.Common.{◌≡◌, true, false, not, ◌∙◌, sym, ap, subst, Bool}
+use Rattle.std.proofs.Common.{◌≡◌, true, false, not, ◌∙◌, sym, subst, Bool}
 use Rattle.std.proofs.lemmas.Bool.{false≢true, not-true}
 use Rattle.pgb_expire.specs.Unneeded.{IsForgotten}
 use Rattle.pgb_expire.proofs.Tellings.{told_apart, told_forgets}

@@ -1,11 +1,9 @@
-use Rattle.std.proofs.Common.{List, map, not, ◌++◌, ◌∙◌, ap, sym, ◌≡◌, subst}
+use Rattle.std.proofs.Common.{List, map, not, ◌++◌, ◌∙◌, ap, sym}
 use Rattle.std.specs.Prelude.{filter}
 use Rattle.pgb_model.specs.declared.labels.Label.{Label}
-use Rattle.pgb_model.specs.Repository.{Backup}
 use Rattle.pgb_model.specs.Values.{Entry, entry_of}
 use Rattle.pgb_retain.specs.Labels.{has_label, labels_of}
 use Rattle.pgb_retain.specs.Condemned.{diffs_gone, condemned_labels}
-use Rattle.pgb_retain.specs.Descent.{listed_in}
 use Rattle.pgb_retain.proofs.Joined.{condemned_are, if_ok_on}
 use Rattle.pgb_retain.proofs.Lines.{descends}
 use Rattle.pgb_retain.proofs.condemned.expired.Goals as goal

@@ -1,4 +1,4 @@
-use Rattle.std.proofs.Common.{◌≡◌, ◌≤◌, ◌+◌, ap, ◌∙◌, sym, length, arith}
+use Rattle.std.proofs.Common.{◌+◌, ap, ◌∙◌, sym, length, arith}
 use Rattle.pgb_retain.specs.Condemned.{before_last, is_old}
 use Rattle.pgb_retain.proofs.Firsts.{other_count, full_count, old_count, young_count}
 use Rattle.pgb_retain.proofs.telling.before_last_old.Goals as goal

@@ -1,7 +1,6 @@
-use Rattle.std.proofs.Common.{List, map, ◌∙◌, ap, ◌≡◌, ◌-◌, length, rules}
+use Rattle.std.proofs.Common.{map, ◌∙◌, ap, ◌≡◌, ◌-◌, length, rules}
 use Rattle.std.specs.Prelude.{filter, not}
 use Rattle.pgb_model.specs.Values.{entry_of}
-use Rattle.pgb_retain.specs.declared.telling.Mark.{Mark}
 use Rattle.pgb_retain.specs.Labels.{has_label}
 use Rattle.pgb_retain.specs.Told.{diffs_marked}
 use Rattle.pgb_retain.proofs.Joined.{if_ok_on}

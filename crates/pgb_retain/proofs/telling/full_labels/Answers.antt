@@ -1,4 +1,4 @@
-use Rattle.std.proofs.Common.{map, ◌∙◌, ap, rules, ◌≡◌, length}
+use Rattle.std.proofs.Common.{map}
 use Rattle.std.specs.Prelude.{filter}
 use Rattle.pgb_model.specs.Values.{entry_of}
 use Rattle.pgb_retain.specs.Condemned.{is_full}
