@@ -110,7 +110,12 @@ module _ (d : Draft) (is_draft : IsDraft d) (free : IsFree d) (o : Online) (a b 
 
 -- ---- others push to the archive
 
-module _ (d : Draft) (o : Option Online) (a b : View) (told : IsSome b.now → IsSome a.now) (only : ChangesOnly (λ n. IsTrue (is_below (archive_folder (stanza_of d)) n)) a b) where
+told_at : (o w : Option Content) (n : Name) → at n w ≡ at n o → IsSome w → IsSome o
+told_at None None n e h = h
+told_at None (Some g) n e h = let x : ◌≡◌ {A = Option Value} (Some (g n)) None = e in cc
+told_at (Some f) w n e h = refl
+
+module _ (d : Draft) (o : Option Online) (a b : View) (only : ChangesOnly (λ n. IsTrue (is_below (archive_folder (stanza_of d)) n)) a b) where
   abbrev InArchive : Name → Type 0
   InArchive n = IsTrue (is_below (archive_folder (stanza_of d)) n)
 
@@ -123,6 +128,9 @@ module _ (d : Draft) (o : Option Online) (a b : View) (told : IsSome b.now → I
 
   same_own : (n : Name) → is_own_of d n ≡ true → at n b.now ≡ at n a.now
   same_own n is = only.now n (out n is)
+
+  told : IsSome b.now → IsSome a.now
+  told some = told_at a.now b.now (label_name d) (same_own (label_name d) (label_own d)) some
 
   still_sealed : IsSealed (is_own_of d) a → IsSealed (is_own_of d) b
   still_sealed sealed = record {
