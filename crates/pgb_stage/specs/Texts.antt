@@ -8,7 +8,7 @@ use Rattle.pgb_stanza.specs.declared.fault.Identity.{Identity}
 use Rattle.pgb_stage.specs.declared.object.Object.{Object}
 use Rattle.pgb_stage.specs.declared.object.Object.TheVariants.{Repo, Spool, DataFolder, Server, Others, Clock, Locks, Config, Output}
 use Rattle.pgb_stage.specs.declared.fault.Unbuilt.{Unbuilt}
-use Rattle.pgb_stage.specs.declared.fault.Unbuilt.TheVariants.{Command, Background, Online, Kind, Delta, Bundles, Expiry, Recovery}
+use Rattle.pgb_stage.specs.declared.fault.Unbuilt.TheVariants.{Command, Background, Online, Kind, Delta, Bundles, Expiry}
 use Rattle.pgb_stage.specs.declared.fault.ControlFile.{ControlFile}
 use Rattle.pgb_stage.specs.declared.fault.ControlFile.TheVariants.{Control, Version}
 use Rattle.pgb_stage.specs.declared.fault.StageFault.{StageFault}
@@ -70,7 +70,6 @@ part_name Kind = codes "type"
 part_name Delta = codes "delta"
 part_name Bundles = codes "repo1-bundle"
 part_name Expiry = codes "expire-auto"
-part_name Recovery = codes "type"
 
 abbrev pub file_text : ControlFile → Text
 file_text Control = codes "global/pg_control"

@@ -14,14 +14,12 @@ pub enum Unbuilt {
     Online,
     /// another kind of backup than a full one
     Kind,
-    /// a backup or a restore that compares digests
+    /// a backup that compares digests
     Delta,
     /// a backup that joins small files
     Bundles,
     /// an expiry behind a backup
     Expiry,
-    /// a restore that writes settings of a recovery
-    Recovery,
 }
 
 /// A file that tells the cluster.

@@ -17,7 +17,7 @@ fn part_name(what: Unbuilt) -> &'static str
         Unbuilt::Command(verb) => verb_word(verb),
         Unbuilt::Background => "archive-async",
         Unbuilt::Online => "online",
-        Unbuilt::Kind | Unbuilt::Recovery => "type",
+        Unbuilt::Kind => "type",
         Unbuilt::Delta => "delta",
         Unbuilt::Bundles => "repo1-bundle",
         Unbuilt::Expiry => "expire-auto",
