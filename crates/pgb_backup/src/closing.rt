@@ -84,8 +84,8 @@ fn store_label<D: Disk>(
     Ok(())
 }
 
-/// The backup of a running server, whose jobs are done and which the server stopped, stops now. The server's label file is
-/// stored among its files, to last. The stanza's list stays as it is, in what a stop leaves too.
+/// The backup of a running server, whose jobs are done and which the server stopped, stops now. The server's label file
+/// is stored among its files, to last. The stanza's list stays as it is, in what a stop leaves too.
 pub fn close_online<'a, D: Disk, C: Clock>(
     alloc: Global,
     d: &mut D,

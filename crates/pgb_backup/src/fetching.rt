@@ -81,8 +81,8 @@ pub struct Fetched<'a> {
     pub(crate) ends: Vec<Vec<Ended>>,
 }
 
-/// Has the draft's jobs done, and stores what comes of them in the label's folder, to last. The stanza's list stays as it
-/// is, in what a stop leaves too.
+/// Has the draft's jobs done, and stores what comes of them in the label's folder, to last. The stanza's list stays as
+/// it is, in what a stop leaves too.
 pub fn fetch<'a, D: Disk, L: Link, U: Turns>(
     alloc: Global,
     d: &mut D,

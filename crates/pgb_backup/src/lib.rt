@@ -2,9 +2,9 @@
 //! manifest is saved, and then the stanza's list with it.
 //!
 //! - `make` makes that of a stopped server.
-//! - That of a running one is made in parts: `fetch` while the server is in its backup; `close_online` once it has stopped
-//!   it, which stores its label file; and `publish` once the archive has the part of the log that the backup needs. Others
-//!   may push to the archive meanwhile.
+//! - That of a running one is made in parts: `fetch` while the server is in its backup; `close_online` once it has
+//!   stopped it, which stores its label file; and `publish` once the archive has the part of the log that the backup
+//!   needs. Others may push to the archive meanwhile.
 #![tactic(auto)]
 
 mod closing;

@@ -17,8 +17,8 @@ use pgb_outside::Disk;
 use pgb_pair::save_text;
 use std::alloc::Global;
 
-/// Saves the manifest of a backup that has stopped, and then the stanza's list with it. What lies in its label's folder has
-/// to be there still.
+/// Saves the manifest of a backup that has stopped, and then the stanza's list with it. What lies in its label's folder
+/// has to be there still.
 pub fn publish<D: Disk>(alloc: Global, d: &mut D, closed: Closed<'_>) -> Result<(), MakeFault>
     requires { IsClosed closed }
 

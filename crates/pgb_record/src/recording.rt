@@ -152,7 +152,8 @@ fn list_with(
     })
 }
 
-/// The manifest of what came of a listing, with a further file where there is one, and the stanza's list with its backup.
+/// The manifest of what came of a listing, with a further file where there is one, and the stanza's list with its
+/// backup.
 pub fn record_of(
     alloc: Global,
     head: &Head,
