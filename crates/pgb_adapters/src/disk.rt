@@ -165,11 +165,11 @@ fn begin_in_folders(
     name: &str,
 ) -> io::Result<()> {
     settled.noted.change(place, name)?;
-    match handles.begin(place, name) {
+    match handles.begin_to_sync(place, name) {
         Err(e) if e.kind() == ErrorKind::NotFound => {
             settled.forget();
             place.make_folders_for(name)?;
-            handles.begin(place, name)
+            handles.begin_to_sync(place, name)
         }
         done => done,
     }

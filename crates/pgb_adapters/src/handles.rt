@@ -53,6 +53,12 @@ impl Handles {
     /// Makes the name an empty file.
     pub fn begin(&mut self, place: &Place, name: &str) -> io::Result<()> {
         let file = place.create(name)?;
+        self.write_in(place, name, file)
+    }
+
+    /// Makes the name an empty file that is going to be synced.
+    pub fn begin_to_sync(&mut self, place: &Place, name: &str) -> io::Result<()> {
+        let file = place.create(name)?;
         // Of a file that was cut to nothing ext4 begins to write the bytes as it is closed.
         file.set_len(0)?;
         self.write_in(place, name, file)
