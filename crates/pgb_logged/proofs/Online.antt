@@ -29,7 +29,7 @@ use Rattle.pgb_backup.specs.Made.{LeavesList, ListsIt, MakesOf, MayBeListed, Out
 use Rattle.pgb_backup.specs.Online.{Online, label_path}
 use Rattle.pgb_backup.proofs.Far.{far}
 use Rattle.pgb_backup.proofs.Unlisted.{tight_of, beside_stands, unlisted_moves}
-use Rattle.pgb_logged.specs.Backups.{IsReadBeside, IsOnlineBackup, Waits, HasPart}
+use Rattle.pgb_logged.specs.Backups.{IsReadBeside, IsOnlineBackup, Waits, Archives, HasPart}
 use Rattle.pgb_logged.proofs.Settled.{OneList}
 use Rattle.pgb_logged.proofs.Reading.{backup_made, online_read, label_there, no_files, no_files_beside}
 use Rattle.pgb_logged.proofs.Begun.{BeginsFull, told_as, at_now, stanza_there, list_there, no_vacant, steady_list}
@@ -387,6 +387,8 @@ module _ (one_list : OneList) (one_manifest : OneManifest) (draft : Draft) (a c 
         pub read : IsReadBeside links (Some o.label_file) b
         pub label_file : get b.files label_path ≡ Some (record { bytes = o.label_file; time = b.entry.stop })
         pub adds : (s : Stanza) → IsSome a.now → NowStands (stanza_of draft) (Some s) a.now → NowStands (stanza_of draft) (after (Some s) (all_of (steps_of (MakeBackup turns b None) (Some s)))) d.now
+        pub db : b.entry.db ≡ draft.cluster.id
+        pub archived : (s : Stanza) → IsSome a.now → NowStands (stanza_of draft) (Some s) a.now → (t : Stanza) → after (Some s) (all_of (steps_of (MakeBackup turns b None) (Some s))) ≡ Some t → Archives (id_of draft.cluster) o.part t
 
       is_added : (makes : MakesOf draft (Some o) links true w d) → IsOnlineAdded (backup_made draft (Some o) links true w d makes)
       is_added makes = record {
@@ -398,6 +400,17 @@ module _ (one_list : OneList) (one_manifest : OneManifest) (draft : Draft) (a c 
             let b = backup_made draft (Some o) links true w d makes in
             subst (λ (q : Repository). NowStands (stanza_of draft) q d.now) (sym (ap (after (Some s)) (all_steps s turns b) ∙ with_it s turns b))
             (online_listed one_list one_manifest draft a c begins left turns ended w waits is o free links d arrived true makes refl s some stands)
+            );
+        db = ap (λ (m : Manifest). m.cluster.id) makes.manifest_is;
+        archived = λ s some stands t at segment within. (
+            let b = backup_made draft (Some o) links true w d makes in
+            let g = told_as w.now (some_then one_list one_manifest draft a c begins left turns ended w waits is some) in
+            let h = now_waited one_list one_manifest draft a c begins left turns ended w waits is s some stands g.0 g.1 in
+            let part : IfSome (Some g.0) (HasPart (stanza_of draft) (id_of draft.cluster) o.part) = subst (λ (n : Option Content). IfSome n (HasPart (stanza_of draft) (id_of draft.cluster) o.part)) g.1 arrived in
+            let x = part (waited s turns) h segment within in
+            let e : ◌≡◌ {A = Option Stanza} (Some (changed (AddBackup b) (waited s turns))) (Some t) = sym (ap (after (Some s)) (all_steps s turns b) ∙ with_it s turns b) ∙ at in
+            let same : changed (AddBackup b) (waited s turns) ≡ t = cc in
+            (x.0, subst (λ (u : Stanza). In x.0 u.archived) same x.1, x.2, x.3)
             );
       }
 

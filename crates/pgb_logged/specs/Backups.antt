@@ -51,9 +51,13 @@ pub record Waits (stanza : Text) (turns : List Turn) (ended : Bool) (old new : V
   pub between : PassesOnly stanza (ArchivePushAsync turns) old new
   pub only : ChangesArchive stanza old new
 
--- whatever stanza f has, each segment of this part of the log is archived in it under the id
+-- each segment of this part of the log is archived under the id
+abbrev pub Archives : ArchiveId → WalPart → Stanza → Type 0
+Archives id w s = (segment : Segment) → IsWithinSpan w.size.0 w.span segment → (a : Archived) × In a s.archived × (a.id ≡ id) × (a.name ≡ Whole segment)
+
+-- so it is in whatever stanza f has
 abbrev pub HasPart : Text → ArchiveId → WalPart → Content → Type 0
-HasPart stanza id w f = (s : Stanza) → HasStanza stanza f s → (segment : Segment) → IsWithinSpan w.size.0 w.span segment → (a : Archived) × In a s.archived × (a.id ≡ id) × (a.name ≡ Whole segment)
+HasPart stanza id w f = (s : Stanza) → HasStanza stanza f s → Archives id w s
 
 -- the repository has one more backup
 pub record AddsBackup (stanza : Text) (b : Backup) (old new : Option Content) : Type 0 where

@@ -49,7 +49,7 @@ module _ (a b : Told) (same : b.answer ≡ a.answer) (tree repo : Content) where
   }
 
 -- what holds of the files that the later one reads holds of those that the first one reads
-where_back : (from now : Option Told) (P : Content → Content → Type 0) → IsDrained from now → WhereRead now P → WhereRead from P
+pub where_back : (from now : Option Told) (P : Content → Content → Type 0) → IsDrained from now → WhereRead now P → WhereRead from P
 where_back None None P d h = tt
 where_back None (Some b) P d h = absurd d
 where_back (Some a) None P d h = absurd d

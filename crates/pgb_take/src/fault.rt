@@ -65,7 +65,7 @@ pub(crate) fn of_stanza(fault: StanzaFault) -> Halt<TakeFault>
 }
 
 /// What a fault of the listing is.
-pub(crate) fn of_plan(fault: PlanFault) -> Halt<TakeFault>
+pub fn of_plan(fault: PlanFault) -> Halt<TakeFault>
     ensures { result ≡ of_plan fault }
 {
     match fault {
@@ -81,7 +81,7 @@ pub(crate) fn of_plan(fault: PlanFault) -> Halt<TakeFault>
 }
 
 /// Why no second is told for a label.
-pub(crate) fn of_second(fault: SecondFault) -> Halt<TakeFault>
+pub fn of_second(fault: SecondFault) -> Halt<TakeFault>
     ensures { result ≡ of_second fault }
 {
     match fault {
@@ -95,7 +95,7 @@ pub(crate) fn of_second(fault: SecondFault) -> Halt<TakeFault>
 }
 
 /// Why the backup of this label isn't made; so many workers were lost by then.
-pub(crate) fn of_make(
+pub fn of_make(
     alloc: Global,
     stanza: &str,
     label: &Label,

@@ -15,7 +15,7 @@ use pgb_stanza::{Control, fit_list};
 const MOST_BACKUPS: usize = 10_000;
 
 /// The stanza's list without a cluster that is still to come, where the pairs' values are of the cluster that is told.
-pub(crate) fn fit(
+pub fn fit(
     archive: &ArchiveInfo,
     backup: BackupInfo,
     told: &Control,
@@ -36,7 +36,7 @@ pub(crate) fn fit(
 }
 
 /// Refuses a list that is full.
-pub(crate) fn check_room(list: &BackupInfo) -> Result<(), Halt<TakeFault>>
+pub fn check_room(list: &BackupInfo) -> Result<(), Halt<TakeFault>>
     ensures room { OnOk result (length (backup_info_of list.now).backups < most_backups) }
     ensures cause { IfErr result (HaltCause (RoomCause (backup_info_of list.now)) (λ _. ⊥)) }
 {

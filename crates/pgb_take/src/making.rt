@@ -24,7 +24,7 @@ use pgb_worker_dispatch::Lost;
 use std::alloc::Global;
 
 /// The line that tells the label of a backup that was made.
-pub(crate) fn label_line(alloc: Global, label: &Label) -> Result<String, NoMemory>
+pub fn label_line(alloc: Global, label: &Label) -> Result<String, NoMemory>
     requires { IsLabel label.now }
     ensures { IfOk result (λ line. string_bytes line ≡ label_line label.now) }
 {
@@ -33,7 +33,7 @@ pub(crate) fn label_line(alloc: Global, label: &Label) -> Result<String, NoMemor
 }
 
 /// How many were lost.
-pub(crate) fn count_of(lost: &[Lost]) -> u32
+pub fn count_of(lost: &[Lost]) -> u32
     ensures { length lost.now < 2 ^ 32 → result ≡ length lost.now }
 {
     u32::try_from(lost.len()).unwrap_or(u32::MAX)

@@ -28,7 +28,7 @@ fn roots_of(alloc: Global, order: &TakeOrder<'_>) -> Result<Roots, AllocError>
 }
 
 /// Keeps as many links as there are to be workers, and tells each its folders. A link over which that fails is lost.
-pub(crate) fn start_workers<L: Link>(
+pub fn start_workers<L: Link>(
     alloc: Global,
     links: &mut Vec<L>,
     order: &TakeOrder<'_>,
