@@ -76,12 +76,15 @@ fn configuration(rt: HostRuntime, path: &str) -> Option<Vec<u8>> {
         return Some(bytes);
     }
     let mut buf = [0u8; 32768];
-    while bytes.len() <= CONFIG_LIMIT {
+    for _ in 0..CONFIG_LIMIT {
         let count = source.read(&mut buf).ok()?;
         if count == 0 {
             return Some(bytes);
         }
         bytes.extend_from_slice(&buf[..count]).ok()?;
+        if bytes.len() > CONFIG_LIMIT {
+            return None;
+        }
     }
     None
 }
