@@ -1,0 +1,14 @@
+use Rattle.std.proofs.Common.{◌≤◌, take}
+use Rattle.std.specs.Prelude.{IfSome}
+use Rattle.pgb_model.specs.Text.{Text}
+use Rattle.pgb_stored.specs.Stored.{AreStored}
+use Rattle.pgb_verify.specs.Archived.{HasOther}
+use Rattle.pgb_verify.specs.Adding.{Adds, OfSome}
+use Rattle.pgb_outside.specs.States.{Looks}
+use Rattle.pgb_verify.proofs.archive.look_at_bytes.Given as goal
+
+abbrev pub invariant-loop-file : goal.invariant-loop-file
+invariant-loop-file g l = let D = g.D.Disk in record {
+  adds : IfSome (D.state l.fn.d).view.now (λ f. (stanza : Text) → AreStored stanza f l.files → Adds (OfSome (HasOther f) (take l.file-index l.files)) l.fn.found.items l.found.items);
+  looks : Looks (D.state l.fn.d) (D.state l.d);
+}
