@@ -32,7 +32,8 @@ use Rattle.pgb_stored.proofs.Looked.{with_front}
 use Rattle.pgb_stored.proofs.Orders.{in_map, from_map, not_itself}
 use Rattle.pgb_verify.specs.What.{What, MemberAbsent, MemberBad, MembersDiffer, Absent, Short, Digest, Second, Gap, Reference}
 use Rattle.pgb_verify.specs.Findings.{IsText, MemberDeviates, BothDeviate, PairDeviates, OfMain, OfCopy, OfBoth, segment_of, IsStoredName, FileDeviates, part, BytesDeviate, EntryDeviates, SpanDeviates, ReferenceDeviates, ManifestDeviates, OfEntry, OfSpan, OfReference, BackupDeviates, OfMembers, OfManifest, IsFinding, OfArchivePair, OfBackupPair, OfFile, OfBackup}
-use Rattle.pgb_verify.specs.Clean.{AgreeAt, MembersAgree, IsOfOne}
+use Rattle.pgb_verify.specs.Clean.{AgreeAt, MembersAgree}
+use Rattle.pgb_verify.proofs.Values.{IsOfOne}
 use Rattle.pgb_verify.proofs.Values.{not_none, some_at, if_at, value_of, some_of, is_some, same_some}
 
 -- ---- a pair

@@ -22,7 +22,8 @@ use Rattle.pgb_verify.specs.What.{What, MemberAbsent, MemberBad, MembersDiffer, 
 use Rattle.pgb_verify.specs.Findings.{PairDeviates, FileDeviates, EntryDeviates, SpanDeviates, ReferenceDeviates, ManifestDeviates, OfEntry, OfSpan, OfReference, BackupDeviates, OfMembers, OfManifest, IsFinding, OfArchivePair, OfBackupPair, OfFile, OfBackup}
 use Rattle.pgb_verify.specs.References.{AreUnlisted, RefersTo}
 use Rattle.pgb_verify.specs.Adding.{Adds, OfSome}
-use Rattle.pgb_verify.specs.Clean.{IsOfOne, MembersAgree}
+use Rattle.pgb_verify.specs.Clean.{MembersAgree}
+use Rattle.pgb_verify.proofs.Values.{IsOfOne}
 use Rattle.pgb_verify.specs.Exact.{AreFindings, AreAlike, finding_cmp, PairsDeviate}
 use Rattle.pgb_verify.proofs.Adding.{Either, adds_on, adds_as}
 use Rattle.pgb_verify.proofs.Sound.{one_value, clean}

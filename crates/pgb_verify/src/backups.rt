@@ -9,7 +9,6 @@ ghost use Rattle.pgb_model.specs.ManifestText.{IsManifestText};
 ghost use Rattle.pgb_model.specs.Names.{manifest_name};
 ghost use Rattle.pgb_stored.specs.Stored.{AreStored};
 ghost use Rattle.pgb_verify.specs.Adding.{Adds};
-ghost use Rattle.pgb_verify.specs.Clean.{IsOfOne};
 ghost use Rattle.pgb_verify.specs.Findings.{BackupDeviates};
 ghost use Rattle.pgb_outside.specs.States.{Looks};
 
@@ -17,7 +16,7 @@ use crate::files::look_at_files;
 use crate::finding::{Finding, VerifyFault};
 use crate::gaps::look_for_gaps;
 use crate::references::look_for_references;
-use crate::standins::look_at_manifest;
+use crate::pairs::look_at_manifest;
 use pgb_stored::Stored;
 use pgb_stamp::label_text;
 use pgb_model::Label;
@@ -44,7 +43,6 @@ pub(crate) fn look_at_backup<D: Disk>(
     found: &mut Vec<Finding>,
 ) -> Result<(), VerifyFault>
     requires own { IsLabel own.now }
-    requires manifest { IsOfOne IsManifestText }
     requires listed { IfSome (D.state d.old).view.now (λ f. (l : LabelOf) → In l labels.now ↔ Lists stanza.now f l) }
     requires stored { IfSome (D.state d.old).view.now (λ f. AreStored stanza.now f files.now) }
     ensures adds { OnOk result (IfSome (D.state d.old).view.now (λ f. Adds (BackupDeviates stanza.now f own.now) found.old.items found.new.items)) }

@@ -1,44 +1,23 @@
 // The two members of a pair are looked at.
-ghost use Rattle.std.specs.Prelude.{◌≡◌, ◌≤◌, ℕ, List, IfOk, IfSome, OnOk, IsErrOf, length, string_bytes};
+ghost use Rattle.std.specs.Prelude.{◌≡◌, ℕ, List, IfOk, IfSome, OnOk, IsErrOf, string_bytes};
 ghost use Rattle.pgb_outside.specs.Cause.{Rises};
 ghost use Rattle.pgb_outside.specs.Content.{Content};
 ghost use Rattle.pgb_model.specs.Names.{copy_of};
-ghost use Rattle.pgb_model.specs.InfoFiles.{info_limit, IsArchiveText, IsBackupText};
-ghost use Rattle.pgb_model.specs.Values.{archive_info_of, backup_info_of, ArchiveInfo as ArchiveValue, BackupInfo as BackupValue};
+ghost use Rattle.pgb_model.specs.ManifestText.{IsManifest, IsManifestText};
+ghost use Rattle.pgb_model.specs.Values.{manifest_of};
 ghost use Rattle.pgb_verify.specs.Findings.{MemberDeviates, BothDeviate, PairDeviates};
-ghost use Rattle.pgb_verify.specs.Members.{ReadsAs, MemberSo, ValueSo};
+ghost use Rattle.pgb_verify.specs.Members.{IfGood, MemberSo, ValueSo};
 ghost use Rattle.pgb_verify.specs.Adding.{Adds};
 ghost use Rattle.pgb_outside.specs.States.{Looks};
 
 use crate::finding::{Finding, Kind, VerifyFault};
 use pgb_disk::{StoreFault, read_whole};
 use pgb_info::ReadInfo;
-use pgb_model::{ArchiveInfo, BackupInfo};
+use pgb_manifest::Stored;
+use pgb_model::Manifest;
 use pgb_outside::Disk;
 use pgb_text::NoMemory;
 use std::alloc::Global;
-
-/// A value that is read from a text.
-pub(crate) trait ReadText: Drop + Sized {
-    /// The values, as the repository's theorems see them.
-    ghost Value: { Type 0 };
-
-    /// The value that this one stands for.
-    ghost value: { Self → Value };
-
-    /// The bytes are the text of this value.
-    ghost IsText: { Value → List ℕ → Type 0 };
-
-    /// A text has at most so many bytes.
-    ghost limit: { ℕ };
-
-    /// The value of a text; none of other bytes.
-    fn read(alloc: Global, bytes: &[u8]) -> Result<Option<Self>, NoMemory>
-        requires { length bytes.now ≤ limit }
-        ensures { IfOk result (ReadsAs IsText value bytes.now) };
-
-    ghost within: { (v : Value) (b : List ℕ) → IsText v b → length b ≤ limit };
-}
 
 /// What stands at a member's name.
 #[derive(Drop)]
@@ -48,22 +27,22 @@ pub(crate) enum Member<I> {
     Good { bytes: Vec<u8>, value: I },
 }
 
-fn read_member<D: Disk, I: ReadText>(
+fn read_member<D: Disk, I: ReadInfo>(
     alloc: Global,
     d: &mut D,
     name: &str,
-    limit: u64,
 ) -> Result<Member<I>, VerifyFault>
-    requires { limit ≡ I.limit }
-    ensures member { IfOk result (λ m. IfSome (D.state d.old).view.now (λ f. MemberSo I.IsText I.value (f name.now) m)) }
+    ensures member { IfOk result (λ m. IfSome (D.state d.old).view.now
+        (λ f. MemberSo I.IsText I.value (f name.now) m)) }
+    ensures valid { IfOk result (λ m. IfGood I.is_valid m) }
     ensures looks { Looks (D.state d.old) (D.state d.new) }
     ensures cause { IsErrOf result VerifyFault.Disk → Rises (D.state d.old).faults (D.state d.new).faults }
 {
-    match read_whole(alloc, d, name, limit) {
+    match read_whole(alloc, d, name, I::limit()) {
         Ok(None) => Ok(Member::Absent),
         Ok(Some(bytes)) => match I::read(alloc, &bytes)? {
-            Some(value) => Ok(Member::Good { bytes, value }),
-            None => Ok(Member::Bad),
+            Ok(value) => Ok(Member::Good { bytes, value }),
+            Err(_) => Ok(Member::Bad),
         },
         Err(StoreFault::TooLong { .. }) => Ok(Member::Bad),
         Err(StoreFault::Disk) => Err(VerifyFault::Disk),
@@ -81,7 +60,7 @@ fn told(alloc: Global, name: &str, kind: Kind, line: &str) -> Result<Finding, No
     Ok(Finding { name, kind, line })
 }
 
-fn tell_member<I: ReadText>(
+fn tell_member<I: ReadInfo>(
     alloc: Global,
     name: &str,
     member: &Member<I>,
@@ -97,7 +76,7 @@ fn tell_member<I: ReadText>(
     Ok(())
 }
 
-fn tell_both<I: ReadText>(
+fn tell_both<I: ReadInfo>(
     alloc: Global,
     name: &str,
     main: &Member<I>,
@@ -118,8 +97,9 @@ fn tell_both<I: ReadText>(
     Ok(())
 }
 
-fn value_of<I: ReadText>(main: Member<I>, copy: Member<I>) -> Option<I>
-    ensures { (f : Content) (name : List ℕ) → MemberSo I.IsText I.value (f name) main → MemberSo I.IsText I.value (f (copy_of name)) copy → ValueSo I.IsText I.value f name result }
+fn value_of<I: ReadInfo>(main: Member<I>, copy: Member<I>) -> Option<I>
+    ensures valid { IfGood I.is_valid main → IfGood I.is_valid copy → IfSome result I.is_valid }
+    ensures value { (f : Content) (name : List ℕ) → MemberSo I.IsText I.value (f name) main → MemberSo I.IsText I.value (f (copy_of name)) copy → ValueSo I.IsText I.value f name result }
 {
     match (main, copy) {
         (Member::Good { value, .. }, _) => Some(value),
@@ -129,56 +109,44 @@ fn value_of<I: ReadText>(main: Member<I>, copy: Member<I>) -> Option<I>
 }
 
 /// Looks at the two members of a pair. The answer is its value, where it has one.
-pub(crate) fn look_at_pair<D: Disk, I: ReadText>(
+pub(crate) fn look_at_pair<D: Disk, I: ReadInfo>(
     alloc: Global,
     d: &mut D,
     name: &str,
-    limit: u64,
     found: &mut Vec<Finding>,
 ) -> Result<Option<I>, VerifyFault>
-    requires { limit ≡ I.limit }
     ensures adds { OnOk result (IfSome (D.state d.old).view.now (λ f. Adds (PairDeviates I.IsText f name.now) found.old.items found.new.items)) }
     ensures value { IfOk result (λ v. IfSome (D.state d.old).view.now (λ f. ValueSo I.IsText I.value f name.now v)) }
+    ensures valid { IfOk result (λ v. IfSome v I.is_valid) }
     ensures looks { Looks (D.state d.old) (D.state d.new) }
     ensures cause { IsErrOf result VerifyFault.Disk → Rises (D.state d.old).faults (D.state d.new).faults }
 {
     let copy_name = format!(in alloc; "{name}.copy")?;
-    let main: Member<I> = read_member(alloc, d, name, limit)?;
-    let copy: Member<I> = read_member(alloc, d, copy_name.as_str(), limit)?;
+    let main: Member<I> = read_member(alloc, d, name)?;
+    let copy: Member<I> = read_member(alloc, d, copy_name.as_str())?;
     tell_member(alloc, name, &main, found)?;
     tell_member(alloc, copy_name.as_str(), &copy, found)?;
     tell_both(alloc, name, &main, &copy, found)?;
     Ok(value_of(main, copy))
 }
 
-impl ReadText for ArchiveInfo {
-    ghost Value = { ArchiveValue };
-
-    ghost value = { archive_info_of };
-
-    ghost IsText = { IsArchiveText };
-
-    ghost limit = { info_limit };
-
-    fn read(alloc: Global, bytes: &[u8]) -> Result<Option<Self>, NoMemory> {
-        Ok(<ArchiveInfo as ReadInfo>::read(alloc, bytes)?.ok())
+/// Looks at the two members of a manifest.
+pub(crate) fn look_at_manifest<D: Disk>(
+    alloc: Global,
+    d: &mut D,
+    name: &str,
+    found: &mut Vec<Finding>,
+) -> Result<Option<Manifest>, VerifyFault>
+    ensures adds { OnOk result (IfSome (D.state d.old).view.now
+        (λ f. Adds (PairDeviates IsManifestText f name.now) found.old.items found.new.items)) }
+    ensures value { IfOk result (λ v. IfSome (D.state d.old).view.now
+        (λ f. ValueSo IsManifestText manifest_of f name.now v)) }
+    ensures rules { IfOk result (λ v. IfSome v (λ m. IsManifest (manifest_of m))) }
+    ensures looks { Looks (D.state d.old) (D.state d.new) }
+    ensures cause { IsErrOf result VerifyFault.Disk → Rises (D.state d.old).faults (D.state d.new).faults }
+{
+    match look_at_pair(alloc, d, name, found)? {
+        Some(Stored(manifest)) => Ok(Some(manifest)),
+        None => Ok(None),
     }
-
-    ghost within = { λ v b is. is.within };
-}
-
-impl ReadText for BackupInfo {
-    ghost Value = { BackupValue };
-
-    ghost value = { backup_info_of };
-
-    ghost IsText = { IsBackupText };
-
-    ghost limit = { info_limit };
-
-    fn read(alloc: Global, bytes: &[u8]) -> Result<Option<Self>, NoMemory> {
-        Ok(<BackupInfo as ReadInfo>::read(alloc, bytes)?.ok())
-    }
-
-    ghost within = { λ v b is. is.within };
 }

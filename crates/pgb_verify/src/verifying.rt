@@ -13,7 +13,7 @@ ghost use Rattle.pgb_model.specs.Values.{backup_info_of, entry_of, Entry as List
 ghost use Rattle.pgb_model.specs.Text.{In};
 ghost use Rattle.pgb_stored.specs.Stored.{AreStored};
 ghost use Rattle.pgb_verify.specs.Adding.{Adds, OfSome};
-ghost use Rattle.pgb_verify.specs.Clean.{IsOfOne, MembersAgree};
+ghost use Rattle.pgb_verify.specs.Clean.{MembersAgree};
 ghost use Rattle.pgb_verify.specs.Exact.{AreFindings, PairsDeviate};
 ghost use Rattle.pgb_verify.specs.Findings.{BackupDeviates, FileDeviates};
 ghost use Rattle.pgb_outside.specs.States.{Looks};
@@ -23,15 +23,11 @@ use crate::backups::look_at_backup;
 use crate::finding::{Finding, VerifyFault};
 use crate::order::put_in_order;
 use crate::pairs::look_at_pair;
-use crate::standins::laws;
 use pgb_stored::{Stored, all};
 use pgb_model::{ArchiveInfo, BackupInfo, Entry, Label};
 use pgb_outside::Disk;
 use pgb_text::NoMemory;
 use std::alloc::Global;
-
-// An info text has at most 64 MiB.
-const INFO_LIMIT: u64 = 67_108_864;
 
 // The labels that are listed.
 fn labels_of(alloc: Global, listed: &[Entry]) -> Result<Vec<Label>, NoMemory>
@@ -54,7 +50,6 @@ fn look_at_backups<D: Disk>(
     found: &mut Vec<Finding>,
 ) -> Result<(), VerifyFault>
     requires labels { (l : LabelOf) → In l labels.now → IsLabel l }
-    requires manifest { IsOfOne IsManifestText }
     requires listed { IfSome (D.state d.old).view.now (λ f. (l : LabelOf) → In l labels.now ↔ Lists stanza.now f l) }
     requires stored { IfSome (D.state d.old).view.now (λ f. AreStored stanza.now f files.now) }
     ensures adds { OnOk result (IfSome (D.state d.old).view.now (λ f. Adds (OfSome (BackupDeviates stanza.now f) labels.now) found.old.items found.new.items)) }
@@ -80,8 +75,8 @@ fn look_at_pairs<D: Disk>(
 {
     let archive = format!(in alloc; "archive/{stanza}/archive.info")?;
     let backup = format!(in alloc; "backup/{stanza}/backup.info")?;
-    let _: Option<ArchiveInfo> = look_at_pair(alloc, d, archive.as_str(), INFO_LIMIT, found)?;
-    let _: Option<BackupInfo> = look_at_pair(alloc, d, backup.as_str(), INFO_LIMIT, found)?;
+    let _: Option<ArchiveInfo> = look_at_pair(alloc, d, archive.as_str(), found)?;
+    let _: Option<BackupInfo> = look_at_pair(alloc, d, backup.as_str(), found)?;
     Ok(())
 }
 
@@ -117,7 +112,6 @@ pub fn verify<D: Disk>(
     ensures looks { Looks (D.state d.old) (D.state d.new) }
     ensures cause { IsErrOf result VerifyFault.Disk → Rises (D.state d.old).faults (D.state d.new).faults }
 {
-    laws()?;
     let labels = labels_of(alloc, &listed.backups)?;
     let mut found = Vec::new(alloc);
     look_at_pairs(alloc, d, stanza, &mut found)?;

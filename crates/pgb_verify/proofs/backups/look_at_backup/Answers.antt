@@ -4,6 +4,7 @@ use Rattle.pgb_model.specs.Values.{manifest_of, file_entry_of}
 use Rattle.pgb_verify.specs.References.{RefersTo}
 use Rattle.pgb_verify.proofs.Values.{if_at}
 use Rattle.pgb_verify.proofs.Whole.{unread_told, read_told, label_of}
+use Rattle.pgb_one_text.proofs.Manifests.{one_manifest}
 use Rattle.pgb_verify.proofs.backups.look_at_backup.Goals as goal
 
 pub returns-in_default-clause-adds : goal.returns-in_default-clause-adds
@@ -20,5 +21,5 @@ pub returns-clause-adds : goal.returns-clause-adds
 returns-clause-adds g c =
     let D = g.D.Disk in
     read_told c.args.stanza.now c.args.own.now (D.state c.args.d.now).view.now c.as_str.result.now (c.as_str.ensures.value ∙ c.in_ok-name.ensures) c.in_ok-manifest.field-0 c.in_ok-manifest.ensures.value c.args.found.now.items _ c.in_ok-manifest.ensures.adds
-    c.in-Some.manifest c.in-Some.is c.requires.manifest (D.state c.look_at_manifest.new._d).view.now c.in_ok-manifest.ensures.looks.now c.deref.result.now c.deref.ensures.value c.args.files.now c.args.labels.now
+    c.in-Some.manifest c.in-Some.is one_manifest (D.state c.look_at_manifest.new.d).view.now c.in_ok-manifest.ensures.looks.now c.deref.result.now c.deref.ensures.value c.args.files.now c.args.labels.now
     _ _ _ c.requires.stored c.requires.listed c.in_ok-look_at_files.ensures.adds c.in_ok-look_for_gaps.ensures c.as_str-2.result.now (c.as_str-2.ensures.value ∙ sym c.as_str.ensures.value) c.deref-2.result.now c.deref-2.ensures.value c.in_ok-look_for_references.ensures

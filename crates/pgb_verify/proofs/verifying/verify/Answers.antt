@@ -2,6 +2,8 @@ use Rattle.std.proofs.Common.{◌∙◌, ap, map, List}
 use Rattle.pgb_model.specs.declared.labels.Entry.{Entry as RustEntry}
 use Rattle.pgb_model.specs.Values.{Entry, entry_of, backup_info_of}
 use Rattle.pgb_verify.proofs.Whole.{labels_fit, labels_told, whole_told, clean_told}
+use Rattle.pgb_one_text.proofs.Lists.{one_list}
+use Rattle.pgb_one_text.proofs.Manifests.{one_manifest}
 use Rattle.pgb_verify.proofs.verifying.verify.Goals as goal
 
 pub look_at_backups-requires-clause-labels : goal.look_at_backups-requires-clause-labels
@@ -11,7 +13,7 @@ look_at_backups-requires-clause-labels g c =
 
 pub look_at_backups-requires-clause-listed : goal.look_at_backups-requires-clause-listed
 look_at_backups-requires-clause-listed g c = let D = g.D.Disk in
-    labels_told c.args.stanza.now (D.state c.args.d.now).view.now (D.state c.look_at_files_of.new.d).view.now (c.look_at_files_of.ensures.looks.now ∙ c.look_at_pairs.ensures.looks.now) (backup_info_of c.args.listed.now) c.in_ok-laws.ensures.backup c.requires.listed c.deref-2.result.now
+    labels_told c.args.stanza.now (D.state c.args.d.now).view.now (D.state c.look_at_files_of.new.d).view.now (c.look_at_files_of.ensures.looks.now ∙ c.look_at_pairs.ensures.looks.now) (backup_info_of c.args.listed.now) one_list c.requires.listed c.deref-2.result.now
     (c.deref-2.ensures.value ∙ c.in_ok-labels.ensures ∙ ap (λ (es : List RustEntry). map (λ (e : Entry). e.label) (map entry_of es)) c.deref.ensures.value)
 
 pub returns-clause-exact : goal.returns-clause-exact
@@ -19,10 +21,10 @@ returns-clause-exact g c = let D = g.D.Disk in
     let now = c.look_at_files_of.ensures.looks.now ∙ c.look_at_pairs.ensures.looks.now in
     whole_told c.args.stanza.now (D.state c.args.d.now).view.now (D.state c.look_at_pairs.new.d).view.now (D.state c.look_at_files_of.new.d).view.now c.deref-2.result.now
     c.new-found.result.items c.look_at_pairs.new.found.items c.look_at_files_of.new.found.items c.look_at_backups.new.found.items c.put_in_order.new.found.items c.new-found.ensures.items c.look_at_pairs.ensures.looks.now now
-    (labels_told c.args.stanza.now (D.state c.args.d.now).view.now (D.state c.look_at_files_of.new.d).view.now now (backup_info_of c.args.listed.now) c.in_ok-laws.ensures.backup c.requires.listed c.deref-2.result.now
+    (labels_told c.args.stanza.now (D.state c.args.d.now).view.now (D.state c.look_at_files_of.new.d).view.now now (backup_info_of c.args.listed.now) one_list c.requires.listed c.deref-2.result.now
     (c.deref-2.ensures.value ∙ c.in_ok-labels.ensures ∙ ap (λ (es : List RustEntry). map (λ (e : Entry). e.label) (map entry_of es)) c.deref.ensures.value))
     c.in_ok-look_at_pairs.ensures.adds c.in_ok-files.ensures.adds c.in_ok-look_at_backups.ensures.adds c.put_in_order.ensures.order c.put_in_order.ensures.each c.put_in_order.ensures.all
 
 pub returns-clause-clean : goal.returns-clause-clean
 returns-clause-clean g c = let D = g.D.Disk in
-    clean_told c.args.stanza.now (D.state c.args.d.now).view.now c.put_in_order.new.found.items c.in_ok-laws.ensures.backup c.in_ok-laws.ensures.manifest (returns-clause-exact g c)
+    clean_told c.args.stanza.now (D.state c.args.d.now).view.now c.put_in_order.new.found.items one_list one_manifest (returns-clause-exact g c)
