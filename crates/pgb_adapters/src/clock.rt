@@ -2,6 +2,7 @@
 ghost use Rattle.std.specs.Prelude.{◌≡◌, ◌≤◌, IfOk};
 ghost use Rattle.pgb_outside.specs.States.{last_second};
 
+use crate::place::call_of;
 use pgb_outside::{Clock, Stop};
 use pgb_system::Faults;
 use std::io::ErrorKind;
@@ -32,6 +33,11 @@ impl RealClock {
             faults: Faults::new(),
         }
     }
+
+    /// What failed last, for a person to read.
+    pub fn last_failure(&self) -> Option<&str> {
+        self.faults.last()
+    }
 }
 
 // The system's second, or this one where that is later. One before 1970 or after the year 9999 is an error.
@@ -54,7 +60,8 @@ impl Clock for RealClock {
 
     fn now(&mut self) -> Result<u64, Stop> {
         let told = second_from(&self.rt, self.least);
-        let second = self.faults.told(told)?;
+        let call = call_of(&self.rt, "reading of", "the clock");
+        let second = self.faults.told(&call, told)?;
         self.least = second;
         Ok(second)
     }
@@ -66,6 +73,9 @@ impl Clock for RealClock {
             }
             thread::sleep(&self.rt, Duration::from_millis(100));
         }
-        self.faults.told(Err(io::Error::from(ErrorKind::TimedOut)))
+        self.faults.told(
+            &call_of(&self.rt, "waiting for", "the clock"),
+            Err(io::Error::from(ErrorKind::TimedOut)),
+        )
     }
 }

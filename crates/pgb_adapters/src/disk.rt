@@ -3,6 +3,7 @@ ghost use Rattle.std.specs.Prelude.{◌≡◌, None, false, map, string_bytes};
 
 use crate::handles::Handles;
 use crate::place::{Place, no_memory};
+use crate::progress::Progress;
 use crate::settle::{Settled, settle, settle_in, sync_files};
 use crate::walk::{folders_in, nodes_below};
 use pgb_outside::{Disk, Found, Node, Seen, Stop};
@@ -17,6 +18,7 @@ pub struct RealDisk {
     place: Place,
     handles: Handles,
     settled: Settled,
+    progress: Progress,
     faults: Faults,
 }
 
@@ -26,10 +28,26 @@ impl RealDisk {
     {
         RealDisk {
             settled: Settled::new(&rt),
+            handles: Handles::new(rt.alloc()),
             place: Place::new(rt),
-            handles: Handles::new(),
+            progress: Progress::new(rt),
             faults: Faults::new(),
         }
+    }
+
+    /// From now on a person is told how many bytes were written.
+    pub fn tell_progress(&mut self) {
+        self.progress.tell();
+    }
+
+    /// Tells how many bytes were written in all.
+    pub fn end_progress(&self) {
+        self.progress.end();
+    }
+
+    /// What failed last, for a person to read.
+    pub fn last_failure(&self) -> Option<&str> {
+        self.faults.last()
     }
 
     /// How often a call failed.
@@ -54,64 +72,71 @@ impl Disk for RealDisk {
         self.handles.forget();
         self.settled.forget();
         let done = self.place.open(path);
-        self.faults.told(done)
+        self.faults.told(&self.place.call("opening of", ""), done)
     }
 
     fn names(&mut self, alloc: Global, folder: &str) -> Result<Vec<Found>, Stop> {
         let done = names_below(alloc, &self.place, folder);
-        self.faults.told(done)
+        self.faults
+            .told(&self.place.call("listing of", folder), done)
     }
 
     fn folders(&mut self, alloc: Global, folder: &str) -> Result<Vec<String>, Stop> {
         let done = folders_in(alloc, &self.place, folder);
-        self.faults.told(done)
+        self.faults
+            .told(&self.place.call("listing of", folder), done)
     }
 
     fn read(&mut self, name: &str, at: u64, buf: &mut [u8]) -> Result<Option<usize>, Stop> {
         let done = self.handles.read(&self.place, name, at, buf);
-        self.faults.told(done)
+        self.faults.told(&self.place.call("reading of", name), done)
     }
 
     fn begin(&mut self, name: &str) -> Result<(), Stop> {
         let done = begin_in_folders(&self.place, &mut self.handles, &mut self.settled, name);
-        self.faults.told(done)
+        self.faults
+            .told(&self.place.call("creation of", name), done)
     }
 
     fn append(&mut self, name: &str, bytes: &[u8]) -> Result<(), Stop> {
         let done = self.handles.append(&self.place, name, bytes);
-        self.faults.told(done)
+        if done.is_ok() {
+            self.progress.add(bytes.len());
+        }
+        self.faults.told(&self.place.call("writing to", name), done)
     }
 
     fn sync(&mut self, name: &str) -> Result<(), Stop> {
         let done = self.handles.sync(&self.place, name);
-        self.faults.told(done)
+        self.faults.told(&self.place.call("sync of", name), done)
     }
 
     fn rename(&mut self, from: &str, to: &str) -> Result<(), Stop> {
-        self.handles.forget();
+        self.handles.forget_name(from);
+        self.handles.forget_name(to);
         let done = rename_into_folders(&self.place, &mut self.settled, from, to);
-        self.faults.told(done)
+        self.faults.told(&self.place.move_of(from, to), done)
     }
 
     fn remove(&mut self, name: &str) -> Result<(), Stop> {
-        self.handles.forget();
+        self.handles.forget_name(name);
         let done = remove_name(&self.place, &mut self.settled, name);
-        self.faults.told(done)
+        self.faults.told(&self.place.call("removal of", name), done)
     }
 
     fn sync_below(&mut self, folder: &str) -> Result<(), Stop> {
         let done = sync_below(&self.place, folder);
-        self.faults.told(done)
+        self.faults.told(&self.place.call("sync of", folder), done)
     }
 
     fn settle(&mut self, folder: &str) -> Result<(), Stop> {
         let done = settle(&self.place, &mut self.settled, folder);
-        self.faults.told(done)
+        self.faults.told(&self.place.call("sync of", folder), done)
     }
 
     fn settle_in(&mut self, folder: &str) -> Result<(), Stop> {
         let done = settle_in(&self.place, &mut self.settled, folder);
-        self.faults.told(done)
+        self.faults.told(&self.place.call("sync of", folder), done)
     }
 }
 

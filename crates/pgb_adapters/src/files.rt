@@ -22,8 +22,8 @@ impl RealFiles {
         ensures { result.faults.count ≡ 0 }
     {
         RealFiles {
+            handles: Handles::new(rt.alloc()),
             place: Place::new(rt),
-            handles: Handles::new(),
             faults: Faults::new(),
         }
     }
@@ -39,12 +39,12 @@ impl Files for RealFiles {
     fn open(&mut self, root: &str) -> Result<(), Stop> {
         self.handles.forget();
         let done = self.place.enter(root);
-        self.faults.told(done)
+        self.faults.told(&self.place.call("opening of", ""), done)
     }
 
     fn read(&mut self, name: &str, at: u64, buf: &mut [u8]) -> Result<Option<usize>, Stop> {
         let done = read_file(&self.place, &mut self.handles, name, at, buf);
-        self.faults.told(done)
+        self.faults.told(&self.place.call("reading of", name), done)
     }
 }
 

@@ -1,11 +1,15 @@
-// The files that stay open between calls: the last one that was written and the last one that was read.
-ghost use Rattle.std.specs.Prelude.{◌≡◌, ◌↔◌, ◌<◌, ◌≤◌, None, IfOk, IfSome, IsSomeAnd, IsTrue, length, string_bytes};
+// The files that stay open between calls: those that are being written, and the last one that was read.
+ghost use Rattle.std.specs.Prelude.{◌≡◌, [], ◌↔◌, ◌<◌, ◌≤◌, None, IfOk, IfSome, IsSomeAnd, IsTrue, length, string_bytes};
 
-use crate::place::Place;
+use crate::place::{Place, no_memory};
+use std::alloc::Global;
 use std::fs::File;
 use std::io;
 use std::io::{ErrorKind, Write};
 use std::os::unix::fs::FileExt;
+
+// A command has a file open for each of its workers.
+const MOST: usize = 64;
 
 #[derive(Drop)]
 struct Kept {
@@ -16,25 +20,34 @@ struct Kept {
 /// No byte waits in it: what was appended went to the system.
 #[derive(Drop)]
 pub struct Handles {
-    writing: Option<Kept>,
+    // the one that was opened last at the end
+    writing: Vec<Kept>,
     reading: Option<Kept>,
 }
 
 impl Handles {
-    pub fn new() -> Self {
+    pub fn new(alloc: Global) -> Self {
         Handles {
-            writing: None,
+            writing: Vec::new(alloc),
             reading: None,
         }
     }
 
-    /// Closes both, since a name may come to mean another file.
+    /// Closes all, since each name may come to mean another file.
     pub fn forget(&mut self)
-        ensures writing { self.new.writing ≡ None }
+        ensures writing { self.new.writing.items ≡ [] }
         ensures reading { self.new.reading ≡ None }
     {
-        self.writing = None;
+        self.writing.clear();
         self.reading = None;
+    }
+
+    /// Closes the files of a name, since it comes to mean another file.
+    pub fn forget_name(&mut self, name: &str) {
+        self.writing.retain(|kept| kept.name.as_str() != name);
+        if is_of(&self.reading, name) {
+            self.reading = None;
+        }
     }
 
     /// Makes the name an empty file.
@@ -42,8 +55,7 @@ impl Handles {
         let file = place.create(name)?;
         // Of a file that was cut to nothing ext4 begins to write the bytes as it is closed.
         file.set_len(0)?;
-        self.writing = Some(keep(place, name, file)?);
-        Ok(())
+        self.write_in(place, name, file)
     }
 
     /// Makes the name an empty file where nothing stands at it, and tells whether it did.
@@ -51,43 +63,55 @@ impl Handles {
         let Some(file) = place.create_new(name)? else {
             return Ok(false);
         };
-        self.writing = Some(keep(place, name, file)?);
+        self.write_in(place, name, file)?;
         Ok(true)
+    }
+
+    // Keeps the file of a name to write in it, in place of the one that was opened first where there are too many.
+    fn write_in(&mut self, place: &Place, name: &str, file: File) -> io::Result<()> {
+        let kept = keep(place, name, file)?;
+        self.writing.retain(|kept| kept.name.as_str() != name);
+        if self.writing.len() >= MOST {
+            self.writing.remove(0);
+        }
+        self.writing.push(kept).map_err(no_memory)
     }
 
     /// Adds bytes at the end of a file that is there.
     pub fn append(&mut self, place: &Place, name: &str, bytes: &[u8]) -> io::Result<()> {
-        self.reach_end(place, name)?;
-        match &mut self.writing {
-            Some(kept) => kept.file.write_all(bytes),
-            None => Err(io::Error::from(ErrorKind::NotFound)),
-        }
+        self.reach_end(place, name)?.write_all(bytes)
     }
 
     /// Makes the bytes durable of a file that is there.
     pub fn sync(&mut self, place: &Place, name: &str) -> io::Result<()> {
-        self.reach_end(place, name)?;
-        match &self.writing {
-            Some(kept) => kept.file.sync_all(),
+        self.reach_end(place, name)?.sync_all()
+    }
+
+    fn reach_end(&mut self, place: &Place, name: &str) -> io::Result<&mut File> {
+        if !self.is_written(name) {
+            let file = place.open_end(name)?;
+            self.write_in(place, name, file)?;
+        }
+        match self
+            .writing
+            .iter_mut()
+            .find(|kept| kept.name.as_str() == name)
+        {
+            Some(kept) => Ok(&mut kept.file),
             None => Err(io::Error::from(ErrorKind::NotFound)),
         }
     }
 
-    fn reach_end(&mut self, place: &Place, name: &str) -> io::Result<()> {
-        if is_of(&self.writing, name) {
-            return Ok(());
-        }
-        let file = place.open_end(name)?;
-        self.writing = Some(keep(place, name, file)?);
-        Ok(())
+    fn is_written(&self, name: &str) -> bool {
+        self.writing.iter().any(|kept| kept.name.as_str() == name)
     }
 
     // Closes a file that was written, so that the disk writes its bytes while they are read. It is opened anew before that,
     // so that a fault of the writing is told by the sync.
     fn close_written(&mut self, place: &Place, name: &str) -> io::Result<()> {
-        if is_of(&self.writing, name) {
+        if self.is_written(name) {
             let file = place.open_end(name)?;
-            self.writing = Some(keep(place, name, file)?);
+            self.write_in(place, name, file)?;
         }
         Ok(())
     }

@@ -1,6 +1,7 @@
 // The standard input.
 ghost use Rattle.std.specs.Prelude.{◌≡◌, ◌≤◌, [], None, IfOk, length};
 
+use crate::place::call_of;
 use pgb_outside::{Source, Stop};
 use pgb_system::Faults;
 use std::io;
@@ -28,13 +29,16 @@ impl Source for RealInput {
     ghost state = { λ s. record { files = None; left = None; place = []; faults = s.faults.count } };
 
     fn open(&mut self, _path: &str) -> Result<bool, Stop> {
-        self.faults
-            .told(Err(io::Error::from(ErrorKind::Unsupported)))
+        self.faults.told(
+            &call_of(&self.rt, "opening of", "standard input"),
+            Err(io::Error::from(ErrorKind::Unsupported)),
+        )
     }
 
     fn read(&mut self, buf: &mut [u8]) -> Result<usize, Stop> {
         let done = read_some(&self.rt, buf);
-        self.faults.told(done)
+        self.faults
+            .told(&call_of(&self.rt, "reading of", "standard input"), done)
     }
 }
 

@@ -9,6 +9,7 @@ mod input;
 mod locks;
 mod noted;
 mod place;
+mod progress;
 mod settle;
 mod sink;
 mod source;

@@ -6,7 +6,7 @@ ghost use Rattle.pgb_outside.specs.declared.locks.Take.TheVariants.{Held};
 
 use crate::place::{FILE_MODE, make_folders, no_memory};
 use pgb_outside::{Locks, Stop, Take};
-use pgb_system::Faults;
+use pgb_system::{Call, Faults};
 use std::fs::{File, OpenOptions, TryLockError};
 use std::io;
 use std::os::unix::fs::OpenOptionsExt;
@@ -47,6 +47,11 @@ impl RealLocks {
         ensures { result ≡ (⟦<RealLocks as Locks>⟧.state self.now).refusals }
     {
         self.refusals
+    }
+
+    /// What failed last, for a person to read.
+    pub fn last_failure(&self) -> Option<&str> {
+        self.faults.last()
     }
 
     /// How often a take failed.
@@ -94,11 +99,22 @@ impl Locks for RealLocks {
 
     fn take(&mut self, folder: &str, name: &str) -> Result<Take, Stop> {
         let done = self.take_file(folder, name);
-        self.faults.told(done)
+        let call = call_in(&self.rt, folder, name);
+        self.faults.told(&call, done)
     }
 
     fn release(&mut self, name: &str) {
         self.taken.retain(|lock| lock.name.as_str() != name);
+    }
+}
+
+fn call_in<'a>(rt: &HostRuntime, folder: &'a str, name: &'a str) -> Call<'a> {
+    Call {
+        alloc: rt.alloc(),
+        act: "locking of",
+        root: folder,
+        name,
+        to: None,
     }
 }
 

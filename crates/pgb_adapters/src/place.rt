@@ -3,6 +3,7 @@ ghost use Rattle.std.specs.Prelude.{◌≡◌, ◌≢◌, ◌⊎◌, ◌∷◌, 
 ghost use Rattle.std.specs.IoError.{error_kind};
 ghost use Rattle.pgb_outside.specs.States.{last_opened, Opens};
 
+use pgb_system::Call;
 use std::fs::{DirBuilder, File, Metadata, OpenOptions};
 use std::io::ErrorKind;
 use std::os::unix::fs::{DirBuilderExt, OpenOptionsExt};
@@ -32,6 +33,28 @@ impl Place {
         match self.opened.first() {
             Some(root) => root.as_str(),
             None => "",
+        }
+    }
+
+    /// What is done with a name below the root, for a person to read.
+    pub fn call<'a>(&'a self, act: &'a str, name: &'a str) -> Call<'a> {
+        Call {
+            alloc: self.rt.alloc(),
+            act,
+            root: self.root(),
+            name,
+            to: None,
+        }
+    }
+
+    /// The move of a file below the root, for a person to read.
+    pub fn move_of<'a>(&'a self, from: &'a str, to: &'a str) -> Call<'a> {
+        Call {
+            alloc: self.rt.alloc(),
+            act: "rename of",
+            root: self.root(),
+            name: from,
+            to: Some(to),
         }
     }
 
@@ -173,6 +196,17 @@ impl Place {
     pub fn make_folders_for(&self, name: &str) -> io::Result<()> {
         let path = self.path_of(name)?;
         make_folders(&self.rt, folder_of(&path))
+    }
+}
+
+/// What is done with a whole path, for a person to read.
+pub fn call_of<'a>(rt: &HostRuntime, act: &'a str, path: &'a str) -> Call<'a> {
+    Call {
+        alloc: rt.alloc(),
+        act,
+        root: "",
+        name: path,
+        to: None,
     }
 }
 

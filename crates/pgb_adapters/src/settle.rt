@@ -254,7 +254,7 @@ fn may_lie_below(line: &str, root: &str) -> bool {
 
 // Runs the system's own `sync` on the root's whole file system, and answers whether it ended well.
 fn sync_file_system(place: &Place) -> io::Result<bool> {
-    let mut command = Command::new(place.rt.alloc(), "sync")?;
+    let mut command = Command::new(place.rt.alloc(), "sync of")?;
     command.arg("-f")?.arg(place.root())?;
     command.stdin(Stdio::null());
     command.stdout(Stdio::null());

@@ -1,6 +1,7 @@
 // The standard output.
 ghost use Rattle.std.specs.Prelude.{◌≡◌, ◌<◌, ◌≤◌, None, IfOk, length};
 
+use crate::place::call_of;
 use pgb_outside::{Sink, Stop};
 use pgb_system::Faults;
 use std::io;
@@ -22,6 +23,11 @@ impl RealSink {
             faults: Faults::new(),
         }
     }
+
+    /// What failed last, for a person to read.
+    pub fn last_failure(&self) -> Option<&str> {
+        self.faults.last()
+    }
 }
 
 impl Sink for RealSink {
@@ -29,7 +35,8 @@ impl Sink for RealSink {
 
     fn write(&mut self, bytes: &[u8]) -> Result<usize, Stop> {
         let done = write_some(&self.rt, bytes);
-        self.faults.told(done)
+        self.faults
+            .told(&call_of(&self.rt, "writing to", "standard output"), done)
     }
 }
 

@@ -1,7 +1,7 @@
 // The configuration file, on the system's files.
 ghost use Rattle.std.specs.Prelude.{◌≡◌, None, OnOk, string_bytes};
 
-use crate::place::unless_absent;
+use crate::place::{call_of, unless_absent};
 use pgb_outside::{Source, Stop};
 use pgb_system::{Faults, read_some};
 use std::fs::File;
@@ -29,6 +29,11 @@ impl RealSource {
         }
     }
 
+    /// What failed last, for a person to read.
+    pub fn last_failure(&self) -> Option<&str> {
+        self.faults.last()
+    }
+
     /// How often a call failed.
     pub fn faults(&self) -> u64
         ensures { result ≡ (⟦<RealSource as Source>⟧.state self.now).faults }
@@ -52,7 +57,8 @@ impl Source for RealSource {
 
     fn open(&mut self, path: &str) -> Result<bool, Stop> {
         let done = self.open_place(path);
-        self.faults.told(done)
+        self.faults
+            .told(&call_of(&self.rt, "opening of", path), done)
     }
 
     fn read(&mut self, buf: &mut [u8]) -> Result<usize, Stop> {
@@ -60,7 +66,8 @@ impl Source for RealSource {
             Some(file) => read_some(file, buf),
             None => Ok(0),
         };
-        self.faults.told(done)
+        self.faults
+            .told(&call_of(&self.rt, "reading of", &self.place), done)
     }
 }
 

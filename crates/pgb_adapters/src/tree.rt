@@ -4,6 +4,7 @@ ghost use Rattle.pgb_outside.specs.Tree.{known_path};
 
 use crate::handles::Handles;
 use crate::place::Place;
+use crate::progress::Progress;
 use crate::walk::nodes_below;
 use pgb_outside::{Known, Seen, Stop, Tree};
 use pgb_system::Faults;
@@ -18,6 +19,7 @@ pub struct RealTree {
     handles: Handles,
     // of the file that is being read, as its reading began
     size: u64,
+    progress: Progress,
     faults: Faults,
 }
 
@@ -26,11 +28,27 @@ impl RealTree {
         ensures { result.faults.count ≡ 0 }
     {
         RealTree {
+            handles: Handles::new(rt.alloc()),
             place: Place::new(rt),
-            handles: Handles::new(),
             size: 0,
+            progress: Progress::new(rt),
             faults: Faults::new(),
         }
+    }
+
+    /// From now on a person is told how many bytes were written.
+    pub fn tell_progress(&mut self) {
+        self.progress.tell();
+    }
+
+    /// Tells how many bytes were written in all.
+    pub fn end_progress(&self) {
+        self.progress.end();
+    }
+
+    /// What failed last, for a person to read.
+    pub fn last_failure(&self) -> Option<&str> {
+        self.faults.last()
     }
 
     /// How often a call failed.
@@ -52,61 +70,72 @@ impl Tree for RealTree {
     fn open(&mut self, path: &str) -> Result<(), Stop> {
         self.handles.forget();
         let done = self.place.open(path);
-        self.faults.told(done)
+        self.faults.told(&self.place.call("opening of", ""), done)
     }
 
     fn list(&mut self, alloc: Global) -> Result<Vec<Seen>, Stop> {
         let done = nodes_below(alloc, &self.place, "");
-        self.faults.told(done)
+        self.faults.told(&self.place.call("listing of", ""), done)
     }
 
     fn read(&mut self, what: &Known, at: u64, buf: &mut [u8]) -> Result<Option<usize>, Stop> {
+        let path = path_of(self.place.rt.alloc(), what)?;
         let done = read_known(
             &self.place,
             &mut self.handles,
             &mut self.size,
-            what,
+            &path,
             at,
             buf,
         );
-        self.faults.told(done)
+        self.faults
+            .told(&self.place.call("reading of", &path), done)
     }
 
     fn size(&mut self, what: &Known) -> Result<Option<u64>, Stop> {
-        let done = size_of(&self.place, &self.handles, self.size, what);
-        self.faults.told(done)
+        let path = path_of(self.place.rt.alloc(), what)?;
+        let done = size_of(&self.place, &self.handles, self.size, &path);
+        self.faults
+            .told(&self.place.call("reading of", &path), done)
     }
 
     fn make(&mut self, folder: &str) -> Result<(), Stop> {
         let done = self.place.make_folder(folder);
-        self.faults.told(done)
+        self.faults
+            .told(&self.place.call("creation of", folder), done)
     }
 
     fn begin(&mut self, path: &str) -> Result<(), Stop> {
         let done = begin_file(&self.place, &mut self.handles, path);
-        self.faults.told(done)
+        self.faults
+            .told(&self.place.call("creation of", path), done)
     }
 
     fn begin_new(&mut self, path: &str) -> Result<bool, Stop> {
         let done = self.handles.begin_new(&self.place, path);
-        self.faults.told(done)
+        self.faults
+            .told(&self.place.call("creation of", path), done)
     }
 
     fn append(&mut self, path: &str, bytes: &[u8]) -> Result<(), Stop> {
         let done = self.handles.append(&self.place, path, bytes);
-        self.faults.told(done)
+        if done.is_ok() {
+            self.progress.add(bytes.len());
+        }
+        self.faults.told(&self.place.call("writing to", path), done)
     }
 
     fn rename(&mut self, from: &str, to: &str) -> Result<(), Stop> {
-        self.handles.forget();
+        self.handles.forget_name(from);
+        self.handles.forget_name(to);
         let done = self.place.rename(from, to);
-        self.faults.told(done)
+        self.faults.told(&self.place.move_of(from, to), done)
     }
 
     fn remove(&mut self, path: &str) -> Result<(), Stop> {
-        self.handles.forget();
+        self.handles.forget_name(path);
         let done = remove_node(&self.place, path);
-        self.faults.told(done)
+        self.faults.told(&self.place.call("removal of", path), done)
     }
 }
 
@@ -121,12 +150,11 @@ fn path_of(alloc: Global, what: &Known) -> Result<String, AllocError>
 }
 
 // A file that is being read is as long as it was when its reading began.
-fn size_of(place: &Place, handles: &Handles, size: u64, what: &Known) -> io::Result<Option<u64>> {
-    let path = path_of(place.rt.alloc(), what)?;
-    if handles.goes_on(&path, 1) {
+fn size_of(place: &Place, handles: &Handles, size: u64, path: &str) -> io::Result<Option<u64>> {
+    if handles.goes_on(path, 1) {
         return Ok(Some(size));
     }
-    place.file_length(&path)
+    place.file_length(path)
 }
 
 // What isn't a file is no known file. All of one reading is as long as the file was when it began: what is added meanwhile isn't
@@ -135,21 +163,20 @@ fn read_known(
     place: &Place,
     handles: &mut Handles,
     size: &mut u64,
-    what: &Known,
+    path: &str,
     at: u64,
     buf: &mut [u8],
 ) -> io::Result<Option<usize>>
     ensures { IfOk result (λ n. IfSome n (λ n. n ≤ length buf.old)) }
 {
-    let path = path_of(place.rt.alloc(), what)?;
-    if !handles.goes_on(&path, at) {
-        match place.file_length(&path)? {
+    if !handles.goes_on(path, at) {
+        match place.file_length(path)? {
             Some(told) => *size = told,
             None => return Ok(None),
         }
     }
     let room = size.saturating_sub(at).min(buf.len() as u64) as usize;
-    match handles.read(place, &path, at, &mut buf[..room])? {
+    match handles.read(place, path, at, &mut buf[..room])? {
         Some(0) if room > 0 => Err(io::Error::from(ErrorKind::UnexpectedEof)),
         read => Ok(read),
     }

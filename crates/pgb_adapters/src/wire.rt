@@ -1,6 +1,7 @@
 // The connection to the server, on a Unix socket.
 ghost use Rattle.std.specs.Prelude.{◌≡◌, ◌≤◌, None, IfOk, OnOk, length, string_bytes};
 
+use crate::place::call_of;
 use pgb_outside::{Stop, Wire};
 use pgb_system::{Faults, read_some};
 use std::io;
@@ -28,6 +29,11 @@ impl RealWire {
         }
     }
 
+    /// What failed last, for a person to read.
+    pub fn last_failure(&self) -> Option<&str> {
+        self.faults.last()
+    }
+
     /// How often a call failed.
     pub fn faults(&self) -> u64
         ensures { result ≡ (⟦<RealWire as Wire>⟧.state self.now).faults }
@@ -51,7 +57,8 @@ impl Wire for RealWire {
 
     fn open(&mut self, path: &str) -> Result<(), Stop> {
         let done = self.open_place(path);
-        self.faults.told(done)
+        self.faults
+            .told(&call_of(&self.rt, "opening of", path), done)
     }
 
     fn send(&mut self, bytes: &[u8]) -> Result<(), Stop> {
@@ -59,7 +66,8 @@ impl Wire for RealWire {
             Some(stream) => stream.write_all(bytes),
             None => Err(io::Error::from(ErrorKind::NotConnected)),
         };
-        self.faults.told(done)
+        self.faults
+            .told(&call_of(&self.rt, "writing to", &self.place), done)
     }
 
     fn receive(&mut self, buf: &mut [u8]) -> Result<usize, Stop> {
@@ -67,6 +75,7 @@ impl Wire for RealWire {
             Some(stream) => read_some(stream, buf),
             None => Err(io::Error::from(ErrorKind::NotConnected)),
         };
-        self.faults.told(done)
+        self.faults
+            .told(&call_of(&self.rt, "reading of", &self.place), done)
     }
 }

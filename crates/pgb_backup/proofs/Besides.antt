@@ -54,25 +54,24 @@ list_of stanza n (inl e) = in_backup stanza n (codes "backup.info.pgbackrest.tmp
 list_of stanza n (inr (inl e)) = fixed_of stanza n (Pair (inr (inr (inl e))))
 list_of stanza n (inr (inr e)) = fixed_of stanza n (Pair (inr (inr (inr e))))
 
-module _ (stanza : Text) (label : Label) (a b : View) (touches : Touches (is_own (label_folder stanza label)) a b) where
-  -- while the bytes are stored
-  pub fetched_beside : StaysBeside stanza a b
-  fetched_beside = record {
-    now = λ n out. touches.now n (outside n out (is_own (label_folder stanza label) n) refl);
-    time = goes_wide (λ n _. is_own (label_folder stanza label) n ≡ true) (λ n _. is_of_stanza stanza n ≡ true) (λ n. is_own (label_folder stanza label) n ≡ true) (λ n. is_of_stanza stanza n ≡ true) a b
-        (λ n v h. own_of stanza label n h) (λ n h. own_of stanza label n h) touches.time;
-  }
-    where
-      outside : (n : Name) → is_of_stanza stanza n ≡ false → (o : Bool) → is_own (label_folder stanza label) n ≡ o → is_own (label_folder stanza label) n ≡ false
-      outside n out false e = e
-      outside n out true e = both_ways (is_of_stanza stanza n) (own_of stanza label n e) out
+-- while the bytes are stored
+pub fetched_beside : (stanza : Text) (label : Label) (a b : View) → Touches (is_own (label_folder stanza label)) a b → StaysBeside stanza a b
+fetched_beside stanza label a b touches = record {
+  now = λ n out. touches.now n (outside n out (is_own (label_folder stanza label) n) refl);
+  time = goes_wide (λ n _. is_own (label_folder stanza label) n ≡ true) (λ n _. is_of_stanza stanza n ≡ true) (λ n. is_own (label_folder stanza label) n ≡ true) (λ n. is_of_stanza stanza n ≡ true) a b
+      (λ n v h. own_of stanza label n h) (λ n h. own_of stanza label n h) touches.time;
+}
+  where
+    outside : (n : Name) → is_of_stanza stanza n ≡ false → (o : Bool) → is_own (label_folder stanza label) n ≡ o → is_own (label_folder stanza label) n ≡ false
+    outside n out false e = e
+    outside n out true e = both_ways (is_of_stanza stanza n) (own_of stanza label n e) out
 
-  module _ (own : Label) (e : View) (saved : ChangesOnly (IsOfPair (manifest_name stanza own)) b e) where
-    -- while the manifest is saved
-    pub saved_beside : StaysBeside stanza a e
-    saved_beside = beside_on stanza a b e fetched_beside (only_beside stanza (IsOfPair (manifest_name stanza own)) b e (manifest_of stanza own) saved)
+module _ (stanza : Text) (b : View) (own : Label) (e : View) (saved : ChangesOnly (IsOfPair (manifest_name stanza own)) b e) where
+  -- while the manifest is saved
+  pub saved_beside : StaysBeside stanza b e
+  saved_beside = only_beside stanza (IsOfPair (manifest_name stanza own)) b e (manifest_of stanza own) saved
 
-    -- and while the list is, at the name that it was given
-    pub listed_beside : (d : View) (name : Name) → name ≡ backup_info stanza → ChangesOnly (IsOfPair name) e d → StaysBeside stanza a d
-    listed_beside d name is p = beside_on stanza a e d saved_beside
-        (only_beside stanza (IsOfPair (backup_info stanza)) e d (list_of stanza) (subst (λ (n : Name). ChangesOnly (IsOfPair n) e d) is p))
+  -- and while the list is, at the name that it was given
+  pub listed_beside : (d : View) (name : Name) → name ≡ backup_info stanza → ChangesOnly (IsOfPair name) e d → StaysBeside stanza b d
+  listed_beside d name is p = beside_on stanza b e d saved_beside
+      (only_beside stanza (IsOfPair (backup_info stanza)) e d (list_of stanza) (subst (λ (n : Name). ChangesOnly (IsOfPair n) e d) is p))

@@ -1,5 +1,5 @@
 -- What a draft keeps of its jobs, their names and what came of them.
-use Rattle.std.proofs.Common.{◌≡◌, ◌<◌, ◌-◌, ◌^◌, inl, inr, ℕ, zero, suc, List, [], ◌∷◌, length, map, get_or, Option, Some, None, refl, sym, ◌∙◌, ap, subst, arith, slice_get}
+use Rattle.std.proofs.Common.{◌≡◌, ◌<◌, ◌≤◌, ◌-◌, ◌^◌, inl, inr, ℕ, zero, suc, List, [], ◌∷◌, length, map, get_or, Option, Some, None, refl, sym, ◌∙◌, ap, subst, arith, slice_get}
 use Rattle.std.specs.Prelude.{All, IfSome, unwrap_or}
 use Rattle.std.specs.List.{AllByRecursion}
 use Rattle.pgb_outside.specs.Content.{Name, Content}
@@ -10,6 +10,8 @@ use Rattle.pgb_worker_frame.specs.Views.{job_of}
 use Rattle.pgb_model.specs.declared.labels.Label.{Label}
 use Rattle.pgb_model.specs.Text.{In}
 use Rattle.pgb_model.specs.InfoFiles.{IsLabel}
+use Rattle.pgb_model.specs.ManifestText.{IsWalPart}
+use Rattle.pgb_outside.specs.States.{last_second}
 use Rattle.pgb_worker_dispatch.specs.Payloads.{AllByFile}
 use Rattle.pgb_worker_dispatch.specs.Run.{AllDone}
 use Rattle.pgb_label.specs.declared.keeper.Ended.{Ended}
@@ -21,15 +23,17 @@ use Rattle.pgb_plan.proofs.Fitting.{jobs_fit}
 use Rattle.pgb_plan.proofs.Lasts.{one_last}
 use Rattle.pgb_plan.proofs.Lists.{of_map}
 use Rattle.pgb_record.specs.Naming.{IsPlanned, names_in}
-use Rattle.pgb_record.specs.Bounds.{KeepsBounds}
-use Rattle.pgb_record.specs.Ends.{JobsCome}
+use Rattle.pgb_record.specs.Bounds.{KeepsBounds, MayFollow}
+use Rattle.pgb_record.specs.Ends.{AreAllEnds, JobsCome}
+use Rattle.pgb_worker_keep.specs.KeepState.{Kept}
 use Rattle.pgb_record.proofs.Behind.{prior_label}
-use Rattle.pgb_record.proofs.Coming.{AreReads, jobs_read, jobs_few, bundles_few, keeps_bounds, totals_small}
+use Rattle.pgb_record.proofs.Coming.{AreReads, jobs_read, jobs_few, bundles_few, came_jobs, keeps_bounds, totals_small}
 use Rattle.pgb_record.proofs.Held.{keeps_end}
 use Rattle.pgb_record.proofs.Naming.{names_count}
 use Rattle.pgb_record.proofs.Planned.{is_plan}
 use Rattle.pgb_backup.specs.declared.draft.Draft.{Draft}
-use Rattle.pgb_backup.specs.Draft.{stanza_of, taken_in, folders_in, old_in, jobs_in, list_in, folder_of, head_at, went_with, IsDraft}
+use Rattle.pgb_backup.specs.Draft.{stanza_of, taken_in, folders_in, old_in, jobs_in, list_in, folder_of, head_at, head_for, went_with, IsDraft}
+use Rattle.pgb_backup.specs.Online.{Online, IsOnline, part_in}
 use Rattle.pgb_backup.specs.Stored.{AreNames, Stored}
 use Rattle.pgb_backup.proofs.Came.{jobs_came, received, told_of}
 
@@ -43,10 +47,20 @@ module _ (d : Draft) (h : IsDraft d) where
   pub planned : IsPlanned d.plan (layout h.plan.settings (old_in d) (taken_in d) h.plan.equal)
   planned = record { singles = h.plan.singles; jobs = h.plan.jobs; last = one }
 
+  -- it may be listed, with the part of the log of a running server too
+  pub follows_with : (o : Option Online) → IfSome o IsOnline → (stop : ℕ) → stop ≤ last_second → MayFollow (head_for d o stop) (list_in d)
+  follows_with o is stop within =
+      let f = h.follows stop within in
+      record { label = f.label; later = f.later; prior = f.prior; listed = f.listed; start = f.start; stop = f.stop; cluster = f.cluster; wal = by o is }
+    where
+      by : (o : Option Online) → IfSome o IsOnline → IfSome (part_in o) IsWalPart
+      by None x = tt
+      by (Some y) x = x.part_is
+
   pub good_label : IsLabel d.label
   good_label = (h.follows 0 (omega arith)).label
 
-  few_bundles : length (bundles (layout h.plan.settings (old_in d) (taken_in d) h.plan.equal)) < 2 ^ 32 - 1
+  pub few_bundles : length (bundles (layout h.plan.settings (old_in d) (taken_in d) h.plan.equal)) < 2 ^ 32 - 1
   few_bundles = let a = bundles_few h.plan.settings (old_in d) (taken_in d) h.plan.equal in let b = h.few in omega (arith, a, b)
 
   pub few_jobs : length (jobs_in d) < 2 ^ 32
@@ -101,7 +115,7 @@ module _ (d : Draft) (h : IsDraft d) where
         each (es ∷ ess) all = (all 0 es refl, each ess (λ j fs is. all (suc j) fs is))
 
   module _ (names : List Name) (are : AreNames d names) where
-    names_is : names ≡ names_in (folder_of d) (layout h.plan.settings (old_in d) (taken_in d) h.plan.equal)
+    pub names_is : names ≡ names_in (folder_of d) (layout h.plan.settings (old_in d) (taken_in d) h.plan.equal)
     names_is = are (layout h.plan.settings (old_in d) (taken_in d) h.plan.equal) planned
 
     pub names_plan : IsPlan (folder_of d) names
@@ -112,6 +126,16 @@ module _ (d : Draft) (h : IsDraft d) where
 
     pub names_same : length (jobs_in d) ≡ length names
     names_same = ap (λ (js : List Job). length js) h.plan.jobs ∙ sym (names_count (stanza_of d) d.label laid_out) ∙ ap (λ (ns : List Name). length ns) (sym names_is)
+
+    -- as many as what is held of the jobs
+    pub names_held : (ends : List (List Ended)) (kept : List Kept) → AreAllEnds ends kept → JobsCome (jobs_in d) ends → length names ≡ length kept
+    names_held ends kept are come = sym names_same ∙ sym (came_jobs (jobs_in d) ends come) ∙ ends_count ends kept are
+      where
+        ends_count : (es : List (List Ended)) (ks : List Kept) → AreAllEnds es ks → length es ≡ length ks
+        ends_count [] [] h = refl
+        ends_count [] (k ∷ ks) h = absurd h
+        ends_count (e ∷ es) [] h = absurd h
+        ends_count (e ∷ es) (k ∷ ks) h = ap suc (ends_count es ks h.1)
 
     -- what the keeper tells of the jobs
     module _ (links : List LinkState) (ps : List Progress) (now : Option Content) (count : length names ≡ length ps) (agree : Agrees names ps now) (done : AllDone (jobs_in d) links (kept_in names ps now)) (payload : AllByFile (jobs_in d) links (kept_in names ps now)) where

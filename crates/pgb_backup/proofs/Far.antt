@@ -83,7 +83,7 @@ first_part (c ∷ x) (d ∷ y) r t a b e =
     let p = first_part x y r t a.1 b.1 rest in
     (ap (λ (z : Text). c ∷ z) p.0 ∙ ap (λ (n : ℕ). n ∷ y) first, p.1)
 
-below_is : (q n : Name) → is_below q n ≡ true → (rest : Name) × (n ≡ q ++ 47 ∷ rest)
+pub below_is : (q n : Name) → is_below q n ≡ true → (rest : Name) × (n ≡ q ++ 47 ∷ rest)
 below_is q n h =
     let whole = q ++ 47 ∷ [] in
     let same : whole ≡ take (length whole) n = (bytes_eq-Decides whole (take (length whole) n)).0 h in
@@ -93,7 +93,7 @@ either_of : (a b : Bool) → (a || b) ≡ true → (a ≡ true) ⊎ (b ≡ true)
 either_of true b h = inl refl
 either_of false b h = inr h
 
-heads_apart : (n m : Name) → get_or n 0 0 ≡ 97 → get_or m 0 0 ≡ 98 → n ≢ m
+pub heads_apart : (n m : Name) → get_or n 0 0 ≡ 97 → get_or m 0 0 ≡ 98 → n ≢ m
 heads_apart n m a b e = let h : ◌≡◌ {A = ℕ} 97 98 = sym a ∙ ap (λ (l : Name). get_or l 0 0) e ∙ b in omega (arith, h)
 
 module _ (stanza : Text) (label : Label) where
@@ -101,7 +101,7 @@ module _ (stanza : Text) (label : Label) where
   folder = label_folder stanza label
 
   -- an own name lies in a folder of the label's
-  own_is : (n : Name) → is_own folder n ≡ true → (x rest : Text) × (n ≡ folder ⫽ x ⫽ rest)
+  pub own_is : (n : Name) → is_own folder n ≡ true → (x rest : Text) × (n ≡ folder ⫽ x ⫽ rest)
   own_is n h = ⊎_elim
       (λ (a : is_below (folder ⫽ codes "pg_data") n ≡ true). let r = below_is (folder ⫽ codes "pg_data") n a in (codes "pg_data", r.0, r.1 ∙ append_assoc folder (codes "/pg_data") (47 ∷ r.0)))
       (λ (a : is_below (folder ⫽ codes "bundle") n ≡ true). let r = below_is (folder ⫽ codes "bundle") n a in (codes "bundle", r.0, r.1 ∙ append_assoc folder (codes "/bundle") (47 ∷ r.0)))

@@ -3,10 +3,14 @@ pub mod Came
 pub mod Nows
 pub mod Commits
 pub mod Outcomes
+pub mod After
+pub mod Parts
+pub mod Stages
 pub mod Besides
 pub mod Unreads
 pub mod Sound
 pub mod Drafted
+pub mod LabelFile
 pub mod Listed
 pub mod Unlisted
 pub mod Moves

@@ -1,5 +1,5 @@
 -- A backup as the way of a command: each content that may be left stands for the repository as it was, or with the backup.
-use Rattle.std.proofs.Common.{◌≡◌, ◌<◌, ◌⊎◌, ⊎_elim, inl, inr, ℕ, Bool, true, false, List, [], ◌∷◌, ◌++◌, Option, Some, None, refl, sym, ◌∙◌, ap, subst, arith}
+use Rattle.std.proofs.Common.{◌≡◌, ◌<◌, ◌⊎◌, length, slice_get, ⊎_elim, inl, inr, ℕ, Bool, true, false, List, [], ◌∷◌, ◌++◌, Option, Some, None, refl, sym, ◌∙◌, ap, subst, arith}
 use Rattle.std.specs.Prelude.{IsSome}
 use Rattle.pgb_outside.specs.Content.{Name, Content}
 use Rattle.pgb_outside.specs.Moments.{View, is_loose}
@@ -27,8 +27,14 @@ use Rattle.pgb_record.specs.Record.{PriorRead, HasPrior, IsListOf, Adds}
 use Rattle.pgb_record.proofs.Coming.{AreReads}
 use Rattle.pgb_record.proofs.Recorded.{recorded}
 use Rattle.pgb_backup.specs.declared.draft.Draft.{Draft}
-use Rattle.pgb_backup.specs.Draft.{stanza_of, pair_of, main_of, is_own_of, jobs_in, list_in, IsDraft}
-use Rattle.pgb_backup.specs.Made.{IsTightAt, HasBackup, Makes}
+use Rattle.pgb_worker_keep.specs.KeepState.{Done, Kept}
+use Rattle.pgb_record.specs.Ends.{AreReceived}
+use Rattle.pgb_record.specs.Further.{Further, with_name, with_kept}
+use Rattle.pgb_record.proofs.Extended.{with_received, with_counts}
+use Rattle.pgb_backup.specs.Draft.{stanza_of, pair_of, main_of, is_own_of, jobs_in, list_in, further_in, IsDraft}
+use Rattle.pgb_backup.specs.Made.{IsTightAt, ListsIt, MakesOf}
+use Rattle.pgb_backup.specs.Online.{Online}
+use Rattle.pgb_backup.proofs.LabelFile.{label_is}
 use Rattle.pgb_backup.proofs.Came.{counts, kept_count}
 use Rattle.pgb_backup.proofs.Drafted.{reads}
 use Rattle.pgb_backup.proofs.Listed.{AgreesBelow, listed_more_stands}
@@ -42,9 +48,9 @@ IsMixed stanza s prior a = (f : Content) → Leaves a a.moment f → (h : Conten
 abbrev pub IsLike : Text → Stanza → Option PriorRead → Content → Type 0
 IsLike stanza s prior f = (h : Content) × HasPrior stanza s prior h × ((n : Name) → IsPlaceOf stanza h n → h n ≡ f n)
 
-module _ (draft : Draft) (is_draft : IsDraft draft) (links : List LinkState) (whole : Bool) (s : Stanza) (a d : View) (told : IsSome a.now) (makes : Makes draft links whole a d)
+module _ (draft : Draft) (is_draft : IsDraft draft) (o : Option Online) (links : List LinkState) (whole : Bool) (s : Stanza) (a d : View) (told : IsSome a.now) (makes : MakesOf draft o links whole a d)
     (far : IsFar (stanza_of draft) (is_own_of draft) (pair_of draft) s) (prior : Option PriorRead)
-    (list_of : IsListOf s (list_in draft)) (b : Backup) (adds : Adds (stanza_of draft) makes.names makes.kept prior makes.manifest makes.list s b) where
+    (list_of : IsListOf s (list_in draft)) (b : Backup) (adds : Adds (stanza_of draft) (with_name (further_in draft o makes.stop) makes.names) (with_kept (further_in draft o makes.stop) makes.kept) prior makes.manifest makes.list s b) where
   abbrev stanza : Text
   stanza = stanza_of draft
 
@@ -61,7 +67,11 @@ module _ (draft : Draft) (is_draft : IsDraft draft) (links : List LinkState) (wh
   after = changed (AddBackup b) s
 
   abbrev Listed : Content → Content → Type 0
-  Listed f g = HasBackup own pair (backup_info stanza) makes.manifest makes.list makes.names makes.kept f g
+  Listed f g = ListsIt draft o makes.manifest makes.list makes.names makes.kept makes.stop f g
+
+  -- the label file, where a server ran
+  abbrev further : Option Further
+  further = further_in draft o makes.stop
 
   named : b.entry.label ≡ label
   named = sym adds.is.head.label ∙ ap (λ (m : Manifest). m.label) makes.manifest_is
@@ -80,17 +90,23 @@ module _ (draft : Draft) (is_draft : IsDraft draft) (links : List LinkState) (wh
   all_reads : AreReads (jobs_in draft)
   all_reads = reads draft is_draft
 
+  -- what is known of all that is held
+  all_got : AreReceived (with_kept further makes.kept)
+  all_got = with_received (stanza_of draft) draft.label makes.kept further (label_is draft o makes.stop) (makes.got told)
+
+  all_counts : (j i : ℕ) (k : Kept) (x : Done) (bytes : Text) → slice_get (with_kept further makes.kept) j ≡ Some k → slice_get k.done i ≡ Some x → x.held.told ≡ Some bytes → x.held.count ≡ length bytes
+  all_counts = with_counts (stanza_of draft) draft.label makes.kept further (counts (jobs_in draft) links makes.kept all_reads (kept_count (jobs_in draft) makes.kept makes.ends makes.are makes.come) makes.received)
+
   -- the manifest is that of the backup where it is listed
   record_is : (f g : Content) → IsLike (stanza_of draft) s prior f → Listed f g → IsManifestOf stanza g after b makes.manifest
   record_is f g q x =
-      recorded stanza makes.names makes.kept s prior b makes.manifest adds.is (makes.got told)
-      (counts (jobs_in draft) links makes.kept all_reads (kept_count (jobs_in draft) makes.kept makes.ends makes.are makes.come) makes.received)
+      recorded stanza (with_name further makes.names) (with_kept further makes.kept) s prior b makes.manifest adds.is all_got all_counts
       q.0 g q.1 x.placed (λ e bytes left.
       let p = left.place_is q.0 q.1 in
       listed_same f g x (place stanza b.entry.label e).0 (far.places q.0 q.1.has (place stanza b.entry.label e).0 p) ∙ sym (q.2 (place stanza b.entry.label e).0 p))
 
   -- a content with the backup has the stanza with it
-  pub listed_stands : (f g : Content) → HasStanza (stanza_of draft) f s → IsLike (stanza_of draft) s prior f → HasBackup (is_own_of draft) (pair_of draft) (main_of draft) makes.manifest makes.list makes.names makes.kept f g
+  pub listed_stands : (f g : Content) → HasStanza (stanza_of draft) f s → IsLike (stanza_of draft) s prior f → ListsIt draft o makes.manifest makes.list makes.names makes.kept makes.stop f g
       → HasStanza (stanza_of draft) g (changed (AddBackup b) s)
   listed_stands f g h like x = listed_more_stands stanza f g (listed_below f g h x) s h b makes.manifest makes.list adds.list_is makes.list_valid makes.manifest_valid x.info_is
       (ap (λ (l : Label). g (manifest_name stanza l)) named ∙ x.manifest_is) (record_is f g like x)
@@ -130,10 +146,10 @@ module _ (draft : Draft) (is_draft : IsDraft draft) (links : List LinkState) (wh
         (in_parts (backup_value s None).backups (entry_with makes.manifest makes.listed.references ∷ []) e (subst (λ (es : List Entry). In e es) split at))
 
     -- an item has as many bytes as its entry tells
-    held : (e : FileEntry) (bytes : Text) (i : IsItem stanza b.entry.label makes.names makes.kept e bytes) → i.done.held.count ≡ e.size
+    held : (e : FileEntry) (bytes : Text) (i : IsItem stanza b.entry.label (with_name further makes.names) (with_kept further makes.kept) e bytes) → i.done.held.count ≡ e.size
     held e bytes i =
-        let r = makes.got told i.job i.item i.of i.done e.size i.sum i.of_is i.done_is i.end in
-        let count = counts (jobs_in draft) links makes.kept all_reads (kept_count (jobs_in draft) makes.kept makes.ends makes.are makes.come) makes.received i.job i.item i.of i.done r.0 i.of_is i.done_is r.1.told in
+        let r = all_got i.job i.item i.of i.done e.size i.sum i.of_is i.done_is i.end in
+        let count = all_counts i.job i.item i.of i.done r.0 i.of_is i.done_is r.1.told in
         count ∙ sym r.1.number
 
     -- One text is of one value.

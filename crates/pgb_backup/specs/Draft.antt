@@ -1,12 +1,12 @@
 -- A backup that is to be made, and its manifest. Own.
-use Rattle.std.specs.Prelude.{◌≡◌, ◌≤◌, ℕ, true, Bool, List, length, map, string_bytes, None, unwrap_or}
+use Rattle.std.specs.Prelude.{◌≡◌, ◌≤◌, ℕ, true, Bool, List, length, map, string_bytes, Option, Some, None, unwrap_or}
 use Rattle.pgb_outside.specs.Order.{are_in_order}
 use Rattle.pgb_outside.specs.Content.{Name}
 use Rattle.pgb_worker_frame.specs.Frames.{Job}
 use Rattle.pgb_worker_frame.specs.Views.{job_of}
 use Rattle.pgb_model.specs.Text.{Text, In}
 use Rattle.pgb_outside.specs.States.{last_second}
-use Rattle.pgb_model.specs.Names.{label_folder, manifest_name, backup_info}
+use Rattle.pgb_model.specs.Names.{label_folder, file_name, manifest_name, backup_info}
 use Rattle.pgb_model.specs.InfoFiles.{IsBackupInfo}
 use Rattle.pgb_model.specs.ManifestText.{IsFileEntry}
 use Rattle.pgb_model.specs.Values.{BackupInfo, FileEntry, Manifest, backup_info_of, file_entry_of}
@@ -20,8 +20,10 @@ use Rattle.pgb_plan.specs.Views.{taken_of}
 use Rattle.pgb_record.specs.declared.recording.Head.{Head}
 use Rattle.pgb_record.specs.Bounds.{MayFollow}
 use Rattle.pgb_record.specs.Entries.{Went, entries}
+use Rattle.pgb_record.specs.Further.{Further, entry_in, with_further}
 use Rattle.pgb_record.specs.Making.{manifest_with}
 use Rattle.pgb_backup.specs.declared.draft.Draft.{Draft}
+use Rattle.pgb_backup.specs.Online.{Online, part_in, label_path, label_entry}
 
 abbrev pub stanza_of : Draft → Text
 stanza_of d = d.stanza.now
@@ -58,11 +60,18 @@ main_of d = backup_info (stanza_of d)
 abbrev pub is_own_of : Draft → Name → Bool
 is_own_of d = is_own (folder_of d)
 
+-- that of its label file
+abbrev pub label_name : Draft → Name
+label_name d = file_name (stanza_of d) d.label label_path
+
 -- ---- the manifest
 
--- what it tells beside its files and folders, where the last job has ended by then
+-- what it tells beside its files and folders, where the backup has stopped by then
+abbrev pub head_for : Draft → Option Online → ℕ → Head
+head_for d o stop = record { label = d.label; prior = d.prior; start = d.start; stop = stop; cluster = d.cluster; wal = part_in o; choices = d.choices }
+
 abbrev pub head_at : Draft → ℕ → Head
-head_at d stop = record { label = d.label; prior = d.prior; start = d.start; stop = stop; cluster = d.cluster; wal = None; choices = d.choices }
+head_at d stop = head_for d None stop
 
 -- how the jobs went that ended so
 abbrev pub went_with : Draft → List (List Ended) → Went
@@ -71,8 +80,20 @@ went_with d ends = record { prior = unwrap_or d.prior d.label; old = old_in d; s
 abbrev pub files_with : Draft → List (List Ended) → List FileEntry
 files_with d ends = entries (went_with d ends) (taken_in d) d.plan.choices.items
 
+-- the label file, where a server ran
+abbrev pub label_further : Draft → Online → ℕ → Further
+label_further d o stop = record { entry = label_entry o.label_file stop; bytes = o.label_file; name = label_name d }
+
+abbrev pub further_in : Draft → Option Online → ℕ → Option Further
+further_in d None stop = None
+further_in d (Some o) stop = Some (label_further d o stop)
+
+abbrev pub manifest_for : Draft → Option Online → List (List Ended) → ℕ → Manifest
+manifest_for d o ends stop = manifest_with (head_for d o stop) (with_further (entry_in (further_in d o stop)) (files_with d ends)) (folders_in d)
+
+-- of a stopped server
 abbrev pub manifest_at : Draft → List (List Ended) → ℕ → Manifest
-manifest_at d ends stop = manifest_with (head_at d stop) (files_with d ends) (folders_in d)
+manifest_at d ends stop = manifest_for d None ends stop
 
 -- ---- what a draft keeps
 
@@ -96,3 +117,8 @@ pub record IsDraft (d : Draft) : Type 0 where
   pub old_order : are_in_order (map (λ (e : FileEntry). e.path) (old_in d)) ≡ true
   pub old_folders : List Text
   pub old : (e : FileEntry) → In e (old_in d) → IsFileEntry old_folders e
+
+-- Neither a file nor a folder stands where the label file is to be.
+pub record IsFree (d : Draft) : Type 0 where
+  pub file : ¬ HasFile label_path (taken_in d)
+  pub folder : ¬ In label_path (folders_in d)

@@ -1,5 +1,5 @@
 -- Why a backup isn't made, and what is left then. Own.
-use Rattle.std.specs.Prelude.{◌≡◌, ◌<◌, ℕ, List, [], ◌∷◌, Some, length, slice_get, string_bytes}
+use Rattle.std.specs.Prelude.{◌≡◌, ◌<◌, ℕ, List, [], ◌∷◌, Option, Some, None, length, slice_get, string_bytes}
 use Rattle.pgb_outside.specs.Links.{LinkState, last_five}
 use Rattle.pgb_outside.specs.Cause.{Rises}
 use Rattle.pgb_outside.specs.declared.stop.Stop.{Stop}
@@ -29,7 +29,8 @@ use Rattle.pgb_record.specs.Making.{IsListWith}
 use Rattle.pgb_backup.specs.declared.draft.Draft.{Draft}
 use Rattle.pgb_backup.specs.declared.fault.MakeFault.{MakeFault}
 use Rattle.pgb_backup.specs.declared.fault.MakeFault.TheVariants as faults
-use Rattle.pgb_backup.specs.Draft.{jobs_in, list_in, files_with, manifest_at}
+use Rattle.pgb_backup.specs.Draft.{jobs_in, list_in, files_with, manifest_for}
+use Rattle.pgb_backup.specs.Online.{Online}
 
 -- why a call of the disk stopped
 abbrev pub fault_of : Stop → MakeFault
@@ -79,18 +80,25 @@ StoreFails faults.NoMemory jobs links left before after old new = Unit {0}
 -- ---- after the jobs
 
 -- the list would be too long with the manifest's backup
-pub record IsListTooLong (d : Draft) (ends : List (List Ended)) (n : ℕ) : Type 0 where
+pub record IsListLong (d : Draft) (o : Option Online) (ends : List (List Ended)) (n : ℕ) : Type 0 where
   pub stop : ℕ
   pub list : BackupInfo
-  pub listed : IsListWith (list_in d) (manifest_at d ends stop) list
+  pub listed : IsListWith (list_in d) (manifest_for d o ends stop) list
   pub count : n ≡ length (info_text (backup_sections list))
   pub past : info_limit < n
 
 -- the manifest would be
-pub record IsManifestTooLong (d : Draft) (ends : List (List Ended)) (n : ℕ) : Type 0 where
+pub record IsManifestLong (d : Draft) (o : Option Online) (ends : List (List Ended)) (n : ℕ) : Type 0 where
   pub stop : ℕ
-  pub count : n ≡ length (manifest_text (manifest_at d ends stop))
+  pub count : n ≡ length (manifest_text (manifest_for d o ends stop))
   pub past : manifest_limit < n
+
+-- so they would be of a stopped server's backup
+abbrev pub IsListTooLong : Draft → List (List Ended) → ℕ → Type 0
+IsListTooLong d ends n = IsListLong d None ends n
+
+abbrev pub IsManifestTooLong : Draft → List (List Ended) → ℕ → Type 0
+IsManifestTooLong d ends n = IsManifestLong d None ends n
 
 -- Why no second is told.
 abbrev pub StopFails : MakeFault → ℕ → ℕ → Type 0
@@ -114,16 +122,49 @@ ListFails faults.Clock count = ⊥
 ListFails faults.Disk count = ⊥
 ListFails faults.NoMemory count = Unit {0}
 
--- Why nothing is prepared of a draft whose jobs ended so, between two counts of the clock's faults.
-abbrev pub PrepareFails : MakeFault → Draft → List (List Ended) → ℕ → ℕ → Type 0
-PrepareFails faults.WorkersLost d ends old new = ⊥
-PrepareFails (faults.Unread path) d ends old new = ⊥
-PrepareFails (faults.ControlMissing path) d ends old new = IsMissing path.now (files_with d ends)
-PrepareFails (faults.ManifestTooLong n) d ends old new = ⊥
-PrepareFails (faults.ListTooLong n) d ends old new = IsListTooLong d ends n
-PrepareFails faults.Clock d ends old new = Rises old new
-PrepareFails faults.Disk d ends old new = ⊥
-PrepareFails faults.NoMemory d ends old new = Unit {0}
+-- Why nothing is prepared of a draft whose jobs ended so.
+abbrev pub PrepareFails : MakeFault → Draft → Option Online → List (List Ended) → Type 0
+PrepareFails faults.WorkersLost d o ends = ⊥
+PrepareFails (faults.Unread path) d o ends = ⊥
+PrepareFails (faults.ControlMissing path) d o ends = IsMissing path.now (files_with d ends)
+PrepareFails (faults.ManifestTooLong n) d o ends = ⊥
+PrepareFails (faults.ListTooLong n) d o ends = IsListLong d o ends n
+PrepareFails faults.Clock d o ends = ⊥
+PrepareFails faults.Disk d o ends = ⊥
+PrepareFails faults.NoMemory d o ends = Unit {0}
+
+-- Why it isn't published, between two counts of the disk's faults.
+abbrev pub PublishFails : MakeFault → Draft → Option Online → List (List Ended) → ℕ → ℕ → Type 0
+PublishFails faults.WorkersLost d o ends old new = ⊥
+PublishFails (faults.Unread path) d o ends old new = ⊥
+PublishFails (faults.ControlMissing path) d o ends old new = IsMissing path.now (files_with d ends)
+PublishFails (faults.ManifestTooLong n) d o ends old new = IsManifestLong d o ends n
+PublishFails (faults.ListTooLong n) d o ends old new = IsListLong d o ends n
+PublishFails faults.Clock d o ends old new = ⊥
+PublishFails faults.Disk d o ends old new = Rises old new
+PublishFails faults.NoMemory d o ends old new = Unit {0}
+
+-- Why a file isn't written.
+abbrev pub WriteFails : MakeFault → ℕ → ℕ → Type 0
+WriteFails faults.WorkersLost old new = ⊥
+WriteFails (faults.Unread path) old new = ⊥
+WriteFails (faults.ControlMissing path) old new = ⊥
+WriteFails (faults.ManifestTooLong n) old new = ⊥
+WriteFails (faults.ListTooLong n) old new = ⊥
+WriteFails faults.Clock old new = ⊥
+WriteFails faults.Disk old new = Rises old new
+WriteFails faults.NoMemory old new = Unit {0}
+
+-- Why the stop isn't taken of a running server's backup, between two counts of the disk's faults, and two of the clock's.
+abbrev pub CloseFails : MakeFault → ℕ → ℕ → ℕ → ℕ → Type 0
+CloseFails faults.WorkersLost old new told tells = ⊥
+CloseFails (faults.Unread path) old new told tells = ⊥
+CloseFails (faults.ControlMissing path) old new told tells = ⊥
+CloseFails (faults.ManifestTooLong n) old new told tells = ⊥
+CloseFails (faults.ListTooLong n) old new told tells = ⊥
+CloseFails faults.Clock old new told tells = Rises told tells
+CloseFails faults.Disk old new told tells = Rises old new
+CloseFails faults.NoMemory old new told tells = Unit {0}
 
 -- links of these did the jobs, and each item ended so
 pub record IsDone (d : Draft) (links : List LinkState) (ends : List (List Ended)) : Type 0 where

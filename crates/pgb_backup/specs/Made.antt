@@ -1,5 +1,5 @@
 -- What a stop leaves of a backup, and which bytes it is made of (pgBackRest command reference, "Backup").
-use Rattle.std.specs.Prelude.{◌≡◌, ◌≢◌, ◌⊎◌, ◌<◌, ℕ, Bool, true, false, List, Some, Result, Ok, Err, IsSome, slice_get}
+use Rattle.std.specs.Prelude.{◌≡◌, ◌≢◌, ◌⊎◌, ◌<◌, ℕ, Bool, true, false, List, Option, Some, None, Result, Ok, Err, IsSome, slice_get}
 use Rattle.pgb_outside.specs.Content.{Name, Content}
 use Rattle.pgb_outside.specs.Moments.{View, is_loose}
 use Rattle.pgb_outside.specs.Crash.{IsTemporary, Ends, NowGoes}
@@ -18,11 +18,13 @@ use Rattle.pgb_label.specs.Placed.{IsPlaced}
 use Rattle.pgb_label.specs.Way.{Way, MayLoosen, IsBeside}
 use Rattle.pgb_record.specs.Ends.{AreAllEnds, AreReceived, JobsCome}
 use Rattle.pgb_record.specs.Faults.{HasControl}
+use Rattle.pgb_record.specs.Further.{with_name, with_kept}
 use Rattle.pgb_record.specs.Making.{IsListWith}
 use Rattle.pgb_backup.specs.declared.draft.Draft.{Draft}
 use Rattle.pgb_backup.specs.declared.fault.MakeFault.{MakeFault}
 use Rattle.pgb_backup.specs.declared.fault.MakeFault.TheVariants as faults
-use Rattle.pgb_backup.specs.Draft.{jobs_in, list_in, pair_of, main_of, is_own_of, manifest_at}
+use Rattle.pgb_backup.specs.Draft.{jobs_in, list_in, pair_of, main_of, is_own_of, further_in, manifest_for}
+use Rattle.pgb_backup.specs.Online.{Online}
 use Rattle.pgb_backup.specs.Stored.{AreNames}
 
 -- The two pairs' names aren't temporary, differ, and are none at which bytes are stored.
@@ -53,8 +55,12 @@ pub record HasBackup (own : Name → Bool) (pair main : Name) (m : Manifest) (v 
   pub placed : IsPlaced names kept g
   pub others : (n : Name) → own n ≡ false → ¬ IsTemporary n → n ≢ pair → n ≢ copy_of pair → n ≢ main → n ≢ copy_of main → g n ≡ f n
 
--- The backup may be listed: by these values, of what the links read.
-pub record Makes (d : Draft) (links : List LinkState) (whole : Bool) (old new : View) : Type 0 where
+-- so it is of the draft's backup, with its label file where a server ran
+abbrev pub ListsIt : Draft → Option Online → Manifest → BackupInfo → List Name → List Kept → ℕ → Content → Content → Type 0
+ListsIt d o m v names kept stop f g = HasBackup (is_own_of d) (pair_of d) (main_of d) m v (with_name (further_in d o stop) names) (with_kept (further_in d o stop) kept) f g
+
+-- The backup may be listed: by these values, of what the links read, and of what a server told where one ran.
+pub record MakesOf (d : Draft) (o : Option Online) (links : List LinkState) (whole : Bool) (old new : View) : Type 0 where
   pub names : List Name
   pub names_are : AreNames d names
   pub ends : List (List Ended)
@@ -66,19 +72,24 @@ pub record Makes (d : Draft) (links : List LinkState) (whole : Bool) (old new : 
   pub got : IsSome old.now → AreReceived kept
   pub stop : ℕ
   pub manifest : Manifest
-  pub manifest_is : manifest ≡ manifest_at d ends stop
+  pub manifest_is : manifest ≡ manifest_for d o ends stop
   pub manifest_valid : IsManifestText manifest (manifest_text manifest)
   pub control : HasControl manifest.files
   pub list : BackupInfo
   pub listed : IsListWith (list_in d) manifest list
   pub list_valid : IsBackupText list (info_text (backup_sections list))
   -- what the disk holds is as before, or the backup is listed
-  pub now : NowGoes (λ f g. IsBeside (is_own_of d) (pair_of d) f g ⊎ HasBackup (is_own_of d) (pair_of d) (main_of d) manifest list names kept f g) old.now new.now
-  pub whole_now : whole ≡ true → NowGoes (HasBackup (is_own_of d) (pair_of d) (main_of d) manifest list names kept) old.now new.now
+  pub now : NowGoes (λ f g. IsBeside (is_own_of d) (pair_of d) f g ⊎ ListsIt d o manifest list names kept stop f g) old.now new.now
+  pub whole_now : whole ≡ true → NowGoes (ListsIt d o manifest list names kept stop) old.now new.now
   -- and where no member was loose, so is what a stop leaves
-  pub tight : IsTightAt (pair_of d) (main_of d) old → IsSome old.now → (j i : ℕ) (n : Name) (k : Kept) (x : Done) → slice_get names j ≡ Some n → slice_get kept j ≡ Some k → slice_get k.done i ≡ Some x → 0 < x.held.count → is_loose new n ≡ false
-  pub way : IsTightAt (pair_of d) (main_of d) old → Way (MayLoosen (is_own_of d)) (λ f g. IsBeside (is_own_of d) (pair_of d) f g ⊎ HasBackup (is_own_of d) (pair_of d) (main_of d) manifest list names kept f g) old new
-  pub whole_way : IsTightAt (pair_of d) (main_of d) old → whole ≡ true → Ends (HasBackup (is_own_of d) (pair_of d) (main_of d) manifest list names kept) old new
+  pub tight : IsTightAt (pair_of d) (main_of d) old → IsSome old.now → (j i : ℕ) (n : Name) (k : Kept) (x : Done) → slice_get (with_name (further_in d o stop) names) j ≡ Some n → slice_get (with_kept (further_in d o stop) kept) j ≡ Some k
+      → slice_get k.done i ≡ Some x → 0 < x.held.count → is_loose new n ≡ false
+  pub way : IsTightAt (pair_of d) (main_of d) old → Way (MayLoosen (is_own_of d)) (λ f g. IsBeside (is_own_of d) (pair_of d) f g ⊎ ListsIt d o manifest list names kept stop f g) old new
+  pub whole_way : IsTightAt (pair_of d) (main_of d) old → whole ≡ true → Ends (ListsIt d o manifest list names kept stop) old new
+
+-- of a stopped server
+abbrev pub Makes : Draft → List LinkState → Bool → View → View → Type 0
+Makes d links whole old new = MakesOf d None links whole old new
 
 -- The stanza's list stays: in what the disk holds, and in what a stop leaves where no member was loose.
 pub record LeavesList (d : Draft) (old new : View) : Type 0 where
@@ -97,6 +108,10 @@ MayBeListed faults.Disk = Unit {0}
 MayBeListed faults.NoMemory = Unit {0}
 
 -- at Ok it is listed; else the list stays, or after some faults it may be
+abbrev pub OutcomeOf : Result (Unit {0}) MakeFault → Draft → Option Online → List LinkState → View → View → Type 0
+OutcomeOf (Ok x) d o links old new = MakesOf d o links true old new
+OutcomeOf (Err e) d o links old new = LeavesList d old new ⊎ (MayBeListed e × MakesOf d o links false old new)
+
+-- of a stopped server
 abbrev pub Outcome : Result (Unit {0}) MakeFault → Draft → List LinkState → View → View → Type 0
-Outcome (Ok x) d links old new = Makes d links true old new
-Outcome (Err e) d links old new = LeavesList d old new ⊎ (MayBeListed e × Makes d links false old new)
+Outcome result d links old new = OutcomeOf result d None links old new

@@ -1,5 +1,5 @@
 -- What is saved of a backup. Own.
-use Rattle.std.specs.Prelude.{◌≡◌, ℕ, List}
+use Rattle.std.specs.Prelude.{◌≡◌, ℕ, List, Option}
 use Rattle.pgb_model.specs.Text.{Text}
 use Rattle.pgb_model.specs.InfoFiles.{IsBackupText}
 use Rattle.pgb_model.specs.ManifestText.{IsManifest}
@@ -8,12 +8,13 @@ use Rattle.pgb_label.specs.declared.keeper.Ended.{Ended}
 use Rattle.pgb_record.specs.Faults.{HasControl}
 use Rattle.pgb_record.specs.Making.{IsListWith}
 use Rattle.pgb_backup.specs.declared.draft.Draft.{Draft}
-use Rattle.pgb_backup.specs.Draft.{list_in, manifest_at}
+use Rattle.pgb_backup.specs.Draft.{list_in, manifest_for}
+use Rattle.pgb_backup.specs.Online.{Online}
 
 -- The manifest is that of a draft whose jobs ended so, and the text is that of the stanza's list with its backup.
-pub record Prepares (d : Draft) (ends : List (List Ended)) (m : Manifest) (text : Text) : Type 0 where
+pub record Prepares (d : Draft) (o : Option Online) (ends : List (List Ended)) (m : Manifest) (text : Text) : Type 0 where
   pub stop : ℕ
-  pub manifest_is : m ≡ manifest_at d ends stop
+  pub manifest_is : m ≡ manifest_for d o ends stop
   pub rules : IsManifest m
   pub control : HasControl m.files
   pub list : BackupInfo

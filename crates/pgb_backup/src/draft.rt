@@ -2,7 +2,7 @@
 use pgb_model::{BackupInfo, Choices, Cluster, FileEntry, Label};
 use pgb_plan::{Listing, Plan};
 
-/// What a backup of a stopped server is to be made of, beside what its workers read. Times are in seconds since 1970.
+/// What a backup is to be made of, beside what its workers read. Times are in seconds since 1970.
 #[derive(Drop)]
 pub struct Draft<'a> {
     pub stanza: &'a str,

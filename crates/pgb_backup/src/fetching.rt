@@ -1,16 +1,18 @@
 // The jobs of a draft are done.
-ghost use Rattle.std.specs.Prelude.{◌≡◌, ◌<◌, ◌^◌, ℕ, Some, map, vec_len, slice_get, string_bytes, IfOk, IfErr, OnOk};
+ghost use Rattle.std.specs.Prelude.{◌≡◌, ◌<◌, ◌^◌, ℕ, Some, None, map, vec_len, slice_get, string_bytes, IfOk, IfErr, OnOk};
 ghost use Rattle.pgb_outside.specs.Links.{LinkState};
 ghost use Rattle.pgb_outside.specs.States.{Frame};
 ghost use Rattle.pgb_model.specs.InfoFiles.{IsLabel};
 ghost use Rattle.pgb_model.specs.Names.{label_folder};
 ghost use Rattle.pgb_worker_dispatch.specs.Run.{AddsLosses, Left, IsReady};
-ghost use Rattle.pgb_label.specs.Keeping.{IsPlan};
 ghost use Rattle.pgb_label.specs.Relation.{Touches};
 ghost use Rattle.pgb_label.specs.Sealed.{IsSealed};
-ghost use Rattle.pgb_backup.specs.Draft.{IsDraft, jobs_in, folder_of, is_own_of};
+ghost use Rattle.pgb_story.specs.Beside.{StaysBeside};
+ghost use Rattle.pgb_backup.specs.Draft.{IsDraft, jobs_in, is_own_of};
 ghost use Rattle.pgb_backup.specs.Faults.{StoreFails};
-ghost use Rattle.pgb_backup.specs.Stored.{AreNames, Stored};
+ghost use Rattle.pgb_backup.specs.Made.{LeavesList};
+ghost use Rattle.pgb_backup.specs.Stored.{Stored};
+ghost use Rattle.pgb_backup.specs.Staged.{IsFetched, IsStaged, fetched_draft, fetched_ends};
 
 use crate::draft::Draft;
 use crate::fault::MakeFault;
@@ -24,8 +26,8 @@ use pgb_text::NoMemory;
 use pgb_worker_dispatch::Lost;
 use std::alloc::Global;
 
-// The folder of a label.
-fn folder_name(alloc: Global, stanza: &str, label: &Label) -> Result<String, NoMemory>
+/// The folder of a label.
+pub(crate) fn folder_name(alloc: Global, stanza: &str, label: &Label) -> Result<String, NoMemory>
     requires { IsLabel label.now }
     ensures { IfOk result (λ name. string_bytes name ≡ label_folder stanza.now label.now) }
 {
@@ -33,8 +35,8 @@ fn folder_name(alloc: Global, stanza: &str, label: &Label) -> Result<String, NoM
     Ok(format!(in alloc; "backup/{stanza}/{label}")?)
 }
 
-/// Has the draft's jobs done, and stores what comes of them in the label's folder, to last.
-pub(crate) fn fetch<D: Disk, L: Link, U: Turns>(
+// Has the draft's jobs done, and stores what comes of them in the label's folder, to last.
+fn gather<D: Disk, L: Link, U: Turns>(
     alloc: Global,
     d: &mut D,
     links: &mut Vec<L>,
@@ -70,4 +72,44 @@ pub(crate) fn fetch<D: Disk, L: Link, U: Turns>(
         &names,
     )?;
     Ok(keep.into_ends(alloc)?)
+}
+
+/// A draft whose jobs are done: what came of them lies in the folder of its label, and isn't listed yet.
+#[derive(Drop)]
+pub struct Fetched<'a> {
+    pub(crate) draft: Draft<'a>,
+    pub(crate) ends: Vec<Vec<Ended>>,
+}
+
+/// Has the draft's jobs done, and stores what comes of them in the label's folder, to last. The stanza's list stays as it
+/// is, in what a stop leaves too.
+pub fn fetch<'a, D: Disk, L: Link, U: Turns>(
+    alloc: Global,
+    d: &mut D,
+    links: &mut Vec<L>,
+    turns: &mut U,
+    lost: &mut Vec<Lost>,
+    draft: Draft<'a>,
+) -> Result<Fetched<'a>, MakeFault>
+    requires draft { IsDraft draft }
+    requires few { vec_len links.old < 2 ^ 32 }
+    requires ready { (i : ℕ) (s : LinkState) → slice_get (map L.link_state links.old.items) i ≡ Some s → IsReady s }
+    ensures of { IfOk result (λ f. fetched_draft f ≡ draft.entry) }
+    ensures fetched { IfOk result IsFetched }
+    ensures staged { IfOk result (λ f. IsStaged draft.entry None (map L.link_state links.old.items) (fetched_ends f)
+        (D.state d.new).view) }
+    ensures unlisted { LeavesList draft.entry (D.state d.old).view (D.state d.new).view }
+    ensures beside { StaysBeside draft.entry.stanza.now (D.state d.old).view (D.state d.new).view }
+    ensures frame { Frame (D.state d.old) (D.state d.new) }
+
+    // Each link that was lost is told, and at Ok the others are left.
+    ensures left { OnOk result (Left (jobs_in draft.entry) (map L.link_state links.old.items)
+        lost.old.items lost.new.items (map L.link_state links.new.items)) }
+    ensures told { AddsLosses (jobs_in draft.entry) (map L.link_state links.old.items) lost.old.items lost.new.items }
+    ensures fault { IfErr result (λ e. StoreFails e (jobs_in draft.entry) (map L.link_state links.old.items)
+        (map L.link_state links.new.items) lost.old.items lost.new.items
+        (D.state d.old).faults (D.state d.new).faults) }
+{
+    let ends = gather(alloc, d, links, turns, lost, &draft)?;
+    Ok(Fetched { draft, ends })
 }

@@ -9,13 +9,12 @@ ghost use Rattle.pgb_stanza.specs.Pairs.{AgreeAt};
 ghost use Rattle.pgb_backup.specs.Faults.{MakeFails};
 ghost use Rattle.pgb_backup.specs.Made.{Outcome};
 
+use crate::closing::close;
 use crate::draft::Draft;
 use crate::fault::MakeFault;
 use crate::fetching::fetch;
-use crate::preparing::prepare;
-use pgb_manifest::save_manifest;
+use crate::publishing::publish;
 use pgb_outside::{Clock, Disk, Link, Turns};
-use pgb_pair::save_text;
 use pgb_worker_dispatch::Lost;
 use std::alloc::Global;
 
@@ -53,10 +52,7 @@ pub fn make<D: Disk, L: Link, U: Turns, C: Clock>(
         (map L.link_state links.new.items) lost.old.items lost.new.items
         (D.state d.old).faults (D.state d.new).faults (C.state clock.old).faults (C.state clock.new).faults) }
 {
-    let stanza = draft.stanza;
-    let ends = fetch(alloc, d, links, turns, lost, &draft)?;
-    let prepared = prepare(alloc, clock, draft, &ends)?;
-    save_manifest(alloc, d, stanza, &prepared.manifest)?;
-    save_text(alloc, d, &prepared.main, &prepared.text)?;
-    Ok(())
+    let fetched = fetch(alloc, d, links, turns, lost, draft)?;
+    let closed = close(clock, fetched)?;
+    publish(alloc, d, closed)
 }

@@ -1,27 +1,29 @@
 // What is saved of a backup once its jobs are done.
-ghost use Rattle.std.specs.Prelude.{◌≡◌, ◌≤◌, length, map, string_bytes, IfOk, IfErr};
-ghost use Rattle.pgb_outside.specs.States.{last_second};
+ghost use Rattle.std.specs.Prelude.{◌≡◌, ◌≤◌, length, option_map, string_bytes, IfOk, IfErr};
 ghost use Rattle.pgb_model.specs.InfoText.{info_text};
 ghost use Rattle.pgb_model.specs.InfoFiles.{backup_sections, info_limit, IsBackupInfo};
 ghost use Rattle.pgb_model.specs.ManifestText.{IsManifest};
-ghost use Rattle.pgb_model.specs.Values.{backup_info_of, manifest_of};
-ghost use Rattle.pgb_record.specs.Ends.{JobsCome};
+ghost use Rattle.pgb_model.specs.Values.{backup_info_of, file_entry_of, manifest_of};
 ghost use Rattle.pgb_record.specs.Faults.{HasControl, RecordFails};
 ghost use Rattle.pgb_record.specs.Making.{IsListWith};
-ghost use Rattle.pgb_backup.specs.Draft.{IsDraft, jobs_in, list_in, main_of, manifest_at, files_with};
-ghost use Rattle.pgb_backup.specs.Faults.{ListFails, PrepareFails, StopFails};
+ghost use Rattle.pgb_backup.specs.Draft.{list_in, main_of, manifest_for, files_with};
+ghost use Rattle.pgb_backup.specs.Faults.{ListFails, PrepareFails};
+ghost use Rattle.pgb_backup.specs.Online.{label_entry};
 ghost use Rattle.pgb_backup.specs.Prepared.{Prepares};
+ghost use Rattle.pgb_backup.specs.Staged.{IsClosed, closed_draft, closed_ends, closed_online};
 
+use crate::closing::Closed;
 use crate::draft::Draft;
 use crate::fault::MakeFault;
+use crate::fetching::Fetched;
+use crate::online::Online;
 use pgb_info::Info;
 use pgb_ini::write_info_text;
-use pgb_label::Ended;
-use pgb_model::{BackupInfo, Manifest};
-use pgb_outside::{Clock, Stop};
+use pgb_model::{BackupInfo, FileEntry, Manifest, WalPart};
 use pgb_record::{Head, Record, RecordFault, places_of, record_of, went};
 use pgb_stanza::backup_info_name;
-use std::alloc::Global;
+use pgb_text::Sum;
+use std::alloc::{AllocError, Global};
 
 /// The texts of a stanza's list have at most 64 MiB.
 const LIST_LIMIT: u64 = 67_108_864;
@@ -32,19 +34,6 @@ pub(crate) struct Prepared {
     pub(crate) manifest: Manifest,
     pub(crate) main: String,
     pub(crate) text: Vec<u8>,
-}
-
-// The second in which the last job has ended.
-fn stop_of<C: Clock>(clock: &mut C) -> Result<u64, MakeFault>
-    ensures within { IfOk result (λ now. now ≤ last_second) }
-    ensures later { (C.state clock.old).faults ≤ (C.state clock.new).faults }
-    ensures fault { IfErr result (λ e. StopFails e (C.state clock.old).faults (C.state clock.new).faults) }
-{
-    match clock.now() {
-        Err(Stop::Failed) => Err(MakeFault::Clock),
-        Err(Stop::NoMemory) => Err(MakeFault::NoMemory),
-        Ok(now) => Ok(now),
-    }
 }
 
 // The text of the stanza's list.
@@ -63,25 +52,63 @@ fn text_of(alloc: Global, list: &BackupInfo) -> Result<Vec<u8>, MakeFault>
     Ok(text)
 }
 
-// The record of a draft whose jobs ended so.
-fn record_in(
+// The label file in the manifest of a backup that stopped in this second.
+fn label_entry(alloc: Global, text: &str, stop: u64) -> Result<FileEntry, AllocError>
+    ensures { IfOk result (λ e. file_entry_of e ≡ label_entry text.now stop) }
+{
+    Ok(FileEntry {
+        path: String::from_str(alloc, "backup_label")?,
+        size: text.len() as u64,
+        time: stop,
+        sum: Sum::of(text.as_bytes()),
+        reference: None,
+        bundle: None,
+    })
+}
+
+// The same, where a server ran.
+fn label_in(
     alloc: Global,
-    draft: Draft<'_>,
+    online: &Option<Online>,
     stop: u64,
-    ends: &[Vec<Ended>],
-) -> Result<Record, RecordFault>
-    requires draft { IsDraft draft }
-    requires stop { stop ≤ last_second }
-    requires come { JobsCome (jobs_in draft) (map (λ v. v.items) ends.now) }
-    ensures manifest { IfOk result (λ r. manifest_of r.manifest
-        ≡ manifest_at draft.entry (map (λ v. v.items) ends.now) stop) }
+) -> Result<Option<FileEntry>, AllocError>
+    ensures { IfOk result (λ o. option_map file_entry_of o
+        ≡ option_map (λ x. label_entry (string_bytes x.label_file) stop) online.now) }
+{
+    match online {
+        Some(online) => Ok(Some(label_entry(alloc, &online.label_file, stop)?)),
+        None => Ok(None),
+    }
+}
+
+// The part of the log, where a server ran.
+fn part_of(online: &Option<Online>) -> Option<WalPart>
+    ensures { result ≡ option_map (λ x. x.wal) online.now }
+{
+    match online {
+        Some(online) => Some(online.wal),
+        None => None,
+    }
+}
+
+// The record of a backup.
+fn record_in(alloc: Global, closed: Closed<'_>) -> Result<Record, RecordFault>
+    requires { IsClosed closed }
+    ensures manifest { IfOk result (λ r. manifest_of r.manifest ≡ manifest_for (closed_draft closed.entry)
+        (closed_online closed.entry) (closed_ends closed.entry) closed.entry.stop) }
     ensures rules { IfOk result (λ r. IsManifest (manifest_of r.manifest)) }
-    ensures info { IfOk result (λ r. IsListWith (list_in draft.entry) (manifest_of r.manifest)
+    ensures info { IfOk result (λ r. IsListWith (list_in (closed_draft closed.entry)) (manifest_of r.manifest)
         (backup_info_of r.info)) }
     ensures info_rules { IfOk result (λ r. IsBackupInfo (backup_info_of r.info)) }
     ensures control { IfOk result (λ r. HasControl (manifest_of r.manifest).files) }
-    ensures fault { IfErr result (RecordFails (files_with draft.entry (map (λ v. v.items) ends.now))) }
+    ensures fault { IfErr result (RecordFails (files_with (closed_draft closed.entry) (closed_ends closed.entry))) }
 {
+    let Closed {
+        fetched,
+        stop,
+        online,
+    } = closed;
+    let Fetched { draft, ends } = fetched;
     let Draft {
         stanza: _,
         label,
@@ -94,39 +121,32 @@ fn record_in(
         plan,
         before,
     } = draft;
-    let places = places_of(alloc, ends)?;
-    let ran = went(prior.unwrap_or(label), old, plan.singles, ends, &places);
+    let places = places_of(alloc, &ends)?;
+    let ran = went(prior.unwrap_or(label), old, plan.singles, &ends, &places);
+    let further = label_in(alloc, &online, stop)?;
     let head = Head {
         label,
         prior,
         start,
         stop,
         cluster,
-        wal: None,
+        wal: part_of(&online),
         choices,
     };
-    record_of(alloc, &head, &ran, listing, &plan.choices, before)
+    record_of(alloc, &head, &ran, listing, &plan.choices, further, before)
 }
 
-/// What is saved of a draft whose jobs ended so.
-pub(crate) fn prepare<C: Clock>(
-    alloc: Global,
-    clock: &mut C,
-    draft: Draft<'_>,
-    ends: &[Vec<Ended>],
-) -> Result<Prepared, MakeFault>
-    requires draft { IsDraft draft }
-    requires come { JobsCome (jobs_in draft) (map (λ v. v.items) ends.now) }
-    ensures prepares { IfOk result (λ p. Prepares draft.entry (map (λ v. v.items) ends.now) (manifest_of p.manifest)
-        p.text.items) }
-    ensures main { IfOk result (λ p. string_bytes p.main ≡ main_of draft.entry) }
-    ensures later { (C.state clock.old).faults ≤ (C.state clock.new).faults }
-    ensures fault { IfErr result (λ e. PrepareFails e draft.entry (map (λ v. v.items) ends.now)
-        (C.state clock.old).faults (C.state clock.new).faults) }
+/// What is saved of a backup.
+pub(crate) fn prepare(alloc: Global, closed: Closed<'_>) -> Result<Prepared, MakeFault>
+    requires { IsClosed closed }
+    ensures prepares { IfOk result (λ p. Prepares (closed_draft closed.entry) (closed_online closed.entry)
+        (closed_ends closed.entry) (manifest_of p.manifest) p.text.items) }
+    ensures main { IfOk result (λ p. string_bytes p.main ≡ main_of (closed_draft closed.entry)) }
+    ensures fault { IfErr result (λ e. PrepareFails e (closed_draft closed.entry) (closed_online closed.entry)
+        (closed_ends closed.entry)) }
 {
-    let main = backup_info_name(alloc, draft.stanza)?;
-    let stop = stop_of(clock)?;
-    let Record { manifest, info } = record_in(alloc, draft, stop, ends)?;
+    let main = backup_info_name(alloc, closed.fetched.draft.stanza)?;
+    let Record { manifest, info } = record_in(alloc, closed)?;
     let text = text_of(alloc, &info)?;
     Ok(Prepared {
         manifest,

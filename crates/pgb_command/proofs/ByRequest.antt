@@ -14,6 +14,7 @@ use Rattle.pgb_stage.specs.Seen.{Seen}
 use Rattle.pgb_logged.proofs.Reading.{no_files, no_files_read}
 use Rattle.pgb_model.specs.Values.{Manifest}
 use Rattle.pgb_restore.specs.Finished.{IsFinished}
+use Rattle.pgb_recover.specs.Fetching.{options_by}
 use Rattle.pgb_clear.specs.Clearing.{control_path, HasNone}
 use Rattle.pgb_command.specs.Asked.{Request, create, push, get, backup, restore, report, Asked}
 use Rattle.pgb_command.specs.Tables.{Known, known, plan_of, manner_of, OnReader, OnCreate, OnOther, FolderGoes, FolderStays, Unless}
@@ -23,7 +24,7 @@ idle create folder nodes links P p = λ command is. p command
 idle (push path) folder nodes links P p = λ command is. p command
 idle (get name path) folder nodes links P p = λ command is. p command
 idle (backup workers) folder nodes links P p = (MakeBackup [] no_files None, (no_files, refl, no_files_read (take workers links)), p (MakeBackup [] no_files None))
-idle (restore set workers) folder nodes links P p = λ command is. p command
+idle (restore set how) folder nodes links P p = λ command is. p command
 idle (report form) folder nodes links P p = λ command is. p command
 
 -- a command that opens no data folder reads no control file
@@ -32,7 +33,7 @@ no_control create is = cc is
 no_control (push path) is = cc is
 no_control (get name path) is = cc is
 no_control (backup workers) is = cc is
-no_control (restore set workers) is = refl
+no_control (restore set how) is = refl
 no_control (report form) is = refl
 
 -- what holds where no pair is healed holds of readers and of stanza-create
@@ -41,7 +42,7 @@ reader_still create P h = tt
 reader_still (push path) P h = tt
 reader_still (get name path) P h = h
 reader_still (backup workers) P h = tt
-reader_still (restore set workers) P h = h
+reader_still (restore set how) P h = h
 reader_still (report form) P h = h
 
 pub create_still : (request : Request) (P : Type 0) → OnReading (plan_of request).pairs P → OnCreate request P
@@ -49,7 +50,7 @@ create_still create P h = h
 create_still (push path) P h = tt
 create_still (get name path) P h = tt
 create_still (backup workers) P h = tt
-create_still (restore set workers) P h = tt
+create_still (restore set how) P h = tt
 create_still (report form) P h = tt
 
 pub any_reader : (request : Request) (P : Type 0) → P → OnReader request P
@@ -57,7 +58,7 @@ any_reader create P p = tt
 any_reader (push path) P p = tt
 any_reader (get name path) P p = p
 any_reader (backup workers) P p = tt
-any_reader (restore set workers) P p = p
+any_reader (restore set how) P p = p
 any_reader (report form) P p = p
 
 pub any_create : (request : Request) (P : Type 0) → P → OnCreate request P
@@ -65,7 +66,7 @@ any_create create P p = p
 any_create (push path) P p = tt
 any_create (get name path) P p = tt
 any_create (backup workers) P p = tt
-any_create (restore set workers) P p = tt
+any_create (restore set how) P p = tt
 any_create (report form) P p = tt
 
 pub any_other : (request : Request) (P : Type 0) → P → OnOther request P
@@ -73,7 +74,7 @@ any_other create P p = tt
 any_other (push path) P p = p
 any_other (get name path) P p = p
 any_other (backup workers) P p = p
-any_other (restore set workers) P p = p
+any_other (restore set how) P p = p
 any_other (report form) P p = p
 
 pub reader_on : (request : Request) (P Q R : Type 0) → (P → Q → R) → OnReader request P → OnReader request Q → OnReader request R
@@ -81,7 +82,7 @@ reader_on create P Q R to p q = tt
 reader_on (push path) P Q R to p q = tt
 reader_on (get name path) P Q R to p q = to p q
 reader_on (backup workers) P Q R to p q = tt
-reader_on (restore set workers) P Q R to p q = to p q
+reader_on (restore set how) P Q R to p q = to p q
 reader_on (report form) P Q R to p q = to p q
 
 pub create_on : (request : Request) (P Q R : Type 0) → (P → Q → R) → OnCreate request P → OnCreate request Q → OnCreate request R
@@ -89,7 +90,7 @@ create_on create P Q R to p q = to p q
 create_on (push path) P Q R to p q = tt
 create_on (get name path) P Q R to p q = tt
 create_on (backup workers) P Q R to p q = tt
-create_on (restore set workers) P Q R to p q = tt
+create_on (restore set how) P Q R to p q = tt
 create_on (report form) P Q R to p q = tt
 
 pub other_as : (request : Request) (P Q : Type 0) → (P → Q) → OnOther request P → OnOther request Q
@@ -97,7 +98,7 @@ other_as create P Q to p = tt
 other_as (push path) P Q to p = to p
 other_as (get name path) P Q to p = to p
 other_as (backup workers) P Q to p = to p
-other_as (restore set workers) P Q to p = to p
+other_as (restore set how) P Q to p = to p
 other_as (report form) P Q to p = to p
 
 -- the data folder stays after a refusal
@@ -106,7 +107,7 @@ any_stays create n P p = p
 any_stays (push path) n P p = p
 any_stays (get name path) n P p = p
 any_stays (backup workers) n P p = p
-any_stays (restore set workers) n P p = λ lost unread damaged. p
+any_stays (restore set how) n P p = λ lost unread damaged. p
 any_stays (report form) n P p = p
 
 pub stays_as : (request : Request) (n : ℕ) (P Q : Type 0) → (P → Q) → FolderStays request n P → FolderStays request n Q
@@ -114,7 +115,7 @@ stays_as create n P Q to p = to p
 stays_as (push path) n P Q to p = to p
 stays_as (get name path) n P Q to p = to p
 stays_as (backup workers) n P Q to p = to p
-stays_as (restore set workers) n P Q to p = λ lost unread damaged. to (p lost unread damaged)
+stays_as (restore set how) n P Q to p = λ lost unread damaged. to (p lost unread damaged)
 stays_as (report form) n P Q to p = to p
 
 -- it doesn't use it
@@ -135,7 +136,7 @@ folder_stays a create old new same = same
 folder_stays a (push path) old new same = same
 folder_stays a (get name path) old new same = subst (λ (n : Option Nodes). FolderGoes a (get name path) old n) (sym same) (record { told = λ some. some; others = λ q x y. refl; whole = inl refl })
 folder_stays a (backup workers) old new same = same
-folder_stays a (restore set workers) old new same = inl same
+folder_stays a (restore set how) old new same = inl same
 folder_stays a (report form) old new same = same
 
 pub folder_on : (a : Asked) (request : Request) (b m k : Seen) → OnReader request (IsStill b.repo.view m.repo.view) → m.tree.nodes ≡ b.tree.nodes → m.links ≡ b.links → FolderGoes a request (known m) k.tree.nodes → FolderGoes a request (known b) k.tree.nodes
@@ -144,6 +145,7 @@ folder_on a (push path) b m k still nodes links h = h ∙ nodes
 folder_on a (get name path) b m k still nodes links h = subst (λ (o : Option Content). FolderGoes a (get name path) (as_known o b.tree.nodes b.server b.clock b.links) k.tree.nodes) still.now
     (subst (λ (n : Option Nodes). FolderGoes a (get name path) (as_known m.repo.view.now n b.server b.clock b.links) k.tree.nodes) nodes h)
 folder_on a (backup workers) b m k still nodes links h = h ∙ nodes
-folder_on a (restore set workers) b m k still nodes links h = ⊎_elim (λ (e : k.tree.nodes ≡ m.tree.nodes). inl (e ∙ nodes))
-    (λ x. inr (subst (λ (ls : List LinkState). HasNone control_path k.tree.nodes ⊎ ((v : Manifest) × IfSome k.tree.nodes (IsFinished a.stanza (take workers ls) v))) links x)) h
+folder_on a (restore set how) b m k still nodes links h = ⊎_elim (λ (e : k.tree.nodes ≡ m.tree.nodes). inl (e ∙ nodes))
+    (λ x. inr (subst (λ (ls : List LinkState). HasNone control_path k.tree.nodes ⊎ ((v : Manifest) × IfSome k.tree.nodes (IsFinished a.stanza (take how.workers ls) (options_by a.stanza how.delta how.recovery) v b.tree.nodes))) links
+    (subst (λ (n : Option Nodes). HasNone control_path k.tree.nodes ⊎ ((v : Manifest) × IfSome k.tree.nodes (IsFinished a.stanza (take how.workers m.links) (options_by a.stanza how.delta how.recovery) v n))) nodes x))) h
 folder_on a (report form) b m k still nodes links h = h ∙ nodes

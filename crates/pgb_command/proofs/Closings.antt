@@ -126,7 +126,7 @@ push_other a create old e cause p = absurd cause
 push_other a (push path) old e cause p = p
 push_other a (get name path) old e cause p = absurd cause
 push_other a (backup workers) old e cause p = absurd cause
-push_other a (restore set workers) old e cause p = absurd cause
+push_other a (restore set how) old e cause p = absurd cause
 push_other a (report form) old e cause p = absurd cause
 
 get_other : {P : Type 0} (a : Asked) (q : Request) (old : Known) (e : GetFault) → CommandCause a q old (Get e) → OnOther q P → P
@@ -134,7 +134,7 @@ get_other a create old e cause p = absurd cause
 get_other a (push path) old e cause p = absurd cause
 get_other a (get name path) old e cause p = p
 get_other a (backup workers) old e cause p = absurd cause
-get_other a (restore set workers) old e cause p = absurd cause
+get_other a (restore set how) old e cause p = absurd cause
 get_other a (report form) old e cause p = absurd cause
 
 take_other : {P : Type 0} (a : Asked) (q : Request) (old : Known) (e : TakeFault) → CommandCause a q old (Take e) → OnOther q P → P
@@ -142,7 +142,7 @@ take_other a create old e cause p = absurd cause
 take_other a (push path) old e cause p = absurd cause
 take_other a (get name path) old e cause p = absurd cause
 take_other a (backup workers) old e cause p = p
-take_other a (restore set workers) old e cause p = absurd cause
+take_other a (restore set how) old e cause p = absurd cause
 take_other a (report form) old e cause p = absurd cause
 
 push_at : {P : Type 0} (a : Asked) (b k : Seen) (e : PushFault) → Cause a b k (fault.Command (Push e)) → OnOther a.request P → P

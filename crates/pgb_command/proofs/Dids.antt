@@ -206,7 +206,7 @@ lasts_by a create v nodes mid k outcome same at h = tt
 lasts_by a (push path) v nodes mid k outcome same at h = subst (λ (n : Option Nodes). Lasts a (push path) n k.repo.view k.tree.nodes outcome) same (h (at refl))
 lasts_by a (get name path) v nodes mid k outcome same at h = subst (λ (n : Option Nodes). Lasts a (get name path) n k.repo.view k.tree.nodes outcome) same (h (at refl))
 lasts_by a (backup workers) v nodes mid k outcome same at h = tt
-lasts_by a (restore set workers) v nodes mid k outcome same at h = tt
+lasts_by a (restore set how) v nodes mid k outcome same at h = tt
 lasts_by a (report form) v nodes mid k outcome same at h = tt
 
 -- the members of a healed pair too
@@ -216,7 +216,7 @@ heals_by a create v k at had h = tt
 heals_by a (push path) v k at had h = h (at refl) had
 heals_by a (get name path) v k at had h = tt
 heals_by a (backup workers) v k at had h = tt
-heals_by a (restore set workers) v k at had h = tt
+heals_by a (restore set how) v k at had h = tt
 heals_by a (report form) v k at had h = tt
 
 -- what the stages behind the locks add

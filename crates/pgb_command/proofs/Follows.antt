@@ -73,7 +73,7 @@ create_at create reached P is h = none_at reached P is h
 create_at (push path) reached P is h = tt
 create_at (get name path) reached P is h = tt
 create_at (backup workers) reached P is h = tt
-create_at (restore set workers) reached P is h = tt
+create_at (restore set how) reached P is h = tt
 create_at (report form) reached P is h = tt
 
 ok_at : (ended : Result Outcome Fault) (P : Type 0) → status (ending_of ended) ≡ 0 → OnOk ended P → P

@@ -68,6 +68,7 @@ use Rattle.pgb_recover.specs.declared.fault.RecoverFault.TheVariants as recovers
 use Rattle.pgb_recover.specs.Causes.{RecoverCause}
 use Rattle.pgb_recover.specs.Ends.{recover_early, leaves_folder}
 use Rattle.pgb_recover.specs.Texts.{recover_status}
+use Rattle.pgb_recover.specs.Fetching.{options_by}
 use Rattle.pgb_recover.specs.Words.{TellsSet}
 use Rattle.pgb_model.specs.declared.labels.Label.{Label}
 use Rattle.pgb_get.specs.Getting.{GotBy, GetCause, get_early}
@@ -75,7 +76,7 @@ use Rattle.pgb_command.specs.declared.fault.Fault.{Fault}
 use Rattle.pgb_command.specs.declared.fault.Fault.TheVariants.{Stage, Command as OfCommand}
 use Rattle.pgb_command.specs.declared.fault.CommandFault.TheVariants.{Create, Push, Get, Take, Recover}
 use Rattle.pgb_command.specs.Answers.{status, reached_of, ending_of, is_early}
-use Rattle.pgb_command.specs.Asked.{Request, create, push, get, backup, restore, report, Asked}
+use Rattle.pgb_command.specs.Asked.{Request, create, push, get, backup, restore, report, RestoreHow, Asked}
 use Rattle.pgb_command.specs.Faults.{of_halt, of_stage, of_create, of_push, of_get, of_take, of_recover, lift}
 use Rattle.pgb_command.specs.Tables.{Known, known, found_by, found_for, Promise, Lasts, plan_of, manner_of, IsCreateOf, OnReader, OnCreate, OnOther, FolderGoes, FolderStays, Unless, uses_workers, uses_clock}
 use Rattle.pgb_command.specs.Did.{SamePlaces, Closes, OwnCause, StaysHealed, Ran}
@@ -101,7 +102,7 @@ module _ {E : Type 0} (a : Asked) (b k : Seen) (of : E → Fault) (early : E →
   create_reached (push path) P h = h
   create_reached (get name path) P h = h
   create_reached (backup workers) P h = h
-  create_reached (restore set workers) P h = h
+  create_reached (restore set how) P h = h
   create_reached (report form) P h = h
 
   pub ran_of : On (manner_of a.request a.data_folder b.tree.nodes b.links) (λ command. Runs (plan_of a.request).settling a.stanza command (reached_by early r) b.repo.view b.spool.view k.repo.view k.spool.view) → IfOk r (Promise a a.request (known b) (known k)) → IfOk r (λ o. IsLookedAt a.stanza b.repo.view → Lasts a a.request b.tree.nodes k.repo.view k.tree.nodes o) → IfErr r (HaltCause why failed) →
@@ -407,30 +408,30 @@ restore_stays P failed never why (Err (HaltFailed object)) f cause h = go object
 restore_stays P failed never why (Err HaltMemory) f cause h = tt
 
 -- the folder is as it was, or has no control file, or holds a whole backup
-restore_goes : (a : Asked) (label : Option Label) (workers : ℕ) (old new : Known) (r : Result Outcome (Halt RecoverFault)) → IfOk r (λ o. OnFinished o (Recovers (found_for a label workers old) new.nodes)) → OnErr r ((new.nodes ≡ old.nodes) ⊎ HasNone control_path new.nodes) →
-    (new.nodes ≡ old.nodes) ⊎ (HasNone control_path new.nodes ⊎ ((m : Manifest) × IfSome new.nodes (IsFinished a.stanza (take workers old.links) m)))
-restore_goes a label workers old new (Ok (Finished lines)) ok err = inr (inr (ok.manifest, ok.finished))
-restore_goes a label workers old new (Ok (Absent name)) ok err = absurd ok
-restore_goes a label workers old new (Err h) ok err = ⊎_elim (λ e. inl e) (λ n. inr (inl n)) err
+restore_goes : (a : Asked) (label : Option Label) (how : RestoreHow) (old new : Known) (r : Result Outcome (Halt RecoverFault)) → IfOk r (λ o. OnFinished o (Recovers (found_for a label how old) new.nodes)) → OnErr r ((new.nodes ≡ old.nodes) ⊎ HasNone control_path new.nodes) →
+    (new.nodes ≡ old.nodes) ⊎ (HasNone control_path new.nodes ⊎ ((m : Manifest) × IfSome new.nodes (IsFinished a.stanza (take how.workers old.links) (options_by a.stanza how.delta how.recovery) m old.nodes)))
+restore_goes a label how old new (Ok (Finished lines)) ok err = inr (inr (ok.manifest, ok.finished))
+restore_goes a label how old new (Ok (Absent name)) ok err = absurd ok
+restore_goes a label how old new (Err h) ok err = ⊎_elim (λ e. inl e) (λ n. inr (inl n)) err
 
 silent_ok : {X : Type 0} (P : Text → Type 0) (r : Result Outcome X) → IfOk r (λ o. OnFinished o P) → IfOk r (λ o. OnFinished o (λ lines. Unit {0}))
 silent_ok P (Ok (Finished lines)) h = tt
 silent_ok P (Ok (Absent name)) h = absurd h
 silent_ok P (Err e) h = tt
 
-module _ (a : Asked) (b k : Seen) (rest : k ≡ record b { repo = k.repo; tree = k.tree; links = k.links }) (still : IsStill b.repo.view k.repo.view) (set : Option Text) (label : Option Label) (is_set : TellsSet set label) (workers : ℕ)
+module _ (a : Asked) (b k : Seen) (rest : k ≡ record b { repo = k.repo; tree = k.tree; links = k.links }) (still : IsStill b.repo.view k.repo.view) (set : Option Text) (label : Option Label) (is_set : TellsSet set label) (how : RestoreHow)
     (r : Result Outcome (Halt RecoverFault)) (ended : Result Outcome Fault) (lifted : ended ≡ lift of_recover r) where
   abbrev restores : Asked
-  restores = with_request a (restore set workers)
+  restores = with_request a (restore set how)
 
-  pub recovered_ran : a.request ≡ restore set workers →
-      IfOk r (λ o. OnFinished o (Recovers (found_for a label workers (known b)) k.tree.nodes)) →
-      IfOk r (λ o. (s : Stanza) (f : Content) → b.repo.view.now ≡ Some f → NowStands a.stanza (Some s) b.repo.view.now → OnFinished o (GivesBackup s (found_for a label workers (known b)) f k.tree.nodes)) →
+  pub recovered_ran : a.request ≡ restore set how →
+      IfOk r (λ o. OnFinished o (Recovers (found_for a label how (known b)) k.tree.nodes)) →
+      IfOk r (λ o. (s : Stanza) (f : Content) → b.repo.view.now ≡ Some f → NowStands a.stanza (Some s) b.repo.view.now → OnFinished o (GivesBackup s (found_for a label how (known b)) f k.tree.nodes)) →
       OnErr r ((k.tree.nodes ≡ b.tree.nodes) ⊎ HasNone control_path k.tree.nodes) → IfErr r (λ h. leaves_folder h ≡ true → k.tree.nodes ≡ b.tree.nodes) →
       (failed : Object → Type 0) → (failed TheServer → ⊥) → ((object : Object) → failed object → Failed b k object) →
-      IfErr r (HaltCause (RecoverCause (found_for a label workers (known b))) failed) → SamePlaces b k → AreLater b k → Ran a b k ended
-  recovered_ran is recovers gives control unchanged failed never rose cause places later = as_ran a (restore set workers) b k ended is
-      (ran_of restores b k (λ (e : RecoverFault). OfCommand (Recover e)) recover_early (λ e. refl) (RecoverCause (found_for a label workers (known b))) (λ e h. inr (label, is_set, h)) failed rose r ended lifted
+      IfErr r (HaltCause (RecoverCause (found_for a label how (known b))) failed) → SamePlaces b k → AreLater b k → Ran a b k ended
+  recovered_ran is recovers gives control unchanged failed never rose cause places later = as_ran a (restore set how) b k ended is
+      (ran_of restores b k (λ (e : RecoverFault). OfCommand (Recover e)) recover_early (λ e. refl) (RecoverCause (found_for a label how (known b))) (λ e h. inr (label, is_set, h)) failed rose r ended lifted
       (λ command x. reading_runs Whole a.stanza command (reached_by recover_early r) b k x still (ap (λ (s : Seen). s.spool.view) rest))
       (both_as r _ _ _ (λ o p q. record { label = label; is = is_set; recovers = p; gives = q }) recovers gives)
       (any_ok r (λ o. IsLookedAt a.stanza b.repo.view → Unit {0}) (λ o looked. tt))
@@ -439,8 +440,8 @@ module _ (a : Asked) (b k : Seen) (rest : k ≡ record b { repo = k.repo; tree =
       (still_beside a.stanza b.repo.view k.repo.view still)
       tt
       still
-      (restore_goes a label workers (known b) (known k) r recovers control)
-      (subst (λ (e : Result Outcome Fault). OnNone (reached_by recover_early r) (FolderStays (restore set workers) (status (ending_of e)) (k.tree.nodes ≡ b.tree.nodes))) (sym lifted)
+      (restore_goes a label how (known b) (known k) r recovers control)
+      (subst (λ (e : Result Outcome Fault). OnNone (reached_by recover_early r) (FolderStays (restore set how) (status (ending_of e)) (k.tree.nodes ≡ b.tree.nodes))) (sym lifted)
       (restore_stays (k.tree.nodes ≡ b.tree.nodes) failed never _ r (silent_ok _ r recovers) cause unchanged))
       tt
       (λ none. ap (λ (s : Seen). s.server) rest)

@@ -92,7 +92,7 @@ any_early create n h = h
 any_early (push path) n h = inl h
 any_early (get name path) n h = inl h
 any_early (backup workers) n h = inl h
-any_early (restore set workers) n h = inl h
+any_early (restore set how) n h = inl h
 any_early (report form) n h = inl h
 
 late : (m : ℕ) → (73 ≤ m) → (m ≤ 99) → m ≢ 83 → ¬ AnyEarly m

@@ -21,6 +21,7 @@ wanted_is o s is =
     let bundles = is.repo1_bundle in
     let expires = is.expire_auto in
     let recovery = is.restore_type in
+    let config = is.config in
     let label = is.set in
     let workers = is.process_max in
     cc

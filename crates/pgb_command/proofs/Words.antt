@@ -1,5 +1,5 @@
 -- Why a command's words are refused.
-use Rattle.std.proofs.Common.{◌≡◌, ap, ℕ, Option, inl, inr, Result, Ok, Err, IfErr, refl, sym, subst}
+use Rattle.std.proofs.Common.{◌≡◌, ap, Option, inl, inr, Result, Ok, Err, IfErr, refl, sym, subst}
 use Rattle.std.specs.Prelude.{IsErrAnd}
 use Rattle.pgb_model.specs.Text.{Text}
 use Rattle.pgb_archive.specs.Still.{still_self}
@@ -24,8 +24,8 @@ use Rattle.pgb_stage.specs.declared.outcome.Outcome.{Outcome}
 use Rattle.pgb_push.specs.WalPath.{IsWalPath}
 use Rattle.pgb_command.specs.declared.order.Order.{Order}
 use Rattle.pgb_command.specs.declared.order.Order.TheVariants as orders
-use Rattle.pgb_command.specs.Told.{IsOrder}
-use Rattle.pgb_command.specs.Asked.{Request, create, push, get, backup, restore, report, Asked}
+use Rattle.pgb_command.specs.Told.{how_of, IsOrder}
+use Rattle.pgb_command.specs.Asked.{Request, create, push, get, backup, restore, report, RestoreHow, Asked}
 use Rattle.pgb_command.specs.Faults.{of_push, of_get, of_recover}
 use Rattle.pgb_command.specs.Tables.{WordsFit, CommandCause}
 use Rattle.pgb_command.specs.Did.{IsIdle, WordsCause, ComesBehind}
@@ -41,10 +41,10 @@ module _ (a : Asked) where
   get_words name path is (HaltFailed object) h = absurd h
   get_words name path is HaltMemory h = tt
 
-  set_words : (set : Option Text) (workers : ℕ) → a.request ≡ restore set workers → (h : Halt RecoverFault) → HaltCause (SetCause set) (λ (object : Object). ⊥) h → WordsCause a (of_recover h)
-  set_words set workers is (Refused e) h = λ old. subst (λ (q : Request). CommandCause a q old (Recover e)) (sym is) (inl h)
-  set_words set workers is (HaltFailed object) h = absurd h
-  set_words set workers is HaltMemory h = tt
+  set_words : (set : Option Text) (how : RestoreHow) → a.request ≡ restore set how → (h : Halt RecoverFault) → HaltCause (SetCause set) (λ (object : Object). ⊥) h → WordsCause a (of_recover h)
+  set_words set how is (Refused e) h = λ old. subst (λ (q : Request). CommandCause a q old (Recover e)) (sym is) (inl h)
+  set_words set how is (HaltFailed object) h = absurd h
+  set_words set how is HaltMemory h = tt
 
   of_err : {T : Type 0} (result : Result T Fault) (e : Fault) → IsErrAnd result (λ f. f ≡ e) → WordsCause a e → IfErr result (WordsCause a)
   of_err (Ok x) e is h = tt
@@ -56,8 +56,8 @@ module _ (a : Asked) where
   pub get_refused : (name path : Text) → a.request ≡ get name path → {T : Type 0} (result : Result T Fault) (h : Halt GetFault) → IsErrAnd result (λ f. f ≡ of_get h) → HaltCause (GetWords a.data_folder name path) (λ (object : Object). ⊥) h → IfErr result (WordsCause a)
   get_refused name path asked result h is cause = of_err result (of_get h) is (get_words name path asked h cause)
 
-  pub restore_refused : (set : Option Text) (workers : ℕ) → a.request ≡ restore set workers → {T : Type 0} (result : Result T Fault) (h : Halt RecoverFault) → IsErrAnd result (λ f. f ≡ of_recover h) → HaltCause (SetCause set) (λ (object : Object). ⊥) h → IfErr result (WordsCause a)
-  restore_refused set workers asked result h is cause = of_err result (of_recover h) is (set_words set workers asked h cause)
+  pub restore_refused : (set : Option Text) (how : RestoreHow) → a.request ≡ restore set how → {T : Type 0} (result : Result T Fault) (h : Halt RecoverFault) → IsErrAnd result (λ f. f ≡ of_recover h) → HaltCause (SetCause set) (λ (object : Object). ⊥) h → IfErr result (WordsCause a)
+  restore_refused set how asked result h is cause = of_err result (of_recover h) is (set_words set how asked h cause)
 
 -- ---- words that were read fit
 
@@ -86,12 +86,12 @@ words_fit a (backup workers) (orders.ArchiveGet o) is = absurd is
 words_fit a (backup workers) (orders.Backup o) is = tt
 words_fit a (backup workers) (orders.Restore o) is = absurd is
 words_fit a (backup workers) (orders.Info asked) is = absurd is
-words_fit a (restore set workers) orders.StanzaCreate is = absurd is
-words_fit a (restore set workers) (orders.ArchivePush o) is = absurd is
-words_fit a (restore set workers) (orders.ArchiveGet o) is = absurd is
-words_fit a (restore set workers) (orders.Backup o) is = absurd is
-words_fit a (restore set workers) (orders.Restore o) is = (o.set, is.2)
-words_fit a (restore set workers) (orders.Info asked) is = absurd is
+words_fit a (restore set how) orders.StanzaCreate is = absurd is
+words_fit a (restore set how) (orders.ArchivePush o) is = absurd is
+words_fit a (restore set how) (orders.ArchiveGet o) is = absurd is
+words_fit a (restore set how) (orders.Backup o) is = absurd is
+words_fit a (restore set how) (orders.Restore o) is = (o.set, is.2)
+words_fit a (restore set how) (orders.Info asked) is = absurd is
 words_fit a (report form) orders.StanzaCreate is = absurd is
 words_fit a (report form) (orders.ArchivePush o) is = absurd is
 words_fit a (report form) (orders.ArchiveGet o) is = absurd is
@@ -100,12 +100,12 @@ words_fit a (report form) (orders.Restore o) is = absurd is
 words_fit a (report form) (orders.Info asked) is = tt
 
 -- the order of a restore is asked for
-pub restore_asked : (q : Request) (folder : Text) (o : RecoverOrder) → IsOrder q folder (orders.Restore o) → (set : Option Text) × (q ≡ restore set o.workers) × TellsSet set o.set
+pub restore_asked : (q : Request) (folder : Text) (o : RecoverOrder) → IsOrder q folder (orders.Restore o) → (set : Option Text) × (q ≡ restore set (how_of o)) × TellsSet set o.set
 restore_asked create folder o is = absurd is
 restore_asked (push path) folder o is = absurd is
 restore_asked (get word path) folder o is = absurd is
 restore_asked (backup workers) folder o is = absurd is
-restore_asked (restore set workers) folder o is = (set, ap (restore set) (sym is.1), is.2)
+restore_asked (restore set how) folder o is = (set, ap (restore set) (sym is.1), is.2)
 restore_asked (report form) folder o is = absurd is
 
 pub behind_words : (a : Asked) (b k : Seen) (o : Order) → IsOrder a.request a.data_folder o → (result : Result Outcome Fault) → ComesBehind a b k result

@@ -8,7 +8,7 @@ use Rattle.pgb_options.specs.declared.options.KindWord.TheVariants.{Full, Diff, 
 use Rattle.pgb_options.specs.declared.options.RestoreWord.{RestoreWord}
 use Rattle.pgb_options.specs.declared.options.RestoreWord.TheVariants.{Default, Plain}
 use Rattle.pgb_options.specs.declared.options.OutputWord.{OutputWord}
-use Rattle.pgb_table.specs.declared.table.Opt.TheVariants.{Pg1Path, Pg1SocketPath, Pg1Port, Pg1User, Pg1Database, Repo1Path, LockPath, Online, ArchiveAsync, Output, BackupType, Delta, Repo1Bundle, ExpireAuto, ProcessMax, RestoreType, Set}
+use Rattle.pgb_table.specs.declared.table.Opt.TheVariants.{Pg1Path, Pg1SocketPath, Pg1Port, Pg1User, Pg1Database, Repo1Path, LockPath, Online, ArchiveAsync, Output, BackupType, Delta, Repo1Bundle, ExpireAuto, ProcessMax, RestoreType, Config, Set}
 use Rattle.pgb_table.specs.declared.table.Verb.{Verb}
 use Rattle.pgb_table.specs.declared.table.Verb.TheVariants.{StanzaCreate, ArchivePush, ArchiveGet, Backup, Restore, Info}
 use Rattle.pgb_options.specs.Faults.{Fault}
@@ -16,8 +16,10 @@ use Rattle.pgb_options.specs.Filled.{text_in, number_in, flag_in, or_else, kind_
 use Rattle.pgb_options.specs.Paths.{Path, nowhere, usual, named, path_of_words}
 use Rattle.pgb_options.specs.Settings.{Source, Settled, value, settled_words}
 use Rattle.pgb_create.specs.Server.{Server}
+use Rattle.pgb_recover.specs.Fetching.{RecoveryType}
+use Rattle.pgb_recover.specs.Fetching.RecoveryType.{Default as ToTheEnd, Without}
 use Rattle.pgb_stage.specs.declared.fault.Unbuilt.{Unbuilt}
-use Rattle.pgb_stage.specs.declared.fault.Unbuilt.TheVariants.{Command, Background, Online as RunningServer, Kind, Delta as Digests, Bundles, Expiry, Recovery}
+use Rattle.pgb_stage.specs.declared.fault.Unbuilt.TheVariants.{Command, Background, Online as RunningServer, Kind, Delta as Digests, Bundles, Expiry}
 
 -- ---- the configuration
 
@@ -42,13 +44,19 @@ pub record WordsSettle (words : List Text) (files : Option Content) (read : Resu
 
 -- ---- what is asked
 
--- which command, the file that archive-push is to store, the file that archive-get is to serve and where, how many workers a backup or a restore may use, the label of the backup to restore, and the form of info's report
+-- how a backup is restored: with how many workers, whether equal files stay, and how the server is to recover
+pub record RestoreHow : Type 0 where
+  pub workers : ℕ
+  pub delta : Bool
+  pub recovery : RecoveryType
+
+-- which command, the file that archive-push is to store, the file that archive-get is to serve and where, how many workers a backup may use, the label of the backup to restore and how, and the form of info's report
 pub data Request : Type 0 where
   create : Request
   push : (path : Text) → Request
   get : (name path : Text) → Request
   backup : (workers : ℕ) → Request
-  restore : (set : Option Text) (workers : ℕ) → Request
+  restore : (set : Option Text) (how : RestoreHow) → Request
   report : (form : OutputWord) → Request
 
 abbrev pub first_of : List Text → Text
@@ -69,6 +77,7 @@ pub record Wanted : Type 0 where
   pub bundles : Bool
   pub expires : Bool
   pub recovery : RestoreWord
+  pub config : Option Text
   pub set : Option Text
   pub workers : ℕ
 
@@ -83,13 +92,13 @@ backup_by m = if m.online then Err RunningServer
     else if is_full m.kind then (if m.delta then Err Digests else if m.bundles then Err Bundles else if m.expires then Err Expiry else Ok (backup m.workers))
     else Err Kind
 
-abbrev pub is_plain : RestoreWord → Bool
-is_plain Default = false
-is_plain Plain = true
+-- a recovery fetches the log by the configuration that the words name, if they name one
+abbrev pub recovery_for : RestoreWord → Option Text → RecoveryType
+recovery_for Default config = ToTheEnd config
+recovery_for Plain config = Without
 
--- a restore into an empty folder, without settings of a recovery; or what of it isn't built
-abbrev pub restore_by : Wanted → Result Request Unbuilt
-restore_by m = if m.delta then Err Digests else if is_plain m.recovery then Ok (restore m.set m.workers) else Err Recovery
+abbrev pub restore_by : Wanted → Request
+restore_by m = restore m.set (record { workers = m.workers; delta = m.delta; recovery = recovery_for m.recovery m.config })
 
 -- what a verb asks for, in this manner and with its parameters; or what isn't built
 abbrev pub request_by : Verb → Wanted → List Text → Result Request Unbuilt
@@ -97,7 +106,7 @@ request_by StanzaCreate m given = Ok create
 request_by ArchivePush m given = if m.background then Err Background else Ok (push (first_of given))
 request_by ArchiveGet m given = if m.background then Err Background else Ok (get (first_of given) (second_of given))
 request_by Backup m given = backup_by m
-request_by Restore m given = restore_by m
+request_by Restore m given = Ok (restore_by m)
 request_by Info m given = Ok (report m.form)
 request_by verb m given = Err (Command verb)
 
@@ -117,6 +126,7 @@ wanted_in s = record {
   bundles = is_on s Repo1Bundle;
   expires = is_on s ExpireAuto;
   recovery = restore_word (word_in (value s RestoreType));
+  config = text_in (value s Config);
   set = text_in (value s Set);
   workers = or_else 0 (number_in (value s ProcessMax));
 }

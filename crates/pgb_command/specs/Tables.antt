@@ -33,6 +33,7 @@ use Rattle.pgb_logged.specs.Backups.{IsFullBackup}
 use Rattle.pgb_take.specs.Causes.{Before, TakeCause}
 use Rattle.pgb_take.specs.Taken.{IsTaken}
 use Rattle.pgb_recover.specs.declared.fault.RecoverFault.{RecoverFault}
+use Rattle.pgb_recover.specs.Fetching.{options_by}
 use Rattle.pgb_recover.specs.Words.{TellsSet, WordCause}
 use Rattle.pgb_recover.specs.Restoring.{Before as BeforeRestore, Recovers, GivesBackup}
 use Rattle.pgb_recover.specs.Causes.{RecoverCause}
@@ -41,7 +42,7 @@ use Rattle.pgb_clear.specs.Clearing.{control_path, HasNone}
 use Rattle.pgb_inform.specs.Reporting.{IsReported, ReportsStanza}
 use Rattle.pgb_command.specs.declared.fault.CommandFault.{CommandFault}
 use Rattle.pgb_command.specs.declared.fault.CommandFault.TheVariants.{Create, Push, Get, Take, Recover}
-use Rattle.pgb_command.specs.Asked.{Request, create, push, get, backup, restore, report, Asked}
+use Rattle.pgb_command.specs.Asked.{Request, create, push, get, backup, restore, report, RestoreHow, Asked}
 
 -- what the objects hold, as far as they tell it
 pub record Known : Type 0 where
@@ -60,7 +61,7 @@ plan_of create = record { settling = Whole; folder = true; backup_lock = true; a
 plan_of (push path) = record { settling = Looked; folder = true; backup_lock = false; archive_lock = true; control = true; pairs = HealArchive }
 plan_of (get name path) = record { settling = Looked; folder = true; backup_lock = false; archive_lock = false; control = true; pairs = ReadArchive }
 plan_of (backup workers) = record { settling = Whole; folder = true; backup_lock = true; archive_lock = false; control = true; pairs = ReadBoth }
-plan_of (restore set workers) = record { settling = Whole; folder = true; backup_lock = false; archive_lock = false; control = false; pairs = ReadBoth }
+plan_of (restore set how) = record { settling = Whole; folder = true; backup_lock = false; archive_lock = false; control = false; pairs = ReadBoth }
 plan_of (report form) = record { settling = Whole; folder = false; backup_lock = false; archive_lock = false; control = false; pairs = ReadBoth }
 
 -- stanza-create of the cluster that the folder tells, where it tells one
@@ -73,7 +74,7 @@ manner_of create folder nodes links = each (λ command. IsSomeAnd nodes (λ f. I
 manner_of (push path) folder nodes links = each (λ command. IsSomeAnd nodes (λ f. IsPushOf f folder path command))
 manner_of (get name path) folder nodes links = each (λ command. command ≡ Reading)
 manner_of (backup workers) folder nodes links = one (IsFullBackup (take workers links))
-manner_of (restore set workers) folder nodes links = each (λ command. command ≡ Reading)
+manner_of (restore set how) folder nodes links = each (λ command. command ≡ Reading)
 manner_of (report form) folder nodes links = each (λ command. command ≡ Reading)
 
 -- the data folder tells this cluster, and this holds of it
@@ -86,7 +87,7 @@ WordsFit a create = Unit {0}
 WordsFit a (push path) = (name : ArchiveName) × IsWalPath a.data_folder path name
 WordsFit a (get word path) = (name : ArchiveName) × AreWords a.data_folder word path name
 WordsFit a (backup workers) = Unit {0}
-WordsFit a (restore set workers) = (label : Option Label) × TellsSet set label
+WordsFit a (restore set how) = (label : Option Label) × TellsSet set label
 WordsFit a (report form) = Unit {0}
 
 -- what a backup finds as its own part begins
@@ -94,12 +95,12 @@ abbrev pub found_by : Asked → ℕ → Known → Control → Before
 found_by a workers old told = record { stanza = a.stanza; told = told; repo = old.repo; nodes = old.nodes; least = old.clock.least; used = take workers old.links }
 
 -- what a restore finds
-abbrev pub found_for : Asked → Option Label → ℕ → Known → BeforeRestore
-found_for a set workers old = record { stanza = a.stanza; set = set; repo = old.repo; nodes = old.nodes; used = take workers old.links }
+abbrev pub found_for : Asked → Option Label → RestoreHow → Known → BeforeRestore
+found_for a set how old = record { stanza = a.stanza; set = set; repo = old.repo; nodes = old.nodes; used = take how.workers old.links; options = options_by a.stanza how.delta how.recovery }
 
 -- the word names no label, or a backup isn't restored for this
-abbrev pub RestoreCause : Asked → Option Text → ℕ → Known → RecoverFault → Type 0
-RestoreCause a set workers old fault = WordCause set fault ⊎ ((label : Option Label) × TellsSet set label × RecoverCause (found_for a label workers old) fault)
+abbrev pub RestoreCause : Asked → Option Text → RestoreHow → Known → RecoverFault → Type 0
+RestoreCause a set how old fault = WordCause set fault ⊎ ((label : Option Label) × TellsSet set label × RecoverCause (found_for a label how old) fault)
 
 -- why a command is refused, from what the objects hold as its own part begins
 abbrev pub CommandCause : Asked → Request → Known → CommandFault → Type 0
@@ -107,7 +108,7 @@ CommandCause a create old (Create fault) = OnCluster old.nodes (λ told. CreateC
 CommandCause a (push path) old (Push fault) = PushCause a.stanza a.data_folder path old.repo old.nodes fault
 CommandCause a (get name path) old (Get fault) = GetCause a.stanza a.data_folder name path old.repo old.nodes fault
 CommandCause a (backup workers) old (Take fault) = OnCluster old.nodes (λ told. TakeCause (found_by a workers old told) fault)
-CommandCause a (restore set workers) old (Recover fault) = RestoreCause a set workers old fault
+CommandCause a (restore set how) old (Recover fault) = RestoreCause a set how old fault
 CommandCause a request old fault = ⊥
 
 -- Ok of stanza-create: the stanza is made, or was there; and where a server is asked it was asked at its socket and is of the folder's system
@@ -123,11 +124,11 @@ abbrev pub OnStanza : Asked → Option Content → (Stanza → Type 0) → Type 
 OnStanza a repo P = (s : Stanza) → IsSome repo → NowStands a.stanza (Some s) repo → P s
 
 -- Ok of restore: the backup that was asked for, or the last one, is in the folder
-pub record Restores (a : Asked) (set : Option Text) (workers : ℕ) (old new : Known) (outcome : Outcome) : Type 0 where
+pub record Restores (a : Asked) (set : Option Text) (how : RestoreHow) (old new : Known) (outcome : Outcome) : Type 0 where
   pub label : Option Label
   pub is : TellsSet set label
-  pub recovers : OnFinished outcome (Recovers (found_for a label workers old) new.nodes)
-  pub gives : (s : Stanza) (f : Content) → old.repo ≡ Some f → NowStands a.stanza (Some s) old.repo → OnFinished outcome (GivesBackup s (found_for a label workers old) f new.nodes)
+  pub recovers : OnFinished outcome (Recovers (found_for a label how old) new.nodes)
+  pub gives : (s : Stanza) (f : Content) → old.repo ≡ Some f → NowStands a.stanza (Some s) old.repo → OnFinished outcome (GivesBackup s (found_for a label how old) f new.nodes)
 
 -- what a command promises where it ends well
 abbrev pub Promise : Asked → Request → Known → Known → Outcome → Type 0
@@ -136,7 +137,7 @@ Promise a (push path) old new outcome = OnFinished outcome (IsStored a.stanza a.
 Promise a (get name path) old new outcome = GotBy a.stanza a.data_folder name path old.repo old.nodes new.nodes outcome
     × OnStanza a old.repo (λ s. GivenBy s a.data_folder name path old.nodes new.nodes outcome)
 Promise a (backup workers) old new outcome = OnCluster old.nodes (λ told. OnFinished outcome (IsTaken a.stanza told old.nodes (take workers old.links) old.repo new.repo))
-Promise a (restore set workers) old new outcome = Restores a set workers old new outcome
+Promise a (restore set how) old new outcome = Restores a set how old new outcome
 Promise a (report form) old new outcome = OnFinished outcome (IsReported a.stanza form old.repo)
     × OnStanza a old.repo (λ s. OnFinished outcome (ReportsStanza form a.stanza s))
 
@@ -154,7 +155,7 @@ OnReader create P = Unit {0}
 OnReader (push path) P = Unit {0}
 OnReader (get name path) P = P
 OnReader (backup workers) P = Unit {0}
-OnReader (restore set workers) P = P
+OnReader (restore set how) P = P
 OnReader (report form) P = P
 
 -- this holds of stanza-create, and of every other command
@@ -169,13 +170,13 @@ OnOther other P = P
 -- Only archive-get and restore change the data folder. The one puts there what is served; of the other it holds a whole backup, or has no control file, so that no server starts from half of one.
 abbrev pub FolderGoes : Asked → Request → Known → Option Nodes → Type 0
 FolderGoes a (get name path) old new = ChangesPath (served_path a.data_folder path) (IsServed a.stanza a.data_folder name path old.repo old.nodes) old.nodes new
-FolderGoes a (restore set workers) old new = (new ≡ old.nodes) ⊎ (HasNone control_path new ⊎ ((m : Manifest) × IfSome new (IsFinished a.stanza (take workers old.links) m)))
+FolderGoes a (restore set how) old new = (new ≡ old.nodes) ⊎ (HasNone control_path new ⊎ ((m : Manifest) × IfSome new (IsFinished a.stanza (take how.workers old.links) (options_by a.stanza how.delta how.recovery) m old.nodes)))
 FolderGoes a request old new = new ≡ old.nodes
 
 -- only a backup and a restore use workers, and a backup the clock
 abbrev pub uses_workers : Request → Bool
 uses_workers (backup workers) = true
-uses_workers (restore set workers) = true
+uses_workers (restore set how) = true
 uses_workers request = false
 
 abbrev pub uses_clock : Request → Bool
@@ -184,7 +185,7 @@ uses_clock request = false
 
 -- a refusal with this status has left the data folder as it was; a restore may have changed it once its workers are started
 abbrev pub FolderStays : Request → ℕ → Type 0 → Type 0
-FolderStays (restore set workers) status P = status ≢ 55 → status ≢ 56 → status ≢ 63 → P
+FolderStays (restore set how) status P = status ≢ 55 → status ≢ 56 → status ≢ 63 → P
 FolderStays request status P = P
 
 -- this holds of a command that doesn't use it

@@ -5,13 +5,15 @@ use Rattle.pgb_worker_dispatch.specs.Run.{IsReady}
 use Rattle.pgb_model.specs.Text.{Text}
 use Rattle.pgb_options.specs.declared.options.Options.{Options}
 use Rattle.pgb_create.specs.Server.{server_view}
+use Rattle.pgb_recover.specs.declared.order.RecoverOrder.{RecoverOrder}
+use Rattle.pgb_recover.specs.Fetching.{recovery_type}
 use Rattle.pgb_recover.specs.Words.{TellsSet}
 use Rattle.pgb_command.specs.declared.settings.Settings.{Settings}
 use Rattle.pgb_command.specs.declared.settings.Request as code
 use Rattle.pgb_command.specs.declared.settings.Request.TheVariants.{StanzaCreate, ArchivePush, ArchiveGet, Backup, Restore, Info}
 use Rattle.pgb_command.specs.declared.order.Order.{Order}
 use Rattle.pgb_command.specs.declared.order.Order.TheVariants as order
-use Rattle.pgb_command.specs.Asked.{Request, create, push, get, backup, restore, report, Asked, Wanted}
+use Rattle.pgb_command.specs.Asked.{Request, create, push, get, backup, restore, report, RestoreHow, Asked, Wanted}
 
 -- the workers can be numbered, and none has bytes of an earlier answer to give
 pub record AreWorkers (links : List LinkState) : Type 0 where
@@ -23,7 +25,7 @@ request_of StanzaCreate = create
 request_of (ArchivePush path) = push path.now
 request_of (ArchiveGet name path) = get name.now path.now
 request_of (Backup workers) = backup workers
-request_of (Restore set workers) = restore (option_map (λ w. w.now) set) workers
+request_of (Restore set workers delta recovery) = restore (option_map (λ w. w.now) set) (record { workers = workers; delta = delta; recovery = recovery_type recovery })
 request_of (Info form) = report form
 
 -- how a command goes on by its options
@@ -37,6 +39,7 @@ wanted_told o = record {
   bundles = o.repo1_bundle;
   expires = o.expire_auto;
   recovery = o.restore_type;
+  config = option_map string_bytes o.config;
   set = option_map string_bytes o.set;
   workers = o.process_max;
 }
@@ -44,12 +47,16 @@ wanted_told o = record {
 abbrev pub asked_of : Settings → Asked
 asked_of s = record { stanza = s.stanza.now; data_folder = s.pg1_path.now; repository = s.repo1_path.now; lock_folder = s.lock_path.now; server = option_map server_view s.server; request = request_of s.request }
 
+-- how a backup is restored by the order
+abbrev pub how_of : RecoverOrder → RestoreHow
+how_of o = record { workers = o.workers; delta = o.delta; recovery = recovery_type o.recovery }
+
 -- the order is what was asked for, with its words read
 abbrev pub IsOrder : Request → Text → Order → Type 0
 IsOrder create folder order.StanzaCreate = Unit {0}
 IsOrder (push path) folder (order.ArchivePush o) = (o.folder.now ≡ folder) × (o.path.now ≡ path)
 IsOrder (get name path) folder (order.ArchiveGet o) = (o.folder.now ≡ folder) × (o.word.now ≡ name) × (o.path.now ≡ path)
 IsOrder (backup workers) folder (order.Backup o) = (o.data_folder.now ≡ folder) × (o.workers ≡ workers)
-IsOrder (restore set workers) folder (order.Restore o) = (o.data_folder.now ≡ folder) × (o.workers ≡ workers) × TellsSet set o.set
+IsOrder (restore set how) folder (order.Restore o) = (o.data_folder.now ≡ folder) × (how_of o ≡ how) × TellsSet set o.set
 IsOrder (report form) folder (order.Info asked) = asked ≡ form
 IsOrder request folder other = ⊥

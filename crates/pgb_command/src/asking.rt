@@ -4,13 +4,15 @@ ghost use Rattle.pgb_options.specs.Commands.{IsCommand};
 ghost use Rattle.pgb_options.specs.Filled.{or_else};
 ghost use Rattle.pgb_table.specs.Values.{is_stanza};
 ghost use Rattle.pgb_options.specs.Settings.{Settled};
-ghost use Rattle.pgb_command.specs.Asked.{request_by, backup_by, is_full, restore_by, is_plain, first_of, second_of, requested, IsAsked};
+ghost use Rattle.pgb_command.specs.Asked.{request_by, backup_by, is_full, restore_by, recovery_for, first_of, second_of, requested, IsAsked};
+ghost use Rattle.pgb_recover.specs.Fetching.{recovery_type};
 ghost use Rattle.pgb_command.specs.Tables.{plan_of};
 ghost use Rattle.pgb_command.specs.Told.{request_of, asked_of, wanted_told};
 
 use crate::server::server_of;
 use crate::settings::{Request, Settings};
 use pgb_options::{Command, KindWord, Options, RestoreWord};
+use pgb_recover::RecoveryType;
 use pgb_stage::{Pairs, Plan, Settling, Unbuilt};
 use pgb_table::Verb;
 
@@ -69,36 +71,39 @@ fn backup_request<'a>(options: &Options) -> Result<Request<'a>, Unbuilt>
     })
 }
 
-// What a restore is to do, where that is built.
-fn restore_request(options: &Options) -> Result<Request<'_>, Unbuilt>
-    ensures asked { IfOk result (λ r. restore_by (wanted_told options.now) ≡ Ok (request_of r)) }
-    ensures unbuilt { IfErr result (λ what. restore_by (wanted_told options.now) ≡ Err what) }
+// How the server is to recover.
+fn recovery_for(options: &Options) -> RecoveryType<'_>
+    ensures { recovery_type result
+        ≡ recovery_for options.now.restore_type (option_map string_bytes options.now.config) }
 {
-    if options.delta {
-        return Err(Unbuilt::Delta);
+    match options.restore_type {
+        RestoreWord::Plain => RecoveryType::Nothing,
+        RestoreWord::Default => RecoveryType::Default {
+            config: word_of(&options.config),
+        },
     }
-    if !is_plain(options.restore_type) {
-        return Err(Unbuilt::Recovery);
-    }
-    Ok(Request::Restore {
-        set: label_of(&options.set),
-        workers: options.process_max,
-    })
 }
 
-fn label_of(set: &Option<String>) -> Option<&str>
-    ensures { option_map (λ w. w.now) result ≡ option_map string_bytes set.now }
+// What a restore is to do.
+fn restore_request(options: &Options) -> Request<'_>
+    ensures { request_of result ≡ restore_by (wanted_told options.now) }
 {
-    match set {
-        Some(label) => Some(label.as_str()),
+    Request::Restore {
+        set: word_of(&options.set),
+        workers: options.process_max,
+        delta: options.delta,
+        recovery: recovery_for(options),
+    }
+}
+
+// A word, where it is given.
+fn word_of(word: &Option<String>) -> Option<&str>
+    ensures { option_map (λ w. w.now) result ≡ option_map string_bytes word.now }
+{
+    match word {
+        Some(word) => Some(word.as_str()),
         None => None,
     }
-}
-
-fn is_plain(word: RestoreWord) -> bool
-    ensures { result ≡ is_plain word }
-{
-    matches!(word, RestoreWord::Plain)
 }
 
 fn is_full(kind: KindWord) -> bool
@@ -134,7 +139,7 @@ fn request_of(command: &Command) -> Result<Request<'_>, Unbuilt>
             })
         }
         Verb::Backup => backup_request(&command.options),
-        Verb::Restore => restore_request(&command.options),
+        Verb::Restore => Ok(restore_request(&command.options)),
         Verb::Info => Ok(Request::Info {
             form: command.options.output,
         }),

@@ -44,11 +44,18 @@ pub(crate) fn order_of<'a>(alloc: Global, settings: &Settings<'a>) -> Result<Ord
             repository: settings.repo1_path,
             workers,
         })),
-        Request::Restore { set, workers } => Ok(Order::Restore(recover_order(
+        Request::Restore {
+            set,
+            workers,
+            delta,
+            recovery,
+        } => Ok(Order::Restore(recover_order(
             settings.pg1_path,
             settings.repo1_path,
             set,
             workers,
+            delta,
+            recovery,
         )?)),
         Request::Info { form } => Ok(Order::Info(form)),
     }

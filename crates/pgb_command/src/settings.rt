@@ -4,21 +4,37 @@ ghost use Rattle.pgb_table.specs.Values.{is_stanza};
 
 use pgb_create::Server;
 use pgb_options::OutputWord;
+use pgb_recover::RecoveryType;
 
 /// Which command is asked for.
 #[derive(Clone, Copy)]
 pub enum Request<'a> {
     StanzaCreate,
     /// The file that is to be stored, as the server names it.
-    ArchivePush { path: &'a str },
+    ArchivePush {
+        path: &'a str,
+    },
     /// The archived file that is to be served, and where.
-    ArchiveGet { name: &'a str, path: &'a str },
+    ArchiveGet {
+        name: &'a str,
+        path: &'a str,
+    },
     /// A full backup of a stopped server, with as many workers at most.
-    Backup { workers: u32 },
-    /// The backup of this label, or the last one, into an empty folder, with as many workers at most.
-    Restore { set: Option<&'a str>, workers: u32 },
+    Backup {
+        workers: u32,
+    },
+    /// The backup of this label, or the last one, with as many workers at most; whether equal files stay, and how the
+    /// server is to recover.
+    Restore {
+        set: Option<&'a str>,
+        workers: u32,
+        delta: bool,
+        recovery: RecoveryType<'a>,
+    },
     /// The report, in this form.
-    Info { form: OutputWord },
+    Info {
+        form: OutputWord,
+    },
 }
 
 /// What a command is told.

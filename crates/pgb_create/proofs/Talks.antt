@@ -1,38 +1,23 @@
 -- The talk that asks a server for its system.
-use Rattle.std.proofs.Common.{◌≡◌, ◌⊎◌, ◌++◌, ℕ, List, Option, Some, None, option_map, Result, Ok, Err, inl, inr, refl, sym, subst}
-use Rattle.std.specs.Prelude.{IfSome, OnOk, string_bytes}
-use Rattle.std.proofs.lemmas.List.{append_assoc}
+use Rattle.std.proofs.Common.{◌≡◌, ◌⊎◌, ℕ, List, Option, Some, None, option_map, Result, Ok, Err, inl, inr, sym, subst}
+use Rattle.std.specs.Prelude.{IfSome, OnOk}
 use Rattle.pgb_server.specs.declared.fault.ServerFault.{ServerFault}
 use Rattle.pgb_server.specs.declared.fault.ServerFault.TheVariants as faults
-use Rattle.pgb_server.specs.Fault.{Fault as Refusal, ended, form, too_long, too_many, said, auth, mismatch}
 use Rattle.pgb_server.specs.Reads.{Fails, IsOutside}
 use Rattle.pgb_server.specs.Rows.{Refuses, by_talk, by_row, Rows, SystemOutcome}
-use Rattle.pgb_server.specs.Sends.{closing}
 use Rattle.pgb_server.specs.Session.{start_at}
 use Rattle.pgb_server.specs.System.{system_at, unopened, unanswered, answered}
 use Rattle.pgb_server.specs.Talk.{Taken}
-use Rattle.pgb_create.specs.Talking.{IsOf, TellsFault, Ended}
+use Rattle.pgb_server.proofs.Ends.{told_fault}
+use Rattle.pgb_create.specs.Talking.{IsOf, TellsFault}
 
 -- ---- what is told
-
--- a fault of the server's is one of the reading
-told_fault : {Y : Type 0} (e : ServerFault) (read : Result Y Refusal) → ¬ IsOutside e → Fails e read →
-    (f : Refusal) × (read ≡ Err f) × Fails {Y = ℕ} e (Err f)
-told_fault faults.NoMemory read inside h = absurd (inside tt)
-told_fault faults.Wire read inside h = absurd (inside tt)
-told_fault (faults.ServerSaid code text) read inside h = (said (string_bytes code) (string_bytes text), h, refl)
-told_fault (faults.AuthUnsupported code) read inside h = (auth code, h, refl)
-told_fault (faults.ServerForm at) read inside h = (form at, h, refl)
-told_fault (faults.ServerEnded at) read inside h = (ended at, h, refl)
-told_fault (faults.SystemMismatch kept found) read inside h = (mismatch kept found, h, refl)
-told_fault (faults.TooLong n) read inside h = (too_long n, h, refl)
-told_fault (faults.TooMany n) read inside h = (too_many n, h, refl)
 
 -- no session is granted
 pub open_told : (system : ℕ) (old : Option (List ℕ)) (e : ServerFault) → IfSome (option_map start_at old) (Fails e) →
     ¬ IsOutside e → TellsFault system old e
 open_told system None e h inside = tt
-open_told system (Some s) e h inside = let x = told_fault e (start_at s) inside h in (Err x.0, unopened x.0 x.1, x.2)
+open_told system (Some s) e h inside = let x = told_fault ℕ e (start_at s) inside h in (Err x.0, unopened x.0 x.1, x.2)
 
 module _ (system : ℕ) (taken : Taken) where
   -- a session is granted, and behind it this is pending
@@ -44,7 +29,7 @@ module _ (system : ℕ) (taken : Taken) where
 
   refuses : (s rest : List ℕ) (e : ServerFault) → start_at s ≡ Ok (taken, rest) →
       Refuses e (system_at taken rest) (SystemOutcome system) → ¬ IsOutside e → TellsFault system (Some s) e
-  refuses s rest e is (by_talk h) inside = let x = told_fault e (system_at taken rest) inside h in
+  refuses s rest e is (by_talk h) inside = let x = told_fault ℕ e (system_at taken rest) inside h in
       (Err x.0, unanswered taken rest x.0 is x.1, x.2)
   refuses s rest e is (by_row t behind read outcome tells fails) inside =
       (outcome, answered taken rest behind t outcome is read tells, fails)
@@ -69,18 +54,6 @@ pub part_told : (system : ℕ) (old : Option (List ℕ)) (fault result : ServerF
 part_told system old fault result (inl same) told inside =
     subst (TellsFault system old) (sym same) (told (subst (λ e. ¬ IsOutside e) same inside))
 part_told system old fault result (inr none) told inside = absurd (subst (λ e. ¬ IsOutside e) none inside tt)
-
--- ---- what is said
-
-ended_after : (front : List ℕ) (old new : Option (List ℕ)) →
-    new ≡ option_map (λ (s : List ℕ). s ++ (front ++ closing)) old → Ended new
-ended_after front None new is = subst Ended (sym is) tt
-ended_after front (Some s) new is = subst Ended (sym is) (s ++ front, sym (append_assoc s front closing))
-
-pub ended_or : (front : List ℕ) (old new : Option (List ℕ)) (rose : Type 0) →
-    (new ≡ option_map (λ (s : List ℕ). s ++ (front ++ closing)) old) ⊎ rose → Ended new ⊎ rose
-ended_or front old new rose (inl is) = inl (ended_after front old new is)
-ended_or front old new rose (inr r) = inr r
 
 -- ---- of any result
 

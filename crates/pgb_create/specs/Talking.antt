@@ -5,7 +5,7 @@ use Rattle.pgb_server.specs.declared.fault.ServerFault.{ServerFault}
 use Rattle.pgb_server.specs.declared.fault.ServerFault.TheVariants as server
 use Rattle.pgb_server.specs.Fault.{Fault as Refusal}
 use Rattle.pgb_server.specs.Reads.{Fails, IsOutside}
-use Rattle.pgb_server.specs.Sends.{closing}
+pub use Rattle.pgb_server.specs.Sends.{Ended}
 use Rattle.pgb_server.specs.System.{Tells, questions}
 use Rattle.pgb_stage.specs.declared.object.Object.TheVariants.{Server as TheServer}
 use Rattle.pgb_stage.specs.declared.halt.Halt.{Halt}
@@ -21,10 +21,6 @@ abbrev pub Asks : Option Server → Text → Option (List ℕ) → Option (List 
 Asks None place old new = Unit {0}
 Asks (Some s) place old new = (place ≡ socket_path s)
     × (new ≡ option_map (λ said. said ++ questions s.user s.database) old)
-
--- the last that was said is the end, where that is told
-abbrev pub Ended : Option (List ℕ) → Type 0
-Ended said = IfSome said (λ bytes. (front : List ℕ) × (bytes ≡ front ++ closing))
 
 -- a talk that the server's answer ended was ended with the last message too, unless the connection failed
 abbrev pub Closes : Type 0 → Option (List ℕ) → Halt CreateFault → Type 0

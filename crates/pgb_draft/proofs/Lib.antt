@@ -1,2 +1,3 @@
 pub mod StampOrder
 pub mod Latest
+pub mod Free

@@ -106,5 +106,5 @@ some_command (push path) folder None links P told on = cc
 some_command (push path) folder (Some f) links P told on = let x = push_of f folder path in (x.0, x.1, on x.0 x.1)
 some_command (get name path) folder nodes links P told on = (Reading, refl, on Reading refl)
 some_command (backup workers) folder nodes links P told on = on
-some_command (restore set workers) folder nodes links P told on = (Reading, refl, on Reading refl)
+some_command (restore set how) folder nodes links P told on = (Reading, refl, on Reading refl)
 some_command (report form) folder nodes links P told on = (Reading, refl, on Reading refl)

@@ -6,3 +6,4 @@ pub mod Synced
 pub mod Ways
 pub mod Made
 pub mod Places
+pub mod Filed

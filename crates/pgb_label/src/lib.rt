@@ -2,9 +2,11 @@
 //! from when on a stop leaves them there.
 #![tactic(auto)]
 
+mod filing;
 mod keeper;
 mod parts;
 mod sealing;
 
+pub use filing::store_file;
 pub use keeper::{BackupKeeper, Ended};
 pub use sealing::seal;

@@ -1,5 +1,5 @@
 -- A full backup holds the data folder, where all its links read what that folder holds.
-use Rattle.std.proofs.Common.{◌≡◌, ◌↔◌, inl, inr, ℕ, Bool, true, false, List, [], ◌∷◌, ◌++◌, length, map, Option, Some, refl, sym, ◌∙◌, ap, subst}
+use Rattle.std.proofs.Common.{◌≡◌, ◌↔◌, inl, inr, ℕ, Bool, true, false, List, [], ◌∷◌, ◌++◌, length, map, Option, Some, None, refl, sym, ◌∙◌, ap, subst}
 use Rattle.std.specs.Prelude.{IsSome, IsSomeAnd, unwrap_or, if◌then◌else◌}
 use Rattle.std.specs.FinMap.{get}
 use Rattle.pgb_outside.specs.declared.tree.Node.{Node}
@@ -126,12 +126,12 @@ module _ (draft : Draft) (is_draft : IsDraft draft) (links : List LinkState) (wh
       let i = subst (λ (ts : List Taken). In t ts) (sym takes.files) (file_taken f seen listing path bytes time is keep) in
       let at = in_map (file_in (bytes_in f)) t (taken_in draft) i in
       let named = subst (λ (b : Text). In (let z : Text × File = (path, record { bytes = b; time = time }) in z) (map (file_in (bytes_in f)) (taken_in draft))) (held_is path bytes time is) at in
-      get_of files path (record { bytes = bytes; time = time }) (files_sorted draft is_draft links whole a d makes full)
+      get_of files path (record { bytes = bytes; time = time }) (files_sorted draft is_draft None tt links whole a d makes full)
       (subst (λ (zs : List (Text × File)). In (let z : Text × File = (path, record { bytes = bytes; time = time }) in z) zs) (sym files_are) named)
 
   only : (path : Text) (x : File) → get (full_backup draft links whole a d makes).files path ≡ Some x → (f path ≡ Some (file x.bytes x.time)) × (is_kept false (path, nodes.File (length x.bytes) x.time) ≡ true)
   only path x is =
-      let at = value_in files path x (files_sorted draft is_draft links whole a d makes full) is in
+      let at = value_in files path x (files_sorted draft is_draft None tt links whole a d makes full) is in
       let q = of_map (file_in (bytes_in f)) (let z : Text × File = (path, x) in z) (taken_in draft) (subst (λ (zs : List (Text × File)). In (let z : Text × File = (path, x) in z) zs) files_are at) in
       let t = q.0 in
       let y = file_there t q.1 in

@@ -4,6 +4,10 @@ pub mod Reading
 pub mod Folders
 pub mod Begun
 pub mod Unlisted
+pub mod Listed
 pub mod Made
+pub mod Behind
+pub mod Waited
+pub mod Online
 pub mod Full
 pub mod Added

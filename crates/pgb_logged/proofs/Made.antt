@@ -1,14 +1,12 @@
 -- A full backup that may be listed is a part of its command, and one that is listed is all of it.
-use Rattle.std.proofs.Common.{◌≡◌, ◌⊎◌, ⊎_elim, inl, inr, Bool, true, false, List, [], ◌∷◌, Option, Some, None, refl, sym, ◌∙◌, ap, subst}
-use Rattle.std.specs.Prelude.{IfSome, IsSome}
+use Rattle.std.proofs.Common.{◌≡◌, ◌⊎◌, ⊎_elim, inl, inr, Bool, true, false, List, [], ◌∷◌, Option, Some, None, refl, sym, ap, subst}
+use Rattle.std.specs.Prelude.{IsSome}
 use Rattle.pgb_outside.specs.Content.{Content}
 use Rattle.pgb_outside.specs.Moments.{View}
 use Rattle.pgb_outside.specs.Links.{LinkState}
-use Rattle.pgb_model.specs.declared.labels.Label.{Label}
 use Rattle.pgb_model.specs.declared.wal.WalPart.{WalPart}
-use Rattle.pgb_model.specs.Text.{In}
 use Rattle.pgb_model.specs.Values.{Manifest}
-use Rattle.pgb_model.specs.Repository.{Backup, Stanza, Repository, IsSound, IsSoundStanza, IsSoundBackup, HasItsSegments}
+use Rattle.pgb_model.specs.Repository.{Backup, Stanza, Repository, IsSound, IsSoundStanza, HasItsSegments}
 use Rattle.pgb_model.specs.Stands.{Stands, HasStanza}
 use Rattle.pgb_model.specs.Steps.{Step, Command, MakeBackup, AddBackup, changed, after, all_of, steps_of}
 use Rattle.pgb_model.specs.Log.{IsDone}
@@ -17,19 +15,16 @@ use Rattle.pgb_model.specs.Steady.{IsSteady, Moves}
 use Rattle.pgb_stage.specs.declared.plan.Settling.TheVariants.{Whole}
 use Rattle.pgb_stage.specs.Runs.{IsPart, DoesPart, DoesWhole}
 use Rattle.pgb_label.specs.Way.{IsBeside}
-use Rattle.pgb_record.specs.Record.{IsListOf, Adds}
+use Rattle.pgb_record.specs.Record.{IsListOf}
 use Rattle.pgb_record.proofs.Left.{OneManifest}
 use Rattle.pgb_backup.specs.declared.draft.Draft.{Draft}
-use Rattle.pgb_backup.specs.Draft.{stanza_of, pair_of, main_of, is_own_of, list_in}
-use Rattle.pgb_backup.specs.Made.{HasBackup, Makes}
-use Rattle.pgb_backup.proofs.Backups.{adds_full}
-use Rattle.pgb_backup.proofs.Mixing.{mixed_none}
-use Rattle.pgb_backup.proofs.Moves.{listed_stands, backup_moves, backup_steady}
-use Rattle.pgb_backup.proofs.Sound.{backup_sound}
-use Rattle.pgb_backup.proofs.Unlisted.{tight_of, beside_stands}
+use Rattle.pgb_backup.specs.Draft.{stanza_of, pair_of, is_own_of, list_in}
+use Rattle.pgb_backup.specs.Made.{ListsIt, Makes}
+use Rattle.pgb_backup.proofs.Unlisted.{beside_stands}
 use Rattle.pgb_logged.proofs.Settled.{OneList}
 use Rattle.pgb_logged.proofs.Reading.{full_backup}
 use Rattle.pgb_logged.proofs.Begun.{BeginsFull, told_as, at_now, stanza_there, list_there, no_vacant, steady_list}
+use Rattle.pgb_logged.proofs.Listed.{sound_with, made_stands, two_moves, made_steady}
 use Rattle.pgb_logged.proofs.Unlisted.{moves_as, far_from}
 
 module _ (one_list : OneList) (one_manifest : OneManifest) (draft : Draft) (links : List LinkState) (a d : View) (begins : BeginsFull draft a.now) (whole : Bool) (makes : Makes draft links whole a d) where
@@ -41,35 +36,22 @@ module _ (one_list : OneList) (one_manifest : OneManifest) (draft : Draft) (link
   makes_it = MakeBackup [] (full_backup draft links whole a d makes) None
 
   abbrev Listed : Content → Content → Type 0
-  Listed f g = HasBackup (is_own_of draft) (pair_of draft) (main_of draft) makes.manifest makes.list makes.names makes.kept f g
+  Listed f g = ListsIt draft None makes.manifest makes.list makes.names makes.kept makes.stop f g
 
   -- ---- in a stanza whose list is the draft's
 
   module _ (some : IsSome a.now) (s : Stanza) (list : IsListOf s (list_in draft)) where
-    adds : Adds (stanza_of draft) makes.names makes.kept None makes.manifest makes.list s (full_backup draft links whole a d makes)
-    adds = adds_full draft begins.is_draft links whole a d some makes s list begins.no_old
-
-    no_prior : makes.manifest.prior ≡ None
-    no_prior = ap (λ (m : Manifest). m.prior) makes.manifest_is ∙ begins.no_prior
-
     no_wal : makes.manifest.wal ≡ None
     no_wal = ap (λ (m : Manifest). m.wal) makes.manifest_is
 
-    sound_backup : IsSoundBackup s s.backups (full_backup draft links whole a d makes)
-    sound_backup = record {
-      cluster = (makes.manifest.cluster, adds.is.head.cluster.0, adds.is.head.cluster.1);
-      span = refl;
-      prior = subst (λ (o : Option Label). IfSome o (λ l. (p : Backup) × In p s.backups × (p.entry.label ≡ l) × (p.entry.db ≡ b.entry.db))) (sym no_prior) tt;
-      segments = subst (λ (o : Option WalPart). HasItsSegments s (let x : Backup = record { entry = b.entry; wal = o; choices = b.choices; folders = b.folders; files = b.files } in x)) (sym no_wal) tt;
-    }
+    segments : HasItsSegments s (full_backup draft links whole a d makes)
+    segments = subst (λ (p : Option WalPart). HasItsSegments s (let x : Backup = record { entry = b.entry; wal = p; choices = b.choices; folders = b.folders; files = b.files } in x)) (sym no_wal) tt
 
     sound_after : IsSoundStanza s → IsSoundStanza (changed (AddBackup (full_backup draft links whole a d makes)) s)
-    sound_after sound = backup_sound s b sound sound_backup
+    sound_after sound = sound_with one_list one_manifest draft begins.is_draft begins.no_old begins.no_prior None tt links a d whole makes some s list segments sound
 
-    pub made_stands : (f g : Content) → HasStanza (stanza_of draft) f s → HasBackup (is_own_of draft) (pair_of draft) (main_of draft) makes.manifest makes.list makes.names makes.kept f g
-        → HasStanza (stanza_of draft) g (changed (AddBackup (full_backup draft links whole a d makes)) s)
-    made_stands f g h x =
-        listed_stands draft begins.is_draft links whole s a d some makes (far_from one_list one_manifest draft a begins s list) None list b adds f g h (f, record { has = h; reads = tt }, λ n p. refl) x
+    stands_with : (f g : Content) → HasStanza (stanza_of draft) f s → Listed f g → HasStanza (stanza_of draft) g (changed (AddBackup (full_backup draft links whole a d makes)) s)
+    stands_with f g h x = made_stands one_list one_manifest draft begins.is_draft begins.no_old begins.no_prior None tt links a d whole makes some s list f g h x
 
     -- the way from a disk that is steady at it
     module _ (steady : IsSteady (stanza_of draft) (Some s) a) where
@@ -79,11 +61,10 @@ module _ (one_list : OneList) (one_manifest : OneManifest) (draft : Draft) (link
       made_moves : IsSoundStanza s → Moves (stanza_of draft) (IsPart (stanza_of draft) makes_it (Some s)) a d
       made_moves sound =
           moves_as (stanza_of draft) (λ g. Stands (stanza_of draft) g (Some s) ⊎ Stands (stanza_of draft) g (Some (changed (AddBackup b) s))) (IsPart (stanza_of draft) makes_it (Some s)) a d (part_of sound)
-          (backup_moves draft begins.is_draft links whole s a d some makes (far_from one_list one_manifest draft a begins s list) None list b adds steady (mixed_none (stanza_of draft) s a steady) (tight_of draft s a steady) one_list one_manifest)
+          (two_moves one_list one_manifest draft begins.is_draft begins.no_old begins.no_prior None tt links a d whole makes some s list steady)
 
-      made_steady : whole ≡ true → IsSteady (stanza_of draft) (Some (changed (AddBackup (full_backup draft links whole a d makes)) s)) d
-      made_steady is =
-          backup_steady draft begins.is_draft links whole s a d some makes (far_from one_list one_manifest draft a begins s list) None list b adds steady (mixed_none (stanza_of draft) s a steady) (tight_of draft s a steady) one_list one_manifest is
+      steady_with : whole ≡ true → IsSteady (stanza_of draft) (Some (changed (AddBackup (full_backup draft links whole a d makes)) s)) d
+      steady_with is = made_steady one_list one_manifest draft begins.is_draft begins.no_old begins.no_prior None tt links a d whole makes some s list steady is
 
   -- ---- what the disk holds
 
@@ -98,7 +79,7 @@ module _ (one_list : OneList) (one_manifest : OneManifest) (draft : Draft) (link
       let list = list_there one_list draft a begins f.0 f.1 x.0 x.2 in
       subst (λ (q : Repository). Done false q) (sym x.1) (⊎_elim
       (λ (y : IsBeside (is_own_of draft) (pair_of draft) f.0 g.0). ([], inl refl, at_now (stanza_of draft) d.now g.0 g.1 (Some x.0) (beside_stands draft x.0 (far_from one_list one_manifest draft a begins x.0 list) f.0 g.0 x.2 y)))
-      (λ (y : Listed f.0 g.0). (AddBackup b ∷ [], inr ([], refl, refl), at_now (stanza_of draft) d.now g.0 g.1 (Some (changed (AddBackup b) x.0)) (made_stands some x.0 list f.0 g.0 x.2 y)))
+      (λ (y : Listed f.0 g.0). (AddBackup b ∷ [], inr ([], refl, refl), at_now (stanza_of draft) d.now g.0 g.1 (Some (changed (AddBackup b) x.0)) (stands_with some x.0 list f.0 g.0 x.2 y)))
       (makes.now.goes f.0 g.0 f.1 g.1))
 
   goes : (r : Repository) → IsSome a.now → IsSteady (stanza_of draft) r a → IsSound r → Moves (stanza_of draft) (IsPart (stanza_of draft) makes_it r) a d
@@ -116,7 +97,7 @@ module _ (one_list : OneList) (one_manifest : OneManifest) (draft : Draft) (link
         let f = told_as a.now some in
         let g = told_as d.now (makes.now.told some) in
         let h : HasStanza (stanza_of draft) f.0 s = stands.stands f.0 f.1 in
-        at_now (stanza_of draft) d.now g.0 g.1 (Some (changed (AddBackup b) s)) (made_stands some s (list_there one_list draft a begins f.0 f.1 s h) f.0 g.0 h ((makes.whole_now is).goes f.0 g.0 f.1 g.1))
+        at_now (stanza_of draft) d.now g.0 g.1 (Some (changed (AddBackup b) s)) (stands_with some s (list_there one_list draft a begins f.0 f.1 s h) f.0 g.0 h ((makes.whole_now is).goes f.0 g.0 f.1 g.1))
 
     now_whole : (r : Repository) → IsSome a.now → NowStands (stanza_of draft) r a.now → Done true r
     now_whole r some stands =
@@ -129,7 +110,7 @@ module _ (one_list : OneList) (one_manifest : OneManifest) (draft : Draft) (link
     ends None some steady sound = absurd (no_vacant one_list draft a begins some steady)
     ends (Some s) some steady sound =
         let list = steady_list one_list draft a begins some s steady in
-        (made_steady some s list steady is, sound_after some s list sound)
+        (steady_with some s list steady is, sound_after some s list sound)
 
     pub made_whole : DoesWhole Whole (stanza_of draft) (MakeBackup [] (full_backup draft links whole a d makes) None) a d
     made_whole = record { done = record { told = makes.now.told; does = now_whole }; ends = ends }

@@ -1,15 +1,14 @@
 -- The files of a full backup have the bytes that its links read.
-use Rattle.std.proofs.Common.{◌≡◌, ◌<◌, ℕ, zero, suc, Bool, true, false, List, [], ◌∷◌, ◌++◌, length, map, Option, Some, None, refl, sym, ◌∙◌, ap, subst, arith, slice_get}
+use Rattle.std.proofs.Common.{◌≡◌, ◌⊎◌, ⊎_elim, ◌<◌, ℕ, zero, suc, Bool, true, false, List, [], ◌∷◌, ◌++◌, length, map, Option, Some, None, refl, sym, ◌∙◌, ap, subst, arith, slice_get}
 use Rattle.std.specs.Prelude.{IfSome, unwrap_or, option_and_then}
 use Rattle.std.specs.FinMap.{is_sorted, get, get-empty, empty}
 use Rattle.pgb_outside.specs.Moments.{View}
 use Rattle.pgb_outside.specs.Links.{LinkState, Told}
 use Rattle.pgb_worker_frame.specs.declared.frames.JobKind.{JobKind}
 use Rattle.pgb_worker_frame.specs.declared.frames.JobKind.TheVariants.{Read}
-use Rattle.pgb_worker_frame.specs.declared.frames.Root.TheVariants.{Tree}
 use Rattle.pgb_worker_frame.specs.Frames.{Item, Job}
 use Rattle.pgb_model.specs.declared.labels.Kind.TheVariants.{Full}
-use Rattle.pgb_model.specs.Text.{Text, text_cmp}
+use Rattle.pgb_model.specs.Text.{Text, In, text_cmp}
 use Rattle.pgb_model.specs.Values.{FileEntry}
 use Rattle.pgb_model.specs.Repository.{File, Backup}
 use Rattle.pgb_worker_keep.specs.declared.ItemEnd.{ItemEnd}
@@ -26,28 +25,37 @@ use Rattle.pgb_plan.specs.Layout.{Layout, item_for, read_job, layout, bundles, j
 use Rattle.pgb_plan.specs.Spots.{HasItem, HaveItems}
 use Rattle.pgb_plan.proofs.Places.{at_front, have_items}
 use Rattle.pgb_record.specs.Ends.{JobsCome}
-use Rattle.pgb_record.specs.Entries.{Went, entry_for, rows, bytes_for, told_at, file_of, bundle_job_number, last_job_number}
+use Rattle.pgb_record.specs.Further.{Further, entry_in, with_row}
+use Rattle.pgb_record.specs.Entries.{Went, entries, entry_for, rows, bytes_for, told_at, file_of, bundle_job_number, last_job_number}
 use Rattle.pgb_record.specs.Making.{backup_with}
 use Rattle.pgb_record.proofs.Coming.{bundle_at, last_at}
-use Rattle.pgb_record.proofs.Made.{of_map}
-use Rattle.pgb_record.proofs.Maps.{map_of}
-use Rattle.pgb_record.proofs.Rows.{rows_each}
-use Rattle.pgb_record.proofs.Sorted.{path_of, rows_sorted}
+use Rattle.pgb_record.proofs.Extended.{rows_sorted}
+use Rattle.pgb_record.proofs.Made.{in_map, of_map}
+use Rattle.pgb_record.proofs.Maps.{map_of, get_of}
+use Rattle.pgb_record.proofs.Putting.{in_put, put_there}
+use Rattle.pgb_record.proofs.Rows.{rows_each, rows_entries}
+use Rattle.pgb_record.proofs.Rules.{path_listed}
+use Rattle.pgb_record.proofs.Sorted.{path_of}
 use Rattle.pgb_backup.specs.declared.draft.Draft.{Draft}
-use Rattle.pgb_backup.specs.Draft.{taken_in, old_in, jobs_in, went_with, IsDraft}
-use Rattle.pgb_backup.specs.Made.{Makes}
+use Rattle.pgb_backup.specs.Draft.{taken_in, old_in, jobs_in, went_with, further_in, IsDraft, IsFree}
+use Rattle.pgb_backup.specs.Made.{Makes, MakesOf}
+use Rattle.pgb_backup.specs.Online.{Online, label_path, label_entry}
 use Rattle.pgb_backup.proofs.Drafted.{one, reads}
 use Rattle.pgb_backup.proofs.Unreads.{in_at}
-use Rattle.pgb_logged.specs.Backups.{IsReadBy}
+use Rattle.pgb_logged.specs.Backups.{IsOfLink, IsReadBy, IsReadBeside}
 use Rattle.pgb_logged.proofs.Values.{value_in}
 
 -- each file's entry with the bytes that came of it
 abbrev pub rows_of : Draft → List (List Ended) → List Kept → List (FileEntry × Text)
 rows_of draft ends kept = rows (went_with draft ends) (map_of []) kept (taken_in draft) draft.plan.choices.items
 
--- the backup that is made of what came
+-- the backup that is made of what came, with its label file where a server ran
+abbrev pub backup_made : (draft : Draft) (o : Option Online) (links : List LinkState) (whole : Bool) (a d : View) → MakesOf draft o links whole a d → Backup
+backup_made draft o links whole a d makes = backup_with makes.manifest makes.listed.references (map_of (map file_of (with_row (further_in draft o makes.stop) (rows_of draft makes.ends makes.kept))))
+
+-- of a stopped server
 abbrev pub full_backup : (draft : Draft) (links : List LinkState) (whole : Bool) (a d : View) → Makes draft links whole a d → Backup
-full_backup draft links whole a d makes = backup_with makes.manifest makes.listed.references (map_of (map file_of (rows_of draft makes.ends makes.kept)))
+full_backup draft links whole a d makes = backup_made draft None links whole a d makes
 
 -- a backup without files
 abbrev pub no_files : Backup
@@ -62,9 +70,11 @@ no_files = record {
 pub no_files_read : (links : List LinkState) → IsReadBy links no_files
 no_files_read links = record { read = λ path x is some. absurd (let e : ◌≡◌ {A = Option File} None (Some x) = sym (get-empty {X = File} text_cmp path) ∙ is in cc) }
 
--- one of these links read the bytes in the data folder at the path
-abbrev IsOfLink : List LinkState → Text → Text → Type 0
-IsOfLink links path bytes = (link : ℕ) × (from : LinkState) × (i : Item) × (slice_get links link ≡ Some from) × (i.root ≡ Tree) × (i.path ≡ path) × ReadBy from.told i bytes
+pub no_files_beside : (links : List LinkState) (told : Option Text) → IsReadBeside links told no_files
+no_files_beside links told = record {
+  read = λ path x is off some. absurd (let e : ◌≡◌ {A = Option File} None (Some x) = sym (get-empty {X = File} text_cmp path) ∙ is in cc);
+  label = λ x is. absurd (let e : ◌≡◌ {A = Option File} None (Some x) = sym (get-empty {X = File} text_cmp label_path) ∙ is in cc);
+}
 
 -- ---- an item that ended
 
@@ -90,7 +100,7 @@ held_at kept job item k d a b =
 
 -- ---- the files
 
-module _ (draft : Draft) (is_draft : IsDraft draft) (links : List LinkState) (whole : Bool) (a d : View) (makes : Makes draft links whole a d) (full : old_in draft ≡ []) where
+module _ (draft : Draft) (is_draft : IsDraft draft) (o : Option Online) (free : IfSome o (λ _. IsFree draft)) (links : List LinkState) (whole : Bool) (a d : View) (makes : MakesOf draft o links whole a d) (full : old_in draft ≡ []) where
   abbrev w : Went
   w = went_with draft makes.ends
 
@@ -135,17 +145,81 @@ module _ (draft : Draft) (is_draft : IsDraft draft) (links : List LinkState) (wh
   have : HaveItems (old_in draft) l (taken_in draft) draft.plan.choices.items
   have = subst (λ (cs : List Choice). HaveItems (old_in draft) l (taken_in draft) cs) (sym is_draft.plan.choices) (have_items is_draft.plan.settings (old_in draft) (taken_in draft) is_draft.plan.equal is_draft.plan.same)
 
-  pub files_sorted : is_sorted text_cmp (map file_of (rows_of draft makes.ends makes.kept)) ≡ true
-  files_sorted = rows_sorted w (map_of []) makes.kept (taken_in draft) draft.plan.choices.items is_draft.listing.file_order
+  -- the label file, where a server ran
+  abbrev further : Option Further
+  further = further_in draft o makes.stop
 
-  file_read : (path : Text) (x : File) → get (map_of (map file_of (rows_of draft makes.ends makes.kept))) path ≡ Some x → 0 < length x.bytes → IsOfLink links path x.bytes
-  file_read path x is some =
-      let at = value_in (map file_of (rows_of draft makes.ends makes.kept)) path x files_sorted is in
-      let r = of_map file_of (let z : Text × File = (path, x) in z) (rows_of draft makes.ends makes.kept) at in
-      let same_path : path ≡ r.0.0.path = ap (λ (z : Text × File). z.0) r.2 in
-      let same_bytes : x.bytes ≡ r.0.1 = ap (λ (z : Text × File). z.1.bytes) r.2 in
-      let read = rows_each IsRowRead w (map_of []) makes.kept l row (taken_in draft) draft.plan.choices.items have r.0 r.1 (subst (λ (t : Text). 0 < length t) same_bytes some) in
-      subst (λ (p : Text). IsOfLink links p x.bytes) (sym same_path) (subst (λ (t : Text). IsOfLink links r.0.0.path t) (sym same_bytes) read)
+  new_path : IfSome (entry_in further) (λ e. ¬ In e.path (map (λ (f : Taken). f.path) (taken_in draft)))
+  new_path = by o free
+    where
+      by : (o : Option Online) → IfSome o (λ _. IsFree draft) → IfSome (entry_in (further_in draft o makes.stop)) (λ e. ¬ In e.path (map (λ (f : Taken). f.path) (taken_in draft)))
+      by None x = tt
+      by (Some y) x = x.file
 
-  pub full_read : IsReadBy links (full_backup draft links whole a d makes)
-  full_read = record { read = file_read }
+  pub files_sorted : is_sorted text_cmp (map file_of (with_row (further_in draft o makes.stop) (rows_of draft makes.ends makes.kept))) ≡ true
+  files_sorted = rows_sorted further w (map_of []) makes.kept (taken_in draft) draft.plan.choices.items is_draft.listing.file_order new_path
+
+  -- each file is that of a row
+  file_row : (path : Text) (x : File) → get (backup_made draft o links whole a d makes).files path ≡ Some x → (r : FileEntry × Text) × In r (with_row further (rows_of draft makes.ends makes.kept)) × ((let z : Text × File = (path, x) in z) ≡ file_of r)
+  file_row path x is = of_map file_of (let z : Text × File = (path, x) in z) (with_row further (rows_of draft makes.ends makes.kept)) (value_in (map file_of (with_row further (rows_of draft makes.ends makes.kept))) path x files_sorted is)
+
+  -- what came of a listed file was read by a link
+  pub row_read : (path : Text) (x : File) (r : FileEntry × Text) → In r (rows_of draft makes.ends makes.kept) → (let z : Text × File = (path, x) in z) ≡ file_of r → 0 < length x.bytes → IsOfLink links path x.bytes
+  row_read path x r at is some =
+      let same_path : path ≡ r.0.path = ap (λ (z : Text × File). z.0) is in
+      let same_bytes : x.bytes ≡ r.1 = ap (λ (z : Text × File). z.1.bytes) is in
+      let read = rows_each IsRowRead w (map_of []) makes.kept l row (taken_in draft) draft.plan.choices.items have r at (subst (λ (t : Text). 0 < length t) same_bytes some) in
+      subst (λ (p : Text). IsOfLink links p x.bytes) (sym same_path) (subst (λ (t : Text). IsOfLink links r.0.path t) (sym same_bytes) read)
+
+  -- and it has a listed path
+  row_listed : (path : Text) (x : File) (r : FileEntry × Text) → In r (rows_of draft makes.ends makes.kept) → (let z : Text × File = (path, x) in z) ≡ file_of r → In path (map (λ (f : Taken). f.path) (taken_in draft))
+  row_listed path x r at is = path_listed w (taken_in draft) draft.plan.choices.items path
+      (subst (λ (p : Text). In p (map (λ (e : FileEntry). e.path) (entries w (taken_in draft) draft.plan.choices.items))) (sym (ap (λ (z : Text × File). z.0) is))
+      (in_map (λ (e : FileEntry). e.path) r.0 (entries w (taken_in draft) draft.plan.choices.items)
+      (subst (λ (es : List FileEntry). In r.0 es) (rows_entries w (map_of []) makes.kept (taken_in draft) draft.plan.choices.items) (in_map (λ (q : FileEntry × Text). q.0) r (rows_of draft makes.ends makes.kept) at))))
+
+-- of a stopped server
+pub full_read : (draft : Draft) (is_draft : IsDraft draft) (links : List LinkState) (whole : Bool) (a d : View) (makes : Makes draft links whole a d) → old_in draft ≡ [] → IsReadBy links (full_backup draft links whole a d makes)
+full_read draft is_draft links whole a d makes full = record {
+  read = λ path x is some. (
+      let r = file_row draft is_draft None tt links whole a d makes full path x is in
+      row_read draft is_draft None tt links whole a d makes full path x r.0 r.1 r.2 some
+      );
+}
+
+-- of a running one: the label file is the server's
+module _ (draft : Draft) (is_draft : IsDraft draft) (o : Online) (free : IsFree draft) (links : List LinkState) (whole : Bool) (a d : View) (makes : MakesOf draft (Some o) links whole a d) (full : old_in draft ≡ []) where
+  abbrev label_row : FileEntry × Text
+  label_row = (label_entry o.label_file makes.stop, o.label_file)
+
+  abbrev rest : List (FileEntry × Text)
+  rest = rows_of draft makes.ends makes.kept
+
+  row_kind : (r : FileEntry × Text) → In r (with_row (further_in draft (Some o) makes.stop) rest) → (r ≡ label_row) ⊎ In r rest
+  row_kind r at = in_put (λ (q : FileEntry × Text). q.0.path) label_row r rest at
+
+  label_at : In label_row (with_row (further_in draft (Some o) makes.stop) rest)
+  label_at = put_there (λ (q : FileEntry × Text). q.0.path) label_row rest
+
+  pub online_read : IsReadBeside links (Some o.label_file) (backup_made draft (Some o) links whole a d makes)
+  online_read = record {
+    read = λ path x is off some. (
+        let r = file_row draft is_draft (Some o) free links whole a d makes full path x is in
+        ⊎_elim
+        (λ (own : r.0 ≡ label_row). absurd (off (ap (λ (z : Text × File). z.0) r.2 ∙ ap (λ (q : FileEntry × Text). q.0.path) own)))
+        (λ (at : In r.0 rest). row_read draft is_draft (Some o) free links whole a d makes full path x r.0 at r.2 some)
+        (row_kind r.0 r.1)
+        );
+    label = λ x is. (
+        let r = file_row draft is_draft (Some o) free links whole a d makes full label_path x is in
+        ⊎_elim
+        (λ (own : r.0 ≡ label_row). ap (λ (t : Text). Some t) (sym (ap (λ (z : Text × File). z.1.bytes) r.2 ∙ ap (λ (q : FileEntry × Text). q.1) own)))
+        (λ (at : In r.0 rest). absurd (free.file (row_listed draft is_draft (Some o) free links whole a d makes full label_path x r.0 at r.2)))
+        (row_kind r.0 r.1)
+        );
+  }
+
+  -- and it is there, of the second in which the backup stopped
+  pub label_there : get (backup_made draft (Some o) links whole a d makes).files label_path ≡ Some (record { bytes = o.label_file; time = makes.stop })
+  label_there = get_of (map file_of (with_row (further_in draft (Some o) makes.stop) rest)) label_path (record { bytes = o.label_file; time = makes.stop })
+      (files_sorted draft is_draft (Some o) free links whole a d makes full) (in_map file_of label_row (with_row (further_in draft (Some o) makes.stop) rest) label_at)

@@ -1,27 +1,59 @@
 -- A full backup as a command of the log, and what it holds (pgBackRest user guide, "Backup").
-use Rattle.std.specs.Prelude.{◌≡◌, ◌↔◌, ◌<◌, ℕ, true, false, List, [], length, Option, Some, None, IsSome, slice_get}
+use Rattle.std.specs.Prelude.{◌≡◌, ◌≢◌, ◌↔◌, ◌<◌, ℕ, Bool, true, false, List, [], length, Option, Some, None, IsSome, slice_get}
 use Rattle.std.specs.FinMap.{get}
 use Rattle.pgb_outside.specs.declared.tree.Node.TheVariants as nodes
 use Rattle.pgb_outside.specs.Content.{Content}
 use Rattle.pgb_outside.specs.Links.{LinkState}
 use Rattle.pgb_outside.specs.Tree.{Nodes, file, folder, file_bytes}
+use Rattle.pgb_outside.specs.Moments.{View}
+use Rattle.pgb_model.specs.declared.wal.ArchiveId.{ArchiveId}
+use Rattle.pgb_model.specs.declared.wal.ArchiveName.TheVariants.{Segment as Whole}
+use Rattle.pgb_model.specs.declared.wal.Segment.{Segment}
+use Rattle.pgb_model.specs.declared.wal.WalPart.{WalPart}
 use Rattle.pgb_model.specs.Text.{Text, In}
-use Rattle.pgb_model.specs.Repository.{Backup, File, Stanza}
-use Rattle.pgb_model.specs.Steps.{Command, MakeBackup, AddBackup, changed}
-use Rattle.pgb_model.specs.Now.{NowStands}
+use Rattle.pgb_model.specs.Repository.{Archived, Backup, File, Stanza, IsWithinSpan}
+use Rattle.pgb_model.specs.Stands.{HasStanza}
+use Rattle.pgb_model.specs.Steps.{Command, MakeBackup, ArchivePushAsync, AddBackup, Turn, changed}
+use Rattle.pgb_model.specs.Now.{NowStands, NowDoes}
+use Rattle.pgb_model.specs.Steady.{CarriesOn, PassesOnly}
+use Rattle.pgb_stored.specs.Stored.{ChangesArchive}
 use Rattle.pgb_worker_frame.specs.declared.frames.Root.TheVariants.{Tree}
 use Rattle.pgb_worker_frame.specs.Frames.{Item}
 use Rattle.pgb_worker_reply.specs.Reads.{ReadBy}
 use Rattle.pgb_plan.specs.Filter.{is_kept}
+use Rattle.pgb_backup.specs.Online.{label_path}
+
+-- one of these links read the bytes in the data folder at the path
+abbrev pub IsOfLink : List LinkState → Text → Text → Type 0
+IsOfLink links path bytes = (link : ℕ) × (from : LinkState) × (i : Item) × (slice_get links link ≡ Some from) × (i.root ≡ Tree) × (i.path ≡ path) × ReadBy from.told i bytes
 
 -- each file with bytes has those that one of these links read in the data folder at its path
 pub record IsReadBy (links : List LinkState) (b : Backup) : Type 0 where
-  pub read : (path : Text) (x : File) → get b.files path ≡ Some x → 0 < length x.bytes
-      → (link : ℕ) × (from : LinkState) × (i : Item) × (slice_get links link ≡ Some from) × (i.root ≡ Tree) × (i.path ≡ path) × ReadBy from.told i x.bytes
+  pub read : (path : Text) (x : File) → get b.files path ≡ Some x → 0 < length x.bytes → IsOfLink links path x.bytes
+
+-- so it is of each but the label file, which has what the server told
+pub record IsReadBeside (links : List LinkState) (told : Option Text) (b : Backup) : Type 0 where
+  pub read : (path : Text) (x : File) → get b.files path ≡ Some x → path ≢ label_path → 0 < length x.bytes → IsOfLink links path x.bytes
+  pub label : (x : File) → get b.files label_path ≡ Some x → told ≡ Some x.bytes
 
 -- which command of the log a full backup is that is made of what these links read
 abbrev pub IsFullBackup : List LinkState → Command → Type 0
 IsFullBackup links command = (b : Backup) × (command ≡ MakeBackup [] b None) × IsReadBy links b
+
+-- and which one is that of a running server, which waited these turns, and of which the server told this label file
+abbrev pub IsOnlineBackup : List LinkState → List Turn → Option Text → Command → Type 0
+IsOnlineBackup links turns told command = (b : Backup) × (command ≡ MakeBackup turns b None) × IsReadBeside links told b
+
+-- what others did while it waited for these turns
+pub record Waits (stanza : Text) (turns : List Turn) (ended : Bool) (old new : View) : Type 0 where
+  pub does : NowDoes stanza (ArchivePushAsync turns) ended old.now new.now
+  pub carries : CarriesOn stanza (ArchivePushAsync turns) ended old new
+  pub between : PassesOnly stanza (ArchivePushAsync turns) old new
+  pub only : ChangesArchive stanza old new
+
+-- whatever stanza f has, each segment of this part of the log is archived in it under the id
+abbrev pub HasPart : Text → ArchiveId → WalPart → Content → Type 0
+HasPart stanza id w f = (s : Stanza) → HasStanza stanza f s → (segment : Segment) → IsWithinSpan w.size.0 w.span segment → (a : Archived) × In a s.archived × (a.id ≡ id) × (a.name ≡ Whole segment)
 
 -- the repository has one more backup
 pub record AddsBackup (stanza : Text) (b : Backup) (old new : Option Content) : Type 0 where

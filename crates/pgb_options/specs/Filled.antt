@@ -1,5 +1,5 @@
 -- The fields of `Options`, each with the value in force of its option.
-use Rattle.std.specs.Prelude.{◌≡◌, ℕ, [], codes, bytes_eq, Bool, false, Option, Some, None, option_map, string_bytes, if◌then◌else◌}
+use Rattle.std.specs.Prelude.{◌≡◌, ℕ, [], codes, bytes_eq, ◌||◌, Bool, false, Option, Some, None, option_map, string_bytes, if◌then◌else◌}
 use Rattle.pgb_model.specs.Text.{Text}
 use Rattle.pgb_options.specs.declared.options.Options.{Options}
 use Rattle.pgb_options.specs.declared.options.KindWord.{KindWord}
@@ -8,8 +8,10 @@ use Rattle.pgb_options.specs.declared.options.RestoreWord.{RestoreWord}
 use Rattle.pgb_options.specs.declared.options.RestoreWord.TheVariants as restores
 use Rattle.pgb_options.specs.declared.options.OutputWord.{OutputWord}
 use Rattle.pgb_options.specs.declared.options.OutputWord.TheVariants as outputs
+use Rattle.pgb_options.specs.declared.options.LogWord.{LogWord}
+use Rattle.pgb_options.specs.declared.options.LogWord.TheVariants as logs
 use Rattle.pgb_table.specs.declared.table.Opt.{Opt}
-use Rattle.pgb_table.specs.declared.table.Opt.TheVariants.{Pg1Path, Pg1Port, Pg1SocketPath, Pg1User, Pg1Database, Repo1Path, Repo1RetentionFull, Repo1RetentionDiff, Repo1RetentionArchive, Repo1RetentionArchiveType, Repo1Bundle, Repo1BundleSize, Repo1BundleLimit, ProcessMax, BackupType, RestoreType, Delta, Online, StartFast, ArchiveTimeout, ArchiveAsync, ArchiveGetQueueMax, SpoolPath, LockPath, Set, ExpireAuto, Output, Number, Config}
+use Rattle.pgb_table.specs.declared.table.Opt.TheVariants.{Pg1Path, Pg1Port, Pg1SocketPath, Pg1User, Pg1Database, Repo1Path, Repo1RetentionFull, Repo1RetentionDiff, Repo1RetentionArchive, Repo1RetentionArchiveType, Repo1Bundle, Repo1BundleSize, Repo1BundleLimit, ProcessMax, BackupType, RestoreType, Delta, Online, StartFast, ArchiveTimeout, ArchiveAsync, ArchiveGetQueueMax, SpoolPath, LockPath, Set, ExpireAuto, Output, Number, Config, LogLevelStderr}
 use Rattle.pgb_table.specs.Values.{Value, absent, flag, number, amount_of, text}
 
 -- a text, where there is one
@@ -52,7 +54,7 @@ abbrev pub or_else : {A : Type 0} → A → Option A → A
 or_else d None = d
 or_else d (Some x) = x
 
--- the words of `type`, `repo1-retention-archive-type` and `output`
+-- the words of `type`, `repo1-retention-archive-type`, `output` and `log-level-stderr`
 abbrev pub kind_word : Text → KindWord
 kind_word t = if bytes_eq t (codes "full") then kinds.Full else if bytes_eq t (codes "diff") then kinds.Diff else kinds.Incr
 
@@ -61,6 +63,13 @@ restore_word t = if bytes_eq t (codes "none") then restores.Plain else restores.
 
 abbrev pub output_word : Text → OutputWord
 output_word t = if bytes_eq t (codes "json") then outputs.Json else outputs.Text
+
+abbrev pub is_beyond_info : Text → Bool
+is_beyond_info t = bytes_eq t (codes "info") || bytes_eq t (codes "detail") || bytes_eq t (codes "debug") || bytes_eq t (codes "trace")
+
+-- what is told on standard error (manual, "Console Log Level")
+abbrev pub log_word : Text → LogWord
+log_word t = if bytes_eq t [] || bytes_eq t (codes "off") then logs.Nothing else if is_beyond_info t then logs.Progress else logs.Failures
 
 abbrev pub word_in : Option Value → Text
 word_in v = or_else [] (text_in v)
@@ -96,3 +105,4 @@ pub record AreOptions (o : Options) (value : Opt → Option Value) : Type 0 wher
   pub output : o.output ≡ output_word (word_in (value Output))
   pub number_of : o.number ≡ number_in (value Number)
   pub config : option_map string_bytes o.config ≡ text_in (value Config)
+  pub log_level_stderr : o.log_level_stderr ≡ log_word (word_in (value LogLevelStderr))

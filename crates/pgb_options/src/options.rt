@@ -4,7 +4,7 @@ ghost use Rattle.std.specs.Prelude.{◌≡◌, option_map, string_bytes, IfOk, [
 ghost use Rattle.pgb_options.specs.Settings.{value};
 ghost use Rattle.pgb_options.specs.Sources.{source_view};
 ghost use Rattle.pgb_table.specs.Views.{value_view};
-ghost use Rattle.pgb_options.specs.Filled.{text_in, number_in, amount_in, flag_in, or_else, kind_word, restore_word, output_word, word_in, AreOptions};
+ghost use Rattle.pgb_options.specs.Filled.{text_in, number_in, amount_in, flag_in, or_else, kind_word, restore_word, output_word, log_word, word_in, AreOptions};
 
 use crate::source::{Source, value};
 use pgb_table::{Opt, Value};
@@ -31,6 +31,17 @@ pub enum RestoreWord {
 pub enum OutputWord {
     Text,
     Json,
+}
+
+/// What is told on standard error.
+#[derive(Clone, Copy, Debug, PartialEq, Eq)]
+pub enum LogWord {
+    /// `off`, or no value: nothing.
+    Nothing,
+    /// What failed, and why.
+    Failures,
+    /// `info` and beyond: how far the command is, too.
+    Progress,
 }
 
 /// The values in force of the options, named as these with `_` for `-`.
@@ -82,6 +93,7 @@ pub struct Options {
     pub number: Option<u32>,
     /// Where the configuration was said to lie.
     pub config: Option<String>,
+    pub log_level_stderr: LogWord,
 }
 
 fn as_text(value: Option<Value<'_>>) -> Option<&str>
@@ -194,6 +206,16 @@ fn output_word(text: &str) -> OutputWord
     }
 }
 
+fn log_word(text: &str) -> LogWord
+    ensures { result ≡ log_word text.now }
+{
+    match text {
+        "" | "off" => LogWord::Nothing,
+        "info" | "detail" | "debug" | "trace" => LogWord::Progress,
+        _ => LogWord::Failures,
+    }
+}
+
 // The options, each with its value in force.
 pub(crate) fn fill(alloc: Global, source: &Source) -> Result<Options, AllocError>
     ensures { IfOk result (λ o. AreOptions o (value (source_view source.now))) }
@@ -228,5 +250,6 @@ pub(crate) fn fill(alloc: Global, source: &Source) -> Result<Options, AllocError
         output: output_word(word(source, Opt::Output)),
         number: number(source, Opt::Number),
         config: text(alloc, source, Opt::Config)?,
+        log_level_stderr: log_word(word(source, Opt::LogLevelStderr)),
     })
 }

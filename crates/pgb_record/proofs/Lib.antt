@@ -6,6 +6,7 @@ pub mod Maps
 pub mod Made
 pub mod Naming
 pub mod Sorted
+pub mod Putting
 pub mod Recorded
 pub mod Held
 pub mod Rules
@@ -16,5 +17,6 @@ pub mod Referring
 pub mod Coming
 pub mod Adding
 pub mod Planned
+pub mod Extended
 pub mod Whole
 pub mod Listing

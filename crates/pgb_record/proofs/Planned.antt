@@ -232,10 +232,9 @@ module _ (folder : Text) where
   )
 
   -- the name of a file is none of a bundle
-  file_apart : (f : Taken) (low : ℕ) (js : List Job) → In (name_of f) (bundles_in folder low js) → ⊥
-  file_apart f low js i =
-      let r = bundle_named low js (name_of f) i in
-      let cut : 47 ∷ (codes "pg_data" ⫽ f.path) ≡ 47 ∷ (codes "bundle" ⫽ decimal r.number) = append_cancel_left folder (47 ∷ (codes "pg_data" ⫽ f.path)) (47 ∷ (codes "bundle" ⫽ decimal r.number)) r.is in
+  name_apart : (f : Taken) (number : ℕ) → name_of f ≢ folder ⫽ codes "bundle" ⫽ decimal number
+  name_apart f number e =
+      let cut : 47 ∷ (codes "pg_data" ⫽ f.path) ≡ 47 ∷ (codes "bundle" ⫽ decimal number) = append_cancel_left folder (47 ∷ (codes "pg_data" ⫽ f.path)) (47 ∷ (codes "bundle" ⫽ decimal number)) e in
       let first : ◌≡◌ {A = ℕ} 112 98 = ap (λ (t : Text). by t) cut in
       omega (arith, first)
     where
@@ -243,6 +242,9 @@ module _ (folder : Text) where
       by [] = 0
       by (a ∷ []) = 0
       by (a ∷ b ∷ t) = b
+
+  file_apart : (f : Taken) (low : ℕ) (js : List Job) → In (name_of f) (bundles_in folder low js) → ⊥
+  file_apart f low js i = let r = bundle_named low js (name_of f) i in name_apart f r.number r.is
 
 left_or : (a b : Bool) → a ≡ true → (a || b) ≡ true
 left_or a b h = ap (λ (c : Bool). c || b) h
@@ -357,3 +359,12 @@ module _ (stanza : Text) (label : Label) (s : PlanSettings) (old : List FileEntr
     apart = λ i j n a b. one_place (names_in folder l) distinct i j n a b;
     lasting = λ j n is. lasting n (get_in (names_in folder l) j n is);
   }
+
+  -- none is that of a file at a path that isn't taken
+  pub names_other : (path : Text) → ¬ In path (paths_of fs) → (j : ℕ) (n : Name) → slice_get (names_in (label_folder stanza label) (layout s old fs es)) j ≡ Some n → n ≢ file_name stanza label path
+  names_other path free j n is same =
+      let f : Taken = record { path = path; size = 0; time = 0 } in
+      ⊎_elim
+      (λ (x : (g : Taken) × In g fs × (n ≡ name_of folder g)). free (subst (λ (p : Text). In p (paths_of fs)) (path_of folder x.0 f (sym x.2 ∙ same)) (in_map (λ (g : Taken). g.path) x.0 fs x.1)))
+      (λ (x : IsBundleName folder 1 (bundles l) n). name_apart folder f x.number (sym same ∙ x.is))
+      (name_is n (get_in (names_in folder l) j n is))

@@ -1,7 +1,6 @@
 -- The manifest of a backup that was made keeps a manifest's rules.
-use Rattle.std.proofs.Common.{◌≡◌, ◌≢◌, ⊎_elim, inl, inr, ◌<◌, ◌≤◌, ◌-◌, ◌^◌, ℕ, zero, suc, true, List, [], ◌∷◌, length, map, Option, Some, None, refl, sym, ◌∙◌, ap, subst, arith}
+use Rattle.std.proofs.Common.{◌≡◌, ◌≢◌, ⊎_elim, inl, inr, ◌<◌, ◌≤◌, ◌-◌, ◌^◌, ℕ, zero, suc, true, List, [], ◌∷◌, map, Option, Some, None, refl, sym, ◌∙◌, ap, subst, arith}
 use Rattle.std.specs.Prelude.{IfSome, unwrap_or, codes, sum_by}
-use Rattle.sha1.specs.Sha1.{sha1}
 use Rattle.pgb_text.specs.Sum.{IsSum}
 use Rattle.pgb_text.proofs.Digests.{IsSum-sha1}
 use Rattle.std.proofs.lemmas.List.Sums.{sum_by-cons}
@@ -17,9 +16,6 @@ use Rattle.pgb_model.specs.InfoFiles.{IsLabel}
 use Rattle.pgb_model.specs.ManifestText.{IsFileEntry, IsFolder, HasItsFolders}
 use Rattle.pgb_model.specs.Paths.{IsPath}
 use Rattle.pgb_outside.specs.Crash.{IsTemporary}
-use Rattle.pgb_text.specs.declared.sum.Sum.{Sum}
-use Rattle.pgb_worker_keep.specs.declared.ItemEnd.TheVariants.{Whole}
-use Rattle.pgb_label.specs.declared.keeper.Ended.{Ended}
 use Rattle.std.proofs.lemmas.Option.{slice_get_within}
 use Rattle.pgb_model.specs.Values.{FileEntry}
 use Rattle.pgb_plan.specs.declared.values.Choice.{Choice}
@@ -59,7 +55,7 @@ module _ (w : Went) where
       by here rest None is = rest
       by here rest (Some e) is = join (is_before p e.path) _ (ap (is_before p) (path_of w f c e is) ∙ here) rest
 
-  entries_rise : (fs : List Taken) (cs : List Choice) → rises (map (λ (f : Taken). f.path) fs) ≡ true → rises (map (λ (e : FileEntry). e.path) (entries w fs cs)) ≡ true
+  pub entries_rise : (fs : List Taken) (cs : List Choice) → rises (map (λ (f : Taken). f.path) fs) ≡ true → rises (map (λ (e : FileEntry). e.path) (entries w fs cs)) ≡ true
   entries_rise [] cs h = refl
   entries_rise (f ∷ fs) [] h = refl
   entries_rise (f ∷ fs) (c ∷ cs) h =
@@ -74,6 +70,17 @@ module _ (w : Went) where
   -- the manifest's files are in byte order of their paths
   pub entries_in_order : (fs : List Taken) (cs : List Choice) → are_in_order (map (λ (f : Taken). f.path) fs) ≡ true → are_in_order (map (λ (e : FileEntry). e.path) (entries w fs cs)) ≡ true
   entries_in_order fs cs h = rises_order (map (λ (e : FileEntry). e.path) (entries w fs cs)) (entries_rise fs cs (order_rises (map (λ (f : Taken). f.path) fs) h))
+
+  -- the paths of the manifest's files are those of files that were listed
+  pub path_listed : (fs : List Taken) (cs : List Choice) (path : Text) → In path (map (λ (e : FileEntry). e.path) (entries w fs cs)) → In path (map (λ (f : Taken). f.path) fs)
+  path_listed [] cs path at = absurd at
+  path_listed (f ∷ fs) [] path at = absurd at
+  path_listed (f ∷ fs) (c ∷ cs) path at = by (path_listed fs cs path) (entry_for w f c) refl at
+    where
+      by : (In path (map (λ (e : FileEntry). e.path) (entries w fs cs)) → In path (map (λ (f : Taken). f.path) fs)) → (o : Option FileEntry) → entry_for w f c ≡ o
+          → In path (map (λ (e : FileEntry). e.path) (with_some o (entries w fs cs))) → In path (map (λ (f : Taken). f.path) (f ∷ fs))
+      by rest None is k = inr (rest k)
+      by rest (Some e) is k = ⊎_elim (λ (same : path ≡ e.path). inl (same ∙ path_of w f c e is)) (λ (r : In path (map (λ (e : FileEntry). e.path) (entries w fs cs))). inr (rest r)) k
 
 -- ---- each file by itself
 
@@ -181,17 +188,6 @@ module _ (w : Went) (l : Layout) (folders old_folders : List Text) (bounds : Has
           let c = within f c e have.0 is in
           omega (arith, rest, a, b, c)
 
-  -- the paths of the manifest's files are those of files that were listed
-  path_listed : (fs : List Taken) (cs : List Choice) (path : Text) → In path (map (λ (e : FileEntry). e.path) (entries w fs cs)) → In path (map (λ (f : Taken). f.path) fs)
-  path_listed [] cs path at = absurd at
-  path_listed (f ∷ fs) [] path at = absurd at
-  path_listed (f ∷ fs) (c ∷ cs) path at = by (path_listed fs cs path) (entry_for w f c) refl at
-    where
-      by : (In path (map (λ (e : FileEntry). e.path) (entries w fs cs)) → In path (map (λ (f : Taken). f.path) fs)) → (o : Option FileEntry) → entry_for w f c ≡ o
-          → In path (map (λ (e : FileEntry). e.path) (with_some o (entries w fs cs))) → In path (map (λ (f : Taken). f.path) (f ∷ fs))
-      by rest None is k = inr (rest k)
-      by rest (Some e) is k = ⊎_elim (λ (same : path ≡ e.path). inl (same ∙ path_of w f c e is)) (λ (r : In path (map (λ (e : FileEntry). e.path) (entries w fs cs))). inr (rest r)) k
-
   -- the manifest of these files keeps a manifest's rules
   pub is_manifest : (m : Manifest) (fs : List Taken) (cs : List Choice) → m.files ≡ entries w fs cs → m.folders ≡ folders → IsListing fs folders → HaveItems w.old l fs cs
       → ((f : Taken) (c : Choice) (e : FileEntry) → HasItem w.old l f c → entry_for w f c ≡ Some e → e.size ≤ f.size)
@@ -208,7 +204,7 @@ module _ (w : Went) (l : Layout) (folders old_folders : List Text) (bounds : Has
     folders = λ path at. subst (λ (ps : List Text). IsFolder ps path) (sym folders_are) (listing.folders_hold path (subst (λ (ps : List Text). In path ps) folders_are at));
     file_order = ap (λ (es : List FileEntry). are_in_order (map (λ (e : FileEntry). e.path) es)) files_are ∙ entries_in_order w fs cs listing.file_order;
     folder_order = ap are_in_order folders_are ∙ listing.folder_order;
-    apart = λ path at in_folders. listing.apart path (path_listed fs cs path (subst (λ (es : List FileEntry). In path (map (λ (e : FileEntry). e.path) es)) files_are at)) (subst (λ (ps : List Text). In path ps) folders_are in_folders);
+    apart = λ path at in_folders. listing.apart path (path_listed w fs cs path (subst (λ (es : List FileEntry). In path (map (λ (e : FileEntry). e.path) es)) files_are at)) (subst (λ (ps : List Text). In path ps) folders_are in_folders);
     sizes = (
         let a = sizes fs cs have within in
         let b = listing.sizes in

@@ -1,5 +1,5 @@
 -- Why no record is made of what came. Own.
-use Rattle.std.specs.Prelude.{◌≡◌, ◌⊎◌, List, Some, None, IsSome}
+use Rattle.std.specs.Prelude.{◌≡◌, ◌⊎◌, List, None, IsSome}
 use Rattle.pgb_model.specs.Text.{Text}
 use Rattle.pgb_model.specs.Values.{FileEntry}
 use Rattle.pgb_plan.specs.Listed.{entry_at, control_path}

@@ -9,3 +9,4 @@ pub mod Rows
 pub mod Making
 pub mod Bounds
 pub mod Faults
+pub mod Further

@@ -5,8 +5,9 @@
 //! - `entries_of` gives the manifest's files in the order of the listing, each by its choice (`specs/Entries`):
 //!   what came, with its number and sum; a file of the prior backup, which refers to the label that has its bytes;
 //!   none that had vanished.
-//! - `record_of` makes the manifest of these files and the list with its backup (`specs/Making`), both within the
-//!   rules of their texts, and refuses a backup whose control file vanished.
+//! - `record_of` makes the manifest of these files, with a further one where there is one (`specs/Further`), and the list
+//!   with its backup (`specs/Making`), both within the rules of their texts, and refuses a backup whose control file
+//!   vanished.
 //!
 //! The lemmas say what such a manifest is: each entry has its bytes (`Rows`), the manifest keeps its rules (`Rules`),
 //! what came of a plan keeps the bounds that this needs (`Coming`), and there is a backup of which it is the manifest
@@ -15,6 +16,7 @@
 
 mod beginning;
 mod entries;
+mod inserting;
 mod names;
 mod places;
 mod ran;

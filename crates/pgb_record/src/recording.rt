@@ -1,5 +1,5 @@
 // The record of a backup.
-ghost use Rattle.std.specs.Prelude.{◌≡◌, ◌<◌, ◌^◌, true, map, string_bytes, IfOk, IfErr, OnOk};
+ghost use Rattle.std.specs.Prelude.{◌≡◌, ◌<◌, ◌^◌, true, map, option_map, string_bytes, IfOk, IfErr, IfSome, OnOk};
 ghost use Rattle.pgb_outside.specs.Order.{are_in_order};
 ghost use Rattle.pgb_model.specs.InfoFiles.{IsBackupInfo, label_kind};
 ghost use Rattle.pgb_model.specs.ManifestText.{IsManifest};
@@ -9,11 +9,13 @@ ghost use Rattle.pgb_plan.specs.Views.{taken_of};
 ghost use Rattle.pgb_record.specs.Bounds.{KeepsBounds, MayFollow};
 ghost use Rattle.pgb_record.specs.Entries.{entries};
 ghost use Rattle.pgb_record.specs.Faults.{HasControl, RecordFails};
+ghost use Rattle.pgb_record.specs.Further.{MayBeAdded, with_further};
 ghost use Rattle.pgb_record.specs.Making as making;
 ghost use Rattle.pgb_record.specs.Making.{size_of, IsListWith};
 ghost use Rattle.pgb_record.specs.Views.{went_of};
 
 use crate::entries::entries_of;
+use crate::inserting::add_further;
 use crate::ran::Ran;
 use crate::references::{labels_in, references_of};
 use crate::sizes;
@@ -150,23 +152,27 @@ fn list_with(
     })
 }
 
-/// The manifest of what came of a listing, and the stanza's list with its backup.
+/// The manifest of what came of a listing, with a further file where there is one, and the stanza's list with its backup.
 pub fn record_of(
     alloc: Global,
     head: &Head,
     ran: &Ran<'_>,
     listing: Listing,
     choices: &[Choice],
+    further: Option<FileEntry>,
     before: BackupInfo,
 ) -> Result<Record, RecordFault>
     requires listing { IsListing (map taken_of listing.files.items) (map string_bytes listing.folders.items) }
     requires came { KeepsBounds (went_of ran.now) (map taken_of listing.files.items) choices.now }
+    requires further { IfSome further (λ e. MayBeAdded (map taken_of listing.files.items)
+        (map string_bytes listing.folders.items) (file_entry_of e)) }
     requires list { IsBackupInfo (backup_info_of before) }
     requires follows { MayFollow head.now (backup_info_of before) }
 
     // The manifest has what came, and is within the rules of its text.
     ensures manifest { IfOk result (λ r. manifest_of r.manifest ≡ making.manifest_with head.now
-        (entries (went_of ran.now) (map taken_of listing.files.items) choices.now)
+        (with_further (option_map file_entry_of further)
+        (entries (went_of ran.now) (map taken_of listing.files.items) choices.now))
         (map string_bytes listing.folders.items)) }
     ensures manifest_rules { IfOk result (λ r. IsManifest (manifest_of r.manifest)) }
 
@@ -181,8 +187,9 @@ pub fn record_of(
         choices.now)) }
 {
     let Listing { files, folders } = listing;
-    let entries = entries_of(alloc, ran, &files, choices)?;
+    let mut entries = entries_of(alloc, ran, &files, choices)?;
     check_control(&entries)?;
+    add_further(&mut entries, further)?;
     let manifest = manifest_with(head, entries, folders);
     let info = list_with(alloc, &manifest, before)?;
     Ok(Record { manifest, info })

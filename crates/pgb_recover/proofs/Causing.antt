@@ -18,7 +18,7 @@ use Rattle.pgb_recover.specs.declared.fault.RecoverFault.TheVariants as faults
 use Rattle.pgb_recover.specs.Choosing.{OnList, ChooseCause}
 use Rattle.pgb_recover.specs.Filling.{FillCause}
 use Rattle.pgb_recover.specs.Loading.{HasManifest, LoadCause}
-use Rattle.pgb_recover.specs.Looking.{IsEmpty, FolderCause}
+use Rattle.pgb_recover.specs.Looking.{IsOpen, FolderCause}
 use Rattle.pgb_recover.specs.Restoring.{Before, Chooses}
 use Rattle.pgb_recover.specs.Causes.{RecoverCause}
 
@@ -39,7 +39,7 @@ module _ (b : Before) where
   choose_recovers v pair (faults.Unread path) h = absurd h
   choose_recovers v pair (faults.FileDamaged path told found) h = absurd h
 
-  pub look_recovers : (e : RecoverFault) → FolderCause b.nodes e → RecoverCause b e
+  pub look_recovers : (e : RecoverFault) → FolderCause b.options.delta b.nodes e → RecoverCause b e
   look_recovers faults.SetForm h = absurd h
   look_recovers faults.NoBackup h = absurd h
   look_recovers (faults.SetMissing label) h = absurd h
@@ -50,14 +50,14 @@ module _ (b : Before) where
   look_recovers (faults.Unread path) h = absurd h
   look_recovers (faults.FileDamaged path told found) h = absurd h
 
-  module _ (label : Label) (chosen : Chooses b label) (empty : IfSome b.nodes IsEmpty) where
+  module _ (label : Label) (chosen : Chooses b label) (open_before : IfSome b.nodes (IsOpen b.options.delta)) where
     pub load_recovers : (e : RecoverFault) → LoadCause b.stanza label b.repo e → RecoverCause b e
     load_recovers faults.SetForm h = absurd h
     load_recovers faults.NoBackup h = absurd h
     load_recovers (faults.SetMissing text) h = absurd h
     load_recovers faults.Running h = absurd h
     load_recovers (faults.NotEmpty path) h = absurd h
-    load_recovers (faults.ManifestDamaged text main copy) h = (label, chosen, empty, h)
+    load_recovers (faults.ManifestDamaged text main copy) h = (label, chosen, open_before, h)
     load_recovers (faults.WorkersLost lost) h = absurd h
     load_recovers (faults.Unread path) h = absurd h
     load_recovers (faults.FileDamaged path told found) h = absurd h
@@ -70,9 +70,9 @@ module _ (b : Before) where
       fill_recovers faults.Running h = absurd h
       fill_recovers (faults.NotEmpty path) h = absurd h
       fill_recovers (faults.ManifestDamaged text main copy) h = absurd h
-      fill_recovers (faults.WorkersLost lost) h = (label, m, chosen, empty, has, h)
-      fill_recovers (faults.Unread path) h = (label, m, chosen, empty, has, h)
-      fill_recovers (faults.FileDamaged path told found) h = (label, m, chosen, empty, has, h)
+      fill_recovers (faults.WorkersLost lost) h = (label, m, chosen, open_before, has, h)
+      fill_recovers (faults.Unread path) h = (label, m, chosen, open_before, has, h)
+      fill_recovers (faults.FileDamaged path told found) h = (label, m, chosen, open_before, has, h)
 
 -- ---- objects that failed
 

@@ -13,7 +13,6 @@ use Rattle.pgb_model.specs.Now.{NowStands}
 use Rattle.pgb_model.specs.Pair.{MemberIs, PairIs}
 use Rattle.pgb_model.specs.Repository.{Backup, Stanza}
 use Rattle.pgb_model.specs.Restored.{IsRestored}
-use Rattle.pgb_model.specs.Restored.Recovery.{Nothing}
 use Rattle.pgb_model.specs.Stands.{HasStanza, IsManifestOf, backup_value}
 use Rattle.pgb_model.specs.Text.{Text, In}
 use Rattle.pgb_model.specs.Values.{BackupInfo, Entry, Manifest}
@@ -21,10 +20,11 @@ use Rattle.pgb_keys.proofs.Numbers.{map_in}
 use Rattle.pgb_one_text.proofs.Lists.{one_list}
 use Rattle.pgb_one_text.proofs.Manifests.{one_manifest}
 use Rattle.pgb_worker_dispatch.specs.Payloads.{AllRead}
-use Rattle.pgb_restore.specs.Finished.{Restores}
+use Rattle.pgb_restore.specs.Options.{Options}
+use Rattle.pgb_restore.specs.Finished.{AreTold, Restores}
 use Rattle.pgb_restore.proofs.Headline.{finished_restores}
 use Rattle.pgb_recover.specs.Choosing.{OnList, IsLast, IsChosen, IsChosenOf}
-use Rattle.pgb_recover.specs.Loading.{HasManifest}
+use Rattle.pgb_recover.specs.Loading.{IsThere, HasManifest}
 use Rattle.pgb_recover.specs.Restoring.{Before, Recovers, GivesBackup}
 use Rattle.pgb_recover.specs.Texts.{restored_line}
 use Rattle.pgb_recover.proofs.Chosen.{in_last}
@@ -86,12 +86,12 @@ backups_of stanza f s has v pair = by has.pending (one_pair IsBackupText one_lis
 manifest_of_one : (stanza : Text) (f : Content) (s : Stanza) (has : HasStanza stanza f s) (b : Backup) → In b s.backups → (label : Label) → b.entry.label ≡ label → (m : Manifest) → HasManifest stanza label m f → IsManifestOf stanza f s b m
 manifest_of_one stanza f s has b listed label is m pair =
     let x = has.manifests b listed in
-    let same : x.0 ≡ m = one_pair IsManifestText one_manifest f (manifest_name stanza b.entry.label) x.0 m x.1 (subst (λ (l : Label). HasManifest stanza l m f) (sym is) pair) in
+    let same : x.0 ≡ m = one_pair IsManifestText one_manifest f (manifest_name stanza b.entry.label) x.0 m x.1 (subst (λ (l : Label). IsThere stanza l m f) (sym is) pair.1) in
     subst (λ (n : Manifest). IsManifestOf stanza f s b n) same x.2
 
-restored_by : (stanza : Text) (used : List LinkState) (m : Manifest) (o : Option Nodes) → IfSome o (Restores stanza used m) → (tree f : Content) (s : Stanza) (b : Backup) → AllRead tree f used → IsManifestOf stanza f s b m → IfSome o (IsRestored b Nothing)
-restored_by stanza used m None h tree f s b read of = tt
-restored_by stanza used m (Some g) h tree f s b read of = h tree f s b read of
+restored_by : (stanza : Text) (used : List LinkState) (o : Options) (m : Manifest) (old new : Option Nodes) → IfSome new (Restores stanza used o m old) → (tree f : Content) (s : Stanza) (b : Backup) → AllRead tree f used → IsManifestOf stanza f s b m → AreTold o b old tree → IfSome new (IsRestored b o.recovery)
+restored_by stanza used o m old None h tree f s b read of told = tt
+restored_by stanza used o m old (Some g) h tree f s b read of told = h tree f s b read of told
 
 told_at : (P : Content → Type 0) (o : Option Content) (f : Content) → o ≡ Some f → IfSome o P → P f
 told_at P o f is h = subst (λ (x : Option Content). IfSome x P) is h
@@ -106,5 +106,5 @@ gives_backup b o lines r s f told now =
       backup = x.0;
       is = x.1;
       line = r.line ∙ ap restored_line (sym x.3);
-      restored = λ tree read. restored_by b.stanza b.used r.manifest o (finished_restores b.stanza b.used r.manifest o r.finished) tree f s x.0 read of;
+      restored = λ tree read alike. restored_by b.stanza b.used b.options r.manifest b.nodes o (finished_restores b.stanza b.used b.options r.manifest b.nodes o r.finished) tree f s x.0 read of alike;
     }

@@ -1,23 +1,23 @@
 -- The links that are left when the workers were started, and those that are used.
-use Rattle.std.proofs.Common.{◌≡◌, ℕ, zero, suc, ◌<◌, ◌^◌, List, [], ◌∷◌, length, length-take, map, take, Option, Some, None, string_bytes, slice_get, refl, sym, ap, ◌∙◌, arith}
+use Rattle.std.proofs.Common.{◌≡◌, ℕ, zero, suc, ◌<◌, ◌^◌, List, [], ◌∷◌, length, length-take, map, take, Option, Some, string_bytes, slice_get, refl, sym, ap, ◌∙◌, arith}
 use Rattle.std.proofs.lemmas.List.{take-map, length-map}
 use Rattle.std.specs.Prelude.{IfSome}
 use Rattle.pgb_outside.specs.Cause.{Rises}
 use Rattle.pgb_outside.specs.Links.{LinkState}
 use Rattle.pgb_outside.specs.Tree.{Nodes}
 use Rattle.pgb_model.specs.Text.{Text}
-use Rattle.pgb_model.specs.Values.{FileEntry, Manifest}
+use Rattle.pgb_model.specs.Values.{Manifest}
 use Rattle.pgb_worker_dispatch.specs.declared.fault.Lost.{Lost}
 use Rattle.pgb_worker_dispatch.specs.Run.{AllLost, IsReady, Left, begun}
 use Rattle.pgb_restore.specs.declared.fault.FillFault.{FillFault}
 use Rattle.pgb_restore.specs.declared.fault.FillFault.TheVariants as fills
 use Rattle.pgb_restore.specs.Faults.{FillFails, AreLost as AllGone, IsUnread}
-use Rattle.pgb_restore.specs.Finished.{HasEntry, IsFinished}
-use Rattle.pgb_restore.specs.Left.{IsLeft}
+use Rattle.pgb_restore.specs.Options.{Options}
+use Rattle.pgb_restore.specs.Finished.{IsFinished}
+use Rattle.pgb_restore.proofs.Earlier.{finished_before}
 use Rattle.pgb_restore.proofs.Failing.{fails_before}
 use Rattle.pgb_restore.proofs.Filled.{all_gone}
-use Rattle.pgb_restore.proofs.Links.{left_is, read_before}
-use Rattle.pgb_source.specs.Sources.{source}
+use Rattle.pgb_restore.proofs.Links.{left_is}
 use Rattle.pgb_stage.specs.declared.object.Object.TheVariants.{DataFolder}
 use Rattle.pgb_stage.specs.Halts.{HaltCause, Only}
 use Rattle.pgb_recover.specs.Filling.{of_fill, AreLost, CannotRead, FillCause}
@@ -58,21 +58,8 @@ pub start_lost : (used : List LinkState) (after : List Lost) (lost : ℕ) → Al
 start_lost used after lost all = lost_count used after lost (all_gone [] used [] after all)
 
 -- the tree has what the used links read
-entry_used : (stanza : Text) (used now : List LinkState) (mid : List Lost) (m : Manifest) (f : Nodes) → IsLeft used now [] mid → (e : FileEntry) → HasEntry stanza m.label now e e.path f → HasEntry stanza m.label used e e.path f
-entry_used stanza used now mid m f left e h = record {
-  bytes = h.bytes;
-  file = h.file;
-  are = h.are;
-  read = λ some. read_before used now [] mid (source stanza m.label e) h.bytes left (h.read some);
-}
-
-pub finished_used : (stanza : Text) (used now : List LinkState) (mid : List Lost) (m : Manifest) (o : Option Nodes) → Left [] used [] mid now → IfSome o (IsFinished stanza now m) → IfSome o (IsFinished stanza used m)
-finished_used stanza used now mid m None left done = tt
-finished_used stanza used now mid m (Some f) left done = record {
-  file = λ e i. entry_used stanza used now mid m f (left_is [] used [] mid now left) e (done.file e i);
-  folder = done.folder;
-  nothing = done.nothing;
-}
+pub finished_used : (stanza : Text) (used now : List LinkState) (mid : List Lost) (o : Options) (m : Manifest) (old new : Option Nodes) → Left [] used [] mid now → IfSome new (IsFinished stanza now o m old) → IfSome new (IsFinished stanza used o m old)
+finished_used stanza used now mid o m old new left done = finished_before stanza used now [] mid (left_is [] used [] mid now left) o m old new done
 
 -- ---- why files aren't put into the folder
 

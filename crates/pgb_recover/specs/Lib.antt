@@ -1,4 +1,5 @@
 pub mod Words
+pub mod Fetching
 pub mod Choosing
 pub mod Looking
 pub mod Loading

@@ -1,10 +1,10 @@
 // Why a restore is refused.
-ghost use Rattle.std.specs.Prelude.{◌≡◌};
+ghost use Rattle.std.specs.Prelude.{◌≡◌, IfOk};
 ghost use Rattle.pgb_model.specs.InfoFiles.{IsLabel};
 ghost use Rattle.pgb_stage.specs.Halts.{HaltCause};
 ghost use Rattle.pgb_recover.specs.Choosing.{TellsMissing};
 ghost use Rattle.pgb_recover.specs.Filling.{of_fill};
-ghost use Rattle.pgb_recover.specs.Loading.{TellsDamage, TellsPair, FailsPair};
+ghost use Rattle.pgb_recover.specs.Loading.{IsOtherLabel, TellsDamage, TellsForeign, TellsPair, FailsPair};
 
 use pgb_info::MemberFault;
 use pgb_model::Label;
@@ -13,7 +13,7 @@ use pgb_restore::FillFault;
 use pgb_stage::{Halt, Object};
 use pgb_stamp::label_text;
 use pgb_text::Sum;
-use std::alloc::Global;
+use std::alloc::{AllocError, Global};
 
 /// Why a restore is refused, in the order in which refusals come.
 #[derive(Debug, Drop)]
@@ -72,6 +72,37 @@ fn damaged(alloc: Global, label: &Label, main: MemberFault, copy: MemberFault) -
 {
     match label_text(alloc, label) {
         Ok(label) => Halt::Refused(RecoverFault::ManifestDamaged { label, main, copy }),
+        Err(_) => Halt::NoMemory,
+    }
+}
+
+// The fault of a member that tells another label.
+fn other_label(alloc: Global) -> Result<MemberFault, AllocError>
+    ensures { IfOk result IsOtherLabel }
+{
+    Ok(MemberFault::Form {
+        section: String::from_str(alloc, "backup")?,
+        key: String::from_str(alloc, "backup-label")?,
+    })
+}
+
+// The two faults of a pair that tells another label.
+fn other_labels(alloc: Global) -> Result<(MemberFault, MemberFault), AllocError>
+    ensures main { IfOk result (λ two. IsOtherLabel two.0) }
+    ensures copy { IfOk result (λ two. IsOtherLabel two.1) }
+{
+    let main = other_label(alloc)?;
+    let copy = other_label(alloc)?;
+    Ok((main, copy))
+}
+
+/// The refusal of a manifest that tells another label than this one.
+pub(crate) fn foreign(alloc: Global, label: &Label) -> Halt<RecoverFault>
+    requires { IsLabel label.now }
+    ensures { HaltCause (TellsForeign label.now) (λ _. ⊥) result }
+{
+    match other_labels(alloc) {
+        Ok((main, copy)) => damaged(alloc, label, main, copy),
         Err(_) => Halt::NoMemory,
     }
 }

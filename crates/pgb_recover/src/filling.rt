@@ -8,18 +8,21 @@ ghost use Rattle.pgb_model.specs.Values.{manifest_of};
 ghost use Rattle.pgb_table.specs.Values.{is_stanza};
 ghost use Rattle.pgb_worker_dispatch.specs.Run.{IsReady, Left};
 ghost use Rattle.pgb_clear.specs.Clearing.{control_path, seen_of, HasNone};
+ghost use Rattle.pgb_restore.specs.Options.{options_of};
 ghost use Rattle.pgb_restore.specs.Finished.{IsFinished};
 ghost use Rattle.pgb_stage.specs.declared.object.Object.TheVariants.{DataFolder as TheFolder};
 ghost use Rattle.pgb_stage.specs.Halts.{HaltCause, Only};
+ghost use Rattle.pgb_recover.specs.Fetching.{recovery_type, options_by};
 ghost use Rattle.pgb_recover.specs.Ends.{leaves_folder};
 ghost use Rattle.pgb_recover.specs.Filling.{FillCause};
 
 use crate::fault::{RecoverFault, of_fill};
+use crate::fetching::{fetch_of, recovery_by};
 use crate::order::RecoverOrder;
 use crate::starting::{count_of, start_workers};
 use pgb_model::Manifest;
 use pgb_outside::{Link, Seen, Tree, Turns};
-use pgb_restore::restore_plain;
+use pgb_restore::{RestoreOptions, restore_files};
 use pgb_stage::Halt;
 use pgb_worker_dispatch::Lost;
 use std::alloc::Global;
@@ -28,6 +31,7 @@ use std::alloc::Global;
 fn put_files<T: Tree, L: Link, U: Turns>(
     alloc: Global,
     stanza: &str,
+    options: &RestoreOptions<'_>,
     manifest: &Manifest,
     seen: &[Seen],
     links: &mut Vec<L>,
@@ -41,7 +45,8 @@ fn put_files<T: Tree, L: Link, U: Turns>(
     requires rules { IsManifest (manifest_of manifest.now) }
     requires seen { IfSome (T.state tree.old).nodes (λ f. IsTreeListing f (map seen_of seen.now)) }
     ensures finished { OnOk result (IfSome (T.state tree.new).nodes
-        (IsFinished stanza.now (map L.link_state links.old.items) (manifest_of manifest.now))) }
+        (IsFinished stanza.now (map L.link_state links.old.items) (options_of options.now) (manifest_of manifest.now)
+        (T.state tree.old).nodes)) }
     ensures control { OnErr result
         (((T.state tree.new).nodes ≡ (T.state tree.old).nodes) ⊎ HasNone control_path (T.state tree.new).nodes) }
     ensures changes { IfErr result (λ halt. leaves_folder halt ≡ false) }
@@ -53,7 +58,9 @@ fn put_files<T: Tree, L: Link, U: Turns>(
         → IfErr result (HaltCause (FillCause stanza.now (manifest_of manifest.now) used)
         (Only TheFolder (Rises (T.state tree.old).faults (T.state tree.new).faults))) }
 {
-    match restore_plain(alloc, stanza, manifest, seen, links, turns, tree, lost) {
+    match restore_files(
+        alloc, stanza, options, manifest, seen, links, turns, tree, lost,
+    ) {
         Ok(()) => Ok(()),
         Err(fault) => Err(of_fill(count_of(lost), fault)),
     }
@@ -77,7 +84,8 @@ pub(crate) fn fill<T: Tree, L: Link, U: Turns>(
     requires seen { IfSome (T.state tree.old).nodes (λ f. IsTreeListing f (map seen_of seen.now)) }
     ensures finished { OnOk result (IfSome (T.state tree.new).nodes
         (IsFinished stanza.now (take order.now.workers (map L.link_state links.old.items))
-        (manifest_of manifest.now))) }
+        (options_by stanza.now order.now.delta (recovery_type order.now.recovery)) (manifest_of manifest.now)
+        (T.state tree.old).nodes)) }
     ensures control { OnErr result
         (((T.state tree.new).nodes ≡ (T.state tree.old).nodes) ⊎ HasNone control_path (T.state tree.new).nodes) }
     ensures changes { IfErr result (λ halt. leaves_folder halt ≡ false) }
@@ -87,7 +95,16 @@ pub(crate) fn fill<T: Tree, L: Link, U: Turns>(
         (FillCause stanza.now (manifest_of manifest.now) (take order.now.workers (map L.link_state links.old.items)))
         (Only TheFolder (Rises (T.state tree.old).faults (T.state tree.new).faults))) }
 {
+    let Ok(fetch) = fetch_of(alloc, stanza, &order.recovery) else {
+        return Err(Halt::NoMemory);
+    };
+    let options = RestoreOptions {
+        delta: order.delta,
+        recovery: recovery_by(&order.recovery, &fetch),
+    };
     let mut lost = Vec::new(alloc);
     start_workers(alloc, links, order, &mut lost)?;
-    put_files(alloc, stanza, manifest, seen, links, turns, tree, &mut lost)
+    put_files(
+        alloc, stanza, &options, manifest, seen, links, turns, tree, &mut lost,
+    )
 }

@@ -2,11 +2,21 @@
 ghost use Rattle.std.specs.Prelude.{◌≡◌, ◌<◌, ◌^◌, length, option_map, IfOk, IfErr};
 ghost use Rattle.pgb_stage.specs.Halts.{HaltCause};
 ghost use Rattle.pgb_recover.specs.Words.{TellsSet, WordCause, IsSet-prop, IsSet};
+ghost use Rattle.pgb_recover.specs.Fetching.{recovery_type};
 
 use crate::fault::RecoverFault;
 use pgb_model::Label;
 use pgb_stage::Halt;
 use pgb_stamp::read_label;
+
+/// How the server is to recover (pgBackRest command reference, "Restore Command", option `type`).
+#[derive(Clone, Copy, Debug)]
+pub enum RecoveryType<'a> {
+    /// Not at all.
+    Nothing,
+    /// To the end of the archive. It fetches the log by the configuration that was named, if one was.
+    Default { config: Option<&'a str> },
+}
 
 /// Into which data folder a backup of which repository is put, and how many workers read it at most. Where no backup is
 /// asked for by its label, it is the last one.
@@ -16,6 +26,9 @@ pub struct RecoverOrder<'a> {
     pub repository: &'a str,
     pub set: Option<Label>,
     pub workers: u32,
+    /// Whether a folder with a cluster may be restored into, and its equal files stay.
+    pub delta: bool,
+    pub recovery: RecoveryType<'a>,
     // Each worker is told both folders, with lengths of 16 bits.
     ghost short: { length data_folder.now < 2 ^ 16 },
     ghost repository_short: { length repository.now < 2 ^ 16 },
@@ -28,11 +41,15 @@ pub fn recover_order<'a>(
     repository: &'a str,
     set: Option<&'a str>,
     workers: u32,
+    delta: bool,
+    recovery: RecoveryType<'a>,
 ) -> Result<RecoverOrder<'a>, Halt<RecoverFault>>
     requires short { length data_folder.now < 2 ^ 16 }
     requires repository_short { length repository.now < 2 ^ 16 }
     ensures order { IfOk result (λ o. (o.data_folder.now ≡ data_folder.now) × (o.repository.now ≡ repository.now)
-        × (o.workers ≡ workers) × TellsSet (option_map (λ w. w.now) set.entry) o.set) }
+        × (o.workers ≡ workers) × (o.delta ≡ delta)
+        × (recovery_type o.recovery ≡ recovery_type recovery.entry)
+        × TellsSet (option_map (λ w. w.now) set.entry) o.set) }
     ensures cause { IfErr result (HaltCause (WordCause (option_map (λ w. w.now) set.entry)) (λ _. ⊥)) }
 {
     let set = match set {
@@ -47,5 +64,7 @@ pub fn recover_order<'a>(
         repository,
         set,
         workers,
+        delta,
+        recovery,
     })
 }

@@ -14,6 +14,7 @@ ghost use Rattle.pgb_stage.specs.Reached.{OnFinished};
 ghost use Rattle.pgb_stage.specs.Risen.{none, rose_in};
 ghost use Rattle.pgb_prepare.specs.Readies.{IsBackupOf};
 ghost use Rattle.pgb_recover.specs.Ends.{leaves_folder};
+ghost use Rattle.pgb_recover.specs.Fetching.{recovery_type, options_by};
 ghost use Rattle.pgb_recover.specs.Restoring.{Recovers, GivesBackup};
 ghost use Rattle.pgb_recover.specs.Causes.{RecoverCause};
 
@@ -29,8 +30,9 @@ use pgb_outside::{Disk, Link, Tree, Turns};
 use pgb_stage::{Halt, Outcome};
 use std::alloc::Global;
 
-/// Puts a backup of the stanza into an empty data folder, and nothing else: the one that is asked for, or the last. The
-/// first links read the repository, as many as the order has workers; the others aren't used.
+/// Puts a backup of the stanza into the data folder, and nothing else: the one that is asked for, or the last. The
+/// folder is empty, or with delta holds a cluster whose equal files stay. The first links read the repository, as many
+/// as the order has workers; the others aren't used.
 pub fn recover_backup<D: Disk, T: Tree, L: Link, U: Turns>(
     alloc: Global,
     repo: &mut D,
@@ -52,6 +54,7 @@ pub fn recover_backup<D: Disk, T: Tree, L: Link, U: Turns>(
       repo = (D.state repo.old).view.now;
       nodes = (T.state tree.old).nodes;
       used = take order.now.workers (map L.link_state links.old.items);
+      options = options_by stanza.now order.now.delta (recovery_type order.now.recovery);
     }) (T.state tree.new).nodes)) }
     // Where the repository stands for a stanza, the backup is one of the stanza's.
     ensures given { IfOk result (λ outcome. (s : Stanza) (f : Content) → (D.state repo.old).view.now ≡ Some f
@@ -61,6 +64,7 @@ pub fn recover_backup<D: Disk, T: Tree, L: Link, U: Turns>(
           repo = (D.state repo.old).view.now;
           nodes = (T.state tree.old).nodes;
           used = take order.now.workers (map L.link_state links.old.items);
+          options = options_by stanza.now order.now.delta (recovery_type order.now.recovery);
         }) f (T.state tree.new).nodes)) }
     // After a refusal there is no control file, unless nothing was changed.
     ensures control { OnErr result
@@ -75,13 +79,14 @@ pub fn recover_backup<D: Disk, T: Tree, L: Link, U: Turns>(
       repo = (D.state repo.old).view.now;
       nodes = (T.state tree.old).nodes;
       used = take order.now.workers (map L.link_state links.old.items);
+      options = options_by stanza.now order.now.delta (recovery_type order.now.recovery);
     })) (rose_in (record none {
       repo = Rises (D.state repo.old).faults (D.state repo.new).faults;
       tree = Rises (T.state tree.old).faults (T.state tree.new).faults;
     }))) }
 {
     let label = choose(alloc, backup, order.set)?;
-    let seen = look(alloc, tree)?;
+    let seen = look(alloc, order.delta, tree)?;
     let manifest = load(alloc, repo, stanza, &label)?;
     let Ok(lines) = restored_line(alloc, &label) else {
         return Err(Halt::NoMemory);

@@ -122,11 +122,14 @@ module _ (links : List LinkState) (nodes : Option Nodes) (jobs : List Job) (ws :
 
 -- ---- faults of the run, by names
 
+pub has_its : (jobs : List Job) (n : ℕ) (fault : DispatchFault) (links : List LinkState) (before after : List Lost) (old new : ℕ) (left : List LinkState) → n ≡ length jobs → JobsFault jobs fault links before after old new left → HasItsFile fault n
+has_its jobs n dispatch.WorkersLost links before after old new left count h = tt
+has_its jobs n (dispatch.Unread j item) links before after old new left count h = omega (arith, count, some_within jobs j h.job h.job_is)
+has_its jobs n dispatch.Keep links before after old new left count h = tt
+has_its jobs n dispatch.NoMemory links before after old new left count h = tt
+
 pub its_file : (jobs : List Job) (ws : List Wanted) (fault : DispatchFault) (links : List LinkState) (before after : List Lost) (old new : ℕ) (left : List LinkState) → AreJobsOf ws jobs → JobsFault jobs fault links before after old new left → HasItsFile fault (length ws)
-its_file jobs ws dispatch.WorkersLost links before after old new left are h = tt
-its_file jobs ws (dispatch.Unread j item) links before after old new left are h = omega (arith, are.count, some_within jobs j h.job h.job_is)
-its_file jobs ws dispatch.Keep links before after old new left are h = tt
-its_file jobs ws dispatch.NoMemory links before after old new left are h = tt
+its_file jobs ws fault links before after old new left are h = has_its jobs (length ws) fault links before after old new left are.count h
 
 pub named_fails : (jobs : List Job) (ws : List Wanted) (fault : DispatchFault) (links : List LinkState) (before after : List Lost) (old new : ℕ) (left : List LinkState) (e : FillFault) → JobsFault jobs fault links before after old new left → Names ws fault e
     → WriteFails e jobs ws links left before after old new

@@ -28,12 +28,12 @@ fails_later stanza own es links left before after f g h (faults.Unread path) le 
 fails_later stanza own es links left before after f g h faults.Tree le x = rises_later f g h le x
 fails_later stanza own es links left before after f g h faults.NoMemory le x = x
 
--- the entry is one of more
-pub fails_more : (stanza : Text) (own : Label) (d : FileEntry) (es : List FileEntry) (links left : List LinkState) (before after : List Lost) (f g : ℕ) (e : FillFault) → In d es → FillFails e stanza own (d ∷ []) links left before after f g
+-- the entries are among more
+pub fails_listed : (stanza : Text) (own : Label) (ds es : List FileEntry) (links left : List LinkState) (before after : List Lost) (f g : ℕ) (e : FillFault) → ((d : FileEntry) → In d ds → In d es) → FillFails e stanza own ds links left before after f g
     → FillFails e stanza own es links left before after f g
-fails_more stanza own d es links left before after f g (faults.FileDamaged path told found) i x = record {
+fails_listed stanza own ds es links left before after f g (faults.FileDamaged path told found) all x = record {
   entry = x.entry;
-  listed = ⊎_elim (λ (e : x.entry ≡ d). subst (λ (y : FileEntry). In y es) (sym e) i) (λ (n : ⊥). absurd n) x.listed;
+  listed = all x.entry x.listed;
   path_is = x.path_is;
   told_is = x.told_is;
   bytes = x.bytes;
@@ -41,10 +41,10 @@ fails_more stanza own d es links left before after f g (faults.FileDamaged path 
   found_is = x.found_is;
   wrong = x.wrong;
 }
-fails_more stanza own d es links left before after f g faults.WorkersLost i x = x
-fails_more stanza own d es links left before after f g (faults.Unread path) i x = record {
+fails_listed stanza own ds es links left before after f g faults.WorkersLost all x = x
+fails_listed stanza own ds es links left before after f g (faults.Unread path) all x = record {
   entry = x.entry;
-  listed = ⊎_elim (λ (e : x.entry ≡ d). subst (λ (y : FileEntry). In y es) (sym e) i) (λ (n : ⊥). absurd n) x.listed;
+  listed = all x.entry x.listed;
   path_is = x.path_is;
   now = x.now;
   is = x.is;
@@ -54,8 +54,13 @@ fails_more stanza own d es links left before after f g (faults.Unread path) i x 
   from_is = x.from_is;
   unread = x.unread;
 }
-fails_more stanza own d es links left before after f g faults.Tree i x = x
-fails_more stanza own d es links left before after f g faults.NoMemory i x = x
+fails_listed stanza own ds es links left before after f g faults.Tree all x = x
+fails_listed stanza own ds es links left before after f g faults.NoMemory all x = x
+
+-- the entry is one of more
+pub fails_more : (stanza : Text) (own : Label) (d : FileEntry) (es : List FileEntry) (links left : List LinkState) (before after : List Lost) (f g : ℕ) (e : FillFault) → In d es → FillFails e stanza own (d ∷ []) links left before after f g
+    → FillFails e stanza own es links left before after f g
+fails_more stanza own d es links left before after f g e i x = fails_listed stanza own (d ∷ []) es links left before after f g e (λ c j. ⊎_elim (λ (same : c ≡ d). subst (λ (y : FileEntry). In y es) (sym same) i) (λ (n : ⊥). absurd n) j) x
 
 unread_told : (a b : Option Told) (item : Item) → IsSame a b → UnreadBy b item → UnreadBy a item
 unread_told None b item same r = tt

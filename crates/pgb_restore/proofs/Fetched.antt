@@ -96,6 +96,10 @@ pub on_err : {A E : Type 0} (r : Result A E) (P : Type 0) → P → OnErr r P
 on_err (Ok x) P p = tt
 on_err (Err e) P p = p
 
+pub on_err_more : {A E : Type 0} (r : Result A E) (P Q : Type 0) → (P → Q) → OnErr r P → OnErr r Q
+on_err_more (Ok x) P Q to p = tt
+on_err_more (Err e) P Q to p = to p
+
 -- ---- one job
 
 pub one_want : (e : FileEntry) (j : Job) (w : Wanted) (stanza : Text) (own : Label) → j ≡ reading stanza own e → w.size ≡ e.size → 0 < e.size → IsJobOf w j

@@ -1,11 +1,12 @@
 -- From the files that were written to the entries of a manifest.
-use Rattle.std.proofs.Common.{ℕ, ◌≡◌, ◌≢◌, ◌<◌, arith, sym, ap, ◌∙◌, subst, List, [], ◌∷◌, length, map, Option, Some, None, slice_get, string_bytes}
+use Rattle.std.proofs.Common.{ℕ, Bool, false, ◌≡◌, ◌≢◌, ◌<◌, arith, sym, ap, ◌∙◌, subst, List, [], ◌∷◌, length, map, Option, Some, None, slice_get, string_bytes}
 use Rattle.std.specs.Prelude.{IfSome}
 use Rattle.pgb_outside.specs.Content.{at}
 use Rattle.pgb_outside.specs.Links.{LinkState, Told}
 use Rattle.pgb_outside.specs.Tree.{Nodes}
 use Rattle.pgb_text.specs.declared.sum.Sum.{Sum}
 use Rattle.pgb_model.specs.declared.labels.Label.{Label}
+use Rattle.pgb_model.specs.Restored.{Recovery}
 use Rattle.pgb_model.specs.Text.{Text, In}
 use Rattle.pgb_model.specs.Values.{FileEntry}
 use Rattle.pgb_worker_frame.specs.Frames.{Item, Job}
@@ -20,10 +21,11 @@ use Rattle.pgb_source.specs.Sources.{source, reading}
 use Rattle.pgb_restore.specs.declared.fault.FillFault.{FillFault}
 use Rattle.pgb_restore.specs.declared.fault.FillFault.TheVariants as faults
 use Rattle.pgb_restore.specs.Written.{IsReadOf, IsFetched, AllFetched}
+use Rattle.pgb_restore.specs.Kept.{marked}
 use Rattle.pgb_restore.specs.Entries.{reads_of, Want, want_of, want_in, IsFilled, Fills}
 use Rattle.pgb_restore.specs.Faults.{IsWrongFile, IsUnreadFile, WriteFails, IsDamaged, IsUnread, AreLost, FillFails}
 use Rattle.pgb_restore.proofs.ReadJobs.{at_in, in_at, entry_at, wanted_of_entry, job_at}
-use Rattle.pgb_restore.proofs.ReadEntries.{in_read, read_off}
+use Rattle.pgb_restore.proofs.ReadEntries.{in_read, marked_in, ordinary_off}
 use Rattle.pgb_restore.proofs.Names.{control_lasts}
 use Rattle.pgb_restore.proofs.Links.{unsteady_loss}
 use Rattle.pgb_fill.proofs.Listing.{some_within}
@@ -48,7 +50,7 @@ all_gone jobs links before after all = record {
   unsteady = λ i s is. unsteady_loss jobs links all.entries all.each i s is (all.has i (some_within links i s is));
 }
 
-module _ (stanza : Text) (own : Label) (links : List LinkState) (files : List FileEntry) (jobs : List Job) (ws : List Wanted) (jobs_are : jobs ≡ map (reading stanza own) (reads_of files)) (wanted_are : map want_in ws ≡ map want_of (reads_of files)) where
+module _ (stanza : Text) (own : Label) (links : List LinkState) (r : Recovery) (files : List FileEntry) (marks : List Bool) (jobs : List Job) (ws : List Wanted) (jobs_are : jobs ≡ map (reading stanza own) (reads_of r (marked files marks))) (wanted_are : map want_in ws ≡ map want_of (reads_of r (marked files marks))) where
   filled_by : (e : FileEntry) (w : Wanted) (nodes : Option Nodes) → want_in w ≡ want_of e → IfSome nodes (IsFetched links (reading stanza own e) w) → IfSome nodes (IsFilled stanza own links e)
   filled_by e w None is x = tt
   filled_by e w (Some g) is x =
@@ -62,40 +64,40 @@ module _ (stanza : Text) (own : Label) (links : List LinkState) (files : List Fi
         alone = ap (λ (p : Text). g (temporary_path p)) (sym path) ∙ x.alone;
       }
 
-  none_written : (q : Text) → ((e : FileEntry) → In e (reads_of files) → (q ≢ e.path) × (q ≢ temporary_path e.path)) → IsNoneOf ws q
+  none_written : (q : Text) → ((e : FileEntry) → In e (reads_of r (marked files marks)) → (q ≢ e.path) × (q ≢ temporary_path e.path)) → IsNoneOf ws q
   none_written q off w i =
       let k = at_in ws w i in
-      let e = entry_at stanza own files jobs ws jobs_are wanted_are k.0 w k.1 in
+      let e = entry_at stanza own r (marked files marks) jobs ws jobs_are wanted_are k.0 w k.1 in
       let path : e.0.path ≡ w.path.now = ap (λ (y : Want). y.path) e.2 in
-      let both = off e.0 (in_at (reads_of files) k.0 e.0 e.1) in
+      let both = off e.0 (in_at (reads_of r (marked files marks)) k.0 e.0 e.1) in
       (λ is. both.0 (is ∙ sym path), λ is. both.1 (is ∙ ap temporary_path (sym path)))
 
-  pub fills : (old new : Option Nodes) → AllFetched links new jobs ws → ((q : Text) → IsNoneOf ws q → at q new ≡ at q old) → Fills stanza own links (reads_of files) old new
+  pub fills : (old new : Option Nodes) → AllFetched links new jobs ws → ((q : Text) → IsNoneOf ws q → at q new ≡ at q old) → Fills stanza own links (reads_of r (marked files marks)) old new
   fills old new fetched others = record {
     each = λ e i.
-        let k = at_in (reads_of files) e i in
-        let w = wanted_of_entry stanza own files jobs ws jobs_are wanted_are k.0 e k.1 in
-        filled_by e w.0 new w.2 (fetched k.0 (reading stanza own e) w.0 (job_at stanza own files jobs ws jobs_are wanted_are k.0 e k.1) w.1);
+        let k = at_in (reads_of r (marked files marks)) e i in
+        let w = wanted_of_entry stanza own r (marked files marks) jobs ws jobs_are wanted_are k.0 e k.1 in
+        filled_by e w.0 new w.2 (fetched k.0 (reading stanza own e) w.0 (job_at stanza own r (marked files marks) jobs ws jobs_are wanted_are k.0 e k.1) w.1);
     others = λ q off. others q (none_written q off);
   }
 
   -- the control file is none of those that are written
   pub none_of_control : IsNoneOf ws control_path
-  none_of_control = none_written control_path (λ e i. (λ is. read_off e (in_read files e i).1 (sym is), control_lasts e.path))
+  none_of_control = none_written control_path (λ e i. (λ is. ordinary_off r e (in_read r (marked files marks) e i).1 (sym is), control_lasts e.path))
 
   -- ---- faults
 
   damaged : (path : Text) (told found : Sum) → IsWrongFile links jobs ws path told found → IsDamaged stanza own links files path told found
   damaged path told found x =
-      let e = entry_at stanza own files jobs ws jobs_are wanted_are x.place x.wanted x.wanted_is in
-      let h : ◌≡◌ {A = Option Job} (Some x.job) (Some (reading stanza own e.0)) = sym x.job_is ∙ job_at stanza own files jobs ws jobs_are wanted_are x.place e.0 e.1 in
+      let e = entry_at stanza own r (marked files marks) jobs ws jobs_are wanted_are x.place x.wanted x.wanted_is in
+      let h : ◌≡◌ {A = Option Job} (Some x.job) (Some (reading stanza own e.0)) = sym x.job_is ∙ job_at stanza own r (marked files marks) jobs ws jobs_are wanted_are x.place e.0 e.1 in
       let job : x.job ≡ reading stanza own e.0 = cc in
       let item : x.item ≡ source stanza own e.0 = (let k : ◌≡◌ {A = List Item} (x.item ∷ []) (source stanza own e.0 ∷ []) = sym x.items ∙ ap (λ (j : Job). j.items) job in cc) in
       let size : e.0.size ≡ x.wanted.size = ap (λ (y : Want). y.size) e.2 in
       let sum : e.0.sum ≡ x.wanted.sum.0 = ap (λ (y : Want). y.sum) e.2 in
       record {
         entry = e.0;
-        listed = (in_read files e.0 (in_at (reads_of files) x.place e.0 e.1)).0;
+        listed = marked_in files marks (e.0, false) (in_read r (marked files marks) e.0 (in_at (reads_of r (marked files marks)) x.place e.0 e.1)).0;
         path_is = x.path_is ∙ sym (ap (λ (y : Want). y.path) e.2);
         told_is = ap (λ (s : Sum). s.0) x.told_is ∙ sym sum;
         bytes = x.bytes;
@@ -106,13 +108,13 @@ module _ (stanza : Text) (own : Label) (links : List LinkState) (files : List Fi
 
   unread : (left : List LinkState) (before : List Lost) (path : Text) → IsUnreadFile jobs ws links left before path → IsUnread stanza own links left files path
   unread left before path x =
-      let e = entry_at stanza own files jobs ws jobs_are wanted_are x.place x.wanted x.wanted_is in
+      let e = entry_at stanza own r (marked files marks) jobs ws jobs_are wanted_are x.place x.wanted x.wanted_is in
       let leaves = x.leaves in
-      let h : ◌≡◌ {A = Option Job} (Some leaves.job) (Some (reading stanza own e.0)) = sym leaves.job_is ∙ job_at stanza own files jobs ws jobs_are wanted_are x.place e.0 e.1 in
+      let h : ◌≡◌ {A = Option Job} (Some leaves.job) (Some (reading stanza own e.0)) = sym leaves.job_is ∙ job_at stanza own r (marked files marks) jobs ws jobs_are wanted_are x.place e.0 e.1 in
       let job : leaves.job ≡ reading stanza own e.0 = cc in
       record {
         entry = e.0;
-        listed = (in_read files e.0 (in_at (reads_of files) x.place e.0 e.1)).0;
+        listed = marked_in files marks (e.0, false) (in_read r (marked files marks) e.0 (in_at (reads_of r (marked files marks)) x.place e.0 e.1)).0;
         path_is = x.path_is ∙ sym (ap (λ (y : Want). y.path) e.2);
         now = leaves.now;
         is = one_left left leaves.now leaves.is;

@@ -1,4 +1,6 @@
 pub mod Names
+pub mod Held
+pub mod Shown
 pub mod ReadEntries
 pub mod Writes
 pub mod Checked
@@ -11,4 +13,12 @@ pub mod Rebuilt
 pub mod Fetched
 pub mod Failing
 pub mod Finished
+pub mod Digests
+pub mod Shows
+pub mod Lines
+pub mod HeldRead
+pub mod Marks
+pub mod Settled
+pub mod Completed
+pub mod Earlier
 pub mod Headline

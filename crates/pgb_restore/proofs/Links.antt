@@ -1,7 +1,8 @@
 -- Links that are left behind some jobs.
-use Rattle.std.proofs.Common.{ℕ, zero, suc, ◌≡◌, sym, ap, ◌∙◌, subst, arith, List, [], ◌∷◌, Option, Some, None, slice_get}
+use Rattle.std.proofs.Common.{ℕ, zero, suc, ◌≡◌, refl, sym, ap, ◌∙◌, subst, arith, List, [], ◌∷◌, ◌++◌, length-append, append_assoc, Option, Some, None, slice_get}
 use Rattle.std.specs.Prelude.{IfSome}
 use Rattle.std.specs.List.{AllByRecursion}
+use Rattle.std.proofs.lemmas.List.{append-nil}
 use Rattle.pgb_outside.specs.Content.{Content}
 use Rattle.pgb_outside.specs.Links.{LinkState, Told}
 use Rattle.pgb_model.specs.Text.{Text}
@@ -9,7 +10,7 @@ use Rattle.pgb_worker_frame.specs.Frames.{Item, Job, spell}
 use Rattle.pgb_worker_frame.specs.Frames.Frame.{Setup, Task}
 use Rattle.pgb_worker_reply.specs.Reads.{Reads, ReadBy, IsSteadyWorker}
 use Rattle.pgb_worker_reply.specs.Going.{IsSame, IsDrained}
-use Rattle.pgb_worker_dispatch.specs.Run.{somes, IsLoss, Left}
+use Rattle.pgb_worker_dispatch.specs.Run.{somes, IsLoss, Left, IsReady}
 use Rattle.pgb_worker_dispatch.specs.declared.fault.Lost.{Lost as Entry}
 use Rattle.pgb_worker_dispatch.proofs.Reading.{all_at}
 use Rattle.pgb_fill.proofs.Listing.{some_within}
@@ -100,3 +101,41 @@ pub read_before : (links now : List LinkState) (before after : List Entry) (item
 read_before links now before after item bytes left r =
     let x = left.each r.link r.from r.is in
     record { link = x.link; from = x.from; is = x.is; read = read_told x.from.told r.from.told item bytes x.same r.read }
+
+-- ---- links that are left by nothing, and by two runs
+
+same_again : (a : Option Told) → IsSame a a
+same_again None = tt
+same_again (Some a) = (refl, refl)
+
+same_through : (a b c : Option Told) → IsSame a b → IsSame b c → IsSame a c
+same_through None None None p q = tt
+same_through None None (Some c) p q = absurd q
+same_through None (Some b) c p q = absurd p
+same_through (Some a) None c p q = absurd p
+same_through (Some a) (Some b) None p q = absurd q
+same_through (Some a) (Some b) (Some c) p q = (q.0 ∙ p.0, q.1 ∙ p.1)
+
+pub left_all : (links : List LinkState) (lost : List Entry) → ((i : ℕ) (s : LinkState) → slice_get links i ≡ Some s → IsReady s) → IsLeft links links lost lost
+left_all links lost ready = record {
+  entries = [];
+  is = sym (append-nil lost);
+  count = omega arith;
+  each = λ k s is. record { ready = ready k s is; link = k; from = s; is = is; same = same_again s.told };
+  steady = λ i s is w. (i, s, is, same_again s.told);
+}
+
+pub left_beyond : (first mid now : List LinkState) (start before middle after : List Entry) (p : IsLeft first mid start before) (q : IsLeft mid now middle after) → IsLeft first now [] (p.entries ++ q.entries)
+left_beyond first mid now start before middle after p q = record {
+  entries = p.entries ++ q.entries;
+  is = refl;
+  count = omega (arith, length-append p.entries q.entries, p.count, q.count);
+  each = λ k s is.
+      let y = q.each k s is in
+      let x = p.each y.link y.from y.is in
+      record { ready = y.ready; link = x.link; from = x.from; is = x.is; same = same_through x.from.told y.from.told s.told x.same y.same };
+  steady = λ i s is w.
+      let x = p.steady i s is w in
+      let y = q.steady x.0 x.1 x.2 (steady_as s.told x.1.told x.3 w) in
+      (y.0, y.1, y.2, same_through s.told x.1.told y.1.told x.3 y.3);
+}

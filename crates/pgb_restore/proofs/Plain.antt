@@ -10,16 +10,21 @@ use Rattle.pgb_outside.specs.Content.{at}
 use Rattle.pgb_outside.specs.Crash.{IsTemporary}
 use Rattle.pgb_outside.specs.Links.{LinkState}
 use Rattle.pgb_outside.specs.declared.tree.Node.{Node}
+use Rattle.pgb_outside.specs.declared.tree.Node.TheVariants.{File}
 use Rattle.pgb_outside.specs.Tree.{Nodes, Held, file, folder, link, other, shown, file_bytes}
+use Rattle.pgb_model.specs.Restored.Recovery.{Nothing}
 use Rattle.pgb_model.specs.Text.{Text, In}
 use Rattle.pgb_model.specs.Values.{FileEntry, Manifest}
 use Rattle.pgb_model.specs.ManifestText.{IsManifest, IsFileEntry, IsFolder}
 use Rattle.pgb_fill.specs.Files.{temporary_path}
 use Rattle.pgb_clear.specs.Clearing.{control_path, HasFile, is_bare, Bares, has_path, stays, without, left_at, with_folders}
+use Rattle.pgb_restore.specs.Options.{Options, is_ordinary}
 use Rattle.pgb_restore.specs.Entries.{IsFilled, Fills}
+use Rattle.pgb_restore.specs.Kept.{marked, IsAlike, AllAlike, IsKept}
 use Rattle.pgb_restore.specs.Listed.{IsListedBut, IsPlain}
 use Rattle.pgb_restore.proofs.Names.{lasts}
-use Rattle.pgb_restore.proofs.ReadEntries.{not_true, is_false}
+use Rattle.pgb_restore.proofs.Shown.{in_contains}
+use Rattle.pgb_restore.proofs.ReadEntries.{not_true, is_false, ordinary_some, ordinary_off, marked_in, one_mark}
 use Rattle.pgb_clear.proofs.Cleared.{cleared, without_at, none_left, folder_made, folder_apart}
 use Rattle.pgb_clear.proofs.Ordered.{one_name}
 use Rattle.pgb_clear.proofs.Paths.{in_has}
@@ -153,11 +158,44 @@ module _ (stanza : Text) (links : List LinkState) (m : Manifest) (rules : IsMani
       ∙ ap (λ (b : Bool). cond (b && not (bytes_eq e.path control_path)) (Some (file bytes time)) None) (in_has (map (λ (x : FileEntry). x.path) m.files) e.path (path_in m.files e i))
       ∙ ap (λ (b : Bool). cond b (Some (file bytes time)) None) (is_false (bytes_eq e.path control_path) (λ t. off ((bytes_eq-Decides e.path control_path).0 t)))
 
-  -- where all were written that have bytes
-  pub plain : ((e : FileEntry) → In e m.files → 0 < e.size → e.path ≢ control_path → In e es) → IsPlain stanza links m k
-  plain all = record {
-    bare = bare_stays;
-    filled = λ e i some off. fills.each e (all e i some off);
+  -- the same by an entry that is shown alike
+  pub alike_stays : (first : List LinkState) (o : Options) (e : FileEntry) → In e m.files → IsAlike first o seen e → ((d : FileEntry) → In d es → e.path ≢ d.path) → IsKept first o e (Some g) k
+  alike_stays first o e i alike unwritten = by held.0 held.1 held.2
+    where
+      off : e.path ≢ control_path
+      off = ordinary_off o.recovery e alike.ordinary
+
+      held : (x : Held) × (but.listed e.path ≡ Some x) × (File e.size alike.shown.0 ≡ shown x)
+      held = but.listing.each e.path (File e.size alike.shown.0) (in_contains seen (e.path, File e.size alike.shown.0) alike.shown.1)
+
+      by : (x : Held) → but.listed e.path ≡ Some x → File e.size alike.shown.0 ≡ shown x → IsKept first o e (Some g) k
+      by (file bytes time) was is =
+          let now = kept_stays e i (ordinary_some o.recovery e alike.ordinary) off unwritten bytes time was in
+          record {
+            delta = alike.delta;
+            ordinary = alike.ordinary;
+            bytes = bytes;
+            time = time;
+            is = now;
+            same = ap (λ (x : Option Held). Some x) (but.others e.path off ∙ was ∙ sym now);
+            size = sym (size_of is);
+            digested = alike.digested;
+          }
+        where
+          size_of : {a b c d : ℕ} → ◌≡◌ {A = Node} (File a b) (File c d) → a ≡ c
+          size_of e = cc
+      by folder was is = cc
+      by link was is = cc
+      by other was is = cc
+
+  -- where all were written that are ordinary and not marked, and all that are marked are alike
+  pub plain : (first : List LinkState) (o : Options) (marks : List Bool) → ((e : FileEntry) → In (e, false) (marked m.files marks) → is_ordinary o.recovery e ≡ true → IsFilled stanza m.label first e k)
+      → AllAlike first o seen m.files marks → ((d : FileEntry) → In d es → In (d, false) (marked m.files marks)) → IsPlain stanza first o m marks (Some g) Nothing k
+  plain first o marks all alike unmarked = record {
+    bare = λ e i bare _. bare_stays e i bare;
+    filled = all;
+    kept = λ e i. alike_stays first o e (marked_in m.files marks (e, true) i) (alike e i) (λ d j same. true_false (one_mark m.files marks e d true false rules.file_order i (unmarked d j) same));
+    settings = tt;
     folder = folder_stays;
-    nothing = gone_last;
+    nothing = λ path off apart _. gone_last path off apart;
   }

@@ -1,28 +1,30 @@
 -- Which files of a manifest are read by jobs, and what comes of that. Own.
-use Rattle.std.specs.Prelude.{ℕ, Bool, true, false, not, ◌≡◌, ◌≢◌, ◌&&◌, nat_lt, List, [], ◌∷◌, ◌++◌, length, bytes_eq, Option, None, IfSome, if◌then◌else◌}
+use Rattle.std.specs.Prelude.{ℕ, Bool, not, ◌≡◌, ◌≢◌, ◌&&◌, List, [], ◌∷◌, ◌++◌, length, Option, None, IfSome, if◌then◌else◌}
 use Rattle.sha1.specs.Sha1.{sha1}
 use Rattle.pgb_outside.specs.Content.{at}
 use Rattle.pgb_outside.specs.Links.{LinkState}
 use Rattle.pgb_outside.specs.Tree.{Nodes}
 use Rattle.pgb_model.specs.declared.labels.Label.{Label}
+use Rattle.pgb_model.specs.Restored.{Recovery}
 use Rattle.pgb_model.specs.Text.{Text, In}
 use Rattle.pgb_model.specs.Values.{FileEntry}
 use Rattle.pgb_fill.specs.declared.files.Wanted.{Wanted}
 use Rattle.pgb_fill.specs.Files.{temporary_path}
-use Rattle.pgb_clear.specs.Clearing.{control_path, HasFile}
+use Rattle.pgb_clear.specs.Clearing.{HasFile}
 use Rattle.pgb_source.specs.Sources.{source}
+use Rattle.pgb_restore.specs.Options.{is_ordinary}
 use Rattle.pgb_restore.specs.Written.{IsReadOf}
 
--- it has bytes, and isn't the control file
-abbrev pub is_read : FileEntry → Bool
-is_read e = nat_lt 0 e.size && not (bytes_eq e.path control_path)
+-- the entry is an ordinary one, and isn't marked as one that is kept
+abbrev pub is_read : Recovery → FileEntry × Bool → Bool
+is_read recovery p = is_ordinary recovery p.0 && not p.1
 
-abbrev pub read_one : FileEntry → List FileEntry
-read_one e = if is_read e then e ∷ [] else []
+abbrev pub read_one : Recovery → FileEntry × Bool → List FileEntry
+read_one recovery p = if is_read recovery p then p.0 ∷ [] else []
 
-abbrev pub reads_of : List FileEntry → List FileEntry
-reads_of [] = []
-reads_of (e ∷ es) = read_one e ++ reads_of es
+abbrev pub reads_of : Recovery → List (FileEntry × Bool) → List FileEntry
+reads_of recovery [] = []
+reads_of recovery (p ∷ ps) = read_one recovery p ++ reads_of recovery ps
 
 -- what is wanted of a file: its path, and the number and the digest of its bytes
 pub record Want : Type 0 where

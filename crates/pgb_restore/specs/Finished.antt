@@ -1,12 +1,15 @@
--- A whole plain restore. Own.
-use Rattle.std.specs.Prelude.{ℕ, ◌≡◌, ◌≢◌, ◌<◌, List, Option, Some, None, IfSome}
+-- A whole restore (pgBackRest command reference, "Restore Command").
+use Rattle.std.specs.Prelude.{Bool, true, false, ◌≡◌, ◌≢◌, ◌<◌, ◌⊎◌, List, length, Option, Some, None, IfSome}
+use Rattle.std.specs.FinMap.{get}
+use Rattle.sha1.specs.Sha1.{sha1}
 use Rattle.pgb_outside.specs.Content.{Content}
 use Rattle.pgb_outside.specs.Links.{LinkState}
 use Rattle.pgb_outside.specs.Tree.{Nodes, folder}
+use Rattle.pgb_outside.specs.declared.tree.Node.{Node}
 use Rattle.pgb_model.specs.declared.labels.Label.{Label}
 use Rattle.pgb_model.specs.Text.{Text, In}
 use Rattle.pgb_model.specs.Values.{FileEntry, Manifest}
-use Rattle.pgb_model.specs.Repository.{Backup, Stanza}
+use Rattle.pgb_model.specs.Repository.{File, Backup, Stanza}
 use Rattle.pgb_model.specs.Restored.{IsRestored}
 use Rattle.pgb_model.specs.Restored.Recovery.{Nothing}
 use Rattle.pgb_model.specs.Stands.{IsManifestOf}
@@ -15,8 +18,11 @@ use Rattle.pgb_worker_dispatch.specs.declared.fault.Lost.{Lost}
 use Rattle.pgb_fill.specs.Files.{temporary_path}
 use Rattle.pgb_clear.specs.Clearing.{control_path, HasFile}
 use Rattle.pgb_source.specs.Sources.{source}
+use Rattle.pgb_restore.specs.Options.{Options, is_added}
 use Rattle.pgb_restore.specs.Written.{IsReadOf}
 use Rattle.pgb_restore.specs.Entries.{AreOf}
+use Rattle.pgb_restore.specs.Kept.{marked, AllAlike, IsKept, AreFilesOf, KeepsAlike}
+use Rattle.pgb_restore.specs.Settings.{HasAdded}
 use Rattle.pgb_restore.specs.Listed.{IsPlain}
 use Rattle.pgb_restore.specs.Left.{IsLeft}
 
@@ -35,16 +41,69 @@ pub record HasEntry (stanza : Text) (own : Label) (links : List LinkState) (e : 
 abbrev pub IsAway : Text → Option Nodes → Type 0
 IsAway path nodes = IfSome nodes (λ f. f path ≡ None)
 
--- The tree has each file of the manifest, its folders, and nothing else.
-pub record IsFinished (stanza : Text) (links : List LinkState) (m : Manifest) (f : Nodes) : Type 0 where
-  pub file : (e : FileEntry) → In e m.files → HasEntry stanza m.label links e e.path f
+-- the entry's file is there: written, with bytes that a link read at its place, or kept
+abbrev pub HasCome : Text → Label → List LinkState → Options → FileEntry → Option Nodes → Nodes → Type 0
+HasCome stanza own links o e old f = HasEntry stanza own links e e.path f ⊎ IsKept links o e old f
+
+-- The tree has each file of the manifest, written or kept, the settings of the recovery, the folders, and nothing else.
+pub record IsFinished (stanza : Text) (links : List LinkState) (o : Options) (m : Manifest) (old : Option Nodes) (f : Nodes) : Type 0 where
+  pub file : (e : FileEntry) → In e m.files → is_added o.recovery e.path ≡ false → HasCome stanza m.label links o e old f
+  pub alike : KeepsAlike links o m.files old f
+  pub settings : HasAdded stanza m.label links m.files o.recovery f
   pub folder : (path : Text) → In path m.folders → f path ≡ Some folder
-  pub nothing : (path : Text) → ¬ In path m.folders → ((e : FileEntry) → In e m.files → path ≢ e.path) → f path ≡ None
+  pub nothing : (path : Text) → ¬ In path m.folders → ((e : FileEntry) → In e m.files → path ≢ e.path) → is_added o.recovery path ≡ false → f path ≡ None
 
--- Where all but the control file was there, as links of which these are left read it, all of it is.
-abbrev pub Finishes : Text → List LinkState → Manifest → Option Nodes → Option Nodes → Type 0
-Finishes stanza links m old new = (first : List LinkState) (before after : List Lost) → IsLeft first links before after → IfSome old (IsPlain stanza first m) → IfSome new (IsFinished stanza first m)
+-- the same, where the marks tell which files were kept
+pub record IsMarked (stanza : Text) (links : List LinkState) (o : Options) (m : Manifest) (marks : List Bool) (old : Option Nodes) (f : Nodes) : Type 0 where
+  pub file : (e : FileEntry) → In e m.files → is_added o.recovery e.path ≡ false → HasCome stanza m.label links o e old f
+  pub kept : (e : FileEntry) → In (e, true) (marked m.files marks) → IsKept links o e old f
+  pub settings : HasAdded stanza m.label links m.files o.recovery f
+  pub folder : (path : Text) → In path m.folders → f path ≡ Some folder
+  pub nothing : (path : Text) → ¬ In path m.folders → ((e : FileEntry) → In e m.files → path ≢ e.path) → is_added o.recovery path ≡ false → f path ≡ None
 
--- Where all links read a repository of which this is a backup's manifest, the tree is that of the backup.
-abbrev pub Restores : Text → List LinkState → Manifest → Nodes → Type 0
-Restores stanza links m f = (tree repo : Content) (s : Stanza) (b : Backup) → AllRead tree repo links → IsManifestOf stanza repo s b m → IsRestored b Nothing f
+-- ---- steps, over links that earlier steps have left
+
+-- Where a tree is listed but for its control file, and links of which these are left told that the marked files are alike, all but the settings
+-- and the control file is there.
+abbrev pub Rebuilds : Text → List LinkState → Options → Manifest → List (Text × Node) → List Bool → Option Nodes → Option Nodes → Type 0
+Rebuilds stanza links o m seen marks old new =
+    (first : List LinkState) (before after : List Lost) → IsLeft first links before after → AllAlike first o seen m.files marks
+    → IfSome new (IsPlain stanza first o m marks old Nothing)
+
+-- where all but the settings and the control file was there, the settings are there as well
+abbrev pub Settles : Text → List LinkState → Options → Manifest → List Bool → Option Nodes → Option Nodes → Type 0
+Settles stanza links o m marks old new =
+    (first : List LinkState) (before after : List Lost) (start : Option Nodes) → IsLeft first links before after → IfSome old (IsPlain stanza first o m marks start Nothing)
+    → IfSome new (IsPlain stanza first o m marks start o.recovery)
+
+-- where all but the control file was there, all of it is
+abbrev pub Finishes : Text → List LinkState → Options → Manifest → List Bool → Option Nodes → Option Nodes → Type 0
+Finishes stanza links o m marks old new =
+    (first : List LinkState) (before after : List Lost) (start : Option Nodes) → IsLeft first links before after → IfSome old (IsPlain stanza first o m marks start o.recovery)
+    → IfSome new (IsMarked stanza first o m marks start)
+
+-- where all but the settings and the control file was there, all of it is
+abbrev pub Completes : Text → List LinkState → Options → Manifest → List Bool → Option Nodes → Option Nodes → Type 0
+Completes stanza links o m marks old new =
+    (first : List LinkState) (before after : List Lost) (start : Option Nodes) → IsLeft first links before after → IfSome old (IsPlain stanza first o m marks start Nothing)
+    → IfSome new (IsMarked stanza first o m marks start)
+
+-- where the tree is listed but for its control file, all of it is there
+abbrev pub PutsAll : Text → List LinkState → Options → Manifest → List (Text × Node) → List Bool → Option Nodes → Option Nodes → Type 0
+PutsAll stanza links o m seen marks old new =
+    (first : List LinkState) (before after : List Lost) → IsLeft first links before after → AllAlike first o seen m.files marks
+    → IfSome new (IsMarked stanza first o m marks old)
+
+-- ---- the restored tree
+
+-- no file of these has the number and the digest of the backup's file of its path, and other bytes
+abbrev pub HasNoTwin : Backup → Content → Type 0
+HasNoTwin b tree = (path bytes : Text) (x : File) → get b.files path ≡ Some x → tree path ≡ Some bytes → length bytes ≡ length x.bytes → sha1 bytes ≡ sha1 x.bytes → bytes ≡ x.bytes
+
+-- What delta rests on: the links read the files that the data folder held, and a digest tells each of them from the backup's.
+abbrev pub AreTold : Options → Backup → Option Nodes → Content → Type 0
+AreTold o b old tree = o.delta ≡ true → AreFilesOf old tree × HasNoTwin b tree
+
+-- Where all links read a repository of which this is a backup's manifest, the tree is the restored one of that backup.
+abbrev pub Restores : Text → List LinkState → Options → Manifest → Option Nodes → Nodes → Type 0
+Restores stanza links o m old f = (tree repo : Content) (s : Stanza) (b : Backup) → AllRead tree repo links → IsManifestOf stanza repo s b m → AreTold o b old tree → IsRestored b o.recovery f

@@ -1,6 +1,11 @@
 pub mod Written
+pub mod Options
 pub mod Entries
+pub mod Kept
+pub mod Settings
 pub mod Listed
 pub mod Left
 pub mod Finished
 pub mod Faults
+pub mod Holdings
+pub mod Digested

@@ -1,13 +1,17 @@
 -- From a listed tree to that of a backup without its control file. Own.
-use Rattle.std.specs.Prelude.{ℕ, Bool, true, false, not, ◌≡◌, ◌≢◌, ◌&&◌, ◌⊎◌, ◌<◌, List, [], bytes_eq, Option, Some, None, option_map}
+use Rattle.std.specs.Prelude.{Bool, true, false, not, ◌≡◌, ◌≢◌, ◌&&◌, ◌⊎◌, List, [], bytes_eq, Option, Some, None, option_map}
 use Rattle.pgb_outside.specs.Links.{LinkState}
 use Rattle.pgb_outside.specs.Tree.{Nodes, folder, IsTreeListing}
 use Rattle.pgb_outside.specs.declared.tree.Node.{Node}
 use Rattle.pgb_outside.specs.declared.tree.Node.TheVariants.{File, Folder, Link, Other}
+use Rattle.pgb_model.specs.Restored.{Recovery}
 use Rattle.pgb_model.specs.Text.{Text, In}
 use Rattle.pgb_model.specs.Values.{FileEntry, Manifest}
 use Rattle.pgb_clear.specs.Clearing.{control_path, HasFile, is_bare, Bares, without, with_folders}
+use Rattle.pgb_restore.specs.Options.{Options, is_added, is_ordinary}
 use Rattle.pgb_restore.specs.Entries.{IsFilled}
+use Rattle.pgb_restore.specs.Kept.{marked, IsKept}
+use Rattle.pgb_restore.specs.Settings.{HasAdded}
 
 abbrev pub is_folder : Node → Bool
 is_folder (File size time) = false
@@ -32,9 +36,12 @@ pub record IsPrepared (m : Manifest) (seen : List (Text × Node)) (old new : Opt
   pub mid_is : mid ≡ option_map (λ f. with_folders m.folders (without m seen f)) old
   pub bares : Bares m.files mid new
 
--- All of a plain restore but the control file: every other file of the manifest, its folders, and nothing else.
-pub record IsPlain (stanza : Text) (links : List LinkState) (m : Manifest) (f : Nodes) : Type 0 where
-  pub bare : (e : FileEntry) → In e m.files → is_bare e ≡ true → HasFile e.path [] f
-  pub filled : (e : FileEntry) → In e m.files → 0 < e.size → e.path ≢ control_path → IsFilled stanza m.label links e f
+-- All of a restore but the control file: the files without bytes, the ordinary ones by their marks, the settings that are added by now, the
+-- folders, and nothing else.
+pub record IsPlain (stanza : Text) (links : List LinkState) (o : Options) (m : Manifest) (marks : List Bool) (old : Option Nodes) (added : Recovery) (f : Nodes) : Type 0 where
+  pub bare : (e : FileEntry) → In e m.files → is_bare e ≡ true → is_added added e.path ≡ false → HasFile e.path [] f
+  pub filled : (e : FileEntry) → In (e, false) (marked m.files marks) → is_ordinary o.recovery e ≡ true → IsFilled stanza m.label links e f
+  pub kept : (e : FileEntry) → In (e, true) (marked m.files marks) → IsKept links o e old f
+  pub settings : HasAdded stanza m.label links m.files added f
   pub folder : (path : Text) → In path m.folders → f path ≡ Some folder
-  pub nothing : (path : Text) → ¬ In path m.folders → ((e : FileEntry) → In e m.files → path ≢ control_path → path ≢ e.path) → f path ≡ None
+  pub nothing : (path : Text) → ¬ In path m.folders → ((e : FileEntry) → In e m.files → path ≢ control_path → path ≢ e.path) → is_added added path ≡ false → f path ≡ None

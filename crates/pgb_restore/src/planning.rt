@@ -6,9 +6,11 @@ ghost use Rattle.pgb_model.specs.Values.{FileEntry as Entry, file_entry_of};
 ghost use Rattle.pgb_table.specs.Values.{is_stanza};
 ghost use Rattle.pgb_worker_frame.specs.Views.{job_of};
 ghost use Rattle.pgb_source.specs.Sources.{IsEntry, reading};
+ghost use Rattle.pgb_restore.specs.Options.{recovery_of};
+ghost use Rattle.pgb_restore.specs.Kept.{mark_at, marked};
 ghost use Rattle.pgb_restore.specs.Entries.{is_read, read_one, reads_of, want_of, want_in};
 
-use pgb_clear::is_control;
+use crate::options::{Recovery, is_ordinary};
 use pgb_fill::Wanted;
 use pgb_model::{FileEntry, Label};
 use pgb_source::source_job;
@@ -23,11 +25,21 @@ pub(crate) struct Planned<'a> {
     pub(crate) wanted: Vec<Wanted<'a>>,
 }
 
-// Whether a file has bytes, and isn't the control file.
-fn is_read(file: &FileEntry) -> bool
-    ensures { result ≡ is_read (file_entry_of file.now) }
+// The mark of a place; there may be fewer marks than places.
+fn mark_at(marks: &[bool], place: usize) -> bool
+    ensures { result ≡ mark_at marks.now place }
 {
-    file.size > 0 && !is_control(&file.path)
+    match marks.get(place) {
+        Some(mark) => *mark,
+        None => false,
+    }
+}
+
+// Whether a file is to be read: it is an ordinary one, and isn't kept.
+fn is_read(recovery: &Recovery<'_>, file: &FileEntry, kept: bool) -> bool
+    ensures { result ≡ is_read (recovery_of recovery.now) (file_entry_of file.now, kept) }
+{
+    is_ordinary(recovery, file) && !kept
 }
 
 fn want<'a>(file: &'a FileEntry) -> Wanted<'a>
@@ -46,7 +58,9 @@ fn add_file<'a>(
     planned: &mut Planned<'a>,
     stanza: &str,
     own: &Label,
+    recovery: &Recovery<'_>,
     file: &'a FileEntry,
+    kept: bool,
 ) -> Result<(), NoMemory>
     requires stanza { is_stanza stanza.now ≡ true }
     requires own { IsLabel own.now }
@@ -54,12 +68,13 @@ fn add_file<'a>(
     ensures jobs { OnOk result
         (map job_of planned.new.jobs.items
         ≡ map job_of planned.old.jobs.items
-        ++ map (reading stanza.now own.now) (read_one (file_entry_of file.now))) }
+        ++ map (reading stanza.now own.now) (read_one (recovery_of recovery.now) (file_entry_of file.now, kept))) }
     ensures wanted { OnOk result
         (map want_in planned.new.wanted.items
-        ≡ map want_in planned.old.wanted.items ++ map want_of (read_one (file_entry_of file.now))) }
+        ≡ map want_in planned.old.wanted.items
+        ++ map want_of (read_one (recovery_of recovery.now) (file_entry_of file.now, kept))) }
 {
-    if !is_read(file) {
+    if !is_read(recovery, file, kept) {
         return Ok(());
     }
     let job = source_job(alloc, stanza, own, file)?;
@@ -74,7 +89,9 @@ fn add_files<'a>(
     planned: &mut Planned<'a>,
     stanza: &str,
     own: &Label,
+    recovery: &Recovery<'_>,
     files: &'a [FileEntry],
+    marks: &[bool],
 ) -> Result<(), NoMemory>
     requires stanza { is_stanza stanza.now ≡ true }
     requires own { IsLabel own.now }
@@ -82,38 +99,45 @@ fn add_files<'a>(
     ensures jobs { OnOk result
         (map job_of planned.new.jobs.items
         ≡ map job_of planned.old.jobs.items
-        ++ map (reading stanza.now own.now) (reads_of (map file_entry_of files.now))) }
+        ++ map (reading stanza.now own.now)
+        (reads_of (recovery_of recovery.now) (marked (map file_entry_of files.now) marks.now))) }
     ensures wanted { OnOk result
         (map want_in planned.new.wanted.items
-        ≡ map want_in planned.old.wanted.items ++ map want_of (reads_of (map file_entry_of files.now))) }
+        ≡ map want_in planned.old.wanted.items
+        ++ map want_of (reads_of (recovery_of recovery.now) (marked (map file_entry_of files.now) marks.now))) }
 {
-    for file in files {
-        add_file(alloc, planned, stanza, own, file)?;
+    for place in 0..files.len() {
+        let kept = mark_at(marks, place);
+        add_file(alloc, planned, stanza, own, recovery, &files[place], kept)?;
     }
     Ok(())
 }
 
-/// A job for each file with bytes but the control file. A plan of 2^32 jobs or more counts as want of memory.
+/// A job for each ordinary file that isn't kept. A plan of 2^32 jobs or more counts as want of memory.
 pub(crate) fn plan_files<'a>(
     alloc: Global,
     stanza: &str,
     own: &Label,
+    recovery: &Recovery<'_>,
     files: &'a [FileEntry],
+    marks: &[bool],
 ) -> Result<Planned<'a>, NoMemory>
     requires stanza { is_stanza stanza.now ≡ true }
     requires own { IsLabel own.now }
     requires entries { (e : Entry) → In e (map file_entry_of files.now) → IsEntry e }
     ensures few { IfOk result (λ p. length p.jobs.items < 2 ^ 32) }
     ensures jobs { IfOk result
-        (λ p. map job_of p.jobs.items ≡ map (reading stanza.now own.now) (reads_of (map file_entry_of files.now))) }
+        (λ p. map job_of p.jobs.items ≡ map (reading stanza.now own.now)
+        (reads_of (recovery_of recovery.now) (marked (map file_entry_of files.now) marks.now))) }
     ensures wanted { IfOk result
-        (λ p. map want_in p.wanted.items ≡ map want_of (reads_of (map file_entry_of files.now))) }
+        (λ p. map want_in p.wanted.items ≡ map want_of
+        (reads_of (recovery_of recovery.now) (marked (map file_entry_of files.now) marks.now))) }
 {
     let mut planned = Planned {
         jobs: Vec::new(alloc),
         wanted: Vec::new(alloc),
     };
-    add_files(alloc, &mut planned, stanza, own, files)?;
+    add_files(alloc, &mut planned, stanza, own, recovery, files, marks)?;
     if planned.jobs.len() > u32::MAX as usize {
         return Err(NoMemory);
     }

@@ -11,12 +11,16 @@ ghost use Rattle.pgb_table.specs.Values.{is_stanza};
 ghost use Rattle.pgb_worker_dispatch.specs.Run.{IsReady};
 ghost use Rattle.pgb_clear.specs.Clearing.{control_path, seen_of, IsListed, StaysNone};
 ghost use Rattle.pgb_source.specs.Sources.{IsEntry};
+ghost use Rattle.pgb_restore.specs.Options.{recovery_of, options_of};
+ghost use Rattle.pgb_restore.specs.Kept.{marked};
 ghost use Rattle.pgb_restore.specs.Entries.{reads_of, Fills};
-ghost use Rattle.pgb_restore.specs.Listed.{IsListedBut, IsPlain, IsPrepared};
+ghost use Rattle.pgb_restore.specs.Listed.{IsListedBut, IsPrepared};
+ghost use Rattle.pgb_restore.specs.Finished.{Rebuilds};
 ghost use Rattle.pgb_restore.specs.Left.{IsLeft};
 ghost use Rattle.pgb_restore.specs.Faults.{FillFails};
 
 use crate::fault::FillFault;
+use crate::options::{Recovery, RestoreOptions};
 use crate::planning::plan_files;
 use crate::writing::write_files;
 use pgb_clear::{begin_bare, clear, make_folders};
@@ -44,12 +48,14 @@ fn prepare<T: Tree>(tree: &mut T, manifest: &Manifest, seen: &[Seen]) -> Result<
     begin_bare(tree, &manifest.files)
 }
 
-// Writes the files that have bytes, but no control file.
+// Writes the ordinary files that aren't kept.
 fn fill<T: Tree, L: Link, U: Turns>(
     alloc: Global,
     stanza: &str,
     own: &Label,
+    recovery: &Recovery<'_>,
     files: &[FileEntry],
+    marks: &[bool],
     links: &mut Vec<L>,
     turns: &mut U,
     tree: &mut T,
@@ -62,7 +68,8 @@ fn fill<T: Tree, L: Link, U: Turns>(
     requires entries { (e : Entry) → In e (map file_entry_of files.now) → IsEntry e }
     requires order { are_in_order (map (λ e. e.path) (map file_entry_of files.now)) ≡ true }
     ensures fills { OnOk result
-        (Fills stanza.now own.now (map L.link_state links.old.items) (reads_of (map file_entry_of files.now))
+        (Fills stanza.now own.now (map L.link_state links.old.items)
+        (reads_of (recovery_of recovery.now) (marked (map file_entry_of files.now) marks.now))
         (T.state tree.old).nodes (T.state tree.new).nodes) }
     ensures control { StaysNone control_path (T.state tree.old).nodes (T.state tree.new).nodes }
     ensures opened { (T.state tree.new).opened ≡ (T.state tree.old).opened }
@@ -74,7 +81,7 @@ fn fill<T: Tree, L: Link, U: Turns>(
         (map L.link_state links.new.items) lost.old.items lost.new.items (T.state tree.old).faults
         (T.state tree.new).faults) }
 {
-    let planned = plan_files(alloc, stanza, own, files)?;
+    let planned = plan_files(alloc, stanza, own, recovery, files, marks)?;
     write_files(
         alloc,
         &planned.jobs,
@@ -86,12 +93,15 @@ fn fill<T: Tree, L: Link, U: Turns>(
     )
 }
 
-/// Every file of a backup but the control file is put in its place, its folders are made, and nothing else is left.
+/// Every file of a backup but the control file is put in its place, unless it is kept or gets settings; its folders are
+/// made, and nothing else is left.
 pub(crate) fn rebuild<T: Tree, L: Link, U: Turns>(
     alloc: Global,
     stanza: &str,
+    options: &RestoreOptions<'_>,
     manifest: &Manifest,
     seen: &[Seen],
+    marks: &[bool],
     links: &mut Vec<L>,
     turns: &mut U,
     tree: &mut T,
@@ -102,9 +112,9 @@ pub(crate) fn rebuild<T: Tree, L: Link, U: Turns>(
     requires stanza { is_stanza stanza.now ≡ true }
     requires rules { IsManifest (manifest_of manifest.now) }
     requires seen { IfSome (T.state tree.old).nodes (λ f. IsListedBut f (map seen_of seen.now)) }
-    ensures plain { OnOk result
-        (IfSome (T.state tree.new).nodes
-        (IsPlain stanza.now (map L.link_state links.old.items) (manifest_of manifest.now))) }
+    ensures rebuilds { OnOk result
+        (Rebuilds stanza.now (map L.link_state links.old.items) (options_of options.now) (manifest_of manifest.now)
+        (map seen_of seen.now) marks.now (T.state tree.old).nodes (T.state tree.new).nodes) }
     ensures control { StaysNone control_path (T.state tree.old).nodes (T.state tree.new).nodes }
     ensures opened { (T.state tree.new).opened ≡ (T.state tree.old).opened }
     ensures later { (T.state tree.old).faults ≤ (T.state tree.new).faults }
@@ -120,7 +130,9 @@ pub(crate) fn rebuild<T: Tree, L: Link, U: Turns>(
         alloc,
         stanza,
         &manifest.label,
+        &options.recovery,
         &manifest.files,
+        marks,
         links,
         turns,
         tree,

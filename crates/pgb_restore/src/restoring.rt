@@ -1,7 +1,8 @@
 // A backup is put into a data folder: everything else first, the control file last.
-ghost use Rattle.std.specs.Prelude.{◌≡◌, ◌⊎◌, ◌<◌, ◌≤◌, ◌^◌, ℕ, Some, true, map, vec_len, slice_get, OnOk, OnErr, IfErr, IfSome};
+ghost use Rattle.std.specs.Prelude.{◌≡◌, ◌⊎◌, ◌<◌, ◌≤◌, ◌^◌, ℕ, Bool, List, Some, true, map, vec_len, slice_get, OnOk, OnErr, IfErr, IfSome};
 ghost use Rattle.std.specs.List.{list_any};
 ghost use Rattle.pgb_outside.specs.Cause.{HasCause};
+ghost use Rattle.pgb_outside.specs.Content.{SameBut};
 ghost use Rattle.pgb_outside.specs.Links.{LinkState};
 ghost use Rattle.pgb_outside.specs.Tree.{IsTreeListing};
 ghost use Rattle.pgb_model.specs.ManifestText.{IsManifest};
@@ -10,12 +11,16 @@ ghost use Rattle.pgb_table.specs.Values.{is_stanza};
 ghost use Rattle.pgb_worker_dispatch.specs.Run.{IsReady};
 ghost use Rattle.pgb_clear.specs.Clearing.{control_path, seen_of, HasNone, StaysNone};
 ghost use Rattle.pgb_restore.specs.Listed.{is_control_node, IsListedBut};
-ghost use Rattle.pgb_restore.specs.Finished.{IsFinished, Finishes, Restores};
+ghost use Rattle.pgb_restore.specs.Options.{Options, options_of};
+ghost use Rattle.pgb_restore.specs.Finished.{IsFinished, Finishes, Completes, PutsAll, Restores};
 ghost use Rattle.pgb_restore.specs.Faults.{FillFails};
 
 use crate::control::{control_of, put_control};
 use crate::fault::FillFault;
+use crate::keeping::find_kept;
+use crate::options::RestoreOptions;
 use crate::rebuilding::rebuild;
+use crate::settings::add_settings;
 use pgb_clear::is_control;
 use pgb_model::Manifest;
 use pgb_outside::{Link, Node, Seen, Stop, Tree, Turns};
@@ -42,6 +47,7 @@ fn remove_control<T: Tree>(tree: &mut T, seen: &[Seen]) -> Result<(), Stop>
     requires seen { IfSome (T.state tree.old).nodes (λ f. IsTreeListing f (map seen_of seen.now)) }
     ensures listed { OnOk result (IfSome (T.state tree.new).nodes (λ f. IsListedBut f (map seen_of seen.now))) }
     ensures none { OnOk result (HasNone control_path (T.state tree.new).nodes) }
+    ensures others { OnOk result (SameBut control_path (T.state tree.old).nodes (T.state tree.new).nodes) }
     ensures same { OnErr result ((T.state tree.new).nodes ≡ (T.state tree.old).nodes) }
     ensures opened { (T.state tree.new).opened ≡ (T.state tree.old).opened }
     ensures cause { HasCause (T.state tree.old).faults (T.state tree.new).faults result }
@@ -66,9 +72,9 @@ fn put_last<T: Tree, L: Link, U: Turns>(
     requires ready { (i : ℕ) (s : LinkState) → slice_get (map L.link_state links.old.items) i ≡ Some s → IsReady s }
     requires stanza { is_stanza stanza.now ≡ true }
     requires rules { IsManifest (manifest_of manifest.now) }
-    ensures finishes { OnOk result
-        (Finishes stanza.now (map L.link_state links.old.items) (manifest_of manifest.now) (T.state tree.old).nodes
-        (T.state tree.new).nodes) }
+    ensures finishes { OnOk result ((o : Options) (marks : List Bool)
+        → Finishes stanza.now (map L.link_state links.old.items) o (manifest_of manifest.now) marks
+        (T.state tree.old).nodes (T.state tree.new).nodes) }
     ensures none { OnErr result (StaysNone control_path (T.state tree.old).nodes (T.state tree.new).nodes) }
     ensures opened { (T.state tree.new).opened ≡ (T.state tree.old).opened }
     ensures later { (T.state tree.old).faults ≤ (T.state tree.new).faults }
@@ -92,10 +98,76 @@ fn put_last<T: Tree, L: Link, U: Turns>(
     }
 }
 
-/// Restores a backup into a data folder that was listed just before, without settings of a recovery.
-pub fn restore_plain<T: Tree, L: Link, U: Turns>(
+// Adds the settings, and then the control file.
+fn settle<T: Tree, L: Link, U: Turns>(
     alloc: Global,
     stanza: &str,
+    options: &RestoreOptions<'_>,
+    manifest: &Manifest,
+    links: &mut Vec<L>,
+    turns: &mut U,
+    tree: &mut T,
+    lost: &mut Vec<Lost>,
+) -> Result<(), FillFault>
+    requires few { vec_len links.old < 2 ^ 32 }
+    requires ready { (i : ℕ) (s : LinkState) → slice_get (map L.link_state links.old.items) i ≡ Some s → IsReady s }
+    requires stanza { is_stanza stanza.now ≡ true }
+    requires rules { IsManifest (manifest_of manifest.now) }
+    ensures completes { OnOk result ((marks : List Bool)
+        → Completes stanza.now (map L.link_state links.old.items) (options_of options.now) (manifest_of manifest.now)
+        marks (T.state tree.old).nodes (T.state tree.new).nodes) }
+    ensures none { OnErr result (StaysNone control_path (T.state tree.old).nodes (T.state tree.new).nodes) }
+    ensures opened { (T.state tree.new).opened ≡ (T.state tree.old).opened }
+    ensures later { (T.state tree.old).faults ≤ (T.state tree.new).faults }
+    ensures fault { IfErr result
+        (λ e. FillFails e stanza.now manifest.now.label (manifest_of manifest.now).files
+        (map L.link_state links.old.items) (map L.link_state links.new.items) lost.old.items lost.new.items
+        (T.state tree.old).faults (T.state tree.new).faults) }
+{
+    add_settings(alloc, stanza, options, manifest, links, turns, tree, lost)?;
+    put_last(alloc, stanza, manifest, links, turns, tree, lost)
+}
+
+// Puts everything in its place where it is known which files are kept, the control file last.
+fn put_rest<T: Tree, L: Link, U: Turns>(
+    alloc: Global,
+    stanza: &str,
+    options: &RestoreOptions<'_>,
+    manifest: &Manifest,
+    seen: &[Seen],
+    marks: &[bool],
+    links: &mut Vec<L>,
+    turns: &mut U,
+    tree: &mut T,
+    lost: &mut Vec<Lost>,
+) -> Result<(), FillFault>
+    requires few { vec_len links.old < 2 ^ 32 }
+    requires ready { (i : ℕ) (s : LinkState) → slice_get (map L.link_state links.old.items) i ≡ Some s → IsReady s }
+    requires stanza { is_stanza stanza.now ≡ true }
+    requires rules { IsManifest (manifest_of manifest.now) }
+    requires seen { IfSome (T.state tree.old).nodes (λ f. IsListedBut f (map seen_of seen.now)) }
+    ensures puts { OnOk result
+        (PutsAll stanza.now (map L.link_state links.old.items) (options_of options.now) (manifest_of manifest.now)
+        (map seen_of seen.now) marks.now (T.state tree.old).nodes (T.state tree.new).nodes) }
+    ensures none { OnErr result (StaysNone control_path (T.state tree.old).nodes (T.state tree.new).nodes) }
+    ensures opened { (T.state tree.new).opened ≡ (T.state tree.old).opened }
+    ensures later { (T.state tree.old).faults ≤ (T.state tree.new).faults }
+    ensures fault { IfErr result
+        (λ e. FillFails e stanza.now manifest.now.label (manifest_of manifest.now).files
+        (map L.link_state links.old.items) (map L.link_state links.new.items) lost.old.items lost.new.items
+        (T.state tree.old).faults (T.state tree.new).faults) }
+{
+    rebuild(
+        alloc, stanza, options, manifest, seen, marks, links, turns, tree, lost,
+    )?;
+    settle(alloc, stanza, options, manifest, links, turns, tree, lost)
+}
+
+/// Restores a backup into a data folder that was listed just before.
+pub fn restore_files<T: Tree, L: Link, U: Turns>(
+    alloc: Global,
+    stanza: &str,
+    options: &RestoreOptions<'_>,
     manifest: &Manifest,
     seen: &[Seen],
     links: &mut Vec<L>,
@@ -108,14 +180,17 @@ pub fn restore_plain<T: Tree, L: Link, U: Turns>(
     requires stanza { is_stanza stanza.now ≡ true }
     requires rules { IsManifest (manifest_of manifest.now) }
     requires seen { IfSome (T.state tree.old).nodes (λ f. IsTreeListing f (map seen_of seen.now)) }
-    // The tree has each file of the manifest, with bytes that a link read at its place, its folders, and nothing else.
+    // The tree has each file of the manifest, with bytes that a link read at its place, or as delta kept it; it has the
+    // settings of the recovery, the folders, and nothing else.
     ensures finished { OnOk result
         (IfSome (T.state tree.new).nodes
-        (IsFinished stanza.now (map L.link_state links.old.items) (manifest_of manifest.now))) }
+        (IsFinished stanza.now (map L.link_state links.old.items) (options_of options.now) (manifest_of manifest.now)
+        (T.state tree.old).nodes)) }
     // Over links that read the repository it is the restored tree of the manifest's backup.
     ensures restored { OnOk result
         (IfSome (T.state tree.new).nodes
-        (Restores stanza.now (map L.link_state links.old.items) (manifest_of manifest.now))) }
+        (Restores stanza.now (map L.link_state links.old.items) (options_of options.now) (manifest_of manifest.now)
+        (T.state tree.old).nodes)) }
     // After a refusal there is no control file, unless nothing was changed.
     ensures control { OnErr result
         (((T.state tree.new).nodes ≡ (T.state tree.old).nodes) ⊎ HasNone control_path (T.state tree.new).nodes) }
@@ -127,6 +202,8 @@ pub fn restore_plain<T: Tree, L: Link, U: Turns>(
         (T.state tree.old).faults (T.state tree.new).faults) }
 {
     remove_control(tree, seen)?;
-    rebuild(alloc, stanza, manifest, seen, links, turns, tree, lost)?;
-    put_last(alloc, stanza, manifest, links, turns, tree, lost)
+    let marks = find_kept(alloc, options, &manifest.files, seen, links, turns, lost)?;
+    put_rest(
+        alloc, stanza, options, manifest, seen, &marks, links, turns, tree, lost,
+    )
 }

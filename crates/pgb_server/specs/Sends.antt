@@ -1,5 +1,5 @@
 -- What a client sends (PostgreSQL manual, "Message Formats").
-use Rattle.std.specs.Prelude.{ℕ, ◌+◌, List, [], ◌∷◌, ◌++◌, length}
+use Rattle.std.specs.Prelude.{◌≡◌, ℕ, ◌+◌, List, [], ◌∷◌, ◌++◌, length, Option, IfSome}
 use Rattle.std.specs.Int.{w32, to_be_bytes}
 use Rattle.pgb_model.specs.Text.{Text}
 
@@ -18,3 +18,7 @@ query_of text = 81 ∷ (to_be_bytes w32 (length text + 5) ++ (text ++ 0 ∷ []))
 -- X
 abbrev pub closing : List ℕ
 closing = 88 ∷ 0 ∷ 0 ∷ 0 ∷ 4 ∷ []
+
+-- the last that was sent is the end, where that is told
+abbrev pub Ended : Option (List ℕ) → Type 0
+Ended sent = IfSome sent (λ bytes. (front : List ℕ) × (bytes ≡ front ++ closing))

@@ -27,3 +27,7 @@ start_at s = talk_at Granted 0 (record { bytes = 0; messages = 0 }) s >>= part_o
 -- the answer to a query that has so many columns
 unfoldable pub row_at : ℕ → Taken → List ℕ → Result (Asked × List ℕ) Fault
 row_at columns taken s = talk_at Heading columns taken s >>= part_of asked
+
+-- the talk that answers a query of so many columns
+abbrev pub answer_at : ℕ → Taken → List ℕ → Result (Talk × List ℕ) Fault
+answer_at columns taken s = talk_at Heading columns taken s

@@ -1,10 +1,9 @@
 -- A session that asks for the server's system alone (PostgreSQL manual, "Message Flow").
 use Rattle.std.specs.Prelude.{◌≡◌, ℕ, List, ◌++◌, Result, Ok, Err}
 use Rattle.pgb_model.specs.Text.{Text}
-use Rattle.pgb_server.specs.declared.phase.Phase.TheVariants.{Heading}
 use Rattle.pgb_server.specs.Fault.{Fault}
-use Rattle.pgb_server.specs.Talk.{Talk, Taken, talk_at}
-use Rattle.pgb_server.specs.Session.{start_at}
+use Rattle.pgb_server.specs.Talk.{Talk, Taken}
+use Rattle.pgb_server.specs.Session.{start_at, answer_at}
 use Rattle.pgb_server.specs.Rows.{SystemOutcome, system_query}
 use Rattle.pgb_server.specs.Sends.{startup_of, query_of, closing}
 
@@ -14,7 +13,7 @@ questions user database = startup_of user database ++ (query_of system_query ++ 
 
 -- the talk that answers it, behind a session that took so much
 abbrev pub system_at : Taken → List ℕ → Result (Talk × List ℕ) Fault
-system_at taken s = talk_at Heading 2 taken s
+system_at taken s = answer_at 2 taken s
 
 -- What all the bytes of a server tell, where this system is kept, whatever the pieces in which they come: the size of its segments, or the first fault.
 pub data Tells (kept : ℕ) (bytes : List ℕ) : Result ℕ Fault → Type 0 where

@@ -1,5 +1,6 @@
 // The queries of a backup.
-ghost use Rattle.std.specs.Prelude.{◌≡◌, ◌≢◌, ◌++◌, ◌<◌, length, OnOk, OnErr, IfErr, option_map};
+ghost use Rattle.std.specs.Prelude.{◌≡◌, ◌≢◌, ◌++◌, ◌<◌, length, OnOk, OnErr, IfOk, IfErr, option_map};
+ghost use Rattle.pgb_model.specs.ManifestText.{IsSegSize};
 ghost use Rattle.pgb_server.specs.declared.phase.Phase.TheVariants.{Heading};
 ghost use Rattle.pgb_server.specs.declared.fault.ServerFault.TheVariants as faults;
 ghost use Rattle.pgb_server.specs.Rows.{Told, Answers, SystemOutcome, StartOutcome, StopOutcome, system_query, start_query, stop_query};
@@ -21,6 +22,7 @@ use std::alloc::Global;
 // The size of segments, where the system is the one that is kept.
 fn system_of(talk: &Talk, kept: u64) -> Result<SegSize, ServerFault>
     ensures value { Told (λ z. z.0) result (SystemOutcome kept (talk_view talk.now)) }
+    ensures sized { IfOk result (λ z. IsSegSize z.0) }
     ensures cause { IfErr result (λ e. e ≢ faults.Wire) }
 {
     let Some((found, size)) = system_row(talk) else {
@@ -43,6 +45,7 @@ pub fn check_system<V: Wire>(
     ensures read { Answers (λ z. z.0) result (session_view session.new) (V.state wire.old).pending
         (V.state wire.new).pending
         (talk_at Heading 2 (session_view session.old)) (SystemOutcome system) }
+    ensures sized { IfOk result (λ z. IsSegSize z.0) }
     ensures kept { OnErr result (session_view session.new ≡ session_view session.old) }
     ensures sent { OnOk result ((V.state wire.new).sent ≡ option_map (λ s. s ++ query_of system_query)
         (V.state wire.old).sent) }

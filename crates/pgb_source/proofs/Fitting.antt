@@ -1,7 +1,7 @@
 -- A file's place may stand in a job.
-use Rattle.std.proofs.Common.{ℕ, true, ◌≡◌, ◌<◌, ◌≤◌, ◌^◌, refl, ap, ◌∙◌, ◌+◌, arith, lit<, [], ◌∷◌, ◌++◌, length, length-append, Option, Some, None, IfSome, decimal}
+use Rattle.std.proofs.Common.{ℕ, true, ◌≡◌, ◌<◌, ◌≤◌, ◌^◌, refl, sym, ap, subst, ◌∙◌, ◌+◌, arith, lit<, List, [], ◌∷◌, ◌++◌, length, length-append, Option, Some, None, IfSome, decimal}
 use Rattle.std.specs.Prelude.{codes, unwrap_or}
-use Rattle.std.specs.List.{flat_map}
+use Rattle.std.specs.List.{AllByRecursion, flat_map}
 use Rattle.std.specs.Int.{w16, w32, w64, to_be_bytes}
 use Rattle.std.proofs.lemmas.Fmt.{length-decimal-le}
 use Rattle.json.proofs.Printed.Utf8.{IsUtf8-are_ascii}
@@ -89,7 +89,15 @@ job_count j i is short =
     let c : length (flat_map item_bytes j.items) ≡ length (item_bytes i) + 0 = ap (λ is. length (flat_map item_bytes is)) is ∙ length-append (item_bytes i) [] in
     omega (arith, a, b, c, short)
 
+-- of one item
+pub fits_one : (j : Job) (i : Item) → j.items ≡ i ∷ [] → FitsItem i → length i.path ≤ 1200 → FitsJob j
+unfolding repo_limit
+fits_one j i is fits short =
+    let one : length j.items ≡ 1 = ap (λ (l : List Item). length l) is in
+    record { some = omega (arith, one); few = omega (arith, one); items = subst (λ (l : List Item). AllByRecursion FitsItem l) (sym is) (fits, tt); small = job_count j i is (item_count i short) }
+
 pub fits_reading : (stanza : Text) → is_stanza stanza ≡ true → (own : Label) → IsLabel own → (e : FileEntry) → IsEntry e → FitsJob (reading stanza own e)
+unfolding repo_limit
 fits_reading stanza word own good e is =
     let item = fits_source stanza word own good e is in
-    record { some = lit< tt; few = lit< tt; items = (item, tt); small = job_count (reading stanza own e) (source stanza own e) refl (item_count (source stanza own e) item.path.short) }
+    fits_one (reading stanza own e) (source stanza own e) refl item item.path.short

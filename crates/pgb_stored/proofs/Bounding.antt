@@ -93,7 +93,7 @@ lacks_slash [] lacks has = absurd (omega (arith, has.1))
 lacks_slash (c ∷ text) lacks (zero, lt, is) = lacks.0 is
 lacks_slash (c ∷ text) lacks (suc k, lt, is) = lacks_slash text lacks.1 (k, omega arith, is)
 
-folder_named : (s : Segment) → IsFolderName (segment_folder s)
+pub folder_named : (s : Segment) → IsFolderName (segment_folder s)
 folder_named s = (λ e. let long = folder_length s in let none = ap length e in omega arith, lacks_slash (segment_folder s) (folder_lacks 47 s (omega arith)))
 
 -- a folder that can't be one of the log has no segment

@@ -15,4 +15,4 @@ pub use files::Stored;
 pub use listing::all;
 pub use looking::{HISTORY_LIMIT, Kept, Look, look_for, look_in_folder, look_settled};
 pub use names::{FileNames, file_names};
-pub use paths::has_sum;
+pub use paths::{Told, has_sum, read_path};

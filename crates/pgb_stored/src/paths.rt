@@ -14,7 +14,7 @@ use pgb_wal::read_archive_name;
 
 /// What a path below the stanza's folder tells.
 #[derive(Clone, Copy)]
-pub(crate) struct Told {
+pub struct Told {
     pub id: ArchiveId,
     pub name: ArchiveName,
     pub sum: Option<Sum>,
@@ -127,7 +127,7 @@ fn read_below(text: &[u8]) -> Option<(ArchiveName, Option<Sum>)>
 }
 
 /// The archive file of which this is the path, behind the stanza's folder with its slash.
-pub(crate) fn read_path(path: &[u8], folder: &[u8]) -> Option<Told>
+pub fn read_path(path: &[u8], folder: &[u8]) -> Option<Told>
     ensures value { IfSome result
         (λ told. IsReadAs (below_folder folder.now told.id) path.now told.name (option_map (λ s. s.0) told.sum)) }
     ensures fits { IfSome result (λ told. (sum : Text) → IsSum sum → IsArchivePlace told.id told.name sum) }

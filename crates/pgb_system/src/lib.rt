@@ -8,7 +8,7 @@ mod scratch;
 mod tail;
 mod turns;
 
-pub use faults::Faults;
+pub use faults::{Call, Faults};
 pub use link::RealLink;
 pub use pieces::read_some;
 pub use scratch::Scratch;

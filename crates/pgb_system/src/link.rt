@@ -3,7 +3,7 @@ ghost use Rattle.std.specs.Prelude.{◌≡◌, ◌≤◌, [], None, IfOk, IsErr,
 ghost use Rattle.pgb_outside.specs.Links.{is_byte, is_job, is_read_job, bumped, SendLeaves, ReceiveLeaves};
 ghost use Rattle.pgb_system.specs.Tail.{tail_of};
 
-use crate::faults::Faults;
+use crate::faults::{Call, Faults};
 use crate::pieces::read_some;
 use crate::tail::Tail;
 use pgb_outside::{Link, Stop};
@@ -66,6 +66,17 @@ fn broken<T>() -> io::Result<T>
     Err(io::Error::from(ErrorKind::BrokenPipe))
 }
 
+// What is done with the worker of a program.
+fn call_of<'a>(rt: &HostRuntime, act: &'a str, program: &'a str) -> Call<'a> {
+    Call {
+        alloc: rt.alloc(),
+        act,
+        root: "",
+        name: program,
+        to: None,
+    }
+}
+
 impl RealLink {
     /// A worker of this program, started with these words.
     pub fn new(rt: HostRuntime, program: String, words: Vec<String>) -> Self
@@ -84,6 +95,11 @@ impl RealLink {
             given: Tail::new(),
             faults: Faults::new(),
         }
+    }
+
+    /// What failed last, for a person to read.
+    pub fn last_failure(&self) -> Option<&str> {
+        self.faults.last()
     }
 
     fn put(&mut self, frame: &[u8]) -> io::Result<()>
@@ -139,7 +155,8 @@ impl Link for RealLink {
 
     fn send(&mut self, bytes: &[u8]) -> Result<(), Stop> {
         let done = self.put(bytes);
-        match self.faults.told(done) {
+        let call = call_of(&self.rt, "writing to a worker", &self.program);
+        match self.faults.told(&call, done) {
             Ok(()) => {
                 self.count(bytes);
                 Ok(())
@@ -150,7 +167,8 @@ impl Link for RealLink {
 
     fn receive(&mut self, buf: &mut [u8]) -> Result<usize, Stop> {
         let done = self.take(buf);
-        match self.faults.told(done) {
+        let call = call_of(&self.rt, "reading from a worker", &self.program);
+        match self.faults.told(&call, done) {
             Ok(n) => {
                 self.given.add(&buf[..n]);
                 Ok(n)

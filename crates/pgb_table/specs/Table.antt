@@ -114,7 +114,7 @@ row Number = option (codes "number") h (number 1 64) required
 row Config = word_option (codes "config") every file unset
 row LogLevelConsole = option (codes "log-level-console") every anything unset
 row LogLevelFile = option (codes "log-level-file") every anything unset
-row LogLevelStderr = option (codes "log-level-stderr") every anything unset
+row LogLevelStderr = option (codes "log-level-stderr") every (words (codes "off" ∷ codes "error" ∷ codes "warn" ∷ codes "info" ∷ codes "detail" ∷ codes "debug" ∷ codes "trace" ∷ [])) unset
 row LogPath = option (codes "log-path") every anything unset
 row LogTimestamp = option (codes "log-timestamp") every flag unset
 row BufferSize = option (codes "buffer-size") every anything unset
@@ -145,10 +145,10 @@ abbrev pub IsOfArchive : Opt → Type 0
 IsOfArchive o = (o ≡ ArchiveTimeout) ⊎ (o ≡ ArchiveAsync) ⊎ (o ≡ ArchiveGetQueueMax) ⊎ (o ≡ SpoolPath) ⊎ (o ≡ LockPath)
 
 abbrev pub IsOfCommand : Opt → Type 0
-IsOfCommand o = (o ≡ Set) ⊎ (o ≡ ExpireAuto) ⊎ (o ≡ Output) ⊎ (o ≡ Number) ⊎ (o ≡ Config)
+IsOfCommand o = (o ≡ Set) ⊎ (o ≡ ExpireAuto) ⊎ (o ≡ Output) ⊎ (o ≡ Number) ⊎ (o ≡ Config) ⊎ (o ≡ LogLevelStderr)
 
 abbrev pub IsIgnored : Opt → Type 0
-IsIgnored o = (o ≡ LogLevelConsole) ⊎ (o ≡ LogLevelFile) ⊎ (o ≡ LogLevelStderr) ⊎ (o ≡ LogPath) ⊎ (o ≡ LogTimestamp) ⊎ (o ≡ BufferSize) ⊎ (o ≡ CompressLevel) ⊎ (o ≡ CompressLevelNetwork) ⊎ (o ≡ DbTimeout) ⊎ (o ≡ ProtocolTimeout) ⊎ (o ≡ IoTimeout) ⊎ (o ≡ ArchiveModeCheck)
+IsIgnored o = (o ≡ LogLevelConsole) ⊎ (o ≡ LogLevelFile) ⊎ (o ≡ LogPath) ⊎ (o ≡ LogTimestamp) ⊎ (o ≡ BufferSize) ⊎ (o ≡ CompressLevel) ⊎ (o ≡ CompressLevelNetwork) ⊎ (o ≡ DbTimeout) ⊎ (o ≡ ProtocolTimeout) ⊎ (o ≡ IoTimeout) ⊎ (o ≡ ArchiveModeCheck)
 
 abbrev pub verb_word : Verb → Text
 verb_word StanzaCreate = codes "stanza-create"

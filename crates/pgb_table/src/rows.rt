@@ -337,7 +337,7 @@ fn archive_row(option: Opt) -> Row
     }
 }
 
-// Of one command, and the configuration.
+// Of one command, the configuration, and what is told on standard error.
 #[tactic(auto, unfolding(crate::specs::Table::row))]
 fn command_row(option: Opt) -> Row
     requires { IsOfCommand option }
@@ -358,6 +358,12 @@ fn command_row(option: Opt) -> Row
             Kind::Number { least: 1, most: 64 },
             Fallback::Required,
         ),
+        Opt::LogLevelStderr => any_place(
+            "log-level-stderr",
+            EVERY,
+            Kind::Words(&["off", "error", "warn", "info", "detail", "debug", "trace"]),
+            Fallback::Unset,
+        ),
         // Config, the one that is left.
         _ => words_alone("config", Kind::File, Fallback::Unset),
     }
@@ -372,7 +378,6 @@ fn ignored_row(option: Opt) -> Row
     match option {
         Opt::LogLevelConsole => ignored("log-level-console", Kind::Anything),
         Opt::LogLevelFile => ignored("log-level-file", Kind::Anything),
-        Opt::LogLevelStderr => ignored("log-level-stderr", Kind::Anything),
         Opt::LogPath => ignored("log-path", Kind::Anything),
         Opt::LogTimestamp => ignored("log-timestamp", Kind::Flag),
         Opt::BufferSize => ignored("buffer-size", Kind::Anything),
@@ -416,10 +421,14 @@ pub fn row_for(option: Opt) -> Row
         | Opt::ArchiveGetQueueMax
         | Opt::SpoolPath
         | Opt::LockPath => archive_row(option),
-        Opt::Set | Opt::ExpireAuto | Opt::Output | Opt::Number | Opt::Config => command_row(option),
+        Opt::Set
+        | Opt::ExpireAuto
+        | Opt::Output
+        | Opt::Number
+        | Opt::Config
+        | Opt::LogLevelStderr => command_row(option),
         Opt::LogLevelConsole
         | Opt::LogLevelFile
-        | Opt::LogLevelStderr
         | Opt::LogPath
         | Opt::LogTimestamp
         | Opt::BufferSize

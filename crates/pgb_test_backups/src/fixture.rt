@@ -1,12 +1,13 @@
 // A stanza, a data folder with its workers, and a backup of it.
 ghost use Rattle.std.specs.Prelude.{◌≡◌, ◌<◌, ◌^◌, ℕ, Some, IfOk, length, map, slice_get, vec_len};
 ghost use Rattle.pgb_outside.specs.Links.{LinkState};
+ghost use Rattle.pgb_model.specs.ManifestText.{IsWalPart};
 ghost use Rattle.pgb_worker_dispatch.specs.Run.{IsReady};
 
-use pgb_backup::make;
+use pgb_backup::{Online, close_online, fetch, make, publish};
 use pgb_draft::{current_cluster, draft_of, next_second};
 use pgb_memory::{MemClock, MemDisk, named_bytes};
-use pgb_model::BackupInfo;
+use pgb_model::{BackupInfo, Lsn, SegSize, Segment, Span, WalPart};
 use pgb_outside::{Link, Node, Seen};
 use pgb_pair::load_pair;
 use pgb_plan::filter;
@@ -133,6 +134,76 @@ pub(crate) fn backed_up<L: Link>(
     let mut turns = MemTurns::new(Vec::new(alloc));
     let mut lost = Vec::new(alloc);
     match make(alloc, disk, links, &mut turns, &mut lost, clock, draft) {
+        Ok(()) => format!(in alloc; "made"),
+        Err(fault) => format!(in alloc; "{fault:?}"),
+    }
+}
+
+/// The part of the log of a backup of a running server.
+fn part_of_log() -> WalPart
+    ensures { IsWalPart result }
+{
+    let start = Segment {
+        timeline: 1,
+        log: 0,
+        seg: 2,
+    };
+    let stop = Segment {
+        timeline: 1,
+        log: 0,
+        seg: 3,
+    };
+    WalPart {
+        span: Span { start, stop },
+        from: Lsn(33554472),
+        to: Lsn(50331904),
+        size: SegSize(16777216),
+    }
+}
+
+/// What comes of a backup of a running server with these nodes, over these links, whose label file is this.
+pub(crate) fn backed_up_online<L: Link>(
+    alloc: Global,
+    disk: &mut MemDisk,
+    clock: &mut MemClock,
+    links: &mut Vec<L>,
+    nodes: &[(&str, Node)],
+    label_file: &str,
+) -> Result<String, AllocError>
+    requires few { vec_len links.old < 2 ^ 32 }
+    requires ready { (i : ℕ) (s : LinkState) → slice_get (map L.link_state links.old.items) i ≡ Some s → IsReady s }
+    requires short { length label_file.now < 2 ^ 32 }
+{
+    let seen = seen_of(alloc, nodes)?;
+    let listing = match filter(alloc, &seen, true) {
+        Ok(listing) => listing,
+        Err(fault) => return format!(in alloc; "{fault:?}"),
+    };
+    let list: BackupInfo = match load_pair(alloc, disk, INFO) {
+        Ok(list) => list,
+        Err(fault) => return format!(in alloc; "{fault:?}"),
+    };
+    let second = match next_second(alloc, disk, clock, "demo", &list) {
+        Ok(second) => second,
+        Err(fault) => return format!(in alloc; "{fault:?}"),
+    };
+    let cluster = current_cluster(&list);
+    let draft = draft_of(alloc, "demo", second, cluster, listing, list)?;
+    let mut turns = MemTurns::new(Vec::new(alloc));
+    let mut lost = Vec::new(alloc);
+    let fetched = match fetch(alloc, disk, links, &mut turns, &mut lost, draft) {
+        Ok(fetched) => fetched,
+        Err(fault) => return format!(in alloc; "{fault:?}"),
+    };
+    let online = Online {
+        wal: part_of_log(),
+        label_file: String::from_str(alloc, label_file)?,
+    };
+    let closed = match close_online(alloc, disk, clock, fetched, online) {
+        Ok(closed) => closed,
+        Err(fault) => return format!(in alloc; "{fault:?}"),
+    };
+    match publish(alloc, disk, closed) {
         Ok(()) => format!(in alloc; "made"),
         Err(fault) => format!(in alloc; "{fault:?}"),
     }

@@ -6,7 +6,7 @@ use pgb_manifest::load_manifest;
 use pgb_memory::{MemDisk, MemNode, MemTree};
 use pgb_model::Label;
 use pgb_outside::Tree;
-use pgb_restore::restore_plain;
+use pgb_restore::{Recovery, RestoreOptions, restore_files};
 use pgb_worker_links::MemTurns;
 use std::alloc::{AllocError, Global};
 
@@ -73,16 +73,32 @@ fn held_by(alloc: Global, tree: &mut MemTree) -> Result<String, AllocError> {
     Ok(text)
 }
 
+// How a restore is asked for, and what its worker reads of the data folder.
+#[derive(Clone, Copy)]
+struct Asked<'a> {
+    options: RestoreOptions<'a>,
+    files: &'a [(&'a str, &'a [u8])],
+}
+
+const PLAIN: Asked<'static> = Asked {
+    options: RestoreOptions {
+        delta: false,
+        recovery: Recovery::Nothing,
+    },
+    files: &[],
+};
+
 // What comes of a restore of the disk's backup into the folder.
 fn restored<T: Tree>(
     alloc: Global,
     disk: &mut MemDisk,
     tree: &mut T,
+    asked: &Asked<'_>,
     other: Option<(&str, Option<&[u8]>)>,
     fail: &[u64],
 ) -> Result<String, AllocError> {
     let names = names_of(alloc, disk, other)?;
-    let mut links = links_to(alloc, &[], &names, &[fail])?;
+    let mut links = links_to(alloc, asked.files, &names, &[fail])?;
     let label = Label {
         full: SECOND,
         later: None,
@@ -97,8 +113,16 @@ fn restored<T: Tree>(
     };
     let mut turns = MemTurns::new(Vec::new(alloc));
     let mut lost = Vec::new(alloc);
-    let ending = restore_plain(
-        alloc, "demo", &manifest, &seen, &mut links, &mut turns, tree, &mut lost,
+    let ending = restore_files(
+        alloc,
+        "demo",
+        &asked.options,
+        &manifest,
+        &seen,
+        &mut links,
+        &mut turns,
+        tree,
+        &mut lost,
     );
     match ending {
         Ok(()) => format!(in alloc; "restored"),
@@ -136,7 +160,10 @@ fn into_each_folder(rt: HostRuntime) {
     let mut disk = backed_up_well(&rt, alloc);
     for nodes in BEFORE {
         let mut tree = well(&rt, tree_of(alloc, nodes, &[]));
-        let ending = well(&rt, restored(alloc, &mut disk, &mut tree, None, &[]));
+        let ending = well(
+            &rt,
+            restored(alloc, &mut disk, &mut tree, &PLAIN, None, &[]),
+        );
         same(&rt, ending.as_str(), "restored");
         same(&rt, well(&rt, held_by(alloc, &mut tree)).as_str(), WHOLE);
         same(&rt, tree.misuses(), 0);
@@ -149,7 +176,10 @@ fn each_call_of_the_folder_fails(rt: HostRuntime) {
     let mut disk = backed_up_well(&rt, alloc);
     for number in 1u64..60 {
         let mut tree = well(&rt, tree_of(alloc, BEFORE[1], &[number]));
-        let ending = well(&rt, restored(alloc, &mut disk, &mut tree, None, &[]));
+        let ending = well(
+            &rt,
+            restored(alloc, &mut disk, &mut tree, &PLAIN, None, &[]),
+        );
         if tree.faults() == 0 {
             same(&rt, ending.as_str(), "restored");
             return;
@@ -180,9 +210,123 @@ fn endings(rt: HostRuntime) {
     for (stored, fail, want) in ENDINGS {
         let mut tree = well(&rt, tree_of(alloc, BEFORE[1], &[]));
         let other = Some((STORED, *stored));
-        let ending = well(&rt, restored(alloc, &mut disk, &mut tree, other, fail));
+        let ending = well(
+            &rt,
+            restored(alloc, &mut disk, &mut tree, &PLAIN, other, fail),
+        );
         assert!(&rt; ending.starts_with(*want), "found {ending}, want {want}");
         let has_control = tree.node("global/pg_control").is_some();
         same(&rt, has_control, *want == "restored");
     }
+}
+
+/// A folder with an equal file, one of equal size and other bytes, one of another size, and strangers.
+const OLDER: &[(&str, Option<&[u8]>)] = &[
+    ("PG_VERSION", Some(b"15\n")),
+    ("base", None),
+    ("base/1", None),
+    ("base/1/112", Some(b"hellp")),
+    ("base/1/113", Some(b"more")),
+    ("base/5", None),
+    ("base/5/x", Some(b"x")),
+    ("global", None),
+    ("global/pg_control", Some(b"head")),
+];
+
+/// Its files, as a worker reads them.
+const OLDER_FILES: &[(&str, &[u8])] = &[
+    ("PG_VERSION", b"15\n"),
+    ("base/1/112", b"hellp"),
+    ("base/1/113", b"more"),
+    ("base/5/x", b"x"),
+    ("global/pg_control", b"head"),
+];
+
+// The time of a file, or 2 where there is none.
+fn time_at(tree: &MemTree, path: &str) -> u64 {
+    match tree.node(path) {
+        Some(MemNode::File { time, .. }) => *time,
+        _ => 2,
+    }
+}
+
+#[test]
+fn delta_keeps_what_is_equal(rt: HostRuntime) {
+    let alloc = rt.alloc();
+    let mut disk = backed_up_well(&rt, alloc);
+    let asked = Asked {
+        options: RestoreOptions {
+            delta: true,
+            recovery: Recovery::Nothing,
+        },
+        files: OLDER_FILES,
+    };
+    let mut tree = well(&rt, tree_of(alloc, OLDER, &[]));
+    let ending = well(
+        &rt,
+        restored(alloc, &mut disk, &mut tree, &asked, None, &[]),
+    );
+    same(&rt, ending.as_str(), "restored");
+    same(&rt, well(&rt, held_by(alloc, &mut tree)).as_str(), WHOLE);
+    same(&rt, tree.misuses(), 0);
+    // A file that is written anew has time 0.
+    same(&rt, time_at(&tree, "PG_VERSION"), 1);
+    same(&rt, time_at(&tree, "base/1/112"), 0);
+    same(&rt, time_at(&tree, "global/pg_control"), 0);
+}
+
+#[test]
+fn delta_without_a_worker(rt: HostRuntime) {
+    let alloc = rt.alloc();
+    let mut disk = backed_up_well(&rt, alloc);
+    let asked = Asked {
+        options: RestoreOptions {
+            delta: true,
+            recovery: Recovery::Nothing,
+        },
+        files: OLDER_FILES,
+    };
+    let mut tree = well(&rt, tree_of(alloc, OLDER, &[]));
+    let ending = well(
+        &rt,
+        restored(alloc, &mut disk, &mut tree, &asked, None, &[0]),
+    );
+    same(&rt, ending.as_str(), "WorkersLost");
+    assert!(&rt; tree.node("global/pg_control").is_none());
+}
+
+const SETTINGS: &str = "# Recovery settings generated by pgBackRest restore
+restore_command = 'pgbackrest --stanza=demo archive-get %f \"%p\"'
+";
+
+#[test]
+fn settings_of_a_recovery(rt: HostRuntime) {
+    let alloc = rt.alloc();
+    let mut disk = backed_up_well(&rt, alloc);
+    let asked = Asked {
+        options: RestoreOptions {
+            delta: false,
+            recovery: Recovery::ToTheEnd {
+                fetch: b"pgbackrest --stanza=demo archive-get %f \"%p\"",
+            },
+        },
+        files: &[],
+    };
+    let mut tree = well(&rt, tree_of(alloc, BEFORE[0], &[]));
+    let ending = well(
+        &rt,
+        restored(alloc, &mut disk, &mut tree, &asked, None, &[]),
+    );
+    same(&rt, ending.as_str(), "restored");
+    match tree.node("postgresql.auto.conf") {
+        Some(MemNode::File { bytes, .. }) => {
+            assert!(&rt; bytes.as_slice() == SETTINGS.as_bytes());
+        }
+        _ => panic!(&rt; "the settings aren't there"),
+    }
+    match tree.node("recovery.signal") {
+        Some(MemNode::File { bytes, .. }) => same(&rt, bytes.len(), 0),
+        _ => panic!(&rt; "the signal isn't there"),
+    }
+    same(&rt, tree.misuses(), 0);
 }

@@ -100,13 +100,15 @@ fn backups_go_on_behind_a_stop(rt: HostRuntime) {
 // these calls fail: how a restore ends.
 type Restore<'a> = (&'a str, Option<&'a str>, Option<&'a [u8]>, &'a [u64], u8);
 
-const RESTORES: [Restore; 10] = [
+const RESTORES: [Restore; 12] = [
     ("", None, Some(b"16\n"), &[], 0),
     ("--set=20240102-030406F ", None, Some(b"16\n"), &[], 0),
     ("--process-max=3 ", None, Some(b"16\n"), &[], 0),
     ("--set=20240102-030405F ", None, Some(b"16\n"), &[], 61),
     ("--set=yesterday ", None, Some(b"16\n"), &[], 6),
     ("", Some("left"), Some(b"16\n"), &[], 62),
+    ("--delta ", Some("left"), Some(b"16\n"), &[], 62),
+    ("--delta ", Some("PG_VERSION"), Some(b"16\n"), &[], 0),
     ("", Some("postmaster.pid"), Some(b"16\n"), &[], 41),
     ("", None, Some(b"15\n"), &[], 63),
     ("", None, None, &[], 56),

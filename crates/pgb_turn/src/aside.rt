@@ -1,5 +1,5 @@
 // What other processes do to the repository and the spool while this one waits.
-ghost use Rattle.std.specs.Prelude.{◌≡◌, ◌≤◌, ◌+◌, ◌-◌, ◌^◌, ◌∷◌, ◌++◌, [], ℕ, List, Option, None, Err, IsErrOf, OnOk, OnErr, is_ok, min, map, option_map, string_bytes};
+ghost use Rattle.std.specs.Prelude.{◌≡◌, ◌≤◌, ◌+◌, ◌-◌, ◌^◌, ◌∷◌, ◌++◌, [], ℕ, List, Option, None, Err, IsErrOf, IsSome, OnOk, OnErr, is_ok, min, map, option_map, string_bytes};
 ghost use Rattle.pgb_outside.specs.States.{Frame};
 ghost use Rattle.pgb_outside.specs.Cause.{HasCause, Rises};
 ghost use Rattle.pgb_model.specs.Text.{Text};
@@ -42,6 +42,7 @@ pub trait Aside<D: Disk, S: Disk> {
             (λ stanza t. ChangesArchive stanza (D.state repo.old).view (D.state repo.new).view) }
         ensures spool_only { OnTurn (state self.old).account (state self.new).account
             (λ stanza t. ChangesArchive stanza (S.state spool.old).view (S.state spool.new).view) }
+        ensures spool_told { IsSome (S.state spool.old).view.now → IsSome (S.state spool.new).view.now }
         ensures repo_frame { Frame (D.state repo.old) (D.state repo.new) }
         ensures spool_frame { Frame (S.state spool.old) (S.state spool.new) }
         ensures started { (state self.new).started ≡ (state self.old).started }

@@ -202,6 +202,7 @@ fn mark<S: Disk>(
         → Crash (FirstOf ((receipt_name stanza.now (Whole segment.now), receipt_text bytes.now) ∷ []))
         (S.state spool.old).view (S.state spool.new).view }
     ensures untold { (S.state spool.old).view.now ≡ None → (S.state spool.new).view.now ≡ None }
+    ensures told { IsSome (S.state spool.old).view.now → IsSome (S.state spool.new).view.now }
     ensures whole { OnOk result
         (NowGoes (AllOf ((receipt_name stanza.now (Whole segment.now), receipt_text bytes.now) ∷ []))
         (S.state spool.old).view.now (S.state spool.new).view.now) }
@@ -245,6 +246,7 @@ fn end_turn<S: Disk>(
         (LeavesMarks stanza.now (marks_of stanza.now segment bytes.now (was_tried went) true)
         (S.state spool.old).view.now (S.state spool.new).view.now) }
     ensures fits { IsSegment segment }
+    ensures told { IsSome (S.state spool.old).view.now → IsSome (S.state spool.new).view.now }
     ensures only { ChangesArchive stanza.now (S.state spool.old).view (S.state spool.new).view }
     ensures frame { Frame (S.state spool.old) (S.state spool.new) }
     ensures cause { IfErr result (StopsBy went (Rises (S.state spool.old).faults (S.state spool.new).faults)) }

@@ -4,6 +4,7 @@
 ghost use Rattle.std.specs.Prelude.{◌≤◌, length, IfOk};
 
 mod help;
+mod telling;
 
 use help::asked_for;
 use pgb_adapters::{
@@ -16,6 +17,7 @@ use pgb_worker::serve;
 use std::io::ErrorKind;
 use std::process::ExitCode;
 use std::{env, io};
+use telling::{begin, end, telling_of};
 
 const NOT_UTF8: u8 = 13;
 
@@ -113,5 +115,9 @@ fn status_of(rt: HostRuntime, words: &[String]) -> io::Result<u8> {
         links: workers(rt, &program)?,
         turns: RoundRobin::new(),
     };
-    Ok(run(alloc, words, &mut outside))
+    let telling = telling_of(rt, words);
+    begin(telling, &mut outside);
+    let status = run(alloc, words, &mut outside);
+    end(rt, telling, &outside, status);
+    Ok(status)
 }

@@ -1,49 +1,23 @@
-use Rattle.std.proofs.Common.{◌≡◌, ◌∙◌, List, length, map, string_bytes, ap, sym, subst, arith}
-use Rattle.std.specs.Prelude.{All}
-use Rattle.std.proofs.lemmas.List.{length-map}
-use Rattle.pgb_worker_frame.specs.declared.frames.Job as rust
-use Rattle.pgb_worker_frame.specs.Frames.{FitsJob}
-use Rattle.pgb_worker_frame.specs.Views.{job_of}
-use Rattle.pgb_outside.specs.Content.{Name}
-use Rattle.pgb_worker_dispatch.specs.Payloads.{AllByFile}
-use Rattle.pgb_worker_dispatch.specs.Run.{AllDone}
-use Rattle.pgb_label.specs.declared.keeper.Ended.{Ended}
-use Rattle.pgb_label.specs.Keeping.{IsPlan, progress_of}
-use Rattle.pgb_label.specs.Keeper.{names_of, progress_in, stored_in}
-use Rattle.pgb_record.specs.Naming.{names_in}
-use Rattle.pgb_backup.specs.Stored.{AreNames, Stored}
-use Rattle.pgb_backup.proofs.Drafted.{few_jobs, all_fit, names_plan, names_same, stored_as}
+use Rattle.pgb_backup.specs.Draft.{stanza_of}
+use Rattle.pgb_backup.proofs.Besides.{fetched_beside}
+use Rattle.pgb_backup.proofs.Commits.{stays_stored}
+use Rattle.pgb_backup.proofs.Labels.{apart}
 use Rattle.pgb_backup.proofs.fetching.fetch.Goals as goal
 
-pub store-requires-clause-plan : goal.store-requires-clause-plan
-store-requires-clause-plan g c =
-    let are : AreNames c.args.draft.now (map string_bytes c.deref-4.result.now) = λ l p. ap (map string_bytes) c.deref-4.ensures.value ∙ c.in_ok-names.ensures l p ∙ ap (λ (f : Name). names_in f l) (c.deref.ensures ∙ c.in_ok-folder.ensures) in
-    subst (λ (f : Name). IsPlan f (map string_bytes c.deref-4.result.now)) (sym (c.deref-2.ensures ∙ c.in_ok-folder.ensures)) (names_plan c.args.draft.now c.requires.draft (map string_bytes c.deref-4.result.now) are)
+pub returns-clause-fetched : goal.returns-clause-fetched
+returns-clause-fetched g c = record { is_draft = c.requires.draft; come = c.in_ok-ends.ensures.stored.come }
 
-pub store-requires-clause-same : goal.store-requires-clause-same
-store-requires-clause-same g c =
-    let are : AreNames c.args.draft.now (map string_bytes c.deref-4.result.now) = λ l p. ap (map string_bytes) c.deref-4.ensures.value ∙ c.in_ok-names.ensures l p ∙ ap (λ (f : Name). names_in f l) (c.deref.ensures ∙ c.in_ok-folder.ensures) in
-    ap (λ (js : List rust.Job). length js) c.deref-3.ensures.value ∙ sym (length-map c.args.draft.now.plan.jobs.items job_of) ∙ names_same c.args.draft.now c.requires.draft (map string_bytes c.deref-4.result.now) are ∙ length-map c.deref-4.result.now string_bytes
+pub returns-clause-staged : goal.returns-clause-staged
+returns-clause-staged g c = record { sealed = c.in_ok-ends.ensures.sealed; stored = c.in_ok-ends.ensures.stored; label = tt }
 
-pub store-requires-clause-few_jobs : goal.store-requires-clause-few_jobs
-store-requires-clause-few_jobs g c =
-    let few = few_jobs c.args.draft.now c.requires.draft in
-    let count = length-map c.args.draft.now.plan.jobs.items job_of in
-    let same = ap (λ (js : List rust.Job). length js) c.deref-3.ensures.value in
-    omega (arith, few, count, same)
+pub returns-in_err-ends-clause-unlisted : goal.returns-in_err-ends-clause-unlisted
+returns-in_err-ends-clause-unlisted g c = stays_stored c.args.draft (apart c.args.draft c.requires.draft) _ _ (g.met.D.Disk.now_may_be_left c.args.d.now) c.gather.ensures.touches
 
-pub store-requires-clause-fits : goal.store-requires-clause-fits
-store-requires-clause-fits g c = subst (λ (js : List rust.Job). All (λ (j : rust.Job). FitsJob (job_of j)) js) (sym c.deref-3.ensures.value) (all_fit c.args.draft.now c.requires.draft)
+pub returns-clause-unlisted : goal.returns-clause-unlisted
+returns-clause-unlisted g c = stays_stored c.args.draft (apart c.args.draft c.requires.draft) _ _ (g.met.D.Disk.now_may_be_left c.args.d.now) c.gather.ensures.touches
 
-pub returns-clause-stored : goal.returns-clause-stored
-returns-clause-stored g c =
-    let k = c.in_ok-keep.keep in
-    let draft = c.args.draft.now in
-    let links = map g.L.Link.link_state c.args.links.now.items in
-    let now = (g.D.Disk.state c.store.new.d).view.now in
-    let are : AreNames draft (names_of k) = λ l p. c.in_ok-keep.ensures.names ∙ ap (map string_bytes) c.deref-4.ensures.value ∙ c.in_ok-names.ensures l p ∙ ap (λ (f : Name). names_in f l) (c.deref.ensures ∙ c.in_ok-folder.ensures) in
-    let count : length (names_of k) ≡ length (progress_in k) = omega (arith, k.same_states, k.states.ok, length-map k.states.items progress_of, length-map k.names.now string_bytes) in
-    let done = subst (λ (js : List rust.Job). AllDone (map job_of js) links (stored_in k now)) c.deref-3.ensures.value c.in_ok-keep.ensures.done in
-    let payload = subst (λ (js : List rust.Job). AllByFile (map job_of js) links (stored_in k now)) c.deref-3.ensures.value c.in_ok-keep.ensures.payload in
-    subst (λ (ends : List (List Ended)). Stored draft links ends now) (sym c.in_ok-into_ends.ensures)
-    (stored_as draft c.requires.draft (names_of k) are links (progress_in k) now count c.in_ok-keep.ensures.agrees done payload)
+pub returns-in_err-ends-clause-beside : goal.returns-in_err-ends-clause-beside
+returns-in_err-ends-clause-beside g c = fetched_beside (stanza_of c.args.draft) c.args.draft.label _ _ c.gather.ensures.touches
+
+pub returns-clause-beside : goal.returns-clause-beside
+returns-clause-beside g c = fetched_beside (stanza_of c.args.draft) c.args.draft.label _ _ c.gather.ensures.touches

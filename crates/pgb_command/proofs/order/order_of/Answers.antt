@@ -10,4 +10,4 @@ pub returns-in_err-get_order-in-ArchiveGet-clause-cause : goal.returns-in_err-ge
 returns-in_err-get_order-in-ArchiveGet-clause-cause c = get_refused (asked_of c.args.settings.now) c.in-ArchiveGet.name.now c.in-ArchiveGet.path.now (ap request_of c.in-ArchiveGet.is) c.from_residual-in_err-get_order-in-ArchiveGet.result c.in_err-get_order-in-ArchiveGet.field-0.0 c.from_residual-in_err-get_order-in-ArchiveGet.ensures.1 c.in_err-get_order-in-ArchiveGet.ensures.cause
 
 pub returns-in_err-recover_order-in-Restore-clause-cause : goal.returns-in_err-recover_order-in-Restore-clause-cause
-returns-in_err-recover_order-in-Restore-clause-cause c = restore_refused (asked_of c.args.settings.now) _ c.in-Restore.workers (ap request_of c.in-Restore.is) c.from_residual-in_err-recover_order-in-Restore.result c.in_err-recover_order-in-Restore.field-0.0 c.from_residual-in_err-recover_order-in-Restore.ensures.1 c.in_err-recover_order-in-Restore.ensures.cause
+returns-in_err-recover_order-in-Restore-clause-cause c = restore_refused (asked_of c.args.settings.now) _ _ (ap request_of c.in-Restore.is) c.from_residual-in_err-recover_order-in-Restore.result c.in_err-recover_order-in-Restore.field-0.0 c.from_residual-in_err-recover_order-in-Restore.ensures.1 c.in_err-recover_order-in-Restore.ensures.cause

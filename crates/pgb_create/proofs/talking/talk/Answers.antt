@@ -1,4 +1,5 @@
-use Rattle.pgb_create.proofs.Talks.{all_ok, open_told, ended_or, check_same, check_told, part_told}
+use Rattle.pgb_server.proofs.Ends.{ended_or}
+use Rattle.pgb_create.proofs.Talks.{all_ok, open_told, check_same, check_told, part_told}
 use Rattle.pgb_create.proofs.talking.talk.Goals as goal
 
 pub returns-in-Err-clause-told : goal.returns-in-Err-clause-told

@@ -1,13 +1,27 @@
-use Rattle.std.proofs.Common.{map, take}
+use Rattle.std.proofs.Common.{◌≡◌, ◌∙◌, subst, map, take}
+use Rattle.std.specs.Prelude.{IfSome}
 use Rattle.std.proofs.lemmas.Result.{on_ok_weaker}
+use Rattle.pgb_model.specs.Restored.{Recovery}
 use Rattle.pgb_model.specs.Values.{manifest_of}
+use Rattle.pgb_restore.specs.Options.{Options, recovery_of}
+use Rattle.pgb_restore.specs.Finished.{IsFinished}
+use Rattle.pgb_recover.specs.Fetching.{recovery_type, recovery_by, options_by}
+use Rattle.pgb_recover.proofs.Fetch.{recovery_is}
 use Rattle.pgb_recover.proofs.Links.{finished_used}
 use Rattle.pgb_recover.proofs.filling.fill.Goals as goal
 
 pub returns-clause-finished : goal.returns-clause-finished
 returns-clause-finished g c =
+    let stanza = c.args.stanza.now in
+    let delta = c.args.order.now.delta in
+    let kind = recovery_type c.args.order.now.recovery in
+    let m = manifest_of c.args.manifest.now in
     let used = take c.args.order.now.workers (map g.L.Link.link_state c.args.links.now.items) in
     let now = map g.L.Link.link_state c.start_workers.new.links.items in
+    let old = (g.T.Tree.state c.args.tree.now).nodes in
+    let new = (g.T.Tree.state c.put_files.new.tree).nodes in
+    let is : recovery_of c.recovery_by.result ≡ recovery_by stanza kind = c.recovery_by.ensures ∙ recovery_is stanza kind c.deref.result.now (c.deref.ensures.value ∙ c.in-Ok.ensures) in
     on_ok_weaker c.put_files.result
-    (finished_used c.args.stanza.now used now c.start_workers.new.lost.items (manifest_of c.args.manifest.now) (g.T.Tree.state c.put_files.new.tree).nodes c.in_ok-start_workers.ensures.left)
+    (λ done. finished_used stanza used now c.start_workers.new.lost.items (options_by stanza delta kind) m old new c.in_ok-start_workers.ensures.left
+    (subst (λ (r : Recovery). let o : Options = (record { delta = delta; recovery = r }) in IfSome new (IsFinished stanza now o m old)) is done))
     c.put_files.ensures.finished

@@ -1,11 +1,15 @@
-use Rattle.std.proofs.Common.{map, take, string_bytes}
+use Rattle.std.proofs.Common.{map, take, string_bytes, subst, Option}
+use Rattle.std.specs.Prelude.{IfSome}
 use Rattle.pgb_outside.specs.Cause.{Rises}
+use Rattle.pgb_outside.specs.Tree.{Nodes}
 use Rattle.pgb_model.specs.Values.{backup_info_of, manifest_of}
+use Rattle.pgb_restore.specs.Finished.{IsFinished}
 use Rattle.pgb_stage.specs.declared.object.Object.TheVariants.{DataFolder}
 use Rattle.pgb_stage.specs.Halts.{HaltCause, Only}
 use Rattle.pgb_stage.specs.Risen.{none, rose_in}
 use Rattle.pgb_recover.specs.Causes.{RecoverCause}
 use Rattle.pgb_recover.specs.Choosing.{IsChosen}
+use Rattle.pgb_recover.specs.Fetching.{recovery_type, options_by}
 use Rattle.pgb_recover.specs.Filling.{FillCause}
 use Rattle.pgb_recover.specs.Restoring.{Before, Chooses, Recovers}
 use Rattle.pgb_recover.proofs.Causing.{on_list, fill_recovers, folder_fails, rises_from}
@@ -18,7 +22,7 @@ returns-in_err-fill-clause-cause g c =
     let stanza = c.args.stanza.now in
     let set = c.args.order.now.set in
     let repo = (g.D.Disk.state c.args.repo.now).view.now in
-    let b : Before = record { stanza = stanza; set = set; repo = repo; nodes = (g.T.Tree.state c.args.tree.now).nodes; used = take c.args.order.now.workers (map g.L.Link.link_state c.args.links.now.items) } in
+    let b : Before = record { stanza = stanza; set = set; repo = repo; nodes = (g.T.Tree.state c.args.tree.now).nodes; used = take c.args.order.now.workers (map g.L.Link.link_state c.args.links.now.items); options = options_by stanza c.args.order.now.delta (recovery_type c.args.order.now.recovery) } in
     let label = c.in_ok-label.label in
     let m = manifest_of c.in_ok-manifest.manifest in
     let first = (g.T.Tree.state c.args.tree.now).faults in
@@ -30,7 +34,7 @@ returns-in_err-fill-clause-cause g c =
     let chosen : Chooses b label = on_list stanza repo (backup_info_of c.args.backup.now) c.requires.backup.0 (λ v. IsChosen set v label) c.in_ok-label.ensures.chosen in
     ends_with (HaltCause (RecoverCause b) rose) c.from_residual-in_err-fill.result halt c.from_residual-in_err-fill.ensures.1
     (halt_as (FillCause stanza m b.used) (RecoverCause b) (Only DataFolder (Rises old new)) rose
-    (fill_recovers b label chosen c.in_ok-seen.ensures.empty m c.in_ok-manifest.ensures.found)
+    (fill_recovers b label chosen c.in_ok-seen.ensures.open m c.in_ok-manifest.ensures.found)
     (folder_fails repo_rose (Rises first new) (Rises old new) (rises_from first old new c.in_ok-seen.ensures.looks.later))
     halt c.in_err-fill.ensures.cause)
 
@@ -39,16 +43,16 @@ returns-clause-given g c = λ s f told now.
     let stanza = c.args.stanza.now in
     let set = c.args.order.now.set in
     let repo = (g.D.Disk.state c.args.repo.now).view.now in
-    let b : Before = record { stanza = stanza; set = set; repo = repo; nodes = (g.T.Tree.state c.args.tree.now).nodes; used = take c.args.order.now.workers (map g.L.Link.link_state c.args.links.now.items) } in
+    let b : Before = record { stanza = stanza; set = set; repo = repo; nodes = (g.T.Tree.state c.args.tree.now).nodes; used = take c.args.order.now.workers (map g.L.Link.link_state c.args.links.now.items); options = options_by stanza c.args.order.now.delta (recovery_type c.args.order.now.recovery) } in
     let label = c.in_ok-label.label in
     let nodes = (g.T.Tree.state c.fill.new.tree).nodes in
     let recovers : Recovers b nodes (string_bytes c.in-Ok.lines) = record {
       label = label;
       line = c.in-Ok.ensures;
       chosen = on_list stanza repo (backup_info_of c.args.backup.now) c.requires.backup.0 (λ v. IsChosen set v label) c.in_ok-label.ensures.chosen;
-      empty = c.in_ok-seen.ensures.empty;
+      open_before = c.in_ok-seen.ensures.open;
       manifest = manifest_of c.in_ok-manifest.manifest;
       has = c.in_ok-manifest.ensures.found;
-      finished = c.in_ok-fill.ensures.finished;
+      finished = subst (λ (x : Option Nodes). IfSome nodes (IsFinished stanza b.used b.options (manifest_of c.in_ok-manifest.manifest) x)) c.in_ok-seen.ensures.looks.nodes c.in_ok-fill.ensures.finished;
     } in
     gives_backup b nodes (string_bytes c.in-Ok.lines) recovers s f told now

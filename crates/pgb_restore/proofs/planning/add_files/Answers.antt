@@ -1,31 +1,52 @@
-use Rattle.std.proofs.Common.{◌≡◌, ◌+◌, ◌∙◌, ◌++◌, ◌∷◌, [], sym, ap, map, take}
-use Rattle.std.proofs.lemmas.List.{map-append}
-use Rattle.pgb_model.specs.Values.{FileEntry, file_entry_of}
+use Rattle.std.proofs.Common.{◌≡◌, ◌+◌, ◌∙◌, ◌++◌, ◌∷◌, [], sym, ap, map, take, Bool, List, arith}
+use Rattle.std.proofs.lemmas.List.{length-map}
+use Rattle.pgb_model.specs.Values.{file_entry_of}
 use Rattle.pgb_worker_frame.specs.Views.{job_of}
 use Rattle.pgb_clear.proofs.Bare.{in_at}
-use Rattle.pgb_clear.proofs.Paths.{take_more}
+use Rattle.pgb_clear.proofs.Paths.{take_whole}
+use Rattle.pgb_fill.proofs.Listing.{got, map_get}
 use Rattle.pgb_source.specs.Sources.{reading}
-use Rattle.pgb_restore.specs.Entries.{reads_of, want_of, want_in}
-use Rattle.pgb_restore.proofs.ReadJobs.{planned_more}
+use Rattle.pgb_restore.specs.Options.{recovery_of}
+use Rattle.pgb_restore.specs.Kept.{mark_at, marked}
+use Rattle.pgb_restore.specs.Entries.{read_one, reads_of, want_of, want_in}
+use Rattle.pgb_restore.proofs.ReadEntries.{marked_more, marked_long}
+use Rattle.pgb_restore.proofs.ReadJobs.{Marked, planned_more}
 use Rattle.pgb_restore.proofs.planning.add_files.Goals as goal
 
 pub add_file-requires-clause-entry : goal.add_file-requires-clause-entry
-add_file-requires-clause-entry c = c.requires.entries (file_entry_of c.file-item.result) (in_at file_entry_of c.args.files.now c.loop-file.file-index c.file-item.result c.loop-file-test.true c.file-item.is)
+add_file-requires-clause-entry c = c.requires.entries (file_entry_of c.index-files-place.result) (in_at file_entry_of c.args.files.now c.loop-place.place c.index-files-place.result c.loop-place-test.true c.index-files-place.is)
 
-pub loop-file-preserved : goal.loop-file-preserved
-loop-file-preserved c =
-    let n = c.loop-file.file-index in
+pub loop-place-preserved : goal.loop-place-preserved
+loop-place-preserved c =
+    let n = c.loop-place.place in
     let fs = c.args.files.now in
-    let f = c.file-item.result in
-    let es = map file_entry_of (take n fs) in
+    let marks = c.args.marks.now in
+    let e = file_entry_of c.index-files-place.result in
+    let es = map file_entry_of fs in
+    let r = recovery_of c.args.recovery.now in
     let read = reading c.args.stanza.now c.args.own.now in
-    let list : map file_entry_of (take (n + 1) fs) ≡ es ++ file_entry_of f ∷ [] = ap (map file_entry_of) (take_more fs n f c.loop-file-test.true c.file-item.is) ∙ map-append file_entry_of (take n fs) (f ∷ []) in
+    let list : take (n + 1) (marked es marks) ≡ take n (marked es marks) ++ (e, mark_at marks n) ∷ [] = marked_more es marks n e (map_get file_entry_of fs n c.index-files-place.result (got fs n c.index-files-place.result c.loop-place-test.true c.index-files-place.is)) in
+    let kept : c.mark_at-kept.result ≡ mark_at marks n = c.mark_at-kept.ensures in
     let start = c.args.planned.now in
-    let now = c.loop-file.planned in
+    let now = c.loop-place.planned in
     let new = c.add_file.new.planned in
     record {
-      jobs = planned_more read (map job_of start.jobs.items) (map job_of now.jobs.items) (map job_of new.jobs.items) es (file_entry_of f) c.loop-file.invariant.jobs c.in_ok-add_file.ensures.jobs
-          ∙ ap (λ l. map job_of start.jobs.items ++ map read (reads_of l)) (sym list);
-      wanted = planned_more want_of (map want_in start.wanted.items) (map want_in now.wanted.items) (map want_in new.wanted.items) es (file_entry_of f) c.loop-file.invariant.wanted c.in_ok-add_file.ensures.wanted
-          ∙ ap (λ l. map want_in start.wanted.items ++ map want_of (reads_of l)) (sym list);
+      jobs = planned_more r read (map job_of start.jobs.items) (map job_of now.jobs.items) (map job_of new.jobs.items) (take n (marked es marks)) (e, mark_at marks n) c.loop-place.invariant.jobs (c.in_ok-add_file.ensures.jobs ∙ ap (λ (b : Bool). map job_of now.jobs.items ++ map read (read_one r (e, b))) kept)
+          ∙ ap (λ (l : List Marked). map job_of start.jobs.items ++ map read (reads_of r l)) (sym list);
+      wanted = planned_more r want_of (map want_in start.wanted.items) (map want_in now.wanted.items) (map want_in new.wanted.items) (take n (marked es marks)) (e, mark_at marks n) c.loop-place.invariant.wanted (c.in_ok-add_file.ensures.wanted ∙ ap (λ (b : Bool). map want_in now.wanted.items ++ map want_of (read_one r (e, b))) kept)
+          ∙ ap (λ (l : List Marked). map want_in start.wanted.items ++ map want_of (reads_of r l)) (sym list);
     }
+
+pub returns-clause-jobs : goal.returns-clause-jobs
+returns-clause-jobs c =
+    let es = map file_entry_of c.args.files.now in
+    let marks = c.args.marks.now in
+    c.loop-place.invariant.jobs
+    ∙ ap (λ (l : List Marked). map job_of c.args.planned.now.jobs.items ++ map (reading c.args.stanza.now c.args.own.now) (reads_of (recovery_of c.args.recovery.now) l)) (take_whole (marked es marks) c.loop-place.place (marked_long es marks ∙ length-map c.args.files.now file_entry_of ∙ (omega (arith, c.loop-place-test.false, c.loop-place.auto.place-end))))
+
+pub returns-clause-wanted : goal.returns-clause-wanted
+returns-clause-wanted c =
+    let es = map file_entry_of c.args.files.now in
+    let marks = c.args.marks.now in
+    c.loop-place.invariant.wanted
+    ∙ ap (λ (l : List Marked). map want_in c.args.planned.now.wanted.items ++ map want_of (reads_of (recovery_of c.args.recovery.now) l)) (take_whole (marked es marks) c.loop-place.place (marked_long es marks ∙ length-map c.args.files.now file_entry_of ∙ (omega (arith, c.loop-place-test.false, c.loop-place.auto.place-end))))

@@ -4,6 +4,8 @@ use Rattle.pgb_outside.specs.Tree.{Nodes}
 use Rattle.pgb_model.specs.Text.{In}
 use Rattle.pgb_model.specs.Values.{FileEntry, file_entry_of, manifest_of}
 use Rattle.pgb_clear.specs.Clearing.{seen_of}
+use Rattle.pgb_restore.specs.Options.{options_of}
+use Rattle.pgb_restore.specs.Kept.{marked}
 use Rattle.pgb_restore.specs.Entries.{reads_of, Fills}
 use Rattle.pgb_restore.proofs.Rebuilt.{rebuilt}
 use Rattle.pgb_restore.proofs.rebuilding.rebuild.Goals as goal
@@ -13,14 +15,15 @@ fill-requires-clause-entries g c = λ e i.
     let m = manifest_of c.args.manifest.now in
     (m.folders, c.requires.rules.files e (subst (λ (es : List FileEntry). In e es) (ap (map file_entry_of) c.deref.ensures.value) i))
 
-pub returns-clause-plain : goal.returns-clause-plain
-returns-clause-plain g c =
+pub returns-clause-rebuilds : goal.returns-clause-rebuilds
+returns-clause-rebuilds g c =
     let m = manifest_of c.args.manifest.now in
+    let o = options_of c.args.options.now in
     let links = map g.L.Link.link_state c.args.links.now.items in
     let old = (g.T.Tree.state c.args.tree.now).nodes in
     let mid = (g.T.Tree.state c.prepare.new.tree).nodes in
     let new = (g.T.Tree.state c.fill.new.tree).nodes in
     on_ok_weaker c.fill.result
-    (λ fills. rebuilt c.args.stanza.now links m c.requires.rules (map seen_of c.args.seen.now) old mid new c.requires.seen c.in_ok-prepare.ensures.ready
-    (subst (λ (es : List FileEntry). Fills c.args.stanza.now m.label links (reads_of es) mid new) (ap (map file_entry_of) c.deref.ensures.value) fills))
+    (λ fills. rebuilt c.args.stanza.now links o m c.args.marks.now c.requires.rules (map seen_of c.args.seen.now) old mid new c.requires.seen c.in_ok-prepare.ensures.ready
+    (subst (λ (es : List FileEntry). Fills c.args.stanza.now m.label links (reads_of o.recovery (marked es c.args.marks.now)) mid new) (ap (map file_entry_of) c.deref.ensures.value) fills))
     c.fill.ensures.fills

@@ -10,9 +10,9 @@ use Rattle.pgb_restore.proofs.Finished.{finished_none, put_finishes, on_ok_three
 use Rattle.pgb_restore.proofs.restoring.put_last.Goals as goal
 
 pub returns-in-None-clause-finishes : goal.returns-in-None-clause-finishes
-returns-in-None-clause-finishes g c = λ first before after left plain.
+returns-in-None-clause-finishes g c = λ o marks first before after start left plain.
     let m = manifest_of c.args.manifest.now in
-    finished_none c.args.stanza.now first m c.requires.rules
+    finished_none c.args.stanza.now first o m marks start c.requires.rules
     (subst (λ (l : List rust_file.FileEntry). (e : FileEntry) → In e (map file_entry_of l) → e.path ≢ control_path) c.deref.ensures.value c.in-None.ensures.none)
     (g.T.Tree.state c.args.tree.now).nodes plain
 
@@ -31,8 +31,8 @@ returns-in-Some-clause-finishes g c =
     let e = file_entry_of c.in-Some.file.now in
     let listed = subst (λ (l : List rust_file.FileEntry). In (file_entry_of c.in-Some.file.now) (map file_entry_of l)) c.deref.ensures.value c.in-Some.ensures.some.0 in
     on_ok_three c.put_control.result _ _ _ _
-    (λ put waiting clean. λ first before after left plain.
-    put_finishes c.args.stanza.now first m c.requires.rules e listed c.in-Some.ensures.some.1 o r (some_before c.args.stanza.now first now before after m r left e control_path put) waiting clean c.put_control.ensures.others plain)
+    (λ put waiting clean. λ options marks first before after start left plain.
+    put_finishes c.args.stanza.now first options m marks start c.requires.rules e listed c.in-Some.ensures.some.1 o r (some_before c.args.stanza.now first now before after m r left e control_path put) waiting clean c.put_control.ensures.others plain)
     c.put_control.ensures.put c.put_control.ensures.waiting c.put_control.ensures.clean
 
 pub returns-in-Some-clause-fault : goal.returns-in-Some-clause-fault

@@ -2,7 +2,8 @@ use Rattle.std.proofs.Common.{◌≡◌, ◌∙◌, sym, map, None}
 use Rattle.pgb_outside.specs.Tree.{with_node}
 use Rattle.pgb_clear.specs.Clearing.{control_path, seen_of}
 use Rattle.pgb_restore.specs.Listed.{is_control_node}
-use Rattle.pgb_restore.proofs.Finished.{on_removed, listed_but, listed_none, none_there, any_map}
+use Rattle.pgb_restore.proofs.Finished.{on_removed, but_control, listed_but, listed_none, none_there, any_map}
+use Rattle.pgb_restore.proofs.HeldRead.{on_ok}
 use Rattle.pgb_restore.proofs.restoring.remove_control.Goals as goal
 
 pub returns-then-has_control-clause-listed : goal.returns-then-has_control-clause-listed
@@ -14,3 +15,6 @@ returns-clause-listed g c = listed_none (map seen_of c.args.seen.now) (g.T.Tree.
 
 pub returns-clause-none : goal.returns-clause-none
 returns-clause-none g c = none_there (map seen_of c.args.seen.now) (g.T.Tree.state c.args.tree.now).nodes (any_map is_control_node seen_of c.args.seen.now ∙ sym c.has_control.ensures ∙ c.if-has_control.false) c.requires.seen
+
+pub returns-then-has_control-clause-others : goal.returns-then-has_control-clause-others
+returns-then-has_control-clause-others g c = on_ok c.remove.result _ (but_control c.remove.result (g.T.Tree.state c.args.tree.now).nodes (g.T.Tree.state c.remove.new.self).nodes c.remove.ensures.nodes)

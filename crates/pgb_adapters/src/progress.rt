@@ -1,0 +1,75 @@
+// How far the program is, for a person to read on standard error.
+use std::time::Instant;
+
+// How many seconds there are between two lines.
+const BETWEEN: u64 = 10;
+
+const MIB: u128 = 1_048_576;
+
+/// Counts the bytes that an object has written, and tells them now and then where it is asked to.
+#[derive(Drop)]
+pub struct Progress {
+    rt: HostRuntime,
+    is_told: bool,
+    bytes: u64,
+    // when the first bytes were counted, and when they were told last
+    began: Option<Instant>,
+    told: Option<Instant>,
+}
+
+impl Progress {
+    pub fn new(rt: HostRuntime) -> Self {
+        Progress {
+            rt,
+            is_told: false,
+            bytes: 0,
+            began: None,
+            told: None,
+        }
+    }
+
+    /// From now on it is told how far it is.
+    pub fn tell(&mut self) {
+        self.is_told = true;
+    }
+
+    /// Counts bytes that were written, and tells the sum every ten seconds.
+    pub fn add(&mut self, count: usize) {
+        self.bytes = self.bytes.saturating_add(count as u64);
+        if self.is_told {
+            self.tell_in_time();
+        }
+    }
+
+    fn tell_in_time(&mut self) {
+        let Ok(now) = Instant::now(&self.rt) else {
+            return;
+        };
+        if self.began.is_none() {
+            self.began = Some(now);
+        }
+        let last = self.told.or(self.began).unwrap_or(now);
+        if now.duration_since(last).as_secs() >= BETWEEN {
+            self.told = Some(now);
+            self.show(now);
+        }
+    }
+
+    /// Tells the sum at the end, and how fast it came.
+    pub fn end(&self) {
+        if let Ok(now) = Instant::now(&self.rt) {
+            if self.is_told {
+                self.show(now);
+            }
+        }
+    }
+
+    // A person who doesn't read it misses nothing else.
+    fn show(&self, now: Instant) {
+        let bytes = self.bytes;
+        let took = now.duration_since(self.began.unwrap_or(now)).as_millis();
+        let speed = u128::from(bytes) * 1000 / MIB / took.max(1);
+        let seconds = took / 1000;
+        let _ = eprintln!(self.rt; "INFO: {bytes} bytes written in {seconds} s, {speed} MiB/s");
+    }
+}

@@ -1,0 +1,85 @@
+-- Turns one after another, as the repository goes by them.
+use Rattle.std.proofs.Common.{◌≡◌, List, [], ◌∷◌, ◌++◌, Some, None, refl, sym, ap, ◌∙◌, subst, Bool, true, false}
+use Rattle.std.specs.Prelude.{Option, IsSome, ◌&&◌}
+use Rattle.std.proofs.Math.Bool.{and-true}
+use Rattle.pgb_outside.specs.Content.{Content}
+use Rattle.pgb_outside.specs.Moments.{View, Rests}
+use Rattle.pgb_model.specs.Text.{Text}
+use Rattle.pgb_model.specs.Repository.{Repository}
+use Rattle.pgb_model.specs.Steps.{Turn, ArchivePushAsync, all_of, steps_of}
+use Rattle.pgb_model.specs.Log.{Done, StandsAfter}
+use Rattle.pgb_model.specs.Now.{NowStands, NowDoes}
+use Rattle.pgb_model.specs.Steady.{CarriesOn}
+use Rattle.pgb_model.proofs.Logged.{rests_still, rests_between}
+use Rattle.pgb_model.proofs.Waited.{turns_carry, turns_pass}
+use Rattle.pgb_stored.specs.Stored.{ChangesArchive}
+use Rattle.pgb_turn.specs.Turns.{GoesByTurn}
+use Rattle.pgb_await.specs.Went.{all_ended, GoesByTurns}
+use Rattle.pgb_await.proofs.Moves.{turns_do}
+
+-- ---- no turn
+
+pub no_moves : (r : Repository) → steps_of (ArchivePushAsync []) r ≡ []
+no_moves None = refl
+no_moves (Some s) = refl
+
+pub still_goes : (stanza : Text) (a b : View) → Rests a b → b.now ≡ a.now → GoesByTurns stanza [] a b
+still_goes stanza a b rests same = record {
+  does = record {
+    told = λ some. subst (λ (o : Option Content). IsSome o) (sym same) some;
+    does = λ r some now. ([], sym (ap all_of (no_moves r)), subst (λ (o : Option Content). NowStands stanza r o) (sym same) now);
+  };
+  carries = record {
+    keeps = λ q log some keeps.
+        let k = rests_still stanza q log a b rests same keeps in
+        record { fixed = k.fixed; places = k.places; stands = λ f leaves. one_more q log f (k.stands f leaves) };
+  };
+  between = record { between = λ q log some keeps. rests_between stanza (ArchivePushAsync []) q log a b rests same keeps };
+}
+  where
+    one_more : (q : Repository) (log : List Done) (f : Content) → StandsAfter stanza q log f →
+        StandsAfter stanza q (record { command = ArchivePushAsync []; acknowledged = true } ∷ log) f
+    one_more q log f x = record {
+      repository = x.repository;
+      reached = (x.repository, x.reached, ([], refl, sym (ap all_of (no_moves x.repository))));
+      sound = x.sound;
+      stands = x.stands;
+    }
+
+-- ---- one turn
+
+pub one_goes : (stanza : Text) (t : Turn) (a b : View) → GoesByTurn stanza t a b → GoesByTurns stanza (t ∷ []) a b
+one_goes stanza t a b goes = record {
+  does = subst (λ (w : Bool). NowDoes stanza (ArchivePushAsync (t ∷ [])) w a.now b.now) (sym (and-true t.ended)) goes.does;
+  carries = subst (λ (w : Bool). CarriesOn stanza (ArchivePushAsync (t ∷ [])) w a b) (sym (and-true t.ended)) goes.carries;
+  between = goes.between;
+}
+
+-- ---- turns, and then more of them
+
+pub ended_on : (ts us : List Turn) → all_ended ts ≡ true → all_ended us ≡ all_ended (ts ++ us)
+ended_on [] us e = refl
+ended_on (t ∷ ts) us e = by t.ended (all_ended ts) (all_ended us) (all_ended (ts ++ us)) (ended_on ts us) e
+  where
+    by : (w x y z : Bool) → (x ≡ true → y ≡ z) → (w && x) ≡ true → y ≡ (w && z)
+    by true x y z on h = on h
+    by false x y z on h = cc
+
+module _ (stanza : Text) (ts us : List Turn) (a b c : View) (ended : all_ended ts ≡ true) where
+  pub goes_behind : GoesByTurns stanza ts a b → GoesByTurns stanza us b c → ChangesArchive stanza b c →
+      GoesByTurns stanza (ts ++ us) a c
+  goes_behind p q only =
+      let does = subst (λ (w : Bool). NowDoes stanza (ArchivePushAsync ts) w a.now b.now) ended p.does in
+      let carries = subst (λ (w : Bool). CarriesOn stanza (ArchivePushAsync ts) w a b) ended p.carries in
+      let told : IsSome a.now → IsSome b.now = p.does.told in
+      record {
+        does = subst (λ (w : Bool). NowDoes stanza (ArchivePushAsync (ts ++ us)) w a.now c.now) (ended_on ts us ended)
+            (turns_do stanza ts us (all_ended us) a.now b.now c.now does q.does);
+        carries = subst (λ (w : Bool). CarriesOn stanza (ArchivePushAsync (ts ++ us)) w a c) (ended_on ts us ended)
+            (turns_carry stanza ts us (all_ended us) a b c told carries q.carries);
+        between = turns_pass stanza ts us a b c told only.time.later only.time.same only.time.same_loose carries
+            p.between q.between;
+      }
+
+  pub both_ended : all_ended us ≡ true → all_ended (ts ++ us) ≡ true
+  both_ended e = sym (ended_on ts us ended) ∙ e

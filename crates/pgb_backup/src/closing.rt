@@ -1,0 +1,119 @@
+// A backup stops.
+ghost use Rattle.std.specs.Prelude.{◌≡◌, ◌≤◌, List, None, Some, IfOk, IfErr, OnOk, option_map};
+ghost use Rattle.pgb_outside.specs.Content.{SameBut, at};
+ghost use Rattle.pgb_outside.specs.Links.{LinkState};
+ghost use Rattle.pgb_outside.specs.Moments.{Goes};
+ghost use Rattle.pgb_outside.specs.States.{Frame, last_second};
+ghost use Rattle.pgb_label.specs.Relation.{Touches};
+ghost use Rattle.pgb_label.specs.Sealed.{IsSealedAt};
+ghost use Rattle.pgb_story.specs.Beside.{StaysBeside};
+ghost use Rattle.pgb_backup.specs.Draft.{IsDraft, IsFree, is_own_of, label_name};
+ghost use Rattle.pgb_backup.specs.Faults.{CloseFails, StopFails, WriteFails};
+ghost use Rattle.pgb_backup.specs.Made.{LeavesList};
+ghost use Rattle.pgb_backup.specs.Online.{IsOnline, online_of};
+ghost use Rattle.pgb_backup.specs.Staged.{IsClosed, IsClosedOf, IsFetched, IsStaged, fetched_draft, fetched_ends};
+
+use crate::draft::Draft;
+use crate::fault::MakeFault;
+use crate::fetching::{Fetched, folder_name};
+use crate::online::Online;
+use pgb_label::store_file;
+use pgb_outside::{Clock, Disk, Stop};
+use std::alloc::Global;
+
+/// A backup that has stopped, and isn't listed yet: all that its files hold lies in the folder of its label.
+#[derive(Drop)]
+pub struct Closed<'a> {
+    pub(crate) fetched: Fetched<'a>,
+    pub(crate) stop: u64,
+    pub(crate) online: Option<Online>,
+}
+
+// The second in which the backup stops.
+fn stop_of<C: Clock>(clock: &mut C) -> Result<u64, MakeFault>
+    ensures within { IfOk result (λ now. now ≤ last_second) }
+    ensures later { (C.state clock.old).faults ≤ (C.state clock.new).faults }
+    ensures fault { IfErr result (λ e. StopFails e (C.state clock.old).faults (C.state clock.new).faults) }
+{
+    match clock.now() {
+        Err(Stop::Failed) => Err(MakeFault::Clock),
+        Err(Stop::NoMemory) => Err(MakeFault::NoMemory),
+        Ok(now) => Ok(now),
+    }
+}
+
+/// The backup of a stopped server, whose jobs are done, stops now.
+pub fn close<'a, C: Clock>(clock: &mut C, fetched: Fetched<'a>) -> Result<Closed<'a>, MakeFault>
+    requires { IsFetched fetched }
+    ensures closed { IfOk result IsClosed }
+    ensures of { IfOk result (IsClosedOf fetched.entry None) }
+    ensures later { (C.state clock.old).faults ≤ (C.state clock.new).faults }
+    ensures fault { IfErr result (λ e. StopFails e (C.state clock.old).faults (C.state clock.new).faults) }
+{
+    let stop = stop_of(clock)?;
+    Ok(Closed {
+        fetched,
+        stop,
+        online: None,
+    })
+}
+
+// Stores the label file in the folder of the draft's label, to last.
+fn store_label<D: Disk>(
+    alloc: Global,
+    d: &mut D,
+    draft: &Draft<'_>,
+    text: &str,
+) -> Result<(), MakeFault>
+    requires draft { IsDraft draft.now }
+    requires free { IsFree draft.now }
+    ensures touches { Touches (is_own_of draft.now) (D.state d.old).view (D.state d.new).view }
+    ensures value { OnOk result (at (label_name draft.now) (D.state d.new).view.now
+        ≡ option_map (λ _. Some text.now) (D.state d.old).view.now) }
+    ensures others { SameBut (label_name draft.now) (D.state d.old).view.now (D.state d.new).view.now }
+    ensures time { Goes (λ n _. n ≡ label_name draft.now) (λ n. n ≡ label_name draft.now)
+        (D.state d.old).view (D.state d.new).view }
+    ensures sealed { OnOk result (IsSealedAt (label_name draft.now) (D.state d.new).view) }
+    ensures frame { Frame (D.state d.old) (D.state d.new) }
+    ensures fault { IfErr result (λ e. WriteFails e (D.state d.old).faults (D.state d.new).faults) }
+{
+    let folder = folder_name(alloc, draft.stanza, &draft.label)?;
+    let folder = format!(in alloc; "{folder}/pg_data")?;
+    let name = format!(in alloc; "{folder}/backup_label")?;
+    store_file(d, &folder, &name, text.as_bytes())?;
+    Ok(())
+}
+
+/// The backup of a running server, whose jobs are done and which the server stopped, stops now. The server's label file is
+/// stored among its files, to last. The stanza's list stays as it is, in what a stop leaves too.
+pub fn close_online<'a, D: Disk, C: Clock>(
+    alloc: Global,
+    d: &mut D,
+    clock: &mut C,
+    fetched: Fetched<'a>,
+    online: Online,
+) -> Result<Closed<'a>, MakeFault>
+    requires fetched { IsFetched fetched }
+    requires online { IsOnline (online_of online) }
+    requires free { IsFree (fetched_draft fetched) }
+    ensures closed { IfOk result IsClosed }
+    ensures of { IfOk result (IsClosedOf fetched.entry (Some (online_of online))) }
+    ensures staged { OnOk result ((links : List LinkState)
+        → IsStaged (fetched_draft fetched.entry) None links (fetched_ends fetched.entry) (D.state d.old).view
+        → IsStaged (fetched_draft fetched.entry) (Some (online_of online)) links (fetched_ends fetched.entry)
+        (D.state d.new).view) }
+    ensures unlisted { LeavesList (fetched_draft fetched.entry) (D.state d.old).view (D.state d.new).view }
+    ensures beside { StaysBeside (fetched_draft fetched.entry).stanza.now (D.state d.old).view (D.state d.new).view }
+    ensures frame { Frame (D.state d.old) (D.state d.new) }
+    ensures later { (C.state clock.old).faults ≤ (C.state clock.new).faults }
+    ensures fault { IfErr result (λ e. CloseFails e (D.state d.old).faults (D.state d.new).faults
+        (C.state clock.old).faults (C.state clock.new).faults) }
+{
+    let stop = stop_of(clock)?;
+    store_label(alloc, d, &fetched.draft, &online.label_file)?;
+    Ok(Closed {
+        fetched,
+        stop,
+        online: Some(online),
+    })
+}

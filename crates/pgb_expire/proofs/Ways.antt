@@ -1,0 +1,235 @@
+-- From the calls of an expiry to what it does to the repository.
+use Rattle.std.proofs.Common.{◌≡◌, ◌⊎◌, ⊎_elim, inl, inr, ℕ, ◌≤◌, List, [], ◌∷◌, ◌++◌, length, map, Option, Some, None, refl, ap, ◌∙◌, sym, subst, arith, false}
+use Rattle.std.specs.Prelude.{IsSome, IfSome, IsTrue, filter, not}
+use Rattle.std.proofs.lemmas.Bool.{not-true, false_from_ne_true, false≢true}
+use Rattle.pgb_outside.specs.Content.{Name, Value, Content, Holds, is_below}
+use Rattle.pgb_outside.specs.Moments.{View, Goes, IsImage, MayKeep, is_loose}
+use Rattle.pgb_outside.specs.Crash.{Crash, Ends, NowGoes, FirstOf, AllOf}
+use Rattle.pgb_disk.specs.Dropped.{IsAbsent}
+use Rattle.pgb_disk.proofs.Images.{Law}
+use Rattle.pgb_outside.proofs.Nows.{told_as}
+use Rattle.pgb_model.specs.declared.clusters.Cluster.{Cluster}
+use Rattle.pgb_model.specs.declared.labels.Label.{Label}
+use Rattle.pgb_model.specs.Text.{Text, In}
+use Rattle.pgb_model.specs.Names.{archive_folder, archive_info, backup_info}
+use Rattle.pgb_model.specs.Values.{ArchiveInfo, BackupInfo, Entry}
+use Rattle.pgb_model.specs.InfoText.{info_text}
+use Rattle.pgb_model.specs.InfoFiles.{IsBackupText, IsBackupInfo, backup_sections, info_limit}
+use Rattle.pgb_model.specs.Pair.{PairIs}
+use Rattle.pgb_model.specs.Create.{member_writes}
+use Rattle.pgb_model.specs.Repository.{Archived, Backup, Stanza, current_number, identity_of, IsSoundStanza}
+use Rattle.pgb_model.specs.Stands.{Stands, HasStanza, archive_value, backup_value}
+use Rattle.pgb_model.specs.Steps.{Step, Condemn, Retention, IsPartOf, IsSomeOf, changed, after, all_of, expiry_moves}
+use Rattle.pgb_model.specs.Steady.{IsSteady, Moves}
+use Rattle.pgb_model.proofs.Done.{part_none}
+use Rattle.pgb_info.proofs.OneArchive.{one_archive_pair}
+use Rattle.pgb_stanza.proofs.OneBackup.{backup_rules}
+use Rattle.pgb_retain.specs.declared.rules.Rules.{Rules}
+use Rattle.pgb_retain.specs.Labels.{labels_of}
+use Rattle.pgb_retain.specs.Condemned.{is_condemned}
+use Rattle.pgb_expire.specs.Expiry.{listed, retention, IsPartOfExpiry}
+use Rattle.pgb_expire.specs.Losing.{Loses, LosesAll, IsUnlisted, IsUnneeded}
+use Rattle.pgb_expire.specs.Planning.{IsPlan, left_of, left_text, keeps_by}
+use Rattle.pgb_expire.specs.Unneeded.{ids_in}
+use Rattle.pgb_retain.proofs.Lists.{map_filter}
+use Rattle.pgb_keys.proofs.Numbers.{in_map}
+use Rattle.pgb_retain.proofs.LabelTests.{in_has}
+use Rattle.pgb_expire.proofs.Leaving.{entries_of}
+use Rattle.pgb_retain.proofs.Closed.{condemned_closed}
+use Rattle.pgb_expire.proofs.Proper.{proper}
+use Rattle.pgb_expire.proofs.CondemnedStands.{IsClosed, condemned_moves, condemned_steady}
+use Rattle.pgb_expire.proofs.Dropped.{Covers, dropped_moves, dropped_steady}
+use Rattle.pgb_expire.proofs.Forgets.{groups}
+use Rattle.pgb_expire.proofs.Forgotten.{forgotten_moves, forgotten_steady}
+use Rattle.pgb_expire.proofs.RetentionHolds.{closed_here}
+use Rattle.pgb_expire.proofs.OneValue.{one_backup_pair}
+use Rattle.pgb_expire.proofs.Emptied.{all_ends}
+use Rattle.pgb_expire.proofs.Shorter.{PriorsStay, rules_left, shorter_text}
+
+-- ---- ways of a command, one behind the other
+
+either : (t s : ℕ) → (t ≤ s) ⊎ (s ≤ t)
+either t s = grind arith
+
+pub moves_on : (stanza : Text) (P : Content → Type 0) (a b c : View) → Moves stanza P a b → Moves stanza P b c → Moves stanza P a c
+moves_on stanza P a b c p q = record {
+  later = omega (arith, p.later, q.later);
+  past = λ t n v le k. p.past t n v le (q.past t n v (omega (arith, le, p.later)) k);
+  past_loose = λ t n le. q.past_loose t n (omega (arith, le, p.later)) ∙ p.past_loose t n le;
+  told = q.told;
+  fixed = q.fixed;
+  places = q.places;
+  leaves = λ t g lo hi leaves. ⊎_elim (λ now. q.leaves c.moment g q.later (omega arith) (inl now))
+      (λ (image : IsImage c t g). ⊎_elim
+      (λ (le : t ≤ b.moment). p.leaves t g lo le (inr (λ n. ⊎_elim (λ k. inl (q.past t n (g n) le k)) (λ l. inr (sym (q.past_loose t n le) ∙ l.0, l.1)) (image n))))
+      (λ (ge : b.moment ≤ t). q.leaves t g ge hi (inr image))
+      (either t b.moment)) leaves;
+}
+
+pub moves_as : (stanza : Text) (P Q : Content → Type 0) (a b : View) → ((g : Content) → P g → Q g) → Moves stanza P a b → Moves stanza Q a b
+moves_as stanza P Q a b wider p = record { later = p.later; past = p.past; past_loose = p.past_loose; told = p.told; fixed = p.fixed; places = p.places; leaves = λ t g lo hi leaves. wider g (p.leaves t g lo hi leaves) }
+
+-- ---- what was planned
+
+module _ (stanza : Text) (rules : Rules) (moment : ℕ) (f : Content) (labels : List Label) (w : BackupInfo) (archive : ArchiveInfo) (plan : IsPlan stanza rules moment f labels w archive) where
+  stays : IsBackupInfo plan.backup → PriorsStay (λ e. not (is_condemned rules moment plan.backup.backups e.label)) plan.backup.backups
+  stays is e at pass l prior x same =
+      ap not (ap (is_condemned rules moment plan.backup.backups) same ∙ false_from_ne_true (is_condemned rules moment plan.backup.backups l) (λ on.
+      false≢true (sym (not-true (is_condemned rules moment plan.backup.backups e.label) pass) ∙ condemned_closed rules moment plan.backup.backups (proper plan.backup is) e at l prior on)))
+
+  -- what is left has a text
+  pub plan_rules : IsBackupInfo w
+  plan_rules = let is = backup_rules f (backup_info stanza) plan.backup plan.reads in
+      subst IsBackupInfo (sym plan.is_left) (rules_left (λ e. not (is_condemned rules moment plan.backup.backups e.label)) plan.backup is (stays is))
+
+  within : PairIs IsBackupText f (backup_info stanza) plan.backup → length (info_text (backup_sections plan.backup)) ≤ info_limit
+  within (inl m) = subst (λ (t : Text). length t ≤ info_limit) m.2.spelled m.2.within
+  within (inr q) = subst (λ (t : Text). length t ≤ info_limit) q.1.2.spelled q.1.2.within
+
+  pub plan_within : length (left_text w) ≤ info_limit
+  unfolding left_text
+  plan_within =
+      let is = backup_rules f (backup_info stanza) plan.backup plan.reads in
+      let short = shorter_text (λ e. not (is_condemned rules moment plan.backup.backups e.label)) plan.backup is in
+      subst (λ (v : BackupInfo). length (info_text (backup_sections v)) ≤ info_limit) (sym plan.is_left) (omega (arith, short, within plan.reads))
+
+  plan_text : IsBackupText w (left_text w)
+  unfolding left_text
+  plan_text = record { rules = plan_rules; spelled = refl; within = plan_within }
+
+  module _ (s : Stanza) (h : HasStanza stanza f s) where
+    abbrev left : Stanza
+    left = changed (Condemn (is_condemned rules moment (listed s))) s
+
+    value_is : plan.backup ≡ backup_value s h.pending
+    value_is = one_backup_pair f (backup_info stanza) plan.backup (backup_value s h.pending) plan.reads h.backup_pair
+
+    pub entries_are : plan.backup.backups ≡ listed s
+    entries_are = ap (λ (v : BackupInfo). v.backups) value_is ∙ entries_of s h.pending
+
+    -- what is left is the value of the stanza that is left
+    value_left : (c : Option Cluster) → left_of rules moment (backup_value s c) ≡ backup_value left c
+    value_left c = by c (entries_of s c)
+      where
+        filtered : filter (λ (e : Entry). not (is_condemned rules moment (listed s) e.label)) (listed s) ≡ listed left
+        filtered = sym (map_filter (λ (b : Backup). b.entry) (λ (e : Entry). not (is_condemned rules moment (listed s) e.label)) s.backups)
+
+        by : (c : Option Cluster) → (backup_value s c).backups ≡ listed s → left_of rules moment (backup_value s c) ≡ backup_value left c
+        by None e = ap (λ (es : List Entry). (let v : BackupInfo = record { current = current_number s; history = s.history; backups = es } in v)) filtered
+        by (Some c) e = ap (λ (es : List Entry). (let v : BackupInfo = record { current = c.id; history = s.history ++ c ∷ []; backups = es } in v)) filtered
+
+    left_is : w ≡ backup_value left h.pending
+    left_is = plan.is_left ∙ ap (left_of rules moment) value_is ∙ value_left h.pending
+
+    pub text_is : IsBackupText (backup_value left h.pending) (left_text w)
+    text_is = subst (λ (v : BackupInfo). IsBackupText v (left_text w)) left_is plan_text
+
+    pub left_entries : w.backups ≡ listed left
+    left_entries = ap (λ (v : BackupInfo). v.backups) left_is ∙ entries_of left h.pending
+
+    pub covers : Covers (labels_of w.backups) left
+    covers b at = in_has (labels_of w.backups) b.entry.label (subst (λ (es : List Entry). In b.entry.label (labels_of es)) (sym left_entries) (in_map (λ (e : Entry). e.label) (listed left) b.entry (in_map (λ (b : Backup). b.entry) left.backups b at)))
+
+    archive_is : archive ≡ archive_value s
+    archive_is = one_archive_pair f (archive_info stanza) archive (archive_value s) plan.reads_archive h.archive_pair
+
+    pub current_is : archive.current ≡ current_number left
+    current_is = ap (λ (v : ArchiveInfo). v.current) archive_is
+
+    pub history_is : archive.history ≡ map identity_of s.history
+    history_is = ap (λ (v : ArchiveInfo). v.history) archive_is
+
+-- ---- the whole way
+
+module _ (stanza : Text) (rules : Rules) (moment : ℕ) (labels : List Label) (w : BackupInfo) (archive : ArchiveInfo) (s : Stanza) where
+  abbrev kept : Retention
+  kept = retention rules moment
+
+  abbrev rest_of : Stanza
+  rest_of = changed (Condemn (is_condemned rules moment (listed s))) s
+
+  abbrev xs : List Archived
+  xs = filter (λ a. not ((retention rules moment).needed (changed (Condemn (is_condemned rules moment (listed s))) s) a)) s.archived
+
+  -- ---- parts
+
+  pub at_start : (g : Content) → Stands stanza g (Some s) → IsPartOfExpiry stanza (retention rules moment) s g
+  at_start g h = ([], part_none (expiry_moves kept s), h)
+
+  pub some_forgotten : (rest : List Step) → IsSomeOf rest (groups xs) → IsPartOf (Condemn (kept.condemned s) ∷ rest) (expiry_moves kept s)
+  some_forgotten rest is = inr (rest, refl, inl is)
+
+  pub none_of : (ys : List Archived) → IsSomeOf [] (groups ys)
+  none_of [] = refl
+  none_of (y ∷ ys) = inl (none_of ys)
+
+  condemned : (g : Content) → Stands stanza g (Some rest_of) → IsPartOfExpiry stanza (retention rules moment) s g
+  condemned g h = (Condemn (kept.condemned s) ∷ [], some_forgotten [] (none_of xs), h)
+
+  forgotten : (g : Content) → ((done : List Step) × IsSomeOf done (groups xs) × Stands stanza g (after (Some rest_of) done)) → IsPartOfExpiry stanza (retention rules moment) s g
+  forgotten g x = (Condemn (kept.condemned s) ∷ x.0, some_forgotten x.0 x.1, x.2)
+
+  -- which files aren't kept is the same of what was planned
+  module _ (es : List Entry) (entries : es ≡ listed (changed (Condemn (is_condemned rules moment (listed s))) s)) (number : archive.current ≡ current_number (changed (Condemn (is_condemned rules moment (listed s))) s)) where
+    pub same_unneeded : (Step : (Content → Content → Type 0) → Type 0) → Step (Loses (IsUnneeded stanza (keeps_by rules archive.current es))) → Step (Loses (IsUnneeded stanza (keeps_by rules (current_number rest_of) (listed rest_of))))
+    same_unneeded Step x = subst (λ (k : List Entry). Step (Loses (IsUnneeded stanza (keeps_by rules (current_number rest_of) k)))) entries (subst (λ (n : ℕ). Step (Loses (IsUnneeded stanza (keeps_by rules n es)))) number x)
+
+    pub all_unneeded : (Step : (Content → Content → Type 0) → Type 0) → Step (LosesAll (IsUnneeded stanza (keeps_by rules archive.current es))) → Step (LosesAll (IsUnneeded stanza (keeps_by rules (current_number rest_of) (listed rest_of))))
+    all_unneeded Step x = subst (λ (k : List Entry). Step (LosesAll (IsUnneeded stanza (keeps_by rules (current_number rest_of) k)))) entries (subst (λ (n : ℕ). Step (LosesAll (IsUnneeded stanza (keeps_by rules n es)))) number x)
+
+  -- ---- what may be rest_of
+
+  module _ (a : View) (steady : IsSteady stanza (Some s) a) (sound : IsSoundStanza s) (told : IsSome a.now) (plan : IfSome a.now (λ f. IsPlan stanza rules moment f labels w archive)) where
+    start : (f : Content) × (a.now ≡ Some f)
+    start = told_as a.now told
+
+    planned : IsPlan stanza rules moment start.0 labels w archive
+    planned = let P : Option Content → Type 0 = λ o. IfSome o (λ f. IsPlan stanza rules moment f labels w archive) in let at : P (Some start.0) = subst P start.1 plan in at
+
+    has : HasStanza stanza start.0 s
+    has = steady.stands start.0 (inl start.1)
+
+    closed : IsClosed s (is_condemned rules moment (listed s))
+    closed = closed_here stanza rules moment start.0 s has
+
+    module _ (b : View) (saved : Crash (FirstOf (member_writes (backup_info stanza) (left_text w))) a b) where
+      pub saved_moves : Moves stanza (IsPartOfExpiry stanza (retention rules moment) s) a b
+      saved_moves = moves_as stanza (λ g. Stands stanza g (Some s) ⊎ Stands stanza g (Some rest_of)) (IsPartOfExpiry stanza kept s) a b (λ g h. ⊎_elim (at_start g) (condemned g) h)
+          (condemned_moves stanza (left_text w) s (is_condemned rules moment (listed s)) closed has.pending has.is_pending (text_is stanza rules moment start.0 labels w archive planned s has) a b steady told saved)
+
+      module _ (saved_all : Ends (AllOf (member_writes (backup_info stanza) (left_text w))) a b) where
+        steady_b : IsSteady stanza (Some rest_of) b
+        steady_b = condemned_steady stanza (left_text w) s (is_condemned rules moment (listed s)) closed has.pending has.is_pending (text_is stanza rules moment start.0 labels w archive planned s has) a b steady told saved saved_all
+
+        told_b : IsSome b.now
+        told_b = saved.told told
+
+        module _ (c : View) (lost : Crash (Loses (IsUnlisted stanza (labels_of w.backups))) b c) where
+          covers_left : Covers (labels_of w.backups) rest_of
+          covers_left = covers stanza rules moment start.0 labels w archive planned s has
+
+          pub lost_moves : Moves stanza (IsPartOfExpiry stanza (retention rules moment) s) a c
+          lost_moves = moves_on stanza (IsPartOfExpiry stanza kept s) a b c saved_moves
+              (moves_as stanza (λ g. Stands stanza g (Some rest_of)) (IsPartOfExpiry stanza kept s) b c condemned (dropped_moves stanza (labels_of w.backups) rest_of covers_left b c steady_b told_b lost))
+
+          steady_c : IsSteady stanza (Some rest_of) c
+          steady_c = dropped_steady stanza (labels_of w.backups) rest_of covers_left b c steady_b told_b lost
+
+          told_c : IsSome c.now
+          told_c = lost.told told_b
+
+          module _ (d : View) (gone : Crash (Loses (IsUnneeded stanza (keeps_by rules archive.current w.backups))) c d) where
+            gone_left : Crash (Loses (IsUnneeded stanza (keeps_by rules (current_number rest_of) (listed rest_of)))) c d
+            gone_left = same_unneeded w.backups (left_entries stanza rules moment start.0 labels w archive planned s has) (current_is stanza rules moment start.0 labels w archive planned s has) (λ S. Crash S c d) gone
+
+            pub gone_moves : Moves stanza (IsPartOfExpiry stanza (retention rules moment) s) a d
+            gone_moves = moves_on stanza (IsPartOfExpiry stanza kept s) a c d lost_moves
+                (moves_as stanza (λ g. (done : List Step) × IsSomeOf done (groups xs) × Stands stanza g (after (Some rest_of) done)) (IsPartOfExpiry stanza kept s) c d forgotten
+                (forgotten_moves stanza (keeps_by rules (current_number rest_of) (listed rest_of)) rest_of sound.apart c d steady_c told_c gone_left))
+
+            pub gone_steady : Law c → Goes (λ n v. IsUnneeded stanza (keeps_by rules archive.current w.backups) n × (v ≡ None)) (λ _. ⊥) c d → NowGoes (Loses (IsUnneeded stanza (keeps_by rules archive.current w.backups))) c.now d.now
+                → ((n : Name) → (u : IsUnneeded stanza (keeps_by rules archive.current w.backups) n) → In u.id (ids_in archive.history) → IsAbsent d.now n)
+                → ((n : Name) (v : Value) → IsTrue (is_below (archive_folder stanza) n) → is_loose c n ≡ false → MayKeep d n v → Holds d.now n v) → IsSteady stanza (after (Some s) (all_of (expiry_moves (retention rules moment) s))) d
+            gone_steady law goes part absent settled = forgotten_steady stanza (keeps_by rules (current_number rest_of) (listed rest_of)) rest_of sound.apart c d steady_c told_c gone_left
+                (all_unneeded w.backups (left_entries stanza rules moment start.0 labels w archive planned s has) (current_is stanza rules moment start.0 labels w archive planned s has) (λ S. Ends S c d)
+                (all_ends stanza (keeps_by rules archive.current w.backups) rest_of sound.ids archive.history (history_is stanza rules moment start.0 labels w archive planned s has) c d part absent steady_c law goes settled))

@@ -1,0 +1,13 @@
+use Rattle.std.proofs.Common.{map}
+use Rattle.pgb_model.specs.Values.{entry_of}
+use Rattle.pgb_retain.specs.Labels.{labels_of}
+use Rattle.pgb_expire.specs.Losing.{IsUnlisted}
+use Rattle.pgb_expire.proofs.Losses.{takes_none}
+use Rattle.pgb_expire.proofs.Droppings.{unlisted_takes}
+use Rattle.pgb_expire.proofs.dropping.drop_one.Goals as goal
+
+pub returns-then-is_unlisted-clause-takes : goal.returns-then-is_unlisted-clause-takes
+returns-then-is_unlisted-clause-takes g c = unlisted_takes c.args.stanza.now (labels_of (map entry_of c.args.entries.now)) _ _ c.as_bytes.ensures.value (c.is_unlisted.ensures c.if-is_unlisted.true) _ _ c.drop_below.ensures.takes
+
+pub returns-clause-takes : goal.returns-clause-takes
+returns-clause-takes g c = takes_none (IsUnlisted c.args.stanza.now (labels_of (map entry_of c.args.entries.now))) _

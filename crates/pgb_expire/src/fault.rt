@@ -1,0 +1,92 @@
+// Why an expiry is refused.
+ghost use Rattle.std.specs.Prelude.{◌≡◌};
+ghost use Rattle.pgb_expire.specs.declared.fault.ExpireFault.TheVariants.{NoMemory as WithoutMemory};
+
+use pgb_disk::StoreFault;
+use pgb_outside::Stop;
+use pgb_pair::{InfoFault, SaveFault};
+use std::alloc::AllocError;
+
+/// Why an expiry isn't done, or not whole. The next makes good what it left.
+#[derive(Debug, Drop)]
+pub enum ExpireFault {
+    /// `archive.info` or `backup.info` is missing or damaged.
+    Info(InfoFault),
+    /// The disk's count of faults rose.
+    Disk,
+    NoMemory,
+}
+
+impl From<InfoFault> for ExpireFault {
+    ghost use Rattle.std.specs.Prelude.{◌≡◌};
+    ghost use Rattle.pgb_expire.specs.Fault.{fault_of_info};
+
+    ghost from_gives = { λ f e. e ≡ fault_of_info f };
+
+    fn from(fault: InfoFault) -> Self {
+        match fault {
+            InfoFault::Disk => ExpireFault::Disk,
+            InfoFault::NoMemory => ExpireFault::NoMemory,
+            found => ExpireFault::Info(found),
+        }
+    }
+}
+
+impl From<SaveFault> for ExpireFault {
+    ghost use Rattle.std.specs.Prelude.{◌≡◌};
+    ghost use Rattle.pgb_expire.specs.Fault.{fault_of_save};
+
+    ghost from_gives = { λ s e. e ≡ fault_of_save s };
+
+    fn from(fault: SaveFault) -> Self {
+        match fault {
+            SaveFault::Disk => ExpireFault::Disk,
+            SaveFault::NoMemory => ExpireFault::NoMemory,
+        }
+    }
+}
+
+impl From<StoreFault> for ExpireFault {
+    ghost use Rattle.std.specs.Prelude.{◌≡◌};
+    ghost use Rattle.pgb_expire.specs.Fault.{fault_of_store};
+
+    ghost from_gives = { λ s e. e ≡ fault_of_store s };
+
+    fn from(fault: StoreFault) -> Self {
+        match fault {
+            StoreFault::Disk => ExpireFault::Disk,
+            StoreFault::TooLong { .. } => ExpireFault::NoMemory,
+            StoreFault::NoMemory => ExpireFault::NoMemory,
+        }
+    }
+}
+
+impl From<Stop> for ExpireFault {
+    ghost use Rattle.std.specs.Prelude.{◌≡◌};
+    ghost use Rattle.pgb_expire.specs.Fault.{fault_of_stop};
+
+    ghost from_gives = { λ s e. e ≡ fault_of_stop s };
+
+    fn from(stop: Stop) -> Self {
+        match stop {
+            Stop::Failed => ExpireFault::Disk,
+            Stop::NoMemory => ExpireFault::NoMemory,
+        }
+    }
+}
+
+impl From<pgb_text::NoMemory> for ExpireFault {
+    ghost from_gives = { λ _ e. e ≡ WithoutMemory };
+
+    fn from(_: pgb_text::NoMemory) -> Self {
+        ExpireFault::NoMemory
+    }
+}
+
+impl From<AllocError> for ExpireFault {
+    ghost from_gives = { λ _ e. e ≡ WithoutMemory };
+
+    fn from(_: AllocError) -> Self {
+        ExpireFault::NoMemory
+    }
+}

@@ -1,0 +1,108 @@
+// What an expiry is going to leave in the backup pair.
+ghost use Rattle.std.specs.Prelude.{◌≡◌, ◌≤◌, IfOk, IfErr, IfSome, length};
+ghost use Rattle.pgb_outside.specs.States.{Looks};
+ghost use Rattle.pgb_outside.specs.Cause.{Rises};
+ghost use Rattle.pgb_model.specs.Names.{archive_info, backup_info};
+ghost use Rattle.pgb_model.specs.Pair.{PairIs};
+ghost use Rattle.pgb_model.specs.Values.{archive_info_of, backup_info_of};
+ghost use Rattle.pgb_model.specs.InfoFiles.{IsArchiveText, IsBackupInfo, IsBackupText, info_limit};
+ghost use Rattle.pgb_retain.specs.Condemned.{condemned_labels};
+ghost use Rattle.pgb_expire.specs.Planning.{IsPlan, left_of, left_text};
+ghost use Rattle.pgb_expire.specs.Fault.{ExpireCause};
+
+use crate::fault::ExpireFault;
+use crate::labels::without;
+use pgb_model::{ArchiveInfo, BackupInfo, Label};
+use pgb_outside::Disk;
+use pgb_pair::load_pair;
+use pgb_retain::{Rules, expired};
+use pgb_stanza::{archive_info_name, backup_info_name};
+use pgb_text::NoMemory;
+use std::alloc::Global;
+
+/// The labels that go, what is left of the backup pair's value, and the archive pair's value.
+#[derive(Drop)]
+pub(crate) struct Planned {
+    pub labels: Vec<Label>,
+    pub left: BackupInfo,
+    pub archive: ArchiveInfo,
+}
+
+// The value without the backups that the rules let go, and their labels.
+fn shorten(
+    alloc: Global,
+    value: BackupInfo,
+    rules: &Rules,
+    moment: u64,
+) -> Result<(Vec<Label>, BackupInfo), NoMemory>
+    requires valid { IsBackupInfo (backup_info_of value) }
+    requires within { length (left_text (backup_info_of value)) ≤ info_limit }
+    ensures labels { IfOk result (λ r. r.0.items ≡ condemned_labels rules.now moment (backup_info_of value).backups) }
+    ensures left { IfOk result (λ r. backup_info_of r.1 ≡ left_of rules.now moment (backup_info_of value)) }
+    ensures valid { IfOk result (λ r. IsBackupInfo (backup_info_of r.1)) }
+    ensures within { IfOk result (λ r. length (left_text (backup_info_of r.1)) ≤ info_limit) }
+{
+    let labels = expired(alloc, &value.backups, rules, moment)?;
+    let backups = without(value.backups, &labels);
+    let left = BackupInfo {
+        current: value.current,
+        history: value.history,
+        backups,
+    };
+    Ok((labels, left))
+}
+
+// The value of the archive pair.
+fn clusters<D: Disk>(alloc: Global, d: &mut D, stanza: &str) -> Result<ArchiveInfo, ExpireFault>
+    ensures found { IfOk result (λ v. IfSome (D.state d.old).view.now
+        (λ f. PairIs IsArchiveText f (archive_info stanza.now) (archive_info_of v))) }
+    ensures looks { Looks (D.state d.old) (D.state d.new) }
+    ensures cause { IfErr result (ExpireCause stanza.now (D.state d.old).view.now
+        (Rises (D.state d.old).faults (D.state d.new).faults)) }
+{
+    let name = archive_info_name(alloc, stanza)?;
+    let value = load_pair::<D, ArchiveInfo>(alloc, d, name.as_str())?;
+    Ok(value)
+}
+
+// The value of the backup pair.
+fn backups<D: Disk>(alloc: Global, d: &mut D, stanza: &str) -> Result<BackupInfo, ExpireFault>
+    ensures found { IfOk result (λ v. IfSome (D.state d.old).view.now
+        (λ f. PairIs IsBackupText f (backup_info stanza.now) (backup_info_of v))) }
+    ensures valid { IfOk result (λ v. IsBackupInfo (backup_info_of v)) }
+    ensures within { IfOk result (λ v. length (left_text (backup_info_of v)) ≤ info_limit) }
+    ensures looks { Looks (D.state d.old) (D.state d.new) }
+    ensures cause { IfErr result (ExpireCause stanza.now (D.state d.old).view.now
+        (Rises (D.state d.old).faults (D.state d.new).faults)) }
+{
+    let name = backup_info_name(alloc, stanza)?;
+    let value = load_pair::<D, BackupInfo>(alloc, d, name.as_str())?;
+    Ok(value)
+}
+
+/// What an expiry at a moment is going to leave. Nothing is written.
+pub(crate) fn plan<D: Disk>(
+    alloc: Global,
+    d: &mut D,
+    stanza: &str,
+    rules: &Rules,
+    moment: u64,
+) -> Result<Planned, ExpireFault>
+    ensures valid { IfOk result (λ p. IsBackupInfo (backup_info_of p.left)) }
+    ensures within { IfOk result (λ p. length (left_text (backup_info_of p.left)) ≤ info_limit) }
+    ensures planned { IfOk result (λ p. IfSome (D.state d.old).view.now
+        (λ f. IsPlan stanza.now rules.now moment f p.labels.items (backup_info_of p.left)
+        (archive_info_of p.archive))) }
+    ensures looks { Looks (D.state d.old) (D.state d.new) }
+    ensures cause { IfErr result (ExpireCause stanza.now (D.state d.old).view.now
+        (Rises (D.state d.old).faults (D.state d.new).faults)) }
+{
+    let archive = clusters(alloc, d, stanza)?;
+    let value = backups(alloc, d, stanza)?;
+    let (labels, left) = shorten(alloc, value, rules, moment)?;
+    Ok(Planned {
+        labels,
+        left,
+        archive,
+    })
+}

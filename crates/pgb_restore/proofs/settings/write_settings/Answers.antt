@@ -1,0 +1,26 @@
+use Rattle.std.proofs.Common.{◌∙◌}
+use Rattle.pgb_fill.proofs.Filing.{same_begun, same_longer}
+use Rattle.pgb_model.specs.Restored.{conf_path, signal_path}
+use Rattle.pgb_restore.proofs.Lines.{begun_has}
+use Rattle.pgb_restore.proofs.settings.write_settings.Goals as goal
+
+pub returns-in_err-append-clause-others : goal.returns-in_err-append-clause-others
+returns-in_err-append-clause-others g c = λ q off off_signal.
+    let old = (g.T.Tree.state c.args.tree.now).nodes in
+    let begun = (g.T.Tree.state c.begin.new.self).nodes in
+    let long = (g.T.Tree.state c.append.new.self).nodes in
+    same_longer c.append.result conf_path c.args.text.now begun long c.append.ensures.nodes q off
+    ∙ same_begun c.begin.result conf_path old begun c.begin.ensures.nodes q off
+
+pub returns-clause-signal : goal.returns-clause-signal
+returns-clause-signal g c = begun_has c.begin-2.result signal_path (g.T.Tree.state c.append.new.self).nodes (g.T.Tree.state c.begin-2.new.self).nodes c.begin-2.ensures.nodes
+
+pub returns-clause-others : goal.returns-clause-others
+returns-clause-others g c = λ q off off_signal.
+    let old = (g.T.Tree.state c.args.tree.now).nodes in
+    let begun = (g.T.Tree.state c.begin.new.self).nodes in
+    let long = (g.T.Tree.state c.append.new.self).nodes in
+    let last = (g.T.Tree.state c.begin-2.new.self).nodes in
+    same_begun c.begin-2.result signal_path long last c.begin-2.ensures.nodes q off_signal
+    ∙ same_longer c.append.result conf_path c.args.text.now begun long c.append.ensures.nodes q off
+    ∙ same_begun c.begin.result conf_path old begun c.begin.ensures.nodes q off

@@ -1,0 +1,131 @@
+// Files of the data folder are digested by workers.
+ghost use Rattle.std.specs.Prelude.{◌≡◌, ◌<◌, ◌≤◌, ◌^◌, ℕ, Some, map, take, length, vec_len, slice_get, IfOk, IfErr, OnOk};
+ghost use Rattle.pgb_outside.specs.Links.{LinkState};
+ghost use Rattle.pgb_model.specs.Text.{Text, In};
+ghost use Rattle.pgb_model.specs.Values.{FileEntry as Entry, file_entry_of};
+ghost use Rattle.pgb_model.specs.declared.labels.Label as labels;
+ghost use Rattle.pgb_worker_frame.specs.Views.{job_of};
+ghost use Rattle.pgb_worker_dispatch.specs.Run.{IsReady};
+ghost use Rattle.pgb_source.specs.Sources.{IsEntry};
+ghost use Rattle.pgb_restore.specs.Holdings.{done_item, state_of};
+ghost use Rattle.pgb_restore.specs.Kept.{digesting};
+ghost use Rattle.pgb_restore.specs.Digested.{file_of, first_end, end_of, AreEnds, NamesCandidate};
+ghost use Rattle.pgb_restore.specs.Left.{IsLeft};
+ghost use Rattle.pgb_restore.specs.Faults.{FillFails, HasItsFile};
+
+use crate::candidates::Candidate;
+use crate::fault::FillFault;
+use crate::holding::{Ended, Holder};
+use pgb_model::FileEntry;
+use pgb_outside::{Link, Turns};
+use pgb_text::NoMemory;
+use pgb_worker_dispatch::{DispatchFault, Lost, run_jobs};
+use pgb_worker_frame::{Item, Job, JobKind, Root};
+use pgb_worker_keep::ItemEnd;
+use std::alloc::{AllocError, Global};
+
+// The job that digests a file of the data folder.
+fn digest_job(alloc: Global, file: &FileEntry) -> Result<Job, AllocError>
+    ensures { IfOk result (λ job. job_of job ≡ digesting (file_entry_of file.now)) }
+{
+    let mut items = Vec::new(alloc);
+    items.push(Item {
+        root: Root::Tree,
+        path: file.path.clone()?,
+        at: 0,
+        size: file.size,
+    })?;
+    Ok(Job {
+        kind: JobKind::Digest,
+        items,
+    })
+}
+
+// A job for each candidate. 2^32 jobs or more count as want of memory.
+fn digest_jobs(alloc: Global, candidates: &[Candidate<'_>]) -> Result<Vec<Job>, NoMemory>
+    ensures few { IfOk result (λ jobs. length jobs.items < 2 ^ 32) }
+    ensures jobs { IfOk result (λ jobs. map job_of jobs.items ≡ map digesting (map file_of candidates.now)) }
+{
+    let mut jobs = Vec::new(alloc);
+    for candidate in candidates {
+        jobs.push(digest_job(alloc, candidate.file)?)?;
+    }
+    if jobs.len() > u32::MAX as usize {
+        return Err(NoMemory);
+    }
+    Ok(jobs)
+}
+
+// How the first item ended.
+fn first_of(ended: &[Ended]) -> Option<ItemEnd>
+    ensures { result ≡ first_end (map done_item ended.now) }
+{
+    match ended {
+        [first, ..] => Some(first.how),
+        [] => None,
+    }
+}
+
+// How the items of so many jobs ended.
+fn ends_of(
+    alloc: Global,
+    keep: &Holder<'_>,
+    count: usize,
+) -> Result<Vec<Option<ItemEnd>>, AllocError>
+    requires { count ≤ length (state_of keep.now).kept }
+    ensures { IfOk result (λ ends. ends.items ≡ map end_of (take count (state_of keep.now).kept)) }
+{
+    let mut ends = Vec::new(alloc);
+    for job in 0..count {
+        ends.push(first_of(keep.ended(job)))?;
+    }
+    Ok(ends)
+}
+
+/// The fault of a run of jobs in memory, by the name of the candidate's file.
+pub(crate) fn named(
+    alloc: Global,
+    candidates: &[Candidate<'_>],
+    fault: DispatchFault,
+) -> Result<FillFault, AllocError>
+    requires { HasItsFile fault (length candidates.now) }
+    ensures { IfOk result (λ e. NamesCandidate candidates.now fault e) }
+{
+    match fault {
+        DispatchFault::WorkersLost => Ok(FillFault::WorkersLost),
+        DispatchFault::Unread { job, .. } => {
+            let file = candidates[job as usize].file;
+            Ok(FillFault::Unread {
+                path: file.path.clone()?,
+            })
+        }
+        DispatchFault::Keep | DispatchFault::NoMemory => Ok(FillFault::NoMemory),
+    }
+}
+
+/// Has the candidates digested in the data folder, and tells how each ended.
+pub(crate) fn digest<L: Link, U: Turns>(
+    alloc: Global,
+    candidates: &[Candidate<'_>],
+    links: &mut Vec<L>,
+    turns: &mut U,
+    lost: &mut Vec<Lost>,
+) -> Result<Vec<Option<ItemEnd>>, FillFault>
+    requires few { vec_len links.old < 2 ^ 32 }
+    requires ready { (i : ℕ) (s : LinkState) → slice_get (map L.link_state links.old.items) i ≡ Some s → IsReady s }
+    requires entries { (e : Entry) → In e (map file_of candidates.now) → IsEntry e }
+    ensures ends { IfOk result
+        (λ ends. AreEnds (map L.link_state links.old.items) candidates.now ends.items) }
+    ensures left { OnOk result
+        (IsLeft (map L.link_state links.old.items) (map L.link_state links.new.items) lost.old.items lost.new.items) }
+    ensures fault { (stanza : Text) (own : labels.Label) (f g : ℕ) → IfErr result
+        (λ e. FillFails e stanza own (map file_of candidates.now) (map L.link_state links.old.items)
+        (map L.link_state links.new.items) lost.old.items lost.new.items f g) }
+{
+    let jobs = digest_jobs(alloc, candidates)?;
+    let mut keep = Holder::new(alloc, &jobs)?;
+    match run_jobs(alloc, &jobs, links, turns, &mut keep, &mut (), lost) {
+        Ok(()) => Ok(ends_of(alloc, &keep, candidates.len())?),
+        Err(fault) => Err(named(alloc, candidates, fault)?),
+    }
+}

@@ -1,0 +1,133 @@
+// Which files of the data folder are kept.
+ghost use Rattle.std.specs.Prelude.{◌≡◌, ◌<◌, ◌≤◌, ◌^◌, ℕ, Some, true, map, length, vec_len, slice_get, IfOk, IfErr, OnOk};
+ghost use Rattle.pgb_outside.specs.Links.{LinkState};
+ghost use Rattle.pgb_outside.specs.Order.{are_in_order};
+ghost use Rattle.pgb_model.specs.Text.{Text, In};
+ghost use Rattle.pgb_model.specs.Values.{FileEntry as Entry, file_entry_of};
+ghost use Rattle.pgb_model.specs.declared.labels.Label as labels;
+ghost use Rattle.pgb_worker_dispatch.specs.Run.{IsReady};
+ghost use Rattle.pgb_clear.specs.Clearing.{seen_of};
+ghost use Rattle.pgb_source.specs.Sources.{IsEntry};
+ghost use Rattle.pgb_restore.specs.Options.{options_of};
+ghost use Rattle.pgb_restore.specs.Kept.{AllAlike, MarksAlike};
+ghost use Rattle.pgb_restore.specs.Digested.{file_of, is_equal, marked_one, NoneMarked, AreMarked, IsMarkedBy, MarksEqual};
+ghost use Rattle.pgb_restore.specs.Left.{IsLeft};
+ghost use Rattle.pgb_restore.specs.Faults.{FillFails};
+
+use crate::candidates::{Candidate, candidates};
+use crate::digesting::digest;
+use crate::fault::FillFault;
+use crate::options::RestoreOptions;
+use pgb_model::FileEntry;
+use pgb_outside::{Link, Seen, Turns};
+use pgb_worker_dispatch::Lost;
+use pgb_worker_keep::ItemEnd;
+use std::alloc::{AllocError, Global};
+
+/// Whether the file's item ended with the entry's number and digest.
+pub(crate) fn is_equal(file: &FileEntry, end: &Option<ItemEnd>) -> bool
+    ensures { result ≡ is_equal (file_entry_of file.now) end.now }
+{
+    match end {
+        Some(ItemEnd::Whole { length, sum }) => *length == file.size && *sum == file.sum,
+        Some(ItemEnd::Vanished) | None => false,
+    }
+}
+
+// So many places without a mark.
+fn unmarked(alloc: Global, count: usize) -> Result<Vec<bool>, AllocError>
+    ensures count { IfOk result (λ marks. length marks.items ≡ count) }
+    ensures none { IfOk result (λ marks. NoneMarked marks.items) }
+{
+    let mut marks = Vec::new(alloc);
+    for _ in 0..count {
+        marks.push(false)?;
+    }
+    Ok(marks)
+}
+
+// Marks a candidate's place, where its file is equal.
+fn mark_one(marks: &mut Vec<bool>, candidate: &Candidate<'_>, end: &Option<ItemEnd>)
+    requires { candidate.now.place < length marks.old.items }
+    ensures { marks.new.items ≡ marked_one candidate.now end.now marks.old.items }
+{
+    if is_equal(candidate.file, end) {
+        marks[candidate.place] = true;
+    }
+}
+
+// Marks the place of each candidate whose file is equal, among so many.
+fn mark(
+    alloc: Global,
+    count: usize,
+    candidates: &[Candidate<'_>],
+    ends: &[Option<ItemEnd>],
+) -> Result<Vec<bool>, AllocError>
+    requires places { (k : ℕ) (c : Candidate) → slice_get candidates.now k ≡ Some c → c.place < count }
+    requires ends { length candidates.now ≤ length ends.now }
+    ensures by { IfOk result (λ marks. IsMarkedBy candidates.now ends.now marks.items) }
+    ensures all { IfOk result (λ marks. MarksEqual candidates.now ends.now marks.items) }
+{
+    let mut marks = unmarked(alloc, count)?;
+    for i in 0..candidates.len() {
+        mark_one(&mut marks, &candidates[i], &ends[i]);
+    }
+    Ok(marks)
+}
+
+// Marks the places of the candidates of which workers tell that they are equal, among so many.
+fn mark_alike<L: Link, U: Turns>(
+    alloc: Global,
+    count: usize,
+    candidates: &[Candidate<'_>],
+    links: &mut Vec<L>,
+    turns: &mut U,
+    lost: &mut Vec<Lost>,
+) -> Result<Vec<bool>, FillFault>
+    requires few { vec_len links.old < 2 ^ 32 }
+    requires ready { (i : ℕ) (s : LinkState) → slice_get (map L.link_state links.old.items) i ≡ Some s → IsReady s }
+    requires entries { (e : Entry) → In e (map file_of candidates.now) → IsEntry e }
+    requires places { (k : ℕ) (c : Candidate) → slice_get candidates.now k ≡ Some c → c.place < count }
+    ensures marked { IfOk result
+        (λ marks. AreMarked (map L.link_state links.old.items) candidates.now marks.items) }
+    ensures left { OnOk result
+        (IsLeft (map L.link_state links.old.items) (map L.link_state links.new.items) lost.old.items lost.new.items) }
+    ensures fault { (stanza : Text) (own : labels.Label) (f g : ℕ) → IfErr result
+        (λ e. FillFails e stanza own (map file_of candidates.now) (map L.link_state links.old.items)
+        (map L.link_state links.new.items) lost.old.items lost.new.items f g) }
+{
+    let ends = digest(alloc, candidates, links, turns, lost)?;
+    Ok(mark(alloc, count, candidates, &ends)?)
+}
+
+/// Marks the files that are kept, by their places in the manifest: with delta those of which workers tell that the data
+/// folder has them already.
+pub(crate) fn find_kept<L: Link, U: Turns>(
+    alloc: Global,
+    options: &RestoreOptions<'_>,
+    files: &[FileEntry],
+    seen: &[Seen],
+    links: &mut Vec<L>,
+    turns: &mut U,
+    lost: &mut Vec<Lost>,
+) -> Result<Vec<bool>, FillFault>
+    requires few { vec_len links.old < 2 ^ 32 }
+    requires ready { (i : ℕ) (s : LinkState) → slice_get (map L.link_state links.old.items) i ≡ Some s → IsReady s }
+    requires entries { (e : Entry) → In e (map file_entry_of files.now) → IsEntry e }
+    requires order { are_in_order (map (λ e. e.path) (map file_entry_of files.now)) ≡ true }
+    ensures alike { IfOk result (λ marks. AllAlike (map L.link_state links.old.items) (options_of options.now)
+        (map seen_of seen.now) (map file_entry_of files.now) marks.items) }
+    ensures all { IfOk result (λ marks. MarksAlike (map L.link_state links.old.items) (options_of options.now)
+        (map seen_of seen.now) (map file_entry_of files.now) marks.items) }
+    ensures left { OnOk result
+        (IsLeft (map L.link_state links.old.items) (map L.link_state links.new.items) lost.old.items lost.new.items) }
+    ensures fault { (stanza : Text) (own : labels.Label) (f g : ℕ) → IfErr result
+        (λ e. FillFails e stanza own (map file_entry_of files.now) (map L.link_state links.old.items)
+        (map L.link_state links.new.items) lost.old.items lost.new.items f g) }
+{
+    if !options.delta {
+        return Ok(Vec::new(alloc));
+    }
+    let candidates = candidates(alloc, &options.recovery, files, seen)?;
+    mark_alike(alloc, files.len(), &candidates, links, turns, lost)
+}

@@ -1,0 +1,10 @@
+pub mod Lists
+pub mod LabelTests
+pub mod Closed
+pub mod Counted
+pub mod Keepings
+pub mod Depending
+pub mod Joined
+pub mod Firsts
+pub mod Lines
+pub mod Rows
