@@ -103,7 +103,7 @@ module _ {Y : Type 0} (Q : Content → Y → Property) where
       → IfSome o (λ f. Adds (OfSome (Q f) (map h (take i all))) a b) → IfSome now (λ f. Adds (Q f (h x)) b c) → IfSome o (λ f. Adds (OfSome (Q f) (map h (take (i + 1) all))) a c)
   loop_step h o now all i x a b c lt is same p q =
       let more : map h (take i all) ++ h x ∷ [] ≡ map h (take (i + 1) all) =
-          sym (map-append h (take i all) (x ∷ [])) ∙ ap (λ z. map h (take i all ++ z ∷ [])) is ∙ sym (ap (map h) (take_more all i x lt)) in
+      sym (map-append h (take i all) (x ∷ [])) ∙ ap (λ z. map h (take i all ++ z ∷ [])) is ∙ sym (ap (map h) (take_more all i x lt)) in
       subst (λ (ys : List Y). IfSome o (λ f. Adds (OfSome (Q f) ys) a c)) more (loop_next o now (map h (take i all)) (h x) a b c same p q)
 
   -- the same over the list itself

@@ -113,9 +113,9 @@ module _ (stanza : Text) (f : Content) (s : Stanza) (h : HasStanza stanza f s) w
       let fits = h.named a x.1 in
       let path : archive_path stanza a.id a.name (sha1 a.bytes) ≡ archive_path stanza id file sum = sym x.2 ∙ stored.is in
       let same = one_path (archive_folder stanza ++ 47 ∷ []) a.id id a.name file (sha1 a.bytes) sum fits stored.fits
-          (append_assoc (archive_folder stanza) (47 ∷ []) _ ∙ path ∙ sym (append_assoc (archive_folder stanza) (47 ∷ []) _)) in
+      (append_assoc (archive_folder stanza) (47 ∷ []) _ ∙ path ∙ sym (append_assoc (archive_folder stanza) (47 ∷ []) _)) in
       let own : archive_path stanza id file (sha1 a.bytes) ≡ archive_path stanza id file sum =
-          sym (ap₂ (λ (i : ArchiveId) (n : ArchiveName). archive_path stanza i n (sha1 a.bytes)) same.0 same.1) ∙ path in
+      sym (ap₂ (λ (i : ArchiveId) (n : ArchiveName). archive_path stanza i n (sha1 a.bytes)) same.0 same.1) ∙ path in
       (a, x.1, same.0, same.1, one_sum stanza id file sum (sha1 a.bytes) (summed file segment stored.whole_or_part) stored.fits.digest fits.digest (sym own), x.3)
 
   clean_file : AreApart s.archived → (name : Text) (what : What) → ¬ FileDeviates stanza f name what
@@ -198,19 +198,22 @@ module _ (stanza : Text) (f : Content) (s : Stanza) (h : HasStanza stanza f s) (
     clean_span m is name (Gap k) d =
         let w = value_of (λ w. IsWithinSpan w.size.0 w.span k) m.wal d.1 in
         let segments = if_at (λ (w : WalPart). (segment : Segment) (c : Cluster) → In c s.history → c.id ≡ b.entry.db → IsWithinSpan w.size.0 w.span segment →
-            (a : Archived) × In a s.archived × (a.id ≡ id_of c) × (a.name ≡ Whole segment)) b.wal w.0 (sym is.wal ∙ w.1) (sound_at s [] s.backups sound.backups b at).1.segments in
+        (a : Archived) × In a s.archived × (a.id ≡ id_of c) × (a.name ≡ Whole segment)) b.wal w.0 (sym is.wal ∙ w.1) (sound_at s [] s.backups sound.backups b at).1.segments in
         let a = segments k m.cluster is.cluster.0 is.cluster.1 w.2 in
         let name_is : stored_name stanza a.0 ≡ archive_name stanza (id_of m.cluster) (Whole k) (sum_text (sha1 a.0.bytes)) =
-            ap₂ (λ (i : ArchiveId) (n : ArchiveName). archive_path stanza i n (sha1 a.0.bytes)) a.2 a.3 in
+        ap₂ (λ (i : ArchiveId) (n : ArchiveName). archive_path stanza i n (sha1 a.0.bytes)) a.2 a.3 in
         let fits = h.named a.0 a.1 in
         let there = (h.archived (stored_name stanza a.0) a.0.bytes (record { id = a.0.id; file = a.0.name; sum = sha1 a.0.bytes; fits = fits; is = refl })).1 (a.0, a.1, refl, refl) in
-        d.2 (sha1 a.0.bytes, stored_name stanza a.0,
-            record {
-              fits = subst (λ (i : ArchiveId). IsArchivePlace i (Whole k) (sha1 a.0.bytes)) a.2 (subst (λ (n : ArchiveName). IsArchivePlace a.0.id n (sha1 a.0.bytes)) a.3 fits);
-              whole_or_part = refl;
-              is = name_is;
-            },
-            is_some (f (stored_name stanza a.0)) a.0.bytes there)
+        d.2 (
+          sha1 a.0.bytes,
+          stored_name stanza a.0,
+          record {
+            fits = subst (λ (i : ArchiveId). IsArchivePlace i (Whole k) (sha1 a.0.bytes)) a.2 (subst (λ (n : ArchiveName). IsArchivePlace a.0.id n (sha1 a.0.bytes)) a.3 fits);
+            whole_or_part = refl;
+            is = name_is;
+          },
+          is_some (f (stored_name stanza a.0)) a.0.bytes there,
+        )
     clean_span m is name MemberAbsent d = d
     clean_span m is name MemberBad d = d
     clean_span m is name MembersDiffer d = d

@@ -33,14 +33,16 @@ module _ (stanza : Text) (f : Content) (own : Label) (m : Manifest) (files : Lis
       let file = h.0 in
       let e = are.each file h.1 in
       let same = h.2 in
-      let there = value_of (λ bytes. length bytes ≡ file.size) (f (string_bytes file.path)) e.size in
-      (e.sum, string_bytes file.path,
-          record {
-            fits = subst (λ (i : ArchiveId). IsArchivePlace i (Whole s) e.sum) same.0 (subst (λ (n : ArchiveName). IsArchivePlace file.id n e.sum) same.1 e.fits);
-            whole_or_part = refl;
-            is = e.path ∙ ap₂ (λ (i : ArchiveId) (n : ArchiveName). archive_path stanza i n e.sum) same.0 same.1;
-          },
-          is_some (f (string_bytes file.path)) there.0 there.1)
+      let there = value_of (λ bytes. length bytes ≡ file.size) (f (string_bytes file.path)) e.size in (
+        e.sum,
+        string_bytes file.path,
+        record {
+          fits = subst (λ (i : ArchiveId). IsArchivePlace i (Whole s) e.sum) same.0 (subst (λ (n : ArchiveName). IsArchivePlace file.id n e.sum) same.1 e.fits);
+          whole_or_part = refl;
+          is = e.path ∙ ap₂ (λ (i : ArchiveId) (n : ArchiveName). archive_path stanza i n e.sum) same.0 same.1;
+        },
+        is_some (f (string_bytes file.path)) there.0 there.1,
+      )
 
   has_of : (s : Segment) → IsStored stanza f m.cluster s → HasWhole id files s
   has_of s k =
@@ -49,7 +51,7 @@ module _ (stanza : Text) (f : Content) (own : Label) (m : Manifest) (files : Lis
       let e = are.each x.0 x.1 in
       let path : archive_path stanza x.0.id x.0.name e.sum ≡ archive_path stanza id (Whole s) k.0 = sym e.path ∙ x.2 ∙ st.is in
       let same = one_path (archive_folder stanza ++ 47 ∷ []) x.0.id id x.0.name (Whole s) e.sum k.0 e.fits st.fits
-          (append_assoc (archive_folder stanza) (47 ∷ []) _ ∙ path ∙ sym (append_assoc (archive_folder stanza) (47 ∷ []) _)) in
+      (append_assoc (archive_folder stanza) (47 ∷ []) _ ∙ path ∙ sym (append_assoc (archive_folder stanza) (47 ∷ []) _)) in
       (x.0, x.1, (same.0, same.1))
 
   pub spans_none : m.wal ≡ None → (a : List Finding) → Adds (SpanDeviates stanza f own m) a a

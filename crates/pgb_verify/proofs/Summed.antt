@@ -170,17 +170,21 @@ module _ (stanza : Text) (f : Content) (files : List Stored) (are : AreStored st
       let st = are.each file x.1 in
       let path : archive_path stanza file.id file.name st.sum ≡ archive_path stanza d.id d.file t = sym st.path ∙ x.2 ∙ d.stored.is in
       let same = one_path (archive_folder stanza ++ 47 ∷ []) file.id d.id file.name d.file st.sum t st.fits d.stored.fits
-          (append_assoc (archive_folder stanza) (47 ∷ []) _ ∙ path ∙ sym (append_assoc (archive_folder stanza) (47 ∷ []) _)) in
+      (append_assoc (archive_folder stanza) (47 ∷ []) _ ∙ path ∙ sym (append_assoc (archive_folder stanza) (47 ∷ []) _)) in
       let own : archive_path stanza d.id d.file st.sum ≡ archive_path stanza d.id d.file t = sym (ap₂ (λ (i : ArchiveId) (m : ArchiveName). archive_path stanza i m st.sum) same.0 same.1) ∙ path in
       let sums : st.sum ≡ t = one_sum stanza d.id d.file st.sum t (summed d.file d.segment d.stored.whole_or_part) st.fits.digest d.stored.fits.digest own in
       let told = sum_of file.sum st.sum (st.told ∙ ap (λ (m : ArchiveName). told_sum m st.sum) same.1 ∙ told_some d.file st.sum d.segment d.stored.whole_or_part) in
       let size = some_at (λ bytes. length bytes ≡ file.size) (f (string_bytes file.path)) b.0 (ap f x.2 ∙ b.1) st.size in
       let whole = all_part b.0 file.size size in
       let deviates : BytesDeviate (Some b.0) 0 file.size told.0.0 (Digest t u) = (ap length whole ∙ size, sym (told.2 ∙ sums), sym (ap sha1 whole ∙ b.2), d.other) in
-      inl (file, x.1, record {
-        is = sym x.2;
-        deviates = subst (λ (o : Option Sum). IsSomeAnd o (λ sum. BytesDeviate (f n) 0 file.size sum.0 (Digest t u))) (sym told.1) (subst (λ (v : Value). BytesDeviate v 0 file.size told.0.0 (Digest t u)) (sym b.1) deviates);
-      })
+      inl (
+        file,
+        x.1,
+        record {
+          is = sym x.2;
+          deviates = subst (λ (o : Option Sum). IsSomeAnd o (λ sum. BytesDeviate (f n) 0 file.size sum.0 (Digest t u))) (sym told.1) (subst (λ (v : Value). BytesDeviate v 0 file.size told.0.0 (Digest t u)) (sym b.1) deviates);
+        },
+      )
   back n MemberAbsent d = absurd d
   back n MemberBad d = absurd d
   back n MembersDiffer d = absurd d

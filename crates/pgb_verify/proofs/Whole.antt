@@ -134,9 +134,9 @@ module _ (stanza : Text) (own : Label) (o : Option Content) (name : Text) (name_
       by None p same v x are listed q = tt
       by (Some f) p same v x are listed q =
           let pair : PairIs IsManifestText f (manifest_name stanza own) (manifest_of m) =
-              subst (λ (r : Option RustManifest). ValueSo IsManifestText manifest_of f (manifest_name stanza own) r) some (subst (λ (n : Text). ValueSo IsManifestText manifest_of f n read) name_is v) in
+          subst (λ (r : Option RustManifest). ValueSo IsManifestText manifest_of f (manifest_name stanza own) r) some (subst (λ (n : Text). ValueSo IsManifestText manifest_of f n read) name_is v) in
           let entries : Adds (OfSome (EntryDeviates stanza f own) (map file_entry_of files)) b c =
-              let Q : Option Content → Type 0 = λ o. IfSome o (λ f. Adds (OfSome (EntryDeviates stanza f own) (map file_entry_of files)) b c) in let here : Q (Some f) = subst Q same q in here in
+          let Q : Option Content → Type 0 = λ o. IfSome o (λ f. Adds (OfSome (EntryDeviates stanza f own) (map file_entry_of files)) b c) in let here : Q (Some f) = subst Q same q in here in
           let unlisted = subst (λ (l : List RustEntry). Adds (AreUnlisted (manifest_name stanza own) (map file_entry_of l) labels) d e) others_are (subst (λ (n : Text). Adds (AreUnlisted n (map file_entry_of others) labels) d e) (at_is ∙ name_is) s) in
           backup_read stanza f own (manifest_of m) pair one a b c d e (subst (λ (n : Text). Adds (PairDeviates IsManifestText f n) a b) name_is x)
           (subst (λ (l : List RustEntry). Adds (OfSome (EntryDeviates stanza f own) (map file_entry_of l)) b c) files_are entries) (r f are)

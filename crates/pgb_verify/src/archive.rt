@@ -10,10 +10,10 @@ ghost use Rattle.pgb_verify.specs.Lies.{LiesSo};
 ghost use Rattle.pgb_outside.specs.States.{Looks};
 
 use crate::finding::{Finding, Mark, VerifyFault};
-use crate::standins::tell_seconds;
+use crate::seconds::tell_seconds;
 use crate::summing::{Lies, deviation, sum_at};
-use pgb_stored::Stored;
 use pgb_outside::{Disk, Stop};
+use pgb_stored::Stored;
 use pgb_text::Sum;
 use std::alloc::Global;
 

@@ -15,12 +15,12 @@ ghost use Rattle.pgb_outside.specs.States.{Looks};
 use crate::files::look_at_files;
 use crate::finding::{Finding, VerifyFault};
 use crate::gaps::look_for_gaps;
-use crate::references::look_for_references;
 use crate::pairs::look_at_manifest;
-use pgb_stored::Stored;
-use pgb_stamp::label_text;
+use crate::references::look_for_references;
 use pgb_model::Label;
 use pgb_outside::Disk;
+use pgb_stamp::label_text;
+use pgb_stored::Stored;
 use pgb_text::NoMemory;
 use std::alloc::Global;
 

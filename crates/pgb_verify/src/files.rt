@@ -11,9 +11,9 @@ ghost use Rattle.pgb_outside.specs.States.{Looks};
 
 use crate::finding::{Finding, Mark, VerifyFault};
 use crate::summing::{deviation, sum_at};
-use pgb_stamp::label_text;
 use pgb_model::{Bundled, FileEntry, Label};
 use pgb_outside::Disk;
+use pgb_stamp::label_text;
 use pgb_text::NoMemory;
 use std::alloc::Global;
 
@@ -34,10 +34,16 @@ fn place_of(
     match file.bundle {
         None => {
             let path = file.path.as_str();
-            Ok((format!(in alloc; "backup/{stanza}/{label}/pg_data/{path}")?, 0))
+            Ok((
+                format!(in alloc; "backup/{stanza}/{label}/pg_data/{path}")?,
+                0,
+            ))
         }
         Some(Bundled { number, at }) => {
-            Ok((format!(in alloc; "backup/{stanza}/{label}/bundle/{number}")?, at))
+            Ok((
+                format!(in alloc; "backup/{stanza}/{label}/bundle/{number}")?,
+                at,
+            ))
         }
     }
 }

@@ -1,6 +1,6 @@
 // What deviates in a repository.
-use pgb_stored::ArchiveFault;
 use pgb_outside::Stop;
+use pgb_stored::ArchiveFault;
 use pgb_text::NoMemory;
 use std::alloc::{AllocError, AllocFailed};
 

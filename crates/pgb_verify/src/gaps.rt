@@ -14,9 +14,9 @@ ghost use Rattle.pgb_verify.specs.Gaps.{IsWhole, HasWhole, IsGap, Gaps};
 ghost use Rattle.pgb_verify.specs.What.{Gap, Tells};
 
 use crate::finding::{Finding, Kind};
-use pgb_stored::Stored;
-use pgb_stamp::label_text;
 use pgb_model::{ArchiveId, ArchiveName, Label, Manifest, Segment, Span, WalPart};
+use pgb_stamp::label_text;
+use pgb_stored::Stored;
 use pgb_text::NoMemory;
 use pgb_wal::{next, segment_text};
 use std::alloc::Global;

@@ -9,8 +9,8 @@ ghost use Rattle.pgb_verify.specs.References.{RefersTo, IsUnlisted, AreUnlisted}
 ghost use Rattle.pgb_verify.specs.What.{Reference, Tells};
 
 use crate::finding::{Finding, Kind};
-use pgb_stamp::label_text;
 use pgb_model::{FileEntry, Label};
+use pgb_stamp::label_text;
 use pgb_text::NoMemory;
 use std::alloc::Global;
 

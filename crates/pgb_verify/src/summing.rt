@@ -69,7 +69,12 @@ fn digest_line(alloc: Global, told: &Sum, found: &Sum) -> Result<String, NoMemor
 }
 
 /// How what lies there deviates from so many bytes with this sum.
-pub(crate) fn deviation(alloc: Global, lies: Lies, size: u64, sum: &Sum) -> Result<Option<Mark>, NoMemory>
+pub(crate) fn deviation(
+    alloc: Global,
+    lies: Lies,
+    size: u64,
+    sum: &Sum,
+) -> Result<Option<Mark>, NoMemory>
     ensures { IfOk result (λ r. (v : Value) (at : ℕ) → LiesSo v at size lies → TellsOne (BytesDeviate v at size sum.now.0) r) }
 {
     match lies {

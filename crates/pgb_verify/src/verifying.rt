@@ -23,9 +23,9 @@ use crate::backups::look_at_backup;
 use crate::finding::{Finding, VerifyFault};
 use crate::order::put_in_order;
 use crate::pairs::look_at_pair;
-use pgb_stored::{Stored, all};
 use pgb_model::{ArchiveInfo, BackupInfo, Entry, Label};
 use pgb_outside::Disk;
+use pgb_stored::{Stored, all};
 use pgb_text::NoMemory;
 use std::alloc::Global;
 

@@ -1,4 +1,3 @@
-use Rattle.std.proofs.Common.{arith}
 use Rattle.pgb_outside.specs.Content.{Content}
 use Rattle.pgb_model.specs.Values.{FileEntry, file_entry_of}
 use Rattle.pgb_verify.specs.Findings.{EntryDeviates}

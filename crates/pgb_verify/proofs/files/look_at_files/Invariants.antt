@@ -1,4 +1,4 @@
-use Rattle.std.proofs.Common.{◌≤◌, take, map}
+use Rattle.std.proofs.Common.{take, map}
 use Rattle.std.specs.Prelude.{IfSome}
 use Rattle.pgb_model.specs.Values.{file_entry_of}
 use Rattle.pgb_verify.specs.Findings.{EntryDeviates}

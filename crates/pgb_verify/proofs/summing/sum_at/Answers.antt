@@ -21,7 +21,7 @@ loop-count-preserved g c =
     let told = rw c.in-Some-2.is at c.in_ok-read.ensures.bytes in
     let room = rw c.in-Some-2.is at c.in_ok-read.ensures.room in
     let reads : IfSome o (λ (f : Content). Reads (f name) (c.args.at + c.loop-count.count) (length c.loop-count.piece) new (Some n)) =
-        subst (λ (o : Option Content). IfSome o (λ (f : Content). Reads (f name) (c.args.at + c.loop-count.count) (length c.loop-count.piece) new (Some n))) i.looks.now (rw from at told) in
+    subst (λ (o : Option Content). IfSome o (λ (f : Content). Reads (f name) (c.args.at + c.loop-count.count) (length c.loop-count.piece) new (Some n))) i.looks.now (rw from at told) in
     let fewer : m ≤ n = omega arith in
     let some : 0 < m = omega arith in
     let fits : m ≤ length new = omega (arith, fewer, room, c.read.auto.buf) in

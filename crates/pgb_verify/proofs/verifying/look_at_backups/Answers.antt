@@ -1,4 +1,4 @@
-use Rattle.std.proofs.Common.{arith, get_or, None}
+use Rattle.std.proofs.Common.{get_or, None}
 use Rattle.std.proofs.lemmas.List.{get_or_default}
 use Rattle.pgb_outside.specs.Content.{Content}
 use Rattle.pgb_model.specs.declared.labels.Label.{Label}

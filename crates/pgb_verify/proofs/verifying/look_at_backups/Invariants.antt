@@ -1,4 +1,4 @@
-use Rattle.std.proofs.Common.{◌≤◌, take}
+use Rattle.std.proofs.Common.{take}
 use Rattle.std.specs.Prelude.{IfSome}
 use Rattle.pgb_verify.specs.Findings.{BackupDeviates}
 use Rattle.pgb_verify.specs.Adding.{Adds, OfSome}
