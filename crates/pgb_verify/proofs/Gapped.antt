@@ -15,7 +15,7 @@ use Rattle.pgb_model.proofs.Pushed.{in_left, in_either}
 use Rattle.pgb_wal.specs.Next.{IsOfLog}
 use Rattle.pgb_wal.proofs.Follows.{same_place}
 use Rattle.pgb_verify.specs.declared.finding.Finding.{Finding}
-use Rattle.pgb_verify.specs.What.{What, Tells, MemberAbsent, MemberBad, MembersDiffer, Absent, Short, Digest, Second, Gap, Reference}
+use Rattle.pgb_verify.specs.What.{What, Tells, MemberAbsent, MemberBad, MembersDiffer, Absent, Short, Digest, Second, Gap, Reference, Unlike}
 use Rattle.pgb_verify.specs.Adding.{Adds}
 use Rattle.pgb_verify.specs.Gaps.{IsWhole, HasWhole, IsGap, GapsBelow, Gaps}
 use Rattle.pgb_verify.proofs.Adding.{in_right, Either, adds_one, adds_none, adds_as, adds_on}
@@ -31,6 +31,7 @@ module _ (at : Text) (stored : List Segment) where
   only s n (Digest t k) d = absurd d
   only s n (Second t) d = absurd d
   only s n (Reference l) d = absurd d
+  only s n Unlike d = absurd d
 
   pub gap_told : (s : Segment) (a b : List Finding) (x : Finding) → ¬ In s stored → Tells x at (Gap s) → b ≡ a ++ x ∷ [] → Adds (IsGap at stored s) a b
   gap_told s a b x none tells grown = subst (λ (c : List Finding). Adds (IsGap at stored s) a c) (sym grown)
@@ -50,6 +51,7 @@ module _ (at : Text) (stored : List Segment) where
     below k n (Digest t j) d = absurd d
     below k n (Second t) d = absurd d
     below k n (Reference l) d = absurd d
+    below k n Unlike d = absurd d
 
     whole : (n : Text) (w : What) → Gaps at stored size span n w → (s : Segment) × (w ≡ Gap s) × (n ≡ at) × IsWithinSpan size span s × ¬ In s stored
     whole n (Gap s) d = (s, refl, d.0, d.1, d.2)
@@ -61,6 +63,7 @@ module _ (at : Text) (stored : List Segment) where
     whole n (Digest t j) d = absurd d
     whole n (Second t) d = absurd d
     whole n (Reference l) d = absurd d
+    whole n Unlike d = absurd d
 
     pub below_none : (a : List Finding) → Adds (GapsBelow at stored size span (position size span.start)) a a
     below_none a = adds_none (GapsBelow at stored size span (position size span.start)) a (λ n w d. let g = below (position size span.start) n w d in let lt = g.4 in let le = g.3.2 in omega (arith, lt, le))

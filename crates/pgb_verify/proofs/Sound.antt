@@ -1,6 +1,6 @@
 -- A sound repository whose members agree has no deviation.
 use Rattle.std.proofs.Common.{◌≡◌, ◌≢◌, inl, inr, ℕ, ◌+◌, ◌-◌, true, List, [], ◌∷◌, ◌++◌, length, map, take, drop, Option, Some, None, refl, sym, subst, ap, ap₂, ◌∙◌, arith, append_assoc}
-use Rattle.std.specs.Prelude.{IsSomeAnd, slice_range}
+use Rattle.std.specs.Prelude.{IsSomeAnd, option_map, slice_range}
 use Rattle.std.proofs.lemmas.List.{append_cancel_left}
 use Rattle.sha1.specs.Sha1.{sha1}
 use Rattle.pgb_text.specs.Sum.{IsSum, sum_text}
@@ -30,8 +30,9 @@ use Rattle.pgb_stored.specs.Looks.{file_front, sum_digits}
 use Rattle.pgb_stored.proofs.OnePath.{one_path}
 use Rattle.pgb_stored.proofs.Looked.{with_front}
 use Rattle.pgb_stored.proofs.Orders.{in_map, from_map, not_itself}
-use Rattle.pgb_verify.specs.What.{What, MemberAbsent, MemberBad, MembersDiffer, Absent, Short, Digest, Second, Gap, Reference}
-use Rattle.pgb_verify.specs.Findings.{IsText, MemberDeviates, BothDeviate, PairDeviates, OfMain, OfCopy, OfBoth, segment_of, IsStoredName, FileDeviates, part, BytesDeviate, EntryDeviates, SpanDeviates, ReferenceDeviates, ManifestDeviates, OfEntry, OfSpan, OfReference, BackupDeviates, OfMembers, OfManifest, IsFinding, OfArchivePair, OfBackupPair, OfFile, OfBackup}
+use Rattle.pgb_verify.specs.What.{What, MemberAbsent, MemberBad, MembersDiffer, Absent, Short, Digest, Second, Gap, Reference, Unlike}
+use Rattle.pgb_verify.specs.Findings.{IsText, MemberDeviates, BothDeviate, PairDeviates, OfMain, OfCopy, OfBoth, segment_of, IsStoredName, FileDeviates, part, BytesDeviate, EntryDeviates, SpanDeviates, ReferenceDeviates, ManifestDeviates, OfEntry, OfSpan, OfReference, BackupDeviates, OfMembers, OfManifest, IsFinding, OfArchivePair, OfBackupPair, OfFile, OfBackup, OfListed, EntryIsUnlike, IsOfEntry}
+use Rattle.pgb_model.proofs.Pushed.{in_left}
 use Rattle.pgb_verify.specs.Clean.{AgreeAt, MembersAgree}
 use Rattle.pgb_verify.proofs.Values.{IsOfOne}
 use Rattle.pgb_verify.proofs.Values.{not_none, some_at, if_at, value_of, some_of, is_some, same_some}
@@ -61,6 +62,7 @@ module _ {V : Type 0} (IsTextOf : V → Text → Type 0) (f : Content) (main : T
   clean_member at v bytes is text name (Second s) d = d
   clean_member at v bytes is text name (Gap s) d = d
   clean_member at v bytes is text name (Reference l) d = d
+  clean_member at v bytes is text name Unlike d = d
 
   clean_both : (bytes : Text) → f main ≡ Some bytes → f (copy_of main) ≡ Some bytes → (name : Text) (what : What) → ¬ BothDeviate IsTextOf f main name what
   clean_both bytes is same name MembersDiffer d =
@@ -75,6 +77,7 @@ module _ {V : Type 0} (IsTextOf : V → Text → Type 0) (f : Content) (main : T
   clean_both bytes is same name (Second s) d = d
   clean_both bytes is same name (Gap s) d = d
   clean_both bytes is same name (Reference l) d = d
+  clean_both bytes is same name Unlike d = d
 
   pub clean_pair : (v : V) → PairIs IsTextOf f main v → AgreeAt f main → (name : Text) (what : What) → ¬ PairDeviates IsTextOf f main name what
   clean_pair v p agree name what (OfMain d) = let b = both v p agree in clean_member main v b.0 b.1 b.3 name what d
@@ -139,6 +142,7 @@ module _ (stanza : Text) (f : Content) (s : Stanza) (h : HasStanza stanza f s) w
   clean_file apart name (Short told found) d = d
   clean_file apart name (Gap k) d = d
   clean_file apart name (Reference l) d = d
+  clean_file apart name Unlike d = d
 
 -- ---- a backup
 
@@ -167,6 +171,7 @@ clean_bytes v at whole bytes sum size is lies long digest what d = by what (subs
     by (Second k) d = d
     by (Gap k) d = d
     by (Reference l) d = d
+    by Unlike d = d
 
 module _ (stanza : Text) (f : Content) (s : Stanza) (h : HasStanza stanza f s) (sound : IsSoundStanza s) (agree : MembersAgree stanza f s)
     (one_backup : IsOfOne IsBackupText) (one_manifest : IsOfOne IsManifestText) where
@@ -222,6 +227,7 @@ module _ (stanza : Text) (f : Content) (s : Stanza) (h : HasStanza stanza f s) (
     clean_span m is name (Digest told found) d = d
     clean_span m is name (Second k) d = d
     clean_span m is name (Reference l) d = d
+    clean_span m is name Unlike d = d
 
     clean_reference : (m : Manifest) → IsManifestOf stanza f s b m → (name : Text) (what : What) → ¬ ReferenceDeviates stanza f own m name what
     clean_reference m is name (Reference l) d =
@@ -235,6 +241,7 @@ module _ (stanza : Text) (f : Content) (s : Stanza) (h : HasStanza stanza f s) (
     clean_reference m is name (Digest told found) d = d
     clean_reference m is name (Second k) d = d
     clean_reference m is name (Gap k) d = d
+    clean_reference m is name Unlike d = d
 
     clean_entry : (m : Manifest) → IsManifestOf stanza f s b m → (e : FileEntry) → In e m.files → (name : Text) (what : What) → ¬ EntryDeviates stanza f own e name what
     clean_entry m is e among name what d =
@@ -255,6 +262,36 @@ module _ (stanza : Text) (f : Content) (s : Stanza) (h : HasStanza stanza f s) (
         let same : k.0 ≡ m = one_value IsManifestText f (manifest_name stanza own) one_manifest k.0 m k.1 p in
         clean_manifest m (subst (λ (n : Manifest). IsManifestOf stanza f s b n) same k.2) name what d
 
+  clean_listed : (p : Option Cluster) (b : Backup) → In b s.backups → (name : Text) (what : What) → ¬ EntryIsUnlike stanza f (backup_value s p).history b.entry name what
+  clean_listed p b at name Unlike d =
+      let k = h.manifests b at in
+      let m = d.1.0 in
+      let same : k.0 ≡ m = one_value IsManifestText f (manifest_name stanza b.entry.label) one_manifest k.0 m k.1 d.1.1 in
+      let is = subst (λ (n : Manifest). IsManifestOf stanza f s b n) same k.2 in
+      d.1.2 (record {
+        label = is.label;
+        kind = is.kind;
+        prior = is.prior;
+        start = is.start;
+        stop = is.stop;
+        cluster = (of_history p m.cluster is.cluster.0, is.cluster.1);
+        span = ap (option_map (λ (w : WalPart). w.span)) is.wal ∙ sym (sound_at s [] s.backups sound.backups b at).1.span;
+        references = is.references;
+      })
+    where
+      of_history : (p : Option Cluster) (c : Cluster) → In c s.history → In c (backup_value s p).history
+      of_history None c at = at
+      of_history (Some k) c at = in_left c s.history (k ∷ []) at
+  clean_listed p b at name MemberAbsent d = d
+  clean_listed p b at name MemberBad d = d
+  clean_listed p b at name MembersDiffer d = d
+  clean_listed p b at name Absent d = d
+  clean_listed p b at name (Short told found) d = d
+  clean_listed p b at name (Digest told found) d = d
+  clean_listed p b at name (Second k) d = d
+  clean_listed p b at name (Gap k) d = d
+  clean_listed p b at name (Reference l) d = d
+
   -- nothing deviates
   pub clean : (name : Text) (what : What) → ¬ IsFinding stanza f name what
   clean name what (OfArchivePair d) = clean_pair IsArchiveText f (archive_info stanza) (archive_value s) h.archive_pair agree.archive name what d
@@ -263,3 +300,9 @@ module _ (stanza : Text) (f : Content) (s : Stanza) (h : HasStanza stanza f s) (
   clean name what (OfBackup own k d) =
       let b = listed own k in
       clean_backup b.0 b.1 name what (subst (λ (l : Label). BackupDeviates stanza f l name what) b.2 d)
+  clean name what (OfListed v p e at d) =
+      let same : v ≡ value = one_value IsBackupText f (backup_info stanza) one_backup v value p h.backup_pair in
+      let among : In e (map (λ (b : Backup). b.entry) s.backups) = subst (λ es. In e es) (ap (λ (w : BackupInfo). w.backups) same ∙ entries h.pending) at in
+      let b = from_map (λ (b : Backup). b.entry) s.backups e among in
+      clean_listed h.pending b.0 b.1 name what
+      (subst (λ (x : Entry). EntryIsUnlike stanza f value.history x name what) b.2 (subst (λ (w : BackupInfo). EntryIsUnlike stanza f w.history e name what) same d))

@@ -17,7 +17,7 @@ use Rattle.pgb_stored.specs.declared.files.Stored.{Stored}
 use Rattle.pgb_stored.specs.Stored.{archive_path, AreStored}
 use Rattle.pgb_stored.proofs.OnePath.{one_path}
 use Rattle.pgb_verify.specs.declared.finding.Finding.{Finding}
-use Rattle.pgb_verify.specs.What.{What, MemberAbsent, MemberBad, MembersDiffer, Absent, Short, Digest, Second, Gap, Reference}
+use Rattle.pgb_verify.specs.What.{What, MemberAbsent, MemberBad, MembersDiffer, Absent, Short, Digest, Second, Gap, Reference, Unlike}
 use Rattle.pgb_verify.specs.Findings.{IsStored, SpanDeviates}
 use Rattle.pgb_verify.specs.Adding.{Adds}
 use Rattle.pgb_verify.specs.Gaps.{HasWhole, Gaps}
@@ -67,6 +67,7 @@ module _ (stanza : Text) (f : Content) (own : Label) (m : Manifest) (files : Lis
       by n (Digest t k) d = d
       by n (Second t) d = d
       by n (Reference l) d = d
+      by n Unlike d = d
 
   pub spans_told : (w : WalPart) → m.wal ≡ Some w → (at : Text) → at ≡ label_folder stanza own → (stored : List Segment) → ((s : Segment) → In s stored ↔ HasWhole id files s)
       → (a b : List Finding) → Adds (Gaps at stored w.size.0 w.span) a b → Adds (SpanDeviates stanza f own m) a b
@@ -82,6 +83,7 @@ module _ (stanza : Text) (f : Content) (own : Label) (m : Manifest) (files : Lis
       to n (Digest t k) d = d
       to n (Second t) d = d
       to n (Reference l) d = d
+      to n Unlike d = d
 
       back : (n : Text) (u : What) → SpanDeviates stanza f own m n u → Gaps at stored w.size.0 w.span n u
       back n (Gap s) d = (d.0 ∙ sym at_is, some_at (λ w. IsWithinSpan w.size.0 w.span s) m.wal w some d.1, λ k. d.2 (stored_of s ((known s).0 k)))
@@ -93,3 +95,4 @@ module _ (stanza : Text) (f : Content) (own : Label) (m : Manifest) (files : Lis
       back n (Digest t k) d = d
       back n (Second t) d = d
       back n (Reference l) d = d
+      back n Unlike d = d

@@ -1,8 +1,9 @@
 -- The findings of the parts are those of the whole.
-use Rattle.std.proofs.Common.{◌≡◌, ◌↔◌, inl, inr, ℕ, List, [], ◌∷◌, ◌++◌, length, map, Option, Some, None, refl, sym, ◌∙◌, subst}
+use Rattle.std.proofs.Common.{◌≡◌, ◌↔◌, ⊎_elim, inl, inr, ℕ, List, [], ◌∷◌, ◌++◌, length, map, Option, Some, None, refl, sym, ◌∙◌, subst}
 use Rattle.std.specs.Prelude.{IfSome}
 use Rattle.std.specs.List.Sorted.{IsStrictlySortedBy}
 use Rattle.pgb_outside.specs.Content.{Content}
+use Rattle.pgb_model.specs.declared.clusters.Cluster.{Cluster}
 use Rattle.pgb_model.specs.declared.labels.Label.{Label}
 use Rattle.pgb_model.specs.declared.files.Manifest.{Manifest as RustManifest}
 use Rattle.pgb_model.specs.declared.files.FileEntry.{FileEntry as RustEntry}
@@ -18,8 +19,8 @@ use Rattle.pgb_model.specs.Pair.{PairIs}
 use Rattle.pgb_model.specs.Log.{Lists}
 use Rattle.pgb_stored.proofs.Orders.{in_map, from_map}
 use Rattle.pgb_verify.specs.declared.finding.Finding.{Finding}
-use Rattle.pgb_verify.specs.What.{What, MemberAbsent, MemberBad, MembersDiffer, Absent, Short, Digest, Second, Gap, Reference, Tells}
-use Rattle.pgb_verify.specs.Findings.{PairDeviates, FileDeviates, EntryDeviates, SpanDeviates, ReferenceDeviates, ManifestDeviates, OfEntry, OfSpan, OfReference, BackupDeviates, OfMembers, OfManifest, IsFinding, OfArchivePair, OfBackupPair, OfFile, OfBackup}
+use Rattle.pgb_verify.specs.What.{What, MemberAbsent, MemberBad, MembersDiffer, Absent, Short, Digest, Second, Gap, Reference, Unlike, Tells}
+use Rattle.pgb_verify.specs.Findings.{PairDeviates, FileDeviates, EntryDeviates, SpanDeviates, ReferenceDeviates, ManifestDeviates, OfEntry, OfSpan, OfReference, BackupDeviates, OfMembers, OfManifest, IsFinding, OfArchivePair, OfBackupPair, OfFile, OfBackup, OfListed, EntryIsUnlike, ListedDeviates}
 use Rattle.pgb_verify.specs.References.{AreUnlisted, RefersTo}
 use Rattle.pgb_verify.specs.Adding.{Adds, OfSome}
 use Rattle.pgb_verify.specs.Clean.{MembersAgree}
@@ -60,6 +61,7 @@ module _ (stanza : Text) (f : Content) (labels : List Label) (listed : (l : Labe
   to_reference name (Digest t n) h = h
   to_reference name (Second s) h = h
   to_reference name (Gap s) h = h
+  to_reference name Unlike h = h
 
   from_reference : (name : Text) (what : What) → ReferenceDeviates stanza f own m name what → AreUnlisted (manifest_name stanza own) m.files labels name what
   from_reference name (Reference l) h = (h.0, h.1, λ k. h.2 ((listed l).0 k))
@@ -71,6 +73,7 @@ module _ (stanza : Text) (f : Content) (labels : List Label) (listed : (l : Labe
   from_reference name (Digest t n) h = h
   from_reference name (Second s) h = h
   from_reference name (Gap s) h = h
+  from_reference name Unlike h = h
 
   pub references_add : (a b : List Finding) → Adds (AreUnlisted (manifest_name stanza own) m.files labels) a b → Adds (ReferenceDeviates stanza f own m) a b
   references_add a b p = adds_as (AreUnlisted (manifest_name stanza own) m.files labels) (ReferenceDeviates stanza f own m) a b to_reference from_reference p
@@ -151,8 +154,8 @@ listed_labels n earlier [] are l at = absurd at
 listed_labels n earlier (e ∷ es) are l (inl is) = subst IsLabel (sym is) are.0.label
 listed_labels n earlier (e ∷ es) are l (inr at) = listed_labels n (earlier ++ e ∷ []) es are.1 l at
 
-pub labels_fit : (v : BackupInfo) → IsBackupInfo v → (labels : List Label) → labels ≡ map (λ (e : Entry). e.label) v.backups → (l : Label) → In l labels → IsLabel l
-labels_fit v rules labels is l at = listed_labels (length v.history) [] v.backups rules.backups l (subst (λ (ls : List Label). In l ls) is at)
+pub entries_fit : (v : BackupInfo) → IsBackupInfo v → (backups : List Entry) → backups ≡ v.backups → (e : Entry) → In e backups → IsLabel e.label
+entries_fit v rules backups is e at = listed_labels (length v.history) [] v.backups rules.backups e.label (in_map (λ (e : Entry). e.label) v.backups e (subst (λ (es : List Entry). In e es) is at))
 
 pub labels_told : (stanza : Text) (o p : Option Content) → p ≡ o → (v : BackupInfo) → IsOfOne IsBackupText → IfSome o (λ f. PairIs IsBackupText f (backup_info stanza) v) → (labels : List Label) → labels ≡ map (λ (e : Entry). e.label) v.backups
     → IfSome p (λ f. (l : Label) → In l labels ↔ Lists stanza f l)
@@ -164,24 +167,29 @@ labels_told stanza o p same v one pair labels is = subst (λ (q : Option Content
 
 -- ---- all of them
 
-module _ (stanza : Text) (f : Content) (labels : List Label) (listed : (l : Label) → In l labels ↔ Lists stanza f l) where
+module _ (stanza : Text) (f : Content) (v : BackupInfo) (one : IsOfOne IsBackupText) (pair : PairIs IsBackupText f (backup_info stanza) v) where
   abbrev All : Text → What → Type 0
-  All = Either (PairsDeviate stanza f) (Either (FileDeviates stanza f) (OfSome (BackupDeviates stanza f) labels))
+  All = Either (PairsDeviate stanza f) (Either (FileDeviates stanza f) (OfSome (ListedDeviates stanza f v.history) v.backups))
 
   all_to : (name : Text) (what : What) → All name what → IsFinding stanza f name what
   all_to name what (inl (inl h)) = OfArchivePair h
   all_to name what (inl (inr h)) = OfBackupPair h
   all_to name what (inr (inl h)) = OfFile h
-  all_to name what (inr (inr h)) = OfBackup h.0 ((listed h.0).0 h.1) h.2
+  all_to name what (inr (inr h)) = ⊎_elim (λ d. OfBackup h.0.label (lists stanza f v one pair h.0.label h.0 h.1 refl) d) (λ d. OfListed v pair h.0 h.1 d) h.2
 
   all_back : (name : Text) (what : What) → IsFinding stanza f name what → All name what
   all_back name what (OfArchivePair h) = inl (inl h)
   all_back name what (OfBackupPair h) = inl (inr h)
   all_back name what (OfFile h) = inr (inl h)
-  all_back name what (OfBackup own k h) = inr (inr (own, (listed own).1 k, h))
+  all_back name what (OfBackup own k h) =
+      let e = is_listed stanza f v one pair own k in
+      inr (inr (e.0, e.1, inl (subst (λ (l : Label). BackupDeviates stanza f l name what) (sym e.2) h)))
+  all_back name what (OfListed w p e at d) =
+      let same : w ≡ v = one_value IsBackupText f (backup_info stanza) one w v p pair in
+      inr (inr (e, subst (λ (x : BackupInfo). In e x.backups) same at, inr (subst (λ (x : BackupInfo). EntryIsUnlike stanza f x.history e name what) same d)))
 
-  pub all_add : (a b c d : List Finding) → Adds (PairsDeviate stanza f) a b → Adds (FileDeviates stanza f) b c → Adds (OfSome (BackupDeviates stanza f) labels) c d → Adds (IsFinding stanza f) a d
-  all_add a b c d p q r = adds_as All (IsFinding stanza f) a d all_to all_back (adds_on (PairsDeviate stanza f) _ a b d p (adds_on (FileDeviates stanza f) (OfSome (BackupDeviates stanza f) labels) b c d q r))
+  pub all_add : (a b c d : List Finding) → Adds (PairsDeviate stanza f) a b → Adds (FileDeviates stanza f) b c → Adds (OfSome (ListedDeviates stanza f v.history) v.backups) c d → Adds (IsFinding stanza f) a d
+  all_add a b c d p q r = adds_as All (IsFinding stanza f) a d all_to all_back (adds_on (PairsDeviate stanza f) _ a b d p (adds_on (FileDeviates stanza f) (OfSome (ListedDeviates stanza f v.history) v.backups) b c d q r))
 
 -- ---- in order
 
@@ -216,18 +224,18 @@ pairs_told stanza (Some f) p one two a b c same e e2 x y =
     adds_on (PairDeviates IsArchiveText f (archive_info stanza)) (PairDeviates IsBackupText f (backup_info stanza)) a b c
     (subst (λ (n : Text). Adds (PairDeviates IsArchiveText f n) a b) e x) (subst (λ (n : Text). Adds (PairDeviates IsBackupText f n) b c) e2 here)
 
-pub whole_told : (stanza : Text) (o p q : Option Content) (labels : List Label) (a b c d e : List Finding) → a ≡ [] → p ≡ o → q ≡ o → IfSome q (λ f. (l : Label) → In l labels ↔ Lists stanza f l)
-    → IfSome o (λ f. Adds (PairsDeviate stanza f) a b) → IfSome p (λ f. Adds (FileDeviates stanza f) b c) → IfSome q (λ f. Adds (OfSome (BackupDeviates stanza f) labels) c d)
+pub whole_told : (stanza : Text) (o p q : Option Content) (v : BackupInfo) (history : List Cluster) (backups : List Entry) (a b c d e : List Finding) → a ≡ [] → p ≡ o → q ≡ o → IsOfOne IsBackupText → history ≡ v.history → backups ≡ v.backups
+    → IfSome o (λ f. PairIs IsBackupText f (backup_info stanza) v) → IfSome o (λ f. Adds (PairsDeviate stanza f) a b) → IfSome p (λ f. Adds (FileDeviates stanza f) b c)
+    → IfSome q (λ f. Adds (OfSome (ListedDeviates stanza f history) backups) c d)
     → IsStrictlySortedBy finding_cmp e → ((x : Finding) → In x e → In x d) → ((x : Finding) → In x d → (y : Finding) × In y e × AreAlike x y) → IfSome o (λ f. AreFindings stanza f e)
-whole_told stanza None p q labels a b c d e start same also listed x y z order each all = tt
-whole_told stanza (Some f) p q labels a b c d e start same also listed x y z order each all =
+whole_told stanza None p q v history backups a b c d e start same also one clusters entries pair x y z order each all = tt
+whole_told stanza (Some f) p q v history backups a b c d e start same also one clusters entries pair x y z order each all =
     let P : Option Content → Type 0 = λ o. IfSome o (λ f. Adds (FileDeviates stanza f) b c) in
-    let Q : Option Content → Type 0 = λ o. IfSome o (λ f. Adds (OfSome (BackupDeviates stanza f) labels) c d) in
-    let L : Option Content → Type 0 = λ o. IfSome o (λ f. (l : Label) → In l labels ↔ Lists stanza f l) in
+    let Q : Option Content → Type 0 = λ o. IfSome o (λ f. Adds (OfSome (ListedDeviates stanza f history) backups) c d) in
     let files : P (Some f) = subst P same y in
-    let backups : Q (Some f) = subst Q also z in
-    let known : L (Some f) = subst L also listed in
-    in_order stanza f d e (all_add stanza f labels known [] b c d (subst (λ (l : List Finding). Adds (PairsDeviate stanza f) l b) start x) files backups) order each all
+    let listed : Q (Some f) = subst Q also z in
+    let own = subst (λ (es : List Entry). Adds (OfSome (ListedDeviates stanza f v.history) es) c d) entries (subst (λ (h : List Cluster). Adds (OfSome (ListedDeviates stanza f h) backups) c d) clusters listed) in
+    in_order stanza f d e (all_add stanza f v one pair [] b c d (subst (λ (l : List Finding). Adds (PairsDeviate stanza f) l b) start x) files own) order each all
 
 pub clean_told : (stanza : Text) (o : Option Content) (e : List Finding) → IsOfOne IsBackupText → IsOfOne IsManifestText → IfSome o (λ f. AreFindings stanza f e)
     → IfSome o (λ f. (s : Stanza) → HasStanza stanza f s → IsSoundStanza s → MembersAgree stanza f s → e ≡ [])

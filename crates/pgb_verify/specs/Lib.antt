@@ -9,3 +9,4 @@ pub mod Members
 pub mod References
 pub mod Gaps
 pub mod Archived
+pub mod Entries

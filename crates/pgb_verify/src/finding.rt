@@ -25,6 +25,8 @@ pub enum Kind {
     Gap,
     /// A backup refers to another that isn't listed.
     Reference,
+    /// A manifest tells another backup than its entry in `backup.info` does.
+    Unlike,
 }
 
 /// A deviation: its kind, and the line that tells it.

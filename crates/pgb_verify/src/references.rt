@@ -14,15 +14,15 @@ use pgb_stamp::label_text;
 use pgb_text::NoMemory;
 use std::alloc::Global;
 
-fn is_same(a: &Label, b: &Label) -> bool
+pub(crate) fn is_same(a: &Label, b: &Label) -> bool
     ensures yes { IsTrue result → a.now ≡ b.now }
     ensures no { result ≡ false → a.now ≢ b.now }
 {
     a == b
 }
 
-// Whether the label is among these.
-fn is_among(labels: &[Label], label: &Label) -> bool
+/// Whether the label is among these.
+pub(crate) fn is_among(labels: &[Label], label: &Label) -> bool
     ensures yes { IsTrue result → In label.now labels.now }
     ensures no { result ≡ false → ¬ In label.now labels.now }
 {
@@ -54,8 +54,8 @@ fn add_reference(labels: &mut Vec<Label>, file: &FileEntry) -> Result<(), NoMemo
     Ok(())
 }
 
-// The labels that files refer to, each once.
-fn labels_of(alloc: Global, files: &[FileEntry]) -> Result<Vec<Label>, NoMemory>
+/// The labels that files refer to, each once.
+pub(crate) fn labels_of(alloc: Global, files: &[FileEntry]) -> Result<Vec<Label>, NoMemory>
     ensures { IfOk result (λ labels. (l : LabelOf) → In l labels.items ↔ RefersTo (map file_entry_of files.now) l) }
 {
     let mut labels = Vec::new(alloc);

@@ -15,15 +15,15 @@ ghost use Rattle.pgb_stored.specs.Stored.{AreStored};
 ghost use Rattle.pgb_verify.specs.Adding.{Adds, OfSome};
 ghost use Rattle.pgb_verify.specs.Clean.{MembersAgree};
 ghost use Rattle.pgb_verify.specs.Exact.{AreFindings, PairsDeviate};
-ghost use Rattle.pgb_verify.specs.Findings.{BackupDeviates, FileDeviates};
+ghost use Rattle.pgb_verify.specs.Findings.{FileDeviates, ListedDeviates};
 ghost use Rattle.pgb_outside.specs.States.{Looks};
 
 use crate::archive::look_at_archive;
-use crate::backups::look_at_backup;
+use crate::backups::look_at_listed;
 use crate::finding::{Finding, VerifyFault};
 use crate::order::put_in_order;
 use crate::pairs::look_at_pair;
-use pgb_model::{ArchiveInfo, BackupInfo, Entry, Label};
+use pgb_model::{ArchiveInfo, BackupInfo, Cluster, Entry, Label};
 use pgb_outside::Disk;
 use pgb_stored::{Stored, all};
 use pgb_text::NoMemory;
@@ -45,19 +45,23 @@ fn look_at_backups<D: Disk>(
     alloc: Global,
     d: &mut D,
     stanza: &str,
+    history: &[Cluster],
+    entries: &[Entry],
     labels: &[Label],
     files: &[Stored],
     found: &mut Vec<Finding>,
 ) -> Result<(), VerifyFault>
-    requires labels { (l : LabelOf) → In l labels.now → IsLabel l }
+    requires labels { (e : Listed) → In e (map entry_of entries.now) → IsLabel e.label }
     requires listed { IfSome (D.state d.old).view.now (λ f. (l : LabelOf) → In l labels.now ↔ Lists stanza.now f l) }
     requires stored { IfSome (D.state d.old).view.now (λ f. AreStored stanza.now f files.now) }
-    ensures adds { OnOk result (IfSome (D.state d.old).view.now (λ f. Adds (OfSome (BackupDeviates stanza.now f) labels.now) found.old.items found.new.items)) }
+    ensures adds { OnOk result (IfSome (D.state d.old).view.now
+        (λ f. Adds (OfSome (ListedDeviates stanza.now f history.now) (map entry_of entries.now))
+        found.old.items found.new.items)) }
     ensures looks { Looks (D.state d.old) (D.state d.new) }
     ensures cause { IsErrOf result VerifyFault.Disk → Rises (D.state d.old).faults (D.state d.new).faults }
 {
-    for own in labels {
-        look_at_backup(alloc, d, stanza, own, labels, files, found)?;
+    for entry in entries {
+        look_at_listed(alloc, d, stanza, history, entry, labels, files, found)?;
     }
     Ok(())
 }
@@ -116,7 +120,16 @@ pub fn verify<D: Disk>(
     let mut found = Vec::new(alloc);
     look_at_pairs(alloc, d, stanza, &mut found)?;
     let files = look_at_files_of(alloc, d, stanza, &mut found)?;
-    look_at_backups(alloc, d, stanza, &labels, &files, &mut found)?;
+    look_at_backups(
+        alloc,
+        d,
+        stanza,
+        &listed.history,
+        &listed.backups,
+        &labels,
+        &files,
+        &mut found,
+    )?;
     put_in_order(&mut found);
     Ok(found)
 }
