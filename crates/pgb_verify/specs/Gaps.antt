@@ -1,0 +1,34 @@
+-- The segments that a backup needs, up to a place in the log.
+use Rattle.std.specs.Prelude.{◌≡◌, ℕ, ◌<◌, List}
+use Rattle.pgb_model.specs.declared.wal.Segment.{Segment}
+use Rattle.pgb_model.specs.declared.wal.Span.{Span}
+use Rattle.pgb_model.specs.declared.wal.ArchiveId.{ArchiveId}
+use Rattle.pgb_model.specs.declared.wal.ArchiveName.TheVariants.{Segment as Whole}
+use Rattle.pgb_model.specs.Text.{Text, In}
+use Rattle.pgb_model.specs.ManifestText.{position}
+use Rattle.pgb_model.specs.Repository.{IsWithinSpan}
+use Rattle.pgb_stored.specs.declared.files.Stored.{Stored}
+use Rattle.pgb_verify.specs.What.{What, Gap}
+
+-- the file is the whole segment under the id
+abbrev pub IsWhole : ArchiveId → Stored → Segment → Type 0
+IsWhole id file s = (file.id ≡ id) × (file.name ≡ Whole s)
+
+-- one of the files is
+abbrev pub HasWhole : ArchiveId → List Stored → Segment → Type 0
+HasWhole id files s = (file : Stored) × In file files × IsWhole id file s
+
+-- the segment is told at the name where it isn't among these
+abbrev pub IsGap : Text → List Segment → Segment → Text → What → Type 0
+IsGap at stored s name (Gap t) = (name ≡ at) × (t ≡ s) × ¬ In s stored
+IsGap at stored s name what = ⊥
+
+-- the segments of the span before a position that aren't among these are told
+abbrev pub GapsBelow : Text → List Segment → ℕ → Span → ℕ → Text → What → Type 0
+GapsBelow at stored size span k name (Gap s) = (name ≡ at) × IsWithinSpan size span s × (position size s < k) × ¬ In s stored
+GapsBelow at stored size span k name what = ⊥
+
+-- all of the span
+abbrev pub Gaps : Text → List Segment → ℕ → Span → Text → What → Type 0
+Gaps at stored size span name (Gap s) = (name ≡ at) × IsWithinSpan size span s × ¬ In s stored
+Gaps at stored size span name what = ⊥

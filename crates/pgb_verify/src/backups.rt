@@ -1,0 +1,94 @@
+// A listed backup is looked at.
+ghost use Rattle.std.specs.Prelude.{◌≡◌, ◌≤◌, ◌↔◌, IfOk, IfSome, OnOk, IsErrOf, string_bytes};
+ghost use Rattle.pgb_outside.specs.Cause.{Rises};
+ghost use Rattle.pgb_model.specs.declared.labels.Label.{Label as LabelOf};
+ghost use Rattle.pgb_model.specs.InfoFiles.{IsLabel};
+ghost use Rattle.pgb_model.specs.Log.{Lists};
+ghost use Rattle.pgb_model.specs.Text.{In};
+ghost use Rattle.pgb_model.specs.ManifestText.{IsManifestText};
+ghost use Rattle.pgb_model.specs.Names.{manifest_name};
+ghost use Rattle.pgb_stored.specs.Stored.{AreStored};
+ghost use Rattle.pgb_verify.specs.Adding.{Adds};
+ghost use Rattle.pgb_model.specs.Values.{entry_of, manifest_of};
+ghost use Rattle.pgb_verify.specs.Findings.{BackupDeviates, ListedDeviates};
+ghost use Rattle.pgb_verify.specs.Members.{ValueSo};
+ghost use Rattle.pgb_outside.specs.States.{Looks};
+
+use crate::entries::tell_unlike;
+use crate::files::look_at_files;
+use crate::finding::{Finding, VerifyFault};
+use crate::gaps::look_for_gaps;
+use crate::pairs::look_at_manifest;
+use crate::references::look_for_references;
+use pgb_model::{Cluster, Entry, Label, Manifest};
+use pgb_outside::Disk;
+use pgb_stamp::label_text;
+use pgb_stored::Stored;
+use pgb_text::NoMemory;
+use std::alloc::Global;
+
+fn manifest_name(alloc: Global, stanza: &str, label: &Label) -> Result<String, NoMemory>
+    requires { IsLabel label.now }
+    ensures { IfOk result (λ name. string_bytes name ≡ manifest_name stanza.now label.now) }
+{
+    let label = label_text(alloc, label)?;
+    Ok(format!(in alloc; "backup/{stanza}/{label}/backup.manifest")?)
+}
+
+// Looks at a backup: at its manifest, its files, the segments that it needs and the labels that it refers to. The answer is
+// its manifest, where it has one.
+fn look_at_backup<D: Disk>(
+    alloc: Global,
+    d: &mut D,
+    stanza: &str,
+    own: &Label,
+    labels: &[Label],
+    files: &[Stored],
+    found: &mut Vec<Finding>,
+) -> Result<Option<Manifest>, VerifyFault>
+    requires own { IsLabel own.now }
+    requires listed { IfSome (D.state d.old).view.now (λ f. (l : LabelOf) → In l labels.now ↔ Lists stanza.now f l) }
+    requires stored { IfSome (D.state d.old).view.now (λ f. AreStored stanza.now f files.now) }
+    ensures adds { OnOk result (IfSome (D.state d.old).view.now (λ f. Adds (BackupDeviates stanza.now f own.now) found.old.items found.new.items)) }
+    ensures value { IfOk result (λ v. IfSome (D.state d.old).view.now
+        (λ f. ValueSo IsManifestText manifest_of f (manifest_name stanza.now own.now) v)) }
+    ensures looks { Looks (D.state d.old) (D.state d.new) }
+    ensures cause { IsErrOf result VerifyFault.Disk → Rises (D.state d.old).faults (D.state d.new).faults }
+{
+    let name = manifest_name(alloc, stanza, own)?;
+    let Some(manifest) = look_at_manifest(alloc, d, name.as_str(), found)? else {
+        return Ok(None);
+    };
+    look_at_files(alloc, d, stanza, own, &manifest.files, found)?;
+    look_for_gaps(alloc, stanza, own, &manifest, files, found)?;
+    look_for_references(alloc, name.as_str(), &manifest.files, labels, found)?;
+    Ok(Some(manifest))
+}
+
+/// Looks at a listed backup, and whether its manifest tells what its entry does.
+pub(crate) fn look_at_listed<D: Disk>(
+    alloc: Global,
+    d: &mut D,
+    stanza: &str,
+    history: &[Cluster],
+    entry: &Entry,
+    labels: &[Label],
+    files: &[Stored],
+    found: &mut Vec<Finding>,
+) -> Result<(), VerifyFault>
+    requires own { IsLabel entry.now.label }
+    requires listed { IfSome (D.state d.old).view.now (λ f. (l : LabelOf) → In l labels.now ↔ Lists stanza.now f l) }
+    requires stored { IfSome (D.state d.old).view.now (λ f. AreStored stanza.now f files.now) }
+    ensures adds { OnOk result (IfSome (D.state d.old).view.now
+        (λ f. Adds (ListedDeviates stanza.now f history.now (entry_of entry.now)) found.old.items found.new.items)) }
+    ensures looks { Looks (D.state d.old) (D.state d.new) }
+    ensures cause { IsErrOf result VerifyFault.Disk → Rises (D.state d.old).faults (D.state d.new).faults }
+{
+    let name = manifest_name(alloc, stanza, &entry.label)?;
+    let Some(manifest) = look_at_backup(alloc, d, stanza, &entry.label, labels, files, found)?
+    else {
+        return Ok(());
+    };
+    tell_unlike(alloc, name.as_str(), history, entry, &manifest, found)?;
+    Ok(())
+}

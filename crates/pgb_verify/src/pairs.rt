@@ -1,0 +1,152 @@
+// The two members of a pair are looked at.
+ghost use Rattle.std.specs.Prelude.{◌≡◌, ℕ, List, IfOk, IfSome, OnOk, IsErrOf, string_bytes};
+ghost use Rattle.pgb_outside.specs.Cause.{Rises};
+ghost use Rattle.pgb_outside.specs.Content.{Content};
+ghost use Rattle.pgb_model.specs.Names.{copy_of};
+ghost use Rattle.pgb_model.specs.ManifestText.{IsManifest, IsManifestText};
+ghost use Rattle.pgb_model.specs.Values.{manifest_of};
+ghost use Rattle.pgb_verify.specs.Findings.{MemberDeviates, BothDeviate, PairDeviates};
+ghost use Rattle.pgb_verify.specs.Members.{IfGood, MemberSo, ValueSo};
+ghost use Rattle.pgb_verify.specs.Adding.{Adds};
+ghost use Rattle.pgb_outside.specs.States.{Looks};
+
+use crate::finding::{Finding, Kind, VerifyFault};
+use pgb_disk::{StoreFault, read_whole};
+use pgb_info::ReadInfo;
+use pgb_manifest::Stored;
+use pgb_model::Manifest;
+use pgb_outside::Disk;
+use pgb_text::NoMemory;
+use std::alloc::Global;
+
+/// What stands at a member's name.
+#[derive(Drop)]
+pub(crate) enum Member<I> {
+    Absent,
+    Bad,
+    Good { bytes: Vec<u8>, value: I },
+}
+
+fn read_member<D: Disk, I: ReadInfo>(
+    alloc: Global,
+    d: &mut D,
+    name: &str,
+) -> Result<Member<I>, VerifyFault>
+    ensures member { IfOk result (λ m. IfSome (D.state d.old).view.now
+        (λ f. MemberSo I.IsText I.value (f name.now) m)) }
+    ensures valid { IfOk result (λ m. IfGood I.is_valid m) }
+    ensures looks { Looks (D.state d.old) (D.state d.new) }
+    ensures cause { IsErrOf result VerifyFault.Disk → Rises (D.state d.old).faults (D.state d.new).faults }
+{
+    match read_whole(alloc, d, name, I::limit()) {
+        Ok(None) => Ok(Member::Absent),
+        Ok(Some(bytes)) => match I::read(alloc, &bytes)? {
+            Ok(value) => Ok(Member::Good { bytes, value }),
+            Err(_) => Ok(Member::Bad),
+        },
+        Err(StoreFault::TooLong { .. }) => Ok(Member::Bad),
+        Err(StoreFault::Disk) => Err(VerifyFault::Disk),
+        Err(StoreFault::NoMemory) => Err(VerifyFault::NoMemory),
+    }
+}
+
+fn told(alloc: Global, name: &str, kind: Kind, line: &str) -> Result<Finding, NoMemory>
+    ensures name { IfOk result (λ x. string_bytes x.name ≡ name.now) }
+    ensures kind { IfOk result (λ x. x.kind ≡ kind) }
+    ensures line { IfOk result (λ x. string_bytes x.line ≡ line.now) }
+{
+    let name = String::from_str(alloc, name)?;
+    let line = String::from_str(alloc, line)?;
+    Ok(Finding { name, kind, line })
+}
+
+fn tell_member<I: ReadInfo>(
+    alloc: Global,
+    name: &str,
+    member: &Member<I>,
+    found: &mut Vec<Finding>,
+) -> Result<(), NoMemory>
+    ensures { OnOk result ((f : Content) → MemberSo I.IsText I.value (f name.now) member.now → Adds (MemberDeviates I.IsText f name.now) found.old.items found.new.items) }
+{
+    match member {
+        Member::Absent => found.push(told(alloc, name, Kind::MemberAbsent, "member absent")?)?,
+        Member::Bad => found.push(told(alloc, name, Kind::MemberBad, "member not valid")?)?,
+        Member::Good { .. } => (),
+    }
+    Ok(())
+}
+
+fn tell_both<I: ReadInfo>(
+    alloc: Global,
+    name: &str,
+    main: &Member<I>,
+    copy: &Member<I>,
+    found: &mut Vec<Finding>,
+) -> Result<(), NoMemory>
+    ensures { OnOk result ((f : Content) → MemberSo I.IsText I.value (f name.now) main.now → MemberSo I.IsText I.value (f (copy_of name.now)) copy.now → Adds (BothDeviate I.IsText f name.now) found.old.items found.new.items) }
+{
+    let Member::Good { bytes, .. } = main else {
+        return Ok(());
+    };
+    let Member::Good { bytes: other, .. } = copy else {
+        return Ok(());
+    };
+    if bytes != other {
+        found.push(told(alloc, name, Kind::MembersDiffer, "members differ")?)?;
+    }
+    Ok(())
+}
+
+fn value_of<I: ReadInfo>(main: Member<I>, copy: Member<I>) -> Option<I>
+    ensures valid { IfGood I.is_valid main → IfGood I.is_valid copy → IfSome result I.is_valid }
+    ensures value { (f : Content) (name : List ℕ) → MemberSo I.IsText I.value (f name) main → MemberSo I.IsText I.value (f (copy_of name)) copy → ValueSo I.IsText I.value f name result }
+{
+    match (main, copy) {
+        (Member::Good { value, .. }, _) => Some(value),
+        (_, Member::Good { value, .. }) => Some(value),
+        _ => None,
+    }
+}
+
+/// Looks at the two members of a pair. The answer is its value, where it has one.
+pub(crate) fn look_at_pair<D: Disk, I: ReadInfo>(
+    alloc: Global,
+    d: &mut D,
+    name: &str,
+    found: &mut Vec<Finding>,
+) -> Result<Option<I>, VerifyFault>
+    ensures adds { OnOk result (IfSome (D.state d.old).view.now (λ f. Adds (PairDeviates I.IsText f name.now) found.old.items found.new.items)) }
+    ensures value { IfOk result (λ v. IfSome (D.state d.old).view.now (λ f. ValueSo I.IsText I.value f name.now v)) }
+    ensures valid { IfOk result (λ v. IfSome v I.is_valid) }
+    ensures looks { Looks (D.state d.old) (D.state d.new) }
+    ensures cause { IsErrOf result VerifyFault.Disk → Rises (D.state d.old).faults (D.state d.new).faults }
+{
+    let copy_name = format!(in alloc; "{name}.copy")?;
+    let main: Member<I> = read_member(alloc, d, name)?;
+    let copy: Member<I> = read_member(alloc, d, copy_name.as_str())?;
+    tell_member(alloc, name, &main, found)?;
+    tell_member(alloc, copy_name.as_str(), &copy, found)?;
+    tell_both(alloc, name, &main, &copy, found)?;
+    Ok(value_of(main, copy))
+}
+
+/// Looks at the two members of a manifest.
+pub(crate) fn look_at_manifest<D: Disk>(
+    alloc: Global,
+    d: &mut D,
+    name: &str,
+    found: &mut Vec<Finding>,
+) -> Result<Option<Manifest>, VerifyFault>
+    ensures adds { OnOk result (IfSome (D.state d.old).view.now
+        (λ f. Adds (PairDeviates IsManifestText f name.now) found.old.items found.new.items)) }
+    ensures value { IfOk result (λ v. IfSome (D.state d.old).view.now
+        (λ f. ValueSo IsManifestText manifest_of f name.now v)) }
+    ensures rules { IfOk result (λ v. IfSome v (λ m. IsManifest (manifest_of m))) }
+    ensures looks { Looks (D.state d.old) (D.state d.new) }
+    ensures cause { IsErrOf result VerifyFault.Disk → Rises (D.state d.old).faults (D.state d.new).faults }
+{
+    match look_at_pair(alloc, d, name, found)? {
+        Some(Stored(manifest)) => Ok(Some(manifest)),
+        None => Ok(None),
+    }
+}
