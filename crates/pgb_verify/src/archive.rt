@@ -19,7 +19,9 @@ use std::alloc::Global;
 
 // What lies at a stored file's path, of as many bytes as it has.
 fn lies_of<D: Disk>(d: &mut D, file: &Stored) -> Result<Lies, Stop>
-    ensures lies { IfOk result (λ r. IfSome (D.state d.old).view.now (λ f. IsSomeAnd (f (string_bytes file.now.path)) (λ bytes. length bytes ≡ file.now.size) → LiesSo (f (string_bytes file.now.path)) 0 file.now.size r)) }
+    ensures lies { IfOk result (λ r. IfSome (D.state d.old).view.now
+        (λ f. IsSomeAnd (f (string_bytes file.now.path)) (λ bytes. length bytes ≡ file.now.size)
+        → LiesSo (f (string_bytes file.now.path)) 0 file.now.size r)) }
     ensures looks { Looks (D.state d.old) (D.state d.new) }
     ensures cause { HasCause (D.state d.old).faults (D.state d.new).faults result }
 {
@@ -36,7 +38,8 @@ fn look_at_stored<D: Disk>(
     file: &Stored,
     found: &mut Vec<Finding>,
 ) -> Result<(), VerifyFault>
-    ensures adds { OnOk result (IfSome (D.state d.old).view.now (λ f. (stanza : Text) → IsStoredFile stanza f file.now → Adds (HasOther f file.now) found.old.items found.new.items)) }
+    ensures adds { OnOk result (IfSome (D.state d.old).view.now (λ f. (stanza : Text)
+        → IsStoredFile stanza f file.now → Adds (HasOther f file.now) found.old.items found.new.items)) }
     ensures looks { Looks (D.state d.old) (D.state d.new) }
     ensures cause { IsErrOf result VerifyFault.Disk → Rises (D.state d.old).faults (D.state d.new).faults }
 {
@@ -58,7 +61,8 @@ fn look_at_bytes<D: Disk>(
     files: &[Stored],
     found: &mut Vec<Finding>,
 ) -> Result<(), VerifyFault>
-    ensures adds { OnOk result (IfSome (D.state d.old).view.now (λ f. (stanza : Text) → AreStored stanza f files.now → Adds (OfSome (HasOther f) files.now) found.old.items found.new.items)) }
+    ensures adds { OnOk result (IfSome (D.state d.old).view.now (λ f. (stanza : Text) → AreStored stanza f files.now
+        → Adds (OfSome (HasOther f) files.now) found.old.items found.new.items)) }
     ensures looks { Looks (D.state d.old) (D.state d.new) }
     ensures cause { IsErrOf result VerifyFault.Disk → Rises (D.state d.old).faults (D.state d.new).faults }
 {
@@ -75,7 +79,8 @@ pub(crate) fn look_at_archive<D: Disk>(
     files: &[Stored],
     found: &mut Vec<Finding>,
 ) -> Result<(), VerifyFault>
-    ensures adds { OnOk result (IfSome (D.state d.old).view.now (λ f. (stanza : Text) → AreStored stanza f files.now → Adds (FileDeviates stanza f) found.old.items found.new.items)) }
+    ensures adds { OnOk result (IfSome (D.state d.old).view.now (λ f. (stanza : Text) → AreStored stanza f files.now
+        → Adds (FileDeviates stanza f) found.old.items found.new.items)) }
     ensures looks { Looks (D.state d.old) (D.state d.new) }
     ensures cause { IsErrOf result VerifyFault.Disk → Rises (D.state d.old).faults (D.state d.new).faults }
 {

@@ -35,8 +35,8 @@ fn manifest_name(alloc: Global, stanza: &str, label: &Label) -> Result<String, N
     Ok(format!(in alloc; "backup/{stanza}/{label}/backup.manifest")?)
 }
 
-// Looks at a backup: at its manifest, its files, the segments that it needs and the labels that it refers to. The answer is
-// its manifest, where it has one.
+// Looks at a backup: at its manifest, its files, the segments that it needs and the labels that it refers to. The
+// answer is its manifest, where it has one.
 fn look_at_backup<D: Disk>(
     alloc: Global,
     d: &mut D,
@@ -49,7 +49,8 @@ fn look_at_backup<D: Disk>(
     requires own { IsLabel own.now }
     requires listed { IfSome (D.state d.old).view.now (λ f. (l : LabelOf) → In l labels.now ↔ Lists stanza.now f l) }
     requires stored { IfSome (D.state d.old).view.now (λ f. AreStored stanza.now f files.now) }
-    ensures adds { OnOk result (IfSome (D.state d.old).view.now (λ f. Adds (BackupDeviates stanza.now f own.now) found.old.items found.new.items)) }
+    ensures adds { OnOk result (IfSome (D.state d.old).view.now
+        (λ f. Adds (BackupDeviates stanza.now f own.now) found.old.items found.new.items)) }
     ensures value { IfOk result (λ v. IfSome (D.state d.old).view.now
         (λ f. ValueSo IsManifestText manifest_of f (manifest_name stanza.now own.now) v)) }
     ensures looks { Looks (D.state d.old) (D.state d.new) }

@@ -59,7 +59,8 @@ fn look_at_file<D: Disk>(
 ) -> Result<(), VerifyFault>
     requires own { IsLabel own.now }
     requires reference { IfSome file.now.reference IsLabel }
-    ensures adds { OnOk result (IfSome (D.state d.old).view.now (λ f. Adds (EntryDeviates stanza.now f own.now (file_entry_of file.now)) found.old.items found.new.items)) }
+    ensures adds { OnOk result (IfSome (D.state d.old).view.now
+        (λ f. Adds (EntryDeviates stanza.now f own.now (file_entry_of file.now)) found.old.items found.new.items)) }
     ensures looks { Looks (D.state d.old) (D.state d.new) }
     ensures cause { IsErrOf result VerifyFault.Disk → Rises (D.state d.old).faults (D.state d.new).faults }
 {
@@ -85,7 +86,9 @@ pub(crate) fn look_at_files<D: Disk>(
 ) -> Result<(), VerifyFault>
     requires own { IsLabel own.now }
     requires references { (e : Entered) → In e (map file_entry_of files.now) → IfSome e.reference IsLabel }
-    ensures adds { OnOk result (IfSome (D.state d.old).view.now (λ f. Adds (OfSome (EntryDeviates stanza.now f own.now) (map file_entry_of files.now)) found.old.items found.new.items)) }
+    ensures adds { OnOk result (IfSome (D.state d.old).view.now
+        (λ f. Adds (OfSome (EntryDeviates stanza.now f own.now) (map file_entry_of files.now)) found.old.items
+        found.new.items)) }
     ensures looks { Looks (D.state d.old) (D.state d.new) }
     ensures cause { IsErrOf result VerifyFault.Disk → Rises (D.state d.old).faults (D.state d.new).faults }
 {

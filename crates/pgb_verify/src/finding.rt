@@ -49,6 +49,7 @@ pub struct Finding {
 pub enum VerifyFault {
     /// More than `limit` files are archived.
     TooMany { limit: u64 },
+    /// The repository failed.
     Disk,
     NoMemory,
 }

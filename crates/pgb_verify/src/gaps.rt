@@ -99,7 +99,8 @@ fn tell_gaps(
     found: &mut Vec<Finding>,
 ) -> Result<(), NoMemory>
     requires { IsWalPart wal.now }
-    ensures { OnOk result (Adds (Gaps name.now stored.now wal.now.size.0 wal.now.span) found.old.items found.new.items) }
+    ensures { OnOk result (Adds (Gaps name.now stored.now wal.now.size.0 wal.now.span) found.old.items
+        found.new.items) }
 {
     let Span { start, stop } = wal.span;
     let mut segment = start;
@@ -133,7 +134,8 @@ pub(crate) fn look_for_gaps(
 ) -> Result<(), NoMemory>
     requires own { IsLabel own.now }
     requires rules { IsManifest (manifest_of manifest.now) }
-    ensures { OnOk result ((f : Content) → AreStored stanza.now f files.now → Adds (SpanDeviates stanza.now f own.now (manifest_of manifest.now)) found.old.items found.new.items) }
+    ensures { OnOk result ((f : Content) → AreStored stanza.now f files.now
+        → Adds (SpanDeviates stanza.now f own.now (manifest_of manifest.now)) found.old.items found.new.items) }
 {
     let Some(wal) = manifest.wal else {
         return Ok(());

@@ -66,7 +66,8 @@ fn tell_member<I: ReadInfo>(
     member: &Member<I>,
     found: &mut Vec<Finding>,
 ) -> Result<(), NoMemory>
-    ensures { OnOk result ((f : Content) → MemberSo I.IsText I.value (f name.now) member.now → Adds (MemberDeviates I.IsText f name.now) found.old.items found.new.items) }
+    ensures { OnOk result ((f : Content) → MemberSo I.IsText I.value (f name.now) member.now
+        → Adds (MemberDeviates I.IsText f name.now) found.old.items found.new.items) }
 {
     match member {
         Member::Absent => found.push(told(alloc, name, Kind::MemberAbsent, "member absent")?)?,
@@ -83,7 +84,9 @@ fn tell_both<I: ReadInfo>(
     copy: &Member<I>,
     found: &mut Vec<Finding>,
 ) -> Result<(), NoMemory>
-    ensures { OnOk result ((f : Content) → MemberSo I.IsText I.value (f name.now) main.now → MemberSo I.IsText I.value (f (copy_of name.now)) copy.now → Adds (BothDeviate I.IsText f name.now) found.old.items found.new.items) }
+    ensures { OnOk result ((f : Content) → MemberSo I.IsText I.value (f name.now) main.now
+        → MemberSo I.IsText I.value (f (copy_of name.now)) copy.now
+        → Adds (BothDeviate I.IsText f name.now) found.old.items found.new.items) }
 {
     let Member::Good { bytes, .. } = main else {
         return Ok(());
@@ -99,7 +102,8 @@ fn tell_both<I: ReadInfo>(
 
 fn value_of<I: ReadInfo>(main: Member<I>, copy: Member<I>) -> Option<I>
     ensures valid { IfGood I.is_valid main → IfGood I.is_valid copy → IfSome result I.is_valid }
-    ensures value { (f : Content) (name : List ℕ) → MemberSo I.IsText I.value (f name) main → MemberSo I.IsText I.value (f (copy_of name)) copy → ValueSo I.IsText I.value f name result }
+    ensures value { (f : Content) (name : List ℕ) → MemberSo I.IsText I.value (f name) main
+        → MemberSo I.IsText I.value (f (copy_of name)) copy → ValueSo I.IsText I.value f name result }
 {
     match (main, copy) {
         (Member::Good { value, .. }, _) => Some(value),
@@ -115,7 +119,8 @@ pub(crate) fn look_at_pair<D: Disk, I: ReadInfo>(
     name: &str,
     found: &mut Vec<Finding>,
 ) -> Result<Option<I>, VerifyFault>
-    ensures adds { OnOk result (IfSome (D.state d.old).view.now (λ f. Adds (PairDeviates I.IsText f name.now) found.old.items found.new.items)) }
+    ensures adds { OnOk result (IfSome (D.state d.old).view.now
+        (λ f. Adds (PairDeviates I.IsText f name.now) found.old.items found.new.items)) }
     ensures value { IfOk result (λ v. IfSome (D.state d.old).view.now (λ f. ValueSo I.IsText I.value f name.now v)) }
     ensures valid { IfOk result (λ v. IfSome v I.is_valid) }
     ensures looks { Looks (D.state d.old) (D.state d.new) }

@@ -46,7 +46,8 @@ fn add_label(labels: &mut Vec<Label>, label: Label) -> Result<(), NoMemory>
 
 // Adds the label that a file refers to.
 fn add_reference(labels: &mut Vec<Label>, file: &FileEntry) -> Result<(), NoMemory>
-    ensures { OnOk result ((l : LabelOf) → In l labels.new.items ↔ (In l labels.old.items ⊎ (file.now.reference ≡ Some l))) }
+    ensures { OnOk result ((l : LabelOf) → In l labels.new.items ↔ (In l labels.old.items
+        ⊎ (file.now.reference ≡ Some l))) }
 {
     if let Some(label) = file.reference {
         add_label(labels, label)?;
@@ -121,7 +122,8 @@ pub(crate) fn look_for_references(
     found: &mut Vec<Finding>,
 ) -> Result<(), NoMemory>
     requires { (l : LabelOf) → RefersTo (map file_entry_of files.now) l → IsLabel l }
-    ensures { OnOk result (Adds (AreUnlisted name.now (map file_entry_of files.now) listed.now) found.old.items found.new.items) }
+    ensures { OnOk result (Adds (AreUnlisted name.now (map file_entry_of files.now) listed.now) found.old.items
+        found.new.items) }
 {
     let labels = labels_of(alloc, files)?;
     tell_unlisted(alloc, name, &labels, listed, found)?;

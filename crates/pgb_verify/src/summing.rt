@@ -75,7 +75,8 @@ pub(crate) fn deviation(
     size: u64,
     sum: &Sum,
 ) -> Result<Option<Mark>, NoMemory>
-    ensures { IfOk result (λ r. (v : Value) (at : ℕ) → LiesSo v at size lies → TellsOne (BytesDeviate v at size sum.now.0) r) }
+    ensures { IfOk result (λ r. (v : Value) (at : ℕ) → LiesSo v at size lies
+        → TellsOne (BytesDeviate v at size sum.now.0) r) }
 {
     match lies {
         Lies::Nothing => Ok(Some(Mark {

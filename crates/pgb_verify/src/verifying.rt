@@ -73,7 +73,8 @@ fn look_at_pairs<D: Disk>(
     stanza: &str,
     found: &mut Vec<Finding>,
 ) -> Result<(), VerifyFault>
-    ensures adds { OnOk result (IfSome (D.state d.old).view.now (λ f. Adds (PairsDeviate stanza.now f) found.old.items found.new.items)) }
+    ensures adds { OnOk result (IfSome (D.state d.old).view.now
+        (λ f. Adds (PairsDeviate stanza.now f) found.old.items found.new.items)) }
     ensures looks { Looks (D.state d.old) (D.state d.new) }
     ensures cause { IsErrOf result VerifyFault.Disk → Rises (D.state d.old).faults (D.state d.new).faults }
 {
@@ -91,7 +92,8 @@ fn look_at_files_of<D: Disk>(
     stanza: &str,
     found: &mut Vec<Finding>,
 ) -> Result<Vec<Stored>, VerifyFault>
-    ensures adds { OnOk result (IfSome (D.state d.old).view.now (λ f. Adds (FileDeviates stanza.now f) found.old.items found.new.items)) }
+    ensures adds { OnOk result (IfSome (D.state d.old).view.now
+        (λ f. Adds (FileDeviates stanza.now f) found.old.items found.new.items)) }
     ensures stored { IfOk result (λ files. IfSome (D.state d.old).view.now (λ f. AreStored stanza.now f files.items)) }
     ensures looks { Looks (D.state d.old) (D.state d.new) }
     ensures cause { IsErrOf result VerifyFault.Disk → Rises (D.state d.old).faults (D.state d.new).faults }
@@ -101,8 +103,8 @@ fn look_at_files_of<D: Disk>(
     Ok(files)
 }
 
-/// Each way in which the stanza's repository deviates, once, by name, then by kind, then by line. The value is the one that
-/// the backup pair has.
+/// Each way in which the stanza's repository deviates, once, by name, then by kind, then by line (pgBackRest command
+/// reference, "Verify Command"). The list is the one that the backup pair has.
 pub fn verify<D: Disk>(
     alloc: Global,
     d: &mut D,
@@ -110,9 +112,11 @@ pub fn verify<D: Disk>(
     listed: &BackupInfo,
 ) -> Result<Vec<Finding>, VerifyFault>
     requires rules { IsBackupInfo (backup_info_of listed.now) }
-    requires listed { IfSome (D.state d.old).view.now (λ f. PairIs IsBackupText f (backup_info stanza.now) (backup_info_of listed.now)) }
+    requires listed { IfSome (D.state d.old).view.now
+        (λ f. PairIs IsBackupText f (backup_info stanza.now) (backup_info_of listed.now)) }
     ensures exact { IfOk result (λ found. IfSome (D.state d.old).view.now (λ f. AreFindings stanza.now f found.items)) }
-    ensures clean { IfOk result (λ found. IfSome (D.state d.old).view.now (λ f. (s : Stanza) → HasStanza stanza.now f s → IsSoundStanza s → MembersAgree stanza.now f s → found.items ≡ [])) }
+    ensures clean { IfOk result (λ found. IfSome (D.state d.old).view.now (λ f. (s : Stanza)
+        → HasStanza stanza.now f s → IsSoundStanza s → MembersAgree stanza.now f s → found.items ≡ [])) }
     ensures looks { Looks (D.state d.old) (D.state d.new) }
     ensures cause { IsErrOf result VerifyFault.Disk → Rises (D.state d.old).faults (D.state d.new).faults }
 {

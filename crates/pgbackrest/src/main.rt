@@ -102,10 +102,14 @@ fn workers(rt: HostRuntime, program: &str) -> io::Result<Vec<RealLink>>
 fn status_of(rt: HostRuntime, words: &[String]) -> io::Result<u8> {
     let alloc = rt.alloc();
     let program = env::args(&rt)?.next().unwrap_or(String::new(alloc));
+    let telling = telling_of(rt, words);
+    let mut repo = RealDisk::new(rt);
+    let mut tree = RealTree::new(rt);
+    begin(telling, &mut repo, &mut tree);
     let mut outside = Outside {
-        repo: RealDisk::new(rt),
+        repo,
         spool: NotThere::new(),
-        tree: RealTree::new(rt),
+        tree,
         server: RealWire::new(rt),
         aside: NotThere::new(),
         clock: RealClock::new(rt),
@@ -115,8 +119,6 @@ fn status_of(rt: HostRuntime, words: &[String]) -> io::Result<u8> {
         links: workers(rt, &program)?,
         turns: RoundRobin::new(),
     };
-    let telling = telling_of(rt, words);
-    begin(telling, &mut outside);
     let status = run(alloc, words, &mut outside);
     end(rt, telling, &outside, status);
     Ok(status)

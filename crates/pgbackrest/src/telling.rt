@@ -65,10 +65,14 @@ fn command_of(rt: HostRuntime, words: &[String]) -> Option<Command> {
             Vec::new(alloc),
         ),
     };
+    if config.len() > CONFIG_LIMIT {
+        return None;
+    }
     settle_words(alloc, words, &config).ok()
 }
 
-// The bytes of the configuration; none where it isn't there, and None where it can't be read.
+// The bytes of the configuration, of one that is too long not all; none where it isn't there, and None where it can't be
+// read.
 fn configuration(rt: HostRuntime, path: &str) -> Option<Vec<u8>> {
     let mut source = RealSource::new(rt);
     let mut bytes = Vec::new(rt.alloc());
@@ -78,22 +82,19 @@ fn configuration(rt: HostRuntime, path: &str) -> Option<Vec<u8>> {
     let mut buf = [0u8; 32768];
     for _ in 0..CONFIG_LIMIT {
         let count = source.read(&mut buf).ok()?;
-        if count == 0 {
+        if count == 0 || bytes.len() > CONFIG_LIMIT {
             return Some(bytes);
         }
         bytes.extend_from_slice(&buf[..count]).ok()?;
-        if bytes.len() > CONFIG_LIMIT {
-            return None;
-        }
     }
-    None
+    Some(bytes)
 }
 
 /// Before the command.
-pub fn begin(telling: Telling, outside: &mut System) {
+pub fn begin(telling: Telling, repo: &mut RealDisk, tree: &mut RealTree) {
     match telling.progress {
-        Some(Verb::Backup) => outside.repo.tell_progress(),
-        Some(Verb::Restore) => outside.tree.tell_progress(),
+        Some(Verb::Backup) => repo.tell_progress(),
+        Some(Verb::Restore) => tree.tell_progress(),
         _ => {}
     }
 }

@@ -2,5 +2,5 @@ use Rattle.std.proofs.Common.{refl}
 use Rattle.pgb_command.proofs.Workers.{untold_workers}
 use Rattle.pgbackrest.proofs.status_of.Goals as goal
 
-pub run-requires-clause-workers : goal.run-requires-clause-workers
-run-requires-clause-workers c = untold_workers _ (λ link. refl) c.in_ok-workers.field-0.items c.in_ok-workers.ensures
+pub run-status-requires-clause-workers : goal.run-status-requires-clause-workers
+run-status-requires-clause-workers c = untold_workers _ (λ link. refl) c.in_ok-workers.field-0.items c.in_ok-workers.ensures
