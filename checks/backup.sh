@@ -110,9 +110,8 @@ fi
 for moment in 0.02 0.05 0.1 0.2 0.4; do
     program "${full[@]}" backup >output 2>errors &
     sleep "$moment"
-    kill -9 $! 2>/dev/null || true
+    kill_program
     wait $! 2>/dev/null || true
-    pkill -9 -f "$top/bin/pgbackrest local" 2>/dev/null || true
     for one in $(listed | sed -n 's/^\([0-9]*-[0-9]*F\)=.*/\1/p'); do
         [ -f "repo/backup/demo/$one/backup.manifest" ] || complain "$one is listed without its manifest"
     done

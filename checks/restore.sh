@@ -135,9 +135,8 @@ for moment in 0.02 0.05 0.1 0.2; do
     rm -rf killed
     program --pg1-path="$room/killed" --type=none restore >output 2>errors &
     sleep "$moment"
-    kill -9 $! 2>/dev/null || true
+    kill_program
     wait $! 2>/dev/null || true
-    pkill -9 -f "$top/bin/pgbackrest local" 2>/dev/null || true
     if [ -e killed/global/pg_control ]; then compare whole killed; fi
 done
 exit "$wrong"

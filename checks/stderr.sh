@@ -3,8 +3,10 @@
 # reason, and of a backup and a restore how many bytes were written.
 . "$(dirname "$0")/common"
 
+data=$room/pg
+repository=$room/repo
 program() {
-    "$top/bin/pgbackrest" --stanza=demo --pg1-path="$room/pg" --repo1-path="$room/repo" "$@"
+    "$top/bin/pgbackrest" --stanza=demo --pg1-path="$data" --repo1-path="$repository" "$@"
 }
 
 # fails STATUS OUTPUT REASON WORD..: the program ends so, and tells this reason and nothing else on standard error.
@@ -22,21 +24,24 @@ want 0 '' "${lock[@]}" --no-online stanza-create
 
 # A path that can't be: a file stands in it.
 printf 'a file\n' >file
-refused=(--repo1-path="$room/file/repo" "${lock[@]}" --no-online stanza-create)
+refused=("${lock[@]}" --no-online stanza-create)
+repository=$room/file/repo
 want 80 'ERROR: [080]: repository failed
 ' "${refused[@]}"
 want 80 'ERROR: [080]: repository failed
 ' --log-level-stderr=off "${refused[@]}"
-fails 80 'ERROR: [080]: repository failed' "repository: opening of '$room/file/repo': Not a directory (os error 20)" \
+fails 80 'ERROR: [080]: repository failed' "repository: opening of '$room/file/repo': File exists (os error 17)" \
     --log-level-stderr=error "${refused[@]}"
+repository=$room/repo
 fails 83 'ERROR: [083]: server connection failed' \
     "server connection: opening of '$room/none/.s.PGSQL.5432': No such file or directory (os error 2)" \
     --log-level-stderr=warn --pg1-socket-path="$room/none" "${lock[@]}" stanza-create
-fails 85 'ERROR: [085]: lock failed' "lock: locking of '$room/file/demo-archive.lock': Not a directory (os error 20)" \
+fails 85 'ERROR: [085]: lock failed' "lock: locking of '$room/file/demo-archive.lock': File exists (os error 17)" \
     --log-level-stderr=detail --lock-path="$room/file" archive-push pg_wal/000000010000000000000010
 # The configuration asks for it too.
 printf '[demo]\nlog-level-stderr=error\n' >configuration
-fails 80 'ERROR: [080]: repository failed' "repository: opening of '$room/file/repo': Not a directory (os error 20)" \
+repository=$room/file/repo
+fails 80 'ERROR: [080]: repository failed' "repository: opening of '$room/file/repo': File exists (os error 17)" \
     --config="$room/configuration" "${refused[@]}"
 want 6 "ERROR: [006]: option 'log-level-stderr' has no valid value
 " --log-level-stderr=loud "${refused[@]}"
@@ -47,9 +52,11 @@ tells_total() {
     grep -q -x 'INFO: [0-9]* bytes written in [0-9]* s, [0-9]* MiB/s' errors || complain "$* told '$(cat errors)'"
 }
 
+repository=$room/repo
 tells_total --log-level-stderr=info "${lock[@]}" --no-online --type=full --no-expire-auto backup
 told=$(sed 's/INFO: \([0-9]*\) .*/\1/' errors)
 stored=$(find repo/backup/demo/*F -type f -exec cat {} + | wc -c)
 [ "$told" -ge $((stored / 2)) ] || complain "the backup told $told bytes, and stored $stored"
-tells_total --log-level-stderr=info --pg1-path="$room/new" --type=none restore
+data=$room/new
+tells_total --log-level-stderr=info --type=none restore
 exit "$wrong"
