@@ -1,0 +1,7 @@
+mod Draftings
+mod Gatherings
+mod Talks
+mod Finishings
+mod Doings
+mod Takings
+mod Causes

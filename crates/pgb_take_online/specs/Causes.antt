@@ -1,0 +1,79 @@
+-- Why a running server's backup is refused, from what stood before and what the server told.
+use Rattle.std.specs.Prelude.{◌≡◌, ◌⊎◌, ℕ, List, [], true, Option, Some, None, IfSome}
+use Rattle.pgb_outside.specs.Content.{Content}
+use Rattle.pgb_model.specs.Fields.{at_number}
+use Rattle.pgb_model.specs.Repository.{id_of}
+use Rattle.pgb_label.specs.declared.keeper.Ended.{Ended}
+use Rattle.pgb_paths.specs.declared.names.NameFault.{NameFault}
+use Rattle.pgb_plan.specs.declared.fault.PlanFault.{PlanFault}
+use Rattle.pgb_plan.specs.declared.fault.PlanFault.TheVariants as plans
+use Rattle.pgb_plan.specs.Filter.{kept, IsRefused, Takes}
+use Rattle.pgb_backup.specs.declared.draft.Draft.{Draft}
+use Rattle.pgb_backup.specs.Draft.{stanza_of, taken_in, folders_in, old_in, list_in}
+use Rattle.pgb_backup.specs.Faults.{WhereDone}
+use Rattle.pgb_backup.specs.Online.{Online}
+use Rattle.pgb_take.specs.declared.fault.TakeFault.{TakeFault}
+use Rattle.pgb_take.specs.declared.fault.TakeFault.TheVariants.{HistoryDiffers, StanzaMismatch, Running, TooMany, WorkersLost, ClockBehind, LinkFound, NameRefused, ListingUnordered, ControlMissing, Unread, TooLong}
+use Rattle.pgb_take.specs.Beginning.{most_backups}
+use Rattle.pgb_take.specs.Causes.{Before, Shows, SettlesTo, IsFull, TakeCause}
+use Rattle.pgb_take.specs.Making.{CannotRead}
+use Rattle.pgb_take_online.specs.declared.fault.OnlineTakeFault.{OnlineTakeFault}
+use Rattle.pgb_take_online.specs.declared.fault.OnlineTakeFault.TheVariants.{Take, NotArrived, Ambiguous}
+use Rattle.pgb_take_online.specs.Doing.{Heard}
+use Rattle.pgb_take_online.specs.Finishing.{PublishCause, VainCause}
+use Rattle.pgb_take_online.specs.Told.{OfTalk, TalkFails, TellsOnline}
+
+-- What stood before; what the server told; how many turns may be waited for, and their count before and after; and what the repository holds at the end.
+pub record Asked : Type 0 where
+  pub before : Before
+  pub heard : Heard
+  pub most : ℕ
+  pub turns : ℕ
+  pub turned : ℕ
+  pub now : Option Content
+
+-- the folder of a running server is refused for this
+abbrev pub Refuses : Before → PlanFault → Type 0
+Refuses b fault = Shows b (λ seen. IsRefused (kept true seen) fault)
+
+-- a draft of a full backup of a running server's folder, beside those of the stanza
+pub record IsRunningDraft (b : Before) (d : Draft) : Type 0 where
+  pub stanza_is : stanza_of d ≡ b.stanza
+  pub full : (d.label.later ≡ None) × (d.prior ≡ None) × (old_in d ≡ [])
+  pub takes : Shows b (λ seen. Takes true seen (taken_in d) (folders_in d))
+  pub list : IfSome b.repo (SettlesTo b.stanza (list_in d))
+  pub current : at_number (list_in d).current (list_in d).history ≡ Some d.cluster
+
+-- it is so of such a draft
+abbrev pub OfDraft : Before → (Draft → Type 0) → Type 0
+OfDraft b P = (d : Draft) × IsRunningDraft b d × P d
+
+-- it is so of such a draft and of what the server told
+abbrev pub OfTold : Asked → (Draft → Online → Type 0) → Type 0
+OfTold x P = OfDraft x.before (λ d. (o : Online) × TellsOnline x.heard.system x.heard.pending x.heard.left o × P d o)
+
+-- it is so of a draft whose jobs were done, and of what the server told
+abbrev pub OfDone : Asked → (Draft → Option Online → List (List Ended) → Type 0) → Type 0
+OfDone x P = OfTold x (λ d o. WhereDone d x.before.used (λ ends. P d (Some o) ends))
+
+-- why it is refused as a stopped server's backup may be
+abbrev pub RunningCause : Asked → TakeFault → Type 0
+RunningCause x (HistoryDiffers at) = TakeCause x.before (HistoryDiffers at)
+RunningCause x (StanzaMismatch kept found) = TakeCause x.before (StanzaMismatch kept found)
+RunningCause x Running = ⊥
+RunningCause x (TooMany limit) = ((limit ≡ most_backups) × IfSome x.before.repo (IsFull x.before.stanza)) ⊎ Refuses x.before (plans.TooMany limit)
+RunningCause x (WorkersLost lost) = TakeCause x.before (WorkersLost lost)
+RunningCause x (ClockBehind latest now) = TakeCause x.before (ClockBehind latest now)
+RunningCause x (LinkFound path) = Refuses x.before (plans.LinkFound path)
+RunningCause x (NameRefused path) = Shows x.before (λ seen. (fault : NameFault) × IsRefused (kept true seen) (plans.NameRefused path fault))
+RunningCause x ListingUnordered = TakeCause x.before ListingUnordered
+RunningCause x (ControlMissing path) = Refuses x.before (plans.ControlMissing path) ⊎ OfDone x (λ d o ends. PublishCause d o ends (ControlMissing path))
+RunningCause x (Unread path) = OfDraft x.before (λ d. CannotRead d x.before.used path)
+RunningCause x (TooLong name limit) = OfDone x (λ d o ends. PublishCause d o ends (TooLong name limit))
+
+-- why a running server's backup is refused
+abbrev pub OnlineCause : Asked → OnlineTakeFault → Type 0
+OnlineCause x (Take fault) = RunningCause x fault
+OnlineCause x (NotArrived segment waited) = OfTold x (λ d o. VainCause x.before.stanza (id_of d.cluster) o.part x.most x.now x.turns x.turned (NotArrived segment waited))
+OnlineCause x (Ambiguous first second) = OfTold x (λ d o. VainCause x.before.stanza (id_of d.cluster) o.part x.most x.now x.turns x.turned (Ambiguous first second))
+OnlineCause x other = OfTalk (TalkFails x.heard.system x.heard.pending x.heard.left) other

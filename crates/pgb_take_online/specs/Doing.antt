@@ -1,0 +1,35 @@
+-- What a full backup of a running server does, as a command of the log.
+use Rattle.std.specs.Prelude.{◌≡◌, ◌++◌, ℕ, List, Option, Some, IfSome}
+use Rattle.pgb_outside.specs.Links.{LinkState}
+use Rattle.pgb_outside.specs.Moments.{View}
+use Rattle.pgb_model.specs.Steps.{Command}
+use Rattle.pgb_model.specs.Text.{Text}
+use Rattle.pgb_turn.specs.Turns.{Turned, Account}
+use Rattle.pgb_await.specs.Went.{turns_of}
+use Rattle.pgb_stage.specs.declared.plan.Settling.TheVariants.{Whole}
+use Rattle.pgb_stage.specs.Runs.{Reached, On, one, Does}
+use Rattle.pgb_logged.specs.Backups.{IsOnlineBackup}
+use Rattle.pgb_take_online.specs.Told.{IsLabelTold}
+
+-- the account went on by these turns
+pub record TakesTurns (turned : List Turned) (old : Option Account) (new : Account) : Type 0 where
+  pub before : List Turned
+  pub was : old ≡ Some (record { stanza = new.stanza; turns = before })
+  pub is : new.turns ≡ before ++ turned
+
+-- what of a server's bytes tells of a backup: those of a server of this system, before and after
+pub record Heard : Type 0 where
+  pub system : ℕ
+  pub pending : Option (List ℕ)
+  pub left : Option (List ℕ)
+
+-- it is the full backup of what these links read, which waited these turns, with the label file that the server told
+abbrev pub IsOnlineOf : List LinkState → Heard → List Turned → Command → Type 0
+IsOnlineOf used heard turned command =
+    (label : Option Text) × IsLabelTold heard.system heard.pending heard.left label × IsOnlineBackup used (turns_of turned) label command
+
+-- In the log it is such a backup, behind the turns that the account tells of this stanza.
+abbrev pub DoesOnline : Text → List LinkState → Heard → Reached → Option Account → Option Account → View → View → Type 0
+DoesOnline stanza used heard reached old_account account old new = IfSome account (λ k. k.stanza ≡ stanza
+    → (turned : List Turned) × TakesTurns turned old_account k
+    × On (one (IsOnlineOf used heard turned)) (λ command. Does Whole stanza command reached old new))

@@ -1,0 +1,93 @@
+// The data folder is read while the server is in its backup.
+ghost use Rattle.std.specs.Prelude.{◌≡◌, ◌<◌, ◌^◌, ℕ, Some, map, vec_len, slice_get, IfOk, IfErr, OnErr};
+ghost use Rattle.pgb_outside.specs.Cause.{Rises};
+ghost use Rattle.pgb_outside.specs.Links.{LinkState};
+ghost use Rattle.pgb_outside.specs.States.{Frame, LooksAt};
+ghost use Rattle.pgb_model.specs.InfoFiles.{IsBackupInfo};
+ghost use Rattle.pgb_model.specs.Repository.{id_of};
+ghost use Rattle.pgb_model.specs.Values.{backup_info_of};
+ghost use Rattle.pgb_worker_dispatch.specs.Run.{IsReady};
+ghost use Rattle.pgb_story.specs.Beside.{StaysBeside};
+ghost use Rattle.pgb_draft.specs.Seconds.{IsNext};
+ghost use Rattle.pgb_stage.specs.Halts.{HaltCause};
+ghost use Rattle.pgb_stage.specs.Risen.{none, rose_in};
+ghost use Rattle.pgb_take_online.specs.Gathering.{IsGathered, GivesUp, GatherCause};
+
+use crate::drafting::draft_running;
+use pgb_backup::{Fetched, fetch};
+use pgb_model::{ArchiveId, BackupInfo, Cluster, Label};
+use pgb_outside::{Disk, Link, Tree, Turns};
+use pgb_stage::{Halt, Object, halted};
+use pgb_take::{TakeFault, count_of, of_make};
+use pgb_worker_dispatch::Lost;
+use std::alloc::Global;
+
+/// What was read of the data folder while the server was in its backup.
+#[derive(Drop)]
+pub(crate) struct Gathered<'a> {
+    pub(crate) fetched: Fetched<'a>,
+    pub(crate) label: Label,
+    /// Under this id the cluster's log is archived.
+    pub(crate) id: ArchiveId,
+    /// The line that tells the label.
+    pub(crate) line: String,
+}
+
+// The id under which a cluster's log is archived.
+fn archive_id(cluster: &Cluster) -> ArchiveId
+    ensures { result ≡ id_of cluster.now }
+{
+    ArchiveId {
+        version: cluster.version,
+        number: cluster.id,
+    }
+}
+
+/// Lists the data folder, and has what a backup takes of it stored in the folder of a label.
+pub(crate) fn gather<'a, D: Disk, T: Tree, L: Link, U: Turns>(
+    alloc: Global,
+    repo: &mut D,
+    tree: &mut T,
+    links: &mut Vec<L>,
+    turns: &mut U,
+    lost: &mut Vec<Lost>,
+    stanza: &'a str,
+    second: u64,
+    list: BackupInfo,
+) -> Result<Gathered<'a>, Halt<TakeFault>>
+    requires list { IsBackupInfo (backup_info_of list) }
+    requires next { IsNext second (backup_info_of list) }
+    requires few { vec_len links.old < 2 ^ 32 }
+    requires ready { (i : ℕ) (s : LinkState) → slice_get (map L.link_state links.old.items) i ≡ Some s → IsReady s }
+    ensures gathered { IfOk result (IsGathered stanza.entry.now (T.state tree.old).nodes (backup_info_of list)
+        (map L.link_state links.old.items) (D.state repo.old).view (D.state repo.new).view) }
+    ensures unlisted { OnErr result (GivesUp stanza.entry.now (T.state tree.old).nodes (backup_info_of list)
+        (D.state repo.old).view (D.state repo.new).view) }
+    ensures beside { StaysBeside stanza.entry.now (D.state repo.old).view (D.state repo.new).view }
+    ensures frame { Frame (D.state repo.old) (D.state repo.new) }
+    ensures looks { LooksAt (T.state tree.old) (T.state tree.new) }
+    ensures cause { IfErr result (HaltCause
+        (GatherCause stanza.entry.now (T.state tree.old).nodes (backup_info_of list)
+        (map L.link_state links.old.items) lost.old.items)
+        (rose_in (record none {
+          repo = Rises (D.state repo.old).faults (D.state repo.new).faults;
+          tree = Rises (T.state tree.old).faults (T.state tree.new).faults;
+        }))) }
+{
+    let seen = match tree.list(alloc) {
+        Ok(seen) => seen,
+        Err(stop) => return Err(halted(Object::DataFolder, stop)),
+    };
+    let (draft, line) = draft_running(alloc, stanza, second, &seen, list)?;
+    let label = draft.label;
+    let id = archive_id(&draft.cluster);
+    match fetch(alloc, repo, links, turns, lost, draft) {
+        Ok(fetched) => Ok(Gathered {
+            fetched,
+            label,
+            id,
+            line,
+        }),
+        Err(fault) => Err(of_make(alloc, stanza, &label, count_of(lost), fault)),
+    }
+}

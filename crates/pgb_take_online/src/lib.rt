@@ -1,0 +1,21 @@
+//! The parts of `backup` of a running server, each with its causes; the call that joins them isn't there yet.
+//!
+//! The stanza's list is settled, the workers are told their folders, and a label is named (`prepare`). Then the server is
+//! told to start its backup, the data folder is listed and read (`gather`), and the server is told to stop; its talk is
+//! ended where one of these is refused (`talk`). The label file is stored (`end_backup`), the segments of the log that the
+//! backup needs are waited for (`wait`), and the backup is listed (`conclude`).
+//!
+//! The lemmas join them: what the command does in the log, however it ends (`proofs/Doings`), what is there at its end
+//! (`Takings`), why it is refused (`Causes`), and that its talk with the server is ended (`Talks`).
+#![tactic(auto)]
+
+mod drafting;
+mod fault;
+mod finishing;
+mod gathering;
+mod order;
+mod preparing;
+mod talking;
+
+pub use fault::OnlineTakeFault;
+pub use order::OnlineOrder;

@@ -1,0 +1,104 @@
+// What comes before the server is asked.
+ghost use Rattle.std.specs.Prelude.{◌≡◌, ◌≤◌, ◌<◌, ◌^◌, [], ℕ, Some, map, take, length, vec_len, slice_get, IfOk, IfErr, OnOk};
+ghost use Rattle.pgb_outside.specs.Cause.{Rises};
+ghost use Rattle.pgb_outside.specs.Links.{LinkState};
+ghost use Rattle.pgb_outside.specs.States.{Looks};
+ghost use Rattle.pgb_model.specs.InfoFiles.{IsArchiveInfo, IsBackupInfo};
+ghost use Rattle.pgb_model.specs.Values.{archive_info_of, backup_info_of};
+ghost use Rattle.pgb_stanza.specs.Judging.{Settles, IsOf};
+ghost use Rattle.pgb_worker_dispatch.specs.Run.{IsReady, Left};
+ghost use Rattle.pgb_draft.specs.Seconds.{IsNext};
+ghost use Rattle.pgb_stage.specs.Halts.{HaltCause};
+ghost use Rattle.pgb_stage.specs.Risen.{none, rose_in};
+ghost use Rattle.pgb_take.specs.Beginning.{most_backups};
+ghost use Rattle.pgb_take_online.specs.Preparing.{ReadyCause, PrepareCause};
+
+use pgb_draft::next_second;
+use pgb_model::{ArchiveInfo, BackupInfo};
+use pgb_outside::{Clock, Disk, Link};
+use pgb_stage::Halt;
+use pgb_stanza::Control;
+use pgb_take::{TakeFault, TakeOrder, check_room, fit, of_second, start_workers};
+use pgb_worker_dispatch::Lost;
+use std::alloc::Global;
+
+// Settles the stanza's list, and starts the workers.
+fn ready<L: Link>(
+    alloc: Global,
+    links: &mut Vec<L>,
+    lost: &mut Vec<Lost>,
+    order: &TakeOrder<'_>,
+    told: &Control,
+    archive: &ArchiveInfo,
+    backup: BackupInfo,
+) -> Result<BackupInfo, Halt<TakeFault>>
+    requires few { vec_len links.old < 2 ^ 32 }
+    requires ready { (i : ℕ) (s : LinkState) → slice_get (map L.link_state links.old.items) i ≡ Some s → IsReady s }
+    requires none { lost.old.items ≡ [] }
+    requires archive { IsArchiveInfo (archive_info_of archive.now) }
+    requires backup { IsBackupInfo (backup_info_of backup) }
+    ensures settled { IfOk result
+        (λ w. Settles (archive_info_of archive.now) (backup_info_of backup) (backup_info_of w)) }
+    ensures of { OnOk result (IsOf told.now (archive_info_of archive.now)) }
+    ensures valid { IfOk result (λ w. IsBackupInfo (backup_info_of w)) }
+    ensures room { IfOk result (λ w. length (backup_info_of w).backups < most_backups) }
+    ensures left { OnOk result (Left [] (take order.now.workers (map L.link_state links.old.items)) [] lost.new.items
+        (map L.link_state links.new.items)) }
+    ensures few { OnOk result (vec_len links.new < 2 ^ 32) }
+    ensures ready { OnOk result ((i : ℕ) (s : LinkState) → slice_get (map L.link_state links.new.items) i ≡ Some s
+        → IsReady s) }
+    ensures cause { IfErr result (HaltCause
+        (ReadyCause told.now (archive_info_of archive.now) (backup_info_of backup)
+        (take order.now.workers (map L.link_state links.old.items))) (λ _. ⊥)) }
+{
+    let list = fit(archive, backup, told)?;
+    check_room(&list)?;
+    start_workers(alloc, links, order, lost)?;
+    Ok(list)
+}
+
+/// Settles the stanza's list, starts the workers, and tells the second by which the backup is named.
+pub(crate) fn prepare<D: Disk, C: Clock, L: Link>(
+    alloc: Global,
+    repo: &mut D,
+    clock: &mut C,
+    links: &mut Vec<L>,
+    lost: &mut Vec<Lost>,
+    stanza: &str,
+    order: &TakeOrder<'_>,
+    told: &Control,
+    archive: &ArchiveInfo,
+    backup: BackupInfo,
+) -> Result<(BackupInfo, u64), Halt<TakeFault>>
+    requires few { vec_len links.old < 2 ^ 32 }
+    requires ready { (i : ℕ) (s : LinkState) → slice_get (map L.link_state links.old.items) i ≡ Some s → IsReady s }
+    requires none { lost.old.items ≡ [] }
+    requires archive { IsArchiveInfo (archive_info_of archive.now) }
+    requires backup { IsBackupInfo (backup_info_of backup) }
+    ensures settled { IfOk result
+        (λ p. Settles (archive_info_of archive.now) (backup_info_of backup) (backup_info_of p.0)) }
+    ensures of { OnOk result (IsOf told.now (archive_info_of archive.now)) }
+    ensures valid { IfOk result (λ p. IsBackupInfo (backup_info_of p.0)) }
+    ensures room { IfOk result (λ p. length (backup_info_of p.0).backups < most_backups) }
+    ensures next { IfOk result (λ p. IsNext p.1 (backup_info_of p.0)) }
+    ensures left { OnOk result (Left [] (take order.now.workers (map L.link_state links.old.items)) [] lost.new.items
+        (map L.link_state links.new.items)) }
+    ensures few { OnOk result (vec_len links.new < 2 ^ 32) }
+    ensures ready { OnOk result ((i : ℕ) (s : LinkState) → slice_get (map L.link_state links.new.items) i ≡ Some s
+        → IsReady s) }
+    ensures looks { Looks (D.state repo.old) (D.state repo.new) }
+    ensures later { (C.state clock.old).faults ≤ (C.state clock.new).faults }
+    ensures cause { IfErr result (HaltCause
+        (PrepareCause told.now (archive_info_of archive.now) (backup_info_of backup) (C.state clock.old).least
+        (take order.now.workers (map L.link_state links.old.items)))
+        (rose_in (record none {
+          repo = Rises (D.state repo.old).faults (D.state repo.new).faults;
+          clock = Rises (C.state clock.old).faults (C.state clock.new).faults;
+        }))) }
+{
+    let list = ready(alloc, links, lost, order, told, archive, backup)?;
+    match next_second(alloc, repo, clock, stanza, &list) {
+        Ok(second) => Ok((list, second)),
+        Err(fault) => Err(of_second(fault)),
+    }
+}
