@@ -6,35 +6,35 @@ use pgb_retain::{FullRule, Kept, Rules, keeps, spans};
 use std::alloc::{AllocError, Global};
 use std::process::Abort;
 
-const F1: &str = "20240101-000000F";
+const FULL_A: &str = "20240101-000000F";
 
-const D1: &str = "20240101-000000F_20240102-000000D";
+const DIFF_A: &str = "20240101-000000F_20240102-000000D";
 
-const I1: &str = "20240101-000000F_20240103-000000I";
+const INCR_A: &str = "20240101-000000F_20240103-000000I";
 
-const F2: &str = "20240104-000000F";
+const FULL_B: &str = "20240104-000000F";
 
 /// Two full backups, of segments 2 and 5.
 const TWO: &[Listed] = &[
-    (F1, None, 1, Some((2, 2)), 1),
-    (F2, None, 1, Some((5, 5)), 4),
+    (FULL_A, None, 1, Some((2, 2)), 1),
+    (FULL_B, None, 1, Some((5, 5)), 4),
 ];
 
 /// The second of them.
-const SECOND: &[Listed] = &[(F2, None, 1, Some((5, 5)), 4)];
+const SECOND: &[Listed] = &[(FULL_B, None, 1, Some((5, 5)), 4)];
 
 /// A full backup, a differential and an incremental.
 const KINDS: &[Listed] = &[
-    (F1, None, 1, Some((1, 1)), 1),
-    (D1, Some(F1), 1, Some((3, 3)), 2),
-    (I1, Some(D1), 1, Some((5, 5)), 3),
+    (FULL_A, None, 1, Some((1, 1)), 1),
+    (DIFF_A, Some(FULL_A), 1, Some((3, 3)), 2),
+    (INCR_A, Some(DIFF_A), 1, Some((5, 5)), 3),
 ];
 
 /// A backup of the next cluster.
-const NEXT: &[Listed] = &[(F2, None, 2, Some((5, 5)), 4)];
+const NEXT: &[Listed] = &[(FULL_B, None, 2, Some((5, 5)), 4)];
 
 /// A backup of a stopped server.
-const OFFLINE: &[Listed] = &[(F2, None, 1, None, 4)];
+const OFFLINE: &[Listed] = &[(FULL_B, None, 1, None, 4)];
 
 /// The backups, whether cluster 1 is the current one, the rules on full backups, on the archive and its kind, and
 /// which of segments 1 to 6 are kept.

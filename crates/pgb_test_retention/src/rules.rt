@@ -6,48 +6,48 @@ use pgb_retain::{FullRule, Rules, expired, has_label};
 use std::alloc::Global;
 use std::process::Abort;
 
-const F1: &str = "20240101-000000F";
+const FULL_A: &str = "20240101-000000F";
 
-const D1: &str = "20240101-000000F_20240102-000000D";
+const DIFF_A: &str = "20240101-000000F_20240102-000000D";
 
-const I1: &str = "20240101-000000F_20240103-000000I";
+const INCR_A: &str = "20240101-000000F_20240103-000000I";
 
-const F2: &str = "20240104-000000F";
+const FULL_B: &str = "20240104-000000F";
 
-const D2: &str = "20240104-000000F_20240105-000000D";
+const DIFF_B: &str = "20240104-000000F_20240105-000000D";
 
-const D3: &str = "20240104-000000F_20240106-000000D";
+const DIFF_C: &str = "20240104-000000F_20240106-000000D";
 
-const I3: &str = "20240104-000000F_20240107-000000I";
+const INCR_C: &str = "20240104-000000F_20240107-000000I";
 
-const F3: &str = "20240108-000000F";
+const FULL_C: &str = "20240108-000000F";
 
 /// A full backup with a differential and its incremental, and another with two differentials.
 const SIX: &[Listed] = &[
-    (F1, None, 1, None, 1),
-    (D1, Some(F1), 1, None, 2),
-    (I1, Some(D1), 1, None, 3),
-    (F2, None, 1, None, 4),
-    (D2, Some(F2), 1, None, 5),
-    (D3, Some(F2), 1, None, 6),
+    (FULL_A, None, 1, None, 1),
+    (DIFF_A, Some(FULL_A), 1, None, 2),
+    (INCR_A, Some(DIFF_A), 1, None, 3),
+    (FULL_B, None, 1, None, 4),
+    (DIFF_B, Some(FULL_B), 1, None, 5),
+    (DIFF_C, Some(FULL_B), 1, None, 6),
 ];
 
 /// Three full backups, a day apart.
 const DAILY: &[Listed] = &[
-    (F1, None, 1, None, 0),
-    (F2, None, 1, None, 86400),
-    (F3, None, 1, None, 172800),
+    (FULL_A, None, 1, None, 0),
+    (FULL_B, None, 1, None, 86400),
+    (FULL_C, None, 1, None, 172800),
 ];
 
 /// A full backup of one cluster, and one of the next.
-const CLUSTERS: &[Listed] = &[(F1, None, 1, None, 1), (F2, None, 2, None, 4)];
+const CLUSTERS: &[Listed] = &[(FULL_A, None, 1, None, 1), (FULL_B, None, 2, None, 4)];
 
 /// An incremental on each of two differentials.
 const CHAINS: &[Listed] = &[
-    (F2, None, 1, None, 4),
-    (D2, Some(F2), 1, None, 5),
-    (D3, Some(F2), 1, None, 6),
-    (I3, Some(D3), 1, None, 7),
+    (FULL_B, None, 1, None, 4),
+    (DIFF_B, Some(FULL_B), 1, None, 5),
+    (DIFF_C, Some(FULL_B), 1, None, 6),
+    (INCR_C, Some(DIFF_C), 1, None, 7),
 ];
 
 /// The backups, the rule on full backups, that on differentials, the moment, and the labels that go.
@@ -61,20 +61,32 @@ type Row = (
 
 const ROWS: &[Row] = &[
     (SIX, FullRule::Unset, None, 0, &[]),
-    (SIX, FullRule::Count(2), Some(1), 0, &[D1, I1, D2]),
+    (
+        SIX,
+        FullRule::Count(2),
+        Some(1),
+        0,
+        &[DIFF_A, INCR_A, DIFF_B],
+    ),
     (SIX, FullRule::Count(2), None, 0, &[]),
-    (SIX, FullRule::Count(1), None, 0, &[F1, D1, I1]),
+    (SIX, FullRule::Count(1), None, 0, &[FULL_A, DIFF_A, INCR_A]),
     (SIX, FullRule::Count(9), None, 0, &[]),
-    (SIX, FullRule::Count(1), Some(1), 0, &[F1, D1, I1, D2]),
-    (SIX, FullRule::Unset, Some(3), 0, &[D1, I1]),
-    (CHAINS, FullRule::Unset, Some(1), 0, &[D2]),
-    (DAILY, FullRule::Days(1), None, 172800, &[F1]),
+    (
+        SIX,
+        FullRule::Count(1),
+        Some(1),
+        0,
+        &[FULL_A, DIFF_A, INCR_A, DIFF_B],
+    ),
+    (SIX, FullRule::Unset, Some(3), 0, &[DIFF_A, INCR_A]),
+    (CHAINS, FullRule::Unset, Some(1), 0, &[DIFF_B]),
+    (DAILY, FullRule::Days(1), None, 172800, &[FULL_A]),
     (DAILY, FullRule::Days(1), None, 172799, &[]),
-    (DAILY, FullRule::Days(1), None, 259200, &[F1, F2]),
+    (DAILY, FullRule::Days(1), None, 259200, &[FULL_A, FULL_B]),
     (DAILY, FullRule::Days(5), None, 172800, &[]),
     (DAILY, FullRule::Days(1), None, 0, &[]),
-    (DAILY, FullRule::Count(1), None, 0, &[F1, F2]),
-    (CLUSTERS, FullRule::Count(1), None, 0, &[F1]),
+    (DAILY, FullRule::Count(1), None, 0, &[FULL_A, FULL_B]),
+    (CLUSTERS, FullRule::Count(1), None, 0, &[FULL_A]),
     (&[], FullRule::Count(1), Some(1), 0, &[]),
 ];
 
@@ -101,7 +113,7 @@ fn labels_go_by_the_rules(rt: HostRuntime) {
 
 #[test]
 fn a_label_is_in_a_list(rt: HostRuntime) {
-    let labels = [label_of(&rt, F1), label_of(&rt, D1)];
-    same(&rt, has_label(&labels, &label_of(&rt, D1)), true);
-    same(&rt, has_label(&labels, &label_of(&rt, D2)), false);
+    let labels = [label_of(&rt, FULL_A), label_of(&rt, DIFF_A)];
+    same(&rt, has_label(&labels, &label_of(&rt, DIFF_A)), true);
+    same(&rt, has_label(&labels, &label_of(&rt, DIFF_B)), false);
 }
