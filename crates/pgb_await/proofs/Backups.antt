@@ -95,8 +95,8 @@ module _ (ts : List Turn) (b : Backup) (kept : Option Retention) where
         NowDoes stanza (MakeBackup ts b kept) false v d
     waited_does whole v d p = record {
       told = p.told;
-      does = λ r some now.
-          let x = p.does r some now in
+      does = λ r from some now.
+          let x = p.does r tt some now in
           let l = leads_waited whole r (after r x.0) (x.0, refl, x.1) in
           (l.0, l.2, subst (λ (k : Repository). NowStands stanza k d) l.1 x.2);
     }
@@ -106,9 +106,9 @@ module _ (ts : List Turn) (b : Backup) (kept : Option Retention) where
         NowDoes stanza (MakeBackup [] b kept) whole v d → NowDoes stanza (MakeBackup ts b kept) whole u d
     made_does whole u v d p q = record {
       told = λ some. q.told (p.told some);
-      does = λ r some now.
-          let x = p.does r some now in
-          let y = q.does (after r x.0) (p.told some) x.2 in
+      does = λ r from some now.
+          let x = p.does r tt some now in
+          let y = q.does (after r x.0) tt (p.told some) x.2 in
           let l = leads_made whole r (after r x.0) (after (after r x.0) y.0) (x.0, refl, x.1) (y.0, refl, y.1) in
           (l.0, l.2, subst (λ (k : Repository). NowStands stanza k d) l.1 y.2);
     }

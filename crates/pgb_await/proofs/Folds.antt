@@ -27,7 +27,7 @@ pub still_goes : (stanza : Text) (a b : View) → Rests a b → b.now ≡ a.now 
 still_goes stanza a b rests same = record {
   does = record {
     told = λ some. subst (λ (o : Option Content). IsSome o) (sym same) some;
-    does = λ r some now. ([], sym (ap all_of (no_moves r)), subst (λ (o : Option Content). NowStands stanza r o) (sym same) now);
+    does = λ r from some now. ([], sym (ap all_of (no_moves r)), subst (λ (o : Option Content). NowStands stanza r o) (sym same) now);
   };
   carries = record {
     keeps = λ q log some keeps.

@@ -100,10 +100,10 @@ pub turns_do : (stanza : Text) (ts us : List Turn) (whole : Bool) (a b c : Optio
     NowDoes stanza (ArchivePushAsync (ts ++ us)) whole a c
 turns_do stanza ts us whole a b c p q = record { told = λ some. q.told (p.told some); does = does }
   where
-    does : (r : Repository) → IsSome a → NowStands stanza r a →
+    does : (r : Repository) → Unit {0} → IsSome a → NowStands stanza r a →
         (done : List Step) × IsDone whole done (steps_of (ArchivePushAsync (ts ++ us)) r) × NowStands stanza (after r done) c
-    does r some now =
-        let x = p.does r some now in
-        let y = q.does (after r x.0) (p.told some) x.2 in
+    does r from some now =
+        let x = p.does r tt some now in
+        let y = q.does (after r x.0) tt (p.told some) x.2 in
         let both = leads_on ts us whole r (after r x.0) (after (after r x.0) y.0) (x.0, refl, x.1) (y.0, refl, y.1) in
         (both.0, both.2, subst (λ (k : Repository). NowStands stanza k c) both.1 y.2)

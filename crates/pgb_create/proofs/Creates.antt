@@ -85,7 +85,7 @@ module _ (stanza : Text) (c : Cluster) (first : c.id ≡ 1) (a d : View) (told :
       ((r : Repository) → IsSteady stanza r a → IsSome a.now → IsSteady stanza (step r (Create c)) d) →
       DoesWhole Whole stanza command a d
   does_whole done made = record {
-    done = record { told = told; does = λ r some now. whole_of r (done r some now) };
+    done = record { told = told; does = λ r from some now. whole_of r (done r some now) };
     ends = λ r some steady sound. (
       create_whole stanza c r d (made r steady some),
       create_sound (Some c) first r true (all_of (steps_of command r)) sound refl,

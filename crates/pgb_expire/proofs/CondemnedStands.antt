@@ -27,7 +27,7 @@ use Rattle.pgb_model.proofs.Frame.{place_past, past_alike, alike_stands, place_l
 use Rattle.pgb_model.proofs.Passing.{crash_moves, crash_steady}
 use Rattle.pgb_retain.proofs.Lists.{in_filter, filter_in}
 use Rattle.pgb_expire.proofs.Leaving.{AreKept, all_kept, AgreesOn, has_left, place_left}
-use Rattle.pgb_expire.proofs.BackupNames.{IsBackupMember, main_member, copy_member, manifest_apart, entry_apart}
+use Rattle.pgb_model.proofs.BackupNames.{IsBackupMember, main_member, copy_member, manifest_apart, entry_apart}
 
 -- ---- what is left is closed
 

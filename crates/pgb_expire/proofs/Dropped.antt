@@ -25,8 +25,8 @@ use Rattle.pgb_stamp.proofs.LabelTexts.{label_text-injective}
 use Rattle.pgb_retain.specs.Labels.{has_label}
 use Rattle.pgb_expire.specs.Losing.{Loses, IsUnlisted}
 use Rattle.pgb_expire.proofs.Leaving.{all_kept, AgreesOn, has_left, place_left}
-use Rattle.pgb_expire.proofs.BackupNames.{IsBackupMember, main_member, copy_member}
-use Rattle.pgb_expire.proofs.BackupNames as backup_names
+use Rattle.pgb_model.proofs.BackupNames.{IsBackupMember, main_member, copy_member}
+use Rattle.pgb_model.proofs.BackupNames as backup_names
 use Rattle.pgb_expire.proofs.LabelFolders.{below_is, label_begins, manifest_below, copy_below, place_below}
 
 -- the labels are those of the stanza's backups

@@ -18,7 +18,7 @@ use Rattle.pgb_model.specs.Log.{IsPlaceOf, Lists}
 use Rattle.pgb_model.proofs.Frame.{pair_same}
 use Rattle.pgb_stanza.proofs.OneBackup.{pair_agrees}
 use Rattle.pgb_keys.proofs.Numbers.{in_map, map_in}
-use Rattle.pgb_expire.proofs.BackupNames.{manifest_same, place_same}
+use Rattle.pgb_model.proofs.BackupNames.{manifest_same, place_same}
 
 pub entries_of : (s : Stanza) (c : Option Cluster) → (backup_value s c).backups ≡ map (λ b. b.entry) s.backups
 entries_of s None = refl

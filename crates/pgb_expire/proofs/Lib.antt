@@ -1,6 +1,5 @@
 pub mod Proper
 pub mod OneValue
-pub mod BackupNames
 pub mod Leaving
 pub mod CondemnedStands
 pub mod Losses

@@ -39,7 +39,7 @@ module _ (stanza : Text) (rules : Rules) (moment : ℕ) where
   -- where nothing was written
   pub read_part : (a b : View) → Rests a b → b.now ≡ a.now → ExpiresPart stanza (retention rules moment) a b
   read_part a b rests same = record {
-    now = record {
+    part = record {
       told = λ some. subst (λ (o : Option Content). IsSome o) (sym same) some;
       does = λ r sound some now. ([], part_none (steps_of command r), subst (λ (o : Option Content). NowStands stanza r o) (sym same) now);
     };
@@ -82,7 +82,7 @@ module _ (stanza : Text) (rules : Rules) (moment : ℕ) where
           ((part s plan_m sound (told_m told)).moves (steady_rests stanza (Some s) a m rests same steady)))
 
       pub carried_part : (IsSome m.now → IsSome b.now) → ExpiresPart stanza (retention rules moment) a b
-      carried_part told = record { now = record { told = λ some. told (told_m some); does = part_does }; goes = part_goes }
+      carried_part told = record { part = record { told = λ some. told (told_m some); does = part_does }; goes = part_goes }
 
     module _ (whole : (s : Stanza) → IfSome m.now (λ f. IsPlan stanza rules moment f labels w archive) → IsSoundStanza s → IsSome m.now → WholeFrom stanza (retention rules moment) s m b) where
       whole_does : (r : Repository) → IsSound r → IsSome a.now → NowStands stanza r a.now → (done : List Step) × (done ≡ all_of (steps_of (Expire (retention rules moment)) r)) × NowStands stanza (after r done) b.now
@@ -98,7 +98,7 @@ module _ (stanza : Text) (rules : Rules) (moment : ℕ) where
           )
 
       pub carried_whole : (IsSome m.now → IsSome b.now) → ExpiresWhole stanza (retention rules moment) a b
-      carried_whole told = record { now = record { told = λ some. told (told_m some); does = whole_does }; ends = whole_ends }
+      carried_whole told = record { done = record { told = λ some. told (told_m some); does = whole_does }; ends = whole_ends }
 
   -- what stays is there at each moment
   pub keeps_needed : (a b : View) → ExpiresPart stanza (retention rules moment) a b → (s : Stanza) → IsSoundStanza s → IsSome a.now → IsSteady stanza (Some s) a → LeavesOnly (HasNeeded stanza (retention rules moment) s) a b

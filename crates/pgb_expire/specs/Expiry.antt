@@ -1,17 +1,16 @@
 -- What retention rules are to a repository, and what an expiry does (pgBackRest command reference, "Expire").
-use Rattle.std.specs.Prelude.{◌≡◌, ℕ, Bool, true, false, List, Option, Some, IsSome}
+use Rattle.std.specs.Prelude.{◌≡◌, ℕ, Bool, true, false, List, Option, Some}
 use Rattle.pgb_outside.specs.Content.{Content}
 use Rattle.pgb_outside.specs.Moments.{View}
 use Rattle.pgb_model.specs.Text.{Text, In}
 use Rattle.pgb_model.specs.Values.{Entry}
-use Rattle.pgb_model.specs.Repository.{Archived, Backup, Stanza, Repository, IsSound, current_number}
+use Rattle.pgb_model.specs.Repository.{Archived, Backup, Stanza, Repository, current_number}
 use Rattle.pgb_model.specs.Stands.{Stands, HasStanza}
 use Rattle.pgb_model.specs.Now.{NowStands}
-use Rattle.pgb_model.specs.Log.{IsDone}
 use Rattle.pgb_model.specs.Steady.{IsSteady, Moves}
-use Rattle.pgb_model.specs.Steps.{Step, Command, Condemn, Expire, Retention, IsPartOf, after, all_of, changed, expiry_moves, steps_of}
+use Rattle.pgb_model.specs.Steps.{Step, Condemn, Expire, Retention, IsPartOf, after, all_of, changed, expiry_moves}
 use Rattle.pgb_stage.specs.declared.plan.Settling.TheVariants.{Whole}
-use Rattle.pgb_stage.specs.Runs.{Goes, Comes}
+use Rattle.pgb_stage.specs.Runs.{DoesPart, DoesWhole}
 use Rattle.pgb_retain.specs.declared.rules.Rules.{Rules}
 use Rattle.pgb_retain.specs.Condemned.{is_condemned}
 use Rattle.pgb_retain.specs.Descent.{listed_in}
@@ -57,20 +56,13 @@ pub record WholeFrom (stanza : Text) (kept : Retention) (s : Stanza) (old new : 
 
 -- ---- as a command of the log
 
--- From old to new the disk goes by all of the command's steps, or by a part of them, whatever sound repository it stood for.
-pub record DoesSound (stanza : Text) (command : Command) (whole : Bool) (old new : Option Content) : Type 0 where
-  pub told : IsSome old → IsSome new
-  pub does : (r : Repository) → IsSound r → IsSome old → NowStands stanza r old → (done : List Step) × IsDone whole done (steps_of command r) × NowStands stanza (after r done) new
-
 -- A part of the expiry: in what the disk holds, and at each moment in all that a stop leaves of a steady disk, which stands for a sound repository.
-pub record ExpiresPart (stanza : Text) (kept : Retention) (old new : View) : Type 0 where
-  pub now : DoesSound stanza (Expire kept) false old.now new.now
-  pub goes : Goes Whole stanza (Expire kept) old new
+abbrev pub ExpiresPart : Text → Retention → View → View → Type 0
+ExpiresPart stanza kept old new = DoesPart Whole stanza (Expire kept) old new
 
 -- all of it, at the end
-pub record ExpiresWhole (stanza : Text) (kept : Retention) (old new : View) : Type 0 where
-  pub now : DoesSound stanza (Expire kept) true old.now new.now
-  pub ends : Comes Whole stanza (Expire kept) old new
+abbrev pub ExpiresWhole : Text → Retention → View → View → Type 0
+ExpiresWhole stanza kept old new = DoesWhole Whole stanza (Expire kept) old new
 
 -- ---- what stays
 

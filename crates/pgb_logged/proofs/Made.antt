@@ -87,7 +87,7 @@ module _ (one_list : OneList) (one_manifest : OneManifest) (draft : Draft) (link
   goes (Some s) some steady sound = made_moves some s (steady_list one_list draft a begins some s steady) steady sound
 
   pub made_part : DoesPart Whole (stanza_of draft) (MakeBackup [] (full_backup draft links whole a d makes) None) a d
-  made_part = record { part = record { told = makes.now.told; does = now_part }; goes = goes }
+  made_part = record { part = record { told = makes.now.told; does = λ r from. now_part r }; goes = goes }
 
   -- ---- where it is listed
 
@@ -113,4 +113,4 @@ module _ (one_list : OneList) (one_manifest : OneManifest) (draft : Draft) (link
         (steady_with some s list steady is, sound_after some s list sound)
 
     pub made_whole : DoesWhole Whole (stanza_of draft) (MakeBackup [] (full_backup draft links whole a d makes) None) a d
-    made_whole = record { done = record { told = makes.now.told; does = now_whole }; ends = ends }
+    made_whole = record { done = record { told = makes.now.told; does = λ r from. now_whole r }; ends = ends }

@@ -102,7 +102,7 @@ module _ (one_list : OneList) (one_manifest : OneManifest) (draft : Draft) (a c 
           let f = told_as a.now some in
           let x = stanza_there one_list draft a begins f.0 f.1 r (stands.stands f.0 f.1) in
           let here = subst (λ (q : Repository). NowStands (stanza_of draft) q a.now) x.1 stands in
-          let y = waits.does.does (Some x.0) (left.now.told some) (left_stands x.0 some here) in
+          let y = waits.does.does (Some x.0) tt (left.now.told some) (left_stands x.0 some here) in
           subst (λ (q : Repository). (done : List Step) × IsPartOf done (steps_of command q) × NowStands (stanza_of draft) (after q done) w.now) (sym x.1)
           (y.0, covers x.0 y.0 (done_part ended y.0 (turn_moves x.0 turns) y.1), y.2)
 
@@ -120,7 +120,7 @@ module _ (one_list : OneList) (one_manifest : OneManifest) (draft : Draft) (a c 
 
       -- it is a part of the command
       pub wait_part : DoesPart Whole (stanza_of draft) command a w
-      wait_part = record { part = record { told = λ some. waits.does.told (left.now.told some); does = wait_now }; goes = wait_goes }
+      wait_part = record { part = record { told = λ some. waits.does.told (left.now.told some); does = λ r from. wait_now r }; goes = wait_goes }
 
     -- ---- where all turns ended well
 
@@ -131,7 +131,7 @@ module _ (one_list : OneList) (one_manifest : OneManifest) (draft : Draft) (a c 
       -- the stanza is there with what they pushed
       now_waited : (s : Stanza) → IsSome a.now → NowStands (stanza_of draft) (Some s) a.now → (g : Content) → w.now ≡ Some g → HasStanza (stanza_of draft) g (waited s turns)
       now_waited s some stands g is_g =
-          let y = waits.does.does (Some s) (left.now.told some) (left_stands s some stands) in
+          let y = waits.does.does (Some s) tt (left.now.told some) (left_stands s some stands) in
           let all : y.0 ≡ all_of (turn_moves s turns) = subst (λ (e : Bool). IsDone e y.0 (turn_moves s turns)) is y.1 in
           subst (λ (r : Repository). Stands (stanza_of draft) g r) (ap (after (Some s)) all ∙ after_some s (all_of (turn_moves s turns))) (y.2.stands g is_g)
 
@@ -179,7 +179,7 @@ module _ (one_list : OneList) (one_manifest : OneManifest) (draft : Draft) (a c 
             (wait_moves command covers s some steady sound) m
 
         pub unlisted_after : DoesPart Whole (stanza_of draft) command a d
-        unlisted_after = record { part = record { told = λ some. leaves.now.told (some_then some); does = unlisted_now }; goes = unlisted_goes }
+        unlisted_after = record { part = record { told = λ some. leaves.now.told (some_then some); does = λ r from. unlisted_now r }; goes = unlisted_goes }
 
       -- ---- and where it is, or may be
 
@@ -272,7 +272,7 @@ module _ (one_list : OneList) (one_manifest : OneManifest) (draft : Draft) (a c 
         goes (Some s) some steady sound = made_moves some s (steady_list one_list draft a begins some s steady) steady sound
 
         pub online_part : DoesPart Whole (stanza_of draft) (MakeBackup turns (backup_made draft (Some o) links whole w d makes) None) a d
-        online_part = record { part = record { told = λ some. makes.now.told (some_then some); does = now_part }; goes = goes }
+        online_part = record { part = record { told = λ some. makes.now.told (some_then some); does = λ r from. now_part r }; goes = goes }
 
         module _ (all : whole ≡ true) where
           -- the repository has what the turns pushed, and the backup
@@ -305,7 +305,7 @@ module _ (one_list : OneList) (one_manifest : OneManifest) (draft : Draft) (a c 
               )
 
           pub online_whole : DoesWhole Whole (stanza_of draft) (MakeBackup turns (backup_made draft (Some o) links whole w d makes) None) a d
-          online_whole = record { done = record { told = λ some. makes.now.told (some_then some); does = now_whole }; ends = ends }
+          online_whole = record { done = record { told = λ some. makes.now.told (some_then some); does = λ r from. now_whole r }; ends = ends }
 
 -- ---- as a command of the log
 

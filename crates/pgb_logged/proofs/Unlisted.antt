@@ -59,6 +59,6 @@ module _ (one_list : OneList) (one_manifest : OneManifest) (draft : Draft) (a : 
 
     pub unlisted_part : (command : Command) → DoesPart Whole (stanza_of draft) command a d
     unlisted_part command = record {
-      part = record { told = leaves.now.told; does = λ r some stands. ([], part_none (steps_of command r), still r some stands) };
+      part = record { told = leaves.now.told; does = λ r from some stands. ([], part_none (steps_of command r), still r some stands) };
       goes = goes command;
     }

@@ -20,7 +20,8 @@ use Rattle.pgb_keys.proofs.Scalars.{same_number}
 use Rattle.pgb_info.proofs.EntryParts.{same_segment}
 use Rattle.pgb_manifest.specs.declared.head.Head.{Head}
 use Rattle.pgb_manifest.specs.Head.{head_fields}
-use Rattle.pgb_manifest.specs.Read.{IsLogRead, IsHeadRead, IsSpanOf}
+use Rattle.pgb_wal.specs.Spans.{IsSpanOf}
+use Rattle.pgb_manifest.specs.Read.{IsLogRead, IsHeadRead}
 use Rattle.pgb_manifest.specs.Tied.{IsTied, backup, label_keys, log_keys}
 use Rattle.pgb_manifest.specs.Wrong.{At, IsWrongAt}
 use Rattle.pgb_manifest.proofs.Agreements.{agree_keys}

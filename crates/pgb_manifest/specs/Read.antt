@@ -8,7 +8,7 @@ use Rattle.pgb_model.specs.Text.{Text, In}
 use Rattle.pgb_outside.specs.States.{last_second}
 use Rattle.pgb_model.specs.Fields.{Field, whole}
 use Rattle.pgb_model.specs.InfoFiles.{IsLabel, IsSegment, label_kind, label_value, segment_value, version_value}
-use Rattle.pgb_model.specs.ManifestText.{lsn_text, segments_per_log, position, HasItsPrior, IsSegSize}
+use Rattle.pgb_model.specs.ManifestText.{lsn_text, HasItsPrior, IsSegSize}
 use Rattle.pgb_manifest.specs.declared.head.Head.{Head}
 
 -- where a value of this kind stands at the key, it is this one
@@ -42,11 +42,3 @@ pub record IsHeadRead (ks : List Field) (h : Head) : Type 0 where
   pub stop : (h.stop ≤ last_second) × IsReadAt whole (λ t. t ≤ last_second) ks (codes "backup-timestamp-stop") h.stop
   pub log : IfSome h.wal (IsLogRead ks)
   pub none : IfNone h.wal ((d : Data) → ¬ In (codes "backup-archive-start", d) ks)
-
--- segments of logs of this segment size and of one timeline, in their order, and not too many (own)
-pub record IsSpanOf (size : ℕ) (s : Span) : Type 0 where
-  pub start : s.start.seg < segments_per_log size
-  pub stop : s.stop.seg < segments_per_log size
-  pub timeline : s.start.timeline ≡ s.stop.timeline
-  pub order : position size s.start ≤ position size s.stop
-  pub short : position size s.stop ≤ position size s.start + 65536

@@ -8,11 +8,12 @@ ghost use Rattle.pgb_model.specs.InfoFiles.{IsSegment, segment_value};
 ghost use Rattle.pgb_model.specs.ManifestText.{lsn_text, IsSegSize};
 ghost use Rattle.pgb_ini.specs.Parts.{key_of};
 ghost use Rattle.pgb_keys.specs.Agree.{IsOrdered};
-ghost use Rattle.pgb_manifest.specs.Read.{IsLogRead, IsReadAt, IsSpanOf};
+ghost use Rattle.pgb_wal.specs.Spans.{IsSpanOf};
+ghost use Rattle.pgb_manifest.specs.Read.{IsLogRead, IsReadAt};
 
 use pgb_keys::{find, whole_at};
 use pgb_model::{Lsn, SegSize, Segment, Span, WalPart};
-use pgb_wal::{read_lsn, read_seg_size, read_segment, segments_per_log};
+use pgb_wal::{is_span, read_lsn, read_seg_size, read_segment};
 use serde_json::Value;
 
 // The text at a key, or an empty one.
@@ -90,37 +91,6 @@ pub(crate) fn log_of(keys: &[(String, Value)]) -> Option<WalPart>
     })
 }
 
-// The place of a segment among all of its timeline, where a log has so many.
-fn place_of(segment: &Segment, per_log: u32) -> u64
-    ensures { result ≡ segment.now.log * per_log + segment.now.seg }
-{
-    u64::from(segment.log) * u64::from(per_log) + u64::from(segment.seg)
-}
-
-fn is_span(wal: &WalPart) -> bool
-    requires { IsSegSize wal.now.size.0 }
-    ensures fit { result ≡ true → IsSpanOf wal.now.size.0 wal.now.span }
-    ensures other { result ≡ false → ¬ IsSpanOf wal.now.size.0 wal.now.span }
-{
-    let Span { start, stop } = wal.span;
-    let per_log = segments_per_log(wal.size);
-    if start.seg >= per_log {
-        return false;
-    }
-    if stop.seg >= per_log {
-        return false;
-    }
-    if start.timeline != stop.timeline {
-        return false;
-    }
-    let first = place_of(&start, per_log);
-    let last = place_of(&stop, per_log);
-    if last < first {
-        return false;
-    }
-    last - first <= 65_536
-}
-
 /// Whether the segments keep their rules, where there is a part of the log.
 pub(crate) fn has_span(wal: Option<WalPart>) -> bool
     requires { IfSome wal (λ w. IsSegSize w.size.0) }
@@ -128,7 +98,7 @@ pub(crate) fn has_span(wal: Option<WalPart>) -> bool
     ensures other { result ≡ false → (w : WalPart) × (wal ≡ Some w) × ¬ IsSpanOf w.size.0 w.span }
 {
     match wal {
-        Some(wal) => is_span(&wal),
+        Some(wal) => is_span(wal.size, &wal.span),
         None => true,
     }
 }

@@ -23,7 +23,7 @@ part_none (Any groups ∷ moves) = inl (nothing_of groups)
 pub nothing_done : (stanza : Text) (command : Command) (old new : Option Content) → new ≡ old → NowDoes stanza command false old new
 nothing_done stanza command old new same = record {
   told = λ s. subst (λ (o : Option Content). IsSome o) (sym same) s;
-  does = λ r some now. ([], part_none (steps_of command r), subst (λ (o : Option Content). NowStands stanza r o) (sym same) now);
+  does = λ r from some now. ([], part_none (steps_of command r), subst (λ (o : Option Content). NowStands stanza r o) (sym same) now);
 }
 
 module _ (stanza : Text) (c : Cluster) (old mid new : Option Content) (same : mid ≡ old) (told : IsSome mid → IsSome new) where
@@ -37,14 +37,14 @@ module _ (stanza : Text) (c : Cluster) (old mid new : Option Content) (same : mi
   pub create_part : ((r : Repository) → IsSome mid → NowStands stanza r mid → NowStands stanza r new ⊎ NowStands stanza (step r (Create c)) new) → NowDoes stanza (StanzaCreate (Some c)) false old new
   create_part part = record { told = λ s. told (some_mid s); does = does }
     where
-      does : (r : Repository) → IsSome old → NowStands stanza r old → (done : List Step) × IsPartOf done (steps_of (StanzaCreate (Some c)) r) × NowStands stanza (after r done) new
-      does None some now = ⊎_elim (λ s. ([], inl refl, s)) (λ s. (Create c ∷ [], inr ([], refl, refl), s)) (part None (some_mid some) (from_mid None now))
-      does (Some s) some now = ([], refl, ⊎_elim (λ x. x) (λ x. x) (part (Some s) (some_mid some) (from_mid (Some s) now)))
+      does : (r : Repository) → Unit {0} → IsSome old → NowStands stanza r old → (done : List Step) × IsPartOf done (steps_of (StanzaCreate (Some c)) r) × NowStands stanza (after r done) new
+      does None from some now = ⊎_elim (λ s. ([], inl refl, s)) (λ s. (Create c ∷ [], inr ([], refl, refl), s)) (part None (some_mid some) (from_mid None now))
+      does (Some s) from some now = ([], refl, ⊎_elim (λ x. x) (λ x. x) (part (Some s) (some_mid some) (from_mid (Some s) now)))
 
   -- a stanza that was made
   pub create_whole : ((r : Repository) → IsSome mid → NowStands stanza r mid → (r ≡ None) × NowStands stanza (step r (Create c)) new) → NowDoes stanza (StanzaCreate (Some c)) true old new
   create_whole whole = record { told = λ s. told (some_mid s); does = does }
     where
-      does : (r : Repository) → IsSome old → NowStands stanza r old → (done : List Step) × IsDone true done (steps_of (StanzaCreate (Some c)) r) × NowStands stanza (after r done) new
-      does None some now = (Create c ∷ [], refl, (whole None (some_mid some) (from_mid None now)).1)
-      does (Some s) some now = ([], refl, (whole (Some s) (some_mid some) (from_mid (Some s) now)).1)
+      does : (r : Repository) → Unit {0} → IsSome old → NowStands stanza r old → (done : List Step) × IsDone true done (steps_of (StanzaCreate (Some c)) r) × NowStands stanza (after r done) new
+      does None from some now = (Create c ∷ [], refl, (whole None (some_mid some) (from_mid None now)).1)
+      does (Some s) from some now = ([], refl, (whole (Some s) (some_mid some) (from_mid (Some s) now)).1)

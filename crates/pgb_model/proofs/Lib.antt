@@ -2,6 +2,7 @@ pub mod NameLemmas
 pub mod Temporary
 pub mod Frame
 pub mod Created
+pub mod BackupNames
 pub mod Made
 pub mod Done
 mod Worked

@@ -226,7 +226,7 @@ module _ (id : ArchiveId) (ended : Bool) where
   pub idle_does : (stanza : Text) (whole : Bool) (old new : Option Content) → new ≡ old → NowDoes stanza (ArchivePushAsync (record { id = id; pushed = []; ended = ended } ∷ [])) whole old new
   idle_does stanza whole old new same = record {
     told = λ some. subst (λ (o : Option Content). IsSome o) (sym same) some;
-    does = λ r some now. ([], idle_done whole r, subst (λ (o : Option Content). NowStands stanza r o) (sym same) now);
+    does = λ r from some now. ([], idle_done whole r, subst (λ (o : Option Content). NowStands stanza r o) (sym same) now);
   }
 
   module _ (stanza : Text) (a b : View) (rests : Rests a b) (same : b.now ≡ a.now) where

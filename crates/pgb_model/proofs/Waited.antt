@@ -16,7 +16,7 @@ use Rattle.pgb_model.proofs.PushDone.{all_one, after_some}
 
 -- ---- moves behind moves
 
-all_behind : (xs ys : List Move) → all_of (xs ++ ys) ≡ all_of xs ++ all_of ys
+pub all_behind : (xs ys : List Move) → all_of (xs ++ ys) ≡ all_of xs ++ all_of ys
 all_behind [] ys = refl
 all_behind (One t ∷ xs) ys = ap (λ (l : List Step). t ∷ l) (all_behind xs ys)
 all_behind (Any groups ∷ xs) ys = ap (λ (l : List Step). flat_map (λ g. g) groups ++ l) (all_behind xs ys) ∙ sym (append_assoc (flat_map (λ g. g) groups) (all_of xs) (all_of ys))
@@ -29,12 +29,12 @@ part_front done (Any groups ∷ xs) ys p = ⊎_elim (λ (s : IsSomeOf done group
     (λ (q : (rest : List Step) × (done ≡ flat_map (λ g. g) groups ++ rest) × IsPartOf rest xs). inr (q.0, q.1, part_front q.0 xs ys q.2)) p
 
 -- all of the first, and a part of the second
-part_behind : (xs ys : List Move) (done : List Step) → IsPartOf done ys → IsPartOf (all_of xs ++ done) (xs ++ ys)
+pub part_behind : (xs ys : List Move) (done : List Step) → IsPartOf done ys → IsPartOf (all_of xs ++ done) (xs ++ ys)
 part_behind [] ys done p = p
 part_behind (One t ∷ xs) ys done p = inr (all_of xs ++ done, refl, part_behind xs ys done p)
 part_behind (Any groups ∷ xs) ys done p = inr (all_of xs ++ done, append_assoc (flat_map (λ g. g) groups) (all_of xs) done, part_behind xs ys done p)
 
-after_behind : (r : Repository) (xs ys : List Step) → after r (xs ++ ys) ≡ after (after r xs) ys
+pub after_behind : (r : Repository) (xs ys : List Step) → after r (xs ++ ys) ≡ after (after r xs) ys
 after_behind r [] ys = refl
 after_behind r (t ∷ xs) ys = after_behind (step r t) xs ys
 
@@ -96,7 +96,7 @@ module _ (ts us : List Turn) (whole : Bool) where
       by true e = ap (λ (l : List Step). all_of (turn_moves s ts) ++ l) e ∙ sym (all_behind (turn_moves s ts) (turn_moves (after_all s (all_of (turn_moves s ts))) us))
       by false p = part_behind (turn_moves s ts) (turn_moves (after_all s (all_of (turn_moves s ts))) us) more p
 
-  leads_both : (old mid new : Repository) → Leads first old mid → Leads second mid new → Leads both old new
+  pub leads_both : (old mid new : Repository) → Leads first old mid → Leads second mid new → Leads both old new
   leads_both None mid new l k =
       let none : mid ≡ None = l.1 ∙ ap (after None) l.2 in
       subst (λ (m : Repository). Leads second m new) none k

@@ -4,10 +4,10 @@ use Rattle.pgb_outside.specs.Content.{Content}
 use Rattle.pgb_model.specs.declared.clusters.Cluster.{Cluster}
 use Rattle.pgb_model.specs.Text.{Text}
 use Rattle.pgb_model.specs.Names.{archive_info, backup_info, copy_of}
-use Rattle.pgb_model.specs.Repository.{Repository}
+use Rattle.pgb_model.specs.Repository.{Repository, IsSound}
 use Rattle.pgb_model.specs.Stands.{Stands}
 use Rattle.pgb_model.specs.Create.{first_archive_text, first_backup_text}
-use Rattle.pgb_model.specs.Steps.{Command, Step, after, steps_of}
+use Rattle.pgb_model.specs.Steps.{Command, StanzaCreate, ArchivePush, ArchivePushAsync, ArchivePushDrain, MakeBackup, Expire, Then, Reading, Step, after, steps_of}
 use Rattle.pgb_model.specs.Log.{IsDone}
 
 -- what the disk holds, where it is told, stands for r
@@ -21,7 +21,18 @@ pub record HasNewPairs (stanza : Text) (c : Cluster) (f : Content) : Type 0 wher
   pub backup : f (backup_info stanza) ≡ Some (first_backup_text c)
   pub backup_copy : f (copy_of (backup_info stanza)) ≡ Some (first_backup_text c)
 
--- From old to new the disk goes by all of the command's steps, or by a part of them, whatever repository it stood for.
+-- what a command asks of the repository that it begins from: an expiry, that it is sound
+abbrev pub BeginsFrom : Command → Repository → Type 0
+BeginsFrom (StanzaCreate c) r = Unit {0}
+BeginsFrom (ArchivePush n) r = Unit {0}
+BeginsFrom (ArchivePushAsync turns) r = Unit {0}
+BeginsFrom (ArchivePushDrain ns) r = Unit {0}
+BeginsFrom (MakeBackup turns b kept) r = Unit {0}
+BeginsFrom (Expire kept) r = IsSound r
+BeginsFrom (Then first second) r = IsSound r
+BeginsFrom Reading r = Unit {0}
+
+-- From old to new the disk goes by all of the command's steps, or by a part of them, whatever repository it stood for that the command begins from.
 pub record NowDoes (stanza : Text) (command : Command) (whole : Bool) (old new : Option Content) : Type 0 where
   pub told : IsSome old → IsSome new
-  pub does : (r : Repository) → IsSome old → NowStands stanza r old → (done : List Step) × IsDone whole done (steps_of command r) × NowStands stanza (after r done) new
+  pub does : (r : Repository) → BeginsFrom command r → IsSome old → NowStands stanza r old → (done : List Step) × IsDone whole done (steps_of command r) × NowStands stanza (after r done) new

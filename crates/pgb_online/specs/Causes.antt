@@ -11,7 +11,7 @@ use Rattle.pgb_server.specs.Views.{session_view}
 use Rattle.pgb_online.specs.declared.begun.Begun.{Begun}
 use Rattle.pgb_online.specs.declared.fault.OnlineFault.{OnlineFault}
 use Rattle.pgb_online.specs.declared.fault.OnlineFault.TheVariants.{Server, TablespaceMap, SpanWrong}
-use Rattle.pgb_online.specs.Ending.{IsAstray}
+use Rattle.pgb_wal.specs.Spans.{IsSpanOf}
 use Rattle.pgb_online.specs.Telling.{Start, Left, Starts, StopReplies, TellsStop}
 
 -- a fault of a talk: the connection failed, or the server told it
@@ -35,7 +35,7 @@ abbrev pub Misses : ℕ → Segment → Stop → OnlineFault → Type 0
 Misses size segment stop (Server fault) = ⊥
 Misses size segment stop TablespaceMap = stop.map_file ≢ []
 Misses size segment stop (SpanWrong start last) =
-    (stop.map_file ≡ []) × (start ≡ segment) × (last ≡ stop.segment) × IsAstray size start last
+    (stop.map_file ≡ []) × (start ≡ segment) × (last ≡ stop.segment) × ¬ IsSpanOf size (record { start = start; stop = last })
 
 -- why a backup isn't stopped
 abbrev pub StopCause : Begun → Option (List ℕ) → Option (List ℕ) → Type 0 → OnlineFault → Type 0

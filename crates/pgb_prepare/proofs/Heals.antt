@@ -83,7 +83,7 @@ module _ (stanza : Text) (old new : View) (part : PartAt (archive_info stanza) o
       (part (archive_value s) (told_at (Has (archive_value s)) old.now f.0 f.1 pair)) now
 
   heal_stays : NowDoes stanza Reading true old.now new.now
-  heal_stays = record { told = told; does = λ r some now. ([], refl, now_stays r some now) }
+  heal_stays = record { told = told; does = λ r from some now. ([], refl, now_stays r some now) }
 
   module _ (tight : IsTight stanza old) (some : IsSome old.now) (pair : PairAlike stanza old) (f : Content) (is : old.now ≡ Some f) where
     -- of the value that the disk's pair has the writes are those of each content that is left

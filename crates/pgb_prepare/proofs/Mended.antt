@@ -32,7 +32,7 @@ module _ (stanza : Text) where
   rests_mends old new rests same = record {
     now = record {
       told = λ some. subst (λ (o : Option Content). IsSome o) (sym same) some;
-      does = λ r some now. ([], refl, subst (λ (o : Option Content). NowStands stanza r o) (sym same) now);
+      does = λ r from some now. ([], refl, subst (λ (o : Option Content). NowStands stanza r o) (sym same) now);
     };
     beside = rests_beside stanza old new rests same;
     walks = λ at. reads_still old new rests same at.tight (now_told stanza old at.now);

@@ -126,7 +126,7 @@ module _ (stanza : Text) (n : Named) (c : ClusterId) where
     part_done = record {
       part = record {
         told = part.now.told;
-        does = λ r some now.
+        does = λ r from some now.
             let f = told_as old.now some in
             let g = told_as new.now (part.now.told some) in
             let x = push_part f.0 g.0 (here f.0 f.1) (part.now.goes f.0 g.0 f.1 g.1) r (now.stands f.0 f.1) in
@@ -144,7 +144,7 @@ module _ (stanza : Text) (n : Named) (c : ClusterId) where
     whole_done all = record {
       done = record {
         told = all.now.told;
-        does = λ r some now.
+        does = λ r from some now.
             let f = told_as old.now some in
             let g = told_as new.now (all.now.told some) in (
               all_of (steps_of (ArchivePush n) r),

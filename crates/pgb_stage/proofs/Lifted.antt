@@ -42,7 +42,7 @@ on_some : (a b : Option Content) → b ≡ a → IsSome a → IsSome b
 on_some a b same some = subst (λ (o : Option Content). IsSome o) (sym same) some
 
 stays_at : (stanza : Text) (old new : Option Content) → NowDoes stanza Reading true old new → (r : Repository) → IsSome old → NowStands stanza r old → NowStands stanza r new
-stays_at stanza old new h r some now = let x = h.does r some now in subst (λ (done : List Step). NowStands stanza (after r done) new) x.1 x.2
+stays_at stanza old new h r some now = let x = h.does r tt some now in subst (λ (done : List Step). NowStands stanza (after r done) new) x.1 x.2
 
 either : (t s : ℕ) → (t ≤ s) ⊎ (s ≤ t)
 either t s = grind arith
@@ -114,7 +114,7 @@ module _ (stanza : Text) (command : Command) (q : Repository) (log : List Done) 
 -- nothing was done, or only was read
 pub rests_quiet : (stanza : Text) (a b : View) → Rests a b → b.now ≡ a.now → Quiet stanza a b
 rests_quiet stanza a b rests same = record {
-  now = record { told = λ some. on_some a.now b.now same some; does = λ r some now. ([], refl, subst (λ (o : Option Content). NowStands stanza r o) (sym same) now) };
+  now = record { told = λ some. on_some a.now b.now same some; does = λ r from some now. ([], refl, subst (λ (o : Option Content). NowStands stanza r o) (sym same) now) };
   beside = rests_beside stanza a b rests same;
   keeps = λ q log some keeps. rests_still stanza q log a b rests same keeps;
   between = λ q log some keeps. (rests_past a b rests, λ t f lo hi leaves. keeps.stands f (leaves_back a b rests same t lo hi f leaves));
@@ -137,7 +137,7 @@ module _ (stanza : Text) (a b c : View) (first : Quiet stanza a b) (paired : (q 
 
   pub mended_quiet : Quiet stanza a c
   mended_quiet = record {
-    now = record { told = λ some. mends.now.told (first.now.told some); does = λ r some now. ([], refl, stays_at stanza b.now c.now mends.now r (first.now.told some) (stays_at stanza a.now b.now first.now r some now)) };
+    now = record { told = λ some. mends.now.told (first.now.told some); does = λ r from some now. ([], refl, stays_at stanza b.now c.now mends.now r (first.now.told some) (stays_at stanza a.now b.now first.now r some now)) };
     beside = beside_on stanza a b c first.beside mends.beside;
     keeps = λ q log some keeps. let w = walked q log some keeps in
         record { fixed = w.tight.fixed; places = w.tight.places; stands = λ g leaves. let x = w.comes c.moment g w.later (omega arith) leaves in still q log some keeps x.0 g x.1 x.2 };
@@ -159,7 +159,7 @@ mends_steady stanza a b mends pair r some steady =
 module _ (stanza : Text) (command : Command) (a b s : View) (quiet : Quiet stanza a b) where
   pub quiet_leads : Leads stanza command false a s b s
   quiet_leads = record {
-    now = record { told = quiet.now.told; does = λ r some now. ([], part_none (steps_of command r), stays_at stanza a.now b.now quiet.now r some now) };
+    now = record { told = quiet.now.told; does = λ r from some now. ([], part_none (steps_of command r), stays_at stanza a.now b.now quiet.now r some now) };
     keeps = λ q log some keeps. record {
       repository = still_keeps stanza command q log b (quiet.keeps q log some keeps.repository);
       receipts = still_spool stanza command q log s keeps.receipts;
@@ -203,7 +203,7 @@ module _ (stanza : Text) (a b : View) (quiet : Quiet stanza a b) where
   told_at some = quiet.now.told some
 
   does_on : (command : Command) (whole : Bool) (d : View) → NowDoes stanza command whole b.now d.now → NowDoes stanza command whole a.now d.now
-  does_on command whole d h = record { told = λ some. h.told (told_at some); does = λ r some now. h.does r (told_at some) (stays_at stanza a.now b.now quiet.now r some now) }
+  does_on command whole d h = record { told = λ some. h.told (told_at some); does = λ r from some now. h.does r from (told_at some) (stays_at stanza a.now b.now quiet.now r some now) }
 
   module _ (command : Command) (d : View) (q : Repository) (log : List Done) (some : IsSome a.now) (keeps : KeepsRepository stanza q log a) where
     abbrev Left : Type 0

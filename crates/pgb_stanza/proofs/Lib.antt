@@ -2,7 +2,6 @@ mod Refused
 pub mod Saves
 mod Owned
 mod NewStanza
-mod BackupNames
 pub mod OneBackup
 mod Mended
 mod Lengths

@@ -28,7 +28,7 @@ use Rattle.pgb_model.proofs.Healed.{healed_stands, put_past}
 use Rattle.pgb_model.proofs.Passing.{crash_moves}
 use Rattle.pgb_keys.proofs.Numbers.{in_map, map_in}
 use Rattle.pgb_stanza.specs.Mending.{mending_writes}
-use Rattle.pgb_stanza.proofs.BackupNames.{IsBackupMember, main_member, copy_member, manifest_apart, place_apart, manifest_same, place_same}
+use Rattle.pgb_model.proofs.BackupNames.{IsBackupMember, main_member, copy_member, manifest_apart, place_apart, manifest_same, place_same}
 use Rattle.pgb_stanza.proofs.OneBackup.{pair_agrees}
 
 -- g has the stanza, and no place that f hasn't

@@ -168,7 +168,7 @@ module _ (stanza : Text) (id : ArchiveId) (first segment : Segment) (bytes : Tex
   turn_tried = record {
     does = record {
       told = λ some. leaves.now.told (some_b some);
-      does = λ r some now. part_of r some now (stanza_at r some now);
+      does = λ r from some now. part_of r some now (stanza_at r some now);
     };
     carries = record {
       keeps = λ q log some keeps.
@@ -197,7 +197,7 @@ module _ (stanza : Text) (id : ArchiveId) (first segment : Segment) (bytes : Tex
     turn_ended = record {
       does = record {
         told = λ some. leaves.now.told (some_b some);
-        does = λ r some now. whole_of r some now (stanza_at r some now);
+        does = λ r from some now. whole_of r some now (stanza_at r some now);
       };
       carries = record {
         keeps = λ q log some keeps.

@@ -1,3 +1,4 @@
 pub mod Next
 pub mod Lsn
 pub mod Header
+pub mod Spans

@@ -8,6 +8,7 @@ mod order;
 mod positions;
 mod segments;
 mod sizes;
+mod spans;
 
 pub use archive_names::{archive_name_text, read_archive_name};
 pub use header::{HeaderFault, check_front, check_header};
@@ -16,3 +17,4 @@ pub use pgb_model::{ArchiveName, Lsn, SegSize, Segment};
 pub use positions::read_lsn;
 pub use segments::{read_segment, segment_folder, segment_text};
 pub use sizes::{read_seg_size, segments_per_log};
+pub use spans::is_span;

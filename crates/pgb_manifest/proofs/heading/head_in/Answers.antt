@@ -11,7 +11,8 @@ use Rattle.pgb_ini.specs.Parts.{key_of, sections_of}
 use Rattle.pgb_keys.specs.Agree.{IsKeysOf, IsFirstDifference, IsOrdered}
 use Rattle.pgb_keys.proofs.Forms.{form_as}
 use Rattle.pgb_manifest.specs.ManifestForm.{IsManifestForm}
-use Rattle.pgb_manifest.specs.Read.{IsReadAt, IsLogRead, IsSpanOf}
+use Rattle.pgb_wal.specs.Spans.{IsSpanOf}
+use Rattle.pgb_manifest.specs.Read.{IsReadAt, IsLogRead}
 use Rattle.pgb_manifest.proofs.HeadForms.{wrong_head, wrong_log}
 use Rattle.pgb_manifest.proofs.Headed.{of_head}
 use Rattle.pgb_manifest.proofs.ManifestRules.{backup_keys, backup_order}
