@@ -23,7 +23,7 @@ use Rattle.pgb_stored.specs.Stored.{archived_file, StoresNone}
 use Rattle.pgb_stage.specs.Cluster.{FolderTells}
 use Rattle.pgb_stage.specs.Current.{id_kept}
 use Rattle.pgb_stage.specs.declared.outcome.Outcome.{Outcome}
-use Rattle.pgb_stage.specs.declared.outcome.Outcome.TheVariants.{Finished, Absent}
+use Rattle.pgb_stage.specs.declared.outcome.Outcome.TheVariants.{Finished, Absent, FindingsFound}
 use Rattle.pgb_get.specs.declared.fault.GetFault.{GetFault}
 use Rattle.pgb_get.specs.declared.fault.GetFault.TheVariants.{SegmentName, PathOutside, StanzaMismatch, Ambiguous, SegmentDamaged, TooLong}
 use Rattle.pgb_stanza.specs.Pairs.{identity_kept, identity_told}
@@ -219,8 +219,10 @@ GotBy stanza folder word path repo nodes now_nodes (Finished lines) =
     (string_bytes lines ≡ []) × Serves stanza folder word path repo nodes now_nodes
 GotBy stanza folder word path repo nodes now_nodes (Absent name) =
     (string_bytes name ≡ word) × IsMissing stanza folder word path repo nodes
+GotBy stanza folder word path repo nodes now_nodes (FindingsFound lines) = ⊥
 
 -- the same, of the stanza that the repository stands for
 abbrev pub GivenBy : Stanza → Text → Text → Text → Option Nodes → Option Nodes → Outcome → Type 0
 GivenBy s folder word path nodes now_nodes (Finished lines) = ServesArchived s folder word path nodes now_nodes
 GivenBy s folder word path nodes now_nodes (Absent name) = LacksArchived s folder word path nodes
+GivenBy s folder word path nodes now_nodes (FindingsFound lines) = ⊥

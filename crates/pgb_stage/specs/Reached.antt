@@ -6,13 +6,14 @@ use Rattle.pgb_stage.specs.declared.object.Object.TheVariants.{Server}
 use Rattle.pgb_stage.specs.declared.halt.Halt.{Halt}
 use Rattle.pgb_stage.specs.declared.halt.Halt.TheVariants.{Refused, Failed, NoMemory}
 use Rattle.pgb_stage.specs.declared.outcome.Outcome.{Outcome}
-use Rattle.pgb_stage.specs.declared.outcome.Outcome.TheVariants.{Finished, Absent}
+use Rattle.pgb_stage.specs.declared.outcome.Outcome.TheVariants.{Finished, Absent, FindingsFound}
 use Rattle.pgb_stage.specs.Runs.{Reached, to_end, turned_back, stopped}
 
 -- the command ended well, with lines of which this holds
 abbrev pub OnFinished : Outcome → (Text → Type 0) → Type 0
 OnFinished (Finished lines) P = P (string_bytes lines)
 OnFinished (Absent name) P = ⊥
+OnFinished (FindingsFound lines) P = ⊥
 
 -- the server is asked before a command's first own step
 abbrev pub fails_early : Object → Bool
@@ -26,6 +27,7 @@ back_if early = if early then turned_back else stopped
 abbrev pub reached_by : {E : Type 0} → (E → Bool) → Result Outcome (Halt E) → Reached
 reached_by early (Ok (Finished lines)) = to_end
 reached_by early (Ok (Absent name)) = turned_back
+reached_by early (Ok (FindingsFound lines)) = to_end
 reached_by early (Err (Refused e)) = back_if (early e)
 reached_by early (Err (Failed object)) = back_if (fails_early object)
 reached_by early (Err NoMemory) = stopped

@@ -7,4 +7,6 @@ pub enum Outcome {
     Finished { lines: String },
     /// The archive has no file of this name.
     Absent { name: String },
+    /// It is done, and what was looked at isn't as it should be: a line a finding.
+    FindingsFound { lines: String },
 }

@@ -35,7 +35,7 @@ use Rattle.pgb_await.specs.Went.{Went, turns_of, all_ended}
 use Rattle.pgb_stage.specs.declared.halt.Halt.{Halt}
 use Rattle.pgb_stage.specs.declared.halt.Halt.TheVariants.{Refused, Failed, NoMemory}
 use Rattle.pgb_stage.specs.declared.outcome.Outcome.{Outcome}
-use Rattle.pgb_stage.specs.declared.outcome.Outcome.TheVariants.{Finished, Absent}
+use Rattle.pgb_stage.specs.declared.outcome.Outcome.TheVariants.{Finished, Absent, FindingsFound}
 use Rattle.pgb_stage.specs.declared.plan.Settling.TheVariants.{Whole}
 use Rattle.pgb_stage.specs.Current.{HasValue}
 use Rattle.pgb_stage.specs.Reached.{reached_by, back_if, fails_early}
@@ -76,6 +76,7 @@ not_end (Err NoMemory) h is at = let e : stopped ≡ to_end = at in cc
 pub reached_same : (e : Result Outcome (Halt TakeFault)) → reached_by online_early (of_end e) ≡ reached_by take_early e
 reached_same (Ok (Finished lines)) = refl
 reached_same (Ok (Absent name)) = refl
+reached_same (Ok (FindingsFound lines)) = refl
 reached_same (Err (Refused f)) = refl
 reached_same (Err (Failed object)) = refl
 reached_same (Err NoMemory) = refl
