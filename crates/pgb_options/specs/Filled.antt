@@ -4,6 +4,8 @@ use Rattle.pgb_model.specs.Text.{Text}
 use Rattle.pgb_options.specs.declared.options.Options.{Options}
 use Rattle.pgb_options.specs.declared.options.KindWord.{KindWord}
 use Rattle.pgb_options.specs.declared.options.KindWord.TheVariants as kinds
+use Rattle.pgb_options.specs.declared.options.RetentionWord.{RetentionWord}
+use Rattle.pgb_options.specs.declared.options.RetentionWord.TheVariants as retentions
 use Rattle.pgb_options.specs.declared.options.RestoreWord.{RestoreWord}
 use Rattle.pgb_options.specs.declared.options.RestoreWord.TheVariants as restores
 use Rattle.pgb_options.specs.declared.options.OutputWord.{OutputWord}
@@ -11,7 +13,7 @@ use Rattle.pgb_options.specs.declared.options.OutputWord.TheVariants as outputs
 use Rattle.pgb_options.specs.declared.options.LogWord.{LogWord}
 use Rattle.pgb_options.specs.declared.options.LogWord.TheVariants as logs
 use Rattle.pgb_table.specs.declared.table.Opt.{Opt}
-use Rattle.pgb_table.specs.declared.table.Opt.TheVariants.{Pg1Path, Pg1Port, Pg1SocketPath, Pg1User, Pg1Database, Repo1Path, Repo1RetentionFull, Repo1RetentionDiff, Repo1RetentionArchive, Repo1RetentionArchiveType, Repo1Bundle, Repo1BundleSize, Repo1BundleLimit, ProcessMax, BackupType, RestoreType, Delta, Online, StartFast, ArchiveTimeout, ArchiveAsync, ArchiveGetQueueMax, SpoolPath, LockPath, Set, ExpireAuto, Output, Number, Config, LogLevelStderr}
+use Rattle.pgb_table.specs.declared.table.Opt.TheVariants.{Pg1Path, Pg1Port, Pg1SocketPath, Pg1User, Pg1Database, Repo1Path, Repo1RetentionFull, Repo1RetentionFullType, Repo1RetentionDiff, Repo1RetentionArchive, Repo1RetentionArchiveType, Repo1Bundle, Repo1BundleSize, Repo1BundleLimit, ProcessMax, BackupType, RestoreType, Delta, Online, StartFast, ArchiveTimeout, ArchiveAsync, ArchiveGetQueueMax, SpoolPath, LockPath, Set, ExpireAuto, Output, Number, Config, LogLevelStderr}
 use Rattle.pgb_table.specs.Values.{Value, absent, flag, number, amount_of, text}
 
 -- a text, where there is one
@@ -54,9 +56,12 @@ abbrev pub or_else : {A : Type 0} → A → Option A → A
 or_else d None = d
 or_else d (Some x) = x
 
--- the words of `type`, `repo1-retention-archive-type`, `output` and `log-level-stderr`
+-- the words of `type`, `repo1-retention-archive-type`, `repo1-retention-full-type`, `output` and `log-level-stderr`
 abbrev pub kind_word : Text → KindWord
 kind_word t = if bytes_eq t (codes "full") then kinds.Full else if bytes_eq t (codes "diff") then kinds.Diff else kinds.Incr
+
+abbrev pub retention_word : Text → RetentionWord
+retention_word t = if bytes_eq t (codes "time") then retentions.Time else retentions.Count
 
 abbrev pub restore_word : Text → RestoreWord
 restore_word t = if bytes_eq t (codes "none") then restores.Plain else restores.Default
@@ -83,6 +88,7 @@ pub record AreOptions (o : Options) (value : Opt → Option Value) : Type 0 wher
   pub pg1_database : string_bytes o.pg1_database ≡ or_else [] (text_in (value Pg1Database))
   pub repo1_path : string_bytes o.repo1_path ≡ or_else [] (text_in (value Repo1Path))
   pub repo1_retention_full : o.repo1_retention_full ≡ number_in (value Repo1RetentionFull)
+  pub repo1_retention_full_type : o.repo1_retention_full_type ≡ retention_word (word_in (value Repo1RetentionFullType))
   pub repo1_retention_diff : o.repo1_retention_diff ≡ number_in (value Repo1RetentionDiff)
   pub repo1_retention_archive : o.repo1_retention_archive ≡ number_in (value Repo1RetentionArchive)
   pub repo1_retention_archive_type : o.repo1_retention_archive_type ≡ kind_word (word_in (value Repo1RetentionArchiveType))

@@ -10,7 +10,7 @@ mod text;
 mod usage;
 mod words;
 
-pub use options::{KindWord, LogWord, Options, OutputWord, RestoreWord};
+pub use options::{KindWord, LogWord, Options, OutputWord, RestoreWord, RetentionWord};
 pub use path::{ConfigPath, config_path};
 pub use settle::{Command, settle_words};
 pub use usage::Usage;

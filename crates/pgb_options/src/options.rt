@@ -4,7 +4,7 @@ ghost use Rattle.std.specs.Prelude.{◌≡◌, option_map, string_bytes, IfOk, [
 ghost use Rattle.pgb_options.specs.Settings.{value};
 ghost use Rattle.pgb_options.specs.Sources.{source_view};
 ghost use Rattle.pgb_table.specs.Views.{value_view};
-ghost use Rattle.pgb_options.specs.Filled.{text_in, number_in, amount_in, flag_in, or_else, kind_word, restore_word, output_word, log_word, word_in, AreOptions};
+ghost use Rattle.pgb_options.specs.Filled.{text_in, number_in, amount_in, flag_in, or_else, kind_word, retention_word, restore_word, output_word, log_word, word_in, AreOptions};
 
 use crate::source::{Source, value};
 use pgb_table::{Opt, Value};
@@ -16,6 +16,15 @@ pub enum KindWord {
     Full,
     Diff,
     Incr,
+}
+
+/// What the number of full backups to keep counts.
+#[derive(Clone, Copy, Debug, PartialEq, Eq)]
+pub enum RetentionWord {
+    /// Backups.
+    Count,
+    /// Days.
+    Time,
 }
 
 /// A kind of restore.
@@ -59,8 +68,9 @@ pub struct Options {
     pub pg1_user: String,
     pub pg1_database: String,
     pub repo1_path: String,
-    /// 1 to 9999999.
+    /// 1 to 9999999, backups or days.
     pub repo1_retention_full: Option<u32>,
+    pub repo1_retention_full_type: RetentionWord,
     /// 1 to 9999999.
     pub repo1_retention_diff: Option<u32>,
     /// 1 to 9999999.
@@ -186,6 +196,16 @@ fn kind_word(text: &str) -> KindWord
     KindWord::Incr
 }
 
+fn retention_word(text: &str) -> RetentionWord
+    ensures { result ≡ retention_word text.now }
+{
+    if text == "time" {
+        RetentionWord::Time
+    } else {
+        RetentionWord::Count
+    }
+}
+
 fn restore_word(text: &str) -> RestoreWord
     ensures { result ≡ restore_word text.now }
 {
@@ -228,6 +248,7 @@ pub(crate) fn fill(alloc: Global, source: &Source) -> Result<Options, AllocError
         pg1_database: text_or_empty(alloc, source, Opt::Pg1Database)?,
         repo1_path: text_or_empty(alloc, source, Opt::Repo1Path)?,
         repo1_retention_full: number(source, Opt::Repo1RetentionFull),
+        repo1_retention_full_type: retention_word(word(source, Opt::Repo1RetentionFullType)),
         repo1_retention_diff: number(source, Opt::Repo1RetentionDiff),
         repo1_retention_archive: number(source, Opt::Repo1RetentionArchive),
         repo1_retention_archive_type: kind_word(word(source, Opt::Repo1RetentionArchiveType)),

@@ -7,7 +7,7 @@ use Rattle.pgb_table.specs.declared.table.Verb.TheVariants.{StanzaCreate, Archiv
 use Rattle.pgb_table.specs.declared.table.Place.{Place}
 use Rattle.pgb_table.specs.declared.table.Place.TheVariants.{CommandLine, Anywhere}
 use Rattle.pgb_table.specs.declared.table.Opt.{Opt}
-use Rattle.pgb_table.specs.declared.table.Opt.TheVariants.{Stanza, Pg1Path, Pg1Port, Pg1SocketPath, Pg1User, Pg1Database, Repo1Path, Repo1Type, Repo1CipherType, CompressType, Repo1RetentionFull, Repo1RetentionDiff, Repo1RetentionArchive, Repo1RetentionArchiveType, Repo1Bundle, Repo1BundleSize, Repo1BundleLimit, ProcessMax, BackupType, RestoreType, Delta, Online, StartFast, ArchiveTimeout, ArchiveAsync, ArchiveGetQueueMax, SpoolPath, LockPath, Set, ExpireAuto, Output, Number, Config, LogLevelConsole, LogLevelFile, LogLevelStderr, LogPath, LogTimestamp, BufferSize, CompressLevel, CompressLevelNetwork, DbTimeout, ProtocolTimeout, IoTimeout, ArchiveModeCheck}
+use Rattle.pgb_table.specs.declared.table.Opt.TheVariants.{Stanza, Pg1Path, Pg1Port, Pg1SocketPath, Pg1User, Pg1Database, Repo1Path, Repo1Type, Repo1CipherType, CompressType, Repo1RetentionFull, Repo1RetentionFullType, Repo1RetentionDiff, Repo1RetentionArchive, Repo1RetentionArchiveType, Repo1Bundle, Repo1BundleSize, Repo1BundleLimit, ProcessMax, BackupType, RestoreType, Delta, Online, StartFast, ArchiveTimeout, ArchiveAsync, ArchiveGetQueueMax, SpoolPath, LockPath, Set, ExpireAuto, Output, Number, Config, LogLevelConsole, LogLevelFile, LogLevelStderr, LogPath, LogTimestamp, BufferSize, CompressLevel, CompressLevelNetwork, DbTimeout, ProtocolTimeout, IoTimeout, ArchiveModeCheck}
 
 -- which values an option takes
 pub data Kind : Type 0 where
@@ -90,9 +90,10 @@ row Repo1Type = option (codes "repo1-type") every (words (codes "posix" ∷ []))
 row Repo1CipherType = option (codes "repo1-cipher-type") every (words (codes "none" ∷ [])) (is (codes "none"))
 row CompressType = option (codes "compress-type") (p ++ b) (words (codes "none" ∷ [])) (is (codes "none"))
 row Repo1RetentionFull = option (codes "repo1-retention-full") (b ++ e) (number 1 9999999) unset
+row Repo1RetentionFullType = option (codes "repo1-retention-full-type") (b ++ e) (words (codes "count" ∷ codes "time" ∷ [])) (is (codes "count"))
 row Repo1RetentionDiff = option (codes "repo1-retention-diff") (b ++ e) (number 1 9999999) unset
 row Repo1RetentionArchive = option (codes "repo1-retention-archive") (b ++ e) (number 1 9999999) unset
-row Repo1RetentionArchiveType = option (codes "repo1-retention-archive-type") (b ++ e) (words (codes "full" ∷ codes "diff" ∷ [])) (is (codes "full"))
+row Repo1RetentionArchiveType = option (codes "repo1-retention-archive-type") (b ++ e) (words (codes "full" ∷ codes "diff" ∷ codes "incr" ∷ [])) (is (codes "full"))
 row Repo1Bundle = option (codes "repo1-bundle") b flag (is (codes "n"))
 row Repo1BundleSize = option (codes "repo1-bundle-size") b (size 1048576 1073741824) (is (codes "20MiB"))
 row Repo1BundleLimit = option (codes "repo1-bundle-limit") b (size 8192 1073741824) (is (codes "2MiB"))
@@ -133,7 +134,7 @@ abbrev pub IsOfRepository : Opt → Type 0
 IsOfRepository o = (o ≡ Repo1Path) ⊎ (o ≡ Repo1Type) ⊎ (o ≡ Repo1CipherType) ⊎ (o ≡ CompressType)
 
 abbrev pub IsOfRetention : Opt → Type 0
-IsOfRetention o = (o ≡ Repo1RetentionFull) ⊎ (o ≡ Repo1RetentionDiff) ⊎ (o ≡ Repo1RetentionArchive) ⊎ (o ≡ Repo1RetentionArchiveType)
+IsOfRetention o = (o ≡ Repo1RetentionFull) ⊎ (o ≡ Repo1RetentionFullType) ⊎ (o ≡ Repo1RetentionDiff) ⊎ (o ≡ Repo1RetentionArchive) ⊎ (o ≡ Repo1RetentionArchiveType)
 
 abbrev pub IsOfBundle : Opt → Type 0
 IsOfBundle o = (o ≡ Repo1Bundle) ⊎ (o ≡ Repo1BundleSize) ⊎ (o ≡ Repo1BundleLimit)

@@ -200,6 +200,12 @@ fn retention_row(option: Opt) -> Row
             },
             Fallback::Unset,
         ),
+        Opt::Repo1RetentionFullType => any_place(
+            "repo1-retention-full-type",
+            WITH_RETENTION,
+            Kind::Words(&["count", "time"]),
+            Fallback::Is("count"),
+        ),
         Opt::Repo1RetentionDiff => any_place(
             "repo1-retention-diff",
             WITH_RETENTION,
@@ -222,7 +228,7 @@ fn retention_row(option: Opt) -> Row
         _ => any_place(
             "repo1-retention-archive-type",
             WITH_RETENTION,
-            Kind::Words(&["full", "diff"]),
+            Kind::Words(&["full", "diff", "incr"]),
             Fallback::Is("full"),
         ),
     }
@@ -406,6 +412,7 @@ pub fn row_for(option: Opt) -> Row
         Opt::Repo1Path | Opt::Repo1Type | Opt::Repo1CipherType | Opt::CompressType =>
             repository_row(option),
         Opt::Repo1RetentionFull
+        | Opt::Repo1RetentionFullType
         | Opt::Repo1RetentionDiff
         | Opt::Repo1RetentionArchive
         | Opt::Repo1RetentionArchiveType => retention_row(option),

@@ -33,6 +33,7 @@ pub enum Opt {
     Repo1CipherType,
     CompressType,
     Repo1RetentionFull,
+    Repo1RetentionFullType,
     Repo1RetentionDiff,
     Repo1RetentionArchive,
     Repo1RetentionArchiveType,
@@ -119,7 +120,7 @@ pub struct Row {
 }
 
 /// All options, in the order in which their faults are told.
-pub const TABLE: [Opt; 45] = [
+pub const TABLE: [Opt; 46] = [
     Opt::Stanza,
     Opt::Pg1Path,
     Opt::Pg1Port,
@@ -131,6 +132,7 @@ pub const TABLE: [Opt; 45] = [
     Opt::Repo1CipherType,
     Opt::CompressType,
     Opt::Repo1RetentionFull,
+    Opt::Repo1RetentionFullType,
     Opt::Repo1RetentionDiff,
     Opt::Repo1RetentionArchive,
     Opt::Repo1RetentionArchiveType,

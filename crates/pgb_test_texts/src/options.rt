@@ -2,7 +2,7 @@
 
 use crate::same::{same, same_of};
 use pgb_options::{
-    Command, ConfigPath, KindWord, Options, OutputWord, RestoreWord, Usage, config_path,
+    Command, ConfigPath, KindWord, Options, OutputWord, RestoreWord, RetentionWord, Usage, config_path,
     settle_words,
 };
 use pgb_table::Verb;
@@ -277,6 +277,7 @@ fn numbers(rt: &impl Abort, options: &Options) {
 }
 
 fn choices(rt: &impl Abort, options: &Options) {
+    same(rt, options.repo1_retention_full_type, RetentionWord::Count);
     same(rt, options.repo1_retention_archive_type, KindWord::Full);
     same(rt, options.backup_type, KindWord::Incr);
     same(rt, options.restore_type, RestoreWord::Default);
