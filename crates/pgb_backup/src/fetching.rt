@@ -1,10 +1,9 @@
 // The jobs of a draft are done.
-ghost use Rattle.std.specs.Prelude.{◌≡◌, ◌<◌, ◌^◌, ℕ, Some, None, map, vec_len, slice_get, string_bytes, IfOk, IfErr, OnOk};
-ghost use Rattle.pgb_outside.specs.Links.{LinkState};
+ghost use Rattle.std.specs.Prelude.{◌≡◌, ◌<◌, ◌^◌, None, map, vec_len, string_bytes, IfOk, IfErr, OnOk};
 ghost use Rattle.pgb_outside.specs.States.{Frame};
 ghost use Rattle.pgb_model.specs.InfoFiles.{IsLabel};
 ghost use Rattle.pgb_model.specs.Names.{label_folder};
-ghost use Rattle.pgb_worker_dispatch.specs.Run.{AddsLosses, Left, IsReady};
+ghost use Rattle.pgb_worker_dispatch.specs.Run.{AddsLosses, Left, AreReady};
 ghost use Rattle.pgb_label.specs.Relation.{Touches};
 ghost use Rattle.pgb_label.specs.Sealed.{IsSealed};
 ghost use Rattle.pgb_story.specs.Beside.{StaysBeside};
@@ -46,7 +45,7 @@ fn gather<D: Disk, L: Link, U: Turns>(
 ) -> Result<Vec<Vec<Ended>>, MakeFault>
     requires draft { IsDraft draft.now }
     requires few { vec_len links.old < 2 ^ 32 }
-    requires ready { (i : ℕ) (s : LinkState) → slice_get (map L.link_state links.old.items) i ≡ Some s → IsReady s }
+    requires ready { AreReady (map L.link_state links.old.items) }
     ensures touches { Touches (is_own_of draft.now) (D.state d.old).view (D.state d.new).view }
     ensures sealed { OnOk result (IsSealed (is_own_of draft.now) (D.state d.new).view) }
     ensures stored { IfOk result (λ ends. Stored draft.now (map L.link_state links.old.items)
@@ -93,7 +92,7 @@ pub fn fetch<'a, D: Disk, L: Link, U: Turns>(
 ) -> Result<Fetched<'a>, MakeFault>
     requires draft { IsDraft draft }
     requires few { vec_len links.old < 2 ^ 32 }
-    requires ready { (i : ℕ) (s : LinkState) → slice_get (map L.link_state links.old.items) i ≡ Some s → IsReady s }
+    requires ready { AreReady (map L.link_state links.old.items) }
     ensures of { IfOk result (λ f. fetched_draft f ≡ draft.entry) }
     ensures fetched { IfOk result IsFetched }
     ensures staged { IfOk result (λ f. IsStaged draft.entry None (map L.link_state links.old.items) (fetched_ends f)

@@ -1,9 +1,8 @@
 // A backup.
-ghost use Rattle.std.specs.Prelude.{◌≡◌, ◌<◌, ◌≤◌, ◌^◌, ℕ, Some, map, vec_len, slice_get, IfErr, IfSome, IsSome, OnOk};
-ghost use Rattle.pgb_outside.specs.Links.{LinkState};
+ghost use Rattle.std.specs.Prelude.{◌≡◌, ◌<◌, ◌≤◌, ◌^◌, map, vec_len, IfErr, IfSome, IsSome, OnOk};
 ghost use Rattle.pgb_outside.specs.States.{Frame};
 ghost use Rattle.pgb_story.specs.Beside.{StaysBeside};
-ghost use Rattle.pgb_worker_dispatch.specs.Run.{AddsLosses, Left, IsReady};
+ghost use Rattle.pgb_worker_dispatch.specs.Run.{AddsLosses, Left, AreReady};
 ghost use Rattle.pgb_backup.specs.Draft.{IsDraft, jobs_in, main_of};
 ghost use Rattle.pgb_stanza.specs.Pairs.{AgreeAt};
 ghost use Rattle.pgb_backup.specs.Faults.{MakeFails};
@@ -31,7 +30,7 @@ pub fn make<D: Disk, L: Link, U: Turns, C: Clock>(
 ) -> Result<(), MakeFault>
     requires draft { IsDraft draft }
     requires few { vec_len links.old < 2 ^ 32 }
-    requires ready { (i : ℕ) (s : LinkState) → slice_get (map L.link_state links.old.items) i ≡ Some s → IsReady s }
+    requires ready { AreReady (map L.link_state links.old.items) }
 
     // The stanza's list is as it was, or the backup is listed, of the bytes that the links read; and so it is in what a
     // stop leaves, at each moment. At Ok both members of the list's pair have it, and at an error it may be listed only

@@ -1,11 +1,10 @@
 // The bytes of a backup.
-ghost use Rattle.std.specs.Prelude.{◌≡◌, ◌<◌, ◌^◌, ℕ, Some, All, map, length, vec_len, slice_get, string_bytes, IfOk, IfErr, OnOk};
-ghost use Rattle.pgb_outside.specs.Links.{LinkState};
+ghost use Rattle.std.specs.Prelude.{◌≡◌, ◌<◌, ◌^◌, Some, All, map, length, vec_len, slice_get, string_bytes, IfOk, IfErr, OnOk};
 ghost use Rattle.pgb_outside.specs.States.{Frame};
 ghost use Rattle.pgb_worker_frame.specs.Frames.{FitsJob, Item};
 ghost use Rattle.pgb_worker_frame.specs.Views.{job_of};
 ghost use Rattle.pgb_worker_dispatch.specs.Payloads.{AllByFile};
-ghost use Rattle.pgb_worker_dispatch.specs.Run.{AllDone, AddsLosses, Left, IsReady};
+ghost use Rattle.pgb_worker_dispatch.specs.Run.{AllDone, AddsLosses, Left, AreReady};
 ghost use Rattle.pgb_label.specs.Keeping.{IsPlan, Agrees, is_own};
 ghost use Rattle.pgb_label.specs.Keeper.{names_of, progress_in, stored_in};
 ghost use Rattle.pgb_label.specs.Placed.{IsPlacedIn};
@@ -46,7 +45,7 @@ pub fn store<'a, D: Disk, L: Link, U: Turns>(
     requires few { vec_len links.old < 2 ^ 32 }
     requires few_jobs { length jobs.now < 2 ^ 32 }
     requires fits { All (λ j. FitsJob (job_of j)) jobs.now }
-    requires ready { (i : ℕ) (s : LinkState) → slice_get (map L.link_state links.old.items) i ≡ Some s → IsReady s }
+    requires ready { AreReady (map L.link_state links.old.items) }
 
     // No name but those of the folder's backup is touched. At Ok a crash leaves each of them as it is, and so each item
     // with bytes lies at its job's name, behind the items before it.

@@ -1,7 +1,7 @@
 -- What the code's settings stand for.
-use Rattle.std.specs.Prelude.{ℕ, ◌≡◌, ◌<◌, ◌^◌, List, length, slice_get, Some, option_map, string_bytes}
+use Rattle.std.specs.Prelude.{◌≡◌, ◌<◌, ◌^◌, List, length, option_map, string_bytes}
 use Rattle.pgb_outside.specs.Links.{LinkState}
-use Rattle.pgb_worker_dispatch.specs.Run.{IsReady}
+use Rattle.pgb_worker_dispatch.specs.Run.{AreReady}
 use Rattle.pgb_model.specs.Text.{Text}
 use Rattle.pgb_options.specs.declared.options.Options.{Options}
 use Rattle.pgb_create.specs.Server.{server_view}
@@ -18,7 +18,7 @@ use Rattle.pgb_command.specs.Asked.{Request, create, push, get, backup, restore,
 -- the workers can be numbered, and none has bytes of an earlier answer to give
 pub record AreWorkers (links : List LinkState) : Type 0 where
   pub few : length links < 2 ^ 32
-  pub ready : (i : ℕ) (s : LinkState) → slice_get links i ≡ Some s → IsReady s
+  pub ready : AreReady links
 
 abbrev pub request_of : code.Request → Request
 request_of StanzaCreate = create

@@ -1,12 +1,12 @@
 // The backup's files are put into the folder.
-ghost use Rattle.std.specs.Prelude.{◌≡◌, ◌⊎◌, ◌≤◌, ◌<◌, ◌^◌, ℕ, List, [], Some, true, false, map, take, length, vec_len, slice_get, IfErr, IfSome, OnOk, OnErr};
+ghost use Rattle.std.specs.Prelude.{◌≡◌, ◌⊎◌, ◌≤◌, ◌<◌, ◌^◌, List, [], true, false, map, take, length, vec_len, IfErr, IfSome, OnOk, OnErr};
 ghost use Rattle.pgb_outside.specs.Cause.{Rises};
 ghost use Rattle.pgb_outside.specs.Links.{LinkState};
 ghost use Rattle.pgb_outside.specs.Tree.{IsTreeListing};
 ghost use Rattle.pgb_model.specs.ManifestText.{IsManifest};
 ghost use Rattle.pgb_model.specs.Values.{manifest_of};
 ghost use Rattle.pgb_table.specs.Values.{is_stanza};
-ghost use Rattle.pgb_worker_dispatch.specs.Run.{IsReady, Left};
+ghost use Rattle.pgb_worker_dispatch.specs.Run.{AreReady, Left};
 ghost use Rattle.pgb_clear.specs.Clearing.{control_path, seen_of, HasNone};
 ghost use Rattle.pgb_restore.specs.Options.{options_of};
 ghost use Rattle.pgb_restore.specs.Finished.{IsFinished};
@@ -40,7 +40,7 @@ fn put_files<T: Tree, L: Link, U: Turns>(
     lost: &mut Vec<Lost>,
 ) -> Result<(), Halt<RecoverFault>>
     requires few { vec_len links.old < 2 ^ 32 }
-    requires ready { (i : ℕ) (s : LinkState) → slice_get (map L.link_state links.old.items) i ≡ Some s → IsReady s }
+    requires ready { AreReady (map L.link_state links.old.items) }
     requires stanza { is_stanza stanza.now ≡ true }
     requires rules { IsManifest (manifest_of manifest.now) }
     requires seen { IfSome (T.state tree.old).nodes (λ f. IsTreeListing f (map seen_of seen.now)) }
@@ -78,7 +78,7 @@ pub(crate) fn fill<T: Tree, L: Link, U: Turns>(
     tree: &mut T,
 ) -> Result<(), Halt<RecoverFault>>
     requires few { vec_len links.old < 2 ^ 32 }
-    requires ready { (i : ℕ) (s : LinkState) → slice_get (map L.link_state links.old.items) i ≡ Some s → IsReady s }
+    requires ready { AreReady (map L.link_state links.old.items) }
     requires stanza { is_stanza stanza.now ≡ true }
     requires rules { IsManifest (manifest_of manifest.now) }
     requires seen { IfSome (T.state tree.old).nodes (λ f. IsTreeListing f (map seen_of seen.now)) }

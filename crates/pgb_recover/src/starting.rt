@@ -1,9 +1,8 @@
 // Workers are started.
-ghost use Rattle.std.specs.Prelude.{◌≡◌, ◌<◌, ◌^◌, [], ℕ, Some, map, take, length, vec_len, slice_get, string_bytes, IfOk, IfErr, OnOk};
-ghost use Rattle.pgb_outside.specs.Links.{LinkState};
+ghost use Rattle.std.specs.Prelude.{◌≡◌, ◌<◌, ◌^◌, [], map, take, length, vec_len, string_bytes, IfOk, IfErr, OnOk};
 ghost use Rattle.pgb_worker_frame.specs.Frames.{FitsRoots};
 ghost use Rattle.pgb_worker_frame.specs.Views.{roots_of};
-ghost use Rattle.pgb_worker_dispatch.specs.Run.{IsReady, Left};
+ghost use Rattle.pgb_worker_dispatch.specs.Run.{AreReady, Left};
 ghost use Rattle.pgb_stage.specs.Halts.{HaltCause};
 ghost use Rattle.pgb_recover.specs.Filling.{StartCause};
 
@@ -41,13 +40,12 @@ pub(crate) fn start_workers<L: Link>(
     lost: &mut Vec<Lost>,
 ) -> Result<(), Halt<RecoverFault>>
     requires few { vec_len links.old < 2 ^ 32 }
-    requires ready { (i : ℕ) (s : LinkState) → slice_get (map L.link_state links.old.items) i ≡ Some s → IsReady s }
+    requires ready { AreReady (map L.link_state links.old.items) }
     requires none { lost.old.items ≡ [] }
     ensures left { OnOk result (Left [] (take order.now.workers (map L.link_state links.old.items)) [] lost.new.items
         (map L.link_state links.new.items)) }
     ensures few { OnOk result (vec_len links.new < 2 ^ 32) }
-    ensures ready { OnOk result ((i : ℕ) (s : LinkState) → slice_get (map L.link_state links.new.items) i ≡ Some s
-        → IsReady s) }
+    ensures ready { OnOk result (AreReady (map L.link_state links.new.items)) }
     ensures cause { IfErr result (HaltCause (StartCause (take order.now.workers (map L.link_state links.old.items)))
         (λ _. ⊥)) }
 {

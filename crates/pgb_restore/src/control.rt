@@ -1,12 +1,11 @@
 // The control file is put in its place last.
-ghost use Rattle.std.specs.Prelude.{◌≡◌, ◌≢◌, ◌<◌, ◌≤◌, ◌^◌, ℕ, Some, [], ◌∷◌, true, map, vec_len, slice_get, IfOk, OnOk, OnErr, IfErr, IfSome, IfNone, string_bytes};
+ghost use Rattle.std.specs.Prelude.{◌≡◌, ◌≢◌, ◌<◌, ◌≤◌, ◌^◌, Some, [], ◌∷◌, true, map, vec_len, IfOk, OnOk, OnErr, IfErr, IfSome, IfNone, string_bytes};
 ghost use Rattle.pgb_outside.specs.Content.{at};
-ghost use Rattle.pgb_outside.specs.Links.{LinkState};
 ghost use Rattle.pgb_model.specs.InfoFiles.{IsLabel};
 ghost use Rattle.pgb_model.specs.Text.{Text, In};
 ghost use Rattle.pgb_model.specs.Values.{FileEntry as Entry, file_entry_of};
 ghost use Rattle.pgb_table.specs.Values.{is_stanza};
-ghost use Rattle.pgb_worker_dispatch.specs.Run.{IsReady};
+ghost use Rattle.pgb_worker_dispatch.specs.Run.{AreReady};
 ghost use Rattle.pgb_fill.specs.Files.{temporary_path};
 ghost use Rattle.pgb_clear.specs.Clearing.{control_path, StaysNone};
 ghost use Rattle.pgb_source.specs.Sources.{IsEntry};
@@ -74,7 +73,7 @@ fn fetch<T: Tree, L: Link, U: Turns>(
     lost: &mut Vec<Lost>,
 ) -> Result<(), FillFault>
     requires few { vec_len links.old < 2 ^ 32 }
-    requires ready { (i : ℕ) (s : LinkState) → slice_get (map L.link_state links.old.items) i ≡ Some s → IsReady s }
+    requires ready { AreReady (map L.link_state links.old.items) }
     requires stanza { is_stanza stanza.now ≡ true }
     requires own { IsLabel own.now }
     requires entry { IsEntry (file_entry_of file.now) }
@@ -117,7 +116,7 @@ fn stage<T: Tree, L: Link, U: Turns>(
     lost: &mut Vec<Lost>,
 ) -> Result<(), FillFault>
     requires few { vec_len links.old < 2 ^ 32 }
-    requires ready { (i : ℕ) (s : LinkState) → slice_get (map L.link_state links.old.items) i ≡ Some s → IsReady s }
+    requires ready { AreReady (map L.link_state links.old.items) }
     requires stanza { is_stanza stanza.now ≡ true }
     requires own { IsLabel own.now }
     requires entry { IsEntry (file_entry_of file.now) }
@@ -155,7 +154,7 @@ pub(crate) fn put_control<T: Tree, L: Link, U: Turns>(
     lost: &mut Vec<Lost>,
 ) -> Result<(), FillFault>
     requires few { vec_len links.old < 2 ^ 32 }
-    requires ready { (i : ℕ) (s : LinkState) → slice_get (map L.link_state links.old.items) i ≡ Some s → IsReady s }
+    requires ready { AreReady (map L.link_state links.old.items) }
     requires stanza { is_stanza stanza.now ≡ true }
     requires own { IsLabel own.now }
     requires entry { IsEntry (file_entry_of file.now) }

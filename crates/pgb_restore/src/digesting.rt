@@ -1,11 +1,10 @@
 // Files of the data folder are digested by workers.
-ghost use Rattle.std.specs.Prelude.{◌≡◌, ◌<◌, ◌≤◌, ◌^◌, ℕ, Some, map, take, length, vec_len, slice_get, IfOk, IfErr, OnOk};
-ghost use Rattle.pgb_outside.specs.Links.{LinkState};
+ghost use Rattle.std.specs.Prelude.{◌≡◌, ◌<◌, ◌≤◌, ◌^◌, ℕ, Some, map, take, length, vec_len, IfOk, IfErr, OnOk};
 ghost use Rattle.pgb_model.specs.Text.{Text, In};
 ghost use Rattle.pgb_model.specs.Values.{FileEntry as Entry, file_entry_of};
 ghost use Rattle.pgb_model.specs.declared.labels.Label as labels;
 ghost use Rattle.pgb_worker_frame.specs.Views.{job_of};
-ghost use Rattle.pgb_worker_dispatch.specs.Run.{IsReady};
+ghost use Rattle.pgb_worker_dispatch.specs.Run.{AreReady};
 ghost use Rattle.pgb_source.specs.Sources.{IsEntry};
 ghost use Rattle.pgb_restore.specs.Holdings.{done_item, state_of};
 ghost use Rattle.pgb_restore.specs.Kept.{digesting};
@@ -112,7 +111,7 @@ pub(crate) fn digest<L: Link, U: Turns>(
     lost: &mut Vec<Lost>,
 ) -> Result<Vec<Option<ItemEnd>>, FillFault>
     requires few { vec_len links.old < 2 ^ 32 }
-    requires ready { (i : ℕ) (s : LinkState) → slice_get (map L.link_state links.old.items) i ≡ Some s → IsReady s }
+    requires ready { AreReady (map L.link_state links.old.items) }
     requires entries { (e : Entry) → In e (map file_of candidates.now) → IsEntry e }
     ensures ends { IfOk result
         (λ ends. AreEnds (map L.link_state links.old.items) candidates.now ends.items) }

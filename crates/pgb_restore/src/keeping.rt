@@ -1,11 +1,10 @@
 // Which files of the data folder are kept.
 ghost use Rattle.std.specs.Prelude.{◌≡◌, ◌<◌, ◌≤◌, ◌^◌, ℕ, Some, true, map, length, vec_len, slice_get, IfOk, IfErr, OnOk};
-ghost use Rattle.pgb_outside.specs.Links.{LinkState};
 ghost use Rattle.pgb_outside.specs.Order.{are_in_order};
 ghost use Rattle.pgb_model.specs.Text.{Text, In};
 ghost use Rattle.pgb_model.specs.Values.{FileEntry as Entry, file_entry_of};
 ghost use Rattle.pgb_model.specs.declared.labels.Label as labels;
-ghost use Rattle.pgb_worker_dispatch.specs.Run.{IsReady};
+ghost use Rattle.pgb_worker_dispatch.specs.Run.{AreReady};
 ghost use Rattle.pgb_clear.specs.Clearing.{seen_of};
 ghost use Rattle.pgb_source.specs.Sources.{IsEntry};
 ghost use Rattle.pgb_restore.specs.Options.{options_of};
@@ -85,7 +84,7 @@ fn mark_alike<L: Link, U: Turns>(
     lost: &mut Vec<Lost>,
 ) -> Result<Vec<bool>, FillFault>
     requires few { vec_len links.old < 2 ^ 32 }
-    requires ready { (i : ℕ) (s : LinkState) → slice_get (map L.link_state links.old.items) i ≡ Some s → IsReady s }
+    requires ready { AreReady (map L.link_state links.old.items) }
     requires entries { (e : Entry) → In e (map file_of candidates.now) → IsEntry e }
     requires places { (k : ℕ) (c : Candidate) → slice_get candidates.now k ≡ Some c → c.place < count }
     ensures marked { IfOk result
@@ -112,7 +111,7 @@ pub(crate) fn find_kept<L: Link, U: Turns>(
     lost: &mut Vec<Lost>,
 ) -> Result<Vec<bool>, FillFault>
     requires few { vec_len links.old < 2 ^ 32 }
-    requires ready { (i : ℕ) (s : LinkState) → slice_get (map L.link_state links.old.items) i ≡ Some s → IsReady s }
+    requires ready { AreReady (map L.link_state links.old.items) }
     requires entries { (e : Entry) → In e (map file_entry_of files.now) → IsEntry e }
     requires order { are_in_order (map (λ e. e.path) (map file_entry_of files.now)) ≡ true }
     ensures alike { IfOk result (λ marks. AllAlike (map L.link_state links.old.items) (options_of options.now)

@@ -1,6 +1,5 @@
 // All files of a backup but the control file are put in their places.
-ghost use Rattle.std.specs.Prelude.{◌≡◌, ◌<◌, ◌≤◌, ◌^◌, ℕ, Some, true, map, vec_len, slice_get, OnOk, IfErr, IfSome};
-ghost use Rattle.pgb_outside.specs.Links.{LinkState};
+ghost use Rattle.std.specs.Prelude.{◌≡◌, ◌<◌, ◌≤◌, ◌^◌, true, map, vec_len, OnOk, IfErr, IfSome};
 ghost use Rattle.pgb_outside.specs.Cause.{HasCause};
 ghost use Rattle.pgb_outside.specs.Order.{are_in_order};
 ghost use Rattle.pgb_model.specs.InfoFiles.{IsLabel};
@@ -8,7 +7,7 @@ ghost use Rattle.pgb_model.specs.ManifestText.{IsManifest};
 ghost use Rattle.pgb_model.specs.Text.{In};
 ghost use Rattle.pgb_model.specs.Values.{FileEntry as Entry, file_entry_of, manifest_of};
 ghost use Rattle.pgb_table.specs.Values.{is_stanza};
-ghost use Rattle.pgb_worker_dispatch.specs.Run.{IsReady};
+ghost use Rattle.pgb_worker_dispatch.specs.Run.{AreReady};
 ghost use Rattle.pgb_clear.specs.Clearing.{control_path, seen_of, IsListed, StaysNone};
 ghost use Rattle.pgb_source.specs.Sources.{IsEntry};
 ghost use Rattle.pgb_restore.specs.Options.{recovery_of, options_of};
@@ -62,7 +61,7 @@ fn fill<T: Tree, L: Link, U: Turns>(
     lost: &mut Vec<Lost>,
 ) -> Result<(), FillFault>
     requires few { vec_len links.old < 2 ^ 32 }
-    requires ready { (i : ℕ) (s : LinkState) → slice_get (map L.link_state links.old.items) i ≡ Some s → IsReady s }
+    requires ready { AreReady (map L.link_state links.old.items) }
     requires stanza { is_stanza stanza.now ≡ true }
     requires own { IsLabel own.now }
     requires entries { (e : Entry) → In e (map file_entry_of files.now) → IsEntry e }
@@ -108,7 +107,7 @@ pub(crate) fn rebuild<T: Tree, L: Link, U: Turns>(
     lost: &mut Vec<Lost>,
 ) -> Result<(), FillFault>
     requires few { vec_len links.old < 2 ^ 32 }
-    requires ready { (i : ℕ) (s : LinkState) → slice_get (map L.link_state links.old.items) i ≡ Some s → IsReady s }
+    requires ready { AreReady (map L.link_state links.old.items) }
     requires stanza { is_stanza stanza.now ≡ true }
     requires rules { IsManifest (manifest_of manifest.now) }
     requires seen { IfSome (T.state tree.old).nodes (λ f. IsListedBut f (map seen_of seen.now)) }

@@ -1,14 +1,13 @@
 // A backup is put into a data folder: everything else first, the control file last.
-ghost use Rattle.std.specs.Prelude.{◌≡◌, ◌⊎◌, ◌<◌, ◌≤◌, ◌^◌, ℕ, Bool, List, Some, true, map, vec_len, slice_get, OnOk, OnErr, IfErr, IfSome};
+ghost use Rattle.std.specs.Prelude.{◌≡◌, ◌⊎◌, ◌<◌, ◌≤◌, ◌^◌, Bool, List, Some, true, map, vec_len, OnOk, OnErr, IfErr, IfSome};
 ghost use Rattle.std.specs.List.{list_any};
 ghost use Rattle.pgb_outside.specs.Cause.{HasCause};
 ghost use Rattle.pgb_outside.specs.Content.{SameBut};
-ghost use Rattle.pgb_outside.specs.Links.{LinkState};
 ghost use Rattle.pgb_outside.specs.Tree.{IsTreeListing};
 ghost use Rattle.pgb_model.specs.ManifestText.{IsManifest};
 ghost use Rattle.pgb_model.specs.Values.{manifest_of};
 ghost use Rattle.pgb_table.specs.Values.{is_stanza};
-ghost use Rattle.pgb_worker_dispatch.specs.Run.{IsReady};
+ghost use Rattle.pgb_worker_dispatch.specs.Run.{AreReady};
 ghost use Rattle.pgb_clear.specs.Clearing.{control_path, seen_of, HasNone, StaysNone};
 ghost use Rattle.pgb_restore.specs.Listed.{is_control_node, IsListedBut};
 ghost use Rattle.pgb_restore.specs.Options.{Options, options_of};
@@ -69,7 +68,7 @@ fn put_last<T: Tree, L: Link, U: Turns>(
     lost: &mut Vec<Lost>,
 ) -> Result<(), FillFault>
     requires few { vec_len links.old < 2 ^ 32 }
-    requires ready { (i : ℕ) (s : LinkState) → slice_get (map L.link_state links.old.items) i ≡ Some s → IsReady s }
+    requires ready { AreReady (map L.link_state links.old.items) }
     requires stanza { is_stanza stanza.now ≡ true }
     requires rules { IsManifest (manifest_of manifest.now) }
     ensures finishes { OnOk result ((o : Options) (marks : List Bool)
@@ -110,7 +109,7 @@ fn settle<T: Tree, L: Link, U: Turns>(
     lost: &mut Vec<Lost>,
 ) -> Result<(), FillFault>
     requires few { vec_len links.old < 2 ^ 32 }
-    requires ready { (i : ℕ) (s : LinkState) → slice_get (map L.link_state links.old.items) i ≡ Some s → IsReady s }
+    requires ready { AreReady (map L.link_state links.old.items) }
     requires stanza { is_stanza stanza.now ≡ true }
     requires rules { IsManifest (manifest_of manifest.now) }
     ensures completes { OnOk result ((marks : List Bool)
@@ -142,7 +141,7 @@ fn put_rest<T: Tree, L: Link, U: Turns>(
     lost: &mut Vec<Lost>,
 ) -> Result<(), FillFault>
     requires few { vec_len links.old < 2 ^ 32 }
-    requires ready { (i : ℕ) (s : LinkState) → slice_get (map L.link_state links.old.items) i ≡ Some s → IsReady s }
+    requires ready { AreReady (map L.link_state links.old.items) }
     requires stanza { is_stanza stanza.now ≡ true }
     requires rules { IsManifest (manifest_of manifest.now) }
     requires seen { IfSome (T.state tree.old).nodes (λ f. IsListedBut f (map seen_of seen.now)) }
@@ -176,7 +175,7 @@ pub fn restore_files<T: Tree, L: Link, U: Turns>(
     lost: &mut Vec<Lost>,
 ) -> Result<(), FillFault>
     requires few { vec_len links.old < 2 ^ 32 }
-    requires ready { (i : ℕ) (s : LinkState) → slice_get (map L.link_state links.old.items) i ≡ Some s → IsReady s }
+    requires ready { AreReady (map L.link_state links.old.items) }
     requires stanza { is_stanza stanza.now ≡ true }
     requires rules { IsManifest (manifest_of manifest.now) }
     requires seen { IfSome (T.state tree.old).nodes (λ f. IsTreeListing f (map seen_of seen.now)) }

@@ -1,12 +1,11 @@
 // Files are read by workers and written.
-ghost use Rattle.std.specs.Prelude.{◌≡◌, ◌<◌, ◌≤◌, ◌^◌, ℕ, Some, All, map, length, vec_len, slice_get, IfOk, IfErr, OnOk};
+ghost use Rattle.std.specs.Prelude.{◌≡◌, ◌<◌, ◌≤◌, ◌^◌, All, map, length, vec_len, IfOk, IfErr, OnOk};
 ghost use Rattle.pgb_outside.specs.Content.{at};
-ghost use Rattle.pgb_outside.specs.Links.{LinkState};
 ghost use Rattle.pgb_model.specs.Text.{Text};
 ghost use Rattle.pgb_worker_frame.specs.Frames.{FitsJob};
 ghost use Rattle.pgb_worker_frame.specs.Views.{job_of};
 ghost use Rattle.pgb_worker_dispatch.specs.Counts.{ReadsRise};
-ghost use Rattle.pgb_worker_dispatch.specs.Run.{AddsLosses, JobsFault, IsReady};
+ghost use Rattle.pgb_worker_dispatch.specs.Run.{AddsLosses, JobsFault, AreReady};
 ghost use Rattle.pgb_fill.specs.Apart.{AreApart};
 ghost use Rattle.pgb_fill.specs.Keeping.{IsNoneOf};
 ghost use Rattle.pgb_restore.specs.Written.{AreJobsOf, AllWritten};
@@ -32,7 +31,7 @@ pub(crate) fn run_files<'a, T: Tree, L: Link, U: Turns>(
     requires few { vec_len links.old < 2 ^ 32 }
     requires few_jobs { length jobs.now < 2 ^ 32 }
     requires fits { All (λ j. FitsJob (job_of j)) jobs.now }
-    requires ready { (i : ℕ) (s : LinkState) → slice_get (map L.link_state links.old.items) i ≡ Some s → IsReady s }
+    requires ready { AreReady (map L.link_state links.old.items) }
     requires jobs { AreJobsOf wanted.now (map job_of jobs.now) }
     requires apart { AreApart (map (λ w. w.path.now) wanted.now) }
     // Each file whose item ended as is wanted has bytes that a link read, and so many, with this digest.

@@ -1,8 +1,7 @@
 // The settings of a recovery.
-ghost use Rattle.std.specs.Prelude.{◌≡◌, ◌≢◌, ◌<◌, ◌≤◌, ◌++◌, ◌^◌, ℕ, Bool, List, Some, [], ◌∷◌, true, false, map, length, vec_len, slice_get, IfOk, IfErr, IfSome, OnOk};
+ghost use Rattle.std.specs.Prelude.{◌≡◌, ◌≢◌, ◌<◌, ◌≤◌, ◌++◌, ◌^◌, ℕ, Bool, List, Some, [], ◌∷◌, true, false, map, length, vec_len, IfOk, IfErr, IfSome, OnOk};
 ghost use Rattle.pgb_outside.specs.Cause.{HasCause};
 ghost use Rattle.pgb_outside.specs.Content.{at};
-ghost use Rattle.pgb_outside.specs.Links.{LinkState};
 ghost use Rattle.pgb_outside.specs.Order.{are_in_order};
 ghost use Rattle.pgb_model.specs.InfoFiles.{IsLabel};
 ghost use Rattle.pgb_model.specs.ManifestText.{IsManifest};
@@ -10,7 +9,7 @@ ghost use Rattle.pgb_model.specs.Restored.{conf_path, signal_path, line_end, set
 ghost use Rattle.pgb_model.specs.Text.{Text, In};
 ghost use Rattle.pgb_model.specs.Values.{FileEntry as Entry, file_entry_of, manifest_of};
 ghost use Rattle.pgb_table.specs.Values.{is_stanza};
-ghost use Rattle.pgb_worker_dispatch.specs.Run.{IsReady};
+ghost use Rattle.pgb_worker_dispatch.specs.Run.{AreReady};
 ghost use Rattle.pgb_clear.specs.Clearing.{control_path, HasFile, StaysNone};
 ghost use Rattle.pgb_source.specs.Sources.{IsEntry};
 ghost use Rattle.pgb_restore.specs.Options.{options_of};
@@ -55,39 +54,7 @@ fn checked(alloc: Global, file: &FileEntry, ended: &[Ended]) -> Result<Vec<u8>, 
     }
 }
 
-// The bytes of a file of the backup, as a worker reads them.
-fn read_some<L: Link, U: Turns>(
-    alloc: Global,
-    stanza: &str,
-    own: &Label,
-    file: &FileEntry,
-    links: &mut Vec<L>,
-    turns: &mut U,
-    lost: &mut Vec<Lost>,
-) -> Result<Vec<u8>, FillFault>
-    requires few { vec_len links.old < 2 ^ 32 }
-    requires ready { (i : ℕ) (s : LinkState) → slice_get (map L.link_state links.old.items) i ≡ Some s → IsReady s }
-    requires stanza { is_stanza stanza.now ≡ true }
-    requires own { IsLabel own.now }
-    requires entry { IsEntry (file_entry_of file.now) }
-    ensures bytes { IfOk result (λ bytes. IsBytesOf stanza.now own.now (map L.link_state links.old.items)
-        (file_entry_of file.now) bytes.items) }
-    ensures left { OnOk result
-        (IsLeft (map L.link_state links.old.items) (map L.link_state links.new.items) lost.old.items lost.new.items) }
-    ensures fault { (f g : ℕ) → IfErr result
-        (λ e. FillFails e stanza.now own.now (file_entry_of file.now ∷ []) (map L.link_state links.old.items)
-        (map L.link_state links.new.items) lost.old.items lost.new.items f g) }
-{
-    let mut jobs = Vec::new(alloc);
-    jobs.push(source_job(alloc, stanza, own, file)?)?;
-    let mut keep = Holder::new(alloc, &jobs)?;
-    match run_jobs(alloc, &jobs, links, turns, &mut keep, &mut (), lost) {
-        Ok(()) => checked(alloc, file, keep.ended(0)),
-        Err(fault) => Err(named(alloc, &[Candidate { place: 0, file }], fault)?),
-    }
-}
-
-// The bytes of a file of the backup, of which there may be none.
+// The bytes of a file of the backup, as a worker reads them: of an empty one there are none to read.
 fn read_file<L: Link, U: Turns>(
     alloc: Global,
     stanza: &str,
@@ -98,7 +65,7 @@ fn read_file<L: Link, U: Turns>(
     lost: &mut Vec<Lost>,
 ) -> Result<Vec<u8>, FillFault>
     requires few { vec_len links.old < 2 ^ 32 }
-    requires ready { (i : ℕ) (s : LinkState) → slice_get (map L.link_state links.old.items) i ≡ Some s → IsReady s }
+    requires ready { AreReady (map L.link_state links.old.items) }
     requires stanza { is_stanza stanza.now ≡ true }
     requires own { IsLabel own.now }
     requires entry { IsEntry (file_entry_of file.now) }
@@ -113,7 +80,13 @@ fn read_file<L: Link, U: Turns>(
     if file.size == 0 {
         return Ok(Vec::new(alloc));
     }
-    read_some(alloc, stanza, own, file, links, turns, lost)
+    let mut jobs = Vec::new(alloc);
+    jobs.push(source_job(alloc, stanza, own, file)?)?;
+    let mut keep = Holder::new(alloc, &jobs)?;
+    match run_jobs(alloc, &jobs, links, turns, &mut keep, &mut (), lost) {
+        Ok(()) => checked(alloc, file, keep.ended(0)),
+        Err(fault) => Err(named(alloc, &[Candidate { place: 0, file }], fault)?),
+    }
 }
 
 // What the backup's settings file holds: nothing where the backup has none.
@@ -127,7 +100,7 @@ fn read_conf<L: Link, U: Turns>(
     lost: &mut Vec<Lost>,
 ) -> Result<Vec<u8>, FillFault>
     requires few { vec_len links.old < 2 ^ 32 }
-    requires ready { (i : ℕ) (s : LinkState) → slice_get (map L.link_state links.old.items) i ≡ Some s → IsReady s }
+    requires ready { AreReady (map L.link_state links.old.items) }
     requires stanza { is_stanza stanza.now ≡ true }
     requires own { IsLabel own.now }
     requires entries { (e : Entry) → In e (map file_entry_of files.now) → IsEntry e }
@@ -207,7 +180,7 @@ fn add_fetch<T: Tree, L: Link, U: Turns>(
     lost: &mut Vec<Lost>,
 ) -> Result<(), FillFault>
     requires few { vec_len links.old < 2 ^ 32 }
-    requires ready { (i : ℕ) (s : LinkState) → slice_get (map L.link_state links.old.items) i ≡ Some s → IsReady s }
+    requires ready { AreReady (map L.link_state links.old.items) }
     requires stanza { is_stanza stanza.now ≡ true }
     requires rules { IsManifest (manifest_of manifest.now) }
     ensures added { OnOk result (IfSome (T.state tree.new).nodes
@@ -250,7 +223,7 @@ pub(crate) fn add_settings<T: Tree, L: Link, U: Turns>(
     lost: &mut Vec<Lost>,
 ) -> Result<(), FillFault>
     requires few { vec_len links.old < 2 ^ 32 }
-    requires ready { (i : ℕ) (s : LinkState) → slice_get (map L.link_state links.old.items) i ≡ Some s → IsReady s }
+    requires ready { AreReady (map L.link_state links.old.items) }
     requires stanza { is_stanza stanza.now ≡ true }
     requires rules { IsManifest (manifest_of manifest.now) }
     ensures settles { OnOk result ((marks : List Bool)

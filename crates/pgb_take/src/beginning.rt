@@ -1,14 +1,13 @@
 // What is looked at and started before the repository is.
-ghost use Rattle.std.specs.Prelude.{◌≡◌, ◌<◌, ◌^◌, [], ℕ, Some, map, take, length, vec_len, slice_get, IfOk, IfErr, IfSome, OnOk};
+ghost use Rattle.std.specs.Prelude.{◌≡◌, ◌<◌, ◌^◌, [], map, take, length, vec_len, IfOk, IfErr, IfSome, OnOk};
 ghost use Rattle.pgb_outside.specs.Cause.{Rises};
-ghost use Rattle.pgb_outside.specs.Links.{LinkState};
 ghost use Rattle.pgb_outside.specs.States.{LooksAt};
 ghost use Rattle.pgb_outside.specs.Tree.{IsTreeListing};
 ghost use Rattle.pgb_model.specs.InfoFiles.{IsArchiveInfo, IsBackupInfo};
 ghost use Rattle.pgb_model.specs.Values.{archive_info_of, backup_info_of};
 ghost use Rattle.pgb_plan.specs.Views.{seen_of};
 ghost use Rattle.pgb_stanza.specs.Judging.{Settles, IsOf};
-ghost use Rattle.pgb_worker_dispatch.specs.Run.{IsReady, Left};
+ghost use Rattle.pgb_worker_dispatch.specs.Run.{AreReady, Left};
 ghost use Rattle.pgb_stage.specs.declared.object.Object.TheVariants.{DataFolder as TheFolder};
 ghost use Rattle.pgb_stage.specs.Halts.{HaltCause, Only};
 ghost use Rattle.pgb_take.specs.Beginning.{most_backups, IsStopped, BeginCause};
@@ -44,7 +43,7 @@ pub(crate) fn begin<T: Tree, L: Link>(
     backup: BackupInfo,
 ) -> Result<Begun, Halt<TakeFault>>
     requires few { vec_len links.old < 2 ^ 32 }
-    requires ready { (i : ℕ) (s : LinkState) → slice_get (map L.link_state links.old.items) i ≡ Some s → IsReady s }
+    requires ready { AreReady (map L.link_state links.old.items) }
     requires none { lost.old.items ≡ [] }
     requires archive { IsArchiveInfo (archive_info_of archive.now) }
     requires backup { IsBackupInfo (backup_info_of backup) }
@@ -59,8 +58,7 @@ pub(crate) fn begin<T: Tree, L: Link>(
     ensures left { OnOk result (Left [] (take order.now.workers (map L.link_state links.old.items)) [] lost.new.items
         (map L.link_state links.new.items)) }
     ensures few { OnOk result (vec_len links.new < 2 ^ 32) }
-    ensures ready { OnOk result ((i : ℕ) (s : LinkState) → slice_get (map L.link_state links.new.items) i ≡ Some s
-        → IsReady s) }
+    ensures ready { OnOk result (AreReady (map L.link_state links.new.items)) }
     ensures looks { LooksAt (T.state tree.old) (T.state tree.new) }
     ensures cause { IfErr result (HaltCause
         (BeginCause told.now (archive_info_of archive.now) (backup_info_of backup) (T.state tree.old).nodes

@@ -1,10 +1,9 @@
 // The backup is made.
-ghost use Rattle.std.specs.Prelude.{◌≡◌, ◌≤◌, ◌<◌, ◌^◌, ℕ, Some, map, vec_len, slice_get, string_bytes, length, IfOk, IfErr, IfSome, IsSome, OnOk};
+ghost use Rattle.std.specs.Prelude.{◌≡◌, ◌≤◌, ◌<◌, ◌^◌, map, vec_len, string_bytes, length, IfOk, IfErr, IfSome, IsSome, OnOk};
 ghost use Rattle.pgb_outside.specs.Cause.{Rises};
-ghost use Rattle.pgb_outside.specs.Links.{LinkState};
 ghost use Rattle.pgb_outside.specs.States.{Frame};
 ghost use Rattle.pgb_model.specs.InfoFiles.{IsLabel};
-ghost use Rattle.pgb_worker_dispatch.specs.Run.{IsReady};
+ghost use Rattle.pgb_worker_dispatch.specs.Run.{AreReady};
 ghost use Rattle.pgb_backup.specs.Draft.{IsDraft, main_of};
 ghost use Rattle.pgb_stanza.specs.Pairs.{AgreeAt};
 ghost use Rattle.pgb_story.specs.Beside.{StaysBeside};
@@ -54,7 +53,7 @@ pub(crate) fn finish<D: Disk, L: Link, U: Turns, C: Clock>(
     requires label { IsLabel draft.label }
     requires line { string_bytes line ≡ label_line draft.label }
     requires few { vec_len links.old < 2 ^ 32 }
-    requires ready { (i : ℕ) (s : LinkState) → slice_get (map L.link_state links.old.items) i ≡ Some s → IsReady s }
+    requires ready { AreReady (map L.link_state links.old.items) }
     ensures made { Finishes draft.entry (map L.link_state links.old.items) (D.state repo.old).view
         (D.state repo.new).view result }
     ensures alike { OnOk result (IsSome (D.state repo.old).view.now

@@ -1,10 +1,9 @@
 // backup.
-ghost use Rattle.std.specs.Prelude.{◌≡◌, ◌∷◌, [], ◌≤◌, ◌<◌, ◌^◌, ℕ, Some, map, take, vec_len, slice_get, IfOk, IfErr};
+ghost use Rattle.std.specs.Prelude.{◌≡◌, ◌∷◌, [], ◌≤◌, ◌<◌, ◌^◌, map, take, vec_len, IfOk, IfErr};
 ghost use Rattle.pgb_outside.specs.Cause.{Rises};
-ghost use Rattle.pgb_outside.specs.Links.{LinkState};
 ghost use Rattle.pgb_outside.specs.States.{Frame, LooksAt};
 ghost use Rattle.pgb_story.specs.Beside.{StaysBeside};
-ghost use Rattle.pgb_worker_dispatch.specs.Run.{IsReady};
+ghost use Rattle.pgb_worker_dispatch.specs.Run.{AreReady};
 ghost use Rattle.pgb_stage.specs.declared.plan.Settling.TheVariants.{Whole};
 ghost use Rattle.pgb_stage.specs.Halts.{HaltCause};
 ghost use Rattle.pgb_stage.specs.Plans.{backup_lock};
@@ -46,7 +45,7 @@ pub fn take_backup<D: Disk, T: Tree, C: Clock, K: Locks, L: Link, U: Turns>(
 ) -> Result<Outcome, Halt<TakeFault>>
     requires locked { (K.state _locks.now).taken ≡ backup_lock stanza.now ∷ [] }
     requires few { vec_len links.old < 2 ^ 32 }
-    requires ready { (i : ℕ) (s : LinkState) → slice_get (map L.link_state links.old.items) i ≡ Some s → IsReady s }
+    requires ready { AreReady (map L.link_state links.old.items) }
     requires archive { IsArchiveOf stanza.now (D.state repo.old).view.now archive.now }
     requires backup { IsBackupOf stanza.now (D.state repo.old).view.now backup }
     // In the log it is a full backup of what the used links read.

@@ -1,12 +1,11 @@
 // What comes before the server is asked.
-ghost use Rattle.std.specs.Prelude.{◌≡◌, ◌≤◌, ◌<◌, ◌^◌, [], ℕ, Some, map, take, length, vec_len, slice_get, IfOk, IfErr, OnOk};
+ghost use Rattle.std.specs.Prelude.{◌≡◌, ◌≤◌, ◌<◌, ◌^◌, [], map, take, length, vec_len, IfOk, IfErr, OnOk};
 ghost use Rattle.pgb_outside.specs.Cause.{Rises};
-ghost use Rattle.pgb_outside.specs.Links.{LinkState};
 ghost use Rattle.pgb_outside.specs.States.{Looks};
 ghost use Rattle.pgb_model.specs.InfoFiles.{IsArchiveInfo, IsBackupInfo};
 ghost use Rattle.pgb_model.specs.Values.{archive_info_of, backup_info_of};
 ghost use Rattle.pgb_stanza.specs.Judging.{Settles, IsOf};
-ghost use Rattle.pgb_worker_dispatch.specs.Run.{IsReady, Left};
+ghost use Rattle.pgb_worker_dispatch.specs.Run.{AreReady, Left};
 ghost use Rattle.pgb_draft.specs.Seconds.{IsNext};
 ghost use Rattle.pgb_stage.specs.Halts.{HaltCause};
 ghost use Rattle.pgb_stage.specs.Risen.{none, rose_in};
@@ -33,7 +32,7 @@ fn ready<L: Link>(
     backup: BackupInfo,
 ) -> Result<BackupInfo, Halt<TakeFault>>
     requires few { vec_len links.old < 2 ^ 32 }
-    requires ready { (i : ℕ) (s : LinkState) → slice_get (map L.link_state links.old.items) i ≡ Some s → IsReady s }
+    requires ready { AreReady (map L.link_state links.old.items) }
     requires none { lost.old.items ≡ [] }
     requires archive { IsArchiveInfo (archive_info_of archive.now) }
     requires backup { IsBackupInfo (backup_info_of backup) }
@@ -45,8 +44,7 @@ fn ready<L: Link>(
     ensures left { OnOk result (Left [] (take order.now.workers (map L.link_state links.old.items)) [] lost.new.items
         (map L.link_state links.new.items)) }
     ensures few { OnOk result (vec_len links.new < 2 ^ 32) }
-    ensures ready { OnOk result ((i : ℕ) (s : LinkState) → slice_get (map L.link_state links.new.items) i ≡ Some s
-        → IsReady s) }
+    ensures ready { OnOk result (AreReady (map L.link_state links.new.items)) }
     ensures cause { IfErr result (HaltCause
         (ReadyCause told.now (archive_info_of archive.now) (backup_info_of backup)
         (take order.now.workers (map L.link_state links.old.items))) (λ _. ⊥)) }
@@ -71,7 +69,7 @@ pub(crate) fn prepare<D: Disk, C: Clock, L: Link>(
     backup: BackupInfo,
 ) -> Result<(BackupInfo, u64), Halt<TakeFault>>
     requires few { vec_len links.old < 2 ^ 32 }
-    requires ready { (i : ℕ) (s : LinkState) → slice_get (map L.link_state links.old.items) i ≡ Some s → IsReady s }
+    requires ready { AreReady (map L.link_state links.old.items) }
     requires none { lost.old.items ≡ [] }
     requires archive { IsArchiveInfo (archive_info_of archive.now) }
     requires backup { IsBackupInfo (backup_info_of backup) }
@@ -84,8 +82,7 @@ pub(crate) fn prepare<D: Disk, C: Clock, L: Link>(
     ensures left { OnOk result (Left [] (take order.now.workers (map L.link_state links.old.items)) [] lost.new.items
         (map L.link_state links.new.items)) }
     ensures few { OnOk result (vec_len links.new < 2 ^ 32) }
-    ensures ready { OnOk result ((i : ℕ) (s : LinkState) → slice_get (map L.link_state links.new.items) i ≡ Some s
-        → IsReady s) }
+    ensures ready { OnOk result (AreReady (map L.link_state links.new.items)) }
     ensures looks { Looks (D.state repo.old) (D.state repo.new) }
     ensures later { (C.state clock.old).faults ≤ (C.state clock.new).faults }
     ensures cause { IfErr result (HaltCause

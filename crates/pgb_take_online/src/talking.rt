@@ -1,12 +1,11 @@
 // The server is told to start and to stop its backup, and between them the data folder is read.
-ghost use Rattle.std.specs.Prelude.{◌≡◌, ◌≢◌, ◌⊎◌, ◌≤◌, ◌<◌, ◌^◌, ◌++◌, ℕ, Some, map, vec_len, slice_get, string_bytes, length, option_map, IfOk, IfErr, OnOk, OnErr};
+ghost use Rattle.std.specs.Prelude.{◌≡◌, ◌≢◌, ◌⊎◌, ◌≤◌, ◌<◌, ◌^◌, ◌++◌, map, vec_len, string_bytes, length, option_map, IfOk, IfErr, OnOk, OnErr};
 ghost use Rattle.pgb_outside.specs.Cause.{Rises};
-ghost use Rattle.pgb_outside.specs.Links.{LinkState};
 ghost use Rattle.pgb_outside.specs.States.{Frame, LooksAt};
 ghost use Rattle.pgb_model.specs.InfoFiles.{IsBackupInfo};
 ghost use Rattle.pgb_model.specs.ManifestText.{IsSegSize, IsWalPart};
 ghost use Rattle.pgb_model.specs.Values.{backup_info_of};
-ghost use Rattle.pgb_worker_dispatch.specs.Run.{IsReady};
+ghost use Rattle.pgb_worker_dispatch.specs.Run.{AreReady};
 ghost use Rattle.pgb_story.specs.Beside.{StaysBeside};
 ghost use Rattle.pgb_backup.specs.Online.{IsOnline, online_of};
 ghost use Rattle.pgb_draft.specs.Seconds.{IsNext};
@@ -108,7 +107,7 @@ pub(crate) fn talk<'a, D: Disk, T: Tree, V: Wire, L: Link, U: Turns>(
     requires list { IsBackupInfo (backup_info_of list) }
     requires next { IsNext second (backup_info_of list) }
     requires few { vec_len links.old < 2 ^ 32 }
-    requires ready { (i : ℕ) (s : LinkState) → slice_get (map L.link_state links.old.items) i ≡ Some s → IsReady s }
+    requires ready { AreReady (map L.link_state links.old.items) }
     ensures gathered { IfOk result (λ p. IsGathered stanza.entry.now (T.state tree.old).nodes (backup_info_of list)
         (map L.link_state links.old.items) (D.state repo.old).view (D.state repo.new).view p.0) }
     ensures online { IfOk result (λ p. IsOnline (online_of p.1)) }

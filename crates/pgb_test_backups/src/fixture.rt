@@ -1,8 +1,7 @@
 // A stanza, a data folder with its workers, and a backup of it.
-ghost use Rattle.std.specs.Prelude.{◌≡◌, ◌<◌, ◌^◌, ℕ, Some, IfOk, length, map, slice_get, vec_len};
-ghost use Rattle.pgb_outside.specs.Links.{LinkState};
+ghost use Rattle.std.specs.Prelude.{◌≡◌, ◌<◌, ◌^◌, IfOk, length, map, vec_len};
 ghost use Rattle.pgb_model.specs.ManifestText.{IsWalPart};
-ghost use Rattle.pgb_worker_dispatch.specs.Run.{IsReady};
+ghost use Rattle.pgb_worker_dispatch.specs.Run.{AreReady};
 
 use pgb_backup::{Online, close_online, fetch, make, publish};
 use pgb_draft::{current_cluster, draft_of, next_second};
@@ -83,8 +82,7 @@ pub(crate) fn links_to(
     fails: &[&[u64]],
 ) -> Result<Vec<MemLink>, AllocError>
     ensures count { IfOk result (λ links. length links.items ≡ length fails.now) }
-    ensures ready { IfOk result (λ links. (i : ℕ) (s : LinkState)
-        → slice_get (map ⟦<MemLink as Link>⟧.link_state links.items) i ≡ Some s → IsReady s) }
+    ensures ready { IfOk result (λ links. AreReady (map ⟦<MemLink as Link>⟧.link_state links.items)) }
 {
     let mut links = Vec::new(alloc);
     for fail in fails {
@@ -114,7 +112,7 @@ pub(crate) fn backed_up<L: Link>(
     nodes: &[(&str, Node)],
 ) -> Result<String, AllocError>
     requires few { vec_len links.old < 2 ^ 32 }
-    requires ready { (i : ℕ) (s : LinkState) → slice_get (map L.link_state links.old.items) i ≡ Some s → IsReady s }
+    requires ready { AreReady (map L.link_state links.old.items) }
 {
     let seen = seen_of(alloc, nodes)?;
     let listing = match filter(alloc, &seen, false) {
@@ -171,7 +169,7 @@ pub(crate) fn backed_up_online<L: Link>(
     label_file: &str,
 ) -> Result<String, AllocError>
     requires few { vec_len links.old < 2 ^ 32 }
-    requires ready { (i : ℕ) (s : LinkState) → slice_get (map L.link_state links.old.items) i ≡ Some s → IsReady s }
+    requires ready { AreReady (map L.link_state links.old.items) }
     requires short { length label_file.now < 2 ^ 32 }
 {
     let seen = seen_of(alloc, nodes)?;

@@ -1,9 +1,8 @@
 // Jobs over links that give fixed bytes, with digests of `sha1sum`.
-ghost use Rattle.std.specs.Prelude.{◌≡◌, ◌<◌, ◌^◌, ℕ, Some, All, IfOk, length, map, vec_len, slice_get};
-ghost use Rattle.pgb_outside.specs.Links.{LinkState};
+ghost use Rattle.std.specs.Prelude.{◌≡◌, ◌<◌, ◌^◌, All, IfOk, length, map, vec_len};
 ghost use Rattle.pgb_worker_frame.specs.Frames.{FitsJob};
 ghost use Rattle.pgb_worker_frame.specs.Views.{job_of};
-ghost use Rattle.pgb_worker_dispatch.specs.Run.{IsReady};
+ghost use Rattle.pgb_worker_dispatch.specs.Run.{AreReady};
 
 use crate::same::{same, well};
 use crate::wire::{ASKS_A, SETUP, X, YZ};
@@ -74,7 +73,7 @@ pub(crate) fn told<L: Link>(
     fail: &[u64],
 ) -> Result<String, FrameFault>
     requires few { vec_len links.old < 2 ^ 32 }
-    requires ready { (i : ℕ) (s : LinkState) → slice_get (map L.link_state links.old.items) i ≡ Some s → IsReady s }
+    requires ready { AreReady (map L.link_state links.old.items) }
 {
     let jobs = jobs_of(alloc, &[ASKS_A, ASKS_B])?;
     let mut keep = MemKeep::new(alloc, &jobs, fail.to_vec(alloc)?)?;

@@ -1,7 +1,6 @@
 // Jobs over links to workers in memory, which read their files.
-ghost use Rattle.std.specs.Prelude.{◌≡◌, ℕ, Some, IfOk, length, map, slice_get};
-ghost use Rattle.pgb_outside.specs.Links.{LinkState};
-ghost use Rattle.pgb_worker_dispatch.specs.Run.{IsReady};
+ghost use Rattle.std.specs.Prelude.{◌≡◌, IfOk, length, map};
+ghost use Rattle.pgb_worker_dispatch.specs.Run.{AreReady};
 
 use crate::dispatch::{ASKS_LONG, jobs_of, told};
 use crate::same::{same, well};
@@ -27,8 +26,7 @@ fn links_to(
     fails: &[&[u64]],
 ) -> Result<Vec<MemLink>, AllocError>
     ensures count { IfOk result (λ links. length links.items ≡ length fails.now) }
-    ensures ready { IfOk result (λ links. (i : ℕ) (s : LinkState)
-        → slice_get (map ⟦<MemLink as Link>⟧.link_state links.items) i ≡ Some s → IsReady s) }
+    ensures ready { IfOk result (λ links. AreReady (map ⟦<MemLink as Link>⟧.link_state links.items)) }
 {
     let mut links = Vec::new(alloc);
     for fail in fails {

@@ -359,3 +359,7 @@ SeatsLeave jobs links before old faults.NoMemory t = Unit {0}
 -- a link that reads any files has nothing to give
 abbrev pub IsReady : LinkState → Type 0
 IsReady s = IfSome s.told (λ t. (tree repo : Content) → Reads tree repo t → t.pending ≡ [])
+
+-- none of the links has
+abbrev pub AreReady : List LinkState → Type 0
+AreReady links = (i : ℕ) (s : LinkState) → slice_get links i ≡ Some s → IsReady s

@@ -1,12 +1,11 @@
 // Has jobs done over links.
-ghost use Rattle.std.specs.Prelude.{◌≡◌, ◌<◌, ◌^◌, ◌⊎◌, ℕ, List, [], Some, Err, All, map, length, vec_len, slice_get, IfOk, IfErr, OnOk, IsSomeAnd};
-ghost use Rattle.pgb_outside.specs.Links.{LinkState};
+ghost use Rattle.std.specs.Prelude.{◌≡◌, ◌<◌, ◌^◌, ◌⊎◌, ℕ, List, [], Err, All, map, length, vec_len, slice_get, IfOk, IfErr, OnOk, IsSomeAnd};
 ghost use Rattle.pgb_worker_frame.specs.Frames.{FitsJob};
 ghost use Rattle.pgb_worker_frame.specs.Views.{job_of};
 ghost use Rattle.pgb_worker_keep.specs.KeepState.{IsFresh};
 ghost use Rattle.pgb_worker_dispatch.specs.Counts.{ReadsRise};
 ghost use Rattle.pgb_worker_dispatch.specs.Payloads.{AllByFile};
-ghost use Rattle.pgb_worker_dispatch.specs.Run.{AllDone, Left, AddsLosses, JobsFault, IsReady, IsUnread};
+ghost use Rattle.pgb_worker_dispatch.specs.Run.{AllDone, Left, AddsLosses, JobsFault, AreReady, IsUnread};
 
 use crate::fault::{DispatchFault, Lost};
 use crate::running::run_seats;
@@ -42,7 +41,7 @@ fn run_links<L: Link, W, U: Turns, K: Keep<W>>(
     requires few { vec_len links.old < 2 ^ 32 }
     requires few_jobs { length jobs.now < 2 ^ 32 }
     requires fits { All (λ j. FitsJob (job_of j)) jobs.now }
-    requires ready { (i : ℕ) (s : LinkState) → slice_get (map L.link_state links.old.items) i ≡ Some s → IsReady s }
+    requires ready { AreReady (map L.link_state links.old.items) }
     // The keeper is for these jobs, and holds nothing of them.
     requires keeps { (K.kept keep.old on.old).jobs ≡ map job_of jobs.now }
     requires empty { (j : ℕ) → j < length (map job_of jobs.now)
@@ -113,7 +112,7 @@ pub fn run_jobs<L: Link, W, U: Turns, K: Keep<W>>(
     requires few { vec_len links.old < 2 ^ 32 }
     requires few_jobs { length jobs.now < 2 ^ 32 }
     requires fits { All (λ j. FitsJob (job_of j)) jobs.now }
-    requires ready { (i : ℕ) (s : LinkState) → slice_get (map L.link_state links.old.items) i ≡ Some s → IsReady s }
+    requires ready { AreReady (map L.link_state links.old.items) }
     // The keeper is for these jobs, and holds nothing of them.
     requires keeps { (K.kept keep.old on.old).jobs ≡ map job_of jobs.now }
     requires empty { (j : ℕ) → j < length (map job_of jobs.now)

@@ -1,9 +1,8 @@
 // Tells workers their roots.
-ghost use Rattle.std.specs.Prelude.{◌≡◌, ◌≢◌, ◌<◌, ◌^◌, ℕ, [], Some, map, vec_len, slice_get, IfErr, OnOk, OnErr};
-ghost use Rattle.pgb_outside.specs.Links.{LinkState};
+ghost use Rattle.std.specs.Prelude.{◌≡◌, ◌≢◌, ◌<◌, ◌^◌, [], map, vec_len, IfErr, OnOk, OnErr};
 ghost use Rattle.pgb_worker_frame.specs.Frames.{FitsRoots};
 ghost use Rattle.pgb_worker_frame.specs.Views.{roots_of};
-ghost use Rattle.pgb_worker_dispatch.specs.Run.{IsReady, Left, AddsLosses};
+ghost use Rattle.pgb_worker_dispatch.specs.Run.{AreReady, Left, AddsLosses};
 ghost use Rattle.pgb_worker_dispatch.specs.Setups.{Kept, IsSetup, SetupFault};
 
 use crate::fault::{DispatchFault, Lost};
@@ -50,7 +49,7 @@ fn set_up_all<L: Link>(
     lost: &mut Vec<Lost>,
 ) -> Result<(), DispatchFault>
     requires few { vec_len links.old < 2 ^ 32 }
-    requires ready { (i : ℕ) (s : LinkState) → slice_get (map L.link_state links.old.items) i ≡ Some s → IsReady s }
+    requires ready { AreReady (map L.link_state links.old.items) }
     requires setup { IsSetup frame.now }
     ensures left { OnOk result
         (Left [] (map L.link_state links.old.items) lost.old.items lost.new.items (map L.link_state links.new.items)) }
@@ -74,7 +73,7 @@ pub fn setup<L: Link>(
     lost: &mut Vec<Lost>,
 ) -> Result<(), DispatchFault>
     requires few { vec_len links.old < 2 ^ 32 }
-    requires ready { (i : ℕ) (s : LinkState) → slice_get (map L.link_state links.old.items) i ≡ Some s → IsReady s }
+    requires ready { AreReady (map L.link_state links.old.items) }
     requires fits { FitsRoots (roots_of roots.now) }
     // The links that weren't lost are left in their order, with nothing to give, and one at least. Each of the others is
     // told, and no steady worker is.
