@@ -46,9 +46,9 @@ module _ (stanza : Text) (command : Command) (whole : Bool) (repo spool new_repo
     is_stanza = form;
     told = part.now.told;
     spool_told = λ told. subst (λ (v : View). IsSome v.now) (sym same) told;
-    keeps = keeps;
-    between = λ q log told h. (passes.between q log told h.repository).1;
-    receipts = record { between = receipts };
+    keeps = λ q log told h. keeps q log told.0 h;
+    between = λ q log told h. (passes.between q log told.0 h.repository).1;
+    receipts = record { between = λ q log told h. receipts q log told.0 h };
     beside = beside;
     spool_beside = subst (λ (v : View). StaysBeside stanza spool v) (sym same) (still_beside stanza spool spool (still_self spool));
   }

@@ -36,18 +36,18 @@ module _ (c : Call) (old new : Disks) (fair : AreFair old) (does : Does c old ne
   own e = subst (λ (t : Text). Keeps t q log old.repo old.spool) (sym (same_stanza e)) keeps
 
   carried : (b : Bool) → bytes_eq s c.stanza ≡ b → Keeps s q (if b then c.done ∷ log else log) new.repo new.spool
-  carried true e = subst (λ (t : Text). Keeps t q (c.done ∷ log) new.repo new.spool) (same_stanza e) (does.keeps q log told (own e))
+  carried true e = subst (λ (t : Text). Keeps t q (c.done ∷ log) new.repo new.spool) (same_stanza e) (does.keeps q log (told, spool_told) (own e))
   carried false e = let far = names_beside s c.stanza is_s does.is_stanza e in record {
     repository = others_keep c.stanza s far old.repo new.repo fair.repo told does.beside q log keeps.repository;
     receipts = others_spool c.stanza s far old.spool new.spool fair.spool spool_told does.spool_beside q log keeps.receipts;
   }
 
   passed : (b : Bool) → bytes_eq s c.stanza ≡ b → LeavesOnly (StandsAfter s q (if b then (stopped c).done ∷ log else log)) old.repo new.repo
-  passed true e = subst (λ (t : Text). LeavesOnly (StandsAfter t q ((stopped c).done ∷ log)) old.repo new.repo) (same_stanza e) (does.between q log told (own e))
+  passed true e = subst (λ (t : Text). LeavesOnly (StandsAfter t q ((stopped c).done ∷ log)) old.repo new.repo) (same_stanza e) (does.between q log (told, spool_told) (own e))
   passed false e = others_between c.stanza s (names_beside s c.stanza is_s does.is_stanza e) old.repo new.repo fair.repo told does.beside q log keeps.repository
 
   passed_spool : (b : Bool) → bytes_eq s c.stanza ≡ b → LeavesOnly (HasReceiptsOf s q (if b then (stopped c).done ∷ log else log)) old.spool new.spool
-  passed_spool true e = subst (λ (t : Text). LeavesOnly (HasReceiptsOf t q ((stopped c).done ∷ log)) old.spool new.spool) (same_stanza e) (does.receipts.between q log told (own e))
+  passed_spool true e = subst (λ (t : Text). LeavesOnly (HasReceiptsOf t q ((stopped c).done ∷ log)) old.spool new.spool) (same_stanza e) (does.receipts.between q log (told, spool_told) (own e))
   passed_spool false e = others_receipts c.stanza s (names_beside s c.stanza is_s does.is_stanza e) old.spool new.spool fair.spool spool_told does.spool_beside q log keeps.receipts
 
   pub call_keeps : Keeps s q (went_on s c log) new.repo new.spool

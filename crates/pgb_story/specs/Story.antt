@@ -39,13 +39,17 @@ log_of stanza (c ∷ calls) = went_on stanza c (log_of stanza calls)
 
 -- ---- a call
 
+-- both tell what they hold
+abbrev pub AreTold : Disks → Type 0
+AreTold d = IsSome d.repo.now × IsSome d.spool.now
+
 -- each receipt that f has is of a file that a repository has stored which the log reaches
 abbrev pub HasReceiptsOf : Text → Repository → List Done → Content → Type 0
 HasReceiptsOf stanza q log f = (name : ArchiveName) (sum : Text) → IsWalName name → HasReceipt stanza f name sum → (r : Repository) × Reaches q log r × IsDrained r name sum
 
 -- At each moment of the command all that a stop leaves of the spool has receipts of the log with a part of it.
 pub record PassesReceipts (stanza : Text) (command : Command) (old new : Disks) : Type 0 where
-  pub between : (q : Repository) (log : List Done) → IsSome old.repo.now → Keeps stanza q log old.repo old.spool
+  pub between : (q : Repository) (log : List Done) → AreTold old → Keeps stanza q log old.repo old.spool
       → LeavesOnly (HasReceiptsOf stanza q (record { command = command; acknowledged = false } ∷ log)) old.spool new.spool
 
 -- What a call of the program does, from the two disks as they were to the two as they are.
@@ -55,9 +59,9 @@ pub record Does (c : Call) (old new : Disks) : Type 0 where
   pub told : IsSome old.repo.now → IsSome new.repo.now
   pub spool_told : IsSome old.spool.now → IsSome new.spool.now
   -- disks that keep a log of its stanza keep it with the command
-  pub keeps : (q : Repository) (log : List Done) → IsSome old.repo.now → Keeps c.stanza q log old.repo old.spool → Keeps c.stanza q (c.done ∷ log) new.repo new.spool
+  pub keeps : (q : Repository) (log : List Done) → AreTold old → Keeps c.stanza q log old.repo old.spool → Keeps c.stanza q (c.done ∷ log) new.repo new.spool
   -- at each moment all that a stop leaves is of the log with a part of the command
-  pub between : (q : Repository) (log : List Done) → IsSome old.repo.now → Keeps c.stanza q log old.repo old.spool → LeavesOnly (StandsAfter c.stanza q ((stopped c).done ∷ log)) old.repo new.repo
+  pub between : (q : Repository) (log : List Done) → AreTold old → Keeps c.stanza q log old.repo old.spool → LeavesOnly (StandsAfter c.stanza q ((stopped c).done ∷ log)) old.repo new.repo
   pub receipts : PassesReceipts c.stanza c.done.command old new
   -- and it keeps to its stanza
   pub beside : StaysBeside c.stanza old.repo new.repo
