@@ -106,10 +106,18 @@ want 7 "ERROR: [007]: option 'pg1-path' is missing
 want 2 'ERROR: [002]: no command found
 '
 program --help >help
-for words in 'help' '-h' 'help archive-get' 'archive-get --help'; do
+for words in 'help' '-h' 'help me'; do
     read -ra asked <<<"$words"
     program "${asked[@]}" | cmp -s help - || complain "$words shows other help"
 done
+program --help archive-get >help-get
+for words in 'help archive-get' '-h archive-get' 'archive-get --help'; do
+    read -ra asked <<<"$words"
+    program "${asked[@]}" | cmp -s help-get - || complain "$words shows other help"
+done
+grep -q '^archive-get NAME PATH: ' help-get || complain 'the help of archive-get lacks its parameters'
+grep -q '^  --pg1-path: path; required$' help-get || complain 'the help of archive-get lacks an option'
+if grep -q '^  --process-max' help-get; then complain "the help of archive-get has a backup's option"; fi
 program version >version
 head -n 1 help | cmp -s - version || complain 'the help and the version tell different versions'
 for form in 'archive-push PATH' 'archive-get NAME PATH'; do

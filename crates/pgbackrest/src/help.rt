@@ -1,4 +1,5 @@
 // What `--help` and `--version` print.
+use crate::meanings::meaning_of;
 use pgb_table::{Fallback, Kind, Opt, Row, TABLE, VERBS, Verb, row_for, verb_word};
 use std::alloc::{AllocError, Global};
 
@@ -16,28 +17,53 @@ const WITHOUT_EFFECT: &str = "\nTaken and not used:";
 
 /// The text that the words ask for: the help or the version alone, the help of a command by a word before or behind it.
 pub fn asked_for(alloc: Global, words: &[String]) -> Result<Option<String>, AllocError> {
-    if ask_help(words) {
-        return Ok(Some(help(alloc)?));
-    }
-    let [word] = words else {
-        return Ok(None);
-    };
-    match word.as_str() {
-        "version" | "--version" => Ok(Some(String::from_str(alloc, VERSION)?)),
+    match words {
+        [word] if is_help(word) => Ok(Some(help(alloc)?)),
+        [word] if is_version(word) => Ok(Some(String::from_str(alloc, VERSION)?)),
+        [first, last] if is_help(first) => Ok(Some(help_on(alloc, last)?)),
+        [first, last] if last.as_str() != "help" && is_help(last) => {
+            Ok(Some(help_on(alloc, first)?))
+        }
         _ => Ok(None),
     }
 }
 
-fn ask_help(words: &[String]) -> bool {
-    match words {
-        [word] => word.as_str() == "help" || is_help(word),
-        [first, last] => first.as_str() == "help" || is_help(first) || is_help(last),
-        _ => false,
-    }
+fn is_help(word: &str) -> bool {
+    matches!(word, "help" | "--help" | "-h")
 }
 
-fn is_help(word: &str) -> bool {
-    word == "--help" || word == "-h"
+fn is_version(word: &str) -> bool {
+    matches!(word, "version" | "--version")
+}
+
+// The help of the command that the word names, or that of all where it names none.
+fn help_on(alloc: Global, word: &str) -> Result<String, AllocError> {
+    for verb in VERBS {
+        if verb_word(verb) == word {
+            if let Some(purpose) = purpose_of(verb) {
+                return help_of(alloc, verb, purpose);
+            }
+        }
+    }
+    help(alloc)
+}
+
+// A command, and the options that it uses.
+fn help_of(alloc: Global, verb: Verb, purpose: &str) -> Result<String, AllocError> {
+    let mut text = String::from_str(alloc, VERSION)?;
+    text.push_str(&format!(in alloc; "\n{}{purpose}\n", verb_word(verb))?)?;
+    if !is_built(verb) {
+        text.push_str("It is not built yet.\n")?;
+    }
+    text.push_str("\nOptions:\n")?;
+    for option in TABLE {
+        let row = row_for(option);
+        if has_effect(option) && row.commands.contains(&verb) {
+            add_values(alloc, &mut text, &row)?;
+            text.push_str(&format!(in alloc; "\n      {}\n", meaning_of(option))?)?;
+        }
+    }
+    Ok(text)
 }
 
 fn help(alloc: Global) -> Result<String, AllocError> {
@@ -115,14 +141,19 @@ fn has_effect(option: Opt) -> bool {
     }
 }
 
-fn add_option(alloc: Global, text: &mut String, row: Row) -> Result<(), AllocError> {
+// The option's name, its values and its default.
+fn add_values(alloc: Global, text: &mut String, row: &Row) -> Result<(), AllocError> {
     let values = values_of(alloc, row.kind)?;
     text.push_str(&format!(in alloc; "  --{}: {}", row.name, values.as_str())?)?;
     match row.fallback {
-        Fallback::Required => text.push_str("; required")?,
-        Fallback::Unset => {}
-        Fallback::Is(value) => text.push_str(&format!(in alloc; "; {value} by default")?)?,
+        Fallback::Required => text.push_str("; required"),
+        Fallback::Unset => Ok(()),
+        Fallback::Is(value) => text.push_str(&format!(in alloc; "; {value} by default")?),
     }
+}
+
+fn add_option(alloc: Global, text: &mut String, row: Row) -> Result<(), AllocError> {
+    add_values(alloc, text, &row)?;
     if row.commands.len() < VERBS.len() {
         text.push_str("; for")?;
         for verb in row.commands {

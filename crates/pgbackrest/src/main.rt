@@ -4,6 +4,7 @@
 ghost use Rattle.std.specs.Prelude.{◌≤◌, length, IfOk};
 
 mod help;
+mod meanings;
 mod telling;
 
 use help::asked_for;

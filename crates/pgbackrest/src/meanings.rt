@@ -1,0 +1,41 @@
+// What each option is for (pgBackRest configuration reference).
+use pgb_table::Opt;
+
+/// A few words on the option, for the help of a command.
+pub fn meaning_of(option: Opt) -> &'static str {
+    match option {
+        Opt::Stanza => "the stanza: a cluster's part of the repository",
+        Opt::Pg1Path => "the cluster's data folder",
+        Opt::Pg1Port => "the port in the name of the server's socket",
+        Opt::Pg1SocketPath => "the folder of the server's socket",
+        Opt::Pg1User => "whom to be to the server",
+        Opt::Pg1Database => "the database to talk in",
+        Opt::Repo1Path => "the repository's folder",
+        Opt::Repo1RetentionFull => "how many full backups, or of how many days, are kept",
+        Opt::Repo1RetentionFullType => "what this number counts: backups, or days",
+        Opt::Repo1RetentionDiff => "how many full and differential backups are kept",
+        Opt::Repo1RetentionArchive => "for how many backups the write-ahead log is kept",
+        Opt::Repo1RetentionArchiveType => "which backups count for that, with all above them",
+        Opt::Repo1Bundle => "whether small files are stored together",
+        Opt::Repo1BundleSize => "how much of them is stored together",
+        Opt::Repo1BundleLimit => "up to which size a file is a small one",
+        Opt::ProcessMax => "how many worker processes read files",
+        Opt::BackupType => "what a backup stores: all, or what changed since an earlier one",
+        Opt::RestoreType => "whether the server is to recover by the archive",
+        Opt::Delta => "whether files are compared by their bytes, and equal ones stay",
+        Opt::Online => "whether the server runs, and is asked",
+        Opt::StartFast => "whether the server makes its checkpoint at once",
+        Opt::ArchiveTimeout => "how long the segments of a backup are waited for, and pushes",
+        Opt::ArchiveAsync => "whether a process beside the command pushes and fetches",
+        Opt::ArchiveGetQueueMax => "how much of the log is fetched ahead",
+        Opt::SpoolPath => "the folder of what is pushed and fetched that way",
+        Opt::LockPath => "the folder of the locks",
+        Opt::Set => "the label of the backup, for the last one",
+        Opt::ExpireAuto => "whether the retention is kept behind a backup",
+        Opt::Output => "the report's form",
+        Opt::Number => "from which number the data is made",
+        Opt::Config => "the configuration's file",
+        Opt::LogLevelStderr => "what is told on standard error",
+        _ => "taken for the original program's sake",
+    }
+}
