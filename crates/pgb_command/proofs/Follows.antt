@@ -99,8 +99,8 @@ module _ (a : Asked) (b k : Seen) (n : ℕ) where
       }
 
   pub part_done : Either a b k n → PartDone a b k
-  part_done (inl x) = on_as (manner_of a.request a.data_folder b.tree.nodes b.links) _ _ (λ command h. (h.part, h.between)) (idle_takes a b k x.1.1.0 x.0)
-  part_done (inr x) = on_as (manner_of a.request a.data_folder b.tree.nodes b.links) _ _ (λ command h. (h.part, h.between)) x.1.did.steps
+  part_done (inl x) = on_as (manner_of a.request a.data_folder b.tree.nodes b.links) _ _ (λ command h. (h.part, h.between, h.receipts)) (idle_takes a b k x.1.1.0 x.0)
+  part_done (inr x) = on_as (manner_of a.request a.data_folder b.tree.nodes b.links) _ _ (λ command h. (h.part, h.between, h.receipts)) x.1.did.steps
 
   early_at : (unknown : List Text) (ended : Result Outcome Fault) → IsAnswered unknown b k ended n → IsEarly a.request n → reached_of (ending_of ended) ≡ turned_back
   early_at unknown ended t early = told_as unknown b k ended n t (λ is. early_ends a.request ended (subst (IsEarly a.request) is early))

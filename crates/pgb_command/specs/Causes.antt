@@ -11,7 +11,7 @@ use Rattle.pgb_stage.specs.declared.fault.Unbuilt.{Unbuilt}
 use Rattle.pgb_stage.specs.declared.fault.StageFault.TheVariants.{NotBuilt}
 use Rattle.pgb_stage.specs.declared.object.Object.TheVariants.{Server, Config, Output}
 use Rattle.pgb_stage.specs.declared.outcome.Outcome.{Outcome}
-use Rattle.pgb_stage.specs.Runs.{On, OnWhole, Leads, Passes, EndsAtOne, turns_of}
+use Rattle.pgb_stage.specs.Runs.{On, OnWhole, Leads, Passes, PassesReceipts, EndsAtOne, turns_of}
 use Rattle.pgb_stage.specs.Seen.{Seen, Failed}
 use Rattle.pgb_command.specs.declared.fault.Fault.{Fault}
 use Rattle.pgb_command.specs.declared.fault.Fault.TheVariants.{Stage, NoMemory}
@@ -68,7 +68,7 @@ AllAtOne a before after = On (manner_of a.request a.data_folder before.tree.node
 
 -- a part of them is, at its end and at each moment
 abbrev pub PartDone : Asked → Seen → Seen → Type 0
-PartDone a before after = On (manner_of a.request a.data_folder before.tree.nodes before.links) (λ command. Leads a.stanza command false before.repo.view before.spool.view after.repo.view after.spool.view × Passes a.stanza command before.repo.view after.repo.view)
+PartDone a before after = On (manner_of a.request a.data_folder before.tree.nodes before.links) (λ command. Leads a.stanza command false before.repo.view before.spool.view after.repo.view after.spool.view × Passes a.stanza command before.repo.view after.repo.view × PassesReceipts a.stanza command before.repo.view before.spool.view after.spool.view)
 
 -- none is but the pushes of its turns
 abbrev pub NoneDone : Asked → Seen → Seen → Type 0

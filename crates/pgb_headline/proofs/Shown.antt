@@ -2,17 +2,14 @@
 use Rattle.std.proofs.Common.{◌≡◌, ◌≢◌, ◌⊎◌, ⊎_elim, inl, inr, ℕ, zero, suc, ◌≤◌, Bool, true, false, List, [], ◌∷◌, Result, Ok, Err, refl, sym, ◌∙◌, ap, subst, arith}
 use Rattle.std.specs.Prelude.{IsSome}
 use Rattle.pgb_outside.specs.Moments.{View}
-use Rattle.pgb_outside.specs.Crash.{Leaves}
 use Rattle.pgb_model.specs.Text.{Text}
-use Rattle.pgb_model.specs.Repository.{Repository}
 use Rattle.pgb_model.specs.Steps.{Command}
-use Rattle.pgb_model.specs.Log.{Done, Keeps}
-use Rattle.pgb_model.specs.Steady.{KeepsOn, LeavesOnly}
+use Rattle.pgb_model.specs.Steady.{KeepsOn}
 use Rattle.pgb_story.specs.Beside.{IsStanza, StaysBeside}
-use Rattle.pgb_story.specs.Story.{Call, Does, HasReceiptsOf}
+use Rattle.pgb_story.specs.Story.{Call, Does}
 use Rattle.pgb_archive.specs.Still.{still_self}
 use Rattle.pgb_stage.specs.declared.fault.StageFault.TheVariants.{NotBuilt}
-use Rattle.pgb_stage.specs.Runs.{Reached, to_end, OnAll, Leads, Passes, Takes}
+use Rattle.pgb_stage.specs.Runs.{Reached, to_end, OnAll, Leads, Passes, PassesReceipts, Takes}
 use Rattle.pgb_stage.specs.Seen.{Seen}
 use Rattle.pgb_stage.proofs.Besides.{still_beside}
 use Rattle.pgb_command.specs.declared.fault.Fault.{Fault}
@@ -28,29 +25,24 @@ use Rattle.pgb_command.proofs.InForm.{asked_in_form}
 use Rattle.pgb_headline.specs.Acts.{both, IsOf, IsCallOf, IsShown}
 use Rattle.pgb_headline.proofs.Deciding.{some_command}
 
--- ---- a command that leaves the spool as it is
+-- ---- a command, by what it does to both disks
 
 abbrev the_call : Text → Command → Bool → Call
 the_call stanza command whole = record { stanza = stanza; done = record { command = command; acknowledged = whole } }
 
-module _ (stanza : Text) (command : Command) (whole : Bool) (repo spool new_repo new_spool : View) (same : new_spool ≡ spool) (form : IsStanza stanza)
-    (part : Leads stanza command false repo spool new_repo new_spool) (passes : Passes stanza command repo new_repo)
-    (keeps : KeepsOn stanza command whole repo spool new_repo new_spool) (beside : StaysBeside stanza repo new_repo) where
-  receipts : (q : Repository) (log : List Done) → IsSome repo.now → Keeps stanza q log repo spool → LeavesOnly (HasReceiptsOf stanza q (record { command = command; acknowledged = false } ∷ log)) spool new_spool
-  receipts q log told h t f lo hi leaves =
-      let e : t ≡ new_spool.moment = omega (arith, ap (λ (v : View). v.moment) same) in
-      (part.keeps q log told h).receipts.receipts f (subst (λ (m : ℕ). Leaves new_spool m f) e leaves)
-
+module _ (stanza : Text) (command : Command) (whole : Bool) (repo spool new_repo new_spool : View) (form : IsStanza stanza)
+    (part : Leads stanza command false repo spool new_repo new_spool) (passes : Passes stanza command repo new_repo) (receipts : PassesReceipts stanza command repo spool new_spool)
+    (keeps : IsSome spool.now → KeepsOn stanza command whole repo spool new_repo new_spool) (beside : StaysBeside stanza repo new_repo) (spool_beside : StaysBeside stanza spool new_spool) where
   call_does : Does (the_call stanza command whole) (both repo spool) (both new_repo new_spool)
   call_does = record {
     is_stanza = form;
     told = part.now.told;
-    spool_told = λ told. subst (λ (v : View). IsSome v.now) (sym same) told;
-    keeps = λ q log told h. keeps q log told.0 h;
+    spool_told = part.spool_told;
+    keeps = λ q log told h. keeps told.1 q log told.0 h;
     between = λ q log told h. (passes.between q log told.0 h.repository).1;
-    receipts = record { between = λ q log told h. receipts q log told.0 h };
+    receipts = record { between = λ q log told h. receipts.between q log told.0 told.1 h };
     beside = beside;
-    spool_beside = subst (λ (v : View). StaysBeside stanza spool v) (sym same) (still_beside stanza spool spool (still_self spool));
+    spool_beside = spool_beside;
   }
 
 -- ---- what `run` answers
@@ -79,17 +71,20 @@ module _ (words : List Text) (b k : Seen) (n : ℕ) (same : k.spool.view ≡ b.s
     to_its_end : n ≡ 0 → reached_of (ending_of c.ended) ≡ to_end
     to_its_end z = told_as unknown b k c.ended n c.answered (λ is. zero_ends c.ended (sym is ∙ z)) (λ is rose. absurd (omega (arith, is, z))) (λ is. absurd (omega (arith, is, z)))
 
+    spool_beside : StaysBeside a.stanza b.spool.view k.spool.view
+    spool_beside = subst (λ (v : View). StaysBeside a.stanza b.spool.view v) (sym same) (still_beside a.stanza b.spool.view b.spool.view (still_self b.spool.view))
+
     by : (command : Command) → IsOf (manner_of a.request a.data_folder b.tree.nodes b.links) command → TakesAs command → (n ≡ 0) ⊎ (n ≢ 0) → Shown
     by command is takes (inl z) = inr (
       the_call a.stanza command true,
       record { asked = a; asks = asks; stanza = refl; command = is; acknowledged = ((λ e. z), (λ e. refl)) },
-      call_does a.stanza command true b.repo.view b.spool.view k.repo.view k.spool.view same (asked_in_form words b.config.files a asks) takes.part takes.between
-          (subst (λ (reached : Reached). OnAll reached (Leads a.stanza command true b.repo.view b.spool.view k.repo.view k.spool.view)) (to_its_end z) takes.whole).keeps c.did.spares.beside,
+      call_does a.stanza command true b.repo.view b.spool.view k.repo.view k.spool.view (asked_in_form words b.config.files a asks) takes.part takes.between takes.receipts
+          (subst (λ (reached : Reached). OnAll reached (Leads a.stanza command true b.repo.view b.spool.view k.repo.view k.spool.view)) (to_its_end z) takes.whole).keeps c.did.spares.beside spool_beside,
     )
     by command is takes (inr off) = inr (
       the_call a.stanza command false,
       record { asked = a; asks = asks; stanza = refl; command = is; acknowledged = ((λ (e : ◌≡◌ {A = Bool} false true). cc), (λ z. absurd (off z))) },
-      call_does a.stanza command false b.repo.view b.spool.view k.repo.view k.spool.view same (asked_in_form words b.config.files a asks) takes.part takes.between takes.part.keeps c.did.spares.beside,
+      call_does a.stanza command false b.repo.view b.spool.view k.repo.view k.spool.view (asked_in_form words b.config.files a asks) takes.part takes.between takes.receipts takes.part.keeps c.did.spares.beside spool_beside,
     )
 
     obeyed : Shown

@@ -7,7 +7,7 @@ use Rattle.pgb_outside.specs.Tree.{Nodes}
 use Rattle.pgb_model.specs.Text.{Text}
 use Rattle.pgb_model.specs.Steps.{Command}
 use Rattle.pgb_story.specs.Story.{Disks, Call, stopped, Does, AreStill, KeepsAll, LeaveAll}
-use Rattle.pgb_stage.specs.Runs.{Manner, each, one}
+use Rattle.pgb_stage.specs.Runs.{Manner, each, one, provided}
 use Rattle.pgb_command.specs.Asked.{Asked, MayAsk}
 use Rattle.pgb_command.specs.Tables.{manner_of}
 
@@ -18,6 +18,7 @@ both repo spool = record { repo = repo; spool = spool }
 abbrev pub IsOf : Manner → Command → Type 0
 IsOf (each Is) command = Is command
 IsOf (one Is) command = Is command
+IsOf (provided told Is) command = Is command
 
 -- The call that the words ask for on this data folder and with these workers, acknowledged where the status is 0.
 pub record IsCallOf (words : List Text) (files : Option Content) (nodes : Option Nodes) (links : List LinkState) (status : ℕ) (c : Call) : Type 0 where

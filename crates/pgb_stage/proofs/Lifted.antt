@@ -10,7 +10,7 @@ use Rattle.pgb_model.specs.Names.{receipt_name}
 use Rattle.pgb_model.specs.Repository.{Repository, IsSound}
 use Rattle.pgb_model.specs.Stands.{Stands}
 use Rattle.pgb_model.specs.Steps.{Step, Command, Reading, after, all_of, steps_of}
-use Rattle.pgb_model.specs.Log.{Done, Reaches, StandsAfter, KeepsRepository, KeepsSpool}
+use Rattle.pgb_model.specs.Log.{Done, Reaches, StandsAfter, KeepsRepository, KeepsSpool, Keeps}
 use Rattle.pgb_model.specs.Now.{NowStands, NowDoes}
 use Rattle.pgb_model.specs.Steady.{IsSteady, LeavesOnly}
 use Rattle.pgb_model.specs.Walks.{Walks, StandsStill}
@@ -19,10 +19,11 @@ use Rattle.pgb_model.proofs.Each.{keeps_tight, keeps_now}
 use Rattle.pgb_model.proofs.Logged.{rests_still}
 use Rattle.pgb_model.proofs.Walking.{steady_tight}
 use Rattle.pgb_archive.specs.Still.{rests_none}
+use Rattle.pgb_story.specs.Story.{HasReceiptsOf}
 use Rattle.pgb_story.proofs.Stays.{rests_beside, beside_on}
 use Rattle.pgb_stage.specs.declared.plan.Settling.{Settling}
 use Rattle.pgb_stage.specs.declared.plan.Settling.TheVariants.{Whole, Looked}
-use Rattle.pgb_stage.specs.Runs.{Reached, to_end, turned_back, stopped, OnAll, OnNone, OnWhole, turns_of, IsPart, IsWhole, PartEach, WholeEach, PairAlike, IsLookedAt, Goes, Comes, DoesPart, Does, RunsPart, RunsWhole, Runs, Past, Passes, Leads, Takes, Quiet, Mends, Begins, Manner, each, one, On, EndsAtOne}
+use Rattle.pgb_stage.specs.Runs.{Reached, to_end, turned_back, stopped, OnAll, OnNone, OnWhole, turns_of, IsPart, IsWhole, PartEach, WholeEach, PairAlike, IsLookedAt, Goes, Comes, DoesPart, Does, RunsPart, RunsWhole, Runs, Past, Passes, Leads, Takes, Quiet, Mends, Begins, Manner, each, one, provided, On, EndsAtOne, SpoolGoes, PassesReceipts}
 
 pub all_as : (reached : Reached) (P Q : Type 0) → (P → Q) → OnAll reached P → OnAll reached Q
 all_as to_end P Q to h = to h
@@ -37,6 +38,7 @@ none_as stopped P Q to h = tt
 pub on_as : (m : Manner) (P Q : Command → Type 0) → ((command : Command) → P command → Q command) → On m P → On m Q
 on_as (each Is) P Q to h = λ command is. to command (h command is)
 on_as (one Is) P Q to h = (h.0, h.1, to h.0 h.2)
+on_as (provided told Is) P Q to h = λ is. let x = h is in (x.0, x.1, to x.0 x.2)
 
 on_some : (a b : Option Content) → b ≡ a → IsSome a → IsSome b
 on_some a b same some = subst (λ (o : Option Content). IsSome o) (sym same) some
@@ -246,13 +248,24 @@ module _ (stanza : Text) (a b : View) (quiet : Quiet stanza a b) where
 
 module _ (how : Settling) (stanza : Text) (a b : View) (quiet : Quiet stanza a b) (begun : Begins how stanza a b) where
   module _ (command : Command) (s d t : View) where
+    -- the log that the two disks keep as the command's own part begins
+    begun_with : (q : Repository) (log : List Done) → IsSome a.now → Keeps stanza q log a s → Keeps stanza q log b s
+    begun_with q log some keeps = record { repository = quiet.keeps q log some keeps.repository; receipts = keeps.receipts }
+
     pub part_leads : RunsPart how stanza command b s d t → Leads stanza command false a s d t
     part_leads h = record {
       now = does_on stanza a b quiet command false d h.does.part;
-      keeps = λ q log some keeps. record {
+      spool_told = h.spool.told;
+      keeps = λ spool_some q log some keeps. record {
         repository = (left stanza a b quiet command d q log some keeps.repository how begun h.does.goes).0;
-        receipts = h.receipts q log (told_at stanza a b quiet some) (quiet.keeps q log some keeps.repository) keeps.receipts;
+        receipts = h.spool.keeps q log (told_at stanza a b quiet some) spool_some (begun_with q log some keeps);
       };
+    }
+
+    pub part_receipts : RunsPart how stanza command b s d t → PassesReceipts stanza command a s t
+    part_receipts h = record {
+      past = h.spool.past;
+      between = λ q log some spool_some keeps. h.spool.between q log (told_at stanza a b quiet some) spool_some (begun_with q log some keeps);
     }
 
     pub part_passes : RunsPart how stanza command b s d t → Passes stanza command a d
@@ -269,9 +282,10 @@ module _ (how : Settling) (stanza : Text) (a b : View) (quiet : Quiet stanza a b
     pub whole_leads : RunsPart how stanza command b s d t → RunsWhole how stanza command b s d t → Leads stanza command true a s d t
     whole_leads p h = record {
       now = does_on stanza a b quiet command true d h.does.done;
-      keeps = λ q log some keeps. record {
+      spool_told = h.spool.told;
+      keeps = λ spool_some q log some keeps. record {
         repository = left_whole stanza a b quiet command d q log some keeps.repository how begun p.does.goes h.does.ends;
-        receipts = h.receipts q log (told_at stanza a b quiet some) (quiet.keeps q log some keeps.repository) keeps.receipts;
+        receipts = h.spool.keeps q log (told_at stanza a b quiet some) spool_some (begun_with q log some keeps);
       };
     }
 
@@ -291,6 +305,7 @@ pub begun_takes : (how : Settling) (stanza : Text) (a b : View) → Quiet stanza
 begun_takes how stanza a b quiet begun command reached s d t h = record {
   part = part_leads how stanza a b quiet begun command s d t h.part;
   between = part_passes how stanza a b quiet begun command s d t h.part;
+  receipts = part_receipts how stanza a b quiet begun command s d t h.part;
   whole = all_as reached _ _ (whole_leads how stanza a b quiet begun command s d t h.part) h.whole;
   ends = all_as reached _ _ (whole_ends how stanza a b quiet begun command s d t) h.whole;
   turned = none_as reached _ _ (part_leads how stanza a b quiet begun (turns_of command) s d t) h.turned;
@@ -299,11 +314,22 @@ begun_takes how stanza a b quiet begun command reached s d t h = record {
 -- ---- places are opened, and then all that
 
 module _ (stanza : Text) (a b s t : View) (rests : Rests a b) (same : b.now ≡ a.now) (spool_rest : Rests s t) (spool_same : t.now ≡ s.now) where
+  opened_with : (q : Repository) (log : List Done) → Keeps stanza q log a s → Keeps stanza q log b t
+  opened_with q log keeps = record { repository = rests_still stanza q log a b rests same keeps.repository; receipts = spool_rests stanza q log s t spool_rest spool_same keeps.receipts }
+
   leads_on : (command : Command) (whole : Bool) (d e : View) → Leads stanza command whole b t d e → Leads stanza command whole a s d e
   leads_on command whole d e h = record {
     now = subst (λ (o : Option Content). NowDoes stanza command whole o d.now) same h.now;
-    keeps = λ q log some keeps. h.keeps q log (on_some a.now b.now same some)
-        (record { repository = rests_still stanza q log a b rests same keeps.repository; receipts = spool_rests stanza q log s t spool_rest spool_same keeps.receipts });
+    spool_told = λ told. h.spool_told (on_some s.now t.now spool_same told);
+    keeps = λ told q log some keeps. h.keeps (on_some s.now t.now spool_same told) q log (on_some a.now b.now same some) (opened_with q log keeps);
+  }
+
+  receipts_on : (command : Command) (e : View) → PassesReceipts stanza command b t e → PassesReceipts stanza command a s e
+  receipts_on command e h = record {
+    past = past_past s t e (rests_past s t spool_rest) h.past;
+    between = λ q log some told keeps. leaves_then (HasReceiptsOf stanza q (undone stanza command q log ∷ log)) s t e (rests_past s t spool_rest) h.past
+        (λ w f lo hi leaves. (still_spool stanza command q log s keeps.receipts).receipts f (leaves_back s t spool_rest spool_same w lo hi f leaves))
+        (h.between q log (on_some a.now b.now same some) (on_some s.now t.now spool_same told) (opened_with q log keeps));
   }
 
   ends_on : (command : Command) (d : View) → EndsAtOne stanza command b d → EndsAtOne stanza command a d
@@ -324,6 +350,7 @@ module _ (stanza : Text) (a b s t : View) (rests : Rests a b) (same : b.now ≡ 
                 (λ w f lo hi leaves. still_after stanza command q log f (keeps.stands f (leaves_back a b rests same w lo hi f leaves))) x.1,
           );
     };
+    receipts = receipts_on command e h.receipts;
     whole = all_as reached _ _ (leads_on command true d e) h.whole;
     ends = all_as reached _ _ (one_on how command d) h.ends;
     turned = none_as reached _ _ (leads_on (turns_of command) false d e) h.turned;
@@ -334,14 +361,23 @@ module _ (stanza : Text) (a b s t : View) (rests : Rests a b) (same : b.now ≡ 
 pub reading_spool : (stanza : Text) (q : Repository) (log : List Done) (s : View) → KeepsSpool stanza q log s → KeepsSpool stanza q (record { command = Reading; acknowledged = true } ∷ log) s
 reading_spool stanza q log s k = record { fixed = k.fixed; receipts = λ f leaves name sum fits has. let x = k.receipts f leaves name sum fits has in (x.0, (x.0, x.1, ([], refl, refl)), x.2) }
 
+module _ (stanza : Text) (command : Command) (whole : Bool) (a s : View) (keeps : (q : Repository) (log : List Done) → KeepsSpool stanza q log s → KeepsSpool stanza q (record { command = command; acknowledged = whole } ∷ log) s) where
+  spool_stays : SpoolGoes stanza command whole a s s
+  spool_stays = record {
+    told = λ some. some;
+    past = rests_past s s (rests_none s);
+    keeps = λ q log some told k. keeps q log k.receipts;
+    between = λ q log some told k t f lo hi leaves. (still_spool stanza command q log s k.receipts).receipts f (leaves_back s s (rests_none s) refl t lo hi f leaves);
+  }
+
 runs_part : (how : Settling) (stanza : Text) (command : Command) (a d s : View) → DoesPart how stanza command a d → RunsPart how stanza command a s d s
-runs_part how stanza command a d s h = record { does = h; receipts = λ q log some begun keeps. still_spool stanza command q log s keeps }
+runs_part how stanza command a d s h = record { does = h; spool = spool_stays stanza command false a s (λ q log k. still_spool stanza command q log s k) }
 
 -- a command that leaves the spool as it is, and whose steps keep what drains have stored
 pub does_runs : (how : Settling) (stanza : Text) (command : Command) (reached : Reached) (a d s : View) → ((q : Repository) (log : List Done) → KeepsSpool stanza q log s → KeepsSpool stanza q (record { command = command; acknowledged = true } ∷ log) s) →
     Does how stanza command reached a d → Runs how stanza command reached a s d s
 does_runs how stanza command reached a d s keeps h = record {
   part = runs_part how stanza command a d s h.part;
-  whole = all_as reached _ _ (λ w. record { does = w; receipts = λ q log some begun k. keeps q log k }) h.whole;
+  whole = all_as reached _ _ (λ w. record { does = w; spool = spool_stays stanza command true a s keeps }) h.whole;
   turned = none_as reached _ _ (runs_part how stanza (turns_of command) a d s) h.turned;
 }

@@ -7,12 +7,13 @@ use Rattle.pgb_model.specs.Text.{Text}
 use Rattle.pgb_model.specs.Repository.{Repository, IsSound}
 use Rattle.pgb_model.specs.Stands.{Stands}
 use Rattle.pgb_model.specs.Steps.{Step, Command, ArchivePushAsync, MakeBackup, Reading, IsPartOf, after, all_of, steps_of}
-use Rattle.pgb_model.specs.Log.{Done, StandsAfter, KeepsRepository, KeepsSpool}
+use Rattle.pgb_model.specs.Log.{Done, StandsAfter, KeepsRepository, KeepsSpool, Keeps}
 use Rattle.pgb_model.specs.Steady.{IsSteady, IsBegun, Moves, LeavesOnly, KeepsOn}
 use Rattle.pgb_model.specs.Now.{NowDoes}
 use Rattle.pgb_model.specs.Values.{ArchiveInfo}
 use Rattle.pgb_model.specs.Walks.{IsTight, Walks, StandsNow, StandsStill}
 use Rattle.pgb_story.specs.Beside.{StaysBeside}
+use Rattle.pgb_story.specs.Story.{HasReceiptsOf}
 use Rattle.pgb_stage.specs.declared.plan.Settling.{Settling}
 use Rattle.pgb_stage.specs.declared.plan.Settling.TheVariants.{Whole, Looked}
 use Rattle.pgb_stage.specs.Current.{HasValue}
@@ -93,20 +94,28 @@ pub record Does (how : Settling) (stanza : Text) (command : Command) (reached : 
 
 -- ---- the spool too
 
--- the receipts go on to those of the log with the command
-abbrev pub SpoolGoes : Text → Command → Bool → View → View → View → Type 0
-SpoolGoes stanza command whole repo spool new_spool =
-    (q : Repository) (log : List Done) → IsSome repo.now → KeepsRepository stanza q log repo → KeepsSpool stanza q log spool → KeepsSpool stanza q (record { command = command; acknowledged = whole } ∷ log) new_spool
+-- what earlier moments may leave stays
+pub record Past (old new : View) : Type 0 where
+  pub later : old.moment ≤ new.moment
+  pub kept : (t : ℕ) (n : Name) (v : Value) → t ≤ old.moment → new.kept t n v → old.kept t n v
+  pub loose : (t : ℕ) (n : Name) → t ≤ old.moment → new.loose t n ≡ old.loose t n
+
+-- Where the two disks keep a log, the spool keeps it with the command; and at each moment each receipt that the spool has, or a stop leaves, is of a file that the log with a part of the command has stored.
+pub record SpoolGoes (stanza : Text) (command : Command) (whole : Bool) (repo spool new_spool : View) : Type 0 where
+  pub told : IsSome spool.now → IsSome new_spool.now
+  pub past : Past spool new_spool
+  pub keeps : (q : Repository) (log : List Done) → IsSome repo.now → IsSome spool.now → Keeps stanza q log repo spool → KeepsSpool stanza q (record { command = command; acknowledged = whole } ∷ log) new_spool
+  pub between : (q : Repository) (log : List Done) → IsSome repo.now → IsSome spool.now → Keeps stanza q log repo spool → LeavesOnly (HasReceiptsOf stanza q (record { command = command; acknowledged = false } ∷ log)) spool new_spool
 
 -- a part of the command, at each moment
 pub record RunsPart (how : Settling) (stanza : Text) (command : Command) (repo spool new_repo new_spool : View) : Type 0 where
   pub does : DoesPart how stanza command repo new_repo
-  pub receipts : SpoolGoes stanza command false repo spool new_spool
+  pub spool : SpoolGoes stanza command false repo spool new_spool
 
 -- all of it
 pub record RunsWhole (how : Settling) (stanza : Text) (command : Command) (repo spool new_repo new_spool : View) : Type 0 where
   pub does : DoesWhole how stanza command repo new_repo
-  pub receipts : SpoolGoes stanza command true repo spool new_spool
+  pub spool : SpoolGoes stanza command true repo spool new_spool
 
 -- What a command's own part does: a part of its steps; all of them where it comes to its end; and none but its turns where it is refused.
 pub record Runs (how : Settling) (stanza : Text) (command : Command) (reached : Reached) (repo spool new_repo new_spool : View) : Type 0 where
@@ -116,20 +125,20 @@ pub record Runs (how : Settling) (stanza : Text) (command : Command) (reached : 
 
 -- ---- from any disk
 
--- what earlier moments may leave stays
-pub record Past (old new : View) : Type 0 where
-  pub later : old.moment ≤ new.moment
-  pub kept : (t : ℕ) (n : Name) (v : Value) → t ≤ old.moment → new.kept t n v → old.kept t n v
-  pub loose : (t : ℕ) (n : Name) → t ≤ old.moment → new.loose t n ≡ old.loose t n
-
 -- where a log is kept, all that may be left at each moment stands for the log with a part of the command
 pub record Passes (stanza : Text) (command : Command) (old new : View) : Type 0 where
   pub between : (q : Repository) (log : List Done) → IsSome old.now → KeepsRepository stanza q log old → Past old new × LeavesOnly (StandsAfter stanza q (record { command = command; acknowledged = false } ∷ log)) old new
 
+-- where the two disks keep a log, all that a stop leaves of the spool at each moment has receipts of the log with a part of the command
+pub record PassesReceipts (stanza : Text) (command : Command) (repo spool new_spool : View) : Type 0 where
+  pub past : Past spool new_spool
+  pub between : (q : Repository) (log : List Done) → IsSome repo.now → IsSome spool.now → Keeps stanza q log repo spool → LeavesOnly (HasReceiptsOf stanza q (record { command = command; acknowledged = false } ∷ log)) spool new_spool
+
 -- what the disks hold and all that a stop leaves go on by this
 pub record Leads (stanza : Text) (command : Command) (whole : Bool) (repo spool new_repo new_spool : View) : Type 0 where
   pub now : NowDoes stanza command whole repo.now new_repo.now
-  pub keeps : KeepsOn stanza command whole repo spool new_repo new_spool
+  pub spool_told : IsSome spool.now → IsSome new_spool.now
+  pub keeps : IsSome spool.now → KeepsOn stanza command whole repo spool new_repo new_spool
 
 -- where a log is kept, the disk is steady at one repository, which the log with the whole command reaches: all that a stop leaves stands for it
 pub record EndsAtOne (stanza : Text) (command : Command) (old new : View) : Type 0 where
@@ -144,6 +153,7 @@ OnWhole Looked P = Unit {0}
 pub record Takes (how : Settling) (stanza : Text) (command : Command) (reached : Reached) (repo spool new_repo new_spool : View) : Type 0 where
   pub part : Leads stanza command false repo spool new_repo new_spool
   pub between : Passes stanza command repo new_repo
+  pub receipts : PassesReceipts stanza command repo spool new_spool
   pub whole : OnAll reached (Leads stanza command true repo spool new_repo new_spool)
   pub ends : OnAll reached (OnWhole how (EndsAtOne stanza command repo new_repo))
   pub turned : OnNone reached (Leads stanza (turns_of command) false repo spool new_repo new_spool)
@@ -170,11 +180,13 @@ Begins Looked stanza old new = IsTight stanza old → IsSome old.now → PairAli
 
 -- ---- which command
 
--- each command of this kind, or one of them
+-- each command of this kind, or one of them; or one of them where this is told
 pub data Manner : Type 1 where
   each : (Command → Type 0) → Manner
   one : (Command → Type 0) → Manner
+  provided : (told : Type 0) → (Command → Type 0) → Manner
 
 abbrev pub On : Manner → (Command → Type 0) → Type 0
 On (each Is) P = (command : Command) → Is command → P command
 On (one Is) P = (command : Command) × Is command × P command
+On (provided told Is) P = told → (command : Command) × Is command × P command
