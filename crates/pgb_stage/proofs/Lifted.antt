@@ -23,7 +23,7 @@ use Rattle.pgb_story.specs.Story.{HasReceiptsOf}
 use Rattle.pgb_story.proofs.Stays.{rests_beside, beside_on}
 use Rattle.pgb_stage.specs.declared.plan.Settling.{Settling}
 use Rattle.pgb_stage.specs.declared.plan.Settling.TheVariants.{Whole, Looked}
-use Rattle.pgb_stage.specs.Runs.{Reached, to_end, turned_back, stopped, OnAll, OnNone, OnWhole, turns_of, IsPart, IsWhole, PartEach, WholeEach, PairAlike, IsLookedAt, Goes, Comes, DoesPart, Does, RunsPart, RunsWhole, Runs, Past, Passes, Leads, Takes, Quiet, Mends, Begins, Manner, each, one, provided, On, EndsAtOne, SpoolGoes, PassesReceipts}
+use Rattle.pgb_stage.specs.Runs.{Reached, to_end, turned_back, stopped, OnAll, OnNone, OnWhole, turns_of, IsPart, IsWhole, PartEach, WholeEach, PairAlike, IsLookedAt, Goes, Comes, DoesPart, Does, RunsPart, RunsWhole, Runs, Past, Passes, Leads, Takes, Quiet, Mends, Begins, Manner, each, one, provided, On, EndsAtOne, SpoolGoes, BeginsWith, PassesReceipts}
 
 pub all_as : (reached : Reached) (P Q : Type 0) → (P → Q) → OnAll reached P → OnAll reached Q
 all_as to_end P Q to h = to h
@@ -246,26 +246,26 @@ module _ (stanza : Text) (a b : View) (quiet : Quiet stanza a b) where
 
 -- ---- the stages, and then the command's own part
 
+begins_with : (how : Settling) (stanza : Text) (a b : View) → Quiet stanza a b → Begins how stanza a b → (q : Repository) (log : List Done) → IsSome a.now → KeepsRepository stanza q log a → BeginsWith how stanza q log b
+begins_with Whole stanza a b quiet begun q log some keeps = begun q log keeps some
+begins_with Looked stanza a b quiet begun q log some keeps = quiet.keeps q log some keeps
+
 module _ (how : Settling) (stanza : Text) (a b : View) (quiet : Quiet stanza a b) (begun : Begins how stanza a b) where
   module _ (command : Command) (s d t : View) where
-    -- the log that the two disks keep as the command's own part begins
-    begun_with : (q : Repository) (log : List Done) → IsSome a.now → Keeps stanza q log a s → Keeps stanza q log b s
-    begun_with q log some keeps = record { repository = quiet.keeps q log some keeps.repository; receipts = keeps.receipts }
-
     pub part_leads : RunsPart how stanza command b s d t → Leads stanza command false a s d t
     part_leads h = record {
       now = does_on stanza a b quiet command false d h.does.part;
       spool_told = h.spool.told;
       keeps = λ spool_some q log some keeps. record {
         repository = (left stanza a b quiet command d q log some keeps.repository how begun h.does.goes).0;
-        receipts = h.spool.keeps q log (told_at stanza a b quiet some) spool_some (begun_with q log some keeps);
+        receipts = h.spool.keeps q log (told_at stanza a b quiet some) spool_some (begins_with how stanza a b quiet begun q log some keeps.repository) keeps.receipts;
       };
     }
 
     pub part_receipts : RunsPart how stanza command b s d t → PassesReceipts stanza command a s t
     part_receipts h = record {
       past = h.spool.past;
-      between = λ q log some spool_some keeps. h.spool.between q log (told_at stanza a b quiet some) spool_some (begun_with q log some keeps);
+      between = λ q log some spool_some keeps. h.spool.between q log (told_at stanza a b quiet some) spool_some (begins_with how stanza a b quiet begun q log some keeps.repository) keeps.receipts;
     }
 
     pub part_passes : RunsPart how stanza command b s d t → Passes stanza command a d
@@ -285,7 +285,7 @@ module _ (how : Settling) (stanza : Text) (a b : View) (quiet : Quiet stanza a b
       spool_told = h.spool.told;
       keeps = λ spool_some q log some keeps. record {
         repository = left_whole stanza a b quiet command d q log some keeps.repository how begun p.does.goes h.does.ends;
-        receipts = h.spool.keeps q log (told_at stanza a b quiet some) spool_some (begun_with q log some keeps);
+        receipts = h.spool.keeps q log (told_at stanza a b quiet some) spool_some (begins_with how stanza a b quiet begun q log some keeps.repository) keeps.receipts;
       };
     }
 
@@ -361,23 +361,23 @@ module _ (stanza : Text) (a b s t : View) (rests : Rests a b) (same : b.now ≡ 
 pub reading_spool : (stanza : Text) (q : Repository) (log : List Done) (s : View) → KeepsSpool stanza q log s → KeepsSpool stanza q (record { command = Reading; acknowledged = true } ∷ log) s
 reading_spool stanza q log s k = record { fixed = k.fixed; receipts = λ f leaves name sum fits has. let x = k.receipts f leaves name sum fits has in (x.0, (x.0, x.1, ([], refl, refl)), x.2) }
 
-module _ (stanza : Text) (command : Command) (whole : Bool) (a s : View) (keeps : (q : Repository) (log : List Done) → KeepsSpool stanza q log s → KeepsSpool stanza q (record { command = command; acknowledged = whole } ∷ log) s) where
-  spool_stays : SpoolGoes stanza command whole a s s
+module _ (how : Settling) (stanza : Text) (command : Command) (whole : Bool) (a s : View) (keeps : (q : Repository) (log : List Done) → KeepsSpool stanza q log s → KeepsSpool stanza q (record { command = command; acknowledged = whole } ∷ log) s) where
+  pub spool_stays : SpoolGoes how stanza command whole a s s
   spool_stays = record {
     told = λ some. some;
     past = rests_past s s (rests_none s);
-    keeps = λ q log some told k. keeps q log k.receipts;
-    between = λ q log some told k t f lo hi leaves. (still_spool stanza command q log s k.receipts).receipts f (leaves_back s s (rests_none s) refl t lo hi f leaves);
+    keeps = λ q log some told begun k. keeps q log k;
+    between = λ q log some told begun k t f lo hi leaves. (still_spool stanza command q log s k).receipts f (leaves_back s s (rests_none s) refl t lo hi f leaves);
   }
 
 runs_part : (how : Settling) (stanza : Text) (command : Command) (a d s : View) → DoesPart how stanza command a d → RunsPart how stanza command a s d s
-runs_part how stanza command a d s h = record { does = h; spool = spool_stays stanza command false a s (λ q log k. still_spool stanza command q log s k) }
+runs_part how stanza command a d s h = record { does = h; spool = spool_stays how stanza command false a s (λ q log k. still_spool stanza command q log s k) }
 
 -- a command that leaves the spool as it is, and whose steps keep what drains have stored
 pub does_runs : (how : Settling) (stanza : Text) (command : Command) (reached : Reached) (a d s : View) → ((q : Repository) (log : List Done) → KeepsSpool stanza q log s → KeepsSpool stanza q (record { command = command; acknowledged = true } ∷ log) s) →
     Does how stanza command reached a d → Runs how stanza command reached a s d s
 does_runs how stanza command reached a d s keeps h = record {
   part = runs_part how stanza command a d s h.part;
-  whole = all_as reached _ _ (λ w. record { does = w; spool = spool_stays stanza command true a s keeps }) h.whole;
+  whole = all_as reached _ _ (λ w. record { does = w; spool = spool_stays how stanza command true a s keeps }) h.whole;
   turned = none_as reached _ _ (runs_part how stanza (turns_of command) a d s) h.turned;
 }

@@ -100,22 +100,27 @@ pub record Past (old new : View) : Type 0 where
   pub kept : (t : ℕ) (n : Name) (v : Value) → t ≤ old.moment → new.kept t n v → old.kept t n v
   pub loose : (t : ℕ) (n : Name) → t ≤ old.moment → new.loose t n ≡ old.loose t n
 
--- Where the two disks keep a log, the spool keeps it with the command; and at each moment each receipt that the spool has, or a stop leaves, is of a file that the log with a part of the command has stored.
-pub record SpoolGoes (stanza : Text) (command : Command) (whole : Bool) (repo spool new_spool : View) : Type 0 where
+-- what the repository's disk is as a command's own part begins: steady at one repository that the log reaches; or it keeps the log
+abbrev pub BeginsWith : Settling → Text → Repository → List Done → View → Type 0
+BeginsWith Whole stanza q log repo = IsBegun stanza q log repo
+BeginsWith Looked stanza q log repo = KeepsRepository stanza q log repo
+
+-- Where the two disks begin with a log, the spool keeps it with the command; and at each moment each receipt that the spool has, or a stop leaves, is of a file that the log with a part of the command has stored.
+pub record SpoolGoes (how : Settling) (stanza : Text) (command : Command) (whole : Bool) (repo spool new_spool : View) : Type 0 where
   pub told : IsSome spool.now → IsSome new_spool.now
   pub past : Past spool new_spool
-  pub keeps : (q : Repository) (log : List Done) → IsSome repo.now → IsSome spool.now → Keeps stanza q log repo spool → KeepsSpool stanza q (record { command = command; acknowledged = whole } ∷ log) new_spool
-  pub between : (q : Repository) (log : List Done) → IsSome repo.now → IsSome spool.now → Keeps stanza q log repo spool → LeavesOnly (HasReceiptsOf stanza q (record { command = command; acknowledged = false } ∷ log)) spool new_spool
+  pub keeps : (q : Repository) (log : List Done) → IsSome repo.now → IsSome spool.now → BeginsWith how stanza q log repo → KeepsSpool stanza q log spool → KeepsSpool stanza q (record { command = command; acknowledged = whole } ∷ log) new_spool
+  pub between : (q : Repository) (log : List Done) → IsSome repo.now → IsSome spool.now → BeginsWith how stanza q log repo → KeepsSpool stanza q log spool → LeavesOnly (HasReceiptsOf stanza q (record { command = command; acknowledged = false } ∷ log)) spool new_spool
 
 -- a part of the command, at each moment
 pub record RunsPart (how : Settling) (stanza : Text) (command : Command) (repo spool new_repo new_spool : View) : Type 0 where
   pub does : DoesPart how stanza command repo new_repo
-  pub spool : SpoolGoes stanza command false repo spool new_spool
+  pub spool : SpoolGoes how stanza command false repo spool new_spool
 
 -- all of it
 pub record RunsWhole (how : Settling) (stanza : Text) (command : Command) (repo spool new_repo new_spool : View) : Type 0 where
   pub does : DoesWhole how stanza command repo new_repo
-  pub spool : SpoolGoes stanza command true repo spool new_spool
+  pub spool : SpoolGoes how stanza command true repo spool new_spool
 
 -- What a command's own part does: a part of its steps; all of them where it comes to its end; and none but its turns where it is refused.
 pub record Runs (how : Settling) (stanza : Text) (command : Command) (reached : Reached) (repo spool new_repo new_spool : View) : Type 0 where
