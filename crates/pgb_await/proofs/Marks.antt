@@ -21,7 +21,7 @@ use Rattle.pgb_await.proofs.Moves.{entry, leads_on, leads_more}
 
 -- ---- no turn
 
-none_more : (whole : Bool) (q : Repository) (log : List Done) (r : Repository) → Reaches q log r →
+pub none_more : (whole : Bool) (q : Repository) (log : List Done) (r : Repository) → Reaches q log r →
     Reaches q (entry [] whole ∷ log) r
 none_more whole q log r reached = (r, reached, ([], refl, by whole))
   where

@@ -63,7 +63,7 @@ module _ (s : Stanza) (turns : List Turn) (b : Backup) where
   pub listed_part : (stanza : Text) (g : Content) → Stands stanza g (Some (changed (AddBackup b) (waited s turns))) → IsSoundStanza (changed (AddBackup b) (waited s turns)) → IsPart stanza (MakeBackup turns b None) (Some s) g
   listed_part stanza g x sound = (all_of (turn_moves s turns) ++ AddBackup b ∷ [], whole_part, subst (λ (r : Repository). Stands stanza g r) (sym with_it) x, subst IsSound (sym with_it) sound)
 
-done_part : (e : Bool) (done : List Step) (moves : List Move) → IsDone e done moves → IsPartOf done moves
+pub done_part : (e : Bool) (done : List Step) (moves : List Move) → IsDone e done moves → IsPartOf done moves
 done_part true done moves is = subst (λ (d : List Step). IsPartOf d moves) (sym is) (all_part moves)
 done_part false done moves is = is
 

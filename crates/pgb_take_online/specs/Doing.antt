@@ -1,13 +1,13 @@
 -- What a full backup of a running server does, as a command of the log.
-use Rattle.std.specs.Prelude.{◌≡◌, ◌++◌, ℕ, List, Option, Some, IfSome}
+use Rattle.std.specs.Prelude.{◌≡◌, ◌++◌, ℕ, Bool, true, List, Option, Some, IfSome}
 use Rattle.pgb_outside.specs.Links.{LinkState}
 use Rattle.pgb_outside.specs.Moments.{View}
-use Rattle.pgb_model.specs.Steps.{Command}
+use Rattle.pgb_model.specs.Steps.{Command, ArchivePushAsync}
 use Rattle.pgb_model.specs.Text.{Text}
 use Rattle.pgb_turn.specs.Turns.{Turned, Account}
 use Rattle.pgb_await.specs.Went.{turns_of}
 use Rattle.pgb_stage.specs.declared.plan.Settling.TheVariants.{Whole}
-use Rattle.pgb_stage.specs.Runs.{Reached, On, one, Does}
+use Rattle.pgb_stage.specs.Runs.{Reached, On, OnAll, one, Does, Runs, SpoolGoes}
 use Rattle.pgb_logged.specs.Backups.{IsOnlineBackup}
 use Rattle.pgb_take_online.specs.Told.{IsLabelTold}
 
@@ -33,3 +33,15 @@ abbrev pub DoesOnline : Text → List LinkState → Heard → Reached → Option
 DoesOnline stanza used heard reached old_account account old new = IfSome account (λ k. k.stanza ≡ stanza
     → (turned : List Turned) × TakesTurns turned old_account k
     × On (one (IsOnlineOf used heard turned)) (λ command. Does Whole stanza command reached old new))
+
+-- Each of these turns ended well where the command came to its end, and the spool's receipts go on by them.
+abbrev pub MarksOnline : Text → Reached → Option Account → Option Account → View → View → View → Type 0
+MarksOnline stanza reached old_account account repo spool new_spool = IfSome account (λ k. k.stanza ≡ stanza
+    → (turned : List Turned) × TakesTurns turned old_account k
+    × (ended : Bool) × OnAll reached (ended ≡ true) × SpoolGoes Whole stanza (ArchivePushAsync (turns_of turned)) ended repo spool new_spool)
+
+-- so the command does this to both disks
+abbrev pub RunsOnline : Text → List LinkState → Heard → Reached → Option Account → Option Account → View → View → View → View → Type 0
+RunsOnline stanza used heard reached old_account account repo spool new_repo new_spool = IfSome account (λ k. k.stanza ≡ stanza
+    → (turned : List Turned) × TakesTurns turned old_account k
+    × On (one (IsOnlineOf used heard turned)) (λ command. Runs Whole stanza command reached repo spool new_repo new_spool))

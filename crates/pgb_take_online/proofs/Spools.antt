@@ -1,0 +1,186 @@
+-- What the turns do to the spool, as a part of the command's log.
+use Rattle.std.proofs.Common.{◌≡◌, ◌++◌, ◌∷◌, List, [], Bool, true, false, Option, Some, None, refl, sym, ◌∙◌, ap, subst}
+use Rattle.std.specs.Prelude.{IsSome, IfSome}
+use Rattle.std.proofs.lemmas.List.{append-nil, append_cancel_left}
+use Rattle.pgb_outside.specs.Content.{Content}
+use Rattle.pgb_outside.specs.Links.{LinkState}
+use Rattle.pgb_outside.specs.Moments.{View, Rests}
+use Rattle.pgb_model.specs.declared.wal.ArchiveName.{ArchiveName}
+use Rattle.pgb_model.specs.Text.{Text}
+use Rattle.pgb_model.specs.Repository.{Repository, Backup, Stanza, IsSound}
+use Rattle.pgb_model.specs.Stands.{Stands}
+use Rattle.pgb_model.specs.Steps.{Command, Turn, ArchivePushAsync, MakeBackup, after, all_of, steps_of}
+use Rattle.pgb_model.specs.Log.{Done, Reaches, IsDrained, Keeps, KeepsRepository, KeepsSpool}
+use Rattle.pgb_model.specs.Steady.{IsBegun, IsSteady}
+use Rattle.pgb_model.proofs.Steady.{steady_rests}
+use Rattle.pgb_disk.specs.Store.{ChangesOnly}
+use Rattle.pgb_story.specs.Beside.{StaysBeside}
+use Rattle.pgb_stored.specs.Stored.{ChangesArchive}
+use Rattle.pgb_turn.specs.Turns.{Turned, Account}
+use Rattle.pgb_await.specs.Went.{Went, MarksByTurns, all_ended, turns_of}
+use Rattle.pgb_await.proofs.Backups.{leads_made, leads_waited}
+use Rattle.pgb_await.proofs.Marks.{none_more}
+use Rattle.pgb_stage.specs.declared.plan.Settling.TheVariants.{Whole}
+use Rattle.pgb_stage.specs.Runs.{Reached, to_end, turned_back, stopped, OnAll, On, one, Past, SpoolGoes, Does, Runs}
+use Rattle.pgb_stage.proofs.Besides.{archive_beside}
+use Rattle.pgb_stage.proofs.Lifted.{none_as, spool_stays}
+use Rattle.pgb_one_text.proofs.Lists.{one_list}
+use Rattle.pgb_one_text.proofs.Manifests.{one_manifest}
+use Rattle.pgb_backup.specs.declared.draft.Draft.{Draft}
+use Rattle.pgb_backup.specs.Draft.{stanza_of}
+use Rattle.pgb_backup.specs.Made.{LeavesList}
+use Rattle.pgb_logged.proofs.Begun.{BeginsFull, no_vacant}
+use Rattle.pgb_logged.proofs.Behind.{moves_steady}
+use Rattle.pgb_logged.proofs.Online.{done_part, left_moves}
+use Rattle.pgb_take_online.specs.Doing.{DoesOnline, Heard, IsOnlineOf, MarksOnline, RunsOnline, TakesTurns}
+use Rattle.pgb_take_online.proofs.Doings.{with_account, turns_taken}
+
+-- ---- of one command
+
+module _ (stanza : Text) (ts : List Turn) (b : Backup) (repo spool new_spool : View) where
+  -- a wait is a part of the backup that it is for
+  marks_part : (ended : Bool) → SpoolGoes Whole stanza (ArchivePushAsync ts) ended repo spool new_spool → SpoolGoes Whole stanza (MakeBackup ts b None) false repo spool new_spool
+  marks_part ended goes = record {
+    told = goes.told;
+    past = goes.past;
+    keeps = λ q log some told begun k. let x = goes.keeps q log some told begun k in record {
+      fixed = x.fixed;
+      receipts = λ f leaves name sum fits has. let y = x.receipts f leaves name sum fits has in (y.0, (y.1.0, y.1.1, leads_waited ts b None ended y.1.0 y.0 y.1.2), y.2);
+    };
+    between = λ q log some told begun k t f lo hi leaves name sum fits has.
+        let y = goes.between q log some told begun k t f lo hi leaves name sum fits has in (y.0, (y.1.0, y.1.1, leads_waited ts b None false y.1.0 y.0 y.1.2), y.2);
+  }
+
+  -- the turns alone are a part of themselves
+  turns_part : (ended : Bool) → SpoolGoes Whole stanza (ArchivePushAsync ts) ended repo spool new_spool → SpoolGoes Whole stanza (ArchivePushAsync ts) false repo spool new_spool
+  turns_part ended goes = record {
+    told = goes.told;
+    past = goes.past;
+    keeps = λ q log some told begun k. let x = goes.keeps q log some told begun k in record {
+      fixed = x.fixed;
+      receipts = λ f leaves name sum fits has. let y = x.receipts f leaves name sum fits has in (y.0, (y.1.0, y.1.1, (y.1.2.0, y.1.2.1, done_part ended y.1.2.0 (steps_of (ArchivePushAsync ts) y.1.0) y.1.2.2)), y.2);
+    };
+    between = goes.between;
+  }
+
+  -- a wait whose turns ended well, and then the backup
+  marks_whole : SpoolGoes Whole stanza (ArchivePushAsync ts) true repo spool new_spool → SpoolGoes Whole stanza (MakeBackup ts b None) true repo spool new_spool
+  marks_whole goes = record {
+    told = goes.told;
+    past = goes.past;
+    keeps = λ q log some told begun k. let x = goes.keeps q log some told begun k in record {
+      fixed = x.fixed;
+      receipts = λ f leaves name sum fits has.
+          let y = x.receipts f leaves name sum fits has in
+          let all = all_of (steps_of (MakeBackup [] b None) y.0) in
+          (after y.0 all, (y.1.0, y.1.1, leads_made ts b None true y.1.0 y.0 (after y.0 all) y.1.2 (all, refl, refl)), still y.0 name sum y.2);
+    };
+    between = (marks_part true goes).between;
+  }
+    where
+      -- what a drain has stored stays as the backup is listed
+      still : (r : Repository) (name : ArchiveName) (sum : Text) → IsDrained r name sum → IsDrained (after r (all_of (steps_of (MakeBackup [] b None) r))) name sum
+      still None name sum drained = absurd drained
+      still (Some s) name sum drained = drained
+
+-- ---- of the wait
+
+module _ (a b c w : View) (rests : Rests a b) (now_same : b.now ≡ a.now) (d : Draft) (begins : BeginsFull d b.now) (leaves : LeavesList d b c) where
+  told_b : IsSome a.now → IsSome b.now
+  told_b some = subst (λ (o : Option Content). IsSome o) (sym now_same) some
+
+  -- the disk is still steady at its repository as the wait begins
+  steady_there : (r : Repository) → IsSome a.now → IsSteady (stanza_of d) r a → IsSteady (stanza_of d) r c
+  steady_there None some steady = absurd (no_vacant one_list d b begins (told_b some) (steady_rests (stanza_of d) None a b rests now_same steady))
+  steady_there (Some s) some steady = moves_steady (stanza_of d) (Some s) b c (left_moves one_list one_manifest d b c begins leaves s (told_b some) (steady_rests (stanza_of d) (Some s) a b rests now_same steady))
+
+  keeps_there : (q : Repository) (log : List Done) → IsSome a.now → IsBegun (stanza_of d) q log a → KeepsRepository (stanza_of d) q log c
+  keeps_there q log some begun = let steady = steady_there begun.repository some begun.steady in record {
+    fixed = steady.fixed;
+    places = steady.places;
+    stands = λ f there. record { repository = begun.repository; reached = begun.reached; sound = begun.sound; stands = steady.stands f there };
+  }
+
+  module _ (old account : Option Account) (s t : View) where
+    wait_goes : (whole : Bool) (k : Account) (went : Went whole old k c w s t) → k.stanza ≡ stanza_of d → SpoolGoes Whole (stanza_of d) (ArchivePushAsync (turns_of went.turned)) (all_ended (turns_of went.turned)) a s t
+    wait_goes whole k went of =
+        let marks : MarksByTurns (stanza_of d) (turns_of went.turned) c s t = subst (λ (x : Text). MarksByTurns x (turns_of went.turned) c s t) of went.spool in record {
+          told = marks.told;
+          past = record { later = went.spool_only.time.later; kept = went.spool_only.time.same; loose = went.spool_only.time.same_loose };
+          keeps = λ q log some told begun k. marks.keeps q log (leaves.now.told (told_b some)) told (record { repository = keeps_there q log some begun; receipts = k });
+          between = λ q log some told begun k. marks.between q log (leaves.now.told (told_b some)) told (record { repository = keeps_there q log some begun; receipts = k });
+        }
+
+    pub waited_marks : (stanza : Text) → stanza_of d ≡ stanza → (whole : Bool) (reached : Reached) → (reached ≡ to_end → whole ≡ true) → IfSome account (λ k. Went whole old k c w s t) → MarksOnline stanza reached old account a s t
+    waited_marks stanza is whole reached well went = with_account account (λ k. Went whole old k c w s t) _ went (λ k x of. (
+      x.turned,
+      turns_taken whole old k c w s t x,
+      all_ended (turns_of x.turned),
+      at_end reached (λ at. x.ended (well at)),
+      subst (λ (z : Text). SpoolGoes Whole z (ArchivePushAsync (turns_of x.turned)) (all_ended (turns_of x.turned)) a s t) is (wait_goes whole k x (of ∙ sym is)),
+    ))
+      where
+        at_end : (r : Reached) {P : Type 0} → (r ≡ to_end → P) → OnAll r P
+        at_end to_end h = h refl
+        at_end turned_back h = tt
+        at_end stopped h = tt
+
+-- no turn was waited for
+pub still_marks : (stanza : Text) (reached : Reached) (old account : Option Account) → account ≡ old → (repo s : View) → MarksOnline stanza reached old account repo s s
+still_marks stanza reached None account is repo s = subst (λ (o : Option Account). MarksOnline stanza reached None o repo s s) (sym is) tt
+still_marks stanza reached (Some k) account is repo s = subst (λ (o : Option Account). MarksOnline stanza reached (Some k) o repo s s) (sym is) (λ of. (
+  [],
+  record { before = k.turns; was = refl; is = sym (append-nil k.turns) },
+  true,
+  well reached,
+  spool_stays Whole stanza (ArchivePushAsync []) true repo s idle,
+))
+  where
+    idle : (q : Repository) (log : List Done) → KeepsSpool stanza q log s → KeepsSpool stanza q (record { command = ArchivePushAsync []; acknowledged = true } ∷ log) s
+    idle q log keeps = record {
+      fixed = keeps.fixed;
+      receipts = λ f leaves name sum fits has. let x = keeps.receipts f leaves name sum fits has in (x.0, none_more true q log x.0 x.1, x.2);
+    }
+
+    well : (r : Reached) → OnAll r (◌≡◌ {A = Bool} true true)
+    well to_end = refl
+    well turned_back = tt
+    well stopped = tt
+
+-- ---- of both disks
+
+all_both : (reached : Reached) {P Q R : Type 0} → OnAll reached P → OnAll reached Q → (P → Q → R) → OnAll reached R
+all_both to_end p q to = to p q
+all_both turned_back p q to = tt
+all_both stopped p q to = tt
+
+-- the turns that an account went on by are told once
+one_turns : (k : Account) (old : Option Account) (xs ys : List Turned) → TakesTurns xs old k → TakesTurns ys old k → ys ≡ xs
+one_turns k old xs ys x y =
+    let same : ◌≡◌ {A = Option Account} (Some (record { stanza = k.stanza; turns = x.before })) (Some (record { stanza = k.stanza; turns = y.before })) = sym x.was ∙ y.was in
+    let before : x.before ≡ y.before = cc in
+    append_cancel_left y.before ys xs (sym y.is ∙ x.is ∙ ap (λ (l : List Turned). l ++ xs) before)
+
+-- the command does both
+pub runs_online : (stanza : Text) (used : List LinkState) (heard : Heard) (reached : Reached) (old account : Option Account) (repo spool new_repo new_spool : View) → DoesOnline stanza used heard reached old account repo new_repo → MarksOnline stanza reached old account repo spool new_spool
+    → RunsOnline stanza used heard reached old account repo spool new_repo new_spool
+runs_online stanza used heard reached old None repo spool new_repo new_spool does marks = tt
+runs_online stanza used heard reached old (Some k) repo spool new_repo new_spool does marks of =
+    let d = does of in
+    let m = marks of in
+    let same = one_turns k old d.0 m.0 d.1 m.1 in
+    let goes : SpoolGoes Whole stanza (ArchivePushAsync (turns_of d.0)) m.2.0 repo spool new_spool = subst (λ (ts : List Turned). SpoolGoes Whole stanza (ArchivePushAsync (turns_of ts)) m.2.0 repo spool new_spool) same m.2.2.1 in
+    (d.0, d.1, (d.2.0, d.2.1, made d.0 m.2.0 m.2.2.0 goes d.2.0 d.2.1 d.2.2))
+  where
+    module _ (ts : List Turned) (ended : Bool) (well : OnAll reached (ended ≡ true)) (goes : SpoolGoes Whole stanza (ArchivePushAsync (turns_of ts)) ended repo spool new_spool) where
+      both : (b : Backup) → Does Whole stanza (MakeBackup (turns_of ts) b None) reached repo new_repo → Runs Whole stanza (MakeBackup (turns_of ts) b None) reached repo spool new_repo new_spool
+      both b h = record {
+        part = record { does = h.part; spool = marks_part stanza (turns_of ts) b repo spool new_spool ended goes };
+        whole = all_both reached well h.whole (λ e w. record { does = w; spool = marks_whole stanza (turns_of ts) b repo spool new_spool (subst (λ (x : Bool). SpoolGoes Whole stanza (ArchivePushAsync (turns_of ts)) x repo spool new_spool) e goes) });
+        turned = none_as reached _ _ (λ p. record { does = p; spool = turns_part stanza (turns_of ts) b repo spool new_spool ended goes }) h.turned;
+      }
+
+      made : (command : Command) → IsOnlineOf used heard ts command → Does Whole stanza command reached repo new_repo → Runs Whole stanza command reached repo spool new_repo new_spool
+      made command is h =
+          let b = is.2.0 in
+          subst (λ (x : Command). Runs Whole stanza x reached repo spool new_repo new_spool) (sym is.2.1) (both b (subst (λ (x : Command). Does Whole stanza x reached repo new_repo) is.2.1 h))
