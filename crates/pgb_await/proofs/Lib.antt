@@ -2,7 +2,7 @@ mod Held
 mod Coming
 mod Moves
 mod Folds
-mod Marks
+pub mod Marks
 mod Turns
 mod Waits
 pub mod Backups

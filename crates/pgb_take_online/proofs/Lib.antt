@@ -5,4 +5,4 @@ mod Finishings
 mod Doings
 mod Takings
 mod Causes
-mod Spools
+pub mod Spools
