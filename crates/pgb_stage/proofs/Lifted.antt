@@ -162,10 +162,17 @@ module _ (stanza : Text) (command : Command) (a b s : View) (quiet : Quiet stanz
   pub quiet_leads : Leads stanza command false a s b s
   quiet_leads = record {
     now = record { told = quiet.now.told; does = λ r from some now. ([], part_none (steps_of command r), stays_at stanza a.now b.now quiet.now r some now) };
-    keeps = λ q log some keeps. record {
+    spool_told = λ told. told;
+    keeps = λ told q log some keeps. record {
       repository = still_keeps stanza command q log b (quiet.keeps q log some keeps.repository);
       receipts = still_spool stanza command q log s keeps.receipts;
     };
+  }
+
+  pub quiet_receipts : PassesReceipts stanza command a s s
+  quiet_receipts = record {
+    past = rests_past s s (rests_none s);
+    between = λ q log some told keeps t f lo hi leaves. (still_spool stanza command q log s keeps.receipts).receipts f (leaves_back s s (rests_none s) refl t lo hi f leaves);
   }
 
   pub quiet_passes : Passes stanza command a b
@@ -175,8 +182,8 @@ module _ (stanza : Text) (command : Command) (a b s : View) (quiet : Quiet stanz
 
 pub quiet_takes : (how : Settling) (stanza : Text) (command : Command) (reached : Reached) (a b s : View) → (¬ (reached ≡ to_end)) → Quiet stanza a b → Takes how stanza command reached a s b s
 quiet_takes how stanza command to_end a b s not quiet = absurd (not refl)
-quiet_takes how stanza command turned_back a b s not quiet = record { part = quiet_leads stanza command a b s quiet; between = quiet_passes stanza command a b s quiet; whole = tt; ends = tt; turned = quiet_leads stanza (turns_of command) a b s quiet }
-quiet_takes how stanza command stopped a b s not quiet = record { part = quiet_leads stanza command a b s quiet; between = quiet_passes stanza command a b s quiet; whole = tt; ends = tt; turned = tt }
+quiet_takes how stanza command turned_back a b s not quiet = record { part = quiet_leads stanza command a b s quiet; between = quiet_passes stanza command a b s quiet; receipts = quiet_receipts stanza command a b s quiet; whole = tt; ends = tt; turned = quiet_leads stanza (turns_of command) a b s quiet }
+quiet_takes how stanza command stopped a b s not quiet = record { part = quiet_leads stanza command a b s quiet; between = quiet_passes stanza command a b s quiet; receipts = quiet_receipts stanza command a b s quiet; whole = tt; ends = tt; turned = tt }
 
 -- ---- what a command's own part leaves of a log
 
@@ -255,17 +262,17 @@ module _ (how : Settling) (stanza : Text) (a b : View) (quiet : Quiet stanza a b
     pub part_leads : RunsPart how stanza command b s d t → Leads stanza command false a s d t
     part_leads h = record {
       now = does_on stanza a b quiet command false d h.does.part;
-      spool_told = h.spool.told;
+      spool_told = h.marks.told;
       keeps = λ spool_some q log some keeps. record {
         repository = (left stanza a b quiet command d q log some keeps.repository how begun h.does.goes).0;
-        receipts = h.spool.keeps q log (told_at stanza a b quiet some) spool_some (begins_with how stanza a b quiet begun q log some keeps.repository) keeps.receipts;
+        receipts = h.marks.keeps q log (told_at stanza a b quiet some) spool_some (begins_with how stanza a b quiet begun q log some keeps.repository) keeps.receipts;
       };
     }
 
     pub part_receipts : RunsPart how stanza command b s d t → PassesReceipts stanza command a s t
     part_receipts h = record {
-      past = h.spool.past;
-      between = λ q log some spool_some keeps. h.spool.between q log (told_at stanza a b quiet some) spool_some (begins_with how stanza a b quiet begun q log some keeps.repository) keeps.receipts;
+      past = h.marks.past;
+      between = λ q log some spool_some keeps. h.marks.between q log (told_at stanza a b quiet some) spool_some (begins_with how stanza a b quiet begun q log some keeps.repository) keeps.receipts;
     }
 
     pub part_passes : RunsPart how stanza command b s d t → Passes stanza command a d
@@ -282,10 +289,10 @@ module _ (how : Settling) (stanza : Text) (a b : View) (quiet : Quiet stanza a b
     pub whole_leads : RunsPart how stanza command b s d t → RunsWhole how stanza command b s d t → Leads stanza command true a s d t
     whole_leads p h = record {
       now = does_on stanza a b quiet command true d h.does.done;
-      spool_told = h.spool.told;
+      spool_told = h.marks.told;
       keeps = λ spool_some q log some keeps. record {
         repository = left_whole stanza a b quiet command d q log some keeps.repository how begun p.does.goes h.does.ends;
-        receipts = h.spool.keeps q log (told_at stanza a b quiet some) spool_some (begins_with how stanza a b quiet begun q log some keeps.repository) keeps.receipts;
+        receipts = h.marks.keeps q log (told_at stanza a b quiet some) spool_some (begins_with how stanza a b quiet begun q log some keeps.repository) keeps.receipts;
       };
     }
 
@@ -371,13 +378,13 @@ module _ (how : Settling) (stanza : Text) (command : Command) (whole : Bool) (a 
   }
 
 runs_part : (how : Settling) (stanza : Text) (command : Command) (a d s : View) → DoesPart how stanza command a d → RunsPart how stanza command a s d s
-runs_part how stanza command a d s h = record { does = h; spool = spool_stays how stanza command false a s (λ q log k. still_spool stanza command q log s k) }
+runs_part how stanza command a d s h = record { does = h; marks = spool_stays how stanza command false a s (λ q log k. still_spool stanza command q log s k) }
 
 -- a command that leaves the spool as it is, and whose steps keep what drains have stored
 pub does_runs : (how : Settling) (stanza : Text) (command : Command) (reached : Reached) (a d s : View) → ((q : Repository) (log : List Done) → KeepsSpool stanza q log s → KeepsSpool stanza q (record { command = command; acknowledged = true } ∷ log) s) →
     Does how stanza command reached a d → Runs how stanza command reached a s d s
 does_runs how stanza command reached a d s keeps h = record {
   part = runs_part how stanza command a d s h.part;
-  whole = all_as reached _ _ (λ w. record { does = w; spool = spool_stays how stanza command true a s keeps }) h.whole;
+  whole = all_as reached _ _ (λ w. record { does = w; marks = spool_stays how stanza command true a s keeps }) h.whole;
   turned = none_as reached _ _ (runs_part how stanza (turns_of command) a d s) h.turned;
 }

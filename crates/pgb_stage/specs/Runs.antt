@@ -115,12 +115,12 @@ pub record SpoolGoes (how : Settling) (stanza : Text) (command : Command) (whole
 -- a part of the command, at each moment
 pub record RunsPart (how : Settling) (stanza : Text) (command : Command) (repo spool new_repo new_spool : View) : Type 0 where
   pub does : DoesPart how stanza command repo new_repo
-  pub spool : SpoolGoes how stanza command false repo spool new_spool
+  pub marks : SpoolGoes how stanza command false repo spool new_spool
 
 -- all of it
 pub record RunsWhole (how : Settling) (stanza : Text) (command : Command) (repo spool new_repo new_spool : View) : Type 0 where
   pub does : DoesWhole how stanza command repo new_repo
-  pub spool : SpoolGoes how stanza command true repo spool new_spool
+  pub marks : SpoolGoes how stanza command true repo spool new_spool
 
 -- What a command's own part does: a part of its steps; all of them where it comes to its end; and none but its turns where it is refused.
 pub record Runs (how : Settling) (stanza : Text) (command : Command) (reached : Reached) (repo spool new_repo new_spool : View) : Type 0 where

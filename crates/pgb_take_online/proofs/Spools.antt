@@ -175,9 +175,9 @@ runs_online stanza used heard reached old (Some k) repo spool new_repo new_spool
     module _ (ts : List Turned) (ended : Bool) (well : OnAll reached (ended ≡ true)) (goes : SpoolGoes Whole stanza (ArchivePushAsync (turns_of ts)) ended repo spool new_spool) where
       both : (b : Backup) → Does Whole stanza (MakeBackup (turns_of ts) b None) reached repo new_repo → Runs Whole stanza (MakeBackup (turns_of ts) b None) reached repo spool new_repo new_spool
       both b h = record {
-        part = record { does = h.part; spool = marks_part stanza (turns_of ts) b repo spool new_spool ended goes };
-        whole = all_both reached well h.whole (λ e w. record { does = w; spool = marks_whole stanza (turns_of ts) b repo spool new_spool (subst (λ (x : Bool). SpoolGoes Whole stanza (ArchivePushAsync (turns_of ts)) x repo spool new_spool) e goes) });
-        turned = none_as reached _ _ (λ p. record { does = p; spool = turns_part stanza (turns_of ts) b repo spool new_spool ended goes }) h.turned;
+        part = record { does = h.part; marks = marks_part stanza (turns_of ts) b repo spool new_spool ended goes };
+        whole = all_both reached well h.whole (λ e w. record { does = w; marks = marks_whole stanza (turns_of ts) b repo spool new_spool (subst (λ (x : Bool). SpoolGoes Whole stanza (ArchivePushAsync (turns_of ts)) x repo spool new_spool) e goes) });
+        turned = none_as reached _ _ (λ p. record { does = p; marks = turns_part stanza (turns_of ts) b repo spool new_spool ended goes }) h.turned;
       }
 
       made : (command : Command) → IsOnlineOf used heard ts command → Does Whole stanza command reached repo new_repo → Runs Whole stanza command reached repo spool new_repo new_spool
