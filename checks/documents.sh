@@ -1,0 +1,118 @@
+#!/usr/bin/env bash
+# The documents: README has at most 8 KiB; docs/ALL-DEFINITIONS.md is what docs/tables makes; each link leads to a file and a heading
+# that are there; no sentence has more than 40 words; and none has a word of the list below. A cell of a table, an item of a list and a
+# heading end a sentence; what stands in code counts as one word. documents.sh FILE..: the sentences of these files alone.
+set -euo pipefail
+cd "$(dirname "$0")/.."
+most_words=40
+most_bytes=8192
+
+# What a reader of the field would stumble over; GLOSSARY.md has the field's words.
+dialect="is well|are well|ends well|ended well|end well|so many|hasn't (a|an|the|its|their|that|this)|haven't (a|an|the|their)"
+dialect="$dialect|has not the|just where|just so|just these|just as the|just this|want of memory|who (asks|reads|writes|removed|only|knows)"
+dialect="$dialect|is no WAL|is none of these calls|the same of (a|an|the|it)|it tells so|tells so|let go|lets go|is said of it|but for what"
+
+wrong=0
+complain() {
+    printf 'wrong: %s\n' "$*"
+    wrong=1
+}
+
+# sentences FILE: a line for each sentence, as LINE<tab>SENTENCE, without code.
+sentences() {
+    awk '
+        function flush(    text, rest, at) {
+            text = unit
+            unit = ""
+            gsub(/`[^`]*`/, "X", text)
+            gsub(/\]\([^)]*\)/, "", text)
+            gsub(/[*\[]/, "", text)
+            while (match(text, /[A-Za-z0-9)"\x27][.?!]["\x27)]*( |$)/)) {
+                at = RSTART + RLENGTH
+                print from "\t" substr(text, 1, at - 1)
+                text = substr(text, at)
+            }
+            if (text ~ /[A-Za-z0-9]/) print from "\t" text
+        }
+        function add(text) {
+            if (unit == "") from = NR
+            unit = unit == "" ? text : unit " " text
+        }
+        /^```/ { flush(); fenced = !fenced; next }
+        fenced { next }
+        /^    / { flush(); next }
+        /^[ \t]*$/ { flush(); next }
+        /^\|[-|: ]*$/ { next }
+        /^\|/ {
+            flush()
+            line = $0
+            gsub(/\\\|/, "/", line)
+            count = split(line, cells, "|")
+            for (i = 2; i < count; i++) { add(cells[i]); flush() }
+            next
+        }
+        /^#/ { flush(); add($0); flush(); next }
+        /^ *([-*]|[0-9]+\.) / { flush(); add($0); next }
+        { add($0) }
+        END { flush() }
+    ' "$1"
+}
+
+# check_words FILE: its sentences are short, and without dialect.
+check_words() {
+    local found
+    found=$(sentences "$1" | awk -F '\t' -v most="$most_words" -v dialect="$dialect" '
+        {
+            words = 0
+            count = split($2, parts, /[ \t]+/)
+            for (i = 1; i <= count; i++) if (parts[i] ~ /[A-Za-z0-9]/) words++
+            if (words > most) print $1 ": " words " words: " $2
+            if (tolower($2) ~ "(^|[^a-z])(" dialect ")([^a-z]|$)") print $1 ": dialect: " $2
+        }')
+    if [ -n "$found" ]; then
+        while IFS= read -r line; do complain "$1:$line"; done <<<"$found"
+    fi
+}
+
+# The anchors of a file's headings.
+anchors() {
+    sed -n 's/^#\{1,6\} *//p' "$1" | tr 'A-Z' 'a-z' | sed 's/[^a-z0-9 _-]//g; s/ /-/g'
+}
+
+# check_links FILE: each link leads somewhere, and each document that is named is there.
+check_links() {
+    local target place anchor name folder
+    folder=$(dirname "$1")
+    while IFS= read -r target; do
+        case $target in http:* | https:* | '') continue ;; esac
+        place=${target%%#*}
+        anchor=
+        if [ "$place" != "$target" ]; then anchor=${target#*#}; fi
+        if [ -z "$place" ]; then place=$1; else place=$folder/$place; fi
+        if [ ! -e "$place" ]; then
+            complain "$1: the link $target leads nowhere"
+        elif [ -n "$anchor" ] && ! anchors "$place" | grep -q -x -F -e "$anchor"; then
+            complain "$1: $target has no such heading"
+        fi
+    done < <(sed 's/`[^`]*`//g' "$1" | grep -o '](\([^)]*\))' | sed 's/^](//; s/)$//')
+    while IFS= read -r name; do
+        if [ ! -e "$folder/$name" ] && [ ! -e "$name" ]; then complain "$1: it names $name, which isn't there"; fi
+    done < <(grep -o '[A-Za-z0-9_/-]*\.md' "$1" | sort -u)
+}
+
+if [ $# -gt 0 ]; then
+    for file in "$@"; do check_words "$file"; done
+    exit "$wrong"
+fi
+
+bytes=$(wc -c <README.md)
+[ "$bytes" -le "$most_bytes" ] || complain "README.md has $bytes bytes"
+
+docs/tables | cmp -s - docs/ALL-DEFINITIONS.md ||
+    complain 'docs/ALL-DEFINITIONS.md is not what docs/tables makes: docs/tables > docs/ALL-DEFINITIONS.md'
+
+for file in README.md docs/*.md contrib/README.md; do
+    check_links "$file"
+    if [ "$file" != docs/ALL-DEFINITIONS.md ]; then check_words "$file"; fi
+done
+exit "$wrong"
