@@ -10,7 +10,7 @@ most_bytes=8192
 # What a reader of the field would stumble over; GLOSSARY.md has the field's words.
 dialect="is well|are well|ends well|ended well|end well|so many|hasn't (a|an|the|its|their|that|this)|haven't (a|an|the|their)"
 dialect="$dialect|has not the|just where|just so|just these|just as the|just this|want of memory|who (asks|reads|writes|removed|only|knows)"
-dialect="$dialect|is no WAL|is none of these calls|the same of (a|an|the|it)|it tells so|tells so|let go|lets go|is said of it|but for what"
+dialect="$dialect|comes behind|come behind|behind another|but by|take it away|taken away|is no WAL|is none of these calls|the same of (a|an|the|it)|it tells so|tells so|let go|lets go|is said of it|but for what"
 
 wrong=0
 complain() {
