@@ -1,7 +1,8 @@
 #!/usr/bin/env bash
-# The documents: README has at most 8 KiB; docs/ALL-DEFINITIONS.md is what docs/tables makes; each link leads to a file and a heading
-# that are there; no sentence has more than 40 words; and none has a word of the list below. A cell of a table, an item of a list and a
-# heading end a sentence; what stands in code counts as one word. documents.sh FILE..: the sentences of these files alone.
+# The documents: README has at most 8 KiB; docs/ALL-DEFINITIONS.md is what docs/tables makes; each crate, option and status has its row;
+# each link leads to a file and a heading that are there; no sentence has more than 40 words; and none has a word of the list below.
+# A cell of a table, an item of a list and a heading end a sentence; what stands in code counts as one word.
+# documents.sh FILE..: the sentences of these files alone.
 set -euo pipefail
 cd "$(dirname "$0")/.."
 most_words=40
@@ -110,6 +111,24 @@ bytes=$(wc -c <README.md)
 
 docs/tables | cmp -s - docs/ALL-DEFINITIONS.md ||
     complain 'docs/ALL-DEFINITIONS.md is not what docs/tables makes: docs/tables > docs/ALL-DEFINITIONS.md'
+
+# listed WHAT FILE PATTERN: the file has a row of a table in which this stands.
+listed() {
+    grep -q -e "^|.*$3" "$2" || complain "$2 has no row for $1"
+}
+
+# Each crate has a row of PROVED, each option one of MOVING, and each status that a crate below pgb_command has one of STATUS.
+for crate in $(sed -n 's/^\([a-z_]*\):.*/\1/p' crates.txt); do listed "the crate $crate" docs/PROVED.md "\`$crate\`"; done
+for option in $(sed -n 's/^row [A-Za-z0-9]* = [a-z_]* (codes "\([a-z0-9-]*\)").*/\1/p' crates/pgb_table/specs/Table.antt); do
+    # (one of a tool that isn't built)
+    if [ "$option" != number ]; then listed "the option $option" docs/MOVING.md "\`$option\`"; fi
+done
+below=$(sed -n 's/#.*//; s/^pgb_command://p' crates.txt)
+for crate in pgb_command $below; do
+    for status in $(cat "crates/$crate"/specs/*.antt 2>/dev/null | sed -n 's/^[a-z_]*status .* = \([0-9]*\)$/\1/p' | sort -u); do
+        grep -q "^| $status |" docs/STATUS.md || complain "docs/STATUS.md has no row for $status of $crate"
+    done
+done
 
 for file in README.md docs/*.md contrib/README.md; do
     check_links "$file"
