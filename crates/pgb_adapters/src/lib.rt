@@ -1,4 +1,11 @@
 //! The system's devices: its files, its output and its sockets, as the commands and a worker are handed them.
+//!
+//! What is proved, by the contract of the function that is named:
+//!
+//! - `RealDisk`, `RealTree`, `RealFiles`, `RealSource`, `RealInput`, `RealSink`, `RealLocks`, `RealClock` and
+//!   `RealWire` meet their traits: that Failed comes only where the count of faults rose, which path a name means, and
+//!   the like.
+//! - Nothing is proved about content, nor about the note of settled folders.
 #![tactic(auto)]
 
 mod clock;

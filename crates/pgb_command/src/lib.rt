@@ -1,4 +1,8 @@
 //! The commands, from words to a status.
+//!
+//! What is proved, by the contract of the function that is named:
+//!
+//! - `run`: the theorem, docs/THEOREM.md. `carry`: the same, once the arguments are settled.
 #![tactic(auto)]
 
 mod asking;

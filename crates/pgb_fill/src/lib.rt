@@ -1,4 +1,11 @@
 //! Files of a data folder are written as workers read them.
+//!
+//! What is proved, by the contract of the function that is named:
+//!
+//! - `FileKeeper` meets `Keep` over any data folder. What is held of a job is what the folder has of its file, under
+//!   the temporary name, and from the right end on under the file's own. No other path is touched. It counts a failure
+//!   only where the folder failed.
+//! - `into_files`, `is_wanted`: how each ended.
 #![tactic(auto)]
 
 mod files;

@@ -1,4 +1,11 @@
 //! archive-get: a file of the archive is served to the data folder.
+//!
+//! What is proved, by the contract of the function that is named:
+//!
+//! - `get_order`: the file and the path that the arguments name, or why they name none.
+//! - `get_file`: the data folder has the file at the path, or the archive doesn't have it, and this holds of all that a
+//!   crash leaves. Only that path and its temporary name change, and nothing where it is refused. Each refusal has its
+//!   cause, with its status and its message.
 #![tactic(auto)]
 
 mod archive_get;

@@ -1,4 +1,10 @@
 //! The two info files, `archive.info` and `backup.info`: their values, and the texts of these.
+//!
+//! What is proved, by the contract of the function that is named:
+//!
+//! - `ArchiveInfo` and `BackupInfo` meet `Info`: their sections are those of the definition.
+//! - Both meet `ReadInfo`: each is read from exactly its texts, and of another text the wrong line, the wrong checksum
+//!   or a wrong key is told.
 #![tactic(auto)]
 
 mod archive_current;

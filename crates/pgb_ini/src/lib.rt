@@ -1,4 +1,12 @@
 //! Info texts: sections of keys with JSON values, between a head and a checksum. Configurations: sections of keys with texts.
+//!
+//! What is proved, by the contract of the function that is named:
+//!
+//! - `write_info_text`: the bytes are the one text of the sections, with its checksum.
+//! - `read_info_text`: the sections are found exactly where the bytes are their one text. Else the first line with
+//!   which no info text goes on is told, or the wrong sum.
+//! - `read_config`: the settings of a configuration, each with its section and its line, or the first line that is
+//!   none.
 #![tactic(auto)]
 
 mod config;

@@ -1,4 +1,11 @@
 //! The keys of an info text's sections: the value at a key, the first key at which two sections differ, and the fault of a key.
+//!
+//! What is proved, by the contract of the function that is named:
+//!
+//! - `find`, `part_of`, `keys_at`, `is_key`: the value at a key, the section of a name, and that there is none.
+//! - `first_difference`: the first key at which two sections differ, and none where they are the same. `are_same`: two
+//!   values are the same exactly where their texts are.
+//! - `whole_at`, `number_at`, `version_at` and the rest: what stands at a key, of each form of number.
 #![tactic(auto)]
 
 mod at_key;

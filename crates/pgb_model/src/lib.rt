@@ -1,4 +1,6 @@
 //! The values that a repository's texts and names are of; beside them, in `specs`, what a repository is.
+//!
+//! No function: lemmas that the crates above use.
 #![tactic(auto)]
 
 mod clusters;

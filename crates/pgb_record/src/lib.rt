@@ -12,6 +12,20 @@
 //! The lemmas say what such a manifest is: each entry has its bytes (`Rows`), the manifest keeps its rules (`Rules`),
 //! what came of a plan keeps the bounds that this needs (`Coming`), and there is a backup of which it is the manifest
 //! (`Adding`), where the items lie in their places (`Recorded`).
+//!
+//! What is proved, by the contract of the function that is named:
+//!
+//! - `entries_of`: the files of the manifest, each by its choice and by how its item ended. `places_of`: how many bytes
+//!   lie before each item of a job. `names_of`: the name of each job, below the folder of the label.
+//! - `record_of`: of a head, a plan and what came, the manifest of these files and no others, and the list as it was
+//!   with this backup last. A further file stands in its place where there is one.
+//! - The labels that the backup refers to are the listed ones that its files refer to. Its sizes are the sums over all
+//!   its files and over those of its own. Both values keep the rules of their texts. It is refused where `PG_VERSION`
+//!   or the control file had vanished.
+//! - Lemmas: each entry with its bytes. The manifest keeps its rules, and is that of the backup wherever the items lie
+//!   in their places and the prior backup's manifest is the one that was read.
+//! - Lemmas: what `record_of` asks for follows from the plan and from what came, and the list is that of the repository
+//!   with the backup.
 #![tactic(auto)]
 
 mod beginning;

@@ -1,4 +1,9 @@
 //! The report on a stanza that the command info prints, as text and as JSON.
+//!
+//! What is proved, by the contract of the function that is named:
+//!
+//! - `report_text`, `report_json`: the text is that of the definition, by the values of the two info files and the
+//!   names of the archived files.
 #![tactic(auto)]
 
 mod as_json;

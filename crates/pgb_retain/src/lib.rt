@@ -7,6 +7,14 @@
 //!   file is kept (`specs/Needed`).
 //!
 //! Nothing is read and nothing is written here: all three go over values.
+//!
+//! What is proved, by the contract of the function that is named:
+//!
+//! - `expired`: the labels are exactly those that the definition condemns, by the rules, the moment and the list; of
+//!   the backups of a repository, those that the rules on full and differential backups name, and all that descend from
+//!   them.
+//! - `spans`, `keeps`: what is kept of a cluster's part of the archive, and whether one file is, are what the
+//!   definition says.
 #![tactic(auto)]
 
 mod condemned;

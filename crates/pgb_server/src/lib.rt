@@ -1,4 +1,10 @@
 //! The talk with a running PostgreSQL server over a connection: its start, queries of one row each, its end.
+//!
+//! What is proved, by the contract of the function that is named:
+//!
+//! - `open`, `ask_row`, `check_system`, `start_backup`, `stop_backup`: the answer that the pending bytes spell, however
+//!   the connection cuts them, or the first fault with its place; what was sent.
+//! - `close`: what was sent.
 #![tactic(auto)]
 
 mod calls;

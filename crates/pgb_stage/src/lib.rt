@@ -1,5 +1,13 @@
 //! What all commands share: how a call ends, which object failed, what a command's own part does, and texts of
 //! messages.
+//!
+//! What is proved, by the contract of the function that is named:
+//!
+//! - `stage_status`, `stage_message`, `object_status`, `object_message`: the status and the message of each, as
+//!   defined.
+//! - `read_front`: the first bytes of a known file.
+//! - Lemmas: behind stages that leave what the disk stands for, from one repository on or image by image, the whole
+//!   command does from any disk on what its own part does.
 #![tactic(auto)]
 
 mod fault;

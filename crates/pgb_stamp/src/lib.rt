@@ -1,4 +1,9 @@
 //! Labels of backups, and the times in them, as texts.
+//!
+//! What is proved, by the contract of the function that is named:
+//!
+//! - `label_text`, `read_label`, `label_time`: a label's name, the label of a name and of no other text, and when its
+//!   backup began.
 #![tactic(auto)]
 
 mod labels;

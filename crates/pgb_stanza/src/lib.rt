@@ -1,4 +1,12 @@
 //! A stanza: what its cluster is, and how it is made.
+//!
+//! What is proved, by the contract of the function that is named:
+//!
+//! - `read_control`: what 16 bytes and a version text tell, and each refusal.
+//! - `create`: the stanza is made, or as before, after every answer and every crash. It is new exactly where there was
+//!   none, and the same where there was one of this system identifier and version. Both members of both pairs then
+//!   agree.
+//! - Each refusal has its cause, and one for what was found changes nothing.
 #![tactic(auto)]
 
 mod control;

@@ -6,4 +6,7 @@
 //!   stanza.
 //! - `proofs/Kept` has the theorem: after each story the two disks keep the log of every stanza, and so does all that a stop
 //!   then leaves of them.
+//!
+//! No function: the theorem `headline`, of all stories, and lemmas: a call that keeps to its stanza keeps the logs of
+//! all others.
 #![tactic(auto)]

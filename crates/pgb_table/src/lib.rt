@@ -1,4 +1,11 @@
 //! The options, a row for each: which commands have it, where it may stand, what it takes, and its default.
+//!
+//! What is proved, by the contract of the function that is named:
+//!
+//! - `row_for`: the row of the definition.
+//! - `value_of`: the value that a text stands for, by the option's kind, or that it is none.
+//! - Each default is one of its option's values, no command has two options of one name, and each option stands in the
+//!   table.
 #![tactic(auto)]
 
 mod amount;

@@ -7,6 +7,11 @@
 //!
 //! The lemmas join them: what the command does in the log, however it ends (`proofs/Doings`), what is there at its end
 //! (`Takings`), why it is refused (`Causes`), and that its talk with the server is ended (`Talks`).
+//!
+//! What is proved, by the contract of the function that is named:
+//!
+//! - `prepare`, `gather`, `talk`, `end_backup`, `wait` and `conclude`: each with its causes and its frame.
+//! - Lemmas: parts that ended so make one command of the log, with the turns that others took.
 #![tactic(auto)]
 
 mod drafting;

@@ -1,4 +1,13 @@
 //! Names of write-ahead log, their order, and the header of a segment.
+//!
+//! What is proved, by the contract of the function that is named:
+//!
+//! - `read_segment`, `read_archive_name`, `read_seg_size`: the value of a name or a number, and of no other.
+//!   `segment_text`, `segment_folder`, `archive_name_text`: the name of a value.
+//! - `next`: the segment that follows this one and no other; none after the last. `compare`: the byte order of two
+//!   names. `read_lsn`: a position by its text in either case.
+//! - `check_header`: what a segment's first page tells, and each refusal. `check_front`: the same of all files that
+//!   begin with these bytes and have that many.
 #![tactic(auto)]
 
 mod archive_names;

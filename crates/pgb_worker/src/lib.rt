@@ -1,4 +1,13 @@
 //! A worker: it answers each job that it is sent by its reply.
+//!
+//! What is proved, by the contract of the function that is named:
+//!
+//! - `serve`: what a worker does from its setup to the end of its input. Where its objects tell their content, it
+//!   writes the reply of each job that the input has, in parts of 32,768 bytes, with lengths and digests.
+//! - It ends with Ok exactly where the input ends between two frames, and else tells the first fault of the input with
+//!   its place. Where the output failed, a first part of the replies was written.
+//! - A reply breaks off only at an item of whose root the count of faults rose in that job, or which couldn't be
+//!   opened.
 #![tactic(auto)]
 
 mod answering;

@@ -1,4 +1,10 @@
 //! Which worker has which job, which jobs wait, and which have ended.
+//!
+//! What is proved, by the contract of the function that is named:
+//!
+//! - `Core::new`, `give`, `hear`, `lose`: the four events, each by the definition. The lowest waiting job is given
+//!   first, and the job of a lost worker waits again.
+//! - `busy`, `job`, `is_idle`, `finished`: what stands there.
 #![tactic(auto)]
 
 ghost use Rattle.std.specs.Prelude.{false, ◌≡◌, ℕ, ◌^◌, ◌<◌, ◌≤◌, [], length, IfOk, IfSome, IfNone, IsTrue, ◌↔◌, if◌then◌else◌, slice_get, Some};

@@ -1,4 +1,8 @@
 //! What takes the bytes that workers read.
+//!
+//! No function. `Keep` says what its three calls leave: the bytes of an item in order, each part but the last of the
+//! full size; its end; a job begun anew. A relation of the keeper's own holds over each call. Each call asks that its
+//! device has what it counts on, and leaves it so at Ok.
 #![tactic(auto)]
 
 ghost use Rattle.std.specs.Prelude.{◌<◌, length, OnOk};
