@@ -5,3 +5,4 @@ mod Finishings
 mod Doings
 mod Takings
 mod Causes
+pub mod Statuses
