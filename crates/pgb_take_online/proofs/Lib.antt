@@ -4,5 +4,6 @@ mod Talks
 mod Finishings
 mod Doings
 mod Takings
+mod Besides
 mod Causes
 pub mod Statuses

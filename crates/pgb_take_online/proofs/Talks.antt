@@ -6,7 +6,7 @@ use Rattle.pgb_outside.specs.Links.{LinkState}
 use Rattle.pgb_outside.specs.Tree.{Nodes}
 use Rattle.pgb_model.specs.Text.{Text}
 use Rattle.pgb_model.specs.Values.{BackupInfo}
-use Rattle.std.specs.Prelude.{◌≤◌, IfOk, OnErr, Result, Ok, Err, string_bytes}
+use Rattle.std.specs.Prelude.{◌≤◌, IfOk, IfErr, OnOk, OnErr, Result, Ok, Err, string_bytes}
 use Rattle.pgb_backup.specs.declared.online.Online as rust_online
 use Rattle.pgb_backup.specs.Online.{online_of}
 use Rattle.pgb_online.specs.declared.begun.Begun.{Begun}
@@ -143,6 +143,15 @@ module _ (stanza : Text) (nodes : Option Nodes) (list : BackupInfo) (links : Lis
 pub on_err : {T E : Type 0} (P : Type 0) (result : Result T E) → P → OnErr result P
 on_err P (Ok x) p = tt
 on_err P (Err e) p = p
+
+pub on_ok : {T E : Type 0} (P : Type 0) (result : Result T E) → P → OnOk result P
+on_ok P (Ok x) p = p
+on_ok P (Err e) p = tt
+
+-- a talk that went well is ended, however the backup then ends
+pub ended_before : {T : Type 0} (result : Result T (Halt OnlineTakeFault)) (same rose : Type 0) (front : List ℕ) (old new : Option (List ℕ)) → new ≡ option_map (λ (s : List ℕ). s ++ (front ++ stopping)) old → IfErr result (λ h. same ⊎ EndsTalk rose new h)
+ended_before (Ok x) same rose front old new is = tt
+ended_before (Err h) same rose front old new is = inr (λ other. stop_ends front old new rose is)
 
 pub stops_with : (result : Result rust_online.Online (Halt OnlineTakeFault)) (begun : Begun) (old new : Option (List ℕ)) (f : Finished) → StartsAt begun.size begun.from begun.segment f.wal → TellsStop begun old new (finished_stop f)
     → IfOk result (λ o. o.wal ≡ f.wal) → IfOk result (λ o. string_bytes o.label_file ≡ string_bytes f.label_file) → IfOk result (λ o. StopsWith begun old new (online_of o))
