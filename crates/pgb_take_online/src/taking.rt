@@ -1,10 +1,9 @@
 // backup of a running server.
-ghost use Rattle.std.specs.Prelude.{◌≡◌, ◌∷◌, ◌++◌, ◌⊎◌, [], ◌≤◌, ◌<◌, ◌^◌, ℕ, Some, map, take, vec_len, slice_get, option_map, IfOk, IfErr, IfSome, OnOk};
+ghost use Rattle.std.specs.Prelude.{◌≡◌, ◌∷◌, ◌++◌, ◌⊎◌, [], ◌≤◌, ◌<◌, ◌^◌, ℕ, map, take, vec_len, option_map, IfOk, IfErr, IfSome, OnOk};
 ghost use Rattle.pgb_outside.specs.Cause.{Rises};
-ghost use Rattle.pgb_outside.specs.Links.{LinkState};
 ghost use Rattle.pgb_outside.specs.States.{Frame, LooksAt};
 ghost use Rattle.pgb_story.specs.Beside.{StaysBeside};
-ghost use Rattle.pgb_worker_dispatch.specs.Run.{IsReady};
+ghost use Rattle.pgb_worker_dispatch.specs.Run.{AreReady};
 ghost use Rattle.pgb_online.specs.Telling.{starting, stopping};
 ghost use Rattle.pgb_await.specs.Went.{Counts};
 ghost use Rattle.pgb_stage.specs.Halts.{HaltCause};
@@ -63,7 +62,7 @@ pub fn take_online<
 ) -> Result<Outcome, Halt<OnlineTakeFault>>
     requires locked { (K.state _locks.now).taken ≡ backup_lock stanza.now ∷ [] }
     requires few { vec_len links.old < 2 ^ 32 }
-    requires ready { (i : ℕ) (s : LinkState) → slice_get (map L.link_state links.old.items) i ≡ Some s → IsReady s }
+    requires ready { AreReady (map L.link_state links.old.items) }
     requires archive { IsArchiveOf stanza.now (D.state repo.old).view.now archive.now }
     requires backup { IsBackupOf stanza.now (D.state repo.old).view.now backup }
 

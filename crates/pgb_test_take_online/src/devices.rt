@@ -1,10 +1,9 @@
 // A stanza, the data folder of a running server with one worker, and a backup of it.
-ghost use Rattle.std.specs.Prelude.{◌≡◌, ◌<◌, ◌^◌, ℕ, Some, IfOk, map, slice_get, vec_len};
-ghost use Rattle.pgb_outside.specs.Links.{LinkState};
+ghost use Rattle.std.specs.Prelude.{◌≡◌, ◌<◌, ◌^◌, IfOk, map, vec_len};
 ghost use Rattle.pgb_prepare.specs.Readies.{IsArchiveOf, IsBackupOf};
 ghost use Rattle.pgb_stage.specs.declared.plan.Pairs.TheVariants.{ReadBoth};
 ghost use Rattle.pgb_stage.specs.Plans.{AreHeld};
-ghost use Rattle.pgb_worker_dispatch.specs.Run.{IsReady};
+ghost use Rattle.pgb_worker_dispatch.specs.Run.{AreReady};
 
 use crate::others::Storing;
 use crate::serving::answers;
@@ -153,8 +152,7 @@ fn nodes(alloc: Global) -> Result<Vec<(String, MemNode)>, AllocError> {
 // A link to one worker that reads the data folder, whose calls with these numbers fail.
 fn link(alloc: Global, fail: Vec<u64>) -> Result<Vec<MemLink>, AllocError>
     ensures few { IfOk result (λ links. vec_len links < 2 ^ 32) }
-    ensures ready { IfOk result (λ links. (i : ℕ) (s : LinkState)
-        → slice_get (map ⟦<MemLink as Link>⟧.link_state links.items) i ≡ Some s → IsReady s) }
+    ensures ready { IfOk result (λ links. AreReady (map ⟦<MemLink as Link>⟧.link_state links.items)) }
 {
     let mut links = Vec::new(alloc);
     let tree = named_bytes(alloc, FILES)?;
