@@ -1,5 +1,5 @@
 -- What a running server's backup does, as a command of the log.
-use Rattle.std.proofs.Common.{◌≡◌, ◌≤◌, ℕ, List, [], Bool, true, false, Option, Some, None, refl, sym, ◌∙◌, ap, subst, arith}
+use Rattle.std.proofs.Common.{◌≡◌, List, [], Bool, true, false, Option, Some, None, refl, sym, ◌∙◌, ap, subst}
 use Rattle.std.proofs.lemmas.List.{append-nil}
 use Rattle.std.specs.Prelude.{IfSome, IsErrAnd, Result, Ok, Err}
 use Rattle.pgb_outside.specs.Content.{Content}
@@ -31,7 +31,7 @@ use Rattle.pgb_label.specs.declared.keeper.Ended.{Ended}
 use Rattle.pgb_stored.specs.Stored.{ChangesArchive}
 use Rattle.pgb_turn.specs.Turns.{Account}
 use Rattle.pgb_await.specs.Stored.{HoldsPart}
-use Rattle.pgb_await.specs.Went.{Counts, Went, turns_of, all_ended}
+use Rattle.pgb_await.specs.Went.{Went, turns_of, all_ended}
 use Rattle.pgb_stage.specs.declared.halt.Halt.{Halt}
 use Rattle.pgb_stage.specs.declared.halt.Halt.TheVariants.{Refused, Failed, NoMemory}
 use Rattle.pgb_stage.specs.declared.outcome.Outcome.{Outcome}
@@ -124,9 +124,6 @@ begins_running stanza archive backup old mid same is_archive is_backup nodes lis
 }
 
 -- ---- without turns
-
-pub no_turns : (most turns : ℕ) → (n : ℕ) × (n ≤ most) × Counts n turns turns
-no_turns most turns = (0, omega arith, record { none = λ none. refl; some = λ some. absurd (omega (arith, some)) })
 
 module _ (stanza : Text) (used : List LinkState) (heard : Heard) (reached : Reached) (old_account account : Option Account) (same : account ≡ old_account) (a d : View) where
   pub without_turns : (label : Option Text) → IsLabelTold heard.system heard.pending heard.left label → (command : Command) × IsOnlineBackup used [] label command × Does Whole stanza command reached a d → DoesOnline stanza used heard reached old_account account a d
