@@ -1,23 +1,11 @@
 -- What the status of a refusal tells of it.
 use Rattle.std.proofs.Common.{◌⊎◌, ◌≤◌, ℕ, arith, inl, inr, List, Option}
-use Rattle.pgb_server.specs.declared.fault.ServerFault.{ServerFault}
-use Rattle.pgb_server.specs.declared.fault.ServerFault.TheVariants as server
+use Rattle.pgb_server_texts.proofs.Statuses.{server_over}
 use Rattle.pgb_stage.specs.declared.halt.Halt.TheVariants.{Refused}
 use Rattle.pgb_create.specs.declared.fault.CreateFault.{CreateFault}
 use Rattle.pgb_create.specs.declared.fault.CreateFault.TheVariants as faults
 use Rattle.pgb_create.specs.Talking.{Ended, Closes, IsServerRefusal}
-use Rattle.pgb_create.specs.Texts.{server_status, create_status}
-
-server_over : (fault : ServerFault) → 2 ≤ server_status fault
-server_over (server.SystemMismatch kept found) = omega arith
-server_over (server.ServerSaid code text) = omega arith
-server_over (server.AuthUnsupported code) = omega arith
-server_over (server.ServerForm at) = omega arith
-server_over (server.ServerEnded at) = omega arith
-server_over (server.TooLong length) = omega arith
-server_over (server.TooMany limit) = omega arith
-server_over server.Wire = omega arith
-server_over server.NoMemory = omega arith
+use Rattle.pgb_create.specs.Texts.{create_status}
 
 -- no refusal has the status of a command that ended well
 pub create_over : (fault : CreateFault) → 2 ≤ create_status fault

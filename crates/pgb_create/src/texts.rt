@@ -1,68 +1,12 @@
 // The status and the message of each refusal.
-ghost use Rattle.std.specs.Prelude.{◌≡◌, ◌++◌, codes, IfOk};
-ghost use Rattle.pgb_stage.specs.Texts.{shown};
-ghost use Rattle.pgb_create.specs.Texts.{server_status, server_message, create_status, create_message};
+ghost use Rattle.std.specs.Prelude.{◌≡◌, IfOk};
+ghost use Rattle.pgb_create.specs.Texts.{create_status, create_message};
 
 use crate::fault::CreateFault;
-use pgb_server::ServerFault;
-use pgb_stage::{bytes_of, damaged_text, mismatch_text, push_shown, quoted};
+use pgb_server_texts::{server_message, server_status};
+use pgb_stage::{bytes_of, damaged_text, mismatch_text};
 use pgb_text::NoMemory;
 use std::alloc::Global;
-
-// The status of a server's answer that is refused.
-fn server_status(fault: &ServerFault) -> u8
-    ensures { result ≡ server_status fault.now }
-{
-    match fault {
-        ServerFault::SystemMismatch { .. } => 47,
-        ServerFault::ServerSaid { .. } => 48,
-        ServerFault::AuthUnsupported { .. } => 49,
-        ServerFault::ServerForm { .. } => 50,
-        ServerFault::ServerEnded { .. } => 51,
-        ServerFault::TooLong { .. } => 70,
-        ServerFault::TooMany { .. } => 71,
-        ServerFault::Wire => 83,
-        ServerFault::NoMemory => 90,
-    }
-}
-
-// The message of a server's own error.
-fn said_text(alloc: Global, code: &str, text: &str) -> Result<Vec<u8>, NoMemory>
-    ensures { IfOk result (λ line. line.items
-        ≡ codes "server: [" ++ (shown code.now ++ (codes "] " ++ shown text.now))) }
-{
-    let mut line = quoted(alloc, "server: [", code, "] ")?;
-    push_shown(&mut line, text)?;
-    Ok(line)
-}
-
-// The message of a server's answer that is refused.
-fn server_message(alloc: Global, fault: &ServerFault) -> Result<Vec<u8>, NoMemory>
-    ensures { IfOk result (λ line. line.items ≡ server_message fault.now) }
-{
-    match fault {
-        ServerFault::SystemMismatch { kept, found } => bytes_of(format!(in alloc;
-            "control file has system {kept}, server has system {found}"
-        )),
-        ServerFault::ServerSaid { code, text } => said_text(alloc, code, text),
-        ServerFault::AuthUnsupported { code } => bytes_of(format!(in alloc;
-            "authentication {code} is not supported"
-        )),
-        ServerFault::ServerForm { at } => bytes_of(format!(in alloc;
-            "server byte {at} is not valid"
-        )),
-        ServerFault::ServerEnded { at } => bytes_of(format!(in alloc;
-            "server ended after {at} bytes"
-        )),
-        ServerFault::TooLong { .. } => bytes_of(String::from_str(
-            alloc,
-            "'server' is longer than 16777216",
-        )),
-        ServerFault::TooMany { limit } => bytes_of(format!(in alloc; "more than {limit}")),
-        ServerFault::Wire => bytes_of(String::from_str(alloc, "server connection failed")),
-        ServerFault::NoMemory => bytes_of(String::from_str(alloc, "out of memory")),
-    }
-}
 
 /// The status of a refusal.
 pub fn create_status(fault: &CreateFault) -> u8

@@ -4,5 +4,7 @@ mod Talks
 mod Finishings
 mod Doings
 mod Takings
+mod Besides
 mod Causes
 pub mod Spools
+pub mod Statuses

@@ -6,7 +6,7 @@ use Rattle.pgb_outside.specs.Links.{LinkState}
 use Rattle.pgb_outside.specs.Tree.{Nodes}
 use Rattle.pgb_model.specs.Text.{Text}
 use Rattle.pgb_model.specs.Values.{BackupInfo}
-use Rattle.std.specs.Prelude.{◌≤◌, IfOk, OnErr, Result, Ok, Err, string_bytes}
+use Rattle.std.specs.Prelude.{◌≤◌, IfOk, IfErr, OnErr, Result, Ok, Err, string_bytes}
 use Rattle.pgb_backup.specs.declared.online.Online as rust_online
 use Rattle.pgb_backup.specs.Online.{online_of}
 use Rattle.pgb_online.specs.declared.begun.Begun.{Begun}
@@ -49,17 +49,9 @@ pub sends_end : (before now : ℕ) (old new : Option (List ℕ)) → Sends befor
 sends_end before now old new sends = ended_or [] old new (Rises before now) sends
 
 -- what ends with a stop is ended
-pub stop_ends : (front : List ℕ) (old new : Option (List ℕ)) (rose : Type 0) → new ≡ option_map (λ (s : List ℕ). s ++ (front ++ stopping)) old → Ended new ⊎ rose
-stop_ends front old new rose is = ended_or (front ++ query_of stop_query) old new rose
-    (inl (is ∙ ap (λ (l : List ℕ). option_map (λ (s : List ℕ). s ++ l) old) (sym (append_assoc front (query_of stop_query) closing))))
-
--- what was sent at first, and then at the stop
-pub sends_both : (first : List ℕ) (old mid new : Option (List ℕ)) → mid ≡ option_map (λ (s : List ℕ). s ++ first) old → new ≡ option_map (λ (s : List ℕ). s ++ stopping) mid → new ≡ option_map (λ (s : List ℕ). s ++ (first ++ stopping)) old
-sends_both first old mid new a b = b ∙ ap (λ (o : Option (List ℕ)). option_map (λ (s : List ℕ). s ++ stopping) o) a ∙ by old
-  where
-    by : (o : Option (List ℕ)) → option_map (λ (s : List ℕ). s ++ stopping) (option_map (λ (s : List ℕ). s ++ first) o) ≡ option_map (λ (s : List ℕ). s ++ (first ++ stopping)) o
-    by None = refl
-    by (Some s) = ap (λ (l : List ℕ). Some l) (append_assoc s first stopping)
+pub stop_ends : (front : List ℕ) (old new : Option (List ℕ)) → new ≡ option_map (λ (s : List ℕ). s ++ front ++ stopping) old → Ended new
+stop_ends front None new is = subst Ended (sym is) tt
+stop_ends front (Some s) new is = subst Ended (sym is) (s ++ front ++ query_of stop_query, sym (append_assoc (s ++ front) (query_of stop_query) closing))
 
 -- ---- why it ends
 
@@ -143,6 +135,11 @@ module _ (stanza : Text) (nodes : Option Nodes) (list : BackupInfo) (links : Lis
 pub on_err : {T E : Type 0} (P : Type 0) (result : Result T E) → P → OnErr result P
 on_err P (Ok x) p = tt
 on_err P (Err e) p = p
+
+-- a talk that went well is ended, however the backup then ends
+pub ended_before : {T : Type 0} (result : Result T (Halt OnlineTakeFault)) (same rose : Type 0) (front : List ℕ) (old new : Option (List ℕ)) → new ≡ option_map (λ (s : List ℕ). s ++ front ++ stopping) old → IfErr result (λ h. same ⊎ EndsTalk rose new h)
+ended_before (Ok x) same rose front old new is = tt
+ended_before (Err h) same rose front old new is = inr (λ other. inl (stop_ends front old new is))
 
 pub stops_with : (result : Result rust_online.Online (Halt OnlineTakeFault)) (begun : Begun) (old new : Option (List ℕ)) (f : Finished) → StartsAt begun.size begun.from begun.segment f.wal → TellsStop begun old new (finished_stop f)
     → IfOk result (λ o. o.wal ≡ f.wal) → IfOk result (λ o. string_bytes o.label_file ≡ string_bytes f.label_file) → IfOk result (λ o. StopsWith begun old new (online_of o))

@@ -1,4 +1,4 @@
-//! The parts of `backup` of a running server, each with its causes; the call that joins them isn't there yet.
+//! `backup` of a running server.
 //!
 //! The stanza's list is settled, the workers are told their folders, and a label is named (`prepare`). Then the server is
 //! told to start its backup, the data folder is listed and read (`gather`), and the server is told to stop; its talk is
@@ -20,7 +20,11 @@ mod finishing;
 mod gathering;
 mod order;
 mod preparing;
+mod taking;
 mod talking;
+mod texts;
 
 pub use fault::OnlineTakeFault;
 pub use order::OnlineOrder;
+pub use taking::take_online;
+pub use texts::{online_take_message, online_take_status};

@@ -1,0 +1,238 @@
+// Backups of a running server.
+
+use crate::devices::{Case, Device, LABEL_FILE, reopened, stanza, taken};
+use crate::same::{same, well};
+use pgb_manifest::load_manifest;
+use pgb_model::{BackupInfo, Label};
+use pgb_pair::load_pair;
+use std::alloc::{AllocError, Global};
+use std::process::Abort;
+
+const SYSTEM: &str = "6917529027641081857";
+
+const THIRD: &str =
+    "archive/demo/15-1/0000000100000000/000000010000000000000003-a9993e364706816aba3e25717850c26c9cd0d89d";
+
+const FOURTH: &str =
+    "archive/demo/15-1/0000000100000000/000000010000000000000004-a9993e364706816aba3e25717850c26c9cd0d89d";
+
+// 2024-01-02 03:04:05, a backup from the second segment to the third, which others push in their second turn.
+const FIRST: Case = Case {
+    second: 1704164645,
+    system: SYSTEM,
+    start: &["0/200028", "000000010000000000000002"],
+    stop: &["0/300100", "000000010000000000000003", LABEL_FILE, ""],
+    segment: THIRD,
+    turn: 2,
+    failing: None,
+};
+
+const IN_FOURTH: &[&str] = &["0/400100", "000000010000000000000004", LABEL_FILE, ""];
+
+// 100 seconds later, and within the fourth.
+const SECOND: Case = Case {
+    second: 1704164745,
+    system: SYSTEM,
+    start: &["0/400028", "000000010000000000000004"],
+    stop: IN_FOURTH,
+    segment: FOURTH,
+    turn: 2,
+    failing: None,
+};
+
+// What is told of the backup that is named by this second: its files with their times, and its part of the log.
+fn told_of(alloc: Global, names: &[(String, Vec<u8>)], second: u64) -> Result<String, AllocError> {
+    let mut disk = reopened(alloc, names, Vec::new(alloc))?;
+    let label = Label {
+        full: second,
+        later: None,
+    };
+    let manifest = match load_manifest(alloc, &mut disk, "demo", &label) {
+        Ok(manifest) => manifest,
+        Err(fault) => return format!(in alloc; "{fault:?}"),
+    };
+    let mut text = String::new(alloc);
+    for file in &manifest.files {
+        let path = file.path.as_str();
+        write!(text, "{path} {} at {}; ", file.size, file.time)?;
+    }
+    if let Some(part) = manifest.wal {
+        let span = part.span;
+        write!(text, "from {} to {}", span.start.seg, span.stop.seg)?;
+    }
+    Ok(text)
+}
+
+const FROM_SECOND_TO_THIRD: &str =
+    "PG_VERSION 3 at 7; backup_label 29 at 1704164654; base/1/112 5 at 7; global/pg_control 4 at 7; from 2 to 3";
+
+const WITHIN_FOURTH: &str =
+    "PG_VERSION 3 at 7; backup_label 29 at 1704164754; base/1/112 5 at 7; global/pg_control 4 at 7; from 4 to 4";
+
+// The backups that the repository lists.
+fn listed(alloc: Global, names: &[(String, Vec<u8>)]) -> Result<String, AllocError> {
+    let mut disk = reopened(alloc, names, Vec::new(alloc))?;
+    let list: BackupInfo = match load_pair(alloc, &mut disk, "backup/demo/backup.info") {
+        Ok(list) => list,
+        Err(fault) => return format!(in alloc; "{fault:?}"),
+    };
+    let mut text = String::new(alloc);
+    for entry in &list.backups {
+        let full = entry.label.full;
+        write!(text, "{full} of {} bytes. ", entry.size)?;
+    }
+    Ok(text)
+}
+
+const LISTED: &str = "1704164645 of 41 bytes. ";
+
+const LISTED_BOTH: &str = "1704164645 of 41 bytes. 1704164745 of 41 bytes. ";
+
+// What the folder of the first backup holds.
+fn stored(alloc: Global, names: &[(String, Vec<u8>)]) -> Result<String, AllocError> {
+    let mut text = String::new(alloc);
+    for (name, bytes) in names {
+        if let Some(path) = name.strip_prefix("backup/demo/20240102-030405F/") {
+            if path.starts_with("pg_data/") {
+                let bytes = str::from_utf8(bytes).unwrap_or("no UTF-8");
+                write!(text, "{path}: {bytes}; ")?;
+            } else {
+                write!(text, "{path}; ")?;
+            }
+        }
+    }
+    Ok(text)
+}
+
+const STORED: &str =
+    "backup.manifest; backup.manifest.copy; pg_data/PG_VERSION: 15\n; pg_data/backup_label: START WAL LOCATION: 0/200028\n; pg_data/base/1/112: hello; pg_data/global/pg_control: head; ";
+
+// The first backup stays as it was made.
+fn check_first(rt: &impl Abort, alloc: Global, names: &[(String, Vec<u8>)]) {
+    same(rt, well(rt, stored(alloc, names)).as_str(), STORED);
+    let told = well(rt, told_of(alloc, names, FIRST.second));
+    same(rt, told.as_str(), FROM_SECOND_TO_THIRD);
+}
+
+#[test]
+fn ended_well(rt: HostRuntime) {
+    let alloc = rt.alloc();
+    let empty = well(&rt, stanza(alloc));
+    let (told, names) = well(&rt, taken(alloc, &empty, &FIRST));
+    same(
+        &rt,
+        told.as_str(),
+        "INFO: new backup label = 20240102-030405F\n",
+    );
+    same(&rt, well(&rt, listed(alloc, &names)).as_str(), LISTED);
+    check_first(&rt, alloc, &names);
+}
+
+// The system and the stop that the server tells, the turn in which the segment comes, and what is told.
+const ENDINGS: &[(&str, &[&str], u64, &str)] = &[
+    (
+        SYSTEM,
+        IN_FOURTH,
+        4,
+        "42 segment 000000010000000000000004 not archived after 3 turns",
+    ),
+    (
+        SYSTEM,
+        &[
+            "0/400100",
+            "000000010000000000000004",
+            LABEL_FILE,
+            "16400 /mnt\n",
+        ],
+        2,
+        "43 tablespaces are not supported",
+    ),
+    (
+        SYSTEM,
+        &["0/100100", "000000010000000000000001", LABEL_FILE, ""],
+        2,
+        "46 WAL from 000000010000000000000004 to 000000010000000000000001",
+    ),
+    (
+        "7",
+        IN_FOURTH,
+        2,
+        "47 control file has system 6917529027641081857, server has system 7",
+    ),
+];
+
+#[test]
+fn refused(rt: HostRuntime) {
+    let alloc = rt.alloc();
+    let empty = well(&rt, stanza(alloc));
+    let (_, first) = well(&rt, taken(alloc, &empty, &FIRST));
+    for &(system, stop, turn, want) in ENDINGS {
+        let case = Case {
+            system,
+            stop,
+            turn,
+            ..SECOND
+        };
+        let (told, names) = well(&rt, taken(alloc, &first, &case));
+        same(&rt, told.as_str(), want);
+        same(&rt, well(&rt, listed(alloc, &names)).as_str(), LISTED);
+        check_first(&rt, alloc, &names);
+    }
+}
+
+// How a backup ends at each failing call of a device.
+const CAUSES: &[(Device, &str)] = &[
+    (Device::Repo, "Failed(Repo)"),
+    (Device::Spool, "Failed(Spool)"),
+    (Device::DataFolder, "Failed(DataFolder)"),
+    (Device::Server, "Failed(Server)"),
+    (Device::Clock, "Failed(Clock)"),
+    (Device::Worker, "55 1 workers lost"),
+];
+
+// After a backup behind the first, that one is listed, and the other at most, whole.
+fn check_both(rt: &impl Abort, alloc: Global, names: &[(String, Vec<u8>)]) -> bool {
+    check_first(rt, alloc, names);
+    let list = well(rt, listed(alloc, names));
+    if list.as_str() == LISTED {
+        return false;
+    }
+    same(rt, list.as_str(), LISTED_BOTH);
+    let told = well(rt, told_of(alloc, names, SECOND.second));
+    same(rt, told.as_str(), WITHIN_FOURTH);
+    true
+}
+
+// Each call of this device fails in turn, until a backup ends well.
+fn check_device(
+    rt: &impl Abort,
+    alloc: Global,
+    first: &[(String, Vec<u8>)],
+    device: Device,
+    want: &str,
+) {
+    for call in 0u64..200 {
+        let case = Case {
+            failing: Some((device, call)),
+            ..SECOND
+        };
+        let (told, names) = well(rt, taken(alloc, first, &case));
+        let both = check_both(rt, alloc, &names);
+        if told.as_str() == "INFO: new backup label = 20240102-030545F\n" {
+            same(rt, (both, call > 0), (true, true));
+            return;
+        }
+        same(rt, told.as_str(), want);
+    }
+    panic!(rt; "no backup is made without a fault");
+}
+
+#[test]
+fn each_call_fails(rt: HostRuntime) {
+    let alloc = rt.alloc();
+    let empty = well(&rt, stanza(alloc));
+    let (_, first) = well(&rt, taken(alloc, &empty, &FIRST));
+    for &(device, want) in CAUSES {
+        check_device(&rt, alloc, &first, device, want);
+    }
+}
