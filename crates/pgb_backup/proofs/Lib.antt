@@ -19,4 +19,3 @@ pub mod Labels
 pub mod Far
 pub mod Offline
 pub mod Mixing
-pub mod Alikes

@@ -1,29 +1,22 @@
--- An expiry behind other moves, as behind a backup.
-use Rattle.std.proofs.Common.{◌≡◌, inr, List, [], ◌∷◌, ◌++◌, Some, refl, ap, ◌∙◌, sym, subst, append_assoc}
-use Rattle.std.specs.List.{flat_map}
+-- An expiry behind other moves, as behind a backup, and behind calls that only read.
+use Rattle.std.proofs.Common.{◌≡◌, ℕ, List, ◌++◌, Option, Some, ap, ◌∙◌, sym, subst}
+use Rattle.std.specs.Prelude.{IfOk, IsSome, Result}
 use Rattle.pgb_outside.specs.Content.{Content}
-use Rattle.pgb_outside.specs.Moments.{View}
+use Rattle.pgb_outside.specs.Moments.{View, Rests}
+use Rattle.pgb_disk.specs.Store.{ChangesOnly}
+use Rattle.pgb_disk.proofs.Changes.{only_on, only_rests}
+use Rattle.pgb_model.specs.Now.{NowStands}
 use Rattle.pgb_model.specs.Text.{Text}
 use Rattle.pgb_model.specs.Repository.{Stanza, Repository}
 use Rattle.pgb_model.specs.Stands.{Stands}
-use Rattle.pgb_model.specs.Steps.{Step, Move, One, Any, Retention, IsPartOf, step, after, all_of, expiry_moves}
+use Rattle.pgb_model.specs.Steps.{Step, Move, Retention, IsPartOf, after, all_of, expiry_moves}
 use Rattle.pgb_model.specs.Steady.{IsSteady}
-use Rattle.pgb_expire.specs.Expiry.{IsPartOfExpiry}
-
--- all of the first moves, and a part of those behind
-pub part_behind : (front back : List Move) (done : List Step) → IsPartOf done back → IsPartOf (all_of front ++ done) (front ++ back)
-part_behind [] back done p = p
-part_behind (One t ∷ front) back done p = inr (all_of front ++ done, refl, part_behind front back done p)
-part_behind (Any groups ∷ front) back done p = inr (all_of front ++ done, append_assoc (flat_map (λ (g : List Step). g) groups) (all_of front) done, part_behind front back done p)
-
-pub all_behind : (front back : List Move) → all_of (front ++ back) ≡ all_of front ++ all_of back
-all_behind [] back = refl
-all_behind (One t ∷ front) back = ap (λ (ts : List Step). t ∷ ts) (all_behind front back)
-all_behind (Any groups ∷ front) back = ap (λ (ts : List Step). flat_map (λ (g : List Step). g) groups ++ ts) (all_behind front back) ∙ sym (append_assoc (flat_map (λ (g : List Step). g) groups) (all_of front) (all_of back))
-
-pub after_behind : (r : Repository) (xs ys : List Step) → after r (xs ++ ys) ≡ after (after r xs) ys
-after_behind r [] ys = refl
-after_behind r (x ∷ xs) ys = after_behind (step r x) xs ys
+use Rattle.pgb_model.proofs.Waited.{all_behind, part_behind, after_behind}
+use Rattle.pgb_retain.specs.declared.rules.Rules.{Rules}
+use Rattle.pgb_retain.specs.Condemned.{condemned_labels}
+use Rattle.pgb_expire.specs.declared.expiring.Expired.{Expired}
+use Rattle.pgb_expire.specs.Expiry.{IsPartOfExpiry, IsTouched, listed}
+use Rattle.pgb_expire.specs.Removed.{CountsGone}
 
 -- a part of an expiry behind moves that are done
 module _ (stanza : Text) (k : Retention) (s made : Stanza) (front : List Move) (is : after (Some s) (all_of front) ≡ Some made) where
@@ -37,3 +30,18 @@ module _ (stanza : Text) (k : Retention) (s made : Stanza) (front : List Move) (
   -- and all of it
   pub whole_behind : (d : View) → IsSteady stanza (after (Some made) (all_of (expiry_moves k made))) d → IsSteady stanza (after (Some s) (all_of (front ++ expiry_moves k made))) d
   whole_behind d steady = subst (λ (r : Repository). IsSteady stanza r d) (sym (ap (after (Some s)) (all_behind front (expiry_moves k made)) ∙ after_behind (Some s) (all_of front) (all_of (expiry_moves k made)) ∙ ap (λ (r : Repository). after r (all_of (expiry_moves k made))) is)) steady
+
+-- ---- behind calls that only read
+
+module _ (stanza : Text) (rules : Rules) (moment : ℕ) (old mid : Option Content) (same : mid ≡ old) where
+  pub labels_behind : {E : Type 0} (result : Result Expired E) → IfOk result (λ e. (s : Stanza) → IsSome mid → NowStands stanza (Some s) mid → e.labels.items ≡ condemned_labels rules moment (listed s))
+      → IfOk result (λ e. (s : Stanza) → IsSome old → NowStands stanza (Some s) old → e.labels.items ≡ condemned_labels rules moment (listed s))
+  labels_behind {E} result h = subst (λ (o : Option Content). IfOk result (λ e. (s : Stanza) → IsSome o → NowStands stanza (Some s) o → e.labels.items ≡ condemned_labels rules moment (listed s))) same h
+
+pub removed_behind : (stanza : Text) (old mid new : Option Content) → mid ≡ old → {E : Type 0} (result : Result Expired E) → IfOk result (λ e. CountsGone stanza e.removed mid new) → IfOk result (λ e. CountsGone stanza e.removed old new)
+removed_behind stanza old mid new same result h = subst (λ (o : Option Content). IfOk result (λ e. CountsGone stanza e.removed o new)) same h
+
+pub touched_behind : (stanza : Text) (rules : Rules) (moment : ℕ) (s : Stanza) (a b d : View) → Rests a b → b.now ≡ a.now → IsSome a.now → NowStands stanza (Some s) a.now
+    → ((s : Stanza) → IsSome b.now → NowStands stanza (Some s) b.now → ChangesOnly (IsTouched stanza rules moment s) b d) → ChangesOnly (IsTouched stanza rules moment s) a d
+touched_behind stanza rules moment s a b d rests same told now h = only_on (IsTouched stanza rules moment s) a b d (only_rests (IsTouched stanza rules moment s) a b rests same)
+    (h s (subst (λ (o : Option Content). IsSome o) (sym same) told) (subst (λ (o : Option Content). NowStands stanza (Some s) o) (sym same) now))

@@ -1,5 +1,4 @@
 pub mod Proper
-pub mod OneValue
 pub mod Leaving
 pub mod CondemnedStands
 pub mod Losses
@@ -11,7 +10,6 @@ pub mod Within
 pub mod Sound
 pub mod Needs
 pub mod RetentionHolds
-pub mod Lengths
 pub mod Shorter
 pub mod Ways
 pub mod WaysNow
@@ -25,6 +23,7 @@ pub mod Emptied
 pub mod Remaining
 pub mod Carried
 pub mod Gone
+pub mod Alike
 pub mod Touched
 pub mod Whole
 pub mod Behind

@@ -1,5 +1,5 @@
 -- What is read, and what is left of it.
-use Rattle.std.proofs.Common.{◌≡◌, inl, inr, ℕ, Bool, true, false, List, [], ◌∷◌, cond, Option, refl, ap, ap₂, ◌∙◌, sym, subst}
+use Rattle.std.proofs.Common.{◌≡◌, inl, inr, ℕ, Bool, true, false, List, [], ◌∷◌, cond, Option, Some, None, refl, ap, ap₂, ◌∙◌, sym, subst}
 use Rattle.std.specs.Prelude.{IfSome, filter, not}
 use Rattle.std.proofs.lemmas.Bool.{false≢true, false_from_ne_true}
 use Rattle.pgb_outside.specs.Content.{Content}
@@ -11,7 +11,13 @@ use Rattle.pgb_model.specs.Pair.{PairIs}
 use Rattle.pgb_retain.specs.declared.rules.Rules.{Rules}
 use Rattle.pgb_retain.specs.Labels.{has_label, labels_of}
 use Rattle.pgb_retain.specs.Condemned.{is_condemned, condemned_labels}
-use Rattle.pgb_expire.specs.Planning.{left_of}
+use Rattle.pgb_model.specs.Names.{archive_info, backup_info}
+use Rattle.pgb_stanza.specs.declared.fault.StanzaFault.{StanzaFault}
+use Rattle.pgb_stanza.specs.Causes.{HistoriesDiffer}
+use Rattle.pgb_stanza.specs.Judging.{Settles, TellsDifference}
+use Rattle.pgb_expire.specs.declared.fault.ExpireFault.{ExpireFault}
+use Rattle.pgb_expire.specs.Fault.{ExpireCause, fault_of_stanza}
+use Rattle.pgb_expire.specs.Planning.{HasList, IsPlan, left_of}
 use Rattle.pgb_retain.proofs.Lists.{in_filter, filter_in}
 use Rattle.pgb_keys.proofs.Numbers.{in_map}
 use Rattle.pgb_retain.proofs.LabelTests.{has_in, in_has}
@@ -45,3 +51,23 @@ labels_gone rules moment labels es fs are is = is ∙ ap (λ (ls : List Label). 
 
 pub value_left : (rules : Rules) (moment : ℕ) (v : BackupInfo) (es : List Entry) → es ≡ filter (λ e. not (is_condemned rules moment v.backups e.label)) v.backups → ◌≡◌ {A = BackupInfo} (record { current = v.current; history = v.history; backups = es }) (left_of rules moment v)
 value_left rules moment v es is = ap (λ (xs : List Entry). (let w : BackupInfo = record { current = v.current; history = v.history; backups = xs } in w)) is
+
+-- ---- what is planned for a disk
+
+pub planned_at : (stanza : Text) (rules : Rules) (moment : ℕ) (labels : List Label) (w list : BackupInfo) (a b : ArchiveInfo) (now : Option Content) → IfSome now (λ f. HasList stanza f a list)
+    → ((n : Text) (f : Content) → HasList n f a list → IsPlan n rules moment f labels w b) → IfSome now (λ f. IsPlan stanza rules moment f labels w b)
+planned_at stanza rules moment labels w list a b None has plan = tt
+planned_at stanza rules moment labels w list a b (Some f) has plan = plan stanza f has
+
+pub have_list : (stanza : Text) (now : Option Content) (a : ArchiveInfo) (v w : BackupInfo) → IfSome now (λ f. PairIs IsArchiveText f (archive_info stanza) a) → IfSome now (λ f. PairIs IsBackupText f (backup_info stanza) v) → Settles a v w
+    → IfSome now (λ f. HasList stanza f a w)
+have_list stanza None a v w p q settles = tt
+have_list stanza (Some f) a v w p q settles = record { backup = v; pairs = record { archive = p; backup = q }; settles = settles }
+
+-- the histories that differ are those of the pairs
+pub have_differ : (stanza : Text) (now : Option Content) (a : ArchiveInfo) (v : BackupInfo) → IfSome now (λ f. PairIs IsArchiveText f (archive_info stanza) a) → IfSome now (λ f. PairIs IsBackupText f (backup_info stanza) v) → (rose : Type 0) (e : StanzaFault) (fault : ExpireFault) → fault ≡ fault_of_stanza e → TellsDifference a v e → ExpireCause stanza now rose fault
+have_differ stanza now a v p q rose e fault is t = subst (ExpireCause stanza now rose) (sym (is ∙ ap fault_of_stanza t.is)) (by now p q)
+  where
+    by : (o : Option Content) → IfSome o (λ f. PairIs IsArchiveText f (archive_info stanza) a) → IfSome o (λ f. PairIs IsBackupText f (backup_info stanza) v) → IfSome o (λ f. HistoriesDiffer stanza f t.at)
+    by None p q = tt
+    by (Some f) p q = record { archive = a; backup = v; pairs = record { archive = p; backup = q }; differ = t.differ; settled = t.settled }

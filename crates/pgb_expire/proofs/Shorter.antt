@@ -16,7 +16,7 @@ use Rattle.pgb_info.proofs.BackupRules.{listed, db, history, backup_sections_are
 use Rattle.pgb_info.proofs.Found.{found}
 use Rattle.pgb_stored.proofs.Orders.{before_on}
 use Rattle.pgb_retain.proofs.Lists.{any_in, filter_in}
-use Rattle.pgb_expire.proofs.Lengths.{flat_length, keys_length, fewer_bytes, section_length}
+use Rattle.pgb_stanza.proofs.Lengths.{flat_length, keys_length, fewer_bytes, section_length}
 
 any_from : (P : Entry → Type 0) (es : List Entry) (p : Entry) → In p es → P p → Any P es
 any_from P [] p i h = absurd i

@@ -1,18 +1,28 @@
 -- The text of what is left is that of its sections.
-use Rattle.std.proofs.Common.{◌≡◌, ◌≤◌, length, refl}
+use Rattle.std.proofs.Common.{◌≡◌, ◌≤◌, length, refl, arith}
 use Rattle.pgb_model.specs.Values.{BackupInfo}
 use Rattle.pgb_model.specs.InfoText.{info_text}
-use Rattle.pgb_model.specs.InfoFiles.{backup_sections, info_limit}
-use Rattle.pgb_expire.specs.Planning.{left_text}
+use Rattle.pgb_model.specs.InfoFiles.{IsBackupInfo, IsBackupText, backup_sections, info_limit}
+use Rattle.pgb_stanza.specs.Mending.{backup_text}
+use Rattle.pgb_expire.specs.Planning.{list_text}
 
-pub spelled : (v : BackupInfo) → info_text (backup_sections v) ≡ left_text v
-unfolding left_text
+pub spelled : (v : BackupInfo) → info_text (backup_sections v) ≡ list_text v
+unfolding list_text
 spelled v = refl
 
-pub fits : (v : BackupInfo) → length (left_text v) ≤ info_limit → length (info_text (backup_sections v)) ≤ info_limit
-unfolding left_text
+pub fits : (v : BackupInfo) → length (list_text v) ≤ info_limit → length (info_text (backup_sections v)) ≤ info_limit
+unfolding list_text
 fits v h = h
 
-pub unfits : (v : BackupInfo) → length (info_text (backup_sections v)) ≤ info_limit → length (left_text v) ≤ info_limit
-unfolding left_text
+pub unfits : (v : BackupInfo) → length (info_text (backup_sections v)) ≤ info_limit → length (list_text v) ≤ info_limit
+unfolding list_text
 unfits v h = h
+
+-- a shorter list has a text too
+pub fits_less : (v w : BackupInfo) → length (backup_text w) ≤ length (backup_text v) → length (list_text v) ≤ info_limit → length (list_text w) ≤ info_limit
+unfolding list_text
+fits_less v w less h = omega (arith, less, h)
+
+pub text_of : (v : BackupInfo) → IsBackupInfo v → length (list_text v) ≤ info_limit → IsBackupText v (list_text v)
+unfolding list_text
+text_of v rules h = record { rules = rules; spelled = refl; within = h }

@@ -1,11 +1,9 @@
 -- Which names an expiry changes.
-use Rattle.std.proofs.Common.{◌≡◌, inl, inr, Bool, true, false, List, ◌∷◌, ◌++◌, refl, ◌∙◌, sym, append_assoc}
+use Rattle.std.proofs.Common.{◌≡◌, inl, inr, Bool, true, false, List, ◌∷◌, ◌++◌, refl, ◌∙◌, append_assoc}
 use Rattle.pgb_text.specs.Sum.{sum_text}
 use Rattle.pgb_outside.specs.Content.{Name, is_below}
 use Rattle.pgb_outside.specs.Moments.{View}
-use Rattle.pgb_outside.specs.Crash.{IsTemporary}
 use Rattle.pgb_outside.specs.States.{DiskState}
-use Rattle.pgb_outside.proofs.Steps.{goes_wide}
 use Rattle.pgb_disk.specs.Store.{ChangesOnly}
 use Rattle.pgb_disk.proofs.Changes.{only_on, only_wide}
 use Rattle.pgb_model.specs.declared.labels.Label.{Label}
@@ -20,21 +18,12 @@ use Rattle.pgb_stanza.specs.Owned.{IsOfPairs}
 use Rattle.pgb_story.specs.Beside.{StaysBeside}
 use Rattle.pgb_story.proofs.Named.{in_archive, in_backup}
 use Rattle.pgb_story.proofs.Stays.{beside_on}
-use Rattle.pgb_stage.proofs.Besides.{pairs_beside}
+use Rattle.pgb_stage.proofs.Besides.{only_beside, pairs_beside}
 use Rattle.pgb_retain.specs.declared.rules.Rules.{Rules}
 use Rattle.pgb_expire.specs.Losing.{TakesAway, IsUnlisted, IsUnneeded, is_passing, MayExpire, MayTouch}
 use Rattle.pgb_expire.specs.Planning.{keeps_by}
 use Rattle.pgb_expire.proofs.LabelFolders.{below_is}
 use Rattle.pgb_expire.proofs.Losses.{takes_only}
-
-both_ways : {X : Type 0} (b : Bool) → b ≡ true → b ≡ false → X
-both_ways b is out = let u : ◌≡◌ {A = Bool} true false = sym is ∙ out in cc
-
-only_beside : (stanza : Text) (these : Name → Type 0) (a b : View) → ((n : Name) → these n → is_of_stanza stanza n ≡ true) → ChangesOnly these a b → StaysBeside stanza a b
-only_beside stanza these a b of p = record {
-  now = λ n out. p.now n (λ h. both_ways (is_of_stanza stanza n) (of n h) out);
-  time = goes_wide (λ n _. these n) (λ n _. is_of_stanza stanza n ≡ true) (λ n. these n × IsTemporary n) (λ n. is_of_stanza stanza n ≡ true) a b (λ n v h. of n h) (λ n h. of n h.0) p.time;
-}
 
 -- a name in a label's folder is the stanza's
 in_label : (stanza : Text) (l : Label) (n : Name) → is_below (label_folder stanza l) n ≡ true → is_of_stanza stanza n ≡ true

@@ -1,21 +1,17 @@
 -- From the calls of an expiry to what it does to the repository.
-use Rattle.std.proofs.Common.{◌≡◌, ◌⊎◌, ⊎_elim, inl, inr, ℕ, ◌≤◌, List, [], ◌∷◌, ◌++◌, length, map, Option, Some, None, refl, ap, ◌∙◌, sym, subst, arith, false}
+use Rattle.std.proofs.Common.{◌≡◌, ◌⊎◌, ⊎_elim, inl, inr, ℕ, ◌≤◌, List, [], ◌∷◌, map, Option, Some, None, refl, ap, ◌∙◌, sym, subst, arith, false}
 use Rattle.std.specs.Prelude.{IsSome, IfSome, IsTrue, filter, not}
-use Rattle.std.proofs.lemmas.Bool.{not-true, false_from_ne_true, false≢true}
 use Rattle.pgb_outside.specs.Content.{Name, Value, Content, Holds, is_below}
 use Rattle.pgb_outside.specs.Moments.{View, Goes, IsImage, MayKeep, is_loose}
 use Rattle.pgb_outside.specs.Crash.{Crash, Ends, NowGoes, FirstOf, AllOf}
 use Rattle.pgb_disk.specs.Dropped.{IsAbsent}
 use Rattle.pgb_disk.proofs.Images.{Law}
 use Rattle.pgb_outside.proofs.Nows.{told_as}
-use Rattle.pgb_model.specs.declared.clusters.Cluster.{Cluster}
 use Rattle.pgb_model.specs.declared.labels.Label.{Label}
 use Rattle.pgb_model.specs.Text.{Text, In}
 use Rattle.pgb_model.specs.Names.{archive_folder, archive_info, backup_info}
 use Rattle.pgb_model.specs.Values.{ArchiveInfo, BackupInfo, Entry}
-use Rattle.pgb_model.specs.InfoText.{info_text}
-use Rattle.pgb_model.specs.InfoFiles.{IsBackupText, IsBackupInfo, backup_sections, info_limit}
-use Rattle.pgb_model.specs.Pair.{PairIs}
+use Rattle.pgb_model.specs.InfoFiles.{IsBackupText}
 use Rattle.pgb_model.specs.Create.{member_writes}
 use Rattle.pgb_model.specs.Repository.{Archived, Backup, Stanza, current_number, identity_of, IsSoundStanza}
 use Rattle.pgb_model.specs.Stands.{Stands, HasStanza, archive_value, backup_value}
@@ -23,28 +19,24 @@ use Rattle.pgb_model.specs.Steps.{Step, Condemn, Retention, IsPartOf, IsSomeOf, 
 use Rattle.pgb_model.specs.Steady.{IsSteady, Moves}
 use Rattle.pgb_model.proofs.Done.{part_none}
 use Rattle.pgb_info.proofs.OneArchive.{one_archive_pair}
-use Rattle.pgb_stanza.proofs.OneBackup.{backup_rules}
+use Rattle.pgb_stanza.proofs.Settled.{settled_list}
+use Rattle.pgb_one_text.proofs.Lists.{one_list}
 use Rattle.pgb_retain.specs.declared.rules.Rules.{Rules}
 use Rattle.pgb_retain.specs.Labels.{labels_of}
 use Rattle.pgb_retain.specs.Condemned.{is_condemned}
 use Rattle.pgb_expire.specs.Expiry.{listed, retention, IsPartOfExpiry}
 use Rattle.pgb_expire.specs.Losing.{Loses, LosesAll, IsUnlisted, IsUnneeded}
-use Rattle.pgb_expire.specs.Planning.{IsPlan, left_of, left_text, keeps_by}
+use Rattle.pgb_expire.specs.Planning.{IsPlan, left_of, list_text, keeps_by}
 use Rattle.pgb_expire.specs.Unneeded.{ids_in}
 use Rattle.pgb_retain.proofs.Lists.{map_filter}
 use Rattle.pgb_keys.proofs.Numbers.{in_map}
 use Rattle.pgb_retain.proofs.LabelTests.{in_has}
-use Rattle.pgb_expire.proofs.Leaving.{entries_of}
-use Rattle.pgb_retain.proofs.Closed.{condemned_closed}
-use Rattle.pgb_expire.proofs.Proper.{proper}
 use Rattle.pgb_expire.proofs.CondemnedStands.{IsClosed, condemned_moves, condemned_steady}
 use Rattle.pgb_expire.proofs.Dropped.{Covers, dropped_moves, dropped_steady}
 use Rattle.pgb_expire.proofs.Forgets.{groups}
 use Rattle.pgb_expire.proofs.Forgotten.{forgotten_moves, forgotten_steady}
 use Rattle.pgb_expire.proofs.RetentionHolds.{closed_here}
-use Rattle.pgb_expire.proofs.OneValue.{one_backup_pair}
 use Rattle.pgb_expire.proofs.Emptied.{all_ends}
-use Rattle.pgb_expire.proofs.Shorter.{PriorsStay, rules_left, shorter_text}
 
 -- ---- ways of a command, one behind the other
 
@@ -72,66 +64,32 @@ moves_as stanza P Q a b wider p = record { later = p.later; past = p.past; past_
 -- ---- what was planned
 
 module _ (stanza : Text) (rules : Rules) (moment : ℕ) (f : Content) (labels : List Label) (w : BackupInfo) (archive : ArchiveInfo) (plan : IsPlan stanza rules moment f labels w archive) where
-  stays : IsBackupInfo plan.backup → PriorsStay (λ e. not (is_condemned rules moment plan.backup.backups e.label)) plan.backup.backups
-  stays is e at pass l prior x same =
-      ap not (ap (is_condemned rules moment plan.backup.backups) same ∙ false_from_ne_true (is_condemned rules moment plan.backup.backups l) (λ on.
-      false≢true (sym (not-true (is_condemned rules moment plan.backup.backups e.label) pass) ∙ condemned_closed rules moment plan.backup.backups (proper plan.backup is) e at l prior on)))
-
-  -- what is left has a text
-  pub plan_rules : IsBackupInfo w
-  plan_rules = let is = backup_rules f (backup_info stanza) plan.backup plan.reads in
-      subst IsBackupInfo (sym plan.is_left) (rules_left (λ e. not (is_condemned rules moment plan.backup.backups e.label)) plan.backup is (stays is))
-
-  within : PairIs IsBackupText f (backup_info stanza) plan.backup → length (info_text (backup_sections plan.backup)) ≤ info_limit
-  within (inl m) = subst (λ (t : Text). length t ≤ info_limit) m.2.spelled m.2.within
-  within (inr q) = subst (λ (t : Text). length t ≤ info_limit) q.1.2.spelled q.1.2.within
-
-  pub plan_within : length (left_text w) ≤ info_limit
-  unfolding left_text
-  plan_within =
-      let is = backup_rules f (backup_info stanza) plan.backup plan.reads in
-      let short = shorter_text (λ e. not (is_condemned rules moment plan.backup.backups e.label)) plan.backup is in
-      subst (λ (v : BackupInfo). length (info_text (backup_sections v)) ≤ info_limit) (sym plan.is_left) (omega (arith, short, within plan.reads))
-
-  plan_text : IsBackupText w (left_text w)
-  unfolding left_text
-  plan_text = record { rules = plan_rules; spelled = refl; within = plan_within }
-
   module _ (s : Stanza) (h : HasStanza stanza f s) where
     abbrev left : Stanza
     left = changed (Condemn (is_condemned rules moment (listed s))) s
 
-    value_is : plan.backup ≡ backup_value s h.pending
-    value_is = one_backup_pair f (backup_info stanza) plan.backup (backup_value s h.pending) plan.reads h.backup_pair
+    list_is : plan.list ≡ backup_value s None
+    list_is = settled_list stanza f archive plan.has.pairs.archive one_list plan.has.backup plan.list plan.has.pairs.backup plan.has.settles s h
 
-    pub entries_are : plan.backup.backups ≡ listed s
-    entries_are = ap (λ (v : BackupInfo). v.backups) value_is ∙ entries_of s h.pending
+    pub entries_are : plan.list.backups ≡ listed s
+    entries_are = ap (λ (v : BackupInfo). v.backups) list_is
 
     -- what is left is the value of the stanza that is left
-    value_left : (c : Option Cluster) → left_of rules moment (backup_value s c) ≡ backup_value left c
-    value_left c = by c (entries_of s c)
-      where
-        filtered : filter (λ (e : Entry). not (is_condemned rules moment (listed s) e.label)) (listed s) ≡ listed left
-        filtered = sym (map_filter (λ (b : Backup). b.entry) (λ (e : Entry). not (is_condemned rules moment (listed s) e.label)) s.backups)
+    left_is : w ≡ backup_value left None
+    left_is = plan.is_left ∙ ap (left_of rules moment) list_is ∙ ap (λ (es : List Entry). (let v : BackupInfo = record { current = current_number s; history = s.history; backups = es } in v))
+        (sym (map_filter (λ (b : Backup). b.entry) (λ (e : Entry). not (is_condemned rules moment (listed s) e.label)) s.backups))
 
-        by : (c : Option Cluster) → (backup_value s c).backups ≡ listed s → left_of rules moment (backup_value s c) ≡ backup_value left c
-        by None e = ap (λ (es : List Entry). (let v : BackupInfo = record { current = current_number s; history = s.history; backups = es } in v)) filtered
-        by (Some c) e = ap (λ (es : List Entry). (let v : BackupInfo = record { current = c.id; history = s.history ++ c ∷ []; backups = es } in v)) filtered
-
-    left_is : w ≡ backup_value left h.pending
-    left_is = plan.is_left ∙ ap (left_of rules moment) value_is ∙ value_left h.pending
-
-    pub text_is : IsBackupText (backup_value left h.pending) (left_text w)
-    text_is = subst (λ (v : BackupInfo). IsBackupText v (left_text w)) left_is plan_text
+    pub text_is : IsBackupText (backup_value left None) (list_text w)
+    text_is = subst (λ (v : BackupInfo). IsBackupText v (list_text w)) left_is plan.fits
 
     pub left_entries : w.backups ≡ listed left
-    left_entries = ap (λ (v : BackupInfo). v.backups) left_is ∙ entries_of left h.pending
+    left_entries = ap (λ (v : BackupInfo). v.backups) left_is
 
     pub covers : Covers (labels_of w.backups) left
     covers b at = in_has (labels_of w.backups) b.entry.label (subst (λ (es : List Entry). In b.entry.label (labels_of es)) (sym left_entries) (in_map (λ (e : Entry). e.label) (listed left) b.entry (in_map (λ (b : Backup). b.entry) left.backups b at)))
 
     archive_is : archive ≡ archive_value s
-    archive_is = one_archive_pair f (archive_info stanza) archive (archive_value s) plan.reads_archive h.archive_pair
+    archive_is = one_archive_pair f (archive_info stanza) archive (archive_value s) plan.has.pairs.archive h.archive_pair
 
     pub current_is : archive.current ≡ current_number left
     current_is = ap (λ (v : ArchiveInfo). v.current) archive_is
@@ -192,14 +150,14 @@ module _ (stanza : Text) (rules : Rules) (moment : ℕ) (labels : List Label) (w
     closed : IsClosed s (is_condemned rules moment (listed s))
     closed = closed_here stanza rules moment start.0 s has
 
-    module _ (b : View) (saved : Crash (FirstOf (member_writes (backup_info stanza) (left_text w))) a b) where
+    module _ (b : View) (saved : Crash (FirstOf (member_writes (backup_info stanza) (list_text w))) a b) where
       pub saved_moves : Moves stanza (IsPartOfExpiry stanza (retention rules moment) s) a b
       saved_moves = moves_as stanza (λ g. Stands stanza g (Some s) ⊎ Stands stanza g (Some rest_of)) (IsPartOfExpiry stanza kept s) a b (λ g h. ⊎_elim (at_start g) (condemned g) h)
-          (condemned_moves stanza (left_text w) s (is_condemned rules moment (listed s)) closed has.pending has.is_pending (text_is stanza rules moment start.0 labels w archive planned s has) a b steady told saved)
+          (condemned_moves stanza (list_text w) s (is_condemned rules moment (listed s)) closed None tt (text_is stanza rules moment start.0 labels w archive planned s has) a b steady told saved)
 
-      module _ (saved_all : Ends (AllOf (member_writes (backup_info stanza) (left_text w))) a b) where
+      module _ (saved_all : Ends (AllOf (member_writes (backup_info stanza) (list_text w))) a b) where
         steady_b : IsSteady stanza (Some rest_of) b
-        steady_b = condemned_steady stanza (left_text w) s (is_condemned rules moment (listed s)) closed has.pending has.is_pending (text_is stanza rules moment start.0 labels w archive planned s has) a b steady told saved saved_all
+        steady_b = condemned_steady stanza (list_text w) s (is_condemned rules moment (listed s)) closed None tt (text_is stanza rules moment start.0 labels w archive planned s has) a b steady told saved saved_all
 
         told_b : IsSome b.now
         told_b = saved.told told

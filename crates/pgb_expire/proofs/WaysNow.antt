@@ -1,5 +1,5 @@
 -- What the disk holds after the calls of an expiry.
-use Rattle.std.proofs.Common.{sym, subst, ◌≡◌, ⊎_elim, ℕ, List, [], ◌∷◌, Option, Some}
+use Rattle.std.proofs.Common.{sym, subst, ◌≡◌, ⊎_elim, ℕ, List, [], ◌∷◌, Option, Some, None}
 use Rattle.std.specs.Prelude.{IsSome, IfSome, filter, not}
 use Rattle.pgb_outside.specs.Content.{Name, Content}
 use Rattle.pgb_outside.specs.Moments.{View}
@@ -21,7 +21,7 @@ use Rattle.pgb_retain.specs.Labels.{labels_of}
 use Rattle.pgb_retain.specs.Condemned.{is_condemned}
 use Rattle.pgb_expire.specs.Expiry.{listed, retention, NowPartOfExpiry}
 use Rattle.pgb_expire.specs.Losing.{Loses, IsUnlisted, IsUnneeded}
-use Rattle.pgb_expire.specs.Planning.{IsPlan, left_text, keeps_by}
+use Rattle.pgb_expire.specs.Planning.{IsPlan, list_text, keeps_by}
 use Rattle.pgb_expire.proofs.CondemnedStands.{IsClosed, condemned_now, condemned_all}
 use Rattle.pgb_expire.proofs.Dropped.{dropped_now}
 use Rattle.pgb_expire.proofs.Forgotten.{forgotten_now, forgotten_all}
@@ -56,12 +56,12 @@ module _ (stanza : Text) (rules : Rules) (moment : ℕ) (labels : List Label) (w
     closed : IsClosed s (is_condemned rules moment (listed s))
     closed = closed_here stanza rules moment start.0 s has
 
-    pub saved_now : (b : Option Content) → NowGoes (FirstOf (member_writes (backup_info stanza) (left_text w))) a b → NowPartOfExpiry stanza (retention rules moment) s b
-    saved_now b goes = ⊎_elim (now_start b) (now_condemned b) (condemned_now stanza (left_text w) s (is_condemned rules moment (listed s)) closed has.pending has.is_pending (text_is stanza rules moment start.0 labels w archive planned s has) a b told now goes)
+    pub saved_now : (b : Option Content) → NowGoes (FirstOf (member_writes (backup_info stanza) (list_text w))) a b → NowPartOfExpiry stanza (retention rules moment) s b
+    saved_now b goes = ⊎_elim (now_start b) (now_condemned b) (condemned_now stanza (list_text w) s (is_condemned rules moment (listed s)) closed None tt (text_is stanza rules moment start.0 labels w archive planned s has) a b told now goes)
 
-    module _ (b : Option Content) (saved : NowGoes (AllOf (member_writes (backup_info stanza) (left_text w))) a b) where
+    module _ (b : Option Content) (saved : NowGoes (AllOf (member_writes (backup_info stanza) (list_text w))) a b) where
       now_b : NowStands stanza (Some left) b
-      now_b = condemned_all stanza (left_text w) s (is_condemned rules moment (listed s)) closed has.pending has.is_pending (text_is stanza rules moment start.0 labels w archive planned s has) a b told now saved
+      now_b = condemned_all stanza (list_text w) s (is_condemned rules moment (listed s)) closed None tt (text_is stanza rules moment start.0 labels w archive planned s has) a b told now saved
 
       told_b : IsSome b
       told_b = saved.told told

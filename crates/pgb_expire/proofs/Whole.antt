@@ -1,13 +1,12 @@
--- An expiry that was planned over what was only read, and carried out.
-use Rattle.std.proofs.Common.{◌≡◌, inl, inr, ℕ, List, [], Option, Some, None, refl, ap, ◌∙◌, sym, subst, true, false}
+-- An expiry that was planned, and carried out.
+use Rattle.std.proofs.Common.{◌≡◌, inl, ℕ, List, Option, Some, None, refl, ap, ◌∙◌, subst, true, false}
 use Rattle.std.specs.Prelude.{IsSome, IfSome}
 use Rattle.pgb_outside.specs.Content.{Content}
-use Rattle.pgb_outside.specs.Moments.{View, Rests}
+use Rattle.pgb_outside.specs.Moments.{View}
 use Rattle.pgb_outside.proofs.Nows.{told_as}
 use Rattle.pgb_model.specs.declared.labels.Label.{Label}
 use Rattle.pgb_model.specs.Text.{Text}
 use Rattle.pgb_model.specs.Names.{archive_info}
-use Rattle.pgb_model.specs.Pair.{PairIs, PairAbsent}
 use Rattle.pgb_model.specs.InfoFiles.{IsArchiveText}
 use Rattle.pgb_model.specs.Values.{ArchiveInfo, BackupInfo, Entry}
 use Rattle.pgb_model.specs.Repository.{Stanza, Repository, IsSound, IsSoundStanza, current_number}
@@ -15,12 +14,12 @@ use Rattle.pgb_model.specs.Stands.{IsVacant}
 use Rattle.pgb_model.specs.Steps.{Step, Command, Expire, IsPartOf, expiry_moves, after, all_of, steps_of}
 use Rattle.pgb_model.specs.Now.{NowStands}
 use Rattle.pgb_model.specs.Steady.{IsSteady, Moves, LeavesOnly}
-use Rattle.pgb_model.proofs.Done.{part_none}
-use Rattle.pgb_model.proofs.Steady.{steady_rests, rests_moves, front_moves}
-use Rattle.pgb_stage.specs.Runs.{IsPart}
+use Rattle.pgb_stage.specs.declared.plan.Settling.TheVariants.{Whole}
+use Rattle.pgb_stage.specs.Runs.{IsPart, DoesPart, DoesWhole}
+use Rattle.pgb_stanza.proofs.NewStanza.{no_pair}
 use Rattle.pgb_retain.specs.declared.rules.Rules.{Rules}
 use Rattle.pgb_retain.specs.Condemned.{condemned_labels}
-use Rattle.pgb_expire.specs.Expiry.{IsTouched, listed, retention, IsPartOfExpiry, PartFrom, WholeFrom, ExpiresPart, ExpiresWhole, HasNeeded}
+use Rattle.pgb_expire.specs.Expiry.{IsTouched, listed, retention, IsPartOfExpiry, PartFrom, WholeFrom, HasNeeded}
 use Rattle.pgb_disk.specs.Store.{ChangesOnly}
 use Rattle.pgb_retain.specs.Labels.{labels_of}
 use Rattle.pgb_expire.specs.Losing.{MayTouch}
@@ -28,80 +27,53 @@ use Rattle.pgb_expire.specs.Planning.{IsPlan, keeps_by}
 use Rattle.pgb_expire.proofs.Ways.{entries_are, moves_as, left_entries, current_is}
 use Rattle.pgb_expire.proofs.RetentionHolds.{sound_here, needed_here}
 
-no_pair : (f : Content) (n : Text) (v : ArchiveInfo) → PairAbsent f n → PairIs IsArchiveText f n v → ⊥
-no_pair f n v absent (inl x) = let e : ◌≡◌ {A = Option Text} None (Some x.0) = sym absent.0 ∙ x.1 in cc
-no_pair f n v absent (inr x) = let e : ◌≡◌ {A = Option Text} None (Some x.1.0) = sym absent.1 ∙ x.1.1 in cc
-
 module _ (stanza : Text) (rules : Rules) (moment : ℕ) where
   abbrev command : Command
   command = Expire (retention rules moment)
-
-  -- where nothing was written
-  pub read_part : (a b : View) → Rests a b → b.now ≡ a.now → ExpiresPart stanza (retention rules moment) a b
-  read_part a b rests same = record {
-    part = record {
-      told = λ some. subst (λ (o : Option Content). IsSome o) (sym same) some;
-      does = λ r sound some now. ([], part_none (steps_of command r), subst (λ (o : Option Content). NowStands stanza r o) (sym same) now);
-    };
-    goes = λ r some steady sound. rests_moves stanza r (IsPart stanza command r) a b rests same steady some (λ g x. ([], part_none (steps_of command r), x, sound));
-  }
 
   -- what is planned is of the stanza that a content has
   plan_at : (labels : List Label) (w : BackupInfo) (archive : ArchiveInfo) (o : Option Content) (f : Content) → o ≡ Some f → IfSome o (λ f. IsPlan stanza rules moment f labels w archive) → IsPlan stanza rules moment f labels w archive
   plan_at labels w archive o f is plan = let P : Option Content → Type 0 = λ x. IfSome x (λ f. IsPlan stanza rules moment f labels w archive) in let at : P (Some f) = subst P is plan in at
 
-  module _ (labels : List Label) (w : BackupInfo) (archive : ArchiveInfo) (a m b : View) (rests : Rests a m) (same : m.now ≡ a.now) (plan : IfSome a.now (λ f. IsPlan stanza rules moment f labels w archive)) where
-    abbrev Plan : Option Content → Type 0
-    Plan o = IfSome o (λ f. IsPlan stanza rules moment f labels w archive)
-
-    plan_m : IfSome m.now (λ f. IsPlan stanza rules moment f labels w archive)
-    plan_m = subst Plan (sym same) plan
-
-    told_m : IsSome a.now → IsSome m.now
-    told_m told = subst (λ (o : Option Content). IsSome o) (sym same) told
-
-    now_m : (r : Repository) → NowStands stanza r a.now → NowStands stanza r m.now
-    now_m r now = subst (λ (o : Option Content). NowStands stanza r o) (sym same) now
-
+  module _ (labels : List Label) (w : BackupInfo) (archive : ArchiveInfo) (a b : View) (plan : IfSome a.now (λ f. IsPlan stanza rules moment f labels w archive)) where
     -- there is a stanza
     not_vacant : (X : Type 0) → (f : Content) → a.now ≡ Some f → IsVacant stanza f → X
-    not_vacant X f is vacant = let p = plan_at labels w archive a.now f is plan in absurd (no_pair f (archive_info stanza) archive vacant.archive_pair p.reads_archive)
+    not_vacant X f is vacant = let p = plan_at labels w archive a.now f is plan in absurd (no_pair IsArchiveText f (archive_info stanza) archive vacant.archive_pair p.has.pairs.archive)
 
-    module _ (part : (s : Stanza) → IfSome m.now (λ f. IsPlan stanza rules moment f labels w archive) → IsSoundStanza s → IsSome m.now → PartFrom stanza (retention rules moment) s m b) where
+    module _ (part : (s : Stanza) → IfSome a.now (λ f. IsPlan stanza rules moment f labels w archive) → IsSoundStanza s → IsSome a.now → PartFrom stanza (retention rules moment) s a b) where
       part_does : (r : Repository) → IsSound r → IsSome a.now → NowStands stanza r a.now → (done : List Step) × IsPartOf done (steps_of (Expire (retention rules moment)) r) × NowStands stanza (after r done) b.now
       part_does None sound told now = let f = told_as a.now told in not_vacant _ f.0 f.1 (now.stands f.0 f.1)
-      part_does (Some s) sound told now = (part s plan_m sound (told_m told)).now (now_m (Some s) now)
+      part_does (Some s) sound told now = (part s plan sound told).now now
 
       part_goes : (r : Repository) → IsSome a.now → IsSteady stanza r a → IsSound r → Moves stanza (IsPart stanza (Expire (retention rules moment)) r) a b
       part_goes None told steady sound = let f = told_as a.now told in not_vacant _ f.0 f.1 (steady.stands f.0 (inl f.1))
       part_goes (Some s) told steady sound =
           let f = told_as a.now told in
-          front_moves stanza (Some s) (IsPart stanza command (Some s)) a m b rests steady (λ g x. ([], part_none (steps_of command (Some s)), x, sound))
-          (moves_as stanza (IsPartOfExpiry stanza (retention rules moment) s) (IsPart stanza command (Some s)) m b
+          moves_as stanza (IsPartOfExpiry stanza (retention rules moment) s) (IsPart stanza command (Some s)) a b
           (λ g x. (x.0, x.1, x.2, sound_here stanza rules moment f.0 s (steady.stands f.0 (inl f.1)) sound false x.0 x.1))
-          ((part s plan_m sound (told_m told)).moves (steady_rests stanza (Some s) a m rests same steady)))
+          ((part s plan sound told).moves steady)
 
-      pub carried_part : (IsSome m.now → IsSome b.now) → ExpiresPart stanza (retention rules moment) a b
-      carried_part told = record { part = record { told = λ some. told (told_m some); does = part_does }; goes = part_goes }
+      pub carried_part : (IsSome a.now → IsSome b.now) → DoesPart Whole stanza (Expire (retention rules moment)) a b
+      carried_part told = record { part = record { told = told; does = part_does }; goes = part_goes }
 
-    module _ (whole : (s : Stanza) → IfSome m.now (λ f. IsPlan stanza rules moment f labels w archive) → IsSoundStanza s → IsSome m.now → WholeFrom stanza (retention rules moment) s m b) where
+    module _ (whole : (s : Stanza) → IfSome a.now (λ f. IsPlan stanza rules moment f labels w archive) → IsSoundStanza s → IsSome a.now → WholeFrom stanza (retention rules moment) s a b) where
       whole_does : (r : Repository) → IsSound r → IsSome a.now → NowStands stanza r a.now → (done : List Step) × (done ≡ all_of (steps_of (Expire (retention rules moment)) r)) × NowStands stanza (after r done) b.now
       whole_does None sound told now = let f = told_as a.now told in not_vacant _ f.0 f.1 (now.stands f.0 f.1)
-      whole_does (Some s) sound told now = (all_of (expiry_moves (retention rules moment) s), refl, (whole s plan_m sound (told_m told)).now (now_m (Some s) now))
+      whole_does (Some s) sound told now = (all_of (expiry_moves (retention rules moment) s), refl, (whole s plan sound told).now now)
 
       whole_ends : (r : Repository) → IsSome a.now → IsSteady stanza r a → IsSound r → IsSteady stanza (after r (all_of (steps_of (Expire (retention rules moment)) r))) b × IsSound (after r (all_of (steps_of (Expire (retention rules moment)) r)))
       whole_ends None told steady sound = let f = told_as a.now told in not_vacant _ f.0 f.1 (steady.stands f.0 (inl f.1))
       whole_ends (Some s) told steady sound =
           let f = told_as a.now told in (
-            (whole s plan_m sound (told_m told)).steady (steady_rests stanza (Some s) a m rests same steady),
+            (whole s plan sound told).steady steady,
             sound_here stanza rules moment f.0 s (steady.stands f.0 (inl f.1)) sound true (all_of (expiry_moves (retention rules moment) s)) refl,
           )
 
-      pub carried_whole : (IsSome m.now → IsSome b.now) → ExpiresWhole stanza (retention rules moment) a b
-      carried_whole told = record { done = record { told = λ some. told (told_m some); does = whole_does }; ends = whole_ends }
+      pub carried_whole : (IsSome a.now → IsSome b.now) → DoesWhole Whole stanza (Expire (retention rules moment)) a b
+      carried_whole told = record { done = record { told = told; does = whole_does }; ends = whole_ends }
 
   -- what stays is there at each moment
-  pub keeps_needed : (a b : View) → ExpiresPart stanza (retention rules moment) a b → (s : Stanza) → IsSoundStanza s → IsSome a.now → IsSteady stanza (Some s) a → LeavesOnly (HasNeeded stanza (retention rules moment) s) a b
+  pub keeps_needed : (a b : View) → DoesPart Whole stanza (Expire (retention rules moment)) a b → (s : Stanza) → IsSoundStanza s → IsSome a.now → IsSteady stanza (Some s) a → LeavesOnly (HasNeeded stanza (retention rules moment) s) a b
   keeps_needed a b part s sound told steady t g lo hi leaves =
       let f = told_as a.now told in
       let x = (part.goes (Some s) told steady sound).leaves t g lo hi leaves in

@@ -8,9 +8,7 @@ use Rattle.pgb_model.specs.Repository.{Archived, Backup, Stanza, Repository, cur
 use Rattle.pgb_model.specs.Stands.{Stands, HasStanza}
 use Rattle.pgb_model.specs.Now.{NowStands}
 use Rattle.pgb_model.specs.Steady.{IsSteady, Moves}
-use Rattle.pgb_model.specs.Steps.{Step, Condemn, Expire, Retention, IsPartOf, after, all_of, changed, expiry_moves}
-use Rattle.pgb_stage.specs.declared.plan.Settling.TheVariants.{Whole}
-use Rattle.pgb_stage.specs.Runs.{DoesPart, DoesWhole}
+use Rattle.pgb_model.specs.Steps.{Step, Condemn, Retention, IsPartOf, after, all_of, changed, expiry_moves}
 use Rattle.pgb_retain.specs.declared.rules.Rules.{Rules}
 use Rattle.pgb_retain.specs.Condemned.{is_condemned}
 use Rattle.pgb_retain.specs.Descent.{listed_in}
@@ -53,16 +51,6 @@ pub record PartFrom (stanza : Text) (kept : Retention) (s : Stanza) (old new : V
 pub record WholeFrom (stanza : Text) (kept : Retention) (s : Stanza) (old new : View) : Type 0 where
   pub now : NowStands stanza (Some s) old.now → NowStands stanza (expired_of kept s) new.now
   pub steady : IsSteady stanza (Some s) old → IsSteady stanza (expired_of kept s) new
-
--- ---- as a command of the log
-
--- A part of the expiry: in what the disk holds, and at each moment in all that a stop leaves of a steady disk, which stands for a sound repository.
-abbrev pub ExpiresPart : Text → Retention → View → View → Type 0
-ExpiresPart stanza kept old new = DoesPart Whole stanza (Expire kept) old new
-
--- all of it, at the end
-abbrev pub ExpiresWhole : Text → Retention → View → View → Type 0
-ExpiresWhole stanza kept old new = DoesWhole Whole stanza (Expire kept) old new
 
 -- ---- what stays
 

@@ -6,12 +6,14 @@ ghost use Rattle.pgb_outside.specs.Cause.{Rises};
 ghost use Rattle.pgb_model.specs.Values.{archive_info_of, backup_info_of};
 ghost use Rattle.pgb_model.specs.InfoFiles.{IsBackupInfo, info_limit};
 ghost use Rattle.pgb_model.specs.Repository.{Stanza, IsSoundStanza};
+ghost use Rattle.pgb_model.specs.Names.{backup_info};
+ghost use Rattle.pgb_stanza.specs.Pairs.{AgreeAt};
 ghost use Rattle.pgb_story.specs.Beside.{StaysBeside};
 ghost use Rattle.pgb_expire.specs.Expiry.{retention, PartFrom, WholeFrom};
 ghost use Rattle.pgb_expire.specs.Losing.{MayTouch};
 ghost use Rattle.pgb_retain.specs.Labels.{labels_of};
 ghost use Rattle.pgb_expire.specs.Removed.{CountsGone};
-ghost use Rattle.pgb_expire.specs.Planning.{IsPlan, keeps_by, left_text};
+ghost use Rattle.pgb_expire.specs.Planning.{IsPlan, keeps_by, list_text};
 ghost use Rattle.pgb_expire.specs.Fault.{IsStop};
 
 use crate::dropping::drop_unlisted;
@@ -32,7 +34,7 @@ pub(crate) fn carry_out<D: Disk>(
     plan: &Planned,
 ) -> Result<u64, ExpireFault>
     requires valid { IsBackupInfo (backup_info_of plan.now.left) }
-    requires within { length (left_text (backup_info_of plan.now.left)) ≤ info_limit }
+    requires within { length (list_text (backup_info_of plan.now.left)) ≤ info_limit }
     ensures part { (moment : ℕ) (s : Stanza) → IfSome (D.state d.old).view.now (λ f. IsPlan stanza.now rules.now
         moment f plan.now.labels.items (backup_info_of plan.now.left) (archive_info_of plan.now.archive))
         → IsSoundStanza s
@@ -43,6 +45,8 @@ pub(crate) fn carry_out<D: Disk>(
         → IsSoundStanza s
         → IsSome (D.state d.old).view.now
         → WholeFrom stanza.now (retention rules.now moment) s (D.state d.old).view (D.state d.new).view) }
+    ensures alike { OnOk result (IsSome (D.state d.old).view.now
+        → IfSome (D.state d.new).view.now (AgreeAt (backup_info stanza.now))) }
     ensures removed { IfOk result
         (λ k. CountsGone stanza.now k (D.state d.old).view.now (D.state d.new).view.now) }
     ensures told { IsSome (D.state d.old).view.now → IsSome (D.state d.new).view.now }

@@ -1,22 +1,31 @@
 // An expiry.
-ghost use Rattle.std.specs.Prelude.{◌≡◌, Some, IfOk, IfErr, IsSome, OnOk};
+ghost use Rattle.std.specs.Prelude.{◌≡◌, ◌≤◌, Some, IfOk, IfErr, IfSome, IsSome, OnOk, length};
+ghost use Rattle.std.specs.List.{AllByRecursion};
 ghost use Rattle.pgb_outside.specs.States.{Frame, Looks};
 ghost use Rattle.pgb_outside.specs.Cause.{Rises};
 ghost use Rattle.pgb_disk.specs.Store.{ChangesOnly};
 ghost use Rattle.pgb_model.specs.Repository.{Stanza, IsSoundStanza};
 ghost use Rattle.pgb_model.specs.Now.{NowStands};
 ghost use Rattle.pgb_model.specs.Steady.{IsSteady, LeavesOnly};
+ghost use Rattle.pgb_model.specs.Steps.{Expire};
+ghost use Rattle.pgb_model.specs.Values.{archive_info_of, backup_info_of};
+ghost use Rattle.pgb_model.specs.InfoFiles.{IsBackupInfo, IsLabel, info_limit};
+ghost use Rattle.pgb_model.specs.Names.{backup_info};
+ghost use Rattle.pgb_stanza.specs.Pairs.{AgreeAt};
+ghost use Rattle.pgb_stage.specs.declared.plan.Settling.TheVariants.{Whole};
+ghost use Rattle.pgb_stage.specs.Runs.{DoesPart, DoesWhole};
 ghost use Rattle.pgb_story.specs.Beside.{StaysBeside};
 ghost use Rattle.pgb_retain.specs.Condemned.{condemned_labels};
-ghost use Rattle.pgb_expire.specs.Expiry.{IsTouched, listed, retention, ExpiresPart, ExpiresWhole, HasNeeded};
+ghost use Rattle.pgb_expire.specs.Expiry.{IsTouched, listed, retention, HasNeeded};
 ghost use Rattle.pgb_expire.specs.Losing.{MayExpire};
 ghost use Rattle.pgb_expire.specs.Removed.{CountsGone};
-ghost use Rattle.pgb_expire.specs.Fault.{ExpireCause, IfRefused};
+ghost use Rattle.pgb_expire.specs.Planning.{HasList, list_text};
+ghost use Rattle.pgb_expire.specs.Fault.{ExpireCause, IfRefused, IsStop};
 
 use crate::carrying::carry_out;
 use crate::fault::ExpireFault;
-use crate::planning::plan;
-use pgb_model::Label;
+use crate::planning::{plan, read_list};
+use pgb_model::{ArchiveInfo, BackupInfo, Label};
 use pgb_outside::Disk;
 use pgb_retain::Rules;
 use std::alloc::Global;
@@ -31,7 +40,7 @@ pub struct Expired {
 /// Takes away what the rules let go at a moment, in seconds since 1970: first the backup pair is saved without the
 /// labels, then the folders of all labels that aren't listed are dropped, and then the files of the archive that the
 /// backups left don't need (pgBackRest command reference, "Expire Command"). What a stopped expiry leaves is taken away
-/// by the next.
+/// by the next. A cluster that is still to come is no longer told by the backup pair then.
 pub fn expire<D: Disk>(
     alloc: Global,
     d: &mut D,
@@ -41,9 +50,10 @@ pub fn expire<D: Disk>(
 ) -> Result<Expired, ExpireFault>
     // After every answer, and at each moment after a stop, the repository is as after a part of the expiry, and at Ok
     // as after all of it.
-    ensures part { ExpiresPart stanza.now (retention rules.now moment) (D.state d.old).view (D.state d.new).view }
-    ensures whole { OnOk result
-        (ExpiresWhole stanza.now (retention rules.now moment) (D.state d.old).view (D.state d.new).view) }
+    ensures part { DoesPart Whole stanza.now (Expire (retention rules.now moment)) (D.state d.old).view
+        (D.state d.new).view }
+    ensures whole { OnOk result (DoesWhole Whole stanza.now (Expire (retention rules.now moment)) (D.state d.old).view
+        (D.state d.new).view) }
     // At each moment each backup that stays and each file that it needs have the bytes that they had.
     ensures keeps { (s : Stanza) → IsSoundStanza s → IsSome (D.state d.old).view.now
         → IsSteady stanza.now (Some s) (D.state d.old).view
@@ -51,9 +61,13 @@ pub fn expire<D: Disk>(
     ensures labels { IfOk result (λ e. (s : Stanza) → IsSome (D.state d.old).view.now
         → NowStands stanza.now (Some s) (D.state d.old).view.now
         → e.labels.items ≡ condemned_labels rules.now moment (listed s)) }
+    ensures are_labels { IfOk result (λ e. AllByRecursion IsLabel e.labels.items) }
+    // Both members of the backup pair are alike then.
+    ensures alike { OnOk result (IsSome (D.state d.old).view.now
+        → IfSome (D.state d.new).view.now (AgreeAt (backup_info stanza.now))) }
     ensures removed { IfOk result
         (λ e. CountsGone stanza.now e.removed (D.state d.old).view.now (D.state d.new).view.now) }
-    // Where one of the pairs has no value, only was read.
+    // Where it is refused only was read.
     ensures refused { IfErr result (λ e. IfRefused e (Looks (D.state d.old) (D.state d.new))) }
     // Nothing changes but the backup pair, folders of labels, and files of the archive that aren't histories of
     // timelines.
@@ -66,7 +80,54 @@ pub fn expire<D: Disk>(
     ensures cause { IfErr result (ExpireCause stanza.now (D.state d.old).view.now
         (Rises (D.state d.old).faults (D.state d.new).faults)) }
 {
-    let planned = plan(alloc, d, stanza, rules, moment)?;
+    let (archive, list) = read_list(alloc, d, stanza)?;
+    expire_list(alloc, d, stanza, rules, moment, archive, list)
+}
+
+/// The same where the value of the archive pair is known, and the list to which that of the backup pair settles.
+pub fn expire_list<D: Disk>(
+    alloc: Global,
+    d: &mut D,
+    stanza: &str,
+    rules: &Rules,
+    moment: u64,
+    archive: ArchiveInfo,
+    list: BackupInfo,
+) -> Result<Expired, ExpireFault>
+    requires list { IfSome (D.state d.old).view.now
+        (λ f. HasList stanza.now f (archive_info_of archive) (backup_info_of list)) }
+    requires valid { IsBackupInfo (backup_info_of list) }
+    requires within { length (list_text (backup_info_of list)) ≤ info_limit }
+    // After every answer, and at each moment after a stop, the repository is as after a part of the expiry, and at Ok
+    // as after all of it.
+    ensures part { DoesPart Whole stanza.now (Expire (retention rules.now moment)) (D.state d.old).view
+        (D.state d.new).view }
+    ensures whole { OnOk result (DoesWhole Whole stanza.now (Expire (retention rules.now moment)) (D.state d.old).view
+        (D.state d.new).view) }
+    // At each moment each backup that stays and each file that it needs have the bytes that they had.
+    ensures keeps { (s : Stanza) → IsSoundStanza s → IsSome (D.state d.old).view.now
+        → IsSteady stanza.now (Some s) (D.state d.old).view
+        → LeavesOnly (HasNeeded stanza.now (retention rules.now moment) s) (D.state d.old).view (D.state d.new).view }
+    ensures labels { IfOk result (λ e. (s : Stanza) → IsSome (D.state d.old).view.now
+        → NowStands stanza.now (Some s) (D.state d.old).view.now
+        → e.labels.items ≡ condemned_labels rules.now moment (listed s)) }
+    ensures are_labels { IfOk result (λ e. AllByRecursion IsLabel e.labels.items) }
+    // Both members of the backup pair are alike then.
+    ensures alike { OnOk result (IsSome (D.state d.old).view.now
+        → IfSome (D.state d.new).view.now (AgreeAt (backup_info stanza.now))) }
+    ensures removed { IfOk result
+        (λ e. CountsGone stanza.now e.removed (D.state d.old).view.now (D.state d.new).view.now) }
+    // Nothing changes but the backup pair, folders of labels, and files of the archive that aren't histories of
+    // timelines.
+    ensures only { ChangesOnly (MayExpire stanza.now) (D.state d.old).view (D.state d.new).view }
+    ensures touches { (s : Stanza) → IsSome (D.state d.old).view.now
+        → NowStands stanza.now (Some s) (D.state d.old).view.now
+        → ChangesOnly (IsTouched stanza.now rules.now moment s) (D.state d.old).view (D.state d.new).view }
+    ensures beside { StaysBeside stanza.now (D.state d.old).view (D.state d.new).view }
+    ensures frame { Frame (D.state d.old) (D.state d.new) }
+    ensures cause { IfErr result (IsStop (Rises (D.state d.old).faults (D.state d.new).faults)) }
+{
+    let planned = plan(alloc, archive, list, rules, moment)?;
     let removed = carry_out(alloc, d, stanza, rules, &planned)?;
     Ok(Expired {
         labels: planned.labels,

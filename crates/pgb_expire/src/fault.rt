@@ -5,6 +5,7 @@ ghost use Rattle.pgb_expire.specs.declared.fault.ExpireFault.TheVariants.{NoMemo
 use pgb_disk::StoreFault;
 use pgb_outside::Stop;
 use pgb_pair::{InfoFault, SaveFault};
+use pgb_stanza::StanzaFault;
 use std::alloc::AllocError;
 
 /// Why an expiry isn't done, or not whole. The next makes good what it left.
@@ -12,6 +13,8 @@ use std::alloc::AllocError;
 pub enum ExpireFault {
     /// `archive.info` or `backup.info` is missing or damaged.
     Info(InfoFault),
+    /// The histories of the two pairs differ; `at` is the first number at which they do.
+    HistoryDiffers { at: u32 },
     /// The disk's count of faults rose.
     Disk,
     NoMemory,
@@ -28,6 +31,25 @@ impl From<InfoFault> for ExpireFault {
             InfoFault::Disk => ExpireFault::Disk,
             InfoFault::NoMemory => ExpireFault::NoMemory,
             found => ExpireFault::Info(found),
+        }
+    }
+}
+
+impl From<StanzaFault> for ExpireFault {
+    ghost use Rattle.std.specs.Prelude.{◌≡◌};
+    ghost use Rattle.pgb_expire.specs.Fault.{fault_of_stanza};
+
+    ghost from_gives = { λ f e. e ≡ fault_of_stanza f };
+
+    fn from(fault: StanzaFault) -> Self {
+        match fault {
+            StanzaFault::HistoryDiffers { at } => ExpireFault::HistoryDiffers { at },
+            // Values that were read don't end with one of these.
+            StanzaFault::InfoDamaged { .. }
+            | StanzaFault::StanzaMismatch { .. }
+            | StanzaFault::ArchiveLost { .. }
+            | StanzaFault::Disk
+            | StanzaFault::NoMemory => ExpireFault::NoMemory,
         }
     }
 }

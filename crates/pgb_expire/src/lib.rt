@@ -27,5 +27,5 @@ mod removing;
 mod saving;
 mod unneeded;
 
-pub use expiring::{Expired, expire};
+pub use expiring::{Expired, expire, expire_list};
 pub use fault::ExpireFault;

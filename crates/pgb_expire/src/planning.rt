@@ -1,13 +1,16 @@
 // What an expiry is going to leave in the backup pair.
 ghost use Rattle.std.specs.Prelude.{◌≡◌, ◌≤◌, IfOk, IfErr, IfSome, length};
+ghost use Rattle.std.specs.List.{AllByRecursion};
+ghost use Rattle.pgb_outside.specs.Content.{Content};
 ghost use Rattle.pgb_outside.specs.States.{Looks};
 ghost use Rattle.pgb_outside.specs.Cause.{Rises};
 ghost use Rattle.pgb_model.specs.Names.{archive_info, backup_info};
 ghost use Rattle.pgb_model.specs.Pair.{PairIs};
+ghost use Rattle.pgb_model.specs.Text.{Text};
 ghost use Rattle.pgb_model.specs.Values.{archive_info_of, backup_info_of};
-ghost use Rattle.pgb_model.specs.InfoFiles.{IsArchiveText, IsBackupInfo, IsBackupText, info_limit};
+ghost use Rattle.pgb_model.specs.InfoFiles.{IsArchiveInfo, IsArchiveText, IsBackupInfo, IsBackupText, IsLabel, info_limit};
 ghost use Rattle.pgb_retain.specs.Condemned.{condemned_labels};
-ghost use Rattle.pgb_expire.specs.Planning.{IsPlan, left_of, left_text};
+ghost use Rattle.pgb_expire.specs.Planning.{HasList, IsPlan, left_of, list_text};
 ghost use Rattle.pgb_expire.specs.Fault.{ExpireCause};
 
 use crate::fault::ExpireFault;
@@ -16,7 +19,7 @@ use pgb_model::{ArchiveInfo, BackupInfo, Label};
 use pgb_outside::Disk;
 use pgb_pair::load_pair;
 use pgb_retain::{Rules, expired};
-use pgb_stanza::{archive_info_name, backup_info_name};
+use pgb_stanza::{archive_info_name, backup_info_name, settle_list};
 use pgb_text::NoMemory;
 use std::alloc::Global;
 
@@ -36,11 +39,12 @@ fn shorten(
     moment: u64,
 ) -> Result<(Vec<Label>, BackupInfo), NoMemory>
     requires valid { IsBackupInfo (backup_info_of value) }
-    requires within { length (left_text (backup_info_of value)) ≤ info_limit }
+    requires within { length (list_text (backup_info_of value)) ≤ info_limit }
     ensures labels { IfOk result (λ r. r.0.items ≡ condemned_labels rules.now moment (backup_info_of value).backups) }
+    ensures are_labels { IfOk result (λ r. AllByRecursion IsLabel r.0.items) }
     ensures left { IfOk result (λ r. backup_info_of r.1 ≡ left_of rules.now moment (backup_info_of value)) }
     ensures valid { IfOk result (λ r. IsBackupInfo (backup_info_of r.1)) }
-    ensures within { IfOk result (λ r. length (left_text (backup_info_of r.1)) ≤ info_limit) }
+    ensures within { IfOk result (λ r. length (list_text (backup_info_of r.1)) ≤ info_limit) }
 {
     let labels = expired(alloc, &value.backups, rules, moment)?;
     let backups = without(value.backups, &labels);
@@ -56,6 +60,7 @@ fn shorten(
 fn clusters<D: Disk>(alloc: Global, d: &mut D, stanza: &str) -> Result<ArchiveInfo, ExpireFault>
     ensures found { IfOk result (λ v. IfSome (D.state d.old).view.now
         (λ f. PairIs IsArchiveText f (archive_info stanza.now) (archive_info_of v))) }
+    ensures valid { IfOk result (λ v. IsArchiveInfo (archive_info_of v)) }
     ensures looks { Looks (D.state d.old) (D.state d.new) }
     ensures cause { IfErr result (ExpireCause stanza.now (D.state d.old).view.now
         (Rises (D.state d.old).faults (D.state d.new).faults)) }
@@ -70,7 +75,7 @@ fn backups<D: Disk>(alloc: Global, d: &mut D, stanza: &str) -> Result<BackupInfo
     ensures found { IfOk result (λ v. IfSome (D.state d.old).view.now
         (λ f. PairIs IsBackupText f (backup_info stanza.now) (backup_info_of v))) }
     ensures valid { IfOk result (λ v. IsBackupInfo (backup_info_of v)) }
-    ensures within { IfOk result (λ v. length (left_text (backup_info_of v)) ≤ info_limit) }
+    ensures within { IfOk result (λ v. length (list_text (backup_info_of v)) ≤ info_limit) }
     ensures looks { Looks (D.state d.old) (D.state d.new) }
     ensures cause { IfErr result (ExpireCause stanza.now (D.state d.old).view.now
         (Rises (D.state d.old).faults (D.state d.new).faults)) }
@@ -80,26 +85,44 @@ fn backups<D: Disk>(alloc: Global, d: &mut D, stanza: &str) -> Result<BackupInfo
     Ok(value)
 }
 
-/// What an expiry at a moment is going to leave. Nothing is written.
-pub(crate) fn plan<D: Disk>(
+/// The value of the archive pair, and the list to which that of the backup pair settles.
+pub(crate) fn read_list<D: Disk>(
     alloc: Global,
     d: &mut D,
     stanza: &str,
-    rules: &Rules,
-    moment: u64,
-) -> Result<Planned, ExpireFault>
-    ensures valid { IfOk result (λ p. IsBackupInfo (backup_info_of p.left)) }
-    ensures within { IfOk result (λ p. length (left_text (backup_info_of p.left)) ≤ info_limit) }
-    ensures planned { IfOk result (λ p. IfSome (D.state d.old).view.now
-        (λ f. IsPlan stanza.now rules.now moment f p.labels.items (backup_info_of p.left)
-        (archive_info_of p.archive))) }
+) -> Result<(ArchiveInfo, BackupInfo), ExpireFault>
+    ensures found { IfOk result (λ v. IfSome (D.state d.old).view.now
+        (λ f. HasList stanza.now f (archive_info_of v.0) (backup_info_of v.1))) }
+    ensures valid { IfOk result (λ v. IsBackupInfo (backup_info_of v.1)) }
+    ensures within { IfOk result (λ v. length (list_text (backup_info_of v.1)) ≤ info_limit) }
     ensures looks { Looks (D.state d.old) (D.state d.new) }
     ensures cause { IfErr result (ExpireCause stanza.now (D.state d.old).view.now
         (Rises (D.state d.old).faults (D.state d.new).faults)) }
 {
     let archive = clusters(alloc, d, stanza)?;
-    let value = backups(alloc, d, stanza)?;
-    let (labels, left) = shorten(alloc, value, rules, moment)?;
+    let backup = backups(alloc, d, stanza)?;
+    let list = settle_list(&archive, backup)?;
+    Ok((archive, list))
+}
+
+/// What an expiry at a moment is going to leave of a list.
+pub(crate) fn plan(
+    alloc: Global,
+    archive: ArchiveInfo,
+    list: BackupInfo,
+    rules: &Rules,
+    moment: u64,
+) -> Result<Planned, NoMemory>
+    requires valid { IsBackupInfo (backup_info_of list) }
+    requires within { length (list_text (backup_info_of list)) ≤ info_limit }
+    ensures labels { IfOk result (λ p. AllByRecursion IsLabel p.labels.items) }
+    ensures valid { IfOk result (λ p. IsBackupInfo (backup_info_of p.left)) }
+    ensures within { IfOk result (λ p. length (list_text (backup_info_of p.left)) ≤ info_limit) }
+    ensures planned { IfOk result (λ p. (stanza : Text) (f : Content)
+        → HasList stanza f (archive_info_of archive) (backup_info_of list)
+        → IsPlan stanza rules.now moment f p.labels.items (backup_info_of p.left) (archive_info_of p.archive)) }
+{
+    let (labels, left) = shorten(alloc, list, rules, moment)?;
     Ok(Planned {
         labels,
         left,

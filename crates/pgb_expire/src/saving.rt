@@ -10,7 +10,7 @@ ghost use Rattle.pgb_model.specs.Names.{backup_info, copy_of};
 ghost use Rattle.pgb_model.specs.Values.{backup_info_of};
 ghost use Rattle.pgb_model.specs.InfoFiles.{IsBackupInfo, info_limit};
 ghost use Rattle.pgb_model.specs.Create.{member_writes};
-ghost use Rattle.pgb_expire.specs.Planning.{left_text};
+ghost use Rattle.pgb_expire.specs.Planning.{list_text};
 
 use pgb_model::BackupInfo;
 use pgb_outside::Disk;
@@ -26,19 +26,19 @@ pub(crate) fn save_left<D: Disk>(
     left: &BackupInfo,
 ) -> Result<(), SaveFault>
     requires valid { IsBackupInfo (backup_info_of left.now) }
-    requires within { length (left_text (backup_info_of left.now)) ≤ info_limit }
+    requires within { length (list_text (backup_info_of left.now)) ≤ info_limit }
     ensures crash { is_loose (D.state d.old).view (backup_info stanza.now) ≡ false
         → is_loose (D.state d.old).view (copy_of (backup_info stanza.now)) ≡ false
-        → Crash (FirstOf (member_writes (backup_info stanza.now) (left_text (backup_info_of left.now))))
+        → Crash (FirstOf (member_writes (backup_info stanza.now) (list_text (backup_info_of left.now))))
         (D.state d.old).view (D.state d.new).view }
     ensures whole { OnOk result (is_loose (D.state d.old).view (backup_info stanza.now) ≡ false
         → is_loose (D.state d.old).view (copy_of (backup_info stanza.now)) ≡ false
-        → Ends (AllOf (member_writes (backup_info stanza.now) (left_text (backup_info_of left.now))))
+        → Ends (AllOf (member_writes (backup_info stanza.now) (list_text (backup_info_of left.now))))
         (D.state d.old).view (D.state d.new).view) }
-    ensures now_part { NowGoes (FirstOf (member_writes (backup_info stanza.now) (left_text (backup_info_of left.now))))
+    ensures now_part { NowGoes (FirstOf (member_writes (backup_info stanza.now) (list_text (backup_info_of left.now))))
         (D.state d.old).view.now (D.state d.new).view.now }
     ensures now_whole { OnOk result
-        (NowGoes (AllOf (member_writes (backup_info stanza.now) (left_text (backup_info_of left.now))))
+        (NowGoes (AllOf (member_writes (backup_info stanza.now) (list_text (backup_info_of left.now))))
         (D.state d.old).view.now (D.state d.new).view.now) }
     ensures only { ChangesOnly (IsOfPair (backup_info stanza.now)) (D.state d.old).view (D.state d.new).view }
     ensures frame { Frame (D.state d.old) (D.state d.new) }

@@ -16,7 +16,7 @@ use Rattle.pgb_backup.specs.declared.fault.MakeFault.{MakeFault}
 use Rattle.pgb_backup.specs.Draft.{stanza_of, taken_in, folders_in}
 use Rattle.pgb_backup.specs.Made.{Makes, Outcome}
 use Rattle.pgb_logged.specs.Backups.{IsReadBy, AddsBackup, IsOfFolder, bytes_in}
-use Rattle.pgb_logged.proofs.Settled.{OneList}
+use Rattle.pgb_stanza.proofs.Settled.{OneList}
 use Rattle.pgb_logged.proofs.Reading.{full_backup, full_read}
 use Rattle.pgb_logged.proofs.Folders.{of_folder}
 use Rattle.pgb_logged.proofs.Begun.{BeginsFull}

@@ -17,7 +17,7 @@ use Rattle.pgb_stage.specs.Current.{HasValue}
 use Rattle.pgb_record.specs.Record.{IsListOf}
 use Rattle.pgb_backup.specs.declared.draft.Draft.{Draft}
 use Rattle.pgb_backup.specs.Draft.{stanza_of, old_in, list_in, IsDraft}
-use Rattle.pgb_logged.proofs.Settled.{OneList, has_stanza, settled_list}
+use Rattle.pgb_stanza.proofs.Settled.{OneList, has_stanza, settled_list}
 
 -- The draft is that of a full backup, and its list is what is kept of the values of the stanza's two pairs.
 pub record BeginsFull (draft : Draft) (now : Option Content) : Type 0 where

@@ -15,7 +15,7 @@ use Rattle.pgb_backup.specs.declared.fault.MakeFault.{MakeFault}
 use Rattle.pgb_backup.specs.Draft.{stanza_of}
 use Rattle.pgb_backup.specs.Made.{LeavesList, Makes, MayBeListed, Outcome}
 use Rattle.pgb_logged.specs.Backups.{IsFullBackup}
-use Rattle.pgb_logged.proofs.Settled.{OneList}
+use Rattle.pgb_stanza.proofs.Settled.{OneList}
 use Rattle.pgb_logged.proofs.Reading.{full_backup, full_read, no_files, no_files_read}
 use Rattle.pgb_logged.proofs.Begun.{BeginsFull}
 use Rattle.pgb_logged.proofs.Unlisted.{unlisted_part}

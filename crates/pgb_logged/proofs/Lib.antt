@@ -1,5 +1,4 @@
 pub mod Values
-pub mod Settled
 pub mod Reading
 pub mod Folders
 pub mod Begun

@@ -24,7 +24,7 @@ use Rattle.pgb_backup.proofs.Mixing.{mixed_none}
 use Rattle.pgb_backup.proofs.Moves.{listed_stands, backup_moves, backup_steady}
 use Rattle.pgb_backup.proofs.Sound.{backup_sound}
 use Rattle.pgb_backup.proofs.Unlisted.{IsFar, tight_of}
-use Rattle.pgb_logged.proofs.Settled.{OneList}
+use Rattle.pgb_stanza.proofs.Settled.{OneList}
 use Rattle.pgb_logged.proofs.Reading.{backup_made}
 
 module _ (one_list : OneList) (one_manifest : OneManifest) (draft : Draft) (is_draft : IsDraft draft) (no_old : old_in draft ≡ []) (no_prior : draft.prior ≡ None) (o : Option Online) (free : IfSome o (λ _. IsFree draft))

@@ -21,7 +21,7 @@ use Rattle.pgb_backup.specs.declared.draft.Draft.{Draft}
 use Rattle.pgb_backup.specs.Draft.{stanza_of, pair_of, is_own_of, list_in}
 use Rattle.pgb_backup.specs.Made.{ListsIt, Makes}
 use Rattle.pgb_backup.proofs.Unlisted.{beside_stands}
-use Rattle.pgb_logged.proofs.Settled.{OneList}
+use Rattle.pgb_stanza.proofs.Settled.{OneList}
 use Rattle.pgb_logged.proofs.Reading.{full_backup}
 use Rattle.pgb_logged.proofs.Begun.{BeginsFull, told_as, at_now, stanza_there, list_there, no_vacant, steady_list}
 use Rattle.pgb_logged.proofs.Listed.{sound_with, made_stands, two_moves, made_steady}

@@ -30,7 +30,7 @@ use Rattle.pgb_backup.specs.Online.{Online, label_path}
 use Rattle.pgb_backup.proofs.Far.{far}
 use Rattle.pgb_backup.proofs.Unlisted.{tight_of, beside_stands, unlisted_moves}
 use Rattle.pgb_logged.specs.Backups.{IsReadBeside, IsOnlineBackup, Waits, Archives, HasPart}
-use Rattle.pgb_logged.proofs.Settled.{OneList}
+use Rattle.pgb_stanza.proofs.Settled.{OneList}
 use Rattle.pgb_logged.proofs.Reading.{backup_made, online_read, label_there, no_files, no_files_beside}
 use Rattle.pgb_logged.proofs.Begun.{BeginsFull, told_as, at_now, stanza_there, list_there, no_vacant, steady_list}
 use Rattle.pgb_logged.proofs.Behind.{moves_steady, moves_on, all_then, part_then, all_part, after_then, one_cluster}

@@ -19,7 +19,7 @@ use Rattle.pgb_backup.specs.Draft.{stanza_of, pair_of, is_own_of, list_in}
 use Rattle.pgb_backup.specs.Made.{LeavesList}
 use Rattle.pgb_backup.proofs.Far.{far}
 use Rattle.pgb_backup.proofs.Unlisted.{IsFar, tight_of, beside_stands, unlisted_moves}
-use Rattle.pgb_logged.proofs.Settled.{OneList}
+use Rattle.pgb_stanza.proofs.Settled.{OneList}
 use Rattle.pgb_logged.proofs.Begun.{BeginsFull, told_as, stanza_there, list_there, no_vacant, steady_list}
 
 -- a way of one kind is one of another that is wider

@@ -8,7 +8,7 @@ ghost use Rattle.pgb_stage.specs.declared.plan.Pairs.TheVariants.{HealArchive as
 ghost use Rattle.pgb_stage.specs.Current.{AgreesAtPair, ArchiveCause, BackupCause};
 ghost use Rattle.pgb_stage.specs.Plans.{Heals, OnReading, AreHealed};
 ghost use Rattle.pgb_stage.specs.Runs.{Mends};
-ghost use Rattle.pgb_prepare.specs.Readies.{has_archive, has_backup, IfAsked, IsArchiveOf, IsBackupOf};
+ghost use Rattle.pgb_prepare.specs.Readies.{has_archive, has_backup, FitsLimit, IfAsked, IsArchiveOf, IsBackupOf};
 ghost use Rattle.pgb_prepare.specs.Stages.{IsArchiveFault, ArchivePairCause, NoArchive, NoBackup, RepoCause};
 
 use pgb_info::MemberFault;
@@ -104,6 +104,7 @@ fn read_backup<D: Disk>(
     stanza: &str,
 ) -> Result<BackupInfo, Halt<StageFault>>
     ensures found { IfOk result (IsBackupOf stanza.now (D.state repo.old).view.now) }
+    ensures fits { IfOk result FitsLimit }
     ensures looks { Looks (D.state repo.old) (D.state repo.new) }
     ensures cause { IfErr result (RepoCause (BackupCause stanza.now) (D.state repo.old) (D.state repo.new)) }
 {
@@ -155,6 +156,7 @@ pub(crate) fn backup_by<D: Disk>(
     pairs: Pairs,
 ) -> Result<Option<BackupInfo>, Halt<StageFault>>
     ensures found { IfOk result (IfAsked (has_backup pairs) (IsBackupOf stanza.now (D.state repo.old).view.now)) }
+    ensures fits { IfOk result (IfAsked (has_backup pairs) FitsLimit) }
     ensures looks { Looks (D.state repo.old) (D.state repo.new) }
     ensures cause { IfErr result (RepoCause (NoBackup pairs stanza.now) (D.state repo.old) (D.state repo.new)) }
 {

@@ -1,10 +1,12 @@
 mod Refused
 pub mod Saves
 mod Owned
-mod NewStanza
+pub mod NewStanza
+pub mod Settled
+pub mod Alikes
 pub mod OneBackup
 mod Mended
-mod Lengths
+pub mod Lengths
 mod Shorter
 mod Judged
 mod Kept

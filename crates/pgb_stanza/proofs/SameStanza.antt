@@ -29,6 +29,7 @@ use Rattle.pgb_stanza.specs.Judging.{Settles, As, Without, KeepsStanza}
 use Rattle.pgb_stanza.specs.Mending.{archive_text, backup_text, mending_writes, HoldBoth, HaveTexts}
 use Rattle.pgb_stanza.proofs.NewStanza.{no_pair, at_told, are_tight}
 use Rattle.pgb_stanza.proofs.OneBackup.{same_backup_text, pair_agrees}
+use Rattle.pgb_stanza.proofs.Settled.{same_front}
 use Rattle.pgb_stanza.proofs.Shorter.{last_number, shorter_rules, shorter_text}
 use Rattle.pgb_stanza.proofs.Mended.{mended_moves, mended_steady, mended_now}
 
@@ -45,16 +46,6 @@ get_map : {X Y : Type 0} (g : X → Y) (xs : List X) (n : ℕ) (y : Y) → slice
 get_map {X} {Y} g [] n y e = let no : ◌≡◌ {A = Option Y} None (Some y) = e in cc
 get_map {X} {Y} g (x ∷ xs) zero y e = let is : ◌≡◌ {A = Option Y} (Some (g x)) (Some y) = e in (x, refl, (let same : y ≡ g x = cc in same))
 get_map g (x ∷ xs) (suc n) y e = get_map g xs n y e
-
--- lists with one more at the end
-same_front : (xs ys : List Cluster) (x y : Cluster) → xs ++ x ∷ [] ≡ ys ++ y ∷ [] → xs ≡ ys
-same_front [] [] x y e = refl
-same_front [] (b ∷ ys) x y e = absurd (omega (arith, ap length e, length-append ys (y ∷ [])))
-same_front (a ∷ xs) [] x y e = absurd (omega (arith, ap length e, length-append xs (x ∷ [])))
-same_front (a ∷ xs) (b ∷ ys) x y e =
-    let first : a ≡ b = cc in
-    let rest : xs ++ x ∷ [] ≡ ys ++ y ∷ [] = cc in
-    ap (λ (z : Cluster). z ∷ xs) first ∙ ap (λ (zs : List Cluster). b ∷ zs) (same_front xs ys x y rest)
 
 -- the sections tell of the backups by their fields
 sections_by : (n : ℕ) (hs : List Cluster) (xs ys : List Entry) → map entry_field xs ≡ map entry_field ys → backup_sections (record { current = n; history = hs; backups = xs }) ≡ backup_sections (record { current = n; history = hs; backups = ys })

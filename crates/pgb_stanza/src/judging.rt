@@ -6,6 +6,7 @@ ghost use Rattle.pgb_model.specs.Values.{archive_info_of, backup_info_of, entry_
 ghost use Rattle.pgb_model.specs.InfoFiles.{IsArchiveInfo, IsBackupInfo, IsLabel};
 ghost use Rattle.pgb_model.specs.Repository.{identity_of};
 ghost use Rattle.pgb_stanza.specs.Pairs.{DifferFirst, HasPending};
+ghost use Rattle.pgb_stanza.specs.Mending.{backup_text};
 ghost use Rattle.pgb_stanza.specs.Judging.{Settles, IsOf, TellsDifference, TellsOther, TellsLost, Unfit};
 ghost use Rattle.pgb_stanza.specs.Causes.{IfLost};
 
@@ -98,19 +99,22 @@ fn without_last(mut backup: BackupInfo) -> BackupInfo
     ensures current { result.current ≡ length result.history.items }
     ensures backups { (backup_info_of result).backups ≡ (backup_info_of backup).backups }
     ensures valid { IsBackupInfo (backup_info_of result) }
+    ensures shorter { length (backup_text (backup_info_of result)) ≤ length (backup_text (backup_info_of backup)) }
 {
     backup.history.pop();
     backup.current = backup.history.len() as u32;
     backup
 }
 
-// The backup pair's value without a cluster that is still to come.
-fn settle(archive: &ArchiveInfo, backup: BackupInfo) -> Result<BackupInfo, StanzaFault>
+/// The backup pair's value without a cluster that is still to come, where the two values fit together.
+pub fn settle_list(archive: &ArchiveInfo, backup: BackupInfo) -> Result<BackupInfo, StanzaFault>
     requires archive { IsArchiveInfo (archive_info_of archive.now) }
     requires backup { IsBackupInfo (backup_info_of backup) }
     ensures settled { IfOk result
         (λ w. Settles (archive_info_of archive.now) (backup_info_of backup) (backup_info_of w)) }
     ensures valid { IfOk result (λ w. IsBackupInfo (backup_info_of w)) }
+    ensures shorter { IfOk result
+        (λ w. length (backup_text (backup_info_of w)) ≤ length (backup_text (backup_info_of backup))) }
     ensures differ { IfErr result (TellsDifference (archive_info_of archive.now) (backup_info_of backup)) }
     ensures label { IfErr result (λ e. IfLost e IsLabel) }
 {
@@ -163,7 +167,7 @@ pub fn fit_list(
     ensures unfit { IfErr result (Unfit told.now (archive_info_of archive.now) (backup_info_of backup)) }
     ensures label { IfErr result (λ e. IfLost e IsLabel) }
 {
-    let backup = settle(archive, backup)?;
+    let backup = settle_list(archive, backup)?;
     check_current(archive, told)?;
     Ok(backup)
 }

@@ -22,5 +22,5 @@ mod saving;
 pub use control::{Control, ControlFault, NEWEST_VERSION, OLDEST_VERSION, read_control};
 pub use creating::{Created, create};
 pub use fault::{Identity, StanzaFault};
-pub use judging::fit_list;
+pub use judging::{fit_list, settle_list};
 pub use names::{archive_info_name, backup_info_name};

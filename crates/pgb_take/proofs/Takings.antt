@@ -11,13 +11,9 @@ use Rattle.pgb_model.specs.declared.clusters.BackupInfo as rust_backup_info
 use Rattle.pgb_model.specs.declared.labels.Label.{Label}
 use Rattle.pgb_model.specs.InfoFiles.{IsBackupText}
 use Rattle.pgb_model.specs.Names.{backup_info}
-use Rattle.pgb_model.specs.Now.{NowDoes}
 use Rattle.pgb_model.specs.Pair.{PairIs}
-use Rattle.pgb_model.specs.Steps.{Command, steps_of}
 use Rattle.pgb_model.specs.Text.{Text}
 use Rattle.pgb_model.specs.Values.{ArchiveInfo, BackupInfo, Entry, archive_info_of, backup_info_of}
-use Rattle.pgb_model.proofs.Done.{part_none}
-use Rattle.pgb_model.proofs.Steady.{steady_rests, front_moves}
 use Rattle.pgb_one_text.proofs.Lists.{one_list}
 use Rattle.pgb_one_text.proofs.Manifests.{one_manifest}
 use Rattle.pgb_plan.specs.Filter.{ListedNode}
@@ -36,8 +32,8 @@ use Rattle.pgb_stage.specs.declared.outcome.Outcome.{Outcome}
 use Rattle.pgb_stage.specs.declared.plan.Settling.TheVariants.{Whole}
 use Rattle.pgb_stage.specs.Current.{HasValue}
 use Rattle.pgb_stage.specs.Reached.{OnFinished, reached_by, back_if, fails_early}
-use Rattle.pgb_stage.specs.Runs.{Reached, to_end, turned_back, stopped, turns_of, IsPart, DoesPart, DoesWhole, Does, On, one}
-use Rattle.pgb_stage.proofs.Lifted.{all_as, none_as}
+use Rattle.pgb_stage.specs.Runs.{to_end, turned_back, stopped, Does, On, one}
+use Rattle.pgb_stage.proofs.After.{does_after}
 use Rattle.pgb_prepare.specs.Readies.{IsArchiveOf, IsBackupOf}
 use Rattle.pgb_logged.specs.Backups.{IsFullBackup, AddsBackup, bytes_in}
 use Rattle.pgb_logged.proofs.Added.{adds_full_backup}
@@ -54,28 +50,6 @@ use Rattle.pgb_take.proofs.Beginnings.{same_backups}
 use Rattle.pgb_take.proofs.Causes.{if_both}
 use Rattle.pgb_take.proofs.Links.{Comes, read_by_used, full_by_used, all_read_on}
 use Rattle.pgb_take.proofs.Makings.{finish_ok, finish_early}
-
--- ---- reading calls before it
-
-part_after : (stanza : Text) (command : Command) (a b d : View) → Rests a b → b.now ≡ a.now → DoesPart Whole stanza command b d → DoesPart Whole stanza command a d
-part_after stanza command a b d rests same h = record {
-  part = subst (λ (o : Option Content). NowDoes stanza command false o d.now) same h.part;
-  goes = λ r some steady sound. front_moves stanza r (IsPart stanza command r) a b d rests steady (λ g stands. ([], part_none (steps_of command r), stands, sound))
-      (h.goes r (subst (λ (o : Option Content). IsSome o) (sym same) some) (steady_rests stanza r a b rests same steady) sound);
-}
-
-whole_after : (stanza : Text) (command : Command) (a b d : View) → Rests a b → b.now ≡ a.now → DoesWhole Whole stanza command b d → DoesWhole Whole stanza command a d
-whole_after stanza command a b d rests same h = record {
-  done = subst (λ (o : Option Content). NowDoes stanza command true o d.now) same h.done;
-  ends = λ r some steady sound. h.ends r (subst (λ (o : Option Content). IsSome o) (sym same) some) (steady_rests stanza r a b rests same steady) sound;
-}
-
-pub does_after : (stanza : Text) (command : Command) (reached : Reached) (a b d : View) → Rests a b → b.now ≡ a.now → Does Whole stanza command reached b d → Does Whole stanza command reached a d
-does_after stanza command reached a b d rests same h = record {
-  part = part_after stanza command a b d rests same h.part;
-  whole = all_as reached (DoesWhole Whole stanza command b d) (DoesWhole Whole stanza command a d) (whole_after stanza command a b d rests same) h.whole;
-  turned = none_as reached (DoesPart Whole stanza (turns_of command) b d) (DoesPart Whole stanza (turns_of command) a d) (part_after stanza (turns_of command) a b d rests same) h.turned;
-}
 
 -- ---- where it is refused before
 

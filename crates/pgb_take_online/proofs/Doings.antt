@@ -51,7 +51,7 @@ use Rattle.pgb_take.specs.Faults.{take_early}
 use Rattle.pgb_take.specs.Making.{IsEndOf}
 use Rattle.pgb_take.proofs.Links.{Comes, where_back}
 use Rattle.pgb_take.proofs.Makings.{finish_ok, finish_early}
-use Rattle.pgb_take.proofs.Takings.{does_after}
+use Rattle.pgb_stage.proofs.After.{does_after}
 use Rattle.pgb_worker_reply.specs.Reads.{IsPayload, file_of}
 use Rattle.pgb_take_online.specs.declared.fault.OnlineTakeFault.{OnlineTakeFault}
 use Rattle.pgb_take_online.specs.Doing.{Heard, TakesTurns, DoesOnline}

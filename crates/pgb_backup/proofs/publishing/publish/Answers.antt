@@ -6,7 +6,7 @@ use Rattle.pgb_manifest.specs.Keeping.{manifest_text}
 use Rattle.pgb_outside.specs.Crash.{FirstOf, AllOf}
 use Rattle.pgb_backup.specs.Draft.{stanza_of, pair_of, main_of}
 use Rattle.pgb_backup.specs.Staged.{closed_draft, closed_online}
-use Rattle.pgb_backup.proofs.Alikes.{now_alike}
+use Rattle.pgb_stanza.proofs.Alikes.{now_alike}
 use Rattle.pgb_backup.proofs.Besides.{saved_beside, listed_beside}
 use Rattle.pgb_backup.proofs.Commits.{stays_still, crash_at, ends_at, goes_at, stays_saved, list_crash, list_ends, makes_part, makes_whole}
 use Rattle.pgb_backup.proofs.Labels.{apart}

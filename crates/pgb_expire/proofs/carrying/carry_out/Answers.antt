@@ -3,8 +3,9 @@ use Rattle.pgb_outside.proofs.Places.{ok_both as on_ok_both}
 use Rattle.pgb_model.specs.Values.{archive_info_of, backup_info_of, entry_of}
 use Rattle.pgb_retain.specs.Labels.{labels_of}
 use Rattle.pgb_expire.specs.Losing.{IsUnlisted, IsUnneeded}
-use Rattle.pgb_expire.specs.Planning.{keeps_by}
+use Rattle.pgb_expire.specs.Planning.{keeps_by, list_text}
 use Rattle.pgb_expire.proofs.Losses.{takes_crash, takes_goes}
+use Rattle.pgb_expire.proofs.Alike.{always, members_alike}
 use Rattle.pgb_expire.proofs.Carried.{main_tight, copy_tight, unlisted_as, unneeded_as, gone_as, counts_as}
 use Rattle.pgb_expire.proofs.Ways.{saved_moves, lost_moves, gone_moves, gone_steady}
 use Rattle.pgb_expire.proofs.WaysNow.{saved_now, lost_now, gone_now, gone_all}
@@ -64,3 +65,6 @@ returns-clause-beside g c = gone_beside c.args.stanza.now (labels_of (map entry_
 
 pub returns-clause-touches : goal.returns-clause-touches
 returns-clause-touches g c = gone_only c.args.stanza.now (labels_of (map entry_of c.args.plan.now.left.backups.items)) (g.D.Disk.state c.args.d.now) (g.D.Disk.state c.save_left.new.d) (g.D.Disk.state c.drop_unlisted.new.d) (g.D.Disk.state c.forget.new.d) c.save_left.ensures.only (unlisted_as c.args.stanza.now _ _ c.deref.ensures.value (g.D.Disk.state c.save_left.new.d) (g.D.Disk.state c.drop_unlisted.new.d) c.drop_unlisted.ensures.takes) (keeps_by c.args.rules.now c.args.plan.now.archive.current (map entry_of c.args.plan.now.left.backups.items)) (unneeded_as c.args.stanza.now _ _ c.deref-3.ensures.value c.args.rules.now c.args.plan.now.archive.current (g.D.Disk.state c.drop_unlisted.new.d) (g.D.Disk.state c.forget.new.d) c.forget.ensures.takes)
+
+pub returns-clause-alike : goal.returns-clause-alike
+returns-clause-alike g c = always c.forget.result (members_alike c.args.stanza.now (list_text (backup_info_of c.args.plan.now.left)) (labels_of (map entry_of c.args.plan.now.left.backups.items)) (keeps_by c.args.rules.now c.args.plan.now.archive.current (map entry_of c.args.plan.now.left.backups.items)) (g.D.Disk.state c.args.d.now) (g.D.Disk.state c.save_left.new.d) (g.D.Disk.state c.drop_unlisted.new.d) (g.D.Disk.state c.forget.new.d) c.in_ok-save_left.ensures.now_whole (unlisted_as c.args.stanza.now _ _ c.deref.ensures.value (g.D.Disk.state c.save_left.new.d) (g.D.Disk.state c.drop_unlisted.new.d) c.drop_unlisted.ensures.takes) (unneeded_as c.args.stanza.now _ _ c.deref-3.ensures.value c.args.rules.now c.args.plan.now.archive.current (g.D.Disk.state c.drop_unlisted.new.d) (g.D.Disk.state c.forget.new.d) c.forget.ensures.takes))

@@ -4,7 +4,7 @@ use Rattle.pgb_model.specs.Names.{backup_info}
 use Rattle.pgb_model.specs.Values.{backup_info_of}
 use Rattle.pgb_model.specs.Create.{member_writes}
 use Rattle.pgb_stanza.proofs.Saves.{backup_name_is, part_as, whole_as, crash_as, ends_as}
-use Rattle.pgb_expire.specs.Planning.{left_text}
+use Rattle.pgb_expire.specs.Planning.{list_text}
 use Rattle.pgb_expire.proofs.Spelled.{spelled, fits}
 use Rattle.pgb_expire.proofs.saving.save_left.Goals as goal
 
@@ -25,7 +25,7 @@ pub returns-clause-now_whole : goal.returns-clause-now_whole
 returns-clause-now_whole g c = whole_as _ _ _ _ _ _ (c.as_str.ensures.value ∙ c.in_ok-name.ensures) (spelled (backup_info_of c.args.left.now)) c.in_ok-save_pair.ensures.now_whole
 
 pub returns-in_err-name-clause-crash : goal.returns-in_err-name-clause-crash
-returns-in_err-name-clause-crash g c = λ main copy. crash_none (member_writes (backup_info c.args.stanza.now) (left_text (backup_info_of c.args.left.now))) _
+returns-in_err-name-clause-crash g c = λ main copy. crash_none (member_writes (backup_info c.args.stanza.now) (list_text (backup_info_of c.args.left.now))) _
 
 pub returns-in_err-save_pair-clause-crash : goal.returns-in_err-save_pair-clause-crash
 returns-in_err-save_pair-clause-crash g c = crash_as _ _ _ _ _ _ (c.as_str.ensures.value ∙ c.in_ok-name.ensures) (spelled (backup_info_of c.args.left.now)) c.save_pair.ensures.crash
