@@ -1,0 +1,2 @@
+mod Prunings
+mod Statuses

@@ -1,0 +1,77 @@
+-- The list of expire, and what it does where it is refused or the clock fails.
+use Rattle.std.proofs.Common.{◌≡◌, ℕ, zero, Bool, true, false, Option, Some, None, refl, arith}
+use Rattle.std.specs.Prelude.{IfOk, IfSome, IsErrAnd, OnOk, Result, Ok, Err}
+use Rattle.pgb_outside.specs.Content.{Content}
+use Rattle.pgb_outside.specs.Moments.{View}
+use Rattle.pgb_outside.specs.States.{ClockState}
+use Rattle.pgb_disk.proofs.Changes.{only_none}
+use Rattle.pgb_model.specs.declared.clusters.ArchiveInfo as rust_archive_info
+use Rattle.pgb_model.specs.declared.clusters.BackupInfo as rust_backup_info
+use Rattle.pgb_model.specs.Steps.{Expire}
+use Rattle.pgb_model.specs.Text.{Text}
+use Rattle.pgb_model.specs.Values.{ArchiveInfo, BackupInfo, archive_info_of, backup_info_of}
+use Rattle.pgb_stanza.specs.Judging.{Settles}
+use Rattle.pgb_archive.specs.Still.{rests_none}
+use Rattle.pgb_retain.specs.declared.rules.FullRule.{FullRule}
+use Rattle.pgb_retain.specs.declared.rules.FullRule.TheVariants.{Unset, Count, Days}
+use Rattle.pgb_retain.specs.declared.rules.Rules.{Rules}
+use Rattle.pgb_expire.specs.Expiry.{IsTouched, retention}
+use Rattle.pgb_expire.specs.Planning.{HasList}
+use Rattle.pgb_expire.proofs.Whole.{keeps_needed}
+use Rattle.pgb_stage.specs.declared.halt.Halt.{Halt}
+use Rattle.pgb_stage.specs.declared.halt.Halt.TheVariants.{Refused, Failed, NoMemory}
+use Rattle.pgb_stage.specs.declared.outcome.Outcome.{Outcome}
+use Rattle.pgb_stage.specs.declared.plan.Settling.TheVariants.{Whole}
+use Rattle.pgb_stage.specs.Reached.{OnFinished, reached_by, back_if, fails_early}
+use Rattle.pgb_stage.specs.Runs.{to_end, turned_back, stopped}
+use Rattle.pgb_stage.proofs.Doing.{rests_part, rests_does}
+use Rattle.pgb_prepare.specs.Readies.{IsArchiveOf, IsBackupOf}
+use Rattle.pgb_prune.specs.declared.fault.PruneFault.{PruneFault}
+use Rattle.pgb_prune.specs.Faults.{prune_early}
+use Rattle.pgb_prune.specs.Pruning.{IsMoment, TellsMoment, IsPruned, Prunes}
+
+-- the values that were read settle to this list
+pub has_list : (stanza : Text) (now : Option Content) (archive : rust_archive_info.ArchiveInfo) (backup list : rust_backup_info.BackupInfo) → IsArchiveOf stanza now archive → IsBackupOf stanza now backup → Settles (archive_info_of archive) (backup_info_of backup) (backup_info_of list)
+    → IfSome now (λ f. HasList stanza f (archive_info_of archive) (backup_info_of list))
+has_list stanza None archive backup list a b settles = tt
+has_list stanza (Some f) archive backup list a b settles = record { backup = backup_info_of backup; pairs = record { archive = a.0; backup = b.0 }; settles = settles }
+
+-- ---- where nothing was done
+
+back_not : (early : Bool) → ¬ (back_if early ≡ to_end)
+back_not true at = let e : turned_back ≡ to_end = at in cc
+back_not false at = let e : stopped ≡ to_end = at in cc
+
+not_end : (result : Result Outcome (Halt PruneFault)) (h : Halt PruneFault) → IsErrAnd result (λ x. x ≡ h) → ¬ (reached_by prune_early result ≡ to_end)
+not_end (Ok x) h is at = absurd is
+not_end (Err (Refused e)) h is at = back_not (prune_early e) at
+not_end (Err (Failed object)) h is at = back_not (fails_early object) at
+not_end (Err NoMemory) h is at = let e : stopped ≡ to_end = at in cc
+
+-- a moment by which the rules may be read
+some_moment : (full : FullRule) (least : ℕ) → (moment : ℕ) × IsMoment full least moment
+some_moment Unset least = (zero, refl)
+some_moment (Count n) least = (zero, refl)
+some_moment (Days n) least = (least, omega arith)
+
+on_err : {T E : Type 0} (P : Type 0) (result : Result T E) (h : E) → IsErrAnd result (λ x. x ≡ h) → OnOk result P
+on_err P (Ok x) h is = absurd is
+on_err P (Err x) h is = tt
+
+if_err : {T E : Type 0} (P : T → Type 0) (result : Result T E) (h : E) → IsErrAnd result (λ x. x ≡ h) → IfOk result P
+if_err P (Ok x) h is = absurd is
+if_err P (Err x) h is = tt
+
+pub undone : (stanza : Text) (rules : Rules) (clock new_clock : ClockState) (a : View) (result : Result Outcome (Halt PruneFault)) (h : Halt PruneFault) → IsErrAnd result (λ x. x ≡ h) → Prunes stanza rules clock new_clock a a result
+undone stanza rules clock new_clock a result h is =
+    let m = some_moment rules.full clock.least in
+    let command = Expire (retention rules m.0) in
+    record {
+      moment = m.0;
+      may_be = m.1;
+      told = on_err (TellsMoment rules.full clock new_clock m.0) result h is;
+      does = rests_does Whole stanza command (reached_by prune_early result) a a (not_end result h is) (rests_none a) refl;
+      pruned = if_err (λ o. OnFinished o (IsPruned stanza rules m.0 a.now a.now)) result h is;
+      keeps = keeps_needed stanza rules m.0 a a (rests_part Whole stanza command a a (rests_none a) refl);
+      touches = λ s told now. only_none (IsTouched stanza rules m.0 s) a;
+    }

@@ -1,0 +1,4 @@
+pub mod Rules
+pub mod Texts
+pub mod Faults
+pub mod Pruning

@@ -1,0 +1,30 @@
+-- The status and the message of each refusal of expire, and the lines that tell what went (own).
+use Rattle.std.specs.Prelude.{ℕ, ◌++◌, List, codes, decimal, if◌then◌else◌, nat_eq}
+use Rattle.std.specs.List.{flat_map}
+use Rattle.pgb_model.specs.declared.labels.Label.{Label}
+use Rattle.pgb_model.specs.Names.{label_text}
+use Rattle.pgb_model.specs.Text.{Text}
+use Rattle.pgb_prune.specs.declared.fault.PruneFault.{PruneFault}
+use Rattle.pgb_prune.specs.declared.fault.PruneFault.TheVariants.{HistoryDiffers}
+
+-- ---- what went
+
+-- the line that tells the label of a backup that went
+abbrev pub label_line : Label → Text
+label_line label = codes "INFO: expire backup " ++ (label_text label ++ codes "\n")
+
+-- the line that tells how many archive files went; there is none where none did
+abbrev pub removed_line : ℕ → Text
+removed_line removed = if nat_eq removed 0 then codes "" else codes "INFO: removed " ++ (decimal removed ++ codes " archive files\n")
+
+-- a line for each label, and then that of the files
+abbrev pub lines_of : List Label → ℕ → Text
+lines_of labels removed = flat_map label_line labels ++ removed_line removed
+
+-- ---- refusals
+
+abbrev pub prune_status : PruneFault → ℕ
+prune_status (HistoryDiffers at) = 101
+
+abbrev pub prune_message : PruneFault → Text
+prune_message (HistoryDiffers at) = codes "archive history and backup history differ at " ++ decimal at

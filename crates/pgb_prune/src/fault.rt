@@ -1,0 +1,42 @@
+// Why expire is refused.
+ghost use Rattle.std.specs.Prelude.{◌≡◌};
+ghost use Rattle.pgb_prune.specs.Faults.{of_stanza, of_expire};
+
+use pgb_expire::ExpireFault;
+use pgb_stage::{Halt, Object};
+use pgb_stanza::StanzaFault;
+
+/// Why expire is refused.
+#[derive(Debug, Drop)]
+pub enum PruneFault {
+    /// The histories of the two info pairs differ; `at` is the first number at which they do.
+    HistoryDiffers { at: u32 },
+}
+
+/// What a fault of the stanza is.
+pub(crate) fn of_stanza(fault: StanzaFault) -> Halt<PruneFault>
+    ensures { result ≡ of_stanza fault }
+{
+    match fault {
+        StanzaFault::HistoryDiffers { at } => Halt::Refused(PruneFault::HistoryDiffers { at }),
+        // Values that were read don't end with one of these.
+        StanzaFault::InfoDamaged { .. }
+        | StanzaFault::StanzaMismatch { .. }
+        | StanzaFault::ArchiveLost { .. }
+        | StanzaFault::Disk
+        | StanzaFault::NoMemory => Halt::NoMemory,
+    }
+}
+
+/// What a fault of the expiry is.
+pub(crate) fn of_expire(fault: ExpireFault) -> Halt<PruneFault>
+    ensures { result ≡ of_expire fault }
+{
+    match fault {
+        ExpireFault::Disk => Halt::Failed(Object::Repo),
+        // An expiry of a list that was read doesn't end with one of the first two.
+        ExpireFault::Info(_) | ExpireFault::HistoryDiffers { .. } | ExpireFault::NoMemory => {
+            Halt::NoMemory
+        }
+    }
+}
