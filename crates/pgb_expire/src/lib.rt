@@ -7,13 +7,14 @@
 //!
 //! What is proved, by the contract of the function that is named:
 //!
-//! - `expire`: of a sound repository a part of the expiry is done after every answer and at each moment after a crash,
-//!   and all of it at Ok. The labels that it tells are those that the rules condemn, and it tells how many files of the
-//!   archive went.
+//! - `expire`, and `expire_list`, which is handed the list: of a sound repository a part of the expiry is done after
+//!   every answer and at each moment after a crash, and all of it at Ok. The labels that it tells are those that the
+//!   rules condemn, and it tells how many files of the archive went.
 //! - At each moment each backup that stays, and each file that it needs, have the bytes that they had.
 //! - Nothing changes but the backup pair, folders of labels, and files of the archive that aren't timeline histories.
 //!   It keeps to its stanza, and its calls are made as they ask.
-//! - Each refusal has its cause. Where one of the pairs has no value, only was read.
+//! - Each refusal has its cause. Where one of the pairs has no value, or their histories differ, only was read.
+//! - At Ok both members of the backup pair are alike.
 #![tactic(auto)]
 
 mod carrying;

@@ -3,6 +3,19 @@
 //!
 //! The stanza's list is settled against the archive pair's history first, and the clock is read where the rules count
 //! days. Only then anything is written.
+//!
+//! What is proved, by the contract of the function that is named:
+//!
+//! - `prune_stanza`, while the backup lock is held: in the log it is an `Expire` by the rules at one moment. A part of it
+//!   is done after every answer and at each moment, all of it at Ok, and nothing where it is refused.
+//! - At Ok that moment is the second that the clock told where the rules count days, and else 0. Where they don't, the
+//!   clock isn't used.
+//! - At Ok the lines tell the labels that the rules condemn, in the list's order, and how many files of the archive are
+//!   gone. Both members of the backup pair are alike.
+//! - At each moment each backup that stays, and each file that it needs, have the bytes that they had. Nothing changes
+//!   but the backup pair, folders of labels, and files of the archive that aren't timeline histories.
+//! - Each refusal has its cause in what stood before, and each object that failed counted it.
+//! - `rules_of`: the rules are those of the options.
 #![tactic(auto)]
 
 mod fault;
