@@ -14,7 +14,7 @@ const FIRST: &[&str] = &["20240102-030405F"];
 
 const NONE: &[&str] = &[];
 
-const ALL: &[&[Held]] = &[GOES, UNLISTED, STAYS];
+pub(crate) const ALL: &[&[Held]] = &[GOES, UNLISTED, STAYS];
 
 // How many full backups are kept, and from how many on the log is.
 fn rules(full: u32, archive: Option<u32>) -> Rules {
@@ -45,7 +45,7 @@ fn check_expiry(
     same(rt, told.removed, removed);
 }
 
-fn check_held(rt: &impl Abort, disk: &MemDisk, names: &[Held]) {
+pub(crate) fn check_held(rt: &impl Abort, disk: &MemDisk, names: &[Held]) {
     for (name, bytes) in names {
         same(rt, (*name, disk.bytes(name)), (*name, Some(*bytes)));
     }
@@ -62,8 +62,8 @@ fn check_list(rt: &impl Abort, disk: &MemDisk, list: &str) {
     same(rt, disk.bytes(COPY), Some(list.as_bytes()));
 }
 
-// All that goes is gone, and all that stays is there.
-fn check_done(rt: &impl Abort, disk: &MemDisk) {
+/// All that goes is gone, and all that stays is there.
+pub(crate) fn check_done(rt: &impl Abort, disk: &MemDisk) {
     check_list(rt, disk, SECOND);
     check_gone(rt, disk, GOES);
     check_gone(rt, disk, UNLISTED);
@@ -119,8 +119,8 @@ fn nothing_goes_without_rules(rt: HostRuntime) {
     check_gone(&rt, &disk, UNLISTED);
 }
 
-// The list is as before or without the first backup, and what stays is there. The next expiry makes all good.
-fn check_left(rt: &impl Abort, alloc: Global, disk: &mut MemDisk) {
+/// The list is as before or without the first backup, and what stays is there. The next expiry makes all good.
+pub(crate) fn check_left(rt: &impl Abort, alloc: Global, disk: &mut MemDisk) {
     check_held(rt, disk, STAYS);
     if disk.bytes(INFO) == Some(BOTH.as_bytes()) {
         check_held(rt, disk, GOES);
@@ -132,9 +132,9 @@ fn check_left(rt: &impl Abort, alloc: Global, disk: &mut MemDisk) {
     check_done(rt, disk);
 }
 
-// Opened anew on what a stop at that moment leaves: the newest kept values; or the oldest, and garbage where any bytes
-// may be.
-fn stopped(
+/// Opened anew on what a stop at that moment leaves: the newest kept values; or the oldest, and garbage where any bytes
+/// may be.
+pub(crate) fn stopped(
     alloc: Global,
     disk: &MemDisk,
     moment: u64,

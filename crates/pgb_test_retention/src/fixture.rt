@@ -11,9 +11,17 @@ pub(crate) const COPY: &str = "backup/demo/backup.info.copy";
 const ARCHIVE: &str =
     "[backrest]\nbackrest-format=5\n\n[db]\ndb-id=1\ndb-system-id=6917529027641081857\ndb-version=\"16\"\n\n[db:history]\n1={\"db-id\":6917529027641081857,\"db-version\":\"16\"}\n\n[backrest]\nbackrest-checksum=\"5ab4590d6c21779f8a41b4a22f28e5f580cee6ee\"\n";
 
+/// The same of another cluster.
+pub(crate) const OTHER: &str =
+    "[backrest]\nbackrest-format=5\n\n[db]\ndb-id=1\ndb-system-id=6917529027641081858\ndb-version=\"16\"\n\n[db:history]\n1={\"db-id\":6917529027641081858,\"db-version\":\"16\"}\n\n[backrest]\nbackrest-checksum=\"21451cf2883d56fe3cfc81d83d673041cd2adebb\"\n";
+
 /// The text of `backup.info` with both backups.
 pub(crate) const BOTH: &str =
     "[backrest]\nbackrest-format=5\n\n[backup:current]\n20240102-030405F={\"backup-archive-start\":\"000000010000000000000002\",\"backup-archive-stop\":\"000000010000000000000002\",\"backup-info-repo-size-delta\":3,\"backup-info-size\":3,\"backup-prior\":null,\"backup-reference\":[],\"backup-timestamp-start\":1704164645,\"backup-timestamp-stop\":1704164655,\"backup-type\":\"full\",\"db-id\":1}\n20240103-030405F={\"backup-archive-start\":\"000000010000000000000005\",\"backup-archive-stop\":\"000000010000000000000005\",\"backup-info-repo-size-delta\":3,\"backup-info-size\":3,\"backup-prior\":null,\"backup-reference\":[],\"backup-timestamp-start\":1704251045,\"backup-timestamp-stop\":1704251055,\"backup-type\":\"full\",\"db-id\":1}\n\n[db]\ndb-catalog-version=202307071\ndb-control-version=1300\ndb-id=1\ndb-system-id=6917529027641081857\ndb-version=\"16\"\n\n[db:history]\n1={\"db-catalog-version\":202307071,\"db-control-version\":1300,\"db-system-id\":6917529027641081857,\"db-version\":\"16\"}\n\n[backrest]\nbackrest-checksum=\"dacafdb0739159e559e2968017b9a5123f46c9a9\"\n";
+
+/// The text with both backups and a second cluster, which is still to come.
+pub(crate) const COMING: &str =
+    "[backrest]\nbackrest-format=5\n\n[backup:current]\n20240102-030405F={\"backup-archive-start\":\"000000010000000000000002\",\"backup-archive-stop\":\"000000010000000000000002\",\"backup-info-repo-size-delta\":3,\"backup-info-size\":3,\"backup-prior\":null,\"backup-reference\":[],\"backup-timestamp-start\":1704164645,\"backup-timestamp-stop\":1704164655,\"backup-type\":\"full\",\"db-id\":1}\n20240103-030405F={\"backup-archive-start\":\"000000010000000000000005\",\"backup-archive-stop\":\"000000010000000000000005\",\"backup-info-repo-size-delta\":3,\"backup-info-size\":3,\"backup-prior\":null,\"backup-reference\":[],\"backup-timestamp-start\":1704251045,\"backup-timestamp-stop\":1704251055,\"backup-type\":\"full\",\"db-id\":1}\n\n[db]\ndb-catalog-version=202406281\ndb-control-version=1700\ndb-id=2\ndb-system-id=6917529027641081858\ndb-version=\"17\"\n\n[db:history]\n1={\"db-catalog-version\":202307071,\"db-control-version\":1300,\"db-system-id\":6917529027641081857,\"db-version\":\"16\"}\n2={\"db-catalog-version\":202406281,\"db-control-version\":1700,\"db-system-id\":6917529027641081858,\"db-version\":\"17\"}\n\n[backrest]\nbackrest-checksum=\"7f32097afe5801c6dd4fe1d6f7480226e49c553b\"\n";
 
 /// The text with the second backup alone.
 pub(crate) const SECOND: &str =
@@ -104,11 +112,22 @@ pub(crate) fn disk_with(
     held: &[&[Held]],
     fail: &[u64],
 ) -> Result<MemDisk, AllocError> {
+    disk_of(alloc, ARCHIVE, list, held, fail)
+}
+
+/// The same with this `archive.info`.
+pub(crate) fn disk_of(
+    alloc: Global,
+    archive: &str,
+    list: &str,
+    held: &[&[Held]],
+    fail: &[u64],
+) -> Result<MemDisk, AllocError> {
     let mut names = named_bytes(
         alloc,
         &[
-            ("archive/demo/archive.info", ARCHIVE.as_bytes()),
-            ("archive/demo/archive.info.copy", ARCHIVE.as_bytes()),
+            ("archive/demo/archive.info", archive.as_bytes()),
+            ("archive/demo/archive.info.copy", archive.as_bytes()),
             (INFO, list.as_bytes()),
             (COPY, list.as_bytes()),
         ],
