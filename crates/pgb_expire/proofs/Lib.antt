@@ -24,6 +24,7 @@ pub mod Remaining
 pub mod Carried
 pub mod Gone
 pub mod Alike
+pub mod Receipts
 pub mod Touched
 pub mod Whole
 pub mod Behind

@@ -1,2 +1,2 @@
-mod Prunings
-mod Statuses
+pub mod Prunings
+pub mod Statuses

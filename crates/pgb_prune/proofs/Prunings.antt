@@ -1,4 +1,4 @@
--- The list of expire, and what it does where it is refused or the clock fails.
+-- The list of expire, what it does where it is refused or the clock fails, and what it is in the log.
 use Rattle.std.proofs.Common.{◌≡◌, ℕ, zero, Bool, true, false, Option, Some, None, refl, arith}
 use Rattle.std.specs.Prelude.{IfOk, IfSome, IsErrAnd, OnOk, Result, Ok, Err}
 use Rattle.pgb_outside.specs.Content.{Content}
@@ -23,12 +23,12 @@ use Rattle.pgb_stage.specs.declared.halt.Halt.TheVariants.{Refused, Failed, NoMe
 use Rattle.pgb_stage.specs.declared.outcome.Outcome.{Outcome}
 use Rattle.pgb_stage.specs.declared.plan.Settling.TheVariants.{Whole}
 use Rattle.pgb_stage.specs.Reached.{OnFinished, reached_by, back_if, fails_early}
-use Rattle.pgb_stage.specs.Runs.{to_end, turned_back, stopped}
+use Rattle.pgb_stage.specs.Runs.{to_end, turned_back, stopped, On, one, Does}
 use Rattle.pgb_stage.proofs.Doing.{rests_part, rests_does}
 use Rattle.pgb_prepare.specs.Readies.{IsArchiveOf, IsBackupOf}
 use Rattle.pgb_prune.specs.declared.fault.PruneFault.{PruneFault}
 use Rattle.pgb_prune.specs.Faults.{prune_early}
-use Rattle.pgb_prune.specs.Pruning.{IsMoment, TellsMoment, IsPruned, Prunes}
+use Rattle.pgb_prune.specs.Pruning.{IsMoment, TellsMoment, IsExpiryBy, IsPruned, Prunes}
 
 -- the values that were read settle to this list
 pub has_list : (stanza : Text) (now : Option Content) (archive : rust_archive_info.ArchiveInfo) (backup list : rust_backup_info.BackupInfo) → IsArchiveOf stanza now archive → IsBackupOf stanza now backup → Settles (archive_info_of archive) (backup_info_of backup) (backup_info_of list)
@@ -75,3 +75,10 @@ undone stanza rules clock new_clock a result h is =
       keeps = keeps_needed stanza rules m.0 a a (rests_part Whole stanza command a a (rests_none a) refl);
       touches = λ s told now. only_none (IsTouched stanza rules m.0 s) a;
     }
+
+-- ---- in the log
+
+-- it is an expiry by the rules
+pub in_log : (stanza : Text) (rules : Rules) (clock new_clock : ClockState) (a d : View) (result : Result Outcome (Halt PruneFault)) → Prunes stanza rules clock new_clock a d result
+    → On (one (IsExpiryBy rules clock.least)) (λ command. Does Whole stanza command (reached_by prune_early result) a d)
+in_log stanza rules clock new_clock a d result p = (Expire (retention rules p.moment), (p.moment, p.may_be, refl), p.does)
