@@ -31,7 +31,8 @@ use Rattle.pgb_prune.specs.Faults.{prune_early}
 use Rattle.pgb_prune.specs.Pruning.{IsMoment, TellsMoment, IsExpiryBy, IsPruned, Prunes}
 
 -- the values that were read settle to this list
-pub has_list : (stanza : Text) (now : Option Content) (archive : rust_archive_info.ArchiveInfo) (backup list : rust_backup_info.BackupInfo) → IsArchiveOf stanza now archive → IsBackupOf stanza now backup → Settles (archive_info_of archive) (backup_info_of backup) (backup_info_of list)
+pub has_list : (stanza : Text) (now : Option Content) (archive : rust_archive_info.ArchiveInfo) (backup list : rust_backup_info.BackupInfo)
+    → IsArchiveOf stanza now archive → IsBackupOf stanza now backup → Settles (archive_info_of archive) (backup_info_of backup) (backup_info_of list)
     → IfSome now (λ f. HasList stanza f (archive_info_of archive) (backup_info_of list))
 has_list stanza None archive backup list a b settles = tt
 has_list stanza (Some f) archive backup list a b settles = record { backup = backup_info_of backup; pairs = record { archive = a.0; backup = b.0 }; settles = settles }

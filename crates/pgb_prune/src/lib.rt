@@ -6,8 +6,8 @@
 //!
 //! What is proved, by the contract of the function that is named:
 //!
-//! - `prune_stanza`, while the backup lock is held: in the log it is an `Expire` by the rules at one moment. A part of it
-//!   is done after every answer and at each moment, all of it at Ok, and nothing where it is refused.
+//! - `prune_stanza`, while the backup lock is held: in the log it is an `Expire` by the rules at one moment. A part of
+//!   it is done after every answer and at each moment, all of it at Ok, and nothing where it is refused.
 //! - At Ok that moment is the second that the clock told where the rules count days, and else 0. Where they don't, the
 //!   clock isn't used.
 //! - At Ok the lines tell the labels that the rules condemn, in the list's order, and how many files of the archive are

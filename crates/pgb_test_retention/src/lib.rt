@@ -1,6 +1,6 @@
 //! Tests of retention: which backups and which files the rules let go, by tables, and expiries over a disk in memory,
-//! stopped at each of their moments, and with each call failing in turn; and the command's own part, with what it tells.
-//! By values from outside.
+//! stopped at each of their moments, and with each call failing in turn; and the command's own part, with what it
+//! tells. By values from outside.
 #![tactic(auto)]
 
 #[cfg(test)]
