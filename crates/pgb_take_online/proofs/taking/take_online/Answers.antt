@@ -1,12 +1,11 @@
-use Rattle.std.proofs.Common.{◌≡◌, ◌<◌, ◌≤◌, ◌^◌, ◌++◌, ◌∙◌, ℕ, List, [], Option, Some, None, true, false, map, take, length, refl, sym, ap, subst, arith, inl, inr}
-use Rattle.std.specs.Prelude.{IfSome, IsSome, IfErr, OnOk, Result, Ok, Err}
+use Rattle.std.proofs.Common.{◌≡◌, ◌<◌, ◌^◌, ℕ, List, [], Option, Some, true, false, map, take, length, refl, arith}
+use Rattle.std.specs.Prelude.{IfSome, IsSome, IfErr, OnOk, Result, Err}
 use Rattle.pgb_outside.specs.Cause.{Rises}
 use Rattle.pgb_outside.specs.Content.{Content}
 use Rattle.pgb_outside.specs.Links.{LinkState}
 use Rattle.pgb_outside.specs.Tree.{Nodes}
 use Rattle.pgb_model.specs.Text.{Text}
-use Rattle.pgb_model.specs.Values.{archive_info_of, backup_info_of}
-use Rattle.pgb_label.specs.declared.keeper.Ended.{Ended}
+use Rattle.pgb_model.specs.Values.{backup_info_of}
 use Rattle.pgb_story.specs.Beside.{StaysBeside}
 use Rattle.pgb_story.proofs.Stays.{rests_beside, beside_on}
 use Rattle.pgb_stanza.specs.declared.control.Control.{Control}
@@ -30,10 +29,9 @@ use Rattle.pgb_take_online.specs.declared.fault.OnlineTakeFault.{OnlineTakeFault
 use Rattle.pgb_take_online.specs.Causes.{Asked, OnlineCause}
 use Rattle.pgb_take_online.specs.Doing.{Heard}
 use Rattle.pgb_take_online.specs.Finishing.{Publishes, VainCause, OfTake, PublishCause}
-use Rattle.pgb_take_online.specs.Preparing.{PrepareCause}
 use Rattle.pgb_take_online.specs.Talking.{SpokenCause}
 use Rattle.pgb_take_online.proofs.Besides.{staged_beside, waited_beside, listed_beside}
-use Rattle.pgb_take_online.proofs.Causes.{All, in_all, of_take_as, prepare_takes, spoken_takes, vain_takes, publish_takes}
+use Rattle.pgb_take_online.proofs.Causes.{All, in_all, spoken_takes, vain_takes, publish_takes}
 use Rattle.pgb_take_online.proofs.Doings.{not_end, by_account, begins_running, rests_online, gave_up_online, left_online, waited_online, published_online, outcome_behind, part_of}
 use Rattle.pgb_take_online.proofs.Takings.{taken_online}
 use Rattle.pgb_take_online.proofs.Talks.{ended_before}
