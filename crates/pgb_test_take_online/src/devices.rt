@@ -6,7 +6,7 @@ ghost use Rattle.pgb_stage.specs.Plans.{AreHeld};
 ghost use Rattle.pgb_worker_dispatch.specs.Run.{AreReady};
 
 use crate::others::Storing;
-use crate::serving::answers;
+use crate::serving::{add_row, greeting};
 use pgb_memory::{MemClock, MemDisk, MemLocks, MemNode, MemTree, MemWire, named_bytes};
 use pgb_model::{ArchiveInfo, BackupInfo};
 use pgb_outside::{Disk, Link, Locks, Tree};
@@ -94,9 +94,10 @@ impl Case {
 
     // The server that answers so.
     fn server(&self, alloc: Global) -> Result<MemWire, AllocError> {
-        let system = [self.system, "1048576"];
-        let rows = [system.as_slice(), self.start, self.stop];
-        let bytes = answers(alloc, &rows)?;
+        let mut bytes = greeting(alloc)?;
+        add_row(alloc, &mut bytes, &[self.system, "1048576"])?;
+        add_row(alloc, &mut bytes, self.start)?;
+        add_row(alloc, &mut bytes, self.stop)?;
         let cuts = [7u32, 40, 3].to_vec(alloc)?;
         Ok(MemWire::new(alloc, bytes, cuts, self.fails(alloc, Device::Server)?))
     }

@@ -28,14 +28,19 @@ fn cells(alloc: Global, columns: &[&str]) -> Result<Vec<u8>, AllocError> {
     Ok(body)
 }
 
-/// What a server answers: the start of a session, then one row to each query.
-pub(crate) fn answers(alloc: Global, rows: &[&[&str]]) -> Result<Vec<u8>, AllocError> {
-    let mut bytes = Vec::from_slice(alloc, GREETING)?;
-    for columns in rows {
-        add_message(&mut bytes, b'T', b"".as_slice())?;
-        add_message(&mut bytes, b'D', &cells(alloc, columns)?)?;
-        add_message(&mut bytes, b'C', b"SELECT 1\0".as_slice())?;
-        add_message(&mut bytes, b'Z', b"I".as_slice())?;
-    }
-    Ok(bytes)
+/// What a server answers: the start of a session.
+pub(crate) fn greeting(alloc: Global) -> Result<Vec<u8>, AllocError> {
+    Vec::from_slice(alloc, GREETING)
+}
+
+/// Then the answer to a query, which is one row.
+pub(crate) fn add_row(
+    alloc: Global,
+    bytes: &mut Vec<u8>,
+    columns: &[&str],
+) -> Result<(), AllocError> {
+    add_message(bytes, b'T', b"".as_slice())?;
+    add_message(bytes, b'D', &cells(alloc, columns)?)?;
+    add_message(bytes, b'C', b"SELECT 1\0".as_slice())?;
+    add_message(bytes, b'Z', b"I".as_slice())
 }
