@@ -1,4 +1,6 @@
 // Backups of a running server.
+ghost use Rattle.std.specs.Prelude.{◌≤◌};
+ghost use Rattle.pgb_outside.specs.States.{last_second};
 
 use crate::devices::{Case, Device, LABEL_FILE, reopened, stanza, taken};
 use crate::same::{same, well};
@@ -41,7 +43,9 @@ const SECOND: Case = Case {
 };
 
 // What is told of the backup that is named by this second: its files with their times, and its part of the log.
-fn told_of(alloc: Global, names: &[(String, Vec<u8>)], second: u64) -> Result<String, AllocError> {
+fn told_of(alloc: Global, names: &[(String, Vec<u8>)], second: u64) -> Result<String, AllocError>
+    requires { second ≤ last_second }
+{
     let mut disk = reopened(alloc, names, Vec::new(alloc))?;
     let label = Label {
         full: second,
