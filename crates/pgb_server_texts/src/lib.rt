@@ -1,4 +1,9 @@
 //! The status and the message of each refusal of a server's answer, for each command that talks with a server.
+//!
+//! What is proved, by the contract of the function that is named:
+//!
+//! - `server_status`, `server_message`: the status and the message of each refusal. No status is that of a command that
+//!   ended well, as a lemma.
 #![tactic(auto)]
 
 mod texts;

@@ -5,13 +5,21 @@
 //! ended where one of these is refused (`talk`). The label file is stored (`end_backup`), the segments of the log that the
 //! backup needs are waited for (`wait`), and the backup is listed (`conclude`).
 //!
-//! The lemmas join them: what the command does in the log, however it ends (`proofs/Doings`), what is there at its end
-//! (`Takings`), why it is refused (`Causes`), and that its talk with the server is ended (`Talks`).
-//!
 //! What is proved, by the contract of the function that is named:
 //!
-//! - `prepare`, `gather`, `talk`, `end_backup`, `wait` and `conclude`: each with its causes and its frame.
-//! - Lemmas: parts that ended so make one command of the log, with the turns that others took.
+//! - `take_online`, while the backup lock is held: in the log it is `MakeBackup` of what the used links read, with the
+//!   label file that the server told, behind the turns of its stanza that other processes tell. A part of it is done after
+//!   every answer and at each moment, all of it at Ok, and no more than those turns where it is refused.
+//! - At Ok the server, of the system that is told, told the start and the stop of a backup. The new backup has that part of
+//!   the log and that label file, and each segment of the part is archived. The pairs fit together and are of the cluster
+//!   that was told, fewer than 10,000 backups were listed, each of an earlier second, the line tells the new label, and
+//!   both members of the backup pair are alike.
+//! - At Ok the server was sent one talk, whose last message is the end. Where a talk began and the backup is refused, the
+//!   last that was sent is the end, unless the connection failed or memory ran out.
+//! - It waits for so many turns at most, keeps to its stanza, and only reads the data folder. Each refusal has its cause in
+//!   what stood before, in what the server told, and, where a segment isn't archived, in what the repository holds; each
+//!   object that failed counted it.
+//! - `online_take_status`, `online_take_message`: the status and the message of each refusal.
 #![tactic(auto)]
 
 mod drafting;
