@@ -161,6 +161,20 @@ one_turns k old xs ys x y =
     let before : x.before ≡ y.before = cc in
     append_cancel_left y.before ys xs (sym y.is ∙ x.is ∙ ap (λ (l : List Turned). l ++ xs) before)
 
+module _ (stanza : Text) (used : List LinkState) (heard : Heard) (reached : Reached) (repo spool new_repo new_spool : View) (ts : List Turned) (ended : Bool) (well : OnAll reached (ended ≡ true))
+    (goes : SpoolGoes Whole stanza (ArchivePushAsync (turns_of ts)) ended repo spool new_spool) where
+  both : (b : Backup) → Does Whole stanza (MakeBackup (turns_of ts) b None) reached repo new_repo → Runs Whole stanza (MakeBackup (turns_of ts) b None) reached repo spool new_repo new_spool
+  both b h = record {
+    part = record { does = h.part; marks = marks_part stanza (turns_of ts) b repo spool new_spool ended goes };
+    whole = all_both reached well h.whole (λ e w. record { does = w; marks = marks_whole stanza (turns_of ts) b repo spool new_spool (subst (λ (x : Bool). SpoolGoes Whole stanza (ArchivePushAsync (turns_of ts)) x repo spool new_spool) e goes) });
+    turned = none_as reached _ _ (λ p. record { does = p; marks = turns_part stanza (turns_of ts) b repo spool new_spool ended goes }) h.turned;
+  }
+
+  made : (command : Command) → IsOnlineOf used heard ts command → Does Whole stanza command reached repo new_repo → Runs Whole stanza command reached repo spool new_repo new_spool
+  made command is h =
+      let b = is.2.0 in
+      subst (λ (x : Command). Runs Whole stanza x reached repo spool new_repo new_spool) (sym is.2.1) (both b (subst (λ (x : Command). Does Whole stanza x reached repo new_repo) is.2.1 h))
+
 -- the command does both
 pub runs_online : (stanza : Text) (used : List LinkState) (heard : Heard) (reached : Reached) (old account : Option Account) (repo spool new_repo new_spool : View) → DoesOnline stanza used heard reached old account repo new_repo → MarksOnline stanza reached old account repo spool new_spool
     → RunsOnline stanza used heard reached old account repo spool new_repo new_spool
@@ -170,17 +184,4 @@ runs_online stanza used heard reached old (Some k) repo spool new_repo new_spool
     let m = marks of in
     let same = one_turns k old d.0 m.0 d.1 m.1 in
     let goes : SpoolGoes Whole stanza (ArchivePushAsync (turns_of d.0)) m.2.0 repo spool new_spool = subst (λ (ts : List Turned). SpoolGoes Whole stanza (ArchivePushAsync (turns_of ts)) m.2.0 repo spool new_spool) same m.2.2.1 in
-    (d.0, d.1, (d.2.0, d.2.1, made d.0 m.2.0 m.2.2.0 goes d.2.0 d.2.1 d.2.2))
-  where
-    module _ (ts : List Turned) (ended : Bool) (well : OnAll reached (ended ≡ true)) (goes : SpoolGoes Whole stanza (ArchivePushAsync (turns_of ts)) ended repo spool new_spool) where
-      both : (b : Backup) → Does Whole stanza (MakeBackup (turns_of ts) b None) reached repo new_repo → Runs Whole stanza (MakeBackup (turns_of ts) b None) reached repo spool new_repo new_spool
-      both b h = record {
-        part = record { does = h.part; marks = marks_part stanza (turns_of ts) b repo spool new_spool ended goes };
-        whole = all_both reached well h.whole (λ e w. record { does = w; marks = marks_whole stanza (turns_of ts) b repo spool new_spool (subst (λ (x : Bool). SpoolGoes Whole stanza (ArchivePushAsync (turns_of ts)) x repo spool new_spool) e goes) });
-        turned = none_as reached _ _ (λ p. record { does = p; marks = turns_part stanza (turns_of ts) b repo spool new_spool ended goes }) h.turned;
-      }
-
-      made : (command : Command) → IsOnlineOf used heard ts command → Does Whole stanza command reached repo new_repo → Runs Whole stanza command reached repo spool new_repo new_spool
-      made command is h =
-          let b = is.2.0 in
-          subst (λ (x : Command). Runs Whole stanza x reached repo spool new_repo new_spool) (sym is.2.1) (both b (subst (λ (x : Command). Does Whole stanza x reached repo new_repo) is.2.1 h))
+    (d.0, d.1, (d.2.0, d.2.1, made stanza used heard reached repo spool new_repo new_spool d.0 m.2.0 m.2.2.0 goes d.2.0 d.2.1 d.2.2))
