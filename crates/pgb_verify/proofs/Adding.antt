@@ -24,6 +24,13 @@ in_sides x [] ys at = inr at
 in_sides x (z ∷ xs) ys (inl e) = inl (inl e)
 in_sides x (z ∷ xs) ys (inr at) = ⊎_elim (λ h. inl (inr h)) (λ h. inr h) (in_sides x xs ys at)
 
+-- it is none of those before, and not this one
+pub none_more : {X : Type 0} (xs : List X) (i : ℕ) (s x : X) → i < length xs → x ≡ get_or xs i x → ¬ In s (take i xs)
+    → ¬ (s ≡ x) → ¬ In s (take (i + 1) xs)
+none_more {X} xs i s x lt is none other at =
+    let more = ap (λ (z : X). take i xs ++ z ∷ []) is ∙ sym (take_more xs i x lt) in
+    ⊎_elim none other (in_either s x (take i xs) (subst (λ (ys : List X). In s ys) (sym more) at))
+
 pub at_place : {X : Type 0} (xs : List X) (i : ℕ) (x : X) → i < length xs → x ≡ get_or xs i x → In x xs
 at_place [] i x lt is = absurd (omega arith)
 at_place (y ∷ ys) zero x lt is = inl is

@@ -105,11 +105,6 @@ module _ (at : Text) (stored : List Segment) where
         (λ n w d. let g = below k n w d in subst (λ (u : What). Gaps at stored size span n u) (sym g.1) (g.2, g.3, g.5))
         (λ n w d. let g = whole n w d in let le = g.3.3 in subst (λ (u : What). GapsBelow at stored size span k n u) (sym g.1) (g.2, g.3, (let r : position size g.0 < k = omega (arith, is, le) in r), g.4)) p
 
-pub none_more : (xs : List Segment) (i : ℕ) (s x : Segment) → i < length xs → x ≡ get_or xs i x → ¬ In s (take i xs) → ¬ (s ≡ x) → ¬ In s (take (i + 1) xs)
-none_more xs i s x lt is none other at =
-    let more = ap (λ (z : Segment). take i xs ++ z ∷ []) is ∙ sym (take_more xs i x lt) in
-    ⊎_elim none other (in_either s x (take i xs) (subst (λ (ys : List Segment). In s ys) (sym more) at))
-
 same_whole : (s x : Segment) → ◌≡◌ {A = ArchiveName} (Whole s) (Whole x) → s ≡ x
 same_whole s x e = cc e
 

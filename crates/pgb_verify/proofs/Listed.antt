@@ -25,11 +25,6 @@ use Rattle.pgb_verify.proofs.Values.{IsOfOne}
 
 -- ---- lists
 
-pub cluster_more : (xs : List Cluster) (i : ℕ) (c x : Cluster) → i < length xs → x ≡ get_or xs i x → ¬ In c (take i xs) → ¬ (c ≡ x) → ¬ In c (take (i + 1) xs)
-cluster_more xs i c x lt is none other at =
-    let more = ap (λ (z : Cluster). take i xs ++ z ∷ []) is ∙ sym (take_more xs i x lt) in
-    ⊎_elim none other (in_either c x (take i xs) (subst (λ (ys : List Cluster). In c ys) (sym more) at))
-
 -- all before are among the labels, and so is this one
 pub all_more : (labels xs : List Label) (i : ℕ) (x : Label) → i < length xs → x ≡ get_or xs i x → ((l : Label) → In l (take i xs) → In l labels) → In x labels → (l : Label) → In l (take (i + 1) xs) → In l labels
 all_more labels xs i x lt is before here l at =

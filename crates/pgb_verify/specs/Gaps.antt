@@ -25,7 +25,8 @@ IsGap at stored s name what = ⊥
 
 -- the segments of the span before a position that aren't among these are told
 abbrev pub GapsBelow : Text → List Segment → ℕ → Span → ℕ → Text → What → Type 0
-GapsBelow at stored size span k name (Gap s) = (name ≡ at) × IsWithinSpan size span s × (position size s < k) × ¬ In s stored
+GapsBelow at stored size span k name (Gap s) =
+    (name ≡ at) × IsWithinSpan size span s × (position size s < k) × ¬ In s stored
 GapsBelow at stored size span k name what = ⊥
 
 -- all of the span

@@ -16,7 +16,7 @@ ghost use Rattle.pgb_outside.specs.States.{Looks};
 
 use crate::entries::tell_unlike;
 use crate::files::look_at_files;
-use crate::finding::{Finding, VerifyFault};
+use crate::finding::{Finding, LookFault};
 use crate::gaps::look_for_gaps;
 use crate::pairs::look_at_manifest;
 use crate::references::look_for_references;
@@ -45,7 +45,7 @@ fn look_at_backup<D: Disk>(
     labels: &[Label],
     files: &[Stored],
     found: &mut Vec<Finding>,
-) -> Result<Option<Manifest>, VerifyFault>
+) -> Result<Option<Manifest>, LookFault>
     requires own { IsLabel own.now }
     requires listed { IfSome (D.state d.old).view.now (λ f. (l : LabelOf) → In l labels.now ↔ Lists stanza.now f l) }
     requires stored { IfSome (D.state d.old).view.now (λ f. AreStored stanza.now f files.now) }
@@ -54,7 +54,7 @@ fn look_at_backup<D: Disk>(
     ensures value { IfOk result (λ v. IfSome (D.state d.old).view.now
         (λ f. ValueSo IsManifestText manifest_of f (manifest_name stanza.now own.now) v)) }
     ensures looks { Looks (D.state d.old) (D.state d.new) }
-    ensures cause { IsErrOf result VerifyFault.Disk → Rises (D.state d.old).faults (D.state d.new).faults }
+    ensures cause { IsErrOf result LookFault.Disk → Rises (D.state d.old).faults (D.state d.new).faults }
 {
     let name = manifest_name(alloc, stanza, own)?;
     let Some(manifest) = look_at_manifest(alloc, d, name.as_str(), found)? else {
@@ -76,14 +76,14 @@ pub(crate) fn look_at_listed<D: Disk>(
     labels: &[Label],
     files: &[Stored],
     found: &mut Vec<Finding>,
-) -> Result<(), VerifyFault>
+) -> Result<(), LookFault>
     requires own { IsLabel entry.now.label }
     requires listed { IfSome (D.state d.old).view.now (λ f. (l : LabelOf) → In l labels.now ↔ Lists stanza.now f l) }
     requires stored { IfSome (D.state d.old).view.now (λ f. AreStored stanza.now f files.now) }
     ensures adds { OnOk result (IfSome (D.state d.old).view.now
         (λ f. Adds (ListedDeviates stanza.now f history.now (entry_of entry.now)) found.old.items found.new.items)) }
     ensures looks { Looks (D.state d.old) (D.state d.new) }
-    ensures cause { IsErrOf result VerifyFault.Disk → Rises (D.state d.old).faults (D.state d.new).faults }
+    ensures cause { IsErrOf result LookFault.Disk → Rises (D.state d.old).faults (D.state d.new).faults }
 {
     let name = manifest_name(alloc, stanza, &entry.label)?;
     let Some(manifest) = look_at_backup(alloc, d, stanza, &entry.label, labels, files, found)?

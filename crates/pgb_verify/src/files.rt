@@ -9,7 +9,7 @@ ghost use Rattle.pgb_verify.specs.Findings.{EntryDeviates};
 ghost use Rattle.pgb_verify.specs.Adding.{Adds, OfSome};
 ghost use Rattle.pgb_outside.specs.States.{Looks};
 
-use crate::finding::{Finding, Mark, VerifyFault};
+use crate::finding::{Finding, LookFault, Mark};
 use crate::summing::{deviation, sum_at};
 use pgb_model::{Bundled, FileEntry, Label};
 use pgb_outside::Disk;
@@ -56,13 +56,13 @@ fn look_at_file<D: Disk>(
     own: &Label,
     file: &FileEntry,
     found: &mut Vec<Finding>,
-) -> Result<(), VerifyFault>
+) -> Result<(), LookFault>
     requires own { IsLabel own.now }
     requires reference { IfSome file.now.reference IsLabel }
     ensures adds { OnOk result (IfSome (D.state d.old).view.now
         (λ f. Adds (EntryDeviates stanza.now f own.now (file_entry_of file.now)) found.old.items found.new.items)) }
     ensures looks { Looks (D.state d.old) (D.state d.new) }
-    ensures cause { IsErrOf result VerifyFault.Disk → Rises (D.state d.old).faults (D.state d.new).faults }
+    ensures cause { IsErrOf result LookFault.Disk → Rises (D.state d.old).faults (D.state d.new).faults }
 {
     if file.size == 0 {
         return Ok(());
@@ -83,14 +83,14 @@ pub(crate) fn look_at_files<D: Disk>(
     own: &Label,
     files: &[FileEntry],
     found: &mut Vec<Finding>,
-) -> Result<(), VerifyFault>
+) -> Result<(), LookFault>
     requires own { IsLabel own.now }
     requires references { (e : Entered) → In e (map file_entry_of files.now) → IfSome e.reference IsLabel }
     ensures adds { OnOk result (IfSome (D.state d.old).view.now
         (λ f. Adds (OfSome (EntryDeviates stanza.now f own.now) (map file_entry_of files.now)) found.old.items
         found.new.items)) }
     ensures looks { Looks (D.state d.old) (D.state d.new) }
-    ensures cause { IsErrOf result VerifyFault.Disk → Rises (D.state d.old).faults (D.state d.new).faults }
+    ensures cause { IsErrOf result LookFault.Disk → Rises (D.state d.old).faults (D.state d.new).faults }
 {
     for file in files {
         look_at_file(alloc, d, stanza, own, file, found)?;

@@ -10,7 +10,7 @@ ghost use Rattle.pgb_verify.specs.Members.{IfGood, MemberSo, ValueSo};
 ghost use Rattle.pgb_verify.specs.Adding.{Adds};
 ghost use Rattle.pgb_outside.specs.States.{Looks};
 
-use crate::finding::{Finding, Kind, VerifyFault};
+use crate::finding::{Finding, Kind, LookFault};
 use pgb_disk::{StoreFault, read_whole};
 use pgb_info::ReadInfo;
 use pgb_manifest::Stored;
@@ -31,12 +31,12 @@ fn read_member<D: Disk, I: ReadInfo>(
     alloc: Global,
     d: &mut D,
     name: &str,
-) -> Result<Member<I>, VerifyFault>
+) -> Result<Member<I>, LookFault>
     ensures member { IfOk result (λ m. IfSome (D.state d.old).view.now
         (λ f. MemberSo I.IsText I.value (f name.now) m)) }
     ensures valid { IfOk result (λ m. IfGood I.is_valid m) }
     ensures looks { Looks (D.state d.old) (D.state d.new) }
-    ensures cause { IsErrOf result VerifyFault.Disk → Rises (D.state d.old).faults (D.state d.new).faults }
+    ensures cause { IsErrOf result LookFault.Disk → Rises (D.state d.old).faults (D.state d.new).faults }
 {
     match read_whole(alloc, d, name, I::limit()) {
         Ok(None) => Ok(Member::Absent),
@@ -45,8 +45,8 @@ fn read_member<D: Disk, I: ReadInfo>(
             Err(_) => Ok(Member::Bad),
         },
         Err(StoreFault::TooLong { .. }) => Ok(Member::Bad),
-        Err(StoreFault::Disk) => Err(VerifyFault::Disk),
-        Err(StoreFault::NoMemory) => Err(VerifyFault::NoMemory),
+        Err(StoreFault::Disk) => Err(LookFault::Disk),
+        Err(StoreFault::NoMemory) => Err(LookFault::NoMemory),
     }
 }
 
@@ -118,13 +118,13 @@ pub(crate) fn look_at_pair<D: Disk, I: ReadInfo>(
     d: &mut D,
     name: &str,
     found: &mut Vec<Finding>,
-) -> Result<Option<I>, VerifyFault>
+) -> Result<Option<I>, LookFault>
     ensures adds { OnOk result (IfSome (D.state d.old).view.now
         (λ f. Adds (PairDeviates I.IsText f name.now) found.old.items found.new.items)) }
     ensures value { IfOk result (λ v. IfSome (D.state d.old).view.now (λ f. ValueSo I.IsText I.value f name.now v)) }
     ensures valid { IfOk result (λ v. IfSome v I.is_valid) }
     ensures looks { Looks (D.state d.old) (D.state d.new) }
-    ensures cause { IsErrOf result VerifyFault.Disk → Rises (D.state d.old).faults (D.state d.new).faults }
+    ensures cause { IsErrOf result LookFault.Disk → Rises (D.state d.old).faults (D.state d.new).faults }
 {
     let copy_name = format!(in alloc; "{name}.copy")?;
     let main: Member<I> = read_member(alloc, d, name)?;
@@ -141,14 +141,14 @@ pub(crate) fn look_at_manifest<D: Disk>(
     d: &mut D,
     name: &str,
     found: &mut Vec<Finding>,
-) -> Result<Option<Manifest>, VerifyFault>
+) -> Result<Option<Manifest>, LookFault>
     ensures adds { OnOk result (IfSome (D.state d.old).view.now
         (λ f. Adds (PairDeviates IsManifestText f name.now) found.old.items found.new.items)) }
     ensures value { IfOk result (λ v. IfSome (D.state d.old).view.now
         (λ f. ValueSo IsManifestText manifest_of f name.now v)) }
     ensures rules { IfOk result (λ v. IfSome v (λ m. IsManifest (manifest_of m))) }
     ensures looks { Looks (D.state d.old) (D.state d.new) }
-    ensures cause { IsErrOf result VerifyFault.Disk → Rises (D.state d.old).faults (D.state d.new).faults }
+    ensures cause { IsErrOf result LookFault.Disk → Rises (D.state d.old).faults (D.state d.new).faults }
 {
     match look_at_pair(alloc, d, name, found)? {
         Some(Stored(manifest)) => Ok(Some(manifest)),
