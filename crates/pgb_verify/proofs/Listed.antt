@@ -14,12 +14,14 @@ use Rattle.pgb_model.specs.Pair.{PairIs}
 use Rattle.pgb_model.proofs.Pushed.{in_either}
 use Rattle.pgb_verify.specs.declared.finding.Finding.{Finding}
 use Rattle.pgb_verify.specs.What.{What, Tells, MemberAbsent, MemberBad, MembersDiffer, Absent, Short, Digest, Second, Gap, Reference, Unlike}
-use Rattle.pgb_verify.specs.Adding.{Adds}
+use Rattle.pgb_verify.specs.Adding.{Adds, AddsMost, Never}
+use Rattle.pgb_verify.specs.Sharing.{OwnDeviates, IsElsewhere}
+use Rattle.pgb_verify.proofs.Most.{most_of, most_as, most_on}
 use Rattle.pgb_verify.specs.Entries.{TellsSame, IsUnlikeAt}
 use Rattle.pgb_verify.specs.Findings.{BackupDeviates, EntryIsUnlike, IsOfEntry, ListedDeviates}
 use Rattle.pgb_verify.specs.Members.{ValueSo}
 use Rattle.pgb_verify.specs.References.{RefersTo}
-use Rattle.pgb_verify.proofs.Adding.{adds_as, adds_none, adds_on, adds_one}
+use Rattle.pgb_verify.proofs.Adding.{Either, adds_as, adds_none, adds_one}
 use Rattle.pgb_verify.proofs.Sound.{one_value}
 use Rattle.pgb_verify.proofs.Values.{IsOfOne}
 
@@ -127,18 +129,27 @@ pub value_at : (o : Option Content) (name at : Text) → name ≡ at → (read r
 value_at o name at is read r same v = subst (λ (x : Option RustManifest). IfSome o (λ f. ValueSo IsManifestText manifest_of f at x)) same (subst (λ (n : Text). IfSome o (λ f. ValueSo IsManifestText manifest_of f n read)) is v)
 
 module _ (stanza : Text) (history : List Cluster) (e : Entry) (read_is : Option RustManifest) (a b : List Finding) where
-  pub unread_listed : (o : Option Content) → IfSome o (λ f. ValueSo IsManifestText manifest_of f (manifest_name stanza e.label) read_is) → IfSome o (λ f. Adds (BackupDeviates stanza f e.label) a b) → read_is ≡ None
-      → IfSome o (λ f. Adds (ListedDeviates stanza f history e) a b)
+  join : (f : Content) (a b c : List Finding) → AddsMost (BackupDeviates stanza f e.label) (OwnDeviates stanza f e.label) (IsElsewhere stanza f) a b → Adds (EntryIsUnlike stanza f history e) b c
+      → AddsMost (ListedDeviates stanza f history e) (OwnDeviates stanza f e.label) (IsElsewhere stanza f) a c
+  join f a b c p q =
+      let B = BackupDeviates stanza f e.label in
+      let U = EntryIsUnlike stanza f history e in
+      let O = OwnDeviates stanza f e.label in
+      let E = IsElsewhere stanza f in
+      most_as (Either B U) (ListedDeviates stanza f history e) (Either O Never) O E a c (λ name what h. h) (λ name what h. h) (λ name what h. inl h) (most_on B U O Never E a b c p (most_of U Never E b c (λ name what h. absurd h) q))
+
+  pub unread_listed : (o : Option Content) → IfSome o (λ f. ValueSo IsManifestText manifest_of f (manifest_name stanza e.label) read_is) → IfSome o (λ f. AddsMost (BackupDeviates stanza f e.label) (OwnDeviates stanza f e.label) (IsElsewhere stanza f) a b) → read_is ≡ None
+      → IfSome o (λ f. AddsMost (ListedDeviates stanza f history e) (OwnDeviates stanza f e.label) (IsElsewhere stanza f) a b)
   unread_listed None value backup none = tt
   unread_listed (Some f) value backup none =
       let absent = subst (λ (r : Option RustManifest). ValueSo IsManifestText manifest_of f (manifest_name stanza e.label) r) none value in
-      adds_on (BackupDeviates stanza f e.label) (EntryIsUnlike stanza f history e) a b b backup (unread stanza f history e absent b)
+      join f a b b backup (unread stanza f history e absent b)
 
-  pub read_listed : (o : Option Content) → IfSome o (λ f. ValueSo IsManifestText manifest_of f (manifest_name stanza e.label) read_is) → IfSome o (λ f. Adds (BackupDeviates stanza f e.label) a b)
+  pub read_listed : (o : Option Content) → IfSome o (λ f. ValueSo IsManifestText manifest_of f (manifest_name stanza e.label) read_is) → IfSome o (λ f. AddsMost (BackupDeviates stanza f e.label) (OwnDeviates stanza f e.label) (IsElsewhere stanza f) a b)
       → (m : RustManifest) → read_is ≡ Some m → IsOfOne IsManifestText → (at : Text) → at ≡ manifest_name stanza e.label → (c : List Finding) → Adds (IsUnlikeAt at history e (manifest_of m)) b c
-      → IfSome o (λ f. Adds (ListedDeviates stanza f history e) a c)
+      → IfSome o (λ f. AddsMost (ListedDeviates stanza f history e) (OwnDeviates stanza f e.label) (IsElsewhere stanza f) a c)
   read_listed None value backup m some one at is c unlike = tt
   read_listed (Some f) value backup m some one at is c unlike =
       let pair = subst (λ (r : Option RustManifest). ValueSo IsManifestText manifest_of f (manifest_name stanza e.label) r) some value in
-      adds_on (BackupDeviates stanza f e.label) (EntryIsUnlike stanza f history e) a b c backup
+      join f a b c backup
       (read stanza f history e (manifest_of m) pair one b c (subst (λ (n : Text). Adds (IsUnlikeAt n history e (manifest_of m)) b c) is unlike))

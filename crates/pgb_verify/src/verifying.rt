@@ -12,11 +12,12 @@ ghost use Rattle.pgb_model.specs.Stands.{HasStanza};
 ghost use Rattle.pgb_model.specs.Values.{backup_info_of, entry_of, Entry as Listed};
 ghost use Rattle.pgb_model.specs.Text.{In};
 ghost use Rattle.pgb_stored.specs.Stored.{AreStored};
-ghost use Rattle.pgb_verify.specs.Adding.{Adds, OfSome};
+ghost use Rattle.pgb_verify.specs.Adding.{Adds, AddsMost, OfSome};
 ghost use Rattle.pgb_verify.specs.Clean.{MembersAgree};
 ghost use Rattle.pgb_verify.specs.Exact.{AreFindings, PairsDeviate};
 ghost use Rattle.pgb_verify.specs.Faults.{VerifyCause};
 ghost use Rattle.pgb_verify.specs.Findings.{FileDeviates, ListedDeviates};
+ghost use Rattle.pgb_verify.specs.Sharing.{OwnDeviates, IsElsewhere};
 ghost use Rattle.pgb_outside.specs.States.{Looks};
 
 use crate::archive::look_at_archive;
@@ -56,7 +57,8 @@ fn look_at_backups<D: Disk>(
     requires listed { IfSome (D.state d.old).view.now (λ f. (l : LabelOf) → In l labels.now ↔ Lists stanza.now f l) }
     requires stored { IfSome (D.state d.old).view.now (λ f. AreStored stanza.now f files.now) }
     ensures adds { OnOk result (IfSome (D.state d.old).view.now
-        (λ f. Adds (OfSome (ListedDeviates stanza.now f history.now) (map entry_of entries.now))
+        (λ f. AddsMost (OfSome (ListedDeviates stanza.now f history.now) (map entry_of entries.now))
+        (OfSome (λ (e : Listed). OwnDeviates stanza.now f e.label) (map entry_of entries.now)) (IsElsewhere stanza.now f)
         found.old.items found.new.items)) }
     ensures looks { Looks (D.state d.old) (D.state d.new) }
     ensures cause { IsErrOf result LookFault.Disk → Rises (D.state d.old).faults (D.state d.new).faults }
