@@ -17,7 +17,7 @@ use Rattle.pgb_wal.proofs.Follows.{same_place}
 use Rattle.pgb_verify.specs.declared.finding.Finding.{Finding}
 use Rattle.pgb_verify.specs.What.{What, Tells, MemberAbsent, MemberBad, MembersDiffer, Absent, Short, Digest, Second, Gap, Reference, Unlike}
 use Rattle.pgb_verify.specs.Adding.{Adds}
-use Rattle.pgb_verify.specs.Gaps.{IsWhole, HasWhole, IsGap, GapsBelow, Gaps}
+use Rattle.pgb_verify.specs.Gaps.{IsNear, IsWhole, HasWhole, IsGap, GapsBelow, Gaps}
 use Rattle.pgb_verify.proofs.Adding.{in_right, Either, adds_one, adds_none, adds_as, adds_on}
 
 module _ (at : Text) (stored : List Segment) where
@@ -108,17 +108,22 @@ module _ (at : Text) (stored : List Segment) where
 same_whole : (s x : Segment) → ◌≡◌ {A = ArchiveName} (Whole s) (Whole x) → s ≡ x
 same_whole s x e = cc e
 
-pub segment_more : (old new : List Segment) (x : Segment) (file : Stored) (id : ArchiveId) → new ≡ old ++ x ∷ [] → file.name ≡ Whole x → file.id ≡ id → (s : Segment) → In s new ↔ (In s old ⊎ IsWhole id file s)
-segment_more old new x file id grown name same s = (
-  λ at. ⊎_elim (λ k. inl k) (λ e. inr (same, name ∙ ap (λ (t : Segment). Whole t) (sym e))) (in_either s x old (subst (λ (ys : List Segment). In s ys) grown at)),
+pub segment_more : (old new : List Segment) (x : Segment) (file : Stored) (id : ArchiveId) (span : Span) → new ≡ old ++ x ∷ [] → file.name ≡ Whole x → file.id ≡ id → IsNear span x
+    → (s : Segment) → In s new ↔ (In s old ⊎ IsWhole id span file s)
+segment_more old new x file id span grown name same near s = (
+  λ at. ⊎_elim (λ k. inl k) (λ e. inr (same, name ∙ ap (λ (t : Segment). Whole t) (sym e), subst (IsNear span) (sym e) near)) (in_either s x old (subst (λ (ys : List Segment). In s ys) grown at)),
   λ h. subst (λ (ys : List Segment). In s ys) (sym grown) (⊎_elim (in_left s old (x ∷ [])) (λ k. in_right s old (x ∷ []) (inl (same_whole s x (sym k.1 ∙ name)))) h),
 )
 
-pub file_more : (id : ArchiveId) (xs : List Stored) (i : ℕ) (x : Stored) (old new : List Segment) → i < length xs → x ≡ get_or xs i x → ((s : Segment) → In s old ↔ HasWhole id (take i xs) s)
-    → ((s : Segment) → In s new ↔ (In s old ⊎ IsWhole id x s)) → (s : Segment) → In s new ↔ HasWhole id (take (i + 1) xs) s
-file_more id xs i x old new lt is p q s =
+-- one that isn't near the span
+pub segment_far : (old : List Segment) (x : Segment) (file : Stored) (id : ArchiveId) (span : Span) → file.name ≡ Whole x → ¬ IsNear span x → (s : Segment) → In s old ↔ (In s old ⊎ IsWhole id span file s)
+segment_far old x file id span name far s = (λ at. inl at, λ h. ⊎_elim (λ k. k) (λ k. absurd (far (subst (IsNear span) (same_whole s x (sym k.1 ∙ name)) k.2))) h)
+
+pub file_more : (id : ArchiveId) (span : Span) (xs : List Stored) (i : ℕ) (x : Stored) (old new : List Segment) → i < length xs → x ≡ get_or xs i x → ((s : Segment) → In s old ↔ HasWhole id span (take i xs) s)
+    → ((s : Segment) → In s new ↔ (In s old ⊎ IsWhole id span x s)) → (s : Segment) → In s new ↔ HasWhole id span (take (i + 1) xs) s
+file_more id span xs i x old new lt is p q s =
     let more : take i xs ++ x ∷ [] ≡ take (i + 1) xs = ap (λ (z : Stored). take i xs ++ z ∷ []) is ∙ sym (take_more xs i x lt) in
-    subst (λ (fs : List Stored). In s new ↔ HasWhole id fs s) more (
+    subst (λ (fs : List Stored). In s new ↔ HasWhole id span fs s) more (
       λ at. ⊎_elim (λ k. let r = (p s).0 k in (r.0, in_left r.0 (take i xs) (x ∷ []) r.1, r.2)) (λ e. (x, in_right x (take i xs) (x ∷ []) (inl refl), e)) ((q s).0 at),
-      λ r. (q s).1 (⊎_elim (λ k. inl ((p s).1 (r.0, k, r.2))) (λ e. inr (subst (λ (z : Stored). IsWhole id z s) e r.2)) (in_either r.0 x (take i xs) r.1)),
+      λ r. (q s).1 (⊎_elim (λ k. inl ((p s).1 (r.0, k, r.2))) (λ e. inr (subst (λ (z : Stored). IsWhole id span z s) e r.2)) (in_either r.0 x (take i xs) r.1)),
     )

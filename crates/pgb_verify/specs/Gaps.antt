@@ -1,5 +1,5 @@
 -- The segments that a backup needs, up to a place in the log.
-use Rattle.std.specs.Prelude.{◌≡◌, ℕ, ◌<◌, List}
+use Rattle.std.specs.Prelude.{◌≡◌, ℕ, ◌<◌, ◌≤◌, List}
 use Rattle.pgb_model.specs.declared.wal.Segment.{Segment}
 use Rattle.pgb_model.specs.declared.wal.Span.{Span}
 use Rattle.pgb_model.specs.declared.wal.ArchiveId.{ArchiveId}
@@ -10,13 +10,17 @@ use Rattle.pgb_model.specs.Repository.{IsWithinSpan}
 use Rattle.pgb_stored.specs.declared.files.Stored.{Stored}
 use Rattle.pgb_verify.specs.What.{What, Gap}
 
--- the file is the whole segment under the id
-abbrev pub IsWhole : ArchiveId → Stored → Segment → Type 0
-IsWhole id file s = (file.id ≡ id) × (file.name ≡ Whole s)
+-- the segment's timeline is the span's, and its log lies between those of the span's ends: so it is of each segment within
+abbrev pub IsNear : Span → Segment → Type 0
+IsNear span s = (s.timeline ≡ span.start.timeline) × (span.start.log ≤ s.log) × (s.log ≤ span.stop.log)
+
+-- the file is the whole segment under the id, and is near the span
+abbrev pub IsWhole : ArchiveId → Span → Stored → Segment → Type 0
+IsWhole id span file s = (file.id ≡ id) × (file.name ≡ Whole s) × IsNear span s
 
 -- one of the files is
-abbrev pub HasWhole : ArchiveId → List Stored → Segment → Type 0
-HasWhole id files s = (file : Stored) × In file files × IsWhole id file s
+abbrev pub HasWhole : ArchiveId → Span → List Stored → Segment → Type 0
+HasWhole id span files s = (file : Stored) × In file files × IsWhole id span file s
 
 -- the segment is told at the name where it isn't among these
 abbrev pub IsGap : Text → List Segment → Segment → Text → What → Type 0
