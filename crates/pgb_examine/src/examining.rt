@@ -51,8 +51,8 @@ fn outcome_of(alloc: Global, found: &[Finding]) -> Result<Outcome, AllocError>
     }
 }
 
-/// Tells each way in which the stanza's repository deviates, a line a finding, in the order of `verify`; or ends with no
-/// lines where there is none. The list of backups is the one that the backup pair has. Nothing is healed.
+/// Tells each way in which the stanza's repository deviates, a line a finding, in the order of `verify`; or ends with
+/// no lines where there is none. The list of backups is the one that the backup pair has. Nothing is healed.
 pub fn examine_stanza<D: Disk>(
     alloc: Global,
     repo: &mut D,

@@ -1,4 +1,4 @@
-// Files of a backup that lie in the folder of another one. A file that this one has as its own is looked at in its turn.
+// Files of a backup that lie in the folder of another one. What that one has as its own is looked at in its turn.
 ghost use Rattle.std.specs.Prelude.{◌≡◌, ◌≢◌, ◌↔◌, false, Some, IfOk, IfSome, IsTrue, OnOk, IsErrOf, map};
 ghost use Rattle.pgb_outside.specs.Cause.{Rises};
 ghost use Rattle.pgb_outside.specs.States.{Looks};

@@ -58,8 +58,8 @@ fn look_at_backups<D: Disk>(
     requires stored { IfSome (D.state d.old).view.now (λ f. AreStored stanza.now f files.now) }
     ensures adds { OnOk result (IfSome (D.state d.old).view.now
         (λ f. AddsMost (OfSome (ListedDeviates stanza.now f history.now) (map entry_of entries.now))
-        (OfSome (λ (e : Listed). OwnDeviates stanza.now f e.label) (map entry_of entries.now)) (IsElsewhere stanza.now f)
-        found.old.items found.new.items)) }
+        (OfSome (λ (e : Listed). OwnDeviates stanza.now f e.label) (map entry_of entries.now))
+        (IsElsewhere stanza.now f) found.old.items found.new.items)) }
     ensures looks { Looks (D.state d.old) (D.state d.new) }
     ensures cause { IsErrOf result LookFault.Disk → Rises (D.state d.old).faults (D.state d.new).faults }
 {
