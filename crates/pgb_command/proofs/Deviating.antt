@@ -14,7 +14,8 @@ use Rattle.pgb_stage.specs.declared.outcome.Outcome.TheVariants.{FindingsFound}
 use Rattle.pgb_stage.specs.Texts.{stage_status, object_status}
 use Rattle.pgb_create.specs.declared.fault.CreateFault.{CreateFault}
 use Rattle.pgb_create.specs.declared.fault.CreateFault.TheVariants as creates
-use Rattle.pgb_create.specs.Texts.{server_status, create_status}
+use Rattle.pgb_server_texts.specs.Texts.{server_status}
+use Rattle.pgb_create.specs.Texts.{create_status}
 use Rattle.pgb_push.proofs.Refusals.{push_within}
 use Rattle.pgb_get.proofs.Refusals.{get_within}
 use Rattle.pgb_take.specs.declared.fault.TakeFault.{TakeFault}
