@@ -98,6 +98,8 @@ ask 'create table first as select 1 as n' >/dev/null
 control -m fast stop
 type_in 'A first backup' 2
 grep -q 'full backup: ' output || complain "info reports no backup: $(cat output)"
+type_in 'A first backup' 3
+[ ! -s output ] || complain "verify finds: $(cat output)"
 
 start
 ask 'insert into first select generate_series(2, 1000)' >/dev/null

@@ -16,8 +16,8 @@ use Rattle.pgb_model.specs.Values.{Manifest}
 use Rattle.pgb_restore.specs.Finished.{IsFinished}
 use Rattle.pgb_recover.specs.Fetching.{options_by}
 use Rattle.pgb_clear.specs.Clearing.{control_path, HasNone}
-use Rattle.pgb_command.specs.Asked.{Request, create, push, get, backup, restore, report, Asked}
-use Rattle.pgb_command.specs.Tables.{Known, known, plan_of, manner_of, OnReader, OnCreate, OnOther, FolderGoes, FolderStays, Unless}
+use Rattle.pgb_command.specs.Asked.{Request, create, push, get, backup, restore, report, examine, Asked}
+use Rattle.pgb_command.specs.Tables.{Known, known, plan_of, manner_of, OnReader, OnCreate, OnOther, FolderGoes, FolderStays, Unless, is_on_repository}
 
 pub idle : (request : Request) (folder : Text) (nodes : Option Nodes) (links : List LinkState) (P : Command → Type 0) → ((command : Command) → P command) → On (manner_of request folder nodes links) P
 idle create folder nodes links P p = λ command is. p command
@@ -26,6 +26,7 @@ idle (get name path) folder nodes links P p = λ command is. p command
 idle (backup workers) folder nodes links P p = (MakeBackup [] no_files None, (no_files, refl, no_files_read (take workers links)), p (MakeBackup [] no_files None))
 idle (restore set how) folder nodes links P p = λ command is. p command
 idle (report form) folder nodes links P p = λ command is. p command
+idle examine folder nodes links P p = λ command is. p command
 
 -- a command that opens no data folder reads no control file
 pub no_control : (request : Request) → (plan_of request).folder ≡ false → (plan_of request).control ≡ false
@@ -35,6 +36,17 @@ no_control (get name path) is = cc is
 no_control (backup workers) is = cc is
 no_control (restore set how) is = refl
 no_control (report form) is = refl
+no_control examine is = refl
+
+-- a command that uses nothing but the repository opens no data folder and takes no lock
+pub on_repository : (request : Request) → is_on_repository request ≡ true → ((plan_of request).folder ≡ false) × ((plan_of request).backup_lock ≡ false) × ((plan_of request).archive_lock ≡ false)
+on_repository create is = cc is
+on_repository (push path) is = cc is
+on_repository (get name path) is = cc is
+on_repository (backup workers) is = cc is
+on_repository (restore set how) is = cc is
+on_repository (report form) is = (refl, refl, refl)
+on_repository examine is = (refl, refl, refl)
 
 -- what holds where no pair is healed holds of readers and of stanza-create
 pub reader_still : (request : Request) (P : Type 0) → OnReading (plan_of request).pairs P → OnReader request P
@@ -44,6 +56,7 @@ reader_still (get name path) P h = h
 reader_still (backup workers) P h = tt
 reader_still (restore set how) P h = h
 reader_still (report form) P h = h
+reader_still examine P h = h
 
 pub create_still : (request : Request) (P : Type 0) → OnReading (plan_of request).pairs P → OnCreate request P
 create_still create P h = h
@@ -52,6 +65,7 @@ create_still (get name path) P h = tt
 create_still (backup workers) P h = tt
 create_still (restore set how) P h = tt
 create_still (report form) P h = tt
+create_still examine P h = tt
 
 pub any_reader : (request : Request) (P : Type 0) → P → OnReader request P
 any_reader create P p = tt
@@ -60,6 +74,7 @@ any_reader (get name path) P p = p
 any_reader (backup workers) P p = tt
 any_reader (restore set how) P p = p
 any_reader (report form) P p = p
+any_reader examine P p = p
 
 pub any_create : (request : Request) (P : Type 0) → P → OnCreate request P
 any_create create P p = p
@@ -68,6 +83,7 @@ any_create (get name path) P p = tt
 any_create (backup workers) P p = tt
 any_create (restore set how) P p = tt
 any_create (report form) P p = tt
+any_create examine P p = tt
 
 pub any_other : (request : Request) (P : Type 0) → P → OnOther request P
 any_other create P p = tt
@@ -76,6 +92,7 @@ any_other (get name path) P p = p
 any_other (backup workers) P p = p
 any_other (restore set how) P p = p
 any_other (report form) P p = p
+any_other examine P p = p
 
 pub reader_on : (request : Request) (P Q R : Type 0) → (P → Q → R) → OnReader request P → OnReader request Q → OnReader request R
 reader_on create P Q R to p q = tt
@@ -84,6 +101,7 @@ reader_on (get name path) P Q R to p q = to p q
 reader_on (backup workers) P Q R to p q = tt
 reader_on (restore set how) P Q R to p q = to p q
 reader_on (report form) P Q R to p q = to p q
+reader_on examine P Q R to p q = to p q
 
 pub create_on : (request : Request) (P Q R : Type 0) → (P → Q → R) → OnCreate request P → OnCreate request Q → OnCreate request R
 create_on create P Q R to p q = to p q
@@ -92,6 +110,7 @@ create_on (get name path) P Q R to p q = tt
 create_on (backup workers) P Q R to p q = tt
 create_on (restore set how) P Q R to p q = tt
 create_on (report form) P Q R to p q = tt
+create_on examine P Q R to p q = tt
 
 pub other_as : (request : Request) (P Q : Type 0) → (P → Q) → OnOther request P → OnOther request Q
 other_as create P Q to p = tt
@@ -100,6 +119,7 @@ other_as (get name path) P Q to p = to p
 other_as (backup workers) P Q to p = to p
 other_as (restore set how) P Q to p = to p
 other_as (report form) P Q to p = to p
+other_as examine P Q to p = to p
 
 -- the data folder stays after a refusal
 pub any_stays : (request : Request) (n : ℕ) (P : Type 0) → P → FolderStays request n P
@@ -109,6 +129,7 @@ any_stays (get name path) n P p = p
 any_stays (backup workers) n P p = p
 any_stays (restore set how) n P p = λ lost unread damaged. p
 any_stays (report form) n P p = p
+any_stays examine n P p = p
 
 pub stays_as : (request : Request) (n : ℕ) (P Q : Type 0) → (P → Q) → FolderStays request n P → FolderStays request n Q
 stays_as create n P Q to p = to p
@@ -117,6 +138,7 @@ stays_as (get name path) n P Q to p = to p
 stays_as (backup workers) n P Q to p = to p
 stays_as (restore set how) n P Q to p = λ lost unread damaged. to (p lost unread damaged)
 stays_as (report form) n P Q to p = to p
+stays_as examine n P Q to p = to p
 
 -- it doesn't use it
 pub any_unless : (uses : Bool) (P : Type 0) → P → Unless uses P
@@ -138,6 +160,7 @@ folder_stays a (get name path) old new same = subst (λ (n : Option Nodes). Fold
 folder_stays a (backup workers) old new same = same
 folder_stays a (restore set how) old new same = inl same
 folder_stays a (report form) old new same = same
+folder_stays a examine old new same = same
 
 pub folder_on : (a : Asked) (request : Request) (b m k : Seen) → OnReader request (IsStill b.repo.view m.repo.view) → m.tree.nodes ≡ b.tree.nodes → m.links ≡ b.links → FolderGoes a request (known m) k.tree.nodes → FolderGoes a request (known b) k.tree.nodes
 folder_on a create b m k still nodes links h = h ∙ nodes
@@ -149,3 +172,4 @@ folder_on a (restore set how) b m k still nodes links h = ⊎_elim (λ (e : k.tr
     (λ x. inr (subst (λ (ls : List LinkState). HasNone control_path k.tree.nodes ⊎ ((v : Manifest) × IfSome k.tree.nodes (IsFinished a.stanza (take how.workers ls) (options_by a.stanza how.delta how.recovery) v b.tree.nodes))) links
     (subst (λ (n : Option Nodes). HasNone control_path k.tree.nodes ⊎ ((v : Manifest) × IfSome k.tree.nodes (IsFinished a.stanza (take how.workers m.links) (options_by a.stanza how.delta how.recovery) v n))) nodes x))) h
 folder_on a (report form) b m k still nodes links h = h ∙ nodes
+folder_on a examine b m k still nodes links h = h ∙ nodes

@@ -1,5 +1,5 @@
 -- After a server's answer that is refused the talk was ended.
-use Rattle.std.proofs.Common.{◌≡◌, ◌≤◌, ◌⊎◌, ℕ, List, [], inl, inr, Result, Ok, Err, IfErr, refl, ap, subst, arith}
+use Rattle.std.proofs.Common.{◌≡◌, ◌≤◌, ◌⊎◌, ◌∙◌, ℕ, List, [], inl, inr, Result, Ok, Err, IfErr, refl, ap, subst, arith}
 use Rattle.pgb_model.specs.Text.{Text}
 use Rattle.pgb_options.specs.declared.usage.Usage.{Usage}
 use Rattle.pgb_options.specs.declared.usage.Usage.TheVariants as usage
@@ -9,7 +9,7 @@ use Rattle.pgb_stage.specs.declared.object.Object.TheVariants as object
 use Rattle.pgb_stage.specs.declared.fault.StageFault.{StageFault}
 use Rattle.pgb_stage.specs.declared.fault.StageFault.TheVariants as stage
 use Rattle.pgb_stage.specs.declared.outcome.Outcome.{Outcome}
-use Rattle.pgb_stage.specs.declared.outcome.Outcome.TheVariants.{Finished, Absent}
+use Rattle.pgb_stage.specs.declared.outcome.Outcome.TheVariants.{Finished, Absent, FindingsFound}
 use Rattle.pgb_stage.specs.Seen.{Seen, Failed}
 use Rattle.pgb_stage.specs.Texts.{stage_status, object_status}
 use Rattle.pgb_prepare.specs.Stages.{StageCause}
@@ -27,11 +27,13 @@ use Rattle.pgb_take.proofs.Statuses.{take_within}
 use Rattle.pgb_recover.specs.declared.fault.RecoverFault.{RecoverFault}
 use Rattle.pgb_recover.specs.declared.fault.RecoverFault.TheVariants as recovers
 use Rattle.pgb_recover.specs.Texts.{recover_status}
-use Rattle.pgb_command.specs.declared.fault.CommandFault.TheVariants.{Create, Push, Get, Take, Recover}
+use Rattle.pgb_examine.specs.declared.fault.ExamineFault.{ExamineFault}
+use Rattle.pgb_examine.proofs.Statuses.{examine_is}
+use Rattle.pgb_command.specs.declared.fault.CommandFault.TheVariants.{Create, Push, Get, Take, Recover, Examine}
 use Rattle.pgb_command.specs.declared.fault.Fault.{Fault}
 use Rattle.pgb_command.specs.declared.fault.Fault.TheVariants as fault
 use Rattle.pgb_command.specs.Answers.{status_of, usage_status}
-use Rattle.pgb_command.specs.Asked.{Request, create, push, get, backup, restore, report, Asked}
+use Rattle.pgb_command.specs.Asked.{Request, create, push, get, backup, restore, report, examine, Asked}
 use Rattle.pgb_command.specs.Causes.{IsAnswered, Carries, Answers, ClosesTalk}
 use Rattle.pgb_command.specs.Configuring.{ConfigCause}
 use Rattle.pgb_command.specs.Did.{IsIdle, Cause, Closes}
@@ -128,6 +130,7 @@ push_other a (get name path) old e cause p = absurd cause
 push_other a (backup workers) old e cause p = absurd cause
 push_other a (restore set how) old e cause p = absurd cause
 push_other a (report form) old e cause p = absurd cause
+push_other a examine old e cause p = absurd cause
 
 get_other : {P : Type 0} (a : Asked) (q : Request) (old : Known) (e : GetFault) → CommandCause a q old (Get e) → OnOther q P → P
 get_other a create old e cause p = absurd cause
@@ -136,6 +139,7 @@ get_other a (get name path) old e cause p = p
 get_other a (backup workers) old e cause p = absurd cause
 get_other a (restore set how) old e cause p = absurd cause
 get_other a (report form) old e cause p = absurd cause
+get_other a examine old e cause p = absurd cause
 
 take_other : {P : Type 0} (a : Asked) (q : Request) (old : Known) (e : TakeFault) → CommandCause a q old (Take e) → OnOther q P → P
 take_other a create old e cause p = absurd cause
@@ -144,6 +148,16 @@ take_other a (get name path) old e cause p = absurd cause
 take_other a (backup workers) old e cause p = p
 take_other a (restore set how) old e cause p = absurd cause
 take_other a (report form) old e cause p = absurd cause
+take_other a examine old e cause p = absurd cause
+
+examine_other : {P : Type 0} (a : Asked) (q : Request) (old : Known) (e : ExamineFault) → CommandCause a q old (Examine e) → OnOther q P → P
+examine_other a create old e cause p = absurd cause
+examine_other a (push path) old e cause p = absurd cause
+examine_other a (get name path) old e cause p = absurd cause
+examine_other a (backup workers) old e cause p = absurd cause
+examine_other a (restore set how) old e cause p = absurd cause
+examine_other a (report form) old e cause p = absurd cause
+examine_other a examine old e cause p = p
 
 push_at : {P : Type 0} (a : Asked) (b k : Seen) (e : PushFault) → Cause a b k (fault.Command (Push e)) → OnOther a.request P → P
 push_at a b k e (inl words) p = push_other a a.request (known b) e (words (known b)) p
@@ -156,6 +170,10 @@ get_at a b k e (inr ready) p = get_other a a.request _ e ready.2 p
 take_at : {P : Type 0} (a : Asked) (b k : Seen) (e : TakeFault) → Cause a b k (fault.Command (Take e)) → OnOther a.request P → P
 take_at a b k e (inl words) p = absurd words
 take_at a b k e (inr ready) p = take_other a a.request _ e ready.2 p
+
+examine_at : {P : Type 0} (a : Asked) (b k : Seen) (e : ExamineFault) → Cause a b k (fault.Command (Examine e)) → OnOther a.request P → P
+examine_at a b k e (inl words) p = absurd words
+examine_at a b k e (inr ready) p = examine_other a a.request _ e ready.2 p
 
 -- no refusal of a restore has such a status
 recover_apart : {P : Type 0} (e : RecoverFault) → IsServerRefusal (recover_status e) → P
@@ -188,6 +206,7 @@ module _ (b k : Seen) (n : ℕ) where
   at_fault a (fault.Command (Get e)) is refusal cause closes others = inr (inr (long_is n (get_status e) is (only_long (get_status e) (get_within e).1 (subst IsServerRefusal is refusal)), ap (λ w. w.sent) (get_at a b k e cause others)))
   at_fault a (fault.Command (Take e)) is refusal cause closes others = inr (inr (long_is n (take_status e) is (only_many (take_status e) (take_within e).1 (subst IsServerRefusal is refusal)), ap (λ w. w.sent) (take_at a b k e cause others)))
   at_fault a (fault.Command (Recover e)) is refusal cause closes others = recover_apart e (subst IsServerRefusal is refusal)
+  at_fault a (fault.Command (Examine e)) is refusal cause closes others = inr (inr (long_is n 71 (is ∙ examine_is e) (omega arith), ap (λ w. w.sent) (examine_at a b k e cause others)))
   at_fault a (fault.Failed o) is refusal cause closes others = object_apart o (subst IsServerRefusal is refusal)
   at_fault a fault.NoMemory is refusal cause closes others = high 90 (omega arith) (subst IsServerRefusal is refusal)
 
@@ -207,6 +226,7 @@ module _ (b k : Seen) (n : ℕ) where
       go : (r : Result Outcome Fault) → IfErr r (Cause a b k) → IfErr r (Closes b k) → IsAnswered unknown b k r n → Said
       go (Ok (Finished lines)) cause closes t = told_as unknown b k (Ok (Finished lines)) n t (λ is. low 0 (omega arith) (subst IsServerRefusal is refusal)) (λ is rose. cut 87 (omega arith) is refusal) (λ is. cut 90 (omega arith) is refusal)
       go (Ok (Absent name)) cause closes t = told_as unknown b k (Ok (Absent name)) n t (λ is. low 1 (omega arith) (subst IsServerRefusal is refusal)) (λ is rose. cut 87 (omega arith) is refusal) (λ is. cut 90 (omega arith) is refusal)
+      go (Ok (FindingsFound lines)) cause closes t = told_as unknown b k (Ok (FindingsFound lines)) n t (λ is. between 65 (omega arith) (omega arith) (subst IsServerRefusal is refusal)) (λ is rose. cut 87 (omega arith) is refusal) (λ is. cut 90 (omega arith) is refusal)
       go (Err e) cause closes t = told_as unknown b k (Err e) n t (λ is. at_fault a e is refusal cause closes c.did.spares.others) (λ is rose. cut 87 (omega arith) is refusal) (λ is. cut 90 (omega arith) is refusal)
 
   pub closes_talk : (words : List Text) → Answers words b k n → ClosesTalk b k n

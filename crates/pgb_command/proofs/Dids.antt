@@ -38,11 +38,11 @@ use Rattle.pgb_model.proofs.Logged.{rests_still}
 use Rattle.pgb_prepare.specs.Stages.{FoundCause, StageCause}
 use Rattle.pgb_prepare.specs.Taking.{HeldCause, MayTake}
 use Rattle.pgb_create.proofs.Statuses.{closes_as}
-use Rattle.pgb_command.specs.declared.fault.CommandFault.TheVariants.{Create, Push, Get, Take, Recover}
+use Rattle.pgb_command.specs.declared.fault.CommandFault.TheVariants.{Create, Push, Get, Take, Recover, Examine}
 use Rattle.pgb_command.specs.declared.fault.Fault.{Fault}
 use Rattle.pgb_command.specs.declared.fault.Fault.TheVariants.{Usage, Stage, Command as OfCommand, Failed as ObjectFailed, NoMemory}
 use Rattle.pgb_command.specs.Answers.{status, reached_of, ending_of, is_early}
-use Rattle.pgb_command.specs.Asked.{Request, create, push, get, backup, restore, report, Asked}
+use Rattle.pgb_command.specs.Asked.{Request, create, push, get, backup, restore, report, examine, Asked}
 use Rattle.pgb_command.specs.Faults.{of_stage}
 use Rattle.pgb_command.specs.Tables.{Known, known, plan_of, manner_of, CommandCause, Promise, Lasts, OnReader, OnCreate, uses_workers, uses_clock}
 use Rattle.pgb_command.specs.Did.{Ran, StaysHealed, OnReady, Cause, HealsPairs, Did, OwnCause, Spares, Closes, WordsCause, Brackets, SamePlaces, OpensPlaces, ArePlacesOpened, OpensIf, IsOpenedIf, TakesAll, OnlyLocked}
@@ -84,6 +84,7 @@ closes_from b m k le (OfCommand (Push fault)) h = tt
 closes_from b m k le (OfCommand (Get fault)) h = tt
 closes_from b m k le (OfCommand (Take fault)) h = tt
 closes_from b m k le (OfCommand (Recover fault)) h = tt
+closes_from b m k le (OfCommand (Examine fault)) h = tt
 closes_from b m k le (ObjectFailed object) h = tt
 closes_from b m k le NoMemory h = tt
 
@@ -208,6 +209,7 @@ lasts_by a (get name path) v nodes mid k outcome same at h = subst (λ (n : Opti
 lasts_by a (backup workers) v nodes mid k outcome same at h = tt
 lasts_by a (restore set how) v nodes mid k outcome same at h = tt
 lasts_by a (report form) v nodes mid k outcome same at h = tt
+lasts_by a examine v nodes mid k outcome same at h = tt
 
 -- the members of a healed pair too
 heals_by : (a : Asked) (request : Request) (v : View) (k : Seen) → ((plan_of request).settling ≡ Looked → IsLookedAt a.stanza v) → HealsToLast (plan_of request).pairs a.stanza v →
@@ -218,6 +220,7 @@ heals_by a (get name path) v k at had h = tt
 heals_by a (backup workers) v k at had h = tt
 heals_by a (restore set how) v k at had h = tt
 heals_by a (report form) v k at had h = tt
+heals_by a examine v k at had h = tt
 
 -- what the stages behind the locks add
 did_ran : (a : Asked) (b m k : Seen) (r : Result Outcome Fault) → m ≡ record b { repo = m.repo; tree = m.tree } → m.tree.nodes ≡ b.tree.nodes → b.repo.faults ≤ m.repo.faults → b.tree.faults ≤ m.tree.faults → Quiet a.stanza b.repo.view m.repo.view → Begins (plan_of a.request).settling a.stanza b.repo.view m.repo.view →
@@ -309,6 +312,7 @@ word_closes a b (OfCommand (Push fault)) h = tt
 word_closes a b (OfCommand (Get fault)) h = tt
 word_closes a b (OfCommand (Take fault)) h = absurd h
 word_closes a b (OfCommand (Recover fault)) h = tt
+word_closes a b (OfCommand (Examine fault)) h = absurd h
 word_closes a b (ObjectFailed object) h = absurd h
 word_closes a b NoMemory h = tt
 
@@ -320,6 +324,7 @@ word_cause a b (OfCommand (Push fault)) h = inl h
 word_cause a b (OfCommand (Get fault)) h = inl h
 word_cause a b (OfCommand (Take fault)) h = absurd h
 word_cause a b (OfCommand (Recover fault)) h = inl h
+word_cause a b (OfCommand (Examine fault)) h = absurd h
 word_cause a b (ObjectFailed object) h = absurd h
 word_cause a b NoMemory h = tt
 

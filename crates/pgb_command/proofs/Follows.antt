@@ -5,8 +5,12 @@ use Rattle.pgb_model.specs.Text.{Text}
 use Rattle.pgb_stage.specs.declared.object.Object.TheVariants.{Output}
 use Rattle.pgb_stage.specs.declared.fault.StageFault.TheVariants.{NotBuilt}
 use Rattle.pgb_stage.specs.declared.outcome.Outcome.{Outcome}
-use Rattle.pgb_stage.specs.declared.outcome.Outcome.TheVariants.{Finished, Absent}
-use Rattle.pgb_stage.specs.Runs.{Reached, to_end, turned_back, OnAll, OnNone, Takes, On}
+use Rattle.pgb_stage.specs.declared.outcome.Outcome.TheVariants.{Finished, Absent, FindingsFound}
+use Rattle.std.specs.Prelude.{String}
+use Rattle.std.specs.declared.alloc.Global.{Global}
+use Rattle.pgb_model.specs.Steps.{Command, Reading}
+use Rattle.pgb_stage.specs.declared.plan.Settling.TheVariants.{Whole as WholeStanza}
+use Rattle.pgb_stage.specs.Runs.{Reached, to_end, turned_back, turns_of, OnAll, OnNone, Leads, Takes, On}
 use Rattle.pgb_outside.specs.States.{TreeState}
 use Rattle.pgb_stage.specs.Seen.{LocksSeen, Seen, Failed}
 use Rattle.pgb_stage.proofs.Besides.{still_beside}
@@ -14,17 +18,18 @@ use Rattle.pgb_stage.proofs.Lifted.{on_as, still_quiet, quiet_takes, opened_take
 use Rattle.pgb_command.specs.declared.fault.Fault.{Fault}
 use Rattle.pgb_command.specs.declared.fault.Fault.TheVariants.{Usage, Stage, Command as OfCommand, Failed as ObjectFailed, NoMemory}
 use Rattle.pgb_command.specs.Answers.{Ending, status, status_of, answer_of, ending_of, reached_of}
-use Rattle.pgb_command.specs.Asked.{Request, create, push, get, backup, restore, report, Asked, Asks}
-use Rattle.pgb_command.specs.Causes.{IsAnswered, Carries, Answers, PartDone, Finishes, Fulfils, IsEarly, TurnsBack, LeavesRest, Completes}
+use Rattle.pgb_command.specs.Asked.{Request, create, push, get, backup, restore, report, examine, Asked, Asks}
+use Rattle.pgb_command.specs.Causes.{IsAnswered, Carries, Answers, PartDone, Finishes, EndsWell, Fulfils, IsEarly, TurnsBack, LeavesRest, Completes}
 use Rattle.pgb_command.specs.Did.{IsIdle, Did, OpensIf, OpensPlaces, OnlyLocked}
 use Rattle.pgb_command.specs.Output.{IsTold, Whole, Cut, Starved, Wordless}
 use Rattle.pgb_disk.proofs.Changes.{only_rests}
 use Rattle.pgb_stanza.specs.Owned.{IsOfPairs}
-use Rattle.pgb_command.specs.Tables.{known, plan_of, manner_of, OnCreate, FolderStays, uses_workers, uses_clock}
+use Rattle.pgb_command.specs.Tables.{known, plan_of, manner_of, OnCreate, FolderGoes, FolderStays, uses_workers, uses_clock}
 use Rattle.pgb_command.proofs.AskedOnce.{one_asked}
 use Rattle.pgb_command.proofs.ByRequest.{idle, any_reader, any_create, any_other, any_unless, any_stays, folder_stays}
 use Rattle.pgb_command.proofs.Dids.{stage_reached}
-use Rattle.pgb_command.proofs.Statuses.{over, zero_ends, early_ends, not_cut}
+use Rattle.pgb_command.proofs.Statuses.{over, zero_ends, Deviates, early_ends, not_cut}
+use Rattle.pgb_command.proofs.Deviating.{refused_ill, cut_ill, only_examines}
 
 -- ---- which of the answers it is
 
@@ -75,6 +80,7 @@ create_at (get name path) reached P is h = tt
 create_at (backup workers) reached P is h = tt
 create_at (restore set how) reached P is h = tt
 create_at (report form) reached P is h = tt
+create_at examine reached P is h = tt
 
 ok_at : (ended : Result Outcome Fault) (P : Type 0) → status (ending_of ended) ≡ 0 → OnOk ended P → P
 ok_at (Ok x) P is h = h
@@ -102,8 +108,8 @@ module _ (a : Asked) (b k : Seen) (n : ℕ) where
   part_done (inl x) = on_as (manner_of a.request a.data_folder b.tree.nodes b.links) _ _ (λ command h. (h.part, h.between, h.receipts)) (idle_takes a b k x.1.1.0 x.0)
   part_done (inr x) = on_as (manner_of a.request a.data_folder b.tree.nodes b.links) _ _ (λ command h. (h.part, h.between, h.receipts)) x.1.did.steps
 
-  early_at : (unknown : List Text) (ended : Result Outcome Fault) → IsAnswered unknown b k ended n → IsEarly a.request n → reached_of (ending_of ended) ≡ turned_back
-  early_at unknown ended t early = told_as unknown b k ended n t (λ is. early_ends a.request ended (subst (IsEarly a.request) is early))
+  early_at : (unknown : List Text) (ended : Result Outcome Fault) → ¬ Deviates ended → IsAnswered unknown b k ended n → IsEarly a.request n → reached_of (ending_of ended) ≡ turned_back
+  early_at unknown ended none t early = told_as unknown b k ended n t (λ is. early_ends a.request ended none (subst (IsEarly a.request) is early))
       (λ is rose. absurd (not_cut a.request n 87 is (omega arith) (omega arith) (λ e. absurd (omega (arith, e))) early)) (λ is. absurd (not_cut a.request n 90 is (omega arith) (omega arith) (λ e. absurd (omega (arith, e))) early))
 
   -- the status is that of how it ended
@@ -111,20 +117,46 @@ module _ (a : Asked) (b k : Seen) (n : ℕ) where
   status_at unknown ended t early = told_as unknown b k ended n t (λ is. is)
       (λ is rose. absurd (not_cut a.request n 87 is (omega arith) (omega arith) (λ e. absurd (omega (arith, e))) early)) (λ is. absurd (not_cut a.request n 90 is (omega arith) (omega arith) (λ e. absurd (omega (arith, e))) early))
 
+  -- it was refused, or the file isn't there
+  refused_back : (unknown : List Text) (ended : Result Outcome Fault) → ¬ Deviates ended → Did a b k ended → IsAnswered unknown b k ended n → IsEarly a.request n → TurnsBack a b k n
+  refused_back unknown ended none did t early =
+      let is = early_at unknown ended none t early in
+      record {
+        none = on_as (manner_of a.request a.data_folder b.tree.nodes b.links) _ _ (λ command h. none_at (reached_of (ending_of ended)) _ is h.turned) did.steps;
+        nodes = subst (λ (m : ℕ). FolderStays a.request m (k.tree.nodes ≡ b.tree.nodes)) (sym (status_at unknown ended t early)) (none_at (reached_of (ending_of ended)) _ is did.spares.nodes);
+        unmade = create_at a.request (reached_of (ending_of ended)) _ is did.spares.unmade;
+      }
+
+  -- it told what deviates: that is verify, which takes no step
+  abbrev Taken : Command → Type 0
+  Taken command = Takes WholeStanza a.stanza command to_end b.repo.view b.spool.view k.repo.view k.spool.view
+
+  abbrev NotTaken : Command → Type 0
+  NotTaken command = Leads a.stanza (turns_of command) false b.repo.view b.spool.view k.repo.view k.spool.view
+
+  reading_turns : ((command : Command) → command ≡ Reading → Taken command) → (command : Command) → command ≡ Reading → NotTaken command
+  reading_turns steps command is = subst NotTaken (sym is) (steps Reading refl).part
+
+  told_back : (lines : String Global) → a.request ≡ examine → Did a b k (Ok (FindingsFound lines)) → TurnsBack a b k n
+  told_back lines is did = record {
+    none = subst (λ (q : Request). On (manner_of q a.data_folder b.tree.nodes b.links) (λ command. Takes (plan_of q).settling a.stanza command to_end b.repo.view b.spool.view k.repo.view k.spool.view) → On (manner_of q a.data_folder b.tree.nodes b.links) NotTaken) (sym is) reading_turns did.steps;
+    nodes = subst (λ (q : Request). FolderStays q n (k.tree.nodes ≡ b.tree.nodes)) (sym is) (subst (λ (q : Request). FolderGoes a q (known b) k.tree.nodes) is did.spares.folder);
+    unmade = subst (λ (q : Request). OnCreate q (k.repo.view.now ≡ b.repo.view.now)) (sym is) tt;
+  }
+
+  back_by : (unknown : List Text) (ended : Result Outcome Fault) → Did a b k ended → IsAnswered unknown b k ended n → IsEarly a.request n → TurnsBack a b k n
+  back_by unknown (Ok (FindingsFound lines)) did t early = told_back lines (only_examines a a.request _ (known k) lines did.promise.2) did
+  back_by unknown (Ok (Finished lines)) did t early = refused_back unknown (Ok (Finished lines)) (λ e. e) did t early
+  back_by unknown (Ok (Absent name)) did t early = refused_back unknown (Ok (Absent name)) (λ e. e) did t early
+  back_by unknown (Err e) did t early = refused_back unknown (Err e) (λ x. x) did t early
+
   pub turns_back : IsEarly a.request n → Either a b k n → TurnsBack a b k n
   turns_back early (inl x) = record {
-    none = on_as (manner_of a.request a.data_folder b.tree.nodes b.links) _ _ (λ command h. none_at (reached_of (ending_of (Err x.1.1.0))) _ (early_at x.1.0 (Err x.1.1.0) x.1.1.1 early) h.turned) (idle_takes a b k x.1.1.0 x.0);
+    none = on_as (manner_of a.request a.data_folder b.tree.nodes b.links) _ _ (λ command h. none_at (reached_of (ending_of (Err x.1.1.0))) _ (early_at x.1.0 (Err x.1.1.0) (λ e. e) x.1.1.1 early) h.turned) (idle_takes a b k x.1.1.0 x.0);
     nodes = any_stays a.request n _ (idle_nodes b k x.0);
     unmade = any_create a.request _ x.0.repo.now;
   }
-  turns_back early (inr x) =
-      let c = x.1 in
-      let is = early_at x.0 c.ended c.answered early in
-      record {
-        none = on_as (manner_of a.request a.data_folder b.tree.nodes b.links) _ _ (λ command h. none_at (reached_of (ending_of c.ended)) _ is h.turned) c.did.steps;
-        nodes = subst (λ (m : ℕ). FolderStays a.request m (k.tree.nodes ≡ b.tree.nodes)) (sym (status_at x.0 c.ended c.answered early)) (none_at (reached_of (ending_of c.ended)) _ is c.did.spares.nodes);
-        unmade = create_at a.request (reached_of (ending_of c.ended)) _ is c.did.spares.unmade;
-      }
+  turns_back early (inr x) = back_by x.0 x.1.ended x.1.did x.1.answered early
 
   pub leaves_rest : Either a b k n → LeavesRest a b k
   leaves_rest (inl x) = record {
@@ -147,19 +179,23 @@ module _ (a : Asked) (b k : Seen) (n : ℕ) where
   only_locked (inl x) = inr (inl (ap (λ (l : LocksSeen). l.took) x.0.locks), x.0.repo)
   only_locked (inr x) = x.1.brackets.locked
 
-  fulfils_by : (unknown : List Text) (ended : Result Outcome Fault) → (n ≤ 1) → Did a b k ended → IsAnswered unknown b k ended n → Fulfils a b k n
-  fulfils_by unknown (Err e) small did t = told_as unknown b k (Err e) n t (λ is. absurd (omega (arith, is, small, over e))) (λ is rose. absurd (omega (arith, is, small))) (λ is. absurd (omega (arith, is, small)))
-  fulfils_by unknown (Ok outcome) small did t = go t.ending t.is t.wrote
+  -- no refusal is told as if it had ended well
+  never_well : {P : Type 0} (unknown : List Text) (e : Fault) → EndsWell n → IsAnswered unknown b k (Err e) n → P
+  never_well unknown e well t = told_as unknown b k (Err e) n t (λ is. absurd (refused_ill e (subst EndsWell is well))) (λ is rose. absurd (cut_ill 87 (omega arith) (subst EndsWell is well))) (λ is. absurd (cut_ill 90 (omega arith) (subst EndsWell is well)))
+
+  fulfils_by : (unknown : List Text) (ended : Result Outcome Fault) → EndsWell n → Did a b k ended → IsAnswered unknown b k ended n → Fulfils a b k n
+  fulfils_by unknown (Err e) well did t = never_well unknown e well t
+  fulfils_by unknown (Ok outcome) well did t = go t.ending t.is t.wrote
     where
       go : (ending : Ending) → n ≡ status ending → IsTold b.out.written (answer_of unknown (Ok outcome)) k.out.written (Failed b k Output) ending → Fulfils a b k n
       go ending is (Whole e same wrote) = record { outcome = outcome; is = is ∙ ap status same; promise = did.promise; lasts = did.lasts; unknown = unknown; wrote = wrote }
-      go ending is (Cut rose front) = absurd (omega (arith, is, small))
-      go ending is (Starved lines which front) = absurd (omega (arith, is, small))
-      go ending is (Wordless rose front) = absurd (omega (arith, is, small))
+      go ending is (Cut rose front) = absurd (cut_ill 87 (omega arith) (subst EndsWell is well))
+      go ending is (Starved lines which front) = absurd (cut_ill 90 (omega arith) (subst EndsWell is well))
+      go ending is (Wordless rose front) = absurd (cut_ill 87 (omega arith) (subst EndsWell is well))
 
-  pub fulfils : (n ≤ 1) → Either a b k n → Fulfils a b k n
-  fulfils small (inl x) = told_as x.1.0 b k (Err x.1.1.0) n x.1.1.1 (λ is. absurd (omega (arith, is, small, over x.1.1.0))) (λ is rose. absurd (omega (arith, is, small))) (λ is. absurd (omega (arith, is, small)))
-  fulfils small (inr x) = fulfils_by x.0 x.1.ended small x.1.did x.1.answered
+  pub fulfils : EndsWell n → Either a b k n → Fulfils a b k n
+  fulfils well (inl x) = never_well x.1.0 x.1.1.0 well x.1.1.1
+  fulfils well (inr x) = fulfils_by x.0 x.1.ended well x.1.did x.1.answered
 
 -- ---- where no cause of a refusal holds
 
@@ -171,12 +207,13 @@ memory_or (ObjectFailed u) = inr (λ (is : ◌≡◌ {A = Fault} (ObjectFailed u
 memory_or NoMemory = inl refl
 
 module _ (b k : Seen) (n : ℕ) (whole : ¬ Failed b k Output) where
-  only_memory : (unknown : List Text) (e : Fault) → ((e ≢ NoMemory) → ⊥) → IsAnswered unknown b k (Err e) n → (n ≤ 1) ⊎ (n ≡ 90)
+  only_memory : (unknown : List Text) (e : Fault) → ((e ≢ NoMemory) → ⊥) → IsAnswered unknown b k (Err e) n → EndsWell n ⊎ (n ≡ 90)
   only_memory unknown e never t = told_as unknown b k (Err e) n t (λ is. ⊎_elim (λ (m : e ≡ NoMemory). inr (is ∙ ap status_of m)) (λ other. absurd (never other)) (memory_or e)) (λ is rose. absurd (whole rose)) (λ is. inr is)
 
-  ends_well : (unknown : List Text) (ended : Result Outcome Fault) → IfErr ended (λ e. (e ≢ NoMemory) → ⊥) → IsAnswered unknown b k ended n → (n ≤ 1) ⊎ (n ≡ 90)
-  ends_well unknown (Ok (Finished lines)) never t = told_as unknown b k (Ok (Finished lines)) n t (λ is. inl (omega (arith, is))) (λ is rose. absurd (whole rose)) (λ is. inr is)
-  ends_well unknown (Ok (Absent name)) never t = told_as unknown b k (Ok (Absent name)) n t (λ is. inl (omega (arith, is))) (λ is rose. absurd (whole rose)) (λ is. inr is)
+  ends_well : (unknown : List Text) (ended : Result Outcome Fault) → IfErr ended (λ e. (e ≢ NoMemory) → ⊥) → IsAnswered unknown b k ended n → EndsWell n ⊎ (n ≡ 90)
+  ends_well unknown (Ok (Finished lines)) never t = told_as unknown b k (Ok (Finished lines)) n t (λ is. inl (inl (omega (arith, is)))) (λ is rose. absurd (whole rose)) (λ is. inr is)
+  ends_well unknown (Ok (FindingsFound lines)) never t = told_as unknown b k (Ok (FindingsFound lines)) n t (λ is. inl (inr is)) (λ is rose. absurd (whole rose)) (λ is. inr is)
+  ends_well unknown (Ok (Absent name)) never t = told_as unknown b k (Ok (Absent name)) n t (λ is. inl (inl (omega (arith, is)))) (λ is rose. absurd (whole rose)) (λ is. inr is)
   ends_well unknown (Err e) never t = only_memory unknown e never t
 
 err_to : (r : Result Outcome Fault) (P Q : Fault → Type 0) → ((fault : Fault) → P fault → Q fault) → IfErr r P → IfErr r Q

@@ -13,6 +13,7 @@ mod Words
 mod Readied
 mod Carried
 pub mod Statuses
+mod Deviating
 pub mod Follows
 mod Closings
 mod Unused

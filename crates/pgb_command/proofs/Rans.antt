@@ -24,7 +24,7 @@ use Rattle.pgb_archive.specs.Still.{IsStill}
 use Rattle.pgb_stage.specs.declared.object.Object.{Object}
 use Rattle.pgb_stage.specs.declared.object.Object.TheVariants.{Server as TheServer}
 use Rattle.pgb_stage.specs.declared.object.Object.TheVariants as objects
-use Rattle.pgb_stage.specs.declared.outcome.Outcome.TheVariants.{Finished, Absent}
+use Rattle.pgb_stage.specs.declared.outcome.Outcome.TheVariants.{Finished, Absent, FindingsFound}
 use Rattle.pgb_stage.specs.Reached.{back_if, fails_early}
 use Rattle.pgb_stage.specs.Texts.{object_status}
 use Rattle.pgb_model.specs.Repository.{Stanza}
@@ -74,10 +74,12 @@ use Rattle.pgb_model.specs.declared.labels.Label.{Label}
 use Rattle.pgb_get.specs.Getting.{GotBy, GetCause, get_early}
 use Rattle.pgb_command.specs.declared.fault.Fault.{Fault}
 use Rattle.pgb_command.specs.declared.fault.Fault.TheVariants.{Stage, Command as OfCommand}
-use Rattle.pgb_command.specs.declared.fault.CommandFault.TheVariants.{Create, Push, Get, Take, Recover}
+use Rattle.pgb_examine.specs.declared.fault.ExamineFault.{ExamineFault}
+use Rattle.pgb_examine.specs.Examining.{ExamineCause, examine_early}
+use Rattle.pgb_command.specs.declared.fault.CommandFault.TheVariants.{Create, Push, Get, Take, Recover, Examine}
 use Rattle.pgb_command.specs.Answers.{status, reached_of, ending_of, is_early}
-use Rattle.pgb_command.specs.Asked.{Request, create, push, get, backup, restore, report, RestoreHow, Asked}
-use Rattle.pgb_command.specs.Faults.{of_halt, of_stage, of_create, of_push, of_get, of_take, of_recover, lift}
+use Rattle.pgb_command.specs.Asked.{Request, create, push, get, backup, restore, report, examine, RestoreHow, Asked}
+use Rattle.pgb_command.specs.Faults.{of_halt, of_stage, of_create, of_push, of_get, of_take, of_recover, of_examine, lift}
 use Rattle.pgb_command.specs.Tables.{Known, known, found_by, found_for, Promise, Lasts, plan_of, manner_of, IsCreateOf, OnReader, OnCreate, OnOther, FolderGoes, FolderStays, Unless, uses_workers, uses_clock}
 use Rattle.pgb_command.specs.Did.{SamePlaces, Closes, OwnCause, StaysHealed, Ran}
 use Rattle.pgb_command.proofs.Ends.{reached_same, lift_ok, lift_on, lift_err}
@@ -104,6 +106,7 @@ module _ {E : Type 0} (a : Asked) (b k : Seen) (of : E → Fault) (early : E →
   create_reached (backup workers) P h = h
   create_reached (restore set how) P h = h
   create_reached (report form) P h = h
+  create_reached examine P h = h
 
   pub ran_of : On (manner_of a.request a.data_folder b.tree.nodes b.links) (λ command. Runs (plan_of a.request).settling a.stanza command (reached_by early r) b.repo.view b.spool.view k.repo.view k.spool.view) → IfOk r (Promise a a.request (known b) (known k)) → IfOk r (λ o. IsLookedAt a.stanza b.repo.view → Lasts a a.request b.tree.nodes k.repo.view k.tree.nodes o) → IfErr r (HaltCause why failed) →
       OnOk r (StaysHealed a b k) →
@@ -392,6 +395,7 @@ restore_stays : (P : Type 0) (failed : Object → Type 0) → (failed TheServer 
     OnNone (reached_by recover_early r) (status (ending_of (lift of_recover r)) ≢ 55 → status (ending_of (lift of_recover r)) ≢ 56 → status (ending_of (lift of_recover r)) ≢ 63 → P)
 restore_stays P failed never why (Ok (Finished lines)) f cause h = tt
 restore_stays P failed never why (Ok (Absent name)) f cause h = absurd f
+restore_stays P failed never why (Ok (FindingsFound lines)) f cause h = absurd f
 restore_stays P failed never why (Err (Refused e)) f cause h = λ a b c. h (first_leaves e a b c)
 restore_stays P failed never why (Err (HaltFailed object)) f cause h = go object cause
   where
@@ -412,11 +416,13 @@ restore_goes : (a : Asked) (label : Option Label) (how : RestoreHow) (old new : 
     (new.nodes ≡ old.nodes) ⊎ (HasNone control_path new.nodes ⊎ ((m : Manifest) × IfSome new.nodes (IsFinished a.stanza (take how.workers old.links) (options_by a.stanza how.delta how.recovery) m old.nodes)))
 restore_goes a label how old new (Ok (Finished lines)) ok err = inr (inr (ok.manifest, ok.finished))
 restore_goes a label how old new (Ok (Absent name)) ok err = absurd ok
+restore_goes a label how old new (Ok (FindingsFound lines)) ok err = absurd ok
 restore_goes a label how old new (Err h) ok err = ⊎_elim (λ e. inl e) (λ n. inr (inl n)) err
 
 silent_ok : {X : Type 0} (P : Text → Type 0) (r : Result Outcome X) → IfOk r (λ o. OnFinished o P) → IfOk r (λ o. OnFinished o (λ lines. Unit {0}))
 silent_ok P (Ok (Finished lines)) h = tt
 silent_ok P (Ok (Absent name)) h = absurd h
+silent_ok P (Ok (FindingsFound lines)) h = absurd h
 silent_ok P (Err e) h = tt
 
 module _ (a : Asked) (b k : Seen) (rest : k ≡ record b { repo = k.repo; tree = k.tree; links = k.links }) (still : IsStill b.repo.view k.repo.view) (set : Option Text) (label : Option Label) (is_set : TellsSet set label) (how : RestoreHow)
@@ -480,6 +486,37 @@ module _ (a : Asked) (b k : Seen) (rest : k ≡ record b { repo = k.repo }) (sti
       (ap (λ (s : Seen). s.links) rest)
       (ap (λ (s : Seen). s.clock) rest)
       (never_closes b k of_stage (inform_closes b k) r)
+      places later)
+
+examine_closes : (b k : Seen) (h : Halt ExamineFault) → Closes b k (of_examine h)
+examine_closes b k (Refused e) = tt
+examine_closes b k (HaltFailed object) = tt
+examine_closes b k HaltMemory = tt
+
+module _ (a : Asked) (b k : Seen) (rest : k ≡ record b { repo = k.repo }) (still : IsStill b.repo.view k.repo.view) (r : Result Outcome (Halt ExamineFault)) (ended : Result Outcome Fault) (lifted : ended ≡ lift of_examine r) where
+  abbrev examines : Asked
+  examines = with_request a examine
+
+  pub examined_ran : a.request ≡ examine → IfOk r (Promise examines examine (known b) (known k)) → (failed : Object → Type 0) → ((object : Object) → failed object → Failed b k object) →
+      IfErr r (HaltCause (ExamineCause a.stanza b.repo.view.now) failed) → SamePlaces b k → AreLater b k → Ran a b k ended
+  examined_ran is told failed rose cause places later = as_ran a examine b k ended is
+      (ran_of examines b k (λ (e : ExamineFault). OfCommand (Examine e)) examine_early (λ e. refl) (ExamineCause a.stanza b.repo.view.now) (λ e h. h) failed rose r ended lifted
+      (λ command x. reading_runs Whole a.stanza command (reached_by examine_early r) b k x still (ap (λ (s : Seen). s.spool.view) rest))
+      told
+      (any_ok r (λ o. IsLookedAt a.stanza b.repo.view → Unit {0}) (λ o looked. tt))
+      cause
+      (on_all r (StaysHealed examines b k) (record { agree = λ some h. any_some k.repo.view.now; lasts = λ looked h. tt }))
+      (still_beside a.stanza b.repo.view k.repo.view still)
+      tt
+      still
+      (ap (λ (s : Seen). s.tree.nodes) rest)
+      (all_none (reached_by examine_early r) _ (ap (λ (s : Seen). s.tree.nodes) rest))
+      tt
+      (λ none. ap (λ (s : Seen). s.server) rest)
+      (ap (λ (s : Seen). s.server) rest)
+      (ap (λ (s : Seen). s.links) rest)
+      (ap (λ (s : Seen). s.clock) rest)
+      (never_closes b k of_examine (examine_closes b k) r)
       places later)
 
 pub both_ok : {E : Type 0} (r : Result Outcome E) (P Q : Outcome → Type 0) → IfOk r P → IfOk r Q → IfOk r (λ o. P o × Q o)

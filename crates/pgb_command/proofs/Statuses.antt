@@ -7,7 +7,7 @@ use Rattle.pgb_stage.specs.declared.object.Object.TheVariants as object
 use Rattle.pgb_stage.specs.declared.fault.StageFault.{StageFault}
 use Rattle.pgb_stage.specs.declared.fault.StageFault.TheVariants as stage
 use Rattle.pgb_stage.specs.declared.outcome.Outcome.{Outcome}
-use Rattle.pgb_stage.specs.declared.outcome.Outcome.TheVariants.{Finished, Absent}
+use Rattle.pgb_stage.specs.declared.outcome.Outcome.TheVariants.{Finished, Absent, FindingsFound}
 use Rattle.pgb_stage.specs.Runs.{to_end, turned_back}
 use Rattle.pgb_stage.specs.Reached.{fails_early, back_if}
 use Rattle.pgb_stage.specs.Texts.{stage_status, object_status}
@@ -16,12 +16,13 @@ use Rattle.pgb_push.proofs.Refusals.{push_within}
 use Rattle.pgb_get.proofs.Refusals.{get_within}
 use Rattle.pgb_take.proofs.Statuses.{take_within}
 use Rattle.pgb_recover.proofs.Statuses.{recover_over}
+use Rattle.pgb_examine.proofs.Statuses.{examine_is}
 use Rattle.pgb_command.specs.declared.fault.CommandFault.{CommandFault}
-use Rattle.pgb_command.specs.declared.fault.CommandFault.TheVariants.{Create, Push, Get, Take, Recover}
+use Rattle.pgb_command.specs.declared.fault.CommandFault.TheVariants.{Create, Push, Get, Take, Recover, Examine}
 use Rattle.pgb_command.specs.declared.fault.Fault.{Fault}
 use Rattle.pgb_command.specs.declared.fault.Fault.TheVariants as fault
 use Rattle.pgb_command.specs.Answers.{status, status_of, usage_status, command_status, command_early, is_early, ending_of, reached_of}
-use Rattle.pgb_command.specs.Asked.{Request, create, push, get, backup, restore, report}
+use Rattle.pgb_command.specs.Asked.{Request, create, push, get, backup, restore, report, examine}
 use Rattle.pgb_command.specs.Causes.{IsRefusal, IsEarly}
 
 -- ---- a refusal has no status of a command that ended well
@@ -68,6 +69,7 @@ command_over (Push e) = (push_within e).0
 command_over (Get e) = (get_within e).0
 command_over (Take e) = (take_within e).0
 command_over (Recover e) = recover_over e
+command_over (Examine e) = omega (arith, examine_is e)
 
 pub over : (e : Fault) → 2 ≤ status_of e
 over (fault.Usage e) = usage_over e
@@ -78,6 +80,7 @@ over fault.NoMemory = omega arith
 
 pub zero_ends : (ended : Result Outcome Fault) → status (ending_of ended) ≡ 0 → reached_of (ending_of ended) ≡ to_end
 zero_ends (Ok (Finished lines)) is = refl
+zero_ends (Ok (FindingsFound lines)) is = refl
 zero_ends (Ok (Absent name)) is = absurd (omega (arith, is))
 zero_ends (Err e) is = absurd (omega (arith, is, over e))
 
@@ -94,6 +97,7 @@ any_early (get name path) n h = inl h
 any_early (backup workers) n h = inl h
 any_early (restore set how) n h = inl h
 any_early (report form) n h = inl h
+any_early examine n h = inl h
 
 late : (m : ℕ) → (73 ≤ m) → (m ≤ 99) → m ≢ 83 → ¬ AnyEarly m
 late m lo hi apart (inl (inl a)) = absurd (omega (arith, lo, a.1))
@@ -117,6 +121,7 @@ early_command (Push e) = refl
 early_command (Get e) = refl
 early_command (Take e) = refl
 early_command (Recover e) = refl
+early_command (Examine e) = refl
 
 early_fault : (e : Fault) → AnyEarly (status_of e) → is_early e ≡ true
 early_fault (fault.Usage e) h = refl
@@ -125,15 +130,21 @@ early_fault (fault.Command e) h = early_command e
 early_fault (fault.Failed o) h = early_object o h
 early_fault fault.NoMemory h = absurd (late 90 (omega arith) (omega arith) (λ e. absurd (omega (arith, e))) h)
 
-any_ends : (ended : Result Outcome Fault) → AnyEarly (status (ending_of ended)) → reached_of (ending_of ended) ≡ turned_back
-any_ends (Ok (Finished lines)) (inl (inl a)) = absurd (omega (arith, a.0))
-any_ends (Ok (Finished lines)) (inl (inr b)) = absurd (omega (arith, b.0))
-any_ends (Ok (Finished lines)) (inr e) = absurd (omega (arith, e))
-any_ends (Ok (Absent name)) h = refl
-any_ends (Err e) h = ap back_if (early_fault e h)
+-- it ended well, and found what deviates
+abbrev pub Deviates : Result Outcome Fault → Type 0
+Deviates (Ok (FindingsFound lines)) = Unit {0}
+Deviates other = ⊥
 
-pub early_ends : (q : Request) (ended : Result Outcome Fault) → IsEarly q (status (ending_of ended)) → reached_of (ending_of ended) ≡ turned_back
-early_ends q ended h = any_ends ended (any_early q (status (ending_of ended)) h)
+any_ends : (ended : Result Outcome Fault) → ¬ Deviates ended → AnyEarly (status (ending_of ended)) → reached_of (ending_of ended) ≡ turned_back
+any_ends (Ok (Finished lines)) none (inl (inl a)) = absurd (omega (arith, a.0))
+any_ends (Ok (Finished lines)) none (inl (inr b)) = absurd (omega (arith, b.0))
+any_ends (Ok (Finished lines)) none (inr e) = absurd (omega (arith, e))
+any_ends (Ok (FindingsFound lines)) none h = absurd (none tt)
+any_ends (Ok (Absent name)) none h = refl
+any_ends (Err e) none h = ap back_if (early_fault e h)
+
+pub early_ends : (q : Request) (ended : Result Outcome Fault) → ¬ Deviates ended → IsEarly q (status (ending_of ended)) → reached_of (ending_of ended) ≡ turned_back
+early_ends q ended none h = any_ends ended none (any_early q (status (ending_of ended)) h)
 
 pub not_cut : (q : Request) (n m : ℕ) → n ≡ m → (73 ≤ m) → (m ≤ 99) → m ≢ 83 → ¬ IsEarly q n
 not_cut q n m is lo hi apart early = late m lo hi apart (subst AnyEarly is (any_early q n early))

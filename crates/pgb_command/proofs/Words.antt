@@ -25,7 +25,7 @@ use Rattle.pgb_push.specs.WalPath.{IsWalPath}
 use Rattle.pgb_command.specs.declared.order.Order.{Order}
 use Rattle.pgb_command.specs.declared.order.Order.TheVariants as orders
 use Rattle.pgb_command.specs.Told.{how_of, IsOrder}
-use Rattle.pgb_command.specs.Asked.{Request, create, push, get, backup, restore, report, RestoreHow, Asked}
+use Rattle.pgb_command.specs.Asked.{Request, create, push, get, backup, restore, report, examine, RestoreHow, Asked}
 use Rattle.pgb_command.specs.Faults.{of_push, of_get, of_recover}
 use Rattle.pgb_command.specs.Tables.{WordsFit, CommandCause}
 use Rattle.pgb_command.specs.Did.{IsIdle, WordsCause, ComesBehind}
@@ -68,36 +68,49 @@ words_fit a create (orders.ArchiveGet o) is = absurd is
 words_fit a create (orders.Backup o) is = absurd is
 words_fit a create (orders.Restore o) is = absurd is
 words_fit a create (orders.Info asked) is = absurd is
+words_fit a create orders.Verify is = absurd is
 words_fit a (push path) orders.StanzaCreate is = absurd is
 words_fit a (push path) (orders.ArchivePush o) is = (o.name, subst (λ (f : Text). IsWalPath f path o.name) is.0 (subst (λ (p : Text). IsWalPath o.folder.now p o.name) is.1 o.named))
 words_fit a (push path) (orders.ArchiveGet o) is = absurd is
 words_fit a (push path) (orders.Backup o) is = absurd is
 words_fit a (push path) (orders.Restore o) is = absurd is
 words_fit a (push path) (orders.Info asked) is = absurd is
+words_fit a (push path) orders.Verify is = absurd is
 words_fit a (get word path) orders.StanzaCreate is = absurd is
 words_fit a (get word path) (orders.ArchivePush o) is = absurd is
 words_fit a (get word path) (orders.ArchiveGet o) is = (o.name, subst (λ (f : Text). AreWords f word path o.name) is.0 (subst (λ (w : Text). AreWords o.folder.now w path o.name) is.1 (subst (λ (p : Text). AreWords o.folder.now o.word.now p o.name) is.2 o.wanted)))
 words_fit a (get word path) (orders.Backup o) is = absurd is
 words_fit a (get word path) (orders.Restore o) is = absurd is
 words_fit a (get word path) (orders.Info asked) is = absurd is
+words_fit a (get word path) orders.Verify is = absurd is
 words_fit a (backup workers) orders.StanzaCreate is = absurd is
 words_fit a (backup workers) (orders.ArchivePush o) is = absurd is
 words_fit a (backup workers) (orders.ArchiveGet o) is = absurd is
 words_fit a (backup workers) (orders.Backup o) is = tt
 words_fit a (backup workers) (orders.Restore o) is = absurd is
 words_fit a (backup workers) (orders.Info asked) is = absurd is
+words_fit a (backup workers) orders.Verify is = absurd is
 words_fit a (restore set how) orders.StanzaCreate is = absurd is
 words_fit a (restore set how) (orders.ArchivePush o) is = absurd is
 words_fit a (restore set how) (orders.ArchiveGet o) is = absurd is
 words_fit a (restore set how) (orders.Backup o) is = absurd is
 words_fit a (restore set how) (orders.Restore o) is = (o.set, is.2)
 words_fit a (restore set how) (orders.Info asked) is = absurd is
+words_fit a (restore set how) orders.Verify is = absurd is
 words_fit a (report form) orders.StanzaCreate is = absurd is
 words_fit a (report form) (orders.ArchivePush o) is = absurd is
 words_fit a (report form) (orders.ArchiveGet o) is = absurd is
 words_fit a (report form) (orders.Backup o) is = absurd is
 words_fit a (report form) (orders.Restore o) is = absurd is
 words_fit a (report form) (orders.Info asked) is = tt
+words_fit a (report form) orders.Verify is = absurd is
+words_fit a examine orders.StanzaCreate is = absurd is
+words_fit a examine (orders.ArchivePush o) is = absurd is
+words_fit a examine (orders.ArchiveGet o) is = absurd is
+words_fit a examine (orders.Backup o) is = absurd is
+words_fit a examine (orders.Restore o) is = absurd is
+words_fit a examine (orders.Info asked) is = absurd is
+words_fit a examine orders.Verify is = tt
 
 -- the order of a restore is asked for
 pub restore_asked : (q : Request) (folder : Text) (o : RecoverOrder) → IsOrder q folder (orders.Restore o) → (set : Option Text) × (q ≡ restore set (how_of o)) × TellsSet set o.set
@@ -107,6 +120,7 @@ restore_asked (get word path) folder o is = absurd is
 restore_asked (backup workers) folder o is = absurd is
 restore_asked (restore set how) folder o is = (set, ap (restore set) (sym is.1), is.2)
 restore_asked (report form) folder o is = absurd is
+restore_asked examine folder o is = absurd is
 
 pub behind_words : (a : Asked) (b k : Seen) (o : Order) → IsOrder a.request a.data_folder o → (result : Result Outcome Fault) → ComesBehind a b k result
 behind_words a b k o is (Ok x) = tt

@@ -1,12 +1,12 @@
 -- The status and the output of each answer (own), by layers.
-use Rattle.std.specs.Prelude.{ℕ, Bool, true, false, List, [], ◌∷◌, ◌++◌, ◌+◌, ◌/◌, ◌%◌, codes, decimal, string_bytes, Result, Ok, Err, if◌then◌else◌}
+use Rattle.std.specs.Prelude.{ℕ, ◌==◌, Bool, true, false, List, [], ◌∷◌, ◌++◌, ◌+◌, ◌/◌, ◌%◌, codes, decimal, string_bytes, Result, Ok, Err, if◌then◌else◌}
 use Rattle.std.specs.List.{flat_map}
 use Rattle.pgb_model.specs.Text.{Text}
 use Rattle.pgb_options.specs.declared.usage.Usage.{Usage}
 use Rattle.pgb_options.specs.declared.usage.Usage.TheVariants.{CommandMissing, CommandUnknown, OptionUnknown, OptionRepeated, OptionValue, OptionMissing, OptionNotFor, ConfigSyntax, ParameterCount, ParameterUtf8, NoMemory as UsageNoMemory}
 use Rattle.pgb_stage.specs.declared.object.Object.TheVariants.{Output}
 use Rattle.pgb_stage.specs.declared.outcome.Outcome.{Outcome}
-use Rattle.pgb_stage.specs.declared.outcome.Outcome.TheVariants.{Finished, Absent}
+use Rattle.pgb_stage.specs.declared.outcome.Outcome.TheVariants.{Finished, Absent, FindingsFound}
 use Rattle.pgb_stage.specs.Runs.{Reached, to_end, turned_back}
 use Rattle.pgb_stage.specs.Reached.{fails_early, back_if}
 use Rattle.pgb_stage.specs.Texts.{shown, stage_status, stage_message, object_status, object_message}
@@ -20,8 +20,10 @@ use Rattle.pgb_take.specs.Faults.{take_early}
 use Rattle.pgb_take.specs.Texts.{take_status, take_message}
 use Rattle.pgb_recover.specs.Ends.{recover_early}
 use Rattle.pgb_recover.specs.Texts.{recover_status, recover_message}
+use Rattle.pgb_examine.specs.Examining.{examine_early}
+use Rattle.pgb_examine.specs.Texts.{examine_status, examine_message}
 use Rattle.pgb_command.specs.declared.fault.CommandFault.{CommandFault}
-use Rattle.pgb_command.specs.declared.fault.CommandFault.TheVariants.{Create, Push, Get, Take, Recover}
+use Rattle.pgb_command.specs.declared.fault.CommandFault.TheVariants.{Create, Push, Get, Take, Recover, Examine}
 use Rattle.pgb_command.specs.declared.fault.Fault.{Fault}
 use Rattle.pgb_command.specs.declared.fault.Fault.TheVariants.{Usage as OfUsage, Stage, Command, Failed, NoMemory}
 
@@ -48,6 +50,7 @@ command_status (Push fault) = push_status fault
 command_status (Get fault) = get_status fault
 command_status (Take fault) = take_status fault
 command_status (Recover fault) = recover_status fault
+command_status (Examine fault) = examine_status fault
 
 abbrev pub status_of : Fault → ℕ
 status_of (OfUsage usage) = usage_status usage
@@ -65,6 +68,7 @@ command_early (Push fault) = push_early fault
 command_early (Get fault) = get_early fault
 command_early (Take fault) = take_early fault
 command_early (Recover fault) = recover_early fault
+command_early (Examine fault) = examine_early fault
 
 -- the command ended before its own first step
 abbrev pub is_early : Fault → Bool
@@ -76,24 +80,28 @@ is_early NoMemory = false
 
 -- ---- answers
 
--- Ok with its lines, that the archive has no such file, or a refusal
+-- Ok with its lines, Ok with the lines of what deviates, that the archive has no such file, or a refusal
 pub data Ending : Type 0 where
   finished : (lines : Text) → Ending
+  deviating : (lines : Text) → Ending
   absent : (name : Text) → Ending
   refused : (fault : Fault) → Ending
 
 abbrev pub status : Ending → ℕ
 status (finished lines) = 0
+status (deviating lines) = 65
 status (absent name) = 1
 status (refused fault) = status_of fault
 
 abbrev pub reached_of : Ending → Reached
 reached_of (finished lines) = to_end
+reached_of (deviating lines) = to_end
 reached_of (absent name) = turned_back
 reached_of (refused fault) = back_if (is_early fault)
 
 abbrev pub ending_of : Result Outcome Fault → Ending
 ending_of (Ok (Finished lines)) = finished (string_bytes lines)
+ending_of (Ok (FindingsFound lines)) = deviating (string_bytes lines)
 ending_of (Ok (Absent name)) = absent (string_bytes name)
 ending_of (Err fault) = refused fault
 
@@ -128,6 +136,7 @@ command_message (Push fault) = push_message fault
 command_message (Get fault) = get_message fault
 command_message (Take fault) = take_message fault
 command_message (Recover fault) = recover_message fault
+command_message (Examine fault) = examine_message fault
 
 abbrev pub message_of : Fault → Text
 message_of (OfUsage usage) = usage_message usage
@@ -153,6 +162,15 @@ is_output other = false
 abbrev pub error_line : Fault → Text
 error_line fault = if is_output fault then [] else line_of (status_of fault) (message_of fault)
 
+-- how many lines a text has, each with its newline
+abbrev pub count_lines : Text → ℕ
+count_lines [] = 0
+count_lines (c ∷ cs) = (if c == 10 then 1 else 0) + count_lines cs
+
+-- a line a finding, and how many there are
+abbrev pub deviating_lines : Text → Text
+deviating_lines lines = lines ++ line_of 65 (decimal (count_lines lines) ++ codes " findings")
+
 -- what is told where the archive has no such file
 abbrev pub absent_line : Text → Text
 absent_line name = codes "INFO: unable to find " ++ (name ++ codes " in the archive\n")
@@ -163,6 +181,7 @@ unknown_line key = codes "WARN: configuration file contains unknown option '" ++
 
 abbrev pub ending_lines : Ending → Text
 ending_lines (finished lines) = lines
+ending_lines (deviating lines) = deviating_lines lines
 ending_lines (absent name) = absent_line name
 ending_lines (refused fault) = error_line fault
 

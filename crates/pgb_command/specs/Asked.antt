@@ -10,7 +10,7 @@ use Rattle.pgb_options.specs.declared.options.RestoreWord.TheVariants.{Default, 
 use Rattle.pgb_options.specs.declared.options.OutputWord.{OutputWord}
 use Rattle.pgb_table.specs.declared.table.Opt.TheVariants.{Pg1Path, Pg1SocketPath, Pg1Port, Pg1User, Pg1Database, Repo1Path, LockPath, Online, ArchiveAsync, Output, BackupType, Delta, Repo1Bundle, ExpireAuto, ProcessMax, RestoreType, Config, Set}
 use Rattle.pgb_table.specs.declared.table.Verb.{Verb}
-use Rattle.pgb_table.specs.declared.table.Verb.TheVariants.{StanzaCreate, ArchivePush, ArchiveGet, Backup, Restore, Info}
+use Rattle.pgb_table.specs.declared.table.Verb.TheVariants.{StanzaCreate, ArchivePush, ArchiveGet, Backup, Restore, Info, Verify}
 use Rattle.pgb_options.specs.Faults.{Fault}
 use Rattle.pgb_options.specs.Filled.{text_in, number_in, flag_in, or_else, kind_word, restore_word, output_word, word_in}
 use Rattle.pgb_options.specs.Paths.{Path, nowhere, usual, named, path_of_words}
@@ -50,7 +50,7 @@ pub record RestoreHow : Type 0 where
   pub delta : Bool
   pub recovery : RecoveryType
 
--- which command, the file that archive-push is to store, the file that archive-get is to serve and where, how many workers a backup may use, the label of the backup to restore and how, and the form of info's report
+-- which command, the file that archive-push is to store, the file that archive-get is to serve and where, how many workers a backup may use, the label of the backup to restore and how, and the form of info's report; verify has nothing more to be told
 pub data Request : Type 0 where
   create : Request
   push : (path : Text) → Request
@@ -58,6 +58,7 @@ pub data Request : Type 0 where
   backup : (workers : ℕ) → Request
   restore : (set : Option Text) (how : RestoreHow) → Request
   report : (form : OutputWord) → Request
+  examine : Request
 
 abbrev pub first_of : List Text → Text
 first_of [] = []
@@ -108,6 +109,7 @@ request_by ArchiveGet m given = if m.background then Err Background else Ok (get
 request_by Backup m given = backup_by m
 request_by Restore m given = Ok (restore_by m)
 request_by Info m given = Ok (report m.form)
+request_by Verify m given = Ok examine
 request_by verb m given = Err (Command verb)
 
 abbrev pub path_in : Source → Opt → Text

@@ -82,7 +82,11 @@ pub record Finishes (a : Asked) (before after : Seen) : Type 0 where
   pub opened : ArePlacesOpened a before after
   pub took : TakesAll a before after
 
--- at 0 and 1: it ended in this way, keeps its promise, also of all that a crash leaves, and wrote its lines
+-- the statuses of a command that ended well: Ok, that the file isn't there, and Ok with findings
+abbrev pub EndsWell : ℕ → Type 0
+EndsWell status = (status ≤ 1) ⊎ (status ≡ 65)
+
+-- at one of these: it ended in this way, keeps its promise, also of all that a crash leaves, and wrote its lines
 pub record Fulfils (a : Asked) (before after : Seen) (result : ℕ) : Type 0 where
   pub outcome : Outcome
   pub is : result ≡ status (ending_of (Ok outcome))
@@ -117,12 +121,12 @@ pub record LeavesRest (a : Asked) (before after : Seen) : Type 0 where
   pub workers : Unless (uses_workers a.request) (after.links ≡ before.links)
   pub clock : Unless (uses_clock a.request) (after.clock ≡ before.clock)
 
--- Where no cause of a refusal holds, what is asked for is built, and the output didn't fail, the answer is Ok, or that the file isn't there, or want of memory.
+-- Where no cause of a refusal holds, what is asked for is built, and the output didn't fail, the command ended well, or for want of memory.
 abbrev pub Completes : List Text → Seen → Seen → ℕ → Type 0
 Completes words before after result = ((fault : Fault) → fault ≢ NoMemory → ¬ ConfigCause words before.config.files (Failed before after Config) fault)
     → ((s : Settled) (what : Unbuilt) → WordsSettle words before.config.files (Ok s) → requested s ≢ Err what)
     → ((a : Asked) (fault : Fault) → MayAsk words before.config.files a → fault ≢ NoMemory → ¬ Cause a before after fault)
-    → ¬ Failed before after Output → (result ≤ 1) ⊎ (result ≡ 90)
+    → ¬ Failed before after Output → EndsWell result ⊎ (result ≡ 90)
 
 -- after a server's answer that is refused the last that was said to it is the end, unless the connection failed; at 70 and 71 it may have been something else that was too long or too many, and then nothing was said
 abbrev pub ClosesTalk : Seen → Seen → ℕ → Type 0

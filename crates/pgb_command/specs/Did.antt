@@ -18,7 +18,7 @@ use Rattle.pgb_stage.specs.Seen.{Seen, Failed, AreLater}
 use Rattle.pgb_prepare.specs.Stages.{StageCause}
 use Rattle.pgb_prepare.specs.Taking.{MayTake}
 use Rattle.pgb_create.specs.Talking.{Closes as CreateCloses}
-use Rattle.pgb_command.specs.declared.fault.CommandFault.TheVariants.{Create, Take}
+use Rattle.pgb_command.specs.declared.fault.CommandFault.TheVariants.{Create, Take, Examine}
 use Rattle.pgb_command.specs.declared.fault.Fault.{Fault}
 use Rattle.pgb_command.specs.declared.fault.Fault.TheVariants.{Usage, Stage, Command, Failed as ObjectFailed, NoMemory}
 use Rattle.pgb_command.specs.Answers.{status, reached_of, ending_of}
@@ -91,6 +91,7 @@ pub record Ran (a : Asked) (before after : Seen) (result : Result Outcome Fault)
 abbrev pub WordsCause : Asked → Fault → Type 0
 WordsCause a (Command (Create fault)) = ⊥
 WordsCause a (Command (Take fault)) = ⊥
+WordsCause a (Command (Examine fault)) = ⊥
 WordsCause a (Command fault) = (old : Known) → CommandCause a a.request old fault
 WordsCause a NoMemory = Unit {0}
 WordsCause a other = ⊥

@@ -10,7 +10,8 @@ use Rattle.pgb_push.specs.declared.fault.PushFault.{PushFault}
 use Rattle.pgb_get.specs.declared.fault.GetFault.{GetFault}
 use Rattle.pgb_take.specs.declared.fault.TakeFault.{TakeFault}
 use Rattle.pgb_recover.specs.declared.fault.RecoverFault.{RecoverFault}
-use Rattle.pgb_command.specs.declared.fault.CommandFault.TheVariants.{Create, Push, Get, Take, Recover}
+use Rattle.pgb_examine.specs.declared.fault.ExamineFault.{ExamineFault}
+use Rattle.pgb_command.specs.declared.fault.CommandFault.TheVariants.{Create, Push, Get, Take, Recover, Examine}
 use Rattle.pgb_command.specs.declared.fault.Fault.{Fault}
 use Rattle.pgb_command.specs.declared.fault.Fault.TheVariants.{Usage as OfUsage, Stage, Command, Failed, NoMemory}
 
@@ -37,6 +38,9 @@ of_take = of_halt (λ e. Command (Take e))
 
 abbrev pub of_recover : Halt RecoverFault → Fault
 of_recover = of_halt (λ e. Command (Recover e))
+
+abbrev pub of_examine : Halt ExamineFault → Fault
+of_examine = of_halt (λ e. Command (Examine e))
 
 abbrev pub lift : {T E : Type 0} → (Halt E → Fault) → Result T (Halt E) → Result T Fault
 lift of (Ok outcome) = Ok outcome

@@ -40,9 +40,10 @@ use Rattle.pgb_recover.specs.Causes.{RecoverCause}
 use Rattle.pgb_restore.specs.Finished.{IsFinished}
 use Rattle.pgb_clear.specs.Clearing.{control_path, HasNone}
 use Rattle.pgb_inform.specs.Reporting.{IsReported, ReportsStanza}
+use Rattle.pgb_examine.specs.Examining.{ExamineCause, IsExamined, EndsWithNone}
 use Rattle.pgb_command.specs.declared.fault.CommandFault.{CommandFault}
-use Rattle.pgb_command.specs.declared.fault.CommandFault.TheVariants.{Create, Push, Get, Take, Recover}
-use Rattle.pgb_command.specs.Asked.{Request, create, push, get, backup, restore, report, RestoreHow, Asked}
+use Rattle.pgb_command.specs.declared.fault.CommandFault.TheVariants.{Create, Push, Get, Take, Recover, Examine}
+use Rattle.pgb_command.specs.Asked.{Request, create, push, get, backup, restore, report, examine, RestoreHow, Asked}
 
 -- what the objects hold, as far as they tell it
 pub record Known : Type 0 where
@@ -63,6 +64,7 @@ plan_of (get name path) = record { settling = Looked; folder = true; backup_lock
 plan_of (backup workers) = record { settling = Whole; folder = true; backup_lock = true; archive_lock = false; control = true; pairs = ReadBoth }
 plan_of (restore set how) = record { settling = Whole; folder = true; backup_lock = false; archive_lock = false; control = false; pairs = ReadBoth }
 plan_of (report form) = record { settling = Whole; folder = false; backup_lock = false; archive_lock = false; control = false; pairs = ReadBoth }
+plan_of examine = record { settling = Whole; folder = false; backup_lock = false; archive_lock = false; control = false; pairs = ReadBoth }
 
 -- stanza-create of the cluster that the folder tells, where it tells one
 abbrev pub IsCreateOf : Nodes → Command → Type 0
@@ -76,6 +78,7 @@ manner_of (get name path) folder nodes links = each (λ command. command ≡ Rea
 manner_of (backup workers) folder nodes links = one (IsFullBackup (take workers links))
 manner_of (restore set how) folder nodes links = each (λ command. command ≡ Reading)
 manner_of (report form) folder nodes links = each (λ command. command ≡ Reading)
+manner_of examine folder nodes links = each (λ command. command ≡ Reading)
 
 -- the data folder tells this cluster, and this holds of it
 abbrev pub OnCluster : Option Nodes → (Control → Type 0) → Type 0
@@ -89,6 +92,7 @@ WordsFit a (get word path) = (name : ArchiveName) × AreWords a.data_folder word
 WordsFit a (backup workers) = Unit {0}
 WordsFit a (restore set how) = (label : Option Label) × TellsSet set label
 WordsFit a (report form) = Unit {0}
+WordsFit a examine = Unit {0}
 
 -- what a backup finds as its own part begins
 abbrev pub found_by : Asked → ℕ → Known → Control → Before
@@ -109,6 +113,7 @@ CommandCause a (push path) old (Push fault) = PushCause a.stanza a.data_folder p
 CommandCause a (get name path) old (Get fault) = GetCause a.stanza a.data_folder name path old.repo old.nodes fault
 CommandCause a (backup workers) old (Take fault) = OnCluster old.nodes (λ told. TakeCause (found_by a workers old told) fault)
 CommandCause a (restore set how) old (Recover fault) = RestoreCause a set how old fault
+CommandCause a examine old (Examine fault) = ExamineCause a.stanza old.repo fault
 CommandCause a request old fault = ⊥
 
 -- Ok of stanza-create: the stanza is made, or was there; and where a server is asked it was asked at its socket and is of the folder's system
@@ -140,6 +145,7 @@ Promise a (backup workers) old new outcome = OnCluster old.nodes (λ told. OnFin
 Promise a (restore set how) old new outcome = Restores a set how old new outcome
 Promise a (report form) old new outcome = OnFinished outcome (IsReported a.stanza form old.repo)
     × OnStanza a old.repo (λ s. OnFinished outcome (ReportsStanza form a.stanza s))
+Promise a examine old new outcome = IsExamined a.stanza old.repo outcome × EndsWithNone a.stanza old.repo outcome
 
 -- what a command that settles what it looks at alone promises of all that a crash leaves: a pushed file is alike in it, and what archive-get answers holds of it
 abbrev pub Lasts : Asked → Request → Option Nodes → View → Option Nodes → Outcome → Type 0
@@ -157,6 +163,7 @@ OnReader (get name path) P = P
 OnReader (backup workers) P = Unit {0}
 OnReader (restore set how) P = P
 OnReader (report form) P = P
+OnReader examine P = P
 
 -- this holds of stanza-create, and of every other command
 abbrev pub OnCreate : Request → Type 0 → Type 0
@@ -182,6 +189,12 @@ uses_workers request = false
 abbrev pub uses_clock : Request → Bool
 uses_clock (backup workers) = true
 uses_clock request = false
+
+-- only info and verify use nothing but the repository: no data folder, and no lock
+abbrev pub is_on_repository : Request → Bool
+is_on_repository (report form) = true
+is_on_repository examine = true
+is_on_repository request = false
 
 -- a refusal with this status has left the data folder as it was; a restore may have changed it once its workers are started
 abbrev pub FolderStays : Request → ℕ → Type 0 → Type 0

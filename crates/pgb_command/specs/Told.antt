@@ -10,10 +10,10 @@ use Rattle.pgb_recover.specs.Fetching.{recovery_type}
 use Rattle.pgb_recover.specs.Words.{TellsSet}
 use Rattle.pgb_command.specs.declared.settings.Settings.{Settings}
 use Rattle.pgb_command.specs.declared.settings.Request as code
-use Rattle.pgb_command.specs.declared.settings.Request.TheVariants.{StanzaCreate, ArchivePush, ArchiveGet, Backup, Restore, Info}
+use Rattle.pgb_command.specs.declared.settings.Request.TheVariants.{StanzaCreate, ArchivePush, ArchiveGet, Backup, Restore, Info, Verify}
 use Rattle.pgb_command.specs.declared.order.Order.{Order}
 use Rattle.pgb_command.specs.declared.order.Order.TheVariants as order
-use Rattle.pgb_command.specs.Asked.{Request, create, push, get, backup, restore, report, RestoreHow, Asked, Wanted}
+use Rattle.pgb_command.specs.Asked.{Request, create, push, get, backup, restore, report, examine, RestoreHow, Asked, Wanted}
 
 -- the workers can be numbered, and none has bytes of an earlier answer to give
 pub record AreWorkers (links : List LinkState) : Type 0 where
@@ -27,6 +27,7 @@ request_of (ArchiveGet name path) = get name.now path.now
 request_of (Backup workers) = backup workers
 request_of (Restore set workers delta recovery) = restore (option_map (λ w. w.now) set) (record { workers = workers; delta = delta; recovery = recovery_type recovery })
 request_of (Info form) = report form
+request_of Verify = examine
 
 -- how a command goes on by its options
 abbrev pub wanted_told : Options → Wanted
@@ -59,4 +60,5 @@ IsOrder (get name path) folder (order.ArchiveGet o) = (o.folder.now ≡ folder) 
 IsOrder (backup workers) folder (order.Backup o) = (o.data_folder.now ≡ folder) × (o.workers ≡ workers)
 IsOrder (restore set how) folder (order.Restore o) = (o.data_folder.now ≡ folder) × (how_of o ≡ how) × TellsSet set o.set
 IsOrder (report form) folder (order.Info asked) = asked ≡ form
+IsOrder examine folder order.Verify = Unit {0}
 IsOrder request folder other = ⊥

@@ -143,6 +143,7 @@ fn request_of(command: &Command) -> Result<Request<'_>, Unbuilt>
         Verb::Info => Ok(Request::Info {
             form: command.options.output,
         }),
+        Verb::Verify => Ok(Request::Verify),
         verb => Err(Unbuilt::Command(verb)),
     }
 }
@@ -212,5 +213,6 @@ pub(crate) fn plan_of(request: &Request<'_>) -> Plan
             ..reading
         },
         Request::Info { .. } => reading,
+        Request::Verify => reading,
     }
 }

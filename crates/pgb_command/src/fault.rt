@@ -1,9 +1,10 @@
 // What a command answers in place of Ok, by layers.
 ghost use Rattle.std.specs.Prelude.{◌≡◌};
 ghost use Rattle.pgb_command.specs.Answers.{status_of, usage_status, command_status};
-ghost use Rattle.pgb_command.specs.Faults.{lift, of_stage, of_create, of_push, of_get, of_take, of_recover};
+ghost use Rattle.pgb_command.specs.Faults.{lift, of_stage, of_create, of_push, of_get, of_take, of_recover, of_examine};
 
 use pgb_create::{CreateFault, create_status};
+use pgb_examine::{ExamineFault, examine_status};
 use pgb_get::{GetFault, get_status};
 use pgb_options::Usage;
 use pgb_push::{PushFault, push_status};
@@ -20,6 +21,7 @@ pub enum CommandFault {
     Get(GetFault),
     Take(TakeFault),
     Recover(RecoverFault),
+    Examine(ExamineFault),
 }
 
 /// Why a command is refused, in the order in which refusals come; or which object failed; or that there is no memory.
@@ -150,6 +152,21 @@ impl From<Halt<RecoverFault>> for Fault {
     }
 }
 
+impl From<Halt<ExamineFault>> for Fault {
+    ghost use Rattle.std.specs.Prelude.{◌≡◌};
+    ghost use Rattle.pgb_command.specs.Faults.{of_examine};
+
+    ghost from_gives = { λ h e. e ≡ of_examine h };
+
+    fn from(halt: Halt<ExamineFault>) -> Self {
+        match halt {
+            Halt::Refused(fault) => Fault::Command(CommandFault::Examine(fault)),
+            Halt::Failed(object) => Fault::Failed(object),
+            Halt::NoMemory => Fault::NoMemory,
+        }
+    }
+}
+
 /// How stanza-create ended.
 pub(crate) fn create_end(ended: Result<Outcome, Halt<CreateFault>>) -> Result<Outcome, Fault>
     ensures { result ≡ lift of_create ended }
@@ -210,6 +227,16 @@ pub(crate) fn inform_end(ended: Result<Outcome, Halt<StageFault>>) -> Result<Out
     }
 }
 
+/// How verify ended.
+pub(crate) fn examine_end(ended: Result<Outcome, Halt<ExamineFault>>) -> Result<Outcome, Fault>
+    ensures { result ≡ lift of_examine ended }
+{
+    match ended {
+        Ok(outcome) => Ok(outcome),
+        Err(halt) => Err(Fault::from(halt)),
+    }
+}
+
 // The status of words or a configuration that are refused.
 fn usage_status(usage: &Usage) -> u8
     ensures { result ≡ usage_status usage.now }
@@ -238,6 +265,7 @@ fn command_status(fault: &CommandFault) -> u8
         CommandFault::Get(fault) => get_status(fault),
         CommandFault::Take(fault) => take_status(fault),
         CommandFault::Recover(fault) => recover_status(fault),
+        CommandFault::Examine(fault) => examine_status(fault),
     }
 }
 

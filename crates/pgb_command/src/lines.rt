@@ -1,9 +1,10 @@
 // The lines that tell an answer.
 ghost use Rattle.std.specs.Prelude.{◌≡◌, ◌++◌, codes, decimal, IfOk, IsOkAnd, OnOk, string_bytes};
-ghost use Rattle.pgb_command.specs.Answers.{digits, line_of, status_of, usage_message, command_message, message_of, is_output, error_line, absent_line, unknown_line};
+ghost use Rattle.pgb_command.specs.Answers.{digits, line_of, status_of, usage_message, command_message, message_of, is_output, error_line, count_lines, deviating_lines, absent_line, unknown_line};
 
 use crate::fault::{CommandFault, Fault, status};
 use pgb_create::create_message;
+use pgb_examine::examine_message;
 use pgb_get::get_message;
 use pgb_options::Usage;
 use pgb_push::push_message;
@@ -48,6 +49,7 @@ fn command_message(alloc: Global, fault: &CommandFault) -> Result<Vec<u8>, NoMem
         CommandFault::Get(fault) => get_message(alloc, fault),
         CommandFault::Take(fault) => take_message(alloc, fault),
         CommandFault::Recover(fault) => recover_message(alloc, fault),
+        CommandFault::Examine(fault) => examine_message(alloc, fault),
     }
 }
 
@@ -105,6 +107,32 @@ pub(crate) fn error_line(alloc: Global, fault: &Fault) -> Result<Vec<u8>, NoMemo
     }
     let message = message(alloc, fault)?;
     line_of(alloc, status(fault), &message)
+}
+
+// How many lines a text has.
+fn count_lines(text: &[u8]) -> usize
+    ensures { result ≡ count_lines text.now }
+{
+    let mut count = 0usize;
+    for byte in text {
+        if *byte == b'\n' {
+            count += 1;
+        }
+    }
+    count
+}
+
+/// The lines of what deviates, and how many there are.
+pub(crate) fn deviating_lines(alloc: Global, lines: &str) -> Result<Vec<u8>, NoMemory>
+    ensures { IfOk result (λ text. text.items ≡ deviating_lines lines.now) }
+{
+    let count = count_lines(lines.as_bytes());
+    let message = format!(in alloc; "{count} findings")?;
+    let end = line_of(alloc, 65, message.as_bytes())?;
+    let mut text = Vec::new(alloc);
+    text.extend_from_slice(lines.as_bytes())?;
+    text.extend_from_slice(&end)?;
+    Ok(text)
 }
 
 /// What is told where the archive has no such file.

@@ -21,6 +21,7 @@ pub enum Order<'a> {
     Backup(TakeOrder<'a>),
     Restore(RecoverOrder<'a>),
     Info(OutputWord),
+    Verify,
 }
 
 /// Reads the command's own words. They are refused before anything is opened.
@@ -58,5 +59,6 @@ pub(crate) fn order_of<'a>(alloc: Global, settings: &Settings<'a>) -> Result<Ord
             recovery,
         )?)),
         Request::Info { form } => Ok(Order::Info(form)),
+        Request::Verify => Ok(Order::Verify),
     }
 }

@@ -2,16 +2,19 @@
 ghost use Rattle.std.specs.Prelude.{◌≡◌, None, map};
 ghost use Rattle.pgb_stage.specs.Plans.{AreHeld};
 ghost use Rattle.pgb_prepare.specs.Readies.{IsReady};
-ghost use Rattle.pgb_command.specs.Asked.{create as asks_create, push as asks_push, get as asks_get, backup as asks_backup, report as asks_report};
+ghost use Rattle.pgb_command.specs.Asked.{create as asks_create, push as asks_push, get as asks_get, backup as asks_backup, report as asks_report, examine as asks_examine};
 ghost use Rattle.pgb_command.specs.Did.{Ran};
 ghost use Rattle.pgb_command.specs.Told.{request_of, asked_of, AreWorkers, IsOrder};
 ghost use Rattle.pgb_command.specs.declared.order.Order.TheVariants.{Restore as RestoreOrder};
 ghost use Rattle.pgb_command.specs.Tables.{plan_of};
 
-use crate::fault::{Fault, create_end, get_end, inform_end, push_end, recover_end, take_end};
+use crate::fault::{
+    Fault, create_end, examine_end, get_end, inform_end, push_end, recover_end, take_end,
+};
 use crate::outside::{Outside, Told};
 use crate::settings::Settings;
 use pgb_create::create_stanza;
+use pgb_examine::examine_stanza;
 use pgb_get::{GetOrder, get_file};
 use pgb_inform::report_stanza;
 use pgb_options::OutputWord;
@@ -241,5 +244,25 @@ impl<
             backup,
             form,
         ))
+    }
+
+    /// verify.
+    pub(crate) fn examine(
+        &mut self,
+        alloc: Global,
+        settings: &Settings<'_>,
+        ready: &Ready,
+    ) -> Result<Outcome, Fault>
+        requires request { request_of settings.now.request ≡ asks_examine }
+        requires ready { IsReady (plan_of (request_of settings.now.request)) settings.now.stanza.now
+            (D.state self.old.repo).view.now (T.state self.old.tree).nodes ready.now }
+        ensures ran { let told = ⟦<Outside<D, S, T, V, A, C, K, I, O, L, U> as Told>⟧.told in
+            Ran (asked_of settings.now) (told self.old) (told self.new) result }
+        ensures rest { self.new ≡ record self.old { repo = self.new.repo } }
+    {
+        let Some(backup) = &ready.backup else {
+            unreachable!();
+        };
+        examine_end(examine_stanza(alloc, &mut self.repo, settings.stanza, backup))
     }
 }

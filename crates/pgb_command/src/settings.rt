@@ -35,6 +35,8 @@ pub enum Request<'a> {
     Info {
         form: OutputWord,
     },
+    /// What deviates in the repository is told.
+    Verify,
 }
 
 /// What a command is told.

@@ -6,10 +6,8 @@ ghost use Rattle.pgb_stage.specs.Seen.{Failed, AreRead};
 ghost use Rattle.pgb_prepare.specs.Readies.{IsReady};
 ghost use Rattle.pgb_prepare.specs.Taking.{AreNames, HoldsOnly};
 ghost use Rattle.pgb_command.specs.Did.{Ran, Did, ComesBehind, Brackets, SamePlaces, OpensPlaces, ArePlacesOpened, TakesAll, OnlyLocked};
-ghost use Rattle.pgb_options.specs.declared.options.OutputWord.{OutputWord};
-ghost use Rattle.pgb_command.specs.Asked.{report};
 ghost use Rattle.pgb_command.specs.Told.{request_of, asked_of, AreWorkers, IsOrder};
-ghost use Rattle.pgb_command.specs.Tables.{plan_of, uses_workers};
+ghost use Rattle.pgb_command.specs.Tables.{plan_of, uses_workers, is_on_repository};
 
 use crate::asking::plan_of;
 use crate::fault::Fault;
@@ -118,8 +116,8 @@ impl<
         ensures quiet { settings.now.server ≡ None → self.new.server ≡ self.old.server }
         ensures alone { uses_workers (request_of settings.now.request) ≡ false
             → (self.new.links ≡ self.old.links) × (self.new.turns ≡ self.old.turns) }
-        ensures unused { (form : OutputWord) → request_of settings.now.request ≡ report form →
-            (self.new.tree ≡ self.old.tree) × (self.new.locks ≡ self.old.locks) }
+        ensures unused { is_on_repository (request_of settings.now.request) ≡ true
+            → (self.new.tree ≡ self.old.tree) × (self.new.locks ≡ self.old.locks) }
         ensures rest { self.new ≡ record self.old {
           repo = self.new.repo;
           tree = self.new.tree;
@@ -304,6 +302,7 @@ impl<
             Order::Backup(order) => self.take(alloc, settings, order, ready),
             Order::Restore(order) => self.recover(alloc, settings, &order, &ready),
             Order::Info(form) => self.inform(alloc, settings, form, &ready),
+            Order::Verify => self.examine(alloc, settings, &ready),
         }
     }
 }

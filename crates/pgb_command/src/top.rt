@@ -1,14 +1,13 @@
 // The top call.
 ghost use Rattle.std.specs.Prelude.{◌≡◌, ◌≤◌, true, false, [], None, Ok, IfErr, map, string_bytes};
 ghost use Rattle.pgb_story.specs.Beside.{KeepsOthers};
-ghost use Rattle.pgb_options.specs.declared.options.OutputWord.{OutputWord};
 ghost use Rattle.pgb_options.specs.Commands.{IsCommand};
 ghost use Rattle.pgb_options.specs.Settings.{Settled};
 ghost use Rattle.pgb_table.specs.Values.{is_stanza};
-ghost use Rattle.pgb_command.specs.Asked.{Request, Asked, MayAsk, report, requested, server_asked};
-ghost use Rattle.pgb_command.specs.Causes.{Answers, Obeys, Each, Finishes, PartDone, IsEarly, TurnsBack, Fulfils, LeavesRest, Completes, ClosesTalk};
+ghost use Rattle.pgb_command.specs.Asked.{Request, Asked, MayAsk, requested, server_asked};
+ghost use Rattle.pgb_command.specs.Causes.{Answers, Obeys, Each, Finishes, PartDone, IsEarly, TurnsBack, EndsWell, Fulfils, LeavesRest, Completes, ClosesTalk};
 ghost use Rattle.pgb_command.specs.Did.{OpensPlaces, OnlyLocked};
-ghost use Rattle.pgb_command.specs.Tables.{uses_workers};
+ghost use Rattle.pgb_command.specs.Tables.{uses_workers, is_on_repository};
 ghost use Rattle.pgb_command.specs.Told.{AreWorkers};
 
 use crate::asking::settings_of;
@@ -49,7 +48,8 @@ pub fn carry<
     ensures alone { (s : Settled) → IsCommand command.now s → (request : Request) → requested s ≡ Ok request
         → uses_workers request ≡ false
         → (outside.new.links ≡ outside.old.links) × (outside.new.turns ≡ outside.old.turns) }
-    ensures unused { (s : Settled) → IsCommand command.now s → (form : OutputWord) → requested s ≡ Ok (report form)
+    ensures unused { (s : Settled) → IsCommand command.now s → (request : Request) → requested s ≡ Ok request
+        → is_on_repository request ≡ true
         → (outside.new.tree ≡ outside.old.tree) × (outside.new.locks ≡ outside.old.locks) }
     ensures unbuilt { (s : Settled) → IsCommand command.now s → IfErr (requested s)
         (λ what. outside.new ≡ record outside.old { out = outside.new.out }) }
@@ -115,9 +115,9 @@ pub fn run<
         Each (map string_bytes words.now) (I.state outside.old.config).files
         (λ a. IsEarly a.request result → TurnsBack a (told outside.old) (told outside.new) result) }
 
-    // At 0 and 1 the command keeps its promise, and its lines are written.
+    // At 0, 1 and 65 the command keeps its promise, and its lines are written.
     ensures fulfils { let told = ⟦<Outside<D, S, T, V, A, C, K, I, O, L, U> as Told>⟧.told in
-        result ≤ 1 → Each (map string_bytes words.now) (I.state outside.old.config).files
+        EndsWell result → Each (map string_bytes words.now) (I.state outside.old.config).files
         (λ a. Fulfils a (told outside.old) (told outside.new) result) }
 
     // What the command has no use for stays, no place but those of the words is opened, and without its locks
@@ -135,7 +135,7 @@ pub fn run<
         Each (map string_bytes words.now) (I.state outside.old.config).files
         (λ a. OnlyLocked a (told outside.old) (told outside.new)) }
 
-    // Where no cause of a refusal holds the answer is Ok, or that the file isn't there, or want of memory.
+    // Where no cause of a refusal holds the command ends well, or for want of memory.
     ensures complete { let told = ⟦<Outside<D, S, T, V, A, C, K, I, O, L, U> as Told>⟧.told in
         Completes (map string_bytes words.now) (told outside.old) (told outside.new) result }
 
@@ -144,7 +144,7 @@ pub fn run<
         ClosesTalk (told outside.old) (told outside.new) result }
 
     // Words that ask for nothing do nothing; who asks no server leaves the connection, who uses no worker the workers,
-    // and info the data folder and the locks.
+    // and info and verify the data folder and the locks.
     ensures unasked { ((a : Asked) → ¬ MayAsk (map string_bytes words.now) (I.state outside.old.config).files a)
         → outside.new ≡ record outside.old { config = outside.new.config; out = outside.new.out } }
     ensures quiet { ((a : Asked) → MayAsk (map string_bytes words.now) (I.state outside.old.config).files a
@@ -154,7 +154,7 @@ pub fn run<
         uses_workers a.request ≡ false
         → (outside.new.links ≡ outside.old.links) × (outside.new.turns ≡ outside.old.turns)) }
     ensures unused { Each (map string_bytes words.now) (I.state outside.old.config).files (λ a.
-        (form : OutputWord) → a.request ≡ report form
+        is_on_repository a.request ≡ true
         → (outside.new.tree ≡ outside.old.tree) × (outside.new.locks ≡ outside.old.locks)) }
 
     // No lock is held afterwards, and the configuration and all that no command uses are as they were.

@@ -15,7 +15,7 @@ use Rattle.pgb_stage.specs.Cluster.{control_bytes, version_bytes, FolderTells}
 use Rattle.pgb_stage.specs.Runs.{Manner, each, one, On}
 use Rattle.pgb_push.specs.WalPath.{wal_path, IsPathOf, IsLastElement, HasWal}
 use Rattle.pgb_push.specs.Commands.{IsPushOf}
-use Rattle.pgb_command.specs.Asked.{Request, create, push, get, backup, restore, report}
+use Rattle.pgb_command.specs.Asked.{Request, create, push, get, backup, restore, report, examine}
 use Rattle.pgb_command.specs.Tables.{IsCreateOf, manner_of}
 use Rattle.pgb_headline.specs.Acts.{IsOf}
 use Rattle.pgb_headline.proofs.Bounded.{Decided, SomeOrNone, same_text, either_of, both_of, some_below, some_name}
@@ -108,3 +108,4 @@ some_command (get name path) folder nodes links P told on = (Reading, refl, on R
 some_command (backup workers) folder nodes links P told on = on
 some_command (restore set how) folder nodes links P told on = (Reading, refl, on Reading refl)
 some_command (report form) folder nodes links P told on = (Reading, refl, on Reading refl)
+some_command examine folder nodes links P told on = (Reading, refl, on Reading refl)

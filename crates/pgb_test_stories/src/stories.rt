@@ -22,6 +22,8 @@ const PUSH_OTHER: &str =
 const BACKUP: &str =
     "--stanza=demo --pg1-path=pg --repo1-path=repo --lock-path=lock --no-online --type=full --no-expire-auto backup";
 
+const VERIFY: &str = "--stanza=demo --repo1-path=repo verify";
+
 const RESTORE: &str = "--stanza=demo --pg1-path=pg --repo1-path=repo --type=none restore";
 
 const STORED: &str = "archive/demo/16-1/00000002.history";
@@ -133,6 +135,16 @@ fn restores_end_as_they_must(rt: HostRuntime) {
     well(&rt, acts.push(last));
     let (_, statuses) = well(&rt, played(alloc, acts));
     same(&rt, statuses.as_slice(), &[0, 60]);
+}
+
+// Nothing deviates in what the commands made.
+#[test]
+fn what_was_made_is_sound(rt: HostRuntime) {
+    let alloc = rt.alloc();
+    let words = [CREATE, PUSH, BACKUP, VERIFY];
+    let acts = well(&rt, calls(alloc, &words, 9, 0));
+    let (_, statuses) = well(&rt, played(alloc, acts));
+    same(&rt, statuses.as_slice(), &[0, 0, 0, 0]);
 }
 
 // A call is stopped at one of its own moments.

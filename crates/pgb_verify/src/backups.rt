@@ -8,32 +8,23 @@ ghost use Rattle.pgb_model.specs.Text.{In};
 ghost use Rattle.pgb_model.specs.ManifestText.{IsManifestText};
 ghost use Rattle.pgb_model.specs.Names.{manifest_name};
 ghost use Rattle.pgb_stored.specs.Stored.{AreStored};
-ghost use Rattle.pgb_verify.specs.Adding.{Adds};
+ghost use Rattle.pgb_verify.specs.Adding.{AddsMost};
 ghost use Rattle.pgb_model.specs.Values.{entry_of, manifest_of};
 ghost use Rattle.pgb_verify.specs.Findings.{BackupDeviates, ListedDeviates};
 ghost use Rattle.pgb_verify.specs.Members.{ValueSo};
+ghost use Rattle.pgb_verify.specs.Sharing.{OwnDeviates, IsElsewhere};
 ghost use Rattle.pgb_outside.specs.States.{Looks};
 
 use crate::entries::tell_unlike;
-use crate::files::look_at_files;
-use crate::finding::{Finding, VerifyFault};
+use crate::finding::{Finding, LookFault};
 use crate::gaps::look_for_gaps;
-use crate::pairs::look_at_manifest;
+use crate::pairs::{look_at_manifest, manifest_name};
 use crate::references::look_for_references;
+use crate::sharing::look_at_files;
 use pgb_model::{Cluster, Entry, Label, Manifest};
 use pgb_outside::Disk;
-use pgb_stamp::label_text;
 use pgb_stored::Stored;
-use pgb_text::NoMemory;
 use std::alloc::Global;
-
-fn manifest_name(alloc: Global, stanza: &str, label: &Label) -> Result<String, NoMemory>
-    requires { IsLabel label.now }
-    ensures { IfOk result (λ name. string_bytes name ≡ manifest_name stanza.now label.now) }
-{
-    let label = label_text(alloc, label)?;
-    Ok(format!(in alloc; "backup/{stanza}/{label}/backup.manifest")?)
-}
 
 // Looks at a backup: at its manifest, its files, the segments that it needs and the labels that it refers to. The
 // answer is its manifest, where it has one.
@@ -45,22 +36,23 @@ fn look_at_backup<D: Disk>(
     labels: &[Label],
     files: &[Stored],
     found: &mut Vec<Finding>,
-) -> Result<Option<Manifest>, VerifyFault>
+) -> Result<Option<Manifest>, LookFault>
     requires own { IsLabel own.now }
     requires listed { IfSome (D.state d.old).view.now (λ f. (l : LabelOf) → In l labels.now ↔ Lists stanza.now f l) }
     requires stored { IfSome (D.state d.old).view.now (λ f. AreStored stanza.now f files.now) }
     ensures adds { OnOk result (IfSome (D.state d.old).view.now
-        (λ f. Adds (BackupDeviates stanza.now f own.now) found.old.items found.new.items)) }
+        (λ f. AddsMost (BackupDeviates stanza.now f own.now) (OwnDeviates stanza.now f own.now)
+        (IsElsewhere stanza.now f) found.old.items found.new.items)) }
     ensures value { IfOk result (λ v. IfSome (D.state d.old).view.now
         (λ f. ValueSo IsManifestText manifest_of f (manifest_name stanza.now own.now) v)) }
     ensures looks { Looks (D.state d.old) (D.state d.new) }
-    ensures cause { IsErrOf result VerifyFault.Disk → Rises (D.state d.old).faults (D.state d.new).faults }
+    ensures cause { IsErrOf result LookFault.Disk → Rises (D.state d.old).faults (D.state d.new).faults }
 {
     let name = manifest_name(alloc, stanza, own)?;
     let Some(manifest) = look_at_manifest(alloc, d, name.as_str(), found)? else {
         return Ok(None);
     };
-    look_at_files(alloc, d, stanza, own, &manifest.files, found)?;
+    look_at_files(alloc, d, stanza, own, &manifest.files, labels, found)?;
     look_for_gaps(alloc, stanza, own, &manifest, files, found)?;
     look_for_references(alloc, name.as_str(), &manifest.files, labels, found)?;
     Ok(Some(manifest))
@@ -76,14 +68,15 @@ pub(crate) fn look_at_listed<D: Disk>(
     labels: &[Label],
     files: &[Stored],
     found: &mut Vec<Finding>,
-) -> Result<(), VerifyFault>
+) -> Result<(), LookFault>
     requires own { IsLabel entry.now.label }
     requires listed { IfSome (D.state d.old).view.now (λ f. (l : LabelOf) → In l labels.now ↔ Lists stanza.now f l) }
     requires stored { IfSome (D.state d.old).view.now (λ f. AreStored stanza.now f files.now) }
     ensures adds { OnOk result (IfSome (D.state d.old).view.now
-        (λ f. Adds (ListedDeviates stanza.now f history.now (entry_of entry.now)) found.old.items found.new.items)) }
+        (λ f. AddsMost (ListedDeviates stanza.now f history.now (entry_of entry.now))
+        (OwnDeviates stanza.now f entry.now.label) (IsElsewhere stanza.now f) found.old.items found.new.items)) }
     ensures looks { Looks (D.state d.old) (D.state d.new) }
-    ensures cause { IsErrOf result VerifyFault.Disk → Rises (D.state d.old).faults (D.state d.new).faults }
+    ensures cause { IsErrOf result LookFault.Disk → Rises (D.state d.old).faults (D.state d.new).faults }
 {
     let name = manifest_name(alloc, stanza, &entry.label)?;
     let Some(manifest) = look_at_backup(alloc, d, stanza, &entry.label, labels, files, found)?

@@ -1,5 +1,5 @@
 // A repository is looked at as a whole.
-ghost use Rattle.std.specs.Prelude.{◌≡◌, ◌≤◌, ◌↔◌, [], IfOk, IfSome, OnOk, IsErrOf, map};
+ghost use Rattle.std.specs.Prelude.{◌≡◌, ◌≤◌, ◌↔◌, [], IfOk, IfErr, IfSome, OnOk, IsErrOf, map};
 ghost use Rattle.pgb_outside.specs.Cause.{Rises};
 ghost use Rattle.pgb_model.specs.declared.labels.Label.{Label as LabelOf};
 ghost use Rattle.pgb_model.specs.InfoFiles.{IsLabel, IsBackupText, IsBackupInfo};
@@ -12,15 +12,17 @@ ghost use Rattle.pgb_model.specs.Stands.{HasStanza};
 ghost use Rattle.pgb_model.specs.Values.{backup_info_of, entry_of, Entry as Listed};
 ghost use Rattle.pgb_model.specs.Text.{In};
 ghost use Rattle.pgb_stored.specs.Stored.{AreStored};
-ghost use Rattle.pgb_verify.specs.Adding.{Adds, OfSome};
+ghost use Rattle.pgb_verify.specs.Adding.{Adds, AddsMost, OfSome};
 ghost use Rattle.pgb_verify.specs.Clean.{MembersAgree};
 ghost use Rattle.pgb_verify.specs.Exact.{AreFindings, PairsDeviate};
+ghost use Rattle.pgb_verify.specs.Faults.{VerifyCause};
 ghost use Rattle.pgb_verify.specs.Findings.{FileDeviates, ListedDeviates};
+ghost use Rattle.pgb_verify.specs.Sharing.{OwnDeviates, IsElsewhere};
 ghost use Rattle.pgb_outside.specs.States.{Looks};
 
 use crate::archive::look_at_archive;
 use crate::backups::look_at_listed;
-use crate::finding::{Finding, VerifyFault};
+use crate::finding::{Finding, LookFault, VerifyFault};
 use crate::order::put_in_order;
 use crate::pairs::look_at_pair;
 use pgb_model::{ArchiveInfo, BackupInfo, Cluster, Entry, Label};
@@ -50,15 +52,16 @@ fn look_at_backups<D: Disk>(
     labels: &[Label],
     files: &[Stored],
     found: &mut Vec<Finding>,
-) -> Result<(), VerifyFault>
+) -> Result<(), LookFault>
     requires labels { (e : Listed) → In e (map entry_of entries.now) → IsLabel e.label }
     requires listed { IfSome (D.state d.old).view.now (λ f. (l : LabelOf) → In l labels.now ↔ Lists stanza.now f l) }
     requires stored { IfSome (D.state d.old).view.now (λ f. AreStored stanza.now f files.now) }
     ensures adds { OnOk result (IfSome (D.state d.old).view.now
-        (λ f. Adds (OfSome (ListedDeviates stanza.now f history.now) (map entry_of entries.now))
-        found.old.items found.new.items)) }
+        (λ f. AddsMost (OfSome (ListedDeviates stanza.now f history.now) (map entry_of entries.now))
+        (OfSome (λ (e : Listed). OwnDeviates stanza.now f e.label) (map entry_of entries.now))
+        (IsElsewhere stanza.now f) found.old.items found.new.items)) }
     ensures looks { Looks (D.state d.old) (D.state d.new) }
-    ensures cause { IsErrOf result VerifyFault.Disk → Rises (D.state d.old).faults (D.state d.new).faults }
+    ensures cause { IsErrOf result LookFault.Disk → Rises (D.state d.old).faults (D.state d.new).faults }
 {
     for entry in entries {
         look_at_listed(alloc, d, stanza, history, entry, labels, files, found)?;
@@ -72,11 +75,11 @@ fn look_at_pairs<D: Disk>(
     d: &mut D,
     stanza: &str,
     found: &mut Vec<Finding>,
-) -> Result<(), VerifyFault>
+) -> Result<(), LookFault>
     ensures adds { OnOk result (IfSome (D.state d.old).view.now
         (λ f. Adds (PairsDeviate stanza.now f) found.old.items found.new.items)) }
     ensures looks { Looks (D.state d.old) (D.state d.new) }
-    ensures cause { IsErrOf result VerifyFault.Disk → Rises (D.state d.old).faults (D.state d.new).faults }
+    ensures cause { IsErrOf result LookFault.Disk → Rises (D.state d.old).faults (D.state d.new).faults }
 {
     let archive = format!(in alloc; "archive/{stanza}/archive.info")?;
     let backup = format!(in alloc; "backup/{stanza}/backup.info")?;
@@ -96,7 +99,8 @@ fn look_at_files_of<D: Disk>(
         (λ f. Adds (FileDeviates stanza.now f) found.old.items found.new.items)) }
     ensures stored { IfOk result (λ files. IfSome (D.state d.old).view.now (λ f. AreStored stanza.now f files.items)) }
     ensures looks { Looks (D.state d.old) (D.state d.new) }
-    ensures cause { IsErrOf result VerifyFault.Disk → Rises (D.state d.old).faults (D.state d.new).faults }
+    ensures cause { IfErr result (VerifyCause stanza.now (D.state d.old).view.now
+        (Rises (D.state d.old).faults (D.state d.new).faults)) }
 {
     let files = all(alloc, d, stanza)?;
     look_at_archive(alloc, d, &files, found)?;
@@ -118,7 +122,8 @@ pub fn verify<D: Disk>(
     ensures clean { IfOk result (λ found. IfSome (D.state d.old).view.now (λ f. (s : Stanza)
         → HasStanza stanza.now f s → IsSoundStanza s → MembersAgree stanza.now f s → found.items ≡ [])) }
     ensures looks { Looks (D.state d.old) (D.state d.new) }
-    ensures cause { IsErrOf result VerifyFault.Disk → Rises (D.state d.old).faults (D.state d.new).faults }
+    ensures cause { IfErr result (VerifyCause stanza.now (D.state d.old).view.now
+        (Rises (D.state d.old).faults (D.state d.new).faults)) }
 {
     let labels = labels_of(alloc, &listed.backups)?;
     let mut found = Vec::new(alloc);

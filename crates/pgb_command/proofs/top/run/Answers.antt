@@ -1,4 +1,4 @@
-use Rattle.std.proofs.Common.{◌≡◌, Ok, ap, sym, subst, ◌∙◌, map, string_bytes}
+use Rattle.std.proofs.Common.{◌≡◌, ap, sym, subst, ◌∙◌, map, string_bytes}
 use Rattle.pgb_story.proofs.Beside.{keeps_others}
 use Rattle.pgb_command.specs.Asked.{requested}
 use Rattle.pgb_command.proofs.InForm.{command_in_form, asked_in_form}
@@ -27,7 +27,7 @@ pub returns-in-Err-clause-stays : goal.returns-in-Err-clause-stays
 returns-in-Err-clause-stays g c = λ a asks early. turns_back a _ _ c.answer.result early (found (map string_bytes c.args.words.now) _ _ c.answer.result (returns-in-Err-clause-answers g c) a asks)
 
 pub returns-in-Err-clause-fulfils : goal.returns-in-Err-clause-fulfils
-returns-in-Err-clause-fulfils g c = λ small a asks. fulfils a _ _ c.answer.result small (found (map string_bytes c.args.words.now) _ _ c.answer.result (returns-in-Err-clause-answers g c) a asks)
+returns-in-Err-clause-fulfils g c = λ well a asks. fulfils a _ _ c.answer.result well (found (map string_bytes c.args.words.now) _ _ c.answer.result (returns-in-Err-clause-answers g c) a asks)
 
 pub returns-in-Err-clause-rests : goal.returns-in-Err-clause-rests
 returns-in-Err-clause-rests g c = λ a asks. leaves_rest a _ _ c.answer.result (found (map string_bytes c.args.words.now) _ _ c.answer.result (returns-in-Err-clause-answers g c) a asks)
@@ -51,7 +51,7 @@ pub returns-clause-stays : goal.returns-clause-stays
 returns-clause-stays g c = λ a asks early. turns_back a _ _ c.carry.result early (found (map string_bytes c.args.words.now) _ _ c.carry.result (returns-clause-answers g c) a asks)
 
 pub returns-clause-fulfils : goal.returns-clause-fulfils
-returns-clause-fulfils g c = λ small a asks. fulfils a _ _ c.carry.result small (found (map string_bytes c.args.words.now) _ _ c.carry.result (returns-clause-answers g c) a asks)
+returns-clause-fulfils g c = λ well a asks. fulfils a _ _ c.carry.result well (found (map string_bytes c.args.words.now) _ _ c.carry.result (returns-clause-answers g c) a asks)
 
 pub returns-clause-rests : goal.returns-clause-rests
 returns-clause-rests g c = λ a asks. leaves_rest a _ _ c.carry.result (found (map string_bytes c.args.words.now) _ _ c.carry.result (returns-clause-answers g c) a asks)
@@ -76,8 +76,8 @@ returns-clause-quiet g c = λ none. no_server_asked (map string_bytes c.args.wor
     (λ s is. err_as (requested s) _ _ (λ e. ap (λ o. o.server) e) (c.carry.ensures.unbuilt s is)) none
 
 pub returns-clause-unused : goal.returns-clause-unused
-returns-clause-unused g c = λ a asks form is. request_asked (map string_bytes c.args.words.now) (g.I.Source.state c.args.outside.now.config).files c.in-Ok.command c.in-Ok.ensures.command _ a
-    (λ s settled asked. c.carry.ensures.unused s settled form (asked ∙ ap Ok is)) asks
+returns-clause-unused g c = λ a asks on. request_asked (map string_bytes c.args.words.now) (g.I.Source.state c.args.outside.now.config).files c.in-Ok.command c.in-Ok.ensures.command _ a
+    (λ s settled asked. c.carry.ensures.unused s settled a.request asked on) asks
 
 pub returns-clause-alone : goal.returns-clause-alone
 returns-clause-alone g c = λ a asks off. request_asked (map string_bytes c.args.words.now) (g.I.Source.state c.args.outside.now.config).files c.in-Ok.command c.in-Ok.ensures.command _ a

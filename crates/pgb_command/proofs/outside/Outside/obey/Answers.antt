@@ -1,4 +1,7 @@
-use Rattle.pgb_command.specs.Told.{asked_of}
+use Rattle.std.proofs.Common.{◌∙◌, ap}
+use Rattle.pgb_stage.specs.declared.plan.Plan.{Plan}
+use Rattle.pgb_command.specs.Told.{request_of, asked_of}
+use Rattle.pgb_command.proofs.ByRequest.{on_repository}
 use Rattle.pgb_command.proofs.Dids.{worded}
 use Rattle.pgb_command.proofs.Words.{behind_words, is_behind}
 use Rattle.pgb_command.proofs.outside.Outside.obey.Goals as goal
@@ -11,3 +14,11 @@ returns-in_err-order-clause-words g c = is_behind (asked_of c.args.settings.now)
 
 pub returns-clause-words : goal.returns-clause-words
 returns-clause-words g c = behind_words (asked_of c.args.settings.now) _ _ c.in_ok-order.order c.in_ok-order.ensures.order c.perform.result
+
+pub returns-clause-unused : goal.returns-clause-unused
+returns-clause-unused g c = λ on.
+    let unused = on_repository (request_of c.args.settings.now.request) on in
+    let is = c.plan_of-plan.ensures in (
+      c.perform.ensures.tree (ap (λ (p : Plan). p.folder) is ∙ unused.0),
+      c.perform.ensures.idle (ap (λ (p : Plan). p.backup_lock) is ∙ unused.1) (ap (λ (p : Plan). p.archive_lock) is ∙ unused.2),
+    )

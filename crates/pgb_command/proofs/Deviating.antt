@@ -1,0 +1,157 @@
+-- The status of findings is that of no refusal, and only verify has it.
+use Rattle.std.proofs.Common.{◌≡◌, ◌≢◌, ◌≤◌, ◌⊎◌, ℕ, inl, inr, refl, arith}
+use Rattle.std.specs.Prelude.{String}
+use Rattle.std.specs.declared.alloc.Global.{Global}
+use Rattle.pgb_options.specs.declared.usage.Usage.{Usage}
+use Rattle.pgb_options.specs.declared.usage.Usage.TheVariants as usage
+use Rattle.pgb_server.specs.declared.fault.ServerFault.{ServerFault}
+use Rattle.pgb_server.specs.declared.fault.ServerFault.TheVariants as server
+use Rattle.pgb_stage.specs.declared.object.Object.{Object}
+use Rattle.pgb_stage.specs.declared.object.Object.TheVariants as object
+use Rattle.pgb_stage.specs.declared.fault.StageFault.{StageFault}
+use Rattle.pgb_stage.specs.declared.fault.StageFault.TheVariants as stage
+use Rattle.pgb_stage.specs.declared.outcome.Outcome.TheVariants.{FindingsFound}
+use Rattle.pgb_stage.specs.Texts.{stage_status, object_status}
+use Rattle.pgb_create.specs.declared.fault.CreateFault.{CreateFault}
+use Rattle.pgb_create.specs.declared.fault.CreateFault.TheVariants as creates
+use Rattle.pgb_server_texts.specs.Texts.{server_status}
+use Rattle.pgb_create.specs.Texts.{create_status}
+use Rattle.pgb_push.proofs.Refusals.{push_within}
+use Rattle.pgb_get.proofs.Refusals.{get_within}
+use Rattle.pgb_take.specs.declared.fault.TakeFault.{TakeFault}
+use Rattle.pgb_take.specs.declared.fault.TakeFault.TheVariants as takes
+use Rattle.pgb_take.specs.Texts.{take_status}
+use Rattle.pgb_recover.specs.declared.fault.RecoverFault.{RecoverFault}
+use Rattle.pgb_recover.specs.declared.fault.RecoverFault.TheVariants as recovers
+use Rattle.pgb_recover.specs.Texts.{recover_status}
+use Rattle.pgb_examine.proofs.Statuses.{examine_is}
+use Rattle.pgb_command.specs.declared.fault.CommandFault.{CommandFault}
+use Rattle.pgb_command.specs.declared.fault.CommandFault.TheVariants.{Create, Push, Get, Take, Recover, Examine}
+use Rattle.pgb_command.specs.declared.fault.Fault.{Fault}
+use Rattle.pgb_command.specs.declared.fault.Fault.TheVariants as fault
+use Rattle.pgb_command.specs.Answers.{status_of, usage_status, command_status}
+use Rattle.pgb_command.specs.Asked.{Request, create, push, get, backup, restore, report, examine, Asked}
+use Rattle.pgb_command.specs.Causes.{EndsWell}
+use Rattle.pgb_command.specs.Tables.{Known, Promise}
+use Rattle.pgb_command.proofs.Statuses.{over}
+
+-- ---- no refusal has it
+
+not_usage : (e : Usage) → usage_status e ≢ 65
+not_usage usage.CommandMissing = λ is. absurd (omega (arith, is))
+not_usage (usage.CommandUnknown word) = λ is. absurd (omega (arith, is))
+not_usage (usage.OptionUnknown word) = λ is. absurd (omega (arith, is))
+not_usage (usage.OptionRepeated name) = λ is. absurd (omega (arith, is))
+not_usage (usage.OptionValue name) = λ is. absurd (omega (arith, is))
+not_usage (usage.OptionMissing name) = λ is. absurd (omega (arith, is))
+not_usage (usage.OptionNotFor name) = λ is. absurd (omega (arith, is))
+not_usage (usage.ConfigSyntax line) = λ is. absurd (omega (arith, is))
+not_usage (usage.ParameterCount given) = λ is. absurd (omega (arith, is))
+not_usage usage.ParameterUtf8 = λ is. absurd (omega (arith, is))
+not_usage usage.NoMemory = λ is. absurd (omega (arith, is))
+
+not_stage : (e : StageFault) → stage_status e ≢ 65
+not_stage (stage.NotBuilt what) = λ is. absurd (omega (arith, is))
+not_stage (stage.ConfigMissing path) = λ is. absurd (omega (arith, is))
+not_stage (stage.ConfigLong path limit) = λ is. absurd (omega (arith, is))
+not_stage (stage.Held name) = λ is. absurd (omega (arith, is))
+not_stage (stage.ControlMissing file) = λ is. absurd (omega (arith, is))
+not_stage (stage.ControlShort length) = λ is. absurd (omega (arith, is))
+not_stage stage.VersionText = λ is. absurd (omega (arith, is))
+not_stage (stage.VersionUnsupported version) = λ is. absurd (omega (arith, is))
+not_stage (stage.StanzaMissing stanza) = λ is. absurd (omega (arith, is))
+not_stage (stage.InfoDamaged name main copy) = λ is. absurd (omega (arith, is))
+
+not_object : (e : Object) → object_status e ≢ 65
+not_object object.Repo = λ is. absurd (omega (arith, is))
+not_object object.Spool = λ is. absurd (omega (arith, is))
+not_object object.DataFolder = λ is. absurd (omega (arith, is))
+not_object object.Server = λ is. absurd (omega (arith, is))
+not_object object.Others = λ is. absurd (omega (arith, is))
+not_object object.Clock = λ is. absurd (omega (arith, is))
+not_object object.Locks = λ is. absurd (omega (arith, is))
+not_object object.Config = λ is. absurd (omega (arith, is))
+not_object object.Output = λ is. absurd (omega (arith, is))
+
+not_server : (e : ServerFault) → server_status e ≢ 65
+not_server server.NoMemory = λ is. absurd (omega (arith, is))
+not_server server.Wire = λ is. absurd (omega (arith, is))
+not_server (server.ServerSaid code text) = λ is. absurd (omega (arith, is))
+not_server (server.AuthUnsupported code) = λ is. absurd (omega (arith, is))
+not_server (server.ServerForm at) = λ is. absurd (omega (arith, is))
+not_server (server.ServerEnded at) = λ is. absurd (omega (arith, is))
+not_server (server.SystemMismatch kept found) = λ is. absurd (omega (arith, is))
+not_server (server.TooLong length) = λ is. absurd (omega (arith, is))
+not_server (server.TooMany limit) = λ is. absurd (omega (arith, is))
+
+not_create : (e : CreateFault) → create_status e ≢ 65
+not_create (creates.Server fault) = not_server fault
+not_create (creates.InfoDamaged name main copy) = λ is. absurd (omega (arith, is))
+not_create (creates.HistoryDiffers at) = λ is. absurd (omega (arith, is))
+not_create (creates.StanzaMismatch kept found) = λ is. absurd (omega (arith, is))
+not_create (creates.ArchiveLost label) = λ is. absurd (omega (arith, is))
+
+not_take : (e : TakeFault) → take_status e ≢ 65
+not_take (takes.HistoryDiffers at) = λ is. absurd (omega (arith, is))
+not_take (takes.StanzaMismatch kept found) = λ is. absurd (omega (arith, is))
+not_take takes.Running = λ is. absurd (omega (arith, is))
+not_take (takes.TooMany limit) = λ is. absurd (omega (arith, is))
+not_take (takes.WorkersLost lost) = λ is. absurd (omega (arith, is))
+not_take (takes.ClockBehind latest now) = λ is. absurd (omega (arith, is))
+not_take (takes.LinkFound path) = λ is. absurd (omega (arith, is))
+not_take (takes.NameRefused path) = λ is. absurd (omega (arith, is))
+not_take takes.ListingUnordered = λ is. absurd (omega (arith, is))
+not_take (takes.ControlMissing path) = λ is. absurd (omega (arith, is))
+not_take (takes.Unread path) = λ is. absurd (omega (arith, is))
+not_take (takes.TooLong name limit) = λ is. absurd (omega (arith, is))
+
+not_recover : (e : RecoverFault) → recover_status e ≢ 65
+not_recover recovers.SetForm = λ is. absurd (omega (arith, is))
+not_recover recovers.NoBackup = λ is. absurd (omega (arith, is))
+not_recover (recovers.SetMissing label) = λ is. absurd (omega (arith, is))
+not_recover recovers.Running = λ is. absurd (omega (arith, is))
+not_recover (recovers.NotEmpty path) = λ is. absurd (omega (arith, is))
+not_recover (recovers.ManifestDamaged label main copy) = λ is. absurd (omega (arith, is))
+not_recover (recovers.WorkersLost lost) = λ is. absurd (omega (arith, is))
+not_recover (recovers.Unread path) = λ is. absurd (omega (arith, is))
+not_recover (recovers.FileDamaged path told found) = λ is. absurd (omega (arith, is))
+
+not_within : (m : ℕ) → (m ≤ 46) ⊎ (m ≡ 70) → m ≢ 65
+not_within m (inl le) = λ is. absurd (omega (arith, is, le))
+not_within m (inr e) = λ is. absurd (omega (arith, is, e))
+
+not_command : (e : CommandFault) → command_status e ≢ 65
+not_command (Create e) = not_create e
+not_command (Push e) = not_within _ (push_within e).1
+not_command (Get e) = not_within _ (get_within e).1
+not_command (Take e) = not_take e
+not_command (Recover e) = not_recover e
+not_command (Examine e) = λ is. absurd (omega (arith, is, examine_is e))
+
+not_found : (e : Fault) → status_of e ≢ 65
+not_found (fault.Usage e) = not_usage e
+not_found (fault.Stage e) = not_stage e
+not_found (fault.Command e) = not_command e
+not_found (fault.Failed e) = not_object e
+not_found fault.NoMemory = λ is. absurd (omega (arith, is))
+
+-- ---- which statuses tell that a command ended well
+
+pub refused_ill : (e : Fault) → ¬ EndsWell (status_of e)
+refused_ill e (inl small) = absurd (omega (arith, small, over e))
+refused_ill e (inr is) = not_found e is
+
+pub cut_ill : (m : ℕ) → (66 ≤ m) → ¬ EndsWell m
+cut_ill m le (inl small) = absurd (omega (arith, small, le))
+cut_ill m le (inr is) = absurd (omega (arith, is, le))
+
+-- ---- whose it is
+
+pub only_examines : (a : Asked) (q : Request) (old new : Known) (lines : String Global) → Promise a q old new (FindingsFound lines) → q ≡ examine
+only_examines a create old new lines h = absurd h.created.silent
+only_examines a (push path) old new lines h = absurd h
+only_examines a (get name path) old new lines h = absurd h.0
+only_examines a (backup workers) old new lines h = absurd h.2
+only_examines a (restore set how) old new lines h = absurd h.recovers
+only_examines a (report form) old new lines h = absurd h.0
+only_examines a examine old new lines h = refl

@@ -1,0 +1,2 @@
+pub mod Examining
+pub mod Texts
