@@ -22,7 +22,8 @@ use Rattle.pgb_await.proofs.Backups.{leads_made, leads_waited}
 use Rattle.pgb_await.proofs.Marks.{none_more}
 use Rattle.pgb_stage.specs.declared.plan.Settling.TheVariants.{Whole}
 use Rattle.pgb_stage.specs.Runs.{Reached, to_end, turned_back, stopped, OnAll, On, one, Past, SpoolGoes, Does, Runs}
-use Rattle.pgb_stage.proofs.Besides.{archive_beside}
+use Rattle.pgb_archive.specs.Still.{still_self}
+use Rattle.pgb_stage.proofs.Besides.{archive_beside, still_beside}
 use Rattle.pgb_stage.proofs.Lifted.{none_as, spool_stays}
 use Rattle.pgb_one_text.proofs.Lists.{one_list}
 use Rattle.pgb_one_text.proofs.Manifests.{one_manifest}
@@ -33,7 +34,7 @@ use Rattle.pgb_logged.proofs.Begun.{BeginsFull, no_vacant}
 use Rattle.pgb_logged.proofs.Behind.{moves_steady}
 use Rattle.pgb_logged.proofs.Online.{done_part, left_moves}
 use Rattle.pgb_take_online.specs.Doing.{DoesOnline, Heard, IsOnlineOf, MarksOnline, RunsOnline, TakesTurns}
-use Rattle.pgb_take_online.proofs.Doings.{with_account, turns_taken}
+use Rattle.pgb_take_online.proofs.Doings.{by_account, with_account, turns_taken}
 
 -- ---- of one command
 
@@ -154,15 +155,19 @@ all_both to_end p q to = to p q
 all_both turned_back p q to = tt
 all_both stopped p q to = tt
 
+abbrev turns_at : Option Account → List Turned
+turns_at None = []
+turns_at (Some k) = k.turns
+
 -- the turns that an account went on by are told once
 one_turns : (k : Account) (old : Option Account) (xs ys : List Turned) → TakesTurns xs old k → TakesTurns ys old k → ys ≡ xs
 one_turns k old xs ys x y =
     let same : ◌≡◌ {A = Option Account} (Some (record { stanza = k.stanza; turns = x.before })) (Some (record { stanza = k.stanza; turns = y.before })) = sym x.was ∙ y.was in
-    let before : x.before ≡ y.before = cc in
+    let before : x.before ≡ y.before = ap turns_at same in
     append_cancel_left y.before ys xs (sym y.is ∙ x.is ∙ ap (λ (l : List Turned). l ++ xs) before)
 
-module _ (stanza : Text) (used : List LinkState) (heard : Heard) (reached : Reached) (repo spool new_repo new_spool : View) (ts : List Turned) (ended : Bool) (well : OnAll reached (ended ≡ true))
-    (goes : SpoolGoes Whole stanza (ArchivePushAsync (turns_of ts)) ended repo spool new_spool) where
+-- behind these turns
+module _ (stanza : Text) (used : List LinkState) (heard : Heard) (reached : Reached) (repo spool new_repo new_spool : View) (ts : List Turned) (ended : Bool) (well : OnAll reached (ended ≡ true)) (goes : SpoolGoes Whole stanza (ArchivePushAsync (turns_of ts)) ended repo spool new_spool) where
   both : (b : Backup) → Does Whole stanza (MakeBackup (turns_of ts) b None) reached repo new_repo → Runs Whole stanza (MakeBackup (turns_of ts) b None) reached repo spool new_repo new_spool
   both b h = record {
     part = record { does = h.part; marks = marks_part stanza (turns_of ts) b repo spool new_spool ended goes };
@@ -171,17 +176,27 @@ module _ (stanza : Text) (used : List LinkState) (heard : Heard) (reached : Reac
   }
 
   made : (command : Command) → IsOnlineOf used heard ts command → Does Whole stanza command reached repo new_repo → Runs Whole stanza command reached repo spool new_repo new_spool
-  made command is h =
-      let b = is.2.0 in
-      subst (λ (x : Command). Runs Whole stanza x reached repo spool new_repo new_spool) (sym is.2.1) (both b (subst (λ (x : Command). Does Whole stanza x reached repo new_repo) is.2.1 h))
+  made command (label, told, (b, is, read)) h = subst (λ (x : Command). Runs Whole stanza x reached repo spool new_repo new_spool) (sym is) (both b (subst (λ (x : Command). Does Whole stanza x reached repo new_repo) is h))
 
 -- the command does both
 pub runs_online : (stanza : Text) (used : List LinkState) (heard : Heard) (reached : Reached) (old account : Option Account) (repo spool new_repo new_spool : View) → DoesOnline stanza used heard reached old account repo new_repo → MarksOnline stanza reached old account repo spool new_spool
     → RunsOnline stanza used heard reached old account repo spool new_repo new_spool
 runs_online stanza used heard reached old None repo spool new_repo new_spool does marks = tt
-runs_online stanza used heard reached old (Some k) repo spool new_repo new_spool does marks of =
-    let d = does of in
-    let m = marks of in
-    let same = one_turns k old d.0 m.0 d.1 m.1 in
-    let goes : SpoolGoes Whole stanza (ArchivePushAsync (turns_of d.0)) m.2.0 repo spool new_spool = subst (λ (ts : List Turned). SpoolGoes Whole stanza (ArchivePushAsync (turns_of ts)) m.2.0 repo spool new_spool) same m.2.2.1 in
-    (d.0, d.1, (d.2.0, d.2.1, made stanza used heard reached repo spool new_repo new_spool d.0 m.2.0 m.2.2.0 goes d.2.0 d.2.1 d.2.2))
+runs_online stanza used heard reached old (Some k) repo spool new_repo new_spool does marks = λ of. by (does of) (marks of)
+  where
+    by : (turned : List Turned) × TakesTurns turned old k × ((command : Command) × IsOnlineOf used heard turned command × Does Whole stanza command reached repo new_repo)
+        → (turned : List Turned) × TakesTurns turned old k × (ended : Bool) × OnAll reached (ended ≡ true) × SpoolGoes Whole stanza (ArchivePushAsync (turns_of turned)) ended repo spool new_spool
+        → (turned : List Turned) × TakesTurns turned old k × ((command : Command) × IsOnlineOf used heard turned command × Runs Whole stanza command reached repo spool new_repo new_spool)
+    by (ts, taken, (command, is, h)) (us, also, ended, well, goes) =
+        let same = one_turns k old ts us taken also in
+        (ts, taken, (command, is, made stanza used heard reached repo spool new_repo new_spool ts ended well
+        (subst (λ (xs : List Turned). SpoolGoes Whole stanza (ArchivePushAsync (turns_of xs)) ended repo spool new_spool) same goes) command is h))
+
+-- ---- it keeps to the stanza
+
+pub spool_still : (stanza : Text) (account : Option Account) (s : View) → IfSome account (λ k. k.stanza ≡ stanza → StaysBeside stanza s s)
+spool_still stanza account s = by_account account _ (λ k at of. still_beside stanza s s (still_self s))
+
+pub spool_waited : (stanza : Text) (whole : Bool) (old account : Option Account) (c w s t : View) → IfSome account (λ k. Went whole old k c w s t) → IfSome account (λ k. k.stanza ≡ stanza → StaysBeside stanza s t)
+spool_waited stanza whole old account c w s t went = with_account account (λ k. Went whole old k c w s t) _ went (λ k x of.
+    archive_beside stanza s t (subst (λ (z : Text). ChangesArchive z s t) of x.spool_only))

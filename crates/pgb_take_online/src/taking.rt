@@ -6,14 +6,16 @@ ghost use Rattle.pgb_story.specs.Beside.{StaysBeside};
 ghost use Rattle.pgb_worker_dispatch.specs.Run.{AreReady};
 ghost use Rattle.pgb_online.specs.Telling.{starting, stopping};
 ghost use Rattle.pgb_await.specs.Went.{Counts};
+ghost use Rattle.pgb_stage.specs.declared.halt.Halt.{Halt};
 ghost use Rattle.pgb_stage.specs.Halts.{HaltCause};
+ghost use Rattle.pgb_take.specs.declared.fault.TakeFault.{TakeFault};
 ghost use Rattle.pgb_stage.specs.Plans.{backup_lock};
 ghost use Rattle.pgb_stage.specs.Reached.{OnFinished, reached_by};
 ghost use Rattle.pgb_stage.specs.Risen.{none, rose_in};
 ghost use Rattle.pgb_prepare.specs.Readies.{IsArchiveOf, IsBackupOf};
 ghost use Rattle.pgb_take_online.specs.Causes.{OnlineCause};
-ghost use Rattle.pgb_take_online.specs.Doing.{DoesOnline};
-ghost use Rattle.pgb_take_online.specs.Faults.{online_early};
+ghost use Rattle.pgb_take_online.specs.Doing.{DoesOnline, MarksOnline};
+ghost use Rattle.pgb_take_online.specs.Faults.{of_take, online_early};
 ghost use Rattle.pgb_take_online.specs.Taken.{TakesOnline};
 ghost use Rattle.pgb_take_online.specs.Talking.{EndsTalk};
 
@@ -75,6 +77,9 @@ pub fn take_online<
         })
         (reached_by online_early result) (A.state aside.old).account (A.state aside.new).account
         (D.state repo.old).view (D.state repo.new).view }
+    ensures marks { MarksOnline stanza.now (reached_by online_early result)
+        (A.state aside.old).account (A.state aside.new).account
+        (D.state repo.old).view (S.state spool.old).view (S.state spool.new).view }
     ensures taken { IfOk result (λ outcome. OnFinished outcome
         (TakesOnline stanza.now told.now
         (record {
@@ -87,13 +92,16 @@ pub fn take_online<
         (D.state repo.old).view.now (D.state repo.new).view.now)) }
     ensures beside { IfSome (A.state aside.new).account (λ a. a.stanza ≡ stanza.now
         → StaysBeside stanza.now (D.state repo.old).view (D.state repo.new).view) }
+    ensures spool_beside { IfSome (A.state aside.new).account (λ a. a.stanza ≡ stanza.now
+        → StaysBeside stanza.now (S.state spool.old).view (S.state spool.new).view) }
 
-    // The talk with the server is ended, where it began.
+    // The talk with the server is ended, where it began: what is refused before is refused as any backup may be.
     ensures sent { OnOk result ((V.state server.new).sent ≡ option_map
         (λ sent. sent ++ starting order.entry.user.now order.entry.database.now order.entry.fast ++ stopping)
         (V.state server.old).sent) }
     ensures place { OnOk result ((V.state server.new).place ≡ order.entry.socket.now) }
-    ensures ended { IfErr result (λ halt. (V.state server.new ≡ V.state server.old)
+    ensures ended { IfErr result (λ halt.
+        ((V.state server.new ≡ V.state server.old) × ((before : Halt TakeFault) × (halt ≡ of_take before)))
         ⊎ EndsTalk (Rises (V.state server.old).faults (V.state server.new).faults) (V.state server.new).sent halt) }
 
     ensures frame { Frame (D.state repo.old) (D.state repo.new) }

@@ -1,11 +1,12 @@
-use Rattle.std.proofs.Common.{◌≡◌, ◌<◌, ◌^◌, ℕ, List, [], Option, Some, true, false, map, take, length, refl, arith}
-use Rattle.std.specs.Prelude.{IfSome, IsSome, IfErr, OnOk, Result, Err}
+use Rattle.std.proofs.Common.{◌≡◌, ◌<◌, ◌≤◌, ◌^◌, ◌++◌, ◌∙◌, ℕ, List, [], Option, Some, None, true, false, map, take, length, refl, sym, ap, subst, arith, inl, inr}
+use Rattle.std.specs.Prelude.{IfSome, IsSome, IfErr, OnOk, Result, Ok, Err}
 use Rattle.pgb_outside.specs.Cause.{Rises}
 use Rattle.pgb_outside.specs.Content.{Content}
 use Rattle.pgb_outside.specs.Links.{LinkState}
 use Rattle.pgb_outside.specs.Tree.{Nodes}
 use Rattle.pgb_model.specs.Text.{Text}
-use Rattle.pgb_model.specs.Values.{backup_info_of}
+use Rattle.pgb_model.specs.Values.{archive_info_of, backup_info_of}
+use Rattle.pgb_label.specs.declared.keeper.Ended.{Ended}
 use Rattle.pgb_story.specs.Beside.{StaysBeside}
 use Rattle.pgb_story.proofs.Stays.{rests_beside, beside_on}
 use Rattle.pgb_stanza.specs.declared.control.Control.{Control}
@@ -29,12 +30,14 @@ use Rattle.pgb_take_online.specs.declared.fault.OnlineTakeFault.{OnlineTakeFault
 use Rattle.pgb_take_online.specs.Causes.{Asked, OnlineCause}
 use Rattle.pgb_take_online.specs.Doing.{Heard}
 use Rattle.pgb_take_online.specs.Finishing.{Publishes, VainCause, OfTake, PublishCause}
+use Rattle.pgb_take_online.specs.Preparing.{PrepareCause}
 use Rattle.pgb_take_online.specs.Talking.{SpokenCause}
 use Rattle.pgb_take_online.proofs.Besides.{staged_beside, waited_beside, listed_beside}
-use Rattle.pgb_take_online.proofs.Causes.{All, in_all, spoken_takes, vain_takes, publish_takes}
+use Rattle.pgb_take_online.proofs.Causes.{All, in_all, of_take_as, prepare_takes, spoken_takes, vain_takes, publish_takes}
 use Rattle.pgb_take_online.proofs.Doings.{not_end, by_account, begins_running, rests_online, gave_up_online, left_online, waited_online, published_online, outcome_behind, part_of}
 use Rattle.pgb_take_online.proofs.Takings.{taken_online}
 use Rattle.pgb_take_online.proofs.Talks.{ended_before}
+use Rattle.pgb_take_online.proofs.Spools.{still_marks, waited_marks, spool_still, spool_waited}
 use Rattle.pgb_take_online.proofs.taking.take_online.Goals as goal
 
 abbrev asked : Text → Control → Option Content → Option Nodes → ℕ → List LinkState → Option (List ℕ) → Option (List ℕ) → ℕ → ℕ → ℕ → Option Content → Asked
@@ -317,3 +320,94 @@ returns-in_err-wait-clause-ended g c = ended_before _ _ _ (starting c.args.order
 
 pub returns-clause-ended : goal.returns-clause-ended
 returns-clause-ended g c = ended_before _ _ _ (starting c.args.order.user.now c.args.order.database.now c.args.order.fast) (g.V.Wire.state c.args.server.now).sent (g.V.Wire.state c.talk.new.server).sent c.in_ok-gathered.ensures.sent
+
+-- ---- the spool
+
+pub returns-in-Err-clause-marks : goal.returns-in-Err-clause-marks
+returns-in-Err-clause-marks g c =
+    let stanza = c.args.stanza.now in
+    let a = (g.D.Disk.state c.args.repo.now).view in
+    let account = (g.A.Aside.state c.args.aside.now).account in
+    let spool = (g.S.Disk.state c.args.spool.now).view in
+    still_marks stanza _ account account refl a spool
+
+pub returns-in_err-gathered-clause-marks : goal.returns-in_err-gathered-clause-marks
+returns-in_err-gathered-clause-marks g c =
+    let stanza = c.args.stanza.now in
+    let a = (g.D.Disk.state c.args.repo.now).view in
+    let account = (g.A.Aside.state c.args.aside.now).account in
+    let spool = (g.S.Disk.state c.args.spool.now).view in
+    still_marks stanza _ account account refl a spool
+
+pub returns-in_err-closed-clause-marks : goal.returns-in_err-closed-clause-marks
+returns-in_err-closed-clause-marks g c =
+    let stanza = c.args.stanza.now in
+    let a = (g.D.Disk.state c.args.repo.now).view in
+    let account = (g.A.Aside.state c.args.aside.now).account in
+    let spool = (g.S.Disk.state c.args.spool.now).view in
+    still_marks stanza _ account account refl a spool
+
+pub returns-in_err-wait-clause-marks : goal.returns-in_err-wait-clause-marks
+returns-in_err-wait-clause-marks g c =
+    let stanza = c.args.stanza.now in
+    let a = (g.D.Disk.state c.args.repo.now).view in
+    let account = (g.A.Aside.state c.args.aside.now).account in
+    let spool = (g.S.Disk.state c.args.spool.now).view in
+    let b = (g.D.Disk.state c.prepare.new.repo).view in
+    let looks = c.prepare.ensures.looks in
+    let nodes = (g.T.Tree.state c.args.tree.now).nodes in
+    let list = backup_info_of c.in-Ok.prepared.0 in
+    let t = (g.D.Disk.state c.talk.new.repo).view in
+    let s = (g.D.Disk.state c.end_backup.new.repo).view in
+    let x = c.in_ok-gathered.ensures.gathered in
+    let d = fetched_draft c.in_ok-gathered.gathered.fetched in
+    let begins = begins_running stanza c.args.archive.now c.args.backup a.now b.now looks.now c.requires.archive c.requires.backup nodes list d x.draft c.in-Ok.ensures.settled in
+    let leaves = leaves_after d (apart d x.draft.is_draft) b t s x.unlisted c.end_backup.ensures.unlisted in
+    let w = (g.D.Disk.state c.wait.new.repo).view in
+    let account2 = (g.A.Aside.state c.wait.new.aside).account in
+    let spool2 = (g.S.Disk.state c.wait.new.spool).view in
+    waited_marks a b s w looks.time looks.now d begins leaves account account2 spool spool2 stanza x.draft.full.stanza_is false _
+    (λ at. absurd (not_end c.from_residual-in_err-wait.result c.in_err-wait.field-0.0 c.from_residual-in_err-wait.ensures.1 at)) c.in_err-wait.ensures.went
+
+pub returns-clause-marks : goal.returns-clause-marks
+returns-clause-marks g c =
+    let stanza = c.args.stanza.now in
+    let a = (g.D.Disk.state c.args.repo.now).view in
+    let account = (g.A.Aside.state c.args.aside.now).account in
+    let spool = (g.S.Disk.state c.args.spool.now).view in
+    let b = (g.D.Disk.state c.prepare.new.repo).view in
+    let looks = c.prepare.ensures.looks in
+    let nodes = (g.T.Tree.state c.args.tree.now).nodes in
+    let list = backup_info_of c.in-Ok.prepared.0 in
+    let t = (g.D.Disk.state c.talk.new.repo).view in
+    let s = (g.D.Disk.state c.end_backup.new.repo).view in
+    let x = c.in_ok-gathered.ensures.gathered in
+    let d = fetched_draft c.in_ok-gathered.gathered.fetched in
+    let begins = begins_running stanza c.args.archive.now c.args.backup a.now b.now looks.now c.requires.archive c.requires.backup nodes list d x.draft c.in-Ok.ensures.settled in
+    let leaves = leaves_after d (apart d x.draft.is_draft) b t s x.unlisted c.end_backup.ensures.unlisted in
+    let w = (g.D.Disk.state c.wait.new.repo).view in
+    let account2 = (g.A.Aside.state c.wait.new.aside).account in
+    let spool2 = (g.S.Disk.state c.wait.new.spool).view in
+    waited_marks a b s w looks.time looks.now d begins leaves account account2 spool spool2 stanza x.draft.full.stanza_is true _ (λ at. refl) c.in_ok-wait.ensures.went
+
+pub returns-in-Err-clause-spool_beside : goal.returns-in-Err-clause-spool_beside
+returns-in-Err-clause-spool_beside g c = spool_still c.args.stanza.now (g.A.Aside.state c.args.aside.now).account (g.S.Disk.state c.args.spool.now).view
+
+pub returns-in_err-gathered-clause-spool_beside : goal.returns-in_err-gathered-clause-spool_beside
+returns-in_err-gathered-clause-spool_beside g c = spool_still c.args.stanza.now (g.A.Aside.state c.args.aside.now).account (g.S.Disk.state c.args.spool.now).view
+
+pub returns-in_err-closed-clause-spool_beside : goal.returns-in_err-closed-clause-spool_beside
+returns-in_err-closed-clause-spool_beside g c = spool_still c.args.stanza.now (g.A.Aside.state c.args.aside.now).account (g.S.Disk.state c.args.spool.now).view
+
+pub returns-in_err-wait-clause-spool_beside : goal.returns-in_err-wait-clause-spool_beside
+returns-in_err-wait-clause-spool_beside g c = spool_waited c.args.stanza.now false (g.A.Aside.state c.args.aside.now).account (g.A.Aside.state c.wait.new.aside).account
+    (g.D.Disk.state c.end_backup.new.repo).view (g.D.Disk.state c.wait.new.repo).view (g.S.Disk.state c.args.spool.now).view (g.S.Disk.state c.wait.new.spool).view c.in_err-wait.ensures.went
+
+pub returns-clause-spool_beside : goal.returns-clause-spool_beside
+returns-clause-spool_beside g c = spool_waited c.args.stanza.now true (g.A.Aside.state c.args.aside.now).account (g.A.Aside.state c.wait.new.aside).account
+    (g.D.Disk.state c.end_backup.new.repo).view (g.D.Disk.state c.wait.new.repo).view (g.S.Disk.state c.args.spool.now).view (g.S.Disk.state c.wait.new.spool).view c.in_ok-wait.ensures.went
+
+-- ---- the talk
+
+pub returns-in-Err-clause-ended : goal.returns-in-Err-clause-ended
+returns-in-Err-clause-ended g c = inl (refl, (c.in-Err.halt, c.of_take.ensures))
