@@ -137,7 +137,7 @@ on_err P (Ok x) p = tt
 on_err P (Err e) p = p
 
 -- a talk that went well is ended, however the backup then ends
-pub ended_before : {T : Type 0} (result : Result T (Halt OnlineTakeFault)) (same rose : Type 0) (front : List ℕ) (old new : Option (List ℕ)) → new ≡ option_map (λ (s : List ℕ). s ++ front ++ stopping) old → IfErr result (λ h. same ⊎ EndsTalk rose new h)
+pub ended_before : {T : Type 0} (result : Result T (Halt OnlineTakeFault)) (same : Halt OnlineTakeFault → Type 0) (rose : Type 0) (front : List ℕ) (old new : Option (List ℕ)) → new ≡ option_map (λ (s : List ℕ). s ++ front ++ stopping) old → IfErr result (λ h. same h ⊎ EndsTalk rose new h)
 ended_before (Ok x) same rose front old new is = tt
 ended_before (Err h) same rose front old new is = inr (λ other. inl (stop_ends front old new is))
 
