@@ -87,10 +87,9 @@ refuse 28 "ERROR: [028]: 'global/pg_control' is missing
 "
 mv control pg/global/pg_control
 mkdir -p lock
-for option in online type delta expire-auto; do
+for option in type delta expire-auto; do
     words=("${full[@]}")
     case $option in
-    online) words[0]=--online ;;
     type) words[1]=--type=incr ;;
     delta) words+=(--delta) ;;
     expire-auto) words[2]=--expire-auto ;;

@@ -1,9 +1,12 @@
 -- What is the same for every command where nothing is done: a line a command.
-use Rattle.std.proofs.Common.{◌≡◌, ◌⊎◌, ⊎_elim, inl, inr, ℕ, List, Option, refl, sym, ◌∙◌, subst, Bool, true, false}
-use Rattle.std.specs.Prelude.{IfSome, take, [], None}
+use Rattle.std.proofs.Common.{◌≡◌, ◌⊎◌, ⊎_elim, inl, inr, ℕ, List, Option, Some, refl, sym, ap, ◌∙◌, subst, Bool, true, false}
+use Rattle.std.specs.Prelude.{IfSome, IsSomeAnd, take, [], None}
+use Rattle.std.proofs.lemmas.List.{append-nil}
 use Rattle.pgb_outside.specs.Content.{Content}
 use Rattle.pgb_outside.specs.Links.{LinkState}
 use Rattle.pgb_outside.specs.States.{WireState, ClockState}
+use Rattle.pgb_turn.specs.Turns.{Account, OthersState, Turned}
+use Rattle.pgb_await.specs.Went.{turns_of}
 use Rattle.pgb_outside.specs.Tree.{Nodes}
 use Rattle.pgb_archive.specs.Still.{IsStill}
 use Rattle.pgb_model.specs.Text.{Text}
@@ -11,22 +14,52 @@ use Rattle.pgb_model.specs.Steps.{Command, MakeBackup}
 use Rattle.pgb_stage.specs.Plans.{OnReading}
 use Rattle.pgb_stage.specs.Runs.{On}
 use Rattle.pgb_stage.specs.Seen.{Seen}
-use Rattle.pgb_logged.proofs.Reading.{no_files, no_files_read}
+use Rattle.pgb_logged.specs.Backups.{IsOnlineBackup}
+use Rattle.pgb_logged.proofs.Reading.{no_files, no_files_read, no_files_beside}
+use Rattle.pgb_take_online.specs.Doing.{TakesTurns}
 use Rattle.pgb_model.specs.Values.{Manifest}
 use Rattle.pgb_restore.specs.Finished.{IsFinished}
 use Rattle.pgb_recover.specs.Fetching.{options_by}
 use Rattle.pgb_clear.specs.Clearing.{control_path, HasNone}
-use Rattle.pgb_command.specs.Asked.{Request, create, push, get, backup, restore, report, examine, Asked}
-use Rattle.pgb_command.specs.Tables.{Known, known, plan_of, manner_of, OnReader, OnCreate, OnOther, FolderGoes, FolderStays, Unless, is_on_repository}
+use Rattle.pgb_command.specs.Asked.{Request, create, push, get, backup, backup_running, restore, report, examine, RunningHow, Asked}
+use Rattle.pgb_command.specs.Tables.{Known, known, plan_of, manner_of, OnReader, OnCreate, OnOther, FolderGoes, FolderStays, Unless, is_on_repository, TellsLabel}
 
-pub idle : (request : Request) (folder : Text) (nodes : Option Nodes) (links : List LinkState) (P : Command → Type 0) → ((command : Command) → P command) → On (manner_of request folder nodes links) P
-idle create folder nodes links P p = λ command is. p command
-idle (push path) folder nodes links P p = λ command is. p command
-idle (get name path) folder nodes links P p = λ command is. p command
-idle (backup workers) folder nodes links P p = (MakeBackup [] no_files None, (no_files, refl, no_files_read (take workers links)), p (MakeBackup [] no_files None))
-idle (restore set how) folder nodes links P p = λ command is. p command
-idle (report form) folder nodes links P p = λ command is. p command
-idle examine folder nodes links P p = λ command is. p command
+-- no turn was taken, and the server told no label file
+pub running_idle : (how : RunningHow) (old new : Known) → new.others ≡ old.others → (account : Option Account) → new.others.account ≡ account → (P : Command → Type 0) → P (MakeBackup [] no_files None) → (told : Account → Type 0) → IsSomeAnd account told →
+    (command : Command) × IsSomeAnd account (λ k. (turned : List Turned) × TakesTurns turned old.others.account k × (label : Option Text) × IfSome label (TellsLabel old new) × IsOnlineBackup (take how.workers old.links) (turns_of turned) label command) × P command
+running_idle how old new same None is P p told there = absurd there
+running_idle how old new same (Some k) is P p told there = (
+  MakeBackup [] no_files None,
+  (
+    [],
+    record { before = k.turns; was = ap (λ (o : OthersState). o.account) (sym same) ∙ is; is = sym (append-nil k.turns) },
+    None,
+    tt,
+    (no_files, refl, no_files_beside (take how.workers old.links) None),
+  ),
+  p,
+)
+
+pub idle : (a : Asked) (request : Request) (old new : Known) → new.others ≡ old.others → (P : Command → Type 0) → ((command : Command) → P command) → On (manner_of a request old new) P
+idle a create old new same P p = λ command is. p command
+idle a (push path) old new same P p = λ command is. p command
+idle a (get name path) old new same P p = λ command is. p command
+idle a (backup workers) old new same P p = (MakeBackup [] no_files None, (no_files, refl, no_files_read (take workers old.links)), p (MakeBackup [] no_files None))
+idle a (backup_running how) old new same P p = λ there. running_idle how old new same new.others.account refl P (p (MakeBackup [] no_files None)) _ there
+idle a (restore set how) old new same P p = λ command is. p command
+idle a (report form) old new same P p = λ command is. p command
+idle a examine old new same P p = λ command is. p command
+
+-- what the repository held doesn't tell which command it is
+pub manner_at : (a : Asked) (request : Request) (old new : Known) (repo : Option Content) (P : Command → Type 0) → On (manner_of a request (record old { repo = repo }) new) P → On (manner_of a request old new) P
+manner_at a create old new repo P h = h
+manner_at a (push path) old new repo P h = h
+manner_at a (get name path) old new repo P h = h
+manner_at a (backup workers) old new repo P h = h
+manner_at a (backup_running how) old new repo P h = h
+manner_at a (restore set how) old new repo P h = h
+manner_at a (report form) old new repo P h = h
+manner_at a examine old new repo P h = h
 
 -- a command that opens no data folder reads no control file
 pub no_control : (request : Request) → (plan_of request).folder ≡ false → (plan_of request).control ≡ false
@@ -34,6 +67,7 @@ no_control create is = cc is
 no_control (push path) is = cc is
 no_control (get name path) is = cc is
 no_control (backup workers) is = cc is
+no_control (backup_running how) is = cc is
 no_control (restore set how) is = refl
 no_control (report form) is = refl
 no_control examine is = refl
@@ -44,6 +78,7 @@ on_repository create is = cc is
 on_repository (push path) is = cc is
 on_repository (get name path) is = cc is
 on_repository (backup workers) is = cc is
+on_repository (backup_running how) is = cc is
 on_repository (restore set how) is = cc is
 on_repository (report form) is = (refl, refl, refl)
 on_repository examine is = (refl, refl, refl)
@@ -54,6 +89,7 @@ reader_still create P h = tt
 reader_still (push path) P h = tt
 reader_still (get name path) P h = h
 reader_still (backup workers) P h = tt
+reader_still (backup_running how) P h = tt
 reader_still (restore set how) P h = h
 reader_still (report form) P h = h
 reader_still examine P h = h
@@ -63,6 +99,7 @@ create_still create P h = h
 create_still (push path) P h = tt
 create_still (get name path) P h = tt
 create_still (backup workers) P h = tt
+create_still (backup_running how) P h = tt
 create_still (restore set how) P h = tt
 create_still (report form) P h = tt
 create_still examine P h = tt
@@ -72,6 +109,7 @@ any_reader create P p = tt
 any_reader (push path) P p = tt
 any_reader (get name path) P p = p
 any_reader (backup workers) P p = tt
+any_reader (backup_running how) P p = tt
 any_reader (restore set how) P p = p
 any_reader (report form) P p = p
 any_reader examine P p = p
@@ -81,6 +119,7 @@ any_create create P p = p
 any_create (push path) P p = tt
 any_create (get name path) P p = tt
 any_create (backup workers) P p = tt
+any_create (backup_running how) P p = tt
 any_create (restore set how) P p = tt
 any_create (report form) P p = tt
 any_create examine P p = tt
@@ -90,6 +129,7 @@ any_other create P p = tt
 any_other (push path) P p = p
 any_other (get name path) P p = p
 any_other (backup workers) P p = p
+any_other (backup_running how) P p = tt
 any_other (restore set how) P p = p
 any_other (report form) P p = p
 any_other examine P p = p
@@ -99,6 +139,7 @@ reader_on create P Q R to p q = tt
 reader_on (push path) P Q R to p q = tt
 reader_on (get name path) P Q R to p q = to p q
 reader_on (backup workers) P Q R to p q = tt
+reader_on (backup_running how) P Q R to p q = tt
 reader_on (restore set how) P Q R to p q = to p q
 reader_on (report form) P Q R to p q = to p q
 reader_on examine P Q R to p q = to p q
@@ -108,6 +149,7 @@ create_on create P Q R to p q = to p q
 create_on (push path) P Q R to p q = tt
 create_on (get name path) P Q R to p q = tt
 create_on (backup workers) P Q R to p q = tt
+create_on (backup_running how) P Q R to p q = tt
 create_on (restore set how) P Q R to p q = tt
 create_on (report form) P Q R to p q = tt
 create_on examine P Q R to p q = tt
@@ -117,6 +159,7 @@ other_as create P Q to p = tt
 other_as (push path) P Q to p = to p
 other_as (get name path) P Q to p = to p
 other_as (backup workers) P Q to p = to p
+other_as (backup_running how) P Q to p = tt
 other_as (restore set how) P Q to p = to p
 other_as (report form) P Q to p = to p
 other_as examine P Q to p = to p
@@ -127,6 +170,7 @@ any_stays create n P p = p
 any_stays (push path) n P p = p
 any_stays (get name path) n P p = p
 any_stays (backup workers) n P p = p
+any_stays (backup_running how) n P p = p
 any_stays (restore set how) n P p = λ lost unread damaged. p
 any_stays (report form) n P p = p
 any_stays examine n P p = p
@@ -136,6 +180,7 @@ stays_as create n P Q to p = to p
 stays_as (push path) n P Q to p = to p
 stays_as (get name path) n P Q to p = to p
 stays_as (backup workers) n P Q to p = to p
+stays_as (backup_running how) n P Q to p = to p
 stays_as (restore set how) n P Q to p = λ lost unread damaged. to (p lost unread damaged)
 stays_as (report form) n P Q to p = to p
 stays_as examine n P Q to p = to p
@@ -149,8 +194,8 @@ pub unless_as : (uses : Bool) (P Q : Type 0) → (P → Q) → Unless uses P →
 unless_as true P Q to p = tt
 unless_as false P Q to p = to p
 
-abbrev pub as_known : Option Content → Option Nodes → WireState → ClockState → List LinkState → Known
-as_known repo nodes server clock links = record { repo = repo; nodes = nodes; server = server; clock = clock; links = links }
+abbrev pub as_known : Option Content → Option Nodes → WireState → OthersState → ClockState → List LinkState → Known
+as_known repo nodes server others clock links = record { repo = repo; nodes = nodes; server = server; others = others; clock = clock; links = links }
 
 -- the data folder is as it was
 pub folder_stays : (a : Asked) (request : Request) (old : Known) (new : Option Nodes) → new ≡ old.nodes → FolderGoes a request old new
@@ -158,6 +203,7 @@ folder_stays a create old new same = same
 folder_stays a (push path) old new same = same
 folder_stays a (get name path) old new same = subst (λ (n : Option Nodes). FolderGoes a (get name path) old n) (sym same) (record { told = λ some. some; others = λ q x y. refl; whole = inl refl })
 folder_stays a (backup workers) old new same = same
+folder_stays a (backup_running how) old new same = same
 folder_stays a (restore set how) old new same = inl same
 folder_stays a (report form) old new same = same
 folder_stays a examine old new same = same
@@ -165,9 +211,10 @@ folder_stays a examine old new same = same
 pub folder_on : (a : Asked) (request : Request) (b m k : Seen) → OnReader request (IsStill b.repo.view m.repo.view) → m.tree.nodes ≡ b.tree.nodes → m.links ≡ b.links → FolderGoes a request (known m) k.tree.nodes → FolderGoes a request (known b) k.tree.nodes
 folder_on a create b m k still nodes links h = h ∙ nodes
 folder_on a (push path) b m k still nodes links h = h ∙ nodes
-folder_on a (get name path) b m k still nodes links h = subst (λ (o : Option Content). FolderGoes a (get name path) (as_known o b.tree.nodes b.server b.clock b.links) k.tree.nodes) still.now
-    (subst (λ (n : Option Nodes). FolderGoes a (get name path) (as_known m.repo.view.now n b.server b.clock b.links) k.tree.nodes) nodes h)
+folder_on a (get name path) b m k still nodes links h = subst (λ (o : Option Content). FolderGoes a (get name path) (as_known o b.tree.nodes b.server b.others b.clock b.links) k.tree.nodes) still.now
+    (subst (λ (n : Option Nodes). FolderGoes a (get name path) (as_known m.repo.view.now n b.server b.others b.clock b.links) k.tree.nodes) nodes h)
 folder_on a (backup workers) b m k still nodes links h = h ∙ nodes
+folder_on a (backup_running how) b m k still nodes links h = h ∙ nodes
 folder_on a (restore set how) b m k still nodes links h = ⊎_elim (λ (e : k.tree.nodes ≡ m.tree.nodes). inl (e ∙ nodes))
     (λ x. inr (subst (λ (ls : List LinkState). HasNone control_path k.tree.nodes ⊎ ((v : Manifest) × IfSome k.tree.nodes (IsFinished a.stanza (take how.workers ls) (options_by a.stanza how.delta how.recovery) v b.tree.nodes))) links
     (subst (λ (n : Option Nodes). HasNone control_path k.tree.nodes ⊎ ((v : Manifest) × IfSome k.tree.nodes (IsFinished a.stanza (take how.workers m.links) (options_by a.stanza how.delta how.recovery) v n))) nodes x))) h

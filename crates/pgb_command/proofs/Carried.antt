@@ -15,7 +15,7 @@ use Rattle.pgb_stage.specs.declared.outcome.Outcome.{Outcome}
 use Rattle.pgb_stage.specs.Seen.{Seen, Failed, AreLater, AreRead}
 use Rattle.pgb_outside.specs.States.{SinkState, SourceState}
 use Rattle.pgb_stage.proofs.Counts.{rises_to}
-use Rattle.pgb_command.specs.declared.fault.CommandFault.TheVariants.{Create, Push, Get, Take, Recover, Examine}
+use Rattle.pgb_command.specs.declared.fault.CommandFault.TheVariants.{Create, Push, Get, Take, TakeOnline, Recover, Examine}
 use Rattle.pgb_command.specs.declared.fault.Fault.{Fault}
 use Rattle.pgb_command.specs.declared.fault.Fault.TheVariants.{Usage, Stage, Command as OfCommand, Failed as ObjectFailed, NoMemory}
 use Rattle.pgb_command.specs.Answers.{Ending, status, answer_of}
@@ -63,6 +63,7 @@ module _ (a : Asked) (b k : Seen) (o : SinkState) (le : k.out.faults ≤ o.fault
   out_closes (OfCommand (Push fault)) h = h
   out_closes (OfCommand (Get fault)) h = h
   out_closes (OfCommand (Take fault)) h = h
+  out_closes (OfCommand (TakeOnline fault)) h = h
   out_closes (OfCommand (Recover fault)) h = h
   out_closes (OfCommand (Examine fault)) h = h
   out_closes (ObjectFailed object) h = h
@@ -81,6 +82,7 @@ module _ (a : Asked) (b k : Seen) (o : SinkState) (le : k.out.faults ≤ o.fault
     healed = on_ok r (HealsPairs a b k) (HealsPairs a b written) (λ h. record { agree = h.agree; lasts = h.lasts }) did.healed;
     spares = record {
       beside = did.spares.beside;
+      spool = did.spares.spool;
       pairs = did.spares.pairs;
       reads = did.spares.reads;
       folder = did.spares.folder;
@@ -88,6 +90,7 @@ module _ (a : Asked) (b k : Seen) (o : SinkState) (le : k.out.faults ≤ o.fault
       unmade = did.spares.unmade;
       quiet = did.spares.quiet;
       others = did.spares.others;
+      waits = did.spares.waits;
       workers = did.spares.workers;
       clock = did.spares.clock;
       closed = err_as r _ _ out_closes did.spares.closed;
@@ -115,7 +118,7 @@ answered_by unknown given b k o ended n words same t = record {
 }
 
 idle_written : (b k : Seen) (o : SinkState) → IsIdle b k → IsIdle b (record k { out = o })
-idle_written b k o h = record { repo = h.repo; opened = h.opened; spool = h.spool; tree = h.tree; server = h.server; clock = h.clock; locks = h.locks; links = h.links }
+idle_written b k o h = record { repo = h.repo; opened = h.opened; spool = h.spool; tree = h.tree; server = h.server; others = h.others; clock = h.clock; locks = h.locks; links = h.links }
 
 -- ---- a command is obeyed
 
@@ -169,7 +172,7 @@ brackets_from a b k i r h = record {
 }
 
 idle_from : (b k : Seen) (i : SourceState) → IsIdle (record b { config = i }) k → IsIdle b k
-idle_from b k i h = record { repo = h.repo; opened = h.opened; spool = h.spool; tree = h.tree; server = h.server; clock = h.clock; locks = h.locks; links = h.links }
+idle_from b k i h = record { repo = h.repo; opened = h.opened; spool = h.spool; tree = h.tree; server = h.server; others = h.others; clock = h.clock; locks = h.locks; links = h.links }
 
 obeys_from : (s : Settled) (b k : Seen) (i : SourceState) (n : ℕ) → i.files ≡ b.config.files → b.config.faults ≤ i.faults → Obeys s (record b { config = i }) k n → Obeys s b k n
 obeys_from s b k i n files le (inl x) = inl (
@@ -195,7 +198,7 @@ pub runs_off : (words given : List Text) (b : Seen) (i : SourceState) (o : SinkS
 runs_off words given b i o n fault none cause t = inl (record {
   fault = fault;
   cause = cause;
-  idle = record { repo = still_self b.repo.view; opened = refl; spool = still_self b.spool.view; tree = refl; server = refl; clock = refl; locks = refl; links = refl };
+  idle = record { repo = still_self b.repo.view; opened = refl; spool = still_self b.spool.view; tree = refl; server = refl; others = refl; clock = refl; locks = refl; links = refl };
   answered = record {
     ending = t.0;
     is = t.1;

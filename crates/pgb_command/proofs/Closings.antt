@@ -24,19 +24,22 @@ use Rattle.pgb_get.specs.Texts.{get_status}
 use Rattle.pgb_take.specs.declared.fault.TakeFault.{TakeFault}
 use Rattle.pgb_take.specs.Texts.{take_status}
 use Rattle.pgb_take.proofs.Statuses.{take_within}
+use Rattle.pgb_take_online.specs.declared.fault.OnlineTakeFault.{OnlineTakeFault}
+use Rattle.pgb_take_online.specs.declared.fault.OnlineTakeFault.TheVariants as online
+use Rattle.pgb_take_online.specs.Texts.{online_take_status}
 use Rattle.pgb_recover.specs.declared.fault.RecoverFault.{RecoverFault}
 use Rattle.pgb_recover.specs.declared.fault.RecoverFault.TheVariants as recovers
 use Rattle.pgb_recover.specs.Texts.{recover_status}
 use Rattle.pgb_examine.specs.declared.fault.ExamineFault.{ExamineFault}
 use Rattle.pgb_examine.proofs.Statuses.{examine_is}
-use Rattle.pgb_command.specs.declared.fault.CommandFault.TheVariants.{Create, Push, Get, Take, Recover, Examine}
+use Rattle.pgb_command.specs.declared.fault.CommandFault.TheVariants.{Create, Push, Get, Take, TakeOnline, Recover, Examine}
 use Rattle.pgb_command.specs.declared.fault.Fault.{Fault}
 use Rattle.pgb_command.specs.declared.fault.Fault.TheVariants as fault
 use Rattle.pgb_command.specs.Answers.{status_of, usage_status}
-use Rattle.pgb_command.specs.Asked.{Request, create, push, get, backup, restore, report, examine, Asked}
+use Rattle.pgb_command.specs.Asked.{Request, create, push, get, backup, backup_running, restore, report, examine, Asked}
 use Rattle.pgb_command.specs.Causes.{IsAnswered, Carries, Answers, ClosesTalk}
 use Rattle.pgb_command.specs.Configuring.{ConfigCause}
-use Rattle.pgb_command.specs.Did.{IsIdle, Cause, Closes}
+use Rattle.pgb_command.specs.Did.{IsIdle, IsTaken, Cause, Closes}
 use Rattle.pgb_command.specs.Tables.{Known, known, CommandCause, OnOther, plan_of}
 use Rattle.pgb_command.proofs.Follows.{told_as}
 
@@ -121,59 +124,75 @@ only_many m (inl le) is = low m le is
 only_many m (inr over) (inl x) = absurd (omega (arith, over, x.1))
 only_many m (inr over) (inr x) = x.0
 
+long_is : (n m : ℕ) → n ≡ m → 70 ≤ m → 70 ≤ n
+long_is n m is le = omega (arith, is, le)
+
 -- ---- what was said then
 
-push_other : {P : Type 0} (a : Asked) (q : Request) (old : Known) (e : PushFault) → CommandCause a q old (Push e) → OnOther q P → P
-push_other a create old e cause p = absurd cause
-push_other a (push path) old e cause p = p
-push_other a (get name path) old e cause p = absurd cause
-push_other a (backup workers) old e cause p = absurd cause
-push_other a (restore set how) old e cause p = absurd cause
-push_other a (report form) old e cause p = absurd cause
-push_other a examine old e cause p = absurd cause
+push_other : {P : Type 0} (a : Asked) (q : Request) (old new : Known) (e : PushFault) → CommandCause a q old new (Push e) → OnOther q P → P
+push_other a create old new e cause p = absurd cause
+push_other a (push path) old new e cause p = p
+push_other a (get name path) old new e cause p = absurd cause
+push_other a (backup workers) old new e cause p = absurd cause
+push_other a (backup_running how) old new e cause p = absurd cause
+push_other a (restore set how) old new e cause p = absurd cause
+push_other a (report form) old new e cause p = absurd cause
+push_other a examine old new e cause p = absurd cause
 
-get_other : {P : Type 0} (a : Asked) (q : Request) (old : Known) (e : GetFault) → CommandCause a q old (Get e) → OnOther q P → P
-get_other a create old e cause p = absurd cause
-get_other a (push path) old e cause p = absurd cause
-get_other a (get name path) old e cause p = p
-get_other a (backup workers) old e cause p = absurd cause
-get_other a (restore set how) old e cause p = absurd cause
-get_other a (report form) old e cause p = absurd cause
-get_other a examine old e cause p = absurd cause
+get_other : {P : Type 0} (a : Asked) (q : Request) (old new : Known) (e : GetFault) → CommandCause a q old new (Get e) → OnOther q P → P
+get_other a create old new e cause p = absurd cause
+get_other a (push path) old new e cause p = absurd cause
+get_other a (get name path) old new e cause p = p
+get_other a (backup workers) old new e cause p = absurd cause
+get_other a (backup_running how) old new e cause p = absurd cause
+get_other a (restore set how) old new e cause p = absurd cause
+get_other a (report form) old new e cause p = absurd cause
+get_other a examine old new e cause p = absurd cause
 
-take_other : {P : Type 0} (a : Asked) (q : Request) (old : Known) (e : TakeFault) → CommandCause a q old (Take e) → OnOther q P → P
-take_other a create old e cause p = absurd cause
-take_other a (push path) old e cause p = absurd cause
-take_other a (get name path) old e cause p = absurd cause
-take_other a (backup workers) old e cause p = p
-take_other a (restore set how) old e cause p = absurd cause
-take_other a (report form) old e cause p = absurd cause
-take_other a examine old e cause p = absurd cause
+take_other : {P : Type 0} (a : Asked) (q : Request) (old new : Known) (e : TakeFault) → CommandCause a q old new (Take e) → OnOther q P → P
+take_other a create old new e cause p = absurd cause
+take_other a (push path) old new e cause p = absurd cause
+take_other a (get name path) old new e cause p = absurd cause
+take_other a (backup workers) old new e cause p = p
+take_other a (backup_running how) old new e cause p = absurd cause
+take_other a (restore set how) old new e cause p = absurd cause
+take_other a (report form) old new e cause p = absurd cause
+take_other a examine old new e cause p = absurd cause
 
-examine_other : {P : Type 0} (a : Asked) (q : Request) (old : Known) (e : ExamineFault) → CommandCause a q old (Examine e) → OnOther q P → P
-examine_other a create old e cause p = absurd cause
-examine_other a (push path) old e cause p = absurd cause
-examine_other a (get name path) old e cause p = absurd cause
-examine_other a (backup workers) old e cause p = absurd cause
-examine_other a (restore set how) old e cause p = absurd cause
-examine_other a (report form) old e cause p = absurd cause
-examine_other a examine old e cause p = p
+examine_other : {P : Type 0} (a : Asked) (q : Request) (old new : Known) (e : ExamineFault) → CommandCause a q old new (Examine e) → OnOther q P → P
+examine_other a create old new e cause p = absurd cause
+examine_other a (push path) old new e cause p = absurd cause
+examine_other a (get name path) old new e cause p = absurd cause
+examine_other a (backup workers) old new e cause p = absurd cause
+examine_other a (backup_running how) old new e cause p = absurd cause
+examine_other a (restore set how) old new e cause p = absurd cause
+examine_other a (report form) old new e cause p = absurd cause
+examine_other a examine old new e cause p = p
 
 push_at : {P : Type 0} (a : Asked) (b k : Seen) (e : PushFault) → Cause a b k (fault.Command (Push e)) → OnOther a.request P → P
-push_at a b k e (inl words) p = push_other a a.request (known b) e (words (known b)) p
-push_at a b k e (inr ready) p = push_other a a.request _ e ready.2 p
+push_at a b k e (inl words) p = push_other a a.request (known b) (known k) e (words (known b) (known k)) p
+push_at a b k e (inr ready) p = push_other a a.request _ (known k) e ready.2 p
 
 get_at : {P : Type 0} (a : Asked) (b k : Seen) (e : GetFault) → Cause a b k (fault.Command (Get e)) → OnOther a.request P → P
-get_at a b k e (inl words) p = get_other a a.request (known b) e (words (known b)) p
-get_at a b k e (inr ready) p = get_other a a.request _ e ready.2 p
+get_at a b k e (inl words) p = get_other a a.request (known b) (known k) e (words (known b) (known k)) p
+get_at a b k e (inr ready) p = get_other a a.request _ (known k) e ready.2 p
 
 take_at : {P : Type 0} (a : Asked) (b k : Seen) (e : TakeFault) → Cause a b k (fault.Command (Take e)) → OnOther a.request P → P
 take_at a b k e (inl words) p = absurd words
-take_at a b k e (inr ready) p = take_other a a.request _ e ready.2 p
+take_at a b k e (inr ready) p = take_other a a.request _ (known k) e ready.2 p
 
 examine_at : {P : Type 0} (a : Asked) (b k : Seen) (e : ExamineFault) → Cause a b k (fault.Command (Examine e)) → OnOther a.request P → P
 examine_at a b k e (inl words) p = absurd words
-examine_at a b k e (inr ready) p = examine_other a a.request _ e ready.2 p
+examine_at a b k e (inr ready) p = examine_other a a.request _ (known k) e ready.2 p
+
+-- a running server's backup that is refused as a stopped one's is has such a status for something that is too long, or too many
+running_long : (n : ℕ) (e : OnlineTakeFault) → n ≡ online_take_status e → IsTaken e → IsServerRefusal n → 70 ≤ n
+running_long n (online.Take e) is taken refusal = long_is n (take_status e) is (only_many (take_status e) (take_within e).1 (subst IsServerRefusal is refusal))
+running_long n (online.Server e) is taken refusal = absurd taken
+running_long n online.TablespaceMap is taken refusal = absurd taken
+running_long n (online.SpanWrong start stop) is taken refusal = absurd taken
+running_long n (online.NotArrived segment turns) is taken refusal = absurd taken
+running_long n (online.Ambiguous first second) is taken refusal = absurd taken
 
 -- no refusal of a restore has such a status
 recover_apart : {P : Type 0} (e : RecoverFault) → IsServerRefusal (recover_status e) → P
@@ -186,9 +205,6 @@ recover_apart (recovers.ManifestDamaged label main copy) = between 64 (omega ari
 recover_apart (recovers.WorkersLost lost) = between 55 (omega arith) (omega arith)
 recover_apart (recovers.Unread path) = between 56 (omega arith) (omega arith)
 recover_apart (recovers.FileDamaged path told found) = between 63 (omega arith) (omega arith)
-
-long_is : (n m : ℕ) → n ≡ m → 70 ≤ m → 70 ≤ n
-long_is n m is le = omega (arith, is, le)
 
 module _ (b k : Seen) (n : ℕ) where
   abbrev Said : Type 0
@@ -205,6 +221,8 @@ module _ (b k : Seen) (n : ℕ) where
   at_fault a (fault.Command (Push e)) is refusal cause closes others = inr (inr (long_is n (push_status e) is (only_long (push_status e) (push_within e).1 (subst IsServerRefusal is refusal)), ap (λ w. w.sent) (push_at a b k e cause others)))
   at_fault a (fault.Command (Get e)) is refusal cause closes others = inr (inr (long_is n (get_status e) is (only_long (get_status e) (get_within e).1 (subst IsServerRefusal is refusal)), ap (λ w. w.sent) (get_at a b k e cause others)))
   at_fault a (fault.Command (Take e)) is refusal cause closes others = inr (inr (long_is n (take_status e) is (only_many (take_status e) (take_within e).1 (subst IsServerRefusal is refusal)), ap (λ w. w.sent) (take_at a b k e cause others)))
+  at_fault a (fault.Command (TakeOnline e)) is refusal cause (inl x) others = inr (inr (running_long n e is x.0 refusal, ap (λ w. w.sent) x.1))
+  at_fault a (fault.Command (TakeOnline e)) is refusal cause (inr x) others = ended x
   at_fault a (fault.Command (Recover e)) is refusal cause closes others = recover_apart e (subst IsServerRefusal is refusal)
   at_fault a (fault.Command (Examine e)) is refusal cause closes others = inr (inr (long_is n 71 (is ∙ examine_is e) (omega arith), ap (λ w. w.sent) (examine_at a b k e cause others)))
   at_fault a (fault.Failed o) is refusal cause closes others = object_apart o (subst IsServerRefusal is refusal)

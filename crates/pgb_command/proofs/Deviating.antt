@@ -14,23 +14,26 @@ use Rattle.pgb_stage.specs.declared.outcome.Outcome.TheVariants.{FindingsFound}
 use Rattle.pgb_stage.specs.Texts.{stage_status, object_status}
 use Rattle.pgb_create.specs.declared.fault.CreateFault.{CreateFault}
 use Rattle.pgb_create.specs.declared.fault.CreateFault.TheVariants as creates
-use Rattle.pgb_server_texts.specs.Texts.{server_status}
 use Rattle.pgb_create.specs.Texts.{create_status}
+use Rattle.pgb_server_texts.specs.Texts.{server_status}
 use Rattle.pgb_push.proofs.Refusals.{push_within}
 use Rattle.pgb_get.proofs.Refusals.{get_within}
 use Rattle.pgb_take.specs.declared.fault.TakeFault.{TakeFault}
 use Rattle.pgb_take.specs.declared.fault.TakeFault.TheVariants as takes
 use Rattle.pgb_take.specs.Texts.{take_status}
+use Rattle.pgb_take_online.specs.declared.fault.OnlineTakeFault.{OnlineTakeFault}
+use Rattle.pgb_take_online.specs.declared.fault.OnlineTakeFault.TheVariants as online
+use Rattle.pgb_take_online.specs.Texts.{online_take_status}
 use Rattle.pgb_recover.specs.declared.fault.RecoverFault.{RecoverFault}
 use Rattle.pgb_recover.specs.declared.fault.RecoverFault.TheVariants as recovers
 use Rattle.pgb_recover.specs.Texts.{recover_status}
 use Rattle.pgb_examine.proofs.Statuses.{examine_is}
 use Rattle.pgb_command.specs.declared.fault.CommandFault.{CommandFault}
-use Rattle.pgb_command.specs.declared.fault.CommandFault.TheVariants.{Create, Push, Get, Take, Recover, Examine}
+use Rattle.pgb_command.specs.declared.fault.CommandFault.TheVariants.{Create, Push, Get, Take, TakeOnline, Recover, Examine}
 use Rattle.pgb_command.specs.declared.fault.Fault.{Fault}
 use Rattle.pgb_command.specs.declared.fault.Fault.TheVariants as fault
 use Rattle.pgb_command.specs.Answers.{status_of, usage_status, command_status}
-use Rattle.pgb_command.specs.Asked.{Request, create, push, get, backup, restore, report, examine, Asked}
+use Rattle.pgb_command.specs.Asked.{Request, create, push, get, backup, backup_running, restore, report, examine, Asked}
 use Rattle.pgb_command.specs.Causes.{EndsWell}
 use Rattle.pgb_command.specs.Tables.{Known, Promise}
 use Rattle.pgb_command.proofs.Statuses.{over}
@@ -105,6 +108,14 @@ not_take (takes.ControlMissing path) = λ is. absurd (omega (arith, is))
 not_take (takes.Unread path) = λ is. absurd (omega (arith, is))
 not_take (takes.TooLong name limit) = λ is. absurd (omega (arith, is))
 
+not_take_online : (e : OnlineTakeFault) → online_take_status e ≢ 65
+not_take_online (online.Take fault) = not_take fault
+not_take_online (online.Server fault) = not_server fault
+not_take_online online.TablespaceMap = λ is. absurd (omega (arith, is))
+not_take_online (online.SpanWrong start stop) = λ is. absurd (omega (arith, is))
+not_take_online (online.NotArrived segment turns) = λ is. absurd (omega (arith, is))
+not_take_online (online.Ambiguous first second) = λ is. absurd (omega (arith, is))
+
 not_recover : (e : RecoverFault) → recover_status e ≢ 65
 not_recover recovers.SetForm = λ is. absurd (omega (arith, is))
 not_recover recovers.NoBackup = λ is. absurd (omega (arith, is))
@@ -125,6 +136,7 @@ not_command (Create e) = not_create e
 not_command (Push e) = not_within _ (push_within e).1
 not_command (Get e) = not_within _ (get_within e).1
 not_command (Take e) = not_take e
+not_command (TakeOnline e) = not_take_online e
 not_command (Recover e) = not_recover e
 not_command (Examine e) = λ is. absurd (omega (arith, is, examine_is e))
 
@@ -152,6 +164,7 @@ only_examines a create old new lines h = absurd h.created.silent
 only_examines a (push path) old new lines h = absurd h
 only_examines a (get name path) old new lines h = absurd h.0
 only_examines a (backup workers) old new lines h = absurd h.2
+only_examines a (backup_running how) old new lines ((told, tells, never), asks) = absurd never
 only_examines a (restore set how) old new lines h = absurd h.recovers
 only_examines a (report form) old new lines h = absurd h.0
 only_examines a examine old new lines h = refl

@@ -6,6 +6,7 @@ use Rattle.pgb_outside.specs.Content.{Content}
 use Rattle.pgb_outside.specs.Moments.{View, Rests}
 use Rattle.pgb_outside.specs.Links.{LinkState}
 use Rattle.pgb_outside.specs.States.{IsOpened, OpensOnly, WireState, ClockState}
+use Rattle.pgb_turn.specs.Turns.{OthersState}
 use Rattle.pgb_outside.specs.Tree.{Nodes}
 use Rattle.pgb_disk.proofs.Changes.{only_on, only_rests}
 use Rattle.pgb_stanza.specs.Owned.{IsOfPairs}
@@ -37,17 +38,18 @@ use Rattle.pgb_stage.proofs.Lifted.{on_as, still_quiet, rests_quiet, quiet_takes
 use Rattle.pgb_model.proofs.Logged.{rests_still}
 use Rattle.pgb_prepare.specs.Stages.{FoundCause, StageCause}
 use Rattle.pgb_prepare.specs.Taking.{HeldCause, MayTake}
+use Rattle.pgb_create.specs.Talking.{Ended}
 use Rattle.pgb_create.proofs.Statuses.{closes_as}
-use Rattle.pgb_command.specs.declared.fault.CommandFault.TheVariants.{Create, Push, Get, Take, Recover, Examine}
+use Rattle.pgb_command.specs.declared.fault.CommandFault.TheVariants.{Create, Push, Get, Take, TakeOnline, Recover, Examine}
 use Rattle.pgb_command.specs.declared.fault.Fault.{Fault}
 use Rattle.pgb_command.specs.declared.fault.Fault.TheVariants.{Usage, Stage, Command as OfCommand, Failed as ObjectFailed, NoMemory}
 use Rattle.pgb_command.specs.Answers.{status, reached_of, ending_of, is_early}
-use Rattle.pgb_command.specs.Asked.{Request, create, push, get, backup, restore, report, examine, Asked}
+use Rattle.pgb_command.specs.Asked.{Request, create, push, get, backup, backup_running, restore, report, examine, Asked}
 use Rattle.pgb_command.specs.Faults.{of_stage}
-use Rattle.pgb_command.specs.Tables.{Known, known, plan_of, manner_of, CommandCause, Promise, Lasts, OnReader, OnCreate, uses_workers, uses_clock}
+use Rattle.pgb_command.specs.Tables.{Known, known, plan_of, manner_of, CommandCause, Promise, Lasts, OnReader, OnCreate, uses_workers, uses_clock, uses_turns}
 use Rattle.pgb_command.specs.Did.{Ran, StaysHealed, OnReady, Cause, HealsPairs, Did, OwnCause, Spares, Closes, WordsCause, Brackets, SamePlaces, OpensPlaces, ArePlacesOpened, OpensIf, IsOpenedIf, TakesAll, OnlyLocked}
 use Rattle.pgb_command.proofs.Ends.{all_later, only_rose}
-use Rattle.pgb_command.proofs.ByRequest.{as_known, idle, reader_still, create_still, any_reader, any_create, any_other, reader_on, create_on, other_as, any_stays, stays_as, any_unless, unless_as, folder_stays, folder_on}
+use Rattle.pgb_command.proofs.ByRequest.{as_known, idle, manner_at, reader_still, create_still, any_reader, any_create, any_other, reader_on, create_on, other_as, any_stays, stays_as, any_unless, unless_as, folder_stays, folder_on}
 
 -- ---- causes and ends
 
@@ -76,22 +78,25 @@ all_none to_end P p = tt
 all_none turned_back P p = p
 all_none stopped P p = tt
 
-closes_from : (b m k : Seen) → b.server.faults ≤ m.server.faults → (fault : Fault) → Closes m k fault → Closes b k fault
-closes_from b m k le (Usage usage) h = tt
-closes_from b m k le (Stage fault) h = tt
-closes_from b m k le (OfCommand (Create fault)) h = closes_as (Failed m k TheServer) (Failed b k TheServer) k.server.sent (λ rose. rises_from _ _ _ le rose) fault h
-closes_from b m k le (OfCommand (Push fault)) h = tt
-closes_from b m k le (OfCommand (Get fault)) h = tt
-closes_from b m k le (OfCommand (Take fault)) h = tt
-closes_from b m k le (OfCommand (Recover fault)) h = tt
-closes_from b m k le (OfCommand (Examine fault)) h = tt
-closes_from b m k le (ObjectFailed object) h = tt
-closes_from b m k le NoMemory h = tt
+closes_from : (b m k : Seen) → m.server ≡ b.server → b.server.faults ≤ m.server.faults → (fault : Fault) → Closes m k fault → Closes b k fault
+closes_from b m k same le (Usage usage) h = tt
+closes_from b m k same le (Stage fault) h = tt
+closes_from b m k same le (OfCommand (Create fault)) h = closes_as (Failed m k TheServer) (Failed b k TheServer) k.server.sent (λ rose. rises_from _ _ _ le rose) fault h
+closes_from b m k same le (OfCommand (Push fault)) h = tt
+closes_from b m k same le (OfCommand (Get fault)) h = tt
+closes_from b m k same le (OfCommand (Take fault)) h = tt
+closes_from b m k same le (OfCommand (TakeOnline fault)) (inl h) = inl (h.0, h.1 ∙ same)
+closes_from b m k same le (OfCommand (TakeOnline fault)) (inr h) = inr (⊎_elim (λ (ended : Ended k.server.sent). inl ended) (λ (rose : Failed m k TheServer). inr (rises_from _ _ _ le rose)) h)
+closes_from b m k same le (OfCommand (Recover fault)) h = tt
+closes_from b m k same le (OfCommand (Examine fault)) h = tt
+closes_from b m k same le (ObjectFailed object) h = tt
+closes_from b m k same le NoMemory h = tt
 
 -- what was done before it left these as they were
-pub spares_on : (a : Asked) (b m k : Seen) (r : Result Outcome Fault) → StaysBeside a.stanza b.repo.view m.repo.view → OnReader a.request (IsStill b.repo.view m.repo.view) → OnCreate a.request (IsStill b.repo.view m.repo.view) → m.tree.nodes ≡ b.tree.nodes → m.server ≡ b.server → m.links ≡ b.links → m.clock ≡ b.clock → Spares a m k r → Spares a b k r
-spares_on a b m k r beside reads creates nodes server links clock s = record {
-  beside = beside_on a.stanza b.repo.view m.repo.view k.repo.view beside s.beside;
+pub spares_on : (a : Asked) (b m k : Seen) (r : Result Outcome Fault) → StaysBeside a.stanza b.repo.view m.repo.view → IsStill b.spool.view m.spool.view → OnReader a.request (IsStill b.repo.view m.repo.view) → OnCreate a.request (IsStill b.repo.view m.repo.view) → m.tree.nodes ≡ b.tree.nodes → m.server ≡ b.server → m.others ≡ b.others → m.links ≡ b.links → m.clock ≡ b.clock → Spares a m k r → Spares a b k r
+spares_on a b m k r beside spool reads creates nodes server others links clock s = record {
+  beside = λ told. beside_on a.stanza b.repo.view m.repo.view k.repo.view beside (s.beside told);
+  spool = λ told. beside_on a.stanza b.spool.view m.spool.view k.spool.view (still_beside a.stanza b.spool.view m.spool.view spool) (s.spool told);
   pairs = create_on a.request _ _ _ (λ (p : IsStill b.repo.view m.repo.view) h. only_on (IsOfPairs a.stanza) b.repo.view m.repo.view k.repo.view (only_rests (IsOfPairs a.stanza) b.repo.view m.repo.view p.time p.now) h) creates s.pairs;
   reads = reader_on a.request _ _ _ (still_on b.repo.view m.repo.view k.repo.view) reads s.reads;
   folder = folder_on a a.request b m k reads nodes links s.folder;
@@ -99,15 +104,17 @@ spares_on a b m k r beside reads creates nodes server links clock s = record {
   unmade = create_on a.request _ _ _ (λ (p : IsStill b.repo.view m.repo.view) h. none_as (reached_of (ending_of r)) _ _ (λ e. e ∙ p.now) h) creates s.unmade;
   quiet = λ none. s.quiet none ∙ server;
   others = other_as a.request _ _ (λ e. e ∙ server) s.others;
+  waits = unless_as (uses_turns a.request) _ _ (λ e. e ∙ others) s.waits;
   workers = unless_as (uses_workers a.request) _ _ (λ e. e ∙ links) s.workers;
   clock = unless_as (uses_clock a.request) _ _ (λ e. e ∙ clock) s.clock;
-  closed = err_as r _ _ (closes_from b m k (omega (arith, ap (λ (w : WireState). w.faults) server))) s.closed;
+  closed = err_as r _ _ (closes_from b m k server (omega (arith, ap (λ (w : WireState). w.faults) server))) s.closed;
 }
 
 -- a stage ended it
-pub spares_none : (a : Asked) (b k : Seen) (fault : Fault) → StaysBeside a.stanza b.repo.view k.repo.view → OnReader a.request (IsStill b.repo.view k.repo.view) → OnCreate a.request (IsStill b.repo.view k.repo.view) → k.tree.nodes ≡ b.tree.nodes → k.server ≡ b.server → k.links ≡ b.links → k.clock ≡ b.clock → Closes b k fault → Spares a b k (Err fault)
-spares_none a b k fault beside reads creates nodes server links clock closes = record {
-  beside = beside;
+pub spares_none : (a : Asked) (b k : Seen) (fault : Fault) → StaysBeside a.stanza b.repo.view k.repo.view → IsStill b.spool.view k.spool.view → OnReader a.request (IsStill b.repo.view k.repo.view) → OnCreate a.request (IsStill b.repo.view k.repo.view) → k.tree.nodes ≡ b.tree.nodes → k.server ≡ b.server → k.others ≡ b.others → k.links ≡ b.links → k.clock ≡ b.clock → Closes b k fault → Spares a b k (Err fault)
+spares_none a b k fault beside spool reads creates nodes server others links clock closes = record {
+  beside = λ told. beside;
+  spool = λ told. still_beside a.stanza b.spool.view k.spool.view spool;
   pairs = create_on a.request _ (Unit {0}) _ (λ (p : IsStill b.repo.view k.repo.view) h. only_rests (IsOfPairs a.stanza) b.repo.view k.repo.view p.time p.now) creates (any_create a.request (Unit {0}) tt);
   reads = reads;
   folder = folder_stays a a.request (known b) k.tree.nodes nodes;
@@ -115,6 +122,7 @@ spares_none a b k fault beside reads creates nodes server links clock closes = r
   unmade = create_on a.request _ (Unit {0}) _ (λ (p : IsStill b.repo.view k.repo.view) h. all_none (reached_of (ending_of (Err fault))) _ p.now) creates (any_create a.request (Unit {0}) tt);
   quiet = λ none. server;
   others = any_other a.request _ server;
+  waits = any_unless (uses_turns a.request) _ others;
   workers = any_unless (uses_workers a.request) _ links;
   clock = any_unless (uses_clock a.request) _ clock;
   closed = closes;
@@ -124,11 +132,12 @@ spares_none a b k fault beside reads creates nodes server links clock closes = r
 
 known_same : (b m : Seen) → AreRead b m → known m ≡ known b
 known_same b m read =
-    ap (λ (o : Option Content). as_known o m.tree.nodes m.server m.clock m.links) read.repo.now
-    ∙ ap (λ (o : Option Nodes). as_known b.repo.view.now o m.server m.clock m.links) read.nodes
-    ∙ ap (λ (o : WireState). as_known b.repo.view.now b.tree.nodes o m.clock m.links) read.server
-    ∙ ap (λ (o : ClockState). as_known b.repo.view.now b.tree.nodes b.server o m.links) read.clock
-    ∙ ap (λ (o : List LinkState). as_known b.repo.view.now b.tree.nodes b.server b.clock o) read.links
+    ap (λ (o : Option Content). as_known o m.tree.nodes m.server m.others m.clock m.links) read.repo.now
+    ∙ ap (λ (o : Option Nodes). as_known b.repo.view.now o m.server m.others m.clock m.links) read.nodes
+    ∙ ap (λ (o : WireState). as_known b.repo.view.now b.tree.nodes o m.others m.clock m.links) read.server
+    ∙ ap (λ (o : OthersState). as_known b.repo.view.now b.tree.nodes b.server o m.clock m.links) read.others
+    ∙ ap (λ (o : ClockState). as_known b.repo.view.now b.tree.nodes b.server b.others o m.links) read.clock
+    ∙ ap (λ (o : List LinkState). as_known b.repo.view.now b.tree.nodes b.server b.others b.clock o) read.links
 
 held_from : (a : Asked) (b m k : Seen) → b.locks.refusals ≤ m.locks.refusals → (fault : StageFault) → HeldCause (plan_of a.request) a.stanza (Rises m.locks.refusals k.locks.refusals) fault → HeldCause (plan_of a.request) a.stanza (Rises b.locks.refusals k.locks.refusals) fault
 held_from a b m k le (Held name) h = (h.0, rises_from b.locks.refusals m.locks.refusals k.locks.refusals le h.1)
@@ -143,19 +152,19 @@ cause_from : (a : Asked) (b m k : Seen) → AreRead b m → (fault : Fault) → 
 cause_from a b m k read (Usage usage) h = h
 cause_from a b m k read (Stage fault) h = stage_from a b m k read fault h
 cause_from a b m k read (OfCommand fault) (inl h) = inl h
-cause_from a b m k read (OfCommand fault) (inr h) = inr (subst (λ (o : Known). OnReady a o (λ old. CommandCause a a.request old fault)) (known_same b m read) h)
+cause_from a b m k read (OfCommand fault) (inr h) = inr (subst (λ (o : Known). OnReady a o (λ old. CommandCause a a.request old (known k) fault)) (known_same b m read) h)
 cause_from a b m k read (ObjectFailed object) h = rises_from _ _ _ (read.later object) h
 cause_from a b m k read NoMemory h = h
 
 -- which command of the log it is, told from before
-as_begun : (a : Asked) (P : Command → Type 0) (m b : Option Nodes) (k l : List LinkState) → m ≡ b → k ≡ l → On (manner_of a.request a.data_folder m k) P → On (manner_of a.request a.data_folder b l) P
-as_begun a P m b k l nodes links h = subst (λ (o : List LinkState). On (manner_of a.request a.data_folder b o) P) links (subst (λ (o : Option Nodes). On (manner_of a.request a.data_folder o k) P) nodes h)
+as_begun : (a : Asked) (P : Command → Type 0) (m b new : Known) → m ≡ b → On (manner_of a a.request m new) P → On (manner_of a a.request b new) P
+as_begun a P m b new same h = subst (λ (o : Known). On (manner_of a a.request o new) P) same h
 
 -- what was only opened or read before it doesn't matter
 pub did_from : (a : Asked) (b m k : Seen) (r : Result Outcome Fault) → AreRead b m → Did a m k r → Did a b k r
 did_from a b m k r read did = record {
-  steps = as_begun a (λ command. Takes (plan_of a.request).settling a.stanza command (reached_of (ending_of r)) b.repo.view b.spool.view k.repo.view k.spool.view) m.tree.nodes b.tree.nodes m.links b.links read.nodes read.links
-      (on_as (manner_of a.request a.data_folder m.tree.nodes m.links) _ _ (λ command h. opened_takes a.stanza b.repo.view m.repo.view b.spool.view m.spool.view read.repo.time read.repo.now read.spool.time read.spool.now (plan_of a.request).settling command (reached_of (ending_of r)) k.repo.view k.spool.view h) did.steps);
+  steps = as_begun a (λ command. Takes (plan_of a.request).settling a.stanza command (reached_of (ending_of r)) b.repo.view b.spool.view k.repo.view k.spool.view) (known m) (known b) (known k) (known_same b m read)
+      (on_as (manner_of a a.request (known m) (known k)) _ _ (λ command h. opened_takes a.stanza b.repo.view m.repo.view b.spool.view m.spool.view read.repo.time read.repo.now read.spool.time read.spool.now (plan_of a.request).settling command (reached_of (ending_of r)) k.repo.view k.spool.view h) did.steps);
   promise = ok_as r _ _ (λ outcome h. subst (λ (o : Known). OnReady a o (λ old. Promise a a.request old (known k) outcome)) (known_same b m read) h) did.promise;
   lasts = ok_as r _ _ (λ outcome h q log some keeps. subst (λ (n : Option Nodes). Lasts a a.request n k.repo.view k.tree.nodes outcome) read.nodes
       (h q log (subst (λ (o : Option Content). IsSome o) (sym read.repo.now) some) (rests_still a.stanza q log b.repo.view m.repo.view read.repo.time read.repo.now keeps))) did.lasts;
@@ -164,7 +173,7 @@ did_from a b m k r read did = record {
     agree = λ some. h.agree (subst (λ (o : Option Content). IsSome o) (sym read.repo.now) some);
     lasts = λ q log some keeps. h.lasts q log (subst (λ (o : Option Content). IsSome o) (sym read.repo.now) some) (rests_still a.stanza q log b.repo.view m.repo.view read.repo.time read.repo.now keeps);
   }) did.healed;
-  spares = spares_on a b m k r (still_beside a.stanza b.repo.view m.repo.view read.repo) (any_reader a.request _ read.repo) (any_create a.request _ read.repo) read.nodes read.server read.links read.clock did.spares;
+  spares = spares_on a b m k r (still_beside a.stanza b.repo.view m.repo.view read.repo) read.spool (any_reader a.request _ read.repo) (any_create a.request _ read.repo) read.nodes read.server read.others read.links read.clock did.spares;
   later = later_on b m k read.later did.later;
 }
 
@@ -187,9 +196,9 @@ stage_reached fault = go (is_early fault)
     go true e = let x : ◌≡◌ {A = Reached} turned_back to_end = e in cc
     go false e = let x : ◌≡◌ {A = Reached} stopped to_end = e in cc
 
-pub did_nothing : (a : Asked) (b k : Seen) (fault : Fault) → Quiet a.stanza b.repo.view k.repo.view → Rests b.spool.view k.spool.view → k.spool.view.now ≡ b.spool.view.now → Spares a b k (Err fault) → AreLater b k → Cause a b k fault → Did a b k (Err fault)
-did_nothing a b k fault quiet rests same spares later cause = record {
-  steps = idle a.request a.data_folder b.tree.nodes b.links _ (λ command. opened_takes a.stanza b.repo.view b.repo.view b.spool.view k.spool.view (rests_none b.repo.view) refl rests same (plan_of a.request).settling command (reached_of (ending_of (Err fault))) k.repo.view k.spool.view
+pub did_nothing : (a : Asked) (b k : Seen) (fault : Fault) → Quiet a.stanza b.repo.view k.repo.view → Rests b.spool.view k.spool.view → k.spool.view.now ≡ b.spool.view.now → k.others ≡ b.others → Spares a b k (Err fault) → AreLater b k → Cause a b k fault → Did a b k (Err fault)
+did_nothing a b k fault quiet rests same others spares later cause = record {
+  steps = idle a a.request (known b) (known k) others _ (λ command. opened_takes a.stanza b.repo.view b.repo.view b.spool.view k.spool.view (rests_none b.repo.view) refl rests same (plan_of a.request).settling command (reached_of (ending_of (Err fault))) k.repo.view k.spool.view
       (quiet_takes (plan_of a.request).settling a.stanza command (reached_of (ending_of (Err fault))) b.repo.view k.repo.view k.spool.view (stage_reached fault) quiet));
   promise = tt;
   lasts = tt;
@@ -207,6 +216,7 @@ lasts_by a create v nodes mid k outcome same at h = tt
 lasts_by a (push path) v nodes mid k outcome same at h = subst (λ (n : Option Nodes). Lasts a (push path) n k.repo.view k.tree.nodes outcome) same (h (at refl))
 lasts_by a (get name path) v nodes mid k outcome same at h = subst (λ (n : Option Nodes). Lasts a (get name path) n k.repo.view k.tree.nodes outcome) same (h (at refl))
 lasts_by a (backup workers) v nodes mid k outcome same at h = tt
+lasts_by a (backup_running how) v nodes mid k outcome same at h = tt
 lasts_by a (restore set how) v nodes mid k outcome same at h = tt
 lasts_by a (report form) v nodes mid k outcome same at h = tt
 lasts_by a examine v nodes mid k outcome same at h = tt
@@ -218,16 +228,20 @@ heals_by a create v k at had h = tt
 heals_by a (push path) v k at had h = h (at refl) had
 heals_by a (get name path) v k at had h = tt
 heals_by a (backup workers) v k at had h = tt
+heals_by a (backup_running how) v k at had h = tt
 heals_by a (restore set how) v k at had h = tt
 heals_by a (report form) v k at had h = tt
 heals_by a examine v k at had h = tt
+
+same_still : (v w : View) → w ≡ v → IsStill v w
+same_still v w same = subst (λ (x : View). IsStill v x) (sym same) (still_self v)
 
 -- what the stages behind the locks add
 did_ran : (a : Asked) (b m k : Seen) (r : Result Outcome Fault) → m ≡ record b { repo = m.repo; tree = m.tree } → m.tree.nodes ≡ b.tree.nodes → b.repo.faults ≤ m.repo.faults → b.tree.faults ≤ m.tree.faults → Quiet a.stanza b.repo.view m.repo.view → Begins (plan_of a.request).settling a.stanza b.repo.view m.repo.view →
     Heals (plan_of a.request).pairs a.stanza b.repo.view.now m.repo.view.now → IfSome m.repo.view.now (AreHealed (plan_of a.request).pairs a.stanza) → (IsTight a.stanza b.repo.view → IsSome b.repo.view.now → HealsToLast (plan_of a.request).pairs a.stanza m.repo.view) → OnReading (plan_of a.request).pairs (IsStill b.repo.view m.repo.view) → Ran a m k r → Did a b k r
 did_ran a b m k r others nodes repo_later tree_later quiet begun heals healed durable still ran = record {
-  steps = as_begun a (λ command. Takes (plan_of a.request).settling a.stanza command (reached_of (ending_of r)) b.repo.view b.spool.view k.repo.view k.spool.view) m.tree.nodes b.tree.nodes m.links b.links nodes (ap (λ (s : Seen). s.links) others)
-      (on_as (manner_of a.request a.data_folder m.tree.nodes m.links) _ _ (λ command h. begun_takes (plan_of a.request).settling a.stanza b.repo.view m.repo.view quiet begun command (reached_of (ending_of r)) b.spool.view k.repo.view k.spool.view (subst (λ (v : View). Runs (plan_of a.request).settling a.stanza command (reached_of (ending_of r)) m.repo.view v k.repo.view k.spool.view) (ap (λ (s : Seen). s.spool.view) others) h)) ran.steps);
+  steps = manner_at a a.request (known b) (known k) m.repo.view.now _ (as_begun a (λ command. Takes (plan_of a.request).settling a.stanza command (reached_of (ending_of r)) b.repo.view b.spool.view k.repo.view k.spool.view) (known m) (record (known b) { repo = m.repo.view.now }) (known k) known_is
+      (on_as (manner_of a a.request (known m) (known k)) _ _ (λ command h. begun_takes (plan_of a.request).settling a.stanza b.repo.view m.repo.view quiet begun command (reached_of (ending_of r)) b.spool.view k.repo.view k.spool.view (subst (λ (v : View). Runs (plan_of a.request).settling a.stanza command (reached_of (ending_of r)) m.repo.view v k.repo.view k.spool.view) (ap (λ (s : Seen). s.spool.view) others) h)) ran.steps));
   promise = ok_as r _ _ (λ outcome h. (m.repo.view.now, heals, subst (λ (o : Known). Promise a a.request o (known k) outcome) known_is h)) ran.promise;
   lasts = ok_as r _ _ (λ outcome h q log some keeps. lasts_by a a.request m.repo.view b.tree.nodes m.tree.nodes k outcome nodes
       (λ is. looked_at a.stanza b.repo.view m.repo.view quiet (subst (λ (how : Settling). Begins how a.stanza b.repo.view m.repo.view) is begun) q log some keeps) h) ran.lasts;
@@ -238,15 +252,16 @@ did_ran a b m k r others nodes repo_later tree_later quiet begun heals healed du
         (λ is. looked_at a.stanza b.repo.view m.repo.view quiet (subst (λ (how : Settling). Begins how a.stanza b.repo.view m.repo.view) is begun) q log some keeps)
         (durable (keeps_tight a.stanza q log b.repo.view keeps) some) h.lasts;
   }) ran.healed;
-  spares = spares_on a b m k r quiet.beside (reader_still a.request _ still) (create_still a.request _ still) nodes (ap (λ (s : Seen). s.server) others) (ap (λ (s : Seen). s.links) others) (ap (λ (s : Seen). s.clock) others) ran.spares;
+  spares = spares_on a b m k r quiet.beside (same_still b.spool.view m.spool.view (ap (λ (s : Seen). s.spool.view) others)) (reader_still a.request _ still) (create_still a.request _ still) nodes (ap (λ (s : Seen). s.server) others) (ap (λ (s : Seen). s.others) others) (ap (λ (s : Seen). s.links) others) (ap (λ (s : Seen). s.clock) others) ran.spares;
   later = later_on b m k later ran.later;
 }
   where
     known_is : known m ≡ record (known b) { repo = m.repo.view.now }
-    known_is = ap (λ o. as_known m.repo.view.now o m.server m.clock m.links) nodes
-        ∙ ap (λ o. as_known m.repo.view.now b.tree.nodes o m.clock m.links) (ap (λ (s : Seen). s.server) others)
-        ∙ ap (λ o. as_known m.repo.view.now b.tree.nodes b.server o m.links) (ap (λ (s : Seen). s.clock) others)
-        ∙ ap (λ o. as_known m.repo.view.now b.tree.nodes b.server b.clock o) (ap (λ (s : Seen). s.links) others)
+    known_is = ap (λ o. as_known m.repo.view.now o m.server m.others m.clock m.links) nodes
+        ∙ ap (λ o. as_known m.repo.view.now b.tree.nodes o m.others m.clock m.links) (ap (λ (s : Seen). s.server) others)
+        ∙ ap (λ o. as_known m.repo.view.now b.tree.nodes b.server o m.clock m.links) (ap (λ (s : Seen). s.others) others)
+        ∙ ap (λ o. as_known m.repo.view.now b.tree.nodes b.server b.others o m.links) (ap (λ (s : Seen). s.clock) others)
+        ∙ ap (λ o. as_known m.repo.view.now b.tree.nodes b.server b.others b.clock o) (ap (λ (s : Seen). s.links) others)
 
     later : AreLater b m
     later = all_later b m repo_later (omega (arith, ap (λ (s : Seen). s.spool.faults) others)) tree_later (omega (arith, ap (λ (s : Seen). s.server.faults) others)) (omega (arith, ap (λ (s : Seen). s.others.faults) others))
@@ -255,7 +270,7 @@ did_ran a b m k r others nodes repo_later tree_later quiet begun heals healed du
     own : (fault : Fault) → OwnCause a m k fault → Cause a b k fault
     own (Usage usage) h = h
     own (Stage fault) h = absurd h
-    own (OfCommand fault) h = inr (m.repo.view.now, heals, subst (λ (o : Known). CommandCause a a.request o fault) known_is h)
+    own (OfCommand fault) h = inr (m.repo.view.now, heals, subst (λ (o : Known). CommandCause a a.request o (known k) fault) known_is h)
     own (ObjectFailed object) h = rises_from _ _ _ (later object) h
     own NoMemory h = h
 
@@ -284,10 +299,10 @@ did_err a b k fault (Ok x) is h = absurd is
 did_err a b k fault (Err f) is h = subst (λ (e : Fault). Did a b k (Err e)) (sym is) h
 
 halted_at : (a : Asked) (b k : Seen) (r : Result Outcome Fault) (halt : Halt StageFault) → IsErrAnd r (λ f. f ≡ of_stage halt) → Quiet a.stanza b.repo.view k.repo.view → Rests b.spool.view k.spool.view → k.spool.view.now ≡ b.spool.view.now →
-    OnReader a.request (IsStill b.repo.view k.repo.view) → OnCreate a.request (IsStill b.repo.view k.repo.view) → k.tree.nodes ≡ b.tree.nodes → k.server ≡ b.server → k.links ≡ b.links → k.clock ≡ b.clock → AreLater b k →
+    OnReader a.request (IsStill b.repo.view k.repo.view) → OnCreate a.request (IsStill b.repo.view k.repo.view) → k.tree.nodes ≡ b.tree.nodes → k.server ≡ b.server → k.others ≡ b.others → k.links ≡ b.links → k.clock ≡ b.clock → AreLater b k →
     (why : StageFault → Type 0) (failed : Object → Type 0) → ((fault : StageFault) → why fault → StageCause (plan_of a.request) a.stanza b k fault) → ((object : Object) → failed object → Failed b k object) → HaltCause why failed halt → Did a b k r
-halted_at a b k r halt is quiet rests same reads creates nodes server links clock later why failed each rose cause = did_err a b k (of_stage halt) r is (did_nothing a b k (of_stage halt) quiet rests same
-    (spares_none a b k (of_stage halt) quiet.beside reads creates nodes server links clock (halt_closes b k halt)) later (halt_cause a b k why failed each rose halt cause))
+halted_at a b k r halt is quiet rests same reads creates nodes server others links clock later why failed each rose cause = did_err a b k (of_stage halt) r is (did_nothing a b k (of_stage halt) quiet rests same others
+    (spares_none a b k (of_stage halt) quiet.beside (record { now = same; time = rests }) reads creates nodes server others links clock (halt_closes b k halt)) later (halt_cause a b k why failed each rose halt cause))
 
 found_at : (a : Asked) (plan : Plan) → plan ≡ plan_of a.request → (b k : Seen) (fault : StageFault) → FoundCause plan a.stanza b.repo.view.now b.tree.nodes fault → StageCause (plan_of a.request) a.stanza b k fault
 found_at a plan is b k fault h = inr (subst (λ (p : Plan). FoundCause p a.stanza b.repo.view.now b.tree.nodes fault) is h)
@@ -297,8 +312,8 @@ held_at a plan is b k fault h = inl (subst (λ (p : Plan). HeldCause p a.stanza 
 
 -- the whole of nothing, for this fault
 pub refused_at : (a : Asked) (b : Seen) (fault : Fault) → Closes b b fault → Cause a b b fault → Did a b b (Err fault)
-refused_at a b fault closes cause = did_nothing a b b fault (still_quiet a.stanza b.repo.view) (rests_none b.spool.view) refl
-    (spares_none a b b fault (still_beside a.stanza b.repo.view b.repo.view (still_self b.repo.view)) (any_reader a.request _ (still_self b.repo.view)) (any_create a.request _ (still_self b.repo.view)) refl refl refl refl closes) (λ object. omega arith) cause
+refused_at a b fault closes cause = did_nothing a b b fault (still_quiet a.stanza b.repo.view) (rests_none b.spool.view) refl refl
+    (spares_none a b b fault (still_beside a.stanza b.repo.view b.repo.view (still_self b.repo.view)) (still_self b.spool.view) (any_reader a.request _ (still_self b.repo.view)) (any_create a.request _ (still_self b.repo.view)) refl refl refl refl refl closes) (λ object. omega arith) cause
 
 pub starved : (a : Asked) (b : Seen) (r : Result Outcome Fault) → IsErrAnd r (λ f. f ≡ NoMemory) → Did a b b r
 starved a b r is = did_err a b b NoMemory r is (refused_at a b NoMemory tt tt)
@@ -311,6 +326,8 @@ word_closes a b (OfCommand (Create fault)) h = absurd h
 word_closes a b (OfCommand (Push fault)) h = tt
 word_closes a b (OfCommand (Get fault)) h = tt
 word_closes a b (OfCommand (Take fault)) h = absurd h
+word_closes a b (OfCommand (TakeOnline fault)) h = absurd h
+word_closes a b (OfCommand (Examine fault)) h = absurd h
 word_closes a b (OfCommand (Recover fault)) h = tt
 word_closes a b (OfCommand (Examine fault)) h = absurd h
 word_closes a b (ObjectFailed object) h = absurd h
@@ -323,6 +340,8 @@ word_cause a b (OfCommand (Create fault)) h = absurd h
 word_cause a b (OfCommand (Push fault)) h = inl h
 word_cause a b (OfCommand (Get fault)) h = inl h
 word_cause a b (OfCommand (Take fault)) h = absurd h
+word_cause a b (OfCommand (TakeOnline fault)) h = absurd h
+word_cause a b (OfCommand (Examine fault)) h = absurd h
 word_cause a b (OfCommand (Recover fault)) h = inl h
 word_cause a b (OfCommand (Examine fault)) h = absurd h
 word_cause a b (ObjectFailed object) h = absurd h
@@ -353,21 +372,21 @@ locks_read b l refusals faults = record {
 pub not_taken : (a : Asked) (plan : Plan) → plan ≡ plan_of a.request → (b : Seen) (l : LocksSeen) (r : Result Outcome Fault) (halt : Halt StageFault) → IsErrAnd r (λ f. f ≡ of_stage halt) → b.locks.refusals ≤ l.refusals → b.locks.faults ≤ l.faults →
     HaltCause (HeldCause plan a.stanza (Rises b.locks.refusals l.refusals)) (Only Locks (Rises b.locks.faults l.faults)) halt → Did a b (record b { locks = l }) r
 not_taken a plan is b l r halt err refusals faults cause = halted_at a b (record b { locks = l }) r halt err (still_quiet a.stanza b.repo.view) (rests_none b.spool.view) refl
-    (any_reader a.request _ (still_self b.repo.view)) (any_create a.request _ (still_self b.repo.view)) refl refl refl refl (locks_read b l refusals faults).later
+    (any_reader a.request _ (still_self b.repo.view)) (any_create a.request _ (still_self b.repo.view)) refl refl refl refl refl (locks_read b l refusals faults).later
     (HeldCause plan a.stanza (Rises b.locks.refusals l.refusals)) (Only Locks (Rises b.locks.faults l.faults)) (held_at a plan is b (record b { locks = l }))
     (only_rose b (record b { locks = l }) Locks (Rises b.locks.faults l.faults) (λ h. h)) cause
 
 pub unprepared : (a : Asked) (plan : Plan) → plan ≡ plan_of a.request → (b k : Seen) (r : Result Outcome Fault) (halt : Halt StageFault) → IsErrAnd r (λ f. f ≡ of_stage halt) → Quiet a.stanza b.repo.view k.repo.view → Rests b.spool.view k.spool.view → k.spool.view.now ≡ b.spool.view.now →
-    OnReading plan.pairs (IsStill b.repo.view k.repo.view) → k.tree.nodes ≡ b.tree.nodes → k.server ≡ b.server → k.links ≡ b.links → k.clock ≡ b.clock → AreLater b k → (failed : Object → Type 0) → ((object : Object) → failed object → Failed b k object) →
+    OnReading plan.pairs (IsStill b.repo.view k.repo.view) → k.tree.nodes ≡ b.tree.nodes → k.server ≡ b.server → k.others ≡ b.others → k.links ≡ b.links → k.clock ≡ b.clock → AreLater b k → (failed : Object → Type 0) → ((object : Object) → failed object → Failed b k object) →
     HaltCause (FoundCause plan a.stanza b.repo.view.now b.tree.nodes) failed halt → Did a b k r
-unprepared a plan is b k r halt err quiet rests same still nodes server links clock later failed rose cause =
+unprepared a plan is b k r halt err quiet rests same still nodes server others links clock later failed rose cause =
     let here = subst (λ (p : Plan). OnReading p.pairs (IsStill b.repo.view k.repo.view)) is still in
-    halted_at a b k r halt err quiet rests same (reader_still a.request _ here) (create_still a.request _ here) nodes server links clock later (FoundCause plan a.stanza b.repo.view.now b.tree.nodes) failed (found_at a plan is b k) rose cause
+    halted_at a b k r halt err quiet rests same (reader_still a.request _ here) (create_still a.request _ here) nodes server others links clock later (FoundCause plan a.stanza b.repo.view.now b.tree.nodes) failed (found_at a plan is b k) rose cause
 
 -- a place can't be opened
 pub unopened : (a : Asked) (b k : Seen) (r : Result Outcome Fault) (halt : Halt StageFault) → IsErrAnd r (λ f. f ≡ of_stage halt) → AreRead b k → HaltCause Never (Failed b k) halt → Did a b k r
 unopened a b k r halt err read cause = halted_at a b k r halt err (rests_quiet a.stanza b.repo.view k.repo.view read.repo.time read.repo.now) read.spool.time read.spool.now
-    (any_reader a.request _ read.repo) (any_create a.request _ read.repo) read.nodes read.server read.links read.clock read.later Never (Failed b k) (λ fault h. absurd h) (λ object h. h) cause
+    (any_reader a.request _ read.repo) (any_create a.request _ read.repo) read.nodes read.server read.others read.links read.clock read.later Never (Failed b k) (λ fault h. absurd h) (λ object h. h) cause
 
 -- ---- places and locks
 

@@ -18,13 +18,13 @@ use Rattle.pgb_stage.proofs.Lifted.{on_as, still_quiet, quiet_takes, opened_take
 use Rattle.pgb_command.specs.declared.fault.Fault.{Fault}
 use Rattle.pgb_command.specs.declared.fault.Fault.TheVariants.{Usage, Stage, Command as OfCommand, Failed as ObjectFailed, NoMemory}
 use Rattle.pgb_command.specs.Answers.{Ending, status, status_of, answer_of, ending_of, reached_of}
-use Rattle.pgb_command.specs.Asked.{Request, create, push, get, backup, restore, report, examine, Asked, Asks}
+use Rattle.pgb_command.specs.Asked.{Request, create, push, get, backup, backup_running, restore, report, examine, Asked, Asks}
 use Rattle.pgb_command.specs.Causes.{IsAnswered, Carries, Answers, PartDone, Finishes, EndsWell, Fulfils, IsEarly, TurnsBack, LeavesRest, Completes}
 use Rattle.pgb_command.specs.Did.{IsIdle, Did, OpensIf, OpensPlaces, OnlyLocked}
 use Rattle.pgb_command.specs.Output.{IsTold, Whole, Cut, Starved, Wordless}
 use Rattle.pgb_disk.proofs.Changes.{only_rests}
 use Rattle.pgb_stanza.specs.Owned.{IsOfPairs}
-use Rattle.pgb_command.specs.Tables.{known, plan_of, manner_of, OnCreate, FolderGoes, FolderStays, uses_workers, uses_clock}
+use Rattle.pgb_command.specs.Tables.{known, plan_of, manner_of, OnCreate, FolderGoes, FolderStays, uses_workers, uses_clock, uses_turns}
 use Rattle.pgb_command.proofs.AskedOnce.{one_asked}
 use Rattle.pgb_command.proofs.ByRequest.{idle, any_reader, any_create, any_other, any_unless, any_stays, folder_stays}
 use Rattle.pgb_command.proofs.Dids.{stage_reached}
@@ -54,8 +54,8 @@ found words b k n (inr (s, settles, inr (what, is, still, answered))) a asks = i
 
 -- ---- nothing was done
 
-idle_takes : (a : Asked) (b k : Seen) (fault : Fault) → IsIdle b k → On (manner_of a.request a.data_folder b.tree.nodes b.links) (λ command. Takes (plan_of a.request).settling a.stanza command (reached_of (ending_of (Err fault))) b.repo.view b.spool.view k.repo.view k.spool.view)
-idle_takes a b k fault i = idle a.request a.data_folder b.tree.nodes b.links _ (λ command. opened_takes a.stanza b.repo.view k.repo.view b.spool.view k.spool.view i.repo.time i.repo.now i.spool.time i.spool.now (plan_of a.request).settling command (reached_of (ending_of (Err fault))) k.repo.view k.spool.view
+idle_takes : (a : Asked) (b k : Seen) (fault : Fault) → IsIdle b k → On (manner_of a a.request (known b) (known k)) (λ command. Takes (plan_of a.request).settling a.stanza command (reached_of (ending_of (Err fault))) b.repo.view b.spool.view k.repo.view k.spool.view)
+idle_takes a b k fault i = idle a a.request (known b) (known k) i.others _ (λ command. opened_takes a.stanza b.repo.view k.repo.view b.spool.view k.spool.view i.repo.time i.repo.now i.spool.time i.spool.now (plan_of a.request).settling command (reached_of (ending_of (Err fault))) k.repo.view k.spool.view
     (quiet_takes (plan_of a.request).settling a.stanza command (reached_of (ending_of (Err fault))) k.repo.view k.repo.view k.spool.view (stage_reached fault) (still_quiet a.stanza k.repo.view)))
 
 idle_nodes : (b k : Seen) → IsIdle b k → k.tree.nodes ≡ b.tree.nodes
@@ -78,6 +78,7 @@ create_at create reached P is h = none_at reached P is h
 create_at (push path) reached P is h = tt
 create_at (get name path) reached P is h = tt
 create_at (backup workers) reached P is h = tt
+create_at (backup_running how) reached P is h = tt
 create_at (restore set how) reached P is h = tt
 create_at (report form) reached P is h = tt
 create_at examine reached P is h = tt
@@ -97,16 +98,16 @@ module _ (a : Asked) (b k : Seen) (n : ℕ) where
       let c = x.1 in
       let is : status (ending_of c.ended) ≡ 0 = told_as x.0 b k c.ended n c.answered (λ e. sym e ∙ zero) (λ e rose. absurd (omega (arith, e, zero))) (λ e. absurd (omega (arith, e, zero))) in
       record {
-        all = on_as (manner_of a.request a.data_folder b.tree.nodes b.links) _ _ (λ command h. all_at (reached_of (ending_of c.ended)) _ (zero_ends c.ended is) h.whole) c.did.steps;
-        ends = on_as (manner_of a.request a.data_folder b.tree.nodes b.links) _ _ (λ command h. all_at (reached_of (ending_of c.ended)) _ (zero_ends c.ended is) h.ends) c.did.steps;
+        all = on_as (manner_of a a.request (known b) (known k)) _ _ (λ command h. all_at (reached_of (ending_of c.ended)) _ (zero_ends c.ended is) h.whole) c.did.steps;
+        ends = on_as (manner_of a a.request (known b) (known k)) _ _ (λ command h. all_at (reached_of (ending_of c.ended)) _ (zero_ends c.ended is) h.ends) c.did.steps;
         healed = ok_at c.ended _ is c.did.healed;
         opened = ok_at c.ended _ is c.brackets.opened;
         took = ok_at c.ended _ is c.brackets.took;
       }
 
   pub part_done : Either a b k n → PartDone a b k
-  part_done (inl x) = on_as (manner_of a.request a.data_folder b.tree.nodes b.links) _ _ (λ command h. (h.part, h.between, h.receipts)) (idle_takes a b k x.1.1.0 x.0)
-  part_done (inr x) = on_as (manner_of a.request a.data_folder b.tree.nodes b.links) _ _ (λ command h. (h.part, h.between, h.receipts)) x.1.did.steps
+  part_done (inl x) = on_as (manner_of a a.request (known b) (known k)) _ _ (λ command h. (h.part, h.between, h.receipts)) (idle_takes a b k x.1.1.0 x.0)
+  part_done (inr x) = on_as (manner_of a a.request (known b) (known k)) _ _ (λ command h. (h.part, h.between, h.receipts)) x.1.did.steps
 
   early_at : (unknown : List Text) (ended : Result Outcome Fault) → ¬ Deviates ended → IsAnswered unknown b k ended n → IsEarly a.request n → reached_of (ending_of ended) ≡ turned_back
   early_at unknown ended none t early = told_as unknown b k ended n t (λ is. early_ends a.request ended none (subst (IsEarly a.request) is early))
@@ -122,7 +123,7 @@ module _ (a : Asked) (b k : Seen) (n : ℕ) where
   refused_back unknown ended none did t early =
       let is = early_at unknown ended none t early in
       record {
-        none = on_as (manner_of a.request a.data_folder b.tree.nodes b.links) _ _ (λ command h. none_at (reached_of (ending_of ended)) _ is h.turned) did.steps;
+        none = on_as (manner_of a a.request (known b) (known k)) _ _ (λ command h. none_at (reached_of (ending_of ended)) _ is h.turned) did.steps;
         nodes = subst (λ (m : ℕ). FolderStays a.request m (k.tree.nodes ≡ b.tree.nodes)) (sym (status_at unknown ended t early)) (none_at (reached_of (ending_of ended)) _ is did.spares.nodes);
         unmade = create_at a.request (reached_of (ending_of ended)) _ is did.spares.unmade;
       }
@@ -139,7 +140,7 @@ module _ (a : Asked) (b k : Seen) (n : ℕ) where
 
   told_back : (lines : String Global) → a.request ≡ examine → Did a b k (Ok (FindingsFound lines)) → TurnsBack a b k n
   told_back lines is did = record {
-    none = subst (λ (q : Request). On (manner_of q a.data_folder b.tree.nodes b.links) (λ command. Takes (plan_of q).settling a.stanza command to_end b.repo.view b.spool.view k.repo.view k.spool.view) → On (manner_of q a.data_folder b.tree.nodes b.links) NotTaken) (sym is) reading_turns did.steps;
+    none = subst (λ (q : Request). On (manner_of a q (known b) (known k)) (λ command. Takes (plan_of q).settling a.stanza command to_end b.repo.view b.spool.view k.repo.view k.spool.view) → On (manner_of a q (known b) (known k)) NotTaken) (sym is) reading_turns did.steps;
     nodes = subst (λ (q : Request). FolderStays q n (k.tree.nodes ≡ b.tree.nodes)) (sym is) (subst (λ (q : Request). FolderGoes a q (known b) k.tree.nodes) is did.spares.folder);
     unmade = subst (λ (q : Request). OnCreate q (k.repo.view.now ≡ b.repo.view.now)) (sym is) tt;
   }
@@ -152,7 +153,7 @@ module _ (a : Asked) (b k : Seen) (n : ℕ) where
 
   pub turns_back : IsEarly a.request n → Either a b k n → TurnsBack a b k n
   turns_back early (inl x) = record {
-    none = on_as (manner_of a.request a.data_folder b.tree.nodes b.links) _ _ (λ command h. none_at (reached_of (ending_of (Err x.1.1.0))) _ (early_at x.1.0 (Err x.1.1.0) (λ e. e) x.1.1.1 early) h.turned) (idle_takes a b k x.1.1.0 x.0);
+    none = on_as (manner_of a a.request (known b) (known k)) _ _ (λ command h. none_at (reached_of (ending_of (Err x.1.1.0))) _ (early_at x.1.0 (Err x.1.1.0) (λ e. e) x.1.1.1 early) h.turned) (idle_takes a b k x.1.1.0 x.0);
     nodes = any_stays a.request n _ (idle_nodes b k x.0);
     unmade = any_create a.request _ x.0.repo.now;
   }
@@ -160,16 +161,18 @@ module _ (a : Asked) (b k : Seen) (n : ℕ) where
 
   pub leaves_rest : Either a b k n → LeavesRest a b k
   leaves_rest (inl x) = record {
-    beside = still_beside a.stanza b.repo.view k.repo.view x.0.repo;
+    beside = λ told. still_beside a.stanza b.repo.view k.repo.view x.0.repo;
+    spool = λ told. still_beside a.stanza b.spool.view k.spool.view x.0.spool;
     pairs = any_create a.request _ (only_rests (IsOfPairs a.stanza) b.repo.view k.repo.view x.0.repo.time x.0.repo.now);
     reads = any_reader a.request _ x.0.repo;
     folder = folder_stays a a.request (known b) k.tree.nodes (idle_nodes b k x.0);
     quiet = λ none. x.0.server;
     others = any_other a.request _ x.0.server;
+    waits = any_unless (uses_turns a.request) _ x.0.others;
     workers = any_unless (uses_workers a.request) _ x.0.links;
     clock = any_unless (uses_clock a.request) _ x.0.clock;
   }
-  leaves_rest (inr x) = let s = x.1.did.spares in record { beside = s.beside; pairs = s.pairs; reads = s.reads; folder = s.folder; quiet = s.quiet; others = s.others; workers = s.workers; clock = s.clock }
+  leaves_rest (inr x) = let s = x.1.did.spares in record { beside = s.beside; spool = s.spool; pairs = s.pairs; reads = s.reads; folder = s.folder; quiet = s.quiet; others = s.others; waits = s.waits; workers = s.workers; clock = s.clock }
 
   pub opens_places : Either a b k n → OpensPlaces a b k
   opens_places (inl x) = record { folder = opens_none (plan_of a.request).folder a.data_folder b.tree.opened k.tree.opened (ap (λ (t : TreeState). t.opened) x.0.tree); repository = inl x.0.opened }

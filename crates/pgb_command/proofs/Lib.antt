@@ -8,6 +8,7 @@ mod Fronts
 mod Configured
 mod Names
 mod Wanted
+mod Served
 mod AskedOnce
 mod Words
 mod Readied

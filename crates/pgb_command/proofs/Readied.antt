@@ -1,5 +1,5 @@
 -- What the stages made ready, by the command.
-use Rattle.std.proofs.Common.{◌≡◌, ℕ, Option, Some, None, refl, subst}
+use Rattle.std.proofs.Common.{◌≡◌, ◌++◌, Bool, ℕ, List, Option, Some, None, refl, sym, ◌∙◌, subst}
 use Rattle.std.specs.Prelude.{IfSome, IsSomeAnd, OnOk, Result, Ok, Err, option_map}
 use Rattle.pgb_outside.specs.Content.{Content}
 use Rattle.pgb_outside.specs.Tree.{Nodes}
@@ -9,9 +9,10 @@ use Rattle.pgb_stage.specs.Cluster.{FolderTells}
 use Rattle.pgb_prepare.specs.declared.ready.Ready.{Ready}
 use Rattle.pgb_prepare.specs.Readies.{IsReady}
 use Rattle.pgb_create.specs.declared.server.Server as code
-use Rattle.pgb_create.specs.Server.{server_view}
-use Rattle.pgb_command.specs.Asked.{Request, create, backup}
-use Rattle.pgb_command.specs.Tables.{plan_of}
+use Rattle.pgb_create.specs.Server.{server_view, socket_path}
+use Rattle.pgb_online.specs.Telling.{starting, stopping}
+use Rattle.pgb_command.specs.Asked.{Request, create, backup, backup_running, RunningHow}
+use Rattle.pgb_command.specs.Tables.{plan_of, AsksBackup}
 
 there : {T : Type 0} (o : Option T) (x : T) (P : T → Type 0) → o ≡ Some x → IsSomeAnd o P → P x
 there o x P is h = subst (λ (y : Option _). IsSomeAnd y P) is h
@@ -26,11 +27,24 @@ module _ (q : Request) (stanza : Text) (repo : Option Content) (nodes : Option N
   pub backup_tells : (workers : ℕ) → q ≡ backup workers → (told : Control) → ready.control ≡ Some told → IfSome nodes (λ f. FolderTells f told)
   backup_tells workers is told some = there ready.control told _ some ((by (backup workers) is).control refl)
 
+  pub running_tells : (how : RunningHow) → q ≡ backup_running how → (told : Control) → ready.control ≡ Some told → IfSome nodes (λ f. FolderTells f told)
+  running_tells how is told some = there ready.control told _ some ((by (backup_running how) is).control refl)
+
 -- ---- the server
 
 pub no_server : (o : Option code.Server) → option_map server_view o ≡ None → o ≡ None
 no_server None is = refl
 no_server (Some s) is = cc is
+
+-- one that is there is asked
+pub asks_one : {P : Type 0} (o : Option code.Server) (s : code.Server) → o ≡ Some s → option_map server_view o ≡ None → P
+asks_one o s is none = let e : ◌≡◌ {A = Option code.Server} None (Some s) = sym (no_server o none) ∙ is in cc
+
+-- it was asked at its socket for a backup
+pub asks_backup : {T E : Type 0} (r : Result T E) (o : Option code.Server) (s : code.Server) (fast : Bool) (place socket : Text) (old new : Option (List ℕ)) → o ≡ Some s → socket ≡ socket_path (server_view s) → OnOk r (place ≡ socket) →
+    OnOk r (new ≡ option_map (λ said. said ++ starting s.user.now s.database.now fast ++ stopping) old) → OnOk r (AsksBackup (option_map server_view o) fast place old new)
+asks_backup (Ok x) o s fast place socket old new is at there said = subst (λ (v : Option code.Server). AsksBackup (option_map server_view v) fast place old new) (sym is) (there ∙ at, said)
+asks_backup (Err e) o s fast place socket old new is at there said = tt
 
 pub as_server : {T E : Type 0} (r : Result T E) (o : Option code.Server) (P : Type 0) → OnOk r (IfSome o (λ _. P)) → OnOk r (IfSome (option_map server_view o) (λ _. P))
 as_server (Ok x) None P h = h

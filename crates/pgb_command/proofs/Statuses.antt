@@ -15,14 +15,15 @@ use Rattle.pgb_create.proofs.Statuses.{create_over}
 use Rattle.pgb_push.proofs.Refusals.{push_within}
 use Rattle.pgb_get.proofs.Refusals.{get_within}
 use Rattle.pgb_take.proofs.Statuses.{take_within}
+use Rattle.pgb_take_online.proofs.Statuses.{online_take_over}
 use Rattle.pgb_recover.proofs.Statuses.{recover_over}
 use Rattle.pgb_examine.proofs.Statuses.{examine_is}
 use Rattle.pgb_command.specs.declared.fault.CommandFault.{CommandFault}
-use Rattle.pgb_command.specs.declared.fault.CommandFault.TheVariants.{Create, Push, Get, Take, Recover, Examine}
+use Rattle.pgb_command.specs.declared.fault.CommandFault.TheVariants.{Create, Push, Get, Take, TakeOnline, Recover, Examine}
 use Rattle.pgb_command.specs.declared.fault.Fault.{Fault}
 use Rattle.pgb_command.specs.declared.fault.Fault.TheVariants as fault
 use Rattle.pgb_command.specs.Answers.{status, status_of, usage_status, command_status, command_early, is_early, ending_of, reached_of}
-use Rattle.pgb_command.specs.Asked.{Request, create, push, get, backup, restore, report, examine}
+use Rattle.pgb_command.specs.Asked.{Request, create, push, get, backup, backup_running, restore, report, examine}
 use Rattle.pgb_command.specs.Causes.{IsRefusal, IsEarly}
 
 -- ---- a refusal has no status of a command that ended well
@@ -68,6 +69,7 @@ command_over (Create e) = create_over e
 command_over (Push e) = (push_within e).0
 command_over (Get e) = (get_within e).0
 command_over (Take e) = (take_within e).0
+command_over (TakeOnline e) = online_take_over e
 command_over (Recover e) = recover_over e
 command_over (Examine e) = omega (arith, examine_is e)
 
@@ -95,6 +97,7 @@ any_early create n h = h
 any_early (push path) n h = inl h
 any_early (get name path) n h = inl h
 any_early (backup workers) n h = inl h
+any_early (backup_running how) n h = h
 any_early (restore set how) n h = inl h
 any_early (report form) n h = inl h
 any_early examine n h = inl h
@@ -120,6 +123,7 @@ early_command (Create e) = refl
 early_command (Push e) = refl
 early_command (Get e) = refl
 early_command (Take e) = refl
+early_command (TakeOnline e) = refl
 early_command (Recover e) = refl
 early_command (Examine e) = refl
 

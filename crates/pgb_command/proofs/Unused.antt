@@ -1,5 +1,5 @@
 -- What a command doesn't use.
-use Rattle.std.proofs.Common.{◌≡◌, List, Option, Some, None, Result, Ok, Err, IfErr, refl, subst}
+use Rattle.std.proofs.Common.{◌≡◌, false, List, Option, Some, None, Result, Ok, Err, IfErr, refl, subst}
 use Rattle.std.specs.Prelude.{IsSome}
 use Rattle.pgb_outside.specs.Content.{Content}
 use Rattle.pgb_model.specs.Text.{Text}
@@ -9,6 +9,7 @@ use Rattle.pgb_options.specs.Commands.{IsCommand}
 use Rattle.pgb_options.specs.Settings.{Settled}
 use Rattle.pgb_stage.specs.declared.fault.Unbuilt.{Unbuilt}
 use Rattle.pgb_command.specs.Asked.{Request, Asked, WordsSettle, IsAsked, MayAsk, Asks, path_in, requested, server_asked}
+use Rattle.pgb_command.specs.Tables.{uses_turns}
 use Rattle.pgb_command.proofs.AskedOnce.{ok_same, one_settling}
 
 -- what settled words ask for
@@ -36,6 +37,14 @@ module _ (words : List Text) (files : Option Content) (c : Command) (x : (s : Se
     where
       go : (r : Result Request Unbuilt) → requested x.0 ≡ r → IfErr r (λ what. P) → P
       go (Ok request) is h = quiet x.0 x.2 (none (asked_in x.0 request) (asks request is))
+      go (Err what) is h = h
+
+  -- no turns of others are waited for
+  pub no_turns_waited : (P : Type 0) → ((s : Settled) → IsCommand c s → (request : Request) → requested s ≡ Ok request → uses_turns request ≡ false → P) → ((s : Settled) → IsCommand c s → IfErr (requested s) (λ what. P)) → ((a : Asked) → MayAsk words files a → uses_turns a.request ≡ false) → P
+  no_turns_waited P waits unbuilt none = go (requested x.0) refl (unbuilt x.0 x.2)
+    where
+      go : (r : Result Request Unbuilt) → requested x.0 ≡ r → IfErr r (λ what. P) → P
+      go (Ok request) is h = waits x.0 x.2 request is (none (asked_in x.0 request) (asks request is))
       go (Err what) is h = h
 
   -- what the command is asked for is what its settings ask for

@@ -24,6 +24,8 @@ wanted_is o s is =
     let config = is.config in
     let label = is.set in
     let workers = is.process_max in
+    let fast = is.start_fast in
+    let turns = is.archive_timeout in
     cc
 
 -- what the command asks for is what its settings ask for

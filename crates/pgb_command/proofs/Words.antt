@@ -23,26 +23,27 @@ use Rattle.pgb_command.specs.declared.fault.Fault.{Fault}
 use Rattle.pgb_stage.specs.declared.outcome.Outcome.{Outcome}
 use Rattle.pgb_push.specs.WalPath.{IsWalPath}
 use Rattle.pgb_command.specs.declared.order.Order.{Order}
+use Rattle.pgb_command.specs.declared.order.RunningOrder.{RunningOrder}
 use Rattle.pgb_command.specs.declared.order.Order.TheVariants as orders
-use Rattle.pgb_command.specs.Told.{how_of, IsOrder}
-use Rattle.pgb_command.specs.Asked.{Request, create, push, get, backup, restore, report, examine, RestoreHow, Asked}
+use Rattle.pgb_command.specs.Told.{how_of, running_of, IsOrder}
+use Rattle.pgb_command.specs.Asked.{Request, create, push, get, backup, backup_running, restore, report, examine, RestoreHow, Asked}
 use Rattle.pgb_command.specs.Faults.{of_push, of_get, of_recover}
 use Rattle.pgb_command.specs.Tables.{WordsFit, CommandCause}
 use Rattle.pgb_command.specs.Did.{IsIdle, WordsCause, ComesBehind}
 
 module _ (a : Asked) where
   push_words : (path : Text) → a.request ≡ push path → (h : Halt PushFault) → HaltCause (WordCause a.data_folder path) (λ (object : Object). ⊥) h → WordsCause a (of_push h)
-  push_words path is (Refused e) h = λ old. subst (λ (q : Request). CommandCause a q old (Push e)) (sym is) (push_word a.stanza a.data_folder path old.repo old.nodes e h)
+  push_words path is (Refused e) h = λ old new. subst (λ (q : Request). CommandCause a q old new (Push e)) (sym is) (push_word a.stanza a.data_folder path old.repo old.nodes e h)
   push_words path is (HaltFailed object) h = absurd h
   push_words path is HaltMemory h = tt
 
   get_words : (name path : Text) → a.request ≡ get name path → (h : Halt GetFault) → HaltCause (GetWords a.data_folder name path) (λ (object : Object). ⊥) h → WordsCause a (of_get h)
-  get_words name path is (Refused e) h = λ old. subst (λ (q : Request). CommandCause a q old (Get e)) (sym is) (read_words a.stanza a.data_folder name path old.repo old.nodes e h)
+  get_words name path is (Refused e) h = λ old new. subst (λ (q : Request). CommandCause a q old new (Get e)) (sym is) (read_words a.stanza a.data_folder name path old.repo old.nodes e h)
   get_words name path is (HaltFailed object) h = absurd h
   get_words name path is HaltMemory h = tt
 
   set_words : (set : Option Text) (how : RestoreHow) → a.request ≡ restore set how → (h : Halt RecoverFault) → HaltCause (SetCause set) (λ (object : Object). ⊥) h → WordsCause a (of_recover h)
-  set_words set how is (Refused e) h = λ old. subst (λ (q : Request). CommandCause a q old (Recover e)) (sym is) (inl h)
+  set_words set how is (Refused e) h = λ old new. subst (λ (q : Request). CommandCause a q old new (Recover e)) (sym is) (inl h)
   set_words set how is (HaltFailed object) h = absurd h
   set_words set how is HaltMemory h = tt
 
@@ -66,6 +67,7 @@ words_fit a create orders.StanzaCreate is = tt
 words_fit a create (orders.ArchivePush o) is = absurd is
 words_fit a create (orders.ArchiveGet o) is = absurd is
 words_fit a create (orders.Backup o) is = absurd is
+words_fit a create (orders.BackupRunning o) is = absurd is
 words_fit a create (orders.Restore o) is = absurd is
 words_fit a create (orders.Info asked) is = absurd is
 words_fit a create orders.Verify is = absurd is
@@ -73,6 +75,7 @@ words_fit a (push path) orders.StanzaCreate is = absurd is
 words_fit a (push path) (orders.ArchivePush o) is = (o.name, subst (λ (f : Text). IsWalPath f path o.name) is.0 (subst (λ (p : Text). IsWalPath o.folder.now p o.name) is.1 o.named))
 words_fit a (push path) (orders.ArchiveGet o) is = absurd is
 words_fit a (push path) (orders.Backup o) is = absurd is
+words_fit a (push path) (orders.BackupRunning o) is = absurd is
 words_fit a (push path) (orders.Restore o) is = absurd is
 words_fit a (push path) (orders.Info asked) is = absurd is
 words_fit a (push path) orders.Verify is = absurd is
@@ -80,20 +83,31 @@ words_fit a (get word path) orders.StanzaCreate is = absurd is
 words_fit a (get word path) (orders.ArchivePush o) is = absurd is
 words_fit a (get word path) (orders.ArchiveGet o) is = (o.name, subst (λ (f : Text). AreWords f word path o.name) is.0 (subst (λ (w : Text). AreWords o.folder.now w path o.name) is.1 (subst (λ (p : Text). AreWords o.folder.now o.word.now p o.name) is.2 o.wanted)))
 words_fit a (get word path) (orders.Backup o) is = absurd is
+words_fit a (get word path) (orders.BackupRunning o) is = absurd is
 words_fit a (get word path) (orders.Restore o) is = absurd is
 words_fit a (get word path) (orders.Info asked) is = absurd is
 words_fit a (get word path) orders.Verify is = absurd is
 words_fit a (backup workers) orders.StanzaCreate is = absurd is
+words_fit a (backup_running how) orders.StanzaCreate is = absurd is
 words_fit a (backup workers) (orders.ArchivePush o) is = absurd is
+words_fit a (backup_running how) (orders.ArchivePush o) is = absurd is
 words_fit a (backup workers) (orders.ArchiveGet o) is = absurd is
+words_fit a (backup_running how) (orders.ArchiveGet o) is = absurd is
 words_fit a (backup workers) (orders.Backup o) is = tt
+words_fit a (backup workers) (orders.BackupRunning o) is = absurd is
+words_fit a (backup_running how) (orders.Backup o) is = absurd is
+words_fit a (backup_running how) (orders.BackupRunning o) is = tt
 words_fit a (backup workers) (orders.Restore o) is = absurd is
+words_fit a (backup_running how) (orders.Restore o) is = absurd is
 words_fit a (backup workers) (orders.Info asked) is = absurd is
+words_fit a (backup_running how) (orders.Info asked) is = absurd is
 words_fit a (backup workers) orders.Verify is = absurd is
+words_fit a (backup_running how) orders.Verify is = absurd is
 words_fit a (restore set how) orders.StanzaCreate is = absurd is
 words_fit a (restore set how) (orders.ArchivePush o) is = absurd is
 words_fit a (restore set how) (orders.ArchiveGet o) is = absurd is
 words_fit a (restore set how) (orders.Backup o) is = absurd is
+words_fit a (restore set how) (orders.BackupRunning o) is = absurd is
 words_fit a (restore set how) (orders.Restore o) is = (o.set, is.2)
 words_fit a (restore set how) (orders.Info asked) is = absurd is
 words_fit a (restore set how) orders.Verify is = absurd is
@@ -101,6 +115,7 @@ words_fit a (report form) orders.StanzaCreate is = absurd is
 words_fit a (report form) (orders.ArchivePush o) is = absurd is
 words_fit a (report form) (orders.ArchiveGet o) is = absurd is
 words_fit a (report form) (orders.Backup o) is = absurd is
+words_fit a (report form) (orders.BackupRunning o) is = absurd is
 words_fit a (report form) (orders.Restore o) is = absurd is
 words_fit a (report form) (orders.Info asked) is = tt
 words_fit a (report form) orders.Verify is = absurd is
@@ -108,6 +123,7 @@ words_fit a examine orders.StanzaCreate is = absurd is
 words_fit a examine (orders.ArchivePush o) is = absurd is
 words_fit a examine (orders.ArchiveGet o) is = absurd is
 words_fit a examine (orders.Backup o) is = absurd is
+words_fit a examine (orders.BackupRunning o) is = absurd is
 words_fit a examine (orders.Restore o) is = absurd is
 words_fit a examine (orders.Info asked) is = absurd is
 words_fit a examine orders.Verify is = tt
@@ -118,9 +134,21 @@ restore_asked create folder o is = absurd is
 restore_asked (push path) folder o is = absurd is
 restore_asked (get word path) folder o is = absurd is
 restore_asked (backup workers) folder o is = absurd is
+restore_asked (backup_running how) folder o is = absurd is
 restore_asked (restore set how) folder o is = (set, ap (restore set) (sym is.1), is.2)
 restore_asked (report form) folder o is = absurd is
 restore_asked examine folder o is = absurd is
+
+-- so is that of a running server's backup
+pub running_asked : (q : Request) (folder : Text) (o : RunningOrder) → IsOrder q folder (orders.BackupRunning o) → q ≡ backup_running (running_of o)
+running_asked create folder o is = absurd is
+running_asked (push path) folder o is = absurd is
+running_asked (get word path) folder o is = absurd is
+running_asked (backup workers) folder o is = absurd is
+running_asked (backup_running how) folder o is = ap backup_running (sym is.1)
+running_asked (restore set how) folder o is = absurd is
+running_asked (report form) folder o is = absurd is
+running_asked examine folder o is = absurd is
 
 pub behind_words : (a : Asked) (b k : Seen) (o : Order) → IsOrder a.request a.data_folder o → (result : Result Outcome Fault) → ComesBehind a b k result
 behind_words a b k o is (Ok x) = tt
@@ -128,7 +156,7 @@ behind_words a b k o is (Err e) = inr (words_fit a a.request o is)
 
 -- nothing was done but to write the output
 pub is_idle : (b : Seen) (o : SinkState) → IsIdle b (record b { out = o })
-is_idle b o = record { repo = still_self b.repo.view; opened = refl; spool = still_self b.spool.view; tree = refl; server = refl; clock = refl; locks = refl; links = refl }
+is_idle b o = record { repo = still_self b.repo.view; opened = refl; spool = still_self b.spool.view; tree = refl; server = refl; others = refl; clock = refl; locks = refl; links = refl }
 
 pub is_behind : (a : Asked) (b : Seen) (result : Result Outcome Fault) (e : Fault) → IsErrAnd result (λ f. f ≡ e) → WordsCause a e → ComesBehind a b b result
 is_behind a b (Ok x) e is h = tt

@@ -18,12 +18,14 @@ use Rattle.pgb_get.specs.Texts.{get_status, get_message}
 use Rattle.pgb_get.specs.Getting.{get_early}
 use Rattle.pgb_take.specs.Faults.{take_early}
 use Rattle.pgb_take.specs.Texts.{take_status, take_message}
+use Rattle.pgb_take_online.specs.Faults.{online_early}
+use Rattle.pgb_take_online.specs.Texts.{online_take_status, online_take_message}
 use Rattle.pgb_recover.specs.Ends.{recover_early}
 use Rattle.pgb_recover.specs.Texts.{recover_status, recover_message}
 use Rattle.pgb_examine.specs.Examining.{examine_early}
 use Rattle.pgb_examine.specs.Texts.{examine_status, examine_message}
 use Rattle.pgb_command.specs.declared.fault.CommandFault.{CommandFault}
-use Rattle.pgb_command.specs.declared.fault.CommandFault.TheVariants.{Create, Push, Get, Take, Recover, Examine}
+use Rattle.pgb_command.specs.declared.fault.CommandFault.TheVariants.{Create, Push, Get, Take, TakeOnline, Recover, Examine}
 use Rattle.pgb_command.specs.declared.fault.Fault.{Fault}
 use Rattle.pgb_command.specs.declared.fault.Fault.TheVariants.{Usage as OfUsage, Stage, Command, Failed, NoMemory}
 
@@ -49,6 +51,7 @@ command_status (Create fault) = create_status fault
 command_status (Push fault) = push_status fault
 command_status (Get fault) = get_status fault
 command_status (Take fault) = take_status fault
+command_status (TakeOnline fault) = online_take_status fault
 command_status (Recover fault) = recover_status fault
 command_status (Examine fault) = examine_status fault
 
@@ -67,6 +70,7 @@ command_early (Create fault) = create_early fault
 command_early (Push fault) = push_early fault
 command_early (Get fault) = get_early fault
 command_early (Take fault) = take_early fault
+command_early (TakeOnline fault) = online_early fault
 command_early (Recover fault) = recover_early fault
 command_early (Examine fault) = examine_early fault
 
@@ -135,6 +139,7 @@ command_message (Create fault) = create_message fault
 command_message (Push fault) = push_message fault
 command_message (Get fault) = get_message fault
 command_message (Take fault) = take_message fault
+command_message (TakeOnline fault) = online_take_message fault
 command_message (Recover fault) = recover_message fault
 command_message (Examine fault) = examine_message fault
 

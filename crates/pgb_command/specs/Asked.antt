@@ -8,18 +8,18 @@ use Rattle.pgb_options.specs.declared.options.KindWord.TheVariants.{Full, Diff, 
 use Rattle.pgb_options.specs.declared.options.RestoreWord.{RestoreWord}
 use Rattle.pgb_options.specs.declared.options.RestoreWord.TheVariants.{Default, Plain}
 use Rattle.pgb_options.specs.declared.options.OutputWord.{OutputWord}
-use Rattle.pgb_table.specs.declared.table.Opt.TheVariants.{Pg1Path, Pg1SocketPath, Pg1Port, Pg1User, Pg1Database, Repo1Path, LockPath, Online, ArchiveAsync, Output, BackupType, Delta, Repo1Bundle, ExpireAuto, ProcessMax, RestoreType, Config, Set}
+use Rattle.pgb_table.specs.declared.table.Opt.TheVariants.{Pg1Path, Pg1SocketPath, Pg1Port, Pg1User, Pg1Database, Repo1Path, LockPath, Online, ArchiveAsync, Output, BackupType, Delta, Repo1Bundle, ExpireAuto, ProcessMax, StartFast, ArchiveTimeout, RestoreType, Config, Set}
 use Rattle.pgb_table.specs.declared.table.Verb.{Verb}
 use Rattle.pgb_table.specs.declared.table.Verb.TheVariants.{StanzaCreate, ArchivePush, ArchiveGet, Backup, Restore, Info, Verify}
 use Rattle.pgb_options.specs.Faults.{Fault}
-use Rattle.pgb_options.specs.Filled.{text_in, number_in, flag_in, or_else, kind_word, restore_word, output_word, word_in}
+use Rattle.pgb_options.specs.Filled.{text_in, number_in, amount_in, flag_in, or_else, kind_word, restore_word, output_word, word_in}
 use Rattle.pgb_options.specs.Paths.{Path, nowhere, usual, named, path_of_words}
 use Rattle.pgb_options.specs.Settings.{Source, Settled, value, settled_words}
 use Rattle.pgb_create.specs.Server.{Server}
 use Rattle.pgb_recover.specs.Fetching.{RecoveryType}
 use Rattle.pgb_recover.specs.Fetching.RecoveryType.{Default as ToTheEnd, Without}
 use Rattle.pgb_stage.specs.declared.fault.Unbuilt.{Unbuilt}
-use Rattle.pgb_stage.specs.declared.fault.Unbuilt.TheVariants.{Command, Background, Online as RunningServer, Kind, Delta as Digests, Bundles, Expiry}
+use Rattle.pgb_stage.specs.declared.fault.Unbuilt.TheVariants.{Command, Background, Kind, Delta as Digests, Bundles, Expiry}
 
 -- ---- the configuration
 
@@ -44,18 +44,25 @@ pub record WordsSettle (words : List Text) (files : Option Content) (read : Resu
 
 -- ---- what is asked
 
+-- how a running server is backed up: with how many workers, whether it makes its checkpoint at once (option `start-fast`), and how many turns of others are waited for at most (option `archive-timeout`)
+pub record RunningHow : Type 0 where
+  pub workers : ℕ
+  pub fast : Bool
+  pub turns : ℕ
+
 -- how a backup is restored: with how many workers, whether equal files stay, and how the server is to recover
 pub record RestoreHow : Type 0 where
   pub workers : ℕ
   pub delta : Bool
   pub recovery : RecoveryType
 
--- which command, the file that archive-push is to store, the file that archive-get is to serve and where, how many workers a backup may use, the label of the backup to restore and how, and the form of info's report; verify has nothing more to be told
+-- which command, the file that archive-push is to store, the file that archive-get is to serve and where, how many workers a backup of a stopped server may use, how a running one is backed up, the label of the backup to restore and how, and the form of info's report; verify has nothing more to be told
 pub data Request : Type 0 where
   create : Request
   push : (path : Text) → Request
   get : (name path : Text) → Request
   backup : (workers : ℕ) → Request
+  backup_running : (how : RunningHow) → Request
   restore : (set : Option Text) (how : RestoreHow) → Request
   report : (form : OutputWord) → Request
   examine : Request
@@ -81,16 +88,21 @@ pub record Wanted : Type 0 where
   pub config : Option Text
   pub set : Option Text
   pub workers : ℕ
+  pub fast : Bool
+  pub turns : ℕ
 
 abbrev pub is_full : KindWord → Bool
 is_full Full = true
 is_full Diff = false
 is_full Incr = false
 
--- a full backup of a stopped server, with nothing more; or what of it isn't built
+-- of a running server or of a stopped one
+abbrev pub full_by : Wanted → Request
+full_by m = if m.online then backup_running (record { workers = m.workers; fast = m.fast; turns = m.turns }) else backup m.workers
+
+-- a full backup with nothing more; or what of it isn't built
 abbrev pub backup_by : Wanted → Result Request Unbuilt
-backup_by m = if m.online then Err RunningServer
-    else if is_full m.kind then (if m.delta then Err Digests else if m.bundles then Err Bundles else if m.expires then Err Expiry else Ok (backup m.workers))
+backup_by m = if is_full m.kind then (if m.delta then Err Digests else if m.bundles then Err Bundles else if m.expires then Err Expiry else Ok (full_by m))
     else Err Kind
 
 -- a recovery fetches the log by the configuration that the words name, if they name one
@@ -131,6 +143,8 @@ wanted_in s = record {
   config = text_in (value s Config);
   set = text_in (value s Set);
   workers = or_else 0 (number_in (value s ProcessMax));
+  fast = is_on s StartFast;
+  turns = or_else 0 (amount_in (value s ArchiveTimeout));
 }
 
 abbrev pub requested : Settled → Result Request Unbuilt
@@ -140,9 +154,10 @@ requested s = request_by s.source.verb (wanted_in s.source) s.parameters
 abbrev pub server_in : Source → Server
 server_in source = record { folder = path_in source Pg1SocketPath; port = or_else 0 (number_in (value source Pg1Port)); user = path_in source Pg1User; database = path_in source Pg1Database }
 
--- stanza-create asks it, where it is online
+-- stanza-create and backup ask it, where they are online
 abbrev pub server_by : Verb → Bool → Server → Option Server
 server_by StanzaCreate online server = if online then Some server else None
+server_by Backup online server = if online then Some server else None
 server_by verb online server = None
 
 abbrev pub server_asked : Settled → Option Server

@@ -17,11 +17,11 @@ use Rattle.pgb_command.specs.declared.fault.Fault.{Fault}
 use Rattle.pgb_command.specs.declared.fault.Fault.TheVariants.{Stage, NoMemory}
 use Rattle.pgb_create.specs.Talking.{Ended, IsServerRefusal}
 use Rattle.pgb_command.specs.Answers.{Ending, status, ending_of, answer_of, lines_of}
-use Rattle.pgb_command.specs.Asked.{Request, create, Asked, MayAsk, Asks, WordsSettle, IsAsked, requested}
+use Rattle.pgb_command.specs.Asked.{Request, create, backup_running, Asked, MayAsk, Asks, WordsSettle, IsAsked, requested}
 use Rattle.pgb_command.specs.Configuring.{ConfigCause}
 use Rattle.pgb_command.specs.Did.{IsIdle, Did, ComesBehind, Brackets, Cause, OnReady, LastsAfter, HealsPairs, ArePlacesOpened, TakesAll}
 use Rattle.pgb_command.specs.Output.{IsTold}
-use Rattle.pgb_command.specs.Tables.{known, plan_of, manner_of, Promise, OnReader, OnCreate, OnOther, FolderGoes, FolderStays, Unless, uses_workers, uses_clock}
+use Rattle.pgb_command.specs.Tables.{known, plan_of, manner_of, Promise, OnReader, OnCreate, OnOther, FolderGoes, FolderStays, Unless, TurnsTold, uses_workers, uses_clock, uses_turns}
 
 -- ---- how it is told
 
@@ -60,19 +60,19 @@ Answers words before after result = Refuses words before after result
 
 -- all of its steps are done, in what the disks hold and in all that a stop leaves
 abbrev pub AllDone : Asked → Seen → Seen → Type 0
-AllDone a before after = On (manner_of a.request a.data_folder before.tree.nodes before.links) (λ command. Leads a.stanza command true before.repo.view before.spool.view after.repo.view after.spool.view)
+AllDone a before after = On (manner_of a a.request (known before) (known after)) (λ command. Leads a.stanza command true before.repo.view before.spool.view after.repo.view after.spool.view)
 
 -- and where the command settles the whole stanza, all that a stop leaves stands for one repository, with all of them
 abbrev pub AllAtOne : Asked → Seen → Seen → Type 0
-AllAtOne a before after = On (manner_of a.request a.data_folder before.tree.nodes before.links) (λ command. OnWhole (plan_of a.request).settling (EndsAtOne a.stanza command before.repo.view after.repo.view))
+AllAtOne a before after = On (manner_of a a.request (known before) (known after)) (λ command. OnWhole (plan_of a.request).settling (EndsAtOne a.stanza command before.repo.view after.repo.view))
 
 -- a part of them is, at its end and at each moment
 abbrev pub PartDone : Asked → Seen → Seen → Type 0
-PartDone a before after = On (manner_of a.request a.data_folder before.tree.nodes before.links) (λ command. Leads a.stanza command false before.repo.view before.spool.view after.repo.view after.spool.view × Passes a.stanza command before.repo.view after.repo.view × PassesReceipts a.stanza command before.repo.view before.spool.view after.spool.view)
+PartDone a before after = On (manner_of a a.request (known before) (known after)) (λ command. Leads a.stanza command false before.repo.view before.spool.view after.repo.view after.spool.view × Passes a.stanza command before.repo.view after.repo.view × PassesReceipts a.stanza command before.repo.view before.spool.view after.spool.view)
 
 -- none is but the pushes of its turns
 abbrev pub NoneDone : Asked → Seen → Seen → Type 0
-NoneDone a before after = On (manner_of a.request a.data_folder before.tree.nodes before.links) (λ command. Leads a.stanza (turns_of command) false before.repo.view before.spool.view after.repo.view after.spool.view)
+NoneDone a before after = On (manner_of a a.request (known before) (known after)) (λ command. Leads a.stanza (turns_of command) false before.repo.view before.spool.view after.repo.view after.spool.view)
 
 -- at 0: all is done, all that a stop leaves stands for one repository where the whole stanza was settled, the pairs that the command heals agree and no stop takes a member of them away, its places were opened and its locks taken
 pub record Finishes (a : Asked) (before after : Seen) : Type 0 where
@@ -99,25 +99,28 @@ pub record Fulfils (a : Asked) (before after : Seen) (result : ℕ) : Type 0 whe
 abbrev pub IsRefusal : ℕ → Type 0
 IsRefusal status = ((1 ≤ status) × (status ≤ 72)) ⊎ ((100 ≤ status) × (status ≤ 101))
 
--- the statuses of a command that ends before its own first step: it was refused for what was found, or, of stanza-create, the connection to the server failed
+-- the statuses of a command that ends before its own first step: it was refused for what was found, or, of a command that asks a server, the connection to it failed
 abbrev pub IsEarly : Request → ℕ → Type 0
 IsEarly create status = IsRefusal status ⊎ (status ≡ 83)
+IsEarly (backup_running how) status = IsRefusal status ⊎ (status ≡ 83)
 IsEarly request status = IsRefusal status
 
--- then it has taken no step, has changed no file of the data folder, unless it is a restore that has started workers, and stanza-create none of the repository
+-- then it has taken no step but those of the turns that it waited, has changed no file of the data folder, unless it is a restore that has started workers, and stanza-create none of the repository
 pub record TurnsBack (a : Asked) (before after : Seen) (result : ℕ) : Type 0 where
   pub none : NoneDone a before after
   pub nodes : FolderStays a.request result (after.tree.nodes ≡ before.tree.nodes)
   pub unmade : OnCreate a.request (after.repo.view.now ≡ before.repo.view.now)
 
--- after every answer: the command has kept to its stanza, stanza-create to the members of its two pairs, a reader has changed nothing in the repository, only archive-get the data folder, the server only who asks it, and the workers and the clock only who uses them
+-- after every answer: the command has kept to its stanza, where what others did meanwhile is told, stanza-create to the members of its two pairs, a reader has changed nothing in the repository, only archive-get the data folder, the server only who asks it, other processes only who waits for turns of theirs, and the workers and the clock only who uses them
 pub record LeavesRest (a : Asked) (before after : Seen) : Type 0 where
-  pub beside : StaysBeside a.stanza before.repo.view after.repo.view
+  pub beside : TurnsTold a a.request (known after) → StaysBeside a.stanza before.repo.view after.repo.view
+  pub spool : TurnsTold a a.request (known after) → StaysBeside a.stanza before.spool.view after.spool.view
   pub pairs : OnCreate a.request (ChangesOnly (IsOfPairs a.stanza) before.repo.view after.repo.view)
   pub reads : OnReader a.request (IsStill before.repo.view after.repo.view)
   pub folder : FolderGoes a a.request (known before) after.tree.nodes
   pub quiet : a.server ≡ None → after.server ≡ before.server
   pub others : OnOther a.request (after.server ≡ before.server)
+  pub waits : Unless (uses_turns a.request) (after.others ≡ before.others)
   pub workers : Unless (uses_workers a.request) (after.links ≡ before.links)
   pub clock : Unless (uses_clock a.request) (after.clock ≡ before.clock)
 

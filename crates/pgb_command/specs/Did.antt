@@ -17,24 +17,33 @@ use Rattle.pgb_stage.specs.Runs.{Runs, Takes, On, OnNone, IsLookedAt}
 use Rattle.pgb_stage.specs.Seen.{Seen, Failed, AreLater}
 use Rattle.pgb_prepare.specs.Stages.{StageCause}
 use Rattle.pgb_prepare.specs.Taking.{MayTake}
-use Rattle.pgb_create.specs.Talking.{Closes as CreateCloses}
-use Rattle.pgb_command.specs.declared.fault.CommandFault.TheVariants.{Create, Take, Examine}
+use Rattle.pgb_create.specs.Talking.{Ended, Closes as CreateCloses}
+use Rattle.pgb_take_online.specs.declared.fault.OnlineTakeFault.{OnlineTakeFault}
+use Rattle.pgb_take_online.specs.declared.fault.OnlineTakeFault.TheVariants.{Take as TakeFault}
+use Rattle.pgb_command.specs.declared.fault.CommandFault.TheVariants.{Create, Take, TakeOnline, Examine}
 use Rattle.pgb_command.specs.declared.fault.Fault.{Fault}
 use Rattle.pgb_command.specs.declared.fault.Fault.TheVariants.{Usage, Stage, Command, Failed as ObjectFailed, NoMemory}
 use Rattle.pgb_command.specs.Answers.{status, reached_of, ending_of}
 use Rattle.pgb_command.specs.Asked.{Asked}
-use Rattle.pgb_command.specs.Tables.{Known, known, plan_of, manner_of, WordsFit, CommandCause, Promise, Lasts, OnReader, OnCreate, OnOther, FolderGoes, FolderStays, Unless, uses_workers, uses_clock}
+use Rattle.pgb_command.specs.Tables.{Known, known, plan_of, manner_of, WordsFit, CommandCause, Promise, Lasts, OnReader, OnCreate, OnOther, FolderGoes, FolderStays, Unless, TurnsTold, uses_workers, uses_clock, uses_turns}
 
 -- ---- what stays
 
--- a talk that the server's answer ended was ended with the last message too, unless the connection failed
+-- a running server's backup is refused as a stopped one's is
+abbrev pub IsTaken : OnlineTakeFault → Type 0
+IsTaken (TakeFault fault) = Unit {0}
+IsTaken other = ⊥
+
+-- a talk that was ended by the server's answer, or by another refusal of a running server's backup, was ended with the last message too, unless the connection failed
 abbrev pub Closes : Seen → Seen → Fault → Type 0
 Closes before after (Command (Create fault)) = CreateCloses (Failed before after Server) after.server.sent (Refused fault)
+Closes before after (Command (TakeOnline fault)) = (IsTaken fault × (after.server ≡ before.server)) ⊎ (Ended after.server.sent ⊎ Failed before after Server)
 Closes before after other = Unit {0}
 
--- What a command leaves as it was: of the repository all where it only reads, of the data folder all but a file that is served, the server where it asks none, and the workers and the clock where it doesn't use them. Refused before its first step it has changed no file of the data folder, unless it is a restore that has started workers, and stanza-create none of the repository. Whatever it is, it keeps to its stanza, and stanza-create to the members of its two pairs.
+-- What a command leaves as it was: of the repository all where it only reads, of the data folder all but a file that is served, the server where it asks none, other processes where it waits for none of their turns, and the workers and the clock where it doesn't use them. Refused before its first step it has changed no file of the data folder, unless it is a restore that has started workers, and stanza-create none of the repository. Whatever it is, it keeps to its stanza, where what others did meanwhile is told, and stanza-create to the members of its two pairs.
 pub record Spares (a : Asked) (before after : Seen) (result : Result Outcome Fault) : Type 0 where
-  pub beside : StaysBeside a.stanza before.repo.view after.repo.view
+  pub beside : TurnsTold a a.request (known after) → StaysBeside a.stanza before.repo.view after.repo.view
+  pub spool : TurnsTold a a.request (known after) → StaysBeside a.stanza before.spool.view after.spool.view
   pub pairs : OnCreate a.request (ChangesOnly (IsOfPairs a.stanza) before.repo.view after.repo.view)
   pub reads : OnReader a.request (IsStill before.repo.view after.repo.view)
   pub folder : FolderGoes a a.request (known before) after.tree.nodes
@@ -42,6 +51,7 @@ pub record Spares (a : Asked) (before after : Seen) (result : Result Outcome Fau
   pub unmade : OnCreate a.request (OnNone (reached_of (ending_of result)) (after.repo.view.now ≡ before.repo.view.now))
   pub quiet : a.server ≡ None → after.server ≡ before.server
   pub others : OnOther a.request (after.server ≡ before.server)
+  pub waits : Unless (uses_turns a.request) (after.others ≡ before.others)
   pub workers : Unless (uses_workers a.request) (after.links ≡ before.links)
   pub clock : Unless (uses_clock a.request) (after.clock ≡ before.clock)
   pub closed : IfErr result (Closes before after)
@@ -53,6 +63,7 @@ pub record IsIdle (before after : Seen) : Type 0 where
   pub spool : IsStill before.spool.view after.spool.view
   pub tree : after.tree ≡ before.tree
   pub server : after.server ≡ before.server
+  pub others : after.others ≡ before.others
   pub clock : after.clock ≡ before.clock
   pub locks : after.locks ≡ before.locks
   pub links : after.links ≡ before.links
@@ -68,7 +79,7 @@ pub record SamePlaces (before after : Seen) : Type 0 where
 abbrev pub OwnCause : Asked → Seen → Seen → Fault → Type 0
 OwnCause a before after (Usage usage) = ⊥
 OwnCause a before after (Stage fault) = ⊥
-OwnCause a before after (Command fault) = CommandCause a a.request (known before) fault
+OwnCause a before after (Command fault) = CommandCause a a.request (known before) (known after) fault
 OwnCause a before after (ObjectFailed object) = Failed before after object
 OwnCause a before after NoMemory = Unit {0}
 
@@ -78,7 +89,7 @@ pub record StaysHealed (a : Asked) (before after : Seen) : Type 0 where
   pub lasts : IsLookedAt a.stanza before.repo.view → HealsToLast (plan_of a.request).pairs a.stanza before.repo.view → HealsToLast (plan_of a.request).pairs a.stanza after.repo.view
 
 pub record Ran (a : Asked) (before after : Seen) (result : Result Outcome Fault) : Type 0 where
-  pub steps : On (manner_of a.request a.data_folder before.tree.nodes before.links) (λ command. Runs (plan_of a.request).settling a.stanza command (reached_of (ending_of result)) before.repo.view before.spool.view after.repo.view after.spool.view)
+  pub steps : On (manner_of a a.request (known before) (known after)) (λ command. Runs (plan_of a.request).settling a.stanza command (reached_of (ending_of result)) before.repo.view before.spool.view after.repo.view after.spool.view)
   pub promise : IfOk result (Promise a a.request (known before) (known after))
   pub lasts : IfOk result (λ outcome. IsLookedAt a.stanza before.repo.view → Lasts a a.request before.tree.nodes after.repo.view after.tree.nodes outcome)
   pub cause : IfErr result (OwnCause a before after)
@@ -91,8 +102,9 @@ pub record Ran (a : Asked) (before after : Seen) (result : Result Outcome Fault)
 abbrev pub WordsCause : Asked → Fault → Type 0
 WordsCause a (Command (Create fault)) = ⊥
 WordsCause a (Command (Take fault)) = ⊥
+WordsCause a (Command (TakeOnline fault)) = ⊥
 WordsCause a (Command (Examine fault)) = ⊥
-WordsCause a (Command fault) = (old : Known) → CommandCause a a.request old fault
+WordsCause a (Command fault) = (old new : Known) → CommandCause a a.request old new fault
 WordsCause a NoMemory = Unit {0}
 WordsCause a other = ⊥
 
@@ -110,7 +122,7 @@ OnReady a old P = (repo : Option Content) × Heals (plan_of a.request).pairs a.s
 abbrev pub Cause : Asked → Seen → Seen → Fault → Type 0
 Cause a before after (Usage usage) = ⊥
 Cause a before after (Stage fault) = StageCause (plan_of a.request) a.stanza before after fault
-Cause a before after (Command fault) = WordsCause a (Command fault) ⊎ OnReady a (known before) (λ old. CommandCause a a.request old fault)
+Cause a before after (Command fault) = WordsCause a (Command fault) ⊎ OnReady a (known before) (λ old. CommandCause a a.request old (known after) fault)
 Cause a before after (ObjectFailed object) = Failed before after object
 Cause a before after NoMemory = Unit {0}
 
@@ -152,7 +164,7 @@ pub record HealsPairs (a : Asked) (before after : Seen) : Type 0 where
   pub lasts : (q : Repository) (log : List Done) → IsSome before.repo.view.now → KeepsRepository a.stanza q log before.repo.view → HealsToLast (plan_of a.request).pairs a.stanza after.repo.view
 
 pub record Did (a : Asked) (before after : Seen) (result : Result Outcome Fault) : Type 0 where
-  pub steps : On (manner_of a.request a.data_folder before.tree.nodes before.links) (λ command. Takes (plan_of a.request).settling a.stanza command (reached_of (ending_of result)) before.repo.view before.spool.view after.repo.view after.spool.view)
+  pub steps : On (manner_of a a.request (known before) (known after)) (λ command. Takes (plan_of a.request).settling a.stanza command (reached_of (ending_of result)) before.repo.view before.spool.view after.repo.view after.spool.view)
   pub promise : IfOk result (λ outcome. OnReady a (known before) (λ old. Promise a a.request old (known after) outcome))
   pub lasts : IfOk result (LastsAfter a before after)
   pub cause : IfErr result (Cause a before after)

@@ -9,9 +9,10 @@ use Rattle.pgb_create.specs.declared.fault.CreateFault.{CreateFault}
 use Rattle.pgb_push.specs.declared.fault.PushFault.{PushFault}
 use Rattle.pgb_get.specs.declared.fault.GetFault.{GetFault}
 use Rattle.pgb_take.specs.declared.fault.TakeFault.{TakeFault}
+use Rattle.pgb_take_online.specs.declared.fault.OnlineTakeFault.{OnlineTakeFault}
 use Rattle.pgb_recover.specs.declared.fault.RecoverFault.{RecoverFault}
 use Rattle.pgb_examine.specs.declared.fault.ExamineFault.{ExamineFault}
-use Rattle.pgb_command.specs.declared.fault.CommandFault.TheVariants.{Create, Push, Get, Take, Recover, Examine}
+use Rattle.pgb_command.specs.declared.fault.CommandFault.TheVariants.{Create, Push, Get, Take, TakeOnline, Recover, Examine}
 use Rattle.pgb_command.specs.declared.fault.Fault.{Fault}
 use Rattle.pgb_command.specs.declared.fault.Fault.TheVariants.{Usage as OfUsage, Stage, Command, Failed, NoMemory}
 
@@ -35,6 +36,9 @@ of_get = of_halt (λ e. Command (Get e))
 
 abbrev pub of_take : Halt TakeFault → Fault
 of_take = of_halt (λ e. Command (Take e))
+
+abbrev pub of_take_online : Halt OnlineTakeFault → Fault
+of_take_online = of_halt (λ e. Command (TakeOnline e))
 
 abbrev pub of_recover : Halt RecoverFault → Fault
 of_recover = of_halt (λ e. Command (Recover e))

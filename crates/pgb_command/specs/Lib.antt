@@ -3,6 +3,7 @@ pub mod Faults
 pub mod Answers
 pub mod Configuring
 pub mod Output
+pub mod Serving
 pub mod Told
 pub mod Tables
 pub mod Did

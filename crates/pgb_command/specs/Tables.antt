@@ -1,5 +1,5 @@
 -- The tables of the commands: a line for each in each.
-use Rattle.std.specs.Prelude.{◌≡◌, ◌≢◌, ◌⊎◌, ℕ, take, Bool, true, false, List, Option, Some, IfSome, IsSome, IsSomeAnd}
+use Rattle.std.specs.Prelude.{◌≡◌, ◌≢◌, ◌⊎◌, ◌++◌, ℕ, take, Bool, true, false, List, Option, None, Some, option_map, IfSome, IsSome, IsSomeAnd}
 use Rattle.pgb_outside.specs.Content.{Content}
 use Rattle.pgb_outside.specs.Crash.{Leaves}
 use Rattle.pgb_outside.specs.Links.{LinkState}
@@ -19,9 +19,12 @@ use Rattle.pgb_stage.specs.declared.plan.Settling.TheVariants.{Whole, Looked}
 use Rattle.pgb_stage.specs.declared.plan.Pairs.TheVariants.{Unread, ReadArchive, HealArchive, ReadBoth}
 use Rattle.pgb_stage.specs.declared.outcome.Outcome.{Outcome}
 use Rattle.pgb_stage.specs.Cluster.{FolderTells, IsClusterOf}
-use Rattle.pgb_stage.specs.Runs.{Manner, each, one}
+use Rattle.pgb_stage.specs.Runs.{Manner, each, one, provided}
 use Rattle.pgb_stage.specs.Seen.{Seen}
 use Rattle.pgb_outside.specs.States.{WireState, ClockState}
+use Rattle.pgb_turn.specs.Turns.{OthersState, Turned}
+use Rattle.pgb_await.specs.Went.{turns_of}
+use Rattle.pgb_create.specs.Server.{Server, socket_path}
 use Rattle.pgb_create.specs.Talking.{Asks, IsOf}
 use Rattle.pgb_create.specs.Creating.{IsCreated, CreateCause}
 use Rattle.pgb_push.specs.Commands.{IsPushOf}
@@ -29,9 +32,14 @@ use Rattle.pgb_push.specs.Causes.{IsStored, IsLasting, PushCause}
 use Rattle.pgb_stage.specs.Reached.{OnFinished}
 use Rattle.pgb_push.specs.WalPath.{IsWalPath}
 use Rattle.pgb_get.specs.Getting.{AreWords, GotBy, GivenBy, GetCause, IsServed, ChangesPath, served_path}
-use Rattle.pgb_logged.specs.Backups.{IsFullBackup}
+use Rattle.pgb_logged.specs.Backups.{IsFullBackup, IsOnlineBackup}
 use Rattle.pgb_take.specs.Causes.{Before, TakeCause}
 use Rattle.pgb_take.specs.Taken.{IsTaken}
+use Rattle.pgb_online.specs.Telling.{starting, stopping}
+use Rattle.pgb_take_online.specs.Causes.{Asked as AskedOnline, OnlineCause}
+use Rattle.pgb_take_online.specs.Doing.{Heard, TakesTurns}
+use Rattle.pgb_take_online.specs.Taken.{TakesOnline}
+use Rattle.pgb_take_online.specs.Told.{IsLabelTold}
 use Rattle.pgb_recover.specs.declared.fault.RecoverFault.{RecoverFault}
 use Rattle.pgb_recover.specs.Fetching.{options_by}
 use Rattle.pgb_recover.specs.Words.{TellsSet, WordCause}
@@ -42,19 +50,20 @@ use Rattle.pgb_clear.specs.Clearing.{control_path, HasNone}
 use Rattle.pgb_inform.specs.Reporting.{IsReported, ReportsStanza}
 use Rattle.pgb_examine.specs.Examining.{ExamineCause, IsExamined, EndsWithNone}
 use Rattle.pgb_command.specs.declared.fault.CommandFault.{CommandFault}
-use Rattle.pgb_command.specs.declared.fault.CommandFault.TheVariants.{Create, Push, Get, Take, Recover, Examine}
-use Rattle.pgb_command.specs.Asked.{Request, create, push, get, backup, restore, report, examine, RestoreHow, Asked}
+use Rattle.pgb_command.specs.declared.fault.CommandFault.TheVariants.{Create, Push, Get, Take, TakeOnline, Recover, Examine}
+use Rattle.pgb_command.specs.Asked.{Request, create, push, get, backup, backup_running, restore, report, examine, RunningHow, RestoreHow, Asked}
 
 -- what the objects hold, as far as they tell it
 pub record Known : Type 0 where
   pub repo : Option Content
   pub nodes : Option Nodes
   pub server : WireState
+  pub others : OthersState
   pub clock : ClockState
   pub links : List LinkState
 
 abbrev pub known : Seen → Known
-known s = record { repo = s.repo.view.now; nodes = s.tree.nodes; server = s.server; clock = s.clock; links = s.links }
+known s = record { repo = s.repo.view.now; nodes = s.tree.nodes; server = s.server; others = s.others; clock = s.clock; links = s.links }
 
 -- what a command needs of the stages: names settled, places, locks, the control file, and the pairs
 abbrev pub plan_of : Request → Plan
@@ -62,6 +71,7 @@ plan_of create = record { settling = Whole; folder = true; backup_lock = true; a
 plan_of (push path) = record { settling = Looked; folder = true; backup_lock = false; archive_lock = true; control = true; pairs = HealArchive }
 plan_of (get name path) = record { settling = Looked; folder = true; backup_lock = false; archive_lock = false; control = true; pairs = ReadArchive }
 plan_of (backup workers) = record { settling = Whole; folder = true; backup_lock = true; archive_lock = false; control = true; pairs = ReadBoth }
+plan_of (backup_running how) = record { settling = Whole; folder = true; backup_lock = true; archive_lock = false; control = true; pairs = ReadBoth }
 plan_of (restore set how) = record { settling = Whole; folder = true; backup_lock = false; archive_lock = false; control = false; pairs = ReadBoth }
 plan_of (report form) = record { settling = Whole; folder = false; backup_lock = false; archive_lock = false; control = false; pairs = ReadBoth }
 plan_of examine = record { settling = Whole; folder = false; backup_lock = false; archive_lock = false; control = false; pairs = ReadBoth }
@@ -70,19 +80,34 @@ plan_of examine = record { settling = Whole; folder = false; backup_lock = false
 abbrev pub IsCreateOf : Nodes → Command → Type 0
 IsCreateOf f command = (cluster : Option Cluster) × IsClusterOf f cluster × (command ≡ StanzaCreate cluster)
 
--- which command of the repository's log it is
-abbrev pub manner_of : Request → Text → Option Nodes → List LinkState → Manner
-manner_of create folder nodes links = each (λ command. IsSomeAnd nodes (λ f. IsCreateOf f command))
-manner_of (push path) folder nodes links = each (λ command. IsSomeAnd nodes (λ f. IsPushOf f folder path command))
-manner_of (get name path) folder nodes links = each (λ command. command ≡ Reading)
-manner_of (backup workers) folder nodes links = one (IsFullBackup (take workers links))
-manner_of (restore set how) folder nodes links = each (λ command. command ≡ Reading)
-manner_of (report form) folder nodes links = each (λ command. command ≡ Reading)
-manner_of examine folder nodes links = each (λ command. command ≡ Reading)
-
 -- the data folder tells this cluster, and this holds of it
 abbrev pub OnCluster : Option Nodes → (Control → Type 0) → Type 0
 OnCluster nodes P = (told : Control) × IfSome nodes (λ f. FolderTells f told) × P told
+
+-- what others did meanwhile is told of the stanza that is asked for, where the command waits for turns of theirs
+abbrev pub TurnsTold : Asked → Request → Known → Type 0
+TurnsTold a (backup_running how) new = IsSomeAnd new.others.account (λ k. k.stanza ≡ a.stanza)
+TurnsTold a request new = Unit {0}
+
+-- the server of the folder's cluster told this label file
+abbrev pub TellsLabel : Known → Known → Text → Type 0
+TellsLabel old new text = OnCluster old.nodes (λ told. IsLabelTold told.system old.server.pending new.server.pending (Some text))
+
+-- Others took these turns, and the command is the full backup of what the links read, behind these turns, with the label file that the server told.
+abbrev pub IsRunningOf : RunningHow → Known → Known → Command → Type 0
+IsRunningOf how old new command = IsSomeAnd new.others.account (λ k. (turned : List Turned) × TakesTurns turned old.others.account k
+    × (label : Option Text) × IfSome label (TellsLabel old new) × IsOnlineBackup (take how.workers old.links) (turns_of turned) label command)
+
+-- which command of the repository's log it is, from what the objects hold before and after it
+abbrev pub manner_of : Asked → Request → Known → Known → Manner
+manner_of a create old new = each (λ command. IsSomeAnd old.nodes (λ f. IsCreateOf f command))
+manner_of a (push path) old new = each (λ command. IsSomeAnd old.nodes (λ f. IsPushOf f a.data_folder path command))
+manner_of a (get name path) old new = each (λ command. command ≡ Reading)
+manner_of a (backup workers) old new = one (IsFullBackup (take workers old.links))
+manner_of a (backup_running how) old new = provided (TurnsTold a (backup_running how) new) (IsRunningOf how old new)
+manner_of a (restore set how) old new = each (λ command. command ≡ Reading)
+manner_of a (report form) old new = each (λ command. command ≡ Reading)
+manner_of a examine old new = each (λ command. command ≡ Reading)
 
 -- the command's own words name what they have to
 abbrev pub WordsFit : Asked → Request → Type 0
@@ -90,6 +115,7 @@ WordsFit a create = Unit {0}
 WordsFit a (push path) = (name : ArchiveName) × IsWalPath a.data_folder path name
 WordsFit a (get word path) = (name : ArchiveName) × AreWords a.data_folder word path name
 WordsFit a (backup workers) = Unit {0}
+WordsFit a (backup_running how) = Unit {0}
 WordsFit a (restore set how) = (label : Option Label) × TellsSet set label
 WordsFit a (report form) = Unit {0}
 WordsFit a examine = Unit {0}
@@ -97,6 +123,20 @@ WordsFit a examine = Unit {0}
 -- what a backup finds as its own part begins
 abbrev pub found_by : Asked → ℕ → Known → Control → Before
 found_by a workers old told = record { stanza = a.stanza; told = told; repo = old.repo; nodes = old.nodes; least = old.clock.least; used = take workers old.links }
+
+-- what a running server told the backup, by its bytes before and after it
+abbrev pub heard_by : Known → Known → Control → Heard
+heard_by old new told = record { system = told.system; pending = old.server.pending; left = new.server.pending }
+
+-- what a running server's backup finds, and what it comes to
+abbrev pub asked_by : Asked → RunningHow → Known → Known → Control → AskedOnline
+asked_by a how old new told = record { before = found_by a how.workers old told; heard = heard_by old new told; most = how.turns; turns = old.others.turns; turned = new.others.turns; now = new.repo }
+
+-- the server was asked at its socket, told to start a backup and to stop it, and the talk was ended
+abbrev pub AsksBackup : Option Server → Bool → Text → Option (List ℕ) → Option (List ℕ) → Type 0
+AsksBackup None fast place old new = Unit {0}
+AsksBackup (Some s) fast place old new = (place ≡ socket_path s)
+    × (new ≡ option_map (λ said. said ++ starting s.user s.database fast ++ stopping) old)
 
 -- what a restore finds
 abbrev pub found_for : Asked → Option Label → RestoreHow → Known → BeforeRestore
@@ -106,15 +146,16 @@ found_for a set how old = record { stanza = a.stanza; set = set; repo = old.repo
 abbrev pub RestoreCause : Asked → Option Text → RestoreHow → Known → RecoverFault → Type 0
 RestoreCause a set how old fault = WordCause set fault ⊎ ((label : Option Label) × TellsSet set label × RecoverCause (found_for a label how old) fault)
 
--- why a command is refused, from what the objects hold as its own part begins
-abbrev pub CommandCause : Asked → Request → Known → CommandFault → Type 0
-CommandCause a create old (Create fault) = OnCluster old.nodes (λ told. CreateCause a.stanza told a.server old.repo old.server.pending fault)
-CommandCause a (push path) old (Push fault) = PushCause a.stanza a.data_folder path old.repo old.nodes fault
-CommandCause a (get name path) old (Get fault) = GetCause a.stanza a.data_folder name path old.repo old.nodes fault
-CommandCause a (backup workers) old (Take fault) = OnCluster old.nodes (λ told. TakeCause (found_by a workers old told) fault)
-CommandCause a (restore set how) old (Recover fault) = RestoreCause a set how old fault
-CommandCause a examine old (Examine fault) = ExamineCause a.stanza old.repo fault
-CommandCause a request old fault = ⊥
+-- why a command is refused, from what the objects hold as its own part begins and what they hold then
+abbrev pub CommandCause : Asked → Request → Known → Known → CommandFault → Type 0
+CommandCause a create old new (Create fault) = OnCluster old.nodes (λ told. CreateCause a.stanza told a.server old.repo old.server.pending fault)
+CommandCause a (push path) old new (Push fault) = PushCause a.stanza a.data_folder path old.repo old.nodes fault
+CommandCause a (get name path) old new (Get fault) = GetCause a.stanza a.data_folder name path old.repo old.nodes fault
+CommandCause a (backup workers) old new (Take fault) = OnCluster old.nodes (λ told. TakeCause (found_by a workers old told) fault)
+CommandCause a (backup_running how) old new (TakeOnline fault) = OnCluster old.nodes (λ told. OnlineCause (asked_by a how old new told) fault)
+CommandCause a (restore set how) old new (Recover fault) = RestoreCause a set how old fault
+CommandCause a examine old new (Examine fault) = ExamineCause a.stanza old.repo fault
+CommandCause a request old new fault = ⊥
 
 -- Ok of stanza-create: the stanza is made, or was there; and where a server is asked it was asked at its socket and is of the folder's system
 pub record Creates (a : Asked) (old new : Known) (outcome : Outcome) : Type 0 where
@@ -142,6 +183,8 @@ Promise a (push path) old new outcome = OnFinished outcome (IsStored a.stanza a.
 Promise a (get name path) old new outcome = GotBy a.stanza a.data_folder name path old.repo old.nodes new.nodes outcome
     × OnStanza a old.repo (λ s. GivenBy s a.data_folder name path old.nodes new.nodes outcome)
 Promise a (backup workers) old new outcome = OnCluster old.nodes (λ told. OnFinished outcome (IsTaken a.stanza told old.nodes (take workers old.links) old.repo new.repo))
+Promise a (backup_running how) old new outcome = OnCluster old.nodes (λ told. OnFinished outcome (TakesOnline a.stanza told (heard_by old new told) (take how.workers old.links) old.others.account new.others.account old.repo new.repo))
+    × AsksBackup a.server how.fast new.server.place old.server.sent new.server.sent
 Promise a (restore set how) old new outcome = Restores a set how old new outcome
 Promise a (report form) old new outcome = OnFinished outcome (IsReported a.stanza form old.repo)
     × OnStanza a old.repo (λ s. OnFinished outcome (ReportsStanza form a.stanza s))
@@ -161,17 +204,20 @@ OnReader create P = Unit {0}
 OnReader (push path) P = Unit {0}
 OnReader (get name path) P = P
 OnReader (backup workers) P = Unit {0}
+OnReader (backup_running how) P = Unit {0}
 OnReader (restore set how) P = P
 OnReader (report form) P = P
 OnReader examine P = P
 
--- this holds of stanza-create, and of every other command
+-- this holds of stanza-create
 abbrev pub OnCreate : Request → Type 0 → Type 0
 OnCreate create P = P
 OnCreate other P = Unit {0}
 
+-- this holds of a command that asks no server
 abbrev pub OnOther : Request → Type 0 → Type 0
 OnOther create P = Unit {0}
+OnOther (backup_running how) P = Unit {0}
 OnOther other P = P
 
 -- Only archive-get and restore change the data folder. The one puts there what is served; of the other it holds a whole backup, or has no control file, so that no server starts from half of one.
@@ -180,15 +226,21 @@ FolderGoes a (get name path) old new = ChangesPath (served_path a.data_folder pa
 FolderGoes a (restore set how) old new = (new ≡ old.nodes) ⊎ (HasNone control_path new ⊎ ((m : Manifest) × IfSome new (IsFinished a.stanza (take how.workers old.links) (options_by a.stanza how.delta how.recovery) m old.nodes)))
 FolderGoes a request old new = new ≡ old.nodes
 
--- only a backup and a restore use workers, and a backup the clock
+-- only a backup and a restore use workers, a backup the clock, and that of a running server waits for turns of others
 abbrev pub uses_workers : Request → Bool
 uses_workers (backup workers) = true
+uses_workers (backup_running how) = true
 uses_workers (restore set how) = true
 uses_workers request = false
 
 abbrev pub uses_clock : Request → Bool
 uses_clock (backup workers) = true
+uses_clock (backup_running how) = true
 uses_clock request = false
+
+abbrev pub uses_turns : Request → Bool
+uses_turns (backup_running how) = true
+uses_turns request = false
 
 -- only info and verify use nothing but the repository: no data folder, and no lock
 abbrev pub is_on_repository : Request → Bool

@@ -10,10 +10,11 @@ use Rattle.pgb_recover.specs.Fetching.{recovery_type}
 use Rattle.pgb_recover.specs.Words.{TellsSet}
 use Rattle.pgb_command.specs.declared.settings.Settings.{Settings}
 use Rattle.pgb_command.specs.declared.settings.Request as code
-use Rattle.pgb_command.specs.declared.settings.Request.TheVariants.{StanzaCreate, ArchivePush, ArchiveGet, Backup, Restore, Info, Verify}
+use Rattle.pgb_command.specs.declared.settings.Request.TheVariants.{StanzaCreate, ArchivePush, ArchiveGet, Backup, BackupRunning, Restore, Info, Verify}
 use Rattle.pgb_command.specs.declared.order.Order.{Order}
+use Rattle.pgb_command.specs.declared.order.RunningOrder.{RunningOrder}
 use Rattle.pgb_command.specs.declared.order.Order.TheVariants as order
-use Rattle.pgb_command.specs.Asked.{Request, create, push, get, backup, restore, report, examine, RestoreHow, Asked, Wanted}
+use Rattle.pgb_command.specs.Asked.{Request, create, push, get, backup, backup_running, restore, report, examine, RunningHow, RestoreHow, Asked, Wanted}
 
 -- the workers can be numbered, and none has bytes of an earlier answer to give
 pub record AreWorkers (links : List LinkState) : Type 0 where
@@ -25,6 +26,7 @@ request_of StanzaCreate = create
 request_of (ArchivePush path) = push path.now
 request_of (ArchiveGet name path) = get name.now path.now
 request_of (Backup workers) = backup workers
+request_of (BackupRunning workers fast turns) = backup_running (record { workers = workers; fast = fast; turns = turns })
 request_of (Restore set workers delta recovery) = restore (option_map (λ w. w.now) set) (record { workers = workers; delta = delta; recovery = recovery_type recovery })
 request_of (Info form) = report form
 request_of Verify = examine
@@ -43,10 +45,16 @@ wanted_told o = record {
   config = option_map string_bytes o.config;
   set = option_map string_bytes o.set;
   workers = o.process_max;
+  fast = o.start_fast;
+  turns = o.archive_timeout;
 }
 
 abbrev pub asked_of : Settings → Asked
 asked_of s = record { stanza = s.stanza.now; data_folder = s.pg1_path.now; repository = s.repo1_path.now; lock_folder = s.lock_path.now; server = option_map server_view s.server; request = request_of s.request }
+
+-- how a running server is backed up by the order
+abbrev pub running_of : RunningOrder → RunningHow
+running_of o = record { workers = o.take.workers; fast = o.fast; turns = o.turns }
 
 -- how a backup is restored by the order
 abbrev pub how_of : RecoverOrder → RestoreHow
@@ -58,6 +66,7 @@ IsOrder create folder order.StanzaCreate = Unit {0}
 IsOrder (push path) folder (order.ArchivePush o) = (o.folder.now ≡ folder) × (o.path.now ≡ path)
 IsOrder (get name path) folder (order.ArchiveGet o) = (o.folder.now ≡ folder) × (o.word.now ≡ name) × (o.path.now ≡ path)
 IsOrder (backup workers) folder (order.Backup o) = (o.data_folder.now ≡ folder) × (o.workers ≡ workers)
+IsOrder (backup_running how) folder (order.BackupRunning o) = (o.take.data_folder.now ≡ folder) × (running_of o ≡ how)
 IsOrder (restore set how) folder (order.Restore o) = (o.data_folder.now ≡ folder) × (how_of o ≡ how) × TellsSet set o.set
 IsOrder (report form) folder (order.Info asked) = asked ≡ form
 IsOrder examine folder order.Verify = Unit {0}

@@ -51,9 +51,6 @@ fn backup_request<'a>(options: &Options) -> Result<Request<'a>, Unbuilt>
     ensures asked { IfOk result (λ r. backup_by (wanted_told options.now) ≡ Ok (request_of r)) }
     ensures unbuilt { IfErr result (λ what. backup_by (wanted_told options.now) ≡ Err what) }
 {
-    if options.online {
-        return Err(Unbuilt::Online);
-    }
     if !is_full(options.backup_type) {
         return Err(Unbuilt::Kind);
     }
@@ -65,6 +62,13 @@ fn backup_request<'a>(options: &Options) -> Result<Request<'a>, Unbuilt>
     }
     if options.expire_auto {
         return Err(Unbuilt::Expiry);
+    }
+    if options.online {
+        return Ok(Request::BackupRunning {
+            workers: options.process_max,
+            fast: options.start_fast,
+            turns: options.archive_timeout,
+        });
     }
     Ok(Request::Backup {
         workers: options.process_max,
@@ -202,7 +206,7 @@ pub(crate) fn plan_of(request: &Request<'_>) -> Plan
             pairs: Pairs::ReadArchive,
             ..reading
         },
-        Request::Backup { .. } => Plan {
+        Request::Backup { .. } | Request::BackupRunning { .. } => Plan {
             folder: true,
             backup_lock: true,
             control: true,

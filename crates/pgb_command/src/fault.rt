@@ -1,7 +1,7 @@
 // What a command answers in place of Ok, by layers.
 ghost use Rattle.std.specs.Prelude.{◌≡◌};
 ghost use Rattle.pgb_command.specs.Answers.{status_of, usage_status, command_status};
-ghost use Rattle.pgb_command.specs.Faults.{lift, of_stage, of_create, of_push, of_get, of_take, of_recover, of_examine};
+ghost use Rattle.pgb_command.specs.Faults.{lift, of_stage, of_create, of_push, of_get, of_take, of_take_online, of_recover, of_examine};
 
 use pgb_create::{CreateFault, create_status};
 use pgb_examine::{ExamineFault, examine_status};
@@ -11,6 +11,7 @@ use pgb_push::{PushFault, push_status};
 use pgb_recover::{RecoverFault, recover_status};
 use pgb_stage::{Halt, Object, Outcome, StageFault, object_status, stage_status};
 use pgb_take::{TakeFault, take_status};
+use pgb_take_online::{OnlineTakeFault, online_take_status};
 use std::alloc::AllocError;
 
 /// Why a command refuses, by the command.
@@ -20,6 +21,7 @@ pub enum CommandFault {
     Push(PushFault),
     Get(GetFault),
     Take(TakeFault),
+    TakeOnline(OnlineTakeFault),
     Recover(RecoverFault),
     Examine(ExamineFault),
 }
@@ -137,6 +139,21 @@ impl From<Halt<TakeFault>> for Fault {
     }
 }
 
+impl From<Halt<OnlineTakeFault>> for Fault {
+    ghost use Rattle.std.specs.Prelude.{◌≡◌};
+    ghost use Rattle.pgb_command.specs.Faults.{of_take_online};
+
+    ghost from_gives = { λ h e. e ≡ of_take_online h };
+
+    fn from(halt: Halt<OnlineTakeFault>) -> Self {
+        match halt {
+            Halt::Refused(fault) => Fault::Command(CommandFault::TakeOnline(fault)),
+            Halt::Failed(object) => Fault::Failed(object),
+            Halt::NoMemory => Fault::NoMemory,
+        }
+    }
+}
+
 impl From<Halt<RecoverFault>> for Fault {
     ghost use Rattle.std.specs.Prelude.{◌≡◌};
     ghost use Rattle.pgb_command.specs.Faults.{of_recover};
@@ -197,9 +214,21 @@ pub(crate) fn get_end(ended: Result<Outcome, Halt<GetFault>>) -> Result<Outcome,
     }
 }
 
-/// How backup ended.
+/// How backup of a stopped server ended.
 pub(crate) fn take_end(ended: Result<Outcome, Halt<TakeFault>>) -> Result<Outcome, Fault>
     ensures { result ≡ lift of_take ended }
+{
+    match ended {
+        Ok(outcome) => Ok(outcome),
+        Err(halt) => Err(Fault::from(halt)),
+    }
+}
+
+/// How backup of a running server ended.
+pub(crate) fn take_online_end(
+    ended: Result<Outcome, Halt<OnlineTakeFault>>,
+) -> Result<Outcome, Fault>
+    ensures { result ≡ lift of_take_online ended }
 {
     match ended {
         Ok(outcome) => Ok(outcome),
@@ -264,6 +293,7 @@ fn command_status(fault: &CommandFault) -> u8
         CommandFault::Push(fault) => push_status(fault),
         CommandFault::Get(fault) => get_status(fault),
         CommandFault::Take(fault) => take_status(fault),
+        CommandFault::TakeOnline(fault) => online_take_status(fault),
         CommandFault::Recover(fault) => recover_status(fault),
         CommandFault::Examine(fault) => examine_status(fault),
     }

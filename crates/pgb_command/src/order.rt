@@ -12,6 +12,15 @@ use pgb_recover::{RecoverOrder, recover_order};
 use pgb_take::TakeOrder;
 use std::alloc::Global;
 
+/// A full backup of a running server: of which data folder into which repository, whether the server makes its
+/// checkpoint at once, and how many turns of other processes are waited for at most.
+#[derive(Clone, Copy)]
+pub struct RunningOrder<'a> {
+    pub take: TakeOrder<'a>,
+    pub fast: bool,
+    pub turns: u64,
+}
+
 /// What a command does.
 #[derive(Drop)]
 pub enum Order<'a> {
@@ -19,6 +28,7 @@ pub enum Order<'a> {
     ArchivePush(PushOrder<'a>),
     ArchiveGet(GetOrder<'a>),
     Backup(TakeOrder<'a>),
+    BackupRunning(RunningOrder<'a>),
     Restore(RecoverOrder<'a>),
     Info(OutputWord),
     Verify,
@@ -44,6 +54,19 @@ pub(crate) fn order_of<'a>(alloc: Global, settings: &Settings<'a>) -> Result<Ord
             data_folder: settings.pg1_path,
             repository: settings.repo1_path,
             workers,
+        })),
+        Request::BackupRunning {
+            workers,
+            fast,
+            turns,
+        } => Ok(Order::BackupRunning(RunningOrder {
+            take: TakeOrder {
+                data_folder: settings.pg1_path,
+                repository: settings.repo1_path,
+                workers,
+            },
+            fast,
+            turns,
         })),
         Request::Restore {
             set,

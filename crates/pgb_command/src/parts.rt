@@ -5,15 +5,17 @@ ghost use Rattle.pgb_prepare.specs.Readies.{IsReady};
 ghost use Rattle.pgb_command.specs.Asked.{create as asks_create, push as asks_push, get as asks_get, backup as asks_backup, report as asks_report, examine as asks_examine};
 ghost use Rattle.pgb_command.specs.Did.{Ran};
 ghost use Rattle.pgb_command.specs.Told.{request_of, asked_of, AreWorkers, IsOrder};
-ghost use Rattle.pgb_command.specs.declared.order.Order.TheVariants.{Restore as RestoreOrder};
+ghost use Rattle.pgb_command.specs.declared.order.Order.TheVariants.{BackupRunning as BackupRunningOrder, Restore as RestoreOrder};
 ghost use Rattle.pgb_command.specs.Tables.{plan_of};
 
 use crate::fault::{
     Fault, create_end, examine_end, get_end, inform_end, push_end, recover_end, take_end,
+    take_online_end,
 };
+use crate::order::RunningOrder;
 use crate::outside::{Outside, Told};
 use crate::settings::Settings;
-use pgb_create::create_stanza;
+use pgb_create::{create_stanza, socket_path};
 use pgb_examine::examine_stanza;
 use pgb_get::{GetOrder, get_file};
 use pgb_inform::report_stanza;
@@ -24,6 +26,7 @@ use pgb_push::{PushOrder, push_file};
 use pgb_recover::{RecoverOrder, recover_backup};
 use pgb_stage::Outcome;
 use pgb_take::{TakeOrder, take_backup};
+use pgb_take_online::{OnlineOrder, take_online};
 use pgb_turn::Aside;
 use std::alloc::Global;
 
@@ -134,7 +137,7 @@ impl<
         ))
     }
 
-    /// backup.
+    /// backup of a stopped server.
     pub(crate) fn take(
         &mut self,
         alloc: Global,
@@ -175,6 +178,73 @@ impl<
             &mut self.turns,
             settings.stanza,
             order,
+            &control,
+            &archive,
+            backup,
+        ))
+    }
+
+    /// backup of a running server.
+    pub(crate) fn take_running(
+        &mut self,
+        alloc: Global,
+        settings: &Settings<'_>,
+        order: &RunningOrder<'_>,
+        ready: Ready,
+    ) -> Result<Outcome, Fault>
+        requires order { IsOrder (request_of settings.now.request) settings.now.pg1_path.now
+            (BackupRunningOrder order.now) }
+        requires locked { AreHeld (plan_of (request_of settings.now.request)) settings.now.stanza.now
+            (K.state self.old.locks).taken }
+        requires workers { AreWorkers (map L.link_state self.old.links.items) }
+        requires ready { IsReady (plan_of (request_of settings.now.request)) settings.now.stanza.now
+            (D.state self.old.repo).view.now (T.state self.old.tree).nodes ready }
+        ensures ran { let told = ⟦<Outside<D, S, T, V, A, C, K, I, O, L, U> as Told>⟧.told in
+            Ran (asked_of settings.now) (told self.old) (told self.new) result }
+        ensures quiet { settings.now.server ≡ None → self.new.server ≡ self.old.server }
+        ensures rest { self.new ≡ record self.old {
+          repo = self.new.repo;
+          spool = self.new.spool;
+          tree = self.new.tree;
+          server = self.new.server;
+          aside = self.new.aside;
+          clock = self.new.clock;
+          links = self.new.links;
+          turns = self.new.turns;
+        } }
+    {
+        let Some(server) = settings.server else {
+            unreachable!();
+        };
+        let (Some(control), Some(archive), Some(backup)) = (
+            ready.control,
+            ready.archive,
+            ready.backup,
+        ) else {
+            unreachable!();
+        };
+        let socket = socket_path(alloc, &server)?;
+        let online = OnlineOrder {
+            take: order.take,
+            socket: &socket,
+            user: server.user,
+            database: server.database,
+            fast: order.fast,
+            archive_timeout: order.turns,
+        };
+        take_online_end(take_online(
+            alloc,
+            &mut self.repo,
+            &mut self.spool,
+            &mut self.tree,
+            &mut self.server,
+            &mut self.aside,
+            &mut self.clock,
+            &self.locks,
+            &mut self.links,
+            &mut self.turns,
+            settings.stanza,
+            online,
             &control,
             &archive,
             backup,

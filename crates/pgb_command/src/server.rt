@@ -9,13 +9,13 @@ use pgb_create::Server;
 use pgb_options::Command;
 use pgb_table::Verb;
 
-/// The one that the command asks for its system, where it asks one.
+/// The one that the command asks, where it asks one.
 pub(crate) fn server_of(command: &Command) -> Option<Server<'_>>
     requires { (s : Settled) × IsCommand command.now s }
     ensures { (s : Settled) → IsCommand command.now s → option_map server_view result ≡ server_asked s }
 {
     match command.verb {
-        Verb::StanzaCreate => {
+        Verb::StanzaCreate | Verb::Backup => {
             if !command.options.online {
                 return None;
             }

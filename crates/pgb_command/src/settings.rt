@@ -1,6 +1,7 @@
 // What a command is told.
 ghost use Rattle.std.specs.Prelude.{◌≡◌, ◌<◌, ◌^◌, length, true};
 ghost use Rattle.pgb_table.specs.Values.{is_stanza};
+ghost use Rattle.pgb_command.specs.Serving.{is_served};
 
 use pgb_create::Server;
 use pgb_options::OutputWord;
@@ -22,6 +23,13 @@ pub enum Request<'a> {
     /// A full backup of a stopped server, with as many workers at most.
     Backup {
         workers: u32,
+    },
+    /// A full backup of a running server, with as many workers at most; whether it makes its checkpoint at once, and how
+    /// many turns of other processes are waited for at most.
+    BackupRunning {
+        workers: u32,
+        fast: bool,
+        turns: u64,
     },
     /// The backup of this label, or the last one, with as many workers at most; whether equal files stay, and how the
     /// server is to recover.
@@ -50,6 +58,7 @@ pub struct Settings<'a> {
     pub server: Option<Server<'a>>,
     pub request: Request<'a>,
     ghost form: { is_stanza stanza.now ≡ true },
+    ghost served: { is_served request server ≡ true },
     // Each worker is told both folders, with lengths of 16 bits.
     ghost short: { (length pg1_path.now < 2 ^ 16) × (length repo1_path.now < 2 ^ 16) },
 }

@@ -7,7 +7,7 @@ ghost use Rattle.pgb_prepare.specs.Readies.{IsReady};
 ghost use Rattle.pgb_prepare.specs.Taking.{AreNames, HoldsOnly};
 ghost use Rattle.pgb_command.specs.Did.{Ran, Did, ComesBehind, Brackets, SamePlaces, OpensPlaces, ArePlacesOpened, TakesAll, OnlyLocked};
 ghost use Rattle.pgb_command.specs.Told.{request_of, asked_of, AreWorkers, IsOrder};
-ghost use Rattle.pgb_command.specs.Tables.{plan_of, uses_workers, is_on_repository};
+ghost use Rattle.pgb_command.specs.Tables.{plan_of, uses_turns, uses_workers, is_on_repository};
 
 use crate::asking::plan_of;
 use crate::fault::Fault;
@@ -87,11 +87,15 @@ impl<
         ensures quiet { settings.now.server ≡ None → self.new.server ≡ self.old.server }
         ensures alone { uses_workers (request_of settings.now.request) ≡ false
             → (self.new.links ≡ self.old.links) × (self.new.turns ≡ self.old.turns) }
+        ensures waits { uses_turns (request_of settings.now.request) ≡ false
+            → (self.new.spool ≡ self.old.spool) × (self.new.aside ≡ self.old.aside) }
         ensures idle { plan.now.backup_lock ≡ false → plan.now.archive_lock ≡ false → self.new.locks ≡ self.old.locks }
         ensures rest { self.new ≡ record self.old {
           repo = self.new.repo;
+          spool = self.new.spool;
           tree = self.new.tree;
           server = self.new.server;
+          aside = self.new.aside;
           clock = self.new.clock;
           locks = self.new.locks;
           links = self.new.links;
@@ -116,12 +120,16 @@ impl<
         ensures quiet { settings.now.server ≡ None → self.new.server ≡ self.old.server }
         ensures alone { uses_workers (request_of settings.now.request) ≡ false
             → (self.new.links ≡ self.old.links) × (self.new.turns ≡ self.old.turns) }
+        ensures waits { uses_turns (request_of settings.now.request) ≡ false
+            → (self.new.spool ≡ self.old.spool) × (self.new.aside ≡ self.old.aside) }
         ensures unused { is_on_repository (request_of settings.now.request) ≡ true
             → (self.new.tree ≡ self.old.tree) × (self.new.locks ≡ self.old.locks) }
         ensures rest { self.new ≡ record self.old {
           repo = self.new.repo;
+          spool = self.new.spool;
           tree = self.new.tree;
           server = self.new.server;
+          aside = self.new.aside;
           clock = self.new.clock;
           locks = self.new.locks;
           links = self.new.links;
@@ -154,10 +162,14 @@ impl<
         ensures quiet { settings.now.server ≡ None → self.new.server ≡ self.old.server }
         ensures alone { uses_workers (request_of settings.now.request) ≡ false
             → (self.new.links ≡ self.old.links) × (self.new.turns ≡ self.old.turns) }
+        ensures waits { uses_turns (request_of settings.now.request) ≡ false
+            → (self.new.spool ≡ self.old.spool) × (self.new.aside ≡ self.old.aside) }
         ensures rest { self.new ≡ record self.old {
           repo = self.new.repo;
+          spool = self.new.spool;
           tree = self.new.tree;
           server = self.new.server;
+          aside = self.new.aside;
           clock = self.new.clock;
           links = self.new.links;
           turns = self.new.turns;
@@ -202,11 +214,15 @@ impl<
         ensures quiet { settings.now.server ≡ None → self.new.server ≡ self.old.server }
         ensures alone { uses_workers (request_of settings.now.request) ≡ false
             → (self.new.links ≡ self.old.links) × (self.new.turns ≡ self.old.turns) }
+        ensures waits { uses_turns (request_of settings.now.request) ≡ false
+            → (self.new.spool ≡ self.old.spool) × (self.new.aside ≡ self.old.aside) }
         ensures idle { plan.now.backup_lock ≡ false → plan.now.archive_lock ≡ false → self.new.locks ≡ self.old.locks }
         ensures rest { self.new ≡ record self.old {
           repo = self.new.repo;
+          spool = self.new.spool;
           tree = self.new.tree;
           server = self.new.server;
+          aside = self.new.aside;
           clock = self.new.clock;
           locks = self.new.locks;
           links = self.new.links;
@@ -249,11 +265,15 @@ impl<
         ensures quiet { settings.now.server ≡ None → self.new.server ≡ self.old.server }
         ensures alone { uses_workers (request_of settings.now.request) ≡ false
             → (self.new.links ≡ self.old.links) × (self.new.turns ≡ self.old.turns) }
+        ensures waits { uses_turns (request_of settings.now.request) ≡ false
+            → (self.new.spool ≡ self.old.spool) × (self.new.aside ≡ self.old.aside) }
         ensures idle { plan.now.backup_lock ≡ false → plan.now.archive_lock ≡ false → self.new.locks ≡ self.old.locks }
         ensures rest { self.new ≡ record self.old {
           repo = self.new.repo;
+          spool = self.new.spool;
           tree = self.new.tree;
           server = self.new.server;
+          aside = self.new.aside;
           clock = self.new.clock;
           locks = self.new.locks;
           links = self.new.links;
@@ -286,10 +306,14 @@ impl<
         ensures quiet { settings.now.server ≡ None → self.new.server ≡ self.old.server }
         ensures alone { uses_workers (request_of settings.now.request) ≡ false
             → (self.new.links ≡ self.old.links) × (self.new.turns ≡ self.old.turns) }
+        ensures waits { uses_turns (request_of settings.now.request) ≡ false
+            → (self.new.spool ≡ self.old.spool) × (self.new.aside ≡ self.old.aside) }
         ensures rest { self.new ≡ record self.old {
           repo = self.new.repo;
+          spool = self.new.spool;
           tree = self.new.tree;
           server = self.new.server;
+          aside = self.new.aside;
           clock = self.new.clock;
           links = self.new.links;
           turns = self.new.turns;
@@ -300,6 +324,7 @@ impl<
             Order::ArchivePush(order) => self.push(alloc, settings, order, &ready),
             Order::ArchiveGet(order) => self.get(alloc, settings, &order, &ready),
             Order::Backup(order) => self.take(alloc, settings, order, ready),
+            Order::BackupRunning(order) => self.take_running(alloc, settings, &order, ready),
             Order::Restore(order) => self.recover(alloc, settings, &order, &ready),
             Order::Info(form) => self.inform(alloc, settings, form, &ready),
             Order::Verify => self.examine(alloc, settings, &ready),

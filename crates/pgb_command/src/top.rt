@@ -7,7 +7,7 @@ ghost use Rattle.pgb_table.specs.Values.{is_stanza};
 ghost use Rattle.pgb_command.specs.Asked.{Request, Asked, MayAsk, requested, server_asked};
 ghost use Rattle.pgb_command.specs.Causes.{Answers, Obeys, Each, Finishes, PartDone, IsEarly, TurnsBack, EndsWell, Fulfils, LeavesRest, Completes, ClosesTalk};
 ghost use Rattle.pgb_command.specs.Did.{OpensPlaces, OnlyLocked};
-ghost use Rattle.pgb_command.specs.Tables.{uses_workers, is_on_repository};
+ghost use Rattle.pgb_command.specs.Tables.{TurnsTold, known, uses_turns, uses_workers, is_on_repository};
 ghost use Rattle.pgb_command.specs.Told.{AreWorkers};
 
 use crate::asking::settings_of;
@@ -48,6 +48,9 @@ pub fn carry<
     ensures alone { (s : Settled) → IsCommand command.now s → (request : Request) → requested s ≡ Ok request
         → uses_workers request ≡ false
         → (outside.new.links ≡ outside.old.links) × (outside.new.turns ≡ outside.old.turns) }
+    ensures waits { (s : Settled) → IsCommand command.now s → (request : Request) → requested s ≡ Ok request
+        → uses_turns request ≡ false
+        → (outside.new.spool ≡ outside.old.spool) × (outside.new.aside ≡ outside.old.aside) }
     ensures unused { (s : Settled) → IsCommand command.now s → (request : Request) → requested s ≡ Ok request
         → is_on_repository request ≡ true
         → (outside.new.tree ≡ outside.old.tree) × (outside.new.locks ≡ outside.old.locks) }
@@ -55,8 +58,10 @@ pub fn carry<
         (λ what. outside.new ≡ record outside.old { out = outside.new.out }) }
     ensures rest { outside.new ≡ record outside.old {
       repo = outside.new.repo;
+      spool = outside.new.spool;
       tree = outside.new.tree;
       server = outside.new.server;
+      aside = outside.new.aside;
       clock = outside.new.clock;
       locks = outside.new.locks;
       out = outside.new.out;
@@ -109,8 +114,8 @@ pub fn run<
         Each (map string_bytes words.now) (I.state outside.old.config).files
         (λ a. PartDone a (told outside.old) (told outside.new)) }
 
-    // A refusal for what was found takes no step, nor does one of stanza-create for a connection to the server that
-    // failed.
+    // A refusal for what was found takes no step but those of the turns that were waited for, nor does one for a
+    // connection to the server that failed.
     ensures stays { let told = ⟦<Outside<D, S, T, V, A, C, K, I, O, L, U> as Told>⟧.told in
         Each (map string_bytes words.now) (I.state outside.old.config).files
         (λ a. IsEarly a.request result → TurnsBack a (told outside.old) (told outside.new) result) }
@@ -125,9 +130,12 @@ pub fn run<
     ensures rests { let told = ⟦<Outside<D, S, T, V, A, C, K, I, O, L, U> as Told>⟧.told in
         Each (map string_bytes words.now) (I.state outside.old.config).files
         (λ a. LeavesRest a (told outside.old) (told outside.new)) }
-    // Of every other stanza in form all stays, at its end and in all that a stop leaves at each moment.
-    ensures others { Each (map string_bytes words.now) (I.state outside.old.config).files
-        (λ a. KeepsOthers a.stanza (D.state outside.old.repo).view (D.state outside.new.repo).view) }
+    // Of every other stanza in form all stays, at its end and in all that a stop leaves at each moment, where what others
+    // did meanwhile is told.
+    ensures others { let told = ⟦<Outside<D, S, T, V, A, C, K, I, O, L, U> as Told>⟧.told in
+        Each (map string_bytes words.now) (I.state outside.old.config).files
+        (λ a. TurnsTold a a.request (known (told outside.new))
+        → KeepsOthers a.stanza (D.state outside.old.repo).view (D.state outside.new.repo).view) }
     ensures places { let told = ⟦<Outside<D, S, T, V, A, C, K, I, O, L, U> as Told>⟧.told in
         Each (map string_bytes words.now) (I.state outside.old.config).files
         (λ a. OpensPlaces a (told outside.old) (told outside.new)) }
@@ -157,20 +165,14 @@ pub fn run<
         is_on_repository a.request ≡ true
         → (outside.new.tree ≡ outside.old.tree) × (outside.new.locks ≡ outside.old.locks)) }
 
-    // No lock is held afterwards, and the configuration and all that no command uses are as they were.
+    // Who waits for no turns of other processes leaves them and the spool.
+    ensures untouched { ((a : Asked) → MayAsk (map string_bytes words.now) (I.state outside.old.config).files a
+        → uses_turns a.request ≡ false)
+        → (outside.new.spool ≡ outside.old.spool) × (outside.new.aside ≡ outside.old.aside) }
+
+    // No lock is held afterwards, and the configuration's files are as they were.
     ensures released { (K.state outside.new.locks).taken ≡ [] }
     ensures files { (I.state outside.new.config).files ≡ (I.state outside.old.config).files }
-    ensures untouched { outside.new ≡ record outside.old {
-      repo = outside.new.repo;
-      tree = outside.new.tree;
-      server = outside.new.server;
-      clock = outside.new.clock;
-      locks = outside.new.locks;
-      config = outside.new.config;
-      out = outside.new.out;
-      links = outside.new.links;
-      turns = outside.new.turns;
-    } }
 {
     let command = match read_command(alloc, words, &mut outside.config) {
         Ok(command) => command,

@@ -17,4 +17,5 @@ mod texts;
 pub use creating::create_stanza;
 pub use fault::CreateFault;
 pub use server::Server;
+pub use talking::socket_path;
 pub use texts::{create_message, create_status};

@@ -16,7 +16,8 @@ use pgb_server::{ServerFault, Session, check_system, close, open};
 use pgb_stage::{Halt, Object};
 use std::alloc::{AllocError, Global};
 
-fn socket_path(alloc: Global, server: &Server) -> Result<String, AllocError>
+/// The path of the socket of a server.
+pub fn socket_path(alloc: Global, server: &Server) -> Result<String, AllocError>
     ensures { IfOk result (λ path. string_bytes path ≡ socket_path (server_view server.now)) }
 {
     let folder = server.folder;

@@ -1,7 +1,6 @@
 -- Which command of the log the words ask for is decided by what the data folder tells.
 use Rattle.std.proofs.Common.{List, ◌≡◌, ◌⊎◌, ⊎_elim, inl, inr, ℕ, ◌<◌, ◌≤◌, [], ◌∷◌, ◌++◌, length, take, drop, Option, Some, None, refl, sym, ◌∙◌, arith, append_assoc}
 use Rattle.std.specs.Prelude.{IsSome, IsSomeAnd, codes, decimal}
-use Rattle.pgb_outside.specs.Links.{LinkState}
 use Rattle.pgb_outside.specs.Tree.{Nodes, file_bytes}
 use Rattle.pgb_model.specs.declared.wal.ArchiveName.{ArchiveName}
 use Rattle.pgb_model.specs.Text.{Text, little_endian}
@@ -15,8 +14,8 @@ use Rattle.pgb_stage.specs.Cluster.{control_bytes, version_bytes, FolderTells}
 use Rattle.pgb_stage.specs.Runs.{Manner, each, one, On}
 use Rattle.pgb_push.specs.WalPath.{wal_path, IsPathOf, IsLastElement, HasWal}
 use Rattle.pgb_push.specs.Commands.{IsPushOf}
-use Rattle.pgb_command.specs.Asked.{Request, create, push, get, backup, restore, report, examine}
-use Rattle.pgb_command.specs.Tables.{IsCreateOf, manner_of}
+use Rattle.pgb_command.specs.Asked.{Request, create, push, get, backup, backup_running, restore, report, examine, Asked}
+use Rattle.pgb_command.specs.Tables.{Known, TurnsTold, IsCreateOf, manner_of}
 use Rattle.pgb_headline.specs.Acts.{IsOf}
 use Rattle.pgb_headline.proofs.Bounded.{Decided, SomeOrNone, same_text, either_of, both_of, some_below, some_name}
 
@@ -98,14 +97,21 @@ module _ (f : Nodes) (folder path : Text) where
 
 -- ---- whichever it is
 
+create_there : (o : Option Nodes) (P : Command → Type 0) → IsSome o → ((command : Command) → IsSomeAnd o (λ f. IsCreateOf f command) → P command) → (command : Command) × IsSomeAnd o (λ f. IsCreateOf f command) × P command
+create_there None P told on = cc
+create_there (Some f) P told on = let x = create_of f in (x.0, x.1, on x.0 x.1)
+
+push_there : (folder path : Text) (o : Option Nodes) (P : Command → Type 0) → IsSome o → ((command : Command) → IsSomeAnd o (λ f. IsPushOf f folder path command) → P command) → (command : Command) × IsSomeAnd o (λ f. IsPushOf f folder path command) × P command
+push_there folder path None P told on = cc
+push_there folder path (Some f) P told on = let x = push_of f folder path in (x.0, x.1, on x.0 x.1)
+
 -- some command is asked for, and what holds of what is asked for holds of it
-pub some_command : (request : Request) (folder : Text) (nodes : Option Nodes) (links : List LinkState) (P : Command → Type 0) → IsSome nodes → On (manner_of request folder nodes links) P → (command : Command) × IsOf (manner_of request folder nodes links) command × P command
-some_command create folder None links P told on = cc
-some_command create folder (Some f) links P told on = let x = create_of f in (x.0, x.1, on x.0 x.1)
-some_command (push path) folder None links P told on = cc
-some_command (push path) folder (Some f) links P told on = let x = push_of f folder path in (x.0, x.1, on x.0 x.1)
-some_command (get name path) folder nodes links P told on = (Reading, refl, on Reading refl)
-some_command (backup workers) folder nodes links P told on = on
-some_command (restore set how) folder nodes links P told on = (Reading, refl, on Reading refl)
-some_command (report form) folder nodes links P told on = (Reading, refl, on Reading refl)
-some_command examine folder nodes links P told on = (Reading, refl, on Reading refl)
+pub some_command : (a : Asked) (request : Request) (old new : Known) (P : Command → Type 0) → IsSome old.nodes → TurnsTold a request new → On (manner_of a request old new) P → (command : Command) × IsOf (manner_of a request old new) command × P command
+some_command a create old new P told turns on = create_there old.nodes P told on
+some_command a (push path) old new P told turns on = push_there a.data_folder path old.nodes P told on
+some_command a (get name path) old new P told turns on = (Reading, refl, on Reading refl)
+some_command a (backup workers) old new P told turns on = on
+some_command a (backup_running how) old new P told turns on = on turns
+some_command a (restore set how) old new P told turns on = (Reading, refl, on Reading refl)
+some_command a (report form) old new P told turns on = (Reading, refl, on Reading refl)
+some_command a examine old new P told turns on = (Reading, refl, on Reading refl)

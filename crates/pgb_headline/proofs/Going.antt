@@ -1,16 +1,19 @@
 -- From one call to the logs of all stanzas.
-use Rattle.std.proofs.Common.{◌≡◌, ◌≢◌, ◌⊎◌, inl, inr, ℕ, ◌≤◌, arith, is_some, map, ap, [], Some, None, Bool, true, false, List, ◌∷◌, Option, refl, sym, subst}
+use Rattle.std.proofs.Common.{◌≡◌, ◌≢◌, ◌⊎◌, inl, inr, ℕ, ◌≤◌, arith, is_some, map, string_bytes, ap, [], Some, None, Bool, true, false, List, ◌∷◌, ◌++◌, Option, refl, sym, subst}
 use Rattle.pgb_outside.specs.Content.{Content}
 use Rattle.pgb_outside.specs.Links.{LinkState}
 use Rattle.pgb_outside.specs.Tree.{Nodes}
 use Rattle.pgb_model.specs.Text.{Text}
 use Rattle.pgb_story.specs.Story.{Disks, Call, stopped, Does, AreStill, AreFair, KeepsAll, LeaveAll}
 use Rattle.pgb_story.proofs.Kept.{all_keep, all_leave, all_still, all_rest, opened_keep}
-use Rattle.pgb_headline.specs.Lists.{IsLeft}
+use Rattle.pgb_command.specs.Asked.{Request, create, push, get, backup, backup_running, restore, report, examine, Asked}
+use Rattle.pgb_command.specs.Tables.{Known, TurnsTold, uses_turns}
+use Rattle.pgb_headline.specs.declared.playing.Act.{Act}
+use Rattle.pgb_headline.specs.Lists.{IsLeft, CallGoes, AskNoTurns, WaitForNone, files_of}
 use Rattle.pgb_headline.specs.Acts.{IsCallOf, IsShown, GoesOn, Went}
 
-module _ (words : List Text) (files : Option Content) (nodes : Option Nodes) (links : List LinkState) (status : ℕ) (before : List Call) (old new : Disks) (h : KeepsAll before old) where
-  asked_for : AreFair old → (c : Call) → IsCallOf words files nodes links status c → Does c old new → Went words files nodes links status before old new
+module _ (words : List Text) (files : Option Content) (k l : Known) (status : ℕ) (before : List Call) (old new : Disks) (h : KeepsAll before old) where
+  asked_for : AreFair old → (c : Call) → IsCallOf words files k l status c → Does c old new → Went words files k l status before old new
   asked_for fair c is does = record {
     after = c ∷ before;
     goes = inr (c, is, refl);
@@ -20,7 +23,7 @@ module _ (words : List Text) (files : Option Content) (nodes : Option Nodes) (li
     leaves = all_leave c old new fair does before h;
   }
 
-  refused_for : (status ≢ 0) → AreStill old new → Went words files nodes links status before old new
+  refused_for : (status ≢ 0) → AreStill old new → Went words files k l status before old new
   refused_for off still = record {
     after = before;
     goes = inl (off, refl);
@@ -30,27 +33,63 @@ module _ (words : List Text) (files : Option Content) (nodes : Option Nodes) (li
     leaves = all_rest old new still before h;
   }
 
-pub shown_went : (words : List Text) (files : Option Content) (nodes : Option Nodes) (links : List LinkState) (status : ℕ) (before : List Call) (old new : Disks) → AreFair old → KeepsAll before old → IsShown words files nodes links status old new → Went words files nodes links status before old new
-shown_went words files nodes links status before old new fair h (inl (off, still)) = refused_for words files nodes links status before old new h off still
-shown_went words files nodes links status before old new fair h (inr (c, is, does)) = asked_for words files nodes links status before old new h fair c is does
+pub shown_went : (words : List Text) (files : Option Content) (k l : Known) (status : ℕ) (before : List Call) (old new : Disks) → AreFair old → KeepsAll before old → IsShown words files k l status old new → Went words files k l status before old new
+shown_went words files k l status before old new fair h (inl (off, still)) = refused_for words files k l status before old new h off still
+shown_went words files k l status before old new fair h (inr (c, is, does)) = asked_for words files k l status before old new h fair c is does
 
 -- whether the call is stopped, or goes to its end; given is the list of its words
-module _ {X W : Type 0} (text_of : List W → List Text) (given words : List W) (is : given ≡ words) (files : Option Content) (nodes : Option Nodes) (links : List LinkState) (status : ℕ) (before : List Call) (old new : Disks)
-    (w : Went (text_of given) files nodes links status before old new) (halt : Option X) where
-  goes : (stopped_now : Bool) (after : List Call) → GoesOn (text_of given) files nodes links status stopped_now before after → GoesOn (text_of words) files nodes links status stopped_now before after
-  goes stopped_now after = subst (λ (ws : List W). GoesOn (text_of given) files nodes links status stopped_now before after → GoesOn (text_of ws) files nodes links status stopped_now before after) is (λ g. g)
+module _ {X W : Type 0} (text_of : List W → List Text) (given words : List W) (is : given ≡ words) (files : Option Content) (k l : Known) (status : ℕ) (before : List Call) (old new : Disks)
+    (w : Went (text_of given) files k l status before old new) (halt : Option X) where
+  goes : (stopped_now : Bool) (after : List Call) → GoesOn (text_of given) files k l status stopped_now before after → GoesOn (text_of words) files k l status stopped_now before after
+  goes stopped_now after = subst (λ (ws : List W). GoesOn (text_of given) files k l status stopped_now before after → GoesOn (text_of ws) files k l status stopped_now before after) is (λ g. g)
 
-  pub ends_here : halt ≡ None → (after : List Call) × GoesOn (text_of words) files nodes links status (is_some halt) before after × KeepsAll after new
-  ends_here none = (w.after, subst (λ (o : Option X). GoesOn (text_of words) files nodes links status (is_some o) before w.after) (sym none) (goes false w.after w.goes), w.keeps)
+  pub ends_here : halt ≡ None → (after : List Call) × GoesOn (text_of words) files k l status (is_some halt) before after × KeepsAll after new
+  ends_here none = (w.after, subst (λ (o : Option X). GoesOn (text_of words) files k l status (is_some o) before w.after) (sym none) (goes false w.after w.goes), w.keeps)
 
   pub stops_here : (x : X) → halt ≡ Some x → (opened : Disks) (from spool_from t u : ℕ) → from ≡ old.repo.moment → spool_from ≡ old.spool.moment → IsLeft new.repo from t opened.repo → IsLeft new.spool spool_from u opened.spool
-      → (after : List Call) × GoesOn (text_of words) files nodes links status (is_some halt) before after × KeepsAll after opened
+      → (after : List Call) × GoesOn (text_of words) files k l status (is_some halt) before after × KeepsAll after opened
   stops_here x some opened from spool_from t u is_from is_spool_from r s = (
     w.cut,
-    subst (λ (o : Option X). GoesOn (text_of words) files nodes links status (is_some o) before w.cut) (sym some) (goes true w.cut w.stops),
+    subst (λ (o : Option X). GoesOn (text_of words) files k l status (is_some o) before w.cut) (sym some) (goes true w.cut w.stops),
     opened_keep w.cut r.content s.content opened r.reopened s.reopened
         (w.leaves t u r.content s.content (omega (arith, is_from, r.from), r.to) r.image (omega (arith, is_spool_from, s.from), s.to) s.image),
   )
+
+-- the same, of a call of which the objects held this before
+abbrev CallWent : List Text → Option Content → Option Nodes → List LinkState → ℕ → List Call → Disks → Disks → Type 0
+CallWent words files nodes links status before old new = (k : Known) × (l : Known) × (k.nodes ≡ nodes) × (k.links ≡ links) × Went words files k l status before old new
+
+module _ {X W : Type 0} (text_of : List W → List Text) (given words : List W) (is : given ≡ words) (files : Option Content) (nodes : Option Nodes) (links : List LinkState) (status : ℕ) (before : List Call) (old new : Disks)
+    (x : CallWent (text_of given) files nodes links status before old new) (halt : Option X) where
+  pub call_ends : halt ≡ None → (after : List Call) × CallGoes (text_of words) files nodes links status (is_some halt) before after × KeepsAll after new
+  call_ends none =
+      let y = ends_here text_of given words is files x.0 x.1 status before old new x.4 halt none in
+      (y.0, (x.0, x.1, x.2, x.3, y.1), y.2)
+
+  pub call_stops : (h : X) → halt ≡ Some h → (opened : Disks) (from spool_from t u : ℕ) → from ≡ old.repo.moment → spool_from ≡ old.spool.moment → IsLeft new.repo from t opened.repo → IsLeft new.spool spool_from u opened.spool
+      → (after : List Call) × CallGoes (text_of words) files nodes links status (is_some halt) before after × KeepsAll after opened
+  call_stops h some opened from spool_from t u is_from is_spool_from r s =
+      let y = stops_here text_of given words is files x.0 x.1 status before old new x.4 halt h some opened from spool_from t u is_from is_spool_from r s in
+      (y.0, (x.0, x.1, x.2, x.3, y.1), y.2)
+
+-- who waits for no turns needs none told
+pub turns_none : (a : Asked) (request : Request) (new : Known) → uses_turns request ≡ false → TurnsTold a request new
+turns_none a create new none = tt
+turns_none a (push path) new none = tt
+turns_none a (get name path) new none = tt
+turns_none a (backup workers) new none = tt
+turns_none a (backup_running how) new none = cc
+turns_none a (restore set how) new none = tt
+turns_none a (report form) new none = tt
+turns_none a examine new none = tt
+
+-- of the words as they were given too
+pub ask_none : {W : Type 0} (text_of : List W → List Text) (given words : List W) → given ≡ words → (files : Option Content) → AskNoTurns (text_of words) files → AskNoTurns (text_of given) files
+ask_none text_of given words is files none = subst (λ (ws : List _). AskNoTurns (text_of ws) files) (sym is) none
+
+pub wait_for : (xs : List Act) (x : Act) → WaitForNone (xs ++ x ∷ []) → WaitForNone xs × AskNoTurns (map string_bytes x.words.items) (files_of x.config)
+wait_for [] x h = (tt, h.0)
+wait_for (y ∷ xs) x h = let z = wait_for xs x h.1 in ((h.0, z.0), z.1)
 
 pub map_same : {X : Type 0} (xs : List X) → map (λ y. y) xs ≡ xs
 map_same [] = refl

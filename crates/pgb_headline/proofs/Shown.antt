@@ -7,22 +7,20 @@ use Rattle.pgb_model.specs.Steps.{Command}
 use Rattle.pgb_model.specs.Steady.{KeepsOn}
 use Rattle.pgb_story.specs.Beside.{IsStanza, StaysBeside}
 use Rattle.pgb_story.specs.Story.{Call, Does}
-use Rattle.pgb_archive.specs.Still.{still_self}
 use Rattle.pgb_stage.specs.declared.fault.StageFault.TheVariants.{NotBuilt}
 use Rattle.pgb_stage.specs.Runs.{Reached, to_end, OnAll, Leads, Passes, PassesReceipts, Takes}
 use Rattle.pgb_stage.specs.Seen.{Seen}
-use Rattle.pgb_stage.proofs.Besides.{still_beside}
 use Rattle.pgb_command.specs.declared.fault.Fault.{Fault}
 use Rattle.pgb_command.specs.declared.fault.Fault.TheVariants.{Stage}
 use Rattle.pgb_command.specs.Answers.{status_of, reached_of, ending_of}
 use Rattle.pgb_command.specs.Asked.{Asked, MayAsk}
 use Rattle.pgb_command.specs.Causes.{IsAnswered, Carries, Answers}
 use Rattle.pgb_command.specs.Did.{IsIdle}
-use Rattle.pgb_command.specs.Tables.{plan_of, manner_of}
+use Rattle.pgb_command.specs.Tables.{known, plan_of, manner_of}
 use Rattle.pgb_command.proofs.Follows.{told_as}
 use Rattle.pgb_command.proofs.Statuses.{over, zero_ends}
 use Rattle.pgb_command.proofs.InForm.{asked_in_form}
-use Rattle.pgb_headline.specs.Acts.{both, IsOf, IsCallOf, IsShown}
+use Rattle.pgb_headline.specs.Acts.{both, IsOf, IsCallOf, IsShown, TellsTurns}
 use Rattle.pgb_headline.proofs.Deciding.{some_command}
 
 -- ---- a command, by what it does to both disks
@@ -51,9 +49,9 @@ zero_or : (n : ℕ) → (n ≡ 0) ⊎ (n ≢ 0)
 zero_or zero = inl refl
 zero_or (suc n) = inr (λ e. omega (arith, e))
 
-module _ (words : List Text) (b k : Seen) (n : ℕ) (same : k.spool.view ≡ b.spool.view) (told : IsSome b.tree.nodes) where
+module _ (words : List Text) (b k : Seen) (n : ℕ) (told : IsSome b.tree.nodes) (turns : TellsTurns words b.config.files (known k)) where
   abbrev Shown : Type 0
-  Shown = IsShown words b.config.files b.tree.nodes b.links n (both b.repo.view b.spool.view) (both k.repo.view k.spool.view)
+  Shown = IsShown words b.config.files (known b) (known k) n (both b.repo.view b.spool.view) (both k.repo.view k.spool.view)
 
   -- the words were refused
   refused : (unknown : List Text) (fault : Fault) → IsIdle b k → IsAnswered unknown b k (Err fault) n → Shown
@@ -71,24 +69,27 @@ module _ (words : List Text) (b k : Seen) (n : ℕ) (same : k.spool.view ≡ b.s
     to_its_end : n ≡ 0 → reached_of (ending_of c.ended) ≡ to_end
     to_its_end z = told_as unknown b k c.ended n c.answered (λ is. zero_ends c.ended (sym is ∙ z)) (λ is rose. absurd (omega (arith, is, z))) (λ is. absurd (omega (arith, is, z)))
 
-    spool_beside : StaysBeside a.stanza b.spool.view k.spool.view
-    spool_beside = subst (λ (v : View). StaysBeside a.stanza b.spool.view v) (sym same) (still_beside a.stanza b.spool.view b.spool.view (still_self b.spool.view))
+    beside : StaysBeside a.stanza b.repo.view k.repo.view
+    beside = c.did.spares.beside (turns a asks)
 
-    by : (command : Command) → IsOf (manner_of a.request a.data_folder b.tree.nodes b.links) command → TakesAs command → (n ≡ 0) ⊎ (n ≢ 0) → Shown
+    spool_beside : StaysBeside a.stanza b.spool.view k.spool.view
+    spool_beside = c.did.spares.spool (turns a asks)
+
+    by : (command : Command) → IsOf (manner_of a a.request (known b) (known k)) command → TakesAs command → (n ≡ 0) ⊎ (n ≢ 0) → Shown
     by command is takes (inl z) = inr (
       the_call a.stanza command true,
       record { asked = a; asks = asks; stanza = refl; command = is; acknowledged = ((λ e. z), (λ e. refl)) },
       call_does a.stanza command true b.repo.view b.spool.view k.repo.view k.spool.view (asked_in_form words b.config.files a asks) takes.part takes.between takes.receipts
-          (subst (λ (reached : Reached). OnAll reached (Leads a.stanza command true b.repo.view b.spool.view k.repo.view k.spool.view)) (to_its_end z) takes.whole).keeps c.did.spares.beside spool_beside,
+          (subst (λ (reached : Reached). OnAll reached (Leads a.stanza command true b.repo.view b.spool.view k.repo.view k.spool.view)) (to_its_end z) takes.whole).keeps beside spool_beside,
     )
     by command is takes (inr off) = inr (
       the_call a.stanza command false,
       record { asked = a; asks = asks; stanza = refl; command = is; acknowledged = ((λ (e : ◌≡◌ {A = Bool} false true). cc), (λ z. absurd (off z))) },
-      call_does a.stanza command false b.repo.view b.spool.view k.repo.view k.spool.view (asked_in_form words b.config.files a asks) takes.part takes.between takes.receipts takes.part.keeps c.did.spares.beside spool_beside,
+      call_does a.stanza command false b.repo.view b.spool.view k.repo.view k.spool.view (asked_in_form words b.config.files a asks) takes.part takes.between takes.receipts takes.part.keeps beside spool_beside,
     )
 
     obeyed : Shown
-    obeyed = let x = some_command a.request a.data_folder b.tree.nodes b.links TakesAs told c.did.steps in by x.0 x.1 x.2 (zero_or n)
+    obeyed = let x = some_command a a.request (known b) (known k) TakesAs told (turns a asks) c.did.steps in by x.0 x.1 x.2 (zero_or n)
 
   pub shown : Answers words b k n → Shown
   shown (inl r) = refused [] r.fault r.idle r.answered

@@ -1,5 +1,5 @@
 -- What a list of acts over devices in memory makes of the logs.
-use Rattle.std.specs.Prelude.{◌≤◌, ℕ, List, Option, Some, map, string_bytes, is_some}
+use Rattle.std.specs.Prelude.{◌≡◌, ◌≤◌, ℕ, Bool, false, List, [], ◌∷◌, Option, Some, map, string_bytes, is_some}
 use Rattle.pgb_outside.specs.Content.{Content}
 use Rattle.pgb_outside.specs.Moments.{View, IsImage}
 use Rattle.pgb_outside.specs.Tree.{Nodes}
@@ -15,6 +15,9 @@ use Rattle.pgb_headline.specs.declared.playing.Act.{Act}
 use Rattle.pgb_headline.specs.declared.playing.Disks.{Disks as Pair}
 use Rattle.pgb_headline.specs.declared.workers.Workers.{Workers}
 use Rattle.pgb_worker_links.specs.Workers.{state_of}
+use Rattle.pgb_model.specs.Text.{Text}
+use Rattle.pgb_command.specs.Asked.{Asked, MayAsk}
+use Rattle.pgb_command.specs.Tables.{Known, uses_turns}
 use Rattle.pgb_headline.specs.Acts.{both, GoesOn}
 
 abbrev pub views : Pair → Disks
@@ -39,6 +42,20 @@ pub record IsLeft (v : View) (first moment : ℕ) (opened : View) : Type 0 where
   pub image : IsImage v moment content
   pub reopened : IsReopened content opened
 
--- the log goes on by the act, which ended with this status, or would have
+-- the log goes on by a call with these words, of which the objects held this before
+abbrev pub CallGoes : List Text → Option Content → Option Nodes → List LinkState → ℕ → Bool → List Call → List Call → Type 0
+CallGoes words files nodes links status was_stopped before after =
+    (old : Known) × (new : Known) × (old.nodes ≡ nodes) × (old.links ≡ links) × GoesOn words files old new status was_stopped before after
+
+-- it goes on by the act, which ended with this status, or would have
 abbrev pub ActGoes : Act → ℕ → List Call → List Call → Type 0
-ActGoes x status before after = GoesOn (map string_bytes x.words.items) (files_of x.config) (nodes_of x.tree) (links_of x.workers) status (is_some x.halt) before after
+ActGoes x status before after = CallGoes (map string_bytes x.words.items) (files_of x.config) (nodes_of x.tree) (links_of x.workers) status (is_some x.halt) before after
+
+-- the words ask for no command that waits for turns of others
+abbrev pub AskNoTurns : List Text → Option Content → Type 0
+AskNoTurns words files = (a : Asked) → MayAsk words files a → uses_turns a.request ≡ false
+
+-- nor do those of any of the acts
+abbrev pub WaitForNone : List Act → Type 0
+WaitForNone [] = Unit {0}
+WaitForNone (x ∷ xs) = AskNoTurns (map string_bytes x.words.items) (files_of x.config) × WaitForNone xs

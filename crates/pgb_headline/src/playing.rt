@@ -4,8 +4,9 @@ ghost use Rattle.pgb_outside.specs.Content.{Content};
 ghost use Rattle.pgb_outside.specs.Moments.{IsImage};
 ghost use Rattle.pgb_model.proofs.Reopened.{IsReopened};
 ghost use Rattle.pgb_story.specs.Story.{Call, KeepsAll};
+ghost use Rattle.pgb_command.specs.Tables.{Known};
 ghost use Rattle.pgb_headline.specs.Acts.{Went};
-ghost use Rattle.pgb_headline.specs.Lists.{views, files_of, nodes_of, links_of, IsLeft, ActGoes};
+ghost use Rattle.pgb_headline.specs.Lists.{views, files_of, nodes_of, links_of, IsLeft, ActGoes, AskNoTurns};
 
 use crate::calling::called;
 use crate::workers::Workers;
@@ -95,8 +96,10 @@ fn call_on(
     workers: Workers,
     picks: Vec<u64>,
 ) -> (Disks, u8)
-    ensures went { (before : List Call) → KeepsAll before (views disks)
-        → Went (map string_bytes words.now) (files_of config) (nodes_of tree) (links_of workers) result.1 before
+    ensures went { AskNoTurns (map string_bytes words.now) (files_of config)
+        → (before : List Call) → KeepsAll before (views disks)
+        → (old : Known) × (new : Known) × (old.nodes ≡ nodes_of tree) × (old.links ≡ links_of workers)
+        × Went (map string_bytes words.now) (files_of config) old new result.1 before
         (views disks) (views result.0) }
 {
     let Disks { repo, spool } = disks;
@@ -139,10 +142,12 @@ fn both_reopened(
     Ok(Disks { repo, spool })
 }
 
-/// Plays a call, with its stop where it has one: disks that keep the logs of all stanzas keep them with the call. It
-/// answers the status that the call ends with, or would have ended with.
+/// Plays a call, with its stop where it has one: disks that keep the logs of all stanzas keep them with the call, unless it
+/// waits for turns of other processes, of which there are none here. It answers the status that the call ends with, or
+/// would have ended with.
 pub fn play_one(alloc: Global, disks: Disks, act: Act) -> Result<(Disks, u8), PlayFault>
-    ensures keeps { IfOk result (λ r. (before : List Call) → KeepsAll before (views disks)
+    ensures keeps { IfOk result (λ r. AskNoTurns (map string_bytes act.words.items) (files_of act.config)
+        → (before : List Call) → KeepsAll before (views disks)
         → (after : List Call) × ActGoes act r.1 before after × KeepsAll after (views r.0)) }
 {
     let repo_from = disks.repo.moment();

@@ -12,6 +12,7 @@ use pgb_adapters::{
     RealClock, RealDisk, RealFiles, RealInput, RealLocks, RealSink, RealSource, RealTree, RealWire,
 };
 use pgb_command::{Outside, run};
+use pgb_others::Others;
 use pgb_outside::NotThere;
 use pgb_system::{RealLink, RoundRobin};
 use pgb_worker::serve;
@@ -112,7 +113,7 @@ fn status_of(rt: HostRuntime, words: &[String]) -> io::Result<u8> {
         spool: NotThere::new(),
         tree,
         server: RealWire::new(rt),
-        aside: NotThere::new(),
+        aside: Others::new(rt),
         clock: RealClock::new(rt),
         locks: RealLocks::new(rt),
         config: RealSource::new(rt),

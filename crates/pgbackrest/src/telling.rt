@@ -2,6 +2,7 @@
 use pgb_adapters::{RealClock, RealDisk, RealLocks, RealSink, RealSource, RealTree, RealWire};
 use pgb_command::Outside;
 use pgb_options::{Command, ConfigPath, LogWord, config_path, settle_words};
+use pgb_others::Others;
 use pgb_outside::{NotThere, Source};
 use pgb_system::{RealLink, RoundRobin};
 use pgb_table::Verb;
@@ -13,7 +14,7 @@ pub type System = Outside<
     NotThere,
     RealTree,
     RealWire,
-    NotThere,
+    Others,
     RealClock,
     RealLocks,
     RealSource,

@@ -1,5 +1,5 @@
 use Rattle.std.proofs.Common.{ap, sym, ◌∙◌, map, string_bytes}
-use Rattle.pgb_command.specs.Tables.{uses_workers, is_on_repository}
+use Rattle.pgb_command.specs.Tables.{uses_turns, uses_workers, is_on_repository}
 use Rattle.pgb_command.specs.Told.{asked_of}
 use Rattle.pgb_command.proofs.AskedOnce.{ok_same}
 use Rattle.pgb_command.proofs.Readied.{no_server}
@@ -18,6 +18,9 @@ returns-clause-quiet g c = λ s is none. c.obey-ended.ensures.quiet (no_server c
 
 pub returns-clause-alone : goal.returns-clause-alone
 returns-clause-alone g c = λ s is request asked off. c.obey-ended.ensures.alone (ap uses_workers (ok_same _ _ (sym (c.in-Ok.ensures.asked s is).request ∙ asked)) ∙ off)
+
+pub returns-clause-waits : goal.returns-clause-waits
+returns-clause-waits g c = λ s is request asked off. c.obey-ended.ensures.waits (ap uses_turns (ok_same _ _ (sym (c.in-Ok.ensures.asked s is).request ∙ asked)) ∙ off)
 
 pub returns-clause-unused : goal.returns-clause-unused
 returns-clause-unused g c = λ s is request asked on. c.obey-ended.ensures.unused (ap is_on_repository (ok_same _ _ (sym (c.in-Ok.ensures.asked s is).request ∙ asked)) ∙ on)

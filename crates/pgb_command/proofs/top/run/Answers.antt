@@ -3,7 +3,7 @@ use Rattle.pgb_story.proofs.Beside.{keeps_others}
 use Rattle.pgb_command.specs.Asked.{requested}
 use Rattle.pgb_command.proofs.InForm.{command_in_form, asked_in_form}
 use Rattle.pgb_command.proofs.Closings.{closes_talk}
-use Rattle.pgb_command.proofs.Unused.{only_unbuilt, no_server_asked, request_asked, err_as}
+use Rattle.pgb_command.proofs.Unused.{only_unbuilt, no_server_asked, no_turns_waited, request_asked, err_as}
 use Rattle.pgb_command.proofs.Carried.{runs_on, runs_off}
 use Rattle.pgb_command.proofs.Follows.{found, finishes, part_done, turns_back, fulfils, leaves_rest, opens_places, only_locked, completes}
 use Rattle.pgb_command.proofs.top.run.Goals as goal
@@ -75,6 +75,10 @@ pub returns-clause-quiet : goal.returns-clause-quiet
 returns-clause-quiet g c = λ none. no_server_asked (map string_bytes c.args.words.now) (g.I.Source.state c.args.outside.now.config).files c.in-Ok.command c.in-Ok.ensures.command _ c.carry.ensures.quiet
     (λ s is. err_as (requested s) _ _ (λ e. ap (λ o. o.server) e) (c.carry.ensures.unbuilt s is)) none
 
+pub returns-clause-untouched : goal.returns-clause-untouched
+returns-clause-untouched g c = λ none. no_turns_waited (map string_bytes c.args.words.now) (g.I.Source.state c.args.outside.now.config).files c.in-Ok.command c.in-Ok.ensures.command _ c.carry.ensures.waits
+    (λ s is. err_as (requested s) _ _ (λ e. (ap (λ o. o.spool) e, ap (λ o. o.aside) e)) (c.carry.ensures.unbuilt s is)) none
+
 pub returns-clause-unused : goal.returns-clause-unused
 returns-clause-unused g c = λ a asks on. request_asked (map string_bytes c.args.words.now) (g.I.Source.state c.args.outside.now.config).files c.in-Ok.command c.in-Ok.ensures.command _ a
     (λ s settled asked. c.carry.ensures.unused s settled a.request asked on) asks
@@ -91,10 +95,10 @@ returns-clause-unasked g c = λ none.
 
 pub returns-in-Err-clause-others : goal.returns-in-Err-clause-others
 returns-in-Err-clause-others g c = λ a asks.
-    keeps_others a.stanza (asked_in_form (map string_bytes c.args.words.now) _ a asks.asks) _ _ (g.met.D.Disk.now_may_be_left c.args.outside.now.repo)
-    (returns-in-Err-clause-rests g c a asks).beside
+    (λ told. keeps_others a.stanza (asked_in_form (map string_bytes c.args.words.now) _ a asks.asks) _ _ (g.met.D.Disk.now_may_be_left c.args.outside.now.repo)
+    ((returns-in-Err-clause-rests g c a asks).beside told))
 
 pub returns-clause-others : goal.returns-clause-others
 returns-clause-others g c = λ a asks.
-    keeps_others a.stanza (asked_in_form (map string_bytes c.args.words.now) _ a asks.asks) _ _ (g.met.D.Disk.now_may_be_left c.args.outside.now.repo)
-    (returns-clause-rests g c a asks).beside
+    (λ told. keeps_others a.stanza (asked_in_form (map string_bytes c.args.words.now) _ a asks.asks) _ _ (g.met.D.Disk.now_may_be_left c.args.outside.now.repo)
+    ((returns-clause-rests g c a asks).beside told))

@@ -1,17 +1,18 @@
 use Rattle.std.proofs.lemmas.Iterator.Adapters.{YieldsList-from_vec}
 use Rattle.std.proofs.lemmas.Iterator.Consumers.{YieldsList-end}
-use Rattle.pgb_headline.proofs.Going.{map_same}
+use Rattle.pgb_headline.proofs.Going.{map_same, wait_for}
 use Rattle.std.proofs.Common.{rules, ◌≡◌, ◌∙◌, ◌++◌, ◌∷◌, [], List, ℕ, sym, subst}
 use Rattle.pgb_story.proofs.Played.{played_more}
 use Rattle.pgb_story.specs.Played.{ArePlayed}
 use Rattle.pgb_headline.specs.declared.playing.Act.{Act}
-use Rattle.pgb_headline.specs.Lists.{ActGoes}
+use Rattle.pgb_headline.specs.Lists.{ActGoes, WaitForNone}
 use Rattle.pgb_headline.proofs.listing.play.Goals as goal
 
 pub loop-act-preserved : goal.loop-act-preserved
-loop-act-preserved c = λ before h.
-    let x = c.loop-act.invariant before h in
-    let y = c.in_ok-next.ensures.keeps x.0 x.2 in (
+loop-act-preserved c = λ none before h.
+    let w = wait_for c.loop-act.yielded c.in-Some.act none in
+    let x = c.loop-act.invariant w.0 before h in
+    let y = c.in_ok-next.ensures.keeps w.1 x.0 x.2 in (
       y.0,
       subst (λ (ss : List ℕ). ArePlayed ActGoes (c.loop-act.yielded ++ c.in-Some.act ∷ []) ss before y.0) (sym c.in_ok-note.ensures) (played_more ActGoes c.loop-act.yielded c.loop-act.statuses.items c.in-Some.act c.in_ok-next.status before x.0 y.0 x.1 y.1),
       y.2,
@@ -19,10 +20,10 @@ loop-act-preserved c = λ before h.
 
 pub returns : goal.returns
 returns c = record {
-  keeps = λ before h.
-      let x = c.loop-act.invariant before h in
+  keeps = λ none before h.
       let gives = c.into_iter-act-iterator.ensures.into_iter_gives in
       let t = YieldsList-end (YieldsList-from_vec c.args.acts.items gives.0 (search rules)) c.loop-act.yielded c.loop-act.act-iterator c.loop-act.yielded_by c.next.result c.next.new.self c.in-None.is c.next.ensures.steps in
       let all : c.loop-act.yielded ≡ c.args.acts.items = sym (map_same c.loop-act.yielded) ∙ t.0 in
+      let x = c.loop-act.invariant (subst WaitForNone (sym all) none) before h in
       (x.0, subst (λ (xs : List Act). ArePlayed ActGoes xs c.loop-act.statuses.items before x.0) all x.1, x.2);
 }

@@ -10,7 +10,7 @@ use Rattle.pgb_command.proofs.outside.Outside.work.Goals as goal
 pub returns-in_err-ready-clause-did : goal.returns-in_err-ready-clause-did
 returns-in_err-ready-clause-did g c =
     let e = c.in_err-ready.ensures in
-    unprepared (asked_of c.args.settings.now) c.args.plan.now c.requires.plan _ _ c.from_residual.result c.in_err-ready.field-0.0 c.from_residual.ensures.1 e.quiet (rests_none _) refl e.still e.looks.nodes refl refl refl
+    unprepared (asked_of c.args.settings.now) c.args.plan.now c.requires.plan _ _ c.from_residual.result c.in_err-ready.field-0.0 c.from_residual.ensures.1 e.quiet (rests_none _) refl e.still e.looks.nodes refl refl refl refl
     (all_later _ _ e.frame.later (omega arith) e.looks.later (omega arith) (omega arith) (omega arith) (omega arith) (omega arith) (omega arith)) _
     (rose_to _ _ _ (λ h. h) (λ h. absurd h) (λ h. h) (λ h. absurd h) (λ h. absurd h) (λ h. absurd h) (λ h. absurd h) (λ h. absurd h) (λ h. absurd h)) e.cause
 

@@ -1,0 +1,120 @@
+#!/usr/bin/env bash
+# backup of a running server of PostgreSQL 15 under load, whose log is archived by archive-push: each file of the label's folder has the
+# sum that the manifest tells, the log of its span is archived, and the backup is restored and recovers to the end of the archive. What
+# is refused leaves the list as it was, and the server in no backup.
+. "$(dirname "$0")/server"
+
+# The server starts this program by its name.
+export PATH=$room:$PATH
+
+online=(--type=full --no-expire-auto --start-fast)
+
+# The list as the info file tells it.
+listed() {
+    sed -n '/^\[backup:current\]$/,/^$/p' repo/backup/demo/backup.info
+}
+
+is_listed() {
+    program info | grep -q "full backup: $1$"
+}
+
+# back_up OPTION..: a backup, whose label is then in `label`.
+back_up() {
+    program "${online[@]}" "$@" backup >output 2>errors || complain "the backup ended with $?: $(cat output errors)"
+    label=$(sed -n 's/^INFO: new backup label = \([0-9]\{8\}-[0-9]\{6\}F\)$/\1/p' output)
+    [ "$(wc -l <output)" = 1 ] && [ -n "$label" ] || complain "the backup wrote '$(cat output)'"
+    [ ! -s errors ] || complain "the backup wrote to standard error: $(cat errors)"
+}
+
+# check_files LABEL: the files in the folder are those that the manifest tells with bytes, each with its size and sum.
+check_files() {
+    local folder=repo/backup/demo/$1
+    sed -n 's/^pg_data\/\(.*\)={"checksum":"\([0-9a-f]*\)","size":\([0-9]*\),"timestamp":[0-9]*}$/\2 \3 \1/p' "$folder/backup.manifest" |
+        grep -v '^[0-9a-f]* 0 ' | LC_ALL=C sort >wanted
+    (cd "$folder/pg_data" && find . -type f -exec sha1sum {} + | while read -r sum path; do
+        printf '%s %s %s\n' "$sum" "$(stat -c %s "$path")" "${path#./}"
+    done) | LC_ALL=C sort >found
+    [ -s wanted ] && cmp -s wanted found || complain "$1 has other files than its manifest tells: $(diff wanted found | head -n 5)"
+    cmp -s "$folder/backup.manifest" "$folder/backup.manifest.copy" || complain "the members of the manifest of $1 differ"
+    grep -q '^START WAL LOCATION: ' "$folder/pg_data/backup_label" || complain "$1 has no label file of the server"
+    grep -q '^pg_data/pg_wal/.*={' "$folder/backup.manifest" && complain "$1 has files of the log"
+    grep -q '^pg_data/global/pg_control={' "$folder/backup.manifest" || complain "$1 has no control file"
+}
+
+# check_span LABEL: the segments at which its log starts and stops are archived.
+check_span() {
+    local name
+    for name in $(sed -n 's/.*"backup-archive-st[a-z]*":"\([0-9A-F]\{24\}\)".*/\1/p' "repo/backup/demo/$1/backup.manifest") \
+        $(sed -n 's/^backup-archive-st[a-z]*="\([0-9A-F]\{24\}\)"$/\1/p' "repo/backup/demo/$1/backup.manifest"); do
+        compgen -G "repo/archive/demo/15-1/${name:0:16}/$name-*" >/dev/null || complain "segment $name of $1 isn't archived"
+        spans=$((spans + 1))
+    done
+}
+
+configure
+printf "[global:backup]\nrepo1-path=%s/repo\npg1-socket-path=%s/socket\n" "$room" "$room" >>conf
+want 0 '' stanza-create
+start_server
+"${as[@]}" "$tools/pgbench" -h "$room/socket" -U postgres -i -s 5 -q postgres >/dev/null 2>&1 || complain 'pgbench made no tables'
+"${as[@]}" "$tools/pgbench" -h "$room/socket" -U postgres -n -c 2 -T 600 postgres >/dev/null 2>&1 &
+load=$!
+
+spans=0
+back_up
+first=$label
+back_up --process-max=3
+for one in "$first" "$label"; do
+    check_files "$one"
+    check_span "$one"
+    is_listed "$one" || complain "info doesn't list $one"
+done
+[ "$label" != "$first" ] || complain "two backups have the label $label"
+[ "$spans" -ge 4 ] || complain "the manifests tell $spans segments"
+
+# What is refused lists nothing, and the server isn't in a backup afterwards.
+listed >kept
+refuse() {
+    local status=$1 output=$2
+    shift 2
+    want "$status" "$output" "${online[@]}" "$@" backup
+    listed | cmp -s kept - || complain "the list changed at status $status"
+}
+refuse 48 'ERROR: [048]: server: [3D000] database "none" does not exist
+' --pg1-database=none
+refuse 83 'ERROR: [083]: server connection failed
+' --pg1-port=5433
+"${as[@]}" ln -s base pg/elsewhere
+refuse 44 "ERROR: [044]: 'elsewhere' is a link
+"
+rm pg/elsewhere
+
+# A log that isn't archived in time: after so many turns the first segment that is missing is told.
+ask "alter system set archive_command = 'false'" >/dev/null
+ask 'select pg_reload_conf()' >/dev/null
+sleep 1
+status=0
+program "${online[@]}" --archive-timeout=2 backup >output 2>errors || status=$?
+[ "$status" = 42 ] && grep -q '^ERROR: \[042\]: segment [0-9A-F]\{24\} not archived after 2 turns$' output || complain "a late segment is told as $(cat output)"
+listed | cmp -s kept - || complain 'a backup whose log is not archived is listed'
+ask 'alter system reset archive_command' >/dev/null
+ask 'select pg_reload_conf()' >/dev/null
+
+kill "$load" 2>/dev/null || true
+wait "$load" 2>/dev/null || true
+switch >/dev/null
+await
+rows=$(ask 'select count(*) from pgbench_history')
+money=$(ask 'select sum(abalance) from pgbench_accounts')
+stop_server immediate
+
+# The cluster is lost, and the first backup put in its place: with the log that was archived since, nothing is missing.
+mv pg lost
+mkdir pg
+chown --reference=lost pg
+chmod 700 pg
+"${as[@]}" "${ours[@]}" --set="$first" restore >output 2>errors || complain "the restore ended with $?: $(cat output errors)"
+start_server
+[ "$(ask 'select count(*) from pgbench_history')" = "$rows" ] || complain "of $rows rows others came back"
+[ "$(ask 'select sum(abalance) from pgbench_accounts')" = "$money" ] || complain 'the balances are others'
+stop_server fast
+exit "$wrong"

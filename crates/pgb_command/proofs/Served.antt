@@ -1,0 +1,80 @@
+-- A running server's backup has a server to ask.
+use Rattle.std.proofs.Common.{◌≡◌, Bool, true, false, List, Option, Some, None, Result, Ok, Err, refl, sym, ◌∙◌, ap, subst}
+use Rattle.std.specs.Prelude.{ℕ, if◌then◌else◌, is_some, map, option_map, string_bytes}
+use Rattle.pgb_model.specs.Text.{Text}
+use Rattle.pgb_options.specs.declared.settle.Command.{Command}
+use Rattle.pgb_options.specs.Commands.{IsCommand}
+use Rattle.pgb_options.specs.Settings.{Settled}
+use Rattle.pgb_stage.specs.declared.fault.Unbuilt.{Unbuilt}
+use Rattle.pgb_stage.specs.declared.fault.Unbuilt.TheVariants.{Background, Kind, Delta as Digests, Bundles, Expiry}
+use Rattle.pgb_table.specs.declared.table.Verb.{Verb}
+use Rattle.pgb_table.specs.declared.table.Verb.TheVariants.{StanzaCreate, ArchivePush, ArchivePushAsync, ArchiveGet, ArchiveGetAsync, Backup, Expire, Restore, Verify, Info, Rehearse}
+use Rattle.pgb_create.specs.declared.server.Server as code
+use Rattle.pgb_create.specs.Server.{Server, server_view}
+use Rattle.pgb_command.specs.declared.settings.Request as settings
+use Rattle.pgb_command.specs.declared.settings.Request.TheVariants as requests
+use Rattle.pgb_command.specs.Asked.{Request, RunningHow, push, get, backup, backup_running, Wanted, first_of, second_of, full_by, backup_by, is_full, request_by, requested, server_by, server_asked, wanted_in}
+use Rattle.pgb_command.specs.Serving.{is_served}
+use Rattle.pgb_command.specs.Told.{request_of, wanted_told}
+use Rattle.pgb_command.proofs.AskedOnce.{ok_same}
+use Rattle.pgb_command.proofs.Wanted.{request_is}
+
+-- ---- which of two
+
+one_online : (b : Bool) (r : Request) (workers : ℕ) (how : RunningHow) → (if b then r else backup workers) ≡ backup_running how → b ≡ true
+one_online true r workers how is = refl
+one_online false r workers how is = cc
+
+abbrev Asks : Result Request Unbuilt → RunningHow → Type 0
+Asks r how = r ≡ Ok (backup_running how)
+
+one_built : (b : Bool) (what : Unbuilt) (r : Result Request Unbuilt) (how : RunningHow) → Asks (if b then Err what else r) how → Asks r how
+one_built true what r how is = cc
+one_built false what r how is = is
+
+one_kind : (b : Bool) (what : Unbuilt) (r : Result Request Unbuilt) (how : RunningHow) → Asks (if b then r else Err what) how → Asks r how
+one_kind true what r how is = is
+one_kind false what r how is = cc
+
+ok_asks : (r : Request) (how : RunningHow) → Asks (Ok r) how → r ≡ backup_running how
+ok_asks r how is = ok_same r (backup_running how) is
+
+-- ---- where it is asked for, it is online
+
+module _ (m : Wanted) (how : RunningHow) where
+  backup_online : Asks (backup_by m) how → m.online ≡ true
+  backup_online is = one_online m.online _ m.workers how (ok_asks (full_by m) how (one_built m.expires Expiry _ how (one_built m.bundles Bundles _ how (one_built m.delta Digests _ how (one_kind (is_full m.kind) Kind _ how is)))))
+
+  push_never : (path : Text) → Asks (if m.background then Err Background else Ok (push path)) how → ⊥
+  push_never path is = let e = ok_asks (push path) how (one_built m.background Background _ how is) in cc
+
+  get_never : (name path : Text) → Asks (if m.background then Err Background else Ok (get name path)) how → ⊥
+  get_never name path is = let e = ok_asks (get name path) how (one_built m.background Background _ how is) in cc
+
+  served_by : (verb : Verb) (given : List Text) → Asks (request_by verb m given) how → (server : Server) → is_some (server_by verb m.online server) ≡ true
+  served_by Backup given is server = ap (λ (b : Bool). is_some (server_by Backup b server)) (backup_online is)
+  served_by StanzaCreate given is server = cc
+  served_by ArchivePush given is server = absurd (push_never (first_of given) is)
+  served_by ArchivePushAsync given is server = cc
+  served_by ArchiveGet given is server = absurd (get_never (first_of given) (second_of given) is)
+  served_by ArchiveGetAsync given is server = cc
+  served_by Expire given is server = cc
+  served_by Restore given is server = cc
+  served_by Verify given is server = cc
+  served_by Info given is server = cc
+  served_by Rehearse given is server = cc
+
+some_server : (o : Option code.Server) → is_some (option_map server_view o) ≡ true → is_some o ≡ true
+some_server None is = is
+some_server (Some s) is = refl
+
+pub request_served : (c : Command) (s : Settled) → IsCommand c s → (r : settings.Request) → request_by c.verb (wanted_told c.options) (map string_bytes c.given.items) ≡ Ok (request_of r) → (o : Option code.Server) → option_map server_view o ≡ server_asked s → is_served r o ≡ true
+request_served c s is requests.StanzaCreate asked o server = refl
+request_served c s is (requests.ArchivePush path) asked o server = refl
+request_served c s is (requests.ArchiveGet name path) asked o server = refl
+request_served c s is (requests.Backup workers) asked o server = refl
+request_served c s is (requests.BackupRunning workers fast turns) asked o server =
+    some_server o (ap is_some server ∙ served_by (wanted_in s.source) (record { workers = workers; fast = fast; turns = turns }) s.source.verb s.parameters (sym (request_is c s is) ∙ asked) _)
+request_served c s is (requests.Restore set workers delta recovery) asked o server = refl
+request_served c s is (requests.Info form) asked o server = refl
+request_served c s is requests.Verify asked o server = refl
