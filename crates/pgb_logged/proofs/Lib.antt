@@ -1,5 +1,7 @@
 pub mod Values
 pub mod Settled
+pub mod Prior
+pub mod Based
 pub mod Reading
 pub mod Folders
 pub mod Begun

@@ -31,8 +31,9 @@ use Rattle.pgb_backup.proofs.Far.{far}
 use Rattle.pgb_backup.proofs.Unlisted.{tight_of, beside_stands, unlisted_moves}
 use Rattle.pgb_logged.specs.Backups.{IsReadBeside, IsOnlineBackup, Waits, Archives, HasPart}
 use Rattle.pgb_logged.proofs.Settled.{OneList}
+use Rattle.pgb_logged.proofs.Based.{full_based}
 use Rattle.pgb_logged.proofs.Reading.{backup_made, online_read, label_there, no_files, no_files_beside}
-use Rattle.pgb_logged.proofs.Begun.{BeginsFull, told_as, at_now, stanza_there, list_there, no_vacant, steady_list}
+use Rattle.pgb_logged.proofs.Begun.{BeginsFull, full_begins, told_as, at_now, stanza_there, list_there, no_vacant, steady_list}
 use Rattle.pgb_logged.proofs.Behind.{moves_steady, moves_on, all_then, part_then, all_part, after_then, one_cluster}
 use Rattle.pgb_logged.proofs.Listed.{sound_with, made_stands, two_moves, made_steady}
 use Rattle.pgb_logged.proofs.Unlisted.{unlisted_part}
@@ -85,14 +86,14 @@ module _ (one_list : OneList) (one_manifest : OneManifest) (draft : Draft) (a c 
   still_there s list f g h is_f is_g = beside_stands draft s (far one_manifest draft begins.is_draft s list) f g h (left.now.goes f g is_f is_g)
 
   pub left_moves : (s : Stanza) → IsSome a.now → IsSteady (stanza_of draft) (Some s) a → Moves (stanza_of draft) (λ g. Stands (stanza_of draft) g (Some s)) a c
-  left_moves s some steady = unlisted_moves draft s (far one_manifest draft begins.is_draft s (steady_list one_list draft a begins some s steady)) a c some (left.way (tight_of draft s a steady)) steady
+  left_moves s some steady = unlisted_moves draft s (far one_manifest draft begins.is_draft s (steady_list one_list draft a (full_begins draft a begins) some s steady)) a c some (left.way (tight_of draft s a steady)) steady
 
   pub left_stands : (s : Stanza) → IsSome a.now → NowStands (stanza_of draft) (Some s) a.now → NowStands (stanza_of draft) (Some s) c.now
   left_stands s some stands =
       let f = told_as a.now some in
       let g = told_as c.now (left.now.told some) in
       let h : HasStanza (stanza_of draft) f.0 s = stands.stands f.0 f.1 in
-      at_now (stanza_of draft) c.now g.0 g.1 (Some s) (still_there s (list_there one_list draft a begins f.0 f.1 s h) f.0 g.0 h f.1 g.1)
+      at_now (stanza_of draft) c.now g.0 g.1 (Some s) (still_there s (list_there one_list draft a (full_begins draft a begins) f.0 f.1 s h) f.0 g.0 h f.1 g.1)
 
   module _ (turns : List Turn) (ended : Bool) (w : View) (waits : Waits (stanza_of draft) turns ended c w) where
     -- the wait, where each part of the turns is one of the command
@@ -100,7 +101,7 @@ module _ (one_list : OneList) (one_manifest : OneManifest) (draft : Draft) (a c 
       wait_now : (r : Repository) → IsSome a.now → NowStands (stanza_of draft) r a.now → (done : List Step) × IsPartOf done (steps_of command r) × NowStands (stanza_of draft) (after r done) w.now
       wait_now r some stands =
           let f = told_as a.now some in
-          let x = stanza_there one_list draft a begins f.0 f.1 r (stands.stands f.0 f.1) in
+          let x = stanza_there one_list draft a (full_begins draft a begins) f.0 f.1 r (stands.stands f.0 f.1) in
           let here = subst (λ (q : Repository). NowStands (stanza_of draft) q a.now) x.1 stands in
           let y = waits.does.does (Some x.0) tt (left.now.told some) (left_stands x.0 some here) in
           subst (λ (q : Repository). (done : List Step) × IsPartOf done (steps_of command q) × NowStands (stanza_of draft) (after q done) w.now) (sym x.1)
@@ -115,7 +116,7 @@ module _ (one_list : OneList) (one_manifest : OneManifest) (draft : Draft) (a c 
           m (waits_moves (stanza_of draft) turns ended c w waits (left.now.told some) (Some s) sound (moves_steady (stanza_of draft) (Some s) a c m))
 
       wait_goes : (r : Repository) → IsSome a.now → IsSteady (stanza_of draft) r a → IsSound r → Moves (stanza_of draft) (IsPart (stanza_of draft) command r) a w
-      wait_goes None some steady sound = absurd (no_vacant one_list draft a begins some steady)
+      wait_goes None some steady sound = absurd (no_vacant one_list draft a (full_begins draft a begins) some steady)
       wait_goes (Some s) some steady sound = wait_moves s some steady sound
 
       -- it is a part of the command
@@ -151,12 +152,12 @@ module _ (one_list : OneList) (one_manifest : OneManifest) (draft : Draft) (a c 
         unlisted_now : (r : Repository) → IsSome a.now → NowStands (stanza_of draft) r a.now → (done : List Step) × IsPartOf done (steps_of command r) × NowStands (stanza_of draft) (after r done) d.now
         unlisted_now r some stands =
             let f = told_as a.now some in
-            let x = stanza_there one_list draft a begins f.0 f.1 r (stands.stands f.0 f.1) in
+            let x = stanza_there one_list draft a (full_begins draft a begins) f.0 f.1 r (stands.stands f.0 f.1) in
             let here = subst (λ (q : Repository). NowStands (stanza_of draft) q a.now) x.1 stands in
             let s = x.0 in
             let g = told_as w.now (some_then some) in
             let k = told_as d.now (leaves.now.told (some_then some)) in
-            let list = waited_list s (list_there one_list draft a begins f.0 f.1 s x.2) in
+            let list = waited_list s (list_there one_list draft a (full_begins draft a begins) f.0 f.1 s x.2) in
             let stands_d = beside_stands draft (waited s turns) (far one_manifest draft begins.is_draft (waited s turns) list) g.0 k.0 (now_waited s some here g.0 g.1) (leaves.now.goes g.0 k.0 g.1 k.1) in
             subst (λ (q : Repository). (done : List Step) × IsPartOf done (steps_of command q) × NowStands (stanza_of draft) (after q done) d.now) (sym x.1) (
               all_of (turn_moves s turns),
@@ -165,10 +166,10 @@ module _ (one_list : OneList) (one_manifest : OneManifest) (draft : Draft) (a c 
             )
 
         unlisted_goes : (r : Repository) → IsSome a.now → IsSteady (stanza_of draft) r a → IsSound r → Moves (stanza_of draft) (IsPart (stanza_of draft) command r) a d
-        unlisted_goes None some steady sound = absurd (no_vacant one_list draft a begins some steady)
+        unlisted_goes None some steady sound = absurd (no_vacant one_list draft a (full_begins draft a begins) some steady)
         unlisted_goes (Some s) some steady sound =
             let y = waited_steady s some steady sound in
-            let list = waited_list s (steady_list one_list draft a begins some s steady) in
+            let list = waited_list s (steady_list one_list draft a (full_begins draft a begins) some s steady) in
             let m = unlisted_moves draft (waited s turns) (far one_manifest draft begins.is_draft (waited s turns) list) w d (some_then some) (leaves.way (tight_of draft (waited s turns) w y.0)) y.0 in
             moves_on (stanza_of draft) (IsPart (stanza_of draft) command (Some s)) (λ g. Stands (stanza_of draft) g (Some (waited s turns))) (IsPart (stanza_of draft) command (Some s)) a w d
             (λ g x. x)
@@ -217,8 +218,8 @@ module _ (one_list : OneList) (one_manifest : OneManifest) (draft : Draft) (a c 
               (x.0, x.1, x.2 ∙ ap id_of (sym same), x.3)
               ))
 
-          stands_with : (f g : Content) → HasStanza (stanza_of draft) f (waited s turns) → ListsIt draft (Some o) makes.manifest makes.list makes.names makes.kept makes.stop f g → HasStanza (stanza_of draft) g (changed (AddBackup (backup_made draft (Some o) links whole w d makes)) (waited s turns))
-          stands_with f g h x = made_stands one_list one_manifest draft begins.is_draft begins.no_old begins.no_prior (Some o) free links w d whole makes (some_then some) (waited s turns) after_list f g h x
+          stands_with : (f g : Content) → w.now ≡ Some f → HasStanza (stanza_of draft) f (waited s turns) → ListsIt draft (Some o) makes.manifest makes.list makes.names makes.kept makes.stop f g → HasStanza (stanza_of draft) g (changed (AddBackup (backup_made draft (Some o) links whole w d makes)) (waited s turns))
+          stands_with f g is_f h x = made_stands one_list one_manifest draft begins.is_draft (Some o) free links w d (full_based draft w begins.no_old begins.no_prior) whole makes f is_f (waited s turns) after_list h g x
 
           module _ (steady : IsSteady (stanza_of draft) (Some s) a) (sound : IsSoundStanza s) where
             at_w : IsSteady (stanza_of draft) (Some (waited s turns)) w × IsSoundStanza (waited s turns)
@@ -227,18 +228,22 @@ module _ (one_list : OneList) (one_manifest : OneManifest) (draft : Draft) (a c 
             sound_now : IsSoundStanza (changed (AddBackup (backup_made draft (Some o) links whole w d makes)) (waited s turns))
             sound_now =
                 let g = told_as w.now (some_then some) in
-                sound_with one_list one_manifest draft begins.is_draft begins.no_old begins.no_prior (Some o) free links w d whole makes (some_then some) (waited s turns) after_list
+                sound_with one_list one_manifest draft begins.is_draft (Some o) free links w d (full_based draft w begins.no_old begins.no_prior) whole makes g.0 g.1 (waited s turns) after_list (at_w.0.stands g.0 (inl g.1))
                 (segments g.0 g.1 (at_w.0.stands g.0 (inl g.1)) at_w.1) at_w.1
 
             made_moves : Moves (stanza_of draft) (IsPart (stanza_of draft) makes_it (Some s)) a d
-            made_moves = moves_on (stanza_of draft) (IsPart (stanza_of draft) makes_it (Some s)) (λ g. Stands (stanza_of draft) g (Some t) ⊎ Stands (stanza_of draft) g (Some (changed (AddBackup b) t))) (IsPart (stanza_of draft) makes_it (Some s)) a w d
+            made_moves =
+                let g = told_as w.now (some_then some) in
+                moves_on (stanza_of draft) (IsPart (stanza_of draft) makes_it (Some s)) (λ g. Stands (stanza_of draft) g (Some t) ⊎ Stands (stanza_of draft) g (Some (changed (AddBackup b) t))) (IsPart (stanza_of draft) makes_it (Some s)) a w d
                 (λ g x. x)
                 (λ g x. ⊎_elim (λ y. waited_part s turns b (stanza_of draft) g y at_w.1) (λ y. listed_part s turns b (stanza_of draft) g y sound_now) x)
                 (wait_moves makes_it (covers_backup turns b) s some steady sound)
-                (two_moves one_list one_manifest draft begins.is_draft begins.no_old begins.no_prior (Some o) free links w d whole makes (some_then some) (waited s turns) after_list at_w.0)
+                (two_moves one_list one_manifest draft begins.is_draft (Some o) free links w d (full_based draft w begins.no_old begins.no_prior) whole makes g.0 g.1 (waited s turns) after_list (at_w.0.stands g.0 (inl g.1)) at_w.0)
 
             steady_with : whole ≡ true → IsSteady (stanza_of draft) (Some (changed (AddBackup (backup_made draft (Some o) links whole w d makes)) (waited s turns))) d
-            steady_with all = made_steady one_list one_manifest draft begins.is_draft begins.no_old begins.no_prior (Some o) free links w d whole makes (some_then some) (waited s turns) after_list at_w.0 all
+            steady_with all =
+                let g = told_as w.now (some_then some) in
+                made_steady one_list one_manifest draft begins.is_draft (Some o) free links w d (full_based draft w begins.no_old begins.no_prior) whole makes g.0 g.1 (waited s turns) after_list (at_w.0.stands g.0 (inl g.1)) at_w.0 all
 
         abbrev Done : Bool → Repository → Type 0
         Done all r = (done : List Step) × IsDone all done (steps_of makes_it r) × NowStands (stanza_of draft) (after r done) d.now
@@ -246,10 +251,10 @@ module _ (one_list : OneList) (one_manifest : OneManifest) (draft : Draft) (a c 
         now_part : (r : Repository) → IsSome a.now → NowStands (stanza_of draft) r a.now → Done false r
         now_part r some stands =
             let f = told_as a.now some in
-            let x = stanza_there one_list draft a begins f.0 f.1 r (stands.stands f.0 f.1) in
+            let x = stanza_there one_list draft a (full_begins draft a begins) f.0 f.1 r (stands.stands f.0 f.1) in
             let here = subst (λ (q : Repository). NowStands (stanza_of draft) q a.now) x.1 stands in
             let s = x.0 in
-            let list = list_there one_list draft a begins f.0 f.1 s x.2 in
+            let list = list_there one_list draft a (full_begins draft a begins) f.0 f.1 s x.2 in
             let g = told_as w.now (some_then some) in
             let k = told_as d.now (makes.now.told (some_then some)) in
             let h = now_waited s some here g.0 g.1 in
@@ -263,13 +268,13 @@ module _ (one_list : OneList) (one_manifest : OneManifest) (draft : Draft) (a c 
             (λ y. (
               all_of (turn_moves s turns) ++ AddBackup b ∷ [],
               whole_part s turns b,
-              subst (λ (q : Repository). NowStands (stanza_of draft) q d.now) (sym (with_it s turns b)) (at_now (stanza_of draft) d.now k.0 k.1 (Some (changed (AddBackup b) (waited s turns))) (stands_with some s list g.0 k.0 h y)),
+              subst (λ (q : Repository). NowStands (stanza_of draft) q d.now) (sym (with_it s turns b)) (at_now (stanza_of draft) d.now k.0 k.1 (Some (changed (AddBackup b) (waited s turns))) (stands_with some s list g.0 k.0 g.1 h y)),
             ))
             (makes.now.goes g.0 k.0 g.1 k.1))
 
         goes : (r : Repository) → IsSome a.now → IsSteady (stanza_of draft) r a → IsSound r → Moves (stanza_of draft) (IsPart (stanza_of draft) makes_it r) a d
-        goes None some steady sound = absurd (no_vacant one_list draft a begins some steady)
-        goes (Some s) some steady sound = made_moves some s (steady_list one_list draft a begins some s steady) steady sound
+        goes None some steady sound = absurd (no_vacant one_list draft a (full_begins draft a begins) some steady)
+        goes (Some s) some steady sound = made_moves some s (steady_list one_list draft a (full_begins draft a begins) some s steady) steady sound
 
         pub online_part : DoesPart Whole (stanza_of draft) (MakeBackup turns (backup_made draft (Some o) links whole w d makes) None) a d
         online_part = record { part = record { told = λ some. makes.now.told (some_then some); does = λ r from. now_part r }; goes = goes }
@@ -281,13 +286,13 @@ module _ (one_list : OneList) (one_manifest : OneManifest) (draft : Draft) (a c 
               let f = told_as a.now some in
               let g = told_as w.now (some_then some) in
               let k = told_as d.now (makes.now.told (some_then some)) in
-              let list = list_there one_list draft a begins f.0 f.1 s (stands.stands f.0 f.1) in
-              at_now (stanza_of draft) d.now k.0 k.1 (Some (changed (AddBackup b) (waited s turns))) (stands_with some s list g.0 k.0 (now_waited s some stands g.0 g.1) ((makes.whole_now all).goes g.0 k.0 g.1 k.1))
+              let list = list_there one_list draft a (full_begins draft a begins) f.0 f.1 s (stands.stands f.0 f.1) in
+              at_now (stanza_of draft) d.now k.0 k.1 (Some (changed (AddBackup b) (waited s turns))) (stands_with some s list g.0 k.0 g.1 (now_waited s some stands g.0 g.1) ((makes.whole_now all).goes g.0 k.0 g.1 k.1))
 
           now_whole : (r : Repository) → IsSome a.now → NowStands (stanza_of draft) r a.now → Done true r
           now_whole r some stands =
               let f = told_as a.now some in
-              let x = stanza_there one_list draft a begins f.0 f.1 r (stands.stands f.0 f.1) in
+              let x = stanza_there one_list draft a (full_begins draft a begins) f.0 f.1 r (stands.stands f.0 f.1) in
               let here = subst (λ (q : Repository). NowStands (stanza_of draft) q a.now) x.1 stands in
               subst (λ (q : Repository). Done true q) (sym x.1) (
                 all_of (turn_moves x.0 turns) ++ AddBackup b ∷ [],
@@ -296,9 +301,9 @@ module _ (one_list : OneList) (one_manifest : OneManifest) (draft : Draft) (a c 
               )
 
           ends : (r : Repository) → IsSome a.now → IsSteady (stanza_of draft) r a → IsSound r → IsSteady (stanza_of draft) (after r (all_of (steps_of makes_it r))) d × IsSound (after r (all_of (steps_of makes_it r)))
-          ends None some steady sound = absurd (no_vacant one_list draft a begins some steady)
+          ends None some steady sound = absurd (no_vacant one_list draft a (full_begins draft a begins) some steady)
           ends (Some s) some steady sound =
-              let list = steady_list one_list draft a begins some s steady in
+              let list = steady_list one_list draft a (full_begins draft a begins) some s steady in
               let to : after (Some s) (all_of (steps_of makes_it (Some s))) ≡ Some (changed (AddBackup b) (waited s turns)) = ap (after (Some s)) (all_steps s turns b) ∙ with_it s turns b in (
                 subst (λ (q : Repository). IsSteady (stanza_of draft) q d) (sym to) (steady_with some s list steady sound all),
                 subst IsSound (sym to) (sound_now some s list steady sound),
@@ -315,7 +320,7 @@ module _ (one_list : OneList) (one_manifest : OneManifest) (draft : Draft) (a c 
   does_left told reached not = (MakeBackup [] no_files None, (no_files, refl, no_files_beside links told), by reached not)
     where
       part : (command : Command) → DoesPart Whole (stanza_of draft) command a c
-      part = unlisted_part one_list one_manifest draft a begins c left
+      part = unlisted_part one_list one_manifest draft a (full_begins draft a begins) c left
 
       by : (reached : Reached) → ¬ (reached ≡ to_end) → Does Whole (stanza_of draft) (MakeBackup [] no_files None) reached a c
       by to_end not = absurd (not refl)
@@ -395,7 +400,7 @@ module _ (one_list : OneList) (one_manifest : OneManifest) (draft : Draft) (a c 
         label = ap (λ (m : Manifest). m.label) makes.manifest_is;
         wal = ap (λ (m : Manifest). m.wal) makes.manifest_is;
         read = online_read draft begins.is_draft o free links true w d makes begins.no_old;
-        label_file = label_there draft begins.is_draft o free links true w d makes begins.no_old ∙ ap (λ (n : ℕ). (let v : Option File = Some (record { bytes = o.label_file; time = n }) in v)) (sym (ap (λ (m : Manifest). m.stop) makes.manifest_is));
+        label_file = label_there draft begins.is_draft o free links true w d makes ∙ ap (λ (n : ℕ). (let v : Option File = Some (record { bytes = o.label_file; time = n }) in v)) (sym (ap (λ (m : Manifest). m.stop) makes.manifest_is));
         adds = λ s some stands. (
             let b = backup_made draft (Some o) links true w d makes in
             subst (λ (q : Repository). NowStands (stanza_of draft) q d.now) (sym (ap (after (Some s)) (all_steps s turns b) ∙ with_it s turns b))
