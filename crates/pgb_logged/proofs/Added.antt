@@ -26,10 +26,11 @@ use Rattle.pgb_logged.proofs.Folders.{of_folder}
 use Rattle.pgb_logged.proofs.Begun.{BeginsFull, BeginsBackup, full_begins, list_there}
 use Rattle.pgb_logged.proofs.Made.{refers, now_listed}
 
--- It has the draft's label and prior and what the links read or the prior has, it refers to listed backups before it, and the repository has it too.
+-- It has the draft's label, prior and choices, and what the links read or the prior has, it refers to listed backups before it, and the repository has it too.
 pub record IsMade (draft : Draft) (links : List LinkState) (old new : Option Content) (b : Backup) : Type 0 where
   pub label : b.entry.label ≡ draft.label
   pub prior : b.entry.prior ≡ draft.prior
+  pub choices : b.choices ≡ draft.choices
   pub read : IsReadOrLeft links (stanza_of draft) old b
   pub refers : (s : Stanza) → IsSome old → NowStands (stanza_of draft) (Some s) old → (l : Label) → In l b.entry.references → IsAncestor s.backups l b × IsListed s.backups l
   pub adds : AddsBackup (stanza_of draft) b old new
@@ -39,6 +40,7 @@ module _ (one_list : OneList) (one_manifest : OneManifest) (draft : Draft) (link
   is_made makes = record {
     label = ap (λ (m : Manifest). m.label) makes.manifest_is;
     prior = ap (λ (m : Manifest). m.prior) makes.manifest_is;
+    choices = ap (λ (m : Manifest). m.choices) makes.manifest_is;
     read = read_or_left one_manifest draft begins.is_draft links true a d makes begins.based (λ f is s h. list_there one_list draft a begins f is s h);
     refers = refers one_list one_manifest draft links a d begins true makes;
     adds = record { adds = now_listed one_list one_manifest draft links a d begins true makes refl };
