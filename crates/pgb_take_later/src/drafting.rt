@@ -60,7 +60,7 @@ fn draft_at<'a>(
 }
 
 /// The draft of what the listing shows, beside the backups that the list has, and the lines that tell its kind and label.
-pub(crate) fn draft_later<'a, D: Disk, C: Clock>(
+pub fn draft_later<'a, D: Disk, C: Clock>(
     alloc: Global,
     repo: &mut D,
     clock: &mut C,

@@ -16,7 +16,9 @@ mod taking;
 mod telling;
 mod texts;
 
+pub use basing::load_base;
+pub use drafting::draft_later;
 pub use fault::LaterFault;
 pub use order::LaterOrder;
-pub use taking::take_later;
+pub use taking::{files_of, take_later};
 pub use texts::{later_message, later_status};

@@ -30,8 +30,8 @@ use pgb_stanza::Control;
 use pgb_take::begin;
 use std::alloc::Global;
 
-// The files of a manifest, and none without one.
-fn files_of(manifest: &Option<Manifest>) -> &[FileEntry]
+/// The files of a manifest, and none without one.
+pub fn files_of(manifest: &Option<Manifest>) -> &[FileEntry]
     ensures { map file_entry_of result.now ≡ old_files (option_map manifest_of manifest.now) }
 {
     match manifest {
