@@ -10,6 +10,7 @@ pub mod Listed
 pub mod Made
 pub mod Behind
 pub mod Waited
+pub mod Running
 pub mod Online
 pub mod Full
 pub mod Added

@@ -1,6 +1,6 @@
 -- The files of a backup have the bytes that its links read, or those of the prior backup.
 use Rattle.std.proofs.Common.{◌≡◌, ◌≢◌, ◌⊎◌, ⊎_elim, inl, inr, ◌<◌, ℕ, zero, suc, Bool, true, false, List, [], ◌∷◌, ◌++◌, length, map, Option, Some, None, refl, sym, ◌∙◌, ap, subst, arith, slice_get}
-use Rattle.std.specs.Prelude.{IfSome, unwrap_or, option_and_then}
+use Rattle.std.specs.Prelude.{IfSome, IsSome, unwrap_or, option_and_then}
 use Rattle.std.specs.FinMap.{is_sorted, get, get-empty, empty}
 use Rattle.pgb_outside.specs.Content.{Content}
 use Rattle.pgb_outside.specs.Moments.{View}
@@ -15,6 +15,7 @@ use Rattle.pgb_model.specs.Text.{Text, Map, In, text_cmp}
 use Rattle.pgb_model.specs.Values.{FileEntry, Manifest}
 use Rattle.pgb_model.specs.Repository.{File, Backup, Stanza}
 use Rattle.pgb_model.specs.Stands.{HasStanza}
+use Rattle.pgb_model.specs.Now.{NowStands}
 use Rattle.pgb_worker_keep.specs.declared.ItemEnd.{ItemEnd}
 use Rattle.pgb_worker_keep.specs.declared.ItemEnd.TheVariants.{Whole, Vanished}
 use Rattle.pgb_worker_keep.specs.KeepState.{Held, Done, Kept}
@@ -48,9 +49,9 @@ use Rattle.pgb_backup.specs.Made.{Makes, MakesOf}
 use Rattle.pgb_backup.specs.Online.{Online, label_path, label_entry}
 use Rattle.pgb_backup.proofs.Drafted.{one, reads}
 use Rattle.pgb_backup.proofs.Unreads.{in_at}
-use Rattle.pgb_logged.specs.Backups.{IsOfLink, IsReadBy, IsReadBeside, IsLeftOf, IsReadOrLeft}
+use Rattle.pgb_logged.specs.Backups.{IsOfLink, IsReadBy, IsReadBeside, IsLeftOf, IsReadOrLeft, IsReadOrLeftBeside}
 use Rattle.pgb_logged.proofs.Based.{BasedOn, IsTimedAs, draft_timed, based_on, stands_there, its_label, old_file, old_held}
-use Rattle.pgb_logged.proofs.Prior.{files_before, IsTimed, AreTimed, timed, rows_where}
+use Rattle.pgb_logged.proofs.Prior.{files_before, IsTimed, AreTimed, rows_where}
 use Rattle.pgb_logged.proofs.Values.{value_in}
 
 -- each file's entry with the bytes that came of it, or that were left
@@ -81,6 +82,12 @@ no_files_read links = record { read = λ path x is some. absurd (let e : ◌≡�
 -- nor was any left
 pub no_files_left : (links : List LinkState) (stanza : Text) (old : Option Content) → IsReadOrLeft links stanza old no_files
 no_files_left links stanza old = record { read = λ path x is some. absurd (let e : ◌≡◌ {A = Option File} None (Some x) = sym (get-empty {X = File} text_cmp path) ∙ is in cc) }
+
+pub no_files_left_beside : (links : List LinkState) (told : Option Text) (stanza : Text) (old : Option Content) → IsReadOrLeftBeside links told stanza old no_files
+no_files_left_beside links told stanza old = record {
+  read = λ path x is off some. absurd (let e : ◌≡◌ {A = Option File} None (Some x) = sym (get-empty {X = File} text_cmp path) ∙ is in cc);
+  label = λ x is. absurd (let e : ◌≡◌ {A = Option File} None (Some x) = sym (get-empty {X = File} text_cmp label_path) ∙ is in cc);
+}
 
 pub no_files_beside : (links : List LinkState) (told : Option Text) → IsReadBeside links told no_files
 no_files_beside links told = record {
@@ -226,34 +233,42 @@ module _ (draft : Draft) (is_draft : IsDraft draft) (o : Option Online) (free : 
         (λ (was : IsRowLeft draft (files_before draft a.now) delta r). inr was)
         (rows_where IsRowRead w before makes.kept l delta row (taken_in draft) draft.plan.choices.items have all r at (subst (λ (t : Text). 0 < length t) same_bytes some))
 
--- ---- of a stopped server
+-- ---- what was left is the prior backup's
 
-module _ (one_manifest : OneManifest) (draft : Draft) (is_draft : IsDraft draft) (links : List LinkState) (whole : Bool) (a d : View) (makes : Makes draft links whole a d) (based : BasedOn draft a draft.prior)
-    (listing : (f : Content) → a.now ≡ Some f → (s : Stanza) → HasStanza (stanza_of draft) f s → IsListOf s (list_in draft)) where
+-- the content that the backup was made beside has a stanza with the backups of this one, whose list is the draft's
+pub record StandsBeside (draft : Draft) (a : View) (s : Stanza) : Type 0 where
+  pub content : Content
+  pub is_content : a.now ≡ Some content
+  pub stanza : Stanza
+  pub same : stanza.backups ≡ s.backups
+  pub has : HasStanza (stanza_of draft) content stanza
+  pub list : IsListOf stanza (list_in draft)
+
+module _ (one_manifest : OneManifest) (draft : Draft) (is_draft : IsDraft draft) (o : Option Online) (links : List LinkState) (whole : Bool) (a d : View) (makes : MakesOf draft o links whole a d) (based : BasedOn draft a draft.prior) (old : Option Content)
+    (beside : (s : Stanza) → IsSome old → NowStands (stanza_of draft) (Some s) old → StandsBeside draft a s) where
   abbrev b : Backup
-  b = full_backup draft links whole a d makes
+  b = backup_made draft o links whole a d makes
 
-  planned : (delta : Bool) × IsTimedAs draft delta
+  pub planned : (delta : Bool) × IsTimedAs draft delta
   planned = draft_timed draft is_draft a based
 
-  -- a file that was left is the prior backup's
-  left_of : (path : Text) (x : File) (r : FileEntry × Text) → (let z : Text × File = (path, x) in z) ≡ file_of r → IsRowLeft draft (files_before draft a.now) planned.0 r → IsLeftOf (stanza_of draft) a.now b path x
+  pub left_of : (path : Text) (x : File) (r : FileEntry × Text) → (let z : Text × File = (path, x) in z) ≡ file_of r → IsRowLeft draft (files_before draft a.now) planned.0 r → IsLeftOf (stanza_of draft) old (backup_made draft o links whole a d makes) path x
   left_of path x r is was = by draft.prior refl based
     where
-      by : (p : Option Label) → draft.prior ≡ p → BasedOn draft a p → IsLeftOf (stanza_of draft) a.now b path x
+      by : (p : Option Label) → draft.prior ≡ p → BasedOn draft a p → IsLeftOf (stanza_of draft) old (backup_made draft o links whole a d makes) path x
       by None none full = absurd (subst (λ (es : List FileEntry). In was.entry es) full was.of_it)
       by (Some l) prior_is base = record {
         prior = l;
         is = ap (λ (m : Manifest). m.prior) makes.manifest_is ∙ prior_is;
         held = λ s some stands. (
-            let f = told_as a.now some in
-            let h : HasStanza (stanza_of draft) f.0 s = stands.stands f.0 f.1 in
-            let list = listing f.0 f.1 s h in
-            let y = old_file one_manifest draft is_draft a l prior_is base f.0 f.1 s list h was.entry was.of_it in
+            let k = beside s some stands in
+            let p = based_on one_manifest draft is_draft a l prior_is base k.content k.is_content k.stanza k.list k.has in
+            let at = stands_there one_manifest draft is_draft a l prior_is base k.content k.is_content k.stanza k.list k.has in
+            let y = old_file one_manifest draft is_draft a l prior_is base k.content k.is_content k.stanza k.list k.has was.entry was.of_it in
             let same_path : was.entry.path ≡ path = was.path ∙ sym (ap (λ (z : Text × File). z.0) is) in (
               y.0,
-              (based_on one_manifest draft is_draft a l prior_is base f.0 f.1 s list h, stands_there one_manifest draft is_draft a l prior_is base f.0 f.1 s list h, its_label one_manifest draft is_draft a l prior_is base f.0 f.1 s list h, ap (λ (k : Text). get (based_on one_manifest draft is_draft a l prior_is base f.0 f.1 s list h).files k) (sym same_path) ∙ y.1),
-              sym (old_held one_manifest draft is_draft a l prior_is base f.0 f.1 s list h was.entry was.of_it was.some) ∙ sym was.bytes ∙ sym (ap (λ (z : Text × File). z.1.bytes) is),
+              (p, subst (λ (bs : List Backup). In p bs) k.same at, its_label one_manifest draft is_draft a l prior_is base k.content k.is_content k.stanza k.list k.has, ap (λ (q : Text). get p.files q) (sym same_path) ∙ y.1),
+              sym (old_held one_manifest draft is_draft a l prior_is base k.content k.is_content k.stanza k.list k.has was.entry was.of_it was.some) ∙ sym was.bytes ∙ sym (ap (λ (z : Text × File). z.1.bytes) is),
               λ plain. (
                   let delta : planned.0 ≡ false = planned.1.1 l prior_is ∙ sym (ap (λ (m : Manifest). m.choices.delta) makes.manifest_is) ∙ plain in
                   sym y.2.time ∙ was.time delta ∙ sym (ap (λ (z : Text × File). z.1.time) is)
@@ -262,14 +277,25 @@ module _ (one_manifest : OneManifest) (draft : Draft) (is_draft : IsDraft draft)
             );
       }
 
+-- ---- of a stopped server
+
+module _ (one_manifest : OneManifest) (draft : Draft) (is_draft : IsDraft draft) (links : List LinkState) (whole : Bool) (a d : View) (makes : Makes draft links whole a d) (based : BasedOn draft a draft.prior)
+    (listing : (f : Content) → a.now ≡ Some f → (s : Stanza) → HasStanza (stanza_of draft) f s → IsListOf s (list_in draft)) where
+  here : (s : Stanza) → IsSome a.now → NowStands (stanza_of draft) (Some s) a.now → StandsBeside draft a s
+  here s some stands =
+      let f = told_as a.now some in
+      let h : HasStanza (stanza_of draft) f.0 s = stands.stands f.0 f.1 in
+      record { content = f.0; is_content = f.1; stanza = s; same = refl; has = h; list = listing f.0 f.1 s h }
+
   pub read_or_left : IsReadOrLeft links (stanza_of draft) a.now (full_backup draft links whole a d makes)
   read_or_left = record {
     read = λ path x is some. (
         let r = file_row draft is_draft None tt links whole a d makes path x is in
+        let p = planned one_manifest draft is_draft None links whole a d makes based a.now here in
         ⊎_elim
         (λ (read : IsOfLink links path x.bytes). inl read)
-        (λ (was : IsRowLeft draft (files_before draft a.now) planned.0 r.0). inr (left_of path x r.0 r.2 was))
-        (row_read draft is_draft None tt links whole a d makes planned.0 planned.1.0 path x r.0 r.1 r.2 some)
+        (λ (was : IsRowLeft draft (files_before draft a.now) p.0 r.0). inr (left_of one_manifest draft is_draft None links whole a d makes based a.now here path x r.0 r.2 was))
+        (row_read draft is_draft None tt links whole a d makes p.0 p.1.0 path x r.0 r.1 r.2 some)
         );
   }
 
@@ -280,6 +306,15 @@ read_by links stanza old b x none = record {
       (λ (read : IsOfLink links path y.bytes). read)
       (λ (was : IsLeftOf stanza old b path y). absurd (let e : ◌≡◌ {A = Option Label} None (Some was.prior) = sym none ∙ was.is in cc))
       (x.read path y is some);
+}
+
+pub read_beside : (links : List LinkState) (told : Option Text) (stanza : Text) (old : Option Content) (b : Backup) → IsReadOrLeftBeside links told stanza old b → b.entry.prior ≡ None → IsReadBeside links told b
+read_beside links told stanza old b x none = record {
+  read = λ path y is off some. ⊎_elim
+      (λ (read : IsOfLink links path y.bytes). read)
+      (λ (was : IsLeftOf stanza old b path y). absurd (let e : ◌≡◌ {A = Option Label} None (Some was.prior) = sym none ∙ was.is in cc))
+      (x.read path y is off some);
+  label = x.label;
 }
 
 -- of a running one: the label file is the server's
@@ -301,23 +336,25 @@ module _ (draft : Draft) (is_draft : IsDraft draft) (o : Online) (free : IsFree 
   label_there = get_of (map file_of (with_row (further_in draft (Some o) makes.stop) rest)) label_path (record { bytes = o.label_file; time = makes.stop })
       (files_sorted draft is_draft (Some o) free links whole a d makes) (in_map file_of label_row (with_row (further_in draft (Some o) makes.stop) rest) label_at)
 
-  pub online_read : old_in draft ≡ [] → IsReadBeside links (Some o.label_file) (backup_made draft (Some o) links whole a d makes)
-  online_read full = record {
-    read = λ path x is off some. (
-        let r = file_row draft is_draft (Some o) free links whole a d makes path x is in
-        ⊎_elim
-        (λ (own : r.0 ≡ label_row). absurd (off (ap (λ (z : Text × File). z.0) r.2 ∙ ap (λ (q : FileEntry × Text). q.0.path) own)))
-        (λ (at : In r.0 rest). ⊎_elim
-        (λ (read : IsOfLink links path x.bytes). read)
-        (λ (was : IsRowLeft draft (files_before draft a.now) is_draft.plan.settings.delta r.0). absurd (subst (λ (es : List FileEntry). In was.entry es) full was.of_it))
-        (row_read draft is_draft (Some o) free links whole a d makes is_draft.plan.settings.delta (timed is_draft.plan.settings (old_in draft) (taken_in draft) is_draft.plan.equal is_draft.plan.same draft.plan.choices.items is_draft.plan.choices) path x r.0 at r.2 some))
-        (row_kind r.0 r.1)
-        );
-    label = λ x is. (
-        let r = file_row draft is_draft (Some o) free links whole a d makes label_path x is in
-        ⊎_elim
-        (λ (own : r.0 ≡ label_row). ap (λ (t : Text). Some t) (sym (ap (λ (z : Text × File). z.1.bytes) r.2 ∙ ap (λ (q : FileEntry × Text). q.1) own)))
-        (λ (at : In r.0 rest). absurd (free.file (row_listed draft is_draft (Some o) free links whole a d makes label_path x r.0 at r.2)))
-        (row_kind r.0 r.1)
-        );
-  }
+  module _ (one_manifest : OneManifest) (based : BasedOn draft a draft.prior) (old : Option Content) (beside : (s : Stanza) → IsSome old → NowStands (stanza_of draft) (Some s) old → StandsBeside draft a s) where
+    pub online_read : IsReadOrLeftBeside links (Some o.label_file) (stanza_of draft) old (backup_made draft (Some o) links whole a d makes)
+    online_read = record {
+      read = λ path x is off some. (
+          let r = file_row draft is_draft (Some o) free links whole a d makes path x is in
+          let p = planned one_manifest draft is_draft (Some o) links whole a d makes based old beside in
+          ⊎_elim
+          (λ (own : r.0 ≡ label_row). absurd (off (ap (λ (z : Text × File). z.0) r.2 ∙ ap (λ (q : FileEntry × Text). q.0.path) own)))
+          (λ (at : In r.0 rest). ⊎_elim
+          (λ (read : IsOfLink links path x.bytes). inl read)
+          (λ (was : IsRowLeft draft (files_before draft a.now) p.0 r.0). inr (left_of one_manifest draft is_draft (Some o) links whole a d makes based old beside path x r.0 r.2 was))
+          (row_read draft is_draft (Some o) free links whole a d makes p.0 p.1.0 path x r.0 at r.2 some))
+          (row_kind r.0 r.1)
+          );
+      label = λ x is. (
+          let r = file_row draft is_draft (Some o) free links whole a d makes label_path x is in
+          ⊎_elim
+          (λ (own : r.0 ≡ label_row). ap (λ (t : Text). Some t) (sym (ap (λ (z : Text × File). z.1.bytes) r.2 ∙ ap (λ (q : FileEntry × Text). q.1) own)))
+          (λ (at : In r.0 rest). absurd (free.file (row_listed draft is_draft (Some o) free links whole a d makes label_path x r.0 at r.2)))
+          (row_kind r.0 r.1)
+          );
+    }

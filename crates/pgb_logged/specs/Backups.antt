@@ -51,6 +51,11 @@ pub record IsLeftOf (stanza : Text) (old : Option Content) (b : Backup) (path : 
 pub record IsReadOrLeft (links : List LinkState) (stanza : Text) (old : Option Content) (b : Backup) : Type 0 where
   pub read : (path : Text) (x : File) → get b.files path ≡ Some x → 0 < length x.bytes → IsOfLink links path x.bytes ⊎ IsLeftOf stanza old b path x
 
+-- so it is of each but the label file, which has what the server told
+pub record IsReadOrLeftBeside (links : List LinkState) (told : Option Text) (stanza : Text) (old : Option Content) (b : Backup) : Type 0 where
+  pub read : (path : Text) (x : File) → get b.files path ≡ Some x → path ≢ label_path → 0 < length x.bytes → IsOfLink links path x.bytes ⊎ IsLeftOf stanza old b path x
+  pub label : (x : File) → get b.files label_path ≡ Some x → told ≡ Some x.bytes
+
 -- which command of the log a full backup is that is made of what these links read
 abbrev pub IsFullBackup : List LinkState → Command → Type 0
 IsFullBackup links command = (b : Backup) × (command ≡ MakeBackup [] b None) × IsReadBy links b
@@ -62,6 +67,10 @@ IsAnyBackup links stanza old command = (b : Backup) × (command ≡ MakeBackup [
 -- and which one is that of a running server, which waited these turns, and of which the server told this label file
 abbrev pub IsOnlineBackup : List LinkState → List Turn → Option Text → Command → Type 0
 IsOnlineBackup links turns told command = (b : Backup) × (command ≡ MakeBackup turns b None) × IsReadBeside links told b
+
+-- so it is of a backup of any kind of a running server
+abbrev pub IsAnyOnlineBackup : List LinkState → List Turn → Option Text → Text → Option Content → Command → Type 0
+IsAnyOnlineBackup links turns told stanza old command = (b : Backup) × (command ≡ MakeBackup turns b None) × IsReadOrLeftBeside links told stanza old b
 
 -- what others did while it waited for these turns
 pub record Waits (stanza : Text) (turns : List Turn) (ended : Bool) (old new : View) : Type 0 where
