@@ -64,7 +64,8 @@ pub fn draft_ordered<'a>(
     requires none { prior_in order.now cluster before ≡ None → order.now.old.now ≡ [] }
     requires old { KeepRules (map file_entry_of order.now.old.now) }
     ensures draft { IfOk result (λ d. IsDraft d) }
-    ensures ordered { IfOk result (λ d. IsOrdered stanza.entry.now second cluster order.now equal.now listing before d) }
+    ensures ordered { IfOk result
+        (λ d. IsOrdered stanza.entry.now second cluster order.now equal.now listing before d) }
 {
     let (label, prior) = labels_of(order.kind, cluster.id, &before.backups, second);
     let plan = plan(alloc, &listing.files, order.old, equal, &order.settings)?;

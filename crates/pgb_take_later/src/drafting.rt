@@ -59,7 +59,8 @@ fn draft_at<'a>(
     )?)
 }
 
-/// The draft of what the listing shows, beside the backups that the list has, and the lines that tell its kind and label.
+/// The draft of what the listing shows, beside the backups that the list has, and the lines that tell its kind and its
+/// label.
 pub fn draft_later<'a, D: Disk, C: Clock>(
     alloc: Global,
     repo: &mut D,
@@ -79,7 +80,7 @@ pub fn draft_later<'a, D: Disk, C: Clock>(
     ensures lines { IfOk result (λ d. string_bytes d.1
         ≡ later_lines order.now.kind (base_in order.now.kind (backup_info_of list)) d.0.label) }
     ensures looks { Looks (D.state repo.old) (D.state repo.new) }
-    ensures later_clock { (C.state clock.old).faults ≤ (C.state clock.new).faults }
+    ensures clock { (C.state clock.old).faults ≤ (C.state clock.new).faults }
     ensures cause { IfErr result (HaltCause (DraftCause (map seen_of seen.now) (C.state clock.old).least)
         (rose_in (record none {
           repo = Rises (D.state repo.old).faults (D.state repo.new).faults;

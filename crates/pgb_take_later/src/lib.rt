@@ -1,10 +1,9 @@
-//! backup, of any kind: what a stopped server's data folder holds is backed up, and the backup is listed as the stanza's
-//! last.
+//! backup, of any kind: a backup of a stopped server's data folder is made, and listed as the stanza's last.
 //!
 //! As for a full backup the stanza's list is settled first, the data folder is listed and the workers are told their
-//! folders. Then the manifest of the backup that the kind asks for is read: a file that is as that tells it isn't read
-//! again, and its entry refers to the backup that has its bytes. Without such a backup all is read, and the kind becomes
-//! full, which a line tells.
+//! folders. Then the manifest of the backup that the kind asks for is read: a file that is as that tells it isn't
+//! read again, and its entry refers to the backup that has its bytes. Without such a backup all is read, and the kind
+//! becomes full, which a line tells.
 #![tactic(auto)]
 
 mod basing;

@@ -68,5 +68,5 @@ returns-clause-cause g c =
     err_as (HaltCause (MakeCause draft links lost) (Either (Rises y z) (Rises v w))) (HaltCause (MakingCause stanza order (map seen_of c.args.begun.seen.items) list old least links lost) (Either (Rises x z) (Rises u w))) c.finish.result
     (halt_as (MakeCause draft links lost) (MakingCause stanza order (map seen_of c.args.begun.seen.items) list old least links lost) (Either (Rises y z) (Rises v w)) (Either (Rises x z) (Rises u w))
     (λ e h. inr (record { draft = draft; second = second; later = later; cause = h }))
-    (either_on (Rises y z) (Rises v w) (Rises x z) (Rises u w) (rises_from x y z c.draft_later.ensures.looks.later) (rises_from u v w c.draft_later.ensures.later_clock)))
+    (either_on (Rises y z) (Rises v w) (Rises x z) (Rises u w) (rises_from x y z c.draft_later.ensures.looks.later) (rises_from u v w c.draft_later.ensures.clock)))
     c.finish.ensures.cause
