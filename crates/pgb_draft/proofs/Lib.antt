@@ -1,3 +1,4 @@
 pub mod StampOrder
 pub mod Latest
 pub mod Free
+pub mod Priors

@@ -15,7 +15,7 @@ use Rattle.pgb_stamp.proofs.StampTexts.{HasDigits, digits_of_day, stamp_parts}
 
 -- ---- bytes
 
-apart : (a b : ℕ) → a ≤ b → (a < b) ⊎ (a ≡ b)
+pub apart : (a b : ℕ) → a ≤ b → (a < b) ⊎ (a ≡ b)
 apart zero zero h = inr refl
 apart zero (suc b) h = inl (omega arith)
 apart (suc a) zero h = absurd (omega (arith, h))
@@ -25,7 +25,7 @@ apart (suc a) (suc b) h = ⊎_elim (λ (x : a < b). inl (omega (arith, x))) (λ 
 first_before : (x y : ℕ) (r s : List ℕ) → x < y → is_before (x ∷ r) (y ∷ s) ≡ true
 first_before x y r s h = ap (λ (o : Ordering). match_ordering (ordering_then o (slice_cmp nat_cmp r s)) true false false) (sym (nat_cmp_is x y Less h))
 
-rest_before : (x y : ℕ) (r s : List ℕ) → x ≡ y → is_before r s ≡ true → is_before (x ∷ r) (y ∷ s) ≡ true
+pub rest_before : (x y : ℕ) (r s : List ℕ) → x ≡ y → is_before r s ≡ true → is_before (x ∷ r) (y ∷ s) ≡ true
 rest_before x y r s e h = ap (λ (o : Ordering). match_ordering (ordering_then o (slice_cmp nat_cmp r s)) true false false) (sym (nat_cmp_is x y Equal e)) ∙ h
 
 two_before : (a b : ℕ) (r s : List ℕ) → a < b → is_before (two a ++ r) (two b ++ s) ≡ true

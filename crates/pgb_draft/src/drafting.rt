@@ -33,8 +33,8 @@ pub fn current_cluster(list: &BackupInfo) -> Cluster
     list.history[list.current as usize - 1]
 }
 
-// Of no file the bytes are those of an earlier backup.
-fn none_equal(alloc: Global, files: &[Taken]) -> Result<Vec<bool>, AllocError>
+/// Of no file a digest tells that its bytes are those of an earlier backup.
+pub fn none_equal(alloc: Global, files: &[Taken]) -> Result<Vec<bool>, AllocError>
     ensures { IfOk result (λ equal. length equal.items ≡ length files.now) }
 {
     let mut equal = Vec::new(alloc);

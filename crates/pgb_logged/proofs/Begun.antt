@@ -1,4 +1,4 @@
--- What a full backup begins from.
+-- What a backup begins from.
 use Rattle.std.proofs.Common.{◌≡◌, inl, [], Option, Some, None, refl, sym, ◌∙◌, subst}
 use Rattle.std.specs.Prelude.{IfSome, IsSome}
 use Rattle.pgb_outside.specs.Content.{Content}
@@ -17,6 +17,7 @@ use Rattle.pgb_stage.specs.Current.{HasValue}
 use Rattle.pgb_record.specs.Record.{IsListOf}
 use Rattle.pgb_backup.specs.declared.draft.Draft.{Draft}
 use Rattle.pgb_backup.specs.Draft.{stanza_of, old_in, list_in, IsDraft}
+use Rattle.pgb_logged.proofs.Based.{BasedOn, full_based}
 use Rattle.pgb_stanza.proofs.Settled.{OneList, has_stanza, settled_list}
 
 -- The draft is that of a full backup, and its list is what is kept of the values of the stanza's two pairs.
@@ -29,6 +30,28 @@ pub record BeginsFull (draft : Draft) (now : Option Content) : Type 0 where
   pub archive_read : IfSome now (λ f. HasValue (stanza_of draft) f archive)
   pub backup_read : IfSome now (λ f. PairIs IsBackupText f (backup_info (stanza_of draft)) backup)
   pub settles : Settles archive backup (list_in draft)
+
+-- The draft is that of a backup, and its list is what is kept of the values of the stanza's two pairs.
+pub record BeginsBackup (draft : Draft) (a : View) : Type 0 where
+  pub is_draft : IsDraft draft
+  pub based : BasedOn draft a draft.prior
+  pub archive : ArchiveInfo
+  pub backup : BackupInfo
+  pub archive_read : IfSome a.now (λ f. HasValue (stanza_of draft) f archive)
+  pub backup_read : IfSome a.now (λ f. PairIs IsBackupText f (backup_info (stanza_of draft)) backup)
+  pub settles : Settles archive backup (list_in draft)
+
+-- that of a full one is based on none
+pub full_begins : (draft : Draft) (a : View) → BeginsFull draft a.now → BeginsBackup draft a
+full_begins draft a begins = record {
+  is_draft = begins.is_draft;
+  based = full_based draft a begins.no_old begins.no_prior;
+  archive = begins.archive;
+  backup = begins.backup;
+  archive_read = begins.archive_read;
+  backup_read = begins.backup_read;
+  settles = begins.settles;
+}
 
 -- what the disk holds, where it is told
 pub told_as : (o : Option Content) → IsSome o → (f : Content) × (o ≡ Some f)
@@ -44,7 +67,7 @@ at_now stanza now g is r x = record {
   stands = λ k is_k. let same : g ≡ k = (let e : ◌≡◌ {A = Option Content} (Some g) (Some k) = sym is ∙ is_k in cc) in subst (λ (c : Content). Stands stanza c r) same x;
 }
 
-module _ (one_list : OneList) (draft : Draft) (a : View) (begins : BeginsFull draft a.now) where
+module _ (one_list : OneList) (draft : Draft) (a : View) (begins : BeginsBackup draft a) where
   -- it stands for a stanza
   pub stanza_there : (f : Content) → a.now ≡ Some f → (r : Repository) → Stands (stanza_of draft) f r → (s : Stanza) × (r ≡ Some s) × HasStanza (stanza_of draft) f s
   stanza_there f is = has_stanza (stanza_of draft) f begins.archive (if_some a.now f (λ f. HasValue (stanza_of draft) f begins.archive) begins.archive_read is)

@@ -9,7 +9,7 @@ use Rattle.pgb_outside.specs.Moments.{View}
 use Rattle.pgb_outside.specs.Links.{LinkState}
 use Rattle.pgb_outside.specs.Tree.{Held, Nodes, IsTreeListing, file, folder, link, other, shown, file_bytes}
 use Rattle.pgb_model.specs.Text.{Text, In}
-use Rattle.pgb_model.specs.Values.{Manifest}
+use Rattle.pgb_model.specs.Values.{FileEntry, Manifest}
 use Rattle.pgb_model.specs.Repository.{File}
 use Rattle.pgb_worker_dispatch.specs.Payloads.{AllRead}
 use Rattle.pgb_plan.specs.Listed.{Taken}
@@ -18,14 +18,15 @@ use Rattle.pgb_plan.proofs.Searched.{in_at, at_of}
 use Rattle.pgb_plan.proofs.Kept.{kept_is, file_node, folder_node}
 use Rattle.pgb_record.specs.Entries.{file_of}
 use Rattle.pgb_record.proofs.Made.{in_map, of_map}
-use Rattle.pgb_record.proofs.Maps.{get_of}
+use Rattle.pgb_record.proofs.Maps.{map_of, get_of}
 use Rattle.pgb_backup.specs.declared.draft.Draft.{Draft}
-use Rattle.pgb_backup.specs.Draft.{taken_in, folders_in, old_in, IsDraft}
+use Rattle.pgb_backup.specs.Draft.{taken_in, folders_in, old_in, went_with, IsDraft}
 use Rattle.pgb_backup.specs.Made.{Makes}
 use Rattle.pgb_backup.proofs.Offline.{file_in, held_at, Stands, folder_files}
 use Rattle.pgb_logged.specs.Backups.{IsOfFolder, bytes_in}
+use Rattle.pgb_logged.proofs.Prior.{files_before, rows_same}
 use Rattle.pgb_logged.proofs.Values.{value_in}
-use Rattle.pgb_logged.proofs.Reading.{rows_of, full_backup, files_sorted}
+use Rattle.pgb_logged.proofs.Reading.{rows_of, full_backup, files_sorted, have}
 
 -- ---- files and folders of a listing
 
@@ -105,7 +106,7 @@ module _ (f : Nodes) (seen : List ListedNode) (listing : IsTreeListing f seen) w
 module _ (draft : Draft) (is_draft : IsDraft draft) (links : List LinkState) (whole : Bool) (a d : View) (told : IsSome a.now) (makes : Makes draft links whole a d) (full : old_in draft ≡ [])
     (f : Nodes) (repo : Content) (read : AllRead (bytes_in f) repo links) (seen : List ListedNode) (listing : IsTreeListing f seen) (takes : Takes false seen (taken_in draft) (folders_in draft)) where
   abbrev files : List (Text × File)
-  files = map file_of (rows_of draft makes.ends makes.kept)
+  files = map file_of (rows_of draft a.now makes.ends makes.kept)
 
   file_there : (t : Taken) → In t (taken_in draft) → (bytes : Text) × (f t.path ≡ Some (file bytes t.time)) × (length bytes ≡ t.size) × (is_kept false (t.path, nodes.File t.size t.time) ≡ true)
   file_there t i = taken_file f seen listing t (subst (λ (ts : List Taken). In t ts) takes.files i)
@@ -114,7 +115,9 @@ module _ (draft : Draft) (is_draft : IsDraft draft) (links : List LinkState) (wh
   standing t i = let x = file_there t i in subst (λ (v : Value). IsSomeAnd v (λ bytes. length bytes ≡ t.size)) (sym (ap file_bytes x.1)) x.2
 
   files_are : files ≡ map (file_in (bytes_in f)) (taken_in draft)
-  files_are = folder_files draft is_draft links whole a d told makes (bytes_in f) repo read full standing
+  files_are =
+      ap (map file_of) (rows_same (went_with draft makes.ends) makes.kept _ (files_before draft a.now) (map_of []) (λ e at some. absurd (subst (λ (es : List FileEntry). In e es) full at)) (taken_in draft) draft.plan.choices.items (have draft is_draft None tt links whole a d makes))
+      ∙ folder_files draft is_draft links whole a d told makes (bytes_in f) repo read full standing
 
   -- what the folder holds there
   held_is : (path bytes : Text) (time : ℕ) → f path ≡ Some (file bytes time) → held_at (bytes_in f) path ≡ bytes
@@ -126,12 +129,12 @@ module _ (draft : Draft) (is_draft : IsDraft draft) (links : List LinkState) (wh
       let i = subst (λ (ts : List Taken). In t ts) (sym takes.files) (file_taken f seen listing path bytes time is keep) in
       let at = in_map (file_in (bytes_in f)) t (taken_in draft) i in
       let named = subst (λ (b : Text). In (let z : Text × File = (path, record { bytes = b; time = time }) in z) (map (file_in (bytes_in f)) (taken_in draft))) (held_is path bytes time is) at in
-      get_of files path (record { bytes = bytes; time = time }) (files_sorted draft is_draft None tt links whole a d makes full)
+      get_of files path (record { bytes = bytes; time = time }) (files_sorted draft is_draft None tt links whole a d makes)
       (subst (λ (zs : List (Text × File)). In (let z : Text × File = (path, record { bytes = bytes; time = time }) in z) zs) (sym files_are) named)
 
   only : (path : Text) (x : File) → get (full_backup draft links whole a d makes).files path ≡ Some x → (f path ≡ Some (file x.bytes x.time)) × (is_kept false (path, nodes.File (length x.bytes) x.time) ≡ true)
   only path x is =
-      let at = value_in files path x (files_sorted draft is_draft None tt links whole a d makes full) is in
+      let at = value_in files path x (files_sorted draft is_draft None tt links whole a d makes) is in
       let q = of_map (file_in (bytes_in f)) (let z : Text × File = (path, x) in z) (taken_in draft) (subst (λ (zs : List (Text × File)). In (let z : Text × File = (path, x) in z) zs) files_are at) in
       let t = q.0 in
       let y = file_there t q.1 in

@@ -1,9 +1,11 @@
--- What making a full backup does, as a command of the log.
-use Rattle.std.proofs.Common.{◌≡◌, inl, inr, Bool, true, false, List, [], None, refl, Result, Ok, Err}
+-- What making a backup does, as a command of the log.
+use Rattle.std.proofs.Common.{◌≡◌, ◌⊎◌, ⊎_elim, inl, inr, Bool, true, false, List, [], None, refl, ◌∙◌, ap, Result, Ok, Err}
 use Rattle.std.specs.Result.{IsErrAnd, is_ok}
 use Rattle.pgb_outside.specs.Moments.{View}
 use Rattle.pgb_outside.specs.Links.{LinkState}
 use Rattle.pgb_model.specs.Text.{Text}
+use Rattle.pgb_model.specs.Values.{Manifest}
+use Rattle.pgb_model.specs.Repository.{Backup}
 use Rattle.pgb_model.specs.Steps.{Command, MakeBackup}
 use Rattle.pgb_archive.specs.Still.{IsStill}
 use Rattle.pgb_stage.specs.declared.plan.Settling.TheVariants.{Whole}
@@ -14,14 +16,22 @@ use Rattle.pgb_backup.specs.declared.draft.Draft.{Draft}
 use Rattle.pgb_backup.specs.declared.fault.MakeFault.{MakeFault}
 use Rattle.pgb_backup.specs.Draft.{stanza_of}
 use Rattle.pgb_backup.specs.Made.{LeavesList, Makes, MayBeListed, Outcome}
-use Rattle.pgb_logged.specs.Backups.{IsFullBackup}
+use Rattle.pgb_logged.specs.Backups.{IsFullBackup, IsReadOrLeft, IsAnyBackup}
 use Rattle.pgb_stanza.proofs.Settled.{OneList}
-use Rattle.pgb_logged.proofs.Reading.{full_backup, full_read, no_files, no_files_read}
-use Rattle.pgb_logged.proofs.Begun.{BeginsFull}
+use Rattle.pgb_logged.proofs.Reading.{full_backup, read_or_left, read_by, no_files, no_files_read, no_files_left}
+use Rattle.pgb_logged.proofs.Begun.{BeginsFull, BeginsBackup, full_begins, list_there}
 use Rattle.pgb_logged.proofs.Unlisted.{unlisted_part}
 use Rattle.pgb_logged.proofs.Made.{made_part, made_whole}
 
 -- a backup that was never listed
+pub no_later : (links : List LinkState) (stanza : Text) (reached : Reached) (a d : View) → ¬ (reached ≡ to_end) → IsStill a d → (command : Command) × IsAnyBackup links stanza a.now command × Does Whole stanza command reached a d
+no_later links stanza reached a d not still = (
+  MakeBackup [] no_files None,
+  (no_files, refl, no_files_left links stanza a.now),
+  rests_does Whole stanza (MakeBackup [] no_files None) reached a d not still.time still.now,
+)
+
+-- nor was a full one
 pub no_backup : (links : List LinkState) (stanza : Text) (reached : Reached) (a d : View) → ¬ (reached ≡ to_end) → IsStill a d → (command : Command) × IsFullBackup links command × Does Whole stanza command reached a d
 no_backup links stanza reached a d not still = (
   MakeBackup [] no_files None,
@@ -29,7 +39,7 @@ no_backup links stanza reached a d not still = (
   rests_does Whole stanza (MakeBackup [] no_files None) reached a d not still.time still.now,
 )
 
-module _ (one_list : OneList) (one_manifest : OneManifest) (draft : Draft) (links : List LinkState) (a d : View) (begins : BeginsFull draft a.now) where
+module _ (one_list : OneList) (one_manifest : OneManifest) (draft : Draft) (links : List LinkState) (a d : View) (begins : BeginsBackup draft a) where
   listed : (reached : Reached) (makes : Makes draft links true a d) → ¬ (reached ≡ turned_back) → Does Whole (stanza_of draft) (MakeBackup [] (full_backup draft links true a d makes) None) reached a d
   listed to_end makes not = record { part = made_part one_list one_manifest draft links a d begins true makes; whole = made_whole one_list one_manifest draft links a d begins true makes refl; turned = tt }
   listed turned_back makes not = absurd (not refl)
@@ -48,21 +58,41 @@ module _ (one_list : OneList) (one_manifest : OneManifest) (draft : Draft) (link
   not_ended : (e : MakeFault) (reached : Reached) → (reached ≡ to_end → is_ok (let r : Result (Unit {0}) MakeFault = Err e in r) ≡ true) → ¬ (reached ≡ to_end)
   not_ended e reached ends is = let u : ◌≡◌ {A = Bool} false true = ends is in cc
 
-  -- it is a full backup in the log, of what these links read
-  pub does_full : (r : Result (Unit {0}) MakeFault) (reached : Reached) → Outcome r draft links a d → (reached ≡ to_end → is_ok r ≡ true) → (reached ≡ turned_back → IsErrAnd r (λ e. ¬ MayBeListed e))
-      → (command : Command) × IsFullBackup links command × Does Whole (stanza_of draft) command reached a d
-  does_full (Ok x) reached makes ends back = (
-    MakeBackup [] (full_backup draft links true a d makes) None,
-    (full_backup draft links true a d makes, refl, full_read draft begins.is_draft links true a d makes begins.no_old),
-    listed reached makes back,
+  -- the backup that it is in the log
+  pub record IsDone (reached : Reached) (b : Backup) : Type 0 where
+    pub read : IsReadOrLeft links (stanza_of draft) a.now b
+    pub prior : (b.entry.prior ≡ None) ⊎ (b.entry.prior ≡ draft.prior)
+    pub does : Does Whole (stanza_of draft) (MakeBackup [] b None) reached a d
+
+  made : (reached : Reached) (whole : Bool) (makes : Makes draft links whole a d) → Does Whole (stanza_of draft) (MakeBackup [] (full_backup draft links whole a d makes) None) reached a d → IsDone reached (full_backup draft links whole a d makes)
+  made reached whole makes does = record {
+    read = read_or_left one_manifest draft begins.is_draft links whole a d makes begins.based (λ f is s h. list_there one_list draft a begins f is s h);
+    prior = inr (ap (λ (m : Manifest). m.prior) makes.manifest_is);
+    does = does;
+  }
+
+  done_as : (r : Result (Unit {0}) MakeFault) (reached : Reached) → Outcome r draft links a d → (reached ≡ to_end → is_ok r ≡ true) → (reached ≡ turned_back → IsErrAnd r (λ e. ¬ MayBeListed e)) → (b : Backup) × IsDone reached b
+  done_as (Ok x) reached makes ends back = (full_backup draft links true a d makes, made reached true makes (listed reached makes back))
+  done_as (Err e) reached (inl leaves) ends back = (
+    no_files,
+    record {
+      read = no_files_left links (stanza_of draft) a.now;
+      prior = inl refl;
+      does = unlisted (MakeBackup [] no_files None) reached leaves (not_ended e reached ends);
+    },
   )
-  does_full (Err e) reached (inl leaves) ends back = (
-    MakeBackup [] no_files None,
-    (no_files, refl, no_files_read links),
-    unlisted (MakeBackup [] no_files None) reached leaves (not_ended e reached ends),
-  )
-  does_full (Err e) reached (inr x) ends back = (
-    MakeBackup [] (full_backup draft links false a d x.1) None,
-    (full_backup draft links false a d x.1, refl, full_read draft begins.is_draft links false a d x.1 begins.no_old),
-    may_be_listed reached x.1 (not_ended e reached ends) (λ is. back is x.0),
-  )
+  done_as (Err e) reached (inr x) ends back = (full_backup draft links false a d x.1, made reached false x.1 (may_be_listed reached x.1 (not_ended e reached ends) (λ is. back is x.0)))
+
+  -- it is a backup in the log, of what these links read and of what its prior backup has
+  pub does_backup : (r : Result (Unit {0}) MakeFault) (reached : Reached) → Outcome r draft links a d → (reached ≡ to_end → is_ok r ≡ true) → (reached ≡ turned_back → IsErrAnd r (λ e. ¬ MayBeListed e))
+      → (command : Command) × IsAnyBackup links (stanza_of draft) a.now command × Does Whole (stanza_of draft) command reached a d
+  does_backup r reached outcome ends back = let x = done_as r reached outcome ends back in (MakeBackup [] x.0 None, (x.0, refl, x.1.read), x.1.does)
+
+-- and a full one, where the draft is that of one
+pub does_full : (one_list : OneList) (one_manifest : OneManifest) (draft : Draft) (links : List LinkState) (a d : View) → BeginsFull draft a.now
+    → (r : Result (Unit {0}) MakeFault) (reached : Reached) → Outcome r draft links a d → (reached ≡ to_end → is_ok r ≡ true) → (reached ≡ turned_back → IsErrAnd r (λ e. ¬ MayBeListed e))
+    → (command : Command) × IsFullBackup links command × Does Whole (stanza_of draft) command reached a d
+does_full one_list one_manifest draft links a d begins r reached outcome ends back =
+    let x = done_as one_list one_manifest draft links a d (full_begins draft a begins) r reached outcome ends back in
+    let none : x.0.entry.prior ≡ None = ⊎_elim (λ (is : x.0.entry.prior ≡ None). is) (λ (is : x.0.entry.prior ≡ draft.prior). is ∙ begins.no_prior) x.1.prior in
+    (MakeBackup [] x.0 None, (x.0, refl, read_by links (stanza_of draft) a.now x.0 x.1.read none), x.1.does)

@@ -1,4 +1,6 @@
 pub mod Values
+pub mod Prior
+pub mod Based
 pub mod Reading
 pub mod Folders
 pub mod Begun
@@ -7,6 +9,7 @@ pub mod Listed
 pub mod Made
 pub mod Behind
 pub mod Waited
+pub mod Running
 pub mod Online
 pub mod Full
 pub mod Added

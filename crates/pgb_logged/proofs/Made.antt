@@ -1,13 +1,15 @@
--- A full backup that may be listed is a part of its command, and one that is listed is all of it.
+-- A backup that may be listed is a part of its command, and one that is listed is all of it.
 use Rattle.std.proofs.Common.{◌≡◌, ◌⊎◌, ⊎_elim, inl, inr, Bool, true, false, List, [], ◌∷◌, Option, Some, None, refl, sym, ap, subst}
 use Rattle.std.specs.Prelude.{IsSome}
 use Rattle.pgb_outside.specs.Content.{Content}
 use Rattle.pgb_outside.specs.Moments.{View}
 use Rattle.pgb_outside.specs.Links.{LinkState}
+use Rattle.pgb_model.specs.declared.labels.Label.{Label}
 use Rattle.pgb_model.specs.declared.wal.WalPart.{WalPart}
+use Rattle.pgb_model.specs.Text.{In}
 use Rattle.pgb_model.specs.Values.{Manifest}
 use Rattle.pgb_model.specs.Repository.{Backup, Stanza, Repository, IsSound, IsSoundStanza, HasItsSegments}
-use Rattle.pgb_model.specs.Stands.{Stands, HasStanza}
+use Rattle.pgb_model.specs.Stands.{Stands, HasStanza, IsAncestor, IsListed}
 use Rattle.pgb_model.specs.Steps.{Step, Command, MakeBackup, AddBackup, changed, after, all_of, steps_of}
 use Rattle.pgb_model.specs.Log.{IsDone}
 use Rattle.pgb_model.specs.Now.{NowStands}
@@ -23,11 +25,11 @@ use Rattle.pgb_backup.specs.Made.{ListsIt, Makes}
 use Rattle.pgb_backup.proofs.Unlisted.{beside_stands}
 use Rattle.pgb_stanza.proofs.Settled.{OneList}
 use Rattle.pgb_logged.proofs.Reading.{full_backup}
-use Rattle.pgb_logged.proofs.Begun.{BeginsFull, told_as, at_now, stanza_there, list_there, no_vacant, steady_list}
-use Rattle.pgb_logged.proofs.Listed.{sound_with, made_stands, two_moves, made_steady}
+use Rattle.pgb_logged.proofs.Begun.{BeginsBackup, told_as, at_now, stanza_there, list_there, no_vacant, steady_list}
+use Rattle.pgb_logged.proofs.Listed.{sound_with, made_stands, references_stand, two_moves, made_steady}
 use Rattle.pgb_logged.proofs.Unlisted.{moves_as, far_from}
 
-module _ (one_list : OneList) (one_manifest : OneManifest) (draft : Draft) (links : List LinkState) (a d : View) (begins : BeginsFull draft a.now) (whole : Bool) (makes : Makes draft links whole a d) where
+module _ (one_list : OneList) (one_manifest : OneManifest) (draft : Draft) (links : List LinkState) (a d : View) (begins : BeginsBackup draft a) (whole : Bool) (makes : Makes draft links whole a d) where
   abbrev b : Backup
   b = full_backup draft links whole a d makes
 
@@ -40,7 +42,7 @@ module _ (one_list : OneList) (one_manifest : OneManifest) (draft : Draft) (link
 
   -- ---- in a stanza whose list is the draft's
 
-  module _ (some : IsSome a.now) (s : Stanza) (list : IsListOf s (list_in draft)) where
+  module _ (f : Content) (is_f : a.now ≡ Some f) (s : Stanza) (list : IsListOf s (list_in draft)) (has : HasStanza (stanza_of draft) f s) where
     no_wal : makes.manifest.wal ≡ None
     no_wal = ap (λ (m : Manifest). m.wal) makes.manifest_is
 
@@ -48,10 +50,13 @@ module _ (one_list : OneList) (one_manifest : OneManifest) (draft : Draft) (link
     segments = subst (λ (p : Option WalPart). HasItsSegments s (let x : Backup = record { entry = b.entry; wal = p; choices = b.choices; folders = b.folders; files = b.files } in x)) (sym no_wal) tt
 
     sound_after : IsSoundStanza s → IsSoundStanza (changed (AddBackup (full_backup draft links whole a d makes)) s)
-    sound_after sound = sound_with one_list one_manifest draft begins.is_draft begins.no_old begins.no_prior None tt links a d whole makes some s list segments sound
+    sound_after sound = sound_with one_list one_manifest draft begins.is_draft None tt links a d begins.based whole makes f is_f s list has segments sound
 
-    stands_with : (f g : Content) → HasStanza (stanza_of draft) f s → Listed f g → HasStanza (stanza_of draft) g (changed (AddBackup (full_backup draft links whole a d makes)) s)
-    stands_with f g h x = made_stands one_list one_manifest draft begins.is_draft begins.no_old begins.no_prior None tt links a d whole makes some s list f g h x
+    stands_with : (g : Content) → Listed f g → HasStanza (stanza_of draft) g (changed (AddBackup (full_backup draft links whole a d makes)) s)
+    stands_with g x = made_stands one_list one_manifest draft begins.is_draft None tt links a d begins.based whole makes f is_f s list has g x
+
+    refers_to : (l : Label) → In l (full_backup draft links whole a d makes).entry.references → IsAncestor s.backups l (full_backup draft links whole a d makes) × IsListed s.backups l
+    refers_to l at = references_stand one_list one_manifest draft begins.is_draft None tt links a d begins.based whole makes f is_f s list has l at
 
     -- the way from a disk that is steady at it
     module _ (steady : IsSteady (stanza_of draft) (Some s) a) where
@@ -61,10 +66,10 @@ module _ (one_list : OneList) (one_manifest : OneManifest) (draft : Draft) (link
       made_moves : IsSoundStanza s → Moves (stanza_of draft) (IsPart (stanza_of draft) makes_it (Some s)) a d
       made_moves sound =
           moves_as (stanza_of draft) (λ g. Stands (stanza_of draft) g (Some s) ⊎ Stands (stanza_of draft) g (Some (changed (AddBackup b) s))) (IsPart (stanza_of draft) makes_it (Some s)) a d (part_of sound)
-          (two_moves one_list one_manifest draft begins.is_draft begins.no_old begins.no_prior None tt links a d whole makes some s list steady)
+          (two_moves one_list one_manifest draft begins.is_draft None tt links a d begins.based whole makes f is_f s list has steady)
 
       steady_with : whole ≡ true → IsSteady (stanza_of draft) (Some (changed (AddBackup (full_backup draft links whole a d makes)) s)) d
-      steady_with is = made_steady one_list one_manifest draft begins.is_draft begins.no_old begins.no_prior None tt links a d whole makes some s list steady is
+      steady_with is = made_steady one_list one_manifest draft begins.is_draft None tt links a d begins.based whole makes f is_f s list has steady is
 
   -- ---- what the disk holds
 
@@ -79,15 +84,24 @@ module _ (one_list : OneList) (one_manifest : OneManifest) (draft : Draft) (link
       let list = list_there one_list draft a begins f.0 f.1 x.0 x.2 in
       subst (λ (q : Repository). Done false q) (sym x.1) (⊎_elim
       (λ (y : IsBeside (is_own_of draft) (pair_of draft) f.0 g.0). ([], inl refl, at_now (stanza_of draft) d.now g.0 g.1 (Some x.0) (beside_stands draft x.0 (far_from one_list one_manifest draft a begins x.0 list) f.0 g.0 x.2 y)))
-      (λ (y : Listed f.0 g.0). (AddBackup b ∷ [], inr ([], refl, refl), at_now (stanza_of draft) d.now g.0 g.1 (Some (changed (AddBackup b) x.0)) (stands_with some x.0 list f.0 g.0 x.2 y)))
+      (λ (y : Listed f.0 g.0). (AddBackup b ∷ [], inr ([], refl, refl), at_now (stanza_of draft) d.now g.0 g.1 (Some (changed (AddBackup b) x.0)) (stands_with f.0 f.1 x.0 list x.2 g.0 y)))
       (makes.now.goes f.0 g.0 f.1 g.1))
 
   goes : (r : Repository) → IsSome a.now → IsSteady (stanza_of draft) r a → IsSound r → Moves (stanza_of draft) (IsPart (stanza_of draft) makes_it r) a d
   goes None some steady sound = absurd (no_vacant one_list draft a begins some steady)
-  goes (Some s) some steady sound = made_moves some s (steady_list one_list draft a begins some s steady) steady sound
+  goes (Some s) some steady sound =
+      let f = told_as a.now some in
+      made_moves f.0 f.1 s (steady_list one_list draft a begins some s steady) (steady.stands f.0 (inl f.1)) steady sound
 
   pub made_part : DoesPart Whole (stanza_of draft) (MakeBackup [] (full_backup draft links whole a d makes) None) a d
   made_part = record { part = record { told = makes.now.told; does = λ r from. now_part r }; goes = goes }
+
+  -- whatever stanza the disk had, each label that the backup refers to is listed there, and is its prior's or of one before that
+  pub refers : (s : Stanza) → IsSome a.now → NowStands (stanza_of draft) (Some s) a.now → (l : Label) → In l (full_backup draft links whole a d makes).entry.references → IsAncestor s.backups l (full_backup draft links whole a d makes) × IsListed s.backups l
+  refers s some stands l at =
+      let f = told_as a.now some in
+      let h : HasStanza (stanza_of draft) f.0 s = stands.stands f.0 f.1 in
+      refers_to f.0 f.1 s (list_there one_list draft a begins f.0 f.1 s h) h l at
 
   -- ---- where it is listed
 
@@ -97,7 +111,7 @@ module _ (one_list : OneList) (one_manifest : OneManifest) (draft : Draft) (link
         let f = told_as a.now some in
         let g = told_as d.now (makes.now.told some) in
         let h : HasStanza (stanza_of draft) f.0 s = stands.stands f.0 f.1 in
-        at_now (stanza_of draft) d.now g.0 g.1 (Some (changed (AddBackup b) s)) (stands_with some s (list_there one_list draft a begins f.0 f.1 s h) f.0 g.0 h ((makes.whole_now is).goes f.0 g.0 f.1 g.1))
+        at_now (stanza_of draft) d.now g.0 g.1 (Some (changed (AddBackup b) s)) (stands_with f.0 f.1 s (list_there one_list draft a begins f.0 f.1 s h) h g.0 ((makes.whole_now is).goes f.0 g.0 f.1 g.1))
 
     now_whole : (r : Repository) → IsSome a.now → NowStands (stanza_of draft) r a.now → Done true r
     now_whole r some stands =
@@ -109,8 +123,10 @@ module _ (one_list : OneList) (one_manifest : OneManifest) (draft : Draft) (link
     ends : (r : Repository) → IsSome a.now → IsSteady (stanza_of draft) r a → IsSound r → IsSteady (stanza_of draft) (after r (all_of (steps_of makes_it r))) d × IsSound (after r (all_of (steps_of makes_it r)))
     ends None some steady sound = absurd (no_vacant one_list draft a begins some steady)
     ends (Some s) some steady sound =
+        let f = told_as a.now some in
         let list = steady_list one_list draft a begins some s steady in
-        (steady_with some s list steady is, sound_after some s list sound)
+        let has : HasStanza (stanza_of draft) f.0 s = steady.stands f.0 (inl f.1) in
+        (steady_with f.0 f.1 s list has steady is, sound_after f.0 f.1 s list has sound)
 
     pub made_whole : DoesWhole Whole (stanza_of draft) (MakeBackup [] (full_backup draft links whole a d makes) None) a d
     made_whole = record { done = record { told = makes.now.told; does = λ r from. now_whole r }; ends = ends }

@@ -20,7 +20,7 @@ use Rattle.pgb_backup.specs.Made.{LeavesList}
 use Rattle.pgb_backup.proofs.Far.{far}
 use Rattle.pgb_backup.proofs.Unlisted.{IsFar, tight_of, beside_stands, unlisted_moves}
 use Rattle.pgb_stanza.proofs.Settled.{OneList}
-use Rattle.pgb_logged.proofs.Begun.{BeginsFull, told_as, stanza_there, list_there, no_vacant, steady_list}
+use Rattle.pgb_logged.proofs.Begun.{BeginsBackup, told_as, stanza_there, list_there, no_vacant, steady_list}
 
 -- a way of one kind is one of another that is wider
 pub moves_as : (stanza : Text) (P Q : Content → Type 0) (a d : View) → ((g : Content) → P g → Q g) → Moves stanza P a d → Moves stanza Q a d
@@ -34,7 +34,7 @@ moves_as stanza P Q a d wider m = record {
   leaves = λ t g lo hi leaves. wider g (m.leaves t g lo hi leaves);
 }
 
-module _ (one_list : OneList) (one_manifest : OneManifest) (draft : Draft) (a : View) (begins : BeginsFull draft a.now) where
+module _ (one_list : OneList) (one_manifest : OneManifest) (draft : Draft) (a : View) (begins : BeginsBackup draft a) where
   -- the stanza is looked at apart from what the backup changes
   pub far_from : (s : Stanza) → IsListOf s (list_in draft) → IsFar (stanza_of draft) (is_own_of draft) (pair_of draft) s
   far_from s list = far one_manifest draft begins.is_draft s list

@@ -121,3 +121,6 @@ list_waited s turns =
     let a = turns_leave s turns s in
     ap (λ (cs : List Cluster). (let v : BackupInfo = record { current = length cs; history = cs; backups = map (λ (b : Backup). b.entry) (waited s turns).backups } in v)) a.0
     ∙ ap (λ (bs : List Backup). (let v : BackupInfo = record { current = length s.history; history = s.history; backups = map (λ (b : Backup). b.entry) bs } in v)) a.1
+
+pub backups_waited : (s : Stanza) (turns : List Turn) → (waited s turns).backups ≡ s.backups
+backups_waited s turns = (turns_leave s turns s).1

@@ -1,11 +1,12 @@
--- A full backup as a command of the log, and what it holds (pgBackRest user guide, "Backup").
-use Rattle.std.specs.Prelude.{◌≡◌, ◌≢◌, ◌↔◌, ◌<◌, ℕ, Bool, true, false, List, [], length, Option, Some, None, IsSome, slice_get}
+-- A backup as a command of the log, and what it holds (pgBackRest user guide, "Backup").
+use Rattle.std.specs.Prelude.{◌≡◌, ◌≢◌, ◌⊎◌, ◌↔◌, ◌<◌, ℕ, Bool, true, false, List, [], length, Option, Some, None, IsSome, slice_get}
 use Rattle.std.specs.FinMap.{get}
 use Rattle.pgb_outside.specs.declared.tree.Node.TheVariants as nodes
 use Rattle.pgb_outside.specs.Content.{Content}
 use Rattle.pgb_outside.specs.Links.{LinkState}
 use Rattle.pgb_outside.specs.Tree.{Nodes, file, folder, file_bytes}
 use Rattle.pgb_outside.specs.Moments.{View}
+use Rattle.pgb_model.specs.declared.labels.Label.{Label}
 use Rattle.pgb_model.specs.declared.wal.ArchiveId.{ArchiveId}
 use Rattle.pgb_model.specs.declared.wal.ArchiveName.TheVariants.{Segment as Whole}
 use Rattle.pgb_model.specs.declared.wal.Segment.{Segment}
@@ -36,13 +37,40 @@ pub record IsReadBeside (links : List LinkState) (told : Option Text) (b : Backu
   pub read : (path : Text) (x : File) → get b.files path ≡ Some x → path ≢ label_path → 0 < length x.bytes → IsOfLink links path x.bytes
   pub label : (x : File) → get b.files label_path ≡ Some x → told ≡ Some x.bytes
 
+-- the stanza's backup of this label has the file at the path
+abbrev pub HasFileOf : Stanza → Label → Text → File → Type 0
+HasFileOf s l path x = (p : Backup) × In p s.backups × (p.entry.label ≡ l) × (get p.files path ≡ Some x)
+
+-- The file was left of the prior backup: in whatever stanza the disk had, that has its bytes at the path, and its time unless digests were compared.
+pub record IsLeftOf (stanza : Text) (old : Option Content) (b : Backup) (path : Text) (x : File) : Type 0 where
+  pub prior : Label
+  pub is : b.entry.prior ≡ Some prior
+  pub held : (s : Stanza) → IsSome old → NowStands stanza (Some s) old → (y : File) × HasFileOf s prior path y × (y.bytes ≡ x.bytes) × (b.choices.delta ≡ false → y.time ≡ x.time)
+
+-- each file with bytes has those that one of these links read in the data folder at its path, or was left of the prior backup
+pub record IsReadOrLeft (links : List LinkState) (stanza : Text) (old : Option Content) (b : Backup) : Type 0 where
+  pub read : (path : Text) (x : File) → get b.files path ≡ Some x → 0 < length x.bytes → IsOfLink links path x.bytes ⊎ IsLeftOf stanza old b path x
+
+-- so it is of each but the label file, which has what the server told
+pub record IsReadOrLeftBeside (links : List LinkState) (told : Option Text) (stanza : Text) (old : Option Content) (b : Backup) : Type 0 where
+  pub read : (path : Text) (x : File) → get b.files path ≡ Some x → path ≢ label_path → 0 < length x.bytes → IsOfLink links path x.bytes ⊎ IsLeftOf stanza old b path x
+  pub label : (x : File) → get b.files label_path ≡ Some x → told ≡ Some x.bytes
+
 -- which command of the log a full backup is that is made of what these links read
 abbrev pub IsFullBackup : List LinkState → Command → Type 0
 IsFullBackup links command = (b : Backup) × (command ≡ MakeBackup [] b None) × IsReadBy links b
 
+-- which one is a backup of any kind, that is made of what these links read and of what its prior backup has
+abbrev pub IsAnyBackup : List LinkState → Text → Option Content → Command → Type 0
+IsAnyBackup links stanza old command = (b : Backup) × (command ≡ MakeBackup [] b None) × IsReadOrLeft links stanza old b
+
 -- and which one is that of a running server, which waited these turns, and of which the server told this label file
 abbrev pub IsOnlineBackup : List LinkState → List Turn → Option Text → Command → Type 0
 IsOnlineBackup links turns told command = (b : Backup) × (command ≡ MakeBackup turns b None) × IsReadBeside links told b
+
+-- so it is of a backup of any kind of a running server
+abbrev pub IsAnyOnlineBackup : List LinkState → List Turn → Option Text → Text → Option Content → Command → Type 0
+IsAnyOnlineBackup links turns told stanza old command = (b : Backup) × (command ≡ MakeBackup turns b None) × IsReadOrLeftBeside links told stanza old b
 
 -- what others did while it waited for these turns
 pub record Waits (stanza : Text) (turns : List Turn) (ended : Bool) (old new : View) : Type 0 where

@@ -25,7 +25,7 @@ use Rattle.pgb_stage.specs.Risen.{none, rose_in}
 use Rattle.pgb_prepare.specs.Readies.{IsArchiveOf, IsBackupOf}
 use Rattle.pgb_take.specs.declared.fault.TakeFault.{TakeFault}
 use Rattle.pgb_take.specs.declared.fault.TakeFault.TheVariants as faults
-use Rattle.pgb_take.specs.Causes.{Before, SettlesTo, IsDraftOf, TakeCause}
+use Rattle.pgb_take.specs.Causes.{Before, SettlesTo, IsDraftOf, CauseBy}
 use Rattle.pgb_take.specs.Drafting.{IsFullOf, ListingCause, DraftCause}
 use Rattle.pgb_take.specs.Making.{MakeCause}
 use Rattle.pgb_take.proofs.Links.{Comes, left_comes, where_done, unread_used, all_used_lost, within_count}
@@ -63,11 +63,11 @@ none_shows : (seen : List ListedNode) (nodes : Option Nodes) → IfSome nodes (�
 none_shows seen None listing not = refl
 none_shows seen (Some f) listing not = absurd (not f listing)
 
-module _ (b : Before) (seen : List ListedNode) (listing : IfSome b.nodes (λ f. IsTreeListing f seen)) where
+module _ (b : Before) (IsIt : Draft → Type 0) (seen : List ListedNode) (listing : IfSome b.nodes (λ f. IsTreeListing f seen)) where
   shows : (P : List ListedNode → Type 0) → P seen → IfSome b.nodes (λ f. (ns : List ListedNode) × IsTreeListing f ns × P ns)
   shows P p = if_as (λ f. IsTreeListing f seen) (λ f. (ns : List ListedNode) × IsTreeListing f ns × P ns) b.nodes listing (λ f l. (seen, l, p))
 
-  pub draft_takes : (e : TakeFault) → DraftCause seen b.least e → TakeCause b e
+  pub draft_takes : (e : TakeFault) → DraftCause seen b.least e → CauseBy b IsIt e
   draft_takes (faults.HistoryDiffers at) h = absurd h
   draft_takes (faults.StanzaMismatch kept found) h = absurd h
   draft_takes faults.Running h = absurd h
@@ -102,11 +102,11 @@ module _ (b : Before) (archive : rust_archive_info.ArchiveInfo) (backup : rust_b
 
 -- ---- why the draft's backup isn't made
 
-module _ (b : Before) (d : Draft) (of : IsDraftOf b d) (now : List LinkState) (mid : List Lost) (l : Left [] b.used [] mid now) (few : length b.used < 2 ^ 32) where
+module _ (b : Before) (IsIt : Draft → Type 0) (d : Draft) (of : IsIt d) (now : List LinkState) (mid : List Lost) (l : Left [] b.used [] mid now) (few : length b.used < 2 ^ 32) where
   comes : Comes b.used now
   comes = left_comes b.used now [] mid l
 
-  pub make_takes : (e : TakeFault) → MakeCause d now mid e → TakeCause b e
+  pub make_takes : (e : TakeFault) → MakeCause d now mid e → CauseBy b IsIt e
   make_takes (faults.HistoryDiffers at) h = absurd h
   make_takes (faults.StanzaMismatch kept found) h = absurd h
   make_takes faults.Running h = absurd h

@@ -29,7 +29,7 @@ use Rattle.pgb_label.specs.declared.keeper.Ended.{Ended}
 use Rattle.pgb_backup.specs.declared.draft.Draft.{Draft}
 use Rattle.pgb_backup.specs.Draft.{jobs_in}
 use Rattle.pgb_backup.specs.Faults.{WhereDone}
-use Rattle.pgb_logged.specs.Backups.{IsReadBy, IsFullBackup}
+use Rattle.pgb_logged.specs.Backups.{IsOfLink, IsReadBy, IsFullBackup}
 use Rattle.pgb_take.specs.Beginning.{AreLost}
 use Rattle.pgb_take.specs.Making.{CannotRead}
 
@@ -136,13 +136,14 @@ module _ (used now : List LinkState) (comes : Comes used now) where
       let x = comes.comes k s is in
       read_on x.1.told s.told tree repo x.3 (all_at (λ (t : LinkState). IsSomeAnd t.told (Reads tree repo)) used x.0 x.1 all x.2))
 
+  -- what one of them read a used link read
+  pub link_by_used : (path bytes : Text) → IsOfLink now path bytes → IsOfLink used path bytes
+  link_by_used path bytes r =
+      let u = comes.comes r.0 r.1 r.3 in
+      (u.0, u.1, r.2, u.2, r.4, r.5, where_back u.1.told r.1.told (λ tree repo. IsPayload r.2 (file_of r.2 tree repo) bytes) u.3 r.6)
+
   pub read_by_used : (b : Backup) → IsReadBy now b → IsReadBy used b
-  read_by_used b h = record {
-    read = λ path x has some.
-        let r = h.read path x has some in
-        let u = comes.comes r.0 r.1 r.3 in
-        (u.0, u.1, r.2, u.2, r.4, r.5, where_back u.1.told r.1.told (λ tree repo. IsPayload r.2 (file_of r.2 tree repo) x.bytes) u.3 r.6);
-  }
+  read_by_used b h = record { read = λ path x has some. link_by_used path x.bytes (h.read path x has some) }
 
   pub full_by_used : (command : Command) → IsFullBackup now command → IsFullBackup used command
   full_by_used command h = (h.0, h.1, read_by_used h.0 h.2)

@@ -26,7 +26,8 @@ use Rattle.pgb_stage.specs.Runs.{to_end, turned_back, stopped}
 use Rattle.pgb_take.specs.declared.fault.TakeFault.{TakeFault}
 use Rattle.pgb_take.specs.Drafting.{ListingCause}
 use Rattle.pgb_take.specs.Faults.{take_early, of_plan, IsHaltOf, NoneLeft, NotRead, Vanished, LongManifest, LongList, NoClock, NoDisk, Starved}
-use Rattle.pgb_take.specs.Making.{IsEndOf, Well, Ill, CannotRead, MakeCause}
+use Rattle.pgb_take.specs.Making.{IsEndWith, IsEndOf, Well, Ill, CannotRead, MakeCause}
+use Rattle.pgb_take.specs.Texts.{label_line}
 
 -- ---- a draft
 
@@ -77,9 +78,9 @@ module _ (d : Draft) (links left : List LinkState) (before after : List Lost) (o
 -- ---- how far the command came by that
 
 -- where it came to its end, the backup was made, with the line that tells it
-pub finish_ok : (d : Draft) (made : Result (Unit {0}) MakeFault) (result : Result Outcome (Halt TakeFault)) → IsEndOf d made result → reached_by take_early result ≡ to_end → is_ok made ≡ true
-finish_ok d made result (Well u lines is) at = refl
-finish_ok d made result (Ill lost fault halt is) at = absurd (by lost fault halt is at)
+pub end_ok : (d : Draft) (line : Text) (made : Result (Unit {0}) MakeFault) (result : Result Outcome (Halt TakeFault)) → IsEndWith d line made result → reached_by take_early result ≡ to_end → is_ok made ≡ true
+end_ok d line made result (Well u lines is) at = refl
+end_ok d line made result (Ill lost fault halt is) at = absurd (by lost fault halt is at)
   where
     by : (lost : ℕ) (fault : MakeFault) (halt : Halt TakeFault) → IsHaltOf (stanza_of d) d.label lost fault halt → reached_by take_early (Err halt) ≡ to_end → ⊥
     by lost fault halt NoneLeft at = let e : turned_back ≡ to_end = at in cc
@@ -92,9 +93,9 @@ finish_ok d made result (Ill lost fault halt is) at = absurd (by lost fault halt
     by lost fault halt (Starved f) at = let e : stopped ≡ to_end = at in cc
 
 -- where it was turned back, no backup may be listed
-pub finish_early : (d : Draft) (made : Result (Unit {0}) MakeFault) (result : Result Outcome (Halt TakeFault)) → IsEndOf d made result → reached_by take_early result ≡ turned_back → IsErrAnd made (λ e. ¬ MayBeListed e)
-finish_early d made result (Well u lines is) at = absurd (let e : to_end ≡ turned_back = at in cc)
-finish_early d made result (Ill lost fault halt is) at = by lost fault halt is at
+pub end_early : (d : Draft) (line : Text) (made : Result (Unit {0}) MakeFault) (result : Result Outcome (Halt TakeFault)) → IsEndWith d line made result → reached_by take_early result ≡ turned_back → IsErrAnd made (λ e. ¬ MayBeListed e)
+end_early d line made result (Well u lines is) at = absurd (let e : to_end ≡ turned_back = at in cc)
+end_early d line made result (Ill lost fault halt is) at = by lost fault halt is at
   where
     by : (lost : ℕ) (fault : MakeFault) (halt : Halt TakeFault) → IsHaltOf (stanza_of d) d.label lost fault halt → reached_by take_early (Err halt) ≡ turned_back → ¬ MayBeListed fault
     by lost fault halt NoneLeft at = λ h. h
@@ -105,3 +106,9 @@ finish_early d made result (Ill lost fault halt is) at = by lost fault halt is a
     by lost fault halt NoClock at = absurd (let e : stopped ≡ turned_back = at in cc)
     by lost fault halt NoDisk at = absurd (let e : stopped ≡ turned_back = at in cc)
     by lost fault halt (Starved f) at = absurd (let e : stopped ≡ turned_back = at in cc)
+
+pub finish_ok : (d : Draft) (made : Result (Unit {0}) MakeFault) (result : Result Outcome (Halt TakeFault)) → IsEndOf d made result → reached_by take_early result ≡ to_end → is_ok made ≡ true
+finish_ok d made result end at = end_ok d (label_line d.label) made result end at
+
+pub finish_early : (d : Draft) (made : Result (Unit {0}) MakeFault) (result : Result Outcome (Halt TakeFault)) → IsEndOf d made result → reached_by take_early result ≡ turned_back → IsErrAnd made (λ e. ¬ MayBeListed e)
+finish_early d made result end at = end_early d (label_line d.label) made result end at

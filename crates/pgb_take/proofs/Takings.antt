@@ -43,13 +43,13 @@ use Rattle.pgb_take.specs.declared.fault.TakeFault.{TakeFault}
 use Rattle.pgb_take.specs.Beginning.{most_backups, IsStopped}
 use Rattle.pgb_take.specs.Drafting.{IsFullOf}
 use Rattle.pgb_take.specs.Faults.{take_early}
-use Rattle.pgb_take.specs.Making.{IsEndOf, Well, Ill, Finishes}
+use Rattle.pgb_take.specs.Making.{IsEndWith, IsEndOf, Well, Ill, Finishes}
 use Rattle.pgb_take.specs.Taken.{MayFollow, IsTaken}
 use Rattle.pgb_take.specs.Texts.{label_line}
 use Rattle.pgb_take.proofs.Beginnings.{same_backups}
 use Rattle.pgb_take.proofs.Causes.{if_both}
 use Rattle.pgb_take.proofs.Links.{Comes, read_by_used, full_by_used, all_read_on}
-use Rattle.pgb_take.proofs.Makings.{finish_ok, finish_early}
+use Rattle.pgb_take.proofs.Makings.{end_ok, end_early}
 
 -- ---- where it is refused before
 
@@ -91,10 +91,10 @@ together a b w (Without pending is) = inr pending
 -- ---- where it was made, or might have been
 
 module _ (stanza : Text) (used now : List LinkState) (comes : Comes used now) (a b d : View) (rests : Rests a b) (same : b.now ≡ a.now)
-    (draft : Draft) (stanza_is : stanza_of draft ≡ stanza) (begins : BeginsFull draft b.now) (result : Result Outcome (Halt TakeFault)) (f : Finishes draft now b d result) where
+    (draft : Draft) (stanza_is : stanza_of draft ≡ stanza) (begins : BeginsFull draft b.now) (line : Text) (result : Result Outcome (Halt TakeFault)) (f : Finishes draft line now b d result) where
   pub finished_does : On (one (IsFullBackup used)) (λ command. Does Whole stanza command (reached_by take_early result) a d)
   finished_does =
-      let x = does_full one_list one_manifest draft now b d begins f.made (reached_by take_early result) f.outcome (finish_ok draft f.made result f.end) (finish_early draft f.made result f.end) in (
+      let x = does_full one_list one_manifest draft now b d begins f.made (reached_by take_early result) f.outcome (end_ok draft line f.made result f.end) (end_early draft line f.made result f.end) in (
         x.0,
         full_by_used used now comes x.0 x.1,
         does_after stanza x.0 (reached_by take_early result) a b d rests same
@@ -140,8 +140,8 @@ module _ (stanza : Text) (told : Control) (archive : rust_archive_info.ArchiveIn
         }
     taken_by made result (Ill lost fault halt is) outcome alike = tt
 
-    pub finished_taken : (result : Result Outcome (Halt TakeFault)) → Finishes draft now b d result → OnOk result (IsSome b.now → IfSome d.now (AgreeAt (main_of draft))) → IfOk result (λ o. OnFinished o (IsTaken stanza told nodes used old d.now))
-    finished_taken result f alike = taken_by f.made result f.end f.outcome alike
+    pub finished_taken : (line : Text) (result : Result Outcome (Halt TakeFault)) → line ≡ label_line draft.label → Finishes draft line now b d result → OnOk result (IsSome b.now → IfSome d.now (AgreeAt (main_of draft))) → IfOk result (λ o. OnFinished o (IsTaken stanza told nodes used old d.now))
+    finished_taken line result tells f alike = taken_by f.made result (subst (λ (t : Text). IsEndWith draft t f.made result) tells f.end) f.outcome alike
 
 -- ---- counts
 

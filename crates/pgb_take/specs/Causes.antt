@@ -56,26 +56,30 @@ pub record IsDraftOf (b : Before) (d : Draft) : Type 0 where
   pub takes : Shows b (λ seen. Takes false seen (taken_in d) (folders_in d))
   pub list : IfSome b.repo (SettlesTo b.stanza (list_in d))
 
--- it is so of such a draft
-abbrev pub OfDraft : Before → (Draft → Type 0) → Type 0
-OfDraft b P = (d : Draft) × IsDraftOf b d × P d
+-- it is so of a draft of this kind
+abbrev pub OfDraft : (Draft → Type 0) → (Draft → Type 0) → Type 0
+OfDraft IsIt P = (d : Draft) × IsIt d × P d
 
 -- f lists so many backups that there is no room for one more
 abbrev pub IsFull : Text → Content → Type 0
 IsFull stanza f = (list : BackupInfo) × PairIs IsBackupText f (backup_info stanza) list × (most_backups ≤ length list.backups)
 
--- why a backup is refused
+-- why a backup is refused that is made by a draft of this kind
+abbrev pub CauseBy : Before → (Draft → Type 0) → TakeFault → Type 0
+CauseBy b IsIt (HistoryDiffers at) = IfSome b.repo (λ f. HistoriesDiffer b.stanza f at)
+CauseBy b IsIt (StanzaMismatch kept found) = IfSome b.repo (λ f. HasOther b.stanza b.told f kept found)
+CauseBy b IsIt Running = IfSome b.nodes (λ f. IsSome (f server_path))
+CauseBy b IsIt (TooMany limit) = ((limit ≡ most_backups) × IfSome b.repo (IsFull b.stanza)) ⊎ Refuses b (plans.TooMany limit)
+CauseBy b IsIt (WorkersLost lost) = AreLost b.used lost
+CauseBy b IsIt (ClockBehind latest now) = (now + 10 < latest) × (b.least ≤ now)
+CauseBy b IsIt (LinkFound path) = Refuses b (plans.LinkFound path)
+CauseBy b IsIt (NameRefused path) = Shows b (λ seen. (fault : NameFault) × IsRefused (kept false seen) (plans.NameRefused path fault))
+CauseBy b IsIt ListingUnordered = b.nodes ≡ None
+CauseBy b IsIt (ControlMissing path) = Refuses b (plans.ControlMissing path)
+    ⊎ OfDraft IsIt (λ d. WhereDone d b.used (λ ends. IsMissing (string_bytes path) (files_with d ends)))
+CauseBy b IsIt (Unread path) = OfDraft IsIt (λ d. CannotRead d b.used path)
+CauseBy b IsIt (TooLong name limit) = OfDraft IsIt (λ d. IsPast d b.used name limit)
+
+-- why a full one is
 abbrev pub TakeCause : Before → TakeFault → Type 0
-TakeCause b (HistoryDiffers at) = IfSome b.repo (λ f. HistoriesDiffer b.stanza f at)
-TakeCause b (StanzaMismatch kept found) = IfSome b.repo (λ f. HasOther b.stanza b.told f kept found)
-TakeCause b Running = IfSome b.nodes (λ f. IsSome (f server_path))
-TakeCause b (TooMany limit) = ((limit ≡ most_backups) × IfSome b.repo (IsFull b.stanza)) ⊎ Refuses b (plans.TooMany limit)
-TakeCause b (WorkersLost lost) = AreLost b.used lost
-TakeCause b (ClockBehind latest now) = (now + 10 < latest) × (b.least ≤ now)
-TakeCause b (LinkFound path) = Refuses b (plans.LinkFound path)
-TakeCause b (NameRefused path) = Shows b (λ seen. (fault : NameFault) × IsRefused (kept false seen) (plans.NameRefused path fault))
-TakeCause b ListingUnordered = b.nodes ≡ None
-TakeCause b (ControlMissing path) = Refuses b (plans.ControlMissing path)
-    ⊎ OfDraft b (λ d. WhereDone d b.used (λ ends. IsMissing (string_bytes path) (files_with d ends)))
-TakeCause b (Unread path) = OfDraft b (λ d. CannotRead d b.used path)
-TakeCause b (TooLong name limit) = OfDraft b (λ d. IsPast d b.used name limit)
+TakeCause b fault = CauseBy b (IsDraftOf b) fault

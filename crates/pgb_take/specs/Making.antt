@@ -5,7 +5,7 @@ use Rattle.pgb_outside.specs.Links.{LinkState}
 use Rattle.pgb_outside.specs.Moments.{View}
 use Rattle.pgb_model.specs.InfoFiles.{info_limit}
 use Rattle.pgb_model.specs.ManifestText.{manifest_limit}
-use Rattle.pgb_model.specs.Text.{In}
+use Rattle.pgb_model.specs.Text.{Text, In}
 use Rattle.pgb_worker_frame.specs.Frames.{Item, Job}
 use Rattle.pgb_worker_reply.specs.Reads.{UnreadBy}
 use Rattle.pgb_worker_dispatch.specs.declared.fault.Lost.{Lost}
@@ -24,16 +24,20 @@ use Rattle.pgb_take.specs.declared.fault.TakeFault.TheVariants.{WorkersLost, Con
 use Rattle.pgb_take.specs.Faults.{IsHaltOf}
 use Rattle.pgb_take.specs.Texts.{label_line}
 
--- the command's end by that of the backup's making: with the line that tells its label, or with its fault
-pub data IsEndOf (d : Draft) : Result (Unit {0}) MakeFault → Result Outcome (Halt TakeFault) → Type 0 where
-  Well : (u : Unit {0}) (lines : String Global) → string_bytes lines ≡ label_line d.label → IsEndOf d (Ok u) (Ok (Finished lines))
-  Ill : (lost : ℕ) (fault : MakeFault) (halt : Halt TakeFault) → IsHaltOf (stanza_of d) d.label lost fault halt → IsEndOf d (Err fault) (Err halt)
+-- the command's end by that of the backup's making: with this line, or with its fault
+pub data IsEndWith (d : Draft) (line : Text) : Result (Unit {0}) MakeFault → Result Outcome (Halt TakeFault) → Type 0 where
+  Well : (u : Unit {0}) (lines : String Global) → string_bytes lines ≡ line → IsEndWith d line (Ok u) (Ok (Finished lines))
+  Ill : (lost : ℕ) (fault : MakeFault) (halt : Halt TakeFault) → IsHaltOf (stanza_of d) d.label lost fault halt → IsEndWith d line (Err fault) (Err halt)
+
+-- with the one that tells its label
+abbrev pub IsEndOf : Draft → Result (Unit {0}) MakeFault → Result Outcome (Halt TakeFault) → Type 0
+IsEndOf d made result = IsEndWith d (label_line d.label) made result
 
 -- The draft's backup was made of what these links read, and the command ended so; or it wasn't.
-pub record Finishes (d : Draft) (links : List LinkState) (old new : View) (result : Result Outcome (Halt TakeFault)) : Type 0 where
+pub record Finishes (d : Draft) (line : Text) (links : List LinkState) (old new : View) (result : Result Outcome (Halt TakeFault)) : Type 0 where
   pub made : Result (Unit {0}) MakeFault
   pub outcome : backup.Outcome made d links old new
-  pub end : IsEndOf d made result
+  pub end : IsEndWith d line made result
 
 -- ---- why it isn't made
 

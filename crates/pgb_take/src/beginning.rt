@@ -26,13 +26,13 @@ use std::alloc::Global;
 
 /// What a backup begins with: the stanza's list, and all that the data folder has.
 #[derive(Drop)]
-pub(crate) struct Begun {
-    pub(crate) list: BackupInfo,
-    pub(crate) seen: Vec<Seen>,
+pub struct Begun {
+    pub list: BackupInfo,
+    pub seen: Vec<Seen>,
 }
 
 /// Settles the stanza's list, lists the data folder, and starts the workers.
-pub(crate) fn begin<T: Tree, L: Link>(
+pub fn begin<T: Tree, L: Link>(
     alloc: Global,
     tree: &mut T,
     links: &mut Vec<L>,

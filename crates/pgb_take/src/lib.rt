@@ -27,9 +27,10 @@ mod starting;
 mod taking;
 mod texts;
 
+pub use beginning::{Begun, begin};
 pub use fault::{TakeFault, of_make, of_plan, of_second};
 pub use judging::{check_room, fit};
-pub use making::{count_of, label_line};
+pub use making::{count_of, finish, label_line};
 pub use order::TakeOrder;
 pub use starting::start_workers;
 pub use taking::take_backup;

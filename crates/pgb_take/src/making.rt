@@ -38,8 +38,8 @@ pub fn count_of(lost: &[Lost]) -> u32
     u32::try_from(lost.len()).unwrap_or(u32::MAX)
 }
 
-/// Makes the draft's backup, and answers with the line that tells its label.
-pub(crate) fn finish<D: Disk, L: Link, U: Turns, C: Clock>(
+/// Makes the draft's backup, and answers with this line.
+pub fn finish<D: Disk, L: Link, U: Turns, C: Clock>(
     alloc: Global,
     repo: &mut D,
     links: &mut Vec<L>,
@@ -51,10 +51,9 @@ pub(crate) fn finish<D: Disk, L: Link, U: Turns, C: Clock>(
 ) -> Result<Outcome, Halt<TakeFault>>
     requires draft { IsDraft draft }
     requires label { IsLabel draft.label }
-    requires line { string_bytes line ≡ label_line draft.label }
     requires few { vec_len links.old < 2 ^ 32 }
     requires ready { AreReady (map L.link_state links.old.items) }
-    ensures made { Finishes draft.entry (map L.link_state links.old.items) (D.state repo.old).view
+    ensures made { Finishes draft.entry (string_bytes line) (map L.link_state links.old.items) (D.state repo.old).view
         (D.state repo.new).view result }
     ensures alike { OnOk result (IsSome (D.state repo.old).view.now
         → IfSome (D.state repo.new).view.now (AgreeAt (main_of draft.entry))) }

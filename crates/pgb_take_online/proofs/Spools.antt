@@ -30,9 +30,9 @@ use Rattle.pgb_one_text.proofs.Manifests.{one_manifest}
 use Rattle.pgb_backup.specs.declared.draft.Draft.{Draft}
 use Rattle.pgb_backup.specs.Draft.{stanza_of}
 use Rattle.pgb_backup.specs.Made.{LeavesList}
-use Rattle.pgb_logged.proofs.Begun.{BeginsFull, no_vacant}
+use Rattle.pgb_logged.proofs.Begun.{BeginsFull, BeginsBackup, full_begins, no_vacant}
 use Rattle.pgb_logged.proofs.Behind.{moves_steady}
-use Rattle.pgb_logged.proofs.Online.{done_part, left_moves}
+use Rattle.pgb_logged.proofs.Running.{done_part, left_moves}
 use Rattle.pgb_take_online.specs.Doing.{DoesOnline, Heard, IsOnlineOf, MarksOnline, RunsOnline, TakesTurns}
 use Rattle.pgb_take_online.proofs.Doings.{by_account, with_account, turns_taken}
 
@@ -90,10 +90,13 @@ module _ (a b c w : View) (rests : Rests a b) (now_same : b.now ≡ a.now) (d : 
   told_b : IsSome a.now → IsSome b.now
   told_b some = subst (λ (o : Option Content). IsSome o) (sym now_same) some
 
+  from : BeginsBackup d b
+  from = full_begins d b begins
+
   -- the disk is still steady at its repository as the wait begins
   steady_there : (r : Repository) → IsSome a.now → IsSteady (stanza_of d) r a → IsSteady (stanza_of d) r c
-  steady_there None some steady = absurd (no_vacant one_list d b begins (told_b some) (steady_rests (stanza_of d) None a b rests now_same steady))
-  steady_there (Some s) some steady = moves_steady (stanza_of d) (Some s) b c (left_moves one_list one_manifest d b c begins leaves s (told_b some) (steady_rests (stanza_of d) (Some s) a b rests now_same steady))
+  steady_there None some steady = absurd (no_vacant one_list d b from (told_b some) (steady_rests (stanza_of d) None a b rests now_same steady))
+  steady_there (Some s) some steady = moves_steady (stanza_of d) (Some s) b c (left_moves one_list one_manifest d b c from leaves s (told_b some) (steady_rests (stanza_of d) (Some s) a b rests now_same steady))
 
   keeps_there : (q : Repository) (log : List Done) → IsSome a.now → IsBegun (stanza_of d) q log a → KeepsRepository (stanza_of d) q log c
   keeps_there q log some begun = let steady = steady_there begun.repository some begun.steady in record {
@@ -188,9 +191,16 @@ runs_online stanza used heard reached old (Some k) repo spool new_repo new_spool
         → (turned : List Turned) × TakesTurns turned old k × (ended : Bool) × OnAll reached (ended ≡ true) × SpoolGoes Whole stanza (ArchivePushAsync (turns_of turned)) ended repo spool new_spool
         → (turned : List Turned) × TakesTurns turned old k × ((command : Command) × IsOnlineOf used heard turned command × Runs Whole stanza command reached repo spool new_repo new_spool)
     by (ts, taken, (command, is, h)) (us, also, ended, well, goes) =
-        let same = one_turns k old ts us taken also in
-        (ts, taken, (command, is, made stanza used heard reached repo spool new_repo new_spool ts ended well
-        (subst (λ (xs : List Turned). SpoolGoes Whole stanza (ArchivePushAsync (turns_of xs)) ended repo spool new_spool) same goes) command is h))
+        let same = one_turns k old ts us taken also in (
+          ts,
+          taken,
+          (
+            command,
+            is,
+            made stanza used heard reached repo spool new_repo new_spool ts ended well
+                (subst (λ (xs : List Turned). SpoolGoes Whole stanza (ArchivePushAsync (turns_of xs)) ended repo spool new_spool) same goes) command is h,
+          ),
+        )
 
 -- ---- it keeps to the stanza
 

@@ -1,4 +1,4 @@
-use Rattle.std.proofs.Common.{map, subst, length, List, ◌<◌, ◌≡◌, ◌^◌}
+use Rattle.std.proofs.Common.{map, refl, subst, length, List, ◌<◌, ◌≡◌, ◌^◌}
 use Rattle.pgb_worker_dispatch.specs.declared.fault.Lost.{Lost}
 use Rattle.std.specs.Prelude.{Ok, Err}
 use Rattle.pgb_take.specs.Making.{Well, Ill}
@@ -6,7 +6,7 @@ use Rattle.pgb_take.proofs.Makings.{made_cause}
 use Rattle.pgb_take.proofs.making.finish.Goals as goal
 
 pub returns-in-Ok-clause-made : goal.returns-in-Ok-clause-made
-returns-in-Ok-clause-made g c = record { made = Ok tt; outcome = c.in-Ok.ensures.made; end = Well tt c.args.line c.requires.line }
+returns-in-Ok-clause-made g c = record { made = Ok tt; outcome = c.in-Ok.ensures.made; end = Well tt c.args.line refl }
 
 pub returns-in-Err-clause-made : goal.returns-in-Err-clause-made
 returns-in-Err-clause-made g c = record {

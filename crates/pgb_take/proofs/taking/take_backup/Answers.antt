@@ -11,7 +11,7 @@ use Rattle.pgb_story.proofs.Stays.{rests_beside, beside_on}
 use Rattle.pgb_archive.specs.Still.{rests_none}
 use Rattle.pgb_stage.specs.Halts.{HaltCause}
 use Rattle.pgb_stage.proofs.Counts.{rises_from}
-use Rattle.pgb_take.specs.Causes.{Before, TakeCause}
+use Rattle.pgb_take.specs.Causes.{Before, IsDraftOf, TakeCause}
 use Rattle.pgb_take.specs.Drafting.{DraftCause}
 use Rattle.pgb_take.specs.Making.{MakeCause}
 use Rattle.pgb_take.proofs.Beginnings.{halt_as, ends_with, err_as}
@@ -48,7 +48,7 @@ returns-in_err-draft-clause-cause g c =
     let clock = Rises (g.C.Clock.state c.args.clock.now).faults (g.C.Clock.state c.draft_full.new.clock).faults in
     let listing = subst (λ (ss : List rust_seen.Seen). IfSome nodes (λ f. IsTreeListing f (map seen_of ss))) (sym c.deref.ensures.value) c.in_ok-begun.ensures.listing in
     ends_with (HaltCause (TakeCause before) (Any repo tree clock)) c.from_residual-in_err-draft.result c.in_err-draft.field-0.0 c.from_residual-in_err-draft.ensures.1
-    (halt_as (DraftCause seen before.least) (TakeCause before) (Either repo clock) (Any repo tree clock) (draft_takes before seen listing)
+    (halt_as (DraftCause seen before.least) (TakeCause before) (Either repo clock) (Any repo tree clock) (draft_takes before (IsDraftOf before) seen listing)
     (either_any repo repo tree clock clock (λ x. x) (λ x. x)) c.in_err-draft.field-0.0 c.in_err-draft.ensures.cause)
 
 pub returns-clause-does : goal.returns-clause-does
@@ -63,7 +63,7 @@ returns-clause-does g c =
     let begins = begins_full c.args.stanza.now c.args.archive.now c.args.backup a.now b.now looks.now c.requires.archive c.requires.backup
     (map seen_of c.deref.result.now) (backup_info_of c.in_ok-begun.begun.list) c.in_ok-draft.draft c.in_ok-draft.ensures.draft full c.in_ok-begun.ensures.settled in
     finished_does c.args.stanza.now used now (left_comes used now [] c.begin.new.lost.items c.in_ok-begun.ensures.left) a b d looks.time looks.now
-    c.in_ok-draft.draft full.stanza_is begins c.finish.result c.finish.ensures.made
+    c.in_ok-draft.draft full.stanza_is begins _ c.finish.result c.finish.ensures.made
 
 pub returns-clause-taken : goal.returns-clause-taken
 returns-clause-taken g c =
@@ -77,7 +77,7 @@ returns-clause-taken g c =
     finished_taken c.args.stanza.now c.args.told.now c.args.archive.now c.args.backup a.now c.requires.archive c.requires.backup
     (map seen_of c.deref.result.now) (backup_info_of c.in_ok-begun.begun.list) c.in_ok-begun.ensures.settled c.in_ok-begun.ensures.of c.in_ok-begun.ensures.room
     c.in_ok-draft.draft c.in_ok-draft.ensures.draft c.in_ok-draft.ensures.full nodes listing c.in_ok-begun.ensures.stopped
-    used now (left_comes used now [] c.begin.new.lost.items c.in_ok-begun.ensures.left) b d c.draft_full.ensures.looks.now c.finish.result c.finish.ensures.made c.finish.ensures.alike
+    used now (left_comes used now [] c.begin.new.lost.items c.in_ok-begun.ensures.left) b d c.draft_full.ensures.looks.now _ c.finish.result c.in_ok-draft.ensures.line c.finish.ensures.made c.finish.ensures.alike
 
 pub returns-clause-beside : goal.returns-clause-beside
 returns-clause-beside g c =
@@ -112,7 +112,7 @@ returns-clause-cause g c =
     let draft = c.in_ok-draft.draft in
     let of = draft_of before c.args.archive.now c.args.backup c.requires.archive c.requires.backup seen listing (backup_info_of c.in_ok-begun.begun.list) c.in_ok-begun.ensures.settled draft c.in_ok-draft.ensures.full in
     let few : length c.args.links.now.items < 2 ^ 32 = omega (arith, c.requires.few, c.args.links.now.ok) in
-    let takes = make_takes before draft of now c.begin.new.lost.items c.in_ok-begun.ensures.left (used_few g.L.Link.link_state c.args.order.workers (2 ^ 32) c.args.links.now.items few) in
+    let takes = make_takes before (IsDraftOf before) draft of now c.begin.new.lost.items c.in_ok-begun.ensures.left (used_few g.L.Link.link_state c.args.order.workers (2 ^ 32) c.args.links.now.items few) in
     err_as (HaltCause (MakeCause draft now c.begin.new.lost.items) (Either (Rises y z) (Rises v w))) (HaltCause (TakeCause before) (Any (Rises x z) tree (Rises u w))) c.finish.result
     (halt_as (MakeCause draft now c.begin.new.lost.items) (TakeCause before) (Either (Rises y z) (Rises v w)) (Any (Rises x z) tree (Rises u w)) takes
     (either_any (Rises y z) (Rises x z) tree (Rises v w) (Rises u w) (rises_from x y z c.draft_full.ensures.looks.later) (rises_from u v w c.draft_full.ensures.later)))

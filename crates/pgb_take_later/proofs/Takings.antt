@@ -1,0 +1,209 @@
+-- What a backup of any kind does, and what is told of it.
+use Rattle.std.proofs.Common.{◌≡◌, ⊎_elim, inl, inr, ◌<◌, ℕ, List, length, Bool, true, false, Option, Some, refl, sym, ◌∙◌, ap, subst, string_bytes}
+use Rattle.std.specs.Prelude.{IfSome, IsSome, IsErrAnd, OnOk, IfOk, Result, Ok, Err}
+use Rattle.pgb_outside.specs.Content.{Content}
+use Rattle.pgb_outside.specs.Links.{LinkState}
+use Rattle.pgb_outside.specs.Moments.{View, Rests}
+use Rattle.pgb_model.specs.declared.clusters.ArchiveInfo as rust_archive_info
+use Rattle.pgb_model.specs.declared.clusters.BackupInfo as rust_backup_info
+use Rattle.pgb_model.specs.declared.labels.Choices.{Choices}
+use Rattle.pgb_model.specs.declared.labels.Label.{Label}
+use Rattle.pgb_model.specs.InfoFiles.{IsBackupText}
+use Rattle.pgb_model.specs.Names.{backup_info}
+use Rattle.pgb_model.specs.Now.{NowStands}
+use Rattle.pgb_model.specs.Pair.{PairIs}
+use Rattle.pgb_model.specs.Repository.{Backup}
+use Rattle.pgb_model.specs.Steps.{Command}
+use Rattle.pgb_model.specs.Text.{Text}
+use Rattle.pgb_model.specs.Values.{BackupInfo, FileEntry, Manifest, archive_info_of, backup_info_of}
+use Rattle.pgb_one_text.proofs.Lists.{one_list}
+use Rattle.pgb_one_text.proofs.Manifests.{one_manifest}
+use Rattle.pgb_label.proofs.Ways.{Law}
+use Rattle.pgb_plan.specs.Filter.{ListedNode}
+use Rattle.pgb_stanza.specs.declared.control.Control.{Control}
+use Rattle.pgb_stanza.specs.Judging.{Settles, IsOf}
+use Rattle.pgb_stanza.specs.Pairs.{AgreeAt}
+use Rattle.pgb_backup.specs.declared.draft.Draft.{Draft}
+use Rattle.pgb_backup.specs.declared.fault.MakeFault.{MakeFault}
+use Rattle.pgb_backup.specs.Draft.{stanza_of, main_of, IsDraft}
+use Rattle.pgb_backup.specs.Made.{Outcome as Makes}
+use Rattle.pgb_stage.specs.declared.halt.Halt.{Halt}
+use Rattle.pgb_stage.specs.declared.halt.Halt.TheVariants.{Refused, Failed, NoMemory}
+use Rattle.pgb_stage.specs.declared.outcome.Outcome.{Outcome}
+use Rattle.pgb_stage.specs.declared.outcome.Outcome.TheVariants.{Finished, Absent, FindingsFound}
+use Rattle.pgb_stage.specs.declared.plan.Settling.TheVariants.{Whole}
+use Rattle.pgb_stage.specs.Current.{HasValue}
+use Rattle.pgb_stage.specs.Reached.{OnFinished, reached_by, back_if, fails_early}
+use Rattle.pgb_stage.specs.Runs.{Reached, to_end, turned_back, stopped, Does, On, one}
+use Rattle.pgb_stage.proofs.After.{does_after}
+use Rattle.pgb_prepare.specs.Readies.{IsArchiveOf, IsBackupOf}
+use Rattle.pgb_logged.specs.Backups.{IsOfLink, IsLeftOf, IsReadOrLeft, IsAnyBackup, AddsBackup}
+use Rattle.pgb_logged.proofs.Added.{adds_backup}
+use Rattle.pgb_logged.proofs.Begun.{BeginsBackup}
+use Rattle.pgb_logged.proofs.Full.{no_later, does_backup}
+use Rattle.pgb_take.specs.declared.fault.TakeFault.{TakeFault}
+use Rattle.pgb_take.specs.Beginning.{most_backups}
+use Rattle.pgb_take.specs.Faults.{take_early}
+use Rattle.pgb_take.specs.Making.{IsEndWith, Well, Ill, Finishes}
+use Rattle.pgb_take.proofs.Causes.{if_both}
+use Rattle.pgb_take.proofs.Links.{Comes, link_by_used}
+use Rattle.pgb_take.proofs.Makings.{end_ok, end_early}
+use Rattle.pgb_take_later.specs.declared.fault.LaterFault.{LaterFault}
+use Rattle.pgb_take_later.specs.declared.order.LaterOrder.{LaterOrder}
+use Rattle.pgb_take_later.specs.Basing.{base_in, base_label, old_files, ReadsBase}
+use Rattle.pgb_take_later.specs.Drafting.{IsLaterOf}
+use Rattle.pgb_take_later.specs.Faults.{of_take, later_early}
+use Rattle.pgb_take_later.specs.Making.{BeginsFrom, IsMade}
+use Rattle.pgb_take_later.specs.Taken.{HasRoom}
+use Rattle.pgb_take_later.specs.Texts.{later_lines}
+use Rattle.pgb_take_later.proofs.Bases.{begins_later}
+
+-- ---- where it is refused before
+
+back_not : (early : Bool) → ¬ (back_if early ≡ to_end)
+back_not true at = let e : turned_back ≡ to_end = at in cc
+back_not false at = let e : stopped ≡ to_end = at in cc
+
+not_end : (result : Result Outcome (Halt LaterFault)) (h : Halt LaterFault) → IsErrAnd result (λ x. x ≡ h) → ¬ (reached_by later_early result ≡ to_end)
+not_end (Ok x) h is at = absurd is
+not_end (Err (Refused e)) h is at = let e : turned_back ≡ to_end = at in cc
+not_end (Err (Failed object)) h is at = back_not (fails_early object) at
+not_end (Err NoMemory) h is at = let e : stopped ≡ to_end = at in cc
+
+pub refused_later : (used : List LinkState) (stanza : Text) (result : Result Outcome (Halt LaterFault)) (h : Halt LaterFault) → IsErrAnd result (λ x. x ≡ h) → (a b : View) → Rests a b → b.now ≡ a.now
+    → On (one (IsAnyBackup used stanza a.now)) (λ command. Does Whole stanza command (reached_by later_early result) a b)
+refused_later used stanza result h is a b rests same = no_later used stanza (reached_by later_early result) a b (not_end result h is) (record { now = same; time = rests })
+
+-- a halt that a full backup may have too comes as far
+pub same_reach : (h : Halt TakeFault) → reached_by take_early (let r : Result Outcome (Halt TakeFault) = Err h in r) ≡ reached_by later_early (Err (of_take h))
+same_reach (Refused e) = refl
+same_reach (Failed object) = refl
+same_reach NoMemory = refl
+
+pub ok_reach : (o : Outcome) → reached_by take_early (let r : Result Outcome (Halt TakeFault) = Ok o in r) ≡ reached_by later_early (let r : Result Outcome (Halt LaterFault) = Ok o in r)
+ok_reach (Finished lines) = refl
+ok_reach (Absent name) = refl
+ok_reach (FindingsFound lines) = refl
+
+-- what is told of a command's end
+pub on_finished : (P Q : Text → Type 0) (o : Outcome) → ((t : Text) → P t → Q t) → OnFinished o P → OnFinished o Q
+on_finished P Q (Finished lines) to h = to (string_bytes lines) h
+on_finished P Q (Absent name) to h = absurd h
+on_finished P Q (FindingsFound lines) to h = absurd h
+
+-- ---- by the used links
+
+module _ (used now : List LinkState) (comes : Comes used now) (stanza : Text) (old : Option Content) where
+  pub read_by_used : (b : Backup) → IsReadOrLeft now stanza old b → IsReadOrLeft used stanza old b
+  read_by_used b h = record {
+    read = λ path x has some. ⊎_elim
+        (λ (read : IsOfLink now path x.bytes). inl (link_by_used used now comes path x.bytes read))
+        (λ (was : IsLeftOf stanza old b path x). inr was)
+        (h.read path x has some);
+  }
+
+  pub any_by_used : (command : Command) → IsAnyBackup now stanza old command → IsAnyBackup used stanza old command
+  any_by_used command h = (h.0, h.1, read_by_used h.0 h.2)
+
+-- ---- where it was made, or might have been
+
+pub not_ended : (result : Result Outcome (Halt TakeFault)) (h : Halt TakeFault) → IsErrAnd result (λ x. x ≡ h) → ¬ (reached_by take_early result ≡ to_end)
+not_ended (Ok x) h is at = absurd is
+not_ended (Err (Refused e)) h is at = let e : turned_back ≡ to_end = at in cc
+not_ended (Err (Failed object)) h is at = back_not (fails_early object) at
+not_ended (Err NoMemory) h is at = let e : stopped ≡ to_end = at in cc
+
+pub undrafted_does : (links : List LinkState) (stanza : Text) (result : Result Outcome (Halt TakeFault)) (h : Halt TakeFault) → IsErrAnd result (λ x. x ≡ h) → (a b : View) → Rests a b → b.now ≡ a.now
+    → On (one (IsAnyBackup links stanza a.now)) (λ command. Does Whole stanza command (reached_by take_early result) a b)
+undrafted_does links stanza result h is a b rests same = no_later links stanza (reached_by take_early result) a b (not_ended result h is) (record { now = same; time = rests })
+
+module _ (stanza : Text) (o : LaterOrder) (seen : List ListedNode) (list : BackupInfo) (old : List FileEntry) (second : ℕ) (draft : Draft) (later : IsLaterOf stanza o seen list old second draft) (lines : Text)
+    (line_is : lines ≡ later_lines o.kind (base_in o.kind list) draft.label) (links : List LinkState) (a b d : View) (rests : Rests a b) (same : b.now ≡ a.now) (law : Law b) (is_draft : IsDraft draft)
+    (from : BeginsFrom stanza o a.now list old) where
+  begins : BeginsBackup draft b
+  begins = begins_later stanza o seen list old second draft later b law (subst (λ (n : Option Content). BeginsFrom stanza o n list old) (sym same) from) is_draft
+
+  pub finished_does : (result : Result Outcome (Halt TakeFault)) → Finishes draft lines links b d result → On (one (IsAnyBackup links stanza a.now)) (λ command. Does Whole stanza command (reached_by take_early result) a d)
+  finished_does result f =
+      let x = does_backup one_list one_manifest draft links b d begins f.made (reached_by take_early result) f.outcome (end_ok draft lines f.made result f.end) (end_early draft lines f.made result f.end) in (
+        x.0,
+        subst (λ (n : Option Content). IsAnyBackup links stanza n x.0) same (subst (λ (s : Text). IsAnyBackup links s b.now x.0) later.stanza_is x.1),
+        does_after stanza x.0 (reached_by take_early result) a b d rests same (subst (λ (s : Text). Does Whole s x.0 (reached_by take_early result) b d) later.stanza_is x.2),
+      )
+
+  made_by : (made : Result (Unit {0}) MakeFault) (result : Result Outcome (Halt TakeFault)) → IsEndWith draft lines made result → Makes made draft links b d
+      → OnOk result (IsSome b.now → IfSome d.now (AgreeAt (main_of draft))) → IfOk result (λ outcome. OnFinished outcome (IsMade stanza o list links a.now d.now))
+  made_by made result (Well u text tells) makes alike =
+      let x = adds_backup one_list one_manifest draft links b d begins (Ok u) makes refl in
+      let back = λ (some : IsSome a.now). subst (λ (n : Option Content). IsSome n) (sym same) some in
+      let whole : IsMade stanza o list links a.now d.now lines = record {
+        backup = x.0;
+        second = second;
+        later = later.next.later;
+        label = x.1.label ∙ later.label;
+        prior = x.1.prior ∙ later.prior;
+        line = line_is ∙ ap (λ (l : Label). later_lines o.kind (base_in o.kind list) l) (sym x.1.label);
+        delta = ap (λ (k : Choices). k.delta) x.1.choices ∙ later.delta;
+        read = subst (λ (n : Option Content). IsReadOrLeft links stanza n x.0) same (subst (λ (s : Text). IsReadOrLeft links s b.now x.0) later.stanza_is x.1.read);
+        refers = λ s some stands. x.1.refers s (back some) (subst (λ (k : Text). NowStands k (Some s) b.now) (sym later.stanza_is) (subst (λ (n : Option Content). NowStands stanza (Some s) n) (sym same) stands));
+        adds = subst (λ (s : Text). AddsBackup s x.0 a.now d.now) later.stanza_is (subst (λ (n : Option Content). AddsBackup (stanza_of draft) x.0 n d.now) same x.1.adds);
+        alike = λ some. subst (λ (s : Text). IfSome d.now (AgreeAt (backup_info s))) later.stanza_is (alike (back some));
+      } in
+      subst (λ (t : Text). IsMade stanza o list links a.now d.now t) (sym tells) whole
+  made_by made result (Ill lost fault halt why) makes alike = tt
+
+  pub finished_made : (result : Result Outcome (Halt TakeFault)) → Finishes draft lines links b d result → OnOk result (IsSome b.now → IfSome d.now (AgreeAt (main_of draft))) → IfOk result (λ outcome. OnFinished outcome (IsMade stanza o list links a.now d.now))
+  finished_made result f alike = made_by f.made result f.end f.outcome alike
+
+-- ---- the whole command
+
+module _ (used now : List LinkState) (comes : Comes used now) (stanza : Text) (a c d : View) (rests : Rests a c) (same : c.now ≡ a.now) where
+  -- its own part after calls that only read
+  pub command_does : (r : Result Outcome (Halt TakeFault)) (reached : Reached) → reached_by take_early r ≡ reached → On (one (IsAnyBackup now stanza c.now)) (λ command. Does Whole stanza command (reached_by take_early r) c d)
+      → On (one (IsAnyBackup used stanza a.now)) (λ command. Does Whole stanza command reached a d)
+  command_does r reached is x = (
+    x.0,
+    any_by_used used now comes stanza a.now x.0 (subst (λ (n : Option Content). IsAnyBackup now stanza n x.0) same x.1),
+    subst (λ (q : Reached). Does Whole stanza x.0 q a d) is (does_after stanza x.0 (reached_by take_early r) a c d rests same x.2),
+  )
+
+  pub made_by_used : (o : LaterOrder) (list : BackupInfo) (lines : Text) → IsMade stanza o list now c.now d.now lines → IsMade stanza o list used a.now d.now lines
+  made_by_used o list lines m = record {
+    backup = m.backup;
+    second = m.second;
+    later = m.later;
+    label = m.label;
+    prior = m.prior;
+    line = m.line;
+    delta = m.delta;
+    read = read_by_used used now comes stanza a.now m.backup (subst (λ (n : Option Content). IsReadOrLeft now stanza n m.backup) same m.read);
+    refers = λ s some stands. m.refers s (subst (λ (n : Option Content). IsSome n) (sym same) some) (subst (λ (n : Option Content). NowStands stanza (Some s) n) (sym same) stands);
+    adds = subst (λ (n : Option Content). AddsBackup stanza m.backup n d.now) same m.adds;
+    alike = λ some. m.alike (subst (λ (n : Option Content). IsSome n) (sym same) some);
+  }
+
+-- the pairs that were read have room for it
+pub has_room : (stanza : Text) (told : Control) (archive : rust_archive_info.ArchiveInfo) (backup : rust_backup_info.BackupInfo) (old : Option Content) → IsArchiveOf stanza old archive → IsBackupOf stanza old backup
+    → (list : BackupInfo) → Settles (archive_info_of archive) (backup_info_of backup) list → IsOf told (archive_info_of archive) → length list.backups < most_backups → IfSome old (HasRoom stanza told list)
+has_room stanza told archive backup old is_archive is_backup list settles of room = if_both (λ f. HasValue stanza f (archive_info_of archive)) (λ f. PairIs IsBackupText f (backup_info stanza) (backup_info_of backup)) (HasRoom stanza told list) old is_archive.0 is_backup.0 (λ f p q. record {
+  archive = archive_info_of archive;
+  backup = backup_info_of backup;
+  pairs = record { archive = p; backup = q };
+  of = of;
+  settles = settles;
+  few = room;
+})
+
+-- and the backup begins from them
+pub begins_from : (stanza : Text) (o : LaterOrder) (archive : rust_archive_info.ArchiveInfo) (backup : rust_backup_info.BackupInfo) (old now : Option Content) → now ≡ old → IsArchiveOf stanza old archive → IsBackupOf stanza old backup
+    → (list : BackupInfo) → Settles (archive_info_of archive) (backup_info_of backup) list → (base : Option Manifest) → ReadsBase stanza old (base_label o.kind list) base → (files : List FileEntry) → files ≡ old_files base → BeginsFrom stanza o now list files
+begins_from stanza o archive backup old now same is_archive is_backup list settles base reads files is = record {
+  archive = archive_info_of archive;
+  backup = backup_info_of backup;
+  archive_read = subst (λ (n : Option Content). IfSome n (λ f. HasValue stanza f (archive_info_of archive))) (sym same) is_archive.0;
+  backup_read = subst (λ (n : Option Content). IfSome n (λ f. PairIs IsBackupText f (backup_info stanza) (backup_info_of backup))) (sym same) is_backup.0;
+  settles = settles;
+  base = base;
+  reads = subst (λ (n : Option Content). ReadsBase stanza n (base_label o.kind list) base) (sym same) reads;
+  old_is = is;
+}

@@ -1,0 +1,37 @@
+-- The draft of a backup of any kind of a stopped server's data folder (pgBackRest user guide, "Backup").
+use Rattle.std.specs.Prelude.{◌≡◌, ℕ, true, false, Bool, List, [], length, map, Option, Some, None, option_map}
+use Rattle.pgb_outside.specs.Order.{are_in_order}
+use Rattle.pgb_model.specs.declared.labels.Label.{Label}
+use Rattle.pgb_model.specs.Fields.{at_number}
+use Rattle.pgb_model.specs.Text.{Text}
+use Rattle.pgb_model.specs.Values.{BackupInfo, Entry, FileEntry}
+use Rattle.pgb_plan.specs.Filter.{ListedNode, Takes}
+use Rattle.pgb_plan.specs.Layout.{layout}
+use Rattle.pgb_backup.specs.declared.draft.Draft.{Draft}
+use Rattle.pgb_backup.specs.Draft.{stanza_of, taken_in, folders_in, old_in, list_in}
+use Rattle.pgb_draft.specs.Drafted.{KeepRules}
+use Rattle.pgb_draft.specs.Priors.{made_label}
+use Rattle.pgb_draft.specs.Seconds.{IsNext}
+use Rattle.pgb_take_later.specs.declared.order.LaterOrder.{LaterOrder}
+use Rattle.pgb_take_later.specs.Basing.{base_in, base_label}
+
+-- these may be the files of the backup that a further one is based on: without one there are none
+pub record MayBase (base : Option Entry) (old : List FileEntry) : Type 0 where
+  pub order : are_in_order (map (λ (e : FileEntry). e.path) old) ≡ true
+  pub rules : KeepRules old
+  pub none : base ≡ None → old ≡ []
+
+-- It is of all that a backup takes of the listing, is based on the backup of this list that its kind asks for, and leaves what is as these files tell.
+pub record IsLaterOf (stanza : Text) (o : LaterOrder) (seen : List ListedNode) (list : BackupInfo) (old : List FileEntry) (second : ℕ) (d : Draft) : Type 0 where
+  pub stanza_is : stanza_of d ≡ stanza
+  pub label : d.label ≡ made_label o.kind (base_in o.kind list) second
+  pub prior : d.prior ≡ base_label o.kind list
+  pub old_is : old_in d ≡ old
+  pub takes : Takes false seen (taken_in d) (folders_in d)
+  pub list_is : list_in d ≡ list
+  pub next : IsNext second list
+  pub current : at_number list.current list.history ≡ Some d.cluster
+  pub delta : d.choices.delta ≡ o.settings.delta
+  pub equal : List Bool
+  pub same : length equal ≡ length (taken_in d)
+  pub planned : d.plan.choices.items ≡ (layout o.settings (old_in d) (taken_in d) equal).choices

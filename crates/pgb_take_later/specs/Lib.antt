@@ -1,0 +1,7 @@
+pub mod Faults
+pub mod Texts
+pub mod Basing
+pub mod Drafting
+pub mod Making
+pub mod Taken
+pub mod Causes

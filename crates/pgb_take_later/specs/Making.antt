@@ -1,0 +1,71 @@
+-- How a backup of any kind is made, from what was read. Own.
+use Rattle.std.specs.Prelude.{◌≡◌, ◌⊎◌, ℕ, List, Option, Some, IfSome, IsSome}
+use Rattle.pgb_outside.specs.Content.{Content}
+use Rattle.pgb_outside.specs.Links.{LinkState}
+use Rattle.pgb_model.specs.InfoFiles.{IsBackupText}
+use Rattle.pgb_model.specs.Names.{backup_info}
+use Rattle.pgb_model.specs.Now.{NowStands}
+use Rattle.pgb_model.specs.Pair.{PairIs}
+use Rattle.pgb_model.specs.declared.labels.Label.{Label}
+use Rattle.pgb_model.specs.Repository.{Backup, Stanza}
+use Rattle.pgb_model.specs.Stands.{IsAncestor, IsListed}
+use Rattle.pgb_model.specs.Text.{Text, In}
+use Rattle.pgb_model.specs.Values.{ArchiveInfo, BackupInfo, FileEntry, Manifest}
+use Rattle.pgb_worker_dispatch.specs.declared.fault.Lost.{Lost}
+use Rattle.pgb_plan.specs.Filter.{ListedNode}
+use Rattle.pgb_record.specs.Making.{labels_of}
+use Rattle.pgb_stage.specs.Current.{HasValue}
+use Rattle.pgb_stanza.specs.Judging.{Settles}
+use Rattle.pgb_stanza.specs.Pairs.{AgreeAt}
+use Rattle.pgb_backup.specs.declared.draft.Draft.{Draft}
+use Rattle.pgb_draft.specs.Priors.{made_label}
+use Rattle.pgb_draft.specs.Seconds.{AreBefore}
+use Rattle.pgb_logged.specs.Backups.{IsReadOrLeft, AddsBackup}
+use Rattle.pgb_take.specs.declared.fault.TakeFault.{TakeFault}
+use Rattle.pgb_take.specs.Drafting.{DraftCause}
+use Rattle.pgb_take.specs.Making.{MakeCause}
+use Rattle.pgb_take_later.specs.declared.order.LaterOrder.{LaterOrder}
+use Rattle.pgb_take_later.specs.Basing.{base_in, base_label, old_files, ReadsBase}
+use Rattle.pgb_take_later.specs.Drafting.{IsLaterOf}
+use Rattle.pgb_take_later.specs.Texts.{later_lines}
+
+-- The list is that of the pairs that the disk holds, and these are the files of the manifest, which it holds too, of the backup on which one of this order is based.
+pub record BeginsFrom (stanza : Text) (o : LaterOrder) (now : Option Content) (list : BackupInfo) (old : List FileEntry) : Type 0 where
+  pub archive : ArchiveInfo
+  pub backup : BackupInfo
+  pub archive_read : IfSome now (λ f. HasValue stanza f archive)
+  pub backup_read : IfSome now (λ f. PairIs IsBackupText f (backup_info stanza) backup)
+  pub settles : Settles archive backup list
+  pub base : Option Manifest
+  pub reads : ReadsBase stanza now (base_label o.kind list) base
+  pub old_is : old ≡ old_files base
+
+-- each label that the backup refers to is listed in the stanza, and is that of its prior or of one before that
+abbrev pub RefersTo : Stanza → Backup → Type 0
+RefersTo s b = (l : Label) → In l b.entry.references → IsAncestor s.backups l b × IsListed s.backups l
+
+-- One backup more is made, which these lines tell: it is based on the backup of the list that its kind asks for, of what the links read and of what that backup has.
+pub record IsMade (stanza : Text) (o : LaterOrder) (list : BackupInfo) (links : List LinkState) (old new : Option Content) (lines : Text) : Type 0 where
+  pub backup : Backup
+  pub second : ℕ
+  pub later : AreBefore (labels_of list.backups) second
+  pub label : backup.entry.label ≡ made_label o.kind (base_in o.kind list) second
+  pub prior : backup.entry.prior ≡ base_label o.kind list
+  pub line : lines ≡ later_lines o.kind (base_in o.kind list) backup.entry.label
+  pub delta : backup.choices.delta ≡ o.settings.delta
+  pub read : IsReadOrLeft links stanza old backup
+  pub refers : (s : Stanza) → IsSome old → NowStands stanza (Some s) old → RefersTo s backup
+  pub adds : AddsBackup stanza backup old new
+  -- both members of the backup pair are alike
+  pub alike : IsSome old → IfSome new (AgreeAt (backup_info stanza))
+
+-- a draft of this order isn't made over these links
+pub record DraftFails (stanza : Text) (o : LaterOrder) (seen : List ListedNode) (list : BackupInfo) (old : List FileEntry) (links : List LinkState) (before : List Lost) (fault : TakeFault) : Type 0 where
+  pub draft : Draft
+  pub second : ℕ
+  pub later : IsLaterOf stanza o seen list old second draft
+  pub cause : MakeCause draft links before fault
+
+-- there is no draft of it, or it isn't made
+abbrev pub MakingCause : Text → LaterOrder → List ListedNode → BackupInfo → List FileEntry → ℕ → List LinkState → List Lost → TakeFault → Type 0
+MakingCause stanza o seen list old least links before fault = DraftCause seen least fault ⊎ DraftFails stanza o seen list old links before fault
