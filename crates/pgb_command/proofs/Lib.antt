@@ -1,6 +1,7 @@
 mod Ends
 mod OneCluster
 mod Rans
+mod Runnings
 mod ByRequest
 mod Dids
 mod Written

@@ -1,6 +1,6 @@
 -- What each command did, told of all objects: a lemma a command.
-use Rattle.std.proofs.Common.{◌≡◌, ◌≢◌, ◌⊎◌, ⊎_elim, inl, inr, List, ◌∷◌, Option, Some, None, Result, Ok, Err, IfOk, IfErr, refl, sym, subst, ap, ◌∙◌, Bool, true, arith}
-use Rattle.std.specs.Prelude.{ℕ, [], take, IfSome, IsSome, IsSomeAnd, OnOk, OnErr, IsErrAnd}
+use Rattle.std.proofs.Common.{◌≡◌, ◌≢◌, ◌⊎◌, ⊎_elim, inl, inr, List, ◌∷◌, Option, Some, None, Result, Ok, Err, IfOk, IfErr, refl, sym, subst, ap, ◌∙◌, Bool, true}
+use Rattle.std.specs.Prelude.{ℕ, [], take, IfSome, IsSome, IsSomeAnd, OnOk, OnErr}
 use Rattle.pgb_outside.specs.Content.{Content}
 use Rattle.pgb_outside.specs.Links.{LinkState}
 use Rattle.pgb_outside.specs.Crash.{Leaves}
@@ -20,7 +20,7 @@ use Rattle.pgb_stanza.specs.declared.control.Control.{Control}
 use Rattle.pgb_disk.specs.Store.{ChangesOnly}
 use Rattle.pgb_stanza.specs.ControlFile.{first_cluster}
 use Rattle.pgb_stanza.specs.Owned.{IsOfPairs}
-use Rattle.pgb_archive.specs.Still.{IsStill, rests_none, still_self}
+use Rattle.pgb_archive.specs.Still.{IsStill, still_self}
 use Rattle.pgb_stage.specs.declared.object.Object.{Object}
 use Rattle.pgb_stage.specs.declared.object.Object.TheVariants.{Server as TheServer}
 use Rattle.pgb_stage.specs.declared.object.Object.TheVariants as objects
@@ -48,7 +48,7 @@ use Rattle.pgb_stage.specs.Runs.{one, Reached, to_end, turned_back, stopped, Doe
 use Rattle.pgb_stage.specs.Seen.{Seen, Failed, AreLater}
 use Rattle.pgb_story.specs.Beside.{StaysBeside}
 use Rattle.pgb_stage.proofs.Besides.{still_beside, pairs_beside}
-use Rattle.pgb_stage.proofs.Doing.{reading_does, rests_does, now_told}
+use Rattle.pgb_stage.proofs.Doing.{reading_does, now_told}
 use Rattle.pgb_stage.proofs.Lifted.{does_runs, reading_spool}
 use Rattle.pgb_create.specs.declared.fault.CreateFault.{CreateFault}
 use Rattle.pgb_create.specs.Creating.{IsCreated, CreateCause, create_early}
@@ -58,22 +58,11 @@ use Rattle.pgb_push.specs.Causes.{IsStored, IsLasting, PushCause}
 use Rattle.pgb_push.specs.Commands.{IsPushOf}
 use Rattle.pgb_push.specs.Faults.{push_early}
 use Rattle.pgb_get.specs.declared.fault.GetFault.{GetFault}
-use Rattle.pgb_logged.specs.Backups.{IsFullBackup, IsOnlineBackup}
-use Rattle.pgb_logged.proofs.Reading.{no_files, no_files_read}
-use Rattle.pgb_turn.specs.Turns.{Account, Turned}
-use Rattle.pgb_await.specs.Went.{turns_of}
+use Rattle.pgb_logged.specs.Backups.{IsFullBackup}
 use Rattle.pgb_take.specs.declared.fault.TakeFault.{TakeFault}
 use Rattle.pgb_take.specs.Causes.{TakeCause}
 use Rattle.pgb_take.specs.Faults.{take_early}
 use Rattle.pgb_take.specs.Taken.{IsTaken as IsTakenBackup}
-use Rattle.pgb_take_online.specs.declared.fault.OnlineTakeFault.{OnlineTakeFault}
-use Rattle.pgb_take_online.specs.declared.fault.OnlineTakeFault.TheVariants as online
-use Rattle.pgb_take_online.specs.Causes.{OnlineCause}
-use Rattle.pgb_take_online.specs.Doing.{Heard, TakesTurns, IsOnlineOf, RunsOnline}
-use Rattle.pgb_take_online.specs.Faults.{online_early, of_take as taken_halt}
-use Rattle.pgb_take_online.specs.Taken.{TakesOnline}
-use Rattle.pgb_take_online.specs.Talking.{EndsTalk}
-use Rattle.pgb_take_online.specs.Told.{IsLabelTold}
 use Rattle.pgb_recover.specs.declared.fault.RecoverFault.{RecoverFault}
 use Rattle.pgb_recover.specs.declared.fault.RecoverFault.TheVariants as recovers
 use Rattle.pgb_recover.specs.Causes.{RecoverCause}
@@ -84,17 +73,16 @@ use Rattle.pgb_recover.specs.Words.{TellsSet}
 use Rattle.pgb_model.specs.declared.labels.Label.{Label}
 use Rattle.pgb_get.specs.Getting.{GotBy, GetCause, get_early}
 use Rattle.pgb_command.specs.declared.fault.Fault.{Fault}
-use Rattle.pgb_command.specs.declared.fault.Fault.TheVariants.{Stage, Command as OfCommand, NoMemory as OutOfMemory}
+use Rattle.pgb_command.specs.declared.fault.Fault.TheVariants.{Stage, Command as OfCommand}
 use Rattle.pgb_examine.specs.declared.fault.ExamineFault.{ExamineFault}
 use Rattle.pgb_examine.specs.Examining.{ExamineCause, examine_early}
-use Rattle.pgb_command.specs.declared.fault.CommandFault.TheVariants.{Create, Push, Get, Take, TakeOnline, Recover, Examine}
+use Rattle.pgb_command.specs.declared.fault.CommandFault.TheVariants.{Create, Push, Get, Take, Recover, Examine}
 use Rattle.pgb_command.specs.Answers.{status, reached_of, ending_of, is_early}
-use Rattle.pgb_command.specs.Asked.{Request, create, push, get, backup, backup_running, restore, report, examine, RunningHow, RestoreHow, Asked}
-use Rattle.pgb_command.specs.Faults.{of_halt, of_stage, of_create, of_push, of_get, of_take, of_take_online, of_recover, of_examine, lift}
-use Rattle.pgb_command.specs.Tables.{Known, known, TurnsTold, TellsLabel, heard_by, asked_by, AsksBackup, found_by, found_for, Promise, Lasts, plan_of, manner_of, IsCreateOf, OnReader, OnCreate, OnOther, FolderGoes, FolderStays, Unless, uses_workers, uses_clock, uses_turns}
-use Rattle.pgb_command.specs.Did.{SamePlaces, IsTaken, Closes, OwnCause, StaysHealed, Ran}
+use Rattle.pgb_command.specs.Asked.{Request, create, push, get, backup, backup_running, restore, report, examine, RestoreHow, Asked}
+use Rattle.pgb_command.specs.Faults.{of_halt, of_stage, of_create, of_push, of_get, of_take, of_recover, of_examine, lift}
+use Rattle.pgb_command.specs.Tables.{Known, known, TurnsTold, found_by, found_for, Promise, Lasts, plan_of, manner_of, IsCreateOf, OnReader, OnCreate, OnOther, FolderGoes, FolderStays, Unless, uses_workers, uses_clock, uses_turns}
+use Rattle.pgb_command.specs.Did.{SamePlaces, Closes, OwnCause, StaysHealed, Ran}
 use Rattle.pgb_command.proofs.Ends.{reached_same, lift_ok, lift_on, lift_err}
-use Rattle.pgb_command.proofs.ByRequest.{running_idle}
 use Rattle.pgb_command.proofs.OneCluster.{cluster_is}
 
 -- ---- of any command
@@ -151,10 +139,10 @@ module _ {E : Type 0} (a : Asked) (b k : Seen) (of : E → Fault) (early : E →
     later = later;
   })
 
-abbrev with_request : Asked → Request → Asked
+abbrev pub with_request : Asked → Request → Asked
 with_request a q = record a { request = q }
 
-as_ran : (a : Asked) (q : Request) (b k : Seen) (ended : Result Outcome Fault) → a.request ≡ q → Ran (with_request a q) b k ended → Ran a b k ended
+pub as_ran : (a : Asked) (q : Request) (b k : Seen) (ended : Result Outcome Fault) → a.request ≡ q → Ran (with_request a q) b k ended → Ran a b k ended
 as_ran a q b k ended is h = subst (λ (x : Request). Ran (with_request a x) b k ended) (sym is) h
 
 abbrev with_folder : Asked → Text → Asked
@@ -163,7 +151,7 @@ with_folder a folder = record a { data_folder = folder }
 in_folder : (a : Asked) (folder : Text) (b k : Seen) (ended : Result Outcome Fault) → folder ≡ a.data_folder → Ran (with_folder a folder) b k ended → Ran a b k ended
 in_folder a folder b k ended is h = subst (λ (x : Text). Ran (with_folder a x) b k ended) is h
 
-any_ok : {E : Type 0} (r : Result Outcome E) (P : Outcome → Type 0) → ((o : Outcome) → P o) → IfOk r P
+pub any_ok : {E : Type 0} (r : Result Outcome E) (P : Outcome → Type 0) → ((o : Outcome) → P o) → IfOk r P
 any_ok (Ok o) P p = p o
 any_ok (Err e) P p = tt
 
@@ -171,11 +159,11 @@ ok_as : {E : Type 0} (r : Result Outcome E) (P Q : Outcome → Type 0) → ((o :
 ok_as (Ok o) P Q to h = to o h
 ok_as (Err e) P Q to h = tt
 
-on_all : {X Y : Type 0} (r : Result X Y) (P : Type 0) → P → OnOk r P
+pub on_all : {X Y : Type 0} (r : Result X Y) (P : Type 0) → P → OnOk r P
 on_all (Ok x) P p = p
 on_all (Err e) P p = tt
 
-all_none : (reached : Reached) (P : Type 0) → P → OnNone reached P
+pub all_none : (reached : Reached) (P : Type 0) → P → OnNone reached P
 all_none reached P p = go reached
   where
     go : (x : Reached) → OnNone x P
@@ -192,11 +180,11 @@ both_as : {E : Type 0} (r : Result Outcome E) (P Q R : Outcome → Type 0) → (
 both_as (Ok o) P Q R to p q = to o p q
 both_as (Err e) P Q R to p q = tt
 
-any_some : (o : Option Content) → IfSome o (λ _. Unit {0})
+pub any_some : (o : Option Content) → IfSome o (λ _. Unit {0})
 any_some None = tt
 any_some (Some f) = tt
 
-ok_with : {E : Type 0} (r : Result Outcome E) (P Q : Outcome → Type 0) (X Y : Type 0) → ((o : Outcome) → P o → X → Y → Q o) → IfOk r P → OnOk r X → OnOk r Y → IfOk r Q
+pub ok_with : {E : Type 0} (r : Result Outcome E) (P Q : Outcome → Type 0) (X Y : Type 0) → ((o : Outcome) → P o → X → Y → Q o) → IfOk r P → OnOk r X → OnOk r Y → IfOk r Q
 ok_with (Ok o) P Q X Y to h x y = to o h x y
 ok_with (Err e) P Q X Y to h x y = tt
 
@@ -349,7 +337,7 @@ backup_drained b q log name sum (Some s) reached drained = (
   drained,
 )
 
-backup_receipts : (stanza : Text) (links : List LinkState) (command : Command) → IsFullBackup links command → (v : View) (q : Repository) (log : List Done) → KeepsSpool stanza q log v → KeepsSpool stanza q (record { command = command; acknowledged = true } ∷ log) v
+pub backup_receipts : (stanza : Text) (links : List LinkState) (command : Command) → IsFullBackup links command → (v : View) (q : Repository) (log : List Done) → KeepsSpool stanza q log v → KeepsSpool stanza q (record { command = command; acknowledged = true } ∷ log) v
 backup_receipts stanza links command is v q log keeps = subst (λ (c : Command). KeepsSpool stanza q (record { command = c; acknowledged = true } ∷ log) v) (sym is.1) (record {
   fixed = keeps.fixed;
   receipts = λ f leaves name sum fits receipt. let x = keeps.receipts f leaves name sum fits receipt in backup_drained is.0 q log name sum x.0 x.1 x.2;
@@ -397,114 +385,6 @@ module _ (a : Asked) (b k : Seen) (rest : k ≡ record b { repo = k.repo; tree =
       tt
       (never_closes b k of_take (take_closes b k) r)
       places later)
-
--- ---- backup of a running server
-
--- what is said where an account is told and is of the stanza
-with_account : (stanza : Text) (account : Option Account) (P : Type 0) → IfSome account (λ n. n.stanza ≡ stanza → P) → IsSomeAnd account (λ n. n.stanza ≡ stanza) → P
-with_account stanza None P h told = absurd told
-with_account stanza (Some n) P h told = h told
-
-label_told : (old new : Known) (told : Control) → IfSome old.nodes (λ f. FolderTells f told) → (label : Option Text) → IsLabelTold told.system old.server.pending new.server.pending label → IfSome label (TellsLabel old new)
-label_told old new told tells None h = tt
-label_told old new told tells (Some text) h = (told, tells, h)
-
--- which command it is, by the turns that the account tells
-running_steps : (stanza : Text) (how : RunningHow) (old new : Known) (told : Control) (tells : IfSome old.nodes (λ f. FolderTells f told)) (account : Option Account) (P : Command → Type 0) →
-    IfSome account (λ n. n.stanza ≡ stanza → (turned : List Turned) × TakesTurns turned old.others.account n × On (one (IsOnlineOf (take how.workers old.links) (heard_by old new told) turned)) P) → IsSomeAnd account (λ n. n.stanza ≡ stanza) →
-    (command : Command) × IsSomeAnd account (λ n. (turned : List Turned) × TakesTurns turned old.others.account n × (label : Option Text) × IfSome label (TellsLabel old new) × IsOnlineBackup (take how.workers old.links) (turns_of turned) label command) × P command
-running_steps stanza how old new told tells None P h is = absurd is
-running_steps stanza how old new told tells (Some n) P h is = by (h is)
-  where
-    by : (turned : List Turned) × TakesTurns turned old.others.account n × ((command : Command) × IsOnlineOf (take how.workers old.links) (heard_by old new told) turned command × P command) →
-        (command : Command) × ((turned : List Turned) × TakesTurns turned old.others.account n × (label : Option Text) × IfSome label (TellsLabel old new) × IsOnlineBackup (take how.workers old.links) (turns_of turned) label command) × P command
-    by (ts, taken, (command, (label, heard_is, is_of), p)) = (command, (ts, taken, label, label_told old new told tells label heard_is, is_of), p)
-
-taken_is : (e : OnlineTakeFault) (x : Halt TakeFault) → ◌≡◌ {A = Halt OnlineTakeFault} (Refused e) (taken_halt x) → IsTaken e
-taken_is e (Refused f) is = let same : e ≡ online.Take f = cc in subst IsTaken (sym same) tt
-taken_is e (HaltFailed object) is = cc
-taken_is e HaltMemory is = cc
-
-online_closes : (b k : Seen) (h : Halt OnlineTakeFault) → ((k.server ≡ b.server) × ((x : Halt TakeFault) × (h ≡ taken_halt x))) ⊎ EndsTalk (Failed b k TheServer) k.server.sent h → Closes b k (of_take_online h)
-online_closes b k (Refused e) (inl (same, (x, is))) = inl (taken_is e x is, same)
-online_closes b k (Refused e) (inr ends) = inr (ends (λ (is : ◌≡◌ {A = Halt OnlineTakeFault} (Refused e) HaltMemory). cc))
-online_closes b k (HaltFailed object) x = tt
-online_closes b k HaltMemory x = tt
-
-module _ (a : Asked) (b k : Seen) (nodes : k.tree.nodes ≡ b.tree.nodes) (how : RunningHow) (told : Control) (tells : IfSome b.tree.nodes (λ f. FolderTells f told)) (r : Result Outcome (Halt OnlineTakeFault)) (ended : Result Outcome Fault) (lifted : ended ≡ lift of_take_online r) where
-  abbrev waits_for : Asked
-  waits_for = with_request a (backup_running how)
-
-  abbrev heard : Heard
-  heard = heard_by (known b) (known k) told
-
-  pub running_ran : a.request ≡ backup_running how → IfSome k.others.account (λ n. n.stanza ≡ a.stanza → StaysBeside a.stanza b.repo.view k.repo.view) → IfSome k.others.account (λ n. n.stanza ≡ a.stanza → StaysBeside a.stanza b.spool.view k.spool.view) →
-      RunsOnline a.stanza (take how.workers b.links) heard (reached_by online_early r) b.others.account k.others.account b.repo.view b.spool.view k.repo.view k.spool.view →
-      IfOk r (λ o. OnFinished o (TakesOnline a.stanza told heard (take how.workers b.links) b.others.account k.others.account b.repo.view.now k.repo.view.now)) →
-      OnOk r (AsksBackup a.server how.fast k.server.place b.server.sent k.server.sent) → (a.server ≡ None → k.server ≡ b.server) →
-      IfErr r (λ h. ((k.server ≡ b.server) × ((x : Halt TakeFault) × (h ≡ taken_halt x))) ⊎ EndsTalk (Failed b k TheServer) k.server.sent h) → (failed : Object → Type 0) → ((object : Object) → failed object → Failed b k object) →
-      IfErr r (HaltCause (OnlineCause (asked_by a how (known b) (known k) told)) failed) → SamePlaces b k → AreLater b k → Ran a b k ended
-  running_ran is beside spool runs taken asks quiet closed failed rose cause places later = as_ran a (backup_running how) b k ended is
-      (ran_of waits_for b k (λ (e : OnlineTakeFault). OfCommand (TakeOnline e)) online_early (λ e. refl) (OnlineCause (asked_by a how (known b) (known k) told)) (λ e h. (told, tells, h)) failed rose r ended lifted
-      (λ told_of. running_steps a.stanza how (known b) (known k) told tells k.others.account _ runs told_of)
-      (ok_with r _ _ _ (Unit {0}) (λ o taken asks none. ((told, tells, taken), asks)) taken asks (on_all r (Unit {0}) tt))
-      (any_ok r (λ o. IsLookedAt a.stanza b.repo.view → Unit {0}) (λ o looked. tt))
-      cause
-      (on_all r (StaysHealed waits_for b k) (record { agree = λ some h. any_some k.repo.view.now; lasts = λ looked h. tt }))
-      (with_account a.stanza k.others.account _ beside)
-      (with_account a.stanza k.others.account _ spool)
-      tt
-      tt
-      nodes
-      (all_none (reached_by online_early r) _ nodes)
-      tt
-      quiet
-      tt
-      tt
-      tt
-      tt
-      (lift_err of_take_online _ (Closes b k) (online_closes b k) r closed)
-      places later)
-
--- there was no memory for the path of the server's socket
-module _ (a : Asked) (b : Seen) (how : RunningHow) where
-  abbrev begins : Asked
-  begins = with_request a (backup_running how)
-
-  abbrev nothing : Command
-  nothing = MakeBackup [] no_files None
-
-  nothing_runs : Runs Whole a.stanza (MakeBackup [] no_files None) stopped b.repo.view b.spool.view b.repo.view b.spool.view
-  nothing_runs = does_runs Whole a.stanza nothing stopped b.repo.view b.repo.view b.spool.view (backup_receipts a.stanza (take how.workers b.links) nothing (no_files, refl, no_files_read (take how.workers b.links)) b.spool.view)
-      (rests_does Whole a.stanza nothing stopped b.repo.view b.repo.view (λ (at : ◌≡◌ {A = Reached} stopped to_end). cc) (rests_none b.repo.view) refl)
-
-  without_memory : a.request ≡ backup_running how → Ran a b b (Err OutOfMemory)
-  without_memory is = as_ran a (backup_running how) b b (Err OutOfMemory) is
-      (ran_of begins b b (λ (e : OnlineTakeFault). OfCommand (TakeOnline e)) online_early (λ e. refl) (λ e. ⊥) (λ e h. absurd h) (λ object. ⊥) (λ object h. absurd h) (Err HaltMemory) (Err OutOfMemory) refl
-      (λ there. running_idle how (known b) (known b) refl b.others.account refl (λ command. Runs Whole a.stanza command stopped b.repo.view b.spool.view b.repo.view b.spool.view) nothing_runs _ there)
-      tt
-      tt
-      tt
-      tt
-      (λ others. still_beside a.stanza b.repo.view b.repo.view (still_self b.repo.view))
-      (λ others. still_beside a.stanza b.spool.view b.spool.view (still_self b.spool.view))
-      tt
-      tt
-      refl
-      tt
-      tt
-      (λ none. refl)
-      tt
-      tt
-      tt
-      tt
-      tt
-      (record { repo = refl; tree = refl })
-      (λ object. omega arith))
-
-  pub running_starved : a.request ≡ backup_running how → (ended : Result Outcome Fault) → IsErrAnd ended (λ f. f ≡ OutOfMemory) → Ran a b b ended
-  running_starved is (Ok x) err = absurd err
-  running_starved is (Err f) err = subst (λ (e : Fault). Ran a b b (Err e)) (sym err) (without_memory is)
 
 -- ---- restore
 

@@ -1,7 +1,7 @@
 use Rattle.std.proofs.Common.{◌∙◌, arith}
 use Rattle.pgb_command.specs.Told.{request_of, running_of, asked_of}
 use Rattle.pgb_command.proofs.Ends.{rose_to, all_later}
-use Rattle.pgb_command.proofs.Rans.{running_ran, running_starved}
+use Rattle.pgb_command.proofs.Runnings.{running_ran, running_starved}
 use Rattle.pgb_command.proofs.Readied.{running_tells, asks_backup, asks_one}
 use Rattle.pgb_command.proofs.Words.{running_asked}
 use Rattle.pgb_take_online.proofs.Spools.{runs_online}
