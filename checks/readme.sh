@@ -93,15 +93,12 @@ grep -q "^pg1-path=$data\$" conf || complain "the configuration is: $(cat conf)"
     printf "listen_addresses = ''\nunix_socket_directories = '%s'\n" "$room/socket"
 } >>data/main/postgresql.conf
 start
-type_in 'A first backup' 1
 ask 'create table first as select 1 as n' >/dev/null
-control -m fast stop
-type_in 'A first backup' 2
+type_in 'A first backup' 1
 grep -q 'full backup: ' output || complain "info reports no backup: $(cat output)"
-type_in 'A first backup' 3
+type_in 'A first backup' 2
 [ ! -s output ] || complain "verify finds: $(cat output)"
 
-start
 ask 'insert into first select generate_series(2, 1000)' >/dev/null
 await "$(ask 'select pg_walfile_name(pg_switch_wal())')"
 control -m immediate stop
