@@ -329,7 +329,6 @@ word_closes a b (OfCommand (Take fault)) h = absurd h
 word_closes a b (OfCommand (TakeOnline fault)) h = absurd h
 word_closes a b (OfCommand (Examine fault)) h = absurd h
 word_closes a b (OfCommand (Recover fault)) h = tt
-word_closes a b (OfCommand (Examine fault)) h = absurd h
 word_closes a b (ObjectFailed object) h = absurd h
 word_closes a b NoMemory h = tt
 
@@ -343,7 +342,6 @@ word_cause a b (OfCommand (Take fault)) h = absurd h
 word_cause a b (OfCommand (TakeOnline fault)) h = absurd h
 word_cause a b (OfCommand (Examine fault)) h = absurd h
 word_cause a b (OfCommand (Recover fault)) h = inl h
-word_cause a b (OfCommand (Examine fault)) h = absurd h
 word_cause a b (ObjectFailed object) h = absurd h
 word_cause a b NoMemory h = tt
 

@@ -24,8 +24,8 @@ pub enum Request<'a> {
     Backup {
         workers: u32,
     },
-    /// A full backup of a running server, with as many workers at most; whether it makes its checkpoint at once, and how
-    /// many turns of other processes are waited for at most.
+    /// A full backup of a running server, with as many workers at most; whether it makes its checkpoint at once, and
+    /// how many turns of other processes are waited for at most.
     BackupRunning {
         workers: u32,
         fast: bool,
