@@ -13,7 +13,7 @@ use Rattle.pgb_retain.specs.declared.rules.Rules.{Rules}
 
 -- how many full backups are kept, or for how many days
 abbrev pub full_rule : Option ℕ → RetentionWord → FullRule
-full_rule None counts = Unset
+full_rule None unit = Unset
 full_rule (Some n) Counted = Count n
 full_rule (Some n) Time = Days n
 
