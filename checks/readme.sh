@@ -98,6 +98,7 @@ type_in 'A first backup' 1
 grep -q 'full backup: ' output || complain "info reports no backup: $(cat output)"
 type_in 'A first backup' 2
 [ ! -s output ] || complain "verify finds: $(cat output)"
+type_in 'Retention' 1
 
 ask 'insert into first select generate_series(2, 1000)' >/dev/null
 await "$(ask 'select pg_walfile_name(pg_switch_wal())')"

@@ -9,7 +9,6 @@ use Rattle.pgb_turn.specs.Turns.{Account, OthersState, Turned}
 use Rattle.pgb_await.specs.Went.{turns_of}
 use Rattle.pgb_outside.specs.Tree.{Nodes}
 use Rattle.pgb_archive.specs.Still.{IsStill}
-use Rattle.pgb_model.specs.Text.{Text}
 use Rattle.pgb_model.specs.Steps.{Command, MakeBackup}
 use Rattle.pgb_stage.specs.Plans.{OnReading}
 use Rattle.pgb_stage.specs.Runs.{On}
@@ -21,8 +20,10 @@ use Rattle.pgb_model.specs.Values.{Manifest}
 use Rattle.pgb_restore.specs.Finished.{IsFinished}
 use Rattle.pgb_recover.specs.Fetching.{options_by}
 use Rattle.pgb_clear.specs.Clearing.{control_path, HasNone}
-use Rattle.pgb_command.specs.Asked.{Request, create, push, get, backup, backup_running, restore, report, examine, RunningHow, Asked}
-use Rattle.pgb_command.specs.Tables.{Known, known, plan_of, manner_of, OnReader, OnCreate, OnOther, FolderGoes, FolderStays, Unless, is_on_repository, TellsLabel}
+use Rattle.pgb_command.specs.Asked.{Request, create, push, get, backup, backup_running, restore, report, examine, expire, RunningHow, Asked}
+use Rattle.pgb_retain.specs.declared.rules.Rules.{Rules}
+use Rattle.pgb_command.proofs.Expiries.{some_expiry}
+use Rattle.pgb_command.specs.Tables.{Known, known, plan_of, manner_of, OnReader, OnCreate, OnExpire, OnOther, FolderGoes, FolderStays, Unless, is_on_repository, TellsLabel}
 
 -- no turn was taken, and the server told no label file
 pub running_idle : (how : RunningHow) (old new : Known) → new.others ≡ old.others → (account : Option Account) → new.others.account ≡ account → (P : Command → Type 0) → P (MakeBackup [] no_files None) → (told : Account → Type 0) → IsSomeAnd account told →
@@ -49,6 +50,7 @@ idle a (backup_running how) old new same P p = λ there. running_idle how old ne
 idle a (restore set how) old new same P p = λ command is. p command
 idle a (report form) old new same P p = λ command is. p command
 idle a examine old new same P p = λ command is. p command
+idle a (expire rules) old new same P p = let x = some_expiry rules old.clock.least in (x.0, x.1, p x.0)
 
 -- what the repository held doesn't tell which command it is
 pub manner_at : (a : Asked) (request : Request) (old new : Known) (repo : Option Content) (P : Command → Type 0) → On (manner_of a request (record old { repo = repo }) new) P → On (manner_of a request old new) P
@@ -60,6 +62,7 @@ manner_at a (backup_running how) old new repo P h = h
 manner_at a (restore set how) old new repo P h = h
 manner_at a (report form) old new repo P h = h
 manner_at a examine old new repo P h = h
+manner_at a (expire rules) old new repo P h = h
 
 -- a command that opens no data folder reads no control file
 pub no_control : (request : Request) → (plan_of request).folder ≡ false → (plan_of request).control ≡ false
@@ -71,6 +74,7 @@ no_control (backup_running how) is = cc is
 no_control (restore set how) is = refl
 no_control (report form) is = refl
 no_control examine is = refl
+no_control (expire rules) is = refl
 
 -- a command that uses nothing but the repository opens no data folder and takes no lock
 pub on_repository : (request : Request) → is_on_repository request ≡ true → ((plan_of request).folder ≡ false) × ((plan_of request).backup_lock ≡ false) × ((plan_of request).archive_lock ≡ false)
@@ -82,6 +86,7 @@ on_repository (backup_running how) is = cc is
 on_repository (restore set how) is = cc is
 on_repository (report form) is = (refl, refl, refl)
 on_repository examine is = (refl, refl, refl)
+on_repository (expire rules) is = cc is
 
 -- what holds where no pair is healed holds of readers and of stanza-create
 pub reader_still : (request : Request) (P : Type 0) → OnReading (plan_of request).pairs P → OnReader request P
@@ -93,6 +98,7 @@ reader_still (backup_running how) P h = tt
 reader_still (restore set how) P h = h
 reader_still (report form) P h = h
 reader_still examine P h = h
+reader_still (expire rules) P h = tt
 
 pub create_still : (request : Request) (P : Type 0) → OnReading (plan_of request).pairs P → OnCreate request P
 create_still create P h = h
@@ -103,6 +109,7 @@ create_still (backup_running how) P h = tt
 create_still (restore set how) P h = tt
 create_still (report form) P h = tt
 create_still examine P h = tt
+create_still (expire rules) P h = tt
 
 pub any_reader : (request : Request) (P : Type 0) → P → OnReader request P
 any_reader create P p = tt
@@ -113,6 +120,7 @@ any_reader (backup_running how) P p = tt
 any_reader (restore set how) P p = p
 any_reader (report form) P p = p
 any_reader examine P p = p
+any_reader (expire rules) P p = tt
 
 pub any_create : (request : Request) (P : Type 0) → P → OnCreate request P
 any_create create P p = p
@@ -123,6 +131,7 @@ any_create (backup_running how) P p = tt
 any_create (restore set how) P p = tt
 any_create (report form) P p = tt
 any_create examine P p = tt
+any_create (expire rules) P p = tt
 
 pub any_other : (request : Request) (P : Type 0) → P → OnOther request P
 any_other create P p = tt
@@ -133,6 +142,7 @@ any_other (backup_running how) P p = tt
 any_other (restore set how) P p = p
 any_other (report form) P p = p
 any_other examine P p = p
+any_other (expire rules) P p = p
 
 pub reader_on : (request : Request) (P Q R : Type 0) → (P → Q → R) → OnReader request P → OnReader request Q → OnReader request R
 reader_on create P Q R to p q = tt
@@ -143,6 +153,7 @@ reader_on (backup_running how) P Q R to p q = tt
 reader_on (restore set how) P Q R to p q = to p q
 reader_on (report form) P Q R to p q = to p q
 reader_on examine P Q R to p q = to p q
+reader_on (expire rules) P Q R to p q = tt
 
 pub create_on : (request : Request) (P Q R : Type 0) → (P → Q → R) → OnCreate request P → OnCreate request Q → OnCreate request R
 create_on create P Q R to p q = to p q
@@ -153,6 +164,7 @@ create_on (backup_running how) P Q R to p q = tt
 create_on (restore set how) P Q R to p q = tt
 create_on (report form) P Q R to p q = tt
 create_on examine P Q R to p q = tt
+create_on (expire rules) P Q R to p q = tt
 
 pub other_as : (request : Request) (P Q : Type 0) → (P → Q) → OnOther request P → OnOther request Q
 other_as create P Q to p = tt
@@ -163,6 +175,41 @@ other_as (backup_running how) P Q to p = tt
 other_as (restore set how) P Q to p = to p
 other_as (report form) P Q to p = to p
 other_as examine P Q to p = to p
+other_as (expire rules) P Q to p = to p
+
+-- what holds where no pair is healed, or of any command, holds of expire
+pub expire_still : (request : Request) (P : Type 0) → OnReading (plan_of request).pairs P → OnExpire request (λ rules. P)
+expire_still create P h = tt
+expire_still (push path) P h = tt
+expire_still (get name path) P h = tt
+expire_still (backup workers) P h = tt
+expire_still (backup_running how) P h = tt
+expire_still (restore set how) P h = tt
+expire_still (report form) P h = tt
+expire_still examine P h = tt
+expire_still (expire rules) P h = h
+
+pub any_expire : (request : Request) (P : Rules → Type 0) → ((rules : Rules) → P rules) → OnExpire request P
+any_expire create P p = tt
+any_expire (push path) P p = tt
+any_expire (get name path) P p = tt
+any_expire (backup workers) P p = tt
+any_expire (backup_running how) P p = tt
+any_expire (restore set how) P p = tt
+any_expire (report form) P p = tt
+any_expire examine P p = tt
+any_expire (expire rules) P p = p rules
+
+pub expire_on : (request : Request) (P Q R : Rules → Type 0) → ((rules : Rules) → P rules → Q rules → R rules) → OnExpire request P → OnExpire request Q → OnExpire request R
+expire_on create P Q R to p q = tt
+expire_on (push path) P Q R to p q = tt
+expire_on (get name path) P Q R to p q = tt
+expire_on (backup workers) P Q R to p q = tt
+expire_on (backup_running how) P Q R to p q = tt
+expire_on (restore set how) P Q R to p q = tt
+expire_on (report form) P Q R to p q = tt
+expire_on examine P Q R to p q = tt
+expire_on (expire rules) P Q R to p q = to rules p q
 
 -- the data folder stays after a refusal
 pub any_stays : (request : Request) (n : ℕ) (P : Type 0) → P → FolderStays request n P
@@ -174,6 +221,7 @@ any_stays (backup_running how) n P p = p
 any_stays (restore set how) n P p = λ lost unread damaged. p
 any_stays (report form) n P p = p
 any_stays examine n P p = p
+any_stays (expire rules) n P p = p
 
 pub stays_as : (request : Request) (n : ℕ) (P Q : Type 0) → (P → Q) → FolderStays request n P → FolderStays request n Q
 stays_as create n P Q to p = to p
@@ -184,6 +232,7 @@ stays_as (backup_running how) n P Q to p = to p
 stays_as (restore set how) n P Q to p = λ lost unread damaged. to (p lost unread damaged)
 stays_as (report form) n P Q to p = to p
 stays_as examine n P Q to p = to p
+stays_as (expire rules) n P Q to p = to p
 
 -- it doesn't use it
 pub any_unless : (uses : Bool) (P : Type 0) → P → Unless uses P
@@ -207,6 +256,7 @@ folder_stays a (backup_running how) old new same = same
 folder_stays a (restore set how) old new same = inl same
 folder_stays a (report form) old new same = same
 folder_stays a examine old new same = same
+folder_stays a (expire rules) old new same = same
 
 pub folder_on : (a : Asked) (request : Request) (b m k : Seen) → OnReader request (IsStill b.repo.view m.repo.view) → m.tree.nodes ≡ b.tree.nodes → m.links ≡ b.links → FolderGoes a request (known m) k.tree.nodes → FolderGoes a request (known b) k.tree.nodes
 folder_on a create b m k still nodes links h = h ∙ nodes
@@ -220,3 +270,4 @@ folder_on a (restore set how) b m k still nodes links h = ⊎_elim (λ (e : k.tr
     (subst (λ (n : Option Nodes). HasNone control_path k.tree.nodes ⊎ ((v : Manifest) × IfSome k.tree.nodes (IsFinished a.stanza (take how.workers m.links) (options_by a.stanza how.delta how.recovery) v n))) nodes x))) h
 folder_on a (report form) b m k still nodes links h = h ∙ nodes
 folder_on a examine b m k still nodes links h = h ∙ nodes
+folder_on a (expire rules) b m k still nodes links h = h ∙ nodes

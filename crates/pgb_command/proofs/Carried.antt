@@ -15,7 +15,7 @@ use Rattle.pgb_stage.specs.declared.outcome.Outcome.{Outcome}
 use Rattle.pgb_stage.specs.Seen.{Seen, Failed, AreLater, AreRead}
 use Rattle.pgb_outside.specs.States.{SinkState, SourceState}
 use Rattle.pgb_stage.proofs.Counts.{rises_to}
-use Rattle.pgb_command.specs.declared.fault.CommandFault.TheVariants.{Create, Push, Get, Take, TakeOnline, Recover, Examine}
+use Rattle.pgb_command.specs.declared.fault.CommandFault.TheVariants.{Create, Push, Get, Take, TakeOnline, Recover, Examine, Prune}
 use Rattle.pgb_command.specs.declared.fault.Fault.{Fault}
 use Rattle.pgb_command.specs.declared.fault.Fault.TheVariants.{Usage, Stage, Command as OfCommand, Failed as ObjectFailed, NoMemory}
 use Rattle.pgb_command.specs.Answers.{Ending, status, answer_of}
@@ -66,6 +66,7 @@ module _ (a : Asked) (b k : Seen) (o : SinkState) (le : k.out.faults ≤ o.fault
   out_closes (OfCommand (TakeOnline fault)) h = h
   out_closes (OfCommand (Recover fault)) h = h
   out_closes (OfCommand (Examine fault)) h = h
+  out_closes (OfCommand (Prune fault)) h = h
   out_closes (ObjectFailed object) h = h
   out_closes NoMemory h = h
 
@@ -84,6 +85,7 @@ module _ (a : Asked) (b k : Seen) (o : SinkState) (le : k.out.faults ≤ o.fault
       beside = did.spares.beside;
       spool = did.spares.spool;
       pairs = did.spares.pairs;
+      expires = did.spares.expires;
       reads = did.spares.reads;
       folder = did.spares.folder;
       nodes = did.spares.nodes;

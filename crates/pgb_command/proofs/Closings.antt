@@ -32,11 +32,14 @@ use Rattle.pgb_recover.specs.declared.fault.RecoverFault.TheVariants as recovers
 use Rattle.pgb_recover.specs.Texts.{recover_status}
 use Rattle.pgb_examine.specs.declared.fault.ExamineFault.{ExamineFault}
 use Rattle.pgb_examine.proofs.Statuses.{examine_is}
-use Rattle.pgb_command.specs.declared.fault.CommandFault.TheVariants.{Create, Push, Get, Take, TakeOnline, Recover, Examine}
+use Rattle.pgb_prune.specs.declared.fault.PruneFault.{PruneFault}
+use Rattle.pgb_prune.specs.Texts.{prune_status}
+use Rattle.pgb_prune.proofs.Statuses.{prune_within}
+use Rattle.pgb_command.specs.declared.fault.CommandFault.TheVariants.{Create, Push, Get, Take, TakeOnline, Recover, Examine, Prune}
 use Rattle.pgb_command.specs.declared.fault.Fault.{Fault}
 use Rattle.pgb_command.specs.declared.fault.Fault.TheVariants as fault
 use Rattle.pgb_command.specs.Answers.{status_of, usage_status}
-use Rattle.pgb_command.specs.Asked.{Request, create, push, get, backup, backup_running, restore, report, examine, Asked}
+use Rattle.pgb_command.specs.Asked.{Request, create, push, get, backup, backup_running, restore, report, examine, expire, Asked}
 use Rattle.pgb_command.specs.Causes.{IsAnswered, Carries, Answers, ClosesTalk}
 use Rattle.pgb_command.specs.Configuring.{ConfigCause}
 use Rattle.pgb_command.specs.Did.{IsIdle, IsTaken, Cause, Closes}
@@ -138,6 +141,7 @@ push_other a (backup_running how) old new e cause p = absurd cause
 push_other a (restore set how) old new e cause p = absurd cause
 push_other a (report form) old new e cause p = absurd cause
 push_other a examine old new e cause p = absurd cause
+push_other a (expire rules) old new e cause p = absurd cause
 
 get_other : {P : Type 0} (a : Asked) (q : Request) (old new : Known) (e : GetFault) → CommandCause a q old new (Get e) → OnOther q P → P
 get_other a create old new e cause p = absurd cause
@@ -148,6 +152,7 @@ get_other a (backup_running how) old new e cause p = absurd cause
 get_other a (restore set how) old new e cause p = absurd cause
 get_other a (report form) old new e cause p = absurd cause
 get_other a examine old new e cause p = absurd cause
+get_other a (expire rules) old new e cause p = absurd cause
 
 take_other : {P : Type 0} (a : Asked) (q : Request) (old new : Known) (e : TakeFault) → CommandCause a q old new (Take e) → OnOther q P → P
 take_other a create old new e cause p = absurd cause
@@ -158,6 +163,7 @@ take_other a (backup_running how) old new e cause p = absurd cause
 take_other a (restore set how) old new e cause p = absurd cause
 take_other a (report form) old new e cause p = absurd cause
 take_other a examine old new e cause p = absurd cause
+take_other a (expire rules) old new e cause p = absurd cause
 
 examine_other : {P : Type 0} (a : Asked) (q : Request) (old new : Known) (e : ExamineFault) → CommandCause a q old new (Examine e) → OnOther q P → P
 examine_other a create old new e cause p = absurd cause
@@ -168,6 +174,18 @@ examine_other a (backup_running how) old new e cause p = absurd cause
 examine_other a (restore set how) old new e cause p = absurd cause
 examine_other a (report form) old new e cause p = absurd cause
 examine_other a examine old new e cause p = p
+examine_other a (expire rules) old new e cause p = absurd cause
+
+prune_other : {P : Type 0} (a : Asked) (q : Request) (old new : Known) (e : PruneFault) → CommandCause a q old new (Prune e) → OnOther q P → P
+prune_other a create old new e cause p = absurd cause
+prune_other a (push path) old new e cause p = absurd cause
+prune_other a (get name path) old new e cause p = absurd cause
+prune_other a (backup workers) old new e cause p = absurd cause
+prune_other a (backup_running how) old new e cause p = absurd cause
+prune_other a (restore set how) old new e cause p = absurd cause
+prune_other a (report form) old new e cause p = absurd cause
+prune_other a examine old new e cause p = absurd cause
+prune_other a (expire rules) old new e cause p = p
 
 push_at : {P : Type 0} (a : Asked) (b k : Seen) (e : PushFault) → Cause a b k (fault.Command (Push e)) → OnOther a.request P → P
 push_at a b k e (inl words) p = push_other a a.request (known b) (known k) e (words (known b) (known k)) p
@@ -193,6 +211,10 @@ running_long n online.TablespaceMap is taken refusal = absurd taken
 running_long n (online.SpanWrong start stop) is taken refusal = absurd taken
 running_long n (online.NotArrived segment turns) is taken refusal = absurd taken
 running_long n (online.Ambiguous first second) is taken refusal = absurd taken
+
+prune_at : {P : Type 0} (a : Asked) (b k : Seen) (e : PruneFault) → Cause a b k (fault.Command (Prune e)) → OnOther a.request P → P
+prune_at a b k e (inl words) p = absurd words
+prune_at a b k e (inr ready) p = prune_other a a.request _ (known k) e ready.2 p
 
 -- no refusal of a restore has such a status
 recover_apart : {P : Type 0} (e : RecoverFault) → IsServerRefusal (recover_status e) → P
@@ -225,6 +247,7 @@ module _ (b k : Seen) (n : ℕ) where
   at_fault a (fault.Command (TakeOnline e)) is refusal cause (inr x) others = ended x
   at_fault a (fault.Command (Recover e)) is refusal cause closes others = recover_apart e (subst IsServerRefusal is refusal)
   at_fault a (fault.Command (Examine e)) is refusal cause closes others = inr (inr (long_is n 71 (is ∙ examine_is e) (omega arith), ap (λ w. w.sent) (examine_at a b k e cause others)))
+  at_fault a (fault.Command (Prune e)) is refusal cause closes others = inr (inr (long_is n (prune_status e) is (only_many (prune_status e) (prune_within e).1 (subst IsServerRefusal is refusal)), ap (λ w. w.sent) (prune_at a b k e cause others)))
   at_fault a (fault.Failed o) is refusal cause closes others = object_apart o (subst IsServerRefusal is refusal)
   at_fault a fault.NoMemory is refusal cause closes others = high 90 (omega arith) (subst IsServerRefusal is refusal)
 

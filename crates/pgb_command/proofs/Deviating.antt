@@ -28,12 +28,15 @@ use Rattle.pgb_recover.specs.declared.fault.RecoverFault.{RecoverFault}
 use Rattle.pgb_recover.specs.declared.fault.RecoverFault.TheVariants as recovers
 use Rattle.pgb_recover.specs.Texts.{recover_status}
 use Rattle.pgb_examine.proofs.Statuses.{examine_is}
+use Rattle.pgb_prune.specs.declared.fault.PruneFault.{PruneFault}
+use Rattle.pgb_prune.specs.declared.fault.PruneFault.TheVariants as prunes
+use Rattle.pgb_prune.specs.Texts.{prune_status}
 use Rattle.pgb_command.specs.declared.fault.CommandFault.{CommandFault}
-use Rattle.pgb_command.specs.declared.fault.CommandFault.TheVariants.{Create, Push, Get, Take, TakeOnline, Recover, Examine}
+use Rattle.pgb_command.specs.declared.fault.CommandFault.TheVariants.{Create, Push, Get, Take, TakeOnline, Recover, Examine, Prune}
 use Rattle.pgb_command.specs.declared.fault.Fault.{Fault}
 use Rattle.pgb_command.specs.declared.fault.Fault.TheVariants as fault
 use Rattle.pgb_command.specs.Answers.{status_of, usage_status, command_status}
-use Rattle.pgb_command.specs.Asked.{Request, create, push, get, backup, backup_running, restore, report, examine, Asked}
+use Rattle.pgb_command.specs.Asked.{Request, create, push, get, backup, backup_running, restore, report, examine, expire, Asked}
 use Rattle.pgb_command.specs.Causes.{EndsWell}
 use Rattle.pgb_command.specs.Tables.{Known, Promise}
 use Rattle.pgb_command.proofs.Statuses.{over}
@@ -127,6 +130,9 @@ not_recover (recovers.WorkersLost lost) = λ is. absurd (omega (arith, is))
 not_recover (recovers.Unread path) = λ is. absurd (omega (arith, is))
 not_recover (recovers.FileDamaged path told found) = λ is. absurd (omega (arith, is))
 
+not_prune : (e : PruneFault) → prune_status e ≢ 65
+not_prune (prunes.HistoryDiffers at) = λ is. absurd (omega (arith, is))
+
 not_within : (m : ℕ) → (m ≤ 46) ⊎ (m ≡ 70) → m ≢ 65
 not_within m (inl le) = λ is. absurd (omega (arith, is, le))
 not_within m (inr e) = λ is. absurd (omega (arith, is, e))
@@ -139,6 +145,7 @@ not_command (Take e) = not_take e
 not_command (TakeOnline e) = not_take_online e
 not_command (Recover e) = not_recover e
 not_command (Examine e) = λ is. absurd (omega (arith, is, examine_is e))
+not_command (Prune e) = not_prune e
 
 not_found : (e : Fault) → status_of e ≢ 65
 not_found (fault.Usage e) = not_usage e
@@ -168,3 +175,4 @@ only_examines a (backup_running how) old new lines ((told, tells, never), asks) 
 only_examines a (restore set how) old new lines h = absurd h.recovers
 only_examines a (report form) old new lines h = absurd h.0
 only_examines a examine old new lines h = refl
+only_examines a (expire rules) old new lines h = absurd h.2

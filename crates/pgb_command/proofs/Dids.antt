@@ -40,16 +40,17 @@ use Rattle.pgb_prepare.specs.Stages.{FoundCause, StageCause}
 use Rattle.pgb_prepare.specs.Taking.{HeldCause, MayTake}
 use Rattle.pgb_create.specs.Talking.{Ended}
 use Rattle.pgb_create.proofs.Statuses.{closes_as}
-use Rattle.pgb_command.specs.declared.fault.CommandFault.TheVariants.{Create, Push, Get, Take, TakeOnline, Recover, Examine}
+use Rattle.pgb_command.specs.declared.fault.CommandFault.TheVariants.{Create, Push, Get, Take, TakeOnline, Recover, Examine, Prune}
 use Rattle.pgb_command.specs.declared.fault.Fault.{Fault}
 use Rattle.pgb_command.specs.declared.fault.Fault.TheVariants.{Usage, Stage, Command as OfCommand, Failed as ObjectFailed, NoMemory}
 use Rattle.pgb_command.specs.Answers.{status, reached_of, ending_of, is_early}
-use Rattle.pgb_command.specs.Asked.{Request, create, push, get, backup, backup_running, restore, report, examine, Asked}
+use Rattle.pgb_command.specs.Asked.{Request, create, push, get, backup, backup_running, restore, report, examine, expire, Asked}
 use Rattle.pgb_command.specs.Faults.{of_stage}
-use Rattle.pgb_command.specs.Tables.{Known, known, plan_of, manner_of, CommandCause, Promise, Lasts, OnReader, OnCreate, uses_workers, uses_clock, uses_turns}
+use Rattle.pgb_command.specs.Tables.{Known, known, plan_of, manner_of, CommandCause, Promise, Lasts, OnReader, OnCreate, OnExpire, Expires, uses_workers, uses_clock, uses_turns}
 use Rattle.pgb_command.specs.Did.{Ran, StaysHealed, OnReady, Cause, HealsPairs, Did, OwnCause, Spares, Closes, WordsCause, Brackets, SamePlaces, OpensPlaces, ArePlacesOpened, OpensIf, IsOpenedIf, TakesAll, OnlyLocked}
 use Rattle.pgb_command.proofs.Ends.{all_later, only_rose}
-use Rattle.pgb_command.proofs.ByRequest.{as_known, idle, manner_at, reader_still, create_still, any_reader, any_create, any_other, reader_on, create_on, other_as, any_stays, stays_as, any_unless, unless_as, folder_stays, folder_on}
+use Rattle.pgb_command.proofs.Expiries.{expires_still, expires_behind}
+use Rattle.pgb_command.proofs.ByRequest.{as_known, idle, manner_at, reader_still, create_still, expire_still, any_reader, any_create, any_expire, any_other, reader_on, create_on, expire_on, other_as, any_stays, stays_as, any_unless, unless_as, folder_stays, folder_on}
 
 -- ---- causes and ends
 
@@ -89,15 +90,18 @@ closes_from b m k same le (OfCommand (TakeOnline fault)) (inl h) = inl (h.0, h.1
 closes_from b m k same le (OfCommand (TakeOnline fault)) (inr h) = inr (⊎_elim (λ (ended : Ended k.server.sent). inl ended) (λ (rose : Failed m k TheServer). inr (rises_from _ _ _ le rose)) h)
 closes_from b m k same le (OfCommand (Recover fault)) h = tt
 closes_from b m k same le (OfCommand (Examine fault)) h = tt
-closes_from b m k same le (ObjectFailed object) h = tt
+closes_from b m k same le (OfCommand (Prune fault)) h = tt
+closes_from b m k le (ObjectFailed object) h = tt
 closes_from b m k same le NoMemory h = tt
 
 -- what was done before it left these as they were
-pub spares_on : (a : Asked) (b m k : Seen) (r : Result Outcome Fault) → StaysBeside a.stanza b.repo.view m.repo.view → IsStill b.spool.view m.spool.view → OnReader a.request (IsStill b.repo.view m.repo.view) → OnCreate a.request (IsStill b.repo.view m.repo.view) → m.tree.nodes ≡ b.tree.nodes → m.server ≡ b.server → m.others ≡ b.others → m.links ≡ b.links → m.clock ≡ b.clock → Spares a m k r → Spares a b k r
-spares_on a b m k r beside spool reads creates nodes server others links clock s = record {
+pub spares_on : (a : Asked) (b m k : Seen) (r : Result Outcome Fault) → StaysBeside a.stanza b.repo.view m.repo.view → IsStill b.spool.view m.spool.view → OnReader a.request (IsStill b.repo.view m.repo.view) → OnCreate a.request (IsStill b.repo.view m.repo.view) → OnExpire a.request (λ rules. IsStill b.repo.view m.repo.view) → m.tree.nodes ≡ b.tree.nodes → m.server ≡ b.server → m.others ≡ b.others → m.links ≡ b.links → m.clock ≡ b.clock → Spares a m k r → Spares a b k r
+spares_on a b m k r beside spool reads creates expires nodes server others links clock s = record {
   beside = λ told. beside_on a.stanza b.repo.view m.repo.view k.repo.view beside (s.beside told);
   spool = λ told. beside_on a.stanza b.spool.view m.spool.view k.spool.view (still_beside a.stanza b.spool.view m.spool.view spool) (s.spool told);
   pairs = create_on a.request _ _ _ (λ (p : IsStill b.repo.view m.repo.view) h. only_on (IsOfPairs a.stanza) b.repo.view m.repo.view k.repo.view (only_rests (IsOfPairs a.stanza) b.repo.view m.repo.view p.time p.now) h) creates s.pairs;
+  expires = expire_on a.request _ _ _ (λ rules (p : IsStill b.repo.view m.repo.view) h. expires_behind a.stanza rules b.clock.least b.repo.view m.repo.view k.repo.view p
+      (subst (λ (c : ClockState). Expires a.stanza rules c.least m.repo.view k.repo.view) clock h)) expires s.expires;
   reads = reader_on a.request _ _ _ (still_on b.repo.view m.repo.view k.repo.view) reads s.reads;
   folder = folder_on a a.request b m k reads nodes links s.folder;
   nodes = none_as (reached_of (ending_of r)) _ _ (stays_as a.request (status (ending_of r)) _ _ (λ h. h ∙ nodes)) s.nodes;
@@ -111,11 +115,12 @@ spares_on a b m k r beside spool reads creates nodes server others links clock s
 }
 
 -- a stage ended it
-pub spares_none : (a : Asked) (b k : Seen) (fault : Fault) → StaysBeside a.stanza b.repo.view k.repo.view → IsStill b.spool.view k.spool.view → OnReader a.request (IsStill b.repo.view k.repo.view) → OnCreate a.request (IsStill b.repo.view k.repo.view) → k.tree.nodes ≡ b.tree.nodes → k.server ≡ b.server → k.others ≡ b.others → k.links ≡ b.links → k.clock ≡ b.clock → Closes b k fault → Spares a b k (Err fault)
-spares_none a b k fault beside spool reads creates nodes server others links clock closes = record {
+pub spares_none : (a : Asked) (b k : Seen) (fault : Fault) → StaysBeside a.stanza b.repo.view k.repo.view → IsStill b.spool.view k.spool.view → OnReader a.request (IsStill b.repo.view k.repo.view) → OnCreate a.request (IsStill b.repo.view k.repo.view) → OnExpire a.request (λ rules. IsStill b.repo.view k.repo.view) → k.tree.nodes ≡ b.tree.nodes → k.server ≡ b.server → k.others ≡ b.others → k.links ≡ b.links → k.clock ≡ b.clock → Closes b k fault → Spares a b k (Err fault)
+spares_none a b k fault beside spool reads creates expires nodes server others links clock closes = record {
   beside = λ told. beside;
   spool = λ told. still_beside a.stanza b.spool.view k.spool.view spool;
   pairs = create_on a.request _ (Unit {0}) _ (λ (p : IsStill b.repo.view k.repo.view) h. only_rests (IsOfPairs a.stanza) b.repo.view k.repo.view p.time p.now) creates (any_create a.request (Unit {0}) tt);
+  expires = expire_on a.request _ _ _ (λ rules (p : IsStill b.repo.view k.repo.view) h. expires_still a.stanza rules b.clock.least b.repo.view k.repo.view p) expires (any_expire a.request (λ rules. Unit {0}) (λ rules. tt));
   reads = reads;
   folder = folder_stays a a.request (known b) k.tree.nodes nodes;
   nodes = all_none (reached_of (ending_of (Err fault))) _ (any_stays a.request (status (ending_of (Err fault))) _ nodes);
@@ -173,7 +178,7 @@ did_from a b m k r read did = record {
     agree = λ some. h.agree (subst (λ (o : Option Content). IsSome o) (sym read.repo.now) some);
     lasts = λ q log some keeps. h.lasts q log (subst (λ (o : Option Content). IsSome o) (sym read.repo.now) some) (rests_still a.stanza q log b.repo.view m.repo.view read.repo.time read.repo.now keeps);
   }) did.healed;
-  spares = spares_on a b m k r (still_beside a.stanza b.repo.view m.repo.view read.repo) read.spool (any_reader a.request _ read.repo) (any_create a.request _ read.repo) read.nodes read.server read.others read.links read.clock did.spares;
+  spares = spares_on a b m k r (still_beside a.stanza b.repo.view m.repo.view read.repo) read.spool (any_reader a.request _ read.repo) (any_create a.request _ read.repo) (any_expire a.request _ (λ rules. read.repo)) read.nodes read.server read.others read.links read.clock did.spares;
   later = later_on b m k read.later did.later;
 }
 
@@ -220,6 +225,7 @@ lasts_by a (backup_running how) v nodes mid k outcome same at h = tt
 lasts_by a (restore set how) v nodes mid k outcome same at h = tt
 lasts_by a (report form) v nodes mid k outcome same at h = tt
 lasts_by a examine v nodes mid k outcome same at h = tt
+lasts_by a (expire rules) v nodes mid k outcome same at h = tt
 
 -- the members of a healed pair too
 heals_by : (a : Asked) (request : Request) (v : View) (k : Seen) → ((plan_of request).settling ≡ Looked → IsLookedAt a.stanza v) → HealsToLast (plan_of request).pairs a.stanza v →
@@ -232,6 +238,7 @@ heals_by a (backup_running how) v k at had h = tt
 heals_by a (restore set how) v k at had h = tt
 heals_by a (report form) v k at had h = tt
 heals_by a examine v k at had h = tt
+heals_by a (expire rules) v k at had h = tt
 
 same_still : (v w : View) → w ≡ v → IsStill v w
 same_still v w same = subst (λ (x : View). IsStill v x) (sym same) (still_self v)
@@ -252,7 +259,7 @@ did_ran a b m k r others nodes repo_later tree_later quiet begun heals healed du
         (λ is. looked_at a.stanza b.repo.view m.repo.view quiet (subst (λ (how : Settling). Begins how a.stanza b.repo.view m.repo.view) is begun) q log some keeps)
         (durable (keeps_tight a.stanza q log b.repo.view keeps) some) h.lasts;
   }) ran.healed;
-  spares = spares_on a b m k r quiet.beside (same_still b.spool.view m.spool.view (ap (λ (s : Seen). s.spool.view) others)) (reader_still a.request _ still) (create_still a.request _ still) nodes (ap (λ (s : Seen). s.server) others) (ap (λ (s : Seen). s.others) others) (ap (λ (s : Seen). s.links) others) (ap (λ (s : Seen). s.clock) others) ran.spares;
+  spares = spares_on a b m k r quiet.beside (same_still b.spool.view m.spool.view (ap (λ (s : Seen). s.spool.view) others)) (reader_still a.request _ still) (create_still a.request _ still) (expire_still a.request _ still) nodes (ap (λ (s : Seen). s.server) others) (ap (λ (s : Seen). s.others) others) (ap (λ (s : Seen). s.links) others) (ap (λ (s : Seen). s.clock) others) ran.spares;
   later = later_on b m k later ran.later;
 }
   where
@@ -299,10 +306,10 @@ did_err a b k fault (Ok x) is h = absurd is
 did_err a b k fault (Err f) is h = subst (λ (e : Fault). Did a b k (Err e)) (sym is) h
 
 halted_at : (a : Asked) (b k : Seen) (r : Result Outcome Fault) (halt : Halt StageFault) → IsErrAnd r (λ f. f ≡ of_stage halt) → Quiet a.stanza b.repo.view k.repo.view → Rests b.spool.view k.spool.view → k.spool.view.now ≡ b.spool.view.now →
-    OnReader a.request (IsStill b.repo.view k.repo.view) → OnCreate a.request (IsStill b.repo.view k.repo.view) → k.tree.nodes ≡ b.tree.nodes → k.server ≡ b.server → k.others ≡ b.others → k.links ≡ b.links → k.clock ≡ b.clock → AreLater b k →
+    OnReader a.request (IsStill b.repo.view k.repo.view) → OnCreate a.request (IsStill b.repo.view k.repo.view) → OnExpire a.request (λ rules. IsStill b.repo.view k.repo.view) → k.tree.nodes ≡ b.tree.nodes → k.server ≡ b.server → k.others ≡ b.others → k.links ≡ b.links → k.clock ≡ b.clock → AreLater b k →
     (why : StageFault → Type 0) (failed : Object → Type 0) → ((fault : StageFault) → why fault → StageCause (plan_of a.request) a.stanza b k fault) → ((object : Object) → failed object → Failed b k object) → HaltCause why failed halt → Did a b k r
-halted_at a b k r halt is quiet rests same reads creates nodes server others links clock later why failed each rose cause = did_err a b k (of_stage halt) r is (did_nothing a b k (of_stage halt) quiet rests same others
-    (spares_none a b k (of_stage halt) quiet.beside (record { now = same; time = rests }) reads creates nodes server others links clock (halt_closes b k halt)) later (halt_cause a b k why failed each rose halt cause))
+halted_at a b k r halt is quiet rests same reads creates expires nodes server others links clock later why failed each rose cause = did_err a b k (of_stage halt) r is (did_nothing a b k (of_stage halt) quiet rests same others
+    (spares_none a b k (of_stage halt) quiet.beside (record { now = same; time = rests }) reads creates expires nodes server others links clock (halt_closes b k halt)) later (halt_cause a b k why failed each rose halt cause))
 
 found_at : (a : Asked) (plan : Plan) → plan ≡ plan_of a.request → (b k : Seen) (fault : StageFault) → FoundCause plan a.stanza b.repo.view.now b.tree.nodes fault → StageCause (plan_of a.request) a.stanza b k fault
 found_at a plan is b k fault h = inr (subst (λ (p : Plan). FoundCause p a.stanza b.repo.view.now b.tree.nodes fault) is h)
@@ -313,7 +320,7 @@ held_at a plan is b k fault h = inl (subst (λ (p : Plan). HeldCause p a.stanza 
 -- the whole of nothing, for this fault
 pub refused_at : (a : Asked) (b : Seen) (fault : Fault) → Closes b b fault → Cause a b b fault → Did a b b (Err fault)
 refused_at a b fault closes cause = did_nothing a b b fault (still_quiet a.stanza b.repo.view) (rests_none b.spool.view) refl refl
-    (spares_none a b b fault (still_beside a.stanza b.repo.view b.repo.view (still_self b.repo.view)) (still_self b.spool.view) (any_reader a.request _ (still_self b.repo.view)) (any_create a.request _ (still_self b.repo.view)) refl refl refl refl refl closes) (λ object. omega arith) cause
+    (spares_none a b b fault (still_beside a.stanza b.repo.view b.repo.view (still_self b.repo.view)) (still_self b.spool.view) (any_reader a.request _ (still_self b.repo.view)) (any_create a.request _ (still_self b.repo.view)) (any_expire a.request _ (λ rules. still_self b.repo.view)) refl refl refl refl refl closes) (λ object. omega arith) cause
 
 pub starved : (a : Asked) (b : Seen) (r : Result Outcome Fault) → IsErrAnd r (λ f. f ≡ NoMemory) → Did a b b r
 starved a b r is = did_err a b b NoMemory r is (refused_at a b NoMemory tt tt)
@@ -329,6 +336,7 @@ word_closes a b (OfCommand (Take fault)) h = absurd h
 word_closes a b (OfCommand (TakeOnline fault)) h = absurd h
 word_closes a b (OfCommand (Examine fault)) h = absurd h
 word_closes a b (OfCommand (Recover fault)) h = tt
+word_closes a b (OfCommand (Prune fault)) h = absurd h
 word_closes a b (ObjectFailed object) h = absurd h
 word_closes a b NoMemory h = tt
 
@@ -342,6 +350,7 @@ word_cause a b (OfCommand (Take fault)) h = absurd h
 word_cause a b (OfCommand (TakeOnline fault)) h = absurd h
 word_cause a b (OfCommand (Examine fault)) h = absurd h
 word_cause a b (OfCommand (Recover fault)) h = inl h
+word_cause a b (OfCommand (Prune fault)) h = absurd h
 word_cause a b (ObjectFailed object) h = absurd h
 word_cause a b NoMemory h = tt
 
@@ -370,7 +379,7 @@ locks_read b l refusals faults = record {
 pub not_taken : (a : Asked) (plan : Plan) → plan ≡ plan_of a.request → (b : Seen) (l : LocksSeen) (r : Result Outcome Fault) (halt : Halt StageFault) → IsErrAnd r (λ f. f ≡ of_stage halt) → b.locks.refusals ≤ l.refusals → b.locks.faults ≤ l.faults →
     HaltCause (HeldCause plan a.stanza (Rises b.locks.refusals l.refusals)) (Only Locks (Rises b.locks.faults l.faults)) halt → Did a b (record b { locks = l }) r
 not_taken a plan is b l r halt err refusals faults cause = halted_at a b (record b { locks = l }) r halt err (still_quiet a.stanza b.repo.view) (rests_none b.spool.view) refl
-    (any_reader a.request _ (still_self b.repo.view)) (any_create a.request _ (still_self b.repo.view)) refl refl refl refl refl (locks_read b l refusals faults).later
+    (any_reader a.request _ (still_self b.repo.view)) (any_create a.request _ (still_self b.repo.view)) (any_expire a.request _ (λ rules. still_self b.repo.view)) refl refl refl refl refl (locks_read b l refusals faults).later
     (HeldCause plan a.stanza (Rises b.locks.refusals l.refusals)) (Only Locks (Rises b.locks.faults l.faults)) (held_at a plan is b (record b { locks = l }))
     (only_rose b (record b { locks = l }) Locks (Rises b.locks.faults l.faults) (λ h. h)) cause
 
@@ -379,12 +388,12 @@ pub unprepared : (a : Asked) (plan : Plan) → plan ≡ plan_of a.request → (b
     HaltCause (FoundCause plan a.stanza b.repo.view.now b.tree.nodes) failed halt → Did a b k r
 unprepared a plan is b k r halt err quiet rests same still nodes server others links clock later failed rose cause =
     let here = subst (λ (p : Plan). OnReading p.pairs (IsStill b.repo.view k.repo.view)) is still in
-    halted_at a b k r halt err quiet rests same (reader_still a.request _ here) (create_still a.request _ here) nodes server others links clock later (FoundCause plan a.stanza b.repo.view.now b.tree.nodes) failed (found_at a plan is b k) rose cause
+    halted_at a b k r halt err quiet rests same (reader_still a.request _ here) (create_still a.request _ here) (expire_still a.request _ here) nodes server others links clock later (FoundCause plan a.stanza b.repo.view.now b.tree.nodes) failed (found_at a plan is b k) rose cause
 
 -- a place can't be opened
 pub unopened : (a : Asked) (b k : Seen) (r : Result Outcome Fault) (halt : Halt StageFault) → IsErrAnd r (λ f. f ≡ of_stage halt) → AreRead b k → HaltCause Never (Failed b k) halt → Did a b k r
 unopened a b k r halt err read cause = halted_at a b k r halt err (rests_quiet a.stanza b.repo.view k.repo.view read.repo.time read.repo.now) read.spool.time read.spool.now
-    (any_reader a.request _ read.repo) (any_create a.request _ read.repo) read.nodes read.server read.others read.links read.clock read.later Never (Failed b k) (λ fault h. absurd h) (λ object h. h) cause
+    (any_reader a.request _ read.repo) (any_create a.request _ read.repo) (any_expire a.request _ (λ rules. read.repo)) read.nodes read.server read.others read.links read.clock read.later Never (Failed b k) (λ fault h. absurd h) (λ object h. h) cause
 
 -- ---- places and locks
 

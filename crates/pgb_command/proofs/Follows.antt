@@ -18,7 +18,7 @@ use Rattle.pgb_stage.proofs.Lifted.{on_as, still_quiet, quiet_takes, opened_take
 use Rattle.pgb_command.specs.declared.fault.Fault.{Fault}
 use Rattle.pgb_command.specs.declared.fault.Fault.TheVariants.{Usage, Stage, Command as OfCommand, Failed as ObjectFailed, NoMemory}
 use Rattle.pgb_command.specs.Answers.{Ending, status, status_of, answer_of, ending_of, reached_of}
-use Rattle.pgb_command.specs.Asked.{Request, create, push, get, backup, backup_running, restore, report, examine, Asked, Asks}
+use Rattle.pgb_command.specs.Asked.{Request, create, push, get, backup, backup_running, restore, report, examine, expire, Asked, Asks}
 use Rattle.pgb_command.specs.Causes.{IsAnswered, Carries, Answers, PartDone, Finishes, EndsWell, Fulfils, IsEarly, TurnsBack, LeavesRest, Completes}
 use Rattle.pgb_command.specs.Did.{IsIdle, Did, OpensIf, OpensPlaces, OnlyLocked}
 use Rattle.pgb_command.specs.Output.{IsTold, Whole, Cut, Starved, Wordless}
@@ -26,9 +26,10 @@ use Rattle.pgb_disk.proofs.Changes.{only_rests}
 use Rattle.pgb_stanza.specs.Owned.{IsOfPairs}
 use Rattle.pgb_command.specs.Tables.{known, plan_of, manner_of, OnCreate, FolderGoes, FolderStays, uses_workers, uses_clock, uses_turns}
 use Rattle.pgb_command.proofs.AskedOnce.{one_asked}
-use Rattle.pgb_command.proofs.ByRequest.{idle, any_reader, any_create, any_other, any_unless, any_stays, folder_stays}
+use Rattle.pgb_command.proofs.ByRequest.{idle, any_reader, any_create, any_expire, any_other, any_unless, any_stays, folder_stays}
 use Rattle.pgb_command.proofs.Dids.{stage_reached}
 use Rattle.pgb_command.proofs.Statuses.{over, zero_ends, Deviates, early_ends, not_cut}
+use Rattle.pgb_command.proofs.Expiries.{expires_still}
 use Rattle.pgb_command.proofs.Deviating.{refused_ill, cut_ill, only_examines}
 
 -- ---- which of the answers it is
@@ -82,6 +83,7 @@ create_at (backup_running how) reached P is h = tt
 create_at (restore set how) reached P is h = tt
 create_at (report form) reached P is h = tt
 create_at examine reached P is h = tt
+create_at (expire rules) reached P is h = tt
 
 ok_at : (ended : Result Outcome Fault) (P : Type 0) → status (ending_of ended) ≡ 0 → OnOk ended P → P
 ok_at (Ok x) P is h = h
@@ -164,6 +166,7 @@ module _ (a : Asked) (b k : Seen) (n : ℕ) where
     beside = λ told. still_beside a.stanza b.repo.view k.repo.view x.0.repo;
     spool = λ told. still_beside a.stanza b.spool.view k.spool.view x.0.spool;
     pairs = any_create a.request _ (only_rests (IsOfPairs a.stanza) b.repo.view k.repo.view x.0.repo.time x.0.repo.now);
+    expires = any_expire a.request _ (λ rules. expires_still a.stanza rules b.clock.least b.repo.view k.repo.view x.0.repo);
     reads = any_reader a.request _ x.0.repo;
     folder = folder_stays a a.request (known b) k.tree.nodes (idle_nodes b k x.0);
     quiet = λ none. x.0.server;
@@ -172,7 +175,7 @@ module _ (a : Asked) (b k : Seen) (n : ℕ) where
     workers = any_unless (uses_workers a.request) _ x.0.links;
     clock = any_unless (uses_clock a.request) _ x.0.clock;
   }
-  leaves_rest (inr x) = let s = x.1.did.spares in record { beside = s.beside; spool = s.spool; pairs = s.pairs; reads = s.reads; folder = s.folder; quiet = s.quiet; others = s.others; waits = s.waits; workers = s.workers; clock = s.clock }
+  leaves_rest (inr x) = let s = x.1.did.spares in record { beside = s.beside; spool = s.spool; pairs = s.pairs; expires = s.expires; reads = s.reads; folder = s.folder; quiet = s.quiet; others = s.others; waits = s.waits; workers = s.workers; clock = s.clock }
 
   pub opens_places : Either a b k n → OpensPlaces a b k
   opens_places (inl x) = record { folder = opens_none (plan_of a.request).folder a.data_folder b.tree.opened k.tree.opened (ap (λ (t : TreeState). t.opened) x.0.tree); repository = inl x.0.opened }

@@ -2,6 +2,7 @@ mod Ends
 mod OneCluster
 mod Rans
 mod Runnings
+mod Expiries
 mod ByRequest
 mod Dids
 mod Written

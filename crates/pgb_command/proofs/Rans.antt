@@ -1,5 +1,5 @@
 -- What each command did, told of all objects: a lemma a command.
-use Rattle.std.proofs.Common.{◌≡◌, ◌≢◌, ◌⊎◌, ⊎_elim, inl, inr, List, ◌∷◌, Option, Some, None, Result, Ok, Err, IfOk, IfErr, refl, sym, subst, ap, ◌∙◌, Bool, true}
+use Rattle.std.proofs.Common.{◌≡◌, ◌≢◌, ◌⊎◌, ⊎_elim, inl, inr, List, ◌∷◌, Option, Some, None, Result, Ok, Err, IfOk, IfErr, refl, sym, subst, ap, ◌∙◌, Bool, true, false}
 use Rattle.std.specs.Prelude.{ℕ, [], take, IfSome, IsSome, IsSomeAnd, OnOk, OnErr}
 use Rattle.pgb_outside.specs.Content.{Content}
 use Rattle.pgb_outside.specs.Links.{LinkState}
@@ -9,7 +9,7 @@ use Rattle.pgb_outside.specs.Tree.{Nodes}
 use Rattle.pgb_model.specs.Text.{Text}
 use Rattle.pgb_model.specs.Repository.{Repository}
 use Rattle.pgb_model.specs.Repository.{Backup}
-use Rattle.pgb_model.specs.Steps.{Command, StanzaCreate, MakeBackup, Reading, after, all_of, steps_of}
+use Rattle.pgb_model.specs.Steps.{Command, StanzaCreate, MakeBackup, Expire, Reading, after, all_of, steps_of}
 use Rattle.pgb_model.specs.Log.{Done, Reaches, IsDrained, KeepsSpool}
 use Rattle.pgb_model.specs.declared.wal.ArchiveName.{ArchiveName}
 use Rattle.pgb_model.specs.Walks.{IsTight}
@@ -76,11 +76,19 @@ use Rattle.pgb_command.specs.declared.fault.Fault.{Fault}
 use Rattle.pgb_command.specs.declared.fault.Fault.TheVariants.{Stage, Command as OfCommand}
 use Rattle.pgb_examine.specs.declared.fault.ExamineFault.{ExamineFault}
 use Rattle.pgb_examine.specs.Examining.{ExamineCause, examine_early}
-use Rattle.pgb_command.specs.declared.fault.CommandFault.TheVariants.{Create, Push, Get, Take, Recover, Examine}
+use Rattle.pgb_retain.specs.declared.rules.Rules.{Rules}
+use Rattle.pgb_expire.specs.Expiry.{retention}
+use Rattle.pgb_expire.specs.Losing.{MayExpire}
+use Rattle.pgb_prune.specs.declared.fault.PruneFault.{PruneFault}
+use Rattle.pgb_prune.specs.Faults.{prune_early, PruneCause}
+use Rattle.pgb_prune.specs.Pruning.{counts_days, Prunes}
+use Rattle.pgb_expire.proofs.Receipts.{expiry_spool}
+use Rattle.pgb_command.proofs.Expiries.{removes}
+use Rattle.pgb_command.specs.declared.fault.CommandFault.TheVariants.{Create, Push, Get, Take, Recover, Examine, Prune}
 use Rattle.pgb_command.specs.Answers.{status, reached_of, ending_of, is_early}
-use Rattle.pgb_command.specs.Asked.{Request, create, push, get, backup, backup_running, restore, report, examine, RestoreHow, Asked}
-use Rattle.pgb_command.specs.Faults.{of_halt, of_stage, of_create, of_push, of_get, of_take, of_recover, of_examine, lift}
-use Rattle.pgb_command.specs.Tables.{Known, known, TurnsTold, found_by, found_for, Promise, Lasts, plan_of, manner_of, IsCreateOf, OnReader, OnCreate, OnOther, FolderGoes, FolderStays, Unless, uses_workers, uses_clock, uses_turns}
+use Rattle.pgb_command.specs.Asked.{Request, create, push, get, backup, backup_running, restore, report, examine, expire, RestoreHow, Asked}
+use Rattle.pgb_command.specs.Faults.{of_halt, of_stage, of_create, of_push, of_get, of_take, of_recover, of_examine, of_prune, lift}
+use Rattle.pgb_command.specs.Tables.{Known, known, TurnsTold, found_by, found_for, Promise, Lasts, plan_of, manner_of, IsCreateOf, OnReader, OnCreate, OnExpire, Expires, OnOther, FolderGoes, FolderStays, Unless, uses_workers, uses_clock, uses_turns}
 use Rattle.pgb_command.specs.Did.{SamePlaces, Closes, OwnCause, StaysHealed, Ran}
 use Rattle.pgb_command.proofs.Ends.{reached_same, lift_ok, lift_on, lift_err}
 use Rattle.pgb_command.proofs.OneCluster.{cluster_is}
@@ -108,13 +116,14 @@ module _ {E : Type 0} (a : Asked) (b k : Seen) (of : E → Fault) (early : E →
   create_reached (restore set how) P h = h
   create_reached (report form) P h = h
   create_reached examine P h = h
+  create_reached (expire rules) P h = h
 
   pub ran_of : On (manner_of a a.request (known b) (known k)) (λ command. Runs (plan_of a.request).settling a.stanza command (reached_by early r) b.repo.view b.spool.view k.repo.view k.spool.view) → IfOk r (Promise a a.request (known b) (known k)) → IfOk r (λ o. IsLookedAt a.stanza b.repo.view → Lasts a a.request b.tree.nodes k.repo.view k.tree.nodes o) → IfErr r (HaltCause why failed) →
       OnOk r (StaysHealed a b k) →
-      (TurnsTold a a.request (known k) → StaysBeside a.stanza b.repo.view k.repo.view) → (TurnsTold a a.request (known k) → StaysBeside a.stanza b.spool.view k.spool.view) → OnCreate a.request (ChangesOnly (IsOfPairs a.stanza) b.repo.view k.repo.view) → OnReader a.request (IsStill b.repo.view k.repo.view) → FolderGoes a a.request (known b) k.tree.nodes → OnNone (reached_by early r) (FolderStays a.request (status (ending_of ended)) (k.tree.nodes ≡ b.tree.nodes)) →
+      (TurnsTold a a.request (known k) → StaysBeside a.stanza b.repo.view k.repo.view) → (TurnsTold a a.request (known k) → StaysBeside a.stanza b.spool.view k.spool.view) → OnCreate a.request (ChangesOnly (IsOfPairs a.stanza) b.repo.view k.repo.view) → OnExpire a.request (λ rules. Expires a.stanza rules b.clock.least b.repo.view k.repo.view) → OnReader a.request (IsStill b.repo.view k.repo.view) → FolderGoes a a.request (known b) k.tree.nodes → OnNone (reached_by early r) (FolderStays a.request (status (ending_of ended)) (k.tree.nodes ≡ b.tree.nodes)) →
       OnCreate a.request (OnNone (reached_by early r) (k.repo.view.now ≡ b.repo.view.now)) → (a.server ≡ None → k.server ≡ b.server) → OnOther a.request (k.server ≡ b.server) → Unless (uses_turns a.request) (k.others ≡ b.others) → Unless (uses_workers a.request) (k.links ≡ b.links) → Unless (uses_clock a.request) (k.clock ≡ b.clock) →
       IfErr (lift (of_halt of) r) (Closes b k) → SamePlaces b k → AreLater b k → Ran a b k ended
-  ran_of steps promise lasts cause healed beside spool pairs reads folder nodes unmade quiet others waits workers clock closed places later = subst (λ (e : Result Outcome Fault). Ran a b k e) (sym lifted) (record {
+  ran_of steps promise lasts cause healed beside spool pairs expires reads folder nodes unmade quiet others waits workers clock closed places later = subst (λ (e : Result Outcome Fault). Ran a b k e) (sym lifted) (record {
     steps = subst (λ (reached : Reached). On (manner_of a a.request (known b) (known k)) (λ command. Runs (plan_of a.request).settling a.stanza command reached b.repo.view b.spool.view k.repo.view k.spool.view)) (sym (reached_same of early same r)) steps;
     promise = lift_ok (of_halt of) (Promise a a.request (known b) (known k)) r promise;
     lasts = lift_ok (of_halt of) (λ o. IsLookedAt a.stanza b.repo.view → Lasts a a.request b.tree.nodes k.repo.view k.tree.nodes o) r lasts;
@@ -124,6 +133,7 @@ module _ {E : Type 0} (a : Asked) (b k : Seen) (of : E → Fault) (early : E →
       beside = beside;
       spool = spool;
       pairs = pairs;
+      expires = expires;
       reads = reads;
       folder = folder;
       nodes = as_reached _ (subst (λ (e : Result Outcome Fault). OnNone (reached_by early r) (FolderStays a.request (status (ending_of e)) (k.tree.nodes ≡ b.tree.nodes))) lifted nodes);
@@ -228,6 +238,7 @@ module _ (a : Asked) (b k : Seen) (rest : k ≡ record b { repo = k.repo; server
       (λ others. spool_kept a.stanza b k (ap (λ (s : Seen). s.spool.view) rest))
       only
       tt
+      tt
       (ap (λ (s : Seen). s.tree.nodes) rest)
       (all_none (reached_by create_early r) _ (ap (λ (s : Seen). s.tree.nodes) rest))
       (none_as (reached_by create_early r) _ _ (λ (s : IsStill b.repo.view k.repo.view). s.now) still)
@@ -273,6 +284,7 @@ module _ (a : Asked) (b k : Seen) (rest : k ≡ record b { repo = k.repo; tree =
       (λ others. spool_kept a.stanza b k (ap (λ (s : Seen). s.spool.view) rest))
       tt
       tt
+      tt
       nodes
       (all_none (reached_by push_early r) _ nodes)
       tt
@@ -312,6 +324,7 @@ module _ (a : Asked) (b k : Seen) (rest : k ≡ record b { repo = k.repo; tree =
       (on_all r (StaysHealed gets b k) (record { agree = λ some h. any_some k.repo.view.now; lasts = λ looked h. tt }))
       (λ others. still_beside a.stanza b.repo.view k.repo.view still)
       (λ others. spool_kept a.stanza b k (ap (λ (s : Seen). s.spool.view) rest))
+      tt
       tt
       still
       changes
@@ -373,6 +386,7 @@ module _ (a : Asked) (b k : Seen) (rest : k ≡ record b { repo = k.repo; tree =
       (on_all r (StaysHealed takes b k) (record { agree = λ some h. any_some k.repo.view.now; lasts = λ looked h. tt }))
       (λ others. beside)
       (λ others. spool_kept a.stanza b k (ap (λ (s : Seen). s.spool.view) rest))
+      tt
       tt
       tt
       nodes
@@ -461,6 +475,7 @@ module _ (a : Asked) (b k : Seen) (rest : k ≡ record b { repo = k.repo; tree =
       (λ others. still_beside a.stanza b.repo.view k.repo.view still)
       (λ others. spool_kept a.stanza b k (ap (λ (s : Seen). s.spool.view) rest))
       tt
+      tt
       still
       (restore_goes a label how (known b) (known k) r recovers control)
       (subst (λ (e : Result Outcome Fault). OnNone (reached_by recover_early r) (FolderStays (restore set how) (status (ending_of e)) (k.tree.nodes ≡ b.tree.nodes))) (sym lifted)
@@ -495,6 +510,7 @@ module _ (a : Asked) (b k : Seen) (rest : k ≡ record b { repo = k.repo }) (sti
       (λ others. still_beside a.stanza b.repo.view k.repo.view still)
       (λ others. spool_kept a.stanza b k (ap (λ (s : Seen). s.spool.view) rest))
       tt
+      tt
       still
       (ap (λ (s : Seen). s.tree.nodes) rest)
       (all_none (reached_by (λ e. true) r) _ (ap (λ (s : Seen). s.tree.nodes) rest))
@@ -528,6 +544,7 @@ module _ (a : Asked) (b k : Seen) (rest : k ≡ record b { repo = k.repo }) (sti
       (λ others. still_beside a.stanza b.repo.view k.repo.view still)
       (λ others. spool_kept a.stanza b k (ap (λ (s : Seen). s.spool.view) rest))
       tt
+      tt
       still
       (ap (λ (s : Seen). s.tree.nodes) rest)
       (all_none (reached_by examine_early r) _ (ap (λ (s : Seen). s.tree.nodes) rest))
@@ -538,6 +555,51 @@ module _ (a : Asked) (b k : Seen) (rest : k ≡ record b { repo = k.repo }) (sti
       (ap (λ (s : Seen). s.links) rest)
       (ap (λ (s : Seen). s.clock) rest)
       (never_closes b k of_examine (examine_closes b k) r)
+      places later)
+
+prune_closes : (b k : Seen) (h : Halt PruneFault) → Closes b k (of_prune h)
+prune_closes b k (Refused e) = tt
+prune_closes b k (HaltFailed object) = tt
+prune_closes b k HaltMemory = tt
+
+unless_read : (uses : Bool) (P : Type 0) → (uses ≡ false → P) → Unless uses P
+unless_read true P h = tt
+unless_read false P h = h refl
+
+module _ (a : Asked) (b k : Seen) (rest : k ≡ record b { repo = k.repo; clock = k.clock }) (rules : Rules) (r : Result Outcome (Halt PruneFault)) (ended : Result Outcome Fault) (lifted : ended ≡ lift of_prune r) where
+  abbrev prunes : Asked
+  prunes = with_request a (expire rules)
+
+  pub pruned_ran : a.request ≡ expire rules → Prunes a.stanza rules b.clock k.clock b.repo.view k.repo.view r → ChangesOnly (MayExpire a.stanza) b.repo.view k.repo.view → StaysBeside a.stanza b.repo.view k.repo.view →
+      (counts_days rules.full ≡ false → k.clock ≡ b.clock) → (failed : Object → Type 0) → ((object : Object) → failed object → Failed b k object) →
+      IfErr r (HaltCause (PruneCause a.stanza b.repo.view.now) failed) → SamePlaces b k → AreLater b k → Ran a b k ended
+  pruned_ran is p only beside unread failed rose cause places later =
+      let command = Expire (retention rules p.moment) in
+      as_ran a (expire rules) b k ended is
+      (ran_of prunes b k (λ (e : PruneFault). OfCommand (Prune e)) prune_early (λ e. refl) (PruneCause a.stanza b.repo.view.now) (λ e h. h) failed rose r ended lifted (
+        command,
+        (p.moment, p.may_be, refl),
+        subst (λ (v : View). Runs Whole a.stanza command (reached_by prune_early r) b.repo.view b.spool.view k.repo.view v) (sym (ap (λ (s : Seen). s.spool.view) rest))
+            (does_runs Whole a.stanza command (reached_by prune_early r) b.repo.view k.repo.view b.spool.view (λ q log keeps. expiry_spool a.stanza (retention rules p.moment) true q log b.spool.view keeps) p.does),
+      )
+      (removes a.stanza rules p.moment (known b) (known k) r p.told p.pruned)
+      (any_ok r (λ o. IsLookedAt a.stanza b.repo.view → Unit {0}) (λ o looked. tt))
+      cause
+      (on_all r (StaysHealed prunes b k) (record { agree = λ some h. any_some k.repo.view.now; lasts = λ looked h. tt }))
+      (λ others. beside)
+      (λ others. spool_kept a.stanza b k (ap (λ (s : Seen). s.spool.view) rest))
+      tt
+      (record { only = only; moment = p.moment; may_be = p.may_be; touches = p.touches })
+      tt
+      (ap (λ (s : Seen). s.tree.nodes) rest)
+      (all_none (reached_by prune_early r) _ (ap (λ (s : Seen). s.tree.nodes) rest))
+      tt
+      (λ none. ap (λ (s : Seen). s.server) rest)
+      (ap (λ (s : Seen). s.server) rest)
+      (ap (λ (s : Seen). s.others) rest)
+      (ap (λ (s : Seen). s.links) rest)
+      (unless_read (counts_days rules.full) _ unread)
+      (never_closes b k of_prune (prune_closes b k) r)
       places later)
 
 pub both_ok : {E : Type 0} (r : Result Outcome E) (P Q : Outcome → Type 0) → IfOk r P → IfOk r Q → IfOk r (λ o. P o × Q o)

@@ -99,6 +99,7 @@ module _ (a : Asked) (b k : Seen) (nodes : k.tree.nodes ≡ b.tree.nodes) (how :
       (with_account a.stanza k.others.account _ spool)
       tt
       tt
+      tt
       nodes
       (all_none (reached_by online_early r) _ nodes)
       tt
@@ -132,6 +133,7 @@ module _ (a : Asked) (b : Seen) (how : RunningHow) where
       tt
       (λ others. still_beside a.stanza b.repo.view b.repo.view (still_self b.repo.view))
       (λ others. still_beside a.stanza b.spool.view b.spool.view (still_self b.spool.view))
+      tt
       tt
       tt
       refl

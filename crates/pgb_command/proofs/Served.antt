@@ -78,3 +78,4 @@ request_served c s is (requests.BackupRunning workers fast turns) asked o server
 request_served c s is (requests.Restore set workers delta recovery) asked o server = refl
 request_served c s is (requests.Info form) asked o server = refl
 request_served c s is requests.Verify asked o server = refl
+request_served c s is (requests.Expire rules) asked o server = refl

@@ -18,12 +18,16 @@ use Rattle.pgb_take.proofs.Statuses.{take_within}
 use Rattle.pgb_take_online.proofs.Statuses.{online_take_over}
 use Rattle.pgb_recover.proofs.Statuses.{recover_over}
 use Rattle.pgb_examine.proofs.Statuses.{examine_is}
+use Rattle.pgb_prune.specs.declared.fault.PruneFault.{PruneFault}
+use Rattle.pgb_prune.specs.declared.fault.PruneFault.TheVariants as prunes
+use Rattle.pgb_prune.specs.Faults.{prune_early}
+use Rattle.pgb_prune.proofs.Statuses.{prune_within}
 use Rattle.pgb_command.specs.declared.fault.CommandFault.{CommandFault}
-use Rattle.pgb_command.specs.declared.fault.CommandFault.TheVariants.{Create, Push, Get, Take, TakeOnline, Recover, Examine}
+use Rattle.pgb_command.specs.declared.fault.CommandFault.TheVariants.{Create, Push, Get, Take, TakeOnline, Recover, Examine, Prune}
 use Rattle.pgb_command.specs.declared.fault.Fault.{Fault}
 use Rattle.pgb_command.specs.declared.fault.Fault.TheVariants as fault
 use Rattle.pgb_command.specs.Answers.{status, status_of, usage_status, command_status, command_early, is_early, ending_of, reached_of}
-use Rattle.pgb_command.specs.Asked.{Request, create, push, get, backup, backup_running, restore, report, examine}
+use Rattle.pgb_command.specs.Asked.{Request, create, push, get, backup, backup_running, restore, report, examine, expire}
 use Rattle.pgb_command.specs.Causes.{IsRefusal, IsEarly}
 
 -- ---- a refusal has no status of a command that ended well
@@ -72,6 +76,7 @@ command_over (Take e) = (take_within e).0
 command_over (TakeOnline e) = online_take_over e
 command_over (Recover e) = recover_over e
 command_over (Examine e) = omega (arith, examine_is e)
+command_over (Prune e) = (prune_within e).0
 
 pub over : (e : Fault) → 2 ≤ status_of e
 over (fault.Usage e) = usage_over e
@@ -101,6 +106,7 @@ any_early (backup_running how) n h = h
 any_early (restore set how) n h = inl h
 any_early (report form) n h = inl h
 any_early examine n h = inl h
+any_early (expire rules) n h = inl h
 
 late : (m : ℕ) → (73 ≤ m) → (m ≤ 99) → m ≢ 83 → ¬ AnyEarly m
 late m lo hi apart (inl (inl a)) = absurd (omega (arith, lo, a.1))
@@ -118,6 +124,9 @@ early_object object.Locks h = absurd (late 85 (omega arith) (omega arith) (λ e.
 early_object object.Config h = absurd (late 86 (omega arith) (omega arith) (λ e. absurd (omega (arith, e))) h)
 early_object object.Output h = absurd (late 87 (omega arith) (omega arith) (λ e. absurd (omega (arith, e))) h)
 
+prune_is_early : (e : PruneFault) → prune_early e ≡ true
+prune_is_early (prunes.HistoryDiffers at) = refl
+
 early_command : (e : CommandFault) → command_early e ≡ true
 early_command (Create e) = refl
 early_command (Push e) = refl
@@ -126,6 +135,7 @@ early_command (Take e) = refl
 early_command (TakeOnline e) = refl
 early_command (Recover e) = refl
 early_command (Examine e) = refl
+early_command (Prune e) = prune_is_early e
 
 early_fault : (e : Fault) → AnyEarly (status_of e) → is_early e ≡ true
 early_fault (fault.Usage e) h = refl

@@ -3,13 +3,23 @@ use Rattle.std.proofs.Common.{◌≡◌, ◌∙◌, List, ap}
 use Rattle.std.specs.Prelude.{map, string_bytes}
 use Rattle.pgb_model.specs.Text.{Text}
 use Rattle.pgb_options.specs.declared.options.Options.{Options}
+use Rattle.pgb_prune.specs.Rules.{rules_by}
 use Rattle.pgb_options.specs.declared.settle.Command.{Command}
 use Rattle.pgb_options.specs.Commands.{IsCommand}
 use Rattle.pgb_options.specs.Filled.{AreOptions}
 use Rattle.pgb_options.specs.Settings.{Source, Settled, value}
 use Rattle.pgb_table.specs.declared.table.Verb.{Verb}
-use Rattle.pgb_command.specs.Asked.{Wanted, wanted_in, request_by, requested}
+use Rattle.pgb_command.specs.Asked.{Wanted, wanted_in, rules_in, request_by, requested}
 use Rattle.pgb_command.specs.Told.{wanted_told}
+
+rules_are : (o : Options) (s : Source) → AreOptions o (value s) → rules_by o ≡ rules_in s
+rules_are o s is =
+    let full = is.repo1_retention_full in
+    let counts = is.repo1_retention_full_type in
+    let diff = is.repo1_retention_diff in
+    let archive = is.repo1_retention_archive in
+    let kind = is.repo1_retention_archive_type in
+    cc
 
 wanted_is : (o : Options) (s : Source) → AreOptions o (value s) → wanted_told o ≡ wanted_in s
 wanted_is o s is =
@@ -26,6 +36,7 @@ wanted_is o s is =
     let workers = is.process_max in
     let fast = is.start_fast in
     let turns = is.archive_timeout in
+    let rules = rules_are o s is in
     cc
 
 -- what the command asks for is what its settings ask for

@@ -26,7 +26,7 @@ use Rattle.pgb_command.specs.declared.order.Order.{Order}
 use Rattle.pgb_command.specs.declared.order.RunningOrder.{RunningOrder}
 use Rattle.pgb_command.specs.declared.order.Order.TheVariants as orders
 use Rattle.pgb_command.specs.Told.{how_of, running_of, IsOrder}
-use Rattle.pgb_command.specs.Asked.{Request, create, push, get, backup, backup_running, restore, report, examine, RestoreHow, Asked}
+use Rattle.pgb_command.specs.Asked.{Request, create, push, get, backup, backup_running, restore, report, examine, expire, RestoreHow, Asked}
 use Rattle.pgb_command.specs.Faults.{of_push, of_get, of_recover}
 use Rattle.pgb_command.specs.Tables.{WordsFit, CommandCause}
 use Rattle.pgb_command.specs.Did.{IsIdle, WordsCause, ComesBehind}
@@ -71,6 +71,7 @@ words_fit a create (orders.BackupRunning o) is = absurd is
 words_fit a create (orders.Restore o) is = absurd is
 words_fit a create (orders.Info asked) is = absurd is
 words_fit a create orders.Verify is = absurd is
+words_fit a create (orders.Expire asked) is = absurd is
 words_fit a (push path) orders.StanzaCreate is = absurd is
 words_fit a (push path) (orders.ArchivePush o) is = (o.name, subst (λ (f : Text). IsWalPath f path o.name) is.0 (subst (λ (p : Text). IsWalPath o.folder.now p o.name) is.1 o.named))
 words_fit a (push path) (orders.ArchiveGet o) is = absurd is
@@ -79,6 +80,7 @@ words_fit a (push path) (orders.BackupRunning o) is = absurd is
 words_fit a (push path) (orders.Restore o) is = absurd is
 words_fit a (push path) (orders.Info asked) is = absurd is
 words_fit a (push path) orders.Verify is = absurd is
+words_fit a (push path) (orders.Expire asked) is = absurd is
 words_fit a (get word path) orders.StanzaCreate is = absurd is
 words_fit a (get word path) (orders.ArchivePush o) is = absurd is
 words_fit a (get word path) (orders.ArchiveGet o) is = (o.name, subst (λ (f : Text). AreWords f word path o.name) is.0 (subst (λ (w : Text). AreWords o.folder.now w path o.name) is.1 (subst (λ (p : Text). AreWords o.folder.now o.word.now p o.name) is.2 o.wanted)))
@@ -87,6 +89,7 @@ words_fit a (get word path) (orders.BackupRunning o) is = absurd is
 words_fit a (get word path) (orders.Restore o) is = absurd is
 words_fit a (get word path) (orders.Info asked) is = absurd is
 words_fit a (get word path) orders.Verify is = absurd is
+words_fit a (get word path) (orders.Expire asked) is = absurd is
 words_fit a (backup workers) orders.StanzaCreate is = absurd is
 words_fit a (backup_running how) orders.StanzaCreate is = absurd is
 words_fit a (backup workers) (orders.ArchivePush o) is = absurd is
@@ -103,6 +106,8 @@ words_fit a (backup workers) (orders.Info asked) is = absurd is
 words_fit a (backup_running how) (orders.Info asked) is = absurd is
 words_fit a (backup workers) orders.Verify is = absurd is
 words_fit a (backup_running how) orders.Verify is = absurd is
+words_fit a (backup_running how) (orders.Expire asked) is = absurd is
+words_fit a (backup workers) (orders.Expire asked) is = absurd is
 words_fit a (restore set how) orders.StanzaCreate is = absurd is
 words_fit a (restore set how) (orders.ArchivePush o) is = absurd is
 words_fit a (restore set how) (orders.ArchiveGet o) is = absurd is
@@ -111,6 +116,7 @@ words_fit a (restore set how) (orders.BackupRunning o) is = absurd is
 words_fit a (restore set how) (orders.Restore o) is = (o.set, is.2)
 words_fit a (restore set how) (orders.Info asked) is = absurd is
 words_fit a (restore set how) orders.Verify is = absurd is
+words_fit a (restore set how) (orders.Expire asked) is = absurd is
 words_fit a (report form) orders.StanzaCreate is = absurd is
 words_fit a (report form) (orders.ArchivePush o) is = absurd is
 words_fit a (report form) (orders.ArchiveGet o) is = absurd is
@@ -119,6 +125,7 @@ words_fit a (report form) (orders.BackupRunning o) is = absurd is
 words_fit a (report form) (orders.Restore o) is = absurd is
 words_fit a (report form) (orders.Info asked) is = tt
 words_fit a (report form) orders.Verify is = absurd is
+words_fit a (report form) (orders.Expire asked) is = absurd is
 words_fit a examine orders.StanzaCreate is = absurd is
 words_fit a examine (orders.ArchivePush o) is = absurd is
 words_fit a examine (orders.ArchiveGet o) is = absurd is
@@ -127,6 +134,16 @@ words_fit a examine (orders.BackupRunning o) is = absurd is
 words_fit a examine (orders.Restore o) is = absurd is
 words_fit a examine (orders.Info asked) is = absurd is
 words_fit a examine orders.Verify is = tt
+words_fit a examine (orders.Expire asked) is = absurd is
+words_fit a (expire rules) orders.StanzaCreate is = absurd is
+words_fit a (expire rules) (orders.ArchivePush o) is = absurd is
+words_fit a (expire rules) (orders.ArchiveGet o) is = absurd is
+words_fit a (expire rules) (orders.Backup o) is = absurd is
+words_fit a (expire rules) (orders.BackupRunning o) is = absurd is
+words_fit a (expire rules) (orders.Restore o) is = absurd is
+words_fit a (expire rules) (orders.Info asked) is = absurd is
+words_fit a (expire rules) orders.Verify is = absurd is
+words_fit a (expire rules) (orders.Expire asked) is = tt
 
 -- the order of a restore is asked for
 pub restore_asked : (q : Request) (folder : Text) (o : RecoverOrder) → IsOrder q folder (orders.Restore o) → (set : Option Text) × (q ≡ restore set (how_of o)) × TellsSet set o.set
@@ -138,6 +155,7 @@ restore_asked (backup_running how) folder o is = absurd is
 restore_asked (restore set how) folder o is = (set, ap (restore set) (sym is.1), is.2)
 restore_asked (report form) folder o is = absurd is
 restore_asked examine folder o is = absurd is
+restore_asked (expire rules) folder o is = absurd is
 
 -- so is that of a running server's backup
 pub running_asked : (q : Request) (folder : Text) (o : RunningOrder) → IsOrder q folder (orders.BackupRunning o) → q ≡ backup_running (running_of o)
@@ -149,6 +167,7 @@ running_asked (backup_running how) folder o is = ap backup_running (sym is.1)
 running_asked (restore set how) folder o is = absurd is
 running_asked (report form) folder o is = absurd is
 running_asked examine folder o is = absurd is
+running_asked (expire rules) folder o is = absurd is
 
 pub behind_words : (a : Asked) (b k : Seen) (o : Order) → IsOrder a.request a.data_folder o → (result : Result Outcome Fault) → ComesBehind a b k result
 behind_words a b k o is (Ok x) = tt

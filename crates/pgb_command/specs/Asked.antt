@@ -8,16 +8,18 @@ use Rattle.pgb_options.specs.declared.options.KindWord.TheVariants.{Full, Diff, 
 use Rattle.pgb_options.specs.declared.options.RestoreWord.{RestoreWord}
 use Rattle.pgb_options.specs.declared.options.RestoreWord.TheVariants.{Default, Plain}
 use Rattle.pgb_options.specs.declared.options.OutputWord.{OutputWord}
-use Rattle.pgb_table.specs.declared.table.Opt.TheVariants.{Pg1Path, Pg1SocketPath, Pg1Port, Pg1User, Pg1Database, Repo1Path, LockPath, Online, ArchiveAsync, Output, BackupType, Delta, Repo1Bundle, ExpireAuto, ProcessMax, StartFast, ArchiveTimeout, RestoreType, Config, Set}
+use Rattle.pgb_table.specs.declared.table.Opt.TheVariants.{Pg1Path, Pg1SocketPath, Pg1Port, Pg1User, Pg1Database, Repo1Path, LockPath, Online, ArchiveAsync, Output, BackupType, Delta, Repo1Bundle, Repo1RetentionFull, Repo1RetentionFullType, Repo1RetentionDiff, Repo1RetentionArchive, Repo1RetentionArchiveType, ExpireAuto, ProcessMax, StartFast, ArchiveTimeout, RestoreType, Config, Set}
 use Rattle.pgb_table.specs.declared.table.Verb.{Verb}
-use Rattle.pgb_table.specs.declared.table.Verb.TheVariants.{StanzaCreate, ArchivePush, ArchiveGet, Backup, Restore, Info, Verify}
+use Rattle.pgb_table.specs.declared.table.Verb.TheVariants.{StanzaCreate, ArchivePush, ArchiveGet, Backup, Restore, Info, Verify, Expire}
 use Rattle.pgb_options.specs.Faults.{Fault}
-use Rattle.pgb_options.specs.Filled.{text_in, number_in, amount_in, flag_in, or_else, kind_word, restore_word, output_word, word_in}
+use Rattle.pgb_options.specs.Filled.{text_in, number_in, amount_in, flag_in, or_else, kind_word, retention_word, restore_word, output_word, word_in}
 use Rattle.pgb_options.specs.Paths.{Path, nowhere, usual, named, path_of_words}
 use Rattle.pgb_options.specs.Settings.{Source, Settled, value, settled_words}
 use Rattle.pgb_create.specs.Server.{Server}
+use Rattle.pgb_prune.specs.Rules.{full_rule, kind_by}
 use Rattle.pgb_recover.specs.Fetching.{RecoveryType}
 use Rattle.pgb_recover.specs.Fetching.RecoveryType.{Default as ToTheEnd, Without}
+use Rattle.pgb_retain.specs.declared.rules.Rules.{Rules}
 use Rattle.pgb_stage.specs.declared.fault.Unbuilt.{Unbuilt}
 use Rattle.pgb_stage.specs.declared.fault.Unbuilt.TheVariants.{Command, Background, Kind, Delta as Digests, Bundles, Expiry}
 
@@ -56,7 +58,7 @@ pub record RestoreHow : Type 0 where
   pub delta : Bool
   pub recovery : RecoveryType
 
--- which command, the file that archive-push is to store, the file that archive-get is to serve and where, how many workers a backup of a stopped server may use, how a running one is backed up, the label of the backup to restore and how, and the form of info's report; verify has nothing more to be told
+-- which command, the file that archive-push is to store, the file that archive-get is to serve and where, how many workers a backup of a stopped server may use, how a running one is backed up, the label of the backup to restore and how, the form of info's report, and the rules of an expiry; verify has nothing more to be told
 pub data Request : Type 0 where
   create : Request
   push : (path : Text) → Request
@@ -66,6 +68,7 @@ pub data Request : Type 0 where
   restore : (set : Option Text) (how : RestoreHow) → Request
   report : (form : OutputWord) → Request
   examine : Request
+  expire : (rules : Rules) → Request
 
 abbrev pub first_of : List Text → Text
 first_of [] = []
@@ -90,6 +93,7 @@ pub record Wanted : Type 0 where
   pub workers : ℕ
   pub fast : Bool
   pub turns : ℕ
+  pub rules : Rules
 
 abbrev pub is_full : KindWord → Bool
 is_full Full = true
@@ -122,6 +126,7 @@ request_by Backup m given = backup_by m
 request_by Restore m given = Ok (restore_by m)
 request_by Info m given = Ok (report m.form)
 request_by Verify m given = Ok examine
+request_by Expire m given = Ok (expire m.rules)
 request_by verb m given = Err (Command verb)
 
 abbrev pub path_in : Source → Opt → Text
@@ -129,6 +134,15 @@ path_in source option = or_else [] (text_in (value source option))
 
 abbrev pub is_on : Source → Opt → Bool
 is_on source option = or_else false (flag_in (value source option))
+
+-- what the options of retention say (pgBackRest configuration reference, "Repository Options")
+abbrev pub rules_in : Source → Rules
+rules_in s = record {
+  full = full_rule (number_in (value s Repo1RetentionFull)) (retention_word (word_in (value s Repo1RetentionFullType)));
+  diff = number_in (value s Repo1RetentionDiff);
+  archive = number_in (value s Repo1RetentionArchive);
+  archive_kind = kind_by (kind_word (word_in (value s Repo1RetentionArchiveType)));
+}
 
 abbrev pub wanted_in : Source → Wanted
 wanted_in s = record {
@@ -145,6 +159,7 @@ wanted_in s = record {
   workers = or_else 0 (number_in (value s ProcessMax));
   fast = is_on s StartFast;
   turns = or_else 0 (amount_in (value s ArchiveTimeout));
+  rules = rules_in s;
 }
 
 abbrev pub requested : Settled → Result Request Unbuilt

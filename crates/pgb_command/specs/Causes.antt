@@ -21,7 +21,7 @@ use Rattle.pgb_command.specs.Asked.{Request, create, backup_running, Asked, MayA
 use Rattle.pgb_command.specs.Configuring.{ConfigCause}
 use Rattle.pgb_command.specs.Did.{IsIdle, Did, ComesBehind, Brackets, Cause, OnReady, LastsAfter, HealsPairs, ArePlacesOpened, TakesAll}
 use Rattle.pgb_command.specs.Output.{IsTold}
-use Rattle.pgb_command.specs.Tables.{known, plan_of, manner_of, Promise, OnReader, OnCreate, OnOther, FolderGoes, FolderStays, Unless, TurnsTold, uses_workers, uses_clock, uses_turns}
+use Rattle.pgb_command.specs.Tables.{known, plan_of, manner_of, Promise, OnReader, OnCreate, OnExpire, Expires, OnOther, FolderGoes, FolderStays, Unless, TurnsTold, uses_workers, uses_clock, uses_turns}
 
 -- ---- how it is told
 
@@ -111,11 +111,12 @@ pub record TurnsBack (a : Asked) (before after : Seen) (result : ℕ) : Type 0 w
   pub nodes : FolderStays a.request result (after.tree.nodes ≡ before.tree.nodes)
   pub unmade : OnCreate a.request (after.repo.view.now ≡ before.repo.view.now)
 
--- after every answer: the command has kept to its stanza, where what others did meanwhile is told, stanza-create to the members of its two pairs, a reader has changed nothing in the repository, only archive-get the data folder, the server only who asks it, other processes only who waits for turns of theirs, and the workers and the clock only who uses them
+-- after every answer: the command has kept to its stanza, where what others did meanwhile is told, stanza-create to the members of its two pairs, expire to what it may change, a reader has changed nothing in the repository, only archive-get the data folder, the server only who asks it, other processes only who waits for turns of theirs, and the workers and the clock only who uses them
 pub record LeavesRest (a : Asked) (before after : Seen) : Type 0 where
   pub beside : TurnsTold a a.request (known after) → StaysBeside a.stanza before.repo.view after.repo.view
   pub spool : TurnsTold a a.request (known after) → StaysBeside a.stanza before.spool.view after.spool.view
   pub pairs : OnCreate a.request (ChangesOnly (IsOfPairs a.stanza) before.repo.view after.repo.view)
+  pub expires : OnExpire a.request (λ rules. Expires a.stanza rules before.clock.least before.repo.view after.repo.view)
   pub reads : OnReader a.request (IsStill before.repo.view after.repo.view)
   pub folder : FolderGoes a a.request (known before) after.tree.nodes
   pub quiet : a.server ≡ None → after.server ≡ before.server

@@ -20,12 +20,12 @@ use Rattle.pgb_prepare.specs.Taking.{MayTake}
 use Rattle.pgb_create.specs.Talking.{Ended, Closes as CreateCloses}
 use Rattle.pgb_take_online.specs.declared.fault.OnlineTakeFault.{OnlineTakeFault}
 use Rattle.pgb_take_online.specs.declared.fault.OnlineTakeFault.TheVariants.{Take as TakeFault}
-use Rattle.pgb_command.specs.declared.fault.CommandFault.TheVariants.{Create, Take, TakeOnline, Examine}
+use Rattle.pgb_command.specs.declared.fault.CommandFault.TheVariants.{Create, Take, TakeOnline, Examine, Prune}
 use Rattle.pgb_command.specs.declared.fault.Fault.{Fault}
 use Rattle.pgb_command.specs.declared.fault.Fault.TheVariants.{Usage, Stage, Command, Failed as ObjectFailed, NoMemory}
 use Rattle.pgb_command.specs.Answers.{status, reached_of, ending_of}
 use Rattle.pgb_command.specs.Asked.{Asked}
-use Rattle.pgb_command.specs.Tables.{Known, known, plan_of, manner_of, WordsFit, CommandCause, Promise, Lasts, OnReader, OnCreate, OnOther, FolderGoes, FolderStays, Unless, TurnsTold, uses_workers, uses_clock, uses_turns}
+use Rattle.pgb_command.specs.Tables.{Known, known, plan_of, manner_of, WordsFit, CommandCause, Promise, Lasts, OnReader, OnCreate, OnExpire, Expires, OnOther, FolderGoes, FolderStays, Unless, TurnsTold, uses_workers, uses_clock, uses_turns}
 
 -- ---- what stays
 
@@ -40,11 +40,12 @@ Closes before after (Command (Create fault)) = CreateCloses (Failed before after
 Closes before after (Command (TakeOnline fault)) = (IsTaken fault × (after.server ≡ before.server)) ⊎ (Ended after.server.sent ⊎ Failed before after Server)
 Closes before after other = Unit {0}
 
--- What a command leaves as it was: of the repository all where it only reads, of the data folder all but a file that is served, the server where it asks none, other processes where it waits for none of their turns, and the workers and the clock where it doesn't use them. Refused before its first step it has changed no file of the data folder, unless it is a restore that has started workers, and stanza-create none of the repository. Whatever it is, it keeps to its stanza, where what others did meanwhile is told, and stanza-create to the members of its two pairs.
+-- What a command leaves as it was: of the repository all where it only reads, of the data folder all but a file that is served, the server where it asks none, other processes where it waits for none of their turns, and the workers and the clock where it doesn't use them. Refused before its first step it has changed no file of the data folder, unless it is a restore that has started workers, and stanza-create none of the repository. Whatever it is, it keeps to its stanza, where what others did meanwhile is told, stanza-create to the members of its two pairs, and expire to what it may change.
 pub record Spares (a : Asked) (before after : Seen) (result : Result Outcome Fault) : Type 0 where
   pub beside : TurnsTold a a.request (known after) → StaysBeside a.stanza before.repo.view after.repo.view
   pub spool : TurnsTold a a.request (known after) → StaysBeside a.stanza before.spool.view after.spool.view
   pub pairs : OnCreate a.request (ChangesOnly (IsOfPairs a.stanza) before.repo.view after.repo.view)
+  pub expires : OnExpire a.request (λ rules. Expires a.stanza rules before.clock.least before.repo.view after.repo.view)
   pub reads : OnReader a.request (IsStill before.repo.view after.repo.view)
   pub folder : FolderGoes a a.request (known before) after.tree.nodes
   pub nodes : OnNone (reached_of (ending_of result)) (FolderStays a.request (status (ending_of result)) (after.tree.nodes ≡ before.tree.nodes))
@@ -104,6 +105,7 @@ WordsCause a (Command (Create fault)) = ⊥
 WordsCause a (Command (Take fault)) = ⊥
 WordsCause a (Command (TakeOnline fault)) = ⊥
 WordsCause a (Command (Examine fault)) = ⊥
+WordsCause a (Command (Prune fault)) = ⊥
 WordsCause a (Command fault) = (old new : Known) → CommandCause a a.request old new fault
 WordsCause a NoMemory = Unit {0}
 WordsCause a other = ⊥

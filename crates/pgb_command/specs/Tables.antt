@@ -5,6 +5,7 @@ use Rattle.pgb_outside.specs.Crash.{Leaves}
 use Rattle.pgb_outside.specs.Links.{LinkState}
 use Rattle.pgb_outside.specs.Moments.{View}
 use Rattle.pgb_outside.specs.Tree.{Nodes}
+use Rattle.pgb_disk.specs.Store.{ChangesOnly}
 use Rattle.pgb_model.specs.declared.clusters.Cluster.{Cluster}
 use Rattle.pgb_model.specs.declared.labels.Label.{Label}
 use Rattle.pgb_model.specs.Values.{Manifest}
@@ -49,9 +50,14 @@ use Rattle.pgb_restore.specs.Finished.{IsFinished}
 use Rattle.pgb_clear.specs.Clearing.{control_path, HasNone}
 use Rattle.pgb_inform.specs.Reporting.{IsReported, ReportsStanza}
 use Rattle.pgb_examine.specs.Examining.{ExamineCause, IsExamined, EndsWithNone}
+use Rattle.pgb_retain.specs.declared.rules.Rules.{Rules}
+use Rattle.pgb_expire.specs.Expiry.{IsTouched}
+use Rattle.pgb_expire.specs.Losing.{MayExpire}
+use Rattle.pgb_prune.specs.Faults.{PruneCause}
+use Rattle.pgb_prune.specs.Pruning.{counts_days, IsMoment, TellsMoment, IsExpiryBy, IsPruned}
 use Rattle.pgb_command.specs.declared.fault.CommandFault.{CommandFault}
-use Rattle.pgb_command.specs.declared.fault.CommandFault.TheVariants.{Create, Push, Get, Take, TakeOnline, Recover, Examine}
-use Rattle.pgb_command.specs.Asked.{Request, create, push, get, backup, backup_running, restore, report, examine, RunningHow, RestoreHow, Asked}
+use Rattle.pgb_command.specs.declared.fault.CommandFault.TheVariants.{Create, Push, Get, Take, TakeOnline, Recover, Examine, Prune}
+use Rattle.pgb_command.specs.Asked.{Request, create, push, get, backup, backup_running, restore, report, examine, expire, RunningHow, RestoreHow, Asked}
 
 -- what the objects hold, as far as they tell it
 pub record Known : Type 0 where
@@ -75,6 +81,7 @@ plan_of (backup_running how) = record { settling = Whole; folder = true; backup_
 plan_of (restore set how) = record { settling = Whole; folder = true; backup_lock = false; archive_lock = false; control = false; pairs = ReadBoth }
 plan_of (report form) = record { settling = Whole; folder = false; backup_lock = false; archive_lock = false; control = false; pairs = ReadBoth }
 plan_of examine = record { settling = Whole; folder = false; backup_lock = false; archive_lock = false; control = false; pairs = ReadBoth }
+plan_of (expire rules) = record { settling = Whole; folder = false; backup_lock = true; archive_lock = false; control = false; pairs = ReadBoth }
 
 -- stanza-create of the cluster that the folder tells, where it tells one
 abbrev pub IsCreateOf : Nodes → Command → Type 0
@@ -108,6 +115,7 @@ manner_of a (backup_running how) old new = provided (TurnsTold a (backup_running
 manner_of a (restore set how) old new = each (λ command. command ≡ Reading)
 manner_of a (report form) old new = each (λ command. command ≡ Reading)
 manner_of a examine old new = each (λ command. command ≡ Reading)
+manner_of a (expire rules) old new = one (IsExpiryBy rules old.clock.least)
 
 -- the command's own words name what they have to
 abbrev pub WordsFit : Asked → Request → Type 0
@@ -119,6 +127,7 @@ WordsFit a (backup_running how) = Unit {0}
 WordsFit a (restore set how) = (label : Option Label) × TellsSet set label
 WordsFit a (report form) = Unit {0}
 WordsFit a examine = Unit {0}
+WordsFit a (expire rules) = Unit {0}
 
 -- what a backup finds as its own part begins
 abbrev pub found_by : Asked → ℕ → Known → Control → Before
@@ -155,6 +164,7 @@ CommandCause a (backup workers) old new (Take fault) = OnCluster old.nodes (λ t
 CommandCause a (backup_running how) old new (TakeOnline fault) = OnCluster old.nodes (λ told. OnlineCause (asked_by a how old new told) fault)
 CommandCause a (restore set how) old new (Recover fault) = RestoreCause a set how old fault
 CommandCause a examine old new (Examine fault) = ExamineCause a.stanza old.repo fault
+CommandCause a (expire rules) old new (Prune fault) = PruneCause a.stanza old.repo fault
 CommandCause a request old new fault = ⊥
 
 -- Ok of stanza-create: the stanza is made, or was there; and where a server is asked it was asked at its socket and is of the folder's system
@@ -176,6 +186,10 @@ pub record Restores (a : Asked) (set : Option Text) (how : RestoreHow) (old new 
   pub recovers : OnFinished outcome (Recovers (found_for a label how old) new.nodes)
   pub gives : (s : Stanza) (f : Content) → old.repo ≡ Some f → NowStands a.stanza (Some s) old.repo → OnFinished outcome (GivesBackup s (found_for a label how old) f new.nodes)
 
+-- Ok of expire: all is gone that the rules let go at the moment that the clock told, and the lines tell it
+abbrev pub Removes : Text → Rules → Known → Known → Outcome → Type 0
+Removes stanza rules old new outcome = (moment : ℕ) × TellsMoment rules.full old.clock new.clock moment × OnFinished outcome (IsPruned stanza rules moment old.repo new.repo)
+
 -- what a command promises where it ends well
 abbrev pub Promise : Asked → Request → Known → Known → Outcome → Type 0
 Promise a create old new outcome = Creates a old new outcome
@@ -189,6 +203,7 @@ Promise a (restore set how) old new outcome = Restores a set how old new outcome
 Promise a (report form) old new outcome = OnFinished outcome (IsReported a.stanza form old.repo)
     × OnStanza a old.repo (λ s. OnFinished outcome (ReportsStanza form a.stanza s))
 Promise a examine old new outcome = IsExamined a.stanza old.repo outcome × EndsWithNone a.stanza old.repo outcome
+Promise a (expire rules) old new outcome = Removes a.stanza rules old new outcome
 
 -- what a command that settles what it looks at alone promises of all that a crash leaves: a pushed file is alike in it, and what archive-get answers holds of it
 abbrev pub Lasts : Asked → Request → Option Nodes → View → Option Nodes → Outcome → Type 0
@@ -208,6 +223,7 @@ OnReader (backup_running how) P = Unit {0}
 OnReader (restore set how) P = P
 OnReader (report form) P = P
 OnReader examine P = P
+OnReader (expire rules) P = Unit {0}
 
 -- this holds of stanza-create
 abbrev pub OnCreate : Request → Type 0 → Type 0
@@ -215,6 +231,21 @@ OnCreate create P = P
 OnCreate other P = Unit {0}
 
 -- this holds of a command that asks no server
+-- this holds of expire
+abbrev pub OnExpire : Request → (Rules → Type 0) → Type 0
+OnExpire (expire rules) P = P rules
+OnExpire other P = Unit {0}
+
+-- What expire may change, after every answer and at each moment.
+pub record Expires (stanza : Text) (rules : Rules) (least : ℕ) (old new : View) : Type 0 where
+  -- whatever the disk holds: the backup pair, folders of labels, and files of the archive that aren't histories of timelines
+  pub only : ChangesOnly (MayExpire stanza) old new
+  -- of a stanza, by the rules at some moment: of these no folder of a label that is listed in the end, and no file that is needed then
+  pub moment : ℕ
+  pub may_be : IsMoment rules.full least moment
+  pub touches : (s : Stanza) → IsSome old.now → NowStands stanza (Some s) old.now → ChangesOnly (IsTouched stanza rules moment s) old new
+
+-- this holds of a command other than stanza-create
 abbrev pub OnOther : Request → Type 0 → Type 0
 OnOther create P = Unit {0}
 OnOther (backup_running how) P = Unit {0}
@@ -226,7 +257,7 @@ FolderGoes a (get name path) old new = ChangesPath (served_path a.data_folder pa
 FolderGoes a (restore set how) old new = (new ≡ old.nodes) ⊎ (HasNone control_path new ⊎ ((m : Manifest) × IfSome new (IsFinished a.stanza (take how.workers old.links) (options_by a.stanza how.delta how.recovery) m old.nodes)))
 FolderGoes a request old new = new ≡ old.nodes
 
--- only a backup and a restore use workers, a backup the clock, and that of a running server waits for turns of others
+-- only a backup and a restore use workers, a backup the clock, and that of a running server waits for turns of others; expire uses the clock where the rules count days
 abbrev pub uses_workers : Request → Bool
 uses_workers (backup workers) = true
 uses_workers (backup_running how) = true
@@ -236,6 +267,7 @@ uses_workers request = false
 abbrev pub uses_clock : Request → Bool
 uses_clock (backup workers) = true
 uses_clock (backup_running how) = true
+uses_clock (expire rules) = counts_days rules.full
 uses_clock request = false
 
 abbrev pub uses_turns : Request → Bool

@@ -5,16 +5,17 @@ use Rattle.pgb_worker_dispatch.specs.Run.{AreReady}
 use Rattle.pgb_model.specs.Text.{Text}
 use Rattle.pgb_options.specs.declared.options.Options.{Options}
 use Rattle.pgb_create.specs.Server.{server_view}
+use Rattle.pgb_prune.specs.Rules.{rules_by}
 use Rattle.pgb_recover.specs.declared.order.RecoverOrder.{RecoverOrder}
 use Rattle.pgb_recover.specs.Fetching.{recovery_type}
 use Rattle.pgb_recover.specs.Words.{TellsSet}
 use Rattle.pgb_command.specs.declared.settings.Settings.{Settings}
 use Rattle.pgb_command.specs.declared.settings.Request as code
-use Rattle.pgb_command.specs.declared.settings.Request.TheVariants.{StanzaCreate, ArchivePush, ArchiveGet, Backup, BackupRunning, Restore, Info, Verify}
+use Rattle.pgb_command.specs.declared.settings.Request.TheVariants.{StanzaCreate, ArchivePush, ArchiveGet, Backup, BackupRunning, Restore, Info, Verify, Expire}
 use Rattle.pgb_command.specs.declared.order.Order.{Order}
 use Rattle.pgb_command.specs.declared.order.RunningOrder.{RunningOrder}
 use Rattle.pgb_command.specs.declared.order.Order.TheVariants as order
-use Rattle.pgb_command.specs.Asked.{Request, create, push, get, backup, backup_running, restore, report, examine, RunningHow, RestoreHow, Asked, Wanted}
+use Rattle.pgb_command.specs.Asked.{Request, create, push, get, backup, backup_running, restore, report, examine, expire, RunningHow, RestoreHow, Asked, Wanted}
 
 -- the workers can be numbered, and none has bytes of an earlier answer to give
 pub record AreWorkers (links : List LinkState) : Type 0 where
@@ -30,6 +31,7 @@ request_of (BackupRunning workers fast turns) = backup_running (record { workers
 request_of (Restore set workers delta recovery) = restore (option_map (λ w. w.now) set) (record { workers = workers; delta = delta; recovery = recovery_type recovery })
 request_of (Info form) = report form
 request_of Verify = examine
+request_of (Expire rules) = expire rules
 
 -- how a command goes on by its options
 abbrev pub wanted_told : Options → Wanted
@@ -47,6 +49,7 @@ wanted_told o = record {
   workers = o.process_max;
   fast = o.start_fast;
   turns = o.archive_timeout;
+  rules = rules_by o;
 }
 
 abbrev pub asked_of : Settings → Asked
@@ -70,4 +73,5 @@ IsOrder (backup_running how) folder (order.BackupRunning o) = (o.take.data_folde
 IsOrder (restore set how) folder (order.Restore o) = (o.data_folder.now ≡ folder) × (how_of o ≡ how) × TellsSet set o.set
 IsOrder (report form) folder (order.Info asked) = asked ≡ form
 IsOrder examine folder order.Verify = Unit {0}
+IsOrder (expire rules) folder (order.Expire asked) = asked ≡ rules
 IsOrder request folder other = ⊥

@@ -12,6 +12,7 @@ ghost use Rattle.pgb_command.specs.Told.{request_of, asked_of, wanted_told};
 use crate::server::server_of;
 use crate::settings::{Request, Settings};
 use pgb_options::{Command, KindWord, Options, RestoreWord};
+use pgb_prune::rules_of;
 use pgb_recover::RecoveryType;
 use pgb_stage::{Pairs, Plan, Settling, Unbuilt};
 use pgb_table::Verb;
@@ -148,6 +149,9 @@ fn request_of(command: &Command) -> Result<Request<'_>, Unbuilt>
             form: command.options.output,
         }),
         Verb::Verify => Ok(Request::Verify),
+        Verb::Expire => Ok(Request::Expire {
+            rules: rules_of(&command.options),
+        }),
         verb => Err(Unbuilt::Command(verb)),
     }
 }
@@ -218,5 +222,9 @@ pub(crate) fn plan_of(request: &Request<'_>) -> Plan
         },
         Request::Info { .. } => reading,
         Request::Verify => reading,
+        Request::Expire { .. } => Plan {
+            backup_lock: true,
+            ..reading
+        },
     }
 }

@@ -1,12 +1,13 @@
 // What a command answers in place of Ok, by layers.
 ghost use Rattle.std.specs.Prelude.{◌≡◌};
 ghost use Rattle.pgb_command.specs.Answers.{status_of, usage_status, command_status};
-ghost use Rattle.pgb_command.specs.Faults.{lift, of_stage, of_create, of_push, of_get, of_take, of_take_online, of_recover, of_examine};
+ghost use Rattle.pgb_command.specs.Faults.{lift, of_stage, of_create, of_push, of_get, of_take, of_take_online, of_recover, of_examine, of_prune};
 
 use pgb_create::{CreateFault, create_status};
 use pgb_examine::{ExamineFault, examine_status};
 use pgb_get::{GetFault, get_status};
 use pgb_options::Usage;
+use pgb_prune::{PruneFault, prune_status};
 use pgb_push::{PushFault, push_status};
 use pgb_recover::{RecoverFault, recover_status};
 use pgb_stage::{Halt, Object, Outcome, StageFault, object_status, stage_status};
@@ -24,6 +25,7 @@ pub enum CommandFault {
     TakeOnline(OnlineTakeFault),
     Recover(RecoverFault),
     Examine(ExamineFault),
+    Prune(PruneFault),
 }
 
 /// Why a command is refused, in the order in which refusals come; or which object failed; or that there is no memory.
@@ -184,6 +186,21 @@ impl From<Halt<ExamineFault>> for Fault {
     }
 }
 
+impl From<Halt<PruneFault>> for Fault {
+    ghost use Rattle.std.specs.Prelude.{◌≡◌};
+    ghost use Rattle.pgb_command.specs.Faults.{of_prune};
+
+    ghost from_gives = { λ h e. e ≡ of_prune h };
+
+    fn from(halt: Halt<PruneFault>) -> Self {
+        match halt {
+            Halt::Refused(fault) => Fault::Command(CommandFault::Prune(fault)),
+            Halt::Failed(object) => Fault::Failed(object),
+            Halt::NoMemory => Fault::NoMemory,
+        }
+    }
+}
+
 /// How stanza-create ended.
 pub(crate) fn create_end(ended: Result<Outcome, Halt<CreateFault>>) -> Result<Outcome, Fault>
     ensures { result ≡ lift of_create ended }
@@ -266,6 +283,16 @@ pub(crate) fn examine_end(ended: Result<Outcome, Halt<ExamineFault>>) -> Result<
     }
 }
 
+/// How expire ended.
+pub(crate) fn prune_end(ended: Result<Outcome, Halt<PruneFault>>) -> Result<Outcome, Fault>
+    ensures { result ≡ lift of_prune ended }
+{
+    match ended {
+        Ok(outcome) => Ok(outcome),
+        Err(halt) => Err(Fault::from(halt)),
+    }
+}
+
 // The status of words or a configuration that are refused.
 fn usage_status(usage: &Usage) -> u8
     ensures { result ≡ usage_status usage.now }
@@ -296,6 +323,7 @@ fn command_status(fault: &CommandFault) -> u8
         CommandFault::TakeOnline(fault) => online_take_status(fault),
         CommandFault::Recover(fault) => recover_status(fault),
         CommandFault::Examine(fault) => examine_status(fault),
+        CommandFault::Prune(fault) => prune_status(fault),
     }
 }
 

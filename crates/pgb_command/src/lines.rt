@@ -7,6 +7,7 @@ use pgb_create::create_message;
 use pgb_examine::examine_message;
 use pgb_get::get_message;
 use pgb_options::Usage;
+use pgb_prune::prune_message;
 use pgb_push::push_message;
 use pgb_recover::recover_message;
 use pgb_stage::{Object, bytes_of, object_message, push_shown, quoted, stage_message};
@@ -52,6 +53,7 @@ fn command_message(alloc: Global, fault: &CommandFault) -> Result<Vec<u8>, NoMem
         CommandFault::TakeOnline(fault) => online_take_message(alloc, fault),
         CommandFault::Recover(fault) => recover_message(alloc, fault),
         CommandFault::Examine(fault) => examine_message(alloc, fault),
+        CommandFault::Prune(fault) => prune_message(alloc, fault),
     }
 }
 

@@ -9,6 +9,7 @@ use pgb_get::{GetOrder, get_order};
 use pgb_options::OutputWord;
 use pgb_push::{PushOrder, push_order};
 use pgb_recover::{RecoverOrder, recover_order};
+use pgb_retain::Rules;
 use pgb_take::TakeOrder;
 use std::alloc::Global;
 
@@ -32,6 +33,7 @@ pub enum Order<'a> {
     Restore(RecoverOrder<'a>),
     Info(OutputWord),
     Verify,
+    Expire(Rules),
 }
 
 /// Reads the command's own words. They are refused before anything is opened.
@@ -83,5 +85,6 @@ pub(crate) fn order_of<'a>(alloc: Global, settings: &Settings<'a>) -> Result<Ord
         )?)),
         Request::Info { form } => Ok(Order::Info(form)),
         Request::Verify => Ok(Order::Verify),
+        Request::Expire { rules } => Ok(Order::Expire(rules)),
     }
 }

@@ -2,15 +2,15 @@
 ghost use Rattle.std.specs.Prelude.{◌≡◌, None, map};
 ghost use Rattle.pgb_stage.specs.Plans.{AreHeld};
 ghost use Rattle.pgb_prepare.specs.Readies.{IsReady};
-ghost use Rattle.pgb_command.specs.Asked.{create as asks_create, push as asks_push, get as asks_get, backup as asks_backup, report as asks_report, examine as asks_examine};
+ghost use Rattle.pgb_command.specs.Asked.{create as asks_create, push as asks_push, get as asks_get, backup as asks_backup, report as asks_report, examine as asks_examine, expire as asks_expire};
 ghost use Rattle.pgb_command.specs.Did.{Ran};
 ghost use Rattle.pgb_command.specs.Told.{request_of, asked_of, AreWorkers, IsOrder};
 ghost use Rattle.pgb_command.specs.declared.order.Order.TheVariants.{BackupRunning as BackupRunningOrder, Restore as RestoreOrder};
 ghost use Rattle.pgb_command.specs.Tables.{plan_of};
 
 use crate::fault::{
-    Fault, create_end, examine_end, get_end, inform_end, push_end, recover_end, take_end,
-    take_online_end,
+    Fault, create_end, examine_end, get_end, inform_end, prune_end, push_end, recover_end,
+    take_end, take_online_end,
 };
 use crate::order::RunningOrder;
 use crate::outside::{Outside, Told};
@@ -22,8 +22,10 @@ use pgb_inform::report_stanza;
 use pgb_options::OutputWord;
 use pgb_outside::{Clock, Disk, Link, Locks, Sink, Source, Tree, Turns, Wire};
 use pgb_prepare::Ready;
+use pgb_prune::prune_stanza;
 use pgb_push::{PushOrder, push_file};
 use pgb_recover::{RecoverOrder, recover_backup};
+use pgb_retain::Rules;
 use pgb_stage::Outcome;
 use pgb_take::{TakeOrder, take_backup};
 use pgb_take_online::{OnlineOrder, take_online};
@@ -334,5 +336,37 @@ impl<
             unreachable!();
         };
         examine_end(examine_stanza(alloc, &mut self.repo, settings.stanza, backup))
+    }
+
+    /// expire.
+    pub(crate) fn prune(
+        &mut self,
+        alloc: Global,
+        settings: &Settings<'_>,
+        rules: &Rules,
+        ready: Ready,
+    ) -> Result<Outcome, Fault>
+        requires request { request_of settings.now.request ≡ asks_expire rules.now }
+        requires locked { AreHeld (plan_of (request_of settings.now.request)) settings.now.stanza.now
+            (K.state self.old.locks).taken }
+        requires ready { IsReady (plan_of (request_of settings.now.request)) settings.now.stanza.now
+            (D.state self.old.repo).view.now (T.state self.old.tree).nodes ready }
+        ensures ran { let told = ⟦<Outside<D, S, T, V, A, C, K, I, O, L, U> as Told>⟧.told in
+            Ran (asked_of settings.now) (told self.old) (told self.new) result }
+        ensures rest { self.new ≡ record self.old { repo = self.new.repo; clock = self.new.clock } }
+    {
+        let (Some(archive), Some(backup)) = (ready.archive, ready.backup) else {
+            unreachable!();
+        };
+        prune_end(prune_stanza(
+            alloc,
+            &mut self.repo,
+            &mut self.clock,
+            &self.locks,
+            settings.stanza,
+            rules,
+            archive,
+            backup,
+        ))
     }
 }

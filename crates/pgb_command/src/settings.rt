@@ -6,6 +6,7 @@ ghost use Rattle.pgb_command.specs.Serving.{is_served};
 use pgb_create::Server;
 use pgb_options::OutputWord;
 use pgb_recover::RecoveryType;
+use pgb_retain::Rules;
 
 /// Which command is asked for.
 #[derive(Clone, Copy)]
@@ -45,6 +46,10 @@ pub enum Request<'a> {
     },
     /// What deviates in the repository is told.
     Verify,
+    /// What these rules don't keep is removed.
+    Expire {
+        rules: Rules,
+    },
 }
 
 /// What a command is told.

@@ -328,6 +328,7 @@ impl<
             Order::Restore(order) => self.recover(alloc, settings, &order, &ready),
             Order::Info(form) => self.inform(alloc, settings, form, &ready),
             Order::Verify => self.examine(alloc, settings, &ready),
+            Order::Expire(rules) => self.prune(alloc, settings, &rules, ready),
         }
     }
 }

@@ -2,11 +2,12 @@
 use Rattle.std.proofs.Common.{◌≡◌, ◌≢◌, ◌⊎◌, inl, inr, ℕ, ◌≤◌, arith, is_some, map, string_bytes, ap, [], Some, None, Bool, true, false, List, ◌∷◌, ◌++◌, Option, refl, sym, subst}
 use Rattle.pgb_outside.specs.Content.{Content}
 use Rattle.pgb_outside.specs.Links.{LinkState}
+use Rattle.pgb_outside.specs.States.{ClockState}
 use Rattle.pgb_outside.specs.Tree.{Nodes}
 use Rattle.pgb_model.specs.Text.{Text}
 use Rattle.pgb_story.specs.Story.{Disks, Call, stopped, Does, AreStill, AreFair, KeepsAll, LeaveAll}
 use Rattle.pgb_story.proofs.Kept.{all_keep, all_leave, all_still, all_rest, opened_keep}
-use Rattle.pgb_command.specs.Asked.{Request, create, push, get, backup, backup_running, restore, report, examine, Asked}
+use Rattle.pgb_command.specs.Asked.{Request, create, push, get, backup, backup_running, restore, report, examine, expire, Asked}
 use Rattle.pgb_command.specs.Tables.{Known, TurnsTold, uses_turns}
 use Rattle.pgb_headline.specs.declared.playing.Act.{Act}
 use Rattle.pgb_headline.specs.Lists.{IsLeft, CallGoes, AskNoTurns, WaitForNone, files_of}
@@ -56,21 +57,21 @@ module _ {X W : Type 0} (text_of : List W → List Text) (given words : List W) 
   )
 
 -- the same, of a call of which the objects held this before
-abbrev CallWent : List Text → Option Content → Option Nodes → List LinkState → ℕ → List Call → Disks → Disks → Type 0
-CallWent words files nodes links status before old new = (k : Known) × (l : Known) × (k.nodes ≡ nodes) × (k.links ≡ links) × Went words files k l status before old new
+abbrev CallWent : List Text → Option Content → Option Nodes → List LinkState → ClockState → ℕ → List Call → Disks → Disks → Type 0
+CallWent words files nodes links clock status before old new = (k : Known) × (l : Known) × (k.nodes ≡ nodes) × (k.links ≡ links) × (k.clock ≡ clock) × Went words files k l status before old new
 
-module _ {X W : Type 0} (text_of : List W → List Text) (given words : List W) (is : given ≡ words) (files : Option Content) (nodes : Option Nodes) (links : List LinkState) (status : ℕ) (before : List Call) (old new : Disks)
-    (x : CallWent (text_of given) files nodes links status before old new) (halt : Option X) where
-  pub call_ends : halt ≡ None → (after : List Call) × CallGoes (text_of words) files nodes links status (is_some halt) before after × KeepsAll after new
+module _ {X W : Type 0} (text_of : List W → List Text) (given words : List W) (is : given ≡ words) (files : Option Content) (nodes : Option Nodes) (links : List LinkState) (clock : ClockState) (status : ℕ) (before : List Call) (old new : Disks)
+    (x : CallWent (text_of given) files nodes links clock status before old new) (halt : Option X) where
+  pub call_ends : halt ≡ None → (after : List Call) × CallGoes (text_of words) files nodes links clock status (is_some halt) before after × KeepsAll after new
   call_ends none =
-      let y = ends_here text_of given words is files x.0 x.1 status before old new x.4 halt none in
-      (y.0, (x.0, x.1, x.2, x.3, y.1), y.2)
+      let y = ends_here text_of given words is files x.0 x.1 status before old new x.5 halt none in
+      (y.0, (x.0, x.1, x.2, x.3, x.4, y.1), y.2)
 
   pub call_stops : (h : X) → halt ≡ Some h → (opened : Disks) (from spool_from t u : ℕ) → from ≡ old.repo.moment → spool_from ≡ old.spool.moment → IsLeft new.repo from t opened.repo → IsLeft new.spool spool_from u opened.spool
-      → (after : List Call) × CallGoes (text_of words) files nodes links status (is_some halt) before after × KeepsAll after opened
+      → (after : List Call) × CallGoes (text_of words) files nodes links clock status (is_some halt) before after × KeepsAll after opened
   call_stops h some opened from spool_from t u is_from is_spool_from r s =
-      let y = stops_here text_of given words is files x.0 x.1 status before old new x.4 halt h some opened from spool_from t u is_from is_spool_from r s in
-      (y.0, (x.0, x.1, x.2, x.3, y.1), y.2)
+      let y = stops_here text_of given words is files x.0 x.1 status before old new x.5 halt h some opened from spool_from t u is_from is_spool_from r s in
+      (y.0, (x.0, x.1, x.2, x.3, x.4, y.1), y.2)
 
 -- who waits for no turns needs none told
 pub turns_none : (a : Asked) (request : Request) (new : Known) → uses_turns request ≡ false → TurnsTold a request new
@@ -82,6 +83,7 @@ turns_none a (backup_running how) new none = cc
 turns_none a (restore set how) new none = tt
 turns_none a (report form) new none = tt
 turns_none a examine new none = tt
+turns_none a (expire rules) new none = tt
 
 -- of the words as they were given too
 pub ask_none : {W : Type 0} (text_of : List W → List Text) (given words : List W) → given ≡ words → (files : Option Content) → AskNoTurns (text_of words) files → AskNoTurns (text_of given) files

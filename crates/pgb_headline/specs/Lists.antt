@@ -4,6 +4,8 @@ use Rattle.pgb_outside.specs.Content.{Content}
 use Rattle.pgb_outside.specs.Moments.{View, IsImage}
 use Rattle.pgb_outside.specs.Tree.{Nodes}
 use Rattle.pgb_outside.specs.Links.{LinkState}
+use Rattle.pgb_outside.specs.States.{ClockState}
+use Rattle.pgb_memory.specs.declared.clock.MemClock.{MemClock}
 use Rattle.pgb_memory.specs.declared.source.MemSource.{MemSource}
 use Rattle.pgb_memory.specs.declared.tree.MemTree.{MemTree}
 use Rattle.pgb_memory.specs.Held.{view_of}
@@ -34,6 +36,10 @@ nodes_of t = Some (nodes_at t.nodes)
 abbrev pub links_of : Workers → List LinkState
 links_of w = map state_of w.links.items
 
+-- what a clock tells
+abbrev pub clock_of : MemClock → ClockState
+clock_of c = record { least = c.least; faults = c.failing.faults }
+
 -- the second disk was opened anew on what a stop of the first one left, at that moment, which isn't before this one
 pub record IsLeft (v : View) (first moment : ℕ) (opened : View) : Type 0 where
   pub content : Content
@@ -43,13 +49,13 @@ pub record IsLeft (v : View) (first moment : ℕ) (opened : View) : Type 0 where
   pub reopened : IsReopened content opened
 
 -- the log goes on by a call with these words, of which the objects held this before
-abbrev pub CallGoes : List Text → Option Content → Option Nodes → List LinkState → ℕ → Bool → List Call → List Call → Type 0
-CallGoes words files nodes links status was_stopped before after =
-    (old : Known) × (new : Known) × (old.nodes ≡ nodes) × (old.links ≡ links) × GoesOn words files old new status was_stopped before after
+abbrev pub CallGoes : List Text → Option Content → Option Nodes → List LinkState → ClockState → ℕ → Bool → List Call → List Call → Type 0
+CallGoes words files nodes links clock status was_stopped before after =
+    (old : Known) × (new : Known) × (old.nodes ≡ nodes) × (old.links ≡ links) × (old.clock ≡ clock) × GoesOn words files old new status was_stopped before after
 
 -- it goes on by the act, which ended with this status, or would have
 abbrev pub ActGoes : Act → ℕ → List Call → List Call → Type 0
-ActGoes x status before after = CallGoes (map string_bytes x.words.items) (files_of x.config) (nodes_of x.tree) (links_of x.workers) status (is_some x.halt) before after
+ActGoes x status before after = CallGoes (map string_bytes x.words.items) (files_of x.config) (nodes_of x.tree) (links_of x.workers) (clock_of x.clock) status (is_some x.halt) before after
 
 -- the words ask for no command that waits for turns of others
 abbrev pub AskNoTurns : List Text → Option Content → Type 0

@@ -6,7 +6,7 @@ ghost use Rattle.pgb_model.proofs.Reopened.{IsReopened};
 ghost use Rattle.pgb_story.specs.Story.{Call, KeepsAll};
 ghost use Rattle.pgb_command.specs.Tables.{Known};
 ghost use Rattle.pgb_headline.specs.Acts.{Went};
-ghost use Rattle.pgb_headline.specs.Lists.{views, files_of, nodes_of, links_of, IsLeft, ActGoes, AskNoTurns};
+ghost use Rattle.pgb_headline.specs.Lists.{views, files_of, nodes_of, links_of, clock_of, IsLeft, ActGoes, AskNoTurns};
 
 use crate::calling::called;
 use crate::workers::Workers;
@@ -99,7 +99,7 @@ fn call_on(
     ensures went { AskNoTurns (map string_bytes words.now) (files_of config)
         → (before : List Call) → KeepsAll before (views disks)
         → (old : Known) × (new : Known) × (old.nodes ≡ nodes_of tree) × (old.links ≡ links_of workers)
-        × Went (map string_bytes words.now) (files_of config) old new result.1 before
+        × (old.clock ≡ clock_of clock) × Went (map string_bytes words.now) (files_of config) old new result.1 before
         (views disks) (views result.0) }
 {
     let Disks { repo, spool } = disks;

@@ -50,7 +50,7 @@ not_end (Err (Failed object)) h is at = back_not (fails_early object) at
 not_end (Err NoMemory) h is at = let e : stopped ≡ to_end = at in cc
 
 -- a moment by which the rules may be read
-some_moment : (full : FullRule) (least : ℕ) → (moment : ℕ) × IsMoment full least moment
+pub some_moment : (full : FullRule) (least : ℕ) → (moment : ℕ) × IsMoment full least moment
 some_moment Unset least = (zero, refl)
 some_moment (Count n) least = (zero, refl)
 some_moment (Days n) least = (least, omega arith)

@@ -22,6 +22,9 @@ const PUSH_OTHER: &str =
 const BACKUP: &str =
     "--stanza=demo --pg1-path=pg --repo1-path=repo --lock-path=lock --no-online --type=full --no-expire-auto backup";
 
+const EXPIRE: &str =
+    "--stanza=demo --repo1-path=repo --lock-path=lock --repo1-retention-full=1 expire";
+
 const VERIFY: &str = "--stanza=demo --repo1-path=repo verify";
 
 const RESTORE: &str = "--stanza=demo --pg1-path=pg --repo1-path=repo --type=none restore";
@@ -96,6 +99,38 @@ fn backups_go_on_behind_a_stop(rt: HostRuntime) {
         same(&rt, manifest.is_some(), true);
     }
     panic!(&rt; "a backup has no last moment");
+}
+
+// An expiry of the first of two backups is stopped at each of its moments. The next one removes the rest, and the backup
+// that stays has its bytes.
+#[test]
+fn expiries_go_on_behind_a_stop(rt: HostRuntime) {
+    let alloc = rt.alloc();
+    let words = [CREATE, PUSH, BACKUP, BACKUP, EXPIRE, EXPIRE, VERIFY];
+    let made = well(&rt, calls(alloc, &[CREATE, PUSH, BACKUP, BACKUP], 9, 0));
+    let first = well(&rt, played(alloc, made)).0.repo.moment();
+    for number in 0..200u64 {
+        let moment = first.saturating_add(number);
+        let acts = well(&rt, calls(alloc, &words, 4, moment));
+        let (disks, statuses) = match played(alloc, acts) {
+            Ok(end) => end,
+            Err(fault) => {
+                same(&rt, (fault, 8 < number), (PlayFault::Moment, true));
+                return;
+            }
+        };
+        same(&rt, statuses.as_slice(), &[0, 0, 0, 0, 0, 0, 0]);
+        let gone = disks
+            .repo
+            .bytes("backup/demo/20240102-030407F/pg_data/PG_VERSION");
+        same(&rt, gone, None);
+        let left = disks
+            .repo
+            .bytes("backup/demo/20240102-030408F/pg_data/PG_VERSION");
+        same(&rt, left, Some(b"16\n".as_slice()));
+        same(&rt, disks.repo.bytes(STORED), Some(b"hello".as_slice()));
+    }
+    panic!(&rt; "an expiry has no last moment");
 }
 
 // With these words, into a folder that holds this file, by a worker that reads these bytes of the version file, and of whose link

@@ -110,6 +110,7 @@ fn is_built(verb: Verb) -> bool {
             | Verb::ArchiveGet
             | Verb::Backup
             | Verb::Restore
+            | Verb::Expire
             | Verb::Verify
             | Verb::Info
     )
