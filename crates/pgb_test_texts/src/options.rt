@@ -2,8 +2,8 @@
 
 use crate::same::{same, same_of};
 use pgb_options::{
-    Command, ConfigPath, KindWord, Options, OutputWord, RestoreWord, RetentionWord, Usage, config_path,
-    settle_words,
+    Command, ConfigPath, KindWord, Options, OutputWord, RestoreWord, RetentionWord, Usage,
+    config_path, settle_words,
 };
 use pgb_table::Verb;
 use std::alloc::{AllocError, Global};
