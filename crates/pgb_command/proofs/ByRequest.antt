@@ -9,6 +9,7 @@ use Rattle.pgb_turn.specs.Turns.{Account, OthersState, Turned}
 use Rattle.pgb_await.specs.Went.{turns_of}
 use Rattle.pgb_outside.specs.Tree.{Nodes}
 use Rattle.pgb_archive.specs.Still.{IsStill}
+use Rattle.pgb_model.specs.Text.{Text}
 use Rattle.pgb_model.specs.Steps.{Command, MakeBackup}
 use Rattle.pgb_stage.specs.Plans.{OnReading}
 use Rattle.pgb_stage.specs.Runs.{On}

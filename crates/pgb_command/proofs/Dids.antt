@@ -91,7 +91,7 @@ closes_from b m k same le (OfCommand (TakeOnline fault)) (inr h) = inr (⊎_elim
 closes_from b m k same le (OfCommand (Recover fault)) h = tt
 closes_from b m k same le (OfCommand (Examine fault)) h = tt
 closes_from b m k same le (OfCommand (Prune fault)) h = tt
-closes_from b m k le (ObjectFailed object) h = tt
+closes_from b m k same le (ObjectFailed object) h = tt
 closes_from b m k same le NoMemory h = tt
 
 -- what was done before it left these as they were
