@@ -3,8 +3,13 @@
 # expiry that is killed is made good by the next. A backup of a stopped server has no part of the log, so the list is told some here.
 . "$(dirname "$0")/common"
 
+# (restore and info take no lock, and refuse its option)
 program() {
-    "$top/bin/pgbackrest" --stanza=demo --repo1-path="$room/repo" --lock-path="$room/lock" "$@"
+    local word lock=(--lock-path="$room/lock")
+    for word in "$@"; do
+        case $word in info | restore) lock=() ;; esac
+    done
+    "$top/bin/pgbackrest" --stanza=demo --repo1-path="$room/repo" "${lock[@]}" "$@"
 }
 
 back_up() {
@@ -48,11 +53,11 @@ logged() {
     [ -f repo/archive/demo/15-1/00000002.history ] || complain 'the history of a timeline is gone'
 }
 
-# listed LABEL..: just these backups are listed, and just they have a folder.
+# listed LABEL..: just these backups are listed, and just they have files. (Folders without files stay.)
 listed() {
     printf '%s\n' "$@" >wanted
     program info | sed -n 's/^ *full backup: //p' | cmp -s wanted - || complain "other backups are listed than $*"
-    find repo/backup/demo -mindepth 1 -maxdepth 1 -type d | sed 's,.*/,,' | LC_ALL=C sort | cmp -s wanted - || complain "there are other folders than $*"
+    find repo/backup/demo -mindepth 2 -type f | cut -d/ -f4 | LC_ALL=C sort -u | cmp -s wanted - || complain "there are files of others than $*"
 }
 
 # again: the repository as it was before an expiry.
