@@ -106,8 +106,7 @@ impl Noted {
         }
     }
 
-    /// Makes the names in a folder durable that was seen in this state, but where it was synced in this state before, by the
-    /// states that were told or by this process.
+    /// Makes the names in a folder durable that was seen in this state, but where the states that were told have it.
     pub fn sync(
         &mut self,
         place: &Place,
@@ -115,11 +114,7 @@ impl Noted {
         path: &str,
         state: State,
     ) -> io::Result<()> {
-        if told
-            .iter()
-            .chain(&self.synced)
-            .any(|durable| *durable == state)
-        {
+        if told.iter().any(|durable| *durable == state) {
             return Ok(());
         }
         let is_past = self

@@ -38,6 +38,10 @@ impl Settled {
         self.paths.clear();
     }
 
+    fn has(&self, path: &str) -> bool {
+        self.paths.iter().any(|settled| settled.as_str() == path)
+    }
+
     fn add(&mut self, folders: Vec<Folder>) -> io::Result<()> {
         for folder in folders {
             self.paths.push(folder.path).map_err(no_memory)?;
@@ -48,7 +52,7 @@ impl Settled {
 
 /// The names below a folder lie in it, in the folders below it, and, where folders were made, in those that hold it.
 pub fn settle(place: &Place, settled: &mut Settled, folder: &str) -> io::Result<()> {
-    let mut folders = folders_above(place, &settled.paths, folder)?;
+    let mut folders = folders_above(place, settled, folder)?;
     let first = folders.len();
     add_folder(place, place.path_of(folder)?, &mut folders)?;
     let mut next = add_folders_below(place, first, FEW, &mut folders)?;
@@ -67,13 +71,12 @@ pub fn settle(place: &Place, settled: &mut Settled, folder: &str) -> io::Result<
 }
 
 /// The names directly in a folder lie in it; the folder itself lies in those that hold it. What the note tells isn't synced again.
-/// Other processes may have made one of these folders meanwhile, so each is looked at anew.
 pub fn settle_in(place: &Place, settled: &mut Settled, folder: &str) -> io::Result<()> {
-    let mut folders = folders_above(place, &[], folder)?;
+    let mut folders = folders_above(place, settled, folder)?;
     add_folder(place, place.path_of(folder)?, &mut folders)?;
     sync_unless_told(place, &mut settled.noted, &folders)?;
     settled.noted.write(place);
-    Ok(())
+    settled.add(folders)
 }
 
 /// Makes the bytes of these files durable, which are all that lie below the folder.
@@ -121,7 +124,7 @@ fn see_each(noted: &mut Noted, folders: &[Folder]) {
 }
 
 // The folders that hold the folder, up to the root, but for those that are settled.
-fn folders_above(place: &Place, settled: &[String], folder: &str) -> io::Result<Vec<Folder>> {
+fn folders_above(place: &Place, settled: &Settled, folder: &str) -> io::Result<Vec<Folder>> {
     let mut folders = Vec::new(place.rt.alloc());
     let mut above = folder;
     for _ in 0..folder.len() {
@@ -142,11 +145,11 @@ fn folders_above(place: &Place, settled: &[String], folder: &str) -> io::Result<
 
 fn add_above(
     place: &Place,
-    settled: &[String],
+    settled: &Settled,
     path: String,
     folders: &mut Vec<Folder>,
 ) -> io::Result<()> {
-    if settled.iter().any(|other| *other == path) {
+    if settled.has(&path) {
         Ok(())
     } else {
         add_folder(place, path, folders)
