@@ -1,6 +1,7 @@
 mod Ends
 mod OneCluster
 mod Rans
+mod RepositoryRans
 mod Runnings
 mod Expiries
 mod ByRequest

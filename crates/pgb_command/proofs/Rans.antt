@@ -182,7 +182,7 @@ all_none reached P p = go reached
     go stopped = tt
 
 -- of a command that is refused for nothing that a server said
-never_closes : {E : Type 0} (b k : Seen) (of : Halt E → Fault) → ((h : Halt E) → Closes b k (of h)) → (r : Result Outcome (Halt E)) → IfErr (lift of r) (Closes b k)
+pub never_closes : {E : Type 0} (b k : Seen) (of : Halt E → Fault) → ((h : Halt E) → Closes b k (of h)) → (r : Result Outcome (Halt E)) → IfErr (lift of r) (Closes b k)
 never_closes b k of each (Ok x) = tt
 never_closes b k of each (Err h) = each h
 
@@ -204,7 +204,7 @@ none_as turned_back P Q to h = to h
 none_as stopped P Q to h = tt
 
 -- a spool that wasn't used keeps to any stanza
-spool_kept : (stanza : Text) (b k : Seen) → k.spool.view ≡ b.spool.view → StaysBeside stanza b.spool.view k.spool.view
+pub spool_kept : (stanza : Text) (b k : Seen) → k.spool.view ≡ b.spool.view → StaysBeside stanza b.spool.view k.spool.view
 spool_kept stanza b k same = subst (λ (v : View). StaysBeside stanza b.spool.view v) (sym same) (still_beside stanza b.spool.view b.spool.view (still_self b.spool.view))
 
 -- ---- stanza-create
@@ -298,7 +298,7 @@ module _ (a : Asked) (b k : Seen) (rest : k ≡ record b { repo = k.repo; tree =
 
 -- ---- commands that only read
 
-reading_runs : (how : Settling) (stanza : Text) (command : Command) (reached : Reached) (b k : Seen) → command ≡ Reading → IsStill b.repo.view k.repo.view → k.spool.view ≡ b.spool.view → Runs how stanza command reached b.repo.view b.spool.view k.repo.view k.spool.view
+pub reading_runs : (how : Settling) (stanza : Text) (command : Command) (reached : Reached) (b k : Seen) → command ≡ Reading → IsStill b.repo.view k.repo.view → k.spool.view ≡ b.spool.view → Runs how stanza command reached b.repo.view b.spool.view k.repo.view k.spool.view
 reading_runs how stanza command reached b k is still spool = subst (λ (c : Command). Runs how stanza c reached b.repo.view b.spool.view k.repo.view k.spool.view) (sym is) (subst (λ (v : View). Runs how stanza Reading reached b.repo.view b.spool.view k.repo.view v) (sym spool)
     (does_runs how stanza Reading reached b.repo.view k.repo.view b.spool.view (λ q log keeps. reading_spool stanza q log b.spool.view keeps) (reading_does how stanza reached b.repo.view k.repo.view still.time still.now)))
 
@@ -487,119 +487,6 @@ module _ (a : Asked) (b k : Seen) (rest : k ≡ record b { repo = k.repo; tree =
       tt
       (ap (λ (s : Seen). s.clock) rest)
       (never_closes b k of_recover (recover_closes b k) r)
-      places later)
-
-inform_closes : (b k : Seen) (h : Halt StageFault) → Closes b k (of_stage h)
-inform_closes b k (Refused e) = tt
-inform_closes b k (HaltFailed object) = tt
-inform_closes b k HaltMemory = tt
-
-module _ (a : Asked) (b k : Seen) (rest : k ≡ record b { repo = k.repo }) (still : IsStill b.repo.view k.repo.view) (form : OutputWord) (r : Result Outcome (Halt StageFault)) (ended : Result Outcome Fault) (lifted : ended ≡ lift of_stage r) where
-  abbrev informs : Asked
-  informs = with_request a (report form)
-
-  pub informed_ran : a.request ≡ report form → IfOk r (Promise informs (report form) (known b) (known k)) → (failed : Object → Type 0) → ((object : Object) → failed object → Failed b k object) →
-      IfErr r (HaltCause Never failed) → SamePlaces b k → AreLater b k → Ran a b k ended
-  informed_ran is told failed rose cause places later = as_ran a (report form) b k ended is
-      (ran_of informs b k Stage (λ e. true) (λ e. refl) Never (λ e h. h) failed rose r ended lifted
-      (λ command x. reading_runs Whole a.stanza command (reached_by (λ e. true) r) b k x still (ap (λ (s : Seen). s.spool.view) rest))
-      told
-      (any_ok r (λ o. IsLookedAt a.stanza b.repo.view → Unit {0}) (λ o looked. tt))
-      cause
-      (on_all r (StaysHealed informs b k) (record { agree = λ some h. any_some k.repo.view.now; lasts = λ looked h. tt }))
-      (λ others. still_beside a.stanza b.repo.view k.repo.view still)
-      (λ others. spool_kept a.stanza b k (ap (λ (s : Seen). s.spool.view) rest))
-      tt
-      tt
-      still
-      (ap (λ (s : Seen). s.tree.nodes) rest)
-      (all_none (reached_by (λ e. true) r) _ (ap (λ (s : Seen). s.tree.nodes) rest))
-      tt
-      (λ none. ap (λ (s : Seen). s.server) rest)
-      (ap (λ (s : Seen). s.server) rest)
-      (ap (λ (s : Seen). s.others) rest)
-      (ap (λ (s : Seen). s.links) rest)
-      (ap (λ (s : Seen). s.clock) rest)
-      (never_closes b k of_stage (inform_closes b k) r)
-      places later)
-
-examine_closes : (b k : Seen) (h : Halt ExamineFault) → Closes b k (of_examine h)
-examine_closes b k (Refused e) = tt
-examine_closes b k (HaltFailed object) = tt
-examine_closes b k HaltMemory = tt
-
-module _ (a : Asked) (b k : Seen) (rest : k ≡ record b { repo = k.repo }) (still : IsStill b.repo.view k.repo.view) (r : Result Outcome (Halt ExamineFault)) (ended : Result Outcome Fault) (lifted : ended ≡ lift of_examine r) where
-  abbrev examines : Asked
-  examines = with_request a examine
-
-  pub examined_ran : a.request ≡ examine → IfOk r (Promise examines examine (known b) (known k)) → (failed : Object → Type 0) → ((object : Object) → failed object → Failed b k object) →
-      IfErr r (HaltCause (ExamineCause a.stanza b.repo.view.now) failed) → SamePlaces b k → AreLater b k → Ran a b k ended
-  examined_ran is told failed rose cause places later = as_ran a examine b k ended is
-      (ran_of examines b k (λ (e : ExamineFault). OfCommand (Examine e)) examine_early (λ e. refl) (ExamineCause a.stanza b.repo.view.now) (λ e h. h) failed rose r ended lifted
-      (λ command x. reading_runs Whole a.stanza command (reached_by examine_early r) b k x still (ap (λ (s : Seen). s.spool.view) rest))
-      told
-      (any_ok r (λ o. IsLookedAt a.stanza b.repo.view → Unit {0}) (λ o looked. tt))
-      cause
-      (on_all r (StaysHealed examines b k) (record { agree = λ some h. any_some k.repo.view.now; lasts = λ looked h. tt }))
-      (λ others. still_beside a.stanza b.repo.view k.repo.view still)
-      (λ others. spool_kept a.stanza b k (ap (λ (s : Seen). s.spool.view) rest))
-      tt
-      tt
-      still
-      (ap (λ (s : Seen). s.tree.nodes) rest)
-      (all_none (reached_by examine_early r) _ (ap (λ (s : Seen). s.tree.nodes) rest))
-      tt
-      (λ none. ap (λ (s : Seen). s.server) rest)
-      (ap (λ (s : Seen). s.server) rest)
-      (ap (λ (s : Seen). s.others) rest)
-      (ap (λ (s : Seen). s.links) rest)
-      (ap (λ (s : Seen). s.clock) rest)
-      (never_closes b k of_examine (examine_closes b k) r)
-      places later)
-
-prune_closes : (b k : Seen) (h : Halt PruneFault) → Closes b k (of_prune h)
-prune_closes b k (Refused e) = tt
-prune_closes b k (HaltFailed object) = tt
-prune_closes b k HaltMemory = tt
-
-unless_read : (uses : Bool) (P : Type 0) → (uses ≡ false → P) → Unless uses P
-unless_read true P h = tt
-unless_read false P h = h refl
-
-module _ (a : Asked) (b k : Seen) (rest : k ≡ record b { repo = k.repo; clock = k.clock }) (rules : Rules) (r : Result Outcome (Halt PruneFault)) (ended : Result Outcome Fault) (lifted : ended ≡ lift of_prune r) where
-  abbrev prunes : Asked
-  prunes = with_request a (expire rules)
-
-  pub pruned_ran : a.request ≡ expire rules → Prunes a.stanza rules b.clock k.clock b.repo.view k.repo.view r → ChangesOnly (MayExpire a.stanza) b.repo.view k.repo.view → StaysBeside a.stanza b.repo.view k.repo.view →
-      (counts_days rules.full ≡ false → k.clock ≡ b.clock) → (failed : Object → Type 0) → ((object : Object) → failed object → Failed b k object) →
-      IfErr r (HaltCause (PruneCause a.stanza b.repo.view.now) failed) → SamePlaces b k → AreLater b k → Ran a b k ended
-  pruned_ran is p only beside unread failed rose cause places later =
-      let command = Expire (retention rules p.moment) in
-      as_ran a (expire rules) b k ended is
-      (ran_of prunes b k (λ (e : PruneFault). OfCommand (Prune e)) prune_early (λ e. refl) (PruneCause a.stanza b.repo.view.now) (λ e h. h) failed rose r ended lifted (
-        command,
-        (p.moment, p.may_be, refl),
-        subst (λ (v : View). Runs Whole a.stanza command (reached_by prune_early r) b.repo.view b.spool.view k.repo.view v) (sym (ap (λ (s : Seen). s.spool.view) rest))
-            (does_runs Whole a.stanza command (reached_by prune_early r) b.repo.view k.repo.view b.spool.view (λ q log keeps. expiry_spool a.stanza (retention rules p.moment) true q log b.spool.view keeps) p.does),
-      )
-      (removes a.stanza rules p.moment (known b) (known k) r p.told p.pruned)
-      (any_ok r (λ o. IsLookedAt a.stanza b.repo.view → Unit {0}) (λ o looked. tt))
-      cause
-      (on_all r (StaysHealed prunes b k) (record { agree = λ some h. any_some k.repo.view.now; lasts = λ looked h. tt }))
-      (λ others. beside)
-      (λ others. spool_kept a.stanza b k (ap (λ (s : Seen). s.spool.view) rest))
-      tt
-      (record { only = only; moment = p.moment; may_be = p.may_be; touches = p.touches })
-      tt
-      (ap (λ (s : Seen). s.tree.nodes) rest)
-      (all_none (reached_by prune_early r) _ (ap (λ (s : Seen). s.tree.nodes) rest))
-      tt
-      (λ none. ap (λ (s : Seen). s.server) rest)
-      (ap (λ (s : Seen). s.server) rest)
-      (ap (λ (s : Seen). s.others) rest)
-      (ap (λ (s : Seen). s.links) rest)
-      (unless_read (counts_days rules.full) _ unread)
-      (never_closes b k of_prune (prune_closes b k) r)
       places later)
 
 pub both_ok : {E : Type 0} (r : Result Outcome E) (P Q : Outcome → Type 0) → IfOk r P → IfOk r Q → IfOk r (λ o. P o × Q o)

@@ -1,7 +1,8 @@
 use Rattle.std.proofs.Common.{refl, arith}
 use Rattle.pgb_command.specs.Told.{asked_of}
 use Rattle.pgb_command.proofs.Ends.{all_later, only_rose}
-use Rattle.pgb_command.proofs.Rans.{informed_ran, both_ok}
+use Rattle.pgb_command.proofs.Rans.{both_ok}
+use Rattle.pgb_command.proofs.RepositoryRans.{informed_ran}
 use Rattle.pgb_command.proofs.outside.Outside.inform.Goals as goal
 
 pub returns-clause-ran : goal.returns-clause-ran

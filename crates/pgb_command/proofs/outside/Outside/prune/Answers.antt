@@ -1,7 +1,7 @@
 use Rattle.std.proofs.Common.{refl, ap, arith}
 use Rattle.pgb_command.specs.Told.{asked_of}
 use Rattle.pgb_command.proofs.Ends.{rose_to, all_later}
-use Rattle.pgb_command.proofs.Rans.{pruned_ran}
+use Rattle.pgb_command.proofs.RepositoryRans.{pruned_ran}
 use Rattle.pgb_command.proofs.outside.Outside.prune.Goals as goal
 
 pub returns-clause-ran : goal.returns-clause-ran
