@@ -22,7 +22,7 @@ all_behind (One t ∷ xs) ys = ap (λ (l : List Step). t ∷ l) (all_behind xs y
 all_behind (Any groups ∷ xs) ys = ap (λ (l : List Step). flat_map (λ g. g) groups ++ l) (all_behind xs ys) ∙ sym (append_assoc (flat_map (λ g. g) groups) (all_of xs) (all_of ys))
 
 -- a part of the first is a part of both
-part_front : (done : List Step) (xs ys : List Move) → IsPartOf done xs → IsPartOf done (xs ++ ys)
+pub part_front : (done : List Step) (xs ys : List Move) → IsPartOf done xs → IsPartOf done (xs ++ ys)
 part_front done [] ys p = subst (λ (d : List Step). IsPartOf d ys) (sym p) (part_none ys)
 part_front done (One t ∷ xs) ys p = ⊎_elim (λ (e : done ≡ []). inl e) (λ (q : (rest : List Step) × (done ≡ t ∷ rest) × IsPartOf rest xs). inr (q.0, q.1, part_front q.0 xs ys q.2)) p
 part_front done (Any groups ∷ xs) ys p = ⊎_elim (λ (s : IsSomeOf done groups). inl s)

@@ -1,5 +1,5 @@
 -- What a disk that tells what it holds stands for.
-use Rattle.std.specs.Prelude.{◌≡◌, Bool, List, Option, Some, IsSome}
+use Rattle.std.specs.Prelude.{◌≡◌, Bool, List, Option, Some, None, IsSome}
 use Rattle.pgb_outside.specs.Content.{Content}
 use Rattle.pgb_model.specs.declared.clusters.Cluster.{Cluster}
 use Rattle.pgb_model.specs.Text.{Text}
@@ -21,13 +21,14 @@ pub record HasNewPairs (stanza : Text) (c : Cluster) (f : Content) : Type 0 wher
   pub backup : f (backup_info stanza) ≡ Some (first_backup_text c)
   pub backup_copy : f (copy_of (backup_info stanza)) ≡ Some (first_backup_text c)
 
--- what a command asks of the repository that it begins from: an expiry, that it is sound
+-- what a command asks of the repository that it begins from: one with an expiry, that it is sound
 abbrev pub BeginsFrom : Command → Repository → Type 0
 BeginsFrom (StanzaCreate c) r = Unit {0}
 BeginsFrom (ArchivePush n) r = Unit {0}
 BeginsFrom (ArchivePushAsync turns) r = Unit {0}
 BeginsFrom (ArchivePushDrain ns) r = Unit {0}
-BeginsFrom (MakeBackup turns b kept) r = Unit {0}
+BeginsFrom (MakeBackup turns b None) r = Unit {0}
+BeginsFrom (MakeBackup turns b (Some kept)) r = IsSound r
 BeginsFrom (Expire kept) r = IsSound r
 BeginsFrom (Then first second) r = IsSound r
 BeginsFrom Reading r = Unit {0}

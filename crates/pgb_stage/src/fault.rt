@@ -10,8 +10,6 @@ pub enum Unbuilt {
     Command(Verb),
     /// archive-push and archive-get in the background
     Background,
-    /// a backup of a running server
-    Online,
     /// another kind of backup than a full one
     Kind,
     /// a backup that compares digests
