@@ -22,18 +22,6 @@ list() {
     (cd "$1" && find . -type f ! -name settled.note -exec sha1sum {} + | LC_ALL=C sort)
 }
 
-# renew FILE: its checksum is that of its sections.
-renew() {
-    local sum
-    sum=$(awk '
-        /^\[backrest\]$/ && sections > 0 { exit }
-        /^\[/ { text = text (sections++ > 0 ? "}," : "") "\"" substr($0, 2, length($0) - 2) "\":{"; keys = 0; next }
-        /=/ { at = index($0, "="); text = text (keys++ > 0 ? "," : "") "\"" substr($0, 1, at - 1) "\":" substr($0, at + 1) }
-        END { printf "{%s}}", text }
-    ' "$1" | sha1sum | cut -d' ' -f1)
-    sed -i "s/^backrest-checksum=.*/backrest-checksum=\"$sum\"/" "$1"
-}
-
 # span LABEL FROM TO: this is the backup's part of the log, by the numbers of its segments.
 span() {
     local file from to
@@ -53,11 +41,11 @@ logged() {
     [ -f repo/archive/demo/15-1/00000002.history ] || complain 'the history of a timeline is gone'
 }
 
-# listed LABEL..: just these backups are listed, and just they have files. (Folders without files stay.)
+# listed LABEL..: just these backups are listed, and just they have folders.
 listed() {
     printf '%s\n' "$@" >wanted
     program info | sed -n 's/^ *full backup: //p' | cmp -s wanted - || complain "other backups are listed than $*"
-    find repo/backup/demo -mindepth 2 -type f | cut -d/ -f4 | LC_ALL=C sort -u | cmp -s wanted - || complain "there are files of others than $*"
+    find repo/backup/demo -mindepth 1 -maxdepth 1 -type d -printf '%f\n' | LC_ALL=C sort | cmp -s wanted - || complain "there are folders of others than $*"
 }
 
 # again: the repository as it was before an expiry.

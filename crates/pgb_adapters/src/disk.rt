@@ -194,5 +194,26 @@ fn rename_into_folders(
 
 fn remove_name(place: &Place, settled: &mut Settled, name: &str) -> io::Result<()> {
     settled.noted.change(place, name)?;
-    place.remove(name)
+    place.remove(name)?;
+    if name.starts_with("backup/") {
+        remove_empty_folders(place, settled, name);
+    }
+    Ok(())
+}
+
+// Takes away the folders of a backup that held the name alone, up to the stanza's. A folder isn't a name of the disk, so one
+// that stays is no failure. Below the log they stay: another process may just have made one to push into it.
+fn remove_empty_folders(place: &Place, settled: &mut Settled, name: &str) {
+    let mut below = name;
+    for _ in 0..name.len() {
+        let Some((folder, _)) = below.rsplit_once('/') else {
+            return;
+        };
+        let is_of_backup = folder.bytes().filter(|b| *b == b'/').count() >= 2;
+        if !is_of_backup || place.remove_folder(folder).is_err() {
+            return;
+        }
+        settled.forget();
+        below = folder;
+    }
 }

@@ -18,33 +18,37 @@ struct Folder {
     held: Option<u64>,
 }
 
-/// The folders that were synced since a folder was made last: the folders in them have durable names.
+/// The folders that were synced since this process made or removed one, each in its state of then: while it is in that
+/// state the folders in it have durable names.
 #[derive(Drop)]
 pub struct Settled {
-    paths: Vec<String>,
+    folders: Vec<Folder>,
     pub noted: Noted,
 }
 
 impl Settled {
     pub fn new(rt: &HostRuntime) -> Self {
         Settled {
-            paths: Vec::new(rt.alloc()),
+            folders: Vec::new(rt.alloc()),
             noted: Noted::new(rt),
         }
     }
 
-    /// A folder was made, or another root is opened.
+    /// A folder was made or removed, or another root is opened.
     pub fn forget(&mut self) {
-        self.paths.clear();
+        self.folders.clear();
     }
 
-    fn has(&self, path: &str) -> bool {
-        self.paths.iter().any(|settled| settled.as_str() == path)
+    // A file system of whole seconds tells too little: another process may make a folder within the second.
+    fn has(&self, path: &str, state: State) -> bool {
+        state.nanos != 0
+            && self.folders.iter().any(|settled| settled.state == state
+                && settled.path.as_str() == path)
     }
 
     fn add(&mut self, folders: Vec<Folder>) -> io::Result<()> {
         for folder in folders {
-            self.paths.push(folder.path).map_err(no_memory)?;
+            self.folders.push(folder).map_err(no_memory)?;
         }
         Ok(())
     }
@@ -149,18 +153,23 @@ fn add_above(
     path: String,
     folders: &mut Vec<Folder>,
 ) -> io::Result<()> {
-    if settled.has(&path) {
-        Ok(())
-    } else {
-        add_folder(place, path, folders)
+    match folder_at(place, &path)? {
+        Some(told) if !settled.has(&path, State::of(&told)) => push_folder(path, &told, folders),
+        _ => Ok(()),
     }
 }
 
 fn add_folder(place: &Place, path: String, folders: &mut Vec<Folder>) -> io::Result<()> {
-    match unless_absent(fs::metadata(&place.rt, path.as_str()))? {
-        Some(told) if told.is_dir() => push_folder(path, &told, folders),
-        _ => Ok(()),
+    match folder_at(place, &path)? {
+        Some(told) => push_folder(path, &told, folders),
+        None => Ok(()),
     }
+}
+
+// What a folder tells: None where there is none at the path.
+fn folder_at(place: &Place, path: &str) -> io::Result<Option<Metadata>> {
+    let told = unless_absent(fs::metadata(&place.rt, path))?;
+    Ok(told.filter(|told| told.is_dir()))
 }
 
 // The links of a folder are its own name, the dot in it, and the two dots of each folder in it. Where a file system doesn't
