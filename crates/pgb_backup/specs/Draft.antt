@@ -25,6 +25,7 @@ use Rattle.pgb_record.specs.Making.{manifest_with}
 use Rattle.pgb_backup.specs.declared.draft.Draft.{Draft}
 use Rattle.pgb_backup.specs.Online.{Online, part_in, label_path, label_entry}
 
+-- what a drafted backup stands for
 abbrev pub stanza_of : Draft → Text
 stanza_of d = d.stanza.now
 

@@ -16,6 +16,7 @@ use Rattle.pgb_backup.specs.Stored.{Stored}
 
 -- ---- a draft whose jobs are done, and one whose backup has stopped
 
+-- what a staged backup stands for: after its files were read, and after it was closed
 abbrev pub fetched_draft : Fetched → Draft
 fetched_draft f = f.draft
 

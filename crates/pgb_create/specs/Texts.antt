@@ -6,6 +6,7 @@ use Rattle.pgb_server_texts.specs.Texts.{server_status, server_message}
 use Rattle.pgb_create.specs.declared.fault.CreateFault.{CreateFault}
 use Rattle.pgb_create.specs.declared.fault.CreateFault.TheVariants.{Server, InfoDamaged, HistoryDiffers, StanzaMismatch, ArchiveLost}
 
+-- the status and the line of what a new stanza is refused for
 abbrev pub create_status : CreateFault → ℕ
 create_status (Server fault) = server_status fault
 create_status (InfoDamaged name main copy) = 22

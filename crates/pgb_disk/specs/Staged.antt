@@ -4,6 +4,7 @@ use Rattle.pgb_outside.specs.Content.{Name, Content}
 use Rattle.pgb_disk.specs.declared.staging.Staged.{Staged}
 use Rattle.pgb_disk.specs.declared.staging.Staging.{Staging}
 
+-- a file that is being written, and its temporary name
 abbrev pub staged_name : Staged → Name
 staged_name s = string_bytes s.name
 

@@ -4,6 +4,7 @@ use Rattle.pgb_model.specs.Text.{Text}
 use Rattle.pgb_examine.specs.declared.fault.ExamineFault.{ExamineFault}
 use Rattle.pgb_examine.specs.declared.fault.ExamineFault.TheVariants.{TooMany}
 
+-- the status and the line of what a verification is refused for
 abbrev pub examine_status : ExamineFault → ℕ
 examine_status (TooMany limit) = 71
 

@@ -22,6 +22,7 @@ use Rattle.pgb_stanza.specs.declared.fault.StanzaFault.TheVariants as stanzas
 use Rattle.pgb_stanza.specs.Causes.{HistoriesDiffer}
 use Rattle.pgb_expire.specs.declared.fault.ExpireFault.TheVariants.{Info, HistoryDiffers, Disk, NoMemory}
 
+-- which fault of an expiry it is that a list couldn't be read
 abbrev pub fault_of_info : InfoFault → ExpireFault
 fault_of_info InfoDisk = Disk
 fault_of_info InfoNoMemory = NoMemory

@@ -11,6 +11,7 @@ use Rattle.pgb_fill.specs.Files.{temporary_path, kept_of, wanted_of}
 use Rattle.pgb_fill.specs.declared.files.Wanted.{Wanted}
 use Rattle.pgb_fill.specs.declared.keeper.FileKeeper.{FileKeeper}
 
+-- what a keeper that fills a data folder stands for
 abbrev pub state_of : FileKeeper → Option Nodes → KeepState
 state_of k nodes = record { faults = k.faults; jobs = map job_of k.jobs.now; kept = map (kept_of nodes) k.files.items }
 

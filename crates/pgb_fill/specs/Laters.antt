@@ -10,6 +10,7 @@ use Rattle.pgb_fill.specs.declared.keeper.FileKeeper.{FileKeeper}
 use Rattle.pgb_fill.specs.Files.{wanted_of}
 use Rattle.pgb_fill.specs.Keeping.{IsNoneOf, RoseWithin, Later}
 
+-- a keeper is later than itself, and than one before
 pub later_same : (k : FileKeeper) (u : TreeState) → Later k k u u
 later_same k u = record { jobs = refl; wanted = refl; others = λ q none. refl; opened = refl; later = le_refl u.faults; failed = λ some. inl some }
 

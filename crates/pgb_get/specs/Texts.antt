@@ -7,6 +7,7 @@ use Rattle.pgb_stage.specs.Texts.{shown, mismatch_text, long_text}
 use Rattle.pgb_get.specs.declared.fault.GetFault.{GetFault}
 use Rattle.pgb_get.specs.declared.fault.GetFault.TheVariants.{SegmentName, PathOutside, StanzaMismatch, Ambiguous, SegmentDamaged, TooLong}
 
+-- the status of what a fetch is refused for
 abbrev pub get_status : GetFault → ℕ
 get_status (SegmentName name) = 30
 get_status (PathOutside path) = 12

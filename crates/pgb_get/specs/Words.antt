@@ -12,5 +12,6 @@ IsWalName-prop (Partial s) = hlevel props
 IsWalName-prop (History t) = hlevel props
 IsWalName-prop (Backup s offset) = hlevel props
 
+-- words are those of a fetch in one way alone
 pub AreWords-prop : (folder word path : Text) (name : ArchiveName) → IsProp (AreWords folder word path name)
 AreWords-prop folder word path name = hlevel (props, IsWalName-prop)

@@ -9,6 +9,7 @@ use Rattle.pgb_stage.specs.Runs.{Manner, each, one, provided}
 use Rattle.pgb_command.specs.Asked.{Asked, MayAsk}
 use Rattle.pgb_command.specs.Tables.{Known, TurnsTold, manner_of}
 
+-- the two disks
 abbrev pub both : View → View → Disks
 both repo spool = record { repo = repo; spool = spool }
 

@@ -22,6 +22,7 @@ use Rattle.pgb_command.specs.Asked.{Asked, MayAsk}
 use Rattle.pgb_command.specs.Tables.{Known, uses_turns}
 use Rattle.pgb_headline.specs.Acts.{both, GoesOn}
 
+-- what the two disks in memory hold
 abbrev pub views : Pair → Disks
 views d = both (view_of d.repo.held) (view_of d.spool.held)
 

@@ -10,5 +10,6 @@ quiet_prop : (o : Option Told) → IsProp (IfSome o (λ (t : Told). (tree repo :
 quiet_prop None = hlevel props
 quiet_prop (Some t) = hlevel props
 
+-- links are those of workers in one way alone
 pub AreWorkers-prop : (links : List LinkState) → IsProp (AreWorkers links)
 AreWorkers-prop links = hlevel (props, quiet_prop)

@@ -13,6 +13,7 @@ use Rattle.pgb_model.specs.Values.{BackupInfo, Entry}
 use Rattle.pgb_info.specs.Entries.{IsEntry}
 use Rattle.pgb_keys.specs.Agree.{AgreeAt, KeysAgree, KeysAgreeBefore, db, db_history}
 
+-- the section of the listed backups
 abbrev pub backup_current : Text
 backup_current = codes "backup:current"
 

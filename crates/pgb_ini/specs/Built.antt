@@ -5,6 +5,7 @@ use Rattle.std.specs.declared.cmp.Ordering.TheVariants.{Greater}
 use Rattle.std.specs.Cmp.Lexicographic.{slice_cmp}
 use Rattle.serde_json.specs.Data.{Num, unsigned, negative, float, Data, null, boolean, number, string, array, object, Items, no_items, item, Members, no_members, member}
 
+-- a number that fits into 64 bits
 abbrev pub IsBuiltNum : Num → Type 0
 IsBuiltNum (unsigned n) = n < 2 ^ 64
 IsBuiltNum (negative (pos n)) = ⊥

@@ -9,6 +9,7 @@ use Rattle.serde_json.specs.declared.value.Value.{Value}
 use Rattle.pgb_model.specs.InfoText.{Section}
 use Rattle.pgb_ini.specs.declared.part.Part.{Part}
 
+-- what the keys and sections of the code stand for
 abbrev pub key_of : String Global × Value → List ℕ × Data
 key_of k = (string_bytes k.0, view k.1)
 

@@ -6,6 +6,7 @@ use Rattle.pgb_ini.specs.declared.state.State.TheVariants as code
 use Rattle.pgb_ini.specs.Parts.{keys_of, sections_of, NoFloats}
 use Rattle.pgb_ini.specs.Reading.{State, start, format, gap, between, within, check, closing, over}
 
+-- what the reader's state stands for
 abbrev pub state_of : held.State → State
 state_of code.Start = start
 state_of code.Format = format

@@ -8,6 +8,7 @@ use Rattle.pgb_ini.specs.declared.config.Config as held
 use Rattle.pgb_ini.specs.declared.config.ConfigLine.{ConfigLine}
 use Rattle.pgb_ini.specs.Config.{Setting, Row, blank, opens, sets, bad, Config}
 
+-- what the rows and settings of the code stand for
 abbrev pub row_view : code.Row → Row
 row_view rows.Blank = blank
 row_view (rows.Opens name) = opens name.now

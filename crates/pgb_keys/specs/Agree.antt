@@ -42,6 +42,7 @@ IsKeysOf ss name ks = In (record { name = name; keys = ks }) ss ⊎ (((s : Secti
 
 -- ---- the sections of both kinds
 
+-- the sections of the current cluster and of the history
 abbrev pub db : Text
 db = codes "db"
 

@@ -19,6 +19,7 @@ pub record Later (own : Name → Bool) (faults faults2 : ℕ) (old new : DiskSta
 
 -- ---- they hold of no call, and of two
 
+-- what holds where nothing is done, and where more is
 pub goes_same : (A : Name → Value → Type 0) (L : Name → Type 0) (a : View) → Goes A L a a
 goes_same A L a = record {
   later = omega arith;

@@ -14,6 +14,7 @@ decided : {X : Type 0} (P : Type 0) (x y : X) (b : Bool) → Decides b P → (P 
 decided P x y true d = inl (d.0 refl, refl)
 decided P x y false d = inr refl
 
+-- a list of names with one set anew, at each name; and the choices that a push adds
 pub set_cases : {X : Type 0} (name : Name) (x : X) (f : Name → X) (q : Name) → ((name ≡ q) × (set_at name x f q ≡ x)) ⊎ (set_at name x f q ≡ f q)
 set_cases name x f q = decided (name ≡ q) x (f q) (bytes_eq name q) (bytes_eq-Decides name q)
 

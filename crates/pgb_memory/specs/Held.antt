@@ -5,6 +5,7 @@ use Rattle.pgb_outside.specs.Moments.{View, MayKeep, is_loose}
 use Rattle.pgb_memory.specs.declared.held.Held.{Held}
 use Rattle.pgb_memory.specs.State.{State, after, first_state, view_at, Adds, loosened}
 
+-- what a disk in memory holds, and what is known of it
 abbrev pub state_of : Held → State
 state_of h = after (first_state h.given.items) h.changes.items
 

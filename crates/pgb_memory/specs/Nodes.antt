@@ -8,6 +8,7 @@ use Rattle.pgb_outside.specs.Tree.{Held, file, folder, link, other, Nodes, with_
 use Rattle.pgb_memory.specs.declared.nodes.MemNode.{MemNode}
 use Rattle.pgb_memory.specs.declared.nodes.MemNode.TheVariants.{File, Folder, Link}
 
+-- the nodes of a data folder in memory
 abbrev pub node_of : MemNode → Held
 node_of (File bytes time) = file bytes.items time
 node_of Folder = folder

@@ -2,6 +2,7 @@
 use Rattle.std.specs.Prelude.{ℕ, zero, suc, ◌+◌, ◌/◌, ◌%◌, ◌==◌, ◌&&◌, ◌||◌, not, nat_lt, Bool, [], ◌∷◌, ◌++◌, if◌then◌else◌}
 use Rattle.pgb_model.specs.Text.{Text}
 
+-- a day of the calendar
 pub record Date : Type 0 where
   pub year : ℕ
   pub month : ℕ

@@ -21,6 +21,7 @@ use Rattle.pgb_model.specs.Fields.{Field, whole, fields, list_of, or_null, secti
 
 -- ---- archive.info
 
+-- a version of the format, as a value
 abbrev pub version_value : ℕ → Data
 version_value version = string (decimal version)
 
@@ -39,6 +40,7 @@ archive_sections v =
 
 -- ---- backup.info
 
+-- the parts of a cluster, a kind of backup, a label and a segment, as values of the lists
 abbrev pub cluster_fields : Cluster → List Field
 cluster_fields c = (codes "db-catalog-version", whole c.catalog) ∷ (codes "db-control-version", whole c.control)
     ∷ (codes "db-id", whole c.id) ∷ (codes "db-system-id", whole c.system) ∷ (codes "db-version", version_value c.version) ∷ []

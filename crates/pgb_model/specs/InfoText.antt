@@ -8,6 +8,7 @@ use Rattle.serde_json.specs.Written.{compact_text}
 use Rattle.pgb_text.specs.Sum.{sum_text}
 use Rattle.pgb_model.specs.Json.{IsValue}
 
+-- a section of an information file: its name, and its keys with their values
 pub record Section : Type 0 where
   pub name : List ℕ
   pub keys : List (List ℕ × Data)

@@ -45,6 +45,7 @@ pub record StandsAfter (stanza : Text) (q : Repository) (log : List Done) (f : C
 
 -- ---- the names that are looked at
 
+-- the files of a stanza that tell it: the members of its two pairs, and those of a backup's manifest
 abbrev pub IsPairMember : Text → Text → Type 0
 IsPairMember stanza name = (name ≡ archive_info stanza) ⊎ ((name ≡ copy_of (archive_info stanza)) ⊎ ((name ≡ backup_info stanza) ⊎ (name ≡ copy_of (backup_info stanza))))
 

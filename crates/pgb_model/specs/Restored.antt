@@ -8,6 +8,7 @@ use Rattle.pgb_model.specs.Repository.{File, Backup}
 
 -- ---- how the server is to recover (PostgreSQL manual, "Recovering Using a Continuous Archive Backup")
 
+-- what a restored server does first, and the two files that tell it
 pub data Recovery : Type 0 where
   -- to the end of the archive, from which it fetches the log by this command
   ToTheEnd : (fetch : Text) → Recovery

@@ -14,6 +14,7 @@ use Rattle.pgb_model.specs.Repository.{Backup, Archived, Drained, Stanza, Reposi
 
 -- ---- steps
 
+-- one change of the repository
 pub data Step : Type 0 where
   -- a stanza of one cluster, with nothing in it
   Create : Cluster → Step

@@ -63,6 +63,7 @@ pub record Manifest : Type 0 where
 
 -- ---- from the program's values to these
 
+-- what the values of the code stand for
 abbrev pub archive_info_of : rust_archive_info.ArchiveInfo → ArchiveInfo
 archive_info_of v = record { current = v.current; history = v.history.items }
 

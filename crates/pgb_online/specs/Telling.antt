@@ -73,6 +73,7 @@ pub data Starts (kept : ℕ) (bytes : List ℕ) : Result (Start × Left) Fault �
 
 -- ---- where that is told
 
+-- where the backup begins in the log, by what the server told
 abbrev pub begun_start : Begun → Start
 begun_start b = record { size = b.size.0; at = record { lsn = b.from; segment = b.segment } }
 

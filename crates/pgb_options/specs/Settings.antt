@@ -158,6 +158,7 @@ unknown_keys table sections settings = map (λ s. s.key) (filter (λ s. counts s
 
 -- ---- the command
 
+-- a command whose options all have a value, and from what it is made
 pub record Settled : Type 0 where
   pub stanza : Text
   pub parameters : List Text

@@ -16,6 +16,7 @@ use Rattle.pgb_options.specs.declared.path.ConfigPath.{ConfigPath}
 use Rattle.pgb_options.specs.declared.path.ConfigPath.TheVariants as paths
 use Rattle.pgb_options.specs.Paths.{Path, nowhere, usual, named}
 
+-- what the words of the code stand for
 abbrev pub style_view : code_style.Style → Style
 style_view styles.Switch = switch
 style_view styles.Valued = valued

@@ -50,12 +50,12 @@ after_prefix prefix t = if starts_with nat_eq t prefix then Some (drop (length p
 abbrev pub split_equals : Text → Option (Text × Text)
 split_equals t = if nat_lt (position_or_len (λ b. b == 61) t) (length t) then Some (before_first (λ b. b == 61) t, after_first (λ b. b == 61) t) else None
 
--- --name=value
+-- a word that names an option and a value: `--name=value`
 abbrev pub given_shape : Option Style → Text → Text → Text → Shape
 given_shape None word name value = done (unknown word)
 given_shape (Some s) word name value = done (gives name value)
 
--- --no-name
+-- a word that denies an option: `--no-name`
 abbrev pub denied_shape : Option Style → Text → Text → Shape
 denied_shape (Some switch) word name = done (gives name (codes "n"))
 denied_shape (Some deniable) word name = done (denies name)
@@ -65,7 +65,7 @@ denied_shape None word name = done (unknown word)
 abbrev pub other_shape : List Opt → Text → Text → Shape
 other_shape table word body = option_map_or (λ name. denied_shape (style_named table name) word name) (after_prefix (codes "no-") body) (done (unknown word))
 
--- --name
+-- a word that names an option alone: `--name`; and any word that begins with two dashes
 abbrev pub bare_shape : Option Style → List Opt → Text → Text → Shape
 bare_shape (Some switch) table word body = done (gives body (codes "y"))
 bare_shape (Some deniable) table word body = wants body

@@ -3,6 +3,7 @@ use Rattle.std.specs.Prelude.{true, ◌≡◌, ◌≢◌, ◌⊎◌, ◌≤◌, 
 use Rattle.std.specs.List.{starts_with}
 use Rattle.pgb_outside.specs.Order.{are_in_order}
 
+-- a name below a disk's root, by its bytes: its folders and its own name, with a slash between
 abbrev pub Name : Type 0
 Name = List ℕ
 

@@ -25,6 +25,7 @@ Opens result place old new = MatchResult result (λ _. IsOpened place old new) (
 
 -- ---- a disk
 
+-- what is known of a disk
 pub record DiskState : Type 1 where
   -- what it holds and what a crash may leave, where it tells that
   pub view : View
@@ -58,6 +59,7 @@ pub record Works (added : Name → Value → Type 0) (loosened : Name → Type 0
 
 -- ---- a data folder
 
+-- what is known of a data folder
 pub record TreeState : Type 0 where
   -- what it holds, where it tells that
   pub nodes : Option Nodes
@@ -77,6 +79,7 @@ pub record LooksAt (old new : TreeState) : Type 0 where
 
 -- ---- a connection to a server
 
+-- what is known of a connection to the server
 pub record WireState : Type 0 where
   -- what it will give and what it was sent, where it tells that
   pub pending : Option (List ℕ)
@@ -106,6 +109,7 @@ pub record TellsSecond (second : ℕ) (old new : ClockState) : Type 0 where
 
 -- ---- locks
 
+-- what is known of the locks
 pub record LocksState : Type 0 where
   -- the names that were taken and not released
   pub taken : List Name
@@ -120,6 +124,7 @@ pub record LocksState : Type 0 where
 
 -- ---- a source of the configuration
 
+-- what is known of the configuration's files
 pub record SourceState : Type 0 where
   -- what each file holds, and what is left of the opened one, where it tells that
   pub files : Option Content
@@ -131,6 +136,7 @@ pub record SourceState : Type 0 where
 
 -- ---- an output
 
+-- what is known of an output
 pub record SinkState : Type 0 where
   -- what was written so far, where it tells that
   pub written : Option (List ℕ)

@@ -8,6 +8,7 @@ use Rattle.pgb_pair.specs.declared.fault.SaveFault.TheVariants.{Disk, NoMemory}
 use Rattle.pgb_pair.specs.declared.fault.InfoFault.{InfoFault}
 use Rattle.pgb_pair.specs.declared.fault.InfoFault.TheVariants.{Disk as InfoDisk, NoMemory as InfoNoMemory}
 
+-- which fault of saving it is that a file couldn't be stored
 abbrev pub fault_of : StoreFault → SaveFault
 fault_of StoreDisk = Disk
 fault_of (TooLong name limit) = NoMemory

@@ -9,6 +9,7 @@ use Rattle.pgb_plan.specs.declared.walking.Walk as rust_walk
 use Rattle.pgb_plan.specs.Listed.{Taken}
 use Rattle.pgb_plan.specs.Layout.{Layout}
 
+-- what the files and places of the code stand for
 abbrev pub taken_of : rust_taken.Taken → Taken
 taken_of f = record { path = string_bytes f.path; size = f.size; time = f.time }
 

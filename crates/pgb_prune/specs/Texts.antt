@@ -23,6 +23,7 @@ lines_of labels removed = flat_map label_line labels ++ removed_line removed
 
 -- ---- refusals
 
+-- the status and the line of what an expiry is refused for
 abbrev pub prune_status : PruneFault → ℕ
 prune_status (HistoryDiffers at) = 101
 

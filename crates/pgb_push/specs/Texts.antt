@@ -6,6 +6,7 @@ use Rattle.pgb_stage.specs.Texts.{shown, long_text, mismatch_text}
 use Rattle.pgb_push.specs.declared.fault.PushFault.{PushFault}
 use Rattle.pgb_push.specs.declared.fault.PushFault.TheVariants.{SegmentName, PathOutside, StanzaMismatch, SegmentMissing, TooLong, HeaderForm, SegmentSize, HeaderMismatch, Ambiguous, Duplicate}
 
+-- the status and the line of what a push is refused for
 abbrev pub push_status : PushFault → ℕ
 push_status (SegmentName name) = 30
 push_status (PathOutside path) = 12

@@ -38,6 +38,7 @@ name_prop (Partial s) = hlevel props
 name_prop (Backup s offset) = hlevel props
 name_prop (History timeline) = hlevel props
 
+-- a path is that of a file of the log in one way alone
 pub IsWalPath-prop : (folder path : Text) (name : ArchiveName) → IsProp (IsWalPath folder path name)
 IsWalPath-prop folder path name =
     let fits : IsProp (IsWalName name) = name_prop name in

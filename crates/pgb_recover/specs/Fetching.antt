@@ -43,6 +43,7 @@ options_by stanza delta recovery = record { delta = delta; recovery = recovery_b
 
 -- ---- the same in two steps
 
+-- the command by which a restored server fetches the log, and what it does first
 abbrev pub fetch_of : Text → RecoveryType → Text
 fetch_of stanza (Default config) = fetch_text stanza config
 fetch_of stanza Without = []

@@ -3,6 +3,7 @@ use Rattle.std.specs.Prelude.{List, [], ◌∷◌, ◌++◌, map, flat_map, Vec,
 use Rattle.std.specs.declared.alloc.Global.{Global}
 use Rattle.pgb_model.specs.Text.{Text}
 
+-- the lines of the code, by their bytes
 abbrev pub texts_of : Vec (String Global) Global → List Text
 texts_of lines = map string_bytes lines.items
 

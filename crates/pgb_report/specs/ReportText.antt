@@ -15,6 +15,7 @@ use Rattle.pgb_report.specs.Moments.{moment}
 
 -- ---- the stanza
 
+-- the stanza's line, and that of its status
 abbrev pub status_text : List Entry → Text
 status_text [] = codes "error (no valid backups)"
 status_text (e ∷ es) = codes "ok"
@@ -27,6 +28,7 @@ stanza_lines stanza backups =
 
 -- ---- its clusters
 
+-- whether the cluster is the current one
 abbrev pub is_current : ℕ → ClusterId → Bool
 is_current current c = c.id == current
 
@@ -55,6 +57,7 @@ cluster_lines current archived c =
 
 -- ---- its backups
 
+-- the lines of a backup
 abbrev pub wal_text : Option Span → Text
 wal_text None = codes "n/a"
 wal_text (Some span) = segment_text span.start ++ (codes " / " ++ segment_text span.stop)
@@ -90,6 +93,7 @@ backup_lines e =
 
 -- ---- the whole
 
+-- all lines of a stanza, and the whole report
 abbrev pub report_lines : Text → ArchiveInfo → BackupInfo → List ArchivedName → List Text
 report_lines stanza archive info archived =
     stanza_lines stanza info.backups

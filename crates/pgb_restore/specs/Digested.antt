@@ -23,6 +23,7 @@ use Rattle.pgb_restore.specs.Options.{is_ordinary}
 
 -- ---- candidates
 
+-- the manifest's entry of a file that may stay
 abbrev pub file_of : Candidate → FileEntry
 file_of c = file_entry_of c.file.now
 

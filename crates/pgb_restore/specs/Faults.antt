@@ -27,6 +27,7 @@ use Rattle.pgb_restore.specs.declared.fault.FillFault.TheVariants as faults
 use Rattle.pgb_restore.specs.Written.{IsReadOf}
 use Rattle.pgb_restore.specs.Entries.{AreOf}
 
+-- which fault it is that a call of the data folder failed
 abbrev pub of_stop : Stop → FillFault
 of_stop stops.Failed = faults.Tree
 of_stop stops.NoMemory = faults.NoMemory

@@ -13,6 +13,7 @@ use Rattle.pgb_restore.specs.Entries.{IsFilled}
 use Rattle.pgb_restore.specs.Kept.{marked, IsKept}
 use Rattle.pgb_restore.specs.Settings.{HasAdded}
 
+-- whether the node is a folder
 abbrev pub is_folder : Node → Bool
 is_folder (File size time) = false
 is_folder Folder = true

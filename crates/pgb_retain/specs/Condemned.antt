@@ -9,6 +9,7 @@ use Rattle.pgb_retain.specs.declared.rules.FullRule.TheVariants.{Unset, Count, D
 use Rattle.pgb_retain.specs.declared.rules.Rules.{Rules}
 use Rattle.pgb_retain.specs.Labels.{is_kind, is_label, has_label, labels_of}
 
+-- whether the backup is full, and whether it is differential
 abbrev pub is_full : Entry → Bool
 is_full e = is_kind e.kind Full
 

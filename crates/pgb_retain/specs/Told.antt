@@ -8,6 +8,7 @@ use Rattle.pgb_retain.specs.declared.telling.Mark.{Mark}
 use Rattle.pgb_retain.specs.Labels.{is_kind}
 use Rattle.pgb_retain.specs.Needed.{Keeping}
 
+-- what a cluster's rule of the code stands for
 abbrev pub keeping_told : Kept → Keeping
 keeping_told k = record { all = k.all; from = k.from; spans = k.spans.items }
 

@@ -5,6 +5,7 @@ use Rattle.pgb_server.specs.declared.phase.Phase.{Phase}
 use Rattle.pgb_server.specs.declared.phase.Phase.TheVariants.{Granted, Settled, Heading, Row, Complete, Ready, Over}
 use Rattle.pgb_server.specs.Fault.{Fault, ended, form, too_long, ◌>>=◌}
 
+-- a message of the server's protocol: its kind and its body
 pub record Message : Type 0 where
   pub kind : ℕ
   pub body : List ℕ

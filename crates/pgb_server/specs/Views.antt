@@ -12,6 +12,7 @@ use Rattle.pgb_server.specs.Rows.{Stop}
 use Rattle.pgb_server.specs.Message.{Message}
 use Rattle.pgb_server.specs.Talk.{Talk, Taken}
 
+-- what the messages and the talk of the code stand for
 abbrev pub cells_view : List (Option (String Global)) → List (Option Text)
 cells_view cs = map (λ c. option_map string_bytes c) cs
 

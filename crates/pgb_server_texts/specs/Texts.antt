@@ -5,6 +5,7 @@ use Rattle.pgb_server.specs.declared.fault.ServerFault.{ServerFault}
 use Rattle.pgb_server.specs.declared.fault.ServerFault.TheVariants.{NoMemory, Wire, ServerSaid, AuthUnsupported, ServerForm, ServerEnded, SystemMismatch, TooLong, TooMany}
 use Rattle.pgb_stage.specs.Texts.{shown}
 
+-- the status and the line of what the server is refused for
 abbrev pub server_status : ServerFault → ℕ
 server_status (SystemMismatch kept found) = 47
 server_status (ServerSaid code text) = 48

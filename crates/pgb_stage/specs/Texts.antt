@@ -50,6 +50,7 @@ long_text name limit = codes "'" ++ (shown name ++ (codes "' is longer than " ++
 
 -- ---- refusals of the stages
 
+-- the status and the line of what is refused before the command's own part
 abbrev pub stage_status : StageFault → ℕ
 stage_status (NotBuilt what) = 100
 stage_status (ConfigMissing path) = 10
@@ -88,6 +89,7 @@ stage_message (InfoDamaged name main copy) = damaged_text (string_bytes name) ma
 
 -- ---- objects that failed
 
+-- the status of an object that failed
 abbrev pub object_status : Object → ℕ
 object_status Repo = 80
 object_status Spool = 81

@@ -3,5 +3,6 @@ use Rattle.std.specs.Prelude.{unsigned_abs}
 use Rattle.jiff_core.specs.declared.civil.date.Date as calendar
 use Rattle.pgb_model.specs.Dates.{Date}
 
+-- what a day of the library's calendar stands for
 abbrev pub parts_of : calendar.Date → Date
 parts_of d = record { year = unsigned_abs d.year; month = d.month; day = d.day }

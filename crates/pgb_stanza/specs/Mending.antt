@@ -9,6 +9,7 @@ use Rattle.pgb_model.specs.InfoFiles.{archive_sections, backup_sections}
 use Rattle.pgb_model.specs.Values.{ArchiveInfo, BackupInfo}
 use Rattle.pgb_model.specs.Create.{member_writes}
 
+-- the texts of the two lists
 abbrev pub archive_text : ArchiveInfo → Text
 archive_text v = info_text (archive_sections v)
 

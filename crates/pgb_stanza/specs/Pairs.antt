@@ -15,6 +15,7 @@ use Rattle.pgb_stanza.specs.declared.fault.Identity.{Identity}
 
 -- ---- clusters by their identifier and version
 
+-- the system and version that the control file tells, and those that a list keeps
 abbrev pub identity_told : Control → Identity
 identity_told told = record { system = told.system; version = told.version }
 

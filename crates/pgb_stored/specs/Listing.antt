@@ -19,6 +19,7 @@ Picks Tells Passes (x ∷ xs) (y ∷ ys) = (Tells x y × Picks Tells Passes xs y
 
 -- ---- all archive files below a folder of ids, which ends in a slash
 
+-- a name that was found tells this stored file; or it tells none
 pub record TellsFile (folder : Text) (found : Found) (file : Stored) : Type 0 where
   pub named : string_bytes file.path ≡ string_bytes found.name
   pub length : file.size ≡ found.size

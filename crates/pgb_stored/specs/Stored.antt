@@ -17,6 +17,7 @@ use Rattle.pgb_stored.specs.declared.files.Stored.{Stored}
 
 -- ---- one file
 
+-- the archived file of these bytes
 abbrev pub archived_file : ArchiveId → ArchiveName → Text → Archived
 archived_file id name bytes = record { id = id; name = name; bytes = bytes }
 

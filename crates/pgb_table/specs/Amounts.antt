@@ -5,6 +5,7 @@ use Rattle.std.specs.List.{position}
 use Rattle.pgb_table.specs.declared.amount.Units.{Units}
 use Rattle.pgb_table.specs.declared.amount.Units.TheVariants.{Plain, Sizes, Times}
 
+-- whether the byte is a decimal digit
 abbrev pub is_digit : ℕ → Bool
 is_digit b = nat_le 48 b && nat_le b 57
 

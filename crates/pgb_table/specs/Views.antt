@@ -11,6 +11,7 @@ use Rattle.pgb_table.specs.Table.{Kind, Fallback, Row, stanza, path, text, anyth
 use Rattle.pgb_table.specs.Values as values
 use Rattle.pgb_table.specs.Values.{Value}
 
+-- what the rows of the code's table of options stand for
 abbrev pub kind_view : code_kind.Kind → Kind
 kind_view kinds.Stanza = stanza
 kind_view kinds.Path = path

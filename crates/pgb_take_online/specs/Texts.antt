@@ -8,6 +8,7 @@ use Rattle.pgb_take.specs.Texts.{take_status, take_message}
 use Rattle.pgb_take_online.specs.declared.fault.OnlineTakeFault.{OnlineTakeFault}
 use Rattle.pgb_take_online.specs.declared.fault.OnlineTakeFault.TheVariants.{Take, Server, TablespaceMap, SpanWrong, NotArrived, Ambiguous}
 
+-- the status of what a running server's backup is refused for
 abbrev pub online_take_status : OnlineTakeFault → ℕ
 online_take_status (Take fault) = take_status fault
 online_take_status (Server fault) = server_status fault

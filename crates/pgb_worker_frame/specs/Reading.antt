@@ -15,6 +15,7 @@ use Rattle.pgb_worker_frame.specs.Frames.{Item, Frame, spell, part_size, job_lim
 use Rattle.pgb_worker_frame.specs.Frames.Frame.{Setup, Task, Part, End, Vanished, Unread}
 
 infixl 10 ◌>>=◌
+-- the first fault of two readings, one behind the other
 abbrev pub ◌>>=◌ : {A B : Type 0} → Result A FrameFault → (A → Result B FrameFault) → Result B FrameFault
 (Ok x) >>= f = f x
 (Err e) >>= f = Err e

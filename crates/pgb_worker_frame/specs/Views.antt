@@ -10,6 +10,7 @@ use Rattle.pgb_worker_frame.specs.Frames.{Item, Job, Roots, Frame}
 use Rattle.pgb_worker_frame.specs.Frames.Frame.{Setup, Task, Part, End, Vanished, Unread}
 use Rattle.pgb_worker_frame.specs.Reading.{Rest}
 
+-- what the jobs and frames of the code stand for
 abbrev pub item_of : rust_item.Item → Item
 item_of i = record { root = i.root; path = string_bytes i.path; at = i.at; size = i.size }
 
