@@ -1,39 +1,16 @@
 // Seconds since 1970 as a reader sees them.
-ghost use Rattle.std.specs.Prelude.{◌≡◌, ◌<◌, ◌≤◌, ◌/◌, ◌%◌, ◌++◌, IfOk, OnOk, string_bytes, pos};
-ghost use Rattle.jiff_core.specs.Date.{epoch_day};
+ghost use Rattle.std.specs.Prelude.{◌≡◌, ◌<◌, ◌≤◌, ◌/◌, ◌%◌, ◌++◌, IfOk, OnOk, string_bytes};
 ghost use Rattle.pgb_outside.specs.States.{last_second};
-ghost use Rattle.pgb_model.specs.Dates.{two, date_after};
+ghost use Rattle.pgb_model.specs.Dates.{date_after};
 ghost use Rattle.pgb_stamp.specs.Calendar.{parts_of};
 ghost use Rattle.pgb_report.specs.Moments.{shown_date, shown_clock, moment};
 
 use jiff_core::civil::Date;
+use pgb_stamp::{date_of, push_two};
 use pgb_text::NoMemory;
 use std::alloc::Global;
 
 const DAY: u64 = 86_400;
-
-fn push_two(text: &mut String, n: u8) -> Result<(), NoMemory>
-    requires { n < 100 }
-    ensures { OnOk result (string_bytes text.new ≡ string_bytes text.old ++ two n) }
-{
-    text.push((b'0' + n / 10) as char)?;
-    text.push((b'0' + n % 10) as char)?;
-    Ok(())
-}
-
-fn day_of(t: u64) -> Date
-    requires { t ≤ last_second }
-    ensures { epoch_day result ≡ pos (t / 86400) }
-{
-    Date::from_unix_epoch_day((t / DAY) as i64).unwrap()
-}
-
-fn date_of(t: u64) -> Date
-    requires { t ≤ last_second }
-    ensures { parts_of result ≡ date_after (t / 86400) }
-{
-    day_of(t)
-}
 
 fn push_date(text: &mut String, date: Date) -> Result<(), NoMemory>
     ensures { OnOk result (string_bytes text.new ≡ string_bytes text.old ++ shown_date (parts_of date)) }

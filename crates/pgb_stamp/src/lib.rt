@@ -4,6 +4,7 @@
 //!
 //! - `label_text`, `read_label`, `label_time`: a label's name, the label of a name and of no other text, and when its
 //!   backup began.
+//! - `date_of`, `push_two`: the day of a second, and the two digits of a number.
 #![tactic(auto)]
 
 mod labels;
@@ -11,3 +12,4 @@ mod stamp_reading;
 mod stamps;
 
 pub use labels::{label_kind, label_text, label_time, read_label};
+pub use stamps::{date_of, push_two};

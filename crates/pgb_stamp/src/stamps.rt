@@ -10,7 +10,8 @@ use pgb_text::NoMemory;
 
 const DAY: u64 = 86_400;
 
-fn push_two(text: &mut String, n: u8) -> Result<(), NoMemory>
+/// Adds a number below 100, in two digits.
+pub fn push_two(text: &mut String, n: u8) -> Result<(), NoMemory>
     requires { n < 100 }
     ensures { OnOk result (string_bytes text.new ≡ string_bytes text.old ++ two n) }
 {
@@ -26,7 +27,8 @@ fn day_of(t: u64) -> Date
     Date::from_unix_epoch_day((t / DAY) as i64).unwrap()
 }
 
-fn date_of(t: u64) -> Date
+/// The day of a second since 1970.
+pub fn date_of(t: u64) -> Date
     requires { t ≤ last_second }
     ensures { parts_of result ≡ date_after (t / 86400) }
 {
