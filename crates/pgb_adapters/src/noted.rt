@@ -38,6 +38,11 @@ impl State {
         }
     }
 
+    /// Whether its file system tells more of a time than whole seconds. One that tells these, or makes times up, tells too little.
+    pub fn is_fine(&self) -> bool {
+        self.nanos != 0
+    }
+
     // Whether the other node was changed later, by the same clock.
     fn is_before(&self, other: &State) -> bool {
         let is_less = if self.seconds == other.seconds {
@@ -124,8 +129,7 @@ impl Noted {
         let Some(folder) = sync_folder(&place.rt, path)? else {
             return Ok(());
         };
-        // A file system of whole seconds, or one that makes times up, tells too little.
-        if state.nanos != 0 && is_in_state(&folder, state) {
+        if state.is_fine() && is_in_state(&folder, state) {
             self.add(path, state, is_past);
         }
         Ok(())

@@ -39,9 +39,9 @@ impl Settled {
         self.folders.clear();
     }
 
-    // A file system of whole seconds tells too little: another process may make a folder within the second.
+    // Another process may make a folder within one second.
     fn has(&self, path: &str, state: State) -> bool {
-        state.nanos != 0
+        state.is_fine()
             && self.folders.iter().any(|settled| settled.state == state
                 && settled.path.as_str() == path)
     }
