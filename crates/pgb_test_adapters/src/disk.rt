@@ -247,3 +247,30 @@ fn writes_no_note_where_nothing_is_changed(rt: HostRuntime) {
     shell(&rt, &scratch, IS_ABSENT);
     well(&rt, scratch.remove());
 }
+
+// A name that is removed, and the folders that are left then.
+const REMOVED: &[(&str, &str)] = &[
+    ("backup/s/l/pg/1/f", "[ -f backup/s/l/pg/1/g ]"),
+    (
+        "backup/s/l/pg/1/g",
+        "[ ! -e backup/s/l/pg ]; [ -f backup/s/l/m ]",
+    ),
+    ("backup/s/l/m", "[ ! -e backup/s/l ]; [ -d backup/s ]"),
+    ("archive/s/1/f", "[ -d archive/s/1 ]"),
+];
+
+#[test]
+fn removes_the_empty_folders_of_a_backup(rt: HostRuntime) {
+    let scratch = well(&rt, Scratch::new(rt, "emptied"));
+    let made = "mkdir -p backup/s/l/pg/1 archive/s/1
+touch backup/s/l/pg/1/f backup/s/l/pg/1/g backup/s/l/m archive/s/1/f";
+    shell(&rt, &scratch, made);
+    let mut disk = RealDisk::new(rt);
+    same(&rt, disk.open(&scratch.path), Ok(()));
+    for (name, left) in REMOVED {
+        same(&rt, disk.remove(name), Ok(()));
+        shell(&rt, &scratch, left);
+        same(&rt, disk.settle("backup/s/l"), Ok(()));
+    }
+    well(&rt, scratch.remove());
+}
