@@ -9,13 +9,16 @@ use Rattle.pgb_turn.specs.Turns.{Account, OthersState, Turned}
 use Rattle.pgb_await.specs.Went.{turns_of}
 use Rattle.pgb_outside.specs.Tree.{Nodes}
 use Rattle.pgb_archive.specs.Still.{IsStill}
+use Rattle.pgb_model.specs.declared.labels.Kind.{Kind}
+use Rattle.pgb_model.specs.declared.labels.Kind.TheVariants.{Full, Diff, Incr}
 use Rattle.pgb_model.specs.Text.{Text}
 use Rattle.pgb_model.specs.Steps.{Command, MakeBackup}
-use Rattle.pgb_stage.specs.Plans.{OnReading}
-use Rattle.pgb_stage.specs.Runs.{On}
+use Rattle.pgb_stage.specs.Plans.{Heals, OnReading}
+use Rattle.pgb_stage.specs.Runs.{On, one}
 use Rattle.pgb_stage.specs.Seen.{Seen}
 use Rattle.pgb_logged.specs.Backups.{IsOnlineBackup}
-use Rattle.pgb_logged.proofs.Reading.{no_files, no_files_read, no_files_beside}
+use Rattle.pgb_logged.proofs.Reading.{no_files, no_files_read, no_files_left, no_files_beside}
+use Rattle.pgb_take_later.specs.Kinds.{IsBackupBy}
 use Rattle.pgb_take_online.specs.Doing.{TakesTurns}
 use Rattle.pgb_model.specs.Values.{Manifest}
 use Rattle.pgb_restore.specs.Finished.{IsFinished}
@@ -42,35 +45,41 @@ running_idle how old new same (Some k) is P p told there = (
   p,
 )
 
+-- a backup of any kind that was never listed
+nothing_by : (kind : Kind) (links : List LinkState) (stanza : Text) (old : Option Content) → IsBackupBy kind links stanza old (MakeBackup [] no_files None)
+nothing_by Full links stanza old = (no_files, refl, no_files_read links)
+nothing_by Diff links stanza old = (no_files, refl, no_files_left links stanza old)
+nothing_by Incr links stanza old = (no_files, refl, no_files_left links stanza old)
+
 pub idle : (a : Asked) (request : Request) (old new : Known) → new.others ≡ old.others → (P : Command → Type 0) → ((command : Command) → P command) → On (manner_of a request old new) P
 idle a create old new same P p = λ command is. p command
 idle a (push path) old new same P p = λ command is. p command
 idle a (get name path) old new same P p = λ command is. p command
-idle a (backup workers) old new same P p = (MakeBackup [] no_files None, (no_files, refl, no_files_read (take workers old.links)), p (MakeBackup [] no_files None))
+idle a (backup how) old new same P p = (MakeBackup [] no_files None, nothing_by how.kind (take how.workers old.links) a.stanza old.repo, p (MakeBackup [] no_files None))
 idle a (backup_running how) old new same P p = λ there. running_idle how old new same new.others.account refl P (p (MakeBackup [] no_files None)) _ there
 idle a (restore set how) old new same P p = λ command is. p command
 idle a (report form) old new same P p = λ command is. p command
 idle a examine old new same P p = λ command is. p command
 idle a (expire rules) old new same P p = let x = some_expiry rules old.clock.least in (x.0, x.1, p x.0)
 
--- what the repository held doesn't tell which command it is
-pub manner_at : (a : Asked) (request : Request) (old new : Known) (repo : Option Content) (P : Command → Type 0) → On (manner_of a request (record old { repo = repo }) new) P → On (manner_of a request old new) P
-manner_at a create old new repo P h = h
-manner_at a (push path) old new repo P h = h
-manner_at a (get name path) old new repo P h = h
-manner_at a (backup workers) old new repo P h = h
-manner_at a (backup_running how) old new repo P h = h
-manner_at a (restore set how) old new repo P h = h
-manner_at a (report form) old new repo P h = h
-manner_at a examine old new repo P h = h
-manner_at a (expire rules) old new repo P h = h
+-- which command it is is told by what the repository held where no pair was healed, or not by that
+pub manner_at : (a : Asked) (request : Request) (old new : Known) (repo : Option Content) → Heals (plan_of request).pairs a.stanza old.repo repo → (P : Command → Type 0) → On (manner_of a request (record old { repo = repo }) new) P → On (manner_of a request old new) P
+manner_at a create old new repo heals P h = h
+manner_at a (push path) old new repo heals P h = h
+manner_at a (get name path) old new repo heals P h = h
+manner_at a (backup how) old new repo heals P h = subst (λ (r : Option Content). On (one (IsBackupBy how.kind (take how.workers old.links) a.stanza r)) P) heals h
+manner_at a (backup_running how) old new repo heals P h = h
+manner_at a (restore set how) old new repo heals P h = h
+manner_at a (report form) old new repo heals P h = h
+manner_at a examine old new repo heals P h = h
+manner_at a (expire rules) old new repo heals P h = h
 
 -- a command that opens no data folder reads no control file
 pub no_control : (request : Request) → (plan_of request).folder ≡ false → (plan_of request).control ≡ false
 no_control create is = cc is
 no_control (push path) is = cc is
 no_control (get name path) is = cc is
-no_control (backup workers) is = cc is
+no_control (backup how) is = cc is
 no_control (backup_running how) is = cc is
 no_control (restore set how) is = refl
 no_control (report form) is = refl
@@ -82,7 +91,7 @@ pub on_repository : (request : Request) → is_on_repository request ≡ true �
 on_repository create is = cc is
 on_repository (push path) is = cc is
 on_repository (get name path) is = cc is
-on_repository (backup workers) is = cc is
+on_repository (backup how) is = cc is
 on_repository (backup_running how) is = cc is
 on_repository (restore set how) is = cc is
 on_repository (report form) is = (refl, refl, refl)
@@ -94,7 +103,7 @@ pub reader_still : (request : Request) (P : Type 0) → OnReading (plan_of reque
 reader_still create P h = tt
 reader_still (push path) P h = tt
 reader_still (get name path) P h = h
-reader_still (backup workers) P h = tt
+reader_still (backup how) P h = tt
 reader_still (backup_running how) P h = tt
 reader_still (restore set how) P h = h
 reader_still (report form) P h = h
@@ -105,7 +114,7 @@ pub create_still : (request : Request) (P : Type 0) → OnReading (plan_of reque
 create_still create P h = h
 create_still (push path) P h = tt
 create_still (get name path) P h = tt
-create_still (backup workers) P h = tt
+create_still (backup how) P h = tt
 create_still (backup_running how) P h = tt
 create_still (restore set how) P h = tt
 create_still (report form) P h = tt
@@ -116,7 +125,7 @@ pub any_reader : (request : Request) (P : Type 0) → P → OnReader request P
 any_reader create P p = tt
 any_reader (push path) P p = tt
 any_reader (get name path) P p = p
-any_reader (backup workers) P p = tt
+any_reader (backup how) P p = tt
 any_reader (backup_running how) P p = tt
 any_reader (restore set how) P p = p
 any_reader (report form) P p = p
@@ -127,7 +136,7 @@ pub any_create : (request : Request) (P : Type 0) → P → OnCreate request P
 any_create create P p = p
 any_create (push path) P p = tt
 any_create (get name path) P p = tt
-any_create (backup workers) P p = tt
+any_create (backup how) P p = tt
 any_create (backup_running how) P p = tt
 any_create (restore set how) P p = tt
 any_create (report form) P p = tt
@@ -138,7 +147,7 @@ pub any_other : (request : Request) (P : Type 0) → P → OnOther request P
 any_other create P p = tt
 any_other (push path) P p = p
 any_other (get name path) P p = p
-any_other (backup workers) P p = p
+any_other (backup how) P p = p
 any_other (backup_running how) P p = tt
 any_other (restore set how) P p = p
 any_other (report form) P p = p
@@ -149,7 +158,7 @@ pub reader_on : (request : Request) (P Q R : Type 0) → (P → Q → R) → OnR
 reader_on create P Q R to p q = tt
 reader_on (push path) P Q R to p q = tt
 reader_on (get name path) P Q R to p q = to p q
-reader_on (backup workers) P Q R to p q = tt
+reader_on (backup how) P Q R to p q = tt
 reader_on (backup_running how) P Q R to p q = tt
 reader_on (restore set how) P Q R to p q = to p q
 reader_on (report form) P Q R to p q = to p q
@@ -160,7 +169,7 @@ pub create_on : (request : Request) (P Q R : Type 0) → (P → Q → R) → OnC
 create_on create P Q R to p q = to p q
 create_on (push path) P Q R to p q = tt
 create_on (get name path) P Q R to p q = tt
-create_on (backup workers) P Q R to p q = tt
+create_on (backup how) P Q R to p q = tt
 create_on (backup_running how) P Q R to p q = tt
 create_on (restore set how) P Q R to p q = tt
 create_on (report form) P Q R to p q = tt
@@ -171,7 +180,7 @@ pub other_as : (request : Request) (P Q : Type 0) → (P → Q) → OnOther requ
 other_as create P Q to p = tt
 other_as (push path) P Q to p = to p
 other_as (get name path) P Q to p = to p
-other_as (backup workers) P Q to p = to p
+other_as (backup how) P Q to p = to p
 other_as (backup_running how) P Q to p = tt
 other_as (restore set how) P Q to p = to p
 other_as (report form) P Q to p = to p
@@ -183,7 +192,7 @@ pub expire_still : (request : Request) (P : Type 0) → OnReading (plan_of reque
 expire_still create P h = tt
 expire_still (push path) P h = tt
 expire_still (get name path) P h = tt
-expire_still (backup workers) P h = tt
+expire_still (backup how) P h = tt
 expire_still (backup_running how) P h = tt
 expire_still (restore set how) P h = tt
 expire_still (report form) P h = tt
@@ -194,7 +203,7 @@ pub any_expire : (request : Request) (P : Rules → Type 0) → ((rules : Rules)
 any_expire create P p = tt
 any_expire (push path) P p = tt
 any_expire (get name path) P p = tt
-any_expire (backup workers) P p = tt
+any_expire (backup how) P p = tt
 any_expire (backup_running how) P p = tt
 any_expire (restore set how) P p = tt
 any_expire (report form) P p = tt
@@ -205,7 +214,7 @@ pub expire_on : (request : Request) (P Q R : Rules → Type 0) → ((rules : Rul
 expire_on create P Q R to p q = tt
 expire_on (push path) P Q R to p q = tt
 expire_on (get name path) P Q R to p q = tt
-expire_on (backup workers) P Q R to p q = tt
+expire_on (backup how) P Q R to p q = tt
 expire_on (backup_running how) P Q R to p q = tt
 expire_on (restore set how) P Q R to p q = tt
 expire_on (report form) P Q R to p q = tt
@@ -217,7 +226,7 @@ pub any_stays : (request : Request) (n : ℕ) (P : Type 0) → P → FolderStays
 any_stays create n P p = p
 any_stays (push path) n P p = p
 any_stays (get name path) n P p = p
-any_stays (backup workers) n P p = p
+any_stays (backup how) n P p = p
 any_stays (backup_running how) n P p = p
 any_stays (restore set how) n P p = λ lost unread damaged. p
 any_stays (report form) n P p = p
@@ -228,7 +237,7 @@ pub stays_as : (request : Request) (n : ℕ) (P Q : Type 0) → (P → Q) → Fo
 stays_as create n P Q to p = to p
 stays_as (push path) n P Q to p = to p
 stays_as (get name path) n P Q to p = to p
-stays_as (backup workers) n P Q to p = to p
+stays_as (backup how) n P Q to p = to p
 stays_as (backup_running how) n P Q to p = to p
 stays_as (restore set how) n P Q to p = λ lost unread damaged. to (p lost unread damaged)
 stays_as (report form) n P Q to p = to p
@@ -252,7 +261,7 @@ pub folder_stays : (a : Asked) (request : Request) (old : Known) (new : Option N
 folder_stays a create old new same = same
 folder_stays a (push path) old new same = same
 folder_stays a (get name path) old new same = subst (λ (n : Option Nodes). FolderGoes a (get name path) old n) (sym same) (record { told = λ some. some; others = λ q x y. refl; whole = inl refl })
-folder_stays a (backup workers) old new same = same
+folder_stays a (backup how) old new same = same
 folder_stays a (backup_running how) old new same = same
 folder_stays a (restore set how) old new same = inl same
 folder_stays a (report form) old new same = same
@@ -264,7 +273,7 @@ folder_on a create b m k still nodes links h = h ∙ nodes
 folder_on a (push path) b m k still nodes links h = h ∙ nodes
 folder_on a (get name path) b m k still nodes links h = subst (λ (o : Option Content). FolderGoes a (get name path) (as_known o b.tree.nodes b.server b.others b.clock b.links) k.tree.nodes) still.now
     (subst (λ (n : Option Nodes). FolderGoes a (get name path) (as_known m.repo.view.now n b.server b.others b.clock b.links) k.tree.nodes) nodes h)
-folder_on a (backup workers) b m k still nodes links h = h ∙ nodes
+folder_on a (backup how) b m k still nodes links h = h ∙ nodes
 folder_on a (backup_running how) b m k still nodes links h = h ∙ nodes
 folder_on a (restore set how) b m k still nodes links h = ⊎_elim (λ (e : k.tree.nodes ≡ m.tree.nodes). inl (e ∙ nodes))
     (λ x. inr (subst (λ (ls : List LinkState). HasNone control_path k.tree.nodes ⊎ ((v : Manifest) × IfSome k.tree.nodes (IsFinished a.stanza (take how.workers ls) (options_by a.stanza how.delta how.recovery) v b.tree.nodes))) links

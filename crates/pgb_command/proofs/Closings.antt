@@ -21,7 +21,9 @@ use Rattle.pgb_push.specs.Texts.{push_status}
 use Rattle.pgb_get.specs.declared.fault.GetFault.{GetFault}
 use Rattle.pgb_get.proofs.Refusals.{get_within}
 use Rattle.pgb_get.specs.Texts.{get_status}
-use Rattle.pgb_take.specs.declared.fault.TakeFault.{TakeFault}
+use Rattle.pgb_take_later.specs.declared.fault.LaterFault.{LaterFault}
+use Rattle.pgb_take_later.specs.Texts.{later_status}
+use Rattle.pgb_take_later.proofs.Statuses.{later_within}
 use Rattle.pgb_take.specs.Texts.{take_status}
 use Rattle.pgb_take.proofs.Statuses.{take_within}
 use Rattle.pgb_take_online.specs.declared.fault.OnlineTakeFault.{OnlineTakeFault}
@@ -136,7 +138,7 @@ push_other : {P : Type 0} (a : Asked) (q : Request) (old new : Known) (e : PushF
 push_other a create old new e cause p = absurd cause
 push_other a (push path) old new e cause p = p
 push_other a (get name path) old new e cause p = absurd cause
-push_other a (backup workers) old new e cause p = absurd cause
+push_other a (backup how) old new e cause p = absurd cause
 push_other a (backup_running how) old new e cause p = absurd cause
 push_other a (restore set how) old new e cause p = absurd cause
 push_other a (report form) old new e cause p = absurd cause
@@ -147,18 +149,18 @@ get_other : {P : Type 0} (a : Asked) (q : Request) (old new : Known) (e : GetFau
 get_other a create old new e cause p = absurd cause
 get_other a (push path) old new e cause p = absurd cause
 get_other a (get name path) old new e cause p = p
-get_other a (backup workers) old new e cause p = absurd cause
+get_other a (backup how) old new e cause p = absurd cause
 get_other a (backup_running how) old new e cause p = absurd cause
 get_other a (restore set how) old new e cause p = absurd cause
 get_other a (report form) old new e cause p = absurd cause
 get_other a examine old new e cause p = absurd cause
 get_other a (expire rules) old new e cause p = absurd cause
 
-take_other : {P : Type 0} (a : Asked) (q : Request) (old new : Known) (e : TakeFault) → CommandCause a q old new (Take e) → OnOther q P → P
+take_other : {P : Type 0} (a : Asked) (q : Request) (old new : Known) (e : LaterFault) → CommandCause a q old new (Take e) → OnOther q P → P
 take_other a create old new e cause p = absurd cause
 take_other a (push path) old new e cause p = absurd cause
 take_other a (get name path) old new e cause p = absurd cause
-take_other a (backup workers) old new e cause p = p
+take_other a (backup how) old new e cause p = p
 take_other a (backup_running how) old new e cause p = absurd cause
 take_other a (restore set how) old new e cause p = absurd cause
 take_other a (report form) old new e cause p = absurd cause
@@ -169,7 +171,7 @@ examine_other : {P : Type 0} (a : Asked) (q : Request) (old new : Known) (e : Ex
 examine_other a create old new e cause p = absurd cause
 examine_other a (push path) old new e cause p = absurd cause
 examine_other a (get name path) old new e cause p = absurd cause
-examine_other a (backup workers) old new e cause p = absurd cause
+examine_other a (backup how) old new e cause p = absurd cause
 examine_other a (backup_running how) old new e cause p = absurd cause
 examine_other a (restore set how) old new e cause p = absurd cause
 examine_other a (report form) old new e cause p = absurd cause
@@ -180,7 +182,7 @@ prune_other : {P : Type 0} (a : Asked) (q : Request) (old new : Known) (e : Prun
 prune_other a create old new e cause p = absurd cause
 prune_other a (push path) old new e cause p = absurd cause
 prune_other a (get name path) old new e cause p = absurd cause
-prune_other a (backup workers) old new e cause p = absurd cause
+prune_other a (backup how) old new e cause p = absurd cause
 prune_other a (backup_running how) old new e cause p = absurd cause
 prune_other a (restore set how) old new e cause p = absurd cause
 prune_other a (report form) old new e cause p = absurd cause
@@ -195,7 +197,7 @@ get_at : {P : Type 0} (a : Asked) (b k : Seen) (e : GetFault) → Cause a b k (f
 get_at a b k e (inl words) p = get_other a a.request (known b) (known k) e (words (known b) (known k)) p
 get_at a b k e (inr ready) p = get_other a a.request _ (known k) e ready.2 p
 
-take_at : {P : Type 0} (a : Asked) (b k : Seen) (e : TakeFault) → Cause a b k (fault.Command (Take e)) → OnOther a.request P → P
+take_at : {P : Type 0} (a : Asked) (b k : Seen) (e : LaterFault) → Cause a b k (fault.Command (Take e)) → OnOther a.request P → P
 take_at a b k e (inl words) p = absurd words
 take_at a b k e (inr ready) p = take_other a a.request _ (known k) e ready.2 p
 
@@ -242,7 +244,7 @@ module _ (b k : Seen) (n : ℕ) where
   at_fault a (fault.Command (Create e)) is refusal cause closes others = ended (create_closed (Failed b k object.Server) k.server.sent e (subst IsServerRefusal is refusal) closes)
   at_fault a (fault.Command (Push e)) is refusal cause closes others = inr (inr (long_is n (push_status e) is (only_long (push_status e) (push_within e).1 (subst IsServerRefusal is refusal)), ap (λ w. w.sent) (push_at a b k e cause others)))
   at_fault a (fault.Command (Get e)) is refusal cause closes others = inr (inr (long_is n (get_status e) is (only_long (get_status e) (get_within e).1 (subst IsServerRefusal is refusal)), ap (λ w. w.sent) (get_at a b k e cause others)))
-  at_fault a (fault.Command (Take e)) is refusal cause closes others = inr (inr (long_is n (take_status e) is (only_many (take_status e) (take_within e).1 (subst IsServerRefusal is refusal)), ap (λ w. w.sent) (take_at a b k e cause others)))
+  at_fault a (fault.Command (Take e)) is refusal cause closes others = inr (inr (long_is n (later_status e) is (only_many (later_status e) (later_within e).1 (subst IsServerRefusal is refusal)), ap (λ w. w.sent) (take_at a b k e cause others)))
   at_fault a (fault.Command (TakeOnline e)) is refusal cause (inl x) others = inr (inr (running_long n e is x.0 refusal, ap (λ w. w.sent) x.1))
   at_fault a (fault.Command (TakeOnline e)) is refusal cause (inr x) others = ended x
   at_fault a (fault.Command (Recover e)) is refusal cause closes others = recover_apart e (subst IsServerRefusal is refusal)

@@ -21,6 +21,9 @@ use Rattle.pgb_get.proofs.Refusals.{get_within}
 use Rattle.pgb_take.specs.declared.fault.TakeFault.{TakeFault}
 use Rattle.pgb_take.specs.declared.fault.TakeFault.TheVariants as takes
 use Rattle.pgb_take.specs.Texts.{take_status}
+use Rattle.pgb_take_later.specs.declared.fault.LaterFault.{LaterFault}
+use Rattle.pgb_take_later.specs.declared.fault.LaterFault.TheVariants as laters
+use Rattle.pgb_take_later.specs.Texts.{later_status}
 use Rattle.pgb_take_online.specs.declared.fault.OnlineTakeFault.{OnlineTakeFault}
 use Rattle.pgb_take_online.specs.declared.fault.OnlineTakeFault.TheVariants as online
 use Rattle.pgb_take_online.specs.Texts.{online_take_status}
@@ -111,6 +114,10 @@ not_take (takes.ControlMissing path) = λ is. absurd (omega (arith, is))
 not_take (takes.Unread path) = λ is. absurd (omega (arith, is))
 not_take (takes.TooLong name limit) = λ is. absurd (omega (arith, is))
 
+not_later : (e : LaterFault) → later_status e ≢ 65
+not_later (laters.Take fault) = not_take fault
+not_later (laters.PriorDamaged label main copy) = λ is. absurd (omega (arith, is))
+
 not_take_online : (e : OnlineTakeFault) → online_take_status e ≢ 65
 not_take_online (online.Take fault) = not_take fault
 not_take_online (online.Server fault) = not_server fault
@@ -141,7 +148,7 @@ not_command : (e : CommandFault) → command_status e ≢ 65
 not_command (Create e) = not_create e
 not_command (Push e) = not_within _ (push_within e).1
 not_command (Get e) = not_within _ (get_within e).1
-not_command (Take e) = not_take e
+not_command (Take e) = not_later e
 not_command (TakeOnline e) = not_take_online e
 not_command (Recover e) = not_recover e
 not_command (Examine e) = λ is. absurd (omega (arith, is, examine_is e))
@@ -170,7 +177,7 @@ pub only_examines : (a : Asked) (q : Request) (old new : Known) (lines : String 
 only_examines a create old new lines h = absurd h.created.silent
 only_examines a (push path) old new lines h = absurd h
 only_examines a (get name path) old new lines h = absurd h.0
-only_examines a (backup workers) old new lines h = absurd h.2
+only_examines a (backup how) old new lines (o, is, told, tells, never) = absurd never
 only_examines a (backup_running how) old new lines ((told, tells, never), asks) = absurd never
 only_examines a (restore set how) old new lines h = absurd h.recovers
 only_examines a (report form) old new lines h = absurd h.0

@@ -220,7 +220,7 @@ lasts_by : (a : Asked) (request : Request) (v : View) (nodes mid : Option Nodes)
 lasts_by a create v nodes mid k outcome same at h = tt
 lasts_by a (push path) v nodes mid k outcome same at h = subst (λ (n : Option Nodes). Lasts a (push path) n k.repo.view k.tree.nodes outcome) same (h (at refl))
 lasts_by a (get name path) v nodes mid k outcome same at h = subst (λ (n : Option Nodes). Lasts a (get name path) n k.repo.view k.tree.nodes outcome) same (h (at refl))
-lasts_by a (backup workers) v nodes mid k outcome same at h = tt
+lasts_by a (backup how) v nodes mid k outcome same at h = tt
 lasts_by a (backup_running how) v nodes mid k outcome same at h = tt
 lasts_by a (restore set how) v nodes mid k outcome same at h = tt
 lasts_by a (report form) v nodes mid k outcome same at h = tt
@@ -233,7 +233,7 @@ heals_by : (a : Asked) (request : Request) (v : View) (k : Seen) → ((plan_of r
 heals_by a create v k at had h = tt
 heals_by a (push path) v k at had h = h (at refl) had
 heals_by a (get name path) v k at had h = tt
-heals_by a (backup workers) v k at had h = tt
+heals_by a (backup how) v k at had h = tt
 heals_by a (backup_running how) v k at had h = tt
 heals_by a (restore set how) v k at had h = tt
 heals_by a (report form) v k at had h = tt
@@ -247,7 +247,7 @@ same_still v w same = subst (λ (x : View). IsStill v x) (sym same) (still_self 
 did_ran : (a : Asked) (b m k : Seen) (r : Result Outcome Fault) → m ≡ record b { repo = m.repo; tree = m.tree } → m.tree.nodes ≡ b.tree.nodes → b.repo.faults ≤ m.repo.faults → b.tree.faults ≤ m.tree.faults → Quiet a.stanza b.repo.view m.repo.view → Begins (plan_of a.request).settling a.stanza b.repo.view m.repo.view →
     Heals (plan_of a.request).pairs a.stanza b.repo.view.now m.repo.view.now → IfSome m.repo.view.now (AreHealed (plan_of a.request).pairs a.stanza) → (IsTight a.stanza b.repo.view → IsSome b.repo.view.now → HealsToLast (plan_of a.request).pairs a.stanza m.repo.view) → OnReading (plan_of a.request).pairs (IsStill b.repo.view m.repo.view) → Ran a m k r → Did a b k r
 did_ran a b m k r others nodes repo_later tree_later quiet begun heals healed durable still ran = record {
-  steps = manner_at a a.request (known b) (known k) m.repo.view.now _ (as_begun a (λ command. Takes (plan_of a.request).settling a.stanza command (reached_of (ending_of r)) b.repo.view b.spool.view k.repo.view k.spool.view) (known m) (record (known b) { repo = m.repo.view.now }) (known k) known_is
+  steps = manner_at a a.request (known b) (known k) m.repo.view.now heals _ (as_begun a (λ command. Takes (plan_of a.request).settling a.stanza command (reached_of (ending_of r)) b.repo.view b.spool.view k.repo.view k.spool.view) (known m) (record (known b) { repo = m.repo.view.now }) (known k) known_is
       (on_as (manner_of a a.request (known m) (known k)) _ _ (λ command h. begun_takes (plan_of a.request).settling a.stanza b.repo.view m.repo.view quiet begun command (reached_of (ending_of r)) b.spool.view k.repo.view k.spool.view (subst (λ (v : View). Runs (plan_of a.request).settling a.stanza command (reached_of (ending_of r)) m.repo.view v k.repo.view k.spool.view) (ap (λ (s : Seen). s.spool.view) others) h)) ran.steps));
   promise = ok_as r _ _ (λ outcome h. (m.repo.view.now, heals, subst (λ (o : Known). Promise a a.request o (known k) outcome) known_is h)) ran.promise;
   lasts = ok_as r _ _ (λ outcome h q log some keeps. lasts_by a a.request m.repo.view b.tree.nodes m.tree.nodes k outcome nodes

@@ -78,7 +78,7 @@ create_at : (request : Request) (reached : Reached) (P : Type 0) → reached ≡
 create_at create reached P is h = none_at reached P is h
 create_at (push path) reached P is h = tt
 create_at (get name path) reached P is h = tt
-create_at (backup workers) reached P is h = tt
+create_at (backup how) reached P is h = tt
 create_at (backup_running how) reached P is h = tt
 create_at (restore set how) reached P is h = tt
 create_at (report form) reached P is h = tt

@@ -1,6 +1,6 @@
 -- What each command did, told of all objects: a lemma a command.
-use Rattle.std.proofs.Common.{◌≡◌, ◌≢◌, ◌⊎◌, ⊎_elim, inl, inr, List, ◌∷◌, Option, Some, None, Result, Ok, Err, IfOk, IfErr, refl, sym, subst, ap, ◌∙◌, Bool, true, false}
-use Rattle.std.specs.Prelude.{ℕ, [], take, IfSome, IsSome, IsSomeAnd, OnOk, OnErr}
+use Rattle.std.proofs.Common.{◌≡◌, ◌≢◌, ◌⊎◌, ⊎_elim, inl, inr, List, ◌∷◌, Option, Some, None, Result, Ok, Err, IfOk, IfErr, refl, sym, subst, ap, ◌∙◌, Bool, true}
+use Rattle.std.specs.Prelude.{[], take, IfSome, IsSome, IsSomeAnd, OnOk, OnErr}
 use Rattle.pgb_outside.specs.Content.{Content}
 use Rattle.pgb_outside.specs.Links.{LinkState}
 use Rattle.pgb_outside.specs.Crash.{Leaves}
@@ -9,13 +9,12 @@ use Rattle.pgb_outside.specs.Tree.{Nodes}
 use Rattle.pgb_model.specs.Text.{Text}
 use Rattle.pgb_model.specs.Repository.{Repository}
 use Rattle.pgb_model.specs.Repository.{Backup}
-use Rattle.pgb_model.specs.Steps.{Command, StanzaCreate, MakeBackup, Expire, Reading, after, all_of, steps_of}
+use Rattle.pgb_model.specs.Steps.{Command, StanzaCreate, MakeBackup, Reading, after, all_of, steps_of}
 use Rattle.pgb_model.specs.Log.{Done, Reaches, IsDrained, KeepsSpool}
 use Rattle.pgb_model.specs.declared.wal.ArchiveName.{ArchiveName}
 use Rattle.pgb_model.specs.Walks.{IsTight}
 use Rattle.pgb_model.proofs.Logged.{create_spool}
 use Rattle.pgb_model.proofs.PushDone.{push_spool}
-use Rattle.pgb_options.specs.declared.options.OutputWord.{OutputWord}
 use Rattle.pgb_stanza.specs.declared.control.Control.{Control}
 use Rattle.pgb_disk.specs.Store.{ChangesOnly}
 use Rattle.pgb_stanza.specs.ControlFile.{first_cluster}
@@ -36,12 +35,11 @@ use Rattle.pgb_recover.specs.Restoring.{Recovers, GivesBackup}
 use Rattle.pgb_stage.specs.declared.plan.Pairs.TheVariants.{HealArchive}
 use Rattle.pgb_stage.specs.declared.plan.Settling.{Settling}
 use Rattle.pgb_stage.specs.declared.plan.Settling.TheVariants.{Whole, Looked}
-use Rattle.pgb_stage.specs.declared.fault.StageFault.{StageFault}
 use Rattle.pgb_stage.specs.declared.halt.Halt.{Halt}
 use Rattle.pgb_stage.specs.declared.halt.Halt.TheVariants.{Refused, Failed as HaltFailed, NoMemory as HaltMemory}
 use Rattle.pgb_stage.specs.declared.outcome.Outcome.{Outcome}
 use Rattle.pgb_stage.specs.Cluster.{FolderTells}
-use Rattle.pgb_stage.specs.Halts.{HaltCause, Never}
+use Rattle.pgb_stage.specs.Halts.{HaltCause}
 use Rattle.pgb_stage.specs.Plans.{AreHealed, HealsToLast}
 use Rattle.pgb_stage.specs.Reached.{OnFinished, reached_by}
 use Rattle.pgb_stage.specs.Runs.{one, Reached, to_end, turned_back, stopped, Does, Runs, On, OnNone, IsLookedAt, PairAlike}
@@ -58,11 +56,15 @@ use Rattle.pgb_push.specs.Causes.{IsStored, IsLasting, PushCause}
 use Rattle.pgb_push.specs.Commands.{IsPushOf}
 use Rattle.pgb_push.specs.Faults.{push_early}
 use Rattle.pgb_get.specs.declared.fault.GetFault.{GetFault}
-use Rattle.pgb_logged.specs.Backups.{IsFullBackup}
-use Rattle.pgb_take.specs.declared.fault.TakeFault.{TakeFault}
-use Rattle.pgb_take.specs.Causes.{TakeCause}
-use Rattle.pgb_take.specs.Faults.{take_early}
-use Rattle.pgb_take.specs.Taken.{IsTaken as IsTakenBackup}
+use Rattle.pgb_model.specs.declared.labels.Kind.{Kind}
+use Rattle.pgb_model.specs.declared.labels.Kind.TheVariants.{Full, Diff, Incr}
+use Rattle.pgb_take_later.specs.declared.fault.LaterFault.{LaterFault}
+use Rattle.pgb_take_later.specs.declared.order.LaterOrder.{LaterOrder}
+use Rattle.pgb_take_later.specs.Causes.{LaterCause}
+use Rattle.pgb_take_later.specs.Faults.{later_early}
+use Rattle.pgb_take_later.specs.Kinds.{IsBackupBy}
+use Rattle.pgb_take_later.specs.Taken.{IsTaken as IsTakenBackup}
+use Rattle.pgb_command.specs.Told.{taking_of}
 use Rattle.pgb_recover.specs.declared.fault.RecoverFault.{RecoverFault}
 use Rattle.pgb_recover.specs.declared.fault.RecoverFault.TheVariants as recovers
 use Rattle.pgb_recover.specs.Causes.{RecoverCause}
@@ -73,21 +75,11 @@ use Rattle.pgb_recover.specs.Words.{TellsSet}
 use Rattle.pgb_model.specs.declared.labels.Label.{Label}
 use Rattle.pgb_get.specs.Getting.{GotBy, GetCause, get_early}
 use Rattle.pgb_command.specs.declared.fault.Fault.{Fault}
-use Rattle.pgb_command.specs.declared.fault.Fault.TheVariants.{Stage, Command as OfCommand}
-use Rattle.pgb_examine.specs.declared.fault.ExamineFault.{ExamineFault}
-use Rattle.pgb_examine.specs.Examining.{ExamineCause, examine_early}
-use Rattle.pgb_retain.specs.declared.rules.Rules.{Rules}
-use Rattle.pgb_expire.specs.Expiry.{retention}
-use Rattle.pgb_expire.specs.Losing.{MayExpire}
-use Rattle.pgb_prune.specs.declared.fault.PruneFault.{PruneFault}
-use Rattle.pgb_prune.specs.Faults.{prune_early, PruneCause}
-use Rattle.pgb_prune.specs.Pruning.{counts_days, Prunes}
-use Rattle.pgb_expire.proofs.Receipts.{expiry_spool}
-use Rattle.pgb_command.proofs.Expiries.{removes}
-use Rattle.pgb_command.specs.declared.fault.CommandFault.TheVariants.{Create, Push, Get, Take, Recover, Examine, Prune}
+use Rattle.pgb_command.specs.declared.fault.Fault.TheVariants.{Command as OfCommand}
+use Rattle.pgb_command.specs.declared.fault.CommandFault.TheVariants.{Create, Push, Get, Take, Recover}
 use Rattle.pgb_command.specs.Answers.{status, reached_of, ending_of, is_early}
 use Rattle.pgb_command.specs.Asked.{Request, create, push, get, backup, backup_running, restore, report, examine, expire, RestoreHow, Asked}
-use Rattle.pgb_command.specs.Faults.{of_halt, of_stage, of_create, of_push, of_get, of_take, of_recover, of_examine, of_prune, lift}
+use Rattle.pgb_command.specs.Faults.{of_halt, of_create, of_push, of_get, of_take, of_recover, lift}
 use Rattle.pgb_command.specs.Tables.{Known, known, TurnsTold, found_by, found_for, Promise, Lasts, plan_of, manner_of, IsCreateOf, OnReader, OnCreate, OnExpire, Expires, OnOther, FolderGoes, FolderStays, Unless, uses_workers, uses_clock, uses_turns}
 use Rattle.pgb_command.specs.Did.{SamePlaces, Closes, OwnCause, StaysHealed, Ran}
 use Rattle.pgb_command.proofs.Ends.{reached_same, lift_ok, lift_on, lift_err}
@@ -111,7 +103,7 @@ module _ {E : Type 0} (a : Asked) (b k : Seen) (of : E → Fault) (early : E →
   create_reached create P h = as_reached P h
   create_reached (push path) P h = h
   create_reached (get name path) P h = h
-  create_reached (backup workers) P h = h
+  create_reached (backup how) P h = h
   create_reached (backup_running how) P h = h
   create_reached (restore set how) P h = h
   create_reached (report form) P h = h
@@ -350,38 +342,44 @@ backup_drained b q log name sum (Some s) reached drained = (
   drained,
 )
 
-pub backup_receipts : (stanza : Text) (links : List LinkState) (command : Command) → IsFullBackup links command → (v : View) (q : Repository) (log : List Done) → KeepsSpool stanza q log v → KeepsSpool stanza q (record { command = command; acknowledged = true } ∷ log) v
-backup_receipts stanza links command is v q log keeps = subst (λ (c : Command). KeepsSpool stanza q (record { command = c; acknowledged = true } ∷ log) v) (sym is.1) (record {
+pub backup_receipts : (stanza : Text) (b : Backup) (command : Command) → command ≡ MakeBackup [] b None → (v : View) (q : Repository) (log : List Done) → KeepsSpool stanza q log v → KeepsSpool stanza q (record { command = command; acknowledged = true } ∷ log) v
+backup_receipts stanza b command is v q log keeps = subst (λ (c : Command). KeepsSpool stanza q (record { command = c; acknowledged = true } ∷ log) v) (sym is) (record {
   fixed = keeps.fixed;
-  receipts = λ f leaves name sum fits receipt. let x = keeps.receipts f leaves name sum fits receipt in backup_drained is.0 q log name sum x.0 x.1 x.2;
+  receipts = λ f leaves name sum fits receipt. let x = keeps.receipts f leaves name sum fits receipt in backup_drained b q log name sum x.0 x.1 x.2;
 })
 
-take_closes : (b k : Seen) (h : Halt TakeFault) → Closes b k (of_take h)
+-- whichever kind it is of
+kind_receipts : (kind : Kind) (stanza : Text) (links : List LinkState) (old : Option Content) (command : Command) → IsBackupBy kind links stanza old command → (v : View) (q : Repository) (log : List Done) → KeepsSpool stanza q log v → KeepsSpool stanza q (record { command = command; acknowledged = true } ∷ log) v
+kind_receipts Full stanza links old command is = backup_receipts stanza is.0 command is.1
+kind_receipts Diff stanza links old command is = backup_receipts stanza is.0 command is.1
+kind_receipts Incr stanza links old command is = backup_receipts stanza is.0 command is.1
+
+take_closes : (b k : Seen) (h : Halt LaterFault) → Closes b k (of_take h)
 take_closes b k (Refused e) = tt
 take_closes b k (HaltFailed object) = tt
 take_closes b k HaltMemory = tt
 
-module _ (a : Asked) (b k : Seen) (rest : k ≡ record b { repo = k.repo; tree = k.tree; clock = k.clock; links = k.links }) (nodes : k.tree.nodes ≡ b.tree.nodes) (workers : ℕ) (told : Control) (tells : IfSome b.tree.nodes (λ f. FolderTells f told))
-    (r : Result Outcome (Halt TakeFault)) (ended : Result Outcome Fault) (lifted : ended ≡ lift of_take r) where
+module _ (a : Asked) (b k : Seen) (rest : k ≡ record b { repo = k.repo; tree = k.tree; clock = k.clock; links = k.links }) (nodes : k.tree.nodes ≡ b.tree.nodes) (o : LaterOrder) (told : Control) (tells : IfSome b.tree.nodes (λ f. FolderTells f told))
+    (r : Result Outcome (Halt LaterFault)) (ended : Result Outcome Fault) (lifted : ended ≡ lift of_take r) where
   abbrev takes : Asked
-  takes = with_request a (backup workers)
+  takes = with_request a (backup (taking_of o))
 
   abbrev used : List LinkState
-  used = take workers b.links
+  used = take o.take.workers b.links
 
-  pub taken_ran : a.request ≡ backup workers → StaysBeside a.stanza b.repo.view k.repo.view →
-      On (one (IsFullBackup (take workers b.links))) (λ command. Does Whole a.stanza command (reached_by take_early r) b.repo.view k.repo.view) →
-      IfOk r (λ o. OnFinished o (IsTakenBackup a.stanza told b.tree.nodes (take workers b.links) b.repo.view.now k.repo.view.now)) → (failed : Object → Type 0) → ((object : Object) → failed object → Failed b k object) →
-      IfErr r (HaltCause (TakeCause (found_by a workers (known b) told)) failed) → SamePlaces b k → AreLater b k → Ran a b k ended
-  taken_ran is beside does taken failed rose cause places later = as_ran a (backup workers) b k ended is
-      (ran_of takes b k (λ (e : TakeFault). OfCommand (Take e)) take_early (λ e. refl) (TakeCause (found_by a workers (known b) told)) (λ e h. (told, tells, h)) failed rose r ended lifted (
+  pub taken_ran : a.request ≡ backup (taking_of o) → StaysBeside a.stanza b.repo.view k.repo.view →
+      On (one (IsBackupBy o.kind (take o.take.workers b.links) a.stanza b.repo.view.now)) (λ command. Does Whole a.stanza command (reached_by later_early r) b.repo.view k.repo.view) →
+      IfOk r (λ outcome. OnFinished outcome (IsTakenBackup a.stanza told o b.tree.nodes (take o.take.workers b.links) b.repo.view.now k.repo.view.now)) → (failed : Object → Type 0) → ((object : Object) → failed object → Failed b k object) →
+      IfErr r (HaltCause (LaterCause (found_by a o.take.workers (known b) told) o) failed) → SamePlaces b k → AreLater b k → Ran a b k ended
+  taken_ran is beside does taken failed rose cause places later = as_ran a (backup (taking_of o)) b k ended is
+      (ran_of takes b k (λ (e : LaterFault). OfCommand (Take e)) later_early (λ e. refl) (LaterCause (found_by a o.take.workers (known b) told) o) (λ e h. (o, refl, told, tells, h)) failed rose r ended lifted (
         does.0,
         does.1,
-        subst (λ (v : View). Runs Whole a.stanza does.0 (reached_by take_early r) b.repo.view b.spool.view k.repo.view v) (sym (ap (λ (s : Seen). s.spool.view) rest))
-            (does_runs Whole a.stanza does.0 (reached_by take_early r) b.repo.view k.repo.view b.spool.view (backup_receipts a.stanza used does.0 does.1 b.spool.view) does.2),
+        subst (λ (v : View). Runs Whole a.stanza does.0 (reached_by later_early r) b.repo.view b.spool.view k.repo.view v) (sym (ap (λ (s : Seen). s.spool.view) rest))
+            (does_runs Whole a.stanza does.0 (reached_by later_early r) b.repo.view k.repo.view b.spool.view (kind_receipts o.kind a.stanza used b.repo.view.now does.0 does.1 b.spool.view) does.2),
       )
-      (ok_as r _ _ (λ o h. (told, tells, h)) taken)
-      (any_ok r (λ o. IsLookedAt a.stanza b.repo.view → Unit {0}) (λ o looked. tt))
+      (ok_as r _ _ (λ outcome h. (o, refl, told, tells, h)) taken)
+      (any_ok r (λ outcome. IsLookedAt a.stanza b.repo.view → Unit {0}) (λ outcome looked. tt))
       cause
       (on_all r (StaysHealed takes b k) (record { agree = λ some h. any_some k.repo.view.now; lasts = λ looked h. tt }))
       (λ others. beside)
@@ -390,7 +388,7 @@ module _ (a : Asked) (b k : Seen) (rest : k ≡ record b { repo = k.repo; tree =
       tt
       tt
       nodes
-      (all_none (reached_by take_early r) _ nodes)
+      (all_none (reached_by later_early r) _ nodes)
       tt
       (λ none. ap (λ (s : Seen). s.server) rest)
       (ap (λ (s : Seen). s.server) rest)

@@ -21,7 +21,7 @@ use Rattle.pgb_stage.proofs.Besides.{still_beside}
 use Rattle.pgb_stage.proofs.Doing.{rests_does}
 use Rattle.pgb_stage.proofs.Lifted.{does_runs}
 use Rattle.pgb_logged.specs.Backups.{IsOnlineBackup}
-use Rattle.pgb_logged.proofs.Reading.{no_files, no_files_read}
+use Rattle.pgb_logged.proofs.Reading.{no_files}
 use Rattle.pgb_turn.specs.Turns.{Account, Turned}
 use Rattle.pgb_await.specs.Went.{turns_of}
 use Rattle.pgb_take.specs.declared.fault.TakeFault.{TakeFault}
@@ -120,7 +120,7 @@ module _ (a : Asked) (b : Seen) (how : RunningHow) where
   nothing = MakeBackup [] no_files None
 
   nothing_runs : Runs Whole a.stanza (MakeBackup [] no_files None) stopped b.repo.view b.spool.view b.repo.view b.spool.view
-  nothing_runs = does_runs Whole a.stanza nothing stopped b.repo.view b.repo.view b.spool.view (backup_receipts a.stanza (take how.workers b.links) nothing (no_files, refl, no_files_read (take how.workers b.links)) b.spool.view)
+  nothing_runs = does_runs Whole a.stanza nothing stopped b.repo.view b.repo.view b.spool.view (backup_receipts a.stanza no_files nothing refl b.spool.view)
       (rests_does Whole a.stanza nothing stopped b.repo.view b.repo.view (λ (at : ◌≡◌ {A = Reached} stopped to_end). cc) (rests_none b.repo.view) refl)
 
   without_memory : a.request ≡ backup_running how → Ran a b b (Err OutOfMemory)

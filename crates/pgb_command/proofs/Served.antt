@@ -1,6 +1,6 @@
 -- A running server's backup has a server to ask.
-use Rattle.std.proofs.Common.{◌≡◌, Bool, true, false, List, Option, Some, None, Result, Ok, Err, refl, sym, ◌∙◌, ap, subst}
-use Rattle.std.specs.Prelude.{ℕ, if◌then◌else◌, is_some, map, option_map, string_bytes}
+use Rattle.std.proofs.Common.{◌≡◌, Bool, true, false, List, Option, Some, None, Result, Ok, Err, refl, sym, ◌∙◌, ap}
+use Rattle.std.specs.Prelude.{if◌then◌else◌, is_some, map, option_map, string_bytes}
 use Rattle.pgb_model.specs.Text.{Text}
 use Rattle.pgb_options.specs.declared.settle.Command.{Command}
 use Rattle.pgb_options.specs.Commands.{IsCommand}
@@ -13,7 +13,7 @@ use Rattle.pgb_create.specs.declared.server.Server as code
 use Rattle.pgb_create.specs.Server.{Server, server_view}
 use Rattle.pgb_command.specs.declared.settings.Request as settings
 use Rattle.pgb_command.specs.declared.settings.Request.TheVariants as requests
-use Rattle.pgb_command.specs.Asked.{Request, RunningHow, push, get, backup, backup_running, Wanted, first_of, second_of, full_by, backup_by, is_full, request_by, requested, server_by, server_asked, wanted_in}
+use Rattle.pgb_command.specs.Asked.{Request, BackupHow, RunningHow, push, get, backup, backup_running, Wanted, first_of, second_of, taken_by, backup_by, is_built, request_by, server_by, server_asked, wanted_in}
 use Rattle.pgb_command.specs.Serving.{is_served}
 use Rattle.pgb_command.specs.Told.{request_of, wanted_told}
 use Rattle.pgb_command.proofs.AskedOnce.{ok_same}
@@ -21,9 +21,9 @@ use Rattle.pgb_command.proofs.Wanted.{request_is}
 
 -- ---- which of two
 
-one_online : (b : Bool) (r : Request) (workers : ℕ) (how : RunningHow) → (if b then r else backup workers) ≡ backup_running how → b ≡ true
-one_online true r workers how is = refl
-one_online false r workers how is = cc
+one_online : (b : Bool) (r : Request) (given : BackupHow) (how : RunningHow) → (if b then r else backup given) ≡ backup_running how → b ≡ true
+one_online true r given how is = refl
+one_online false r given how is = cc
 
 abbrev Asks : Result Request Unbuilt → RunningHow → Type 0
 Asks r how = r ≡ Ok (backup_running how)
@@ -43,7 +43,7 @@ ok_asks r how is = ok_same r (backup_running how) is
 
 module _ (m : Wanted) (how : RunningHow) where
   backup_online : Asks (backup_by m) how → m.online ≡ true
-  backup_online is = one_online m.online _ m.workers how (ok_asks (full_by m) how (one_built m.expires Expiry _ how (one_built m.bundles Bundles _ how (one_built m.delta Digests _ how (one_kind (is_full m.kind) Kind _ how is)))))
+  backup_online is = one_online m.online _ _ how (ok_asks (taken_by m) how (one_built m.expires Expiry _ how (one_built m.bundles Bundles _ how (one_built m.delta Digests _ how (one_kind (is_built m.online m.kind) Kind _ how is)))))
 
   push_never : (path : Text) → Asks (if m.background then Err Background else Ok (push path)) how → ⊥
   push_never path is = let e = ok_asks (push path) how (one_built m.background Background _ how is) in cc
@@ -72,7 +72,7 @@ pub request_served : (c : Command) (s : Settled) → IsCommand c s → (r : sett
 request_served c s is requests.StanzaCreate asked o server = refl
 request_served c s is (requests.ArchivePush path) asked o server = refl
 request_served c s is (requests.ArchiveGet name path) asked o server = refl
-request_served c s is (requests.Backup workers) asked o server = refl
+request_served c s is (requests.Backup workers kind delta) asked o server = refl
 request_served c s is (requests.BackupRunning workers fast turns) asked o server =
     some_server o (ap is_some server ∙ served_by (wanted_in s.source) (record { workers = workers; fast = fast; turns = turns }) s.source.verb s.parameters (sym (request_is c s is) ∙ asked) _)
 request_served c s is (requests.Restore set workers delta recovery) asked o server = refl

@@ -14,7 +14,7 @@ use Rattle.pgb_stage.specs.Texts.{stage_status, object_status}
 use Rattle.pgb_create.proofs.Statuses.{create_over}
 use Rattle.pgb_push.proofs.Refusals.{push_within}
 use Rattle.pgb_get.proofs.Refusals.{get_within}
-use Rattle.pgb_take.proofs.Statuses.{take_within}
+use Rattle.pgb_take_later.proofs.Statuses.{later_within}
 use Rattle.pgb_take_online.proofs.Statuses.{online_take_over}
 use Rattle.pgb_recover.proofs.Statuses.{recover_over}
 use Rattle.pgb_examine.proofs.Statuses.{examine_is}
@@ -72,7 +72,7 @@ command_over : (e : CommandFault) → 2 ≤ command_status e
 command_over (Create e) = create_over e
 command_over (Push e) = (push_within e).0
 command_over (Get e) = (get_within e).0
-command_over (Take e) = (take_within e).0
+command_over (Take e) = (later_within e).0
 command_over (TakeOnline e) = online_take_over e
 command_over (Recover e) = recover_over e
 command_over (Examine e) = omega (arith, examine_is e)
@@ -101,7 +101,7 @@ any_early : (q : Request) (n : ℕ) → IsEarly q n → AnyEarly n
 any_early create n h = h
 any_early (push path) n h = inl h
 any_early (get name path) n h = inl h
-any_early (backup workers) n h = inl h
+any_early (backup how) n h = inl h
 any_early (backup_running how) n h = h
 any_early (restore set how) n h = inl h
 any_early (report form) n h = inl h

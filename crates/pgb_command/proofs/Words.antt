@@ -16,6 +16,7 @@ use Rattle.pgb_get.specs.declared.fault.GetFault.{GetFault}
 use Rattle.pgb_recover.specs.declared.fault.RecoverFault.{RecoverFault}
 use Rattle.pgb_recover.specs.Words.{TellsSet, WordCause as SetCause}
 use Rattle.pgb_recover.specs.declared.order.RecoverOrder.{RecoverOrder}
+use Rattle.pgb_take_later.specs.declared.order.LaterOrder.{LaterOrder}
 use Rattle.pgb_get.proofs.Refusals.{get_words as read_words}
 use Rattle.pgb_get.specs.Getting.{AreWords, WordsCause as GetWords}
 use Rattle.pgb_command.specs.declared.fault.CommandFault.TheVariants.{Push, Get, Recover}
@@ -25,7 +26,7 @@ use Rattle.pgb_push.specs.WalPath.{IsWalPath}
 use Rattle.pgb_command.specs.declared.order.Order.{Order}
 use Rattle.pgb_command.specs.declared.order.RunningOrder.{RunningOrder}
 use Rattle.pgb_command.specs.declared.order.Order.TheVariants as orders
-use Rattle.pgb_command.specs.Told.{how_of, running_of, IsOrder}
+use Rattle.pgb_command.specs.Told.{how_of, taking_of, running_of, IsOrder}
 use Rattle.pgb_command.specs.Asked.{Request, create, push, get, backup, backup_running, restore, report, examine, expire, RestoreHow, Asked}
 use Rattle.pgb_command.specs.Faults.{of_push, of_get, of_recover}
 use Rattle.pgb_command.specs.Tables.{WordsFit, CommandCause}
@@ -90,24 +91,24 @@ words_fit a (get word path) (orders.Restore o) is = absurd is
 words_fit a (get word path) (orders.Info asked) is = absurd is
 words_fit a (get word path) orders.Verify is = absurd is
 words_fit a (get word path) (orders.Expire asked) is = absurd is
-words_fit a (backup workers) orders.StanzaCreate is = absurd is
+words_fit a (backup how) orders.StanzaCreate is = absurd is
 words_fit a (backup_running how) orders.StanzaCreate is = absurd is
-words_fit a (backup workers) (orders.ArchivePush o) is = absurd is
+words_fit a (backup how) (orders.ArchivePush o) is = absurd is
 words_fit a (backup_running how) (orders.ArchivePush o) is = absurd is
-words_fit a (backup workers) (orders.ArchiveGet o) is = absurd is
+words_fit a (backup how) (orders.ArchiveGet o) is = absurd is
 words_fit a (backup_running how) (orders.ArchiveGet o) is = absurd is
-words_fit a (backup workers) (orders.Backup o) is = tt
-words_fit a (backup workers) (orders.BackupRunning o) is = absurd is
+words_fit a (backup how) (orders.Backup o) is = tt
+words_fit a (backup how) (orders.BackupRunning o) is = absurd is
 words_fit a (backup_running how) (orders.Backup o) is = absurd is
 words_fit a (backup_running how) (orders.BackupRunning o) is = tt
-words_fit a (backup workers) (orders.Restore o) is = absurd is
+words_fit a (backup how) (orders.Restore o) is = absurd is
 words_fit a (backup_running how) (orders.Restore o) is = absurd is
-words_fit a (backup workers) (orders.Info asked) is = absurd is
+words_fit a (backup how) (orders.Info asked) is = absurd is
 words_fit a (backup_running how) (orders.Info asked) is = absurd is
-words_fit a (backup workers) orders.Verify is = absurd is
+words_fit a (backup how) orders.Verify is = absurd is
 words_fit a (backup_running how) orders.Verify is = absurd is
 words_fit a (backup_running how) (orders.Expire asked) is = absurd is
-words_fit a (backup workers) (orders.Expire asked) is = absurd is
+words_fit a (backup how) (orders.Expire asked) is = absurd is
 words_fit a (restore set how) orders.StanzaCreate is = absurd is
 words_fit a (restore set how) (orders.ArchivePush o) is = absurd is
 words_fit a (restore set how) (orders.ArchiveGet o) is = absurd is
@@ -150,19 +151,31 @@ pub restore_asked : (q : Request) (folder : Text) (o : RecoverOrder) → IsOrder
 restore_asked create folder o is = absurd is
 restore_asked (push path) folder o is = absurd is
 restore_asked (get word path) folder o is = absurd is
-restore_asked (backup workers) folder o is = absurd is
+restore_asked (backup how) folder o is = absurd is
 restore_asked (backup_running how) folder o is = absurd is
 restore_asked (restore set how) folder o is = (set, ap (restore set) (sym is.1), is.2)
 restore_asked (report form) folder o is = absurd is
 restore_asked examine folder o is = absurd is
 restore_asked (expire rules) folder o is = absurd is
 
--- so is that of a running server's backup
+-- so is that of a stopped server's backup
+pub taking_asked : (q : Request) (folder : Text) (o : LaterOrder) → IsOrder q folder (orders.Backup o) → q ≡ backup (taking_of o)
+taking_asked create folder o is = absurd is
+taking_asked (push path) folder o is = absurd is
+taking_asked (get word path) folder o is = absurd is
+taking_asked (backup how) folder o is = ap backup (sym is.1)
+taking_asked (backup_running how) folder o is = absurd is
+taking_asked (restore set how) folder o is = absurd is
+taking_asked (report form) folder o is = absurd is
+taking_asked examine folder o is = absurd is
+taking_asked (expire rules) folder o is = absurd is
+
+-- and that of a running server's
 pub running_asked : (q : Request) (folder : Text) (o : RunningOrder) → IsOrder q folder (orders.BackupRunning o) → q ≡ backup_running (running_of o)
 running_asked create folder o is = absurd is
 running_asked (push path) folder o is = absurd is
 running_asked (get word path) folder o is = absurd is
-running_asked (backup workers) folder o is = absurd is
+running_asked (backup how) folder o is = absurd is
 running_asked (backup_running how) folder o is = ap backup_running (sym is.1)
 running_asked (restore set how) folder o is = absurd is
 running_asked (report form) folder o is = absurd is

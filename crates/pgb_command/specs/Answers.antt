@@ -16,8 +16,8 @@ use Rattle.pgb_push.specs.Texts.{push_status, push_message}
 use Rattle.pgb_push.specs.Faults.{push_early}
 use Rattle.pgb_get.specs.Texts.{get_status, get_message}
 use Rattle.pgb_get.specs.Getting.{get_early}
-use Rattle.pgb_take.specs.Faults.{take_early}
-use Rattle.pgb_take.specs.Texts.{take_status, take_message}
+use Rattle.pgb_take_later.specs.Faults.{later_early}
+use Rattle.pgb_take_later.specs.Texts.{later_status, later_message}
 use Rattle.pgb_take_online.specs.Faults.{online_early}
 use Rattle.pgb_take_online.specs.Texts.{online_take_status, online_take_message}
 use Rattle.pgb_recover.specs.Ends.{recover_early}
@@ -52,7 +52,7 @@ abbrev pub command_status : CommandFault → ℕ
 command_status (Create fault) = create_status fault
 command_status (Push fault) = push_status fault
 command_status (Get fault) = get_status fault
-command_status (Take fault) = take_status fault
+command_status (Take fault) = later_status fault
 command_status (TakeOnline fault) = online_take_status fault
 command_status (Recover fault) = recover_status fault
 command_status (Examine fault) = examine_status fault
@@ -72,7 +72,7 @@ abbrev pub command_early : CommandFault → Bool
 command_early (Create fault) = create_early fault
 command_early (Push fault) = push_early fault
 command_early (Get fault) = get_early fault
-command_early (Take fault) = take_early fault
+command_early (Take fault) = later_early fault
 command_early (TakeOnline fault) = online_early fault
 command_early (Recover fault) = recover_early fault
 command_early (Examine fault) = examine_early fault
@@ -142,7 +142,7 @@ abbrev pub command_message : CommandFault → Text
 command_message (Create fault) = create_message fault
 command_message (Push fault) = push_message fault
 command_message (Get fault) = get_message fault
-command_message (Take fault) = take_message fault
+command_message (Take fault) = later_message fault
 command_message (TakeOnline fault) = online_take_message fault
 command_message (Recover fault) = recover_message fault
 command_message (Examine fault) = examine_message fault

@@ -1,6 +1,7 @@
 -- What a command is told by its words and its configuration (pgBackRest command reference and configuration reference).
 use Rattle.std.specs.Prelude.{◌≡◌, ◌≤◌, ℕ, ◌^◌, Bool, true, false, List, [], ◌∷◌, length, Option, Some, None, Result, Ok, Err, IfSome, IsSome, if◌then◌else◌}
 use Rattle.pgb_outside.specs.Content.{Content}
+use Rattle.pgb_model.specs.declared.labels.Kind.{Kind}
 use Rattle.pgb_model.specs.Text.{Text}
 use Rattle.pgb_table.specs.declared.table.Opt.{Opt}
 use Rattle.pgb_options.specs.declared.options.KindWord.{KindWord}
@@ -21,7 +22,7 @@ use Rattle.pgb_recover.specs.Fetching.{RecoveryType}
 use Rattle.pgb_recover.specs.Fetching.RecoveryType.{Default as ToTheEnd, Without}
 use Rattle.pgb_retain.specs.declared.rules.Rules.{Rules}
 use Rattle.pgb_stage.specs.declared.fault.Unbuilt.{Unbuilt}
-use Rattle.pgb_stage.specs.declared.fault.Unbuilt.TheVariants.{Command, Background, Kind, Delta as Digests, Bundles, Expiry}
+use Rattle.pgb_stage.specs.declared.fault.Unbuilt.TheVariants.{Command, Background, Kind as OtherKind, Delta as Digests, Bundles, Expiry}
 
 -- ---- the configuration
 
@@ -46,6 +47,12 @@ pub record WordsSettle (words : List Text) (files : Option Content) (read : Resu
 
 -- ---- what is asked
 
+-- how a stopped server is backed up: with how many workers, as which kind (option `type`), and whether a file is told from the prior backup's by its digest (option `delta`)
+pub record BackupHow : Type 0 where
+  pub workers : ℕ
+  pub kind : Kind
+  pub delta : Bool
+
 -- how a running server is backed up: with how many workers, whether it makes its checkpoint at once (option `start-fast`), and how many turns of others are waited for at most (option `archive-timeout`)
 pub record RunningHow : Type 0 where
   pub workers : ℕ
@@ -58,12 +65,12 @@ pub record RestoreHow : Type 0 where
   pub delta : Bool
   pub recovery : RecoveryType
 
--- which command, the file that archive-push is to store, the file that archive-get is to serve and where, how many workers a backup of a stopped server may use, how a running one is backed up, the label of the backup to restore and how, the form of info's report, and the rules of an expiry; verify has nothing more to be told
+-- which command, the file that archive-push is to store, the file that archive-get is to serve and where, how a stopped server is backed up, how a running one is, the label of the backup to restore and how, the form of info's report, and the rules of an expiry; verify has nothing more to be told
 pub data Request : Type 0 where
   create : Request
   push : (path : Text) → Request
   get : (name path : Text) → Request
-  backup : (workers : ℕ) → Request
+  backup : (how : BackupHow) → Request
   backup_running : (how : RunningHow) → Request
   restore : (set : Option Text) (how : RestoreHow) → Request
   report : (form : OutputWord) → Request
@@ -100,14 +107,20 @@ is_full Full = true
 is_full Diff = false
 is_full Incr = false
 
--- of a running server or of a stopped one
-abbrev pub full_by : Wanted → Request
-full_by m = if m.online then backup_running (record { workers = m.workers; fast = m.fast; turns = m.turns }) else backup m.workers
+-- of a running server only full backups are built
+abbrev pub is_built : Bool → KindWord → Bool
+is_built true kind = is_full kind
+is_built false kind = true
 
--- a full backup with nothing more; or what of it isn't built
+-- of a running server or of a stopped one
+abbrev pub taken_by : Wanted → Request
+taken_by m = if m.online then backup_running (record { workers = m.workers; fast = m.fast; turns = m.turns })
+    else backup (record { workers = m.workers; kind = kind_by m.kind; delta = m.delta })
+
+-- a backup of this kind with nothing more; or what of it isn't built
 abbrev pub backup_by : Wanted → Result Request Unbuilt
-backup_by m = if is_full m.kind then (if m.delta then Err Digests else if m.bundles then Err Bundles else if m.expires then Err Expiry else Ok (full_by m))
-    else Err Kind
+backup_by m = if is_built m.online m.kind then (if m.delta then Err Digests else if m.bundles then Err Bundles else if m.expires then Err Expiry else Ok (taken_by m))
+    else Err OtherKind
 
 -- a recovery fetches the log by the configuration that the words name, if they name one
 abbrev pub recovery_for : RestoreWord → Option Text → RecoveryType

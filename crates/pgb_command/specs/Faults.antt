@@ -8,7 +8,7 @@ use Rattle.pgb_stage.specs.declared.halt.Halt.TheVariants.{Refused, Failed as Ha
 use Rattle.pgb_create.specs.declared.fault.CreateFault.{CreateFault}
 use Rattle.pgb_push.specs.declared.fault.PushFault.{PushFault}
 use Rattle.pgb_get.specs.declared.fault.GetFault.{GetFault}
-use Rattle.pgb_take.specs.declared.fault.TakeFault.{TakeFault}
+use Rattle.pgb_take_later.specs.declared.fault.LaterFault.{LaterFault}
 use Rattle.pgb_take_online.specs.declared.fault.OnlineTakeFault.{OnlineTakeFault}
 use Rattle.pgb_recover.specs.declared.fault.RecoverFault.{RecoverFault}
 use Rattle.pgb_examine.specs.declared.fault.ExamineFault.{ExamineFault}
@@ -35,7 +35,7 @@ of_push = of_halt (λ e. Command (Push e))
 abbrev pub of_get : Halt GetFault → Fault
 of_get = of_halt (λ e. Command (Get e))
 
-abbrev pub of_take : Halt TakeFault → Fault
+abbrev pub of_take : Halt LaterFault → Fault
 of_take = of_halt (λ e. Command (Take e))
 
 abbrev pub of_take_online : Halt OnlineTakeFault → Fault

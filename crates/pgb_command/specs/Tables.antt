@@ -33,9 +33,12 @@ use Rattle.pgb_push.specs.Causes.{IsStored, IsLasting, PushCause}
 use Rattle.pgb_stage.specs.Reached.{OnFinished}
 use Rattle.pgb_push.specs.WalPath.{IsWalPath}
 use Rattle.pgb_get.specs.Getting.{AreWords, GotBy, GivenBy, GetCause, IsServed, ChangesPath, served_path}
-use Rattle.pgb_logged.specs.Backups.{IsFullBackup, IsOnlineBackup}
-use Rattle.pgb_take.specs.Causes.{Before, TakeCause}
-use Rattle.pgb_take.specs.Taken.{IsTaken}
+use Rattle.pgb_logged.specs.Backups.{IsOnlineBackup}
+use Rattle.pgb_take.specs.Causes.{Before}
+use Rattle.pgb_take_later.specs.declared.order.LaterOrder.{LaterOrder}
+use Rattle.pgb_take_later.specs.Causes.{LaterCause}
+use Rattle.pgb_take_later.specs.Kinds.{IsBackupBy}
+use Rattle.pgb_take_later.specs.Taken.{IsTaken}
 use Rattle.pgb_online.specs.Telling.{starting, stopping}
 use Rattle.pgb_take_online.specs.Causes.{Asked as AskedOnline, OnlineCause}
 use Rattle.pgb_take_online.specs.Doing.{Heard, TakesTurns}
@@ -57,7 +60,8 @@ use Rattle.pgb_prune.specs.Faults.{PruneCause}
 use Rattle.pgb_prune.specs.Pruning.{counts_days, IsMoment, TellsMoment, IsExpiryBy, IsPruned}
 use Rattle.pgb_command.specs.declared.fault.CommandFault.{CommandFault}
 use Rattle.pgb_command.specs.declared.fault.CommandFault.TheVariants.{Create, Push, Get, Take, TakeOnline, Recover, Examine, Prune}
-use Rattle.pgb_command.specs.Asked.{Request, create, push, get, backup, backup_running, restore, report, examine, expire, RunningHow, RestoreHow, Asked}
+use Rattle.pgb_command.specs.Asked.{Request, create, push, get, backup, backup_running, restore, report, examine, expire, BackupHow, RunningHow, RestoreHow, Asked}
+use Rattle.pgb_command.specs.Told.{taking_of}
 
 -- what the objects hold, as far as they tell it
 pub record Known : Type 0 where
@@ -76,7 +80,7 @@ abbrev pub plan_of : Request → Plan
 plan_of create = record { settling = Whole; folder = true; backup_lock = true; archive_lock = true; control = true; pairs = Unread }
 plan_of (push path) = record { settling = Looked; folder = true; backup_lock = false; archive_lock = true; control = true; pairs = HealArchive }
 plan_of (get name path) = record { settling = Looked; folder = true; backup_lock = false; archive_lock = false; control = true; pairs = ReadArchive }
-plan_of (backup workers) = record { settling = Whole; folder = true; backup_lock = true; archive_lock = false; control = true; pairs = ReadBoth }
+plan_of (backup how) = record { settling = Whole; folder = true; backup_lock = true; archive_lock = false; control = true; pairs = ReadBoth }
 plan_of (backup_running how) = record { settling = Whole; folder = true; backup_lock = true; archive_lock = false; control = true; pairs = ReadBoth }
 plan_of (restore set how) = record { settling = Whole; folder = true; backup_lock = false; archive_lock = false; control = false; pairs = ReadBoth }
 plan_of (report form) = record { settling = Whole; folder = false; backup_lock = false; archive_lock = false; control = false; pairs = ReadBoth }
@@ -110,7 +114,7 @@ abbrev pub manner_of : Asked → Request → Known → Known → Manner
 manner_of a create old new = each (λ command. IsSomeAnd old.nodes (λ f. IsCreateOf f command))
 manner_of a (push path) old new = each (λ command. IsSomeAnd old.nodes (λ f. IsPushOf f a.data_folder path command))
 manner_of a (get name path) old new = each (λ command. command ≡ Reading)
-manner_of a (backup workers) old new = one (IsFullBackup (take workers old.links))
+manner_of a (backup how) old new = one (IsBackupBy how.kind (take how.workers old.links) a.stanza old.repo)
 manner_of a (backup_running how) old new = provided (TurnsTold a (backup_running how) new) (IsRunningOf how old new)
 manner_of a (restore set how) old new = each (λ command. command ≡ Reading)
 manner_of a (report form) old new = each (λ command. command ≡ Reading)
@@ -122,7 +126,7 @@ abbrev pub WordsFit : Asked → Request → Type 0
 WordsFit a create = Unit {0}
 WordsFit a (push path) = (name : ArchiveName) × IsWalPath a.data_folder path name
 WordsFit a (get word path) = (name : ArchiveName) × AreWords a.data_folder word path name
-WordsFit a (backup workers) = Unit {0}
+WordsFit a (backup how) = Unit {0}
 WordsFit a (backup_running how) = Unit {0}
 WordsFit a (restore set how) = (label : Option Label) × TellsSet set label
 WordsFit a (report form) = Unit {0}
@@ -132,6 +136,10 @@ WordsFit a (expire rules) = Unit {0}
 -- what a backup finds as its own part begins
 abbrev pub found_by : Asked → ℕ → Known → Control → Before
 found_by a workers old told = record { stanza = a.stanza; told = told; repo = old.repo; nodes = old.nodes; least = old.clock.least; used = take workers old.links }
+
+-- by an order of this it is so
+abbrev pub ByOrder : BackupHow → (LaterOrder → Type 0) → Type 0
+ByOrder how P = (o : LaterOrder) × (taking_of o ≡ how) × P o
 
 -- what a running server told the backup, by its bytes before and after it
 abbrev pub heard_by : Known → Known → Control → Heard
@@ -160,7 +168,7 @@ abbrev pub CommandCause : Asked → Request → Known → Known → CommandFault
 CommandCause a create old new (Create fault) = OnCluster old.nodes (λ told. CreateCause a.stanza told a.server old.repo old.server.pending fault)
 CommandCause a (push path) old new (Push fault) = PushCause a.stanza a.data_folder path old.repo old.nodes fault
 CommandCause a (get name path) old new (Get fault) = GetCause a.stanza a.data_folder name path old.repo old.nodes fault
-CommandCause a (backup workers) old new (Take fault) = OnCluster old.nodes (λ told. TakeCause (found_by a workers old told) fault)
+CommandCause a (backup how) old new (Take fault) = ByOrder how (λ o. OnCluster old.nodes (λ told. LaterCause (found_by a how.workers old told) o fault))
 CommandCause a (backup_running how) old new (TakeOnline fault) = OnCluster old.nodes (λ told. OnlineCause (asked_by a how old new told) fault)
 CommandCause a (restore set how) old new (Recover fault) = RestoreCause a set how old fault
 CommandCause a examine old new (Examine fault) = ExamineCause a.stanza old.repo fault
@@ -196,7 +204,7 @@ Promise a create old new outcome = Creates a old new outcome
 Promise a (push path) old new outcome = OnFinished outcome (IsStored a.stanza a.data_folder path old.nodes old.repo new.repo)
 Promise a (get name path) old new outcome = GotBy a.stanza a.data_folder name path old.repo old.nodes new.nodes outcome
     × OnStanza a old.repo (λ s. GivenBy s a.data_folder name path old.nodes new.nodes outcome)
-Promise a (backup workers) old new outcome = OnCluster old.nodes (λ told. OnFinished outcome (IsTaken a.stanza told old.nodes (take workers old.links) old.repo new.repo))
+Promise a (backup how) old new outcome = ByOrder how (λ o. OnCluster old.nodes (λ told. OnFinished outcome (IsTaken a.stanza told o old.nodes (take how.workers old.links) old.repo new.repo)))
 Promise a (backup_running how) old new outcome = OnCluster old.nodes (λ told. OnFinished outcome (TakesOnline a.stanza told (heard_by old new told) (take how.workers old.links) old.others.account new.others.account old.repo new.repo))
     × AsksBackup a.server how.fast new.server.place old.server.sent new.server.sent
 Promise a (restore set how) old new outcome = Restores a set how old new outcome
@@ -218,7 +226,7 @@ abbrev pub OnReader : Request → Type 0 → Type 0
 OnReader create P = Unit {0}
 OnReader (push path) P = Unit {0}
 OnReader (get name path) P = P
-OnReader (backup workers) P = Unit {0}
+OnReader (backup how) P = Unit {0}
 OnReader (backup_running how) P = Unit {0}
 OnReader (restore set how) P = P
 OnReader (report form) P = P
@@ -259,13 +267,13 @@ FolderGoes a request old new = new ≡ old.nodes
 
 -- only a backup and a restore use workers, a backup the clock, and that of a running server waits for turns of others; expire uses the clock where the rules count days
 abbrev pub uses_workers : Request → Bool
-uses_workers (backup workers) = true
+uses_workers (backup how) = true
 uses_workers (backup_running how) = true
 uses_workers (restore set how) = true
 uses_workers request = false
 
 abbrev pub uses_clock : Request → Bool
-uses_clock (backup workers) = true
+uses_clock (backup how) = true
 uses_clock (backup_running how) = true
 uses_clock (expire rules) = counts_days rules.full
 uses_clock request = false

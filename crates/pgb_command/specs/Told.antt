@@ -6,6 +6,7 @@ use Rattle.pgb_model.specs.Text.{Text}
 use Rattle.pgb_options.specs.declared.options.Options.{Options}
 use Rattle.pgb_create.specs.Server.{server_view}
 use Rattle.pgb_prune.specs.Rules.{rules_by}
+use Rattle.pgb_take_later.specs.declared.order.LaterOrder.{LaterOrder}
 use Rattle.pgb_recover.specs.declared.order.RecoverOrder.{RecoverOrder}
 use Rattle.pgb_recover.specs.Fetching.{recovery_type}
 use Rattle.pgb_recover.specs.Words.{TellsSet}
@@ -15,7 +16,7 @@ use Rattle.pgb_command.specs.declared.settings.Request.TheVariants.{StanzaCreate
 use Rattle.pgb_command.specs.declared.order.Order.{Order}
 use Rattle.pgb_command.specs.declared.order.RunningOrder.{RunningOrder}
 use Rattle.pgb_command.specs.declared.order.Order.TheVariants as order
-use Rattle.pgb_command.specs.Asked.{Request, create, push, get, backup, backup_running, restore, report, examine, expire, RunningHow, RestoreHow, Asked, Wanted}
+use Rattle.pgb_command.specs.Asked.{Request, create, push, get, backup, backup_running, restore, report, examine, expire, BackupHow, RunningHow, RestoreHow, Asked, Wanted}
 
 -- the workers can be numbered, and none has bytes of an earlier answer to give
 pub record AreWorkers (links : List LinkState) : Type 0 where
@@ -26,7 +27,7 @@ abbrev pub request_of : code.Request → Request
 request_of StanzaCreate = create
 request_of (ArchivePush path) = push path.now
 request_of (ArchiveGet name path) = get name.now path.now
-request_of (Backup workers) = backup workers
+request_of (Backup workers kind delta) = backup (record { workers = workers; kind = kind; delta = delta })
 request_of (BackupRunning workers fast turns) = backup_running (record { workers = workers; fast = fast; turns = turns })
 request_of (Restore set workers delta recovery) = restore (option_map (λ w. w.now) set) (record { workers = workers; delta = delta; recovery = recovery_type recovery })
 request_of (Info form) = report form
@@ -55,6 +56,10 @@ wanted_told o = record {
 abbrev pub asked_of : Settings → Asked
 asked_of s = record { stanza = s.stanza.now; data_folder = s.pg1_path.now; repository = s.repo1_path.now; lock_folder = s.lock_path.now; server = option_map server_view s.server; request = request_of s.request }
 
+-- how a stopped server is backed up by the order
+abbrev pub taking_of : LaterOrder → BackupHow
+taking_of o = record { workers = o.take.workers; kind = o.kind; delta = o.settings.delta }
+
 -- how a running server is backed up by the order
 abbrev pub running_of : RunningOrder → RunningHow
 running_of o = record { workers = o.take.workers; fast = o.fast; turns = o.turns }
@@ -68,7 +73,7 @@ abbrev pub IsOrder : Request → Text → Order → Type 0
 IsOrder create folder order.StanzaCreate = Unit {0}
 IsOrder (push path) folder (order.ArchivePush o) = (o.folder.now ≡ folder) × (o.path.now ≡ path)
 IsOrder (get name path) folder (order.ArchiveGet o) = (o.folder.now ≡ folder) × (o.word.now ≡ name) × (o.path.now ≡ path)
-IsOrder (backup workers) folder (order.Backup o) = (o.data_folder.now ≡ folder) × (o.workers ≡ workers)
+IsOrder (backup how) folder (order.Backup o) = (o.take.data_folder.now ≡ folder) × (taking_of o ≡ how)
 IsOrder (backup_running how) folder (order.BackupRunning o) = (o.take.data_folder.now ≡ folder) × (running_of o ≡ how)
 IsOrder (restore set how) folder (order.Restore o) = (o.data_folder.now ≡ folder) × (how_of o ≡ how) × TellsSet set o.set
 IsOrder (report form) folder (order.Info asked) = asked ≡ form

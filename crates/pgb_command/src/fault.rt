@@ -11,7 +11,7 @@ use pgb_prune::{PruneFault, prune_status};
 use pgb_push::{PushFault, push_status};
 use pgb_recover::{RecoverFault, recover_status};
 use pgb_stage::{Halt, Object, Outcome, StageFault, object_status, stage_status};
-use pgb_take::{TakeFault, take_status};
+use pgb_take_later::{LaterFault, later_status};
 use pgb_take_online::{OnlineTakeFault, online_take_status};
 use std::alloc::AllocError;
 
@@ -21,7 +21,7 @@ pub enum CommandFault {
     Create(CreateFault),
     Push(PushFault),
     Get(GetFault),
-    Take(TakeFault),
+    Take(LaterFault),
     TakeOnline(OnlineTakeFault),
     Recover(RecoverFault),
     Examine(ExamineFault),
@@ -126,13 +126,13 @@ impl From<Halt<GetFault>> for Fault {
     }
 }
 
-impl From<Halt<TakeFault>> for Fault {
+impl From<Halt<LaterFault>> for Fault {
     ghost use Rattle.std.specs.Prelude.{◌≡◌};
     ghost use Rattle.pgb_command.specs.Faults.{of_take};
 
     ghost from_gives = { λ h e. e ≡ of_take h };
 
-    fn from(halt: Halt<TakeFault>) -> Self {
+    fn from(halt: Halt<LaterFault>) -> Self {
         match halt {
             Halt::Refused(fault) => Fault::Command(CommandFault::Take(fault)),
             Halt::Failed(object) => Fault::Failed(object),
@@ -232,7 +232,7 @@ pub(crate) fn get_end(ended: Result<Outcome, Halt<GetFault>>) -> Result<Outcome,
 }
 
 /// How backup of a stopped server ended.
-pub(crate) fn take_end(ended: Result<Outcome, Halt<TakeFault>>) -> Result<Outcome, Fault>
+pub(crate) fn take_end(ended: Result<Outcome, Halt<LaterFault>>) -> Result<Outcome, Fault>
     ensures { result ≡ lift of_take ended }
 {
     match ended {
@@ -319,7 +319,7 @@ fn command_status(fault: &CommandFault) -> u8
         CommandFault::Create(fault) => create_status(fault),
         CommandFault::Push(fault) => push_status(fault),
         CommandFault::Get(fault) => get_status(fault),
-        CommandFault::Take(fault) => take_status(fault),
+        CommandFault::Take(fault) => later_status(fault),
         CommandFault::TakeOnline(fault) => online_take_status(fault),
         CommandFault::Recover(fault) => recover_status(fault),
         CommandFault::Examine(fault) => examine_status(fault),

@@ -11,7 +11,7 @@ use pgb_prune::prune_message;
 use pgb_push::push_message;
 use pgb_recover::recover_message;
 use pgb_stage::{Object, bytes_of, object_message, push_shown, quoted, stage_message};
-use pgb_take::take_message;
+use pgb_take_later::later_message;
 use pgb_take_online::online_take_message;
 use pgb_text::NoMemory;
 use std::alloc::{AllocError, Global};
@@ -49,7 +49,7 @@ fn command_message(alloc: Global, fault: &CommandFault) -> Result<Vec<u8>, NoMem
         CommandFault::Create(fault) => create_message(alloc, fault),
         CommandFault::Push(fault) => push_message(alloc, fault),
         CommandFault::Get(fault) => get_message(alloc, fault),
-        CommandFault::Take(fault) => take_message(alloc, fault),
+        CommandFault::Take(fault) => later_message(alloc, fault),
         CommandFault::TakeOnline(fault) => online_take_message(alloc, fault),
         CommandFault::Recover(fault) => recover_message(alloc, fault),
         CommandFault::Examine(fault) => examine_message(alloc, fault),

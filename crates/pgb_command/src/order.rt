@@ -7,10 +7,12 @@ use crate::fault::Fault;
 use crate::settings::{Request, Settings};
 use pgb_get::{GetOrder, get_order};
 use pgb_options::OutputWord;
+use pgb_plan::PlanSettings;
 use pgb_push::{PushOrder, push_order};
 use pgb_recover::{RecoverOrder, recover_order};
 use pgb_retain::Rules;
 use pgb_take::TakeOrder;
+use pgb_take_later::LaterOrder;
 use std::alloc::Global;
 
 /// A full backup of a running server: of which data folder into which repository, whether the server makes its
@@ -28,7 +30,7 @@ pub enum Order<'a> {
     StanzaCreate,
     ArchivePush(PushOrder<'a>),
     ArchiveGet(GetOrder<'a>),
-    Backup(TakeOrder<'a>),
+    Backup(LaterOrder<'a>),
     BackupRunning(RunningOrder<'a>),
     Restore(RecoverOrder<'a>),
     Info(OutputWord),
@@ -52,10 +54,23 @@ pub(crate) fn order_of<'a>(alloc: Global, settings: &Settings<'a>) -> Result<Ord
             name,
             path,
         )?)),
-        Request::Backup { workers } => Ok(Order::Backup(TakeOrder {
-            data_folder: settings.pg1_path,
-            repository: settings.repo1_path,
+        Request::Backup {
             workers,
+            kind,
+            delta,
+        } => Ok(Order::Backup(LaterOrder {
+            take: TakeOrder {
+                data_folder: settings.pg1_path,
+                repository: settings.repo1_path,
+                workers,
+            },
+            kind,
+            settings: PlanSettings {
+                delta,
+                bundle: false,
+                bundle_size: 0,
+                bundle_limit: 0,
+            },
         })),
         Request::BackupRunning {
             workers,

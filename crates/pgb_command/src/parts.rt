@@ -2,10 +2,10 @@
 ghost use Rattle.std.specs.Prelude.{◌≡◌, None, map};
 ghost use Rattle.pgb_stage.specs.Plans.{AreHeld};
 ghost use Rattle.pgb_prepare.specs.Readies.{IsReady};
-ghost use Rattle.pgb_command.specs.Asked.{create as asks_create, push as asks_push, get as asks_get, backup as asks_backup, report as asks_report, examine as asks_examine, expire as asks_expire};
+ghost use Rattle.pgb_command.specs.Asked.{create as asks_create, push as asks_push, get as asks_get, report as asks_report, examine as asks_examine, expire as asks_expire};
 ghost use Rattle.pgb_command.specs.Did.{Ran};
 ghost use Rattle.pgb_command.specs.Told.{request_of, asked_of, AreWorkers, IsOrder};
-ghost use Rattle.pgb_command.specs.declared.order.Order.TheVariants.{BackupRunning as BackupRunningOrder, Restore as RestoreOrder};
+ghost use Rattle.pgb_command.specs.declared.order.Order.TheVariants.{Backup as BackupOrder, BackupRunning as BackupRunningOrder, Restore as RestoreOrder};
 ghost use Rattle.pgb_command.specs.Tables.{plan_of};
 
 use crate::fault::{
@@ -27,7 +27,7 @@ use pgb_push::{PushOrder, push_file};
 use pgb_recover::{RecoverOrder, recover_backup};
 use pgb_retain::Rules;
 use pgb_stage::Outcome;
-use pgb_take::{TakeOrder, take_backup};
+use pgb_take_later::{LaterOrder, take_later};
 use pgb_take_online::{OnlineOrder, take_online};
 use pgb_turn::Aside;
 use std::alloc::Global;
@@ -144,10 +144,10 @@ impl<
         &mut self,
         alloc: Global,
         settings: &Settings<'_>,
-        order: TakeOrder<'_>,
+        order: LaterOrder<'_>,
         ready: Ready,
     ) -> Result<Outcome, Fault>
-        requires request { request_of settings.now.request ≡ asks_backup order.workers }
+        requires order { IsOrder (request_of settings.now.request) settings.now.pg1_path.now (BackupOrder order) }
         requires locked { AreHeld (plan_of (request_of settings.now.request)) settings.now.stanza.now
             (K.state self.old.locks).taken }
         requires workers { AreWorkers (map L.link_state self.old.links.items) }
@@ -170,7 +170,7 @@ impl<
         ) else {
             unreachable!();
         };
-        take_end(take_backup(
+        take_end(take_later(
             alloc,
             &mut self.repo,
             &mut self.tree,

@@ -4,6 +4,7 @@ ghost use Rattle.pgb_table.specs.Values.{is_stanza};
 ghost use Rattle.pgb_command.specs.Serving.{is_served};
 
 use pgb_create::Server;
+use pgb_model::Kind;
 use pgb_options::OutputWord;
 use pgb_recover::RecoveryType;
 use pgb_retain::Rules;
@@ -21,9 +22,12 @@ pub enum Request<'a> {
         name: &'a str,
         path: &'a str,
     },
-    /// A full backup of a stopped server, with as many workers at most.
+    /// A backup of this kind of a stopped server, with as many workers at most; whether a file is told from the prior
+    /// backup's by its digest.
     Backup {
         workers: u32,
+        kind: Kind,
+        delta: bool,
     },
     /// A full backup of a running server, with as many workers at most; whether it makes its checkpoint at once, and
     /// how many turns of other processes are waited for at most.

@@ -110,7 +110,7 @@ pub some_command : (a : Asked) (request : Request) (old new : Known) (P : Comman
 some_command a create old new P told turns on = create_there old.nodes P told on
 some_command a (push path) old new P told turns on = push_there a.data_folder path old.nodes P told on
 some_command a (get name path) old new P told turns on = (Reading, refl, on Reading refl)
-some_command a (backup workers) old new P told turns on = on
+some_command a (backup how) old new P told turns on = on
 some_command a (backup_running how) old new P told turns on = on turns
 some_command a (restore set how) old new P told turns on = (Reading, refl, on Reading refl)
 some_command a (report form) old new P told turns on = (Reading, refl, on Reading refl)

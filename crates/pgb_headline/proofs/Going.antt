@@ -78,7 +78,7 @@ pub turns_none : (a : Asked) (request : Request) (new : Known) → uses_turns re
 turns_none a create new none = tt
 turns_none a (push path) new none = tt
 turns_none a (get name path) new none = tt
-turns_none a (backup workers) new none = tt
+turns_none a (backup how) new none = tt
 turns_none a (backup_running how) new none = cc
 turns_none a (restore set how) new none = tt
 turns_none a (report form) new none = tt

@@ -27,5 +27,5 @@ mod texts;
 
 pub use fault::PruneFault;
 pub use pruning::prune_stanza;
-pub use rules::rules_of;
+pub use rules::{kind_by, rules_of};
 pub use texts::{prune_message, prune_status};

@@ -17,7 +17,8 @@ fn full_rule(number: Option<u32>, counts: RetentionWord) -> FullRule
     }
 }
 
-fn kind_by(word: KindWord) -> Kind
+/// The kind that a word names.
+pub fn kind_by(word: KindWord) -> Kind
     ensures { result ≡ kind_by word }
 {
     match word {

@@ -1,5 +1,5 @@
 -- Why a backup is refused, from what stood before.
-use Rattle.std.proofs.Common.{◌≡◌, inl, inr, ℕ, ◌<◌, ◌^◌, List, [], Option, Some, None, false, string_bytes, refl, sym, subst, length}
+use Rattle.std.proofs.Common.{◌≡◌, inl, inr, ℕ, ◌<◌, ◌^◌, List, [], Option, Some, None, string_bytes, refl, length}
 use Rattle.std.specs.Prelude.{IfSome}
 use Rattle.pgb_outside.specs.Content.{Content}
 use Rattle.pgb_outside.specs.Links.{LinkState}
@@ -12,12 +12,11 @@ use Rattle.pgb_model.specs.Pair.{PairIs}
 use Rattle.pgb_model.specs.Values.{BackupInfo, archive_info_of, backup_info_of}
 use Rattle.pgb_worker_dispatch.specs.declared.fault.Lost.{Lost}
 use Rattle.pgb_worker_dispatch.specs.Run.{Left}
-use Rattle.pgb_plan.specs.Filter.{ListedNode, Takes}
+use Rattle.pgb_plan.specs.Filter.{ListedNode}
 use Rattle.pgb_record.specs.Faults.{IsMissing}
 use Rattle.pgb_stage.specs.Current.{HasValue}
-use Rattle.pgb_stanza.specs.Judging.{Settles}
 use Rattle.pgb_backup.specs.declared.draft.Draft.{Draft}
-use Rattle.pgb_backup.specs.Draft.{taken_in, folders_in, jobs_in, files_with, list_in}
+use Rattle.pgb_backup.specs.Draft.{jobs_in, files_with}
 use Rattle.pgb_backup.specs.Faults.{IsManifestTooLong, IsListTooLong}
 use Rattle.pgb_stage.specs.declared.object.Object.{Object}
 use Rattle.pgb_stage.specs.declared.object.Object.TheVariants as objects
@@ -25,8 +24,8 @@ use Rattle.pgb_stage.specs.Risen.{none, rose_in}
 use Rattle.pgb_prepare.specs.Readies.{IsArchiveOf, IsBackupOf}
 use Rattle.pgb_take.specs.declared.fault.TakeFault.{TakeFault}
 use Rattle.pgb_take.specs.declared.fault.TakeFault.TheVariants as faults
-use Rattle.pgb_take.specs.Causes.{Before, SettlesTo, IsDraftOf, CauseBy}
-use Rattle.pgb_take.specs.Drafting.{IsFullOf, ListingCause, DraftCause}
+use Rattle.pgb_take.specs.Causes.{Before, CauseBy}
+use Rattle.pgb_take.specs.Drafting.{ListingCause, DraftCause}
 use Rattle.pgb_take.specs.Making.{MakeCause}
 use Rattle.pgb_take.proofs.Links.{Comes, left_comes, where_done, unread_used, all_used_lost, within_count}
 use Rattle.pgb_take.proofs.Makings.{Either}
@@ -85,20 +84,6 @@ module _ (b : Before) (archive : rust_archive_info.ArchiveInfo) (backup : rust_b
   -- what both pairs have
   pub of_pairs : (P : Content → Type 0) → ((f : Content) → HasValue b.stanza f (archive_info_of archive) → PairIs IsBackupText f (backup_info b.stanza) (backup_info_of backup) → P f) → IfSome b.repo P
   of_pairs P to = if_both (λ f. HasValue b.stanza f (archive_info_of archive)) (λ f. PairIs IsBackupText f (backup_info b.stanza) (backup_info_of backup)) P b.repo is_archive.0 is_backup.0 to
-
-  -- a draft of the folder that was listed
-  pub draft_of : (seen : List ListedNode) → IfSome b.nodes (λ f. IsTreeListing f seen) → (list : BackupInfo) → Settles (archive_info_of archive) (backup_info_of backup) list → (d : Draft) → IsFullOf b.stanza seen list d → IsDraftOf b d
-  draft_of seen listing list settles d full = record {
-    stanza_is = full.stanza_is;
-    full = (full.full, full.prior, full.old);
-    takes = if_as (λ f. IsTreeListing f seen) (λ f. (ns : List ListedNode) × IsTreeListing f ns × Takes false ns (taken_in d) (folders_in d)) b.nodes listing (λ f l. (seen, l, full.takes));
-    list = of_pairs (SettlesTo b.stanza (list_in d)) (λ f p q. record {
-      archive = archive_info_of archive;
-      backup = backup_info_of backup;
-      pairs = record { archive = p; backup = q };
-      settles = subst (λ (w : BackupInfo). Settles (archive_info_of archive) (backup_info_of backup) w) (sym full.list_is) settles;
-    });
-  }
 
 -- ---- why the draft's backup isn't made
 

@@ -1,5 +1,5 @@
 -- Why a backup is refused, from what stood before.
-use Rattle.std.specs.Prelude.{◌≡◌, ◌⊎◌, ◌≤◌, ◌<◌, ◌+◌, ℕ, List, [], length, false, Option, None, IfSome, IsSome, string_bytes}
+use Rattle.std.specs.Prelude.{◌≡◌, ◌⊎◌, ◌≤◌, ◌<◌, ◌+◌, ℕ, List, length, false, Option, None, IfSome, IsSome, string_bytes}
 use Rattle.pgb_outside.specs.Content.{Content}
 use Rattle.pgb_outside.specs.Links.{LinkState}
 use Rattle.pgb_outside.specs.Tree.{Nodes, IsTreeListing}
@@ -11,14 +11,14 @@ use Rattle.pgb_model.specs.Values.{ArchiveInfo, BackupInfo}
 use Rattle.pgb_paths.specs.declared.names.NameFault.{NameFault}
 use Rattle.pgb_plan.specs.declared.fault.PlanFault.{PlanFault}
 use Rattle.pgb_plan.specs.declared.fault.PlanFault.TheVariants as plans
-use Rattle.pgb_plan.specs.Filter.{ListedNode, kept, IsRefused, Takes}
+use Rattle.pgb_plan.specs.Filter.{ListedNode, kept, IsRefused}
 use Rattle.pgb_record.specs.Faults.{IsMissing}
 use Rattle.pgb_stanza.specs.declared.control.Control.{Control}
 use Rattle.pgb_stanza.specs.Causes.{HistoriesDiffer, HasOther}
 use Rattle.pgb_stanza.specs.Judging.{Settles}
 use Rattle.pgb_stanza.specs.Pairs.{HavePairs}
 use Rattle.pgb_backup.specs.declared.draft.Draft.{Draft}
-use Rattle.pgb_backup.specs.Draft.{stanza_of, taken_in, folders_in, old_in, list_in, files_with}
+use Rattle.pgb_backup.specs.Draft.{files_with}
 use Rattle.pgb_backup.specs.Faults.{WhereDone}
 use Rattle.pgb_take.specs.declared.fault.TakeFault.{TakeFault}
 use Rattle.pgb_take.specs.declared.fault.TakeFault.TheVariants.{HistoryDiffers, StanzaMismatch, Running, TooMany, WorkersLost, ClockBehind, LinkFound, NameRefused, ListingUnordered, ControlMissing, Unread, TooLong}
@@ -49,13 +49,6 @@ pub record SettlesTo (stanza : Text) (list : BackupInfo) (f : Content) : Type 0 
   pub pairs : HavePairs stanza f archive backup
   pub settles : Settles archive backup list
 
--- a draft of a full backup of the folder, beside those of the stanza
-pub record IsDraftOf (b : Before) (d : Draft) : Type 0 where
-  pub stanza_is : stanza_of d ≡ b.stanza
-  pub full : (d.label.later ≡ None) × (d.prior ≡ None) × (old_in d ≡ [])
-  pub takes : Shows b (λ seen. Takes false seen (taken_in d) (folders_in d))
-  pub list : IfSome b.repo (SettlesTo b.stanza (list_in d))
-
 -- it is so of a draft of this kind
 abbrev pub OfDraft : (Draft → Type 0) → (Draft → Type 0) → Type 0
 OfDraft IsIt P = (d : Draft) × IsIt d × P d
@@ -80,6 +73,6 @@ CauseBy b IsIt (ControlMissing path) = Refuses b (plans.ControlMissing path)
 CauseBy b IsIt (Unread path) = OfDraft IsIt (λ d. CannotRead d b.used path)
 CauseBy b IsIt (TooLong name limit) = OfDraft IsIt (λ d. IsPast d b.used name limit)
 
--- why a full one is
+-- why one is refused that no draft is to blame for
 abbrev pub TakeCause : Before → TakeFault → Type 0
-TakeCause b fault = CauseBy b (IsDraftOf b) fault
+TakeCause b fault = CauseBy b (λ d. ⊥) fault

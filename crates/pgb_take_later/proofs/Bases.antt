@@ -1,10 +1,12 @@
 -- What a backup is based on: the manifest that was read.
-use Rattle.std.proofs.Common.{◌≡◌, ℕ, List, [], Option, Some, None, refl, sym, ◌∙◌, ap, subst, option_map, arith}
+use Rattle.std.proofs.Common.{◌≡◌, ℕ, List, [], ◌∷◌, Option, Some, None, refl, sym, ◌∙◌, ap, subst, option_map, arith}
 use Rattle.std.specs.Prelude.{IfSome, IsSomeAnd, option_and_then}
+use Rattle.std.specs.Option.{option_or}
 use Rattle.pgb_outside.specs.Content.{Content}
 use Rattle.pgb_outside.specs.Moments.{View}
 use Rattle.pgb_model.specs.declared.clusters.Cluster.{Cluster}
 use Rattle.pgb_model.specs.declared.labels.Kind.{Kind}
+use Rattle.pgb_model.specs.declared.labels.Kind.TheVariants.{Full}
 use Rattle.pgb_model.specs.declared.labels.Label.{Label}
 use Rattle.pgb_model.specs.Fields.{at_number}
 use Rattle.pgb_model.specs.InfoFiles.{IsLabel, IsBackupInfo, IsBackupText}
@@ -21,14 +23,29 @@ use Rattle.pgb_stanza.specs.Judging.{Settles}
 use Rattle.pgb_stage.specs.Current.{HasValue}
 use Rattle.pgb_backup.specs.declared.draft.Draft.{Draft}
 use Rattle.pgb_backup.specs.Draft.{stanza_of, old_in, list_in, IsDraft}
-use Rattle.pgb_draft.specs.Priors.{prior_for}
+use Rattle.pgb_draft.specs.Priors.{latest_full, may_base, last_of, prior_for}
 use Rattle.pgb_draft.proofs.Priors.{prior_is}
 use Rattle.pgb_logged.proofs.Based.{IsBase, BasedOn}
-use Rattle.pgb_logged.proofs.Begun.{BeginsBackup}
+use Rattle.pgb_logged.proofs.Begun.{BeginsFull, BeginsBackup}
 use Rattle.pgb_take_later.specs.declared.order.LaterOrder.{LaterOrder}
-use Rattle.pgb_take_later.specs.Basing.{base_in, old_files, ReadsBase}
+use Rattle.pgb_take_later.specs.Basing.{base_in, base_label, old_files, ReadsBase}
 use Rattle.pgb_take_later.specs.Drafting.{MayBase, IsLaterOf}
 use Rattle.pgb_take_later.specs.Making.{BeginsFrom}
+
+-- ---- a full one is based on none
+
+none_last : (cluster full : ℕ) (es : List Entry) → last_of (may_base Full cluster full) es ≡ None
+none_last cluster full [] = refl
+none_last cluster full (e ∷ es) = ap (λ (o : Option Entry). option_or o None) (none_last cluster full es)
+
+pub no_base : (list : BackupInfo) → base_label Full list ≡ None
+no_base list = by (at_number list.current list.history)
+  where
+    by : (o : Option Cluster) → option_map (λ (e : Entry). e.label) (option_and_then (λ (c : Cluster). prior_for Full c.id list.backups) o) ≡ None
+    by None = refl
+    by (Some c) = ap (λ (p : Option Entry). option_map (λ (e : Entry). e.label) p) (none_last c.id (latest_full list.backups) list.backups)
+
+-- ---- what one is based on
 
 -- a draft's label keeps the rules
 pub draft_label : (d : Draft) → IsDraft d → IsLabel d.label
@@ -102,3 +119,18 @@ module _ (stanza : Text) (o : LaterOrder) (seen : List ListedNode) (list : Backu
     backup_read = subst (λ (s : Text). IfSome b.now (λ f. PairIs IsBackupText f (backup_info s) from.backup)) (sym later.stanza_is) from.backup_read;
     settles = subst (λ (w : BackupInfo). Settles from.archive from.backup w) (sym later.list_is) from.settles;
   }
+
+  -- without a prior it is that of a full one
+  pub begins_full : IsDraft d → d.prior ≡ None → BeginsFull d b.now
+  begins_full is_draft none =
+      let x = begins_later is_draft in
+      record {
+        is_draft = is_draft;
+        no_old = subst (λ (p : Option Label). BasedOn d b p) none based_on_it;
+        no_prior = none;
+        archive = x.archive;
+        backup = x.backup;
+        archive_read = x.archive_read;
+        backup_read = x.backup_read;
+        settles = x.settles;
+      }

@@ -1,3 +1,4 @@
+pub mod Statuses
 pub mod Bases
 pub mod Takings
 pub mod Causes

@@ -1,5 +1,5 @@
 -- What a backup of any kind does, and what is told of it.
-use Rattle.std.proofs.Common.{◌≡◌, ⊎_elim, inl, inr, ◌<◌, ℕ, List, length, Bool, true, false, Option, Some, refl, sym, ◌∙◌, ap, subst, string_bytes}
+use Rattle.std.proofs.Common.{◌≡◌, ⊎_elim, inl, inr, ◌<◌, ℕ, List, length, Bool, true, false, Option, Some, None, refl, sym, ◌∙◌, ap, subst, string_bytes}
 use Rattle.std.specs.Prelude.{IfSome, IsSome, IsErrAnd, OnOk, IfOk, Result, Ok, Err}
 use Rattle.pgb_outside.specs.Content.{Content}
 use Rattle.pgb_outside.specs.Links.{LinkState}
@@ -7,6 +7,8 @@ use Rattle.pgb_outside.specs.Moments.{View, Rests}
 use Rattle.pgb_model.specs.declared.clusters.ArchiveInfo as rust_archive_info
 use Rattle.pgb_model.specs.declared.clusters.BackupInfo as rust_backup_info
 use Rattle.pgb_model.specs.declared.labels.Choices.{Choices}
+use Rattle.pgb_model.specs.declared.labels.Kind.{Kind}
+use Rattle.pgb_model.specs.declared.labels.Kind.TheVariants.{Full, Diff, Incr}
 use Rattle.pgb_model.specs.declared.labels.Label.{Label}
 use Rattle.pgb_model.specs.InfoFiles.{IsBackupText}
 use Rattle.pgb_model.specs.Names.{backup_info}
@@ -27,6 +29,7 @@ use Rattle.pgb_backup.specs.declared.draft.Draft.{Draft}
 use Rattle.pgb_backup.specs.declared.fault.MakeFault.{MakeFault}
 use Rattle.pgb_backup.specs.Draft.{stanza_of, main_of, IsDraft}
 use Rattle.pgb_backup.specs.Made.{Outcome as Makes}
+use Rattle.pgb_archive.specs.Still.{IsStill}
 use Rattle.pgb_stage.specs.declared.halt.Halt.{Halt}
 use Rattle.pgb_stage.specs.declared.halt.Halt.TheVariants.{Refused, Failed, NoMemory}
 use Rattle.pgb_stage.specs.declared.outcome.Outcome.{Outcome}
@@ -37,26 +40,27 @@ use Rattle.pgb_stage.specs.Reached.{OnFinished, reached_by, back_if, fails_early
 use Rattle.pgb_stage.specs.Runs.{Reached, to_end, turned_back, stopped, Does, On, one}
 use Rattle.pgb_stage.proofs.After.{does_after}
 use Rattle.pgb_prepare.specs.Readies.{IsArchiveOf, IsBackupOf}
-use Rattle.pgb_logged.specs.Backups.{IsOfLink, IsLeftOf, IsReadOrLeft, IsAnyBackup, AddsBackup}
-use Rattle.pgb_logged.proofs.Added.{adds_backup}
-use Rattle.pgb_logged.proofs.Begun.{BeginsBackup}
-use Rattle.pgb_logged.proofs.Full.{no_later, does_backup}
+use Rattle.pgb_logged.specs.Backups.{IsOfLink, IsLeftOf, IsReadOrLeft, IsFullBackup, IsAnyBackup, AddsBackup, bytes_in}
+use Rattle.pgb_logged.proofs.Added.{adds_backup, adds_full_backup}
+use Rattle.pgb_logged.proofs.Begun.{BeginsFull, BeginsBackup}
+use Rattle.pgb_logged.proofs.Full.{no_later, no_backup, does_backup, does_full}
 use Rattle.pgb_take.specs.declared.fault.TakeFault.{TakeFault}
 use Rattle.pgb_take.specs.Beginning.{most_backups}
 use Rattle.pgb_take.specs.Faults.{take_early}
 use Rattle.pgb_take.specs.Making.{IsEndWith, Well, Ill, Finishes}
 use Rattle.pgb_take.proofs.Causes.{if_both}
-use Rattle.pgb_take.proofs.Links.{Comes, link_by_used}
+use Rattle.pgb_take.proofs.Links.{Comes, link_by_used, full_by_used, all_read_on}
 use Rattle.pgb_take.proofs.Makings.{end_ok, end_early}
 use Rattle.pgb_take_later.specs.declared.fault.LaterFault.{LaterFault}
 use Rattle.pgb_take_later.specs.declared.order.LaterOrder.{LaterOrder}
 use Rattle.pgb_take_later.specs.Basing.{base_in, base_label, old_files, ReadsBase}
 use Rattle.pgb_take_later.specs.Drafting.{IsLaterOf}
 use Rattle.pgb_take_later.specs.Faults.{of_take, later_early}
+use Rattle.pgb_take_later.specs.Kinds.{IsBackupBy}
 use Rattle.pgb_take_later.specs.Making.{BeginsFrom, IsMade}
 use Rattle.pgb_take_later.specs.Taken.{HasRoom}
 use Rattle.pgb_take_later.specs.Texts.{later_lines}
-use Rattle.pgb_take_later.proofs.Bases.{begins_later}
+use Rattle.pgb_take_later.proofs.Bases.{begins_later, begins_full, no_base}
 
 -- ---- where it is refused before
 
@@ -70,9 +74,15 @@ not_end (Err (Refused e)) h is at = let e : turned_back ≡ to_end = at in cc
 not_end (Err (Failed object)) h is at = back_not (fails_early object) at
 not_end (Err NoMemory) h is at = let e : stopped ≡ to_end = at in cc
 
-pub refused_later : (used : List LinkState) (stanza : Text) (result : Result Outcome (Halt LaterFault)) (h : Halt LaterFault) → IsErrAnd result (λ x. x ≡ h) → (a b : View) → Rests a b → b.now ≡ a.now
-    → On (one (IsAnyBackup used stanza a.now)) (λ command. Does Whole stanza command (reached_by later_early result) a b)
-refused_later used stanza result h is a b rests same = no_later used stanza (reached_by later_early result) a b (not_end result h is) (record { now = same; time = rests })
+-- a backup that was never listed
+none_by : (kind : Kind) (links : List LinkState) (stanza : Text) (reached : Reached) (a b : View) → ¬ (reached ≡ to_end) → IsStill a b → On (one (IsBackupBy kind links stanza a.now)) (λ command. Does Whole stanza command reached a b)
+none_by Full links stanza reached a b not still = no_backup links stanza reached a b not still
+none_by Diff links stanza reached a b not still = no_later links stanza reached a b not still
+none_by Incr links stanza reached a b not still = no_later links stanza reached a b not still
+
+pub refused_later : (kind : Kind) (used : List LinkState) (stanza : Text) (result : Result Outcome (Halt LaterFault)) (h : Halt LaterFault) → IsErrAnd result (λ x. x ≡ h) → (a b : View) → Rests a b → b.now ≡ a.now
+    → On (one (IsBackupBy kind used stanza a.now)) (λ command. Does Whole stanza command (reached_by later_early result) a b)
+refused_later kind used stanza result h is a b rests same = none_by kind used stanza (reached_by later_early result) a b (not_end result h is) (record { now = same; time = rests })
 
 -- a halt that a full backup may have too comes as far
 pub same_reach : (h : Halt TakeFault) → reached_by take_early (let r : Result Outcome (Halt TakeFault) = Err h in r) ≡ reached_by later_early (Err (of_take h))
@@ -94,16 +104,21 @@ on_finished P Q (FindingsFound lines) to h = absurd h
 -- ---- by the used links
 
 module _ (used now : List LinkState) (comes : Comes used now) (stanza : Text) (old : Option Content) where
-  pub read_by_used : (b : Backup) → IsReadOrLeft now stanza old b → IsReadOrLeft used stanza old b
-  read_by_used b h = record {
+  pub left_by_used : (b : Backup) → IsReadOrLeft now stanza old b → IsReadOrLeft used stanza old b
+  left_by_used b h = record {
     read = λ path x has some. ⊎_elim
         (λ (read : IsOfLink now path x.bytes). inl (link_by_used used now comes path x.bytes read))
         (λ (was : IsLeftOf stanza old b path x). inr was)
         (h.read path x has some);
   }
 
-  pub any_by_used : (command : Command) → IsAnyBackup now stanza old command → IsAnyBackup used stanza old command
-  any_by_used command h = (h.0, h.1, read_by_used h.0 h.2)
+  any_by_used : (command : Command) → IsAnyBackup now stanza old command → IsAnyBackup used stanza old command
+  any_by_used command h = (h.0, h.1, left_by_used h.0 h.2)
+
+  pub backup_by_used : (kind : Kind) (command : Command) → IsBackupBy kind now stanza old command → IsBackupBy kind used stanza old command
+  backup_by_used Full command h = full_by_used used now comes command h
+  backup_by_used Diff command h = any_by_used command h
+  backup_by_used Incr command h = any_by_used command h
 
 -- ---- where it was made, or might have been
 
@@ -113,9 +128,9 @@ not_ended (Err (Refused e)) h is at = let e : turned_back ≡ to_end = at in cc
 not_ended (Err (Failed object)) h is at = back_not (fails_early object) at
 not_ended (Err NoMemory) h is at = let e : stopped ≡ to_end = at in cc
 
-pub undrafted_does : (links : List LinkState) (stanza : Text) (result : Result Outcome (Halt TakeFault)) (h : Halt TakeFault) → IsErrAnd result (λ x. x ≡ h) → (a b : View) → Rests a b → b.now ≡ a.now
-    → On (one (IsAnyBackup links stanza a.now)) (λ command. Does Whole stanza command (reached_by take_early result) a b)
-undrafted_does links stanza result h is a b rests same = no_later links stanza (reached_by take_early result) a b (not_ended result h is) (record { now = same; time = rests })
+pub undrafted_does : (kind : Kind) (links : List LinkState) (stanza : Text) (result : Result Outcome (Halt TakeFault)) (h : Halt TakeFault) → IsErrAnd result (λ x. x ≡ h) → (a b : View) → Rests a b → b.now ≡ a.now
+    → On (one (IsBackupBy kind links stanza a.now)) (λ command. Does Whole stanza command (reached_by take_early result) a b)
+undrafted_does kind links stanza result h is a b rests same = none_by kind links stanza (reached_by take_early result) a b (not_ended result h is) (record { now = same; time = rests })
 
 module _ (stanza : Text) (o : LaterOrder) (seen : List ListedNode) (list : BackupInfo) (old : List FileEntry) (second : ℕ) (draft : Draft) (later : IsLaterOf stanza o seen list old second draft) (lines : Text)
     (line_is : lines ≡ later_lines o.kind (base_in o.kind list) draft.label) (links : List LinkState) (a b d : View) (rests : Rests a b) (same : b.now ≡ a.now) (law : Law b) (is_draft : IsDraft draft)
@@ -123,20 +138,39 @@ module _ (stanza : Text) (o : LaterOrder) (seen : List ListedNode) (list : Backu
   begins : BeginsBackup draft b
   begins = begins_later stanza o seen list old second draft later b law (subst (λ (n : Option Content). BeginsFrom stanza o n list old) (sym same) from) is_draft
 
-  pub finished_does : (result : Result Outcome (Halt TakeFault)) → Finishes draft lines links b d result → On (one (IsAnyBackup links stanza a.now)) (λ command. Does Whole stanza command (reached_by take_early result) a d)
-  finished_does result f =
+  any_does : (result : Result Outcome (Halt TakeFault)) → Finishes draft lines links b d result → On (one (IsAnyBackup links stanza a.now)) (λ command. Does Whole stanza command (reached_by take_early result) a d)
+  any_does result f =
       let x = does_backup one_list one_manifest draft links b d begins f.made (reached_by take_early result) f.outcome (end_ok draft lines f.made result f.end) (end_early draft lines f.made result f.end) in (
         x.0,
         subst (λ (n : Option Content). IsAnyBackup links stanza n x.0) same (subst (λ (s : Text). IsAnyBackup links s b.now x.0) later.stanza_is x.1),
         does_after stanza x.0 (reached_by take_early result) a b d rests same (subst (λ (s : Text). Does Whole s x.0 (reached_by take_early result) b d) later.stanza_is x.2),
       )
 
+  full : draft.prior ≡ None → BeginsFull draft b.now
+  full none = begins_full stanza o seen list old second draft later b law (subst (λ (n : Option Content). BeginsFrom stanza o n list old) (sym same) from) is_draft none
+
+  full_does : draft.prior ≡ None → (result : Result Outcome (Halt TakeFault)) → Finishes draft lines links b d result → On (one (IsFullBackup links)) (λ command. Does Whole stanza command (reached_by take_early result) a d)
+  full_does none result f =
+      let x = does_full one_list one_manifest draft links b d (full none) f.made (reached_by take_early result) f.outcome (end_ok draft lines f.made result f.end) (end_early draft lines f.made result f.end) in (
+        x.0,
+        x.1,
+        does_after stanza x.0 (reached_by take_early result) a b d rests same (subst (λ (s : Text). Does Whole s x.0 (reached_by take_early result) b d) later.stanza_is x.2),
+      )
+
+  pub finished_does : (result : Result Outcome (Halt TakeFault)) → Finishes draft lines links b d result → On (one (IsBackupBy o.kind links stanza a.now)) (λ command. Does Whole stanza command (reached_by take_early result) a d)
+  finished_does result f = by o.kind refl
+    where
+      by : (kind : Kind) → o.kind ≡ kind → On (one (IsBackupBy kind links stanza a.now)) (λ command. Does Whole stanza command (reached_by take_early result) a d)
+      by Full is = full_does (later.prior ∙ ap (λ (k : Kind). base_label k list) is ∙ no_base list) result f
+      by Diff is = any_does result f
+      by Incr is = any_does result f
+
   made_by : (made : Result (Unit {0}) MakeFault) (result : Result Outcome (Halt TakeFault)) → IsEndWith draft lines made result → Makes made draft links b d
-      → OnOk result (IsSome b.now → IfSome d.now (AgreeAt (main_of draft))) → IfOk result (λ outcome. OnFinished outcome (IsMade stanza o list links a.now d.now))
+      → OnOk result (IsSome b.now → IfSome d.now (AgreeAt (main_of draft))) → IfOk result (λ outcome. OnFinished outcome (IsMade stanza o list seen links a.now d.now))
   made_by made result (Well u text tells) makes alike =
       let x = adds_backup one_list one_manifest draft links b d begins (Ok u) makes refl in
       let back = λ (some : IsSome a.now). subst (λ (n : Option Content). IsSome n) (sym same) some in
-      let whole : IsMade stanza o list links a.now d.now lines = record {
+      let whole : IsMade stanza o list seen links a.now d.now lines = record {
         backup = x.0;
         second = second;
         later = later.next.later;
@@ -147,28 +181,29 @@ module _ (stanza : Text) (o : LaterOrder) (seen : List ListedNode) (list : Backu
         read = subst (λ (n : Option Content). IsReadOrLeft links stanza n x.0) same (subst (λ (s : Text). IsReadOrLeft links s b.now x.0) later.stanza_is x.1.read);
         refers = λ s some stands. x.1.refers s (back some) (subst (λ (k : Text). NowStands k (Some s) b.now) (sym later.stanza_is) (subst (λ (n : Option Content). NowStands stanza (Some s) n) (sym same) stands));
         adds = subst (λ (s : Text). AddsBackup s x.0 a.now d.now) later.stanza_is (subst (λ (n : Option Content). AddsBackup (stanza_of draft) x.0 n d.now) same x.1.adds);
+        folder = λ none f repo some listing read. (adds_full_backup one_list one_manifest draft links b d (full (sym x.1.prior ∙ none)) (Ok u) makes refl).1.of_folder (back some) f repo seen read listing later.takes;
         alike = λ some. subst (λ (s : Text). IfSome d.now (AgreeAt (backup_info s))) later.stanza_is (alike (back some));
       } in
-      subst (λ (t : Text). IsMade stanza o list links a.now d.now t) (sym tells) whole
+      subst (λ (t : Text). IsMade stanza o list seen links a.now d.now t) (sym tells) whole
   made_by made result (Ill lost fault halt why) makes alike = tt
 
-  pub finished_made : (result : Result Outcome (Halt TakeFault)) → Finishes draft lines links b d result → OnOk result (IsSome b.now → IfSome d.now (AgreeAt (main_of draft))) → IfOk result (λ outcome. OnFinished outcome (IsMade stanza o list links a.now d.now))
+  pub finished_made : (result : Result Outcome (Halt TakeFault)) → Finishes draft lines links b d result → OnOk result (IsSome b.now → IfSome d.now (AgreeAt (main_of draft))) → IfOk result (λ outcome. OnFinished outcome (IsMade stanza o list seen links a.now d.now))
   finished_made result f alike = made_by f.made result f.end f.outcome alike
 
 -- ---- the whole command
 
 module _ (used now : List LinkState) (comes : Comes used now) (stanza : Text) (a c d : View) (rests : Rests a c) (same : c.now ≡ a.now) where
   -- its own part after calls that only read
-  pub command_does : (r : Result Outcome (Halt TakeFault)) (reached : Reached) → reached_by take_early r ≡ reached → On (one (IsAnyBackup now stanza c.now)) (λ command. Does Whole stanza command (reached_by take_early r) c d)
-      → On (one (IsAnyBackup used stanza a.now)) (λ command. Does Whole stanza command reached a d)
-  command_does r reached is x = (
+  pub command_does : (kind : Kind) (r : Result Outcome (Halt TakeFault)) (reached : Reached) → reached_by take_early r ≡ reached → On (one (IsBackupBy kind now stanza c.now)) (λ command. Does Whole stanza command (reached_by take_early r) c d)
+      → On (one (IsBackupBy kind used stanza a.now)) (λ command. Does Whole stanza command reached a d)
+  command_does kind r reached is x = (
     x.0,
-    any_by_used used now comes stanza a.now x.0 (subst (λ (n : Option Content). IsAnyBackup now stanza n x.0) same x.1),
+    backup_by_used used now comes stanza a.now kind x.0 (subst (λ (n : Option Content). IsBackupBy kind now stanza n x.0) same x.1),
     subst (λ (q : Reached). Does Whole stanza x.0 q a d) is (does_after stanza x.0 (reached_by take_early r) a c d rests same x.2),
   )
 
-  pub made_by_used : (o : LaterOrder) (list : BackupInfo) (lines : Text) → IsMade stanza o list now c.now d.now lines → IsMade stanza o list used a.now d.now lines
-  made_by_used o list lines m = record {
+  pub made_by_used : (o : LaterOrder) (list : BackupInfo) (seen : List ListedNode) (lines : Text) → IsMade stanza o list seen now c.now d.now lines → IsMade stanza o list seen used a.now d.now lines
+  made_by_used o list seen lines m = record {
     backup = m.backup;
     second = m.second;
     later = m.later;
@@ -176,9 +211,10 @@ module _ (used now : List LinkState) (comes : Comes used now) (stanza : Text) (a
     prior = m.prior;
     line = m.line;
     delta = m.delta;
-    read = read_by_used used now comes stanza a.now m.backup (subst (λ (n : Option Content). IsReadOrLeft now stanza n m.backup) same m.read);
+    read = left_by_used used now comes stanza a.now m.backup (subst (λ (n : Option Content). IsReadOrLeft now stanza n m.backup) same m.read);
     refers = λ s some stands. m.refers s (subst (λ (n : Option Content). IsSome n) (sym same) some) (subst (λ (n : Option Content). NowStands stanza (Some s) n) (sym same) stands);
     adds = subst (λ (n : Option Content). AddsBackup stanza m.backup n d.now) same m.adds;
+    folder = λ none f repo some listing read. m.folder none f repo (subst (λ (n : Option Content). IsSome n) (sym same) some) listing (all_read_on used now comes (bytes_in f) repo read);
     alike = λ some. m.alike (subst (λ (n : Option Content). IsSome n) (sym same) some);
   }
 

@@ -1,7 +1,8 @@
 -- How a backup of any kind is made, from what was read. Own.
-use Rattle.std.specs.Prelude.{◌≡◌, ◌⊎◌, ℕ, List, Option, Some, IfSome, IsSome}
+use Rattle.std.specs.Prelude.{◌≡◌, ◌⊎◌, ℕ, List, Option, Some, None, IfSome, IsSome}
 use Rattle.pgb_outside.specs.Content.{Content}
 use Rattle.pgb_outside.specs.Links.{LinkState}
+use Rattle.pgb_outside.specs.Tree.{Nodes, IsTreeListing}
 use Rattle.pgb_model.specs.InfoFiles.{IsBackupText}
 use Rattle.pgb_model.specs.Names.{backup_info}
 use Rattle.pgb_model.specs.Now.{NowStands}
@@ -12,6 +13,7 @@ use Rattle.pgb_model.specs.Stands.{IsAncestor, IsListed}
 use Rattle.pgb_model.specs.Text.{Text, In}
 use Rattle.pgb_model.specs.Values.{ArchiveInfo, BackupInfo, FileEntry, Manifest}
 use Rattle.pgb_worker_dispatch.specs.declared.fault.Lost.{Lost}
+use Rattle.pgb_worker_dispatch.specs.Payloads.{AllRead}
 use Rattle.pgb_plan.specs.Filter.{ListedNode}
 use Rattle.pgb_record.specs.Making.{labels_of}
 use Rattle.pgb_stage.specs.Current.{HasValue}
@@ -20,7 +22,7 @@ use Rattle.pgb_stanza.specs.Pairs.{AgreeAt}
 use Rattle.pgb_backup.specs.declared.draft.Draft.{Draft}
 use Rattle.pgb_draft.specs.Priors.{made_label}
 use Rattle.pgb_draft.specs.Seconds.{AreBefore}
-use Rattle.pgb_logged.specs.Backups.{IsReadOrLeft, AddsBackup}
+use Rattle.pgb_logged.specs.Backups.{IsReadOrLeft, AddsBackup, IsOfFolder, bytes_in}
 use Rattle.pgb_take.specs.declared.fault.TakeFault.{TakeFault}
 use Rattle.pgb_take.specs.Drafting.{DraftCause}
 use Rattle.pgb_take.specs.Making.{MakeCause}
@@ -45,7 +47,7 @@ abbrev pub RefersTo : Stanza → Backup → Type 0
 RefersTo s b = (l : Label) → In l b.entry.references → IsAncestor s.backups l b × IsListed s.backups l
 
 -- One backup more is made, which these lines tell: it is based on the backup of the list that its kind asks for, of what the links read and of what that backup has.
-pub record IsMade (stanza : Text) (o : LaterOrder) (list : BackupInfo) (links : List LinkState) (old new : Option Content) (lines : Text) : Type 0 where
+pub record IsMade (stanza : Text) (o : LaterOrder) (list : BackupInfo) (seen : List ListedNode) (links : List LinkState) (old new : Option Content) (lines : Text) : Type 0 where
   pub backup : Backup
   pub second : ℕ
   pub later : AreBefore (labels_of list.backups) second
@@ -56,6 +58,8 @@ pub record IsMade (stanza : Text) (o : LaterOrder) (list : BackupInfo) (links : 
   pub read : IsReadOrLeft links stanza old backup
   pub refers : (s : Stanza) → IsSome old → NowStands stanza (Some s) old → RefersTo s backup
   pub adds : AddsBackup stanza backup old new
+  -- where no backup is before it, and the links read the folder that was listed, it is the folder's
+  pub folder : backup.entry.prior ≡ None → (f : Nodes) (repo : Content) → IsSome old → IsTreeListing f seen → AllRead (bytes_in f) repo links → IsOfFolder f backup
   -- both members of the backup pair are alike
   pub alike : IsSome old → IfSome new (AgreeAt (backup_info stanza))
 

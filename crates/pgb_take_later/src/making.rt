@@ -12,10 +12,10 @@ ghost use Rattle.pgb_stage.specs.Halts.{HaltCause};
 ghost use Rattle.pgb_stage.specs.Reached.{OnFinished, reached_by};
 ghost use Rattle.pgb_stage.specs.Risen.{none, rose_in};
 ghost use Rattle.pgb_stage.specs.Runs.{On, one, Does};
-ghost use Rattle.pgb_logged.specs.Backups.{IsAnyBackup};
 ghost use Rattle.pgb_take.specs.Faults.{take_early};
 ghost use Rattle.pgb_take_later.specs.Basing.{base_in};
 ghost use Rattle.pgb_take_later.specs.Drafting.{MayBase};
+ghost use Rattle.pgb_take_later.specs.Kinds.{IsBackupBy};
 ghost use Rattle.pgb_take_later.specs.Making.{BeginsFrom, IsMade, MakingCause};
 
 use crate::drafting::draft_later;
@@ -47,12 +47,13 @@ pub(crate) fn make_later<'a, D: Disk, L: Link, U: Turns, C: Clock>(
     requires old { MayBase (base_in order.now.kind (backup_info_of begun.list)) (map file_entry_of old.now) }
     requires from { BeginsFrom stanza.now order.now (D.state repo.old).view.now (backup_info_of begun.list)
         (map file_entry_of old.now) }
-    // In the log it is a backup of what the links read, and of what its prior has.
-    ensures does { On (one (IsAnyBackup (map L.link_state links.old.items) stanza.now (D.state repo.old).view.now))
-        (λ command. Does Whole stanza.now command (reached_by take_early result) (D.state repo.old).view
-        (D.state repo.new).view) }
+    // In the log it is a backup of what the links read, and, unless it is a full one, of what its prior has.
+    ensures does { On (one (IsBackupBy order.now.kind (map L.link_state links.old.items) stanza.now
+        (D.state repo.old).view.now)) (λ command. Does Whole stanza.now command (reached_by take_early result)
+        (D.state repo.old).view (D.state repo.new).view) }
     ensures made { IfOk result (λ outcome. OnFinished outcome (IsMade stanza.now order.now (backup_info_of begun.list)
-        (map L.link_state links.old.items) (D.state repo.old).view.now (D.state repo.new).view.now)) }
+        (map seen_of begun.seen.items) (map L.link_state links.old.items) (D.state repo.old).view.now
+        (D.state repo.new).view.now)) }
     ensures beside { StaysBeside stanza.now (D.state repo.old).view (D.state repo.new).view }
     ensures frame { Frame (D.state repo.old) (D.state repo.new) }
     ensures later { (C.state clock.old).faults ≤ (C.state clock.new).faults }

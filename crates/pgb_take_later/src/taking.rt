@@ -12,9 +12,9 @@ ghost use Rattle.pgb_stage.specs.Reached.{OnFinished, reached_by};
 ghost use Rattle.pgb_stage.specs.Risen.{none, rose_in};
 ghost use Rattle.pgb_stage.specs.Runs.{On, one, Does};
 ghost use Rattle.pgb_prepare.specs.Readies.{IsArchiveOf, IsBackupOf};
-ghost use Rattle.pgb_logged.specs.Backups.{IsAnyBackup};
 ghost use Rattle.pgb_take_later.specs.Faults.{later_early};
 ghost use Rattle.pgb_take_later.specs.Basing.{old_files};
+ghost use Rattle.pgb_take_later.specs.Kinds.{IsBackupBy};
 ghost use Rattle.pgb_take_later.specs.Taken.{IsTaken};
 ghost use Rattle.pgb_take_later.specs.Causes.{LaterCause};
 
@@ -61,8 +61,9 @@ pub fn take_later<D: Disk, T: Tree, C: Clock, K: Locks, L: Link, U: Turns>(
     requires ready { AreReady (map L.link_state links.old.items) }
     requires archive { IsArchiveOf stanza.now (D.state repo.old).view.now archive.now }
     requires backup { IsBackupOf stanza.now (D.state repo.old).view.now backup }
-    // In the log it is a backup of what the used links read, and of what its prior has.
-    ensures does { On (one (IsAnyBackup (take order.entry.take.workers (map L.link_state links.old.items)) stanza.now
+    // In the log it is a backup of what the used links read, and, unless it is a full one, of what its prior has.
+    ensures does { On (one (IsBackupBy order.entry.kind
+        (take order.entry.take.workers (map L.link_state links.old.items)) stanza.now
         (D.state repo.old).view.now)) (λ command.
         Does Whole stanza.now command (reached_by later_early result) (D.state repo.old).view (D.state repo.new).view) }
     ensures taken { IfOk result (λ outcome. OnFinished outcome

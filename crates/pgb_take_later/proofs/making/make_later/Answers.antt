@@ -20,7 +20,7 @@ use Rattle.pgb_take_later.proofs.making.make_later.Goals as goal
 
 pub returns-in_err-draft-clause-does : goal.returns-in_err-draft-clause-does
 returns-in_err-draft-clause-does g c =
-    undrafted_does (map g.L.Link.link_state c.args.links.now.items) c.args.stanza.now c.from_residual.result c.in_err-draft.field-0.0 c.from_residual.ensures.1
+    undrafted_does c.args.order.now.kind (map g.L.Link.link_state c.args.links.now.items) c.args.stanza.now c.from_residual.result c.in_err-draft.field-0.0 c.from_residual.ensures.1
     (g.D.Disk.state c.args.repo.now).view (g.D.Disk.state c.draft_later.new.repo).view c.draft_later.ensures.looks.time c.draft_later.ensures.looks.now
 
 pub returns-clause-does : goal.returns-clause-does
@@ -33,9 +33,13 @@ returns-clause-does g c =
 
 pub returns-clause-made : goal.returns-clause-made
 returns-clause-made g c =
-    let later = c.in_ok-draft.ensures.later in
+    let list = backup_info_of c.args.begun.list in
+    let old = map file_entry_of c.args.old.now in
+    let draft = c.in_ok-draft.draft in
+    let second = c.in_ok-draft.ensures.later.0 in
+    let later = subst (λ (ss : List rust_seen.Seen). IsLaterOf c.args.stanza.now c.args.order.now (map seen_of ss) list old second draft) c.deref.ensures.value c.in_ok-draft.ensures.later.1 in
     let looks = c.draft_later.ensures.looks in
-    finished_made c.args.stanza.now c.args.order.now (map seen_of c.deref.result.now) (backup_info_of c.args.begun.list) (map file_entry_of c.args.old.now) later.0 c.in_ok-draft.draft later.1 _ c.in_ok-draft.ensures.lines
+    finished_made c.args.stanza.now c.args.order.now (map seen_of c.args.begun.seen.items) list old second draft later _ c.in_ok-draft.ensures.lines
     (map g.L.Link.link_state c.args.links.now.items) (g.D.Disk.state c.args.repo.now).view (g.D.Disk.state c.draft_later.new.repo).view (g.D.Disk.state c.finish.new.repo).view looks.time looks.now
     (g.met.D.Disk.now_may_be_left c.draft_later.new.repo) c.in_ok-draft.ensures.draft c.requires.from c.finish.result c.finish.ensures.made c.finish.ensures.alike
 

@@ -15,7 +15,6 @@ use Rattle.pgb_stage.specs.Halts.{HaltCause, Only}
 use Rattle.pgb_stage.specs.Reached.{OnFinished, reached_by}
 use Rattle.pgb_stage.specs.Runs.{On, one, Does}
 use Rattle.pgb_stage.proofs.Counts.{rises_from}
-use Rattle.pgb_logged.specs.Backups.{IsAnyBackup}
 use Rattle.pgb_take.specs.declared.fault.TakeFault.{TakeFault}
 use Rattle.pgb_take.specs.Causes.{Before, CauseBy}
 use Rattle.pgb_take.specs.Faults.{take_early}
@@ -28,6 +27,7 @@ use Rattle.pgb_take_later.specs.Basing.{base_in, base_label, old_files, BaseCaus
 use Rattle.pgb_take_later.specs.Causes.{IsDraftOf, LaterCause}
 use Rattle.pgb_take_later.specs.Drafting.{MayBase}
 use Rattle.pgb_take_later.specs.Faults.{of_take, later_early}
+use Rattle.pgb_take_later.specs.Kinds.{IsBackupBy}
 use Rattle.pgb_take_later.specs.Making.{IsMade, MakingCause}
 use Rattle.pgb_take_later.specs.Taken.{IsTaken}
 use Rattle.pgb_take_later.proofs.Bases.{may_base}
@@ -38,11 +38,11 @@ use Rattle.pgb_take_later.proofs.taking.take_later.Goals as goal
 pub returns-in-Err-clause-does : goal.returns-in-Err-clause-does
 returns-in-Err-clause-does g c =
     let a = (g.D.Disk.state c.args.repo.now).view in
-    refused_later (take c.args.order.take.workers (map g.L.Link.link_state c.args.links.now.items)) c.args.stanza.now (Err c.of_take.result) c.of_take.result refl a a (rests_none a) refl
+    refused_later c.args.order.kind (take c.args.order.take.workers (map g.L.Link.link_state c.args.links.now.items)) c.args.stanza.now (Err c.of_take.result) c.of_take.result refl a a (rests_none a) refl
 
 pub returns-in_err-base-clause-does : goal.returns-in_err-base-clause-does
 returns-in_err-base-clause-does g c =
-    refused_later (take c.args.order.take.workers (map g.L.Link.link_state c.args.links.now.items)) c.args.stanza.now c.from_residual.result c.in_err-base.field-0.0 c.from_residual.ensures.1
+    refused_later c.args.order.kind (take c.args.order.take.workers (map g.L.Link.link_state c.args.links.now.items)) c.args.stanza.now c.from_residual.result c.in_err-base.field-0.0 c.from_residual.ensures.1
     (g.D.Disk.state c.args.repo.now).view (g.D.Disk.state c.load_base.new.repo).view c.load_base.ensures.looks.time c.load_base.ensures.looks.now
 
 pub returns-in_err-base-clause-cause : goal.returns-in_err-base-clause-cause
@@ -83,8 +83,8 @@ returns-in-Ok-make_later-clause-does g c =
     let y = (g.D.Disk.state c.make_later.new.repo).view in
     let ok : Result Outcome (Halt TakeFault) = Ok c.in-Ok-make_later.outcome in
     command_does used now (left_comes used now [] c.begin.new.lost.items c.in-Ok.ensures.left) c.args.stanza.now (g.D.Disk.state c.args.repo.now).view x y c.load_base.ensures.looks.time c.load_base.ensures.looks.now
-    ok _ (ok_reach c.in-Ok-make_later.outcome)
-    (subst (λ (r : Result Outcome (Halt TakeFault)). On (one (IsAnyBackup now c.args.stanza.now x.now)) (λ command. Does Whole c.args.stanza.now command (reached_by take_early r) x y)) c.in-Ok-make_later.is c.make_later.ensures.does)
+    c.args.order.kind ok _ (ok_reach c.in-Ok-make_later.outcome)
+    (subst (λ (r : Result Outcome (Halt TakeFault)). On (one (IsBackupBy c.args.order.kind now c.args.stanza.now x.now)) (λ command. Does Whole c.args.stanza.now command (reached_by take_early r) x y)) c.in-Ok-make_later.is c.make_later.ensures.does)
 
 pub returns-in-Ok-make_later-clause-taken : goal.returns-in-Ok-make_later-clause-taken
 returns-in-Ok-make_later-clause-taken g c =
@@ -95,13 +95,16 @@ returns-in-Ok-make_later-clause-taken g c =
     let x = (g.D.Disk.state c.load_base.new.repo).view in
     let y = (g.D.Disk.state c.make_later.new.repo).view in
     let list = backup_info_of c.in-Ok.begun.list in
+    let seen = map seen_of c.in-Ok.begun.seen.items in
     let nodes = (g.T.Tree.state c.args.tree.now).nodes in
-    on_finished (IsMade stanza c.args.order list now x.now y.now) (IsTaken stanza c.args.told.now c.args.order nodes used a.now y.now) c.in-Ok-make_later.outcome
+    on_finished (IsMade stanza c.args.order list seen now x.now y.now) (IsTaken stanza c.args.told.now c.args.order nodes used a.now y.now) c.in-Ok-make_later.outcome
     (λ t m. record {
       list = list;
+      seen = seen;
       room = has_room stanza c.args.told.now c.args.archive.now c.args.backup a.now c.requires.archive c.requires.backup list c.in-Ok.ensures.settled c.in-Ok.ensures.of c.in-Ok.ensures.room;
+      listing = c.in-Ok.ensures.listing;
       stopped = c.in-Ok.ensures.stopped;
-      made = made_by_used used now (left_comes used now [] c.begin.new.lost.items c.in-Ok.ensures.left) stanza a x y c.load_base.ensures.looks.time c.load_base.ensures.looks.now c.args.order list t m;
+      made = made_by_used used now (left_comes used now [] c.begin.new.lost.items c.in-Ok.ensures.left) stanza a x y c.load_base.ensures.looks.time c.load_base.ensures.looks.now c.args.order list seen t m;
     })
     c.in-Ok-make_later.ensures.made
 
@@ -120,8 +123,8 @@ returns-clause-does g c =
     let halt = c.in-Err-make_later.halt in
     let err : Result Outcome (Halt TakeFault) = Err halt in
     command_does used now (left_comes used now [] c.begin.new.lost.items c.in-Ok.ensures.left) c.args.stanza.now (g.D.Disk.state c.args.repo.now).view x y c.load_base.ensures.looks.time c.load_base.ensures.looks.now
-    err _ (same_reach halt ∙ ap (λ h. reached_by later_early (Err h)) (sym c.of_take-in-Err-make_later.ensures))
-    (subst (λ (r : Result Outcome (Halt TakeFault)). On (one (IsAnyBackup now c.args.stanza.now x.now)) (λ command. Does Whole c.args.stanza.now command (reached_by take_early r) x y)) c.in-Err-make_later.is c.make_later.ensures.does)
+    c.args.order.kind err _ (same_reach halt ∙ ap (λ h. reached_by later_early (Err h)) (sym c.of_take-in-Err-make_later.ensures))
+    (subst (λ (r : Result Outcome (Halt TakeFault)). On (one (IsBackupBy c.args.order.kind now c.args.stanza.now x.now)) (λ command. Does Whole c.args.stanza.now command (reached_by take_early r) x y)) c.in-Err-make_later.is c.make_later.ensures.does)
 
 pub returns-clause-beside : goal.returns-clause-beside
 returns-clause-beside g c =
