@@ -1,9 +1,13 @@
 // The devices in memory, and the program over them.
+ghost use Rattle.std.specs.Prelude.{map, IfOk};
+ghost use Rattle.pgb_worker_links.specs.Workers.{state_of};
+ghost use Rattle.pgb_command.specs.Told.{AreWorkers};
+
 use crate::node::Node;
 use crate::output::Output;
-use crate::world::Wanted;
+use crate::world::{Times, Wanted};
 use pgb_command::{Outside, run};
-use pgb_memory::{MemDisk, MemLocks, MemNode, MemSource, MemTree, MemWire};
+use pgb_memory::{MemClock, MemDisk, MemLocks, MemNode, MemSource, MemTree, MemWire};
 use pgb_outside::NotThere;
 use pgb_worker_links::{MemLink, MemTurns};
 use std::alloc::{AllocError, Global};
@@ -16,12 +20,15 @@ pub(crate) struct Fail {
 }
 
 /// What a command finds beside the repository and the data folder: the configuration, the bytes that the server sends, the sizes
-/// of their pieces, the locks that others hold, and the calls that are to fail.
+/// of their pieces, the seconds that the clock tells, whether there is a worker, the locks that others hold, and the calls that are
+/// to fail.
 #[derive(Drop)]
 pub(crate) struct Around {
     pub config: Option<Vec<u8>>,
     pub server: Vec<u8>,
     pub cuts: Vec<u32>,
+    pub seconds: Vec<u64>,
+    pub worker: bool,
     pub held: Vec<String>,
     pub fails: Vec<Fail>,
     /// How many bytes the output takes, one at a time.
@@ -64,6 +71,12 @@ impl Around {
         Ok(MemSource::new(alloc, file, fails))
     }
 
+    fn clock(&self, alloc: Global) -> Result<MemClock, AllocError> {
+        let seconds = self.seconds.clone()?;
+        let fails = self.numbers(alloc, "clock")?;
+        Ok(MemClock::new(seconds, fails))
+    }
+
     fn output(&self, alloc: Global) -> Result<Output, AllocError> {
         let fails = self.numbers(alloc, "out")?;
         Ok(Output::new(alloc, fails, self.width))
@@ -99,26 +112,72 @@ pub(crate) fn repo_of(
 pub(crate) fn pg_of(
     alloc: Global,
     wanted: &Wanted,
+    times: &Times,
     around: &Around,
 ) -> Result<Option<MemTree>, AllocError> {
     let mut nodes = Vec::new(alloc);
     for (path, want) in wanted {
         if let Some(name) = path.strip_prefix("pg/") {
-            nodes.push((String::from_str(alloc, name)?, mem_node(alloc, &want.node)?))?;
+            let time = times.get(path.as_str()).copied().unwrap_or(0);
+            nodes.push((
+                String::from_str(alloc, name)?,
+                mem_node(alloc, &want.node, time)?,
+            ))?;
         }
     }
     Ok(MemTree::new(alloc, nodes, around.numbers(alloc, "pg")?).ok())
 }
 
-fn mem_node(alloc: Global, node: &Node) -> Result<MemNode, AllocError> {
+fn mem_node(alloc: Global, node: &Node, time: u64) -> Result<MemNode, AllocError> {
     match node {
         Node::File(bytes) => Ok(MemNode::File {
             bytes: bytes.to_vec(alloc)?,
-            time: 0,
+            time,
         }),
         Node::Folder => Ok(MemNode::Folder),
         Node::Link | Node::Any => Ok(MemNode::Link),
     }
+}
+
+// What the files of the data folder hold.
+fn files_in(
+    alloc: Global,
+    wanted: &Wanted,
+    pg: &MemTree,
+) -> Result<Vec<(String, Vec<u8>)>, AllocError> {
+    let mut files = Vec::new(alloc);
+    for (path, _) in wanted {
+        let Some(name) = path.strip_prefix("pg/") else {
+            continue;
+        };
+        if let Some(MemNode::File { bytes, .. }) = pg.node(name) {
+            files.push((String::from_str(alloc, name)?, bytes.clone()?))?;
+        }
+    }
+    Ok(files)
+}
+
+/// The worker, where there is one: it reads what both hold now.
+pub(crate) fn workers_of(
+    alloc: Global,
+    wanted: &Wanted,
+    around: &Around,
+    repo: &MemDisk,
+    pg: &MemTree,
+) -> Result<Vec<MemLink>, AllocError>
+    ensures { IfOk result (λ links. AreWorkers (map state_of links.items)) }
+{
+    let mut links = Vec::new(alloc);
+    if around.worker {
+        let files = files_in(alloc, wanted, pg)?;
+        let names = match repo.image(alloc, repo.moment(), &[], &[]) {
+            Ok(names) => names,
+            Err(_) => Vec::new(alloc),
+        };
+        let fails = around.numbers(alloc, "worker")?;
+        links.push(MemLink::new(alloc, files, names, fails)?)?;
+    }
+    Ok(links)
 }
 
 /// What a command finds, ready for it: the locks' device is made of the names and numbers only as it runs, so that it is seen
@@ -128,6 +187,7 @@ pub(crate) struct Ready {
     server: MemWire,
     others: Vec<String>,
     failing: Vec<u64>,
+    clock: MemClock,
     config: MemSource,
     out: Output,
 }
@@ -137,6 +197,7 @@ pub(crate) fn prepare(alloc: Global, around: &Around) -> Result<Ready, AllocErro
         server: around.wire(alloc)?,
         others: around.others(alloc)?,
         failing: around.numbers(alloc, "locks")?,
+        clock: around.clock(alloc)?,
         config: around.source(alloc)?,
         out: around.output(alloc)?,
     })
@@ -147,24 +208,27 @@ pub(crate) fn run_on(
     alloc: Global,
     words: &[String],
     ready: Ready,
+    links: Vec<MemLink>,
     repo: MemDisk,
     pg: MemTree,
-) -> (Ran, MemDisk, MemTree) {
+) -> (Ran, MemDisk, MemTree)
+    requires workers { AreWorkers (map state_of links.items) }
+{
     let Ready {
         server,
         others,
         failing,
+        clock,
         config,
         out,
     } = ready;
-    let links: Vec<MemLink> = Vec::new(alloc);
     let mut outside = Outside {
         repo,
         spool: NotThere::new(),
         tree: pg,
         server,
         aside: NotThere::new(),
-        clock: NotThere::new(),
+        clock,
         locks: MemLocks::new(alloc, others, failing),
         config,
         out,

@@ -10,6 +10,9 @@ use std::mem::replace;
 #[derive(Clone, Copy)]
 enum Verb {
     Put,
+    Edit,
+    Empty,
+    At,
     Adds,
     May,
     Drops,
@@ -18,6 +21,8 @@ enum Verb {
     Config,
     Server,
     Cuts,
+    Clock,
+    Worker,
     Held,
     Fail,
     Run,
@@ -30,6 +35,9 @@ enum Verb {
 
 const VERBS: &[(&str, Verb)] = &[
     ("put", Verb::Put),
+    ("edit", Verb::Edit),
+    ("empty", Verb::Empty),
+    ("at", Verb::At),
     ("adds", Verb::Adds),
     ("may", Verb::May),
     ("drops", Verb::Drops),
@@ -38,6 +46,8 @@ const VERBS: &[(&str, Verb)] = &[
     ("config", Verb::Config),
     ("server", Verb::Server),
     ("cuts", Verb::Cuts),
+    ("clock", Verb::Clock),
+    ("worker", Verb::Worker),
     ("held", Verb::Held),
     ("fail", Verb::Fail),
     ("run", Verb::Run),
@@ -90,6 +100,9 @@ fn act(
     };
     match verb {
         Verb::Put => world.put(book, words, told),
+        Verb::Edit => world.edit(book, words, told),
+        Verb::Empty => world.empty(),
+        Verb::At => world.written(words),
         Verb::Adds => world.adds(book, words, told),
         Verb::May => world.may(book, words, told),
         Verb::Drops => world.drops(words),
@@ -97,6 +110,11 @@ fn act(
         Verb::Note => world.note(book, words),
         Verb::Config | Verb::Server => world.give(book, verb, words, told),
         Verb::Cuts => world.cut(words),
+        Verb::Clock => world.tell_time(words),
+        Verb::Worker => {
+            world.around.worker = true;
+            Ok(())
+        }
         Verb::Held => world.hold(words),
         Verb::Fail => world.fail(words),
         Verb::Run => world.run(words, told),
@@ -122,6 +140,42 @@ impl World {
         self.repo = None;
         self.pg = None;
         self.adds(book, words, told)
+    }
+
+    // The data folder alone is made anew, the repository goes on.
+    fn edit(&mut self, book: &Book, words: &[Word], told: &str) -> Result<(), AllocError> {
+        self.check()?;
+        self.pg = None;
+        self.adds(book, words, told)
+    }
+
+    // Nothing stands in the data folder any more.
+    fn empty(&mut self) -> Result<(), AllocError> {
+        self.check()?;
+        self.pg = None;
+        self.wanted.retain(|path, _| !path.starts_with("pg/"));
+        Ok(())
+    }
+
+    // These files were written at this second.
+    fn written(&mut self, words: &[Word]) -> Result<(), AllocError> {
+        let Some((second, paths)) = words.split_first() else {
+            return Ok(());
+        };
+        for path in paths {
+            let path = String::from_str(self.alloc, path.bare())?;
+            self.times.insert(path, second.number())?;
+        }
+        Ok(())
+    }
+
+    // The next commands begin at this second.
+    fn tell_time(&mut self, words: &[Word]) -> Result<(), AllocError> {
+        self.around.seconds = Vec::new(self.alloc);
+        for word in words {
+            self.around.seconds.push(word.number())?;
+        }
+        Ok(())
     }
 
     fn adds(&mut self, book: &Book, words: &[Word], told: &str) -> Result<(), AllocError> {

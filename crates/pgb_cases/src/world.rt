@@ -1,5 +1,5 @@
 // The devices of a case, and what they are to hold.
-use crate::devices::{Around, Fail, Ran, pg_of, prepare, repo_of, run_on};
+use crate::devices::{Around, Fail, Ran, pg_of, prepare, repo_of, run_on, workers_of};
 use crate::node::{Node, Placed};
 use pgb_memory::{MemDisk, MemTree};
 use std::alloc::{AllocError, Global};
@@ -16,11 +16,15 @@ pub(crate) struct Want {
 /// By the path below `repo/` or `pg/`.
 pub(crate) type Wanted = BTreeMap<String, Want>;
 
+/// The seconds at which files of the data folder were written, by the same paths; others were at 0.
+pub(crate) type Times = BTreeMap<String, u64>;
+
 /// The repository and the data folder are made of what is wanted where there is none as a command begins.
 #[derive(Drop)]
 pub(crate) struct World {
     pub alloc: Global,
     pub wanted: Wanted,
+    pub times: Times,
     pub around: Around,
     pub repo: Option<MemDisk>,
     pub pg: Option<MemTree>,
@@ -39,10 +43,13 @@ impl World {
         World {
             alloc,
             wanted: BTreeMap::new(alloc),
+            times: BTreeMap::new(alloc),
             around: Around {
                 config: None,
                 server: Vec::new(alloc),
                 cuts: Vec::new(alloc),
+                seconds: Vec::new(alloc),
+                worker: false,
                 held: Vec::new(alloc),
                 fails: Vec::new(alloc),
                 width: None,
@@ -101,7 +108,7 @@ impl World {
             self.repo = Some(repo_of(self.alloc, &self.wanted, &self.around)?);
         }
         if self.pg.is_none() {
-            self.pg = pg_of(self.alloc, &self.wanted, &self.around)?;
+            self.pg = pg_of(self.alloc, &self.wanted, &self.times, &self.around)?;
         }
         Ok(())
     }
@@ -113,7 +120,8 @@ impl World {
         let (Some(repo), Some(pg)) = (self.repo.take(), self.pg.take()) else {
             return self.tell("a folder of the data folder is missing");
         };
-        let (ran, repo, pg) = run_on(self.alloc, &words, ready, repo, pg);
+        let links = workers_of(self.alloc, &self.wanted, &self.around, &repo, &pg)?;
+        let (ran, repo, pg) = run_on(self.alloc, &words, ready, links, repo, pg);
         self.repo = Some(repo);
         self.pg = Some(pg);
         self.ran = Some(ran);

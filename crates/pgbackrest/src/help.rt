@@ -126,7 +126,7 @@ fn purpose_of(verb: Verb) -> Option<&'static str> {
         Verb::ArchiveGet => Some(
             " NAME PATH: fetches a file of the write-ahead log, for restore_command",
         ),
-        Verb::Backup => Some(": makes a full backup of a server, running or stopped"),
+        Verb::Backup => Some(": makes a backup of a server, running or stopped"),
         Verb::Expire => Some(": removes what the retention no longer keeps"),
         Verb::Restore => Some(": makes the data folder of a backup, where it is empty"),
         Verb::Verify => Some(": looks for damage in the repository"),
