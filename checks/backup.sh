@@ -1,6 +1,7 @@
 #!/usr/bin/env bash
 # backup of a stopped cluster of PostgreSQL 15: the files of the label's folder are the cluster's, byte by byte, and its manifest tells
-# each with its sum; what is refused leaves the list as it was; and one that was killed hurts nothing.
+# each with its sum; what is refused leaves the list as it was; an incremental one stores what changed; and one that was killed hurts
+# nothing.
 . "$(dirname "$0")/common"
 
 program() {
@@ -87,10 +88,11 @@ refuse 28 "ERROR: [028]: 'global/pg_control' is missing
 "
 mv control pg/global/pg_control
 mkdir -p lock
-for option in type delta expire-auto; do
+want 100 "ERROR: [100]: 'type' is not built yet
+" --type=incr --no-expire-auto backup
+for option in delta expire-auto; do
     words=("${full[@]}")
     case $option in
-    type) words[1]=--type=incr ;;
     delta) words+=(--delta) ;;
     expire-auto) words[2]=--expire-auto ;;
     esac
@@ -104,6 +106,14 @@ if command -v flock >/dev/null; then
 "
     } 9>lock/demo-backup.lock
 fi
+
+# An incremental backup stores what changed, and the control file.
+echo further >pg/base/1/99999
+program --no-online --type=incr --no-expire-auto backup >output 2>errors || complain "the incremental backup ended with $?: $(cat output errors)"
+later=$(sed -n 's/^INFO: new backup label = \([0-9]\{8\}-[0-9]\{6\}F_[0-9]\{8\}-[0-9]\{6\}I\)$/\1/p' output)
+[ "${later%_*}" = "$label" ] || complain "the incremental backup wrote '$(cat output)'"
+(cd "repo/backup/demo/$later/pg_data" && find . -type f | LC_ALL=C sort) >found
+printf '%s\n' ./base/1/99999 ./global/pg_control | cmp -s - found || complain "$later has other files: $(cat found)"
 
 # A backup that is killed at any moment leaves a list of whole backups, and the next one ends well.
 for moment in 0.02 0.05 0.1 0.2 0.4; do

@@ -55,7 +55,8 @@ fn backup_request<'a>(options: &Options) -> Result<Request<'a>, Unbuilt>
     if !is_built(options.online, options.backup_type) {
         return Err(Unbuilt::Kind);
     }
-    if options.delta {
+    let delta = options.delta;
+    if delta {
         return Err(Unbuilt::Delta);
     }
     if options.repo1_bundle {
@@ -74,7 +75,7 @@ fn backup_request<'a>(options: &Options) -> Result<Request<'a>, Unbuilt>
     Ok(Request::Backup {
         workers: options.process_max,
         kind: kind_by(options.backup_type),
-        delta: options.delta,
+        delta,
     })
 }
 
