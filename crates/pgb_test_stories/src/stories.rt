@@ -22,6 +22,9 @@ const PUSH_OTHER: &str =
 const BACKUP: &str =
     "--stanza=demo --pg1-path=pg --repo1-path=repo --lock-path=lock --no-online --type=full --no-expire-auto backup";
 
+const INCR: &str =
+    "--stanza=demo --pg1-path=pg --repo1-path=repo --lock-path=lock --no-online --type=incr --no-expire-auto backup";
+
 const EXPIRE: &str =
     "--stanza=demo --repo1-path=repo --lock-path=lock --repo1-retention-full=1 expire";
 
@@ -99,6 +102,37 @@ fn backups_go_on_behind_a_stop(rt: HostRuntime) {
         same(&rt, manifest.is_some(), true);
     }
     panic!(&rt; "a backup has no last moment");
+}
+
+// An incremental backup is stopped at each of its moments. The next one is made beside the full one, stores nothing that this
+// has, and nothing deviates.
+#[test]
+fn later_backups_go_on_behind_a_stop(rt: HostRuntime) {
+    let alloc = rt.alloc();
+    let words = [CREATE, BACKUP, INCR, INCR, VERIFY];
+    let made = well(&rt, calls(alloc, &[CREATE, BACKUP], 9, 0));
+    let first = well(&rt, played(alloc, made)).0.repo.moment();
+    for number in 0..200u64 {
+        let moment = first.saturating_add(number);
+        let acts = well(&rt, calls(alloc, &words, 2, moment));
+        let (disks, statuses) = match played(alloc, acts) {
+            Ok(end) => end,
+            Err(fault) => {
+                same(&rt, (fault, 8 < number), (PlayFault::Moment, true));
+                return;
+            }
+        };
+        same(&rt, statuses.as_slice(), &[0, 0, 0, 0, 0]);
+        let manifest = disks.repo.bytes(
+            "backup/demo/20240102-030406F_20240102-030408I/backup.manifest",
+        );
+        same(&rt, manifest.is_some(), true);
+        let again = disks.repo.bytes(
+            "backup/demo/20240102-030406F_20240102-030408I/pg_data/PG_VERSION",
+        );
+        same(&rt, again, None);
+    }
+    panic!(&rt; "an incremental backup has no last moment");
 }
 
 // An expiry of the first of two backups is stopped at each of its moments. The next one removes the rest, and the backup
