@@ -22,10 +22,10 @@ use Rattle.pgb_record.proofs.Made.{in_map}
 use Rattle.pgb_stanza.specs.Judging.{Settles}
 use Rattle.pgb_stage.specs.Current.{HasValue}
 use Rattle.pgb_backup.specs.declared.draft.Draft.{Draft}
-use Rattle.pgb_backup.specs.Draft.{stanza_of, old_in, list_in, IsDraft}
-use Rattle.pgb_draft.specs.Priors.{latest_full, may_base, last_of, prior_for}
+use Rattle.pgb_backup.specs.Draft.{IsDraft}
+use Rattle.pgb_draft.specs.Priors.{latest_full, may_base as may_be_based, last_of, prior_for}
 use Rattle.pgb_draft.proofs.Priors.{prior_is}
-use Rattle.pgb_logged.proofs.Based.{IsBase, BasedOn}
+use Rattle.pgb_logged.proofs.Based.{BasedOn}
 use Rattle.pgb_logged.proofs.Begun.{BeginsFull, BeginsBackup}
 use Rattle.pgb_take_later.specs.declared.order.LaterOrder.{LaterOrder}
 use Rattle.pgb_take_later.specs.Basing.{base_in, base_label, old_files, ReadsBase}
@@ -34,7 +34,7 @@ use Rattle.pgb_take_later.specs.Making.{BeginsFrom}
 
 -- ---- a full one is based on none
 
-none_last : (cluster full : ℕ) (es : List Entry) → last_of (may_base Full cluster full) es ≡ None
+none_last : (cluster full : ℕ) (es : List Entry) → last_of (may_be_based Full cluster full) es ≡ None
 none_last cluster full [] = refl
 none_last cluster full (e ∷ es) = ap (λ (o : Option Entry). option_or o None) (none_last cluster full es)
 

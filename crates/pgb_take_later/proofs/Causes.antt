@@ -1,10 +1,10 @@
 -- Why a backup of any kind is refused, from what stood before.
-use Rattle.std.proofs.Common.{◌≡◌, inl, inr, ◌<◌, ◌^◌, ℕ, false, [], length, List, Option, Some, None, sym, subst, option_map, string_bytes}
+use Rattle.std.proofs.Common.{◌≡◌, inl, inr, ◌<◌, ◌^◌, ℕ, false, [], length, List, Option, Some, None, sym, subst, string_bytes}
 use Rattle.std.specs.Prelude.{IfSome, IsSomeAnd}
 use Rattle.pgb_info.specs.declared.fault.MemberFault.{MemberFault}
 use Rattle.pgb_outside.specs.Content.{Content}
 use Rattle.pgb_outside.specs.Links.{LinkState}
-use Rattle.pgb_outside.specs.Tree.{Nodes, IsTreeListing}
+use Rattle.pgb_outside.specs.Tree.{IsTreeListing}
 use Rattle.pgb_model.specs.declared.clusters.ArchiveInfo as rust_archive_info
 use Rattle.pgb_model.specs.declared.clusters.BackupInfo as rust_backup_info
 use Rattle.pgb_model.specs.declared.labels.Label.{Label}
@@ -20,7 +20,7 @@ use Rattle.pgb_stage.specs.Current.{HasValue}
 use Rattle.pgb_stanza.specs.Causes.{HistoriesDiffer, HasOther}
 use Rattle.pgb_stanza.specs.Judging.{Settles}
 use Rattle.pgb_backup.specs.declared.draft.Draft.{Draft}
-use Rattle.pgb_backup.specs.Draft.{taken_in, folders_in, list_in}
+use Rattle.pgb_backup.specs.Draft.{taken_in, folders_in}
 use Rattle.pgb_stage.specs.declared.object.Object.{Object}
 use Rattle.pgb_stage.specs.declared.object.Object.TheVariants as objects
 use Rattle.pgb_stage.specs.declared.halt.Halt.{Halt}

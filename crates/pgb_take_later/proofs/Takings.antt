@@ -41,8 +41,10 @@ use Rattle.pgb_stage.specs.Runs.{Reached, to_end, turned_back, stopped, Does, On
 use Rattle.pgb_stage.proofs.After.{does_after}
 use Rattle.pgb_prepare.specs.Readies.{IsArchiveOf, IsBackupOf}
 use Rattle.pgb_logged.specs.Backups.{IsOfLink, IsLeftOf, IsReadOrLeft, IsFullBackup, IsAnyBackup, AddsBackup, bytes_in}
-use Rattle.pgb_logged.proofs.Added.{adds_backup, adds_full_backup}
+use Rattle.pgb_logged.proofs.Added.{IsMade as IsAdded, is_made}
 use Rattle.pgb_logged.proofs.Begun.{BeginsFull, BeginsBackup}
+use Rattle.pgb_logged.proofs.Folders.{of_folder}
+use Rattle.pgb_logged.proofs.Reading.{full_backup}
 use Rattle.pgb_logged.proofs.Full.{no_later, no_backup, does_backup, does_full}
 use Rattle.pgb_take.specs.declared.fault.TakeFault.{TakeFault}
 use Rattle.pgb_take.specs.Beginning.{most_backups}
@@ -168,7 +170,7 @@ module _ (stanza : Text) (o : LaterOrder) (seen : List ListedNode) (list : Backu
   made_by : (made : Result (Unit {0}) MakeFault) (result : Result Outcome (Halt TakeFault)) → IsEndWith draft lines made result → Makes made draft links b d
       → OnOk result (IsSome b.now → IfSome d.now (AgreeAt (main_of draft))) → IfOk result (λ outcome. OnFinished outcome (IsMade stanza o list seen links a.now d.now))
   made_by made result (Well u text tells) makes alike =
-      let x = adds_backup one_list one_manifest draft links b d begins (Ok u) makes refl in
+      let x : (y : Backup) × IsAdded draft links b.now d.now y = (full_backup draft links true b d makes, is_made one_list one_manifest draft links b d begins makes) in
       let back = λ (some : IsSome a.now). subst (λ (n : Option Content). IsSome n) (sym same) some in
       let whole : IsMade stanza o list seen links a.now d.now lines = record {
         backup = x.0;
@@ -181,7 +183,7 @@ module _ (stanza : Text) (o : LaterOrder) (seen : List ListedNode) (list : Backu
         read = subst (λ (n : Option Content). IsReadOrLeft links stanza n x.0) same (subst (λ (s : Text). IsReadOrLeft links s b.now x.0) later.stanza_is x.1.read);
         refers = λ s some stands. x.1.refers s (back some) (subst (λ (k : Text). NowStands k (Some s) b.now) (sym later.stanza_is) (subst (λ (n : Option Content). NowStands stanza (Some s) n) (sym same) stands));
         adds = subst (λ (s : Text). AddsBackup s x.0 a.now d.now) later.stanza_is (subst (λ (n : Option Content). AddsBackup (stanza_of draft) x.0 n d.now) same x.1.adds);
-        folder = λ none f repo some listing read. (adds_full_backup one_list one_manifest draft links b d (full (sym x.1.prior ∙ none)) (Ok u) makes refl).1.of_folder (back some) f repo seen read listing later.takes;
+        folder = λ none f repo some listing read. of_folder draft is_draft links true b d (back some) makes (full (sym x.1.prior ∙ none)).no_old f repo read seen listing later.takes;
         alike = λ some. subst (λ (s : Text). IfSome d.now (AgreeAt (backup_info s))) later.stanza_is (alike (back some));
       } in
       subst (λ (t : Text). IsMade stanza o list seen links a.now d.now t) (sym tells) whole

@@ -1,7 +1,6 @@
 -- The draft of a backup of any kind of a stopped server's data folder (pgBackRest user guide, "Backup").
-use Rattle.std.specs.Prelude.{◌≡◌, ℕ, true, false, Bool, List, [], length, map, Option, Some, None, option_map}
+use Rattle.std.specs.Prelude.{◌≡◌, ℕ, true, false, Bool, List, [], length, map, Option, Some, None}
 use Rattle.pgb_outside.specs.Order.{are_in_order}
-use Rattle.pgb_model.specs.declared.labels.Label.{Label}
 use Rattle.pgb_model.specs.Fields.{at_number}
 use Rattle.pgb_model.specs.Text.{Text}
 use Rattle.pgb_model.specs.Values.{BackupInfo, Entry, FileEntry}

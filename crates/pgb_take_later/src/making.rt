@@ -1,5 +1,5 @@
 // The backup is made.
-ghost use Rattle.std.specs.Prelude.{◌≡◌, ◌≤◌, ◌<◌, ◌^◌, map, vec_len, IfOk, IfErr};
+ghost use Rattle.std.specs.Prelude.{◌≤◌, ◌<◌, ◌^◌, map, vec_len, IfOk, IfErr};
 ghost use Rattle.pgb_outside.specs.Cause.{Rises};
 ghost use Rattle.pgb_outside.specs.States.{Frame};
 ghost use Rattle.pgb_model.specs.InfoFiles.{IsBackupInfo};
