@@ -177,7 +177,7 @@ pub only_examines : (a : Asked) (q : Request) (old new : Known) (lines : String 
 only_examines a create old new lines h = absurd h.created.silent
 only_examines a (push path) old new lines h = absurd h
 only_examines a (get name path) old new lines h = absurd h.0
-only_examines a (backup how) old new lines (o, is, told, tells, never) = absurd never
+only_examines a (backup how) old new lines (o, is, (told, tells, never)) = absurd never
 only_examines a (backup_running how) old new lines ((told, tells, never), asks) = absurd never
 only_examines a (restore set how) old new lines h = absurd h.recovers
 only_examines a (report form) old new lines h = absurd h.0

@@ -372,13 +372,13 @@ module _ (a : Asked) (b k : Seen) (rest : k ≡ record b { repo = k.repo; tree =
       IfOk r (λ outcome. OnFinished outcome (IsTakenBackup a.stanza told o b.tree.nodes (take o.take.workers b.links) b.repo.view.now k.repo.view.now)) → (failed : Object → Type 0) → ((object : Object) → failed object → Failed b k object) →
       IfErr r (HaltCause (LaterCause (found_by a o.take.workers (known b) told) o) failed) → SamePlaces b k → AreLater b k → Ran a b k ended
   taken_ran is beside does taken failed rose cause places later = as_ran a (backup (taking_of o)) b k ended is
-      (ran_of takes b k (λ (e : LaterFault). OfCommand (Take e)) later_early (λ e. refl) (LaterCause (found_by a o.take.workers (known b) told) o) (λ e h. (o, refl, told, tells, h)) failed rose r ended lifted (
+      (ran_of takes b k (λ (e : LaterFault). OfCommand (Take e)) later_early (λ e. refl) (LaterCause (found_by a o.take.workers (known b) told) o) (λ e h. (o, refl, (told, tells, h))) failed rose r ended lifted (
         does.0,
         does.1,
         subst (λ (v : View). Runs Whole a.stanza does.0 (reached_by later_early r) b.repo.view b.spool.view k.repo.view v) (sym (ap (λ (s : Seen). s.spool.view) rest))
             (does_runs Whole a.stanza does.0 (reached_by later_early r) b.repo.view k.repo.view b.spool.view (kind_receipts o.kind a.stanza used b.repo.view.now does.0 does.1 b.spool.view) does.2),
       )
-      (ok_as r _ _ (λ outcome h. (o, refl, told, tells, h)) taken)
+      (ok_as r _ _ (λ outcome h. (o, refl, (told, tells, h))) taken)
       (any_ok r (λ outcome. IsLookedAt a.stanza b.repo.view → Unit {0}) (λ outcome looked. tt))
       cause
       (on_all r (StaysHealed takes b k) (record { agree = λ some h. any_some k.repo.view.now; lasts = λ looked h. tt }))
