@@ -21,6 +21,7 @@ use crate::summing::{PIECE_SIZE, sum_of};
 use pgb_model::{ArchiveId, ArchiveName};
 use pgb_outside::Disk;
 use pgb_stored::{ArchiveFault, FileNames, Kept, Look, file_names, has_sum, look_settled};
+use pgb_text::Sum;
 use pgb_wal::check_front;
 use std::alloc::Global;
 
@@ -111,7 +112,7 @@ fn compare<H, P: Pieces<H>>(
 /// Stores a file of the cluster with this system identifier, whose bytes are read in pieces behind the first ones: a whole or
 /// partial segment, whose header is checked, under the sum of its bytes; a history or backup history file as it is. Where
 /// the holder doesn't tell the bytes, each answer is that of some bytes that begin with the first ones and are as many.
-/// The names of the file's folder are settled before they are looked at, and no others.
+/// The names of the file's folder are settled before they are looked at, and no others. It tells the sum of the bytes.
 pub fn push_from<D: Disk, H, P: Pieces<H>>(
     alloc: Global,
     d: &mut D,
@@ -122,7 +123,7 @@ pub fn push_from<D: Disk, H, P: Pieces<H>>(
     system: u64,
     pieces: &P,
     front: Front<'_>,
-) -> Result<Pushed, PushFault>
+) -> Result<(Pushed, Sum), PushFault>
     requires told { IfSome (P.bytes pieces.now holder.old) (BeginsWith front.bytes.now front.length) }
     requires long { (40 ≤ length front.bytes.now) ⊎ (length front.bytes.now ≡ front.length) }
     requires within { length front.bytes.now ≤ front.length }
@@ -135,8 +136,8 @@ pub fn push_from<D: Disk, H, P: Pieces<H>>(
         (D.state d.old).view (D.state d.new).view) }
 
     // Each answer has its cause, and what was found changes nothing.
-    ensures answered { IfOk result (IsPushedAs stanza.now id.now name.now system (P.bytes pieces.now holder.old)
-        front.entry.bytes.now front.entry.length (D.state d.old).view.now (D.state d.new).view.now) }
+    ensures answered { IfOk result (λ x. IsPushedAs stanza.now id.now name.now system (P.bytes pieces.now holder.old)
+        front.entry.bytes.now front.entry.length (D.state d.old).view.now (D.state d.new).view.now x.0 x.1) }
     ensures refused { IfErr result (λ e. OnPushFinding e (IsStill (D.state d.old).view (D.state d.new).view)) }
     ensures cause { IfErr result (PushFromCause stanza.now id.now name.now system (P.bytes pieces.now holder.old)
         front.entry.bytes.now front.entry.length (D.state d.old).view.now
@@ -148,12 +149,12 @@ pub fn push_from<D: Disk, H, P: Pieces<H>>(
     let (names, look) = look_checked(alloc, d, stanza, *id, name, system, front)?;
     match look {
         Look::Free => {
-            put_new(alloc, d, holder, &names, pieces, front)?;
-            Ok(Pushed::New)
+            let sum = put_new(alloc, d, holder, &names, pieces, front)?;
+            Ok((Pushed::New, sum))
         }
         Look::One(kept) => {
             compare(holder, &kept, pieces, front)?;
-            Ok(Pushed::Same)
+            Ok((Pushed::Same, kept.sum))
         }
         Look::Two(first, second) => {
             Err(PushFault::Archive(ArchiveFault::Ambiguous { first, second }))
@@ -218,7 +219,7 @@ pub fn push<D: Disk>(
         &Held(bytes),
         front,
     ) {
-        Ok(pushed) => Ok(pushed),
+        Ok((pushed, _)) => Ok(pushed),
         Err(PushFault::Archive(fault)) => Err(fault),
         // Bytes that are held are always read.
         Err(PushFault::Source) => unreachable!(),

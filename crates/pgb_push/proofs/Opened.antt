@@ -24,6 +24,7 @@ use Rattle.pgb_archive.specs.declared.fault.PushFault.{PushFault as StoreFault}
 use Rattle.pgb_archive.specs.declared.pushing.Pushed.{Pushed}
 use Rattle.pgb_stored.specs.Stored.{archive_path}
 use Rattle.pgb_archive.specs.Pushes.{IsPathOf, LeavesPart, LeavesAll, Writes, Leaves, LeavesFile}
+use Rattle.pgb_text.specs.declared.sum.Sum.{Sum}
 use Rattle.pgb_archive.specs.Pushing.{IsPushedAs, PushFromCause}
 use Rattle.pgb_stage.specs.declared.plan.Settling.TheVariants.{Looked}
 use Rattle.pgb_stage.specs.declared.object.Object.TheVariants.{DataFolder}
@@ -111,13 +112,13 @@ module _ (stanza : Text) (order : PushOrder) (nodes : Option Nodes) (log : LogFi
     opened_ends d t h e is cause = halt_ends stanza order.folder.now order.path.now repo nodes d t order.name
         order.named system at.0 at.2 id at.1 (told_file nodes place) first count has h e is cause
 
-    pub opened_stored : (lines : Text) (pushed : Pushed) → lines ≡ pushed_lines pushed (wal_text order.name)
+    pub opened_stored : (lines : Text) (pushed : Pushed) (sum : Sum) → lines ≡ pushed_lines pushed (wal_text order.name)
         → IsPushedAs stanza id order.name system.system
-        (told_file nodes (known_path log.what)) first count repo now pushed
+        (told_file nodes (known_path log.what)) first count repo now pushed sum
         → IsStored stanza order.folder.now order.path.now nodes repo now lines
-    opened_stored lines pushed is answered =
+    opened_stored lines pushed sum is answered =
         stored_as stanza order.folder.now order.path.now repo nodes ⊥ ⊥ order.name order.named system at.0 at.2 id at.1
-        (told_file nodes place) first count has lines pushed now is answered
+        (told_file nodes place) first count has lines pushed sum now is answered
 
 -- the pair's members stay as they are
 module _ (stanza : Text) (order : PushOrder) (id : ArchiveId) (fits : (id.version < 2 ^ 32) × (id.number < 2 ^ 32))

@@ -21,6 +21,7 @@ use Rattle.pgb_archive.specs.declared.fault.PushFault.TheVariants.{Archive, Sour
 use Rattle.pgb_archive.specs.declared.pushing.Pushed.{Pushed}
 use Rattle.pgb_archive.specs.declared.pushing.Pushed.TheVariants.{New, Same}
 use Rattle.pgb_stored.specs.Stored.{archive_path}
+use Rattle.pgb_text.specs.declared.sum.Sum.{Sum}
 use Rattle.pgb_archive.specs.Pushing.{IsPushedAs, PushFromCause}
 use Rattle.pgb_stored.specs.Causes.{IsFileOf, limit_of, PushCause as StoringCause}
 use Rattle.pgb_stage.specs.declared.object.Object.TheVariants.{DataFolder}
@@ -172,11 +173,11 @@ module _ (stanza folder path : Text) (repo : Option Content) (nodes : Option Nod
           (store_ends e (subst (λ (i : ArchiveId). PushFromCause stanza i wal told.system known first count repo d t e)
           is k))
 
-      pub stored_as : (lines : Text) (pushed : Pushed) (now : Option Content)
+      pub stored_as : (lines : Text) (pushed : Pushed) (sum : Sum) (now : Option Content)
           → lines ≡ pushed_lines pushed (wal_text wal)
-          → IsPushedAs stanza id wal told.system known first count repo now pushed
+          → IsPushedAs stanza id wal told.system known first count repo now pushed sum
           → IsStored stanza folder path nodes repo now lines
-      stored_as lines pushed now same a =
+      stored_as lines pushed sum now same a =
           stored_so a.bytes (has a.bytes a.read.told) now lines pushed same a.of_system
           (λ new. subst (λ (i : ArchiveId). IsPut stanza i wal a.bytes repo now) is
           (record { none = (a.new new).0; puts = (a.new new).1 }))

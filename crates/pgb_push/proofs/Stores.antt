@@ -65,7 +65,7 @@ push_is (Some f) folder path wal bytes command has (inr x) = absurd (x.0 (record
 -- ---- the current cluster
 
 -- the stanza that the disk stands for, and its current cluster
-current_at : (stanza : Text) (f : Content) (r : Repository) (c : ClusterId) → HasCurrent stanza f c → Stands stanza f r
+pub current_at : (stanza : Text) (f : Content) (r : Repository) (c : ClusterId) → HasCurrent stanza f c → Stands stanza f r
     → (s : Stanza) × (r ≡ Some s) × ((d : Cluster) × (at_number (current_number s) s.history ≡ Some d)
     × (c ≡ identity_of d))
 current_at stanza f r c has stands =

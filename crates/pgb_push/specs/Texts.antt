@@ -1,5 +1,5 @@
 -- The status and the message of each refusal of archive-push (own).
-use Rattle.std.specs.Prelude.{ℕ, ◌++◌, codes, decimal, string_bytes}
+use Rattle.std.specs.Prelude.{ℕ, ◌++◌, codes, decimal, Option, Some, None, string_bytes}
 use Rattle.pgb_text.specs.Sum.{sum_text}
 use Rattle.pgb_model.specs.Text.{Text}
 use Rattle.pgb_stage.specs.Texts.{shown, long_text, mismatch_text}
@@ -34,3 +34,16 @@ push_message (Ambiguous first second) =
     codes "'" ++ (string_bytes first ++ (codes "' and '" ++ (string_bytes second ++ codes "' are both stored")))
 push_message (Duplicate kept found) =
     codes "archived with checksum " ++ (sum_text kept.0 ++ (codes ", now " ++ sum_text found.0))
+
+-- the message, where a file is refused for its content
+abbrev pub content_text : PushFault → Option Text
+content_text (HeaderForm info) = Some (push_message (HeaderForm info))
+content_text (SegmentSize told found) = Some (push_message (SegmentSize told found))
+content_text (HeaderMismatch kept found) = Some (push_message (HeaderMismatch kept found))
+content_text (Duplicate kept found) = Some (push_message (Duplicate kept found))
+content_text (SegmentName name) = None
+content_text (PathOutside path) = None
+content_text (StanzaMismatch kept found) = None
+content_text (SegmentMissing path) = None
+content_text (TooLong name limit) = None
+content_text (Ambiguous first second) = None

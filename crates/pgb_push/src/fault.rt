@@ -61,7 +61,7 @@ fn of_archive(fault: ArchiveFault) -> Halt<PushFault>
 }
 
 /// How a push ends whose file isn't stored for this.
-pub(crate) fn of_store(fault: StoreFault) -> Halt<PushFault>
+pub fn of_store(fault: StoreFault) -> Halt<PushFault>
     ensures { result ≡ of_store fault }
 {
     match fault {

@@ -9,7 +9,9 @@
 //! - All of its steps are done at Ok, a part after every answer and every crash, and nothing changes where it is
 //!   refused. At Ok each crash leaves the file alike. The archive pair's members are left alone, also in what a crash
 //!   leaves.
-//! - Each refusal has its cause, with its status and its message.
+//! - `open_log_file`: a file of the log, its first bytes and their number, where it isn't too long.
+//! - Each refusal has its cause, with its status and its message. `content_text`: the message, where a file is refused
+//!   for its content.
 #![tactic(auto)]
 
 mod current;
@@ -19,7 +21,8 @@ mod order;
 mod pushing;
 mod texts;
 
-pub use fault::PushFault;
+pub use fault::{PushFault, of_store};
+pub use log_file::{LogFile, open_log_file};
 pub use order::{PushOrder, push_order};
-pub use pushing::push_file;
-pub use texts::{push_message, push_status};
+pub use pushing::{limit_of, push_file};
+pub use texts::{content_text, push_message, push_status};

@@ -21,7 +21,7 @@ const FRONT: usize = 65_536;
 
 /// A file of the log, with its first bytes and the number of all.
 #[derive(Drop)]
-pub(crate) struct LogFile {
+pub struct LogFile {
     what: Known,
     front: Vec<u8>,
     length: u64,
@@ -67,7 +67,7 @@ fn measure<T: Tree>(alloc: Global, tree: &mut T, what: Known, limit: u64) -> Res
 }
 
 /// Opens the file of this name, which may have at most as many bytes as the limit.
-pub(crate) fn open_log_file<T: Tree>(
+pub fn open_log_file<T: Tree>(
     alloc: Global,
     tree: &mut T,
     path: &str,
@@ -96,7 +96,7 @@ pub(crate) fn open_log_file<T: Tree>(
 
 impl LogFile {
     /// Its first bytes, and how many it has.
-    pub(crate) fn front(&self) -> Front<'_>
+    pub fn front(&self) -> Front<'_>
         ensures bytes { result.bytes.now ≡ self.now.front.items }
         ensures length { result.length ≡ self.now.length }
     {

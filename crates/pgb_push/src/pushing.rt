@@ -39,8 +39,8 @@ use pgb_stage::{Halt, Outcome};
 use pgb_stanza::Control;
 use std::alloc::{AllocError, Global};
 
-// A segment has at most 1 GiB, and a history 1 MiB.
-fn limit_of(name: &ArchiveName) -> u64
+/// How many bytes a file of this name may have: 1 GiB of a segment, and 1 MiB of a history.
+pub fn limit_of(name: &ArchiveName) -> u64
     ensures limit { result ≡ limit_of name.now }
     ensures least { 65536 ≤ result }
 {
@@ -115,7 +115,7 @@ fn store<D: Disk, T: Tree>(
         log,
         log.front(),
     ) {
-        Ok(pushed) => {
+        Ok((pushed, _)) => {
             let lines = pushed_lines(alloc, pushed, &order.text)?;
             Ok(Outcome::Finished { lines })
         }

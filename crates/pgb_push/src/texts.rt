@@ -1,7 +1,7 @@
 // The status and the message of each refusal.
-ghost use Rattle.std.specs.Prelude.{◌≡◌, ◌++◌, codes, IfOk};
+ghost use Rattle.std.specs.Prelude.{◌≡◌, ◌++◌, codes, IfOk, option_map, string_bytes};
 ghost use Rattle.pgb_text.specs.Sum.{sum_text};
-ghost use Rattle.pgb_push.specs.Texts.{push_status, push_message};
+ghost use Rattle.pgb_push.specs.Texts.{push_status, push_message, content_text};
 
 use crate::fault::PushFault;
 use pgb_stage::{bytes_of, long_text, mismatch_text, quoted};
@@ -27,13 +27,36 @@ pub fn push_status(fault: &PushFault) -> u8
 }
 
 // The message of a segment that is stored with other bytes.
-fn duplicate_text(alloc: Global, kept: &Sum, found: &Sum) -> Result<Vec<u8>, NoMemory>
-    ensures { IfOk result (λ line. line.items
+fn duplicate_text(alloc: Global, kept: &Sum, found: &Sum) -> Result<String, NoMemory>
+    ensures { IfOk result (λ text. string_bytes text
         ≡ codes "archived with checksum " ++ (sum_text kept.now.0 ++ (codes ", now " ++ sum_text found.now.0))) }
 {
     let kept = kept.hex(alloc)?;
     let found = found.hex(alloc)?;
-    bytes_of(format!(in alloc; "archived with checksum {kept}, now {found}"))
+    Ok(format!(in alloc; "archived with checksum {kept}, now {found}")?)
+}
+
+/// The message of a file that is refused for its content; none of another refusal.
+pub fn content_text(alloc: Global, fault: &PushFault) -> Result<Option<String>, NoMemory>
+    ensures { IfOk result (λ r. option_map string_bytes r ≡ content_text fault.now) }
+{
+    let text = match fault {
+        PushFault::HeaderForm { .. } => String::from_str(alloc, "WAL header is not valid")?,
+        PushFault::SegmentSize { told, found } => {
+            format!(in alloc; "segment size {told}, found {found} bytes")?
+        }
+        PushFault::HeaderMismatch { kept, found } => {
+            format!(in alloc; "stanza has system {kept}, WAL has system {found}")?
+        }
+        PushFault::Duplicate { kept, found } => duplicate_text(alloc, kept, found)?,
+        PushFault::SegmentName { .. }
+        | PushFault::PathOutside { .. }
+        | PushFault::StanzaMismatch { .. }
+        | PushFault::SegmentMissing { .. }
+        | PushFault::TooLong { .. }
+        | PushFault::Ambiguous { .. } => return Ok(None),
+    };
+    Ok(Some(text))
 }
 
 /// The message of a refusal.
@@ -48,18 +71,15 @@ pub fn push_message(alloc: Global, fault: &PushFault) -> Result<Vec<u8>, NoMemor
         PushFault::StanzaMismatch { kept, found } => mismatch_text(alloc, kept, found),
         PushFault::SegmentMissing { path } => quoted(alloc, "'", path, "' is missing"),
         PushFault::TooLong { name, limit } => long_text(alloc, name, *limit),
-        PushFault::HeaderForm { .. } => {
-            bytes_of(String::from_str(alloc, "WAL header is not valid"))
-        }
-        PushFault::SegmentSize { told, found } => bytes_of(format!(in alloc;
-            "segment size {told}, found {found} bytes"
-        )),
-        PushFault::HeaderMismatch { kept, found } => bytes_of(format!(in alloc;
-            "stanza has system {kept}, WAL has system {found}"
-        )),
         PushFault::Ambiguous { first, second } => bytes_of(format!(in alloc;
             "'{first}' and '{second}' are both stored"
         )),
-        PushFault::Duplicate { kept, found } => duplicate_text(alloc, kept, found),
+        PushFault::HeaderForm { .. }
+        | PushFault::SegmentSize { .. }
+        | PushFault::HeaderMismatch { .. }
+        | PushFault::Duplicate { .. } => match content_text(alloc, fault)? {
+            Some(text) => Ok(text.into_bytes()),
+            None => unreachable!(),
+        },
     }
 }

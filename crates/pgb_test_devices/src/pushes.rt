@@ -180,7 +180,7 @@ fn check_push_from(
         front,
     );
     match answer {
-        Ok(pushed) => same(rt, word_of(pushed), want),
+        Ok((pushed, _)) => same(rt, word_of(pushed), want),
         Err(PushFault::Source) => same(rt, "source", want),
         Err(PushFault::Archive(ArchiveFault::NoMemory)) => same(rt, "memory", want),
         Err(PushFault::Archive(fault)) => same(rt, well(rt, told(alloc, fault)).as_str(), want),

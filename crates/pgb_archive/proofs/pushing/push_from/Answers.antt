@@ -74,8 +74,8 @@ pub put_new-requires-clause-lasting : goal.put_new-requires-clause-lasting
 put_new-requires-clause-lasting g c =
     λ bytes. lasting_of c.args.stanza.now c.args.id.now c.args.name.now c.in_ok-names.names c.in_ok-names.ensures.names c.in_ok-names.ensures.places bytes (sha1 bytes) refl
 
-pub returns-in_err-put_new-in-Free-clause-leaves : goal.returns-in_err-put_new-in-Free-clause-leaves
-returns-in_err-put_new-in-Free-clause-leaves g c =
+pub returns-in_err-sum-in-Free-clause-leaves : goal.returns-in_err-sum-in-Free-clause-leaves
+returns-in_err-sum-in-Free-clause-leaves g c =
     let w = c.put_new.ensures.left in
     put_leaves c.args.stanza.now c.args.id.now c.args.name.now c.args.system (g.P.Pieces.bytes c.args.pieces.now c.args.holder.now) c.args.front.bytes.now c.args.front.length c.requires.told c.requires.within
     c.in_ok-names.ensures.places (g.D.Disk.state c.args.d.now).view (g.D.Disk.state c.look_checked.new.d).view c.look_checked.ensures.looks.time c.look_checked.ensures.looks.now c.in_ok-names.ensures.settled c.in_ok-names.names c.in_ok-names.ensures.names (g.D.Disk.state c.put_new.new.d).view
@@ -92,24 +92,25 @@ returns-in-Free-clause-leaves g c =
 
 pub returns-in-Free-clause-file : goal.returns-in-Free-clause-file
 returns-in-Free-clause-file g c =
-    let w = c.in_ok-put_new-in-Free.ensures.left in
+    let w = c.in_ok-sum-in-Free.ensures.left in
     put_file c.args.stanza.now c.args.id.now c.args.name.now c.args.system (g.P.Pieces.bytes c.args.pieces.now c.args.holder.now) c.args.front.bytes.now c.args.front.length c.requires.told c.requires.within
     c.in_ok-names.ensures.places (g.D.Disk.state c.args.d.now).view (g.D.Disk.state c.look_checked.new.d).view c.look_checked.ensures.looks.time c.look_checked.ensures.looks.now c.in_ok-names.ensures.settled c.in_ok-names.names c.in_ok-names.ensures.names (g.D.Disk.state c.put_new.new.d).view
     (looks_as c.args.stanza.now c.args.id.now c.args.name.now (g.D.Disk.state c.args.d.now).view.now c.in_ok-names.look Free c.in-Free.is c.in_ok-names.ensures.shows)
-    w.0 w.1 w.2 w.3
+    w.0 w.1 w.2 w.3.1
 
 pub returns-in-Free-clause-answered : goal.returns-in-Free-clause-answered
 returns-in-Free-clause-answered g c =
-    let w = c.in_ok-put_new-in-Free.ensures.left in
+    let w = c.in_ok-sum-in-Free.ensures.left in
     let free = (looks_as c.args.stanza.now c.args.id.now c.args.name.now (g.D.Disk.state c.args.d.now).view.now c.in_ok-names.look Free c.in-Free.is c.in_ok-names.ensures.shows) in
     record {
       bytes = w.0;
       read = w.1;
+      summed = w.3.0;
       of_system = c.in_ok-names.ensures.right w.0 w.1.begins;
       new = λ _. (
         free,
         put_written c.args.stanza.now c.args.id.now c.args.name.now c.args.system (g.P.Pieces.bytes c.args.pieces.now c.args.holder.now) c.args.front.bytes.now c.args.front.length c.requires.told c.requires.within
-            c.in_ok-names.ensures.places (g.D.Disk.state c.args.d.now).view (g.D.Disk.state c.look_checked.new.d).view c.look_checked.ensures.looks.time c.look_checked.ensures.looks.now c.in_ok-names.ensures.settled c.in_ok-names.names c.in_ok-names.ensures.names (g.D.Disk.state c.put_new.new.d).view free w.0 w.1 w.2 w.3,
+            c.in_ok-names.ensures.places (g.D.Disk.state c.args.d.now).view (g.D.Disk.state c.look_checked.new.d).view c.look_checked.ensures.looks.time c.look_checked.ensures.looks.now c.in_ok-names.ensures.settled c.in_ok-names.names c.in_ok-names.ensures.names (g.D.Disk.state c.put_new.new.d).view free w.0 w.1 w.2 w.3.1,
       );
       same = λ e. cc e;
     }

@@ -82,7 +82,7 @@ returns-in_ok-lines-in-Ok-clause-stored g c =
     opened_stored c.args.stanza.now c.args.order.now
     (g.T.Tree.state c.args.tree.now).nodes c.args.log.now c.requires.opened c.args.id.now c.args.told.now
     (g.D.Disk.state c.args.repo.now).view.now
-    (g.D.Disk.state c.push_from.new.d).view.now c.requires.current _ _ _ c.in-Ok.pushed
+    (g.D.Disk.state c.push_from.new.d).view.now c.requires.current _ _ _ c.in-Ok.pushed _
     (c.in_ok-lines-in-Ok.ensures ∙ ap (pushed_lines c.in-Ok.pushed) (c.deref.ensures ∙ c.args.order.now.spelled))
     c.in-Ok.ensures.answered
 

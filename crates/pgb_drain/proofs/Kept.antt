@@ -1,0 +1,329 @@
+-- What a drain does to a log that the repository's disk and the spool's keep.
+use Rattle.std.proofs.Common.{◌≡◌, ◌⊎◌, ⊎_elim, inl, inr, ℕ, zero, suc, ◌≤◌, ◌-◌, Bool, true, false, List, [], ◌∷◌, ◌++◌, map, Option, Some, None, refl, ap, ◌∙◌, sym, subst, arith}
+use Rattle.std.specs.Prelude.{IsSome, slice_get}
+use Rattle.std.specs.Option.{option_map_or}
+use Rattle.std.proofs.lemmas.List.{append-nil}
+use Rattle.sha1.specs.Sha1.{sha1}
+use Rattle.pgb_outside.specs.Content.{Content}
+use Rattle.pgb_outside.specs.Moments.{View}
+use Rattle.pgb_outside.specs.Crash.{Leaves}
+use Rattle.pgb_outside.proofs.Nows.{told_as}
+use Rattle.pgb_disk.proofs.Images.{Law}
+use Rattle.pgb_model.specs.declared.clusters.Cluster.{Cluster}
+use Rattle.pgb_model.specs.declared.wal.ArchiveId.{ArchiveId}
+use Rattle.pgb_model.specs.declared.wal.ArchiveName.{ArchiveName}
+use Rattle.pgb_model.specs.Text.{Text, In}
+use Rattle.pgb_model.specs.Fields.{at_number}
+use Rattle.pgb_model.specs.Repository.{Stanza, Repository, Drained, IsSound, IsSoundStanza, id_of, current_number}
+use Rattle.pgb_model.specs.Stands.{Stands, HasStanza, stored_name}
+use Rattle.pgb_model.specs.Steps.{Step, Create, Upgrade, Push, Note, AddBackup, Condemn, Forget, Move, One, Named, ArchivePushDrain, IsPartOf, after, after_all, all_of, changed, steps_of, push_of, store_of, archived_of}
+use Rattle.pgb_model.specs.Log.{Done, Reaches, IsDone, IsDrained, KeepsSpool}
+use Rattle.pgb_model.specs.Now.{NowStands}
+use Rattle.pgb_model.specs.Steady.{IsSteady, IsBegun, Moves}
+use Rattle.pgb_model.proofs.Done.{part_none}
+use Rattle.pgb_model.proofs.Logged.{no_step}
+use Rattle.pgb_model.proofs.Made.{now_of}
+use Rattle.pgb_model.proofs.PushDone.{all_one, after_some}
+use Rattle.pgb_model.proofs.Pushed.{file_of}
+use Rattle.pgb_model.proofs.Turned.{turn_sound}
+use Rattle.pgb_model.proofs.Waited.{all_after}
+use Rattle.pgb_stored.specs.Stored.{archive_path}
+use Rattle.pgb_turn.specs.Turns.{HadReceipt, IsStoredBy}
+use Rattle.pgb_story.specs.Story.{HasReceiptsOf}
+use Rattle.pgb_stage.specs.declared.plan.Settling.TheVariants.{Whole}
+use Rattle.pgb_stage.specs.Runs.{IsPart, DoesPart, DoesWhole, SpoolGoes, Runs}
+use Rattle.pgb_spool.specs.Marks.{GivesMarks}
+use Rattle.pgb_spool.proofs.Receipts.{marks_receipts, marks_tight}
+use Rattle.pgb_drain.specs.declared.marking.Drained.{Drained as Counted}
+use Rattle.pgb_drain.specs.Keeping.{IsCurrentId, IsUnderCurrent, GivesStored, reached_of, turn_of}
+use Rattle.pgb_drain.specs.Storing.{store_steps, stored, IsPartOfStores, IsArchivedIn, GoesByStores}
+use Rattle.pgb_drain.proofs.Stores.{IsStore, AreStores, steps_store, after_behind, all_is_part, part_archived, behind_done, behind_after, in_left}
+use Rattle.pgb_drain.proofs.Goings.{moves_as, stores_steady, stores_now}
+
+-- ---- stores keep a stanza sound
+
+pub part_split : (done xs ys : List Step) → IsPartOf done (map One (xs ++ ys)) → IsPartOf done (map One xs) ⊎ ((rest : List Step) × (done ≡ xs ++ rest) × IsPartOf rest (map One ys))
+part_split done [] ys p = inr (done, refl, p)
+part_split done (t ∷ xs) ys p = ⊎_elim (λ (e : done ≡ []). inl (inl e))
+    (λ (q : (rest : List Step) × (done ≡ t ∷ rest) × IsPartOf rest (map One (xs ++ ys))). ⊎_elim
+    (λ (r : IsPartOf q.0 (map One xs)). inl (inr (q.0, q.1, r)))
+    (λ (r : (rest : List Step) × (q.0 ≡ xs ++ rest) × IsPartOf rest (map One ys)). inr (r.0, q.1 ∙ ap (λ (l : List Step). t ∷ l) r.1, r.2))
+    (part_split q.0 xs ys q.2)) p
+
+one_history : (t : Step) (s : Stanza) → IsStore t → (changed t s).history ≡ s.history
+one_history (Create c) s is = absurd is
+one_history (Upgrade c) s is = absurd is
+one_history (Push b) s is = refl
+one_history (Note d) s is = refl
+one_history (AddBackup b) s is = absurd is
+one_history (Condemn t) s is = absurd is
+one_history (Forget b) s is = absurd is
+
+all_history : (steps : List Step) (s : Stanza) → AreStores steps → (after_all s steps).history ≡ s.history
+all_history [] s are = refl
+all_history (t ∷ steps) s are = all_history steps (changed t s) are.1 ∙ one_history t s are.0
+
+module _ (id : ArchiveId) (c : Cluster) (under : id ≡ id_of c) where
+  store_sound : (s : Stanza) (n : Named) → IsSoundStanza s → In c s.history → (done : List Step) → IsPartOf done (map One (store_of s id n)) → IsSound (after (Some s) done)
+  store_sound s n sound at done p = turn_sound id n s true sound c at under false done
+      (subst (λ (m : List Move). IsPartOf done m) (sym (append-nil (map One (store_of s id n ++ [])) ∙ ap (map One) (append-nil (store_of s id n)))) p)
+
+  store_whole : (s : Stanza) (n : Named) → IsSoundStanza s → In c s.history → IsSoundStanza (after_all s (store_of s id n))
+  store_whole s n sound at = subst IsSound (after_some s (store_of s id n)) (store_sound s n sound at (store_of s id n) (all_is_part (store_of s id n)))
+
+  store_history : (s : Stanza) (n : Named) → (after_all s (store_of s id n)).history ≡ s.history
+  store_history s n = all_history (store_of s id n) s (subst AreStores (append-nil (store_of s id n)) (steps_store s id (n ∷ [])))
+
+  pub stores_sound : (fs : List Named) (s : Stanza) → IsSoundStanza s → In c s.history → (done : List Step) → IsPartOf done (map One (store_steps s id fs)) → IsSound (after (Some s) done)
+  stores_sound [] s sound at done p = no_step (Some s) done sound p
+  stores_sound (n ∷ fs) s sound at done p = ⊎_elim
+      (λ (q : IsPartOf done (map One (store_of s id n))). store_sound s n sound at done q)
+      (λ (q : (rest : List Step) × (done ≡ store_of s id n ++ rest) × IsPartOf rest (map One (store_steps (after_all s (store_of s id n)) id fs))).
+      let h = stores_sound fs (after_all s (store_of s id n)) (store_whole s n sound at) (subst (λ (l : List Cluster). In c l) (sym (store_history s n)) at) q.0 q.2 in
+      subst (λ (d : List Step). IsSound (after (Some s) d)) (sym q.1) (subst IsSound (ap (λ (r : Repository). after r q.0) (sym (after_some s (store_of s id n))) ∙ sym (after_behind (Some s) (store_of s id n) q.0)) h))
+      (part_split done (store_of s id n) (store_steps (after_all s (store_of s id n)) id fs) p)
+
+-- ---- what was stored is noted
+
+abbrev pub note_of : Named → Drained
+note_of n = record { name = n.name; sum = sha1 n.bytes }
+
+notes_left : (d : Drained) (xs ys : List Drained) → In d xs → In d (xs ++ ys)
+notes_left d [] ys h = absurd h
+notes_left d (z ∷ xs) ys h = ⊎_elim (λ (e : d ≡ z). inl e) (λ k. inr (notes_left d xs ys k)) h
+
+in_end : (d : Drained) (ds : List Drained) → In d (ds ++ d ∷ [])
+in_end d [] = inl refl
+in_end d (e ∷ ds) = inr (in_end d ds)
+
+keeps_notes : (d : Drained) (t : Step) (s : Stanza) → In d s.drained → In d (changed t s).drained
+keeps_notes d (Create c) s at = at
+keeps_notes d (Upgrade c) s at = at
+keeps_notes d (Push a) s at = at
+keeps_notes d (Note e) s at = notes_left d s.drained (e ∷ []) at
+keeps_notes d (AddBackup b) s at = at
+keeps_notes d (Condemn test) s at = at
+keeps_notes d (Forget a) s at = at
+
+pub all_keep_notes : (d : Drained) (steps : List Step) (s : Stanza) → In d s.drained → In d (after_all s steps).drained
+all_keep_notes d [] s at = at
+all_keep_notes d (t ∷ steps) s at = all_keep_notes d steps (changed t s) (keeps_notes d t s at)
+
+noted : (id : ArchiveId) (n : Named) (s : Stanza) → In (note_of n) (after_all s (store_of s id n)).drained
+noted id n s = subst (λ (x : Stanza). In (note_of n) x.drained) (sym (all_after s (push_of s (archived_of id n)) (Note (note_of n) ∷ []))) (in_end (note_of n) (after_all s (push_of s (archived_of id n))).drained)
+
+pub all_noted : (id : ArchiveId) (ns : List Named) (n : Named) (s : Stanza) → In n ns → In (note_of n) (stored s id ns).drained
+all_noted id [] n s at = absurd at
+all_noted id (m ∷ ns) n s at =
+    let s1 = after_all s (store_of s id m) in
+    let rest = store_steps s1 id ns in
+    subst (λ (x : Stanza). In (note_of n) x.drained) (sym (all_after s (store_of s id m) rest))
+    (⊎_elim (λ (e : n ≡ m). all_keep_notes (note_of n) rest s1 (subst (λ (k : Named). In (note_of k) s1.drained) (sym e) (noted id m s))) (λ k. all_noted id ns n s1 k) at)
+
+-- ---- its steps
+
+listed_at : (xs : List Cluster) (i : ℕ) (x : Cluster) → slice_get xs i ≡ Some x → In x xs
+listed_at [] i x e = cc
+listed_at (y ∷ xs) zero x e = inl (let h : x ≡ y = cc in h)
+listed_at (y ∷ xs) (suc i) x e = inr (listed_at xs i x e)
+
+pub in_history : (s : Stanza) (c : Cluster) → at_number (current_number s) s.history ≡ Some c → In c s.history
+in_history s c at = listed_at s.history (current_number s - 1) c at
+
+module _ (fs : List Named) (id : ArchiveId) (s : Stanza) (at : IsCurrentId s id) where
+  pub drain_steps : steps_of (ArchivePushDrain fs) (Some s) ≡ map One (store_steps s id fs)
+  drain_steps = ap (λ (o : Option Cluster). option_map_or (λ (k : Cluster). map One (store_steps s (id_of k) fs)) o []) at.1
+      ∙ ap (λ (i : ArchiveId). map One (store_steps s i fs)) (sym at.2)
+
+  pub drain_all : all_of (steps_of (ArchivePushDrain fs) (Some s)) ≡ store_steps s id fs
+  drain_all = ap all_of drain_steps ∙ all_one (store_steps s id fs)
+
+  pub drain_sound : IsSoundStanza s → (done : List Step) → IsPartOf done (map One (store_steps s id fs)) → IsSound (after (Some s) done)
+  drain_sound sound done p = stores_sound id at.0 at.2 fs s sound (in_history s at.0 at.1) done p
+
+  -- a part of the stores is a part of the drain
+  pub drain_part : (stanza : Text) (g : Content) → IsSoundStanza s → IsPartOfStores stanza s id fs g → IsPart stanza (ArchivePushDrain fs) (Some s) g
+  drain_part stanza g sound p = (p.0, subst (λ (m : List Move). IsPartOf p.0 m) (sym drain_steps) p.1, p.2, drain_sound sound p.0 p.1)
+
+  pub drain_done : (whole : Bool) → IsDone whole (store_steps s id fs) (steps_of (ArchivePushDrain fs) (Some s))
+  drain_done true = sym drain_all
+  drain_done false = subst (λ (m : List Move). IsPartOf (store_steps s id fs) m) (sym drain_steps) (all_is_part (store_steps s id fs))
+
+  pub drain_after : after (Some s) (all_of (steps_of (ArchivePushDrain fs) (Some s))) ≡ Some (stored s id fs)
+  drain_after = ap (after (Some s)) drain_all ∙ after_some s (store_steps s id fs)
+
+-- ---- the repository
+
+module _ (stanza : Text) (id : ArchiveId) (files more : List Named) (b d : View) (current : IsUnderCurrent stanza id b.now) (goes : GoesByStores stanza id files more b d) where
+  abbrev fs : List Named
+  fs = files ++ more
+
+  abbrev Does : Bool → Repository → Type 0
+  Does whole r = (done : List Step) × IsDone whole done (steps_of (ArchivePushDrain fs) r) × NowStands stanza (after r done) d.now
+
+  now_part : (s : Stanza) → IsCurrentId s id → IsSome b.now → NowStands stanza (Some s) b.now → Does false (Some s)
+  now_part s at some now =
+      let x = goes.now s some now in
+      let p = behind_done stanza s id files more x.0 x.1 in (
+        store_steps s id files ++ x.0,
+        subst (λ (m : List Move). IsPartOf (store_steps s id files ++ x.0) m) (sym (drain_steps fs id s at)) p,
+        subst (λ (r : Repository). NowStands stanza r d.now) (behind_after stanza s id files more x.0) x.2,
+      )
+
+  moves_in : (s : Stanza) → IsCurrentId s id → IsSoundStanza s → IsSteady stanza (Some s) b → IsSome b.now → Moves stanza (IsPart stanza (ArchivePushDrain fs) (Some s)) b d
+  moves_in s at sound steady some = moves_as stanza (IsPartOfStores stanza s id fs) (IsPart stanza (ArchivePushDrain fs) (Some s)) b d
+      (λ g p. drain_part fs id s at stanza g sound p) (goes.moves s steady some)
+
+  -- the stanza of a steady disk
+  at_steady : (r : Repository) → IsSome b.now → IsSteady stanza r b → (s : Stanza) × (r ≡ Some s) × IsCurrentId s id
+  at_steady r some steady = let f = told_as b.now some in current.is r some (now_of stanza r b.now f.0 f.1 (steady.stands f.0 (inl f.1)))
+
+  moves_at : (r : Repository) → IsSome b.now → IsSteady stanza r b → IsSound r → Moves stanza (IsPart stanza (ArchivePushDrain fs) r) b d
+  moves_at r some steady sound =
+      let x = at_steady r some steady in
+      subst (λ (k : Repository). Moves stanza (IsPart stanza (ArchivePushDrain fs) k) b d) (sym x.1)
+      (moves_in x.0 x.2 (subst IsSound x.1 sound) (subst (λ (k : Repository). IsSteady stanza k b) x.1 steady) some)
+
+  pub drain_does : DoesPart Whole stanza (ArchivePushDrain (files ++ more)) b d
+  drain_does = record {
+    part = record {
+      told = goes.told;
+      does = λ r from some now.
+          let x = current.is r some now in
+          subst (Does false) (sym x.1) (now_part x.0 x.2 some (subst (λ (k : Repository). NowStands stanza k b.now) x.1 now));
+    };
+    goes = moves_at;
+  }
+
+  module _ (none : more ≡ []) where
+    all : GoesByStores stanza id (files ++ more) [] b d
+    all = subst (λ (l : List Named). GoesByStores stanza id (files ++ l) [] b d) (sym none)
+        (subst (λ (l : List Named). GoesByStores stanza id l [] b d) (sym (append-nil files)) (subst (λ (l : List Named). GoesByStores stanza id files l b d) none goes))
+
+    now_whole : (s : Stanza) → IsCurrentId s id → IsSome b.now → NowStands stanza (Some s) b.now → Does true (Some s)
+    now_whole s at some now = (
+      store_steps s id fs,
+      drain_done fs id s at true,
+      subst (λ (r : Repository). NowStands stanza r d.now) (sym (after_some s (store_steps s id fs))) (stores_now stanza id fs b d all s some now),
+    )
+
+    abbrev Ended : Repository → Type 0
+    Ended r = IsSteady stanza (after r (all_of (steps_of (ArchivePushDrain fs) r))) d × IsSound (after r (all_of (steps_of (ArchivePushDrain fs) r)))
+
+    ends_in : (s : Stanza) → IsCurrentId s id → IsSoundStanza s → IsSteady stanza (Some s) b → IsSome b.now → Ended (Some s)
+    ends_in s at sound steady some = (
+      subst (λ (r : Repository). IsSteady stanza r d) (sym (drain_after fs id s at)) (stores_steady stanza id fs b d all s steady some),
+      subst (λ (l : List Step). IsSound (after (Some s) l)) (sym (drain_all fs id s at)) (drain_sound fs id s at sound (store_steps s id fs) (all_is_part (store_steps s id fs))),
+    )
+
+    pub drain_does_all : DoesWhole Whole stanza (ArchivePushDrain (files ++ more)) b d
+    drain_does_all = record {
+      done = record {
+        told = goes.told;
+        does = λ r from some now.
+            let x = current.is r some now in
+            subst (Does true) (sym x.1) (now_whole x.0 x.2 some (subst (λ (k : Repository). NowStands stanza k b.now) x.1 now));
+      };
+      ends = λ r some steady sound.
+          let x = at_steady r some steady in
+          subst Ended (sym x.1) (ends_in x.0 x.2 (subst IsSound x.1 sound) (subst (λ (k : Repository). IsSteady stanza k b) x.1 steady) some);
+    }
+
+  -- ---- what was stored is in all that is left, whatever the drain answers
+
+  held_in : (f : Content) (s : Stanza) (n : Named) → HasStanza stanza f s → IsArchivedIn stanza s id n → (bytes : Text) × (f (archive_path stanza id n.name (sha1 n.bytes)) ≡ Some bytes) × (sha1 bytes ≡ sha1 n.bytes)
+  held_in f s n h x = (
+    x.file.bytes,
+    ap f (sym x.lies) ∙ (h.archived (stored_name stanza x.file) x.file.bytes (file_of stanza x.file (h.named x.file x.archived))).1 (x.file, x.archived, refl, refl),
+    x.sum,
+  )
+
+  stored_left : (s : Stanza) → IsSteady stanza (Some s) b → IsSome b.now → (n : Named) → In n files → (f : Content) → Leaves d d.moment f
+      → (bytes : Text) × (f (archive_path stanza id n.name (sha1 n.bytes)) ≡ Some bytes) × (sha1 bytes ≡ sha1 n.bytes)
+  stored_left s steady some n at f leaves =
+      let x = goes.held s steady some n at in
+      let e = goes.ends s steady some f leaves in
+      let s1 = stored s id files in
+      held_in f (after_all s1 e.0) n (subst (λ (r : Repository). Stands stanza f r) (after_some s1 e.0) e.2)
+      (record { file = x.file; archived = part_archived x.file s1 id more e.0 e.1 x.archived; lies = x.lies; sum = x.sum })
+
+  -- ---- the spool
+
+  module _ (spool new_spool : View) (law : Law spool) (new_law : Law new_spool) (marks : GivesMarks stanza files spool new_spool) where
+    pub drain_gives : GivesStored stanza id (files ++ more) b d spool new_spool
+    drain_gives = record {
+      each = λ r some told steady fixed m f lo hi leaves name sum fits receipt. ⊎_elim (λ (h : HadReceipt stanza spool name sum). inl h)
+          (λ (h : (n : Named) × In n files × (n.name ≡ name) × (sha1 n.bytes ≡ sum)).
+          let x = at_steady r some steady in
+          let here = subst (λ (k : Repository). IsSteady stanza k b) x.1 steady in
+          inr (subst (λ (k : ArchiveName). IsStoredBy stanza (turn_of id (files ++ more)) k sum d) h.2
+          (subst (λ (k : Text). IsStoredBy stanza (turn_of id (files ++ more)) h.0.name k d) h.3 (record {
+            file = h.0;
+            pushed = in_left h.0 files more h.1;
+            of_name = refl;
+            of_sum = refl;
+            stored = λ g left. stored_left x.0 here some h.0 h.1 g left;
+          }))))
+          (marks_receipts stanza files spool new_spool law new_law marks told fixed m f lo hi leaves name sum fits receipt);
+    }
+
+    abbrev entry : Bool → Done
+    entry whole = record { command = ArchivePushDrain (files ++ more); acknowledged = whole }
+
+    module _ (q : Repository) (log : List Done) (some : IsSome b.now) (told : IsSome spool.now) (begun : IsBegun stanza q log b) (keeps : KeepsSpool stanza q log spool) where
+      abbrev IsNoted : Bool → ArchiveName → Text → Type 0
+      IsNoted whole name sum = (r : Repository) × Reaches q (entry whole ∷ log) r × IsDrained r name sum
+
+      newly : (whole : Bool) (n : Named) → In n files → IsNoted whole n.name (sha1 n.bytes)
+      newly whole n i =
+          let x = at_steady begun.repository some begun.steady in (
+            Some (stored x.0 id fs),
+            (
+              Some x.0,
+              subst (λ (r : Repository). Reaches q log r) x.1 begun.reached,
+              (store_steps x.0 id fs, sym (after_some x.0 (store_steps x.0 id fs)), drain_done fs id x.0 x.2 whole),
+            ),
+            all_noted id fs n x.0 (in_left n files more i),
+          )
+
+      still : (whole : Bool) (name : ArchiveName) (sum : Text) (r : Repository) → Reaches q log r → IsDrained r name sum → IsNoted whole name sum
+      still whole name sum None reached at = absurd at
+      still true name sum (Some s) reached i =
+          let steps = all_of (steps_of (ArchivePushDrain fs) (Some s)) in (
+            Some (after_all s steps),
+            (Some s, reached, (steps, sym (after_some s steps), refl)),
+            all_keep_notes (record { name = name; sum = sum }) steps s i,
+          )
+      still false name sum (Some s) reached i = (Some s, (Some s, reached, ([], refl, part_none (steps_of (ArchivePushDrain fs) (Some s)))), i)
+
+      -- at each moment each receipt of the spool is of a file that such a repository has stored
+      receipts : (whole : Bool) (m : ℕ) (f : Content) → spool.moment ≤ m → m ≤ new_spool.moment → Leaves new_spool m f → HasReceiptsOf stanza q (entry whole ∷ log) f
+      receipts whole m f lo hi leaves name sum fits receipt = ⊎_elim
+          (λ (h : HadReceipt stanza spool name sum). let x = keeps.receipts h.0 h.1 name sum fits h.2 in still whole name sum x.0 x.1 x.2)
+          (λ (h : (n : Named) × In n files × (n.name ≡ name) × (sha1 n.bytes ≡ sum)).
+          subst (λ (k : Text). IsNoted whole name k) h.3 (subst (λ (k : ArchiveName). IsNoted whole k (sha1 h.0.bytes)) h.2 (newly whole h.0 h.1)))
+          (marks_receipts stanza files spool new_spool law new_law marks told keeps.fixed m f lo hi leaves name sum fits receipt)
+
+      keeps_on : (whole : Bool) → KeepsSpool stanza q (entry whole ∷ log) new_spool
+      keeps_on whole = record {
+        fixed = λ name fits. marks_tight stanza files spool new_spool marks keeps.fixed new_spool.moment marks.later (omega arith) name fits;
+        receipts = λ f leaves. receipts whole new_spool.moment f marks.later (omega arith) leaves;
+      }
+
+    module _ (spool_told : IsSome spool.now → IsSome new_spool.now) where
+      spool_goes : (whole : Bool) → SpoolGoes Whole stanza (ArchivePushDrain (files ++ more)) whole b spool new_spool
+      spool_goes whole = record {
+        told = spool_told;
+        past = record { later = marks.later; kept = marks.same; loose = marks.same_loose };
+        keeps = λ q log some told begun keeps. keeps_on q log some told begun keeps whole;
+        between = λ q log some told begun keeps m f lo hi leaves. receipts q log some told begun keeps false m f lo hi leaves;
+      }
+
+      -- the drain is the command that stores these files
+      pub drain_runs : (end : Option Counted) → (IsSome end → more ≡ []) → Runs Whole stanza (ArchivePushDrain (files ++ more)) (reached_of end) b spool d new_spool
+      drain_runs None ended = record { part = record { does = drain_does; marks = spool_goes false }; whole = tt; turned = tt }
+      drain_runs (Some c) ended = record {
+        part = record { does = drain_does; marks = spool_goes false };
+        whole = record { does = drain_does_all (ended refl); marks = spool_goes true };
+        turned = tt;
+      }

@@ -1,0 +1,9 @@
+pub mod Stores
+pub mod Goings
+pub mod Pushes
+pub mod Put
+pub mod Behind
+pub mod Kept
+pub mod Ran
+pub mod Readies
+pub mod Wholes

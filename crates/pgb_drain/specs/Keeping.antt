@@ -1,0 +1,58 @@
+-- What a drain is in a log of commands, and which receipts it gives.
+use Rattle.std.specs.Prelude.{◌≡◌, ◌⊎◌, ◌≤◌, ℕ, List, ◌++◌, false, Option, Some, None, IsSome}
+use Rattle.pgb_outside.specs.Content.{Content}
+use Rattle.pgb_outside.specs.Crash.{Leaves}
+use Rattle.pgb_outside.specs.Moments.{View, is_loose}
+use Rattle.pgb_outside.specs.Tree.{Nodes}
+use Rattle.pgb_model.specs.declared.clusters.Cluster.{Cluster}
+use Rattle.pgb_model.specs.declared.wal.ArchiveId.{ArchiveId}
+use Rattle.pgb_model.specs.declared.wal.ArchiveName.{ArchiveName}
+use Rattle.pgb_model.specs.Fields.{at_number}
+use Rattle.pgb_model.specs.Log.{HasReceipt}
+use Rattle.pgb_model.specs.Names.{receipt_name}
+use Rattle.pgb_model.specs.Now.{NowStands}
+use Rattle.pgb_model.specs.Repository.{Stanza, Repository, id_of, current_number}
+use Rattle.pgb_model.specs.Stands.{IsWalName}
+use Rattle.pgb_model.specs.Steady.{IsSteady}
+use Rattle.pgb_model.specs.Steps.{Named, Turn, ArchivePushDrain}
+use Rattle.pgb_model.specs.Text.{Text}
+use Rattle.pgb_stage.specs.declared.plan.Settling.TheVariants.{Whole}
+use Rattle.pgb_stage.specs.Runs.{Reached, to_end, stopped, Runs}
+use Rattle.pgb_turn.specs.Turns.{HadReceipt, IsStoredBy}
+use Rattle.pgb_drain.specs.declared.marking.Drained.{Drained}
+use Rattle.pgb_drain.specs.Draining.{DrainsFrom}
+use Rattle.pgb_drain.specs.Fates.{kept_files}
+
+-- the stanza's current cluster has this id
+abbrev pub IsCurrentId : Stanza → ArchiveId → Type 0
+IsCurrentId s id = (c : Cluster) × (at_number (current_number s) s.history ≡ Some c) × (id ≡ id_of c)
+
+-- what the disk holds stands for no repository but one of a stanza whose current cluster has this id
+pub record IsUnderCurrent (stanza : Text) (id : ArchiveId) (now : Option Content) : Type 0 where
+  pub is : (r : Repository) → IsSome now → NowStands stanza r now → (s : Stanza) × (r ≡ Some s) × IsCurrentId s id
+
+-- how far a drain came
+abbrev pub reached_of : Option Drained → Reached
+reached_of (Some drained) = to_end
+reached_of None = stopped
+
+-- the drain of these files, as a turn of other processes
+abbrev pub turn_of : ArchiveId → List Named → Turn
+turn_of id files = record { id = id; pushed = files; ended = false }
+
+-- no receipt is loose
+abbrev pub HasNoLoose : Text → View → Type 0
+HasNoLoose stanza spool = (name : ArchiveName) → IsWalName name → is_loose spool (receipt_name stanza name) ≡ false
+
+-- From a repository of which all that a crash leaves stands for one: at each moment each receipt that the spool has, or a crash leaves, is an earlier one, or of one of these files, which the repository and all that a crash leaves of it then have.
+pub record GivesStored (stanza : Text) (id : ArchiveId) (files : List Named) (repo new_repo spool new_spool : View) : Type 0 where
+  pub each : (r : Repository) → IsSome repo.now → IsSome spool.now → IsSteady stanza r repo → HasNoLoose stanza spool →
+      (m : ℕ) (f : Content) → spool.moment ≤ m → m ≤ new_spool.moment → Leaves new_spool m f →
+      (name : ArchiveName) (sum : Text) → IsWalName name → HasReceipt stanza f name sum
+      → HadReceipt stanza spool name sum ⊎ IsStoredBy stanza (turn_of id files) name sum new_repo
+
+-- The drain of these names, from what the spool held. Under the id of the current cluster it is a command of the log: it stores these files, all of them where it ends well. At each moment of either disk all that a crash leaves is that of the log with a part of it. Each receipt that it gives is of a file that, as it ends, the repository and all that a crash leaves of it have.
+pub record DrainsLog (stanza : Text) (id : ArchiveId) (system : ℕ) (f : Nodes) (names : List ArchiveName) (end : Option Drained) (held : Option Content) (repo new_repo spool new_spool : View) : Type 0 where
+  pub drains : DrainsFrom stanza id system f names end held repo new_repo spool new_spool
+  pub runs : IsUnderCurrent stanza id repo.now → Runs Whole stanza (ArchivePushDrain (kept_files drains.entries ++ drains.more)) (reached_of end) repo spool new_repo new_spool
+  pub gives : IsUnderCurrent stanza id repo.now → GivesStored stanza id (kept_files drains.entries ++ drains.more) repo new_repo spool new_spool

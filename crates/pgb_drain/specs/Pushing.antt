@@ -1,0 +1,45 @@
+-- What comes of a push.
+use Rattle.std.specs.Prelude.{◌≡◌, ◌⊎◌, List, [], ◌∷◌, Some, None, Result, Ok, Err, string_bytes}
+use Rattle.sha1.specs.Sha1.{sha1}
+use Rattle.pgb_model.specs.Steps.{Named}
+use Rattle.pgb_model.specs.Text.{Text}
+use Rattle.pgb_stage.specs.declared.halt.Halt.{Halt}
+use Rattle.pgb_stage.specs.declared.halt.Halt.TheVariants.{Refused as IsRefused, Failed, NoMemory}
+use Rattle.pgb_push.specs.declared.fault.PushFault.{PushFault}
+use Rattle.pgb_push.specs.Texts.{push_status, content_text}
+use Rattle.pgb_drain.specs.declared.pushing.Tried.{Tried}
+use Rattle.pgb_drain.specs.declared.pushing.Tried.TheVariants.{Stored, Refused}
+use Rattle.pgb_drain.specs.Fates.{Fate, saved, refused}
+
+-- the file, where it was stored
+abbrev pub stored_of : Result Tried (Halt PushFault) → Named → List Named
+stored_of (Ok (Stored sum)) n = n ∷ []
+stored_of (Ok (Refused fault line)) n = []
+stored_of (Err halt) n = []
+
+-- the file, where it may have been stored
+abbrev pub tried_of : Result Tried (Halt PushFault) → Named → List Named
+tried_of (Ok tried) n = []
+tried_of (Err halt) n = n ∷ []
+
+-- what became of a file of these bytes
+abbrev pub fate_of : Tried → Text → Fate
+fate_of (Stored sum) bytes = saved bytes
+fate_of (Refused fault line) bytes = refused (push_status fault) (string_bytes line)
+
+-- the sum that is told of a stored file is that of its bytes
+abbrev pub TellsSum : Tried → Text → Type 0
+TellsSum (Stored sum) bytes = sum.0 ≡ sha1 bytes
+TellsSum (Refused fault line) bytes = Unit {0}
+
+-- it isn't refused for the file's content
+abbrev pub EndsDrain : Halt PushFault → Type 0
+EndsDrain (IsRefused fault) = content_text fault ≡ None
+EndsDrain (Failed object) = Unit {0}
+EndsDrain NoMemory = Unit {0}
+
+-- a call that ended so is told as a refusal of the file's content, or it ends the drain, where memory isn't wanting so
+abbrev pub IsHaltedBy : Halt PushFault → Result Tried (Halt PushFault) → Type 0
+IsHaltedBy halt (Ok (Stored sum)) = ⊥
+IsHaltedBy halt (Ok (Refused fault line)) = (halt ≡ IsRefused fault) × (content_text fault ≡ Some (string_bytes line))
+IsHaltedBy halt (Err end) = (end ≡ NoMemory) ⊎ ((end ≡ halt) × EndsDrain halt)

@@ -1,0 +1,30 @@
+//! A drain: the files of the log that are ready are stored one behind the other, and what came of each is marked in the
+//! spool.
+//!
+//! What is proved of `drain`:
+//!
+//! - At Ok the files that are ready were gone through in byte order of their names. Each that the data folder has is
+//!   stored, or is refused for its content; a refused one is passed over. `pushed` and `refused` count them.
+//! - The spool then has a receipt with its sum of each stored file, and a refusal with its status and its line of each
+//!   refused one. The marks of no use were taken away before, and no other name changes but a temporary one.
+//! - Under the id of the stanza's current cluster it is one command of the log, which stores these files: all of them at
+//!   Ok, the first of them after every answer and every crash, on both disks.
+//! - Each receipt that the spool has at any moment, or that a crash leaves, is an earlier one or of a file that the
+//!   repository has as the drain ends, and that all that a crash then leaves has. So a receipt comes after its push.
+//! - At Ok a crash leaves the marks as they are: their folder is settled once, at the end.
+//! - It changes names below the stanza's folders of the archive and of the spool alone.
+//! - Each end before its end has its cause.
+//!
+//! A stored segment costs three syncs where its folder is there: its bytes, its name and its receipt.
+#![tactic(auto)]
+
+mod draining;
+mod marking;
+mod pushing;
+mod ready;
+mod settling;
+mod storing;
+mod whole;
+
+pub use marking::Drained;
+pub use whole::drain;
