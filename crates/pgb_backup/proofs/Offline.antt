@@ -1,4 +1,4 @@
--- A full backup of a stopped server holds the data folder's files, where all links read what the folder holds.
+-- A backup of a stopped server holds the data folder's files, where all links read what the folder holds, and what it leaves is as the folder has it.
 use Rattle.std.proofs.Common.{◌≡◌, ◌≢◌, inl, inr, ◌==◌, ◌+◌, ℕ, zero, suc, Bool, true, false, List, [], ◌∷◌, ◌++◌, length, map, Option, Some, None, refl, sym, ◌∙◌, ap, subst, arith, slice_get, append_assoc}
 use Rattle.std.specs.Prelude.{IfSome, IsSome, IsSomeAnd, unwrap_or, option_map, bytes_eq, if◌then◌else◌, ◌&&◌, nat_lt}
 use Rattle.std.proofs.lemmas.Bool.{eqb-true}
@@ -13,7 +13,7 @@ use Rattle.pgb_worker_frame.specs.declared.frames.JobKind.TheVariants.{Read}
 use Rattle.pgb_worker_frame.specs.Frames.{Item, Job}
 use Rattle.pgb_worker_frame.specs.Replies.{payload}
 use Rattle.pgb_model.specs.declared.files.Bundled.{Bundled}
-use Rattle.pgb_model.specs.Text.{Text, In}
+use Rattle.pgb_model.specs.Text.{Text, Map, In}
 use Rattle.pgb_model.specs.Values.{FileEntry}
 use Rattle.pgb_model.specs.Repository.{File}
 use Rattle.pgb_worker_keep.specs.declared.ItemEnd.{ItemEnd}
@@ -34,10 +34,10 @@ use Rattle.pgb_plan.specs.Spots.{HasItem, HaveItems}
 use Rattle.pgb_plan.proofs.Layouts.{bundle_choices}
 use Rattle.pgb_plan.proofs.Places.{at_front, choice_of, have_items}
 use Rattle.pgb_record.specs.Ends.{end_at, bytes_before, AreEnds, AreAllEnds, JobsCome}
-use Rattle.pgb_record.specs.Entries.{Went, read_entry, copied, entry_for, rows, bytes_for, told_at, with_some, file_of as row_file, bundle_job_number, last_job_number}
+use Rattle.pgb_record.specs.Entries.{Went, read_entry, copied, entry_for, rows, bytes_for, left_entry, prior_bytes, told_at, with_some, file_of as row_file, bundle_job_number, last_job_number}
 use Rattle.pgb_record.proofs.Coming.{bundle_at, last_at}
 use Rattle.pgb_record.proofs.Items.{told_is}
-use Rattle.pgb_record.proofs.Maps.{map_of}
+use Rattle.pgb_record.proofs.Rows.{entry_in}
 use Rattle.pgb_backup.specs.declared.draft.Draft.{Draft}
 use Rattle.pgb_backup.specs.Draft.{taken_in, old_in, jobs_in, went_with, IsDraft}
 use Rattle.pgb_backup.specs.Made.{Makes}
@@ -140,8 +140,29 @@ file_in tree f = (f.path, record { bytes = held_at tree f.path; time = f.time })
 abbrev pub Stands : Content → Taken → Type 0
 Stands tree f = IsSomeAnd (tree f.path) (λ bytes. length bytes ≡ f.size)
 
+-- a file that is left has the folder's bytes
+abbrev pub IsHeld : Content → Map File → Taken → Choice → Type 0
+IsHeld tree files f c = c ≡ Skip → prior_bytes files f.path ≡ held_at tree f.path
+
+abbrev pub AreHeld : Content → Map File → List Taken → List Choice → Type 0
+AreHeld tree files [] cs = Unit {0}
+AreHeld tree files (f ∷ fs) [] = ⊥
+AreHeld tree files (f ∷ fs) (c ∷ cs) = IsHeld tree files f c × AreHeld tree files fs cs
+
+-- without a prior backup none is left
+pub none_left : (tree : Content) (files : Map File) (old : List FileEntry) (l : Layout) → old ≡ [] → (fs : List Taken) (cs : List Choice) → HaveItems old l fs cs → AreHeld tree files fs cs
+none_left tree files old l none [] cs have = tt
+none_left tree files old l none (f ∷ fs) [] have = absurd have
+none_left tree files old l none (f ∷ fs) (c ∷ cs) have = (
+  λ is. (
+      let was = subst (λ (d : Choice). HasItem old l f d) is have.0 in
+      absurd (let e : ◌≡◌ {A = Option FileEntry} None (Some was.entry) = ap (λ (es : List FileEntry). entry_at f.path es) (sym none) ∙ was.is in cc)
+      ),
+  none_left tree files old l none fs cs have.1,
+)
+
 module _ (draft : Draft) (is_draft : IsDraft draft) (links : List LinkState) (whole : Bool) (a d : View) (told : IsSome a.now) (makes : Makes draft links whole a d) (tree repo : Content) (read : AllRead tree repo links)
-    (full : old_in draft ≡ []) (standing : (f : Taken) → In f (taken_in draft) → Stands tree f) where
+    (files : Map File) (standing : (f : Taken) → In f (taken_in draft) → Stands tree f) where
   abbrev w : Went
   w = went_with draft makes.ends
 
@@ -175,9 +196,9 @@ module _ (draft : Draft) (is_draft : IsDraft draft) (links : List LinkState) (wh
     pub is : entry_for w f c ≡ Some entry
     pub path : entry.path ≡ f.path
     pub time : entry.time ≡ f.time
-    pub bytes : bytes_for w (map_of []) makes.kept f c ≡ held_at tree f.path
+    pub bytes : bytes_for w files makes.kept f c ≡ held_at tree f.path
 
-  read_row : (f : Taken) (c : Choice) (at : Option Bundled) (e : Ended) (n : ℕ) (sum : Sum) → e.how ≡ Whole n sum → entry_for w f c ≡ read_entry f at e.how → bytes_for w (map_of []) makes.kept f c ≡ held_at tree f.path → IsRowOf f c
+  read_row : (f : Taken) (c : Choice) (at : Option Bundled) (e : Ended) (n : ℕ) (sum : Sum) → e.how ≡ Whole n sum → entry_for w f c ≡ read_entry f at e.how → bytes_for w files makes.kept f c ≡ held_at tree f.path → IsRowOf f c
   read_row f c at e n sum how is bytes = record {
     entry = record { path = f.path; size = n; time = f.time; sum = sum.0; reference = None; bundle = if n == 0 then None else at };
     is = is ∙ ap (λ (h : ItemEnd). read_entry f at h) how;
@@ -186,9 +207,15 @@ module _ (draft : Draft) (is_draft : IsDraft draft) (links : List LinkState) (wh
     bytes = bytes;
   }
 
-  row : (f : Taken) (c : Choice) → In f (taken_in draft) → (c ≡ Empty → f.size ≡ 0) → HasItem (old_in draft) l f c → IsRowOf f c
-  row f Skip at sized was = absurd (let e : ◌≡◌ {A = Option FileEntry} None (Some was.entry) = ap (λ (es : List FileEntry). entry_at f.path es) (sym full) ∙ was.is in cc)
-  row f Empty at sized was =
+  row : (f : Taken) (c : Choice) → In f (taken_in draft) → (c ≡ Empty → f.size ≡ 0) → IsHeld tree files f c → HasItem (old_in draft) l f c → IsRowOf f c
+  row f Skip at sized held was = record {
+    entry = left_entry w.prior f was.entry;
+    is = ap (λ (o : Option FileEntry). option_map (left_entry w.prior f) o) was.is;
+    path = (entry_in f.path (old_in draft) was.entry was.is).1;
+    time = refl;
+    bytes = held refl;
+  }
+  row f Empty at sized held was =
       let there = some_and (tree f.path) (λ bytes. length bytes ≡ f.size) (standing f at) in
       record {
         entry = record { path = f.path; size = 0; time = f.time; sum = sha1 []; reference = None; bundle = None };
@@ -197,29 +224,29 @@ module _ (draft : Draft) (is_draft : IsDraft draft) (links : List LinkState) (wh
         time = refl;
         bytes = no_bytes there.0 (there.2 ∙ sized refl) ∙ sym (ap (λ (v : Value). unwrap_or v []) there.1);
       }
-  row f (Alone job) at sized was =
+  row f (Alone job) at sized held was =
       let here = at_front (l.singles ++ bundles l) l.last job (read_job (item_for f ∷ [])) (at_front l.singles (bundles l) job (read_job (item_for f ∷ [])) was) in
       let x = came f at job 0 (read_job (item_for f ∷ [])) here refl in
       read_row f (Alone job) None x.0 x.2.0 x.2.1 x.2.2 (ap (λ (o : Option Ended). copied f None o) x.1) x.3
-  row f (Bundle number item) at sized was =
+  row f (Bundle number item) at sized held was =
       let job = bundle_job_number w number in
       let place : Option Bundled = Some (record { number = number; at = bytes_before w.ends job item }) in
       let x = came f at job item (read_job was.1.items) (bundle_at w l is_draft.plan.singles (one draft is_draft) come number (read_job was.1.items) was.1.is) was.1.item_is in
       read_row f (Bundle number item) place x.0 x.2.0 x.2.1 x.2.2 (ap (λ (o : Option Ended). copied f place o) x.1) x.3
-  row f Last at sized was =
+  row f Last at sized held was =
       let job = last_job_number w in
       let x = came f at job 0 (read_job (item_for f ∷ [])) (last_at w l is_draft.plan.singles (one draft is_draft) come (read_job (item_for f ∷ [])) was) refl in
       read_row f Last None x.0 x.2.0 x.2.1 x.2.2 (ap (λ (o : Option Ended). copied f None o) x.1) x.3
 
-  all_files : (fs : List Taken) (cs : List Choice) → ((f : Taken) → In f fs → In f (taken_in draft)) → AreSized fs cs → HaveItems (old_in draft) l fs cs → map row_file (rows w (map_of []) makes.kept fs cs) ≡ map (file_in tree) fs
-  all_files [] [] each sized have = refl
-  all_files [] (c ∷ cs) each sized have = absurd have
-  all_files (f ∷ fs) [] each sized have = absurd have
-  all_files (f ∷ fs) (c ∷ cs) each sized have =
-      let r = row f c (each f (inl refl)) sized.0 have.0 in
-      let rest = all_files fs cs (λ g i. each g (inr i)) sized.1 have.1 in
-      ap (λ (o : Option FileEntry). map row_file (with_some (option_map (λ (e : FileEntry). (e, bytes_for w (map_of []) makes.kept f c)) o) (rows w (map_of []) makes.kept fs cs))) r.is
-      ∙ ap (λ (x : Text × File). x ∷ map row_file (rows w (map_of []) makes.kept fs cs)) (same_file r.entry.path f.path r.entry.time f.time (bytes_for w (map_of []) makes.kept f c) (held_at tree f.path) r.path r.time r.bytes)
+  all_files : (fs : List Taken) (cs : List Choice) → ((f : Taken) → In f fs → In f (taken_in draft)) → AreSized fs cs → AreHeld tree files fs cs → HaveItems (old_in draft) l fs cs → map row_file (rows w files makes.kept fs cs) ≡ map (file_in tree) fs
+  all_files [] [] each sized held have = refl
+  all_files [] (c ∷ cs) each sized held have = absurd have
+  all_files (f ∷ fs) [] each sized held have = absurd have
+  all_files (f ∷ fs) (c ∷ cs) each sized held have =
+      let r = row f c (each f (inl refl)) sized.0 held.0 have.0 in
+      let rest = all_files fs cs (λ g i. each g (inr i)) sized.1 held.1 have.1 in
+      ap (λ (o : Option FileEntry). map row_file (with_some (option_map (λ (e : FileEntry). (e, bytes_for w files makes.kept f c)) o) (rows w files makes.kept fs cs))) r.is
+      ∙ ap (λ (x : Text × File). x ∷ map row_file (rows w files makes.kept fs cs)) (same_file r.entry.path f.path r.entry.time f.time (bytes_for w files makes.kept f c) (held_at tree f.path) r.path r.time r.bytes)
       ∙ ap (λ (xs : List (Text × File)). file_in tree f ∷ xs) rest
     where
       same_file : (p q : Text) (t u : ℕ) (x y : Text) → p ≡ q → t ≡ u → x ≡ y → (let a : Text × File = (p, record { bytes = x; time = t }) in a) ≡ (let b : Text × File = (q, record { bytes = y; time = u }) in b)
@@ -227,12 +254,15 @@ module _ (draft : Draft) (is_draft : IsDraft draft) (links : List LinkState) (wh
           ∙ ap (λ (k : ℕ). (let z : Text × File = (q, record { bytes = x; time = k }) in z)) b
           ∙ ap (λ (k : Text). (let z : Text × File = (q, record { bytes = k; time = u }) in z)) c
 
+  have : HaveItems (old_in draft) (layout is_draft.plan.settings (old_in draft) (taken_in draft) is_draft.plan.equal) (taken_in draft) draft.plan.choices.items
+  have =
+      subst (λ (xs : List Choice). HaveItems (old_in draft) l (taken_in draft) xs) (sym is_draft.plan.choices)
+      (have_items is_draft.plan.settings (old_in draft) (taken_in draft) is_draft.plan.equal is_draft.plan.same)
+
   -- the backup's files are those of the data folder that a backup takes
-  pub folder_files : map row_file (rows (went_with draft makes.ends) (map_of []) makes.kept (taken_in draft) draft.plan.choices.items) ≡ map (file_in tree) (taken_in draft)
-  folder_files =
+  pub folder_files : AreHeld tree files (taken_in draft) draft.plan.choices.items → map row_file (rows (went_with draft makes.ends) files makes.kept (taken_in draft) draft.plan.choices.items) ≡ map (file_in tree) (taken_in draft)
+  folder_files held =
       let sized = all_sized is_draft.plan.settings (old_in draft) begin (taken_in draft) is_draft.plan.equal is_draft.plan.same in
       let cs : draft.plan.choices.items ≡ sized.0 = is_draft.plan.choices ∙ sized.1 in
-      let have = have_items is_draft.plan.settings (old_in draft) (taken_in draft) is_draft.plan.equal is_draft.plan.same in
       all_files (taken_in draft) draft.plan.choices.items (λ f i. i)
-      (subst (λ (xs : List Choice). AreSized (taken_in draft) xs) (sym cs) sized.2)
-      (subst (λ (xs : List Choice). HaveItems (old_in draft) l (taken_in draft) xs) (sym is_draft.plan.choices) have)
+      (subst (λ (xs : List Choice). AreSized (taken_in draft) xs) (sym cs) sized.2) held have

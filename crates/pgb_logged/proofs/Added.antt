@@ -1,5 +1,5 @@
 -- What is known of a backup that is listed.
-use Rattle.std.proofs.Common.{◌≡◌, Bool, true, false, List, Option, Some, refl, ◌∙◌, ap, Result, Ok, Err}
+use Rattle.std.proofs.Common.{◌≡◌, Bool, true, false, List, Option, Some, None, refl, ◌∙◌, ap, Result, Ok, Err}
 use Rattle.std.specs.Prelude.{IsSome}
 use Rattle.std.specs.Result.{is_ok}
 use Rattle.pgb_outside.specs.Content.{Content}
@@ -17,11 +17,13 @@ use Rattle.pgb_plan.specs.Filter.{ListedNode, Takes}
 use Rattle.pgb_record.proofs.Left.{OneManifest}
 use Rattle.pgb_backup.specs.declared.draft.Draft.{Draft}
 use Rattle.pgb_backup.specs.declared.fault.MakeFault.{MakeFault}
-use Rattle.pgb_backup.specs.Draft.{stanza_of, taken_in, folders_in}
+use Rattle.pgb_backup.specs.Draft.{stanza_of, taken_in, folders_in, old_in}
 use Rattle.pgb_backup.specs.Made.{Makes, Outcome}
 use Rattle.pgb_logged.specs.Backups.{IsReadBy, IsReadOrLeft, AddsBackup, IsOfFolder, bytes_in}
 use Rattle.pgb_stanza.proofs.Settled.{OneList}
-use Rattle.pgb_logged.proofs.Reading.{full_backup, read_or_left, read_by}
+use Rattle.pgb_backup.proofs.Offline.{none_left}
+use Rattle.pgb_logged.proofs.Prior.{files_before}
+use Rattle.pgb_logged.proofs.Reading.{full_backup, have, read_or_left, read_by}
 use Rattle.pgb_logged.proofs.Folders.{of_folder}
 use Rattle.pgb_logged.proofs.Begun.{BeginsFull, BeginsBackup, full_begins, list_there}
 use Rattle.pgb_logged.proofs.Made.{refers, now_listed}
@@ -66,7 +68,8 @@ module _ (one_list : OneList) (one_manifest : OneManifest) (draft : Draft) (link
     label = ap (λ (m : Manifest). m.label) makes.manifest_is;
     read = read_by links (stanza_of draft) a.now (full_backup draft links true a d makes) made.read (made.prior ∙ begins.no_prior);
     adds = made.adds;
-    of_folder = λ told f repo seen read listing takes. of_folder draft begins.is_draft links true a d told makes begins.no_old f repo read seen listing takes;
+    of_folder = λ told f repo seen read listing takes. of_folder draft begins.is_draft links true a d told makes f repo read
+        (none_left (bytes_in f) (files_before draft a.now) (old_in draft) _ begins.no_old (taken_in draft) draft.plan.choices.items (have draft begins.is_draft None tt links true a d makes)) seen listing takes;
   }
 
   -- at Ok the repository has one more backup

@@ -1,4 +1,4 @@
--- A full backup holds the data folder, where all its links read what that folder holds.
+-- A backup holds the data folder, where all its links read what that folder holds, and what it leaves is as the folder has it.
 use Rattle.std.proofs.Common.{◌≡◌, ◌↔◌, inl, inr, ℕ, Bool, true, false, List, [], ◌∷◌, ◌++◌, length, map, Option, Some, None, refl, sym, ◌∙◌, ap, subst}
 use Rattle.std.specs.Prelude.{IsSome, IsSomeAnd, unwrap_or, if◌then◌else◌}
 use Rattle.std.specs.FinMap.{get}
@@ -22,9 +22,9 @@ use Rattle.pgb_record.proofs.Maps.{map_of, get_of}
 use Rattle.pgb_backup.specs.declared.draft.Draft.{Draft}
 use Rattle.pgb_backup.specs.Draft.{taken_in, folders_in, old_in, went_with, IsDraft}
 use Rattle.pgb_backup.specs.Made.{Makes}
-use Rattle.pgb_backup.proofs.Offline.{file_in, held_at, Stands, folder_files}
+use Rattle.pgb_backup.proofs.Offline.{file_in, held_at, AreHeld, Stands, folder_files}
 use Rattle.pgb_logged.specs.Backups.{IsOfFolder, bytes_in}
-use Rattle.pgb_logged.proofs.Prior.{files_before, rows_same}
+use Rattle.pgb_logged.proofs.Prior.{files_before}
 use Rattle.pgb_logged.proofs.Values.{value_in}
 use Rattle.pgb_logged.proofs.Reading.{rows_of, full_backup, files_sorted, have}
 
@@ -103,8 +103,8 @@ module _ (f : Nodes) (seen : List ListedNode) (listing : IsTreeListing f seen) w
 
 -- ---- the backup
 
-module _ (draft : Draft) (is_draft : IsDraft draft) (links : List LinkState) (whole : Bool) (a d : View) (told : IsSome a.now) (makes : Makes draft links whole a d) (full : old_in draft ≡ [])
-    (f : Nodes) (repo : Content) (read : AllRead (bytes_in f) repo links) (seen : List ListedNode) (listing : IsTreeListing f seen) (takes : Takes false seen (taken_in draft) (folders_in draft)) where
+module _ (draft : Draft) (is_draft : IsDraft draft) (links : List LinkState) (whole : Bool) (a d : View) (told : IsSome a.now) (makes : Makes draft links whole a d)
+    (f : Nodes) (repo : Content) (read : AllRead (bytes_in f) repo links) (held : AreHeld (bytes_in f) (files_before draft a.now) (taken_in draft) draft.plan.choices.items) (seen : List ListedNode) (listing : IsTreeListing f seen) (takes : Takes false seen (taken_in draft) (folders_in draft)) where
   abbrev files : List (Text × File)
   files = map file_of (rows_of draft a.now makes.ends makes.kept)
 
@@ -115,9 +115,7 @@ module _ (draft : Draft) (is_draft : IsDraft draft) (links : List LinkState) (wh
   standing t i = let x = file_there t i in subst (λ (v : Value). IsSomeAnd v (λ bytes. length bytes ≡ t.size)) (sym (ap file_bytes x.1)) x.2
 
   files_are : files ≡ map (file_in (bytes_in f)) (taken_in draft)
-  files_are =
-      ap (map file_of) (rows_same (went_with draft makes.ends) makes.kept _ (files_before draft a.now) (map_of []) (λ e at some. absurd (subst (λ (es : List FileEntry). In e es) full at)) (taken_in draft) draft.plan.choices.items (have draft is_draft None tt links whole a d makes))
-      ∙ folder_files draft is_draft links whole a d told makes (bytes_in f) repo read full standing
+  files_are = folder_files draft is_draft links whole a d told makes (bytes_in f) repo read (files_before draft a.now) standing held
 
   -- what the folder holds there
   held_is : (path bytes : Text) (time : ℕ) → f path ≡ Some (file bytes time) → held_at (bytes_in f) path ≡ bytes

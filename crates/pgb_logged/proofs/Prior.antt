@@ -115,14 +115,14 @@ rows_where P w files kept l delta each (f ∷ fs) (c ∷ cs) have all r at = by 
     by rest None is k = rest k
     by rest (Some e) is k = ⊎_elim (λ (same : r ≡ (e, bytes_for w files kept f c)). subst P (sym same) (each f c e have.0 all.0 is)) rest k
 
-choices_are : (s : PlanSettings) (l : Layout) (f : Taken) (w : What) → (laid s l f w).choices ≡ l.choices ++ choice_of s l f w ∷ []
+pub choices_are : (s : PlanSettings) (l : Layout) (f : Taken) (w : What) → (laid s l f w).choices ≡ l.choices ++ choice_of s l f w ∷ []
 choices_are s l f Leave = refl
 choices_are s l f Nothing = refl
 choices_are s l f Single = refl
 choices_are s l f Small = ap (λ (cs : List Choice). cs ++ choice_of s l f Small ∷ []) (bundle_choices (takes s l f.size) l f)
 choices_are s l f Control = refl
 
-skip_choice : (s : PlanSettings) (l : Layout) (f : Taken) (w : What) → choice_of s l f w ≡ Skip → w ≡ Leave
+pub skip_choice : (s : PlanSettings) (l : Layout) (f : Taken) (w : What) → choice_of s l f w ≡ Skip → w ≡ Leave
 skip_choice s l f Leave e = refl
 skip_choice s l f Nothing e = absurd (let x : ◌≡◌ {A = Choice} Empty Skip = e in cc)
 skip_choice s l f Single e = absurd (let x : ◌≡◌ {A = Choice} (Alone (length l.singles)) Skip = e in cc)
@@ -133,7 +133,7 @@ no_leave : (b : Bool) → (if b then Small else Single) ≡ Leave → ⊥
 no_leave true e = let x : ◌≡◌ {A = What} Small Leave = e in cc
 no_leave false e = let x : ◌≡◌ {A = What} Single Leave = e in cc
 
-leave_unchanged : (s : PlanSettings) (old : Option FileEntry) (f : Taken) (e : Bool) → what s old f e ≡ Leave → is_unchanged s.delta old f e ≡ true
+pub leave_unchanged : (s : PlanSettings) (old : Option FileEntry) (f : Taken) (e : Bool) → what s old f e ≡ Leave → is_unchanged s.delta old f e ≡ true
 leave_unchanged s old f e is = by (bytes_eq f.path control_path) (f.size == 0) (is_unchanged s.delta old f e) is
   where
     by : (a b c : Bool) → (if a then Control else (if b then Nothing else (if c then Leave else (if s.bundle && nat_lt f.size (s.bundle_limit + 1) then Small else Single)))) ≡ Leave → c ≡ true

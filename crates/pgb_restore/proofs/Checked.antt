@@ -1,16 +1,15 @@
 -- From how files ended to those that are there, and to what is told of those that aren't.
-use Rattle.std.proofs.Common.{ℕ, zero, suc, Bool, true, false, ◌≡◌, ◌≢◌, ◌⊎◌, ⊎_elim, ◌<◌, ◌+◌, ◌&&◌, refl, sym, ap, ◌∙◌, subst, arith, List, [], ◌∷◌, length, map, Option, Some, None, bytes_eq, slice_get, get_or, string_bytes}
+use Rattle.std.proofs.Common.{ℕ, zero, suc, Bool, true, false, ◌≡◌, ◌≢◌, ⊎_elim, ◌<◌, ◌+◌, refl, sym, ap, ◌∙◌, subst, arith, List, [], ◌∷◌, length, map, Option, Some, None, bytes_eq, slice_get, get_or, string_bytes}
 use Rattle.std.specs.Prelude.{IfSome, ◌==◌}
 use Rattle.std.proofs.lemmas.Bool.{and_parts}
 use Rattle.std.proofs.lemmas.Bool.Decides.{nat_tests}
 use Rattle.std.proofs.lemmas.List.{length-map}
 use Rattle.std.proofs.lemmas.Slice.Eq.{bytes_eq-Decides}
-use Rattle.sha1.specs.Sha1.{sha1}
 use Rattle.pgb_outside.specs.Links.{LinkState}
 use Rattle.pgb_outside.specs.Tree.{Nodes}
 use Rattle.pgb_text.specs.declared.sum.Sum.{Sum}
 use Rattle.pgb_model.specs.Text.{Text}
-use Rattle.pgb_worker_frame.specs.Frames.{Item, Job}
+use Rattle.pgb_worker_frame.specs.Frames.{Job}
 use Rattle.pgb_worker_keep.specs.declared.ItemEnd.{ItemEnd}
 use Rattle.pgb_worker_keep.specs.declared.ItemEnd.TheVariants.{Whole, Vanished}
 use Rattle.pgb_worker_dispatch.specs.Run.{JobsFault}
@@ -24,8 +23,9 @@ use Rattle.pgb_fill.specs.Files.{temporary_path, is_wanted, wanted_of}
 use Rattle.pgb_fill.proofs.Listing.{got, either_is, some_within}
 use Rattle.pgb_restore.specs.declared.fault.FillFault.{FillFault}
 use Rattle.pgb_restore.specs.declared.fault.FillFault.TheVariants as faults
-use Rattle.pgb_restore.specs.Written.{AreJobsOf, IsWhole, IsWritten, AllWritten, AllRight, IsFetched, AllFetched}
-use Rattle.pgb_restore.specs.Faults.{found_by, TellsDamage, TellsWrong, HasItsFile, Names, IsWrongFile, WriteFails}
+use Rattle.pgb_digests.specs.Digests.{IsWhole}
+use Rattle.pgb_restore.specs.Written.{AreJobsOf, IsWritten, AllWritten, AllRight, IsFetched, AllFetched}
+use Rattle.pgb_restore.specs.Faults.{found_by, TellsWrong, HasItsFile, Names, IsWrongFile, WriteFails}
 use Rattle.pgb_restore.proofs.Writes.{get_some, both_by}
 
 -- ---- ends

@@ -18,11 +18,12 @@ use Rattle.pgb_worker_dispatch.specs.declared.fault.Lost.{Lost}
 use Rattle.pgb_worker_dispatch.proofs.Reading.{all_at}
 use Rattle.pgb_source.specs.Sources.{source}
 use Rattle.pgb_restore.specs.Options.{Options}
-use Rattle.pgb_restore.specs.Kept.{IsDigestedBy}
+use Rattle.pgb_digests.specs.Digests.{IsDigestedBy}
 use Rattle.pgb_restore.specs.Settings.{HasAdded}
-use Rattle.pgb_restore.specs.Left.{IsLeft}
+use Rattle.pgb_digests.specs.Left.{IsLeft}
 use Rattle.pgb_restore.specs.Finished.{HasCome, IsFinished}
-use Rattle.pgb_restore.proofs.Links.{reads_as, read_before}
+use Rattle.pgb_digests.proofs.Links.{reads_as}
+use Rattle.pgb_restore.proofs.Links.{read_before}
 use Rattle.pgb_restore.proofs.Settled.{held_before}
 
 told_same : (tree repo : Content) (a b : Option Told) → IsSame a b → IsSomeAnd a (Reads tree repo) → IsSomeAnd b (Reads tree repo)

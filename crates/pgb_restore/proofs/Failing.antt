@@ -12,9 +12,10 @@ use Rattle.pgb_worker_dispatch.specs.declared.fault.Lost.{Lost}
 use Rattle.pgb_source.specs.Sources.{source}
 use Rattle.pgb_restore.specs.declared.fault.FillFault.{FillFault}
 use Rattle.pgb_restore.specs.declared.fault.FillFault.TheVariants as faults
-use Rattle.pgb_restore.specs.Left.{IsLeft}
+use Rattle.pgb_digests.specs.Left.{IsLeft}
 use Rattle.pgb_restore.specs.Faults.{FillFails}
-use Rattle.pgb_restore.proofs.Links.{reads_as, read_before, steady_as}
+use Rattle.pgb_digests.proofs.Links.{reads_as, steady_as}
+use Rattle.pgb_restore.proofs.Links.{read_before}
 
 rises_later : (f g h : ℕ) → f ≤ g → Rises g h → Rises f h
 rises_later f g h le rose = grind arith

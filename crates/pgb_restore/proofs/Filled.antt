@@ -27,7 +27,7 @@ use Rattle.pgb_restore.specs.Faults.{IsWrongFile, IsUnreadFile, WriteFails, IsDa
 use Rattle.pgb_restore.proofs.ReadJobs.{at_in, in_at, entry_at, wanted_of_entry, job_at}
 use Rattle.pgb_restore.proofs.ReadEntries.{in_read, marked_in, ordinary_off}
 use Rattle.pgb_restore.proofs.Names.{control_lasts}
-use Rattle.pgb_restore.proofs.Links.{unsteady_loss}
+use Rattle.pgb_digests.proofs.Links.{unsteady_loss}
 use Rattle.pgb_fill.proofs.Listing.{some_within}
 
 pub one_left : (left : List LinkState) (now : LinkState) → map (λ (s : LinkState). Some s) left ≡ Some now ∷ [] → left ≡ now ∷ []

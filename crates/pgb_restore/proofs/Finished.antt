@@ -1,10 +1,9 @@
 -- A whole restore: the control file beside all else.
 use Rattle.std.proofs.Common.{ℕ, zero, suc, get_or, ◌||◌, Contains, Bool, true, false, ◌≡◌, ◌≢◌, ◌⊎◌, inl, inr, ⊎_elim, ◌<◌, ◌&&◌, refl, sym, ap, ◌∙◌, subst, arith, List, [], ◌∷◌, length, map, Option, Some, None, option_map, bytes_eq, not}
-use Rattle.std.specs.Prelude.{IfSome, ◌==◌, Result, Ok, Err, OnOk, OnErr}
+use Rattle.std.specs.Prelude.{IfSome, ◌==◌, Result, Ok, Err, OnOk}
 use Rattle.std.specs.List.{list_any}
 use Rattle.std.proofs.lemmas.Bool.Decides.{nat_tests}
 use Rattle.std.proofs.lemmas.Slice.Eq.{bytes_eq-Decides}
-use Rattle.sha1.specs.Sha1.{sha1}
 use Rattle.pgb_outside.specs.Content.{at, SameBut}
 use Rattle.pgb_outside.specs.Links.{LinkState}
 use Rattle.pgb_outside.specs.declared.tree.Node.{Node}
@@ -17,7 +16,7 @@ use Rattle.pgb_model.specs.Values.{FileEntry, Manifest}
 use Rattle.pgb_model.specs.ManifestText.{IsManifest}
 use Rattle.pgb_worker_dispatch.specs.declared.fault.Lost.{Lost}
 use Rattle.pgb_fill.specs.Files.{temporary_path}
-use Rattle.pgb_clear.specs.Clearing.{control_path, is_bare, HasFile, HasNone}
+use Rattle.pgb_clear.specs.Clearing.{control_path, is_bare, HasNone}
 use Rattle.pgb_clear.proofs.Nodes.{set_other, set_same}
 use Rattle.pgb_clear.proofs.Ordered.{one_name}
 use Rattle.pgb_restore.specs.Listed.{is_folder, is_control_node, IsListedBut, IsPlain}
@@ -25,7 +24,7 @@ use Rattle.pgb_restore.specs.Options.{Options, is_added}
 use Rattle.pgb_restore.specs.Kept.{marked, IsKept}
 use Rattle.pgb_restore.specs.Settings.{HasAdded}
 use Rattle.pgb_restore.specs.Finished.{waiting_path, HasEntry, IsAway, HasCome, IsMarked}
-use Rattle.pgb_restore.specs.Left.{IsLeft}
+use Rattle.pgb_digests.specs.Left.{IsLeft}
 use Rattle.pgb_restore.proofs.Links.{read_before}
 use Rattle.pgb_restore.proofs.Names.{lasts, conf_lasts, signal_lasts, conf_off, signal_off, other_path, own_temporary}
 use Rattle.pgb_restore.proofs.Plain.{path_in, told}

@@ -14,18 +14,19 @@ use Rattle.pgb_worker_keep.specs.declared.ItemEnd.TheVariants.{Whole, Vanished}
 use Rattle.pgb_worker_keep.specs.KeepState.{Done, Kept}
 use Rattle.pgb_worker_reply.specs.Reads.{AllEnd, EndsAs}
 use Rattle.pgb_worker_dispatch.specs.Run.{EndedBy, AllDone}
+use Rattle.pgb_worker_dispatch.proofs.Going.{some_of}
 use Rattle.pgb_worker_dispatch.specs.declared.fault.Lost.{Lost}
 use Rattle.pgb_source.specs.Sources.{source, reading}
 use Rattle.pgb_restore.specs.declared.fault.FillFault.{FillFault}
 use Rattle.pgb_restore.specs.declared.fault.FillFault.TheVariants as faults
 use Rattle.pgb_restore.specs.declared.candidates.Candidate.{Candidate}
-use Rattle.pgb_restore.specs.declared.holding.Ended.{Ended}
+use Rattle.pgb_digests.specs.declared.holding.Ended.{Ended}
 use Rattle.pgb_restore.specs.Digested.{file_of}
-use Rattle.pgb_restore.specs.Holdings.{held_bytes, done_item}
-use Rattle.pgb_restore.specs.Written.{IsReadOf, IsWhole}
+use Rattle.pgb_digests.specs.Holdings.{held_bytes, done_item}
+use Rattle.pgb_restore.specs.Written.{IsReadOf}
 use Rattle.pgb_restore.specs.Settings.{IsBytesOf, IsFirstOf, IsWrongItem, TellsWrongItem}
 use Rattle.pgb_restore.specs.Faults.{IsDamaged, FillFails}
-use Rattle.pgb_restore.proofs.Digests.{some_is}
+use Rattle.pgb_digests.specs.Digests.{IsWhole}
 
 pub on_ok : {A E : Type 0} (r : Result A E) (P : Type 0) → P → OnOk r P
 on_ok (Ok x) P p = p
@@ -48,7 +49,7 @@ one_each stanza own cand jobs are (suc k) c j at_k at_j = cc
 module _ (stanza : Text) (own : Label) (links : List LinkState) (e : FileEntry) (jobs : List Job) (jobs_are : jobs ≡ reading stanza own e ∷ []) (kept : List Kept) (done : AllDone jobs links kept)
     (ended : List Ended) (held : IfSome (slice_get kept 0) (λ k. k.done ≡ map done_item ended)) where
   ended_by : (x : Kept) × (slice_get kept 0 ≡ Some x) × EndedBy links (reading stanza own e) x
-  ended_by = some_is (EndedBy links (reading stanza own e)) (slice_get kept 0) (done 0 (reading stanza own e) (ap (λ (l : List Job). slice_get l 0) jobs_are))
+  ended_by = some_of (EndedBy links (reading stanza own e)) (slice_get kept 0) (done 0 (reading stanza own e) (ap (λ (l : List Job). slice_get l 0) jobs_are))
 
   -- what the first item that ended holds was read by a link
   first_whole : (first : Ended) (rest : List Ended) → ended ≡ first ∷ rest → (n : ℕ) (sum : Text) → IsWhole (Some first.how) n sum → (n ≡ length first.bytes.items) × (sum ≡ sha1 first.bytes.items) × IsReadOf links (source stanza own e) first.bytes.items

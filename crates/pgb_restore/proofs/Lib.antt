@@ -1,5 +1,4 @@
 pub mod Names
-pub mod Held
 pub mod Shown
 pub mod ReadEntries
 pub mod Writes

@@ -1,95 +1,14 @@
--- Links that are left behind some jobs.
-use Rattle.std.proofs.Common.{ℕ, zero, suc, ◌≡◌, refl, sym, ap, ◌∙◌, subst, arith, List, [], ◌∷◌, ◌++◌, length-append, append_assoc, Option, Some, None, slice_get}
-use Rattle.std.specs.Prelude.{IfSome}
-use Rattle.std.specs.List.{AllByRecursion}
-use Rattle.std.proofs.lemmas.List.{append-nil}
-use Rattle.pgb_outside.specs.Content.{Content}
+-- What was read by links that are left.
+use Rattle.std.proofs.Common.{List, Option, Some, None}
 use Rattle.pgb_outside.specs.Links.{LinkState, Told}
 use Rattle.pgb_model.specs.Text.{Text}
-use Rattle.pgb_worker_frame.specs.Frames.{Item, Job, spell}
-use Rattle.pgb_worker_frame.specs.Frames.Frame.{Setup, Task}
-use Rattle.pgb_worker_reply.specs.Reads.{Reads, ReadBy, IsSteadyWorker}
-use Rattle.pgb_worker_reply.specs.Going.{IsSame, IsDrained}
-use Rattle.pgb_worker_dispatch.specs.Run.{somes, IsLoss, Left, IsReady}
+use Rattle.pgb_worker_frame.specs.Frames.{Item}
+use Rattle.pgb_worker_reply.specs.Reads.{ReadBy}
+use Rattle.pgb_worker_reply.specs.Going.{IsSame}
 use Rattle.pgb_worker_dispatch.specs.declared.fault.Lost.{Lost as Entry}
-use Rattle.pgb_worker_dispatch.proofs.Reading.{all_at}
-use Rattle.pgb_fill.proofs.Listing.{some_within}
+use Rattle.pgb_digests.specs.Left.{IsLeft}
+use Rattle.pgb_digests.proofs.Links.{reads_as}
 use Rattle.pgb_restore.specs.Written.{IsReadOf}
-use Rattle.pgb_restore.specs.Left.{HasSame, IsLeft}
-use Rattle.pgb_restore.proofs.Writes.{get_some}
-
--- what a link reads rests on its answers alone
-pub reads_as : (tree repo : Content) (a b : Told) → a.answer ≡ b.answer → Reads tree repo b → Reads tree repo a
-reads_as tree repo a b same r = record {
-  job = λ j fits. ap (λ (f : Text → Text). f (spell (Task j))) same ∙ r.job j fits;
-  setup = λ x fits. ap (λ (f : Text → Text). f (spell (Setup x))) same ∙ r.setup x fits;
-}
-
-same_told : (a b : Option Told) → IsDrained a b → IsSame a b
-same_told None None d = tt
-same_told None (Some b) d = absurd d
-same_told (Some a) None d = absurd d
-same_told (Some a) (Some b) d = d.0
-
-ready_told : (a b : Option Told) → IsDrained a b → IfSome b (λ (t : Told). (tree repo : Content) → Reads tree repo t → t.pending ≡ [])
-ready_told None None d = tt
-ready_told None (Some b) d = absurd d
-ready_told (Some a) None d = tt
-ready_told (Some a) (Some b) d = λ tree repo reads. d.1 tree repo (reads_as tree repo a b (sym d.0.0) reads)
-
--- a link that is left has a seat
-seat_of : (seats : List (Option LinkState)) (k : ℕ) (s : LinkState) → slice_get (somes seats) k ≡ Some s → (i : ℕ) × (slice_get seats i ≡ Some (Some s))
-seat_of [] k s e = cc
-seat_of (None ∷ seats) k s e = let h = seat_of seats k s e in (suc h.0, h.1)
-seat_of (Some t ∷ seats) zero s e = let h : ◌≡◌ {A = Option LinkState} (Some t) (Some s) = e in (0, ap (λ (x : LinkState). Some (Some x)) cc)
-seat_of (Some t ∷ seats) (suc k) s e = let h = seat_of seats k s e in (suc h.0, h.1)
-
--- ---- a steady worker is left
-
--- a link with the seat is left
-at_seat : (seats : List (Option LinkState)) (i : ℕ) (s : LinkState) → slice_get seats i ≡ Some (Some s) → (k : ℕ) × (slice_get (somes seats) k ≡ Some s)
-at_seat [] i s e = cc
-at_seat (None ∷ seats) zero s e = let h : ◌≡◌ {A = Option (Option LinkState)} (Some None) (Some (Some s)) = e in cc
-at_seat (None ∷ seats) (suc i) s e = at_seat seats i s e
-at_seat (Some t ∷ seats) zero s e = let h : ◌≡◌ {A = Option (Option LinkState)} (Some (Some t)) (Some (Some s)) = e in (0, cc)
-at_seat (Some t ∷ seats) (suc i) s e = let h = at_seat seats i s e in (suc h.0, h.1)
-
--- a link that has its loss isn't a steady worker
-pub unsteady_loss : (jobs : List Job) (links : List LinkState) (entries : List Entry) → AllByRecursion (IsLoss jobs links) entries → (i : ℕ) (s : LinkState) → slice_get links i ≡ Some s
-    → (k : ℕ) × (e : Entry) × (slice_get entries k ≡ Some e) × (e.place ≡ i) → ¬ IsSteadyWorker s.told
-unsteady_loss jobs links entries each i s is x w =
-    let loss = all_at (IsLoss jobs links) entries x.0 x.1 each x.2 in
-    let e : ◌≡◌ {A = Option LinkState} (Some loss.from) (Some s) = sym loss.is ∙ ap (λ (n : ℕ). slice_get links n) x.3 ∙ is in
-    let same : loss.from ≡ s = cc in
-    loss.unsteady (subst (λ (l : LinkState). IsSteadyWorker l.told) (sym same) w)
-
-steady_seat : (jobs : List Job) (links : List LinkState) (before after : List Entry) (now : List LinkState) (left : Left jobs links before after now) (i : ℕ) (s : LinkState) → slice_get links i ≡ Some s → IsSteadyWorker s.told
-    → (o : Option LinkState) → slice_get left.seats i ≡ Some o → HasSame now s
-steady_seat jobs links before after now left i s is w None at = absurd (unsteady_loss jobs links left.entries left.each i s is (left.gone i at) w)
-steady_seat jobs links before after now left i s is w (Some t) at =
-    let x = at_seat left.seats i t at in
-    (x.0, t, ap (λ (l : List LinkState). slice_get l x.0) left.now_are ∙ x.1, same_told s.told t.told (left.rests i s t is at).drained)
-
-pub left_is : (jobs : List Job) (links : List LinkState) (before after : List Entry) (now : List LinkState) → Left jobs links before after now → IsLeft links now before after
-left_is jobs links before after now left = record {
-  entries = left.entries;
-  is = left.is;
-  count = left.once;
-  steady = λ i s is w.
-      let at = get_some left.seats i (omega (arith, some_within links i s is, left.seat_count)) in
-      steady_seat jobs links before after now left i s is w at.0 at.1;
-  each = λ k s is.
-      let seat = seat_of left.seats k s (ap (λ (l : List LinkState). slice_get l k) (sym left.now_are) ∙ is) in
-      let from = get_some links seat.0 (omega (arith, some_within left.seats seat.0 (Some s) seat.1, left.seat_count)) in
-      let rests = left.rests seat.0 from.0 s from.1 seat.1 in
-      record { ready = ready_told from.0.told s.told rests.drained; link = seat.0; from = from.0; is = from.1; same = same_told from.0.told s.told rests.drained };
-}
-
--- what reads the same as a steady worker is one
-pub steady_as : (a b : Option Told) → IsSame a b → IsSteadyWorker a → IsSteadyWorker b
-steady_as None b same w = absurd w
-steady_as (Some a) None same w = absurd same
-steady_as (Some a) (Some b) same w = record { steady = same.1 ∙ w.steady; tree = w.tree; repo = w.repo; reads = reads_as w.tree w.repo b a same.0 w.reads }
 
 -- what is read by a link that is left is read by one of the first
 read_told : (a b : Option Told) (item : Item) (bytes : Text) → IsSame a b → ReadBy b item bytes → ReadBy a item bytes
@@ -101,41 +20,3 @@ pub read_before : (links now : List LinkState) (before after : List Entry) (item
 read_before links now before after item bytes left r =
     let x = left.each r.link r.from r.is in
     record { link = x.link; from = x.from; is = x.is; read = read_told x.from.told r.from.told item bytes x.same r.read }
-
--- ---- links that are left by nothing, and by two runs
-
-same_again : (a : Option Told) → IsSame a a
-same_again None = tt
-same_again (Some a) = (refl, refl)
-
-same_through : (a b c : Option Told) → IsSame a b → IsSame b c → IsSame a c
-same_through None None None p q = tt
-same_through None None (Some c) p q = absurd q
-same_through None (Some b) c p q = absurd p
-same_through (Some a) None c p q = absurd p
-same_through (Some a) (Some b) None p q = absurd q
-same_through (Some a) (Some b) (Some c) p q = (q.0 ∙ p.0, q.1 ∙ p.1)
-
-pub left_all : (links : List LinkState) (lost : List Entry) → ((i : ℕ) (s : LinkState) → slice_get links i ≡ Some s → IsReady s) → IsLeft links links lost lost
-left_all links lost ready = record {
-  entries = [];
-  is = sym (append-nil lost);
-  count = omega arith;
-  each = λ k s is. record { ready = ready k s is; link = k; from = s; is = is; same = same_again s.told };
-  steady = λ i s is w. (i, s, is, same_again s.told);
-}
-
-pub left_beyond : (first mid now : List LinkState) (start before middle after : List Entry) (p : IsLeft first mid start before) (q : IsLeft mid now middle after) → IsLeft first now [] (p.entries ++ q.entries)
-left_beyond first mid now start before middle after p q = record {
-  entries = p.entries ++ q.entries;
-  is = refl;
-  count = omega (arith, length-append p.entries q.entries, p.count, q.count);
-  each = λ k s is.
-      let y = q.each k s is in
-      let x = p.each y.link y.from y.is in
-      record { ready = y.ready; link = x.link; from = x.from; is = x.is; same = same_through x.from.told y.from.told s.told x.same y.same };
-  steady = λ i s is w.
-      let x = p.steady i s is w in
-      let y = q.steady x.0 x.1 x.2 (steady_as s.told x.1.told x.3 w) in
-      (y.0, y.1, y.2, same_through s.told x.1.told y.1.told x.3 y.3);
-}

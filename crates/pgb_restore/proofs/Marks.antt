@@ -1,45 +1,25 @@
 -- Marks of files that are kept.
-use Rattle.std.proofs.Common.{ℕ, zero, suc, Bool, true, false, cond, ◌≡◌, ◌≢◌, ◌⊎◌, ⊎_elim, ◌<◌, ◌≤◌, ◌+◌, ◌&&◌, refl, sym, ap, ◌∙◌, subst, arith, List, [], ◌∷◌, ◌++◌, length, map, set, Option, Some, None, slice_get, get_or, bytes_eq}
-use Rattle.std.specs.Prelude.{◌==◌, unwrap_or}
-use Rattle.std.proofs.lemmas.Bool.{and_parts}
-use Rattle.std.proofs.lemmas.Bool.Decides.{nat_tests}
+use Rattle.std.proofs.Common.{ℕ, zero, suc, Bool, true, false, cond, ◌≡◌, ◌≢◌, ⊎_elim, ◌<◌, ◌≤◌, ◌+◌, refl, sym, ap, ◌∙◌, subst, arith, List, [], ◌∷◌, ◌++◌, length, map, set, Option, Some, slice_get, get_or}
+use Rattle.std.specs.Prelude.{unwrap_or}
 use Rattle.std.proofs.lemmas.List.{length-set}
-use Rattle.std.proofs.lemmas.Slice.Eq.{bytes_eq-Decides}
 use Rattle.pgb_outside.specs.Links.{LinkState}
 use Rattle.pgb_outside.specs.declared.tree.Node.{Node}
 use Rattle.pgb_model.specs.Restored.{Recovery}
 use Rattle.pgb_model.specs.Text.{Text, In}
 use Rattle.pgb_model.specs.Values.{FileEntry}
 use Rattle.pgb_worker_keep.specs.declared.ItemEnd.{ItemEnd}
-use Rattle.pgb_worker_keep.specs.declared.ItemEnd.TheVariants.{Whole, Vanished}
+use Rattle.pgb_worker_dispatch.proofs.Going.{some_of}
+use Rattle.pgb_digests.specs.Digests.{IsWhole, is_equal}
+use Rattle.pgb_digests.proofs.Digests.{whole_of, equal_of}
 use Rattle.pgb_fill.proofs.Listing.{get_set_other, either_is, some_within}
 use Rattle.pgb_restore.specs.declared.candidates.Candidate.{Candidate}
 use Rattle.pgb_restore.specs.Options.{Options}
 use Rattle.pgb_restore.specs.Entries.{AreOf}
-use Rattle.pgb_restore.specs.Written.{IsWhole}
 use Rattle.pgb_restore.specs.Kept.{mark_at, marked, IsAlike, AllAlike, MarksAlike}
-use Rattle.pgb_restore.specs.Digested.{file_of, is_equal, AreCandidates, HasCandidates, AreEnds, marked_one, NoneMarked, IsMarkedBy, MarksEqual}
-use Rattle.pgb_restore.proofs.Digests.{some_is}
+use Rattle.pgb_restore.specs.Digested.{file_of, AreCandidates, HasCandidates, AreEnds, marked_one, NoneMarked, IsMarkedBy, MarksEqual}
 use Rattle.pgb_restore.proofs.ReadEntries.{at_marked, marked_at}
 use Rattle.pgb_restore.proofs.ReadJobs.{at_in, in_at, got_map}
 use Rattle.pgb_restore.proofs.Writes.{get_some}
-
--- ---- ends that are equal
-
-pub whole_of : (e : FileEntry) (end : Option ItemEnd) → is_equal e end ≡ true → IsWhole end e.size e.sum
-whole_of e None is = cc
-whole_of e (Some (Whole n sum)) is =
-    let h = and_parts (n == e.size) (bytes_eq sum.0 e.sum) is in
-    ((let t : (n == e.size) ≡ true = h.0 in grind (arith, nat_tests)), (bytes_eq-Decides sum.0 e.sum).0 h.1)
-whole_of e (Some Vanished) is = cc
-
-pub equal_of : (e : FileEntry) (end : Option ItemEnd) → IsWhole end e.size e.sum → is_equal e end ≡ true
-equal_of e None w = absurd w
-equal_of e (Some (Whole n sum)) w = two (n == e.size) (bytes_eq sum.0 e.sum) (let t : n ≡ e.size = w.0 in grind (arith, nat_tests)) ((bytes_eq-Decides sum.0 e.sum).1 w.1)
-  where
-    two : (a b : Bool) → a ≡ true → b ≡ true → a && b ≡ true
-    two a b x y = cc
-equal_of e (Some Vanished) w = absurd w
 
 -- ---- marks
 
@@ -134,7 +114,7 @@ ends_long links cs ends told = go (length cs) refl
     go zero e = omega (arith, e)
     go (suc n) e =
         let c = get_some cs n (omega (arith, e)) in
-        let end = some_is _ (slice_get ends n) (told.each n c.0 c.1) in
+        let end = some_of _ (slice_get ends n) (told.each n c.0 c.1) in
         omega (arith, e, some_within ends n end.0 end.1)
 
 -- ---- what the marks tell
@@ -170,7 +150,7 @@ module _ (links : List LinkState) (o : Options) (seen : List (Text × Node)) (es
         let c = are x.0 x.1 x.2 in
         let h : ◌≡◌ {A = Option FileEntry} (Some (file_of x.1)) (Some e) = sym c.at ∙ x.3 in
         let same : file_of x.1 ≡ e = cc in
-        let end = some_is _ (slice_get ends x.0) (told.each x.0 x.1 x.2) in
+        let end = some_of _ (slice_get ends x.0) (told.each x.0 x.1 x.2) in
         let whole = subst (λ (d : FileEntry). (bs : Text) → tree d.path ≡ Some bs → AreOf d bs → IsWhole end.0 d.size d.sum) same (end.2 tree repo read) bytes there are_of in
         let equal : is_equal (file_of x.1) end.0 ≡ true = ap (λ (d : FileEntry). is_equal d end.0) same ∙ equal_of e end.0 whole in
         subst (λ (b : Bool). In (e, b) (marked es marks)) (all x.0 x.1 end.0 x.2 end.1 equal) (marked_at es marks x.1.place e x.3)

@@ -13,7 +13,7 @@ use Rattle.pgb_clear.specs.Clearing.{control_path, is_bare, Bares, without, with
 use Rattle.pgb_restore.specs.Options.{Options}
 use Rattle.pgb_restore.specs.Entries.{reads_of, IsFilled, Fills}
 use Rattle.pgb_restore.specs.Kept.{marked}
-use Rattle.pgb_restore.specs.Left.{IsLeft}
+use Rattle.pgb_digests.specs.Left.{IsLeft}
 use Rattle.pgb_restore.specs.Finished.{Rebuilds}
 use Rattle.pgb_worker_dispatch.specs.declared.fault.Lost.{Lost}
 use Rattle.pgb_source.specs.Sources.{source}

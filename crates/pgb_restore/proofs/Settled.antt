@@ -16,7 +16,7 @@ use Rattle.pgb_source.specs.Sources.{source}
 use Rattle.pgb_restore.specs.Options.{Options, is_added}
 use Rattle.pgb_restore.specs.Settings.{WasHeld, HasSettings}
 use Rattle.pgb_restore.specs.Listed.{IsPlain}
-use Rattle.pgb_restore.specs.Left.{IsLeft}
+use Rattle.pgb_digests.specs.Left.{IsLeft}
 use Rattle.pgb_restore.specs.Finished.{Settles}
 use Rattle.pgb_restore.proofs.Finished.{kept_moved}
 use Rattle.pgb_restore.proofs.Links.{read_before}

@@ -1,7 +1,6 @@
 -- From what a keeper holds at the end to the files of the tree.
-use Rattle.std.proofs.Common.{ℕ, zero, suc, Bool, true, false, ◌≡◌, ◌≢◌, ◌⊎◌, inl, inr, ⊎_elim, ◌<◌, ◌&&◌, refl, sym, ap, ◌∙◌, subst, arith, List, [], ◌∷◌, length, Option, Some, None, map, slice_get, bytes_eq}
-use Rattle.std.specs.Prelude.{IfSome, IsSome, IsSomeAnd, nat_lt, ◌==◌, min, ◌^◌, ◌+◌, ◌-◌, ◌≤◌}
-use Rattle.std.proofs.lemmas.Grind.{common_steps}
+use Rattle.std.proofs.Common.{ℕ, zero, suc, Bool, true, ◌≡◌, ◌⊎◌, ⊎_elim, ◌<◌, ◌&&◌, refl, sym, ap, ◌∙◌, subst, arith, List, [], ◌∷◌, length, Option, Some, None, map, slice_get, bytes_eq}
+use Rattle.std.specs.Prelude.{IfSome, IsSome, IsSomeAnd, nat_lt, ◌==◌}
 use Rattle.std.proofs.lemmas.Bool.Decides.{nat_tests}
 use Rattle.std.proofs.lemmas.Slice.Eq.{bytes_eq-Decides}
 use Rattle.sha1.specs.Sha1.{sha1}
@@ -10,21 +9,20 @@ use Rattle.pgb_outside.specs.Links.{LinkState}
 use Rattle.pgb_outside.specs.Tree.{Nodes, Held as Node, file, folder, link as link_node, other as other_node, file_bytes}
 use Rattle.pgb_text.specs.declared.sum.Sum.{Sum}
 use Rattle.pgb_model.specs.Text.{Text}
-use Rattle.pgb_worker_frame.specs.declared.frames.Root.{Root}
 use Rattle.pgb_worker_frame.specs.declared.frames.Root.TheVariants.{Tree, Repo}
 use Rattle.pgb_worker_frame.specs.declared.frames.JobKind.{JobKind}
 use Rattle.pgb_worker_frame.specs.declared.frames.JobKind.TheVariants.{Read}
 use Rattle.pgb_worker_frame.specs.Frames.{Item, Job}
 use Rattle.pgb_worker_keep.specs.declared.ItemEnd.{ItemEnd}
 use Rattle.pgb_worker_keep.specs.declared.ItemEnd.TheVariants.{Whole, Vanished}
-use Rattle.pgb_worker_keep.specs.KeepState.{Held, Done, Kept, Holds}
-use Rattle.pgb_worker_reply.specs.Reads.{AllEnd, EndsAs}
+use Rattle.pgb_worker_reply.specs.Reads.{AllEnd}
 use Rattle.pgb_worker_dispatch.specs.Run.{EndedBy, AllDone}
 use Rattle.pgb_clear.specs.Clearing.{HasFile}
 use Rattle.pgb_fill.specs.declared.files.Wanted.{Wanted}
 use Rattle.pgb_fill.specs.declared.files.Filed.{Filed}
-use Rattle.pgb_fill.specs.Files.{temporary_path, bytes_at, is_wanted, is_right, told_by, held_by, done_by, kept_of, wanted_of, IsInPlace, AllTidy}
-use Rattle.pgb_restore.specs.Written.{IsJobOf, AreJobsOf, IsReadOf, IsWhole, IsWritten, AllWritten}
+use Rattle.pgb_fill.specs.Files.{temporary_path, bytes_at, is_right, told_by, held_by, done_by, kept_of, wanted_of, IsInPlace, AllTidy}
+use Rattle.pgb_digests.specs.Digests.{IsWhole}
+use Rattle.pgb_restore.specs.Written.{IsJobOf, AreJobsOf, IsReadOf, IsWritten, AllWritten}
 use Rattle.pgb_fill.proofs.Listing.{map_get, some_within}
 use Rattle.pgb_fill.specs.Apart.{HasOneItem}
 

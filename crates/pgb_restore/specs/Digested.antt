@@ -1,5 +1,5 @@
 -- How digest jobs over the data folder end. Own.
-use Rattle.std.specs.Prelude.{ℕ, Bool, true, false, ◌≡◌, ◌==◌, ◌&&◌, ◌⊎◌, List, [], ◌∷◌, ◌++◌, Option, Some, None, IsSomeAnd, slice_get, slice_set, bytes_eq, string_bytes, if◌then◌else◌}
+use Rattle.std.specs.Prelude.{ℕ, Bool, true, false, ◌≡◌, ◌==◌, ◌&&◌, ◌⊎◌, List, [], ◌∷◌, ◌++◌, Option, Some, IsSomeAnd, slice_get, slice_set, string_bytes, if◌then◌else◌}
 use Rattle.pgb_outside.specs.Content.{Content}
 use Rattle.pgb_outside.specs.Links.{LinkState}
 use Rattle.pgb_model.specs.Text.{Text, In}
@@ -8,17 +8,15 @@ use Rattle.pgb_model.specs.Values.{FileEntry, file_entry_of}
 use Rattle.pgb_outside.specs.declared.tree.Node.{Node}
 use Rattle.pgb_outside.specs.declared.tree.Node.TheVariants.{File, Folder, Link, Other}
 use Rattle.pgb_worker_keep.specs.declared.ItemEnd.{ItemEnd}
-use Rattle.pgb_worker_keep.specs.declared.ItemEnd.TheVariants.{Whole, Vanished}
-use Rattle.pgb_worker_keep.specs.KeepState.{Done, Kept}
 use Rattle.pgb_worker_dispatch.specs.Payloads.{AllRead}
 use Rattle.pgb_worker_dispatch.specs.declared.fault.DispatchFault.{DispatchFault}
 use Rattle.pgb_worker_dispatch.specs.declared.fault.DispatchFault.TheVariants as dispatch
+use Rattle.pgb_digests.specs.Digests.{IsDigestedBy, IsWhole, is_equal}
 use Rattle.pgb_restore.specs.declared.fault.FillFault.{FillFault}
 use Rattle.pgb_restore.specs.declared.fault.FillFault.TheVariants as faults
 use Rattle.pgb_restore.specs.declared.candidates.Candidate.{Candidate}
 use Rattle.pgb_restore.specs.Entries.{AreOf}
-use Rattle.pgb_restore.specs.Written.{IsWhole}
-use Rattle.pgb_restore.specs.Kept.{in_folder, IsDigestedBy, IsShown, mark_at}
+use Rattle.pgb_restore.specs.Kept.{in_folder, IsShown, mark_at}
 use Rattle.pgb_restore.specs.Options.{is_ordinary}
 
 -- ---- candidates
@@ -67,14 +65,6 @@ HasCandidates recovery es seen cs = (e : FileEntry) → In e es → is_ordinary 
 
 -- ---- ends
 
--- how the first item of a job ended
-abbrev pub first_end : List Done → Option ItemEnd
-first_end [] = None
-first_end (d ∷ ds) = Some d.end
-
-abbrev pub end_of : Kept → Option ItemEnd
-end_of k = first_end k.done
-
 -- where it ended whole, one of these links told its number and digest
 abbrev pub IsEndOf : List LinkState → FileEntry → Option ItemEnd → Type 0
 IsEndOf links e end = (n : ℕ) (sum : Text) → IsWhole end n sum → IsDigestedBy links (in_folder e) n sum
@@ -97,12 +87,6 @@ NamesCandidate cs fault faults.Tree = ⊥
 NamesCandidate cs fault faults.NoMemory = Unit {0}
 
 -- ---- marks
-
--- the item ended with the entry's number and digest
-abbrev pub is_equal : FileEntry → Option ItemEnd → Bool
-is_equal e None = false
-is_equal e (Some (Whole n sum)) = (n == e.size) && bytes_eq sum.0 e.sum
-is_equal e (Some Vanished) = false
 
 -- no place is marked
 abbrev pub NoneMarked : List Bool → Type 0

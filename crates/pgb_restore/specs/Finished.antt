@@ -1,7 +1,5 @@
 -- A whole restore (pgBackRest command reference, "Restore Command").
-use Rattle.std.specs.Prelude.{Bool, true, false, ◌≡◌, ◌≢◌, ◌<◌, ◌⊎◌, List, length, Option, Some, None, IfSome}
-use Rattle.std.specs.FinMap.{get}
-use Rattle.sha1.specs.Sha1.{sha1}
+use Rattle.std.specs.Prelude.{Bool, true, false, ◌≡◌, ◌≢◌, ◌<◌, ◌⊎◌, List, Option, Some, None, IfSome}
 use Rattle.pgb_outside.specs.Content.{Content}
 use Rattle.pgb_outside.specs.Links.{LinkState}
 use Rattle.pgb_outside.specs.Tree.{Nodes, folder}
@@ -9,7 +7,7 @@ use Rattle.pgb_outside.specs.declared.tree.Node.{Node}
 use Rattle.pgb_model.specs.declared.labels.Label.{Label}
 use Rattle.pgb_model.specs.Text.{Text, In}
 use Rattle.pgb_model.specs.Values.{FileEntry, Manifest}
-use Rattle.pgb_model.specs.Repository.{File, Backup, Stanza}
+use Rattle.pgb_model.specs.Repository.{Backup, Stanza}
 use Rattle.pgb_model.specs.Restored.{IsRestored}
 use Rattle.pgb_model.specs.Restored.Recovery.{Nothing}
 use Rattle.pgb_model.specs.Stands.{IsManifestOf}
@@ -24,7 +22,8 @@ use Rattle.pgb_restore.specs.Entries.{AreOf}
 use Rattle.pgb_restore.specs.Kept.{marked, AllAlike, IsKept, AreFilesOf, KeepsAlike}
 use Rattle.pgb_restore.specs.Settings.{HasAdded}
 use Rattle.pgb_restore.specs.Listed.{IsPlain}
-use Rattle.pgb_restore.specs.Left.{IsLeft}
+use Rattle.pgb_digests.specs.Left.{IsLeft}
+use Rattle.pgb_digests.specs.Twins.{HasNoTwin}
 
 -- the name under which the control file waits until all else is well
 abbrev pub waiting_path : Text
@@ -95,10 +94,6 @@ PutsAll stanza links o m seen marks old new =
     → IfSome new (IsMarked stanza first o m marks old)
 
 -- ---- the restored tree
-
--- no file of these has the number and the digest of the backup's file of its path, and other bytes
-abbrev pub HasNoTwin : Backup → Content → Type 0
-HasNoTwin b tree = (path bytes : Text) (x : File) → get b.files path ≡ Some x → tree path ≡ Some bytes → length bytes ≡ length x.bytes → sha1 bytes ≡ sha1 x.bytes → bytes ≡ x.bytes
 
 -- What delta rests on: the links read the files that the data folder held, and a digest tells each of them from the backup's.
 abbrev pub AreTold : Options → Backup → Option Nodes → Content → Type 0

@@ -8,10 +8,9 @@ use Rattle.pgb_outside.specs.declared.tree.Node.TheVariants.{File}
 use Rattle.pgb_model.specs.Text.{Text, In}
 use Rattle.pgb_model.specs.Values.{FileEntry}
 use Rattle.pgb_worker_frame.specs.declared.frames.Root.TheVariants.{Tree}
-use Rattle.pgb_worker_frame.specs.declared.frames.JobKind.TheVariants.{Digest}
 use Rattle.pgb_worker_frame.specs.Frames.{Item, Job}
-use Rattle.pgb_worker_reply.specs.Reads.{SumsBy}
 use Rattle.pgb_worker_dispatch.specs.Payloads.{AllRead}
+use Rattle.pgb_digests.specs.Digests.{digest_of, IsDigestedBy}
 use Rattle.pgb_restore.specs.Entries.{AreOf}
 use Rattle.pgb_restore.specs.Options.{Options, is_ordinary}
 
@@ -21,14 +20,7 @@ in_folder e = record { root = Tree; path = e.path; at = 0; size = e.size }
 
 -- the job that digests it
 abbrev pub digesting : FileEntry → Job
-digesting e = record { kind = Digest; items = in_folder e ∷ [] }
-
--- one of these links told this number and digest of the item's bytes
-pub record IsDigestedBy (links : List LinkState) (item : Item) (n : ℕ) (sum : Text) : Type 0 where
-  pub link : ℕ
-  pub from : LinkState
-  pub is : slice_get links link ≡ Some from
-  pub sums : SumsBy from.told item n sum
+digesting e = digest_of (in_folder e)
 
 -- ---- which files are to be kept
 

@@ -4,8 +4,6 @@ pub mod Entries
 pub mod Kept
 pub mod Settings
 pub mod Listed
-pub mod Left
 pub mod Finished
 pub mod Faults
-pub mod Holdings
 pub mod Digested

@@ -12,9 +12,10 @@ use Rattle.pgb_clear.specs.Clearing.{HasFile}
 use Rattle.pgb_source.specs.Sources.{source}
 use Rattle.pgb_restore.specs.declared.fault.FillFault.{FillFault}
 use Rattle.pgb_restore.specs.declared.fault.FillFault.TheVariants as faults
-use Rattle.pgb_restore.specs.declared.holding.Ended.{Ended}
+use Rattle.pgb_digests.specs.declared.holding.Ended.{Ended}
 use Rattle.pgb_restore.specs.Entries.{AreOf}
-use Rattle.pgb_restore.specs.Written.{IsReadOf, IsWhole}
+use Rattle.pgb_digests.specs.Digests.{IsWhole}
+use Rattle.pgb_restore.specs.Written.{IsReadOf}
 
 -- the bytes are those of the entry, and a link read them at its place where there are any
 pub record IsBytesOf (stanza : Text) (own : Label) (links : List LinkState) (e : FileEntry) (bytes : Text) : Type 0 where

@@ -1,5 +1,5 @@
 -- What a run of read jobs leaves of the files that are to be written. Own.
-use Rattle.std.specs.Prelude.{ℕ, Bool, true, ◌≡◌, ◌<◌, List, [], ◌∷◌, length, map, Option, Some, None, IfSome, slice_get}
+use Rattle.std.specs.Prelude.{ℕ, true, ◌≡◌, ◌<◌, List, [], ◌∷◌, length, map, Option, Some, None, IfSome, slice_get}
 use Rattle.sha1.specs.Sha1.{sha1}
 use Rattle.pgb_outside.specs.Links.{LinkState}
 use Rattle.pgb_outside.specs.Tree.{Nodes}
@@ -7,9 +7,8 @@ use Rattle.pgb_model.specs.Text.{Text}
 use Rattle.pgb_worker_frame.specs.declared.frames.Root.TheVariants.{Repo}
 use Rattle.pgb_worker_frame.specs.declared.frames.JobKind.TheVariants.{Read}
 use Rattle.pgb_worker_frame.specs.Frames.{Item, Job}
-use Rattle.pgb_worker_keep.specs.declared.ItemEnd.{ItemEnd}
-use Rattle.pgb_worker_keep.specs.declared.ItemEnd.TheVariants.{Whole, Vanished}
 use Rattle.pgb_worker_reply.specs.Reads.{ReadBy}
+use Rattle.pgb_digests.specs.Digests.{IsWhole}
 use Rattle.pgb_clear.specs.Clearing.{HasFile}
 use Rattle.pgb_fill.specs.declared.files.Wanted.{Wanted}
 use Rattle.pgb_fill.specs.declared.files.Filed.{Filed}
@@ -37,12 +36,6 @@ pub record IsReadOf (links : List LinkState) (item : Item) (bytes : Text) : Type
   pub read : ReadBy from.told item bytes
 
 -- ---- how the files ended
-
--- the item ended whole, with this number and digest
-abbrev pub IsWhole : Option ItemEnd → ℕ → Text → Type 0
-IsWhole None n sum = ⊥
-IsWhole (Some (Whole m s)) n sum = (m ≡ n) × (s.0 ≡ sum)
-IsWhole (Some Vanished) n sum = ⊥
 
 -- The file's item ended with the number and the digest of bytes that a link read. Where they are those that are wanted, the file has these
 -- bytes, and nothing is left under its temporary name.

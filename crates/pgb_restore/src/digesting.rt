@@ -1,24 +1,23 @@
 // Files of the data folder are digested by workers.
-ghost use Rattle.std.specs.Prelude.{◌≡◌, ◌<◌, ◌≤◌, ◌^◌, ℕ, Some, map, take, length, vec_len, IfOk, IfErr, OnOk};
+ghost use Rattle.std.specs.Prelude.{◌≡◌, ◌<◌, ◌^◌, ℕ, map, length, vec_len, IfOk, IfErr, OnOk};
 ghost use Rattle.pgb_model.specs.Text.{Text, In};
 ghost use Rattle.pgb_model.specs.Values.{FileEntry as Entry, file_entry_of};
 ghost use Rattle.pgb_model.specs.declared.labels.Label as labels;
 ghost use Rattle.pgb_worker_frame.specs.Views.{job_of};
 ghost use Rattle.pgb_worker_dispatch.specs.Run.{AreReady};
 ghost use Rattle.pgb_source.specs.Sources.{IsEntry};
-ghost use Rattle.pgb_restore.specs.Holdings.{done_item, state_of};
 ghost use Rattle.pgb_restore.specs.Kept.{digesting};
-ghost use Rattle.pgb_restore.specs.Digested.{file_of, first_end, end_of, AreEnds, NamesCandidate};
-ghost use Rattle.pgb_restore.specs.Left.{IsLeft};
+ghost use Rattle.pgb_restore.specs.Digested.{file_of, AreEnds, NamesCandidate};
+ghost use Rattle.pgb_digests.specs.Left.{IsLeft};
 ghost use Rattle.pgb_restore.specs.Faults.{FillFails, HasItsFile};
 
 use crate::candidates::Candidate;
 use crate::fault::FillFault;
-use crate::holding::{Ended, Holder};
+use pgb_digests::run_digests;
 use pgb_model::FileEntry;
 use pgb_outside::{Link, Turns};
 use pgb_text::NoMemory;
-use pgb_worker_dispatch::{DispatchFault, Lost, run_jobs};
+use pgb_worker_dispatch::{DispatchFault, Lost};
 use pgb_worker_frame::{Item, Job, JobKind, Root};
 use pgb_worker_keep::ItemEnd;
 use std::alloc::{AllocError, Global};
@@ -53,32 +52,6 @@ fn digest_jobs(alloc: Global, candidates: &[Candidate<'_>]) -> Result<Vec<Job>, 
         return Err(NoMemory);
     }
     Ok(jobs)
-}
-
-// How the first item ended.
-fn first_of(ended: &[Ended]) -> Option<ItemEnd>
-    ensures { result ≡ first_end (map done_item ended.now) }
-{
-    match ended {
-        [first, ..] => Some(first.how),
-        [] => None,
-    }
-}
-
-// How the items of so many jobs ended.
-fn ends_of(
-    alloc: Global,
-    keep: &Holder<'_>,
-    count: usize,
-) -> Result<Vec<Option<ItemEnd>>, AllocError>
-    requires { count ≤ length (state_of keep.now).kept }
-    ensures { IfOk result (λ ends. ends.items ≡ map end_of (take count (state_of keep.now).kept)) }
-{
-    let mut ends = Vec::new(alloc);
-    for job in 0..count {
-        ends.push(first_of(keep.ended(job)))?;
-    }
-    Ok(ends)
 }
 
 /// The fault of a run of jobs in memory, by the name of the candidate's file.
@@ -122,9 +95,8 @@ pub(crate) fn digest<L: Link, U: Turns>(
         (map L.link_state links.new.items) lost.old.items lost.new.items f g) }
 {
     let jobs = digest_jobs(alloc, candidates)?;
-    let mut keep = Holder::new(alloc, &jobs)?;
-    match run_jobs(alloc, &jobs, links, turns, &mut keep, &mut (), lost) {
-        Ok(()) => Ok(ends_of(alloc, &keep, candidates.len())?),
+    match run_digests(alloc, &jobs, links, turns, lost) {
+        Ok(ends) => Ok(ends),
         Err(fault) => Err(named(alloc, candidates, fault)?),
     }
 }

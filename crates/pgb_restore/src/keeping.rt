@@ -9,29 +9,20 @@ ghost use Rattle.pgb_clear.specs.Clearing.{seen_of};
 ghost use Rattle.pgb_source.specs.Sources.{IsEntry};
 ghost use Rattle.pgb_restore.specs.Options.{options_of};
 ghost use Rattle.pgb_restore.specs.Kept.{AllAlike, MarksAlike};
-ghost use Rattle.pgb_restore.specs.Digested.{file_of, is_equal, marked_one, NoneMarked, AreMarked, IsMarkedBy, MarksEqual};
-ghost use Rattle.pgb_restore.specs.Left.{IsLeft};
+ghost use Rattle.pgb_restore.specs.Digested.{file_of, marked_one, NoneMarked, AreMarked, IsMarkedBy, MarksEqual};
+ghost use Rattle.pgb_digests.specs.Left.{IsLeft};
 ghost use Rattle.pgb_restore.specs.Faults.{FillFails};
 
 use crate::candidates::{Candidate, candidates};
 use crate::digesting::digest;
 use crate::fault::FillFault;
 use crate::options::RestoreOptions;
+use pgb_digests::is_equal;
 use pgb_model::FileEntry;
 use pgb_outside::{Link, Seen, Turns};
 use pgb_worker_dispatch::Lost;
 use pgb_worker_keep::ItemEnd;
 use std::alloc::{AllocError, Global};
-
-/// Whether the file's item ended with the entry's number and digest.
-pub(crate) fn is_equal(file: &FileEntry, end: &Option<ItemEnd>) -> bool
-    ensures { result ≡ is_equal (file_entry_of file.now) end.now }
-{
-    match end {
-        Some(ItemEnd::Whole { length, sum }) => *length == file.size && *sum == file.sum,
-        Some(ItemEnd::Vanished) | None => false,
-    }
-}
 
 // So many places without a mark.
 fn unmarked(alloc: Global, count: usize) -> Result<Vec<bool>, AllocError>

@@ -37,7 +37,6 @@ mod checking;
 mod control;
 mod digesting;
 mod fault;
-mod holding;
 mod keeping;
 mod options;
 mod planning;

@@ -15,7 +15,7 @@ ghost use Rattle.pgb_restore.specs.Kept.{marked};
 ghost use Rattle.pgb_restore.specs.Entries.{reads_of, Fills};
 ghost use Rattle.pgb_restore.specs.Listed.{IsListedBut, IsPrepared};
 ghost use Rattle.pgb_restore.specs.Finished.{Rebuilds};
-ghost use Rattle.pgb_restore.specs.Left.{IsLeft};
+ghost use Rattle.pgb_digests.specs.Left.{IsLeft};
 ghost use Rattle.pgb_restore.specs.Faults.{FillFails};
 
 use crate::fault::FillFault;

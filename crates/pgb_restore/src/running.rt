@@ -9,7 +9,7 @@ ghost use Rattle.pgb_worker_dispatch.specs.Run.{AddsLosses, JobsFault, AreReady}
 ghost use Rattle.pgb_fill.specs.Apart.{AreApart};
 ghost use Rattle.pgb_fill.specs.Keeping.{IsNoneOf};
 ghost use Rattle.pgb_restore.specs.Written.{AreJobsOf, AllWritten};
-ghost use Rattle.pgb_restore.specs.Left.{IsLeft};
+ghost use Rattle.pgb_digests.specs.Left.{IsLeft};
 
 use pgb_fill::{FileKeeper, Filed, Wanted};
 use pgb_outside::{Link, Tree, Turns};

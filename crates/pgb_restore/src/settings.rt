@@ -15,15 +15,14 @@ ghost use Rattle.pgb_source.specs.Sources.{IsEntry};
 ghost use Rattle.pgb_restore.specs.Options.{options_of};
 ghost use Rattle.pgb_restore.specs.Settings.{IsBytesOf, HasSettings, HoldsConf, IsFirstOf, TellsWrongItem};
 ghost use Rattle.pgb_restore.specs.Finished.{Settles};
-ghost use Rattle.pgb_restore.specs.Left.{IsLeft};
+ghost use Rattle.pgb_digests.specs.Left.{IsLeft};
 ghost use Rattle.pgb_restore.specs.Faults.{FillFails};
 
 use crate::candidates::{Candidate, place_of};
 use crate::digesting::named;
 use crate::fault::FillFault;
-use crate::holding::{Ended, Holder};
-use crate::keeping::is_equal;
 use crate::options::{CONF, Recovery, RestoreOptions, SIGNAL};
+use pgb_digests::{Ended, Holder, is_equal};
 use pgb_model::{FileEntry, Label, Manifest};
 use pgb_outside::{Link, Stop, Tree, Turns};
 use pgb_source::source_job;

@@ -9,7 +9,7 @@ ghost use Rattle.pgb_worker_dispatch.specs.Run.{AddsLosses, AreReady};
 ghost use Rattle.pgb_fill.specs.Apart.{AreApart};
 ghost use Rattle.pgb_fill.specs.Keeping.{IsNoneOf};
 ghost use Rattle.pgb_restore.specs.Written.{AreJobsOf, AllFetched};
-ghost use Rattle.pgb_restore.specs.Left.{IsLeft};
+ghost use Rattle.pgb_digests.specs.Left.{IsLeft};
 ghost use Rattle.pgb_restore.specs.Faults.{WriteFails};
 
 use crate::checking::{check_files, named};

@@ -1,8 +1,10 @@
 -- What a backup is based on: the manifest that was read.
-use Rattle.std.proofs.Common.{◌≡◌, ℕ, List, [], ◌∷◌, Option, Some, None, refl, sym, ◌∙◌, ap, subst, option_map, arith}
+use Rattle.std.proofs.Common.{◌≡◌, ℕ, Bool, true, false, length, map, string_bytes, List, [], ◌∷◌, Option, Some, None, refl, sym, ◌∙◌, ap, subst, option_map, arith}
 use Rattle.std.specs.Prelude.{IfSome, IsSomeAnd, option_and_then}
 use Rattle.std.specs.Option.{option_or}
+use Rattle.std.proofs.lemmas.List.{length-map}
 use Rattle.pgb_outside.specs.Content.{Content}
+use Rattle.pgb_outside.specs.Links.{LinkState}
 use Rattle.pgb_outside.specs.Moments.{View}
 use Rattle.pgb_model.specs.declared.clusters.Cluster.{Cluster}
 use Rattle.pgb_model.specs.declared.labels.Kind.{Kind}
@@ -16,20 +18,23 @@ use Rattle.pgb_model.specs.Pair.{PairIs}
 use Rattle.pgb_model.specs.Text.{Text, In}
 use Rattle.pgb_model.specs.Values.{BackupInfo, Entry, FileEntry, Manifest}
 use Rattle.pgb_label.proofs.Ways.{Law}
-use Rattle.pgb_plan.specs.Filter.{ListedNode}
+use Rattle.pgb_plan.specs.declared.values.Listing.{Listing}
+use Rattle.pgb_plan.specs.Filter.{ListedNode, Takes}
+use Rattle.pgb_plan.specs.Views.{taken_of}
 use Rattle.pgb_record.proofs.Behind.{label_of}
 use Rattle.pgb_record.proofs.Made.{in_map}
 use Rattle.pgb_stanza.specs.Judging.{Settles}
 use Rattle.pgb_stage.specs.Current.{HasValue}
 use Rattle.pgb_backup.specs.declared.draft.Draft.{Draft}
-use Rattle.pgb_backup.specs.Draft.{IsDraft}
+use Rattle.pgb_backup.specs.Draft.{old_in, IsDraft}
 use Rattle.pgb_draft.specs.Priors.{latest_full, may_base as may_be_based, last_of, prior_for}
 use Rattle.pgb_draft.proofs.Priors.{prior_is}
 use Rattle.pgb_logged.proofs.Based.{BasedOn}
 use Rattle.pgb_logged.proofs.Begun.{BeginsFull, BeginsBackup}
 use Rattle.pgb_take_later.specs.declared.order.LaterOrder.{LaterOrder}
 use Rattle.pgb_take_later.specs.Basing.{base_in, base_label, old_files, ReadsBase}
-use Rattle.pgb_take_later.specs.Drafting.{MayBase, IsLaterOf}
+use Rattle.pgb_take_later.specs.Drafting.{MayBase, IsLaterBy, IsLaterWith, IsLaterOf, IsDraftedBy}
+use Rattle.pgb_take_later.specs.Equal.{AreMarked}
 use Rattle.pgb_take_later.specs.Making.{BeginsFrom}
 
 -- ---- a full one is based on none
@@ -79,7 +84,7 @@ may_base stanza now (Some e) m is =
       none = λ none. absurd (let k : ◌≡◌ {A = Option Entry} (Some e) None = none in cc);
     })
 
-module _ (stanza : Text) (o : LaterOrder) (seen : List ListedNode) (list : BackupInfo) (old : List FileEntry) (second : ℕ) (d : Draft) (later : IsLaterOf stanza o seen list old second d) (b : View) (law : Law b)
+module _ (online : Bool) (stanza : Text) (o : LaterOrder) (seen : List ListedNode) (list : BackupInfo) (old : List FileEntry) (second : ℕ) (d : Draft) (later : IsLaterOf online stanza o seen list old second d) (b : View) (law : Law b)
     (from : BeginsFrom stanza o b.now list old) where
   base_at : (e : Entry) → base_in o.kind list ≡ Some e → prior_for o.kind d.cluster.id list.backups ≡ Some e
   base_at e is = sym (base_is o.kind list d.cluster later.current) ∙ is
@@ -134,3 +139,40 @@ module _ (stanza : Text) (o : LaterOrder) (seen : List ListedNode) (list : Backu
         backup_read = x.backup_read;
         settles = x.settles;
       }
+
+-- ---- the draft
+
+-- it is of each listing that shows these files and folders
+pub later_with : (stanza : Text) (o : LaterOrder) (list : BackupInfo) (old : List FileEntry) (second : ℕ) (equal : List Bool) (listing : Listing) (d : Draft) → IsLaterBy stanza o list old second equal listing d → length equal ≡ length listing.files.items
+    → IsLaterWith stanza o (map taken_of listing.files.items) (map string_bytes listing.folders.items) list old second d
+later_with stanza o list old second equal listing d by same online seen takes = record {
+  stanza_is = by.stanza_is;
+  label = by.label;
+  prior = by.prior;
+  old_is = by.old_is;
+  takes = subst (λ (l : Listing). Takes online seen (map taken_of l.files.items) (map string_bytes l.folders.items)) (sym by.listing_is) takes;
+  list_is = by.list_is;
+  next = by.next;
+  current = by.current;
+  delta = by.delta;
+  equal = equal;
+  same = same ∙ sym (length-map listing.files.items taken_of) ∙ ap (λ (l : Listing). length (map taken_of l.files.items)) (sym by.listing_is);
+  planned = by.planned;
+}
+
+-- of a stopped server's folder, by the marks that links told
+pub drafted_by : (stanza : Text) (o : LaterOrder) (seen : List ListedNode) (list : BackupInfo) (old : List FileEntry) (second : ℕ) (links : List LinkState) (equal : List Bool) (listing : Listing) (d : Draft) → IsLaterBy stanza o list old second equal listing d
+    → Takes false seen (map taken_of listing.files.items) (map string_bytes listing.folders.items) → length equal ≡ length listing.files.items → (o.settings.delta ≡ true → AreMarked links old (map taken_of listing.files.items) equal)
+    → IsDraftedBy stanza o seen list old second links d
+drafted_by stanza o seen list old second links equal listing d by takes same marked =
+    let later = later_with stanza o list old second equal listing d by same false seen takes in
+    record {
+      later = later;
+      planned = record {
+        equal = equal;
+        same = same ∙ sym (length-map listing.files.items taken_of) ∙ ap (λ (l : Listing). length (map taken_of l.files.items)) (sym by.listing_is);
+        marked = λ delta. subst (λ (l : Listing). AreMarked links (old_in d) (map taken_of l.files.items) equal) (sym by.listing_is)
+            (subst (λ (es : List FileEntry). AreMarked links es (map taken_of listing.files.items) equal) (sym by.old_is) (marked delta));
+        planned = by.planned;
+      };
+    }

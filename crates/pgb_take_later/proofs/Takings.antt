@@ -11,24 +11,24 @@ use Rattle.pgb_model.specs.declared.labels.Kind.{Kind}
 use Rattle.pgb_model.specs.declared.labels.Kind.TheVariants.{Full, Diff, Incr}
 use Rattle.pgb_model.specs.declared.labels.Label.{Label}
 use Rattle.pgb_model.specs.InfoFiles.{IsBackupText}
-use Rattle.pgb_model.specs.Names.{backup_info}
+use Rattle.pgb_model.specs.Names.{backup_info, manifest_name}
 use Rattle.pgb_model.specs.Now.{NowStands}
 use Rattle.pgb_model.specs.Pair.{PairIs}
 use Rattle.pgb_model.specs.Repository.{Backup}
 use Rattle.pgb_model.specs.Steps.{Command}
-use Rattle.pgb_model.specs.Text.{Text}
+use Rattle.pgb_model.specs.Text.{Text, In}
 use Rattle.pgb_model.specs.Values.{BackupInfo, FileEntry, Manifest, archive_info_of, backup_info_of}
 use Rattle.pgb_one_text.proofs.Lists.{one_list}
 use Rattle.pgb_one_text.proofs.Manifests.{one_manifest}
 use Rattle.pgb_label.proofs.Ways.{Law}
-use Rattle.pgb_plan.specs.Filter.{ListedNode}
+use Rattle.pgb_plan.specs.Filter.{ListedNode, kept, files_of}
 use Rattle.pgb_stanza.specs.declared.control.Control.{Control}
 use Rattle.pgb_stanza.specs.Judging.{Settles, IsOf}
 use Rattle.pgb_stanza.specs.Pairs.{AgreeAt}
 use Rattle.pgb_backup.specs.declared.draft.Draft.{Draft}
 use Rattle.pgb_backup.specs.declared.fault.MakeFault.{MakeFault}
-use Rattle.pgb_backup.specs.Draft.{stanza_of, main_of, IsDraft}
-use Rattle.pgb_backup.specs.Made.{Outcome as Makes}
+use Rattle.pgb_backup.specs.Draft.{stanza_of, main_of, IsDraft, pair_of, taken_in, old_in, files_with, went_with}
+use Rattle.pgb_backup.specs.Made.{Outcome as Makes, MakesOf}
 use Rattle.pgb_archive.specs.Still.{IsStill}
 use Rattle.pgb_stage.specs.declared.halt.Halt.{Halt}
 use Rattle.pgb_stage.specs.declared.halt.Halt.TheVariants.{Refused, Failed, NoMemory}
@@ -40,7 +40,7 @@ use Rattle.pgb_stage.specs.Reached.{OnFinished, reached_by, back_if, fails_early
 use Rattle.pgb_stage.specs.Runs.{Reached, to_end, turned_back, stopped, Does, On, one}
 use Rattle.pgb_stage.proofs.After.{does_after}
 use Rattle.pgb_prepare.specs.Readies.{IsArchiveOf, IsBackupOf}
-use Rattle.pgb_logged.specs.Backups.{IsOfLink, IsLeftOf, IsReadOrLeft, IsFullBackup, IsAnyBackup, AddsBackup, bytes_in}
+use Rattle.pgb_logged.specs.Backups.{IsOfLink, IsLeftOf, IsReadOrLeft, IsFullBackup, IsAnyBackup, AddsBackup, bytes_in, IsOfFolder}
 use Rattle.pgb_logged.proofs.Added.{IsMade as IsAdded, is_made}
 use Rattle.pgb_logged.proofs.Begun.{BeginsFull, BeginsBackup}
 use Rattle.pgb_logged.proofs.Folders.{of_folder}
@@ -56,13 +56,23 @@ use Rattle.pgb_take.proofs.Makings.{end_ok, end_early}
 use Rattle.pgb_take_later.specs.declared.fault.LaterFault.{LaterFault}
 use Rattle.pgb_take_later.specs.declared.order.LaterOrder.{LaterOrder}
 use Rattle.pgb_take_later.specs.Basing.{base_in, base_label, old_files, ReadsBase}
-use Rattle.pgb_take_later.specs.Drafting.{IsLaterOf}
+use Rattle.pgb_take_later.specs.Drafting.{IsPlannedBy, IsLaterOf}
 use Rattle.pgb_take_later.specs.Faults.{of_take, later_early}
 use Rattle.pgb_take_later.specs.Kinds.{IsBackupBy}
-use Rattle.pgb_take_later.specs.Making.{BeginsFrom, IsMade}
+use Rattle.pgb_take_later.specs.Making.{BeginsFrom, IsMade, HasEntries}
 use Rattle.pgb_take_later.specs.Taken.{HasRoom}
 use Rattle.pgb_take_later.specs.Texts.{later_lines}
 use Rattle.pgb_take_later.proofs.Bases.{begins_later, begins_full, no_base}
+use Rattle.pgb_outside.specs.Tree.{Nodes, IsTreeListing}
+use Rattle.pgb_model.specs.ManifestText.{IsManifestText}
+use Rattle.pgb_manifest.specs.Keeping.{manifest_text}
+use Rattle.pgb_worker_dispatch.specs.Payloads.{AllRead}
+use Rattle.pgb_plan.specs.Listed.{Taken}
+use Rattle.pgb_take_later.specs.Equal.{IsEntryBy}
+use Rattle.pgb_take_later.specs.Folder.{TellsFrom}
+use Rattle.pgb_take_later.proofs.Chosen.{chosen, entries_of}
+use Rattle.pgb_take_later.proofs.Folder.{all_held}
+use Rattle.pgb_take_later.proofs.Left.{entry_used}
 
 -- ---- where it is refused before
 
@@ -134,45 +144,82 @@ pub undrafted_does : (kind : Kind) (links : List LinkState) (stanza : Text) (res
     → On (one (IsBackupBy kind links stanza a.now)) (λ command. Does Whole stanza command (reached_by take_early result) a b)
 undrafted_does kind links stanza result h is a b rests same = none_by kind links stanza (reached_by take_early result) a b (not_ended result h is) (record { now = same; time = rests })
 
-module _ (stanza : Text) (o : LaterOrder) (seen : List ListedNode) (list : BackupInfo) (old : List FileEntry) (second : ℕ) (draft : Draft) (later : IsLaterOf stanza o seen list old second draft) (lines : Text)
-    (line_is : lines ≡ later_lines o.kind (base_in o.kind list) draft.label) (links : List LinkState) (a b d : View) (rests : Rests a b) (same : b.now ≡ a.now) (law : Law b) (is_draft : IsDraft draft)
+module _ (stanza : Text) (o : LaterOrder) (seen : List ListedNode) (list : BackupInfo) (old : List FileEntry) (second : ℕ) (draft : Draft) (later : IsLaterOf false stanza o seen list old second draft) (first : List LinkState) (planned : IsPlannedBy first o draft) (lines : Text)
+    (line_is : lines ≡ later_lines o.kind (base_in o.kind list) draft.label) (links : List LinkState) (comes : Comes first links) (a b d : View) (rests : Rests a b) (same : b.now ≡ a.now) (law : Law b) (is_draft : IsDraft draft)
     (from : BeginsFrom stanza o a.now list old) where
   begins : BeginsBackup draft b
-  begins = begins_later stanza o seen list old second draft later b law (subst (λ (n : Option Content). BeginsFrom stanza o n list old) (sym same) from) is_draft
+  begins = begins_later false stanza o seen list old second draft later b law (subst (λ (n : Option Content). BeginsFrom stanza o n list old) (sym same) from) is_draft
 
-  any_does : (result : Result Outcome (Halt TakeFault)) → Finishes draft lines links b d result → On (one (IsAnyBackup links stanza a.now)) (λ command. Does Whole stanza command (reached_by take_early result) a d)
+  any_does : (result : Result Outcome (Halt TakeFault)) → Finishes draft lines links b d result → On (one (IsAnyBackup first stanza a.now)) (λ command. Does Whole stanza command (reached_by take_early result) a d)
   any_does result f =
       let x = does_backup one_list one_manifest draft links b d begins f.made (reached_by take_early result) f.outcome (end_ok draft lines f.made result f.end) (end_early draft lines f.made result f.end) in (
         x.0,
-        subst (λ (n : Option Content). IsAnyBackup links stanza n x.0) same (subst (λ (s : Text). IsAnyBackup links s b.now x.0) later.stanza_is x.1),
+        any_by_used first links comes stanza a.now x.0 (subst (λ (n : Option Content). IsAnyBackup links stanza n x.0) same (subst (λ (s : Text). IsAnyBackup links s b.now x.0) later.stanza_is x.1)),
         does_after stanza x.0 (reached_by take_early result) a b d rests same (subst (λ (s : Text). Does Whole s x.0 (reached_by take_early result) b d) later.stanza_is x.2),
       )
 
   full : draft.prior ≡ None → BeginsFull draft b.now
-  full none = begins_full stanza o seen list old second draft later b law (subst (λ (n : Option Content). BeginsFrom stanza o n list old) (sym same) from) is_draft none
+  full none = begins_full false stanza o seen list old second draft later b law (subst (λ (n : Option Content). BeginsFrom stanza o n list old) (sym same) from) is_draft none
 
-  full_does : draft.prior ≡ None → (result : Result Outcome (Halt TakeFault)) → Finishes draft lines links b d result → On (one (IsFullBackup links)) (λ command. Does Whole stanza command (reached_by take_early result) a d)
+  full_does : draft.prior ≡ None → (result : Result Outcome (Halt TakeFault)) → Finishes draft lines links b d result → On (one (IsFullBackup first)) (λ command. Does Whole stanza command (reached_by take_early result) a d)
   full_does none result f =
       let x = does_full one_list one_manifest draft links b d (full none) f.made (reached_by take_early result) f.outcome (end_ok draft lines f.made result f.end) (end_early draft lines f.made result f.end) in (
         x.0,
-        x.1,
+        full_by_used first links comes x.0 x.1,
         does_after stanza x.0 (reached_by take_early result) a b d rests same (subst (λ (s : Text). Does Whole s x.0 (reached_by take_early result) b d) later.stanza_is x.2),
       )
 
-  pub finished_does : (result : Result Outcome (Halt TakeFault)) → Finishes draft lines links b d result → On (one (IsBackupBy o.kind links stanza a.now)) (λ command. Does Whole stanza command (reached_by take_early result) a d)
+  pub finished_does : (result : Result Outcome (Halt TakeFault)) → Finishes draft lines links b d result → On (one (IsBackupBy o.kind first stanza a.now)) (λ command. Does Whole stanza command (reached_by take_early result) a d)
   finished_does result f = by o.kind refl
     where
-      by : (kind : Kind) → o.kind ≡ kind → On (one (IsBackupBy kind links stanza a.now)) (λ command. Does Whole stanza command (reached_by take_early result) a d)
+      by : (kind : Kind) → o.kind ≡ kind → On (one (IsBackupBy kind first stanza a.now)) (λ command. Does Whole stanza command (reached_by take_early result) a d)
       by Full is = full_does (later.prior ∙ ap (λ (k : Kind). base_label k list) is ∙ no_base list) result f
       by Diff is = any_does result f
       by Incr is = any_does result f
 
+  held_in : (now new : Option Content) (m : Manifest) → IsManifestText m (manifest_text m) → ((f g : Content) → now ≡ Some f → new ≡ Some g → g (pair_of draft) ≡ Some (manifest_text m)) → IsSome now → IfSome new (λ g. PairIs IsManifestText g (pair_of draft) m)
+  held_in now None m valid goes some = tt
+  held_in None (Some g) m valid goes some = absurd (let e : ◌≡◌ {A = Bool} false true = some in cc)
+  held_in (Some f) (Some g) m valid goes some = inl (manifest_text m, goes f g refl refl, valid)
+
+  -- where all links read the folder, it is the folder's
+  holds_folder : (makes : MakesOf draft None links true b d) → (full_backup draft links true b d makes).entry.prior ≡ draft.prior → (f : Nodes) (repo : Content) → IsTreeListing f seen → IsSome a.now → AllRead (bytes_in f) repo first
+      → ((l : Label) → (full_backup draft links true b d makes).entry.prior ≡ Some l → TellsFrom stanza a.now o.settings.delta f l) → IsOfFolder f (full_backup draft links true b d makes)
+  holds_folder makes prior f repo listing some read tells =
+      let told = subst (λ (n : Option Content). IsSome n) (sym same) some in
+      let p = planned in
+      let files = chosen first o.settings (old_in draft) (taken_in draft) p.equal p.same p.marked draft.plan.choices.items p.planned in
+      let from_it = λ (l : Label) (is : draft.prior ≡ Some l). subst (λ (n : Option Content). TellsFrom (stanza_of draft) n o.settings.delta f l) (sym same)
+      (subst (λ (k : Text). TellsFrom k a.now o.settings.delta f l) (sym later.stanza_is) (tells l (prior ∙ is))) in
+      of_folder draft is_draft links true b d told makes f repo (all_read_on first links comes (bytes_in f) repo read)
+      (all_held one_list one_manifest draft b begins f seen listing later.takes first repo read o.settings.delta told from_it (taken_in draft) draft.plan.choices.items (λ t i. i) files) seen listing later.takes
+
+  -- the manifest of what was made
+  has_entries : (makes : MakesOf draft None links true b d) (x : Backup) → x.entry.label ≡ draft.label → HasEntries stanza o seen list first a.now d.now x
+  has_entries makes x label =
+      let p = planned in
+      let w = went_with draft makes.ends in
+      let files = chosen first o.settings (old_in draft) (taken_in draft) p.equal p.same p.marked draft.plan.choices.items p.planned in
+      let files_are : makes.manifest.files ≡ files_with draft makes.ends = ap (λ (m : Manifest). m.files) makes.manifest_is in
+      record {
+        base = from.base;
+        reads = from.reads;
+        manifest = makes.manifest;
+        held = λ some. subst (λ (l : Label). IfSome d.now (λ g. PairIs IsManifestText g (manifest_name stanza l) makes.manifest)) (sym label)
+            (subst (λ (k : Text). IfSome d.now (λ g. PairIs IsManifestText g (manifest_name k draft.label) makes.manifest)) later.stanza_is
+            (held_in b.now d.now makes.manifest makes.manifest_valid (λ f g is_f is_g. ((makes.whole_now refl).goes f g is_f is_g).manifest_is) (subst (λ (n : Option Content). IsSome n) (sym same) some)));
+        each = λ e at.
+            let entry = entries_of first o.settings.delta w (taken_in draft) (taken_in draft) draft.plan.choices.items (λ f i. i) files e (subst (λ (es : List FileEntry). In e es) files_are at) in
+            subst (λ (es : List FileEntry). IsEntryBy first o.settings.delta es (files_of (kept false seen)) e) (later.old_is ∙ from.old_is)
+            (subst (λ (ts : List Taken). IsEntryBy first o.settings.delta (old_in draft) ts e) later.takes.files entry);
+      }
+
   made_by : (made : Result (Unit {0}) MakeFault) (result : Result Outcome (Halt TakeFault)) → IsEndWith draft lines made result → Makes made draft links b d
-      → OnOk result (IsSome b.now → IfSome d.now (AgreeAt (main_of draft))) → IfOk result (λ outcome. OnFinished outcome (IsMade stanza o list seen links a.now d.now))
+      → OnOk result (IsSome b.now → IfSome d.now (AgreeAt (main_of draft))) → IfOk result (λ outcome. OnFinished outcome (IsMade stanza o list seen first a.now d.now))
   made_by made result (Well u text tells) makes alike =
       let x : (y : Backup) × IsAdded draft links b.now d.now y = (full_backup draft links true b d makes, is_made one_list one_manifest draft links b d begins makes) in
       let back = λ (some : IsSome a.now). subst (λ (n : Option Content). IsSome n) (sym same) some in
-      let whole : IsMade stanza o list seen links a.now d.now lines = record {
+      let whole : IsMade stanza o list seen first a.now d.now lines = record {
         backup = x.0;
         second = second;
         later = later.next.later;
@@ -180,16 +227,17 @@ module _ (stanza : Text) (o : LaterOrder) (seen : List ListedNode) (list : Backu
         prior = x.1.prior ∙ later.prior;
         line = line_is ∙ ap (λ (l : Label). later_lines o.kind (base_in o.kind list) l) (sym x.1.label);
         delta = ap (λ (k : Choices). k.delta) x.1.choices ∙ later.delta;
-        read = subst (λ (n : Option Content). IsReadOrLeft links stanza n x.0) same (subst (λ (s : Text). IsReadOrLeft links s b.now x.0) later.stanza_is x.1.read);
+        read = left_by_used first links comes stanza a.now x.0 (subst (λ (n : Option Content). IsReadOrLeft links stanza n x.0) same (subst (λ (s : Text). IsReadOrLeft links s b.now x.0) later.stanza_is x.1.read));
+        entries = has_entries makes x.0 x.1.label;
         refers = λ s some stands. x.1.refers s (back some) (subst (λ (k : Text). NowStands k (Some s) b.now) (sym later.stanza_is) (subst (λ (n : Option Content). NowStands stanza (Some s) n) (sym same) stands));
         adds = subst (λ (s : Text). AddsBackup s x.0 a.now d.now) later.stanza_is (subst (λ (n : Option Content). AddsBackup (stanza_of draft) x.0 n d.now) same x.1.adds);
-        folder = λ none f repo some listing read. of_folder draft is_draft links true b d (back some) makes (full (sym x.1.prior ∙ none)).no_old f repo read seen listing later.takes;
+        folder = holds_folder makes x.1.prior;
         alike = λ some. subst (λ (s : Text). IfSome d.now (AgreeAt (backup_info s))) later.stanza_is (alike (back some));
       } in
-      subst (λ (t : Text). IsMade stanza o list seen links a.now d.now t) (sym tells) whole
+      subst (λ (t : Text). IsMade stanza o list seen first a.now d.now t) (sym tells) whole
   made_by made result (Ill lost fault halt why) makes alike = tt
 
-  pub finished_made : (result : Result Outcome (Halt TakeFault)) → Finishes draft lines links b d result → OnOk result (IsSome b.now → IfSome d.now (AgreeAt (main_of draft))) → IfOk result (λ outcome. OnFinished outcome (IsMade stanza o list seen links a.now d.now))
+  pub finished_made : (result : Result Outcome (Halt TakeFault)) → Finishes draft lines links b d result → OnOk result (IsSome b.now → IfSome d.now (AgreeAt (main_of draft))) → IfOk result (λ outcome. OnFinished outcome (IsMade stanza o list seen first a.now d.now))
   finished_made result f alike = made_by f.made result f.end f.outcome alike
 
 -- ---- the whole command
@@ -204,6 +252,15 @@ module _ (used now : List LinkState) (comes : Comes used now) (stanza : Text) (a
     subst (λ (q : Reached). Does Whole stanza x.0 q a d) is (does_after stanza x.0 (reached_by take_early r) a c d rests same x.2),
   )
 
+  entries_by_used : (o : LaterOrder) (seen : List ListedNode) (list : BackupInfo) (b : Backup) → HasEntries stanza o seen list now c.now d.now b → HasEntries stanza o seen list used a.now d.now b
+  entries_by_used o seen list b h = record {
+    base = h.base;
+    reads = subst (λ (n : Option Content). ReadsBase stanza n (base_label o.kind list) h.base) same h.reads;
+    manifest = h.manifest;
+    held = λ some. h.held (subst (λ (n : Option Content). IsSome n) (sym same) some);
+    each = λ e at. entry_used used now comes o.settings.delta (old_files h.base) (files_of (kept false seen)) e (h.each e at);
+  }
+
   pub made_by_used : (o : LaterOrder) (list : BackupInfo) (seen : List ListedNode) (lines : Text) → IsMade stanza o list seen now c.now d.now lines → IsMade stanza o list seen used a.now d.now lines
   made_by_used o list seen lines m = record {
     backup = m.backup;
@@ -214,9 +271,11 @@ module _ (used now : List LinkState) (comes : Comes used now) (stanza : Text) (a
     line = m.line;
     delta = m.delta;
     read = left_by_used used now comes stanza a.now m.backup (subst (λ (n : Option Content). IsReadOrLeft now stanza n m.backup) same m.read);
+    entries = entries_by_used o seen list m.backup m.entries;
     refers = λ s some stands. m.refers s (subst (λ (n : Option Content). IsSome n) (sym same) some) (subst (λ (n : Option Content). NowStands stanza (Some s) n) (sym same) stands);
     adds = subst (λ (n : Option Content). AddsBackup stanza m.backup n d.now) same m.adds;
-    folder = λ none f repo some listing read. m.folder none f repo (subst (λ (n : Option Content). IsSome n) (sym same) some) listing (all_read_on used now comes (bytes_in f) repo read);
+    folder = λ f repo listing some read tells. m.folder f repo listing (subst (λ (n : Option Content). IsSome n) (sym same) some) (all_read_on used now comes (bytes_in f) repo read)
+        (λ l is. subst (λ (n : Option Content). TellsFrom stanza n o.settings.delta f l) (sym same) (tells l is));
     alike = λ some. m.alike (subst (λ (n : Option Content). IsSome n) (sym same) some);
   }
 

@@ -1,5 +1,7 @@
 pub mod Faults
 pub mod Texts
+pub mod Equal
+pub mod Folder
 pub mod Basing
 pub mod Drafting
 pub mod Kinds

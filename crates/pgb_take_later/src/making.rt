@@ -1,5 +1,5 @@
 // The backup is made.
-ghost use Rattle.std.specs.Prelude.{◌≤◌, ◌<◌, ◌^◌, map, vec_len, IfOk, IfErr};
+ghost use Rattle.std.specs.Prelude.{◌≡◌, ◌≤◌, ◌<◌, ◌^◌, map, vec_len, IfOk, IfErr};
 ghost use Rattle.pgb_outside.specs.Cause.{Rises};
 ghost use Rattle.pgb_outside.specs.States.{Frame};
 ghost use Rattle.pgb_model.specs.InfoFiles.{IsBackupInfo};
@@ -51,9 +51,9 @@ pub(crate) fn make_later<'a, D: Disk, L: Link, U: Turns, C: Clock>(
     ensures does { On (one (IsBackupBy order.now.kind (map L.link_state links.old.items) stanza.now
         (D.state repo.old).view.now)) (λ command. Does Whole stanza.now command (reached_by take_early result)
         (D.state repo.old).view (D.state repo.new).view) }
-    ensures made { IfOk result (λ outcome. OnFinished outcome (IsMade stanza.now order.now (backup_info_of begun.list)
-        (map seen_of begun.seen.items) (map L.link_state links.old.items) (D.state repo.old).view.now
-        (D.state repo.new).view.now)) }
+    ensures made { IfOk result (λ outcome. OnFinished outcome (IsMade stanza.now order.now
+        (backup_info_of begun.list) (map seen_of begun.seen.items) (map L.link_state links.old.items)
+        (D.state repo.old).view.now (D.state repo.new).view.now)) }
     ensures beside { StaysBeside stanza.now (D.state repo.old).view (D.state repo.new).view }
     ensures frame { Frame (D.state repo.old) (D.state repo.new) }
     ensures later { (C.state clock.old).faults ≤ (C.state clock.new).faults }
@@ -66,6 +66,8 @@ pub(crate) fn make_later<'a, D: Disk, L: Link, U: Turns, C: Clock>(
         }))) }
 {
     let Begun { list, seen } = begun;
-    let (draft, lines) = draft_later(alloc, repo, clock, stanza, order, old, &seen, list)?;
+    let (draft, lines) = draft_later(
+        alloc, repo, links, turns, lost, clock, stanza, order, old, &seen, list,
+    )?;
     finish(alloc, repo, links, turns, lost, clock, draft, lines)
 }

@@ -9,7 +9,7 @@ use Rattle.pgb_restore.specs.Options.{recovery_of, options_of}
 use Rattle.pgb_restore.specs.Kept.{AllAlike}
 use Rattle.pgb_restore.specs.Digested.{file_of, AreCandidates, HasCandidates}
 use Rattle.pgb_restore.proofs.Failing.{fails_listed}
-use Rattle.pgb_restore.proofs.Links.{left_all}
+use Rattle.pgb_digests.proofs.Links.{left_all}
 use Rattle.pgb_restore.proofs.Marks.{none_alike, all_alike, marks_alike, candidate_in}
 use Rattle.pgb_restore.proofs.keeping.find_kept.Goals as goal
 

@@ -3,7 +3,7 @@ use Rattle.std.proofs.lemmas.Result.{on_ok_weaker, IfErr-weaker}
 use Rattle.pgb_model.specs.Values.{manifest_of}
 use Rattle.pgb_restore.proofs.Failing.{fails_before, fails_later}
 use Rattle.pgb_restore.proofs.Fetched.{on_err_more}
-use Rattle.pgb_restore.proofs.Links.{left_beyond}
+use Rattle.pgb_digests.proofs.Links.{left_beyond}
 use Rattle.pgb_restore.proofs.restoring.put_rest.Goals as goal
 
 pub settle-requires-clause-ready : goal.settle-requires-clause-ready

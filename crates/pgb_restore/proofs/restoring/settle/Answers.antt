@@ -4,7 +4,7 @@ use Rattle.pgb_model.specs.Values.{manifest_of}
 use Rattle.pgb_restore.specs.Options.{options_of}
 use Rattle.pgb_restore.proofs.Failing.{fails_before, fails_later}
 use Rattle.pgb_restore.proofs.Fetched.{on_err, on_err_more}
-use Rattle.pgb_restore.proofs.Links.{left_beyond}
+use Rattle.pgb_digests.proofs.Links.{left_beyond}
 use Rattle.pgb_restore.proofs.restoring.settle.Goals as goal
 
 pub put_last-requires-clause-ready : goal.put_last-requires-clause-ready

@@ -5,7 +5,7 @@ use Rattle.pgb_fill.specs.declared.files.Wanted.{Wanted}
 use Rattle.pgb_fill.specs.declared.files.Filed.{Filed}
 use Rattle.pgb_fill.specs.Files.{kept_of, wanted_of, AllTidy}
 use Rattle.pgb_fill.specs.Keeping.{IsNoneOf}
-use Rattle.pgb_restore.proofs.Links.{left_is}
+use Rattle.pgb_digests.proofs.Links.{left_is}
 use Rattle.pgb_restore.proofs.Writes.{one_item, all_written}
 use Rattle.pgb_restore.proofs.running.run_files.Goals as goal
 

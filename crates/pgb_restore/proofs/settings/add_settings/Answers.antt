@@ -5,7 +5,7 @@ use Rattle.pgb_model.specs.Values.{manifest_of}
 use Rattle.pgb_clear.specs.Clearing.{control_path}
 use Rattle.pgb_clear.proofs.Nodes.{none_at}
 use Rattle.pgb_restore.specs.Options.{recovery_of, options_of}
-use Rattle.pgb_restore.proofs.Links.{left_all}
+use Rattle.pgb_digests.proofs.Links.{left_all}
 use Rattle.pgb_restore.proofs.Names.{conf_off, signal_off, off_settings}
 use Rattle.pgb_restore.proofs.Settled.{settles_some}
 use Rattle.pgb_restore.proofs.settings.add_settings.Goals as goal

@@ -1,9 +1,9 @@
 use Rattle.std.proofs.Common.{refl, ◌≡◌, ◌∙◌, ◌++◌, ap, sym, subst, Some, Bool, true, false}
 use Rattle.pgb_worker_keep.specs.declared.ItemEnd.{ItemEnd}
 use Rattle.pgb_model.specs.Values.{file_entry_of}
-use Rattle.pgb_restore.specs.Written.{IsWhole}
+use Rattle.pgb_digests.specs.Digests.{IsWhole}
 use Rattle.pgb_restore.proofs.HeldRead.{first_rest}
-use Rattle.pgb_restore.proofs.Marks.{whole_of, equal_of}
+use Rattle.pgb_digests.proofs.Digests.{whole_of, equal_of}
 use Rattle.pgb_restore.proofs.settings.checked.Goals as goal
 
 pub returns-then-is_equal-clause-right : goal.returns-then-is_equal-clause-right

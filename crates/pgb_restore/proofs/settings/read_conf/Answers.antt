@@ -5,7 +5,7 @@ use Rattle.pgb_model.specs.Values.{file_entry_of}
 use Rattle.pgb_clear.proofs.Bare.{in_at}
 use Rattle.pgb_fill.proofs.Listing.{got, map_get}
 use Rattle.pgb_restore.proofs.Failing.{fails_more}
-use Rattle.pgb_restore.proofs.Links.{left_all}
+use Rattle.pgb_digests.proofs.Links.{left_all}
 use Rattle.pgb_restore.proofs.Shows.{path_at}
 use Rattle.pgb_restore.proofs.settings.read_conf.Goals as goal
 

@@ -5,10 +5,10 @@ use Rattle.pgb_worker_frame.specs.Frames.{Job}
 use Rattle.pgb_worker_frame.specs.Views.{job_of}
 use Rattle.pgb_source.specs.Sources.{source, reading}
 use Rattle.pgb_restore.specs.declared.candidates.Candidate.{Candidate}
-use Rattle.pgb_restore.specs.Holdings.{state_of}
+use Rattle.pgb_digests.specs.Holdings.{state_of}
 use Rattle.pgb_restore.proofs.Digests.{held_fails}
 use Rattle.pgb_restore.proofs.HeldRead.{on_ok, one_each, right_bytes, wrong_fails}
-use Rattle.pgb_restore.proofs.Links.{left_all, left_is}
+use Rattle.pgb_digests.proofs.Links.{left_all, left_is}
 use Rattle.pgb_restore.proofs.settings.read_file.Goals as goal
 
 pub returns-in-Ok-clause-bytes : goal.returns-in-Ok-clause-bytes

@@ -3,7 +3,6 @@ use Rattle.std.proofs.lemmas.Result.{on_ok_weaker, IfErr-weaker}
 use Rattle.pgb_worker_frame.specs.Views.{job_of}
 use Rattle.pgb_fill.specs.declared.files.Filed.{Filed}
 use Rattle.pgb_restore.specs.Written.{AllRight}
-use Rattle.pgb_restore.specs.declared.fault.FillFault.{FillFault}
 use Rattle.pgb_restore.specs.Faults.{TellsWrong}
 use Rattle.pgb_restore.proofs.Checked.{all_fetched, checked_fails}
 use Rattle.pgb_restore.proofs.writing.write_files.Goals as goal

@@ -1,0 +1,4 @@
+pub mod Left
+pub mod Holdings
+pub mod Digests
+pub mod Twins
