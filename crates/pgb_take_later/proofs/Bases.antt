@@ -1,5 +1,5 @@
 -- What a backup is based on: the manifest that was read.
-use Rattle.std.proofs.Common.{◌≡◌, ℕ, List, [], ◌∷◌, Option, Some, None, refl, sym, ◌∙◌, ap, subst, option_map, arith}
+use Rattle.std.proofs.Common.{◌≡◌, ℕ, Bool, List, [], ◌∷◌, Option, Some, None, refl, sym, ◌∙◌, ap, subst, option_map, arith}
 use Rattle.std.specs.Prelude.{IfSome, IsSomeAnd, option_and_then}
 use Rattle.std.specs.Option.{option_or}
 use Rattle.pgb_outside.specs.Content.{Content}
@@ -79,7 +79,7 @@ may_base stanza now (Some e) m is =
       none = λ none. absurd (let k : ◌≡◌ {A = Option Entry} (Some e) None = none in cc);
     })
 
-module _ (stanza : Text) (o : LaterOrder) (seen : List ListedNode) (list : BackupInfo) (old : List FileEntry) (second : ℕ) (d : Draft) (later : IsLaterOf stanza o seen list old second d) (b : View) (law : Law b)
+module _ (online : Bool) (stanza : Text) (o : LaterOrder) (seen : List ListedNode) (list : BackupInfo) (old : List FileEntry) (second : ℕ) (d : Draft) (later : IsLaterOf online stanza o seen list old second d) (b : View) (law : Law b)
     (from : BeginsFrom stanza o b.now list old) where
   base_at : (e : Entry) → base_in o.kind list ≡ Some e → prior_for o.kind d.cluster.id list.backups ≡ Some e
   base_at e is = sym (base_is o.kind list d.cluster later.current) ∙ is

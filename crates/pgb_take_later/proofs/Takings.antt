@@ -134,11 +134,11 @@ pub undrafted_does : (kind : Kind) (links : List LinkState) (stanza : Text) (res
     → On (one (IsBackupBy kind links stanza a.now)) (λ command. Does Whole stanza command (reached_by take_early result) a b)
 undrafted_does kind links stanza result h is a b rests same = none_by kind links stanza (reached_by take_early result) a b (not_ended result h is) (record { now = same; time = rests })
 
-module _ (stanza : Text) (o : LaterOrder) (seen : List ListedNode) (list : BackupInfo) (old : List FileEntry) (second : ℕ) (draft : Draft) (later : IsLaterOf stanza o seen list old second draft) (lines : Text)
+module _ (stanza : Text) (o : LaterOrder) (seen : List ListedNode) (list : BackupInfo) (old : List FileEntry) (second : ℕ) (draft : Draft) (later : IsLaterOf false stanza o seen list old second draft) (lines : Text)
     (line_is : lines ≡ later_lines o.kind (base_in o.kind list) draft.label) (links : List LinkState) (a b d : View) (rests : Rests a b) (same : b.now ≡ a.now) (law : Law b) (is_draft : IsDraft draft)
     (from : BeginsFrom stanza o a.now list old) where
   begins : BeginsBackup draft b
-  begins = begins_later stanza o seen list old second draft later b law (subst (λ (n : Option Content). BeginsFrom stanza o n list old) (sym same) from) is_draft
+  begins = begins_later false stanza o seen list old second draft later b law (subst (λ (n : Option Content). BeginsFrom stanza o n list old) (sym same) from) is_draft
 
   any_does : (result : Result Outcome (Halt TakeFault)) → Finishes draft lines links b d result → On (one (IsAnyBackup links stanza a.now)) (λ command. Does Whole stanza command (reached_by take_early result) a d)
   any_does result f =
@@ -149,7 +149,7 @@ module _ (stanza : Text) (o : LaterOrder) (seen : List ListedNode) (list : Backu
       )
 
   full : draft.prior ≡ None → BeginsFull draft b.now
-  full none = begins_full stanza o seen list old second draft later b law (subst (λ (n : Option Content). BeginsFrom stanza o n list old) (sym same) from) is_draft none
+  full none = begins_full false stanza o seen list old second draft later b law (subst (λ (n : Option Content). BeginsFrom stanza o n list old) (sym same) from) is_draft none
 
   full_does : draft.prior ≡ None → (result : Result Outcome (Halt TakeFault)) → Finishes draft lines links b d result → On (one (IsFullBackup links)) (λ command. Does Whole stanza command (reached_by take_early result) a d)
   full_does none result f =

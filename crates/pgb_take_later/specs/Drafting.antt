@@ -1,11 +1,12 @@
--- The draft of a backup of any kind of a stopped server's data folder (pgBackRest user guide, "Backup").
-use Rattle.std.specs.Prelude.{◌≡◌, ℕ, true, false, Bool, List, [], length, map, Option, Some, None}
+-- The draft of a backup of any kind of a server's data folder (pgBackRest user guide, "Backup").
+use Rattle.std.specs.Prelude.{◌≡◌, ℕ, true, Bool, List, [], length, map, Option, Some, None}
 use Rattle.pgb_outside.specs.Order.{are_in_order}
 use Rattle.pgb_model.specs.Fields.{at_number}
 use Rattle.pgb_model.specs.Text.{Text}
 use Rattle.pgb_model.specs.Values.{BackupInfo, Entry, FileEntry}
 use Rattle.pgb_plan.specs.Filter.{ListedNode, Takes}
 use Rattle.pgb_plan.specs.Layout.{layout}
+use Rattle.pgb_plan.specs.Listed.{Taken}
 use Rattle.pgb_backup.specs.declared.draft.Draft.{Draft}
 use Rattle.pgb_backup.specs.Draft.{stanza_of, taken_in, folders_in, old_in, list_in}
 use Rattle.pgb_draft.specs.Drafted.{KeepRules}
@@ -20,13 +21,13 @@ pub record MayBase (base : Option Entry) (old : List FileEntry) : Type 0 where
   pub rules : KeepRules old
   pub none : base ≡ None → old ≡ []
 
--- It is of all that a backup takes of the listing, is based on the backup of this list that its kind asks for, and leaves what is as these files tell.
-pub record IsLaterOf (stanza : Text) (o : LaterOrder) (seen : List ListedNode) (list : BackupInfo) (old : List FileEntry) (second : ℕ) (d : Draft) : Type 0 where
+-- It is of all that a backup takes of the listing, of a running server or a stopped one, is based on the backup of this list that its kind asks for, and leaves what is as these files tell.
+pub record IsLaterOf (online : Bool) (stanza : Text) (o : LaterOrder) (seen : List ListedNode) (list : BackupInfo) (old : List FileEntry) (second : ℕ) (d : Draft) : Type 0 where
   pub stanza_is : stanza_of d ≡ stanza
   pub label : d.label ≡ made_label o.kind (base_in o.kind list) second
   pub prior : d.prior ≡ base_label o.kind list
   pub old_is : old_in d ≡ old
-  pub takes : Takes false seen (taken_in d) (folders_in d)
+  pub takes : Takes online seen (taken_in d) (folders_in d)
   pub list_is : list_in d ≡ list
   pub next : IsNext second list
   pub current : at_number list.current list.history ≡ Some d.cluster
@@ -34,3 +35,8 @@ pub record IsLaterOf (stanza : Text) (o : LaterOrder) (seen : List ListedNode) (
   pub equal : List Bool
   pub same : length equal ≡ length (taken_in d)
   pub planned : d.plan.choices.items ≡ (layout o.settings (old_in d) (taken_in d) equal).choices
+
+-- so it is of each listing of which a backup takes these files and folders
+abbrev pub IsLaterWith : Text → LaterOrder → List Taken → List Text → BackupInfo → List FileEntry → ℕ → Draft → Type 0
+IsLaterWith stanza o files folders list old second d =
+    (online : Bool) (seen : List ListedNode) → Takes online seen files folders → IsLaterOf online stanza o seen list old second d

@@ -1,5 +1,5 @@
 -- How a backup of any kind is made, from what was read. Own.
-use Rattle.std.specs.Prelude.{◌≡◌, ◌⊎◌, ℕ, List, Option, Some, None, IfSome, IsSome}
+use Rattle.std.specs.Prelude.{◌≡◌, ◌⊎◌, false, ℕ, List, Option, Some, None, IfSome, IsSome}
 use Rattle.pgb_outside.specs.Content.{Content}
 use Rattle.pgb_outside.specs.Links.{LinkState}
 use Rattle.pgb_outside.specs.Tree.{Nodes, IsTreeListing}
@@ -67,7 +67,7 @@ pub record IsMade (stanza : Text) (o : LaterOrder) (list : BackupInfo) (seen : L
 pub record DraftFails (stanza : Text) (o : LaterOrder) (seen : List ListedNode) (list : BackupInfo) (old : List FileEntry) (links : List LinkState) (before : List Lost) (fault : TakeFault) : Type 0 where
   pub draft : Draft
   pub second : ℕ
-  pub later : IsLaterOf stanza o seen list old second draft
+  pub later : IsLaterOf false stanza o seen list old second draft
   pub cause : MakeCause draft links before fault
 
 -- there is no draft of it, or it isn't made
