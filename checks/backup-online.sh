@@ -1,13 +1,13 @@
 #!/usr/bin/env bash
-# backup of a running server of PostgreSQL 15 under load, whose log is archived by archive-push: each file of the label's folder has the
-# sum that the manifest tells, the log of its span is archived, and the backup is restored and recovers to the end of the archive. What
-# is refused leaves the list as it was, and the server in no backup.
+# backup of a running server of PostgreSQL 15 under load, of each kind, whose log is archived by archive-push: each file of the label's
+# folder, and each that is left of a backup before, has the sum that the manifest tells, the log of its span is archived, and the backup
+# is restored and recovers to the end of the archive. What is refused leaves the list as it was, and the server in no backup.
 . "$(dirname "$0")/server"
 
 # The server starts this program by its name.
 export PATH=$room:$PATH
 
-online=(--type=full --no-expire-auto --start-fast)
+online=(--no-expire-auto --start-fast)
 
 # The list as the info file tells it.
 listed() {
@@ -15,18 +15,21 @@ listed() {
 }
 
 is_listed() {
-    program info | grep -q "full backup: $1$"
+    program info | grep -q "$1 backup: $2$"
 }
 
-# back_up OPTION..: a backup, whose label is then in `label`.
+# back_up KIND OPTION..: a backup of this kind, whose label is then in `label`.
 back_up() {
-    program "${online[@]}" "$@" backup >output 2>errors || complain "the backup ended with $?: $(cat output errors)"
-    label=$(sed -n 's/^INFO: new backup label = \([0-9]\{8\}-[0-9]\{6\}F\)$/\1/p' output)
+    local kind=$1 second='[0-9]\{8\}-[0-9]\{6\}'
+    shift
+    program "${online[@]}" "--type=$kind" "$@" backup >output 2>errors || complain "the backup ended with $?: $(cat output errors)"
+    label=$(sed -n "s/^INFO: new backup label = \($second"F"\(_$second[DI]\)\{0,1\}\)\$/\1/p" output)
     [ "$(wc -l <output)" = 1 ] && [ -n "$label" ] || complain "the backup wrote '$(cat output)'"
     [ ! -s errors ] || complain "the backup wrote to standard error: $(cat errors)"
 }
 
-# check_files LABEL: the files in the folder are those that the manifest tells with bytes, each with its size and sum.
+# check_files LABEL: the files in the folder are those that the manifest tells with bytes, each with its size and sum; and those that it
+# has of other backups lie in their folders, each with its sum.
 check_files() {
     local folder=repo/backup/demo/$1
     sed -n 's/^pg_data\/\(.*\)={"checksum":"\([0-9a-f]*\)","size":\([0-9]*\),"timestamp":[0-9]*}$/\2 \3 \1/p' "$folder/backup.manifest" |
@@ -35,6 +38,9 @@ check_files() {
         printf '%s %s %s\n' "$sum" "$(stat -c %s "$path")" "${path#./}"
     done) | LC_ALL=C sort >found
     [ -s wanted ] && cmp -s wanted found || complain "$1 has other files than its manifest tells: $(diff wanted found | head -n 5)"
+    sed -n 's/^pg_data\/\(.*\)={"checksum":"\([0-9a-f]*\)","reference":"\([^"]*\)",.*}$/\2  repo\/backup\/demo\/\3\/pg_data\/\1/p' \
+        "$folder/backup.manifest" >left
+    [ ! -s left ] || sha1sum --quiet --check left || complain "what $1 has of other backups isn't there"
     cmp -s "$folder/backup.manifest" "$folder/backup.manifest.copy" || complain "the members of the manifest of $1 differ"
     grep -q '^START WAL LOCATION: ' "$folder/pg_data/backup_label" || complain "$1 has no label file of the server"
     grep -q '^pg_data/pg_wal/.*={' "$folder/backup.manifest" && complain "$1 has files of the log"
@@ -60,23 +66,29 @@ start_server
 load=$!
 
 spans=0
-back_up
-first=$label
-back_up --process-max=3
-for one in "$first" "$label"; do
-    check_files "$one"
-    check_span "$one"
-    is_listed "$one" || complain "info doesn't list $one"
+labels=()
+for kind in full full diff incr incr; do
+    back_up "$kind" --process-max=3
+    check_files "$label"
+    check_span "$label"
+    is_listed "$kind" "$label" || complain "info doesn't list $label"
+    if [ "$kind" = full ]; then
+        [ ! -s left ] || complain "the full backup $label refers to others"
+    else
+        # Most of the cluster stays under this load: what is copied again is the lesser part.
+        [ "$(wc -l <left)" -gt "$(wc -l <found)" ] || complain "$label leaves $(wc -l <left) files and has $(wc -l <found)"
+    fi
+    labels+=("$label")
 done
-[ "$label" != "$first" ] || complain "two backups have the label $label"
-[ "$spans" -ge 4 ] || complain "the manifests tell $spans segments"
+[ "$(printf '%s\n' "${labels[@]}" | sort -u | wc -l)" = 5 ] || complain "two backups have one label: ${labels[*]}"
+[ "$spans" -ge 10 ] || complain "the manifests tell $spans segments"
 
 # What is refused lists nothing, and the server isn't in a backup afterwards.
 listed >kept
 refuse() {
     local status=$1 output=$2
     shift 2
-    want "$status" "$output" "${online[@]}" "$@" backup
+    want "$status" "$output" "${online[@]}" --type=full "$@" backup
     listed | cmp -s kept - || complain "the list changed at status $status"
 }
 refuse 48 'ERROR: [048]: server: [3D000] database "none" does not exist
@@ -107,14 +119,18 @@ rows=$(ask 'select count(*) from pgbench_history')
 money=$(ask 'select sum(abalance) from pgbench_accounts')
 stop_server immediate
 
-# The cluster is lost, and the first backup put in its place: with the log that was archived since, nothing is missing.
-mv pg lost
-mkdir pg
-chown --reference=lost pg
-chmod 700 pg
-"${as[@]}" "${ours[@]}" --set="$first" restore >output 2>errors || complain "the restore ended with $?: $(cat output errors)"
-start_server
-[ "$(ask 'select count(*) from pgbench_history')" = "$rows" ] || complain "of $rows rows others came back"
-[ "$(ask 'select sum(abalance) from pgbench_accounts')" = "$money" ] || complain 'the balances are others'
-stop_server fast
+# The cluster is lost, and a backup put in its place: with the log that was archived since, nothing is missing.
+for one in "${labels[0]}" "${labels[@]:2}"; do
+    mv pg "lost-$one"
+    mkdir pg
+    chown --reference="lost-$one" pg
+    chmod 700 pg
+    "${as[@]}" "${ours[@]}" --set="$one" restore >output 2>errors || complain "the restore of $one ended with $?: $(cat output errors)"
+    start_server
+    [ "$(ask 'select count(*) from pgbench_history')" = "$rows" ] || complain "of $rows rows others came back with $one"
+    [ "$(ask 'select sum(abalance) from pgbench_accounts')" = "$money" ] || complain "the balances are others with $one"
+    ask 'select count(*) from pg_class, lateral pg_relation_size(oid)' >/dev/null || complain "a relation of $one can't be read"
+    await
+    stop_server fast
+done
 exit "$wrong"

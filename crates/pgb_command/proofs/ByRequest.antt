@@ -16,10 +16,10 @@ use Rattle.pgb_model.specs.Steps.{Command, MakeBackup}
 use Rattle.pgb_stage.specs.Plans.{Heals, OnReading}
 use Rattle.pgb_stage.specs.Runs.{On, one}
 use Rattle.pgb_stage.specs.Seen.{Seen}
-use Rattle.pgb_logged.specs.Backups.{IsOnlineBackup}
-use Rattle.pgb_logged.proofs.Reading.{no_files, no_files_read, no_files_left, no_files_beside}
+use Rattle.pgb_logged.proofs.Reading.{no_files, no_files_read, no_files_left}
 use Rattle.pgb_take_later.specs.Kinds.{IsBackupBy}
-use Rattle.pgb_take_online.specs.Doing.{TakesTurns}
+use Rattle.pgb_take_online.specs.Doing.{TakesTurns, IsOnlineBy}
+use Rattle.pgb_take_online.proofs.Doings.{none_by}
 use Rattle.pgb_model.specs.Values.{Manifest}
 use Rattle.pgb_restore.specs.Finished.{IsFinished}
 use Rattle.pgb_recover.specs.Fetching.{options_by}
@@ -30,17 +30,17 @@ use Rattle.pgb_command.proofs.Expiries.{some_expiry}
 use Rattle.pgb_command.specs.Tables.{Known, known, plan_of, manner_of, OnReader, OnCreate, OnExpire, OnOther, FolderGoes, FolderStays, Unless, is_on_repository, TellsLabel}
 
 -- no turn was taken, and the server told no label file
-pub running_idle : (how : RunningHow) (old new : Known) → new.others ≡ old.others → (account : Option Account) → new.others.account ≡ account → (P : Command → Type 0) → P (MakeBackup [] no_files None) → (told : Account → Type 0) → IsSomeAnd account told →
-    (command : Command) × IsSomeAnd account (λ k. (turned : List Turned) × TakesTurns turned old.others.account k × (label : Option Text) × IfSome label (TellsLabel old new) × IsOnlineBackup (take how.workers old.links) (turns_of turned) label command) × P command
-running_idle how old new same None is P p told there = absurd there
-running_idle how old new same (Some k) is P p told there = (
+pub running_idle : (stanza : Text) (how : RunningHow) (old new : Known) → new.others ≡ old.others → (account : Option Account) → new.others.account ≡ account → (P : Command → Type 0) → P (MakeBackup [] no_files None) → (told : Account → Type 0) → IsSomeAnd account told →
+    (command : Command) × IsSomeAnd account (λ k. (turned : List Turned) × TakesTurns turned old.others.account k × (label : Option Text) × IfSome label (TellsLabel old new) × IsOnlineBy how.taken.kind (take how.taken.workers old.links) (turns_of turned) label stanza old.repo command) × P command
+running_idle stanza how old new same None is P p told there = absurd there
+running_idle stanza how old new same (Some k) is P p told there = (
   MakeBackup [] no_files None,
   (
     [],
     record { before = k.turns; was = ap (λ (o : OthersState). o.account) (sym same) ∙ is; is = sym (append-nil k.turns) },
     None,
     tt,
-    (no_files, refl, no_files_beside (take how.workers old.links) None),
+    none_by how.taken.kind (take how.taken.workers old.links) [] None stanza old.repo,
   ),
   p,
 )
@@ -56,7 +56,7 @@ idle a create old new same P p = λ command is. p command
 idle a (push path) old new same P p = λ command is. p command
 idle a (get name path) old new same P p = λ command is. p command
 idle a (backup how) old new same P p = (MakeBackup [] no_files None, nothing_by how.kind (take how.workers old.links) a.stanza old.repo, p (MakeBackup [] no_files None))
-idle a (backup_running how) old new same P p = λ there. running_idle how old new same new.others.account refl P (p (MakeBackup [] no_files None)) _ there
+idle a (backup_running how) old new same P p = λ there. running_idle a.stanza how old new same new.others.account refl P (p (MakeBackup [] no_files None)) _ there
 idle a (restore set how) old new same P p = λ command is. p command
 idle a (report form) old new same P p = λ command is. p command
 idle a examine old new same P p = λ command is. p command
@@ -68,7 +68,7 @@ manner_at a create old new repo heals P h = h
 manner_at a (push path) old new repo heals P h = h
 manner_at a (get name path) old new repo heals P h = h
 manner_at a (backup how) old new repo heals P h = subst (λ (r : Option Content). On (one (IsBackupBy how.kind (take how.workers old.links) a.stanza r)) P) heals h
-manner_at a (backup_running how) old new repo heals P h = h
+manner_at a (backup_running how) old new repo heals P h = subst (λ (r : Option Content). On (manner_of a (backup_running how) (record old { repo = r }) new) P) heals h
 manner_at a (restore set how) old new repo heals P h = h
 manner_at a (report form) old new repo heals P h = h
 manner_at a examine old new repo heals P h = h

@@ -24,8 +24,6 @@ use Rattle.pgb_get.specs.Texts.{get_status}
 use Rattle.pgb_take_later.specs.declared.fault.LaterFault.{LaterFault}
 use Rattle.pgb_take_later.specs.Texts.{later_status}
 use Rattle.pgb_take_later.proofs.Statuses.{later_within}
-use Rattle.pgb_take.specs.Texts.{take_status}
-use Rattle.pgb_take.proofs.Statuses.{take_within}
 use Rattle.pgb_take_online.specs.declared.fault.OnlineTakeFault.{OnlineTakeFault}
 use Rattle.pgb_take_online.specs.declared.fault.OnlineTakeFault.TheVariants as online
 use Rattle.pgb_take_online.specs.Texts.{online_take_status}
@@ -207,7 +205,7 @@ examine_at a b k e (inr ready) p = examine_other a a.request _ (known k) e ready
 
 -- a running server's backup that is refused as a stopped one's is has such a status for something that is too long, or too many
 running_long : (n : ℕ) (e : OnlineTakeFault) → n ≡ online_take_status e → IsTaken e → IsServerRefusal n → 70 ≤ n
-running_long n (online.Take e) is taken refusal = long_is n (take_status e) is (only_many (take_status e) (take_within e).1 (subst IsServerRefusal is refusal))
+running_long n (online.Take e) is taken refusal = long_is n (later_status e) is (only_many (later_status e) (later_within e).1 (subst IsServerRefusal is refusal))
 running_long n (online.Server e) is taken refusal = absurd taken
 running_long n online.TablespaceMap is taken refusal = absurd taken
 running_long n (online.SpanWrong start stop) is taken refusal = absurd taken

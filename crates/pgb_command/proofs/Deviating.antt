@@ -119,7 +119,7 @@ not_later (laters.Take fault) = not_take fault
 not_later (laters.PriorDamaged label main copy) = λ is. absurd (omega (arith, is))
 
 not_take_online : (e : OnlineTakeFault) → online_take_status e ≢ 65
-not_take_online (online.Take fault) = not_take fault
+not_take_online (online.Take fault) = not_later fault
 not_take_online (online.Server fault) = not_server fault
 not_take_online online.TablespaceMap = λ is. absurd (omega (arith, is))
 not_take_online (online.SpanWrong start stop) = λ is. absurd (omega (arith, is))

@@ -20,16 +20,15 @@ use Rattle.pgb_story.specs.Beside.{StaysBeside}
 use Rattle.pgb_stage.proofs.Besides.{still_beside}
 use Rattle.pgb_stage.proofs.Doing.{rests_does}
 use Rattle.pgb_stage.proofs.Lifted.{does_runs}
-use Rattle.pgb_logged.specs.Backups.{IsOnlineBackup}
 use Rattle.pgb_logged.proofs.Reading.{no_files}
 use Rattle.pgb_turn.specs.Turns.{Account, Turned}
 use Rattle.pgb_await.specs.Went.{turns_of}
-use Rattle.pgb_take.specs.declared.fault.TakeFault.{TakeFault}
+use Rattle.pgb_take_later.specs.declared.fault.LaterFault.{LaterFault}
 use Rattle.pgb_take_online.specs.declared.fault.OnlineTakeFault.{OnlineTakeFault}
 use Rattle.pgb_take_online.specs.declared.fault.OnlineTakeFault.TheVariants as online
 use Rattle.pgb_take_online.specs.Causes.{OnlineCause}
-use Rattle.pgb_take_online.specs.Doing.{Heard, TakesTurns, IsOnlineOf, RunsOnline}
-use Rattle.pgb_take_online.specs.Faults.{online_early, of_take as taken_halt}
+use Rattle.pgb_take_online.specs.Doing.{Heard, TakesTurns, IsOnlineBy, IsOnlineOf, RunsOnline}
+use Rattle.pgb_take_online.specs.Faults.{online_early, of_later as taken_halt}
 use Rattle.pgb_take_online.specs.Taken.{TakesOnline}
 use Rattle.pgb_take_online.specs.Talking.{EndsTalk}
 use Rattle.pgb_take_online.specs.Told.{IsLabelTold}
@@ -55,21 +54,21 @@ label_told old new told tells (Some text) h = (told, tells, h)
 
 -- which command it is, by the turns that the account tells
 running_steps : (stanza : Text) (how : RunningHow) (old new : Known) (told : Control) (tells : IfSome old.nodes (λ f. FolderTells f told)) (account : Option Account) (P : Command → Type 0) →
-    IfSome account (λ n. n.stanza ≡ stanza → (turned : List Turned) × TakesTurns turned old.others.account n × On (one (IsOnlineOf (take how.workers old.links) (heard_by old new told) turned)) P) → IsSomeAnd account (λ n. n.stanza ≡ stanza) →
-    (command : Command) × IsSomeAnd account (λ n. (turned : List Turned) × TakesTurns turned old.others.account n × (label : Option Text) × IfSome label (TellsLabel old new) × IsOnlineBackup (take how.workers old.links) (turns_of turned) label command) × P command
+    IfSome account (λ n. n.stanza ≡ stanza → (turned : List Turned) × TakesTurns turned old.others.account n × On (one (IsOnlineOf how.taken.kind (take how.taken.workers old.links) (heard_by old new told) stanza old.repo turned)) P) → IsSomeAnd account (λ n. n.stanza ≡ stanza) →
+    (command : Command) × IsSomeAnd account (λ n. (turned : List Turned) × TakesTurns turned old.others.account n × (label : Option Text) × IfSome label (TellsLabel old new) × IsOnlineBy how.taken.kind (take how.taken.workers old.links) (turns_of turned) label stanza old.repo command) × P command
 running_steps stanza how old new told tells None P h is = absurd is
 running_steps stanza how old new told tells (Some n) P h is = by (h is)
   where
-    by : (turned : List Turned) × TakesTurns turned old.others.account n × ((command : Command) × IsOnlineOf (take how.workers old.links) (heard_by old new told) turned command × P command) →
-        (command : Command) × ((turned : List Turned) × TakesTurns turned old.others.account n × (label : Option Text) × IfSome label (TellsLabel old new) × IsOnlineBackup (take how.workers old.links) (turns_of turned) label command) × P command
+    by : (turned : List Turned) × TakesTurns turned old.others.account n × ((command : Command) × IsOnlineOf how.taken.kind (take how.taken.workers old.links) (heard_by old new told) stanza old.repo turned command × P command) →
+        (command : Command) × ((turned : List Turned) × TakesTurns turned old.others.account n × (label : Option Text) × IfSome label (TellsLabel old new) × IsOnlineBy how.taken.kind (take how.taken.workers old.links) (turns_of turned) label stanza old.repo command) × P command
     by (ts, taken, (command, (label, heard_is, is_of), p)) = (command, (ts, taken, label, label_told old new told tells label heard_is, is_of), p)
 
-taken_is : (e : OnlineTakeFault) (x : Halt TakeFault) → ◌≡◌ {A = Halt OnlineTakeFault} (Refused e) (taken_halt x) → IsTaken e
+taken_is : (e : OnlineTakeFault) (x : Halt LaterFault) → ◌≡◌ {A = Halt OnlineTakeFault} (Refused e) (taken_halt x) → IsTaken e
 taken_is e (Refused f) is = let same : e ≡ online.Take f = cc in subst IsTaken (sym same) tt
 taken_is e (HaltFailed object) is = cc
 taken_is e HaltMemory is = cc
 
-online_closes : (b k : Seen) (h : Halt OnlineTakeFault) → ((k.server ≡ b.server) × ((x : Halt TakeFault) × (h ≡ taken_halt x))) ⊎ EndsTalk (Failed b k TheServer) k.server.sent h → Closes b k (of_take_online h)
+online_closes : (b k : Seen) (h : Halt OnlineTakeFault) → ((k.server ≡ b.server) × ((x : Halt LaterFault) × (h ≡ taken_halt x))) ⊎ EndsTalk (Failed b k TheServer) k.server.sent h → Closes b k (of_take_online h)
 online_closes b k (Refused e) (inl (same, (x, is))) = inl (taken_is e x is, same)
 online_closes b k (Refused e) (inr ends) = inr (ends (λ (is : ◌≡◌ {A = Halt OnlineTakeFault} (Refused e) HaltMemory). cc))
 online_closes b k (HaltFailed object) x = tt
@@ -83,10 +82,10 @@ module _ (a : Asked) (b k : Seen) (nodes : k.tree.nodes ≡ b.tree.nodes) (how :
   heard = heard_by (known b) (known k) told
 
   pub running_ran : a.request ≡ backup_running how → IfSome k.others.account (λ n. n.stanza ≡ a.stanza → StaysBeside a.stanza b.repo.view k.repo.view) → IfSome k.others.account (λ n. n.stanza ≡ a.stanza → StaysBeside a.stanza b.spool.view k.spool.view) →
-      RunsOnline a.stanza (take how.workers b.links) heard (reached_by online_early r) b.others.account k.others.account b.repo.view b.spool.view k.repo.view k.spool.view →
-      IfOk r (λ o. OnFinished o (TakesOnline a.stanza told heard (take how.workers b.links) b.others.account k.others.account b.repo.view.now k.repo.view.now)) →
+      RunsOnline a.stanza how.taken.kind (take how.taken.workers b.links) heard (reached_by online_early r) b.others.account k.others.account b.repo.view b.spool.view k.repo.view k.spool.view →
+      IfOk r (λ o. OnFinished o (TakesOnline a.stanza told how.taken.kind heard (take how.taken.workers b.links) b.others.account k.others.account b.repo.view.now k.repo.view.now)) →
       OnOk r (AsksBackup a.server how.fast k.server.place b.server.sent k.server.sent) → (a.server ≡ None → k.server ≡ b.server) →
-      IfErr r (λ h. ((k.server ≡ b.server) × ((x : Halt TakeFault) × (h ≡ taken_halt x))) ⊎ EndsTalk (Failed b k TheServer) k.server.sent h) → (failed : Object → Type 0) → ((object : Object) → failed object → Failed b k object) →
+      IfErr r (λ h. ((k.server ≡ b.server) × ((x : Halt LaterFault) × (h ≡ taken_halt x))) ⊎ EndsTalk (Failed b k TheServer) k.server.sent h) → (failed : Object → Type 0) → ((object : Object) → failed object → Failed b k object) →
       IfErr r (HaltCause (OnlineCause (asked_by a how (known b) (known k) told)) failed) → SamePlaces b k → AreLater b k → Ran a b k ended
   running_ran is beside spool runs taken asks quiet closed failed rose cause places later = as_ran a (backup_running how) b k ended is
       (ran_of waits_for b k (λ (e : OnlineTakeFault). OfCommand (TakeOnline e)) online_early (λ e. refl) (OnlineCause (asked_by a how (known b) (known k) told)) (λ e h. (told, tells, h)) failed rose r ended lifted
@@ -126,7 +125,7 @@ module _ (a : Asked) (b : Seen) (how : RunningHow) where
   without_memory : a.request ≡ backup_running how → Ran a b b (Err OutOfMemory)
   without_memory is = as_ran a (backup_running how) b b (Err OutOfMemory) is
       (ran_of begins b b (λ (e : OnlineTakeFault). OfCommand (TakeOnline e)) online_early (λ e. refl) (λ e. ⊥) (λ e h. absurd h) (λ object. ⊥) (λ object h. absurd h) (Err HaltMemory) (Err OutOfMemory) refl
-      (λ there. running_idle how (known b) (known b) refl b.others.account refl (λ command. Runs Whole a.stanza command stopped b.repo.view b.spool.view b.repo.view b.spool.view) nothing_runs _ there)
+      (λ there. running_idle a.stanza how (known b) (known b) refl b.others.account refl (λ command. Runs Whole a.stanza command stopped b.repo.view b.spool.view b.repo.view b.spool.view) nothing_runs _ there)
       tt
       tt
       tt

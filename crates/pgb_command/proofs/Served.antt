@@ -6,14 +6,14 @@ use Rattle.pgb_options.specs.declared.settle.Command.{Command}
 use Rattle.pgb_options.specs.Commands.{IsCommand}
 use Rattle.pgb_options.specs.Settings.{Settled}
 use Rattle.pgb_stage.specs.declared.fault.Unbuilt.{Unbuilt}
-use Rattle.pgb_stage.specs.declared.fault.Unbuilt.TheVariants.{Background, Kind, Delta as Digests, Bundles, Expiry}
+use Rattle.pgb_stage.specs.declared.fault.Unbuilt.TheVariants.{Background, Delta as Digests, Bundles, Expiry}
 use Rattle.pgb_table.specs.declared.table.Verb.{Verb}
 use Rattle.pgb_table.specs.declared.table.Verb.TheVariants.{StanzaCreate, ArchivePush, ArchivePushAsync, ArchiveGet, ArchiveGetAsync, Backup, Expire, Restore, Verify, Info, Rehearse}
 use Rattle.pgb_create.specs.declared.server.Server as code
 use Rattle.pgb_create.specs.Server.{Server, server_view}
 use Rattle.pgb_command.specs.declared.settings.Request as settings
 use Rattle.pgb_command.specs.declared.settings.Request.TheVariants as requests
-use Rattle.pgb_command.specs.Asked.{Request, BackupHow, RunningHow, push, get, backup, backup_running, Wanted, first_of, second_of, taken_by, backup_by, is_built, request_by, server_by, server_asked, wanted_in}
+use Rattle.pgb_command.specs.Asked.{Request, BackupHow, RunningHow, push, get, backup, backup_running, Wanted, first_of, second_of, taken_by, backup_by, request_by, server_by, server_asked, wanted_in}
 use Rattle.pgb_command.specs.Serving.{is_served}
 use Rattle.pgb_command.specs.Told.{request_of, wanted_told}
 use Rattle.pgb_command.proofs.AskedOnce.{ok_same}
@@ -32,10 +32,6 @@ one_built : (b : Bool) (what : Unbuilt) (r : Result Request Unbuilt) (how : Runn
 one_built true what r how is = cc
 one_built false what r how is = is
 
-one_kind : (b : Bool) (what : Unbuilt) (r : Result Request Unbuilt) (how : RunningHow) → Asks (if b then r else Err what) how → Asks r how
-one_kind true what r how is = is
-one_kind false what r how is = cc
-
 ok_asks : (r : Request) (how : RunningHow) → Asks (Ok r) how → r ≡ backup_running how
 ok_asks r how is = ok_same r (backup_running how) is
 
@@ -43,7 +39,7 @@ ok_asks r how is = ok_same r (backup_running how) is
 
 module _ (m : Wanted) (how : RunningHow) where
   backup_online : Asks (backup_by m) how → m.online ≡ true
-  backup_online is = one_online m.online _ _ how (ok_asks (taken_by m) how (one_built m.expires Expiry _ how (one_built m.bundles Bundles _ how (one_built m.delta Digests _ how (one_kind (is_built m.online m.kind) Kind _ how is)))))
+  backup_online is = one_online m.online _ _ how (ok_asks (taken_by m) how (one_built m.expires Expiry _ how (one_built m.bundles Bundles _ how (one_built m.delta Digests _ how is))))
 
   push_never : (path : Text) → Asks (if m.background then Err Background else Ok (push path)) how → ⊥
   push_never path is = let e = ok_asks (push path) how (one_built m.background Background _ how is) in cc
@@ -73,8 +69,8 @@ request_served c s is requests.StanzaCreate asked o server = refl
 request_served c s is (requests.ArchivePush path) asked o server = refl
 request_served c s is (requests.ArchiveGet name path) asked o server = refl
 request_served c s is (requests.Backup workers kind delta) asked o server = refl
-request_served c s is (requests.BackupRunning workers fast turns) asked o server =
-    some_server o (ap is_some server ∙ served_by (wanted_in s.source) (record { workers = workers; fast = fast; turns = turns }) s.source.verb s.parameters (sym (request_is c s is) ∙ asked) _)
+request_served c s is (requests.BackupRunning workers kind delta fast turns) asked o server =
+    some_server o (ap is_some server ∙ served_by (wanted_in s.source) (record { taken = record { workers = workers; kind = kind; delta = delta }; fast = fast; turns = turns }) s.source.verb s.parameters (sym (request_is c s is) ∙ asked) _)
 request_served c s is (requests.Restore set workers delta recovery) asked o server = refl
 request_served c s is (requests.Info form) asked o server = refl
 request_served c s is requests.Verify asked o server = refl

@@ -5,7 +5,6 @@ use Rattle.pgb_model.specs.declared.labels.Kind.{Kind}
 use Rattle.pgb_model.specs.Text.{Text}
 use Rattle.pgb_table.specs.declared.table.Opt.{Opt}
 use Rattle.pgb_options.specs.declared.options.KindWord.{KindWord}
-use Rattle.pgb_options.specs.declared.options.KindWord.TheVariants.{Full, Diff, Incr}
 use Rattle.pgb_options.specs.declared.options.RestoreWord.{RestoreWord}
 use Rattle.pgb_options.specs.declared.options.RestoreWord.TheVariants.{Default, Plain}
 use Rattle.pgb_options.specs.declared.options.OutputWord.{OutputWord}
@@ -22,7 +21,7 @@ use Rattle.pgb_recover.specs.Fetching.{RecoveryType}
 use Rattle.pgb_recover.specs.Fetching.RecoveryType.{Default as ToTheEnd, Without}
 use Rattle.pgb_retain.specs.declared.rules.Rules.{Rules}
 use Rattle.pgb_stage.specs.declared.fault.Unbuilt.{Unbuilt}
-use Rattle.pgb_stage.specs.declared.fault.Unbuilt.TheVariants.{Command, Background, Kind as OtherKind, Delta as Digests, Bundles, Expiry}
+use Rattle.pgb_stage.specs.declared.fault.Unbuilt.TheVariants.{Command, Background, Delta as Digests, Bundles, Expiry}
 
 -- ---- the configuration
 
@@ -47,15 +46,15 @@ pub record WordsSettle (words : List Text) (files : Option Content) (read : Resu
 
 -- ---- what is asked
 
--- how a stopped server is backed up: with how many workers, as which kind (option `type`), and whether a file is told from the prior backup's by its digest (option `delta`)
+-- how a server is backed up: with how many workers, as which kind (option `type`), and whether a file is told from the prior backup's by its digest (option `delta`)
 pub record BackupHow : Type 0 where
   pub workers : ℕ
   pub kind : Kind
   pub delta : Bool
 
--- how a running server is backed up: with how many workers, whether it makes its checkpoint at once (option `start-fast`), and how many turns of others are waited for at most (option `archive-timeout`)
+-- how a running server is backed up: as a stopped one is, whether it makes its checkpoint at once (option `start-fast`), and how many turns of others are waited for at most (option `archive-timeout`)
 pub record RunningHow : Type 0 where
-  pub workers : ℕ
+  pub taken : BackupHow
   pub fast : Bool
   pub turns : ℕ
 
@@ -102,25 +101,17 @@ pub record Wanted : Type 0 where
   pub turns : ℕ
   pub rules : Rules
 
-abbrev pub is_full : KindWord → Bool
-is_full Full = true
-is_full Diff = false
-is_full Incr = false
-
--- of a running server only full backups are built
-abbrev pub is_built : Bool → KindWord → Bool
-is_built true kind = is_full kind
-is_built false kind = true
+-- with as many workers, and of this kind
+abbrev pub how_by : Wanted → BackupHow
+how_by m = record { workers = m.workers; kind = kind_by m.kind; delta = m.delta }
 
 -- of a running server or of a stopped one
 abbrev pub taken_by : Wanted → Request
-taken_by m = if m.online then backup_running (record { workers = m.workers; fast = m.fast; turns = m.turns })
-    else backup (record { workers = m.workers; kind = kind_by m.kind; delta = m.delta })
+taken_by m = if m.online then backup_running (record { taken = how_by m; fast = m.fast; turns = m.turns }) else backup (how_by m)
 
--- a backup of this kind with nothing more; or what of it isn't built
+-- a backup with nothing more; or what of it isn't built
 abbrev pub backup_by : Wanted → Result Request Unbuilt
-backup_by m = if is_built m.online m.kind then (if m.delta then Err Digests else if m.bundles then Err Bundles else if m.expires then Err Expiry else Ok (taken_by m))
-    else Err OtherKind
+backup_by m = if m.delta then Err Digests else if m.bundles then Err Bundles else if m.expires then Err Expiry else Ok (taken_by m)
 
 -- a recovery fetches the log by the configuration that the words name, if they name one
 abbrev pub recovery_for : RestoreWord → Option Text → RecoveryType

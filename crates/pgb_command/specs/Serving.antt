@@ -6,5 +6,5 @@ use Rattle.pgb_command.specs.declared.settings.Request.TheVariants.{BackupRunnin
 
 -- a running server's backup has a server to ask
 abbrev pub is_served : Request → Option Server → Bool
-is_served (BackupRunning workers fast turns) server = is_some server
+is_served (BackupRunning workers kind delta fast turns) server = is_some server
 is_served request server = true

@@ -33,7 +33,6 @@ use Rattle.pgb_push.specs.Causes.{IsStored, IsLasting, PushCause}
 use Rattle.pgb_stage.specs.Reached.{OnFinished}
 use Rattle.pgb_push.specs.WalPath.{IsWalPath}
 use Rattle.pgb_get.specs.Getting.{AreWords, GotBy, GivenBy, GetCause, IsServed, ChangesPath, served_path}
-use Rattle.pgb_logged.specs.Backups.{IsOnlineBackup}
 use Rattle.pgb_take.specs.Causes.{Before}
 use Rattle.pgb_take_later.specs.declared.order.LaterOrder.{LaterOrder}
 use Rattle.pgb_take_later.specs.Causes.{LaterCause}
@@ -41,7 +40,7 @@ use Rattle.pgb_take_later.specs.Kinds.{IsBackupBy}
 use Rattle.pgb_take_later.specs.Taken.{IsTaken}
 use Rattle.pgb_online.specs.Telling.{starting, stopping}
 use Rattle.pgb_take_online.specs.Causes.{Asked as AskedOnline, OnlineCause}
-use Rattle.pgb_take_online.specs.Doing.{Heard, TakesTurns}
+use Rattle.pgb_take_online.specs.Doing.{Heard, TakesTurns, IsOnlineBy}
 use Rattle.pgb_take_online.specs.Taken.{TakesOnline}
 use Rattle.pgb_take_online.specs.Told.{IsLabelTold}
 use Rattle.pgb_recover.specs.declared.fault.RecoverFault.{RecoverFault}
@@ -104,10 +103,10 @@ TurnsTold a request new = Unit {0}
 abbrev pub TellsLabel : Known → Known → Text → Type 0
 TellsLabel old new text = OnCluster old.nodes (λ told. IsLabelTold told.system old.server.pending new.server.pending (Some text))
 
--- Others took these turns, and the command is the full backup of what the links read, behind these turns, with the label file that the server told.
-abbrev pub IsRunningOf : RunningHow → Known → Known → Command → Type 0
-IsRunningOf how old new command = IsSomeAnd new.others.account (λ k. (turned : List Turned) × TakesTurns turned old.others.account k
-    × (label : Option Text) × IfSome label (TellsLabel old new) × IsOnlineBackup (take how.workers old.links) (turns_of turned) label command)
+-- Others took these turns, and the command is the backup of this kind of what the links read, behind these turns, with the label file that the server told.
+abbrev pub IsRunningOf : Asked → RunningHow → Known → Known → Command → Type 0
+IsRunningOf a how old new command = IsSomeAnd new.others.account (λ k. (turned : List Turned) × TakesTurns turned old.others.account k
+    × (label : Option Text) × IfSome label (TellsLabel old new) × IsOnlineBy how.taken.kind (take how.taken.workers old.links) (turns_of turned) label a.stanza old.repo command)
 
 -- which command of the repository's log it is, from what the objects hold before and after it
 abbrev pub manner_of : Asked → Request → Known → Known → Manner
@@ -115,7 +114,7 @@ manner_of a create old new = each (λ command. IsSomeAnd old.nodes (λ f. IsCrea
 manner_of a (push path) old new = each (λ command. IsSomeAnd old.nodes (λ f. IsPushOf f a.data_folder path command))
 manner_of a (get name path) old new = each (λ command. command ≡ Reading)
 manner_of a (backup how) old new = one (IsBackupBy how.kind (take how.workers old.links) a.stanza old.repo)
-manner_of a (backup_running how) old new = provided (TurnsTold a (backup_running how) new) (IsRunningOf how old new)
+manner_of a (backup_running how) old new = provided (TurnsTold a (backup_running how) new) (IsRunningOf a how old new)
 manner_of a (restore set how) old new = each (λ command. command ≡ Reading)
 manner_of a (report form) old new = each (λ command. command ≡ Reading)
 manner_of a examine old new = each (λ command. command ≡ Reading)
@@ -147,7 +146,7 @@ heard_by old new told = record { system = told.system; pending = old.server.pend
 
 -- what a running server's backup finds, and what it comes to
 abbrev pub asked_by : Asked → RunningHow → Known → Known → Control → AskedOnline
-asked_by a how old new told = record { before = found_by a how.workers old told; heard = heard_by old new told; most = how.turns; turns = old.others.turns; turned = new.others.turns; now = new.repo }
+asked_by a how old new told = record { before = found_by a how.taken.workers old told; kind = how.taken.kind; heard = heard_by old new told; most = how.turns; turns = old.others.turns; turned = new.others.turns; now = new.repo }
 
 -- the server was asked at its socket, told to start a backup and to stop it, and the talk was ended
 abbrev pub AsksBackup : Option Server → Bool → Text → Option (List ℕ) → Option (List ℕ) → Type 0
@@ -205,7 +204,7 @@ Promise a (push path) old new outcome = OnFinished outcome (IsStored a.stanza a.
 Promise a (get name path) old new outcome = GotBy a.stanza a.data_folder name path old.repo old.nodes new.nodes outcome
     × OnStanza a old.repo (λ s. GivenBy s a.data_folder name path old.nodes new.nodes outcome)
 Promise a (backup how) old new outcome = ByOrder how (λ o. OnCluster old.nodes (λ told. OnFinished outcome (IsTaken a.stanza told o old.nodes (take how.workers old.links) old.repo new.repo)))
-Promise a (backup_running how) old new outcome = OnCluster old.nodes (λ told. OnFinished outcome (TakesOnline a.stanza told (heard_by old new told) (take how.workers old.links) old.others.account new.others.account old.repo new.repo))
+Promise a (backup_running how) old new outcome = OnCluster old.nodes (λ told. OnFinished outcome (TakesOnline a.stanza told how.taken.kind (heard_by old new told) (take how.taken.workers old.links) old.others.account new.others.account old.repo new.repo))
     × AsksBackup a.server how.fast new.server.place old.server.sent new.server.sent
 Promise a (restore set how) old new outcome = Restores a set how old new outcome
 Promise a (report form) old new outcome = OnFinished outcome (IsReported a.stanza form old.repo)

@@ -28,7 +28,7 @@ request_of StanzaCreate = create
 request_of (ArchivePush path) = push path.now
 request_of (ArchiveGet name path) = get name.now path.now
 request_of (Backup workers kind delta) = backup (record { workers = workers; kind = kind; delta = delta })
-request_of (BackupRunning workers fast turns) = backup_running (record { workers = workers; fast = fast; turns = turns })
+request_of (BackupRunning workers kind delta fast turns) = backup_running (record { taken = record { workers = workers; kind = kind; delta = delta }; fast = fast; turns = turns })
 request_of (Restore set workers delta recovery) = restore (option_map (λ w. w.now) set) (record { workers = workers; delta = delta; recovery = recovery_type recovery })
 request_of (Info form) = report form
 request_of Verify = examine
@@ -56,13 +56,13 @@ wanted_told o = record {
 abbrev pub asked_of : Settings → Asked
 asked_of s = record { stanza = s.stanza.now; data_folder = s.pg1_path.now; repository = s.repo1_path.now; lock_folder = s.lock_path.now; server = option_map server_view s.server; request = request_of s.request }
 
--- how a stopped server is backed up by the order
+-- how a server is backed up by the order
 abbrev pub taking_of : LaterOrder → BackupHow
 taking_of o = record { workers = o.take.workers; kind = o.kind; delta = o.settings.delta }
 
 -- how a running server is backed up by the order
 abbrev pub running_of : RunningOrder → RunningHow
-running_of o = record { workers = o.take.workers; fast = o.fast; turns = o.turns }
+running_of o = record { taken = taking_of o.later; fast = o.fast; turns = o.turns }
 
 -- how a backup is restored by the order
 abbrev pub how_of : RecoverOrder → RestoreHow
@@ -74,7 +74,7 @@ IsOrder create folder order.StanzaCreate = Unit {0}
 IsOrder (push path) folder (order.ArchivePush o) = (o.folder.now ≡ folder) × (o.path.now ≡ path)
 IsOrder (get name path) folder (order.ArchiveGet o) = (o.folder.now ≡ folder) × (o.word.now ≡ name) × (o.path.now ≡ path)
 IsOrder (backup how) folder (order.Backup o) = (o.take.data_folder.now ≡ folder) × (taking_of o ≡ how)
-IsOrder (backup_running how) folder (order.BackupRunning o) = (o.take.data_folder.now ≡ folder) × (running_of o ≡ how)
+IsOrder (backup_running how) folder (order.BackupRunning o) = (o.later.take.data_folder.now ≡ folder) × (running_of o ≡ how)
 IsOrder (restore set how) folder (order.Restore o) = (o.data_folder.now ≡ folder) × (how_of o ≡ how) × TellsSet set o.set
 IsOrder (report form) folder (order.Info asked) = asked ≡ form
 IsOrder examine folder order.Verify = Unit {0}

@@ -4,14 +4,14 @@ ghost use Rattle.pgb_options.specs.Commands.{IsCommand};
 ghost use Rattle.pgb_options.specs.Filled.{or_else};
 ghost use Rattle.pgb_table.specs.Values.{is_stanza};
 ghost use Rattle.pgb_options.specs.Settings.{Settled};
-ghost use Rattle.pgb_command.specs.Asked.{request_by, backup_by, is_built, is_full, restore_by, recovery_for, first_of, second_of, requested, IsAsked};
+ghost use Rattle.pgb_command.specs.Asked.{request_by, backup_by, restore_by, recovery_for, first_of, second_of, requested, IsAsked};
 ghost use Rattle.pgb_recover.specs.Fetching.{recovery_type};
 ghost use Rattle.pgb_command.specs.Tables.{plan_of};
 ghost use Rattle.pgb_command.specs.Told.{request_of, asked_of, wanted_told};
 
 use crate::server::server_of;
 use crate::settings::{Request, Settings};
-use pgb_options::{Command, KindWord, Options, RestoreWord};
+use pgb_options::{Command, Options, RestoreWord};
 use pgb_prune::{kind_by, rules_of};
 use pgb_recover::RecoveryType;
 use pgb_stage::{Pairs, Plan, Settling, Unbuilt};
@@ -52,9 +52,6 @@ fn backup_request<'a>(options: &Options) -> Result<Request<'a>, Unbuilt>
     ensures asked { IfOk result (λ r. backup_by (wanted_told options.now) ≡ Ok (request_of r)) }
     ensures unbuilt { IfErr result (λ what. backup_by (wanted_told options.now) ≡ Err what) }
 {
-    if !is_built(options.online, options.backup_type) {
-        return Err(Unbuilt::Kind);
-    }
     let delta = options.delta;
     if delta {
         return Err(Unbuilt::Delta);
@@ -65,16 +62,19 @@ fn backup_request<'a>(options: &Options) -> Result<Request<'a>, Unbuilt>
     if options.expire_auto {
         return Err(Unbuilt::Expiry);
     }
+    let kind = kind_by(options.backup_type);
     if options.online {
         return Ok(Request::BackupRunning {
             workers: options.process_max,
+            kind,
+            delta,
             fast: options.start_fast,
             turns: options.archive_timeout,
         });
     }
     Ok(Request::Backup {
         workers: options.process_max,
-        kind: kind_by(options.backup_type),
+        kind,
         delta,
     })
 }
@@ -112,22 +112,6 @@ fn word_of(word: &Option<String>) -> Option<&str>
         Some(word) => Some(word.as_str()),
         None => None,
     }
-}
-
-fn is_full(kind: KindWord) -> bool
-    ensures { result ≡ is_full kind }
-{
-    matches!(kind, KindWord::Full)
-}
-
-// Whether a backup of this kind is built, of a running server or of a stopped one.
-fn is_built(online: bool, kind: KindWord) -> bool
-    ensures { result ≡ is_built online kind }
-{
-    if online {
-        return is_full(kind);
-    }
-    true
 }
 
 // What the command is to do, where that is built.

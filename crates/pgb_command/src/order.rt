@@ -1,11 +1,12 @@
 // What a command is told, with its words read.
 ghost use Rattle.std.specs.Prelude.{◌≡◌, IfOk, IfErr};
 ghost use Rattle.pgb_command.specs.Did.{WordsCause};
-ghost use Rattle.pgb_command.specs.Told.{asked_of, request_of, IsOrder};
+ghost use Rattle.pgb_command.specs.Told.{asked_of, request_of, taking_of, IsOrder};
 
 use crate::fault::Fault;
 use crate::settings::{Request, Settings};
 use pgb_get::{GetOrder, get_order};
+use pgb_model::Kind;
 use pgb_options::OutputWord;
 use pgb_plan::PlanSettings;
 use pgb_push::{PushOrder, push_order};
@@ -15,11 +16,11 @@ use pgb_take::TakeOrder;
 use pgb_take_later::LaterOrder;
 use std::alloc::Global;
 
-/// A full backup of a running server: of which data folder into which repository, whether the server makes its
+/// A backup of a running server: of which data folder into which repository and how, whether the server makes its
 /// checkpoint at once, and how many turns of other processes are waited for at most.
 #[derive(Clone, Copy)]
 pub struct RunningOrder<'a> {
-    pub take: TakeOrder<'a>,
+    pub later: LaterOrder<'a>,
     pub fast: bool,
     pub turns: u64,
 }
@@ -36,6 +37,27 @@ pub enum Order<'a> {
     Info(OutputWord),
     Verify,
     Expire(Rules),
+}
+
+// A backup of this kind of the data folder, with as many workers at most.
+fn later_order<'a>(settings: &Settings<'a>, workers: u32, kind: Kind, delta: bool) -> LaterOrder<'a>
+    ensures folder { result.take.data_folder.now ≡ settings.now.pg1_path.now }
+    ensures how { taking_of result ≡ record { workers = workers; kind = kind; delta = delta } }
+{
+    LaterOrder {
+        take: TakeOrder {
+            data_folder: settings.pg1_path,
+            repository: settings.repo1_path,
+            workers,
+        },
+        kind,
+        settings: PlanSettings {
+            delta,
+            bundle: false,
+            bundle_size: 0,
+            bundle_limit: 0,
+        },
+    }
 }
 
 /// Reads the command's own words. They are refused before anything is opened.
@@ -58,30 +80,15 @@ pub(crate) fn order_of<'a>(alloc: Global, settings: &Settings<'a>) -> Result<Ord
             workers,
             kind,
             delta,
-        } => Ok(Order::Backup(LaterOrder {
-            take: TakeOrder {
-                data_folder: settings.pg1_path,
-                repository: settings.repo1_path,
-                workers,
-            },
-            kind,
-            settings: PlanSettings {
-                delta,
-                bundle: false,
-                bundle_size: 0,
-                bundle_limit: 0,
-            },
-        })),
+        } => Ok(Order::Backup(later_order(settings, workers, kind, delta))),
         Request::BackupRunning {
             workers,
+            kind,
+            delta,
             fast,
             turns,
         } => Ok(Order::BackupRunning(RunningOrder {
-            take: TakeOrder {
-                data_folder: settings.pg1_path,
-                repository: settings.repo1_path,
-                workers,
-            },
+            later: later_order(settings, workers, kind, delta),
             fast,
             turns,
         })),

@@ -227,7 +227,7 @@ impl<
         };
         let socket = socket_path(alloc, &server)?;
         let online = OnlineOrder {
-            take: order.take,
+            later: order.later,
             socket: &socket,
             user: server.user,
             database: server.database,

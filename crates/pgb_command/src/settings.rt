@@ -29,10 +29,12 @@ pub enum Request<'a> {
         kind: Kind,
         delta: bool,
     },
-    /// A full backup of a running server, with as many workers at most; whether it makes its checkpoint at once, and
-    /// how many turns of other processes are waited for at most.
+    /// The same of a running server; whether it makes its checkpoint at once, and how many turns of other processes are
+    /// waited for at most.
     BackupRunning {
         workers: u32,
+        kind: Kind,
+        delta: bool,
         fast: bool,
         turns: u64,
     },

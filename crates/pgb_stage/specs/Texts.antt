@@ -8,7 +8,7 @@ use Rattle.pgb_stanza.specs.declared.fault.Identity.{Identity}
 use Rattle.pgb_stage.specs.declared.object.Object.{Object}
 use Rattle.pgb_stage.specs.declared.object.Object.TheVariants.{Repo, Spool, DataFolder, Server, Others, Clock, Locks, Config, Output}
 use Rattle.pgb_stage.specs.declared.fault.Unbuilt.{Unbuilt}
-use Rattle.pgb_stage.specs.declared.fault.Unbuilt.TheVariants.{Command, Background, Kind, Delta, Bundles, Expiry}
+use Rattle.pgb_stage.specs.declared.fault.Unbuilt.TheVariants.{Command, Background, Delta, Bundles, Expiry}
 use Rattle.pgb_stage.specs.declared.fault.ControlFile.{ControlFile}
 use Rattle.pgb_stage.specs.declared.fault.ControlFile.TheVariants.{Control, Version}
 use Rattle.pgb_stage.specs.declared.fault.StageFault.{StageFault}
@@ -66,7 +66,6 @@ stage_status (InfoDamaged name main copy) = 22
 abbrev pub part_name : Unbuilt → Text
 part_name (Command verb) = verb_word verb
 part_name Background = codes "archive-async"
-part_name Kind = codes "type"
 part_name Delta = codes "delta"
 part_name Bundles = codes "repo1-bundle"
 part_name Expiry = codes "expire-auto"

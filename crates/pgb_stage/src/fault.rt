@@ -10,8 +10,6 @@ pub enum Unbuilt {
     Command(Verb),
     /// archive-push and archive-get in the background
     Background,
-    /// another kind of backup than a full one
-    Kind,
     /// a backup that compares digests
     Delta,
     /// a backup that joins small files

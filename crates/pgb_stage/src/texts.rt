@@ -16,7 +16,6 @@ fn part_name(what: Unbuilt) -> &'static str
     match what {
         Unbuilt::Command(verb) => verb_word(verb),
         Unbuilt::Background => "archive-async",
-        Unbuilt::Kind => "type",
         Unbuilt::Delta => "delta",
         Unbuilt::Bundles => "repo1-bundle",
         Unbuilt::Expiry => "expire-auto",

@@ -51,11 +51,6 @@ unfit_cause told a b e h is (Differing t) =
 unfit_cause told a b e h is (Other together t) =
     subst (HaltCause (FitCause told a b) (λ _. ⊥)) (sym (is ∙ ap of_stanza t.is)) (together, t.apart, refl, (t.current, t.is_current, refl))
 
--- settling keeps the listed backups
-pub same_backups : (a : ArchiveInfo) (b w : BackupInfo) → Settles a b w → w.backups ≡ b.backups
-same_backups a b w (As same is) = ap (λ (v : BackupInfo). v.backups) is
-same_backups a b w (Without pending is) = ap (λ (v : BackupInfo). v.backups) is
-
 -- ---- the listing
 
 abbrev pub is_pid : rust_seen.Seen → Bool

@@ -26,8 +26,7 @@ use Rattle.pgb_stage.specs.Runs.{to_end, turned_back, stopped}
 use Rattle.pgb_take.specs.declared.fault.TakeFault.{TakeFault}
 use Rattle.pgb_take.specs.Drafting.{ListingCause}
 use Rattle.pgb_take.specs.Faults.{take_early, of_plan, IsHaltOf, NoneLeft, NotRead, Vanished, LongManifest, LongList, NoClock, NoDisk, Starved}
-use Rattle.pgb_take.specs.Making.{IsEndWith, IsEndOf, Well, Ill, CannotRead, MakeCause}
-use Rattle.pgb_take.specs.Texts.{label_line}
+use Rattle.pgb_take.specs.Making.{IsEndWith, Well, Ill, CannotRead, MakeCause}
 
 -- ---- a draft
 
@@ -106,9 +105,3 @@ end_early d line made result (Ill lost fault halt is) at = by lost fault halt is
     by lost fault halt NoClock at = absurd (let e : stopped ≡ turned_back = at in cc)
     by lost fault halt NoDisk at = absurd (let e : stopped ≡ turned_back = at in cc)
     by lost fault halt (Starved f) at = absurd (let e : stopped ≡ turned_back = at in cc)
-
-pub finish_ok : (d : Draft) (made : Result (Unit {0}) MakeFault) (result : Result Outcome (Halt TakeFault)) → IsEndOf d made result → reached_by take_early result ≡ to_end → is_ok made ≡ true
-finish_ok d made result end at = end_ok d (label_line d.label) made result end at
-
-pub finish_early : (d : Draft) (made : Result (Unit {0}) MakeFault) (result : Result Outcome (Halt TakeFault)) → IsEndOf d made result → reached_by take_early result ≡ turned_back → IsErrAnd made (λ e. ¬ MayBeListed e)
-finish_early d made result end at = end_early d (label_line d.label) made result end at

@@ -3,5 +3,4 @@ pub mod Texts
 pub mod Beginning
 pub mod Drafting
 pub mod Making
-pub mod Taken
 pub mod Causes

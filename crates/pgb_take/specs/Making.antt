@@ -22,16 +22,11 @@ use Rattle.pgb_stage.specs.declared.outcome.Outcome.TheVariants.{Finished}
 use Rattle.pgb_take.specs.declared.fault.TakeFault.{TakeFault}
 use Rattle.pgb_take.specs.declared.fault.TakeFault.TheVariants.{WorkersLost, ControlMissing, Unread, TooLong}
 use Rattle.pgb_take.specs.Faults.{IsHaltOf}
-use Rattle.pgb_take.specs.Texts.{label_line}
 
 -- the command's end by that of the backup's making: with this line, or with its fault
 pub data IsEndWith (d : Draft) (line : Text) : Result (Unit {0}) MakeFault → Result Outcome (Halt TakeFault) → Type 0 where
   Well : (u : Unit {0}) (lines : String Global) → string_bytes lines ≡ line → IsEndWith d line (Ok u) (Ok (Finished lines))
   Ill : (lost : ℕ) (fault : MakeFault) (halt : Halt TakeFault) → IsHaltOf (stanza_of d) d.label lost fault halt → IsEndWith d line (Err fault) (Err halt)
-
--- with the one that tells its label
-abbrev pub IsEndOf : Draft → Result (Unit {0}) MakeFault → Result Outcome (Halt TakeFault) → Type 0
-IsEndOf d made result = IsEndWith d (label_line d.label) made result
 
 -- The draft's backup was made of what these links read, and the command ended so; or it wasn't.
 pub record Finishes (d : Draft) (line : Text) (links : List LinkState) (old new : View) (result : Result Outcome (Halt TakeFault)) : Type 0 where

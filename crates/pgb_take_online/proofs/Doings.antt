@@ -1,25 +1,21 @@
 -- What a running server's backup does, as a command of the log.
-use Rattle.std.proofs.Common.{◌≡◌, List, [], Bool, true, false, Option, Some, None, refl, sym, ◌∙◌, ap, subst}
+use Rattle.std.proofs.Common.{◌≡◌, ⊎_elim, inl, inr, List, [], Bool, true, false, Option, Some, None, refl, sym, ◌∙◌, ap, subst}
 use Rattle.std.proofs.lemmas.List.{append-nil}
-use Rattle.std.specs.Prelude.{IfSome, IsErrAnd, Result, Ok, Err}
+use Rattle.std.specs.Prelude.{IfSome, IsSome, IsErrAnd, Result, Ok, Err}
 use Rattle.pgb_outside.specs.Content.{Content}
 use Rattle.pgb_outside.specs.Links.{LinkState}
 use Rattle.pgb_outside.specs.Moments.{View, Rests}
 use Rattle.pgb_outside.specs.Tree.{Nodes}
-use Rattle.pgb_model.specs.declared.clusters.ArchiveInfo as rust_archive_info
-use Rattle.pgb_model.specs.declared.clusters.BackupInfo as rust_backup_info
+use Rattle.pgb_model.specs.declared.labels.Kind.{Kind}
+use Rattle.pgb_model.specs.declared.labels.Kind.TheVariants.{Full, Diff, Incr}
 use Rattle.pgb_model.specs.declared.wal.ArchiveId.{ArchiveId}
 use Rattle.pgb_model.specs.declared.wal.WalPart.{WalPart}
-use Rattle.pgb_model.specs.InfoFiles.{IsBackupText}
-use Rattle.pgb_model.specs.Names.{backup_info}
-use Rattle.pgb_model.specs.Pair.{PairIs}
-use Rattle.pgb_model.specs.Repository.{id_of}
+use Rattle.pgb_model.specs.Repository.{Backup, id_of}
 use Rattle.pgb_model.specs.Steps.{Command, MakeBackup, Turn}
 use Rattle.pgb_model.specs.Text.{Text}
-use Rattle.pgb_model.specs.Values.{BackupInfo, archive_info_of, backup_info_of}
+use Rattle.pgb_model.specs.Values.{BackupInfo, FileEntry}
 use Rattle.pgb_one_text.proofs.Lists.{one_list}
 use Rattle.pgb_one_text.proofs.Manifests.{one_manifest}
-use Rattle.pgb_stanza.specs.Judging.{Settles}
 use Rattle.pgb_backup.specs.declared.draft.Draft.{Draft}
 use Rattle.pgb_backup.specs.declared.fault.MakeFault.{MakeFault}
 use Rattle.pgb_backup.specs.Draft.{stanza_of, IsFree}
@@ -28,6 +24,7 @@ use Rattle.pgb_backup.specs.Online.{Online}
 use Rattle.pgb_backup.specs.Staged.{IsStaged}
 use Rattle.pgb_backup.proofs.Stages.{staged_still}
 use Rattle.pgb_label.specs.declared.keeper.Ended.{Ended}
+use Rattle.pgb_label.proofs.Ways.{Law}
 use Rattle.pgb_stored.specs.Stored.{ChangesArchive}
 use Rattle.pgb_turn.specs.Turns.{Account}
 use Rattle.pgb_await.specs.Stored.{HoldsPart}
@@ -37,29 +34,29 @@ use Rattle.pgb_stage.specs.declared.halt.Halt.TheVariants.{Refused, Failed, NoMe
 use Rattle.pgb_stage.specs.declared.outcome.Outcome.{Outcome}
 use Rattle.pgb_stage.specs.declared.outcome.Outcome.TheVariants.{Finished, Absent, FindingsFound}
 use Rattle.pgb_stage.specs.declared.plan.Settling.TheVariants.{Whole}
-use Rattle.pgb_stage.specs.Current.{HasValue}
 use Rattle.pgb_stage.specs.Reached.{reached_by, back_if, fails_early}
 use Rattle.pgb_stage.specs.Runs.{Reached, to_end, turned_back, stopped, Does}
 use Rattle.pgb_stage.proofs.Doing.{rests_does}
-use Rattle.pgb_prepare.specs.Readies.{IsArchiveOf, IsBackupOf}
-use Rattle.pgb_logged.specs.Backups.{IsReadBeside, IsOnlineBackup, Waits, HasPart}
-use Rattle.pgb_logged.proofs.Begun.{BeginsFull}
-use Rattle.pgb_logged.proofs.Reading.{no_files, no_files_beside}
-use Rattle.pgb_logged.proofs.Online.{does_left, does_waited, does_online}
+use Rattle.pgb_logged.specs.Backups.{IsOfLink, IsLeftOf, IsReadOrLeftBeside, IsOnlineBackup, IsAnyOnlineBackup, Waits, HasPart}
+use Rattle.pgb_logged.proofs.Based.{BasedOn}
+use Rattle.pgb_logged.proofs.Begun.{BeginsBackup}
+use Rattle.pgb_logged.proofs.Reading.{no_files, no_files_beside, no_files_left_beside, read_beside}
+use Rattle.pgb_logged.proofs.Running.{left_does, waited_does, done_by}
 use Rattle.pgb_take.specs.declared.fault.TakeFault.{TakeFault}
 use Rattle.pgb_take.specs.Faults.{take_early}
-use Rattle.pgb_take.specs.Making.{IsEndOf}
-use Rattle.pgb_take.proofs.Links.{Comes, where_back}
-use Rattle.pgb_take.proofs.Makings.{finish_ok, finish_early}
+use Rattle.pgb_take.specs.Making.{IsEndWith}
+use Rattle.pgb_take.proofs.Links.{Comes, link_by_used}
+use Rattle.pgb_take.proofs.Makings.{end_ok, end_early}
 use Rattle.pgb_stage.proofs.After.{does_after}
-use Rattle.pgb_worker_reply.specs.Reads.{IsPayload, file_of}
+use Rattle.pgb_take_later.specs.declared.order.LaterOrder.{LaterOrder}
+use Rattle.pgb_take_later.specs.Making.{BeginsFrom}
 use Rattle.pgb_take_online.specs.declared.fault.OnlineTakeFault.{OnlineTakeFault}
-use Rattle.pgb_take_online.specs.Doing.{Heard, TakesTurns, DoesOnline}
-use Rattle.pgb_take_online.specs.Drafting.{IsDraftFrom}
+use Rattle.pgb_take_online.specs.Doing.{Heard, TakesTurns, IsOnlineBy, DoesOnline}
 use Rattle.pgb_take_online.specs.Faults.{online_early}
 use Rattle.pgb_take_online.specs.Finishing.{of_end}
 use Rattle.pgb_take_online.specs.Gathering.{GivesUp, Untouched, Begun}
-use Rattle.pgb_take_online.specs.Told.{TellsOnline, IsLabelTold}
+use Rattle.pgb_take_online.specs.Told.{TellsOnline}
+use Rattle.pgb_take_online.proofs.Bases.{begins_of, based_behind}
 
 -- ---- how far it came
 
@@ -93,71 +90,62 @@ with_account (Some k) P Q p to = to k p
 
 -- ---- what links read that were told their folders
 
-module _ (used now : List LinkState) (comes : Comes used now) where
-  pub beside_by_used : (label : Option Text) (b : _) → IsReadBeside now label b → IsReadBeside used label b
+module _ (used now : List LinkState) (comes : Comes used now) (stanza : Text) (old : Option Content) where
+  pub beside_by_used : (label : Option Text) (b : Backup) → IsReadOrLeftBeside now label stanza old b → IsReadOrLeftBeside used label stanza old b
   beside_by_used label b h = record {
-    read = λ path x has off some.
-        let r = h.read path x has off some in
-        let u = comes.comes r.0 r.1 r.3 in
-        (u.0, u.1, r.2, u.2, r.4, r.5, where_back u.1.told r.1.told (λ tree repo. IsPayload r.2 (file_of r.2 tree repo) x.bytes) u.3 r.6);
+    read = λ path x has off some. ⊎_elim
+        (λ (read : IsOfLink now path x.bytes). inl (link_by_used used now comes path x.bytes read))
+        (λ (was : IsLeftOf stanza old b path x). inr was)
+        (h.read path x has off some);
     label = h.label;
   }
 
-  pub online_by_used : (turns : List Turn) (label : Option Text) (command : Command) → IsOnlineBackup now turns label command → IsOnlineBackup used turns label command
-  online_by_used turns label command h = (h.0, h.1, beside_by_used label h.0 h.2)
+  any_by_used : (turns : List Turn) (label : Option Text) (command : Command) → IsAnyOnlineBackup now turns label stanza old command → IsAnyOnlineBackup used turns label stanza old command
+  any_by_used turns label command h = (h.0, h.1, beside_by_used label h.0 h.2)
 
--- ---- what it begins from
+  full_by_used : (turns : List Turn) (label : Option Text) (command : Command) → IsOnlineBackup now turns label command → IsOnlineBackup used turns label command
+  full_by_used turns label command h = (h.0, h.1, record { read = λ path x has off some. link_by_used used now comes path x.bytes (h.2.read path x has off some); label = h.2.label })
 
-pub begins_running : (stanza : Text) (archive : rust_archive_info.ArchiveInfo) (backup : rust_backup_info.BackupInfo) (old mid : Option Content) → mid ≡ old → IsArchiveOf stanza old archive → IsBackupOf stanza old backup
-    → (nodes : Option Nodes) (list : BackupInfo) (d : Draft) → IsDraftFrom stanza nodes list d → Settles (archive_info_of archive) (backup_info_of backup) list → BeginsFull d mid
-begins_running stanza archive backup old mid same is_archive is_backup nodes list d from settles = record {
-  is_draft = from.is_draft;
-  no_old = from.full.old;
-  no_prior = from.full.prior;
-  archive = archive_info_of archive;
-  backup = backup_info_of backup;
-  archive_read = subst (λ (s : Text). IfSome mid (λ f. HasValue s f (archive_info_of archive))) (sym from.full.stanza_is)
-      (subst (λ (o : Option Content). IfSome o (λ f. HasValue stanza f (archive_info_of archive))) (sym same) is_archive.0);
-  backup_read = subst (λ (s : Text). IfSome mid (λ f. PairIs IsBackupText f (backup_info s) (backup_info_of backup))) (sym from.full.stanza_is)
-      (subst (λ (o : Option Content). IfSome o (λ f. PairIs IsBackupText f (backup_info stanza) (backup_info_of backup))) (sym same) is_backup.0);
-  settles = subst (λ (w : BackupInfo). Settles (archive_info_of archive) (backup_info_of backup) w) (sym from.full.list_is) settles;
-}
+  pub online_by_used : (kind : Kind) (turns : List Turn) (label : Option Text) (command : Command) → IsOnlineBy kind now turns label stanza old command → IsOnlineBy kind used turns label stanza old command
+  online_by_used Full turns label command h = full_by_used turns label command h
+  online_by_used Diff turns label command h = any_by_used turns label command h
+  online_by_used Incr turns label command h = any_by_used turns label command h
+
+-- ---- one that was never listed
+
+pub none_by : (kind : Kind) (links : List LinkState) (turns : List Turn) (label : Option Text) (stanza : Text) (old : Option Content) → IsOnlineBy kind links turns label stanza old (MakeBackup turns no_files None)
+none_by Full links turns label stanza old = (no_files, refl, no_files_beside links label)
+none_by Diff links turns label stanza old = (no_files, refl, no_files_left_beside links label stanza old)
+none_by Incr links turns label stanza old = (no_files, refl, no_files_left_beside links label stanza old)
 
 -- ---- without turns
 
-module _ (stanza : Text) (used : List LinkState) (heard : Heard) (reached : Reached) (old_account account : Option Account) (same : account ≡ old_account) (a d : View) where
-  pub without_turns : (label : Option Text) → IsLabelTold heard.system heard.pending heard.left label → (command : Command) × IsOnlineBackup used [] label command × Does Whole stanza command reached a d → DoesOnline stanza used heard reached old_account account a d
-  without_turns label told x = by_account account _ (λ k at of. (
+module _ (stanza : Text) (kind : Kind) (used : List LinkState) (heard : Heard) (reached : Reached) (old_account account : Option Account) (same : account ≡ old_account) (a d : View) where
+  -- it did no more than a backup without files does
+  pub without_turns : Does Whole stanza (MakeBackup [] no_files None) reached a d → DoesOnline stanza kind used heard reached old_account account a d
+  without_turns does = by_account account _ (λ k at of. (
     [],
     record { before = k.turns; was = sym same ∙ at; is = sym (append-nil k.turns) },
-    (x.0, (label, told, x.1), x.2),
+    (MakeBackup [] no_files None, (None, tt, none_by kind used [] None stanza a.now), does),
   ))
 
   -- nothing was written
-  pub rests_online : ¬ (reached ≡ to_end) → Rests a d → d.now ≡ a.now → DoesOnline stanza used heard reached old_account account a d
-  rests_online not rests now = without_turns None tt (MakeBackup [] no_files None, (no_files, refl, no_files_beside used None), rests_does Whole stanza (MakeBackup [] no_files None) reached a d not rests now)
+  pub rests_online : ¬ (reached ≡ to_end) → Rests a d → d.now ≡ a.now → DoesOnline stanza kind used heard reached old_account account a d
+  rests_online not rests now = without_turns (rests_does Whole stanza (MakeBackup [] no_files None) reached a d not rests now)
 
 -- ---- a draft came to the repository
 
-module _ (stanza : Text) (used : List LinkState) (heard : Heard) (a b : View) (rests : Rests a b) (now_same : b.now ≡ a.now) where
-  module _ (d : Draft) (stanza_is : stanza_of d ≡ stanza) (begins : BeginsFull d b.now) (reached : Reached) (not : ¬ (reached ≡ to_end)) where
-    -- it isn't listed
-    pub left_online : (old_account account : Option Account) → account ≡ old_account → (c : View) → LeavesList d b c → DoesOnline stanza used heard reached old_account account a c
-    left_online old_account account same c leaves =
-        let x = does_left one_list one_manifest d b c begins leaves used None reached not in
-        without_turns stanza used heard reached old_account account same a c None tt
-        (x.0, x.1, does_after stanza x.0 reached a b c rests now_same (subst (λ (s : Text). Does Whole s x.0 reached b c) stanza_is x.2))
+module _ (stanza : Text) (kind : Kind) (used : List LinkState) (heard : Heard) (a b : View) (rests : Rests a b) (now_same : b.now ≡ a.now) (reached : Reached) (not : ¬ (reached ≡ to_end)) (old_account account : Option Account) (same : account ≡ old_account) (c : View) where
+  -- it isn't listed
+  pub left_online : (d : Draft) → stanza_of d ≡ stanza → BeginsBackup d b → LeavesList d b c → DoesOnline stanza kind used heard reached old_account account a c
+  left_online d stanza_is begins leaves = without_turns stanza kind used heard reached old_account account same a c
+      (does_after stanza (MakeBackup [] no_files None) reached a b c rests now_same
+      (subst (λ (s : Text). Does Whole s (MakeBackup [] no_files None) reached b c) stanza_is (left_does one_list one_manifest d b c begins leaves used reached not)))
 
-  module _ (archive : rust_archive_info.ArchiveInfo) (backup : rust_backup_info.BackupInfo) (is_archive : IsArchiveOf stanza a.now archive) (is_backup : IsBackupOf stanza a.now backup) (nodes : Option Nodes) (list : BackupInfo) (settles : Settles (archive_info_of archive) (backup_info_of backup) list)
-      (reached : Reached) (not : ¬ (reached ≡ to_end)) (old_account account : Option Account) (same : account ≡ old_account) (c : View) where
-    pub gave_up_online : GivesUp stanza nodes list b c → DoesOnline stanza used heard reached old_account account a c
-    gave_up_online (Untouched r now) = without_turns stanza used heard reached old_account account same a c None tt (
-      MakeBackup [] no_files None,
-      (no_files, refl, no_files_beside used None),
-      does_after stanza (MakeBackup [] no_files None) reached a b c rests now_same (rests_does Whole stanza (MakeBackup [] no_files None) reached b c not r now),
-    )
-    gave_up_online (Begun d from leaves) = left_online d from.full.stanza_is
-        (begins_running stanza archive backup a.now b.now now_same is_archive is_backup nodes list d from settles) reached not old_account account same c leaves
+  pub gave_up_online : (o : LaterOrder) (nodes : Option Nodes) (list : BackupInfo) (files : List FileEntry) → Law b → BeginsFrom stanza o b.now list files → GivesUp stanza o nodes list files b c → DoesOnline stanza kind used heard reached old_account account a c
+  gave_up_online o nodes list files law begins (Untouched r now) = without_turns stanza kind used heard reached old_account account same a c
+      (does_after stanza (MakeBackup [] no_files None) reached a b c rests now_same (rests_does Whole stanza (MakeBackup [] no_files None) reached b c not r now))
+  gave_up_online o nodes list files law begins (Begun d from leaves) = left_online d from.later.stanza_is (begins_of stanza o nodes list files d from b law begins) leaves
 
 -- ---- with turns
 
@@ -189,36 +177,57 @@ part_of stanza d stanza_is id id_is w p part_is now holds =
     by None h = tt
     by (Some f) h = λ s has segment within. (h segment within).archived s has
 
-module _ (stanza : Text) (used now : List LinkState) (comes : Comes used now) (heard : Heard) (a b c w : View) (rests : Rests a b) (now_same : b.now ≡ a.now) (d : Draft) (stanza_is : stanza_of d ≡ stanza) (begins : BeginsFull d b.now) (leaves : LeavesList d b c)
+-- what it is based on is there behind the wait
+pub based_there : (stanza : Text) (d : Draft) → stanza_of d ≡ stanza → (b c w spool spool2 : View) → BeginsBackup d b → LeavesList d b c → (IsSome c.now → IsSome b.now) → Law w → (whole : Bool) (old : Option Account) (k : Account) → k.stanza ≡ stanza
+    → Went whole old k c w spool spool2 → BasedOn d w d.prior
+based_there stanza d stanza_is b c w spool spool2 begins leaves before law whole old k of went =
+    based_behind d begins.is_draft b c w begins.based leaves (subst (λ (s : Text). ChangesArchive s c w) (of ∙ sym stanza_is) went.repo_only) before law
+
+module _ (stanza : Text) (kind : Kind) (used now : List LinkState) (comes : Comes used now) (heard : Heard) (a b c w : View) (rests : Rests a b) (now_same : b.now ≡ a.now) (d : Draft) (stanza_is : stanza_of d ≡ stanza) (begins : BeginsBackup d b) (leaves : LeavesList d b c)
     (old_account account : Option Account) (spool spool2 : View) where
   -- it waited in vain
-  pub waited_online : (whole : Bool) (reached : Reached) → ¬ (reached ≡ to_end) → IfSome account (λ k. Went whole old_account k c w spool spool2) → DoesOnline stanza used heard reached old_account account a w
+  pub waited_online : (whole : Bool) (reached : Reached) → ¬ (reached ≡ to_end) → IfSome account (λ k. Went whole old_account k c w spool spool2) → DoesOnline stanza kind used heard reached old_account account a w
   waited_online whole reached not went = with_account account (λ k. Went whole old_account k c w spool spool2) _ went (λ k x of.
       let waits = waits_of whole old_account k (stanza_of d) (of ∙ sym stanza_is) c w spool spool2 x in
-      let y = does_waited one_list one_manifest d b c begins leaves used (turns_of x.turned) (all_ended (turns_of x.turned)) w waits None reached not in (
+      let does = waited_does one_list one_manifest d b c begins leaves used (turns_of x.turned) (all_ended (turns_of x.turned)) w waits reached not in (
         x.turned,
         turns_taken whole old_account k c w spool spool2 x,
-        (y.0, (None, tt, y.1), does_after stanza y.0 reached a b w rests now_same (subst (λ (s : Text). Does Whole s y.0 reached b w) stanza_is y.2)),
+        (
+          MakeBackup (turns_of x.turned) no_files None,
+          (None, tt, none_by kind used (turns_of x.turned) None stanza a.now),
+          does_after stanza (MakeBackup (turns_of x.turned) no_files None) reached a b w rests now_same (subst (λ (s : Text). Does Whole s (MakeBackup (turns_of x.turned) no_files None) reached b w) stanza_is does),
+        ),
       ))
 
+  read_there : (links : List LinkState) (label : Option Text) (x : Backup) → IsReadOrLeftBeside links label (stanza_of d) b.now x → IsReadOrLeftBeside links label stanza a.now x
+  read_there links label x read = subst (λ (n : Option Content). IsReadOrLeftBeside links label stanza n x) now_same (subst (λ (s : Text). IsReadOrLeftBeside links label s b.now x) stanza_is read)
+
+  -- as one of its kind: a full one has no file of another
+  as_kind : (links : List LinkState) (turns : List Turn) (label : Option Text) (x : Backup) → IsReadOrLeftBeside links label (stanza_of d) b.now x → (k : Kind) → (k ≡ Full → x.entry.prior ≡ None) → IsOnlineBy k links turns label stanza a.now (MakeBackup turns x None)
+  as_kind links turns label x read Full none = (x, refl, read_beside links label (stanza_of d) b.now x read (none refl))
+  as_kind links turns label x read Diff none = (x, refl, read_there links label x read)
+  as_kind links turns label x read Incr none = (x, refl, read_there links label x read)
+
   -- it was published, or wasn't
-  module _ (went : IfSome account (λ k. Went true old_account k c w spool spool2)) (o : Online) (told : TellsOnline heard.system heard.pending heard.left o) (free : IsFree d) (arrived : IfSome w.now (HasPart (stanza_of d) (id_of d.cluster) o.part)) (e : View)
-      (made : Result (Unit {0}) MakeFault) (ended : Result Outcome (Halt TakeFault)) (end : IsEndOf d made ended) (result : Result Outcome (Halt OnlineTakeFault)) (is : result ≡ of_end ended)
+  module _ (based : kind ≡ Full → d.prior ≡ None) (before : IsSome c.now → IsSome b.now) (law : Law w) (went : IfSome account (λ k. Went true old_account k c w spool spool2)) (o : Online) (told : TellsOnline heard.system heard.pending heard.left o) (free : IsFree d) (arrived : IfSome w.now (HasPart (stanza_of d) (id_of d.cluster) o.part)) (e : View)
+      (lines : Text) (made : Result (Unit {0}) MakeFault) (ended : Result Outcome (Halt TakeFault)) (end : IsEndWith d lines made ended) (result : Result Outcome (Halt OnlineTakeFault)) (is : result ≡ of_end ended)
       (outcome : (k : Account) → k.stanza ≡ stanza → Went true old_account k c w spool spool2 → OutcomeOf made d (Some o) now w e) where
     reached_is : reached_by online_early result ≡ reached_by take_early ended
     reached_is = ap (reached_by online_early) is ∙ reached_same ended
 
-    pub published_online : DoesOnline stanza used heard (reached_by online_early result) old_account account a e
+    pub published_online : DoesOnline stanza kind used heard (reached_by online_early result) old_account account a e
     published_online = with_account account (λ k. Went true old_account k c w spool spool2) _ went (λ k x of.
         let waits = waits_of true old_account k (stanza_of d) (of ∙ sym stanza_is) c w spool spool2 x in
         let r = reached_by online_early result in
-        let y = does_online one_list one_manifest d b c begins leaves now (turns_of x.turned) (all_ended (turns_of x.turned)) w waits (x.ended refl) o free e arrived made r (outcome k of x)
-        (λ at. finish_ok d made ended end (sym reached_is ∙ at)) (λ at. finish_early d made ended end (sym reached_is ∙ at)) in (
+        let y = done_by one_list one_manifest d b c begins leaves now (turns_of x.turned) (all_ended (turns_of x.turned)) w waits (x.ended refl) o free e arrived (based_there stanza d stanza_is b c w spool spool2 begins leaves before law true old_account k of x) made r (outcome k of x)
+        (λ at. end_ok d lines made ended end (sym reached_is ∙ at)) (λ at. end_early d lines made ended end (sym reached_is ∙ at)) in
+        let none = λ (full : kind ≡ Full). ⊎_elim (λ (at : y.0.entry.prior ≡ None). at) (λ (at : y.0.entry.prior ≡ d.prior). at ∙ based full) y.1.prior in
+        let it = as_kind now (turns_of x.turned) (Some o.label_file) y.0 y.1.read kind none in (
           x.turned,
           turns_taken true old_account k c w spool spool2 x,
           (
-            y.0,
-            (Some o.label_file, (o, told, refl), online_by_used used now comes (turns_of x.turned) (Some o.label_file) y.0 y.1),
-            does_after stanza y.0 r a b e rests now_same (subst (λ (s : Text). Does Whole s y.0 r b e) stanza_is y.2),
+            MakeBackup (turns_of x.turned) y.0 None,
+            (Some o.label_file, (o, told, refl), online_by_used used now comes stanza a.now kind (turns_of x.turned) (Some o.label_file) (MakeBackup (turns_of x.turned) y.0 None) it),
+            does_after stanza (MakeBackup (turns_of x.turned) y.0 None) r a b e rests now_same (subst (λ (s : Text). Does Whole s (MakeBackup (turns_of x.turned) y.0 None) r b e) stanza_is y.1.does),
           ),
         ))

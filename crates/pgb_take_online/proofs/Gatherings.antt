@@ -7,7 +7,7 @@ use Rattle.pgb_outside.specs.declared.stop.Stop.{Stop}
 use Rattle.pgb_outside.specs.declared.stop.Stop.TheVariants as stops
 use Rattle.pgb_outside.specs.Tree.{Nodes, IsTreeListing}
 use Rattle.pgb_model.specs.Text.{Text}
-use Rattle.pgb_model.specs.Values.{BackupInfo}
+use Rattle.pgb_model.specs.Values.{BackupInfo, FileEntry}
 use Rattle.pgb_plan.specs.Filter.{ListedNode}
 use Rattle.pgb_worker_dispatch.specs.declared.fault.Lost.{Lost}
 use Rattle.pgb_backup.specs.declared.draft.Draft.{Draft}
@@ -18,31 +18,50 @@ use Rattle.pgb_stage.specs.declared.object.Object.{Object}
 use Rattle.pgb_stage.specs.declared.object.Object.TheVariants as objects
 use Rattle.pgb_stage.specs.declared.halt.Halt.{Halt}
 use Rattle.pgb_stage.specs.declared.halt.Halt.TheVariants.{Refused, Failed, NoMemory}
-use Rattle.pgb_stage.specs.Halts.{HaltCause, halt_of}
+use Rattle.pgb_stage.specs.Halts.{HaltCause, Never, halt_of}
 use Rattle.pgb_stage.specs.Risen.{none, rose_in}
 use Rattle.pgb_take.specs.declared.fault.TakeFault.{TakeFault}
 use Rattle.pgb_take.specs.Faults.{IsHaltOf, NoneLeft, NotRead, Vanished, LongManifest, LongList, NoClock, NoDisk, Starved}
 use Rattle.pgb_take.specs.Making.{CannotRead}
+use Rattle.pgb_take_later.specs.declared.order.LaterOrder.{LaterOrder}
 use Rattle.pgb_take_online.specs.Drafting.{IsDraftFrom, ListingCause}
 use Rattle.pgb_take_online.specs.Gathering.{GatherCause}
 
--- the repository failed, or the data folder did
-abbrev pub OrTree : Type 0 → Type 0 → Object → Type 0
-OrTree repo tree = rose_in (record none { repo = repo; tree = tree })
+-- ---- the folder isn't listed
 
-module _ (stanza : Text) (nodes : Option Nodes) (list : BackupInfo) (links : List LinkState) (before : List Lost) (repo tree : Type 0) where
-  -- the folder isn't listed
-  pub look_stops : {T : Type 0} (old new : ℕ) (result : Result T Stop) (stop : Stop) (h : Halt TakeFault) → (Rises old new → tree) → result ≡ Err stop → HasCause old new result → h ≡ halt_of objects.DataFolder stop → HaltCause (GatherCause stanza nodes list links before) (OrTree repo tree) h
-  look_stops old new result stops.Failed h rose is cause at = subst (HaltCause (GatherCause stanza nodes list links before) (OrTree repo tree)) (sym at) (rose (cause.failed is))
-  look_stops old new result stops.NoMemory h rose is cause at = subst (HaltCause (GatherCause stanza nodes list links before) (OrTree repo tree)) (sym at) tt
+-- a call of this object failed, or there was no memory for it
+pub stop_halts : {T : Type 0} (failed : Object → Type 0) (object : Object) (old new : ℕ) (result : Result T Stop) (stop : Stop) (h : Halt TakeFault) → result ≡ Err stop → HasCause old new result → (Rises old new → failed object) → h ≡ halt_of object stop → HaltCause (Never {E = TakeFault}) failed h
+stop_halts failed object old new result stops.Failed h is cause rose at = subst (HaltCause (Never {E = TakeFault}) failed) (sym at) (rose (cause.failed is))
+stop_halts failed object old new result stops.NoMemory h is cause rose at = subst (HaltCause (Never {E = TakeFault}) failed) (sym at) tt
+
+-- the repository failed, the data folder or the clock
+abbrev pub OrTree : Type 0 → Type 0 → Type 0 → Object → Type 0
+OrTree repo tree clock = rose_in (record none { repo = repo; tree = tree; clock = clock })
+
+module _ (stanza : Text) (o : LaterOrder) (nodes : Option Nodes) (list : BackupInfo) (files : List FileEntry) (links : List LinkState) (before : List Lost) (repo tree clock : Type 0) where
+  or_tree : (object : Object) → rose_in (record none { tree = tree; clock = clock }) object → OrTree repo tree clock object
+  or_tree objects.Repo h = absurd h
+  or_tree objects.Spool h = absurd h
+  or_tree objects.DataFolder h = h
+  or_tree objects.Server h = absurd h
+  or_tree objects.Others h = absurd h
+  or_tree objects.Clock h = h
+  or_tree objects.Locks h = absurd h
+  or_tree objects.Config h = absurd h
+  or_tree objects.Output h = absurd h
+
+  pub list_stops : (h : Halt TakeFault) → HaltCause (Never {E = TakeFault}) (rose_in (record none { tree = tree; clock = clock })) h → HaltCause (GatherCause stanza o nodes list files links before) (OrTree repo tree clock) h
+  list_stops (Refused e) h = absurd h
+  list_stops (Failed object) h = or_tree object h
+  list_stops NoMemory h = tt
 
   -- no draft is made of what it shows
-  pub draft_stops : (seen : List ListedNode) → IfSome nodes (λ f. IsTreeListing f seen) → (h : Halt TakeFault) → HaltCause (ListingCause seen) (λ _. ⊥) h → HaltCause (GatherCause stanza nodes list links before) (OrTree repo tree) h
+  pub draft_stops : (seen : List ListedNode) → IfSome nodes (λ f. IsTreeListing f seen) → (h : Halt TakeFault) → HaltCause (ListingCause seen) (λ _. ⊥) h → HaltCause (GatherCause stanza o nodes list files links before) (OrTree repo tree clock) h
   draft_stops seen listing (Refused e) h = inl (seen, listing, h)
-  draft_stops seen listing (Failed o) h = absurd h
+  draft_stops seen listing (Failed object) h = absurd h
   draft_stops seen listing NoMemory h = tt
 
-  module _ (d : Draft) (from : IsDraftFrom stanza nodes list d) (left : List LinkState) (after : List Lost) (lost : ℕ) (count : length after < 2 ^ 32 → lost ≡ length after) where
+  module _ (d : Draft) (from : IsDraftFrom stanza o nodes list files d) (left : List LinkState) (after : List Lost) (lost : ℕ) (count : length after < 2 ^ 32 → lost ≡ length after) where
     unread : (path : String Global) → IsUnread (jobs_in d) links left (string_bytes path) → CannotRead d links path
     unread path h = record {
       link = h.link;
@@ -58,7 +77,7 @@ module _ (stanza : Text) (nodes : Option Nodes) (list : BackupInfo) (links : Lis
 
     -- its jobs aren't done
     pub fetch_stops : (old new : ℕ) → (Rises old new → repo) → (fault : MakeFault) (h : Halt TakeFault) → IsHaltOf (stanza_of d) d.label lost fault h → StoreFails fault (jobs_in d) links left before after old new
-        → HaltCause (GatherCause stanza nodes list links before) (OrTree repo tree) h
+        → HaltCause (GatherCause stanza o nodes list files links before) (OrTree repo tree clock) h
     fetch_stops old new rose fault h NoneLeft k = inr (d, from, record { after = after; all = k; count = count })
     fetch_stops old new rose fault h (NotRead path) k = inr (d, from, unread path k)
     fetch_stops old new rose fault h (Vanished path text same) k = absurd k

@@ -5,15 +5,15 @@ use Rattle.std.proofs.lemmas.List.{append-nil, append_cancel_left}
 use Rattle.pgb_outside.specs.Content.{Content}
 use Rattle.pgb_outside.specs.Links.{LinkState}
 use Rattle.pgb_outside.specs.Moments.{View, Rests}
+use Rattle.pgb_model.specs.declared.labels.Kind.{Kind}
+use Rattle.pgb_model.specs.declared.labels.Kind.TheVariants.{Full, Diff, Incr}
 use Rattle.pgb_model.specs.declared.wal.ArchiveName.{ArchiveName}
 use Rattle.pgb_model.specs.Text.{Text}
-use Rattle.pgb_model.specs.Repository.{Repository, Backup, Stanza, IsSound}
-use Rattle.pgb_model.specs.Stands.{Stands}
+use Rattle.pgb_model.specs.Repository.{Repository, Backup}
 use Rattle.pgb_model.specs.Steps.{Command, Turn, ArchivePushAsync, MakeBackup, after, all_of, steps_of}
-use Rattle.pgb_model.specs.Log.{Done, Reaches, IsDrained, Keeps, KeepsRepository, KeepsSpool}
+use Rattle.pgb_model.specs.Log.{Done, IsDrained, KeepsRepository, KeepsSpool}
 use Rattle.pgb_model.specs.Steady.{IsBegun, IsSteady}
 use Rattle.pgb_model.proofs.Steady.{steady_rests}
-use Rattle.pgb_disk.specs.Store.{ChangesOnly}
 use Rattle.pgb_story.specs.Beside.{StaysBeside}
 use Rattle.pgb_stored.specs.Stored.{ChangesArchive}
 use Rattle.pgb_turn.specs.Turns.{Turned, Account}
@@ -21,7 +21,7 @@ use Rattle.pgb_await.specs.Went.{Went, MarksByTurns, all_ended, turns_of}
 use Rattle.pgb_await.proofs.Backups.{leads_made, leads_waited}
 use Rattle.pgb_await.proofs.Marks.{none_more}
 use Rattle.pgb_stage.specs.declared.plan.Settling.TheVariants.{Whole}
-use Rattle.pgb_stage.specs.Runs.{Reached, to_end, turned_back, stopped, OnAll, On, one, Past, SpoolGoes, Does, Runs}
+use Rattle.pgb_stage.specs.Runs.{Reached, to_end, turned_back, stopped, OnAll, SpoolGoes, Does, Runs}
 use Rattle.pgb_archive.specs.Still.{still_self}
 use Rattle.pgb_stage.proofs.Besides.{archive_beside, still_beside}
 use Rattle.pgb_stage.proofs.Lifted.{none_as, spool_stays}
@@ -30,10 +30,10 @@ use Rattle.pgb_one_text.proofs.Manifests.{one_manifest}
 use Rattle.pgb_backup.specs.declared.draft.Draft.{Draft}
 use Rattle.pgb_backup.specs.Draft.{stanza_of}
 use Rattle.pgb_backup.specs.Made.{LeavesList}
-use Rattle.pgb_logged.proofs.Begun.{BeginsFull, BeginsBackup, full_begins, no_vacant}
+use Rattle.pgb_logged.proofs.Begun.{BeginsBackup, no_vacant}
 use Rattle.pgb_logged.proofs.Behind.{moves_steady}
 use Rattle.pgb_logged.proofs.Running.{done_part, left_moves}
-use Rattle.pgb_take_online.specs.Doing.{DoesOnline, Heard, IsOnlineOf, MarksOnline, RunsOnline, TakesTurns}
+use Rattle.pgb_take_online.specs.Doing.{DoesOnline, Heard, IsOnlineBy, IsOnlineOf, MarksOnline, RunsOnline, TakesTurns}
 use Rattle.pgb_take_online.proofs.Doings.{by_account, with_account, turns_taken}
 
 -- ---- of one command
@@ -86,17 +86,14 @@ module _ (stanza : Text) (ts : List Turn) (b : Backup) (repo spool new_spool : V
 
 -- ---- of the wait
 
-module _ (a b c w : View) (rests : Rests a b) (now_same : b.now ≡ a.now) (d : Draft) (begins : BeginsFull d b.now) (leaves : LeavesList d b c) where
+module _ (a b c w : View) (rests : Rests a b) (now_same : b.now ≡ a.now) (d : Draft) (begins : BeginsBackup d b) (leaves : LeavesList d b c) where
   told_b : IsSome a.now → IsSome b.now
   told_b some = subst (λ (o : Option Content). IsSome o) (sym now_same) some
 
-  from : BeginsBackup d b
-  from = full_begins d b begins
-
   -- the disk is still steady at its repository as the wait begins
   steady_there : (r : Repository) → IsSome a.now → IsSteady (stanza_of d) r a → IsSteady (stanza_of d) r c
-  steady_there None some steady = absurd (no_vacant one_list d b from (told_b some) (steady_rests (stanza_of d) None a b rests now_same steady))
-  steady_there (Some s) some steady = moves_steady (stanza_of d) (Some s) b c (left_moves one_list one_manifest d b c from leaves s (told_b some) (steady_rests (stanza_of d) (Some s) a b rests now_same steady))
+  steady_there None some steady = absurd (no_vacant one_list d b begins (told_b some) (steady_rests (stanza_of d) None a b rests now_same steady))
+  steady_there (Some s) some steady = moves_steady (stanza_of d) (Some s) b c (left_moves one_list one_manifest d b c begins leaves s (told_b some) (steady_rests (stanza_of d) (Some s) a b rests now_same steady))
 
   keeps_there : (q : Repository) (log : List Done) → IsSome a.now → IsBegun (stanza_of d) q log a → KeepsRepository (stanza_of d) q log c
   keeps_there q log some begun = let steady = steady_there begun.repository some begun.steady in record {
@@ -170,7 +167,7 @@ one_turns k old xs ys x y =
     append_cancel_left y.before ys xs (sym y.is ∙ x.is ∙ ap (λ (l : List Turned). l ++ xs) before)
 
 -- behind these turns
-module _ (stanza : Text) (used : List LinkState) (heard : Heard) (reached : Reached) (repo spool new_repo new_spool : View) (ts : List Turned) (ended : Bool) (well : OnAll reached (ended ≡ true)) (goes : SpoolGoes Whole stanza (ArchivePushAsync (turns_of ts)) ended repo spool new_spool) where
+module _ (stanza : Text) (kind : Kind) (used : List LinkState) (heard : Heard) (reached : Reached) (repo spool new_repo new_spool : View) (ts : List Turned) (ended : Bool) (well : OnAll reached (ended ≡ true)) (goes : SpoolGoes Whole stanza (ArchivePushAsync (turns_of ts)) ended repo spool new_spool) where
   both : (b : Backup) → Does Whole stanza (MakeBackup (turns_of ts) b None) reached repo new_repo → Runs Whole stanza (MakeBackup (turns_of ts) b None) reached repo spool new_repo new_spool
   both b h = record {
     part = record { does = h.part; marks = marks_part stanza (turns_of ts) b repo spool new_spool ended goes };
@@ -178,18 +175,25 @@ module _ (stanza : Text) (used : List LinkState) (heard : Heard) (reached : Reac
     turned = none_as reached _ _ (λ p. record { does = p; marks = turns_part stanza (turns_of ts) b repo spool new_spool ended goes }) h.turned;
   }
 
-  made : (command : Command) → IsOnlineOf used heard ts command → Does Whole stanza command reached repo new_repo → Runs Whole stanza command reached repo spool new_repo new_spool
-  made command (label, told, (b, is, read)) h = subst (λ (x : Command). Runs Whole stanza x reached repo spool new_repo new_spool) (sym is) (both b (subst (λ (x : Command). Does Whole stanza x reached repo new_repo) is h))
+  a_backup : (k : Kind) (label : Option Text) (command : Command) → IsOnlineBy k used (turns_of ts) label stanza repo.now command → (b : Backup) × (command ≡ MakeBackup (turns_of ts) b None)
+  a_backup Full label command h = (h.0, h.1)
+  a_backup Diff label command h = (h.0, h.1)
+  a_backup Incr label command h = (h.0, h.1)
+
+  made : (command : Command) → IsOnlineOf kind used heard stanza repo.now ts command → Does Whole stanza command reached repo new_repo → Runs Whole stanza command reached repo spool new_repo new_spool
+  made command (label, told, online) h =
+      let x = a_backup kind label command online in
+      subst (λ (x : Command). Runs Whole stanza x reached repo spool new_repo new_spool) (sym x.1) (both x.0 (subst (λ (x : Command). Does Whole stanza x reached repo new_repo) x.1 h))
 
 -- the command does both
-pub runs_online : (stanza : Text) (used : List LinkState) (heard : Heard) (reached : Reached) (old account : Option Account) (repo spool new_repo new_spool : View) → DoesOnline stanza used heard reached old account repo new_repo → MarksOnline stanza reached old account repo spool new_spool
-    → RunsOnline stanza used heard reached old account repo spool new_repo new_spool
-runs_online stanza used heard reached old None repo spool new_repo new_spool does marks = tt
-runs_online stanza used heard reached old (Some k) repo spool new_repo new_spool does marks = λ of. by (does of) (marks of)
+pub runs_online : (stanza : Text) (kind : Kind) (used : List LinkState) (heard : Heard) (reached : Reached) (old account : Option Account) (repo spool new_repo new_spool : View) → DoesOnline stanza kind used heard reached old account repo new_repo → MarksOnline stanza reached old account repo spool new_spool
+    → RunsOnline stanza kind used heard reached old account repo spool new_repo new_spool
+runs_online stanza kind used heard reached old None repo spool new_repo new_spool does marks = tt
+runs_online stanza kind used heard reached old (Some k) repo spool new_repo new_spool does marks = λ of. by (does of) (marks of)
   where
-    by : (turned : List Turned) × TakesTurns turned old k × ((command : Command) × IsOnlineOf used heard turned command × Does Whole stanza command reached repo new_repo)
+    by : (turned : List Turned) × TakesTurns turned old k × ((command : Command) × IsOnlineOf kind used heard stanza repo.now turned command × Does Whole stanza command reached repo new_repo)
         → (turned : List Turned) × TakesTurns turned old k × (ended : Bool) × OnAll reached (ended ≡ true) × SpoolGoes Whole stanza (ArchivePushAsync (turns_of turned)) ended repo spool new_spool
-        → (turned : List Turned) × TakesTurns turned old k × ((command : Command) × IsOnlineOf used heard turned command × Runs Whole stanza command reached repo spool new_repo new_spool)
+        → (turned : List Turned) × TakesTurns turned old k × ((command : Command) × IsOnlineOf kind used heard stanza repo.now turned command × Runs Whole stanza command reached repo spool new_repo new_spool)
     by (ts, taken, (command, is, h)) (us, also, ended, well, goes) =
         let same = one_turns k old ts us taken also in (
           ts,
@@ -197,7 +201,7 @@ runs_online stanza used heard reached old (Some k) repo spool new_repo new_spool
           (
             command,
             is,
-            made stanza used heard reached repo spool new_repo new_spool ts ended well
+            made stanza kind used heard reached repo spool new_repo new_spool ts ended well
                 (subst (λ (xs : List Turned). SpoolGoes Whole stanza (ArchivePushAsync (turns_of xs)) ended repo spool new_spool) same goes) command is h,
           ),
         )

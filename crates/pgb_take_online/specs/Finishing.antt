@@ -24,7 +24,8 @@ use Rattle.pgb_stage.specs.declared.halt.Halt.{Halt}
 use Rattle.pgb_stage.specs.declared.outcome.Outcome.{Outcome}
 use Rattle.pgb_take.specs.declared.fault.TakeFault.{TakeFault}
 use Rattle.pgb_take.specs.declared.fault.TakeFault.TheVariants.{ControlMissing, TooLong}
-use Rattle.pgb_take.specs.Making.{IsEndOf}
+use Rattle.pgb_take.specs.Making.{IsEndWith}
+use Rattle.pgb_take_later.specs.declared.fault.LaterFault.TheVariants as laters
 use Rattle.pgb_take_online.specs.declared.fault.OnlineTakeFault.{OnlineTakeFault}
 use Rattle.pgb_take_online.specs.declared.fault.OnlineTakeFault.TheVariants.{Take, NotArrived, Ambiguous}
 use Rattle.pgb_take_online.specs.Faults.{of_take}
@@ -34,12 +35,12 @@ abbrev pub of_end : Result Outcome (Halt TakeFault) → Result Outcome (Halt Onl
 of_end (Ok outcome) = Ok outcome
 of_end (Err halt) = Err (of_take halt)
 
--- The backup was published, of what lies in its label's folder, and the command ended so; or it wasn't.
-pub record Publishes (d : Draft) (o : Option Online) (ends : List (List Ended)) (old new : View) (result : Result Outcome (Halt OnlineTakeFault)) : Type 0 where
+-- The backup was published, of what lies in its label's folder, and the command ended with these lines; or it wasn't.
+pub record Publishes (lines : Text) (d : Draft) (o : Option Online) (ends : List (List Ended)) (old new : View) (result : Result Outcome (Halt OnlineTakeFault)) : Type 0 where
   pub made : Result (Unit {0}) MakeFault
   pub outcome : (links : List LinkState) → IsStaged d o links ends old → OutcomeOf made d o links old new
   pub ended : Result Outcome (Halt TakeFault)
-  pub end : IsEndOf d made ended
+  pub end : IsEndWith d lines made ended
   pub is : result ≡ of_end ended
 
 -- ---- why it isn't published
@@ -57,7 +58,7 @@ PublishCause d o ends (TooLong name limit) = IsPastWith d o ends name limit
 PublishCause d o ends other = ⊥
 
 abbrev pub OfTake : (TakeFault → Type 0) → OnlineTakeFault → Type 0
-OfTake Why (Take fault) = Why fault
+OfTake Why (Take (laters.Take fault)) = Why fault
 OfTake Why other = ⊥
 
 -- why its segments are waited for in vain

@@ -1,22 +1,28 @@
--- What a full backup of a running server is (pgBackRest user guide, "Backup").
-use Rattle.std.specs.Prelude.{◌≡◌, List, Option, Some, None, IfSome, IsSome}
+-- What a backup of any kind of a running server is (pgBackRest user guide, "Backup"; command reference, "Backup").
+use Rattle.std.specs.Prelude.{◌≡◌, ℕ, List, Option, Some, None, IfSome, IsSome}
 use Rattle.std.specs.FinMap.{get}
 use Rattle.pgb_outside.specs.Content.{Content}
 use Rattle.pgb_outside.specs.Links.{LinkState}
 use Rattle.pgb_model.specs.declared.clusters.Cluster.{Cluster}
+use Rattle.pgb_model.specs.declared.labels.Kind.{Kind}
 use Rattle.pgb_model.specs.Names.{backup_info}
 use Rattle.pgb_model.specs.Now.{NowStands}
 use Rattle.pgb_model.specs.Repository.{Backup, Stanza, id_of}
 use Rattle.pgb_model.specs.Steps.{Turn, MakeBackup, after, all_of, steps_of}
 use Rattle.pgb_model.specs.Text.{Text}
+use Rattle.pgb_model.specs.Values.{BackupInfo}
+use Rattle.pgb_record.specs.Making.{labels_of}
 use Rattle.pgb_backup.specs.Online.{Online, label_path}
 use Rattle.pgb_stanza.specs.declared.control.Control.{Control}
 use Rattle.pgb_stanza.specs.Pairs.{AgreeAt}
-use Rattle.pgb_logged.specs.Backups.{IsReadBeside, Archives}
+use Rattle.pgb_draft.specs.Priors.{made_label}
+use Rattle.pgb_draft.specs.Seconds.{AreBefore}
+use Rattle.pgb_logged.specs.Backups.{IsReadOrLeftBeside, Archives}
 use Rattle.pgb_turn.specs.Turns.{Turned, Account}
 use Rattle.pgb_await.specs.Went.{turns_of}
-use Rattle.pgb_take.specs.Taken.{MayFollow}
-use Rattle.pgb_take.specs.Texts.{label_line}
+use Rattle.pgb_take_later.specs.Basing.{base_in, base_label}
+use Rattle.pgb_take_later.specs.Taken.{HasRoom}
+use Rattle.pgb_take_later.specs.Texts.{later_lines}
 use Rattle.pgb_take_online.specs.Doing.{Heard, TakesTurns}
 use Rattle.pgb_take_online.specs.Told.{TellsOnline}
 
@@ -25,18 +31,22 @@ pub record AddsOnline (stanza : Text) (turns : List Turn) (b : Backup) (o : Onli
   pub adds : (s : Stanza) → IsSome old → NowStands stanza (Some s) old → NowStands stanza (after (Some s) (all_of (steps_of (MakeBackup turns b None) (Some s)))) new
   pub archived : (s : Stanza) → IsSome old → NowStands stanza (Some s) old → (t : Stanza) → after (Some s) (all_of (steps_of (MakeBackup turns b None) (Some s))) ≡ Some t → Archives (id_of cluster) o.part t
 
--- Ok of a running server's backup, with its line: one backup more is made, of what the links read and of what the server told, and its label is told.
-pub record IsTakenOnline (stanza : Text) (told : Control) (heard : Heard) (used : List LinkState) (turned : List Turned) (old new : Option Content) (lines : Text) : Type 0 where
+-- Ok of a running server's backup, with its lines: it is based on the backup of the list that its kind asks for, and is a full one without one; it is of what the links read, of what that backup has, and of what the server told.
+pub record IsTakenOnline (stanza : Text) (told : Control) (kind : Kind) (heard : Heard) (used : List LinkState) (turned : List Turned) (old new : Option Content) (lines : Text) : Type 0 where
+  pub list : BackupInfo
+  pub room : IfSome old (HasRoom stanza told list)
   pub backup : Backup
-  pub line : lines ≡ label_line backup.entry.label
-  pub full : backup.entry.label.later ≡ None
-  pub follows : IfSome old (MayFollow stanza told backup.entry.label)
+  pub second : ℕ
+  pub later : AreBefore (labels_of list.backups) second
+  pub label : backup.entry.label ≡ made_label kind (base_in kind list) second
+  pub prior : backup.entry.prior ≡ base_label kind list
+  pub line : lines ≡ later_lines kind (base_in kind list) backup.entry.label
   -- the server told its part of the log and its label file
   pub online : Online
   pub heard_is : TellsOnline heard.system heard.pending heard.left online
   pub wal : backup.wal ≡ Some online.part
   pub label_file : get backup.files label_path ≡ Some (record { bytes = online.label_file; time = backup.entry.stop })
-  pub read : IsReadBeside used (Some online.label_file) backup
+  pub read : IsReadOrLeftBeside used (Some online.label_file) stanza old backup
   pub cluster : Cluster
   pub db : backup.entry.db ≡ cluster.id
   pub adds : AddsOnline stanza (turns_of turned) backup online cluster old new
@@ -44,6 +54,6 @@ pub record IsTakenOnline (stanza : Text) (told : Control) (heard : Heard) (used 
   pub alike : IsSome old → IfSome new (AgreeAt (backup_info stanza))
 
 -- it waited the turns that the account tells of this stanza
-abbrev pub TakesOnline : Text → Control → Heard → List LinkState → Option Account → Option Account → Option Content → Option Content → Text → Type 0
-TakesOnline stanza told heard used old_account account old new lines = IfSome account (λ k. k.stanza ≡ stanza
-    → (turned : List Turned) × TakesTurns turned old_account k × IsTakenOnline stanza told heard used turned old new lines)
+abbrev pub TakesOnline : Text → Control → Kind → Heard → List LinkState → Option Account → Option Account → Option Content → Option Content → Text → Type 0
+TakesOnline stanza told kind heard used old_account account old new lines = IfSome account (λ k. k.stanza ≡ stanza
+    → (turned : List Turned) × TakesTurns turned old_account k × IsTakenOnline stanza told kind heard used turned old new lines)

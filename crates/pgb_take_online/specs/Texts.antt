@@ -4,13 +4,13 @@ use Rattle.pgb_model.specs.declared.wal.Segment.{Segment}
 use Rattle.pgb_model.specs.Names.{segment_text}
 use Rattle.pgb_model.specs.Text.{Text}
 use Rattle.pgb_server_texts.specs.Texts.{server_status, server_message}
-use Rattle.pgb_take.specs.Texts.{take_status, take_message}
+use Rattle.pgb_take_later.specs.Texts.{later_status, later_message}
 use Rattle.pgb_take_online.specs.declared.fault.OnlineTakeFault.{OnlineTakeFault}
 use Rattle.pgb_take_online.specs.declared.fault.OnlineTakeFault.TheVariants.{Take, Server, TablespaceMap, SpanWrong, NotArrived, Ambiguous}
 
 -- the status of what a running server's backup is refused for
 abbrev pub online_take_status : OnlineTakeFault → ℕ
-online_take_status (Take fault) = take_status fault
+online_take_status (Take fault) = later_status fault
 online_take_status (Server fault) = server_status fault
 online_take_status TablespaceMap = 43
 online_take_status (SpanWrong start stop) = 46
@@ -27,7 +27,7 @@ wait_text segment turns =
     codes "segment " ++ (segment_text segment ++ (codes " not archived after " ++ (decimal turns ++ codes " turns")))
 
 abbrev pub online_take_message : OnlineTakeFault → Text
-online_take_message (Take fault) = take_message fault
+online_take_message (Take fault) = later_message fault
 online_take_message (Server fault) = server_message fault
 online_take_message TablespaceMap = codes "tablespaces are not supported"
 online_take_message (SpanWrong start stop) = span_text start stop

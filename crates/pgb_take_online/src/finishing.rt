@@ -15,7 +15,6 @@ ghost use Rattle.pgb_await.specs.Stored.{HoldsPart};
 ghost use Rattle.pgb_await.specs.Went.{Counts, Went};
 ghost use Rattle.pgb_stage.specs.Halts.{HaltCause, Never};
 ghost use Rattle.pgb_stage.specs.Risen.{none, rose_in};
-ghost use Rattle.pgb_take.specs.Texts.{label_line};
 ghost use Rattle.pgb_take_online.specs.Finishing.{OfTake, PublishCause, Publishes, VainCause};
 
 use crate::fault::{OnlineTakeFault, of_take, of_wait};
@@ -97,21 +96,20 @@ pub(crate) fn wait<D: Disk, S: Disk, A: Aside<D, S>>(
     }
 }
 
-/// Lists the backup of this label, which has stopped, and answers with the line that tells its label.
+/// Lists the backup of this label, which has stopped, and answers with the lines that tell it.
 pub(crate) fn conclude<D: Disk>(
     alloc: Global,
     repo: &mut D,
     stanza: &str,
     label: &Label,
-    line: String,
+    lines: String,
     closed: Closed<'_>,
 ) -> Result<Outcome, Halt<OnlineTakeFault>>
     requires closed { IsClosed closed }
     requires stanza { (closed_draft closed).stanza.now ≡ stanza.now }
     requires label { IsLabel label.now }
     requires label_is { label.now ≡ (closed_draft closed).label }
-    requires line { string_bytes line ≡ label_line label.now }
-    ensures publishes { Publishes (closed_draft closed.entry) (closed_online closed.entry) (closed_ends closed.entry)
+    ensures publishes { Publishes (string_bytes lines) (closed_draft closed.entry) (closed_online closed.entry) (closed_ends closed.entry)
         (D.state repo.old).view (D.state repo.new).view result }
     ensures alike { OnOk result (IsSome (D.state repo.old).view.now
         → IfSome (D.state repo.new).view.now (AgreeAt (main_of (closed_draft closed.entry)))) }
@@ -123,7 +121,7 @@ pub(crate) fn conclude<D: Disk>(
         (rose_in (record none { repo = Rises (D.state repo.old).faults (D.state repo.new).faults }))) }
 {
     match publish(alloc, repo, closed) {
-        Ok(()) => Ok(Outcome::Finished { lines: line }),
+        Ok(()) => Ok(Outcome::Finished { lines }),
         Err(fault) => Err(of_take(of_make(alloc, stanza, label, 0, fault))),
     }
 }

@@ -1,23 +1,27 @@
 // The data folder is read while the server is in its backup.
-ghost use Rattle.std.specs.Prelude.{◌≡◌, ◌<◌, ◌^◌, map, vec_len, IfOk, IfErr, OnErr};
+ghost use Rattle.std.specs.Prelude.{◌≡◌, ◌≤◌, ◌<◌, ◌^◌, map, vec_len, IfOk, IfErr, OnErr};
 ghost use Rattle.pgb_outside.specs.Cause.{Rises};
 ghost use Rattle.pgb_outside.specs.States.{Frame, LooksAt};
 ghost use Rattle.pgb_model.specs.InfoFiles.{IsBackupInfo};
 ghost use Rattle.pgb_model.specs.Repository.{id_of};
-ghost use Rattle.pgb_model.specs.Values.{backup_info_of};
+ghost use Rattle.pgb_model.specs.Values.{backup_info_of, file_entry_of};
 ghost use Rattle.pgb_worker_dispatch.specs.Run.{AreReady};
 ghost use Rattle.pgb_story.specs.Beside.{StaysBeside};
 ghost use Rattle.pgb_draft.specs.Seconds.{IsNext};
 ghost use Rattle.pgb_stage.specs.Halts.{HaltCause};
 ghost use Rattle.pgb_stage.specs.Risen.{none, rose_in};
+ghost use Rattle.pgb_take_later.specs.Basing.{base_in};
+ghost use Rattle.pgb_take_later.specs.Drafting.{MayBase};
 ghost use Rattle.pgb_take_online.specs.Gathering.{IsGathered, GivesUp, GatherCause};
 
 use crate::drafting::draft_running;
+use crate::listing::list_folder;
 use pgb_backup::{Fetched, fetch};
-use pgb_model::{ArchiveId, BackupInfo, Cluster, Label};
-use pgb_outside::{Disk, Link, Tree, Turns};
-use pgb_stage::{Halt, Object, halted};
+use pgb_model::{ArchiveId, BackupInfo, Cluster, FileEntry, Label};
+use pgb_outside::{Clock, Disk, Link, Tree, Turns};
+use pgb_stage::Halt;
 use pgb_take::{TakeFault, count_of, of_make};
+use pgb_take_later::LaterOrder;
 use pgb_worker_dispatch::Lost;
 use std::alloc::Global;
 
@@ -28,8 +32,8 @@ pub(crate) struct Gathered<'a> {
     pub(crate) label: Label,
     /// Under this id the cluster's log is archived.
     pub(crate) id: ArchiveId,
-    /// The line that tells the label.
-    pub(crate) line: String,
+    /// The lines that tell its kind and its label.
+    pub(crate) lines: String,
 }
 
 // The id under which a cluster's log is archived.
@@ -42,42 +46,48 @@ fn archive_id(cluster: &Cluster) -> ArchiveId
     }
 }
 
-/// Lists the data folder, and has what a backup takes of it stored in the folder of a label.
-pub(crate) fn gather<'a, D: Disk, T: Tree, L: Link, U: Turns>(
+/// Lists the data folder, and has what a backup takes of it stored in the folder of a label. `old` are the files of the
+/// manifest of the backup that it is based on.
+pub(crate) fn gather<'a, D: Disk, T: Tree, C: Clock, L: Link, U: Turns>(
     alloc: Global,
     repo: &mut D,
     tree: &mut T,
+    clock: &mut C,
     links: &mut Vec<L>,
     turns: &mut U,
     lost: &mut Vec<Lost>,
     stanza: &'a str,
+    order: &LaterOrder<'_>,
     second: u64,
+    old: &'a [FileEntry],
     list: BackupInfo,
 ) -> Result<Gathered<'a>, Halt<TakeFault>>
     requires list { IsBackupInfo (backup_info_of list) }
     requires next { IsNext second (backup_info_of list) }
+    requires old { MayBase (base_in order.now.kind (backup_info_of list)) (map file_entry_of old.now) }
     requires few { vec_len links.old < 2 ^ 32 }
     requires ready { AreReady (map L.link_state links.old.items) }
-    ensures gathered { IfOk result (IsGathered stanza.entry.now (T.state tree.old).nodes (backup_info_of list)
-        (map L.link_state links.old.items) (D.state repo.old).view (D.state repo.new).view) }
-    ensures unlisted { OnErr result (GivesUp stanza.entry.now (T.state tree.old).nodes (backup_info_of list)
+    ensures gathered { IfOk result (IsGathered stanza.entry.now order.now (T.state tree.old).nodes
+        (backup_info_of list) (map file_entry_of old.now) (map L.link_state links.old.items) (D.state repo.old).view (D.state repo.new).view) }
+    ensures unlisted { OnErr result (GivesUp stanza.entry.now order.now (T.state tree.old).nodes (backup_info_of list)
+        (map file_entry_of old.now)
         (D.state repo.old).view (D.state repo.new).view) }
     ensures beside { StaysBeside stanza.entry.now (D.state repo.old).view (D.state repo.new).view }
     ensures frame { Frame (D.state repo.old) (D.state repo.new) }
     ensures looks { LooksAt (T.state tree.old) (T.state tree.new) }
+    ensures later { (C.state clock.old).faults ≤ (C.state clock.new).faults }
     ensures cause { IfErr result (HaltCause
-        (GatherCause stanza.entry.now (T.state tree.old).nodes (backup_info_of list)
+        (GatherCause stanza.entry.now order.now (T.state tree.old).nodes (backup_info_of list)
+        (map file_entry_of old.now)
         (map L.link_state links.old.items) lost.old.items)
         (rose_in (record none {
           repo = Rises (D.state repo.old).faults (D.state repo.new).faults;
           tree = Rises (T.state tree.old).faults (T.state tree.new).faults;
+          clock = Rises (C.state clock.old).faults (C.state clock.new).faults;
         }))) }
 {
-    let seen = match tree.list(alloc) {
-        Ok(seen) => seen,
-        Err(stop) => return Err(halted(Object::DataFolder, stop)),
-    };
-    let (draft, line) = draft_running(alloc, stanza, second, &seen, list)?;
+    let seen = list_folder(alloc, tree, clock)?;
+    let (draft, lines) = draft_running(alloc, stanza, second, order, old, &seen, list)?;
     let label = draft.label;
     let id = archive_id(&draft.cluster);
     match fetch(alloc, repo, links, turns, lost, draft) {
@@ -85,7 +95,7 @@ pub(crate) fn gather<'a, D: Disk, T: Tree, L: Link, U: Turns>(
             fetched,
             label,
             id,
-            line,
+            lines,
         }),
         Err(fault) => Err(of_make(alloc, stanza, &label, count_of(lost), fault)),
     }

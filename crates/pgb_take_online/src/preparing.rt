@@ -1,23 +1,25 @@
 // What comes before the server is asked.
-ghost use Rattle.std.specs.Prelude.{◌≡◌, ◌≤◌, ◌<◌, ◌^◌, [], map, take, length, vec_len, IfOk, IfErr, OnOk};
+ghost use Rattle.std.specs.Prelude.{◌≡◌, ◌≤◌, ◌<◌, ◌^◌, [], map, take, length, vec_len, option_map, IfOk, IfErr, OnOk};
 ghost use Rattle.pgb_outside.specs.Cause.{Rises};
 ghost use Rattle.pgb_outside.specs.States.{Looks};
 ghost use Rattle.pgb_model.specs.InfoFiles.{IsArchiveInfo, IsBackupInfo};
-ghost use Rattle.pgb_model.specs.Values.{archive_info_of, backup_info_of};
+ghost use Rattle.pgb_model.specs.Values.{archive_info_of, backup_info_of, manifest_of};
 ghost use Rattle.pgb_stanza.specs.Judging.{Settles, IsOf};
 ghost use Rattle.pgb_worker_dispatch.specs.Run.{AreReady, Left};
 ghost use Rattle.pgb_draft.specs.Seconds.{IsNext};
 ghost use Rattle.pgb_stage.specs.Halts.{HaltCause};
 ghost use Rattle.pgb_stage.specs.Risen.{none, rose_in};
 ghost use Rattle.pgb_take.specs.Beginning.{most_backups};
+ghost use Rattle.pgb_take_later.specs.Basing.{base_label, ReadsBase};
 ghost use Rattle.pgb_take_online.specs.Preparing.{ReadyCause, PrepareCause};
 
 use pgb_draft::next_second;
-use pgb_model::{ArchiveInfo, BackupInfo};
+use pgb_model::{ArchiveInfo, BackupInfo, Manifest};
 use pgb_outside::{Clock, Disk, Link};
 use pgb_stage::Halt;
 use pgb_stanza::Control;
 use pgb_take::{TakeFault, TakeOrder, check_room, fit, of_second, start_workers};
+use pgb_take_later::{LaterFault, LaterOrder, load_base, of_take};
 use pgb_worker_dispatch::Lost;
 use std::alloc::Global;
 
@@ -55,7 +57,19 @@ fn ready<L: Link>(
     Ok(list)
 }
 
-/// Settles the stanza's list, starts the workers, and tells the second by which the backup is named.
+/// What is known before the server is asked.
+#[derive(Drop)]
+pub(crate) struct Prepared {
+    /// the stanza's list
+    pub(crate) list: BackupInfo,
+    /// the manifest of the backup that this one is based on
+    pub(crate) base: Option<Manifest>,
+    /// This one is named by it.
+    pub(crate) second: u64,
+}
+
+/// Settles the stanza's list, starts the workers, reads the manifest of the backup on which this one is based, and tells
+/// the second by which it is named.
 pub(crate) fn prepare<D: Disk, C: Clock, L: Link>(
     alloc: Global,
     repo: &mut D,
@@ -63,39 +77,46 @@ pub(crate) fn prepare<D: Disk, C: Clock, L: Link>(
     links: &mut Vec<L>,
     lost: &mut Vec<Lost>,
     stanza: &str,
-    order: &TakeOrder<'_>,
+    order: &LaterOrder<'_>,
     told: &Control,
     archive: &ArchiveInfo,
     backup: BackupInfo,
-) -> Result<(BackupInfo, u64), Halt<TakeFault>>
+) -> Result<Prepared, Halt<LaterFault>>
     requires few { vec_len links.old < 2 ^ 32 }
     requires ready { AreReady (map L.link_state links.old.items) }
     requires none { lost.old.items ≡ [] }
     requires archive { IsArchiveInfo (archive_info_of archive.now) }
     requires backup { IsBackupInfo (backup_info_of backup) }
     ensures settled { IfOk result
-        (λ p. Settles (archive_info_of archive.now) (backup_info_of backup) (backup_info_of p.0)) }
+        (λ p. Settles (archive_info_of archive.now) (backup_info_of backup) (backup_info_of p.list)) }
     ensures of { OnOk result (IsOf told.now (archive_info_of archive.now)) }
-    ensures valid { IfOk result (λ p. IsBackupInfo (backup_info_of p.0)) }
-    ensures room { IfOk result (λ p. length (backup_info_of p.0).backups < most_backups) }
-    ensures next { IfOk result (λ p. IsNext p.1 (backup_info_of p.0)) }
-    ensures left { OnOk result (Left [] (take order.now.workers (map L.link_state links.old.items)) [] lost.new.items
-        (map L.link_state links.new.items)) }
+    ensures valid { IfOk result (λ p. IsBackupInfo (backup_info_of p.list)) }
+    ensures room { IfOk result (λ p. length (backup_info_of p.list).backups < most_backups) }
+    ensures base { IfOk result (λ p. ReadsBase stanza.now (D.state repo.old).view.now
+        (base_label order.now.kind (backup_info_of p.list)) (option_map manifest_of p.base)) }
+    ensures next { IfOk result (λ p. IsNext p.second (backup_info_of p.list)) }
+    ensures left { OnOk result (Left [] (take order.now.take.workers (map L.link_state links.old.items)) []
+        lost.new.items (map L.link_state links.new.items)) }
     ensures few { OnOk result (vec_len links.new < 2 ^ 32) }
     ensures ready { OnOk result (AreReady (map L.link_state links.new.items)) }
     ensures looks { Looks (D.state repo.old) (D.state repo.new) }
     ensures later { (C.state clock.old).faults ≤ (C.state clock.new).faults }
     ensures cause { IfErr result (HaltCause
-        (PrepareCause told.now (archive_info_of archive.now) (backup_info_of backup) (C.state clock.old).least
-        (take order.now.workers (map L.link_state links.old.items)))
+        (PrepareCause stanza.now order.now.kind told.now (archive_info_of archive.now) (backup_info_of backup)
+        (D.state repo.old).view.now (C.state clock.old).least
+        (take order.now.take.workers (map L.link_state links.old.items)))
         (rose_in (record none {
           repo = Rises (D.state repo.old).faults (D.state repo.new).faults;
           clock = Rises (C.state clock.old).faults (C.state clock.new).faults;
         }))) }
 {
-    let list = ready(alloc, links, lost, order, told, archive, backup)?;
+    let list = match ready(alloc, links, lost, &order.take, told, archive, backup) {
+        Ok(list) => list,
+        Err(halt) => return Err(of_take(halt)),
+    };
+    let base = load_base(alloc, repo, stanza, order.kind, &list)?;
     match next_second(alloc, repo, clock, stanza, &list) {
-        Ok(second) => Ok((list, second)),
-        Err(fault) => Err(of_second(fault)),
+        Ok(second) => Ok(Prepared { list, base, second }),
+        Err(fault) => Err(of_take(of_second(fault))),
     }
 }

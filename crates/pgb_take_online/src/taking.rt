@@ -8,33 +8,35 @@ ghost use Rattle.pgb_online.specs.Telling.{starting, stopping};
 ghost use Rattle.pgb_await.specs.Went.{Counts};
 ghost use Rattle.pgb_stage.specs.declared.halt.Halt.{Halt};
 ghost use Rattle.pgb_stage.specs.Halts.{HaltCause};
-ghost use Rattle.pgb_take.specs.declared.fault.TakeFault.{TakeFault};
 ghost use Rattle.pgb_stage.specs.Plans.{backup_lock};
 ghost use Rattle.pgb_stage.specs.Reached.{OnFinished, reached_by};
 ghost use Rattle.pgb_stage.specs.Risen.{none, rose_in};
 ghost use Rattle.pgb_prepare.specs.Readies.{IsArchiveOf, IsBackupOf};
+ghost use Rattle.pgb_take_later.specs.declared.fault.LaterFault.{LaterFault};
 ghost use Rattle.pgb_take_online.specs.Causes.{OnlineCause};
 ghost use Rattle.pgb_take_online.specs.Doing.{DoesOnline, MarksOnline};
-ghost use Rattle.pgb_take_online.specs.Faults.{of_take, online_early};
+ghost use Rattle.pgb_take_online.specs.Faults.{of_later, online_early};
 ghost use Rattle.pgb_take_online.specs.Taken.{TakesOnline};
 ghost use Rattle.pgb_take_online.specs.Talking.{EndsTalk};
 
-use crate::fault::{OnlineTakeFault, of_take};
+use crate::fault::{OnlineTakeFault, of_later};
 use crate::finishing::{conclude, end_backup, wait};
 use crate::gathering::Gathered;
 use crate::order::OnlineOrder;
-use crate::preparing::prepare;
+use crate::preparing::{Prepared, prepare};
 use crate::talking::talk;
 use pgb_model::{ArchiveInfo, BackupInfo};
 use pgb_outside::{Clock, Disk, Link, Locks, Tree, Turns, Wire};
 use pgb_stage::{Halt, Outcome};
 use pgb_stanza::Control;
+use pgb_take_later::files_of;
 use pgb_turn::Aside;
 use std::alloc::Global;
 
-/// Makes a full backup of the data folder of a running server, and lists it as the stanza's last. The first links read
-/// the folder, as many as the order has workers, while the server is in its backup; the others aren't used. It is listed
-/// once each segment of its part of the log is archived. As long as it has the lock nobody can release it.
+/// Makes a backup of the data folder of a running server, and lists it as the stanza's last. It is of the kind that is
+/// asked for, and a full one where there is no backup on which it could be based. The first links read the folder, as
+/// many as the order has workers, while the server is in its backup; the others aren't used. It is listed once each
+/// segment of its part of the log is archived. As long as it has the lock nobody can release it.
 pub fn take_online<
     D: Disk,
     S: Disk,
@@ -68,8 +70,9 @@ pub fn take_online<
     requires archive { IsArchiveOf stanza.now (D.state repo.old).view.now archive.now }
     requires backup { IsBackupOf stanza.now (D.state repo.old).view.now backup }
 
-    // In the log it is a full backup of what the used links read, behind the turns that it waited.
-    ensures does { DoesOnline stanza.now (take order.entry.take.workers (map L.link_state links.old.items))
+    // In the log it is a backup of what the used links read, and, unless it is a full one, of what its prior has, behind
+    // the turns that it waited.
+    ensures does { DoesOnline stanza.now order.entry.later.kind (take order.entry.later.take.workers (map L.link_state links.old.items))
         (record {
           system = told.now.system;
           pending = (V.state server.old).pending;
@@ -81,13 +84,13 @@ pub fn take_online<
         (A.state aside.old).account (A.state aside.new).account
         (D.state repo.old).view (S.state spool.old).view (S.state spool.new).view }
     ensures taken { IfOk result (λ outcome. OnFinished outcome
-        (TakesOnline stanza.now told.now
+        (TakesOnline stanza.now told.now order.entry.later.kind
         (record {
           system = told.now.system;
           pending = (V.state server.old).pending;
           left = (V.state server.new).pending;
         })
-        (take order.entry.take.workers (map L.link_state links.old.items))
+        (take order.entry.later.take.workers (map L.link_state links.old.items))
         (A.state aside.old).account (A.state aside.new).account
         (D.state repo.old).view.now (D.state repo.new).view.now)) }
     ensures beside { IfSome (A.state aside.new).account (λ a. a.stanza ≡ stanza.now
@@ -101,7 +104,7 @@ pub fn take_online<
         (V.state server.old).sent) }
     ensures place { OnOk result ((V.state server.new).place ≡ order.entry.socket.now) }
     ensures ended { IfErr result (λ halt.
-        ((V.state server.new ≡ V.state server.old) × ((before : Halt TakeFault) × (halt ≡ of_take before)))
+        ((V.state server.new ≡ V.state server.old) × ((before : Halt LaterFault) × (halt ≡ of_later before)))
         ⊎ EndsTalk (Rises (V.state server.old).faults (V.state server.new).faults) (V.state server.new).sent halt) }
 
     ensures frame { Frame (D.state repo.old) (D.state repo.new) }
@@ -121,8 +124,9 @@ pub fn take_online<
             repo = (D.state repo.old).view.now;
             nodes = (T.state tree.old).nodes;
             least = (C.state clock.old).least;
-            used = take order.entry.take.workers (map L.link_state links.old.items);
+            used = take order.entry.later.take.workers (map L.link_state links.old.items);
           };
+          kind = order.entry.later.kind;
           heard = record {
             system = told.now.system;
             pending = (V.state server.old).pending;
@@ -142,26 +146,28 @@ pub fn take_online<
         }))) }
 {
     let mut lost = Vec::new(alloc);
-    let (list, second) = match prepare(
+    let Prepared { list, base, second } = match prepare(
         alloc,
         repo,
         clock,
         links,
         &mut lost,
         stanza,
-        &order.take,
+        &order.later,
         told,
         archive,
         backup,
     ) {
         Ok(prepared) => prepared,
-        Err(halt) => return Err(of_take(halt)),
+        Err(halt) => return Err(of_later(halt)),
     };
+    let old = files_of(&base);
     let (gathered, online) = talk(
         alloc,
         repo,
         tree,
         server,
+        clock,
         links,
         turns,
         &mut lost,
@@ -169,13 +175,14 @@ pub fn take_online<
         &order,
         told.system,
         second,
+        old,
         list,
     )?;
     let Gathered {
         fetched,
         label,
         id,
-        line,
+        lines,
     } = gathered;
     let wal = online.wal;
     let closed = end_backup(alloc, repo, clock, stanza, &label, fetched, online)?;
@@ -189,5 +196,5 @@ pub fn take_online<
         &wal,
         order.archive_timeout,
     )?;
-    conclude(alloc, repo, stanza, &label, line, closed)
+    conclude(alloc, repo, stanza, &label, lines, closed)
 }

@@ -5,7 +5,7 @@ ghost use Rattle.pgb_take_online.specs.Texts.{online_take_status, online_take_me
 use crate::fault::OnlineTakeFault;
 use pgb_server_texts::{server_message, server_status};
 use pgb_stage::bytes_of;
-use pgb_take::{take_message, take_status};
+use pgb_take_later::{later_message, later_status};
 use pgb_text::NoMemory;
 use pgb_wal::{Segment, segment_text};
 use std::alloc::Global;
@@ -15,7 +15,7 @@ pub fn online_take_status(fault: &OnlineTakeFault) -> u8
     ensures { result ≡ online_take_status fault.now }
 {
     match fault {
-        OnlineTakeFault::Take(fault) => take_status(fault),
+        OnlineTakeFault::Take(fault) => later_status(fault),
         OnlineTakeFault::Server(fault) => server_status(fault),
         OnlineTakeFault::TablespaceMap => 43,
         OnlineTakeFault::SpanWrong { .. } => 46,
@@ -46,7 +46,7 @@ pub fn online_take_message(alloc: Global, fault: &OnlineTakeFault) -> Result<Vec
     ensures { IfOk result (λ line. line.items ≡ online_take_message fault.now) }
 {
     match fault {
-        OnlineTakeFault::Take(fault) => take_message(alloc, fault),
+        OnlineTakeFault::Take(fault) => later_message(alloc, fault),
         OnlineTakeFault::Server(fault) => server_message(alloc, fault),
         OnlineTakeFault::TablespaceMap => {
             bytes_of(String::from_str(alloc, "tablespaces are not supported"))

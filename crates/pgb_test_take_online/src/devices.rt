@@ -8,12 +8,14 @@ ghost use Rattle.pgb_worker_dispatch.specs.Run.{AreReady};
 use crate::others::Storing;
 use crate::serving::{add_row, greeting};
 use pgb_memory::{MemClock, MemDisk, MemLocks, MemNode, MemTree, MemWire, named_bytes};
-use pgb_model::{ArchiveInfo, BackupInfo};
+use pgb_model::{ArchiveInfo, BackupInfo, Kind};
 use pgb_outside::{Disk, Link, Locks, Tree};
+use pgb_plan::PlanSettings;
 use pgb_prepare::{lock_names, prepare, take_locks};
 use pgb_stage::{Halt, Outcome, Pairs, Plan, Settling, StageFault};
 use pgb_stanza::{Control, create};
 use pgb_take::TakeOrder;
+use pgb_take_later::LaterOrder;
 use pgb_take_online::{
     OnlineOrder, OnlineTakeFault, online_take_message, online_take_status, take_online,
 };
@@ -33,12 +35,15 @@ pub(crate) const CONTROL: Control = Control {
 /// The label file that the server tells.
 pub(crate) const LABEL_FILE: &str = "START WAL LOCATION: 0/200028\n";
 
-// What the files of the data folder hold.
-const FILES: &[(&str, &[u8])] = &[
-    ("PG_VERSION", b"15\n"),
-    ("base/1/112", b"hello"),
-    ("global/pg_control", b"head"),
-    ("postmaster.pid", b"4711\n"),
+/// A file of the data folder: its path, its bytes and its time.
+pub(crate) type Holding = (&'static str, &'static [u8], u64);
+
+/// What the data folder holds.
+pub(crate) const FILES: &[Holding] = &[
+    ("PG_VERSION", b"15\n", 7),
+    ("base/1/112", b"hello", 7),
+    ("global/pg_control", b"head", 7),
+    ("postmaster.pid", b"4711\n", 7),
 ];
 
 const FOLDERS: &[&str] = &["base", "base/1", "global"];
@@ -63,9 +68,11 @@ pub(crate) enum Device {
     Worker,
 }
 
-/// What the server and the others tell, and which call fails.
+/// Which kind is asked for, what the data folder holds, what the server and the others tell, and which call fails.
 #[derive(Clone, Copy)]
 pub(crate) struct Case {
+    pub kind: Kind,
+    pub files: &'static [Holding],
     /// The second by which the backup is named.
     pub second: u64,
     pub system: &'static str,
@@ -88,7 +95,8 @@ impl Case {
     }
 
     fn clock(&self, alloc: Global) -> Result<MemClock, AllocError> {
-        let seconds = [self.second, self.second, self.second.saturating_add(9)].to_vec(alloc)?;
+        let ended = self.second.saturating_add(9);
+        let seconds = [self.second, self.second, self.second, ended].to_vec(alloc)?;
         Ok(MemClock::new(seconds, self.fails(alloc, Device::Clock)?))
     }
 
@@ -134,29 +142,32 @@ pub(crate) fn reopened(
     MemDisk::new(alloc, copy, fail)
 }
 
-// The nodes of the data folder.
-fn nodes(alloc: Global) -> Result<Vec<(String, MemNode)>, AllocError> {
+// The nodes of a data folder that holds these files.
+fn nodes(alloc: Global, files: &[Holding]) -> Result<Vec<(String, MemNode)>, AllocError> {
     let mut nodes = Vec::new(alloc);
     for path in FOLDERS {
         nodes.push((String::from_str(alloc, path)?, MemNode::Folder))?;
     }
-    for (path, bytes) in FILES {
+    for &(path, bytes, time) in files {
         let bytes = bytes.to_vec(alloc)?;
         nodes.push((
             String::from_str(alloc, path)?,
-            MemNode::File { bytes, time: 7 },
+            MemNode::File { bytes, time },
         ))?;
     }
     Ok(nodes)
 }
 
-// A link to one worker that reads the data folder, whose calls with these numbers fail.
-fn link(alloc: Global, fail: Vec<u64>) -> Result<Vec<MemLink>, AllocError>
+// A link to one worker that reads a data folder that holds these files, whose calls with these numbers fail.
+fn link(alloc: Global, files: &[Holding], fail: Vec<u64>) -> Result<Vec<MemLink>, AllocError>
     ensures few { IfOk result (λ links. vec_len links < 2 ^ 32) }
     ensures ready { IfOk result (λ links. AreReady (map ⟦<MemLink as Link>⟧.link_state links.items)) }
 {
     let mut links = Vec::new(alloc);
-    let tree = named_bytes(alloc, FILES)?;
+    let mut tree = Vec::new(alloc);
+    for &(path, bytes, _) in files {
+        tree.push((String::from_str(alloc, path)?, bytes.to_vec(alloc)?))?;
+    }
     links.push(MemLink::new(alloc, tree, Vec::new(alloc), fail)?)?;
     Ok(links)
 }
@@ -182,12 +193,21 @@ fn values<D: Disk, T: Tree, K: Locks>(
     }
 }
 
-fn order() -> OnlineOrder<'static> {
+fn order(kind: Kind) -> OnlineOrder<'static> {
     OnlineOrder {
-        take: TakeOrder {
-            data_folder: "/srv/pg",
-            repository: "/srv/repo",
-            workers: 1,
+        later: LaterOrder {
+            take: TakeOrder {
+                data_folder: "/srv/pg",
+                repository: "/srv/repo",
+                workers: 1,
+            },
+            kind,
+            settings: PlanSettings {
+                delta: false,
+                bundle: false,
+                bundle_size: 0,
+                bundle_limit: 0,
+            },
         },
         socket: "/run/postgresql/.s.PGSQL.5432",
         user: "postgres",
@@ -219,7 +239,7 @@ fn text_of(
 fn told(alloc: Global, repo: &mut MemDisk, case: &Case) -> Result<String, AllocError> {
     let mut spool = MemDisk::new(alloc, Vec::new(alloc), case.fails(alloc, Device::Spool)?)?;
     let fails = case.fails(alloc, Device::DataFolder)?;
-    let Ok(mut tree) = MemTree::new(alloc, nodes(alloc)?, fails) else {
+    let Ok(mut tree) = MemTree::new(alloc, nodes(alloc, case.files)?, fails) else {
         return Err(AllocError);
     };
     let mut locks = MemLocks::new(alloc, Vec::new(alloc), Vec::new(alloc));
@@ -240,10 +260,10 @@ fn told(alloc: Global, repo: &mut MemDisk, case: &Case) -> Result<String, AllocE
         &mut Storing::new(case.segment, case.turn),
         &mut case.clock(alloc)?,
         &locks,
-        &mut link(alloc, case.fails(alloc, Device::Worker)?)?,
+        &mut link(alloc, case.files, case.fails(alloc, Device::Worker)?)?,
         &mut MemTurns::new(Vec::new(alloc)),
         "demo",
-        order(),
+        order(case.kind),
         &CONTROL,
         &archive,
         backup,

@@ -1,11 +1,12 @@
 // Backups of a running server.
 ghost use Rattle.std.specs.Prelude.{◌≤◌};
 ghost use Rattle.pgb_outside.specs.States.{last_second};
+ghost use Rattle.pgb_model.specs.InfoFiles.{IsLabel};
 
-use crate::devices::{Case, Device, LABEL_FILE, reopened, stanza, taken};
+use crate::devices::{Case, Device, FILES, Holding, LABEL_FILE, reopened, stanza, taken};
 use crate::same::{same, well};
 use pgb_manifest::load_manifest;
-use pgb_model::{BackupInfo, Label};
+use pgb_model::{BackupInfo, Kind, Label, Later};
 use pgb_pair::load_pair;
 use std::alloc::{AllocError, Global};
 use std::process::Abort;
@@ -20,6 +21,8 @@ const FOURTH: &str =
 
 // 2024-01-02 03:04:05, a backup from the second segment to the third, which others push in their second turn.
 const FIRST: Case = Case {
+    kind: Kind::Full,
+    files: FILES,
     second: 1704164645,
     system: SYSTEM,
     start: &["0/200028", "000000010000000000000002"],
@@ -33,6 +36,8 @@ const IN_FOURTH: &[&str] = &["0/400100", "000000010000000000000004", LABEL_FILE,
 
 // 100 seconds later, and within the fourth.
 const SECOND: Case = Case {
+    kind: Kind::Full,
+    files: FILES,
     second: 1704164745,
     system: SYSTEM,
     start: &["0/400028", "000000010000000000000004"],
@@ -42,23 +47,35 @@ const SECOND: Case = Case {
     failing: None,
 };
 
-// What is told of the backup that is named by this second: its files with their times, and its part of the log.
-fn told_of(alloc: Global, names: &[(String, Vec<u8>)], second: u64) -> Result<String, AllocError>
+// The label of the full backup of this second.
+fn full_label(second: u64) -> Label
     requires { second ≤ last_second }
+    ensures { IsLabel result }
 {
-    let mut disk = reopened(alloc, names, Vec::new(alloc))?;
-    let label = Label {
+    Label {
         full: second,
         later: None,
-    };
-    let manifest = match load_manifest(alloc, &mut disk, "demo", &label) {
+    }
+}
+
+// What is told of the backup of this label: its files with their times, and its part of the log. Of a file that it has
+// of another backup, the second of that is told.
+fn told_of(alloc: Global, names: &[(String, Vec<u8>)], label: &Label) -> Result<String, AllocError>
+    requires { IsLabel label.now }
+{
+    let mut disk = reopened(alloc, names, Vec::new(alloc))?;
+    let manifest = match load_manifest(alloc, &mut disk, "demo", label) {
         Ok(manifest) => manifest,
         Err(fault) => return format!(in alloc; "{fault:?}"),
     };
     let mut text = String::new(alloc);
     for file in &manifest.files {
         let path = file.path.as_str();
-        write!(text, "{path} {} at {}; ", file.size, file.time)?;
+        write!(text, "{path} {} at {}", file.size, file.time)?;
+        if let Some(label) = &file.reference {
+            write!(text, " of {}", label.full)?;
+        }
+        text.push_str("; ")?;
     }
     if let Some(part) = manifest.wal {
         let span = part.span;
@@ -114,7 +131,7 @@ const STORED: &str =
 // The first backup stays as it was made.
 fn check_first(rt: &impl Abort, alloc: Global, names: &[(String, Vec<u8>)]) {
     same(rt, well(rt, stored(alloc, names)).as_str(), STORED);
-    let told = well(rt, told_of(alloc, names, FIRST.second));
+    let told = well(rt, told_of(alloc, names, &full_label(FIRST.second)));
     same(rt, told.as_str(), FROM_SECOND_TO_THIRD);
 }
 
@@ -129,6 +146,64 @@ fn ended_well(rt: HostRuntime) {
         "INFO: new backup label = 20240102-030405F\n",
     );
     same(&rt, well(&rt, listed(alloc, &names)).as_str(), LISTED);
+    check_first(&rt, alloc, &names);
+}
+
+// As it was, but for a table that is another since.
+const CHANGED: &[Holding] = &[
+    ("PG_VERSION", b"15\n", 7),
+    ("base/1/112", b"hallo", 8),
+    ("global/pg_control", b"head", 7),
+    ("postmaster.pid", b"4711\n", 7),
+];
+
+// The incremental one that is based on the first.
+const LATER: Label = Label {
+    full: FIRST.second,
+    later: Some(Later {
+        time: SECOND.second,
+        kind: Kind::Incr,
+    }),
+};
+
+const CHANGED_ALONE: &str =
+    "PG_VERSION 3 at 7 of 1704164645; backup_label 29 at 1704164754; base/1/112 5 at 8; global/pg_control 4 at 7; from 4 to 4";
+
+#[test]
+fn incremental(rt: HostRuntime) {
+    let alloc = rt.alloc();
+    let empty = well(&rt, stanza(alloc));
+    let (_, first) = well(&rt, taken(alloc, &empty, &FIRST));
+    let case = Case {
+        kind: Kind::Incr,
+        files: CHANGED,
+        ..SECOND
+    };
+    let (told, names) = well(&rt, taken(alloc, &first, &case));
+    same(
+        &rt,
+        told.as_str(),
+        "INFO: new backup label = 20240102-030405F_20240102-030545I\n",
+    );
+    check_first(&rt, alloc, &names);
+    let told = well(&rt, told_of(alloc, &names, &LATER));
+    same(&rt, told.as_str(), CHANGED_ALONE);
+}
+
+#[test]
+fn became_full(rt: HostRuntime) {
+    let alloc = rt.alloc();
+    let empty = well(&rt, stanza(alloc));
+    let case = Case {
+        kind: Kind::Incr,
+        ..FIRST
+    };
+    let (told, names) = well(&rt, taken(alloc, &empty, &case));
+    same(
+        &rt,
+        told.as_str(),
+        "WARN: no prior backup exists, incr backup has been changed to full\nINFO: new backup label = 20240102-030405F\n",
+    );
     check_first(&rt, alloc, &names);
 }
 
@@ -202,7 +277,7 @@ fn check_both(rt: &impl Abort, alloc: Global, names: &[(String, Vec<u8>)]) -> bo
         return false;
     }
     same(rt, list.as_str(), LISTED_BOTH);
-    let told = well(rt, told_of(alloc, names, SECOND.second));
+    let told = well(rt, told_of(alloc, names, &full_label(SECOND.second)));
     same(rt, told.as_str(), WITHIN_FOURTH);
     true
 }

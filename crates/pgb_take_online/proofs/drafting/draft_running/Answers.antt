@@ -1,7 +1,5 @@
-use Rattle.std.proofs.Common.{true, map, string_bytes, sym, subst}
-use Rattle.pgb_plan.specs.declared.values.Listing.{Listing}
-use Rattle.pgb_plan.specs.Filter.{Takes}
-use Rattle.pgb_plan.specs.Views.{seen_of, taken_of}
+use Rattle.std.proofs.Common.{true, map}
+use Rattle.pgb_plan.specs.Views.{seen_of}
 use Rattle.pgb_draft.proofs.Free.{label_free}
 use Rattle.pgb_take_online.proofs.Draftings.{plan_cause}
 use Rattle.pgb_take_online.proofs.drafting.draft_running.Goals as goal
@@ -10,7 +8,9 @@ pub returns-in-Err-clause-cause : goal.returns-in-Err-clause-cause
 returns-in-Err-clause-cause c = plan_cause (map seen_of c.args.seen.now) c.filter.result c.in-Err.fault c.of_plan.result c.of_plan.ensures
     c.in-Err.ensures.refused c.filter.ensures.orderly c.in-Err.is
 
-pub returns-in-Ok-label_line-clause-free : goal.returns-in-Ok-label_line-clause-free
-returns-in-Ok-label_line-clause-free c = label_free c.in_ok-draft.draft (map seen_of c.args.seen.now)
-    (subst (λ (l : Listing). Takes true (map seen_of c.args.seen.now) (map taken_of l.files.items) (map string_bytes l.folders.items))
-    (sym c.in_ok-draft.ensures.full.listing_is) c.in-Ok.ensures.takes)
+pub returns-in-Ok-draft_listed-clause-free : goal.returns-in-Ok-draft_listed-clause-free
+returns-in-Ok-draft_listed-clause-free c = label_free c.in-Ok-draft_listed.drafted.0 (map seen_of c.args.seen.now)
+    (c.in-Ok-draft_listed.ensures.later true (map seen_of c.args.seen.now) c.in-Ok.ensures.takes).takes
+
+pub returns-in-Ok-draft_listed-clause-later : goal.returns-in-Ok-draft_listed-clause-later
+returns-in-Ok-draft_listed-clause-later c = c.in-Ok-draft_listed.ensures.later true (map seen_of c.args.seen.now) c.in-Ok.ensures.takes

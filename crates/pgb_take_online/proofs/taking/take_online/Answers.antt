@@ -1,12 +1,12 @@
-use Rattle.std.proofs.Common.{◌≡◌, ◌<◌, ◌≤◌, ◌^◌, ◌++◌, ◌∙◌, ℕ, List, [], Option, Some, None, true, false, map, take, length, refl, sym, ap, subst, arith, inl, inr}
-use Rattle.std.specs.Prelude.{IfSome, IsSome, IfErr, OnOk, Result, Ok, Err}
+use Rattle.std.proofs.Common.{◌≡◌, ◌<◌, ◌^◌, ◌∙◌, ℕ, List, [], Option, Some, true, false, map, take, length, option_map, string_bytes, refl, sym, ap, subst, arith, inl}
+use Rattle.std.specs.Prelude.{IfSome, IsSome, IfErr, OnOk, Result, Err}
 use Rattle.pgb_outside.specs.Cause.{Rises}
 use Rattle.pgb_outside.specs.Content.{Content}
 use Rattle.pgb_outside.specs.Links.{LinkState}
 use Rattle.pgb_outside.specs.Tree.{Nodes}
+use Rattle.pgb_model.specs.declared.labels.Kind.{Kind}
 use Rattle.pgb_model.specs.Text.{Text}
-use Rattle.pgb_model.specs.Values.{archive_info_of, backup_info_of}
-use Rattle.pgb_label.specs.declared.keeper.Ended.{Ended}
+use Rattle.pgb_model.specs.Values.{FileEntry, archive_info_of, backup_info_of, file_entry_of, manifest_of}
 use Rattle.pgb_story.specs.Beside.{StaysBeside}
 use Rattle.pgb_story.proofs.Stays.{rests_beside, beside_on}
 use Rattle.pgb_stanza.specs.declared.control.Control.{Control}
@@ -26,6 +26,10 @@ use Rattle.pgb_stage.proofs.Counts.{rises_from}
 use Rattle.pgb_take.proofs.Beginnings.{ends_with, halt_as, err_as}
 use Rattle.pgb_take.proofs.Links.{left_comes}
 use Rattle.pgb_take.proofs.Takings.{used_few}
+use Rattle.pgb_take_later.specs.Basing.{base_in, base_label}
+use Rattle.pgb_take_later.specs.Drafting.{MayBase}
+use Rattle.pgb_take_later.proofs.Bases.{may_base, no_base}
+use Rattle.pgb_take_later.proofs.Takings.{begins_from, has_room}
 use Rattle.pgb_take_online.specs.declared.fault.OnlineTakeFault.{OnlineTakeFault}
 use Rattle.pgb_take_online.specs.Causes.{Asked, OnlineCause}
 use Rattle.pgb_take_online.specs.Doing.{Heard}
@@ -33,16 +37,18 @@ use Rattle.pgb_take_online.specs.Finishing.{Publishes, VainCause, OfTake, Publis
 use Rattle.pgb_take_online.specs.Preparing.{PrepareCause}
 use Rattle.pgb_take_online.specs.Talking.{SpokenCause}
 use Rattle.pgb_take_online.proofs.Besides.{staged_beside, waited_beside, listed_beside}
-use Rattle.pgb_take_online.proofs.Causes.{All, in_all, of_take_as, prepare_takes, spoken_takes, vain_takes, publish_takes}
-use Rattle.pgb_take_online.proofs.Doings.{not_end, by_account, begins_running, rests_online, gave_up_online, left_online, waited_online, published_online, outcome_behind, part_of}
+use Rattle.pgb_take_online.proofs.Bases.{begins_of, told_before}
+use Rattle.pgb_take_online.proofs.Causes.{All, in_all, of_later_as, prepare_takes, spoken_takes, vain_takes, publish_takes}
+use Rattle.pgb_take_online.proofs.Doings.{not_end, by_account, rests_online, gave_up_online, left_online, waited_online, published_online, outcome_behind, part_of}
 use Rattle.pgb_take_online.proofs.Takings.{taken_online}
 use Rattle.pgb_take_online.proofs.Talks.{ended_before}
 use Rattle.pgb_take_online.proofs.Spools.{still_marks, waited_marks, spool_still, spool_waited}
 use Rattle.pgb_take_online.proofs.taking.take_online.Goals as goal
 
-abbrev asked : Text → Control → Option Content → Option Nodes → ℕ → List LinkState → Option (List ℕ) → Option (List ℕ) → ℕ → ℕ → ℕ → Option Content → Asked
-asked stanza told repo nodes least used pending left most turns turned now = record {
+abbrev asked : Text → Control → Kind → Option Content → Option Nodes → ℕ → List LinkState → Option (List ℕ) → Option (List ℕ) → ℕ → ℕ → ℕ → Option Content → Asked
+asked stanza told kind repo nodes least used pending left most turns turned now = record {
   before = record { stanza = stanza; told = told; repo = repo; nodes = nodes; least = least; used = used };
+  kind = kind;
   heard = record { system = told.system; pending = pending; left = left };
   most = most;
   turns = turns;
@@ -54,66 +60,76 @@ asked stanza told repo nodes least used pending left most turns turned now = rec
 pub returns-in-Err-clause-does : goal.returns-in-Err-clause-does
 returns-in-Err-clause-does g c =
     let stanza = c.args.stanza.now in
-    let used = take c.args.order.take.workers (map g.L.Link.link_state c.args.links.now.items) in
+    let kind = c.args.order.later.kind in
+    let used = take c.args.order.later.take.workers (map g.L.Link.link_state c.args.links.now.items) in
     let heard : Heard = record { system = c.args.told.now.system; pending = (g.V.Wire.state c.args.server.now).pending; left = (g.V.Wire.state c.args.server.now).pending } in
     let a = (g.D.Disk.state c.args.repo.now).view in
     let b = (g.D.Disk.state c.prepare.new.repo).view in
     let looks = c.prepare.ensures.looks in
     let account = (g.A.Aside.state c.args.aside.now).account in
-    let result : Result Outcome (Halt OnlineTakeFault) = Err c.of_take.result in
-    rests_online stanza used heard _ account account refl a b (not_end result c.of_take.result refl) looks.time looks.now
+    let result : Result Outcome (Halt OnlineTakeFault) = Err c.of_later.result in
+    rests_online stanza kind used heard _ account account refl a b (not_end result c.of_later.result refl) looks.time looks.now
 
 pub returns-in_err-gathered-clause-does : goal.returns-in_err-gathered-clause-does
 returns-in_err-gathered-clause-does g c =
     let stanza = c.args.stanza.now in
-    let used = take c.args.order.take.workers (map g.L.Link.link_state c.args.links.now.items) in
+    let kind = c.args.order.later.kind in
+    let used = take c.args.order.later.take.workers (map g.L.Link.link_state c.args.links.now.items) in
     let heard : Heard = record { system = c.args.told.now.system; pending = (g.V.Wire.state c.args.server.now).pending; left = (g.V.Wire.state c.talk.new.server).pending } in
     let a = (g.D.Disk.state c.args.repo.now).view in
     let b = (g.D.Disk.state c.prepare.new.repo).view in
     let looks = c.prepare.ensures.looks in
     let now = map g.L.Link.link_state c.prepare.new.links.items in
     let nodes = (g.T.Tree.state c.args.tree.now).nodes in
-    let list = backup_info_of c.in-Ok.prepared.0 in
+    let list = backup_info_of c.in-Ok.prepared.list in
+    let files = map file_entry_of c.files_of-old.result.now in
+    let from = begins_from stanza c.args.order.later c.args.archive.now c.args.backup a.now b.now looks.now c.requires.archive c.requires.backup list c.in-Ok.ensures.settled (option_map manifest_of c.in-Ok.prepared.base) c.in-Ok.ensures.base files c.files_of-old.ensures in
     let account = (g.A.Aside.state c.args.aside.now).account in
-    gave_up_online stanza used heard a b looks.time looks.now c.args.archive.now c.args.backup c.requires.archive c.requires.backup nodes list c.in-Ok.ensures.settled
-    _ (not_end c.from_residual.result c.in_err-gathered.field-0.0 c.from_residual.ensures.1) account account refl (g.D.Disk.state c.talk.new.repo).view c.in_err-gathered.ensures.unlisted
+    gave_up_online stanza kind used heard a b looks.time looks.now _ (not_end c.from_residual.result c.in_err-gathered.field-0.0 c.from_residual.ensures.1) account account refl (g.D.Disk.state c.talk.new.repo).view
+    c.args.order.later nodes list files (g.met.D.Disk.now_may_be_left c.prepare.new.repo) from c.in_err-gathered.ensures.unlisted
 
 pub returns-in_err-closed-clause-does : goal.returns-in_err-closed-clause-does
 returns-in_err-closed-clause-does g c =
     let stanza = c.args.stanza.now in
-    let used = take c.args.order.take.workers (map g.L.Link.link_state c.args.links.now.items) in
+    let kind = c.args.order.later.kind in
+    let used = take c.args.order.later.take.workers (map g.L.Link.link_state c.args.links.now.items) in
     let heard : Heard = record { system = c.args.told.now.system; pending = (g.V.Wire.state c.args.server.now).pending; left = (g.V.Wire.state c.talk.new.server).pending } in
     let a = (g.D.Disk.state c.args.repo.now).view in
     let b = (g.D.Disk.state c.prepare.new.repo).view in
     let looks = c.prepare.ensures.looks in
     let now = map g.L.Link.link_state c.prepare.new.links.items in
     let nodes = (g.T.Tree.state c.args.tree.now).nodes in
-    let list = backup_info_of c.in-Ok.prepared.0 in
+    let list = backup_info_of c.in-Ok.prepared.list in
+    let files = map file_entry_of c.files_of-old.result.now in
+    let from = begins_from stanza c.args.order.later c.args.archive.now c.args.backup a.now b.now looks.now c.requires.archive c.requires.backup list c.in-Ok.ensures.settled (option_map manifest_of c.in-Ok.prepared.base) c.in-Ok.ensures.base files c.files_of-old.ensures in
     let t = (g.D.Disk.state c.talk.new.repo).view in
     let s = (g.D.Disk.state c.end_backup.new.repo).view in
     let x = c.in_ok-gathered.ensures.gathered in
     let d = fetched_draft c.in_ok-gathered.gathered.fetched in
-    let begins = begins_running stanza c.args.archive.now c.args.backup a.now b.now looks.now c.requires.archive c.requires.backup nodes list d x.draft c.in-Ok.ensures.settled in
+    let begins = begins_of stanza c.args.order.later nodes list files d x.draft b (g.met.D.Disk.now_may_be_left c.prepare.new.repo) from in
     let leaves = leaves_after d (apart d x.draft.is_draft) b t s x.unlisted c.end_backup.ensures.unlisted in
     let account = (g.A.Aside.state c.args.aside.now).account in
-    left_online stanza used heard a b looks.time looks.now d x.draft.full.stanza_is begins _ (not_end c.from_residual-in_err-closed.result c.in_err-closed.field-0.0 c.from_residual-in_err-closed.ensures.1) account account refl s leaves
+    left_online stanza kind used heard a b looks.time looks.now _ (not_end c.from_residual-in_err-closed.result c.in_err-closed.field-0.0 c.from_residual-in_err-closed.ensures.1) account account refl s d x.draft.later.stanza_is begins leaves
 
 pub returns-in_err-wait-clause-does : goal.returns-in_err-wait-clause-does
 returns-in_err-wait-clause-does g c =
     let stanza = c.args.stanza.now in
-    let used = take c.args.order.take.workers (map g.L.Link.link_state c.args.links.now.items) in
+    let kind = c.args.order.later.kind in
+    let used = take c.args.order.later.take.workers (map g.L.Link.link_state c.args.links.now.items) in
     let heard : Heard = record { system = c.args.told.now.system; pending = (g.V.Wire.state c.args.server.now).pending; left = (g.V.Wire.state c.talk.new.server).pending } in
     let a = (g.D.Disk.state c.args.repo.now).view in
     let b = (g.D.Disk.state c.prepare.new.repo).view in
     let looks = c.prepare.ensures.looks in
     let now = map g.L.Link.link_state c.prepare.new.links.items in
     let nodes = (g.T.Tree.state c.args.tree.now).nodes in
-    let list = backup_info_of c.in-Ok.prepared.0 in
+    let list = backup_info_of c.in-Ok.prepared.list in
+    let files = map file_entry_of c.files_of-old.result.now in
+    let from = begins_from stanza c.args.order.later c.args.archive.now c.args.backup a.now b.now looks.now c.requires.archive c.requires.backup list c.in-Ok.ensures.settled (option_map manifest_of c.in-Ok.prepared.base) c.in-Ok.ensures.base files c.files_of-old.ensures in
     let t = (g.D.Disk.state c.talk.new.repo).view in
     let s = (g.D.Disk.state c.end_backup.new.repo).view in
     let x = c.in_ok-gathered.ensures.gathered in
     let d = fetched_draft c.in_ok-gathered.gathered.fetched in
-    let begins = begins_running stanza c.args.archive.now c.args.backup a.now b.now looks.now c.requires.archive c.requires.backup nodes list d x.draft c.in-Ok.ensures.settled in
+    let begins = begins_of stanza c.args.order.later nodes list files d x.draft b (g.met.D.Disk.now_may_be_left c.prepare.new.repo) from in
     let leaves = leaves_after d (apart d x.draft.is_draft) b t s x.unlisted c.end_backup.ensures.unlisted in
     let w = (g.D.Disk.state c.wait.new.repo).view in
     let comes = left_comes used now [] c.prepare.new.lost.items c.in-Ok.ensures.left in
@@ -121,24 +137,27 @@ returns-in_err-wait-clause-does g c =
     let account2 = (g.A.Aside.state c.wait.new.aside).account in
     let spool = (g.S.Disk.state c.args.spool.now).view in
     let spool2 = (g.S.Disk.state c.wait.new.spool).view in
-    waited_online stanza used now comes heard a b s w looks.time looks.now d x.draft.full.stanza_is begins leaves account account2 spool spool2 false _ (not_end c.from_residual-in_err-wait.result c.in_err-wait.field-0.0 c.from_residual-in_err-wait.ensures.1) c.in_err-wait.ensures.went
+    waited_online stanza kind used now comes heard a b s w looks.time looks.now d x.draft.later.stanza_is begins leaves account account2 spool spool2 false _ (not_end c.from_residual-in_err-wait.result c.in_err-wait.field-0.0 c.from_residual-in_err-wait.ensures.1) c.in_err-wait.ensures.went
 
 pub returns-clause-does : goal.returns-clause-does
 returns-clause-does g c =
     let stanza = c.args.stanza.now in
-    let used = take c.args.order.take.workers (map g.L.Link.link_state c.args.links.now.items) in
+    let kind = c.args.order.later.kind in
+    let used = take c.args.order.later.take.workers (map g.L.Link.link_state c.args.links.now.items) in
     let heard : Heard = record { system = c.args.told.now.system; pending = (g.V.Wire.state c.args.server.now).pending; left = (g.V.Wire.state c.talk.new.server).pending } in
     let a = (g.D.Disk.state c.args.repo.now).view in
     let b = (g.D.Disk.state c.prepare.new.repo).view in
     let looks = c.prepare.ensures.looks in
     let now = map g.L.Link.link_state c.prepare.new.links.items in
     let nodes = (g.T.Tree.state c.args.tree.now).nodes in
-    let list = backup_info_of c.in-Ok.prepared.0 in
+    let list = backup_info_of c.in-Ok.prepared.list in
+    let files = map file_entry_of c.files_of-old.result.now in
+    let from = begins_from stanza c.args.order.later c.args.archive.now c.args.backup a.now b.now looks.now c.requires.archive c.requires.backup list c.in-Ok.ensures.settled (option_map manifest_of c.in-Ok.prepared.base) c.in-Ok.ensures.base files c.files_of-old.ensures in
     let t = (g.D.Disk.state c.talk.new.repo).view in
     let s = (g.D.Disk.state c.end_backup.new.repo).view in
     let x = c.in_ok-gathered.ensures.gathered in
     let d = fetched_draft c.in_ok-gathered.gathered.fetched in
-    let begins = begins_running stanza c.args.archive.now c.args.backup a.now b.now looks.now c.requires.archive c.requires.backup nodes list d x.draft c.in-Ok.ensures.settled in
+    let begins = begins_of stanza c.args.order.later nodes list files d x.draft b (g.met.D.Disk.now_may_be_left c.prepare.new.repo) from in
     let leaves = leaves_after d (apart d x.draft.is_draft) b t s x.unlisted c.end_backup.ensures.unlisted in
     let w = (g.D.Disk.state c.wait.new.repo).view in
     let comes = left_comes used now [] c.prepare.new.lost.items c.in-Ok.ensures.left in
@@ -150,28 +169,32 @@ returns-clause-does g c =
     let ends = fetched_ends c.in_ok-gathered.gathered.fetched in
     let o = online_of c.in_ok-gathered.online in
     let staged = c.in_ok-closed.ensures.staged now x.staged in
-    let p = published d c.in_ok-gathered.gathered.fetched (Some o) c.in_ok-closed.closed refl c.in_ok-closed.ensures.of (λ q y es. Publishes q y es w e c.conclude.result) c.conclude.ensures.publishes in
-    let arrived = part_of stanza d x.draft.full.stanza_is c.in_ok-gathered.gathered.id x.named.id_is c.in_ok-gathered.online.wal o.part refl w.now c.in_ok-wait.ensures.archived in
-    published_online stanza used now comes heard a b s w looks.time looks.now d x.draft.full.stanza_is begins leaves account account2 spool spool2
-    c.in_ok-wait.ensures.went o c.in_ok-gathered.ensures.told x.free arrived e p.made p.ended p.end c.conclude.result p.is
-    (outcome_behind stanza d x.draft.full.stanza_is (Some o) now ends account s w e spool spool2 p.made p.outcome staged)
+    let p = published d c.in_ok-gathered.gathered.fetched (Some o) c.in_ok-closed.closed refl c.in_ok-closed.ensures.of (λ q y es. Publishes (string_bytes c.in_ok-gathered.gathered.lines) q y es w e c.conclude.result) c.conclude.ensures.publishes in
+    let arrived = part_of stanza d x.draft.later.stanza_is c.in_ok-gathered.gathered.id x.named.id_is c.in_ok-gathered.online.wal o.part refl w.now c.in_ok-wait.ensures.archived in
+    let before = told_before stanza b s (beside_on stanza b t s c.talk.ensures.beside (subst (λ (k : Text). StaysBeside k t s) x.draft.later.stanza_is c.end_backup.ensures.beside)) in
+    let law = g.met.D.Disk.now_may_be_left c.wait.new.repo in
+    published_online stanza kind used now comes heard a b s w looks.time looks.now d x.draft.later.stanza_is begins leaves account account2 spool spool2
+    (λ full. x.draft.later.prior ∙ ap (λ (k : Kind). base_label k list) full ∙ no_base list) before law c.in_ok-wait.ensures.went o c.in_ok-gathered.ensures.told x.free arrived e (string_bytes c.in_ok-gathered.gathered.lines) p.made p.ended p.end c.conclude.result p.is
+    (outcome_behind stanza d x.draft.later.stanza_is (Some o) now ends account s w e spool spool2 p.made p.outcome staged)
 
 pub returns-clause-taken : goal.returns-clause-taken
 returns-clause-taken g c =
     let stanza = c.args.stanza.now in
-    let used = take c.args.order.take.workers (map g.L.Link.link_state c.args.links.now.items) in
+    let used = take c.args.order.later.take.workers (map g.L.Link.link_state c.args.links.now.items) in
     let heard : Heard = record { system = c.args.told.now.system; pending = (g.V.Wire.state c.args.server.now).pending; left = (g.V.Wire.state c.talk.new.server).pending } in
     let a = (g.D.Disk.state c.args.repo.now).view in
     let b = (g.D.Disk.state c.prepare.new.repo).view in
     let looks = c.prepare.ensures.looks in
     let now = map g.L.Link.link_state c.prepare.new.links.items in
     let nodes = (g.T.Tree.state c.args.tree.now).nodes in
-    let list = backup_info_of c.in-Ok.prepared.0 in
+    let list = backup_info_of c.in-Ok.prepared.list in
+    let files = map file_entry_of c.files_of-old.result.now in
+    let from = begins_from stanza c.args.order.later c.args.archive.now c.args.backup a.now b.now looks.now c.requires.archive c.requires.backup list c.in-Ok.ensures.settled (option_map manifest_of c.in-Ok.prepared.base) c.in-Ok.ensures.base files c.files_of-old.ensures in
     let t = (g.D.Disk.state c.talk.new.repo).view in
     let s = (g.D.Disk.state c.end_backup.new.repo).view in
     let x = c.in_ok-gathered.ensures.gathered in
     let d = fetched_draft c.in_ok-gathered.gathered.fetched in
-    let begins = begins_running stanza c.args.archive.now c.args.backup a.now b.now looks.now c.requires.archive c.requires.backup nodes list d x.draft c.in-Ok.ensures.settled in
+    let begins = begins_of stanza c.args.order.later nodes list files d x.draft b (g.met.D.Disk.now_may_be_left c.prepare.new.repo) from in
     let leaves = leaves_after d (apart d x.draft.is_draft) b t s x.unlisted c.end_backup.ensures.unlisted in
     let w = (g.D.Disk.state c.wait.new.repo).view in
     let comes = left_comes used now [] c.prepare.new.lost.items c.in-Ok.ensures.left in
@@ -183,46 +206,72 @@ returns-clause-taken g c =
     let ends = fetched_ends c.in_ok-gathered.gathered.fetched in
     let o = online_of c.in_ok-gathered.online in
     let staged = c.in_ok-closed.ensures.staged now x.staged in
-    let p = published d c.in_ok-gathered.gathered.fetched (Some o) c.in_ok-closed.closed refl c.in_ok-closed.ensures.of (λ q y es. Publishes q y es w e c.conclude.result) c.conclude.ensures.publishes in
-    let arrived = part_of stanza d x.draft.full.stanza_is c.in_ok-gathered.gathered.id x.named.id_is c.in_ok-gathered.online.wal o.part refl w.now c.in_ok-wait.ensures.archived in
-    taken_online stanza c.args.told.now c.args.archive.now c.args.backup a c.requires.archive c.requires.backup list c.in-Ok.ensures.settled c.in-Ok.ensures.of c.in-Ok.ensures.room nodes d x.draft
-    used now comes heard b s w e looks.now leaves account account2 spool spool2 c.in_ok-wait.ensures.went o c.in_ok-gathered.ensures.told x.free arrived p.made p.ended p.end c.conclude.result p.is
-    (outcome_behind stanza d x.draft.full.stanza_is (Some o) now ends account s w e spool spool2 p.made p.outcome staged)
+    let p = published d c.in_ok-gathered.gathered.fetched (Some o) c.in_ok-closed.closed refl c.in_ok-closed.ensures.of (λ q y es. Publishes (string_bytes c.in_ok-gathered.gathered.lines) q y es w e c.conclude.result) c.conclude.ensures.publishes in
+    let arrived = part_of stanza d x.draft.later.stanza_is c.in_ok-gathered.gathered.id x.named.id_is c.in_ok-gathered.online.wal o.part refl w.now c.in_ok-wait.ensures.archived in
+    let before = told_before stanza b s (beside_on stanza b t s c.talk.ensures.beside (subst (λ (k : Text). StaysBeside k t s) x.draft.later.stanza_is c.end_backup.ensures.beside)) in
+    let law = g.met.D.Disk.now_may_be_left c.wait.new.repo in
+    let room = has_room stanza c.args.told.now c.args.archive.now c.args.backup a.now c.requires.archive c.requires.backup list c.in-Ok.ensures.settled c.in-Ok.ensures.of c.in-Ok.ensures.room in
+    taken_online stanza c.args.told.now c.args.order.later a b looks.now list room (g.met.D.Disk.now_may_be_left c.prepare.new.repo) files from nodes d x.draft used now comes heard s w e leaves before law
+    account account2 spool spool2 c.in_ok-wait.ensures.went o c.in_ok-gathered.ensures.told x.free arrived (string_bytes c.in_ok-gathered.gathered.lines) x.named.lines_are p.made p.ended p.end c.conclude.result p.is
+    (outcome_behind stanza d x.draft.later.stanza_is (Some o) now ends account s w e spool spool2 p.made p.outcome staged)
     (published d c.in_ok-gathered.gathered.fetched (Some o) c.in_ok-closed.closed refl c.in_ok-closed.ensures.of (λ q y es. OnOk c.conclude.result (IsSome w.now → IfSome e.now (AgreeAt (main_of q)))) c.conclude.ensures.alike)
+
+pub returns-in-Err-clause-cause : goal.returns-in-Err-clause-cause
+returns-in-Err-clause-cause g c =
+    let o = c.args.order.later in
+    let used = take o.take.workers (map g.L.Link.link_state c.args.links.now.items) in
+    let now = (g.D.Disk.state c.args.repo.now).view.now in
+    let least = (g.C.Clock.state c.args.clock.now).least in
+    let turns = (g.A.Aside.state c.args.aside.now).turns in
+    let pending = (g.V.Wire.state c.args.server.now).pending in
+    let x = asked c.args.stanza.now c.args.told.now o.kind now (g.T.Tree.state c.args.tree.now).nodes least used pending pending c.args.order.archive_timeout turns turns (g.D.Disk.state c.prepare.new.repo).view.now in
+    let repo = Rises (g.D.Disk.state c.args.repo.now).faults (g.D.Disk.state c.prepare.new.repo).faults in
+    let spool = Rises (g.S.Disk.state c.args.spool.now).faults (g.S.Disk.state c.args.spool.now).faults in
+    let tree = Rises (g.T.Tree.state c.args.tree.now).faults (g.T.Tree.state c.args.tree.now).faults in
+    let server = Rises (g.V.Wire.state c.args.server.now).faults (g.V.Wire.state c.args.server.now).faults in
+    let clock = Rises (g.C.Clock.state c.args.clock.now).faults (g.C.Clock.state c.prepare.new.clock).faults in
+    subst (HaltCause (OnlineCause x) (All repo spool tree server clock)) (sym c.of_later.ensures)
+    (of_later_as (PrepareCause c.args.stanza.now o.kind c.args.told.now (archive_info_of c.args.archive.now) (backup_info_of c.args.backup) now least used) (OnlineCause x) (All repo ⊥ ⊥ ⊥ clock) (All repo spool tree server clock)
+    (prepare_takes x o refl c.args.archive.now c.args.backup c.requires.archive c.requires.backup)
+    (in_all repo ⊥ ⊥ ⊥ clock repo spool tree server clock (λ h. h) (λ h. absurd h) (λ h. absurd h) (λ h. absurd h) (λ h. h)) c.in-Err.halt c.in-Err.ensures.cause)
 
 pub returns-in_err-gathered-clause-cause : goal.returns-in_err-gathered-clause-cause
 returns-in_err-gathered-clause-cause g c =
-    let used = take c.args.order.take.workers (map g.L.Link.link_state c.args.links.now.items) in
+    let used = take c.args.order.later.take.workers (map g.L.Link.link_state c.args.links.now.items) in
     let nodes = (g.T.Tree.state c.args.tree.now).nodes in
     let turns = (g.A.Aside.state c.args.aside.now).turns in
     let now = map g.L.Link.link_state c.prepare.new.links.items in
-    let list = backup_info_of c.in-Ok.prepared.0 in
+    let list = backup_info_of c.in-Ok.prepared.list in
+    let files = map file_entry_of c.files_of-old.result.now in
     let lost = c.prepare.new.lost.items in
     let few : length c.args.links.now.items < 2 ^ 32 = omega (arith, c.requires.few, c.args.links.now.ok) in
-    let count = used_few g.L.Link.link_state c.args.order.take.workers (2 ^ 32) c.args.links.now.items few in
-    let x = asked c.args.stanza.now c.args.told.now (g.D.Disk.state c.args.repo.now).view.now nodes (g.C.Clock.state c.args.clock.now).least used (g.V.Wire.state c.args.server.now).pending (g.V.Wire.state c.talk.new.server).pending c.args.order.archive_timeout turns turns (g.D.Disk.state c.talk.new.repo).view.now in
+    let count = used_few g.L.Link.link_state c.args.order.later.take.workers (2 ^ 32) c.args.links.now.items few in
+    let x = asked c.args.stanza.now c.args.told.now c.args.order.later.kind (g.D.Disk.state c.args.repo.now).view.now nodes (g.C.Clock.state c.args.clock.now).least used (g.V.Wire.state c.args.server.now).pending (g.V.Wire.state c.talk.new.server).pending c.args.order.archive_timeout turns turns (g.D.Disk.state c.talk.new.repo).view.now in
     let first = Rises (g.D.Disk.state c.prepare.new.repo).faults (g.D.Disk.state c.talk.new.repo).faults in
     let repo = Rises (g.D.Disk.state c.args.repo.now).faults (g.D.Disk.state c.talk.new.repo).faults in
     let spool = Rises (g.S.Disk.state c.args.spool.now).faults (g.S.Disk.state c.args.spool.now).faults in
     let tree = Rises (g.T.Tree.state c.args.tree.now).faults (g.T.Tree.state c.talk.new.tree).faults in
     let server = Rises (g.V.Wire.state c.args.server.now).faults (g.V.Wire.state c.talk.new.server).faults in
-    let clock = Rises (g.C.Clock.state c.args.clock.now).faults (g.C.Clock.state c.prepare.new.clock).faults in
+    let clock = Rises (g.C.Clock.state c.args.clock.now).faults (g.C.Clock.state c.talk.new.clock).faults in
+    let then = Rises (g.C.Clock.state c.prepare.new.clock).faults (g.C.Clock.state c.talk.new.clock).faults in
     ends_with (HaltCause (OnlineCause x) (All repo spool tree server clock)) c.from_residual.result c.in_err-gathered.field-0.0 c.from_residual.ensures.1
-    (halt_as (SpokenCause c.args.stanza.now nodes list now lost c.args.told.now.system (g.V.Wire.state c.args.server.now).pending (g.V.Wire.state c.talk.new.server).pending) (OnlineCause x) (All first ⊥ tree server ⊥) (All repo spool tree server clock)
-    (spoken_takes x c.args.archive.now c.args.backup c.requires.archive c.requires.backup list c.in-Ok.ensures.settled now lost c.in-Ok.ensures.left count)
-    (in_all first ⊥ tree server ⊥ repo spool tree server clock (rises_from (g.D.Disk.state c.args.repo.now).faults (g.D.Disk.state c.prepare.new.repo).faults (g.D.Disk.state c.talk.new.repo).faults c.prepare.ensures.looks.later) (λ h. absurd h) (λ h. h) (λ h. h) (λ h. absurd h)) c.in_err-gathered.field-0.0 c.in_err-gathered.ensures.cause)
+    (halt_as (SpokenCause c.args.stanza.now c.args.order.later nodes list files now lost c.args.told.now.system (g.V.Wire.state c.args.server.now).pending (g.V.Wire.state c.talk.new.server).pending) (OnlineCause x) (All first ⊥ tree server then) (All repo spool tree server clock)
+    (spoken_takes x c.args.order.later refl c.args.archive.now c.args.backup c.requires.archive c.requires.backup list c.in-Ok.ensures.settled files now lost c.in-Ok.ensures.left count)
+    (in_all first ⊥ tree server then repo spool tree server clock (rises_from (g.D.Disk.state c.args.repo.now).faults (g.D.Disk.state c.prepare.new.repo).faults (g.D.Disk.state c.talk.new.repo).faults c.prepare.ensures.looks.later) (λ h. absurd h) (λ h. h) (λ h. h)
+    (rises_from (g.C.Clock.state c.args.clock.now).faults (g.C.Clock.state c.prepare.new.clock).faults (g.C.Clock.state c.talk.new.clock).faults c.prepare.ensures.later)) c.in_err-gathered.field-0.0 c.in_err-gathered.ensures.cause)
 
 pub returns-in_err-wait-clause-cause : goal.returns-in_err-wait-clause-cause
 returns-in_err-wait-clause-cause g c =
-    let used = take c.args.order.take.workers (map g.L.Link.link_state c.args.links.now.items) in
+    let used = take c.args.order.later.take.workers (map g.L.Link.link_state c.args.links.now.items) in
     let nodes = (g.T.Tree.state c.args.tree.now).nodes in
     let turns = (g.A.Aside.state c.args.aside.now).turns in
     let now = map g.L.Link.link_state c.prepare.new.links.items in
-    let list = backup_info_of c.in-Ok.prepared.0 in
+    let list = backup_info_of c.in-Ok.prepared.list in
+    let files = map file_entry_of c.files_of-old.result.now in
     let lost = c.prepare.new.lost.items in
     let few : length c.args.links.now.items < 2 ^ 32 = omega (arith, c.requires.few, c.args.links.now.ok) in
-    let count = used_few g.L.Link.link_state c.args.order.take.workers (2 ^ 32) c.args.links.now.items few in
-    let x = asked c.args.stanza.now c.args.told.now (g.D.Disk.state c.args.repo.now).view.now nodes (g.C.Clock.state c.args.clock.now).least used (g.V.Wire.state c.args.server.now).pending (g.V.Wire.state c.talk.new.server).pending c.args.order.archive_timeout turns (g.A.Aside.state c.wait.new.aside).turns (g.D.Disk.state c.wait.new.repo).view.now in
+    let count = used_few g.L.Link.link_state c.args.order.later.take.workers (2 ^ 32) c.args.links.now.items few in
+    let x = asked c.args.stanza.now c.args.told.now c.args.order.later.kind (g.D.Disk.state c.args.repo.now).view.now nodes (g.C.Clock.state c.args.clock.now).least used (g.V.Wire.state c.args.server.now).pending (g.V.Wire.state c.talk.new.server).pending c.args.order.archive_timeout turns (g.A.Aside.state c.wait.new.aside).turns (g.D.Disk.state c.wait.new.repo).view.now in
     let y = c.in_ok-gathered.ensures.gathered in
     let d = fetched_draft c.in_ok-gathered.gathered.fetched in
     let o = online_of c.in_ok-gathered.online in
@@ -235,21 +284,22 @@ returns-in_err-wait-clause-cause g c =
     let clock = Rises (g.C.Clock.state c.args.clock.now).faults (g.C.Clock.state c.end_backup.new.clock).faults in
     ends_with (HaltCause (OnlineCause x) (All repo spool tree server clock)) c.from_residual-in_err-wait.result c.in_err-wait.field-0.0 c.from_residual-in_err-wait.ensures.1
     (halt_as (VainCause c.args.stanza.now id o.part x.most x.now x.turns x.turned) (OnlineCause x) (All first spool ⊥ ⊥ ⊥) (All repo spool tree server clock)
-    (vain_takes x c.args.archive.now c.args.backup c.requires.archive c.requires.backup list c.in-Ok.ensures.settled now lost c.in-Ok.ensures.left count d y.draft o c.in_ok-gathered.ensures.told id y.named.id_is o.part refl)
+    (vain_takes x c.args.order.later refl c.args.archive.now c.args.backup c.requires.archive c.requires.backup list c.in-Ok.ensures.settled files now lost c.in-Ok.ensures.left count d y.draft o c.in_ok-gathered.ensures.told id y.named.id_is o.part refl)
     (in_all first spool ⊥ ⊥ ⊥ repo spool tree server clock (rises_from (g.D.Disk.state c.args.repo.now).faults (g.D.Disk.state c.end_backup.new.repo).faults (g.D.Disk.state c.wait.new.repo).faults (omega (arith, c.prepare.ensures.looks.later, c.talk.ensures.frame.later, c.end_backup.ensures.frame.later))) (λ h. h) (λ h. absurd h) (λ h. absurd h) (λ h. absurd h))
     c.in_err-wait.field-0.0 c.in_err-wait.ensures.cause)
 
 pub returns-clause-cause : goal.returns-clause-cause
 returns-clause-cause g c =
-    let used = take c.args.order.take.workers (map g.L.Link.link_state c.args.links.now.items) in
+    let used = take c.args.order.later.take.workers (map g.L.Link.link_state c.args.links.now.items) in
     let nodes = (g.T.Tree.state c.args.tree.now).nodes in
     let turns = (g.A.Aside.state c.args.aside.now).turns in
     let now = map g.L.Link.link_state c.prepare.new.links.items in
-    let list = backup_info_of c.in-Ok.prepared.0 in
+    let list = backup_info_of c.in-Ok.prepared.list in
+    let files = map file_entry_of c.files_of-old.result.now in
     let lost = c.prepare.new.lost.items in
     let few : length c.args.links.now.items < 2 ^ 32 = omega (arith, c.requires.few, c.args.links.now.ok) in
-    let count = used_few g.L.Link.link_state c.args.order.take.workers (2 ^ 32) c.args.links.now.items few in
-    let x = asked c.args.stanza.now c.args.told.now (g.D.Disk.state c.args.repo.now).view.now nodes (g.C.Clock.state c.args.clock.now).least used (g.V.Wire.state c.args.server.now).pending (g.V.Wire.state c.talk.new.server).pending c.args.order.archive_timeout turns (g.A.Aside.state c.wait.new.aside).turns (g.D.Disk.state c.conclude.new.repo).view.now in
+    let count = used_few g.L.Link.link_state c.args.order.later.take.workers (2 ^ 32) c.args.links.now.items few in
+    let x = asked c.args.stanza.now c.args.told.now c.args.order.later.kind (g.D.Disk.state c.args.repo.now).view.now nodes (g.C.Clock.state c.args.clock.now).least used (g.V.Wire.state c.args.server.now).pending (g.V.Wire.state c.talk.new.server).pending c.args.order.archive_timeout turns (g.A.Aside.state c.wait.new.aside).turns (g.D.Disk.state c.conclude.new.repo).view.now in
     let y = c.in_ok-gathered.ensures.gathered in
     let f = c.in_ok-gathered.gathered.fetched in
     let d = fetched_draft f in
@@ -263,7 +313,7 @@ returns-clause-cause g c =
     let clock = Rises (g.C.Clock.state c.args.clock.now).faults (g.C.Clock.state c.end_backup.new.clock).faults in
     err_as (HaltCause (OfTake (PublishCause d (Some o) ends)) (All first ⊥ ⊥ ⊥ ⊥)) (HaltCause (OnlineCause x) (All repo spool tree server clock)) c.conclude.result
     (halt_as (OfTake (PublishCause d (Some o) ends)) (OnlineCause x) (All first ⊥ ⊥ ⊥ ⊥) (All repo spool tree server clock)
-    (publish_takes x c.args.archive.now c.args.backup c.requires.archive c.requires.backup list c.in-Ok.ensures.settled now lost c.in-Ok.ensures.left count d y.draft o c.in_ok-gathered.ensures.told ends (g.D.Disk.state c.talk.new.repo).view y.staged)
+    (publish_takes x c.args.order.later refl c.args.archive.now c.args.backup c.requires.archive c.requires.backup list c.in-Ok.ensures.settled files now lost c.in-Ok.ensures.left count d y.draft o c.in_ok-gathered.ensures.told ends (g.D.Disk.state c.talk.new.repo).view y.staged)
     (in_all first ⊥ ⊥ ⊥ ⊥ repo spool tree server clock (rises_from (g.D.Disk.state c.args.repo.now).faults (g.D.Disk.state c.wait.new.repo).faults (g.D.Disk.state c.conclude.new.repo).faults (omega (arith, c.prepare.ensures.looks.later, c.talk.ensures.frame.later, c.end_backup.ensures.frame.later, c.wait.ensures.repo_frame.later))) (λ h. absurd h) (λ h. absurd h) (λ h. absurd h) (λ h. absurd h)))
     (published d f (Some o) c.in_ok-closed.closed refl c.in_ok-closed.ensures.of (λ q z es. IfErr c.conclude.result (HaltCause (OfTake (PublishCause q z es)) (All first ⊥ ⊥ ⊥ ⊥))) c.conclude.ensures.cause)
 
@@ -285,7 +335,7 @@ returns-in_err-closed-clause-beside g c =
     let s = (g.D.Disk.state c.end_backup.new.repo).view in
     let x = c.in_ok-gathered.ensures.gathered in
     let d = fetched_draft c.in_ok-gathered.gathered.fetched in
-    by_account (g.A.Aside.state c.args.aside.now).account (λ (k : Account). k.stanza ≡ stanza → StaysBeside stanza a s) (λ k at of. staged_beside stanza a b t s looks.time looks.now c.talk.ensures.beside d x.draft.full.stanza_is c.end_backup.ensures.beside)
+    by_account (g.A.Aside.state c.args.aside.now).account (λ (k : Account). k.stanza ≡ stanza → StaysBeside stanza a s) (λ k at of. staged_beside stanza a b t s looks.time looks.now c.talk.ensures.beside d x.draft.later.stanza_is c.end_backup.ensures.beside)
 
 pub returns-in_err-wait-clause-beside : goal.returns-in_err-wait-clause-beside
 returns-in_err-wait-clause-beside g c =
@@ -297,7 +347,7 @@ returns-in_err-wait-clause-beside g c =
     let s = (g.D.Disk.state c.end_backup.new.repo).view in
     let x = c.in_ok-gathered.ensures.gathered in
     let d = fetched_draft c.in_ok-gathered.gathered.fetched in
-    waited_beside stanza a b t s looks.time looks.now c.talk.ensures.beside d x.draft.full.stanza_is c.end_backup.ensures.beside false (g.A.Aside.state c.args.aside.now).account (g.A.Aside.state c.wait.new.aside).account (g.D.Disk.state c.wait.new.repo).view (g.S.Disk.state c.args.spool.now).view (g.S.Disk.state c.wait.new.spool).view c.in_err-wait.ensures.went
+    waited_beside stanza a b t s looks.time looks.now c.talk.ensures.beside d x.draft.later.stanza_is c.end_backup.ensures.beside false (g.A.Aside.state c.args.aside.now).account (g.A.Aside.state c.wait.new.aside).account (g.D.Disk.state c.wait.new.repo).view (g.S.Disk.state c.args.spool.now).view (g.S.Disk.state c.wait.new.spool).view c.in_err-wait.ensures.went
 
 pub returns-clause-beside : goal.returns-clause-beside
 returns-clause-beside g c =
@@ -309,7 +359,7 @@ returns-clause-beside g c =
     let s = (g.D.Disk.state c.end_backup.new.repo).view in
     let x = c.in_ok-gathered.ensures.gathered in
     let d = fetched_draft c.in_ok-gathered.gathered.fetched in
-    listed_beside stanza a b t s looks.time looks.now c.talk.ensures.beside d x.draft.full.stanza_is c.end_backup.ensures.beside true (g.A.Aside.state c.args.aside.now).account (g.A.Aside.state c.wait.new.aside).account (g.D.Disk.state c.wait.new.repo).view (g.S.Disk.state c.args.spool.now).view (g.S.Disk.state c.wait.new.spool).view c.in_ok-wait.ensures.went
+    listed_beside stanza a b t s looks.time looks.now c.talk.ensures.beside d x.draft.later.stanza_is c.end_backup.ensures.beside true (g.A.Aside.state c.args.aside.now).account (g.A.Aside.state c.wait.new.aside).account (g.D.Disk.state c.wait.new.repo).view (g.S.Disk.state c.args.spool.now).view (g.S.Disk.state c.wait.new.spool).view c.in_ok-wait.ensures.went
     (g.D.Disk.state c.conclude.new.repo).view (closed_draft c.in_ok-closed.closed) c.in_ok-closed.ensures.of.draft_is c.conclude.ensures.beside
 
 pub returns-in_err-closed-clause-ended : goal.returns-in_err-closed-clause-ended
@@ -356,17 +406,19 @@ returns-in_err-wait-clause-marks g c =
     let b = (g.D.Disk.state c.prepare.new.repo).view in
     let looks = c.prepare.ensures.looks in
     let nodes = (g.T.Tree.state c.args.tree.now).nodes in
-    let list = backup_info_of c.in-Ok.prepared.0 in
+    let list = backup_info_of c.in-Ok.prepared.list in
+    let files = map file_entry_of c.files_of-old.result.now in
+    let from = begins_from stanza c.args.order.later c.args.archive.now c.args.backup a.now b.now looks.now c.requires.archive c.requires.backup list c.in-Ok.ensures.settled (option_map manifest_of c.in-Ok.prepared.base) c.in-Ok.ensures.base files c.files_of-old.ensures in
     let t = (g.D.Disk.state c.talk.new.repo).view in
     let s = (g.D.Disk.state c.end_backup.new.repo).view in
     let x = c.in_ok-gathered.ensures.gathered in
     let d = fetched_draft c.in_ok-gathered.gathered.fetched in
-    let begins = begins_running stanza c.args.archive.now c.args.backup a.now b.now looks.now c.requires.archive c.requires.backup nodes list d x.draft c.in-Ok.ensures.settled in
+    let begins = begins_of stanza c.args.order.later nodes list files d x.draft b (g.met.D.Disk.now_may_be_left c.prepare.new.repo) from in
     let leaves = leaves_after d (apart d x.draft.is_draft) b t s x.unlisted c.end_backup.ensures.unlisted in
     let w = (g.D.Disk.state c.wait.new.repo).view in
     let account2 = (g.A.Aside.state c.wait.new.aside).account in
     let spool2 = (g.S.Disk.state c.wait.new.spool).view in
-    waited_marks a b s w looks.time looks.now d begins leaves account account2 spool spool2 stanza x.draft.full.stanza_is false _
+    waited_marks a b s w looks.time looks.now d begins leaves account account2 spool spool2 stanza x.draft.later.stanza_is false _
     (λ at. absurd (not_end c.from_residual-in_err-wait.result c.in_err-wait.field-0.0 c.from_residual-in_err-wait.ensures.1 at)) c.in_err-wait.ensures.went
 
 pub returns-clause-marks : goal.returns-clause-marks
@@ -378,17 +430,19 @@ returns-clause-marks g c =
     let b = (g.D.Disk.state c.prepare.new.repo).view in
     let looks = c.prepare.ensures.looks in
     let nodes = (g.T.Tree.state c.args.tree.now).nodes in
-    let list = backup_info_of c.in-Ok.prepared.0 in
+    let list = backup_info_of c.in-Ok.prepared.list in
+    let files = map file_entry_of c.files_of-old.result.now in
+    let from = begins_from stanza c.args.order.later c.args.archive.now c.args.backup a.now b.now looks.now c.requires.archive c.requires.backup list c.in-Ok.ensures.settled (option_map manifest_of c.in-Ok.prepared.base) c.in-Ok.ensures.base files c.files_of-old.ensures in
     let t = (g.D.Disk.state c.talk.new.repo).view in
     let s = (g.D.Disk.state c.end_backup.new.repo).view in
     let x = c.in_ok-gathered.ensures.gathered in
     let d = fetched_draft c.in_ok-gathered.gathered.fetched in
-    let begins = begins_running stanza c.args.archive.now c.args.backup a.now b.now looks.now c.requires.archive c.requires.backup nodes list d x.draft c.in-Ok.ensures.settled in
+    let begins = begins_of stanza c.args.order.later nodes list files d x.draft b (g.met.D.Disk.now_may_be_left c.prepare.new.repo) from in
     let leaves = leaves_after d (apart d x.draft.is_draft) b t s x.unlisted c.end_backup.ensures.unlisted in
     let w = (g.D.Disk.state c.wait.new.repo).view in
     let account2 = (g.A.Aside.state c.wait.new.aside).account in
     let spool2 = (g.S.Disk.state c.wait.new.spool).view in
-    waited_marks a b s w looks.time looks.now d begins leaves account account2 spool spool2 stanza x.draft.full.stanza_is true _ (λ at. refl) c.in_ok-wait.ensures.went
+    waited_marks a b s w looks.time looks.now d begins leaves account account2 spool spool2 stanza x.draft.later.stanza_is true _ (λ at. refl) c.in_ok-wait.ensures.went
 
 pub returns-in-Err-clause-spool_beside : goal.returns-in-Err-clause-spool_beside
 returns-in-Err-clause-spool_beside g c = spool_still c.args.stanza.now (g.A.Aside.state c.args.aside.now).account (g.S.Disk.state c.args.spool.now).view
@@ -410,4 +464,11 @@ returns-clause-spool_beside g c = spool_waited c.args.stanza.now true (g.A.Aside
 -- ---- the talk
 
 pub returns-in-Err-clause-ended : goal.returns-in-Err-clause-ended
-returns-in-Err-clause-ended g c = inl (refl, (c.in-Err.halt, c.of_take.ensures))
+returns-in-Err-clause-ended g c = inl (refl, (c.in-Err.halt, c.of_later.ensures))
+
+-- ---- what it is based on
+
+pub talk-requires-clause-old : goal.talk-requires-clause-old
+talk-requires-clause-old g c =
+    let base = base_in c.args.order.later.kind (backup_info_of c.in-Ok.prepared.list) in
+    subst (λ (es : List FileEntry). MayBase base es) (sym c.files_of-old.ensures) (may_base c.args.stanza.now (g.D.Disk.state c.args.repo.now).view.now base (option_map manifest_of c.in-Ok.prepared.base) c.in-Ok.ensures.base)
