@@ -7,7 +7,7 @@
 # The server starts this program by its name.
 export PATH=$room:$PATH
 
-online=(--no-expire-auto --start-fast)
+online=(--start-fast)
 
 # The list as the info file tells it.
 listed() {

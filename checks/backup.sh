@@ -8,7 +8,7 @@ program() {
     "$top/bin/pgbackrest" --stanza=demo --pg1-path="$room/pg" --repo1-path="$room/repo" --lock-path="$room/lock" "$@"
 }
 
-full=(--no-online --type=full --no-expire-auto)
+full=(--no-online --type=full)
 
 # back_up OPTION..: a full backup, whose label is then in `label`.
 back_up() {
@@ -89,12 +89,11 @@ refuse 28 "ERROR: [028]: 'global/pg_control' is missing
 mv control pg/global/pg_control
 mkdir -p lock
 want 100 "ERROR: [100]: 'type' is not built yet
-" --type=incr --no-expire-auto backup
-for option in delta expire-auto; do
+" --type=incr backup
+for option in delta; do
     words=("${full[@]}")
     case $option in
     delta) words+=(--delta) ;;
-    expire-auto) words[2]=--expire-auto ;;
     esac
     want 100 "ERROR: [100]: '$option' is not built yet
 " "${words[@]}" backup

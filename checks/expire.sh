@@ -1,6 +1,6 @@
 #!/usr/bin/env bash
 # expire of three backups and a log: just what the rules let go is told and is gone, the backup that is left is restored as it was, and an
-# expiry that is killed is made good by the next. A backup of a stopped server has no part of the log, so the list is told some here.
+# expiry that is killed is made good by the next. So it is behind a backup. A backup of a stopped server has no part of the log, so the list is told some here.
 . "$(dirname "$0")/common"
 
 # (restore and info take no lock, and refuse its option)
@@ -13,7 +13,7 @@ program() {
 }
 
 back_up() {
-    program --pg1-path="$room/pg" --no-online --type=full --no-expire-auto backup >output || complain "the backup ended with $?"
+    program --pg1-path="$room/pg" --no-online --type=full "$@" backup >output || complain "the backup ended with $?"
     label=$(sed -n 's/^INFO: new backup label = //p' output)
 }
 
@@ -71,6 +71,7 @@ cp -a pg kept
 # What a server makes anew isn't backed up.
 rm -f kept/pg_subtrans/* kept/pg_notify/*
 back_up
+third=$label
 cp -a repo whole
 
 # Without a rule nothing that is listed goes. What a stopped backup left does, and no other folder.
@@ -139,6 +140,15 @@ for moment in 0.005 0.01 0.02 0.03 0.05 0.08; do
     program --repo1-retention-full=1 expire >output 2>errors || complain "the expiry after one that was killed ended with $?"
     list repo | cmp -s after - || complain "after a kill at $moment seconds the next expiry left something else: $(list repo | diff after - | head -n 3)"
 done
+
+# Behind a backup: its line comes first, and it is what is left.
+again
+back_up --repo1-retention-full=2
+printf 'INFO: new backup label = %s\nINFO: expire backup %s\nINFO: expire backup %s\n' "$label" "$first" "$second" | cmp -s - output || complain "a backup with an expiry behind it prints $(cat output)"
+listed "$third" "$label"
+logged 16 17 18 19 20
+back_up --repo1-retention-full=1 --no-expire-auto
+[ "$(wc -l <output)" = 1 ] || complain "a backup without an expiry behind it prints $(cat output)"
 
 # A lock that is held, and no stanza.
 if command -v flock >/dev/null; then

@@ -8,7 +8,7 @@
 export PATH=$room:$PATH
 
 back_up() {
-    program --no-online --type=full --no-expire-auto backup >output || complain "the backup ended with $?: $(cat output)"
+    program --no-online --type=full backup >output || complain "the backup ended with $?: $(cat output)"
     label=$(sed -n 's/^INFO: new backup label = //p' output)
 }
 

@@ -53,7 +53,7 @@ tells_total() {
 }
 
 repository=$room/repo
-tells_total --log-level-stderr=info "${lock[@]}" --no-online --type=full --no-expire-auto backup
+tells_total --log-level-stderr=info "${lock[@]}" --no-online --type=full backup
 # A backup that takes ten seconds and more tells how far it is before.
 told=$(tail -n 1 errors | sed 's/INFO: \([0-9]*\) .*/\1/')
 stored=$(find repo/backup/demo/*F -type f -exec cat {} + | wc -c)

@@ -8,7 +8,7 @@ program() {
 }
 
 back_up() {
-    program --pg1-path="$room/pg" --lock-path="$room/lock" --no-online --type=full --no-expire-auto backup >output || complain "the backup ended with $?"
+    program --pg1-path="$room/pg" --lock-path="$room/lock" --no-online --type=full backup >output || complain "the backup ended with $?"
     label=$(sed -n 's/^INFO: new backup label = //p' output)
 }
 

@@ -5,8 +5,8 @@ use Rattle.std.proofs.Math.Bool.{and-true}
 use Rattle.pgb_outside.specs.Content.{Content}
 use Rattle.pgb_outside.specs.Moments.{View, Rests}
 use Rattle.pgb_model.specs.Text.{Text}
-use Rattle.pgb_model.specs.Repository.{Repository}
-use Rattle.pgb_model.specs.Steps.{Turn, ArchivePushAsync, all_of, steps_of}
+use Rattle.pgb_model.specs.Repository.{Repository, IsSound}
+use Rattle.pgb_model.specs.Steps.{Step, Turn, ArchivePushAsync, after, all_of, steps_of}
 use Rattle.pgb_model.specs.Log.{Done, StandsAfter}
 use Rattle.pgb_model.specs.Now.{NowStands, NowDoes}
 use Rattle.pgb_model.specs.Steady.{CarriesOn}
@@ -16,6 +16,7 @@ use Rattle.pgb_stored.specs.Stored.{ChangesArchive}
 use Rattle.pgb_turn.specs.Turns.{GoesByTurn}
 use Rattle.pgb_await.specs.Went.{all_ended, GoesByTurns}
 use Rattle.pgb_await.proofs.Moves.{turns_do}
+use Rattle.pgb_await.proofs.Sounds.{turn_stays, turns_stay}
 
 -- ---- no turn
 
@@ -35,6 +36,7 @@ still_goes stanza a b rests same = record {
         record { fixed = k.fixed; places = k.places; stands = λ f leaves. one_more q log f (k.stands f leaves) };
   };
   between = record { between = λ q log some keeps. rests_between stanza (ArchivePushAsync []) q log a b rests same keeps };
+  sound = λ r some now sound. subst (λ (l : List Step). IsSound (after r l)) (sym (ap all_of (no_moves r))) sound;
 }
   where
     one_more : (q : Repository) (log : List Done) (f : Content) → StandsAfter stanza q log f →
@@ -53,6 +55,7 @@ one_goes stanza t a b goes = record {
   does = subst (λ (w : Bool). NowDoes stanza (ArchivePushAsync (t ∷ [])) w a.now b.now) (sym (and-true t.ended)) goes.does;
   carries = subst (λ (w : Bool). CarriesOn stanza (ArchivePushAsync (t ∷ [])) w a b) (sym (and-true t.ended)) goes.carries;
   between = goes.between;
+  sound = λ r some now sound. turn_stays t r sound (goes.under r some sound now);
 }
 
 -- ---- turns, and then more of them
@@ -79,6 +82,11 @@ module _ (stanza : Text) (ts us : List Turn) (a b c : View) (ended : all_ended t
             (turns_carry stanza ts us (all_ended us) a b c told carries q.carries);
         between = turns_pass stanza ts us a b c told only.time.later only.time.same only.time.same_loose carries
             p.between q.between;
+        sound = λ r some now sound. (
+            let x = does.does r tt some now in
+            let mid = after r (all_of (steps_of (ArchivePushAsync ts) r)) in
+            turns_stay ts us r (q.sound mid (told some) (subst (λ (l : List Step). NowStands stanza (after r l) b.now) x.1 x.2) (p.sound r some now sound))
+            );
       }
 
   pub both_ended : all_ended us ≡ true → all_ended (ts ++ us) ≡ true

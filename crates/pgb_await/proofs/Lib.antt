@@ -1,6 +1,7 @@
 mod Held
 mod Coming
 mod Moves
+mod Sounds
 mod Folds
 pub mod Marks
 mod Turns

@@ -1,11 +1,11 @@
 -- What other processes did while a command waited for several of their turns.
 use Rattle.std.specs.Prelude.{◌≡◌, ◌≤◌, ◌+◌, ◌-◌, ◌^◌, ◌&&◌, ℕ, min, Bool, true, List, [], ◌∷◌, ◌++◌, false, map, Option, Some, IsSome}
 use Rattle.pgb_outside.specs.Moments.{View}
-use Rattle.pgb_model.specs.Now.{NowDoes}
+use Rattle.pgb_model.specs.Now.{NowStands, NowDoes}
 use Rattle.pgb_model.specs.Log.{Done, Keeps, KeepsSpool}
-use Rattle.pgb_model.specs.Repository.{Repository}
+use Rattle.pgb_model.specs.Repository.{Repository, IsSound}
 use Rattle.pgb_model.specs.Steady.{CarriesOn, PassesOnly, LeavesOnly}
-use Rattle.pgb_model.specs.Steps.{Turn, ArchivePushAsync}
+use Rattle.pgb_model.specs.Steps.{Turn, ArchivePushAsync, after, all_of, steps_of}
 use Rattle.pgb_model.specs.Text.{Text}
 use Rattle.pgb_story.specs.Story.{HasReceiptsOf}
 use Rattle.pgb_stored.specs.Stored.{ChangesArchive}
@@ -25,6 +25,9 @@ pub record GoesByTurns (stanza : Text) (ts : List Turn) (old new : View) : Type 
   pub does : NowDoes stanza (ArchivePushAsync ts) (all_ended ts) old.now new.now
   pub carries : CarriesOn stanza (ArchivePushAsync ts) (all_ended ts) old new
   pub between : PassesOnly stanza (ArchivePushAsync ts) old new
+  -- whatever sound repository it stood for, that is sound with all of them
+  pub sound : (r : Repository) → IsSome old.now → NowStands stanza r old.now → IsSound r →
+      IsSound (after r (all_of (steps_of (ArchivePushAsync ts) r)))
 
 -- The spool keeps the log of a command that waits for these turns, as the repository does. At each moment each receipt
 -- that the spool has, or a stop leaves, is of a file that a log with a part of them has stored.

@@ -7,7 +7,8 @@ use Rattle.pgb_options.specs.Faults.{Fault}
 use Rattle.pgb_options.specs.Paths.{Path, nowhere, usual, named}
 use Rattle.pgb_options.specs.Settings.{Settled, settled_words}
 use Rattle.pgb_create.specs.Server.{Server}
-use Rattle.pgb_command.specs.Asked.{MayHave, WordsSettle, Request, Asked, IsAsked, MayAsk}
+use Rattle.pgb_retain.specs.declared.rules.Rules.{Rules}
+use Rattle.pgb_command.specs.Asked.{MayHave, WordsSettle, Request, Asked, IsAsked, MayAsk, expires_by, wanted_in}
 
 pub ok_same : {X Y : Type 0} (a b : X) → ◌≡◌ {A = Result X Y} (Ok a) (Ok b) → a ≡ b
 ok_same a b e = cc
@@ -23,17 +24,20 @@ one_settling words f x y p q =
     let text : p.bytes ≡ q.bytes = one_text f q.path p.bytes q.bytes (subst (λ (a : Path). MayHave (Some f) a p.bytes) path p.has) q.has in
     sym p.settled ∙ ap (settled_words words) text ∙ q.settled
 
-abbrev made : Text → Text → Text → Text → Option Server → Request → Asked
-made s d r l v q = record { stanza = s; data_folder = d; repository = r; lock_folder = l; server = v; request = q }
+abbrev made : Text → Text → Text → Text → Option Server → Request → Option Rules → Asked
+made s d r l v q x = record { stanza = s; data_folder = d; repository = r; lock_folder = l; server = v; request = q; expires = x }
 
 one_of : (s : Settled) (a b : Asked) → IsAsked s a → IsAsked s b → a ≡ b
 one_of s a b p q =
-    ap (λ x. made x a.data_folder a.repository a.lock_folder a.server a.request) (p.stanza ∙ sym q.stanza)
-    ∙ ap (λ x. made b.stanza x a.repository a.lock_folder a.server a.request) (p.data_folder ∙ sym q.data_folder)
-    ∙ ap (λ x. made b.stanza b.data_folder x a.lock_folder a.server a.request) (p.repository ∙ sym q.repository)
-    ∙ ap (λ x. made b.stanza b.data_folder b.repository x a.server a.request) (p.lock_folder ∙ sym q.lock_folder)
-    ∙ ap (λ x. made b.stanza b.data_folder b.repository b.lock_folder x a.request) (p.server ∙ sym q.server)
-    ∙ ap (λ x. made b.stanza b.data_folder b.repository b.lock_folder b.server x) (ok_same a.request b.request (sym p.request ∙ q.request))
+    let request = ok_same a.request b.request (sym p.request ∙ q.request) in
+    let expires = p.expires ∙ ap (λ (r : Request). expires_by r (wanted_in s.source)) request ∙ sym q.expires in
+    ap (λ x. made x a.data_folder a.repository a.lock_folder a.server a.request a.expires) (p.stanza ∙ sym q.stanza)
+    ∙ ap (λ x. made b.stanza x a.repository a.lock_folder a.server a.request a.expires) (p.data_folder ∙ sym q.data_folder)
+    ∙ ap (λ x. made b.stanza b.data_folder x a.lock_folder a.server a.request a.expires) (p.repository ∙ sym q.repository)
+    ∙ ap (λ x. made b.stanza b.data_folder b.repository x a.server a.request a.expires) (p.lock_folder ∙ sym q.lock_folder)
+    ∙ ap (λ x. made b.stanza b.data_folder b.repository b.lock_folder x a.request a.expires) (p.server ∙ sym q.server)
+    ∙ ap (λ x. made b.stanza b.data_folder b.repository b.lock_folder b.server x a.expires) request
+    ∙ ap (λ x. made b.stanza b.data_folder b.repository b.lock_folder b.server b.request x) expires
 
 pub one_asked : (words : List Text) (files : Option Content) (a b : Asked) → IsSome files → MayAsk words files a → MayAsk words files b → a ≡ b
 one_asked words None a b told p q = cc

@@ -26,8 +26,10 @@ use Rattle.pgb_recover.specs.Fetching.{options_by}
 use Rattle.pgb_clear.specs.Clearing.{control_path, HasNone}
 use Rattle.pgb_command.specs.Asked.{Request, create, push, get, backup, backup_running, restore, report, examine, expire, RunningHow, Asked}
 use Rattle.pgb_retain.specs.declared.rules.Rules.{Rules}
+use Rattle.pgb_prune.specs.Behind.{IsFollowed}
 use Rattle.pgb_command.proofs.Expiries.{some_expiry}
-use Rattle.pgb_command.specs.Tables.{Known, known, plan_of, manner_of, OnReader, OnCreate, OnExpire, OnOther, FolderGoes, FolderStays, Unless, is_on_repository, TellsLabel}
+use Rattle.pgb_command.proofs.Followings.{any_followed}
+use Rattle.pgb_command.specs.Tables.{Known, known, WithExpiry, plan_of, manner_of, OnReader, OnCreate, OnExpire, OnOther, FolderGoes, FolderStays, Unless, is_on_repository, TellsLabel}
 
 -- no turn was taken, and the server told no label file
 pub running_idle : (stanza : Text) (how : RunningHow) (old new : Known) → new.others ≡ old.others → (account : Option Account) → new.others.account ≡ account → (P : Command → Type 0) → P (MakeBackup [] no_files None) → (told : Account → Type 0) → IsSomeAnd account told →
@@ -55,8 +57,11 @@ pub idle : (a : Asked) (request : Request) (old new : Known) → new.others ≡ 
 idle a create old new same P p = λ command is. p command
 idle a (push path) old new same P p = λ command is. p command
 idle a (get name path) old new same P p = λ command is. p command
-idle a (backup how) old new same P p = (MakeBackup [] no_files None, nothing_by how.kind (take how.workers old.links) a.stanza old.repo, p (MakeBackup [] no_files None))
-idle a (backup_running how) old new same P p = λ there. running_idle a.stanza how old new same new.others.account refl P (p (MakeBackup [] no_files None)) _ there
+idle a (backup how) old new same P p = let x = any_followed a.expires [] no_files in (x.0, (MakeBackup [] no_files None, nothing_by how.kind (take how.workers old.links) a.stanza old.repo, x.1), p x.0)
+idle a (backup_running how) old new same P p = λ there.
+    let x = any_followed a.expires [] no_files in
+    let y = running_idle a.stanza how old new same new.others.account refl (λ command. command ≡ MakeBackup [] no_files None) refl _ there in
+    (x.0, (y.0, y.1, subst (λ (c : Command). IsFollowed a.expires c x.0) (sym y.2) x.1), p x.0)
 idle a (restore set how) old new same P p = λ command is. p command
 idle a (report form) old new same P p = λ command is. p command
 idle a examine old new same P p = λ command is. p command
@@ -67,7 +72,7 @@ pub manner_at : (a : Asked) (request : Request) (old new : Known) (repo : Option
 manner_at a create old new repo heals P h = h
 manner_at a (push path) old new repo heals P h = h
 manner_at a (get name path) old new repo heals P h = h
-manner_at a (backup how) old new repo heals P h = subst (λ (r : Option Content). On (one (IsBackupBy how.kind (take how.workers old.links) a.stanza r)) P) heals h
+manner_at a (backup how) old new repo heals P h = subst (λ (r : Option Content). On (one (WithExpiry a.expires (IsBackupBy how.kind (take how.workers old.links) a.stanza r))) P) heals h
 manner_at a (backup_running how) old new repo heals P h = subst (λ (r : Option Content). On (manner_of a (backup_running how) (record old { repo = r }) new) P) heals h
 manner_at a (restore set how) old new repo heals P h = h
 manner_at a (report form) old new repo heals P h = h

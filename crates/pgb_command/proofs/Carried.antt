@@ -17,7 +17,7 @@ use Rattle.pgb_outside.specs.States.{SinkState, SourceState}
 use Rattle.pgb_stage.proofs.Counts.{rises_to}
 use Rattle.pgb_command.specs.declared.fault.CommandFault.TheVariants.{Create, Push, Get, Take, TakeOnline, Recover, Examine, Prune}
 use Rattle.pgb_command.specs.declared.fault.Fault.{Fault}
-use Rattle.pgb_command.specs.declared.fault.Fault.TheVariants.{Usage, Stage, Command as OfCommand, Failed as ObjectFailed, NoMemory}
+use Rattle.pgb_command.specs.declared.fault.Fault.TheVariants.{Usage, Stage, Command as OfCommand, Behind, Failed as ObjectFailed, NoMemory}
 use Rattle.pgb_command.specs.Answers.{Ending, status, answer_of}
 use Rattle.pgb_command.specs.Asked.{Asked, WordsSettle, IsAsked, requested}
 use Rattle.pgb_command.specs.Configuring.{ConfigCause}
@@ -25,7 +25,7 @@ use Rattle.pgb_command.specs.Causes.{IsAnswered, Obeys, Answers}
 use Rattle.pgb_command.specs.Did.{IsIdle, HealsPairs, Did, ComesBehind, Brackets, Cause, Closes, ArePlacesOpened}
 use Rattle.pgb_command.specs.Output.{IsTold}
 use Rattle.pgb_command.proofs.Dids.{did_from, later_on}
-use Rattle.pgb_command.proofs.Ends.{all_later}
+use Rattle.pgb_command.proofs.Ends.{all_later, expiry_as}
 use Rattle.pgb_command.proofs.Words.{is_idle, behind_as}
 
 -- ---- the output is written
@@ -53,6 +53,7 @@ module _ (a : Asked) (b k : Seen) (o : SinkState) (le : k.out.faults ≤ o.fault
   out_cause (Usage usage) h = h
   out_cause (Stage fault) h = h
   out_cause (OfCommand fault) h = h
+  out_cause (Behind lines fault) h = (h.0, h.1, (h.2.0, h.2.1, expiry_as a.stanza h.2.0 (out_failed Repo) (out_failed Clock) fault h.2.2))
   out_cause (ObjectFailed object) h = out_failed object h
   out_cause NoMemory h = h
 
@@ -67,6 +68,7 @@ module _ (a : Asked) (b k : Seen) (o : SinkState) (le : k.out.faults ≤ o.fault
   out_closes (OfCommand (Recover fault)) h = h
   out_closes (OfCommand (Examine fault)) h = h
   out_closes (OfCommand (Prune fault)) h = h
+  out_closes (Behind lines fault) h = h
   out_closes (ObjectFailed object) h = h
   out_closes NoMemory h = h
 

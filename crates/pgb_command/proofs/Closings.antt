@@ -33,8 +33,8 @@ use Rattle.pgb_recover.specs.Texts.{recover_status}
 use Rattle.pgb_examine.specs.declared.fault.ExamineFault.{ExamineFault}
 use Rattle.pgb_examine.proofs.Statuses.{examine_is}
 use Rattle.pgb_prune.specs.declared.fault.PruneFault.{PruneFault}
-use Rattle.pgb_prune.specs.Texts.{prune_status}
-use Rattle.pgb_prune.proofs.Statuses.{prune_within}
+use Rattle.pgb_prune.specs.Texts.{prune_status, behind_status}
+use Rattle.pgb_prune.proofs.Statuses.{prune_within, behind_late}
 use Rattle.pgb_command.specs.declared.fault.CommandFault.TheVariants.{Create, Push, Get, Take, TakeOnline, Recover, Examine, Prune}
 use Rattle.pgb_command.specs.declared.fault.Fault.{Fault}
 use Rattle.pgb_command.specs.declared.fault.Fault.TheVariants as fault
@@ -248,6 +248,7 @@ module _ (b k : Seen) (n : ℕ) where
   at_fault a (fault.Command (Recover e)) is refusal cause closes others = recover_apart e (subst IsServerRefusal is refusal)
   at_fault a (fault.Command (Examine e)) is refusal cause closes others = inr (inr (long_is n 71 (is ∙ examine_is e) (omega arith), ap (λ w. w.sent) (examine_at a b k e cause others)))
   at_fault a (fault.Command (Prune e)) is refusal cause closes others = inr (inr (long_is n (prune_status e) is (only_many (prune_status e) (prune_within e).1 (subst IsServerRefusal is refusal)), ap (λ w. w.sent) (prune_at a b k e cause others)))
+  at_fault a (fault.Behind lines e) is refusal cause closes others = high (behind_status e) (omega (arith, (behind_late e).0)) (subst IsServerRefusal is refusal)
   at_fault a (fault.Failed o) is refusal cause closes others = object_apart o (subst IsServerRefusal is refusal)
   at_fault a fault.NoMemory is refusal cause closes others = high 90 (omega arith) (subst IsServerRefusal is refusal)
 
@@ -255,6 +256,7 @@ module _ (b k : Seen) (n : ℕ) where
   at_words words (fault.Usage u) is refusal idle cause = usage_apart u (subst IsServerRefusal is refusal)
   at_words words (fault.Stage e) is refusal idle cause = inr (inr (long_is n (stage_status e) is (omega (arith, stage_long e (subst IsServerRefusal is refusal))), ap (λ w. w.sent) idle.server))
   at_words words (fault.Command e) is refusal idle cause = absurd cause
+  at_words words (fault.Behind lines e) is refusal idle cause = absurd cause
   at_words words (fault.Failed o) is refusal idle cause = object_apart o (subst IsServerRefusal is refusal)
   at_words words fault.NoMemory is refusal idle cause = high 90 (omega arith) (subst IsServerRefusal is refusal)
 

@@ -1,5 +1,5 @@
 -- The status of findings is that of no refusal, and only verify has it.
-use Rattle.std.proofs.Common.{◌≡◌, ◌≢◌, ◌≤◌, ◌⊎◌, ℕ, inl, inr, refl, arith}
+use Rattle.std.proofs.Common.{◌≡◌, ◌≢◌, ◌≤◌, ◌⊎◌, ℕ, Option, Some, None, inl, inr, refl, arith}
 use Rattle.std.specs.Prelude.{String}
 use Rattle.std.specs.declared.alloc.Global.{Global}
 use Rattle.pgb_options.specs.declared.usage.Usage.{Usage}
@@ -10,6 +10,9 @@ use Rattle.pgb_stage.specs.declared.object.Object.{Object}
 use Rattle.pgb_stage.specs.declared.object.Object.TheVariants as object
 use Rattle.pgb_stage.specs.declared.fault.StageFault.{StageFault}
 use Rattle.pgb_stage.specs.declared.fault.StageFault.TheVariants as stage
+use Rattle.pgb_outside.specs.Content.{Content}
+use Rattle.pgb_model.specs.Text.{Text}
+use Rattle.pgb_stage.specs.declared.outcome.Outcome.{Outcome}
 use Rattle.pgb_stage.specs.declared.outcome.Outcome.TheVariants.{FindingsFound}
 use Rattle.pgb_stage.specs.Texts.{stage_status, object_status}
 use Rattle.pgb_create.specs.declared.fault.CreateFault.{CreateFault}
@@ -34,6 +37,8 @@ use Rattle.pgb_examine.proofs.Statuses.{examine_is}
 use Rattle.pgb_prune.specs.declared.fault.PruneFault.{PruneFault}
 use Rattle.pgb_prune.specs.declared.fault.PruneFault.TheVariants as prunes
 use Rattle.pgb_prune.specs.Texts.{prune_status}
+use Rattle.pgb_prune.proofs.Statuses.{behind_late}
+use Rattle.pgb_retain.specs.declared.rules.Rules.{Rules}
 use Rattle.pgb_command.specs.declared.fault.CommandFault.{CommandFault}
 use Rattle.pgb_command.specs.declared.fault.CommandFault.TheVariants.{Create, Push, Get, Take, TakeOnline, Recover, Examine, Prune}
 use Rattle.pgb_command.specs.declared.fault.Fault.{Fault}
@@ -41,7 +46,7 @@ use Rattle.pgb_command.specs.declared.fault.Fault.TheVariants as fault
 use Rattle.pgb_command.specs.Answers.{status_of, usage_status, command_status}
 use Rattle.pgb_command.specs.Asked.{Request, create, push, get, backup, backup_running, restore, report, examine, expire, Asked}
 use Rattle.pgb_command.specs.Causes.{EndsWell}
-use Rattle.pgb_command.specs.Tables.{Known, Promise}
+use Rattle.pgb_command.specs.Tables.{Known, IsBackedUp, BehindIt, Promise}
 use Rattle.pgb_command.proofs.Statuses.{over}
 
 -- ---- no refusal has it
@@ -158,6 +163,7 @@ not_found : (e : Fault) → status_of e ≢ 65
 not_found (fault.Usage e) = not_usage e
 not_found (fault.Stage e) = not_stage e
 not_found (fault.Command e) = not_command e
+not_found (fault.Behind lines e) = λ is. let x = behind_late e in absurd (omega (arith, is, x.0))
 not_found (fault.Failed e) = not_object e
 not_found fault.NoMemory = λ is. absurd (omega (arith, is))
 
@@ -173,12 +179,17 @@ cut_ill m le (inr is) = absurd (omega (arith, is, le))
 
 -- ---- whose it is
 
+-- no backup ends so, with an expiry behind it or without
+never_deviates : {P : Type 0} (rules : Option Rules) (stanza : Text) (Was : Option Content → Outcome → Type 0) (new : Known) (lines : String Global) → ((repo : Option Content) → Was repo (FindingsFound lines) → P) → BehindIt rules stanza Was new (FindingsFound lines) → P
+never_deviates None stanza Was new lines never h = never new.repo h
+never_deviates (Some rules) stanza Was new lines never h = absurd h.adds
+
 pub only_examines : (a : Asked) (q : Request) (old new : Known) (lines : String Global) → Promise a q old new (FindingsFound lines) → q ≡ examine
 only_examines a create old new lines h = absurd h.created.silent
 only_examines a (push path) old new lines h = absurd h
 only_examines a (get name path) old new lines h = absurd h.0
-only_examines a (backup how) old new lines (o, is, (told, tells, never)) = absurd never
-only_examines a (backup_running how) old new lines ((told, tells, never), asks) = absurd never
+only_examines a (backup how) old new lines h = never_deviates a.expires a.stanza (IsBackedUp a (backup how) old new) new lines (λ repo x. absurd x.2.2) h
+only_examines a (backup_running how) old new lines h = never_deviates a.expires a.stanza (IsBackedUp a (backup_running how) old new) new lines (λ repo x. absurd x.0.2) h
 only_examines a (restore set how) old new lines h = absurd h.recovers
 only_examines a (report form) old new lines h = absurd h.0
 only_examines a examine old new lines h = refl

@@ -17,7 +17,7 @@ use Rattle.pgb_model.specs.Walks.{IsTight}
 use Rattle.pgb_model.proofs.Each.{keeps_tight}
 use Rattle.pgb_stage.specs.declared.plan.Plan.{Plan}
 use Rattle.pgb_stage.specs.declared.object.Object.{Object}
-use Rattle.pgb_stage.specs.declared.object.Object.TheVariants.{Server as TheServer, Locks}
+use Rattle.pgb_stage.specs.declared.object.Object.TheVariants.{Repo, Server as TheServer, Clock as TheClock, Locks}
 use Rattle.pgb_stage.specs.declared.fault.StageFault.{StageFault}
 use Rattle.pgb_stage.specs.declared.fault.StageFault.TheVariants.{Held}
 use Rattle.pgb_stage.specs.declared.halt.Halt.{Halt}
@@ -42,13 +42,13 @@ use Rattle.pgb_create.specs.Talking.{Ended}
 use Rattle.pgb_create.proofs.Statuses.{closes_as}
 use Rattle.pgb_command.specs.declared.fault.CommandFault.TheVariants.{Create, Push, Get, Take, TakeOnline, Recover, Examine, Prune}
 use Rattle.pgb_command.specs.declared.fault.Fault.{Fault}
-use Rattle.pgb_command.specs.declared.fault.Fault.TheVariants.{Usage, Stage, Command as OfCommand, Failed as ObjectFailed, NoMemory}
+use Rattle.pgb_command.specs.declared.fault.Fault.TheVariants.{Usage, Stage, Command as OfCommand, Behind, Failed as ObjectFailed, NoMemory}
 use Rattle.pgb_command.specs.Answers.{status, reached_of, ending_of, is_early}
 use Rattle.pgb_command.specs.Asked.{Request, create, push, get, backup, backup_running, restore, report, examine, expire, Asked}
 use Rattle.pgb_command.specs.Faults.{of_stage}
 use Rattle.pgb_command.specs.Tables.{Known, known, plan_of, manner_of, CommandCause, Promise, Lasts, OnReader, OnCreate, OnExpire, Expires, uses_workers, uses_clock, uses_turns}
-use Rattle.pgb_command.specs.Did.{Ran, StaysHealed, OnReady, Cause, HealsPairs, Did, OwnCause, Spares, Closes, WordsCause, Brackets, SamePlaces, OpensPlaces, ArePlacesOpened, OpensIf, IsOpenedIf, TakesAll, OnlyLocked}
-use Rattle.pgb_command.proofs.Ends.{all_later, only_rose}
+use Rattle.pgb_command.specs.Did.{Ran, EndsBehind, StaysHealed, OnReady, Cause, HealsPairs, Did, OwnCause, Spares, Closes, WordsCause, Brackets, SamePlaces, OpensPlaces, ArePlacesOpened, OpensIf, IsOpenedIf, TakesAll, OnlyLocked}
+use Rattle.pgb_command.proofs.Ends.{all_later, expiry_as, only_rose}
 use Rattle.pgb_command.proofs.Expiries.{expires_still, expires_behind}
 use Rattle.pgb_command.proofs.ByRequest.{as_known, idle, manner_at, reader_still, create_still, expire_still, any_reader, any_create, any_expire, any_other, reader_on, create_on, expire_on, other_as, any_stays, stays_as, any_unless, unless_as, folder_stays, folder_on}
 
@@ -91,6 +91,7 @@ closes_from b m k same le (OfCommand (TakeOnline fault)) (inr h) = inr (⊎_elim
 closes_from b m k same le (OfCommand (Recover fault)) h = tt
 closes_from b m k same le (OfCommand (Examine fault)) h = tt
 closes_from b m k same le (OfCommand (Prune fault)) h = tt
+closes_from b m k same le (Behind lines fault) h = tt
 closes_from b m k same le (ObjectFailed object) h = tt
 closes_from b m k same le NoMemory h = tt
 
@@ -158,6 +159,9 @@ cause_from a b m k read (Usage usage) h = h
 cause_from a b m k read (Stage fault) h = stage_from a b m k read fault h
 cause_from a b m k read (OfCommand fault) (inl h) = inl h
 cause_from a b m k read (OfCommand fault) (inr h) = inr (subst (λ (o : Known). OnReady a o (λ old. CommandCause a a.request old (known k) fault)) (known_same b m read) h)
+cause_from a b m k read (Behind lines fault) h =
+    let x = subst (λ (o : Known). OnReady a o (λ old. EndsBehind a old (known k) (Failed m k Repo) (Failed m k TheClock) lines fault)) (known_same b m read) h in
+    (x.0, x.1, (x.2.0, x.2.1, expiry_as a.stanza x.2.0 (λ rose. rises_from _ _ _ (read.later Repo) rose) (λ rose. rises_from _ _ _ (read.later TheClock) rose) fault x.2.2))
 cause_from a b m k read (ObjectFailed object) h = rises_from _ _ _ (read.later object) h
 cause_from a b m k read NoMemory h = h
 
@@ -278,6 +282,9 @@ did_ran a b m k r others nodes repo_later tree_later quiet begun heals healed du
     own (Usage usage) h = h
     own (Stage fault) h = absurd h
     own (OfCommand fault) h = inr (m.repo.view.now, heals, subst (λ (o : Known). CommandCause a a.request o (known k) fault) known_is h)
+    own (Behind lines fault) h =
+        let x = subst (λ (o : Known). EndsBehind a o (known k) (Failed m k Repo) (Failed m k TheClock) lines fault) known_is h in
+        (m.repo.view.now, heals, (x.0, x.1, expiry_as a.stanza x.0 (λ rose. rises_from _ _ _ (later Repo) rose) (λ rose. rises_from _ _ _ (later TheClock) rose) fault x.2))
     own (ObjectFailed object) h = rises_from _ _ _ (later object) h
     own NoMemory h = h
 
@@ -337,6 +344,7 @@ word_closes a b (OfCommand (TakeOnline fault)) h = absurd h
 word_closes a b (OfCommand (Examine fault)) h = absurd h
 word_closes a b (OfCommand (Recover fault)) h = tt
 word_closes a b (OfCommand (Prune fault)) h = absurd h
+word_closes a b (Behind lines fault) h = absurd h
 word_closes a b (ObjectFailed object) h = absurd h
 word_closes a b NoMemory h = tt
 
@@ -351,6 +359,7 @@ word_cause a b (OfCommand (TakeOnline fault)) h = absurd h
 word_cause a b (OfCommand (Examine fault)) h = absurd h
 word_cause a b (OfCommand (Recover fault)) h = inl h
 word_cause a b (OfCommand (Prune fault)) h = absurd h
+word_cause a b (Behind lines fault) h = absurd h
 word_cause a b (ObjectFailed object) h = absurd h
 word_cause a b NoMemory h = tt
 

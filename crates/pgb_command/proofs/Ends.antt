@@ -1,5 +1,5 @@
 -- How a command's own part ended, told by layers.
-use Rattle.std.proofs.Common.{◌≡◌, ◌≤◌, Bool, Result, Ok, Err, IfOk, IfErr, refl, ap, sym, subst}
+use Rattle.std.proofs.Common.{◌≡◌, ◌≤◌, Bool, Option, Result, Ok, Err, IfOk, IfErr, refl, ap, sym, subst}
 use Rattle.std.specs.Prelude.{OnOk}
 use Rattle.pgb_stage.specs.declared.object.Object.{Object}
 use Rattle.pgb_stage.specs.declared.object.Object.TheVariants.{Repo, Spool, DataFolder, Server, Others, Clock, Locks, Config, Output}
@@ -11,6 +11,11 @@ use Rattle.pgb_stage.specs.Halts.{Only}
 use Rattle.pgb_stage.specs.Reached.{reached_by, back_if}
 use Rattle.pgb_stage.specs.Risen.{Rose, rose_in}
 use Rattle.pgb_stage.specs.Seen.{Seen, Failed, AreLater}
+use Rattle.pgb_outside.specs.Content.{Content}
+use Rattle.pgb_model.specs.Text.{Text}
+use Rattle.pgb_prune.specs.declared.fault.BehindFault.{BehindFault}
+use Rattle.pgb_prune.specs.declared.fault.BehindFault.TheVariants as behind
+use Rattle.pgb_prune.specs.Behind.{BehindCause}
 use Rattle.pgb_command.specs.declared.fault.Fault.{Fault}
 use Rattle.pgb_command.specs.Answers.{reached_of, ending_of, is_early}
 use Rattle.pgb_command.specs.Faults.{of_halt, lift}
@@ -34,6 +39,14 @@ lift_on of P (Err e) p = tt
 pub lift_err : {E : Type 0} (of : Halt E → Fault) (P : Halt E → Type 0) (Q : Fault → Type 0) → ((h : Halt E) → P h → Q (of h)) → (r : Result Outcome (Halt E)) → IfErr r P → IfErr (lift of r) Q
 lift_err of P Q to (Ok x) h = tt
 lift_err of P Q to (Err e) h = to e h
+
+-- an expiry behind a backup ended for this, and these counts rose
+pub expiry_as : (stanza : Text) (repo : Option Content) {P Q R S : Type 0} → (P → R) → (Q → S) → (fault : BehindFault) → BehindCause stanza repo P Q fault → BehindCause stanza repo R S fault
+expiry_as stanza repo to other behind.PairLost h = h
+expiry_as stanza repo to other (behind.HistoryDiffers at) h = h
+expiry_as stanza repo to other behind.Repo h = to h
+expiry_as stanza repo to other behind.Clock h = other h
+expiry_as stanza repo to other behind.NoMemory h = h
 
 -- a count that rose in the call rose
 pub rose_to : (rose : Rose) (b k : Seen) → (rose.repo → Failed b k Repo) → (rose.spool → Failed b k Spool) → (rose.tree → Failed b k DataFolder) → (rose.server → Failed b k Server) → (rose.others → Failed b k Others) → (rose.clock → Failed b k Clock) →

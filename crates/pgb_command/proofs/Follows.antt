@@ -205,18 +205,18 @@ module _ (a : Asked) (b k : Seen) (n : ℕ) where
 
 -- ---- where no cause of a refusal holds
 
-memory_or : (e : Fault) → (e ≡ NoMemory) ⊎ (e ≢ NoMemory)
-memory_or (Usage u) = inr (λ (is : ◌≡◌ {A = Fault} (Usage u) NoMemory). cc)
-memory_or (Stage u) = inr (λ (is : ◌≡◌ {A = Fault} (Stage u) NoMemory). cc)
-memory_or (OfCommand u) = inr (λ (is : ◌≡◌ {A = Fault} (OfCommand u) NoMemory). cc)
-memory_or (ObjectFailed u) = inr (λ (is : ◌≡◌ {A = Fault} (ObjectFailed u) NoMemory). cc)
-memory_or NoMemory = inl refl
+either_is : (n m : ℕ) → (n ≡ m) ⊎ (n ≢ m)
+either_is n m = grind arith
+
+-- out of memory is one of those with its status
+memory_is : (e : Fault) → status_of e ≢ 90 → e ≢ NoMemory
+memory_is e other is = other (ap status_of is)
 
 module _ (b k : Seen) (n : ℕ) (whole : ¬ Failed b k Output) where
-  only_memory : (unknown : List Text) (e : Fault) → ((e ≢ NoMemory) → ⊥) → IsAnswered unknown b k (Err e) n → EndsWell n ⊎ (n ≡ 90)
-  only_memory unknown e never t = told_as unknown b k (Err e) n t (λ is. ⊎_elim (λ (m : e ≡ NoMemory). inr (is ∙ ap status_of m)) (λ other. absurd (never other)) (memory_or e)) (λ is rose. absurd (whole rose)) (λ is. inr is)
+  only_memory : (unknown : List Text) (e : Fault) → ((status_of e ≢ 90) → ⊥) → IsAnswered unknown b k (Err e) n → EndsWell n ⊎ (n ≡ 90)
+  only_memory unknown e never t = told_as unknown b k (Err e) n t (λ is. ⊎_elim (λ (m : status_of e ≡ 90). inr (is ∙ m)) (λ other. absurd (never other)) (either_is (status_of e) 90)) (λ is rose. absurd (whole rose)) (λ is. inr is)
 
-  ends_well : (unknown : List Text) (ended : Result Outcome Fault) → IfErr ended (λ e. (e ≢ NoMemory) → ⊥) → IsAnswered unknown b k ended n → EndsWell n ⊎ (n ≡ 90)
+  ends_well : (unknown : List Text) (ended : Result Outcome Fault) → IfErr ended (λ e. (status_of e ≢ 90) → ⊥) → IsAnswered unknown b k ended n → EndsWell n ⊎ (n ≡ 90)
   ends_well unknown (Ok (Finished lines)) never t = told_as unknown b k (Ok (Finished lines)) n t (λ is. inl (inl (omega (arith, is)))) (λ is rose. absurd (whole rose)) (λ is. inr is)
   ends_well unknown (Ok (FindingsFound lines)) never t = told_as unknown b k (Ok (FindingsFound lines)) n t (λ is. inl (inr is)) (λ is rose. absurd (whole rose)) (λ is. inr is)
   ends_well unknown (Ok (Absent name)) never t = told_as unknown b k (Ok (Absent name)) n t (λ is. inl (inl (omega (arith, is)))) (λ is rose. absurd (whole rose)) (λ is. inr is)
@@ -227,7 +227,7 @@ err_to (Ok x) P Q to h = tt
 err_to (Err e) P Q to h = to e h
 
 pub completes : (words : List Text) (b k : Seen) (n : ℕ) → Answers words b k n → Completes words b k n
-completes words b k n (inl r) no_config built none whole = only_memory b k n whole [] r.fault (λ other. no_config r.fault other r.cause) r.answered
+completes words b k n (inl r) no_config built none whole = only_memory b k n whole [] r.fault (λ other. no_config r.fault (memory_is r.fault other) r.cause) r.answered
 completes words b k n (inr (s, settles, inl (a, is, c))) no_config built none whole =
     ends_well b k n whole s.warnings c.ended (err_to c.ended _ _ (λ e cause other. none a e (record { settings = s; settles = settles; is = is }) other cause) c.did.cause) c.answered
 completes words b k n (inr (s, settles, inr (what, is, idle, answered))) no_config built none whole = absurd (built s what settles is)

@@ -4,8 +4,10 @@ mod Rans
 mod RepositoryRans
 mod Runnings
 mod Expiries
+mod Followings
 mod ByRequest
 mod Dids
+mod Behinds
 mod Written
 mod Fronts
 mod Configured

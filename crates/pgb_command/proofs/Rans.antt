@@ -78,7 +78,7 @@ use Rattle.pgb_command.specs.declared.fault.Fault.{Fault}
 use Rattle.pgb_command.specs.declared.fault.Fault.TheVariants.{Command as OfCommand}
 use Rattle.pgb_command.specs.declared.fault.CommandFault.TheVariants.{Create, Push, Get, Take, Recover}
 use Rattle.pgb_command.specs.Answers.{status, reached_of, ending_of, is_early}
-use Rattle.pgb_command.specs.Asked.{Request, create, push, get, backup, backup_running, restore, report, examine, expire, RestoreHow, Asked}
+use Rattle.pgb_command.specs.Asked.{Request, create, push, get, backup, backup_running, restore, report, examine, expire, RestoreHow, Asked, alone}
 use Rattle.pgb_command.specs.Faults.{of_halt, of_create, of_push, of_get, of_take, of_recover, lift}
 use Rattle.pgb_command.specs.Tables.{Known, known, TurnsTold, found_by, found_for, Promise, Lasts, plan_of, manner_of, IsCreateOf, OnReader, OnCreate, OnExpire, Expires, OnOther, FolderGoes, FolderStays, Unless, uses_workers, uses_clock, uses_turns}
 use Rattle.pgb_command.specs.Did.{SamePlaces, Closes, OwnCause, StaysHealed, Ran}
@@ -362,7 +362,7 @@ take_closes b k HaltMemory = tt
 module _ (a : Asked) (b k : Seen) (rest : k ≡ record b { repo = k.repo; tree = k.tree; clock = k.clock; links = k.links }) (nodes : k.tree.nodes ≡ b.tree.nodes) (o : LaterOrder) (told : Control) (tells : IfSome b.tree.nodes (λ f. FolderTells f told))
     (r : Result Outcome (Halt LaterFault)) (ended : Result Outcome Fault) (lifted : ended ≡ lift of_take r) where
   abbrev takes : Asked
-  takes = with_request a (backup (taking_of o))
+  takes = with_request (alone a) (backup (taking_of o))
 
   abbrev used : List LinkState
   used = take o.take.workers b.links
@@ -370,11 +370,11 @@ module _ (a : Asked) (b k : Seen) (rest : k ≡ record b { repo = k.repo; tree =
   pub taken_ran : a.request ≡ backup (taking_of o) → StaysBeside a.stanza b.repo.view k.repo.view →
       On (one (IsBackupBy o.kind (take o.take.workers b.links) a.stanza b.repo.view.now)) (λ command. Does Whole a.stanza command (reached_by later_early r) b.repo.view k.repo.view) →
       IfOk r (λ outcome. OnFinished outcome (IsTakenBackup a.stanza told o b.tree.nodes (take o.take.workers b.links) b.repo.view.now k.repo.view.now)) → (failed : Object → Type 0) → ((object : Object) → failed object → Failed b k object) →
-      IfErr r (HaltCause (LaterCause (found_by a o.take.workers (known b) told) o) failed) → SamePlaces b k → AreLater b k → Ran a b k ended
-  taken_ran is beside does taken failed rose cause places later = as_ran a (backup (taking_of o)) b k ended is
+      IfErr r (HaltCause (LaterCause (found_by a o.take.workers (known b) told) o) failed) → SamePlaces b k → AreLater b k → Ran (alone a) b k ended
+  taken_ran is beside does taken failed rose cause places later = as_ran (alone a) (backup (taking_of o)) b k ended is
       (ran_of takes b k (λ (e : LaterFault). OfCommand (Take e)) later_early (λ e. refl) (LaterCause (found_by a o.take.workers (known b) told) o) (λ e h. (o, refl, (told, tells, h))) failed rose r ended lifted (
         does.0,
-        does.1,
+        (does.0, does.1, refl),
         subst (λ (v : View). Runs Whole a.stanza does.0 (reached_by later_early r) b.repo.view b.spool.view k.repo.view v) (sym (ap (λ (s : Seen). s.spool.view) rest))
             (does_runs Whole a.stanza does.0 (reached_by later_early r) b.repo.view k.repo.view b.spool.view (kind_receipts o.kind a.stanza used b.repo.view.now does.0 does.1 b.spool.view) does.2),
       )

@@ -35,12 +35,13 @@ use Rattle.pgb_take_online.specs.Told.{IsLabelTold}
 use Rattle.pgb_command.specs.declared.fault.Fault.{Fault}
 use Rattle.pgb_command.specs.declared.fault.Fault.TheVariants.{Command as OfCommand, NoMemory as OutOfMemory}
 use Rattle.pgb_command.specs.declared.fault.CommandFault.TheVariants.{TakeOnline}
-use Rattle.pgb_command.specs.Asked.{backup_running, RunningHow, Asked}
+use Rattle.pgb_command.specs.Asked.{backup_running, RunningHow, Asked, alone}
 use Rattle.pgb_command.specs.Faults.{of_take_online, lift}
 use Rattle.pgb_command.specs.Tables.{Known, known, TellsLabel, heard_by, asked_by, AsksBackup}
 use Rattle.pgb_command.specs.Did.{SamePlaces, IsTaken, Closes, StaysHealed, Ran}
 use Rattle.pgb_command.proofs.Ends.{lift_err}
 use Rattle.pgb_command.proofs.ByRequest.{running_idle}
+use Rattle.pgb_command.proofs.Followings.{unfollowed}
 use Rattle.pgb_command.proofs.Rans.{ran_of, with_request, as_ran, any_ok, on_all, all_none, any_some, ok_with, backup_receipts}
 
 -- what is said where an account is told and is of the stanza
@@ -76,7 +77,7 @@ online_closes b k HaltMemory x = tt
 
 module _ (a : Asked) (b k : Seen) (nodes : k.tree.nodes ≡ b.tree.nodes) (how : RunningHow) (told : Control) (tells : IfSome b.tree.nodes (λ f. FolderTells f told)) (r : Result Outcome (Halt OnlineTakeFault)) (ended : Result Outcome Fault) (lifted : ended ≡ lift of_take_online r) where
   abbrev waits_for : Asked
-  waits_for = with_request a (backup_running how)
+  waits_for = with_request (alone a) (backup_running how)
 
   abbrev heard : Heard
   heard = heard_by (known b) (known k) told
@@ -86,10 +87,10 @@ module _ (a : Asked) (b k : Seen) (nodes : k.tree.nodes ≡ b.tree.nodes) (how :
       IfOk r (λ o. OnFinished o (TakesOnline a.stanza told how.taken.kind heard (take how.taken.workers b.links) b.others.account k.others.account b.repo.view.now k.repo.view.now)) →
       OnOk r (AsksBackup a.server how.fast k.server.place b.server.sent k.server.sent) → (a.server ≡ None → k.server ≡ b.server) →
       IfErr r (λ h. ((k.server ≡ b.server) × ((x : Halt LaterFault) × (h ≡ taken_halt x))) ⊎ EndsTalk (Failed b k TheServer) k.server.sent h) → (failed : Object → Type 0) → ((object : Object) → failed object → Failed b k object) →
-      IfErr r (HaltCause (OnlineCause (asked_by a how (known b) (known k) told)) failed) → SamePlaces b k → AreLater b k → Ran a b k ended
-  running_ran is beside spool runs taken asks quiet closed failed rose cause places later = as_ran a (backup_running how) b k ended is
+      IfErr r (HaltCause (OnlineCause (asked_by a how (known b) (known k) told)) failed) → SamePlaces b k → AreLater b k → Ran (alone a) b k ended
+  running_ran is beside spool runs taken asks quiet closed failed rose cause places later = as_ran (alone a) (backup_running how) b k ended is
       (ran_of waits_for b k (λ (e : OnlineTakeFault). OfCommand (TakeOnline e)) online_early (λ e. refl) (OnlineCause (asked_by a how (known b) (known k) told)) (λ e h. (told, tells, h)) failed rose r ended lifted
-      (λ told_of. running_steps a.stanza how (known b) (known k) told tells k.others.account _ runs told_of)
+      (λ told_of. unfollowed (running_steps a.stanza how (known b) (known k) told tells k.others.account _ runs told_of))
       (ok_with r _ _ _ (Unit {0}) (λ o taken asks none. ((told, tells, taken), asks)) taken asks (on_all r (Unit {0}) tt))
       (any_ok r (λ o. IsLookedAt a.stanza b.repo.view → Unit {0}) (λ o looked. tt))
       cause
@@ -113,7 +114,7 @@ module _ (a : Asked) (b k : Seen) (nodes : k.tree.nodes ≡ b.tree.nodes) (how :
 -- there was no memory for the path of the server's socket
 module _ (a : Asked) (b : Seen) (how : RunningHow) where
   abbrev begins : Asked
-  begins = with_request a (backup_running how)
+  begins = with_request (alone a) (backup_running how)
 
   abbrev nothing : Command
   nothing = MakeBackup [] no_files None
@@ -122,10 +123,10 @@ module _ (a : Asked) (b : Seen) (how : RunningHow) where
   nothing_runs = does_runs Whole a.stanza nothing stopped b.repo.view b.repo.view b.spool.view (backup_receipts a.stanza no_files nothing refl b.spool.view)
       (rests_does Whole a.stanza nothing stopped b.repo.view b.repo.view (λ (at : ◌≡◌ {A = Reached} stopped to_end). cc) (rests_none b.repo.view) refl)
 
-  without_memory : a.request ≡ backup_running how → Ran a b b (Err OutOfMemory)
-  without_memory is = as_ran a (backup_running how) b b (Err OutOfMemory) is
+  without_memory : a.request ≡ backup_running how → Ran (alone a) b b (Err OutOfMemory)
+  without_memory is = as_ran (alone a) (backup_running how) b b (Err OutOfMemory) is
       (ran_of begins b b (λ (e : OnlineTakeFault). OfCommand (TakeOnline e)) online_early (λ e. refl) (λ e. ⊥) (λ e h. absurd h) (λ object. ⊥) (λ object h. absurd h) (Err HaltMemory) (Err OutOfMemory) refl
-      (λ there. running_idle a.stanza how (known b) (known b) refl b.others.account refl (λ command. Runs Whole a.stanza command stopped b.repo.view b.spool.view b.repo.view b.spool.view) nothing_runs _ there)
+      (λ there. unfollowed (running_idle a.stanza how (known b) (known b) refl b.others.account refl (λ command. Runs Whole a.stanza command stopped b.repo.view b.spool.view b.repo.view b.spool.view) nothing_runs _ there))
       tt
       tt
       tt
@@ -147,6 +148,6 @@ module _ (a : Asked) (b : Seen) (how : RunningHow) where
       (record { repo = refl; tree = refl })
       (λ object. omega arith))
 
-  pub running_starved : a.request ≡ backup_running how → (ended : Result Outcome Fault) → IsErrAnd ended (λ f. f ≡ OutOfMemory) → Ran a b b ended
+  pub running_starved : a.request ≡ backup_running how → (ended : Result Outcome Fault) → IsErrAnd ended (λ f. f ≡ OutOfMemory) → Ran (alone a) b b ended
   running_starved is (Ok x) err = absurd err
-  running_starved is (Err f) err = subst (λ (e : Fault). Ran a b b (Err e)) (sym err) (without_memory is)
+  running_starved is (Err f) err = subst (λ (e : Fault). Ran (alone a) b b (Err e)) (sym err) (without_memory is)

@@ -1,20 +1,21 @@
--- A running server's backup has a server to ask.
+-- A running server's backup has a server to ask, and an expiry follows a backup alone.
 use Rattle.std.proofs.Common.{◌≡◌, Bool, true, false, List, Option, Some, None, Result, Ok, Err, refl, sym, ◌∙◌, ap}
-use Rattle.std.specs.Prelude.{if◌then◌else◌, is_some, map, option_map, string_bytes}
+use Rattle.std.specs.Prelude.{if◌then◌else◌, ◌&&◌, is_some, is_none, map, option_map, string_bytes}
 use Rattle.pgb_model.specs.Text.{Text}
 use Rattle.pgb_options.specs.declared.settle.Command.{Command}
 use Rattle.pgb_options.specs.Commands.{IsCommand}
 use Rattle.pgb_options.specs.Settings.{Settled}
 use Rattle.pgb_stage.specs.declared.fault.Unbuilt.{Unbuilt}
-use Rattle.pgb_stage.specs.declared.fault.Unbuilt.TheVariants.{Background, Delta as Digests, Bundles, Expiry}
+use Rattle.pgb_stage.specs.declared.fault.Unbuilt.TheVariants.{Background, Delta as Digests, Bundles}
 use Rattle.pgb_table.specs.declared.table.Verb.{Verb}
 use Rattle.pgb_table.specs.declared.table.Verb.TheVariants.{StanzaCreate, ArchivePush, ArchivePushAsync, ArchiveGet, ArchiveGetAsync, Backup, Expire, Restore, Verify, Info, Rehearse}
 use Rattle.pgb_create.specs.declared.server.Server as code
 use Rattle.pgb_create.specs.Server.{Server, server_view}
 use Rattle.pgb_command.specs.declared.settings.Request as settings
 use Rattle.pgb_command.specs.declared.settings.Request.TheVariants as requests
-use Rattle.pgb_command.specs.Asked.{Request, BackupHow, RunningHow, push, get, backup, backup_running, Wanted, first_of, second_of, taken_by, backup_by, request_by, server_by, server_asked, wanted_in}
-use Rattle.pgb_command.specs.Serving.{is_served}
+use Rattle.pgb_command.specs.Asked.{Request, BackupHow, RunningHow, push, get, backup, backup_running, behind_backup, expires_by, Wanted, first_of, second_of, taken_by, backup_by, request_by, server_by, server_asked, wanted_in}
+use Rattle.pgb_retain.specs.declared.rules.Rules.{Rules}
+use Rattle.pgb_command.specs.Serving.{is_served, is_followed}
 use Rattle.pgb_command.specs.Told.{request_of, wanted_told}
 use Rattle.pgb_command.proofs.AskedOnce.{ok_same}
 use Rattle.pgb_command.proofs.Wanted.{request_is}
@@ -39,7 +40,7 @@ ok_asks r how is = ok_same r (backup_running how) is
 
 module _ (m : Wanted) (how : RunningHow) where
   backup_online : Asks (backup_by m) how → m.online ≡ true
-  backup_online is = one_online m.online _ _ how (ok_asks (taken_by m) how (one_built m.expires Expiry _ how (one_built m.bundles Bundles _ how (one_built m.delta Digests _ how is))))
+  backup_online is = one_online m.online _ _ how (ok_asks (taken_by m) how (one_built m.bundles Bundles _ how (one_built (m.online && m.delta) Digests _ how is)))
 
   push_never : (path : Text) → Asks (if m.background then Err Background else Ok (push path)) how → ⊥
   push_never path is = let e = ok_asks (push path) how (one_built m.background Background _ how is) in cc
@@ -75,3 +76,31 @@ request_served c s is (requests.Restore set workers delta recovery) asked o serv
 request_served c s is (requests.Info form) asked o server = refl
 request_served c s is requests.Verify asked o server = refl
 request_served c s is (requests.Expire rules) asked o server = refl
+
+-- an expiry follows a backup alone
+pub follows_backup : (r : settings.Request) (m : Wanted) (rules : Option Rules) → rules ≡ expires_by (request_of r) m → is_followed r rules ≡ true
+follows_backup requests.StanzaCreate m rules is = ap is_none is
+follows_backup (requests.ArchivePush path) m rules is = ap is_none is
+follows_backup (requests.ArchiveGet name path) m rules is = ap is_none is
+follows_backup (requests.Backup workers kind delta) m rules is = refl
+follows_backup (requests.BackupRunning workers fast turns) m rules is = refl
+follows_backup (requests.Restore set workers delta recovery) m rules is = ap is_none is
+follows_backup (requests.Info form) m rules is = ap is_none is
+follows_backup requests.Verify m rules is = ap is_none is
+follows_backup (requests.Expire other) m rules is = ap is_none is
+
+none_is : (rules : Option Rules) → is_none rules ≡ true → None ≡ rules
+none_is None is = refl
+none_is (Some rules) is = cc
+
+-- so it is as the settings have it
+pub kept_behind : (r : settings.Request) (rules : Option Rules) → is_followed r rules ≡ true → behind_backup (request_of r) rules ≡ rules
+kept_behind requests.StanzaCreate rules is = none_is rules is
+kept_behind (requests.ArchivePush path) rules is = none_is rules is
+kept_behind (requests.ArchiveGet name path) rules is = none_is rules is
+kept_behind (requests.Backup workers kind delta) rules is = refl
+kept_behind (requests.BackupRunning workers fast turns) rules is = refl
+kept_behind (requests.Restore set workers delta recovery) rules is = none_is rules is
+kept_behind (requests.Info form) rules is = none_is rules is
+kept_behind requests.Verify rules is = none_is rules is
+kept_behind (requests.Expire other) rules is = none_is rules is

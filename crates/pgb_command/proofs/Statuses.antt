@@ -21,7 +21,8 @@ use Rattle.pgb_examine.proofs.Statuses.{examine_is}
 use Rattle.pgb_prune.specs.declared.fault.PruneFault.{PruneFault}
 use Rattle.pgb_prune.specs.declared.fault.PruneFault.TheVariants as prunes
 use Rattle.pgb_prune.specs.Faults.{prune_early}
-use Rattle.pgb_prune.proofs.Statuses.{prune_within}
+use Rattle.pgb_prune.proofs.Statuses.{prune_within, behind_late}
+use Rattle.pgb_prune.specs.Texts.{behind_status}
 use Rattle.pgb_command.specs.declared.fault.CommandFault.{CommandFault}
 use Rattle.pgb_command.specs.declared.fault.CommandFault.TheVariants.{Create, Push, Get, Take, TakeOnline, Recover, Examine, Prune}
 use Rattle.pgb_command.specs.declared.fault.Fault.{Fault}
@@ -82,6 +83,7 @@ pub over : (e : Fault) → 2 ≤ status_of e
 over (fault.Usage e) = usage_over e
 over (fault.Stage e) = stage_over e
 over (fault.Command e) = command_over e
+over (fault.Behind lines e) = omega (arith, (behind_late e).0)
 over (fault.Failed e) = omega (arith, object_over e)
 over fault.NoMemory = omega arith
 
@@ -141,6 +143,7 @@ early_fault : (e : Fault) → AnyEarly (status_of e) → is_early e ≡ true
 early_fault (fault.Usage e) h = refl
 early_fault (fault.Stage e) h = refl
 early_fault (fault.Command e) h = early_command e
+early_fault (fault.Behind lines e) h = let x = behind_late e in absurd (late (behind_status e) x.0 (omega (arith, x.1)) x.2 h)
 early_fault (fault.Failed o) h = early_object o h
 early_fault fault.NoMemory h = absurd (late 90 (omega arith) (omega arith) (λ e. absurd (omega (arith, e))) h)
 

@@ -8,16 +8,16 @@ use Rattle.pgb_table.specs.declared.table.Opt.TheVariants.{Pg1Path, Repo1Path, L
 use Rattle.pgb_options.specs.Commands.{IsCommand}
 use Rattle.pgb_options.specs.Settings.{Settled}
 use Rattle.pgb_stage.specs.declared.fault.Unbuilt.{Unbuilt}
-use Rattle.pgb_command.specs.Asked.{Request, Asked, WordsSettle, IsAsked, MayAsk, Asks, path_in, requested, server_asked}
+use Rattle.pgb_command.specs.Asked.{Request, Asked, expires_by, wanted_in, WordsSettle, IsAsked, MayAsk, Asks, path_in, requested, server_asked}
 use Rattle.pgb_command.specs.Tables.{uses_turns}
 use Rattle.pgb_command.proofs.AskedOnce.{ok_same, one_settling}
 
 -- what settled words ask for
 abbrev asked_in : (s : Settled) (request : Request) → Asked
-asked_in s request = record { stanza = s.stanza; data_folder = path_in s.source Pg1Path; repository = path_in s.source Repo1Path; lock_folder = path_in s.source LockPath; server = server_asked s; request = request }
+asked_in s request = record { stanza = s.stanza; data_folder = path_in s.source Pg1Path; repository = path_in s.source Repo1Path; lock_folder = path_in s.source LockPath; server = server_asked s; request = request; expires = expires_by request (wanted_in s.source) }
 
 is_asked : (s : Settled) (request : Request) → requested s ≡ Ok request → IsAsked s (asked_in s request)
-is_asked s request is = record { stanza = refl; data_folder = refl; repository = refl; lock_folder = refl; server = refl; request = is }
+is_asked s request is = record { stanza = refl; data_folder = refl; repository = refl; lock_folder = refl; server = refl; request = is; expires = refl }
 
 module _ (words : List Text) (files : Option Content) (c : Command) (x : (s : Settled) × WordsSettle words files (Ok s) × IsCommand c s) where
   asks : (request : Request) → requested x.0 ≡ Ok request → MayAsk words files (asked_in x.0 request)

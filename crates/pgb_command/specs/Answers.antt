@@ -25,11 +25,11 @@ use Rattle.pgb_recover.specs.Texts.{recover_status, recover_message}
 use Rattle.pgb_examine.specs.Examining.{examine_early}
 use Rattle.pgb_examine.specs.Texts.{examine_status, examine_message}
 use Rattle.pgb_prune.specs.Faults.{prune_early}
-use Rattle.pgb_prune.specs.Texts.{prune_status, prune_message}
+use Rattle.pgb_prune.specs.Texts.{prune_status, prune_message, behind_status, behind_message}
 use Rattle.pgb_command.specs.declared.fault.CommandFault.{CommandFault}
 use Rattle.pgb_command.specs.declared.fault.CommandFault.TheVariants.{Create, Push, Get, Take, TakeOnline, Recover, Examine, Prune}
 use Rattle.pgb_command.specs.declared.fault.Fault.{Fault}
-use Rattle.pgb_command.specs.declared.fault.Fault.TheVariants.{Usage as OfUsage, Stage, Command, Failed, NoMemory}
+use Rattle.pgb_command.specs.declared.fault.Fault.TheVariants.{Usage as OfUsage, Stage, Command, Behind, Failed, NoMemory}
 
 -- ---- statuses
 
@@ -62,6 +62,7 @@ abbrev pub status_of : Fault → ℕ
 status_of (OfUsage usage) = usage_status usage
 status_of (Stage fault) = stage_status fault
 status_of (Command fault) = command_status fault
+status_of (Behind lines fault) = behind_status fault
 status_of (Failed object) = object_status object
 status_of NoMemory = 90
 
@@ -83,6 +84,7 @@ abbrev pub is_early : Fault → Bool
 is_early (OfUsage usage) = true
 is_early (Stage fault) = true
 is_early (Command fault) = command_early fault
+is_early (Behind lines fault) = false
 is_early (Failed object) = fails_early object
 is_early NoMemory = false
 
@@ -152,6 +154,7 @@ abbrev pub message_of : Fault → Text
 message_of (OfUsage usage) = usage_message usage
 message_of (Stage fault) = stage_message fault
 message_of (Command fault) = command_message fault
+message_of (Behind lines fault) = behind_message fault
 message_of (Failed object) = object_message object
 message_of NoMemory = codes "out of memory"
 
@@ -171,6 +174,11 @@ is_output other = false
 -- the last line of the output: where the output failed there is none
 abbrev pub error_line : Fault → Text
 error_line fault = if is_output fault then [] else line_of (status_of fault) (message_of fault)
+
+-- the lines before it: those of the backup whose expiry wasn't done, or not whole
+abbrev pub lines_before : Fault → Text
+lines_before (Behind lines fault) = string_bytes lines
+lines_before other = []
 
 -- how many lines a text has, each with its newline
 abbrev pub count_lines : Text → ℕ
@@ -193,7 +201,7 @@ abbrev pub ending_lines : Ending → Text
 ending_lines (finished lines) = lines
 ending_lines (deviating lines) = deviating_lines lines
 ending_lines (absent name) = absent_line name
-ending_lines (refused fault) = error_line fault
+ending_lines (refused fault) = lines_before fault ++ error_line fault
 
 -- what is written of an answer
 abbrev pub lines_of : Answer → Text

@@ -1,5 +1,5 @@
 -- What a command is told by its words and its configuration (pgBackRest command reference and configuration reference).
-use Rattle.std.specs.Prelude.{◌≡◌, ◌≤◌, ℕ, ◌^◌, Bool, true, false, List, [], ◌∷◌, length, Option, Some, None, Result, Ok, Err, IfSome, IsSome, if◌then◌else◌}
+use Rattle.std.specs.Prelude.{◌≡◌, ◌≤◌, ℕ, ◌^◌, Bool, true, false, List, [], ◌∷◌, length, Option, Some, None, Result, Ok, Err, IfSome, IsSome, if◌then◌else◌, ◌&&◌}
 use Rattle.pgb_outside.specs.Content.{Content}
 use Rattle.pgb_model.specs.declared.labels.Kind.{Kind}
 use Rattle.pgb_model.specs.Text.{Text}
@@ -21,7 +21,7 @@ use Rattle.pgb_recover.specs.Fetching.{RecoveryType}
 use Rattle.pgb_recover.specs.Fetching.RecoveryType.{Default as ToTheEnd, Without}
 use Rattle.pgb_retain.specs.declared.rules.Rules.{Rules}
 use Rattle.pgb_stage.specs.declared.fault.Unbuilt.{Unbuilt}
-use Rattle.pgb_stage.specs.declared.fault.Unbuilt.TheVariants.{Command, Background, Delta as Digests, Bundles, Expiry}
+use Rattle.pgb_stage.specs.declared.fault.Unbuilt.TheVariants.{Command, Background, Delta as Digests, Bundles}
 
 -- ---- the configuration
 
@@ -111,7 +111,7 @@ taken_by m = if m.online then backup_running (record { taken = how_by m; fast = 
 
 -- a backup with nothing more; or what of it isn't built
 abbrev pub backup_by : Wanted → Result Request Unbuilt
-backup_by m = if m.delta then Err Digests else if m.bundles then Err Bundles else if m.expires then Err Expiry else Ok (taken_by m)
+backup_by m = if m.online && m.delta then Err Digests else if m.bundles then Err Bundles else Ok (taken_by m)
 
 -- a recovery fetches the log by the configuration that the words name, if they name one
 abbrev pub recovery_for : RestoreWord → Option Text → RecoveryType
@@ -182,7 +182,17 @@ server_by verb online server = None
 abbrev pub server_asked : Settled → Option Server
 server_asked s = server_by s.source.verb (is_on s.source Online) (server_in s.source)
 
--- what a command is told: the stanza, the data folder, the repository's folder and that of the locks, the server that it asks, and what it is to do
+-- an expiry follows a backup alone
+abbrev pub behind_backup : Request → Option Rules → Option Rules
+behind_backup (backup how) rules = rules
+behind_backup (backup_running how) rules = rules
+behind_backup request rules = None
+
+-- by these rules, where it is wanted
+abbrev pub expires_by : Request → Wanted → Option Rules
+expires_by request m = behind_backup request (if m.expires then Some m.rules else None)
+
+-- what a command is told: the stanza, the data folder, the repository's folder and that of the locks, the server that it asks, what it is to do, and the rules of the expiry that follows, where one does
 pub record Asked : Type 0 where
   pub stanza : Text
   pub data_folder : Text
@@ -190,6 +200,11 @@ pub record Asked : Type 0 where
   pub lock_folder : Text
   pub server : Option Server
   pub request : Request
+  pub expires : Option Rules
+
+-- the command's own part, without the expiry that follows
+abbrev pub alone : Asked → Asked
+alone a = record a { expires = None }
 
 -- the settings ask for this
 pub record IsAsked (s : Settled) (a : Asked) : Type 0 where
@@ -199,6 +214,7 @@ pub record IsAsked (s : Settled) (a : Asked) : Type 0 where
   pub lock_folder : a.lock_folder ≡ path_in s.source LockPath
   pub server : a.server ≡ server_asked s
   pub request : requested s ≡ Ok a.request
+  pub expires : a.expires ≡ expires_by a.request (wanted_in s.source)
 
 -- the words ask for this, as far as the configuration is told
 pub record MayAsk (words : List Text) (files : Option Content) (a : Asked) : Type 0 where

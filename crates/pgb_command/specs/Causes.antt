@@ -16,7 +16,7 @@ use Rattle.pgb_stage.specs.Seen.{Seen, Failed}
 use Rattle.pgb_command.specs.declared.fault.Fault.{Fault}
 use Rattle.pgb_command.specs.declared.fault.Fault.TheVariants.{Stage, NoMemory}
 use Rattle.pgb_create.specs.Talking.{Ended, IsServerRefusal}
-use Rattle.pgb_command.specs.Answers.{Ending, status, ending_of, answer_of, lines_of}
+use Rattle.pgb_command.specs.Answers.{Ending, status, status_of, ending_of, answer_of, lines_of}
 use Rattle.pgb_command.specs.Asked.{Request, create, backup_running, Asked, MayAsk, Asks, WordsSettle, IsAsked, requested}
 use Rattle.pgb_command.specs.Configuring.{ConfigCause}
 use Rattle.pgb_command.specs.Did.{IsIdle, Did, ComesBehind, Brackets, Cause, OnReady, LastsAfter, HealsPairs, ArePlacesOpened, TakesAll}
@@ -129,7 +129,7 @@ pub record LeavesRest (a : Asked) (before after : Seen) : Type 0 where
 abbrev pub Completes : List Text → Seen → Seen → ℕ → Type 0
 Completes words before after result = ((fault : Fault) → fault ≢ NoMemory → ¬ ConfigCause words before.config.files (Failed before after Config) fault)
     → ((s : Settled) (what : Unbuilt) → WordsSettle words before.config.files (Ok s) → requested s ≢ Err what)
-    → ((a : Asked) (fault : Fault) → MayAsk words before.config.files a → fault ≢ NoMemory → ¬ Cause a before after fault)
+    → ((a : Asked) (fault : Fault) → MayAsk words before.config.files a → status_of fault ≢ 90 → ¬ Cause a before after fault)
     → ¬ Failed before after Output → EndsWell result ⊎ (result ≡ 90)
 
 -- after a server's answer that is refused the last that was said to it is the end, unless the connection failed; at 70 and 71 it may have been something else that was too long or too many, and then nothing was said

@@ -10,7 +10,7 @@ use Rattle.pgb_stage.specs.declared.object.Object.TheVariants.{Config}
 use Rattle.pgb_stage.specs.declared.fault.StageFault.{StageFault}
 use Rattle.pgb_stage.specs.declared.fault.StageFault.TheVariants.{ConfigMissing, ConfigLong}
 use Rattle.pgb_command.specs.declared.fault.Fault.{Fault}
-use Rattle.pgb_command.specs.declared.fault.Fault.TheVariants.{Usage, Stage, Command, Failed, NoMemory}
+use Rattle.pgb_command.specs.declared.fault.Fault.TheVariants.{Usage, Stage, Command, Behind, Failed, NoMemory}
 use Rattle.pgb_command.specs.Asked.{config_limit, WordsSettle}
 
 -- the path of a configuration that is read
@@ -25,6 +25,7 @@ SourceCause path limit files rose (Usage usage) = ⊥
 SourceCause path limit files rose (Stage (ConfigLong name most)) = (string_bytes name ≡ path) × (most ≡ limit) × IfSome files (λ f. IsSomeAnd (f path) (λ b. limit < length b))
 SourceCause path limit files rose (Stage other) = ⊥
 SourceCause path limit files rose (Command fault) = ⊥
+SourceCause path limit files rose (Behind lines fault) = ⊥
 SourceCause path limit files rose (Failed object) = (object ≡ Config) × rose
 SourceCause path limit files rose NoMemory = Unit {0}
 
@@ -39,5 +40,6 @@ abbrev pub ConfigCause : List Text → Option Content → Type 0 → Fault → T
 ConfigCause words files rose (Usage usage) = Fails usage (path_of_words words) ⊎ ((read : Result Settled Refusal) × WordsSettle words files read × Fails usage read)
 ConfigCause words files rose (Stage fault) = FileCause words files fault
 ConfigCause words files rose (Command fault) = ⊥
+ConfigCause words files rose (Behind lines fault) = ⊥
 ConfigCause words files rose (Failed object) = (object ≡ Config) × rose
 ConfigCause words files rose NoMemory = Unit {0}

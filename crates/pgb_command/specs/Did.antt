@@ -1,5 +1,6 @@
 -- What a command did, whichever it is.
-use Rattle.std.specs.Prelude.{◌≡◌, ◌⊎◌, Bool, true, false, List, Option, None, Result, IfOk, IfErr, OnOk, IfSome, IsSome}
+use Rattle.std.specs.Prelude.{◌≡◌, ◌⊎◌, ℕ, Bool, true, false, List, Option, None, Result, String, string_bytes, IfOk, IfErr, OnOk, IfSome, IsSome}
+use Rattle.std.specs.declared.alloc.Global.{Global}
 use Rattle.pgb_outside.specs.Content.{Content}
 use Rattle.pgb_outside.specs.States.{IsOpened, OpensOnly}
 use Rattle.pgb_disk.specs.Store.{ChangesOnly}
@@ -7,25 +8,34 @@ use Rattle.pgb_model.specs.Text.{Text}
 use Rattle.pgb_stanza.specs.Owned.{IsOfPairs}
 use Rattle.pgb_archive.specs.Still.{IsStill}
 use Rattle.pgb_story.specs.Beside.{StaysBeside}
-use Rattle.pgb_stage.specs.declared.object.Object.TheVariants.{Server}
+use Rattle.pgb_stage.specs.declared.object.Object.TheVariants.{Repo, Server, Clock as TheClock}
 use Rattle.pgb_stage.specs.declared.halt.Halt.TheVariants.{Refused}
 use Rattle.pgb_stage.specs.declared.outcome.Outcome.{Outcome}
+use Rattle.pgb_stage.specs.declared.outcome.Outcome.TheVariants.{Finished}
 use Rattle.pgb_stage.specs.Plans.{Heals, AreHealed, HealsToLast, TakesLocks}
 use Rattle.pgb_model.specs.Log.{Done, KeepsRepository}
 use Rattle.pgb_model.specs.Repository.{Repository}
-use Rattle.pgb_stage.specs.Runs.{Runs, Takes, On, OnNone, IsLookedAt}
+use Rattle.pgb_stage.specs.Runs.{Runs, Takes, On, OnNone, DoesPart, DoesWhole, IsLookedAt}
 use Rattle.pgb_stage.specs.Seen.{Seen, Failed, AreLater}
 use Rattle.pgb_prepare.specs.Stages.{StageCause}
 use Rattle.pgb_prepare.specs.Taking.{MayTake}
 use Rattle.pgb_create.specs.Talking.{Ended, Closes as CreateCloses}
 use Rattle.pgb_take_online.specs.declared.fault.OnlineTakeFault.{OnlineTakeFault}
 use Rattle.pgb_take_online.specs.declared.fault.OnlineTakeFault.TheVariants.{Take as TakeFault}
+use Rattle.pgb_prune.specs.declared.fault.BehindFault.{BehindFault}
+use Rattle.pgb_prune.specs.Behind.{BehindCause, AddsLines, WasTold}
+use Rattle.pgb_prune.specs.Pruning.{IsMoment}
+use Rattle.pgb_retain.specs.declared.rules.Rules.{Rules}
+use Rattle.pgb_expire.specs.Expiry.{retention}
+use Rattle.pgb_model.specs.Steps.{Expire}
+use Rattle.pgb_stage.specs.declared.plan.Settling.TheVariants.{Whole}
+use Rattle.pgb_stage.specs.Reached.{OnFinished}
 use Rattle.pgb_command.specs.declared.fault.CommandFault.TheVariants.{Create, Take, TakeOnline, Examine, Prune}
 use Rattle.pgb_command.specs.declared.fault.Fault.{Fault}
-use Rattle.pgb_command.specs.declared.fault.Fault.TheVariants.{Usage, Stage, Command, Failed as ObjectFailed, NoMemory}
+use Rattle.pgb_command.specs.declared.fault.Fault.TheVariants.{Usage, Stage, Command, Behind, Failed as ObjectFailed, NoMemory}
 use Rattle.pgb_command.specs.Answers.{status, reached_of, ending_of}
 use Rattle.pgb_command.specs.Asked.{Asked}
-use Rattle.pgb_command.specs.Tables.{Known, known, plan_of, manner_of, WordsFit, CommandCause, Promise, Lasts, OnReader, OnCreate, OnExpire, Expires, OnOther, FolderGoes, FolderStays, Unless, TurnsTold, uses_workers, uses_clock, uses_turns}
+use Rattle.pgb_command.specs.Tables.{Known, known, plan_of, manner_of, WordsFit, CommandCause, IsBackedUp, Promise, Lasts, OnReader, OnCreate, OnExpire, Expires, OnOther, FolderGoes, FolderStays, Unless, TurnsTold, uses_workers, uses_clock, uses_turns}
 
 -- ---- what stays
 
@@ -76,11 +86,16 @@ pub record SamePlaces (before after : Seen) : Type 0 where
 
 -- ---- a command's own part
 
+-- A backup was made, with its lines, and the expiry that follows it ended for this.
+abbrev pub EndsBehind : Asked → Known → Known → Type 0 → Type 0 → String Global → BehindFault → Type 0
+EndsBehind a old new repo_rose clock_rose lines fault = (repo : Option Content) × IsBackedUp a a.request old new repo (Finished lines) × BehindCause a.stanza repo repo_rose clock_rose fault
+
 -- why it ends without its result
 abbrev pub OwnCause : Asked → Seen → Seen → Fault → Type 0
 OwnCause a before after (Usage usage) = ⊥
 OwnCause a before after (Stage fault) = ⊥
 OwnCause a before after (Command fault) = CommandCause a a.request (known before) (known after) fault
+OwnCause a before after (Behind lines fault) = EndsBehind a (known before) (known after) (Failed before after Repo) (Failed before after TheClock) lines fault
 OwnCause a before after (ObjectFailed object) = Failed before after object
 OwnCause a before after NoMemory = Unit {0}
 
@@ -98,6 +113,28 @@ pub record Ran (a : Asked) (before after : Seen) (result : Result Outcome Fault)
   pub spares : Spares a before after result
   pub places : SamePlaces before after
   pub later : AreLater before after
+
+-- ---- the expiry that follows a backup
+
+-- the fault is that of an expiry behind a backup with these lines, and this holds of it
+abbrev pub IsBehind : Text → (BehindFault → Type 0) → Fault → Type 0
+IsBehind lines P (Behind told fault) = (string_bytes told ≡ lines) × P fault
+IsBehind lines P other = ⊥
+
+-- What an expiry did behind a backup that ended with these lines.
+pub record Followed (stanza : Text) (rules : Rules) (before after : Seen) (lines : Text) (result : Result Outcome Fault) : Type 0 where
+  pub moment : ℕ
+  pub may_be : IsMoment rules.full 0 moment
+  pub part : DoesPart Whole stanza (Expire (retention rules moment)) before.repo.view after.repo.view
+  pub whole : OnOk result (DoesWhole Whole stanza (Expire (retention rules moment)) before.repo.view after.repo.view)
+  pub told : OnOk result (WasTold rules.full after.clock moment)
+  pub adds : IfOk result (λ outcome. OnFinished outcome (AddsLines stanza rules moment before.repo.view.now after.repo.view.now lines))
+  pub cause : IfErr result (IsBehind lines (BehindCause stanza before.repo.view.now (Failed before after Repo) (Failed before after TheClock)))
+  pub beside : StaysBeside stanza before.repo.view after.repo.view
+  pub places : SamePlaces before after
+  pub later : AreLater before after
+
+-- ---- words
 
 -- why a command's words are refused
 abbrev pub WordsCause : Asked → Fault → Type 0
@@ -125,6 +162,7 @@ abbrev pub Cause : Asked → Seen → Seen → Fault → Type 0
 Cause a before after (Usage usage) = ⊥
 Cause a before after (Stage fault) = StageCause (plan_of a.request) a.stanza before after fault
 Cause a before after (Command fault) = WordsCause a (Command fault) ⊎ OnReady a (known before) (λ old. CommandCause a a.request old (known after) fault)
+Cause a before after (Behind lines fault) = OnReady a (known before) (λ old. EndsBehind a old (known after) (Failed before after Repo) (Failed before after TheClock) lines fault)
 Cause a before after (ObjectFailed object) = Failed before after object
 Cause a before after NoMemory = Unit {0}
 

@@ -1,10 +1,17 @@
--- Which request asks a server.
-use Rattle.std.specs.Prelude.{Bool, true, Option, is_some}
+-- Which request asks a server, and behind which an expiry may follow.
+use Rattle.std.specs.Prelude.{Bool, true, Option, is_some, is_none}
 use Rattle.pgb_create.specs.declared.server.Server.{Server}
+use Rattle.pgb_retain.specs.declared.rules.Rules.{Rules}
 use Rattle.pgb_command.specs.declared.settings.Request.{Request}
-use Rattle.pgb_command.specs.declared.settings.Request.TheVariants.{BackupRunning}
+use Rattle.pgb_command.specs.declared.settings.Request.TheVariants.{Backup, BackupRunning}
 
 -- a running server's backup has a server to ask
 abbrev pub is_served : Request → Option Server → Bool
 is_served (BackupRunning workers kind delta fast turns) server = is_some server
 is_served request server = true
+
+-- an expiry follows a backup alone
+abbrev pub is_followed : Request → Option Rules → Bool
+is_followed (Backup workers kind delta) rules = true
+is_followed (BackupRunning workers fast turns) rules = true
+is_followed request rules = is_none rules

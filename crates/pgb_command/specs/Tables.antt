@@ -1,5 +1,6 @@
 -- The tables of the commands: a line for each in each.
-use Rattle.std.specs.Prelude.{◌≡◌, ◌≢◌, ◌⊎◌, ◌++◌, ℕ, take, Bool, true, false, List, Option, None, Some, option_map, IfSome, IsSome, IsSomeAnd}
+use Rattle.std.specs.Prelude.{◌≡◌, ◌≢◌, ◌⊎◌, ◌++◌, ℕ, take, Bool, true, false, List, Option, None, Some, String, option_map, string_bytes, IfSome, IsSome, IsSomeAnd}
+use Rattle.std.specs.declared.alloc.Global.{Global}
 use Rattle.pgb_outside.specs.Content.{Content}
 use Rattle.pgb_outside.specs.Crash.{Leaves}
 use Rattle.pgb_outside.specs.Links.{LinkState}
@@ -19,6 +20,7 @@ use Rattle.pgb_stage.specs.declared.plan.Plan.{Plan}
 use Rattle.pgb_stage.specs.declared.plan.Settling.TheVariants.{Whole, Looked}
 use Rattle.pgb_stage.specs.declared.plan.Pairs.TheVariants.{Unread, ReadArchive, HealArchive, ReadBoth}
 use Rattle.pgb_stage.specs.declared.outcome.Outcome.{Outcome}
+use Rattle.pgb_stage.specs.declared.outcome.Outcome.TheVariants.{Finished}
 use Rattle.pgb_stage.specs.Cluster.{FolderTells, IsClusterOf}
 use Rattle.pgb_stage.specs.Runs.{Manner, each, one, provided}
 use Rattle.pgb_stage.specs.Seen.{Seen}
@@ -55,6 +57,7 @@ use Rattle.pgb_examine.specs.Examining.{ExamineCause, IsExamined, EndsWithNone}
 use Rattle.pgb_retain.specs.declared.rules.Rules.{Rules}
 use Rattle.pgb_expire.specs.Expiry.{IsTouched}
 use Rattle.pgb_expire.specs.Losing.{MayExpire}
+use Rattle.pgb_prune.specs.Behind.{AddsLines, IsFollowed, WasTold}
 use Rattle.pgb_prune.specs.Faults.{PruneCause}
 use Rattle.pgb_prune.specs.Pruning.{counts_days, IsMoment, TellsMoment, IsExpiryBy, IsPruned}
 use Rattle.pgb_command.specs.declared.fault.CommandFault.{CommandFault}
@@ -108,13 +111,17 @@ abbrev pub IsRunningOf : Asked → RunningHow → Known → Known → Command �
 IsRunningOf a how old new command = IsSomeAnd new.others.account (λ k. (turned : List Turned) × TakesTurns turned old.others.account k
     × (label : Option Text) × IfSome label (TellsLabel old new) × IsOnlineBy how.taken.kind (take how.taken.workers old.links) (turns_of turned) label a.stanza old.repo command)
 
+-- a command of this kind, with the expiry behind it by these rules, where one follows
+abbrev pub WithExpiry : Option Rules → (Command → Type 0) → Command → Type 0
+WithExpiry rules Is command = (made : Command) × Is made × IsFollowed rules made command
+
 -- which command of the repository's log it is, from what the objects hold before and after it
 abbrev pub manner_of : Asked → Request → Known → Known → Manner
 manner_of a create old new = each (λ command. IsSomeAnd old.nodes (λ f. IsCreateOf f command))
 manner_of a (push path) old new = each (λ command. IsSomeAnd old.nodes (λ f. IsPushOf f a.data_folder path command))
 manner_of a (get name path) old new = each (λ command. command ≡ Reading)
-manner_of a (backup how) old new = one (IsBackupBy how.kind (take how.workers old.links) a.stanza old.repo)
-manner_of a (backup_running how) old new = provided (TurnsTold a (backup_running how) new) (IsRunningOf a how old new)
+manner_of a (backup how) old new = one (WithExpiry a.expires (IsBackupBy how.kind (take how.workers old.links) a.stanza old.repo))
+manner_of a (backup_running how) old new = provided (TurnsTold a (backup_running how) new) (WithExpiry a.expires (IsRunningOf a how old new))
 manner_of a (restore set how) old new = each (λ command. command ≡ Reading)
 manner_of a (report form) old new = each (λ command. command ≡ Reading)
 manner_of a examine old new = each (λ command. command ≡ Reading)
@@ -197,15 +204,35 @@ pub record Restores (a : Asked) (set : Option Text) (how : RestoreHow) (old new 
 abbrev pub Removes : Text → Rules → Known → Known → Outcome → Type 0
 Removes stanza rules old new outcome = (moment : ℕ) × TellsMoment rules.full old.clock new.clock moment × OnFinished outcome (IsPruned stanza rules moment old.repo new.repo)
 
+-- Ok of a backup: what it promises of what the disk held as it ended, before an expiry
+abbrev pub IsBackedUp : Asked → Request → Known → Known → Option Content → Outcome → Type 0
+IsBackedUp a (backup how) old new repo outcome = ByOrder how (λ o. OnCluster old.nodes (λ told. OnFinished outcome (IsTaken a.stanza told o old.nodes (take how.workers old.links) old.repo repo)))
+IsBackedUp a (backup_running how) old new repo outcome = OnCluster old.nodes (λ told. OnFinished outcome (TakesOnline a.stanza told how.taken.kind (heard_by old new told) (take how.taken.workers old.links) old.others.account new.others.account old.repo repo))
+    × AsksBackup a.server how.fast new.server.place old.server.sent new.server.sent
+IsBackedUp a request old new repo outcome = ⊥
+
+-- what the disk held, and how the command had ended, as an expiry began behind it that tells by its lines what went
+pub record BeforeExpiry (stanza : Text) (rules : Rules) (Was : Option Content → Outcome → Type 0) (new : Known) (outcome : Outcome) : Type 0 where
+  pub repo : Option Content
+  pub lines : String Global
+  pub was : Was repo (Finished lines)
+  pub moment : ℕ
+  pub told : WasTold rules.full new.clock moment
+  pub adds : OnFinished outcome (AddsLines stanza rules moment repo new.repo (string_bytes lines))
+
+-- this holds of what the disk held before the expiry that follows, if one does
+abbrev pub BehindIt : Option Rules → Text → (Option Content → Outcome → Type 0) → Known → Outcome → Type 0
+BehindIt None stanza Was new outcome = Was new.repo outcome
+BehindIt (Some rules) stanza Was new outcome = BeforeExpiry stanza rules Was new outcome
+
 -- what a command promises where it ends well
 abbrev pub Promise : Asked → Request → Known → Known → Outcome → Type 0
 Promise a create old new outcome = Creates a old new outcome
 Promise a (push path) old new outcome = OnFinished outcome (IsStored a.stanza a.data_folder path old.nodes old.repo new.repo)
 Promise a (get name path) old new outcome = GotBy a.stanza a.data_folder name path old.repo old.nodes new.nodes outcome
     × OnStanza a old.repo (λ s. GivenBy s a.data_folder name path old.nodes new.nodes outcome)
-Promise a (backup how) old new outcome = ByOrder how (λ o. OnCluster old.nodes (λ told. OnFinished outcome (IsTaken a.stanza told o old.nodes (take how.workers old.links) old.repo new.repo)))
-Promise a (backup_running how) old new outcome = OnCluster old.nodes (λ told. OnFinished outcome (TakesOnline a.stanza told how.taken.kind (heard_by old new told) (take how.taken.workers old.links) old.others.account new.others.account old.repo new.repo))
-    × AsksBackup a.server how.fast new.server.place old.server.sent new.server.sent
+Promise a (backup how) old new outcome = BehindIt a.expires a.stanza (IsBackedUp a (backup how) old new) new outcome
+Promise a (backup_running how) old new outcome = BehindIt a.expires a.stanza (IsBackedUp a (backup_running how) old new) new outcome
 Promise a (restore set how) old new outcome = Restores a set how old new outcome
 Promise a (report form) old new outcome = OnFinished outcome (IsReported a.stanza form old.repo)
     × OnStanza a old.repo (λ s. OnFinished outcome (ReportsStanza form a.stanza s))

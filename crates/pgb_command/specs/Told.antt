@@ -54,7 +54,7 @@ wanted_told o = record {
 }
 
 abbrev pub asked_of : Settings → Asked
-asked_of s = record { stanza = s.stanza.now; data_folder = s.pg1_path.now; repository = s.repo1_path.now; lock_folder = s.lock_path.now; server = option_map server_view s.server; request = request_of s.request }
+asked_of s = record { stanza = s.stanza.now; data_folder = s.pg1_path.now; repository = s.repo1_path.now; lock_folder = s.lock_path.now; server = option_map server_view s.server; request = request_of s.request; expires = s.expires }
 
 -- how a server is backed up by the order
 abbrev pub taking_of : LaterOrder → BackupHow

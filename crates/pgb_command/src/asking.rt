@@ -4,7 +4,7 @@ ghost use Rattle.pgb_options.specs.Commands.{IsCommand};
 ghost use Rattle.pgb_options.specs.Filled.{or_else};
 ghost use Rattle.pgb_table.specs.Values.{is_stanza};
 ghost use Rattle.pgb_options.specs.Settings.{Settled};
-ghost use Rattle.pgb_command.specs.Asked.{request_by, backup_by, restore_by, recovery_for, first_of, second_of, requested, IsAsked};
+ghost use Rattle.pgb_command.specs.Asked.{request_by, backup_by, expires_by, restore_by, recovery_for, first_of, second_of, requested, IsAsked};
 ghost use Rattle.pgb_recover.specs.Fetching.{recovery_type};
 ghost use Rattle.pgb_command.specs.Tables.{plan_of};
 ghost use Rattle.pgb_command.specs.Told.{request_of, asked_of, wanted_told};
@@ -14,6 +14,7 @@ use crate::settings::{Request, Settings};
 use pgb_options::{Command, Options, RestoreWord};
 use pgb_prune::{kind_by, rules_of};
 use pgb_recover::RecoveryType;
+use pgb_retain::Rules;
 use pgb_stage::{Pairs, Plan, Settling, Unbuilt};
 use pgb_table::Verb;
 
@@ -53,14 +54,11 @@ fn backup_request<'a>(options: &Options) -> Result<Request<'a>, Unbuilt>
     ensures unbuilt { IfErr result (λ what. backup_by (wanted_told options.now) ≡ Err what) }
 {
     let delta = options.delta;
-    if delta {
+    if options.online && delta {
         return Err(Unbuilt::Delta);
     }
     if options.repo1_bundle {
         return Err(Unbuilt::Bundles);
-    }
-    if options.expire_auto {
-        return Err(Unbuilt::Expiry);
     }
     let kind = kind_by(options.backup_type);
     if options.online {
@@ -153,6 +151,21 @@ fn request_of(command: &Command) -> Result<Request<'_>, Unbuilt>
     }
 }
 
+// The rules of the expiry that follows a backup, where one does.
+fn expires_of(request: &Request<'_>, options: &Options) -> Option<Rules>
+    ensures { result ≡ expires_by (request_of request.now) (wanted_told options.now) }
+{
+    match request {
+        Request::Backup { .. } | Request::BackupRunning { .. } => {
+            if options.expire_auto {
+                return Some(rules_of(options));
+            }
+            None
+        }
+        _ => None,
+    }
+}
+
 /// What the command is told, where it is built.
 pub(crate) fn settings_of(command: &Command) -> Result<Settings<'_>, Unbuilt>
     requires command { (s : Settled) × IsCommand command.now s }
@@ -167,6 +180,7 @@ pub(crate) fn settings_of(command: &Command) -> Result<Settings<'_>, Unbuilt>
         repo1_path: &command.options.repo1_path,
         lock_path: &command.options.lock_path,
         server: server_of(command),
+        expires: expires_of(&request, &command.options),
         request,
     })
 }

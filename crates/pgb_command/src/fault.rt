@@ -7,7 +7,7 @@ use pgb_create::{CreateFault, create_status};
 use pgb_examine::{ExamineFault, examine_status};
 use pgb_get::{GetFault, get_status};
 use pgb_options::Usage;
-use pgb_prune::{PruneFault, prune_status};
+use pgb_prune::{BehindFault, PruneFault, behind_status, prune_status};
 use pgb_push::{PushFault, push_status};
 use pgb_recover::{RecoverFault, recover_status};
 use pgb_stage::{Halt, Object, Outcome, StageFault, object_status, stage_status};
@@ -37,6 +37,8 @@ pub enum Fault {
     Stage(StageFault),
     /// Refused by the command.
     Command(CommandFault),
+    /// A backup was made, which these lines tell, and the expiry that follows it wasn't done, or not whole.
+    Behind { lines: String, fault: BehindFault },
     Failed(Object),
     NoMemory,
 }
@@ -335,6 +337,7 @@ pub(crate) fn status(fault: &Fault) -> u8
         Fault::Usage(usage) => usage_status(usage),
         Fault::Stage(fault) => stage_status(fault),
         Fault::Command(fault) => command_status(fault),
+        Fault::Behind { fault, .. } => behind_status(fault),
         Fault::Failed(object) => object_status(*object),
         Fault::NoMemory => 90,
     }

@@ -1,13 +1,13 @@
 // The lines that tell an answer.
 ghost use Rattle.std.specs.Prelude.{◌≡◌, ◌++◌, codes, decimal, IfOk, IsOkAnd, OnOk, string_bytes};
-ghost use Rattle.pgb_command.specs.Answers.{digits, line_of, status_of, usage_message, command_message, message_of, is_output, error_line, count_lines, deviating_lines, absent_line, unknown_line};
+ghost use Rattle.pgb_command.specs.Answers.{digits, line_of, status_of, usage_message, command_message, message_of, is_output, error_line, lines_before, count_lines, deviating_lines, absent_line, unknown_line};
 
 use crate::fault::{CommandFault, Fault, status};
 use pgb_create::create_message;
 use pgb_examine::examine_message;
 use pgb_get::get_message;
 use pgb_options::Usage;
-use pgb_prune::prune_message;
+use pgb_prune::{behind_message, prune_message};
 use pgb_push::push_message;
 use pgb_recover::recover_message;
 use pgb_stage::{Object, bytes_of, object_message, push_shown, quoted, stage_message};
@@ -64,6 +64,7 @@ fn message(alloc: Global, fault: &Fault) -> Result<Vec<u8>, NoMemory>
         Fault::Usage(usage) => usage_message(alloc, usage),
         Fault::Stage(fault) => stage_message(alloc, fault),
         Fault::Command(fault) => command_message(alloc, fault),
+        Fault::Behind { fault, .. } => behind_message(alloc, fault),
         Fault::Failed(object) => bytes_of(String::from_str(alloc, object_message(*object))),
         Fault::NoMemory => bytes_of(String::from_str(alloc, "out of memory")),
     }
@@ -102,8 +103,8 @@ fn is_output(fault: &Fault) -> bool
     }
 }
 
-/// The line of a fault; where the output failed there is none.
-pub(crate) fn error_line(alloc: Global, fault: &Fault) -> Result<Vec<u8>, NoMemory>
+// The line of a fault; where the output failed there is none.
+fn error_line(alloc: Global, fault: &Fault) -> Result<Vec<u8>, NoMemory>
     ensures { IfOk result (λ line. line.items ≡ error_line fault.now) }
 {
     if is_output(fault) {
@@ -111,6 +112,27 @@ pub(crate) fn error_line(alloc: Global, fault: &Fault) -> Result<Vec<u8>, NoMemo
     }
     let message = message(alloc, fault)?;
     line_of(alloc, status(fault), &message)
+}
+
+// The lines before that of a fault.
+fn lines_before(fault: &Fault) -> &str
+    ensures { result.now ≡ lines_before fault.now }
+{
+    match fault {
+        Fault::Behind { lines, .. } => lines,
+        _ => "",
+    }
+}
+
+/// The lines of a fault.
+pub(crate) fn fault_lines(alloc: Global, fault: &Fault) -> Result<Vec<u8>, NoMemory>
+    ensures { IfOk result (λ text. text.items ≡ lines_before fault.now ++ error_line fault.now) }
+{
+    let end = error_line(alloc, fault)?;
+    let mut text = Vec::new(alloc);
+    text.extend_from_slice(lines_before(fault).as_bytes())?;
+    text.extend_from_slice(&end)?;
+    Ok(text)
 }
 
 // How many lines a text has.

@@ -6,7 +6,7 @@ ghost use Rattle.pgb_command.specs.Answers.{Ending, status, ending_of, answer_of
 ghost use Rattle.pgb_command.specs.Output.{IsFrontWritten, IsTold};
 
 use crate::fault::{Fault, status};
-use crate::lines::{absent_line, deviating_lines, error_line, push_unknown};
+use crate::lines::{absent_line, deviating_lines, fault_lines, push_unknown};
 use pgb_outside::{Sink, Stop};
 use pgb_stage::{Object, Outcome};
 use pgb_text::NoMemory;
@@ -43,7 +43,7 @@ fn lines_at_end(alloc: Global, ended: &Result<Outcome, Fault>) -> Result<Vec<u8>
         Ok(Outcome::Finished { lines }) => bytes_of(alloc, lines),
         Ok(Outcome::FindingsFound { lines }) => deviating_lines(alloc, lines),
         Ok(Outcome::Absent { name }) => absent_line(alloc, name),
-        Err(fault) => error_line(alloc, fault),
+        Err(fault) => fault_lines(alloc, fault),
     }
 }
 

@@ -1,9 +1,9 @@
 // The commands' own parts, over all that is handed to the program: what the stages made ready goes to each.
-ghost use Rattle.std.specs.Prelude.{◌≡◌, None, map};
-ghost use Rattle.pgb_stage.specs.Plans.{AreHeld};
+ghost use Rattle.std.specs.Prelude.{◌≡◌, ◌∷◌, [], None, map, string_bytes};
+ghost use Rattle.pgb_stage.specs.Plans.{AreHeld, backup_lock};
 ghost use Rattle.pgb_prepare.specs.Readies.{IsReady};
-ghost use Rattle.pgb_command.specs.Asked.{create as asks_create, push as asks_push, get as asks_get, report as asks_report, examine as asks_examine, expire as asks_expire};
-ghost use Rattle.pgb_command.specs.Did.{Ran};
+ghost use Rattle.pgb_command.specs.Asked.{alone, create as asks_create, push as asks_push, get as asks_get, report as asks_report, examine as asks_examine, expire as asks_expire};
+ghost use Rattle.pgb_command.specs.Did.{Ran, Followed};
 ghost use Rattle.pgb_command.specs.Told.{request_of, asked_of, AreWorkers, IsOrder};
 ghost use Rattle.pgb_command.specs.declared.order.Order.TheVariants.{Backup as BackupOrder, BackupRunning as BackupRunningOrder, Restore as RestoreOrder};
 ghost use Rattle.pgb_command.specs.Tables.{plan_of};
@@ -22,7 +22,7 @@ use pgb_inform::report_stanza;
 use pgb_options::OutputWord;
 use pgb_outside::{Clock, Disk, Link, Locks, Sink, Source, Tree, Turns, Wire};
 use pgb_prepare::Ready;
-use pgb_prune::prune_stanza;
+use pgb_prune::{prune_behind, prune_stanza};
 use pgb_push::{PushOrder, push_file};
 use pgb_recover::{RecoverOrder, recover_backup};
 use pgb_retain::Rules;
@@ -58,7 +58,7 @@ impl<
         requires ready { IsReady (plan_of (request_of settings.now.request)) settings.now.stanza.now
             (D.state self.old.repo).view.now (T.state self.old.tree).nodes ready.now }
         ensures ran { let told = ⟦<Outside<D, S, T, V, A, C, K, I, O, L, U> as Told>⟧.told in
-            Ran (asked_of settings.now) (told self.old) (told self.new) result }
+            Ran (alone (asked_of settings.now)) (told self.old) (told self.new) result }
         ensures quiet { settings.now.server ≡ None → self.new.server ≡ self.old.server }
         ensures rest { self.new ≡ record self.old { repo = self.new.repo; server = self.new.server } }
     {
@@ -91,7 +91,7 @@ impl<
         requires ready { IsReady (plan_of (request_of settings.now.request)) settings.now.stanza.now
             (D.state self.old.repo).view.now (T.state self.old.tree).nodes ready.now }
         ensures ran { let told = ⟦<Outside<D, S, T, V, A, C, K, I, O, L, U> as Told>⟧.told in
-            Ran (asked_of settings.now) (told self.old) (told self.new) result }
+            Ran (alone (asked_of settings.now)) (told self.old) (told self.new) result }
         ensures rest { self.new ≡ record self.old { repo = self.new.repo; tree = self.new.tree } }
     {
         let (Some(control), Some(archive)) = (&ready.control, &ready.archive) else {
@@ -122,7 +122,7 @@ impl<
         requires ready { IsReady (plan_of (request_of settings.now.request)) settings.now.stanza.now
             (D.state self.old.repo).view.now (T.state self.old.tree).nodes ready.now }
         ensures ran { let told = ⟦<Outside<D, S, T, V, A, C, K, I, O, L, U> as Told>⟧.told in
-            Ran (asked_of settings.now) (told self.old) (told self.new) result }
+            Ran (alone (asked_of settings.now)) (told self.old) (told self.new) result }
         ensures rest { self.new ≡ record self.old { repo = self.new.repo; tree = self.new.tree } }
     {
         let (Some(control), Some(archive)) = (&ready.control, &ready.archive) else {
@@ -154,7 +154,7 @@ impl<
         requires ready { IsReady (plan_of (request_of settings.now.request)) settings.now.stanza.now
             (D.state self.old.repo).view.now (T.state self.old.tree).nodes ready }
         ensures ran { let told = ⟦<Outside<D, S, T, V, A, C, K, I, O, L, U> as Told>⟧.told in
-            Ran (asked_of settings.now) (told self.old) (told self.new) result }
+            Ran (alone (asked_of settings.now)) (told self.old) (told self.new) result }
         ensures rest { self.new ≡ record self.old {
           repo = self.new.repo;
           tree = self.new.tree;
@@ -202,7 +202,7 @@ impl<
         requires ready { IsReady (plan_of (request_of settings.now.request)) settings.now.stanza.now
             (D.state self.old.repo).view.now (T.state self.old.tree).nodes ready }
         ensures ran { let told = ⟦<Outside<D, S, T, V, A, C, K, I, O, L, U> as Told>⟧.told in
-            Ran (asked_of settings.now) (told self.old) (told self.new) result }
+            Ran (alone (asked_of settings.now)) (told self.old) (told self.new) result }
         ensures quiet { settings.now.server ≡ None → self.new.server ≡ self.old.server }
         ensures rest { self.new ≡ record self.old {
           repo = self.new.repo;
@@ -267,7 +267,7 @@ impl<
         requires ready { IsReady (plan_of (request_of settings.now.request)) settings.now.stanza.now
             (D.state self.old.repo).view.now (T.state self.old.tree).nodes ready.now }
         ensures ran { let told = ⟦<Outside<D, S, T, V, A, C, K, I, O, L, U> as Told>⟧.told in
-            Ran (asked_of settings.now) (told self.old) (told self.new) result }
+            Ran (alone (asked_of settings.now)) (told self.old) (told self.new) result }
         ensures rest { self.new ≡ record self.old {
           repo = self.new.repo;
           tree = self.new.tree;
@@ -302,7 +302,7 @@ impl<
         requires ready { IsReady (plan_of (request_of settings.now.request)) settings.now.stanza.now
             (D.state self.old.repo).view.now (T.state self.old.tree).nodes ready.now }
         ensures ran { let told = ⟦<Outside<D, S, T, V, A, C, K, I, O, L, U> as Told>⟧.told in
-            Ran (asked_of settings.now) (told self.old) (told self.new) result }
+            Ran (alone (asked_of settings.now)) (told self.old) (told self.new) result }
         ensures rest { self.new ≡ record self.old { repo = self.new.repo } }
     {
         let (Some(archive), Some(backup)) = (&ready.archive, &ready.backup) else {
@@ -329,13 +329,41 @@ impl<
         requires ready { IsReady (plan_of (request_of settings.now.request)) settings.now.stanza.now
             (D.state self.old.repo).view.now (T.state self.old.tree).nodes ready.now }
         ensures ran { let told = ⟦<Outside<D, S, T, V, A, C, K, I, O, L, U> as Told>⟧.told in
-            Ran (asked_of settings.now) (told self.old) (told self.new) result }
+            Ran (alone (asked_of settings.now)) (told self.old) (told self.new) result }
         ensures rest { self.new ≡ record self.old { repo = self.new.repo } }
     {
         let Some(backup) = &ready.backup else {
             unreachable!();
         };
         examine_end(examine_stanza(alloc, &mut self.repo, settings.stanza, backup))
+    }
+
+    /// The expiry that follows a backup that ended with these lines: what went is told behind them.
+    pub(crate) fn follow(
+        &mut self,
+        alloc: Global,
+        settings: &Settings<'_>,
+        rules: &Rules,
+        lines: String,
+    ) -> Result<Outcome, Fault>
+        requires locked { (K.state self.old.locks).taken ≡ backup_lock settings.now.stanza.now ∷ [] }
+        ensures followed { let told = ⟦<Outside<D, S, T, V, A, C, K, I, O, L, U> as Told>⟧.told in
+            Followed settings.now.stanza.now rules.now (told self.old) (told self.new) (string_bytes lines) result }
+        ensures rest { self.new ≡ record self.old { repo = self.new.repo; clock = self.new.clock } }
+    {
+        let mut lines = lines;
+        match prune_behind(
+            alloc,
+            &mut self.repo,
+            &mut self.clock,
+            &self.locks,
+            settings.stanza,
+            rules,
+            &mut lines,
+        ) {
+            Ok(()) => Ok(Outcome::Finished { lines }),
+            Err(fault) => Err(Fault::Behind { lines, fault }),
+        }
     }
 
     /// expire.
@@ -352,7 +380,7 @@ impl<
         requires ready { IsReady (plan_of (request_of settings.now.request)) settings.now.stanza.now
             (D.state self.old.repo).view.now (T.state self.old.tree).nodes ready }
         ensures ran { let told = ⟦<Outside<D, S, T, V, A, C, K, I, O, L, U> as Told>⟧.told in
-            Ran (asked_of settings.now) (told self.old) (told self.new) result }
+            Ran (alone (asked_of settings.now)) (told self.old) (told self.new) result }
         ensures rest { self.new ≡ record self.old { repo = self.new.repo; clock = self.new.clock } }
     {
         let (Some(archive), Some(backup)) = (ready.archive, ready.backup) else {

@@ -1,7 +1,7 @@
 // What a command is told.
 ghost use Rattle.std.specs.Prelude.{◌≡◌, ◌<◌, ◌^◌, length, true};
 ghost use Rattle.pgb_table.specs.Values.{is_stanza};
-ghost use Rattle.pgb_command.specs.Serving.{is_served};
+ghost use Rattle.pgb_command.specs.Serving.{is_served, is_followed};
 
 use pgb_create::Server;
 use pgb_model::Kind;
@@ -68,8 +68,11 @@ pub struct Settings<'a> {
     /// The server that is asked, where one is.
     pub server: Option<Server<'a>>,
     pub request: Request<'a>,
+    /// The rules of the expiry that follows a backup, where one does.
+    pub expires: Option<Rules>,
     ghost form: { is_stanza stanza.now ≡ true },
     ghost served: { is_served request server ≡ true },
+    ghost followed: { is_followed request expires ≡ true },
     // Each worker is told both folders, with lengths of 16 bits.
     ghost short: { (length pg1_path.now < 2 ^ 16) × (length repo1_path.now < 2 ^ 16) },
 }

@@ -5,6 +5,7 @@ ghost use Rattle.pgb_stage.specs.Halts.{HaltCause, Never};
 ghost use Rattle.pgb_stage.specs.Seen.{Failed, AreRead};
 ghost use Rattle.pgb_prepare.specs.Readies.{IsReady};
 ghost use Rattle.pgb_prepare.specs.Taking.{AreNames, HoldsOnly};
+ghost use Rattle.pgb_command.specs.Asked.{alone};
 ghost use Rattle.pgb_command.specs.Did.{Ran, Did, ComesBehind, Brackets, SamePlaces, OpensPlaces, ArePlacesOpened, TakesAll, OnlyLocked};
 ghost use Rattle.pgb_command.specs.Told.{request_of, asked_of, AreWorkers, IsOrder};
 ghost use Rattle.pgb_command.specs.Tables.{plan_of, uses_turns, uses_workers, is_on_repository};
@@ -183,7 +184,7 @@ impl<
             settings.stanza,
             plan,
         )?;
-        self.dispatch(alloc, settings, order, ready)
+        self.part(alloc, settings, order, ready)
     }
 
     // The locks are taken, and then comes the work.
@@ -286,6 +287,50 @@ impl<
         ended
     }
 
+    // The command's own part, and the expiry that follows a backup.
+    fn part(
+        &mut self,
+        alloc: Global,
+        settings: &Settings<'_>,
+        order: Order<'_>,
+        ready: Ready,
+    ) -> Result<Outcome, Fault>
+        requires workers { AreWorkers (map L.link_state self.old.links.items) }
+        requires locked { AreHeld (plan_of (request_of settings.now.request)) settings.now.stanza.now
+            (K.state self.old.locks).taken }
+        requires order { IsOrder (request_of settings.now.request) settings.now.pg1_path.now order }
+        requires ready { IsReady (plan_of (request_of settings.now.request)) settings.now.stanza.now
+            (D.state self.old.repo).view.now (T.state self.old.tree).nodes ready }
+        ensures ran { let told = ⟦<Outside<D, S, T, V, A, C, K, I, O, L, U> as Told>⟧.told in
+            Ran (asked_of settings.now) (told self.old) (told self.new) result }
+        ensures tree { (plan_of (request_of settings.now.request)).folder ≡ false → self.new.tree ≡ self.old.tree }
+        ensures quiet { settings.now.server ≡ None → self.new.server ≡ self.old.server }
+        ensures alone { uses_workers (request_of settings.now.request) ≡ false
+            → (self.new.links ≡ self.old.links) × (self.new.turns ≡ self.old.turns) }
+        ensures waits { uses_turns (request_of settings.now.request) ≡ false
+            → (self.new.spool ≡ self.old.spool) × (self.new.aside ≡ self.old.aside) }
+        ensures rest { self.new ≡ record self.old {
+          repo = self.new.repo;
+          spool = self.new.spool;
+          tree = self.new.tree;
+          server = self.new.server;
+          aside = self.new.aside;
+          clock = self.new.clock;
+          links = self.new.links;
+          turns = self.new.turns;
+        } }
+    {
+        let outcome = self.dispatch(alloc, settings, order, ready)?;
+        match outcome {
+            Outcome::Finished { lines } => match &settings.expires {
+                Some(rules) => self.follow(alloc, settings, rules, lines),
+                None => Ok(Outcome::Finished { lines }),
+            },
+            Outcome::Absent { name } => Ok(Outcome::Absent { name }),
+            Outcome::FindingsFound { lines } => Ok(Outcome::FindingsFound { lines }),
+        }
+    }
+
     // The command's own part: one arm a command.
     fn dispatch(
         &mut self,
@@ -301,7 +346,7 @@ impl<
         requires ready { IsReady (plan_of (request_of settings.now.request)) settings.now.stanza.now
             (D.state self.old.repo).view.now (T.state self.old.tree).nodes ready }
         ensures ran { let told = ⟦<Outside<D, S, T, V, A, C, K, I, O, L, U> as Told>⟧.told in
-            Ran (asked_of settings.now) (told self.old) (told self.new) result }
+            Ran (alone (asked_of settings.now)) (told self.old) (told self.new) result }
         ensures tree { (plan_of (request_of settings.now.request)).folder ≡ false → self.new.tree ≡ self.old.tree }
         ensures quiet { settings.now.server ≡ None → self.new.server ≡ self.old.server }
         ensures alone { uses_workers (request_of settings.now.request) ≡ false

@@ -26,7 +26,7 @@ use Rattle.pgb_logged.proofs.Prior.{files_before}
 use Rattle.pgb_logged.proofs.Reading.{full_backup, have, read_or_left, read_by}
 use Rattle.pgb_logged.proofs.Folders.{of_folder}
 use Rattle.pgb_logged.proofs.Begun.{BeginsFull, BeginsBackup, full_begins, list_there}
-use Rattle.pgb_logged.proofs.Made.{refers, now_listed}
+use Rattle.pgb_logged.proofs.Made.{refers, now_listed, now_sound}
 
 -- It has the draft's label, prior and choices, and what the links read or the prior has, it refers to listed backups before it, and the repository has it too.
 pub record IsMade (draft : Draft) (links : List LinkState) (old new : Option Content) (b : Backup) : Type 0 where
@@ -45,7 +45,10 @@ module _ (one_list : OneList) (one_manifest : OneManifest) (draft : Draft) (link
     choices = ap (λ (m : Manifest). m.choices) makes.manifest_is;
     read = read_or_left one_manifest draft begins.is_draft links true a d makes begins.based (λ f is s h. list_there one_list draft a begins f is s h);
     refers = refers one_list one_manifest draft links a d begins true makes;
-    adds = record { adds = now_listed one_list one_manifest draft links a d begins true makes refl };
+    adds = record {
+      adds = now_listed one_list one_manifest draft links a d begins true makes refl;
+      sound = now_sound one_list one_manifest draft links a d begins true makes;
+    };
   }
 
   -- at Ok the repository has one more backup

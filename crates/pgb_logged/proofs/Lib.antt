@@ -13,3 +13,4 @@ pub mod Running
 pub mod Online
 pub mod Full
 pub mod Added
+pub mod Again

@@ -103,6 +103,13 @@ module _ (one_list : OneList) (one_manifest : OneManifest) (draft : Draft) (link
       let h : HasStanza (stanza_of draft) f.0 s = stands.stands f.0 f.1 in
       refers_to f.0 f.1 s (list_there one_list draft a begins f.0 f.1 s h) h l at
 
+  -- a sound one is sound with it
+  pub now_sound : (s : Stanza) → IsSome a.now → NowStands (stanza_of draft) (Some s) a.now → IsSoundStanza s → IsSoundStanza (changed (AddBackup (full_backup draft links whole a d makes)) s)
+  now_sound s some stands sound =
+      let f = told_as a.now some in
+      let h : HasStanza (stanza_of draft) f.0 s = stands.stands f.0 f.1 in
+      sound_after f.0 f.1 s (list_there one_list draft a begins f.0 f.1 s h) h sound
+
   -- ---- where it is listed
 
   module _ (is : whole ≡ true) where

@@ -6,7 +6,7 @@ use Rattle.std.specs.Result.{IsErrAnd, is_ok}
 use Rattle.pgb_outside.specs.Moments.{View}
 use Rattle.pgb_outside.specs.Links.{LinkState}
 use Rattle.pgb_model.specs.Text.{Text}
-use Rattle.pgb_model.specs.Repository.{Backup, Stanza, id_of}
+use Rattle.pgb_model.specs.Repository.{Backup, Stanza, IsSound, IsSoundStanza, id_of}
 use Rattle.pgb_model.specs.Steps.{Turn, Command, MakeBackup, after, all_of, steps_of}
 use Rattle.pgb_model.specs.Now.{NowStands}
 use Rattle.pgb_stage.specs.declared.plan.Settling.TheVariants.{Whole}
@@ -58,6 +58,7 @@ module _ (one_list : OneList) (one_manifest : OneManifest) (draft : Draft) (a c 
         pub read : IsReadBeside links (Some o.label_file) b
         pub label_file : get b.files label_path ≡ Some (record { bytes = o.label_file; time = b.entry.stop })
         pub adds : (s : Stanza) → IsSome a.now → NowStands (stanza_of draft) (Some s) a.now → NowStands (stanza_of draft) (after (Some s) (all_of (steps_of (MakeBackup turns b None) (Some s)))) d.now
+        pub sound : (s : Stanza) → IsSome a.now → NowStands (stanza_of draft) (Some s) a.now → IsSoundStanza s → IsSound (after (Some s) (all_of (steps_of (MakeBackup turns b None) (Some s))))
         pub db : b.entry.db ≡ draft.cluster.id
         pub archived : (s : Stanza) → IsSome a.now → NowStands (stanza_of draft) (Some s) a.now → (t : Stanza) → after (Some s) (all_of (steps_of (MakeBackup turns b None) (Some s))) ≡ Some t → Archives (id_of draft.cluster) o.part t
 
@@ -71,6 +72,7 @@ module _ (one_list : OneList) (one_manifest : OneManifest) (draft : Draft) (a c 
               read = read_beside links (Some o.label_file) (stanza_of draft) a.now x.0 x.1.read (x.1.prior ∙ begins.no_prior);
               label_file = x.1.label_file;
               adds = x.1.adds;
+              sound = x.1.sound;
               db = x.1.db;
               archived = x.1.archived;
             },

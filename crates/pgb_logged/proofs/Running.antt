@@ -218,6 +218,15 @@ module _ (one_list : OneList) (one_manifest : OneManifest) (draft : Draft) (a c 
               (x.0, x.1, x.2 ∙ ap id_of (sym same), x.3)
               ))
 
+          -- the repository is sound with it where it was
+          pub waited_sound : NowStands (stanza_of draft) (Some s) a.now → IsSoundStanza s → IsSoundStanza (changed (AddBackup (backup_made draft (Some o) links whole w d makes)) (waited s turns))
+          waited_sound stands sound =
+              let g = told_as w.now (some_then some) in
+              let h = now_waited s some stands g.0 g.1 in
+              let all = after_some s (all_of (turn_moves s turns)) in
+              let there : IsSoundStanza (waited s turns) = subst IsSound all (waits.sound (Some s) (left.now.told some) (left_stands s some stands) sound) in
+              sound_with one_list one_manifest draft begins.is_draft (Some o) free links w d based whole makes g.0 g.1 (waited s turns) after_list h (segments g.0 g.1 h there) there
+
           stands_with : (f g : Content) → w.now ≡ Some f → HasStanza (stanza_of draft) f (waited s turns) → ListsIt draft (Some o) makes.manifest makes.list makes.names makes.kept makes.stop f g → HasStanza (stanza_of draft) g (changed (AddBackup (backup_made draft (Some o) links whole w d makes)) (waited s turns))
           stands_with f g is_f h x = made_stands one_list one_manifest draft begins.is_draft (Some o) free links w d based whole makes f is_f (waited s turns) after_list h g x
 
@@ -406,6 +415,7 @@ module _ (one_list : OneList) (one_manifest : OneManifest) (draft : Draft) (a c 
         pub read : IsReadOrLeftBeside links (Some o.label_file) (stanza_of draft) a.now b
         pub label_file : get b.files label_path ≡ Some (record { bytes = o.label_file; time = b.entry.stop })
         pub adds : (s : Stanza) → IsSome a.now → NowStands (stanza_of draft) (Some s) a.now → NowStands (stanza_of draft) (after (Some s) (all_of (steps_of (MakeBackup turns b None) (Some s)))) d.now
+        pub sound : (s : Stanza) → IsSome a.now → NowStands (stanza_of draft) (Some s) a.now → IsSoundStanza s → IsSound (after (Some s) (all_of (steps_of (MakeBackup turns b None) (Some s))))
         pub db : b.entry.db ≡ draft.cluster.id
         pub archived : (s : Stanza) → IsSome a.now → NowStands (stanza_of draft) (Some s) a.now → (t : Stanza) → after (Some s) (all_of (steps_of (MakeBackup turns b None) (Some s))) ≡ Some t → Archives (id_of draft.cluster) o.part t
 
@@ -420,6 +430,12 @@ module _ (one_list : OneList) (one_manifest : OneManifest) (draft : Draft) (a c 
             let b = backup_made draft (Some o) links true w d makes in
             subst (λ (q : Repository). NowStands (stanza_of draft) q d.now) (sym (ap (after (Some s)) (all_steps s turns b) ∙ with_it s turns b))
             (online_listed one_list one_manifest draft a c begins left turns ended w waits is o free links d arrived based true makes refl s some stands)
+            );
+        sound = λ s some stands sound. (
+            let b = backup_made draft (Some o) links true w d makes in
+            let f = told_as a.now some in
+            subst IsSound (sym (ap (after (Some s)) (all_steps s turns b) ∙ with_it s turns b))
+            (waited_sound one_list one_manifest draft a c begins left turns ended w waits is o free links d arrived based true makes some s (list_there one_list draft a begins f.0 f.1 s (stands.stands f.0 f.1)) stands sound)
             );
         db = ap (λ (m : Manifest). m.cluster.id) makes.manifest_is;
         archived = λ s some stands t at segment within. (

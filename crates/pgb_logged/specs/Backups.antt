@@ -12,9 +12,9 @@ use Rattle.pgb_model.specs.declared.wal.ArchiveName.TheVariants.{Segment as Whol
 use Rattle.pgb_model.specs.declared.wal.Segment.{Segment}
 use Rattle.pgb_model.specs.declared.wal.WalPart.{WalPart}
 use Rattle.pgb_model.specs.Text.{Text, In}
-use Rattle.pgb_model.specs.Repository.{Archived, Backup, File, Stanza, IsWithinSpan}
+use Rattle.pgb_model.specs.Repository.{Archived, Backup, File, Stanza, Repository, IsSound, IsSoundStanza, IsWithinSpan}
 use Rattle.pgb_model.specs.Stands.{HasStanza}
-use Rattle.pgb_model.specs.Steps.{Command, MakeBackup, ArchivePushAsync, AddBackup, Turn, changed}
+use Rattle.pgb_model.specs.Steps.{Command, MakeBackup, ArchivePushAsync, AddBackup, Turn, after, all_of, changed, steps_of}
 use Rattle.pgb_model.specs.Now.{NowStands, NowDoes}
 use Rattle.pgb_model.specs.Steady.{CarriesOn, PassesOnly}
 use Rattle.pgb_stored.specs.Stored.{ChangesArchive}
@@ -78,6 +78,8 @@ pub record Waits (stanza : Text) (turns : List Turn) (ended : Bool) (old new : V
   pub carries : CarriesOn stanza (ArchivePushAsync turns) ended old new
   pub between : PassesOnly stanza (ArchivePushAsync turns) old new
   pub only : ChangesArchive stanza old new
+  -- whatever sound repository the disk stood for, that is sound with all of them
+  pub sound : (r : Repository) → IsSome old.now → NowStands stanza r old.now → IsSound r → IsSound (after r (all_of (steps_of (ArchivePushAsync turns) r)))
 
 -- each segment of this part of the log is archived under the id
 abbrev pub Archives : ArchiveId → WalPart → Stanza → Type 0
@@ -87,9 +89,10 @@ Archives id w s = (segment : Segment) → IsWithinSpan w.size.0 w.span segment �
 abbrev pub HasPart : Text → ArchiveId → WalPart → Content → Type 0
 HasPart stanza id w f = (s : Stanza) → HasStanza stanza f s → Archives id w s
 
--- the repository has one more backup
+-- the repository has one more backup, and is sound with it where it was
 pub record AddsBackup (stanza : Text) (b : Backup) (old new : Option Content) : Type 0 where
   pub adds : (s : Stanza) → IsSome old → NowStands stanza (Some s) old → NowStands stanza (Some (changed (AddBackup b) s)) new
+  pub sound : (s : Stanza) → IsSome old → NowStands stanza (Some s) old → IsSoundStanza s → IsSoundStanza (changed (AddBackup b) s)
 
 -- The backup has all files and folders of the data folder that a backup of a stopped server takes, and nothing else.
 pub record IsOfFolder (f : Nodes) (b : Backup) : Type 0 where

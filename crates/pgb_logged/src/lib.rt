@@ -8,6 +8,7 @@
 //!   listed. A full backup is the case of one that is based on nothing.
 //! - `proofs/Online` has the same of a running server's, of `fetch`, `close_online` and `publish` with turns of others before
 //!   the last (`proofs/Waited`).
+//! - `proofs/Again` has that a sound repository is sound with the backup, whichever of those it is told to be.
 //! - `proofs/Reading` has that the backup's files have the bytes that its links read, or those of the prior backup, and
 //!   `proofs/Folders` that a full one holds the data folder where the links are honest.
 //!

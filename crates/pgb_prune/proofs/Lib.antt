@@ -1,2 +1,3 @@
 pub mod Prunings
 pub mod Statuses
+pub mod Followed

@@ -26,7 +26,9 @@ use Rattle.pgb_stage.specs.Reached.{OnFinished, reached_by, back_if, fails_early
 use Rattle.pgb_stage.specs.Runs.{to_end, turned_back, stopped, On, one, Does}
 use Rattle.pgb_stage.proofs.Doing.{rests_part, rests_does}
 use Rattle.pgb_prepare.specs.Readies.{IsArchiveOf, IsBackupOf}
+use Rattle.pgb_prune.specs.declared.fault.BehindFault.{BehindFault}
 use Rattle.pgb_prune.specs.declared.fault.PruneFault.{PruneFault}
+use Rattle.pgb_prune.specs.Behind.{Follows}
 use Rattle.pgb_prune.specs.Faults.{prune_early}
 use Rattle.pgb_prune.specs.Pruning.{IsMoment, TellsMoment, IsExpiryBy, IsPruned, Prunes}
 
@@ -75,6 +77,21 @@ undone stanza rules clock new_clock a result h is =
       pruned = if_err (λ o. OnFinished o (IsPruned stanza rules m.0 a.now a.now)) result h is;
       keeps = keeps_needed stanza rules m.0 a a (rests_part Whole stanza command a a (rests_none a) refl);
       touches = λ s told now. only_none (IsTouched stanza rules m.0 s) a;
+    }
+
+-- nor was any behind a backup
+pub undone_behind : (stanza : Text) (rules : Rules) (clock new_clock : ClockState) (a : View) (lines : Text) (result : Result (Unit {0}) BehindFault) (fault : BehindFault) → IsErrAnd result (λ x. x ≡ fault) → Follows stanza rules clock new_clock a a lines lines result
+undone_behind stanza rules clock new_clock a lines (Ok x) fault is = absurd is
+undone_behind stanza rules clock new_clock a lines (Err e) fault is =
+    let m = some_moment rules.full clock.least in
+    record {
+      moment = m.0;
+      may_be = m.1;
+      told = tt;
+      part = rests_part Whole stanza (Expire (retention rules m.0)) a a (rests_none a) refl;
+      whole = tt;
+      pruned = tt;
+      stays = refl;
     }
 
 -- ---- in the log

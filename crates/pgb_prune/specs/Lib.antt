@@ -2,3 +2,4 @@ pub mod Rules
 pub mod Texts
 pub mod Faults
 pub mod Pruning
+pub mod Behind

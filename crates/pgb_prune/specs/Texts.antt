@@ -6,6 +6,8 @@ use Rattle.pgb_model.specs.Names.{label_text}
 use Rattle.pgb_model.specs.Text.{Text}
 use Rattle.pgb_prune.specs.declared.fault.PruneFault.{PruneFault}
 use Rattle.pgb_prune.specs.declared.fault.PruneFault.TheVariants.{HistoryDiffers}
+use Rattle.pgb_prune.specs.declared.fault.BehindFault.{BehindFault}
+use Rattle.pgb_prune.specs.declared.fault.BehindFault.TheVariants as behind
 
 -- ---- what went
 
@@ -29,3 +31,18 @@ prune_status (HistoryDiffers at) = 101
 
 abbrev pub prune_message : PruneFault → Text
 prune_message (HistoryDiffers at) = codes "archive history and backup history differ at " ++ decimal at
+
+-- of the expiry behind a backup
+abbrev pub behind_status : BehindFault → ℕ
+behind_status behind.PairLost = 73
+behind_status (behind.HistoryDiffers at) = 73
+behind_status behind.Repo = 80
+behind_status behind.Clock = 84
+behind_status behind.NoMemory = 90
+
+abbrev pub behind_message : BehindFault → Text
+behind_message behind.PairLost = codes "expiry after the backup: an info pair can't be read"
+behind_message (behind.HistoryDiffers at) = codes "expiry after the backup: archive history and backup history differ at " ++ decimal at
+behind_message behind.Repo = codes "repository failed"
+behind_message behind.Clock = codes "clock failed"
+behind_message behind.NoMemory = codes "out of memory"

@@ -1,5 +1,6 @@
 // Why expire is refused.
 ghost use Rattle.std.specs.Prelude.{◌≡◌};
+ghost use Rattle.pgb_prune.specs.Behind.{of_behind};
 ghost use Rattle.pgb_prune.specs.Faults.{of_stanza, of_expire};
 
 use pgb_expire::ExpireFault;
@@ -11,6 +12,20 @@ use pgb_stanza::StanzaFault;
 pub enum PruneFault {
     /// The histories of the two info pairs differ; `at` is the first number at which they do.
     HistoryDiffers { at: u32 },
+}
+
+/// Why the expiry that follows a backup isn't done, or not whole. The backup is made and listed then.
+#[derive(Debug, Drop)]
+pub enum BehindFault {
+    /// One of the info pairs has no value any more.
+    PairLost,
+    /// The histories of the two info pairs differ; `at` is the first number at which they do.
+    HistoryDiffers { at: u32 },
+    /// The repository's count of faults rose.
+    Repo,
+    /// The clock's count of faults rose.
+    Clock,
+    NoMemory,
 }
 
 /// What a fault of the stanza is.
@@ -38,5 +53,17 @@ pub(crate) fn of_expire(fault: ExpireFault) -> Halt<PruneFault>
         ExpireFault::Info(_) | ExpireFault::HistoryDiffers { .. } | ExpireFault::NoMemory => {
             Halt::NoMemory
         }
+    }
+}
+
+/// What a fault of the expiry behind a backup is.
+pub(crate) fn of_behind(fault: ExpireFault) -> BehindFault
+    ensures { result ≡ of_behind fault }
+{
+    match fault {
+        ExpireFault::Info(_) => BehindFault::PairLost,
+        ExpireFault::HistoryDiffers { at } => BehindFault::HistoryDiffers { at },
+        ExpireFault::Disk => BehindFault::Repo,
+        ExpireFault::NoMemory => BehindFault::NoMemory,
     }
 }

@@ -1,5 +1,5 @@
 //! expire: the backups that the retention rules let go are taken out of the stanza's list, and what only they needed is
-//! dropped.
+//! dropped. The same follows a backup.
 //!
 //! The stanza's list is settled against the archive pair's history first, and the clock is read where the rules count
 //! days. Only then anything is written.
@@ -16,8 +16,13 @@
 //!   but the backup pair, folders of labels, and files of the archive that aren't timeline histories.
 //! - Each refusal has its cause in what stood before, and each object that failed counted it.
 //! - `rules_of`: the rules are those of the options.
+//! - `prune_behind`, behind a backup and under its lock, does the same, and tells what went behind the backup's lines. It
+//!   reads both pairs anew. Each of its faults has its cause in what the backup left.
+//! - Lemmas (`proofs/Followed`): a backup that came to its end and such an expiry behind it are one command of the log, of
+//!   which a part is done at each moment. A sound repository has to be sound with the backup for that.
 #![tactic(auto)]
 
+mod behind;
 mod fault;
 mod lines;
 mod moment;
@@ -25,7 +30,8 @@ mod pruning;
 mod rules;
 mod texts;
 
-pub use fault::PruneFault;
+pub use behind::prune_behind;
+pub use fault::{BehindFault, PruneFault};
 pub use pruning::prune_stanza;
 pub use rules::{kind_by, rules_of};
-pub use texts::{prune_message, prune_status};
+pub use texts::{behind_message, behind_status, prune_message, prune_status};

@@ -155,6 +155,7 @@ waits_of whole old k stanza is c w spool spool2 went = subst (λ (s : Text). Wai
   carries = went.repository.carries;
   between = went.repository.between;
   only = went.repo_only;
+  sound = went.repository.sound;
 })
 
 pub turns_taken : (whole : Bool) (old : Option Account) (k : Account) (c w spool spool2 : View) (went : Went whole old k c w spool spool2) → TakesTurns went.turned old k

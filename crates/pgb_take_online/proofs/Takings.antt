@@ -90,6 +90,7 @@ module _ (stanza : Text) (told : Control) (o : LaterOrder) (a b : View) (now_sam
           adds = record {
             adds = λ s some stands. subst (λ (t : Text). NowStands t (after (Some s) (all_of (steps_of (MakeBackup (turns_of x.turned) y.0 None) (Some s)))) e.now) drafted.later.stanza_is
                 (y.1.adds s (at_b some) (stands_b s stands));
+            sound = λ s some stands. y.1.sound s (at_b some) (stands_b s stands);
             archived = λ s some stands. y.1.archived s (at_b some) (stands_b s stands);
           };
           alike = λ some. subst (λ (t : Text). IfSome e.now (AgreeAt (backup_info t))) drafted.later.stanza_is (alike (there some));

@@ -7,7 +7,7 @@ use Rattle.pgb_model.specs.declared.clusters.Cluster.{Cluster}
 use Rattle.pgb_model.specs.declared.labels.Kind.{Kind}
 use Rattle.pgb_model.specs.Names.{backup_info}
 use Rattle.pgb_model.specs.Now.{NowStands}
-use Rattle.pgb_model.specs.Repository.{Backup, Stanza, id_of}
+use Rattle.pgb_model.specs.Repository.{Backup, Stanza, IsSound, IsSoundStanza, id_of}
 use Rattle.pgb_model.specs.Steps.{Turn, MakeBackup, after, all_of, steps_of}
 use Rattle.pgb_model.specs.Text.{Text}
 use Rattle.pgb_model.specs.Values.{BackupInfo}
@@ -26,9 +26,10 @@ use Rattle.pgb_take_later.specs.Texts.{later_lines}
 use Rattle.pgb_take_online.specs.Doing.{Heard, TakesTurns}
 use Rattle.pgb_take_online.specs.Told.{TellsOnline}
 
--- The repository has the backup behind what these turns pushed, and each segment of its part of the log is archived in it.
+-- The repository has the backup behind what these turns pushed, and is sound with both where it was; and each segment of the backup's part of the log is archived in it.
 pub record AddsOnline (stanza : Text) (turns : List Turn) (b : Backup) (o : Online) (cluster : Cluster) (old new : Option Content) : Type 0 where
   pub adds : (s : Stanza) → IsSome old → NowStands stanza (Some s) old → NowStands stanza (after (Some s) (all_of (steps_of (MakeBackup turns b None) (Some s)))) new
+  pub sound : (s : Stanza) → IsSome old → NowStands stanza (Some s) old → IsSoundStanza s → IsSound (after (Some s) (all_of (steps_of (MakeBackup turns b None) (Some s))))
   pub archived : (s : Stanza) → IsSome old → NowStands stanza (Some s) old → (t : Stanza) → after (Some s) (all_of (steps_of (MakeBackup turns b None) (Some s))) ≡ Some t → Archives (id_of cluster) o.part t
 
 -- Ok of a running server's backup, with its lines: it is based on the backup of the list that its kind asks for, and is a full one without one; it is of what the links read, of what that backup has, and of what the server told.

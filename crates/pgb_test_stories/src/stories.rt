@@ -25,6 +25,10 @@ const BACKUP: &str =
 const INCR: &str =
     "--stanza=demo --pg1-path=pg --repo1-path=repo --lock-path=lock --no-online --type=incr --no-expire-auto backup";
 
+// A backup that all earlier ones go behind.
+const BACKUP_ALONE: &str =
+    "--stanza=demo --pg1-path=pg --repo1-path=repo --lock-path=lock --no-online --type=full --repo1-retention-full=1 backup";
+
 const EXPIRE: &str =
     "--stanza=demo --repo1-path=repo --lock-path=lock --repo1-retention-full=1 expire";
 
@@ -41,10 +45,23 @@ const FIRST: u64 = 1704164645;
 
 // The calls, of which the one of this number is stopped at that moment.
 fn calls(alloc: Global, words: &[&str], number: usize, moment: u64) -> Result<Vec<Act>, PlayFault> {
+    failing(alloc, words, number, moment, &[])
+}
+
+// The same, and of the disk that is opened anew then the calls of these numbers fail.
+fn failing(
+    alloc: Global,
+    words: &[&str],
+    number: usize,
+    moment: u64,
+    fail: &[u64],
+) -> Result<Vec<Act>, PlayFault> {
     let mut acts = Vec::new(alloc);
     for at in 0..words.len() {
         let halt = if at == number {
-            Some(stop_at(alloc, moment))
+            let mut halt = stop_at(alloc, moment);
+            halt.repo.fail = fail.to_vec(alloc).or(Err(PlayFault::NoMemory))?;
+            Some(halt)
         } else {
             None
         };
@@ -165,6 +182,71 @@ fn expiries_go_on_behind_a_stop(rt: HostRuntime) {
         same(&rt, disks.repo.bytes(STORED), Some(b"hello".as_slice()));
     }
     panic!(&rt; "an expiry has no last moment");
+}
+
+// A backup is stopped at each of its moments, and so is the expiry that follows it. The next one removes what both left.
+#[test]
+fn expiries_behind_backups_go_on(rt: HostRuntime) {
+    let alloc = rt.alloc();
+    let words = [CREATE, BACKUP, BACKUP_ALONE, BACKUP_ALONE, VERIFY];
+    let made = well(&rt, calls(alloc, &[CREATE, BACKUP], 9, 0));
+    let first = well(&rt, played(alloc, made)).0.repo.moment();
+    for number in 0..200u64 {
+        let moment = first.saturating_add(number);
+        let acts = well(&rt, calls(alloc, &words, 2, moment));
+        let (disks, statuses) = match played(alloc, acts) {
+            Ok(end) => end,
+            Err(fault) => {
+                same(&rt, (fault, 8 < number), (PlayFault::Moment, true));
+                return;
+            }
+        };
+        same(&rt, statuses.as_slice(), &[0, 0, 0, 0, 0]);
+        let gone = disks
+            .repo
+            .bytes("backup/demo/20240102-030406F/pg_data/PG_VERSION");
+        same(&rt, gone, None);
+        let left = disks
+            .repo
+            .bytes("backup/demo/20240102-030408F/pg_data/PG_VERSION");
+        same(&rt, left, Some(b"16\n".as_slice()));
+    }
+    panic!(&rt; "a backup with an expiry behind it has no last moment");
+}
+
+// Each call of the disk fails in turn in a backup with an expiry behind it. A backup that is listed then stays, and the next
+// expiry removes the rest; else it is removed itself.
+#[test]
+fn a_backup_stays_whose_expiry_fails(rt: HostRuntime) {
+    let alloc = rt.alloc();
+    let words = [CREATE, BACKUP, BACKUP_ALONE, EXPIRE];
+    let made = well(&rt, calls(alloc, &[CREATE, BACKUP], 9, 0));
+    let last = well(&rt, played(alloc, made)).0.repo.moment();
+    let mut stayed = 0u64;
+    for call in 0..400u64 {
+        let acts = well(&rt, failing(alloc, &words, 1, last, &[call]));
+        let (disks, statuses) = well(&rt, played(alloc, acts));
+        let old = disks
+            .repo
+            .bytes("backup/demo/20240102-030406F/pg_data/PG_VERSION");
+        let new = disks
+            .repo
+            .bytes("backup/demo/20240102-030407F/pg_data/PG_VERSION");
+        same(
+            &rt,
+            (old.is_some(), new.is_some()),
+            (new.is_none(), new.is_some()),
+        );
+        if statuses.as_slice() == [0, 0, 0, 0] {
+            same(&rt, (0 < stayed, new.is_some()), (true, true));
+            return;
+        }
+        same(&rt, statuses.as_slice(), &[0, 0, 80, 0]);
+        if new.is_some() {
+            stayed += 1;
+        }
+    }
+    panic!(&rt; "no backup with an expiry behind it ends without a fault");
 }
 
 // With these words, into a folder that holds this file, by a worker that reads these bytes of the version file, and of whose link

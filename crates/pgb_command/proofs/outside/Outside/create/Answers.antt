@@ -1,4 +1,5 @@
 use Rattle.std.proofs.Common.{refl, ap, arith}
+use Rattle.pgb_command.specs.Asked.{alone}
 use Rattle.pgb_command.specs.Told.{request_of, asked_of}
 use Rattle.pgb_command.proofs.Ends.{rose_to, all_later}
 use Rattle.pgb_command.proofs.Rans.{created_ran}
@@ -9,7 +10,7 @@ pub returns-clause-ran : goal.returns-clause-ran
 returns-clause-ran g c =
     let e = c.create_stanza.ensures in
     let tells = create_tells (request_of c.args.settings.now.request) c.args.settings.now.stanza.now _ _ c.args.ready.now c.requires.ready c.requires.request c.in-Some.control c.in-Some.is in
-    created_ran (asked_of c.args.settings.now) _ _ refl c.in-Some.control tells c.create_stanza.result c.create_end.result c.create_end.ensures c.requires.request e.only e.does e.made e.refused
+    created_ran (alone (asked_of c.args.settings.now)) _ _ refl c.in-Some.control tells c.create_stanza.result c.create_end.result c.create_end.ensures c.requires.request e.only e.does e.made e.refused
     (as_server c.create_stanza.result c.args.settings.now.server _ e.same) e.asks
     (λ none. ap (λ w. g.V.Wire.state w) (e.quiet (no_server c.args.settings.now.server none)))
     e.closed _ (rose_to _ _ _ (λ h. h) (λ h. absurd h) (λ h. absurd h) (λ h. h) (λ h. absurd h) (λ h. absurd h) (λ h. absurd h) (λ h. absurd h) (λ h. absurd h)) e.cause

@@ -1,4 +1,5 @@
 use Rattle.std.proofs.Common.{refl, arith}
+use Rattle.pgb_command.specs.Asked.{alone}
 use Rattle.pgb_command.specs.Told.{asked_of}
 use Rattle.pgb_command.proofs.Ends.{rose_to, all_later}
 use Rattle.pgb_command.proofs.Rans.{got_ran, both_ok}
@@ -8,7 +9,7 @@ pub returns-clause-ran : goal.returns-clause-ran
 returns-clause-ran g c =
     let e = c.get_file.ensures in
     let o = c.args.order.now in
-    got_ran (asked_of c.args.settings.now) _ _ refl (record { now = e.looks.now; time = e.looks.time }) o.folder.now o.word.now o.path.now c.get_file.result c.get_end.result c.get_end.ensures c.requires.request c.requires.folder
+    got_ran (alone (asked_of c.args.settings.now)) _ _ refl (record { now = e.looks.now; time = e.looks.time }) o.folder.now o.word.now o.path.now c.get_file.result c.get_end.result c.get_end.ensures c.requires.request c.requires.folder
     (both_ok c.get_file.result _ _ e.got e.given) e.lasts e.changes e.none
     _ (rose_to _ _ _ (λ h. h) (λ h. absurd h) (λ h. h) (λ h. absurd h) (λ h. absurd h) (λ h. absurd h) (λ h. absurd h) (λ h. absurd h) (λ h. absurd h)) e.cause
     (record { repo = e.looks.opened; tree = e.opened })

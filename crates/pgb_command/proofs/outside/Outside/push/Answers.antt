@@ -1,4 +1,5 @@
 use Rattle.std.proofs.Common.{refl, arith}
+use Rattle.pgb_command.specs.Asked.{alone}
 use Rattle.pgb_command.specs.Told.{asked_of}
 use Rattle.pgb_command.proofs.Ends.{rose_to, all_later}
 use Rattle.pgb_command.proofs.Rans.{pushed_ran}
@@ -7,7 +8,7 @@ use Rattle.pgb_command.proofs.outside.Outside.push.Goals as goal
 pub returns-clause-ran : goal.returns-clause-ran
 returns-clause-ran g c =
     let e = c.push_file.ensures in
-    pushed_ran (asked_of c.args.settings.now) _ _ refl e.looks.nodes c.args.order.folder.now c.args.order.path.now c.push_file.result c.push_end.result c.push_end.ensures c.requires.request c.requires.folder e.beside e.does e.stored e.lasts e.agrees e.alike
+    pushed_ran (alone (asked_of c.args.settings.now)) _ _ refl e.looks.nodes c.args.order.folder.now c.args.order.path.now c.push_file.result c.push_end.result c.push_end.ensures c.requires.request c.requires.folder e.beside e.does e.stored e.lasts e.agrees e.alike
     _ (rose_to _ _ _ (λ h. h) (λ h. absurd h) (λ h. h) (λ h. absurd h) (λ h. absurd h) (λ h. absurd h) (λ h. absurd h) (λ h. absurd h) (λ h. absurd h)) e.cause
     (record { repo = e.frame.opened; tree = e.looks.opened })
     (all_later _ _ e.frame.later (omega arith) e.looks.later (omega arith) (omega arith) (omega arith) (omega arith) (omega arith) (omega arith))

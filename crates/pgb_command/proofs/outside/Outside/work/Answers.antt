@@ -17,7 +17,7 @@ returns-in_err-ready-clause-did g c =
 pub returns-clause-did : goal.returns-clause-did
 returns-clause-did g c =
     let e = c.in_ok-ready.ensures in
-    worked (asked_of c.args.settings.now) c.args.plan.now c.requires.plan _ _ _ c.dispatch.result refl e.looks.nodes e.frame.later e.looks.later e.quiet e.begun e.heals e.healed e.lasts e.still c.dispatch.ensures.ran
+    worked (asked_of c.args.settings.now) c.args.plan.now c.requires.plan _ _ _ c.part.result refl e.looks.nodes e.frame.later e.looks.later e.quiet e.begun e.heals e.healed e.lasts e.still c.part.ensures.ran
 
 pub returns-in_err-ready-clause-tree : goal.returns-in_err-ready-clause-tree
 returns-in_err-ready-clause-tree g c = λ none. let is = c.requires.plan in
@@ -26,4 +26,4 @@ returns-in_err-ready-clause-tree g c = λ none. let is = c.requires.plan in
 pub returns-clause-tree : goal.returns-clause-tree
 returns-clause-tree g c = λ none. let is = c.requires.plan in
     let folder = sym (ap (λ (p : Plan). p.folder) is) ∙ none in
-    c.dispatch.ensures.tree folder ∙ c.in_ok-ready.ensures.unread (ap (λ (p : Plan). p.control) is ∙ no_control (request_of c.args.settings.now.request) folder)
+    c.part.ensures.tree folder ∙ c.in_ok-ready.ensures.unread (ap (λ (p : Plan). p.control) is ∙ no_control (request_of c.args.settings.now.request) folder)

@@ -1,0 +1,479 @@
+-- What a backup did with the expiry that follows it, told of all objects.
+use Rattle.std.proofs.Common.{◌≡◌, ◌∷◌, List, Option, Some, None, Result, Ok, Err, IfOk, IfErr, refl, sym, subst, ap, ◌∙◌, arith, Bool, true, false}
+use Rattle.std.specs.Prelude.{ℕ, [], take, String, string_bytes, IfSome, IsErrAnd, IsSome, IsSomeAnd, OnOk}
+use Rattle.std.specs.declared.alloc.Global.{Global}
+use Rattle.pgb_outside.specs.Content.{Content}
+use Rattle.pgb_outside.specs.Links.{LinkState}
+use Rattle.pgb_outside.specs.Moments.{View}
+use Rattle.pgb_outside.specs.States.{ClockState, WireState}
+use Rattle.pgb_outside.specs.Tree.{Nodes}
+use Rattle.pgb_turn.specs.Turns.{Account, OthersState, Turned}
+use Rattle.pgb_await.specs.Went.{turns_of}
+use Rattle.pgb_model.specs.declared.labels.Kind.{Kind}
+use Rattle.pgb_model.specs.declared.labels.Kind.TheVariants.{Full, Diff, Incr}
+use Rattle.pgb_model.specs.Now.{NowDoes}
+use Rattle.pgb_model.specs.Repository.{Backup}
+use Rattle.pgb_model.specs.Steps.{Command, Turn, MakeBackup, Expire}
+use Rattle.pgb_model.specs.Text.{Text}
+use Rattle.pgb_stanza.specs.declared.control.Control.{Control}
+use Rattle.pgb_story.specs.Beside.{StaysBeside}
+use Rattle.pgb_story.proofs.Stays.{beside_on}
+use Rattle.pgb_stage.specs.declared.object.Object.{Object}
+use Rattle.pgb_stage.specs.declared.object.Object.TheVariants.{Repo, Clock as TheClock}
+use Rattle.pgb_stage.specs.declared.plan.Settling.TheVariants.{Whole}
+use Rattle.pgb_stage.specs.declared.outcome.Outcome.{Outcome}
+use Rattle.pgb_stage.specs.declared.outcome.Outcome.TheVariants.{Finished, Absent, FindingsFound}
+use Rattle.pgb_stage.specs.Plans.{AreHeld, backup_lock}
+use Rattle.pgb_stage.specs.Reached.{back_if}
+use Rattle.pgb_stage.specs.Runs.{Reached, to_end, turned_back, stopped, OnAll, DoesWhole, Runs}
+use Rattle.pgb_stage.specs.Seen.{Seen, Failed, AreLater}
+use Rattle.pgb_stage.proofs.Counts.{rises_from}
+use Rattle.pgb_logged.specs.Backups.{AddsBackup, IsOnlineBackup}
+use Rattle.pgb_take_later.specs.Kinds.{IsBackupBy}
+use Rattle.pgb_take_later.specs.Taken.{IsTaken}
+use Rattle.pgb_take_online.specs.Doing.{TakesTurns}
+use Rattle.pgb_take_online.specs.Taken.{TakesOnline, IsTakenOnline}
+use Rattle.pgb_take_online.proofs.Spools.{one_turns}
+use Rattle.pgb_retain.specs.declared.rules.FullRule.{FullRule}
+use Rattle.pgb_retain.specs.declared.rules.FullRule.TheVariants.{Unset, Count, Days}
+use Rattle.pgb_retain.specs.declared.rules.Rules.{Rules}
+use Rattle.pgb_expire.specs.Expiry.{retention}
+use Rattle.pgb_prune.specs.declared.fault.BehindFault.{BehindFault}
+use Rattle.pgb_prune.specs.Behind.{StaysSound, WasTold, Follows, BehindCause}
+use Rattle.pgb_prune.specs.Pruning.{IsMoment, TellsMoment}
+use Rattle.pgb_command.specs.declared.fault.CommandFault.{CommandFault}
+use Rattle.pgb_command.specs.declared.fault.CommandFault.TheVariants as commands
+use Rattle.pgb_command.specs.declared.fault.Fault.{Fault}
+use Rattle.pgb_command.specs.declared.fault.Fault.TheVariants.{Usage, Stage, Command as OfCommand, Behind, Failed as ObjectFailed, NoMemory}
+use Rattle.pgb_command.specs.Answers.{status, reached_of, ending_of, is_early}
+use Rattle.pgb_command.specs.Asked.{Request, create, push, get, backup, backup_running, restore, report, examine, expire, BackupHow, RunningHow, Asked, behind_backup, alone}
+use Rattle.pgb_command.specs.Tables.{Known, known, plan_of, ByOrder, OnCluster, TurnsTold, TellsLabel, IsRunningOf, heard_by, AsksBackup, WithExpiry, CommandCause}
+use Rattle.pgb_command.specs.Did.{SamePlaces, Closes, OwnCause, Spares, Ran, Followed}
+use Rattle.pgb_command.proofs.Dids.{later_on}
+use Rattle.pgb_command.proofs.Ends.{expiry_as}
+use Rattle.pgb_command.proofs.Followings.{MakesBackup, stopped_steps, followed_steps, told_sound}
+use Rattle.pgb_command.proofs.Rans.{all_none, any_some}
+
+-- the same, for this and with these rules
+abbrev pub asking : Asked → Request → Option Rules → Asked
+asking a q rules = record a { request = q; expires = rules }
+
+-- ---- by which moment
+
+pub any_moment : (rule : FullRule) (least moment : ℕ) → IsMoment rule least moment → IsMoment rule 0 moment
+any_moment Unset least moment h = h
+any_moment (Count n) least moment h = h
+any_moment (Days n) least moment h = omega arith
+
+pub told_moment : (rule : FullRule) (old new : ClockState) (moment : ℕ) → TellsMoment rule old new moment → WasTold rule new moment
+told_moment Unset old new moment h = h
+told_moment (Count n) old new moment h = h
+told_moment (Days n) old new moment h = (h.in_range, h.least)
+
+-- ---- what it did
+
+-- it ended well
+pub followed_well : (stanza : Text) (rules : Rules) (b k : Seen) (lines : Text) (more : String Global) (r : Result (Unit {0}) BehindFault) (x : Unit {0}) → r ≡ Ok x → Follows stanza rules b.clock k.clock b.repo.view k.repo.view lines (string_bytes more) r
+    → StaysBeside stanza b.repo.view k.repo.view → SamePlaces b k → AreLater b k → Followed stanza rules b k lines (Ok (Finished more))
+followed_well stanza rules b k lines more r x is follows beside places later =
+    let f = subst (λ (y : Result (Unit {0}) BehindFault). Follows stanza rules b.clock k.clock b.repo.view k.repo.view lines (string_bytes more) y) is follows in record {
+      moment = f.moment;
+      may_be = any_moment rules.full b.clock.least f.moment f.may_be;
+      part = f.part;
+      whole = f.whole;
+      told = told_moment rules.full b.clock k.clock f.moment f.told;
+      adds = f.pruned;
+      cause = tt;
+      beside = beside;
+      places = places;
+      later = later;
+    }
+
+-- it wasn't done, or not whole
+pub followed_ill : (stanza : Text) (rules : Rules) (b k : Seen) (lines : Text) (told : String Global) (r : Result (Unit {0}) BehindFault) (fault : BehindFault) → r ≡ Err fault → Follows stanza rules b.clock k.clock b.repo.view k.repo.view lines (string_bytes told) r
+    → IfErr r (BehindCause stanza b.repo.view.now (Failed b k Repo) (Failed b k TheClock))
+    → StaysBeside stanza b.repo.view k.repo.view → SamePlaces b k → AreLater b k → Followed stanza rules b k lines (Err (Behind told fault))
+followed_ill stanza rules b k lines told r fault is follows cause beside places later =
+    let f = subst (λ (y : Result (Unit {0}) BehindFault). Follows stanza rules b.clock k.clock b.repo.view k.repo.view lines (string_bytes told) y) is follows in record {
+      moment = f.moment;
+      may_be = any_moment rules.full b.clock.least f.moment f.may_be;
+      part = f.part;
+      whole = tt;
+      told = tt;
+      adds = tt;
+      cause = (f.stays, subst (λ (y : Result (Unit {0}) BehindFault). IfErr y (BehindCause stanza b.repo.view.now (Failed b k Repo) (Failed b k TheClock))) is cause);
+      beside = beside;
+      places = places;
+      later = later;
+    }
+
+-- ---- of a stopped server
+
+full_makes : (kind : Kind) (links : List LinkState) (stanza : Text) (old : Option Content) → MakesBackup (IsBackupBy kind links stanza old)
+full_makes Full links stanza old command is = ([], is.0, is.1)
+full_makes Diff links stanza old command is = ([], is.0, is.1)
+full_makes Incr links stanza old command is = ([], is.0, is.1)
+
+-- a backup is told with which the repository is sound
+made_sound_by : (kind : Kind) (links : List LinkState) (stanza : Text) (b : Backup) (old new : Option Content) → AddsBackup stanza b old new → (command : Command) → IsBackupBy kind links stanza old command → NowDoes stanza command true old new → StaysSound stanza command old
+made_sound_by Full links stanza b old new adds command is done = told_sound stanza [] b old new adds.adds adds.sound is.0 command is.1 done
+made_sound_by Diff links stanza b old new adds command is done = told_sound stanza [] b old new adds.adds adds.sound is.0 command is.1 done
+made_sound_by Incr links stanza b old new adds command is done = told_sound stanza [] b old new adds.adds adds.sound is.0 command is.1 done
+
+-- ---- of a running server
+
+module _ (how : RunningHow) (old new : Known) where
+  running_makes : MakesBackup (IsRunningOf how old new)
+  running_makes command is = by new.others.account is
+    where
+      by : (account : Option Account) → IsSomeAnd account (λ k. (turned : List Turned) × TakesTurns turned old.others.account k × (label : Option Text) × IfSome label (TellsLabel old new) × IsOnlineBackup (take how.workers old.links) (turns_of turned) label command)
+          → (turns : List Turn) × (b : Backup) × (command ≡ MakeBackup turns b None)
+      by None h = absurd h
+      by (Some k) (turned, takes, label, told, (b, same, read)) = (turns_of turned, b, same)
+
+  -- the turns that it waited are those of its promise
+  running_sound : (stanza : Text) (told : Control) (lines : Text) (repo : Option Content) → TakesOnline stanza told (heard_by old new told) (take how.workers old.links) old.others.account new.others.account old.repo repo lines
+      → IsSomeAnd new.others.account (λ k. k.stanza ≡ stanza) → (command : Command) → IsRunningOf how old new command → NowDoes stanza command true old.repo repo → StaysSound stanza command old.repo
+  running_sound stanza told lines repo taken there command is done = by new.others.account taken there is
+    where
+      by : (account : Option Account) → TakesOnline stanza told (heard_by old new told) (take how.workers old.links) old.others.account account old.repo repo lines → IsSomeAnd account (λ k. k.stanza ≡ stanza)
+          → IsSomeAnd account (λ k. (turned : List Turned) × TakesTurns turned old.others.account k × (label : Option Text) × IfSome label (TellsLabel old new) × IsOnlineBackup (take how.workers old.links) (turns_of turned) label command)
+          → StaysSound stanza command old.repo
+      by None h of x = absurd of
+      by (Some k) h of (turned, takes, label, label_told, (b, same, read)) =
+          let y = h of in
+          let one = one_turns k old.others.account turned y.0 takes y.1 in
+          let t = subst (λ (ts : List Turned). IsTakenOnline stanza told (heard_by old new told) (take how.workers old.links) ts old.repo repo lines) one y.2 in
+          told_sound stanza (turns_of turned) t.backup old.repo repo t.adds.adds t.adds.sound b command same done
+
+-- ---- it ended without one
+
+back_not : (early : Bool) → ¬ (back_if early ≡ to_end)
+back_not true at = let e : turned_back ≡ to_end = at in cc
+back_not false at = let e : stopped ≡ to_end = at in cc
+
+-- a refusal has the same cause
+module _ (a : Asked) (rules : Rules) where
+  full_command : (how : BackupHow) (old new : Known) (fault : CommandFault) → CommandCause (asking a (backup how) None) (backup how) old new fault → CommandCause (asking a (backup how) (Some rules)) (backup how) old new fault
+  full_command how old new (commands.Create e) h = absurd h
+  full_command how old new (commands.Push e) h = absurd h
+  full_command how old new (commands.Get e) h = absurd h
+  full_command how old new (commands.Take e) h = h
+  full_command how old new (commands.TakeOnline e) h = absurd h
+  full_command how old new (commands.Recover e) h = absurd h
+  full_command how old new (commands.Examine e) h = absurd h
+  full_command how old new (commands.Prune e) h = absurd h
+
+  running_command : (how : RunningHow) (old new : Known) (fault : CommandFault) → CommandCause (asking a (backup_running how) None) (backup_running how) old new fault → CommandCause (asking a (backup_running how) (Some rules)) (backup_running how) old new fault
+  running_command how old new (commands.Create e) h = absurd h
+  running_command how old new (commands.Push e) h = absurd h
+  running_command how old new (commands.Get e) h = absurd h
+  running_command how old new (commands.Take e) h = absurd h
+  running_command how old new (commands.TakeOnline e) h = h
+  running_command how old new (commands.Recover e) h = absurd h
+  running_command how old new (commands.Examine e) h = absurd h
+  running_command how old new (commands.Prune e) h = absurd h
+
+  module _ (b k : Seen) where
+    full_cause : (how : BackupHow) (fault : Fault) → OwnCause (asking a (backup how) None) b k fault → OwnCause (asking a (backup how) (Some rules)) b k fault
+    full_cause how (Usage e) h = h
+    full_cause how (Stage e) h = h
+    full_cause how (OfCommand e) h = full_command how (known b) (known k) e h
+    full_cause how (Behind lines fault) h = h
+    full_cause how (ObjectFailed object) h = h
+    full_cause how NoMemory h = h
+
+    running_cause : (how : RunningHow) (fault : Fault) → OwnCause (asking a (backup_running how) None) b k fault → OwnCause (asking a (backup_running how) (Some rules)) b k fault
+    running_cause how (Usage e) h = h
+    running_cause how (Stage e) h = h
+    running_cause how (OfCommand e) h = running_command how (known b) (known k) e h
+    running_cause how (Behind lines fault) h = h
+    running_cause how (ObjectFailed object) h = h
+    running_cause how NoMemory h = h
+
+    -- so a backup that was refused, or failed, had no expiry
+    full_stopped : (how : BackupHow) (fault : Fault) → Ran (asking a (backup how) None) b k (Err fault) → Ran (asking a (backup how) (Some rules)) b k (Err fault)
+    full_stopped how fault h = record {
+      steps = stopped_steps a.stanza rules (IsBackupBy how.kind (take how.workers b.links) a.stanza b.repo.view.now) (full_makes how.kind (take how.workers b.links) a.stanza b.repo.view.now) b.repo.view b.spool.view k.repo.view k.spool.view (back_if (is_early fault)) (back_not (is_early fault)) h.steps;
+      promise = tt;
+      lasts = tt;
+      cause = full_cause how fault h.cause;
+      healed = tt;
+      spares = (let s = h.spares in record {
+        beside = s.beside;
+        spool = s.spool;
+        pairs = s.pairs;
+        expires = s.expires;
+        reads = s.reads;
+        folder = s.folder;
+        nodes = s.nodes;
+        unmade = s.unmade;
+        quiet = s.quiet;
+        others = s.others;
+        waits = s.waits;
+        workers = s.workers;
+        clock = s.clock;
+        closed = s.closed;
+      });
+      places = h.places;
+      later = h.later;
+    }
+
+    running_stopped : (how : RunningHow) (fault : Fault) → Ran (asking a (backup_running how) None) b k (Err fault) → Ran (asking a (backup_running how) (Some rules)) b k (Err fault)
+    running_stopped how fault h = record {
+      steps = λ told. stopped_steps a.stanza rules (IsRunningOf how (known b) (known k)) (running_makes how (known b) (known k)) b.repo.view b.spool.view k.repo.view k.spool.view (back_if (is_early fault)) (back_not (is_early fault)) (h.steps told);
+      promise = tt;
+      lasts = tt;
+      cause = running_cause how fault h.cause;
+      healed = tt;
+      spares = (let s = h.spares in record {
+        beside = s.beside;
+        spool = s.spool;
+        pairs = s.pairs;
+        expires = s.expires;
+        reads = s.reads;
+        folder = s.folder;
+        nodes = s.nodes;
+        unmade = s.unmade;
+        quiet = s.quiet;
+        others = s.others;
+        waits = s.waits;
+        workers = s.workers;
+        clock = s.clock;
+        closed = s.closed;
+      });
+      places = h.places;
+      later = h.later;
+    }
+
+-- ---- it ended well, and an expiry followed
+
+module _ (a : Asked) (rules : Rules) (b m k : Seen) (server_same : k.server ≡ m.server) (others_same : k.others ≡ m.others) (spool_same : k.spool.view ≡ m.spool.view) (nodes_same : k.tree.nodes ≡ m.tree.nodes) where
+  later_all : AreLater b m → (object : Object) → Failed m k object → Failed b k object
+  later_all first object rose = rises_from _ _ _ (first object) rose
+
+  places_on : SamePlaces b m → SamePlaces m k → SamePlaces b k
+  places_on p q = record { repo = q.repo ∙ p.repo; tree = q.tree ∙ p.tree }
+
+  -- ---- of a stopped server
+
+  module _ (how : BackupHow) (lines : String Global) (h : Ran (asking a (backup how) None) b m (Ok (Finished lines))) where
+    abbrev FullTaken : Text → Type 0
+    FullTaken text = ByOrder how (λ o. OnCluster b.tree.nodes (λ told. IsTaken a.stanza told o b.tree.nodes (take how.workers b.links) b.repo.view.now m.repo.view.now text))
+
+    full_taken : FullTaken (string_bytes lines)
+    full_taken = h.promise
+
+    full_sound : (command : Command) → IsBackupBy how.kind (take how.workers b.links) a.stanza b.repo.view.now command → NowDoes a.stanza command true b.repo.view.now m.repo.view.now → StaysSound a.stanza command b.repo.view.now
+    full_sound command is done = let t = full_taken.2.2 in made_sound_by how.kind (take how.workers b.links) a.stanza t.made.backup b.repo.view.now m.repo.view.now t.made.adds command is done
+
+    full_spares : StaysBeside a.stanza m.repo.view k.repo.view → (r : Result Outcome Fault) → IfErr r (Closes b k) → Spares (asking a (backup how) (Some rules)) b k r
+    full_spares beside r closed = let s = h.spares in record {
+      beside = λ told. beside_on a.stanza b.repo.view m.repo.view k.repo.view (s.beside tt) beside;
+      spool = λ told. subst (λ (v : View). StaysBeside a.stanza b.spool.view v) (sym spool_same) (s.spool tt);
+      pairs = tt;
+      expires = tt;
+      reads = tt;
+      folder = nodes_same ∙ s.folder;
+      nodes = all_none (reached_of (ending_of r)) _ (nodes_same ∙ s.folder);
+      unmade = tt;
+      quiet = λ none. server_same ∙ s.quiet none;
+      others = server_same ∙ s.others;
+      waits = others_same ∙ s.waits;
+      workers = tt;
+      clock = tt;
+      closed = closed;
+    }
+
+    full_steps : (f : (r : Result Outcome Fault) × Followed a.stanza rules m k (string_bytes lines) r) (reached : Reached) → ¬ (reached ≡ turned_back) → OnAll reached (DoesWhole Whole a.stanza (Expire (retention rules f.1.moment)) m.repo.view k.repo.view)
+        → (command : Command) × WithExpiry (Some rules) (IsBackupBy how.kind (take how.workers b.links) a.stanza b.repo.view.now) command × Runs Whole a.stanza command reached b.repo.view b.spool.view k.repo.view k.spool.view
+    full_steps f reached not all = followed_steps a.stanza rules (IsBackupBy how.kind (take how.workers b.links) a.stanza b.repo.view.now) (full_makes how.kind (take how.workers b.links) a.stanza b.repo.view.now) b.repo.view b.spool.view m.repo.view k.spool.view k.repo.view f.1.moment f.1.may_be reached not full_sound f.1.part all
+        (subst (λ (v : View). (command : Command) × WithExpiry None (IsBackupBy how.kind (take how.workers b.links) a.stanza b.repo.view.now) command × Runs Whole a.stanza command to_end b.repo.view b.spool.view m.repo.view v) (sym spool_same) h.steps)
+
+    full_followed : (r : Result Outcome Fault) → Followed a.stanza rules m k (string_bytes lines) r → Ran (asking a (backup how) (Some rules)) b k r
+    full_followed (Ok (Finished more)) f = record {
+      steps = full_steps (Ok (Finished more), f) to_end (λ (at : to_end ≡ turned_back). cc) f.whole;
+      promise = record { repo = m.repo.view.now; lines = lines; was = full_taken; moment = f.moment; told = f.told; adds = f.adds };
+      lasts = λ looked. tt;
+      cause = tt;
+      healed = record { agree = λ some x. any_some k.repo.view.now; lasts = λ looked x. tt };
+      spares = full_spares f.beside (Ok (Finished more)) tt;
+      places = places_on h.places f.places;
+      later = later_on b m k h.later f.later;
+    }
+    full_followed (Ok (Absent name)) f = absurd f.adds
+    full_followed (Ok (FindingsFound more)) f = absurd f.adds
+    full_followed (Err (Behind told fault)) f = record {
+      steps = full_steps (Err (Behind told fault), f) stopped (λ (at : stopped ≡ turned_back). cc) tt;
+      promise = tt;
+      lasts = tt;
+      cause = (
+        m.repo.view.now,
+        subst FullTaken (sym f.cause.0) full_taken,
+        expiry_as a.stanza m.repo.view.now (later_all h.later Repo) (later_all h.later TheClock) fault f.cause.1,
+      );
+      healed = tt;
+      spares = full_spares f.beside (Err (Behind told fault)) tt;
+      places = places_on h.places f.places;
+      later = later_on b m k h.later f.later;
+    }
+    full_followed (Err (Usage e)) f = absurd f.cause
+    full_followed (Err (Stage e)) f = absurd f.cause
+    full_followed (Err (OfCommand e)) f = absurd f.cause
+    full_followed (Err (ObjectFailed object)) f = absurd f.cause
+    full_followed (Err NoMemory) f = absurd f.cause
+
+  -- ---- of a running server
+
+  module _ (how : RunningHow) (lines : String Global) (h : Ran (asking a (backup_running how) None) b m (Ok (Finished lines))) where
+    abbrev RunningTaken : WireState → OthersState → Text → Type 0
+    RunningTaken server others text =
+        OnCluster b.tree.nodes (λ told. TakesOnline a.stanza told (record { system = told.system; pending = b.server.pending; left = server.pending }) (take how.workers b.links) b.others.account others.account b.repo.view.now m.repo.view.now text)
+        × AsksBackup a.server how.fast server.place b.server.sent server.sent
+
+    running_taken : RunningTaken k.server k.others (string_bytes lines)
+    running_taken = subst (λ (o : OthersState). RunningTaken k.server o (string_bytes lines)) (sym others_same) (subst (λ (w : WireState). RunningTaken w m.others (string_bytes lines)) (sym server_same) h.promise)
+
+    there : TurnsTold a (backup_running how) (known k) → TurnsTold a (backup_running how) (known m)
+    there told = subst (λ (o : OthersState). IsSomeAnd o.account (λ n. n.stanza ≡ a.stanza)) others_same told
+
+    -- which command it is, told from the end
+    abbrev RunningStep : WireState → OthersState → View → Type 0
+    RunningStep server others spool =
+        (command : Command) × WithExpiry None (IsRunningOf how (known b) (record (known k) { server = server; others = others })) command × Runs Whole a.stanza command to_end b.repo.view b.spool.view m.repo.view spool
+
+    running_step : TurnsTold a (backup_running how) (known k) → RunningStep k.server k.others k.spool.view
+    running_step told = subst (λ (v : View). RunningStep k.server k.others v) (sym spool_same) (subst (λ (o : OthersState). RunningStep k.server o m.spool.view) (sym others_same)
+        (subst (λ (w : WireState). RunningStep w m.others m.spool.view) (sym server_same) (h.steps (there told))))
+
+    running_spares : StaysBeside a.stanza m.repo.view k.repo.view → (r : Result Outcome Fault) → IfErr r (Closes b k) → Spares (asking a (backup_running how) (Some rules)) b k r
+    running_spares beside r closed = let s = h.spares in record {
+      beside = λ told. beside_on a.stanza b.repo.view m.repo.view k.repo.view (s.beside (there told)) beside;
+      spool = λ told. subst (λ (v : View). StaysBeside a.stanza b.spool.view v) (sym spool_same) (s.spool (there told));
+      pairs = tt;
+      expires = tt;
+      reads = tt;
+      folder = nodes_same ∙ s.folder;
+      nodes = all_none (reached_of (ending_of r)) _ (nodes_same ∙ s.folder);
+      unmade = tt;
+      quiet = λ none. server_same ∙ s.quiet none;
+      others = tt;
+      waits = tt;
+      workers = tt;
+      clock = tt;
+      closed = closed;
+    }
+
+    running_steps : (f : (r : Result Outcome Fault) × Followed a.stanza rules m k (string_bytes lines) r) (reached : Reached) → ¬ (reached ≡ turned_back) → OnAll reached (DoesWhole Whole a.stanza (Expire (retention rules f.1.moment)) m.repo.view k.repo.view)
+        → TurnsTold a (backup_running how) (known k) → (command : Command) × WithExpiry (Some rules) (IsRunningOf how (known b) (known k)) command × Runs Whole a.stanza command reached b.repo.view b.spool.view k.repo.view k.spool.view
+    running_steps f reached not all told = followed_steps a.stanza rules (IsRunningOf how (known b) (known k)) (running_makes how (known b) (known k)) b.repo.view b.spool.view m.repo.view k.spool.view k.repo.view f.1.moment f.1.may_be reached not
+        (λ command is done. running_sound how (known b) (known k) a.stanza running_taken.0.0 (string_bytes lines) m.repo.view.now running_taken.0.2 told command is done) f.1.part all (running_step told)
+
+    running_followed : (r : Result Outcome Fault) → Followed a.stanza rules m k (string_bytes lines) r → Ran (asking a (backup_running how) (Some rules)) b k r
+    running_followed (Ok (Finished more)) f = record {
+      steps = running_steps (Ok (Finished more), f) to_end (λ (at : to_end ≡ turned_back). cc) f.whole;
+      promise = record { repo = m.repo.view.now; lines = lines; was = running_taken; moment = f.moment; told = f.told; adds = f.adds };
+      lasts = λ looked. tt;
+      cause = tt;
+      healed = record { agree = λ some x. any_some k.repo.view.now; lasts = λ looked x. tt };
+      spares = running_spares f.beside (Ok (Finished more)) tt;
+      places = places_on h.places f.places;
+      later = later_on b m k h.later f.later;
+    }
+    running_followed (Ok (Absent name)) f = absurd f.adds
+    running_followed (Ok (FindingsFound more)) f = absurd f.adds
+    running_followed (Err (Behind told fault)) f = record {
+      steps = running_steps (Err (Behind told fault), f) stopped (λ (at : stopped ≡ turned_back). cc) tt;
+      promise = tt;
+      lasts = tt;
+      cause = (
+        m.repo.view.now,
+        subst (RunningTaken k.server k.others) (sym f.cause.0) running_taken,
+        expiry_as a.stanza m.repo.view.now (later_all h.later Repo) (later_all h.later TheClock) fault f.cause.1,
+      );
+      healed = tt;
+      spares = running_spares f.beside (Err (Behind told fault)) tt;
+      places = places_on h.places f.places;
+      later = later_on b m k h.later f.later;
+    }
+    running_followed (Err (Usage e)) f = absurd f.cause
+    running_followed (Err (Stage e)) f = absurd f.cause
+    running_followed (Err (OfCommand e)) f = absurd f.cause
+    running_followed (Err (ObjectFailed object)) f = absurd f.cause
+    running_followed (Err NoMemory) f = absurd f.cause
+
+-- ---- of any command
+
+none_some : {P : Type 0} (rules : Rules) → ◌≡◌ {A = Option Rules} None (Some rules) → P
+none_some rules is = cc
+
+-- its lock is held
+pub held_backup : (q : Request) (rules : Rules) (stanza : Text) (held : List Text) → behind_backup q (Some rules) ≡ Some rules → AreHeld (plan_of q) stanza held → held ≡ backup_lock stanza ∷ []
+held_backup create rules stanza held at h = none_some rules at
+held_backup (push path) rules stanza held at h = none_some rules at
+held_backup (get name path) rules stanza held at h = none_some rules at
+held_backup (backup how) rules stanza held at h = h
+held_backup (backup_running how) rules stanza held at h = h
+held_backup (restore set how) rules stanza held at h = none_some rules at
+held_backup (report form) rules stanza held at h = none_some rules at
+held_backup examine rules stanza held at h = none_some rules at
+held_backup (expire other) rules stanza held at h = none_some rules at
+
+-- an expiry followed
+pub behind_ran : (a : Asked) (rules : Rules) → a.expires ≡ Some rules → behind_backup a.request a.expires ≡ a.expires → (b m k : Seen) → k.server ≡ m.server → k.others ≡ m.others → k.spool.view ≡ m.spool.view → k.tree.nodes ≡ m.tree.nodes → (outcome : Outcome) (lines : String Global) → outcome ≡ Finished lines
+    → Ran (alone a) b m (Ok outcome) → (r : Result Outcome Fault) → Followed a.stanza rules m k (string_bytes lines) r → Ran a b k r
+behind_ran a rules is kept b m k server others spool nodes outcome lines ended h r f = subst (λ (x : Option Rules). Ran (record a { expires = x }) b k r) (sym is)
+    (go a.request (subst (λ (x : Option Rules). behind_backup a.request x ≡ x) is kept) (subst (λ (o : Outcome). Ran (alone a) b m (Ok o)) ended h))
+  where
+    go : (q : Request) → behind_backup q (Some rules) ≡ Some rules → Ran (asking a q None) b m (Ok (Finished lines)) → Ran (asking a q (Some rules)) b k r
+    go create at x = none_some rules at
+    go (push path) at x = none_some rules at
+    go (get name path) at x = none_some rules at
+    go (backup how) at x = full_followed a rules b m k server others spool nodes how lines x r f
+    go (backup_running how) at x = running_followed a rules b m k server others spool nodes how lines x r f
+    go (restore set how) at x = none_some rules at
+    go (report form) at x = none_some rules at
+    go examine at x = none_some rules at
+    go (expire other) at x = none_some rules at
+
+-- none follows
+pub alone_ran : (a : Asked) → a.expires ≡ None → (b k : Seen) (r : Result Outcome Fault) → Ran (alone a) b k r → Ran a b k r
+alone_ran a is b k r h = subst (λ (x : Option Rules). Ran (record a { expires = x }) b k r) (sym is) h
+
+-- it didn't end well with lines
+abbrev pub IsUnfinished : Result Outcome Fault → Type 0
+IsUnfinished (Ok (Finished lines)) = ⊥
+IsUnfinished other = Unit {0}
+
+pub unfinished_ran : (a : Asked) → behind_backup a.request a.expires ≡ a.expires → (b k : Seen) (r : Result Outcome Fault) → IsUnfinished r → Ran (alone a) b k r → Ran a b k r
+unfinished_ran a kept b k r not h = by a.expires refl
+  where
+    back : (rules : Rules) (q : Request) → behind_backup q (Some rules) ≡ Some rules → (x : Result Outcome Fault) → IsUnfinished x → Ran (asking a q None) b k x → Ran (asking a q (Some rules)) b k x
+    back rules create at x not ran = none_some rules at
+    back rules (push path) at x not ran = none_some rules at
+    back rules (get name path) at x not ran = none_some rules at
+    back rules (backup how) at (Ok (Finished lines)) not ran = absurd not
+    back rules (backup how) at (Ok (Absent name)) not ran = absurd ran.promise.2.2
+    back rules (backup how) at (Ok (FindingsFound lines)) not ran = absurd ran.promise.2.2
+    back rules (backup how) at (Err fault) not ran = full_stopped a rules b k how fault ran
+    back rules (backup_running how) at (Ok (Finished lines)) not ran = absurd not
+    back rules (backup_running how) at (Ok (Absent name)) not ran = absurd ran.promise.0.2
+    back rules (backup_running how) at (Ok (FindingsFound lines)) not ran = absurd ran.promise.0.2
+    back rules (backup_running how) at (Err fault) not ran = running_stopped a rules b k how fault ran
+    back rules (restore set how) at x not ran = none_some rules at
+    back rules (report form) at x not ran = none_some rules at
+    back rules examine at x not ran = none_some rules at
+    back rules (expire other) at x not ran = none_some rules at
+
+    by : (rules : Option Rules) → a.expires ≡ rules → Ran a b k r
+    by None is = alone_ran a is b k r h
+    by (Some rules) is = subst (λ (x : Option Rules). Ran (record a { expires = x }) b k r) (sym is) (back rules a.request (subst (λ (x : Option Rules). behind_backup a.request x ≡ x) is kept) r not h)
+
+-- it was refused
+pub refused_ran : (a : Asked) → behind_backup a.request a.expires ≡ a.expires → (b k : Seen) (r : Result Outcome Fault) (fault : Fault) → IsErrAnd r (λ f. f ≡ fault) → Ran (alone a) b k (Err fault) → Ran a b k r
+refused_ran a kept b k (Ok outcome) fault is h = absurd is
+refused_ran a kept b k (Err other) fault is h = unfinished_ran a kept b k (Err other) tt (subst (λ (f : Fault). Ran (alone a) b k (Err f)) (sym is) h)
+
+-- it ended well, without lines
+pub ended_ran : (a : Asked) → behind_backup a.request a.expires ≡ a.expires → (b k : Seen) (outcome other : Outcome) → outcome ≡ other → IsUnfinished (Ok other) → Ran (alone a) b k (Ok outcome) → Ran a b k (Ok other)
+ended_ran a kept b k outcome other is not h = unfinished_ran a kept b k (Ok other) not (subst (λ (o : Outcome). Ran (alone a) b k (Ok o)) is h)

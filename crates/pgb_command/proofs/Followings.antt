@@ -1,0 +1,78 @@
+-- A backup with the expiry that follows it: from its own part and what the expiry did behind it.
+use Rattle.std.proofs.Common.{◌≡◌, ◌++◌, List, ◌∷◌, Option, Some, None, Result, Ok, Err, IfOk, IfErr, refl, sym, subst, ap, ◌∙◌, Bool, true, false}
+use Rattle.std.specs.Prelude.{ℕ, [], take, String, string_bytes, IfSome, IsSome, IsSomeAnd, OnOk}
+use Rattle.std.specs.declared.alloc.Global.{Global}
+use Rattle.pgb_outside.specs.Content.{Content}
+use Rattle.pgb_outside.specs.Moments.{View}
+use Rattle.pgb_model.specs.Now.{NowStands, NowDoes}
+use Rattle.pgb_model.specs.Repository.{Backup, Stanza, Repository, IsSound, IsSoundStanza}
+use Rattle.pgb_model.specs.Steps.{Command, Turn, MakeBackup, Expire, after, all_of, steps_of}
+use Rattle.pgb_model.specs.Text.{Text}
+use Rattle.pgb_one_text.proofs.Lists.{one_list}
+use Rattle.pgb_one_text.proofs.Manifests.{one_manifest}
+use Rattle.pgb_logged.proofs.Again.{made_sound}
+use Rattle.pgb_stage.specs.declared.plan.Settling.TheVariants.{Whole}
+use Rattle.pgb_stage.specs.Runs.{Reached, to_end, turned_back, OnAll, DoesPart, DoesWhole, Runs}
+use Rattle.pgb_retain.specs.declared.rules.Rules.{Rules}
+use Rattle.pgb_expire.specs.Expiry.{retention}
+use Rattle.pgb_prune.specs.Behind.{IsFollowed, StaysSound}
+use Rattle.pgb_prune.specs.Pruning.{IsMoment}
+use Rattle.pgb_prune.proofs.Followed.{stopped_runs, followed_runs}
+use Rattle.pgb_prune.proofs.Prunings.{some_moment}
+use Rattle.pgb_command.specs.Tables.{WithExpiry}
+
+-- ---- which command it is
+
+-- a command of this kind makes a backup, and has no expiry
+abbrev pub MakesBackup : (Command → Type 0) → Type 0
+MakesBackup Is = (command : Command) → Is command → (turns : List Turn) × (b : Backup) × (command ≡ MakeBackup turns b None)
+
+-- one behind which none follows
+pub unfollowed : {Is P : Command → Type 0} → ((command : Command) × Is command × P command) → (command : Command) × WithExpiry None Is command × P command
+unfollowed (command, is, p) = (command, (command, is, refl), p)
+
+-- nothing was done of one, with an expiry behind it
+pub any_followed : (rules : Option Rules) (turns : List Turn) (b : Backup) → (command : Command) × IsFollowed rules (MakeBackup turns b None) command
+any_followed None turns b = (MakeBackup turns b None, refl)
+any_followed (Some rules) turns b =
+    let m = some_moment rules.full 0 in
+    (MakeBackup turns b (Some (retention rules m.0)), (turns, b, m.0, m.1, refl, refl))
+
+module _ (stanza : Text) (rules : Rules) (Is : Command → Type 0) (makes : MakesBackup Is) (a s m t : View) where
+  -- it came to no end
+  pub stopped_steps : (reached : Reached) → ¬ (reached ≡ to_end) → ((command : Command) × WithExpiry None Is command × Runs Whole stanza command reached a s m t)
+      → (command : Command) × WithExpiry (Some rules) Is command × Runs Whole stanza command reached a s m t
+  stopped_steps reached not (command, (made, is_made, same), runs) =
+      let x = makes made is_made in
+      let n = some_moment rules.full 0 in
+      let k = retention rules n.0 in (
+        MakeBackup x.0 x.1 (Some k),
+        (made, is_made, (x.0, x.1, n.0, n.1, x.2, refl)),
+        stopped_runs x.0 x.1 k stanza a s m t reached not (subst (λ (c : Command). Runs Whole stanza c reached a s m t) (same ∙ x.2) runs),
+      )
+
+  -- it came to its end, and an expiry followed at a moment
+  pub followed_steps : (d : View) (moment : ℕ) → IsMoment rules.full 0 moment → (reached : Reached) → ¬ (reached ≡ turned_back)
+      → ((command : Command) (is : Is command) → NowDoes stanza command true a.now m.now → StaysSound stanza command a.now)
+      → DoesPart Whole stanza (Expire (retention rules moment)) m d → OnAll reached (DoesWhole Whole stanza (Expire (retention rules moment)) m d)
+      → ((command : Command) × WithExpiry None Is command × Runs Whole stanza command to_end a s m t)
+      → (command : Command) × WithExpiry (Some rules) Is command × Runs Whole stanza command reached a s d t
+  followed_steps d moment may_be reached not sound part all (command, (made, is_made, same), runs) =
+      let x = makes made is_made in
+      let here = subst (λ (c : Command). Runs Whole stanza c to_end a s m t) (same ∙ x.2) runs in
+      let done = subst (λ (c : Command). NowDoes stanza c true a.now m.now) (sym x.2) here.whole.does.done in
+      let stays = subst (λ (c : Command). StaysSound stanza c a.now) x.2 (sound made is_made done) in (
+        MakeBackup x.0 x.1 (Some (retention rules moment)),
+        (made, is_made, (x.0, x.1, moment, may_be, x.2, refl)),
+        followed_runs x.0 x.1 (retention rules moment) stanza a s m t here stays d reached not part all,
+      )
+
+-- ---- it is sound with the backup
+
+-- The repository is sound with a backup that is told; so it is with the command that made it behind the same turns.
+pub told_sound : (stanza : Text) (turns : List Turn) (b : Backup) (old new : Option Content)
+    → ((s : Stanza) → IsSome old → NowStands stanza (Some s) old → NowStands stanza (after (Some s) (all_of (steps_of (MakeBackup turns b None) (Some s)))) new)
+    → ((s : Stanza) → IsSome old → NowStands stanza (Some s) old → IsSoundStanza s → IsSound (after (Some s) (all_of (steps_of (MakeBackup turns b None) (Some s)))))
+    → (c : Backup) (command : Command) → command ≡ MakeBackup turns c None → NowDoes stanza command true old new → StaysSound stanza command old
+told_sound stanza turns b old new adds sound c command is done = subst (λ (x : Command). StaysSound stanza x old) (sym is)
+    (made_sound one_list one_manifest stanza turns c b old new (subst (λ (x : Command). NowDoes stanza x true old new) is done) adds sound)

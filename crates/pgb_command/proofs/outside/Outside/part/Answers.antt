@@ -1,0 +1,23 @@
+use Rattle.std.proofs.Common.{ap}
+use Rattle.pgb_command.specs.Told.{asked_of}
+use Rattle.pgb_command.proofs.Served.{kept_behind}
+use Rattle.pgb_command.proofs.Behinds.{behind_ran, ended_ran, refused_ran}
+use Rattle.pgb_command.proofs.outside.Outside.part.Goals as goal
+
+pub returns-in_err-outcome-clause-ran : goal.returns-in_err-outcome-clause-ran
+returns-in_err-outcome-clause-ran g c = let s = c.args.settings.now in
+    refused_ran (asked_of s) (kept_behind s.request s.expires s.followed) _ _ c.from_residual.result c.in_err-outcome.field-0.0 c.from_residual.ensures.1 c.in_err-outcome.ensures.ran
+
+pub returns-in-Some-clause-ran : goal.returns-in-Some-clause-ran
+returns-in-Some-clause-ran g c = let s = c.args.settings.now in
+    let rest = c.follow.ensures.rest in
+    behind_ran (asked_of s) c.in-Some.rules c.in-Some.is (kept_behind s.request s.expires s.followed) _ _ _ (ap (λ o. g.V.Wire.state o.server) rest) (ap (λ o. g.A.Aside.state o.aside) rest) (ap (λ o. (g.S.Disk.state o.spool).view) rest) (ap (λ o. (g.T.Tree.state o.tree).nodes) rest)
+    c.in_ok-outcome.outcome c.in-Finished.lines c.in-Finished.is c.in_ok-outcome.ensures.ran c.follow.result c.follow.ensures.followed
+
+pub returns-in-Absent-clause-ran : goal.returns-in-Absent-clause-ran
+returns-in-Absent-clause-ran g c = let s = c.args.settings.now in
+    ended_ran (asked_of s) (kept_behind s.request s.expires s.followed) _ _ c.in_ok-outcome.outcome _ c.in-Absent.is tt c.in_ok-outcome.ensures.ran
+
+pub returns-in-FindingsFound-clause-ran : goal.returns-in-FindingsFound-clause-ran
+returns-in-FindingsFound-clause-ran g c = let s = c.args.settings.now in
+    ended_ran (asked_of s) (kept_behind s.request s.expires s.followed) _ _ c.in_ok-outcome.outcome _ c.in-FindingsFound.is tt c.in_ok-outcome.ensures.ran
