@@ -8,7 +8,8 @@ use crate::output::Output;
 use crate::world::{Times, Wanted};
 use pgb_command::{Outside, run};
 use pgb_memory::{MemClock, MemDisk, MemLocks, MemNode, MemSource, MemTree, MemWire};
-use pgb_outside::NotThere;
+use pgb_memory_others::{MemOthers, OtherPush, OtherTurn};
+use pgb_model::{ArchiveId, Segment};
 use pgb_worker_links::{MemLink, MemTurns};
 use std::alloc::{AllocError, Global};
 
@@ -19,14 +20,33 @@ pub(crate) struct Fail {
     pub number: u64,
 }
 
+// The stanza for which other processes push, the id of its cluster, and that cluster's system.
+const STANZA: &str = "demo";
+
+const ID: ArchiveId = ArchiveId {
+    version: 16,
+    number: 1,
+};
+
+const SYSTEM: u64 = 6917529027641081857;
+
+/// A segment that other processes push, where the one before it is stored.
+#[derive(Drop)]
+pub(crate) struct Push {
+    pub before: Segment,
+    pub segment: Segment,
+    pub bytes: Vec<u8>,
+}
+
 /// What a command finds beside the repository and the data folder: the configuration, the bytes that the server sends, the sizes
-/// of their pieces, the seconds that the clock tells, whether there is a worker, the locks that others hold, and the calls that are
-/// to fail.
+/// of their pieces, what other processes push in their turns, the seconds of the clock, whether there is a worker, the locks that
+/// others hold, and the calls that are to fail.
 #[derive(Drop)]
 pub(crate) struct Around {
     pub config: Option<Vec<u8>>,
     pub server: Vec<u8>,
     pub cuts: Vec<u32>,
+    pub turns: Vec<Option<Push>>,
     pub seconds: Vec<u64>,
     pub worker: bool,
     pub held: Vec<String>,
@@ -62,6 +82,15 @@ impl Around {
         Ok(MemWire::new(alloc, bytes, cuts, fails))
     }
 
+    fn aside(&self, alloc: Global) -> Result<MemOthers, AllocError> {
+        let mut turns = Vec::new(alloc);
+        for push in &self.turns {
+            turns.push(turn_of(push)?)?;
+        }
+        let stanza = String::from_str(alloc, STANZA)?;
+        Ok(MemOthers::new(alloc, stanza, turns))
+    }
+
     fn source(&self, alloc: Global) -> Result<MemSource, AllocError> {
         let file = match &self.config {
             Some(bytes) => Some(bytes.clone()?),
@@ -83,11 +112,26 @@ impl Around {
     }
 }
 
+fn turn_of(push: &Option<Push>) -> Result<OtherTurn, AllocError> {
+    let push = match push {
+        Some(push) => Some(OtherPush {
+            id: ID,
+            before: push.before,
+            segment: push.segment,
+            system: SYSTEM,
+            bytes: push.bytes.clone()?,
+        }),
+        None => None,
+    };
+    Ok(OtherTurn::new(push))
+}
+
 /// The status of a command, and the devices that it left beside the repository and the data folder.
 #[derive(Drop)]
 pub(crate) struct Ran {
     pub status: u8,
     pub server: MemWire,
+    pub aside: MemOthers,
     pub locks: MemLocks,
     pub config: MemSource,
     pub out: Output,
@@ -184,7 +228,9 @@ pub(crate) fn workers_of(
 /// there that none is taken.
 #[derive(Drop)]
 pub(crate) struct Ready {
+    spool: MemDisk,
     server: MemWire,
+    aside: MemOthers,
     others: Vec<String>,
     failing: Vec<u64>,
     clock: MemClock,
@@ -194,7 +240,9 @@ pub(crate) struct Ready {
 
 pub(crate) fn prepare(alloc: Global, around: &Around) -> Result<Ready, AllocError> {
     Ok(Ready {
+        spool: MemDisk::new(alloc, Vec::new(alloc), Vec::new(alloc))?,
         server: around.wire(alloc)?,
+        aside: around.aside(alloc)?,
         others: around.others(alloc)?,
         failing: around.numbers(alloc, "locks")?,
         clock: around.clock(alloc)?,
@@ -215,7 +263,9 @@ pub(crate) fn run_on(
     requires workers { AreWorkers (map state_of links.items) }
 {
     let Ready {
+        spool,
         server,
+        aside,
         others,
         failing,
         clock,
@@ -224,10 +274,10 @@ pub(crate) fn run_on(
     } = ready;
     let mut outside = Outside {
         repo,
-        spool: NotThere::new(),
+        spool,
         tree: pg,
         server,
-        aside: NotThere::new(),
+        aside,
         clock,
         locks: MemLocks::new(alloc, others, failing),
         config,
@@ -239,6 +289,7 @@ pub(crate) fn run_on(
     let ran = Ran {
         status,
         server: outside.server,
+        aside: outside.aside,
         locks: outside.locks,
         config: outside.config,
         out: outside.out,

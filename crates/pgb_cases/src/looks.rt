@@ -13,6 +13,7 @@ pub(crate) enum Look {
     ServerPlace,
     Sent,
     SentLast,
+    OthersTurns,
     Took,
     Refusals,
 }
@@ -25,6 +26,7 @@ const LOOKS: &[(&str, Look)] = &[
     ("server.place", Look::ServerPlace),
     ("server.sent", Look::Sent),
     ("server.sent.last", Look::SentLast),
+    ("others.turns", Look::OthersTurns),
     ("locks.took", Look::Took),
     ("locks.refusals", Look::Refusals),
 ];
@@ -54,6 +56,7 @@ pub(crate) fn look_at(
         Look::ConfigPlace => ran.config.place().as_bytes().to_vec(alloc),
         Look::ServerPlace => ran.server.place().as_bytes().to_vec(alloc),
         Look::Sent | Look::SentLast => ran.server.sent().to_vec(alloc),
+        Look::OthersTurns => decimal(alloc, ran.aside.turns()),
         Look::Refusals => decimal(alloc, ran.locks.refusals()),
         Look::Took => took(alloc, ran),
     }

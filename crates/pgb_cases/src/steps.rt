@@ -1,9 +1,11 @@
 // The lines of a case.
 use crate::book::{Book, Line};
+use crate::devices::Push;
 use crate::looks::{Look, look_at, look_of, shown};
 use crate::node::{all_placed, bytes_of};
 use crate::word::{Word, words_of};
 use crate::world::World;
+use pgb_wal::read_segment;
 use std::alloc::{AllocError, Global};
 use std::mem::replace;
 
@@ -21,6 +23,7 @@ enum Verb {
     Config,
     Server,
     Cuts,
+    Turn,
     Clock,
     Worker,
     Held,
@@ -46,6 +49,7 @@ const VERBS: &[(&str, Verb)] = &[
     ("config", Verb::Config),
     ("server", Verb::Server),
     ("cuts", Verb::Cuts),
+    ("turn", Verb::Turn),
     ("clock", Verb::Clock),
     ("worker", Verb::Worker),
     ("held", Verb::Held),
@@ -110,6 +114,7 @@ fn act(
         Verb::Note => world.note(book, words),
         Verb::Config | Verb::Server => world.give(book, verb, words, told),
         Verb::Cuts => world.cut(words),
+        Verb::Turn => world.turn(book, words, told),
         Verb::Clock => world.tell_time(words),
         Verb::Worker => {
             world.around.worker = true;
@@ -241,6 +246,26 @@ impl World {
         for word in words {
             self.around.cuts.push(word.number().min(4096) as u32)?;
         }
+        Ok(())
+    }
+
+    // Other processes push this in their next turn, or nothing.
+    fn turn(&mut self, book: &Book, words: &[Word], told: &str) -> Result<(), AllocError> {
+        let push = match words {
+            [before, segment, rest @ ..] => {
+                let bytes = bytes_of(self.alloc, book, rest, told)?;
+                match (read_segment(&before.bytes), read_segment(&segment.bytes)) {
+                    (Some(before), Some(segment)) => Some(Push {
+                        before,
+                        segment,
+                        bytes,
+                    }),
+                    _ => return self.tell_of("no segment", segment.bare()),
+                }
+            }
+            _ => None,
+        };
+        self.around.turns.push(push)?;
         Ok(())
     }
 

@@ -48,6 +48,7 @@ impl World {
                 config: None,
                 server: Vec::new(alloc),
                 cuts: Vec::new(alloc),
+                turns: Vec::new(alloc),
                 seconds: Vec::new(alloc),
                 worker: false,
                 held: Vec::new(alloc),

@@ -1,5 +1,6 @@
 -- From one call to the logs of all stanzas.
-use Rattle.std.proofs.Common.{◌≡◌, ◌≢◌, ◌⊎◌, inl, inr, ℕ, ◌≤◌, arith, is_some, map, string_bytes, ap, [], Some, None, Bool, true, false, List, ◌∷◌, ◌++◌, Option, refl, sym, subst}
+use Rattle.std.proofs.Common.{◌≡◌, ◌≢◌, ◌⊎◌, inl, inr, ℕ, ◌≤◌, arith, is_some, map, string_bytes, ap, [], Some, None, Bool, true, false, List, ◌∷◌, ◌++◌, Option, refl, sym, subst, ◌∙◌}
+use Rattle.std.specs.Prelude.{IsSomeAnd}
 use Rattle.pgb_outside.specs.Content.{Content}
 use Rattle.pgb_outside.specs.Links.{LinkState}
 use Rattle.pgb_outside.specs.States.{ClockState}
@@ -7,10 +8,11 @@ use Rattle.pgb_outside.specs.Tree.{Nodes}
 use Rattle.pgb_model.specs.Text.{Text}
 use Rattle.pgb_story.specs.Story.{Disks, Call, stopped, Does, AreStill, AreFair, KeepsAll, LeaveAll}
 use Rattle.pgb_story.proofs.Kept.{all_keep, all_leave, all_still, all_rest, opened_keep}
+use Rattle.pgb_turn.specs.Turns.{Account}
 use Rattle.pgb_command.specs.Asked.{Request, create, push, get, backup, backup_running, restore, report, examine, expire, Asked}
 use Rattle.pgb_command.specs.Tables.{Known, TurnsTold, uses_turns}
 use Rattle.pgb_headline.specs.declared.playing.Act.{Act}
-use Rattle.pgb_headline.specs.Lists.{IsLeft, CallGoes, AskNoTurns, WaitForNone, files_of}
+use Rattle.pgb_headline.specs.Lists.{IsLeft, CallGoes, AreOthersOf, HaveOthers, files_of, stanza_of}
 use Rattle.pgb_headline.specs.Acts.{IsCallOf, IsShown, GoesOn, Went}
 
 module _ (words : List Text) (files : Option Content) (k l : Known) (status : ℕ) (before : List Call) (old new : Disks) (h : KeepsAll before old) where
@@ -73,25 +75,31 @@ module _ {X W : Type 0} (text_of : List W → List Text) (given words : List W) 
       let y = stops_here text_of given words is files x.0 x.1 status before old new x.5 halt h some opened from spool_from t u is_from is_spool_from r s in
       (y.0, (x.0, x.1, x.2, x.3, x.4, y.1), y.2)
 
--- who waits for no turns needs none told
-pub turns_none : (a : Asked) (request : Request) (new : Known) → uses_turns request ≡ false → TurnsTold a request new
-turns_none a create new none = tt
-turns_none a (push path) new none = tt
-turns_none a (get name path) new none = tt
-turns_none a (backup how) new none = tt
-turns_none a (backup_running how) new none = cc
-turns_none a (restore set how) new none = tt
-turns_none a (report form) new none = tt
-turns_none a examine new none = tt
-turns_none a (expire rules) new none = tt
+-- ---- what others tell
+
+told_of : (o : Option Account) (x y : Text) → x ≡ y → IsSomeAnd o (λ k. k.stanza ≡ x) → IsSomeAnd o (λ k. k.stanza ≡ y)
+told_of None x y e told = told
+told_of (Some k) x y e told = told ∙ e
+
+-- who tells the turns of the stanza that is asked for tells enough, whatever is asked for
+pub turns_told : (a : Asked) (request : Request) (new : Known) (stanza : Text) → (uses_turns request ≡ true → stanza ≡ a.stanza) → IsSomeAnd new.others.account (λ k. k.stanza ≡ stanza) → TurnsTold a request new
+turns_told a create new stanza is told = tt
+turns_told a (push path) new stanza is told = tt
+turns_told a (get name path) new stanza is told = tt
+turns_told a (backup workers) new stanza is told = tt
+turns_told a (backup_running how) new stanza is told = told_of new.others.account stanza a.stanza (is refl) told
+turns_told a (restore set how) new stanza is told = tt
+turns_told a (report form) new stanza is told = tt
+turns_told a examine new stanza is told = tt
+turns_told a (expire rules) new stanza is told = tt
 
 -- of the words as they were given too
-pub ask_none : {W : Type 0} (text_of : List W → List Text) (given words : List W) → given ≡ words → (files : Option Content) → AskNoTurns (text_of words) files → AskNoTurns (text_of given) files
-ask_none text_of given words is files none = subst (λ (ws : List _). AskNoTurns (text_of ws) files) (sym is) none
+pub others_of : {W : Type 0} (text_of : List W → List Text) (given words : List W) → given ≡ words → (files : Option Content) (stanza : Text) → AreOthersOf (text_of words) files stanza → AreOthersOf (text_of given) files stanza
+others_of text_of given words is files stanza others = subst (λ (ws : List _). AreOthersOf (text_of ws) files stanza) (sym is) others
 
-pub wait_for : (xs : List Act) (x : Act) → WaitForNone (xs ++ x ∷ []) → WaitForNone xs × AskNoTurns (map string_bytes x.words.items) (files_of x.config)
-wait_for [] x h = (tt, h.0)
-wait_for (y ∷ xs) x h = let z = wait_for xs x h.1 in ((h.0, z.0), z.1)
+pub have_more : (xs : List Act) (x : Act) → HaveOthers (xs ++ x ∷ []) → HaveOthers xs × AreOthersOf (map string_bytes x.words.items) (files_of x.config) (stanza_of x.others)
+have_more [] x h = (tt, h.0)
+have_more (y ∷ xs) x h = let z = have_more xs x h.1 in ((h.0, z.0), z.1)
 
 pub map_same : {X : Type 0} (xs : List X) → map (λ y. y) xs ≡ xs
 map_same [] = refl

@@ -1,5 +1,5 @@
 -- What a list of acts over devices in memory makes of the logs.
-use Rattle.std.specs.Prelude.{◌≡◌, ◌≤◌, ℕ, Bool, false, List, [], ◌∷◌, Option, Some, map, string_bytes, is_some}
+use Rattle.std.specs.Prelude.{◌≡◌, ◌≤◌, ℕ, Bool, true, List, [], ◌∷◌, Option, Some, map, string_bytes, is_some}
 use Rattle.pgb_outside.specs.Content.{Content}
 use Rattle.pgb_outside.specs.Moments.{View, IsImage}
 use Rattle.pgb_outside.specs.Tree.{Nodes}
@@ -11,6 +11,7 @@ use Rattle.pgb_memory.specs.declared.tree.MemTree.{MemTree}
 use Rattle.pgb_memory.specs.Held.{view_of}
 use Rattle.pgb_memory.specs.Replay.{value_of}
 use Rattle.pgb_memory.specs.Nodes.{nodes_at}
+use Rattle.pgb_memory_others.specs.declared.others.MemOthers.{MemOthers}
 use Rattle.pgb_model.proofs.Reopened.{IsReopened}
 use Rattle.pgb_story.specs.Story.{Call, Disks}
 use Rattle.pgb_headline.specs.declared.playing.Act.{Act}
@@ -58,11 +59,15 @@ CallGoes words files nodes links clock status was_stopped before after =
 abbrev pub ActGoes : Act → ℕ → List Call → List Call → Type 0
 ActGoes x status before after = CallGoes (map string_bytes x.words.items) (files_of x.config) (nodes_of x.tree) (links_of x.workers) (clock_of x.clock) status (is_some x.halt) before after
 
--- the words ask for no command that waits for turns of others
-abbrev pub AskNoTurns : List Text → Option Content → Type 0
-AskNoTurns words files = (a : Asked) → MayAsk words files a → uses_turns a.request ≡ false
+-- the stanza for which other processes push
+abbrev pub stanza_of : MemOthers → Text
+stanza_of o = string_bytes o.stanza
 
--- nor do those of any of the acts
-abbrev pub WaitForNone : List Act → Type 0
-WaitForNone [] = Unit {0}
-WaitForNone (x ∷ xs) = AskNoTurns (map string_bytes x.words.items) (files_of x.config) × WaitForNone xs
+-- where the words ask for a command that waits for turns of others, these push for the stanza that it is asked for
+abbrev pub AreOthersOf : List Text → Option Content → Text → Type 0
+AreOthersOf words files stanza = (a : Asked) → MayAsk words files a → uses_turns a.request ≡ true → stanza ≡ a.stanza
+
+-- so do those of each of the acts
+abbrev pub HaveOthers : List Act → Type 0
+HaveOthers [] = Unit {0}
+HaveOthers (x ∷ xs) = AreOthersOf (map string_bytes x.words.items) (files_of x.config) (stanza_of x.others) × HaveOthers xs

@@ -9,7 +9,8 @@
 //! - `called`: what `run` does is a call of a story, or its arguments were refused and nothing was done. Disks that
 //!   keep the logs of all stanzas go on with them, whether the call ends or is stopped.
 //! - `play_one`: the same over devices in memory, with a crash at any moment of each disk, on which both are opened
-//!   anew. `play`: a list of these.
+//!   anew. `play`: a list of these. Where a call waits for turns of other processes, these have to push for the stanza
+//!   that its words ask for.
 #![tactic(auto)]
 
 mod calling;

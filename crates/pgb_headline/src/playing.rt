@@ -6,13 +6,14 @@ ghost use Rattle.pgb_model.proofs.Reopened.{IsReopened};
 ghost use Rattle.pgb_story.specs.Story.{Call, KeepsAll};
 ghost use Rattle.pgb_command.specs.Tables.{Known};
 ghost use Rattle.pgb_headline.specs.Acts.{Went};
-ghost use Rattle.pgb_headline.specs.Lists.{views, files_of, nodes_of, links_of, clock_of, IsLeft, ActGoes, AskNoTurns};
+ghost use Rattle.pgb_headline.specs.Lists.{views, files_of, nodes_of, links_of, clock_of, stanza_of, IsLeft, ActGoes, AreOthersOf};
 
 use crate::calling::called;
 use crate::workers::Workers;
 use pgb_command::Outside;
 use pgb_memory::{MemClock, MemDisk, MemLocks, MemSink, MemSource, MemTree, MemWire};
-use pgb_outside::{Disk, NotThere};
+use pgb_memory_others::MemOthers;
+use pgb_outside::Disk;
 use pgb_worker_links::MemTurns;
 use std::alloc::Global;
 
@@ -33,13 +34,14 @@ pub struct Halt {
     pub spool: Left,
 }
 
-/// A call of the program with these words, on this data folder, with this server, clock, locks that others hold,
-/// configuration and workers, which are heard by these picks; and the stop within it, where there is one.
+/// A call of the program with these words, on this data folder, with this server, other processes, clock, locks that
+/// others hold, configuration and workers, which are heard by these picks; and the stop within it, where there is one.
 #[derive(Drop)]
 pub struct Act {
     pub words: Vec<String>,
     pub tree: MemTree,
     pub server: MemWire,
+    pub others: MemOthers,
     pub clock: MemClock,
     pub held: Vec<String>,
     pub config: MemSource,
@@ -62,6 +64,8 @@ pub enum PlayFault {
     Moment,
     /// A stop doesn't leave this.
     Image,
+    /// Other processes came to push for another stanza.
+    Stanza,
     NoMemory,
 }
 
@@ -83,32 +87,38 @@ fn reopened(alloc: Global, disk: &MemDisk, from: u64, left: Left) -> Result<MemD
     }
 }
 
-// Calls the program on the disks, and hands them back with the status.
+// Calls the program on the disks, and hands them back with the status. No clause of the call says that others keep to
+// their stanza, so it is looked at.
 fn call_on(
     alloc: Global,
     disks: Disks,
     words: &[String],
     tree: MemTree,
     server: MemWire,
+    others: MemOthers,
     clock: MemClock,
     held: Vec<String>,
     config: MemSource,
     workers: Workers,
     picks: Vec<u64>,
-) -> (Disks, u8)
-    ensures went { AskNoTurns (map string_bytes words.now) (files_of config)
+) -> Result<(Disks, u8), PlayFault>
+    ensures went { IfOk result (λ r. AreOthersOf (map string_bytes words.now) (files_of config) (stanza_of others)
         → (before : List Call) → KeepsAll before (views disks)
         → (old : Known) × (new : Known) × (old.nodes ≡ nodes_of tree) × (old.links ≡ links_of workers)
-        × (old.clock ≡ clock_of clock) × Went (map string_bytes words.now) (files_of config) old new result.1 before
-        (views disks) (views result.0) }
+        × (old.clock ≡ clock_of clock) × Went (map string_bytes words.now) (files_of config) old new r.1 before
+        (views disks) (views r.0)) }
 {
+    let stanza = match String::from_str(alloc, others.stanza()) {
+        Ok(stanza) => stanza,
+        Err(_) => return Err(PlayFault::NoMemory),
+    };
     let Disks { repo, spool } = disks;
     let mut outside = Outside {
         repo,
         spool,
         tree,
         server,
-        aside: NotThere::new(),
+        aside: others,
         clock,
         locks: MemLocks::new(alloc, held, Vec::new(alloc)),
         config,
@@ -117,11 +127,14 @@ fn call_on(
         turns: MemTurns::new(picks),
     };
     let status = called(alloc, words, &mut outside);
+    if outside.aside.stanza() != stanza.as_str() {
+        return Err(PlayFault::Stanza);
+    }
     let disks = Disks {
         repo: outside.repo,
         spool: outside.spool,
     };
-    (disks, status)
+    Ok((disks, status))
 }
 
 // Opens both disks anew on what the stop leaves of each.
@@ -142,12 +155,12 @@ fn both_reopened(
     Ok(Disks { repo, spool })
 }
 
-/// Plays a call, with its stop where it has one: disks that keep the logs of all stanzas keep them with the call, unless it
-/// waits for turns of other processes, of which there are none here. It answers the status that the call ends with, or
-/// would have ended with.
+/// Plays a call, with its stop where it has one: disks that keep the logs of all stanzas keep them with the call. Where it
+/// waits for turns of other processes, these have to push for the stanza that its words ask for. It answers the status
+/// that the call ends with, or would have ended with.
 pub fn play_one(alloc: Global, disks: Disks, act: Act) -> Result<(Disks, u8), PlayFault>
-    ensures keeps { IfOk result (λ r. AskNoTurns (map string_bytes act.words.items) (files_of act.config)
-        → (before : List Call) → KeepsAll before (views disks)
+    ensures keeps { IfOk result (λ r. AreOthersOf (map string_bytes act.words.items) (files_of act.config)
+        (stanza_of act.others) → (before : List Call) → KeepsAll before (views disks)
         → (after : List Call) × ActGoes act r.1 before after × KeepsAll after (views r.0)) }
 {
     let repo_from = disks.repo.moment();
@@ -156,6 +169,7 @@ pub fn play_one(alloc: Global, disks: Disks, act: Act) -> Result<(Disks, u8), Pl
         words,
         tree,
         server,
+        others,
         clock,
         held,
         config,
@@ -164,8 +178,8 @@ pub fn play_one(alloc: Global, disks: Disks, act: Act) -> Result<(Disks, u8), Pl
         halt,
     } = act;
     let (ended, status) = call_on(
-        alloc, disks, &words, tree, server, clock, held, config, workers, picks,
-    );
+        alloc, disks, &words, tree, server, others, clock, held, config, workers, picks,
+    )?;
     match halt {
         None => Ok((ended, status)),
         Some(halt) => {

@@ -1,12 +1,17 @@
 // Calls of the program on one data folder, and what a list of them leaves.
 use pgb_headline::{Act, Disks, Halt, Left, PlayFault, Workers, play};
 use pgb_memory::{MemClock, MemDisk, MemNode, MemSource, MemTree, MemWire};
+use pgb_memory_others::{MemOthers, OtherTurn};
 use std::alloc::{AllocError, Global};
 
 // A control file as one of system 6917529027641081857 begins.
 const CONTROL: &[u8] = b"\x01\x00\x00\x00\x00\x00\x00\x60\x14\x05\x00\x00\xff\xf5\x0e\x0c";
 
-fn file(alloc: Global, path: &str, bytes: &[u8]) -> Result<(String, MemNode), AllocError> {
+pub(crate) fn file(
+    alloc: Global,
+    path: &str,
+    bytes: &[u8],
+) -> Result<(String, MemNode), AllocError> {
     let bytes = bytes.to_vec(alloc)?;
     Ok((
         String::from_str(alloc, path)?,
@@ -24,7 +29,7 @@ fn tree(alloc: Global) -> Result<MemTree, PlayFault> {
     MemTree::new(alloc, nodes, Vec::new(alloc)).or(Err(PlayFault::NoMemory))
 }
 
-fn nodes(alloc: Global) -> Result<Vec<(String, MemNode)>, AllocError> {
+pub(crate) fn nodes(alloc: Global) -> Result<Vec<(String, MemNode)>, AllocError> {
     let mut nodes = Vec::new(alloc);
     nodes.push(folder(alloc, "global")?)?;
     nodes.push(file(alloc, "global/pg_control", CONTROL)?)?;
@@ -72,6 +77,11 @@ fn worker(alloc: Global) -> Result<Workers, AllocError> {
     Workers::one(alloc, files, Vec::new(alloc), Vec::new(alloc))
 }
 
+/// Other processes that take these turns for the stanza `demo`.
+pub(crate) fn others(alloc: Global, turns: Vec<OtherTurn>) -> Result<MemOthers, AllocError> {
+    Ok(MemOthers::new(alloc, String::from_str(alloc, "demo")?, turns))
+}
+
 /// A call with these words, at this second, and its stop.
 pub(crate) fn act(
     alloc: Global,
@@ -84,6 +94,7 @@ pub(crate) fn act(
         words: words_of(alloc, words).or(Err(PlayFault::NoMemory))?,
         tree: tree(alloc)?,
         server: MemWire::new(alloc, Vec::new(alloc), Vec::new(alloc), Vec::new(alloc)),
+        others: others(alloc, Vec::new(alloc)).or(Err(PlayFault::NoMemory))?,
         clock: MemClock::new(seconds.or(Err(PlayFault::NoMemory))?, Vec::new(alloc)),
         held: Vec::new(alloc),
         config: MemSource::new(alloc, None, Vec::new(alloc)),

@@ -1,3 +1,1 @@
-pub mod Receipts
 pub mod Waiting
-pub mod OnePushed

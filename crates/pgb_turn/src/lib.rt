@@ -4,10 +4,9 @@
 //!
 //! - `Aside`, which is what other processes do, says what a turn does: its pushes, each whole after every answer and
 //!   every crash; a receipt only of a file that it stored; and nothing beside them.
-//! - `NotThere` meets it, and so does a small object that pushes one segment and marks it.
+//! - `NotThere` meets it.
 #![tactic(auto)]
 
 mod aside;
-mod one_push;
 
 pub use aside::{Aside, TurnStop};

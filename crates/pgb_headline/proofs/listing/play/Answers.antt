@@ -1,16 +1,16 @@
 use Rattle.std.proofs.lemmas.Iterator.Adapters.{YieldsList-from_vec}
 use Rattle.std.proofs.lemmas.Iterator.Consumers.{YieldsList-end}
-use Rattle.pgb_headline.proofs.Going.{map_same, wait_for}
+use Rattle.pgb_headline.proofs.Going.{map_same, have_more}
 use Rattle.std.proofs.Common.{rules, ◌≡◌, ◌∙◌, ◌++◌, ◌∷◌, [], List, ℕ, sym, subst}
 use Rattle.pgb_story.proofs.Played.{played_more}
 use Rattle.pgb_story.specs.Played.{ArePlayed}
 use Rattle.pgb_headline.specs.declared.playing.Act.{Act}
-use Rattle.pgb_headline.specs.Lists.{ActGoes, WaitForNone}
+use Rattle.pgb_headline.specs.Lists.{ActGoes, HaveOthers}
 use Rattle.pgb_headline.proofs.listing.play.Goals as goal
 
 pub loop-act-preserved : goal.loop-act-preserved
-loop-act-preserved c = λ none before h.
-    let w = wait_for c.loop-act.yielded c.in-Some.act none in
+loop-act-preserved c = λ others before h.
+    let w = have_more c.loop-act.yielded c.in-Some.act others in
     let x = c.loop-act.invariant w.0 before h in
     let y = c.in_ok-next.ensures.keeps w.1 x.0 x.2 in (
       y.0,
@@ -20,10 +20,10 @@ loop-act-preserved c = λ none before h.
 
 pub returns : goal.returns
 returns c = record {
-  keeps = λ none before h.
+  keeps = λ others before h.
       let gives = c.into_iter-act-iterator.ensures.into_iter_gives in
       let t = YieldsList-end (YieldsList-from_vec c.args.acts.items gives.0 (search rules)) c.loop-act.yielded c.loop-act.act-iterator c.loop-act.yielded_by c.next.result c.next.new.self c.in-None.is c.next.ensures.steps in
       let all : c.loop-act.yielded ≡ c.args.acts.items = sym (map_same c.loop-act.yielded) ∙ t.0 in
-      let x = c.loop-act.invariant (subst WaitForNone (sym all) none) before h in
+      let x = c.loop-act.invariant (subst HaveOthers (sym all) others) before h in
       (x.0, subst (λ (xs : List Act). ArePlayed ActGoes xs c.loop-act.statuses.items before x.0) all x.1, x.2);
 }

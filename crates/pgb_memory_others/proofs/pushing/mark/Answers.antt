@@ -2,9 +2,9 @@ use Rattle.std.proofs.Common.{[], ◌∷◌}
 use Rattle.pgb_outside.proofs.Crashes.{crash_none}
 use Rattle.pgb_model.specs.declared.wal.ArchiveName.TheVariants.{Segment as Whole}
 use Rattle.pgb_model.specs.Names.{receipt_name}
-use Rattle.pgb_turn.specs.OnePush.{receipt_text}
-use Rattle.pgb_turn.proofs.Receipts.{mark_folder, mark_temporary, mark_lasting, mark_only}
-use Rattle.pgb_turn.proofs.one_push.mark.Goals as goal
+use Rattle.pgb_memory_others.specs.Pushing.{receipt_text}
+use Rattle.pgb_memory_others.proofs.Receipts.{mark_folder, mark_temporary, mark_lasting, mark_only}
+use Rattle.pgb_memory_others.proofs.pushing.mark.Goals as goal
 
 pub returns-in_default-clause-crash : goal.returns-in_default-clause-crash
 returns-in_default-clause-crash g c = λ tight. crash_none ((receipt_name c.args.stanza.now (Whole c.args.segment.now), receipt_text c.args.bytes.now) ∷ []) _

@@ -1,10 +1,10 @@
-// A small object that meets `Aside`: other processes that push one segment, where a certain one is stored under its id.
-ghost use Rattle.std.specs.Prelude.{◌≡◌, ◌≤◌, ◌+◌, ◌-◌, ◌^◌, ◌∷◌, [], Bool, true, false, None, List, IfOk, IfErr, IfSome, IsSome, OnOk, is_ok, min, if◌then◌else◌, string_bytes};
+// The push of a segment in a turn, where the one before it is stored, and its mark in the spool.
+ghost use Rattle.std.specs.Prelude.{◌≡◌, ◌∷◌, [], Bool, true, false, None, List, IfOk, IfErr, IfSome, IsSome, OnOk, is_ok};
 ghost use Rattle.sha1.specs.Sha1.{sha1};
 ghost use Rattle.pgb_text.specs.Sum.{IsSum};
 ghost use Rattle.pgb_outside.specs.States.{Frame, Looks};
 ghost use Rattle.pgb_outside.specs.Cause.{Rises};
-ghost use Rattle.pgb_outside.specs.Moments.{Rests, is_loose};
+ghost use Rattle.pgb_outside.specs.Moments.{is_loose};
 ghost use Rattle.pgb_outside.specs.Crash.{Crash, NowGoes, FirstOf, AllOf};
 ghost use Rattle.pgb_model.specs.declared.wal.ArchiveName.TheVariants.{Segment as Whole};
 ghost use Rattle.pgb_model.specs.Text.{Text};
@@ -16,15 +16,15 @@ ghost use Rattle.pgb_model.specs.Log.{Done, KeepsRepository};
 ghost use Rattle.pgb_model.specs.Steady.{IsBegun};
 ghost use Rattle.pgb_stored.specs.Stored.{Stores, ChangesArchive};
 ghost use Rattle.pgb_turn.specs.Turns.{GoesByTurn, LeavesMarks};
-ghost use Rattle.pgb_turn.specs.OnePush.{went_of, spool_stop_of, was_tried, MayEnd, IfStored, IfStop, IsRepoStop, IsSpoolStop, StopsBy, turn_of, receipt_text, marks_of, account_of, HasFile, AreMarkNamesOf, GivesReceipt};
+ghost use Rattle.pgb_memory_others.specs.Pushing.{went_of, spool_stop_of, was_tried, MayEnd, IfStored, IfStop, IsRepoStop, IsSpoolStop, StopsBy, turn_of, receipt_text, marks_of, HasFile, AreMarkNamesOf, GivesReceipt};
 
-use crate::aside::{Aside, TurnStop};
 use pgb_archive::{Pushed, push};
 use pgb_disk::{StoreFault, begin, replace};
 use pgb_model::{ArchiveId, ArchiveName, Segment};
-use pgb_outside::{Disk, Stop};
+use pgb_outside::Disk;
 use pgb_stored::{ArchiveFault, Look, file_names, look_for};
 use pgb_text::{NoMemory, Sum};
+use pgb_turn::TurnStop;
 use pgb_wal::segment_text;
 use std::alloc::Global;
 
@@ -36,14 +36,6 @@ pub(crate) enum Went {
     /// It may be stored.
     Tried(TurnStop),
     Refused(TurnStop),
-}
-
-/// Whether its one turn was taken, and then whether the segment was pushed, or may have been, and whether the turn ended well.
-#[derive(Clone, Copy)]
-pub(crate) enum State {
-    Waits,
-    Took { tried: bool, ended: bool },
-    Silent,
 }
 
 fn settle<D: Disk>(alloc: Global, d: &mut D, stanza: &str) -> Result<(), TurnStop>
@@ -122,7 +114,7 @@ fn went_by(pushed: Result<Pushed, ArchiveFault>) -> Went
 }
 
 // Pushes the segment, where the one before it is stored.
-fn push_behind<D: Disk>(
+pub(crate) fn push_behind<D: Disk>(
     alloc: Global,
     d: &mut D,
     stanza: &str,
@@ -231,7 +223,7 @@ fn mark<S: Disk>(
 }
 
 // Ends a turn of which this came: where the segment is stored, it is marked.
-fn end_turn<S: Disk>(
+pub(crate) fn end_turn<S: Disk>(
     alloc: Global,
     spool: &mut S,
     stanza: &str,
@@ -260,88 +252,12 @@ fn end_turn<S: Disk>(
 }
 
 impl Went {
-    fn was_tried(self) -> bool
+    pub(crate) fn was_tried(self) -> bool
         ensures { result ≡ was_tried self }
     {
         match self {
             Went::Nothing | Went::Refused(_) => false,
             Went::Stored | Went::Tried(_) => true,
         }
-    }
-}
-
-fn counted(turns: u64, ended: bool) -> u64
-    ensures { result ≡ (if ended then min (turns + 1) (2 ^ 64 - 1) else turns) }
-{
-    if ended {
-        turns.saturating_add(1)
-    } else {
-        turns
-    }
-}
-
-/// Other processes that push one segment in their first turn, where the one before it is stored. Later turns do nothing.
-#[derive(Drop)]
-pub(crate) struct OnePush {
-    alloc: Global,
-    stanza: String,
-    id: ArchiveId,
-    before: Segment,
-    segment: Segment,
-    system: u64,
-    bytes: Vec<u8>,
-    state: State,
-    turns: u64,
-    faults: u64,
-}
-
-impl<D: Disk, S: Disk> Aside<D, S> for OnePush {
-    ghost state = { λ it. record {
-      account = account_of (string_bytes it.stanza) it.id it.segment it.bytes.items it.state;
-      turns = it.turns;
-      started = None;
-      faults = it.faults;
-    } };
-
-    fn turn(&mut self, repo: &mut D, spool: &mut S) -> Result<(), TurnStop> {
-        match self.state {
-            State::Waits => {
-                let went = push_behind(
-                    self.alloc,
-                    repo,
-                    self.stanza.as_str(),
-                    self.id,
-                    self.before,
-                    self.segment,
-                    self.system,
-                    &self.bytes,
-                );
-                let done = end_turn(
-                    self.alloc,
-                    spool,
-                    self.stanza.as_str(),
-                    self.segment,
-                    &self.bytes,
-                    went,
-                );
-                let ended = done.is_ok();
-                self.state = State::Took {
-                    tried: went.was_tried(),
-                    ended,
-                };
-                self.turns = counted(self.turns, ended);
-                done
-            }
-            State::Took { .. } | State::Silent => {
-                self.state = State::Silent;
-                self.turns = counted(self.turns, true);
-                Ok(())
-            }
-        }
-    }
-
-    fn start(&mut self, _words: &[String]) -> Result<(), Stop> {
-        self.faults = self.faults.saturating_add(1);
-        Err(Stop::Failed)
     }
 }

@@ -1,5 +1,5 @@
--- What the small object does and tells that meets `Aside`.
-use Rattle.std.specs.Prelude.{◌≡◌, ◌⊎◌, ◌≤◌, ◌++◌, ℕ, Bool, true, false, List, [], ◌∷◌, Option, Some, None, Result, Ok, Err, IsSome, codes, string_bytes}
+-- What comes of the push of a segment in a turn, and how it is marked.
+use Rattle.std.specs.Prelude.{◌≡◌, ◌⊎◌, ◌≤◌, ◌++◌, ℕ, Bool, true, false, List, [], ◌∷◌, Some, Result, Ok, Err, IsSome, codes, string_bytes}
 use Rattle.sha1.specs.Sha1.{sha1}
 use Rattle.pgb_text.specs.Sum.{sum_text}
 use Rattle.pgb_outside.specs.Content.{Content}
@@ -21,12 +21,10 @@ use Rattle.pgb_turn.specs.declared.aside.TurnStop.TheVariants.{Repo, Spool, NoMe
 use Rattle.pgb_stored.specs.declared.fault.ArchiveFault.{ArchiveFault}
 use Rattle.pgb_stored.specs.declared.fault.ArchiveFault.TheVariants.{Disk, NoMemory as ArchiveNoMemory}
 use Rattle.pgb_archive.specs.declared.pushing.Pushed.{Pushed}
-use Rattle.pgb_turn.specs.declared.one_push.Went.{Went}
-use Rattle.pgb_turn.specs.declared.one_push.Went.TheVariants.{Nothing, Stored, Tried, Refused}
-use Rattle.pgb_turn.specs.declared.one_push.State.{State}
-use Rattle.pgb_turn.specs.declared.one_push.State.TheVariants.{Waits, Took, Silent}
-use Rattle.pgb_turn.specs.declared.one_push.MarkNames.{MarkNames}
-use Rattle.pgb_turn.specs.Turns.{Account, HadReceipt}
+use Rattle.pgb_memory_others.specs.declared.pushing.Went.{Went}
+use Rattle.pgb_memory_others.specs.declared.pushing.Went.TheVariants.{Nothing, Stored, Tried, Refused}
+use Rattle.pgb_memory_others.specs.declared.pushing.MarkNames.{MarkNames}
+use Rattle.pgb_turn.specs.Turns.{HadReceipt}
 
 -- what comes of a push that answered so: a file that is refused for its content is passed over
 abbrev pub went_of : Result Pushed ArchiveFault → Went
@@ -100,13 +98,6 @@ abbrev pub marks_of : Text → Segment → Text → Bool → Bool → List Write
 marks_of stanza segment bytes true true = (receipt_name stanza (Whole segment), receipt_text bytes) ∷ []
 marks_of stanza segment bytes true false = []
 marks_of stanza segment bytes false ended = []
-
--- it tells its first turn, and then ends telling
-abbrev pub account_of : Text → ArchiveId → Segment → Text → State → Option Account
-account_of stanza id segment bytes Waits = Some (record { stanza = stanza; turns = [] })
-account_of stanza id segment bytes (Took tried ended) =
-    Some (record { stanza = stanza; turns = record { turn = turn_of id segment bytes tried ended; marks = marks_of stanza segment bytes tried ended } ∷ [] })
-account_of stanza id segment bytes Silent = None
 
 -- the disk has the segment with this sum, and all that a crash now leaves
 abbrev pub HasFile : Text → ArchiveId → Segment → Text → View → Type 0

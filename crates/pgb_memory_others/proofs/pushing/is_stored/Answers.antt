@@ -1,6 +1,6 @@
 use Rattle.pgb_model.specs.declared.wal.ArchiveName.TheVariants.{Segment as Whole}
 use Rattle.pgb_archive.proofs.Placed.{shown_one, shown_two}
-use Rattle.pgb_turn.proofs.one_push.is_stored.Goals as goal
+use Rattle.pgb_memory_others.proofs.pushing.is_stored.Goals as goal
 
 pub returns-in-Ok-One-clause-stored : goal.returns-in-Ok-One-clause-stored
 returns-in-Ok-One-clause-stored g c = λ yes.

@@ -5,8 +5,8 @@ use Rattle.pgb_text.proofs.Digests.{IsSum-sha1}
 use Rattle.pgb_model.specs.declared.wal.ArchiveName.TheVariants.{Segment as Whole}
 use Rattle.pgb_model.specs.Stands.{IsArchivePlace}
 use Rattle.pgb_model.specs.Text.{Text}
-use Rattle.pgb_turn.proofs.OnePushed.{turn_by, has_by, turn_none, went_turn, went_stored, only_behind}
-use Rattle.pgb_turn.proofs.one_push.push_behind.Goals as goal
+use Rattle.pgb_memory_others.proofs.Pushed.{turn_by, has_by, turn_none, went_turn, went_stored, only_behind}
+use Rattle.pgb_memory_others.proofs.pushing.push_behind.Goals as goal
 
 pub returns-in-Ok-true-clause-turn : goal.returns-in-Ok-true-clause-turn
 returns-in-Ok-true-clause-turn g c = went_turn c.args.stanza.now c.args.id c.args.segment c.args.bytes.now _ _ _ _ c.went_by.ensures

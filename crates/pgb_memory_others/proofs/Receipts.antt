@@ -32,12 +32,13 @@ use Rattle.pgb_wal.proofs.Digits.{same_front}
 use Rattle.pgb_wal.proofs.Compared.{text_cmp-hex_upper}
 use Rattle.pgb_turn.specs.declared.aside.TurnStop.{TurnStop}
 use Rattle.pgb_turn.specs.declared.aside.TurnStop.TheVariants.{Repo, Spool, NoMemory}
-use Rattle.pgb_turn.specs.declared.one_push.Went.{Went}
-use Rattle.pgb_turn.specs.declared.one_push.Went.TheVariants.{Nothing, Stored, Tried, Refused}
-use Rattle.pgb_turn.specs.declared.one_push.MarkNames.{MarkNames}
+use Rattle.pgb_memory_others.specs.declared.pushing.Went.{Went}
+use Rattle.pgb_memory_others.specs.declared.pushing.Went.TheVariants.{Nothing, Stored, Tried, Refused}
+use Rattle.pgb_memory_others.specs.declared.pushing.MarkNames.{MarkNames}
+use Rattle.pgb_memory_others.specs.Others.{idle_turn}
 use Rattle.pgb_stored.specs.Stored.{ChangesArchive}
-use Rattle.pgb_turn.specs.Turns.{Turned, Account, OnTurn, HadReceipt, IsMark, IsStoredBy, GivesReceipts, LeavesMarks, refusal_name}
-use Rattle.pgb_turn.specs.OnePush.{AreMarkNamesOf, GivesReceipt, HasFile, IfStored, IfStop, IsRepoStop, StopsBy, receipt_text, turn_of, was_tried}
+use Rattle.pgb_turn.specs.Turns.{HadReceipt, IsMark, IsStoredBy, GivesReceipts, LeavesMarks, refusal_name}
+use Rattle.pgb_memory_others.specs.Pushing.{AreMarkNamesOf, GivesReceipt, HasFile, IfStored, IfStop, IsRepoStop, StopsBy, receipt_text, turn_of, was_tried}
 
 -- ---- the names of a mark
 
@@ -237,32 +238,17 @@ stop_of (Refused Repo) repo spool (Err stop) told stops = ((λ e. told), (λ e. 
 stop_of (Refused Spool) repo spool (Err stop) told stops = absurd told
 stop_of (Refused NoMemory) repo spool (Err stop) told stops = ((λ e. cc), (λ e. cc))
 
--- ---- the one turn that is told
-
-pub took : (stanza : Text) (t : Turned) (old : Option Account) → old ≡ Some (record { stanza = stanza; turns = [] }) → (P : Text → Turned → Type 0) → P stanza t → OnTurn old (Some (record { stanza = stanza; turns = t ∷ [] })) P
-took stanza t old was P h told t' next =
-    let a : ◌≡◌ {A = Option Account} (Some (record { stanza = stanza; turns = [] })) (Some (record { stanza = told; turns = next.before })) = sym was ∙ next.was in
-    let account : ◌≡◌ {A = Account} (record { stanza = stanza; turns = [] }) (record { stanza = told; turns = next.before }) = cc in
-    let same : stanza ≡ told = ap (λ (x : Account). x.stanza) account in
-    let none : ◌≡◌ {A = List Turned} [] next.before = ap (λ (x : Account). x.turns) account in
-    let b : ◌≡◌ {A = Option Account} (Some (record { stanza = stanza; turns = t ∷ [] })) (Some (record { stanza = told; turns = next.before ++ t' ∷ [] })) = next.is in
-    let more : ◌≡◌ {A = Account} (record { stanza = stanza; turns = t ∷ [] }) (record { stanza = told; turns = next.before ++ t' ∷ [] }) = cc in
-    let turns : t ∷ [] ≡ t' ∷ [] = ap (λ (x : Account). x.turns) more ∙ ap (λ (l : List Turned). l ++ t' ∷ []) (sym none) in
-    let turn : t ≡ t' = cc in
-    subst (λ (x : Turned). P told x) turn (subst (λ (x : Text). P x t) same h)
-
-pub ended_so : (id : ArchiveId) (segment : Segment) (bytes : Text) (tried ended : Bool) → (turn_of id segment bytes tried ended).ended ≡ ended
-ended_so id segment bytes true ended = refl
-ended_so id segment bytes false ended = refl
-
--- the receipts of the turn, by texts that are the same
-pub receipts_at : (stanza one other : Text) (segment : Segment) (bytes first second : Text) (id : ArchiveId) (went : Went) (tried ended : Bool) (repo new_repo spool new_spool : View) → one ≡ stanza → other ≡ stanza → first ≡ bytes → second ≡ bytes → tried ≡ was_tried went → IsSegment segment
-    → IfStored went ((q : Repository) (log : List Done) → IsSome repo.now → KeepsRepository one q log repo → HasFile one id segment (sha1 first) new_repo)
-    → GivesReceipt other segment second went spool new_spool
+-- the receipts of the turn, by bytes that are the same
+pub receipts_at : (stanza : Text) (segment : Segment) (bytes first second : Text) (id : ArchiveId) (went : Went) (tried ended : Bool) (repo new_repo spool new_spool : View) → first ≡ bytes → second ≡ bytes → tried ≡ was_tried went → IsSegment segment
+    → IfStored went ((q : Repository) (log : List Done) → IsSome repo.now → KeepsRepository stanza q log repo → HasFile stanza id segment (sha1 first) new_repo)
+    → GivesReceipt stanza segment second went spool new_spool
     → GivesReceipts stanza (turn_of id segment bytes tried ended) repo new_repo spool new_spool
-receipts_at stanza one other segment bytes first second id went tried ended repo new_repo spool new_spool one_is other_is first_is second_is tried_is is has gives =
-    let Has : Text → Text → Type 0 = λ x y. IfStored went ((q : Repository) (log : List Done) → IsSome repo.now → KeepsRepository x q log repo → HasFile x id segment (sha1 y) new_repo) in
-    let Gives : Text → Text → Type 0 = λ x y. GivesReceipt x segment y went spool new_spool in
-    let has2 : Has stanza bytes = subst (λ (y : Text). Has stanza y) first_is (subst (λ (x : Text). Has x first) one_is has) in
-    let gives2 : Gives stanza bytes = subst (λ (y : Text). Gives stanza y) second_is (subst (λ (x : Text). Gives x second) other_is gives) in
+receipts_at stanza segment bytes first second id went tried ended repo new_repo spool new_spool first_is second_is tried_is is has gives =
+    let Has : Text → Type 0 = λ y. IfStored went ((q : Repository) (log : List Done) → IsSome repo.now → KeepsRepository stanza q log repo → HasFile stanza id segment (sha1 y) new_repo) in
+    let has2 : Has bytes = subst Has first_is has in
+    let gives2 : GivesReceipt stanza segment bytes went spool new_spool = subst (λ (y : Text). GivesReceipt stanza segment y went spool new_spool) second_is gives in
     subst (λ (b : Bool). GivesReceipts stanza (turn_of id segment bytes b ended) repo new_repo spool new_spool) (sym tried_is) (receipts_given stanza segment bytes id went ended repo new_repo spool new_spool is has2 gives2)
+
+-- a turn in which nothing is pushed leaves no marks
+pub marks_idle : (stanza : Text) (now : Option Content) → LeavesMarks stanza idle_turn.marks now now
+marks_idle stanza now = marks_none stanza (record { timeline = 0; log = 0; seg = 0 }) [] now now refl

@@ -1,11 +1,11 @@
 use Rattle.std.proofs.Common.{rules, sym, subst, true}
 use Rattle.std.specs.Prelude.{OnOk}
 use Rattle.pgb_model.specs.InfoFiles.{IsSegment}
-use Rattle.pgb_turn.specs.declared.one_push.Went.{Went}
-use Rattle.pgb_turn.specs.OnePush.{GivesReceipt, marks_of, was_tried}
+use Rattle.pgb_memory_others.specs.declared.pushing.Went.{Went}
+use Rattle.pgb_memory_others.specs.Pushing.{GivesReceipt, marks_of, was_tried}
 use Rattle.pgb_turn.specs.Turns.{LeavesMarks}
-use Rattle.pgb_turn.proofs.Receipts.{receipts_put, marks_by}
-use Rattle.pgb_turn.proofs.one_push.end_turn.Goals as goal
+use Rattle.pgb_memory_others.proofs.Receipts.{receipts_put, marks_by}
+use Rattle.pgb_memory_others.proofs.pushing.end_turn.Goals as goal
 
 pub returns-in-Stored-clause-receipts : goal.returns-in-Stored-clause-receipts
 returns-in-Stored-clause-receipts g c =

@@ -36,10 +36,11 @@ use Rattle.pgb_archive.specs.declared.pushing.Pushed.TheVariants.{New, Same}
 use Rattle.pgb_stored.specs.Causes.{OnFinding}
 use Rattle.pgb_stored.specs.Stored.{archived_file, archive_path, Stores, StoresOnly, ChangesArchive}
 use Rattle.pgb_turn.specs.Turns.{GoesByTurn, IsUnder}
-use Rattle.pgb_turn.specs.declared.one_push.Went.{Went}
-use Rattle.pgb_turn.specs.OnePush.{went_of, was_tried, MayEnd, IfStored, turn_of, HasFile}
+use Rattle.pgb_memory_others.specs.declared.pushing.Went.{Went}
+use Rattle.pgb_memory_others.specs.Pushing.{went_of, was_tried, MayEnd, IfStored, turn_of, HasFile}
+use Rattle.pgb_memory_others.specs.Others.{idle_turn}
 use Rattle.pgb_archive.specs.Pushes.{LeavesPart, LeavesAll, LeavesFile}
-use Rattle.pgb_archive.specs.Still.{IsStill}
+use Rattle.pgb_archive.specs.Still.{IsStill, rests_none}
 use Rattle.pgb_archive.proofs.Placed.{still_only}
 use Rattle.pgb_archive.proofs.PushedEach.{part_now, part_moves, all_now, all_steady}
 
@@ -86,6 +87,10 @@ module _ (stanza : Text) (id : ArchiveId) (segment : Segment) (bytes : Text) (v 
     between = idle_passes id ended stanza v b rests same;
     under = λ r some sound now. under_none ended r;
   }
+
+-- a turn in which nothing is pushed
+pub turn_idle : (stanza : Text) (v : View) → GoesByTurn stanza idle_turn.turn v v
+turn_idle stanza v = turn_none stanza (record { version = 0; number = 0 }) (record { timeline = 0; log = 0; seg = 0 }) [] v v (rests_none v) refl true
 
 -- ---- a turn with the file
 
