@@ -28,10 +28,10 @@ use Rattle.pgb_stage.specs.Reached.{back_if}
 use Rattle.pgb_stage.specs.Runs.{Reached, to_end, turned_back, stopped, OnAll, DoesWhole, Runs}
 use Rattle.pgb_stage.specs.Seen.{Seen, Failed, AreLater}
 use Rattle.pgb_stage.proofs.Counts.{rises_from}
-use Rattle.pgb_logged.specs.Backups.{AddsBackup, IsOnlineBackup}
+use Rattle.pgb_logged.specs.Backups.{AddsBackup}
 use Rattle.pgb_take_later.specs.Kinds.{IsBackupBy}
 use Rattle.pgb_take_later.specs.Taken.{IsTaken}
-use Rattle.pgb_take_online.specs.Doing.{TakesTurns}
+use Rattle.pgb_take_online.specs.Doing.{TakesTurns, IsOnlineBy}
 use Rattle.pgb_take_online.specs.Taken.{TakesOnline, IsTakenOnline}
 use Rattle.pgb_take_online.proofs.Spools.{one_turns}
 use Rattle.pgb_retain.specs.declared.rules.FullRule.{FullRule}
@@ -122,29 +122,35 @@ made_sound_by Incr links stanza b old new adds command is done = told_sound stan
 
 -- ---- of a running server
 
-module _ (how : RunningHow) (old new : Known) where
-  running_makes : MakesBackup (IsRunningOf how old new)
+online_made : (kind : Kind) (links : List LinkState) (turns : List Turn) (label : Option Text) (stanza : Text) (old : Option Content) (command : Command) → IsOnlineBy kind links turns label stanza old command → (b : Backup) × (command ≡ MakeBackup turns b None)
+online_made Full links turns label stanza old command is = (is.0, is.1)
+online_made Diff links turns label stanza old command is = (is.0, is.1)
+online_made Incr links turns label stanza old command is = (is.0, is.1)
+
+module _ (a : Asked) (how : RunningHow) (old new : Known) where
+  running_makes : MakesBackup (IsRunningOf a how old new)
   running_makes command is = by new.others.account is
     where
-      by : (account : Option Account) → IsSomeAnd account (λ k. (turned : List Turned) × TakesTurns turned old.others.account k × (label : Option Text) × IfSome label (TellsLabel old new) × IsOnlineBackup (take how.workers old.links) (turns_of turned) label command)
+      by : (account : Option Account) → IsSomeAnd account (λ k. (turned : List Turned) × TakesTurns turned old.others.account k × (label : Option Text) × IfSome label (TellsLabel old new) × IsOnlineBy how.taken.kind (take how.taken.workers old.links) (turns_of turned) label a.stanza old.repo command)
           → (turns : List Turn) × (b : Backup) × (command ≡ MakeBackup turns b None)
       by None h = absurd h
-      by (Some k) (turned, takes, label, told, (b, same, read)) = (turns_of turned, b, same)
+      by (Some k) (turned, takes, label, told, is) = (turns_of turned, online_made how.taken.kind (take how.taken.workers old.links) (turns_of turned) label a.stanza old.repo command is)
 
   -- the turns that it waited are those of its promise
-  running_sound : (stanza : Text) (told : Control) (lines : Text) (repo : Option Content) → TakesOnline stanza told (heard_by old new told) (take how.workers old.links) old.others.account new.others.account old.repo repo lines
-      → IsSomeAnd new.others.account (λ k. k.stanza ≡ stanza) → (command : Command) → IsRunningOf how old new command → NowDoes stanza command true old.repo repo → StaysSound stanza command old.repo
+  running_sound : (stanza : Text) (told : Control) (lines : Text) (repo : Option Content) → TakesOnline stanza told how.taken.kind (heard_by old new told) (take how.taken.workers old.links) old.others.account new.others.account old.repo repo lines
+      → IsSomeAnd new.others.account (λ k. k.stanza ≡ stanza) → (command : Command) → IsRunningOf a how old new command → NowDoes stanza command true old.repo repo → StaysSound stanza command old.repo
   running_sound stanza told lines repo taken there command is done = by new.others.account taken there is
     where
-      by : (account : Option Account) → TakesOnline stanza told (heard_by old new told) (take how.workers old.links) old.others.account account old.repo repo lines → IsSomeAnd account (λ k. k.stanza ≡ stanza)
-          → IsSomeAnd account (λ k. (turned : List Turned) × TakesTurns turned old.others.account k × (label : Option Text) × IfSome label (TellsLabel old new) × IsOnlineBackup (take how.workers old.links) (turns_of turned) label command)
+      by : (account : Option Account) → TakesOnline stanza told how.taken.kind (heard_by old new told) (take how.taken.workers old.links) old.others.account account old.repo repo lines → IsSomeAnd account (λ k. k.stanza ≡ stanza)
+          → IsSomeAnd account (λ k. (turned : List Turned) × TakesTurns turned old.others.account k × (label : Option Text) × IfSome label (TellsLabel old new) × IsOnlineBy how.taken.kind (take how.taken.workers old.links) (turns_of turned) label a.stanza old.repo command)
           → StaysSound stanza command old.repo
       by None h of x = absurd of
-      by (Some k) h of (turned, takes, label, label_told, (b, same, read)) =
+      by (Some k) h of (turned, takes, label, label_told, is_of) =
+          let x = online_made how.taken.kind (take how.taken.workers old.links) (turns_of turned) label a.stanza old.repo command is_of in
           let y = h of in
           let one = one_turns k old.others.account turned y.0 takes y.1 in
-          let t = subst (λ (ts : List Turned). IsTakenOnline stanza told (heard_by old new told) (take how.workers old.links) ts old.repo repo lines) one y.2 in
-          told_sound stanza (turns_of turned) t.backup old.repo repo t.adds.adds t.adds.sound b command same done
+          let t = subst (λ (ts : List Turned). IsTakenOnline stanza told how.taken.kind (heard_by old new told) (take how.taken.workers old.links) ts old.repo repo lines) one y.2 in
+          told_sound stanza (turns_of turned) t.backup old.repo repo t.adds.adds t.adds.sound x.0 command x.1 done
 
 -- ---- it ended without one
 
@@ -221,7 +227,7 @@ module _ (a : Asked) (rules : Rules) where
 
     running_stopped : (how : RunningHow) (fault : Fault) → Ran (asking a (backup_running how) None) b k (Err fault) → Ran (asking a (backup_running how) (Some rules)) b k (Err fault)
     running_stopped how fault h = record {
-      steps = λ told. stopped_steps a.stanza rules (IsRunningOf how (known b) (known k)) (running_makes how (known b) (known k)) b.repo.view b.spool.view k.repo.view k.spool.view (back_if (is_early fault)) (back_not (is_early fault)) (h.steps told);
+      steps = λ told. stopped_steps a.stanza rules (IsRunningOf a how (known b) (known k)) (running_makes a how (known b) (known k)) b.repo.view b.spool.view k.repo.view k.spool.view (back_if (is_early fault)) (back_not (is_early fault)) (h.steps told);
       promise = tt;
       lasts = tt;
       cause = running_cause how fault h.cause;
@@ -328,7 +334,7 @@ module _ (a : Asked) (rules : Rules) (b m k : Seen) (server_same : k.server ≡ 
   module _ (how : RunningHow) (lines : String Global) (h : Ran (asking a (backup_running how) None) b m (Ok (Finished lines))) where
     abbrev RunningTaken : WireState → OthersState → Text → Type 0
     RunningTaken server others text =
-        OnCluster b.tree.nodes (λ told. TakesOnline a.stanza told (record { system = told.system; pending = b.server.pending; left = server.pending }) (take how.workers b.links) b.others.account others.account b.repo.view.now m.repo.view.now text)
+        OnCluster b.tree.nodes (λ told. TakesOnline a.stanza told how.taken.kind (record { system = told.system; pending = b.server.pending; left = server.pending }) (take how.taken.workers b.links) b.others.account others.account b.repo.view.now m.repo.view.now text)
         × AsksBackup a.server how.fast server.place b.server.sent server.sent
 
     running_taken : RunningTaken k.server k.others (string_bytes lines)
@@ -340,7 +346,7 @@ module _ (a : Asked) (rules : Rules) (b m k : Seen) (server_same : k.server ≡ 
     -- which command it is, told from the end
     abbrev RunningStep : WireState → OthersState → View → Type 0
     RunningStep server others spool =
-        (command : Command) × WithExpiry None (IsRunningOf how (known b) (record (known k) { server = server; others = others })) command × Runs Whole a.stanza command to_end b.repo.view b.spool.view m.repo.view spool
+        (command : Command) × WithExpiry None (IsRunningOf a how (known b) (record (known k) { server = server; others = others })) command × Runs Whole a.stanza command to_end b.repo.view b.spool.view m.repo.view spool
 
     running_step : TurnsTold a (backup_running how) (known k) → RunningStep k.server k.others k.spool.view
     running_step told = subst (λ (v : View). RunningStep k.server k.others v) (sym spool_same) (subst (λ (o : OthersState). RunningStep k.server o m.spool.view) (sym others_same)
@@ -365,9 +371,9 @@ module _ (a : Asked) (rules : Rules) (b m k : Seen) (server_same : k.server ≡ 
     }
 
     running_steps : (f : (r : Result Outcome Fault) × Followed a.stanza rules m k (string_bytes lines) r) (reached : Reached) → ¬ (reached ≡ turned_back) → OnAll reached (DoesWhole Whole a.stanza (Expire (retention rules f.1.moment)) m.repo.view k.repo.view)
-        → TurnsTold a (backup_running how) (known k) → (command : Command) × WithExpiry (Some rules) (IsRunningOf how (known b) (known k)) command × Runs Whole a.stanza command reached b.repo.view b.spool.view k.repo.view k.spool.view
-    running_steps f reached not all told = followed_steps a.stanza rules (IsRunningOf how (known b) (known k)) (running_makes how (known b) (known k)) b.repo.view b.spool.view m.repo.view k.spool.view k.repo.view f.1.moment f.1.may_be reached not
-        (λ command is done. running_sound how (known b) (known k) a.stanza running_taken.0.0 (string_bytes lines) m.repo.view.now running_taken.0.2 told command is done) f.1.part all (running_step told)
+        → TurnsTold a (backup_running how) (known k) → (command : Command) × WithExpiry (Some rules) (IsRunningOf a how (known b) (known k)) command × Runs Whole a.stanza command reached b.repo.view b.spool.view k.repo.view k.spool.view
+    running_steps f reached not all told = followed_steps a.stanza rules (IsRunningOf a how (known b) (known k)) (running_makes a how (known b) (known k)) b.repo.view b.spool.view m.repo.view k.spool.view k.repo.view f.1.moment f.1.may_be reached not
+        (λ command is done. running_sound a how (known b) (known k) a.stanza running_taken.0.0 (string_bytes lines) m.repo.view.now running_taken.0.2 told command is done) f.1.part all (running_step told)
 
     running_followed : (r : Result Outcome Fault) → Followed a.stanza rules m k (string_bytes lines) r → Ran (asking a (backup_running how) (Some rules)) b k r
     running_followed (Ok (Finished more)) f = record {

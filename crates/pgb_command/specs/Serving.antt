@@ -13,5 +13,5 @@ is_served request server = true
 -- an expiry follows a backup alone
 abbrev pub is_followed : Request → Option Rules → Bool
 is_followed (Backup workers kind delta) rules = true
-is_followed (BackupRunning workers fast turns) rules = true
+is_followed (BackupRunning workers kind delta fast turns) rules = true
 is_followed request rules = is_none rules
