@@ -17,7 +17,7 @@ use Rattle.pgb_restore.specs.Finished.{IsFinished}
 use Rattle.pgb_restore.proofs.Earlier.{finished_before}
 use Rattle.pgb_restore.proofs.Failing.{fails_before}
 use Rattle.pgb_restore.proofs.Filled.{all_gone}
-use Rattle.pgb_restore.proofs.Links.{left_is}
+use Rattle.pgb_digests.proofs.Links.{left_is}
 use Rattle.pgb_stage.specs.declared.object.Object.TheVariants.{DataFolder}
 use Rattle.pgb_stage.specs.Halts.{HaltCause, Only}
 use Rattle.pgb_recover.specs.Filling.{of_fill, AreLost, CannotRead, FillCause}
