@@ -1,7 +1,6 @@
 -- What a drain does to a log that the repository's disk and the spool's keep.
 use Rattle.std.proofs.Common.{◌≡◌, ◌⊎◌, ⊎_elim, inl, inr, ℕ, zero, suc, ◌≤◌, ◌-◌, Bool, true, false, List, [], ◌∷◌, ◌++◌, map, Option, Some, None, refl, ap, ◌∙◌, sym, subst, arith}
 use Rattle.std.specs.Prelude.{IsSome, slice_get}
-use Rattle.std.specs.Option.{option_map_or}
 use Rattle.std.proofs.lemmas.List.{append-nil}
 use Rattle.sha1.specs.Sha1.{sha1}
 use Rattle.pgb_outside.specs.Content.{Content}
@@ -16,16 +15,16 @@ use Rattle.pgb_model.specs.Text.{Text, In}
 use Rattle.pgb_model.specs.Fields.{at_number}
 use Rattle.pgb_model.specs.Repository.{Stanza, Repository, Drained, IsSound, IsSoundStanza, id_of, current_number}
 use Rattle.pgb_model.specs.Stands.{Stands, HasStanza, stored_name}
-use Rattle.pgb_model.specs.Steps.{Step, Create, Upgrade, Push, Note, AddBackup, Condemn, Forget, Move, One, Named, ArchivePushDrain, IsPartOf, after, after_all, all_of, changed, steps_of, push_of, store_of, archived_of}
+use Rattle.pgb_model.specs.Steps.{Step, Create, Upgrade, Push, Note, AddBackup, Condemn, Forget, Move, One, Named, Command, IsPartOf, after, after_all, all_of, changed, steps_of, push_of, store_of, archived_of}
 use Rattle.pgb_model.specs.Log.{Done, Reaches, IsDone, IsDrained, KeepsSpool}
 use Rattle.pgb_model.specs.Now.{NowStands}
 use Rattle.pgb_model.specs.Steady.{IsSteady, IsBegun, Moves}
 use Rattle.pgb_model.proofs.Done.{part_none}
 use Rattle.pgb_model.proofs.Logged.{no_step}
 use Rattle.pgb_model.proofs.Made.{now_of}
-use Rattle.pgb_model.proofs.PushDone.{all_one, after_some}
+use Rattle.pgb_model.proofs.PushDone.{after_some}
 use Rattle.pgb_model.proofs.Pushed.{file_of}
-use Rattle.pgb_model.proofs.Turned.{turn_sound}
+use Rattle.pgb_model.proofs.Turned.{note_stands, turn_sound}
 use Rattle.pgb_model.proofs.Waited.{all_after}
 use Rattle.pgb_stored.specs.Stored.{archive_path}
 use Rattle.pgb_turn.specs.Turns.{HadReceipt, IsStoredBy}
@@ -35,20 +34,13 @@ use Rattle.pgb_stage.specs.Runs.{IsPart, DoesPart, DoesWhole, SpoolGoes, Runs}
 use Rattle.pgb_spool.specs.Marks.{GivesMarks}
 use Rattle.pgb_spool.proofs.Receipts.{marks_receipts, marks_tight}
 use Rattle.pgb_drain.specs.declared.marking.Drained.{Drained as Counted}
-use Rattle.pgb_drain.specs.Keeping.{IsCurrentId, IsUnderCurrent, GivesStored, reached_of, turn_of}
+use Rattle.pgb_drain.specs.Keeping.{IsCurrentId, IsUnderCurrent, GivesStored, reached_of}
 use Rattle.pgb_drain.specs.Storing.{store_steps, stored, IsPartOfStores, IsArchivedIn, GoesByStores}
-use Rattle.pgb_drain.proofs.Stores.{IsStore, AreStores, steps_store, after_behind, all_is_part, part_archived, behind_done, behind_after, in_left}
+use Rattle.pgb_drain.proofs.Stores.{IsStore, AreStores, steps_store, after_behind, part_split, all_is_part, part_archived, behind_done, behind_after, in_left}
+use Rattle.pgb_drain.proofs.Commands.{StoresAs}
 use Rattle.pgb_drain.proofs.Goings.{moves_as, stores_steady, stores_now}
 
 -- ---- stores keep a stanza sound
-
-pub part_split : (done xs ys : List Step) → IsPartOf done (map One (xs ++ ys)) → IsPartOf done (map One xs) ⊎ ((rest : List Step) × (done ≡ xs ++ rest) × IsPartOf rest (map One ys))
-part_split done [] ys p = inr (done, refl, p)
-part_split done (t ∷ xs) ys p = ⊎_elim (λ (e : done ≡ []). inl (inl e))
-    (λ (q : (rest : List Step) × (done ≡ t ∷ rest) × IsPartOf rest (map One (xs ++ ys))). ⊎_elim
-    (λ (r : IsPartOf q.0 (map One xs)). inl (inr (q.0, q.1, r)))
-    (λ (r : (rest : List Step) × (q.0 ≡ xs ++ rest) × IsPartOf rest (map One ys)). inr (r.0, q.1 ∙ ap (λ (l : List Step). t ∷ l) r.1, r.2))
-    (part_split q.0 xs ys q.2)) p
 
 one_history : (t : Step) (s : Stanza) → IsStore t → (changed t s).history ≡ s.history
 one_history (Create c) s is = absurd is
@@ -130,61 +122,53 @@ listed_at (y ∷ xs) (suc i) x e = inr (listed_at xs i x e)
 pub in_history : (s : Stanza) (c : Cluster) → at_number (current_number s) s.history ≡ Some c → In c s.history
 in_history s c at = listed_at s.history (current_number s - 1) c at
 
-module _ (fs : List Named) (id : ArchiveId) (s : Stanza) (at : IsCurrentId s id) where
-  pub drain_steps : steps_of (ArchivePushDrain fs) (Some s) ≡ map One (store_steps s id fs)
-  drain_steps = ap (λ (o : Option Cluster). option_map_or (λ (k : Cluster). map One (store_steps s (id_of k) fs)) o []) at.1
-      ∙ ap (λ (i : ArchiveId). map One (store_steps s i fs)) (sym at.2)
-
-  pub drain_all : all_of (steps_of (ArchivePushDrain fs) (Some s)) ≡ store_steps s id fs
-  drain_all = ap all_of drain_steps ∙ all_one (store_steps s id fs)
-
+module _ (fs : List Named) (id : ArchiveId) (command : Command) (stores : StoresAs id fs command) (s : Stanza) (at : IsCurrentId s id) where
   pub drain_sound : IsSoundStanza s → (done : List Step) → IsPartOf done (map One (store_steps s id fs)) → IsSound (after (Some s) done)
   drain_sound sound done p = stores_sound id at.0 at.2 fs s sound (in_history s at.0 at.1) done p
 
-  -- a part of the stores is a part of the drain
-  pub drain_part : (stanza : Text) (g : Content) → IsSoundStanza s → IsPartOfStores stanza s id fs g → IsPart stanza (ArchivePushDrain fs) (Some s) g
-  drain_part stanza g sound p = (p.0, subst (λ (m : List Move). IsPartOf p.0 m) (sym drain_steps) p.1, p.2, drain_sound sound p.0 p.1)
+  -- a part of the stores is a part of the command
+  pub drain_part : (stanza : Text) (g : Content) → IsSoundStanza s → IsPartOfStores stanza s id fs g → IsPart stanza command (Some s) g
+  drain_part stanza g sound p =
+      let x = stores.part (λ r. Stands stanza g r) (λ d s h. note_stands d s stanza g h) s at p.0 p.1 p.2 in (x.done, x.of_command, x.holds, drain_sound sound x.done x.of_stores)
 
-  pub drain_done : (whole : Bool) → IsDone whole (store_steps s id fs) (steps_of (ArchivePushDrain fs) (Some s))
-  drain_done true = sym drain_all
-  drain_done false = subst (λ (m : List Move). IsPartOf (store_steps s id fs) m) (sym drain_steps) (all_is_part (store_steps s id fs))
+  pub drain_all : all_of (steps_of command (Some s)) ≡ store_steps s id fs
+  drain_all = sym (stores.all true s at)
 
-  pub drain_after : after (Some s) (all_of (steps_of (ArchivePushDrain fs) (Some s))) ≡ Some (stored s id fs)
+  pub drain_after : after (Some s) (all_of (steps_of command (Some s))) ≡ Some (stored s id fs)
   drain_after = ap (after (Some s)) drain_all ∙ after_some s (store_steps s id fs)
 
 -- ---- the repository
 
-module _ (stanza : Text) (id : ArchiveId) (files more : List Named) (b d : View) (current : IsUnderCurrent stanza id b.now) (goes : GoesByStores stanza id files more b d) where
+module _ (stanza : Text) (id : ArchiveId) (files more : List Named) (command : Command) (stores : StoresAs id (files ++ more) command) (b d : View)
+    (current : IsUnderCurrent stanza id b.now) (goes : GoesByStores stanza id files more b d) where
   abbrev fs : List Named
   fs = files ++ more
 
   abbrev Does : Bool → Repository → Type 0
-  Does whole r = (done : List Step) × IsDone whole done (steps_of (ArchivePushDrain fs) r) × NowStands stanza (after r done) d.now
+  Does whole r = (done : List Step) × IsDone whole done (steps_of command r) × NowStands stanza (after r done) d.now
 
   now_part : (s : Stanza) → IsCurrentId s id → IsSome b.now → NowStands stanza (Some s) b.now → Does false (Some s)
   now_part s at some now =
       let x = goes.now s some now in
-      let p = behind_done stanza s id files more x.0 x.1 in (
-        store_steps s id files ++ x.0,
-        subst (λ (m : List Move). IsPartOf (store_steps s id files ++ x.0) m) (sym (drain_steps fs id s at)) p,
-        subst (λ (r : Repository). NowStands stanza r d.now) (behind_after stanza s id files more x.0) x.2,
-      )
+      let y = stores.part (λ r. NowStands stanza r d.now) (λ n s h. record { stands = λ f is. note_stands n s stanza f (h.stands f is) }) s at
+      (store_steps s id files ++ x.0) (behind_done stanza s id files more x.0 x.1) (subst (λ (r : Repository). NowStands stanza r d.now) (behind_after stanza s id files more x.0) x.2) in
+      (y.done, y.of_command, y.holds)
 
-  moves_in : (s : Stanza) → IsCurrentId s id → IsSoundStanza s → IsSteady stanza (Some s) b → IsSome b.now → Moves stanza (IsPart stanza (ArchivePushDrain fs) (Some s)) b d
-  moves_in s at sound steady some = moves_as stanza (IsPartOfStores stanza s id fs) (IsPart stanza (ArchivePushDrain fs) (Some s)) b d
-      (λ g p. drain_part fs id s at stanza g sound p) (goes.moves s steady some)
+  moves_in : (s : Stanza) → IsCurrentId s id → IsSoundStanza s → IsSteady stanza (Some s) b → IsSome b.now → Moves stanza (IsPart stanza command (Some s)) b d
+  moves_in s at sound steady some = moves_as stanza (IsPartOfStores stanza s id fs) (IsPart stanza command (Some s)) b d
+      (λ g p. drain_part fs id command stores s at stanza g sound p) (goes.moves s steady some)
 
   -- the stanza of a steady disk
   at_steady : (r : Repository) → IsSome b.now → IsSteady stanza r b → (s : Stanza) × (r ≡ Some s) × IsCurrentId s id
   at_steady r some steady = let f = told_as b.now some in current.is r some (now_of stanza r b.now f.0 f.1 (steady.stands f.0 (inl f.1)))
 
-  moves_at : (r : Repository) → IsSome b.now → IsSteady stanza r b → IsSound r → Moves stanza (IsPart stanza (ArchivePushDrain fs) r) b d
+  moves_at : (r : Repository) → IsSome b.now → IsSteady stanza r b → IsSound r → Moves stanza (IsPart stanza command r) b d
   moves_at r some steady sound =
       let x = at_steady r some steady in
-      subst (λ (k : Repository). Moves stanza (IsPart stanza (ArchivePushDrain fs) k) b d) (sym x.1)
+      subst (λ (k : Repository). Moves stanza (IsPart stanza command k) b d) (sym x.1)
       (moves_in x.0 x.2 (subst IsSound x.1 sound) (subst (λ (k : Repository). IsSteady stanza k b) x.1 steady) some)
 
-  pub drain_does : DoesPart Whole stanza (ArchivePushDrain (files ++ more)) b d
+  pub drain_does : DoesPart Whole stanza command b d
   drain_does = record {
     part = record {
       told = goes.told;
@@ -203,20 +187,20 @@ module _ (stanza : Text) (id : ArchiveId) (files more : List Named) (b d : View)
     now_whole : (s : Stanza) → IsCurrentId s id → IsSome b.now → NowStands stanza (Some s) b.now → Does true (Some s)
     now_whole s at some now = (
       store_steps s id fs,
-      drain_done fs id s at true,
+      stores.all true s at,
       subst (λ (r : Repository). NowStands stanza r d.now) (sym (after_some s (store_steps s id fs))) (stores_now stanza id fs b d all s some now),
     )
 
     abbrev Ended : Repository → Type 0
-    Ended r = IsSteady stanza (after r (all_of (steps_of (ArchivePushDrain fs) r))) d × IsSound (after r (all_of (steps_of (ArchivePushDrain fs) r)))
+    Ended r = IsSteady stanza (after r (all_of (steps_of command r))) d × IsSound (after r (all_of (steps_of command r)))
 
     ends_in : (s : Stanza) → IsCurrentId s id → IsSoundStanza s → IsSteady stanza (Some s) b → IsSome b.now → Ended (Some s)
     ends_in s at sound steady some = (
-      subst (λ (r : Repository). IsSteady stanza r d) (sym (drain_after fs id s at)) (stores_steady stanza id fs b d all s steady some),
-      subst (λ (l : List Step). IsSound (after (Some s) l)) (sym (drain_all fs id s at)) (drain_sound fs id s at sound (store_steps s id fs) (all_is_part (store_steps s id fs))),
+      subst (λ (r : Repository). IsSteady stanza r d) (sym (drain_after fs id command stores s at)) (stores_steady stanza id fs b d all s steady some),
+      subst (λ (l : List Step). IsSound (after (Some s) l)) (sym (drain_all fs id command stores s at)) (drain_sound fs id command stores s at sound (store_steps s id fs) (all_is_part (store_steps s id fs))),
     )
 
-    pub drain_does_all : DoesWhole Whole stanza (ArchivePushDrain (files ++ more)) b d
+    pub drain_does_all : DoesWhole Whole stanza command b d
     drain_does_all = record {
       done = record {
         told = goes.told;
@@ -250,14 +234,17 @@ module _ (stanza : Text) (id : ArchiveId) (files more : List Named) (b d : View)
   -- ---- the spool
 
   module _ (spool new_spool : View) (law : Law spool) (new_law : Law new_spool) (marks : GivesMarks stanza files spool new_spool) where
-    pub drain_gives : GivesStored stanza id (files ++ more) b d spool new_spool
-    drain_gives = record {
+    abbrev Given : Bool → ArchiveName → Text → Type 0
+    Given ended name sum = IsStoredBy stanza (record { id = id; pushed = files ++ more; ended = ended }) name sum d
+
+    pub drain_gives : (ended : Bool) → GivesStored stanza (record { id = id; pushed = files ++ more; ended = ended }) b d spool new_spool
+    drain_gives ended = record {
       each = λ r some told steady fixed m f lo hi leaves name sum fits receipt. ⊎_elim (λ (h : HadReceipt stanza spool name sum). inl h)
           (λ (h : (n : Named) × In n files × (n.name ≡ name) × (sha1 n.bytes ≡ sum)).
           let x = at_steady r some steady in
           let here = subst (λ (k : Repository). IsSteady stanza k b) x.1 steady in
-          inr (subst (λ (k : ArchiveName). IsStoredBy stanza (turn_of id (files ++ more)) k sum d) h.2
-          (subst (λ (k : Text). IsStoredBy stanza (turn_of id (files ++ more)) h.0.name k d) h.3 (record {
+          inr (subst (λ (k : ArchiveName). Given ended k sum) h.2
+          (subst (λ (k : Text). Given ended h.0.name k) h.3 (record {
             file = h.0;
             pushed = in_left h.0 files more h.1;
             of_name = refl;
@@ -268,7 +255,7 @@ module _ (stanza : Text) (id : ArchiveId) (files more : List Named) (b d : View)
     }
 
     abbrev entry : Bool → Done
-    entry whole = record { command = ArchivePushDrain (files ++ more); acknowledged = whole }
+    entry whole = record { command = command; acknowledged = whole }
 
     module _ (q : Repository) (log : List Done) (some : IsSome b.now) (told : IsSome spool.now) (begun : IsBegun stanza q log b) (keeps : KeepsSpool stanza q log spool) where
       abbrev IsNoted : Bool → ArchiveName → Text → Type 0
@@ -281,7 +268,7 @@ module _ (stanza : Text) (id : ArchiveId) (files more : List Named) (b d : View)
             (
               Some x.0,
               subst (λ (r : Repository). Reaches q log r) x.1 begun.reached,
-              (store_steps x.0 id fs, sym (after_some x.0 (store_steps x.0 id fs)), drain_done fs id x.0 x.2 whole),
+              (store_steps x.0 id fs, sym (after_some x.0 (store_steps x.0 id fs)), stores.all whole x.0 x.2),
             ),
             all_noted id fs n x.0 (in_left n files more i),
           )
@@ -289,12 +276,12 @@ module _ (stanza : Text) (id : ArchiveId) (files more : List Named) (b d : View)
       still : (whole : Bool) (name : ArchiveName) (sum : Text) (r : Repository) → Reaches q log r → IsDrained r name sum → IsNoted whole name sum
       still whole name sum None reached at = absurd at
       still true name sum (Some s) reached i =
-          let steps = all_of (steps_of (ArchivePushDrain fs) (Some s)) in (
+          let steps = all_of (steps_of command (Some s)) in (
             Some (after_all s steps),
             (Some s, reached, (steps, sym (after_some s steps), refl)),
             all_keep_notes (record { name = name; sum = sum }) steps s i,
           )
-      still false name sum (Some s) reached i = (Some s, (Some s, reached, ([], refl, part_none (steps_of (ArchivePushDrain fs) (Some s)))), i)
+      still false name sum (Some s) reached i = (Some s, (Some s, reached, ([], refl, part_none (steps_of command (Some s)))), i)
 
       -- at each moment each receipt of the spool is of a file that such a repository has stored
       receipts : (whole : Bool) (m : ℕ) (f : Content) → spool.moment ≤ m → m ≤ new_spool.moment → Leaves new_spool m f → HasReceiptsOf stanza q (entry whole ∷ log) f
@@ -311,7 +298,7 @@ module _ (stanza : Text) (id : ArchiveId) (files more : List Named) (b d : View)
       }
 
     module _ (spool_told : IsSome spool.now → IsSome new_spool.now) where
-      spool_goes : (whole : Bool) → SpoolGoes Whole stanza (ArchivePushDrain (files ++ more)) whole b spool new_spool
+      spool_goes : (whole : Bool) → SpoolGoes Whole stanza command whole b spool new_spool
       spool_goes whole = record {
         told = spool_told;
         past = record { later = marks.later; kept = marks.same; loose = marks.same_loose };
@@ -320,7 +307,7 @@ module _ (stanza : Text) (id : ArchiveId) (files more : List Named) (b d : View)
       }
 
       -- the drain is the command that stores these files
-      pub drain_runs : (end : Option Counted) → (IsSome end → more ≡ []) → Runs Whole stanza (ArchivePushDrain (files ++ more)) (reached_of end) b spool d new_spool
+      pub drain_runs : (end : Option Counted) → (IsSome end → more ≡ []) → Runs Whole stanza command (reached_of end) b spool d new_spool
       drain_runs None ended = record { part = record { does = drain_does; marks = spool_goes false }; whole = tt; turned = tt }
       drain_runs (Some c) ended = record {
         part = record { does = drain_does; marks = spool_goes false };

@@ -3,6 +3,8 @@ pub mod Goings
 pub mod Pushes
 pub mod Put
 pub mod Behind
+pub mod Groups
+pub mod Commands
 pub mod Kept
 pub mod Ran
 pub mod Readies

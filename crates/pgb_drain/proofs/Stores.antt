@@ -1,5 +1,5 @@
 -- Stores one behind the other, and parts of them.
-use Rattle.std.proofs.Common.{◌≡◌, ⊎_elim, inl, inr, Bool, true, false, List, [], ◌∷◌, ◌++◌, map, Some, refl, ap, ◌∙◌, sym, subst, append_assoc}
+use Rattle.std.proofs.Common.{◌≡◌, ◌⊎◌, ⊎_elim, inl, inr, Bool, true, false, List, [], ◌∷◌, ◌++◌, map, Some, refl, ap, ◌∙◌, sym, subst, append_assoc}
 use Rattle.std.specs.Prelude.{if◌then◌else◌}
 use Rattle.std.proofs.lemmas.List.{append-nil}
 use Rattle.sha1.specs.Sha1.{sha1}
@@ -23,6 +23,15 @@ part_first done (t ∷ xs) ys p = ⊎_elim (λ (e : done ≡ []). inl e) (λ (q 
 pub part_behind : (xs ys done : List Step) → IsPartOf done (map One ys) → IsPartOf (xs ++ done) (map One (xs ++ ys))
 part_behind [] ys done p = p
 part_behind (t ∷ xs) ys done p = inr (xs ++ done, refl, part_behind xs ys done p)
+
+-- a part of both is one of the first, or all of the first and a part of the second
+pub part_split : (done xs ys : List Step) → IsPartOf done (map One (xs ++ ys)) → IsPartOf done (map One xs) ⊎ ((rest : List Step) × (done ≡ xs ++ rest) × IsPartOf rest (map One ys))
+part_split done [] ys p = inr (done, refl, p)
+part_split done (t ∷ xs) ys p = ⊎_elim (λ (e : done ≡ []). inl (inl e))
+    (λ (q : (rest : List Step) × (done ≡ t ∷ rest) × IsPartOf rest (map One (xs ++ ys))). ⊎_elim
+    (λ (r : IsPartOf q.0 (map One xs)). inl (inr (q.0, q.1, r)))
+    (λ (r : (rest : List Step) × (q.0 ≡ xs ++ rest) × IsPartOf rest (map One ys)). inr (r.0, q.1 ∙ ap (λ (l : List Step). t ∷ l) r.1, r.2))
+    (part_split q.0 xs ys q.2)) p
 
 pub all_is_part : (xs : List Step) → IsPartOf xs (map One xs)
 all_is_part [] = refl

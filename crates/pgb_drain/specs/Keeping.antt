@@ -1,5 +1,5 @@
 -- What a drain is in a log of commands, and which receipts it gives.
-use Rattle.std.specs.Prelude.{◌≡◌, ◌⊎◌, ◌≤◌, ℕ, List, ◌++◌, false, Option, Some, None, IsSome}
+use Rattle.std.specs.Prelude.{◌≡◌, ◌⊎◌, ◌≤◌, ℕ, List, [], ◌∷◌, ◌++◌, false, Option, Some, None, IsSome, is_some}
 use Rattle.pgb_outside.specs.Content.{Content}
 use Rattle.pgb_outside.specs.Crash.{Leaves}
 use Rattle.pgb_outside.specs.Moments.{View, is_loose}
@@ -14,7 +14,7 @@ use Rattle.pgb_model.specs.Now.{NowStands}
 use Rattle.pgb_model.specs.Repository.{Stanza, Repository, id_of, current_number}
 use Rattle.pgb_model.specs.Stands.{IsWalName}
 use Rattle.pgb_model.specs.Steady.{IsSteady}
-use Rattle.pgb_model.specs.Steps.{Named, Turn, ArchivePushDrain}
+use Rattle.pgb_model.specs.Steps.{Named, Turn, ArchivePushAsync, ArchivePushDrain}
 use Rattle.pgb_model.specs.Text.{Text}
 use Rattle.pgb_stage.specs.declared.plan.Settling.TheVariants.{Whole}
 use Rattle.pgb_stage.specs.Runs.{Reached, to_end, stopped, Runs}
@@ -37,22 +37,23 @@ reached_of (Some drained) = to_end
 reached_of None = stopped
 
 -- the drain of these files, as a turn of other processes
-abbrev pub turn_of : ArchiveId → List Named → Turn
-turn_of id files = record { id = id; pushed = files; ended = false }
+abbrev pub turn_of : Option Drained → ArchiveId → List Named → Turn
+turn_of end id files = record { id = id; pushed = files; ended = is_some end }
 
 -- no receipt is loose
 abbrev pub HasNoLoose : Text → View → Type 0
 HasNoLoose stanza spool = (name : ArchiveName) → IsWalName name → is_loose spool (receipt_name stanza name) ≡ false
 
--- From a repository of which all that a crash leaves stands for one: at each moment each receipt that the spool has, or a crash leaves, is an earlier one, or of one of these files, which the repository and all that a crash leaves of it then have.
-pub record GivesStored (stanza : Text) (id : ArchiveId) (files : List Named) (repo new_repo spool new_spool : View) : Type 0 where
+-- From a repository of which all that a crash leaves stands for one: at each moment each receipt that the spool has, or a crash leaves, is an earlier one, or of one of the files of this turn, which the repository and all that a crash leaves of it then have.
+pub record GivesStored (stanza : Text) (t : Turn) (repo new_repo spool new_spool : View) : Type 0 where
   pub each : (r : Repository) → IsSome repo.now → IsSome spool.now → IsSteady stanza r repo → HasNoLoose stanza spool →
       (m : ℕ) (f : Content) → spool.moment ≤ m → m ≤ new_spool.moment → Leaves new_spool m f →
       (name : ArchiveName) (sum : Text) → IsWalName name → HasReceipt stanza f name sum
-      → HadReceipt stanza spool name sum ⊎ IsStoredBy stanza (turn_of id files) name sum new_repo
+      → HadReceipt stanza spool name sum ⊎ IsStoredBy stanza t name sum new_repo
 
--- The drain of these names, from what the spool held. Under the id of the current cluster it is a command of the log: it stores these files, all of them where it ends well. At each moment of either disk all that a crash leaves is that of the log with a part of it. Each receipt that it gives is of a file that, as it ends, the repository and all that a crash leaves of it have.
+-- The drain of these names, from what the spool held. Under the id of the current cluster it is a command of the log: it stores these files, all of them where it ends well; and to those who wait for it it is a turn. At each moment of either disk all that a crash leaves is that of the log with a part of it. Each receipt that it gives is of a file that, as it ends, the repository and all that a crash leaves of it have.
 pub record DrainsLog (stanza : Text) (id : ArchiveId) (system : ℕ) (f : Nodes) (names : List ArchiveName) (end : Option Drained) (held : Option Content) (repo new_repo spool new_spool : View) : Type 0 where
   pub drains : DrainsFrom stanza id system f names end held repo new_repo spool new_spool
   pub runs : IsUnderCurrent stanza id repo.now → Runs Whole stanza (ArchivePushDrain (kept_files drains.entries ++ drains.more)) (reached_of end) repo spool new_repo new_spool
-  pub gives : IsUnderCurrent stanza id repo.now → GivesStored stanza id (kept_files drains.entries ++ drains.more) repo new_repo spool new_spool
+  pub waited : IsUnderCurrent stanza id repo.now → Runs Whole stanza (ArchivePushAsync (turn_of end id (kept_files drains.entries ++ drains.more) ∷ [])) (reached_of end) repo spool new_repo new_spool
+  pub gives : IsUnderCurrent stanza id repo.now → GivesStored stanza (turn_of end id (kept_files drains.entries ++ drains.more)) repo new_repo spool new_spool
