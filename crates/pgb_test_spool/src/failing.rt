@@ -49,11 +49,8 @@ fn check_failing(rt: &impl Abort, alloc: Global, repo: u64, spool: u64, tree: u6
     let mut spool = well(rt, empty(alloc, well(rt, only(alloc, spool))));
     let mut tree = well(rt, folder(alloc, FILES, well(rt, only(alloc, tree))));
     let done = drain(alloc, &mut repo, &mut spool, &mut tree, "main", ID, SYSTEM);
-    same(
-        rt,
-        done.is_ok(),
-        repo.faults() + spool.faults() + tree.faults() == 0,
-    );
+    let whole = repo.faults() == 0 && spool.faults() == 0 && tree.faults() == 0;
+    same(rt, done.is_ok(), whole);
     let mut repo = well(rt, reopened(alloc, &repo));
     let mut spool = well(rt, reopened(alloc, &spool));
     check_receipts(rt, &repo, &spool);
