@@ -134,7 +134,9 @@ module _ (a : Asked) (how : RunningHow) (old new : Known) where
       by : (account : Option Account) → IsSomeAnd account (λ k. (turned : List Turned) × TakesTurns turned old.others.account k × (label : Option Text) × IfSome label (TellsLabel old new) × IsOnlineBy how.taken.kind (take how.taken.workers old.links) (turns_of turned) label a.stanza old.repo command)
           → (turns : List Turn) × (b : Backup) × (command ≡ MakeBackup turns b None)
       by None h = absurd h
-      by (Some k) (turned, takes, label, told, is) = (turns_of turned, online_made how.taken.kind (take how.taken.workers old.links) (turns_of turned) label a.stanza old.repo command is)
+      by (Some k) (turned, takes, label, told, is) =
+          let x = online_made how.taken.kind (take how.taken.workers old.links) (turns_of turned) label a.stanza old.repo command is in
+          (turns_of turned, x.0, x.1)
 
   -- the turns that it waited are those of its promise
   running_sound : (stanza : Text) (told : Control) (lines : Text) (repo : Option Content) → TakesOnline stanza told how.taken.kind (heard_by old new told) (take how.taken.workers old.links) old.others.account new.others.account old.repo repo lines
