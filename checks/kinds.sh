@@ -3,11 +3,11 @@
 # digest what times hide, info lists the chain, each backup is restored as its folder was, and so is each that an expiry keeps.
 . "$(dirname "$0")/common"
 
-# (restore and info take no lock, and refuse its option)
+# (restore, info and verify take no lock, and refuse its option)
 program() {
     local word lock=(--lock-path="$room/lock")
     for word in "$@"; do
-        case $word in info | restore) lock=() ;; esac
+        case $word in info | restore | verify) lock=() ;; esac
     done
     "$top/bin/pgbackrest" --stanza=demo --repo1-path="$room/repo" "${lock[@]}" "$@"
 }
