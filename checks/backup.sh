@@ -88,16 +88,8 @@ refuse 28 "ERROR: [028]: 'global/pg_control' is missing
 "
 mv control pg/global/pg_control
 mkdir -p lock
-want 100 "ERROR: [100]: 'type' is not built yet
-" --type=incr backup
-for option in delta; do
-    words=("${full[@]}")
-    case $option in
-    delta) words+=(--delta) ;;
-    esac
-    want 100 "ERROR: [100]: '$option' is not built yet
-" "${words[@]}" backup
-done
+want 100 "ERROR: [100]: 'delta' is not built yet
+" --delta backup
 if command -v flock >/dev/null; then
     {
         flock -n 9
