@@ -237,13 +237,13 @@ fn a_backup_stays_whose_expiry_fails(rt: HostRuntime) {
             (old.is_some(), new.is_some()),
             (new.is_none(), new.is_some()),
         );
-        if statuses.as_slice() == [0, 0, 0, 0] {
+        if statuses.as_slice() == [0, 0, 0, 0].as_slice() {
             same(&rt, (0 < stayed, new.is_some()), (true, true));
             return;
         }
         same(&rt, statuses.as_slice(), &[0, 0, 80, 0]);
         if new.is_some() {
-            stayed += 1;
+            stayed = stayed.saturating_add(1);
         }
     }
     panic!(&rt; "no backup with an expiry behind it ends without a fault");
