@@ -1,7 +1,7 @@
 -- The status and the message of each refusal of stanza-create (own).
 use Rattle.std.specs.Prelude.{ℕ, ◌++◌, codes, decimal, string_bytes}
 use Rattle.pgb_model.specs.Text.{Text}
-use Rattle.pgb_stage.specs.Texts.{damaged_text, mismatch_text}
+use Rattle.pgb_stage.specs.Texts.{damaged_text, history_text, mismatch_text}
 use Rattle.pgb_server_texts.specs.Texts.{server_status, server_message}
 use Rattle.pgb_create.specs.declared.fault.CreateFault.{CreateFault}
 use Rattle.pgb_create.specs.declared.fault.CreateFault.TheVariants.{Server, InfoDamaged, HistoryDiffers, StanzaMismatch, ArchiveLost}
@@ -17,7 +17,7 @@ create_status (ArchiveLost label) = 24
 abbrev pub create_message : CreateFault → Text
 create_message (Server fault) = server_message fault
 create_message (InfoDamaged name main copy) = damaged_text (string_bytes name) main copy
-create_message (HistoryDiffers at) = codes "archive history and backup history differ at " ++ decimal at
+create_message (HistoryDiffers at) = history_text at
 create_message (StanzaMismatch kept found) = mismatch_text kept found
 create_message (ArchiveLost label) = codes "archive info is missing, backup info lists '"
     ++ (string_bytes label ++ codes "'")

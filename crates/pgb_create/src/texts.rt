@@ -4,7 +4,7 @@ ghost use Rattle.pgb_create.specs.Texts.{create_status, create_message};
 
 use crate::fault::CreateFault;
 use pgb_server_texts::{server_message, server_status};
-use pgb_stage::{bytes_of, damaged_text, mismatch_text};
+use pgb_stage::{bytes_of, damaged_text, history_text, mismatch_text};
 use pgb_text::NoMemory;
 use std::alloc::Global;
 
@@ -28,9 +28,7 @@ pub fn create_message(alloc: Global, fault: &CreateFault) -> Result<Vec<u8>, NoM
     match fault {
         CreateFault::Server(fault) => server_message(alloc, fault),
         CreateFault::InfoDamaged { name, main, copy } => damaged_text(alloc, name, main, copy),
-        CreateFault::HistoryDiffers { at } => bytes_of(format!(in alloc;
-            "archive history and backup history differ at {at}"
-        )),
+        CreateFault::HistoryDiffers { at } => history_text(alloc, *at),
         CreateFault::StanzaMismatch { kept, found } => mismatch_text(alloc, kept, found),
         CreateFault::ArchiveLost { label } => bytes_of(format!(in alloc;
             "archive info is missing, backup info lists '{label}'"

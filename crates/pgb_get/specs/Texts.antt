@@ -3,7 +3,7 @@ use Rattle.std.specs.Prelude.{ℕ, ◌++◌, codes, string_bytes}
 use Rattle.pgb_text.specs.declared.sum.Sum.{Sum}
 use Rattle.pgb_text.specs.Sum.{sum_text}
 use Rattle.pgb_model.specs.Text.{Text}
-use Rattle.pgb_stage.specs.Texts.{shown, mismatch_text, long_text}
+use Rattle.pgb_stage.specs.Texts.{shown, mismatch_text, long_text, twice_text}
 use Rattle.pgb_get.specs.declared.fault.GetFault.{GetFault}
 use Rattle.pgb_get.specs.declared.fault.GetFault.TheVariants.{SegmentName, PathOutside, StanzaMismatch, Ambiguous, SegmentDamaged, TooLong}
 
@@ -24,7 +24,6 @@ abbrev pub get_message : GetFault → Text
 get_message (SegmentName name) = codes "'" ++ (shown (string_bytes name) ++ codes "' is no WAL file name")
 get_message (PathOutside path) = codes "path '" ++ (shown (string_bytes path) ++ codes "' is outside the data folder")
 get_message (StanzaMismatch kept found) = mismatch_text kept found
-get_message (Ambiguous first second) =
-    codes "'" ++ (string_bytes first ++ (codes "' and '" ++ (string_bytes second ++ codes "' are both stored")))
+get_message (Ambiguous first second) = twice_text (string_bytes first) (string_bytes second)
 get_message (SegmentDamaged told found) = sums_text told found
 get_message (TooLong name limit) = long_text (string_bytes name) limit

@@ -3,7 +3,7 @@ ghost use Rattle.std.specs.Prelude.{◌≡◌, IfOk};
 ghost use Rattle.pgb_get.specs.Texts.{get_status, get_message, sums_text};
 
 use crate::fault::GetFault;
-use pgb_stage::{bytes_of, long_text, mismatch_text, quoted};
+use pgb_stage::{bytes_of, long_text, mismatch_text, quoted, twice_text};
 use pgb_text::{NoMemory, Sum};
 use std::alloc::Global;
 
@@ -40,9 +40,7 @@ pub fn get_message(alloc: Global, fault: &GetFault) -> Result<Vec<u8>, NoMemory>
             quoted(alloc, "path '", path, "' is outside the data folder")
         }
         GetFault::StanzaMismatch { kept, found } => mismatch_text(alloc, kept, found),
-        GetFault::Ambiguous { first, second } => bytes_of(format!(in alloc;
-            "'{first}' and '{second}' are both stored"
-        )),
+        GetFault::Ambiguous { first, second } => twice_text(alloc, first, second),
         GetFault::SegmentDamaged { told, found } => sums_text(alloc, told, found),
         GetFault::TooLong { name, limit } => long_text(alloc, name, *limit),
     }

@@ -10,7 +10,6 @@ pub mod Made
 pub mod Behind
 pub mod Waited
 pub mod Running
-pub mod Online
 pub mod Full
 pub mod Added
 pub mod Again

@@ -2,3 +2,4 @@ pub mod Fault
 pub mod Member
 pub mod Causes
 pub mod Reading
+pub mod Writes

@@ -2,16 +2,15 @@
 ghost use Rattle.std.specs.Prelude.{◌≡◌, ◌⊎◌, ◌≤◌, [], ◌∷◌, ℕ, List, Some, None, true, false, IfOk, IfErr, IfSome, IsSome, OnOk, IsErrOf, length};
 ghost use Rattle.pgb_outside.specs.States.{Frame, Looks};
 ghost use Rattle.pgb_outside.specs.Content.{Name};
-ghost use Rattle.pgb_outside.specs.Moments.{Rests, is_loose};
-ghost use Rattle.pgb_outside.specs.Crash.{IsTemporary, Crash, IsAlikeAt, NowGoes, SomeOf};
+ghost use Rattle.pgb_outside.specs.Moments.{is_loose};
+ghost use Rattle.pgb_outside.specs.Crash.{IsTemporary, Crash, NowGoes, SomeOf};
 ghost use Rattle.pgb_outside.specs.Cause.{Rises};
 ghost use Rattle.pgb_disk.specs.Store.{LiesIn, ChangesOnly};
-ghost use Rattle.pgb_model.specs.Names.{copy_of};
 ghost use Rattle.pgb_model.specs.InfoText.{info_text};
 ghost use Rattle.pgb_model.specs.Pair.{PairIs};
-ghost use Rattle.pgb_model.specs.Create.{member_writes};
 ghost use Rattle.pgb_pair.specs.Causes.{PairCause, IfRefused};
-ghost use Rattle.pgb_pair.specs.Member.{IsMemberName, IsOfPair, KeepsMembers};
+ghost use Rattle.pgb_pair.specs.Member.{IsMemberName, IsOfPair, KeepsMember, KeepsMembers};
+ghost use Rattle.pgb_pair.specs.Writes.{AreBoth, MendsBoth, MendsNow, OnlyRead};
 
 use crate::fault::{InfoFault, SaveFault};
 use crate::loading::{load_pair, read_bytes};
@@ -50,8 +49,7 @@ fn mend<D: Disk>(
     ensures now_part { NowGoes (SomeOf ((name.now, text.now) ∷ [])) (D.state d.old).view.now (D.state d.new).view.now }
     ensures mended { OnOk result (IfSome (D.state d.new).view.now (λ f. f name.now ≡ Some text.now)) }
     // No stop takes it away.
-    ensures lasts { OnOk result (is_loose (D.state d.old).view name.now ≡ false → IsSome (D.state d.old).view.now
-        → IsAlikeAt (λ n. n ≡ name.now) (D.state d.old).view → IsAlikeAt (λ n. n ≡ name.now) (D.state d.new).view) }
+    ensures lasts { OnOk result (KeepsMember name.now (D.state d.old).view (D.state d.new).view) }
     ensures untold { (D.state d.old).view.now ≡ None → (D.state d.new).view.now ≡ None }
     ensures only { ChangesOnly (λ n. (n ≡ temporary.now) ⊎ (n ≡ name.now)) (D.state d.old).view (D.state d.new).view }
     ensures frame { Frame (D.state d.old) (D.state d.new) }
@@ -67,13 +65,9 @@ fn mend<D: Disk>(
 // Gives each member the text, where it hasn't it, the main one first.
 fn mend_both<D: Disk>(alloc: Global, d: &mut D, name: &str, text: &[u8]) -> Result<(), SaveFault>
     requires { IsMemberName name.now }
-    ensures crash { is_loose (D.state d.old).view name.now ≡ false
-        → is_loose (D.state d.old).view (copy_of name.now) ≡ false
-        → Crash (SomeOf (member_writes name.now text.now)) (D.state d.old).view (D.state d.new).view }
-    ensures now_part { NowGoes (SomeOf (member_writes name.now text.now)) (D.state d.old).view.now
-        (D.state d.new).view.now }
-    ensures mended { OnOk result
-        (IfSome (D.state d.new).view.now (λ f. (f name.now ≡ Some text.now) × (f (copy_of name.now) ≡ Some text.now))) }
+    ensures crash { MendsBoth name.now text.now (D.state d.old).view (D.state d.new).view }
+    ensures now_part { MendsNow name.now text.now (D.state d.old).view (D.state d.new).view }
+    ensures mended { OnOk result (IfSome (D.state d.new).view.now (AreBoth name.now text.now)) }
     ensures lasts { OnOk result (KeepsMembers name.now (D.state d.old).view (D.state d.new).view) }
     ensures only { ChangesOnly (IsOfPair name.now) (D.state d.old).view (D.state d.new).view }
     ensures frame { Frame (D.state d.old) (D.state d.new) }
@@ -94,15 +88,10 @@ pub fn mend_pair<D: Disk, I: Info>(
 ) -> Result<(), SaveFault>
     requires named { IsMemberName name.now }
     requires valid { I.is_valid value.now }
-    ensures crash { is_loose (D.state d.old).view name.now ≡ false
-        → is_loose (D.state d.old).view (copy_of name.now) ≡ false
-        → Crash (SomeOf (member_writes name.now (info_text (I.sections value.now)))) (D.state d.old).view
-        (D.state d.new).view }
-    ensures now_part { NowGoes (SomeOf (member_writes name.now (info_text (I.sections value.now))))
-        (D.state d.old).view.now (D.state d.new).view.now }
+    ensures crash { MendsBoth name.now (info_text (I.sections value.now)) (D.state d.old).view (D.state d.new).view }
+    ensures now_part { MendsNow name.now (info_text (I.sections value.now)) (D.state d.old).view (D.state d.new).view }
     ensures mended { OnOk result
-        (IfSome (D.state d.new).view.now (λ f. (f name.now ≡ Some (info_text (I.sections value.now)))
-        × (f (copy_of name.now) ≡ Some (info_text (I.sections value.now))))) }
+        (IfSome (D.state d.new).view.now (AreBoth name.now (info_text (I.sections value.now)))) }
     ensures lasts { OnOk result (KeepsMembers name.now (D.state d.old).view (D.state d.new).view) }
     ensures only { ChangesOnly (IsOfPair name.now) (D.state d.old).view (D.state d.new).view }
     ensures frame { Frame (D.state d.old) (D.state d.new) }
@@ -118,23 +107,17 @@ pub fn heal_pair<D: Disk, I: ReadInfo>(alloc: Global, d: &mut D, name: &str) -> 
     ensures found { IfOk result (λ v. IfSome (D.state d.old).view.now (λ f. PairIs I.IsText f name.now (I.value v))) }
     ensures valid { IfOk result (λ v. I.is_valid v) }
     ensures within { IfOk result (λ v. length (I.text (I.value v)) ≤ I.limit) }
-    ensures healed { IfOk result
-        (λ v. IfSome (D.state d.new).view.now (λ f. (f name.now ≡ Some (I.text (I.value v)))
-        × (f (copy_of name.now) ≡ Some (I.text (I.value v))))) }
+    ensures healed { IfOk result (λ v. IfSome (D.state d.new).view.now (AreBoth name.now (I.text (I.value v)))) }
     // No stop takes them away.
     ensures lasts { OnOk result (KeepsMembers name.now (D.state d.old).view (D.state d.new).view) }
     ensures now_part { (v : I.Value) → IfSome (D.state d.old).view.now (λ f. PairIs I.IsText f name.now v)
-        → NowGoes (SomeOf (member_writes name.now (I.text v))) (D.state d.old).view.now (D.state d.new).view.now }
+        → MendsNow name.now (I.text v) (D.state d.old).view (D.state d.new).view }
     ensures crash { (v : I.Value) → IfSome (D.state d.old).view.now (λ f. PairIs I.IsText f name.now v)
-        → is_loose (D.state d.old).view name.now ≡ false → is_loose (D.state d.old).view (copy_of name.now) ≡ false
-        → Crash (SomeOf (member_writes name.now (I.text v))) (D.state d.old).view (D.state d.new).view }
-    ensures refused { IfErr result
-        (λ e. IfRefused e (((D.state d.new).view.now ≡ (D.state d.old).view.now)
-        × Rests (D.state d.old).view (D.state d.new).view)) }
+        → MendsBoth name.now (I.text v) (D.state d.old).view (D.state d.new).view }
+    ensures refused { IfErr result (λ e. IfRefused e (OnlyRead (D.state d.old).view (D.state d.new).view)) }
     // Where the pair has no value, only was read.
     ensures idle { ((v : I.Value) → IfSome (D.state d.old).view.now (λ f. ¬ PairIs I.IsText f name.now v))
-        → IsSome (D.state d.old).view.now → ((D.state d.new).view.now ≡ (D.state d.old).view.now)
-        × Rests (D.state d.old).view (D.state d.new).view }
+        → IsSome (D.state d.old).view.now → OnlyRead (D.state d.old).view (D.state d.new).view }
     ensures told { IsSome (D.state d.old).view.now → IsSome (D.state d.new).view.now }
     ensures only { ChangesOnly (IsOfPair name.now) (D.state d.old).view (D.state d.new).view }
     ensures frame { Frame (D.state d.old) (D.state d.new) }

@@ -1,14 +1,11 @@
 // An info file is saved.
 ghost use Rattle.std.specs.Prelude.{◌≡◌, ◌≤◌, false, IfOk, OnOk, IsErrOf, length};
 ghost use Rattle.pgb_outside.specs.States.{Frame};
-ghost use Rattle.pgb_outside.specs.Moments.{is_loose};
-ghost use Rattle.pgb_outside.specs.Crash.{Crash, Ends, NowGoes, FirstOf, AllOf};
 ghost use Rattle.pgb_outside.specs.Cause.{Rises};
 ghost use Rattle.pgb_disk.specs.Store.{ChangesOnly};
-ghost use Rattle.pgb_model.specs.Names.{copy_of};
 ghost use Rattle.pgb_model.specs.InfoText.{info_text};
-ghost use Rattle.pgb_model.specs.Create.{member_writes};
 ghost use Rattle.pgb_pair.specs.Member.{IsMemberName, IsOfPair};
+ghost use Rattle.pgb_pair.specs.Writes.{SavesBoth, EndsBoth, SavesNow, EndsNow};
 
 use crate::fault::SaveFault;
 use crate::members::save_text;
@@ -37,19 +34,11 @@ pub fn save_pair<D: Disk, I: Info>(
     requires named { IsMemberName name.now }
     requires valid { I.is_valid value.now }
     requires within { length (info_text (I.sections value.now)) ≤ I.limit }
-    ensures crash { is_loose (D.state d.old).view name.now ≡ false
-        → is_loose (D.state d.old).view (copy_of name.now) ≡ false
-        → Crash (FirstOf (member_writes name.now (info_text (I.sections value.now)))) (D.state d.old).view
-        (D.state d.new).view }
-    ensures whole { OnOk result (is_loose (D.state d.old).view name.now ≡ false
-        → is_loose (D.state d.old).view (copy_of name.now) ≡ false
-        → Ends (AllOf (member_writes name.now (info_text (I.sections value.now)))) (D.state d.old).view
-        (D.state d.new).view) }
-    ensures now_part { NowGoes (FirstOf (member_writes name.now (info_text (I.sections value.now))))
-        (D.state d.old).view.now (D.state d.new).view.now }
-    ensures now_whole { OnOk result
-        (NowGoes (AllOf (member_writes name.now (info_text (I.sections value.now)))) (D.state d.old).view.now
-        (D.state d.new).view.now) }
+    ensures crash { SavesBoth name.now (info_text (I.sections value.now)) (D.state d.old).view (D.state d.new).view }
+    ensures whole { OnOk result
+        (EndsBoth name.now (info_text (I.sections value.now)) (D.state d.old).view (D.state d.new).view) }
+    ensures now_part { SavesNow name.now (info_text (I.sections value.now)) (D.state d.old).view (D.state d.new).view }
+    ensures now_whole { OnOk result (EndsNow name.now (info_text (I.sections value.now)) (D.state d.old).view (D.state d.new).view) }
     ensures only { ChangesOnly (IsOfPair name.now) (D.state d.old).view (D.state d.new).view }
     ensures frame { Frame (D.state d.old) (D.state d.new) }
     ensures cause { IsErrOf result SaveFault.Disk → Rises (D.state d.old).faults (D.state d.new).faults }

@@ -4,6 +4,7 @@ use Rattle.std.specs.List.{flat_map}
 use Rattle.pgb_model.specs.declared.labels.Label.{Label}
 use Rattle.pgb_model.specs.Names.{label_text}
 use Rattle.pgb_model.specs.Text.{Text}
+use Rattle.pgb_stage.specs.Texts.{history_text}
 use Rattle.pgb_prune.specs.declared.fault.PruneFault.{PruneFault}
 use Rattle.pgb_prune.specs.declared.fault.PruneFault.TheVariants.{HistoryDiffers}
 use Rattle.pgb_prune.specs.declared.fault.BehindFault.{BehindFault}
@@ -30,7 +31,7 @@ abbrev pub prune_status : PruneFault → ℕ
 prune_status (HistoryDiffers at) = 101
 
 abbrev pub prune_message : PruneFault → Text
-prune_message (HistoryDiffers at) = codes "archive history and backup history differ at " ++ decimal at
+prune_message (HistoryDiffers at) = history_text at
 
 -- of the expiry behind a backup
 abbrev pub behind_status : BehindFault → ℕ

@@ -3,7 +3,7 @@ ghost use Rattle.std.specs.Prelude.{◌≡◌, IfOk};
 ghost use Rattle.pgb_prune.specs.Texts.{prune_status, prune_message, behind_status, behind_message};
 
 use crate::fault::{BehindFault, PruneFault};
-use pgb_stage::bytes_of;
+use pgb_stage::{bytes_of, history_text};
 use pgb_text::NoMemory;
 use std::alloc::Global;
 
@@ -21,9 +21,7 @@ pub fn prune_message(alloc: Global, fault: &PruneFault) -> Result<Vec<u8>, NoMem
     ensures { IfOk result (λ line. line.items ≡ prune_message fault.now) }
 {
     match fault {
-        PruneFault::HistoryDiffers { at } => bytes_of(format!(in alloc;
-            "archive history and backup history differ at {at}"
-        )),
+        PruneFault::HistoryDiffers { at } => history_text(alloc, *at),
     }
 }
 

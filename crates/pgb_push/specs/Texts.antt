@@ -2,7 +2,7 @@
 use Rattle.std.specs.Prelude.{ℕ, ◌++◌, codes, decimal, Option, Some, None, string_bytes}
 use Rattle.pgb_text.specs.Sum.{sum_text}
 use Rattle.pgb_model.specs.Text.{Text}
-use Rattle.pgb_stage.specs.Texts.{shown, long_text, mismatch_text}
+use Rattle.pgb_stage.specs.Texts.{shown, long_text, mismatch_text, twice_text}
 use Rattle.pgb_push.specs.declared.fault.PushFault.{PushFault}
 use Rattle.pgb_push.specs.declared.fault.PushFault.TheVariants.{SegmentName, PathOutside, StanzaMismatch, SegmentMissing, TooLong, HeaderForm, SegmentSize, HeaderMismatch, Ambiguous, Duplicate}
 
@@ -30,8 +30,7 @@ push_message (SegmentSize told found) =
     codes "segment size " ++ (decimal told ++ (codes ", found " ++ (decimal found ++ codes " bytes")))
 push_message (HeaderMismatch kept found) =
     codes "stanza has system " ++ (decimal kept ++ (codes ", WAL has system " ++ decimal found))
-push_message (Ambiguous first second) =
-    codes "'" ++ (string_bytes first ++ (codes "' and '" ++ (string_bytes second ++ codes "' are both stored")))
+push_message (Ambiguous first second) = twice_text (string_bytes first) (string_bytes second)
 push_message (Duplicate kept found) =
     codes "archived with checksum " ++ (sum_text kept.0 ++ (codes ", now " ++ sum_text found.0))
 

@@ -4,7 +4,7 @@ ghost use Rattle.pgb_text.specs.Sum.{sum_text};
 ghost use Rattle.pgb_push.specs.Texts.{push_status, push_message, content_text};
 
 use crate::fault::PushFault;
-use pgb_stage::{bytes_of, long_text, mismatch_text, quoted};
+use pgb_stage::{long_text, mismatch_text, quoted, twice_text};
 use pgb_text::{NoMemory, Sum};
 use std::alloc::Global;
 
@@ -71,9 +71,7 @@ pub fn push_message(alloc: Global, fault: &PushFault) -> Result<Vec<u8>, NoMemor
         PushFault::StanzaMismatch { kept, found } => mismatch_text(alloc, kept, found),
         PushFault::SegmentMissing { path } => quoted(alloc, "'", path, "' is missing"),
         PushFault::TooLong { name, limit } => long_text(alloc, name, *limit),
-        PushFault::Ambiguous { first, second } => bytes_of(format!(in alloc;
-            "'{first}' and '{second}' are both stored"
-        )),
+        PushFault::Ambiguous { first, second } => twice_text(alloc, first, second),
         PushFault::HeaderForm { .. }
         | PushFault::SegmentSize { .. }
         | PushFault::HeaderMismatch { .. }

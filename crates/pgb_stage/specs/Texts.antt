@@ -8,7 +8,7 @@ use Rattle.pgb_stanza.specs.declared.fault.Identity.{Identity}
 use Rattle.pgb_stage.specs.declared.object.Object.{Object}
 use Rattle.pgb_stage.specs.declared.object.Object.TheVariants.{Repo, Spool, DataFolder, Server, Others, Clock, Locks, Config, Output}
 use Rattle.pgb_stage.specs.declared.fault.Unbuilt.{Unbuilt}
-use Rattle.pgb_stage.specs.declared.fault.Unbuilt.TheVariants.{Command, Background, Delta, Bundles, Expiry}
+use Rattle.pgb_stage.specs.declared.fault.Unbuilt.TheVariants.{Command, Background, Bundles}
 use Rattle.pgb_stage.specs.declared.fault.ControlFile.{ControlFile}
 use Rattle.pgb_stage.specs.declared.fault.ControlFile.TheVariants.{Control, Version}
 use Rattle.pgb_stage.specs.declared.fault.StageFault.{StageFault}
@@ -44,6 +44,14 @@ identity_text i = codes "system " ++ (decimal i.system ++ (codes " version " ++ 
 abbrev pub mismatch_text : Identity → Identity → Text
 mismatch_text kept found = codes "stanza has " ++ (identity_text kept ++ (codes ", data folder has " ++ identity_text found))
 
+-- pairs whose histories differ
+abbrev pub history_text : ℕ → Text
+history_text at = codes "archive history and backup history differ at " ++ decimal at
+
+-- a file of the log that is stored twice
+abbrev pub twice_text : Text → Text → Text
+twice_text first second = codes "'" ++ (first ++ (codes "' and '" ++ (second ++ codes "' are both stored")))
+
 -- a file that is too long
 abbrev pub long_text : Text → ℕ → Text
 long_text name limit = codes "'" ++ (shown name ++ (codes "' is longer than " ++ decimal limit))
@@ -66,9 +74,7 @@ stage_status (InfoDamaged name main copy) = 22
 abbrev pub part_name : Unbuilt → Text
 part_name (Command verb) = verb_word verb
 part_name Background = codes "archive-async"
-part_name Delta = codes "delta"
 part_name Bundles = codes "repo1-bundle"
-part_name Expiry = codes "expire-auto"
 
 abbrev pub file_text : ControlFile → Text
 file_text Control = codes "global/pg_control"

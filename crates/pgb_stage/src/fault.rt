@@ -10,12 +10,8 @@ pub enum Unbuilt {
     Command(Verb),
     /// archive-push and archive-get in the background
     Background,
-    /// a backup that compares digests
-    Delta,
     /// a backup that joins small files
     Bundles,
-    /// an expiry behind a backup
-    Expiry,
 }
 
 /// A file that tells the cluster.

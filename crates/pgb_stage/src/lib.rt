@@ -25,6 +25,6 @@ pub use outcome::Outcome;
 pub use plan::{Pairs, Plan, Settling};
 pub use reading::read_front;
 pub use texts::{
-    bytes_of, damage_text, damaged_text, long_text, mismatch_text, object_message, object_status,
-    push_shown, quoted, stage_message, stage_status,
+    bytes_of, damage_text, damaged_text, history_text, long_text, mismatch_text, object_message, object_status,
+    push_shown, quoted, stage_message, stage_status, twice_text,
 };

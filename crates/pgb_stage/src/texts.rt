@@ -1,6 +1,6 @@
 // The status and the message of each refusal before a command's own part, and texts that messages of commands share.
 ghost use Rattle.std.specs.Prelude.{◌≡◌, ◌++◌, codes, decimal, IfOk, IsOkAnd, OnOk, string_bytes};
-ghost use Rattle.pgb_stage.specs.Texts.{shown, shown_byte, part_name, file_text, member_text, damage_text, damaged_text, identity_text, mismatch_text, long_text, stage_status, stage_message, object_status, object_message};
+ghost use Rattle.pgb_stage.specs.Texts.{shown, shown_byte, part_name, file_text, member_text, damage_text, damaged_text, identity_text, mismatch_text, history_text, twice_text, long_text, stage_status, stage_message, object_status, object_message};
 
 use crate::fault::{ControlFile, StageFault, Unbuilt};
 use crate::object::Object;
@@ -16,9 +16,7 @@ fn part_name(what: Unbuilt) -> &'static str
     match what {
         Unbuilt::Command(verb) => verb_word(verb),
         Unbuilt::Background => "archive-async",
-        Unbuilt::Delta => "delta",
         Unbuilt::Bundles => "repo1-bundle",
-        Unbuilt::Expiry => "expire-auto",
     }
 }
 
@@ -123,6 +121,20 @@ pub fn long_text(alloc: Global, name: &str, limit: u64) -> Result<Vec<u8>, NoMem
 {
     let end = format!(in alloc; "' is longer than {limit}")?;
     quoted(alloc, "'", name, &end)
+}
+
+/// The message of pairs whose histories differ at this place.
+pub fn history_text(alloc: Global, at: u32) -> Result<Vec<u8>, NoMemory>
+    ensures { IfOk result (λ line. line.items ≡ history_text at) }
+{
+    bytes_of(format!(in alloc; "archive history and backup history differ at {at}"))
+}
+
+/// The message of a file of the log that is stored twice.
+pub fn twice_text(alloc: Global, first: &str, second: &str) -> Result<Vec<u8>, NoMemory>
+    ensures { IfOk result (λ line. line.items ≡ twice_text first.now second.now) }
+{
+    bytes_of(format!(in alloc; "'{first}' and '{second}' are both stored"))
 }
 
 /// The message of a data folder of another cluster than the stanza's.

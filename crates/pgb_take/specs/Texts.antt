@@ -3,7 +3,7 @@ use Rattle.std.specs.Prelude.{ℕ, ◌++◌, codes, decimal, string_bytes}
 use Rattle.pgb_model.specs.declared.labels.Label.{Label}
 use Rattle.pgb_model.specs.Names.{label_text}
 use Rattle.pgb_model.specs.Text.{Text}
-use Rattle.pgb_stage.specs.Texts.{shown, long_text, mismatch_text}
+use Rattle.pgb_stage.specs.Texts.{shown, history_text, long_text, mismatch_text}
 use Rattle.pgb_take.specs.declared.fault.TakeFault.{TakeFault}
 use Rattle.pgb_take.specs.declared.fault.TakeFault.TheVariants.{HistoryDiffers, StanzaMismatch, Running, TooMany, WorkersLost, ClockBehind, LinkFound, NameRefused, ListingUnordered, ControlMissing, Unread, TooLong}
 
@@ -26,7 +26,7 @@ take_status (Unread path) = 56
 take_status (TooLong name limit) = 70
 
 abbrev pub take_message : TakeFault → Text
-take_message (HistoryDiffers at) = codes "archive history and backup history differ at " ++ decimal at
+take_message (HistoryDiffers at) = history_text at
 take_message (StanzaMismatch kept found) = mismatch_text kept found
 take_message Running = codes "postmaster.pid is there"
 take_message (TooMany limit) = codes "more than " ++ decimal limit

@@ -3,7 +3,7 @@ ghost use Rattle.std.specs.Prelude.{◌≡◌, IfOk};
 ghost use Rattle.pgb_take.specs.Texts.{take_status, take_message};
 
 use crate::fault::TakeFault;
-use pgb_stage::{bytes_of, long_text, mismatch_text, quoted};
+use pgb_stage::{bytes_of, history_text, long_text, mismatch_text, quoted};
 use pgb_text::NoMemory;
 use std::alloc::Global;
 
@@ -32,9 +32,7 @@ pub fn take_message(alloc: Global, fault: &TakeFault) -> Result<Vec<u8>, NoMemor
     ensures { IfOk result (λ line. line.items ≡ take_message fault.now) }
 {
     match fault {
-        TakeFault::HistoryDiffers { at } => bytes_of(format!(in alloc;
-            "archive history and backup history differ at {at}"
-        )),
+        TakeFault::HistoryDiffers { at } => history_text(alloc, *at),
         TakeFault::StanzaMismatch { kept, found } => mismatch_text(alloc, kept, found),
         TakeFault::Running => bytes_of(String::from_str(alloc, "postmaster.pid is there")),
         TakeFault::TooMany { limit } => bytes_of(format!(in alloc; "more than {limit}")),

@@ -73,6 +73,18 @@ Step old (Lose link) new = ((job : ℕ) × Has old link job × (new ≡ after_lo
 abbrev pub NoneWaits : Dispatch → Type 0
 NoneWaits s = (k : ℕ) → Waits s k → ⊥
 
+-- no job is with a link
+abbrev pub NoneIsWith : Dispatch → Type 0
+NoneIsWith s = (job link : ℕ) → slice_get s.jobs job ≡ Some (With link) → ⊥
+
+-- this job waits, and none below it does
+abbrev pub IsFirst : List JobPlace → ℕ → Type 0
+IsFirst jobs job = (slice_get jobs job ≡ Some Waiting) × ((k : ℕ) → k < job → slice_get jobs k ≡ Some Waiting → ⊥)
+
+-- the link of this number has this job
+abbrev pub HasJob : List LinkPlace → ℕ → ℕ → Type 0
+HasJob links link job = slice_get links link ≡ Some (Busy job)
+
 -- each job has ended
 abbrev pub AllEnded : List JobPlace → Type 0
 AllEnded jobs = (k : ℕ) → k < length jobs → slice_get jobs k ≡ Some Ended

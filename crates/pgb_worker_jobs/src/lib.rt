@@ -8,7 +8,7 @@
 #![tactic(auto)]
 
 ghost use Rattle.std.specs.Prelude.{false, ◌≡◌, ℕ, ◌^◌, ◌<◌, ◌≤◌, [], length, IfOk, IfSome, IfNone, IsTrue, ◌↔◌, if◌then◌else◌, slice_get, Some};
-ghost use Rattle.pgb_worker_jobs.specs.Dispatch.{start, Waits, IsIdle, Has, IsLowest, after_give, after_end, after_lose, after_lose_idle, IsBusy, IsLive, Step, NoneWaits, AllEnded};
+ghost use Rattle.pgb_worker_jobs.specs.Dispatch.{start, Waits, IsIdle, Has, IsLowest, after_give, after_end, after_lose, after_lose_idle, IsBusy, IsLive, Step, NoneWaits, NoneIsWith, IsFirst, HasJob, AllEnded};
 ghost use Rattle.pgb_worker_jobs.specs.Dispatch.Event.{Give, Hear, Lose};
 
 use std::alloc::{AllocError, Global};
@@ -118,8 +118,7 @@ impl Core {
     pub fn busy(&self, alloc: Global) -> Result<Vec<u32>, AllocError>
         ensures all { IfOk result (λ v. (k l : ℕ) → slice_get v.items k ≡ Some l → IsBusy self.now l) }
         ensures each { IfOk result (λ v. (l : ℕ) → IsBusy self.now l → (k : ℕ) × (slice_get v.items k ≡ Some l)) }
-        ensures with { IfOk result (λ v. v.items ≡ [] → (j l : ℕ) → slice_get self.now.jobs j ≡ Some (JobPlace.With l)
-            → ⊥) }
+        ensures with { IfOk result (λ v. v.items ≡ [] → NoneIsWith self.now) }
     {
         busy_links(alloc, &self.holders)
     }
@@ -193,8 +192,7 @@ fn all_ended(places: &Vec<JobPlace>) -> bool
 fn lowest(places: &Vec<JobPlace>, low: u32) -> Option<u32>
     requires few { length places.now.items < 2 ^ 32 }
     requires low { (k : ℕ) → k < low → slice_get places.now.items k ≡ Some JobPlace.Waiting → ⊥ }
-    ensures found { IfSome result (λ job. (slice_get places.now.items job ≡ Some JobPlace.Waiting)
-        × ((k : ℕ) → k < job → slice_get places.now.items k ≡ Some JobPlace.Waiting → ⊥)) }
+    ensures found { IfSome result (IsFirst places.now.items) }
     ensures none { IfNone result ((k : ℕ) → slice_get places.now.items k ≡ Some JobPlace.Waiting → ⊥) }
 {
     for i in low as usize..places.len() {
@@ -208,10 +206,10 @@ fn lowest(places: &Vec<JobPlace>, low: u32) -> Option<u32>
 /// The busy links.
 fn busy_links(alloc: Global, holders: &Vec<LinkPlace>) -> Result<Vec<u32>, AllocError>
     requires { length holders.now.items < 2 ^ 32 }
-    ensures all { IfOk result (λ v. (k l : ℕ) → slice_get v.items k ≡ Some l → (job : ℕ)
-        × (slice_get holders.now.items l ≡ Some (LinkPlace.Busy job))) }
-    ensures each { IfOk result (λ v. (l j : ℕ) → slice_get holders.now.items l ≡ Some (LinkPlace.Busy j) → (k : ℕ)
-        × (slice_get v.items k ≡ Some l)) }
+    ensures all { IfOk result
+        (λ v. (k l : ℕ) → slice_get v.items k ≡ Some l → (j : ℕ) × HasJob holders.now.items l j) }
+    ensures each { IfOk result
+        (λ v. (l j : ℕ) → HasJob holders.now.items l j → (k : ℕ) × (slice_get v.items k ≡ Some l)) }
 {
     let mut busy = Vec::new(alloc);
     for i in 0..holders.len() {
