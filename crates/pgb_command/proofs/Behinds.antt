@@ -310,7 +310,7 @@ module _ (a : Asked) (rules : Rules) (b m k : Seen) (server_same : k.server ≡ 
       later = later_on b m k h.later f.later;
     }
     full_followed (Ok (Absent name)) f = absurd f.adds
-    full_followed (Ok (FindingsFound more)) f = absurd f.adds
+    full_followed (Ok (FindingsFound more count)) f = absurd f.adds
     full_followed (Err (Behind told fault)) f = record {
       steps = full_steps (Err (Behind told fault), f) stopped (λ (at : stopped ≡ turned_back). cc) tt;
       promise = tt;
@@ -389,7 +389,7 @@ module _ (a : Asked) (rules : Rules) (b m k : Seen) (server_same : k.server ≡ 
       later = later_on b m k h.later f.later;
     }
     running_followed (Ok (Absent name)) f = absurd f.adds
-    running_followed (Ok (FindingsFound more)) f = absurd f.adds
+    running_followed (Ok (FindingsFound more count)) f = absurd f.adds
     running_followed (Err (Behind told fault)) f = record {
       steps = running_steps (Err (Behind told fault), f) stopped (λ (at : stopped ≡ turned_back). cc) tt;
       promise = tt;
@@ -462,11 +462,11 @@ unfinished_ran a kept b k r not h = by a.expires refl
     back rules (get name path) at x not ran = none_some rules at
     back rules (backup how) at (Ok (Finished lines)) not ran = absurd not
     back rules (backup how) at (Ok (Absent name)) not ran = absurd ran.promise.2.2
-    back rules (backup how) at (Ok (FindingsFound lines)) not ran = absurd ran.promise.2.2
+    back rules (backup how) at (Ok (FindingsFound lines count)) not ran = absurd ran.promise.2.2
     back rules (backup how) at (Err fault) not ran = full_stopped a rules b k how fault ran
     back rules (backup_running how) at (Ok (Finished lines)) not ran = absurd not
     back rules (backup_running how) at (Ok (Absent name)) not ran = absurd ran.promise.0.2
-    back rules (backup_running how) at (Ok (FindingsFound lines)) not ran = absurd ran.promise.0.2
+    back rules (backup_running how) at (Ok (FindingsFound lines count)) not ran = absurd ran.promise.0.2
     back rules (backup_running how) at (Err fault) not ran = running_stopped a rules b k how fault ran
     back rules (restore set how) at x not ran = none_some rules at
     back rules (report form) at x not ran = none_some rules at

@@ -269,7 +269,7 @@ module _ (b k : Seen) (n : ℕ) where
       go : (r : Result Outcome Fault) → IfErr r (Cause a b k) → IfErr r (Closes b k) → IsAnswered unknown b k r n → Said
       go (Ok (Finished lines)) cause closes t = told_as unknown b k (Ok (Finished lines)) n t (λ is. low 0 (omega arith) (subst IsServerRefusal is refusal)) (λ is rose. cut 87 (omega arith) is refusal) (λ is. cut 90 (omega arith) is refusal)
       go (Ok (Absent name)) cause closes t = told_as unknown b k (Ok (Absent name)) n t (λ is. low 1 (omega arith) (subst IsServerRefusal is refusal)) (λ is rose. cut 87 (omega arith) is refusal) (λ is. cut 90 (omega arith) is refusal)
-      go (Ok (FindingsFound lines)) cause closes t = told_as unknown b k (Ok (FindingsFound lines)) n t (λ is. between 65 (omega arith) (omega arith) (subst IsServerRefusal is refusal)) (λ is rose. cut 87 (omega arith) is refusal) (λ is. cut 90 (omega arith) is refusal)
+      go (Ok (FindingsFound lines count)) cause closes t = told_as unknown b k (Ok (FindingsFound lines count)) n t (λ is. between 65 (omega arith) (omega arith) (subst IsServerRefusal is refusal)) (λ is rose. cut 87 (omega arith) is refusal) (λ is. cut 90 (omega arith) is refusal)
       go (Err e) cause closes t = told_as unknown b k (Err e) n t (λ is. at_fault a e is refusal cause closes c.did.spares.others) (λ is rose. cut 87 (omega arith) is refusal) (λ is. cut 90 (omega arith) is refusal)
 
   pub closes_talk : (words : List Text) → Answers words b k n → ClosesTalk b k n

@@ -23,7 +23,7 @@ use Rattle.pgb_command.specs.Faults.{of_halt, lift}
 pub reached_same : {E : Type 0} (of : E → Fault) (early : E → Bool) → ((e : E) → is_early (of e) ≡ early e) → (r : Result Outcome (Halt E)) → reached_of (ending_of (lift (of_halt of) r)) ≡ reached_by early r
 reached_same of early same (Ok (Finished lines)) = refl
 reached_same of early same (Ok (Absent name)) = refl
-reached_same of early same (Ok (FindingsFound lines)) = refl
+reached_same of early same (Ok (FindingsFound lines count)) = refl
 reached_same of early same (Err (Refused e)) = ap back_if (same e)
 reached_same of early same (Err (HaltFailed object)) = refl
 reached_same of early same (Err HaltMemory) = refl

@@ -140,15 +140,15 @@ module _ (a : Asked) (b k : Seen) (n : ℕ) where
   reading_turns : ((command : Command) → command ≡ Reading → Taken command) → (command : Command) → command ≡ Reading → NotTaken command
   reading_turns steps command is = subst NotTaken (sym is) (steps Reading refl).part
 
-  told_back : (lines : String Global) → a.request ≡ examine → Did a b k (Ok (FindingsFound lines)) → TurnsBack a b k n
-  told_back lines is did = record {
+  told_back : (lines : String Global) (count : ℕ) → a.request ≡ examine → Did a b k (Ok (FindingsFound lines count)) → TurnsBack a b k n
+  told_back lines count is did = record {
     none = subst (λ (q : Request). On (manner_of a q (known b) (known k)) (λ command. Takes (plan_of q).settling a.stanza command to_end b.repo.view b.spool.view k.repo.view k.spool.view) → On (manner_of a q (known b) (known k)) NotTaken) (sym is) reading_turns did.steps;
     nodes = subst (λ (q : Request). FolderStays q n (k.tree.nodes ≡ b.tree.nodes)) (sym is) (subst (λ (q : Request). FolderGoes a q (known b) k.tree.nodes) is did.spares.folder);
     unmade = subst (λ (q : Request). OnCreate q (k.repo.view.now ≡ b.repo.view.now)) (sym is) tt;
   }
 
   back_by : (unknown : List Text) (ended : Result Outcome Fault) → Did a b k ended → IsAnswered unknown b k ended n → IsEarly a.request n → TurnsBack a b k n
-  back_by unknown (Ok (FindingsFound lines)) did t early = told_back lines (only_examines a a.request _ (known k) lines did.promise.2) did
+  back_by unknown (Ok (FindingsFound lines count)) did t early = told_back lines count (only_examines a a.request _ (known k) lines count did.promise.2) did
   back_by unknown (Ok (Finished lines)) did t early = refused_back unknown (Ok (Finished lines)) (λ e. e) did t early
   back_by unknown (Ok (Absent name)) did t early = refused_back unknown (Ok (Absent name)) (λ e. e) did t early
   back_by unknown (Err e) did t early = refused_back unknown (Err e) (λ x. x) did t early
@@ -218,7 +218,7 @@ module _ (b k : Seen) (n : ℕ) (whole : ¬ Failed b k Output) where
 
   ends_well : (unknown : List Text) (ended : Result Outcome Fault) → IfErr ended (λ e. (status_of e ≢ 90) → ⊥) → IsAnswered unknown b k ended n → EndsWell n ⊎ (n ≡ 90)
   ends_well unknown (Ok (Finished lines)) never t = told_as unknown b k (Ok (Finished lines)) n t (λ is. inl (inl (omega (arith, is)))) (λ is rose. absurd (whole rose)) (λ is. inr is)
-  ends_well unknown (Ok (FindingsFound lines)) never t = told_as unknown b k (Ok (FindingsFound lines)) n t (λ is. inl (inr is)) (λ is rose. absurd (whole rose)) (λ is. inr is)
+  ends_well unknown (Ok (FindingsFound lines count)) never t = told_as unknown b k (Ok (FindingsFound lines count)) n t (λ is. inl (inr is)) (λ is rose. absurd (whole rose)) (λ is. inr is)
   ends_well unknown (Ok (Absent name)) never t = told_as unknown b k (Ok (Absent name)) n t (λ is. inl (inl (omega (arith, is)))) (λ is rose. absurd (whole rose)) (λ is. inr is)
   ends_well unknown (Err e) never t = only_memory unknown e never t
 

@@ -422,7 +422,7 @@ restore_stays : (P : Type 0) (failed : Object → Type 0) → (failed TheServer 
     OnNone (reached_by recover_early r) (status (ending_of (lift of_recover r)) ≢ 55 → status (ending_of (lift of_recover r)) ≢ 56 → status (ending_of (lift of_recover r)) ≢ 63 → P)
 restore_stays P failed never why (Ok (Finished lines)) f cause h = tt
 restore_stays P failed never why (Ok (Absent name)) f cause h = absurd f
-restore_stays P failed never why (Ok (FindingsFound lines)) f cause h = absurd f
+restore_stays P failed never why (Ok (FindingsFound lines count)) f cause h = absurd f
 restore_stays P failed never why (Err (Refused e)) f cause h = λ a b c. h (first_leaves e a b c)
 restore_stays P failed never why (Err (HaltFailed object)) f cause h = go object cause
   where
@@ -443,13 +443,13 @@ restore_goes : (a : Asked) (label : Option Label) (how : RestoreHow) (old new : 
     (new.nodes ≡ old.nodes) ⊎ (HasNone control_path new.nodes ⊎ ((m : Manifest) × IfSome new.nodes (IsFinished a.stanza (take how.workers old.links) (options_by a.stanza how.delta how.recovery) m old.nodes)))
 restore_goes a label how old new (Ok (Finished lines)) ok err = inr (inr (ok.manifest, ok.finished))
 restore_goes a label how old new (Ok (Absent name)) ok err = absurd ok
-restore_goes a label how old new (Ok (FindingsFound lines)) ok err = absurd ok
+restore_goes a label how old new (Ok (FindingsFound lines count)) ok err = absurd ok
 restore_goes a label how old new (Err h) ok err = ⊎_elim (λ e. inl e) (λ n. inr (inl n)) err
 
 silent_ok : {X : Type 0} (P : Text → Type 0) (r : Result Outcome X) → IfOk r (λ o. OnFinished o P) → IfOk r (λ o. OnFinished o (λ lines. Unit {0}))
 silent_ok P (Ok (Finished lines)) h = tt
 silent_ok P (Ok (Absent name)) h = absurd h
-silent_ok P (Ok (FindingsFound lines)) h = absurd h
+silent_ok P (Ok (FindingsFound lines count)) h = absurd h
 silent_ok P (Err e) h = tt
 
 module _ (a : Asked) (b k : Seen) (rest : k ≡ record b { repo = k.repo; tree = k.tree; links = k.links }) (still : IsStill b.repo.view k.repo.view) (set : Option Text) (label : Option Label) (is_set : TellsSet set label) (how : RestoreHow)

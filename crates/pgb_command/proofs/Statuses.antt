@@ -89,7 +89,7 @@ over fault.NoMemory = omega arith
 
 pub zero_ends : (ended : Result Outcome Fault) → status (ending_of ended) ≡ 0 → reached_of (ending_of ended) ≡ to_end
 zero_ends (Ok (Finished lines)) is = refl
-zero_ends (Ok (FindingsFound lines)) is = refl
+zero_ends (Ok (FindingsFound lines count)) is = refl
 zero_ends (Ok (Absent name)) is = absurd (omega (arith, is))
 zero_ends (Err e) is = absurd (omega (arith, is, over e))
 
@@ -149,14 +149,14 @@ early_fault fault.NoMemory h = absurd (late 90 (omega arith) (omega arith) (λ e
 
 -- it ended well, and found what deviates
 abbrev pub Deviates : Result Outcome Fault → Type 0
-Deviates (Ok (FindingsFound lines)) = Unit {0}
+Deviates (Ok (FindingsFound lines count)) = Unit {0}
 Deviates other = ⊥
 
 any_ends : (ended : Result Outcome Fault) → ¬ Deviates ended → AnyEarly (status (ending_of ended)) → reached_of (ending_of ended) ≡ turned_back
 any_ends (Ok (Finished lines)) none (inl (inl a)) = absurd (omega (arith, a.0))
 any_ends (Ok (Finished lines)) none (inl (inr b)) = absurd (omega (arith, b.0))
 any_ends (Ok (Finished lines)) none (inr e) = absurd (omega (arith, e))
-any_ends (Ok (FindingsFound lines)) none h = absurd (none tt)
+any_ends (Ok (FindingsFound lines count)) none h = absurd (none tt)
 any_ends (Ok (Absent name)) none h = refl
 any_ends (Err e) none h = ap back_if (early_fault e h)
 

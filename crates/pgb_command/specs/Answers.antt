@@ -1,5 +1,5 @@
 -- The status and the output of each answer (own), by layers.
-use Rattle.std.specs.Prelude.{ℕ, ◌==◌, Bool, true, false, List, [], ◌∷◌, ◌++◌, ◌+◌, ◌/◌, ◌%◌, codes, decimal, string_bytes, Result, Ok, Err, if◌then◌else◌}
+use Rattle.std.specs.Prelude.{ℕ, Bool, true, false, List, [], ◌∷◌, ◌++◌, ◌+◌, ◌/◌, ◌%◌, codes, decimal, string_bytes, Result, Ok, Err, if◌then◌else◌}
 use Rattle.std.specs.List.{flat_map}
 use Rattle.pgb_model.specs.Text.{Text}
 use Rattle.pgb_options.specs.declared.usage.Usage.{Usage}
@@ -93,25 +93,25 @@ is_early NoMemory = false
 -- Ok with its lines, Ok with the lines of what deviates, that the archive has no such file, or a refusal
 pub data Ending : Type 0 where
   finished : (lines : Text) → Ending
-  deviating : (lines : Text) → Ending
+  deviating : (lines : Text) (count : ℕ) → Ending
   absent : (name : Text) → Ending
   refused : (fault : Fault) → Ending
 
 abbrev pub status : Ending → ℕ
 status (finished lines) = 0
-status (deviating lines) = 65
+status (deviating lines count) = 65
 status (absent name) = 1
 status (refused fault) = status_of fault
 
 abbrev pub reached_of : Ending → Reached
 reached_of (finished lines) = to_end
-reached_of (deviating lines) = to_end
+reached_of (deviating lines count) = to_end
 reached_of (absent name) = turned_back
 reached_of (refused fault) = back_if (is_early fault)
 
 abbrev pub ending_of : Result Outcome Fault → Ending
 ending_of (Ok (Finished lines)) = finished (string_bytes lines)
-ending_of (Ok (FindingsFound lines)) = deviating (string_bytes lines)
+ending_of (Ok (FindingsFound lines count)) = deviating (string_bytes lines) count
 ending_of (Ok (Absent name)) = absent (string_bytes name)
 ending_of (Err fault) = refused fault
 
@@ -180,14 +180,9 @@ abbrev pub lines_before : Fault → Text
 lines_before (Behind lines fault) = string_bytes lines
 lines_before other = []
 
--- how many lines a text has, each with its newline
-abbrev pub count_lines : Text → ℕ
-count_lines [] = 0
-count_lines (c ∷ cs) = (if c == 10 then 1 else 0) + count_lines cs
-
 -- a line a finding, and how many there are
-abbrev pub deviating_lines : Text → Text
-deviating_lines lines = lines ++ line_of 65 (decimal (count_lines lines) ++ codes " findings")
+abbrev pub deviating_lines : Text → ℕ → Text
+deviating_lines lines count = lines ++ line_of 65 (decimal count ++ codes " findings")
 
 -- what is told where the archive has no such file
 abbrev pub absent_line : Text → Text
@@ -199,7 +194,7 @@ unknown_line key = codes "WARN: configuration file contains unknown option '" ++
 
 abbrev pub ending_lines : Ending → Text
 ending_lines (finished lines) = lines
-ending_lines (deviating lines) = deviating_lines lines
+ending_lines (deviating lines count) = deviating_lines lines count
 ending_lines (absent name) = absent_line name
 ending_lines (refused fault) = lines_before fault ++ error_line fault
 

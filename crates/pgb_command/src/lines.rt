@@ -1,6 +1,6 @@
 // The lines that tell an answer.
 ghost use Rattle.std.specs.Prelude.{◌≡◌, ◌++◌, codes, decimal, IfOk, IsOkAnd, OnOk, string_bytes};
-ghost use Rattle.pgb_command.specs.Answers.{digits, line_of, status_of, usage_message, command_message, message_of, is_output, error_line, lines_before, count_lines, deviating_lines, absent_line, unknown_line};
+ghost use Rattle.pgb_command.specs.Answers.{digits, line_of, status_of, usage_message, command_message, message_of, is_output, error_line, lines_before, deviating_lines, absent_line, unknown_line};
 
 use crate::fault::{CommandFault, Fault, status};
 use pgb_create::create_message;
@@ -135,24 +135,10 @@ pub(crate) fn fault_lines(alloc: Global, fault: &Fault) -> Result<Vec<u8>, NoMem
     Ok(text)
 }
 
-// How many lines a text has.
-fn count_lines(text: &[u8]) -> usize
-    ensures { result ≡ count_lines text.now }
-{
-    let mut count = 0usize;
-    for byte in text {
-        if *byte == b'\n' {
-            count += 1;
-        }
-    }
-    count
-}
-
 /// The lines of what deviates, and how many there are.
-pub(crate) fn deviating_lines(alloc: Global, lines: &str) -> Result<Vec<u8>, NoMemory>
-    ensures { IfOk result (λ text. text.items ≡ deviating_lines lines.now) }
+pub(crate) fn deviating_lines(alloc: Global, lines: &str, count: usize) -> Result<Vec<u8>, NoMemory>
+    ensures { IfOk result (λ text. text.items ≡ deviating_lines lines.now count) }
 {
-    let count = count_lines(lines.as_bytes());
     let message = format!(in alloc; "{count} findings")?;
     let end = line_of(alloc, 65, message.as_bytes())?;
     let mut text = Vec::new(alloc);

@@ -41,7 +41,7 @@ fn lines_at_end(alloc: Global, ended: &Result<Outcome, Fault>) -> Result<Vec<u8>
 {
     match ended {
         Ok(Outcome::Finished { lines }) => bytes_of(alloc, lines),
-        Ok(Outcome::FindingsFound { lines }) => deviating_lines(alloc, lines),
+        Ok(Outcome::FindingsFound { lines, count }) => deviating_lines(alloc, lines, *count),
         Ok(Outcome::Absent { name }) => absent_line(alloc, name),
         Err(fault) => fault_lines(alloc, fault),
     }

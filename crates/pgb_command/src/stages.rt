@@ -327,7 +327,7 @@ impl<
                 None => Ok(Outcome::Finished { lines }),
             },
             Outcome::Absent { name } => Ok(Outcome::Absent { name }),
-            Outcome::FindingsFound { lines } => Ok(Outcome::FindingsFound { lines }),
+            Outcome::FindingsFound { lines, count } => Ok(Outcome::FindingsFound { lines, count }),
         }
     }
 

@@ -28,10 +28,11 @@ use Rattle.pgb_examine.specs.declared.fault.ExamineFault.TheVariants.{TooMany}
 abbrev pub finding_line : Finding → Text
 finding_line x = string_bytes x.name ++ (codes ": " ++ (string_bytes x.line ++ codes "\n"))
 
--- A command that found these ends with a line for each, and with none where nothing was found.
+-- A command that found these ends with a line for each and their number, and with none where nothing was found.
 abbrev pub EndsBy : List Finding → Outcome → Type 0
 EndsBy [] (Finished lines) = string_bytes lines ≡ []
-EndsBy (x ∷ xs) (FindingsFound lines) = string_bytes lines ≡ flat_map finding_line (x ∷ xs)
+EndsBy (x ∷ xs) (FindingsFound lines count) =
+    (string_bytes lines ≡ flat_map finding_line (x ∷ xs)) × (count ≡ length (x ∷ xs))
 EndsBy found outcome = ⊥
 
 -- exactly the ways in which the repository deviates are told, each once, in order

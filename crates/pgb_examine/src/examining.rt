@@ -47,7 +47,8 @@ fn outcome_of(alloc: Global, found: &[Finding]) -> Result<Outcome, AllocError>
     if found.is_empty() {
         Ok(Outcome::Finished { lines })
     } else {
-        Ok(Outcome::FindingsFound { lines })
+        let count = found.len();
+        Ok(Outcome::FindingsFound { lines, count })
     }
 }
 

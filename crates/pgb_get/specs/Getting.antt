@@ -219,10 +219,10 @@ GotBy stanza folder word path repo nodes now_nodes (Finished lines) =
     (string_bytes lines ≡ []) × Serves stanza folder word path repo nodes now_nodes
 GotBy stanza folder word path repo nodes now_nodes (Absent name) =
     (string_bytes name ≡ word) × IsMissing stanza folder word path repo nodes
-GotBy stanza folder word path repo nodes now_nodes (FindingsFound lines) = ⊥
+GotBy stanza folder word path repo nodes now_nodes (FindingsFound lines count) = ⊥
 
 -- the same, of the stanza that the repository stands for
 abbrev pub GivenBy : Stanza → Text → Text → Text → Option Nodes → Option Nodes → Outcome → Type 0
 GivenBy s folder word path nodes now_nodes (Finished lines) = ServesArchived s folder word path nodes now_nodes
 GivenBy s folder word path nodes now_nodes (Absent name) = LacksArchived s folder word path nodes
-GivenBy s folder word path nodes now_nodes (FindingsFound lines) = ⊥
+GivenBy s folder word path nodes now_nodes (FindingsFound lines count) = ⊥

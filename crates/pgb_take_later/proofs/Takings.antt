@@ -105,13 +105,13 @@ same_reach NoMemory = refl
 pub ok_reach : (o : Outcome) → reached_by take_early (let r : Result Outcome (Halt TakeFault) = Ok o in r) ≡ reached_by later_early (let r : Result Outcome (Halt LaterFault) = Ok o in r)
 ok_reach (Finished lines) = refl
 ok_reach (Absent name) = refl
-ok_reach (FindingsFound lines) = refl
+ok_reach (FindingsFound lines count) = refl
 
 -- what is told of a command's end
 pub on_finished : (P Q : Text → Type 0) (o : Outcome) → ((t : Text) → P t → Q t) → OnFinished o P → OnFinished o Q
 on_finished P Q (Finished lines) to h = to (string_bytes lines) h
 on_finished P Q (Absent name) to h = absurd h
-on_finished P Q (FindingsFound lines) to h = absurd h
+on_finished P Q (FindingsFound lines count) to h = absurd h
 
 -- ---- by the used links
 
