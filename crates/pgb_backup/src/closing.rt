@@ -33,6 +33,7 @@ pub struct Closed<'a> {
 fn stop_of<C: Clock>(clock: &mut C) -> Result<u64, MakeFault>
     ensures within { IfOk result (λ now. now ≤ last_second) }
     ensures later { (C.state clock.old).faults ≤ (C.state clock.new).faults }
+    ensures least { (C.state clock.old).least ≤ (C.state clock.new).least }
     ensures fault { IfErr result (λ e. StopFails e (C.state clock.old).faults (C.state clock.new).faults) }
 {
     match clock.now() {
@@ -48,6 +49,7 @@ pub fn close<'a, C: Clock>(clock: &mut C, fetched: Fetched<'a>) -> Result<Closed
     ensures closed { IfOk result IsClosed }
     ensures of { IfOk result (IsClosedOf fetched.entry None) }
     ensures later { (C.state clock.old).faults ≤ (C.state clock.new).faults }
+    ensures least { (C.state clock.old).least ≤ (C.state clock.new).least }
     ensures fault { IfErr result (λ e. StopFails e (C.state clock.old).faults (C.state clock.new).faults) }
 {
     let stop = stop_of(clock)?;
@@ -106,6 +108,7 @@ pub fn close_online<'a, D: Disk, C: Clock>(
     ensures beside { StaysBeside (fetched_draft fetched.entry).stanza.now (D.state d.old).view (D.state d.new).view }
     ensures frame { Frame (D.state d.old) (D.state d.new) }
     ensures later { (C.state clock.old).faults ≤ (C.state clock.new).faults }
+    ensures least { (C.state clock.old).least ≤ (C.state clock.new).least }
     ensures fault { IfErr result (λ e. CloseFails e (D.state d.old).faults (D.state d.new).faults
         (C.state clock.old).faults (C.state clock.new).faults) }
 {

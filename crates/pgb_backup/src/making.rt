@@ -42,6 +42,7 @@ pub fn make<D: Disk, L: Link, U: Turns, C: Clock>(
     ensures beside { StaysBeside draft.entry.stanza.now (D.state d.old).view (D.state d.new).view }
     ensures frame { Frame (D.state d.old) (D.state d.new) }
     ensures later { (C.state clock.old).faults ≤ (C.state clock.new).faults }
+    ensures least { (C.state clock.old).least ≤ (C.state clock.new).least }
 
     // Each link that was lost is told, and at Ok the others are left.
     ensures left { OnOk result (Left (jobs_in draft.entry) (map L.link_state links.old.items)

@@ -70,6 +70,7 @@ fn latest_in<D: Disk>(
 fn second_past<C: Clock>(clock: &mut C, latest: u64) -> Result<u64, SecondFault>
     ensures past { IfOk result (λ second. (latest < second) × (second ≤ last_second)) }
     ensures later { (C.state clock.old).faults ≤ (C.state clock.new).faults }
+    ensures least { (C.state clock.old).least ≤ (C.state clock.new).least }
     ensures fault { IfErr result (λ e. ClockFails e latest (C.state clock.old) (C.state clock.new)) }
 {
     let now = clock.now().map_err(clock_fault)?;
@@ -92,6 +93,7 @@ pub fn next_second<D: Disk, C: Clock>(
     ensures next { IfOk result (λ second. IsNext second (backup_info_of list.now)) }
     ensures looks { Looks (D.state d.old) (D.state d.new) }
     ensures later { (C.state clock.old).faults ≤ (C.state clock.new).faults }
+    ensures least { (C.state clock.old).least ≤ (C.state clock.new).least }
     ensures cause { IfErr result (λ e. SecondCause e (D.state d.old).faults (D.state d.new).faults
         (C.state clock.old) (C.state clock.new)) }
 {

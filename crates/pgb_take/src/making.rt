@@ -60,6 +60,7 @@ pub fn finish<D: Disk, L: Link, U: Turns, C: Clock>(
     ensures beside { StaysBeside draft.entry.stanza.now (D.state repo.old).view (D.state repo.new).view }
     ensures frame { Frame (D.state repo.old) (D.state repo.new) }
     ensures later { (C.state clock.old).faults ≤ (C.state clock.new).faults }
+    ensures least { (C.state clock.old).least ≤ (C.state clock.new).least }
     ensures cause { IfErr result (HaltCause
         (MakeCause draft.entry (map L.link_state links.old.items) lost.old.items)
         (rose_in (record none {

@@ -74,6 +74,7 @@ pub fn take_later<D: Disk, T: Tree, C: Clock, K: Locks, L: Link, U: Turns>(
     ensures frame { Frame (D.state repo.old) (D.state repo.new) }
     ensures looks { LooksAt (T.state tree.old) (T.state tree.new) }
     ensures later { (C.state clock.old).faults ≤ (C.state clock.new).faults }
+    ensures least { (C.state clock.old).least ≤ (C.state clock.new).least }
     ensures cause { IfErr result (HaltCause
         (LaterCause (record {
           stanza = stanza.now;
