@@ -1,12 +1,12 @@
 -- A running server's backup has a server to ask, and an expiry follows a backup alone.
 use Rattle.std.proofs.Common.{◌≡◌, Bool, true, false, List, Option, Some, None, Result, Ok, Err, refl, sym, ◌∙◌, ap}
-use Rattle.std.specs.Prelude.{if◌then◌else◌, ◌&&◌, is_some, is_none, map, option_map, string_bytes}
+use Rattle.std.specs.Prelude.{if◌then◌else◌, is_some, is_none, map, option_map, string_bytes}
 use Rattle.pgb_model.specs.Text.{Text}
 use Rattle.pgb_options.specs.declared.settle.Command.{Command}
 use Rattle.pgb_options.specs.Commands.{IsCommand}
 use Rattle.pgb_options.specs.Settings.{Settled}
 use Rattle.pgb_stage.specs.declared.fault.Unbuilt.{Unbuilt}
-use Rattle.pgb_stage.specs.declared.fault.Unbuilt.TheVariants.{Background, Delta as Digests, Bundles}
+use Rattle.pgb_stage.specs.declared.fault.Unbuilt.TheVariants.{Background, Bundles}
 use Rattle.pgb_table.specs.declared.table.Verb.{Verb}
 use Rattle.pgb_table.specs.declared.table.Verb.TheVariants.{StanzaCreate, ArchivePush, ArchivePushAsync, ArchiveGet, ArchiveGetAsync, Backup, Expire, Restore, Verify, Info, Rehearse}
 use Rattle.pgb_create.specs.declared.server.Server as code
@@ -40,7 +40,7 @@ ok_asks r how is = ok_same r (backup_running how) is
 
 module _ (m : Wanted) (how : RunningHow) where
   backup_online : Asks (backup_by m) how → m.online ≡ true
-  backup_online is = one_online m.online _ _ how (ok_asks (taken_by m) how (one_built m.bundles Bundles _ how (one_built (m.online && m.delta) Digests _ how is)))
+  backup_online is = one_online m.online _ _ how (ok_asks (taken_by m) how (one_built m.bundles Bundles _ how is))
 
   push_never : (path : Text) → Asks (if m.background then Err Background else Ok (push path)) how → ⊥
   push_never path is = let e = ok_asks (push path) how (one_built m.background Background _ how is) in cc

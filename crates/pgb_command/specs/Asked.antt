@@ -1,5 +1,5 @@
 -- What a command is told by its words and its configuration (pgBackRest command reference and configuration reference).
-use Rattle.std.specs.Prelude.{◌≡◌, ◌≤◌, ℕ, ◌^◌, Bool, true, false, List, [], ◌∷◌, length, Option, Some, None, Result, Ok, Err, IfSome, IsSome, if◌then◌else◌, ◌&&◌}
+use Rattle.std.specs.Prelude.{◌≡◌, ◌≤◌, ℕ, ◌^◌, Bool, true, false, List, [], ◌∷◌, length, Option, Some, None, Result, Ok, Err, IfSome, IsSome, if◌then◌else◌}
 use Rattle.pgb_outside.specs.Content.{Content}
 use Rattle.pgb_model.specs.declared.labels.Kind.{Kind}
 use Rattle.pgb_model.specs.Text.{Text}
@@ -21,7 +21,7 @@ use Rattle.pgb_recover.specs.Fetching.{RecoveryType}
 use Rattle.pgb_recover.specs.Fetching.RecoveryType.{Default as ToTheEnd, Without}
 use Rattle.pgb_retain.specs.declared.rules.Rules.{Rules}
 use Rattle.pgb_stage.specs.declared.fault.Unbuilt.{Unbuilt}
-use Rattle.pgb_stage.specs.declared.fault.Unbuilt.TheVariants.{Command, Background, Delta as Digests, Bundles}
+use Rattle.pgb_stage.specs.declared.fault.Unbuilt.TheVariants.{Command, Background, Bundles}
 
 -- ---- the configuration
 
@@ -111,7 +111,7 @@ taken_by m = if m.online then backup_running (record { taken = how_by m; fast = 
 
 -- a backup with nothing more; or what of it isn't built
 abbrev pub backup_by : Wanted → Result Request Unbuilt
-backup_by m = if m.online && m.delta then Err Digests else if m.bundles then Err Bundles else Ok (taken_by m)
+backup_by m = if m.bundles then Err Bundles else Ok (taken_by m)
 
 -- a recovery fetches the log by the configuration that the words name, if they name one
 abbrev pub recovery_for : RestoreWord → Option Text → RecoveryType

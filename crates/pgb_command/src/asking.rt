@@ -53,10 +53,6 @@ fn backup_request<'a>(options: &Options) -> Result<Request<'a>, Unbuilt>
     ensures asked { IfOk result (λ r. backup_by (wanted_told options.now) ≡ Ok (request_of r)) }
     ensures unbuilt { IfErr result (λ what. backup_by (wanted_told options.now) ≡ Err what) }
 {
-    let delta = options.delta;
-    if options.online && delta {
-        return Err(Unbuilt::Delta);
-    }
     if options.repo1_bundle {
         return Err(Unbuilt::Bundles);
     }
@@ -65,7 +61,7 @@ fn backup_request<'a>(options: &Options) -> Result<Request<'a>, Unbuilt>
         return Ok(Request::BackupRunning {
             workers: options.process_max,
             kind,
-            delta,
+            delta: options.delta,
             fast: options.start_fast,
             turns: options.archive_timeout,
         });
@@ -73,7 +69,7 @@ fn backup_request<'a>(options: &Options) -> Result<Request<'a>, Unbuilt>
     Ok(Request::Backup {
         workers: options.process_max,
         kind,
-        delta,
+        delta: options.delta,
     })
 }
 
