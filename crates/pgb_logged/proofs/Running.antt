@@ -6,11 +6,12 @@ use Rattle.std.specs.Result.{IsErrAnd, is_ok}
 use Rattle.pgb_outside.specs.Content.{Content}
 use Rattle.pgb_outside.specs.Moments.{View}
 use Rattle.pgb_outside.specs.Links.{LinkState}
+use Rattle.pgb_model.specs.declared.labels.Label.{Label}
 use Rattle.pgb_model.specs.declared.wal.WalPart.{WalPart}
 use Rattle.pgb_model.specs.Text.{Text, In}
 use Rattle.pgb_model.specs.Values.{BackupInfo, Manifest}
 use Rattle.pgb_model.specs.Repository.{Backup, File, Stanza, Repository, IsSound, IsSoundStanza, HasItsSegments, id_of}
-use Rattle.pgb_model.specs.Stands.{Stands, HasStanza}
+use Rattle.pgb_model.specs.Stands.{Stands, HasStanza, IsAncestor, IsListed}
 use Rattle.pgb_model.specs.Steps.{Step, Turn, Command, MakeBackup, ArchivePushAsync, AddBackup, Move, changed, after, all_of, steps_of, turn_moves, IsPartOf}
 use Rattle.pgb_model.specs.Log.{IsDone}
 use Rattle.pgb_model.specs.Now.{NowStands}
@@ -35,7 +36,7 @@ use Rattle.pgb_logged.proofs.Based.{BasedOn}
 use Rattle.pgb_logged.proofs.Reading.{StandsBeside, backup_made, online_read, label_there, no_files, no_files_left_beside}
 use Rattle.pgb_logged.proofs.Begun.{BeginsBackup, told_as, at_now, stanza_there, list_there, no_vacant, steady_list}
 use Rattle.pgb_logged.proofs.Behind.{moves_steady, moves_on, all_then, part_then, all_part, after_then, one_cluster}
-use Rattle.pgb_logged.proofs.Listed.{sound_with, made_stands, two_moves, made_steady}
+use Rattle.pgb_logged.proofs.Listed.{sound_with, made_stands, references_stand, two_moves, made_steady}
 use Rattle.pgb_logged.proofs.Unlisted.{unlisted_part}
 use Rattle.pgb_logged.proofs.Waited.{waits_moves, waits_steady, waits_sound, waited, list_waited, backups_waited}
 
@@ -407,11 +408,13 @@ module _ (one_list : OneList) (one_manifest : OneManifest) (draft : Draft) (a c 
 
       -- ---- at Ok
 
-      -- it has the draft's label, the part of the log, the server's label file and what the links read, and the repository has it behind what the turns pushed
+      -- it has the draft's label and choices, the part of the log, the server's label file and what the links read, it refers to listed backups before it, and the repository has it behind what the turns pushed
       pub record IsRunningAdded (b : Backup) : Type 0 where
         pub label : b.entry.label ≡ draft.label
         pub wal : b.wal ≡ Some o.part
         pub prior : b.entry.prior ≡ draft.prior
+        pub choices : b.choices ≡ draft.choices
+        pub refers : (s : Stanza) → IsSome a.now → NowStands (stanza_of draft) (Some s) a.now → (l : Label) → In l b.entry.references → IsAncestor s.backups l b × IsListed s.backups l
         pub read : IsReadOrLeftBeside links (Some o.label_file) (stanza_of draft) a.now b
         pub label_file : get b.files label_path ≡ Some (record { bytes = o.label_file; time = b.entry.stop })
         pub adds : (s : Stanza) → IsSome a.now → NowStands (stanza_of draft) (Some s) a.now → NowStands (stanza_of draft) (after (Some s) (all_of (steps_of (MakeBackup turns b None) (Some s)))) d.now
@@ -419,11 +422,18 @@ module _ (one_list : OneList) (one_manifest : OneManifest) (draft : Draft) (a c 
         pub db : b.entry.db ≡ draft.cluster.id
         pub archived : (s : Stanza) → IsSome a.now → NowStands (stanza_of draft) (Some s) a.now → (t : Stanza) → after (Some s) (all_of (steps_of (MakeBackup turns b None) (Some s))) ≡ Some t → Archives (id_of draft.cluster) o.part t
 
-      is_added : (makes : MakesOf draft (Some o) links true w d) → IsRunningAdded (backup_made draft (Some o) links true w d makes)
+      pub is_added : (makes : MakesOf draft (Some o) links true w d) → IsRunningAdded (backup_made draft (Some o) links true w d makes)
       is_added makes = record {
         label = ap (λ (m : Manifest). m.label) makes.manifest_is;
         wal = ap (λ (m : Manifest). m.wal) makes.manifest_is;
         prior = ap (λ (m : Manifest). m.prior) makes.manifest_is;
+        choices = ap (λ (m : Manifest). m.choices) makes.manifest_is;
+        refers = λ s some stands l at. (
+            let b = backup_made draft (Some o) links true w d makes in
+            let k = beside s some stands in
+            subst (λ (bs : List Backup). IsAncestor bs l b × IsListed bs l) k.same
+            (references_stand one_list one_manifest draft begins.is_draft (Some o) free links w d based true makes k.content k.is_content k.stanza k.list k.has l at)
+            );
         read = online_read draft begins.is_draft o free links true w d makes one_manifest based a.now beside;
         label_file = label_there draft begins.is_draft o free links true w d makes ∙ ap (λ (n : ℕ). (let v : Option File = Some (record { bytes = o.label_file; time = n }) in v)) (sym (ap (λ (m : Manifest). m.stop) makes.manifest_is));
         adds = λ s some stands. (
@@ -449,7 +459,3 @@ module _ (one_list : OneList) (one_manifest : OneManifest) (draft : Draft) (a c 
             (x.0, subst (λ (u : Stanza). In x.0 u.archived) same x.1, x.2, x.3)
             );
       }
-
-      pub adds_running : (r : Result (Unit {0}) MakeFault) → OutcomeOf r draft (Some o) links w d → is_ok r ≡ true → (b : Backup) × IsRunningAdded b
-      adds_running (Ok x) makes ok = (backup_made draft (Some o) links true w d makes, is_added makes)
-      adds_running (Err e) outcome ok = absurd (let u : ◌≡◌ {A = Bool} false true = ok in cc)
