@@ -91,8 +91,8 @@ pub fn pace(rt: HostRuntime, asked: &Asked) -> io::Result<Option<(u64, u128)>> {
     Ok(Some((bytes, begun.elapsed(&rt)?.as_micros())))
 }
 
-// Bytes that are summed at once.
-const PIECE: usize = 1 << 20;
+/// Bytes that are summed at once.
+pub const PIECE: usize = 1 << 20;
 
 /// How many microseconds one pass of SHA-1 takes over so many bytes in memory, in pieces of 1 MiB.
 pub fn sum_pace(rt: &HostRuntime, bytes: u64) -> io::Result<u128> {
