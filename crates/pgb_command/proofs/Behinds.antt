@@ -1,6 +1,6 @@
 -- What a backup did with the expiry that follows it, told of all objects.
 use Rattle.std.proofs.Common.{◌≡◌, ◌∷◌, List, Option, Some, None, Result, Ok, Err, IfOk, IfErr, refl, sym, subst, ap, ◌∙◌, arith, Bool, true, false}
-use Rattle.std.specs.Prelude.{ℕ, [], take, String, string_bytes, IfSome, IsErrAnd, IsSome, IsSomeAnd, OnOk}
+use Rattle.std.specs.Prelude.{ℕ, ◌≤◌, [], take, String, string_bytes, IfSome, IsErrAnd, IsSome, IsSomeAnd, OnOk}
 use Rattle.std.specs.declared.alloc.Global.{Global}
 use Rattle.pgb_outside.specs.Content.{Content}
 use Rattle.pgb_outside.specs.Links.{LinkState}
@@ -25,13 +25,14 @@ use Rattle.pgb_stage.specs.declared.outcome.Outcome.{Outcome}
 use Rattle.pgb_stage.specs.declared.outcome.Outcome.TheVariants.{Finished, Absent, FindingsFound}
 use Rattle.pgb_stage.specs.Plans.{AreHeld, backup_lock}
 use Rattle.pgb_stage.specs.Reached.{back_if}
-use Rattle.pgb_stage.specs.Runs.{Reached, to_end, turned_back, stopped, OnAll, DoesWhole, Runs}
+use Rattle.pgb_stage.specs.Runs.{Reached, to_end, turned_back, stopped, On, OnAll, DoesWhole, Runs}
 use Rattle.pgb_stage.specs.Seen.{Seen, Failed, AreLater}
 use Rattle.pgb_stage.proofs.Counts.{rises_from}
 use Rattle.pgb_logged.specs.Backups.{AddsBackup}
 use Rattle.pgb_take_later.specs.Kinds.{IsBackupBy}
 use Rattle.pgb_take_later.specs.Taken.{IsTaken}
 use Rattle.pgb_take_online.specs.Doing.{TakesTurns, IsOnlineBy}
+use Rattle.pgb_take_later.specs.declared.order.LaterOrder.{LaterOrder}
 use Rattle.pgb_take_online.specs.Taken.{TakesOnline, IsTakenOnline}
 use Rattle.pgb_take_online.proofs.Spools.{one_turns}
 use Rattle.pgb_retain.specs.declared.rules.FullRule.{FullRule}
@@ -47,7 +48,7 @@ use Rattle.pgb_command.specs.declared.fault.Fault.{Fault}
 use Rattle.pgb_command.specs.declared.fault.Fault.TheVariants.{Usage, Stage, Command as OfCommand, Behind, Failed as ObjectFailed, NoMemory}
 use Rattle.pgb_command.specs.Answers.{status, reached_of, ending_of, is_early}
 use Rattle.pgb_command.specs.Asked.{Request, create, push, get, backup, backup_running, restore, report, examine, expire, BackupHow, RunningHow, Asked, behind_backup, alone}
-use Rattle.pgb_command.specs.Tables.{Known, known, plan_of, ByOrder, OnCluster, TurnsTold, TellsLabel, IsRunningOf, heard_by, AsksBackup, WithExpiry, CommandCause}
+use Rattle.pgb_command.specs.Tables.{Known, known, plan_of, manner_of, ByOrder, OnCluster, TurnsTold, TellsLabel, IsRunningOf, heard_by, AsksBackup, WithExpiry, FolderGoes, CommandCause, OnBackup}
 use Rattle.pgb_command.specs.Did.{SamePlaces, Closes, OwnCause, Spares, Ran, Followed}
 use Rattle.pgb_command.proofs.Dids.{later_on}
 use Rattle.pgb_command.proofs.Ends.{expiry_as}
@@ -60,10 +61,11 @@ asking a q rules = record a { request = q; expires = rules }
 
 -- ---- by which moment
 
-pub any_moment : (rule : FullRule) (least moment : ℕ) → IsMoment rule least moment → IsMoment rule 0 moment
-any_moment Unset least moment h = h
-any_moment (Count n) least moment h = h
-any_moment (Days n) least moment h = omega arith
+-- what may be the moment may be it where the clock may tell less
+earlier_moment : (rule : FullRule) (first least moment : ℕ) → first ≤ least → IsMoment rule least moment → IsMoment rule first moment
+earlier_moment Unset first least moment le h = h
+earlier_moment (Count n) first least moment le h = h
+earlier_moment (Days n) first least moment le h = omega (arith, le, h)
 
 pub told_moment : (rule : FullRule) (old new : ClockState) (moment : ℕ) → TellsMoment rule old new moment → WasTold rule new moment
 told_moment Unset old new moment h = h
@@ -78,7 +80,7 @@ pub followed_well : (stanza : Text) (rules : Rules) (b k : Seen) (lines : Text) 
 followed_well stanza rules b k lines more r x is follows beside places later =
     let f = subst (λ (y : Result (Unit {0}) BehindFault). Follows stanza rules b.clock k.clock b.repo.view k.repo.view lines (string_bytes more) y) is follows in record {
       moment = f.moment;
-      may_be = any_moment rules.full b.clock.least f.moment f.may_be;
+      may_be = f.may_be;
       part = f.part;
       whole = f.whole;
       told = told_moment rules.full b.clock k.clock f.moment f.told;
@@ -96,7 +98,7 @@ pub followed_ill : (stanza : Text) (rules : Rules) (b k : Seen) (lines : Text) (
 followed_ill stanza rules b k lines told r fault is follows cause beside places later =
     let f = subst (λ (y : Result (Unit {0}) BehindFault). Follows stanza rules b.clock k.clock b.repo.view k.repo.view lines (string_bytes told) y) is follows in record {
       moment = f.moment;
-      may_be = any_moment rules.full b.clock.least f.moment f.may_be;
+      may_be = f.may_be;
       part = f.part;
       whole = tt;
       told = tt;
@@ -139,11 +141,11 @@ module _ (a : Asked) (how : RunningHow) (old new : Known) where
           (turns_of turned, x.0, x.1)
 
   -- the turns that it waited are those of its promise
-  running_sound : (stanza : Text) (told : Control) (lines : Text) (repo : Option Content) → TakesOnline stanza told how.taken.kind (heard_by old new told) (take how.taken.workers old.links) old.others.account new.others.account old.repo repo lines
+  running_sound : (stanza : Text) (told : Control) (o : LaterOrder) (lines : Text) (repo : Option Content) → TakesOnline stanza told o old.nodes (heard_by old new told) (take how.taken.workers old.links) old.others.account new.others.account old.repo repo lines
       → IsSomeAnd new.others.account (λ k. k.stanza ≡ stanza) → (command : Command) → IsRunningOf a how old new command → NowDoes stanza command true old.repo repo → StaysSound stanza command old.repo
-  running_sound stanza told lines repo taken there command is done = by new.others.account taken there is
+  running_sound stanza told o lines repo taken there command is done = by new.others.account taken there is
     where
-      by : (account : Option Account) → TakesOnline stanza told how.taken.kind (heard_by old new told) (take how.taken.workers old.links) old.others.account account old.repo repo lines → IsSomeAnd account (λ k. k.stanza ≡ stanza)
+      by : (account : Option Account) → TakesOnline stanza told o old.nodes (heard_by old new told) (take how.taken.workers old.links) old.others.account account old.repo repo lines → IsSomeAnd account (λ k. k.stanza ≡ stanza)
           → IsSomeAnd account (λ k. (turned : List Turned) × TakesTurns turned old.others.account k × (label : Option Text) × IfSome label (TellsLabel old new) × IsOnlineBy how.taken.kind (take how.taken.workers old.links) (turns_of turned) label a.stanza old.repo command)
           → StaysSound stanza command old.repo
       by None h of x = absurd of
@@ -151,7 +153,7 @@ module _ (a : Asked) (how : RunningHow) (old new : Known) where
           let x = online_made how.taken.kind (take how.taken.workers old.links) (turns_of turned) label a.stanza old.repo command is_of in
           let y = h of in
           let one = one_turns k old.others.account turned y.0 takes y.1 in
-          let t = subst (λ (ts : List Turned). IsTakenOnline stanza told how.taken.kind (heard_by old new told) (take how.taken.workers old.links) ts old.repo repo lines) one y.2 in
+          let t = subst (λ (ts : List Turned). IsTakenOnline stanza told o old.nodes (heard_by old new told) (take how.taken.workers old.links) ts old.repo repo lines) one y.2 in
           told_sound stanza (turns_of turned) t.backup old.repo repo t.adds.adds t.adds.sound x.0 command x.1 done
 
 -- ---- it ended without one
@@ -200,20 +202,22 @@ module _ (a : Asked) (rules : Rules) where
     running_cause how NoMemory h = h
 
     -- so a backup that was refused, or failed, had no expiry
-    full_stopped : (how : BackupHow) (fault : Fault) → Ran (asking a (backup how) None) b k (Err fault) → Ran (asking a (backup how) (Some rules)) b k (Err fault)
-    full_stopped how fault h = record {
-      steps = stopped_steps a.stanza rules (IsBackupBy how.kind (take how.workers b.links) a.stanza b.repo.view.now) (full_makes how.kind (take how.workers b.links) a.stanza b.repo.view.now) b.repo.view b.spool.view k.repo.view k.spool.view (back_if (is_early fault)) (back_not (is_early fault)) h.steps;
+    stopped_ran : (q : Request) (fault : Fault) → (TurnsTold (asking a q (Some rules)) q (known k) → TurnsTold (asking a q None) q (known k)) → (FolderGoes (asking a q None) q (known b) k.tree.nodes → FolderGoes (asking a q (Some rules)) q (known b) k.tree.nodes)
+        → On (manner_of (asking a q (Some rules)) q (known b) (known k)) (λ command. Runs (plan_of q).settling a.stanza command (back_if (is_early fault)) b.repo.view b.spool.view k.repo.view k.spool.view)
+        → OwnCause (asking a q (Some rules)) b k fault → Ran (asking a q None) b k (Err fault) → Ran (asking a q (Some rules)) b k (Err fault)
+    stopped_ran q fault told folder steps cause h = record {
+      steps = steps;
       promise = tt;
       lasts = tt;
-      cause = full_cause how fault h.cause;
+      cause = cause;
       healed = tt;
       spares = (let s = h.spares in record {
-        beside = s.beside;
-        spool = s.spool;
+        beside = λ t. s.beside (told t);
+        spool = λ t. s.spool (told t);
         pairs = s.pairs;
         expires = s.expires;
         reads = s.reads;
-        folder = s.folder;
+        folder = folder s.folder;
         nodes = s.nodes;
         unmade = s.unmade;
         quiet = s.quiet;
@@ -227,38 +231,29 @@ module _ (a : Asked) (rules : Rules) where
       later = h.later;
     }
 
+    full_stopped : (how : BackupHow) (fault : Fault) → Ran (asking a (backup how) None) b k (Err fault) → Ran (asking a (backup how) (Some rules)) b k (Err fault)
+    full_stopped how fault h =
+        let Is = IsBackupBy how.kind (take how.workers b.links) a.stanza b.repo.view.now in
+        stopped_ran (backup how) fault (λ t. t) (λ f. f)
+        (stopped_steps a.stanza rules b.clock.least Is (full_makes how.kind (take how.workers b.links) a.stanza b.repo.view.now) b.repo.view b.spool.view k.repo.view k.spool.view (back_if (is_early fault)) (back_not (is_early fault)) h.steps)
+        (full_cause how fault h.cause) h
+
     running_stopped : (how : RunningHow) (fault : Fault) → Ran (asking a (backup_running how) None) b k (Err fault) → Ran (asking a (backup_running how) (Some rules)) b k (Err fault)
-    running_stopped how fault h = record {
-      steps = λ told. stopped_steps a.stanza rules (IsRunningOf a how (known b) (known k)) (running_makes a how (known b) (known k)) b.repo.view b.spool.view k.repo.view k.spool.view (back_if (is_early fault)) (back_not (is_early fault)) (h.steps told);
-      promise = tt;
-      lasts = tt;
-      cause = running_cause how fault h.cause;
-      healed = tt;
-      spares = (let s = h.spares in record {
-        beside = s.beside;
-        spool = s.spool;
-        pairs = s.pairs;
-        expires = s.expires;
-        reads = s.reads;
-        folder = s.folder;
-        nodes = s.nodes;
-        unmade = s.unmade;
-        quiet = s.quiet;
-        others = s.others;
-        waits = s.waits;
-        workers = s.workers;
-        clock = s.clock;
-        closed = s.closed;
-      });
-      places = h.places;
-      later = h.later;
-    }
+    running_stopped how fault h =
+        let Is = IsRunningOf a how (known b) (known k) in
+        stopped_ran (backup_running how) fault (λ t. t) (λ f. f)
+        (λ told. stopped_steps a.stanza rules b.clock.least Is (running_makes a how (known b) (known k)) b.repo.view b.spool.view k.repo.view k.spool.view (back_if (is_early fault)) (back_not (is_early fault)) (h.steps told))
+        (running_cause how fault h.cause) h
 
 -- ---- it ended well, and an expiry followed
 
-module _ (a : Asked) (rules : Rules) (b m k : Seen) (server_same : k.server ≡ m.server) (others_same : k.others ≡ m.others) (spool_same : k.spool.view ≡ m.spool.view) (nodes_same : k.tree.nodes ≡ m.tree.nodes) where
+module _ (a : Asked) (rules : Rules) (b m k : Seen) (server_same : k.server ≡ m.server) (others_same : k.others ≡ m.others) (spool_same : k.spool.view ≡ m.spool.view) (nodes_same : k.tree.nodes ≡ m.tree.nodes) (le : b.clock.least ≤ m.clock.least) where
   later_all : AreLater b m → (object : Object) → Failed m k object → Failed b k object
   later_all first object rose = rises_from _ _ _ (first object) rose
+
+  -- none before the least second that the clock might tell at first
+  from_first : (moment : ℕ) → IsMoment rules.full m.clock.least moment → IsMoment rules.full b.clock.least moment
+  from_first moment h = earlier_moment rules.full b.clock.least m.clock.least moment le h
 
   places_on : SamePlaces b m → SamePlaces m k → SamePlaces b k
   places_on p q = record { repo = q.repo ∙ p.repo; tree = q.tree ∙ p.tree }
@@ -294,14 +289,14 @@ module _ (a : Asked) (rules : Rules) (b m k : Seen) (server_same : k.server ≡ 
     }
 
     full_steps : (f : (r : Result Outcome Fault) × Followed a.stanza rules m k (string_bytes lines) r) (reached : Reached) → ¬ (reached ≡ turned_back) → OnAll reached (DoesWhole Whole a.stanza (Expire (retention rules f.1.moment)) m.repo.view k.repo.view)
-        → (command : Command) × WithExpiry (Some rules) (IsBackupBy how.kind (take how.workers b.links) a.stanza b.repo.view.now) command × Runs Whole a.stanza command reached b.repo.view b.spool.view k.repo.view k.spool.view
-    full_steps f reached not all = followed_steps a.stanza rules (IsBackupBy how.kind (take how.workers b.links) a.stanza b.repo.view.now) (full_makes how.kind (take how.workers b.links) a.stanza b.repo.view.now) b.repo.view b.spool.view m.repo.view k.spool.view k.repo.view f.1.moment f.1.may_be reached not full_sound f.1.part all
-        (subst (λ (v : View). (command : Command) × WithExpiry None (IsBackupBy how.kind (take how.workers b.links) a.stanza b.repo.view.now) command × Runs Whole a.stanza command to_end b.repo.view b.spool.view m.repo.view v) (sym spool_same) h.steps)
+        → (command : Command) × WithExpiry (Some rules) b.clock.least (IsBackupBy how.kind (take how.workers b.links) a.stanza b.repo.view.now) command × Runs Whole a.stanza command reached b.repo.view b.spool.view k.repo.view k.spool.view
+    full_steps f reached not all = followed_steps a.stanza rules b.clock.least (IsBackupBy how.kind (take how.workers b.links) a.stanza b.repo.view.now) (full_makes how.kind (take how.workers b.links) a.stanza b.repo.view.now) b.repo.view b.spool.view m.repo.view k.spool.view k.repo.view f.1.moment (from_first f.1.moment f.1.may_be) reached not full_sound f.1.part all
+        (subst (λ (v : View). (command : Command) × WithExpiry None b.clock.least (IsBackupBy how.kind (take how.workers b.links) a.stanza b.repo.view.now) command × Runs Whole a.stanza command to_end b.repo.view b.spool.view m.repo.view v) (sym spool_same) h.steps)
 
     full_followed : (r : Result Outcome Fault) → Followed a.stanza rules m k (string_bytes lines) r → Ran (asking a (backup how) (Some rules)) b k r
     full_followed (Ok (Finished more)) f = record {
       steps = full_steps (Ok (Finished more), f) to_end (λ (at : to_end ≡ turned_back). cc) f.whole;
-      promise = record { repo = m.repo.view.now; lines = lines; was = full_taken; moment = f.moment; told = f.told; adds = f.adds };
+      promise = record { repo = m.repo.view.now; lines = lines; was = full_taken; moment = f.moment; may_be = from_first f.moment f.may_be; told = f.told; adds = f.adds };
       lasts = λ looked. tt;
       cause = tt;
       healed = record { agree = λ some x. any_some k.repo.view.now; lasts = λ looked x. tt };
@@ -336,7 +331,7 @@ module _ (a : Asked) (rules : Rules) (b m k : Seen) (server_same : k.server ≡ 
   module _ (how : RunningHow) (lines : String Global) (h : Ran (asking a (backup_running how) None) b m (Ok (Finished lines))) where
     abbrev RunningTaken : WireState → OthersState → Text → Type 0
     RunningTaken server others text =
-        OnCluster b.tree.nodes (λ told. TakesOnline a.stanza told how.taken.kind (record { system = told.system; pending = b.server.pending; left = server.pending }) (take how.taken.workers b.links) b.others.account others.account b.repo.view.now m.repo.view.now text)
+        ByOrder how.taken (λ o. OnCluster b.tree.nodes (λ told. TakesOnline a.stanza told o b.tree.nodes (record { system = told.system; pending = b.server.pending; left = server.pending }) (take how.taken.workers b.links) b.others.account others.account b.repo.view.now m.repo.view.now text))
         × AsksBackup a.server how.fast server.place b.server.sent server.sent
 
     running_taken : RunningTaken k.server k.others (string_bytes lines)
@@ -348,7 +343,7 @@ module _ (a : Asked) (rules : Rules) (b m k : Seen) (server_same : k.server ≡ 
     -- which command it is, told from the end
     abbrev RunningStep : WireState → OthersState → View → Type 0
     RunningStep server others spool =
-        (command : Command) × WithExpiry None (IsRunningOf a how (known b) (record (known k) { server = server; others = others })) command × Runs Whole a.stanza command to_end b.repo.view b.spool.view m.repo.view spool
+        (command : Command) × WithExpiry None b.clock.least (IsRunningOf a how (known b) (record (known k) { server = server; others = others })) command × Runs Whole a.stanza command to_end b.repo.view b.spool.view m.repo.view spool
 
     running_step : TurnsTold a (backup_running how) (known k) → RunningStep k.server k.others k.spool.view
     running_step told = subst (λ (v : View). RunningStep k.server k.others v) (sym spool_same) (subst (λ (o : OthersState). RunningStep k.server o m.spool.view) (sym others_same)
@@ -373,14 +368,14 @@ module _ (a : Asked) (rules : Rules) (b m k : Seen) (server_same : k.server ≡ 
     }
 
     running_steps : (f : (r : Result Outcome Fault) × Followed a.stanza rules m k (string_bytes lines) r) (reached : Reached) → ¬ (reached ≡ turned_back) → OnAll reached (DoesWhole Whole a.stanza (Expire (retention rules f.1.moment)) m.repo.view k.repo.view)
-        → TurnsTold a (backup_running how) (known k) → (command : Command) × WithExpiry (Some rules) (IsRunningOf a how (known b) (known k)) command × Runs Whole a.stanza command reached b.repo.view b.spool.view k.repo.view k.spool.view
-    running_steps f reached not all told = followed_steps a.stanza rules (IsRunningOf a how (known b) (known k)) (running_makes a how (known b) (known k)) b.repo.view b.spool.view m.repo.view k.spool.view k.repo.view f.1.moment f.1.may_be reached not
-        (λ command is done. running_sound a how (known b) (known k) a.stanza running_taken.0.0 (string_bytes lines) m.repo.view.now running_taken.0.2 told command is done) f.1.part all (running_step told)
+        → TurnsTold a (backup_running how) (known k) → (command : Command) × WithExpiry (Some rules) b.clock.least (IsRunningOf a how (known b) (known k)) command × Runs Whole a.stanza command reached b.repo.view b.spool.view k.repo.view k.spool.view
+    running_steps f reached not all told = followed_steps a.stanza rules b.clock.least (IsRunningOf a how (known b) (known k)) (running_makes a how (known b) (known k)) b.repo.view b.spool.view m.repo.view k.spool.view k.repo.view f.1.moment (from_first f.1.moment f.1.may_be) reached not
+        (λ command is done. running_sound a how (known b) (known k) a.stanza running_taken.0.2.0 running_taken.0.0 (string_bytes lines) m.repo.view.now running_taken.0.2.2 told command is done) f.1.part all (running_step told)
 
     running_followed : (r : Result Outcome Fault) → Followed a.stanza rules m k (string_bytes lines) r → Ran (asking a (backup_running how) (Some rules)) b k r
     running_followed (Ok (Finished more)) f = record {
       steps = running_steps (Ok (Finished more), f) to_end (λ (at : to_end ≡ turned_back). cc) f.whole;
-      promise = record { repo = m.repo.view.now; lines = lines; was = running_taken; moment = f.moment; told = f.told; adds = f.adds };
+      promise = record { repo = m.repo.view.now; lines = lines; was = running_taken; moment = f.moment; may_be = from_first f.moment f.may_be; told = f.told; adds = f.adds };
       lasts = λ looked. tt;
       cause = tt;
       healed = record { agree = λ some x. any_some k.repo.view.now; lasts = λ looked x. tt };
@@ -428,21 +423,21 @@ held_backup examine rules stanza held at h = none_some rules at
 held_backup (expire other) rules stanza held at h = none_some rules at
 
 -- an expiry followed
-pub behind_ran : (a : Asked) (rules : Rules) → a.expires ≡ Some rules → behind_backup a.request a.expires ≡ a.expires → (b m k : Seen) → k.server ≡ m.server → k.others ≡ m.others → k.spool.view ≡ m.spool.view → k.tree.nodes ≡ m.tree.nodes → (outcome : Outcome) (lines : String Global) → outcome ≡ Finished lines
+pub behind_ran : (a : Asked) (rules : Rules) → a.expires ≡ Some rules → behind_backup a.request a.expires ≡ a.expires → (b m k : Seen) → k.server ≡ m.server → k.others ≡ m.others → k.spool.view ≡ m.spool.view → k.tree.nodes ≡ m.tree.nodes → OnBackup a.request (b.clock.least ≤ m.clock.least) → (outcome : Outcome) (lines : String Global) → outcome ≡ Finished lines
     → Ran (alone a) b m (Ok outcome) → (r : Result Outcome Fault) → Followed a.stanza rules m k (string_bytes lines) r → Ran a b k r
-behind_ran a rules is kept b m k server others spool nodes outcome lines ended h r f = subst (λ (x : Option Rules). Ran (record a { expires = x }) b k r) (sym is)
-    (go a.request (subst (λ (x : Option Rules). behind_backup a.request x ≡ x) is kept) (subst (λ (o : Outcome). Ran (alone a) b m (Ok o)) ended h))
+behind_ran a rules is kept b m k server others spool nodes least outcome lines ended h r f = subst (λ (x : Option Rules). Ran (record a { expires = x }) b k r) (sym is)
+    (go a.request least (subst (λ (x : Option Rules). behind_backup a.request x ≡ x) is kept) (subst (λ (o : Outcome). Ran (alone a) b m (Ok o)) ended h))
   where
-    go : (q : Request) → behind_backup q (Some rules) ≡ Some rules → Ran (asking a q None) b m (Ok (Finished lines)) → Ran (asking a q (Some rules)) b k r
-    go create at x = none_some rules at
-    go (push path) at x = none_some rules at
-    go (get name path) at x = none_some rules at
-    go (backup how) at x = full_followed a rules b m k server others spool nodes how lines x r f
-    go (backup_running how) at x = running_followed a rules b m k server others spool nodes how lines x r f
-    go (restore set how) at x = none_some rules at
-    go (report form) at x = none_some rules at
-    go examine at x = none_some rules at
-    go (expire other) at x = none_some rules at
+    go : (q : Request) → OnBackup q (b.clock.least ≤ m.clock.least) → behind_backup q (Some rules) ≡ Some rules → Ran (asking a q None) b m (Ok (Finished lines)) → Ran (asking a q (Some rules)) b k r
+    go create le at x = none_some rules at
+    go (push path) le at x = none_some rules at
+    go (get name path) le at x = none_some rules at
+    go (backup how) le at x = full_followed a rules b m k server others spool nodes le how lines x r f
+    go (backup_running how) le at x = running_followed a rules b m k server others spool nodes le how lines x r f
+    go (restore set how) le at x = none_some rules at
+    go (report form) le at x = none_some rules at
+    go examine le at x = none_some rules at
+    go (expire other) le at x = none_some rules at
 
 -- none follows
 pub alone_ran : (a : Asked) → a.expires ≡ None → (b k : Seen) (r : Result Outcome Fault) → Ran (alone a) b k r → Ran a b k r
@@ -465,8 +460,8 @@ unfinished_ran a kept b k r not h = by a.expires refl
     back rules (backup how) at (Ok (FindingsFound lines count)) not ran = absurd ran.promise.2.2
     back rules (backup how) at (Err fault) not ran = full_stopped a rules b k how fault ran
     back rules (backup_running how) at (Ok (Finished lines)) not ran = absurd not
-    back rules (backup_running how) at (Ok (Absent name)) not ran = absurd ran.promise.0.2
-    back rules (backup_running how) at (Ok (FindingsFound lines count)) not ran = absurd ran.promise.0.2
+    back rules (backup_running how) at (Ok (Absent name)) not ran = absurd ran.promise.0.2.2
+    back rules (backup_running how) at (Ok (FindingsFound lines count)) not ran = absurd ran.promise.0.2.2
     back rules (backup_running how) at (Err fault) not ran = running_stopped a rules b k how fault ran
     back rules (restore set how) at x not ran = none_some rules at
     back rules (report form) at x not ran = none_some rules at

@@ -57,11 +57,11 @@ pub idle : (a : Asked) (request : Request) (old new : Known) → new.others ≡ 
 idle a create old new same P p = λ command is. p command
 idle a (push path) old new same P p = λ command is. p command
 idle a (get name path) old new same P p = λ command is. p command
-idle a (backup how) old new same P p = let x = any_followed a.expires [] no_files in (x.0, (MakeBackup [] no_files None, nothing_by how.kind (take how.workers old.links) a.stanza old.repo, x.1), p x.0)
+idle a (backup how) old new same P p = let x = any_followed a.expires old.clock.least [] no_files in (x.0, (MakeBackup [] no_files None, nothing_by how.kind (take how.workers old.links) a.stanza old.repo, x.1), p x.0)
 idle a (backup_running how) old new same P p = λ there.
-    let x = any_followed a.expires [] no_files in
+    let x = any_followed a.expires old.clock.least [] no_files in
     let y = running_idle a.stanza how old new same new.others.account refl (λ command. command ≡ MakeBackup [] no_files None) refl _ there in
-    (x.0, (y.0, y.1, subst (λ (c : Command). IsFollowed a.expires c x.0) (sym y.2) x.1), p x.0)
+    (x.0, (y.0, y.1, subst (λ (c : Command). IsFollowed a.expires old.clock.least c x.0) (sym y.2) x.1), p x.0)
 idle a (restore set how) old new same P p = λ command is. p command
 idle a (report form) old new same P p = λ command is. p command
 idle a examine old new same P p = λ command is. p command
@@ -72,7 +72,7 @@ pub manner_at : (a : Asked) (request : Request) (old new : Known) (repo : Option
 manner_at a create old new repo heals P h = h
 manner_at a (push path) old new repo heals P h = h
 manner_at a (get name path) old new repo heals P h = h
-manner_at a (backup how) old new repo heals P h = subst (λ (r : Option Content). On (one (WithExpiry a.expires (IsBackupBy how.kind (take how.workers old.links) a.stanza r))) P) heals h
+manner_at a (backup how) old new repo heals P h = subst (λ (r : Option Content). On (one (WithExpiry a.expires old.clock.least (IsBackupBy how.kind (take how.workers old.links) a.stanza r))) P) heals h
 manner_at a (backup_running how) old new repo heals P h = subst (λ (r : Option Content). On (manner_of a (backup_running how) (record old { repo = r }) new) P) heals h
 manner_at a (restore set how) old new repo heals P h = h
 manner_at a (report form) old new repo heals P h = h

@@ -180,16 +180,16 @@ cut_ill m le (inr is) = absurd (omega (arith, is, le))
 -- ---- whose it is
 
 -- no backup ends so, with an expiry behind it or without
-never_deviates : {P : Type 0} (rules : Option Rules) (stanza : Text) (Was : Option Content → Outcome → Type 0) (new : Known) (lines : String Global) (count : ℕ) → ((repo : Option Content) → Was repo (FindingsFound lines count) → P) → BehindIt rules stanza Was new (FindingsFound lines count) → P
-never_deviates None stanza Was new lines count never h = never new.repo h
-never_deviates (Some rules) stanza Was new lines count never h = absurd h.adds
+never_deviates : {P : Type 0} (rules : Option Rules) (stanza : Text) (least : ℕ) (Was : Option Content → Outcome → Type 0) (new : Known) (lines : String Global) (count : ℕ) → ((repo : Option Content) → Was repo (FindingsFound lines count) → P) → BehindIt rules stanza least Was new (FindingsFound lines count) → P
+never_deviates None stanza least Was new lines count never h = never new.repo h
+never_deviates (Some rules) stanza least Was new lines count never h = absurd h.adds
 
 pub only_examines : (a : Asked) (q : Request) (old new : Known) (lines : String Global) (count : ℕ) → Promise a q old new (FindingsFound lines count) → q ≡ examine
 only_examines a create old new lines count h = absurd h.created.silent
 only_examines a (push path) old new lines count h = absurd h
 only_examines a (get name path) old new lines count h = absurd h.0
-only_examines a (backup how) old new lines count h = never_deviates a.expires a.stanza (IsBackedUp a (backup how) old new) new lines count (λ repo x. absurd x.2.2) h
-only_examines a (backup_running how) old new lines count h = never_deviates a.expires a.stanza (IsBackedUp a (backup_running how) old new) new lines count (λ repo x. absurd x.0.2) h
+only_examines a (backup how) old new lines count h = never_deviates a.expires a.stanza old.clock.least (IsBackedUp a (backup how) old new) new lines count (λ repo x. absurd x.2.2) h
+only_examines a (backup_running how) old new lines count h = never_deviates a.expires a.stanza old.clock.least (IsBackedUp a (backup_running how) old new) new lines count (λ repo x. absurd x.0.2.2) h
 only_examines a (restore set how) old new lines count h = absurd h.recovers
 only_examines a (report form) old new lines count h = absurd h.0
 only_examines a examine old new lines count h = refl

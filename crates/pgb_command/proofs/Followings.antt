@@ -28,23 +28,23 @@ abbrev pub MakesBackup : (Command → Type 0) → Type 0
 MakesBackup Is = (command : Command) → Is command → (turns : List Turn) × (b : Backup) × (command ≡ MakeBackup turns b None)
 
 -- one behind which none follows
-pub unfollowed : {Is P : Command → Type 0} → ((command : Command) × Is command × P command) → (command : Command) × WithExpiry None Is command × P command
-unfollowed (command, is, p) = (command, (command, is, refl), p)
+pub unfollowed : {Is P : Command → Type 0} (least : ℕ) → ((command : Command) × Is command × P command) → (command : Command) × WithExpiry None least Is command × P command
+unfollowed least (command, is, p) = (command, (command, is, refl), p)
 
 -- nothing was done of one, with an expiry behind it
-pub any_followed : (rules : Option Rules) (turns : List Turn) (b : Backup) → (command : Command) × IsFollowed rules (MakeBackup turns b None) command
-any_followed None turns b = (MakeBackup turns b None, refl)
-any_followed (Some rules) turns b =
-    let m = some_moment rules.full 0 in
+pub any_followed : (rules : Option Rules) (least : ℕ) (turns : List Turn) (b : Backup) → (command : Command) × IsFollowed rules least (MakeBackup turns b None) command
+any_followed None least turns b = (MakeBackup turns b None, refl)
+any_followed (Some rules) least turns b =
+    let m = some_moment rules.full least in
     (MakeBackup turns b (Some (retention rules m.0)), (turns, b, m.0, m.1, refl, refl))
 
-module _ (stanza : Text) (rules : Rules) (Is : Command → Type 0) (makes : MakesBackup Is) (a s m t : View) where
+module _ (stanza : Text) (rules : Rules) (least : ℕ) (Is : Command → Type 0) (makes : MakesBackup Is) (a s m t : View) where
   -- it came to no end
-  pub stopped_steps : (reached : Reached) → ¬ (reached ≡ to_end) → ((command : Command) × WithExpiry None Is command × Runs Whole stanza command reached a s m t)
-      → (command : Command) × WithExpiry (Some rules) Is command × Runs Whole stanza command reached a s m t
+  pub stopped_steps : (reached : Reached) → ¬ (reached ≡ to_end) → ((command : Command) × WithExpiry None least Is command × Runs Whole stanza command reached a s m t)
+      → (command : Command) × WithExpiry (Some rules) least Is command × Runs Whole stanza command reached a s m t
   stopped_steps reached not (command, (made, is_made, same), runs) =
       let x = makes made is_made in
-      let n = some_moment rules.full 0 in
+      let n = some_moment rules.full least in
       let k = retention rules n.0 in (
         MakeBackup x.0 x.1 (Some k),
         (made, is_made, (x.0, x.1, n.0, n.1, x.2, refl)),
@@ -52,11 +52,11 @@ module _ (stanza : Text) (rules : Rules) (Is : Command → Type 0) (makes : Make
       )
 
   -- it came to its end, and an expiry followed at a moment
-  pub followed_steps : (d : View) (moment : ℕ) → IsMoment rules.full 0 moment → (reached : Reached) → ¬ (reached ≡ turned_back)
+  pub followed_steps : (d : View) (moment : ℕ) → IsMoment rules.full least moment → (reached : Reached) → ¬ (reached ≡ turned_back)
       → ((command : Command) (is : Is command) → NowDoes stanza command true a.now m.now → StaysSound stanza command a.now)
       → DoesPart Whole stanza (Expire (retention rules moment)) m d → OnAll reached (DoesWhole Whole stanza (Expire (retention rules moment)) m d)
-      → ((command : Command) × WithExpiry None Is command × Runs Whole stanza command to_end a s m t)
-      → (command : Command) × WithExpiry (Some rules) Is command × Runs Whole stanza command reached a s d t
+      → ((command : Command) × WithExpiry None least Is command × Runs Whole stanza command to_end a s m t)
+      → (command : Command) × WithExpiry (Some rules) least Is command × Runs Whole stanza command reached a s d t
   followed_steps d moment may_be reached not sound part all (command, (made, is_made, same), runs) =
       let x = makes made is_made in
       let here = subst (λ (c : Command). Runs Whole stanza c to_end a s m t) (same ∙ x.2) runs in

@@ -24,6 +24,7 @@ use Rattle.pgb_logged.proofs.Reading.{no_files}
 use Rattle.pgb_turn.specs.Turns.{Account, Turned}
 use Rattle.pgb_await.specs.Went.{turns_of}
 use Rattle.pgb_take_later.specs.declared.fault.LaterFault.{LaterFault}
+use Rattle.pgb_take_later.specs.declared.order.LaterOrder.{LaterOrder}
 use Rattle.pgb_take_online.specs.declared.fault.OnlineTakeFault.{OnlineTakeFault}
 use Rattle.pgb_take_online.specs.declared.fault.OnlineTakeFault.TheVariants as online
 use Rattle.pgb_take_online.specs.Causes.{OnlineCause}
@@ -37,6 +38,7 @@ use Rattle.pgb_command.specs.declared.fault.Fault.TheVariants.{Command as OfComm
 use Rattle.pgb_command.specs.declared.fault.CommandFault.TheVariants.{TakeOnline}
 use Rattle.pgb_command.specs.Asked.{backup_running, RunningHow, Asked, alone}
 use Rattle.pgb_command.specs.Faults.{of_take_online, lift}
+use Rattle.pgb_command.specs.Told.{taking_of}
 use Rattle.pgb_command.specs.Tables.{Known, known, TellsLabel, heard_by, asked_by, AsksBackup}
 use Rattle.pgb_command.specs.Did.{SamePlaces, IsTaken, Closes, StaysHealed, Ran}
 use Rattle.pgb_command.proofs.Ends.{lift_err}
@@ -82,16 +84,16 @@ module _ (a : Asked) (b k : Seen) (nodes : k.tree.nodes ≡ b.tree.nodes) (how :
   abbrev heard : Heard
   heard = heard_by (known b) (known k) told
 
-  pub running_ran : a.request ≡ backup_running how → IfSome k.others.account (λ n. n.stanza ≡ a.stanza → StaysBeside a.stanza b.repo.view k.repo.view) → IfSome k.others.account (λ n. n.stanza ≡ a.stanza → StaysBeside a.stanza b.spool.view k.spool.view) →
+  pub running_ran : a.request ≡ backup_running how → (o : LaterOrder) → taking_of o ≡ how.taken → IfSome k.others.account (λ n. n.stanza ≡ a.stanza → StaysBeside a.stanza b.repo.view k.repo.view) → IfSome k.others.account (λ n. n.stanza ≡ a.stanza → StaysBeside a.stanza b.spool.view k.spool.view) →
       RunsOnline a.stanza how.taken.kind (take how.taken.workers b.links) heard (reached_by online_early r) b.others.account k.others.account b.repo.view b.spool.view k.repo.view k.spool.view →
-      IfOk r (λ o. OnFinished o (TakesOnline a.stanza told how.taken.kind heard (take how.taken.workers b.links) b.others.account k.others.account b.repo.view.now k.repo.view.now)) →
+      IfOk r (λ outcome. OnFinished outcome (TakesOnline a.stanza told o b.tree.nodes heard (take how.taken.workers b.links) b.others.account k.others.account b.repo.view.now k.repo.view.now)) →
       OnOk r (AsksBackup a.server how.fast k.server.place b.server.sent k.server.sent) → (a.server ≡ None → k.server ≡ b.server) →
       IfErr r (λ h. ((k.server ≡ b.server) × ((x : Halt LaterFault) × (h ≡ taken_halt x))) ⊎ EndsTalk (Failed b k TheServer) k.server.sent h) → (failed : Object → Type 0) → ((object : Object) → failed object → Failed b k object) →
       IfErr r (HaltCause (OnlineCause (asked_by a how (known b) (known k) told)) failed) → SamePlaces b k → AreLater b k → Ran (alone a) b k ended
-  running_ran is beside spool runs taken asks quiet closed failed rose cause places later = as_ran (alone a) (backup_running how) b k ended is
+  running_ran is o order beside spool runs taken asks quiet closed failed rose cause places later = as_ran (alone a) (backup_running how) b k ended is
       (ran_of waits_for b k (λ (e : OnlineTakeFault). OfCommand (TakeOnline e)) online_early (λ e. refl) (OnlineCause (asked_by a how (known b) (known k) told)) (λ e h. (told, tells, h)) failed rose r ended lifted
-      (λ told_of. unfollowed (running_steps a.stanza how (known b) (known k) told tells k.others.account _ runs told_of))
-      (ok_with r _ _ _ (Unit {0}) (λ o taken asks none. ((told, tells, taken), asks)) taken asks (on_all r (Unit {0}) tt))
+      (λ told_of. unfollowed b.clock.least (running_steps a.stanza how (known b) (known k) told tells k.others.account _ runs told_of))
+      (ok_with r _ _ _ (Unit {0}) (λ outcome taken asks none. ((o, order, (told, tells, taken)), asks)) taken asks (on_all r (Unit {0}) tt))
       (any_ok r (λ o. IsLookedAt a.stanza b.repo.view → Unit {0}) (λ o looked. tt))
       cause
       (on_all r (StaysHealed waits_for b k) (record { agree = λ some h. any_some k.repo.view.now; lasts = λ looked h. tt }))
@@ -126,7 +128,7 @@ module _ (a : Asked) (b : Seen) (how : RunningHow) where
   without_memory : a.request ≡ backup_running how → Ran (alone a) b b (Err OutOfMemory)
   without_memory is = as_ran (alone a) (backup_running how) b b (Err OutOfMemory) is
       (ran_of begins b b (λ (e : OnlineTakeFault). OfCommand (TakeOnline e)) online_early (λ e. refl) (λ e. ⊥) (λ e h. absurd h) (λ object. ⊥) (λ object h. absurd h) (Err HaltMemory) (Err OutOfMemory) refl
-      (λ there. unfollowed (running_idle a.stanza how (known b) (known b) refl b.others.account refl (λ command. Runs Whole a.stanza command stopped b.repo.view b.spool.view b.repo.view b.spool.view) nothing_runs _ there))
+      (λ there. unfollowed b.clock.least (running_idle a.stanza how (known b) (known b) refl b.others.account refl (λ command. Runs Whole a.stanza command stopped b.repo.view b.spool.view b.repo.view b.spool.view) nothing_runs _ there))
       tt
       tt
       tt

@@ -1,12 +1,13 @@
 -- What the program answers and does, from the words on.
-use Rattle.std.specs.Prelude.{◌≡◌, ◌≢◌, ◌≤◌, ◌⊎◌, ◌++◌, ℕ, true, false, List, [], Option, None, Result, Ok, Err, option_map}
+use Rattle.std.specs.Prelude.{◌≡◌, ◌≢◌, ◌≤◌, ◌⊎◌, ◌++◌, ℕ, true, false, List, [], Option, None, Result, Ok, Err, String, map, option_map, string_bytes}
+use Rattle.std.specs.declared.alloc.Global.{Global}
 use Rattle.pgb_outside.specs.Content.{Content}
 use Rattle.pgb_disk.specs.Store.{ChangesOnly}
 use Rattle.pgb_stanza.specs.Owned.{IsOfPairs}
 use Rattle.pgb_model.specs.Text.{Text}
 use Rattle.pgb_options.specs.Settings.{Settled}
 use Rattle.pgb_archive.specs.Still.{IsStill}
-use Rattle.pgb_story.specs.Beside.{StaysBeside}
+use Rattle.pgb_story.specs.Beside.{StaysBeside, KeepsOthers}
 use Rattle.pgb_stage.specs.declared.fault.Unbuilt.{Unbuilt}
 use Rattle.pgb_stage.specs.declared.fault.StageFault.TheVariants.{NotBuilt}
 use Rattle.pgb_stage.specs.declared.object.Object.TheVariants.{Server, Config, Output}
@@ -139,3 +140,19 @@ ClosesTalk before after result = IsServerRefusal result → Ended after.server.s
 -- this holds of each command that the words ask for
 abbrev pub Each : List Text → Option Content → (Asked → Type 0) → Type 0
 Each words files P = (a : Asked) → Asks words files a → P a
+
+-- so it is between what the objects told before it and what they tell behind it
+abbrev pub OnEach : {W : Type 0} → (W → Seen) → (Asked → Seen → Seen → Type 0) → List (String Global) → W → W → Type 0
+OnEach told P words old new = Each (map string_bytes words) (told old).config.files (λ a. P a (told old) (told new))
+
+-- with this status it turned back, where that is one of a command that ends before its own first step
+abbrev pub StaysAt : ℕ → Asked → Seen → Seen → Type 0
+StaysAt result a before after = IsEarly a.request result → TurnsBack a before after result
+
+-- with this status it kept its promise, where that is one of a command that ended well
+abbrev pub FulfilsAt : ℕ → Asked → Seen → Seen → Type 0
+FulfilsAt result a before after = EndsWell result → Fulfils a before after result
+
+-- of every other stanza in form all stayed, where what others did meanwhile is told
+abbrev pub LeavesOthers : Asked → Seen → Seen → Type 0
+LeavesOthers a before after = TurnsTold a a.request (known after) → KeepsOthers a.stanza before.repo.view after.repo.view

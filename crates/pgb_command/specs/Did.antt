@@ -124,7 +124,7 @@ IsBehind lines P other = ⊥
 -- What an expiry did behind a backup that ended with these lines.
 pub record Followed (stanza : Text) (rules : Rules) (before after : Seen) (lines : Text) (result : Result Outcome Fault) : Type 0 where
   pub moment : ℕ
-  pub may_be : IsMoment rules.full 0 moment
+  pub may_be : IsMoment rules.full before.clock.least moment
   pub part : DoesPart Whole stanza (Expire (retention rules moment)) before.repo.view after.repo.view
   pub whole : OnOk result (DoesWhole Whole stanza (Expire (retention rules moment)) before.repo.view after.repo.view)
   pub told : OnOk result (WasTold rules.full after.clock moment)

@@ -4,6 +4,7 @@ pub mod Answers
 pub mod Configuring
 pub mod Output
 pub mod Serving
+pub mod Kept
 pub mod Told
 pub mod Tables
 pub mod Did

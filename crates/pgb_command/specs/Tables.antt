@@ -111,17 +111,17 @@ abbrev pub IsRunningOf : Asked → RunningHow → Known → Known → Command �
 IsRunningOf a how old new command = IsSomeAnd new.others.account (λ k. (turned : List Turned) × TakesTurns turned old.others.account k
     × (label : Option Text) × IfSome label (TellsLabel old new) × IsOnlineBy how.taken.kind (take how.taken.workers old.links) (turns_of turned) label a.stanza old.repo command)
 
--- a command of this kind, with the expiry behind it by these rules, where one follows
-abbrev pub WithExpiry : Option Rules → (Command → Type 0) → Command → Type 0
-WithExpiry rules Is command = (made : Command) × Is made × IsFollowed rules made command
+-- a command of this kind, with the expiry behind it by these rules, where one follows; least is the least second that the clock may tell as the backup begins
+abbrev pub WithExpiry : Option Rules → ℕ → (Command → Type 0) → Command → Type 0
+WithExpiry rules least Is command = (made : Command) × Is made × IsFollowed rules least made command
 
 -- which command of the repository's log it is, from what the objects hold before and after it
 abbrev pub manner_of : Asked → Request → Known → Known → Manner
 manner_of a create old new = each (λ command. IsSomeAnd old.nodes (λ f. IsCreateOf f command))
 manner_of a (push path) old new = each (λ command. IsSomeAnd old.nodes (λ f. IsPushOf f a.data_folder path command))
 manner_of a (get name path) old new = each (λ command. command ≡ Reading)
-manner_of a (backup how) old new = one (WithExpiry a.expires (IsBackupBy how.kind (take how.workers old.links) a.stanza old.repo))
-manner_of a (backup_running how) old new = provided (TurnsTold a (backup_running how) new) (WithExpiry a.expires (IsRunningOf a how old new))
+manner_of a (backup how) old new = one (WithExpiry a.expires old.clock.least (IsBackupBy how.kind (take how.workers old.links) a.stanza old.repo))
+manner_of a (backup_running how) old new = provided (TurnsTold a (backup_running how) new) (WithExpiry a.expires old.clock.least (IsRunningOf a how old new))
 manner_of a (restore set how) old new = each (λ command. command ≡ Reading)
 manner_of a (report form) old new = each (λ command. command ≡ Reading)
 manner_of a examine old new = each (λ command. command ≡ Reading)
@@ -207,23 +207,24 @@ Removes stanza rules old new outcome = (moment : ℕ) × TellsMoment rules.full 
 -- Ok of a backup: what it promises of what the disk held as it ended, before an expiry
 abbrev pub IsBackedUp : Asked → Request → Known → Known → Option Content → Outcome → Type 0
 IsBackedUp a (backup how) old new repo outcome = ByOrder how (λ o. OnCluster old.nodes (λ told. OnFinished outcome (IsTaken a.stanza told o old.nodes (take how.workers old.links) old.repo repo)))
-IsBackedUp a (backup_running how) old new repo outcome = OnCluster old.nodes (λ told. OnFinished outcome (TakesOnline a.stanza told how.taken.kind (heard_by old new told) (take how.taken.workers old.links) old.others.account new.others.account old.repo repo))
+IsBackedUp a (backup_running how) old new repo outcome = ByOrder how.taken (λ o. OnCluster old.nodes (λ told. OnFinished outcome (TakesOnline a.stanza told o old.nodes (heard_by old new told) (take how.taken.workers old.links) old.others.account new.others.account old.repo repo)))
     × AsksBackup a.server how.fast new.server.place old.server.sent new.server.sent
 IsBackedUp a request old new repo outcome = ⊥
 
--- what the disk held, and how the command had ended, as an expiry began behind it that tells by its lines what went
-pub record BeforeExpiry (stanza : Text) (rules : Rules) (Was : Option Content → Outcome → Type 0) (new : Known) (outcome : Outcome) : Type 0 where
+-- what the disk held, and how the command had ended, as an expiry began behind it that tells by its lines what went; least is the least second that the clock might tell as the command began
+pub record BeforeExpiry (stanza : Text) (rules : Rules) (least : ℕ) (Was : Option Content → Outcome → Type 0) (new : Known) (outcome : Outcome) : Type 0 where
   pub repo : Option Content
   pub lines : String Global
   pub was : Was repo (Finished lines)
   pub moment : ℕ
+  pub may_be : IsMoment rules.full least moment
   pub told : WasTold rules.full new.clock moment
   pub adds : OnFinished outcome (AddsLines stanza rules moment repo new.repo (string_bytes lines))
 
 -- this holds of what the disk held before the expiry that follows, if one does
-abbrev pub BehindIt : Option Rules → Text → (Option Content → Outcome → Type 0) → Known → Outcome → Type 0
-BehindIt None stanza Was new outcome = Was new.repo outcome
-BehindIt (Some rules) stanza Was new outcome = BeforeExpiry stanza rules Was new outcome
+abbrev pub BehindIt : Option Rules → Text → ℕ → (Option Content → Outcome → Type 0) → Known → Outcome → Type 0
+BehindIt None stanza least Was new outcome = Was new.repo outcome
+BehindIt (Some rules) stanza least Was new outcome = BeforeExpiry stanza rules least Was new outcome
 
 -- what a command promises where it ends well
 abbrev pub Promise : Asked → Request → Known → Known → Outcome → Type 0
@@ -231,8 +232,8 @@ Promise a create old new outcome = Creates a old new outcome
 Promise a (push path) old new outcome = OnFinished outcome (IsStored a.stanza a.data_folder path old.nodes old.repo new.repo)
 Promise a (get name path) old new outcome = GotBy a.stanza a.data_folder name path old.repo old.nodes new.nodes outcome
     × OnStanza a old.repo (λ s. GivenBy s a.data_folder name path old.nodes new.nodes outcome)
-Promise a (backup how) old new outcome = BehindIt a.expires a.stanza (IsBackedUp a (backup how) old new) new outcome
-Promise a (backup_running how) old new outcome = BehindIt a.expires a.stanza (IsBackedUp a (backup_running how) old new) new outcome
+Promise a (backup how) old new outcome = BehindIt a.expires a.stanza old.clock.least (IsBackedUp a (backup how) old new) new outcome
+Promise a (backup_running how) old new outcome = BehindIt a.expires a.stanza old.clock.least (IsBackedUp a (backup_running how) old new) new outcome
 Promise a (restore set how) old new outcome = Restores a set how old new outcome
 Promise a (report form) old new outcome = OnFinished outcome (IsReported a.stanza form old.repo)
     × OnStanza a old.repo (λ s. OnFinished outcome (ReportsStanza form a.stanza s))
@@ -264,7 +265,12 @@ abbrev pub OnCreate : Request → Type 0 → Type 0
 OnCreate create P = P
 OnCreate other P = Unit {0}
 
--- this holds of a command that asks no server
+-- this holds of a backup
+abbrev pub OnBackup : Request → Type 0 → Type 0
+OnBackup (backup how) P = P
+OnBackup (backup_running how) P = P
+OnBackup other P = Unit {0}
+
 -- this holds of expire
 abbrev pub OnExpire : Request → (Rules → Type 0) → Type 0
 OnExpire (expire rules) P = P rules

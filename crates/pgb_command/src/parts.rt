@@ -1,5 +1,5 @@
 // The commands' own parts, over all that is handed to the program: what the stages made ready goes to each.
-ghost use Rattle.std.specs.Prelude.{◌≡◌, ◌∷◌, [], None, map, string_bytes};
+ghost use Rattle.std.specs.Prelude.{◌≡◌, ◌≤◌, ◌∷◌, [], None, map, string_bytes};
 ghost use Rattle.pgb_stage.specs.Plans.{AreHeld, backup_lock};
 ghost use Rattle.pgb_prepare.specs.Readies.{IsReady};
 ghost use Rattle.pgb_command.specs.Asked.{alone, create as asks_create, push as asks_push, get as asks_get, report as asks_report, examine as asks_examine, expire as asks_expire};
@@ -57,7 +57,7 @@ impl<
             (K.state self.old.locks).taken }
         requires ready { IsReady (plan_of (request_of settings.now.request)) settings.now.stanza.now
             (D.state self.old.repo).view.now (T.state self.old.tree).nodes ready.now }
-        ensures ran { let told = ⟦<Outside<D, S, T, V, A, C, K, I, O, L, U> as Told>⟧.told in
+        ensures ran { let told = ⟦<Self as Told>⟧.told in
             Ran (alone (asked_of settings.now)) (told self.old) (told self.new) result }
         ensures quiet { settings.now.server ≡ None → self.new.server ≡ self.old.server }
         ensures rest { self.new ≡ record self.old { repo = self.new.repo; server = self.new.server } }
@@ -90,7 +90,7 @@ impl<
         requires folder { order.folder.now ≡ settings.now.pg1_path.now }
         requires ready { IsReady (plan_of (request_of settings.now.request)) settings.now.stanza.now
             (D.state self.old.repo).view.now (T.state self.old.tree).nodes ready.now }
-        ensures ran { let told = ⟦<Outside<D, S, T, V, A, C, K, I, O, L, U> as Told>⟧.told in
+        ensures ran { let told = ⟦<Self as Told>⟧.told in
             Ran (alone (asked_of settings.now)) (told self.old) (told self.new) result }
         ensures rest { self.new ≡ record self.old { repo = self.new.repo; tree = self.new.tree } }
     {
@@ -121,7 +121,7 @@ impl<
         requires folder { order.now.folder.now ≡ settings.now.pg1_path.now }
         requires ready { IsReady (plan_of (request_of settings.now.request)) settings.now.stanza.now
             (D.state self.old.repo).view.now (T.state self.old.tree).nodes ready.now }
-        ensures ran { let told = ⟦<Outside<D, S, T, V, A, C, K, I, O, L, U> as Told>⟧.told in
+        ensures ran { let told = ⟦<Self as Told>⟧.told in
             Ran (alone (asked_of settings.now)) (told self.old) (told self.new) result }
         ensures rest { self.new ≡ record self.old { repo = self.new.repo; tree = self.new.tree } }
     {
@@ -153,8 +153,9 @@ impl<
         requires workers { AreWorkers (map L.link_state self.old.links.items) }
         requires ready { IsReady (plan_of (request_of settings.now.request)) settings.now.stanza.now
             (D.state self.old.repo).view.now (T.state self.old.tree).nodes ready }
-        ensures ran { let told = ⟦<Outside<D, S, T, V, A, C, K, I, O, L, U> as Told>⟧.told in
+        ensures ran { let told = ⟦<Self as Told>⟧.told in
             Ran (alone (asked_of settings.now)) (told self.old) (told self.new) result }
+        ensures least { (C.state self.old.clock).least ≤ (C.state self.new.clock).least }
         ensures rest { self.new ≡ record self.old {
           repo = self.new.repo;
           tree = self.new.tree;
@@ -201,9 +202,10 @@ impl<
         requires workers { AreWorkers (map L.link_state self.old.links.items) }
         requires ready { IsReady (plan_of (request_of settings.now.request)) settings.now.stanza.now
             (D.state self.old.repo).view.now (T.state self.old.tree).nodes ready }
-        ensures ran { let told = ⟦<Outside<D, S, T, V, A, C, K, I, O, L, U> as Told>⟧.told in
+        ensures ran { let told = ⟦<Self as Told>⟧.told in
             Ran (alone (asked_of settings.now)) (told self.old) (told self.new) result }
         ensures quiet { settings.now.server ≡ None → self.new.server ≡ self.old.server }
+        ensures least { (C.state self.old.clock).least ≤ (C.state self.new.clock).least }
         ensures rest { self.new ≡ record self.old {
           repo = self.new.repo;
           spool = self.new.spool;
@@ -266,7 +268,7 @@ impl<
         requires workers { AreWorkers (map L.link_state self.old.links.items) }
         requires ready { IsReady (plan_of (request_of settings.now.request)) settings.now.stanza.now
             (D.state self.old.repo).view.now (T.state self.old.tree).nodes ready.now }
-        ensures ran { let told = ⟦<Outside<D, S, T, V, A, C, K, I, O, L, U> as Told>⟧.told in
+        ensures ran { let told = ⟦<Self as Told>⟧.told in
             Ran (alone (asked_of settings.now)) (told self.old) (told self.new) result }
         ensures rest { self.new ≡ record self.old {
           repo = self.new.repo;
@@ -301,7 +303,7 @@ impl<
         requires request { request_of settings.now.request ≡ asks_report form }
         requires ready { IsReady (plan_of (request_of settings.now.request)) settings.now.stanza.now
             (D.state self.old.repo).view.now (T.state self.old.tree).nodes ready.now }
-        ensures ran { let told = ⟦<Outside<D, S, T, V, A, C, K, I, O, L, U> as Told>⟧.told in
+        ensures ran { let told = ⟦<Self as Told>⟧.told in
             Ran (alone (asked_of settings.now)) (told self.old) (told self.new) result }
         ensures rest { self.new ≡ record self.old { repo = self.new.repo } }
     {
@@ -328,7 +330,7 @@ impl<
         requires request { request_of settings.now.request ≡ asks_examine }
         requires ready { IsReady (plan_of (request_of settings.now.request)) settings.now.stanza.now
             (D.state self.old.repo).view.now (T.state self.old.tree).nodes ready.now }
-        ensures ran { let told = ⟦<Outside<D, S, T, V, A, C, K, I, O, L, U> as Told>⟧.told in
+        ensures ran { let told = ⟦<Self as Told>⟧.told in
             Ran (alone (asked_of settings.now)) (told self.old) (told self.new) result }
         ensures rest { self.new ≡ record self.old { repo = self.new.repo } }
     {
@@ -347,7 +349,7 @@ impl<
         lines: String,
     ) -> Result<Outcome, Fault>
         requires locked { (K.state self.old.locks).taken ≡ backup_lock settings.now.stanza.now ∷ [] }
-        ensures followed { let told = ⟦<Outside<D, S, T, V, A, C, K, I, O, L, U> as Told>⟧.told in
+        ensures followed { let told = ⟦<Self as Told>⟧.told in
             Followed settings.now.stanza.now rules.now (told self.old) (told self.new) (string_bytes lines) result }
         ensures rest { self.new ≡ record self.old { repo = self.new.repo; clock = self.new.clock } }
     {
@@ -379,7 +381,7 @@ impl<
             (K.state self.old.locks).taken }
         requires ready { IsReady (plan_of (request_of settings.now.request)) settings.now.stanza.now
             (D.state self.old.repo).view.now (T.state self.old.tree).nodes ready }
-        ensures ran { let told = ⟦<Outside<D, S, T, V, A, C, K, I, O, L, U> as Told>⟧.told in
+        ensures ran { let told = ⟦<Self as Told>⟧.told in
             Ran (alone (asked_of settings.now)) (told self.old) (told self.new) result }
         ensures rest { self.new ≡ record self.old { repo = self.new.repo; clock = self.new.clock } }
     {

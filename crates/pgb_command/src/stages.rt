@@ -1,5 +1,5 @@
 // The stages of a command, over all that is handed to the program.
-ghost use Rattle.std.specs.Prelude.{◌≡◌, true, false, Some, None, OnOk, IfErr, [], ◌⊎◌, map};
+ghost use Rattle.std.specs.Prelude.{◌≡◌, ◌≤◌, true, false, Some, None, OnOk, IfErr, [], ◌⊎◌, map};
 ghost use Rattle.pgb_stage.specs.Plans.{first_lock, second_lock, AreHeld};
 ghost use Rattle.pgb_stage.specs.Halts.{HaltCause, Never};
 ghost use Rattle.pgb_stage.specs.Seen.{Failed, AreRead};
@@ -7,8 +7,9 @@ ghost use Rattle.pgb_prepare.specs.Readies.{IsReady};
 ghost use Rattle.pgb_prepare.specs.Taking.{AreNames, HoldsOnly};
 ghost use Rattle.pgb_command.specs.Asked.{alone};
 ghost use Rattle.pgb_command.specs.Did.{Ran, Did, ComesBehind, Brackets, SamePlaces, OpensPlaces, ArePlacesOpened, TakesAll, OnlyLocked};
+ghost use Rattle.pgb_command.specs.Kept.{KeepsInAndOut, KeepsLocked};
 ghost use Rattle.pgb_command.specs.Told.{request_of, asked_of, AreWorkers, IsOrder};
-ghost use Rattle.pgb_command.specs.Tables.{plan_of, uses_turns, uses_workers, is_on_repository};
+ghost use Rattle.pgb_command.specs.Tables.{OnBackup, plan_of, uses_turns, uses_workers, is_on_repository};
 
 use crate::asking::plan_of;
 use crate::fault::Fault;
@@ -51,13 +52,12 @@ impl<
     // Opens the places that the plan names: the data folder and the repository.
     fn open(&mut self, settings: &Settings<'_>, plan: &Plan) -> Result<(), Halt<StageFault>>
         requires { plan.now ≡ plan_of (request_of settings.now.request) }
-        ensures read { let told = ⟦<Outside<D, S, T, V, A, C, K, I, O, L, U> as Told>⟧.told in
-            AreRead (told self.old) (told self.new) }
-        ensures places { let told = ⟦<Outside<D, S, T, V, A, C, K, I, O, L, U> as Told>⟧.told in
+        ensures read { let told = ⟦<Self as Told>⟧.told in AreRead (told self.old) (told self.new) }
+        ensures places { let told = ⟦<Self as Told>⟧.told in
             OpensPlaces (asked_of settings.now) (told self.old) (told self.new) }
-        ensures opened { let told = ⟦<Outside<D, S, T, V, A, C, K, I, O, L, U> as Told>⟧.told in
+        ensures opened { let told = ⟦<Self as Told>⟧.told in
             OnOk result (ArePlacesOpened (asked_of settings.now) (told self.old) (told self.new)) }
-        ensures cause { let told = ⟦<Outside<D, S, T, V, A, C, K, I, O, L, U> as Told>⟧.told in
+        ensures cause { let told = ⟦<Self as Told>⟧.told in
             IfErr result (HaltCause Never (Failed (told self.old) (told self.new))) }
         ensures rest { self.new ≡ record self.old { repo = self.new.repo; tree = self.new.tree } }
         ensures tree { plan.now.folder ≡ false → self.new.tree ≡ self.old.tree }
@@ -79,9 +79,9 @@ impl<
         requires free { (K.state self.old.locks).taken ≡ [] }
         requires plan { plan.now ≡ plan_of (request_of settings.now.request) }
         requires order { IsOrder (request_of settings.now.request) settings.now.pg1_path.now order }
-        ensures did { let told = ⟦<Outside<D, S, T, V, A, C, K, I, O, L, U> as Told>⟧.told in
+        ensures did { let told = ⟦<Self as Told>⟧.told in
             Did (asked_of settings.now) (told self.old) (told self.new) result }
-        ensures brackets { let told = ⟦<Outside<D, S, T, V, A, C, K, I, O, L, U> as Told>⟧.told in
+        ensures brackets { let told = ⟦<Self as Told>⟧.told in
             Brackets (asked_of settings.now) (told self.old) (told self.new) result }
         ensures released { (K.state self.new.locks).taken ≡ [] }
         ensures tree { plan.now.folder ≡ false → self.new.tree ≡ self.old.tree }
@@ -91,17 +91,7 @@ impl<
         ensures waits { uses_turns (request_of settings.now.request) ≡ false
             → (self.new.spool ≡ self.old.spool) × (self.new.aside ≡ self.old.aside) }
         ensures idle { plan.now.backup_lock ≡ false → plan.now.archive_lock ≡ false → self.new.locks ≡ self.old.locks }
-        ensures rest { self.new ≡ record self.old {
-          repo = self.new.repo;
-          spool = self.new.spool;
-          tree = self.new.tree;
-          server = self.new.server;
-          aside = self.new.aside;
-          clock = self.new.clock;
-          locks = self.new.locks;
-          links = self.new.links;
-          turns = self.new.turns;
-        } }
+        ensures rest { KeepsInAndOut self.old self.new }
     {
         self.open(settings, plan)?;
         self.under_locks(alloc, settings, plan, order)
@@ -111,11 +101,11 @@ impl<
     pub(crate) fn obey(&mut self, alloc: Global, settings: &Settings<'_>) -> Result<Outcome, Fault>
         requires workers { AreWorkers (map L.link_state self.old.links.items) }
         requires free { (K.state self.old.locks).taken ≡ [] }
-        ensures did { let told = ⟦<Outside<D, S, T, V, A, C, K, I, O, L, U> as Told>⟧.told in
+        ensures did { let told = ⟦<Self as Told>⟧.told in
             Did (asked_of settings.now) (told self.old) (told self.new) result }
-        ensures brackets { let told = ⟦<Outside<D, S, T, V, A, C, K, I, O, L, U> as Told>⟧.told in
+        ensures brackets { let told = ⟦<Self as Told>⟧.told in
             Brackets (asked_of settings.now) (told self.old) (told self.new) result }
-        ensures words { let told = ⟦<Outside<D, S, T, V, A, C, K, I, O, L, U> as Told>⟧.told in
+        ensures words { let told = ⟦<Self as Told>⟧.told in
             ComesBehind (asked_of settings.now) (told self.old) (told self.new) result }
         ensures released { (K.state self.new.locks).taken ≡ [] }
         ensures quiet { settings.now.server ≡ None → self.new.server ≡ self.old.server }
@@ -125,17 +115,7 @@ impl<
             → (self.new.spool ≡ self.old.spool) × (self.new.aside ≡ self.old.aside) }
         ensures unused { is_on_repository (request_of settings.now.request) ≡ true
             → (self.new.tree ≡ self.old.tree) × (self.new.locks ≡ self.old.locks) }
-        ensures rest { self.new ≡ record self.old {
-          repo = self.new.repo;
-          spool = self.new.spool;
-          tree = self.new.tree;
-          server = self.new.server;
-          aside = self.new.aside;
-          clock = self.new.clock;
-          locks = self.new.locks;
-          links = self.new.links;
-          turns = self.new.turns;
-        } }
+        ensures rest { KeepsInAndOut self.old self.new }
     {
         let order = order_of(alloc, settings)?;
         let plan = plan_of(&settings.request);
@@ -155,26 +135,16 @@ impl<
         requires plan { plan.now ≡ plan_of (request_of settings.now.request) }
         requires locked { AreHeld plan.now settings.now.stanza.now (K.state self.old.locks).taken }
         requires order { IsOrder (request_of settings.now.request) settings.now.pg1_path.now order }
-        ensures did { let told = ⟦<Outside<D, S, T, V, A, C, K, I, O, L, U> as Told>⟧.told in
+        ensures did { let told = ⟦<Self as Told>⟧.told in
             Did (asked_of settings.now) (told self.old) (told self.new) result }
-        ensures places { let told = ⟦<Outside<D, S, T, V, A, C, K, I, O, L, U> as Told>⟧.told in
-            SamePlaces (told self.old) (told self.new) }
+        ensures places { let told = ⟦<Self as Told>⟧.told in SamePlaces (told self.old) (told self.new) }
         ensures tree { plan.now.folder ≡ false → self.new.tree ≡ self.old.tree }
         ensures quiet { settings.now.server ≡ None → self.new.server ≡ self.old.server }
         ensures alone { uses_workers (request_of settings.now.request) ≡ false
             → (self.new.links ≡ self.old.links) × (self.new.turns ≡ self.old.turns) }
         ensures waits { uses_turns (request_of settings.now.request) ≡ false
             → (self.new.spool ≡ self.old.spool) × (self.new.aside ≡ self.old.aside) }
-        ensures rest { self.new ≡ record self.old {
-          repo = self.new.repo;
-          spool = self.new.spool;
-          tree = self.new.tree;
-          server = self.new.server;
-          aside = self.new.aside;
-          clock = self.new.clock;
-          links = self.new.links;
-          turns = self.new.turns;
-        } }
+        ensures rest { KeepsLocked self.old self.new }
     {
         let ready = prepare(
             alloc,
@@ -201,15 +171,14 @@ impl<
         requires plan { plan.now ≡ plan_of (request_of settings.now.request) }
         requires names { AreNames names.now plan.now settings.now.stanza.now }
         requires order { IsOrder (request_of settings.now.request) settings.now.pg1_path.now order }
-        ensures did { let told = ⟦<Outside<D, S, T, V, A, C, K, I, O, L, U> as Told>⟧.told in
+        ensures did { let told = ⟦<Self as Told>⟧.told in
             Did (asked_of settings.now) (told self.old) (told self.new) result }
-        ensures places { let told = ⟦<Outside<D, S, T, V, A, C, K, I, O, L, U> as Told>⟧.told in
-            SamePlaces (told self.old) (told self.new) }
+        ensures places { let told = ⟦<Self as Told>⟧.told in SamePlaces (told self.old) (told self.new) }
         ensures held { HoldsOnly (first_lock plan.now settings.now.stanza.now)
             (second_lock plan.now settings.now.stanza.now) (K.state self.new.locks).taken }
-        ensures took { let told = ⟦<Outside<D, S, T, V, A, C, K, I, O, L, U> as Told>⟧.told in
+        ensures took { let told = ⟦<Self as Told>⟧.told in
             OnOk result (TakesAll (asked_of settings.now) (told self.old) (told self.new)) }
-        ensures only { let told = ⟦<Outside<D, S, T, V, A, C, K, I, O, L, U> as Told>⟧.told in
+        ensures only { let told = ⟦<Self as Told>⟧.told in
             OnlyLocked (asked_of settings.now) (told self.old) (told self.new) }
         ensures tree { plan.now.folder ≡ false → self.new.tree ≡ self.old.tree }
         ensures quiet { settings.now.server ≡ None → self.new.server ≡ self.old.server }
@@ -218,17 +187,7 @@ impl<
         ensures waits { uses_turns (request_of settings.now.request) ≡ false
             → (self.new.spool ≡ self.old.spool) × (self.new.aside ≡ self.old.aside) }
         ensures idle { plan.now.backup_lock ≡ false → plan.now.archive_lock ≡ false → self.new.locks ≡ self.old.locks }
-        ensures rest { self.new ≡ record self.old {
-          repo = self.new.repo;
-          spool = self.new.spool;
-          tree = self.new.tree;
-          server = self.new.server;
-          aside = self.new.aside;
-          clock = self.new.clock;
-          locks = self.new.locks;
-          links = self.new.links;
-          turns = self.new.turns;
-        } }
+        ensures rest { KeepsInAndOut self.old self.new }
     {
         take_locks(
             alloc,
@@ -253,14 +212,13 @@ impl<
         requires free { (K.state self.old.locks).taken ≡ [] }
         requires plan { plan.now ≡ plan_of (request_of settings.now.request) }
         requires order { IsOrder (request_of settings.now.request) settings.now.pg1_path.now order }
-        ensures did { let told = ⟦<Outside<D, S, T, V, A, C, K, I, O, L, U> as Told>⟧.told in
+        ensures did { let told = ⟦<Self as Told>⟧.told in
             Did (asked_of settings.now) (told self.old) (told self.new) result }
-        ensures places { let told = ⟦<Outside<D, S, T, V, A, C, K, I, O, L, U> as Told>⟧.told in
-            SamePlaces (told self.old) (told self.new) }
+        ensures places { let told = ⟦<Self as Told>⟧.told in SamePlaces (told self.old) (told self.new) }
         ensures released { (K.state self.new.locks).taken ≡ [] }
-        ensures took { let told = ⟦<Outside<D, S, T, V, A, C, K, I, O, L, U> as Told>⟧.told in
+        ensures took { let told = ⟦<Self as Told>⟧.told in
             OnOk result (TakesAll (asked_of settings.now) (told self.old) (told self.new)) }
-        ensures only { let told = ⟦<Outside<D, S, T, V, A, C, K, I, O, L, U> as Told>⟧.told in
+        ensures only { let told = ⟦<Self as Told>⟧.told in
             OnlyLocked (asked_of settings.now) (told self.old) (told self.new) }
         ensures tree { plan.now.folder ≡ false → self.new.tree ≡ self.old.tree }
         ensures quiet { settings.now.server ≡ None → self.new.server ≡ self.old.server }
@@ -269,17 +227,7 @@ impl<
         ensures waits { uses_turns (request_of settings.now.request) ≡ false
             → (self.new.spool ≡ self.old.spool) × (self.new.aside ≡ self.old.aside) }
         ensures idle { plan.now.backup_lock ≡ false → plan.now.archive_lock ≡ false → self.new.locks ≡ self.old.locks }
-        ensures rest { self.new ≡ record self.old {
-          repo = self.new.repo;
-          spool = self.new.spool;
-          tree = self.new.tree;
-          server = self.new.server;
-          aside = self.new.aside;
-          clock = self.new.clock;
-          locks = self.new.locks;
-          links = self.new.links;
-          turns = self.new.turns;
-        } }
+        ensures rest { KeepsInAndOut self.old self.new }
     {
         let names = lock_names(alloc, plan, settings.stanza)?;
         let ended = self.locked(alloc, settings, plan, &names, order);
@@ -301,7 +249,7 @@ impl<
         requires order { IsOrder (request_of settings.now.request) settings.now.pg1_path.now order }
         requires ready { IsReady (plan_of (request_of settings.now.request)) settings.now.stanza.now
             (D.state self.old.repo).view.now (T.state self.old.tree).nodes ready }
-        ensures ran { let told = ⟦<Outside<D, S, T, V, A, C, K, I, O, L, U> as Told>⟧.told in
+        ensures ran { let told = ⟦<Self as Told>⟧.told in
             Ran (asked_of settings.now) (told self.old) (told self.new) result }
         ensures tree { (plan_of (request_of settings.now.request)).folder ≡ false → self.new.tree ≡ self.old.tree }
         ensures quiet { settings.now.server ≡ None → self.new.server ≡ self.old.server }
@@ -309,16 +257,7 @@ impl<
             → (self.new.links ≡ self.old.links) × (self.new.turns ≡ self.old.turns) }
         ensures waits { uses_turns (request_of settings.now.request) ≡ false
             → (self.new.spool ≡ self.old.spool) × (self.new.aside ≡ self.old.aside) }
-        ensures rest { self.new ≡ record self.old {
-          repo = self.new.repo;
-          spool = self.new.spool;
-          tree = self.new.tree;
-          server = self.new.server;
-          aside = self.new.aside;
-          clock = self.new.clock;
-          links = self.new.links;
-          turns = self.new.turns;
-        } }
+        ensures rest { KeepsLocked self.old self.new }
     {
         let outcome = self.dispatch(alloc, settings, order, ready)?;
         match outcome {
@@ -345,24 +284,17 @@ impl<
         requires order { IsOrder (request_of settings.now.request) settings.now.pg1_path.now order }
         requires ready { IsReady (plan_of (request_of settings.now.request)) settings.now.stanza.now
             (D.state self.old.repo).view.now (T.state self.old.tree).nodes ready }
-        ensures ran { let told = ⟦<Outside<D, S, T, V, A, C, K, I, O, L, U> as Told>⟧.told in
+        ensures ran { let told = ⟦<Self as Told>⟧.told in
             Ran (alone (asked_of settings.now)) (told self.old) (told self.new) result }
+        ensures least { OnBackup (request_of settings.now.request)
+            ((C.state self.old.clock).least ≤ (C.state self.new.clock).least) }
         ensures tree { (plan_of (request_of settings.now.request)).folder ≡ false → self.new.tree ≡ self.old.tree }
         ensures quiet { settings.now.server ≡ None → self.new.server ≡ self.old.server }
         ensures alone { uses_workers (request_of settings.now.request) ≡ false
             → (self.new.links ≡ self.old.links) × (self.new.turns ≡ self.old.turns) }
         ensures waits { uses_turns (request_of settings.now.request) ≡ false
             → (self.new.spool ≡ self.old.spool) × (self.new.aside ≡ self.old.aside) }
-        ensures rest { self.new ≡ record self.old {
-          repo = self.new.repo;
-          spool = self.new.spool;
-          tree = self.new.tree;
-          server = self.new.server;
-          aside = self.new.aside;
-          clock = self.new.clock;
-          links = self.new.links;
-          turns = self.new.turns;
-        } }
+        ensures rest { KeepsLocked self.old self.new }
     {
         match order {
             Order::StanzaCreate => self.create(alloc, settings, &ready),

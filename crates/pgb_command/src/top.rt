@@ -1,13 +1,12 @@
 // The top call.
 ghost use Rattle.std.specs.Prelude.{◌≡◌, ◌≤◌, true, false, [], None, Ok, IfErr, map, string_bytes};
-ghost use Rattle.pgb_story.specs.Beside.{KeepsOthers};
 ghost use Rattle.pgb_options.specs.Commands.{IsCommand};
 ghost use Rattle.pgb_options.specs.Settings.{Settled};
 ghost use Rattle.pgb_table.specs.Values.{is_stanza};
 ghost use Rattle.pgb_command.specs.Asked.{Request, Asked, MayAsk, requested, server_asked};
-ghost use Rattle.pgb_command.specs.Causes.{Answers, Obeys, Each, Finishes, PartDone, IsEarly, TurnsBack, EndsWell, Fulfils, LeavesRest, Completes, ClosesTalk};
+ghost use Rattle.pgb_command.specs.Causes.{Answers, Obeys, Each, OnEach, Finishes, PartDone, StaysAt, FulfilsAt, LeavesRest, LeavesOthers, Completes, ClosesTalk};
 ghost use Rattle.pgb_command.specs.Did.{OpensPlaces, OnlyLocked};
-ghost use Rattle.pgb_command.specs.Tables.{TurnsTold, known, uses_turns, uses_workers, is_on_repository};
+ghost use Rattle.pgb_command.specs.Tables.{uses_turns, uses_workers, is_on_repository};
 ghost use Rattle.pgb_command.specs.Told.{AreWorkers};
 
 use crate::asking::settings_of;
@@ -104,44 +103,35 @@ pub fn run<
         Answers (map string_bytes words.now) (told outside.old) (told outside.new) result }
 
     // At 0 all of the command's steps are done: in what the disks hold, and in all that a stop leaves.
-    ensures done { let told = ⟦<Outside<D, S, T, V, A, C, K, I, O, L, U> as Told>⟧.told in
-        result ≡ 0 → Each (map string_bytes words.now) (I.state outside.old.config).files
-        (λ a. Finishes a (told outside.old) (told outside.new)) }
+    ensures done { result ≡ 0 → OnEach ⟦<Outside<D, S, T, V, A, C, K, I, O, L, U> as Told>⟧.told Finishes
+        words.now outside.old outside.new }
 
     // After every answer a part of them is, and at each moment between whatever a stop leaves stands for the log
     // with a part.
-    ensures part { let told = ⟦<Outside<D, S, T, V, A, C, K, I, O, L, U> as Told>⟧.told in
-        Each (map string_bytes words.now) (I.state outside.old.config).files
-        (λ a. PartDone a (told outside.old) (told outside.new)) }
+    ensures part { OnEach ⟦<Outside<D, S, T, V, A, C, K, I, O, L, U> as Told>⟧.told PartDone
+        words.now outside.old outside.new }
 
     // A refusal for what was found takes no step but those of the turns that were waited for, nor does one for a
     // connection to the server that failed.
-    ensures stays { let told = ⟦<Outside<D, S, T, V, A, C, K, I, O, L, U> as Told>⟧.told in
-        Each (map string_bytes words.now) (I.state outside.old.config).files
-        (λ a. IsEarly a.request result → TurnsBack a (told outside.old) (told outside.new) result) }
+    ensures stays { OnEach ⟦<Outside<D, S, T, V, A, C, K, I, O, L, U> as Told>⟧.told (StaysAt result)
+        words.now outside.old outside.new }
 
     // At 0, 1 and 65 the command keeps its promise, and its lines are written.
-    ensures fulfils { let told = ⟦<Outside<D, S, T, V, A, C, K, I, O, L, U> as Told>⟧.told in
-        EndsWell result → Each (map string_bytes words.now) (I.state outside.old.config).files
-        (λ a. Fulfils a (told outside.old) (told outside.new) result) }
+    ensures fulfils { OnEach ⟦<Outside<D, S, T, V, A, C, K, I, O, L, U> as Told>⟧.told (FulfilsAt result)
+        words.now outside.old outside.new }
 
     // What the command has no use for stays, no place but those of the words is opened, and without its locks
     // nothing is done.
-    ensures rests { let told = ⟦<Outside<D, S, T, V, A, C, K, I, O, L, U> as Told>⟧.told in
-        Each (map string_bytes words.now) (I.state outside.old.config).files
-        (λ a. LeavesRest a (told outside.old) (told outside.new)) }
+    ensures rests { OnEach ⟦<Outside<D, S, T, V, A, C, K, I, O, L, U> as Told>⟧.told LeavesRest
+        words.now outside.old outside.new }
     // Of every other stanza in form all stays, at its end and in all that a stop leaves at each moment, where what others
     // did meanwhile is told.
-    ensures others { let told = ⟦<Outside<D, S, T, V, A, C, K, I, O, L, U> as Told>⟧.told in
-        Each (map string_bytes words.now) (I.state outside.old.config).files
-        (λ a. TurnsTold a a.request (known (told outside.new))
-        → KeepsOthers a.stanza (D.state outside.old.repo).view (D.state outside.new.repo).view) }
-    ensures places { let told = ⟦<Outside<D, S, T, V, A, C, K, I, O, L, U> as Told>⟧.told in
-        Each (map string_bytes words.now) (I.state outside.old.config).files
-        (λ a. OpensPlaces a (told outside.old) (told outside.new)) }
-    ensures locked { let told = ⟦<Outside<D, S, T, V, A, C, K, I, O, L, U> as Told>⟧.told in
-        Each (map string_bytes words.now) (I.state outside.old.config).files
-        (λ a. OnlyLocked a (told outside.old) (told outside.new)) }
+    ensures others { OnEach ⟦<Outside<D, S, T, V, A, C, K, I, O, L, U> as Told>⟧.told LeavesOthers
+        words.now outside.old outside.new }
+    ensures places { OnEach ⟦<Outside<D, S, T, V, A, C, K, I, O, L, U> as Told>⟧.told OpensPlaces
+        words.now outside.old outside.new }
+    ensures locked { OnEach ⟦<Outside<D, S, T, V, A, C, K, I, O, L, U> as Told>⟧.told OnlyLocked
+        words.now outside.old outside.new }
 
     // Where no cause of a refusal holds the command ends well, or for want of memory.
     ensures complete { let told = ⟦<Outside<D, S, T, V, A, C, K, I, O, L, U> as Told>⟧.told in

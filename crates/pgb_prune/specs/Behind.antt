@@ -23,10 +23,10 @@ use Rattle.pgb_prune.specs.Pruning.{IsMoment, TellsMoment, IsPruned}
 
 -- ---- which command it is
 
--- What the command is to one that makes a backup: that one, or the same with an expiry behind it by these rules, at some moment.
-abbrev pub IsFollowed : Option Rules → Command → Command → Type 0
-IsFollowed None made command = command ≡ made
-IsFollowed (Some rules) made command = (turns : List Turn) × (b : Backup) × (moment : ℕ) × IsMoment rules.full 0 moment
+-- What the command is to one that makes a backup: that one, or the same with an expiry behind it by these rules, at some moment; least is the least second that the clock may tell as the backup begins.
+abbrev pub IsFollowed : Option Rules → ℕ → Command → Command → Type 0
+IsFollowed None least made command = command ≡ made
+IsFollowed (Some rules) least made command = (turns : List Turn) × (b : Backup) × (moment : ℕ) × IsMoment rules.full least moment
     × (made ≡ MakeBackup turns b None) × (command ≡ MakeBackup turns b (Some (retention rules moment)))
 
 -- whatever sound repository the disk stands for, it is sound after all of the command's steps

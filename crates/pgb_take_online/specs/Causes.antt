@@ -1,14 +1,16 @@
 -- Why a running server's backup is refused, from what stood before and what the server told.
-use Rattle.std.specs.Prelude.{◌≡◌, ◌⊎◌, ℕ, List, true, Option, Some, IfSome}
+use Rattle.std.specs.Prelude.{◌≡◌, ◌⊎◌, ℕ, List, true, Option, Some, IfSome, String, string_bytes}
+use Rattle.std.specs.declared.alloc.Global.{Global}
 use Rattle.pgb_outside.specs.Content.{Content}
 use Rattle.pgb_model.specs.declared.labels.Kind.{Kind}
 use Rattle.pgb_model.specs.Fields.{at_number}
 use Rattle.pgb_model.specs.Repository.{id_of}
+use Rattle.pgb_model.specs.Values.{FileEntry}
 use Rattle.pgb_label.specs.declared.keeper.Ended.{Ended}
 use Rattle.pgb_paths.specs.declared.names.NameFault.{NameFault}
 use Rattle.pgb_plan.specs.declared.fault.PlanFault.{PlanFault}
 use Rattle.pgb_plan.specs.declared.fault.PlanFault.TheVariants as plans
-use Rattle.pgb_plan.specs.Filter.{kept, IsRefused, Takes}
+use Rattle.pgb_plan.specs.Filter.{kept, files_of, IsRefused, Takes}
 use Rattle.pgb_backup.specs.declared.draft.Draft.{Draft}
 use Rattle.pgb_backup.specs.Draft.{stanza_of, taken_in, folders_in, list_in}
 use Rattle.pgb_backup.specs.Faults.{WhereDone}
@@ -22,6 +24,7 @@ use Rattle.pgb_take_later.specs.declared.fault.LaterFault.TheVariants as laters
 use Rattle.pgb_take_later.specs.declared.order.LaterOrder.{LaterOrder}
 use Rattle.pgb_take_later.specs.Basing.{base_label}
 use Rattle.pgb_take_later.specs.Causes.{LaterCause}
+use Rattle.pgb_take_later.specs.Equal.{CannotDigest}
 use Rattle.pgb_take_online.specs.declared.fault.OnlineTakeFault.{OnlineTakeFault}
 use Rattle.pgb_take_online.specs.declared.fault.OnlineTakeFault.TheVariants.{Take, NotArrived, Ambiguous}
 use Rattle.pgb_take_online.specs.Doing.{Heard}
@@ -62,6 +65,10 @@ OfTold x P = OfDraft x (λ d. (o : Online) × TellsOnline x.heard.system x.heard
 abbrev pub OfDone : Asked → (Draft → Option Online → List (List Ended) → Type 0) → Type 0
 OfDone x P = OfTold x (λ d o. WhereDone d x.before.used (λ ends. P d (Some o) ends))
 
+-- a link couldn't read a file of the folder for which a digest was asked
+abbrev pub Undigested : Before → String Global → Type 0
+Undigested b path = Shows b (λ seen. (old : List FileEntry) × CannotDigest b.used old (files_of (kept true seen)) (string_bytes path))
+
 -- why it is refused as a stopped server's backup may be
 abbrev pub RunningCause : Asked → TakeFault → Type 0
 RunningCause x (HistoryDiffers at) = TakeCause x.before (HistoryDiffers at)
@@ -74,7 +81,7 @@ RunningCause x (LinkFound path) = Refuses x.before (plans.LinkFound path)
 RunningCause x (NameRefused path) = Shows x.before (λ seen. (fault : NameFault) × IsRefused (kept true seen) (plans.NameRefused path fault))
 RunningCause x ListingUnordered = TakeCause x.before ListingUnordered
 RunningCause x (ControlMissing path) = Refuses x.before (plans.ControlMissing path) ⊎ OfDone x (λ d o ends. PublishCause d o ends (ControlMissing path))
-RunningCause x (Unread path) = OfDraft x (λ d. CannotRead d x.before.used path)
+RunningCause x (Unread path) = OfDraft x (λ d. CannotRead d x.before.used path) ⊎ Undigested x.before path
 RunningCause x (TooLong name limit) = OfDone x (λ d o ends. PublishCause d o ends (TooLong name limit))
 
 -- it is so of an order of this kind

@@ -1,18 +1,21 @@
 -- What a backup of any kind of a running server is (pgBackRest user guide, "Backup"; command reference, "Backup").
-use Rattle.std.specs.Prelude.{◌≡◌, ℕ, List, Option, Some, None, IfSome, IsSome}
+use Rattle.std.specs.Prelude.{◌≡◌, ◌⊎◌, ℕ, true, List, Option, Some, None, IfSome, IsSome}
 use Rattle.std.specs.FinMap.{get}
 use Rattle.pgb_outside.specs.Content.{Content}
 use Rattle.pgb_outside.specs.Links.{LinkState}
+use Rattle.pgb_outside.specs.Tree.{Nodes, IsTreeListing}
 use Rattle.pgb_model.specs.declared.clusters.Cluster.{Cluster}
-use Rattle.pgb_model.specs.declared.labels.Kind.{Kind}
-use Rattle.pgb_model.specs.Names.{backup_info}
+use Rattle.pgb_model.specs.ManifestText.{IsManifestText}
+use Rattle.pgb_model.specs.Names.{backup_info, manifest_name}
 use Rattle.pgb_model.specs.Now.{NowStands}
+use Rattle.pgb_model.specs.Pair.{PairIs}
 use Rattle.pgb_model.specs.Repository.{Backup, Stanza, IsSound, IsSoundStanza, id_of}
 use Rattle.pgb_model.specs.Steps.{Turn, MakeBackup, after, all_of, steps_of}
-use Rattle.pgb_model.specs.Text.{Text}
-use Rattle.pgb_model.specs.Values.{BackupInfo}
+use Rattle.pgb_model.specs.Text.{Text, In}
+use Rattle.pgb_model.specs.Values.{BackupInfo, FileEntry, Manifest}
+use Rattle.pgb_plan.specs.Filter.{ListedNode, kept, files_of}
 use Rattle.pgb_record.specs.Making.{labels_of}
-use Rattle.pgb_backup.specs.Online.{Online, label_path}
+use Rattle.pgb_backup.specs.Online.{Online, label_path, label_entry}
 use Rattle.pgb_stanza.specs.declared.control.Control.{Control}
 use Rattle.pgb_stanza.specs.Pairs.{AgreeAt}
 use Rattle.pgb_draft.specs.Priors.{made_label}
@@ -20,7 +23,10 @@ use Rattle.pgb_draft.specs.Seconds.{AreBefore}
 use Rattle.pgb_logged.specs.Backups.{IsReadOrLeftBeside, Archives}
 use Rattle.pgb_turn.specs.Turns.{Turned, Account}
 use Rattle.pgb_await.specs.Went.{turns_of}
-use Rattle.pgb_take_later.specs.Basing.{base_in, base_label}
+use Rattle.pgb_take_later.specs.declared.order.LaterOrder.{LaterOrder}
+use Rattle.pgb_take_later.specs.Basing.{base_in, base_label, old_files, ReadsBase}
+use Rattle.pgb_take_later.specs.Equal.{IsEntryBy}
+use Rattle.pgb_take_later.specs.Making.{RefersTo}
 use Rattle.pgb_take_later.specs.Taken.{HasRoom}
 use Rattle.pgb_take_later.specs.Texts.{later_lines}
 use Rattle.pgb_take_online.specs.Doing.{Heard, TakesTurns}
@@ -32,22 +38,35 @@ pub record AddsOnline (stanza : Text) (turns : List Turn) (b : Backup) (o : Onli
   pub sound : (s : Stanza) → IsSome old → NowStands stanza (Some s) old → IsSoundStanza s → IsSound (after (Some s) (all_of (steps_of (MakeBackup turns b None) (Some s))))
   pub archived : (s : Stanza) → IsSome old → NowStands stanza (Some s) old → (t : Stanza) → after (Some s) (all_of (steps_of (MakeBackup turns b None) (Some s))) ≡ Some t → Archives (id_of cluster) o.part t
 
+-- The disk has the backup's manifest. An entry is that of the label file, or of a listed file: of these, those of files that are the prior backup's refer to others, and no others do.
+pub record HasOnlineEntries (stanza : Text) (o : LaterOrder) (seen : List ListedNode) (list : BackupInfo) (links : List LinkState) (online : Online) (old new : Option Content) (b : Backup) : Type 0 where
+  pub base : Option Manifest
+  pub reads : ReadsBase stanza old (base_label o.kind list) base
+  pub manifest : Manifest
+  pub held : IsSome old → IfSome new (λ f. PairIs IsManifestText f (manifest_name stanza b.entry.label) manifest)
+  pub each : (e : FileEntry) → In e manifest.files → (e ≡ label_entry online.label_file b.entry.stop) ⊎ IsEntryBy links o.settings.delta (old_files base) (files_of (kept true seen)) e
+
 -- Ok of a running server's backup, with its lines: it is based on the backup of the list that its kind asks for, and is a full one without one; it is of what the links read, of what that backup has, and of what the server told.
-pub record IsTakenOnline (stanza : Text) (told : Control) (kind : Kind) (heard : Heard) (used : List LinkState) (turned : List Turned) (old new : Option Content) (lines : Text) : Type 0 where
+pub record IsTakenOnline (stanza : Text) (told : Control) (o : LaterOrder) (nodes : Option Nodes) (heard : Heard) (used : List LinkState) (turned : List Turned) (old new : Option Content) (lines : Text) : Type 0 where
   pub list : BackupInfo
+  pub seen : List ListedNode
+  pub listing : IfSome nodes (λ f. IsTreeListing f seen)
   pub room : IfSome old (HasRoom stanza told list)
   pub backup : Backup
   pub second : ℕ
   pub later : AreBefore (labels_of list.backups) second
-  pub label : backup.entry.label ≡ made_label kind (base_in kind list) second
-  pub prior : backup.entry.prior ≡ base_label kind list
-  pub line : lines ≡ later_lines kind (base_in kind list) backup.entry.label
+  pub label : backup.entry.label ≡ made_label o.kind (base_in o.kind list) second
+  pub prior : backup.entry.prior ≡ base_label o.kind list
+  pub line : lines ≡ later_lines o.kind (base_in o.kind list) backup.entry.label
+  pub delta : backup.choices.delta ≡ o.settings.delta
   -- the server told its part of the log and its label file
   pub online : Online
   pub heard_is : TellsOnline heard.system heard.pending heard.left online
   pub wal : backup.wal ≡ Some online.part
   pub label_file : get backup.files label_path ≡ Some (record { bytes = online.label_file; time = backup.entry.stop })
   pub read : IsReadOrLeftBeside used (Some online.label_file) stanza old backup
+  pub entries : HasOnlineEntries stanza o seen list used online old new backup
+  pub refers : (s : Stanza) → IsSome old → NowStands stanza (Some s) old → RefersTo s backup
   pub cluster : Cluster
   pub db : backup.entry.db ≡ cluster.id
   pub adds : AddsOnline stanza (turns_of turned) backup online cluster old new
@@ -55,6 +74,6 @@ pub record IsTakenOnline (stanza : Text) (told : Control) (kind : Kind) (heard :
   pub alike : IsSome old → IfSome new (AgreeAt (backup_info stanza))
 
 -- it waited the turns that the account tells of this stanza
-abbrev pub TakesOnline : Text → Control → Kind → Heard → List LinkState → Option Account → Option Account → Option Content → Option Content → Text → Type 0
-TakesOnline stanza told kind heard used old_account account old new lines = IfSome account (λ k. k.stanza ≡ stanza
-    → (turned : List Turned) × TakesTurns turned old_account k × IsTakenOnline stanza told kind heard used turned old new lines)
+abbrev pub TakesOnline : Text → Control → LaterOrder → Option Nodes → Heard → List LinkState → Option Account → Option Account → Option Content → Option Content → Text → Type 0
+TakesOnline stanza told o nodes heard used old_account account old new lines = IfSome account (λ k. k.stanza ≡ stanza
+    → (turned : List Turned) × TakesTurns turned old_account k × IsTakenOnline stanza told o nodes heard used turned old new lines)

@@ -51,6 +51,7 @@ pub(crate) fn end_backup<'a, D: Disk, C: Clock>(
     ensures beside { StaysBeside (fetched_draft fetched.entry).stanza.now (D.state repo.old).view
         (D.state repo.new).view }
     ensures frame { Frame (D.state repo.old) (D.state repo.new) }
+    ensures least { (C.state clock.old).least ≤ (C.state clock.new).least }
     ensures later { (C.state clock.old).faults ≤ (C.state clock.new).faults }
     ensures cause { IfErr result (HaltCause Never (rose_in (record none {
       repo = Rises (D.state repo.old).faults (D.state repo.new).faults;

@@ -7,7 +7,9 @@
 //! (`conclude`).
 //!
 //! A file that is as that manifest tells it isn't read again. So that its time tells of each change, files are read in a
-//! later second than the folder is listed (`list_folder`): what the server writes from then on has a later time.
+//! later second than the folder is listed (`list_folder`): what the server writes from then on has a later time. With
+//! delta the digest tells, for which the workers are asked first, while the server is in its backup (`draft_running`): what
+//! the server changes behind it is in the log that the backup needs.
 //!
 //! What is proved, by the contract of the function that is named:
 //!
@@ -21,13 +23,16 @@
 //!   are alike.
 //! - At Ok the backup is based on the one of them that its kind asks for, and is a full one without one; the lines tell
 //!   its label, and that it became full.
+//! - At Ok the disk has its manifest, where it was told. But for the label file, an entry refers to another backup exactly
+//!   where the prior's manifest has its file with the listed size and, without delta, the listed time; with delta where a
+//!   link told the digest that this manifest has. So the control file is always stored. Each such entry has the listed
+//!   time. What the backup refers to is listed, and is its prior or one before that.
 //! - At Ok the server was sent one talk, whose last message is the end. Where a talk began and the backup is refused, the
 //!   last that was sent is the end, unless the connection failed or memory ran out.
-//! - It waits for so many turns at most, keeps to its stanza, and only reads the data folder. Each refusal has its cause in
-//!   what stood before, in what the server told, and, where a segment isn't archived, in what the repository holds; each
-//!   object that failed counted it.
+//! - It waits for so many turns at most, keeps to its stanza, only reads the data folder, and the least second that the
+//!   clock may tell doesn't fall. Each refusal has its cause in what stood before, in what the server told, and, where a
+//!   segment isn't archived, in what the repository holds; each object that failed counted it.
 //! - `online_take_status`, `online_take_message`: the status and the message of each refusal.
-//! - Digests aren't compared yet: with delta all files are read.
 #![tactic(auto)]
 
 mod drafting;

@@ -100,6 +100,7 @@ pub(crate) fn prepare<D: Disk, C: Clock, L: Link>(
     ensures few { OnOk result (vec_len links.new < 2 ^ 32) }
     ensures ready { OnOk result (AreReady (map L.link_state links.new.items)) }
     ensures looks { Looks (D.state repo.old) (D.state repo.new) }
+    ensures least { (C.state clock.old).least ≤ (C.state clock.new).least }
     ensures later { (C.state clock.old).faults ≤ (C.state clock.new).faults }
     ensures cause { IfErr result (HaltCause
         (PrepareCause stanza.now order.now.kind told.now (archive_info_of archive.now) (backup_info_of backup)

@@ -84,7 +84,7 @@ pub fn take_online<
         (A.state aside.old).account (A.state aside.new).account
         (D.state repo.old).view (S.state spool.old).view (S.state spool.new).view }
     ensures taken { IfOk result (λ outcome. OnFinished outcome
-        (TakesOnline stanza.now told.now order.entry.later.kind
+        (TakesOnline stanza.now told.now order.entry.later (T.state tree.old).nodes
         (record {
           system = told.now.system;
           pending = (V.state server.old).pending;
@@ -115,6 +115,7 @@ pub fn take_online<
         × Counts n (A.state aside.old).turns (A.state aside.new).turns }
     ensures server_later { (V.state server.old).faults ≤ (V.state server.new).faults }
     ensures aside_later { (A.state aside.old).faults ≤ (A.state aside.new).faults }
+    ensures least { (C.state clock.old).least ≤ (C.state clock.new).least }
     ensures later { (C.state clock.old).faults ≤ (C.state clock.new).faults }
     ensures cause { IfErr result (HaltCause
         (OnlineCause (record {

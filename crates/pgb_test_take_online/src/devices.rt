@@ -68,10 +68,11 @@ pub(crate) enum Device {
     Worker,
 }
 
-/// Which kind is asked for, what the data folder holds, what the server and the others tell, and which call fails.
+/// Which kind is asked for, and whether by digests, what the data folder holds, what the server and the others tell, and which call fails.
 #[derive(Clone, Copy)]
 pub(crate) struct Case {
     pub kind: Kind,
+    pub delta: bool,
     pub files: &'static [Holding],
     /// The second by which the backup is named.
     pub second: u64,
@@ -193,7 +194,7 @@ fn values<D: Disk, T: Tree, K: Locks>(
     }
 }
 
-fn order(kind: Kind) -> OnlineOrder<'static> {
+fn order(case: &Case) -> OnlineOrder<'static> {
     OnlineOrder {
         later: LaterOrder {
             take: TakeOrder {
@@ -201,9 +202,9 @@ fn order(kind: Kind) -> OnlineOrder<'static> {
                 repository: "/srv/repo",
                 workers: 1,
             },
-            kind,
+            kind: case.kind,
             settings: PlanSettings {
-                delta: false,
+                delta: case.delta,
                 bundle: false,
                 bundle_size: 0,
                 bundle_limit: 0,
@@ -263,7 +264,7 @@ fn told(alloc: Global, repo: &mut MemDisk, case: &Case) -> Result<String, AllocE
         &mut link(alloc, case.files, case.fails(alloc, Device::Worker)?)?,
         &mut MemTurns::new(Vec::new(alloc)),
         "demo",
-        order(case.kind),
+        order(case),
         &CONTROL,
         &archive,
         backup,

@@ -22,6 +22,7 @@ const FOURTH: &str =
 // 2024-01-02 03:04:05, a backup from the second segment to the third, which others push in their second turn.
 const FIRST: Case = Case {
     kind: Kind::Full,
+    delta: false,
     files: FILES,
     second: 1704164645,
     system: SYSTEM,
@@ -37,6 +38,7 @@ const IN_FOURTH: &[&str] = &["0/400100", "000000010000000000000004", LABEL_FILE,
 // 100 seconds later, and within the fourth.
 const SECOND: Case = Case {
     kind: Kind::Full,
+    delta: false,
     files: FILES,
     second: 1704164745,
     system: SYSTEM,
@@ -58,6 +60,14 @@ fn full_label(second: u64) -> Label
     }
 }
 
+// The second by which a backup is named.
+fn second_of(label: &Label) -> u64 {
+    match &label.later {
+        Some(later) => later.time,
+        None => label.full,
+    }
+}
+
 // What is told of the backup of this label: its files with their times, and its part of the log. Of a file that it has
 // of another backup, the second of that is told.
 fn told_of(alloc: Global, names: &[(String, Vec<u8>)], label: &Label) -> Result<String, AllocError>
@@ -73,7 +83,7 @@ fn told_of(alloc: Global, names: &[(String, Vec<u8>)], label: &Label) -> Result<
         let path = file.path.as_str();
         write!(text, "{path} {} at {}", file.size, file.time)?;
         if let Some(label) = &file.reference {
-            write!(text, " of {}", label.full)?;
+            write!(text, " of {}", second_of(label))?;
         }
         text.push_str("; ")?;
     }
@@ -99,8 +109,8 @@ fn listed(alloc: Global, names: &[(String, Vec<u8>)]) -> Result<String, AllocErr
     };
     let mut text = String::new(alloc);
     for entry in &list.backups {
-        let full = entry.label.full;
-        write!(text, "{full} of {} bytes. ", entry.size)?;
+        let second = second_of(&entry.label);
+        write!(text, "{second} of {} bytes. ", entry.size)?;
     }
     Ok(text)
 }
@@ -166,6 +176,8 @@ const LATER: Label = Label {
     }),
 };
 
+const LATER_LINE: &str = "INFO: new backup label = 20240102-030405F_20240102-030545I\n";
+
 const CHANGED_ALONE: &str =
     "PG_VERSION 3 at 7 of 1704164645; backup_label 29 at 1704164754; base/1/112 5 at 8; global/pg_control 4 at 7; from 4 to 4";
 
@@ -180,14 +192,82 @@ fn incremental(rt: HostRuntime) {
         ..SECOND
     };
     let (told, names) = well(&rt, taken(alloc, &first, &case));
-    same(
-        &rt,
-        told.as_str(),
-        "INFO: new backup label = 20240102-030405F_20240102-030545I\n",
-    );
+    same(&rt, told.as_str(), LATER_LINE);
     check_first(&rt, alloc, &names);
     let told = well(&rt, told_of(alloc, &names, &LATER));
     same(&rt, told.as_str(), CHANGED_ALONE);
+}
+
+// The same bytes at another time, and other bytes of the same number at the same time.
+const REWRITTEN: &[Holding] = &[
+    ("PG_VERSION", b"15\n", 8),
+    ("base/1/112", b"hallo", 7),
+    ("global/pg_control", b"head", 7),
+    ("postmaster.pid", b"4711\n", 7),
+];
+
+const BY_DIGESTS: Case = Case {
+    kind: Kind::Incr,
+    delta: true,
+    files: REWRITTEN,
+    ..SECOND
+};
+
+const OTHER_ALONE: &str =
+    "PG_VERSION 3 at 8 of 1704164645; backup_label 29 at 1704164754; base/1/112 5 at 7; global/pg_control 4 at 7; from 4 to 4";
+
+#[test]
+fn incremental_by_digests(rt: HostRuntime) {
+    let alloc = rt.alloc();
+    let empty = well(&rt, stanza(alloc));
+    let (_, first) = well(&rt, taken(alloc, &empty, &FIRST));
+    let (told, names) = well(&rt, taken(alloc, &first, &BY_DIGESTS));
+    same(&rt, told.as_str(), LATER_LINE);
+    check_first(&rt, alloc, &names);
+    let told = well(&rt, told_of(alloc, &names, &LATER));
+    same(&rt, told.as_str(), OTHER_ALONE);
+}
+
+// The same bytes as the second backup's, all at other times.
+const COPIED: &[Holding] = &[
+    ("PG_VERSION", b"15\n", 9),
+    ("base/1/112", b"hallo", 9),
+    ("global/pg_control", b"head", 9),
+    ("postmaster.pid", b"4711\n", 9),
+];
+
+// 100 seconds after the second one, and based on it.
+const THIRD_LABEL: Label = Label {
+    full: FIRST.second,
+    later: Some(Later {
+        time: 1704164845,
+        kind: Kind::Incr,
+    }),
+};
+
+const ALL_LEFT: &str =
+    "PG_VERSION 3 at 9 of 1704164645; backup_label 29 at 1704164854; base/1/112 5 at 9 of 1704164745; global/pg_control 4 at 9; from 4 to 4";
+
+#[test]
+fn chain_by_digests(rt: HostRuntime) {
+    let alloc = rt.alloc();
+    let empty = well(&rt, stanza(alloc));
+    let (_, first) = well(&rt, taken(alloc, &empty, &FIRST));
+    let (_, second) = well(&rt, taken(alloc, &first, &BY_DIGESTS));
+    let case = Case {
+        second: 1704164845,
+        files: COPIED,
+        ..BY_DIGESTS
+    };
+    let (told, names) = well(&rt, taken(alloc, &second, &case));
+    same(
+        &rt,
+        told.as_str(),
+        "INFO: new backup label = 20240102-030405F_20240102-030725I\n",
+    );
+    check_first(&rt, alloc, &names);
+    let told = well(&rt, told_of(alloc, &names, &THIRD_LABEL));
+    same(&rt, told.as_str(), ALL_LEFT);
 }
 
 #[test]
@@ -269,35 +349,54 @@ const CAUSES: &[(Device, &str)] = &[
     (Device::Worker, "55 1 workers lost"),
 ];
 
-// After a backup behind the first, that one is listed, and the other at most, whole.
-fn check_both(rt: &impl Abort, alloc: Global, names: &[(String, Vec<u8>)]) -> bool {
+// After a backup behind the first, that one is listed, and the other of this label at most, of which this is told.
+fn check_both(
+    rt: &impl Abort,
+    alloc: Global,
+    names: &[(String, Vec<u8>)],
+    label: &Label,
+    want: &str,
+) -> bool
+    requires { IsLabel label.now }
+{
     check_first(rt, alloc, names);
     let list = well(rt, listed(alloc, names));
     if list.as_str() == LISTED {
         return false;
     }
     same(rt, list.as_str(), LISTED_BOTH);
-    let told = well(rt, told_of(alloc, names, &full_label(SECOND.second)));
-    same(rt, told.as_str(), WITHIN_FOURTH);
+    same(rt, well(rt, told_of(alloc, names, label)).as_str(), want);
     true
 }
 
-// Each call of this device fails in turn, until a backup ends well.
+// A backup behind the first: the line that tells it, and what is told of it.
+#[derive(Clone, Copy)]
+struct Further {
+    case: Case,
+    line: &'static str,
+    told: &'static str,
+}
+
+// Each call of this device fails in turn, until a backup of this label ends well.
 fn check_device(
     rt: &impl Abort,
     alloc: Global,
     first: &[(String, Vec<u8>)],
+    further: &Further,
+    label: &Label,
     device: Device,
     want: &str,
-) {
+)
+    requires { IsLabel label.now }
+{
     for call in 0u64..200 {
         let case = Case {
             failing: Some((device, call)),
-            ..SECOND
+            ..further.case
         };
         let (told, names) = well(rt, taken(alloc, first, &case));
-        let both = check_both(rt, alloc, &names);
-        if told.as_str() == "INFO: new backup label = 20240102-030545F\n" {
+        let both = check_both(rt, alloc, &names, label, further.told);
+        if told.as_str() == further.line {
             same(rt, (both, call > 0), (true, true));
             return;
         }
@@ -311,7 +410,19 @@ fn each_call_fails(rt: HostRuntime) {
     let alloc = rt.alloc();
     let empty = well(&rt, stanza(alloc));
     let (_, first) = well(&rt, taken(alloc, &empty, &FIRST));
+    let full = Further {
+        case: SECOND,
+        line: "INFO: new backup label = 20240102-030545F\n",
+        told: WITHIN_FOURTH,
+    };
+    let by_digests = Further {
+        case: BY_DIGESTS,
+        line: LATER_LINE,
+        told: OTHER_ALONE,
+    };
     for &(device, want) in CAUSES {
-        check_device(&rt, alloc, &first, device, want);
+        let label = full_label(SECOND.second);
+        check_device(&rt, alloc, &first, &full, &label, device, want);
+        check_device(&rt, alloc, &first, &by_digests, &LATER, device, want);
     }
 }

@@ -27,7 +27,7 @@ pub returns-in-Err-clause-stays : goal.returns-in-Err-clause-stays
 returns-in-Err-clause-stays g c = λ a asks early. turns_back a _ _ c.answer.result early (found (map string_bytes c.args.words.now) _ _ c.answer.result (returns-in-Err-clause-answers g c) a asks)
 
 pub returns-in-Err-clause-fulfils : goal.returns-in-Err-clause-fulfils
-returns-in-Err-clause-fulfils g c = λ well a asks. fulfils a _ _ c.answer.result well (found (map string_bytes c.args.words.now) _ _ c.answer.result (returns-in-Err-clause-answers g c) a asks)
+returns-in-Err-clause-fulfils g c = λ a asks well. fulfils a _ _ c.answer.result well (found (map string_bytes c.args.words.now) _ _ c.answer.result (returns-in-Err-clause-answers g c) a asks)
 
 pub returns-in-Err-clause-rests : goal.returns-in-Err-clause-rests
 returns-in-Err-clause-rests g c = λ a asks. leaves_rest a _ _ c.answer.result (found (map string_bytes c.args.words.now) _ _ c.answer.result (returns-in-Err-clause-answers g c) a asks)
@@ -51,7 +51,7 @@ pub returns-clause-stays : goal.returns-clause-stays
 returns-clause-stays g c = λ a asks early. turns_back a _ _ c.carry.result early (found (map string_bytes c.args.words.now) _ _ c.carry.result (returns-clause-answers g c) a asks)
 
 pub returns-clause-fulfils : goal.returns-clause-fulfils
-returns-clause-fulfils g c = λ well a asks. fulfils a _ _ c.carry.result well (found (map string_bytes c.args.words.now) _ _ c.carry.result (returns-clause-answers g c) a asks)
+returns-clause-fulfils g c = λ a asks well. fulfils a _ _ c.carry.result well (found (map string_bytes c.args.words.now) _ _ c.carry.result (returns-clause-answers g c) a asks)
 
 pub returns-clause-rests : goal.returns-clause-rests
 returns-clause-rests g c = λ a asks. leaves_rest a _ _ c.carry.result (found (map string_bytes c.args.words.now) _ _ c.carry.result (returns-clause-answers g c) a asks)

@@ -9,7 +9,7 @@ use Rattle.pgb_command.proofs.outside.Outside.examine.Goals as goal
 pub returns-clause-ran : goal.returns-clause-ran
 returns-clause-ran g c =
     let e = c.examine_stanza.ensures in
-    examined_ran (alone (asked_of c.args.settings.now)) _ _ refl (record { now = e.looks.now; time = e.looks.time }) c.examine_stanza.result c.examine_end.result c.examine_end.ensures c.requires.request
+    examined_ran (alone (asked_of c.args.settings.now)) _ _ refl (record { now = e.looks.now; time = e.looks.time }) c.examine_end.result c.examine_stanza.result c.examine_end.ensures c.requires.request
     (both_ok c.examine_stanza.result _ _ e.examined e.sound)
     _ (only_rose _ _ _ _ (λ h. h)) e.cause
     (record { repo = e.looks.opened; tree = refl })

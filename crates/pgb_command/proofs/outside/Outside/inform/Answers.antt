@@ -9,7 +9,7 @@ use Rattle.pgb_command.proofs.outside.Outside.inform.Goals as goal
 pub returns-clause-ran : goal.returns-clause-ran
 returns-clause-ran g c =
     let e = c.report_stanza.ensures in
-    informed_ran (alone (asked_of c.args.settings.now)) _ _ refl (record { now = e.looks.now; time = e.looks.time }) c.args.form c.report_stanza.result c.inform_end.result c.inform_end.ensures c.requires.request
+    informed_ran (alone (asked_of c.args.settings.now)) _ _ refl (record { now = e.looks.now; time = e.looks.time }) c.inform_end.result c.args.form c.report_stanza.result c.inform_end.ensures c.requires.request
     (both_ok c.report_stanza.result _ _ e.told e.reported)
     _ (only_rose _ _ _ _ (λ h. h)) e.cause
     (record { repo = e.looks.opened; tree = refl })

@@ -12,7 +12,7 @@ pub returns-in-Some-clause-ran : goal.returns-in-Some-clause-ran
 returns-in-Some-clause-ran g c = let s = c.args.settings.now in
     let rest = c.follow.ensures.rest in
     behind_ran (asked_of s) c.in-Some.rules c.in-Some.is (kept_behind s.request s.expires s.followed) _ _ _ (ap (λ o. g.V.Wire.state o.server) rest) (ap (λ o. g.A.Aside.state o.aside) rest) (ap (λ o. (g.S.Disk.state o.spool).view) rest) (ap (λ o. (g.T.Tree.state o.tree).nodes) rest)
-    c.in_ok-outcome.outcome c.in-Finished.lines c.in-Finished.is c.in_ok-outcome.ensures.ran c.follow.result c.follow.ensures.followed
+    c.dispatch.ensures.least c.in_ok-outcome.outcome c.in-Finished.lines c.in-Finished.is c.in_ok-outcome.ensures.ran c.follow.result c.follow.ensures.followed
 
 pub returns-in-Absent-clause-ran : goal.returns-in-Absent-clause-ran
 returns-in-Absent-clause-ran g c = let s = c.args.settings.now in
