@@ -1,7 +1,8 @@
 #!/usr/bin/env bash
 # backup of a running server of PostgreSQL 15 under load, of each kind, whose log is archived by archive-push: each file of the label's
-# folder, and each that is left of a backup before, has the sum that the manifest tells, the log of its span is archived, and the backup
-# is restored and recovers to the end of the archive. What is refused leaves the list as it was, and the server in no backup.
+# folder, and each that is left of a backup before, by its time or its digest, has the sum that the manifest tells, the log of its span
+# is archived, and the backup is restored and recovers to the end of the archive. What is refused leaves the list as it was, and the
+# server in no backup.
 . "$(dirname "$0")/server"
 
 # The server starts this program by its name.
@@ -80,8 +81,22 @@ for kind in full full diff incr incr; do
     fi
     labels+=("$label")
 done
-[ "$(printf '%s\n' "${labels[@]}" | sort -u | wc -l)" = 5 ] || complain "two backups have one label: ${labels[*]}"
-[ "$spans" -ge 10 ] || complain "the manifests tell $spans segments"
+
+# By digests a file is left whose time alone is another, and one is stored that has the size and the time that are told, and other bytes.
+"${as[@]}" touch pg/pg_hba.conf
+was=$(stat -c %y pg/pg_ident.conf)
+"${as[@]}" sed -i '1s/^# P/# Q/' pg/pg_ident.conf
+"${as[@]}" touch -d "$was" pg/pg_ident.conf
+back_up incr --delta --process-max=3
+check_files "$label"
+check_span "$label"
+is_listed incr "$label" || complain "info doesn't list $label"
+[ "$(wc -l <left)" -gt "$(wc -l <found)" ] || complain "by digests $label leaves $(wc -l <left) files and has $(wc -l <found)"
+grep -q '/pg_data/pg_hba\.conf$' left || complain "$label stores a file again whose bytes are the same"
+cmp -s "repo/backup/demo/$label/pg_data/pg_ident.conf" pg/pg_ident.conf || complain "$label leaves a file whose bytes are others"
+labels+=("$label")
+[ "$(printf '%s\n' "${labels[@]}" | sort -u | wc -l)" = 6 ] || complain "two backups have one label: ${labels[*]}"
+[ "$spans" -ge 12 ] || complain "the manifests tell $spans segments"
 
 # What is refused lists nothing, and the server isn't in a backup afterwards.
 listed >kept

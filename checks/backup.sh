@@ -88,8 +88,8 @@ refuse 28 "ERROR: [028]: 'global/pg_control' is missing
 "
 mv control pg/global/pg_control
 mkdir -p lock
-want 100 "ERROR: [100]: 'delta' is not built yet
-" --delta backup
+want 100 "ERROR: [100]: 'repo1-bundle' is not built yet
+" --repo1-bundle backup
 if command -v flock >/dev/null; then
     {
         flock -n 9
