@@ -99,4 +99,13 @@ each 1 'behind the push that made the note'
 push 3 'behind the push that made the note' 25
 want 0 '' --lock-path="$room/lock" archive-push "$(segment 26)"
 push 2 'with the new note' 27
+
+# More than eight folders are synced at once, by one sync of their file system that ends well. Of the two settlings of a stanza that of its
+# backups has two folders, which are synced singly.
+mkdir -p repo/archive/demo/15-1/00000002000000{00..09}
+strace -f -qq -o calls -e trace=execve,fsync,syncfs "$top/bin/pgbackrest" --stanza=demo --repo1-path="$room/repo" info >output 2>&1 || complain "info of many folders ended with $?"
+for call in '\["sync", "-f", ' 'syncfs([0-9]*) *= 0'; do
+    [ "$(grep -c "$call" calls)" = 1 ] || complain "of many folders there isn't one call of $call"
+done
+[ "$(grep -c ' fsync(' calls)" = 2 ] || complain "of many folders some are synced singly: $(grep -c ' fsync(' calls)"
 exit "$wrong"

@@ -213,7 +213,10 @@ fn remove_empty_folders(place: &Place, settled: &mut Settled, name: &str) {
         if !is_of_backup || place.remove_folder(folder).is_err() {
             return;
         }
-        settled.forget();
+        match place.path_of(folder) {
+            Ok(path) => settled.forget_removed(&path),
+            Err(_) => settled.forget(),
+        }
         below = folder;
     }
 }

@@ -1,6 +1,6 @@
 // Makes the names in a folder durable, and the bytes of the files below one.
 use crate::noted::{Noted, State};
-use crate::place::{Place, no_memory, sync_folder, unless_absent};
+use crate::place::{Place, folder_of, no_memory, sync_folder, unless_absent};
 use pgb_outside::Found;
 use std::fs::Metadata;
 use std::os::unix::fs::MetadataExt;
@@ -18,8 +18,9 @@ struct Folder {
     held: Option<u64>,
 }
 
-/// The folders that were synced since this process made or removed one, each in its state of then: while it is in that
-/// state the folders in it have durable names.
+/// The folders that were synced since this process made one, each in its state of then: while it is in that state the
+/// folders in it have durable names. A sync is never undone, so a folder that goes takes nothing from the others: of the
+/// one that held it the names have changed, and at its own path another may come to stand.
 #[derive(Drop)]
 pub struct Settled {
     folders: Vec<Folder>,
@@ -34,9 +35,18 @@ impl Settled {
         }
     }
 
-    /// A folder was made or removed, or another root is opened.
+    /// A folder was made, or another root is opened.
     pub fn forget(&mut self) {
         self.folders.clear();
+    }
+
+    /// A folder was removed: it is forgotten, and the one that held it.
+    pub fn forget_removed(&mut self, path: &str) {
+        let outer = folder_of(path);
+        self.folders.retain(|settled| {
+            let settled = settled.path.as_str();
+            settled != path && settled != outer
+        });
     }
 
     // Another process may make a folder within one second.
@@ -263,7 +273,7 @@ fn may_lie_below(line: &str, root: &str) -> bool {
 
 // Runs the system's own `sync` on the root's whole file system, and answers whether it ended well.
 fn sync_file_system(place: &Place) -> io::Result<bool> {
-    let mut command = Command::new(place.rt.alloc(), "sync of")?;
+    let mut command = Command::new(place.rt.alloc(), "sync")?;
     command.arg("-f")?.arg(place.root())?;
     command.stdin(Stdio::null());
     command.stdout(Stdio::null());

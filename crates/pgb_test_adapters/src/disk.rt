@@ -274,3 +274,38 @@ touch backup/s/l/pg/1/f backup/s/l/pg/1/g backup/s/l/m archive/s/1/f";
     }
     well(&rt, scratch.remove());
 }
+
+// A folder of two, and one that this program takes away.
+const TWO: &str = "mkdir -p backup/s/l/pg backup/s/k; touch backup/s/l/pg/f; sleep 0.02; touch backup/s/k/g";
+
+// The file system's clock goes on past what was changed.
+const GOES_ON: &str = "sleep 0.02; touch backup/s/k/g; rm backup/s/k/g; touch backup/s/k/g";
+
+// The folder was synced as it is.
+const IS_NOTED: &str = "now=$(stat -c '%d %i %.9Z' backup/s | sed 's/[.]0*\\([0-9]\\)/ \\1/')
+grep -qx \"$now\" settled.note";
+
+// What others do to a folder that was synced.
+const OTHERS: &[&str] = &["mkdir backup/s/m", "rmdir backup/s/m", "touch backup/s/o"];
+
+#[test]
+fn syncs_a_folder_again_that_has_other_names(rt: HostRuntime) {
+    let scratch = well(&rt, Scratch::new(rt, "again"));
+    shell(&rt, &scratch, TWO);
+    let mut disk = RealDisk::new(rt);
+    same(&rt, disk.open(&scratch.path), Ok(()));
+    same(&rt, disk.settle_in("backup/s/k"), Ok(()));
+    same(&rt, disk.remove("backup/s/l/pg/f"), Ok(()));
+    shell(&rt, &scratch, "[ ! -e backup/s/l ]");
+    shell(&rt, &scratch, GOES_ON);
+    same(&rt, disk.settle_in("backup/s/k"), Ok(()));
+    shell(&rt, &scratch, IS_NOTED);
+    for change in OTHERS {
+        shell(&rt, &scratch, change);
+        shell(&rt, &scratch, GOES_ON);
+        same(&rt, disk.remove("backup/s/k/absent"), Ok(()));
+        same(&rt, disk.settle_in("backup/s/k"), Ok(()));
+        shell(&rt, &scratch, IS_NOTED);
+    }
+    well(&rt, scratch.remove());
+}
