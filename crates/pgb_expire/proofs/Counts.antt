@@ -1,5 +1,5 @@
 -- Names that are taken away, counted.
-use Rattle.std.proofs.Common.{◌≡◌, ◌≢◌, ◌⊎◌, ⊎_elim, inl, inr, ℕ, suc, zero, ◌+◌, ◌-◌, ◌^◌, ◌<◌, Bool, true, false, List, [], ◌∷◌, ◌++◌, map, length, length-append, drop, get_or, Option, Some, None, refl, ap, ◌∙◌, sym, subst, arith, string_bytes}
+use Rattle.std.proofs.Common.{◌≡◌, ◌≢◌, ⊎_elim, inl, inr, ℕ, suc, zero, ◌+◌, ◌-◌, ◌^◌, ◌<◌, Bool, true, false, List, [], ◌∷◌, ◌++◌, map, length, length-append, drop, get_or, Option, Some, None, refl, ap, ◌∙◌, sym, subst, arith, string_bytes}
 use Rattle.std.specs.Prelude.{IsSome, option_map, min}
 use Rattle.std.proofs.lemmas.Bool.{and_parts}
 use Rattle.pgb_outside.specs.declared.disk.Found.{Found}

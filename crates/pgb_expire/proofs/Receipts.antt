@@ -6,7 +6,7 @@ use Rattle.pgb_outside.specs.Moments.{View}
 use Rattle.pgb_model.specs.declared.wal.ArchiveName.{ArchiveName}
 use Rattle.pgb_model.specs.Text.{Text}
 use Rattle.pgb_model.specs.Repository.{Archived, Stanza, Repository}
-use Rattle.pgb_model.specs.Steps.{Step, Condemn, Forget, Expire, Retention, changed, after, all_of, expiry_moves, steps_of}
+use Rattle.pgb_model.specs.Steps.{Condemn, Forget, Expire, Retention, changed, after, all_of, expiry_moves, steps_of}
 use Rattle.pgb_model.specs.Log.{Done, Reaches, IsDrained, KeepsSpool}
 use Rattle.pgb_model.proofs.Done.{part_none}
 

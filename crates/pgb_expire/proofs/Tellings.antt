@@ -1,5 +1,5 @@
 -- The files of one cluster that aren't kept, and those of all clusters.
-use Rattle.std.proofs.Common.{◌≡◌, ◌≢◌, ◌⊎◌, ⊎_elim, inl, inr, ℕ, suc, ◌+◌, ◌<◌, arith, length, get_or, drop, drop-cons, true, false, List, [], ◌∷◌, ◌++◌, Option, Some, None, refl, ap, ◌∙◌, sym, subst, append_assoc, IsTrue, codes}
+use Rattle.std.proofs.Common.{◌≡◌, ◌⊎◌, ⊎_elim, inl, inr, ℕ, suc, ◌+◌, ◌<◌, arith, length, get_or, drop, drop-cons, true, false, List, [], ◌∷◌, ◌++◌, Option, Some, None, refl, ap, ◌∙◌, sym, subst, append_assoc, IsTrue, codes}
 use Rattle.std.specs.Prelude.{IfSome, IsSome, nat_eq}
 use Rattle.std.proofs.lemmas.Bool.{false≢true}
 use Rattle.pgb_text.specs.Sum.{IsSum, sum_text}

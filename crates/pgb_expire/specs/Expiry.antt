@@ -1,5 +1,5 @@
 -- What retention rules are to a repository, and what an expiry does (pgBackRest command reference, "Expire").
-use Rattle.std.specs.Prelude.{◌≡◌, ℕ, Bool, true, false, List, Option, Some}
+use Rattle.std.specs.Prelude.{◌≡◌, ℕ, true, false, List, Option, Some}
 use Rattle.pgb_outside.specs.Content.{Content}
 use Rattle.pgb_outside.specs.Moments.{View}
 use Rattle.pgb_model.specs.Text.{Text, In}

@@ -1,7 +1,8 @@
 -- Names that are lost.
 use Rattle.std.specs.Prelude.{◌≡◌, ◌⊎◌, Bool, true, false, List, Option, None, IsTrue, map, option_map, string_bytes}
 use Rattle.pgb_text.specs.Sum.{sum_text}
-use Rattle.pgb_outside.specs.Content.{Name, Content, at, is_below}
+use Rattle.pgb_outside.specs.Content.{Name, Value, Content, Holds, at, is_below}
+use Rattle.pgb_outside.specs.Moments.{View, Settles, MayKeep, is_loose}
 use Rattle.pgb_outside.specs.States.{DiskState, Works}
 use Rattle.pgb_model.specs.declared.labels.Label.{Label}
 use Rattle.pgb_model.specs.declared.wal.ArchiveId.{ArchiveId}
@@ -32,6 +33,10 @@ Drops these old new = (n : Name) → (at n new ≡ at n old) ⊎ (these n × (at
 pub record TakesAway (these : Name → Type 0) (old new : DiskState) : Type 0 where
   pub works : Works (λ n v. these n × (v ≡ None)) (λ _. ⊥) old new
   pub now : Drops these old.view.now new.view.now
+
+-- where a crash left at each of these names that wasn't loose what the disk held, it leaves there what the disk now holds
+abbrev pub StaysSettled : (Name → Type 0) → View → View → Type 0
+StaysSettled these old new = Settles these old old → (n : Name) (v : Value) → these n → is_loose old n ≡ false → MayKeep new n v → Holds new.now n v
 
 -- the name lies in the folder of a label that isn't among these
 pub record IsUnlisted (stanza : Text) (labels : List Label) (name : Text) : Type 0 where

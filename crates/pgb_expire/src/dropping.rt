@@ -1,22 +1,46 @@
 // The folders of labels that aren't listed are taken away.
-ghost use Rattle.std.specs.Prelude.{map, IfErr, IsTrue};
+ghost use Rattle.std.specs.Prelude.{◌≡◌, false, map, nat_eq, IfErr, IfOk, IsTrue, OnOk};
+ghost use Rattle.std.specs.List.{starts_with};
 ghost use Rattle.pgb_outside.specs.Content.{is_below};
 ghost use Rattle.pgb_outside.specs.Cause.{Rises};
+ghost use Rattle.pgb_outside.specs.States.{Looks};
 ghost use Rattle.pgb_model.specs.Text.{◌⫽◌};
 ghost use Rattle.pgb_model.specs.Names.{backup_folder};
 ghost use Rattle.pgb_model.specs.Values.{entry_of};
 ghost use Rattle.pgb_retain.specs.Labels.{labels_of};
-ghost use Rattle.pgb_expire.specs.Losing.{TakesAway, IsUnlisted};
+ghost use Rattle.pgb_expire.specs.Losing.{TakesAway, IsUnlisted, StaysSettled};
 ghost use Rattle.pgb_expire.specs.Fault.{IsStop};
 
 use crate::fault::ExpireFault;
 use crate::labels::is_unlisted;
-use pgb_disk::drop_folder;
 use pgb_model::Entry;
-use pgb_outside::Disk;
+use pgb_outside::{Disk, Found};
 use std::alloc::Global;
 
-// Takes away all that lies below this folder of the stanza's backups.
+// Takes the name away, where it has this in front.
+fn remove_behind<D: Disk>(d: &mut D, name: &str, front: &str) -> Result<(), ExpireFault>
+    ensures takes { TakesAway (λ n. IsTrue (starts_with nat_eq n front.now)) (D.state d.old) (D.state d.new) }
+    ensures cause { IfErr result (IsStop (Rises (D.state d.old).faults (D.state d.new).faults)) }
+{
+    if !name.as_bytes().starts_with(front.as_bytes()) {
+        return Ok(());
+    }
+    d.remove(name)?;
+    Ok(())
+}
+
+// Takes away those of the names that have this in front: a disk that doesn't tell what it holds may list others.
+fn remove_all<D: Disk>(d: &mut D, found: &[Found], front: &str) -> Result<(), ExpireFault>
+    ensures takes { TakesAway (λ n. IsTrue (starts_with nat_eq n front.now)) (D.state d.old) (D.state d.new) }
+    ensures cause { IfErr result (IsStop (Rises (D.state d.old).faults (D.state d.new).faults)) }
+{
+    for each in found {
+        remove_behind(d, &each.name, front)?;
+    }
+    Ok(())
+}
+
+// Takes away all that lies below this folder of the stanza's backups. A settling has to follow.
 fn drop_below<D: Disk>(
     alloc: Global,
     d: &mut D,
@@ -28,47 +52,55 @@ fn drop_below<D: Disk>(
     ensures cause { IfErr result (IsStop (Rises (D.state d.old).faults (D.state d.new).faults)) }
 {
     let folder = format!(in alloc; "backup/{stanza}/{name}")?;
-    drop_folder(alloc, d, folder.as_str())?;
-    Ok(())
+    let front = format!(in alloc; "{folder}/")?;
+    let found = d.names(alloc, folder.as_str())?;
+    remove_all(d, &found, front.as_str())
 }
 
-// Takes away the folder, where its name is that of a label that isn't listed.
+// Takes away the folder, where its name is that of a label that isn't listed, and tells whether it is.
 fn drop_one<D: Disk>(
     alloc: Global,
     d: &mut D,
     stanza: &str,
     name: &str,
     entries: &[Entry],
-) -> Result<(), ExpireFault>
+) -> Result<bool, ExpireFault>
     ensures takes { TakesAway (IsUnlisted stanza.now (labels_of (map entry_of entries.now)))
         (D.state d.old) (D.state d.new) }
+    ensures idle { IfOk result (λ is_dropped. is_dropped ≡ false → Looks (D.state d.old) (D.state d.new)) }
     ensures cause { IfErr result (IsStop (Rises (D.state d.old).faults (D.state d.new).faults)) }
 {
     if is_unlisted(name.as_bytes(), entries) {
-        return drop_below(alloc, d, stanza, name);
+        drop_below(alloc, d, stanza, name)?;
+        return Ok(true);
     }
-    Ok(())
+    Ok(false)
 }
 
-// Takes away those of the folders that are named as labels that aren't listed.
+// Takes away those of the folders that are named as labels that aren't listed, and tells whether there is one.
 fn drop_each<D: Disk>(
     alloc: Global,
     d: &mut D,
     stanza: &str,
     names: &[String],
     entries: &[Entry],
-) -> Result<(), ExpireFault>
+) -> Result<bool, ExpireFault>
     ensures takes { TakesAway (IsUnlisted stanza.now (labels_of (map entry_of entries.now)))
         (D.state d.old) (D.state d.new) }
+    ensures idle { IfOk result (λ is_dropped. is_dropped ≡ false → Looks (D.state d.old) (D.state d.new)) }
     ensures cause { IfErr result (IsStop (Rises (D.state d.old).faults (D.state d.new).faults)) }
 {
+    let mut is_dropped = false;
     for name in names {
-        drop_one(alloc, d, stanza, name.as_str(), entries)?;
+        if drop_one(alloc, d, stanza, name.as_str(), entries)? {
+            is_dropped = true;
+        }
     }
-    Ok(())
+    Ok(is_dropped)
 }
 
-/// Takes away the folders of all labels that aren't listed.
+/// Takes away the folders of all labels that aren't listed. Where there are some, one settling behind them all makes
+/// that durable: each would wait for the device.
 pub(crate) fn drop_unlisted<D: Disk>(
     alloc: Global,
     d: &mut D,
@@ -77,9 +109,16 @@ pub(crate) fn drop_unlisted<D: Disk>(
 ) -> Result<(), ExpireFault>
     ensures takes { TakesAway (IsUnlisted stanza.now (labels_of (map entry_of entries.now)))
         (D.state d.old) (D.state d.new) }
+    ensures settled { OnOk result (StaysSettled (λ n. IsTrue (is_below (backup_folder stanza.now) n))
+        (D.state d.old).view (D.state d.new).view) }
     ensures cause { IfErr result (IsStop (Rises (D.state d.old).faults (D.state d.new).faults)) }
 {
     let folder = format!(in alloc; "backup/{stanza}")?;
     let names = d.folders(alloc, folder.as_str())?;
-    drop_each(alloc, d, stanza, &names, entries)
+    let is_dropped = drop_each(alloc, d, stanza, &names, entries)?;
+    if is_dropped {
+        d.settle(folder.as_str())?;
+        return Ok(());
+    }
+    Ok(())
 }

@@ -6,6 +6,9 @@ use Rattle.pgb_expire.proofs.Losses.{takes_none}
 use Rattle.pgb_expire.proofs.Droppings.{unlisted_takes}
 use Rattle.pgb_expire.proofs.dropping.drop_one.Goals as goal
 
+pub returns-in_err-drop_below-clause-takes : goal.returns-in_err-drop_below-clause-takes
+returns-in_err-drop_below-clause-takes g c = unlisted_takes c.args.stanza.now (labels_of (map entry_of c.args.entries.now)) _ _ c.as_bytes.ensures.value (c.is_unlisted.ensures c.if-is_unlisted.true) _ _ c.drop_below.ensures.takes
+
 pub returns-then-is_unlisted-clause-takes : goal.returns-then-is_unlisted-clause-takes
 returns-then-is_unlisted-clause-takes g c = unlisted_takes c.args.stanza.now (labels_of (map entry_of c.args.entries.now)) _ _ c.as_bytes.ensures.value (c.is_unlisted.ensures c.if-is_unlisted.true) _ _ c.drop_below.ensures.takes
 

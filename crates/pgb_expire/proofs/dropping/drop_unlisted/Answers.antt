@@ -1,8 +1,11 @@
-use Rattle.std.proofs.Common.{map}
+use Rattle.std.proofs.Common.{◌∙◌, map}
+use Rattle.pgb_model.specs.Names.{backup_folder}
 use Rattle.pgb_model.specs.Values.{entry_of}
 use Rattle.pgb_retain.specs.Labels.{labels_of}
 use Rattle.pgb_expire.specs.Losing.{IsUnlisted}
-use Rattle.pgb_expire.proofs.Losses.{takes_none, takes_looks, takes_on}
+use Rattle.pgb_outside.proofs.States.{looks_on}
+use Rattle.pgb_expire.proofs.Losses.{takes_none, takes_looks}
+use Rattle.pgb_expire.proofs.Droppings.{dropped_takes, dropped_looks, read_settled, taken_settled}
 use Rattle.pgb_expire.proofs.dropping.drop_unlisted.Goals as goal
 
 pub returns-in_err-folder-clause-takes : goal.returns-in_err-folder-clause-takes
@@ -11,5 +14,21 @@ returns-in_err-folder-clause-takes g c = takes_none (IsUnlisted c.args.stanza.no
 pub returns-in_err-names-clause-takes : goal.returns-in_err-names-clause-takes
 returns-in_err-names-clause-takes g c = takes_looks (IsUnlisted c.args.stanza.now (labels_of (map entry_of c.args.entries.now))) _ _ c.folders.ensures.looks
 
+pub returns-in_err-is_dropped-clause-takes : goal.returns-in_err-is_dropped-clause-takes
+returns-in_err-is_dropped-clause-takes g c = dropped_takes c.args.stanza.now (labels_of (map entry_of c.args.entries.now)) _ _ _ c.folders.ensures.looks c.drop_each.ensures.takes
+
 pub returns-clause-takes : goal.returns-clause-takes
-returns-clause-takes g c = takes_on (IsUnlisted c.args.stanza.now (labels_of (map entry_of c.args.entries.now))) _ _ _ (takes_looks (IsUnlisted c.args.stanza.now (labels_of (map entry_of c.args.entries.now))) _ _ c.folders.ensures.looks) c.drop_each.ensures.takes
+returns-clause-takes g c = dropped_takes c.args.stanza.now (labels_of (map entry_of c.args.entries.now)) _ _ _ c.folders.ensures.looks c.drop_each.ensures.takes
+
+pub returns-clause-settled : goal.returns-clause-settled
+returns-clause-settled g c = read_settled (backup_folder c.args.stanza.now) _ _ (looks_on _ _ _ c.folders.ensures.looks (c.in_ok-is_dropped.ensures.idle c.if-is_dropped.false))
+
+pub returns-in_err-settle-clause-takes : goal.returns-in_err-settle-clause-takes
+returns-in_err-settle-clause-takes g c = dropped_looks c.args.stanza.now (labels_of (map entry_of c.args.entries.now)) _ _ _ _ c.folders.ensures.looks c.drop_each.ensures.takes c.settle.ensures.looks
+
+pub returns-then-is_dropped-clause-takes : goal.returns-then-is_dropped-clause-takes
+returns-then-is_dropped-clause-takes g c = dropped_looks c.args.stanza.now (labels_of (map entry_of c.args.entries.now)) _ _ _ _ c.folders.ensures.looks c.drop_each.ensures.takes c.settle.ensures.looks
+
+pub returns-then-is_dropped-clause-settled : goal.returns-then-is_dropped-clause-settled
+returns-then-is_dropped-clause-settled g c = taken_settled c.args.stanza.now (labels_of (map entry_of c.args.entries.now)) _ _ _ (g.D.Disk.state c.settle.new.self) (c.as_str-then-is_dropped.ensures.value ∙ c.in_ok-folder.ensures.ok)
+    (dropped_takes c.args.stanza.now (labels_of (map entry_of c.args.entries.now)) _ _ _ c.folders.ensures.looks c.drop_each.ensures.takes) c.settle.ensures.looks.now c.in_ok-settle.ensures.settled
