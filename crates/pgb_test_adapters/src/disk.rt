@@ -276,7 +276,8 @@ touch backup/s/l/pg/1/f backup/s/l/pg/1/g backup/s/l/m archive/s/1/f";
 }
 
 // A folder of two, and one that this program takes away.
-const TWO: &str = "mkdir -p backup/s/l/pg backup/s/k; touch backup/s/l/pg/f; sleep 0.02; touch backup/s/k/g";
+const TWO: &str =
+    "mkdir -p backup/s/l/pg backup/s/k; touch backup/s/l/pg/f; sleep 0.02; touch backup/s/k/g";
 
 // The file system's clock goes on past what was changed.
 const GOES_ON: &str = "sleep 0.02; touch backup/s/k/g; rm backup/s/k/g; touch backup/s/k/g";

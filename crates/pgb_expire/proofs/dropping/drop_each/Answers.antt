@@ -21,7 +21,7 @@ pub loop-name-preserved : goal.loop-name-preserved
 loop-name-preserved g c = record {
   takes = takes_on (IsUnlisted c.args.stanza.now (labels_of (map entry_of c.args.entries.now))) _ _ _ c.loop-name.invariant.takes c.drop_one.ensures.takes;
   idle = elim c.if-branch.branch [
-    then-branch w ↦ λ e. let no : ◌≡◌ {A = Bool} true false = sym w.is_dropped-is ∙ e in cc
+    | then-branch w ↦ λ e. let no : ◌≡◌ {A = Bool} true false = sym w.is_dropped-is ∙ e in cc
     | else-branch w ↦ λ e. looks_on _ _ _ (c.loop-name.invariant.idle (sym w.is_dropped-is ∙ e)) (c.in_ok-drop_one.ensures.idle w.if-branch.false)
   ];
 }
