@@ -1,8 +1,8 @@
 mod Held
 mod Coming
-mod Moves
+pub mod Moves
 mod Sounds
-mod Folds
+pub mod Folds
 pub mod Marks
 mod Turns
 mod Waits

@@ -15,7 +15,7 @@ use pgb_stage::Halt;
 use pgb_stanza::{Control, Identity};
 
 /// The archive id of the stanza's current cluster, where that is the data folder's.
-pub(crate) fn id_of(info: &ArchiveInfo, told: &Control) -> Result<ArchiveId, Halt<PushFault>>
+pub fn id_of(info: &ArchiveInfo, told: &Control) -> Result<ArchiveId, Halt<PushFault>>
     requires { IsArchiveInfo (archive_info_of info.now) }
     ensures fits { IfOk result (λ id. (id.version < 2 ^ 32) × (id.number < 2 ^ 32)) }
     ensures id { IfOk result (λ id. (c : ClusterId) × (at_number info.now.current info.now.history.items ≡ Some c)

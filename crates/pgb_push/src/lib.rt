@@ -21,6 +21,7 @@ mod order;
 mod pushing;
 mod texts;
 
+pub use current::id_of;
 pub use fault::{PushFault, of_store};
 pub use log_file::{LogFile, open_log_file};
 pub use order::{PushOrder, push_order};

@@ -1,4 +1,4 @@
-//! Tests of the spool over devices in memory: a drain, and what the spool then says.
+//! Tests of the spool over devices in memory: a drain, what the spool then says, and a file that is left to a drain.
 #![tactic(auto)]
 
 #[cfg(test)]
@@ -7,5 +7,9 @@ mod devices;
 mod drains;
 #[cfg(test)]
 mod failing;
+#[cfg(test)]
+mod leaves;
+#[cfg(test)]
+mod others;
 #[cfg(test)]
 mod same;

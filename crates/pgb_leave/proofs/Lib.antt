@@ -1,0 +1,4 @@
+pub mod Looked
+pub mod Chains
+pub mod Waiting
+pub mod Ended
