@@ -61,12 +61,31 @@ fn ended(
 }
 
 // A leave with so many turns at most, behind so many idle ones: how it ends, and how many turns were taken.
-fn check(rt: &impl Abort, alloc: Global, idle: u64, works: bool, turns: u64, want: (&str, u64, u64)) {
+fn check(
+    rt: &impl Abort,
+    alloc: Global,
+    idle: u64,
+    works: bool,
+    turns: u64,
+    want: (&str, u64, u64),
+) {
     let mut repo = well(rt, empty(alloc, Vec::new(alloc)));
     let mut spool = well(rt, empty(alloc, Vec::new(alloc)));
-    let tree = well(rt, folder(alloc, &[("00000002.history", b"hello")], Vec::new(alloc)));
+    let tree = well(
+        rt,
+        folder(alloc, &[("00000002.history", b"hello")], Vec::new(alloc)),
+    );
     let mut others = beside(alloc, tree, idle, works);
-    let found = ended(rt, alloc, &mut repo, &mut spool, &mut others, HISTORY, b"hello", turns);
+    let found = ended(
+        rt,
+        alloc,
+        &mut repo,
+        &mut spool,
+        &mut others,
+        HISTORY,
+        b"hello",
+        turns,
+    );
     same(rt, found.as_str(), want.0);
     same(rt, others.starts, want.1);
     same(rt, others.turns, want.2);
@@ -74,7 +93,10 @@ fn check(rt: &impl Abort, alloc: Global, idle: u64, works: bool, turns: u64, wan
     let stored = kept.bytes("archive/main/16-1/00000002.history").is_some();
     same(rt, stored, found.as_str() == "Ok(())");
     let kept = well(rt, reopened(alloc, &spool));
-    assert!(rt; kept.bytes("archive/main/out/00000002.history.ok").is_none() || stored, "a receipt alone");
+    assert!(rt;
+        kept.bytes("archive/main/out/00000002.history.ok").is_none() || stored,
+        "a receipt alone"
+    );
     same(rt, repo.misuses(), 0);
     same(rt, spool.misuses(), 0);
 }
@@ -84,12 +106,27 @@ fn waits_for_the_drain(rt: HostRuntime) {
     let alloc = rt.alloc();
     check(&rt, alloc, 0, true, 3, ("Ok(())", 1, 1));
     check(&rt, alloc, 2, true, 3, ("Ok(())", 1, 3));
-    check(&rt, alloc, 2, true, 2, ("Err(Refused(NotYet { turns: 2 }))", 1, 2));
-    check(&rt, alloc, 0, true, 0, ("Err(Refused(NotYet { turns: 0 }))", 1, 0));
+    check(
+        &rt,
+        alloc,
+        2,
+        true,
+        2,
+        ("Err(Refused(NotYet { turns: 2 }))", 1, 2),
+    );
+    check(
+        &rt,
+        alloc,
+        0,
+        true,
+        0,
+        ("Err(Refused(NotYet { turns: 0 }))", 1, 0),
+    );
     check(&rt, alloc, 0, false, 3, ("Err(Failed(Others))", 0, 0));
 }
 
-const OTHER: &str = "Err(Refused(Reported { code: 33, text: \"stanza has system 6917529027641081857, WAL has system 5\" }))";
+const OTHER: &str =
+    "Err(Refused(Reported { code: 33, text: \"stanza has system 6917529027641081857, WAL has system 5\" }))";
 
 #[test]
 fn asks_before_it_starts(rt: HostRuntime) {
@@ -112,12 +149,30 @@ fn asks_before_it_starts(rt: HostRuntime) {
         (4, fourth.as_slice(), "Ok(())", 1),
         (5, fifth.as_slice(), OTHER, 1),
     ] {
-        let found = ended(&rt, alloc, &mut repo, &mut spool, &mut others, segment(seg), bytes, 2);
+        let found = ended(
+            &rt,
+            alloc,
+            &mut repo,
+            &mut spool,
+            &mut others,
+            segment(seg),
+            bytes,
+            2,
+        );
         same(&rt, found.as_str(), want);
         same(&rt, others.starts, starts);
     }
     // A receipt of other bytes counts for nothing.
-    let found = ended(&rt, alloc, &mut repo, &mut spool, &mut others, segment(3), &fourth, 1);
+    let found = ended(
+        &rt,
+        alloc,
+        &mut repo,
+        &mut spool,
+        &mut others,
+        segment(3),
+        &fourth,
+        1,
+    );
     same(&rt, found.as_str(), "Err(Refused(NotYet { turns: 1 }))");
     same(&rt, others.starts, 2);
 }
@@ -126,22 +181,55 @@ fn asks_before_it_starts(rt: HostRuntime) {
 fn check_failing(rt: &impl Abort, alloc: Global, repo: u64, spool: u64, tree: u64) {
     let mut repo = well(rt, empty(alloc, well(rt, only(alloc, repo))));
     let mut spool = well(rt, empty(alloc, well(rt, only(alloc, spool))));
-    let tree = well(rt, folder(alloc, &[("00000002.history", b"hello")], well(rt, only(alloc, tree))));
+    let tree = well(
+        rt,
+        folder(
+            alloc,
+            &[("00000002.history", b"hello")],
+            well(rt, only(alloc, tree)),
+        ),
+    );
     let mut others = beside(alloc, tree, 1, true);
-    let found = ended(rt, alloc, &mut repo, &mut spool, &mut others, HISTORY, b"hello", 3);
+    let found = ended(
+        rt,
+        alloc,
+        &mut repo,
+        &mut spool,
+        &mut others,
+        HISTORY,
+        b"hello",
+        3,
+    );
     let whole = repo.faults() == 0 && spool.faults() == 0 && others.tree.faults() == 0;
     same(rt, found.as_str() == "Ok(())", whole);
     let mut repo = well(rt, reopened(alloc, &repo));
     let mut spool = well(rt, reopened(alloc, &spool));
     let stored = repo.bytes("archive/main/16-1/00000002.history").is_some();
     assert!(rt; stored || !whole, "acknowledged and not stored");
-    let receipt = spool.bytes("archive/main/out/00000002.history.ok").is_some();
+    let receipt = spool
+        .bytes("archive/main/out/00000002.history.ok")
+        .is_some();
     assert!(rt; stored || !receipt, "a receipt without its file");
-    let tree = well(rt, folder(alloc, &[("00000002.history", b"hello")], Vec::new(alloc)));
+    let tree = well(
+        rt,
+        folder(alloc, &[("00000002.history", b"hello")], Vec::new(alloc)),
+    );
     let mut others = beside(alloc, tree, 0, true);
-    let again = ended(rt, alloc, &mut repo, &mut spool, &mut others, HISTORY, b"hello", 3);
+    let again = ended(
+        rt,
+        alloc,
+        &mut repo,
+        &mut spool,
+        &mut others,
+        HISTORY,
+        b"hello",
+        3,
+    );
     same(rt, again.as_str(), "Ok(())");
-    assert!(rt; repo.bytes("archive/main/16-1/00000002.history").is_some(), "acknowledged and not stored");
+    assert!(rt;
+        repo.bytes("archive/main/16-1/00000002.history").is_some(),
+        "acknowledged and not stored"
+    );
 }
 
 #[test]
