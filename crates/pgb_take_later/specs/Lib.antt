@@ -8,3 +8,4 @@ pub mod Kinds
 pub mod Making
 pub mod Taken
 pub mod Causes
+pub mod Held
