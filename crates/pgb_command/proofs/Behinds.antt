@@ -47,7 +47,7 @@ use Rattle.pgb_command.specs.declared.fault.CommandFault.TheVariants as commands
 use Rattle.pgb_command.specs.declared.fault.Fault.{Fault}
 use Rattle.pgb_command.specs.declared.fault.Fault.TheVariants.{Usage, Stage, Command as OfCommand, Behind, Failed as ObjectFailed, NoMemory}
 use Rattle.pgb_command.specs.Answers.{status, reached_of, ending_of, is_early}
-use Rattle.pgb_command.specs.Asked.{Request, create, push, get, backup, backup_running, restore, report, examine, expire, BackupHow, RunningHow, Asked, behind_backup, alone}
+use Rattle.pgb_command.specs.Asked.{Request, create, push, drain, get, backup, backup_running, restore, report, examine, expire, BackupHow, RunningHow, Asked, behind_backup, alone}
 use Rattle.pgb_command.specs.Tables.{Known, known, plan_of, manner_of, ByOrder, OnCluster, TurnsTold, TellsLabel, IsRunningOf, heard_by, AsksBackup, WithExpiry, FolderGoes, CommandCause, OnBackup}
 use Rattle.pgb_command.specs.Did.{SamePlaces, Closes, OwnCause, Spares, Ran, Followed}
 use Rattle.pgb_command.proofs.Dids.{later_on}
@@ -167,6 +167,7 @@ module _ (a : Asked) (rules : Rules) where
   full_command : (how : BackupHow) (old new : Known) (fault : CommandFault) → CommandCause (asking a (backup how) None) (backup how) old new fault → CommandCause (asking a (backup how) (Some rules)) (backup how) old new fault
   full_command how old new (commands.Create e) h = absurd h
   full_command how old new (commands.Push e) h = absurd h
+  full_command how old new (commands.Drain e) h = absurd h
   full_command how old new (commands.Get e) h = absurd h
   full_command how old new (commands.Take e) h = h
   full_command how old new (commands.TakeOnline e) h = absurd h
@@ -177,6 +178,7 @@ module _ (a : Asked) (rules : Rules) where
   running_command : (how : RunningHow) (old new : Known) (fault : CommandFault) → CommandCause (asking a (backup_running how) None) (backup_running how) old new fault → CommandCause (asking a (backup_running how) (Some rules)) (backup_running how) old new fault
   running_command how old new (commands.Create e) h = absurd h
   running_command how old new (commands.Push e) h = absurd h
+  running_command how old new (commands.Drain e) h = absurd h
   running_command how old new (commands.Get e) h = absurd h
   running_command how old new (commands.Take e) h = absurd h
   running_command how old new (commands.TakeOnline e) h = h
@@ -420,6 +422,7 @@ held_backup (backup_running how) rules stanza held at h = h
 held_backup (restore set how) rules stanza held at h = none_some rules at
 held_backup (report form) rules stanza held at h = none_some rules at
 held_backup examine rules stanza held at h = none_some rules at
+held_backup (drain place) rules stanza held at h = none_some rules at
 held_backup (expire other) rules stanza held at h = none_some rules at
 
 -- an expiry followed
@@ -437,6 +440,7 @@ behind_ran a rules is kept b m k server others spool nodes least outcome lines e
     go (restore set how) le at x = none_some rules at
     go (report form) le at x = none_some rules at
     go examine le at x = none_some rules at
+    go (drain place) le at x = none_some rules at
     go (expire other) le at x = none_some rules at
 
 -- none follows
@@ -466,6 +470,7 @@ unfinished_ran a kept b k r not h = by a.expires refl
     back rules (restore set how) at x not ran = none_some rules at
     back rules (report form) at x not ran = none_some rules at
     back rules examine at x not ran = none_some rules at
+    back rules (drain place) at x not ran = none_some rules at
     back rules (expire other) at x not ran = none_some rules at
 
     by : (rules : Option Rules) → a.expires ≡ rules → Ran a b k r

@@ -1,6 +1,6 @@
 -- What is the same for every command where nothing is done: a line a command.
 use Rattle.std.proofs.Common.{◌≡◌, ◌⊎◌, ⊎_elim, inl, inr, ℕ, List, Option, Some, refl, sym, ap, ◌∙◌, subst, Bool, true, false}
-use Rattle.std.specs.Prelude.{IfSome, IsSomeAnd, take, [], None}
+use Rattle.std.specs.Prelude.{IfSome, IsSome, IsSomeAnd, take, [], None}
 use Rattle.std.proofs.lemmas.List.{append-nil}
 use Rattle.pgb_outside.specs.Content.{Content}
 use Rattle.pgb_outside.specs.Links.{LinkState}
@@ -12,7 +12,7 @@ use Rattle.pgb_archive.specs.Still.{IsStill}
 use Rattle.pgb_model.specs.declared.labels.Kind.{Kind}
 use Rattle.pgb_model.specs.declared.labels.Kind.TheVariants.{Full, Diff, Incr}
 use Rattle.pgb_model.specs.Text.{Text}
-use Rattle.pgb_model.specs.Steps.{Command, MakeBackup}
+use Rattle.pgb_model.specs.Steps.{Command, ArchivePushDrain, MakeBackup}
 use Rattle.pgb_stage.specs.Plans.{Heals, OnReading}
 use Rattle.pgb_stage.specs.Runs.{On, one}
 use Rattle.pgb_stage.specs.Seen.{Seen}
@@ -24,12 +24,12 @@ use Rattle.pgb_model.specs.Values.{Manifest}
 use Rattle.pgb_restore.specs.Finished.{IsFinished}
 use Rattle.pgb_recover.specs.Fetching.{options_by}
 use Rattle.pgb_clear.specs.Clearing.{control_path, HasNone}
-use Rattle.pgb_command.specs.Asked.{Request, create, push, get, backup, backup_running, restore, report, examine, expire, RunningHow, Asked}
+use Rattle.pgb_command.specs.Asked.{Request, create, push, drain, get, backup, backup_running, restore, report, examine, expire, RunningHow, Asked}
 use Rattle.pgb_retain.specs.declared.rules.Rules.{Rules}
 use Rattle.pgb_prune.specs.Behind.{IsFollowed}
 use Rattle.pgb_command.proofs.Expiries.{some_expiry}
 use Rattle.pgb_command.proofs.Followings.{any_followed}
-use Rattle.pgb_command.specs.Tables.{Known, known, WithExpiry, plan_of, manner_of, OnReader, OnCreate, OnExpire, OnOther, FolderGoes, FolderStays, Unless, is_on_repository, TellsLabel}
+use Rattle.pgb_command.specs.Tables.{Known, known, IsSomeDrain, WithExpiry, plan_of, manner_of, OnReader, OnCreate, OnExpire, OnOther, FolderGoes, FolderStays, Unless, is_on_repository, TellsLabel}
 
 -- no turn was taken, and the server told no label file
 pub running_idle : (stanza : Text) (how : RunningHow) (old new : Known) → new.others ≡ old.others → (account : Option Account) → new.others.account ≡ account → (P : Command → Type 0) → P (MakeBackup [] no_files None) → (told : Account → Type 0) → IsSomeAnd account told →
@@ -53,6 +53,11 @@ nothing_by Full links stanza old = (no_files, refl, no_files_read links)
 nothing_by Diff links stanza old = (no_files, refl, no_files_left links stanza old)
 nothing_by Incr links stanza old = (no_files, refl, no_files_left links stanza old)
 
+-- a drain of nothing
+idle_drain : (nodes : Option Nodes) (P : Command → Type 0) → ((command : Command) → P command) → IsSome nodes → (command : Command) × IsSomeAnd nodes (λ f. IsSomeDrain f command) × P command
+idle_drain None P p some = cc
+idle_drain (Some f) P p some = (ArchivePushDrain [], (false, record { names = []; files = []; ready = λ e. cc; of_names = refl; is = refl }), p (ArchivePushDrain []))
+
 pub idle : (a : Asked) (request : Request) (old new : Known) → new.others ≡ old.others → (P : Command → Type 0) → ((command : Command) → P command) → On (manner_of a request old new) P
 idle a create old new same P p = λ command is. p command
 idle a (push path) old new same P p = λ command is. p command
@@ -65,6 +70,7 @@ idle a (backup_running how) old new same P p = λ there.
 idle a (restore set how) old new same P p = λ command is. p command
 idle a (report form) old new same P p = λ command is. p command
 idle a examine old new same P p = λ command is. p command
+idle a (drain place) old new same P p = λ some. idle_drain old.nodes P p some
 idle a (expire rules) old new same P p = let x = some_expiry rules old.clock.least in (x.0, x.1, p x.0)
 
 -- which command it is is told by what the repository held where no pair was healed, or not by that
@@ -77,6 +83,7 @@ manner_at a (backup_running how) old new repo heals P h = subst (λ (r : Option 
 manner_at a (restore set how) old new repo heals P h = h
 manner_at a (report form) old new repo heals P h = h
 manner_at a examine old new repo heals P h = h
+manner_at a (drain place) old new repo heals P h = h
 manner_at a (expire rules) old new repo heals P h = h
 
 -- a command that opens no data folder reads no control file
@@ -89,6 +96,7 @@ no_control (backup_running how) is = cc is
 no_control (restore set how) is = refl
 no_control (report form) is = refl
 no_control examine is = refl
+no_control (drain place) is = cc is
 no_control (expire rules) is = refl
 
 -- a command that uses nothing but the repository opens no data folder and takes no lock
@@ -101,6 +109,7 @@ on_repository (backup_running how) is = cc is
 on_repository (restore set how) is = cc is
 on_repository (report form) is = (refl, refl, refl)
 on_repository examine is = (refl, refl, refl)
+on_repository (drain place) is = cc is
 on_repository (expire rules) is = cc is
 
 -- what holds where no pair is healed holds of readers and of stanza-create
@@ -113,6 +122,7 @@ reader_still (backup_running how) P h = tt
 reader_still (restore set how) P h = h
 reader_still (report form) P h = h
 reader_still examine P h = h
+reader_still (drain place) P h = tt
 reader_still (expire rules) P h = tt
 
 pub create_still : (request : Request) (P : Type 0) → OnReading (plan_of request).pairs P → OnCreate request P
@@ -124,6 +134,7 @@ create_still (backup_running how) P h = tt
 create_still (restore set how) P h = tt
 create_still (report form) P h = tt
 create_still examine P h = tt
+create_still (drain place) P h = tt
 create_still (expire rules) P h = tt
 
 pub any_reader : (request : Request) (P : Type 0) → P → OnReader request P
@@ -135,6 +146,7 @@ any_reader (backup_running how) P p = tt
 any_reader (restore set how) P p = p
 any_reader (report form) P p = p
 any_reader examine P p = p
+any_reader (drain place) P p = tt
 any_reader (expire rules) P p = tt
 
 pub any_create : (request : Request) (P : Type 0) → P → OnCreate request P
@@ -146,6 +158,7 @@ any_create (backup_running how) P p = tt
 any_create (restore set how) P p = tt
 any_create (report form) P p = tt
 any_create examine P p = tt
+any_create (drain place) P p = tt
 any_create (expire rules) P p = tt
 
 pub any_other : (request : Request) (P : Type 0) → P → OnOther request P
@@ -157,6 +170,7 @@ any_other (backup_running how) P p = tt
 any_other (restore set how) P p = p
 any_other (report form) P p = p
 any_other examine P p = p
+any_other (drain place) P p = p
 any_other (expire rules) P p = p
 
 pub reader_on : (request : Request) (P Q R : Type 0) → (P → Q → R) → OnReader request P → OnReader request Q → OnReader request R
@@ -168,6 +182,7 @@ reader_on (backup_running how) P Q R to p q = tt
 reader_on (restore set how) P Q R to p q = to p q
 reader_on (report form) P Q R to p q = to p q
 reader_on examine P Q R to p q = to p q
+reader_on (drain place) P Q R to p q = tt
 reader_on (expire rules) P Q R to p q = tt
 
 pub create_on : (request : Request) (P Q R : Type 0) → (P → Q → R) → OnCreate request P → OnCreate request Q → OnCreate request R
@@ -179,6 +194,7 @@ create_on (backup_running how) P Q R to p q = tt
 create_on (restore set how) P Q R to p q = tt
 create_on (report form) P Q R to p q = tt
 create_on examine P Q R to p q = tt
+create_on (drain place) P Q R to p q = tt
 create_on (expire rules) P Q R to p q = tt
 
 pub other_as : (request : Request) (P Q : Type 0) → (P → Q) → OnOther request P → OnOther request Q
@@ -190,6 +206,7 @@ other_as (backup_running how) P Q to p = tt
 other_as (restore set how) P Q to p = to p
 other_as (report form) P Q to p = to p
 other_as examine P Q to p = to p
+other_as (drain place) P Q to p = to p
 other_as (expire rules) P Q to p = to p
 
 -- what holds where no pair is healed, or of any command, holds of expire
@@ -202,6 +219,7 @@ expire_still (backup_running how) P h = tt
 expire_still (restore set how) P h = tt
 expire_still (report form) P h = tt
 expire_still examine P h = tt
+expire_still (drain place) P h = tt
 expire_still (expire rules) P h = h
 
 pub any_expire : (request : Request) (P : Rules → Type 0) → ((rules : Rules) → P rules) → OnExpire request P
@@ -213,6 +231,7 @@ any_expire (backup_running how) P p = tt
 any_expire (restore set how) P p = tt
 any_expire (report form) P p = tt
 any_expire examine P p = tt
+any_expire (drain place) P p = tt
 any_expire (expire rules) P p = p rules
 
 pub expire_on : (request : Request) (P Q R : Rules → Type 0) → ((rules : Rules) → P rules → Q rules → R rules) → OnExpire request P → OnExpire request Q → OnExpire request R
@@ -224,6 +243,7 @@ expire_on (backup_running how) P Q R to p q = tt
 expire_on (restore set how) P Q R to p q = tt
 expire_on (report form) P Q R to p q = tt
 expire_on examine P Q R to p q = tt
+expire_on (drain place) P Q R to p q = tt
 expire_on (expire rules) P Q R to p q = to rules p q
 
 -- the data folder stays after a refusal
@@ -236,6 +256,7 @@ any_stays (backup_running how) n P p = p
 any_stays (restore set how) n P p = λ lost unread damaged. p
 any_stays (report form) n P p = p
 any_stays examine n P p = p
+any_stays (drain place) n P p = p
 any_stays (expire rules) n P p = p
 
 pub stays_as : (request : Request) (n : ℕ) (P Q : Type 0) → (P → Q) → FolderStays request n P → FolderStays request n Q
@@ -247,6 +268,7 @@ stays_as (backup_running how) n P Q to p = to p
 stays_as (restore set how) n P Q to p = λ lost unread damaged. to (p lost unread damaged)
 stays_as (report form) n P Q to p = to p
 stays_as examine n P Q to p = to p
+stays_as (drain place) n P Q to p = to p
 stays_as (expire rules) n P Q to p = to p
 
 -- it doesn't use it
@@ -258,8 +280,8 @@ pub unless_as : (uses : Bool) (P Q : Type 0) → (P → Q) → Unless uses P →
 unless_as true P Q to p = tt
 unless_as false P Q to p = to p
 
-abbrev pub as_known : Option Content → Option Nodes → WireState → OthersState → ClockState → List LinkState → Known
-as_known repo nodes server others clock links = record { repo = repo; nodes = nodes; server = server; others = others; clock = clock; links = links }
+abbrev pub as_known : Option Content → Option Content → Option Nodes → WireState → OthersState → ClockState → List LinkState → Known
+as_known repo spool nodes server others clock links = record { repo = repo; spool = spool; nodes = nodes; server = server; others = others; clock = clock; links = links }
 
 -- the data folder is as it was
 pub folder_stays : (a : Asked) (request : Request) (old : Known) (new : Option Nodes) → new ≡ old.nodes → FolderGoes a request old new
@@ -271,13 +293,14 @@ folder_stays a (backup_running how) old new same = same
 folder_stays a (restore set how) old new same = inl same
 folder_stays a (report form) old new same = same
 folder_stays a examine old new same = same
+folder_stays a (drain place) old new same = same
 folder_stays a (expire rules) old new same = same
 
 pub folder_on : (a : Asked) (request : Request) (b m k : Seen) → OnReader request (IsStill b.repo.view m.repo.view) → m.tree.nodes ≡ b.tree.nodes → m.links ≡ b.links → FolderGoes a request (known m) k.tree.nodes → FolderGoes a request (known b) k.tree.nodes
 folder_on a create b m k still nodes links h = h ∙ nodes
 folder_on a (push path) b m k still nodes links h = h ∙ nodes
-folder_on a (get name path) b m k still nodes links h = subst (λ (o : Option Content). FolderGoes a (get name path) (as_known o b.tree.nodes b.server b.others b.clock b.links) k.tree.nodes) still.now
-    (subst (λ (n : Option Nodes). FolderGoes a (get name path) (as_known m.repo.view.now n b.server b.others b.clock b.links) k.tree.nodes) nodes h)
+folder_on a (get name path) b m k still nodes links h = subst (λ (o : Option Content). FolderGoes a (get name path) (as_known o b.spool.view.now b.tree.nodes b.server b.others b.clock b.links) k.tree.nodes) still.now
+    (subst (λ (n : Option Nodes). FolderGoes a (get name path) (as_known m.repo.view.now b.spool.view.now n b.server b.others b.clock b.links) k.tree.nodes) nodes h)
 folder_on a (backup how) b m k still nodes links h = h ∙ nodes
 folder_on a (backup_running how) b m k still nodes links h = h ∙ nodes
 folder_on a (restore set how) b m k still nodes links h = ⊎_elim (λ (e : k.tree.nodes ≡ m.tree.nodes). inl (e ∙ nodes))
@@ -285,4 +308,5 @@ folder_on a (restore set how) b m k still nodes links h = ⊎_elim (λ (e : k.tr
     (subst (λ (n : Option Nodes). HasNone control_path k.tree.nodes ⊎ ((v : Manifest) × IfSome k.tree.nodes (IsFinished a.stanza (take how.workers m.links) (options_by a.stanza how.delta how.recovery) v n))) nodes x))) h
 folder_on a (report form) b m k still nodes links h = h ∙ nodes
 folder_on a examine b m k still nodes links h = h ∙ nodes
+folder_on a (drain place) b m k still nodes links h = h ∙ nodes
 folder_on a (expire rules) b m k still nodes links h = h ∙ nodes

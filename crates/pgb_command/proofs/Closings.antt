@@ -1,5 +1,5 @@
 -- After a server's answer that is refused the talk was ended.
-use Rattle.std.proofs.Common.{◌≡◌, ◌≤◌, ◌⊎◌, ◌∙◌, ℕ, List, [], inl, inr, Result, Ok, Err, IfErr, refl, ap, subst, arith}
+use Rattle.std.proofs.Common.{true, ◌≡◌, ◌≤◌, ◌⊎◌, ◌∙◌, ℕ, List, [], inl, inr, Result, Ok, Err, IfErr, refl, ap, subst, arith}
 use Rattle.pgb_model.specs.Text.{Text}
 use Rattle.pgb_options.specs.declared.usage.Usage.{Usage}
 use Rattle.pgb_options.specs.declared.usage.Usage.TheVariants as usage
@@ -30,16 +30,18 @@ use Rattle.pgb_take_online.specs.Texts.{online_take_status}
 use Rattle.pgb_recover.specs.declared.fault.RecoverFault.{RecoverFault}
 use Rattle.pgb_recover.specs.declared.fault.RecoverFault.TheVariants as recovers
 use Rattle.pgb_recover.specs.Texts.{recover_status}
+use Rattle.pgb_drained.specs.Drained.{drain_early, drain_status}
+use Rattle.pgb_drained.proofs.Statuses.{drain_is}
 use Rattle.pgb_examine.specs.declared.fault.ExamineFault.{ExamineFault}
 use Rattle.pgb_examine.proofs.Statuses.{examine_is}
 use Rattle.pgb_prune.specs.declared.fault.PruneFault.{PruneFault}
 use Rattle.pgb_prune.specs.Texts.{prune_status, behind_status}
 use Rattle.pgb_prune.proofs.Statuses.{prune_within, behind_late}
-use Rattle.pgb_command.specs.declared.fault.CommandFault.TheVariants.{Create, Push, Get, Take, TakeOnline, Recover, Examine, Prune}
+use Rattle.pgb_command.specs.declared.fault.CommandFault.TheVariants.{Create, Push, Drain, Get, Take, TakeOnline, Recover, Examine, Prune}
 use Rattle.pgb_command.specs.declared.fault.Fault.{Fault}
 use Rattle.pgb_command.specs.declared.fault.Fault.TheVariants as fault
 use Rattle.pgb_command.specs.Answers.{status_of, usage_status}
-use Rattle.pgb_command.specs.Asked.{Request, create, push, get, backup, backup_running, restore, report, examine, expire, Asked}
+use Rattle.pgb_command.specs.Asked.{Request, create, push, drain, get, backup, backup_running, restore, report, examine, expire, Asked}
 use Rattle.pgb_command.specs.Causes.{IsAnswered, Carries, Answers, ClosesTalk}
 use Rattle.pgb_command.specs.Configuring.{ConfigCause}
 use Rattle.pgb_command.specs.Did.{IsIdle, IsTaken, Cause, Closes}
@@ -141,7 +143,20 @@ push_other a (backup_running how) old new e cause p = absurd cause
 push_other a (restore set how) old new e cause p = absurd cause
 push_other a (report form) old new e cause p = absurd cause
 push_other a examine old new e cause p = absurd cause
+push_other a (drain place) old new e cause p = absurd cause
 push_other a (expire rules) old new e cause p = absurd cause
+
+drain_other : {P : Type 0} (a : Asked) (q : Request) (old new : Known) (e : PushFault) → CommandCause a q old new (Drain e) → OnOther q P → P
+drain_other a create old new e cause p = absurd cause
+drain_other a (push path) old new e cause p = absurd cause
+drain_other a (drain place) old new e cause p = p
+drain_other a (get name path) old new e cause p = absurd cause
+drain_other a (backup how) old new e cause p = absurd cause
+drain_other a (backup_running how) old new e cause p = absurd cause
+drain_other a (restore set how) old new e cause p = absurd cause
+drain_other a (report form) old new e cause p = absurd cause
+drain_other a examine old new e cause p = absurd cause
+drain_other a (expire rules) old new e cause p = absurd cause
 
 get_other : {P : Type 0} (a : Asked) (q : Request) (old new : Known) (e : GetFault) → CommandCause a q old new (Get e) → OnOther q P → P
 get_other a create old new e cause p = absurd cause
@@ -152,6 +167,7 @@ get_other a (backup_running how) old new e cause p = absurd cause
 get_other a (restore set how) old new e cause p = absurd cause
 get_other a (report form) old new e cause p = absurd cause
 get_other a examine old new e cause p = absurd cause
+get_other a (drain place) old new e cause p = absurd cause
 get_other a (expire rules) old new e cause p = absurd cause
 
 take_other : {P : Type 0} (a : Asked) (q : Request) (old new : Known) (e : LaterFault) → CommandCause a q old new (Take e) → OnOther q P → P
@@ -163,6 +179,7 @@ take_other a (backup_running how) old new e cause p = absurd cause
 take_other a (restore set how) old new e cause p = absurd cause
 take_other a (report form) old new e cause p = absurd cause
 take_other a examine old new e cause p = absurd cause
+take_other a (drain place) old new e cause p = absurd cause
 take_other a (expire rules) old new e cause p = absurd cause
 
 examine_other : {P : Type 0} (a : Asked) (q : Request) (old new : Known) (e : ExamineFault) → CommandCause a q old new (Examine e) → OnOther q P → P
@@ -174,6 +191,7 @@ examine_other a (backup_running how) old new e cause p = absurd cause
 examine_other a (restore set how) old new e cause p = absurd cause
 examine_other a (report form) old new e cause p = absurd cause
 examine_other a examine old new e cause p = p
+examine_other a (drain place) old new e cause p = absurd cause
 examine_other a (expire rules) old new e cause p = absurd cause
 
 prune_other : {P : Type 0} (a : Asked) (q : Request) (old new : Known) (e : PruneFault) → CommandCause a q old new (Prune e) → OnOther q P → P
@@ -185,11 +203,23 @@ prune_other a (backup_running how) old new e cause p = absurd cause
 prune_other a (restore set how) old new e cause p = absurd cause
 prune_other a (report form) old new e cause p = absurd cause
 prune_other a examine old new e cause p = absurd cause
+prune_other a (drain place) old new e cause p = absurd cause
 prune_other a (expire rules) old new e cause p = p
 
 push_at : {P : Type 0} (a : Asked) (b k : Seen) (e : PushFault) → Cause a b k (fault.Command (Push e)) → OnOther a.request P → P
 push_at a b k e (inl words) p = push_other a a.request (known b) (known k) e (words (known b) (known k)) p
 push_at a b k e (inr ready) p = push_other a a.request _ (known k) e ready.2 p
+
+drain_at : {P : Type 0} (a : Asked) (b k : Seen) (e : PushFault) → Cause a b k (fault.Command (Drain e)) → OnOther a.request P → P
+drain_at a b k e (inl words) p = absurd words
+drain_at a b k e (inr ready) p = drain_other a a.request _ (known k) e ready.2 p
+
+drain_within : (e : PushFault) → (drain_status e ≤ 46) ⊎ (52 ≤ drain_status e)
+drain_within e = by (drain_is e)
+  where
+    by : ((drain_status e ≡ 23) × (drain_early e ≡ true)) ⊎ ((74 ≤ drain_status e) × (drain_status e ≤ 75)) → (drain_status e ≤ 46) ⊎ (52 ≤ drain_status e)
+    by (inl x) = inl (omega (arith, x.0))
+    by (inr x) = inr (omega (arith, x.0))
 
 get_at : {P : Type 0} (a : Asked) (b k : Seen) (e : GetFault) → Cause a b k (fault.Command (Get e)) → OnOther a.request P → P
 get_at a b k e (inl words) p = get_other a a.request (known b) (known k) e (words (known b) (known k)) p
@@ -241,6 +271,7 @@ module _ (b k : Seen) (n : ℕ) where
   at_fault a (fault.Stage e) is refusal cause closes others = stage_apart (plan_of a.request) a.stanza b k e (subst IsServerRefusal is refusal) cause
   at_fault a (fault.Command (Create e)) is refusal cause closes others = ended (create_closed (Failed b k object.Server) k.server.sent e (subst IsServerRefusal is refusal) closes)
   at_fault a (fault.Command (Push e)) is refusal cause closes others = inr (inr (long_is n (push_status e) is (only_long (push_status e) (push_within e).1 (subst IsServerRefusal is refusal)), ap (λ w. w.sent) (push_at a b k e cause others)))
+  at_fault a (fault.Command (Drain e)) is refusal cause closes others = inr (inr (long_is n (drain_status e) is (only_many (drain_status e) (drain_within e) (subst IsServerRefusal is refusal)), ap (λ w. w.sent) (drain_at a b k e cause others)))
   at_fault a (fault.Command (Get e)) is refusal cause closes others = inr (inr (long_is n (get_status e) is (only_long (get_status e) (get_within e).1 (subst IsServerRefusal is refusal)), ap (λ w. w.sent) (get_at a b k e cause others)))
   at_fault a (fault.Command (Take e)) is refusal cause closes others = inr (inr (long_is n (later_status e) is (only_many (later_status e) (later_within e).1 (subst IsServerRefusal is refusal)), ap (λ w. w.sent) (take_at a b k e cause others)))
   at_fault a (fault.Command (TakeOnline e)) is refusal cause (inl x) others = inr (inr (running_long n e is x.0 refusal, ap (λ w. w.sent) x.1))

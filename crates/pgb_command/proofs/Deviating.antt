@@ -1,5 +1,5 @@
 -- The status of findings is that of no refusal, and only verify has it.
-use Rattle.std.proofs.Common.{◌≡◌, ◌≢◌, ◌≤◌, ◌⊎◌, ℕ, Option, Some, None, inl, inr, refl, arith}
+use Rattle.std.proofs.Common.{true, ◌≡◌, ◌≢◌, ◌≤◌, ◌⊎◌, ℕ, Option, Some, None, inl, inr, refl, arith}
 use Rattle.std.specs.Prelude.{String}
 use Rattle.std.specs.declared.alloc.Global.{Global}
 use Rattle.pgb_options.specs.declared.usage.Usage.{Usage}
@@ -33,6 +33,9 @@ use Rattle.pgb_take_online.specs.Texts.{online_take_status}
 use Rattle.pgb_recover.specs.declared.fault.RecoverFault.{RecoverFault}
 use Rattle.pgb_recover.specs.declared.fault.RecoverFault.TheVariants as recovers
 use Rattle.pgb_recover.specs.Texts.{recover_status}
+use Rattle.pgb_drained.specs.Drained.{drain_early, drain_status}
+use Rattle.pgb_drained.proofs.Statuses.{drain_is}
+use Rattle.pgb_push.specs.declared.fault.PushFault.{PushFault}
 use Rattle.pgb_examine.proofs.Statuses.{examine_is}
 use Rattle.pgb_prune.specs.declared.fault.PruneFault.{PruneFault}
 use Rattle.pgb_prune.specs.declared.fault.PruneFault.TheVariants as prunes
@@ -40,11 +43,11 @@ use Rattle.pgb_prune.specs.Texts.{prune_status}
 use Rattle.pgb_prune.proofs.Statuses.{behind_late}
 use Rattle.pgb_retain.specs.declared.rules.Rules.{Rules}
 use Rattle.pgb_command.specs.declared.fault.CommandFault.{CommandFault}
-use Rattle.pgb_command.specs.declared.fault.CommandFault.TheVariants.{Create, Push, Get, Take, TakeOnline, Recover, Examine, Prune}
+use Rattle.pgb_command.specs.declared.fault.CommandFault.TheVariants.{Create, Push, Drain, Get, Take, TakeOnline, Recover, Examine, Prune}
 use Rattle.pgb_command.specs.declared.fault.Fault.{Fault}
 use Rattle.pgb_command.specs.declared.fault.Fault.TheVariants as fault
 use Rattle.pgb_command.specs.Answers.{status_of, usage_status, command_status}
-use Rattle.pgb_command.specs.Asked.{Request, create, push, get, backup, backup_running, restore, report, examine, expire, Asked}
+use Rattle.pgb_command.specs.Asked.{Request, create, push, drain, get, backup, backup_running, restore, report, examine, expire, Asked}
 use Rattle.pgb_command.specs.Causes.{EndsWell}
 use Rattle.pgb_command.specs.Tables.{Known, IsBackedUp, BehindIt, Promise}
 use Rattle.pgb_command.proofs.Statuses.{over}
@@ -149,9 +152,17 @@ not_within : (m : ℕ) → (m ≤ 46) ⊎ (m ≡ 70) → m ≢ 65
 not_within m (inl le) = λ is. absurd (omega (arith, is, le))
 not_within m (inr e) = λ is. absurd (omega (arith, is, e))
 
+not_drain : (e : PushFault) → drain_status e ≢ 65
+not_drain e = by (drain_is e)
+  where
+    by : ((drain_status e ≡ 23) × (drain_early e ≡ true)) ⊎ ((74 ≤ drain_status e) × (drain_status e ≤ 75)) → drain_status e ≢ 65
+    by (inl x) is = absurd (omega (arith, is, x.0))
+    by (inr x) is = absurd (omega (arith, is, x.0))
+
 not_command : (e : CommandFault) → command_status e ≢ 65
 not_command (Create e) = not_create e
 not_command (Push e) = not_within _ (push_within e).1
+not_command (Drain e) = not_drain e
 not_command (Get e) = not_within _ (get_within e).1
 not_command (Take e) = not_later e
 not_command (TakeOnline e) = not_take_online e
@@ -193,4 +204,5 @@ only_examines a (backup_running how) old new lines count h = never_deviates a.ex
 only_examines a (restore set how) old new lines count h = absurd h.recovers
 only_examines a (report form) old new lines count h = absurd h.0
 only_examines a examine old new lines count h = refl
+only_examines a (drain place) old new lines count h = absurd h.2
 only_examines a (expire rules) old new lines count h = absurd h.2

@@ -40,11 +40,11 @@ use Rattle.pgb_prepare.specs.Stages.{FoundCause, StageCause}
 use Rattle.pgb_prepare.specs.Taking.{HeldCause, MayTake}
 use Rattle.pgb_create.specs.Talking.{Ended}
 use Rattle.pgb_create.proofs.Statuses.{closes_as}
-use Rattle.pgb_command.specs.declared.fault.CommandFault.TheVariants.{Create, Push, Get, Take, TakeOnline, Recover, Examine, Prune}
+use Rattle.pgb_command.specs.declared.fault.CommandFault.TheVariants.{Create, Push, Drain, Get, Take, TakeOnline, Recover, Examine, Prune}
 use Rattle.pgb_command.specs.declared.fault.Fault.{Fault}
 use Rattle.pgb_command.specs.declared.fault.Fault.TheVariants.{Usage, Stage, Command as OfCommand, Behind, Failed as ObjectFailed, NoMemory}
 use Rattle.pgb_command.specs.Answers.{status, reached_of, ending_of, is_early}
-use Rattle.pgb_command.specs.Asked.{Request, create, push, get, backup, backup_running, restore, report, examine, expire, Asked}
+use Rattle.pgb_command.specs.Asked.{Request, create, push, drain, get, backup, backup_running, restore, report, examine, expire, Asked}
 use Rattle.pgb_command.specs.Faults.{of_stage}
 use Rattle.pgb_command.specs.Tables.{Known, known, plan_of, manner_of, CommandCause, Promise, Lasts, OnReader, OnCreate, OnExpire, Expires, uses_workers, uses_clock, uses_turns}
 use Rattle.pgb_command.specs.Did.{Ran, EndsBehind, StaysHealed, OnReady, Cause, HealsPairs, Did, OwnCause, Spares, Closes, WordsCause, Brackets, SamePlaces, OpensPlaces, ArePlacesOpened, OpensIf, IsOpenedIf, TakesAll, OnlyLocked}
@@ -84,6 +84,7 @@ closes_from b m k same le (Usage usage) h = tt
 closes_from b m k same le (Stage fault) h = tt
 closes_from b m k same le (OfCommand (Create fault)) h = closes_as (Failed m k TheServer) (Failed b k TheServer) k.server.sent (λ rose. rises_from _ _ _ le rose) fault h
 closes_from b m k same le (OfCommand (Push fault)) h = tt
+closes_from b m k same le (OfCommand (Drain fault)) h = tt
 closes_from b m k same le (OfCommand (Get fault)) h = tt
 closes_from b m k same le (OfCommand (Take fault)) h = tt
 closes_from b m k same le (OfCommand (TakeOnline fault)) (inl h) = inl (h.0, h.1 ∙ same)
@@ -138,12 +139,13 @@ spares_none a b k fault beside spool reads creates expires nodes server others l
 
 known_same : (b m : Seen) → AreRead b m → known m ≡ known b
 known_same b m read =
-    ap (λ (o : Option Content). as_known o m.tree.nodes m.server m.others m.clock m.links) read.repo.now
-    ∙ ap (λ (o : Option Nodes). as_known b.repo.view.now o m.server m.others m.clock m.links) read.nodes
-    ∙ ap (λ (o : WireState). as_known b.repo.view.now b.tree.nodes o m.others m.clock m.links) read.server
-    ∙ ap (λ (o : OthersState). as_known b.repo.view.now b.tree.nodes b.server o m.clock m.links) read.others
-    ∙ ap (λ (o : ClockState). as_known b.repo.view.now b.tree.nodes b.server b.others o m.links) read.clock
-    ∙ ap (λ (o : List LinkState). as_known b.repo.view.now b.tree.nodes b.server b.others b.clock o) read.links
+    ap (λ (o : Option Content). as_known o m.spool.view.now m.tree.nodes m.server m.others m.clock m.links) read.repo.now
+    ∙ ap (λ (o : Option Content). as_known b.repo.view.now o m.tree.nodes m.server m.others m.clock m.links) read.spool.now
+    ∙ ap (λ (o : Option Nodes). as_known b.repo.view.now b.spool.view.now o m.server m.others m.clock m.links) read.nodes
+    ∙ ap (λ (o : WireState). as_known b.repo.view.now b.spool.view.now b.tree.nodes o m.others m.clock m.links) read.server
+    ∙ ap (λ (o : OthersState). as_known b.repo.view.now b.spool.view.now b.tree.nodes b.server o m.clock m.links) read.others
+    ∙ ap (λ (o : ClockState). as_known b.repo.view.now b.spool.view.now b.tree.nodes b.server b.others o m.links) read.clock
+    ∙ ap (λ (o : List LinkState). as_known b.repo.view.now b.spool.view.now b.tree.nodes b.server b.others b.clock o) read.links
 
 held_from : (a : Asked) (b m k : Seen) → b.locks.refusals ≤ m.locks.refusals → (fault : StageFault) → HeldCause (plan_of a.request) a.stanza (Rises m.locks.refusals k.locks.refusals) fault → HeldCause (plan_of a.request) a.stanza (Rises b.locks.refusals k.locks.refusals) fault
 held_from a b m k le (Held name) h = (h.0, rises_from b.locks.refusals m.locks.refusals k.locks.refusals le h.1)
@@ -229,6 +231,7 @@ lasts_by a (backup_running how) v nodes mid k outcome same at h = tt
 lasts_by a (restore set how) v nodes mid k outcome same at h = tt
 lasts_by a (report form) v nodes mid k outcome same at h = tt
 lasts_by a examine v nodes mid k outcome same at h = tt
+lasts_by a (drain place) v nodes mid k outcome same at h = tt
 lasts_by a (expire rules) v nodes mid k outcome same at h = tt
 
 -- the members of a healed pair too
@@ -242,6 +245,7 @@ heals_by a (backup_running how) v k at had h = tt
 heals_by a (restore set how) v k at had h = tt
 heals_by a (report form) v k at had h = tt
 heals_by a examine v k at had h = tt
+heals_by a (drain place) v k at had h = tt
 heals_by a (expire rules) v k at had h = tt
 
 same_still : (v w : View) → w ≡ v → IsStill v w
@@ -268,11 +272,12 @@ did_ran a b m k r others nodes repo_later tree_later quiet begun heals healed du
 }
   where
     known_is : known m ≡ record (known b) { repo = m.repo.view.now }
-    known_is = ap (λ o. as_known m.repo.view.now o m.server m.others m.clock m.links) nodes
-        ∙ ap (λ o. as_known m.repo.view.now b.tree.nodes o m.others m.clock m.links) (ap (λ (s : Seen). s.server) others)
-        ∙ ap (λ o. as_known m.repo.view.now b.tree.nodes b.server o m.clock m.links) (ap (λ (s : Seen). s.others) others)
-        ∙ ap (λ o. as_known m.repo.view.now b.tree.nodes b.server b.others o m.links) (ap (λ (s : Seen). s.clock) others)
-        ∙ ap (λ o. as_known m.repo.view.now b.tree.nodes b.server b.others b.clock o) (ap (λ (s : Seen). s.links) others)
+    known_is = ap (λ o. as_known m.repo.view.now o m.tree.nodes m.server m.others m.clock m.links) (ap (λ (s : Seen). s.spool.view.now) others)
+        ∙ ap (λ o. as_known m.repo.view.now b.spool.view.now o m.server m.others m.clock m.links) nodes
+        ∙ ap (λ o. as_known m.repo.view.now b.spool.view.now b.tree.nodes o m.others m.clock m.links) (ap (λ (s : Seen). s.server) others)
+        ∙ ap (λ o. as_known m.repo.view.now b.spool.view.now b.tree.nodes b.server o m.clock m.links) (ap (λ (s : Seen). s.others) others)
+        ∙ ap (λ o. as_known m.repo.view.now b.spool.view.now b.tree.nodes b.server b.others o m.links) (ap (λ (s : Seen). s.clock) others)
+        ∙ ap (λ o. as_known m.repo.view.now b.spool.view.now b.tree.nodes b.server b.others b.clock o) (ap (λ (s : Seen). s.links) others)
 
     later : AreLater b m
     later = all_later b m repo_later (omega (arith, ap (λ (s : Seen). s.spool.faults) others)) tree_later (omega (arith, ap (λ (s : Seen). s.server.faults) others)) (omega (arith, ap (λ (s : Seen). s.others.faults) others))
@@ -338,6 +343,7 @@ word_closes a b (Usage usage) h = absurd h
 word_closes a b (Stage fault) h = absurd h
 word_closes a b (OfCommand (Create fault)) h = absurd h
 word_closes a b (OfCommand (Push fault)) h = tt
+word_closes a b (OfCommand (Drain fault)) h = absurd h
 word_closes a b (OfCommand (Get fault)) h = tt
 word_closes a b (OfCommand (Take fault)) h = absurd h
 word_closes a b (OfCommand (TakeOnline fault)) h = absurd h
@@ -353,6 +359,7 @@ word_cause a b (Usage usage) h = absurd h
 word_cause a b (Stage fault) h = absurd h
 word_cause a b (OfCommand (Create fault)) h = absurd h
 word_cause a b (OfCommand (Push fault)) h = inl h
+word_cause a b (OfCommand (Drain fault)) h = absurd h
 word_cause a b (OfCommand (Get fault)) h = inl h
 word_cause a b (OfCommand (Take fault)) h = absurd h
 word_cause a b (OfCommand (TakeOnline fault)) h = absurd h

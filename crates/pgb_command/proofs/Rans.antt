@@ -1,6 +1,6 @@
 -- What each command did, told of all objects: a lemma a command.
 use Rattle.std.proofs.Common.{◌≡◌, ◌≢◌, ◌⊎◌, ⊎_elim, inl, inr, List, ◌∷◌, Option, Some, None, Result, Ok, Err, IfOk, IfErr, refl, sym, subst, ap, ◌∙◌, Bool, true}
-use Rattle.std.specs.Prelude.{[], take, IfSome, IsSome, IsSomeAnd, OnOk, OnErr}
+use Rattle.std.specs.Prelude.{[], take, IfSome, IsSome, IsSomeAnd, OnOk, OnErr, is_ok, string_bytes}
 use Rattle.pgb_outside.specs.Content.{Content}
 use Rattle.pgb_outside.specs.Links.{LinkState}
 use Rattle.pgb_outside.specs.Crash.{Leaves}
@@ -55,6 +55,7 @@ use Rattle.pgb_push.specs.declared.fault.PushFault.{PushFault}
 use Rattle.pgb_push.specs.Causes.{IsStored, IsLasting, PushCause}
 use Rattle.pgb_push.specs.Commands.{IsPushOf}
 use Rattle.pgb_push.specs.Faults.{push_early}
+use Rattle.pgb_drained.specs.Drained.{IsDrainOf, IsDrained as IsDrainedSo, DrainCause, drain_early}
 use Rattle.pgb_get.specs.declared.fault.GetFault.{GetFault}
 use Rattle.pgb_model.specs.declared.labels.Kind.{Kind}
 use Rattle.pgb_model.specs.declared.labels.Kind.TheVariants.{Full, Diff, Incr}
@@ -76,11 +77,11 @@ use Rattle.pgb_model.specs.declared.labels.Label.{Label}
 use Rattle.pgb_get.specs.Getting.{GotBy, GetCause, get_early}
 use Rattle.pgb_command.specs.declared.fault.Fault.{Fault}
 use Rattle.pgb_command.specs.declared.fault.Fault.TheVariants.{Command as OfCommand}
-use Rattle.pgb_command.specs.declared.fault.CommandFault.TheVariants.{Create, Push, Get, Take, Recover}
+use Rattle.pgb_command.specs.declared.fault.CommandFault.TheVariants.{Create, Push, Drain, Get, Take, Recover}
 use Rattle.pgb_command.specs.Answers.{status, reached_of, ending_of, is_early}
-use Rattle.pgb_command.specs.Asked.{Request, create, push, get, backup, backup_running, restore, report, examine, expire, RestoreHow, Asked, alone}
-use Rattle.pgb_command.specs.Faults.{of_halt, of_create, of_push, of_get, of_take, of_recover, lift}
-use Rattle.pgb_command.specs.Tables.{Known, known, TurnsTold, found_by, found_for, Promise, Lasts, plan_of, manner_of, IsCreateOf, OnReader, OnCreate, OnExpire, Expires, OnOther, FolderGoes, FolderStays, Unless, uses_workers, uses_clock, uses_turns}
+use Rattle.pgb_command.specs.Asked.{Request, create, push, drain, get, backup, backup_running, restore, report, examine, expire, RestoreHow, Asked, alone}
+use Rattle.pgb_command.specs.Faults.{of_halt, of_create, of_push, of_drain, of_get, of_take, of_recover, lift}
+use Rattle.pgb_command.specs.Tables.{Known, known, IsSomeDrain, TurnsTold, found_by, found_for, Promise, Lasts, plan_of, manner_of, IsCreateOf, OnReader, OnCreate, OnExpire, Expires, OnOther, FolderGoes, FolderStays, Unless, uses_workers, uses_clock, uses_turns}
 use Rattle.pgb_command.specs.Did.{SamePlaces, Closes, OwnCause, StaysHealed, Ran}
 use Rattle.pgb_command.proofs.Ends.{reached_same, lift_ok, lift_on, lift_err}
 use Rattle.pgb_command.proofs.OneCluster.{cluster_is}
@@ -108,6 +109,7 @@ module _ {E : Type 0} (a : Asked) (b k : Seen) (of : E → Fault) (early : E →
   create_reached (restore set how) P h = h
   create_reached (report form) P h = h
   create_reached examine P h = h
+  create_reached (drain place) P h = h
   create_reached (expire rules) P h = h
 
   pub ran_of : On (manner_of a a.request (known b) (known k)) (λ command. Runs (plan_of a.request).settling a.stanza command (reached_by early r) b.repo.view b.spool.view k.repo.view k.spool.view) → IfOk r (Promise a a.request (known b) (known k)) → IfOk r (λ o. IsLookedAt a.stanza b.repo.view → Lasts a a.request b.tree.nodes k.repo.view k.tree.nodes o) → IfErr r (HaltCause why failed) →
@@ -287,6 +289,58 @@ module _ (a : Asked) (b k : Seen) (rest : k ≡ record b { repo = k.repo; tree =
       (ap (λ (s : Seen). s.clock) rest)
       (never_closes b k of_push (push_closes b k) r)
       places later))
+
+-- ---- archive-push:async
+
+drain_closes : (b k : Seen) (h : Halt PushFault) → Closes b k (of_drain h)
+drain_closes b k (Refused e) = tt
+drain_closes b k (HaltFailed object) = tt
+drain_closes b k HaltMemory = tt
+
+drain_steps : (nodes : Option Nodes) (whole : Bool) (P : Command → Type 0) → ((f : Nodes) → nodes ≡ Some f → On (one (IsDrainOf f whole)) P) → IsSome nodes →
+    (command : Command) × IsSomeAnd nodes (λ f. IsSomeDrain f command) × P command
+drain_steps None whole P h some = cc
+drain_steps (Some f) whole P h some = let x = h f refl in (x.0, (whole, x.1), x.2)
+
+drain_told : (nodes : Option Nodes) (P : Nodes → Type 0) → ((f : Nodes) → nodes ≡ Some f → P f) → IfSome nodes P
+drain_told None P h = tt
+drain_told (Some f) P h = h f refl
+
+drain_finished : (nodes : Option Nodes) (P : Nodes → Text → Type 0) (o : Outcome) → OnFinished o (λ lines. (f : Nodes) → nodes ≡ Some f → P f lines) → OnFinished o (λ lines. IfSome nodes (λ f. P f lines))
+drain_finished nodes P (Finished lines) h = drain_told nodes (λ f. P f (string_bytes lines)) h
+drain_finished nodes P (Absent name) h = absurd h
+drain_finished nodes P (FindingsFound lines count) h = absurd h
+
+module _ (a : Asked) (b k : Seen) (rest : k ≡ record b { repo = k.repo; spool = k.spool; tree = k.tree }) (nodes : k.tree.nodes ≡ b.tree.nodes) (place : Text) (told : Control) (tells : IfSome b.tree.nodes (λ f. FolderTells f told)) (r : Result Outcome (Halt PushFault)) (ended : Result Outcome Fault) (lifted : ended ≡ lift of_drain r) where
+  abbrev drains : Asked
+  drains = with_request a (drain place)
+
+  pub drained_ran : a.request ≡ drain place → StaysBeside a.stanza b.repo.view k.repo.view → StaysBeside a.stanza b.spool.view k.spool.view →
+      ((f : Nodes) → b.tree.nodes ≡ Some f → On (one (IsDrainOf f (is_ok r))) (λ command. Runs Whole a.stanza command (reached_by drain_early r) b.repo.view b.spool.view k.repo.view k.spool.view)) →
+      IfOk r (λ o. OnFinished o (λ lines. (f : Nodes) → b.tree.nodes ≡ Some f → IsDrainedSo a.stanza f told b.repo.view.now b.spool.view.now k.spool.view.now lines)) → (failed : Object → Type 0) → ((object : Object) → failed object → Failed b k object) →
+      IfErr r (HaltCause (DrainCause a.stanza b.repo.view.now k.repo.view.now b.tree.nodes) failed) → SamePlaces b k → AreLater b k → Ran a b k ended
+  drained_ran is beside spool_beside runs drained failed rose cause places later = as_ran a (drain place) b k ended is
+      (ran_of drains b k (λ (e : PushFault). OfCommand (Drain e)) drain_early (λ e. refl) (DrainCause a.stanza b.repo.view.now k.repo.view.now b.tree.nodes) (λ e h. h) failed rose r ended lifted
+      (λ some. drain_steps b.tree.nodes (is_ok r) (λ command. Runs Whole a.stanza command (reached_by drain_early r) b.repo.view b.spool.view k.repo.view k.spool.view) runs some)
+      (ok_as r _ _ (λ o h. (told, tells, drain_finished b.tree.nodes (λ f lines. IsDrainedSo a.stanza f told b.repo.view.now b.spool.view.now k.spool.view.now lines) o h)) drained)
+      (any_ok r (λ o. IsLookedAt a.stanza b.repo.view → Unit {0}) (λ o looked. tt))
+      cause
+      (on_all r (StaysHealed drains b k) (record { agree = λ some h. any_some k.repo.view.now; lasts = λ looked h. tt }))
+      (λ others. beside)
+      (λ others. spool_beside)
+      tt
+      tt
+      tt
+      nodes
+      (all_none (reached_by drain_early r) _ nodes)
+      tt
+      (λ none. ap (λ (s : Seen). s.server) rest)
+      (ap (λ (s : Seen). s.server) rest)
+      (ap (λ (s : Seen). s.others) rest)
+      (ap (λ (s : Seen). s.links) rest)
+      (ap (λ (s : Seen). s.clock) rest)
+      (never_closes b k of_drain (drain_closes b k) r)
+      places later)
 
 -- ---- commands that only read
 

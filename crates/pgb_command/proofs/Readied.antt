@@ -11,7 +11,7 @@ use Rattle.pgb_prepare.specs.Readies.{IsReady}
 use Rattle.pgb_create.specs.declared.server.Server as code
 use Rattle.pgb_create.specs.Server.{server_view, socket_path}
 use Rattle.pgb_online.specs.Telling.{starting, stopping}
-use Rattle.pgb_command.specs.Asked.{Request, create, backup, backup_running, BackupHow, RunningHow}
+use Rattle.pgb_command.specs.Asked.{Request, create, drain, backup, backup_running, BackupHow, RunningHow}
 use Rattle.pgb_command.specs.Tables.{plan_of, AsksBackup}
 
 there : {T : Type 0} (o : Option T) (x : T) (P : T → Type 0) → o ≡ Some x → IsSomeAnd o P → P x
@@ -23,6 +23,9 @@ module _ (q : Request) (stanza : Text) (repo : Option Content) (nodes : Option N
 
   pub create_tells : q ≡ create → (told : Control) → ready.control ≡ Some told → IfSome nodes (λ f. FolderTells f told)
   create_tells is told some = there ready.control told _ some ((by create is).control refl)
+
+  pub drain_tells : (place : Text) → q ≡ drain place → (told : Control) → ready.control ≡ Some told → IfSome nodes (λ f. FolderTells f told)
+  drain_tells place is told some = there ready.control told _ some ((by (drain place) is).control refl)
 
   pub backup_tells : (how : BackupHow) → q ≡ backup how → (told : Control) → ready.control ≡ Some told → IfSome nodes (λ f. FolderTells f told)
   backup_tells how is told some = there ready.control told _ some ((by (backup how) is).control refl)

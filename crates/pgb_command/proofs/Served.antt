@@ -68,6 +68,7 @@ some_server (Some s) is = refl
 pub request_served : (c : Command) (s : Settled) → IsCommand c s → (r : settings.Request) → request_by c.verb (wanted_told c.options) (map string_bytes c.given.items) ≡ Ok (request_of r) → (o : Option code.Server) → option_map server_view o ≡ server_asked s → is_served r o ≡ true
 request_served c s is requests.StanzaCreate asked o server = refl
 request_served c s is (requests.ArchivePush path) asked o server = refl
+request_served c s is (requests.ArchivePushAsync spool) asked o server = refl
 request_served c s is (requests.ArchiveGet name path) asked o server = refl
 request_served c s is (requests.Backup workers kind delta) asked o server = refl
 request_served c s is (requests.BackupRunning workers kind delta fast turns) asked o server =
@@ -81,6 +82,7 @@ request_served c s is (requests.Expire rules) asked o server = refl
 pub follows_backup : (r : settings.Request) (m : Wanted) (rules : Option Rules) → rules ≡ expires_by (request_of r) m → is_followed r rules ≡ true
 follows_backup requests.StanzaCreate m rules is = ap is_none is
 follows_backup (requests.ArchivePush path) m rules is = ap is_none is
+follows_backup (requests.ArchivePushAsync spool) m rules is = ap is_none is
 follows_backup (requests.ArchiveGet name path) m rules is = ap is_none is
 follows_backup (requests.Backup workers kind delta) m rules is = refl
 follows_backup (requests.BackupRunning workers kind delta fast turns) m rules is = refl
@@ -97,6 +99,7 @@ none_is (Some rules) is = cc
 pub kept_behind : (r : settings.Request) (rules : Option Rules) → is_followed r rules ≡ true → behind_backup (request_of r) rules ≡ rules
 kept_behind requests.StanzaCreate rules is = none_is rules is
 kept_behind (requests.ArchivePush path) rules is = none_is rules is
+kept_behind (requests.ArchivePushAsync spool) rules is = none_is rules is
 kept_behind (requests.ArchiveGet name path) rules is = none_is rules is
 kept_behind (requests.Backup workers kind delta) rules is = refl
 kept_behind (requests.BackupRunning workers kind delta fast turns) rules is = refl

@@ -17,6 +17,9 @@ use Rattle.pgb_get.proofs.Refusals.{get_within}
 use Rattle.pgb_take_later.proofs.Statuses.{later_within}
 use Rattle.pgb_take_online.proofs.Statuses.{online_take_over}
 use Rattle.pgb_recover.proofs.Statuses.{recover_over}
+use Rattle.pgb_drained.specs.Drained.{drain_early, drain_status}
+use Rattle.pgb_drained.proofs.Statuses.{drain_is}
+use Rattle.pgb_push.specs.declared.fault.PushFault.{PushFault}
 use Rattle.pgb_examine.proofs.Statuses.{examine_is}
 use Rattle.pgb_prune.specs.declared.fault.PruneFault.{PruneFault}
 use Rattle.pgb_prune.specs.declared.fault.PruneFault.TheVariants as prunes
@@ -24,11 +27,11 @@ use Rattle.pgb_prune.specs.Faults.{prune_early}
 use Rattle.pgb_prune.proofs.Statuses.{prune_within, behind_late}
 use Rattle.pgb_prune.specs.Texts.{behind_status}
 use Rattle.pgb_command.specs.declared.fault.CommandFault.{CommandFault}
-use Rattle.pgb_command.specs.declared.fault.CommandFault.TheVariants.{Create, Push, Get, Take, TakeOnline, Recover, Examine, Prune}
+use Rattle.pgb_command.specs.declared.fault.CommandFault.TheVariants.{Create, Push, Drain, Get, Take, TakeOnline, Recover, Examine, Prune}
 use Rattle.pgb_command.specs.declared.fault.Fault.{Fault}
 use Rattle.pgb_command.specs.declared.fault.Fault.TheVariants as fault
 use Rattle.pgb_command.specs.Answers.{status, status_of, usage_status, command_status, command_early, is_early, ending_of, reached_of}
-use Rattle.pgb_command.specs.Asked.{Request, create, push, get, backup, backup_running, restore, report, examine, expire}
+use Rattle.pgb_command.specs.Asked.{Request, create, push, drain, get, backup, backup_running, restore, report, examine, expire}
 use Rattle.pgb_command.specs.Causes.{IsRefusal, IsEarly}
 
 -- ---- a refusal has no status of a command that ended well
@@ -69,9 +72,17 @@ object_over object.Locks = omega arith
 object_over object.Config = omega arith
 object_over object.Output = omega arith
 
+drain_over : (e : PushFault) → 2 ≤ drain_status e
+drain_over e = by (drain_is e)
+  where
+    by : ((drain_status e ≡ 23) × (drain_early e ≡ true)) ⊎ ((74 ≤ drain_status e) × (drain_status e ≤ 75)) → 2 ≤ drain_status e
+    by (inl x) = omega (arith, x.0)
+    by (inr x) = omega (arith, x.0)
+
 command_over : (e : CommandFault) → 2 ≤ command_status e
 command_over (Create e) = create_over e
 command_over (Push e) = (push_within e).0
+command_over (Drain e) = drain_over e
 command_over (Get e) = (get_within e).0
 command_over (Take e) = (later_within e).0
 command_over (TakeOnline e) = online_take_over e
@@ -108,6 +119,7 @@ any_early (backup_running how) n h = h
 any_early (restore set how) n h = inl h
 any_early (report form) n h = inl h
 any_early examine n h = inl h
+any_early (drain place) n h = inl h
 any_early (expire rules) n h = inl h
 
 late : (m : ℕ) → (73 ≤ m) → (m ≤ 99) → m ≢ 83 → ¬ AnyEarly m
@@ -129,20 +141,28 @@ early_object object.Output h = absurd (late 87 (omega arith) (omega arith) (λ e
 prune_is_early : (e : PruneFault) → prune_early e ≡ true
 prune_is_early (prunes.HistoryDiffers at) = refl
 
-early_command : (e : CommandFault) → command_early e ≡ true
-early_command (Create e) = refl
-early_command (Push e) = refl
-early_command (Get e) = refl
-early_command (Take e) = refl
-early_command (TakeOnline e) = refl
-early_command (Recover e) = refl
-early_command (Examine e) = refl
-early_command (Prune e) = prune_is_early e
+drain_is_early : (e : PushFault) → AnyEarly (drain_status e) → drain_early e ≡ true
+drain_is_early e h = by (drain_is e)
+  where
+    by : ((drain_status e ≡ 23) × (drain_early e ≡ true)) ⊎ ((74 ≤ drain_status e) × (drain_status e ≤ 75)) → drain_early e ≡ true
+    by (inl x) = x.1
+    by (inr x) = absurd (late (drain_status e) (omega (arith, x.0)) (omega (arith, x.1)) (λ is. absurd (omega (arith, is, x.1))) h)
+
+early_command : (e : CommandFault) → AnyEarly (command_status e) → command_early e ≡ true
+early_command (Create e) h = refl
+early_command (Push e) h = refl
+early_command (Drain e) h = drain_is_early e h
+early_command (Get e) h = refl
+early_command (Take e) h = refl
+early_command (TakeOnline e) h = refl
+early_command (Recover e) h = refl
+early_command (Examine e) h = refl
+early_command (Prune e) h = prune_is_early e
 
 early_fault : (e : Fault) → AnyEarly (status_of e) → is_early e ≡ true
 early_fault (fault.Usage e) h = refl
 early_fault (fault.Stage e) h = refl
-early_fault (fault.Command e) h = early_command e
+early_fault (fault.Command e) h = early_command e h
 early_fault (fault.Behind lines e) h = let x = behind_late e in absurd (late (behind_status e) x.0 (omega (arith, x.1)) x.2 h)
 early_fault (fault.Failed o) h = early_object o h
 early_fault fault.NoMemory h = absurd (late 90 (omega arith) (omega arith) (λ e. absurd (omega (arith, e))) h)

@@ -9,7 +9,7 @@ use Rattle.pgb_options.specs.Commands.{IsCommand}
 use Rattle.pgb_options.specs.Settings.{Settled}
 use Rattle.pgb_stage.specs.declared.fault.Unbuilt.{Unbuilt}
 use Rattle.pgb_command.specs.Asked.{Request, Asked, expires_by, wanted_in, WordsSettle, IsAsked, MayAsk, Asks, path_in, requested, server_asked}
-use Rattle.pgb_command.specs.Tables.{uses_turns}
+use Rattle.pgb_command.specs.Tables.{uses_spool}
 use Rattle.pgb_command.proofs.AskedOnce.{ok_same, one_settling}
 
 -- what settled words ask for
@@ -40,7 +40,7 @@ module _ (words : List Text) (files : Option Content) (c : Command) (x : (s : Se
       go (Err what) is h = h
 
   -- no turns of others are waited for
-  pub no_turns_waited : (P : Type 0) → ((s : Settled) → IsCommand c s → (request : Request) → requested s ≡ Ok request → uses_turns request ≡ false → P) → ((s : Settled) → IsCommand c s → IfErr (requested s) (λ what. P)) → ((a : Asked) → MayAsk words files a → uses_turns a.request ≡ false) → P
+  pub no_turns_waited : (P : Type 0) → ((s : Settled) → IsCommand c s → (request : Request) → requested s ≡ Ok request → uses_spool request ≡ false → P) → ((s : Settled) → IsCommand c s → IfErr (requested s) (λ what. P)) → ((a : Asked) → MayAsk words files a → uses_spool a.request ≡ false) → P
   no_turns_waited P waits unbuilt none = go (requested x.0) refl (unbuilt x.0 x.2)
     where
       go : (r : Result Request Unbuilt) → requested x.0 ≡ r → IfErr r (λ what. P) → P

@@ -27,7 +27,7 @@ use Rattle.pgb_command.specs.declared.order.Order.{Order}
 use Rattle.pgb_command.specs.declared.order.RunningOrder.{RunningOrder}
 use Rattle.pgb_command.specs.declared.order.Order.TheVariants as orders
 use Rattle.pgb_command.specs.Told.{how_of, taking_of, running_of, IsOrder}
-use Rattle.pgb_command.specs.Asked.{Request, create, push, get, backup, backup_running, restore, report, examine, expire, RestoreHow, Asked}
+use Rattle.pgb_command.specs.Asked.{Request, create, push, drain, get, backup, backup_running, restore, report, examine, expire, RestoreHow, Asked}
 use Rattle.pgb_command.specs.Faults.{of_push, of_get, of_recover}
 use Rattle.pgb_command.specs.Tables.{WordsFit, CommandCause}
 use Rattle.pgb_command.specs.Did.{IsIdle, WordsCause, ComesBehind}
@@ -72,6 +72,7 @@ words_fit a create (orders.BackupRunning o) is = absurd is
 words_fit a create (orders.Restore o) is = absurd is
 words_fit a create (orders.Info asked) is = absurd is
 words_fit a create orders.Verify is = absurd is
+words_fit a create (orders.ArchivePushAsync o) is = absurd is
 words_fit a create (orders.Expire asked) is = absurd is
 words_fit a (push path) orders.StanzaCreate is = absurd is
 words_fit a (push path) (orders.ArchivePush o) is = (o.name, subst (λ (f : Text). IsWalPath f path o.name) is.0 (subst (λ (p : Text). IsWalPath o.folder.now p o.name) is.1 o.named))
@@ -81,6 +82,7 @@ words_fit a (push path) (orders.BackupRunning o) is = absurd is
 words_fit a (push path) (orders.Restore o) is = absurd is
 words_fit a (push path) (orders.Info asked) is = absurd is
 words_fit a (push path) orders.Verify is = absurd is
+words_fit a (push path) (orders.ArchivePushAsync o) is = absurd is
 words_fit a (push path) (orders.Expire asked) is = absurd is
 words_fit a (get word path) orders.StanzaCreate is = absurd is
 words_fit a (get word path) (orders.ArchivePush o) is = absurd is
@@ -90,6 +92,7 @@ words_fit a (get word path) (orders.BackupRunning o) is = absurd is
 words_fit a (get word path) (orders.Restore o) is = absurd is
 words_fit a (get word path) (orders.Info asked) is = absurd is
 words_fit a (get word path) orders.Verify is = absurd is
+words_fit a (get word path) (orders.ArchivePushAsync o) is = absurd is
 words_fit a (get word path) (orders.Expire asked) is = absurd is
 words_fit a (backup how) orders.StanzaCreate is = absurd is
 words_fit a (backup_running how) orders.StanzaCreate is = absurd is
@@ -106,7 +109,9 @@ words_fit a (backup_running how) (orders.Restore o) is = absurd is
 words_fit a (backup how) (orders.Info asked) is = absurd is
 words_fit a (backup_running how) (orders.Info asked) is = absurd is
 words_fit a (backup how) orders.Verify is = absurd is
+words_fit a (backup how) (orders.ArchivePushAsync o) is = absurd is
 words_fit a (backup_running how) orders.Verify is = absurd is
+words_fit a (backup_running how) (orders.ArchivePushAsync o) is = absurd is
 words_fit a (backup_running how) (orders.Expire asked) is = absurd is
 words_fit a (backup how) (orders.Expire asked) is = absurd is
 words_fit a (restore set how) orders.StanzaCreate is = absurd is
@@ -117,6 +122,7 @@ words_fit a (restore set how) (orders.BackupRunning o) is = absurd is
 words_fit a (restore set how) (orders.Restore o) is = (o.set, is.2)
 words_fit a (restore set how) (orders.Info asked) is = absurd is
 words_fit a (restore set how) orders.Verify is = absurd is
+words_fit a (restore set how) (orders.ArchivePushAsync o) is = absurd is
 words_fit a (restore set how) (orders.Expire asked) is = absurd is
 words_fit a (report form) orders.StanzaCreate is = absurd is
 words_fit a (report form) (orders.ArchivePush o) is = absurd is
@@ -126,16 +132,28 @@ words_fit a (report form) (orders.BackupRunning o) is = absurd is
 words_fit a (report form) (orders.Restore o) is = absurd is
 words_fit a (report form) (orders.Info asked) is = tt
 words_fit a (report form) orders.Verify is = absurd is
+words_fit a (report form) (orders.ArchivePushAsync o) is = absurd is
 words_fit a (report form) (orders.Expire asked) is = absurd is
 words_fit a examine orders.StanzaCreate is = absurd is
+words_fit a (drain place) orders.StanzaCreate is = absurd is
 words_fit a examine (orders.ArchivePush o) is = absurd is
+words_fit a (drain place) (orders.ArchivePush o) is = absurd is
 words_fit a examine (orders.ArchiveGet o) is = absurd is
+words_fit a (drain place) (orders.ArchiveGet o) is = absurd is
 words_fit a examine (orders.Backup o) is = absurd is
+words_fit a (drain place) (orders.Backup o) is = absurd is
 words_fit a examine (orders.BackupRunning o) is = absurd is
+words_fit a (drain place) (orders.BackupRunning o) is = absurd is
 words_fit a examine (orders.Restore o) is = absurd is
+words_fit a (drain place) (orders.Restore o) is = absurd is
 words_fit a examine (orders.Info asked) is = absurd is
+words_fit a (drain place) (orders.Info asked) is = absurd is
 words_fit a examine orders.Verify is = tt
+words_fit a examine (orders.ArchivePushAsync o) is = absurd is
+words_fit a (drain place) orders.Verify is = absurd is
+words_fit a (drain place) (orders.ArchivePushAsync o) is = tt
 words_fit a examine (orders.Expire asked) is = absurd is
+words_fit a (drain place) (orders.Expire asked) is = absurd is
 words_fit a (expire rules) orders.StanzaCreate is = absurd is
 words_fit a (expire rules) (orders.ArchivePush o) is = absurd is
 words_fit a (expire rules) (orders.ArchiveGet o) is = absurd is
@@ -144,6 +162,7 @@ words_fit a (expire rules) (orders.BackupRunning o) is = absurd is
 words_fit a (expire rules) (orders.Restore o) is = absurd is
 words_fit a (expire rules) (orders.Info asked) is = absurd is
 words_fit a (expire rules) orders.Verify is = absurd is
+words_fit a (expire rules) (orders.ArchivePushAsync o) is = absurd is
 words_fit a (expire rules) (orders.Expire asked) is = tt
 
 -- the order of a restore is asked for
@@ -156,6 +175,7 @@ restore_asked (backup_running how) folder o is = absurd is
 restore_asked (restore set how) folder o is = (set, ap (restore set) (sym is.1), is.2)
 restore_asked (report form) folder o is = absurd is
 restore_asked examine folder o is = absurd is
+restore_asked (drain place) folder o is = absurd is
 restore_asked (expire rules) folder o is = absurd is
 
 -- so is that of a stopped server's backup
@@ -168,6 +188,7 @@ taking_asked (backup_running how) folder o is = absurd is
 taking_asked (restore set how) folder o is = absurd is
 taking_asked (report form) folder o is = absurd is
 taking_asked examine folder o is = absurd is
+taking_asked (drain place) folder o is = absurd is
 taking_asked (expire rules) folder o is = absurd is
 
 -- and that of a running server's
@@ -180,6 +201,7 @@ running_asked (backup_running how) folder o is = ap backup_running (sym is.1)
 running_asked (restore set how) folder o is = absurd is
 running_asked (report form) folder o is = absurd is
 running_asked examine folder o is = absurd is
+running_asked (drain place) folder o is = absurd is
 running_asked (expire rules) folder o is = absurd is
 
 pub behind_words : (a : Asked) (b k : Seen) (o : Order) → IsOrder a.request a.data_folder o → (result : Result Outcome Fault) → ComesBehind a b k result

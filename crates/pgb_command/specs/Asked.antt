@@ -8,9 +8,9 @@ use Rattle.pgb_options.specs.declared.options.KindWord.{KindWord}
 use Rattle.pgb_options.specs.declared.options.RestoreWord.{RestoreWord}
 use Rattle.pgb_options.specs.declared.options.RestoreWord.TheVariants.{Default, Plain}
 use Rattle.pgb_options.specs.declared.options.OutputWord.{OutputWord}
-use Rattle.pgb_table.specs.declared.table.Opt.TheVariants.{Pg1Path, Pg1SocketPath, Pg1Port, Pg1User, Pg1Database, Repo1Path, LockPath, Online, ArchiveAsync, Output, BackupType, Delta, Repo1Bundle, Repo1RetentionFull, Repo1RetentionFullType, Repo1RetentionDiff, Repo1RetentionArchive, Repo1RetentionArchiveType, ExpireAuto, ProcessMax, StartFast, ArchiveTimeout, RestoreType, Config, Set}
+use Rattle.pgb_table.specs.declared.table.Opt.TheVariants.{Pg1Path, Pg1SocketPath, Pg1Port, Pg1User, Pg1Database, Repo1Path, LockPath, Online, ArchiveAsync, Output, BackupType, Delta, Repo1Bundle, Repo1RetentionFull, Repo1RetentionFullType, Repo1RetentionDiff, Repo1RetentionArchive, Repo1RetentionArchiveType, ExpireAuto, ProcessMax, StartFast, ArchiveTimeout, SpoolPath, RestoreType, Config, Set}
 use Rattle.pgb_table.specs.declared.table.Verb.{Verb}
-use Rattle.pgb_table.specs.declared.table.Verb.TheVariants.{StanzaCreate, ArchivePush, ArchiveGet, Backup, Restore, Info, Verify, Expire}
+use Rattle.pgb_table.specs.declared.table.Verb.TheVariants.{StanzaCreate, ArchivePush, ArchivePushAsync, ArchiveGet, Backup, Restore, Info, Verify, Expire}
 use Rattle.pgb_options.specs.Faults.{Fault}
 use Rattle.pgb_options.specs.Filled.{text_in, number_in, amount_in, flag_in, or_else, kind_word, retention_word, restore_word, output_word, word_in}
 use Rattle.pgb_options.specs.Paths.{Path, nowhere, usual, named, path_of_words}
@@ -64,10 +64,11 @@ pub record RestoreHow : Type 0 where
   pub delta : Bool
   pub recovery : RecoveryType
 
--- which command, the file that archive-push is to store, the file that archive-get is to serve and where, how a stopped server is backed up, how a running one is, the label of the backup to restore and how, the form of info's report, and the rules of an expiry; verify has nothing more to be told
+-- which command, the file that archive-push is to store, the spool of archive-push:async, the file that archive-get is to serve and where, how a stopped server is backed up, how a running one is, the label of the backup to restore and how, the form of info's report, and the rules of an expiry; verify has nothing more to be told
 pub data Request : Type 0 where
   create : Request
   push : (path : Text) → Request
+  drain : (place : Text) → Request
   get : (name path : Text) → Request
   backup : (how : BackupHow) → Request
   backup_running : (how : RunningHow) → Request
@@ -99,6 +100,7 @@ pub record Wanted : Type 0 where
   pub workers : ℕ
   pub fast : Bool
   pub turns : ℕ
+  pub spool : Text
   pub rules : Rules
 
 -- with as many workers, and of this kind
@@ -125,6 +127,7 @@ restore_by m = restore m.set (record { workers = m.workers; delta = m.delta; rec
 abbrev pub request_by : Verb → Wanted → List Text → Result Request Unbuilt
 request_by StanzaCreate m given = Ok create
 request_by ArchivePush m given = if m.background then Err Background else Ok (push (first_of given))
+request_by ArchivePushAsync m given = Ok (drain m.spool)
 request_by ArchiveGet m given = if m.background then Err Background else Ok (get (first_of given) (second_of given))
 request_by Backup m given = backup_by m
 request_by Restore m given = Ok (restore_by m)
@@ -163,6 +166,7 @@ wanted_in s = record {
   workers = or_else 0 (number_in (value s ProcessMax));
   fast = is_on s StartFast;
   turns = or_else 0 (amount_in (value s ArchiveTimeout));
+  spool = path_in s SpoolPath;
   rules = rules_in s;
 }
 

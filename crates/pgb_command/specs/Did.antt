@@ -30,7 +30,7 @@ use Rattle.pgb_expire.specs.Expiry.{retention}
 use Rattle.pgb_model.specs.Steps.{Expire}
 use Rattle.pgb_stage.specs.declared.plan.Settling.TheVariants.{Whole}
 use Rattle.pgb_stage.specs.Reached.{OnFinished}
-use Rattle.pgb_command.specs.declared.fault.CommandFault.TheVariants.{Create, Take, TakeOnline, Examine, Prune}
+use Rattle.pgb_command.specs.declared.fault.CommandFault.TheVariants.{Create, Drain, Take, TakeOnline, Examine, Prune}
 use Rattle.pgb_command.specs.declared.fault.Fault.{Fault}
 use Rattle.pgb_command.specs.declared.fault.Fault.TheVariants.{Usage, Stage, Command, Behind, Failed as ObjectFailed, NoMemory}
 use Rattle.pgb_command.specs.Answers.{status, reached_of, ending_of}
@@ -139,6 +139,7 @@ pub record Followed (stanza : Text) (rules : Rules) (before after : Seen) (lines
 -- why a command's words are refused
 abbrev pub WordsCause : Asked → Fault → Type 0
 WordsCause a (Command (Create fault)) = ⊥
+WordsCause a (Command (Drain fault)) = ⊥
 WordsCause a (Command (Take fault)) = ⊥
 WordsCause a (Command (TakeOnline fault)) = ⊥
 WordsCause a (Command (Examine fault)) = ⊥

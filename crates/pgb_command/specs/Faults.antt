@@ -13,7 +13,7 @@ use Rattle.pgb_take_online.specs.declared.fault.OnlineTakeFault.{OnlineTakeFault
 use Rattle.pgb_recover.specs.declared.fault.RecoverFault.{RecoverFault}
 use Rattle.pgb_examine.specs.declared.fault.ExamineFault.{ExamineFault}
 use Rattle.pgb_prune.specs.declared.fault.PruneFault.{PruneFault}
-use Rattle.pgb_command.specs.declared.fault.CommandFault.TheVariants.{Create, Push, Get, Take, TakeOnline, Recover, Examine, Prune}
+use Rattle.pgb_command.specs.declared.fault.CommandFault.TheVariants.{Create, Push, Drain, Get, Take, TakeOnline, Recover, Examine, Prune}
 use Rattle.pgb_command.specs.declared.fault.Fault.{Fault}
 use Rattle.pgb_command.specs.declared.fault.Fault.TheVariants.{Usage as OfUsage, Stage, Command, Failed, NoMemory}
 
@@ -31,6 +31,9 @@ of_create = of_halt (λ e. Command (Create e))
 
 abbrev pub of_push : Halt PushFault → Fault
 of_push = of_halt (λ e. Command (Push e))
+
+abbrev pub of_drain : Halt PushFault → Fault
+of_drain = of_halt (λ e. Command (Drain e))
 
 abbrev pub of_get : Halt GetFault → Fault
 of_get = of_halt (λ e. Command (Get e))

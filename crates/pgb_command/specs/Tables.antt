@@ -57,17 +57,19 @@ use Rattle.pgb_examine.specs.Examining.{ExamineCause, IsExamined, EndsWithNone}
 use Rattle.pgb_retain.specs.declared.rules.Rules.{Rules}
 use Rattle.pgb_expire.specs.Expiry.{IsTouched}
 use Rattle.pgb_expire.specs.Losing.{MayExpire}
+use Rattle.pgb_drained.specs.Drained.{IsDrainOf, IsDrained, DrainCause}
 use Rattle.pgb_prune.specs.Behind.{AddsLines, IsFollowed, WasTold}
 use Rattle.pgb_prune.specs.Faults.{PruneCause}
 use Rattle.pgb_prune.specs.Pruning.{counts_days, IsMoment, TellsMoment, IsExpiryBy, IsPruned}
 use Rattle.pgb_command.specs.declared.fault.CommandFault.{CommandFault}
-use Rattle.pgb_command.specs.declared.fault.CommandFault.TheVariants.{Create, Push, Get, Take, TakeOnline, Recover, Examine, Prune}
-use Rattle.pgb_command.specs.Asked.{Request, create, push, get, backup, backup_running, restore, report, examine, expire, BackupHow, RunningHow, RestoreHow, Asked}
+use Rattle.pgb_command.specs.declared.fault.CommandFault.TheVariants.{Create, Push, Drain, Get, Take, TakeOnline, Recover, Examine, Prune}
+use Rattle.pgb_command.specs.Asked.{Request, create, push, drain, get, backup, backup_running, restore, report, examine, expire, BackupHow, RunningHow, RestoreHow, Asked}
 use Rattle.pgb_command.specs.Told.{taking_of}
 
 -- what the objects hold, as far as they tell it
 pub record Known : Type 0 where
   pub repo : Option Content
+  pub spool : Option Content
   pub nodes : Option Nodes
   pub server : WireState
   pub others : OthersState
@@ -75,12 +77,13 @@ pub record Known : Type 0 where
   pub links : List LinkState
 
 abbrev pub known : Seen → Known
-known s = record { repo = s.repo.view.now; nodes = s.tree.nodes; server = s.server; others = s.others; clock = s.clock; links = s.links }
+known s = record { repo = s.repo.view.now; spool = s.spool.view.now; nodes = s.tree.nodes; server = s.server; others = s.others; clock = s.clock; links = s.links }
 
 -- what a command needs of the stages: names settled, places, locks, the control file, and the pairs
 abbrev pub plan_of : Request → Plan
 plan_of create = record { settling = Whole; folder = true; backup_lock = true; archive_lock = true; control = true; pairs = Unread }
 plan_of (push path) = record { settling = Looked; folder = true; backup_lock = false; archive_lock = true; control = true; pairs = HealArchive }
+plan_of (drain place) = record { settling = Whole; folder = true; backup_lock = false; archive_lock = true; control = true; pairs = ReadArchive }
 plan_of (get name path) = record { settling = Looked; folder = true; backup_lock = false; archive_lock = false; control = true; pairs = ReadArchive }
 plan_of (backup how) = record { settling = Whole; folder = true; backup_lock = true; archive_lock = false; control = true; pairs = ReadBoth }
 plan_of (backup_running how) = record { settling = Whole; folder = true; backup_lock = true; archive_lock = false; control = true; pairs = ReadBoth }
@@ -115,10 +118,15 @@ IsRunningOf a how old new command = IsSomeAnd new.others.account (λ k. (turned 
 abbrev pub WithExpiry : Option Rules → ℕ → (Command → Type 0) → Command → Type 0
 WithExpiry rules least Is command = (made : Command) × Is made × IsFollowed rules least made command
 
+-- it stores some of the files that the data folder has
+abbrev pub IsSomeDrain : Nodes → Command → Type 0
+IsSomeDrain f command = (whole : Bool) × IsDrainOf f whole command
+
 -- which command of the repository's log it is, from what the objects hold before and after it
 abbrev pub manner_of : Asked → Request → Known → Known → Manner
 manner_of a create old new = each (λ command. IsSomeAnd old.nodes (λ f. IsCreateOf f command))
 manner_of a (push path) old new = each (λ command. IsSomeAnd old.nodes (λ f. IsPushOf f a.data_folder path command))
+manner_of a (drain place) old new = provided (IsSome old.nodes) (λ command. IsSomeAnd old.nodes (λ f. IsSomeDrain f command))
 manner_of a (get name path) old new = each (λ command. command ≡ Reading)
 manner_of a (backup how) old new = one (WithExpiry a.expires old.clock.least (IsBackupBy how.kind (take how.workers old.links) a.stanza old.repo))
 manner_of a (backup_running how) old new = provided (TurnsTold a (backup_running how) new) (WithExpiry a.expires old.clock.least (IsRunningOf a how old new))
@@ -131,6 +139,7 @@ manner_of a (expire rules) old new = one (IsExpiryBy rules old.clock.least)
 abbrev pub WordsFit : Asked → Request → Type 0
 WordsFit a create = Unit {0}
 WordsFit a (push path) = (name : ArchiveName) × IsWalPath a.data_folder path name
+WordsFit a (drain place) = Unit {0}
 WordsFit a (get word path) = (name : ArchiveName) × AreWords a.data_folder word path name
 WordsFit a (backup how) = Unit {0}
 WordsFit a (backup_running how) = Unit {0}
@@ -173,6 +182,7 @@ RestoreCause a set how old fault = WordCause set fault ⊎ ((label : Option Labe
 abbrev pub CommandCause : Asked → Request → Known → Known → CommandFault → Type 0
 CommandCause a create old new (Create fault) = OnCluster old.nodes (λ told. CreateCause a.stanza told a.server old.repo old.server.pending fault)
 CommandCause a (push path) old new (Push fault) = PushCause a.stanza a.data_folder path old.repo old.nodes fault
+CommandCause a (drain place) old new (Drain fault) = DrainCause a.stanza old.repo new.repo old.nodes fault
 CommandCause a (get name path) old new (Get fault) = GetCause a.stanza a.data_folder name path old.repo old.nodes fault
 CommandCause a (backup how) old new (Take fault) = ByOrder how (λ o. OnCluster old.nodes (λ told. LaterCause (found_by a how.workers old told) o fault))
 CommandCause a (backup_running how) old new (TakeOnline fault) = OnCluster old.nodes (λ told. OnlineCause (asked_by a how old new told) fault)
@@ -226,10 +236,16 @@ abbrev pub BehindIt : Option Rules → Text → ℕ → (Option Content → Outc
 BehindIt None stanza least Was new outcome = Was new.repo outcome
 BehindIt (Some rules) stanza least Was new outcome = BeforeExpiry stanza rules least Was new outcome
 
+-- Ok of archive-push:async: these became of the files that are ready, and each has its mark in the spool
+abbrev pub Drains : Asked → Known → Known → Outcome → Type 0
+Drains a old new outcome = OnCluster old.nodes (λ told. OnFinished outcome (λ lines. IfSome old.nodes (λ f.
+    IsDrained a.stanza f told old.repo old.spool new.spool lines)))
+
 -- what a command promises where it ends well
 abbrev pub Promise : Asked → Request → Known → Known → Outcome → Type 0
 Promise a create old new outcome = Creates a old new outcome
 Promise a (push path) old new outcome = OnFinished outcome (IsStored a.stanza a.data_folder path old.nodes old.repo new.repo)
+Promise a (drain place) old new outcome = Drains a old new outcome
 Promise a (get name path) old new outcome = GotBy a.stanza a.data_folder name path old.repo old.nodes new.nodes outcome
     × OnStanza a old.repo (λ s. GivenBy s a.data_folder name path old.nodes new.nodes outcome)
 Promise a (backup how) old new outcome = BehindIt a.expires a.stanza old.clock.least (IsBackedUp a (backup how) old new) new outcome
@@ -252,6 +268,7 @@ Lasts a request nodes repo now_nodes outcome = Unit {0}
 abbrev pub OnReader : Request → Type 0 → Type 0
 OnReader create P = Unit {0}
 OnReader (push path) P = Unit {0}
+OnReader (drain place) P = Unit {0}
 OnReader (get name path) P = P
 OnReader (backup how) P = Unit {0}
 OnReader (backup_running how) P = Unit {0}
@@ -309,6 +326,12 @@ uses_clock (backup how) = true
 uses_clock (backup_running how) = true
 uses_clock (expire rules) = counts_days rules.full
 uses_clock request = false
+
+-- only archive-push:async uses the spool, and a running server's backup hands it to others
+abbrev pub uses_spool : Request → Bool
+uses_spool (drain place) = true
+uses_spool (backup_running how) = true
+uses_spool request = false
 
 abbrev pub uses_turns : Request → Bool
 uses_turns (backup_running how) = true

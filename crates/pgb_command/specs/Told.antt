@@ -12,11 +12,11 @@ use Rattle.pgb_recover.specs.Fetching.{recovery_type}
 use Rattle.pgb_recover.specs.Words.{TellsSet}
 use Rattle.pgb_command.specs.declared.settings.Settings.{Settings}
 use Rattle.pgb_command.specs.declared.settings.Request as code
-use Rattle.pgb_command.specs.declared.settings.Request.TheVariants.{StanzaCreate, ArchivePush, ArchiveGet, Backup, BackupRunning, Restore, Info, Verify, Expire}
+use Rattle.pgb_command.specs.declared.settings.Request.TheVariants.{StanzaCreate, ArchivePush, ArchivePushAsync, ArchiveGet, Backup, BackupRunning, Restore, Info, Verify, Expire}
 use Rattle.pgb_command.specs.declared.order.Order.{Order}
 use Rattle.pgb_command.specs.declared.order.RunningOrder.{RunningOrder}
 use Rattle.pgb_command.specs.declared.order.Order.TheVariants as order
-use Rattle.pgb_command.specs.Asked.{Request, create, push, get, backup, backup_running, restore, report, examine, expire, BackupHow, RunningHow, RestoreHow, Asked, Wanted}
+use Rattle.pgb_command.specs.Asked.{Request, create, push, drain, get, backup, backup_running, restore, report, examine, expire, BackupHow, RunningHow, RestoreHow, Asked, Wanted}
 
 -- the workers can be numbered, and none has bytes of an earlier answer to give
 pub record AreWorkers (links : List LinkState) : Type 0 where
@@ -26,6 +26,7 @@ pub record AreWorkers (links : List LinkState) : Type 0 where
 abbrev pub request_of : code.Request → Request
 request_of StanzaCreate = create
 request_of (ArchivePush path) = push path.now
+request_of (ArchivePushAsync place) = drain place.now
 request_of (ArchiveGet name path) = get name.now path.now
 request_of (Backup workers kind delta) = backup (record { workers = workers; kind = kind; delta = delta })
 request_of (BackupRunning workers kind delta fast turns) = backup_running (record { taken = record { workers = workers; kind = kind; delta = delta }; fast = fast; turns = turns })
@@ -50,6 +51,7 @@ wanted_told o = record {
   workers = o.process_max;
   fast = o.start_fast;
   turns = o.archive_timeout;
+  spool = string_bytes o.spool_path;
   rules = rules_by o;
 }
 
@@ -72,6 +74,7 @@ how_of o = record { workers = o.workers; delta = o.delta; recovery = recovery_ty
 abbrev pub IsOrder : Request → Text → Order → Type 0
 IsOrder create folder order.StanzaCreate = Unit {0}
 IsOrder (push path) folder (order.ArchivePush o) = (o.folder.now ≡ folder) × (o.path.now ≡ path)
+IsOrder (drain place) folder (order.ArchivePushAsync asked) = asked.now ≡ place
 IsOrder (get name path) folder (order.ArchiveGet o) = (o.folder.now ≡ folder) × (o.word.now ≡ name) × (o.path.now ≡ path)
 IsOrder (backup how) folder (order.Backup o) = (o.take.data_folder.now ≡ folder) × (taking_of o ≡ how)
 IsOrder (backup_running how) folder (order.BackupRunning o) = (o.later.take.data_folder.now ≡ folder) × (running_of o ≡ how)

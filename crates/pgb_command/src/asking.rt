@@ -125,6 +125,9 @@ fn request_of(command: &Command) -> Result<Request<'_>, Unbuilt>
                 path: first_of(&command.given),
             })
         }
+        Verb::ArchivePushAsync => Ok(Request::ArchivePushAsync {
+            spool: &command.options.spool_path,
+        }),
         Verb::ArchiveGet => {
             if command.options.archive_async {
                 return Err(Unbuilt::Background);
@@ -208,6 +211,13 @@ pub(crate) fn plan_of(request: &Request<'_>) -> Plan
             archive_lock: true,
             control: true,
             pairs: Pairs::HealArchive,
+            ..reading
+        },
+        Request::ArchivePushAsync { .. } => Plan {
+            folder: true,
+            archive_lock: true,
+            control: true,
+            pairs: Pairs::ReadArchive,
             ..reading
         },
         Request::ArchiveGet { .. } => Plan {

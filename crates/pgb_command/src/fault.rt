@@ -1,9 +1,10 @@
 // What a command answers in place of Ok, by layers.
 ghost use Rattle.std.specs.Prelude.{◌≡◌};
 ghost use Rattle.pgb_command.specs.Answers.{status_of, usage_status, command_status};
-ghost use Rattle.pgb_command.specs.Faults.{lift, of_stage, of_create, of_push, of_get, of_take, of_take_online, of_recover, of_examine, of_prune};
+ghost use Rattle.pgb_command.specs.Faults.{lift, of_stage, of_create, of_push, of_drain, of_get, of_take, of_take_online, of_recover, of_examine, of_prune};
 
 use pgb_create::{CreateFault, create_status};
+use pgb_drained::drain_status;
 use pgb_examine::{ExamineFault, examine_status};
 use pgb_get::{GetFault, get_status};
 use pgb_options::Usage;
@@ -20,6 +21,7 @@ use std::alloc::AllocError;
 pub enum CommandFault {
     Create(CreateFault),
     Push(PushFault),
+    Drain(PushFault),
     Get(GetFault),
     Take(LaterFault),
     TakeOnline(OnlineTakeFault),
@@ -223,6 +225,18 @@ pub(crate) fn push_end(ended: Result<Outcome, Halt<PushFault>>) -> Result<Outcom
     }
 }
 
+/// How archive-push:async ended.
+pub(crate) fn drain_end(ended: Result<Outcome, Halt<PushFault>>) -> Result<Outcome, Fault>
+    ensures { result ≡ lift of_drain ended }
+{
+    match ended {
+        Ok(outcome) => Ok(outcome),
+        Err(Halt::Refused(fault)) => Err(Fault::Command(CommandFault::Drain(fault))),
+        Err(Halt::Failed(object)) => Err(Fault::Failed(object)),
+        Err(Halt::NoMemory) => Err(Fault::NoMemory),
+    }
+}
+
 /// How archive-get ended.
 pub(crate) fn get_end(ended: Result<Outcome, Halt<GetFault>>) -> Result<Outcome, Fault>
     ensures { result ≡ lift of_get ended }
@@ -320,6 +334,7 @@ fn command_status(fault: &CommandFault) -> u8
     match fault {
         CommandFault::Create(fault) => create_status(fault),
         CommandFault::Push(fault) => push_status(fault),
+        CommandFault::Drain(fault) => drain_status(fault),
         CommandFault::Get(fault) => get_status(fault),
         CommandFault::Take(fault) => later_status(fault),
         CommandFault::TakeOnline(fault) => online_take_status(fault),

@@ -48,6 +48,7 @@ fn command_message(alloc: Global, fault: &CommandFault) -> Result<Vec<u8>, NoMem
     match fault {
         CommandFault::Create(fault) => create_message(alloc, fault),
         CommandFault::Push(fault) => push_message(alloc, fault),
+        CommandFault::Drain(fault) => push_message(alloc, fault),
         CommandFault::Get(fault) => get_message(alloc, fault),
         CommandFault::Take(fault) => later_message(alloc, fault),
         CommandFault::TakeOnline(fault) => online_take_message(alloc, fault),

@@ -30,6 +30,8 @@ pub struct RunningOrder<'a> {
 pub enum Order<'a> {
     StanzaCreate,
     ArchivePush(PushOrder<'a>),
+    /// Into the spool at this path.
+    ArchivePushAsync(&'a str),
     ArchiveGet(GetOrder<'a>),
     Backup(LaterOrder<'a>),
     BackupRunning(RunningOrder<'a>),
@@ -70,6 +72,7 @@ pub(crate) fn order_of<'a>(alloc: Global, settings: &Settings<'a>) -> Result<Ord
         Request::ArchivePush { path } => {
             Ok(Order::ArchivePush(push_order(alloc, settings.pg1_path, path)?))
         }
+        Request::ArchivePushAsync { spool } => Ok(Order::ArchivePushAsync(spool)),
         Request::ArchiveGet { name, path } => Ok(Order::ArchiveGet(get_order(
             alloc,
             settings.pg1_path,

@@ -2,20 +2,21 @@
 ghost use Rattle.std.specs.Prelude.{◌≡◌, ◌≤◌, ◌∷◌, [], None, map, string_bytes};
 ghost use Rattle.pgb_stage.specs.Plans.{AreHeld, backup_lock};
 ghost use Rattle.pgb_prepare.specs.Readies.{IsReady};
-ghost use Rattle.pgb_command.specs.Asked.{alone, create as asks_create, push as asks_push, get as asks_get, report as asks_report, examine as asks_examine, expire as asks_expire};
+ghost use Rattle.pgb_command.specs.Asked.{alone, create as asks_create, push as asks_push, drain as asks_drain, get as asks_get, report as asks_report, examine as asks_examine, expire as asks_expire};
 ghost use Rattle.pgb_command.specs.Did.{Ran, Followed};
 ghost use Rattle.pgb_command.specs.Told.{request_of, asked_of, AreWorkers, IsOrder};
 ghost use Rattle.pgb_command.specs.declared.order.Order.TheVariants.{Backup as BackupOrder, BackupRunning as BackupRunningOrder, Restore as RestoreOrder};
 ghost use Rattle.pgb_command.specs.Tables.{plan_of};
 
 use crate::fault::{
-    Fault, create_end, examine_end, get_end, inform_end, prune_end, push_end, recover_end,
+    Fault, create_end, drain_end, examine_end, get_end, inform_end, prune_end, push_end, recover_end,
     take_end, take_online_end,
 };
 use crate::order::RunningOrder;
 use crate::outside::{Outside, Told};
 use crate::settings::Settings;
 use pgb_create::{create_stanza, socket_path};
+use pgb_drained::drain_into;
 use pgb_examine::examine_stanza;
 use pgb_get::{GetOrder, get_file};
 use pgb_inform::report_stanza;
@@ -104,6 +105,43 @@ impl<
             &self.locks,
             settings.stanza,
             order,
+            control,
+            archive,
+        ))
+    }
+
+    /// archive-push:async.
+    pub(crate) fn drain(
+        &mut self,
+        alloc: Global,
+        settings: &Settings<'_>,
+        place: &str,
+        ready: &Ready,
+    ) -> Result<Outcome, Fault>
+        requires request { request_of settings.now.request ≡ asks_drain place.now }
+        requires locked { AreHeld (plan_of (request_of settings.now.request)) settings.now.stanza.now
+            (K.state self.old.locks).taken }
+        requires ready { IsReady (plan_of (request_of settings.now.request)) settings.now.stanza.now
+            (D.state self.old.repo).view.now (T.state self.old.tree).nodes ready.now }
+        ensures ran { let told = ⟦<Outside<D, S, T, V, A, C, K, I, O, L, U> as Told>⟧.told in
+            Ran (alone (asked_of settings.now)) (told self.old) (told self.new) result }
+        ensures rest { self.new ≡ record self.old {
+          repo = self.new.repo;
+          spool = self.new.spool;
+          tree = self.new.tree;
+        } }
+    {
+        let (Some(control), Some(archive)) = (&ready.control, &ready.archive) else {
+            unreachable!();
+        };
+        drain_end(drain_into(
+            alloc,
+            &mut self.repo,
+            &mut self.spool,
+            &mut self.tree,
+            &self.locks,
+            settings.stanza,
+            place,
             control,
             archive,
         ))

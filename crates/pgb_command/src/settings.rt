@@ -17,6 +17,10 @@ pub enum Request<'a> {
     ArchivePush {
         path: &'a str,
     },
+    /// The files that are ready are to be stored, and marked in the spool at this path.
+    ArchivePushAsync {
+        spool: &'a str,
+    },
     /// The archived file that is to be served, and where.
     ArchiveGet {
         name: &'a str,

@@ -9,7 +9,7 @@ ghost use Rattle.pgb_command.specs.Asked.{alone};
 ghost use Rattle.pgb_command.specs.Did.{Ran, Did, ComesBehind, Brackets, SamePlaces, OpensPlaces, ArePlacesOpened, TakesAll, OnlyLocked};
 ghost use Rattle.pgb_command.specs.Kept.{KeepsInAndOut, KeepsLocked};
 ghost use Rattle.pgb_command.specs.Told.{request_of, asked_of, AreWorkers, IsOrder};
-ghost use Rattle.pgb_command.specs.Tables.{OnBackup, plan_of, uses_turns, uses_workers, is_on_repository};
+ghost use Rattle.pgb_command.specs.Tables.{OnBackup, plan_of, uses_spool, uses_workers, is_on_repository};
 
 use crate::asking::plan_of;
 use crate::fault::Fault;
@@ -88,7 +88,7 @@ impl<
         ensures quiet { settings.now.server ≡ None → self.new.server ≡ self.old.server }
         ensures alone { uses_workers (request_of settings.now.request) ≡ false
             → (self.new.links ≡ self.old.links) × (self.new.turns ≡ self.old.turns) }
-        ensures waits { uses_turns (request_of settings.now.request) ≡ false
+        ensures waits { uses_spool (request_of settings.now.request) ≡ false
             → (self.new.spool ≡ self.old.spool) × (self.new.aside ≡ self.old.aside) }
         ensures idle { plan.now.backup_lock ≡ false → plan.now.archive_lock ≡ false → self.new.locks ≡ self.old.locks }
         ensures rest { KeepsInAndOut self.old self.new }
@@ -111,7 +111,7 @@ impl<
         ensures quiet { settings.now.server ≡ None → self.new.server ≡ self.old.server }
         ensures alone { uses_workers (request_of settings.now.request) ≡ false
             → (self.new.links ≡ self.old.links) × (self.new.turns ≡ self.old.turns) }
-        ensures waits { uses_turns (request_of settings.now.request) ≡ false
+        ensures waits { uses_spool (request_of settings.now.request) ≡ false
             → (self.new.spool ≡ self.old.spool) × (self.new.aside ≡ self.old.aside) }
         ensures unused { is_on_repository (request_of settings.now.request) ≡ true
             → (self.new.tree ≡ self.old.tree) × (self.new.locks ≡ self.old.locks) }
@@ -142,7 +142,7 @@ impl<
         ensures quiet { settings.now.server ≡ None → self.new.server ≡ self.old.server }
         ensures alone { uses_workers (request_of settings.now.request) ≡ false
             → (self.new.links ≡ self.old.links) × (self.new.turns ≡ self.old.turns) }
-        ensures waits { uses_turns (request_of settings.now.request) ≡ false
+        ensures waits { uses_spool (request_of settings.now.request) ≡ false
             → (self.new.spool ≡ self.old.spool) × (self.new.aside ≡ self.old.aside) }
         ensures rest { KeepsLocked self.old self.new }
     {
@@ -184,7 +184,7 @@ impl<
         ensures quiet { settings.now.server ≡ None → self.new.server ≡ self.old.server }
         ensures alone { uses_workers (request_of settings.now.request) ≡ false
             → (self.new.links ≡ self.old.links) × (self.new.turns ≡ self.old.turns) }
-        ensures waits { uses_turns (request_of settings.now.request) ≡ false
+        ensures waits { uses_spool (request_of settings.now.request) ≡ false
             → (self.new.spool ≡ self.old.spool) × (self.new.aside ≡ self.old.aside) }
         ensures idle { plan.now.backup_lock ≡ false → plan.now.archive_lock ≡ false → self.new.locks ≡ self.old.locks }
         ensures rest { KeepsInAndOut self.old self.new }
@@ -224,7 +224,7 @@ impl<
         ensures quiet { settings.now.server ≡ None → self.new.server ≡ self.old.server }
         ensures alone { uses_workers (request_of settings.now.request) ≡ false
             → (self.new.links ≡ self.old.links) × (self.new.turns ≡ self.old.turns) }
-        ensures waits { uses_turns (request_of settings.now.request) ≡ false
+        ensures waits { uses_spool (request_of settings.now.request) ≡ false
             → (self.new.spool ≡ self.old.spool) × (self.new.aside ≡ self.old.aside) }
         ensures idle { plan.now.backup_lock ≡ false → plan.now.archive_lock ≡ false → self.new.locks ≡ self.old.locks }
         ensures rest { KeepsInAndOut self.old self.new }
@@ -255,7 +255,7 @@ impl<
         ensures quiet { settings.now.server ≡ None → self.new.server ≡ self.old.server }
         ensures alone { uses_workers (request_of settings.now.request) ≡ false
             → (self.new.links ≡ self.old.links) × (self.new.turns ≡ self.old.turns) }
-        ensures waits { uses_turns (request_of settings.now.request) ≡ false
+        ensures waits { uses_spool (request_of settings.now.request) ≡ false
             → (self.new.spool ≡ self.old.spool) × (self.new.aside ≡ self.old.aside) }
         ensures rest { KeepsLocked self.old self.new }
     {
@@ -292,13 +292,14 @@ impl<
         ensures quiet { settings.now.server ≡ None → self.new.server ≡ self.old.server }
         ensures alone { uses_workers (request_of settings.now.request) ≡ false
             → (self.new.links ≡ self.old.links) × (self.new.turns ≡ self.old.turns) }
-        ensures waits { uses_turns (request_of settings.now.request) ≡ false
+        ensures waits { uses_spool (request_of settings.now.request) ≡ false
             → (self.new.spool ≡ self.old.spool) × (self.new.aside ≡ self.old.aside) }
         ensures rest { KeepsLocked self.old self.new }
     {
         match order {
             Order::StanzaCreate => self.create(alloc, settings, &ready),
             Order::ArchivePush(order) => self.push(alloc, settings, order, &ready),
+            Order::ArchivePushAsync(place) => self.drain(alloc, settings, place, &ready),
             Order::ArchiveGet(order) => self.get(alloc, settings, &order, &ready),
             Order::Backup(order) => self.take(alloc, settings, order, ready),
             Order::BackupRunning(order) => self.take_running(alloc, settings, &order, ready),

@@ -6,7 +6,7 @@ ghost use Rattle.pgb_table.specs.Values.{is_stanza};
 ghost use Rattle.pgb_command.specs.Asked.{Request, Asked, MayAsk, requested, server_asked};
 ghost use Rattle.pgb_command.specs.Causes.{Answers, Obeys, Each, OnEach, Finishes, PartDone, StaysAt, FulfilsAt, LeavesRest, LeavesOthers, Completes, ClosesTalk};
 ghost use Rattle.pgb_command.specs.Did.{OpensPlaces, OnlyLocked};
-ghost use Rattle.pgb_command.specs.Tables.{uses_turns, uses_workers, is_on_repository};
+ghost use Rattle.pgb_command.specs.Tables.{uses_spool, uses_workers, is_on_repository};
 ghost use Rattle.pgb_command.specs.Told.{AreWorkers};
 
 use crate::asking::settings_of;
@@ -48,7 +48,7 @@ pub fn carry<
         → uses_workers request ≡ false
         → (outside.new.links ≡ outside.old.links) × (outside.new.turns ≡ outside.old.turns) }
     ensures waits { (s : Settled) → IsCommand command.now s → (request : Request) → requested s ≡ Ok request
-        → uses_turns request ≡ false
+        → uses_spool request ≡ false
         → (outside.new.spool ≡ outside.old.spool) × (outside.new.aside ≡ outside.old.aside) }
     ensures unused { (s : Settled) → IsCommand command.now s → (request : Request) → requested s ≡ Ok request
         → is_on_repository request ≡ true
@@ -155,9 +155,9 @@ pub fn run<
         is_on_repository a.request ≡ true
         → (outside.new.tree ≡ outside.old.tree) × (outside.new.locks ≡ outside.old.locks)) }
 
-    // Who waits for no turns of other processes leaves them and the spool.
+    // Who neither uses the spool nor waits for turns of other processes leaves both.
     ensures untouched { ((a : Asked) → MayAsk (map string_bytes words.now) (I.state outside.old.config).files a
-        → uses_turns a.request ≡ false)
+        → uses_spool a.request ≡ false)
         → (outside.new.spool ≡ outside.old.spool) × (outside.new.aside ≡ outside.old.aside) }
 
     // No lock is held afterwards, and the configuration's files are as they were.

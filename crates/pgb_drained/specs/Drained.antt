@@ -1,5 +1,5 @@
 -- archive-push:async: which command of the log it is, what it promises, and why it is refused.
-use Rattle.std.specs.Prelude.{◌≡◌, ◌⊎◌, Bool, true, false, List, [], Option, Some, IsSome, IfSome}
+use Rattle.std.specs.Prelude.{◌≡◌, ◌⊎◌, ℕ, Bool, true, false, List, [], Option, Some, IsSome, IfSome}
 use Rattle.pgb_outside.specs.Content.{Content}
 use Rattle.pgb_outside.specs.Crash.{NowGoes, AllOf}
 use Rattle.pgb_outside.specs.Tree.{Nodes}
@@ -13,7 +13,7 @@ use Rattle.pgb_stanza.specs.declared.control.Control.{Control}
 use Rattle.pgb_stanza.specs.declared.fault.Identity.{Identity}
 use Rattle.pgb_stage.specs.Current.{id_kept}
 use Rattle.pgb_push.specs.declared.fault.PushFault.{PushFault}
-use Rattle.pgb_push.specs.declared.fault.PushFault.TheVariants.{StanzaMismatch}
+use Rattle.pgb_push.specs.declared.fault.PushFault.TheVariants.{StanzaMismatch, TooLong}
 use Rattle.pgb_push.specs.Causes.{IsCurrent, MismatchCause}
 use Rattle.pgb_spool.specs.Clearing.{IsStale, IsCleared}
 use Rattle.pgb_drain.specs.Draining.{AreOf}
@@ -47,6 +47,12 @@ pub record IsDrained (stanza : Text) (f : Nodes) (told : Control) (repo spool ne
 abbrev pub drain_early : PushFault → Bool
 drain_early (StanzaMismatch kept found) = true
 drain_early fault = false
+
+-- the status of each refusal (own): of one that comes behind stored files it is none of a command that did nothing
+abbrev pub drain_status : PushFault → ℕ
+drain_status (StanzaMismatch kept found) = 23
+drain_status (TooLong name limit) = 74
+drain_status other = 75
 
 -- why it is refused: the data folder is of another cluster, or a file that is ready is too long or stored twice
 abbrev pub DrainCause : Text → Option Content → Option Content → Option Nodes → PushFault → Type 0

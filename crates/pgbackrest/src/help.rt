@@ -107,6 +107,7 @@ fn is_built(verb: Verb) -> bool {
         verb,
         Verb::StanzaCreate
             | Verb::ArchivePush
+            | Verb::ArchivePushAsync
             | Verb::ArchiveGet
             | Verb::Backup
             | Verb::Restore
@@ -116,7 +117,7 @@ fn is_built(verb: Verb) -> bool {
     )
 }
 
-// The parameters of a command and what it does. The program starts the asynchronous forms itself.
+// The parameters of a command and what it does.
 fn purpose_of(verb: Verb) -> Option<&'static str> {
     match verb {
         Verb::StanzaCreate => Some(": makes a stanza in the repository"),
@@ -132,7 +133,8 @@ fn purpose_of(verb: Verb) -> Option<&'static str> {
         Verb::Verify => Some(": looks for damage in the repository"),
         Verb::Info => Some(": tells which backups and segments there are"),
         Verb::Rehearse => Some(": tries all of it on empty folders"),
-        Verb::ArchivePushAsync | Verb::ArchiveGetAsync => None,
+        Verb::ArchivePushAsync => Some(": stores the files of the write-ahead log that are ready"),
+        Verb::ArchiveGetAsync => None,
     }
 }
 

@@ -1,5 +1,5 @@
 use Rattle.std.proofs.Common.{ap, sym, ◌∙◌, map, string_bytes}
-use Rattle.pgb_command.specs.Tables.{uses_turns, uses_workers, is_on_repository}
+use Rattle.pgb_command.specs.Tables.{uses_spool, uses_workers, is_on_repository}
 use Rattle.pgb_command.specs.Told.{asked_of}
 use Rattle.pgb_command.proofs.AskedOnce.{ok_same}
 use Rattle.pgb_command.proofs.Readied.{no_server}
@@ -20,7 +20,7 @@ pub returns-clause-alone : goal.returns-clause-alone
 returns-clause-alone g c = λ s is request asked off. c.obey-ended.ensures.alone (ap uses_workers (ok_same _ _ (sym (c.in-Ok.ensures.asked s is).request ∙ asked)) ∙ off)
 
 pub returns-clause-waits : goal.returns-clause-waits
-returns-clause-waits g c = λ s is request asked off. c.obey-ended.ensures.waits (ap uses_turns (ok_same _ _ (sym (c.in-Ok.ensures.asked s is).request ∙ asked)) ∙ off)
+returns-clause-waits g c = λ s is request asked off. c.obey-ended.ensures.waits (ap uses_spool (ok_same _ _ (sym (c.in-Ok.ensures.asked s is).request ∙ asked)) ∙ off)
 
 pub returns-clause-unused : goal.returns-clause-unused
 returns-clause-unused g c = λ s is request asked on. c.obey-ended.ensures.unused (ap is_on_repository (ok_same _ _ (sym (c.in-Ok.ensures.asked s is).request ∙ asked)) ∙ on)
