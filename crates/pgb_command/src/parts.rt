@@ -9,8 +9,8 @@ ghost use Rattle.pgb_command.specs.declared.order.Order.TheVariants.{Backup as B
 ghost use Rattle.pgb_command.specs.Tables.{plan_of};
 
 use crate::fault::{
-    Fault, create_end, drain_end, examine_end, get_end, inform_end, prune_end, push_end, recover_end,
-    take_end, take_online_end,
+    Fault, create_end, drain_end, examine_end, get_end, inform_end, prune_end, push_end,
+    recover_end, take_end, take_online_end,
 };
 use crate::order::RunningOrder;
 use crate::outside::{Outside, Told};
