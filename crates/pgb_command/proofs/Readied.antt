@@ -1,11 +1,13 @@
 -- What the stages made ready, by the command.
-use Rattle.std.proofs.Common.{◌≡◌, ◌++◌, Bool, ℕ, List, Option, Some, None, refl, sym, ◌∙◌, subst}
-use Rattle.std.specs.Prelude.{IfSome, IsSomeAnd, OnOk, Result, Ok, Err, option_map}
+use Rattle.std.proofs.Common.{◌≡◌, ◌++◌, ◌∷◌, [], Bool, ℕ, List, Option, Some, None, refl, sym, ◌∙◌, subst, arith}
+use Rattle.std.specs.Prelude.{Contains, IfSome, IsSomeAnd, OnOk, Result, Ok, Err, option_map}
 use Rattle.pgb_outside.specs.Content.{Content}
 use Rattle.pgb_outside.specs.Tree.{Nodes}
 use Rattle.pgb_model.specs.Text.{Text}
 use Rattle.pgb_stanza.specs.declared.control.Control.{Control}
 use Rattle.pgb_stage.specs.Cluster.{FolderTells}
+use Rattle.pgb_stage.specs.Plans.{AreHeld, backup_lock}
+use Rattle.pgb_take_later.specs.Held.{IsHeld}
 use Rattle.pgb_prepare.specs.declared.ready.Ready.{Ready}
 use Rattle.pgb_prepare.specs.Readies.{IsReady}
 use Rattle.pgb_create.specs.declared.server.Server as code
@@ -13,6 +15,13 @@ use Rattle.pgb_create.specs.Server.{server_view, socket_path}
 use Rattle.pgb_online.specs.Telling.{starting, stopping}
 use Rattle.pgb_command.specs.Asked.{Request, create, drain, backup, backup_running, BackupHow, RunningHow}
 use Rattle.pgb_command.specs.Tables.{plan_of, AsksBackup}
+
+-- a backup has its lock
+pub backup_held : (q : Request) (how : BackupHow) (stanza : Text) (taken : List Text) → q ≡ backup how → AreHeld (plan_of q) stanza taken → IsHeld (backup_lock stanza) taken
+unfolding IsHeld
+backup_held q how stanza taken is held =
+    let alone : taken ≡ backup_lock stanza ∷ [] = subst (λ (x : Request). AreHeld (plan_of x) stanza taken) is held in
+    subst (λ (l : List Text). Contains l (backup_lock stanza)) (sym alone) (0, omega arith, refl)
 
 there : {T : Type 0} (o : Option T) (x : T) (P : T → Type 0) → o ≡ Some x → IsSomeAnd o P → P x
 there o x P is h = subst (λ (y : Option _). IsSomeAnd y P) is h

@@ -2,9 +2,15 @@ use Rattle.std.proofs.Common.{refl, arith}
 use Rattle.pgb_command.specs.Told.{request_of, taking_of, asked_of}
 use Rattle.pgb_command.proofs.Ends.{rose_to, all_later}
 use Rattle.pgb_command.proofs.Rans.{taken_ran}
-use Rattle.pgb_command.proofs.Readied.{backup_tells}
+use Rattle.pgb_command.proofs.Readied.{backup_held, backup_tells}
 use Rattle.pgb_command.proofs.Words.{taking_asked}
 use Rattle.pgb_command.proofs.outside.Outside.take.Goals as goal
+
+pub take_later-requires-clause-locked : goal.take_later-requires-clause-locked
+take_later-requires-clause-locked g c =
+    let s = c.args.settings.now in
+    let o = c.args.order in
+    backup_held (request_of s.request) (taking_of o) s.stanza.now _ (taking_asked (request_of s.request) s.pg1_path.now o c.requires.order) c.requires.locked
 
 pub returns-clause-ran : goal.returns-clause-ran
 returns-clause-ran g c =
