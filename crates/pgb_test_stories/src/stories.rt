@@ -1,8 +1,9 @@
 // Lists of calls and stops.
 use crate::acts::{act, played, restore, stop_at};
 use crate::same::{same, well};
-use pgb_headline::{Act, PlayFault};
+use pgb_headline::{Act, Disks, PlayFault};
 use std::alloc::Global;
+use std::process::Abort;
 
 const CREATE: &str =
     "--stanza=demo --pg1-path=pg --repo1-path=repo --lock-path=lock --no-online stanza-create";
@@ -152,66 +153,83 @@ fn later_backups_go_on_behind_a_stop(rt: HostRuntime) {
     panic!(&rt; "an incremental backup has no last moment");
 }
 
-// An expiry of the first of two backups is stopped at each of its moments. The next one removes the rest, and the backup
-// that stays has its bytes.
-#[test]
-fn expiries_go_on_behind_a_stop(rt: HostRuntime) {
-    let alloc = rt.alloc();
-    let words = [CREATE, PUSH, BACKUP, BACKUP, EXPIRE, EXPIRE, VERIFY];
-    let made = well(&rt, calls(alloc, &[CREATE, PUSH, BACKUP, BACKUP], 9, 0));
-    let first = well(&rt, played(alloc, made)).0.repo.moment();
-    for number in 0..200u64 {
-        let moment = first.saturating_add(number);
-        let acts = well(&rt, calls(alloc, &words, 4, moment));
-        let (disks, statuses) = match played(alloc, acts) {
-            Ok(end) => end,
-            Err(fault) => {
-                same(&rt, (fault, 8 < number), (PlayFault::Moment, true));
-                return;
-            }
-        };
-        same(&rt, statuses.as_slice(), &[0, 0, 0, 0, 0, 0, 0]);
-        let gone = disks
-            .repo
-            .bytes("backup/demo/20240102-030407F/pg_data/PG_VERSION");
-        same(&rt, gone, None);
-        let left = disks
-            .repo
-            .bytes("backup/demo/20240102-030408F/pg_data/PG_VERSION");
-        same(&rt, left, Some(b"16\n".as_slice()));
-        same(&rt, disks.repo.bytes(STORED), Some(b"hello".as_slice()));
+// All of so many calls ended with 0.
+fn all_well(rt: &impl Abort, statuses: &[u8], count: usize) {
+    same(rt, statuses.len(), count);
+    for &status in statuses {
+        same(rt, status, 0);
     }
-    panic!(&rt; "an expiry has no last moment");
 }
 
-// A backup is stopped at each of its moments, and so is the expiry that follows it. The next one removes what both left.
-#[test]
-fn expiries_behind_backups_go_on(rt: HostRuntime) {
-    let alloc = rt.alloc();
-    let words = [CREATE, BACKUP, BACKUP_ALONE, BACKUP_ALONE, VERIFY];
-    let made = well(&rt, calls(alloc, &[CREATE, BACKUP], 9, 0));
-    let first = well(&rt, played(alloc, made)).0.repo.moment();
+// The repository has these bytes at their paths.
+fn check_left(rt: &impl Abort, disks: &Disks, left: &[(&str, &[u8])]) {
+    for &(path, bytes) in left {
+        same(rt, disks.repo.bytes(path), Some(bytes));
+    }
+}
+
+// Behind these calls the first of the further ones is stopped at each of its moments. All others end with 0, and the
+// repository then has nothing at this path, and these bytes at theirs.
+fn check_stops(
+    rt: &impl Abort,
+    alloc: Global,
+    before: &[&str],
+    words: &[&str],
+    gone: &str,
+    left: &[(&str, &[u8])],
+) {
+    let made = well(rt, calls(alloc, before, 9, 0));
+    let first = well(rt, played(alloc, made)).0.repo.moment();
     for number in 0..200u64 {
         let moment = first.saturating_add(number);
-        let acts = well(&rt, calls(alloc, &words, 2, moment));
+        let acts = well(rt, calls(alloc, words, before.len(), moment));
         let (disks, statuses) = match played(alloc, acts) {
             Ok(end) => end,
             Err(fault) => {
-                same(&rt, (fault, 8 < number), (PlayFault::Moment, true));
+                same(rt, (fault, 8 < number), (PlayFault::Moment, true));
                 return;
             }
         };
-        same(&rt, statuses.as_slice(), &[0, 0, 0, 0, 0]);
-        let gone = disks
-            .repo
-            .bytes("backup/demo/20240102-030406F/pg_data/PG_VERSION");
-        same(&rt, gone, None);
-        let left = disks
-            .repo
-            .bytes("backup/demo/20240102-030408F/pg_data/PG_VERSION");
-        same(&rt, left, Some(b"16\n".as_slice()));
+        all_well(rt, statuses.as_slice(), words.len());
+        same(rt, disks.repo.bytes(gone), None);
+        check_left(rt, &disks, left);
     }
-    panic!(&rt; "a backup with an expiry behind it has no last moment");
+    panic!(rt; "the call has no last moment");
+}
+
+// An expiry of the first of two backups. The next one removes the rest, and the backup that stays has its bytes.
+#[test]
+fn expiries_go_on_behind_a_stop(rt: HostRuntime) {
+    check_stops(
+        &rt,
+        rt.alloc(),
+        &[CREATE, PUSH, BACKUP, BACKUP],
+        &[CREATE, PUSH, BACKUP, BACKUP, EXPIRE, EXPIRE, VERIFY],
+        "backup/demo/20240102-030407F/pg_data/PG_VERSION",
+        &[
+            (
+                "backup/demo/20240102-030408F/pg_data/PG_VERSION",
+                b"16\n".as_slice(),
+            ),
+            (STORED, b"hello".as_slice()),
+        ],
+    );
+}
+
+// A backup with the expiry that follows it. The next one removes what both left.
+#[test]
+fn expiries_behind_backups_go_on(rt: HostRuntime) {
+    check_stops(
+        &rt,
+        rt.alloc(),
+        &[CREATE, BACKUP],
+        &[CREATE, BACKUP, BACKUP_ALONE, BACKUP_ALONE, VERIFY],
+        "backup/demo/20240102-030406F/pg_data/PG_VERSION",
+        &[(
+            "backup/demo/20240102-030408F/pg_data/PG_VERSION",
+            b"16\n".as_slice(),
+        )],
+    );
 }
 
 // Each call of the disk fails in turn in a backup with an expiry behind it. A backup that is listed then stays, and the next
