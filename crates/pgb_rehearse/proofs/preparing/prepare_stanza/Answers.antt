@@ -1,0 +1,62 @@
+use Rattle.std.proofs.Common.{◌*◌, sym, subst, Result, Ok, Err, Option}
+use Rattle.std.specs.Prelude.{IfSome}
+use Rattle.pgb_outside.specs.Content.{Content}
+use Rattle.pgb_model.specs.Values.{archive_info_of}
+use Rattle.pgb_story.proofs.Stays.{rests_beside, beside_on}
+use Rattle.pgb_stage.specs.Current.{HasCurrent}
+use Rattle.pgb_stage.specs.declared.halt.Halt.{Halt}
+use Rattle.pgb_rehearse.specs.declared.fault.RehearseFault.{RehearseFault}
+use Rattle.pgb_rehearse.specs.Advancing.{Advances}
+use Rattle.pgb_rehearse.specs.Commands.{created, prepared, pushed}
+use Rattle.pgb_rehearse.proofs.Advanced.{first_stops, goes_on, still_on}
+use Rattle.pgb_rehearse.proofs.Pushes.{err_as, has_current}
+use Rattle.pgb_rehearse.proofs.preparing.prepare_stanza.Goals as goal
+
+pub returns-in_err-create_sample-clause-advances : goal.returns-in_err-create_sample-clause-advances
+returns-in_err-create_sample-clause-advances g c =
+    let a = (g.D.Disk.state c.args.repo.now).view in
+    let m = (g.D.Disk.state c.create_sample.new.repo).view in
+    err_as (λ (r : Result _ _). Advances c.args.stanza.now (prepared c.args.number) r a m) c.from_residual.result _ c.from_residual.ensures.1
+    (first_stops c.args.stanza.now created (pushed (2 * c.args.number)) a m c.in_err-create_sample.field-0.0 _ c.in_err-create_sample.ensures.advances)
+
+pub returns-in_err-info-clause-advances : goal.returns-in_err-info-clause-advances
+returns-in_err-info-clause-advances g c =
+    let a = (g.D.Disk.state c.args.repo.now).view in
+    let m = (g.D.Disk.state c.create_sample.new.repo).view in
+    let d = (g.D.Disk.state c.read_archive.new.repo).view in
+    let looks = c.read_archive.ensures.looks in
+    err_as (λ (r : Result _ _). Advances c.args.stanza.now (prepared c.args.number) r a d) c.from_residual-in_err-info.result _ c.from_residual-in_err-info.ensures.1
+    (first_stops c.args.stanza.now created (pushed (2 * c.args.number)) a d c.in_err-info.field-0.0 _
+    (still_on {T = Unit {0}} {U = Unit {0}} c.args.stanza.now created c.in_ok-create_sample.field-0 (Err c.in_err-info.field-0.0) a m d c.in_ok-create_sample.ensures.advances looks.time looks.now))
+
+pub returns-in_err-info-clause-beside : goal.returns-in_err-info-clause-beside
+returns-in_err-info-clause-beside g c =
+    let m = (g.D.Disk.state c.create_sample.new.repo).view in
+    let d = (g.D.Disk.state c.read_archive.new.repo).view in
+    beside_on c.args.stanza.now (g.D.Disk.state c.args.repo.now).view m d c.create_sample.ensures.beside
+    (rests_beside c.args.stanza.now m d c.read_archive.ensures.looks.time c.read_archive.ensures.looks.now)
+
+pub returns-clause-advances : goal.returns-clause-advances
+returns-clause-advances g c =
+    let a = (g.D.Disk.state c.args.repo.now).view in
+    let m = (g.D.Disk.state c.create_sample.new.repo).view in
+    let n = (g.D.Disk.state c.read_archive.new.repo).view in
+    let d = (g.D.Disk.state c.push_segments.new.repo).view in
+    let looks = c.read_archive.ensures.looks in
+    let id = c.current_id-id.ensures.id in
+    goes_on {T = Unit {0}} {E = Halt RehearseFault} c.args.stanza.now created (pushed (2 * c.args.number)) a n c.in_ok-create_sample.field-0 c.push_segments.result d
+    (still_on {T = Unit {0}} {U = Unit {0}} c.args.stanza.now created c.in_ok-create_sample.field-0 (Ok c.in_ok-create_sample.field-0) a m n c.in_ok-create_sample.ensures.advances looks.time looks.now)
+    (c.push_segments.ensures.advances id.0 id.2
+    (subst (λ (o : Option Content). IfSome o (λ f. HasCurrent c.args.stanza.now f id.0)) (sym looks.now)
+    (has_current c.args.stanza.now m.now (archive_info_of c.in_ok-info.info) id.0 c.in_ok-info.ensures.found.0 id.1)))
+
+pub returns-clause-beside : goal.returns-clause-beside
+returns-clause-beside g c =
+    let a = (g.D.Disk.state c.args.repo.now).view in
+    let m = (g.D.Disk.state c.create_sample.new.repo).view in
+    let n = (g.D.Disk.state c.read_archive.new.repo).view in
+    let d = (g.D.Disk.state c.push_segments.new.repo).view in
+    beside_on c.args.stanza.now a n d
+    (beside_on c.args.stanza.now a m n c.create_sample.ensures.beside
+    (rests_beside c.args.stanza.now m n c.read_archive.ensures.looks.time c.read_archive.ensures.looks.now))
+    c.push_segments.ensures.beside

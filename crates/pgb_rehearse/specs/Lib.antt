@@ -1,0 +1,4 @@
+pub mod Advancing
+pub mod Commands
+pub mod Faults
+pub mod Counts

@@ -1,0 +1,97 @@
+// A backup is made.
+ghost use Rattle.std.specs.Prelude.{◌≡◌, ◌≤◌, ◌<◌, ◌^◌, map, vec_len, IfOk};
+ghost use Rattle.pgb_outside.specs.States.{Frame, Looks, LooksAt};
+ghost use Rattle.pgb_model.specs.Repository.{Backup};
+ghost use Rattle.pgb_story.specs.Beside.{StaysBeside};
+ghost use Rattle.pgb_worker_dispatch.specs.Run.{AreReady};
+ghost use Rattle.pgb_stage.specs.Plans.{backup_lock};
+ghost use Rattle.pgb_prepare.specs.Readies.{IsBackupOf};
+ghost use Rattle.pgb_take_later.specs.Held.{IsHeld};
+ghost use Rattle.pgb_rehearse.specs.Advancing.{Advances};
+ghost use Rattle.pgb_rehearse.specs.Commands.{backed_up};
+ghost use Rattle.pgb_rehearse.specs.Faults.{of_later};
+
+use crate::fault::{RehearseFault, of_info};
+use crate::preparing::{SAMPLE, read_archive};
+use pgb_model::{BackupInfo, Kind};
+use pgb_outside::{Clock, Disk, Link, Locks, Tree, Turns};
+use pgb_pair::load_pair;
+use pgb_plan::PlanSettings;
+use pgb_stage::Halt;
+use pgb_stanza::backup_info_name;
+use pgb_take::TakeOrder;
+use pgb_take_later::{LaterFault, LaterOrder, take_later};
+use std::alloc::Global;
+
+// No bundles, and files are told by their times.
+const SETTINGS: PlanSettings = PlanSettings {
+    delta: false,
+    bundle: false,
+    bundle_size: 1 << 20,
+    bundle_limit: 1 << 20,
+};
+
+// What a refusal of a backup is.
+fn of_later(halt: Halt<LaterFault>) -> Halt<RehearseFault>
+    ensures { result ≡ of_later halt }
+{
+    match halt {
+        Halt::Refused(fault) => Halt::Refused(RehearseFault::Take(fault)),
+        Halt::Failed(object) => Halt::Failed(object),
+        Halt::NoMemory => Halt::NoMemory,
+    }
+}
+
+/// The value of the backup pair.
+pub(crate) fn read_backup<D: Disk>(
+    alloc: Global,
+    repo: &mut D,
+    stanza: &str,
+) -> Result<BackupInfo, Halt<RehearseFault>>
+    ensures found { IfOk result (IsBackupOf stanza.now (D.state repo.old).view.now) }
+    ensures looks { Looks (D.state repo.old) (D.state repo.new) }
+{
+    let name = backup_info_name(alloc, stanza)?;
+    match load_pair(alloc, repo, name.as_str()) {
+        Ok(info) => Ok(info),
+        Err(fault) => Err(of_info(fault)),
+    }
+}
+
+/// Makes a backup of the data folder, of the kind that is asked for.
+pub(crate) fn back_up<D: Disk, T: Tree, C: Clock, K: Locks, L: Link, U: Turns>(
+    alloc: Global,
+    repo: &mut D,
+    tree: &mut T,
+    clock: &mut C,
+    locks: &K,
+    links: &mut Vec<L>,
+    turns: &mut U,
+    stanza: &str,
+    take: TakeOrder<'_>,
+    kind: Kind,
+) -> Result<(), Halt<RehearseFault>>
+    requires locked { IsHeld (backup_lock stanza.now) (K.state locks.now).taken }
+    requires few { vec_len links.old < 2 ^ 32 }
+    requires ready { AreReady (map L.link_state links.old.items) }
+    ensures advances { (b : Backup)
+        × Advances stanza.now (backed_up b) result (D.state repo.old).view (D.state repo.new).view }
+    ensures beside { StaysBeside stanza.now (D.state repo.old).view (D.state repo.new).view }
+    ensures frame { Frame (D.state repo.old) (D.state repo.new) }
+    ensures looks { LooksAt (T.state tree.old) (T.state tree.new) }
+    ensures later { (C.state clock.old).faults ≤ (C.state clock.new).faults }
+{
+    let archive = read_archive(alloc, repo, stanza)?;
+    let backup = read_backup(alloc, repo, stanza)?;
+    let order = LaterOrder {
+        take,
+        kind,
+        settings: SETTINGS,
+    };
+    match take_later(
+        alloc, repo, tree, clock, locks, links, turns, stanza, order, &SAMPLE, &archive, backup,
+    ) {
+        Ok(_) => Ok(()),
+        Err(halt) => Err(of_later(halt)),
+    }
+}

@@ -1,0 +1,134 @@
+// The stanza and its segments.
+ghost use Rattle.std.specs.Prelude.{◌≡◌, ◌≤◌, ◌<◌, ◌^◌, ◌∷◌, [], Some, IfOk, IfErr, IfSome, OnOk};
+ghost use Rattle.pgb_outside.specs.Cause.{Rises};
+ghost use Rattle.pgb_outside.specs.States.{Frame, Looks};
+ghost use Rattle.pgb_model.specs.declared.clusters.ClusterId.{ClusterId};
+ghost use Rattle.pgb_model.specs.Fields.{at_number};
+ghost use Rattle.pgb_model.specs.InfoFiles.{IsArchiveInfo};
+ghost use Rattle.pgb_model.specs.Names.{archive_info};
+ghost use Rattle.pgb_model.specs.Pair.{PairAbsent};
+ghost use Rattle.pgb_model.specs.Values.{archive_info_of};
+ghost use Rattle.pgb_story.specs.Beside.{StaysBeside};
+ghost use Rattle.pgb_stage.specs.declared.object.Object.TheVariants.{Repo as TheRepo};
+ghost use Rattle.pgb_stage.specs.Current.{id_kept};
+ghost use Rattle.pgb_stage.specs.Halts.{HaltCause, Only};
+ghost use Rattle.pgb_stage.specs.Plans.{archive_lock, backup_lock};
+ghost use Rattle.pgb_prepare.specs.Readies.{IsArchiveOf};
+ghost use Rattle.pgb_rehearse.specs.Advancing.{Advances};
+ghost use Rattle.pgb_rehearse.specs.Commands.{created, prepared};
+ghost use Rattle.pgb_rehearse.specs.Faults.{ExistsCause};
+
+use crate::fault::{RehearseFault, of_create, of_info};
+use crate::pushing::push_segments;
+use pgb_create::create_stanza;
+use pgb_model::{ArchiveId, ArchiveInfo};
+use pgb_outside::{Disk, Locks, Wire};
+use pgb_pair::{InfoFault, load_pair};
+use pgb_sample::SYSTEM;
+use pgb_stage::{Halt, Object};
+use pgb_stanza::{Control, archive_info_name};
+use std::alloc::Global;
+
+/// What the control file and the version file of the cluster tell.
+pub(crate) const SAMPLE: Control = Control {
+    system: SYSTEM,
+    control: 1300,
+    catalog: 202307071,
+    version: 16,
+};
+
+/// Refuses a stanza of which a member of the archive pair is there.
+pub(crate) fn check_new<D: Disk>(
+    alloc: Global,
+    repo: &mut D,
+    stanza: &str,
+) -> Result<(), Halt<RehearseFault>>
+    ensures new { OnOk result (IfSome (D.state repo.old).view.now (λ f. PairAbsent f (archive_info stanza.now))) }
+    ensures looks { Looks (D.state repo.old) (D.state repo.new) }
+    ensures cause { IfErr result (HaltCause (ExistsCause stanza.now (D.state repo.old).view.now)
+        (Only TheRepo (Rises (D.state repo.old).faults (D.state repo.new).faults))) }
+{
+    let name = archive_info_name(alloc, stanza)?;
+    let read: Result<ArchiveInfo, InfoFault> = load_pair(alloc, repo, name.as_str());
+    match read {
+        Ok(_) => Err(Halt::Refused(RehearseFault::StanzaExists)),
+        Err(InfoFault::Damaged { .. }) => Err(Halt::Refused(RehearseFault::StanzaExists)),
+        Err(InfoFault::Missing) => Ok(()),
+        Err(InfoFault::Disk) => Err(Halt::Failed(Object::Repo)),
+        Err(InfoFault::NoMemory) => Err(Halt::NoMemory),
+    }
+}
+
+/// The value of the archive pair.
+pub(crate) fn read_archive<D: Disk>(
+    alloc: Global,
+    repo: &mut D,
+    stanza: &str,
+) -> Result<ArchiveInfo, Halt<RehearseFault>>
+    ensures found { IfOk result (IsArchiveOf stanza.now (D.state repo.old).view.now) }
+    ensures looks { Looks (D.state repo.old) (D.state repo.new) }
+    ensures cause { IfErr result (HaltCause (λ _. Unit {0})
+        (Only TheRepo (Rises (D.state repo.old).faults (D.state repo.new).faults))) }
+{
+    let name = archive_info_name(alloc, stanza)?;
+    match load_pair(alloc, repo, name.as_str()) {
+        Ok(info) => Ok(info),
+        Err(fault) => Err(of_info(fault)),
+    }
+}
+
+// The archive id of the current cluster.
+fn current_id(info: &ArchiveInfo) -> ArchiveId
+    requires { IsArchiveInfo (archive_info_of info.now) }
+    ensures fits { (result.version < 2 ^ 32) × (result.number < 2 ^ 32) }
+    ensures id { (c : ClusterId) × (at_number info.now.current info.now.history.items ≡ Some c)
+        × (result ≡ id_kept c) }
+{
+    let current = &info.history[info.current as usize - 1];
+    ArchiveId {
+        version: current.version,
+        number: current.id,
+    }
+}
+
+// Makes the stanza. No server is asked.
+fn create_sample<D: Disk, V: Wire, K: Locks>(
+    alloc: Global,
+    repo: &mut D,
+    wire: &mut V,
+    locks: &K,
+    stanza: &str,
+) -> Result<(), Halt<RehearseFault>>
+    requires locked { (K.state locks.now).taken ≡ archive_lock stanza.now ∷ backup_lock stanza.now ∷ [] }
+    ensures advances { Advances stanza.now created result (D.state repo.old).view (D.state repo.new).view }
+    ensures beside { StaysBeside stanza.now (D.state repo.old).view (D.state repo.new).view }
+    ensures frame { Frame (D.state repo.old) (D.state repo.new) }
+    ensures quiet { wire.new ≡ wire.old }
+{
+    match create_stanza(alloc, repo, wire, locks, stanza, &SAMPLE, None) {
+        Ok(_) => Ok(()),
+        Err(halt) => Err(of_create(halt)),
+    }
+}
+
+/// Makes the stanza, and pushes two segments for each unit of the number.
+pub(crate) fn prepare_stanza<D: Disk, V: Wire, K: Locks>(
+    alloc: Global,
+    repo: &mut D,
+    wire: &mut V,
+    locks: &K,
+    stanza: &str,
+    number: u32,
+) -> Result<(), Halt<RehearseFault>>
+    requires number { number ≤ 64 }
+    requires locked { (K.state locks.now).taken ≡ archive_lock stanza.now ∷ backup_lock stanza.now ∷ [] }
+    ensures advances { Advances stanza.now (prepared number) result (D.state repo.old).view (D.state repo.new).view }
+    ensures beside { StaysBeside stanza.now (D.state repo.old).view (D.state repo.new).view }
+    ensures frame { Frame (D.state repo.old) (D.state repo.new) }
+    ensures quiet { wire.new ≡ wire.old }
+{
+    create_sample(alloc, repo, wire, locks, stanza)?;
+    let info = read_archive(alloc, repo, stanza)?;
+    let id = current_id(&info);
+    push_segments(alloc, repo, stanza, &id, 2 * number)
+}

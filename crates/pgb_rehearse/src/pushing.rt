@@ -1,0 +1,93 @@
+// The segments are pushed.
+ghost use Rattle.std.specs.Prelude.{◌≡◌, ◌≤◌, ◌<◌, ◌^◌, ◌%◌, IfErr, IfSome, IsSome, OnOk, Some};
+ghost use Rattle.pgb_outside.specs.Cause.{Rises};
+ghost use Rattle.pgb_outside.specs.States.{Frame};
+ghost use Rattle.pgb_model.specs.declared.clusters.ClusterId.{ClusterId};
+ghost use Rattle.pgb_model.specs.Steps.{ArchivePush};
+ghost use Rattle.pgb_sample.specs.Bytes.{segment_bytes};
+ghost use Rattle.pgb_story.specs.Beside.{StaysBeside};
+ghost use Rattle.pgb_stage.specs.declared.object.Object.TheVariants.{Repo as TheRepo};
+ghost use Rattle.pgb_stage.specs.declared.plan.Settling.TheVariants.{Whole};
+ghost use Rattle.pgb_stage.specs.Current.{HasCurrent, id_kept};
+ghost use Rattle.pgb_stage.specs.Halts.{HaltCause, Only};
+ghost use Rattle.pgb_stage.specs.Runs.{DoesPart, DoesWhole};
+ghost use Rattle.pgb_rehearse.specs.Advancing.{Advances};
+ghost use Rattle.pgb_rehearse.specs.Commands.{segment_named, pushed};
+
+use crate::fault::{RehearseFault, of_push};
+use pgb_archive::{PushFault as StoreFault, push};
+use pgb_model::{ArchiveId, ArchiveName, Segment};
+use pgb_outside::Disk;
+use pgb_push::of_store;
+use pgb_sample::{SYSTEM, segment_bytes};
+use pgb_stage::Halt;
+use std::alloc::Global;
+
+// The name of the segment of this number.
+fn segment_name(number: u32) -> ArchiveName
+    ensures { result ≡ (segment_named number).name }
+{
+    ArchiveName::Segment(Segment {
+        timeline: 1,
+        log: 0,
+        seg: number,
+    })
+}
+
+// Pushes the segment of this number.
+fn push_one<D: Disk>(
+    alloc: Global,
+    repo: &mut D,
+    stanza: &str,
+    id: &ArchiveId,
+    number: u32,
+) -> Result<(), Halt<RehearseFault>>
+    requires fits { (id.now.version < 2 ^ 32) × (id.now.number < 2 ^ 32) }
+    ensures part { (c : ClusterId) → id.now ≡ id_kept c
+        → IfSome (D.state repo.old).view.now (λ f. HasCurrent stanza.now f c)
+        → DoesPart Whole stanza.now (ArchivePush (segment_named number)) (D.state repo.old).view
+        (D.state repo.new).view }
+    ensures whole { OnOk result ((c : ClusterId) → id.now ≡ id_kept c
+        → IfSome (D.state repo.old).view.now (λ f. HasCurrent stanza.now f c)
+        → DoesWhole Whole stanza.now (ArchivePush (segment_named number)) (D.state repo.old).view
+        (D.state repo.new).view) }
+    ensures told { IsSome (D.state repo.old).view.now → IsSome (D.state repo.new).view.now }
+    // The current cluster stays.
+    ensures current { (c : ClusterId) → IfSome (D.state repo.old).view.now (λ f. HasCurrent stanza.now f c)
+        → IsSome (D.state repo.old).view.now → IfSome (D.state repo.new).view.now (λ f. HasCurrent stanza.now f c) }
+    ensures beside { StaysBeside stanza.now (D.state repo.old).view (D.state repo.new).view }
+    ensures frame { Frame (D.state repo.old) (D.state repo.new) }
+    ensures cause { IfErr result (HaltCause (λ _. Unit {0})
+        (Only TheRepo (Rises (D.state repo.old).faults (D.state repo.new).faults))) }
+{
+    let bytes = segment_bytes(alloc, (number % 256) as u8)?;
+    let name = segment_name(number);
+    match push(alloc, repo, stanza, id, &name, SYSTEM, &bytes) {
+        Ok(_) => Ok(()),
+        Err(fault) => Err(of_push(of_store(StoreFault::Archive(fault)))),
+    }
+}
+
+/// Pushes so many segments, one after another.
+pub(crate) fn push_segments<D: Disk>(
+    alloc: Global,
+    repo: &mut D,
+    stanza: &str,
+    id: &ArchiveId,
+    count: u32,
+) -> Result<(), Halt<RehearseFault>>
+    requires few { count ≤ 128 }
+    requires fits { (id.now.version < 2 ^ 32) × (id.now.number < 2 ^ 32) }
+    ensures advances { (c : ClusterId) → id.now ≡ id_kept c
+        → IfSome (D.state repo.old).view.now (λ f. HasCurrent stanza.now f c)
+        → Advances stanza.now (pushed count) result (D.state repo.old).view (D.state repo.new).view }
+    ensures beside { StaysBeside stanza.now (D.state repo.old).view (D.state repo.new).view }
+    ensures frame { Frame (D.state repo.old) (D.state repo.new) }
+    ensures cause { IfErr result (HaltCause (λ _. Unit {0})
+        (Only TheRepo (Rises (D.state repo.old).faults (D.state repo.new).faults))) }
+{
+    for before in 0..count {
+        push_one(alloc, repo, stanza, id, before + 1)?;
+    }
+    Ok(())
+}

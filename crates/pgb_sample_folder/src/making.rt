@@ -1,0 +1,81 @@
+// A sample cluster is made.
+ghost use Rattle.std.specs.Prelude.{◌≡◌, ◌≤◌, IfSome, IfErr, OnOk};
+ghost use Rattle.pgb_outside.specs.Cause.{HasCause, Rises};
+ghost use Rattle.pgb_outside.specs.Content.{Name, at};
+ghost use Rattle.pgb_outside.specs.States.{LooksAt};
+ghost use Rattle.pgb_model.specs.Text.{In};
+ghost use Rattle.pgb_sample.specs.Folder.{sample_folders, made};
+ghost use Rattle.pgb_sample_folder.specs.Having.{IsEmpty, Has, nothing, KeepsOthers, FolderCause, IfFull};
+
+use crate::fault::FolderFault;
+use crate::writing::{write_file, write_relations};
+use pgb_outside::{Stop, Tree};
+use pgb_sample::{CONTROL_PATH, VERSION_BYTES, VERSION_PATH, control_bytes};
+use std::alloc::Global;
+
+// Refuses a folder that isn't empty.
+fn check_empty<T: Tree>(alloc: Global, tree: &mut T) -> Result<(), FolderFault>
+    ensures empty { OnOk result (IfSome (T.state tree.old).nodes IsEmpty) }
+    ensures looks { LooksAt (T.state tree.old) (T.state tree.new) }
+    ensures cause { IfErr result (FolderCause (T.state tree.old).nodes
+        (Rises (T.state tree.old).faults (T.state tree.new).faults)) }
+{
+    let seen = tree.list(alloc)?;
+    let Some(first) = seen.first() else {
+        return Ok(());
+    };
+    let path = String::from_str(alloc, first.path.as_str())?;
+    Err(FolderFault::NotEmpty { path })
+}
+
+// Makes the folders, each before what lies in it.
+fn make_folders<T: Tree>(tree: &mut T) -> Result<(), Stop>
+    ensures made { OnOk result (IfSome (T.state tree.old).nodes IsEmpty → Has nothing (T.state tree.new).nodes) }
+    ensures others { (q : Name) → ¬ In q sample_folders
+        → at q (T.state tree.new).nodes ≡ at q (T.state tree.old).nodes }
+    ensures proper { IfSome (T.state tree.old).nodes IsEmpty
+        → (T.state tree.new).misuses ≡ (T.state tree.old).misuses }
+    ensures opened { (T.state tree.new).opened ≡ (T.state tree.old).opened }
+    ensures cause { HasCause (T.state tree.old).faults (T.state tree.new).faults result }
+{
+    tree.make("base")?;
+    tree.make("base/5")?;
+    tree.make("global")
+}
+
+// Writes all files of the cluster.
+fn write_cluster<T: Tree>(alloc: Global, tree: &mut T, number: u32) -> Result<(), Stop>
+    requires { number ≤ 64 }
+    ensures made { OnOk result
+        (Has nothing (T.state tree.old).nodes → Has (made number) (T.state tree.new).nodes) }
+    ensures others { KeepsOthers number (T.state tree.old).nodes (T.state tree.new).nodes }
+    ensures proper { Has nothing (T.state tree.old).nodes
+        → (T.state tree.new).misuses ≡ (T.state tree.old).misuses }
+    ensures opened { (T.state tree.new).opened ≡ (T.state tree.old).opened }
+    ensures cause { HasCause (T.state tree.old).faults (T.state tree.new).faults result }
+{
+    write_relations(alloc, tree, 100 * number)?;
+    write_file(tree, VERSION_PATH, VERSION_BYTES)?;
+    let control = control_bytes(alloc)?;
+    write_file(tree, CONTROL_PATH, &control)
+}
+
+/// Makes the cluster of this number in an empty data folder, the control file as its last.
+pub fn make_cluster<T: Tree>(alloc: Global, tree: &mut T, number: u32) -> Result<(), FolderFault>
+    requires { number ≤ 64 }
+    ensures empty { OnOk result (IfSome (T.state tree.old).nodes IsEmpty) }
+    ensures made { OnOk result (Has (made number) (T.state tree.new).nodes) }
+    ensures refused { IfErr result (λ fault. IfFull fault (LooksAt (T.state tree.old) (T.state tree.new))) }
+    // Whatever comes of it, only paths of the cluster have changed.
+    ensures others { KeepsOthers number (T.state tree.old).nodes (T.state tree.new).nodes }
+    ensures proper { (T.state tree.new).misuses ≡ (T.state tree.old).misuses }
+    ensures opened { (T.state tree.new).opened ≡ (T.state tree.old).opened }
+    ensures later { (T.state tree.old).faults ≤ (T.state tree.new).faults }
+    ensures cause { IfErr result (FolderCause (T.state tree.old).nodes
+        (Rises (T.state tree.old).faults (T.state tree.new).faults)) }
+{
+    check_empty(alloc, tree)?;
+    make_folders(tree)?;
+    write_cluster(alloc, tree, number)?;
+    Ok(())
+}
