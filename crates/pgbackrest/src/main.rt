@@ -13,7 +13,6 @@ use pgb_adapters::{
 };
 use pgb_command::{Outside, run};
 use pgb_others::Others;
-use pgb_outside::NotThere;
 use pgb_system::{RealLink, RoundRobin};
 use pgb_worker::serve;
 use std::io::ErrorKind;
@@ -110,7 +109,7 @@ fn status_of(rt: HostRuntime, words: &[String]) -> io::Result<u8> {
     begin(telling, &mut repo, &mut tree);
     let mut outside = Outside {
         repo,
-        spool: NotThere::new(),
+        spool: RealDisk::new(rt),
         tree,
         server: RealWire::new(rt),
         aside: Others::new(rt),

@@ -3,7 +3,7 @@ use pgb_adapters::{RealClock, RealDisk, RealLocks, RealSink, RealSource, RealTre
 use pgb_command::Outside;
 use pgb_options::{Command, ConfigPath, LogWord, config_path, settle_words};
 use pgb_others::Others;
-use pgb_outside::{NotThere, Source};
+use pgb_outside::Source;
 use pgb_system::{RealLink, RoundRobin};
 use pgb_table::Verb;
 use std::alloc::Global;
@@ -11,7 +11,7 @@ use std::alloc::Global;
 /// The objects of the system that the program works on.
 pub type System = Outside<
     RealDisk,
-    NotThere,
+    RealDisk,
     RealTree,
     RealWire,
     Others,
@@ -120,6 +120,7 @@ pub fn end(rt: HostRuntime, telling: Telling, outside: &System, status: u8) {
 fn failed(outside: &System, status: u8) -> Option<(&'static str, &str)> {
     let (object, reason) = match status {
         80 => ("repository", outside.repo.last_failure()),
+        81 => ("spool", outside.spool.last_failure()),
         82 => ("data folder", outside.tree.last_failure()),
         83 => ("server connection", outside.server.last_failure()),
         84 => ("clock", outside.clock.last_failure()),
