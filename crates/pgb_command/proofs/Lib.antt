@@ -1,6 +1,7 @@
 mod Ends
 mod OneCluster
 mod Rans
+mod RestoreRans
 mod RepositoryRans
 mod Runnings
 mod Expiries

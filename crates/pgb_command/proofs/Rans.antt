@@ -1,6 +1,6 @@
 -- What each command did, told of all objects: a lemma a command.
-use Rattle.std.proofs.Common.{◌≡◌, ◌≢◌, ◌⊎◌, ⊎_elim, inl, inr, List, ◌∷◌, Option, Some, None, Result, Ok, Err, IfOk, IfErr, refl, sym, subst, ap, ◌∙◌, Bool, true}
-use Rattle.std.specs.Prelude.{[], take, IfSome, IsSome, IsSomeAnd, OnOk, OnErr, is_ok, string_bytes}
+use Rattle.std.proofs.Common.{◌≡◌, inl, inr, List, ◌∷◌, Option, Some, None, Result, Ok, Err, IfOk, IfErr, refl, sym, subst, ap, ◌∙◌, Bool, true}
+use Rattle.std.specs.Prelude.{[], take, IfSome, IsSome, IsSomeAnd, OnOk, is_ok, string_bytes}
 use Rattle.pgb_outside.specs.Content.{Content}
 use Rattle.pgb_outside.specs.Links.{LinkState}
 use Rattle.pgb_outside.specs.Crash.{Leaves}
@@ -22,16 +22,7 @@ use Rattle.pgb_stanza.specs.Owned.{IsOfPairs}
 use Rattle.pgb_archive.specs.Still.{IsStill, still_self}
 use Rattle.pgb_stage.specs.declared.object.Object.{Object}
 use Rattle.pgb_stage.specs.declared.object.Object.TheVariants.{Server as TheServer}
-use Rattle.pgb_stage.specs.declared.object.Object.TheVariants as objects
 use Rattle.pgb_stage.specs.declared.outcome.Outcome.TheVariants.{Finished, Absent, FindingsFound}
-use Rattle.pgb_stage.specs.Reached.{back_if, fails_early}
-use Rattle.pgb_stage.specs.Texts.{object_status}
-use Rattle.pgb_model.specs.Repository.{Stanza}
-use Rattle.pgb_model.specs.Now.{NowStands}
-use Rattle.pgb_model.specs.Values.{Manifest}
-use Rattle.pgb_restore.specs.Finished.{IsFinished}
-use Rattle.pgb_clear.specs.Clearing.{control_path, HasNone}
-use Rattle.pgb_recover.specs.Restoring.{Recovers, GivesBackup}
 use Rattle.pgb_stage.specs.declared.plan.Pairs.TheVariants.{HealArchive}
 use Rattle.pgb_stage.specs.declared.plan.Settling.{Settling}
 use Rattle.pgb_stage.specs.declared.plan.Settling.TheVariants.{Whole, Looked}
@@ -66,22 +57,14 @@ use Rattle.pgb_take_later.specs.Faults.{later_early}
 use Rattle.pgb_take_later.specs.Kinds.{IsBackupBy}
 use Rattle.pgb_take_later.specs.Taken.{IsTaken as IsTakenBackup}
 use Rattle.pgb_command.specs.Told.{taking_of}
-use Rattle.pgb_recover.specs.declared.fault.RecoverFault.{RecoverFault}
-use Rattle.pgb_recover.specs.declared.fault.RecoverFault.TheVariants as recovers
-use Rattle.pgb_recover.specs.Causes.{RecoverCause}
-use Rattle.pgb_recover.specs.Ends.{recover_early, leaves_folder}
-use Rattle.pgb_recover.specs.Texts.{recover_status}
-use Rattle.pgb_recover.specs.Fetching.{options_by}
-use Rattle.pgb_recover.specs.Words.{TellsSet}
-use Rattle.pgb_model.specs.declared.labels.Label.{Label}
 use Rattle.pgb_get.specs.Getting.{GotBy, GetCause, get_early}
 use Rattle.pgb_command.specs.declared.fault.Fault.{Fault}
 use Rattle.pgb_command.specs.declared.fault.Fault.TheVariants.{Command as OfCommand}
-use Rattle.pgb_command.specs.declared.fault.CommandFault.TheVariants.{Create, Push, Drain, Get, Take, Recover}
+use Rattle.pgb_command.specs.declared.fault.CommandFault.TheVariants.{Create, Push, Drain, Get, Take}
 use Rattle.pgb_command.specs.Answers.{status, reached_of, ending_of, is_early}
-use Rattle.pgb_command.specs.Asked.{Request, create, push, drain, get, backup, backup_running, restore, report, examine, expire, RestoreHow, Asked, alone}
-use Rattle.pgb_command.specs.Faults.{of_halt, of_create, of_push, of_drain, of_get, of_take, of_recover, lift}
-use Rattle.pgb_command.specs.Tables.{Known, known, IsSomeDrain, TurnsTold, found_by, found_for, Promise, Lasts, plan_of, manner_of, IsCreateOf, OnReader, OnCreate, OnExpire, Expires, OnOther, FolderGoes, FolderStays, Unless, uses_workers, uses_clock, uses_turns}
+use Rattle.pgb_command.specs.Asked.{Request, create, push, drain, get, backup, backup_running, restore, report, examine, expire, Asked, alone}
+use Rattle.pgb_command.specs.Faults.{of_halt, of_create, of_push, of_drain, of_get, of_take, lift}
+use Rattle.pgb_command.specs.Tables.{known, IsSomeDrain, TurnsTold, found_by, Promise, Lasts, plan_of, manner_of, IsCreateOf, OnReader, OnCreate, OnExpire, Expires, OnOther, FolderGoes, FolderStays, Unless, uses_workers, uses_clock, uses_turns}
 use Rattle.pgb_command.specs.Did.{SamePlaces, Closes, OwnCause, StaysHealed, Ran}
 use Rattle.pgb_command.proofs.Ends.{reached_same, lift_ok, lift_on, lift_err}
 use Rattle.pgb_command.proofs.OneCluster.{cluster_is}
@@ -180,7 +163,7 @@ pub never_closes : {E : Type 0} (b k : Seen) (of : Halt E → Fault) → ((h : H
 never_closes b k of each (Ok x) = tt
 never_closes b k of each (Err h) = each h
 
-both_as : {E : Type 0} (r : Result Outcome E) (P Q R : Outcome → Type 0) → ((o : Outcome) → P o → Q o → R o) → IfOk r P → IfOk r Q → IfOk r R
+pub both_as : {E : Type 0} (r : Result Outcome E) (P Q R : Outcome → Type 0) → ((o : Outcome) → P o → Q o → R o) → IfOk r P → IfOk r Q → IfOk r R
 both_as (Ok o) P Q R to p q = to o p q
 both_as (Err e) P Q R to p q = tt
 
@@ -450,95 +433,6 @@ module _ (a : Asked) (b k : Seen) (rest : k ≡ record b { repo = k.repo; tree =
       tt
       tt
       (never_closes b k of_take (take_closes b k) r)
-      places later)
-
--- ---- restore
-
-recover_closes : (b k : Seen) (h : Halt RecoverFault) → Closes b k (of_recover h)
-recover_closes b k (Refused e) = tt
-recover_closes b k (HaltFailed object) = tt
-recover_closes b k HaltMemory = tt
-
--- with another status than these the workers weren't started
-first_leaves : (e : RecoverFault) → recover_status e ≢ 55 → recover_status e ≢ 56 → recover_status e ≢ 63 → leaves_folder (Refused e) ≡ true
-first_leaves recovers.SetForm a b c = refl
-first_leaves recovers.NoBackup a b c = refl
-first_leaves (recovers.SetMissing label) a b c = refl
-first_leaves recovers.Running a b c = refl
-first_leaves (recovers.NotEmpty path) a b c = refl
-first_leaves (recovers.ManifestDamaged label main copy) a b c = refl
-first_leaves (recovers.WorkersLost lost) a b c = absurd (a refl)
-first_leaves (recovers.Unread path) a b c = absurd (b refl)
-first_leaves (recovers.FileDamaged path told found) a b c = absurd (c refl)
-
--- where it is refused before its workers are started, the folder stays
-restore_stays : (P : Type 0) (failed : Object → Type 0) → (failed TheServer → ⊥) → (why : RecoverFault → Type 0) (r : Result Outcome (Halt RecoverFault)) → IfOk r (λ o. OnFinished o (λ lines. Unit {0})) → IfErr r (HaltCause why failed) → IfErr r (λ h. leaves_folder h ≡ true → P) →
-    OnNone (reached_by recover_early r) (status (ending_of (lift of_recover r)) ≢ 55 → status (ending_of (lift of_recover r)) ≢ 56 → status (ending_of (lift of_recover r)) ≢ 63 → P)
-restore_stays P failed never why (Ok (Finished lines)) f cause h = tt
-restore_stays P failed never why (Ok (Absent name)) f cause h = absurd f
-restore_stays P failed never why (Ok (FindingsFound lines count)) f cause h = absurd f
-restore_stays P failed never why (Err (Refused e)) f cause h = λ a b c. h (first_leaves e a b c)
-restore_stays P failed never why (Err (HaltFailed object)) f cause h = go object cause
-  where
-    go : (o : Object) → failed o → OnNone (back_if (fails_early o)) (object_status o ≢ 55 → object_status o ≢ 56 → object_status o ≢ 63 → P)
-    go objects.Server x = absurd (never x)
-    go objects.Repo x = tt
-    go objects.Spool x = tt
-    go objects.DataFolder x = tt
-    go objects.Others x = tt
-    go objects.Clock x = tt
-    go objects.Locks x = tt
-    go objects.Config x = tt
-    go objects.Output x = tt
-restore_stays P failed never why (Err HaltMemory) f cause h = tt
-
--- the folder is as it was, or has no control file, or holds a whole backup
-restore_goes : (a : Asked) (label : Option Label) (how : RestoreHow) (old new : Known) (r : Result Outcome (Halt RecoverFault)) → IfOk r (λ o. OnFinished o (Recovers (found_for a label how old) new.nodes)) → OnErr r ((new.nodes ≡ old.nodes) ⊎ HasNone control_path new.nodes) →
-    (new.nodes ≡ old.nodes) ⊎ (HasNone control_path new.nodes ⊎ ((m : Manifest) × IfSome new.nodes (IsFinished a.stanza (take how.workers old.links) (options_by a.stanza how.delta how.recovery) m old.nodes)))
-restore_goes a label how old new (Ok (Finished lines)) ok err = inr (inr (ok.manifest, ok.finished))
-restore_goes a label how old new (Ok (Absent name)) ok err = absurd ok
-restore_goes a label how old new (Ok (FindingsFound lines count)) ok err = absurd ok
-restore_goes a label how old new (Err h) ok err = ⊎_elim (λ e. inl e) (λ n. inr (inl n)) err
-
-silent_ok : {X : Type 0} (P : Text → Type 0) (r : Result Outcome X) → IfOk r (λ o. OnFinished o P) → IfOk r (λ o. OnFinished o (λ lines. Unit {0}))
-silent_ok P (Ok (Finished lines)) h = tt
-silent_ok P (Ok (Absent name)) h = absurd h
-silent_ok P (Ok (FindingsFound lines count)) h = absurd h
-silent_ok P (Err e) h = tt
-
-module _ (a : Asked) (b k : Seen) (rest : k ≡ record b { repo = k.repo; tree = k.tree; links = k.links }) (still : IsStill b.repo.view k.repo.view) (set : Option Text) (label : Option Label) (is_set : TellsSet set label) (how : RestoreHow)
-    (r : Result Outcome (Halt RecoverFault)) (ended : Result Outcome Fault) (lifted : ended ≡ lift of_recover r) where
-  abbrev restores : Asked
-  restores = with_request a (restore set how)
-
-  pub recovered_ran : a.request ≡ restore set how →
-      IfOk r (λ o. OnFinished o (Recovers (found_for a label how (known b)) k.tree.nodes)) →
-      IfOk r (λ o. (s : Stanza) (f : Content) → b.repo.view.now ≡ Some f → NowStands a.stanza (Some s) b.repo.view.now → OnFinished o (GivesBackup s (found_for a label how (known b)) f k.tree.nodes)) →
-      OnErr r ((k.tree.nodes ≡ b.tree.nodes) ⊎ HasNone control_path k.tree.nodes) → IfErr r (λ h. leaves_folder h ≡ true → k.tree.nodes ≡ b.tree.nodes) →
-      (failed : Object → Type 0) → (failed TheServer → ⊥) → ((object : Object) → failed object → Failed b k object) →
-      IfErr r (HaltCause (RecoverCause (found_for a label how (known b))) failed) → SamePlaces b k → AreLater b k → Ran a b k ended
-  recovered_ran is recovers gives control unchanged failed never rose cause places later = as_ran a (restore set how) b k ended is
-      (ran_of restores b k (λ (e : RecoverFault). OfCommand (Recover e)) recover_early (λ e. refl) (RecoverCause (found_for a label how (known b))) (λ e h. inr (label, is_set, h)) failed rose r ended lifted
-      (λ command x. reading_runs Whole a.stanza command (reached_by recover_early r) b k x still (ap (λ (s : Seen). s.spool.view) rest))
-      (both_as r _ _ _ (λ o p q. record { label = label; is = is_set; recovers = p; gives = q }) recovers gives)
-      (any_ok r (λ o. IsLookedAt a.stanza b.repo.view → Unit {0}) (λ o looked. tt))
-      cause
-      (on_all r (StaysHealed restores b k) (record { agree = λ some h. any_some k.repo.view.now; lasts = λ looked h. tt }))
-      (λ others. still_beside a.stanza b.repo.view k.repo.view still)
-      (λ others. spool_kept a.stanza b k (ap (λ (s : Seen). s.spool.view) rest))
-      tt
-      tt
-      still
-      (restore_goes a label how (known b) (known k) r recovers control)
-      (subst (λ (e : Result Outcome Fault). OnNone (reached_by recover_early r) (FolderStays (restore set how) (status (ending_of e)) (k.tree.nodes ≡ b.tree.nodes))) (sym lifted)
-      (restore_stays (k.tree.nodes ≡ b.tree.nodes) failed never _ r (silent_ok _ r recovers) cause unchanged))
-      tt
-      (λ none. ap (λ (s : Seen). s.server) rest)
-      (ap (λ (s : Seen). s.server) rest)
-      (ap (λ (s : Seen). s.others) rest)
-      tt
-      (ap (λ (s : Seen). s.clock) rest)
-      (never_closes b k of_recover (recover_closes b k) r)
       places later)
 
 pub both_ok : {E : Type 0} (r : Result Outcome E) (P Q : Outcome → Type 0) → IfOk r P → IfOk r Q → IfOk r (λ o. P o × Q o)

@@ -2,7 +2,7 @@ use Rattle.std.proofs.Common.{refl, arith}
 use Rattle.pgb_command.specs.Asked.{alone}
 use Rattle.pgb_command.specs.Told.{how_of, request_of, asked_of}
 use Rattle.pgb_command.proofs.Ends.{rose_to, all_later}
-use Rattle.pgb_command.proofs.Rans.{recovered_ran}
+use Rattle.pgb_command.proofs.RestoreRans.{recovered_ran}
 use Rattle.pgb_command.proofs.Words.{restore_asked}
 use Rattle.pgb_command.proofs.outside.Outside.recover.Goals as goal
 
