@@ -165,14 +165,23 @@ fn begin_in_folders(
     name: &str,
 ) -> io::Result<()> {
     settled.noted.change(place, name)?;
-    match handles.begin_to_sync(place, name) {
+    match begin_file(place, handles, name) {
         Err(e) if e.kind() == ErrorKind::NotFound => {
             settled.forget();
             place.make_folders_for(name)?;
-            handles.begin_to_sync(place, name)
+            begin_file(place, handles, name)
         }
         done => done,
     }
+}
+
+// A file of the log is synced alone. Those of a backup are many, and synced together: the file system then has one place for
+// the bytes of many.
+fn begin_file(place: &Place, handles: &mut Handles, name: &str) -> io::Result<()> {
+    if name.starts_with("backup/") {
+        return handles.begin(place, name);
+    }
+    handles.begin_to_sync(place, name)
 }
 
 fn rename_into_folders(

@@ -17,10 +17,10 @@ enum There<'a> {
     File(&'a [u8]),
 }
 
-// What the repository has at a path.
-fn in_repo<'a>(repo: &'a Option<MemDisk>, name: &str) -> There<'a> {
-    match repo {
-        Some(repo) => match repo.bytes(name) {
+// What a disk has at a path.
+fn in_disk<'a>(disk: &'a Option<MemDisk>, name: &str) -> There<'a> {
+    match disk {
+        Some(disk) => match disk.bytes(name) {
             Some(bytes) => There::File(bytes),
             None => There::Nothing,
         },
@@ -54,10 +54,13 @@ fn fits(want: &Want, found: There) -> bool {
 }
 
 impl World {
-    // What stands at a path below `repo/` or `pg/`.
+    // What stands at a path below `repo/`, `spool/` or `pg/`.
     fn stands_at(&self, path: &str) -> There<'_> {
         if let Some(name) = path.strip_prefix("repo/") {
-            return in_repo(&self.repo, name);
+            return in_disk(&self.repo, name);
+        }
+        if let Some(name) = path.strip_prefix("spool/") {
+            return in_disk(&self.spool, name);
         }
         match path.strip_prefix("pg/") {
             Some(name) => in_pg(&self.pg, name),
@@ -128,12 +131,23 @@ impl World {
         Ok(())
     }
 
-    // The paths of the repository and of the data folder.
+    // Whether something is wanted of the spool.
+    fn asks_spool(&self) -> bool {
+        self.wanted.keys().any(|path| path.starts_with("spool/"))
+    }
+
+    // The paths of the repository and of the data folder, and of the spool where something is wanted of it.
     fn names(&mut self) -> Result<Vec<String>, AllocError> {
         let mut names = Vec::new(self.alloc);
+        let asks_spool = self.asks_spool();
         if let Some(repo) = &mut self.repo {
             for top in TOPS {
-                add_found(self.alloc, repo, top, &mut names)?;
+                add_found(self.alloc, repo, "repo/", top, &mut names)?;
+            }
+        }
+        if let Some(spool) = &mut self.spool {
+            if asks_spool {
+                add_found(self.alloc, spool, "spool/", "archive", &mut names)?;
             }
         }
         if let Some(pg) = &mut self.pg {
@@ -145,12 +159,13 @@ impl World {
 
 fn add_found(
     alloc: Global,
-    repo: &mut MemDisk,
+    disk: &mut MemDisk,
+    root: &str,
     top: &str,
     names: &mut Vec<String>,
 ) -> Result<(), AllocError> {
-    for Found { name, size: _ } in found_in(alloc, repo, top)? {
-        names.push(below(alloc, "repo/", &name)?)?;
+    for Found { name, size: _ } in found_in(alloc, disk, top)? {
+        names.push(below(alloc, root, &name)?)?;
     }
     Ok(())
 }
@@ -169,9 +184,9 @@ fn below(alloc: Global, device: &str, name: &str) -> Result<String, AllocError> 
 }
 
 // A listing, which is tried again where it was a call that is to fail.
-fn found_in(alloc: Global, repo: &mut MemDisk, top: &str) -> Result<Vec<Found>, AllocError> {
+fn found_in(alloc: Global, disk: &mut MemDisk, top: &str) -> Result<Vec<Found>, AllocError> {
     for _ in 0..3 {
-        match repo.names(alloc, top) {
+        match disk.names(alloc, top) {
             Ok(found) => return Ok(found),
             Err(Stop::NoMemory) => return Err(AllocError),
             Err(Stop::Failed) => {}

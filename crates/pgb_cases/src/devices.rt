@@ -6,7 +6,7 @@ ghost use Rattle.pgb_command.specs.Told.{AreWorkers};
 use crate::node::Node;
 use crate::output::Output;
 use crate::world::{Times, Wanted};
-use pgb_command::{Outside, run};
+use pgb_command::Outside;
 use pgb_memory::{MemClock, MemDisk, MemLocks, MemNode, MemSource, MemTree, MemWire};
 use pgb_memory_others::{MemOthers, OtherPush, OtherTurn};
 use pgb_model::{ArchiveId, Segment};
@@ -88,7 +88,8 @@ impl Around {
             turns.push(turn_of(push)?)?;
         }
         let stanza = String::from_str(alloc, STANZA)?;
-        Ok(MemOthers::new(alloc, stanza, turns))
+        let fails = self.numbers(alloc, "others")?;
+        Ok(MemOthers::new(alloc, stanza, turns).failing(fails))
     }
 
     fn source(&self, alloc: Global) -> Result<MemSource, AllocError> {
@@ -126,7 +127,7 @@ fn turn_of(push: &Option<Push>) -> Result<OtherTurn, AllocError> {
     Ok(OtherTurn::new(push))
 }
 
-/// The status of a command, and the devices that it left beside the repository and the data folder.
+/// The status of a command, and the devices that it left beside the repository, the spool and the data folder.
 #[derive(Drop)]
 pub(crate) struct Ran {
     pub status: u8,
@@ -137,19 +138,21 @@ pub(crate) struct Ran {
     pub out: Output,
 }
 
-/// A repository that holds what is wanted of it.
-pub(crate) fn repo_of(
+/// A disk of this name, `repo` or `spool`, that holds what is wanted of it.
+pub(crate) fn disk_of(
     alloc: Global,
+    device: &str,
     wanted: &Wanted,
     around: &Around,
 ) -> Result<MemDisk, AllocError> {
     let mut names = Vec::new(alloc);
+    let root = format!(in alloc; "{device}/")?;
     for (path, want) in wanted {
-        if let (Some(name), Node::File(bytes)) = (path.strip_prefix("repo/"), &want.node) {
+        if let (Some(name), Node::File(bytes)) = (path.strip_prefix(root.as_str()), &want.node) {
             names.push((String::from_str(alloc, name)?, bytes.to_vec(alloc)?))?;
         }
     }
-    MemDisk::new(alloc, names, around.numbers(alloc, "repo")?)
+    MemDisk::new(alloc, names, around.numbers(alloc, device)?)
 }
 
 /// A data folder that holds what is wanted of it; none where that has no folder for a node.
@@ -228,7 +231,6 @@ pub(crate) fn workers_of(
 /// there that none is taken.
 #[derive(Drop)]
 pub(crate) struct Ready {
-    spool: MemDisk,
     server: MemWire,
     aside: MemOthers,
     others: Vec<String>,
@@ -240,7 +242,6 @@ pub(crate) struct Ready {
 
 pub(crate) fn prepare(alloc: Global, around: &Around) -> Result<Ready, AllocError> {
     Ok(Ready {
-        spool: MemDisk::new(alloc, Vec::new(alloc), Vec::new(alloc))?,
         server: around.wire(alloc)?,
         aside: around.aside(alloc)?,
         others: around.others(alloc)?,
@@ -258,12 +259,12 @@ pub(crate) fn run_on(
     ready: Ready,
     links: Vec<MemLink>,
     repo: MemDisk,
+    spool: MemDisk,
     pg: MemTree,
-) -> (Ran, MemDisk, MemTree)
+) -> (Ran, MemDisk, MemDisk, MemTree)
     requires workers { AreWorkers (map state_of links.items) }
 {
     let Ready {
-        spool,
         server,
         aside,
         others,
@@ -285,7 +286,7 @@ pub(crate) fn run_on(
         links,
         turns: MemTurns::new(Vec::new(alloc)),
     };
-    let status = run(alloc, words, &mut outside);
+    let status = outside.run(alloc, words);
     let ran = Ran {
         status,
         server: outside.server,
@@ -294,5 +295,5 @@ pub(crate) fn run_on(
         config: outside.config,
         out: outside.out,
     };
-    (ran, outside.repo, outside.tree)
+    (ran, outside.repo, outside.spool, outside.tree)
 }

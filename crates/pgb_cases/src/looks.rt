@@ -8,12 +8,14 @@ use std::alloc::{AllocError, Global};
 pub(crate) enum Look {
     RepoPlace,
     RepoMoment,
+    SpoolPlace,
     PgPlace,
     ConfigPlace,
     ServerPlace,
     Sent,
     SentLast,
     OthersTurns,
+    OthersStarted,
     Took,
     Refusals,
 }
@@ -21,12 +23,14 @@ pub(crate) enum Look {
 const LOOKS: &[(&str, Look)] = &[
     ("repo.place", Look::RepoPlace),
     ("repo.moment", Look::RepoMoment),
+    ("spool.place", Look::SpoolPlace),
     ("pg.place", Look::PgPlace),
     ("config.place", Look::ConfigPlace),
     ("server.place", Look::ServerPlace),
     ("server.sent", Look::Sent),
     ("server.sent.last", Look::SentLast),
     ("others.turns", Look::OthersTurns),
+    ("others.started", Look::OthersStarted),
     ("locks.took", Look::Took),
     ("locks.refusals", Look::Refusals),
 ];
@@ -48,7 +52,8 @@ pub(crate) fn look_at(
     what: Look,
 ) -> Result<Vec<u8>, AllocError> {
     match what {
-        Look::RepoPlace | Look::RepoMoment => of_repo(alloc, &world.repo, what),
+        Look::RepoPlace | Look::RepoMoment => of_disk(alloc, &world.repo, what),
+        Look::SpoolPlace => of_disk(alloc, &world.spool, what),
         Look::PgPlace => match &world.pg {
             Some(pg) => pg.place().as_bytes().to_vec(alloc),
             None => Ok(Vec::new(alloc)),
@@ -57,17 +62,31 @@ pub(crate) fn look_at(
         Look::ServerPlace => ran.server.place().as_bytes().to_vec(alloc),
         Look::Sent | Look::SentLast => ran.server.sent().to_vec(alloc),
         Look::OthersTurns => decimal(alloc, ran.aside.turns()),
+        Look::OthersStarted => started(alloc, ran),
         Look::Refusals => decimal(alloc, ran.locks.refusals()),
         Look::Took => took(alloc, ran),
     }
 }
 
-fn of_repo(alloc: Global, repo: &Option<MemDisk>, what: Look) -> Result<Vec<u8>, AllocError> {
-    match (repo, what) {
-        (Some(repo), Look::RepoPlace) => repo.place().as_bytes().to_vec(alloc),
-        (Some(repo), _) => decimal(alloc, repo.moment()),
+fn of_disk(alloc: Global, disk: &Option<MemDisk>, what: Look) -> Result<Vec<u8>, AllocError> {
+    match (disk, what) {
+        (Some(disk), Look::RepoMoment) => decimal(alloc, disk.moment()),
+        (Some(disk), _) => disk.place().as_bytes().to_vec(alloc),
         (None, _) => Ok(Vec::new(alloc)),
     }
+}
+
+// The words of each start, a line each.
+fn started(alloc: Global, ran: &Ran) -> Result<Vec<u8>, AllocError> {
+    let mut text = Vec::new(alloc);
+    for words in ran.aside.started() {
+        for word in words {
+            text.extend_from_slice(word.as_bytes())?;
+            text.extend_from_slice(b" ")?;
+        }
+        text.extend_from_slice(b"\n")?;
+    }
+    Ok(text)
 }
 
 fn decimal(alloc: Global, number: u64) -> Result<Vec<u8>, AllocError> {

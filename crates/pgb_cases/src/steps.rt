@@ -143,6 +143,7 @@ impl World {
     fn put(&mut self, book: &Book, words: &[Word], told: &str) -> Result<(), AllocError> {
         self.check()?;
         self.repo = None;
+        self.spool = None;
         self.pg = None;
         self.adds(book, words, told)
     }

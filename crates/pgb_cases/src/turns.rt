@@ -142,6 +142,9 @@ fn play_left(
 
 // How often the device failed. A connection doesn't tell that, but its fault alone has status 83.
 fn faults(world: &World, device: &str) -> u64 {
+    if let ("spool", Some(spool)) = (device, &world.spool) {
+        return spool.faults();
+    }
     match (device, &world.repo, &world.pg, &world.ran) {
         ("repo", Some(repo), _, _) => repo.faults(),
         ("pg", _, Some(pg), _) => pg.faults(),

@@ -1,5 +1,5 @@
 // The devices of a case, and what they are to hold.
-use crate::devices::{Around, Fail, Ran, pg_of, prepare, repo_of, run_on, workers_of};
+use crate::devices::{Around, Fail, Ran, disk_of, pg_of, prepare, run_on, workers_of};
 use crate::node::{Node, Placed};
 use pgb_memory::{MemDisk, MemTree};
 use std::alloc::{AllocError, Global};
@@ -13,13 +13,13 @@ pub(crate) struct Want {
     pub may: bool,
 }
 
-/// By the path below `repo/` or `pg/`.
+/// By the path below `repo/`, `spool/` or `pg/`.
 pub(crate) type Wanted = BTreeMap<String, Want>;
 
 /// The seconds at which files of the data folder were written, by the same paths; others were at 0.
 pub(crate) type Times = BTreeMap<String, u64>;
 
-/// The repository and the data folder are made of what is wanted where there is none as a command begins.
+/// The repository, the spool and the data folder are made of what is wanted where there is none as a command begins.
 #[derive(Drop)]
 pub(crate) struct World {
     pub alloc: Global,
@@ -27,8 +27,9 @@ pub(crate) struct World {
     pub times: Times,
     pub around: Around,
     pub repo: Option<MemDisk>,
+    pub spool: Option<MemDisk>,
     pub pg: Option<MemTree>,
-    /// The words of the last command, and what it left beside these two.
+    /// The words of the last command, and what it left beside these.
     pub asked: Vec<String>,
     pub ran: Option<Ran>,
     /// Whether what it left hasn't been looked at.
@@ -56,6 +57,7 @@ impl World {
                 width: None,
             },
             repo: None,
+            spool: None,
             pg: None,
             asked: Vec::new(alloc),
             ran: None,
@@ -103,10 +105,13 @@ impl World {
         Ok(())
     }
 
-    /// Makes the repository and the data folder where they aren't there.
+    /// Makes the repository, the spool and the data folder where they aren't there.
     pub(crate) fn make(&mut self) -> Result<(), AllocError> {
         if self.repo.is_none() {
-            self.repo = Some(repo_of(self.alloc, &self.wanted, &self.around)?);
+            self.repo = Some(disk_of(self.alloc, "repo", &self.wanted, &self.around)?);
+        }
+        if self.spool.is_none() {
+            self.spool = Some(disk_of(self.alloc, "spool", &self.wanted, &self.around)?);
         }
         if self.pg.is_none() {
             self.pg = pg_of(self.alloc, &self.wanted, &self.times, &self.around)?;
@@ -118,12 +123,17 @@ impl World {
     pub(crate) fn go(&mut self, words: Vec<String>) -> Result<(), AllocError> {
         self.make()?;
         let ready = prepare(self.alloc, &self.around)?;
-        let (Some(repo), Some(pg)) = (self.repo.take(), self.pg.take()) else {
+        let (Some(repo), Some(spool), Some(pg)) = (
+            self.repo.take(),
+            self.spool.take(),
+            self.pg.take(),
+        ) else {
             return self.tell("a folder of the data folder is missing");
         };
         let links = workers_of(self.alloc, &self.wanted, &self.around, &repo, &pg)?;
-        let (ran, repo, pg) = run_on(self.alloc, &words, ready, links, repo, pg);
+        let (ran, repo, spool, pg) = run_on(self.alloc, &words, ready, links, repo, spool, pg);
         self.repo = Some(repo);
+        self.spool = Some(spool);
         self.pg = Some(pg);
         self.ran = Some(ran);
         self.asked = words;

@@ -47,7 +47,7 @@ use Rattle.pgb_command.specs.declared.fault.CommandFault.TheVariants as commands
 use Rattle.pgb_command.specs.declared.fault.Fault.{Fault}
 use Rattle.pgb_command.specs.declared.fault.Fault.TheVariants.{Usage, Stage, Command as OfCommand, Behind, Failed as ObjectFailed, NoMemory}
 use Rattle.pgb_command.specs.Answers.{status, reached_of, ending_of, is_early}
-use Rattle.pgb_command.specs.Asked.{Request, create, push, drain, get, backup, backup_running, restore, report, examine, expire, BackupHow, RunningHow, Asked, behind_backup, alone}
+use Rattle.pgb_command.specs.Asked.{Request, create, push, leave, drain, get, backup, backup_running, restore, report, examine, expire, BackupHow, RunningHow, Asked, behind_backup, alone}
 use Rattle.pgb_command.specs.Tables.{Known, known, plan_of, manner_of, ByOrder, OnCluster, TurnsTold, TellsLabel, IsRunningOf, heard_by, AsksBackup, WithExpiry, FolderGoes, CommandCause, OnBackup}
 use Rattle.pgb_command.specs.Did.{SamePlaces, Closes, OwnCause, Spares, Ran, Followed}
 use Rattle.pgb_command.proofs.Dids.{later_on}
@@ -167,6 +167,7 @@ module _ (a : Asked) (rules : Rules) where
   full_command : (how : BackupHow) (old new : Known) (fault : CommandFault) → CommandCause (asking a (backup how) None) (backup how) old new fault → CommandCause (asking a (backup how) (Some rules)) (backup how) old new fault
   full_command how old new (commands.Create e) h = absurd h
   full_command how old new (commands.Push e) h = absurd h
+  full_command how old new (commands.Leave name e) h = absurd h
   full_command how old new (commands.Drain e) h = absurd h
   full_command how old new (commands.Get e) h = absurd h
   full_command how old new (commands.Take e) h = h
@@ -178,6 +179,7 @@ module _ (a : Asked) (rules : Rules) where
   running_command : (how : RunningHow) (old new : Known) (fault : CommandFault) → CommandCause (asking a (backup_running how) None) (backup_running how) old new fault → CommandCause (asking a (backup_running how) (Some rules)) (backup_running how) old new fault
   running_command how old new (commands.Create e) h = absurd h
   running_command how old new (commands.Push e) h = absurd h
+  running_command how old new (commands.Leave name e) h = absurd h
   running_command how old new (commands.Drain e) h = absurd h
   running_command how old new (commands.Get e) h = absurd h
   running_command how old new (commands.Take e) h = absurd h
@@ -258,7 +260,7 @@ module _ (a : Asked) (rules : Rules) (b m k : Seen) (server_same : k.server ≡ 
   from_first moment h = earlier_moment rules.full b.clock.least m.clock.least moment le h
 
   places_on : SamePlaces b m → SamePlaces m k → SamePlaces b k
-  places_on p q = record { repo = q.repo ∙ p.repo; tree = q.tree ∙ p.tree }
+  places_on p q = record { spool = q.spool ∙ p.spool; repo = q.repo ∙ p.repo; tree = q.tree ∙ p.tree }
 
   -- ---- of a stopped server
 
@@ -301,7 +303,7 @@ module _ (a : Asked) (rules : Rules) (b m k : Seen) (server_same : k.server ≡ 
       promise = record { repo = m.repo.view.now; lines = lines; was = full_taken; moment = f.moment; may_be = from_first f.moment f.may_be; told = f.told; adds = f.adds };
       lasts = λ looked. tt;
       cause = tt;
-      healed = record { agree = λ some x. any_some k.repo.view.now; lasts = λ looked x. tt };
+      healed = record { agree = λ some x. any_some k.repo.view.now; lasts = λ tight some x. tt };
       spares = full_spares f.beside (Ok (Finished more)) tt;
       places = places_on h.places f.places;
       later = later_on b m k h.later f.later;
@@ -380,7 +382,7 @@ module _ (a : Asked) (rules : Rules) (b m k : Seen) (server_same : k.server ≡ 
       promise = record { repo = m.repo.view.now; lines = lines; was = running_taken; moment = f.moment; may_be = from_first f.moment f.may_be; told = f.told; adds = f.adds };
       lasts = λ looked. tt;
       cause = tt;
-      healed = record { agree = λ some x. any_some k.repo.view.now; lasts = λ looked x. tt };
+      healed = record { agree = λ some x. any_some k.repo.view.now; lasts = λ tight some x. tt };
       spares = running_spares f.beside (Ok (Finished more)) tt;
       places = places_on h.places f.places;
       later = later_on b m k h.later f.later;
@@ -422,6 +424,7 @@ held_backup (backup_running how) rules stanza held at h = h
 held_backup (restore set how) rules stanza held at h = none_some rules at
 held_backup (report form) rules stanza held at h = none_some rules at
 held_backup examine rules stanza held at h = none_some rules at
+held_backup (leave path how) rules stanza held at h = none_some rules at
 held_backup (drain place) rules stanza held at h = none_some rules at
 held_backup (expire other) rules stanza held at h = none_some rules at
 
@@ -440,6 +443,7 @@ behind_ran a rules is kept b m k server others spool nodes least outcome lines e
     go (restore set how) le at x = none_some rules at
     go (report form) le at x = none_some rules at
     go examine le at x = none_some rules at
+    go (leave path how) le at x = none_some rules at
     go (drain place) le at x = none_some rules at
     go (expire other) le at x = none_some rules at
 
@@ -470,6 +474,7 @@ unfinished_ran a kept b k r not h = by a.expires refl
     back rules (restore set how) at x not ran = none_some rules at
     back rules (report form) at x not ran = none_some rules at
     back rules examine at x not ran = none_some rules at
+    back rules (leave path how) at x not ran = none_some rules at
     back rules (drain place) at x not ran = none_some rules at
     back rules (expire other) at x not ran = none_some rules at
 

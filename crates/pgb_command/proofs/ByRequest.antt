@@ -12,7 +12,7 @@ use Rattle.pgb_archive.specs.Still.{IsStill}
 use Rattle.pgb_model.specs.declared.labels.Kind.{Kind}
 use Rattle.pgb_model.specs.declared.labels.Kind.TheVariants.{Full, Diff, Incr}
 use Rattle.pgb_model.specs.Text.{Text}
-use Rattle.pgb_model.specs.Steps.{Command, ArchivePushDrain, MakeBackup}
+use Rattle.pgb_model.specs.Steps.{Command, ArchivePushAsync, ArchivePushDrain, MakeBackup}
 use Rattle.pgb_stage.specs.Plans.{Heals, OnReading}
 use Rattle.pgb_stage.specs.Runs.{On, one}
 use Rattle.pgb_stage.specs.Seen.{Seen}
@@ -24,12 +24,13 @@ use Rattle.pgb_model.specs.Values.{Manifest}
 use Rattle.pgb_restore.specs.Finished.{IsFinished}
 use Rattle.pgb_recover.specs.Fetching.{options_by}
 use Rattle.pgb_clear.specs.Clearing.{control_path, HasNone}
-use Rattle.pgb_command.specs.Asked.{Request, create, push, drain, get, backup, backup_running, restore, report, examine, expire, RunningHow, Asked}
+use Rattle.pgb_command.specs.Asked.{Request, create, push, leave, drain, get, backup, backup_running, restore, report, examine, expire, RunningHow, Asked}
 use Rattle.pgb_retain.specs.declared.rules.Rules.{Rules}
 use Rattle.pgb_prune.specs.Behind.{IsFollowed}
 use Rattle.pgb_command.proofs.Expiries.{some_expiry}
 use Rattle.pgb_command.proofs.Followings.{any_followed}
-use Rattle.pgb_command.specs.Tables.{Known, known, IsSomeDrain, WithExpiry, plan_of, manner_of, OnReader, OnCreate, OnExpire, OnOther, FolderGoes, FolderStays, Unless, is_on_repository, TellsLabel}
+use Rattle.pgb_leave.specs.Pushing.{IsWaitOf}
+use Rattle.pgb_command.specs.Tables.{Known, known, IsSomeDrain, WithExpiry, plan_of, spool_of, uses_spool, manner_of, OnReader, OnCreate, OnExpire, OnOther, FolderGoes, FolderStays, Unless, is_on_repository, TellsLabel}
 
 -- no turn was taken, and the server told no label file
 pub running_idle : (stanza : Text) (how : RunningHow) (old new : Known) → new.others ≡ old.others → (account : Option Account) → new.others.account ≡ account → (P : Command → Type 0) → P (MakeBackup [] no_files None) → (told : Account → Type 0) → IsSomeAnd account told →
@@ -45,6 +46,16 @@ running_idle stanza how old new same (Some k) is P p told there = (
     none_by how.taken.kind (take how.taken.workers old.links) [] None stanza old.repo,
   ),
   p,
+)
+
+-- no turn was waited for
+idle_wait : (old new : Known) → new.others ≡ old.others → (P : Command → Type 0) → ((command : Command) → P command) → (account : Option Account) → new.others.account ≡ account → (told : Account → Type 0) → IsSomeAnd account told →
+    (command : Command) × IsSomeAnd account (λ k. IsWaitOf old.others.account k command) × P command
+idle_wait old new same P p None is told there = absurd there
+idle_wait old new same P p (Some k) is told there = (
+  ArchivePushAsync [],
+  record { before = k.turns; turned = []; was = ap (λ (o : OthersState). o.account) (sym same) ∙ is; is = sym (append-nil k.turns); waits = refl },
+  p (ArchivePushAsync []),
 )
 
 -- a backup of any kind that was never listed
@@ -70,6 +81,7 @@ idle a (backup_running how) old new same P p = λ there.
 idle a (restore set how) old new same P p = λ command is. p command
 idle a (report form) old new same P p = λ command is. p command
 idle a examine old new same P p = λ command is. p command
+idle a (leave path how) old new same P p = λ there. idle_wait old new same P p new.others.account refl (λ k. k.stanza ≡ a.stanza) there
 idle a (drain place) old new same P p = λ some. idle_drain old.nodes P p some
 idle a (expire rules) old new same P p = let x = some_expiry rules old.clock.least in (x.0, x.1, p x.0)
 
@@ -83,6 +95,7 @@ manner_at a (backup_running how) old new repo heals P h = subst (λ (r : Option 
 manner_at a (restore set how) old new repo heals P h = h
 manner_at a (report form) old new repo heals P h = h
 manner_at a examine old new repo heals P h = h
+manner_at a (leave path how) old new repo heals P h = h
 manner_at a (drain place) old new repo heals P h = h
 manner_at a (expire rules) old new repo heals P h = h
 
@@ -96,6 +109,7 @@ no_control (backup_running how) is = cc is
 no_control (restore set how) is = refl
 no_control (report form) is = refl
 no_control examine is = refl
+no_control (leave path how) is = cc is
 no_control (drain place) is = cc is
 no_control (expire rules) is = refl
 
@@ -109,8 +123,23 @@ on_repository (backup_running how) is = cc is
 on_repository (restore set how) is = cc is
 on_repository (report form) is = (refl, refl, refl)
 on_repository examine is = (refl, refl, refl)
+on_repository (leave path how) is = cc is
 on_repository (drain place) is = cc is
 on_repository (expire rules) is = cc is
+
+-- a command that doesn't use the spool opens none
+pub no_spool : (request : Request) → uses_spool request ≡ false → spool_of request ≡ None
+no_spool create is = refl
+no_spool (push path) is = refl
+no_spool (leave path how) is = cc is
+no_spool (drain place) is = cc is
+no_spool (get name path) is = refl
+no_spool (backup how) is = refl
+no_spool (backup_running how) is = refl
+no_spool (restore set how) is = refl
+no_spool (report form) is = refl
+no_spool examine is = refl
+no_spool (expire rules) is = refl
 
 -- what holds where no pair is healed holds of readers and of stanza-create
 pub reader_still : (request : Request) (P : Type 0) → OnReading (plan_of request).pairs P → OnReader request P
@@ -122,6 +151,7 @@ reader_still (backup_running how) P h = tt
 reader_still (restore set how) P h = h
 reader_still (report form) P h = h
 reader_still examine P h = h
+reader_still (leave path how) P h = tt
 reader_still (drain place) P h = tt
 reader_still (expire rules) P h = tt
 
@@ -134,6 +164,7 @@ create_still (backup_running how) P h = tt
 create_still (restore set how) P h = tt
 create_still (report form) P h = tt
 create_still examine P h = tt
+create_still (leave path how) P h = tt
 create_still (drain place) P h = tt
 create_still (expire rules) P h = tt
 
@@ -146,6 +177,7 @@ any_reader (backup_running how) P p = tt
 any_reader (restore set how) P p = p
 any_reader (report form) P p = p
 any_reader examine P p = p
+any_reader (leave path how) P p = tt
 any_reader (drain place) P p = tt
 any_reader (expire rules) P p = tt
 
@@ -158,6 +190,7 @@ any_create (backup_running how) P p = tt
 any_create (restore set how) P p = tt
 any_create (report form) P p = tt
 any_create examine P p = tt
+any_create (leave path how) P p = tt
 any_create (drain place) P p = tt
 any_create (expire rules) P p = tt
 
@@ -170,6 +203,7 @@ any_other (backup_running how) P p = tt
 any_other (restore set how) P p = p
 any_other (report form) P p = p
 any_other examine P p = p
+any_other (leave path how) P p = p
 any_other (drain place) P p = p
 any_other (expire rules) P p = p
 
@@ -182,6 +216,7 @@ reader_on (backup_running how) P Q R to p q = tt
 reader_on (restore set how) P Q R to p q = to p q
 reader_on (report form) P Q R to p q = to p q
 reader_on examine P Q R to p q = to p q
+reader_on (leave path how) P Q R to p q = tt
 reader_on (drain place) P Q R to p q = tt
 reader_on (expire rules) P Q R to p q = tt
 
@@ -194,6 +229,7 @@ create_on (backup_running how) P Q R to p q = tt
 create_on (restore set how) P Q R to p q = tt
 create_on (report form) P Q R to p q = tt
 create_on examine P Q R to p q = tt
+create_on (leave path how) P Q R to p q = tt
 create_on (drain place) P Q R to p q = tt
 create_on (expire rules) P Q R to p q = tt
 
@@ -206,6 +242,7 @@ other_as (backup_running how) P Q to p = tt
 other_as (restore set how) P Q to p = to p
 other_as (report form) P Q to p = to p
 other_as examine P Q to p = to p
+other_as (leave path how) P Q to p = to p
 other_as (drain place) P Q to p = to p
 other_as (expire rules) P Q to p = to p
 
@@ -219,6 +256,7 @@ expire_still (backup_running how) P h = tt
 expire_still (restore set how) P h = tt
 expire_still (report form) P h = tt
 expire_still examine P h = tt
+expire_still (leave path how) P h = tt
 expire_still (drain place) P h = tt
 expire_still (expire rules) P h = h
 
@@ -231,6 +269,7 @@ any_expire (backup_running how) P p = tt
 any_expire (restore set how) P p = tt
 any_expire (report form) P p = tt
 any_expire examine P p = tt
+any_expire (leave path how) P p = tt
 any_expire (drain place) P p = tt
 any_expire (expire rules) P p = p rules
 
@@ -243,6 +282,7 @@ expire_on (backup_running how) P Q R to p q = tt
 expire_on (restore set how) P Q R to p q = tt
 expire_on (report form) P Q R to p q = tt
 expire_on examine P Q R to p q = tt
+expire_on (leave path how) P Q R to p q = tt
 expire_on (drain place) P Q R to p q = tt
 expire_on (expire rules) P Q R to p q = to rules p q
 
@@ -256,6 +296,7 @@ any_stays (backup_running how) n P p = p
 any_stays (restore set how) n P p = λ lost unread damaged. p
 any_stays (report form) n P p = p
 any_stays examine n P p = p
+any_stays (leave path how) n P p = p
 any_stays (drain place) n P p = p
 any_stays (expire rules) n P p = p
 
@@ -268,6 +309,7 @@ stays_as (backup_running how) n P Q to p = to p
 stays_as (restore set how) n P Q to p = λ lost unread damaged. to (p lost unread damaged)
 stays_as (report form) n P Q to p = to p
 stays_as examine n P Q to p = to p
+stays_as (leave path how) n P Q to p = to p
 stays_as (drain place) n P Q to p = to p
 stays_as (expire rules) n P Q to p = to p
 
@@ -293,6 +335,7 @@ folder_stays a (backup_running how) old new same = same
 folder_stays a (restore set how) old new same = inl same
 folder_stays a (report form) old new same = same
 folder_stays a examine old new same = same
+folder_stays a (leave path how) old new same = same
 folder_stays a (drain place) old new same = same
 folder_stays a (expire rules) old new same = same
 
@@ -308,5 +351,6 @@ folder_on a (restore set how) b m k still nodes links h = ⊎_elim (λ (e : k.tr
     (subst (λ (n : Option Nodes). HasNone control_path k.tree.nodes ⊎ ((v : Manifest) × IfSome k.tree.nodes (IsFinished a.stanza (take how.workers m.links) (options_by a.stanza how.delta how.recovery) v n))) nodes x))) h
 folder_on a (report form) b m k still nodes links h = h ∙ nodes
 folder_on a examine b m k still nodes links h = h ∙ nodes
+folder_on a (leave path how) b m k still nodes links h = h ∙ nodes
 folder_on a (drain place) b m k still nodes links h = h ∙ nodes
 folder_on a (expire rules) b m k still nodes links h = h ∙ nodes

@@ -15,17 +15,18 @@ use Rattle.pgb_stage.specs.declared.outcome.Outcome.{Outcome}
 use Rattle.pgb_stage.specs.Seen.{Seen, Failed, AreLater, AreRead}
 use Rattle.pgb_outside.specs.States.{SinkState, SourceState}
 use Rattle.pgb_stage.proofs.Counts.{rises_to}
-use Rattle.pgb_command.specs.declared.fault.CommandFault.TheVariants.{Create, Push, Drain, Get, Take, TakeOnline, Recover, Examine, Prune}
+use Rattle.pgb_command.specs.declared.fault.CommandFault.TheVariants.{Create, Push, Leave, Drain, Get, Take, TakeOnline, Recover, Examine, Prune}
 use Rattle.pgb_command.specs.declared.fault.Fault.{Fault}
 use Rattle.pgb_command.specs.declared.fault.Fault.TheVariants.{Usage, Stage, Command as OfCommand, Behind, Failed as ObjectFailed, NoMemory}
 use Rattle.pgb_command.specs.Answers.{Ending, status, answer_of}
 use Rattle.pgb_command.specs.Asked.{Asked, WordsSettle, IsAsked, requested}
 use Rattle.pgb_command.specs.Configuring.{ConfigCause}
 use Rattle.pgb_command.specs.Causes.{IsAnswered, Obeys, Answers}
-use Rattle.pgb_command.specs.Did.{IsIdle, HealsPairs, Did, ComesBehind, Brackets, Cause, Closes, ArePlacesOpened}
+use Rattle.pgb_command.specs.Did.{Acknowledges, IsIdle, HealsPairs, Did, ComesBehind, Brackets, Cause, Closes, ArePlacesOpened}
 use Rattle.pgb_command.specs.Output.{IsTold}
 use Rattle.pgb_command.proofs.Dids.{did_from, later_on}
 use Rattle.pgb_command.proofs.Ends.{all_later, expiry_as}
+use Rattle.pgb_command.proofs.Lefts.{left_from, on_left}
 use Rattle.pgb_command.proofs.Words.{is_idle, behind_as}
 
 -- ---- the output is written
@@ -62,6 +63,7 @@ module _ (a : Asked) (b k : Seen) (o : SinkState) (le : k.out.faults ≤ o.fault
   out_closes (Stage fault) h = h
   out_closes (OfCommand (Create fault)) h = h
   out_closes (OfCommand (Push fault)) h = h
+  out_closes (OfCommand (Leave name fault)) h = h
   out_closes (OfCommand (Drain fault)) h = h
   out_closes (OfCommand (Get fault)) h = h
   out_closes (OfCommand (Take fault)) h = h
@@ -105,11 +107,14 @@ module _ (a : Asked) (b k : Seen) (o : SinkState) (le : k.out.faults ≤ o.fault
 
 brackets_written : (a : Asked) (b k : Seen) (o : SinkState) (r : Result Outcome Fault) → Brackets a b k r → Brackets a b (record k { out = o }) r
 brackets_written a b k o r h = record {
-  places = record { folder = h.places.folder; repository = h.places.repository };
-  opened = on_ok r (ArePlacesOpened a b k) (ArePlacesOpened a b (record k { out = o })) (λ p. record { folder = p.folder; repository = p.repository }) h.opened;
+  places = record { spool = h.places.spool; folder = h.places.folder; repository = h.places.repository };
+  opened = on_ok r (ArePlacesOpened a b k) (ArePlacesOpened a b (record k { out = o })) (λ p. record { spool = p.spool; folder = p.folder; repository = p.repository }) h.opened;
   took = h.took;
   locked = h.locked;
 }
+
+left_written : (a : Asked) (b k : Seen) (o : SinkState) → Acknowledges a b k → Acknowledges a b (record k { out = o })
+left_written a b k o = on_left a.request _ _ (λ path h. record { name = h.name; named = h.named; stored = h.stored })
 
 -- the answer that was told of how it ended
 abbrev pub ToldOf : List Text → Result Outcome Fault → SinkState → SinkState → ℕ → Type 0
@@ -123,19 +128,20 @@ answered_by unknown given b k o ended n words same t = record {
 }
 
 idle_written : (b k : Seen) (o : SinkState) → IsIdle b k → IsIdle b (record k { out = o })
-idle_written b k o h = record { repo = h.repo; opened = h.opened; spool = h.spool; tree = h.tree; server = h.server; others = h.others; clock = h.clock; locks = h.locks; links = h.links }
+idle_written b k o h = record { repo = h.repo; opened = h.opened; spool_opened = h.spool_opened; spool = h.spool; tree = h.tree; server = h.server; others = h.others; clock = h.clock; locks = h.locks; links = h.links }
 
 -- ---- a command is obeyed
 
 pub carries : (c : Command) (a : Asked) (given : List Text) (b k : Seen) (o : SinkState) (ended : Result Outcome Fault) (n : ℕ) → given ≡ map string_bytes c.warnings.items → k.out ≡ b.out → k.out.faults ≤ o.faults → ((s : Settled) → IsCommand c s → IsAsked s a) →
-    ComesBehind a b k ended → Did a b k ended → Brackets a b k ended → ToldOf given ended k.out o n → (s : Settled) → IsCommand c s → Obeys s b (record k { out = o }) n
-carries c a given b k o ended n words same le asked behind did brackets t s is = inl (
+    ComesBehind a b k ended → Did a b k ended → OnOk ended (Acknowledges a b k) → Brackets a b k ended → ToldOf given ended k.out o n → (s : Settled) → IsCommand c s → Obeys s b (record k { out = o }) n
+carries c a given b k o ended n words same le asked behind did left brackets t s is = inl (
   a,
   asked s is,
   record {
     ended = ended;
     words = behind_as a b k b (record k { out = o }) ended (idle_written b k o) behind;
     did = did_written a b k o le ended did;
+    left = on_ok ended _ _ (left_written a b k o) left;
     brackets = brackets_written a b k o ended brackets;
     answered = answered_by s.warnings given b k o ended n (words ∙ is.warnings) same t;
   },
@@ -170,14 +176,14 @@ answered_from unknown b k i ended n h = record { ending = h.ending; is = h.is; w
 
 brackets_from : (a : Asked) (b k : Seen) (i : SourceState) (r : Result Outcome Fault) → Brackets a (record b { config = i }) k r → Brackets a b k r
 brackets_from a b k i r h = record {
-  places = record { folder = h.places.folder; repository = h.places.repository };
-  opened = on_ok r (ArePlacesOpened a (record b { config = i }) k) (ArePlacesOpened a b k) (λ p. record { folder = p.folder; repository = p.repository }) h.opened;
+  places = record { spool = h.places.spool; folder = h.places.folder; repository = h.places.repository };
+  opened = on_ok r (ArePlacesOpened a (record b { config = i }) k) (ArePlacesOpened a b k) (λ p. record { spool = p.spool; folder = p.folder; repository = p.repository }) h.opened;
   took = h.took;
   locked = h.locked;
 }
 
 idle_from : (b k : Seen) (i : SourceState) → IsIdle (record b { config = i }) k → IsIdle b k
-idle_from b k i h = record { repo = h.repo; opened = h.opened; spool = h.spool; tree = h.tree; server = h.server; others = h.others; clock = h.clock; locks = h.locks; links = h.links }
+idle_from b k i h = record { repo = h.repo; opened = h.opened; spool_opened = h.spool_opened; spool = h.spool; tree = h.tree; server = h.server; others = h.others; clock = h.clock; locks = h.locks; links = h.links }
 
 obeys_from : (s : Settled) (b k : Seen) (i : SourceState) (n : ℕ) → i.files ≡ b.config.files → b.config.faults ≤ i.faults → Obeys s (record b { config = i }) k n → Obeys s b k n
 obeys_from s b k i n files le (inl x) = inl (
@@ -187,6 +193,7 @@ obeys_from s b k i n files le (inl x) = inl (
     ended = x.2.ended;
     words = behind_as x.0 (record b { config = i }) k b k x.2.ended (idle_from b k i) x.2.words;
     did = did_from x.0 b (record b { config = i }) k x.2.ended (config_read b i files le) x.2.did;
+    left = on_ok x.2.ended _ _ (left_from x.0 b (record b { config = i }) k (config_read b i files le)) x.2.left;
     brackets = brackets_from x.0 b k i x.2.ended x.2.brackets;
     answered = answered_from s.warnings b k i x.2.ended n x.2.answered;
   },
@@ -203,7 +210,7 @@ pub runs_off : (words given : List Text) (b : Seen) (i : SourceState) (o : SinkS
 runs_off words given b i o n fault none cause t = inl (record {
   fault = fault;
   cause = cause;
-  idle = record { repo = still_self b.repo.view; opened = refl; spool = still_self b.spool.view; tree = refl; server = refl; others = refl; clock = refl; locks = refl; links = refl };
+  idle = record { repo = still_self b.repo.view; opened = refl; spool_opened = refl; spool = still_self b.spool.view; tree = refl; server = refl; others = refl; clock = refl; locks = refl; links = refl };
   answered = record {
     ending = t.0;
     is = t.1;

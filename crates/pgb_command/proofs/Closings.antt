@@ -1,5 +1,7 @@
 -- After a server's answer that is refused the talk was ended.
 use Rattle.std.proofs.Common.{true, ◌≡◌, ◌≤◌, ◌⊎◌, ◌∙◌, ℕ, List, [], inl, inr, Result, Ok, Err, IfErr, refl, ap, subst, arith}
+use Rattle.std.specs.Prelude.{String}
+use Rattle.std.specs.declared.alloc.Global.{Global}
 use Rattle.pgb_model.specs.Text.{Text}
 use Rattle.pgb_options.specs.declared.usage.Usage.{Usage}
 use Rattle.pgb_options.specs.declared.usage.Usage.TheVariants as usage
@@ -30,6 +32,9 @@ use Rattle.pgb_take_online.specs.Texts.{online_take_status}
 use Rattle.pgb_recover.specs.declared.fault.RecoverFault.{RecoverFault}
 use Rattle.pgb_recover.specs.declared.fault.RecoverFault.TheVariants as recovers
 use Rattle.pgb_recover.specs.Texts.{recover_status}
+use Rattle.pgb_leave.specs.declared.fault.LeaveFault.{LeaveFault}
+use Rattle.pgb_leave.specs.Texts.{leave_status}
+use Rattle.pgb_leave.proofs.Statuses.{leave_within}
 use Rattle.pgb_drained.specs.Drained.{drain_early, drain_status}
 use Rattle.pgb_drained.proofs.Statuses.{drain_is}
 use Rattle.pgb_examine.specs.declared.fault.ExamineFault.{ExamineFault}
@@ -37,11 +42,11 @@ use Rattle.pgb_examine.proofs.Statuses.{examine_is}
 use Rattle.pgb_prune.specs.declared.fault.PruneFault.{PruneFault}
 use Rattle.pgb_prune.specs.Texts.{prune_status, behind_status}
 use Rattle.pgb_prune.proofs.Statuses.{prune_within, behind_late}
-use Rattle.pgb_command.specs.declared.fault.CommandFault.TheVariants.{Create, Push, Drain, Get, Take, TakeOnline, Recover, Examine, Prune}
+use Rattle.pgb_command.specs.declared.fault.CommandFault.TheVariants.{Create, Push, Leave, Drain, Get, Take, TakeOnline, Recover, Examine, Prune}
 use Rattle.pgb_command.specs.declared.fault.Fault.{Fault}
 use Rattle.pgb_command.specs.declared.fault.Fault.TheVariants as fault
 use Rattle.pgb_command.specs.Answers.{status_of, usage_status}
-use Rattle.pgb_command.specs.Asked.{Request, create, push, drain, get, backup, backup_running, restore, report, examine, expire, Asked}
+use Rattle.pgb_command.specs.Asked.{Request, create, push, leave, drain, get, backup, backup_running, restore, report, examine, expire, Asked}
 use Rattle.pgb_command.specs.Causes.{IsAnswered, Carries, Answers, ClosesTalk}
 use Rattle.pgb_command.specs.Configuring.{ConfigCause}
 use Rattle.pgb_command.specs.Did.{IsIdle, IsTaken, Cause, Closes}
@@ -112,7 +117,7 @@ object_apart object.Repo = high 80 (omega arith)
 object_apart object.Spool = high 81 (omega arith)
 object_apart object.DataFolder = high 82 (omega arith)
 object_apart object.Server = high 83 (omega arith)
-object_apart object.Others = high 89 (omega arith)
+object_apart object.Others = high 88 (omega arith)
 object_apart object.Clock = high 84 (omega arith)
 object_apart object.Locks = high 85 (omega arith)
 object_apart object.Config = high 86 (omega arith)
@@ -143,12 +148,14 @@ push_other a (backup_running how) old new e cause p = absurd cause
 push_other a (restore set how) old new e cause p = absurd cause
 push_other a (report form) old new e cause p = absurd cause
 push_other a examine old new e cause p = absurd cause
+push_other a (leave path how) old new e cause p = p
 push_other a (drain place) old new e cause p = absurd cause
 push_other a (expire rules) old new e cause p = absurd cause
 
 drain_other : {P : Type 0} (a : Asked) (q : Request) (old new : Known) (e : PushFault) → CommandCause a q old new (Drain e) → OnOther q P → P
 drain_other a create old new e cause p = absurd cause
 drain_other a (push path) old new e cause p = absurd cause
+drain_other a (leave path how) old new e cause p = absurd cause
 drain_other a (drain place) old new e cause p = p
 drain_other a (get name path) old new e cause p = absurd cause
 drain_other a (backup how) old new e cause p = absurd cause
@@ -157,6 +164,19 @@ drain_other a (restore set how) old new e cause p = absurd cause
 drain_other a (report form) old new e cause p = absurd cause
 drain_other a examine old new e cause p = absurd cause
 drain_other a (expire rules) old new e cause p = absurd cause
+
+leave_other : {P : Type 0} (a : Asked) (q : Request) (old new : Known) (name : String Global) (e : LeaveFault) → CommandCause a q old new (Leave name e) → OnOther q P → P
+leave_other a create old new name e cause p = absurd cause
+leave_other a (push path) old new name e cause p = absurd cause
+leave_other a (leave path how) old new name e cause p = p
+leave_other a (drain place) old new name e cause p = absurd cause
+leave_other a (get word path) old new name e cause p = absurd cause
+leave_other a (backup how) old new name e cause p = absurd cause
+leave_other a (backup_running how) old new name e cause p = absurd cause
+leave_other a (restore set how) old new name e cause p = absurd cause
+leave_other a (report form) old new name e cause p = absurd cause
+leave_other a examine old new name e cause p = absurd cause
+leave_other a (expire rules) old new name e cause p = absurd cause
 
 get_other : {P : Type 0} (a : Asked) (q : Request) (old new : Known) (e : GetFault) → CommandCause a q old new (Get e) → OnOther q P → P
 get_other a create old new e cause p = absurd cause
@@ -167,6 +187,7 @@ get_other a (backup_running how) old new e cause p = absurd cause
 get_other a (restore set how) old new e cause p = absurd cause
 get_other a (report form) old new e cause p = absurd cause
 get_other a examine old new e cause p = absurd cause
+get_other a (leave path how) old new e cause p = absurd cause
 get_other a (drain place) old new e cause p = absurd cause
 get_other a (expire rules) old new e cause p = absurd cause
 
@@ -179,6 +200,7 @@ take_other a (backup_running how) old new e cause p = absurd cause
 take_other a (restore set how) old new e cause p = absurd cause
 take_other a (report form) old new e cause p = absurd cause
 take_other a examine old new e cause p = absurd cause
+take_other a (leave path how) old new e cause p = absurd cause
 take_other a (drain place) old new e cause p = absurd cause
 take_other a (expire rules) old new e cause p = absurd cause
 
@@ -191,6 +213,7 @@ examine_other a (backup_running how) old new e cause p = absurd cause
 examine_other a (restore set how) old new e cause p = absurd cause
 examine_other a (report form) old new e cause p = absurd cause
 examine_other a examine old new e cause p = p
+examine_other a (leave path how) old new e cause p = absurd cause
 examine_other a (drain place) old new e cause p = absurd cause
 examine_other a (expire rules) old new e cause p = absurd cause
 
@@ -203,12 +226,17 @@ prune_other a (backup_running how) old new e cause p = absurd cause
 prune_other a (restore set how) old new e cause p = absurd cause
 prune_other a (report form) old new e cause p = absurd cause
 prune_other a examine old new e cause p = absurd cause
+prune_other a (leave path how) old new e cause p = absurd cause
 prune_other a (drain place) old new e cause p = absurd cause
 prune_other a (expire rules) old new e cause p = p
 
 push_at : {P : Type 0} (a : Asked) (b k : Seen) (e : PushFault) → Cause a b k (fault.Command (Push e)) → OnOther a.request P → P
 push_at a b k e (inl words) p = push_other a a.request (known b) (known k) e (words (known b) (known k)) p
 push_at a b k e (inr ready) p = push_other a a.request _ (known k) e ready.2 p
+
+leave_at : {P : Type 0} (a : Asked) (b k : Seen) (name : String Global) (e : LeaveFault) → Cause a b k (fault.Command (Leave name e)) → OnOther a.request P → P
+leave_at a b k name e (inl words) p = absurd words
+leave_at a b k name e (inr ready) p = leave_other a a.request _ (known k) name e ready.2 p
 
 drain_at : {P : Type 0} (a : Asked) (b k : Seen) (e : PushFault) → Cause a b k (fault.Command (Drain e)) → OnOther a.request P → P
 drain_at a b k e (inl words) p = absurd words
@@ -271,6 +299,7 @@ module _ (b k : Seen) (n : ℕ) where
   at_fault a (fault.Stage e) is refusal cause closes others = stage_apart (plan_of a.request) a.stanza b k e (subst IsServerRefusal is refusal) cause
   at_fault a (fault.Command (Create e)) is refusal cause closes others = ended (create_closed (Failed b k object.Server) k.server.sent e (subst IsServerRefusal is refusal) closes)
   at_fault a (fault.Command (Push e)) is refusal cause closes others = inr (inr (long_is n (push_status e) is (only_long (push_status e) (push_within e).1 (subst IsServerRefusal is refusal)), ap (λ w. w.sent) (push_at a b k e cause others)))
+  at_fault a (fault.Command (Leave name e)) is refusal cause closes others = inr (inr (long_is n (leave_status e) is (only_long (leave_status e) (leave_within e).1 (subst IsServerRefusal is refusal)), ap (λ w. w.sent) (leave_at a b k name e cause others)))
   at_fault a (fault.Command (Drain e)) is refusal cause closes others = inr (inr (long_is n (drain_status e) is (only_many (drain_status e) (drain_within e) (subst IsServerRefusal is refusal)), ap (λ w. w.sent) (drain_at a b k e cause others)))
   at_fault a (fault.Command (Get e)) is refusal cause closes others = inr (inr (long_is n (get_status e) is (only_long (get_status e) (get_within e).1 (subst IsServerRefusal is refusal)), ap (λ w. w.sent) (get_at a b k e cause others)))
   at_fault a (fault.Command (Take e)) is refusal cause closes others = inr (inr (long_is n (later_status e) is (only_many (later_status e) (later_within e).1 (subst IsServerRefusal is refusal)), ap (λ w. w.sent) (take_at a b k e cause others)))

@@ -33,6 +33,7 @@ use Rattle.pgb_take_online.specs.Texts.{online_take_status}
 use Rattle.pgb_recover.specs.declared.fault.RecoverFault.{RecoverFault}
 use Rattle.pgb_recover.specs.declared.fault.RecoverFault.TheVariants as recovers
 use Rattle.pgb_recover.specs.Texts.{recover_status}
+use Rattle.pgb_leave.proofs.Statuses.{leave_within}
 use Rattle.pgb_drained.specs.Drained.{drain_early, drain_status}
 use Rattle.pgb_drained.proofs.Statuses.{drain_is}
 use Rattle.pgb_push.specs.declared.fault.PushFault.{PushFault}
@@ -43,11 +44,11 @@ use Rattle.pgb_prune.specs.Texts.{prune_status}
 use Rattle.pgb_prune.proofs.Statuses.{behind_late}
 use Rattle.pgb_retain.specs.declared.rules.Rules.{Rules}
 use Rattle.pgb_command.specs.declared.fault.CommandFault.{CommandFault}
-use Rattle.pgb_command.specs.declared.fault.CommandFault.TheVariants.{Create, Push, Drain, Get, Take, TakeOnline, Recover, Examine, Prune}
+use Rattle.pgb_command.specs.declared.fault.CommandFault.TheVariants.{Create, Push, Leave, Drain, Get, Take, TakeOnline, Recover, Examine, Prune}
 use Rattle.pgb_command.specs.declared.fault.Fault.{Fault}
 use Rattle.pgb_command.specs.declared.fault.Fault.TheVariants as fault
 use Rattle.pgb_command.specs.Answers.{status_of, usage_status, command_status}
-use Rattle.pgb_command.specs.Asked.{Request, create, push, drain, get, backup, backup_running, restore, report, examine, expire, Asked}
+use Rattle.pgb_command.specs.Asked.{Request, create, push, leave, drain, get, backup, backup_running, restore, report, examine, expire, Asked}
 use Rattle.pgb_command.specs.Causes.{EndsWell}
 use Rattle.pgb_command.specs.Tables.{Known, IsBackedUp, BehindIt, Promise}
 use Rattle.pgb_command.proofs.Statuses.{over}
@@ -162,6 +163,7 @@ not_drain e = by (drain_is e)
 not_command : (e : CommandFault) → command_status e ≢ 65
 not_command (Create e) = not_create e
 not_command (Push e) = not_within _ (push_within e).1
+not_command (Leave name e) = not_within _ (leave_within e).1
 not_command (Drain e) = not_drain e
 not_command (Get e) = not_within _ (get_within e).1
 not_command (Take e) = not_later e
@@ -204,5 +206,6 @@ only_examines a (backup_running how) old new lines count h = never_deviates a.ex
 only_examines a (restore set how) old new lines count h = absurd h.recovers
 only_examines a (report form) old new lines count h = absurd h.0
 only_examines a examine old new lines count h = refl
+only_examines a (leave path how) old new lines count h = absurd h
 only_examines a (drain place) old new lines count h = absurd h.2
 only_examines a (expire rules) old new lines count h = absurd h.2

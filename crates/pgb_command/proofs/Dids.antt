@@ -1,6 +1,6 @@
 -- What the stages add to a command's own part: the same lemmas for every command.
 use Rattle.std.proofs.Common.{◌≡◌, ◌≤◌, ◌⊎◌, ⊎_elim, inl, inr, ℕ, List, Option, Result, Ok, Err, IfOk, IfErr, refl, sym, ◌∙◌, subst, ap, arith, Bool, true, false}
-use Rattle.std.specs.Prelude.{OnOk, IfSome, IsSome, IsErrAnd}
+use Rattle.std.specs.Prelude.{OnOk, IfSome, IsSome, IsErrAnd, option_map, Some, None}
 use Rattle.pgb_outside.specs.Cause.{Rises}
 use Rattle.pgb_outside.specs.Content.{Content}
 use Rattle.pgb_outside.specs.Moments.{View, Rests}
@@ -40,14 +40,14 @@ use Rattle.pgb_prepare.specs.Stages.{FoundCause, StageCause}
 use Rattle.pgb_prepare.specs.Taking.{HeldCause, MayTake}
 use Rattle.pgb_create.specs.Talking.{Ended}
 use Rattle.pgb_create.proofs.Statuses.{closes_as}
-use Rattle.pgb_command.specs.declared.fault.CommandFault.TheVariants.{Create, Push, Drain, Get, Take, TakeOnline, Recover, Examine, Prune}
+use Rattle.pgb_command.specs.declared.fault.CommandFault.TheVariants.{Create, Push, Leave, Drain, Get, Take, TakeOnline, Recover, Examine, Prune}
 use Rattle.pgb_command.specs.declared.fault.Fault.{Fault}
 use Rattle.pgb_command.specs.declared.fault.Fault.TheVariants.{Usage, Stage, Command as OfCommand, Behind, Failed as ObjectFailed, NoMemory}
 use Rattle.pgb_command.specs.Answers.{status, reached_of, ending_of, is_early}
-use Rattle.pgb_command.specs.Asked.{Request, create, push, drain, get, backup, backup_running, restore, report, examine, expire, Asked}
+use Rattle.pgb_command.specs.Asked.{Request, create, push, leave, drain, get, backup, backup_running, restore, report, examine, expire, Asked}
 use Rattle.pgb_command.specs.Faults.{of_stage}
-use Rattle.pgb_command.specs.Tables.{Known, known, plan_of, manner_of, CommandCause, Promise, Lasts, OnReader, OnCreate, OnExpire, Expires, uses_workers, uses_clock, uses_turns}
-use Rattle.pgb_command.specs.Did.{Ran, EndsBehind, StaysHealed, OnReady, Cause, HealsPairs, Did, OwnCause, Spares, Closes, WordsCause, Brackets, SamePlaces, OpensPlaces, ArePlacesOpened, OpensIf, IsOpenedIf, TakesAll, OnlyLocked}
+use Rattle.pgb_command.specs.Tables.{Known, known, plan_of, spool_of, manner_of, CommandCause, Promise, Lasts, OnReader, OnCreate, OnExpire, Expires, uses_workers, uses_clock, uses_turns}
+use Rattle.pgb_command.specs.Did.{Ran, EndsBehind, StaysHealed, OnReady, Cause, HealsPairs, Did, OwnCause, Spares, Closes, WordsCause, Brackets, SamePlaces, OpensPlaces, ArePlacesOpened, OpensNamed, IsOpenedNamed, OpensIf, IsOpenedIf, TakesAll, OnlyLocked}
 use Rattle.pgb_command.proofs.Ends.{all_later, expiry_as, only_rose}
 use Rattle.pgb_command.proofs.Expiries.{expires_still, expires_behind}
 use Rattle.pgb_command.proofs.ByRequest.{as_known, idle, manner_at, reader_still, create_still, expire_still, any_reader, any_create, any_expire, any_other, reader_on, create_on, expire_on, other_as, any_stays, stays_as, any_unless, unless_as, folder_stays, folder_on}
@@ -65,7 +65,7 @@ ok_as : (r : Result Outcome Fault) (P Q : Outcome → Type 0) → ((outcome : Ou
 ok_as (Ok x) P Q to h = to x h
 ok_as (Err e) P Q to h = tt
 
-on_ok : (r : Result Outcome Fault) (P Q : Type 0) → (P → Q) → OnOk r P → OnOk r Q
+pub on_ok : (r : Result Outcome Fault) (P Q : Type 0) → (P → Q) → OnOk r P → OnOk r Q
 on_ok (Ok x) P Q to h = to h
 on_ok (Err e) P Q to h = tt
 
@@ -84,6 +84,7 @@ closes_from b m k same le (Usage usage) h = tt
 closes_from b m k same le (Stage fault) h = tt
 closes_from b m k same le (OfCommand (Create fault)) h = closes_as (Failed m k TheServer) (Failed b k TheServer) k.server.sent (λ rose. rises_from _ _ _ le rose) fault h
 closes_from b m k same le (OfCommand (Push fault)) h = tt
+closes_from b m k same le (OfCommand (Leave name fault)) h = tt
 closes_from b m k same le (OfCommand (Drain fault)) h = tt
 closes_from b m k same le (OfCommand (Get fault)) h = tt
 closes_from b m k same le (OfCommand (Take fault)) h = tt
@@ -231,22 +232,9 @@ lasts_by a (backup_running how) v nodes mid k outcome same at h = tt
 lasts_by a (restore set how) v nodes mid k outcome same at h = tt
 lasts_by a (report form) v nodes mid k outcome same at h = tt
 lasts_by a examine v nodes mid k outcome same at h = tt
+lasts_by a (leave path how) v nodes mid k outcome same at h = tt
 lasts_by a (drain place) v nodes mid k outcome same at h = tt
 lasts_by a (expire rules) v nodes mid k outcome same at h = tt
-
--- the members of a healed pair too
-heals_by : (a : Asked) (request : Request) (v : View) (k : Seen) → ((plan_of request).settling ≡ Looked → IsLookedAt a.stanza v) → HealsToLast (plan_of request).pairs a.stanza v →
-    (IsLookedAt a.stanza v → HealsToLast (plan_of request).pairs a.stanza v → HealsToLast (plan_of request).pairs a.stanza k.repo.view) → HealsToLast (plan_of request).pairs a.stanza k.repo.view
-heals_by a create v k at had h = tt
-heals_by a (push path) v k at had h = h (at refl) had
-heals_by a (get name path) v k at had h = tt
-heals_by a (backup how) v k at had h = tt
-heals_by a (backup_running how) v k at had h = tt
-heals_by a (restore set how) v k at had h = tt
-heals_by a (report form) v k at had h = tt
-heals_by a examine v k at had h = tt
-heals_by a (drain place) v k at had h = tt
-heals_by a (expire rules) v k at had h = tt
 
 same_still : (v w : View) → w ≡ v → IsStill v w
 same_still v w same = subst (λ (x : View). IsStill v x) (sym same) (still_self v)
@@ -263,9 +251,8 @@ did_ran a b m k r others nodes repo_later tree_later quiet begun heals healed du
   cause = err_as r _ _ own ran.cause;
   healed = on_ok r (StaysHealed a m k) (HealsPairs a b k) (λ h. record {
     agree = λ some. h.agree (quiet.now.told some) healed;
-    lasts = λ q log some keeps. heals_by a a.request m.repo.view k
-        (λ is. looked_at a.stanza b.repo.view m.repo.view quiet (subst (λ (how : Settling). Begins how a.stanza b.repo.view m.repo.view) is begun) q log some keeps)
-        (durable (keeps_tight a.stanza q log b.repo.view keeps) some) h.lasts;
+    lasts = λ q log some keeps. h.lasts (keeps_tight a.stanza q log m.repo.view (quiet.keeps q log some keeps)) (quiet.now.told some)
+        (durable (keeps_tight a.stanza q log b.repo.view keeps) some);
   }) ran.healed;
   spares = spares_on a b m k r quiet.beside (same_still b.spool.view m.spool.view (ap (λ (s : Seen). s.spool.view) others)) (reader_still a.request _ still) (create_still a.request _ still) (expire_still a.request _ still) nodes (ap (λ (s : Seen). s.server) others) (ap (λ (s : Seen). s.others) others) (ap (λ (s : Seen). s.links) others) (ap (λ (s : Seen). s.clock) others) ran.spares;
   later = later_on b m k later ran.later;
@@ -343,6 +330,7 @@ word_closes a b (Usage usage) h = absurd h
 word_closes a b (Stage fault) h = absurd h
 word_closes a b (OfCommand (Create fault)) h = absurd h
 word_closes a b (OfCommand (Push fault)) h = tt
+word_closes a b (OfCommand (Leave name fault)) h = absurd h
 word_closes a b (OfCommand (Drain fault)) h = absurd h
 word_closes a b (OfCommand (Get fault)) h = tt
 word_closes a b (OfCommand (Take fault)) h = absurd h
@@ -359,6 +347,7 @@ word_cause a b (Usage usage) h = absurd h
 word_cause a b (Stage fault) h = absurd h
 word_cause a b (OfCommand (Create fault)) h = absurd h
 word_cause a b (OfCommand (Push fault)) h = inl h
+word_cause a b (OfCommand (Leave name fault)) h = absurd h
 word_cause a b (OfCommand (Drain fault)) h = absurd h
 word_cause a b (OfCommand (Get fault)) h = inl h
 word_cause a b (OfCommand (Take fault)) h = absurd h
@@ -413,19 +402,30 @@ unopened a b k r halt err read cause = halted_at a b k r halt err (rests_quiet a
 
 -- ---- places and locks
 
-all_ok : (r : Result Outcome Fault) (P : Type 0) → P → OnOk r P
+pub all_ok : (r : Result Outcome Fault) (P : Type 0) → P → OnOk r P
 all_ok (Ok x) P p = p
 all_ok (Err e) P p = tt
+
+-- the spool that is named, where one is
+pub names_opened : {X : Type 0} (text : X → Text) (o : Option X) (named : Option Text) (old new : List Text) → option_map text o ≡ named → IfSome o (λ x. IsOpened (text x) old new) → (o ≡ None → new ≡ old) → IsOpenedNamed named old new
+names_opened text None named old new is opened none = subst (λ (o : Option Text). IsOpenedNamed o old new) is (none refl)
+names_opened text (Some x) named old new is opened none = subst (λ (o : Option Text). IsOpenedNamed o old new) is opened
+
+pub names_open : {X : Type 0} (text : X → Text) (o : Option X) (named : Option Text) (old new : List Text) → option_map text o ≡ named → IfSome o (λ x. OpensOnly (text x) old new) → (o ≡ None → new ≡ old) → OpensNamed named old new
+names_open text None named old new is opens none = subst (λ (o : Option Text). OpensNamed o old new) is (none refl)
+names_open text (Some x) named old new is opens none = subst (λ (o : Option Text). OpensNamed o old new) is opens
 
 -- places are opened, and then locks are taken
 pub brackets_on : (a : Asked) (b m k : Seen) (r : Result Outcome Fault) → IsStill b.repo.view m.repo.view → m.locks.took ≡ b.locks.took → OpensPlaces a b m → ArePlacesOpened a b m → SamePlaces m k → OnOk r (TakesAll a m k) → OnlyLocked a m k → Brackets a b k r
 brackets_on a b m k r still none places opened same took only =
     let plan = plan_of a.request in record {
       places = record {
+        spool = subst (λ (ts : List Text). OpensNamed (spool_of a.request) b.spool.opened ts) (sym same.spool) places.spool;
         folder = subst (λ (ts : List Text). OpensIf plan.folder a.data_folder b.tree.opened ts) (sym same.tree) places.folder;
         repository = subst (λ (ts : List Text). OpensOnly a.repository b.repo.opened ts) (sym same.repo) places.repository;
       };
       opened = all_ok r (ArePlacesOpened a b k) (record {
+        spool = subst (λ (ts : List Text). IsOpenedNamed (spool_of a.request) b.spool.opened ts) (sym same.spool) opened.spool;
         folder = subst (λ (ts : List Text). IsOpenedIf plan.folder a.data_folder b.tree.opened ts) (sym same.tree) opened.folder;
         repository = subst (λ (ts : List Text). IsOpened a.repository b.repo.opened ts) (sym same.repo) opened.repository;
       });

@@ -1,5 +1,5 @@
 -- What follows for a command that is asked for.
-use Rattle.std.proofs.Common.{Bool, true, false, ⊎_elim, ◌≡◌, ◌≢◌, ◌≤◌, ◌⊎◌, ◌∙◌, ℕ, List, [], inl, inr, Result, Ok, Err, IfErr, refl, sym, ap, subst, arith}
+use Rattle.std.proofs.Common.{Bool, true, false, ⊎_elim, ◌≡◌, ◌≢◌, ◌≤◌, ◌⊎◌, ◌∙◌, ℕ, List, [], Option, Some, None, inl, inr, Result, Ok, Err, IfErr, refl, sym, ap, subst, arith}
 use Rattle.std.specs.Prelude.{OnOk}
 use Rattle.pgb_model.specs.Text.{Text}
 use Rattle.pgb_stage.specs.declared.object.Object.TheVariants.{Output}
@@ -18,13 +18,13 @@ use Rattle.pgb_stage.proofs.Lifted.{on_as, still_quiet, quiet_takes, opened_take
 use Rattle.pgb_command.specs.declared.fault.Fault.{Fault}
 use Rattle.pgb_command.specs.declared.fault.Fault.TheVariants.{Usage, Stage, Command as OfCommand, Failed as ObjectFailed, NoMemory}
 use Rattle.pgb_command.specs.Answers.{Ending, status, status_of, answer_of, ending_of, reached_of}
-use Rattle.pgb_command.specs.Asked.{Request, create, push, drain, get, backup, backup_running, restore, report, examine, expire, Asked, Asks}
+use Rattle.pgb_command.specs.Asked.{Request, create, push, leave, drain, get, backup, backup_running, restore, report, examine, expire, Asked, Asks}
 use Rattle.pgb_command.specs.Causes.{IsAnswered, Carries, Answers, PartDone, Finishes, EndsWell, Fulfils, IsEarly, TurnsBack, LeavesRest, Completes}
-use Rattle.pgb_command.specs.Did.{IsIdle, Did, OpensIf, OpensPlaces, OnlyLocked}
+use Rattle.pgb_command.specs.Did.{Acknowledges, IsIdle, Did, OpensIf, OpensNamed, OpensPlaces, OnlyLocked}
 use Rattle.pgb_command.specs.Output.{IsTold, Whole, Cut, Starved, Wordless}
 use Rattle.pgb_disk.proofs.Changes.{only_rests}
 use Rattle.pgb_stanza.specs.Owned.{IsOfPairs}
-use Rattle.pgb_command.specs.Tables.{known, plan_of, manner_of, OnCreate, FolderGoes, FolderStays, uses_workers, uses_clock, uses_turns}
+use Rattle.pgb_command.specs.Tables.{known, plan_of, spool_of, manner_of, OnCreate, FolderGoes, FolderStays, uses_workers, uses_clock, uses_turns}
 use Rattle.pgb_command.proofs.AskedOnce.{one_asked}
 use Rattle.pgb_command.proofs.ByRequest.{idle, any_reader, any_create, any_expire, any_other, any_unless, any_stays, folder_stays}
 use Rattle.pgb_command.proofs.Dids.{stage_reached}
@@ -66,6 +66,10 @@ opens_none : (needed : Bool) (place : Text) (places other : List Text) → other
 opens_none true place places other is = inl is
 opens_none false place places other is = is
 
+named_none : (place : Option Text) (places other : List Text) → other ≡ places → OpensNamed place places other
+named_none (Some place) places other is = inl is
+named_none None places other is = is
+
 -- ---- what was done, whichever it is
 
 all_at : (reached : Reached) (P : Type 0) → reached ≡ to_end → OnAll reached P → P
@@ -83,6 +87,7 @@ create_at (backup_running how) reached P is h = tt
 create_at (restore set how) reached P is h = tt
 create_at (report form) reached P is h = tt
 create_at examine reached P is h = tt
+create_at (leave path how) reached P is h = tt
 create_at (drain place) reached P is h = tt
 create_at (expire rules) reached P is h = tt
 
@@ -179,7 +184,7 @@ module _ (a : Asked) (b k : Seen) (n : ℕ) where
   leaves_rest (inr x) = let s = x.1.did.spares in record { beside = s.beside; spool = s.spool; pairs = s.pairs; expires = s.expires; reads = s.reads; folder = s.folder; quiet = s.quiet; others = s.others; waits = s.waits; workers = s.workers; clock = s.clock }
 
   pub opens_places : Either a b k n → OpensPlaces a b k
-  opens_places (inl x) = record { folder = opens_none (plan_of a.request).folder a.data_folder b.tree.opened k.tree.opened (ap (λ (t : TreeState). t.opened) x.0.tree); repository = inl x.0.opened }
+  opens_places (inl x) = record { spool = named_none (spool_of a.request) b.spool.opened k.spool.opened x.0.spool_opened; folder = opens_none (plan_of a.request).folder a.data_folder b.tree.opened k.tree.opened (ap (λ (t : TreeState). t.opened) x.0.tree); repository = inl x.0.opened }
   opens_places (inr x) = x.1.brackets.places
 
   pub only_locked : Either a b k n → OnlyLocked a b k
@@ -190,19 +195,19 @@ module _ (a : Asked) (b k : Seen) (n : ℕ) where
   never_well : {P : Type 0} (unknown : List Text) (e : Fault) → EndsWell n → IsAnswered unknown b k (Err e) n → P
   never_well unknown e well t = told_as unknown b k (Err e) n t (λ is. absurd (refused_ill e (subst EndsWell is well))) (λ is rose. absurd (cut_ill 87 (omega arith) (subst EndsWell is well))) (λ is. absurd (cut_ill 90 (omega arith) (subst EndsWell is well)))
 
-  fulfils_by : (unknown : List Text) (ended : Result Outcome Fault) → EndsWell n → Did a b k ended → IsAnswered unknown b k ended n → Fulfils a b k n
-  fulfils_by unknown (Err e) well did t = never_well unknown e well t
-  fulfils_by unknown (Ok outcome) well did t = go t.ending t.is t.wrote
+  fulfils_by : (unknown : List Text) (ended : Result Outcome Fault) → EndsWell n → Did a b k ended → OnOk ended (Acknowledges a b k) → IsAnswered unknown b k ended n → Fulfils a b k n
+  fulfils_by unknown (Err e) well did left t = never_well unknown e well t
+  fulfils_by unknown (Ok outcome) well did left t = go t.ending t.is t.wrote
     where
       go : (ending : Ending) → n ≡ status ending → IsTold b.out.written (answer_of unknown (Ok outcome)) k.out.written (Failed b k Output) ending → Fulfils a b k n
-      go ending is (Whole e same wrote) = record { outcome = outcome; is = is ∙ ap status same; promise = did.promise; lasts = did.lasts; unknown = unknown; wrote = wrote }
+      go ending is (Whole e same wrote) = record { outcome = outcome; is = is ∙ ap status same; promise = did.promise; lasts = did.lasts; left = left; unknown = unknown; wrote = wrote }
       go ending is (Cut rose front) = absurd (cut_ill 87 (omega arith) (subst EndsWell is well))
       go ending is (Starved lines which front) = absurd (cut_ill 90 (omega arith) (subst EndsWell is well))
       go ending is (Wordless rose front) = absurd (cut_ill 87 (omega arith) (subst EndsWell is well))
 
   pub fulfils : EndsWell n → Either a b k n → Fulfils a b k n
   fulfils well (inl x) = never_well x.1.0 x.1.1.0 well x.1.1.1
-  fulfils well (inr x) = fulfils_by x.0 x.1.ended well x.1.did x.1.answered
+  fulfils well (inr x) = fulfils_by x.0 x.1.ended well x.1.did x.1.left x.1.answered
 
 -- ---- where no cause of a refusal holds
 

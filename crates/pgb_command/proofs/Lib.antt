@@ -18,6 +18,7 @@ mod Served
 mod AskedOnce
 mod Words
 mod Readied
+mod Lefts
 mod Carried
 pub mod Statuses
 mod Deviating

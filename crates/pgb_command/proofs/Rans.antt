@@ -46,6 +46,7 @@ use Rattle.pgb_push.specs.declared.fault.PushFault.{PushFault}
 use Rattle.pgb_push.specs.Causes.{IsStored, IsLasting, PushCause}
 use Rattle.pgb_push.specs.Commands.{IsPushOf}
 use Rattle.pgb_push.specs.Faults.{push_early}
+use Rattle.pgb_drain.specs.Paired.{KeepsPair}
 use Rattle.pgb_drained.specs.Drained.{IsDrainOf, IsDrained as IsDrainedSo, DrainCause, drain_early}
 use Rattle.pgb_get.specs.declared.fault.GetFault.{GetFault}
 use Rattle.pgb_model.specs.declared.labels.Kind.{Kind}
@@ -62,7 +63,7 @@ use Rattle.pgb_command.specs.declared.fault.Fault.{Fault}
 use Rattle.pgb_command.specs.declared.fault.Fault.TheVariants.{Command as OfCommand}
 use Rattle.pgb_command.specs.declared.fault.CommandFault.TheVariants.{Create, Push, Drain, Get, Take}
 use Rattle.pgb_command.specs.Answers.{status, reached_of, ending_of, is_early}
-use Rattle.pgb_command.specs.Asked.{Request, create, push, drain, get, backup, backup_running, restore, report, examine, expire, Asked, alone}
+use Rattle.pgb_command.specs.Asked.{Request, create, push, leave, drain, get, backup, backup_running, restore, report, examine, expire, Asked, alone}
 use Rattle.pgb_command.specs.Faults.{of_halt, of_create, of_push, of_drain, of_get, of_take, lift}
 use Rattle.pgb_command.specs.Tables.{known, IsSomeDrain, TurnsTold, found_by, Promise, Lasts, plan_of, manner_of, IsCreateOf, OnReader, OnCreate, OnExpire, Expires, OnOther, FolderGoes, FolderStays, Unless, uses_workers, uses_clock, uses_turns}
 use Rattle.pgb_command.specs.Did.{SamePlaces, Closes, OwnCause, StaysHealed, Ran}
@@ -92,6 +93,7 @@ module _ {E : Type 0} (a : Asked) (b k : Seen) (of : E → Fault) (early : E →
   create_reached (restore set how) P h = h
   create_reached (report form) P h = h
   create_reached examine P h = h
+  create_reached (leave path how) P h = h
   create_reached (drain place) P h = h
   create_reached (expire rules) P h = h
 
@@ -210,7 +212,7 @@ module _ (a : Asked) (b k : Seen) (rest : k ≡ record b { repo = k.repo; server
       (ok_with r _ _ _ _ (λ o made agrees asks. record { told = told; tells = tells; created = made; agrees = agrees; asks = asks }) created same asked)
       (any_ok r (λ o. IsLookedAt a.stanza b.repo.view → Unit {0}) (λ o looked. tt))
       cause
-      (on_all r (StaysHealed asks b k) (record { agree = λ some h. any_some k.repo.view.now; lasts = λ looked h. tt }))
+      (on_all r (StaysHealed asks b k) (record { agree = λ some h. any_some k.repo.view.now; lasts = λ tight some h. tt }))
       (λ others. pairs_beside a.stanza b.repo.view k.repo.view only)
       (λ others. spool_kept a.stanza b k (ap (λ (s : Seen). s.spool.view) rest))
       only
@@ -256,7 +258,7 @@ module _ (a : Asked) (b k : Seen) (rest : k ≡ record b { repo = k.repo; tree =
       stored
       (ok_as r _ _ (λ o h looked. h looked.tight (now_told a.stanza b.repo.view looked.now)) lasting)
       cause
-      (on_all r (StaysHealed pushes b k) (record { agree = λ some h. agrees h some; lasts = λ looked h. alike looked.tight (now_told a.stanza b.repo.view looked.now) h }))
+      (on_all r (StaysHealed pushes b k) (record { agree = λ some h. agrees h some; lasts = alike }))
       (λ others. beside)
       (λ others. spool_kept a.stanza b k (ap (λ (s : Seen). s.spool.view) rest))
       tt
@@ -298,17 +300,17 @@ module _ (a : Asked) (b k : Seen) (rest : k ≡ record b { repo = k.repo; spool 
   abbrev drains : Asked
   drains = with_request a (drain place)
 
-  pub drained_ran : a.request ≡ drain place → StaysBeside a.stanza b.repo.view k.repo.view → StaysBeside a.stanza b.spool.view k.spool.view →
+  pub drained_ran : a.request ≡ drain place → KeepsPair a.stanza b.repo.view k.repo.view → StaysBeside a.stanza b.repo.view k.repo.view → StaysBeside a.stanza b.spool.view k.spool.view →
       ((f : Nodes) → b.tree.nodes ≡ Some f → On (one (IsDrainOf f (is_ok r))) (λ command. Runs Whole a.stanza command (reached_by drain_early r) b.repo.view b.spool.view k.repo.view k.spool.view)) →
       IfOk r (λ o. OnFinished o (λ lines. (f : Nodes) → b.tree.nodes ≡ Some f → IsDrainedSo a.stanza f told b.repo.view.now b.spool.view.now k.spool.view.now lines)) → (failed : Object → Type 0) → ((object : Object) → failed object → Failed b k object) →
       IfErr r (HaltCause (DrainCause a.stanza b.repo.view.now k.repo.view.now b.tree.nodes) failed) → SamePlaces b k → AreLater b k → Ran a b k ended
-  drained_ran is beside spool_beside runs drained failed rose cause places later = as_ran a (drain place) b k ended is
+  drained_ran is pair beside spool_beside runs drained failed rose cause places later = as_ran a (drain place) b k ended is
       (ran_of drains b k (λ (e : PushFault). OfCommand (Drain e)) drain_early (λ e. refl) (DrainCause a.stanza b.repo.view.now k.repo.view.now b.tree.nodes) (λ e h. h) failed rose r ended lifted
       (λ some. drain_steps b.tree.nodes (is_ok r) (λ command. Runs Whole a.stanza command (reached_by drain_early r) b.repo.view b.spool.view k.repo.view k.spool.view) runs some)
       (ok_as r _ _ (λ o h. (told, tells, drain_finished b.tree.nodes (λ f lines. IsDrainedSo a.stanza f told b.repo.view.now b.spool.view.now k.spool.view.now lines) o h)) drained)
       (any_ok r (λ o. IsLookedAt a.stanza b.repo.view → Unit {0}) (λ o looked. tt))
       cause
-      (on_all r (StaysHealed drains b k) (record { agree = λ some h. any_some k.repo.view.now; lasts = λ looked h. tt }))
+      (on_all r (StaysHealed drains b k) (record { agree = pair.agrees; lasts = pair.alike }))
       (λ others. beside)
       (λ others. spool_beside)
       tt
@@ -350,7 +352,7 @@ module _ (a : Asked) (b k : Seen) (rest : k ≡ record b { repo = k.repo; tree =
       got
       (ok_as r _ _ (λ o h looked. h looked.tight (now_told a.stanza b.repo.view looked.now) looked.pair) lasting)
       cause
-      (on_all r (StaysHealed gets b k) (record { agree = λ some h. any_some k.repo.view.now; lasts = λ looked h. tt }))
+      (on_all r (StaysHealed gets b k) (record { agree = λ some h. any_some k.repo.view.now; lasts = λ tight some h. tt }))
       (λ others. still_beside a.stanza b.repo.view k.repo.view still)
       (λ others. spool_kept a.stanza b k (ap (λ (s : Seen). s.spool.view) rest))
       tt
@@ -418,7 +420,7 @@ module _ (a : Asked) (b k : Seen) (rest : k ≡ record b { repo = k.repo; tree =
       (ok_as r _ _ (λ outcome h. (o, refl, (told, tells, h))) taken)
       (any_ok r (λ outcome. IsLookedAt a.stanza b.repo.view → Unit {0}) (λ outcome looked. tt))
       cause
-      (on_all r (StaysHealed takes b k) (record { agree = λ some h. any_some k.repo.view.now; lasts = λ looked h. tt }))
+      (on_all r (StaysHealed takes b k) (record { agree = λ some h. any_some k.repo.view.now; lasts = λ tight some h. tt }))
       (λ others. beside)
       (λ others. spool_kept a.stanza b k (ap (λ (s : Seen). s.spool.view) rest))
       tt

@@ -87,14 +87,14 @@ module _ (a : Asked) (b k : Seen) (rest : k ≡ record b { repo = k.repo }) (sti
       IfErr r (HaltCause Never failed) → SamePlaces b k → AreLater b k → Ran a b k ended
   informed_ran form r lifted is told failed rose cause places later = reader_ran Stage (λ e. true) (λ e. refl) Never a (report form) b k rest still (λ e h. h) (inform_closes b k) r ended lifted is (reads (reached_by (λ e. true) r)) told
       (any_ok r (λ o. IsLookedAt a.stanza b.repo.view → Unit {0}) (λ o looked. tt))
-      (on_all r (StaysHealed (with_request a (report form)) b k) (record { agree = λ some h. any_some k.repo.view.now; lasts = λ looked h. tt }))
+      (on_all r (StaysHealed (with_request a (report form)) b k) (record { agree = λ some h. any_some k.repo.view.now; lasts = λ tight some h. tt }))
       failed rose cause places later
 
   pub examined_ran : (r : Result Outcome (Halt ExamineFault)) → ended ≡ lift of_examine r → a.request ≡ examine → IfOk r (Promise (with_request a examine) examine (known b) (known k)) → (failed : Object → Type 0) → ((object : Object) → failed object → Failed b k object) →
       IfErr r (HaltCause (ExamineCause a.stanza b.repo.view.now) failed) → SamePlaces b k → AreLater b k → Ran a b k ended
   examined_ran r lifted is told failed rose cause places later = reader_ran (λ (e : ExamineFault). OfCommand (Examine e)) examine_early (λ e. refl) (ExamineCause a.stanza b.repo.view.now) a examine b k rest still (λ e h. h) (examine_closes b k) r ended lifted is (reads (reached_by examine_early r)) told
       (any_ok r (λ o. IsLookedAt a.stanza b.repo.view → Unit {0}) (λ o looked. tt))
-      (on_all r (StaysHealed (with_request a examine) b k) (record { agree = λ some h. any_some k.repo.view.now; lasts = λ looked h. tt }))
+      (on_all r (StaysHealed (with_request a examine) b k) (record { agree = λ some h. any_some k.repo.view.now; lasts = λ tight some h. tt }))
       failed rose cause places later
 
 -- ---- expire
@@ -127,7 +127,7 @@ module _ (a : Asked) (b k : Seen) (rest : k ≡ record b { repo = k.repo; clock 
       (removes a.stanza rules p.moment (known b) (known k) r p.told p.pruned)
       (any_ok r (λ o. IsLookedAt a.stanza b.repo.view → Unit {0}) (λ o looked. tt))
       cause
-      (on_all r (StaysHealed prunes b k) (record { agree = λ some h. any_some k.repo.view.now; lasts = λ looked h. tt }))
+      (on_all r (StaysHealed prunes b k) (record { agree = λ some h. any_some k.repo.view.now; lasts = λ tight some h. tt }))
       (λ others. beside)
       (λ others. spool_kept a.stanza b k (ap (λ (s : Seen). s.spool.view) rest))
       tt

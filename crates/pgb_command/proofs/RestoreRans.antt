@@ -112,7 +112,7 @@ module _ (a : Asked) (b k : Seen) (rest : k ≡ record b { repo = k.repo; tree =
       (both_as r _ _ _ (λ o p q. record { label = label; is = is_set; recovers = p; gives = q }) recovers gives)
       (any_ok r (λ o. IsLookedAt a.stanza b.repo.view → Unit {0}) (λ o looked. tt))
       cause
-      (on_all r (StaysHealed restores b k) (record { agree = λ some h. any_some k.repo.view.now; lasts = λ looked h. tt }))
+      (on_all r (StaysHealed restores b k) (record { agree = λ some h. any_some k.repo.view.now; lasts = λ tight some h. tt }))
       (λ others. still_beside a.stanza b.repo.view k.repo.view still)
       (λ others. spool_kept a.stanza b k (ap (λ (s : Seen). s.spool.view) rest))
       tt

@@ -96,7 +96,7 @@ module _ (a : Asked) (b k : Seen) (nodes : k.tree.nodes ≡ b.tree.nodes) (how :
       (ok_with r _ _ _ (Unit {0}) (λ outcome taken asks none. ((o, order, (told, tells, taken)), asks)) taken asks (on_all r (Unit {0}) tt))
       (any_ok r (λ o. IsLookedAt a.stanza b.repo.view → Unit {0}) (λ o looked. tt))
       cause
-      (on_all r (StaysHealed waits_for b k) (record { agree = λ some h. any_some k.repo.view.now; lasts = λ looked h. tt }))
+      (on_all r (StaysHealed waits_for b k) (record { agree = λ some h. any_some k.repo.view.now; lasts = λ tight some h. tt }))
       (with_account a.stanza k.others.account _ beside)
       (with_account a.stanza k.others.account _ spool)
       tt
@@ -147,7 +147,7 @@ module _ (a : Asked) (b : Seen) (how : RunningHow) where
       tt
       tt
       tt
-      (record { repo = refl; tree = refl })
+      (record { spool = refl; repo = refl; tree = refl })
       (λ object. omega arith))
 
   pub running_starved : a.request ≡ backup_running how → (ended : Result Outcome Fault) → IsErrAnd ended (λ f. f ≡ OutOfMemory) → Ran (alone a) b b ended

@@ -13,7 +13,7 @@ use Rattle.pgb_create.specs.declared.server.Server as code
 use Rattle.pgb_create.specs.Server.{Server, server_view}
 use Rattle.pgb_command.specs.declared.settings.Request as settings
 use Rattle.pgb_command.specs.declared.settings.Request.TheVariants as requests
-use Rattle.pgb_command.specs.Asked.{Request, BackupHow, RunningHow, push, get, backup, backup_running, behind_backup, expires_by, Wanted, first_of, second_of, taken_by, backup_by, request_by, server_by, server_asked, wanted_in}
+use Rattle.pgb_command.specs.Asked.{Request, BackupHow, LeaveHow, RunningHow, push, leave, get, backup, backup_running, push_by, behind_backup, expires_by, Wanted, first_of, second_of, taken_by, backup_by, request_by, server_by, server_asked, wanted_in}
 use Rattle.pgb_retain.specs.declared.rules.Rules.{Rules}
 use Rattle.pgb_command.specs.Serving.{is_served, is_followed}
 use Rattle.pgb_command.specs.Told.{request_of, wanted_told}
@@ -36,14 +36,18 @@ one_built false what r how is = is
 ok_asks : (r : Request) (how : RunningHow) → Asks (Ok r) how → r ≡ backup_running how
 ok_asks r how is = ok_same r (backup_running how) is
 
+never_pushed : (b : Bool) (path : Text) (wait : LeaveHow) (how : RunningHow) → (if b then leave path wait else push path) ≡ backup_running how → ⊥
+never_pushed true path wait how is = cc
+never_pushed false path wait how is = cc
+
 -- ---- where it is asked for, it is online
 
 module _ (m : Wanted) (how : RunningHow) where
   backup_online : Asks (backup_by m) how → m.online ≡ true
   backup_online is = one_online m.online _ _ how (ok_asks (taken_by m) how (one_built m.bundles Bundles _ how is))
 
-  push_never : (path : Text) → Asks (if m.background then Err Background else Ok (push path)) how → ⊥
-  push_never path is = let e = ok_asks (push path) how (one_built m.background Background _ how is) in cc
+  push_never : (path : Text) → Asks (Ok (push_by m path)) how → ⊥
+  push_never path is = never_pushed m.background path (record { spool = m.spool; turns = m.turns }) how (ok_asks (push_by m path) how is)
 
   get_never : (name path : Text) → Asks (if m.background then Err Background else Ok (get name path)) how → ⊥
   get_never name path is = let e = ok_asks (get name path) how (one_built m.background Background _ how is) in cc
@@ -68,6 +72,7 @@ some_server (Some s) is = refl
 pub request_served : (c : Command) (s : Settled) → IsCommand c s → (r : settings.Request) → request_by c.verb (wanted_told c.options) (map string_bytes c.given.items) ≡ Ok (request_of r) → (o : Option code.Server) → option_map server_view o ≡ server_asked s → is_served r o ≡ true
 request_served c s is requests.StanzaCreate asked o server = refl
 request_served c s is (requests.ArchivePush path) asked o server = refl
+request_served c s is (requests.ArchivePushLeft path spool turns) asked o server = refl
 request_served c s is (requests.ArchivePushAsync spool) asked o server = refl
 request_served c s is (requests.ArchiveGet name path) asked o server = refl
 request_served c s is (requests.Backup workers kind delta) asked o server = refl
@@ -82,6 +87,7 @@ request_served c s is (requests.Expire rules) asked o server = refl
 pub follows_backup : (r : settings.Request) (m : Wanted) (rules : Option Rules) → rules ≡ expires_by (request_of r) m → is_followed r rules ≡ true
 follows_backup requests.StanzaCreate m rules is = ap is_none is
 follows_backup (requests.ArchivePush path) m rules is = ap is_none is
+follows_backup (requests.ArchivePushLeft path spool turns) m rules is = ap is_none is
 follows_backup (requests.ArchivePushAsync spool) m rules is = ap is_none is
 follows_backup (requests.ArchiveGet name path) m rules is = ap is_none is
 follows_backup (requests.Backup workers kind delta) m rules is = refl
@@ -99,6 +105,7 @@ none_is (Some rules) is = cc
 pub kept_behind : (r : settings.Request) (rules : Option Rules) → is_followed r rules ≡ true → behind_backup (request_of r) rules ≡ rules
 kept_behind requests.StanzaCreate rules is = none_is rules is
 kept_behind (requests.ArchivePush path) rules is = none_is rules is
+kept_behind (requests.ArchivePushLeft path spool turns) rules is = none_is rules is
 kept_behind (requests.ArchivePushAsync spool) rules is = none_is rules is
 kept_behind (requests.ArchiveGet name path) rules is = none_is rules is
 kept_behind (requests.Backup workers kind delta) rules is = refl

@@ -17,6 +17,7 @@ use Rattle.pgb_get.proofs.Refusals.{get_within}
 use Rattle.pgb_take_later.proofs.Statuses.{later_within}
 use Rattle.pgb_take_online.proofs.Statuses.{online_take_over}
 use Rattle.pgb_recover.proofs.Statuses.{recover_over}
+use Rattle.pgb_leave.proofs.Statuses.{leave_within}
 use Rattle.pgb_drained.specs.Drained.{drain_early, drain_status}
 use Rattle.pgb_drained.proofs.Statuses.{drain_is}
 use Rattle.pgb_push.specs.declared.fault.PushFault.{PushFault}
@@ -27,11 +28,11 @@ use Rattle.pgb_prune.specs.Faults.{prune_early}
 use Rattle.pgb_prune.proofs.Statuses.{prune_within, behind_late}
 use Rattle.pgb_prune.specs.Texts.{behind_status}
 use Rattle.pgb_command.specs.declared.fault.CommandFault.{CommandFault}
-use Rattle.pgb_command.specs.declared.fault.CommandFault.TheVariants.{Create, Push, Drain, Get, Take, TakeOnline, Recover, Examine, Prune}
+use Rattle.pgb_command.specs.declared.fault.CommandFault.TheVariants.{Create, Push, Leave, Drain, Get, Take, TakeOnline, Recover, Examine, Prune}
 use Rattle.pgb_command.specs.declared.fault.Fault.{Fault}
 use Rattle.pgb_command.specs.declared.fault.Fault.TheVariants as fault
 use Rattle.pgb_command.specs.Answers.{status, status_of, usage_status, command_status, command_early, is_early, ending_of, reached_of}
-use Rattle.pgb_command.specs.Asked.{Request, create, push, drain, get, backup, backup_running, restore, report, examine, expire}
+use Rattle.pgb_command.specs.Asked.{Request, create, push, leave, drain, get, backup, backup_running, restore, report, examine, expire}
 use Rattle.pgb_command.specs.Causes.{IsRefusal, IsEarly}
 
 -- ---- a refusal has no status of a command that ended well
@@ -82,6 +83,7 @@ drain_over e = by (drain_is e)
 command_over : (e : CommandFault) → 2 ≤ command_status e
 command_over (Create e) = create_over e
 command_over (Push e) = (push_within e).0
+command_over (Leave name e) = (leave_within e).0
 command_over (Drain e) = drain_over e
 command_over (Get e) = (get_within e).0
 command_over (Take e) = (later_within e).0
@@ -119,6 +121,7 @@ any_early (backup_running how) n h = h
 any_early (restore set how) n h = inl h
 any_early (report form) n h = inl h
 any_early examine n h = inl h
+any_early (leave path how) n h = inl h
 any_early (drain place) n h = inl h
 any_early (expire rules) n h = inl h
 
@@ -132,7 +135,7 @@ early_object object.Server h = refl
 early_object object.Repo h = absurd (late 80 (omega arith) (omega arith) (λ e. absurd (omega (arith, e))) h)
 early_object object.Spool h = absurd (late 81 (omega arith) (omega arith) (λ e. absurd (omega (arith, e))) h)
 early_object object.DataFolder h = absurd (late 82 (omega arith) (omega arith) (λ e. absurd (omega (arith, e))) h)
-early_object object.Others h = absurd (late 89 (omega arith) (omega arith) (λ e. absurd (omega (arith, e))) h)
+early_object object.Others h = absurd (late 88 (omega arith) (omega arith) (λ e. absurd (omega (arith, e))) h)
 early_object object.Clock h = absurd (late 84 (omega arith) (omega arith) (λ e. absurd (omega (arith, e))) h)
 early_object object.Locks h = absurd (late 85 (omega arith) (omega arith) (λ e. absurd (omega (arith, e))) h)
 early_object object.Config h = absurd (late 86 (omega arith) (omega arith) (λ e. absurd (omega (arith, e))) h)
@@ -151,6 +154,7 @@ drain_is_early e h = by (drain_is e)
 early_command : (e : CommandFault) → AnyEarly (command_status e) → command_early e ≡ true
 early_command (Create e) h = refl
 early_command (Push e) h = refl
+early_command (Leave name e) h = refl
 early_command (Drain e) h = drain_is_early e h
 early_command (Get e) h = refl
 early_command (Take e) h = refl

@@ -26,8 +26,11 @@ use Rattle.pgb_push.specs.WalPath.{IsWalPath}
 use Rattle.pgb_command.specs.declared.order.Order.{Order}
 use Rattle.pgb_command.specs.declared.order.RunningOrder.{RunningOrder}
 use Rattle.pgb_command.specs.declared.order.Order.TheVariants as orders
-use Rattle.pgb_command.specs.Told.{how_of, taking_of, running_of, IsOrder}
-use Rattle.pgb_command.specs.Asked.{Request, create, push, drain, get, backup, backup_running, restore, report, examine, expire, RestoreHow, Asked}
+use Rattle.pgb_command.specs.declared.order.LeaveOrder.{LeaveOrder}
+use Rattle.pgb_command.specs.declared.order.Course.{Course}
+use Rattle.pgb_command.specs.declared.order.Course.TheVariants as courses
+use Rattle.pgb_command.specs.Told.{how_of, taking_of, running_of, IsCourse, IsLeft, IsOrder}
+use Rattle.pgb_command.specs.Asked.{Request, create, push, leave, drain, get, backup, backup_running, restore, report, examine, expire, LeaveHow, RestoreHow, Asked}
 use Rattle.pgb_command.specs.Faults.{of_push, of_get, of_recover}
 use Rattle.pgb_command.specs.Tables.{WordsFit, CommandCause}
 use Rattle.pgb_command.specs.Did.{IsIdle, WordsCause, ComesBehind}
@@ -37,6 +40,11 @@ module _ (a : Asked) where
   push_words path is (Refused e) h = λ old new. subst (λ (q : Request). CommandCause a q old new (Push e)) (sym is) (push_word a.stanza a.data_folder path old.repo old.nodes e h)
   push_words path is (HaltFailed object) h = absurd h
   push_words path is HaltMemory h = tt
+
+  wait_words : (path : Text) (how : LeaveHow) → a.request ≡ leave path how → (h : Halt PushFault) → HaltCause (WordCause a.data_folder path) (λ (object : Object). ⊥) h → WordsCause a (of_push h)
+  wait_words path how is (Refused e) h = λ old new. subst (λ (q : Request). CommandCause a q old new (Push e)) (sym is) h
+  wait_words path how is (HaltFailed object) h = absurd h
+  wait_words path how is HaltMemory h = tt
 
   get_words : (name path : Text) → a.request ≡ get name path → (h : Halt GetFault) → HaltCause (GetWords a.data_folder name path) (λ (object : Object). ⊥) h → WordsCause a (of_get h)
   get_words name path is (Refused e) h = λ old new. subst (λ (q : Request). CommandCause a q old new (Get e)) (sym is) (read_words a.stanza a.data_folder name path old.repo old.nodes e h)
@@ -55,6 +63,9 @@ module _ (a : Asked) where
   pub push_refused : (path : Text) → a.request ≡ push path → {T : Type 0} (result : Result T Fault) (h : Halt PushFault) → IsErrAnd result (λ f. f ≡ of_push h) → HaltCause (WordCause a.data_folder path) (λ (object : Object). ⊥) h → IfErr result (WordsCause a)
   push_refused path asked result h is cause = of_err result (of_push h) is (push_words path asked h cause)
 
+  pub wait_refused : (path : Text) (how : LeaveHow) → a.request ≡ leave path how → {T : Type 0} (result : Result T Fault) (h : Halt PushFault) → IsErrAnd result (λ f. f ≡ of_push h) → HaltCause (WordCause a.data_folder path) (λ (object : Object). ⊥) h → IfErr result (WordsCause a)
+  wait_refused path how asked result h is cause = of_err result (of_push h) is (wait_words path how asked h cause)
+
   pub get_refused : (name path : Text) → a.request ≡ get name path → {T : Type 0} (result : Result T Fault) (h : Halt GetFault) → IsErrAnd result (λ f. f ≡ of_get h) → HaltCause (GetWords a.data_folder name path) (λ (object : Object). ⊥) h → IfErr result (WordsCause a)
   get_refused name path asked result h is cause = of_err result (of_get h) is (get_words name path asked h cause)
 
@@ -72,7 +83,7 @@ words_fit a create (orders.BackupRunning o) is = absurd is
 words_fit a create (orders.Restore o) is = absurd is
 words_fit a create (orders.Info asked) is = absurd is
 words_fit a create orders.Verify is = absurd is
-words_fit a create (orders.ArchivePushAsync o) is = absurd is
+words_fit a create orders.ArchivePushAsync is = absurd is
 words_fit a create (orders.Expire asked) is = absurd is
 words_fit a (push path) orders.StanzaCreate is = absurd is
 words_fit a (push path) (orders.ArchivePush o) is = (o.name, subst (λ (f : Text). IsWalPath f path o.name) is.0 (subst (λ (p : Text). IsWalPath o.folder.now p o.name) is.1 o.named))
@@ -82,7 +93,7 @@ words_fit a (push path) (orders.BackupRunning o) is = absurd is
 words_fit a (push path) (orders.Restore o) is = absurd is
 words_fit a (push path) (orders.Info asked) is = absurd is
 words_fit a (push path) orders.Verify is = absurd is
-words_fit a (push path) (orders.ArchivePushAsync o) is = absurd is
+words_fit a (push path) orders.ArchivePushAsync is = absurd is
 words_fit a (push path) (orders.Expire asked) is = absurd is
 words_fit a (get word path) orders.StanzaCreate is = absurd is
 words_fit a (get word path) (orders.ArchivePush o) is = absurd is
@@ -92,7 +103,7 @@ words_fit a (get word path) (orders.BackupRunning o) is = absurd is
 words_fit a (get word path) (orders.Restore o) is = absurd is
 words_fit a (get word path) (orders.Info asked) is = absurd is
 words_fit a (get word path) orders.Verify is = absurd is
-words_fit a (get word path) (orders.ArchivePushAsync o) is = absurd is
+words_fit a (get word path) orders.ArchivePushAsync is = absurd is
 words_fit a (get word path) (orders.Expire asked) is = absurd is
 words_fit a (backup how) orders.StanzaCreate is = absurd is
 words_fit a (backup_running how) orders.StanzaCreate is = absurd is
@@ -109,9 +120,9 @@ words_fit a (backup_running how) (orders.Restore o) is = absurd is
 words_fit a (backup how) (orders.Info asked) is = absurd is
 words_fit a (backup_running how) (orders.Info asked) is = absurd is
 words_fit a (backup how) orders.Verify is = absurd is
-words_fit a (backup how) (orders.ArchivePushAsync o) is = absurd is
+words_fit a (backup how) orders.ArchivePushAsync is = absurd is
 words_fit a (backup_running how) orders.Verify is = absurd is
-words_fit a (backup_running how) (orders.ArchivePushAsync o) is = absurd is
+words_fit a (backup_running how) orders.ArchivePushAsync is = absurd is
 words_fit a (backup_running how) (orders.Expire asked) is = absurd is
 words_fit a (backup how) (orders.Expire asked) is = absurd is
 words_fit a (restore set how) orders.StanzaCreate is = absurd is
@@ -122,7 +133,7 @@ words_fit a (restore set how) (orders.BackupRunning o) is = absurd is
 words_fit a (restore set how) (orders.Restore o) is = (o.set, is.2)
 words_fit a (restore set how) (orders.Info asked) is = absurd is
 words_fit a (restore set how) orders.Verify is = absurd is
-words_fit a (restore set how) (orders.ArchivePushAsync o) is = absurd is
+words_fit a (restore set how) orders.ArchivePushAsync is = absurd is
 words_fit a (restore set how) (orders.Expire asked) is = absurd is
 words_fit a (report form) orders.StanzaCreate is = absurd is
 words_fit a (report form) (orders.ArchivePush o) is = absurd is
@@ -132,9 +143,10 @@ words_fit a (report form) (orders.BackupRunning o) is = absurd is
 words_fit a (report form) (orders.Restore o) is = absurd is
 words_fit a (report form) (orders.Info asked) is = tt
 words_fit a (report form) orders.Verify is = absurd is
-words_fit a (report form) (orders.ArchivePushAsync o) is = absurd is
+words_fit a (report form) orders.ArchivePushAsync is = absurd is
 words_fit a (report form) (orders.Expire asked) is = absurd is
 words_fit a examine orders.StanzaCreate is = absurd is
+words_fit a (leave path how) order is = absurd is
 words_fit a (drain place) orders.StanzaCreate is = absurd is
 words_fit a examine (orders.ArchivePush o) is = absurd is
 words_fit a (drain place) (orders.ArchivePush o) is = absurd is
@@ -149,9 +161,9 @@ words_fit a (drain place) (orders.Restore o) is = absurd is
 words_fit a examine (orders.Info asked) is = absurd is
 words_fit a (drain place) (orders.Info asked) is = absurd is
 words_fit a examine orders.Verify is = tt
-words_fit a examine (orders.ArchivePushAsync o) is = absurd is
+words_fit a examine orders.ArchivePushAsync is = absurd is
 words_fit a (drain place) orders.Verify is = absurd is
-words_fit a (drain place) (orders.ArchivePushAsync o) is = tt
+words_fit a (drain place) orders.ArchivePushAsync is = tt
 words_fit a examine (orders.Expire asked) is = absurd is
 words_fit a (drain place) (orders.Expire asked) is = absurd is
 words_fit a (expire rules) orders.StanzaCreate is = absurd is
@@ -162,7 +174,7 @@ words_fit a (expire rules) (orders.BackupRunning o) is = absurd is
 words_fit a (expire rules) (orders.Restore o) is = absurd is
 words_fit a (expire rules) (orders.Info asked) is = absurd is
 words_fit a (expire rules) orders.Verify is = absurd is
-words_fit a (expire rules) (orders.ArchivePushAsync o) is = absurd is
+words_fit a (expire rules) orders.ArchivePushAsync is = absurd is
 words_fit a (expire rules) (orders.Expire asked) is = tt
 
 -- the order of a restore is asked for
@@ -175,6 +187,7 @@ restore_asked (backup_running how) folder o is = absurd is
 restore_asked (restore set how) folder o is = (set, ap (restore set) (sym is.1), is.2)
 restore_asked (report form) folder o is = absurd is
 restore_asked examine folder o is = absurd is
+restore_asked (leave path how) folder o is = absurd is
 restore_asked (drain place) folder o is = absurd is
 restore_asked (expire rules) folder o is = absurd is
 
@@ -188,6 +201,7 @@ taking_asked (backup_running how) folder o is = absurd is
 taking_asked (restore set how) folder o is = absurd is
 taking_asked (report form) folder o is = absurd is
 taking_asked examine folder o is = absurd is
+taking_asked (leave path how) folder o is = absurd is
 taking_asked (drain place) folder o is = absurd is
 taking_asked (expire rules) folder o is = absurd is
 
@@ -201,16 +215,49 @@ running_asked (backup_running how) folder o is = ap backup_running (sym is.1)
 running_asked (restore set how) folder o is = absurd is
 running_asked (report form) folder o is = absurd is
 running_asked examine folder o is = absurd is
+running_asked (leave path how) folder o is = absurd is
 running_asked (drain place) folder o is = absurd is
 running_asked (expire rules) folder o is = absurd is
 
-pub behind_words : (a : Asked) (b k : Seen) (o : Order) → IsOrder a.request a.data_folder o → (result : Result Outcome Fault) → ComesBehind a b k result
-behind_words a b k o is (Ok x) = tt
-behind_words a b k o is (Err e) = inr (words_fit a a.request o is)
+-- and a file that is left to a drain
+left_fits : (a : Asked) (q : Request) (o : LeaveOrder) → IsLeft q a.data_folder o → WordsFit a q
+left_fits a create o is = absurd is
+left_fits a (push path) o is = absurd is
+left_fits a (leave path how) o is = (o.push.name, subst (λ (f : Text). IsWalPath f path o.push.name) is.0 (subst (λ (p : Text). IsWalPath o.push.folder.now p o.push.name) is.1 o.push.named))
+left_fits a (drain place) o is = absurd is
+left_fits a (get word path) o is = absurd is
+left_fits a (backup how) o is = absurd is
+left_fits a (backup_running how) o is = absurd is
+left_fits a (restore set how) o is = absurd is
+left_fits a (report form) o is = absurd is
+left_fits a examine o is = absurd is
+left_fits a (expire rules) o is = absurd is
+
+course_fits : (a : Asked) (c : Course) → IsCourse a.request a.data_folder c → WordsFit a a.request
+course_fits a (courses.Staged o) is = words_fit a a.request o is
+course_fits a (courses.Left o) is = left_fits a a.request o is
+
+-- the order of archive-push:async is asked for
+pub drain_asked : (q : Request) (folder : Text) → IsOrder q folder orders.ArchivePushAsync → (place : Text) × (q ≡ drain place)
+drain_asked create folder is = absurd is
+drain_asked (push path) folder is = absurd is
+drain_asked (leave path how) folder is = absurd is
+drain_asked (drain place) folder is = (place, refl)
+drain_asked (get word path) folder is = absurd is
+drain_asked (backup how) folder is = absurd is
+drain_asked (backup_running how) folder is = absurd is
+drain_asked (restore set how) folder is = absurd is
+drain_asked (report form) folder is = absurd is
+drain_asked examine folder is = absurd is
+drain_asked (expire rules) folder is = absurd is
+
+pub behind_words : (a : Asked) (b k : Seen) (c : Course) → IsCourse a.request a.data_folder c → (result : Result Outcome Fault) → ComesBehind a b k result
+behind_words a b k c is (Ok x) = tt
+behind_words a b k c is (Err e) = inr (course_fits a c is)
 
 -- nothing was done but to write the output
 pub is_idle : (b : Seen) (o : SinkState) → IsIdle b (record b { out = o })
-is_idle b o = record { repo = still_self b.repo.view; opened = refl; spool = still_self b.spool.view; tree = refl; server = refl; others = refl; clock = refl; locks = refl; links = refl }
+is_idle b o = record { repo = still_self b.repo.view; opened = refl; spool_opened = refl; spool = still_self b.spool.view; tree = refl; server = refl; others = refl; clock = refl; locks = refl; links = refl }
 
 pub is_behind : (a : Asked) (b : Seen) (result : Result Outcome Fault) (e : Fault) → IsErrAnd result (λ f. f ≡ e) → WordsCause a e → ComesBehind a b b result
 is_behind a b (Ok x) e is h = tt

@@ -12,6 +12,8 @@ use Rattle.pgb_stage.specs.Reached.{fails_early, back_if}
 use Rattle.pgb_stage.specs.Texts.{shown, stage_status, stage_message, object_status, object_message}
 use Rattle.pgb_create.specs.Texts.{create_status, create_message}
 use Rattle.pgb_create.specs.Creating.{create_early}
+use Rattle.pgb_leave.specs.Texts.{leave_status, leave_message}
+use Rattle.pgb_leave.specs.Pushing.{leave_early}
 use Rattle.pgb_drained.specs.Drained.{drain_early, drain_status}
 use Rattle.pgb_push.specs.Texts.{push_status, push_message}
 use Rattle.pgb_push.specs.Faults.{push_early}
@@ -28,7 +30,7 @@ use Rattle.pgb_examine.specs.Texts.{examine_status, examine_message}
 use Rattle.pgb_prune.specs.Faults.{prune_early}
 use Rattle.pgb_prune.specs.Texts.{prune_status, prune_message, behind_status, behind_message}
 use Rattle.pgb_command.specs.declared.fault.CommandFault.{CommandFault}
-use Rattle.pgb_command.specs.declared.fault.CommandFault.TheVariants.{Create, Push, Drain, Get, Take, TakeOnline, Recover, Examine, Prune}
+use Rattle.pgb_command.specs.declared.fault.CommandFault.TheVariants.{Create, Push, Leave, Drain, Get, Take, TakeOnline, Recover, Examine, Prune}
 use Rattle.pgb_command.specs.declared.fault.Fault.{Fault}
 use Rattle.pgb_command.specs.declared.fault.Fault.TheVariants.{Usage as OfUsage, Stage, Command, Behind, Failed, NoMemory}
 
@@ -52,6 +54,7 @@ usage_status UsageNoMemory = 90
 abbrev pub command_status : CommandFault → ℕ
 command_status (Create fault) = create_status fault
 command_status (Push fault) = push_status fault
+command_status (Leave name fault) = leave_status fault
 command_status (Drain fault) = drain_status fault
 command_status (Get fault) = get_status fault
 command_status (Take fault) = later_status fault
@@ -74,6 +77,7 @@ status_of NoMemory = 90
 abbrev pub command_early : CommandFault → Bool
 command_early (Create fault) = create_early fault
 command_early (Push fault) = push_early fault
+command_early (Leave name fault) = leave_early fault
 command_early (Drain fault) = drain_early fault
 command_early (Get fault) = get_early fault
 command_early (Take fault) = later_early fault
@@ -146,6 +150,7 @@ usage_message UsageNoMemory = codes "out of memory"
 abbrev pub command_message : CommandFault → Text
 command_message (Create fault) = create_message fault
 command_message (Push fault) = push_message fault
+command_message (Leave name fault) = leave_message (string_bytes name) fault
 command_message (Drain fault) = push_message fault
 command_message (Get fault) = get_message fault
 command_message (Take fault) = later_message fault

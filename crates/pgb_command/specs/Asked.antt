@@ -1,5 +1,5 @@
 -- What a command is told by its words and its configuration (pgBackRest command reference and configuration reference).
-use Rattle.std.specs.Prelude.{◌≡◌, ◌≤◌, ℕ, ◌^◌, Bool, true, false, List, [], ◌∷◌, length, Option, Some, None, Result, Ok, Err, IfSome, IsSome, if◌then◌else◌}
+use Rattle.std.specs.Prelude.{◌≡◌, ◌≤◌, ℕ, ◌^◌, ◌++◌, codes, Bool, true, false, List, [], ◌∷◌, length, Option, Some, None, Result, Ok, Err, IfSome, IsSome, if◌then◌else◌}
 use Rattle.pgb_outside.specs.Content.{Content}
 use Rattle.pgb_model.specs.declared.labels.Kind.{Kind}
 use Rattle.pgb_model.specs.Text.{Text}
@@ -64,10 +64,16 @@ pub record RestoreHow : Type 0 where
   pub delta : Bool
   pub recovery : RecoveryType
 
--- which command, the file that archive-push is to store, the spool of archive-push:async, the file that archive-get is to serve and where, how a stopped server is backed up, how a running one is, the label of the backup to restore and how, the form of info's report, and the rules of an expiry; verify has nothing more to be told
+-- how a file is left to a drain: by which spool (option `spool-path`), and how many turns of others are waited for at most (option `archive-timeout`)
+pub record LeaveHow : Type 0 where
+  pub spool : Text
+  pub turns : ℕ
+
+-- which command, the file that archive-push is to store, the one that it is to leave to a drain and how, the spool of archive-push:async, the file that archive-get is to serve and where, how a stopped server is backed up, how a running one is, the label of the backup to restore and how, the form of info's report, and the rules of an expiry; verify has nothing more to be told
 pub data Request : Type 0 where
   create : Request
   push : (path : Text) → Request
+  leave : (path : Text) (how : LeaveHow) → Request
   drain : (place : Text) → Request
   get : (name path : Text) → Request
   backup : (how : BackupHow) → Request
@@ -103,6 +109,10 @@ pub record Wanted : Type 0 where
   pub spool : Text
   pub rules : Rules
 
+-- a file is stored at once, or in the background it is left to a drain
+abbrev pub push_by : Wanted → Text → Request
+push_by m path = if m.background then leave path (record { spool = m.spool; turns = m.turns }) else push path
+
 -- with as many workers, and of this kind
 abbrev pub how_by : Wanted → BackupHow
 how_by m = record { workers = m.workers; kind = kind_by m.kind; delta = m.delta }
@@ -126,7 +136,7 @@ restore_by m = restore m.set (record { workers = m.workers; delta = m.delta; rec
 -- what a verb asks for, in this manner and with its parameters; or what isn't built
 abbrev pub request_by : Verb → Wanted → List Text → Result Request Unbuilt
 request_by StanzaCreate m given = Ok create
-request_by ArchivePush m given = if m.background then Err Background else Ok (push (first_of given))
+request_by ArchivePush m given = Ok (push_by m (first_of given))
 request_by ArchivePushAsync m given = Ok (drain m.spool)
 request_by ArchiveGet m given = if m.background then Err Background else Ok (get (first_of given) (second_of given))
 request_by Backup m given = backup_by m
@@ -205,6 +215,11 @@ pub record Asked : Type 0 where
   pub server : Option Server
   pub request : Request
   pub expires : Option Rules
+
+-- The words with which a drain is started: archive-push:async of the same stanza at the same places, whatever a configuration says.
+abbrev pub drain_words : Asked → Text → List Text
+drain_words a spool = codes "--no-config" ∷ (codes "--stanza=" ++ a.stanza) ∷ (codes "--pg1-path=" ++ a.data_folder) ∷ (codes "--repo1-path=" ++ a.repository)
+    ∷ (codes "--lock-path=" ++ a.lock_folder) ∷ (codes "--spool-path=" ++ spool) ∷ codes "archive-push:async" ∷ []
 
 -- the command's own part, without the expiry that follows
 abbrev pub alone : Asked → Asked

@@ -1,7 +1,5 @@
 -- What the program answers and does, from the words on.
-use Rattle.std.specs.Prelude.{◌≡◌, ◌≢◌, ◌≤◌, ◌⊎◌, ◌++◌, ℕ, true, false, List, [], Option, None, Result, Ok, Err, String, map, option_map, string_bytes}
-use Rattle.std.specs.declared.alloc.Global.{Global}
-use Rattle.pgb_outside.specs.Content.{Content}
+use Rattle.std.specs.Prelude.{◌≡◌, ◌≢◌, ◌≤◌, ◌⊎◌, ◌++◌, ℕ, true, false, List, [], None, Result, Ok, Err, OnOk, option_map}
 use Rattle.pgb_disk.specs.Store.{ChangesOnly}
 use Rattle.pgb_stanza.specs.Owned.{IsOfPairs}
 use Rattle.pgb_model.specs.Text.{Text}
@@ -18,9 +16,9 @@ use Rattle.pgb_command.specs.declared.fault.Fault.{Fault}
 use Rattle.pgb_command.specs.declared.fault.Fault.TheVariants.{Stage, NoMemory}
 use Rattle.pgb_create.specs.Talking.{Ended, IsServerRefusal}
 use Rattle.pgb_command.specs.Answers.{Ending, status, status_of, ending_of, answer_of, lines_of}
-use Rattle.pgb_command.specs.Asked.{Request, create, backup_running, Asked, MayAsk, Asks, WordsSettle, IsAsked, requested}
+use Rattle.pgb_command.specs.Asked.{Request, create, backup_running, Asked, MayAsk, WordsSettle, IsAsked, requested}
 use Rattle.pgb_command.specs.Configuring.{ConfigCause}
-use Rattle.pgb_command.specs.Did.{IsIdle, Did, ComesBehind, Brackets, Cause, OnReady, LastsAfter, HealsPairs, ArePlacesOpened, TakesAll}
+use Rattle.pgb_command.specs.Did.{IsIdle, Did, ComesBehind, Acknowledges, Brackets, Cause, OnReady, LastsAfter, HealsPairs, ArePlacesOpened, TakesAll}
 use Rattle.pgb_command.specs.Output.{IsTold}
 use Rattle.pgb_command.specs.Tables.{known, plan_of, manner_of, Promise, OnReader, OnCreate, OnExpire, Expires, OnOther, FolderGoes, FolderStays, Unless, TurnsTold, uses_workers, uses_clock, uses_turns}
 
@@ -37,6 +35,7 @@ pub record Carries (a : Asked) (unknown : List Text) (before after : Seen) (resu
   pub ended : Result Outcome Fault
   pub words : ComesBehind a before after ended
   pub did : Did a before after ended
+  pub left : OnOk ended (Acknowledges a before after)
   pub brackets : Brackets a before after ended
   pub answered : IsAnswered unknown before after ended result
 
@@ -87,12 +86,13 @@ pub record Finishes (a : Asked) (before after : Seen) : Type 0 where
 abbrev pub EndsWell : ℕ → Type 0
 EndsWell status = (status ≤ 1) ⊎ (status ≡ 65)
 
--- at one of these: it ended in this way, keeps its promise, also of all that a crash leaves, and wrote its lines
+-- at one of these: it ended in this way, keeps its promise, also of all that a crash leaves, a file that it left to a drain is stored, and it wrote its lines
 pub record Fulfils (a : Asked) (before after : Seen) (result : ℕ) : Type 0 where
   pub outcome : Outcome
   pub is : result ≡ status (ending_of (Ok outcome))
   pub promise : OnReady a (known before) (λ old. Promise a a.request old (known after) outcome)
   pub lasts : LastsAfter a before after outcome
+  pub left : Acknowledges a before after
   pub unknown : List Text
   pub wrote : after.out.written ≡ option_map (λ (text : Text). text ++ lines_of (answer_of unknown (Ok outcome))) before.out.written
 
@@ -136,14 +136,6 @@ Completes words before after result = ((fault : Fault) → fault ≢ NoMemory �
 -- after a server's answer that is refused the last that was said to it is the end, unless the connection failed; at 70 and 71 it may have been something else that was too long or too many, and then nothing was said
 abbrev pub ClosesTalk : Seen → Seen → ℕ → Type 0
 ClosesTalk before after result = IsServerRefusal result → Ended after.server.sent ⊎ (Failed before after Server ⊎ ((70 ≤ result) × (after.server.sent ≡ before.server.sent)))
-
--- this holds of each command that the words ask for
-abbrev pub Each : List Text → Option Content → (Asked → Type 0) → Type 0
-Each words files P = (a : Asked) → Asks words files a → P a
-
--- so it is between what the objects told before it and what they tell behind it
-abbrev pub OnEach : {W : Type 0} → (W → Seen) → (Asked → Seen → Seen → Type 0) → List (String Global) → W → W → Type 0
-OnEach told P words old new = Each (map string_bytes words) (told old).config.files (λ a. P a (told old) (told new))
 
 -- with this status it turned back, where that is one of a command that ends before its own first step
 abbrev pub StaysAt : ℕ → Asked → Seen → Seen → Type 0

@@ -1,5 +1,5 @@
 -- What a command did, whichever it is.
-use Rattle.std.specs.Prelude.{◌≡◌, ◌⊎◌, ℕ, Bool, true, false, List, Option, None, Result, String, string_bytes, IfOk, IfErr, OnOk, IfSome, IsSome}
+use Rattle.std.specs.Prelude.{◌≡◌, ◌⊎◌, ℕ, Bool, true, false, List, Option, Some, None, Result, String, string_bytes, IfOk, IfErr, OnOk, IfSome, IsSome}
 use Rattle.std.specs.declared.alloc.Global.{Global}
 use Rattle.pgb_outside.specs.Content.{Content}
 use Rattle.pgb_outside.specs.States.{IsOpened, OpensOnly}
@@ -15,6 +15,13 @@ use Rattle.pgb_stage.specs.declared.outcome.Outcome.TheVariants.{Finished}
 use Rattle.pgb_stage.specs.Plans.{Heals, AreHealed, HealsToLast, TakesLocks}
 use Rattle.pgb_model.specs.Log.{Done, KeepsRepository}
 use Rattle.pgb_model.specs.Repository.{Repository}
+use Rattle.pgb_model.specs.Walks.{IsTight}
+use Rattle.pgb_model.specs.declared.wal.ArchiveName.{ArchiveName}
+use Rattle.pgb_model.specs.Names.{wal_text}
+use Rattle.sha1.specs.Sha1.{sha1}
+use Rattle.pgb_push.specs.LogFile.{told_file}
+use Rattle.pgb_push.specs.WalPath.{IsWalPath, wal_path}
+use Rattle.pgb_leave.specs.Leaving.{IsAcknowledged}
 use Rattle.pgb_stage.specs.Runs.{Runs, Takes, On, OnNone, DoesPart, DoesWhole, IsLookedAt}
 use Rattle.pgb_stage.specs.Seen.{Seen, Failed, AreLater}
 use Rattle.pgb_prepare.specs.Stages.{StageCause}
@@ -30,12 +37,12 @@ use Rattle.pgb_expire.specs.Expiry.{retention}
 use Rattle.pgb_model.specs.Steps.{Expire}
 use Rattle.pgb_stage.specs.declared.plan.Settling.TheVariants.{Whole}
 use Rattle.pgb_stage.specs.Reached.{OnFinished}
-use Rattle.pgb_command.specs.declared.fault.CommandFault.TheVariants.{Create, Drain, Take, TakeOnline, Examine, Prune}
+use Rattle.pgb_command.specs.declared.fault.CommandFault.TheVariants.{Create, Leave, Drain, Take, TakeOnline, Examine, Prune}
 use Rattle.pgb_command.specs.declared.fault.Fault.{Fault}
 use Rattle.pgb_command.specs.declared.fault.Fault.TheVariants.{Usage, Stage, Command, Behind, Failed as ObjectFailed, NoMemory}
 use Rattle.pgb_command.specs.Answers.{status, reached_of, ending_of}
-use Rattle.pgb_command.specs.Asked.{Asked}
-use Rattle.pgb_command.specs.Tables.{Known, known, plan_of, manner_of, WordsFit, CommandCause, IsBackedUp, Promise, Lasts, OnReader, OnCreate, OnExpire, Expires, OnOther, FolderGoes, FolderStays, Unless, TurnsTold, uses_workers, uses_clock, uses_turns}
+use Rattle.pgb_command.specs.Asked.{Request, leave, Asked}
+use Rattle.pgb_command.specs.Tables.{Known, known, plan_of, spool_of, manner_of, WordsFit, CommandCause, IsBackedUp, Promise, Lasts, OnReader, OnCreate, OnExpire, Expires, OnOther, FolderGoes, FolderStays, Unless, TurnsTold, uses_workers, uses_clock, uses_turns}
 
 -- ---- what stays
 
@@ -71,6 +78,7 @@ pub record Spares (a : Asked) (before after : Seen) (result : Result Outcome Fau
 pub record IsIdle (before after : Seen) : Type 0 where
   pub repo : IsStill before.repo.view after.repo.view
   pub opened : after.repo.opened ≡ before.repo.opened
+  pub spool_opened : after.spool.opened ≡ before.spool.opened
   pub spool : IsStill before.spool.view after.spool.view
   pub tree : after.tree ≡ before.tree
   pub server : after.server ≡ before.server
@@ -81,6 +89,7 @@ pub record IsIdle (before after : Seen) : Type 0 where
 
 -- the places that are open are those that were
 pub record SamePlaces (before after : Seen) : Type 0 where
+  pub spool : after.spool.opened ≡ before.spool.opened
   pub repo : after.repo.opened ≡ before.repo.opened
   pub tree : after.tree.opened ≡ before.tree.opened
 
@@ -102,7 +111,7 @@ OwnCause a before after NoMemory = Unit {0}
 -- the pairs that the command heals agree still, and no stop takes a member of them away
 pub record StaysHealed (a : Asked) (before after : Seen) : Type 0 where
   pub agree : IsSome before.repo.view.now → IfSome before.repo.view.now (AreHealed (plan_of a.request).pairs a.stanza) → IfSome after.repo.view.now (AreHealed (plan_of a.request).pairs a.stanza)
-  pub lasts : IsLookedAt a.stanza before.repo.view → HealsToLast (plan_of a.request).pairs a.stanza before.repo.view → HealsToLast (plan_of a.request).pairs a.stanza after.repo.view
+  pub lasts : IsTight a.stanza before.repo.view → IsSome before.repo.view.now → HealsToLast (plan_of a.request).pairs a.stanza before.repo.view → HealsToLast (plan_of a.request).pairs a.stanza after.repo.view
 
 pub record Ran (a : Asked) (before after : Seen) (result : Result Outcome Fault) : Type 0 where
   pub steps : On (manner_of a a.request (known before) (known after)) (λ command. Runs (plan_of a.request).settling a.stanza command (reached_of (ending_of result)) before.repo.view before.spool.view after.repo.view after.spool.view)
@@ -139,6 +148,7 @@ pub record Followed (stanza : Text) (rules : Rules) (before after : Seen) (lines
 -- why a command's words are refused
 abbrev pub WordsCause : Asked → Fault → Type 0
 WordsCause a (Command (Create fault)) = ⊥
+WordsCause a (Command (Leave name fault)) = ⊥
 WordsCause a (Command (Drain fault)) = ⊥
 WordsCause a (Command (Take fault)) = ⊥
 WordsCause a (Command (TakeOnline fault)) = ⊥
@@ -151,6 +161,24 @@ WordsCause a other = ⊥
 -- a refusal is of the command's words, and nothing was done, not even a place opened; or it comes behind words that fit
 abbrev pub ComesBehind : Asked → Seen → Seen → Result Outcome Fault → Type 0
 ComesBehind a before after result = IfErr result (λ fault. (WordsCause a fault × IsIdle before after) ⊎ WordsFit a a.request)
+
+-- ---- a file that is left to a drain
+
+-- A file of the log is stored that has these bytes: a drain has stored a file of its name with their sum, before the command or in one of the turns that it waited, and what a turn stored is in all that a crash leaves.
+pub record IsLeftStored (a : Asked) (path : Text) (before after : Seen) : Type 0 where
+  pub name : ArchiveName
+  pub named : IsWalPath a.data_folder path name
+  pub stored : IfSome (told_file before.tree.nodes (wal_path (wal_text name))) (λ bytes. IfSome after.others.account (λ k. k.stanza ≡ a.stanza
+      → IsAcknowledged name (sha1 bytes) before.others.account k before.repo.view after.repo.view before.spool.view))
+
+-- this holds of a command that left a file to a drain
+abbrev pub OnLeft : Request → (Text → Type 0) → Type 0
+OnLeft (leave path how) P = P path
+OnLeft other P = Unit {0}
+
+-- it is acknowledged only where it is stored
+abbrev pub Acknowledges : Asked → Seen → Seen → Type 0
+Acknowledges a before after = OnLeft a.request (λ path. IsLeftStored a path before after)
 
 -- ---- all of it
 
@@ -167,6 +195,15 @@ Cause a before after (Behind lines fault) = OnReady a (known before) (λ old. En
 Cause a before after (ObjectFailed object) = Failed before after object
 Cause a before after NoMemory = Unit {0}
 
+-- the spool that is named is opened alone, and none where none is
+abbrev pub OpensNamed : Option Text → List Text → List Text → Type 0
+OpensNamed (Some place) old new = OpensOnly place old new
+OpensNamed None old new = new ≡ old
+
+abbrev pub IsOpenedNamed : Option Text → List Text → List Text → Type 0
+IsOpenedNamed (Some place) old new = IsOpened place old new
+IsOpenedNamed None old new = new ≡ old
+
 -- no place but this is opened, and none where it isn't needed
 abbrev pub OpensIf : Bool → Text → List Text → List Text → Type 0
 OpensIf true place old new = OpensOnly place old new
@@ -178,11 +215,13 @@ IsOpenedIf false place old new = new ≡ old
 
 -- no places but those that are asked for are opened
 pub record OpensPlaces (a : Asked) (before after : Seen) : Type 0 where
+  pub spool : OpensNamed (spool_of a.request) before.spool.opened after.spool.opened
   pub folder : OpensIf (plan_of a.request).folder a.data_folder before.tree.opened after.tree.opened
   pub repository : OpensOnly a.repository before.repo.opened after.repo.opened
 
 -- each of them was
 pub record ArePlacesOpened (a : Asked) (before after : Seen) : Type 0 where
+  pub spool : IsOpenedNamed (spool_of a.request) before.spool.opened after.spool.opened
   pub folder : IsOpenedIf (plan_of a.request).folder a.data_folder before.tree.opened after.tree.opened
   pub repository : IsOpened a.repository before.repo.opened after.repo.opened
 

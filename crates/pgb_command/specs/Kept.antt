@@ -1,4 +1,4 @@
--- Which objects the stages of a command leave as they were. Own.
+-- Which objects a command, or one of its stages, leaves as they were. Own.
 use Rattle.std.specs.Prelude.{◌≡◌}
 use Rattle.pgb_command.specs.declared.outside.Outside.{Outside}
 
@@ -29,3 +29,19 @@ module _ {D S T V A C K I O L U : Type 0} where
     links = new.links;
     turns = new.turns;
   }
+
+  -- the workers, and the choice among them
+  abbrev pub KeepsWorkers : Outside D S T V A C K I O L U → Outside D S T V A C K I O L U → Type 0
+  KeepsWorkers old new = (new.links ≡ old.links) × (new.turns ≡ old.turns)
+
+  -- the spool, and other processes
+  abbrev pub KeepsSpool : Outside D S T V A C K I O L U → Outside D S T V A C K I O L U → Type 0
+  KeepsSpool old new = (new.spool ≡ old.spool) × (new.aside ≡ old.aside)
+
+  -- the data folder and the locks
+  abbrev pub KeepsFolder : Outside D S T V A C K I O L U → Outside D S T V A C K I O L U → Type 0
+  KeepsFolder old new = (new.tree ≡ old.tree) × (new.locks ≡ old.locks)
+
+  -- all but the configuration and the output
+  abbrev pub OnlyAnswers : Outside D S T V A C K I O L U → Outside D S T V A C K I O L U → Type 0
+  OnlyAnswers old new = new ≡ record old { config = new.config; out = new.out }

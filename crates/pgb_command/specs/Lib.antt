@@ -9,3 +9,4 @@ pub mod Told
 pub mod Tables
 pub mod Did
 pub mod Causes
+pub mod Ranges

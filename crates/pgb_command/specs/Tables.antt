@@ -1,5 +1,5 @@
 -- The tables of the commands: a line for each in each.
-use Rattle.std.specs.Prelude.{◌≡◌, ◌≢◌, ◌⊎◌, ◌++◌, ℕ, take, Bool, true, false, List, Option, None, Some, String, option_map, string_bytes, IfSome, IsSome, IsSomeAnd}
+use Rattle.std.specs.Prelude.{◌≡◌, ◌≢◌, ◌⊎◌, ◌++◌, ℕ, take, Bool, true, false, List, [], Option, None, Some, String, option_map, string_bytes, IfSome, IsSome, IsSomeAnd}
 use Rattle.std.specs.declared.alloc.Global.{Global}
 use Rattle.pgb_outside.specs.Content.{Content}
 use Rattle.pgb_outside.specs.Crash.{Leaves}
@@ -33,7 +33,15 @@ use Rattle.pgb_create.specs.Creating.{IsCreated, CreateCause}
 use Rattle.pgb_push.specs.Commands.{IsPushOf}
 use Rattle.pgb_push.specs.Causes.{IsStored, IsLasting, PushCause}
 use Rattle.pgb_stage.specs.Reached.{OnFinished}
-use Rattle.pgb_push.specs.WalPath.{IsWalPath}
+use Rattle.pgb_push.specs.WalPath.{IsWalPath, wal_path}
+use Rattle.pgb_push.specs.WalCause.{WordCause}
+use Rattle.pgb_push.specs.LogFile.{told_file}
+use Rattle.sha1.specs.Sha1.{sha1}
+use Rattle.pgb_stored.specs.Causes.{limit_of}
+use Rattle.pgb_model.specs.Names.{wal_text}
+use Rattle.pgb_leave.specs.declared.fault.LeaveFault.{LeaveFault}
+use Rattle.pgb_leave.specs.Heard.{Heard as WaitHeard, HeardCause}
+use Rattle.pgb_leave.specs.Pushing.{IsWaitOf, MissCause}
 use Rattle.pgb_get.specs.Getting.{AreWords, GotBy, GivenBy, GetCause, IsServed, ChangesPath, served_path}
 use Rattle.pgb_take.specs.Causes.{Before}
 use Rattle.pgb_take_later.specs.declared.order.LaterOrder.{LaterOrder}
@@ -47,7 +55,7 @@ use Rattle.pgb_take_online.specs.Taken.{TakesOnline}
 use Rattle.pgb_take_online.specs.Told.{IsLabelTold}
 use Rattle.pgb_recover.specs.declared.fault.RecoverFault.{RecoverFault}
 use Rattle.pgb_recover.specs.Fetching.{options_by}
-use Rattle.pgb_recover.specs.Words.{TellsSet, WordCause}
+use Rattle.pgb_recover.specs.Words.{TellsSet, WordCause as SetCause}
 use Rattle.pgb_recover.specs.Restoring.{Before as BeforeRestore, Recovers, GivesBackup}
 use Rattle.pgb_recover.specs.Causes.{RecoverCause}
 use Rattle.pgb_restore.specs.Finished.{IsFinished}
@@ -62,8 +70,8 @@ use Rattle.pgb_prune.specs.Behind.{AddsLines, IsFollowed, WasTold}
 use Rattle.pgb_prune.specs.Faults.{PruneCause}
 use Rattle.pgb_prune.specs.Pruning.{counts_days, IsMoment, TellsMoment, IsExpiryBy, IsPruned}
 use Rattle.pgb_command.specs.declared.fault.CommandFault.{CommandFault}
-use Rattle.pgb_command.specs.declared.fault.CommandFault.TheVariants.{Create, Push, Drain, Get, Take, TakeOnline, Recover, Examine, Prune}
-use Rattle.pgb_command.specs.Asked.{Request, create, push, drain, get, backup, backup_running, restore, report, examine, expire, BackupHow, RunningHow, RestoreHow, Asked}
+use Rattle.pgb_command.specs.declared.fault.CommandFault.TheVariants.{Create, Push, Leave, Drain, Get, Take, TakeOnline, Recover, Examine, Prune}
+use Rattle.pgb_command.specs.Asked.{Request, create, push, leave, drain, get, backup, backup_running, restore, report, examine, expire, BackupHow, RunningHow, RestoreHow, LeaveHow, Asked, drain_words}
 use Rattle.pgb_command.specs.Told.{taking_of}
 
 -- what the objects hold, as far as they tell it
@@ -83,7 +91,8 @@ known s = record { repo = s.repo.view.now; spool = s.spool.view.now; nodes = s.t
 abbrev pub plan_of : Request → Plan
 plan_of create = record { settling = Whole; folder = true; backup_lock = true; archive_lock = true; control = true; pairs = Unread }
 plan_of (push path) = record { settling = Looked; folder = true; backup_lock = false; archive_lock = true; control = true; pairs = HealArchive }
-plan_of (drain place) = record { settling = Whole; folder = true; backup_lock = false; archive_lock = true; control = true; pairs = ReadArchive }
+plan_of (leave path how) = record { settling = Looked; folder = true; backup_lock = false; archive_lock = false; control = false; pairs = Unread }
+plan_of (drain place) = record { settling = Whole; folder = true; backup_lock = false; archive_lock = true; control = true; pairs = HealArchive }
 plan_of (get name path) = record { settling = Looked; folder = true; backup_lock = false; archive_lock = false; control = true; pairs = ReadArchive }
 plan_of (backup how) = record { settling = Whole; folder = true; backup_lock = true; archive_lock = false; control = true; pairs = ReadBoth }
 plan_of (backup_running how) = record { settling = Whole; folder = true; backup_lock = true; archive_lock = false; control = true; pairs = ReadBoth }
@@ -91,6 +100,12 @@ plan_of (restore set how) = record { settling = Whole; folder = true; backup_loc
 plan_of (report form) = record { settling = Whole; folder = false; backup_lock = false; archive_lock = false; control = false; pairs = ReadBoth }
 plan_of examine = record { settling = Whole; folder = false; backup_lock = false; archive_lock = false; control = false; pairs = ReadBoth }
 plan_of (expire rules) = record { settling = Whole; folder = false; backup_lock = true; archive_lock = false; control = false; pairs = ReadBoth }
+
+-- the spool that is opened, where one is
+abbrev pub spool_of : Request → Option Text
+spool_of (leave path how) = Some how.spool
+spool_of (drain place) = Some place
+spool_of request = None
 
 -- stanza-create of the cluster that the folder tells, where it tells one
 abbrev pub IsCreateOf : Nodes → Command → Type 0
@@ -102,6 +117,7 @@ OnCluster nodes P = (told : Control) × IfSome nodes (λ f. FolderTells f told) 
 
 -- what others did meanwhile is told of the stanza that is asked for, where the command waits for turns of theirs
 abbrev pub TurnsTold : Asked → Request → Known → Type 0
+TurnsTold a (leave path how) new = IsSomeAnd new.others.account (λ k. k.stanza ≡ a.stanza)
 TurnsTold a (backup_running how) new = IsSomeAnd new.others.account (λ k. k.stanza ≡ a.stanza)
 TurnsTold a request new = Unit {0}
 
@@ -122,10 +138,15 @@ WithExpiry rules least Is command = (made : Command) × Is made × IsFollowed ru
 abbrev pub IsSomeDrain : Nodes → Command → Type 0
 IsSomeDrain f command = (whole : Bool) × IsDrainOf f whole command
 
+-- it waited the turns by which the account of others went on
+abbrev pub IsWait : Known → Known → Command → Type 0
+IsWait old new command = IsSomeAnd new.others.account (λ k. IsWaitOf old.others.account k command)
+
 -- which command of the repository's log it is, from what the objects hold before and after it
 abbrev pub manner_of : Asked → Request → Known → Known → Manner
 manner_of a create old new = each (λ command. IsSomeAnd old.nodes (λ f. IsCreateOf f command))
 manner_of a (push path) old new = each (λ command. IsSomeAnd old.nodes (λ f. IsPushOf f a.data_folder path command))
+manner_of a (leave path how) old new = provided (TurnsTold a (leave path how) new) (IsWait old new)
 manner_of a (drain place) old new = provided (IsSome old.nodes) (λ command. IsSomeAnd old.nodes (λ f. IsSomeDrain f command))
 manner_of a (get name path) old new = each (λ command. command ≡ Reading)
 manner_of a (backup how) old new = one (WithExpiry a.expires old.clock.least (IsBackupBy how.kind (take how.workers old.links) a.stanza old.repo))
@@ -139,6 +160,7 @@ manner_of a (expire rules) old new = one (IsExpiryBy rules old.clock.least)
 abbrev pub WordsFit : Asked → Request → Type 0
 WordsFit a create = Unit {0}
 WordsFit a (push path) = (name : ArchiveName) × IsWalPath a.data_folder path name
+WordsFit a (leave path how) = (name : ArchiveName) × IsWalPath a.data_folder path name
 WordsFit a (drain place) = Unit {0}
 WordsFit a (get word path) = (name : ArchiveName) × AreWords a.data_folder word path name
 WordsFit a (backup how) = Unit {0}
@@ -176,12 +198,26 @@ found_for a set how old = record { stanza = a.stanza; set = set; repo = old.repo
 
 -- the word names no label, or a backup isn't restored for this
 abbrev pub RestoreCause : Asked → Option Text → RestoreHow → Known → RecoverFault → Type 0
-RestoreCause a set how old fault = WordCause set fault ⊎ ((label : Option Label) × TellsSet set label × RecoverCause (found_for a label how old) fault)
+RestoreCause a set how old fault = SetCause set fault ⊎ ((label : Option Label) × TellsSet set label × RecoverCause (found_for a label how old) fault)
+
+-- what a call finds and hears that leaves a file of this name and sum
+abbrev pub heard_for : Asked → LeaveHow → ArchiveName → Text → Known → Known → WaitHeard
+heard_for a how name sum old new = record { stanza = a.stanza; name = name; sum = sum; words = drain_words a how.spool; most = how.turns; others = old.others; new_others = new.others; spool = old.spool }
+
+-- A file of the log isn't acknowledged that has this name: the data folder hasn't it, or with the sum of its bytes it was refused, or isn't stored yet.
+pub record WaitCause (a : Asked) (path : Text) (how : LeaveHow) (old new : Known) (word : Text) (fault : LeaveFault) : Type 0 where
+  pub name : ArchiveName
+  pub named : IsWalPath a.data_folder path name
+  pub is : word ≡ wal_text name
+  pub why : MissCause path (wal_text name) (limit_of name) old.nodes fault
+      ⊎ ((sum : Text) × IfSome (told_file old.nodes (wal_path (wal_text name))) (λ bytes. sum ≡ sha1 bytes) × HeardCause (heard_for a how name sum old new) fault)
 
 -- why a command is refused, from what the objects hold as its own part begins and what they hold then
 abbrev pub CommandCause : Asked → Request → Known → Known → CommandFault → Type 0
 CommandCause a create old new (Create fault) = OnCluster old.nodes (λ told. CreateCause a.stanza told a.server old.repo old.server.pending fault)
 CommandCause a (push path) old new (Push fault) = PushCause a.stanza a.data_folder path old.repo old.nodes fault
+CommandCause a (leave path how) old new (Push fault) = WordCause a.data_folder path fault
+CommandCause a (leave path how) old new (Leave name fault) = WaitCause a path how old new (string_bytes name) fault
 CommandCause a (drain place) old new (Drain fault) = DrainCause a.stanza old.repo new.repo old.nodes fault
 CommandCause a (get name path) old new (Get fault) = GetCause a.stanza a.data_folder name path old.repo old.nodes fault
 CommandCause a (backup how) old new (Take fault) = ByOrder how (λ o. OnCluster old.nodes (λ told. LaterCause (found_by a how.workers old told) o fault))
@@ -245,6 +281,7 @@ Drains a old new outcome = OnCluster old.nodes (λ told. OnFinished outcome (λ 
 abbrev pub Promise : Asked → Request → Known → Known → Outcome → Type 0
 Promise a create old new outcome = Creates a old new outcome
 Promise a (push path) old new outcome = OnFinished outcome (IsStored a.stanza a.data_folder path old.nodes old.repo new.repo)
+Promise a (leave path how) old new outcome = OnFinished outcome (λ lines. lines ≡ [])
 Promise a (drain place) old new outcome = Drains a old new outcome
 Promise a (get name path) old new outcome = GotBy a.stanza a.data_folder name path old.repo old.nodes new.nodes outcome
     × OnStanza a old.repo (λ s. GivenBy s a.data_folder name path old.nodes new.nodes outcome)
@@ -268,6 +305,7 @@ Lasts a request nodes repo now_nodes outcome = Unit {0}
 abbrev pub OnReader : Request → Type 0 → Type 0
 OnReader create P = Unit {0}
 OnReader (push path) P = Unit {0}
+OnReader (leave path how) P = Unit {0}
 OnReader (drain place) P = Unit {0}
 OnReader (get name path) P = P
 OnReader (backup how) P = Unit {0}
@@ -314,7 +352,7 @@ FolderGoes a (get name path) old new = ChangesPath (served_path a.data_folder pa
 FolderGoes a (restore set how) old new = (new ≡ old.nodes) ⊎ (HasNone control_path new ⊎ ((m : Manifest) × IfSome new (IsFinished a.stanza (take how.workers old.links) (options_by a.stanza how.delta how.recovery) m old.nodes)))
 FolderGoes a request old new = new ≡ old.nodes
 
--- only a backup and a restore use workers, a backup the clock, and that of a running server waits for turns of others; expire uses the clock where the rules count days
+-- only a backup and a restore use workers, a backup the clock, and that of a running server waits for turns of others, as does who leaves a file to a drain; expire uses the clock where the rules count days
 abbrev pub uses_workers : Request → Bool
 uses_workers (backup how) = true
 uses_workers (backup_running how) = true
@@ -327,13 +365,15 @@ uses_clock (backup_running how) = true
 uses_clock (expire rules) = counts_days rules.full
 uses_clock request = false
 
--- only archive-push:async uses the spool, and a running server's backup hands it to others
+-- only archive-push in the background and archive-push:async use the spool, and a running server's backup hands it to others
 abbrev pub uses_spool : Request → Bool
+uses_spool (leave path how) = true
 uses_spool (drain place) = true
 uses_spool (backup_running how) = true
 uses_spool request = false
 
 abbrev pub uses_turns : Request → Bool
+uses_turns (leave path how) = true
 uses_turns (backup_running how) = true
 uses_turns request = false
 

@@ -12,11 +12,14 @@ use Rattle.pgb_recover.specs.Fetching.{recovery_type}
 use Rattle.pgb_recover.specs.Words.{TellsSet}
 use Rattle.pgb_command.specs.declared.settings.Settings.{Settings}
 use Rattle.pgb_command.specs.declared.settings.Request as code
-use Rattle.pgb_command.specs.declared.settings.Request.TheVariants.{StanzaCreate, ArchivePush, ArchivePushAsync, ArchiveGet, Backup, BackupRunning, Restore, Info, Verify, Expire}
+use Rattle.pgb_command.specs.declared.settings.Request.TheVariants.{StanzaCreate, ArchivePush, ArchivePushLeft, ArchivePushAsync, ArchiveGet, Backup, BackupRunning, Restore, Info, Verify, Expire}
 use Rattle.pgb_command.specs.declared.order.Order.{Order}
 use Rattle.pgb_command.specs.declared.order.RunningOrder.{RunningOrder}
+use Rattle.pgb_command.specs.declared.order.LeaveOrder.{LeaveOrder}
+use Rattle.pgb_command.specs.declared.order.Course.{Course}
+use Rattle.pgb_command.specs.declared.order.Course.TheVariants.{Staged, Left}
 use Rattle.pgb_command.specs.declared.order.Order.TheVariants as order
-use Rattle.pgb_command.specs.Asked.{Request, create, push, drain, get, backup, backup_running, restore, report, examine, expire, BackupHow, RunningHow, RestoreHow, Asked, Wanted}
+use Rattle.pgb_command.specs.Asked.{Request, create, push, leave, drain, get, backup, backup_running, restore, report, examine, expire, BackupHow, RunningHow, RestoreHow, LeaveHow, Asked, Wanted}
 
 -- the workers can be numbered, and none has bytes of an earlier answer to give
 pub record AreWorkers (links : List LinkState) : Type 0 where
@@ -26,6 +29,7 @@ pub record AreWorkers (links : List LinkState) : Type 0 where
 abbrev pub request_of : code.Request → Request
 request_of StanzaCreate = create
 request_of (ArchivePush path) = push path.now
+request_of (ArchivePushLeft path spool turns) = leave path.now (record { spool = spool.now; turns = turns })
 request_of (ArchivePushAsync place) = drain place.now
 request_of (ArchiveGet name path) = get name.now path.now
 request_of (Backup workers kind delta) = backup (record { workers = workers; kind = kind; delta = delta })
@@ -70,11 +74,16 @@ running_of o = record { taken = taking_of o.later; fast = o.fast; turns = o.turn
 abbrev pub how_of : RecoverOrder → RestoreHow
 how_of o = record { workers = o.workers; delta = o.delta; recovery = recovery_type o.recovery }
 
+-- how a file is left to a drain by the order
+abbrev pub leaving_of : LeaveOrder → LeaveHow
+leaving_of o = record { spool = o.spool.now; turns = o.turns }
+
 -- the order is what was asked for, with its words read
 abbrev pub IsOrder : Request → Text → Order → Type 0
 IsOrder create folder order.StanzaCreate = Unit {0}
 IsOrder (push path) folder (order.ArchivePush o) = (o.folder.now ≡ folder) × (o.path.now ≡ path)
-IsOrder (drain place) folder (order.ArchivePushAsync asked) = asked.now ≡ place
+IsOrder (drain place) folder order.ArchivePushAsync = Unit {0}
+IsOrder (leave path how) folder order = ⊥
 IsOrder (get name path) folder (order.ArchiveGet o) = (o.folder.now ≡ folder) × (o.word.now ≡ name) × (o.path.now ≡ path)
 IsOrder (backup how) folder (order.Backup o) = (o.take.data_folder.now ≡ folder) × (taking_of o ≡ how)
 IsOrder (backup_running how) folder (order.BackupRunning o) = (o.later.take.data_folder.now ≡ folder) × (running_of o ≡ how)
@@ -83,3 +92,13 @@ IsOrder (report form) folder (order.Info asked) = asked ≡ form
 IsOrder examine folder order.Verify = Unit {0}
 IsOrder (expire rules) folder (order.Expire asked) = asked ≡ rules
 IsOrder request folder other = ⊥
+
+-- a file is left to a drain, as was asked for
+abbrev pub IsLeft : Request → Text → LeaveOrder → Type 0
+IsLeft (leave path how) folder o = (o.push.folder.now ≡ folder) × (o.push.path.now ≡ path) × (leaving_of o ≡ how)
+IsLeft request folder o = ⊥
+
+-- so it is through all stages, or through the places alone
+abbrev pub IsCourse : Request → Text → Course → Type 0
+IsCourse request folder (Staged o) = IsOrder request folder o
+IsCourse request folder (Left o) = IsLeft request folder o

@@ -4,9 +4,9 @@ ghost use Rattle.pgb_options.specs.Commands.{IsCommand};
 ghost use Rattle.pgb_options.specs.Filled.{or_else};
 ghost use Rattle.pgb_table.specs.Values.{is_stanza};
 ghost use Rattle.pgb_options.specs.Settings.{Settled};
-ghost use Rattle.pgb_command.specs.Asked.{request_by, backup_by, expires_by, restore_by, recovery_for, first_of, second_of, requested, IsAsked};
+ghost use Rattle.pgb_command.specs.Asked.{request_by, backup_by, push_by, expires_by, restore_by, recovery_for, first_of, second_of, requested, IsAsked};
 ghost use Rattle.pgb_recover.specs.Fetching.{recovery_type};
-ghost use Rattle.pgb_command.specs.Tables.{plan_of};
+ghost use Rattle.pgb_command.specs.Tables.{plan_of, spool_of};
 ghost use Rattle.pgb_command.specs.Told.{request_of, asked_of, wanted_told};
 
 use crate::server::server_of;
@@ -73,6 +73,21 @@ fn backup_request<'a>(options: &Options) -> Result<Request<'a>, Unbuilt>
     })
 }
 
+// What a push of the file at this path is to do: it is stored at once, or left to a drain.
+fn push_request<'a>(options: &'a Options, path: &'a str) -> Request<'a>
+    ensures { request_of result ≡ push_by (wanted_told options.now) path.now }
+{
+    let turns = options.archive_timeout;
+    if options.archive_async {
+        return Request::ArchivePushLeft {
+            path,
+            spool: &options.spool_path,
+            turns,
+        };
+    }
+    Request::ArchivePush { path }
+}
+
 // How the server is to recover.
 fn recovery_for(options: &Options) -> RecoveryType<'_>
     ensures { recovery_type result
@@ -118,12 +133,8 @@ fn request_of(command: &Command) -> Result<Request<'_>, Unbuilt>
     match command.verb {
         Verb::StanzaCreate => Ok(Request::StanzaCreate),
         Verb::ArchivePush => {
-            if command.options.archive_async {
-                return Err(Unbuilt::Background);
-            }
-            Ok(Request::ArchivePush {
-                path: first_of(&command.given),
-            })
+            let path = first_of(&command.given);
+            Ok(push_request(&command.options, path))
         }
         Verb::ArchivePushAsync => Ok(Request::ArchivePushAsync {
             spool: &command.options.spool_path,
@@ -184,6 +195,16 @@ pub(crate) fn settings_of(command: &Command) -> Result<Settings<'_>, Unbuilt>
     })
 }
 
+/// The spool that is opened for a request, where one is.
+pub(crate) fn spool_of<'a>(request: &Request<'a>) -> Option<&'a str>
+    ensures { option_map (λ p. p.now) result ≡ spool_of (request_of request.now) }
+{
+    match request {
+        Request::ArchivePushLeft { spool, .. } | Request::ArchivePushAsync { spool } => Some(spool),
+        _ => None,
+    }
+}
+
 /// What the stages do for a request.
 pub(crate) fn plan_of(request: &Request<'_>) -> Plan
     ensures { result ≡ plan_of (request_of request.now) }
@@ -213,11 +234,17 @@ pub(crate) fn plan_of(request: &Request<'_>) -> Plan
             pairs: Pairs::HealArchive,
             ..reading
         },
+        Request::ArchivePushLeft { .. } => Plan {
+            settling: Settling::Looked,
+            folder: true,
+            pairs: Pairs::Unread,
+            ..reading
+        },
         Request::ArchivePushAsync { .. } => Plan {
             folder: true,
             archive_lock: true,
             control: true,
-            pairs: Pairs::ReadArchive,
+            pairs: Pairs::HealArchive,
             ..reading
         },
         Request::ArchiveGet { .. } => Plan {

@@ -1,12 +1,13 @@
 // What a command answers in place of Ok, by layers.
 ghost use Rattle.std.specs.Prelude.{◌≡◌};
 ghost use Rattle.pgb_command.specs.Answers.{status_of, usage_status, command_status};
-ghost use Rattle.pgb_command.specs.Faults.{lift, of_stage, of_create, of_push, of_drain, of_get, of_take, of_take_online, of_recover, of_examine, of_prune};
+ghost use Rattle.pgb_command.specs.Faults.{lift, of_stage, of_create, of_push, of_leave, of_drain, of_get, of_take, of_take_online, of_recover, of_examine, of_prune};
 
 use pgb_create::{CreateFault, create_status};
 use pgb_drained::drain_status;
 use pgb_examine::{ExamineFault, examine_status};
 use pgb_get::{GetFault, get_status};
+use pgb_leave::{LeaveFault, leave_status};
 use pgb_options::Usage;
 use pgb_prune::{BehindFault, PruneFault, behind_status, prune_status};
 use pgb_push::{PushFault, push_status};
@@ -21,6 +22,8 @@ use std::alloc::AllocError;
 pub enum CommandFault {
     Create(CreateFault),
     Push(PushFault),
+    /// Of the file of this name.
+    Leave(String, LeaveFault),
     Drain(PushFault),
     Get(GetFault),
     Take(LaterFault),
@@ -237,6 +240,21 @@ pub(crate) fn drain_end(ended: Result<Outcome, Halt<PushFault>>) -> Result<Outco
     }
 }
 
+/// How archive-push in the background ended, of the file of this name.
+pub(crate) fn leave_end(
+    name: String,
+    ended: Result<Outcome, Halt<LeaveFault>>,
+) -> Result<Outcome, Fault>
+    ensures { result ≡ lift (of_leave name) ended }
+{
+    match ended {
+        Ok(outcome) => Ok(outcome),
+        Err(Halt::Refused(fault)) => Err(Fault::Command(CommandFault::Leave(name, fault))),
+        Err(Halt::Failed(object)) => Err(Fault::Failed(object)),
+        Err(Halt::NoMemory) => Err(Fault::NoMemory),
+    }
+}
+
 /// How archive-get ended.
 pub(crate) fn get_end(ended: Result<Outcome, Halt<GetFault>>) -> Result<Outcome, Fault>
     ensures { result ≡ lift of_get ended }
@@ -334,6 +352,7 @@ fn command_status(fault: &CommandFault) -> u8
     match fault {
         CommandFault::Create(fault) => create_status(fault),
         CommandFault::Push(fault) => push_status(fault),
+        CommandFault::Leave(_, fault) => leave_status(fault),
         CommandFault::Drain(fault) => drain_status(fault),
         CommandFault::Get(fault) => get_status(fault),
         CommandFault::Take(fault) => later_status(fault),

@@ -16,7 +16,7 @@ mod parts;
 mod server;
 mod settings;
 mod stages;
+mod starting;
 mod top;
 
 pub use outside::{Outside, Told};
-pub use top::run;

@@ -6,6 +6,7 @@ use crate::fault::{CommandFault, Fault, status};
 use pgb_create::create_message;
 use pgb_examine::examine_message;
 use pgb_get::get_message;
+use pgb_leave::leave_message;
 use pgb_options::Usage;
 use pgb_prune::{behind_message, prune_message};
 use pgb_push::push_message;
@@ -48,6 +49,7 @@ fn command_message(alloc: Global, fault: &CommandFault) -> Result<Vec<u8>, NoMem
     match fault {
         CommandFault::Create(fault) => create_message(alloc, fault),
         CommandFault::Push(fault) => push_message(alloc, fault),
+        CommandFault::Leave(name, fault) => leave_message(alloc, name, fault),
         CommandFault::Drain(fault) => push_message(alloc, fault),
         CommandFault::Get(fault) => get_message(alloc, fault),
         CommandFault::Take(fault) => later_message(alloc, fault),

@@ -1,7 +1,7 @@
 // What a command is told, with its words read.
 ghost use Rattle.std.specs.Prelude.{◌≡◌, IfOk, IfErr};
 ghost use Rattle.pgb_command.specs.Did.{WordsCause};
-ghost use Rattle.pgb_command.specs.Told.{asked_of, request_of, taking_of, IsOrder};
+ghost use Rattle.pgb_command.specs.Told.{asked_of, request_of, taking_of, IsCourse};
 
 use crate::fault::Fault;
 use crate::settings::{Request, Settings};
@@ -25,13 +25,20 @@ pub struct RunningOrder<'a> {
     pub turns: u64,
 }
 
-/// What a command does.
+/// A file that is left to a drain: the file, the spool, and how many turns of other processes are waited for at most.
+#[derive(Drop)]
+pub struct LeaveOrder<'a> {
+    pub push: PushOrder<'a>,
+    pub spool: &'a str,
+    pub turns: u64,
+}
+
+/// What a command does behind all stages.
 #[derive(Drop)]
 pub enum Order<'a> {
     StanzaCreate,
     ArchivePush(PushOrder<'a>),
-    /// Into the spool at this path.
-    ArchivePushAsync(&'a str),
+    ArchivePushAsync,
     ArchiveGet(GetOrder<'a>),
     Backup(LaterOrder<'a>),
     BackupRunning(RunningOrder<'a>),
@@ -39,6 +46,15 @@ pub enum Order<'a> {
     Info(OutputWord),
     Verify,
     Expire(Rules),
+}
+
+/// Through which stages a command goes.
+#[derive(Drop)]
+pub enum Course<'a> {
+    /// All of them, and then its own part.
+    Staged(Order<'a>),
+    /// The places alone, and then a file is left to a drain.
+    Left(LeaveOrder<'a>),
 }
 
 // A backup of this kind of the data folder, with as many workers at most.
@@ -63,53 +79,56 @@ fn later_order<'a>(settings: &Settings<'a>, workers: u32, kind: Kind, delta: boo
 }
 
 /// Reads the command's own words. They are refused before anything is opened.
-pub(crate) fn order_of<'a>(alloc: Global, settings: &Settings<'a>) -> Result<Order<'a>, Fault>
-    ensures order { IfOk result (IsOrder (request_of settings.now.request) settings.now.pg1_path.now) }
+pub(crate) fn course_of<'a>(alloc: Global, settings: &Settings<'a>) -> Result<Course<'a>, Fault>
+    ensures course { IfOk result (IsCourse (request_of settings.now.request) settings.now.pg1_path.now) }
     ensures cause { IfErr result (WordsCause (asked_of settings.now)) }
 {
+    let folder = settings.pg1_path;
     match settings.request {
-        Request::StanzaCreate => Ok(Order::StanzaCreate),
+        Request::StanzaCreate => Ok(Course::Staged(Order::StanzaCreate)),
         Request::ArchivePush { path } => {
-            Ok(Order::ArchivePush(push_order(alloc, settings.pg1_path, path)?))
+            let push = push_order(alloc, folder, path)?;
+            Ok(Course::Staged(Order::ArchivePush(push)))
         }
-        Request::ArchivePushAsync { spool } => Ok(Order::ArchivePushAsync(spool)),
-        Request::ArchiveGet { name, path } => Ok(Order::ArchiveGet(get_order(
-            alloc,
-            settings.pg1_path,
-            name,
-            path,
-        )?)),
+        Request::ArchivePushLeft { path, spool, turns } => {
+            let push = push_order(alloc, folder, path)?;
+            Ok(Course::Left(LeaveOrder { push, spool, turns }))
+        }
+        Request::ArchivePushAsync { .. } => Ok(Course::Staged(Order::ArchivePushAsync)),
+        Request::ArchiveGet { name, path } => {
+            let get = get_order(alloc, folder, name, path)?;
+            Ok(Course::Staged(Order::ArchiveGet(get)))
+        }
         Request::Backup {
             workers,
             kind,
             delta,
-        } => Ok(Order::Backup(later_order(settings, workers, kind, delta))),
+        } => {
+            let later = later_order(settings, workers, kind, delta);
+            Ok(Course::Staged(Order::Backup(later)))
+        }
         Request::BackupRunning {
             workers,
             kind,
             delta,
             fast,
             turns,
-        } => Ok(Order::BackupRunning(RunningOrder {
-            later: later_order(settings, workers, kind, delta),
-            fast,
-            turns,
-        })),
+        } => {
+            let later = later_order(settings, workers, kind, delta);
+            Ok(Course::Staged(Order::BackupRunning(RunningOrder { later, fast, turns })))
+        }
         Request::Restore {
             set,
             workers,
             delta,
             recovery,
-        } => Ok(Order::Restore(recover_order(
-            settings.pg1_path,
-            settings.repo1_path,
-            set,
-            workers,
-            delta,
-            recovery,
-        )?)),
-        Request::Info { form } => Ok(Order::Info(form)),
-        Request::Verify => Ok(Order::Verify),
-        Request::Expire { rules } => Ok(Order::Expire(rules)),
+        } => {
+            let place = settings.repo1_path;
+            let restore = recover_order(folder, place, set, workers, delta, recovery)?;
+            Ok(Course::Staged(Order::Restore(restore)))
+        }
+        Request::Info { form } => Ok(Course::Staged(Order::Info(form))),
+        Request::Verify => Ok(Course::Staged(Order::Verify)),
+        Request::Expire { rules } => Ok(Course::Staged(Order::Expire(rules))),
     }
 }

@@ -1,25 +1,27 @@
 // The commands' own parts, over all that is handed to the program: what the stages made ready goes to each.
-ghost use Rattle.std.specs.Prelude.{◌≡◌, ◌≤◌, ◌∷◌, [], None, map, string_bytes};
+ghost use Rattle.std.specs.Prelude.{◌≡◌, ◌≤◌, ◌∷◌, [], None, OnOk, map, string_bytes};
 ghost use Rattle.pgb_stage.specs.Plans.{AreHeld, backup_lock};
 ghost use Rattle.pgb_prepare.specs.Readies.{IsReady};
-ghost use Rattle.pgb_command.specs.Asked.{alone, create as asks_create, push as asks_push, drain as asks_drain, get as asks_get, report as asks_report, examine as asks_examine, expire as asks_expire};
-ghost use Rattle.pgb_command.specs.Did.{Ran, Followed};
-ghost use Rattle.pgb_command.specs.Told.{request_of, asked_of, AreWorkers, IsOrder};
-ghost use Rattle.pgb_command.specs.declared.order.Order.TheVariants.{Backup as BackupOrder, BackupRunning as BackupRunningOrder, Restore as RestoreOrder};
+ghost use Rattle.pgb_command.specs.Asked.{alone, create as asks_create, push as asks_push, get as asks_get, report as asks_report, examine as asks_examine, expire as asks_expire};
+ghost use Rattle.pgb_command.specs.Did.{Acknowledges, Did, Followed, Ran, SamePlaces};
+ghost use Rattle.pgb_command.specs.Told.{request_of, asked_of, AreWorkers, IsLeft, IsOrder};
+ghost use Rattle.pgb_command.specs.declared.order.Order.TheVariants.{ArchivePushAsync as DrainOrder, Backup as BackupOrder, BackupRunning as BackupRunningOrder, Restore as RestoreOrder};
 ghost use Rattle.pgb_command.specs.Tables.{plan_of};
 
 use crate::fault::{
-    Fault, create_end, drain_end, examine_end, get_end, inform_end, prune_end, push_end,
+    Fault, create_end, drain_end, examine_end, get_end, inform_end, leave_end, prune_end, push_end,
     recover_end, take_end, take_online_end,
 };
-use crate::order::RunningOrder;
+use crate::order::{LeaveOrder, RunningOrder};
 use crate::outside::{Outside, Told};
 use crate::settings::Settings;
+use crate::starting::drain_words;
 use pgb_create::{create_stanza, socket_path};
-use pgb_drained::drain_into;
+use pgb_drained::drain_stanza;
 use pgb_examine::examine_stanza;
 use pgb_get::{GetOrder, get_file};
 use pgb_inform::report_stanza;
+use pgb_leave::leave_push;
 use pgb_options::OutputWord;
 use pgb_outside::{Clock, Disk, Link, Locks, Sink, Source, Tree, Turns, Wire};
 use pgb_prepare::Ready;
@@ -110,15 +112,49 @@ impl<
         ))
     }
 
+    /// archive-push in the background: the file is left to a drain.
+    pub(crate) fn leave(
+        &mut self,
+        alloc: Global,
+        settings: &Settings<'_>,
+        order: LeaveOrder<'_>,
+    ) -> Result<Outcome, Fault>
+        requires order { IsLeft (request_of settings.now.request) settings.now.pg1_path.now order }
+        ensures did { let told = ⟦<Self as Told>⟧.told in
+            Did (asked_of settings.now) (told self.old) (told self.new) result }
+        ensures left { let told = ⟦<Self as Told>⟧.told in
+            OnOk result (Acknowledges (asked_of settings.now) (told self.old) (told self.new)) }
+        ensures places { let told = ⟦<Self as Told>⟧.told in SamePlaces (told self.old) (told self.new) }
+        ensures rest { self.new ≡ record self.old {
+          repo = self.new.repo;
+          spool = self.new.spool;
+          tree = self.new.tree;
+          aside = self.new.aside;
+        } }
+    {
+        let words = drain_words(alloc, settings, order.spool)?;
+        let ended = leave_push(
+            alloc,
+            &mut self.repo,
+            &mut self.spool,
+            &mut self.tree,
+            &mut self.aside,
+            settings.stanza,
+            &order.push,
+            &words,
+            order.turns,
+        );
+        leave_end(order.push.text, ended)
+    }
+
     /// archive-push:async.
     pub(crate) fn drain(
         &mut self,
         alloc: Global,
         settings: &Settings<'_>,
-        place: &str,
         ready: &Ready,
     ) -> Result<Outcome, Fault>
-        requires request { request_of settings.now.request ≡ asks_drain place.now }
+        requires order { IsOrder (request_of settings.now.request) settings.now.pg1_path.now DrainOrder }
         requires locked { AreHeld (plan_of (request_of settings.now.request)) settings.now.stanza.now
             (K.state self.old.locks).taken }
         requires ready { IsReady (plan_of (request_of settings.now.request)) settings.now.stanza.now
@@ -134,14 +170,13 @@ impl<
         let (Some(control), Some(archive)) = (&ready.control, &ready.archive) else {
             unreachable!();
         };
-        drain_end(drain_into(
+        drain_end(drain_stanza(
             alloc,
             &mut self.repo,
             &mut self.spool,
             &mut self.tree,
             &self.locks,
             settings.stanza,
-            place,
             control,
             archive,
         ))

@@ -17,6 +17,13 @@ pub enum Request<'a> {
     ArchivePush {
         path: &'a str,
     },
+    /// The file that is to be left to a drain, as the server names it; the spool, and how many turns of other processes are
+    /// waited for at most.
+    ArchivePushLeft {
+        path: &'a str,
+        spool: &'a str,
+        turns: u64,
+    },
     /// The files that are ready are to be stored, and marked in the spool at this path.
     ArchivePushAsync {
         spool: &'a str,

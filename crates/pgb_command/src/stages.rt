@@ -6,14 +6,14 @@ ghost use Rattle.pgb_stage.specs.Seen.{Failed, AreRead};
 ghost use Rattle.pgb_prepare.specs.Readies.{IsReady};
 ghost use Rattle.pgb_prepare.specs.Taking.{AreNames, HoldsOnly};
 ghost use Rattle.pgb_command.specs.Asked.{alone};
-ghost use Rattle.pgb_command.specs.Did.{Ran, Did, ComesBehind, Brackets, SamePlaces, OpensPlaces, ArePlacesOpened, TakesAll, OnlyLocked};
+ghost use Rattle.pgb_command.specs.Did.{Acknowledges, Ran, Did, ComesBehind, Brackets, SamePlaces, OpensPlaces, ArePlacesOpened, TakesAll, OnlyLocked};
 ghost use Rattle.pgb_command.specs.Kept.{KeepsInAndOut, KeepsLocked};
-ghost use Rattle.pgb_command.specs.Told.{request_of, asked_of, AreWorkers, IsOrder};
-ghost use Rattle.pgb_command.specs.Tables.{OnBackup, plan_of, uses_spool, uses_workers, is_on_repository};
+ghost use Rattle.pgb_command.specs.Told.{request_of, asked_of, AreWorkers, IsCourse, IsOrder};
+ghost use Rattle.pgb_command.specs.Tables.{OnBackup, plan_of, spool_of, uses_spool, uses_workers, is_on_repository};
 
-use crate::asking::plan_of;
+use crate::asking::{plan_of, spool_of};
 use crate::fault::Fault;
-use crate::order::{Order, order_of};
+use crate::order::{Course, Order, course_of};
 use crate::outside::{Outside, Told};
 use crate::settings::Settings;
 use pgb_outside::{Clock, Disk, Link, Locks, Sink, Source, Tree, Turns, Wire};
@@ -49,7 +49,7 @@ impl<
     L: Link,
     U: Turns,
 > Outside<D, S, T, V, A, C, K, I, O, L, U> {
-    // Opens the places that the plan names: the data folder and the repository.
+    // Opens the places of the command: the spool, the data folder and the repository.
     fn open(&mut self, settings: &Settings<'_>, plan: &Plan) -> Result<(), Halt<StageFault>>
         requires { plan.now ≡ plan_of (request_of settings.now.request) }
         ensures read { let told = ⟦<Self as Told>⟧.told in AreRead (told self.old) (told self.new) }
@@ -59,28 +59,38 @@ impl<
             OnOk result (ArePlacesOpened (asked_of settings.now) (told self.old) (told self.new)) }
         ensures cause { let told = ⟦<Self as Told>⟧.told in
             IfErr result (HaltCause Never (Failed (told self.old) (told self.new))) }
-        ensures rest { self.new ≡ record self.old { repo = self.new.repo; tree = self.new.tree } }
+        ensures rest { self.new ≡ record self.old {
+          repo = self.new.repo;
+          spool = self.new.spool;
+          tree = self.new.tree;
+        } }
+        ensures spool { spool_of (request_of settings.now.request) ≡ None → self.new.spool ≡ self.old.spool }
         ensures tree { plan.now.folder ≡ false → self.new.tree ≡ self.old.tree }
     {
+        let spool = spool_of(&settings.request);
+        open_disk(&mut self.spool, Object::Spool, spool)?;
         open_tree(&mut self.tree, folder_of(settings, plan))?;
         open_disk(&mut self.repo, Object::Repo, Some(settings.repo1_path))?;
         Ok(())
     }
 
-    // All stages behind the words: places, locks, what is found behind them, and the command's own part.
+    // All stages behind the words: places, locks, what is found behind them, and the command's own part; or places, and
+    // then a file is left to a drain.
     fn perform(
         &mut self,
         alloc: Global,
         settings: &Settings<'_>,
         plan: &Plan,
-        order: Order<'_>,
+        course: Course<'_>,
     ) -> Result<Outcome, Fault>
         requires workers { AreWorkers (map L.link_state self.old.links.items) }
         requires free { (K.state self.old.locks).taken ≡ [] }
         requires plan { plan.now ≡ plan_of (request_of settings.now.request) }
-        requires order { IsOrder (request_of settings.now.request) settings.now.pg1_path.now order }
+        requires course { IsCourse (request_of settings.now.request) settings.now.pg1_path.now course }
         ensures did { let told = ⟦<Self as Told>⟧.told in
             Did (asked_of settings.now) (told self.old) (told self.new) result }
+        ensures left { let told = ⟦<Self as Told>⟧.told in
+            OnOk result (Acknowledges (asked_of settings.now) (told self.old) (told self.new)) }
         ensures brackets { let told = ⟦<Self as Told>⟧.told in
             Brackets (asked_of settings.now) (told self.old) (told self.new) result }
         ensures released { (K.state self.new.locks).taken ≡ [] }
@@ -94,7 +104,10 @@ impl<
         ensures rest { KeepsInAndOut self.old self.new }
     {
         self.open(settings, plan)?;
-        self.under_locks(alloc, settings, plan, order)
+        match course {
+            Course::Staged(order) => self.under_locks(alloc, settings, plan, order),
+            Course::Left(order) => self.leave(alloc, settings, order),
+        }
     }
 
     /// Does what is asked for: the command's words are read, and then come its stages.
@@ -103,6 +116,8 @@ impl<
         requires free { (K.state self.old.locks).taken ≡ [] }
         ensures did { let told = ⟦<Self as Told>⟧.told in
             Did (asked_of settings.now) (told self.old) (told self.new) result }
+        ensures left { let told = ⟦<Self as Told>⟧.told in
+            OnOk result (Acknowledges (asked_of settings.now) (told self.old) (told self.new)) }
         ensures brackets { let told = ⟦<Self as Told>⟧.told in
             Brackets (asked_of settings.now) (told self.old) (told self.new) result }
         ensures words { let told = ⟦<Self as Told>⟧.told in
@@ -117,9 +132,9 @@ impl<
             → (self.new.tree ≡ self.old.tree) × (self.new.locks ≡ self.old.locks) }
         ensures rest { KeepsInAndOut self.old self.new }
     {
-        let order = order_of(alloc, settings)?;
+        let course = course_of(alloc, settings)?;
         let plan = plan_of(&settings.request);
-        self.perform(alloc, settings, &plan, order)
+        self.perform(alloc, settings, &plan, course)
     }
 
     // Behind the locks: the stanza is settled, the control file and the pairs are read, and then comes the command's
@@ -299,7 +314,7 @@ impl<
         match order {
             Order::StanzaCreate => self.create(alloc, settings, &ready),
             Order::ArchivePush(order) => self.push(alloc, settings, order, &ready),
-            Order::ArchivePushAsync(place) => self.drain(alloc, settings, place, &ready),
+            Order::ArchivePushAsync => self.drain(alloc, settings, &ready),
             Order::ArchiveGet(order) => self.get(alloc, settings, &order, &ready),
             Order::Backup(order) => self.take(alloc, settings, order, ready),
             Order::BackupRunning(order) => self.take_running(alloc, settings, &order, ready),

@@ -9,3 +9,4 @@ pub mod Kept
 pub mod Ran
 pub mod Readies
 pub mod Wholes
+pub mod Paired

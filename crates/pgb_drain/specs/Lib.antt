@@ -6,3 +6,4 @@ pub mod Keeping
 pub mod Ends
 pub mod Ready
 pub mod Whole
+pub mod Paired

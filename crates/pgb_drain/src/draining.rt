@@ -7,6 +7,7 @@ ghost use Rattle.pgb_stored.specs.Stored.{ChangesArchive};
 ghost use Rattle.pgb_stage.specs.Halts.{HaltCause};
 ghost use Rattle.pgb_stage.specs.Risen.{rose_in};
 ghost use Rattle.pgb_drain.specs.Draining.{Drains, end_of};
+ghost use Rattle.pgb_drain.specs.Paired.{KeepsPair};
 ghost use Rattle.pgb_drain.specs.Ends.{EndCauseOf, three};
 ghost use Rattle.pgb_drain.specs.Whole.{DrainsNamed};
 
@@ -48,6 +49,7 @@ pub(crate) fn drain_files<D: Disk, S: Disk, T: Tree>(
     ensures drains { (f : Nodes) → (T.state tree.old).nodes ≡ Some f → Drains stanza.now id system f names.now
         (end_of result) (D.state repo.old).view (D.state repo.new).view (S.state spool.old).view
         (S.state spool.new).view }
+    ensures pair { KeepsPair stanza.now (D.state repo.old).view (D.state repo.new).view }
     ensures repo_only { ChangesArchive stanza.now (D.state repo.old).view (D.state repo.new).view }
     ensures spool_only { ChangesArchive stanza.now (S.state spool.old).view (S.state spool.new).view }
     ensures repo_frame { Frame (D.state repo.old) (D.state repo.new) }
@@ -88,6 +90,7 @@ pub(crate) fn drain_named<D: Disk, S: Disk, T: Tree>(
     ensures drains { (f : Nodes) → (T.state tree.old).nodes ≡ Some f → DrainsNamed stanza.now id system f names.now
         (end_of result) (D.state repo.old).view (D.state repo.new).view (S.state spool.old).view
         (S.state spool.new).view }
+    ensures pair { KeepsPair stanza.now (D.state repo.old).view (D.state repo.new).view }
     ensures repo_only { ChangesArchive stanza.now (D.state repo.old).view (D.state repo.new).view }
     ensures spool_only { ChangesArchive stanza.now (S.state spool.old).view (S.state spool.new).view }
     ensures repo_frame { Frame (D.state repo.old) (D.state repo.new) }

@@ -13,7 +13,8 @@
 //! - Each receipt that the spool has at any moment, or that a crash leaves, is an earlier one or of a file that the
 //!   repository has as the drain ends, and that all that a crash then leaves has. So a receipt comes after its push.
 //! - At Ok a crash leaves the marks as they are: their folder is settled once, at the end.
-//! - It changes names below the stanza's folders of the archive and of the spool alone.
+//! - It changes names below the stanza's folders of the archive and of the spool alone. Members of the archive pair that
+//!   have the same bytes stay so, in all that a crash leaves too.
 //! - Each end before its end has its cause.
 //!
 //! A stored segment costs three syncs where its folder is there: its bytes, its name and its receipt.

@@ -16,6 +16,7 @@ ghost use Rattle.pgb_push.specs.WalPath.{wal_path};
 ghost use Rattle.pgb_spool.specs.Marks.{named};
 ghost use Rattle.pgb_drain.specs.Ends.{EndCause, three};
 ghost use Rattle.pgb_drain.specs.Fates.{IsFateOf};
+ghost use Rattle.pgb_drain.specs.Paired.{KeepsPair};
 ghost use Rattle.pgb_drain.specs.Pushing.{stored_of, tried_of, fate_of, TellsSum, IsHaltedBy};
 ghost use Rattle.pgb_drain.specs.Storing.{GoesByStores};
 
@@ -70,6 +71,7 @@ pub(crate) fn push_log<D: Disk, T: Tree>(
         → told_file (T.state tree.old).nodes (wal_path (wal_text name)) ≡ Some bytes → (s : Stanza)
         → IsSome (D.state repo.old).view.now → NowStands stanza.now (Some s) (D.state repo.old).view.now
         → IsFateOf s id system name bytes (fate_of tried bytes)) }
+    ensures pair { KeepsPair stanza.now (D.state repo.old).view (D.state repo.new).view }
     ensures only { ChangesArchive stanza.now (D.state repo.old).view (D.state repo.new).view }
     ensures frame { Frame (D.state repo.old) (D.state repo.new) }
     ensures looks { LooksAt (T.state tree.old) (T.state tree.new) }

@@ -10,6 +10,7 @@ ghost use Rattle.pgb_stage.specs.Risen.{rose_in};
 ghost use Rattle.pgb_push.specs.LogFile.{IsOpened};
 ghost use Rattle.pgb_push.specs.WalPath.{wal_path};
 ghost use Rattle.pgb_drain.specs.Draining.{Drains, end_of};
+ghost use Rattle.pgb_drain.specs.Paired.{KeepsPair};
 ghost use Rattle.pgb_drain.specs.Ends.{EndCause, SkipsMissing, is_missing, three};
 
 use crate::marking::{Drained, mark_tried};
@@ -72,6 +73,7 @@ fn store_log<D: Disk, S: Disk, T: Tree>(
         (end_of result) (D.state repo.old).view (D.state repo.new).view (S.state spool.old).view
         (S.state spool.new).view }
     ensures few { IfOk result (λ drained. drained.pushed + drained.refused ≤ 1) }
+    ensures pair { KeepsPair stanza.now (D.state repo.old).view (D.state repo.new).view }
     ensures repo_only { ChangesArchive stanza.now (D.state repo.old).view (D.state repo.new).view }
     ensures spool_only { ChangesArchive stanza.now (S.state spool.old).view (S.state spool.new).view }
     ensures repo_frame { Frame (D.state repo.old) (D.state repo.new) }
@@ -104,6 +106,7 @@ pub(crate) fn store_file<D: Disk, S: Disk, T: Tree>(
         (end_of result) (D.state repo.old).view (D.state repo.new).view (S.state spool.old).view
         (S.state spool.new).view }
     ensures few { IfOk result (λ drained. drained.pushed + drained.refused ≤ 1) }
+    ensures pair { KeepsPair stanza.now (D.state repo.old).view (D.state repo.new).view }
     ensures repo_only { ChangesArchive stanza.now (D.state repo.old).view (D.state repo.new).view }
     ensures spool_only { ChangesArchive stanza.now (S.state spool.old).view (S.state spool.new).view }
     ensures repo_frame { Frame (D.state repo.old) (D.state repo.new) }

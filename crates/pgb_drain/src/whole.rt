@@ -7,6 +7,7 @@ ghost use Rattle.pgb_stored.specs.Stored.{ChangesArchive};
 ghost use Rattle.pgb_stage.specs.Halts.{HaltCause};
 ghost use Rattle.pgb_stage.specs.Risen.{rose_in};
 ghost use Rattle.pgb_drain.specs.Draining.{end_of};
+ghost use Rattle.pgb_drain.specs.Paired.{KeepsPair};
 ghost use Rattle.pgb_drain.specs.Ends.{three};
 ghost use Rattle.pgb_drain.specs.Whole.{DrainsReady, EndCauseReady, HasMarksOf};
 
@@ -37,6 +38,7 @@ pub fn drain<D: Disk, S: Disk, T: Tree>(
         (S.state spool.new).view }
     // At Ok a crash leaves the marks as they are.
     ensures lasts { OnOk result (HasMarksOf stanza.now (S.state spool.old).view (S.state spool.new).view) }
+    ensures pair { KeepsPair stanza.now (D.state repo.old).view (D.state repo.new).view }
     ensures repo_only { ChangesArchive stanza.now (D.state repo.old).view (D.state repo.new).view }
     ensures spool_only { ChangesArchive stanza.now (S.state spool.old).view (S.state spool.new).view }
     ensures repo_frame { Frame (D.state repo.old) (D.state repo.new) }

@@ -15,6 +15,7 @@ ghost use Rattle.pgb_stage.specs.Reached.{OnFinished, reached_by};
 ghost use Rattle.pgb_stage.specs.Risen.{rose_in};
 ghost use Rattle.pgb_stage.specs.Runs.{On, one, Runs};
 ghost use Rattle.pgb_drain.specs.Ends.{three};
+ghost use Rattle.pgb_drain.specs.Paired.{KeepsPair};
 ghost use Rattle.pgb_drain.specs.Whole.{HasMarksOf};
 ghost use Rattle.pgb_drained.specs.Drained.{IsDrainOf, IsDrained, DrainCause, drain_early};
 
@@ -52,6 +53,8 @@ pub fn drain_stanza<D: Disk, S: Disk, T: Tree, K: Locks>(
         (S.state spool.new).view.now lines)) }
     // At Ok a crash leaves the marks as they are.
     ensures lasts { OnOk result (HasMarksOf stanza.now (S.state spool.old).view (S.state spool.new).view) }
+    // Members of the archive pair that have the same bytes stay so, in all that a crash leaves too.
+    ensures pair { KeepsPair stanza.now (D.state repo.old).view (D.state repo.new).view }
     ensures beside { StaysBeside stanza.now (D.state repo.old).view (D.state repo.new).view }
     ensures spool_beside { StaysBeside stanza.now (S.state spool.old).view (S.state spool.new).view }
     ensures repo_frame { Frame (D.state repo.old) (D.state repo.new) }

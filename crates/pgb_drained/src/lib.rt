@@ -8,14 +8,11 @@
 //! - At Ok each file that is ready and that the data folder has is stored, or is refused for its content; and the spool
 //!   has its receipt, or its refusal. A crash leaves the marks as they are.
 //! - Where the current cluster isn't the data folder's, nothing is done.
-//! - `drain_into`: the same, behind the opening of the spool.
 //! - It only reads the data folder, and keeps to its stanza. Each refusal has its cause.
 #![tactic(auto)]
 
 mod draining;
-mod opening;
 mod texts;
 
 pub use draining::drain_stanza;
-pub use opening::drain_into;
 pub use texts::drain_status;

@@ -1,37 +1,32 @@
 -- What a call leaves of a keeper.
-use Rattle.std.proofs.Common.{ℕ, zero, suc, [], ◌∷◌, ◌≡◌, ◌⊎◌, inl, inr, ◌<◌, ◌≤◌, refl, sym, ap, ◌∙◌, subst, arith, List, map, set, get_or, length, Option, Some, Result, Err, slice_get}
+use Rattle.std.proofs.Common.{ℕ, ◌≡◌, ◌⊎◌, inl, inr, ◌<◌, ◌≤◌, refl, ap, ◌∙◌, subst, arith, List, map, set, get_or, length, Option, Some, Err, slice_get}
 use Rattle.std.proofs.Math.Nat.{le_refl}
 use Rattle.std.proofs.lemmas.List.{length-map}
-use Rattle.pgb_outside.specs.Cause.{HasCause, Rises}
+use Rattle.pgb_outside.specs.Cause.{HasCause}
 use Rattle.pgb_outside.specs.declared.stop.Stop.{Stop}
 use Rattle.pgb_outside.specs.declared.stop.Stop.TheVariants.{Failed, NoMemory}
 use Rattle.pgb_outside.specs.States.{TreeState}
-use Rattle.pgb_outside.specs.Tree.{Nodes}
-use Rattle.pgb_model.specs.Text.{Text, In}
+use Rattle.pgb_outside.specs.Tree.{Nodes, IsPlaced}
 use Rattle.pgb_worker_keep.specs.KeepState.{Kept}
-use Rattle.pgb_fill.specs.declared.files.Wanted.{Wanted}
 use Rattle.pgb_fill.specs.declared.files.Filed.{Filed}
 use Rattle.pgb_fill.specs.declared.keeper.FileKeeper.{FileKeeper}
-use Rattle.pgb_fill.specs.Files.{path_of, wanted_of, kept_of, SameBeside, IsTidy, AllTidy}
-use Rattle.pgb_fill.specs.Apart.{AreApart, counted}
+use Rattle.pgb_fill.specs.Files.{wanted_of, kept_of, SameBeside}
+use Rattle.pgb_fill.specs.Apart.{counted}
 use Rattle.pgb_fill.specs.Keeping.{RoseWithin, Later}
-use Rattle.pgb_fill.proofs.Listing.{map_stays, some_within, tidy_still}
-
-in_at : (x : Filed) (l : List Filed) (n : ℕ) → n < length l → x ≡ get_or l n x → In x.wanted (map wanted_of l)
-in_at x [] n lt e = absurd (omega (arith, lt))
-in_at x (y ∷ l) zero lt e = inl (ap wanted_of e)
-in_at x (y ∷ l) (suc n) lt e = inr (in_at x l n (omega (arith, lt)) e)
+use Rattle.pgb_fill.proofs.Listing.{map_stays, some_within}
+use Rattle.pgb_fill.proofs.Placing.{in_at, placed_at}
 
 pub within : (nodes : Option Nodes) (fs : List Filed) (i : ℕ) (k : Kept) → slice_get (map (kept_of nodes) fs) i ≡ Some k → i < length fs
 within nodes fs i k is = omega (arith, some_within (map (kept_of nodes) fs) i k is, length-map fs (kept_of nodes))
 
-module _ (a : FileKeeper) (u v : TreeState) (i : ℕ) (x y : Filed) (lt : i < length a.files.items) (is : x ≡ get_or a.files.items i x) (same : y.wanted ≡ x.wanted) (beside : SameBeside x.wanted.path.now u.nodes v.nodes) (opened : v.opened ≡ u.opened) (later : u.faults ≤ v.faults) where
+module _ (a : FileKeeper) (u v : TreeState) (i : ℕ) (x y : Filed) (lt : i < length a.files.items) (is : x ≡ get_or a.files.items i x) (same : y.wanted ≡ x.wanted) (beside : SameBeside x.wanted.path.now u.nodes v.nodes) (opened : v.opened ≡ u.opened) (proper : IsPlaced u.nodes x.wanted.path.now → v.misuses ≡ u.misuses) (later : u.faults ≤ v.faults) where
   pub later_at : (b : FileKeeper) → b.jobs ≡ a.jobs → b.files.items ≡ set a.files.items i y → (0 < b.faults → (0 < a.faults) ⊎ RoseWithin u.faults v.faults) → Later a b u v
   later_at b jobs files failed = record {
     jobs = jobs;
     wanted = ap (map wanted_of) files ∙ map_stays wanted_of a.files.items i x y is same;
     others = λ q none. let off = none x.wanted (in_at x a.files.items i lt is) in beside q off.0 off.1;
     opened = opened;
+    proper = λ have. proper (placed_at (map wanted_of a.files.items) x.wanted u.nodes (in_at x a.files.items i lt is) have);
     later = later;
     failed = failed;
   }

@@ -78,6 +78,15 @@ IsTidy nodes f = is_right f.wanted f.count f.end ≡ true → IsInPlace f.wanted
 abbrev pub AllTidy : Option Nodes → List Filed → Type 0
 AllTidy nodes fs = (k : ℕ) (f : Filed) → slice_get fs k ≡ Some f → IsTidy nodes f
 
+-- while its item is open, the bytes that came lie in a file under its temporary name
+abbrev pub IsUnderWay : Option Nodes → Filed → Type 0
+IsUnderWay nodes f = f.end ≡ None → 0 < f.count → IsFileAt nodes (temporary_path f.wanted.path.now)
+
+-- each file lies where a keeper counts on it
+pub record AreInOrder (nodes : Option Nodes) (fs : List Filed) : Type 0 where
+  pub tidy : AllTidy nodes fs
+  pub begun : (k : ℕ) (f : Filed) → slice_get fs k ≡ Some f → IsUnderWay nodes f
+
 -- ---- what calls leave
 
 -- at each path but the file's two the tree holds the same

@@ -1,10 +1,10 @@
 -- What a keeper over a data folder holds, and what its calls change. Own.
-use Rattle.std.specs.Prelude.{ℕ, ◌≡◌, ◌≢◌, ◌⊎◌, ◌<◌, ◌≤◌, List, map, Option}
+use Rattle.std.specs.Prelude.{ℕ, ◌≡◌, ◌≢◌, ◌⊎◌, ◌<◌, ◌≤◌, List, map, Option, Some, IfSome, Contains}
 use Rattle.pgb_outside.specs.Content.{at}
 use Rattle.pgb_outside.specs.Cause.{Rises}
 use Rattle.pgb_outside.specs.States.{TreeState}
-use Rattle.pgb_outside.specs.Tree.{Nodes}
-use Rattle.pgb_model.specs.Text.{Text, In}
+use Rattle.pgb_outside.specs.Tree.{Nodes, folder}
+use Rattle.pgb_model.specs.Text.{Text, In, ◌⫽◌}
 use Rattle.pgb_worker_frame.specs.Views.{job_of}
 use Rattle.pgb_worker_keep.specs.KeepState.{KeepState}
 use Rattle.pgb_fill.specs.Files.{temporary_path, kept_of, wanted_of}
@@ -18,6 +18,14 @@ state_of k nodes = record { faults = k.faults; jobs = map job_of k.jobs.now; kep
 -- the path is none of these files', nor the temporary name of one
 abbrev pub IsNoneOf : List Wanted → Text → Type 0
 IsNoneOf ws q = (w : Wanted) → In w ws → (q ≢ w.path.now) × (q ≢ temporary_path w.path.now)
+
+-- a folder is at the path, where that is told
+abbrev pub IsFolderAt : Text → Option Nodes → Type 0
+IsFolderAt path nodes = IfSome (at path nodes) (λ node. node ≡ Some folder)
+
+-- each of these files has its folder, which is none of them, nor the temporary name of one
+abbrev pub HaveFolders : List Wanted → Option Nodes → Type 0
+HaveFolders ws nodes = (w : Wanted) → In w ws → (front last : Text) → w.path.now ≡ front ⫽ last → ¬ Contains last 47 → IsNoneOf ws front × IsFolderAt front nodes
 
 -- within these two counts of the tree's faults, one rose
 pub record RoseWithin (f g : ℕ) : Type 0 where
@@ -33,5 +41,6 @@ pub record Later (a b : FileKeeper) (u v : TreeState) : Type 0 where
   pub wanted : map wanted_of b.files.items ≡ map wanted_of a.files.items
   pub others : (q : Text) → IsNoneOf (map wanted_of a.files.items) q → at q v.nodes ≡ at q u.nodes
   pub opened : v.opened ≡ u.opened
+  pub proper : HaveFolders (map wanted_of a.files.items) u.nodes → v.misuses ≡ u.misuses
   pub later : u.faults ≤ v.faults
   pub failed : 0 < b.faults → (0 < a.faults) ⊎ RoseWithin u.faults v.faults

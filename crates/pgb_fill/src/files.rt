@@ -1,9 +1,10 @@
 // A file that is written as a worker reads it.
-ghost use Rattle.std.specs.Prelude.{◌≡◌, ◌≢◌, ◌≤◌, ◌+◌, length, None, Some, IfOk, OnOk, IfErr, string_bytes};
+ghost use Rattle.std.specs.Prelude.{◌≡◌, ◌≢◌, ◌<◌, ◌≤◌, ◌+◌, length, None, Some, IfOk, OnOk, IfErr, string_bytes};
 ghost use Rattle.pgb_outside.specs.Cause.{HasCause};
 ghost use Rattle.pgb_outside.specs.Content.{SameBut};
+ghost use Rattle.pgb_outside.specs.Tree.{IsPlaced, IsFileAt};
 ghost use Rattle.pgb_worker_keep.specs.KeepState.{Adds, Ends};
-ghost use Rattle.pgb_fill.specs.Files.{temporary_path, is_wanted, kept_of, SameBeside, IsTidy, Grows, IsBegun, IsPut};
+ghost use Rattle.pgb_fill.specs.Files.{temporary_path, is_wanted, kept_of, SameBeside, IsTidy, IsUnderWay, Grows, IsBegun, IsPut};
 
 use pgb_outside::{Stop, Tree};
 use pgb_text::Sum;
@@ -36,6 +37,8 @@ fn temporary_name(alloc: Global, path: &str) -> Result<String, AllocError>
 fn begin_first<T: Tree>(tree: &mut T, name: &str, count: u64) -> Result<(), Stop>
     ensures begun { OnOk result (IsBegun count name.now (T.state tree.old).nodes (T.state tree.new).nodes) }
     ensures others { SameBut name.now (T.state tree.old).nodes (T.state tree.new).nodes }
+    ensures proper { IsPlaced (T.state tree.old).nodes name.now
+        → (T.state tree.new).misuses ≡ (T.state tree.old).misuses }
     ensures opened { (T.state tree.new).opened ≡ (T.state tree.old).opened }
     ensures cause { HasCause (T.state tree.old).faults (T.state tree.new).faults result }
 {
@@ -54,7 +57,11 @@ fn extend<T: Tree>(
     bytes: &[u8],
 ) -> Result<(), Stop>
     ensures grows { OnOk result (Grows count path.now bytes.now (T.state tree.old).nodes (T.state tree.new).nodes) }
+    ensures there { OnOk result (IsFileAt (T.state tree.new).nodes (temporary_path path.now)) }
     ensures others { SameBut (temporary_path path.now) (T.state tree.old).nodes (T.state tree.new).nodes }
+    // Where the file's folder is there, and the bytes that came lie in a file, no call is faulty.
+    ensures proper { (0 < count → IsFileAt (T.state tree.old).nodes (temporary_path path.now))
+        → IsPlaced (T.state tree.old).nodes path.now → (T.state tree.new).misuses ≡ (T.state tree.old).misuses }
     ensures opened { (T.state tree.new).opened ≡ (T.state tree.old).opened }
     ensures cause { HasCause (T.state tree.old).faults (T.state tree.new).faults result }
 {
@@ -67,6 +74,8 @@ fn extend<T: Tree>(
 fn put_in_place<T: Tree>(alloc: Global, tree: &mut T, path: &str) -> Result<(), Stop>
     ensures put { OnOk result (IsPut path.now (T.state tree.old).nodes (T.state tree.new).nodes) }
     ensures others { SameBeside path.now (T.state tree.old).nodes (T.state tree.new).nodes }
+    ensures proper { IsFileAt (T.state tree.old).nodes (temporary_path path.now)
+        → IsPlaced (T.state tree.old).nodes path.now → (T.state tree.new).misuses ≡ (T.state tree.old).misuses }
     ensures opened { (T.state tree.new).opened ≡ (T.state tree.old).opened }
     ensures cause { HasCause (T.state tree.old).faults (T.state tree.new).faults result }
 {
@@ -86,7 +95,11 @@ pub(crate) fn add_part<T: Tree>(
     ensures still_open { file.new.end ≡ None }
     ensures adds { OnOk result
         (Adds bytes.now (kept_of (T.state tree.old).nodes file.old) (kept_of (T.state tree.new).nodes file.new)) }
+    ensures begun { OnOk result (IsUnderWay (T.state tree.new).nodes file.new) }
     ensures others { SameBeside file.old.wanted.path.now (T.state tree.old).nodes (T.state tree.new).nodes }
+    ensures proper { IsUnderWay (T.state tree.old).nodes file.old
+        → IsPlaced (T.state tree.old).nodes file.old.wanted.path.now
+        → (T.state tree.new).misuses ≡ (T.state tree.old).misuses }
     ensures opened { (T.state tree.new).opened ≡ (T.state tree.old).opened }
     ensures cause { HasCause (T.state tree.old).faults (T.state tree.new).faults result }
 {
@@ -132,7 +145,11 @@ pub(crate) fn end_file<T: Tree>(
     ensures tidy { OnOk result (IsTidy (T.state tree.new).nodes file.new) }
     ensures ends { OnOk result
         (Ends how.now (kept_of (T.state tree.old).nodes file.old) (kept_of (T.state tree.new).nodes file.new)) }
+    ensures begun { OnOk result (IsUnderWay (T.state tree.new).nodes file.new) }
     ensures others { SameBeside file.old.wanted.path.now (T.state tree.old).nodes (T.state tree.new).nodes }
+    ensures proper { IsUnderWay (T.state tree.old).nodes file.old
+        → IsPlaced (T.state tree.old).nodes file.old.wanted.path.now
+        → (T.state tree.new).misuses ≡ (T.state tree.old).misuses }
     ensures opened { (T.state tree.new).opened ≡ (T.state tree.old).opened }
     ensures cause { HasCause (T.state tree.old).faults (T.state tree.new).faults result }
 {

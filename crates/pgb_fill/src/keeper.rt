@@ -3,7 +3,7 @@ ghost use Rattle.std.specs.Prelude.{◌≡◌, ◌<◌, ℕ, [], Some, map, leng
 ghost use Rattle.pgb_worker_frame.specs.Frames.{Job as Asked};
 ghost use Rattle.pgb_worker_frame.specs.Views.{job_of};
 ghost use Rattle.pgb_worker_keep.specs.KeepState.{IsFresh};
-ghost use Rattle.pgb_fill.specs.Files.{untouched_of, wanted_of, path_of, AllTidy};
+ghost use Rattle.pgb_fill.specs.Files.{untouched_of, wanted_of, path_of, AreInOrder};
 ghost use Rattle.pgb_fill.specs.Apart.{AreApart, HasOneItem, counted};
 
 use crate::files::{Filed, Wanted, add_part, end_file};
@@ -56,7 +56,7 @@ impl<'a> FileKeeper<'a> {
         ensures wanted { IfOk result (λ k. map wanted_of k.files.items ≡ wanted.now) }
         ensures empty { IfOk result (λ k. (j : ℕ) → j < length wanted.now
             → IsSomeAnd (slice_get (state_of k (T.state tree.now).nodes).kept j) IsFresh) }
-        ensures tidy { IfOk result (λ k. AllTidy (T.state tree.now).nodes k.files.items) }
+        ensures agrees { IfOk result (λ k. AreInOrder (T.state tree.now).nodes k.files.items) }
         ensures faults { IfOk result (λ k. k.faults ≡ 0) }
     {
         let files = start_all(alloc, wanted)?;
@@ -95,7 +95,7 @@ impl<'a, T: Tree> Keep<T> for FileKeeper<'a> {
 
     ghost kept = { λ k t. state_of k (T.state t).nodes };
 
-    ghost agrees = { λ k t. AllTidy (T.state t).nodes k.files.items };
+    ghost agrees = { λ k t. AreInOrder (T.state t).nodes k.files.items };
 
     ghost later = { λ a u b v. Later a b (T.state u) (T.state v) };
 

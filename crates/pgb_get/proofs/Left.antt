@@ -47,7 +47,7 @@ ends_alike_on stanza id name a b d rests same alike tight some f g now leaves n 
 
 module _ (stanza : Text) (id : ArchiveId) (name : ArchiveName) (a d : View) (same : d.now ≡ a.now) (alike : EndsAlike stanza id name a d) where
   -- it has at the file's paths what the repository held
-  at_paths : (tight : IsTight stanza a) (some : IsSome a.now) (g : Content) → Leaves d d.moment g → (f : Content) × (a.now ≡ Some f) × ((n : Name) → IsPathOf stanza id name n → g n ≡ f n)
+  pub at_paths : (tight : IsTight stanza a) (some : IsSome a.now) (g : Content) → Leaves d d.moment g → (f : Content) × (a.now ≡ Some f) × ((n : Name) → IsPathOf stanza id name n → g n ≡ f n)
   at_paths tight some g leaves = let f = told_as a.now some in (f.0, f.1, λ n is. alike tight some f.0 g (same ∙ f.1) leaves n is)
 
   bytes_left : (f : Option Content) (bytes : Text) → IsLeft stanza a d f → AreBytes stanza id name a.now bytes → AreBytes stanza id name f bytes

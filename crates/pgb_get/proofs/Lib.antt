@@ -1,9 +1,10 @@
-mod Stops
-mod Searches
+pub mod Stops
+pub mod Searches
 mod ServedPaths
-mod Folders
+pub mod Folders
 mod Passes
-mod Left
-mod Fetches
-mod Archived
+pub mod Left
+pub mod Fetches
+pub mod Archived
+pub mod LookedFor
 pub mod Refusals

@@ -63,10 +63,10 @@ module _ (stanza : Text) (told : Control) (name : ArchiveName) where
     from_parts : AreFrom 1 (ids (xs ++ c ∷ ys))
     from_parts = subst (λ (h : List ClusterId). AreFrom 1 (ids h)) is from
 
-    listed_in : In c history
+    pub listed_in : In c history
     listed_in = subst (λ (h : List ClusterId). In c h) (sym is) (in_middle c xs ys)
 
-    above_in : (f : Content) → AbsentIn ys stanza told name f → NoneAbove history stanza told name c f
+    pub above_in : (f : Content) → AbsentIn ys stanza told name f → NoneAbove history stanza told name c f
     above_in f absent = subst (λ (h : List ClusterId). NoneAbove h stanza told name c f) (sym is) (above f xs c ys from_parts absent)
 
     pub found_in : (now : Option Content) (bytes : Text) → IfSome now (AbsentIn ys stanza told name) → IfSome now (λ f. StoresBytes stanza (id_kept c) name f (sha1 bytes) bytes) → IfSome now (FoundIn history stanza told name bytes)

@@ -1,4 +1,5 @@
 pub mod Getting
 pub mod Serving
+pub mod Looking
 pub mod Texts
 pub mod Words

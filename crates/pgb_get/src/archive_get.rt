@@ -33,8 +33,8 @@ use pgb_stage::{Halt, Outcome};
 use pgb_stanza::{Control, Identity};
 use std::alloc::Global;
 
-// The stanza is of another cluster than the data folder.
-fn mismatch(info: &ArchiveInfo, told: &Control) -> Halt<GetFault>
+/// The stanza is of another cluster than the data folder.
+pub(crate) fn mismatch(info: &ArchiveInfo, told: &Control) -> Halt<GetFault>
     requires { IsArchiveInfo (archive_info_of info.now) }
     ensures { (c : ClusterId) × (at_number info.now.current info.now.history.items ≡ Some c)
         × (result ≡ Refused (StanzaMismatch (identity_kept c) (identity_told told.now))) }

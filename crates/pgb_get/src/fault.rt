@@ -25,7 +25,7 @@ pub enum GetFault {
 }
 
 /// What a fault of the archive is to archive-get.
-pub(crate) fn of_archive(fault: ArchiveFault) -> Halt<GetFault>
+pub fn of_archive(fault: ArchiveFault) -> Halt<GetFault>
     ensures { result ≡ of_archive fault }
 {
     match fault {

@@ -23,8 +23,8 @@ use pgb_stanza::Control;
 use pgb_stored::{ArchiveFault, Stored, has_sum};
 use std::alloc::Global;
 
-// Whether a cluster of the history is the data folder's.
-fn is_of(cluster: &ClusterId, told: &Control) -> bool
+/// Whether a cluster of the history is the data folder's.
+pub(crate) fn is_of(cluster: &ClusterId, told: &Control) -> bool
     ensures { Decides result (IsSame told.now cluster.now) }
 {
     cluster.system == told.system && cluster.version == told.version

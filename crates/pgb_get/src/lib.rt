@@ -6,16 +6,21 @@
 //! - `get_file`: the data folder has the file at the path, or the archive doesn't have it, and this holds of all that a
 //!   crash leaves. Only that path and its temporary name change, and nothing where it is refused. Each refusal has its
 //!   cause, with its status and its message.
+//! - `find_file`: where the file is stored that `get_file` would serve, and with which sum.
+//! - `pass_on`, `put_file`: a file with this sum is put at a path of the data folder, whole or not at all.
 #![tactic(auto)]
 
 mod archive_get;
 mod fault;
 mod finding;
+mod looking;
 mod order;
 mod serving;
 mod texts;
 
 pub use archive_get::get_file;
-pub use fault::GetFault;
+pub use fault::{GetFault, of_archive};
+pub use looking::find_file;
 pub use order::{GetOrder, get_order};
+pub use serving::{Passed, pass_on, put_file};
 pub use texts::{get_message, get_status};

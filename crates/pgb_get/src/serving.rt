@@ -34,7 +34,7 @@ enum Copied {
 
 /// What came of a pass over a stored file.
 #[derive(Drop)]
-pub(crate) enum Passed {
+pub enum Passed {
     Served,
     /// The stored file isn't there.
     Lost,
@@ -81,7 +81,7 @@ fn give_up<T: Tree>(tree: &mut T, temporary: &str, halt: Halt<GetFault>) -> Halt
 
 /// Puts a file of these bytes at a path of the data folder. Where that fails, the temporary file is taken away, if it
 /// can be.
-pub(crate) fn put_file<T: Tree>(
+pub fn put_file<T: Tree>(
     alloc: Global,
     tree: &mut T,
     path: &str,
@@ -171,7 +171,7 @@ fn refusal(copied: Copied, from: String, sum: Sum) -> Result<Passed, Halt<GetFau
 /// Puts a stored file of this sum at a path of the data folder, in one pass: it is copied to the temporary name, where
 /// nothing is, and has its place once its sum is known. Any other copy is taken away; where a device failed, if
 /// that can be done.
-pub(crate) fn pass_on<D: Disk, T: Tree>(
+pub fn pass_on<D: Disk, T: Tree>(
     alloc: Global,
     repo: &mut D,
     tree: &mut T,

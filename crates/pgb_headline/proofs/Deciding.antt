@@ -14,7 +14,7 @@ use Rattle.pgb_stage.specs.Cluster.{control_bytes, version_bytes, FolderTells}
 use Rattle.pgb_stage.specs.Runs.{Manner, each, one, On}
 use Rattle.pgb_push.specs.WalPath.{wal_path, IsPathOf, IsLastElement, HasWal}
 use Rattle.pgb_push.specs.Commands.{IsPushOf}
-use Rattle.pgb_command.specs.Asked.{Request, create, push, drain, get, backup, backup_running, restore, report, examine, expire, Asked}
+use Rattle.pgb_command.specs.Asked.{Request, create, push, leave, drain, get, backup, backup_running, restore, report, examine, expire, Asked}
 use Rattle.pgb_command.specs.Tables.{Known, TurnsTold, IsCreateOf, manner_of}
 use Rattle.pgb_headline.specs.Acts.{IsOf}
 use Rattle.pgb_headline.proofs.Bounded.{Decided, SomeOrNone, same_text, either_of, both_of, some_below, some_name}
@@ -109,6 +109,7 @@ push_there folder path (Some f) P told on = let x = push_of f folder path in (x.
 pub some_command : (a : Asked) (request : Request) (old new : Known) (P : Command → Type 0) → IsSome old.nodes → TurnsTold a request new → On (manner_of a request old new) P → (command : Command) × IsOf (manner_of a request old new) command × P command
 some_command a create old new P told turns on = create_there old.nodes P told on
 some_command a (push path) old new P told turns on = push_there a.data_folder path old.nodes P told on
+some_command a (leave path how) old new P told turns on = on turns
 some_command a (drain place) old new P told turns on = on told
 some_command a (get name path) old new P told turns on = (Reading, refl, on Reading refl)
 some_command a (backup how) old new P told turns on = on

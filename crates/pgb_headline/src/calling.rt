@@ -5,7 +5,7 @@ ghost use Rattle.pgb_command.specs.Told.{AreWorkers};
 ghost use Rattle.pgb_command.specs.Tables.{known};
 ghost use Rattle.pgb_headline.specs.Acts.{both, IsShown, TellsTurns, Went};
 
-use pgb_command::{Outside, Told, run};
+use pgb_command::{Outside, Told};
 use pgb_outside::{Clock, Disk, Link, Locks, Sink, Source, Tree, Turns, Wire};
 use pgb_turn::Aside;
 use std::alloc::Global;
@@ -47,5 +47,5 @@ pub fn called<
         (both (D.state outside.new.repo).view (S.state outside.new.spool).view) }
     ensures free { (K.state outside.new.locks).taken ≡ [] }
 {
-    run(alloc, words, outside)
+    outside.run(alloc, words)
 }

@@ -1,5 +1,5 @@
 -- A file that is left to other processes: what their turns do, and what these and the spool say of it.
-use Rattle.std.specs.Prelude.{◌≡◌, ◌⊎◌, ◌<◌, ◌^◌, ℕ, Bool, true, List, ◌∷◌, Option, Some, None, IfSome, IsSome, codes, string_bytes}
+use Rattle.std.specs.Prelude.{◌≡◌, ◌⊎◌, ◌<◌, ◌^◌, ◌++◌, ℕ, Bool, true, List, ◌∷◌, Option, Some, None, IfSome, IsSome, codes, string_bytes}
 use Rattle.std.specs.Str.{is_utf8}
 use Rattle.pgb_outside.specs.Content.{Content}
 use Rattle.pgb_outside.specs.Crash.{Leaves, Write}
@@ -51,13 +51,16 @@ pub record HadTurn (ended : Bool) (old new : Option Account) (repo new_repo spoo
 abbrev pub entry_of : List Turned → Entry
 entry_of turned = record { command = ArchivePushAsync (turns_of turned); acknowledged = true }
 
--- The account went on by turns, and these are all that was done. Where two disks kept a log, the log with these turns reaches a repository in which a drain has stored a file of this name and sum. Where the spool hadn't its receipt, one of these turns stored such a file: the repository has it, and so has all that a crash leaves.
-pub record IsAcknowledged (name : ArchiveName) (sum : Text) (old : Option Account) (new : Account) (repo new_repo spool new_spool : View) : Type 0 where
-  pub went : Went true old new repo new_repo spool new_spool
+-- The account went on by turns. Where two disks kept a log, the log with these turns reaches a repository in which a drain has stored a file of this name and sum. Where the spool hadn't its receipt, one of these turns stored such a file: the repository has it, and so has all that a crash leaves.
+pub record IsAcknowledged (name : ArchiveName) (sum : Text) (old : Option Account) (new : Account) (repo new_repo spool : View) : Type 0 where
+  pub before : List Turned
+  pub turned : List Turned
+  pub was : old ≡ Some (record { stanza = new.stanza; turns = before })
+  pub is : new.turns ≡ before ++ turned
   pub drained : (q : Repository) (log : List Entry) → IsSome repo.now → IsSome spool.now → Keeps new.stanza q log repo spool
-      → (r : Repository) × Reaches q (entry_of went.turned ∷ log) r × IsDrained r name sum
+      → (r : Repository) × Reaches q (entry_of turned ∷ log) r × IsDrained r name sum
   pub stored : (q : Repository) (log : List Entry) → IsSome repo.now → IsSome spool.now → Keeps new.stanza q log repo spool
-      → IfSome spool.now (λ f. HasReceipt new.stanza f name sum) ⊎ ((t : Turned) × In t went.turned × IsStoredBy new.stanza t.turn name sum new_repo)
+      → IfSome spool.now (λ f. HasReceipt new.stanza f name sum) ⊎ ((t : Turned) × In t turned × IsStoredBy new.stanza t.turn name sum new_repo)
 
 -- The account went on by turns that ended well, and these are all that was done. Where the spool tells what it holds, none of their marks is of the file.
 pub record IsSilent (name : ArchiveName) (sum : Text) (old : Option Account) (new : Account) (repo new_repo spool new_spool : View) : Type 0 where

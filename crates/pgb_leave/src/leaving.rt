@@ -38,7 +38,7 @@ pub fn leave<D: Disk, S: Disk, A: Aside<D, S>>(
     // It is acknowledged only where a drain has stored a file of this name and sum.
     ensures stored { OnOk result (IfSome (A.state aside.new).account (λ a. a.stanza ≡ stanza.now
         → IsAcknowledged name sum.now.0 (A.state aside.old).account a (D.state repo.old).view
-        (D.state repo.new).view (S.state spool.old).view (S.state spool.new).view)) }
+        (D.state repo.new).view (S.state spool.old).view)) }
 
     // The turns of other processes are all that was done.
     ensures went { IfSome (A.state aside.new).account (λ a. a.stanza ≡ stanza.now

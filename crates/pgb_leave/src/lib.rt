@@ -14,12 +14,20 @@
 //! - That the file isn't stored yet is told only behind that many turns, of which none left a mark of the file.
 //! - It gives no receipt, and takes the marks of the file away.
 //! - Each refusal has its cause.
+//!
+//! `leave_push` reads the file that the server names, and leaves it with the sum of its bytes. It proves too that the wait is
+//! one command of the log, whatever is known of the disks before, and that it keeps to its stanza.
 #![tactic(auto)]
 
 mod fault;
 mod leaving;
 mod looking;
+mod pushing;
+mod reading;
+mod texts;
 mod turning;
 
 pub use fault::LeaveFault;
 pub use leaving::leave;
+pub use pushing::leave_push;
+pub use texts::{leave_message, leave_status};

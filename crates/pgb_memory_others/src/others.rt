@@ -1,12 +1,12 @@
 // Other processes in memory.
-ghost use Rattle.std.specs.Prelude.{◌≡◌, ◌<◌, ◌∷◌, [], None, Some, length, string_bytes};
+ghost use Rattle.std.specs.Prelude.{◌≡◌, ◌<◌, ◌∷◌, [], Some, length, map, string_bytes, IfOk};
 ghost use Rattle.pgb_memory_others.specs.Others.{account_of};
 
 use crate::turn::OtherTurn;
 use boxcar::tag::{Names, Tag};
 use pgb_outside::{Disk, NotThere, Stop};
 use pgb_turn::{Aside, TurnStop};
-use std::alloc::Global;
+use std::alloc::{AllocError, Global};
 
 // One more than a count that only clauses know, so that it has no end.
 struct OneMore;
@@ -27,8 +27,23 @@ pub struct MemOthers {
     // how many were taken behind them
     behind: Tag,
     turns: u64,
+    // the words of each start, and the numbers of the calls of `start` that are to fail
+    started: Vec<Vec<String>>,
+    starts: u64,
+    fails: Vec<u64>,
     faults: u64,
     ghost order: { at < length list.items → behind.numbers ≡ [] },
+}
+
+// The same words.
+fn copy_of(alloc: Global, words: &[String]) -> Result<Vec<String>, AllocError>
+    ensures { IfOk result (λ copy. map string_bytes copy.items ≡ map string_bytes words.now) }
+{
+    let mut copy = Vec::new(alloc);
+    for word in words {
+        copy.push(word.clone()?)?;
+    }
+    Ok(copy)
 }
 
 impl MemOthers {
@@ -37,7 +52,7 @@ impl MemOthers {
         ensures state { ⟦<MemOthers as Aside<NotThere, NotThere>>⟧.state result ≡ record {
           account = Some (record { stanza = string_bytes stanza; turns = [] });
           turns = 0;
-          started = None;
+          started = Some [];
           faults = 0;
         } }
         ensures list { result.list ≡ list }
@@ -49,8 +64,27 @@ impl MemOthers {
             at: 0,
             behind: Tag::empty(),
             turns: 0,
+            started: Vec::new(alloc),
+            starts: 0,
+            fails: Vec::new(alloc),
             faults: 0,
         }
+    }
+
+    /// The same, but that the calls of `start` with these numbers fail, the first being 0.
+    pub fn failing(mut self, fails: Vec<u64>) -> Self
+        ensures state { ⟦<MemOthers as Aside<NotThere, NotThere>>⟧.state result
+            ≡ ⟦<MemOthers as Aside<NotThere, NotThere>>⟧.state self }
+    {
+        self.fails = fails;
+        self
+    }
+
+    /// The words of each start.
+    pub fn started(&self) -> &[Vec<String>]
+        ensures { result.now ≡ self.now.started.items }
+    {
+        &self.started
     }
 
     /// The stanza for which they push.
@@ -72,7 +106,7 @@ impl<D: Disk, S: Disk> Aside<D, S> for MemOthers {
     ghost state = { λ it. record {
       account = Some (account_of (string_bytes it.stanza) it.list.items it.at it.behind.numbers);
       turns = it.turns;
-      started = None;
+      started = Some (map (λ words. map string_bytes words.items) it.started.items);
       faults = it.faults;
     } };
 
@@ -92,8 +126,19 @@ impl<D: Disk, S: Disk> Aside<D, S> for MemOthers {
         came.done
     }
 
-    fn start(&mut self, _words: &[String]) -> Result<(), Stop> {
-        self.faults = self.faults.saturating_add(1);
-        Err(Stop::Failed)
+    fn start(&mut self, words: &[String]) -> Result<(), Stop> {
+        let number = self.starts;
+        self.starts = self.starts.saturating_add(1);
+        if self.fails.contains(&number) {
+            self.faults = self.faults.saturating_add(1);
+            return Err(Stop::Failed);
+        }
+        let Ok(words) = copy_of(self.alloc, words) else {
+            return Err(Stop::NoMemory);
+        };
+        match self.started.push(words) {
+            Ok(()) => Ok(()),
+            Err(_) => Err(Stop::NoMemory),
+        }
     }
 }

@@ -3,28 +3,48 @@ ghost use Rattle.std.specs.Prelude.{◌≡◌, None};
 
 use pgb_outside::{Disk, Stop};
 use pgb_turn::{Aside, TurnStop};
-use std::thread;
+use std::io::ErrorKind;
+use std::process::{Command, Stdio};
 use std::time::Duration;
+use std::{io, thread};
 
-/// Other processes. A turn of theirs is a second, in which they push what a server hands to its archive command.
+/// Other processes. A turn of theirs is a second, in which they push what a server hands to its archive command, or what is
+/// ready. This program is started beside itself.
 #[derive(Drop)]
 pub struct Others {
     rt: HostRuntime,
+    program: String,
     turns: u64,
     faults: u64,
 }
 
 impl Others {
-    pub fn new(rt: HostRuntime) -> Self
+    /// Those beside this program.
+    pub fn new(rt: HostRuntime, program: String) -> Self
+        ensures program { result.program ≡ program }
         ensures turns { result.turns ≡ 0 }
         ensures faults { result.faults ≡ 0 }
     {
         Others {
             rt,
+            program,
             turns: 0,
             faults: 0,
         }
     }
+}
+
+// Starts a program with these words. It has none of this one's streams, and isn't waited for.
+fn start(rt: &HostRuntime, program: &str, words: &[String]) -> io::Result<()> {
+    let mut command = Command::new(rt.alloc(), program)?;
+    for word in words {
+        command.arg(word.as_str())?;
+    }
+    command.stdin(Stdio::null());
+    command.stdout(Stdio::null());
+    command.stderr(Stdio::null());
+    let _started = command.spawn(rt)?;
+    Ok(())
 }
 
 impl<D: Disk, S: Disk> Aside<D, S> for Others {
@@ -36,9 +56,14 @@ impl<D: Disk, S: Disk> Aside<D, S> for Others {
         Ok(())
     }
 
-    // Nothing is started yet.
-    fn start(&mut self, _words: &[String]) -> Result<(), Stop> {
-        self.faults = self.faults.saturating_add(1);
-        Err(Stop::Failed)
+    fn start(&mut self, words: &[String]) -> Result<(), Stop> {
+        match start(&self.rt, self.program.as_str(), words) {
+            Ok(()) => Ok(()),
+            Err(e) if e.kind() == ErrorKind::OutOfMemory => Err(Stop::NoMemory),
+            Err(_) => {
+                self.faults = self.faults.saturating_add(1);
+                Err(Stop::Failed)
+            }
+        }
     }
 }

@@ -50,6 +50,7 @@ fn put_files<T: Tree, L: Link, U: Turns>(
     ensures control { OnErr result
         (((T.state tree.new).nodes ≡ (T.state tree.old).nodes) ⊎ HasNone control_path (T.state tree.new).nodes) }
     ensures changes { IfErr result (λ halt. leaves_folder halt ≡ false) }
+    ensures proper { (T.state tree.new).misuses ≡ (T.state tree.old).misuses }
     ensures opened { (T.state tree.new).opened ≡ (T.state tree.old).opened }
     ensures later { (T.state tree.old).faults ≤ (T.state tree.new).faults }
     // Where the used links are those of which these are left, the cause is of them.
@@ -89,6 +90,7 @@ pub(crate) fn fill<T: Tree, L: Link, U: Turns>(
     ensures control { OnErr result
         (((T.state tree.new).nodes ≡ (T.state tree.old).nodes) ⊎ HasNone control_path (T.state tree.new).nodes) }
     ensures changes { IfErr result (λ halt. leaves_folder halt ≡ false) }
+    ensures proper { (T.state tree.new).misuses ≡ (T.state tree.old).misuses }
     ensures opened { (T.state tree.new).opened ≡ (T.state tree.old).opened }
     ensures later { (T.state tree.old).faults ≤ (T.state tree.new).faults }
     ensures cause { IfErr result (HaltCause

@@ -15,8 +15,9 @@
 //!   has this label in it. The one line tells the label.
 //! - Where the repository stands for a stanza, and all used links read that very repository, the folder is the restored
 //!   tree of the stanza's backup of that label, or of its last.
-//! - The repository is only read. After a refusal there is no control file, unless nothing was changed. Nothing was
-//!   changed by a refusal before the workers, or where the repository failed.
+//! - The repository is only read, and the folder's calls are made as they ask. After a refusal there is no control
+//!   file, unless nothing was changed. Nothing was changed by a refusal before the workers, or where the repository
+//!   failed.
 //! - Each refusal has its cause, of what stood before, with its status and its message.
 #![tactic(auto)]
 

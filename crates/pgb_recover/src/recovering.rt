@@ -70,6 +70,8 @@ pub fn recover_backup<D: Disk, T: Tree, L: Link, U: Turns>(
         (((T.state tree.new).nodes ≡ (T.state tree.old).nodes) ⊎ HasNone control_path (T.state tree.new).nodes) }
     ensures unchanged { IfErr result (λ halt. leaves_folder halt ≡ true
         → (T.state tree.new).nodes ≡ (T.state tree.old).nodes) }
+    // No call of the data folder is faulty.
+    ensures proper { (T.state tree.new).misuses ≡ (T.state tree.old).misuses }
     ensures opened { (T.state tree.new).opened ≡ (T.state tree.old).opened }
     ensures later { (T.state tree.old).faults ≤ (T.state tree.new).faults }
     ensures cause { IfErr result (HaltCause (RecoverCause (record {

@@ -3,3 +3,9 @@ pub mod Settled
 pub mod Advanced
 pub mod Pushes
 pub mod Taken
+pub mod Failing
+pub mod Causing
+pub mod Fronts
+pub mod Ends
+pub mod Tallied
+pub mod Spools

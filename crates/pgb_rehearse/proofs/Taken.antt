@@ -31,7 +31,7 @@ use Rattle.pgb_take_later.specs.declared.order.LaterOrder.{LaterOrder}
 use Rattle.pgb_take_later.specs.Held.{IsHeld}
 use Rattle.pgb_take_later.specs.Kinds.{IsBackupBy}
 use Rattle.pgb_take_later.specs.Taken.{IsTaken}
-use Rattle.pgb_rehearse.specs.Advancing.{Advances}
+use Rattle.pgb_rehearse.specs.Advancing.{Advances, Carries}
 use Rattle.pgb_rehearse.specs.Commands.{backed_up}
 use Rattle.pgb_rehearse.proofs.Advanced.{finished_whole}
 
@@ -61,6 +61,10 @@ module _ (stanza : Text) (command : Command) (a n d : View) (rests : Rests a n) 
   pub behind_rests : {T E : Type 0} (result : Result T E) → Advances stanza command result n d → Advances stanza command result a d
   behind_rests (Err e) h = record { part = behind_part h.part; whole = tt; sound = tt }
   behind_rests (Ok x) h = record { part = behind_part h.part; whole = behind_whole h.whole; sound = λ r some now sound. h.sound r (some_there some) (stands_there r now) sound }
+
+  pub behind_carries : {T E : Type 0} (result : Result T E) → Carries stanza command result n d → Carries stanza command result a d
+  behind_carries (Err e) h = record { part = behind_part h.part; whole = tt }
+  behind_carries (Ok x) h = record { part = behind_part h.part; whole = behind_whole h.whole }
 
 -- ---- a backup
 

@@ -67,6 +67,20 @@ module _ (first second : Command) where
         let there : NowStands stanza (left r) m = subst (λ (l : List Step). NowStands stanza (after r l) m) x.1 x.2 in
         subst IsSound (sym (after_both r)) (sound_too (left r) (done.told some) there (sound r some now is))
 
+    -- all of the first, and so much of the second
+    pub now_both : (a m d : Option Content) → NowDoes stanza first true a m → StaysSound stanza first a → (all : Bool) → NowDoes stanza second all m d → NowDoes stanza (Then first second) all a d
+    now_both a m d done sound all h = record {
+      told = λ some. h.told (done.told some);
+      does = λ r from some now.
+          let x = done.does r (begins_sound first r from) some now in
+          let there : NowStands stanza (left r) m = subst (λ (l : List Step). NowStands stanza (after r l) m) x.1 x.2 in
+          let y = h.does (left r) (begins_sound second (left r) (sound r some now from)) (done.told some) there in (
+            all_of (steps_of first r) ++ y.0,
+            done_back all r y.0 y.1,
+            subst (λ (z : Repository). NowStands stanza z d) (sym (after_back r y.0)) y.2,
+          );
+    }
+
     module _ (a m : View) where
       -- a part of the first alone
       pub front_does : DoesPart Whole stanza first a m → DoesPart Whole stanza (Then first second) a m
@@ -77,17 +91,7 @@ module _ (first second : Command) where
 
       module _ (d : View) (part : DoesPart Whole stanza first a m) (whole : DoesWhole Whole stanza first a m) (sound : StaysSound stanza first a.now) where
         now_back : (all : Bool) → NowDoes stanza second all m.now d.now → NowDoes stanza (Then first second) all a.now d.now
-        now_back all h = record {
-          told = λ some. h.told (whole.done.told some);
-          does = λ r from some now.
-              let x = whole.done.does r (begins_sound first r from) some now in
-              let there : NowStands stanza (left r) m.now = subst (λ (l : List Step). NowStands stanza (after r l) m.now) x.1 x.2 in
-              let y = h.does (left r) (begins_sound second (left r) (sound r some now from)) (whole.done.told some) there in (
-                all_of (steps_of first r) ++ y.0,
-                done_back all r y.0 y.1,
-                subst (λ (z : Repository). NowStands stanza z d.now) (sym (after_back r y.0)) y.2,
-              );
-        }
+        now_back = now_both a.now m.now d.now whole.done sound
 
         -- all of the first, and a part of the second
         pub back_does : DoesPart Whole stanza second m d → DoesPart Whole stanza (Then first second) a d

@@ -1,12 +1,14 @@
 -- Which command of the log a rehearsal is: those that it is made of, one behind another. Own.
-use Rattle.std.specs.Prelude.{ℕ, zero, suc, ◌*◌, ◌%◌, [], Some, None}
+use Rattle.std.specs.Prelude.{◌≡◌, ℕ, zero, suc, ◌*◌, ◌%◌, [], Some, None}
 use Rattle.pgb_model.specs.declared.clusters.Cluster.{Cluster}
 use Rattle.pgb_model.specs.declared.wal.ArchiveName.TheVariants.{Segment as Whole}
 use Rattle.pgb_model.specs.declared.labels.Kind.TheVariants.{Full}
 use Rattle.pgb_model.specs.Repository.{Backup}
 use Rattle.pgb_model.specs.Steps.{Command, StanzaCreate, ArchivePush, MakeBackup, Expire, Then, Reading, Named, Retention}
 use Rattle.pgb_sample.specs.Bytes.{segment_bytes}
+use Rattle.pgb_stanza.specs.declared.control.Control.{Control}
 use Rattle.pgb_retain.specs.declared.rules.FullRule.TheVariants.{Count}
+use Rattle.pgb_retain.specs.declared.rules.Rules.{Rules}
 use Rattle.pgb_expire.specs.Expiry.{retention}
 
 -- the segment of this number, in the first log of the first timeline
@@ -21,6 +23,10 @@ pushed (suc k) = Then (pushed k) (ArchivePush (segment_named (suc k)))
 -- the cluster that is rehearsed
 abbrev pub sample_cluster : Cluster
 sample_cluster = record { id = 1; system = 6917529027641081857; version = 16; control = 1300; catalog = 202307071 }
+
+-- as its control file and its version file tell it
+abbrev pub sample : Control
+sample = record { system = 6917529027641081857; control = 1300; catalog = 202307071; version = 16 }
 
 abbrev pub created : Command
 created = StanzaCreate (Some sample_cluster)
@@ -46,6 +52,13 @@ with_third n first second third = Then (with_second n first second) (backed_up t
 abbrev pub rehearsed : ℕ → Retention → Backup → Backup → Backup → Command
 rehearsed n kept first second third = Then (with_third n first second third) (Expire kept)
 
--- what is kept of one full backup
+-- one full backup is kept
+abbrev pub one_full : Rules
+one_full = record { full = Count 1; diff = None; archive = None; archive_kind = Full }
+
 abbrev pub keeps_one : Retention
-keeps_one = retention (record { full = Count 1; diff = None; archive = None; archive_kind = Full }) 0
+keeps_one = retention one_full 0
+
+-- a rehearsal of this number, of some three backups
+abbrev pub IsRehearsal : ℕ → Command → Type 0
+IsRehearsal n command = (b : Backup) × (c : Backup) × (d : Backup) × (command ≡ rehearsed n keeps_one b c d)

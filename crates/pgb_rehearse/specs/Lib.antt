@@ -1,4 +1,9 @@
 pub mod Advancing
 pub mod Commands
+pub mod Counting
+pub mod Backups
+pub mod Telling
+pub mod Rehearsing
+pub mod Causes
 pub mod Faults
-pub mod Counts
+pub mod Texts

@@ -1,17 +1,21 @@
 // A backup is made.
-ghost use Rattle.std.specs.Prelude.{◌≡◌, ◌≤◌, ◌<◌, ◌^◌, map, vec_len, IfOk};
+ghost use Rattle.std.specs.Prelude.{◌≤◌, ◌<◌, ◌^◌, map, vec_len, IfOk, IfErr, OnOk};
+ghost use Rattle.pgb_outside.specs.Cause.{Rises};
 ghost use Rattle.pgb_outside.specs.States.{Frame, Looks, LooksAt};
 ghost use Rattle.pgb_model.specs.Repository.{Backup};
 ghost use Rattle.pgb_story.specs.Beside.{StaysBeside};
 ghost use Rattle.pgb_worker_dispatch.specs.Run.{AreReady};
+ghost use Rattle.pgb_stage.specs.declared.object.Object.TheVariants.{Repo as TheRepo};
+ghost use Rattle.pgb_stage.specs.Halts.{HaltCause, Only};
 ghost use Rattle.pgb_stage.specs.Plans.{backup_lock};
 ghost use Rattle.pgb_prepare.specs.Readies.{IsBackupOf};
 ghost use Rattle.pgb_take_later.specs.Held.{IsHeld};
 ghost use Rattle.pgb_rehearse.specs.Advancing.{Advances};
+ghost use Rattle.pgb_rehearse.specs.Backups.{IsTakenBy};
+ghost use Rattle.pgb_rehearse.specs.Causes.{LostCause, StepCause, Fails};
 ghost use Rattle.pgb_rehearse.specs.Commands.{backed_up};
-ghost use Rattle.pgb_rehearse.specs.Faults.{of_later};
 
-use crate::fault::{RehearseFault, of_info};
+use crate::fault::{StepFault, of_info, of_later};
 use crate::preparing::{SAMPLE, read_archive};
 use pgb_model::{BackupInfo, Kind};
 use pgb_outside::{Clock, Disk, Link, Locks, Tree, Turns};
@@ -20,7 +24,7 @@ use pgb_plan::PlanSettings;
 use pgb_stage::Halt;
 use pgb_stanza::backup_info_name;
 use pgb_take::TakeOrder;
-use pgb_take_later::{LaterFault, LaterOrder, take_later};
+use pgb_take_later::{LaterOrder, take_later};
 use std::alloc::Global;
 
 // No bundles, and files are told by their times.
@@ -31,25 +35,16 @@ const SETTINGS: PlanSettings = PlanSettings {
     bundle_limit: 1 << 20,
 };
 
-// What a refusal of a backup is.
-fn of_later(halt: Halt<LaterFault>) -> Halt<RehearseFault>
-    ensures { result ≡ of_later halt }
-{
-    match halt {
-        Halt::Refused(fault) => Halt::Refused(RehearseFault::Take(fault)),
-        Halt::Failed(object) => Halt::Failed(object),
-        Halt::NoMemory => Halt::NoMemory,
-    }
-}
-
 /// The value of the backup pair.
 pub(crate) fn read_backup<D: Disk>(
     alloc: Global,
     repo: &mut D,
     stanza: &str,
-) -> Result<BackupInfo, Halt<RehearseFault>>
+) -> Result<BackupInfo, Halt<StepFault>>
     ensures found { IfOk result (IsBackupOf stanza.now (D.state repo.old).view.now) }
     ensures looks { Looks (D.state repo.old) (D.state repo.new) }
+    ensures cause { IfErr result (HaltCause (LostCause stanza.now (D.state repo.old).view.now)
+        (Only TheRepo (Rises (D.state repo.old).faults (D.state repo.new).faults))) }
 {
     let name = backup_info_name(alloc, stanza)?;
     match load_pair(alloc, repo, name.as_str()) {
@@ -70,16 +65,22 @@ pub(crate) fn back_up<D: Disk, T: Tree, C: Clock, K: Locks, L: Link, U: Turns>(
     stanza: &str,
     take: TakeOrder<'_>,
     kind: Kind,
-) -> Result<(), Halt<RehearseFault>>
+) -> Result<(), Halt<StepFault>>
     requires locked { IsHeld (backup_lock stanza.now) (K.state locks.now).taken }
     requires few { vec_len links.old < 2 ^ 32 }
     requires ready { AreReady (map L.link_state links.old.items) }
     ensures advances { (b : Backup)
         × Advances stanza.now (backed_up b) result (D.state repo.old).view (D.state repo.new).view }
+    ensures taken { OnOk result
+        (IsTakenBy stanza.now kind (D.state repo.old).view.now (D.state repo.new).view.now) }
     ensures beside { StaysBeside stanza.now (D.state repo.old).view (D.state repo.new).view }
     ensures frame { Frame (D.state repo.old) (D.state repo.new) }
     ensures looks { LooksAt (T.state tree.old) (T.state tree.new) }
     ensures later { (C.state clock.old).faults ≤ (C.state clock.new).faults }
+    ensures least { (C.state clock.old).least ≤ (C.state clock.new).least }
+    ensures cause { IfErr result (HaltCause (StepCause stanza.now (D.state repo.old).view.now)
+        (Fails (D.state repo.old).faults (D.state repo.new).faults (T.state tree.old).faults
+        (T.state tree.new).faults (C.state clock.old).faults (C.state clock.new).faults)) }
 {
     let archive = read_archive(alloc, repo, stanza)?;
     let backup = read_backup(alloc, repo, stanza)?;

@@ -1,62 +1,40 @@
 // The last backup is restored over a spoiled data folder, and the repository is verified.
-ghost use Rattle.std.specs.Prelude.{◌≡◌, ◌∷◌, [], true, map, IfOk};
-ghost use Rattle.pgb_outside.specs.States.{Frame, Looks};
-ghost use Rattle.pgb_model.specs.Repository.{Backup};
+ghost use Rattle.std.specs.Prelude.{◌≡◌, true, map, IfOk, IfErr, OnOk};
+ghost use Rattle.pgb_outside.specs.Cause.{Rises};
+ghost use Rattle.pgb_outside.specs.States.{Looks};
 ghost use Rattle.pgb_table.specs.Values.{is_stanza};
-ghost use Rattle.pgb_story.specs.Beside.{StaysBeside};
 ghost use Rattle.pgb_worker_dispatch.specs.Run.{AreReady};
-ghost use Rattle.pgb_stage.specs.Plans.{archive_lock, backup_lock};
-ghost use Rattle.pgb_rehearse.specs.Advancing.{Carries};
-ghost use Rattle.pgb_rehearse.specs.Commands.{rehearsed, keeps_one};
-ghost use Rattle.pgb_rehearse.specs.Counts.{count_of, Counts};
-ghost use Rattle.pgb_rehearse.specs.Faults.{of_recover, of_examine};
+ghost use Rattle.pgb_stage.specs.declared.object.Object.TheVariants.{Repo as TheRepo};
+ghost use Rattle.pgb_stage.specs.Halts.{HaltCause, Only};
+ghost use Rattle.pgb_examine.specs.Examining.{IsExamined, EndsWithNone};
+ghost use Rattle.pgb_rehearse.specs.declared.counting.Counted.TheVariants.{All as TheAll};
+ghost use Rattle.pgb_rehearse.specs.Advancing.{StaysOpen};
+ghost use Rattle.pgb_rehearse.specs.Causes.{StepCause, FailsBoth};
+ghost use Rattle.pgb_rehearse.specs.Counting.{TellsLast};
+ghost use Rattle.pgb_rehearse.specs.Rehearsing.{CountsStored, IsRestoredLast, ComesTo, IsEnded};
 
 use crate::backing::read_backup;
-use crate::fault::RehearseFault;
+use crate::counting::{Amount, Counted, count_last};
+use crate::fault::{StepFault, of_all, of_examine, of_recover};
 use crate::links::take_links;
-use crate::living::live;
 use crate::order::RehearseOrder;
-use pgb_examine::{ExamineFault, examine_stanza};
-use pgb_model::BackupInfo;
-use pgb_outside::{Clock, Disk, Link, Locks, Tree, Turns, Wire};
-use pgb_recover::{RecoverFault, RecoverOrder, RecoveryType, recover_backup};
+use pgb_examine::examine_stanza;
+use pgb_outside::{Disk, Link, Tree, Turns};
+use pgb_recover::{RecoverOrder, RecoveryType, recover_backup};
 use pgb_sample_folder::spoil_cluster;
 use pgb_stage::{Halt, Object, Outcome, halted};
+use pgb_stored::all;
 use std::alloc::Global;
 
-// What a refusal of a restore is.
-fn of_recover(halt: Halt<RecoverFault>) -> Halt<RehearseFault>
-    ensures { result ≡ of_recover halt }
-{
-    match halt {
-        Halt::Refused(fault) => Halt::Refused(RehearseFault::Recover(fault)),
-        Halt::Failed(object) => Halt::Failed(object),
-        Halt::NoMemory => Halt::NoMemory,
-    }
+/// How many files are archived, how many files and bytes are restored, and what a verification told.
+#[derive(Drop)]
+pub(crate) struct Ended {
+    pub kept: usize,
+    pub restored: Amount,
+    pub found: Outcome,
 }
 
-// What a refusal of a verification is.
-fn of_examine(halt: Halt<ExamineFault>) -> Halt<RehearseFault>
-    ensures { result ≡ of_examine halt }
-{
-    match halt {
-        Halt::Refused(fault) => Halt::Refused(RehearseFault::Examine(fault)),
-        Halt::Failed(object) => Halt::Failed(object),
-        Halt::NoMemory => Halt::NoMemory,
-    }
-}
-
-// How many findings a verification told.
-fn count_of(outcome: &Outcome) -> usize
-    ensures { result ≡ count_of outcome.now }
-{
-    match outcome {
-        Outcome::Finished { .. } | Outcome::Absent { .. } => 0,
-        Outcome::FindingsFound { count, .. } => *count,
-    }
-}
-
-// Restores the last backup by its digests. No recovery is asked for.
+// Restores the last backup by its digests, by links of its own. No recovery is asked for.
 fn restore_last<D: Disk, T: Tree, L: Link, U: Turns>(
     alloc: Global,
     repo: &mut D,
@@ -65,10 +43,16 @@ fn restore_last<D: Disk, T: Tree, L: Link, U: Turns>(
     turns: &mut U,
     stanza: &str,
     order: &RehearseOrder<'_>,
-) -> Result<(), Halt<RehearseFault>>
+) -> Result<(), Halt<StepFault>>
     requires ready { AreReady (map L.link_state links.old.items) }
     requires stanza { is_stanza stanza.now ≡ true }
+    ensures restored { OnOk result
+        (IsRestoredLast stanza.now (D.state repo.old).view.now (T.state tree.new).nodes) }
     ensures looks { Looks (D.state repo.old) (D.state repo.new) }
+    ensures folder { StaysOpen (T.state tree.old) (T.state tree.new) }
+    ensures cause { IfErr result (HaltCause (StepCause stanza.now (D.state repo.old).view.now)
+        (FailsBoth (D.state repo.old).faults (D.state repo.new).faults (T.state tree.old).faults
+        (T.state tree.new).faults)) }
 {
     let backup = read_backup(alloc, repo, stanza)?;
     let mut dealt = take_links(alloc, links, order.take.workers)?;
@@ -88,24 +72,61 @@ fn restore_last<D: Disk, T: Tree, L: Link, U: Turns>(
     }
 }
 
-// Verifies the repository, and tells how many findings there are.
+// How many files are archived.
+fn count_stored<D: Disk>(
+    alloc: Global,
+    repo: &mut D,
+    stanza: &str,
+) -> Result<usize, Halt<StepFault>>
+    ensures stored { IfOk result (CountsStored stanza.now (D.state repo.old).view.now) }
+    ensures looks { Looks (D.state repo.old) (D.state repo.new) }
+    ensures cause { IfErr result (HaltCause (StepCause stanza.now (D.state repo.old).view.now)
+        (Only TheRepo (Rises (D.state repo.old).faults (D.state repo.new).faults))) }
+{
+    match all(alloc, repo, stanza) {
+        Ok(files) => Ok(files.len()),
+        Err(fault) => Err(of_all(fault)),
+    }
+}
+
+// Verifies the repository.
 fn verify_all<D: Disk>(
     alloc: Global,
     repo: &mut D,
     stanza: &str,
-) -> Result<usize, Halt<RehearseFault>>
+) -> Result<Outcome, Halt<StepFault>>
+    ensures examined { IfOk result (IsExamined stanza.now (D.state repo.old).view.now) }
+    ensures sound { IfOk result (EndsWithNone stanza.now (D.state repo.old).view.now) }
     ensures looks { Looks (D.state repo.old) (D.state repo.new) }
-    ensures counts { IfOk result (Counts stanza.now (D.state repo.old).view.now) }
+    ensures cause { IfErr result (HaltCause (StepCause stanza.now (D.state repo.old).view.now)
+        (Only TheRepo (Rises (D.state repo.old).faults (D.state repo.new).faults))) }
 {
     let backup = read_backup(alloc, repo, stanza)?;
     match examine_stanza(alloc, repo, stanza, &backup) {
-        Ok(outcome) => Ok(count_of(&outcome)),
+        Ok(outcome) => Ok(outcome),
         Err(halt) => Err(of_examine(halt)),
     }
 }
 
-// The spoiled data folder is restored, and the repository verified.
-fn end<D: Disk, T: Tree, L: Link, U: Turns>(
+// What the repository comes to.
+fn look_around<D: Disk>(alloc: Global, repo: &mut D, stanza: &str) -> Result<Ended, Halt<StepFault>>
+    ensures ended { IfOk result (λ e. ComesTo stanza.now (D.state repo.old).view.now e.kept e.restored e.found) }
+    ensures looks { Looks (D.state repo.old) (D.state repo.new) }
+    ensures cause { IfErr result (HaltCause (StepCause stanza.now (D.state repo.old).view.now)
+        (Only TheRepo (Rises (D.state repo.old).faults (D.state repo.new).faults))) }
+{
+    let kept = count_stored(alloc, repo, stanza)?;
+    let restored = count_last(alloc, repo, stanza, Counted::All)?;
+    let found = verify_all(alloc, repo, stanza)?;
+    Ok(Ended {
+        kept,
+        restored,
+        found,
+    })
+}
+
+/// The spoiled data folder is restored, and the repository verified.
+pub(crate) fn end<D: Disk, T: Tree, L: Link, U: Turns>(
     alloc: Global,
     repo: &mut D,
     tree: &mut T,
@@ -113,48 +134,20 @@ fn end<D: Disk, T: Tree, L: Link, U: Turns>(
     turns: &mut U,
     stanza: &str,
     order: &RehearseOrder<'_>,
-) -> Result<usize, Halt<RehearseFault>>
+) -> Result<Ended, Halt<StepFault>>
     requires ready { AreReady (map L.link_state links.old.items) }
     requires stanza { is_stanza stanza.now ≡ true }
+    ensures ended { IfOk result (λ e. IsEnded stanza.now (D.state repo.old).view.now (T.state tree.new).nodes
+        e.kept e.restored e.found) }
     ensures looks { Looks (D.state repo.old) (D.state repo.new) }
-    ensures counts { IfOk result (Counts stanza.now (D.state repo.old).view.now) }
+    ensures folder { StaysOpen (T.state tree.old) (T.state tree.new) }
+    ensures cause { IfErr result (HaltCause (StepCause stanza.now (D.state repo.old).view.now)
+        (FailsBoth (D.state repo.old).faults (D.state repo.new).faults (T.state tree.old).faults
+        (T.state tree.new).faults)) }
 {
     if let Err(stop) = spoil_cluster(alloc, tree) {
         return Err(halted(Object::DataFolder, stop));
     }
     restore_last(alloc, repo, tree, links, turns, stanza, order)?;
-    verify_all(alloc, repo, stanza)
-}
-
-/// Rehearses the whole life of a cluster: it is made with its stanza and its segments, backed up three times, expired,
-/// spoiled, restored and verified. The number of findings is told.
-pub fn rehearse<D: Disk, T: Tree, V: Wire, C: Clock, K: Locks, L: Link, U: Turns>(
-    alloc: Global,
-    repo: &mut D,
-    tree: &mut T,
-    wire: &mut V,
-    clock: &mut C,
-    locks: &K,
-    links: &mut Vec<L>,
-    turns: &mut U,
-    stanza: &str,
-    order: &RehearseOrder<'_>,
-) -> Result<usize, Halt<RehearseFault>>
-    requires locked { (K.state locks.now).taken ≡ archive_lock stanza.now ∷ backup_lock stanza.now ∷ [] }
-    requires ready { AreReady (map L.link_state links.old.items) }
-    requires stanza { is_stanza stanza.now ≡ true }
-    // In the log it is one command: a part of it is done after every answer and at each moment, all of it at Ok.
-    ensures carries { (b : Backup) × (c : Backup) × (d : Backup)
-        × Carries stanza.now (rehearsed order.now.number keeps_one b c d) result (D.state repo.old).view
-        (D.state repo.new).view }
-    // The findings are those that the repository has.
-    ensures counts { IfOk result (Counts stanza.now (D.state repo.new).view.now) }
-    ensures beside { StaysBeside stanza.now (D.state repo.old).view (D.state repo.new).view }
-    ensures frame { Frame (D.state repo.old) (D.state repo.new) }
-    ensures quiet { wire.new ≡ wire.old }
-{
-    live(
-        alloc, repo, tree, wire, clock, locks, links, turns, stanza, order,
-    )?;
-    end(alloc, repo, tree, links, turns, stanza, order)
+    look_around(alloc, repo, stanza)
 }

@@ -1,6 +1,6 @@
 // Why a rehearsal ends without its result.
 ghost use Rattle.std.specs.Prelude.{◌≡◌};
-ghost use Rattle.pgb_rehearse.specs.Faults.{of_create, of_push, of_info, of_folder, of_expire};
+ghost use Rattle.pgb_rehearse.specs.Faults.{of_create, of_push, of_info, of_folder, of_base, of_later, of_expire, of_recover, of_all, of_examine, of_step};
 
 use pgb_create::CreateFault;
 use pgb_examine::ExamineFault;
@@ -10,54 +10,63 @@ use pgb_push::PushFault;
 use pgb_recover::RecoverFault;
 use pgb_sample_folder::FolderFault;
 use pgb_stage::{Halt, Object};
+use pgb_stored::ArchiveFault;
 use pgb_take_later::LaterFault;
 
-/// Why a rehearsal is refused; each refusal of a command that it makes under that command's name.
+/// Why a step of a rehearsal is refused; a refusal of a command that it makes under that command's name.
 #[derive(Debug, Drop)]
-pub enum RehearseFault {
-    /// A member of the stanza's archive pair is there.
-    StanzaExists,
-    /// Something is in the data folder, this path as the first.
-    NotEmpty { path: String },
+pub enum StepFault {
     Create(CreateFault),
     Push(PushFault),
     Take(LaterFault),
-    /// Neither member of an info pair that was written before can be read.
-    PairLost,
+    /// A pair that an earlier step wrote can't be read.
+    Lost,
     /// The histories of the two info pairs differ; `at` is the first number at which they do.
     HistoryDiffers { at: u32 },
     Recover(RecoverFault),
     Examine(ExamineFault),
 }
 
-/// What a refusal of stanza-create is.
-pub(crate) fn of_create(halt: Halt<CreateFault>) -> Halt<RehearseFault>
+/// Why a rehearsal is refused. The first two come before its first step.
+#[derive(Debug, Drop)]
+pub enum RehearseFault {
+    /// A member of the stanza's archive pair is there.
+    StanzaExists { stanza: String },
+    /// Something is in the data folder, this path as the first.
+    NotEmpty { path: String },
+    Step(StepFault),
+}
+
+/// What a refusal of stanza-create is, that asks no server.
+pub(crate) fn of_create(halt: Halt<CreateFault>) -> Halt<StepFault>
     ensures { result ≡ of_create halt }
 {
     match halt {
-        Halt::Refused(fault) => Halt::Refused(RehearseFault::Create(fault)),
+        Halt::Refused(fault) => Halt::Refused(StepFault::Create(fault)),
+        // One that isn't asked doesn't fail.
+        Halt::Failed(Object::Server) => Halt::NoMemory,
         Halt::Failed(object) => Halt::Failed(object),
         Halt::NoMemory => Halt::NoMemory,
     }
 }
 
 /// What a refusal of archive-push is.
-pub(crate) fn of_push(halt: Halt<PushFault>) -> Halt<RehearseFault>
+pub(crate) fn of_push(halt: Halt<PushFault>) -> Halt<StepFault>
     ensures { result ≡ of_push halt }
 {
     match halt {
-        Halt::Refused(fault) => Halt::Refused(RehearseFault::Push(fault)),
+        Halt::Refused(fault) => Halt::Refused(StepFault::Push(fault)),
         Halt::Failed(object) => Halt::Failed(object),
         Halt::NoMemory => Halt::NoMemory,
     }
 }
 
 /// What it is that a pair has no value.
-pub(crate) fn of_info(fault: InfoFault) -> Halt<RehearseFault>
+pub(crate) fn of_info(fault: InfoFault) -> Halt<StepFault>
     ensures { result ≡ of_info fault }
 {
     match fault {
-        InfoFault::Missing | InfoFault::Damaged { .. } => Halt::Refused(RehearseFault::PairLost),
+        InfoFault::Missing | InfoFault::Damaged { .. } => Halt::Refused(StepFault::Lost),
         InfoFault::Disk => Halt::Failed(Object::Repo),
         InfoFault::NoMemory => Halt::NoMemory,
     }
@@ -74,14 +83,83 @@ pub(crate) fn of_folder(fault: FolderFault) -> Halt<RehearseFault>
     }
 }
 
+/// What a refusal of a backup is.
+pub(crate) fn of_later(halt: Halt<LaterFault>) -> Halt<StepFault>
+    ensures { result ≡ of_later halt }
+{
+    match halt {
+        Halt::Refused(fault) => Halt::Refused(StepFault::Take(fault)),
+        Halt::Failed(object) => Halt::Failed(object),
+        Halt::NoMemory => Halt::NoMemory,
+    }
+}
+
+/// What it is that the manifest of the last backup isn't read.
+pub(crate) fn of_base(halt: Halt<LaterFault>) -> Halt<StepFault>
+    ensures { result ≡ of_base halt }
+{
+    match halt {
+        Halt::Refused(_) => Halt::Refused(StepFault::Lost),
+        Halt::Failed(object) => Halt::Failed(object),
+        Halt::NoMemory => Halt::NoMemory,
+    }
+}
+
 /// What it is that nothing was let go, or not all.
-pub(crate) fn of_expire(fault: ExpireFault) -> Halt<RehearseFault>
+pub(crate) fn of_expire(fault: ExpireFault) -> Halt<StepFault>
     ensures { result ≡ of_expire fault }
 {
     match fault {
-        ExpireFault::Info(_) => Halt::Refused(RehearseFault::PairLost),
-        ExpireFault::HistoryDiffers { at } => Halt::Refused(RehearseFault::HistoryDiffers { at }),
+        ExpireFault::Info(_) => Halt::Refused(StepFault::Lost),
+        ExpireFault::HistoryDiffers { at } => Halt::Refused(StepFault::HistoryDiffers { at }),
         ExpireFault::Disk => Halt::Failed(Object::Repo),
         ExpireFault::NoMemory => Halt::NoMemory,
+    }
+}
+
+/// What a refusal of a restore is.
+pub(crate) fn of_recover(halt: Halt<RecoverFault>) -> Halt<StepFault>
+    ensures { result ≡ of_recover halt }
+{
+    match halt {
+        Halt::Refused(fault) => Halt::Refused(StepFault::Recover(fault)),
+        Halt::Failed(object) => Halt::Failed(object),
+        Halt::NoMemory => Halt::NoMemory,
+    }
+}
+
+/// What it is that the stored files aren't told: there are too many of them, as for a verification.
+pub(crate) fn of_all(fault: ArchiveFault) -> Halt<StepFault>
+    ensures { result ≡ of_all fault }
+{
+    match fault {
+        ArchiveFault::TooMany { limit } => {
+            Halt::Refused(StepFault::Examine(ExamineFault::TooMany { limit }))
+        }
+        ArchiveFault::Disk => Halt::Failed(Object::Repo),
+        // No listing ends with one of the others: its cause is empty.
+        _ => Halt::NoMemory,
+    }
+}
+
+/// What a refusal of a verification is.
+pub(crate) fn of_examine(halt: Halt<ExamineFault>) -> Halt<StepFault>
+    ensures { result ≡ of_examine halt }
+{
+    match halt {
+        Halt::Refused(fault) => Halt::Refused(StepFault::Examine(fault)),
+        Halt::Failed(object) => Halt::Failed(object),
+        Halt::NoMemory => Halt::NoMemory,
+    }
+}
+
+/// What a refusal of a step is.
+pub(crate) fn of_step(halt: Halt<StepFault>) -> Halt<RehearseFault>
+    ensures { result ≡ of_step halt }
+{
+    match halt {
+        Halt::Refused(fault) => Halt::Refused(RehearseFault::Step(fault)),
+        Halt::Failed(object) => Halt::Failed(object),
+        Halt::NoMemory => Halt::NoMemory,
     }
 }

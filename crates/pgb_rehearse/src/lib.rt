@@ -7,18 +7,27 @@
 //! What is proved, by the contract of the function that is named:
 //!
 //! - `rehearse`, while both locks are held: in the log it is one command, which is those that it makes, one behind
-//!   another. A part of it is done after every answer and at each moment, also in all that a crash leaves, and all of
-//!   it at Ok.
-//! - It keeps to its stanza, asks no server, and its calls on the repository are made as they ask. The findings that it
-//!   counts are those that the repository has.
+//!   another. A part of it is done after every answer and at each moment, also in all that a crash leaves, all of it at
+//!   Ok, and nothing where it is refused before its first step.
+//! - At Ok the lines are what a verification found, and then the summary. It tells how many files and segments were made.
+//!   Of each backup, which was made behind the steps before it and is of its kind, it tells the files that it stored
+//!   itself and their bytes, as its manifest told them. Then come the backups that the expiry let go, the files that the
+//!   archive has, the files and bytes of the last backup, which is in the data folder, and the findings.
+//! - The findings are those that the repository has: none where it is sound and its members agree.
+//! - Each refusal has its cause: of the first two in what stood before, of a step in what the repository held as the step
+//!   began. `rehearse_status`, `rehearse_message`: for a step those of the command that it makes.
+//! - It keeps to its stanza, asks no server, and its calls on the repository are made as they ask. A data folder that
+//!   isn't empty is left as it was.
 //! - The lemmas for that, of any two commands: a part of the first is a part of both, and so are all of the first and a
 //!   part of the second (`proofs/Thens`, `proofs/Advanced`). A command that settles what it looks at alone does the
-//!   same where the whole stanza was settled (`proofs/Settled`).
+//!   same where the whole stanza was settled (`proofs/Settled`). What drains have stored stays stored by any command
+//!   (`proofs/Spools`).
 //!
 //! Each backup, and the restore, has links of its own, since a worker is told its folders once.
 #![tactic(auto)]
 
 mod backing;
+mod counting;
 mod ending;
 mod fault;
 mod links;
@@ -26,7 +35,13 @@ mod living;
 mod order;
 mod preparing;
 mod pushing;
+mod rehearsing;
+mod telling;
+mod texts;
 
-pub use ending::rehearse;
-pub use fault::RehearseFault;
+pub use counting::Amount;
+pub use fault::{RehearseFault, StepFault};
 pub use order::RehearseOrder;
+pub use rehearsing::rehearse;
+pub use telling::Summary;
+pub use texts::{rehearse_message, rehearse_status};

@@ -1,26 +1,34 @@
 // The life of a cluster, from its stanza to its expiry.
-ghost use Rattle.std.specs.Prelude.{◌≡◌, ◌≤◌, ◌∷◌, [], map, OnOk, IfSome};
-ghost use Rattle.pgb_outside.specs.States.{Frame};
+ghost use Rattle.std.specs.Prelude.{◌≡◌, ◌≤◌, ◌∷◌, [], map, IfOk, IfErr, OnOk};
+ghost use Rattle.pgb_outside.specs.Cause.{Rises};
+ghost use Rattle.pgb_outside.specs.States.{Frame, LooksAt};
+ghost use Rattle.pgb_model.specs.declared.labels.Kind.TheVariants.{Full as TheFull};
 ghost use Rattle.pgb_model.specs.Repository.{Backup};
-ghost use Rattle.pgb_sample.specs.Folder.{made};
-ghost use Rattle.pgb_sample_folder.specs.Having.{Has};
+ghost use Rattle.pgb_model.specs.Steps.{Expire};
 ghost use Rattle.pgb_story.specs.Beside.{StaysBeside};
 ghost use Rattle.pgb_worker_dispatch.specs.Run.{AreReady};
+ghost use Rattle.pgb_stage.specs.declared.object.Object.TheVariants.{Repo as TheRepo};
+ghost use Rattle.pgb_stage.specs.Halts.{HaltCause, Only};
 ghost use Rattle.pgb_stage.specs.Plans.{archive_lock, backup_lock};
-ghost use Rattle.pgb_expire.specs.Expiry.{retention};
-ghost use Rattle.pgb_rehearse.specs.Advancing.{Advances, Carries};
-ghost use Rattle.pgb_rehearse.specs.Commands.{prepared, with_first, with_second, with_third, rehearsed, keeps_one};
+ghost use Rattle.pgb_rehearse.specs.declared.counting.Counted.TheVariants.{Own as TheOwn};
+ghost use Rattle.pgb_rehearse.specs.Advancing.{Advances, Carries, StaysOpen};
+ghost use Rattle.pgb_rehearse.specs.Backups.{IsTakenBy, IsStep, AreTwo, AreThree};
+ghost use Rattle.pgb_rehearse.specs.Causes.{PartCause, FrontCause, StepCause, Fails};
+ghost use Rattle.pgb_rehearse.specs.Commands.{backed_up, prepared, with_first, with_second, with_third, rehearsed, keeps_one};
+ghost use Rattle.pgb_rehearse.specs.Counting.{TellsLast};
+ghost use Rattle.pgb_rehearse.specs.Rehearsing.{CountsExpired, IsLived};
 
 use crate::backing::back_up;
-use crate::fault::{RehearseFault, of_expire, of_folder};
+use crate::counting::{Amount, Counted, count_last};
+use crate::fault::{StepFault, of_expire};
 use crate::links::take_links;
 use crate::order::RehearseOrder;
-use crate::preparing::{check_new, prepare_stanza};
-use pgb_expire::{Expired, expire};
+use crate::preparing::prepare_stanza;
+use pgb_expire::expire;
 use pgb_model::Kind;
 use pgb_outside::{Clock, Disk, Link, Locks, Tree, Turns, Wire};
 use pgb_retain::{FullRule, Rules};
-use pgb_sample_folder::{grow_cluster, make_cluster};
+use pgb_sample_folder::grow_cluster;
 use pgb_stage::{Halt, Object, halted};
 use std::alloc::Global;
 
@@ -32,32 +40,54 @@ const KEEPS_ONE: Rules = Rules {
     archive_kind: Kind::Full,
 };
 
-// Makes the data folder, the stanza and its segments.
-fn begin<D: Disk, T: Tree, V: Wire, K: Locks>(
+/// The files and bytes that each backup stored itself, and the labels that the expiry let go.
+#[derive(Clone, Copy, Debug)]
+pub(crate) struct Lived {
+    pub first: Amount,
+    pub second: Amount,
+    pub third: Amount,
+    pub expired: usize,
+}
+
+// Makes a backup of this kind by links of its own, and counts what it stored itself.
+fn back_up_counted<D: Disk, T: Tree, C: Clock, K: Locks, L: Link, U: Turns>(
     alloc: Global,
     repo: &mut D,
     tree: &mut T,
-    wire: &mut V,
+    clock: &mut C,
     locks: &K,
+    links: &mut Vec<L>,
+    turns: &mut U,
     stanza: &str,
-    number: u32,
-) -> Result<(), Halt<RehearseFault>>
+    order: &RehearseOrder<'_>,
+    kind: Kind,
+    counted: Counted,
+) -> Result<Amount, Halt<StepFault>>
     requires locked { (K.state locks.now).taken ≡ archive_lock stanza.now ∷ backup_lock stanza.now ∷ [] }
-    requires few { number ≤ 64 }
-    ensures advances { Advances stanza.now (prepared number) result (D.state repo.old).view (D.state repo.new).view }
-    ensures made { OnOk result (Has (made number) (T.state tree.new).nodes) }
+    requires ready { AreReady (map L.link_state links.old.items) }
+    ensures advances { (b : Backup)
+        × Advances stanza.now (backed_up b) result (D.state repo.old).view (D.state repo.new).view
+        × IfErr result (HaltCause (PartCause stanza.now (backed_up b) (D.state repo.old).view.now)
+        (Fails (D.state repo.old).faults (D.state repo.new).faults (T.state tree.old).faults
+        (T.state tree.new).faults (C.state clock.old).faults (C.state clock.new).faults)) }
+    ensures taken { OnOk result
+        (IsTakenBy stanza.now kind (D.state repo.old).view.now (D.state repo.new).view.now) }
+    ensures told { IfOk result (TellsLast stanza.now counted (D.state repo.new).view.now) }
     ensures beside { StaysBeside stanza.now (D.state repo.old).view (D.state repo.new).view }
     ensures frame { Frame (D.state repo.old) (D.state repo.new) }
-    ensures quiet { wire.new ≡ wire.old }
+    ensures looks { LooksAt (T.state tree.old) (T.state tree.new) }
+    ensures later { (C.state clock.old).faults ≤ (C.state clock.new).faults }
+    ensures least { (C.state clock.old).least ≤ (C.state clock.new).least }
+    ensures left { AreReady (map L.link_state links.new.items) }
 {
-    check_new(alloc, repo, stanza)?;
-    if let Err(fault) = make_cluster(alloc, tree, number) {
-        return Err(of_folder(fault));
-    }
-    prepare_stanza(alloc, repo, wire, locks, stanza, number)
+    let mut dealt = take_links(alloc, links, order.take.workers)?;
+    back_up(
+        alloc, repo, tree, clock, locks, &mut dealt, turns, stanza, order.take, kind,
+    )?;
+    count_last(alloc, repo, stanza, counted)
 }
 
-// .. and a full backup.
+// The stanza, its segments and a full backup.
 fn with_first<D: Disk, T: Tree, V: Wire, C: Clock, K: Locks, L: Link, U: Turns>(
     alloc: Global,
     repo: &mut D,
@@ -69,29 +99,37 @@ fn with_first<D: Disk, T: Tree, V: Wire, C: Clock, K: Locks, L: Link, U: Turns>(
     turns: &mut U,
     stanza: &str,
     order: &RehearseOrder<'_>,
-) -> Result<(), Halt<RehearseFault>>
+) -> Result<Amount, Halt<StepFault>>
     requires locked { (K.state locks.now).taken ≡ archive_lock stanza.now ∷ backup_lock stanza.now ∷ [] }
     requires ready { AreReady (map L.link_state links.old.items) }
     ensures advances { (b : Backup)
         × Advances stanza.now (with_first order.now.number b) result (D.state repo.old).view (D.state repo.new).view }
+    ensures told { IfOk result (IsStep stanza.now (prepared order.now.number) TheFull TheOwn
+        (D.state repo.old).view.now (D.state repo.new).view.now) }
     ensures beside { StaysBeside stanza.now (D.state repo.old).view (D.state repo.new).view }
     ensures frame { Frame (D.state repo.old) (D.state repo.new) }
+    ensures folder { StaysOpen (T.state tree.old) (T.state tree.new) }
     ensures quiet { wire.new ≡ wire.old }
+    ensures later { (C.state clock.old).faults ≤ (C.state clock.new).faults }
+    ensures least { (C.state clock.old).least ≤ (C.state clock.new).least }
     ensures left { AreReady (map L.link_state links.new.items) }
+    ensures cause { IfErr result (HaltCause (FrontCause stanza.now order.now.number (D.state repo.old).view.now)
+        (Fails (D.state repo.old).faults (D.state repo.new).faults (T.state tree.old).faults
+        (T.state tree.new).faults (C.state clock.old).faults (C.state clock.new).faults)) }
 {
-    begin(alloc, repo, tree, wire, locks, stanza, order.number)?;
-    let mut dealt = take_links(alloc, links, order.take.workers)?;
-    back_up(
+    prepare_stanza(alloc, repo, wire, locks, stanza, order.number)?;
+    back_up_counted(
         alloc,
         repo,
         tree,
         clock,
         locks,
-        &mut dealt,
+        links,
         turns,
         stanza,
-        order.take,
+        order,
         Kind::Full,
+        Counted::Own,
     )
 }
 
@@ -107,36 +145,45 @@ fn with_second<D: Disk, T: Tree, V: Wire, C: Clock, K: Locks, L: Link, U: Turns>
     turns: &mut U,
     stanza: &str,
     order: &RehearseOrder<'_>,
-) -> Result<(), Halt<RehearseFault>>
+) -> Result<(Amount, Amount), Halt<StepFault>>
     requires locked { (K.state locks.now).taken ≡ archive_lock stanza.now ∷ backup_lock stanza.now ∷ [] }
     requires ready { AreReady (map L.link_state links.old.items) }
     ensures advances { (b : Backup) × (c : Backup)
         × Advances stanza.now (with_second order.now.number b c) result (D.state repo.old).view
-        (D.state repo.new).view }
+        (D.state repo.new).view
+        × IfOk result (λ x. AreTwo stanza.now order.now.number b (D.state repo.old).view.now
+        (D.state repo.new).view.now x.0 x.1) }
     ensures beside { StaysBeside stanza.now (D.state repo.old).view (D.state repo.new).view }
     ensures frame { Frame (D.state repo.old) (D.state repo.new) }
+    ensures folder { StaysOpen (T.state tree.old) (T.state tree.new) }
     ensures quiet { wire.new ≡ wire.old }
+    ensures later { (C.state clock.old).faults ≤ (C.state clock.new).faults }
+    ensures least { (C.state clock.old).least ≤ (C.state clock.new).least }
     ensures left { AreReady (map L.link_state links.new.items) }
+    ensures cause { IfErr result (HaltCause (FrontCause stanza.now order.now.number (D.state repo.old).view.now)
+        (Fails (D.state repo.old).faults (D.state repo.new).faults (T.state tree.old).faults
+        (T.state tree.new).faults (C.state clock.old).faults (C.state clock.new).faults)) }
 {
-    with_first(
+    let first = with_first(
         alloc, repo, tree, wire, clock, locks, links, turns, stanza, order,
     )?;
     if let Err(stop) = grow_cluster(alloc, tree, order.number) {
         return Err(halted(Object::DataFolder, stop));
     }
-    let mut dealt = take_links(alloc, links, order.take.workers)?;
-    back_up(
+    let second = back_up_counted(
         alloc,
         repo,
         tree,
         clock,
         locks,
-        &mut dealt,
+        links,
         turns,
         stanza,
-        order.take,
+        order,
         Kind::Incr,
-    )
+        Counted::Filled,
+    )?;
+    Ok((first, second))
 }
 
 // .. and a second full one.
@@ -151,37 +198,61 @@ fn with_third<D: Disk, T: Tree, V: Wire, C: Clock, K: Locks, L: Link, U: Turns>(
     turns: &mut U,
     stanza: &str,
     order: &RehearseOrder<'_>,
-) -> Result<(), Halt<RehearseFault>>
+) -> Result<(Amount, Amount, Amount), Halt<StepFault>>
     requires locked { (K.state locks.now).taken ≡ archive_lock stanza.now ∷ backup_lock stanza.now ∷ [] }
     requires ready { AreReady (map L.link_state links.old.items) }
     ensures advances { (b : Backup) × (c : Backup) × (d : Backup)
         × Advances stanza.now (with_third order.now.number b c d) result (D.state repo.old).view
-        (D.state repo.new).view }
+        (D.state repo.new).view
+        × IfOk result (λ x. AreThree stanza.now order.now.number b c (D.state repo.old).view.now
+        (D.state repo.new).view.now x.0 x.1 x.2) }
     ensures beside { StaysBeside stanza.now (D.state repo.old).view (D.state repo.new).view }
     ensures frame { Frame (D.state repo.old) (D.state repo.new) }
+    ensures folder { StaysOpen (T.state tree.old) (T.state tree.new) }
     ensures quiet { wire.new ≡ wire.old }
+    ensures later { (C.state clock.old).faults ≤ (C.state clock.new).faults }
+    ensures least { (C.state clock.old).least ≤ (C.state clock.new).least }
     ensures left { AreReady (map L.link_state links.new.items) }
+    ensures cause { IfErr result (HaltCause (FrontCause stanza.now order.now.number (D.state repo.old).view.now)
+        (Fails (D.state repo.old).faults (D.state repo.new).faults (T.state tree.old).faults
+        (T.state tree.new).faults (C.state clock.old).faults (C.state clock.new).faults)) }
 {
-    with_second(
+    let two = with_second(
         alloc, repo, tree, wire, clock, locks, links, turns, stanza, order,
     )?;
-    let mut dealt = take_links(alloc, links, order.take.workers)?;
-    back_up(
+    let third = back_up_counted(
         alloc,
         repo,
         tree,
         clock,
         locks,
-        &mut dealt,
+        links,
         turns,
         stanza,
-        order.take,
+        order,
         Kind::Full,
-    )
+        Counted::Own,
+    )?;
+    Ok((two.0, two.1, third))
 }
 
-/// Makes the data folder, the stanza, its segments, a full, an incremental and again a full backup, and lets all go
-/// that one full backup doesn't need.
+// Lets all go that one full backup doesn't need, and tells how many backups went.
+fn let_go<D: Disk>(alloc: Global, repo: &mut D, stanza: &str) -> Result<usize, Halt<StepFault>>
+    ensures carries { Carries stanza.now (Expire keeps_one) result (D.state repo.old).view (D.state repo.new).view }
+    ensures expired { IfOk result (CountsExpired stanza.now (D.state repo.old).view.now) }
+    ensures beside { StaysBeside stanza.now (D.state repo.old).view (D.state repo.new).view }
+    ensures frame { Frame (D.state repo.old) (D.state repo.new) }
+    ensures cause { IfErr result (HaltCause (StepCause stanza.now (D.state repo.old).view.now)
+        (Only TheRepo (Rises (D.state repo.old).faults (D.state repo.new).faults))) }
+{
+    match expire(alloc, repo, stanza, &KEEPS_ONE, 0) {
+        Ok(gone) => Ok(gone.labels.len()),
+        Err(fault) => Err(of_expire(fault)),
+    }
+}
+
+/// Makes the stanza, its segments, a full, an incremental and again a full backup, and lets all go that one full backup
+/// doesn't need.
 pub(crate) fn live<D: Disk, T: Tree, V: Wire, C: Clock, K: Locks, L: Link, U: Turns>(
     alloc: Global,
     repo: &mut D,
@@ -193,22 +264,32 @@ pub(crate) fn live<D: Disk, T: Tree, V: Wire, C: Clock, K: Locks, L: Link, U: Tu
     turns: &mut U,
     stanza: &str,
     order: &RehearseOrder<'_>,
-) -> Result<Expired, Halt<RehearseFault>>
+) -> Result<Lived, Halt<StepFault>>
     requires locked { (K.state locks.now).taken ≡ archive_lock stanza.now ∷ backup_lock stanza.now ∷ [] }
     requires ready { AreReady (map L.link_state links.old.items) }
-    ensures advances { (b : Backup) × (c : Backup) × (d : Backup)
+    ensures lives { (b : Backup) × (c : Backup) × (d : Backup)
         × Carries stanza.now (rehearsed order.now.number keeps_one b c d) result (D.state repo.old).view
-        (D.state repo.new).view }
+        (D.state repo.new).view
+        × IfOk result (IsLived stanza.now order.now.number b c d (D.state repo.old).view.now) }
     ensures beside { StaysBeside stanza.now (D.state repo.old).view (D.state repo.new).view }
     ensures frame { Frame (D.state repo.old) (D.state repo.new) }
+    ensures folder { StaysOpen (T.state tree.old) (T.state tree.new) }
     ensures quiet { wire.new ≡ wire.old }
+    ensures later { (C.state clock.old).faults ≤ (C.state clock.new).faults }
+    ensures least { (C.state clock.old).least ≤ (C.state clock.new).least }
     ensures left { AreReady (map L.link_state links.new.items) }
+    ensures cause { IfErr result (HaltCause (FrontCause stanza.now order.now.number (D.state repo.old).view.now)
+        (Fails (D.state repo.old).faults (D.state repo.new).faults (T.state tree.old).faults
+        (T.state tree.new).faults (C.state clock.old).faults (C.state clock.new).faults)) }
 {
-    with_third(
+    let three = with_third(
         alloc, repo, tree, wire, clock, locks, links, turns, stanza, order,
     )?;
-    match expire(alloc, repo, stanza, &KEEPS_ONE, 0) {
-        Ok(gone) => Ok(gone),
-        Err(fault) => Err(of_expire(fault)),
-    }
+    let expired = let_go(alloc, repo, stanza)?;
+    Ok(Lived {
+        first: three.0,
+        second: three.1,
+        third: three.2,
+        expired,
+    })
 }

@@ -15,10 +15,10 @@ ghost use Rattle.pgb_stage.specs.Halts.{HaltCause, Only};
 ghost use Rattle.pgb_stage.specs.Plans.{archive_lock, backup_lock};
 ghost use Rattle.pgb_prepare.specs.Readies.{IsArchiveOf};
 ghost use Rattle.pgb_rehearse.specs.Advancing.{Advances};
+ghost use Rattle.pgb_rehearse.specs.Causes.{LostCause, StepCause, FrontCause, ExistsCause, IsExisting};
 ghost use Rattle.pgb_rehearse.specs.Commands.{created, prepared};
-ghost use Rattle.pgb_rehearse.specs.Faults.{ExistsCause};
 
-use crate::fault::{RehearseFault, of_create, of_info};
+use crate::fault::{RehearseFault, StepFault, of_create, of_info};
 use crate::pushing::push_segments;
 use pgb_create::create_stanza;
 use pgb_model::{ArchiveId, ArchiveInfo};
@@ -27,7 +27,7 @@ use pgb_pair::{InfoFault, load_pair};
 use pgb_sample::SYSTEM;
 use pgb_stage::{Halt, Object};
 use pgb_stanza::{Control, archive_info_name};
-use std::alloc::Global;
+use std::alloc::{AllocError, Global};
 
 /// What the control file and the version file of the cluster tell.
 pub(crate) const SAMPLE: Control = Control {
@@ -36,6 +36,15 @@ pub(crate) const SAMPLE: Control = Control {
     catalog: 202307071,
     version: 16,
 };
+
+// The refusal of a stanza that is there.
+fn exists(alloc: Global, stanza: &str) -> Result<RehearseFault, AllocError>
+    ensures { IfOk result (λ fault. IsExisting stanza.now fault) }
+{
+    Ok(RehearseFault::StanzaExists {
+        stanza: String::from_str(alloc, stanza)?,
+    })
+}
 
 /// Refuses a stanza of which a member of the archive pair is there.
 pub(crate) fn check_new<D: Disk>(
@@ -51,8 +60,8 @@ pub(crate) fn check_new<D: Disk>(
     let name = archive_info_name(alloc, stanza)?;
     let read: Result<ArchiveInfo, InfoFault> = load_pair(alloc, repo, name.as_str());
     match read {
-        Ok(_) => Err(Halt::Refused(RehearseFault::StanzaExists)),
-        Err(InfoFault::Damaged { .. }) => Err(Halt::Refused(RehearseFault::StanzaExists)),
+        Ok(_) => Err(Halt::Refused(exists(alloc, stanza)?)),
+        Err(InfoFault::Damaged { .. }) => Err(Halt::Refused(exists(alloc, stanza)?)),
         Err(InfoFault::Missing) => Ok(()),
         Err(InfoFault::Disk) => Err(Halt::Failed(Object::Repo)),
         Err(InfoFault::NoMemory) => Err(Halt::NoMemory),
@@ -64,10 +73,10 @@ pub(crate) fn read_archive<D: Disk>(
     alloc: Global,
     repo: &mut D,
     stanza: &str,
-) -> Result<ArchiveInfo, Halt<RehearseFault>>
+) -> Result<ArchiveInfo, Halt<StepFault>>
     ensures found { IfOk result (IsArchiveOf stanza.now (D.state repo.old).view.now) }
     ensures looks { Looks (D.state repo.old) (D.state repo.new) }
-    ensures cause { IfErr result (HaltCause (λ _. Unit {0})
+    ensures cause { IfErr result (HaltCause (LostCause stanza.now (D.state repo.old).view.now)
         (Only TheRepo (Rises (D.state repo.old).faults (D.state repo.new).faults))) }
 {
     let name = archive_info_name(alloc, stanza)?;
@@ -98,12 +107,14 @@ fn create_sample<D: Disk, V: Wire, K: Locks>(
     wire: &mut V,
     locks: &K,
     stanza: &str,
-) -> Result<(), Halt<RehearseFault>>
+) -> Result<(), Halt<StepFault>>
     requires locked { (K.state locks.now).taken ≡ archive_lock stanza.now ∷ backup_lock stanza.now ∷ [] }
     ensures advances { Advances stanza.now created result (D.state repo.old).view (D.state repo.new).view }
     ensures beside { StaysBeside stanza.now (D.state repo.old).view (D.state repo.new).view }
     ensures frame { Frame (D.state repo.old) (D.state repo.new) }
     ensures quiet { wire.new ≡ wire.old }
+    ensures cause { IfErr result (HaltCause (StepCause stanza.now (D.state repo.old).view.now)
+        (Only TheRepo (Rises (D.state repo.old).faults (D.state repo.new).faults))) }
 {
     match create_stanza(alloc, repo, wire, locks, stanza, &SAMPLE, None) {
         Ok(_) => Ok(()),
@@ -119,13 +130,15 @@ pub(crate) fn prepare_stanza<D: Disk, V: Wire, K: Locks>(
     locks: &K,
     stanza: &str,
     number: u32,
-) -> Result<(), Halt<RehearseFault>>
+) -> Result<(), Halt<StepFault>>
     requires number { number ≤ 64 }
     requires locked { (K.state locks.now).taken ≡ archive_lock stanza.now ∷ backup_lock stanza.now ∷ [] }
     ensures advances { Advances stanza.now (prepared number) result (D.state repo.old).view (D.state repo.new).view }
     ensures beside { StaysBeside stanza.now (D.state repo.old).view (D.state repo.new).view }
     ensures frame { Frame (D.state repo.old) (D.state repo.new) }
     ensures quiet { wire.new ≡ wire.old }
+    ensures cause { IfErr result (HaltCause (FrontCause stanza.now number (D.state repo.old).view.now)
+        (Only TheRepo (Rises (D.state repo.old).faults (D.state repo.new).faults))) }
 {
     create_sample(alloc, repo, wire, locks, stanza)?;
     let info = read_archive(alloc, repo, stanza)?;

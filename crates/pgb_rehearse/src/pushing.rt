@@ -12,9 +12,10 @@ ghost use Rattle.pgb_stage.specs.Current.{HasCurrent, id_kept};
 ghost use Rattle.pgb_stage.specs.Halts.{HaltCause, Only};
 ghost use Rattle.pgb_stage.specs.Runs.{DoesPart, DoesWhole};
 ghost use Rattle.pgb_rehearse.specs.Advancing.{Advances};
+ghost use Rattle.pgb_rehearse.specs.Causes.{StepCause, PushesCause};
 ghost use Rattle.pgb_rehearse.specs.Commands.{segment_named, pushed};
 
-use crate::fault::{RehearseFault, of_push};
+use crate::fault::{StepFault, of_push};
 use pgb_archive::{PushFault as StoreFault, push};
 use pgb_model::{ArchiveId, ArchiveName, Segment};
 use pgb_outside::Disk;
@@ -41,7 +42,7 @@ fn push_one<D: Disk>(
     stanza: &str,
     id: &ArchiveId,
     number: u32,
-) -> Result<(), Halt<RehearseFault>>
+) -> Result<(), Halt<StepFault>>
     requires fits { (id.now.version < 2 ^ 32) × (id.now.number < 2 ^ 32) }
     ensures part { (c : ClusterId) → id.now ≡ id_kept c
         → IfSome (D.state repo.old).view.now (λ f. HasCurrent stanza.now f c)
@@ -57,7 +58,7 @@ fn push_one<D: Disk>(
         → IsSome (D.state repo.old).view.now → IfSome (D.state repo.new).view.now (λ f. HasCurrent stanza.now f c) }
     ensures beside { StaysBeside stanza.now (D.state repo.old).view (D.state repo.new).view }
     ensures frame { Frame (D.state repo.old) (D.state repo.new) }
-    ensures cause { IfErr result (HaltCause (λ _. Unit {0})
+    ensures cause { IfErr result (HaltCause (StepCause stanza.now (D.state repo.old).view.now)
         (Only TheRepo (Rises (D.state repo.old).faults (D.state repo.new).faults))) }
 {
     let bytes = segment_bytes(alloc, (number % 256) as u8)?;
@@ -75,7 +76,7 @@ pub(crate) fn push_segments<D: Disk>(
     stanza: &str,
     id: &ArchiveId,
     count: u32,
-) -> Result<(), Halt<RehearseFault>>
+) -> Result<(), Halt<StepFault>>
     requires few { count ≤ 128 }
     requires fits { (id.now.version < 2 ^ 32) × (id.now.number < 2 ^ 32) }
     ensures advances { (c : ClusterId) → id.now ≡ id_kept c
@@ -83,7 +84,9 @@ pub(crate) fn push_segments<D: Disk>(
         → Advances stanza.now (pushed count) result (D.state repo.old).view (D.state repo.new).view }
     ensures beside { StaysBeside stanza.now (D.state repo.old).view (D.state repo.new).view }
     ensures frame { Frame (D.state repo.old) (D.state repo.new) }
-    ensures cause { IfErr result (HaltCause (λ _. Unit {0})
+    ensures cause { (c : ClusterId) → id.now ≡ id_kept c
+        → IfSome (D.state repo.old).view.now (λ f. HasCurrent stanza.now f c)
+        → IfErr result (HaltCause (PushesCause stanza.now count (D.state repo.old).view.now)
         (Only TheRepo (Rises (D.state repo.old).faults (D.state repo.new).faults))) }
 {
     for before in 0..count {

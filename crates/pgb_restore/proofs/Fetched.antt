@@ -1,5 +1,5 @@
 -- One file that is read and written; and one that gets its own name last.
-use Rattle.std.proofs.Common.{ℕ, zero, suc, ◌≡◌, ◌≢◌, inl, inr, ◌<◌, refl, sym, ap, ◌∙◌, subst, List, [], ◌∷◌, Option, Some, None, option_map, slice_get}
+use Rattle.std.proofs.Common.{ℕ, zero, suc, ◌≡◌, ◌≢◌, inl, inr, ◌<◌, refl, sym, ap, ◌∙◌, subst, arith, List, [], ◌∷◌, Option, Some, None, option_map, slice_get}
 use Rattle.std.specs.Prelude.{IfSome, OnErr, Result, Ok, Err}
 use Rattle.pgb_outside.specs.Content.{at}
 use Rattle.pgb_outside.specs.Links.{LinkState}
@@ -16,7 +16,7 @@ use Rattle.pgb_fill.specs.Apart.{AreApart}
 use Rattle.pgb_fill.specs.Keeping.{IsNoneOf}
 use Rattle.pgb_clear.specs.Clearing.{HasFile}
 use Rattle.pgb_clear.proofs.Nodes.{set_other, set_same}
-use Rattle.pgb_source.specs.Sources.{source, reading}
+use Rattle.pgb_source.specs.Sources.{source, reading, IsEntry}
 use Rattle.pgb_restore.specs.declared.fault.FillFault.{FillFault}
 use Rattle.pgb_restore.specs.declared.fault.FillFault.TheVariants as faults
 use Rattle.pgb_restore.specs.Written.{IsJobOf, AreJobsOf, IsReadOf, IsFetched}
@@ -72,6 +72,11 @@ entry_fetched stanza own links e j w path (Some g) items is size sum x =
       are = (x.size ∙ size, x.sum ∙ sum);
       read = λ some. subst (λ (i : Item). IsReadOf links i x.bytes) item x.read;
     }
+
+-- one of no bytes that was begun
+pub entry_begun : (stanza : Text) (own : Label) (links : List LinkState) (e : FileEntry) (path : Text) (o : Option Nodes) → IsEntry e → e.size ≡ 0 → IfSome o (HasFile path []) → IfSome o (HasEntry stanza own links e path)
+entry_begun stanza own links e path None entry none has = tt
+entry_begun stanza own links e path (Some g) entry none has = record { bytes = []; file = has; are = (sym none, sym (entry.1.empty none).0); read = λ some. absurd (omega (arith, some, none)) }
 
 -- it gets another name
 pub entry_moved : (stanza : Text) (own : Label) (links : List LinkState) (e : FileEntry) (from to : Text) (o new : Option Nodes) → IfSome o (HasEntry stanza own links e from) → new ≡ option_map (moved_node from to) o → IfSome new (HasEntry stanza own links e to)

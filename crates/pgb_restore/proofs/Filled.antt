@@ -16,13 +16,14 @@ use Rattle.pgb_worker_dispatch.specs.declared.fault.Lost.{Lost}
 use Rattle.pgb_clear.specs.Clearing.{control_path, HasFile}
 use Rattle.pgb_fill.specs.declared.files.Wanted.{Wanted}
 use Rattle.pgb_fill.specs.Files.{temporary_path}
-use Rattle.pgb_fill.specs.Keeping.{IsNoneOf}
+use Rattle.pgb_fill.specs.Keeping.{IsNoneOf, HaveFolders}
 use Rattle.pgb_source.specs.Sources.{source, reading}
 use Rattle.pgb_restore.specs.declared.fault.FillFault.{FillFault}
 use Rattle.pgb_restore.specs.declared.fault.FillFault.TheVariants as faults
 use Rattle.pgb_restore.specs.Written.{IsReadOf, IsFetched, AllFetched}
 use Rattle.pgb_restore.specs.Kept.{marked}
 use Rattle.pgb_restore.specs.Entries.{reads_of, Want, want_of, want_in, IsFilled, Fills}
+use Rattle.pgb_restore.specs.Listed.{AreHoused}
 use Rattle.pgb_restore.specs.Faults.{IsWrongFile, IsUnreadFile, WriteFails, IsDamaged, IsUnread, AreLost, FillFails}
 use Rattle.pgb_restore.proofs.ReadJobs.{at_in, in_at, entry_at, wanted_of_entry, job_at}
 use Rattle.pgb_restore.proofs.ReadEntries.{in_read, marked_in, ordinary_off}
@@ -80,6 +81,16 @@ module _ (stanza : Text) (own : Label) (links : List LinkState) (r : Recovery) (
         filled_by e w.0 new w.2 (fetched k.0 (reading stanza own e) w.0 (job_at stanza own r (marked files marks) jobs ws jobs_are wanted_are k.0 e k.1) w.1);
     others = λ q off. others q (none_written q off);
   }
+
+  -- each of those that are written has its folder, which is none of them
+  pub have_folders : (nodes : Option Nodes) → AreHoused files nodes → HaveFolders ws nodes
+  have_folders nodes housed w i front last is plain =
+      let k = at_in ws w i in
+      let e = entry_at stanza own r (marked files marks) jobs ws jobs_are wanted_are k.0 w k.1 in
+      let path : e.0.path ≡ w.path.now = ap (λ (y : Want). y.path) e.2 in
+      let its = λ (d : FileEntry) (j : In d (reads_of r (marked files marks))). marked_in files marks (d, false) (in_read r (marked files marks) d j).0 in
+      let x = housed e.0 (its e.0 (in_at (reads_of r (marked files marks)) k.0 e.0 e.1)) front last (path ∙ is) plain in
+      (none_written front (λ d j. x.0 d (its d j)), x.1)
 
   -- the control file is none of those that are written
   pub none_of_control : IsNoneOf ws control_path

@@ -12,6 +12,7 @@ pub mod Rebuilt
 pub mod Fetched
 pub mod Failing
 pub mod Finished
+pub mod Proper
 pub mod Digests
 pub mod Shows
 pub mod Lines

@@ -50,7 +50,11 @@ pub record IsFilled (stanza : Text) (own : Label) (links : List LinkState) (e : 
   pub read : IsReadOf links (source stanza own e) bytes
   pub alone : f (temporary_path e.path) ≡ None
 
+-- the path is none of these files', nor the temporary name of one
+abbrev pub IsBeside : List FileEntry → Text → Type 0
+IsBeside es q = (e : FileEntry) → In e es → (q ≢ e.path) × (q ≢ temporary_path e.path)
+
 -- these files were written, and nothing else but their temporary names has changed
 pub record Fills (stanza : Text) (own : Label) (links : List LinkState) (es : List FileEntry) (old new : Option Nodes) : Type 0 where
   pub each : (e : FileEntry) → In e es → IfSome new (IsFilled stanza own links e)
-  pub others : (q : Text) → ((e : FileEntry) → In e es → (q ≢ e.path) × (q ≢ temporary_path e.path)) → at q new ≡ at q old
+  pub others : (q : Text) → IsBeside es q → at q new ≡ at q old

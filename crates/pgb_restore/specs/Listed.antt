@@ -1,15 +1,16 @@
 -- From a listed tree to that of a backup without its control file. Own.
-use Rattle.std.specs.Prelude.{Bool, true, false, not, ◌≡◌, ◌≢◌, ◌&&◌, ◌⊎◌, List, [], bytes_eq, Option, Some, None, option_map}
+use Rattle.std.specs.Prelude.{Bool, true, false, not, ◌≡◌, ◌≢◌, ◌&&◌, ◌⊎◌, List, [], bytes_eq, Option, Some, None, option_map, Contains}
 use Rattle.pgb_outside.specs.Links.{LinkState}
 use Rattle.pgb_outside.specs.Tree.{Nodes, folder, IsTreeListing}
 use Rattle.pgb_outside.specs.declared.tree.Node.{Node}
 use Rattle.pgb_outside.specs.declared.tree.Node.TheVariants.{File, Folder, Link, Other}
 use Rattle.pgb_model.specs.Restored.{Recovery}
-use Rattle.pgb_model.specs.Text.{Text, In}
+use Rattle.pgb_model.specs.Text.{Text, In, ◌⫽◌}
 use Rattle.pgb_model.specs.Values.{FileEntry, Manifest}
+use Rattle.pgb_fill.specs.Keeping.{IsFolderAt}
 use Rattle.pgb_clear.specs.Clearing.{control_path, HasFile, is_bare, Bares, without, with_folders}
 use Rattle.pgb_restore.specs.Options.{Options, is_added, is_ordinary}
-use Rattle.pgb_restore.specs.Entries.{IsFilled}
+use Rattle.pgb_restore.specs.Entries.{IsFilled, IsBeside}
 use Rattle.pgb_restore.specs.Kept.{marked, IsKept}
 use Rattle.pgb_restore.specs.Settings.{HasAdded}
 
@@ -46,3 +47,13 @@ pub record IsPlain (stanza : Text) (links : List LinkState) (o : Options) (m : M
   pub settings : HasAdded stanza m.label links m.files added f
   pub folder : (path : Text) → In path m.folders → f path ≡ Some folder
   pub nothing : (path : Text) → ¬ In path m.folders → ((e : FileEntry) → In e m.files → path ≢ control_path → path ≢ e.path) → is_added added path ≡ false → f path ≡ None
+
+-- ---- folders
+
+-- these folders are there, where that is told
+abbrev pub HasFolders : List Text → Option Nodes → Type 0
+HasFolders folders nodes = (path : Text) → In path folders → IsFolderAt path nodes
+
+-- each of these entries has its folder, which is none of them, nor the temporary name of one
+abbrev pub AreHoused : List FileEntry → Option Nodes → Type 0
+AreHoused es nodes = (e : FileEntry) → In e es → (front last : Text) → e.path ≡ front ⫽ last → ¬ Contains last 47 → IsBeside es front × IsFolderAt front nodes

@@ -1,6 +1,7 @@
 // The control file is put in its place last.
 ghost use Rattle.std.specs.Prelude.{◌≡◌, ◌≢◌, ◌<◌, ◌≤◌, ◌^◌, Some, [], ◌∷◌, true, map, vec_len, IfOk, OnOk, OnErr, IfErr, IfSome, IfNone, string_bytes};
 ghost use Rattle.pgb_outside.specs.Content.{at};
+ghost use Rattle.pgb_outside.specs.Tree.{IsPlaced};
 ghost use Rattle.pgb_model.specs.InfoFiles.{IsLabel};
 ghost use Rattle.pgb_model.specs.Text.{Text, In};
 ghost use Rattle.pgb_model.specs.Values.{FileEntry as Entry, file_entry_of};
@@ -84,6 +85,8 @@ fn fetch<T: Tree, L: Link, U: Turns>(
     ensures alone { OnOk result (IsAway (temporary_path path.now) (T.state tree.new).nodes) }
     ensures others { (q : Text) → q ≢ path.now → q ≢ temporary_path path.now
         → at q (T.state tree.new).nodes ≡ at q (T.state tree.old).nodes }
+    ensures proper { IsPlaced (T.state tree.old).nodes path.now
+        → (T.state tree.new).misuses ≡ (T.state tree.old).misuses }
     ensures opened { (T.state tree.new).opened ≡ (T.state tree.old).opened }
     ensures later { (T.state tree.old).faults ≤ (T.state tree.new).faults }
     ensures fault { IfErr result
@@ -128,6 +131,8 @@ fn stage<T: Tree, L: Link, U: Turns>(
         → IsAway (temporary_path waiting_path) (T.state tree.new).nodes) }
     ensures others { (q : Text) → q ≢ waiting_path → q ≢ temporary_path waiting_path
         → at q (T.state tree.new).nodes ≡ at q (T.state tree.old).nodes }
+    ensures proper { IsPlaced (T.state tree.old).nodes control_path
+        → (T.state tree.new).misuses ≡ (T.state tree.old).misuses }
     ensures opened { (T.state tree.new).opened ≡ (T.state tree.old).opened }
     ensures later { (T.state tree.old).faults ≤ (T.state tree.new).faults }
     ensures fault { IfErr result
@@ -169,6 +174,9 @@ pub(crate) fn put_control<T: Tree, L: Link, U: Turns>(
         → at q (T.state tree.new).nodes ≡ at q (T.state tree.old).nodes }
     // Where it isn't put there, none is there.
     ensures none { OnErr result (StaysNone control_path (T.state tree.old).nodes (T.state tree.new).nodes) }
+    // Where the file's folder is there, no call is faulty.
+    ensures proper { IsPlaced (T.state tree.old).nodes control_path
+        → (T.state tree.new).misuses ≡ (T.state tree.old).misuses }
     ensures opened { (T.state tree.new).opened ≡ (T.state tree.old).opened }
     ensures later { (T.state tree.old).faults ≤ (T.state tree.new).faults }
     ensures fault { IfErr result

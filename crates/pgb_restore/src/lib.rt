@@ -28,8 +28,8 @@
 //! - It is unread only where the one link that is left gave that frame last, and one of the links couldn't read the
 //!   bytes at its place. Workers are lost where each link has its entry, and none is a steady worker. The folder failed
 //!   where its count rose.
-//! - That the folder's calls are made as they ask is said of making the folder ready, by a clause of a private
-//!   function, and not of the files that the keeper writes.
+//! - The folder's calls are made as they ask: by `restore_files` whatever it answers, and by `write_files` where the
+//!   files have their folders.
 #![tactic(auto)]
 
 mod candidates;

@@ -13,7 +13,7 @@ ghost use Rattle.pgb_source.specs.Sources.{IsEntry};
 ghost use Rattle.pgb_restore.specs.Options.{recovery_of, options_of};
 ghost use Rattle.pgb_restore.specs.Kept.{marked};
 ghost use Rattle.pgb_restore.specs.Entries.{reads_of, Fills};
-ghost use Rattle.pgb_restore.specs.Listed.{IsListedBut, IsPrepared};
+ghost use Rattle.pgb_restore.specs.Listed.{IsListedBut, IsPrepared, HasFolders, AreHoused};
 ghost use Rattle.pgb_restore.specs.Finished.{Rebuilds};
 ghost use Rattle.pgb_digests.specs.Left.{IsLeft};
 ghost use Rattle.pgb_restore.specs.Faults.{FillFails};
@@ -71,6 +71,8 @@ fn fill<T: Tree, L: Link, U: Turns>(
         (reads_of (recovery_of recovery.now) (marked (map file_entry_of files.now) marks.now))
         (T.state tree.old).nodes (T.state tree.new).nodes) }
     ensures control { StaysNone control_path (T.state tree.old).nodes (T.state tree.new).nodes }
+    ensures proper { AreHoused (map file_entry_of files.now) (T.state tree.old).nodes
+        → (T.state tree.new).misuses ≡ (T.state tree.old).misuses }
     ensures opened { (T.state tree.new).opened ≡ (T.state tree.old).opened }
     ensures later { (T.state tree.old).faults ≤ (T.state tree.new).faults }
     ensures left { OnOk result
@@ -115,6 +117,8 @@ pub(crate) fn rebuild<T: Tree, L: Link, U: Turns>(
         (Rebuilds stanza.now (map L.link_state links.old.items) (options_of options.now) (manifest_of manifest.now)
         (map seen_of seen.now) marks.now (T.state tree.old).nodes (T.state tree.new).nodes) }
     ensures control { StaysNone control_path (T.state tree.old).nodes (T.state tree.new).nodes }
+    ensures folders { OnOk result (HasFolders (manifest_of manifest.now).folders (T.state tree.new).nodes) }
+    ensures proper { (T.state tree.new).misuses ≡ (T.state tree.old).misuses }
     ensures opened { (T.state tree.new).opened ≡ (T.state tree.old).opened }
     ensures later { (T.state tree.old).faults ≤ (T.state tree.new).faults }
     ensures left { OnOk result

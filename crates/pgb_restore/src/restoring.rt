@@ -9,7 +9,7 @@ ghost use Rattle.pgb_model.specs.Values.{manifest_of};
 ghost use Rattle.pgb_table.specs.Values.{is_stanza};
 ghost use Rattle.pgb_worker_dispatch.specs.Run.{AreReady};
 ghost use Rattle.pgb_clear.specs.Clearing.{control_path, seen_of, HasNone, StaysNone};
-ghost use Rattle.pgb_restore.specs.Listed.{is_control_node, IsListedBut};
+ghost use Rattle.pgb_restore.specs.Listed.{is_control_node, IsListedBut, HasFolders};
 ghost use Rattle.pgb_restore.specs.Options.{Options, options_of};
 ghost use Rattle.pgb_restore.specs.Finished.{IsFinished, Finishes, Completes, PutsAll, Restores};
 ghost use Rattle.pgb_restore.specs.Faults.{FillFails};
@@ -48,6 +48,7 @@ fn remove_control<T: Tree>(tree: &mut T, seen: &[Seen]) -> Result<(), Stop>
     ensures none { OnOk result (HasNone control_path (T.state tree.new).nodes) }
     ensures others { OnOk result (SameBut control_path (T.state tree.old).nodes (T.state tree.new).nodes) }
     ensures same { OnErr result ((T.state tree.new).nodes ≡ (T.state tree.old).nodes) }
+    ensures proper { (T.state tree.new).misuses ≡ (T.state tree.old).misuses }
     ensures opened { (T.state tree.new).opened ≡ (T.state tree.old).opened }
     ensures cause { HasCause (T.state tree.old).faults (T.state tree.new).faults result }
 {
@@ -75,6 +76,8 @@ fn put_last<T: Tree, L: Link, U: Turns>(
         → Finishes stanza.now (map L.link_state links.old.items) o (manifest_of manifest.now) marks
         (T.state tree.old).nodes (T.state tree.new).nodes) }
     ensures none { OnErr result (StaysNone control_path (T.state tree.old).nodes (T.state tree.new).nodes) }
+    ensures proper { HasFolders (manifest_of manifest.now).folders (T.state tree.old).nodes
+        → (T.state tree.new).misuses ≡ (T.state tree.old).misuses }
     ensures opened { (T.state tree.new).opened ≡ (T.state tree.old).opened }
     ensures later { (T.state tree.old).faults ≤ (T.state tree.new).faults }
     ensures fault { IfErr result
@@ -116,6 +119,8 @@ fn settle<T: Tree, L: Link, U: Turns>(
         → Completes stanza.now (map L.link_state links.old.items) (options_of options.now) (manifest_of manifest.now)
         marks (T.state tree.old).nodes (T.state tree.new).nodes) }
     ensures none { OnErr result (StaysNone control_path (T.state tree.old).nodes (T.state tree.new).nodes) }
+    ensures proper { HasFolders (manifest_of manifest.now).folders (T.state tree.old).nodes
+        → (T.state tree.new).misuses ≡ (T.state tree.old).misuses }
     ensures opened { (T.state tree.new).opened ≡ (T.state tree.old).opened }
     ensures later { (T.state tree.old).faults ≤ (T.state tree.new).faults }
     ensures fault { IfErr result
@@ -149,6 +154,7 @@ fn put_rest<T: Tree, L: Link, U: Turns>(
         (PutsAll stanza.now (map L.link_state links.old.items) (options_of options.now) (manifest_of manifest.now)
         (map seen_of seen.now) marks.now (T.state tree.old).nodes (T.state tree.new).nodes) }
     ensures none { OnErr result (StaysNone control_path (T.state tree.old).nodes (T.state tree.new).nodes) }
+    ensures proper { (T.state tree.new).misuses ≡ (T.state tree.old).misuses }
     ensures opened { (T.state tree.new).opened ≡ (T.state tree.old).opened }
     ensures later { (T.state tree.old).faults ≤ (T.state tree.new).faults }
     ensures fault { IfErr result
@@ -193,6 +199,8 @@ pub fn restore_files<T: Tree, L: Link, U: Turns>(
     // After a refusal there is no control file, unless nothing was changed.
     ensures control { OnErr result
         (((T.state tree.new).nodes ≡ (T.state tree.old).nodes) ⊎ HasNone control_path (T.state tree.new).nodes) }
+    // No call is faulty.
+    ensures proper { (T.state tree.new).misuses ≡ (T.state tree.old).misuses }
     ensures opened { (T.state tree.new).opened ≡ (T.state tree.old).opened }
     ensures later { (T.state tree.old).faults ≤ (T.state tree.new).faults }
     ensures fault { IfErr result

@@ -159,6 +159,7 @@ fn write_settings<T: Tree>(tree: &mut T, text: &[u8]) -> Result<(), Stop>
     ensures signal { OnOk result (IfSome (T.state tree.new).nodes (HasFile signal_path [])) }
     ensures others { (q : Text) → q ≢ conf_path → q ≢ signal_path
         → at q (T.state tree.new).nodes ≡ at q (T.state tree.old).nodes }
+    ensures proper { (T.state tree.new).misuses ≡ (T.state tree.old).misuses }
     ensures opened { (T.state tree.new).opened ≡ (T.state tree.old).opened }
     ensures cause { HasCause (T.state tree.old).faults (T.state tree.new).faults result }
 {
@@ -189,6 +190,7 @@ fn add_fetch<T: Tree, L: Link, U: Turns>(
         → at q (T.state tree.new).nodes ≡ at q (T.state tree.old).nodes }
     ensures left { OnOk result
         (IsLeft (map L.link_state links.old.items) (map L.link_state links.new.items) lost.old.items lost.new.items) }
+    ensures proper { (T.state tree.new).misuses ≡ (T.state tree.old).misuses }
     ensures opened { (T.state tree.new).opened ≡ (T.state tree.old).opened }
     ensures later { (T.state tree.old).faults ≤ (T.state tree.new).faults }
     ensures fault { IfErr result
@@ -228,9 +230,12 @@ pub(crate) fn add_settings<T: Tree, L: Link, U: Turns>(
     ensures settles { OnOk result ((marks : List Bool)
         → Settles stanza.now (map L.link_state links.old.items) (options_of options.now) (manifest_of manifest.now)
         marks (T.state tree.old).nodes (T.state tree.new).nodes) }
+    ensures others { (q : Text) → q ≢ conf_path → q ≢ signal_path
+        → at q (T.state tree.new).nodes ≡ at q (T.state tree.old).nodes }
     ensures control { StaysNone control_path (T.state tree.old).nodes (T.state tree.new).nodes }
     ensures left { OnOk result
         (IsLeft (map L.link_state links.old.items) (map L.link_state links.new.items) lost.old.items lost.new.items) }
+    ensures proper { (T.state tree.new).misuses ≡ (T.state tree.old).misuses }
     ensures opened { (T.state tree.new).opened ≡ (T.state tree.old).opened }
     ensures later { (T.state tree.old).faults ≤ (T.state tree.new).faults }
     ensures fault { IfErr result

@@ -7,7 +7,7 @@ ghost use Rattle.pgb_worker_frame.specs.Views.{job_of};
 ghost use Rattle.pgb_worker_dispatch.specs.Counts.{ReadsRise};
 ghost use Rattle.pgb_worker_dispatch.specs.Run.{AddsLosses, AreReady};
 ghost use Rattle.pgb_fill.specs.Apart.{AreApart};
-ghost use Rattle.pgb_fill.specs.Keeping.{IsNoneOf};
+ghost use Rattle.pgb_fill.specs.Keeping.{IsNoneOf, HaveFolders};
 ghost use Rattle.pgb_restore.specs.Written.{AreJobsOf, AllFetched};
 ghost use Rattle.pgb_digests.specs.Left.{IsLeft};
 ghost use Rattle.pgb_restore.specs.Faults.{WriteFails};
@@ -44,6 +44,9 @@ pub fn write_files<'a, T: Tree, L: Link, U: Turns>(
     // Whatever comes of it, only these files and their temporary names have changed.
     ensures others { (q : Text) → IsNoneOf wanted.now q
         → at q (T.state tree.new).nodes ≡ at q (T.state tree.old).nodes }
+    // Where the files have their folders, no call is faulty.
+    ensures proper { HaveFolders wanted.now (T.state tree.old).nodes
+        → (T.state tree.new).misuses ≡ (T.state tree.old).misuses }
     ensures opened { (T.state tree.new).opened ≡ (T.state tree.old).opened }
     ensures later { (T.state tree.old).faults ≤ (T.state tree.new).faults }
     // The links that weren't lost are left at Ok, and each of the others is told.

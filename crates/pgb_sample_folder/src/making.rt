@@ -1,5 +1,5 @@
 // A sample cluster is made.
-ghost use Rattle.std.specs.Prelude.{◌≡◌, ◌≤◌, IfSome, IfErr, OnOk};
+ghost use Rattle.std.specs.Prelude.{◌≡◌, ◌≤◌, ◌⊎◌, IfSome, IfErr, OnOk};
 ghost use Rattle.pgb_outside.specs.Cause.{HasCause, Rises};
 ghost use Rattle.pgb_outside.specs.Content.{Name, at};
 ghost use Rattle.pgb_outside.specs.States.{LooksAt};
@@ -66,6 +66,8 @@ pub fn make_cluster<T: Tree>(alloc: Global, tree: &mut T, number: u32) -> Result
     ensures empty { OnOk result (IfSome (T.state tree.old).nodes IsEmpty) }
     ensures made { OnOk result (Has (made number) (T.state tree.new).nodes) }
     ensures refused { IfErr result (λ fault. IfFull fault (LooksAt (T.state tree.old) (T.state tree.new))) }
+    // Whatever comes of it, a folder that isn't empty is as it was.
+    ensures left { ((T.state tree.new).nodes ≡ (T.state tree.old).nodes) ⊎ IfSome (T.state tree.old).nodes IsEmpty }
     // Whatever comes of it, only paths of the cluster have changed.
     ensures others { KeepsOthers number (T.state tree.old).nodes (T.state tree.new).nodes }
     ensures proper { (T.state tree.new).misuses ≡ (T.state tree.old).misuses }

@@ -104,7 +104,7 @@ object_status Clock = 84
 object_status Locks = 85
 object_status Config = 86
 object_status Output = 87
-object_status Others = 89
+object_status Others = 88
 
 -- of the output, that failed, nothing is written
 abbrev pub object_message : Object → Text
@@ -116,4 +116,4 @@ object_message Clock = codes "clock failed"
 object_message Locks = codes "lock failed"
 object_message Config = codes "configuration failed"
 object_message Output = []
-object_message Others = codes "start failed"
+object_message Others = codes "unable to start a process"

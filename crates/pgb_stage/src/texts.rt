@@ -217,7 +217,7 @@ pub fn object_status(object: Object) -> u8
         Object::Locks => 85,
         Object::Config => 86,
         Object::Output => 87,
-        Object::Others => 89,
+        Object::Others => 88,
     }
 }
 
@@ -234,6 +234,6 @@ pub fn object_message(object: Object) -> &'static str
         Object::Locks => "lock failed",
         Object::Config => "configuration failed",
         Object::Output => "",
-        Object::Others => "start failed",
+        Object::Others => "unable to start a process",
     }
 }

@@ -8,6 +8,7 @@ use pgb_await::{AwaitFault, await_segments};
 use pgb_memory::{MemDisk, named_bytes};
 use pgb_model::{Segment, WalPart};
 use pgb_others::Others;
+use pgb_outside::Stop;
 use pgb_turn::Aside;
 use std::alloc::{AllocError, Global};
 use std::process::Abort;
@@ -181,11 +182,33 @@ fn a_repository_that_fails(rt: HostRuntime) {
     }
 }
 
+fn words_of(alloc: Global, texts: &[&str]) -> Result<Vec<String>, AllocError> {
+    let mut words = Vec::new(alloc);
+    for text in texts {
+        words.push(String::from_str(alloc, text)?)?;
+    }
+    Ok(words)
+}
+
 #[test]
 fn the_real_turn(rt: HostRuntime) {
     let alloc = rt.alloc();
     let mut repo = well(&rt, disk_of(alloc, &[], &[]));
     let mut spool = well(&rt, disk_of(alloc, &[], &[]));
-    let mut others = Others::new(rt);
+    let program = well(&rt, String::from_str(alloc, "true"));
+    let mut others = Others::new(rt, program);
     same(&rt, others.turn(&mut repo, &mut spool), Ok(()));
+}
+
+// A program that isn't there can't be started.
+#[test]
+fn the_real_start(rt: HostRuntime) {
+    let alloc = rt.alloc();
+    for (name, want) in [("true", Ok(())), ("/nowhere/no-program", Err(Stop::Failed))] {
+        let program = well(&rt, String::from_str(alloc, name));
+        let mut others = Others::new(rt, program);
+        let words = well(&rt, words_of(alloc, &["--version"]));
+        let done = <Others as Aside<MemDisk, MemDisk>>::start(&mut others, &words);
+        same(&rt, done, want);
+    }
 }

@@ -12,4 +12,6 @@ mod leaves;
 #[cfg(test)]
 mod others;
 #[cfg(test)]
+mod pushes;
+#[cfg(test)]
 mod same;

@@ -11,7 +11,7 @@ use help::asked_for;
 use pgb_adapters::{
     RealClock, RealDisk, RealFiles, RealInput, RealLocks, RealSink, RealSource, RealTree, RealWire,
 };
-use pgb_command::{Outside, run};
+use pgb_command::Outside;
 use pgb_others::Others;
 use pgb_system::{RealLink, RoundRobin};
 use pgb_worker::serve;
@@ -112,7 +112,7 @@ fn status_of(rt: HostRuntime, words: &[String]) -> io::Result<u8> {
         spool: RealDisk::new(rt),
         tree,
         server: RealWire::new(rt),
-        aside: Others::new(rt),
+        aside: Others::new(rt, program.clone()?),
         clock: RealClock::new(rt),
         locks: RealLocks::new(rt),
         config: RealSource::new(rt),
@@ -120,7 +120,7 @@ fn status_of(rt: HostRuntime, words: &[String]) -> io::Result<u8> {
         links: workers(rt, &program)?,
         turns: RoundRobin::new(),
     };
-    let status = run(alloc, words, &mut outside);
+    let status = outside.run(alloc, words);
     end(rt, telling, &outside, status);
     Ok(status)
 }

@@ -1,12 +1,14 @@
 use Rattle.std.proofs.Common.{◌∙◌, Ok, Err, refl, arith}
 use Rattle.pgb_disk.proofs.Changes.{only_none, only_on}
 use Rattle.pgb_drain.proofs.Behind.{drains_next, drains_so_far, drains_end, drains_none, drains_by, so_far_ends}
+use Rattle.pgb_drain.proofs.Paired.{pair_same, pair_on}
 use Rattle.pgb_drain.proofs.draining.drain_files.Goals as goal
 
 pub loop-name-init : goal.loop-name-init
 loop-name-init g c = record {
   drains = λ f is. drains_none c.args.stanza.now c.args.id c.args.system f _ refl refl _ _;
   few = omega arith;
+  pair = pair_same c.args.stanza.now _;
   repo_only = only_none _ _;
   spool_only = only_none _ _;
   repo_frame = record { opened = refl; proper = refl; later = omega arith };
@@ -34,6 +36,7 @@ loop-name-preserved g c =
           c.in-Ok.more c.with-drained.result c.with-drained.ensures.pushed c.with-drained.ensures.refused
           (drains_by c.args.stanza.now c.args.id c.args.system f _ _ _ _ _ c.store_file.result (Ok c.in-Ok.more) c.in-Ok.is (e.drains f (i.looks.nodes ∙ is)));
       few = omega (arith, i.few, c.in-Ok.ensures.few, c.with-drained.ensures.pushed, c.with-drained.ensures.refused);
+      pair = pair_on c.args.stanza.now _ _ _ i.pair e.pair;
       repo_only = only_on _ _ _ _ i.repo_only e.repo_only;
       spool_only = only_on _ _ _ _ i.spool_only e.spool_only;
       repo_frame = record { opened = e.repo_frame.opened ∙ i.repo_frame.opened; proper = e.repo_frame.proper ∙ i.repo_frame.proper; later = omega (arith, i.repo_frame.later, e.repo_frame.later) };
@@ -43,3 +46,6 @@ loop-name-preserved g c =
 
 pub returns-clause-drains : goal.returns-clause-drains
 returns-clause-drains g c = λ f is. drains_end c.args.stanza.now c.args.id c.args.system f c.args.names.now c.loop-name.name-index _ _ _ _ _ c.loop-name-test.false (c.loop-name.invariant.drains f is)
+
+pub returns-in-Err-clause-pair : goal.returns-in-Err-clause-pair
+returns-in-Err-clause-pair g c = pair_on c.args.stanza.now _ _ _ c.loop-name.invariant.pair c.store_file.ensures.pair

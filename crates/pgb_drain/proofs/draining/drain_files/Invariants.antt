@@ -3,12 +3,14 @@ use Rattle.pgb_outside.specs.States.{Frame, LooksAt}
 use Rattle.pgb_outside.specs.Tree.{Nodes}
 use Rattle.pgb_stored.specs.Stored.{ChangesArchive}
 use Rattle.pgb_drain.specs.Draining.{Drains}
+use Rattle.pgb_drain.specs.Paired.{KeepsPair}
 use Rattle.pgb_drain.proofs.draining.drain_files.Given as goal
 
 abbrev pub invariant-loop-name : goal.invariant-loop-name
 invariant-loop-name g l = let D = g.D.Disk in let S = g.S.Disk in let T = g.T.Tree in record {
   drains : (f : Nodes) → (T.state l.fn.tree).nodes ≡ Some f → Drains l.stanza l.id l.system f (take l.name-index l.names) (Some l.drained) (D.state l.fn.repo).view (D.state l.repo).view (S.state l.fn.spool).view (S.state l.spool).view;
   few : l.drained.pushed + l.drained.refused ≤ l.name-index;
+  pair : KeepsPair l.stanza (D.state l.fn.repo).view (D.state l.repo).view;
   repo_only : ChangesArchive l.stanza (D.state l.fn.repo).view (D.state l.repo).view;
   spool_only : ChangesArchive l.stanza (S.state l.fn.spool).view (S.state l.spool).view;
   repo_frame : Frame (D.state l.fn.repo) (D.state l.repo);

@@ -5,6 +5,7 @@ use Rattle.pgb_stage.specs.declared.object.Object.TheVariants.{Spool}
 use Rattle.pgb_drain.proofs.Behind.{ends_by_spool}
 use Rattle.pgb_drain.proofs.Put.{spool_cause, halt_as}
 use Rattle.pgb_drain.proofs.Wholes.{named_drains, unclear_drains, cleared_ends}
+use Rattle.pgb_drain.proofs.Paired.{pair_same}
 use Rattle.pgb_drain.proofs.draining.drain_named.Goals as goal
 
 pub returns-in-Ok-clause-drains : goal.returns-in-Ok-clause-drains
@@ -30,3 +31,6 @@ pub returns-in-Err-clause-cause : goal.returns-in-Err-clause-cause
 returns-in-Err-clause-cause g c = ends_by_spool _ _ _ _ c.of_spool.result
     (halt_as c.of_spool.result _ c.of_spool.ensures (HaltCause Never (Only Spool (Rises (g.S.Disk.state c.args.spool.now).faults (g.S.Disk.state c.clear_marks.new.spool).faults)))
     (spool_cause (Rises (g.S.Disk.state c.args.spool.now).faults (g.S.Disk.state c.clear_marks.new.spool).faults) c.clear_marks.result c.in-Err.fault c.in-Err.is c.clear_marks.ensures.cause))
+
+pub returns-in-Err-clause-pair : goal.returns-in-Err-clause-pair
+returns-in-Err-clause-pair g c = pair_same c.args.stanza.now _

@@ -8,6 +8,7 @@ use Rattle.pgb_push.specs.LogFile.{told_file}
 use Rattle.pgb_push.specs.WalPath.{wal_path}
 use Rattle.pgb_push.proofs.Logged.{opened_read}
 use Rattle.pgb_spool.specs.Marks.{named}
+use Rattle.pgb_drain.proofs.Paired.{pair_pushed}
 use Rattle.pgb_drain.proofs.Pushes.{tried_goes, done_goes, halted_goes, halted_sum, halted_fate, halted_cause, stored_fate, stored_sum}
 use Rattle.pgb_drain.proofs.pushing.push_log.Goals as goal
 
@@ -63,3 +64,15 @@ pub returns-in-Err-clause-cause : goal.returns-in-Err-clause-cause
 returns-in-Err-clause-cause g c =
     halted_cause c.args.stanza.now c.args.id c.args.name c.args.system _ _ _ (g.T.Tree.state c.args.tree.now).nodes (g.D.Disk.state c.args.repo.now).view (g.D.Disk.state c.push_from.new.d).view _ _
     c.in-Err.fault c.of_store.result c.of_store.ensures c.in-Err.ensures.refused c.in-Err.ensures.cause c.refused.result c.refused.ensures
+
+pub returns-in-Ok-clause-pair : goal.returns-in-Ok-clause-pair
+returns-in-Ok-clause-pair g c =
+    let place : (sum : Text) → IsSum sum → IsArchivePlace c.args.id c.args.name sum = search rules in
+    let w = c.push_from.ensures.leaves.writes in
+    pair_pushed c.args.stanza.now c.args.id c.args.name place w.0 (g.D.Disk.state c.args.repo.now).view (g.D.Disk.state c.push_from.new.d).view w.2
+
+pub returns-in-Err-clause-pair : goal.returns-in-Err-clause-pair
+returns-in-Err-clause-pair g c =
+    let place : (sum : Text) → IsSum sum → IsArchivePlace c.args.id c.args.name sum = search rules in
+    let w = c.push_from.ensures.leaves.writes in
+    pair_pushed c.args.stanza.now c.args.id c.args.name place w.0 (g.D.Disk.state c.args.repo.now).view (g.D.Disk.state c.push_from.new.d).view w.2

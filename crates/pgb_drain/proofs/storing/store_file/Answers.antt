@@ -7,6 +7,7 @@ use Rattle.pgb_model.specs.Text.{Text}
 use Rattle.pgb_push.specs.LogFile.{IsOpened}
 use Rattle.pgb_push.specs.WalPath.{wal_path}
 use Rattle.pgb_drain.proofs.Behind.{drains_not, look_drains, look_ends, skips_few, later_ends}
+use Rattle.pgb_drain.proofs.Paired.{pair_same}
 use Rattle.pgb_drain.proofs.storing.store_file.Goals as goal
 
 pub returns-in_default-clause-drains : goal.returns-in_default-clause-drains
@@ -50,3 +51,9 @@ returns-in-Err-clause-repo_only g c = only_none _ _
 
 pub returns-in-Err-clause-spool_only : goal.returns-in-Err-clause-spool_only
 returns-in-Err-clause-spool_only g c = only_none _ _
+
+pub returns-in_default-clause-pair : goal.returns-in_default-clause-pair
+returns-in_default-clause-pair g c = pair_same c.args.stanza.now _
+
+pub returns-in-Err-clause-pair : goal.returns-in-Err-clause-pair
+returns-in-Err-clause-pair g c = pair_same c.args.stanza.now _

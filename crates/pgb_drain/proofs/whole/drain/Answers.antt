@@ -2,6 +2,7 @@ use Rattle.std.proofs.Common.{◌∙◌, []}
 use Rattle.std.proofs.lemmas.Result.{on_ok_weaker}
 use Rattle.pgb_disk.proofs.Changes.{only_none, only_on, only_rests}
 use Rattle.pgb_drain.proofs.Wholes.{undone_drains, settled_drains, settled_marks, ready_at, ready_failed, ends_by_list, ends_by_settle, names_as, named_told, failed_named}
+use Rattle.pgb_drain.proofs.Paired.{pair_same}
 use Rattle.pgb_drain.proofs.whole.drain.Goals as goal
 
 pub returns-in-Err-clause-drains : goal.returns-in-Err-clause-drains
@@ -47,3 +48,6 @@ returns-clause-spool_only g c = only_on _ _ _ _ c.drain_named.ensures.spool_only
 
 pub returns-clause-cause : goal.returns-clause-cause
 returns-clause-cause g c = ends_by_settle _ _ _ _ _ _ c.drain_named.ensures.spool_frame.later c.settle_marks.result c.settle_marks.ensures.cause
+
+pub returns-in-Err-clause-pair : goal.returns-in-Err-clause-pair
+returns-in-Err-clause-pair g c = pair_same c.args.stanza.now _

@@ -4,6 +4,7 @@ use Rattle.pgb_model.specs.Values.{archive_info_of}
 use Rattle.pgb_archive.specs.Still.{still_self}
 use Rattle.pgb_push.specs.Causes.{IsCurrent}
 use Rattle.pgb_stage.proofs.Besides.{archive_beside, still_beside}
+use Rattle.pgb_drain.proofs.Paired.{pair_same}
 use Rattle.pgb_drained.proofs.Drains.{all_drained, all_runs, ends_for, is_current, none_runs, part_runs, stops, under}
 use Rattle.pgb_drained.proofs.draining.drain_stanza.Goals as goal
 
@@ -12,6 +13,9 @@ returns-in-Err-clause-runs g c = λ f is. none_runs c.args.stanza.now f _ _ c.in
 
 pub returns-in-Err-clause-beside : goal.returns-in-Err-clause-beside
 returns-in-Err-clause-beside g c = still_beside c.args.stanza.now _ _ (still_self (g.D.Disk.state c.args.repo.now).view)
+
+pub returns-in-Err-clause-pair : goal.returns-in-Err-clause-pair
+returns-in-Err-clause-pair g c = pair_same c.args.stanza.now _
 
 pub returns-in-Err-clause-spool_beside : goal.returns-in-Err-clause-spool_beside
 returns-in-Err-clause-spool_beside g c = still_beside c.args.stanza.now _ _ (still_self (g.S.Disk.state c.args.spool.now).view)

@@ -1,4 +1,5 @@
-use Rattle.std.proofs.Common.{map, take, Result, Ok, Err}
+use Rattle.std.proofs.Math.Nat.{le_refl}
+use Rattle.std.proofs.Common.{◌∙◌, arith, map, take, refl, sym, subst, Result, Ok, Err, Option}
 use Rattle.pgb_archive.specs.Still.{IsStill, still_on}
 use Rattle.pgb_story.proofs.Stays.{rests_beside, beside_on}
 use Rattle.pgb_logged.proofs.Reading.{no_files}
@@ -8,6 +9,18 @@ use Rattle.pgb_rehearse.specs.Commands.{backed_up}
 use Rattle.pgb_rehearse.proofs.Advanced.{stays_part}
 use Rattle.pgb_rehearse.proofs.Pushes.{err_as}
 use Rattle.pgb_rehearse.proofs.Taken.{taken_stops, taken_well, behind_rests}
+use Rattle.pgb_outside.specs.Cause.{Rises}
+use Rattle.pgb_outside.specs.Content.{Content}
+use Rattle.pgb_stage.specs.declared.object.Object.TheVariants.{Repo}
+use Rattle.pgb_stage.specs.Halts.{HaltCause, Only}
+use Rattle.pgb_take.specs.Causes.{Before}
+use Rattle.pgb_take.proofs.Beginnings.{halt_as, ends_with}
+use Rattle.pgb_rehearse.specs.Causes.{LostCause, StepCause, Fails}
+use Rattle.pgb_rehearse.specs.Backups.{IsTakenBy}
+use Rattle.pgb_rehearse.specs.Commands.{sample}
+use Rattle.pgb_rehearse.proofs.Ends.{taken_by}
+use Rattle.pgb_rehearse.proofs.Causing.{lost_step, take_fails}
+use Rattle.pgb_rehearse.proofs.Failing.{Within, fails_in, repo_in}
 use Rattle.pgb_rehearse.proofs.backing.back_up.Goals as goal
 
 pub returns-in_err-archive-clause-advances : goal.returns-in_err-archive-clause-advances
@@ -65,3 +78,56 @@ returns-clause-beside g c =
     let n = (g.D.Disk.state c.read_backup.new.repo).view in
     let s : IsStill a n = still_on a m n (record { now = c.read_archive.ensures.looks.now; time = c.read_archive.ensures.looks.time }) (record { now = c.read_backup.ensures.looks.now; time = c.read_backup.ensures.looks.time }) in
     beside_on c.args.stanza.now a n (g.D.Disk.state c.take_later.new.repo).view (rests_beside c.args.stanza.now a n s.time s.now) c.take_later.ensures.beside
+
+pub returns-in_err-archive-clause-cause : goal.returns-in_err-archive-clause-cause
+returns-in_err-archive-clause-cause g c =
+    let stanza = c.args.stanza.now in
+    let a = g.D.Disk.state c.args.repo.now in
+    let n = g.D.Disk.state c.read_archive.new.repo in
+    let t = (g.T.Tree.state c.args.tree.now).faults in
+    let x = (g.C.Clock.state c.args.clock.now).faults in
+    let within : Within a.faults a.faults n.faults n.faults t t t t x x x x = record { repo = le_refl a.faults; repo_behind = le_refl n.faults; tree = le_refl t; tree_behind = le_refl t; clock = le_refl x; clock_behind = le_refl x } in
+    ends_with (HaltCause (StepCause stanza a.view.now) (Fails a.faults n.faults t t x x)) c.from_residual.result c.in_err-archive.field-0.0 c.from_residual.ensures.1
+    (halt_as (LostCause stanza a.view.now) (StepCause stanza a.view.now) (Only Repo (Rises a.faults n.faults)) (Fails a.faults n.faults t t x x) (lost_step stanza a.view.now)
+    (repo_in a.faults a.faults n.faults n.faults t t t t x x x x within)
+    c.in_err-archive.field-0.0 c.in_err-archive.ensures.cause)
+
+pub returns-in_err-backup-clause-cause : goal.returns-in_err-backup-clause-cause
+returns-in_err-backup-clause-cause g c =
+    let stanza = c.args.stanza.now in
+    let a = g.D.Disk.state c.args.repo.now in
+    let m = g.D.Disk.state c.read_archive.new.repo in
+    let n = g.D.Disk.state c.read_backup.new.repo in
+    let t = (g.T.Tree.state c.args.tree.now).faults in
+    let x = (g.C.Clock.state c.args.clock.now).faults in
+    let within : Within a.faults m.faults n.faults n.faults t t t t x x x x = record { repo = c.read_archive.ensures.looks.later; repo_behind = le_refl n.faults; tree = le_refl t; tree_behind = le_refl t; clock = le_refl x; clock_behind = le_refl x } in
+    ends_with (HaltCause (StepCause stanza a.view.now) (Fails a.faults n.faults t t x x)) c.from_residual-in_err-backup.result c.in_err-backup.field-0.0 c.from_residual-in_err-backup.ensures.1
+    (halt_as (LostCause stanza m.view.now) (StepCause stanza a.view.now) (Only Repo (Rises m.faults n.faults)) (Fails a.faults n.faults t t x x)
+    (λ e h. lost_step stanza a.view.now e (subst (λ (o : Option Content). LostCause stanza o e) c.read_archive.ensures.looks.now h))
+    (repo_in a.faults m.faults n.faults n.faults t t t t x x x x within)
+    c.in_err-backup.field-0.0 c.in_err-backup.ensures.cause)
+
+pub returns-clause-cause : goal.returns-clause-cause
+returns-clause-cause g c =
+    let stanza = c.args.stanza.now in
+    let a = g.D.Disk.state c.args.repo.now in
+    let m = g.D.Disk.state c.read_archive.new.repo in
+    let n = g.D.Disk.state c.read_backup.new.repo in
+    let d = g.D.Disk.state c.take_later.new.repo in
+    let t = (g.T.Tree.state c.args.tree.now).faults in
+    let w = (g.T.Tree.state c.take_later.new.tree).faults in
+    let x = (g.C.Clock.state c.args.clock.now).faults in
+    let q = (g.C.Clock.state c.take_later.new.clock).faults in
+    let b : Before = record { stanza = stanza; told = sample; repo = n.view.now; nodes = (g.T.Tree.state c.args.tree.now).nodes; least = (g.C.Clock.state c.args.clock.now).least; used = take c.args.take.workers (map g.L.Link.link_state c.args.links.now.items) } in
+    let within : Within a.faults n.faults d.faults d.faults t t w w x x q q = record { repo = omega (arith, c.read_archive.ensures.looks.later, c.read_backup.ensures.looks.later); repo_behind = le_refl d.faults; tree = le_refl t; tree_behind = le_refl w; clock = le_refl x; clock_behind = le_refl q } in
+    let F = Fails n.faults d.faults t w x q in
+    subst (HaltCause (StepCause stanza a.view.now) (Fails a.faults d.faults t w x q)) (sym c.of_later.ensures)
+    (halt_as (StepCause stanza a.view.now) (StepCause stanza a.view.now) F (Fails a.faults d.faults t w x q) (λ e h. h) (fails_in a.faults n.faults d.faults d.faults t t w w x x q q within) _
+    (take_fails stanza b _ a.view.now F refl refl (c.read_backup.ensures.looks.now ∙ c.read_archive.ensures.looks.now) c.in-Err.halt c.in-Err.ensures.cause))
+
+pub returns-in-Ok-clause-taken : goal.returns-in-Ok-clause-taken
+returns-in-Ok-clause-taken g c =
+    let looks = c.read_backup.ensures.looks.now ∙ c.read_archive.ensures.looks.now in
+    let d = (g.D.Disk.state c.take_later.new.repo).view.now in
+    let x = taken_by _ _ _ _ _ _ c.in-Ok.field-0 c.in-Ok.ensures.taken in
+    subst (λ (o : Option Content). IsTakenBy c.args.stanza.now c.args.kind o d) looks x

@@ -1,9 +1,17 @@
-use Rattle.std.proofs.Common.{subst, ◌∙◌}
+use Rattle.std.proofs.Common.{inl, inr, subst, sym, ◌∙◌}
 use Rattle.std.specs.Prelude.{IfSome}
+use Rattle.pgb_outside.specs.Cause.{Rises}
 use Rattle.pgb_model.specs.Text.{Text}
 use Rattle.pgb_model.specs.Pair.{PairIs}
-use Rattle.pgb_model.specs.InfoFiles.{IsBackupText}
+use Rattle.pgb_model.specs.InfoFiles.{IsBackupText, info_limit}
+use Rattle.pgb_model.specs.Names.{backup_info}
 use Rattle.pgb_model.specs.Values.{backup_info_of}
+use Rattle.pgb_info.specs.BackupForm.{IsBackupForm}
+use Rattle.pgb_pair.specs.Causes.{PairCause}
+use Rattle.pgb_stage.specs.declared.object.Object.TheVariants.{Repo}
+use Rattle.pgb_stage.specs.Halts.{HaltCause, Only}
+use Rattle.pgb_rehearse.specs.Causes.{LostCause}
+use Rattle.pgb_rehearse.proofs.Causing.{pair_lost}
 use Rattle.pgb_rehearse.proofs.backing.read_backup.Goals as goal
 
 pub returns-in-Ok-clause-found : goal.returns-in-Ok-clause-found
@@ -12,3 +20,12 @@ returns-in-Ok-clause-found g c = (
       (c.as_str.ensures.value ∙ c.in_ok-name.ensures) c.in-Ok.ensures.found,
   c.in-Ok.ensures.valid,
 )
+
+pub returns-clause-cause : goal.returns-clause-cause
+returns-clause-cause g c =
+    let stanza = c.args.stanza.now in
+    let now = (g.D.Disk.state c.args.repo.now).view.now in
+    let rose = Rises (g.D.Disk.state c.args.repo.now).faults (g.D.Disk.state c.load_pair.new.d).faults in
+    let cause = subst (λ (n : Text). PairCause IsBackupText IsBackupForm info_limit n now rose c.in-Err.fault) (c.as_str.ensures.value ∙ c.in_ok-name.ensures) c.in-Err.ensures.cause in
+    subst (HaltCause (LostCause stanza now) (Only Repo rose)) (sym c.of_info.ensures)
+    (pair_lost IsBackupText IsBackupForm info_limit (backup_info stanza) now rose (LostCause stanza now) (λ u. inr (inl u)) c.in-Err.fault cause)

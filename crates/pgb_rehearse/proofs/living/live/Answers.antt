@@ -1,55 +1,108 @@
+use Rattle.std.proofs.Math.Nat.{le_refl}
 use Rattle.std.proofs.Common.{Result, Ok, Err}
+use Rattle.std.specs.Prelude.{IfOk}
+use Rattle.pgb_outside.specs.Cause.{Rises}
 use Rattle.pgb_model.specs.Steps.{Expire}
 use Rattle.pgb_story.proofs.Stays.{beside_on}
-use Rattle.pgb_expire.specs.declared.expiring.Expired.{Expired}
 use Rattle.pgb_stage.specs.declared.halt.Halt.{Halt}
-use Rattle.pgb_rehearse.specs.declared.fault.RehearseFault.{RehearseFault}
-use Rattle.pgb_rehearse.specs.Commands.{with_third, rehearsed, keeps_one}
-use Rattle.pgb_rehearse.proofs.Pushes.{err_as}
+use Rattle.pgb_stage.specs.declared.object.Object.TheVariants.{Repo}
+use Rattle.pgb_stage.specs.Halts.{HaltCause, Only}
+use Rattle.pgb_take.proofs.Beginnings.{halt_as, ends_with as ends_by}
+use Rattle.pgb_rehearse.specs.declared.counting.Amount.{Amount}
+use Rattle.pgb_rehearse.specs.declared.counting.Counted.TheVariants.{Own}
+use Rattle.pgb_rehearse.specs.declared.fault.StepFault.{StepFault}
 use Rattle.pgb_rehearse.specs.Advancing.{Carries}
-use Rattle.pgb_rehearse.proofs.Advanced.{ends_with, first_ends}
+use Rattle.pgb_rehearse.specs.Causes.{StepCause, FrontCause, Fails, Third}
+use Rattle.pgb_model.specs.declared.labels.Kind.TheVariants.{Full}
+use Rattle.pgb_rehearse.specs.Commands.{with_second, with_third, rehearsed, keeps_one}
+use Rattle.pgb_rehearse.specs.Backups.{IsStep}
+use Rattle.pgb_rehearse.specs.declared.living.Lived.{Lived}
+use Rattle.pgb_rehearse.specs.Rehearsing.{CountsExpired, IsLived}
+use Rattle.pgb_rehearse.proofs.Advanced.{ends_with, first_ends, carries_ok, carries_err}
+use Rattle.pgb_rehearse.proofs.Failing.{Within, repo_in}
+use Rattle.pgb_rehearse.proofs.Fronts.{front_cause, had_behind}
+use Rattle.pgb_rehearse.proofs.Pushes.{err_as}
 use Rattle.pgb_rehearse.proofs.living.live.Goals as goal
 
-pub returns-in_err-with_third-clause-advances : goal.returns-in_err-with_third-clause-advances
-returns-in_err-with_third-clause-advances g c =
+pub returns-in_err-three-clause-lives : goal.returns-in_err-three-clause-lives
+returns-in_err-three-clause-lives g c =
     let a = (g.D.Disk.state c.args.repo.now).view in
     let m = (g.D.Disk.state c.with_third.new.repo).view in
-    let x = c.in_err-with_third.ensures.advances in (
+    let x = c.in_err-three.ensures.advances in (
       x.0,
       x.1,
       x.2,
       err_as (λ (r : Result _ _). Carries c.args.stanza.now (rehearsed c.args.order.now.number keeps_one x.0 x.1 x.2) r a m) c.from_residual.result _ c.from_residual.ensures.1
-          (first_ends c.args.stanza.now (with_third c.args.order.now.number x.0 x.1 x.2) (Expire keeps_one) c.in_err-with_third.field-0.0 _ a m x.3),
+          (first_ends c.args.stanza.now (with_third c.args.order.now.number x.0 x.1 x.2) (Expire keeps_one) c.in_err-three.field-0.0 _ a m x.3),
+      err_as (λ (r : Result Lived (Halt StepFault)). IfOk r (IsLived c.args.stanza.now c.args.order.now.number x.0 x.1 x.2 a.now)) c.from_residual.result _ c.from_residual.ensures.1 tt,
     )
 
-pub returns-in-Ok-clause-advances : goal.returns-in-Ok-clause-advances
-returns-in-Ok-clause-advances g c =
+pub returns-in_err-three-clause-cause : goal.returns-in_err-three-clause-cause
+returns-in_err-three-clause-cause g c =
+    let a = g.D.Disk.state c.args.repo.now in
+    let m = g.D.Disk.state c.with_third.new.repo in
+    ends_by (HaltCause (FrontCause c.args.stanza.now c.args.order.now.number a.view.now) (Fails a.faults m.faults (g.T.Tree.state c.args.tree.now).faults (g.T.Tree.state c.with_third.new.tree).faults (g.C.Clock.state c.args.clock.now).faults (g.C.Clock.state c.with_third.new.clock).faults))
+    c.from_residual.result c.in_err-three.field-0.0 c.from_residual.ensures.1 c.in_err-three.ensures.cause
+
+pub returns-in_err-expired-clause-lives : goal.returns-in_err-expired-clause-lives
+returns-in_err-expired-clause-lives g c =
     let a = (g.D.Disk.state c.args.repo.now).view in
     let m = (g.D.Disk.state c.with_third.new.repo).view in
-    let d = (g.D.Disk.state c.expire.new.d).view in
-    let x = c.in_ok-with_third.ensures.advances in (
+    let d = (g.D.Disk.state c.let_go.new.repo).view in
+    let x = c.in_ok-three.ensures.advances in
+    let r = c.from_residual-in_err-expired in (
       x.0,
       x.1,
       x.2,
-      ends_with {T = Unit {0}} {E = Halt RehearseFault} c.args.stanza.now (with_third c.args.order.now.number x.0 x.1 x.2) (Expire keeps_one) c.in_ok-with_third.field-0 (Ok c.in-Ok.gone) a m d x.3
-          (record { part = c.expire.ensures.part; whole = c.in-Ok.ensures.whole }),
+      err_as (λ (r : Result _ _). Carries c.args.stanza.now (rehearsed c.args.order.now.number keeps_one x.0 x.1 x.2) r a d) r.result _ r.ensures.1
+          (ends_with {E = Halt StepFault} c.args.stanza.now (with_third c.args.order.now.number x.0 x.1 x.2) (Expire keeps_one) c.in_ok-three.three (Err c.in_err-expired.field-0.0) a m d x.3
+          (carries_err c.args.stanza.now (Expire keeps_one) c.in_err-expired.field-0.0 c.in_err-expired.field-0.0 m d c.in_err-expired.ensures.carries)),
+      err_as (λ (r : Result Lived (Halt StepFault)). IfOk r (IsLived c.args.stanza.now c.args.order.now.number x.0 x.1 x.2 a.now)) r.result _ r.ensures.1 tt,
     )
 
-pub returns-in-Err-clause-advances : goal.returns-in-Err-clause-advances
-returns-in-Err-clause-advances g c =
+pub returns-in_err-expired-clause-cause : goal.returns-in_err-expired-clause-cause
+returns-in_err-expired-clause-cause g c =
+    let stanza = c.args.stanza.now in
+    let n = c.args.order.now.number in
+    let a = g.D.Disk.state c.args.repo.now in
+    let m = g.D.Disk.state c.with_third.new.repo in
+    let d = g.D.Disk.state c.let_go.new.repo in
+    let x = c.in_ok-three.ensures.advances in
+    let t = (g.T.Tree.state c.args.tree.now).faults in
+    let v = (g.T.Tree.state c.with_third.new.tree).faults in
+    let k = (g.C.Clock.state c.args.clock.now).faults in
+    let l = (g.C.Clock.state c.with_third.new.clock).faults in
+    let within : Within a.faults m.faults d.faults d.faults t t v v k k l l = record { repo = c.with_third.ensures.frame.later; repo_behind = le_refl d.faults; tree = le_refl t; tree_behind = le_refl v; clock = le_refl k; clock_behind = le_refl l } in
+    ends_by (HaltCause (FrontCause stanza n a.view.now) (Fails a.faults d.faults t v k l)) c.from_residual-in_err-expired.result c.in_err-expired.field-0.0 c.from_residual-in_err-expired.ensures.1
+    (halt_as (StepCause stanza m.view.now) (FrontCause stanza n a.view.now) (Only Repo (Rises m.faults d.faults)) (Fails a.faults d.faults t v k l)
+    (front_cause {E = Halt StepFault} stanza n (with_third n x.0 x.1 x.2) c.in_ok-three.three a.view m.view x.3 (Third x.0 x.1 x.2))
+    (repo_in a.faults m.faults d.faults d.faults t t v v k k l l within)
+    c.in_err-expired.field-0.0 c.in_err-expired.ensures.cause)
+
+pub returns-clause-lives : goal.returns-clause-lives
+returns-clause-lives g c =
+    let stanza = c.args.stanza.now in
+    let n = c.args.order.now.number in
     let a = (g.D.Disk.state c.args.repo.now).view in
     let m = (g.D.Disk.state c.with_third.new.repo).view in
-    let d = (g.D.Disk.state c.expire.new.d).view in
-    let x = c.in_ok-with_third.ensures.advances in (
+    let d = (g.D.Disk.state c.let_go.new.repo).view in
+    let x = c.in_ok-three.ensures.advances in (
       x.0,
       x.1,
       x.2,
-      ends_with {T = Unit {0}} {E = Halt RehearseFault} {U = Expired} c.args.stanza.now (with_third c.args.order.now.number x.0 x.1 x.2) (Expire keeps_one) c.in_ok-with_third.field-0 (Err c.of_expire.result) a m d x.3
-          (record { part = c.expire.ensures.part; whole = tt }),
+      ends_with {E = Halt StepFault} stanza (with_third n x.0 x.1 x.2) (Expire keeps_one) c.in_ok-three.three (Ok _) a m d x.3
+          (carries_ok {E = Halt StepFault} stanza (Expire keeps_one) c.in_ok-expired.expired _ m d c.in_ok-expired.ensures.carries),
+      record {
+        first = x.4.full;
+        second = x.4.further;
+        third = had_behind {T = Amount × Amount × Amount} {E = Halt StepFault} stanza (with_third n x.0 x.1 x.2) c.in_ok-three.three a m
+            (λ now. IsStep stanza (with_second n x.0 x.1) Full Own a.now now c.in_ok-three.three.2 × CountsExpired stanza now c.in_ok-expired.expired) x.3
+            (x.4.last, c.in_ok-expired.ensures.expired);
+      },
     )
 
-pub returns-in-Ok-clause-beside : goal.returns-in-Ok-clause-beside
-returns-in-Ok-clause-beside g c = beside_on c.args.stanza.now (g.D.Disk.state c.args.repo.now).view (g.D.Disk.state c.with_third.new.repo).view (g.D.Disk.state c.expire.new.d).view c.with_third.ensures.beside c.expire.ensures.beside
+pub returns-clause-beside : goal.returns-clause-beside
+returns-clause-beside g c = beside_on c.args.stanza.now (g.D.Disk.state c.args.repo.now).view (g.D.Disk.state c.with_third.new.repo).view (g.D.Disk.state c.let_go.new.repo).view c.with_third.ensures.beside c.let_go.ensures.beside
 
-pub returns-in-Err-clause-beside : goal.returns-in-Err-clause-beside
-returns-in-Err-clause-beside g c = beside_on c.args.stanza.now (g.D.Disk.state c.args.repo.now).view (g.D.Disk.state c.with_third.new.repo).view (g.D.Disk.state c.expire.new.d).view c.with_third.ensures.beside c.expire.ensures.beside
+pub returns-in_err-expired-clause-beside : goal.returns-in_err-expired-clause-beside
+returns-in_err-expired-clause-beside g c = beside_on c.args.stanza.now (g.D.Disk.state c.args.repo.now).view (g.D.Disk.state c.with_third.new.repo).view (g.D.Disk.state c.let_go.new.repo).view c.with_third.ensures.beside c.let_go.ensures.beside

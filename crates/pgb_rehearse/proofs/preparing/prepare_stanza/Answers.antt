@@ -1,15 +1,24 @@
-use Rattle.std.proofs.Common.{◌*◌, sym, subst, Result, Ok, Err, Option}
+use Rattle.std.proofs.Math.Nat.{le_refl}
+use Rattle.std.proofs.Common.{◌*◌, arith, sym, subst, Result, Ok, Err, Option}
 use Rattle.std.specs.Prelude.{IfSome}
 use Rattle.pgb_outside.specs.Content.{Content}
 use Rattle.pgb_model.specs.Values.{archive_info_of}
 use Rattle.pgb_story.proofs.Stays.{rests_beside, beside_on}
 use Rattle.pgb_stage.specs.Current.{HasCurrent}
 use Rattle.pgb_stage.specs.declared.halt.Halt.{Halt}
-use Rattle.pgb_rehearse.specs.declared.fault.RehearseFault.{RehearseFault}
+use Rattle.pgb_rehearse.specs.declared.fault.StepFault.{StepFault}
 use Rattle.pgb_rehearse.specs.Advancing.{Advances}
 use Rattle.pgb_rehearse.specs.Commands.{created, prepared, pushed}
 use Rattle.pgb_rehearse.proofs.Advanced.{first_stops, goes_on, still_on}
 use Rattle.pgb_rehearse.proofs.Pushes.{err_as, has_current}
+use Rattle.pgb_outside.specs.Cause.{Rises}
+use Rattle.pgb_stage.specs.declared.object.Object.TheVariants.{Repo}
+use Rattle.pgb_stage.specs.Halts.{HaltCause, Only}
+use Rattle.pgb_take.proofs.Beginnings.{halt_as, ends_with, err_as as under_err}
+use Rattle.pgb_rehearse.specs.Causes.{LostCause, StepCause, PushesCause, FrontCause}
+use Rattle.pgb_rehearse.proofs.Causing.{lost_step}
+use Rattle.pgb_rehearse.proofs.Failing.{only_in}
+use Rattle.pgb_rehearse.proofs.Fronts.{first_cause, none_pushed, pushes_cause}
 use Rattle.pgb_rehearse.proofs.preparing.prepare_stanza.Goals as goal
 
 pub returns-in_err-create_sample-clause-advances : goal.returns-in_err-create_sample-clause-advances
@@ -44,7 +53,7 @@ returns-clause-advances g c =
     let d = (g.D.Disk.state c.push_segments.new.repo).view in
     let looks = c.read_archive.ensures.looks in
     let id = c.current_id-id.ensures.id in
-    goes_on {T = Unit {0}} {E = Halt RehearseFault} c.args.stanza.now created (pushed (2 * c.args.number)) a n c.in_ok-create_sample.field-0 c.push_segments.result d
+    goes_on {T = Unit {0}} {E = Halt StepFault} c.args.stanza.now created (pushed (2 * c.args.number)) a n c.in_ok-create_sample.field-0 c.push_segments.result d
     (still_on {T = Unit {0}} {U = Unit {0}} c.args.stanza.now created c.in_ok-create_sample.field-0 (Ok c.in_ok-create_sample.field-0) a m n c.in_ok-create_sample.ensures.advances looks.time looks.now)
     (c.push_segments.ensures.advances id.0 id.2
     (subst (λ (o : Option Content). IfSome o (λ f. HasCurrent c.args.stanza.now f id.0)) (sym looks.now)
@@ -60,3 +69,44 @@ returns-clause-beside g c =
     (beside_on c.args.stanza.now a m n c.create_sample.ensures.beside
     (rests_beside c.args.stanza.now m n c.read_archive.ensures.looks.time c.read_archive.ensures.looks.now))
     c.push_segments.ensures.beside
+
+pub returns-in_err-create_sample-clause-cause : goal.returns-in_err-create_sample-clause-cause
+returns-in_err-create_sample-clause-cause g c =
+    let stanza = c.args.stanza.now in
+    let a = g.D.Disk.state c.args.repo.now in
+    let m = g.D.Disk.state c.create_sample.new.repo in
+    let F = Only Repo (Rises a.faults m.faults) in
+    ends_with (HaltCause (FrontCause stanza c.args.number a.view.now) F) c.from_residual.result c.in_err-create_sample.field-0.0 c.from_residual.ensures.1
+    (halt_as (StepCause stanza a.view.now) (FrontCause stanza c.args.number a.view.now) F F (first_cause stanza c.args.number a.view.now) (λ o h. h) c.in_err-create_sample.field-0.0 c.in_err-create_sample.ensures.cause)
+
+pub returns-in_err-info-clause-cause : goal.returns-in_err-info-clause-cause
+returns-in_err-info-clause-cause g c =
+    let stanza = c.args.stanza.now in
+    let n = c.args.number in
+    let a = g.D.Disk.state c.args.repo.now in
+    let m = g.D.Disk.state c.create_sample.new.repo in
+    let d = g.D.Disk.state c.read_archive.new.repo in
+    ends_with (HaltCause (FrontCause stanza n a.view.now) (Only Repo (Rises a.faults d.faults))) c.from_residual-in_err-info.result c.in_err-info.field-0.0 c.from_residual-in_err-info.ensures.1
+    (halt_as (LostCause stanza m.view.now) (FrontCause stanza n a.view.now) (Only Repo (Rises m.faults d.faults)) (Only Repo (Rises a.faults d.faults))
+    (λ e h. pushes_cause stanza n c.in_ok-create_sample.field-0 a.view m.view c.in_ok-create_sample.ensures.advances e (none_pushed stanza (2 * n) m.view.now e (lost_step stanza m.view.now e h)))
+    (only_in a.faults m.faults d.faults d.faults c.create_sample.ensures.frame.later (le_refl d.faults))
+    c.in_err-info.field-0.0 c.in_err-info.ensures.cause)
+
+pub returns-clause-cause : goal.returns-clause-cause
+returns-clause-cause g c =
+    let stanza = c.args.stanza.now in
+    let n = c.args.number in
+    let a = g.D.Disk.state c.args.repo.now in
+    let m = g.D.Disk.state c.create_sample.new.repo in
+    let k = g.D.Disk.state c.read_archive.new.repo in
+    let d = g.D.Disk.state c.push_segments.new.repo in
+    let looks = c.read_archive.ensures.looks in
+    let id = c.current_id-id.ensures.id in
+    let does = still_on {T = Unit {0}} {E = Halt StepFault} {U = Unit {0}} {F = Halt StepFault} stanza created c.in_ok-create_sample.field-0 (Ok c.in_ok-create_sample.field-0) a.view m.view k.view c.in_ok-create_sample.ensures.advances looks.time looks.now in
+    under_err (HaltCause (PushesCause stanza (2 * n) k.view.now) (Only Repo (Rises k.faults d.faults))) (HaltCause (FrontCause stanza n a.view.now) (Only Repo (Rises a.faults d.faults))) c.push_segments.result
+    (halt_as (PushesCause stanza (2 * n) k.view.now) (FrontCause stanza n a.view.now) (Only Repo (Rises k.faults d.faults)) (Only Repo (Rises a.faults d.faults))
+    (pushes_cause stanza n c.in_ok-create_sample.field-0 a.view k.view does)
+    (only_in a.faults k.faults d.faults d.faults (omega (arith, c.create_sample.ensures.frame.later, looks.later)) (le_refl d.faults)))
+    (c.push_segments.ensures.cause id.0 id.2
+    (subst (λ (o : Option Content). IfSome o (λ f. HasCurrent stanza f id.0)) (sym looks.now)
+    (has_current stanza m.view.now (archive_info_of c.in_ok-info.info) id.0 c.in_ok-info.ensures.found.0 id.1)))

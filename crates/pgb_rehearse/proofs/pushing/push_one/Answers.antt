@@ -1,4 +1,4 @@
-use Rattle.std.proofs.Common.{◌∙◌, arith, refl}
+use Rattle.std.proofs.Common.{◌∙◌, ap, arith, refl, sym, subst}
 use Rattle.pgb_model.specs.Steps.{ArchivePush}
 use Rattle.pgb_archive.specs.Still.{rests_none}
 use Rattle.pgb_stage.specs.declared.plan.Settling.TheVariants.{Whole}
@@ -6,6 +6,12 @@ use Rattle.pgb_stage.proofs.Doing.{rests_part}
 use Rattle.pgb_stage.proofs.Besides.{archive_beside}
 use Rattle.pgb_rehearse.specs.Commands.{segment_named}
 use Rattle.pgb_rehearse.proofs.Pushes.{pushed_part, pushed_whole, pushed_current, segment_fits}
+use Rattle.pgb_outside.specs.Cause.{Rises}
+use Rattle.pgb_stage.specs.declared.object.Object.TheVariants.{Repo}
+use Rattle.pgb_stage.specs.Halts.{HaltCause, Only}
+use Rattle.pgb_rehearse.specs.Causes.{StepCause}
+use Rattle.pgb_rehearse.specs.Faults.{of_push}
+use Rattle.pgb_rehearse.proofs.Causing.{push_fails}
 use Rattle.pgb_rehearse.proofs.pushing.push_one.Goals as goal
 
 pub returns-in-Ok-clause-part : goal.returns-in-Ok-clause-part
@@ -42,3 +48,11 @@ returns-in-Ok-clause-told g c = c.push.ensures.leaves.part.now.told
 
 pub returns-clause-told : goal.returns-clause-told
 returns-clause-told g c = c.push.ensures.leaves.part.now.told
+
+pub returns-clause-cause : goal.returns-clause-cause
+returns-clause-cause g c =
+    let stanza = c.args.stanza.now in
+    let now = (g.D.Disk.state c.args.repo.now).view.now in
+    let rose = Rises (g.D.Disk.state c.args.repo.now).faults (g.D.Disk.state c.push.new.d).faults in
+    subst (HaltCause (StepCause stanza now) (Only Repo rose)) (sym (c.of_push.ensures ∙ ap of_push c.of_store.ensures))
+    (push_fails stanza c.args.id.now c.args.number c.segment_name-name.result c.deref.result.now c.segment_name-name.ensures (c.deref.ensures.value ∙ c.in_ok-bytes.ensures) now rose c.in-Err.fault c.in-Err.ensures.cause)

@@ -1,4 +1,4 @@
-use Rattle.std.proofs.Common.{◌≡◌, ◌+◌, ◌∙◌, ℕ, suc, add-one, arith, refl, sym, subst, Result}
+use Rattle.std.proofs.Common.{◌≡◌, ◌+◌, ◌∙◌, ◌≤◌, ℕ, suc, add-one, arith, refl, sym, subst, Result}
 use Rattle.std.proofs.Math.Nat.{le_refl}
 use Rattle.pgb_model.specs.Steps.{ArchivePush}
 use Rattle.pgb_archive.specs.Still.{rests_none}
@@ -8,6 +8,12 @@ use Rattle.pgb_stage.specs.Runs.{DoesPart, DoesWhole}
 use Rattle.pgb_rehearse.specs.Advancing.{Advances}
 use Rattle.pgb_rehearse.specs.Commands.{pushed, segment_named}
 use Rattle.pgb_rehearse.proofs.Pushes.{Advanced, nothing_pushed, one_part, one_more, pushes_stop, err_as}
+use Rattle.pgb_outside.specs.Cause.{Rises}
+use Rattle.pgb_stage.specs.declared.object.Object.TheVariants.{Repo}
+use Rattle.pgb_stage.specs.Halts.{HaltCause, Only}
+use Rattle.pgb_take.proofs.Beginnings.{halt_as, ends_with}
+use Rattle.pgb_rehearse.specs.Causes.{StepCause, PushesCause}
+use Rattle.pgb_rehearse.proofs.Failing.{only_in}
 use Rattle.pgb_rehearse.proofs.pushing.push_segments.Goals as goal
 
 pub loop-before-init : goal.loop-before-init
@@ -70,3 +76,17 @@ returns-clause-advances g c = λ k is current.
     let P = λ (n : ℕ). Advanced c.args.stanza.now (pushed n) (g.D.Disk.state c.args.repo.now).view (g.D.Disk.state c.loop-before.repo).view in
     let x = subst P e h in
     record { part = x.part; whole = x.whole; sound = x.sound }
+
+pub returns-in_err-push_one-clause-cause : goal.returns-in_err-push_one-clause-cause
+returns-in_err-push_one-clause-cause g c = λ k is current.
+    let stanza = c.args.stanza.now in
+    let a = g.D.Disk.state c.args.repo.now in
+    let m = g.D.Disk.state c.loop-before.repo in
+    let d = g.D.Disk.state c.push_one.new.repo in
+    let n = c.loop-before.before in
+    let le : n ≤ c.args.count = omega arith in
+    ends_with (HaltCause (PushesCause stanza c.args.count a.view.now) (Only Repo (Rises a.faults d.faults))) c.from_residual.result c.in_err-push_one.field-0.0 c.from_residual.ensures.1
+    (halt_as (StepCause stanza m.view.now) (PushesCause stanza c.args.count a.view.now) (Only Repo (Rises m.faults d.faults)) (Only Repo (Rises a.faults d.faults))
+    (λ e h. (n, le, record { now = m.view.now; done = (c.loop-before.invariant.advanced k is current).whole.done; holds = h }))
+    (only_in a.faults m.faults d.faults d.faults c.loop-before.invariant.frame.later (le_refl d.faults))
+    c.in_err-push_one.field-0.0 c.in_err-push_one.ensures.cause)

@@ -7,7 +7,8 @@ use Rattle.pgb_fill.specs.declared.files.Wanted.{Wanted}
 use Rattle.pgb_source.specs.Sources.{reading}
 use Rattle.pgb_restore.specs.Written.{AreJobsOf}
 use Rattle.pgb_restore.specs.Faults.{Renames, WriteFails}
-use Rattle.pgb_restore.proofs.Fetched.{one_job, one_want, entry_fetched, away_fetched, fetch_fails}
+use Rattle.pgb_restore.proofs.Fetched.{one_none, one_job, one_want, entry_fetched, away_fetched, fetch_fails}
+use Rattle.pgb_restore.proofs.Proper.{one_housed}
 use Rattle.pgb_restore.proofs.control.fetch.Goals as goal
 
 pub write_files-requires-clause-jobs : goal.write_files-requires-clause-jobs
@@ -61,3 +62,33 @@ returns-clause-fault g c =
     fetch_fails stanza own e j w refl refl refl links left before after old new c.in-Err.fault c.in_ok-renamed-in-Err.field-0
     (subst (λ (js : List Job). WriteFails c.in-Err.fault js (w ∷ []) links left before after old new) list c.in-Err.ensures.fault)
     (subst (λ (p : Text). Renames p c.in-Err.fault c.in_ok-renamed-in-Err.field-0) c.deref-in-Err.ensures c.in_ok-renamed-in-Err.ensures)
+
+pub returns-in-Ok-clause-proper : goal.returns-in-Ok-clause-proper
+returns-in-Ok-clause-proper g c = λ placed.
+    let w : Wanted = record { path = c.args.path; size = c.args.file.now.size; sum = c.args.file.now.sum } in
+    c.write_files.ensures.proper (one_housed w c.args.path.now (g.T.Tree.state c.args.tree.now).nodes refl placed)
+
+pub returns-clause-proper : goal.returns-clause-proper
+returns-clause-proper g c = λ placed.
+    let w : Wanted = record { path = c.args.path; size = c.args.file.now.size; sum = c.args.file.now.sum } in
+    c.write_files.ensures.proper (one_housed w c.args.path.now (g.T.Tree.state c.args.tree.now).nodes refl placed)
+
+pub returns-in_err-renamed-in-Err-clause-proper : goal.returns-in_err-renamed-in-Err-clause-proper
+returns-in_err-renamed-in-Err-clause-proper g c = λ placed.
+    let w : Wanted = record { path = c.args.path; size = c.args.file.now.size; sum = c.args.file.now.sum } in
+    c.write_files.ensures.proper (one_housed w c.args.path.now (g.T.Tree.state c.args.tree.now).nodes refl placed)
+
+pub returns-in-Ok-clause-others : goal.returns-in-Ok-clause-others
+returns-in-Ok-clause-others g c = λ q off off_temp.
+    let w : Wanted = record { path = c.args.path; size = c.args.file.now.size; sum = c.args.file.now.sum } in
+    c.write_files.ensures.others q (one_none w q off off_temp)
+
+pub returns-in_err-renamed-in-Err-clause-others : goal.returns-in_err-renamed-in-Err-clause-others
+returns-in_err-renamed-in-Err-clause-others g c = λ q off off_temp.
+    let w : Wanted = record { path = c.args.path; size = c.args.file.now.size; sum = c.args.file.now.sum } in
+    c.write_files.ensures.others q (one_none w q off off_temp)
+
+pub returns-clause-others : goal.returns-clause-others
+returns-clause-others g c = λ q off off_temp.
+    let w : Wanted = record { path = c.args.path; size = c.args.file.now.size; sum = c.args.file.now.sum } in
+    c.write_files.ensures.others q (one_none w q off off_temp)

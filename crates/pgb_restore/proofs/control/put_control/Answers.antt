@@ -6,6 +6,7 @@ use Rattle.pgb_clear.proofs.Nodes.{none_at}
 use Rattle.pgb_restore.specs.Finished.{waiting_path}
 use Rattle.pgb_restore.proofs.Fetched.{on_err, entry_moved, moved_at}
 use Rattle.pgb_restore.proofs.Names.{control_lasts}
+use Rattle.pgb_restore.proofs.Proper.{control_placed, entry_there}
 use Rattle.pgb_restore.proofs.control.put_control.Goals as goal
 
 pub returns-in_err-stage-clause-none : goal.returns-in_err-stage-clause-none
@@ -19,3 +20,17 @@ returns-clause-put g c = entry_moved c.args.stanza.now c.args.own.now (map g.L.L
 
 pub returns-clause-others : goal.returns-clause-others
 returns-clause-others g c = λ q off off_waiting off_temp. moved_at waiting_path control_path q (g.T.Tree.state c.stage.new.tree).nodes (g.T.Tree.state c.rename.new.self).nodes off_waiting off c.in_ok-rename.ensures.nodes ∙ c.stage.ensures.others q off_waiting off_temp
+
+pub returns-in_err-rename-clause-proper : goal.returns-in_err-rename-clause-proper
+returns-in_err-rename-clause-proper g c = λ placed.
+    let old = (g.T.Tree.state c.args.tree.now).nodes in
+    let mid = (g.T.Tree.state c.stage.new.tree).nodes in
+    c.rename.ensures.proper (entry_there c.args.stanza.now c.args.own.now (map g.L.Link.link_state c.args.links.now.items) (file_entry_of c.args.file.now) waiting_path mid c.in_ok-stage.ensures.waits) (control_placed old mid c.stage.ensures.others placed)
+    ∙ c.stage.ensures.proper placed
+
+pub returns-clause-proper : goal.returns-clause-proper
+returns-clause-proper g c = λ placed.
+    let old = (g.T.Tree.state c.args.tree.now).nodes in
+    let mid = (g.T.Tree.state c.stage.new.tree).nodes in
+    c.rename.ensures.proper (entry_there c.args.stanza.now c.args.own.now (map g.L.Link.link_state c.args.links.now.items) (file_entry_of c.args.file.now) waiting_path mid c.in_ok-stage.ensures.waits) (control_placed old mid c.stage.ensures.others placed)
+    ∙ c.stage.ensures.proper placed

@@ -9,7 +9,7 @@ use Rattle.pgb_clear.proofs.Nodes.{none_at}
 use Rattle.pgb_restore.specs.Options.{recovery_of}
 use Rattle.pgb_restore.specs.Kept.{marked}
 use Rattle.pgb_restore.specs.Entries.{reads_of, want_of, want_in}
-use Rattle.pgb_restore.proofs.Filled.{fills, fill_fails, none_of_control}
+use Rattle.pgb_restore.proofs.Filled.{fills, fill_fails, have_folders, none_of_control}
 use Rattle.pgb_restore.proofs.ReadJobs.{all_fit, are_jobs, apart}
 use Rattle.pgb_restore.proofs.ReadEntries.{in_read, marked_in, marked_order}
 use Rattle.pgb_restore.proofs.rebuilding.fill.Goals as goal
@@ -47,6 +47,13 @@ returns-clause-control g c =
     none_at control_path (g.T.Tree.state c.args.tree.now).nodes (g.T.Tree.state c.write_files.new.tree).nodes
     (c.write_files.ensures.others control_path
     (none_of_control c.args.stanza.now c.args.own.now links (recovery_of c.args.recovery.now) (map file_entry_of c.args.files.now) c.args.marks.now (map job_of c.deref.result.now) c.deref-2.result.now (ap (map job_of) c.deref.ensures.value ∙ c.in_ok-planned.ensures.jobs) (ap (map want_in) c.deref-2.ensures.value ∙ c.in_ok-planned.ensures.wanted)))
+
+pub returns-clause-proper : goal.returns-clause-proper
+returns-clause-proper g c = λ housed.
+    let links = map g.L.Link.link_state c.args.links.now.items in
+    c.write_files.ensures.proper
+    (have_folders c.args.stanza.now c.args.own.now links (recovery_of c.args.recovery.now) (map file_entry_of c.args.files.now) c.args.marks.now (map job_of c.deref.result.now) c.deref-2.result.now (ap (map job_of) c.deref.ensures.value ∙ c.in_ok-planned.ensures.jobs) (ap (map want_in) c.deref-2.ensures.value ∙ c.in_ok-planned.ensures.wanted)
+    (g.T.Tree.state c.args.tree.now).nodes housed)
 
 pub returns-clause-fault : goal.returns-clause-fault
 returns-clause-fault g c =

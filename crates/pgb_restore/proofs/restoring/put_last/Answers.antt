@@ -2,11 +2,13 @@ use Rattle.std.specs.Prelude.{◌≢◌}
 use Rattle.std.proofs.Common.{◌≡◌, sym, ap, subst, map, List}
 use Rattle.std.proofs.lemmas.Result.{IfErr-weaker}
 use Rattle.pgb_model.specs.declared.files.FileEntry as rust_file
-use Rattle.pgb_model.specs.Text.{In}
+use Rattle.pgb_outside.specs.Tree.{IsPlaced}
+use Rattle.pgb_model.specs.Text.{Text, In}
 use Rattle.pgb_model.specs.Values.{FileEntry, file_entry_of, manifest_of}
 use Rattle.pgb_clear.specs.Clearing.{control_path}
 use Rattle.pgb_restore.proofs.Failing.{fails_more}
 use Rattle.pgb_restore.proofs.Finished.{finished_none, put_finishes, on_ok_three, some_before}
+use Rattle.pgb_restore.proofs.Proper.{entry_placed}
 use Rattle.pgb_restore.proofs.restoring.put_last.Goals as goal
 
 pub returns-in-None-clause-finishes : goal.returns-in-None-clause-finishes
@@ -42,3 +44,10 @@ returns-in-Some-clause-fault g c =
     IfErr-weaker c.put_control.result _ _
     (λ x h. fails_more c.args.stanza.now m.label (file_entry_of c.in-Some.file.now) m.files (map g.L.Link.link_state c.args.links.now.items) (map g.L.Link.link_state c.put_control.new.links.items) c.args.lost.now.items c.put_control.new.lost.items (g.T.Tree.state c.args.tree.now).faults (g.T.Tree.state c.put_control.new.tree).faults x listed h)
     c.put_control.ensures.fault
+
+pub returns-in-Some-clause-proper : goal.returns-in-Some-clause-proper
+returns-in-Some-clause-proper g c = λ there.
+    let m = manifest_of c.args.manifest.now in
+    let old = (g.T.Tree.state c.args.tree.now).nodes in
+    let listed = subst (λ (l : List rust_file.FileEntry). In (file_entry_of c.in-Some.file.now) (map file_entry_of l)) c.deref.ensures.value c.in-Some.ensures.some.0 in
+    c.put_control.ensures.proper (subst (λ (p : Text). IsPlaced old p) c.in-Some.ensures.some.1 (entry_placed m c.requires.rules old (file_entry_of c.in-Some.file.now) there listed))

@@ -1,4 +1,4 @@
-use Rattle.std.proofs.Common.{map, ◌++◌, []}
+use Rattle.std.proofs.Common.{◌∙◌, map, ◌++◌, []}
 use Rattle.std.proofs.lemmas.Result.{on_ok_weaker, IfErr-weaker}
 use Rattle.pgb_model.specs.Values.{manifest_of}
 use Rattle.pgb_restore.proofs.Failing.{fails_before, fails_later}
@@ -39,3 +39,6 @@ returns-clause-fault g c =
 
 pub returns-clause-none : goal.returns-clause-none
 returns-clause-none g c = on_err_more c.settle.result _ _ (λ stays was. stays (c.rebuild.ensures.control was)) c.settle.ensures.none
+
+pub returns-clause-proper : goal.returns-clause-proper
+returns-clause-proper g c = c.settle.ensures.proper c.in_ok-rebuild.ensures.folders ∙ c.rebuild.ensures.proper

@@ -3,6 +3,7 @@ use Rattle.pgb_outside.specs.Tree.{with_node}
 use Rattle.pgb_clear.specs.Clearing.{control_path, seen_of}
 use Rattle.pgb_restore.specs.Listed.{is_control_node}
 use Rattle.pgb_restore.proofs.Finished.{on_removed, but_control, listed_but, listed_none, none_there, any_map}
+use Rattle.pgb_restore.proofs.Proper.{control_bare}
 use Rattle.pgb_restore.proofs.HeldRead.{on_ok}
 use Rattle.pgb_restore.proofs.restoring.remove_control.Goals as goal
 
@@ -18,3 +19,6 @@ returns-clause-none g c = none_there (map seen_of c.args.seen.now) (g.T.Tree.sta
 
 pub returns-then-has_control-clause-others : goal.returns-then-has_control-clause-others
 returns-then-has_control-clause-others g c = on_ok c.remove.result _ (but_control c.remove.result (g.T.Tree.state c.args.tree.now).nodes (g.T.Tree.state c.remove.new.self).nodes c.remove.ensures.nodes)
+
+pub returns-then-has_control-clause-proper : goal.returns-then-has_control-clause-proper
+returns-then-has_control-clause-proper g c = c.remove.ensures.proper (control_bare (map seen_of c.args.seen.now) (g.T.Tree.state c.args.tree.now).nodes (any_map is_control_node seen_of c.args.seen.now ∙ sym c.has_control.ensures ∙ c.if-has_control.true) c.requires.seen)

@@ -1,10 +1,11 @@
-use Rattle.std.proofs.Common.{map, ◌++◌, []}
+use Rattle.std.proofs.Common.{◌∙◌, map, ◌++◌, []}
 use Rattle.std.proofs.lemmas.Result.{on_ok_weaker, IfErr-weaker}
 use Rattle.pgb_model.specs.Values.{manifest_of}
 use Rattle.pgb_restore.specs.Options.{options_of}
 use Rattle.pgb_restore.proofs.Failing.{fails_before, fails_later}
 use Rattle.pgb_restore.proofs.Fetched.{on_err, on_err_more}
 use Rattle.pgb_digests.proofs.Links.{left_beyond}
+use Rattle.pgb_restore.proofs.Proper.{folders_beside_settings}
 use Rattle.pgb_restore.proofs.restoring.settle.Goals as goal
 
 pub put_last-requires-clause-ready : goal.put_last-requires-clause-ready
@@ -42,3 +43,8 @@ returns-in_err-add_settings-clause-none g c = on_err c.from_residual.result _ c.
 
 pub returns-clause-none : goal.returns-clause-none
 returns-clause-none g c = on_err_more c.put_last.result _ _ (λ stays was. stays (c.add_settings.ensures.control was)) c.put_last.ensures.none
+
+pub returns-clause-proper : goal.returns-clause-proper
+returns-clause-proper g c = λ there.
+    c.put_last.ensures.proper (folders_beside_settings (manifest_of c.args.manifest.now) c.requires.rules (g.T.Tree.state c.args.tree.now).nodes (g.T.Tree.state c.add_settings.new.tree).nodes c.add_settings.ensures.others there)
+    ∙ c.add_settings.ensures.proper

@@ -4,7 +4,7 @@ use Rattle.pgb_worker_dispatch.specs.Run.{AllDone}
 use Rattle.pgb_fill.specs.declared.files.Wanted.{Wanted}
 use Rattle.pgb_fill.specs.declared.files.Filed.{Filed}
 use Rattle.pgb_fill.specs.Files.{kept_of, wanted_of, AllTidy}
-use Rattle.pgb_fill.specs.Keeping.{IsNoneOf}
+use Rattle.pgb_fill.specs.Keeping.{IsNoneOf, HaveFolders}
 use Rattle.pgb_digests.proofs.Links.{left_is}
 use Rattle.pgb_restore.proofs.Writes.{one_item, all_written}
 use Rattle.pgb_restore.proofs.running.run_files.Goals as goal
@@ -14,6 +14,12 @@ new-requires-clause-one g c = λ j job is. one_item c.args.wanted.now (map job_o
 
 pub returns-in_err-run_jobs-clause-others : goal.returns-in_err-run_jobs-clause-others
 returns-in_err-run_jobs-clause-others g c = λ q none. c.run_jobs.ensures.later.others q (subst (λ (ws : List Wanted). IsNoneOf ws q) (sym c.in_ok-keep.ensures.wanted) none)
+
+pub returns-in_err-run_jobs-clause-proper : goal.returns-in_err-run_jobs-clause-proper
+returns-in_err-run_jobs-clause-proper g c = λ have. c.run_jobs.ensures.later.proper (subst (λ (ws : List Wanted). HaveFolders ws (g.T.Tree.state c.args.tree.now).nodes) (sym c.in_ok-keep.ensures.wanted) have)
+
+pub returns-clause-proper : goal.returns-clause-proper
+returns-clause-proper g c = λ have. c.run_jobs.ensures.later.proper (subst (λ (ws : List Wanted). HaveFolders ws (g.T.Tree.state c.args.tree.now).nodes) (sym c.in_ok-keep.ensures.wanted) have)
 
 pub returns-clause-others : goal.returns-clause-others
 returns-clause-others g c = λ q none. c.run_jobs.ensures.later.others q (subst (λ (ws : List Wanted). IsNoneOf ws q) (sym c.in_ok-keep.ensures.wanted) none)
@@ -28,7 +34,7 @@ returns-clause-written g c =
     (ap (map wanted_of) files ∙ c.run_jobs.ensures.later.wanted ∙ c.in_ok-keep.ensures.wanted)
     c.requires.jobs
     (subst (λ (l : List Filed). AllDone jobs links (map (kept_of new) l)) (sym files) c.in_ok-run_jobs.ensures.done)
-    (subst (AllTidy new) (sym files) c.in_ok-run_jobs.ensures.agrees)
+    (subst (AllTidy new) (sym files) c.in_ok-run_jobs.ensures.agrees.tidy)
 
 pub returns-clause-left : goal.returns-clause-left
 returns-clause-left g c = left_is (map job_of c.args.jobs.now) (map g.L.Link.link_state c.args.links.now.items) c.args.lost.now.items c.run_jobs.new.lost.items (map g.L.Link.link_state c.run_jobs.new.links.items) c.in_ok-run_jobs.ensures.left

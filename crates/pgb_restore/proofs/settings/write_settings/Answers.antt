@@ -1,5 +1,6 @@
-use Rattle.std.proofs.Common.{◌∙◌}
+use Rattle.std.proofs.Common.{◌∙◌, refl}
 use Rattle.pgb_fill.proofs.Filing.{same_begun, same_longer}
+use Rattle.pgb_fill.proofs.Placing.{begun_file, in_root}
 use Rattle.pgb_model.specs.Restored.{conf_path, signal_path}
 use Rattle.pgb_restore.proofs.Lines.{begun_has}
 use Rattle.pgb_restore.proofs.settings.write_settings.Goals as goal
@@ -24,3 +25,20 @@ returns-clause-others g c = λ q off off_signal.
     same_begun c.begin-2.result signal_path long last c.begin-2.ensures.nodes q off_signal
     ∙ same_longer c.append.result conf_path c.args.text.now begun long c.append.ensures.nodes q off
     ∙ same_begun c.begin.result conf_path old begun c.begin.ensures.nodes q off
+
+pub returns-in_err-begin-clause-proper : goal.returns-in_err-begin-clause-proper
+returns-in_err-begin-clause-proper g c = c.begin.ensures.proper (in_root conf_path (g.T.Tree.state c.args.tree.now).nodes refl)
+
+pub returns-in_err-append-clause-proper : goal.returns-in_err-append-clause-proper
+returns-in_err-append-clause-proper g c =
+    let old = (g.T.Tree.state c.args.tree.now).nodes in
+    let begun = (g.T.Tree.state c.begin.new.self).nodes in
+    c.append.ensures.proper (begun_file conf_path old begun c.in_ok-begin.ensures.nodes) ∙ c.begin.ensures.proper (in_root conf_path old refl)
+
+pub returns-clause-proper : goal.returns-clause-proper
+returns-clause-proper g c =
+    let old = (g.T.Tree.state c.args.tree.now).nodes in
+    let begun = (g.T.Tree.state c.begin.new.self).nodes in
+    c.begin-2.ensures.proper (in_root signal_path (g.T.Tree.state c.append.new.self).nodes refl)
+    ∙ c.append.ensures.proper (begun_file conf_path old begun c.in_ok-begin.ensures.nodes)
+    ∙ c.begin.ensures.proper (in_root conf_path old refl)

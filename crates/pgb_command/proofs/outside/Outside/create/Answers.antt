@@ -14,5 +14,5 @@ returns-clause-ran g c =
     (as_server c.create_stanza.result c.args.settings.now.server _ e.same) e.asks
     (λ none. ap (λ w. g.V.Wire.state w) (e.quiet (no_server c.args.settings.now.server none)))
     e.closed _ (rose_to _ _ _ (λ h. h) (λ h. absurd h) (λ h. absurd h) (λ h. h) (λ h. absurd h) (λ h. absurd h) (λ h. absurd h) (λ h. absurd h) (λ h. absurd h)) e.cause
-    (record { repo = e.frame.opened; tree = refl })
+    (record { spool = refl; repo = e.frame.opened; tree = refl })
     (all_later _ _ e.frame.later (omega arith) (omega arith) e.later (omega arith) (omega arith) (omega arith) (omega arith) (omega arith))

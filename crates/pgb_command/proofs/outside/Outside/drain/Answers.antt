@@ -4,13 +4,15 @@ use Rattle.pgb_command.specs.Told.{request_of, asked_of}
 use Rattle.pgb_command.proofs.Ends.{rose_to, all_later}
 use Rattle.pgb_command.proofs.Rans.{drained_ran}
 use Rattle.pgb_command.proofs.Readied.{drain_tells}
+use Rattle.pgb_command.proofs.Words.{drain_asked}
 use Rattle.pgb_command.proofs.outside.Outside.drain.Goals as goal
 
 pub returns-clause-ran : goal.returns-clause-ran
 returns-clause-ran g c =
-    let e = c.drain_into.ensures in
-    let tells = drain_tells (request_of c.args.settings.now.request) c.args.settings.now.stanza.now _ _ c.args.ready.now c.requires.ready c.args.place.now c.requires.request c.in-Some-Some.control c.in-Some-Some.is-0 in
-    drained_ran (alone (asked_of c.args.settings.now)) _ _ refl e.looks.nodes c.args.place.now c.in-Some-Some.control tells c.drain_into.result c.drain_end.result c.drain_end.ensures c.requires.request e.beside e.spool_beside e.runs e.drained
+    let e = c.drain_stanza.ensures in
+    let asked = drain_asked (request_of c.args.settings.now.request) c.args.settings.now.pg1_path.now c.requires.order in
+    let tells = drain_tells (request_of c.args.settings.now.request) c.args.settings.now.stanza.now _ _ c.args.ready.now c.requires.ready asked.0 asked.1 c.in-Some-Some.control c.in-Some-Some.is-0 in
+    drained_ran (alone (asked_of c.args.settings.now)) _ _ refl e.looks.nodes asked.0 c.in-Some-Some.control tells c.drain_stanza.result c.drain_end.result c.drain_end.ensures asked.1 e.pair e.beside e.spool_beside e.runs e.drained
     _ (rose_to _ _ _ (λ h. h) (λ h. h) (λ h. h) (λ h. absurd h) (λ h. absurd h) (λ h. absurd h) (λ h. absurd h) (λ h. absurd h) (λ h. absurd h)) e.cause
-    (record { repo = e.repo_frame.opened; tree = e.looks.opened })
-    (all_later _ _ e.repo_frame.later e.later e.looks.later (omega arith) (omega arith) (omega arith) (omega arith) (omega arith) (omega arith))
+    (record { spool = e.spool_frame.opened; repo = e.repo_frame.opened; tree = e.looks.opened })
+    (all_later _ _ e.repo_frame.later e.spool_frame.later e.looks.later (omega arith) (omega arith) (omega arith) (omega arith) (omega arith) (omega arith))

@@ -7,11 +7,11 @@ use Rattle.pgb_command.proofs.outside.Outside.follow.Goals as goal
 pub returns-in-Ok-clause-followed : goal.returns-in-Ok-clause-followed
 returns-in-Ok-clause-followed g c =
     let e = c.prune_behind.ensures in
-    followed_well c.args.settings.now.stanza.now c.args.rules.now _ _ (string_bytes c.args.lines) c.prune_behind.new.lines c.prune_behind.result _ c.in-Ok.is e.follows e.beside (record { repo = e.frame.opened; tree = refl })
+    followed_well c.args.settings.now.stanza.now c.args.rules.now _ _ (string_bytes c.args.lines) c.prune_behind.new.lines c.prune_behind.result _ c.in-Ok.is e.follows e.beside (record { spool = refl; repo = e.frame.opened; tree = refl })
     (all_later _ _ e.frame.later (omega arith) (omega arith) (omega arith) (omega arith) e.later (omega arith) (omega arith) (omega arith))
 
 pub returns-in-Err-clause-followed : goal.returns-in-Err-clause-followed
 returns-in-Err-clause-followed g c =
     let e = c.prune_behind.ensures in
-    followed_ill c.args.settings.now.stanza.now c.args.rules.now _ _ (string_bytes c.args.lines) c.prune_behind.new.lines c.prune_behind.result c.in-Err.fault c.in-Err.is e.follows e.cause e.beside (record { repo = e.frame.opened; tree = refl })
+    followed_ill c.args.settings.now.stanza.now c.args.rules.now _ _ (string_bytes c.args.lines) c.prune_behind.new.lines c.prune_behind.result c.in-Err.fault c.in-Err.is e.follows e.cause e.beside (record { spool = refl; repo = e.frame.opened; tree = refl })
     (all_later _ _ e.frame.later (omega arith) (omega arith) (omega arith) (omega arith) e.later (omega arith) (omega arith) (omega arith))

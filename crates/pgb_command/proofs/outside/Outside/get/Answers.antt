@@ -12,5 +12,5 @@ returns-clause-ran g c =
     got_ran (alone (asked_of c.args.settings.now)) _ _ refl (record { now = e.looks.now; time = e.looks.time }) o.folder.now o.word.now o.path.now c.get_file.result c.get_end.result c.get_end.ensures c.requires.request c.requires.folder
     (both_ok c.get_file.result _ _ e.got e.given) e.lasts e.changes e.none
     _ (rose_to _ _ _ (λ h. h) (λ h. absurd h) (λ h. h) (λ h. absurd h) (λ h. absurd h) (λ h. absurd h) (λ h. absurd h) (λ h. absurd h) (λ h. absurd h)) e.cause
-    (record { repo = e.looks.opened; tree = e.opened })
+    (record { spool = refl; repo = e.looks.opened; tree = e.opened })
     (all_later _ _ e.looks.later (omega arith) e.later (omega arith) (omega arith) (omega arith) (omega arith) (omega arith) (omega arith))

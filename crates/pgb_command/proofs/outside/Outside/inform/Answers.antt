@@ -12,5 +12,5 @@ returns-clause-ran g c =
     informed_ran (alone (asked_of c.args.settings.now)) _ _ refl (record { now = e.looks.now; time = e.looks.time }) c.inform_end.result c.args.form c.report_stanza.result c.inform_end.ensures c.requires.request
     (both_ok c.report_stanza.result _ _ e.told e.reported)
     _ (only_rose _ _ _ _ (λ h. h)) e.cause
-    (record { repo = e.looks.opened; tree = refl })
+    (record { spool = refl; repo = e.looks.opened; tree = refl })
     (all_later _ _ e.looks.later (omega arith) (omega arith) (omega arith) (omega arith) (omega arith) (omega arith) (omega arith) (omega arith))

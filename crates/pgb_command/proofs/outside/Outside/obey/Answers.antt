@@ -6,14 +6,14 @@ use Rattle.pgb_command.proofs.Dids.{worded}
 use Rattle.pgb_command.proofs.Words.{behind_words, is_behind}
 use Rattle.pgb_command.proofs.outside.Outside.obey.Goals as goal
 
-pub returns-in_err-order-clause-did : goal.returns-in_err-order-clause-did
-returns-in_err-order-clause-did g c = worded (asked_of c.args.settings.now) _ _ c.in_err-order.field-0.0 c.from_residual.ensures.1 c.in_err-order.ensures.cause
+pub returns-in_err-course-clause-did : goal.returns-in_err-course-clause-did
+returns-in_err-course-clause-did g c = worded (asked_of c.args.settings.now) _ _ c.in_err-course.field-0.0 c.from_residual.ensures.1 c.in_err-course.ensures.cause
 
-pub returns-in_err-order-clause-words : goal.returns-in_err-order-clause-words
-returns-in_err-order-clause-words g c = is_behind (asked_of c.args.settings.now) _ c.from_residual.result c.in_err-order.field-0.0 c.from_residual.ensures.1 c.in_err-order.ensures.cause
+pub returns-in_err-course-clause-words : goal.returns-in_err-course-clause-words
+returns-in_err-course-clause-words g c = is_behind (asked_of c.args.settings.now) _ c.from_residual.result c.in_err-course.field-0.0 c.from_residual.ensures.1 c.in_err-course.ensures.cause
 
 pub returns-clause-words : goal.returns-clause-words
-returns-clause-words g c = behind_words (asked_of c.args.settings.now) _ _ c.in_ok-order.order c.in_ok-order.ensures.order c.perform.result
+returns-clause-words g c = behind_words (asked_of c.args.settings.now) _ _ c.in_ok-course.course c.in_ok-course.ensures.course c.perform.result
 
 pub returns-clause-unused : goal.returns-clause-unused
 returns-clause-unused g c = λ on.

@@ -11,5 +11,5 @@ returns-clause-ran g c =
     pruned_ran (alone (asked_of c.args.settings.now)) _ _ refl c.args.rules.now c.prune_stanza.result c.prune_end.result c.prune_end.ensures c.requires.request e.pruned e.only e.beside
     (λ none. ap (λ x. g.C.Clock.state x) (e.unread none))
     _ (rose_to _ _ _ (λ h. h) (λ h. absurd h) (λ h. absurd h) (λ h. absurd h) (λ h. absurd h) (λ h. h) (λ h. absurd h) (λ h. absurd h) (λ h. absurd h)) e.cause
-    (record { repo = e.frame.opened; tree = refl })
+    (record { spool = refl; repo = e.frame.opened; tree = refl })
     (all_later _ _ e.frame.later (omega arith) (omega arith) (omega arith) (omega arith) e.later (omega arith) (omega arith) (omega arith))

@@ -13,5 +13,5 @@ returns-clause-ran g c =
     let x = restore_asked (request_of c.args.settings.now.request) _ o c.requires.order in
     recovered_ran (alone (asked_of c.args.settings.now)) _ _ refl (record { now = e.looks.now; time = e.looks.time }) x.0 o.set x.2 (how_of o) c.recover_backup.result c.recover_end.result c.recover_end.ensures x.1 e.restored e.given e.control e.unchanged
     _ (λ h. h) (rose_to _ _ _ (λ h. h) (λ h. absurd h) (λ h. h) (λ h. absurd h) (λ h. absurd h) (λ h. absurd h) (λ h. absurd h) (λ h. absurd h) (λ h. absurd h)) e.cause
-    (record { repo = e.looks.opened; tree = e.opened })
+    (record { spool = refl; repo = e.looks.opened; tree = e.opened })
     (all_later _ _ e.looks.later (omega arith) e.later (omega arith) (omega arith) (omega arith) (omega arith) (omega arith) (omega arith))

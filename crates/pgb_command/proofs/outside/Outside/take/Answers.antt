@@ -21,5 +21,5 @@ returns-clause-ran g c =
     let tells = backup_tells (request_of s.request) s.stanza.now _ _ c.args.ready c.requires.ready (taking_of o) asked c.in-Some-Some-Some.control c.in-Some-Some-Some.is-0 in
     taken_ran (asked_of s) _ _ refl e.looks.nodes o c.in-Some-Some-Some.control tells c.take_later.result c.take_end.result c.take_end.ensures asked e.beside e.does e.taken
     _ (rose_to _ _ _ (λ h. h) (λ h. absurd h) (λ h. h) (λ h. absurd h) (λ h. absurd h) (λ h. h) (λ h. absurd h) (λ h. absurd h) (λ h. absurd h)) e.cause
-    (record { repo = e.frame.opened; tree = e.looks.opened })
+    (record { spool = refl; repo = e.frame.opened; tree = e.looks.opened })
     (all_later _ _ e.frame.later (omega arith) e.looks.later (omega arith) (omega arith) e.later (omega arith) (omega arith) (omega arith))

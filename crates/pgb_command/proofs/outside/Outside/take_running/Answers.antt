@@ -24,5 +24,5 @@ returns-clause-ran g c =
     (runs_online s.stanza.now _ _ _ _ _ _ _ _ _ _ e.does e.marks) e.taken
     (asks_backup c.take_online.result s.server c.in-Some.server o.fast _ _ _ _ c.in-Some.is (c.deref.ensures ∙ c.in_ok-socket.ensures) e.place e.sent)
     (asks_one s.server c.in-Some.server c.in-Some.is) e.ended _ (rose_to _ _ _ (λ h. h) (λ h. h) (λ h. h) (λ h. h) (λ h. absurd h) (λ h. h) (λ h. absurd h) (λ h. absurd h) (λ h. absurd h)) e.cause
-    (record { repo = e.frame.opened; tree = e.looks.opened })
+    (record { spool = e.spool_frame.opened; repo = e.frame.opened; tree = e.looks.opened })
     (all_later _ _ e.frame.later e.spool_frame.later e.looks.later e.server_later e.aside_later e.later (omega arith) (omega arith) (omega arith))

@@ -1,6 +1,6 @@
 use Rattle.std.proofs.Common.{sym, subst}
 use Rattle.pgb_fill.specs.Apart.{AreApart}
-use Rattle.pgb_fill.proofs.Listing.{paths_back, wanted_back, fresh_at, none_tidy}
+use Rattle.pgb_fill.proofs.Listing.{paths_back, wanted_back, fresh_at, first_order}
 use Rattle.pgb_fill.proofs.keeper.FileKeeper.new.Goals as goal
 
 pub invariant_of-result : goal.invariant_of-result
@@ -15,5 +15,5 @@ returns-clause-wanted g c = wanted_back c.args.wanted.now c.in_ok-files.files.it
 pub returns-clause-empty : goal.returns-clause-empty
 returns-clause-empty g c = λ j lt. fresh_at (g.T.Tree.state c.args.tree.now).nodes c.args.wanted.now c.in_ok-files.files.items j c.in_ok-files.ensures lt
 
-pub returns-clause-tidy : goal.returns-clause-tidy
-returns-clause-tidy g c = none_tidy (g.T.Tree.state c.args.tree.now).nodes c.args.wanted.now c.in_ok-files.files.items c.in_ok-files.ensures
+pub returns-clause-agrees : goal.returns-clause-agrees
+returns-clause-agrees g c = first_order (g.T.Tree.state c.args.tree.now).nodes c.args.wanted.now c.in_ok-files.files.items c.in_ok-files.ensures

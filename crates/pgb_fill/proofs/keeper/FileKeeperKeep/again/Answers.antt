@@ -5,7 +5,7 @@ use Rattle.pgb_worker_keep.specs.KeepState.{Clears}
 use Rattle.pgb_fill.specs.declared.files.Filed.{Filed}
 use Rattle.pgb_fill.specs.Files.{kept_of}
 use Rattle.pgb_fill.proofs.Filing.{open_tidy, cleared}
-use Rattle.pgb_fill.proofs.Listing.{changes_at, apart_still, tidy_still}
+use Rattle.pgb_fill.proofs.Listing.{changes_at, apart_still, order_still}
 use Rattle.pgb_fill.proofs.Stepping.{later_at}
 use Rattle.pgb_fill.proofs.keeper.FileKeeperKeep.again.Goals as goal
 
@@ -28,7 +28,7 @@ returns-clause-later g c =
     let x = c.index_mut-file.result.now in
     let y : Filed = (record { wanted = x.wanted; count = 0; end = None }) in
     let lt : c.args.job < length files = omega (arith, c.requires.job, length-map files (kept_of u.nodes)) in
-    later_at c.args.self.now u u c.args.job x y lt c.index_mut-file.ensures.value refl (λ q _ _. refl) refl (le_refl u.faults) _ refl refl (λ some. inl some)
+    later_at c.args.self.now u u c.args.job x y lt c.index_mut-file.ensures.value refl (λ q _ _. refl) refl (λ placed. refl) (le_refl u.faults) _ refl refl (λ some. inl some)
 
 pub returns-clause-agrees : goal.returns-clause-agrees
 returns-clause-agrees g c =
@@ -37,7 +37,7 @@ returns-clause-agrees g c =
     let x = c.index_mut-file.result.now in
     let y : Filed = (record { wanted = x.wanted; count = 0; end = None }) in
     let lt : c.args.job < length files = omega (arith, c.requires.job, length-map files (kept_of nodes)) in
-    tidy_still nodes nodes files c.args.job x y lt c.index_mut-file.ensures.value c.args.self.now.apart (λ q _ _. refl) (open_tidy y nodes refl) c.requires.agrees
+    order_still nodes nodes files c.args.job x y lt c.index_mut-file.ensures.value c.args.self.now.apart (λ q _ _. refl) (open_tidy y nodes refl) (λ open_end some. absurd (omega (arith, some))) c.requires.agrees
 
 pub returns-clause-kept : goal.returns-clause-kept
 returns-clause-kept g c =

@@ -1,6 +1,6 @@
 use Rattle.std.proofs.Common.{refl, inl, ap}
 use Rattle.pgb_worker_keep.specs.KeepState.{Ends}
-use Rattle.pgb_fill.proofs.Listing.{changes_at, apart_still, tidy_still}
+use Rattle.pgb_fill.proofs.Listing.{changes_at, apart_still, order_still, got}
 use Rattle.pgb_fill.proofs.Stepping.{within, later_at, failed_by}
 use Rattle.pgb_fill.proofs.keeper.FileKeeperKeep.end.Goals as goal
 
@@ -18,7 +18,7 @@ returns-in-Ok-clause-later g c =
     let u = g.T.Tree.state c.args.on.now in
     let v = g.T.Tree.state c.end_file.new.tree in
     let files = c.args.self.now.files.items in
-    later_at c.args.self.now u v c.args.job c.index_mut.result.now c.end_file.new.file (within u.nodes files c.args.job c.requires.next.kept c.requires.next.kept_is) c.index_mut.ensures.value c.end_file.ensures.wanted c.end_file.ensures.others c.end_file.ensures.opened c.end_file.ensures.cause.later _ refl refl (λ some. inl some)
+    later_at c.args.self.now u v c.args.job c.index_mut.result.now c.end_file.new.file (within u.nodes files c.args.job c.requires.next.kept c.requires.next.kept_is) c.index_mut.ensures.value c.end_file.ensures.wanted c.end_file.ensures.others c.end_file.ensures.opened (c.end_file.ensures.proper (c.requires.agrees.begun c.args.job c.index_mut.result.now (got files c.args.job c.index_mut.result.now (within u.nodes files c.args.job c.requires.next.kept c.requires.next.kept_is) c.index_mut.ensures.value))) c.end_file.ensures.cause.later _ refl refl (λ some. inl some)
 
 pub returns-in-Ok-clause-agrees : goal.returns-in-Ok-clause-agrees
 returns-in-Ok-clause-agrees g c =
@@ -26,7 +26,7 @@ returns-in-Ok-clause-agrees g c =
     let v = g.T.Tree.state c.end_file.new.tree in
     let files = c.args.self.now.files.items in
     let y = c.end_file.new.file in
-    tidy_still u.nodes v.nodes files c.args.job c.index_mut.result.now y (within u.nodes files c.args.job c.requires.next.kept c.requires.next.kept_is) c.index_mut.ensures.value c.args.self.now.apart c.end_file.ensures.others c.in-Ok.ensures.tidy c.requires.agrees
+    order_still u.nodes v.nodes files c.args.job c.index_mut.result.now y (within u.nodes files c.args.job c.requires.next.kept c.requires.next.kept_is) c.index_mut.ensures.value c.args.self.now.apart c.end_file.ensures.others c.in-Ok.ensures.tidy c.in-Ok.ensures.begun c.requires.agrees
 
 pub returns-in-Ok-clause-kept : goal.returns-in-Ok-clause-kept
 returns-in-Ok-clause-kept g c =
@@ -43,4 +43,4 @@ returns-in-Err-clause-later g c =
     let u = g.T.Tree.state c.args.on.now in
     let v = g.T.Tree.state c.end_file.new.tree in
     let files = c.args.self.now.files.items in
-    later_at c.args.self.now u v c.args.job c.index_mut.result.now c.end_file.new.file (within u.nodes files c.args.job c.requires.next.kept c.requires.next.kept_is) c.index_mut.ensures.value c.end_file.ensures.wanted c.end_file.ensures.others c.end_file.ensures.opened c.end_file.ensures.cause.later c.count.new.self c.count.ensures.jobs (ap (λ l. l.items) c.count.ensures.files) (failed_by c.in-Err.stop _ _ _ _ c.in-Err.ensures.cause c.count.ensures.faults)
+    later_at c.args.self.now u v c.args.job c.index_mut.result.now c.end_file.new.file (within u.nodes files c.args.job c.requires.next.kept c.requires.next.kept_is) c.index_mut.ensures.value c.end_file.ensures.wanted c.end_file.ensures.others c.end_file.ensures.opened (c.end_file.ensures.proper (c.requires.agrees.begun c.args.job c.index_mut.result.now (got files c.args.job c.index_mut.result.now (within u.nodes files c.args.job c.requires.next.kept c.requires.next.kept_is) c.index_mut.ensures.value))) c.end_file.ensures.cause.later c.count.new.self c.count.ensures.jobs (ap (λ l. l.items) c.count.ensures.files) (failed_by c.in-Err.stop _ _ _ _ c.in-Err.ensures.cause c.count.ensures.faults)

@@ -1,0 +1,16 @@
+use Rattle.std.proofs.Common.{ap}
+use Rattle.pgb_command.specs.Told.{request_of, asked_of}
+use Rattle.pgb_command.proofs.Words.{push_refused, wait_refused, get_refused, restore_refused}
+use Rattle.pgb_command.proofs.order.course_of.Goals as goal
+
+pub returns-in_err-push-in-ArchivePush-clause-cause : goal.returns-in_err-push-in-ArchivePush-clause-cause
+returns-in_err-push-in-ArchivePush-clause-cause c = push_refused (asked_of c.args.settings.now) c.in-ArchivePush.path.now (ap request_of c.in-ArchivePush.is) c.from_residual.result c.in_err-push-in-ArchivePush.field-0.0 c.from_residual.ensures.1 c.in_err-push-in-ArchivePush.ensures.cause
+
+pub returns-in_err-push-in-ArchivePushLeft-clause-cause : goal.returns-in_err-push-in-ArchivePushLeft-clause-cause
+returns-in_err-push-in-ArchivePushLeft-clause-cause c = wait_refused (asked_of c.args.settings.now) c.in-ArchivePushLeft.path.now _ (ap request_of c.in-ArchivePushLeft.is) c.from_residual-in_err-push-in-ArchivePushLeft.result c.in_err-push-in-ArchivePushLeft.field-0.0 c.from_residual-in_err-push-in-ArchivePushLeft.ensures.1 c.in_err-push-in-ArchivePushLeft.ensures.cause
+
+pub returns-in_err-get-in-ArchiveGet-clause-cause : goal.returns-in_err-get-in-ArchiveGet-clause-cause
+returns-in_err-get-in-ArchiveGet-clause-cause c = get_refused (asked_of c.args.settings.now) c.in-ArchiveGet.name.now c.in-ArchiveGet.path.now (ap request_of c.in-ArchiveGet.is) c.from_residual-in_err-get-in-ArchiveGet.result c.in_err-get-in-ArchiveGet.field-0.0 c.from_residual-in_err-get-in-ArchiveGet.ensures.1 c.in_err-get-in-ArchiveGet.ensures.cause
+
+pub returns-in_err-restore-in-Restore-clause-cause : goal.returns-in_err-restore-in-Restore-clause-cause
+returns-in_err-restore-in-Restore-clause-cause c = restore_refused (asked_of c.args.settings.now) _ _ (ap request_of c.in-Restore.is) c.from_residual-in_err-restore-in-Restore.result c.in_err-restore-in-Restore.field-0.0 c.from_residual-in_err-restore-in-Restore.ensures.1 c.in_err-restore-in-Restore.ensures.cause

@@ -1,0 +1,39 @@
+-- How many files and bytes a backup has, and what the last backup of a repository tells of them. Own.
+use Rattle.std.specs.Prelude.{◌≡◌, ◌&&◌, nat_lt, Bool, true, List, filter, length, is_none, Option, Some, IfSome}
+use Rattle.pgb_outside.specs.Content.{Content}
+use Rattle.pgb_model.specs.declared.labels.Kind.TheVariants.{Incr}
+use Rattle.pgb_model.specs.declared.labels.Label.{Label}
+use Rattle.pgb_model.specs.InfoFiles.{IsBackupText}
+use Rattle.pgb_model.specs.ManifestText.{IsManifestText}
+use Rattle.pgb_model.specs.Names.{backup_info, manifest_name}
+use Rattle.pgb_model.specs.Pair.{PairIs}
+use Rattle.pgb_model.specs.Text.{Text}
+use Rattle.pgb_model.specs.Values.{BackupInfo, FileEntry, Manifest}
+use Rattle.pgb_record.specs.Making.{size_of}
+use Rattle.pgb_take_later.specs.Basing.{base_label}
+use Rattle.pgb_rehearse.specs.declared.counting.Amount.{Amount}
+use Rattle.pgb_rehearse.specs.declared.counting.Counted.{Counted}
+use Rattle.pgb_rehearse.specs.declared.counting.Counted.TheVariants.{All, Own, Filled}
+
+-- all files, or those that refer to no other backup, or those of them that have bytes
+abbrev pub is_counted : Counted → FileEntry → Bool
+is_counted All e = true
+is_counted Own e = is_none e.reference
+is_counted Filled e = is_none e.reference && nat_lt 0 e.size
+
+abbrev pub amount_of : Counted → List FileEntry → Amount
+amount_of counted files = record { files = length (filter (is_counted counted) files); bytes = size_of (filter (is_counted counted) files) }
+
+-- f lists a backup on which a further one would be based, the last of its cluster, and has its manifest, of which this holds
+pub record HasLast (stanza : Text) (P : Manifest → Type 0) (f : Content) : Type 0 where
+  pub list : BackupInfo
+  pub read : PairIs IsBackupText f (backup_info stanza) list
+  pub label : Label
+  pub last : base_label Incr list ≡ Some label
+  pub manifest : Manifest
+  pub of_it : PairIs IsManifestText f (manifest_name stanza label) manifest
+  pub holds : P manifest
+
+-- so many of its files are counted
+abbrev pub TellsLast : Text → Counted → Option Content → Amount → Type 0
+TellsLast stanza counted now amount = IfSome now (HasLast stanza (λ m. amount ≡ amount_of counted m.files))
