@@ -47,7 +47,7 @@ use Rattle.pgb_command.specs.declared.fault.CommandFault.TheVariants as commands
 use Rattle.pgb_command.specs.declared.fault.Fault.{Fault}
 use Rattle.pgb_command.specs.declared.fault.Fault.TheVariants.{Usage, Stage, Command as OfCommand, Behind, Failed as ObjectFailed, NoMemory}
 use Rattle.pgb_command.specs.Answers.{status, reached_of, ending_of, is_early}
-use Rattle.pgb_command.specs.Asked.{Request, create, push, leave, drain, get, backup, backup_running, restore, report, examine, expire, BackupHow, RunningHow, Asked, behind_backup, alone}
+use Rattle.pgb_command.specs.Asked.{Request, create, push, leave, drain, get, backup, backup_running, restore, report, examine, expire, rehearse, BackupHow, RunningHow, Asked, behind_backup, alone}
 use Rattle.pgb_command.specs.Tables.{Known, known, plan_of, manner_of, ByOrder, OnCluster, TurnsTold, TellsLabel, IsRunningOf, heard_by, AsksBackup, WithExpiry, FolderGoes, CommandCause, OnBackup}
 use Rattle.pgb_command.specs.Did.{SamePlaces, Closes, OwnCause, Spares, Ran, Followed}
 use Rattle.pgb_command.proofs.Dids.{later_on}
@@ -175,6 +175,7 @@ module _ (a : Asked) (rules : Rules) where
   full_command how old new (commands.Recover e) h = absurd h
   full_command how old new (commands.Examine e) h = absurd h
   full_command how old new (commands.Prune e) h = absurd h
+  full_command how old new (commands.Rehearse e) h = absurd h
 
   running_command : (how : RunningHow) (old new : Known) (fault : CommandFault) → CommandCause (asking a (backup_running how) None) (backup_running how) old new fault → CommandCause (asking a (backup_running how) (Some rules)) (backup_running how) old new fault
   running_command how old new (commands.Create e) h = absurd h
@@ -187,6 +188,7 @@ module _ (a : Asked) (rules : Rules) where
   running_command how old new (commands.Recover e) h = absurd h
   running_command how old new (commands.Examine e) h = absurd h
   running_command how old new (commands.Prune e) h = absurd h
+  running_command how old new (commands.Rehearse e) h = absurd h
 
   module _ (b k : Seen) where
     full_cause : (how : BackupHow) (fault : Fault) → OwnCause (asking a (backup how) None) b k fault → OwnCause (asking a (backup how) (Some rules)) b k fault
@@ -427,6 +429,7 @@ held_backup examine rules stanza held at h = none_some rules at
 held_backup (leave path how) rules stanza held at h = none_some rules at
 held_backup (drain place) rules stanza held at h = none_some rules at
 held_backup (expire other) rules stanza held at h = none_some rules at
+held_backup (rehearse how) rules stanza held at h = none_some rules at
 
 -- an expiry followed
 pub behind_ran : (a : Asked) (rules : Rules) → a.expires ≡ Some rules → behind_backup a.request a.expires ≡ a.expires → (b m k : Seen) → k.server ≡ m.server → k.others ≡ m.others → k.spool.view ≡ m.spool.view → k.tree.nodes ≡ m.tree.nodes → OnBackup a.request (b.clock.least ≤ m.clock.least) → (outcome : Outcome) (lines : String Global) → outcome ≡ Finished lines
@@ -446,6 +449,7 @@ behind_ran a rules is kept b m k server others spool nodes least outcome lines e
     go (leave path how) le at x = none_some rules at
     go (drain place) le at x = none_some rules at
     go (expire other) le at x = none_some rules at
+    go (rehearse how) le at x = none_some rules at
 
 -- none follows
 pub alone_ran : (a : Asked) → a.expires ≡ None → (b k : Seen) (r : Result Outcome Fault) → Ran (alone a) b k r → Ran a b k r
@@ -477,6 +481,7 @@ unfinished_ran a kept b k r not h = by a.expires refl
     back rules (leave path how) at x not ran = none_some rules at
     back rules (drain place) at x not ran = none_some rules at
     back rules (expire other) at x not ran = none_some rules at
+    back rules (rehearse how) at x not ran = none_some rules at
 
     by : (rules : Option Rules) → a.expires ≡ rules → Ran a b k r
     by None is = alone_ran a is b k r h

@@ -24,12 +24,15 @@ use Rattle.pgb_model.specs.Values.{Manifest}
 use Rattle.pgb_restore.specs.Finished.{IsFinished}
 use Rattle.pgb_recover.specs.Fetching.{options_by}
 use Rattle.pgb_clear.specs.Clearing.{control_path, HasNone}
-use Rattle.pgb_command.specs.Asked.{Request, create, push, leave, drain, get, backup, backup_running, restore, report, examine, expire, RunningHow, Asked}
+use Rattle.pgb_command.specs.Asked.{Request, create, push, leave, drain, get, backup, backup_running, restore, report, examine, expire, rehearse, RunningHow, Asked}
 use Rattle.pgb_retain.specs.declared.rules.Rules.{Rules}
 use Rattle.pgb_prune.specs.Behind.{IsFollowed}
 use Rattle.pgb_command.proofs.Expiries.{some_expiry}
 use Rattle.pgb_command.proofs.Followings.{any_followed}
 use Rattle.pgb_leave.specs.Pushing.{IsWaitOf}
+use Rattle.pgb_sample_folder.specs.Having.{IsEmpty}
+use Rattle.pgb_rehearse.specs.Commands.{rehearsed, keeps_one}
+use Rattle.pgb_command.specs.Told.{size_by}
 use Rattle.pgb_command.specs.Tables.{Known, known, IsSomeDrain, WithExpiry, plan_of, spool_of, uses_spool, manner_of, OnReader, OnCreate, OnExpire, OnOther, FolderGoes, FolderStays, Unless, is_on_repository, TellsLabel}
 
 -- no turn was taken, and the server told no label file
@@ -84,6 +87,7 @@ idle a examine old new same P p = λ command is. p command
 idle a (leave path how) old new same P p = λ there. idle_wait old new same P p new.others.account refl (λ k. k.stanza ≡ a.stanza) there
 idle a (drain place) old new same P p = λ some. idle_drain old.nodes P p some
 idle a (expire rules) old new same P p = let x = some_expiry rules old.clock.least in (x.0, x.1, p x.0)
+idle a (rehearse how) old new same P p = (rehearsed (size_by how.number) keeps_one no_files no_files no_files, (no_files, no_files, no_files, refl), p (rehearsed (size_by how.number) keeps_one no_files no_files no_files))
 
 -- which command it is is told by what the repository held where no pair was healed, or not by that
 pub manner_at : (a : Asked) (request : Request) (old new : Known) (repo : Option Content) → Heals (plan_of request).pairs a.stanza old.repo repo → (P : Command → Type 0) → On (manner_of a request (record old { repo = repo }) new) P → On (manner_of a request old new) P
@@ -98,6 +102,7 @@ manner_at a examine old new repo heals P h = h
 manner_at a (leave path how) old new repo heals P h = h
 manner_at a (drain place) old new repo heals P h = h
 manner_at a (expire rules) old new repo heals P h = h
+manner_at a (rehearse how) old new repo heals P h = h
 
 -- a command that opens no data folder reads no control file
 pub no_control : (request : Request) → (plan_of request).folder ≡ false → (plan_of request).control ≡ false
@@ -112,6 +117,7 @@ no_control examine is = refl
 no_control (leave path how) is = cc is
 no_control (drain place) is = cc is
 no_control (expire rules) is = refl
+no_control (rehearse how) is = cc is
 
 -- a command that uses nothing but the repository opens no data folder and takes no lock
 pub on_repository : (request : Request) → is_on_repository request ≡ true → ((plan_of request).folder ≡ false) × ((plan_of request).backup_lock ≡ false) × ((plan_of request).archive_lock ≡ false)
@@ -126,6 +132,7 @@ on_repository examine is = (refl, refl, refl)
 on_repository (leave path how) is = cc is
 on_repository (drain place) is = cc is
 on_repository (expire rules) is = cc is
+on_repository (rehearse how) is = cc is
 
 -- a command that doesn't use the spool opens none
 pub no_spool : (request : Request) → uses_spool request ≡ false → spool_of request ≡ None
@@ -140,6 +147,7 @@ no_spool (restore set how) is = refl
 no_spool (report form) is = refl
 no_spool examine is = refl
 no_spool (expire rules) is = refl
+no_spool (rehearse how) is = refl
 
 -- what holds where no pair is healed holds of readers and of stanza-create
 pub reader_still : (request : Request) (P : Type 0) → OnReading (plan_of request).pairs P → OnReader request P
@@ -154,6 +162,7 @@ reader_still examine P h = h
 reader_still (leave path how) P h = tt
 reader_still (drain place) P h = tt
 reader_still (expire rules) P h = tt
+reader_still (rehearse how) P h = tt
 
 pub create_still : (request : Request) (P : Type 0) → OnReading (plan_of request).pairs P → OnCreate request P
 create_still create P h = h
@@ -167,6 +176,7 @@ create_still examine P h = tt
 create_still (leave path how) P h = tt
 create_still (drain place) P h = tt
 create_still (expire rules) P h = tt
+create_still (rehearse how) P h = tt
 
 pub any_reader : (request : Request) (P : Type 0) → P → OnReader request P
 any_reader create P p = tt
@@ -180,6 +190,7 @@ any_reader examine P p = p
 any_reader (leave path how) P p = tt
 any_reader (drain place) P p = tt
 any_reader (expire rules) P p = tt
+any_reader (rehearse how) P p = tt
 
 pub any_create : (request : Request) (P : Type 0) → P → OnCreate request P
 any_create create P p = p
@@ -193,6 +204,7 @@ any_create examine P p = tt
 any_create (leave path how) P p = tt
 any_create (drain place) P p = tt
 any_create (expire rules) P p = tt
+any_create (rehearse how) P p = tt
 
 pub any_other : (request : Request) (P : Type 0) → P → OnOther request P
 any_other create P p = tt
@@ -206,6 +218,7 @@ any_other examine P p = p
 any_other (leave path how) P p = p
 any_other (drain place) P p = p
 any_other (expire rules) P p = p
+any_other (rehearse how) P p = p
 
 pub reader_on : (request : Request) (P Q R : Type 0) → (P → Q → R) → OnReader request P → OnReader request Q → OnReader request R
 reader_on create P Q R to p q = tt
@@ -219,6 +232,7 @@ reader_on examine P Q R to p q = to p q
 reader_on (leave path how) P Q R to p q = tt
 reader_on (drain place) P Q R to p q = tt
 reader_on (expire rules) P Q R to p q = tt
+reader_on (rehearse how) P Q R to p q = tt
 
 pub create_on : (request : Request) (P Q R : Type 0) → (P → Q → R) → OnCreate request P → OnCreate request Q → OnCreate request R
 create_on create P Q R to p q = to p q
@@ -232,6 +246,7 @@ create_on examine P Q R to p q = tt
 create_on (leave path how) P Q R to p q = tt
 create_on (drain place) P Q R to p q = tt
 create_on (expire rules) P Q R to p q = tt
+create_on (rehearse how) P Q R to p q = tt
 
 pub other_as : (request : Request) (P Q : Type 0) → (P → Q) → OnOther request P → OnOther request Q
 other_as create P Q to p = tt
@@ -245,6 +260,7 @@ other_as examine P Q to p = to p
 other_as (leave path how) P Q to p = to p
 other_as (drain place) P Q to p = to p
 other_as (expire rules) P Q to p = to p
+other_as (rehearse how) P Q to p = to p
 
 -- what holds where no pair is healed, or of any command, holds of expire
 pub expire_still : (request : Request) (P : Type 0) → OnReading (plan_of request).pairs P → OnExpire request (λ rules. P)
@@ -259,6 +275,7 @@ expire_still examine P h = tt
 expire_still (leave path how) P h = tt
 expire_still (drain place) P h = tt
 expire_still (expire rules) P h = h
+expire_still (rehearse how) P h = tt
 
 pub any_expire : (request : Request) (P : Rules → Type 0) → ((rules : Rules) → P rules) → OnExpire request P
 any_expire create P p = tt
@@ -272,6 +289,7 @@ any_expire examine P p = tt
 any_expire (leave path how) P p = tt
 any_expire (drain place) P p = tt
 any_expire (expire rules) P p = p rules
+any_expire (rehearse how) P p = tt
 
 pub expire_on : (request : Request) (P Q R : Rules → Type 0) → ((rules : Rules) → P rules → Q rules → R rules) → OnExpire request P → OnExpire request Q → OnExpire request R
 expire_on create P Q R to p q = tt
@@ -285,6 +303,7 @@ expire_on examine P Q R to p q = tt
 expire_on (leave path how) P Q R to p q = tt
 expire_on (drain place) P Q R to p q = tt
 expire_on (expire rules) P Q R to p q = to rules p q
+expire_on (rehearse how) P Q R to p q = tt
 
 -- the data folder stays after a refusal
 pub any_stays : (request : Request) (n : ℕ) (P : Type 0) → P → FolderStays request n P
@@ -299,6 +318,7 @@ any_stays examine n P p = p
 any_stays (leave path how) n P p = p
 any_stays (drain place) n P p = p
 any_stays (expire rules) n P p = p
+any_stays (rehearse how) n P p = p
 
 pub stays_as : (request : Request) (n : ℕ) (P Q : Type 0) → (P → Q) → FolderStays request n P → FolderStays request n Q
 stays_as create n P Q to p = to p
@@ -312,6 +332,7 @@ stays_as examine n P Q to p = to p
 stays_as (leave path how) n P Q to p = to p
 stays_as (drain place) n P Q to p = to p
 stays_as (expire rules) n P Q to p = to p
+stays_as (rehearse how) n P Q to p = to p
 
 -- it doesn't use it
 pub any_unless : (uses : Bool) (P : Type 0) → P → Unless uses P
@@ -338,6 +359,7 @@ folder_stays a examine old new same = same
 folder_stays a (leave path how) old new same = same
 folder_stays a (drain place) old new same = same
 folder_stays a (expire rules) old new same = same
+folder_stays a (rehearse how) old new same = inl same
 
 pub folder_on : (a : Asked) (request : Request) (b m k : Seen) → OnReader request (IsStill b.repo.view m.repo.view) → m.tree.nodes ≡ b.tree.nodes → m.links ≡ b.links → FolderGoes a request (known m) k.tree.nodes → FolderGoes a request (known b) k.tree.nodes
 folder_on a create b m k still nodes links h = h ∙ nodes
@@ -354,3 +376,4 @@ folder_on a examine b m k still nodes links h = h ∙ nodes
 folder_on a (leave path how) b m k still nodes links h = h ∙ nodes
 folder_on a (drain place) b m k still nodes links h = h ∙ nodes
 folder_on a (expire rules) b m k still nodes links h = h ∙ nodes
+folder_on a (rehearse how) b m k still nodes links h = subst (λ (n : Option Nodes). (k.tree.nodes ≡ n) ⊎ IfSome n IsEmpty) nodes h

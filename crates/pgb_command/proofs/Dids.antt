@@ -40,11 +40,11 @@ use Rattle.pgb_prepare.specs.Stages.{FoundCause, StageCause}
 use Rattle.pgb_prepare.specs.Taking.{HeldCause, MayTake}
 use Rattle.pgb_create.specs.Talking.{Ended}
 use Rattle.pgb_create.proofs.Statuses.{closes_as}
-use Rattle.pgb_command.specs.declared.fault.CommandFault.TheVariants.{Create, Push, Leave, Drain, Get, Take, TakeOnline, Recover, Examine, Prune}
+use Rattle.pgb_command.specs.declared.fault.CommandFault.TheVariants.{Create, Push, Leave, Drain, Get, Take, TakeOnline, Recover, Examine, Prune, Rehearse}
 use Rattle.pgb_command.specs.declared.fault.Fault.{Fault}
 use Rattle.pgb_command.specs.declared.fault.Fault.TheVariants.{Usage, Stage, Command as OfCommand, Behind, Failed as ObjectFailed, NoMemory}
 use Rattle.pgb_command.specs.Answers.{status, reached_of, ending_of, is_early}
-use Rattle.pgb_command.specs.Asked.{Request, create, push, leave, drain, get, backup, backup_running, restore, report, examine, expire, Asked}
+use Rattle.pgb_command.specs.Asked.{Request, create, push, leave, drain, get, backup, backup_running, restore, report, examine, expire, rehearse, Asked}
 use Rattle.pgb_command.specs.Faults.{of_stage}
 use Rattle.pgb_command.specs.Tables.{Known, known, plan_of, spool_of, manner_of, CommandCause, Promise, Lasts, OnReader, OnCreate, OnExpire, Expires, uses_workers, uses_clock, uses_turns}
 use Rattle.pgb_command.specs.Did.{Ran, EndsBehind, StaysHealed, OnReady, Cause, HealsPairs, Did, OwnCause, Spares, Closes, WordsCause, Brackets, SamePlaces, OpensPlaces, ArePlacesOpened, OpensNamed, IsOpenedNamed, OpensIf, IsOpenedIf, TakesAll, OnlyLocked}
@@ -93,6 +93,7 @@ closes_from b m k same le (OfCommand (TakeOnline fault)) (inr h) = inr (⊎_elim
 closes_from b m k same le (OfCommand (Recover fault)) h = tt
 closes_from b m k same le (OfCommand (Examine fault)) h = tt
 closes_from b m k same le (OfCommand (Prune fault)) h = tt
+closes_from b m k same le (OfCommand (Rehearse fault)) h = tt
 closes_from b m k same le (Behind lines fault) h = tt
 closes_from b m k same le (ObjectFailed object) h = tt
 closes_from b m k same le NoMemory h = tt
@@ -235,6 +236,7 @@ lasts_by a examine v nodes mid k outcome same at h = tt
 lasts_by a (leave path how) v nodes mid k outcome same at h = tt
 lasts_by a (drain place) v nodes mid k outcome same at h = tt
 lasts_by a (expire rules) v nodes mid k outcome same at h = tt
+lasts_by a (rehearse how) v nodes mid k outcome same at h = tt
 
 same_still : (v w : View) → w ≡ v → IsStill v w
 same_still v w same = subst (λ (x : View). IsStill v x) (sym same) (still_self v)
@@ -338,6 +340,7 @@ word_closes a b (OfCommand (TakeOnline fault)) h = absurd h
 word_closes a b (OfCommand (Examine fault)) h = absurd h
 word_closes a b (OfCommand (Recover fault)) h = tt
 word_closes a b (OfCommand (Prune fault)) h = absurd h
+word_closes a b (OfCommand (Rehearse fault)) h = absurd h
 word_closes a b (Behind lines fault) h = absurd h
 word_closes a b (ObjectFailed object) h = absurd h
 word_closes a b NoMemory h = tt
@@ -355,6 +358,7 @@ word_cause a b (OfCommand (TakeOnline fault)) h = absurd h
 word_cause a b (OfCommand (Examine fault)) h = absurd h
 word_cause a b (OfCommand (Recover fault)) h = inl h
 word_cause a b (OfCommand (Prune fault)) h = absurd h
+word_cause a b (OfCommand (Rehearse fault)) h = absurd h
 word_cause a b (Behind lines fault) h = absurd h
 word_cause a b (ObjectFailed object) h = absurd h
 word_cause a b NoMemory h = tt

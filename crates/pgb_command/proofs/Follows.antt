@@ -18,7 +18,7 @@ use Rattle.pgb_stage.proofs.Lifted.{on_as, still_quiet, quiet_takes, opened_take
 use Rattle.pgb_command.specs.declared.fault.Fault.{Fault}
 use Rattle.pgb_command.specs.declared.fault.Fault.TheVariants.{Usage, Stage, Command as OfCommand, Failed as ObjectFailed, NoMemory}
 use Rattle.pgb_command.specs.Answers.{Ending, status, status_of, answer_of, ending_of, reached_of}
-use Rattle.pgb_command.specs.Asked.{Request, create, push, leave, drain, get, backup, backup_running, restore, report, examine, expire, Asked, Asks}
+use Rattle.pgb_command.specs.Asked.{Request, create, push, leave, drain, get, backup, backup_running, restore, report, examine, expire, rehearse, RehearseHow, Asked, Asks}
 use Rattle.pgb_command.specs.Causes.{IsAnswered, Carries, Answers, PartDone, Finishes, EndsWell, Fulfils, IsEarly, TurnsBack, LeavesRest, Completes}
 use Rattle.pgb_command.specs.Did.{Acknowledges, IsIdle, Did, OpensIf, OpensNamed, OpensPlaces, OnlyLocked}
 use Rattle.pgb_command.specs.Output.{IsTold, Whole, Cut, Starved, Wordless}
@@ -30,7 +30,7 @@ use Rattle.pgb_command.proofs.ByRequest.{idle, any_reader, any_create, any_expir
 use Rattle.pgb_command.proofs.Dids.{stage_reached}
 use Rattle.pgb_command.proofs.Statuses.{over, zero_ends, Deviates, early_ends, not_cut}
 use Rattle.pgb_command.proofs.Expiries.{expires_still}
-use Rattle.pgb_command.proofs.Deviating.{refused_ill, cut_ill, only_examines}
+use Rattle.pgb_command.proofs.Deviating.{refused_ill, cut_ill, only_verifies}
 
 -- ---- which of the answers it is
 
@@ -90,6 +90,7 @@ create_at examine reached P is h = tt
 create_at (leave path how) reached P is h = tt
 create_at (drain place) reached P is h = tt
 create_at (expire rules) reached P is h = tt
+create_at (rehearse how) reached P is h = tt
 
 ok_at : (ended : Result Outcome Fault) (P : Type 0) → status (ending_of ended) ≡ 0 → OnOk ended P → P
 ok_at (Ok x) P is h = h
@@ -153,8 +154,13 @@ module _ (a : Asked) (b k : Seen) (n : ℕ) where
     unmade = subst (λ (q : Request). OnCreate q (k.repo.view.now ≡ b.repo.view.now)) (sym is) tt;
   }
 
+  -- a rehearsal that told it has made its steps, and didn't turn back
+  found_back : (unknown : List Text) (lines : String Global) (count : ℕ) → (a.request ≡ examine) ⊎ ((how : RehearseHow) × (a.request ≡ rehearse how)) → Did a b k (Ok (FindingsFound lines count)) → IsAnswered unknown b k (Ok (FindingsFound lines count)) n → IsEarly a.request n → TurnsBack a b k n
+  found_back unknown lines count (inl is) did t early = told_back lines count is did
+  found_back unknown lines count (inr x) did t early = absurd ((subst (λ (q : Request). IsEarly q n) x.1 early).1 (status_at unknown (Ok (FindingsFound lines count)) t early))
+
   back_by : (unknown : List Text) (ended : Result Outcome Fault) → Did a b k ended → IsAnswered unknown b k ended n → IsEarly a.request n → TurnsBack a b k n
-  back_by unknown (Ok (FindingsFound lines count)) did t early = told_back lines count (only_examines a a.request _ (known k) lines count did.promise.2) did
+  back_by unknown (Ok (FindingsFound lines count)) did t early = found_back unknown lines count (only_verifies a a.request _ (known k) lines count did.promise.2) did t early
   back_by unknown (Ok (Finished lines)) did t early = refused_back unknown (Ok (Finished lines)) (λ e. e) did t early
   back_by unknown (Ok (Absent name)) did t early = refused_back unknown (Ok (Absent name)) (λ e. e) did t early
   back_by unknown (Err e) did t early = refused_back unknown (Err e) (λ x. x) did t early

@@ -44,7 +44,7 @@ use Rattle.pgb_command.specs.declared.order.LeaveOrder.{LeaveOrder}
 use Rattle.pgb_command.specs.declared.order.Course.{Course}
 use Rattle.pgb_command.specs.declared.order.Course.TheVariants.{Staged, Left}
 use Rattle.pgb_command.specs.Answers.{ending_of, reached_of, status}
-use Rattle.pgb_command.specs.Asked.{Request, create, push, leave, drain, get, backup, backup_running, restore, report, examine, expire, LeaveHow, Asked, drain_words}
+use Rattle.pgb_command.specs.Asked.{Request, create, push, leave, drain, get, backup, backup_running, restore, report, examine, expire, rehearse, LeaveHow, Asked, drain_words}
 use Rattle.pgb_command.specs.Faults.{of_leave, lift}
 use Rattle.pgb_command.specs.Tables.{known, heard_for, plan_of, uses_spool}
 use Rattle.pgb_command.specs.Did.{Acknowledges, ArePlacesOpened, Brackets, Cause, Closes, Did, HealsPairs, IsLeftStored, LastsAfter, OnLeft, OpensPlaces, SamePlaces, TakesAll}
@@ -68,6 +68,7 @@ left_is (restore set how) folder o is = absurd is
 left_is (report form) folder o is = absurd is
 left_is examine folder o is = absurd is
 left_is (expire rules) folder o is = absurd is
+left_is (rehearse how) folder o is = absurd is
 
 pub left_folder : (q : Request) (folder : Text) (o : LeaveOrder) → IsLeft q folder o → o.push.folder.now ≡ folder
 left_folder create folder o is = absurd is
@@ -81,6 +82,7 @@ left_folder (restore set how) folder o is = absurd is
 left_folder (report form) folder o is = absurd is
 left_folder examine folder o is = absurd is
 left_folder (expire rules) folder o is = absurd is
+left_folder (rehearse how) folder o is = absurd is
 
 -- the way that is asked for
 pub course_staged : (q : Request) (folder : Text) (c : Course) (o : Order) → c ≡ Staged o → IsCourse q folder c → IsOrder q folder o
@@ -109,6 +111,7 @@ staged_left (restore set how) folder o is P = tt
 staged_left (report form) folder o is P = tt
 staged_left examine folder o is P = tt
 staged_left (expire rules) folder o is P = tt
+staged_left (rehearse how) folder o is P = tt
 
 pub on_left : (q : Request) (P Q : Text → Type 0) → ((path : Text) → P path → Q path) → OnLeft q P → OnLeft q Q
 on_left create P Q to h = tt
@@ -122,6 +125,7 @@ on_left (restore set how) P Q to h = tt
 on_left (report form) P Q to h = tt
 on_left examine P Q to h = tt
 on_left (expire rules) P Q to h = tt
+on_left (rehearse how) P Q to h = tt
 
 -- ---- what was only opened or read before it doesn't matter
 

@@ -27,3 +27,4 @@ mod Closings
 mod Unused
 pub mod InForm
 pub mod Workers
+mod RehearseRans

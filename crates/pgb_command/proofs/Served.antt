@@ -82,6 +82,7 @@ request_served c s is (requests.Restore set workers delta recovery) asked o serv
 request_served c s is (requests.Info form) asked o server = refl
 request_served c s is requests.Verify asked o server = refl
 request_served c s is (requests.Expire rules) asked o server = refl
+request_served c s is (requests.Rehearse workers number) asked o server = refl
 
 -- an expiry follows a backup alone
 pub follows_backup : (r : settings.Request) (m : Wanted) (rules : Option Rules) → rules ≡ expires_by (request_of r) m → is_followed r rules ≡ true
@@ -96,6 +97,7 @@ follows_backup (requests.Restore set workers delta recovery) m rules is = ap is_
 follows_backup (requests.Info form) m rules is = ap is_none is
 follows_backup requests.Verify m rules is = ap is_none is
 follows_backup (requests.Expire other) m rules is = ap is_none is
+follows_backup (requests.Rehearse workers number) m rules is = ap is_none is
 
 none_is : (rules : Option Rules) → is_none rules ≡ true → None ≡ rules
 none_is None is = refl
@@ -114,3 +116,4 @@ kept_behind (requests.Restore set workers delta recovery) rules is = none_is rul
 kept_behind (requests.Info form) rules is = none_is rules is
 kept_behind requests.Verify rules is = none_is rules is
 kept_behind (requests.Expire other) rules is = none_is rules is
+kept_behind (requests.Rehearse workers number) rules is = none_is rules is

@@ -16,6 +16,7 @@ use Rattle.pgb_get.specs.declared.fault.GetFault.{GetFault}
 use Rattle.pgb_recover.specs.declared.fault.RecoverFault.{RecoverFault}
 use Rattle.pgb_recover.specs.Words.{TellsSet, WordCause as SetCause}
 use Rattle.pgb_recover.specs.declared.order.RecoverOrder.{RecoverOrder}
+use Rattle.pgb_rehearse.specs.declared.order.RehearseOrder.{RehearseOrder}
 use Rattle.pgb_take_later.specs.declared.order.LaterOrder.{LaterOrder}
 use Rattle.pgb_get.proofs.Refusals.{get_words as read_words}
 use Rattle.pgb_get.specs.Getting.{AreWords, WordsCause as GetWords}
@@ -29,8 +30,8 @@ use Rattle.pgb_command.specs.declared.order.Order.TheVariants as orders
 use Rattle.pgb_command.specs.declared.order.LeaveOrder.{LeaveOrder}
 use Rattle.pgb_command.specs.declared.order.Course.{Course}
 use Rattle.pgb_command.specs.declared.order.Course.TheVariants as courses
-use Rattle.pgb_command.specs.Told.{how_of, taking_of, running_of, IsCourse, IsLeft, IsOrder}
-use Rattle.pgb_command.specs.Asked.{Request, create, push, leave, drain, get, backup, backup_running, restore, report, examine, expire, LeaveHow, RestoreHow, Asked}
+use Rattle.pgb_command.specs.Told.{size_by, how_of, taking_of, running_of, IsCourse, IsLeft, IsOrder}
+use Rattle.pgb_command.specs.Asked.{Request, create, push, leave, drain, get, backup, backup_running, restore, report, examine, expire, rehearse, RehearseHow, LeaveHow, RestoreHow, Asked}
 use Rattle.pgb_command.specs.Faults.{of_push, of_get, of_recover}
 use Rattle.pgb_command.specs.Tables.{WordsFit, CommandCause}
 use Rattle.pgb_command.specs.Did.{IsIdle, WordsCause, ComesBehind}
@@ -85,6 +86,7 @@ words_fit a create (orders.Info asked) is = absurd is
 words_fit a create orders.Verify is = absurd is
 words_fit a create orders.ArchivePushAsync is = absurd is
 words_fit a create (orders.Expire asked) is = absurd is
+words_fit a create (orders.Rehearse o) is = absurd is
 words_fit a (push path) orders.StanzaCreate is = absurd is
 words_fit a (push path) (orders.ArchivePush o) is = (o.name, subst (λ (f : Text). IsWalPath f path o.name) is.0 (subst (λ (p : Text). IsWalPath o.folder.now p o.name) is.1 o.named))
 words_fit a (push path) (orders.ArchiveGet o) is = absurd is
@@ -95,6 +97,7 @@ words_fit a (push path) (orders.Info asked) is = absurd is
 words_fit a (push path) orders.Verify is = absurd is
 words_fit a (push path) orders.ArchivePushAsync is = absurd is
 words_fit a (push path) (orders.Expire asked) is = absurd is
+words_fit a (push path) (orders.Rehearse o) is = absurd is
 words_fit a (get word path) orders.StanzaCreate is = absurd is
 words_fit a (get word path) (orders.ArchivePush o) is = absurd is
 words_fit a (get word path) (orders.ArchiveGet o) is = (o.name, subst (λ (f : Text). AreWords f word path o.name) is.0 (subst (λ (w : Text). AreWords o.folder.now w path o.name) is.1 (subst (λ (p : Text). AreWords o.folder.now o.word.now p o.name) is.2 o.wanted)))
@@ -105,6 +108,7 @@ words_fit a (get word path) (orders.Info asked) is = absurd is
 words_fit a (get word path) orders.Verify is = absurd is
 words_fit a (get word path) orders.ArchivePushAsync is = absurd is
 words_fit a (get word path) (orders.Expire asked) is = absurd is
+words_fit a (get word path) (orders.Rehearse o) is = absurd is
 words_fit a (backup how) orders.StanzaCreate is = absurd is
 words_fit a (backup_running how) orders.StanzaCreate is = absurd is
 words_fit a (backup how) (orders.ArchivePush o) is = absurd is
@@ -124,7 +128,9 @@ words_fit a (backup how) orders.ArchivePushAsync is = absurd is
 words_fit a (backup_running how) orders.Verify is = absurd is
 words_fit a (backup_running how) orders.ArchivePushAsync is = absurd is
 words_fit a (backup_running how) (orders.Expire asked) is = absurd is
+words_fit a (backup_running how) (orders.Rehearse o) is = absurd is
 words_fit a (backup how) (orders.Expire asked) is = absurd is
+words_fit a (backup how) (orders.Rehearse o) is = absurd is
 words_fit a (restore set how) orders.StanzaCreate is = absurd is
 words_fit a (restore set how) (orders.ArchivePush o) is = absurd is
 words_fit a (restore set how) (orders.ArchiveGet o) is = absurd is
@@ -135,6 +141,7 @@ words_fit a (restore set how) (orders.Info asked) is = absurd is
 words_fit a (restore set how) orders.Verify is = absurd is
 words_fit a (restore set how) orders.ArchivePushAsync is = absurd is
 words_fit a (restore set how) (orders.Expire asked) is = absurd is
+words_fit a (restore set how) (orders.Rehearse o) is = absurd is
 words_fit a (report form) orders.StanzaCreate is = absurd is
 words_fit a (report form) (orders.ArchivePush o) is = absurd is
 words_fit a (report form) (orders.ArchiveGet o) is = absurd is
@@ -145,6 +152,7 @@ words_fit a (report form) (orders.Info asked) is = tt
 words_fit a (report form) orders.Verify is = absurd is
 words_fit a (report form) orders.ArchivePushAsync is = absurd is
 words_fit a (report form) (orders.Expire asked) is = absurd is
+words_fit a (report form) (orders.Rehearse o) is = absurd is
 words_fit a examine orders.StanzaCreate is = absurd is
 words_fit a (leave path how) order is = absurd is
 words_fit a (drain place) orders.StanzaCreate is = absurd is
@@ -165,8 +173,19 @@ words_fit a examine orders.ArchivePushAsync is = absurd is
 words_fit a (drain place) orders.Verify is = absurd is
 words_fit a (drain place) orders.ArchivePushAsync is = tt
 words_fit a examine (orders.Expire asked) is = absurd is
+words_fit a examine (orders.Rehearse o) is = absurd is
 words_fit a (drain place) (orders.Expire asked) is = absurd is
+words_fit a (drain place) (orders.Rehearse o) is = absurd is
 words_fit a (expire rules) orders.StanzaCreate is = absurd is
+words_fit a (rehearse how) orders.StanzaCreate is = absurd is
+words_fit a (rehearse how) (orders.ArchivePush o) is = absurd is
+words_fit a (rehearse how) (orders.ArchiveGet o) is = absurd is
+words_fit a (rehearse how) (orders.Backup o) is = absurd is
+words_fit a (rehearse how) (orders.BackupRunning o) is = absurd is
+words_fit a (rehearse how) (orders.Restore o) is = absurd is
+words_fit a (rehearse how) (orders.Info asked) is = absurd is
+words_fit a (rehearse how) (orders.Expire asked) is = absurd is
+words_fit a (rehearse how) (orders.Rehearse o) is = tt
 words_fit a (expire rules) (orders.ArchivePush o) is = absurd is
 words_fit a (expire rules) (orders.ArchiveGet o) is = absurd is
 words_fit a (expire rules) (orders.Backup o) is = absurd is
@@ -174,8 +193,11 @@ words_fit a (expire rules) (orders.BackupRunning o) is = absurd is
 words_fit a (expire rules) (orders.Restore o) is = absurd is
 words_fit a (expire rules) (orders.Info asked) is = absurd is
 words_fit a (expire rules) orders.Verify is = absurd is
+words_fit a (rehearse how) orders.Verify is = absurd is
 words_fit a (expire rules) orders.ArchivePushAsync is = absurd is
+words_fit a (rehearse how) orders.ArchivePushAsync is = absurd is
 words_fit a (expire rules) (orders.Expire asked) is = tt
+words_fit a (expire rules) (orders.Rehearse o) is = absurd is
 
 -- the order of a restore is asked for
 pub restore_asked : (q : Request) (folder : Text) (o : RecoverOrder) → IsOrder q folder (orders.Restore o) → (set : Option Text) × (q ≡ restore set (how_of o)) × TellsSet set o.set
@@ -190,6 +212,7 @@ restore_asked examine folder o is = absurd is
 restore_asked (leave path how) folder o is = absurd is
 restore_asked (drain place) folder o is = absurd is
 restore_asked (expire rules) folder o is = absurd is
+restore_asked (rehearse how) folder o is = absurd is
 
 -- so is that of a stopped server's backup
 pub taking_asked : (q : Request) (folder : Text) (o : LaterOrder) → IsOrder q folder (orders.Backup o) → q ≡ backup (taking_of o)
@@ -204,6 +227,7 @@ taking_asked examine folder o is = absurd is
 taking_asked (leave path how) folder o is = absurd is
 taking_asked (drain place) folder o is = absurd is
 taking_asked (expire rules) folder o is = absurd is
+taking_asked (rehearse how) folder o is = absurd is
 
 -- and that of a running server's
 pub running_asked : (q : Request) (folder : Text) (o : RunningOrder) → IsOrder q folder (orders.BackupRunning o) → q ≡ backup_running (running_of o)
@@ -218,6 +242,7 @@ running_asked examine folder o is = absurd is
 running_asked (leave path how) folder o is = absurd is
 running_asked (drain place) folder o is = absurd is
 running_asked (expire rules) folder o is = absurd is
+running_asked (rehearse how) folder o is = absurd is
 
 -- and a file that is left to a drain
 left_fits : (a : Asked) (q : Request) (o : LeaveOrder) → IsLeft q a.data_folder o → WordsFit a q
@@ -232,6 +257,7 @@ left_fits a (restore set how) o is = absurd is
 left_fits a (report form) o is = absurd is
 left_fits a examine o is = absurd is
 left_fits a (expire rules) o is = absurd is
+left_fits a (rehearse how) o is = absurd is
 
 course_fits : (a : Asked) (c : Course) → IsCourse a.request a.data_folder c → WordsFit a a.request
 course_fits a (courses.Staged o) is = words_fit a a.request o is
@@ -250,6 +276,7 @@ drain_asked (restore set how) folder is = absurd is
 drain_asked (report form) folder is = absurd is
 drain_asked examine folder is = absurd is
 drain_asked (expire rules) folder is = absurd is
+drain_asked (rehearse how) folder is = absurd is
 
 pub behind_words : (a : Asked) (b k : Seen) (c : Course) → IsCourse a.request a.data_folder c → (result : Result Outcome Fault) → ComesBehind a b k result
 behind_words a b k c is (Ok x) = tt
@@ -268,3 +295,18 @@ pub behind_as : (a : Asked) (b k c l : Seen) (result : Result Outcome Fault) →
 behind_as a b k c l (Ok x) same h = tt
 behind_as a b k c l (Err e) same (inl h) = inl (h.0, same h.1)
 behind_as a b k c l (Err e) same (inr h) = inr h
+
+-- so is that of a rehearsal
+pub rehearse_asked : (q : Request) (folder : Text) (o : RehearseOrder) → IsOrder q folder (orders.Rehearse o) → (how : RehearseHow) × (q ≡ rehearse how) × (o.number ≡ size_by how.number)
+rehearse_asked create folder o is = absurd is
+rehearse_asked (push path) folder o is = absurd is
+rehearse_asked (get word path) folder o is = absurd is
+rehearse_asked (backup how) folder o is = absurd is
+rehearse_asked (backup_running how) folder o is = absurd is
+rehearse_asked (report form) folder o is = absurd is
+rehearse_asked examine folder o is = absurd is
+rehearse_asked (leave path how) folder o is = absurd is
+rehearse_asked (drain place) folder o is = absurd is
+rehearse_asked (expire rules) folder o is = absurd is
+rehearse_asked (rehearse how) folder o is = (how, refl, is.2)
+rehearse_asked (restore set how) folder o is = absurd is

@@ -8,9 +8,9 @@ use Rattle.pgb_options.specs.declared.options.KindWord.{KindWord}
 use Rattle.pgb_options.specs.declared.options.RestoreWord.{RestoreWord}
 use Rattle.pgb_options.specs.declared.options.RestoreWord.TheVariants.{Default, Plain}
 use Rattle.pgb_options.specs.declared.options.OutputWord.{OutputWord}
-use Rattle.pgb_table.specs.declared.table.Opt.TheVariants.{Pg1Path, Pg1SocketPath, Pg1Port, Pg1User, Pg1Database, Repo1Path, LockPath, Online, ArchiveAsync, Output, BackupType, Delta, Repo1Bundle, Repo1RetentionFull, Repo1RetentionFullType, Repo1RetentionDiff, Repo1RetentionArchive, Repo1RetentionArchiveType, ExpireAuto, ProcessMax, StartFast, ArchiveTimeout, SpoolPath, RestoreType, Config, Set}
+use Rattle.pgb_table.specs.declared.table.Opt.TheVariants.{Pg1Path, Pg1SocketPath, Pg1Port, Pg1User, Pg1Database, Repo1Path, LockPath, Online, ArchiveAsync, Output, BackupType, Delta, Repo1Bundle, Repo1RetentionFull, Repo1RetentionFullType, Repo1RetentionDiff, Repo1RetentionArchive, Repo1RetentionArchiveType, ExpireAuto, ProcessMax, StartFast, ArchiveTimeout, SpoolPath, RestoreType, Config, Set, Number}
 use Rattle.pgb_table.specs.declared.table.Verb.{Verb}
-use Rattle.pgb_table.specs.declared.table.Verb.TheVariants.{StanzaCreate, ArchivePush, ArchivePushAsync, ArchiveGet, Backup, Restore, Info, Verify, Expire}
+use Rattle.pgb_table.specs.declared.table.Verb.TheVariants.{StanzaCreate, ArchivePush, ArchivePushAsync, ArchiveGet, Backup, Restore, Info, Verify, Expire, Rehearse}
 use Rattle.pgb_options.specs.Faults.{Fault}
 use Rattle.pgb_options.specs.Filled.{text_in, number_in, amount_in, flag_in, or_else, kind_word, retention_word, restore_word, output_word, word_in}
 use Rattle.pgb_options.specs.Paths.{Path, nowhere, usual, named, path_of_words}
@@ -69,7 +69,12 @@ pub record LeaveHow : Type 0 where
   pub spool : Text
   pub turns : ℕ
 
--- which command, the file that archive-push is to store, the one that it is to leave to a drain and how, the spool of archive-push:async, the file that archive-get is to serve and where, how a stopped server is backed up, how a running one is, the label of the backup to restore and how, the form of info's report, and the rules of an expiry; verify has nothing more to be told
+-- how a sample cluster is rehearsed: with how many workers for each of its steps, and of which size
+pub record RehearseHow : Type 0 where
+  pub workers : ℕ
+  pub number : ℕ
+
+-- which command, the file that archive-push is to store, the one that it is to leave to a drain and how, the spool of archive-push:async, the file that archive-get is to serve and where, how a stopped server is backed up, how a running one is, the label of the backup to restore and how, the form of info's report, the rules of an expiry, and how a rehearsal is made; verify has nothing more to be told
 pub data Request : Type 0 where
   create : Request
   push : (path : Text) → Request
@@ -82,6 +87,7 @@ pub data Request : Type 0 where
   report : (form : OutputWord) → Request
   examine : Request
   expire : (rules : Rules) → Request
+  rehearse : (how : RehearseHow) → Request
 
 abbrev pub first_of : List Text → Text
 first_of [] = []
@@ -108,6 +114,7 @@ pub record Wanted : Type 0 where
   pub turns : ℕ
   pub spool : Text
   pub rules : Rules
+  pub number : ℕ
 
 -- a file is stored at once, or in the background it is left to a drain
 abbrev pub push_by : Wanted → Text → Request
@@ -144,6 +151,7 @@ request_by Restore m given = Ok (restore_by m)
 request_by Info m given = Ok (report m.form)
 request_by Verify m given = Ok examine
 request_by Expire m given = Ok (expire m.rules)
+request_by Rehearse m given = Ok (rehearse (record { workers = m.workers; number = m.number }))
 request_by verb m given = Err (Command verb)
 
 abbrev pub path_in : Source → Opt → Text
@@ -178,6 +186,7 @@ wanted_in s = record {
   turns = or_else 0 (amount_in (value s ArchiveTimeout));
   spool = path_in s SpoolPath;
   rules = rules_in s;
+  number = or_else 0 (number_in (value s Number));
 }
 
 abbrev pub requested : Settled → Result Request Unbuilt

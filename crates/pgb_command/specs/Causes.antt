@@ -16,7 +16,7 @@ use Rattle.pgb_command.specs.declared.fault.Fault.{Fault}
 use Rattle.pgb_command.specs.declared.fault.Fault.TheVariants.{Stage, NoMemory}
 use Rattle.pgb_create.specs.Talking.{Ended, IsServerRefusal}
 use Rattle.pgb_command.specs.Answers.{Ending, status, status_of, ending_of, answer_of, lines_of}
-use Rattle.pgb_command.specs.Asked.{Request, create, backup_running, Asked, MayAsk, WordsSettle, IsAsked, requested}
+use Rattle.pgb_command.specs.Asked.{Request, create, backup_running, rehearse, Asked, MayAsk, WordsSettle, IsAsked, requested}
 use Rattle.pgb_command.specs.Configuring.{ConfigCause}
 use Rattle.pgb_command.specs.Did.{IsIdle, Did, ComesBehind, Acknowledges, Brackets, Cause, OnReady, LastsAfter, HealsPairs, ArePlacesOpened, TakesAll}
 use Rattle.pgb_command.specs.Output.{IsTold}
@@ -100,10 +100,11 @@ pub record Fulfils (a : Asked) (before after : Seen) (result : ℕ) : Type 0 whe
 abbrev pub IsRefusal : ℕ → Type 0
 IsRefusal status = ((1 ≤ status) × (status ≤ 72)) ⊎ ((100 ≤ status) × (status ≤ 101))
 
--- the statuses of a command that ends before its own first step: it was refused for what was found, or, of a command that asks a server, the connection to it failed
+-- the statuses of a command that ends before its own first step: it was refused for what was found, or, of a command that asks a server, the connection to it failed; a rehearsal that found something has made all of its steps
 abbrev pub IsEarly : Request → ℕ → Type 0
 IsEarly create status = IsRefusal status ⊎ (status ≡ 83)
 IsEarly (backup_running how) status = IsRefusal status ⊎ (status ≡ 83)
+IsEarly (rehearse how) status = IsRefusal status × (status ≢ 65)
 IsEarly request status = IsRefusal status
 
 -- then it has taken no step but those of the turns that it waited, has changed no file of the data folder, unless it is a restore that has started workers, and stanza-create none of the repository

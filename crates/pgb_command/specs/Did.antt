@@ -37,7 +37,7 @@ use Rattle.pgb_expire.specs.Expiry.{retention}
 use Rattle.pgb_model.specs.Steps.{Expire}
 use Rattle.pgb_stage.specs.declared.plan.Settling.TheVariants.{Whole}
 use Rattle.pgb_stage.specs.Reached.{OnFinished}
-use Rattle.pgb_command.specs.declared.fault.CommandFault.TheVariants.{Create, Leave, Drain, Take, TakeOnline, Examine, Prune}
+use Rattle.pgb_command.specs.declared.fault.CommandFault.TheVariants.{Create, Leave, Drain, Take, TakeOnline, Examine, Prune, Rehearse}
 use Rattle.pgb_command.specs.declared.fault.Fault.{Fault}
 use Rattle.pgb_command.specs.declared.fault.Fault.TheVariants.{Usage, Stage, Command, Behind, Failed as ObjectFailed, NoMemory}
 use Rattle.pgb_command.specs.Answers.{status, reached_of, ending_of}
@@ -154,6 +154,7 @@ WordsCause a (Command (Take fault)) = ⊥
 WordsCause a (Command (TakeOnline fault)) = ⊥
 WordsCause a (Command (Examine fault)) = ⊥
 WordsCause a (Command (Prune fault)) = ⊥
+WordsCause a (Command (Rehearse fault)) = ⊥
 WordsCause a (Command fault) = (old new : Known) → CommandCause a a.request old new fault
 WordsCause a NoMemory = Unit {0}
 WordsCause a other = ⊥

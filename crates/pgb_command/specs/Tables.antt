@@ -12,7 +12,7 @@ use Rattle.pgb_model.specs.declared.labels.Label.{Label}
 use Rattle.pgb_model.specs.Values.{Manifest}
 use Rattle.pgb_model.specs.declared.wal.ArchiveName.{ArchiveName}
 use Rattle.pgb_model.specs.Text.{Text}
-use Rattle.pgb_model.specs.Repository.{Stanza}
+use Rattle.pgb_model.specs.Repository.{Backup, Stanza}
 use Rattle.pgb_model.specs.Steps.{Command, StanzaCreate, Reading}
 use Rattle.pgb_model.specs.Now.{NowStands}
 use Rattle.pgb_stanza.specs.declared.control.Control.{Control}
@@ -68,11 +68,15 @@ use Rattle.pgb_expire.specs.Losing.{MayExpire}
 use Rattle.pgb_drained.specs.Drained.{IsDrainOf, IsDrained, DrainCause}
 use Rattle.pgb_prune.specs.Behind.{AddsLines, IsFollowed, WasTold}
 use Rattle.pgb_prune.specs.Faults.{PruneCause}
+use Rattle.pgb_sample_folder.specs.Having.{IsEmpty}
+use Rattle.pgb_rehearse.specs.Causes.{RehearseCause}
+use Rattle.pgb_rehearse.specs.Commands.{IsRehearsal}
+use Rattle.pgb_rehearse.specs.Rehearsing.{IsRehearsed}
 use Rattle.pgb_prune.specs.Pruning.{counts_days, IsMoment, TellsMoment, IsExpiryBy, IsPruned}
 use Rattle.pgb_command.specs.declared.fault.CommandFault.{CommandFault}
-use Rattle.pgb_command.specs.declared.fault.CommandFault.TheVariants.{Create, Push, Leave, Drain, Get, Take, TakeOnline, Recover, Examine, Prune}
-use Rattle.pgb_command.specs.Asked.{Request, create, push, leave, drain, get, backup, backup_running, restore, report, examine, expire, BackupHow, RunningHow, RestoreHow, LeaveHow, Asked, drain_words}
-use Rattle.pgb_command.specs.Told.{taking_of}
+use Rattle.pgb_command.specs.declared.fault.CommandFault.TheVariants.{Create, Push, Leave, Drain, Get, Take, TakeOnline, Recover, Examine, Prune, Rehearse}
+use Rattle.pgb_command.specs.Asked.{Request, create, push, leave, drain, get, backup, backup_running, restore, report, examine, expire, rehearse, BackupHow, RunningHow, RestoreHow, LeaveHow, Asked, drain_words}
+use Rattle.pgb_command.specs.Told.{taking_of, size_by}
 
 -- what the objects hold, as far as they tell it
 pub record Known : Type 0 where
@@ -100,6 +104,7 @@ plan_of (restore set how) = record { settling = Whole; folder = true; backup_loc
 plan_of (report form) = record { settling = Whole; folder = false; backup_lock = false; archive_lock = false; control = false; pairs = ReadBoth }
 plan_of examine = record { settling = Whole; folder = false; backup_lock = false; archive_lock = false; control = false; pairs = ReadBoth }
 plan_of (expire rules) = record { settling = Whole; folder = false; backup_lock = true; archive_lock = false; control = false; pairs = ReadBoth }
+plan_of (rehearse how) = record { settling = Whole; folder = true; backup_lock = true; archive_lock = true; control = false; pairs = Unread }
 
 -- the spool that is opened, where one is
 abbrev pub spool_of : Request → Option Text
@@ -155,6 +160,7 @@ manner_of a (restore set how) old new = each (λ command. command ≡ Reading)
 manner_of a (report form) old new = each (λ command. command ≡ Reading)
 manner_of a examine old new = each (λ command. command ≡ Reading)
 manner_of a (expire rules) old new = one (IsExpiryBy rules old.clock.least)
+manner_of a (rehearse how) old new = one (IsRehearsal (size_by how.number))
 
 -- the command's own words name what they have to
 abbrev pub WordsFit : Asked → Request → Type 0
@@ -169,6 +175,7 @@ WordsFit a (restore set how) = (label : Option Label) × TellsSet set label
 WordsFit a (report form) = Unit {0}
 WordsFit a examine = Unit {0}
 WordsFit a (expire rules) = Unit {0}
+WordsFit a (rehearse how) = Unit {0}
 
 -- what a backup finds as its own part begins
 abbrev pub found_by : Asked → ℕ → Known → Control → Before
@@ -225,6 +232,7 @@ CommandCause a (backup_running how) old new (TakeOnline fault) = OnCluster old.n
 CommandCause a (restore set how) old new (Recover fault) = RestoreCause a set how old fault
 CommandCause a examine old new (Examine fault) = ExamineCause a.stanza old.repo fault
 CommandCause a (expire rules) old new (Prune fault) = PruneCause a.stanza old.repo fault
+CommandCause a (rehearse how) old new (Rehearse fault) = RehearseCause a.stanza (size_by how.number) old.repo old.nodes fault
 CommandCause a request old new fault = ⊥
 
 -- Ok of stanza-create: the stanza is made, or was there; and where a server is asked it was asked at its socket and is of the folder's system
@@ -249,6 +257,10 @@ pub record Restores (a : Asked) (set : Option Text) (how : RestoreHow) (old new 
 -- Ok of expire: all is gone that the rules let go at the moment that the clock told, and the lines tell it
 abbrev pub Removes : Text → Rules → Known → Known → Outcome → Type 0
 Removes stanza rules old new outcome = (moment : ℕ) × TellsMoment rules.full old.clock new.clock moment × OnFinished outcome (IsPruned stanza rules moment old.repo new.repo)
+
+-- Ok of rehearse: three backups were made, of which one is left, and the lines tell what each step came to, and what a verification found
+abbrev pub Rehearses : Text → ℕ → Known → Known → Outcome → Type 0
+Rehearses stanza number old new outcome = (b : Backup) × (c : Backup) × (d : Backup) × IsRehearsed stanza number b c d old.repo new.repo new.nodes outcome
 
 -- Ok of a backup: what it promises of what the disk held as it ended, before an expiry
 abbrev pub IsBackedUp : Asked → Request → Known → Known → Option Content → Outcome → Type 0
@@ -292,6 +304,7 @@ Promise a (report form) old new outcome = OnFinished outcome (IsReported a.stanz
     × OnStanza a old.repo (λ s. OnFinished outcome (ReportsStanza form a.stanza s))
 Promise a examine old new outcome = IsExamined a.stanza old.repo outcome × EndsWithNone a.stanza old.repo outcome
 Promise a (expire rules) old new outcome = Removes a.stanza rules old new outcome
+Promise a (rehearse how) old new outcome = Rehearses a.stanza (size_by how.number) old new outcome
 
 -- what a command that settles what it looks at alone promises of all that a crash leaves: a pushed file is alike in it, and what archive-get answers holds of it
 abbrev pub Lasts : Asked → Request → Option Nodes → View → Option Nodes → Outcome → Type 0
@@ -314,6 +327,7 @@ OnReader (restore set how) P = P
 OnReader (report form) P = P
 OnReader examine P = P
 OnReader (expire rules) P = Unit {0}
+OnReader (rehearse how) P = Unit {0}
 
 -- this holds of stanza-create
 abbrev pub OnCreate : Request → Type 0 → Type 0
@@ -346,23 +360,26 @@ OnOther create P = Unit {0}
 OnOther (backup_running how) P = Unit {0}
 OnOther other P = P
 
--- Only archive-get and restore change the data folder. The one puts there what is served; of the other it holds a whole backup, or has no control file, so that no server starts from half of one.
+-- Only archive-get, restore and rehearse change the data folder. The one puts there what is served; of the other it holds a whole backup, or has no control file, so that no server starts from half of one. A rehearsal works in a folder that is empty.
 abbrev pub FolderGoes : Asked → Request → Known → Option Nodes → Type 0
 FolderGoes a (get name path) old new = ChangesPath (served_path a.data_folder path) (IsServed a.stanza a.data_folder name path old.repo old.nodes) old.nodes new
 FolderGoes a (restore set how) old new = (new ≡ old.nodes) ⊎ (HasNone control_path new ⊎ ((m : Manifest) × IfSome new (IsFinished a.stanza (take how.workers old.links) (options_by a.stanza how.delta how.recovery) m old.nodes)))
+FolderGoes a (rehearse how) old new = (new ≡ old.nodes) ⊎ IfSome old.nodes IsEmpty
 FolderGoes a request old new = new ≡ old.nodes
 
--- only a backup and a restore use workers, a backup the clock, and that of a running server waits for turns of others, as does who leaves a file to a drain; expire uses the clock where the rules count days
+-- only a backup, a restore and a rehearsal use workers, a backup and a rehearsal the clock, and that of a running server waits for turns of others, as does who leaves a file to a drain; expire uses the clock where the rules count days
 abbrev pub uses_workers : Request → Bool
 uses_workers (backup how) = true
 uses_workers (backup_running how) = true
 uses_workers (restore set how) = true
+uses_workers (rehearse how) = true
 uses_workers request = false
 
 abbrev pub uses_clock : Request → Bool
 uses_clock (backup how) = true
 uses_clock (backup_running how) = true
 uses_clock (expire rules) = counts_days rules.full
+uses_clock (rehearse how) = true
 uses_clock request = false
 
 -- only archive-push in the background and archive-push:async use the spool, and a running server's backup hands it to others

@@ -1,9 +1,10 @@
 -- What the code's settings stand for.
-use Rattle.std.specs.Prelude.{◌≡◌, ◌<◌, ◌^◌, List, length, option_map, string_bytes}
+use Rattle.std.specs.Prelude.{◌≡◌, ℕ, min, ◌<◌, ◌^◌, List, length, option_map, string_bytes}
 use Rattle.pgb_outside.specs.Links.{LinkState}
 use Rattle.pgb_worker_dispatch.specs.Run.{AreReady}
 use Rattle.pgb_model.specs.Text.{Text}
 use Rattle.pgb_options.specs.declared.options.Options.{Options}
+use Rattle.pgb_options.specs.Filled.{or_else}
 use Rattle.pgb_create.specs.Server.{server_view}
 use Rattle.pgb_prune.specs.Rules.{rules_by}
 use Rattle.pgb_take_later.specs.declared.order.LaterOrder.{LaterOrder}
@@ -12,14 +13,14 @@ use Rattle.pgb_recover.specs.Fetching.{recovery_type}
 use Rattle.pgb_recover.specs.Words.{TellsSet}
 use Rattle.pgb_command.specs.declared.settings.Settings.{Settings}
 use Rattle.pgb_command.specs.declared.settings.Request as code
-use Rattle.pgb_command.specs.declared.settings.Request.TheVariants.{StanzaCreate, ArchivePush, ArchivePushLeft, ArchivePushAsync, ArchiveGet, Backup, BackupRunning, Restore, Info, Verify, Expire}
+use Rattle.pgb_command.specs.declared.settings.Request.TheVariants.{StanzaCreate, ArchivePush, ArchivePushLeft, ArchivePushAsync, ArchiveGet, Backup, BackupRunning, Restore, Info, Verify, Expire, Rehearse}
 use Rattle.pgb_command.specs.declared.order.Order.{Order}
 use Rattle.pgb_command.specs.declared.order.RunningOrder.{RunningOrder}
 use Rattle.pgb_command.specs.declared.order.LeaveOrder.{LeaveOrder}
 use Rattle.pgb_command.specs.declared.order.Course.{Course}
 use Rattle.pgb_command.specs.declared.order.Course.TheVariants.{Staged, Left}
 use Rattle.pgb_command.specs.declared.order.Order.TheVariants as order
-use Rattle.pgb_command.specs.Asked.{Request, create, push, leave, drain, get, backup, backup_running, restore, report, examine, expire, BackupHow, RunningHow, RestoreHow, LeaveHow, Asked, Wanted}
+use Rattle.pgb_command.specs.Asked.{Request, create, push, leave, drain, get, backup, backup_running, restore, report, examine, expire, rehearse, BackupHow, RunningHow, RestoreHow, LeaveHow, Asked, Wanted}
 
 -- the workers can be numbered, and none has bytes of an earlier answer to give
 pub record AreWorkers (links : List LinkState) : Type 0 where
@@ -38,6 +39,7 @@ request_of (Restore set workers delta recovery) = restore (option_map (λ w. w.n
 request_of (Info form) = report form
 request_of Verify = examine
 request_of (Expire rules) = expire rules
+request_of (Rehearse workers number) = rehearse (record { workers = workers; number = number })
 
 -- how a command goes on by its options
 abbrev pub wanted_told : Options → Wanted
@@ -57,6 +59,7 @@ wanted_told o = record {
   turns = o.archive_timeout;
   spool = string_bytes o.spool_path;
   rules = rules_by o;
+  number = or_else 0 o.number;
 }
 
 abbrev pub asked_of : Settings → Asked
@@ -78,6 +81,10 @@ how_of o = record { workers = o.workers; delta = o.delta; recovery = recovery_ty
 abbrev pub leaving_of : LeaveOrder → LeaveHow
 leaving_of o = record { spool = o.spool.now; turns = o.turns }
 
+-- a sample cluster's size is at most 64 (the option's bounds)
+abbrev pub size_by : ℕ → ℕ
+size_by number = min number 64
+
 -- the order is what was asked for, with its words read
 abbrev pub IsOrder : Request → Text → Order → Type 0
 IsOrder create folder order.StanzaCreate = Unit {0}
@@ -91,6 +98,7 @@ IsOrder (restore set how) folder (order.Restore o) = (o.data_folder.now ≡ fold
 IsOrder (report form) folder (order.Info asked) = asked ≡ form
 IsOrder examine folder order.Verify = Unit {0}
 IsOrder (expire rules) folder (order.Expire asked) = asked ≡ rules
+IsOrder (rehearse how) folder (order.Rehearse o) = (o.take.data_folder.now ≡ folder) × (o.take.workers ≡ how.workers) × (o.number ≡ size_by how.number)
 IsOrder request folder other = ⊥
 
 -- a file is left to a drain, as was asked for

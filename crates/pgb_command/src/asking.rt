@@ -157,6 +157,10 @@ fn request_of(command: &Command) -> Result<Request<'_>, Unbuilt>
         Verb::Expire => Ok(Request::Expire {
             rules: rules_of(&command.options),
         }),
+        Verb::Rehearse => Ok(Request::Rehearse {
+            workers: command.options.process_max,
+            number: command.options.number.unwrap_or(0),
+        }),
         verb => Err(Unbuilt::Command(verb)),
     }
 }
@@ -268,6 +272,13 @@ pub(crate) fn plan_of(request: &Request<'_>) -> Plan
         Request::Verify => reading,
         Request::Expire { .. } => Plan {
             backup_lock: true,
+            ..reading
+        },
+        Request::Rehearse { .. } => Plan {
+            folder: true,
+            backup_lock: true,
+            archive_lock: true,
+            pairs: Pairs::Unread,
             ..reading
         },
     }

@@ -1,7 +1,7 @@
 // What a command is told, with its words read.
 ghost use Rattle.std.specs.Prelude.{◌≡◌, IfOk, IfErr};
 ghost use Rattle.pgb_command.specs.Did.{WordsCause};
-ghost use Rattle.pgb_command.specs.Told.{asked_of, request_of, taking_of, IsCourse};
+ghost use Rattle.pgb_command.specs.Told.{size_by, asked_of, request_of, taking_of, IsCourse};
 
 use crate::fault::Fault;
 use crate::settings::{Request, Settings};
@@ -11,6 +11,7 @@ use pgb_options::OutputWord;
 use pgb_plan::PlanSettings;
 use pgb_push::{PushOrder, push_order};
 use pgb_recover::{RecoverOrder, recover_order};
+use pgb_rehearse::RehearseOrder;
 use pgb_retain::Rules;
 use pgb_take::TakeOrder;
 use pgb_take_later::LaterOrder;
@@ -46,6 +47,7 @@ pub enum Order<'a> {
     Info(OutputWord),
     Verify,
     Expire(Rules),
+    Rehearse(RehearseOrder<'a>),
 }
 
 /// Through which stages a command goes.
@@ -75,6 +77,22 @@ fn later_order<'a>(settings: &Settings<'a>, workers: u32, kind: Kind, delta: boo
             bundle_size: 0,
             bundle_limit: 0,
         },
+    }
+}
+
+// A rehearsal in the data folder, of as many workers at most for each of its steps. The option's bounds keep its size.
+fn rehearse_order<'a>(settings: &Settings<'a>, workers: u32, number: u32) -> RehearseOrder<'a>
+    ensures folder { result.take.data_folder.now ≡ settings.now.pg1_path.now }
+    ensures workers { result.take.workers ≡ workers }
+    ensures number { result.number ≡ size_by number }
+{
+    RehearseOrder {
+        take: TakeOrder {
+            data_folder: settings.pg1_path,
+            repository: settings.repo1_path,
+            workers,
+        },
+        number: number.min(64),
     }
 }
 
@@ -130,5 +148,8 @@ pub(crate) fn course_of<'a>(alloc: Global, settings: &Settings<'a>) -> Result<Co
         Request::Info { form } => Ok(Course::Staged(Order::Info(form))),
         Request::Verify => Ok(Course::Staged(Order::Verify)),
         Request::Expire { rules } => Ok(Course::Staged(Order::Expire(rules))),
+        Request::Rehearse { workers, number } => Ok(Course::Staged(Order::Rehearse(rehearse_order(
+            settings, workers, number,
+        )))),
     }
 }

@@ -5,12 +5,12 @@ ghost use Rattle.pgb_prepare.specs.Readies.{IsReady};
 ghost use Rattle.pgb_command.specs.Asked.{alone, create as asks_create, push as asks_push, get as asks_get, report as asks_report, examine as asks_examine, expire as asks_expire};
 ghost use Rattle.pgb_command.specs.Did.{Acknowledges, Did, Followed, Ran, SamePlaces};
 ghost use Rattle.pgb_command.specs.Told.{request_of, asked_of, AreWorkers, IsLeft, IsOrder};
-ghost use Rattle.pgb_command.specs.declared.order.Order.TheVariants.{ArchivePushAsync as DrainOrder, Backup as BackupOrder, BackupRunning as BackupRunningOrder, Restore as RestoreOrder};
+ghost use Rattle.pgb_command.specs.declared.order.Order.TheVariants.{ArchivePushAsync as DrainOrder, Backup as BackupOrder, BackupRunning as BackupRunningOrder, Restore as RestoreOrder, Rehearse as RehearseOrderOf};
 ghost use Rattle.pgb_command.specs.Tables.{plan_of};
 
 use crate::fault::{
     Fault, create_end, drain_end, examine_end, get_end, inform_end, leave_end, prune_end, push_end,
-    recover_end, take_end, take_online_end,
+    recover_end, rehearse_end, take_end, take_online_end,
 };
 use crate::order::{LeaveOrder, RunningOrder};
 use crate::outside::{Outside, Told};
@@ -28,6 +28,7 @@ use pgb_prepare::Ready;
 use pgb_prune::{prune_behind, prune_stanza};
 use pgb_push::{PushOrder, push_file};
 use pgb_recover::{RecoverOrder, recover_backup};
+use pgb_rehearse::{RehearseOrder, rehearse};
 use pgb_retain::Rules;
 use pgb_stage::Outcome;
 use pgb_take_later::{LaterOrder, take_later};
@@ -411,6 +412,43 @@ impl<
             unreachable!();
         };
         examine_end(examine_stanza(alloc, &mut self.repo, settings.stanza, backup))
+    }
+
+    /// rehearse.
+    pub(crate) fn rehearse(
+        &mut self,
+        alloc: Global,
+        settings: &Settings<'_>,
+        order: &RehearseOrder<'_>,
+    ) -> Result<Outcome, Fault>
+        requires order { IsOrder (request_of settings.now.request) settings.now.pg1_path.now
+            (RehearseOrderOf order.now) }
+        requires locked { AreHeld (plan_of (request_of settings.now.request)) settings.now.stanza.now
+            (K.state self.old.locks).taken }
+        requires workers { AreWorkers (map L.link_state self.old.links.items) }
+        ensures ran { let told = ⟦<Self as Told>⟧.told in
+            Ran (alone (asked_of settings.now)) (told self.old) (told self.new) result }
+        ensures least { (C.state self.old.clock).least ≤ (C.state self.new.clock).least }
+        ensures rest { self.new ≡ record self.old {
+          repo = self.new.repo;
+          tree = self.new.tree;
+          clock = self.new.clock;
+          links = self.new.links;
+          turns = self.new.turns;
+        } }
+    {
+        rehearse_end(rehearse(
+            alloc,
+            &mut self.repo,
+            &mut self.tree,
+            &mut self.server,
+            &mut self.clock,
+            &self.locks,
+            &mut self.links,
+            &mut self.turns,
+            settings.stanza,
+            order,
+        ))
     }
 
     /// The expiry that follows a backup that ended with these lines: what went is told behind them.

@@ -63,6 +63,11 @@ pub enum Request<'a> {
     },
     /// What deviates in the repository is told.
     Verify,
+    /// A sample cluster of this size lives its whole life, with as many workers at most for each of its steps.
+    Rehearse {
+        workers: u32,
+        number: u32,
+    },
     /// What these rules don't keep is removed.
     Expire {
         rules: Rules,

@@ -322,6 +322,7 @@ impl<
             Order::Info(form) => self.inform(alloc, settings, form, &ready),
             Order::Verify => self.examine(alloc, settings, &ready),
             Order::Expire(rules) => self.prune(alloc, settings, &rules, ready),
+            Order::Rehearse(order) => self.rehearse(alloc, settings, &order),
         }
     }
 }

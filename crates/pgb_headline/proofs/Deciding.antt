@@ -14,7 +14,7 @@ use Rattle.pgb_stage.specs.Cluster.{control_bytes, version_bytes, FolderTells}
 use Rattle.pgb_stage.specs.Runs.{Manner, each, one, On}
 use Rattle.pgb_push.specs.WalPath.{wal_path, IsPathOf, IsLastElement, HasWal}
 use Rattle.pgb_push.specs.Commands.{IsPushOf}
-use Rattle.pgb_command.specs.Asked.{Request, create, push, leave, drain, get, backup, backup_running, restore, report, examine, expire, Asked}
+use Rattle.pgb_command.specs.Asked.{Request, create, push, leave, drain, get, backup, backup_running, restore, report, examine, expire, rehearse, Asked}
 use Rattle.pgb_command.specs.Tables.{Known, TurnsTold, IsCreateOf, manner_of}
 use Rattle.pgb_headline.specs.Acts.{IsOf}
 use Rattle.pgb_headline.proofs.Bounded.{Decided, SomeOrNone, same_text, either_of, both_of, some_below, some_name}
@@ -118,3 +118,4 @@ some_command a (restore set how) old new P told turns on = (Reading, refl, on Re
 some_command a (report form) old new P told turns on = (Reading, refl, on Reading refl)
 some_command a examine old new P told turns on = (Reading, refl, on Reading refl)
 some_command a (expire rules) old new P told turns on = on
+some_command a (rehearse how) old new P told turns on = on

@@ -1,0 +1,13 @@
+//! Tests of segments that are fetched ahead, over devices in memory.
+#![tactic(auto)]
+
+#[cfg(test)]
+mod devices;
+#[cfg(test)]
+mod failing;
+#[cfg(test)]
+mod fetches;
+#[cfg(test)]
+mod same;
+#[cfg(test)]
+mod takes;
