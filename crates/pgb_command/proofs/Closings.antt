@@ -49,7 +49,7 @@ use Rattle.pgb_command.specs.declared.fault.CommandFault.TheVariants.{Create, Pu
 use Rattle.pgb_command.specs.declared.fault.Fault.{Fault}
 use Rattle.pgb_command.specs.declared.fault.Fault.TheVariants as fault
 use Rattle.pgb_command.specs.Answers.{status_of, usage_status}
-use Rattle.pgb_command.specs.Asked.{Request, create, push, leave, drain, get, backup, backup_running, restore, report, examine, expire, rehearse, Asked}
+use Rattle.pgb_command.specs.Asked.{Request, create, push, leave, drain, get, get_through, fetch_ahead, backup, backup_running, restore, report, examine, expire, rehearse, Asked}
 use Rattle.pgb_command.specs.Causes.{IsAnswered, Carries, Answers, ClosesTalk}
 use Rattle.pgb_command.specs.Configuring.{ConfigCause}
 use Rattle.pgb_command.specs.Did.{IsIdle, IsTaken, Cause, Closes}
@@ -146,6 +146,8 @@ push_other : {P : Type 0} (a : Asked) (q : Request) (old new : Known) (e : PushF
 push_other a create old new e cause p = absurd cause
 push_other a (push path) old new e cause p = p
 push_other a (get name path) old new e cause p = absurd cause
+push_other a (get_through name path how) old new e cause p = absurd cause
+push_other a (fetch_ahead name how) old new e cause p = absurd cause
 push_other a (backup how) old new e cause p = absurd cause
 push_other a (backup_running how) old new e cause p = absurd cause
 push_other a (restore set how) old new e cause p = absurd cause
@@ -162,6 +164,8 @@ drain_other a (push path) old new e cause p = absurd cause
 drain_other a (leave path how) old new e cause p = absurd cause
 drain_other a (drain place) old new e cause p = p
 drain_other a (get name path) old new e cause p = absurd cause
+drain_other a (get_through name path how) old new e cause p = absurd cause
+drain_other a (fetch_ahead name how) old new e cause p = absurd cause
 drain_other a (backup how) old new e cause p = absurd cause
 drain_other a (backup_running how) old new e cause p = absurd cause
 drain_other a (restore set how) old new e cause p = absurd cause
@@ -176,6 +180,8 @@ leave_other a (push path) old new name e cause p = absurd cause
 leave_other a (leave path how) old new name e cause p = p
 leave_other a (drain place) old new name e cause p = absurd cause
 leave_other a (get word path) old new name e cause p = absurd cause
+leave_other a (get_through word path how) old new name e cause p = absurd cause
+leave_other a (fetch_ahead word how) old new name e cause p = absurd cause
 leave_other a (backup how) old new name e cause p = absurd cause
 leave_other a (backup_running how) old new name e cause p = absurd cause
 leave_other a (restore set how) old new name e cause p = absurd cause
@@ -188,6 +194,8 @@ get_other : {P : Type 0} (a : Asked) (q : Request) (old new : Known) (e : GetFau
 get_other a create old new e cause p = absurd cause
 get_other a (push path) old new e cause p = absurd cause
 get_other a (get name path) old new e cause p = p
+get_other a (get_through name path how) old new e cause p = p
+get_other a (fetch_ahead name how) old new e cause p = p
 get_other a (backup how) old new e cause p = absurd cause
 get_other a (backup_running how) old new e cause p = absurd cause
 get_other a (restore set how) old new e cause p = absurd cause
@@ -202,6 +210,8 @@ take_other : {P : Type 0} (a : Asked) (q : Request) (old new : Known) (e : Later
 take_other a create old new e cause p = absurd cause
 take_other a (push path) old new e cause p = absurd cause
 take_other a (get name path) old new e cause p = absurd cause
+take_other a (get_through name path how) old new e cause p = absurd cause
+take_other a (fetch_ahead name how) old new e cause p = absurd cause
 take_other a (backup how) old new e cause p = p
 take_other a (backup_running how) old new e cause p = absurd cause
 take_other a (restore set how) old new e cause p = absurd cause
@@ -216,6 +226,8 @@ examine_other : {P : Type 0} (a : Asked) (q : Request) (old new : Known) (e : Ex
 examine_other a create old new e cause p = absurd cause
 examine_other a (push path) old new e cause p = absurd cause
 examine_other a (get name path) old new e cause p = absurd cause
+examine_other a (get_through name path how) old new e cause p = absurd cause
+examine_other a (fetch_ahead name how) old new e cause p = absurd cause
 examine_other a (backup how) old new e cause p = absurd cause
 examine_other a (backup_running how) old new e cause p = absurd cause
 examine_other a (restore set how) old new e cause p = absurd cause
@@ -230,6 +242,8 @@ prune_other : {P : Type 0} (a : Asked) (q : Request) (old new : Known) (e : Prun
 prune_other a create old new e cause p = absurd cause
 prune_other a (push path) old new e cause p = absurd cause
 prune_other a (get name path) old new e cause p = absurd cause
+prune_other a (get_through name path how) old new e cause p = absurd cause
+prune_other a (fetch_ahead name how) old new e cause p = absurd cause
 prune_other a (backup how) old new e cause p = absurd cause
 prune_other a (backup_running how) old new e cause p = absurd cause
 prune_other a (restore set how) old new e cause p = absurd cause

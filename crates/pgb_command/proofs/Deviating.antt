@@ -51,7 +51,7 @@ use Rattle.pgb_command.specs.declared.fault.CommandFault.TheVariants.{Create, Pu
 use Rattle.pgb_command.specs.declared.fault.Fault.{Fault}
 use Rattle.pgb_command.specs.declared.fault.Fault.TheVariants as fault
 use Rattle.pgb_command.specs.Answers.{status_of, usage_status, command_status}
-use Rattle.pgb_command.specs.Asked.{Request, create, push, leave, drain, get, backup, backup_running, restore, report, examine, expire, rehearse, RehearseHow, Asked}
+use Rattle.pgb_command.specs.Asked.{Request, create, push, leave, drain, get, get_through, fetch_ahead, backup, backup_running, restore, report, examine, expire, rehearse, RehearseHow, Asked}
 use Rattle.pgb_command.specs.Causes.{EndsWell}
 use Rattle.pgb_command.specs.Tables.{Known, IsBackedUp, BehindIt, Promise}
 use Rattle.pgb_command.proofs.Statuses.{over}
@@ -210,6 +210,8 @@ pub only_verifies : (a : Asked) (q : Request) (old new : Known) (lines : String 
 only_verifies a create old new lines count h = absurd h.created.silent
 only_verifies a (push path) old new lines count h = absurd h
 only_verifies a (get name path) old new lines count h = absurd h.0
+only_verifies a (get_through name path how) old new lines count h = absurd h.got
+only_verifies a (fetch_ahead name how) old new lines count h = absurd h.2.2
 only_verifies a (backup how) old new lines count h = never_deviates a.expires a.stanza old.clock.least (IsBackedUp a (backup how) old new) new lines count (λ repo x. absurd x.2.2) h
 only_verifies a (backup_running how) old new lines count h = never_deviates a.expires a.stanza old.clock.least (IsBackedUp a (backup_running how) old new) new lines count (λ repo x. absurd x.0.2.2) h
 only_verifies a (restore set how) old new lines count h = absurd h.recovers

@@ -44,13 +44,13 @@ use Rattle.pgb_command.specs.declared.fault.CommandFault.TheVariants.{Create, Pu
 use Rattle.pgb_command.specs.declared.fault.Fault.{Fault}
 use Rattle.pgb_command.specs.declared.fault.Fault.TheVariants.{Usage, Stage, Command as OfCommand, Behind, Failed as ObjectFailed, NoMemory}
 use Rattle.pgb_command.specs.Answers.{status, reached_of, ending_of, is_early}
-use Rattle.pgb_command.specs.Asked.{Request, create, push, leave, drain, get, backup, backup_running, restore, report, examine, expire, rehearse, Asked}
+use Rattle.pgb_command.specs.Asked.{Request, create, push, leave, drain, get, get_through, fetch_ahead, backup, backup_running, restore, report, examine, expire, rehearse, Asked}
 use Rattle.pgb_command.specs.Faults.{of_stage}
-use Rattle.pgb_command.specs.Tables.{Known, known, plan_of, spool_of, manner_of, CommandCause, Promise, Lasts, OnReader, OnCreate, OnExpire, Expires, uses_workers, uses_clock, uses_turns}
+use Rattle.pgb_command.specs.Tables.{Known, known, plan_of, spool_of, manner_of, CommandCause, Promise, Lasts, OnReader, OnCreate, OnExpire, Expires, uses_workers, uses_clock}
 use Rattle.pgb_command.specs.Did.{Ran, EndsBehind, StaysHealed, OnReady, Cause, HealsPairs, Did, OwnCause, Spares, Closes, WordsCause, Brackets, SamePlaces, OpensPlaces, ArePlacesOpened, OpensNamed, IsOpenedNamed, OpensIf, IsOpenedIf, TakesAll, OnlyLocked}
 use Rattle.pgb_command.proofs.Ends.{all_later, expiry_as, only_rose}
 use Rattle.pgb_command.proofs.Expiries.{expires_still, expires_behind}
-use Rattle.pgb_command.proofs.ByRequest.{as_known, idle, manner_at, reader_still, create_still, expire_still, any_reader, any_create, any_expire, any_other, reader_on, create_on, expire_on, other_as, any_stays, stays_as, any_unless, unless_as, folder_stays, folder_on}
+use Rattle.pgb_command.proofs.ByRequest.{as_known, idle, manner_at, reader_still, create_still, expire_still, any_reader, any_create, any_expire, any_other, reader_on, create_on, expire_on, other_as, any_stays, stays_as, any_unless, unless_as, others_stay, others_on, folder_stays, folder_on}
 
 -- ---- causes and ends
 
@@ -112,7 +112,7 @@ spares_on a b m k r beside spool reads creates expires nodes server others links
   unmade = create_on a.request _ _ _ (λ (p : IsStill b.repo.view m.repo.view) h. none_as (reached_of (ending_of r)) _ _ (λ e. e ∙ p.now) h) creates s.unmade;
   quiet = λ none. s.quiet none ∙ server;
   others = other_as a.request _ _ (λ e. e ∙ server) s.others;
-  waits = unless_as (uses_turns a.request) _ _ (λ e. e ∙ others) s.waits;
+  waits = others_on a a.request b.others m.others k.others others s.waits;
   workers = unless_as (uses_workers a.request) _ _ (λ e. e ∙ links) s.workers;
   clock = unless_as (uses_clock a.request) _ _ (λ e. e ∙ clock) s.clock;
   closed = err_as r _ _ (closes_from b m k server (omega (arith, ap (λ (w : WireState). w.faults) server))) s.closed;
@@ -131,7 +131,7 @@ spares_none a b k fault beside spool reads creates expires nodes server others l
   unmade = create_on a.request _ (Unit {0}) _ (λ (p : IsStill b.repo.view k.repo.view) h. all_none (reached_of (ending_of (Err fault))) _ p.now) creates (any_create a.request (Unit {0}) tt);
   quiet = λ none. server;
   others = any_other a.request _ server;
-  waits = any_unless (uses_turns a.request) _ others;
+  waits = others_stay a a.request b.others k.others others;
   workers = any_unless (uses_workers a.request) _ links;
   clock = any_unless (uses_clock a.request) _ clock;
   closed = closes;
@@ -228,6 +228,8 @@ lasts_by : (a : Asked) (request : Request) (v : View) (nodes mid : Option Nodes)
 lasts_by a create v nodes mid k outcome same at h = tt
 lasts_by a (push path) v nodes mid k outcome same at h = subst (λ (n : Option Nodes). Lasts a (push path) n k.repo.view k.tree.nodes outcome) same (h (at refl))
 lasts_by a (get name path) v nodes mid k outcome same at h = subst (λ (n : Option Nodes). Lasts a (get name path) n k.repo.view k.tree.nodes outcome) same (h (at refl))
+lasts_by a (get_through name path how) v nodes mid k outcome same at h = subst (λ (n : Option Nodes). Lasts a (get_through name path how) n k.repo.view k.tree.nodes outcome) same (h (at refl))
+lasts_by a (fetch_ahead name how) v nodes mid k outcome same at h = tt
 lasts_by a (backup how) v nodes mid k outcome same at h = tt
 lasts_by a (backup_running how) v nodes mid k outcome same at h = tt
 lasts_by a (restore set how) v nodes mid k outcome same at h = tt

@@ -18,15 +18,15 @@ use Rattle.pgb_stage.proofs.Lifted.{on_as, still_quiet, quiet_takes, opened_take
 use Rattle.pgb_command.specs.declared.fault.Fault.{Fault}
 use Rattle.pgb_command.specs.declared.fault.Fault.TheVariants.{Usage, Stage, Command as OfCommand, Failed as ObjectFailed, NoMemory}
 use Rattle.pgb_command.specs.Answers.{Ending, status, status_of, answer_of, ending_of, reached_of}
-use Rattle.pgb_command.specs.Asked.{Request, create, push, leave, drain, get, backup, backup_running, restore, report, examine, expire, rehearse, RehearseHow, Asked, Asks}
+use Rattle.pgb_command.specs.Asked.{Request, create, push, leave, drain, get, get_through, fetch_ahead, backup, backup_running, restore, report, examine, expire, rehearse, RehearseHow, Asked, Asks}
 use Rattle.pgb_command.specs.Causes.{IsAnswered, Carries, Answers, PartDone, Finishes, EndsWell, Fulfils, IsEarly, TurnsBack, LeavesRest, Completes}
 use Rattle.pgb_command.specs.Did.{Acknowledges, IsIdle, Did, OpensIf, OpensNamed, OpensPlaces, OnlyLocked}
 use Rattle.pgb_command.specs.Output.{IsTold, Whole, Cut, Starved, Wordless}
 use Rattle.pgb_disk.proofs.Changes.{only_rests}
 use Rattle.pgb_stanza.specs.Owned.{IsOfPairs}
-use Rattle.pgb_command.specs.Tables.{known, plan_of, spool_of, manner_of, OnCreate, FolderGoes, FolderStays, uses_workers, uses_clock, uses_turns}
+use Rattle.pgb_command.specs.Tables.{known, plan_of, spool_of, manner_of, OnCreate, FolderGoes, FolderStays, uses_workers, uses_clock}
 use Rattle.pgb_command.proofs.AskedOnce.{one_asked}
-use Rattle.pgb_command.proofs.ByRequest.{idle, any_reader, any_create, any_expire, any_other, any_unless, any_stays, folder_stays}
+use Rattle.pgb_command.proofs.ByRequest.{idle, any_reader, any_create, any_expire, any_other, any_unless, any_stays, folder_stays, others_stay}
 use Rattle.pgb_command.proofs.Dids.{stage_reached}
 use Rattle.pgb_command.proofs.Statuses.{over, zero_ends, Deviates, early_ends, not_cut}
 use Rattle.pgb_command.proofs.Expiries.{expires_still}
@@ -82,6 +82,8 @@ create_at : (request : Request) (reached : Reached) (P : Type 0) → reached ≡
 create_at create reached P is h = none_at reached P is h
 create_at (push path) reached P is h = tt
 create_at (get name path) reached P is h = tt
+create_at (get_through name path how) reached P is h = tt
+create_at (fetch_ahead name how) reached P is h = tt
 create_at (backup how) reached P is h = tt
 create_at (backup_running how) reached P is h = tt
 create_at (restore set how) reached P is h = tt
@@ -183,7 +185,7 @@ module _ (a : Asked) (b k : Seen) (n : ℕ) where
     folder = folder_stays a a.request (known b) k.tree.nodes (idle_nodes b k x.0);
     quiet = λ none. x.0.server;
     others = any_other a.request _ x.0.server;
-    waits = any_unless (uses_turns a.request) _ x.0.others;
+    waits = others_stay a a.request b.others k.others x.0.others;
     workers = any_unless (uses_workers a.request) _ x.0.links;
     clock = any_unless (uses_clock a.request) _ x.0.clock;
   }

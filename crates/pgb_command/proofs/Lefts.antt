@@ -44,7 +44,7 @@ use Rattle.pgb_command.specs.declared.order.LeaveOrder.{LeaveOrder}
 use Rattle.pgb_command.specs.declared.order.Course.{Course}
 use Rattle.pgb_command.specs.declared.order.Course.TheVariants.{Staged, Left}
 use Rattle.pgb_command.specs.Answers.{ending_of, reached_of, status}
-use Rattle.pgb_command.specs.Asked.{Request, create, push, leave, drain, get, backup, backup_running, restore, report, examine, expire, rehearse, LeaveHow, Asked, drain_words}
+use Rattle.pgb_command.specs.Asked.{Request, create, push, leave, drain, get, get_through, fetch_ahead, backup, backup_running, restore, report, examine, expire, rehearse, LeaveHow, Asked, drain_words}
 use Rattle.pgb_command.specs.Faults.{of_leave, lift}
 use Rattle.pgb_command.specs.Tables.{known, heard_for, plan_of, uses_spool}
 use Rattle.pgb_command.specs.Did.{Acknowledges, ArePlacesOpened, Brackets, Cause, Closes, Did, HealsPairs, IsLeftStored, LastsAfter, OnLeft, OpensPlaces, SamePlaces, TakesAll}
@@ -62,6 +62,8 @@ left_is (push path) folder o is = absurd is
 left_is (leave path how) folder o is = ap (λ (p : Text). leave p how) (sym is.1) ∙ ap (leave o.push.path.now) (sym is.2)
 left_is (drain place) folder o is = absurd is
 left_is (get name path) folder o is = absurd is
+left_is (get_through name path how) folder o is = absurd is
+left_is (fetch_ahead name how) folder o is = absurd is
 left_is (backup how) folder o is = absurd is
 left_is (backup_running how) folder o is = absurd is
 left_is (restore set how) folder o is = absurd is
@@ -76,6 +78,8 @@ left_folder (push path) folder o is = absurd is
 left_folder (leave path how) folder o is = is.0
 left_folder (drain place) folder o is = absurd is
 left_folder (get name path) folder o is = absurd is
+left_folder (get_through name path how) folder o is = absurd is
+left_folder (fetch_ahead name how) folder o is = absurd is
 left_folder (backup how) folder o is = absurd is
 left_folder (backup_running how) folder o is = absurd is
 left_folder (restore set how) folder o is = absurd is
@@ -105,6 +109,8 @@ staged_left (push path) folder o is P = tt
 staged_left (leave path how) folder o is P = absurd is
 staged_left (drain place) folder o is P = tt
 staged_left (get name path) folder o is P = tt
+staged_left (get_through name path how) folder o is P = tt
+staged_left (fetch_ahead name how) folder o is P = tt
 staged_left (backup how) folder o is P = tt
 staged_left (backup_running how) folder o is P = tt
 staged_left (restore set how) folder o is P = tt
@@ -119,6 +125,8 @@ on_left (push path) P Q to h = tt
 on_left (leave path how) P Q to h = to path h
 on_left (drain place) P Q to h = tt
 on_left (get name path) P Q to h = tt
+on_left (get_through name path how) P Q to h = tt
+on_left (fetch_ahead name how) P Q to h = tt
 on_left (backup how) P Q to h = tt
 on_left (backup_running how) P Q to h = tt
 on_left (restore set how) P Q to h = tt

@@ -28,3 +28,4 @@ mod Unused
 pub mod InForm
 pub mod Workers
 mod RehearseRans
+mod FetchRans

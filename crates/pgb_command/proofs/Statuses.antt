@@ -36,7 +36,7 @@ use Rattle.pgb_command.specs.declared.fault.CommandFault.TheVariants.{Create, Pu
 use Rattle.pgb_command.specs.declared.fault.Fault.{Fault}
 use Rattle.pgb_command.specs.declared.fault.Fault.TheVariants as fault
 use Rattle.pgb_command.specs.Answers.{status, status_of, usage_status, command_status, command_early, is_early, ending_of, reached_of}
-use Rattle.pgb_command.specs.Asked.{Request, create, push, leave, drain, get, backup, backup_running, restore, report, examine, expire, rehearse}
+use Rattle.pgb_command.specs.Asked.{Request, create, push, leave, drain, get, get_through, fetch_ahead, backup, backup_running, restore, report, examine, expire, rehearse}
 use Rattle.pgb_command.specs.Causes.{IsRefusal, IsEarly}
 
 -- ---- a refusal has no status of a command that ended well
@@ -126,6 +126,8 @@ any_early : (q : Request) (n : ℕ) → IsEarly q n → AnyEarly n
 any_early create n h = h
 any_early (push path) n h = inl h
 any_early (get name path) n h = inl h
+any_early (get_through name path how) n h = inl h
+any_early (fetch_ahead name how) n h = inl h
 any_early (backup how) n h = inl h
 any_early (backup_running how) n h = h
 any_early (restore set how) n h = inl h

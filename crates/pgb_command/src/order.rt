@@ -5,6 +5,7 @@ ghost use Rattle.pgb_command.specs.Told.{size_by, asked_of, request_of, taking_o
 
 use crate::fault::Fault;
 use crate::settings::{Request, Settings};
+use pgb_fetch::{FetchOrder, fetch_order};
 use pgb_get::{GetOrder, get_order};
 use pgb_model::Kind;
 use pgb_options::OutputWord;
@@ -34,6 +35,22 @@ pub struct LeaveOrder<'a> {
     pub turns: u64,
 }
 
+/// A file that is served through the spool: the file, the spool, and as many segments that follow it are fetched ahead as so
+/// many bytes hold.
+#[derive(Drop)]
+pub struct ThroughOrder<'a> {
+    pub get: GetOrder<'a>,
+    pub spool: &'a str,
+    pub queue: u64,
+}
+
+/// The segments behind one are fetched ahead, as many as so many bytes hold.
+#[derive(Drop)]
+pub struct AheadOrder<'a> {
+    pub fetch: FetchOrder<'a>,
+    pub queue: u64,
+}
+
 /// What a command does behind all stages.
 #[derive(Drop)]
 pub enum Order<'a> {
@@ -41,6 +58,8 @@ pub enum Order<'a> {
     ArchivePush(PushOrder<'a>),
     ArchivePushAsync,
     ArchiveGet(GetOrder<'a>),
+    ArchiveGetThrough(ThroughOrder<'a>),
+    ArchiveGetAsync(AheadOrder<'a>),
     Backup(LaterOrder<'a>),
     BackupRunning(RunningOrder<'a>),
     Restore(RecoverOrder<'a>),
@@ -116,6 +135,19 @@ pub(crate) fn course_of<'a>(alloc: Global, settings: &Settings<'a>) -> Result<Co
         Request::ArchiveGet { name, path } => {
             let get = get_order(alloc, folder, name, path)?;
             Ok(Course::Staged(Order::ArchiveGet(get)))
+        }
+        Request::ArchiveGetThrough {
+            name,
+            path,
+            spool,
+            queue,
+        } => {
+            let get = get_order(alloc, folder, name, path)?;
+            Ok(Course::Staged(Order::ArchiveGetThrough(ThroughOrder { get, spool, queue })))
+        }
+        Request::ArchiveGetAsync { name, queue, .. } => {
+            let fetch = fetch_order(alloc, name)?;
+            Ok(Course::Staged(Order::ArchiveGetAsync(AheadOrder { fetch, queue })))
         }
         Request::Backup {
             workers,

@@ -33,6 +33,20 @@ pub enum Request<'a> {
         name: &'a str,
         path: &'a str,
     },
+    /// The archived file that is to be served through the spool, and where; and as many segments that follow it are fetched
+    /// ahead as so many bytes hold.
+    ArchiveGetThrough {
+        name: &'a str,
+        path: &'a str,
+        spool: &'a str,
+        queue: u64,
+    },
+    /// The segments that follow this one are to be fetched into the spool, as many as so many bytes hold.
+    ArchiveGetAsync {
+        name: &'a str,
+        spool: &'a str,
+        queue: u64,
+    },
     /// A backup of this kind of a stopped server, with as many workers at most; whether a file is told from the prior
     /// backup's by its digest.
     Backup {

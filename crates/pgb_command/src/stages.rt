@@ -278,6 +278,8 @@ impl<
             Order::ArchivePush(order) => self.push(alloc, settings, order, &ready),
             Order::ArchivePushAsync => self.drain(alloc, settings, &ready),
             Order::ArchiveGet(order) => self.get(alloc, settings, &order, &ready),
+            Order::ArchiveGetThrough(order) => self.get_through(alloc, settings, &order, &ready),
+            Order::ArchiveGetAsync(order) => self.fetch(alloc, settings, &order, &ready),
             Order::Backup(order) => self.take(alloc, settings, order, ready),
             Order::BackupRunning(order) => self.take_running(alloc, settings, &order, ready),
             Order::Restore(order) => self.recover(alloc, settings, &order, &ready),
