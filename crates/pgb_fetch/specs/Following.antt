@@ -5,7 +5,7 @@ use Rattle.pgb_outside.specs.Content.{Content}
 use Rattle.pgb_model.specs.declared.wal.Segment.{Segment}
 use Rattle.pgb_model.specs.ManifestText.{IsSegSize}
 use Rattle.pgb_model.specs.Text.{Text}
-use Rattle.pgb_wal.specs.Next.{IsOfLog, IsNext}
+use Rattle.pgb_wal.specs.Next.{IsOfLog, IsNext, IsLast}
 use Rattle.pgb_turn.specs.Turns.{OthersState}
 use Rattle.pgb_ahead.specs.Taking.{IsAhead}
 
@@ -25,9 +25,13 @@ pub record IsWanting (stanza : Text) (segment : Segment) (size : ℕ) (spool : O
   pub behind : IsBehind segment size next
   pub lacks : IfSome spool (λ f. ¬ IsAhead stanza next f)
 
+-- nothing follows one of this length: no log has it, or it is the last of its timeline
+abbrev pub HasNoneBehind : Segment → ℕ → Type 0
+HasNoneBehind segment size = HasSize segment size → IsLast size segment
+
 -- nothing follows the segment, or it is in the spool
 abbrev pub IsSated : Text → Segment → ℕ → Option Content → Type 0
-IsSated stanza segment size spool = ((s : Segment) → ¬ IsBehind segment size s)
+IsSated stanza segment size spool = HasNoneBehind segment size
     ⊎ ((s : Segment) × IsBehind segment size s × IfSome spool (IsAhead stanza s))
 
 -- this program was started once with these words

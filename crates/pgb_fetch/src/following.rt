@@ -2,10 +2,9 @@
 ghost use Rattle.std.specs.Prelude.{◌≡◌, ◌≤◌, map, IfOk, IfErr, IfSome, IfNone, string_bytes};
 ghost use Rattle.pgb_outside.specs.Cause.{Rises};
 ghost use Rattle.pgb_outside.specs.States.{Looks};
-ghost use Rattle.pgb_model.specs.declared.wal.Segment.{Segment};
 ghost use Rattle.pgb_stage.specs.declared.object.Object.TheVariants.{Spool as TheSpool};
 ghost use Rattle.pgb_stage.specs.Halts.{HaltCause, Never, Only};
-ghost use Rattle.pgb_fetch.specs.Following.{HasSize, IsBehind, Follows, Starts, QuietOthers};
+ghost use Rattle.pgb_fetch.specs.Following.{HasNoneBehind, HasSize, IsBehind, Follows, Starts, QuietOthers};
 
 use pgb_ahead::has_ahead;
 use pgb_get::GetFault;
@@ -32,7 +31,7 @@ pub(crate) fn size_of(segment: &Segment, length: u64) -> Option<SegSize>
 // The segment that follows one of this length.
 fn next_of(segment: &Segment, length: u64) -> Option<Segment>
     ensures next { IfSome result (IsBehind segment.now length) }
-    ensures none { IfNone result ((s : Segment) → ¬ IsBehind segment.now length s) }
+    ensures none { IfNone result (HasNoneBehind segment.now length) }
 {
     let size = size_of(segment, length)?;
     next(segment, size)

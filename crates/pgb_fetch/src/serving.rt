@@ -17,7 +17,7 @@ ghost use Rattle.pgb_stage.specs.Halts.{HaltCause};
 ghost use Rattle.pgb_stage.specs.Risen.{none, rose_in};
 ghost use Rattle.pgb_stage.specs.Runs.{PairAlike};
 ghost use Rattle.pgb_spool.specs.Marks.{GivesMarks};
-ghost use Rattle.pgb_get.specs.Getting.{served_path, ChangesPath};
+ghost use Rattle.pgb_get.specs.Getting.{served_path, ChangesPath, GetCause};
 ghost use Rattle.pgb_get.specs.Looking.{IsKeptAs};
 ghost use Rattle.pgb_fetch.specs.Getting.{GetAheadCause, GivenAs, IsServedBySum, NoTwins, ServedAs, StillFolder};
 
@@ -29,6 +29,56 @@ use pgb_stage::{Halt, Outcome};
 use pgb_stanza::Control;
 use pgb_stored::Stored;
 use std::alloc::Global;
+
+// Serves a segment from the repository, and hands on where that stores it; None where it doesn't.
+fn serve_stored<D: Disk, T: Tree>(
+    alloc: Global,
+    repo: &mut D,
+    tree: &mut T,
+    stanza: &str,
+    order: &GetOrder<'_>,
+    told: &Control,
+    info: &ArchiveInfo,
+    stored: Stored,
+) -> Result<Option<Stored>, Halt<GetFault>>
+    requires tells { IfSome (T.state tree.old).nodes (λ f. FolderTells f told.now) }
+    requires pair { IfSome (D.state repo.old).view.now (λ f. HasValue stanza.now f (archive_info_of info.now)) }
+    requires valid { IsArchiveInfo (archive_info_of info.now) }
+    ensures serves { IfOk result (ServedAs stanza.now order.now.folder.now order.now.word.now order.now.path.now
+        (D.state repo.old).view.now (T.state tree.old).nodes (T.state tree.new).nodes) }
+    ensures same { IfOk result (λ r. IfSome r (λ file. file ≡ stored)) }
+    ensures lasts { IfOk result (λ r. IsTight stanza.now (D.state repo.old).view
+        → IsSome (D.state repo.old).view.now → PairAlike stanza.now (D.state repo.old).view → (f : Content)
+        → Leaves (D.state repo.new).view (D.state repo.new).view.moment f
+        → ServedAs stanza.now order.now.folder.now order.now.word.now order.now.path.now
+        (Some f) (T.state tree.old).nodes (T.state tree.new).nodes r) }
+    ensures given { IfOk result (λ r. (s : Stanza) → IsSome (D.state repo.old).view.now
+        → NowStands stanza.now (Some s) (D.state repo.old).view.now
+        → GivenAs s order.now.folder.now order.now.word.now order.now.path.now
+        (T.state tree.old).nodes (T.state tree.new).nodes r) }
+    ensures changes { ChangesPath (served_path order.now.folder.now order.now.path.now)
+        (IsServedBySum stanza.now order.now.folder.now order.now.word.now order.now.path.now
+        (D.state repo.old).view.now (T.state tree.old).nodes)
+        (T.state tree.old).nodes (T.state tree.new).nodes }
+    ensures still { StillFolder result (T.state tree.old).nodes (T.state tree.new).nodes }
+    ensures looks { Looks (D.state repo.old) (D.state repo.new) }
+    ensures opened { (T.state tree.new).opened ≡ (T.state tree.old).opened }
+    ensures later { (T.state tree.old).faults ≤ (T.state tree.new).faults }
+    ensures cause { IfErr result (HaltCause
+        (GetCause stanza.now order.now.folder.now order.now.word.now order.now.path.now
+        (D.state repo.old).view.now (T.state tree.old).nodes)
+        (rose_in (record none {
+          repo = Rises (D.state repo.old).faults (D.state repo.new).faults;
+          tree = Rises (T.state tree.old).faults (T.state tree.new).faults;
+        }))) }
+{
+    match get_file(alloc, repo, tree, stanza, order, told, info) {
+        Ok(Outcome::Finished { .. }) => Ok(Some(stored)),
+        Ok(Outcome::Absent { .. }) => Ok(None),
+        Ok(Outcome::FindingsFound { .. }) => unreachable!(),
+        Err(halt) => Err(halt),
+    }
+}
 
 /// Serves a whole segment, and tells where the repository stores it; None where it doesn't.
 pub(crate) fn serve_ahead<D: Disk, S: Disk, T: Tree>(
@@ -86,18 +136,13 @@ pub(crate) fn serve_ahead<D: Disk, S: Disk, T: Tree>(
         Ok(None) => return Ok(None),
         Err(halt) => return Err(halt),
     };
-    // A segment has a sum, so this is never so.
+    // Where no sum is told of it, the spool isn't asked.
     let Some(sum) = stored.sum else {
-        return Err(Halt::NoMemory);
+        return serve_stored(alloc, repo, tree, stanza, order, told, info, stored);
     };
     match take_ahead(alloc, spool, tree, stanza, segment, &sum, order.inside) {
-        Ok(true) => return Ok(Some(stored)),
-        Ok(false) => {}
-        Err(halt) => return Err(halt),
-    }
-    match get_file(alloc, repo, tree, stanza, order, told, info) {
-        Ok(Outcome::Finished { .. }) => Ok(Some(stored)),
-        Ok(_) => Ok(None),
+        Ok(true) => Ok(Some(stored)),
+        Ok(false) => serve_stored(alloc, repo, tree, stanza, order, told, info, stored),
         Err(halt) => Err(halt),
     }
 }
