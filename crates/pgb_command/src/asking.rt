@@ -4,7 +4,7 @@ ghost use Rattle.pgb_options.specs.Commands.{IsCommand};
 ghost use Rattle.pgb_options.specs.Filled.{or_else};
 ghost use Rattle.pgb_table.specs.Values.{is_stanza};
 ghost use Rattle.pgb_options.specs.Settings.{Settled};
-ghost use Rattle.pgb_command.specs.Asked.{request_by, backup_by, push_by, get_by, expires_by, restore_by, recovery_for, first_of, second_of, requested, IsAsked};
+ghost use Rattle.pgb_command.specs.Asked.{request_by, backup_by, push_by, get_by, fetch_ahead, fetching_by, expires_by, restore_by, recovery_for, first_of, second_of, requested, IsAsked};
 ghost use Rattle.pgb_recover.specs.Fetching.{recovery_type};
 ghost use Rattle.pgb_command.specs.Tables.{plan_of, spool_of};
 ghost use Rattle.pgb_command.specs.Told.{request_of, asked_of, wanted_told};
@@ -92,16 +92,29 @@ fn push_request<'a>(options: &'a Options, path: &'a str) -> Request<'a>
 fn get_request<'a>(options: &'a Options, name: &'a str, path: &'a str) -> Request<'a>
     ensures { request_of result ≡ get_by (wanted_told options.now) name.now path.now }
 {
+    let spool: &str = &options.spool_path;
     let queue = options.archive_get_queue_max;
     if options.archive_async {
         return Request::ArchiveGetThrough {
             name,
             path,
-            spool: &options.spool_path,
+            spool,
             queue,
         };
     }
     Request::ArchiveGet { name, path }
+}
+
+// How the segments that follow the one of this name are to be fetched ahead.
+fn ahead_request<'a>(options: &'a Options, name: &'a str) -> Request<'a>
+    ensures { request_of result ≡ fetch_ahead name.now (fetching_by (wanted_told options.now)) }
+{
+    let spool: &str = &options.spool_path;
+    Request::ArchiveGetAsync {
+        name,
+        spool,
+        queue: options.archive_get_queue_max,
+    }
 }
 
 // How the server is to recover.
@@ -160,11 +173,10 @@ fn request_of(command: &Command) -> Result<Request<'_>, Unbuilt>
             let path = second_of(&command.given);
             Ok(get_request(&command.options, name, path))
         }
-        Verb::ArchiveGetAsync => Ok(Request::ArchiveGetAsync {
-            name: first_of(&command.given),
-            spool: &command.options.spool_path,
-            queue: command.options.archive_get_queue_max,
-        }),
+        Verb::ArchiveGetAsync => {
+            let name = first_of(&command.given);
+            Ok(ahead_request(&command.options, name))
+        }
         Verb::Backup => backup_request(&command.options),
         Verb::Restore => Ok(restore_request(&command.options)),
         Verb::Info => Ok(Request::Info {

@@ -43,14 +43,14 @@ pub(crate) fn fetch_words(
 {
     let stanza = settings.stanza;
     let folder = settings.pg1_path;
-    let repository = settings.repo1_path;
+    let place = settings.repo1_path;
     let spool = order.spool;
     let queue = order.queue;
     let mut words = Vec::new(alloc);
     words.push(String::from_str(alloc, "--no-config")?)?;
     words.push(format!(in alloc; "--stanza={stanza}")?)?;
     words.push(format!(in alloc; "--pg1-path={folder}")?)?;
-    words.push(format!(in alloc; "--repo1-path={repository}")?)?;
+    words.push(format!(in alloc; "--repo1-path={place}")?)?;
     words.push(format!(in alloc; "--spool-path={spool}")?)?;
     words.push(format!(in alloc; "--archive-get-queue-max={queue}")?)?;
     words.push(String::from_str(alloc, "archive-get:async")?)?;
