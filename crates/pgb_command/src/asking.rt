@@ -233,7 +233,8 @@ pub(crate) fn spool_of<'a>(request: &Request<'a>) -> Option<&'a str>
 {
     match request {
         Request::ArchivePushLeft { spool, .. } | Request::ArchivePushAsync { spool } => Some(spool),
-        Request::ArchiveGetThrough { spool, .. } | Request::ArchiveGetAsync { spool, .. } => Some(spool),
+        Request::ArchiveGetThrough { spool, .. } => Some(spool),
+        Request::ArchiveGetAsync { spool, .. } => Some(spool),
         _ => None,
     }
 }
