@@ -25,7 +25,7 @@ use Rattle.pgb_stage.specs.declared.halt.Halt.TheVariants.{NoMemory as HaltMemor
 use Rattle.pgb_stage.specs.Cluster.{FolderTells}
 use Rattle.pgb_stage.specs.Halts.{HaltCause}
 use Rattle.pgb_stage.specs.Reached.{reached_by}
-use Rattle.pgb_stage.specs.Runs.{Reached, stopped, Runs, DoesPart, DoesWhole, OnNone, IsLookedAt, PairAlike, SpoolGoes}
+use Rattle.pgb_stage.specs.Runs.{Reached, stopped, Runs, RunsPart, RunsWhole, DoesPart, DoesWhole, OnNone, IsLookedAt, PairAlike, SpoolGoes}
 use Rattle.pgb_stage.specs.Seen.{Seen, Failed, AreLater}
 use Rattle.pgb_stage.proofs.Besides.{still_beside}
 use Rattle.pgb_stage.proofs.Doing.{reading_does, now_told}
@@ -49,10 +49,17 @@ use Rattle.pgb_command.proofs.Rans.{ran_of, as_ran, with_request, with_folder, i
 
 reads_on : (how : Settling) (stanza : Text) (reached : Reached) (b k : Seen) → IsStill b.repo.view k.repo.view → ((whole : Bool) → SpoolGoes how stanza Reading whole b.repo.view b.spool.view k.spool.view) → Runs how stanza Reading reached b.repo.view b.spool.view k.repo.view k.spool.view
 reads_on how stanza reached b k still spool =
-    let d = reading_does how stanza reached b.repo.view k.repo.view still.time still.now in
-    let part = λ (x : DoesPart how stanza Reading b.repo.view k.repo.view). record { does = x; marks = spool false } in
-    let whole = λ (x : DoesWhole how stanza Reading b.repo.view k.repo.view). record { does = x; marks = spool true } in
-    record { part = part d.part; whole = all_as reached _ _ whole d.whole; turned = none_as reached _ _ part d.turned }
+    let d = reading_does how stanza reached b.repo.view k.repo.view still.time still.now in record {
+      part = part d.part;
+      whole = all_as reached _ _ whole d.whole;
+      turned = none_as reached _ _ part d.turned;
+    }
+  where
+    part : DoesPart how stanza Reading b.repo.view k.repo.view → RunsPart how stanza Reading b.repo.view b.spool.view k.repo.view k.spool.view
+    part x = record { does = x; marks = spool false }
+
+    whole : DoesWhole how stanza Reading b.repo.view k.repo.view → RunsWhole how stanza Reading b.repo.view b.spool.view k.repo.view k.spool.view
+    whole x = record { does = x; marks = spool true }
 
 ahead_runs : (how : Settling) (stanza : Text) (command : Command) (reached : Reached) (b k : Seen) → command ≡ Reading → IsStill b.repo.view k.repo.view → ((whole : Bool) → SpoolGoes how stanza Reading whole b.repo.view b.spool.view k.spool.view) → Runs how stanza command reached b.repo.view b.spool.view k.repo.view k.spool.view
 ahead_runs how stanza command reached b k is still spool = subst (λ (c : Command). Runs how stanza c reached b.repo.view b.spool.view k.repo.view k.spool.view) (sym is) (reads_on how stanza reached b k still spool)
