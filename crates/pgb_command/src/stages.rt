@@ -55,7 +55,7 @@ impl<
         ensures read { Between ⟦<Self as Told>⟧.told AreRead self.old self.new }
         ensures places { Between ⟦<Self as Told>⟧.told (OpensPlaces (asked_of settings.now)) self.old self.new }
         ensures opened { AtOk ⟦<Self as Told>⟧.told (ArePlacesOpened (asked_of settings.now)) self.old self.new result }
-        ensures cause { IfErr result (HaltCause Never (Between ⟦<Self as Told>⟧.told Failed self.old self.new)) }
+        ensures cause { IfErr result (HaltCause Never (OnTold ⟦<Self as Told>⟧.told Failed self.old self.new)) }
         ensures rest { self.new ≡ record self.old {
           repo = self.new.repo;
           spool = self.new.spool;
