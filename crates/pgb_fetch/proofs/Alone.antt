@@ -30,7 +30,7 @@ use Rattle.pgb_stored.proofs.Looked.{with_front}
 use Rattle.pgb_archive.proofs.Got.{same_place}
 use Rattle.pgb_stage.specs.Current.{id_kept}
 use Rattle.pgb_stage.proofs.Places.{place_of}
-use Rattle.pgb_get.specs.Getting.{IsFound, IsPut, IsServed, IsWanted, Serves, ServesArchived, served_path}
+use Rattle.pgb_get.specs.Getting.{IsFound, IsPut, IsWanted, Serves, ServesArchived, served_path}
 use Rattle.pgb_get.specs.Looking.{IsKeptAs}
 use Rattle.pgb_get.specs.Serving.{AreStoredAt}
 use Rattle.pgb_get.proofs.Archived.{serves_archived}

@@ -1,5 +1,5 @@
 -- Why a segment isn't served is why one of the calls for it stops.
-use Rattle.std.proofs.Common.{◌≡◌, Option, Some, None, Result, Ok, Err, IfErr, sym, subst}
+use Rattle.std.proofs.Common.{Option}
 use Rattle.pgb_outside.specs.Content.{Content}
 use Rattle.pgb_outside.specs.Tree.{Nodes}
 use Rattle.pgb_model.specs.declared.wal.ArchiveName.{ArchiveName}

@@ -1,13 +1,16 @@
 -- A segment is served from the spool, or else from the repository behind the calls before.
-use Rattle.std.proofs.Common.{◌≡◌, ◌≤◌, inl, inr, Option, Some, None, Result, Ok, Err, IfOk, IfErr, refl, sym, ◌∙◌, subst, arith}
-use Rattle.std.specs.Prelude.{IfSome, IsSome}
+use Rattle.std.proofs.Common.{◌≡◌, [], Option, Some, None, Result, Ok, Err, IfOk, IfErr, refl, sym, ◌∙◌, subst}
+use Rattle.std.specs.List.{starts_with}
+use Rattle.std.specs.Prelude.{IfSome, IsSome, nat_eq}
 use Rattle.std.proofs.lemmas.Result.{IfOk-weaker}
-use Rattle.pgb_outside.specs.Cause.{Rises}
-use Rattle.pgb_outside.specs.Content.{Content}
+use Rattle.pgb_text.specs.declared.sum.Sum.{Sum}
+use Rattle.pgb_outside.specs.Content.{Content, at}
 use Rattle.pgb_outside.specs.Crash.{Leaves}
 use Rattle.pgb_outside.specs.Moments.{View, Rests}
 use Rattle.pgb_outside.specs.Tree.{Nodes}
 use Rattle.pgb_model.specs.declared.wal.ArchiveName.{ArchiveName}
+use Rattle.pgb_model.specs.declared.wal.ArchiveName.TheVariants.{Segment as Whole}
+use Rattle.pgb_model.specs.declared.wal.Segment.{Segment}
 use Rattle.pgb_model.specs.Now.{NowStands}
 use Rattle.pgb_model.specs.Repository.{Stanza}
 use Rattle.pgb_model.specs.Text.{Text}
@@ -26,7 +29,8 @@ use Rattle.pgb_stage.specs.Runs.{OnNone, PairAlike}
 use Rattle.pgb_get.specs.declared.fault.GetFault.{GetFault}
 use Rattle.pgb_get.specs.Getting.{GetCause, ChangesPath, get_early}
 use Rattle.pgb_get.specs.Looking.{IsKeptAs, IsLookedUp}
-use Rattle.pgb_get.proofs.Folders.{changes_as}
+use Rattle.pgb_ahead.specs.Names.{ahead_front, ahead_name, ChangesWithin}
+use Rattle.pgb_ahead.specs.Taking.{LacksSum}
 use Rattle.pgb_ahead.proofs.Halted.{halts_as}
 use Rattle.pgb_fetch.specs.Getting.{GetAheadCause, GivenAs, IsServedBySum, LacksFetched, NoTwins, ServedAs, StillFolder}
 use Rattle.pgb_fetch.proofs.Handed.{get_fails}
@@ -35,6 +39,28 @@ use Rattle.pgb_fetch.proofs.Handed.{get_fails}
 
 pub kept_as : (stanza : Text) (told : Control) (name : ArchiveName) (o : Option Content) (r : Option Stored) (file : Stored) → r ≡ Some file → IsLookedUp stanza told name r o → IsKeptAs stanza told name file o
 kept_as stanza told name o r file is h = subst (λ (x : Option Stored). IsLookedUp stanza told name x o) is h
+
+module _ (stanza : Text) (told : Control) (segment : Segment) (name : ArchiveName) (whole : name ≡ Whole segment) (repo spool : Option Content) (file : Stored) where
+  lacks_as : IsKeptAs stanza told name file repo → IfSome file.sum (λ sum. LacksSum spool (ahead_name stanza segment sum.0) sum.0) → LacksFetched stanza told name repo spool
+  lacks_as kept lacks = subst (λ (n : ArchiveName). LacksFetched stanza told n repo spool) (sym whole) (file, subst (λ (n : ArchiveName). IsKeptAs stanza told n file repo) whole kept, lacks)
+
+  -- no sum is told of it
+  pub lacks_unsummed : file.sum ≡ None → IsKeptAs stanza told name file repo → LacksFetched stanza told name repo spool
+  lacks_unsummed is kept = lacks_as kept (subst (λ (s : Option Sum). IfSome s (λ sum. LacksSum spool (ahead_name stanza segment sum.0) sum.0)) (sym is) tt)
+
+  -- the spool hasn't the sum that is told
+  pub lacks_sum : (x : Sum) → file.sum ≡ Some x → IsKeptAs stanza told name file repo → LacksSum spool (ahead_name stanza segment x.0) x.0 → LacksFetched stanza told name repo spool
+  lacks_sum x is kept lacks = lacks_as kept (subst (λ (s : Option Sum). IfSome s (λ sum. LacksSum spool (ahead_name stanza segment sum.0) sum.0)) (sym is) lacks)
+
+-- ---- what the spool holds is told as before
+
+told_at : (o p : Option Content) → IsSome o → at [] p ≡ at [] o → IsSome p
+told_at None p some same = cc
+told_at (Some f) None some same = cc
+told_at (Some f) (Some h) some same = refl
+
+pub told_within : (stanza : Text) (segment : Segment) (a b : View) → ChangesWithin (λ n. starts_with nat_eq n (ahead_front stanza segment)) a b → IsSome a.now → IsSome b.now
+told_within stanza segment a b only some = told_at a.now b.now some (only.now [] refl)
 
 -- ---- the data folder is as it was
 

@@ -1,26 +1,25 @@
 -- A segment is found by the sum that the repository's name tells.
-use Rattle.std.proofs.Common.{◌≡◌, ◌⊎◌, ℕ, Option, Some, None, refl, ap, ◌∙◌, sym, subst}
-use Rattle.std.specs.Prelude.{IfSome, IsSome, IsSomeAnd, option_map, string_bytes, length}
+use Rattle.std.proofs.Common.{◌≡◌, Option, Some, None, sym, subst}
+use Rattle.std.specs.Prelude.{IfSome}
 use Rattle.sha1.specs.Sha1.{sha1}
-use Rattle.pgb_text.specs.Sum.{IsSum}
 use Rattle.pgb_text.specs.declared.sum.Sum.{Sum}
 use Rattle.pgb_outside.specs.Content.{Content}
 use Rattle.pgb_outside.specs.Tree.{Nodes}
-use Rattle.pgb_model.specs.declared.wal.ArchiveId.{ArchiveId}
 use Rattle.pgb_model.specs.declared.wal.ArchiveName.{ArchiveName}
 use Rattle.pgb_model.specs.declared.wal.ArchiveName.TheVariants.{Segment as Whole}
 use Rattle.pgb_model.specs.declared.wal.Segment.{Segment}
 use Rattle.pgb_model.specs.Text.{Text}
 use Rattle.pgb_stanza.specs.declared.control.Control.{Control}
 use Rattle.pgb_stored.specs.declared.files.Stored.{Stored}
-use Rattle.pgb_stored.specs.Causes.{StoresBytes}
-use Rattle.pgb_stored.specs.Stored.{Finds, StoresOnly, archive_path, told_sum}
+use Rattle.pgb_stored.specs.Stored.{StoresOnly}
 use Rattle.pgb_stage.specs.Cluster.{FolderTells}
 use Rattle.pgb_stage.specs.Current.{id_kept}
-use Rattle.pgb_get.specs.Getting.{AreWords, FoundIn, IsAbsent, IsFound, IsMissing, IsPut, IsServed, IsWanted, Serves, served_path}
-use Rattle.pgb_get.specs.Looking.{IsKeptAs, KeptIn}
+use Rattle.pgb_get.specs.Getting.{AreWords, ChangesPath, IsAbsent, IsFound, IsMissing, IsPut, IsServed, IsWanted, Serves, served_path}
+use Rattle.pgb_get.specs.Looking.{IsKeptAs}
+use Rattle.pgb_get.specs.Serving.{AreStoredAt}
+use Rattle.pgb_get.proofs.Folders.{changes_as}
 use Rattle.pgb_ahead.proofs.Fetched.{told_only}
-use Rattle.pgb_fetch.specs.Getting.{HasSumIn, IsFoundBySum, IsServedBySum, ServesBySum}
+use Rattle.pgb_fetch.specs.Getting.{IsFoundBySum, IsServedBySum, ServesBySum}
 
 -- ---- the highest id that has it
 
@@ -74,3 +73,9 @@ module _ (stanza folder word path : Text) (nodes : Option Nodes) (name : Archive
 
     pub taken_by : (below : Text) → below ≡ served_path folder path → (now_nodes : Option Nodes) (bytes : Text) → sha1 bytes ≡ s.0 → IfSome now_nodes (IsPut below bytes) → ServesBySum stanza folder word path o nodes now_nodes
     taken_by below at now_nodes bytes digest there = (bytes, summed_by bytes digest, subst (λ (p : Text). IfSome now_nodes (IsPut p bytes)) at there)
+
+    pub taken_changes : (below : Text) → below ≡ served_path folder path → (now_nodes : Option Nodes) (spool : Option Content) (name : Text) → ChangesPath below (AreStoredAt spool name s.0) nodes now_nodes
+        → ChangesPath (served_path folder path) (IsServedBySum stanza folder word path o nodes) nodes now_nodes
+    taken_changes below at now_nodes spool name h =
+        changes_as (served_path folder path) (AreStoredAt spool name s.0) (IsServedBySum stanza folder word path o nodes) nodes now_nodes (λ bytes there. summed_by bytes there.1)
+        (subst (λ (p : Text). ChangesPath p (AreStoredAt spool name s.0) nodes now_nodes) at h)
