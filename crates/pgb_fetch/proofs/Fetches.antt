@@ -1,18 +1,12 @@
 -- What follows a stored segment is fetched.
-use Rattle.std.proofs.Common.{◌≡◌, inl, inr, ℕ, Option, Some, None, Result, Ok, Err, IfErr, IfOk, refl, sym, ◌∙◌, subst}
-use Rattle.std.specs.Prelude.{IfSome}
+use Rattle.std.proofs.Common.{◌≡◌, inr, ℕ, Option, subst}
 use Rattle.pgb_outside.specs.Content.{Content}
 use Rattle.pgb_model.specs.declared.wal.ArchiveName.TheVariants.{Segment as Whole}
 use Rattle.pgb_model.specs.declared.wal.Segment.{Segment}
 use Rattle.pgb_model.specs.Text.{Text}
 use Rattle.pgb_stanza.specs.declared.control.Control.{Control}
 use Rattle.pgb_stored.specs.declared.files.Stored.{Stored}
-use Rattle.pgb_stage.specs.declared.object.Object.{Object}
-use Rattle.pgb_stage.specs.declared.halt.Halt.{Halt}
-use Rattle.pgb_stage.specs.declared.halt.Halt.TheVariants.{Refused, Failed, NoMemory}
-use Rattle.pgb_stage.specs.Halts.{HaltCause}
 use Rattle.pgb_get.specs.declared.fault.GetFault.{GetFault}
-use Rattle.pgb_get.specs.Getting.{FetchCause}
 use Rattle.pgb_get.specs.Looking.{IsKeptAs}
 use Rattle.pgb_ahead.specs.Fetching.{AheadCause, most_ahead}
 use Rattle.pgb_fetch.specs.Behind.{BehindCause, FetchesBehind}
@@ -22,8 +16,5 @@ pub behind_as : (stanza : Text) (segment : Segment) (file : Stored) (queue : ℕ
 behind_as stanza segment file queue o mid spool new same h = subst (λ (x : Option Content). FetchesBehind stanza segment file queue x spool new) same h
 
 module _ (stanza : Text) (told : Control) (segment : Segment) (queue : ℕ) (o : Option Content) where
-  pub found_behind : (fault : GetFault) → FetchCause stanza told (Whole segment) o fault → BehindCause stanza told segment queue o fault
-  found_behind fault h = inl h
-
   pub ahead_behind : (file : Stored) → IsKeptAs stanza told (Whole segment) file o → (mid : Option Content) → mid ≡ o → (fault : GetFault) → AheadCause stanza file.id segment file.size (most_ahead file.size queue) mid fault → BehindCause stanza told segment queue o fault
   ahead_behind file kept mid same fault h = inr (file, kept, subst (λ (x : Option Content). AheadCause stanza file.id segment file.size (most_ahead file.size queue) x fault) same h)

@@ -68,7 +68,7 @@ GotAhead stanza folder word path repo nodes now_nodes (Absent name) =
     (string_bytes name ≡ word) × IsMissing stanza folder word path repo nodes
 GotAhead stanza folder word path repo nodes now_nodes (FindingsFound lines count) = ⊥
 
--- the same of a size, where the file was served
+-- the same of where the file is stored
 abbrev pub ServedAs : Text → Text → Text → Text → Option Content → Option Nodes → Option Nodes → Option Stored → Type 0
 ServedAs stanza folder word path repo nodes now_nodes (Some file) =
     ServesBySum stanza folder word path repo nodes now_nodes

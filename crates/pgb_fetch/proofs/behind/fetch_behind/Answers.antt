@@ -1,4 +1,4 @@
-use Rattle.std.proofs.Common.{rules, arith, ◌≡◌, inl, refl}
+use Rattle.std.proofs.Common.{rules, arith, inl, refl}
 use Rattle.pgb_outside.specs.Cause.{Rises}
 use Rattle.pgb_model.specs.declared.wal.ArchiveName.TheVariants.{Segment as Whole}
 use Rattle.pgb_ahead.specs.Fetching.{most_ahead, AheadCause}
