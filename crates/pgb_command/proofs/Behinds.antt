@@ -1,12 +1,11 @@
 -- What a backup did with the expiry that follows it, told of all objects.
-use Rattle.std.proofs.Common.{◌≡◌, ◌∷◌, List, Option, Some, None, Result, Ok, Err, IfOk, IfErr, refl, sym, subst, ap, ◌∙◌, arith, Bool, true, false}
-use Rattle.std.specs.Prelude.{ℕ, ◌≤◌, [], take, String, string_bytes, IfSome, IsErrAnd, IsSome, IsSomeAnd, OnOk}
+use Rattle.std.proofs.Common.{◌≡◌, ◌∷◌, List, Option, Some, None, Result, Ok, Err, IfErr, refl, sym, subst, ◌∙◌, arith, Bool, true, false}
+use Rattle.std.specs.Prelude.{ℕ, ◌≤◌, [], take, String, string_bytes, IfSome, IsErrAnd, IsSomeAnd}
 use Rattle.std.specs.declared.alloc.Global.{Global}
 use Rattle.pgb_outside.specs.Content.{Content}
 use Rattle.pgb_outside.specs.Links.{LinkState}
 use Rattle.pgb_outside.specs.Moments.{View}
 use Rattle.pgb_outside.specs.States.{ClockState, WireState}
-use Rattle.pgb_outside.specs.Tree.{Nodes}
 use Rattle.pgb_turn.specs.Turns.{Account, OthersState, Turned}
 use Rattle.pgb_await.specs.Went.{turns_of}
 use Rattle.pgb_model.specs.declared.labels.Kind.{Kind}
@@ -46,7 +45,7 @@ use Rattle.pgb_command.specs.declared.fault.CommandFault.{CommandFault}
 use Rattle.pgb_command.specs.declared.fault.CommandFault.TheVariants as commands
 use Rattle.pgb_command.specs.declared.fault.Fault.{Fault}
 use Rattle.pgb_command.specs.declared.fault.Fault.TheVariants.{Usage, Stage, Command as OfCommand, Behind, Failed as ObjectFailed, NoMemory}
-use Rattle.pgb_command.specs.Answers.{status, reached_of, ending_of, is_early}
+use Rattle.pgb_command.specs.Answers.{reached_of, ending_of, is_early}
 use Rattle.pgb_command.specs.Asked.{Request, create, push, leave, drain, get, get_through, fetch_ahead, backup, backup_running, restore, report, examine, expire, rehearse, BackupHow, RunningHow, Asked, behind_backup, alone}
 use Rattle.pgb_command.specs.Tables.{Known, known, plan_of, manner_of, ByOrder, OnCluster, TurnsTold, TellsLabel, IsRunningOf, heard_by, AsksBackup, WithExpiry, FolderGoes, OthersGo, CommandCause, OnBackup}
 use Rattle.pgb_command.specs.Did.{SamePlaces, Closes, OwnCause, Spares, Ran, Followed}

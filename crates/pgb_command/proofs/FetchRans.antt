@@ -1,6 +1,6 @@
 -- What was done by a command that serves segments through the spool, told of all objects.
 use Rattle.std.proofs.Common.{◌≡◌, inl, inr, Bool, true, false, List, [], Option, Some, None, Result, Ok, Err, IfOk, IfErr, refl, sym, subst, ap, arith}
-use Rattle.std.specs.Prelude.{ℕ, IfSome, IsSome, OnOk, IsErrAnd}
+use Rattle.std.specs.Prelude.{ℕ, IfSome, IsSome, IsErrAnd}
 use Rattle.pgb_outside.specs.Content.{Content, at}
 use Rattle.pgb_outside.specs.Crash.{Leaves}
 use Rattle.pgb_outside.specs.Moments.{View}

@@ -1,10 +1,9 @@
 -- A file that was left to a drain, told of all objects.
-use Rattle.std.proofs.Common.{◌≡◌, ◌⊎◌, ⊎_elim, inl, inr, Bool, true, false, List, [], Option, Some, None, Result, Ok, Err, IfOk, IfErr, refl, sym, subst, ap, ◌∙◌}
-use Rattle.std.specs.Prelude.{String, IfSome, IsSome, IsSomeAnd, OnOk, IsErrAnd, option_map, string_bytes}
+use Rattle.std.proofs.Common.{◌≡◌, ⊎_elim, inl, inr, Bool, true, false, List, [], Option, Some, None, Result, Ok, Err, IfOk, IfErr, refl, sym, subst, ap, ◌∙◌}
+use Rattle.std.specs.Prelude.{String, IfSome, IsSome, IsSomeAnd, OnOk, option_map, string_bytes}
 use Rattle.std.specs.declared.alloc.Global.{Global}
 use Rattle.sha1.specs.Sha1.{sha1}
 use Rattle.pgb_outside.specs.Content.{Content}
-use Rattle.pgb_outside.specs.Moments.{View}
 use Rattle.pgb_outside.specs.Tree.{Nodes}
 use Rattle.pgb_model.specs.declared.wal.ArchiveName.{ArchiveName}
 use Rattle.pgb_model.specs.Log.{Done, HasReceipt, Keeps}
@@ -43,7 +42,7 @@ use Rattle.pgb_command.specs.declared.order.Order.{Order}
 use Rattle.pgb_command.specs.declared.order.LeaveOrder.{LeaveOrder}
 use Rattle.pgb_command.specs.declared.order.Course.{Course}
 use Rattle.pgb_command.specs.declared.order.Course.TheVariants.{Staged, Left}
-use Rattle.pgb_command.specs.Answers.{ending_of, reached_of, status}
+use Rattle.pgb_command.specs.Answers.{ending_of, reached_of}
 use Rattle.pgb_command.specs.Asked.{Request, create, push, leave, drain, get, get_through, fetch_ahead, backup, backup_running, restore, report, examine, expire, rehearse, LeaveHow, Asked, drain_words}
 use Rattle.pgb_command.specs.Faults.{of_leave, lift}
 use Rattle.pgb_command.specs.Tables.{known, heard_for, plan_of, uses_spool}

@@ -1,5 +1,5 @@
-use Rattle.std.proofs.Common.{◌≡◌, ℕ, IfOk, IfErr, refl, ap, arith, subst}
-use Rattle.pgb_stage.specs.Plans.{AreHeld, archive_lock, backup_lock}
+use Rattle.std.proofs.Common.{ℕ, IfOk, IfErr, refl, ap, arith, subst}
+use Rattle.pgb_stage.specs.Plans.{AreHeld}
 use Rattle.pgb_stage.specs.declared.plan.Settling.TheVariants.{Whole}
 use Rattle.pgb_stage.specs.Halts.{HaltCause}
 use Rattle.pgb_stage.specs.Reached.{reached_by}
