@@ -54,9 +54,14 @@ pub(crate) fn repository(alloc: Global, segments: &[(u32, &[u8])]) -> Result<Mem
     Ok(MemDisk::new(alloc, names, Vec::new(alloc))?)
 }
 
-/// A data folder with the folder of its log alone. The calls of these numbers fail.
-pub(crate) fn folder(alloc: Global, fail: Vec<u64>) -> Result<MemTree, TreeFault> {
+// The folder of a log, as a node.
+fn nodes(alloc: Global) -> Result<Vec<(String, MemNode)>, AllocError> {
     let mut nodes = Vec::new(alloc);
     nodes.push((String::from_str(alloc, "pg_wal")?, MemNode::Folder))?;
-    MemTree::new(alloc, nodes, fail)
+    Ok(nodes)
+}
+
+/// A data folder with the folder of its log alone. The calls of these numbers fail.
+pub(crate) fn folder(alloc: Global, fail: Vec<u64>) -> Result<MemTree, TreeFault> {
+    MemTree::new(alloc, nodes(alloc)?, fail)
 }
