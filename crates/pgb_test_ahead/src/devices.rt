@@ -1,6 +1,8 @@
 // Devices in memory: a repository with segments, a spool, and an empty data folder.
+ghost use Rattle.std.specs.Prelude.{◌≡◌};
+
 use pgb_memory::{MemDisk, MemNode, MemTree, TreeFault};
-use pgb_model::{ArchiveId, SegSize, Segment};
+use pgb_model::{ArchiveId, Segment};
 use pgb_text::{NoMemory, Sum};
 use std::alloc::{AllocError, Global};
 
@@ -9,9 +11,10 @@ pub(crate) const ID: ArchiveId = ArchiveId {
     number: 1,
 };
 
-pub(crate) const SIZE: SegSize = SegSize(1 << 20);
-
-pub(crate) const fn segment(seg: u32) -> Segment {
+/// The segment of this number in the first log.
+pub(crate) const fn segment(seg: u32) -> Segment
+    ensures { result.seg ≡ seg }
+{
     Segment {
         timeline: 1,
         log: 0,

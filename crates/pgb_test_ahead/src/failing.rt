@@ -1,7 +1,8 @@
 // A fetch of which each call of each device fails.
-use crate::devices::{ID, SIZE, disk, folder, segment, stored};
+use crate::behind::fetch_behind;
+use crate::devices::{disk, folder, segment, stored};
 use crate::same::{same, well};
-use pgb_ahead::{fetch_ahead, take_ahead};
+use pgb_ahead::take_ahead;
 use pgb_text::Sum;
 use std::alloc::{AllocError, Global};
 use std::process::Abort;
@@ -27,16 +28,7 @@ fn check_failing(rt: &impl Abort, alloc: Global, repo: u64, spool: u64, tree: u6
         disk(alloc, Vec::new(alloc), well(rt, only(alloc, spool))),
     );
     let mut tree = well(rt, folder(alloc, well(rt, only(alloc, tree))));
-    let fetched = fetch_ahead(
-        alloc,
-        &mut repo,
-        &mut spool,
-        "main",
-        &ID,
-        &segment(2),
-        SIZE,
-        1048576,
-    );
+    let fetched = fetch_behind(rt, alloc, &mut repo, &mut spool, 2, 1048576);
     same(
         rt,
         fetched.is_ok(),

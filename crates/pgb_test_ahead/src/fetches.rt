@@ -1,7 +1,8 @@
 // What fetching ahead leaves in the spool.
-use crate::devices::{ID, SIZE, disk, fetched, repository, segment, stored};
+use crate::behind::fetch_behind;
+use crate::devices::{disk, fetched, repository, segment, stored};
 use crate::same::{same, well};
-use pgb_ahead::{fetch_ahead, has_ahead};
+use pgb_ahead::has_ahead;
 use pgb_get::GetFault;
 use pgb_memory::MemDisk;
 use pgb_stage::Halt;
@@ -22,16 +23,7 @@ fn fetch(rt: &impl Abort, alloc: Global, after: u32, queue: u64) -> (u64, MemDis
         )),
     );
     let mut spool = well(rt, disk(alloc, old, Vec::new(alloc)));
-    let done = fetch_ahead(
-        alloc,
-        &mut repo,
-        &mut spool,
-        "main",
-        &ID,
-        &segment(after),
-        SIZE,
-        queue,
-    );
+    let done = fetch_behind(rt, alloc, &mut repo, &mut spool, after, queue);
     (well(rt, done), spool)
 }
 
@@ -72,16 +64,7 @@ fn a_damaged_segment_is_not_fetched(rt: HostRuntime) {
     );
     let mut repo = well(&rt, disk(alloc, names, Vec::new(alloc)));
     let mut spool = well(&rt, disk(alloc, Vec::new(alloc), Vec::new(alloc)));
-    let done = fetch_ahead(
-        alloc,
-        &mut repo,
-        &mut spool,
-        "main",
-        &ID,
-        &segment(2),
-        SIZE,
-        1048576,
-    );
+    let done = fetch_behind(&rt, alloc, &mut repo, &mut spool, 2, 1048576);
     let damaged = matches!(done, Err(Halt::Refused(GetFault::SegmentDamaged { .. })));
     same(&rt, damaged, true);
 }
