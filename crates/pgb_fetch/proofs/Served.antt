@@ -47,6 +47,15 @@ module _ (stanza : Text) (told : Control) (segment : Segment) (name : ArchiveNam
   pub lacks_sum : (x : Sum) → file.sum ≡ Some x → IsKeptAs stanza told name file repo → LacksSum spool (ahead_name stanza segment x.0) x.0 → LacksFetched stanza told name repo spool
   lacks_sum x is kept lacks = lacks_as kept (subst (λ (s : Option Sum). IfSome s (λ sum. LacksSum spool (ahead_name stanza segment sum.0) sum.0)) (sym is) lacks)
 
+-- a call that hands the file on
+module _ (stanza : Text) (told : Control) (name : ArchiveName) (repo : Option Content) (file : Stored) (kept : IsKeptAs stanza told name file repo) where
+  same_kept : (x : Option Stored) → IfSome x (λ s. s ≡ file) → IfSome x (λ s. IsKeptAs stanza told name s repo)
+  same_kept None h = tt
+  same_kept (Some s) h = subst (λ (y : Stored). IsKeptAs stanza told name y repo) (sym h) kept
+
+  pub kept_behind : (r : Result (Option Stored) (Halt GetFault)) → IfOk r (λ x. IfSome x (λ s. s ≡ file)) → IfOk r (λ x. IfSome x (λ s. IsKeptAs stanza told name s repo))
+  kept_behind r h = IfOk-weaker r _ _ same_kept h
+
 -- ---- what the spool holds is told as before
 
 told_at : (o p : Option Content) → IsSome o → at [] p ≡ at [] o → IsSome p

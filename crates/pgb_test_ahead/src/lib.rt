@@ -10,6 +10,8 @@ mod failing;
 #[cfg(test)]
 mod fetches;
 #[cfg(test)]
+mod orders;
+#[cfg(test)]
 mod same;
 #[cfg(test)]
 mod takes;

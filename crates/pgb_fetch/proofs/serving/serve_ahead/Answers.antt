@@ -10,7 +10,7 @@ use Rattle.pgb_get.proofs.Left.{pair_left}
 use Rattle.pgb_ahead.specs.Names.{ahead_name}
 use Rattle.pgb_ahead.specs.Taking.{TakesAt}
 use Rattle.pgb_fetch.proofs.Alone.{twin_served}
-use Rattle.pgb_fetch.proofs.Served.{fails_behind, kept_as, lacks_sum, lacks_unsummed, lasts_behind, told_within}
+use Rattle.pgb_fetch.proofs.Served.{fails_behind, kept_as, kept_behind, lacks_sum, lacks_unsummed, lasts_behind, told_within}
 use Rattle.pgb_fetch.proofs.Summed.{missing_by, taken_by, taken_changes, wanted_by}
 use Rattle.pgb_fetch.proofs.serving.serve_ahead.Goals as goal
 
@@ -38,6 +38,24 @@ returns-in-Ok-None-clause-given g c = λ s some some_spool now alone.
     (subst (λ (r : Option Stored). IsLookedUp stanza told o.name r repo) c.in-Ok-None.field-0-is (c.in-Ok-None.ensures.finds repo (inl refl) c.requires.pair)))
 
 -- ---- no sum is told of it
+
+pub returns-in_default-clause-kept : goal.returns-in_default-clause-kept
+returns-in_default-clause-kept g c =
+    let o = c.args.order.now in
+    let stanza = c.args.stanza.now in
+    let told = c.args.told.now in
+    let repo = (g.D.Disk.state c.args.repo.now).view.now in
+    let file = c.in-Ok-Some.stored in
+    let kept = kept_as stanza told o.name repo c.in-Ok-Some.field-0 file c.in-Ok-Some.field-0-is (c.in-Ok-Some.ensures.finds repo (inl refl) c.requires.pair) in
+    kept_behind stanza told o.name repo file kept c.serve_stored.result c.serve_stored.ensures.same
+
+pub returns-in_default-clause-lasts : goal.returns-in_default-clause-lasts
+returns-in_default-clause-lasts g c =
+    let o = c.args.order.now in
+    let nodes = (g.T.Tree.state c.args.tree.now).nodes in
+    let looks = c.find_file.ensures.looks in
+    lasts_behind c.args.stanza.now o.folder.now o.word.now o.path.now c.serve_stored.result (g.D.Disk.state c.args.repo.now).view (g.D.Disk.state c.find_file.new.repo).view looks.time looks.now nodes nodes (g.T.Tree.state c.serve_stored.new.tree).nodes refl
+    (g.D.Disk.state c.serve_stored.new.repo).view c.serve_stored.ensures.lasts
 
 pub returns-in_default-clause-cause : goal.returns-in_default-clause-cause
 returns-in_default-clause-cause g c =
@@ -72,6 +90,11 @@ returns-in-Ok-true-clause-serves g c =
     let summed : file.sum ≡ Some sum = search rules in
     let taken = subst (λ (b : Bool). TakesAt (Ok b) spool (ahead_name stanza c.args.segment.now sum.0) sum.0 o.inside.now nodes after) c.in-Ok-true.field-0-test c.in-Ok-true.ensures.takes in
     taken_by stanza o.folder.now o.word.now o.path.now nodes o.name told o.wanted c.requires.tells repo c.args.segment.now c.requires.whole file sum summed kept o.inside.now o.below after taken.0 taken.1.1 taken.2
+
+pub returns-in-Ok-true-clause-kept : goal.returns-in-Ok-true-clause-kept
+returns-in-Ok-true-clause-kept g c =
+    let repo = (g.D.Disk.state c.args.repo.now).view.now in
+    kept_as c.args.stanza.now c.args.told.now c.args.order.now.name repo c.in-Ok-Some.field-0 c.in-Ok-Some.stored c.in-Ok-Some.field-0-is (c.in-Ok-Some.ensures.finds repo (inl refl) c.requires.pair)
 
 pub returns-in-Ok-true-clause-lasts : goal.returns-in-Ok-true-clause-lasts
 returns-in-Ok-true-clause-lasts g c = λ tight some alike f leaves.
@@ -125,6 +148,16 @@ returns-in-Ok-true-clause-changes g c =
     taken_changes stanza o.folder.now o.word.now o.path.now nodes o.name told o.wanted c.requires.tells repo c.args.segment.now c.requires.whole file sum summed kept o.inside.now o.below _ spool (ahead_name stanza c.args.segment.now sum.0) c.take_ahead.ensures.changes
 
 -- ---- the spool hasn't it
+
+pub returns-in-Ok-false-clause-kept : goal.returns-in-Ok-false-clause-kept
+returns-in-Ok-false-clause-kept g c =
+    let o = c.args.order.now in
+    let stanza = c.args.stanza.now in
+    let told = c.args.told.now in
+    let repo = (g.D.Disk.state c.args.repo.now).view.now in
+    let file = c.in-Ok-Some.stored in
+    let kept = kept_as stanza told o.name repo c.in-Ok-Some.field-0 file c.in-Ok-Some.field-0-is (c.in-Ok-Some.ensures.finds repo (inl refl) c.requires.pair) in
+    kept_behind stanza told o.name repo file kept c.serve_stored-in-Ok-false.result c.serve_stored-in-Ok-false.ensures.same
 
 pub returns-in-Ok-false-clause-lasts : goal.returns-in-Ok-false-clause-lasts
 returns-in-Ok-false-clause-lasts g c =
