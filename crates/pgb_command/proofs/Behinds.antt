@@ -1,12 +1,11 @@
 -- What a backup did with the expiry that follows it, told of all objects.
-use Rattle.std.proofs.Common.{◌≡◌, ◌∷◌, List, Option, Some, None, Result, Ok, Err, IfOk, IfErr, refl, sym, subst, ap, ◌∙◌, arith, Bool, true, false}
-use Rattle.std.specs.Prelude.{ℕ, ◌≤◌, [], take, String, string_bytes, IfSome, IsErrAnd, IsSome, IsSomeAnd, OnOk}
+use Rattle.std.proofs.Common.{◌≡◌, ◌∷◌, List, Option, Some, None, Result, Ok, Err, IfErr, refl, sym, subst, ◌∙◌, arith, Bool, true, false}
+use Rattle.std.specs.Prelude.{ℕ, ◌≤◌, [], take, String, string_bytes, IfSome, IsErrAnd, IsSomeAnd}
 use Rattle.std.specs.declared.alloc.Global.{Global}
 use Rattle.pgb_outside.specs.Content.{Content}
 use Rattle.pgb_outside.specs.Links.{LinkState}
 use Rattle.pgb_outside.specs.Moments.{View}
 use Rattle.pgb_outside.specs.States.{ClockState, WireState}
-use Rattle.pgb_outside.specs.Tree.{Nodes}
 use Rattle.pgb_turn.specs.Turns.{Account, OthersState, Turned}
 use Rattle.pgb_await.specs.Went.{turns_of}
 use Rattle.pgb_model.specs.declared.labels.Kind.{Kind}
@@ -46,9 +45,9 @@ use Rattle.pgb_command.specs.declared.fault.CommandFault.{CommandFault}
 use Rattle.pgb_command.specs.declared.fault.CommandFault.TheVariants as commands
 use Rattle.pgb_command.specs.declared.fault.Fault.{Fault}
 use Rattle.pgb_command.specs.declared.fault.Fault.TheVariants.{Usage, Stage, Command as OfCommand, Behind, Failed as ObjectFailed, NoMemory}
-use Rattle.pgb_command.specs.Answers.{status, reached_of, ending_of, is_early}
-use Rattle.pgb_command.specs.Asked.{Request, create, push, leave, drain, get, backup, backup_running, restore, report, examine, expire, BackupHow, RunningHow, Asked, behind_backup, alone}
-use Rattle.pgb_command.specs.Tables.{Known, known, plan_of, manner_of, ByOrder, OnCluster, TurnsTold, TellsLabel, IsRunningOf, heard_by, AsksBackup, WithExpiry, FolderGoes, CommandCause, OnBackup}
+use Rattle.pgb_command.specs.Answers.{reached_of, ending_of, is_early}
+use Rattle.pgb_command.specs.Asked.{Request, create, push, leave, drain, get, get_through, fetch_ahead, backup, backup_running, restore, report, examine, expire, rehearse, BackupHow, RunningHow, Asked, behind_backup, alone}
+use Rattle.pgb_command.specs.Tables.{Known, known, plan_of, manner_of, ByOrder, OnCluster, TurnsTold, TellsLabel, IsRunningOf, heard_by, AsksBackup, WithExpiry, FolderGoes, OthersGo, CommandCause, OnBackup}
 use Rattle.pgb_command.specs.Did.{SamePlaces, Closes, OwnCause, Spares, Ran, Followed}
 use Rattle.pgb_command.proofs.Dids.{later_on}
 use Rattle.pgb_command.proofs.Ends.{expiry_as}
@@ -175,6 +174,7 @@ module _ (a : Asked) (rules : Rules) where
   full_command how old new (commands.Recover e) h = absurd h
   full_command how old new (commands.Examine e) h = absurd h
   full_command how old new (commands.Prune e) h = absurd h
+  full_command how old new (commands.Rehearse e) h = absurd h
 
   running_command : (how : RunningHow) (old new : Known) (fault : CommandFault) → CommandCause (asking a (backup_running how) None) (backup_running how) old new fault → CommandCause (asking a (backup_running how) (Some rules)) (backup_running how) old new fault
   running_command how old new (commands.Create e) h = absurd h
@@ -187,6 +187,7 @@ module _ (a : Asked) (rules : Rules) where
   running_command how old new (commands.Recover e) h = absurd h
   running_command how old new (commands.Examine e) h = absurd h
   running_command how old new (commands.Prune e) h = absurd h
+  running_command how old new (commands.Rehearse e) h = absurd h
 
   module _ (b k : Seen) where
     full_cause : (how : BackupHow) (fault : Fault) → OwnCause (asking a (backup how) None) b k fault → OwnCause (asking a (backup how) (Some rules)) b k fault
@@ -207,9 +208,10 @@ module _ (a : Asked) (rules : Rules) where
 
     -- so a backup that was refused, or failed, had no expiry
     stopped_ran : (q : Request) (fault : Fault) → (TurnsTold (asking a q (Some rules)) q (known k) → TurnsTold (asking a q None) q (known k)) → (FolderGoes (asking a q None) q (known b) k.tree.nodes → FolderGoes (asking a q (Some rules)) q (known b) k.tree.nodes)
+        → (OthersGo (asking a q None) q b.others k.others → OthersGo (asking a q (Some rules)) q b.others k.others)
         → On (manner_of (asking a q (Some rules)) q (known b) (known k)) (λ command. Runs (plan_of q).settling a.stanza command (back_if (is_early fault)) b.repo.view b.spool.view k.repo.view k.spool.view)
         → OwnCause (asking a q (Some rules)) b k fault → Ran (asking a q None) b k (Err fault) → Ran (asking a q (Some rules)) b k (Err fault)
-    stopped_ran q fault told folder steps cause h = record {
+    stopped_ran q fault told folder others steps cause h = record {
       steps = steps;
       promise = tt;
       lasts = tt;
@@ -226,7 +228,7 @@ module _ (a : Asked) (rules : Rules) where
         unmade = s.unmade;
         quiet = s.quiet;
         others = s.others;
-        waits = s.waits;
+        waits = others s.waits;
         workers = s.workers;
         clock = s.clock;
         closed = s.closed;
@@ -238,14 +240,14 @@ module _ (a : Asked) (rules : Rules) where
     full_stopped : (how : BackupHow) (fault : Fault) → Ran (asking a (backup how) None) b k (Err fault) → Ran (asking a (backup how) (Some rules)) b k (Err fault)
     full_stopped how fault h =
         let Is = IsBackupBy how.kind (take how.workers b.links) a.stanza b.repo.view.now in
-        stopped_ran (backup how) fault (λ t. t) (λ f. f)
+        stopped_ran (backup how) fault (λ t. t) (λ f. f) (λ o. o)
         (stopped_steps a.stanza rules b.clock.least Is (full_makes how.kind (take how.workers b.links) a.stanza b.repo.view.now) b.repo.view b.spool.view k.repo.view k.spool.view (back_if (is_early fault)) (back_not (is_early fault)) h.steps)
         (full_cause how fault h.cause) h
 
     running_stopped : (how : RunningHow) (fault : Fault) → Ran (asking a (backup_running how) None) b k (Err fault) → Ran (asking a (backup_running how) (Some rules)) b k (Err fault)
     running_stopped how fault h =
         let Is = IsRunningOf a how (known b) (known k) in
-        stopped_ran (backup_running how) fault (λ t. t) (λ f. f)
+        stopped_ran (backup_running how) fault (λ t. t) (λ f. f) (λ o. o)
         (λ told. stopped_steps a.stanza rules b.clock.least Is (running_makes a how (known b) (known k)) b.repo.view b.spool.view k.repo.view k.spool.view (back_if (is_early fault)) (back_not (is_early fault)) (h.steps told))
         (running_cause how fault h.cause) h
 
@@ -419,6 +421,8 @@ pub held_backup : (q : Request) (rules : Rules) (stanza : Text) (held : List Tex
 held_backup create rules stanza held at h = none_some rules at
 held_backup (push path) rules stanza held at h = none_some rules at
 held_backup (get name path) rules stanza held at h = none_some rules at
+held_backup (get_through name path how) rules stanza held at h = none_some rules at
+held_backup (fetch_ahead name how) rules stanza held at h = none_some rules at
 held_backup (backup how) rules stanza held at h = h
 held_backup (backup_running how) rules stanza held at h = h
 held_backup (restore set how) rules stanza held at h = none_some rules at
@@ -427,6 +431,7 @@ held_backup examine rules stanza held at h = none_some rules at
 held_backup (leave path how) rules stanza held at h = none_some rules at
 held_backup (drain place) rules stanza held at h = none_some rules at
 held_backup (expire other) rules stanza held at h = none_some rules at
+held_backup (rehearse how) rules stanza held at h = none_some rules at
 
 -- an expiry followed
 pub behind_ran : (a : Asked) (rules : Rules) → a.expires ≡ Some rules → behind_backup a.request a.expires ≡ a.expires → (b m k : Seen) → k.server ≡ m.server → k.others ≡ m.others → k.spool.view ≡ m.spool.view → k.tree.nodes ≡ m.tree.nodes → OnBackup a.request (b.clock.least ≤ m.clock.least) → (outcome : Outcome) (lines : String Global) → outcome ≡ Finished lines
@@ -438,6 +443,8 @@ behind_ran a rules is kept b m k server others spool nodes least outcome lines e
     go create le at x = none_some rules at
     go (push path) le at x = none_some rules at
     go (get name path) le at x = none_some rules at
+    go (get_through name path how) le at x = none_some rules at
+    go (fetch_ahead name how) le at x = none_some rules at
     go (backup how) le at x = full_followed a rules b m k server others spool nodes le how lines x r f
     go (backup_running how) le at x = running_followed a rules b m k server others spool nodes le how lines x r f
     go (restore set how) le at x = none_some rules at
@@ -446,6 +453,7 @@ behind_ran a rules is kept b m k server others spool nodes least outcome lines e
     go (leave path how) le at x = none_some rules at
     go (drain place) le at x = none_some rules at
     go (expire other) le at x = none_some rules at
+    go (rehearse how) le at x = none_some rules at
 
 -- none follows
 pub alone_ran : (a : Asked) → a.expires ≡ None → (b k : Seen) (r : Result Outcome Fault) → Ran (alone a) b k r → Ran a b k r
@@ -463,6 +471,8 @@ unfinished_ran a kept b k r not h = by a.expires refl
     back rules create at x not ran = none_some rules at
     back rules (push path) at x not ran = none_some rules at
     back rules (get name path) at x not ran = none_some rules at
+    back rules (get_through name path how) at x not ran = none_some rules at
+    back rules (fetch_ahead name how) at x not ran = none_some rules at
     back rules (backup how) at (Ok (Finished lines)) not ran = absurd not
     back rules (backup how) at (Ok (Absent name)) not ran = absurd ran.promise.2.2
     back rules (backup how) at (Ok (FindingsFound lines count)) not ran = absurd ran.promise.2.2
@@ -477,6 +487,7 @@ unfinished_ran a kept b k r not h = by a.expires refl
     back rules (leave path how) at x not ran = none_some rules at
     back rules (drain place) at x not ran = none_some rules at
     back rules (expire other) at x not ran = none_some rules at
+    back rules (rehearse how) at x not ran = none_some rules at
 
     by : (rules : Option Rules) → a.expires ≡ rules → Ran a b k r
     by None is = alone_ran a is b k r h

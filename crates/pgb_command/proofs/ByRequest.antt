@@ -1,5 +1,5 @@
 -- What is the same for every command where nothing is done: a line a command.
-use Rattle.std.proofs.Common.{◌≡◌, ◌⊎◌, ⊎_elim, inl, inr, ℕ, List, Option, Some, refl, sym, ap, ◌∙◌, subst, Bool, true, false}
+use Rattle.std.proofs.Common.{◌≡◌, ◌⊎◌, ⊎_elim, inl, inr, ℕ, List, Option, Some, refl, sym, ap, ◌∙◌, subst, arith, Bool, true, false}
 use Rattle.std.specs.Prelude.{IfSome, IsSome, IsSomeAnd, take, [], None}
 use Rattle.std.proofs.lemmas.List.{append-nil}
 use Rattle.pgb_outside.specs.Content.{Content}
@@ -24,13 +24,17 @@ use Rattle.pgb_model.specs.Values.{Manifest}
 use Rattle.pgb_restore.specs.Finished.{IsFinished}
 use Rattle.pgb_recover.specs.Fetching.{options_by}
 use Rattle.pgb_clear.specs.Clearing.{control_path, HasNone}
-use Rattle.pgb_command.specs.Asked.{Request, create, push, leave, drain, get, backup, backup_running, restore, report, examine, expire, RunningHow, Asked}
+use Rattle.pgb_command.specs.Asked.{Request, create, push, leave, drain, get, get_through, fetch_ahead, backup, backup_running, restore, report, examine, expire, rehearse, RunningHow, Asked, fetch_words}
 use Rattle.pgb_retain.specs.declared.rules.Rules.{Rules}
 use Rattle.pgb_prune.specs.Behind.{IsFollowed}
 use Rattle.pgb_command.proofs.Expiries.{some_expiry}
 use Rattle.pgb_command.proofs.Followings.{any_followed}
+use Rattle.pgb_fetch.specs.Following.{QuietOthers}
 use Rattle.pgb_leave.specs.Pushing.{IsWaitOf}
-use Rattle.pgb_command.specs.Tables.{Known, known, IsSomeDrain, WithExpiry, plan_of, spool_of, uses_spool, manner_of, OnReader, OnCreate, OnExpire, OnOther, FolderGoes, FolderStays, Unless, is_on_repository, TellsLabel}
+use Rattle.pgb_sample_folder.specs.Having.{IsEmpty}
+use Rattle.pgb_rehearse.specs.Commands.{rehearsed, keeps_one}
+use Rattle.pgb_command.specs.Told.{size_by}
+use Rattle.pgb_command.specs.Tables.{Known, known, IsSomeDrain, WithExpiry, plan_of, spool_of, uses_spool, manner_of, OnReader, OnCreate, OnExpire, OnOther, FolderGoes, FolderStays, Unless, OthersGo, is_on_repository, TellsLabel}
 
 -- no turn was taken, and the server told no label file
 pub running_idle : (stanza : Text) (how : RunningHow) (old new : Known) → new.others ≡ old.others → (account : Option Account) → new.others.account ≡ account → (P : Command → Type 0) → P (MakeBackup [] no_files None) → (told : Account → Type 0) → IsSomeAnd account told →
@@ -73,6 +77,8 @@ pub idle : (a : Asked) (request : Request) (old new : Known) → new.others ≡ 
 idle a create old new same P p = λ command is. p command
 idle a (push path) old new same P p = λ command is. p command
 idle a (get name path) old new same P p = λ command is. p command
+idle a (get_through name path how) old new same P p = λ command is. p command
+idle a (fetch_ahead name how) old new same P p = λ command is. p command
 idle a (backup how) old new same P p = let x = any_followed a.expires old.clock.least [] no_files in (x.0, (MakeBackup [] no_files None, nothing_by how.kind (take how.workers old.links) a.stanza old.repo, x.1), p x.0)
 idle a (backup_running how) old new same P p = λ there.
     let x = any_followed a.expires old.clock.least [] no_files in
@@ -84,12 +90,15 @@ idle a examine old new same P p = λ command is. p command
 idle a (leave path how) old new same P p = λ there. idle_wait old new same P p new.others.account refl (λ k. k.stanza ≡ a.stanza) there
 idle a (drain place) old new same P p = λ some. idle_drain old.nodes P p some
 idle a (expire rules) old new same P p = let x = some_expiry rules old.clock.least in (x.0, x.1, p x.0)
+idle a (rehearse how) old new same P p = (rehearsed (size_by how.number) keeps_one no_files no_files no_files, (no_files, no_files, no_files, refl), p (rehearsed (size_by how.number) keeps_one no_files no_files no_files))
 
 -- which command it is is told by what the repository held where no pair was healed, or not by that
 pub manner_at : (a : Asked) (request : Request) (old new : Known) (repo : Option Content) → Heals (plan_of request).pairs a.stanza old.repo repo → (P : Command → Type 0) → On (manner_of a request (record old { repo = repo }) new) P → On (manner_of a request old new) P
 manner_at a create old new repo heals P h = h
 manner_at a (push path) old new repo heals P h = h
 manner_at a (get name path) old new repo heals P h = h
+manner_at a (get_through name path how) old new repo heals P h = h
+manner_at a (fetch_ahead name how) old new repo heals P h = h
 manner_at a (backup how) old new repo heals P h = subst (λ (r : Option Content). On (one (WithExpiry a.expires old.clock.least (IsBackupBy how.kind (take how.workers old.links) a.stanza r))) P) heals h
 manner_at a (backup_running how) old new repo heals P h = subst (λ (r : Option Content). On (manner_of a (backup_running how) (record old { repo = r }) new) P) heals h
 manner_at a (restore set how) old new repo heals P h = h
@@ -98,12 +107,15 @@ manner_at a examine old new repo heals P h = h
 manner_at a (leave path how) old new repo heals P h = h
 manner_at a (drain place) old new repo heals P h = h
 manner_at a (expire rules) old new repo heals P h = h
+manner_at a (rehearse how) old new repo heals P h = h
 
 -- a command that opens no data folder reads no control file
 pub no_control : (request : Request) → (plan_of request).folder ≡ false → (plan_of request).control ≡ false
 no_control create is = cc is
 no_control (push path) is = cc is
 no_control (get name path) is = cc is
+no_control (get_through name path how) is = cc is
+no_control (fetch_ahead name how) is = cc is
 no_control (backup how) is = cc is
 no_control (backup_running how) is = cc is
 no_control (restore set how) is = refl
@@ -112,12 +124,15 @@ no_control examine is = refl
 no_control (leave path how) is = cc is
 no_control (drain place) is = cc is
 no_control (expire rules) is = refl
+no_control (rehearse how) is = cc is
 
 -- a command that uses nothing but the repository opens no data folder and takes no lock
 pub on_repository : (request : Request) → is_on_repository request ≡ true → ((plan_of request).folder ≡ false) × ((plan_of request).backup_lock ≡ false) × ((plan_of request).archive_lock ≡ false)
 on_repository create is = cc is
 on_repository (push path) is = cc is
 on_repository (get name path) is = cc is
+on_repository (get_through name path how) is = cc is
+on_repository (fetch_ahead name how) is = cc is
 on_repository (backup how) is = cc is
 on_repository (backup_running how) is = cc is
 on_repository (restore set how) is = cc is
@@ -126,6 +141,7 @@ on_repository examine is = (refl, refl, refl)
 on_repository (leave path how) is = cc is
 on_repository (drain place) is = cc is
 on_repository (expire rules) is = cc is
+on_repository (rehearse how) is = cc is
 
 -- a command that doesn't use the spool opens none
 pub no_spool : (request : Request) → uses_spool request ≡ false → spool_of request ≡ None
@@ -134,18 +150,23 @@ no_spool (push path) is = refl
 no_spool (leave path how) is = cc is
 no_spool (drain place) is = cc is
 no_spool (get name path) is = refl
+no_spool (get_through name path how) is = cc is
+no_spool (fetch_ahead name how) is = cc is
 no_spool (backup how) is = refl
 no_spool (backup_running how) is = refl
 no_spool (restore set how) is = refl
 no_spool (report form) is = refl
 no_spool examine is = refl
 no_spool (expire rules) is = refl
+no_spool (rehearse how) is = refl
 
 -- what holds where no pair is healed holds of readers and of stanza-create
 pub reader_still : (request : Request) (P : Type 0) → OnReading (plan_of request).pairs P → OnReader request P
 reader_still create P h = tt
 reader_still (push path) P h = tt
 reader_still (get name path) P h = h
+reader_still (get_through name path how) P h = h
+reader_still (fetch_ahead name how) P h = h
 reader_still (backup how) P h = tt
 reader_still (backup_running how) P h = tt
 reader_still (restore set how) P h = h
@@ -154,11 +175,14 @@ reader_still examine P h = h
 reader_still (leave path how) P h = tt
 reader_still (drain place) P h = tt
 reader_still (expire rules) P h = tt
+reader_still (rehearse how) P h = tt
 
 pub create_still : (request : Request) (P : Type 0) → OnReading (plan_of request).pairs P → OnCreate request P
 create_still create P h = h
 create_still (push path) P h = tt
 create_still (get name path) P h = tt
+create_still (get_through name path how) P h = tt
+create_still (fetch_ahead name how) P h = tt
 create_still (backup how) P h = tt
 create_still (backup_running how) P h = tt
 create_still (restore set how) P h = tt
@@ -167,11 +191,14 @@ create_still examine P h = tt
 create_still (leave path how) P h = tt
 create_still (drain place) P h = tt
 create_still (expire rules) P h = tt
+create_still (rehearse how) P h = tt
 
 pub any_reader : (request : Request) (P : Type 0) → P → OnReader request P
 any_reader create P p = tt
 any_reader (push path) P p = tt
 any_reader (get name path) P p = p
+any_reader (get_through name path how) P p = p
+any_reader (fetch_ahead name how) P p = p
 any_reader (backup how) P p = tt
 any_reader (backup_running how) P p = tt
 any_reader (restore set how) P p = p
@@ -180,11 +207,14 @@ any_reader examine P p = p
 any_reader (leave path how) P p = tt
 any_reader (drain place) P p = tt
 any_reader (expire rules) P p = tt
+any_reader (rehearse how) P p = tt
 
 pub any_create : (request : Request) (P : Type 0) → P → OnCreate request P
 any_create create P p = p
 any_create (push path) P p = tt
 any_create (get name path) P p = tt
+any_create (get_through name path how) P p = tt
+any_create (fetch_ahead name how) P p = tt
 any_create (backup how) P p = tt
 any_create (backup_running how) P p = tt
 any_create (restore set how) P p = tt
@@ -193,11 +223,14 @@ any_create examine P p = tt
 any_create (leave path how) P p = tt
 any_create (drain place) P p = tt
 any_create (expire rules) P p = tt
+any_create (rehearse how) P p = tt
 
 pub any_other : (request : Request) (P : Type 0) → P → OnOther request P
 any_other create P p = tt
 any_other (push path) P p = p
 any_other (get name path) P p = p
+any_other (get_through name path how) P p = p
+any_other (fetch_ahead name how) P p = p
 any_other (backup how) P p = p
 any_other (backup_running how) P p = tt
 any_other (restore set how) P p = p
@@ -206,11 +239,14 @@ any_other examine P p = p
 any_other (leave path how) P p = p
 any_other (drain place) P p = p
 any_other (expire rules) P p = p
+any_other (rehearse how) P p = p
 
 pub reader_on : (request : Request) (P Q R : Type 0) → (P → Q → R) → OnReader request P → OnReader request Q → OnReader request R
 reader_on create P Q R to p q = tt
 reader_on (push path) P Q R to p q = tt
 reader_on (get name path) P Q R to p q = to p q
+reader_on (get_through name path how) P Q R to p q = to p q
+reader_on (fetch_ahead name how) P Q R to p q = to p q
 reader_on (backup how) P Q R to p q = tt
 reader_on (backup_running how) P Q R to p q = tt
 reader_on (restore set how) P Q R to p q = to p q
@@ -219,11 +255,14 @@ reader_on examine P Q R to p q = to p q
 reader_on (leave path how) P Q R to p q = tt
 reader_on (drain place) P Q R to p q = tt
 reader_on (expire rules) P Q R to p q = tt
+reader_on (rehearse how) P Q R to p q = tt
 
 pub create_on : (request : Request) (P Q R : Type 0) → (P → Q → R) → OnCreate request P → OnCreate request Q → OnCreate request R
 create_on create P Q R to p q = to p q
 create_on (push path) P Q R to p q = tt
 create_on (get name path) P Q R to p q = tt
+create_on (get_through name path how) P Q R to p q = tt
+create_on (fetch_ahead name how) P Q R to p q = tt
 create_on (backup how) P Q R to p q = tt
 create_on (backup_running how) P Q R to p q = tt
 create_on (restore set how) P Q R to p q = tt
@@ -232,11 +271,14 @@ create_on examine P Q R to p q = tt
 create_on (leave path how) P Q R to p q = tt
 create_on (drain place) P Q R to p q = tt
 create_on (expire rules) P Q R to p q = tt
+create_on (rehearse how) P Q R to p q = tt
 
 pub other_as : (request : Request) (P Q : Type 0) → (P → Q) → OnOther request P → OnOther request Q
 other_as create P Q to p = tt
 other_as (push path) P Q to p = to p
 other_as (get name path) P Q to p = to p
+other_as (get_through name path how) P Q to p = to p
+other_as (fetch_ahead name how) P Q to p = to p
 other_as (backup how) P Q to p = to p
 other_as (backup_running how) P Q to p = tt
 other_as (restore set how) P Q to p = to p
@@ -245,12 +287,15 @@ other_as examine P Q to p = to p
 other_as (leave path how) P Q to p = to p
 other_as (drain place) P Q to p = to p
 other_as (expire rules) P Q to p = to p
+other_as (rehearse how) P Q to p = to p
 
 -- what holds where no pair is healed, or of any command, holds of expire
 pub expire_still : (request : Request) (P : Type 0) → OnReading (plan_of request).pairs P → OnExpire request (λ rules. P)
 expire_still create P h = tt
 expire_still (push path) P h = tt
 expire_still (get name path) P h = tt
+expire_still (get_through name path how) P h = tt
+expire_still (fetch_ahead name how) P h = tt
 expire_still (backup how) P h = tt
 expire_still (backup_running how) P h = tt
 expire_still (restore set how) P h = tt
@@ -259,11 +304,14 @@ expire_still examine P h = tt
 expire_still (leave path how) P h = tt
 expire_still (drain place) P h = tt
 expire_still (expire rules) P h = h
+expire_still (rehearse how) P h = tt
 
 pub any_expire : (request : Request) (P : Rules → Type 0) → ((rules : Rules) → P rules) → OnExpire request P
 any_expire create P p = tt
 any_expire (push path) P p = tt
 any_expire (get name path) P p = tt
+any_expire (get_through name path how) P p = tt
+any_expire (fetch_ahead name how) P p = tt
 any_expire (backup how) P p = tt
 any_expire (backup_running how) P p = tt
 any_expire (restore set how) P p = tt
@@ -272,11 +320,14 @@ any_expire examine P p = tt
 any_expire (leave path how) P p = tt
 any_expire (drain place) P p = tt
 any_expire (expire rules) P p = p rules
+any_expire (rehearse how) P p = tt
 
 pub expire_on : (request : Request) (P Q R : Rules → Type 0) → ((rules : Rules) → P rules → Q rules → R rules) → OnExpire request P → OnExpire request Q → OnExpire request R
 expire_on create P Q R to p q = tt
 expire_on (push path) P Q R to p q = tt
 expire_on (get name path) P Q R to p q = tt
+expire_on (get_through name path how) P Q R to p q = tt
+expire_on (fetch_ahead name how) P Q R to p q = tt
 expire_on (backup how) P Q R to p q = tt
 expire_on (backup_running how) P Q R to p q = tt
 expire_on (restore set how) P Q R to p q = tt
@@ -285,12 +336,15 @@ expire_on examine P Q R to p q = tt
 expire_on (leave path how) P Q R to p q = tt
 expire_on (drain place) P Q R to p q = tt
 expire_on (expire rules) P Q R to p q = to rules p q
+expire_on (rehearse how) P Q R to p q = tt
 
 -- the data folder stays after a refusal
 pub any_stays : (request : Request) (n : ℕ) (P : Type 0) → P → FolderStays request n P
 any_stays create n P p = p
 any_stays (push path) n P p = p
 any_stays (get name path) n P p = p
+any_stays (get_through name path how) n P p = p
+any_stays (fetch_ahead name how) n P p = p
 any_stays (backup how) n P p = p
 any_stays (backup_running how) n P p = p
 any_stays (restore set how) n P p = λ lost unread damaged. p
@@ -299,11 +353,14 @@ any_stays examine n P p = p
 any_stays (leave path how) n P p = p
 any_stays (drain place) n P p = p
 any_stays (expire rules) n P p = p
+any_stays (rehearse how) n P p = p
 
 pub stays_as : (request : Request) (n : ℕ) (P Q : Type 0) → (P → Q) → FolderStays request n P → FolderStays request n Q
 stays_as create n P Q to p = to p
 stays_as (push path) n P Q to p = to p
 stays_as (get name path) n P Q to p = to p
+stays_as (get_through name path how) n P Q to p = to p
+stays_as (fetch_ahead name how) n P Q to p = to p
 stays_as (backup how) n P Q to p = to p
 stays_as (backup_running how) n P Q to p = to p
 stays_as (restore set how) n P Q to p = λ lost unread damaged. to (p lost unread damaged)
@@ -312,6 +369,7 @@ stays_as examine n P Q to p = to p
 stays_as (leave path how) n P Q to p = to p
 stays_as (drain place) n P Q to p = to p
 stays_as (expire rules) n P Q to p = to p
+stays_as (rehearse how) n P Q to p = to p
 
 -- it doesn't use it
 pub any_unless : (uses : Bool) (P : Type 0) → P → Unless uses P
@@ -322,6 +380,39 @@ pub unless_as : (uses : Bool) (P Q : Type 0) → (P → Q) → Unless uses P →
 unless_as true P Q to p = tt
 unless_as false P Q to p = to p
 
+-- other processes are as they were
+pub others_stay : (a : Asked) (request : Request) (old new : OthersState) → new ≡ old → OthersGo a request old new
+others_stay a create old new same = same
+others_stay a (push path) old new same = same
+others_stay a (leave path how) old new same = tt
+others_stay a (drain place) old new same = same
+others_stay a (get name path) old new same = same
+others_stay a (get_through name path how) old new same = subst (λ (o : OthersState). QuietOthers (fetch_words a name how) old o) (sym same) (record { account = refl; turns = refl; started = inl refl; later = omega arith })
+others_stay a (fetch_ahead name how) old new same = same
+others_stay a (backup how) old new same = same
+others_stay a (backup_running how) old new same = tt
+others_stay a (restore set how) old new same = same
+others_stay a (report form) old new same = same
+others_stay a examine old new same = same
+others_stay a (expire rules) old new same = same
+others_stay a (rehearse how) old new same = same
+
+pub others_on : (a : Asked) (request : Request) (b m k : OthersState) → m ≡ b → OthersGo a request m k → OthersGo a request b k
+others_on a create b m k same h = h ∙ same
+others_on a (push path) b m k same h = h ∙ same
+others_on a (leave path how) b m k same h = tt
+others_on a (drain place) b m k same h = h ∙ same
+others_on a (get name path) b m k same h = h ∙ same
+others_on a (get_through name path how) b m k same h = subst (λ (o : OthersState). QuietOthers (fetch_words a name how) o k) same h
+others_on a (fetch_ahead name how) b m k same h = h ∙ same
+others_on a (backup how) b m k same h = h ∙ same
+others_on a (backup_running how) b m k same h = tt
+others_on a (restore set how) b m k same h = h ∙ same
+others_on a (report form) b m k same h = h ∙ same
+others_on a examine b m k same h = h ∙ same
+others_on a (expire rules) b m k same h = h ∙ same
+others_on a (rehearse how) b m k same h = h ∙ same
+
 abbrev pub as_known : Option Content → Option Content → Option Nodes → WireState → OthersState → ClockState → List LinkState → Known
 as_known repo spool nodes server others clock links = record { repo = repo; spool = spool; nodes = nodes; server = server; others = others; clock = clock; links = links }
 
@@ -330,6 +421,8 @@ pub folder_stays : (a : Asked) (request : Request) (old : Known) (new : Option N
 folder_stays a create old new same = same
 folder_stays a (push path) old new same = same
 folder_stays a (get name path) old new same = subst (λ (n : Option Nodes). FolderGoes a (get name path) old n) (sym same) (record { told = λ some. some; others = λ q x y. refl; whole = inl refl })
+folder_stays a (get_through name path how) old new same = subst (λ (n : Option Nodes). FolderGoes a (get_through name path how) old n) (sym same) (record { told = λ some. some; others = λ q x y. refl; whole = inl refl })
+folder_stays a (fetch_ahead name how) old new same = same
 folder_stays a (backup how) old new same = same
 folder_stays a (backup_running how) old new same = same
 folder_stays a (restore set how) old new same = inl same
@@ -338,12 +431,16 @@ folder_stays a examine old new same = same
 folder_stays a (leave path how) old new same = same
 folder_stays a (drain place) old new same = same
 folder_stays a (expire rules) old new same = same
+folder_stays a (rehearse how) old new same = inl same
 
 pub folder_on : (a : Asked) (request : Request) (b m k : Seen) → OnReader request (IsStill b.repo.view m.repo.view) → m.tree.nodes ≡ b.tree.nodes → m.links ≡ b.links → FolderGoes a request (known m) k.tree.nodes → FolderGoes a request (known b) k.tree.nodes
 folder_on a create b m k still nodes links h = h ∙ nodes
 folder_on a (push path) b m k still nodes links h = h ∙ nodes
 folder_on a (get name path) b m k still nodes links h = subst (λ (o : Option Content). FolderGoes a (get name path) (as_known o b.spool.view.now b.tree.nodes b.server b.others b.clock b.links) k.tree.nodes) still.now
     (subst (λ (n : Option Nodes). FolderGoes a (get name path) (as_known m.repo.view.now b.spool.view.now n b.server b.others b.clock b.links) k.tree.nodes) nodes h)
+folder_on a (get_through name path how) b m k still nodes links h = subst (λ (o : Option Content). FolderGoes a (get_through name path how) (as_known o b.spool.view.now b.tree.nodes b.server b.others b.clock b.links) k.tree.nodes) still.now
+    (subst (λ (n : Option Nodes). FolderGoes a (get_through name path how) (as_known m.repo.view.now b.spool.view.now n b.server b.others b.clock b.links) k.tree.nodes) nodes h)
+folder_on a (fetch_ahead name how) b m k still nodes links h = h ∙ nodes
 folder_on a (backup how) b m k still nodes links h = h ∙ nodes
 folder_on a (backup_running how) b m k still nodes links h = h ∙ nodes
 folder_on a (restore set how) b m k still nodes links h = ⊎_elim (λ (e : k.tree.nodes ≡ m.tree.nodes). inl (e ∙ nodes))
@@ -354,3 +451,4 @@ folder_on a examine b m k still nodes links h = h ∙ nodes
 folder_on a (leave path how) b m k still nodes links h = h ∙ nodes
 folder_on a (drain place) b m k still nodes links h = h ∙ nodes
 folder_on a (expire rules) b m k still nodes links h = h ∙ nodes
+folder_on a (rehearse how) b m k still nodes links h = subst (λ (n : Option Nodes). (k.tree.nodes ≡ n) ⊎ IfSome n IsEmpty) nodes h

@@ -42,11 +42,14 @@ use Rattle.pgb_examine.proofs.Statuses.{examine_is}
 use Rattle.pgb_prune.specs.declared.fault.PruneFault.{PruneFault}
 use Rattle.pgb_prune.specs.Texts.{prune_status, behind_status}
 use Rattle.pgb_prune.proofs.Statuses.{prune_within, behind_late}
-use Rattle.pgb_command.specs.declared.fault.CommandFault.TheVariants.{Create, Push, Leave, Drain, Get, Take, TakeOnline, Recover, Examine, Prune}
+use Rattle.pgb_rehearse.specs.declared.fault.RehearseFault.{RehearseFault}
+use Rattle.pgb_rehearse.specs.declared.fault.RehearseFault.TheVariants as rehearses
+use Rattle.pgb_rehearse.specs.Texts.{rehearse_status}
+use Rattle.pgb_command.specs.declared.fault.CommandFault.TheVariants.{Create, Push, Leave, Drain, Get, Take, TakeOnline, Recover, Examine, Prune, Rehearse}
 use Rattle.pgb_command.specs.declared.fault.Fault.{Fault}
 use Rattle.pgb_command.specs.declared.fault.Fault.TheVariants as fault
 use Rattle.pgb_command.specs.Answers.{status_of, usage_status}
-use Rattle.pgb_command.specs.Asked.{Request, create, push, leave, drain, get, backup, backup_running, restore, report, examine, expire, Asked}
+use Rattle.pgb_command.specs.Asked.{Request, create, push, leave, drain, get, get_through, fetch_ahead, backup, backup_running, restore, report, examine, expire, rehearse, Asked}
 use Rattle.pgb_command.specs.Causes.{IsAnswered, Carries, Answers, ClosesTalk}
 use Rattle.pgb_command.specs.Configuring.{ConfigCause}
 use Rattle.pgb_command.specs.Did.{IsIdle, IsTaken, Cause, Closes}
@@ -143,6 +146,8 @@ push_other : {P : Type 0} (a : Asked) (q : Request) (old new : Known) (e : PushF
 push_other a create old new e cause p = absurd cause
 push_other a (push path) old new e cause p = p
 push_other a (get name path) old new e cause p = absurd cause
+push_other a (get_through name path how) old new e cause p = absurd cause
+push_other a (fetch_ahead name how) old new e cause p = absurd cause
 push_other a (backup how) old new e cause p = absurd cause
 push_other a (backup_running how) old new e cause p = absurd cause
 push_other a (restore set how) old new e cause p = absurd cause
@@ -151,6 +156,7 @@ push_other a examine old new e cause p = absurd cause
 push_other a (leave path how) old new e cause p = p
 push_other a (drain place) old new e cause p = absurd cause
 push_other a (expire rules) old new e cause p = absurd cause
+push_other a (rehearse how) old new e cause p = absurd cause
 
 drain_other : {P : Type 0} (a : Asked) (q : Request) (old new : Known) (e : PushFault) → CommandCause a q old new (Drain e) → OnOther q P → P
 drain_other a create old new e cause p = absurd cause
@@ -158,12 +164,15 @@ drain_other a (push path) old new e cause p = absurd cause
 drain_other a (leave path how) old new e cause p = absurd cause
 drain_other a (drain place) old new e cause p = p
 drain_other a (get name path) old new e cause p = absurd cause
+drain_other a (get_through name path how) old new e cause p = absurd cause
+drain_other a (fetch_ahead name how) old new e cause p = absurd cause
 drain_other a (backup how) old new e cause p = absurd cause
 drain_other a (backup_running how) old new e cause p = absurd cause
 drain_other a (restore set how) old new e cause p = absurd cause
 drain_other a (report form) old new e cause p = absurd cause
 drain_other a examine old new e cause p = absurd cause
 drain_other a (expire rules) old new e cause p = absurd cause
+drain_other a (rehearse how) old new e cause p = absurd cause
 
 leave_other : {P : Type 0} (a : Asked) (q : Request) (old new : Known) (name : String Global) (e : LeaveFault) → CommandCause a q old new (Leave name e) → OnOther q P → P
 leave_other a create old new name e cause p = absurd cause
@@ -171,17 +180,22 @@ leave_other a (push path) old new name e cause p = absurd cause
 leave_other a (leave path how) old new name e cause p = p
 leave_other a (drain place) old new name e cause p = absurd cause
 leave_other a (get word path) old new name e cause p = absurd cause
+leave_other a (get_through word path how) old new name e cause p = absurd cause
+leave_other a (fetch_ahead word how) old new name e cause p = absurd cause
 leave_other a (backup how) old new name e cause p = absurd cause
 leave_other a (backup_running how) old new name e cause p = absurd cause
 leave_other a (restore set how) old new name e cause p = absurd cause
 leave_other a (report form) old new name e cause p = absurd cause
 leave_other a examine old new name e cause p = absurd cause
 leave_other a (expire rules) old new name e cause p = absurd cause
+leave_other a (rehearse how) old new name e cause p = absurd cause
 
 get_other : {P : Type 0} (a : Asked) (q : Request) (old new : Known) (e : GetFault) → CommandCause a q old new (Get e) → OnOther q P → P
 get_other a create old new e cause p = absurd cause
 get_other a (push path) old new e cause p = absurd cause
 get_other a (get name path) old new e cause p = p
+get_other a (get_through name path how) old new e cause p = p
+get_other a (fetch_ahead name how) old new e cause p = p
 get_other a (backup how) old new e cause p = absurd cause
 get_other a (backup_running how) old new e cause p = absurd cause
 get_other a (restore set how) old new e cause p = absurd cause
@@ -190,11 +204,14 @@ get_other a examine old new e cause p = absurd cause
 get_other a (leave path how) old new e cause p = absurd cause
 get_other a (drain place) old new e cause p = absurd cause
 get_other a (expire rules) old new e cause p = absurd cause
+get_other a (rehearse how) old new e cause p = absurd cause
 
 take_other : {P : Type 0} (a : Asked) (q : Request) (old new : Known) (e : LaterFault) → CommandCause a q old new (Take e) → OnOther q P → P
 take_other a create old new e cause p = absurd cause
 take_other a (push path) old new e cause p = absurd cause
 take_other a (get name path) old new e cause p = absurd cause
+take_other a (get_through name path how) old new e cause p = absurd cause
+take_other a (fetch_ahead name how) old new e cause p = absurd cause
 take_other a (backup how) old new e cause p = p
 take_other a (backup_running how) old new e cause p = absurd cause
 take_other a (restore set how) old new e cause p = absurd cause
@@ -203,11 +220,14 @@ take_other a examine old new e cause p = absurd cause
 take_other a (leave path how) old new e cause p = absurd cause
 take_other a (drain place) old new e cause p = absurd cause
 take_other a (expire rules) old new e cause p = absurd cause
+take_other a (rehearse how) old new e cause p = absurd cause
 
 examine_other : {P : Type 0} (a : Asked) (q : Request) (old new : Known) (e : ExamineFault) → CommandCause a q old new (Examine e) → OnOther q P → P
 examine_other a create old new e cause p = absurd cause
 examine_other a (push path) old new e cause p = absurd cause
 examine_other a (get name path) old new e cause p = absurd cause
+examine_other a (get_through name path how) old new e cause p = absurd cause
+examine_other a (fetch_ahead name how) old new e cause p = absurd cause
 examine_other a (backup how) old new e cause p = absurd cause
 examine_other a (backup_running how) old new e cause p = absurd cause
 examine_other a (restore set how) old new e cause p = absurd cause
@@ -216,11 +236,14 @@ examine_other a examine old new e cause p = p
 examine_other a (leave path how) old new e cause p = absurd cause
 examine_other a (drain place) old new e cause p = absurd cause
 examine_other a (expire rules) old new e cause p = absurd cause
+examine_other a (rehearse how) old new e cause p = absurd cause
 
 prune_other : {P : Type 0} (a : Asked) (q : Request) (old new : Known) (e : PruneFault) → CommandCause a q old new (Prune e) → OnOther q P → P
 prune_other a create old new e cause p = absurd cause
 prune_other a (push path) old new e cause p = absurd cause
 prune_other a (get name path) old new e cause p = absurd cause
+prune_other a (get_through name path how) old new e cause p = absurd cause
+prune_other a (fetch_ahead name how) old new e cause p = absurd cause
 prune_other a (backup how) old new e cause p = absurd cause
 prune_other a (backup_running how) old new e cause p = absurd cause
 prune_other a (restore set how) old new e cause p = absurd cause
@@ -229,6 +252,7 @@ prune_other a examine old new e cause p = absurd cause
 prune_other a (leave path how) old new e cause p = absurd cause
 prune_other a (drain place) old new e cause p = absurd cause
 prune_other a (expire rules) old new e cause p = p
+prune_other a (rehearse how) old new e cause p = p
 
 push_at : {P : Type 0} (a : Asked) (b k : Seen) (e : PushFault) → Cause a b k (fault.Command (Push e)) → OnOther a.request P → P
 push_at a b k e (inl words) p = push_other a a.request (known b) (known k) e (words (known b) (known k)) p
@@ -286,6 +310,12 @@ recover_apart (recovers.WorkersLost lost) = between 55 (omega arith) (omega arit
 recover_apart (recovers.Unread path) = between 56 (omega arith) (omega arith)
 recover_apart (recovers.FileDamaged path told found) = between 63 (omega arith) (omega arith)
 
+-- nor has one of a rehearsal
+rehearse_apart : {P : Type 0} (e : RehearseFault) → IsServerRefusal (rehearse_status e) → P
+rehearse_apart (rehearses.StanzaExists stanza) = high 72 (omega arith)
+rehearse_apart (rehearses.NotEmpty path) = between 62 (omega arith) (omega arith)
+rehearse_apart (rehearses.Step fault) = high 76 (omega arith)
+
 module _ (b k : Seen) (n : ℕ) where
   abbrev Said : Type 0
   Said = Ended k.server.sent ⊎ (Failed b k object.Server ⊎ ((70 ≤ n) × (k.server.sent ≡ b.server.sent)))
@@ -308,6 +338,7 @@ module _ (b k : Seen) (n : ℕ) where
   at_fault a (fault.Command (Recover e)) is refusal cause closes others = recover_apart e (subst IsServerRefusal is refusal)
   at_fault a (fault.Command (Examine e)) is refusal cause closes others = inr (inr (long_is n 71 (is ∙ examine_is e) (omega arith), ap (λ w. w.sent) (examine_at a b k e cause others)))
   at_fault a (fault.Command (Prune e)) is refusal cause closes others = inr (inr (long_is n (prune_status e) is (only_many (prune_status e) (prune_within e).1 (subst IsServerRefusal is refusal)), ap (λ w. w.sent) (prune_at a b k e cause others)))
+  at_fault a (fault.Command (Rehearse e)) is refusal cause closes others = rehearse_apart e (subst IsServerRefusal is refusal)
   at_fault a (fault.Behind lines e) is refusal cause closes others = high (behind_status e) (omega (arith, (behind_late e).0)) (subst IsServerRefusal is refusal)
   at_fault a (fault.Failed o) is refusal cause closes others = object_apart o (subst IsServerRefusal is refusal)
   at_fault a fault.NoMemory is refusal cause closes others = high 90 (omega arith) (subst IsServerRefusal is refusal)

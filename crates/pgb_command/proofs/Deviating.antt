@@ -1,4 +1,4 @@
--- The status of findings is that of no refusal, and only verify has it.
+-- The status of findings is that of no refusal, and only verify and a rehearsal have it.
 use Rattle.std.proofs.Common.{true, ◌≡◌, ◌≢◌, ◌≤◌, ◌⊎◌, ℕ, Option, Some, None, inl, inr, refl, arith}
 use Rattle.std.specs.Prelude.{String}
 use Rattle.std.specs.declared.alloc.Global.{Global}
@@ -43,12 +43,15 @@ use Rattle.pgb_prune.specs.declared.fault.PruneFault.TheVariants as prunes
 use Rattle.pgb_prune.specs.Texts.{prune_status}
 use Rattle.pgb_prune.proofs.Statuses.{behind_late}
 use Rattle.pgb_retain.specs.declared.rules.Rules.{Rules}
+use Rattle.pgb_rehearse.specs.declared.fault.RehearseFault.{RehearseFault}
+use Rattle.pgb_rehearse.specs.declared.fault.RehearseFault.TheVariants as rehearses
+use Rattle.pgb_rehearse.specs.Texts.{rehearse_status}
 use Rattle.pgb_command.specs.declared.fault.CommandFault.{CommandFault}
-use Rattle.pgb_command.specs.declared.fault.CommandFault.TheVariants.{Create, Push, Leave, Drain, Get, Take, TakeOnline, Recover, Examine, Prune}
+use Rattle.pgb_command.specs.declared.fault.CommandFault.TheVariants.{Create, Push, Leave, Drain, Get, Take, TakeOnline, Recover, Examine, Prune, Rehearse}
 use Rattle.pgb_command.specs.declared.fault.Fault.{Fault}
 use Rattle.pgb_command.specs.declared.fault.Fault.TheVariants as fault
 use Rattle.pgb_command.specs.Answers.{status_of, usage_status, command_status}
-use Rattle.pgb_command.specs.Asked.{Request, create, push, leave, drain, get, backup, backup_running, restore, report, examine, expire, Asked}
+use Rattle.pgb_command.specs.Asked.{Request, create, push, leave, drain, get, get_through, fetch_ahead, backup, backup_running, restore, report, examine, expire, rehearse, RehearseHow, Asked}
 use Rattle.pgb_command.specs.Causes.{EndsWell}
 use Rattle.pgb_command.specs.Tables.{Known, IsBackedUp, BehindIt, Promise}
 use Rattle.pgb_command.proofs.Statuses.{over}
@@ -149,6 +152,11 @@ not_recover (recovers.FileDamaged path told found) = λ is. absurd (omega (arith
 not_prune : (e : PruneFault) → prune_status e ≢ 65
 not_prune (prunes.HistoryDiffers at) = λ is. absurd (omega (arith, is))
 
+not_rehearse : (e : RehearseFault) → rehearse_status e ≢ 65
+not_rehearse (rehearses.StanzaExists stanza) = λ is. absurd (omega (arith, is))
+not_rehearse (rehearses.NotEmpty path) = λ is. absurd (omega (arith, is))
+not_rehearse (rehearses.Step fault) = λ is. absurd (omega (arith, is))
+
 not_within : (m : ℕ) → (m ≤ 46) ⊎ (m ≡ 70) → m ≢ 65
 not_within m (inl le) = λ is. absurd (omega (arith, is, le))
 not_within m (inr e) = λ is. absurd (omega (arith, is, e))
@@ -171,6 +179,7 @@ not_command (TakeOnline e) = not_take_online e
 not_command (Recover e) = not_recover e
 not_command (Examine e) = λ is. absurd (omega (arith, is, examine_is e))
 not_command (Prune e) = not_prune e
+not_command (Rehearse e) = not_rehearse e
 
 not_found : (e : Fault) → status_of e ≢ 65
 not_found (fault.Usage e) = not_usage e
@@ -197,15 +206,18 @@ never_deviates : {P : Type 0} (rules : Option Rules) (stanza : Text) (least : �
 never_deviates None stanza least Was new lines count never h = never new.repo h
 never_deviates (Some rules) stanza least Was new lines count never h = absurd h.adds
 
-pub only_examines : (a : Asked) (q : Request) (old new : Known) (lines : String Global) (count : ℕ) → Promise a q old new (FindingsFound lines count) → q ≡ examine
-only_examines a create old new lines count h = absurd h.created.silent
-only_examines a (push path) old new lines count h = absurd h
-only_examines a (get name path) old new lines count h = absurd h.0
-only_examines a (backup how) old new lines count h = never_deviates a.expires a.stanza old.clock.least (IsBackedUp a (backup how) old new) new lines count (λ repo x. absurd x.2.2) h
-only_examines a (backup_running how) old new lines count h = never_deviates a.expires a.stanza old.clock.least (IsBackedUp a (backup_running how) old new) new lines count (λ repo x. absurd x.0.2.2) h
-only_examines a (restore set how) old new lines count h = absurd h.recovers
-only_examines a (report form) old new lines count h = absurd h.0
-only_examines a examine old new lines count h = refl
-only_examines a (leave path how) old new lines count h = absurd h
-only_examines a (drain place) old new lines count h = absurd h.2
-only_examines a (expire rules) old new lines count h = absurd h.2
+pub only_verifies : (a : Asked) (q : Request) (old new : Known) (lines : String Global) (count : ℕ) → Promise a q old new (FindingsFound lines count) → (q ≡ examine) ⊎ ((how : RehearseHow) × (q ≡ rehearse how))
+only_verifies a create old new lines count h = absurd h.created.silent
+only_verifies a (push path) old new lines count h = absurd h
+only_verifies a (get name path) old new lines count h = absurd h.0
+only_verifies a (get_through name path how) old new lines count h = absurd h.got
+only_verifies a (fetch_ahead name how) old new lines count h = absurd h.2.2
+only_verifies a (backup how) old new lines count h = never_deviates a.expires a.stanza old.clock.least (IsBackedUp a (backup how) old new) new lines count (λ repo x. absurd x.2.2) h
+only_verifies a (backup_running how) old new lines count h = never_deviates a.expires a.stanza old.clock.least (IsBackedUp a (backup_running how) old new) new lines count (λ repo x. absurd x.0.2.2) h
+only_verifies a (restore set how) old new lines count h = absurd h.recovers
+only_verifies a (report form) old new lines count h = absurd h.0
+only_verifies a examine old new lines count h = inl refl
+only_verifies a (leave path how) old new lines count h = absurd h
+only_verifies a (drain place) old new lines count h = absurd h.2
+only_verifies a (expire rules) old new lines count h = absurd h.2
+only_verifies a (rehearse how) old new lines count h = inr (how, refl)

@@ -40,17 +40,17 @@ use Rattle.pgb_prepare.specs.Stages.{FoundCause, StageCause}
 use Rattle.pgb_prepare.specs.Taking.{HeldCause, MayTake}
 use Rattle.pgb_create.specs.Talking.{Ended}
 use Rattle.pgb_create.proofs.Statuses.{closes_as}
-use Rattle.pgb_command.specs.declared.fault.CommandFault.TheVariants.{Create, Push, Leave, Drain, Get, Take, TakeOnline, Recover, Examine, Prune}
+use Rattle.pgb_command.specs.declared.fault.CommandFault.TheVariants.{Create, Push, Leave, Drain, Get, Take, TakeOnline, Recover, Examine, Prune, Rehearse}
 use Rattle.pgb_command.specs.declared.fault.Fault.{Fault}
 use Rattle.pgb_command.specs.declared.fault.Fault.TheVariants.{Usage, Stage, Command as OfCommand, Behind, Failed as ObjectFailed, NoMemory}
 use Rattle.pgb_command.specs.Answers.{status, reached_of, ending_of, is_early}
-use Rattle.pgb_command.specs.Asked.{Request, create, push, leave, drain, get, backup, backup_running, restore, report, examine, expire, Asked}
+use Rattle.pgb_command.specs.Asked.{Request, create, push, leave, drain, get, get_through, fetch_ahead, backup, backup_running, restore, report, examine, expire, rehearse, Asked}
 use Rattle.pgb_command.specs.Faults.{of_stage}
-use Rattle.pgb_command.specs.Tables.{Known, known, plan_of, spool_of, manner_of, CommandCause, Promise, Lasts, OnReader, OnCreate, OnExpire, Expires, uses_workers, uses_clock, uses_turns}
+use Rattle.pgb_command.specs.Tables.{Known, known, plan_of, spool_of, manner_of, CommandCause, Promise, Lasts, OnReader, OnCreate, OnExpire, Expires, uses_workers, uses_clock}
 use Rattle.pgb_command.specs.Did.{Ran, EndsBehind, StaysHealed, OnReady, Cause, HealsPairs, Did, OwnCause, Spares, Closes, WordsCause, Brackets, SamePlaces, OpensPlaces, ArePlacesOpened, OpensNamed, IsOpenedNamed, OpensIf, IsOpenedIf, TakesAll, OnlyLocked}
 use Rattle.pgb_command.proofs.Ends.{all_later, expiry_as, only_rose}
 use Rattle.pgb_command.proofs.Expiries.{expires_still, expires_behind}
-use Rattle.pgb_command.proofs.ByRequest.{as_known, idle, manner_at, reader_still, create_still, expire_still, any_reader, any_create, any_expire, any_other, reader_on, create_on, expire_on, other_as, any_stays, stays_as, any_unless, unless_as, folder_stays, folder_on}
+use Rattle.pgb_command.proofs.ByRequest.{as_known, idle, manner_at, reader_still, create_still, expire_still, any_reader, any_create, any_expire, any_other, reader_on, create_on, expire_on, other_as, any_stays, stays_as, any_unless, unless_as, others_stay, others_on, folder_stays, folder_on}
 
 -- ---- causes and ends
 
@@ -93,6 +93,7 @@ closes_from b m k same le (OfCommand (TakeOnline fault)) (inr h) = inr (⊎_elim
 closes_from b m k same le (OfCommand (Recover fault)) h = tt
 closes_from b m k same le (OfCommand (Examine fault)) h = tt
 closes_from b m k same le (OfCommand (Prune fault)) h = tt
+closes_from b m k same le (OfCommand (Rehearse fault)) h = tt
 closes_from b m k same le (Behind lines fault) h = tt
 closes_from b m k same le (ObjectFailed object) h = tt
 closes_from b m k same le NoMemory h = tt
@@ -111,7 +112,7 @@ spares_on a b m k r beside spool reads creates expires nodes server others links
   unmade = create_on a.request _ _ _ (λ (p : IsStill b.repo.view m.repo.view) h. none_as (reached_of (ending_of r)) _ _ (λ e. e ∙ p.now) h) creates s.unmade;
   quiet = λ none. s.quiet none ∙ server;
   others = other_as a.request _ _ (λ e. e ∙ server) s.others;
-  waits = unless_as (uses_turns a.request) _ _ (λ e. e ∙ others) s.waits;
+  waits = others_on a a.request b.others m.others k.others others s.waits;
   workers = unless_as (uses_workers a.request) _ _ (λ e. e ∙ links) s.workers;
   clock = unless_as (uses_clock a.request) _ _ (λ e. e ∙ clock) s.clock;
   closed = err_as r _ _ (closes_from b m k server (omega (arith, ap (λ (w : WireState). w.faults) server))) s.closed;
@@ -130,7 +131,7 @@ spares_none a b k fault beside spool reads creates expires nodes server others l
   unmade = create_on a.request _ (Unit {0}) _ (λ (p : IsStill b.repo.view k.repo.view) h. all_none (reached_of (ending_of (Err fault))) _ p.now) creates (any_create a.request (Unit {0}) tt);
   quiet = λ none. server;
   others = any_other a.request _ server;
-  waits = any_unless (uses_turns a.request) _ others;
+  waits = others_stay a a.request b.others k.others others;
   workers = any_unless (uses_workers a.request) _ links;
   clock = any_unless (uses_clock a.request) _ clock;
   closed = closes;
@@ -227,6 +228,8 @@ lasts_by : (a : Asked) (request : Request) (v : View) (nodes mid : Option Nodes)
 lasts_by a create v nodes mid k outcome same at h = tt
 lasts_by a (push path) v nodes mid k outcome same at h = subst (λ (n : Option Nodes). Lasts a (push path) n k.repo.view k.tree.nodes outcome) same (h (at refl))
 lasts_by a (get name path) v nodes mid k outcome same at h = subst (λ (n : Option Nodes). Lasts a (get name path) n k.repo.view k.tree.nodes outcome) same (h (at refl))
+lasts_by a (get_through name path how) v nodes mid k outcome same at h = subst (λ (n : Option Nodes). Lasts a (get_through name path how) n k.repo.view k.tree.nodes outcome) same (h (at refl))
+lasts_by a (fetch_ahead name how) v nodes mid k outcome same at h = tt
 lasts_by a (backup how) v nodes mid k outcome same at h = tt
 lasts_by a (backup_running how) v nodes mid k outcome same at h = tt
 lasts_by a (restore set how) v nodes mid k outcome same at h = tt
@@ -235,6 +238,7 @@ lasts_by a examine v nodes mid k outcome same at h = tt
 lasts_by a (leave path how) v nodes mid k outcome same at h = tt
 lasts_by a (drain place) v nodes mid k outcome same at h = tt
 lasts_by a (expire rules) v nodes mid k outcome same at h = tt
+lasts_by a (rehearse how) v nodes mid k outcome same at h = tt
 
 same_still : (v w : View) → w ≡ v → IsStill v w
 same_still v w same = subst (λ (x : View). IsStill v x) (sym same) (still_self v)
@@ -338,6 +342,7 @@ word_closes a b (OfCommand (TakeOnline fault)) h = absurd h
 word_closes a b (OfCommand (Examine fault)) h = absurd h
 word_closes a b (OfCommand (Recover fault)) h = tt
 word_closes a b (OfCommand (Prune fault)) h = absurd h
+word_closes a b (OfCommand (Rehearse fault)) h = absurd h
 word_closes a b (Behind lines fault) h = absurd h
 word_closes a b (ObjectFailed object) h = absurd h
 word_closes a b NoMemory h = tt
@@ -355,6 +360,7 @@ word_cause a b (OfCommand (TakeOnline fault)) h = absurd h
 word_cause a b (OfCommand (Examine fault)) h = absurd h
 word_cause a b (OfCommand (Recover fault)) h = inl h
 word_cause a b (OfCommand (Prune fault)) h = absurd h
+word_cause a b (OfCommand (Rehearse fault)) h = absurd h
 word_cause a b (Behind lines fault) h = absurd h
 word_cause a b (ObjectFailed object) h = absurd h
 word_cause a b NoMemory h = tt

@@ -1,11 +1,10 @@
 -- A backup with the expiry that follows it: from its own part and what the expiry did behind it.
-use Rattle.std.proofs.Common.{◌≡◌, ◌++◌, List, ◌∷◌, Option, Some, None, Result, Ok, Err, IfOk, IfErr, refl, sym, subst, ap, ◌∙◌, Bool, true, false}
-use Rattle.std.specs.Prelude.{ℕ, [], take, String, string_bytes, IfSome, IsSome, IsSomeAnd, OnOk}
-use Rattle.std.specs.declared.alloc.Global.{Global}
+use Rattle.std.proofs.Common.{◌≡◌, List, Option, Some, None, refl, sym, subst, ◌∙◌, true}
+use Rattle.std.specs.Prelude.{ℕ, IsSome}
 use Rattle.pgb_outside.specs.Content.{Content}
 use Rattle.pgb_outside.specs.Moments.{View}
 use Rattle.pgb_model.specs.Now.{NowStands, NowDoes}
-use Rattle.pgb_model.specs.Repository.{Backup, Stanza, Repository, IsSound, IsSoundStanza}
+use Rattle.pgb_model.specs.Repository.{Backup, Stanza, IsSound, IsSoundStanza}
 use Rattle.pgb_model.specs.Steps.{Command, Turn, MakeBackup, Expire, after, all_of, steps_of}
 use Rattle.pgb_model.specs.Text.{Text}
 use Rattle.pgb_one_text.proofs.Lists.{one_list}

@@ -16,21 +16,21 @@ use Rattle.pgb_stage.specs.Seen.{LocksSeen, Seen, Failed}
 use Rattle.pgb_stage.proofs.Besides.{still_beside}
 use Rattle.pgb_stage.proofs.Lifted.{on_as, still_quiet, quiet_takes, opened_takes}
 use Rattle.pgb_command.specs.declared.fault.Fault.{Fault}
-use Rattle.pgb_command.specs.declared.fault.Fault.TheVariants.{Usage, Stage, Command as OfCommand, Failed as ObjectFailed, NoMemory}
+use Rattle.pgb_command.specs.declared.fault.Fault.TheVariants.{Stage, NoMemory}
 use Rattle.pgb_command.specs.Answers.{Ending, status, status_of, answer_of, ending_of, reached_of}
-use Rattle.pgb_command.specs.Asked.{Request, create, push, leave, drain, get, backup, backup_running, restore, report, examine, expire, Asked, Asks}
+use Rattle.pgb_command.specs.Asked.{Request, create, push, leave, drain, get, get_through, fetch_ahead, backup, backup_running, restore, report, examine, expire, rehearse, RehearseHow, Asked, Asks}
 use Rattle.pgb_command.specs.Causes.{IsAnswered, Carries, Answers, PartDone, Finishes, EndsWell, Fulfils, IsEarly, TurnsBack, LeavesRest, Completes}
 use Rattle.pgb_command.specs.Did.{Acknowledges, IsIdle, Did, OpensIf, OpensNamed, OpensPlaces, OnlyLocked}
 use Rattle.pgb_command.specs.Output.{IsTold, Whole, Cut, Starved, Wordless}
 use Rattle.pgb_disk.proofs.Changes.{only_rests}
 use Rattle.pgb_stanza.specs.Owned.{IsOfPairs}
-use Rattle.pgb_command.specs.Tables.{known, plan_of, spool_of, manner_of, OnCreate, FolderGoes, FolderStays, uses_workers, uses_clock, uses_turns}
+use Rattle.pgb_command.specs.Tables.{known, plan_of, spool_of, manner_of, OnCreate, FolderGoes, FolderStays, uses_workers, uses_clock}
 use Rattle.pgb_command.proofs.AskedOnce.{one_asked}
-use Rattle.pgb_command.proofs.ByRequest.{idle, any_reader, any_create, any_expire, any_other, any_unless, any_stays, folder_stays}
+use Rattle.pgb_command.proofs.ByRequest.{idle, any_reader, any_create, any_expire, any_other, any_unless, any_stays, folder_stays, others_stay}
 use Rattle.pgb_command.proofs.Dids.{stage_reached}
 use Rattle.pgb_command.proofs.Statuses.{over, zero_ends, Deviates, early_ends, not_cut}
 use Rattle.pgb_command.proofs.Expiries.{expires_still}
-use Rattle.pgb_command.proofs.Deviating.{refused_ill, cut_ill, only_examines}
+use Rattle.pgb_command.proofs.Deviating.{refused_ill, cut_ill, only_verifies}
 
 -- ---- which of the answers it is
 
@@ -82,6 +82,8 @@ create_at : (request : Request) (reached : Reached) (P : Type 0) → reached ≡
 create_at create reached P is h = none_at reached P is h
 create_at (push path) reached P is h = tt
 create_at (get name path) reached P is h = tt
+create_at (get_through name path how) reached P is h = tt
+create_at (fetch_ahead name how) reached P is h = tt
 create_at (backup how) reached P is h = tt
 create_at (backup_running how) reached P is h = tt
 create_at (restore set how) reached P is h = tt
@@ -90,6 +92,7 @@ create_at examine reached P is h = tt
 create_at (leave path how) reached P is h = tt
 create_at (drain place) reached P is h = tt
 create_at (expire rules) reached P is h = tt
+create_at (rehearse how) reached P is h = tt
 
 ok_at : (ended : Result Outcome Fault) (P : Type 0) → status (ending_of ended) ≡ 0 → OnOk ended P → P
 ok_at (Ok x) P is h = h
@@ -153,8 +156,13 @@ module _ (a : Asked) (b k : Seen) (n : ℕ) where
     unmade = subst (λ (q : Request). OnCreate q (k.repo.view.now ≡ b.repo.view.now)) (sym is) tt;
   }
 
+  -- a rehearsal that told it has made its steps, and didn't turn back
+  found_back : (unknown : List Text) (lines : String Global) (count : ℕ) → (a.request ≡ examine) ⊎ ((how : RehearseHow) × (a.request ≡ rehearse how)) → Did a b k (Ok (FindingsFound lines count)) → IsAnswered unknown b k (Ok (FindingsFound lines count)) n → IsEarly a.request n → TurnsBack a b k n
+  found_back unknown lines count (inl is) did t early = told_back lines count is did
+  found_back unknown lines count (inr x) did t early = absurd ((subst (λ (q : Request). IsEarly q n) x.1 early).1 (status_at unknown (Ok (FindingsFound lines count)) t early))
+
   back_by : (unknown : List Text) (ended : Result Outcome Fault) → Did a b k ended → IsAnswered unknown b k ended n → IsEarly a.request n → TurnsBack a b k n
-  back_by unknown (Ok (FindingsFound lines count)) did t early = told_back lines count (only_examines a a.request _ (known k) lines count did.promise.2) did
+  back_by unknown (Ok (FindingsFound lines count)) did t early = found_back unknown lines count (only_verifies a a.request _ (known k) lines count did.promise.2) did t early
   back_by unknown (Ok (Finished lines)) did t early = refused_back unknown (Ok (Finished lines)) (λ e. e) did t early
   back_by unknown (Ok (Absent name)) did t early = refused_back unknown (Ok (Absent name)) (λ e. e) did t early
   back_by unknown (Err e) did t early = refused_back unknown (Err e) (λ x. x) did t early
@@ -177,7 +185,7 @@ module _ (a : Asked) (b k : Seen) (n : ℕ) where
     folder = folder_stays a a.request (known b) k.tree.nodes (idle_nodes b k x.0);
     quiet = λ none. x.0.server;
     others = any_other a.request _ x.0.server;
-    waits = any_unless (uses_turns a.request) _ x.0.others;
+    waits = others_stay a a.request b.others k.others x.0.others;
     workers = any_unless (uses_workers a.request) _ x.0.links;
     clock = any_unless (uses_clock a.request) _ x.0.clock;
   }

@@ -1,10 +1,9 @@
 -- A file that was left to a drain, told of all objects.
-use Rattle.std.proofs.Common.{◌≡◌, ◌⊎◌, ⊎_elim, inl, inr, Bool, true, false, List, [], Option, Some, None, Result, Ok, Err, IfOk, IfErr, refl, sym, subst, ap, ◌∙◌}
-use Rattle.std.specs.Prelude.{String, IfSome, IsSome, IsSomeAnd, OnOk, IsErrAnd, option_map, string_bytes}
+use Rattle.std.proofs.Common.{◌≡◌, ⊎_elim, inl, inr, Bool, true, false, List, [], Option, Some, None, Result, Ok, Err, IfOk, IfErr, refl, sym, subst, ap, ◌∙◌}
+use Rattle.std.specs.Prelude.{String, IfSome, IsSome, IsSomeAnd, OnOk, option_map, string_bytes}
 use Rattle.std.specs.declared.alloc.Global.{Global}
 use Rattle.sha1.specs.Sha1.{sha1}
 use Rattle.pgb_outside.specs.Content.{Content}
-use Rattle.pgb_outside.specs.Moments.{View}
 use Rattle.pgb_outside.specs.Tree.{Nodes}
 use Rattle.pgb_model.specs.declared.wal.ArchiveName.{ArchiveName}
 use Rattle.pgb_model.specs.Log.{Done, HasReceipt, Keeps}
@@ -43,8 +42,8 @@ use Rattle.pgb_command.specs.declared.order.Order.{Order}
 use Rattle.pgb_command.specs.declared.order.LeaveOrder.{LeaveOrder}
 use Rattle.pgb_command.specs.declared.order.Course.{Course}
 use Rattle.pgb_command.specs.declared.order.Course.TheVariants.{Staged, Left}
-use Rattle.pgb_command.specs.Answers.{ending_of, reached_of, status}
-use Rattle.pgb_command.specs.Asked.{Request, create, push, leave, drain, get, backup, backup_running, restore, report, examine, expire, LeaveHow, Asked, drain_words}
+use Rattle.pgb_command.specs.Answers.{ending_of, reached_of}
+use Rattle.pgb_command.specs.Asked.{Request, create, push, leave, drain, get, get_through, fetch_ahead, backup, backup_running, restore, report, examine, expire, rehearse, LeaveHow, Asked, drain_words}
 use Rattle.pgb_command.specs.Faults.{of_leave, lift}
 use Rattle.pgb_command.specs.Tables.{known, heard_for, plan_of, uses_spool}
 use Rattle.pgb_command.specs.Did.{Acknowledges, ArePlacesOpened, Brackets, Cause, Closes, Did, HealsPairs, IsLeftStored, LastsAfter, OnLeft, OpensPlaces, SamePlaces, TakesAll}
@@ -62,12 +61,15 @@ left_is (push path) folder o is = absurd is
 left_is (leave path how) folder o is = ap (λ (p : Text). leave p how) (sym is.1) ∙ ap (leave o.push.path.now) (sym is.2)
 left_is (drain place) folder o is = absurd is
 left_is (get name path) folder o is = absurd is
+left_is (get_through name path how) folder o is = absurd is
+left_is (fetch_ahead name how) folder o is = absurd is
 left_is (backup how) folder o is = absurd is
 left_is (backup_running how) folder o is = absurd is
 left_is (restore set how) folder o is = absurd is
 left_is (report form) folder o is = absurd is
 left_is examine folder o is = absurd is
 left_is (expire rules) folder o is = absurd is
+left_is (rehearse how) folder o is = absurd is
 
 pub left_folder : (q : Request) (folder : Text) (o : LeaveOrder) → IsLeft q folder o → o.push.folder.now ≡ folder
 left_folder create folder o is = absurd is
@@ -75,12 +77,15 @@ left_folder (push path) folder o is = absurd is
 left_folder (leave path how) folder o is = is.0
 left_folder (drain place) folder o is = absurd is
 left_folder (get name path) folder o is = absurd is
+left_folder (get_through name path how) folder o is = absurd is
+left_folder (fetch_ahead name how) folder o is = absurd is
 left_folder (backup how) folder o is = absurd is
 left_folder (backup_running how) folder o is = absurd is
 left_folder (restore set how) folder o is = absurd is
 left_folder (report form) folder o is = absurd is
 left_folder examine folder o is = absurd is
 left_folder (expire rules) folder o is = absurd is
+left_folder (rehearse how) folder o is = absurd is
 
 -- the way that is asked for
 pub course_staged : (q : Request) (folder : Text) (c : Course) (o : Order) → c ≡ Staged o → IsCourse q folder c → IsOrder q folder o
@@ -103,12 +108,15 @@ staged_left (push path) folder o is P = tt
 staged_left (leave path how) folder o is P = absurd is
 staged_left (drain place) folder o is P = tt
 staged_left (get name path) folder o is P = tt
+staged_left (get_through name path how) folder o is P = tt
+staged_left (fetch_ahead name how) folder o is P = tt
 staged_left (backup how) folder o is P = tt
 staged_left (backup_running how) folder o is P = tt
 staged_left (restore set how) folder o is P = tt
 staged_left (report form) folder o is P = tt
 staged_left examine folder o is P = tt
 staged_left (expire rules) folder o is P = tt
+staged_left (rehearse how) folder o is P = tt
 
 pub on_left : (q : Request) (P Q : Text → Type 0) → ((path : Text) → P path → Q path) → OnLeft q P → OnLeft q Q
 on_left create P Q to h = tt
@@ -116,12 +124,15 @@ on_left (push path) P Q to h = tt
 on_left (leave path how) P Q to h = to path h
 on_left (drain place) P Q to h = tt
 on_left (get name path) P Q to h = tt
+on_left (get_through name path how) P Q to h = tt
+on_left (fetch_ahead name how) P Q to h = tt
 on_left (backup how) P Q to h = tt
 on_left (backup_running how) P Q to h = tt
 on_left (restore set how) P Q to h = tt
 on_left (report form) P Q to h = tt
 on_left examine P Q to h = tt
 on_left (expire rules) P Q to h = tt
+on_left (rehearse how) P Q to h = tt
 
 -- ---- what was only opened or read before it doesn't matter
 

@@ -27,3 +27,5 @@ mod Closings
 mod Unused
 pub mod InForm
 pub mod Workers
+mod RehearseRans
+mod FetchRans

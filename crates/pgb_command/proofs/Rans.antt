@@ -63,9 +63,9 @@ use Rattle.pgb_command.specs.declared.fault.Fault.{Fault}
 use Rattle.pgb_command.specs.declared.fault.Fault.TheVariants.{Command as OfCommand}
 use Rattle.pgb_command.specs.declared.fault.CommandFault.TheVariants.{Create, Push, Drain, Get, Take}
 use Rattle.pgb_command.specs.Answers.{status, reached_of, ending_of, is_early}
-use Rattle.pgb_command.specs.Asked.{Request, create, push, leave, drain, get, backup, backup_running, restore, report, examine, expire, Asked, alone}
+use Rattle.pgb_command.specs.Asked.{Request, create, push, leave, drain, get, get_through, fetch_ahead, backup, backup_running, restore, report, examine, expire, rehearse, Asked, alone}
 use Rattle.pgb_command.specs.Faults.{of_halt, of_create, of_push, of_drain, of_get, of_take, lift}
-use Rattle.pgb_command.specs.Tables.{known, IsSomeDrain, TurnsTold, found_by, Promise, Lasts, plan_of, manner_of, IsCreateOf, OnReader, OnCreate, OnExpire, Expires, OnOther, FolderGoes, FolderStays, Unless, uses_workers, uses_clock, uses_turns}
+use Rattle.pgb_command.specs.Tables.{known, IsSomeDrain, TurnsTold, found_by, Promise, Lasts, plan_of, manner_of, IsCreateOf, OnReader, OnCreate, OnExpire, Expires, OnOther, FolderGoes, FolderStays, Unless, OthersGo, uses_workers, uses_clock}
 use Rattle.pgb_command.specs.Did.{SamePlaces, Closes, OwnCause, StaysHealed, Ran}
 use Rattle.pgb_command.proofs.Ends.{reached_same, lift_ok, lift_on, lift_err}
 use Rattle.pgb_command.proofs.OneCluster.{cluster_is}
@@ -88,6 +88,8 @@ module _ {E : Type 0} (a : Asked) (b k : Seen) (of : E → Fault) (early : E →
   create_reached create P h = as_reached P h
   create_reached (push path) P h = h
   create_reached (get name path) P h = h
+  create_reached (get_through name path how) P h = h
+  create_reached (fetch_ahead name how) P h = h
   create_reached (backup how) P h = h
   create_reached (backup_running how) P h = h
   create_reached (restore set how) P h = h
@@ -96,11 +98,12 @@ module _ {E : Type 0} (a : Asked) (b k : Seen) (of : E → Fault) (early : E →
   create_reached (leave path how) P h = h
   create_reached (drain place) P h = h
   create_reached (expire rules) P h = h
+  create_reached (rehearse how) P h = h
 
   pub ran_of : On (manner_of a a.request (known b) (known k)) (λ command. Runs (plan_of a.request).settling a.stanza command (reached_by early r) b.repo.view b.spool.view k.repo.view k.spool.view) → IfOk r (Promise a a.request (known b) (known k)) → IfOk r (λ o. IsLookedAt a.stanza b.repo.view → Lasts a a.request b.tree.nodes k.repo.view k.tree.nodes o) → IfErr r (HaltCause why failed) →
       OnOk r (StaysHealed a b k) →
       (TurnsTold a a.request (known k) → StaysBeside a.stanza b.repo.view k.repo.view) → (TurnsTold a a.request (known k) → StaysBeside a.stanza b.spool.view k.spool.view) → OnCreate a.request (ChangesOnly (IsOfPairs a.stanza) b.repo.view k.repo.view) → OnExpire a.request (λ rules. Expires a.stanza rules b.clock.least b.repo.view k.repo.view) → OnReader a.request (IsStill b.repo.view k.repo.view) → FolderGoes a a.request (known b) k.tree.nodes → OnNone (reached_by early r) (FolderStays a.request (status (ending_of ended)) (k.tree.nodes ≡ b.tree.nodes)) →
-      OnCreate a.request (OnNone (reached_by early r) (k.repo.view.now ≡ b.repo.view.now)) → (a.server ≡ None → k.server ≡ b.server) → OnOther a.request (k.server ≡ b.server) → Unless (uses_turns a.request) (k.others ≡ b.others) → Unless (uses_workers a.request) (k.links ≡ b.links) → Unless (uses_clock a.request) (k.clock ≡ b.clock) →
+      OnCreate a.request (OnNone (reached_by early r) (k.repo.view.now ≡ b.repo.view.now)) → (a.server ≡ None → k.server ≡ b.server) → OnOther a.request (k.server ≡ b.server) → OthersGo a a.request b.others k.others → Unless (uses_workers a.request) (k.links ≡ b.links) → Unless (uses_clock a.request) (k.clock ≡ b.clock) →
       IfErr (lift (of_halt of) r) (Closes b k) → SamePlaces b k → AreLater b k → Ran a b k ended
   ran_of steps promise lasts cause healed beside spool pairs expires reads folder nodes unmade quiet others waits workers clock closed places later = subst (λ (e : Result Outcome Fault). Ran a b k e) (sym lifted) (record {
     steps = subst (λ (reached : Reached). On (manner_of a a.request (known b) (known k)) (λ command. Runs (plan_of a.request).settling a.stanza command reached b.repo.view b.spool.view k.repo.view k.spool.view)) (sym (reached_same of early same r)) steps;
@@ -134,17 +137,17 @@ with_request a q = record a { request = q }
 pub as_ran : (a : Asked) (q : Request) (b k : Seen) (ended : Result Outcome Fault) → a.request ≡ q → Ran (with_request a q) b k ended → Ran a b k ended
 as_ran a q b k ended is h = subst (λ (x : Request). Ran (with_request a x) b k ended) (sym is) h
 
-abbrev with_folder : Asked → Text → Asked
+abbrev pub with_folder : Asked → Text → Asked
 with_folder a folder = record a { data_folder = folder }
 
-in_folder : (a : Asked) (folder : Text) (b k : Seen) (ended : Result Outcome Fault) → folder ≡ a.data_folder → Ran (with_folder a folder) b k ended → Ran a b k ended
+pub in_folder : (a : Asked) (folder : Text) (b k : Seen) (ended : Result Outcome Fault) → folder ≡ a.data_folder → Ran (with_folder a folder) b k ended → Ran a b k ended
 in_folder a folder b k ended is h = subst (λ (x : Text). Ran (with_folder a x) b k ended) is h
 
 pub any_ok : {E : Type 0} (r : Result Outcome E) (P : Outcome → Type 0) → ((o : Outcome) → P o) → IfOk r P
 any_ok (Ok o) P p = p o
 any_ok (Err e) P p = tt
 
-ok_as : {E : Type 0} (r : Result Outcome E) (P Q : Outcome → Type 0) → ((o : Outcome) → P o → Q o) → IfOk r P → IfOk r Q
+pub ok_as : {E : Type 0} (r : Result Outcome E) (P Q : Outcome → Type 0) → ((o : Outcome) → P o → Q o) → IfOk r P → IfOk r Q
 ok_as (Ok o) P Q to h = to o h
 ok_as (Err e) P Q to h = tt
 
@@ -333,7 +336,7 @@ pub reading_runs : (how : Settling) (stanza : Text) (command : Command) (reached
 reading_runs how stanza command reached b k is still spool = subst (λ (c : Command). Runs how stanza c reached b.repo.view b.spool.view k.repo.view k.spool.view) (sym is) (subst (λ (v : View). Runs how stanza Reading reached b.repo.view b.spool.view k.repo.view v) (sym spool)
     (does_runs how stanza Reading reached b.repo.view k.repo.view b.spool.view (λ q log keeps. reading_spool stanza q log b.spool.view keeps) (reading_does how stanza reached b.repo.view k.repo.view still.time still.now)))
 
-get_closes : (b k : Seen) (h : Halt GetFault) → Closes b k (of_get h)
+pub get_closes : (b k : Seen) (h : Halt GetFault) → Closes b k (of_get h)
 get_closes b k (Refused e) = tt
 get_closes b k (HaltFailed object) = tt
 get_closes b k HaltMemory = tt

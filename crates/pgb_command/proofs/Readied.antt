@@ -13,7 +13,7 @@ use Rattle.pgb_prepare.specs.Readies.{IsReady}
 use Rattle.pgb_create.specs.declared.server.Server as code
 use Rattle.pgb_create.specs.Server.{server_view, socket_path}
 use Rattle.pgb_online.specs.Telling.{starting, stopping}
-use Rattle.pgb_command.specs.Asked.{Request, create, drain, backup, backup_running, BackupHow, RunningHow}
+use Rattle.pgb_command.specs.Asked.{Request, create, drain, get_through, fetch_ahead, backup, backup_running, BackupHow, FetchHow, RunningHow}
 use Rattle.pgb_command.specs.Tables.{plan_of, AsksBackup}
 
 -- a backup has its lock
@@ -35,6 +35,12 @@ module _ (q : Request) (stanza : Text) (repo : Option Content) (nodes : Option N
 
   pub drain_tells : (place : Text) → q ≡ drain place → (told : Control) → ready.control ≡ Some told → IfSome nodes (λ f. FolderTells f told)
   drain_tells place is told some = there ready.control told _ some ((by (drain place) is).control refl)
+
+  pub through_tells : (name path : Text) (how : FetchHow) → q ≡ get_through name path how → (told : Control) → ready.control ≡ Some told → IfSome nodes (λ f. FolderTells f told)
+  through_tells name path how is told some = there ready.control told _ some ((by (get_through name path how) is).control refl)
+
+  pub ahead_tells : (name : Text) (how : FetchHow) → q ≡ fetch_ahead name how → (told : Control) → ready.control ≡ Some told → IfSome nodes (λ f. FolderTells f told)
+  ahead_tells name how is told some = there ready.control told _ some ((by (fetch_ahead name how) is).control refl)
 
   pub backup_tells : (how : BackupHow) → q ≡ backup how → (told : Control) → ready.control ≡ Some told → IfSome nodes (λ f. FolderTells f told)
   backup_tells how is told some = there ready.control told _ some ((by (backup how) is).control refl)

@@ -33,12 +33,12 @@ use Rattle.pgb_prune.specs.Faults.{prune_early, PruneCause}
 use Rattle.pgb_prune.specs.Pruning.{counts_days, Prunes}
 use Rattle.pgb_expire.proofs.Receipts.{expiry_spool}
 use Rattle.pgb_command.proofs.Expiries.{removes, expires_still}
-use Rattle.pgb_command.proofs.ByRequest.{any_create, any_expire, any_other, any_reader, any_stays, any_unless, folder_stays}
+use Rattle.pgb_command.proofs.ByRequest.{any_create, any_expire, any_other, any_reader, any_stays, any_unless, folder_stays, others_stay}
 use Rattle.pgb_command.specs.declared.fault.CommandFault.TheVariants.{Examine, Prune}
 use Rattle.pgb_command.specs.Answers.{is_early, ending_of, status}
 use Rattle.pgb_command.specs.Asked.{Request, report, examine, expire, Asked}
 use Rattle.pgb_command.specs.Faults.{of_halt, of_stage, of_examine, of_prune, lift}
-use Rattle.pgb_command.specs.Tables.{known, plan_of, manner_of, Lasts, Promise, Unless, uses_clock, uses_turns, uses_workers}
+use Rattle.pgb_command.specs.Tables.{known, plan_of, manner_of, Lasts, Promise, Unless, uses_clock, uses_workers}
 use Rattle.pgb_command.specs.Did.{SamePlaces, Closes, OwnCause, StaysHealed, Ran}
 use Rattle.pgb_command.proofs.Rans.{with_request, as_ran, any_ok, on_all, all_none, never_closes, any_some, spool_kept, reading_runs, ran_of}
 
@@ -63,7 +63,7 @@ module _ {E : Type 0} (of : E → Fault) (early : E → Bool) (same : (e : E) �
       (any_create q _ (all_none (reached_by early r) _ still.now))
       (λ none. ap (λ (s : Seen). s.server) rest)
       (any_other q _ (ap (λ (s : Seen). s.server) rest))
-      (any_unless (uses_turns q) _ (ap (λ (s : Seen). s.others) rest))
+      (others_stay (with_request a q) q b.others k.others (ap (λ (s : Seen). s.others) rest))
       (any_unless (uses_workers q) _ (ap (λ (s : Seen). s.links) rest))
       (any_unless (uses_clock q) _ (ap (λ (s : Seen). s.clock) rest))
       (never_closes b k (of_halt of) closes r)

@@ -37,7 +37,7 @@ use Rattle.pgb_command.specs.declared.fault.Fault.{Fault}
 use Rattle.pgb_command.specs.declared.fault.Fault.TheVariants.{Command as OfCommand}
 use Rattle.pgb_command.specs.declared.fault.CommandFault.TheVariants.{Recover}
 use Rattle.pgb_command.specs.Answers.{status, ending_of}
-use Rattle.pgb_command.specs.Asked.{backup, restore, RestoreHow, Asked}
+use Rattle.pgb_command.specs.Asked.{restore, RestoreHow, Asked}
 use Rattle.pgb_command.specs.Faults.{of_recover, lift}
 use Rattle.pgb_command.specs.Tables.{Known, known, found_for, FolderStays}
 use Rattle.pgb_command.specs.Did.{SamePlaces, Closes, StaysHealed, Ran}

@@ -6,14 +6,14 @@ use Rattle.pgb_options.specs.declared.settle.Command.{Command}
 use Rattle.pgb_options.specs.Commands.{IsCommand}
 use Rattle.pgb_options.specs.Settings.{Settled}
 use Rattle.pgb_stage.specs.declared.fault.Unbuilt.{Unbuilt}
-use Rattle.pgb_stage.specs.declared.fault.Unbuilt.TheVariants.{Background, Bundles}
+use Rattle.pgb_stage.specs.declared.fault.Unbuilt.TheVariants.{Bundles}
 use Rattle.pgb_table.specs.declared.table.Verb.{Verb}
 use Rattle.pgb_table.specs.declared.table.Verb.TheVariants.{StanzaCreate, ArchivePush, ArchivePushAsync, ArchiveGet, ArchiveGetAsync, Backup, Expire, Restore, Verify, Info, Rehearse}
 use Rattle.pgb_create.specs.declared.server.Server as code
 use Rattle.pgb_create.specs.Server.{Server, server_view}
 use Rattle.pgb_command.specs.declared.settings.Request as settings
 use Rattle.pgb_command.specs.declared.settings.Request.TheVariants as requests
-use Rattle.pgb_command.specs.Asked.{Request, BackupHow, LeaveHow, RunningHow, push, leave, get, backup, backup_running, push_by, behind_backup, expires_by, Wanted, first_of, second_of, taken_by, backup_by, request_by, server_by, server_asked, wanted_in}
+use Rattle.pgb_command.specs.Asked.{Request, BackupHow, FetchHow, LeaveHow, RunningHow, push, leave, get, get_through, fetching_by, get_by, backup, backup_running, push_by, behind_backup, expires_by, Wanted, first_of, second_of, taken_by, backup_by, request_by, server_by, server_asked, wanted_in}
 use Rattle.pgb_retain.specs.declared.rules.Rules.{Rules}
 use Rattle.pgb_command.specs.Serving.{is_served, is_followed}
 use Rattle.pgb_command.specs.Told.{request_of, wanted_told}
@@ -40,6 +40,10 @@ never_pushed : (b : Bool) (path : Text) (wait : LeaveHow) (how : RunningHow) →
 never_pushed true path wait how is = cc
 never_pushed false path wait how is = cc
 
+never_served : (b : Bool) (name path : Text) (ahead : FetchHow) (how : RunningHow) → (if b then get_through name path ahead else get name path) ≡ backup_running how → ⊥
+never_served true name path ahead how is = cc
+never_served false name path ahead how is = cc
+
 -- ---- where it is asked for, it is online
 
 module _ (m : Wanted) (how : RunningHow) where
@@ -49,8 +53,8 @@ module _ (m : Wanted) (how : RunningHow) where
   push_never : (path : Text) → Asks (Ok (push_by m path)) how → ⊥
   push_never path is = never_pushed m.background path (record { spool = m.spool; turns = m.turns }) how (ok_asks (push_by m path) how is)
 
-  get_never : (name path : Text) → Asks (if m.background then Err Background else Ok (get name path)) how → ⊥
-  get_never name path is = let e = ok_asks (get name path) how (one_built m.background Background _ how is) in cc
+  get_never : (name path : Text) → Asks (Ok (get_by m name path)) how → ⊥
+  get_never name path is = never_served m.background name path (fetching_by m) how (ok_asks (get_by m name path) how is)
 
   served_by : (verb : Verb) (given : List Text) → Asks (request_by verb m given) how → (server : Server) → is_some (server_by verb m.online server) ≡ true
   served_by Backup given is server = ap (λ (b : Bool). is_some (server_by Backup b server)) (backup_online is)
@@ -75,6 +79,8 @@ request_served c s is (requests.ArchivePush path) asked o server = refl
 request_served c s is (requests.ArchivePushLeft path spool turns) asked o server = refl
 request_served c s is (requests.ArchivePushAsync spool) asked o server = refl
 request_served c s is (requests.ArchiveGet name path) asked o server = refl
+request_served c s is (requests.ArchiveGetThrough name path spool queue) asked o server = refl
+request_served c s is (requests.ArchiveGetAsync name spool queue) asked o server = refl
 request_served c s is (requests.Backup workers kind delta) asked o server = refl
 request_served c s is (requests.BackupRunning workers kind delta fast turns) asked o server =
     some_server o (ap is_some server ∙ served_by (wanted_in s.source) (record { taken = record { workers = workers; kind = kind; delta = delta }; fast = fast; turns = turns }) s.source.verb s.parameters (sym (request_is c s is) ∙ asked) _)
@@ -82,6 +88,7 @@ request_served c s is (requests.Restore set workers delta recovery) asked o serv
 request_served c s is (requests.Info form) asked o server = refl
 request_served c s is requests.Verify asked o server = refl
 request_served c s is (requests.Expire rules) asked o server = refl
+request_served c s is (requests.Rehearse workers number) asked o server = refl
 
 -- an expiry follows a backup alone
 pub follows_backup : (r : settings.Request) (m : Wanted) (rules : Option Rules) → rules ≡ expires_by (request_of r) m → is_followed r rules ≡ true
@@ -90,12 +97,15 @@ follows_backup (requests.ArchivePush path) m rules is = ap is_none is
 follows_backup (requests.ArchivePushLeft path spool turns) m rules is = ap is_none is
 follows_backup (requests.ArchivePushAsync spool) m rules is = ap is_none is
 follows_backup (requests.ArchiveGet name path) m rules is = ap is_none is
+follows_backup (requests.ArchiveGetThrough name path spool queue) m rules is = ap is_none is
+follows_backup (requests.ArchiveGetAsync name spool queue) m rules is = ap is_none is
 follows_backup (requests.Backup workers kind delta) m rules is = refl
 follows_backup (requests.BackupRunning workers kind delta fast turns) m rules is = refl
 follows_backup (requests.Restore set workers delta recovery) m rules is = ap is_none is
 follows_backup (requests.Info form) m rules is = ap is_none is
 follows_backup requests.Verify m rules is = ap is_none is
 follows_backup (requests.Expire other) m rules is = ap is_none is
+follows_backup (requests.Rehearse workers number) m rules is = ap is_none is
 
 none_is : (rules : Option Rules) → is_none rules ≡ true → None ≡ rules
 none_is None is = refl
@@ -108,9 +118,12 @@ kept_behind (requests.ArchivePush path) rules is = none_is rules is
 kept_behind (requests.ArchivePushLeft path spool turns) rules is = none_is rules is
 kept_behind (requests.ArchivePushAsync spool) rules is = none_is rules is
 kept_behind (requests.ArchiveGet name path) rules is = none_is rules is
+kept_behind (requests.ArchiveGetThrough name path spool queue) rules is = none_is rules is
+kept_behind (requests.ArchiveGetAsync name spool queue) rules is = none_is rules is
 kept_behind (requests.Backup workers kind delta) rules is = refl
 kept_behind (requests.BackupRunning workers kind delta fast turns) rules is = refl
 kept_behind (requests.Restore set workers delta recovery) rules is = none_is rules is
 kept_behind (requests.Info form) rules is = none_is rules is
 kept_behind requests.Verify rules is = none_is rules is
 kept_behind (requests.Expire other) rules is = none_is rules is
+kept_behind (requests.Rehearse workers number) rules is = none_is rules is

@@ -27,12 +27,16 @@ use Rattle.pgb_prune.specs.declared.fault.PruneFault.TheVariants as prunes
 use Rattle.pgb_prune.specs.Faults.{prune_early}
 use Rattle.pgb_prune.proofs.Statuses.{prune_within, behind_late}
 use Rattle.pgb_prune.specs.Texts.{behind_status}
+use Rattle.pgb_rehearse.specs.declared.fault.RehearseFault.{RehearseFault}
+use Rattle.pgb_rehearse.specs.declared.fault.RehearseFault.TheVariants as rehearses
+use Rattle.pgb_rehearse.specs.Faults.{rehearse_early}
+use Rattle.pgb_rehearse.specs.Texts.{rehearse_status}
 use Rattle.pgb_command.specs.declared.fault.CommandFault.{CommandFault}
-use Rattle.pgb_command.specs.declared.fault.CommandFault.TheVariants.{Create, Push, Leave, Drain, Get, Take, TakeOnline, Recover, Examine, Prune}
+use Rattle.pgb_command.specs.declared.fault.CommandFault.TheVariants.{Create, Push, Leave, Drain, Get, Take, TakeOnline, Recover, Examine, Prune, Rehearse}
 use Rattle.pgb_command.specs.declared.fault.Fault.{Fault}
 use Rattle.pgb_command.specs.declared.fault.Fault.TheVariants as fault
 use Rattle.pgb_command.specs.Answers.{status, status_of, usage_status, command_status, command_early, is_early, ending_of, reached_of}
-use Rattle.pgb_command.specs.Asked.{Request, create, push, leave, drain, get, backup, backup_running, restore, report, examine, expire}
+use Rattle.pgb_command.specs.Asked.{Request, create, push, leave, drain, get, get_through, fetch_ahead, backup, backup_running, restore, report, examine, expire, rehearse}
 use Rattle.pgb_command.specs.Causes.{IsRefusal, IsEarly}
 
 -- ---- a refusal has no status of a command that ended well
@@ -80,6 +84,11 @@ drain_over e = by (drain_is e)
     by (inl x) = omega (arith, x.0)
     by (inr x) = omega (arith, x.0)
 
+rehearse_over : (e : RehearseFault) → 2 ≤ rehearse_status e
+rehearse_over (rehearses.StanzaExists stanza) = omega arith
+rehearse_over (rehearses.NotEmpty path) = omega arith
+rehearse_over (rehearses.Step fault) = omega arith
+
 command_over : (e : CommandFault) → 2 ≤ command_status e
 command_over (Create e) = create_over e
 command_over (Push e) = (push_within e).0
@@ -91,6 +100,7 @@ command_over (TakeOnline e) = online_take_over e
 command_over (Recover e) = recover_over e
 command_over (Examine e) = omega (arith, examine_is e)
 command_over (Prune e) = (prune_within e).0
+command_over (Rehearse e) = rehearse_over e
 
 pub over : (e : Fault) → 2 ≤ status_of e
 over (fault.Usage e) = usage_over e
@@ -116,6 +126,8 @@ any_early : (q : Request) (n : ℕ) → IsEarly q n → AnyEarly n
 any_early create n h = h
 any_early (push path) n h = inl h
 any_early (get name path) n h = inl h
+any_early (get_through name path how) n h = inl h
+any_early (fetch_ahead name how) n h = inl h
 any_early (backup how) n h = inl h
 any_early (backup_running how) n h = h
 any_early (restore set how) n h = inl h
@@ -124,6 +136,7 @@ any_early examine n h = inl h
 any_early (leave path how) n h = inl h
 any_early (drain place) n h = inl h
 any_early (expire rules) n h = inl h
+any_early (rehearse how) n h = inl h.0
 
 late : (m : ℕ) → (73 ≤ m) → (m ≤ 99) → m ≢ 83 → ¬ AnyEarly m
 late m lo hi apart (inl (inl a)) = absurd (omega (arith, lo, a.1))
@@ -151,6 +164,11 @@ drain_is_early e h = by (drain_is e)
     by (inl x) = x.1
     by (inr x) = absurd (late (drain_status e) (omega (arith, x.0)) (omega (arith, x.1)) (λ is. absurd (omega (arith, is, x.1))) h)
 
+rehearse_is_early : (e : RehearseFault) → AnyEarly (rehearse_status e) → rehearse_early e ≡ true
+rehearse_is_early (rehearses.StanzaExists stanza) h = refl
+rehearse_is_early (rehearses.NotEmpty path) h = refl
+rehearse_is_early (rehearses.Step fault) h = absurd (late 76 (omega arith) (omega arith) (λ e. absurd (omega (arith, e))) h)
+
 early_command : (e : CommandFault) → AnyEarly (command_status e) → command_early e ≡ true
 early_command (Create e) h = refl
 early_command (Push e) h = refl
@@ -162,6 +180,7 @@ early_command (TakeOnline e) h = refl
 early_command (Recover e) h = refl
 early_command (Examine e) h = refl
 early_command (Prune e) h = prune_is_early e
+early_command (Rehearse e) h = rehearse_is_early e h
 
 early_fault : (e : Fault) → AnyEarly (status_of e) → is_early e ≡ true
 early_fault (fault.Usage e) h = refl

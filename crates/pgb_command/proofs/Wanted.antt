@@ -36,6 +36,8 @@ wanted_is o s is =
     let workers = is.process_max in
     let fast = is.start_fast in
     let turns = is.archive_timeout in
+    let spool = is.spool_path in
+    let queue = is.archive_get_queue_max in
     let rules = rules_are o s is in
     cc
 

@@ -1,6 +1,7 @@
 -- Why a command's words are refused.
-use Rattle.std.proofs.Common.{◌≡◌, ap, Option, inl, inr, Result, Ok, Err, IfErr, refl, sym, subst}
+use Rattle.std.proofs.Common.{◌≡◌, ◌∙◌, ap, Option, inl, inr, Result, Ok, Err, IfErr, refl, sym, subst}
 use Rattle.std.specs.Prelude.{IsErrAnd}
+use Rattle.pgb_model.specs.InfoFiles.{IsSegment}
 use Rattle.pgb_model.specs.Text.{Text}
 use Rattle.pgb_archive.specs.Still.{still_self}
 use Rattle.pgb_stage.specs.declared.object.Object.{Object}
@@ -16,6 +17,8 @@ use Rattle.pgb_get.specs.declared.fault.GetFault.{GetFault}
 use Rattle.pgb_recover.specs.declared.fault.RecoverFault.{RecoverFault}
 use Rattle.pgb_recover.specs.Words.{TellsSet, WordCause as SetCause}
 use Rattle.pgb_recover.specs.declared.order.RecoverOrder.{RecoverOrder}
+use Rattle.pgb_fetch.specs.Behind.{WordCause as NameCause}
+use Rattle.pgb_rehearse.specs.declared.order.RehearseOrder.{RehearseOrder}
 use Rattle.pgb_take_later.specs.declared.order.LaterOrder.{LaterOrder}
 use Rattle.pgb_get.proofs.Refusals.{get_words as read_words}
 use Rattle.pgb_get.specs.Getting.{AreWords, WordsCause as GetWords}
@@ -24,13 +27,15 @@ use Rattle.pgb_command.specs.declared.fault.Fault.{Fault}
 use Rattle.pgb_stage.specs.declared.outcome.Outcome.{Outcome}
 use Rattle.pgb_push.specs.WalPath.{IsWalPath}
 use Rattle.pgb_command.specs.declared.order.Order.{Order}
+use Rattle.pgb_command.specs.declared.order.AheadOrder.{AheadOrder}
 use Rattle.pgb_command.specs.declared.order.RunningOrder.{RunningOrder}
+use Rattle.pgb_command.specs.declared.order.ThroughOrder.{ThroughOrder}
 use Rattle.pgb_command.specs.declared.order.Order.TheVariants as orders
 use Rattle.pgb_command.specs.declared.order.LeaveOrder.{LeaveOrder}
 use Rattle.pgb_command.specs.declared.order.Course.{Course}
 use Rattle.pgb_command.specs.declared.order.Course.TheVariants as courses
-use Rattle.pgb_command.specs.Told.{how_of, taking_of, running_of, IsCourse, IsLeft, IsOrder}
-use Rattle.pgb_command.specs.Asked.{Request, create, push, leave, drain, get, backup, backup_running, restore, report, examine, expire, LeaveHow, RestoreHow, Asked}
+use Rattle.pgb_command.specs.Told.{size_by, how_of, taking_of, running_of, fetching_of, IsCourse, IsLeft, IsOrder}
+use Rattle.pgb_command.specs.Asked.{Request, create, push, leave, drain, get, get_through, fetch_ahead, backup, backup_running, restore, report, examine, expire, rehearse, FetchHow, RehearseHow, LeaveHow, RestoreHow, Asked}
 use Rattle.pgb_command.specs.Faults.{of_push, of_get, of_recover}
 use Rattle.pgb_command.specs.Tables.{WordsFit, CommandCause}
 use Rattle.pgb_command.specs.Did.{IsIdle, WordsCause, ComesBehind}
@@ -51,6 +56,16 @@ module _ (a : Asked) where
   get_words name path is (HaltFailed object) h = absurd h
   get_words name path is HaltMemory h = tt
 
+  through_words : (name path : Text) (how : FetchHow) → a.request ≡ get_through name path how → (h : Halt GetFault) → HaltCause (GetWords a.data_folder name path) (λ (object : Object). ⊥) h → WordsCause a (of_get h)
+  through_words name path how is (Refused e) h = λ old new. subst (λ (q : Request). CommandCause a q old new (Get e)) (sym is) (inl h)
+  through_words name path how is (HaltFailed object) h = absurd h
+  through_words name path how is HaltMemory h = tt
+
+  ahead_words : (name : Text) (how : FetchHow) → a.request ≡ fetch_ahead name how → (h : Halt GetFault) → HaltCause (NameCause name) (λ (object : Object). ⊥) h → WordsCause a (of_get h)
+  ahead_words name how is (Refused e) h = λ old new. subst (λ (q : Request). CommandCause a q old new (Get e)) (sym is) (inl h)
+  ahead_words name how is (HaltFailed object) h = absurd h
+  ahead_words name how is HaltMemory h = tt
+
   set_words : (set : Option Text) (how : RestoreHow) → a.request ≡ restore set how → (h : Halt RecoverFault) → HaltCause (SetCause set) (λ (object : Object). ⊥) h → WordsCause a (of_recover h)
   set_words set how is (Refused e) h = λ old new. subst (λ (q : Request). CommandCause a q old new (Recover e)) (sym is) (inl h)
   set_words set how is (HaltFailed object) h = absurd h
@@ -69,6 +84,12 @@ module _ (a : Asked) where
   pub get_refused : (name path : Text) → a.request ≡ get name path → {T : Type 0} (result : Result T Fault) (h : Halt GetFault) → IsErrAnd result (λ f. f ≡ of_get h) → HaltCause (GetWords a.data_folder name path) (λ (object : Object). ⊥) h → IfErr result (WordsCause a)
   get_refused name path asked result h is cause = of_err result (of_get h) is (get_words name path asked h cause)
 
+  pub through_refused : (name path : Text) (how : FetchHow) → a.request ≡ get_through name path how → {T : Type 0} (result : Result T Fault) (h : Halt GetFault) → IsErrAnd result (λ f. f ≡ of_get h) → HaltCause (GetWords a.data_folder name path) (λ (object : Object). ⊥) h → IfErr result (WordsCause a)
+  through_refused name path how asked result h is cause = of_err result (of_get h) is (through_words name path how asked h cause)
+
+  pub ahead_refused : (name : Text) (how : FetchHow) → a.request ≡ fetch_ahead name how → {T : Type 0} (result : Result T Fault) (h : Halt GetFault) → IsErrAnd result (λ f. f ≡ of_get h) → HaltCause (NameCause name) (λ (object : Object). ⊥) h → IfErr result (WordsCause a)
+  ahead_refused name how asked result h is cause = of_err result (of_get h) is (ahead_words name how asked h cause)
+
   pub restore_refused : (set : Option Text) (how : RestoreHow) → a.request ≡ restore set how → {T : Type 0} (result : Result T Fault) (h : Halt RecoverFault) → IsErrAnd result (λ f. f ≡ of_recover h) → HaltCause (SetCause set) (λ (object : Object). ⊥) h → IfErr result (WordsCause a)
   restore_refused set how asked result h is cause = of_err result (of_recover h) is (set_words set how asked h cause)
 
@@ -78,6 +99,8 @@ words_fit : (a : Asked) (q : Request) (o : Order) → IsOrder q a.data_folder o 
 words_fit a create orders.StanzaCreate is = tt
 words_fit a create (orders.ArchivePush o) is = absurd is
 words_fit a create (orders.ArchiveGet o) is = absurd is
+words_fit a create (orders.ArchiveGetThrough o) is = absurd is
+words_fit a create (orders.ArchiveGetAsync o) is = absurd is
 words_fit a create (orders.Backup o) is = absurd is
 words_fit a create (orders.BackupRunning o) is = absurd is
 words_fit a create (orders.Restore o) is = absurd is
@@ -85,9 +108,12 @@ words_fit a create (orders.Info asked) is = absurd is
 words_fit a create orders.Verify is = absurd is
 words_fit a create orders.ArchivePushAsync is = absurd is
 words_fit a create (orders.Expire asked) is = absurd is
+words_fit a create (orders.Rehearse o) is = absurd is
 words_fit a (push path) orders.StanzaCreate is = absurd is
 words_fit a (push path) (orders.ArchivePush o) is = (o.name, subst (λ (f : Text). IsWalPath f path o.name) is.0 (subst (λ (p : Text). IsWalPath o.folder.now p o.name) is.1 o.named))
 words_fit a (push path) (orders.ArchiveGet o) is = absurd is
+words_fit a (push path) (orders.ArchiveGetThrough o) is = absurd is
+words_fit a (push path) (orders.ArchiveGetAsync o) is = absurd is
 words_fit a (push path) (orders.Backup o) is = absurd is
 words_fit a (push path) (orders.BackupRunning o) is = absurd is
 words_fit a (push path) (orders.Restore o) is = absurd is
@@ -95,9 +121,12 @@ words_fit a (push path) (orders.Info asked) is = absurd is
 words_fit a (push path) orders.Verify is = absurd is
 words_fit a (push path) orders.ArchivePushAsync is = absurd is
 words_fit a (push path) (orders.Expire asked) is = absurd is
+words_fit a (push path) (orders.Rehearse o) is = absurd is
 words_fit a (get word path) orders.StanzaCreate is = absurd is
 words_fit a (get word path) (orders.ArchivePush o) is = absurd is
 words_fit a (get word path) (orders.ArchiveGet o) is = (o.name, subst (λ (f : Text). AreWords f word path o.name) is.0 (subst (λ (w : Text). AreWords o.folder.now w path o.name) is.1 (subst (λ (p : Text). AreWords o.folder.now o.word.now p o.name) is.2 o.wanted)))
+words_fit a (get word path) (orders.ArchiveGetThrough o) is = absurd is
+words_fit a (get word path) (orders.ArchiveGetAsync o) is = absurd is
 words_fit a (get word path) (orders.Backup o) is = absurd is
 words_fit a (get word path) (orders.BackupRunning o) is = absurd is
 words_fit a (get word path) (orders.Restore o) is = absurd is
@@ -105,12 +134,43 @@ words_fit a (get word path) (orders.Info asked) is = absurd is
 words_fit a (get word path) orders.Verify is = absurd is
 words_fit a (get word path) orders.ArchivePushAsync is = absurd is
 words_fit a (get word path) (orders.Expire asked) is = absurd is
+words_fit a (get word path) (orders.Rehearse o) is = absurd is
+words_fit a (get_through word path how) orders.StanzaCreate is = absurd is
+words_fit a (get_through word path how) (orders.ArchivePush o) is = absurd is
+words_fit a (get_through word path how) (orders.ArchiveGet o) is = absurd is
+words_fit a (get_through word path how) (orders.ArchiveGetThrough o) is = (o.get.name, subst (λ (f : Text). AreWords f word path o.get.name) is.0 (subst (λ (w : Text). AreWords o.get.folder.now w path o.get.name) is.1 (subst (λ (p : Text). AreWords o.get.folder.now o.get.word.now p o.get.name) is.2 o.get.wanted)))
+words_fit a (get_through word path how) (orders.ArchiveGetAsync o) is = absurd is
+words_fit a (get_through word path how) (orders.Backup o) is = absurd is
+words_fit a (get_through word path how) (orders.BackupRunning o) is = absurd is
+words_fit a (get_through word path how) (orders.Restore o) is = absurd is
+words_fit a (get_through word path how) (orders.Info asked) is = absurd is
+words_fit a (get_through word path how) orders.Verify is = absurd is
+words_fit a (get_through word path how) orders.ArchivePushAsync is = absurd is
+words_fit a (get_through word path how) (orders.Expire asked) is = absurd is
+words_fit a (get_through word path how) (orders.Rehearse o) is = absurd is
+words_fit a (fetch_ahead word how) orders.StanzaCreate is = absurd is
+words_fit a (fetch_ahead word how) (orders.ArchivePush o) is = absurd is
+words_fit a (fetch_ahead word how) (orders.ArchiveGet o) is = absurd is
+words_fit a (fetch_ahead word how) (orders.ArchiveGetThrough o) is = absurd is
+words_fit a (fetch_ahead word how) (orders.ArchiveGetAsync o) is = (o.fetch.segment, record { fits = is.2; is = sym is.0 ∙ o.fetch.named })
+words_fit a (fetch_ahead word how) (orders.Backup o) is = absurd is
+words_fit a (fetch_ahead word how) (orders.BackupRunning o) is = absurd is
+words_fit a (fetch_ahead word how) (orders.Restore o) is = absurd is
+words_fit a (fetch_ahead word how) (orders.Info asked) is = absurd is
+words_fit a (fetch_ahead word how) orders.Verify is = absurd is
+words_fit a (fetch_ahead word how) orders.ArchivePushAsync is = absurd is
+words_fit a (fetch_ahead word how) (orders.Expire asked) is = absurd is
+words_fit a (fetch_ahead word how) (orders.Rehearse o) is = absurd is
 words_fit a (backup how) orders.StanzaCreate is = absurd is
 words_fit a (backup_running how) orders.StanzaCreate is = absurd is
 words_fit a (backup how) (orders.ArchivePush o) is = absurd is
 words_fit a (backup_running how) (orders.ArchivePush o) is = absurd is
 words_fit a (backup how) (orders.ArchiveGet o) is = absurd is
+words_fit a (backup how) (orders.ArchiveGetThrough o) is = absurd is
+words_fit a (backup how) (orders.ArchiveGetAsync o) is = absurd is
 words_fit a (backup_running how) (orders.ArchiveGet o) is = absurd is
+words_fit a (backup_running how) (orders.ArchiveGetThrough o) is = absurd is
+words_fit a (backup_running how) (orders.ArchiveGetAsync o) is = absurd is
 words_fit a (backup how) (orders.Backup o) is = tt
 words_fit a (backup how) (orders.BackupRunning o) is = absurd is
 words_fit a (backup_running how) (orders.Backup o) is = absurd is
@@ -124,10 +184,14 @@ words_fit a (backup how) orders.ArchivePushAsync is = absurd is
 words_fit a (backup_running how) orders.Verify is = absurd is
 words_fit a (backup_running how) orders.ArchivePushAsync is = absurd is
 words_fit a (backup_running how) (orders.Expire asked) is = absurd is
+words_fit a (backup_running how) (orders.Rehearse o) is = absurd is
 words_fit a (backup how) (orders.Expire asked) is = absurd is
+words_fit a (backup how) (orders.Rehearse o) is = absurd is
 words_fit a (restore set how) orders.StanzaCreate is = absurd is
 words_fit a (restore set how) (orders.ArchivePush o) is = absurd is
 words_fit a (restore set how) (orders.ArchiveGet o) is = absurd is
+words_fit a (restore set how) (orders.ArchiveGetThrough o) is = absurd is
+words_fit a (restore set how) (orders.ArchiveGetAsync o) is = absurd is
 words_fit a (restore set how) (orders.Backup o) is = absurd is
 words_fit a (restore set how) (orders.BackupRunning o) is = absurd is
 words_fit a (restore set how) (orders.Restore o) is = (o.set, is.2)
@@ -135,9 +199,12 @@ words_fit a (restore set how) (orders.Info asked) is = absurd is
 words_fit a (restore set how) orders.Verify is = absurd is
 words_fit a (restore set how) orders.ArchivePushAsync is = absurd is
 words_fit a (restore set how) (orders.Expire asked) is = absurd is
+words_fit a (restore set how) (orders.Rehearse o) is = absurd is
 words_fit a (report form) orders.StanzaCreate is = absurd is
 words_fit a (report form) (orders.ArchivePush o) is = absurd is
 words_fit a (report form) (orders.ArchiveGet o) is = absurd is
+words_fit a (report form) (orders.ArchiveGetThrough o) is = absurd is
+words_fit a (report form) (orders.ArchiveGetAsync o) is = absurd is
 words_fit a (report form) (orders.Backup o) is = absurd is
 words_fit a (report form) (orders.BackupRunning o) is = absurd is
 words_fit a (report form) (orders.Restore o) is = absurd is
@@ -145,13 +212,18 @@ words_fit a (report form) (orders.Info asked) is = tt
 words_fit a (report form) orders.Verify is = absurd is
 words_fit a (report form) orders.ArchivePushAsync is = absurd is
 words_fit a (report form) (orders.Expire asked) is = absurd is
+words_fit a (report form) (orders.Rehearse o) is = absurd is
 words_fit a examine orders.StanzaCreate is = absurd is
 words_fit a (leave path how) order is = absurd is
 words_fit a (drain place) orders.StanzaCreate is = absurd is
 words_fit a examine (orders.ArchivePush o) is = absurd is
 words_fit a (drain place) (orders.ArchivePush o) is = absurd is
 words_fit a examine (orders.ArchiveGet o) is = absurd is
+words_fit a examine (orders.ArchiveGetThrough o) is = absurd is
+words_fit a examine (orders.ArchiveGetAsync o) is = absurd is
 words_fit a (drain place) (orders.ArchiveGet o) is = absurd is
+words_fit a (drain place) (orders.ArchiveGetThrough o) is = absurd is
+words_fit a (drain place) (orders.ArchiveGetAsync o) is = absurd is
 words_fit a examine (orders.Backup o) is = absurd is
 words_fit a (drain place) (orders.Backup o) is = absurd is
 words_fit a examine (orders.BackupRunning o) is = absurd is
@@ -165,23 +237,43 @@ words_fit a examine orders.ArchivePushAsync is = absurd is
 words_fit a (drain place) orders.Verify is = absurd is
 words_fit a (drain place) orders.ArchivePushAsync is = tt
 words_fit a examine (orders.Expire asked) is = absurd is
+words_fit a examine (orders.Rehearse o) is = absurd is
 words_fit a (drain place) (orders.Expire asked) is = absurd is
+words_fit a (drain place) (orders.Rehearse o) is = absurd is
 words_fit a (expire rules) orders.StanzaCreate is = absurd is
+words_fit a (rehearse how) orders.StanzaCreate is = absurd is
+words_fit a (rehearse how) (orders.ArchivePush o) is = absurd is
+words_fit a (rehearse how) (orders.ArchiveGet o) is = absurd is
+words_fit a (rehearse how) (orders.ArchiveGetThrough o) is = absurd is
+words_fit a (rehearse how) (orders.ArchiveGetAsync o) is = absurd is
+words_fit a (rehearse how) (orders.Backup o) is = absurd is
+words_fit a (rehearse how) (orders.BackupRunning o) is = absurd is
+words_fit a (rehearse how) (orders.Restore o) is = absurd is
+words_fit a (rehearse how) (orders.Info asked) is = absurd is
+words_fit a (rehearse how) (orders.Expire asked) is = absurd is
+words_fit a (rehearse how) (orders.Rehearse o) is = tt
 words_fit a (expire rules) (orders.ArchivePush o) is = absurd is
 words_fit a (expire rules) (orders.ArchiveGet o) is = absurd is
+words_fit a (expire rules) (orders.ArchiveGetThrough o) is = absurd is
+words_fit a (expire rules) (orders.ArchiveGetAsync o) is = absurd is
 words_fit a (expire rules) (orders.Backup o) is = absurd is
 words_fit a (expire rules) (orders.BackupRunning o) is = absurd is
 words_fit a (expire rules) (orders.Restore o) is = absurd is
 words_fit a (expire rules) (orders.Info asked) is = absurd is
 words_fit a (expire rules) orders.Verify is = absurd is
+words_fit a (rehearse how) orders.Verify is = absurd is
 words_fit a (expire rules) orders.ArchivePushAsync is = absurd is
+words_fit a (rehearse how) orders.ArchivePushAsync is = absurd is
 words_fit a (expire rules) (orders.Expire asked) is = tt
+words_fit a (expire rules) (orders.Rehearse o) is = absurd is
 
 -- the order of a restore is asked for
 pub restore_asked : (q : Request) (folder : Text) (o : RecoverOrder) → IsOrder q folder (orders.Restore o) → (set : Option Text) × (q ≡ restore set (how_of o)) × TellsSet set o.set
 restore_asked create folder o is = absurd is
 restore_asked (push path) folder o is = absurd is
 restore_asked (get word path) folder o is = absurd is
+restore_asked (get_through word path how) folder o is = absurd is
+restore_asked (fetch_ahead word how) folder o is = absurd is
 restore_asked (backup how) folder o is = absurd is
 restore_asked (backup_running how) folder o is = absurd is
 restore_asked (restore set how) folder o is = (set, ap (restore set) (sym is.1), is.2)
@@ -190,12 +282,15 @@ restore_asked examine folder o is = absurd is
 restore_asked (leave path how) folder o is = absurd is
 restore_asked (drain place) folder o is = absurd is
 restore_asked (expire rules) folder o is = absurd is
+restore_asked (rehearse how) folder o is = absurd is
 
 -- so is that of a stopped server's backup
 pub taking_asked : (q : Request) (folder : Text) (o : LaterOrder) → IsOrder q folder (orders.Backup o) → q ≡ backup (taking_of o)
 taking_asked create folder o is = absurd is
 taking_asked (push path) folder o is = absurd is
 taking_asked (get word path) folder o is = absurd is
+taking_asked (get_through word path how) folder o is = absurd is
+taking_asked (fetch_ahead word how) folder o is = absurd is
 taking_asked (backup how) folder o is = ap backup (sym is.1)
 taking_asked (backup_running how) folder o is = absurd is
 taking_asked (restore set how) folder o is = absurd is
@@ -204,12 +299,15 @@ taking_asked examine folder o is = absurd is
 taking_asked (leave path how) folder o is = absurd is
 taking_asked (drain place) folder o is = absurd is
 taking_asked (expire rules) folder o is = absurd is
+taking_asked (rehearse how) folder o is = absurd is
 
 -- and that of a running server's
 pub running_asked : (q : Request) (folder : Text) (o : RunningOrder) → IsOrder q folder (orders.BackupRunning o) → q ≡ backup_running (running_of o)
 running_asked create folder o is = absurd is
 running_asked (push path) folder o is = absurd is
 running_asked (get word path) folder o is = absurd is
+running_asked (get_through word path how) folder o is = absurd is
+running_asked (fetch_ahead word how) folder o is = absurd is
 running_asked (backup how) folder o is = absurd is
 running_asked (backup_running how) folder o is = ap backup_running (sym is.1)
 running_asked (restore set how) folder o is = absurd is
@@ -218,6 +316,7 @@ running_asked examine folder o is = absurd is
 running_asked (leave path how) folder o is = absurd is
 running_asked (drain place) folder o is = absurd is
 running_asked (expire rules) folder o is = absurd is
+running_asked (rehearse how) folder o is = absurd is
 
 -- and a file that is left to a drain
 left_fits : (a : Asked) (q : Request) (o : LeaveOrder) → IsLeft q a.data_folder o → WordsFit a q
@@ -226,12 +325,15 @@ left_fits a (push path) o is = absurd is
 left_fits a (leave path how) o is = (o.push.name, subst (λ (f : Text). IsWalPath f path o.push.name) is.0 (subst (λ (p : Text). IsWalPath o.push.folder.now p o.push.name) is.1 o.push.named))
 left_fits a (drain place) o is = absurd is
 left_fits a (get word path) o is = absurd is
+left_fits a (get_through word path how) o is = absurd is
+left_fits a (fetch_ahead word how) o is = absurd is
 left_fits a (backup how) o is = absurd is
 left_fits a (backup_running how) o is = absurd is
 left_fits a (restore set how) o is = absurd is
 left_fits a (report form) o is = absurd is
 left_fits a examine o is = absurd is
 left_fits a (expire rules) o is = absurd is
+left_fits a (rehearse how) o is = absurd is
 
 course_fits : (a : Asked) (c : Course) → IsCourse a.request a.data_folder c → WordsFit a a.request
 course_fits a (courses.Staged o) is = words_fit a a.request o is
@@ -244,12 +346,15 @@ drain_asked (push path) folder is = absurd is
 drain_asked (leave path how) folder is = absurd is
 drain_asked (drain place) folder is = (place, refl)
 drain_asked (get word path) folder is = absurd is
+drain_asked (get_through word path how) folder is = absurd is
+drain_asked (fetch_ahead word how) folder is = absurd is
 drain_asked (backup how) folder is = absurd is
 drain_asked (backup_running how) folder is = absurd is
 drain_asked (restore set how) folder is = absurd is
 drain_asked (report form) folder is = absurd is
 drain_asked examine folder is = absurd is
 drain_asked (expire rules) folder is = absurd is
+drain_asked (rehearse how) folder is = absurd is
 
 pub behind_words : (a : Asked) (b k : Seen) (c : Course) → IsCourse a.request a.data_folder c → (result : Result Outcome Fault) → ComesBehind a b k result
 behind_words a b k c is (Ok x) = tt
@@ -268,3 +373,54 @@ pub behind_as : (a : Asked) (b k c l : Seen) (result : Result Outcome Fault) →
 behind_as a b k c l (Ok x) same h = tt
 behind_as a b k c l (Err e) same (inl h) = inl (h.0, same h.1)
 behind_as a b k c l (Err e) same (inr h) = inr h
+
+-- so is that of a rehearsal
+pub rehearse_asked : (q : Request) (folder : Text) (o : RehearseOrder) → IsOrder q folder (orders.Rehearse o) → (how : RehearseHow) × (q ≡ rehearse how) × (o.number ≡ size_by how.number)
+rehearse_asked create folder o is = absurd is
+rehearse_asked (push path) folder o is = absurd is
+rehearse_asked (get word path) folder o is = absurd is
+rehearse_asked (get_through word path how) folder o is = absurd is
+rehearse_asked (fetch_ahead word how) folder o is = absurd is
+rehearse_asked (backup how) folder o is = absurd is
+rehearse_asked (backup_running how) folder o is = absurd is
+rehearse_asked (report form) folder o is = absurd is
+rehearse_asked examine folder o is = absurd is
+rehearse_asked (leave path how) folder o is = absurd is
+rehearse_asked (drain place) folder o is = absurd is
+rehearse_asked (expire rules) folder o is = absurd is
+rehearse_asked (rehearse how) folder o is = (how, refl, is.2)
+rehearse_asked (restore set how) folder o is = absurd is
+
+-- and that of archive-get through the spool
+pub through_asked : (q : Request) (folder : Text) (o : ThroughOrder) → IsOrder q folder (orders.ArchiveGetThrough o) → (q ≡ get_through o.get.word.now o.get.path.now (fetching_of o)) × (o.get.folder.now ≡ folder)
+through_asked create folder o is = absurd is
+through_asked (push path) folder o is = absurd is
+through_asked (leave path how) folder o is = absurd is
+through_asked (drain place) folder o is = absurd is
+through_asked (get word path) folder o is = absurd is
+through_asked (get_through word path how) folder o is = (ap (λ (w : Text). get_through w path how) (sym is.1) ∙ ap (λ (p : Text). get_through o.get.word.now p how) (sym is.2) ∙ ap (get_through o.get.word.now o.get.path.now) (sym is.3), is.0)
+through_asked (fetch_ahead word how) folder o is = absurd is
+through_asked (backup how) folder o is = absurd is
+through_asked (backup_running how) folder o is = absurd is
+through_asked (restore set how) folder o is = absurd is
+through_asked (report form) folder o is = absurd is
+through_asked examine folder o is = absurd is
+through_asked (expire rules) folder o is = absurd is
+through_asked (rehearse how) folder o is = absurd is
+
+-- and that of archive-get:async
+pub ahead_asked : (q : Request) (folder : Text) (o : AheadOrder) → IsOrder q folder (orders.ArchiveGetAsync o) → (how : FetchHow) × (q ≡ fetch_ahead o.fetch.word.now how) × (o.queue ≡ how.queue) × IsSegment o.fetch.segment
+ahead_asked create folder o is = absurd is
+ahead_asked (push path) folder o is = absurd is
+ahead_asked (leave path how) folder o is = absurd is
+ahead_asked (drain place) folder o is = absurd is
+ahead_asked (get word path) folder o is = absurd is
+ahead_asked (get_through word path how) folder o is = absurd is
+ahead_asked (fetch_ahead word how) folder o is = (how, ap (λ (w : Text). fetch_ahead w how) (sym is.0), is.1, is.2)
+ahead_asked (backup how) folder o is = absurd is
+ahead_asked (backup_running how) folder o is = absurd is
+ahead_asked (restore set how) folder o is = absurd is
+ahead_asked (report form) folder o is = absurd is
+ahead_asked examine folder o is = absurd is
+ahead_asked (expire rules) folder o is = absurd is
+ahead_asked (rehearse how) folder o is = absurd is

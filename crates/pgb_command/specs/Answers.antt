@@ -28,9 +28,11 @@ use Rattle.pgb_recover.specs.Texts.{recover_status, recover_message}
 use Rattle.pgb_examine.specs.Examining.{examine_early}
 use Rattle.pgb_examine.specs.Texts.{examine_status, examine_message}
 use Rattle.pgb_prune.specs.Faults.{prune_early}
+use Rattle.pgb_rehearse.specs.Faults.{rehearse_early}
+use Rattle.pgb_rehearse.specs.Texts.{rehearse_status, rehearse_message}
 use Rattle.pgb_prune.specs.Texts.{prune_status, prune_message, behind_status, behind_message}
 use Rattle.pgb_command.specs.declared.fault.CommandFault.{CommandFault}
-use Rattle.pgb_command.specs.declared.fault.CommandFault.TheVariants.{Create, Push, Leave, Drain, Get, Take, TakeOnline, Recover, Examine, Prune}
+use Rattle.pgb_command.specs.declared.fault.CommandFault.TheVariants.{Create, Push, Leave, Drain, Get, Take, TakeOnline, Recover, Examine, Prune, Rehearse}
 use Rattle.pgb_command.specs.declared.fault.Fault.{Fault}
 use Rattle.pgb_command.specs.declared.fault.Fault.TheVariants.{Usage as OfUsage, Stage, Command, Behind, Failed, NoMemory}
 
@@ -62,6 +64,7 @@ command_status (TakeOnline fault) = online_take_status fault
 command_status (Recover fault) = recover_status fault
 command_status (Examine fault) = examine_status fault
 command_status (Prune fault) = prune_status fault
+command_status (Rehearse fault) = rehearse_status fault
 
 abbrev pub status_of : Fault → ℕ
 status_of (OfUsage usage) = usage_status usage
@@ -85,6 +88,7 @@ command_early (TakeOnline fault) = online_early fault
 command_early (Recover fault) = recover_early fault
 command_early (Examine fault) = examine_early fault
 command_early (Prune fault) = prune_early fault
+command_early (Rehearse fault) = rehearse_early fault
 
 -- the command ended before its own first step
 abbrev pub is_early : Fault → Bool
@@ -158,6 +162,7 @@ command_message (TakeOnline fault) = online_take_message fault
 command_message (Recover fault) = recover_message fault
 command_message (Examine fault) = examine_message fault
 command_message (Prune fault) = prune_message fault
+command_message (Rehearse fault) = rehearse_message fault
 
 abbrev pub message_of : Fault → Text
 message_of (OfUsage usage) = usage_message usage

@@ -1,5 +1,5 @@
 -- What a command is told by its words and its configuration (pgBackRest command reference and configuration reference).
-use Rattle.std.specs.Prelude.{◌≡◌, ◌≤◌, ℕ, ◌^◌, ◌++◌, codes, Bool, true, false, List, [], ◌∷◌, length, Option, Some, None, Result, Ok, Err, IfSome, IsSome, if◌then◌else◌}
+use Rattle.std.specs.Prelude.{◌≡◌, ◌≤◌, ℕ, ◌^◌, ◌++◌, codes, decimal, Bool, false, List, [], ◌∷◌, length, Option, Some, None, Result, Ok, Err, IfSome, IsSome, if◌then◌else◌}
 use Rattle.pgb_outside.specs.Content.{Content}
 use Rattle.pgb_model.specs.declared.labels.Kind.{Kind}
 use Rattle.pgb_model.specs.Text.{Text}
@@ -8,9 +8,9 @@ use Rattle.pgb_options.specs.declared.options.KindWord.{KindWord}
 use Rattle.pgb_options.specs.declared.options.RestoreWord.{RestoreWord}
 use Rattle.pgb_options.specs.declared.options.RestoreWord.TheVariants.{Default, Plain}
 use Rattle.pgb_options.specs.declared.options.OutputWord.{OutputWord}
-use Rattle.pgb_table.specs.declared.table.Opt.TheVariants.{Pg1Path, Pg1SocketPath, Pg1Port, Pg1User, Pg1Database, Repo1Path, LockPath, Online, ArchiveAsync, Output, BackupType, Delta, Repo1Bundle, Repo1RetentionFull, Repo1RetentionFullType, Repo1RetentionDiff, Repo1RetentionArchive, Repo1RetentionArchiveType, ExpireAuto, ProcessMax, StartFast, ArchiveTimeout, SpoolPath, RestoreType, Config, Set}
+use Rattle.pgb_table.specs.declared.table.Opt.TheVariants.{Pg1Path, Pg1SocketPath, Pg1Port, Pg1User, Pg1Database, Repo1Path, LockPath, Online, ArchiveAsync, Output, BackupType, Delta, Repo1Bundle, Repo1RetentionFull, Repo1RetentionFullType, Repo1RetentionDiff, Repo1RetentionArchive, Repo1RetentionArchiveType, ExpireAuto, ProcessMax, StartFast, ArchiveTimeout, ArchiveGetQueueMax, SpoolPath, RestoreType, Config, Set, Number}
 use Rattle.pgb_table.specs.declared.table.Verb.{Verb}
-use Rattle.pgb_table.specs.declared.table.Verb.TheVariants.{StanzaCreate, ArchivePush, ArchivePushAsync, ArchiveGet, Backup, Restore, Info, Verify, Expire}
+use Rattle.pgb_table.specs.declared.table.Verb.TheVariants.{StanzaCreate, ArchivePush, ArchivePushAsync, ArchiveGet, ArchiveGetAsync, Backup, Restore, Info, Verify, Expire, Rehearse}
 use Rattle.pgb_options.specs.Faults.{Fault}
 use Rattle.pgb_options.specs.Filled.{text_in, number_in, amount_in, flag_in, or_else, kind_word, retention_word, restore_word, output_word, word_in}
 use Rattle.pgb_options.specs.Paths.{Path, nowhere, usual, named, path_of_words}
@@ -21,7 +21,7 @@ use Rattle.pgb_recover.specs.Fetching.{RecoveryType}
 use Rattle.pgb_recover.specs.Fetching.RecoveryType.{Default as ToTheEnd, Without}
 use Rattle.pgb_retain.specs.declared.rules.Rules.{Rules}
 use Rattle.pgb_stage.specs.declared.fault.Unbuilt.{Unbuilt}
-use Rattle.pgb_stage.specs.declared.fault.Unbuilt.TheVariants.{Command, Background, Bundles}
+use Rattle.pgb_stage.specs.declared.fault.Unbuilt.TheVariants.{Bundles}
 
 -- ---- the configuration
 
@@ -69,19 +69,32 @@ pub record LeaveHow : Type 0 where
   pub spool : Text
   pub turns : ℕ
 
--- which command, the file that archive-push is to store, the one that it is to leave to a drain and how, the spool of archive-push:async, the file that archive-get is to serve and where, how a stopped server is backed up, how a running one is, the label of the backup to restore and how, the form of info's report, and the rules of an expiry; verify has nothing more to be told
+-- how segments are fetched ahead: into which spool (option `spool-path`), and as many as how many bytes hold (option `archive-get-queue-max`)
+pub record FetchHow : Type 0 where
+  pub spool : Text
+  pub queue : ℕ
+
+-- how a sample cluster is rehearsed: with how many workers for each of its steps, and of which size
+pub record RehearseHow : Type 0 where
+  pub workers : ℕ
+  pub number : ℕ
+
+-- which command, the file that archive-push is to store, the one that it is to leave to a drain and how, the spool of archive-push:async, the file that archive-get is to serve and where, the one that it is to serve through the spool and how others are fetched ahead, the segment behind which archive-get:async fetches and how, how a stopped server is backed up, how a running one is, the label of the backup to restore and how, the form of info's report, the rules of an expiry, and how a rehearsal is made; verify has nothing more to be told
 pub data Request : Type 0 where
   create : Request
   push : (path : Text) → Request
   leave : (path : Text) (how : LeaveHow) → Request
   drain : (place : Text) → Request
   get : (name path : Text) → Request
+  get_through : (name path : Text) (how : FetchHow) → Request
+  fetch_ahead : (name : Text) (how : FetchHow) → Request
   backup : (how : BackupHow) → Request
   backup_running : (how : RunningHow) → Request
   restore : (set : Option Text) (how : RestoreHow) → Request
   report : (form : OutputWord) → Request
   examine : Request
   expire : (rules : Rules) → Request
+  rehearse : (how : RehearseHow) → Request
 
 abbrev pub first_of : List Text → Text
 first_of [] = []
@@ -107,11 +120,21 @@ pub record Wanted : Type 0 where
   pub fast : Bool
   pub turns : ℕ
   pub spool : Text
+  pub queue : ℕ
   pub rules : Rules
+  pub number : ℕ
 
 -- a file is stored at once, or in the background it is left to a drain
 abbrev pub push_by : Wanted → Text → Request
 push_by m path = if m.background then leave path (record { spool = m.spool; turns = m.turns }) else push path
+
+-- how segments are fetched ahead
+abbrev pub fetching_by : Wanted → FetchHow
+fetching_by m = record { spool = m.spool; queue = m.queue }
+
+-- a file is served from the repository, or in the background through the spool
+abbrev pub get_by : Wanted → Text → Text → Request
+get_by m name path = if m.background then get_through name path (fetching_by m) else get name path
 
 -- with as many workers, and of this kind
 abbrev pub how_by : Wanted → BackupHow
@@ -138,13 +161,14 @@ abbrev pub request_by : Verb → Wanted → List Text → Result Request Unbuilt
 request_by StanzaCreate m given = Ok create
 request_by ArchivePush m given = Ok (push_by m (first_of given))
 request_by ArchivePushAsync m given = Ok (drain m.spool)
-request_by ArchiveGet m given = if m.background then Err Background else Ok (get (first_of given) (second_of given))
+request_by ArchiveGet m given = Ok (get_by m (first_of given) (second_of given))
+request_by ArchiveGetAsync m given = Ok (fetch_ahead (first_of given) (fetching_by m))
 request_by Backup m given = backup_by m
 request_by Restore m given = Ok (restore_by m)
 request_by Info m given = Ok (report m.form)
 request_by Verify m given = Ok examine
 request_by Expire m given = Ok (expire m.rules)
-request_by verb m given = Err (Command verb)
+request_by Rehearse m given = Ok (rehearse (record { workers = m.workers; number = m.number }))
 
 abbrev pub path_in : Source → Opt → Text
 path_in source option = or_else [] (text_in (value source option))
@@ -177,7 +201,9 @@ wanted_in s = record {
   fast = is_on s StartFast;
   turns = or_else 0 (amount_in (value s ArchiveTimeout));
   spool = path_in s SpoolPath;
+  queue = or_else 0 (amount_in (value s ArchiveGetQueueMax));
   rules = rules_in s;
+  number = or_else 0 (number_in (value s Number));
 }
 
 abbrev pub requested : Settled → Result Request Unbuilt
@@ -220,6 +246,11 @@ pub record Asked : Type 0 where
 abbrev pub drain_words : Asked → Text → List Text
 drain_words a spool = codes "--no-config" ∷ (codes "--stanza=" ++ a.stanza) ∷ (codes "--pg1-path=" ++ a.data_folder) ∷ (codes "--repo1-path=" ++ a.repository)
     ∷ (codes "--lock-path=" ++ a.lock_folder) ∷ (codes "--spool-path=" ++ spool) ∷ codes "archive-push:async" ∷ []
+
+-- The words with which a fetch is started: archive-get:async of the segment of this name, of the same stanza at the same places, whatever a configuration says. It takes no lock, so none is named.
+abbrev pub fetch_words : Asked → Text → FetchHow → List Text
+fetch_words a name how = codes "--no-config" ∷ (codes "--stanza=" ++ a.stanza) ∷ (codes "--pg1-path=" ++ a.data_folder) ∷ (codes "--repo1-path=" ++ a.repository)
+    ∷ (codes "--spool-path=" ++ how.spool) ∷ (codes "--archive-get-queue-max=" ++ decimal how.queue) ∷ codes "archive-get:async" ∷ name ∷ []
 
 -- the command's own part, without the expiry that follows
 abbrev pub alone : Asked → Asked

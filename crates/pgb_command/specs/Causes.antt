@@ -16,11 +16,11 @@ use Rattle.pgb_command.specs.declared.fault.Fault.{Fault}
 use Rattle.pgb_command.specs.declared.fault.Fault.TheVariants.{Stage, NoMemory}
 use Rattle.pgb_create.specs.Talking.{Ended, IsServerRefusal}
 use Rattle.pgb_command.specs.Answers.{Ending, status, status_of, ending_of, answer_of, lines_of}
-use Rattle.pgb_command.specs.Asked.{Request, create, backup_running, Asked, MayAsk, WordsSettle, IsAsked, requested}
+use Rattle.pgb_command.specs.Asked.{Request, create, backup_running, rehearse, Asked, MayAsk, WordsSettle, IsAsked, requested}
 use Rattle.pgb_command.specs.Configuring.{ConfigCause}
 use Rattle.pgb_command.specs.Did.{IsIdle, Did, ComesBehind, Acknowledges, Brackets, Cause, OnReady, LastsAfter, HealsPairs, ArePlacesOpened, TakesAll}
 use Rattle.pgb_command.specs.Output.{IsTold}
-use Rattle.pgb_command.specs.Tables.{known, plan_of, manner_of, Promise, OnReader, OnCreate, OnExpire, Expires, OnOther, FolderGoes, FolderStays, Unless, TurnsTold, uses_workers, uses_clock, uses_turns}
+use Rattle.pgb_command.specs.Tables.{known, plan_of, manner_of, Promise, OnReader, OnCreate, OnExpire, Expires, OnOther, FolderGoes, FolderStays, Unless, TurnsTold, OthersGo, uses_workers, uses_clock}
 
 -- ---- how it is told
 
@@ -100,10 +100,11 @@ pub record Fulfils (a : Asked) (before after : Seen) (result : ℕ) : Type 0 whe
 abbrev pub IsRefusal : ℕ → Type 0
 IsRefusal status = ((1 ≤ status) × (status ≤ 72)) ⊎ ((100 ≤ status) × (status ≤ 101))
 
--- the statuses of a command that ends before its own first step: it was refused for what was found, or, of a command that asks a server, the connection to it failed
+-- the statuses of a command that ends before its own first step: it was refused for what was found, or, of a command that asks a server, the connection to it failed; a rehearsal that found something has made all of its steps
 abbrev pub IsEarly : Request → ℕ → Type 0
 IsEarly create status = IsRefusal status ⊎ (status ≡ 83)
 IsEarly (backup_running how) status = IsRefusal status ⊎ (status ≡ 83)
+IsEarly (rehearse how) status = IsRefusal status × (status ≢ 65)
 IsEarly request status = IsRefusal status
 
 -- then it has taken no step but those of the turns that it waited, has changed no file of the data folder, unless it is a restore that has started workers, and stanza-create none of the repository
@@ -112,7 +113,7 @@ pub record TurnsBack (a : Asked) (before after : Seen) (result : ℕ) : Type 0 w
   pub nodes : FolderStays a.request result (after.tree.nodes ≡ before.tree.nodes)
   pub unmade : OnCreate a.request (after.repo.view.now ≡ before.repo.view.now)
 
--- after every answer: the command has kept to its stanza, where what others did meanwhile is told, stanza-create to the members of its two pairs, expire to what it may change, a reader has changed nothing in the repository, only archive-get the data folder, the server only who asks it, other processes only who waits for turns of theirs, and the workers and the clock only who uses them
+-- after every answer: the command has kept to its stanza, where what others did meanwhile is told, stanza-create to the members of its two pairs, expire to what it may change, a reader has changed nothing in the repository, only archive-get the data folder, the server only who asks it, other processes only who waits for turns of theirs, or serves a segment through the spool and starts one at most, and the workers and the clock only who uses them
 pub record LeavesRest (a : Asked) (before after : Seen) : Type 0 where
   pub beside : TurnsTold a a.request (known after) → StaysBeside a.stanza before.repo.view after.repo.view
   pub spool : TurnsTold a a.request (known after) → StaysBeside a.stanza before.spool.view after.spool.view
@@ -122,7 +123,7 @@ pub record LeavesRest (a : Asked) (before after : Seen) : Type 0 where
   pub folder : FolderGoes a a.request (known before) after.tree.nodes
   pub quiet : a.server ≡ None → after.server ≡ before.server
   pub others : OnOther a.request (after.server ≡ before.server)
-  pub waits : Unless (uses_turns a.request) (after.others ≡ before.others)
+  pub waits : OthersGo a a.request before.others after.others
   pub workers : Unless (uses_workers a.request) (after.links ≡ before.links)
   pub clock : Unless (uses_clock a.request) (after.clock ≡ before.clock)
 

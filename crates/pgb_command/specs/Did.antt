@@ -37,12 +37,12 @@ use Rattle.pgb_expire.specs.Expiry.{retention}
 use Rattle.pgb_model.specs.Steps.{Expire}
 use Rattle.pgb_stage.specs.declared.plan.Settling.TheVariants.{Whole}
 use Rattle.pgb_stage.specs.Reached.{OnFinished}
-use Rattle.pgb_command.specs.declared.fault.CommandFault.TheVariants.{Create, Leave, Drain, Take, TakeOnline, Examine, Prune}
+use Rattle.pgb_command.specs.declared.fault.CommandFault.TheVariants.{Create, Leave, Drain, Take, TakeOnline, Examine, Prune, Rehearse}
 use Rattle.pgb_command.specs.declared.fault.Fault.{Fault}
 use Rattle.pgb_command.specs.declared.fault.Fault.TheVariants.{Usage, Stage, Command, Behind, Failed as ObjectFailed, NoMemory}
 use Rattle.pgb_command.specs.Answers.{status, reached_of, ending_of}
 use Rattle.pgb_command.specs.Asked.{Request, leave, Asked}
-use Rattle.pgb_command.specs.Tables.{Known, known, plan_of, spool_of, manner_of, WordsFit, CommandCause, IsBackedUp, Promise, Lasts, OnReader, OnCreate, OnExpire, Expires, OnOther, FolderGoes, FolderStays, Unless, TurnsTold, uses_workers, uses_clock, uses_turns}
+use Rattle.pgb_command.specs.Tables.{Known, known, plan_of, spool_of, manner_of, WordsFit, CommandCause, IsBackedUp, Promise, Lasts, OnReader, OnCreate, OnExpire, Expires, OnOther, FolderGoes, FolderStays, Unless, TurnsTold, OthersGo, uses_workers, uses_clock}
 
 -- ---- what stays
 
@@ -57,7 +57,7 @@ Closes before after (Command (Create fault)) = CreateCloses (Failed before after
 Closes before after (Command (TakeOnline fault)) = (IsTaken fault × (after.server ≡ before.server)) ⊎ (Ended after.server.sent ⊎ Failed before after Server)
 Closes before after other = Unit {0}
 
--- What a command leaves as it was: of the repository all where it only reads, of the data folder all but a file that is served, the server where it asks none, other processes where it waits for none of their turns, and the workers and the clock where it doesn't use them. Refused before its first step it has changed no file of the data folder, unless it is a restore that has started workers, and stanza-create none of the repository. Whatever it is, it keeps to its stanza, where what others did meanwhile is told, stanza-create to the members of its two pairs, and expire to what it may change.
+-- What a command leaves as it was: of the repository all where it only reads, of the data folder all but a file that is served, the server where it asks none, other processes where it waits for none of their turns, but that one is started at most where a segment is served through the spool, and the workers and the clock where it doesn't use them. Refused before its first step it has changed no file of the data folder, unless it is a restore that has started workers, and stanza-create none of the repository. Whatever it is, it keeps to its stanza, where what others did meanwhile is told, stanza-create to the members of its two pairs, and expire to what it may change.
 pub record Spares (a : Asked) (before after : Seen) (result : Result Outcome Fault) : Type 0 where
   pub beside : TurnsTold a a.request (known after) → StaysBeside a.stanza before.repo.view after.repo.view
   pub spool : TurnsTold a a.request (known after) → StaysBeside a.stanza before.spool.view after.spool.view
@@ -69,7 +69,7 @@ pub record Spares (a : Asked) (before after : Seen) (result : Result Outcome Fau
   pub unmade : OnCreate a.request (OnNone (reached_of (ending_of result)) (after.repo.view.now ≡ before.repo.view.now))
   pub quiet : a.server ≡ None → after.server ≡ before.server
   pub others : OnOther a.request (after.server ≡ before.server)
-  pub waits : Unless (uses_turns a.request) (after.others ≡ before.others)
+  pub waits : OthersGo a a.request before.others after.others
   pub workers : Unless (uses_workers a.request) (after.links ≡ before.links)
   pub clock : Unless (uses_clock a.request) (after.clock ≡ before.clock)
   pub closed : IfErr result (Closes before after)
@@ -154,6 +154,7 @@ WordsCause a (Command (Take fault)) = ⊥
 WordsCause a (Command (TakeOnline fault)) = ⊥
 WordsCause a (Command (Examine fault)) = ⊥
 WordsCause a (Command (Prune fault)) = ⊥
+WordsCause a (Command (Rehearse fault)) = ⊥
 WordsCause a (Command fault) = (old new : Known) → CommandCause a a.request old new fault
 WordsCause a NoMemory = Unit {0}
 WordsCause a other = ⊥

@@ -15,7 +15,8 @@ use Rattle.pgb_take_online.specs.declared.fault.OnlineTakeFault.{OnlineTakeFault
 use Rattle.pgb_recover.specs.declared.fault.RecoverFault.{RecoverFault}
 use Rattle.pgb_examine.specs.declared.fault.ExamineFault.{ExamineFault}
 use Rattle.pgb_prune.specs.declared.fault.PruneFault.{PruneFault}
-use Rattle.pgb_command.specs.declared.fault.CommandFault.TheVariants.{Create, Push, Leave, Drain, Get, Take, TakeOnline, Recover, Examine, Prune}
+use Rattle.pgb_rehearse.specs.declared.fault.RehearseFault.{RehearseFault}
+use Rattle.pgb_command.specs.declared.fault.CommandFault.TheVariants.{Create, Push, Leave, Drain, Get, Take, TakeOnline, Recover, Examine, Prune, Rehearse}
 use Rattle.pgb_command.specs.declared.fault.Fault.{Fault}
 use Rattle.pgb_command.specs.declared.fault.Fault.TheVariants.{Usage as OfUsage, Stage, Command, Failed, NoMemory}
 
@@ -58,6 +59,9 @@ of_examine = of_halt (λ e. Command (Examine e))
 
 abbrev pub of_prune : Halt PruneFault → Fault
 of_prune = of_halt (λ e. Command (Prune e))
+
+abbrev pub of_rehearse : Halt RehearseFault → Fault
+of_rehearse = of_halt (λ e. Command (Rehearse e))
 
 abbrev pub lift : {T E : Type 0} → (Halt E → Fault) → Result T (Halt E) → Result T Fault
 lift of (Ok outcome) = Ok outcome

@@ -1,14 +1,20 @@
 -- Of which commands the clauses of the top calls speak: each that the words ask for, or the one that is settled. Own.
-use Rattle.std.specs.Prelude.{◌≡◌, true, false, ℕ, List, Option, None, Ok, String, map, string_bytes}
+use Rattle.std.specs.Prelude.{◌≡◌, true, false, ℕ, List, Option, None, Result, Ok, OnOk, String, map, string_bytes}
 use Rattle.std.specs.declared.alloc.Global.{Global}
-use Rattle.pgb_outside.specs.Content.{Content}
+use Rattle.pgb_outside.specs.Content.{Content, Name}
 use Rattle.pgb_model.specs.Text.{Text}
 use Rattle.pgb_options.specs.declared.settle.Command.{Command}
 use Rattle.pgb_options.specs.Commands.{IsCommand}
 use Rattle.pgb_options.specs.Settings.{Settled}
+use Rattle.pgb_stage.specs.Plans.{AreHeld}
 use Rattle.pgb_stage.specs.Seen.{Seen}
+use Rattle.pgb_prepare.specs.declared.ready.Ready.{Ready}
+use Rattle.pgb_prepare.specs.Readies.{IsReady}
+use Rattle.pgb_command.specs.declared.order.Order.{Order}
+use Rattle.pgb_command.specs.declared.settings.Settings.{Settings}
 use Rattle.pgb_command.specs.Asked.{Request, Asked, Asks, MayAsk, requested}
-use Rattle.pgb_command.specs.Tables.{uses_spool, uses_workers, is_on_repository}
+use Rattle.pgb_command.specs.Tables.{plan_of, uses_spool, uses_workers, is_on_repository}
+use Rattle.pgb_command.specs.Told.{request_of, IsOrder}
 
 -- ---- what a request has no use for
 
@@ -67,3 +73,37 @@ AllAsked told P words old = (a : Asked) → MayAsk (map string_bytes words) (tol
 -- they ask for nothing
 abbrev pub NoneAsked : {W : Type 0} → (W → Seen) → List (String Global) → W → Type 0
 NoneAsked told words old = (a : Asked) → ¬ MayAsk (map string_bytes words) (told old).config.files a
+
+-- ---- what a stage is handed, and what it gives
+
+-- this holds between what the objects told before it and what they tell behind it
+abbrev pub Between : {W : Type 0} → (W → Seen) → (Seen → Seen → Type 0) → W → W → Type 0
+Between told P old new = P (told old) (told new)
+
+-- and so it does of its result
+abbrev pub OnTold : {W R : Type 0} → (W → Seen) → (Seen → Seen → R → Type 0) → W → W → R → Type 0
+OnTold told P old new result = P (told old) (told new) result
+
+-- it does where the result is Ok
+abbrev pub AtOk : {W R E : Type 0} → (W → Seen) → (Seen → Seen → Type 0) → W → W → Result R E → Type 0
+AtOk told P old new result = OnOk result (P (told old) (told new))
+
+-- the locks are held that the settings' request needs
+abbrev pub HoldsLocks : Settings → List Name → Type 0
+HoldsLocks s held = AreHeld (plan_of (request_of s.request)) s.stanza.now held
+
+-- what it needs of the repository and the data folder was made ready
+abbrev pub IsReadyFor : Settings → Seen → Ready → Type 0
+IsReadyFor s seen ready = IsReady (plan_of (request_of s.request)) s.stanza.now seen.repo.view.now seen.tree.nodes ready
+
+-- the order is what it asks for
+abbrev pub IsOrderFor : Settings → Order → Type 0
+IsOrderFor s order = IsOrder (request_of s.request) s.pg1_path.now order
+
+-- it opens no data folder
+abbrev pub OpensNoFolder : Request → Type 0
+OpensNoFolder request = (plan_of request).folder ≡ false
+
+-- it takes no lock
+abbrev pub TakesNoLock : Request → Type 0
+TakesNoLock request = ((plan_of request).backup_lock ≡ false) × ((plan_of request).archive_lock ≡ false)

@@ -11,8 +11,9 @@ use Rattle.pgb_model.specs.declared.clusters.Cluster.{Cluster}
 use Rattle.pgb_model.specs.declared.labels.Label.{Label}
 use Rattle.pgb_model.specs.Values.{Manifest}
 use Rattle.pgb_model.specs.declared.wal.ArchiveName.{ArchiveName}
+use Rattle.pgb_model.specs.declared.wal.Segment.{Segment}
 use Rattle.pgb_model.specs.Text.{Text}
-use Rattle.pgb_model.specs.Repository.{Stanza}
+use Rattle.pgb_model.specs.Repository.{Backup, Stanza}
 use Rattle.pgb_model.specs.Steps.{Command, StanzaCreate, Reading}
 use Rattle.pgb_model.specs.Now.{NowStands}
 use Rattle.pgb_stanza.specs.declared.control.Control.{Control}
@@ -43,6 +44,11 @@ use Rattle.pgb_leave.specs.declared.fault.LeaveFault.{LeaveFault}
 use Rattle.pgb_leave.specs.Heard.{Heard as WaitHeard, HeardCause}
 use Rattle.pgb_leave.specs.Pushing.{IsWaitOf, MissCause}
 use Rattle.pgb_get.specs.Getting.{AreWords, GotBy, GivenBy, GetCause, IsServed, ChangesPath, served_path}
+use Rattle.pgb_get.specs.Getting.{IsWanted, WordsCause as GetWords}
+use Rattle.pgb_fetch.specs.Behind.{IsSegmentName, FetchedBy, BehindCause, WordCause as NameCause}
+use Rattle.pgb_fetch.specs.Following.{QuietOthers}
+use Rattle.pgb_fetch.specs.Getting.{FollowsUp, GetAheadCause, GotAhead, IsServedBySum, NoTwins}
+use Rattle.pgb_get.specs.declared.fault.GetFault.{GetFault}
 use Rattle.pgb_take.specs.Causes.{Before}
 use Rattle.pgb_take_later.specs.declared.order.LaterOrder.{LaterOrder}
 use Rattle.pgb_take_later.specs.Causes.{LaterCause}
@@ -68,11 +74,15 @@ use Rattle.pgb_expire.specs.Losing.{MayExpire}
 use Rattle.pgb_drained.specs.Drained.{IsDrainOf, IsDrained, DrainCause}
 use Rattle.pgb_prune.specs.Behind.{AddsLines, IsFollowed, WasTold}
 use Rattle.pgb_prune.specs.Faults.{PruneCause}
+use Rattle.pgb_sample_folder.specs.Having.{IsEmpty}
+use Rattle.pgb_rehearse.specs.Causes.{RehearseCause}
+use Rattle.pgb_rehearse.specs.Commands.{IsRehearsal}
+use Rattle.pgb_rehearse.specs.Rehearsing.{IsRehearsed}
 use Rattle.pgb_prune.specs.Pruning.{counts_days, IsMoment, TellsMoment, IsExpiryBy, IsPruned}
 use Rattle.pgb_command.specs.declared.fault.CommandFault.{CommandFault}
-use Rattle.pgb_command.specs.declared.fault.CommandFault.TheVariants.{Create, Push, Leave, Drain, Get, Take, TakeOnline, Recover, Examine, Prune}
-use Rattle.pgb_command.specs.Asked.{Request, create, push, leave, drain, get, backup, backup_running, restore, report, examine, expire, BackupHow, RunningHow, RestoreHow, LeaveHow, Asked, drain_words}
-use Rattle.pgb_command.specs.Told.{taking_of}
+use Rattle.pgb_command.specs.declared.fault.CommandFault.TheVariants.{Create, Push, Leave, Drain, Get, Take, TakeOnline, Recover, Examine, Prune, Rehearse}
+use Rattle.pgb_command.specs.Asked.{Request, create, push, leave, drain, get, get_through, fetch_ahead, backup, backup_running, restore, report, examine, expire, rehearse, BackupHow, RunningHow, RestoreHow, LeaveHow, FetchHow, Asked, drain_words, fetch_words}
+use Rattle.pgb_command.specs.Told.{taking_of, size_by}
 
 -- what the objects hold, as far as they tell it
 pub record Known : Type 0 where
@@ -94,17 +104,22 @@ plan_of (push path) = record { settling = Looked; folder = true; backup_lock = f
 plan_of (leave path how) = record { settling = Looked; folder = true; backup_lock = false; archive_lock = false; control = false; pairs = Unread }
 plan_of (drain place) = record { settling = Whole; folder = true; backup_lock = false; archive_lock = true; control = true; pairs = HealArchive }
 plan_of (get name path) = record { settling = Looked; folder = true; backup_lock = false; archive_lock = false; control = true; pairs = ReadArchive }
+plan_of (get_through name path how) = record { settling = Looked; folder = true; backup_lock = false; archive_lock = false; control = true; pairs = ReadArchive }
+plan_of (fetch_ahead name how) = record { settling = Looked; folder = true; backup_lock = false; archive_lock = false; control = true; pairs = ReadArchive }
 plan_of (backup how) = record { settling = Whole; folder = true; backup_lock = true; archive_lock = false; control = true; pairs = ReadBoth }
 plan_of (backup_running how) = record { settling = Whole; folder = true; backup_lock = true; archive_lock = false; control = true; pairs = ReadBoth }
 plan_of (restore set how) = record { settling = Whole; folder = true; backup_lock = false; archive_lock = false; control = false; pairs = ReadBoth }
 plan_of (report form) = record { settling = Whole; folder = false; backup_lock = false; archive_lock = false; control = false; pairs = ReadBoth }
 plan_of examine = record { settling = Whole; folder = false; backup_lock = false; archive_lock = false; control = false; pairs = ReadBoth }
 plan_of (expire rules) = record { settling = Whole; folder = false; backup_lock = true; archive_lock = false; control = false; pairs = ReadBoth }
+plan_of (rehearse how) = record { settling = Whole; folder = true; backup_lock = true; archive_lock = true; control = false; pairs = Unread }
 
 -- the spool that is opened, where one is
 abbrev pub spool_of : Request → Option Text
 spool_of (leave path how) = Some how.spool
 spool_of (drain place) = Some place
+spool_of (get_through name path how) = Some how.spool
+spool_of (fetch_ahead name how) = Some how.spool
 spool_of request = None
 
 -- stanza-create of the cluster that the folder tells, where it tells one
@@ -149,12 +164,15 @@ manner_of a (push path) old new = each (λ command. IsSomeAnd old.nodes (λ f. I
 manner_of a (leave path how) old new = provided (TurnsTold a (leave path how) new) (IsWait old new)
 manner_of a (drain place) old new = provided (IsSome old.nodes) (λ command. IsSomeAnd old.nodes (λ f. IsSomeDrain f command))
 manner_of a (get name path) old new = each (λ command. command ≡ Reading)
+manner_of a (get_through name path how) old new = each (λ command. command ≡ Reading)
+manner_of a (fetch_ahead name how) old new = each (λ command. command ≡ Reading)
 manner_of a (backup how) old new = one (WithExpiry a.expires old.clock.least (IsBackupBy how.kind (take how.workers old.links) a.stanza old.repo))
 manner_of a (backup_running how) old new = provided (TurnsTold a (backup_running how) new) (WithExpiry a.expires old.clock.least (IsRunningOf a how old new))
 manner_of a (restore set how) old new = each (λ command. command ≡ Reading)
 manner_of a (report form) old new = each (λ command. command ≡ Reading)
 manner_of a examine old new = each (λ command. command ≡ Reading)
 manner_of a (expire rules) old new = one (IsExpiryBy rules old.clock.least)
+manner_of a (rehearse how) old new = one (IsRehearsal (size_by how.number))
 
 -- the command's own words name what they have to
 abbrev pub WordsFit : Asked → Request → Type 0
@@ -163,12 +181,15 @@ WordsFit a (push path) = (name : ArchiveName) × IsWalPath a.data_folder path na
 WordsFit a (leave path how) = (name : ArchiveName) × IsWalPath a.data_folder path name
 WordsFit a (drain place) = Unit {0}
 WordsFit a (get word path) = (name : ArchiveName) × AreWords a.data_folder word path name
+WordsFit a (get_through word path how) = (name : ArchiveName) × AreWords a.data_folder word path name
+WordsFit a (fetch_ahead word how) = (segment : Segment) × IsSegmentName word segment
 WordsFit a (backup how) = Unit {0}
 WordsFit a (backup_running how) = Unit {0}
 WordsFit a (restore set how) = (label : Option Label) × TellsSet set label
 WordsFit a (report form) = Unit {0}
 WordsFit a examine = Unit {0}
 WordsFit a (expire rules) = Unit {0}
+WordsFit a (rehearse how) = Unit {0}
 
 -- what a backup finds as its own part begins
 abbrev pub found_by : Asked → ℕ → Known → Control → Before
@@ -212,6 +233,16 @@ pub record WaitCause (a : Asked) (path : Text) (how : LeaveHow) (old new : Known
   pub why : MissCause path (wal_text name) (limit_of name) old.nodes fault
       ⊎ ((sum : Text) × IfSome (told_file old.nodes (wal_path (wal_text name))) (λ bytes. sum ≡ sha1 bytes) × HeardCause (heard_for a how name sum old new) fault)
 
+-- The words name no file that can be served there; or they name one, and neither the spool nor the repository gives it.
+abbrev pub ThroughCause : Asked → Text → Text → Known → GetFault → Type 0
+ThroughCause a name path old fault = GetWords a.data_folder name path fault
+    ⊎ ((file : ArchiveName) × (told : Control) × IsWanted a.data_folder name path old.nodes file told × GetAheadCause a.stanza a.data_folder name path told file old.repo old.nodes old.spool fault)
+
+-- The word names no segment; or it names one, and that can't be found, or one behind it isn't had.
+abbrev pub FetchingCause : Asked → Text → FetchHow → Known → GetFault → Type 0
+FetchingCause a name how old fault = NameCause name fault
+    ⊎ ((segment : Segment) × IsSegmentName name segment × OnCluster old.nodes (λ told. BehindCause a.stanza told segment how.queue old.repo fault))
+
 -- why a command is refused, from what the objects hold as its own part begins and what they hold then
 abbrev pub CommandCause : Asked → Request → Known → Known → CommandFault → Type 0
 CommandCause a create old new (Create fault) = OnCluster old.nodes (λ told. CreateCause a.stanza told a.server old.repo old.server.pending fault)
@@ -220,11 +251,14 @@ CommandCause a (leave path how) old new (Push fault) = WordCause a.data_folder p
 CommandCause a (leave path how) old new (Leave name fault) = WaitCause a path how old new (string_bytes name) fault
 CommandCause a (drain place) old new (Drain fault) = DrainCause a.stanza old.repo new.repo old.nodes fault
 CommandCause a (get name path) old new (Get fault) = GetCause a.stanza a.data_folder name path old.repo old.nodes fault
+CommandCause a (get_through name path how) old new (Get fault) = ThroughCause a name path old fault
+CommandCause a (fetch_ahead name how) old new (Get fault) = FetchingCause a name how old fault
 CommandCause a (backup how) old new (Take fault) = ByOrder how (λ o. OnCluster old.nodes (λ told. LaterCause (found_by a how.workers old told) o fault))
 CommandCause a (backup_running how) old new (TakeOnline fault) = OnCluster old.nodes (λ told. OnlineCause (asked_by a how old new told) fault)
 CommandCause a (restore set how) old new (Recover fault) = RestoreCause a set how old fault
 CommandCause a examine old new (Examine fault) = ExamineCause a.stanza old.repo fault
 CommandCause a (expire rules) old new (Prune fault) = PruneCause a.stanza old.repo fault
+CommandCause a (rehearse how) old new (Rehearse fault) = RehearseCause a.stanza (size_by how.number) old.repo old.nodes fault
 CommandCause a request old new fault = ⊥
 
 -- Ok of stanza-create: the stanza is made, or was there; and where a server is asked it was asked at its socket and is of the folder's system
@@ -249,6 +283,10 @@ pub record Restores (a : Asked) (set : Option Text) (how : RestoreHow) (old new 
 -- Ok of expire: all is gone that the rules let go at the moment that the clock told, and the lines tell it
 abbrev pub Removes : Text → Rules → Known → Known → Outcome → Type 0
 Removes stanza rules old new outcome = (moment : ℕ) × TellsMoment rules.full old.clock new.clock moment × OnFinished outcome (IsPruned stanza rules moment old.repo new.repo)
+
+-- Ok of rehearse: three backups were made, of which one is left, and the lines tell what each step came to, and what a verification found
+abbrev pub Rehearses : Text → ℕ → Known → Known → Outcome → Type 0
+Rehearses stanza number old new outcome = (b : Backup) × (c : Backup) × (d : Backup) × IsRehearsed stanza number b c d old.repo new.repo new.nodes outcome
 
 -- Ok of a backup: what it promises of what the disk held as it ended, before an expiry
 abbrev pub IsBackedUp : Asked → Request → Known → Known → Option Content → Outcome → Type 0
@@ -277,6 +315,23 @@ abbrev pub Drains : Asked → Known → Known → Outcome → Type 0
 Drains a old new outcome = OnCluster old.nodes (λ told. OnFinished outcome (λ lines. IfSome old.nodes (λ f.
     IsDrained a.stanza f told old.repo old.spool new.spool lines)))
 
+-- Ok of archive-get through the spool: the file was served, or nothing was found
+pub record GetsThrough (a : Asked) (name path : Text) (how : FetchHow) (old new : Known) (outcome : Outcome) : Type 0 where
+  -- by the sum that the repository's name tells
+  pub got : GotAhead a.stanza a.data_folder name path old.repo old.nodes new.nodes outcome
+  -- what is served is archived, where no two contents share a SHA-1
+  pub given : (s : Stanza) → IsSome old.repo → IsSome old.spool → NowStands a.stanza (Some s) old.repo → NoTwins old.repo old.spool → GivenBy s a.data_folder name path old.nodes new.nodes outcome
+  -- and what follows it is fetched ahead
+  pub file : ArchiveName
+  pub told : Control
+  pub wanted : IsWanted a.data_folder name path old.nodes file told
+  pub follows : FollowsUp a.stanza told file old.repo (fetch_words a name how) new.spool old.others new.others outcome
+
+-- Ok of archive-get:async: what follows the segment that the word names was fetched, or it isn't stored
+abbrev pub FetchesAhead : Asked → Text → FetchHow → Known → Known → Outcome → Type 0
+FetchesAhead a name how old new outcome = (segment : Segment) × IsSegmentName name segment
+    × OnCluster old.nodes (λ told. FetchedBy a.stanza told name segment how.queue old.repo old.spool new.spool outcome)
+
 -- what a command promises where it ends well
 abbrev pub Promise : Asked → Request → Known → Known → Outcome → Type 0
 Promise a create old new outcome = Creates a old new outcome
@@ -285,6 +340,8 @@ Promise a (leave path how) old new outcome = OnFinished outcome (λ lines. lines
 Promise a (drain place) old new outcome = Drains a old new outcome
 Promise a (get name path) old new outcome = GotBy a.stanza a.data_folder name path old.repo old.nodes new.nodes outcome
     × OnStanza a old.repo (λ s. GivenBy s a.data_folder name path old.nodes new.nodes outcome)
+Promise a (get_through name path how) old new outcome = GetsThrough a name path how old new outcome
+Promise a (fetch_ahead name how) old new outcome = FetchesAhead a name how old new outcome
 Promise a (backup how) old new outcome = BehindIt a.expires a.stanza old.clock.least (IsBackedUp a (backup how) old new) new outcome
 Promise a (backup_running how) old new outcome = BehindIt a.expires a.stanza old.clock.least (IsBackedUp a (backup_running how) old new) new outcome
 Promise a (restore set how) old new outcome = Restores a set how old new outcome
@@ -292,11 +349,13 @@ Promise a (report form) old new outcome = OnFinished outcome (IsReported a.stanz
     × OnStanza a old.repo (λ s. OnFinished outcome (ReportsStanza form a.stanza s))
 Promise a examine old new outcome = IsExamined a.stanza old.repo outcome × EndsWithNone a.stanza old.repo outcome
 Promise a (expire rules) old new outcome = Removes a.stanza rules old new outcome
+Promise a (rehearse how) old new outcome = Rehearses a.stanza (size_by how.number) old new outcome
 
 -- what a command that settles what it looks at alone promises of all that a crash leaves: a pushed file is alike in it, and what archive-get answers holds of it
 abbrev pub Lasts : Asked → Request → Option Nodes → View → Option Nodes → Outcome → Type 0
 Lasts a (push path) nodes repo now_nodes outcome = OnFinished outcome (λ lines. IsLasting a.stanza a.data_folder path repo)
 Lasts a (get name path) nodes repo now_nodes outcome = (f : Content) → Leaves repo repo.moment f → GotBy a.stanza a.data_folder name path (Some f) nodes now_nodes outcome
+Lasts a (get_through name path how) nodes repo now_nodes outcome = (f : Content) → Leaves repo repo.moment f → GotAhead a.stanza a.data_folder name path (Some f) nodes now_nodes outcome
 Lasts a request nodes repo now_nodes outcome = Unit {0}
 
 -- ---- what stays
@@ -308,12 +367,15 @@ OnReader (push path) P = Unit {0}
 OnReader (leave path how) P = Unit {0}
 OnReader (drain place) P = Unit {0}
 OnReader (get name path) P = P
+OnReader (get_through name path how) P = P
+OnReader (fetch_ahead name how) P = P
 OnReader (backup how) P = Unit {0}
 OnReader (backup_running how) P = Unit {0}
 OnReader (restore set how) P = P
 OnReader (report form) P = P
 OnReader examine P = P
 OnReader (expire rules) P = Unit {0}
+OnReader (rehearse how) P = Unit {0}
 
 -- this holds of stanza-create
 abbrev pub OnCreate : Request → Type 0 → Type 0
@@ -346,29 +408,35 @@ OnOther create P = Unit {0}
 OnOther (backup_running how) P = Unit {0}
 OnOther other P = P
 
--- Only archive-get and restore change the data folder. The one puts there what is served; of the other it holds a whole backup, or has no control file, so that no server starts from half of one.
+-- Only archive-get, restore and rehearse change the data folder. The one puts there what is served; of the other it holds a whole backup, or has no control file, so that no server starts from half of one. A rehearsal works in a folder that is empty.
 abbrev pub FolderGoes : Asked → Request → Known → Option Nodes → Type 0
 FolderGoes a (get name path) old new = ChangesPath (served_path a.data_folder path) (IsServed a.stanza a.data_folder name path old.repo old.nodes) old.nodes new
+FolderGoes a (get_through name path how) old new = ChangesPath (served_path a.data_folder path) (IsServedBySum a.stanza a.data_folder name path old.repo old.nodes) old.nodes new
 FolderGoes a (restore set how) old new = (new ≡ old.nodes) ⊎ (HasNone control_path new ⊎ ((m : Manifest) × IfSome new (IsFinished a.stanza (take how.workers old.links) (options_by a.stanza how.delta how.recovery) m old.nodes)))
+FolderGoes a (rehearse how) old new = (new ≡ old.nodes) ⊎ IfSome old.nodes IsEmpty
 FolderGoes a request old new = new ≡ old.nodes
 
--- only a backup and a restore use workers, a backup the clock, and that of a running server waits for turns of others, as does who leaves a file to a drain; expire uses the clock where the rules count days
+-- only a backup, a restore and a rehearsal use workers, a backup and a rehearsal the clock, and that of a running server waits for turns of others, as does who leaves a file to a drain; expire uses the clock where the rules count days
 abbrev pub uses_workers : Request → Bool
 uses_workers (backup how) = true
 uses_workers (backup_running how) = true
 uses_workers (restore set how) = true
+uses_workers (rehearse how) = true
 uses_workers request = false
 
 abbrev pub uses_clock : Request → Bool
 uses_clock (backup how) = true
 uses_clock (backup_running how) = true
 uses_clock (expire rules) = counts_days rules.full
+uses_clock (rehearse how) = true
 uses_clock request = false
 
--- only archive-push in the background and archive-push:async use the spool, and a running server's backup hands it to others
+-- only archive-push and archive-get in the background, archive-push:async and archive-get:async use the spool, and a running server's backup hands it to others
 abbrev pub uses_spool : Request → Bool
 uses_spool (leave path how) = true
 uses_spool (drain place) = true
+uses_spool (get_through name path how) = true
+uses_spool (fetch_ahead name how) = true
 uses_spool (backup_running how) = true
 uses_spool request = false
 
@@ -376,6 +444,13 @@ abbrev pub uses_turns : Request → Bool
 uses_turns (leave path how) = true
 uses_turns (backup_running how) = true
 uses_turns request = false
+
+-- Only who leaves a file to a drain and a running server's backup may change what other processes are at. Who serves a segment through the spool starts one of them at most, and none has a turn.
+abbrev pub OthersGo : Asked → Request → OthersState → OthersState → Type 0
+OthersGo a (leave path how) old new = Unit {0}
+OthersGo a (backup_running how) old new = Unit {0}
+OthersGo a (get_through name path how) old new = QuietOthers (fetch_words a name how) old new
+OthersGo a request old new = new ≡ old
 
 -- only info and verify use nothing but the repository: no data folder, and no lock
 abbrev pub is_on_repository : Request → Bool

@@ -1,9 +1,11 @@
 -- What the code's settings stand for.
-use Rattle.std.specs.Prelude.{◌≡◌, ◌<◌, ◌^◌, List, length, option_map, string_bytes}
+use Rattle.std.specs.Prelude.{◌≡◌, ℕ, min, ◌<◌, ◌^◌, List, length, option_map, string_bytes}
 use Rattle.pgb_outside.specs.Links.{LinkState}
 use Rattle.pgb_worker_dispatch.specs.Run.{AreReady}
+use Rattle.pgb_model.specs.InfoFiles.{IsSegment}
 use Rattle.pgb_model.specs.Text.{Text}
 use Rattle.pgb_options.specs.declared.options.Options.{Options}
+use Rattle.pgb_options.specs.Filled.{or_else}
 use Rattle.pgb_create.specs.Server.{server_view}
 use Rattle.pgb_prune.specs.Rules.{rules_by}
 use Rattle.pgb_take_later.specs.declared.order.LaterOrder.{LaterOrder}
@@ -12,14 +14,15 @@ use Rattle.pgb_recover.specs.Fetching.{recovery_type}
 use Rattle.pgb_recover.specs.Words.{TellsSet}
 use Rattle.pgb_command.specs.declared.settings.Settings.{Settings}
 use Rattle.pgb_command.specs.declared.settings.Request as code
-use Rattle.pgb_command.specs.declared.settings.Request.TheVariants.{StanzaCreate, ArchivePush, ArchivePushLeft, ArchivePushAsync, ArchiveGet, Backup, BackupRunning, Restore, Info, Verify, Expire}
+use Rattle.pgb_command.specs.declared.settings.Request.TheVariants.{StanzaCreate, ArchivePush, ArchivePushLeft, ArchivePushAsync, ArchiveGet, ArchiveGetThrough, ArchiveGetAsync, Backup, BackupRunning, Restore, Info, Verify, Expire, Rehearse}
 use Rattle.pgb_command.specs.declared.order.Order.{Order}
 use Rattle.pgb_command.specs.declared.order.RunningOrder.{RunningOrder}
 use Rattle.pgb_command.specs.declared.order.LeaveOrder.{LeaveOrder}
+use Rattle.pgb_command.specs.declared.order.ThroughOrder.{ThroughOrder}
 use Rattle.pgb_command.specs.declared.order.Course.{Course}
 use Rattle.pgb_command.specs.declared.order.Course.TheVariants.{Staged, Left}
 use Rattle.pgb_command.specs.declared.order.Order.TheVariants as order
-use Rattle.pgb_command.specs.Asked.{Request, create, push, leave, drain, get, backup, backup_running, restore, report, examine, expire, BackupHow, RunningHow, RestoreHow, LeaveHow, Asked, Wanted}
+use Rattle.pgb_command.specs.Asked.{Request, create, push, leave, drain, get, get_through, fetch_ahead, backup, backup_running, restore, report, examine, expire, rehearse, BackupHow, RunningHow, RestoreHow, LeaveHow, FetchHow, Asked, Wanted}
 
 -- the workers can be numbered, and none has bytes of an earlier answer to give
 pub record AreWorkers (links : List LinkState) : Type 0 where
@@ -32,12 +35,15 @@ request_of (ArchivePush path) = push path.now
 request_of (ArchivePushLeft path spool turns) = leave path.now (record { spool = spool.now; turns = turns })
 request_of (ArchivePushAsync place) = drain place.now
 request_of (ArchiveGet name path) = get name.now path.now
+request_of (ArchiveGetThrough name path spool queue) = get_through name.now path.now (record { spool = spool.now; queue = queue })
+request_of (ArchiveGetAsync name spool queue) = fetch_ahead name.now (record { spool = spool.now; queue = queue })
 request_of (Backup workers kind delta) = backup (record { workers = workers; kind = kind; delta = delta })
 request_of (BackupRunning workers kind delta fast turns) = backup_running (record { taken = record { workers = workers; kind = kind; delta = delta }; fast = fast; turns = turns })
 request_of (Restore set workers delta recovery) = restore (option_map (λ w. w.now) set) (record { workers = workers; delta = delta; recovery = recovery_type recovery })
 request_of (Info form) = report form
 request_of Verify = examine
 request_of (Expire rules) = expire rules
+request_of (Rehearse workers number) = rehearse (record { workers = workers; number = number })
 
 -- how a command goes on by its options
 abbrev pub wanted_told : Options → Wanted
@@ -56,7 +62,9 @@ wanted_told o = record {
   fast = o.start_fast;
   turns = o.archive_timeout;
   spool = string_bytes o.spool_path;
+  queue = o.archive_get_queue_max;
   rules = rules_by o;
+  number = or_else 0 o.number;
 }
 
 abbrev pub asked_of : Settings → Asked
@@ -78,6 +86,14 @@ how_of o = record { workers = o.workers; delta = o.delta; recovery = recovery_ty
 abbrev pub leaving_of : LeaveOrder → LeaveHow
 leaving_of o = record { spool = o.spool.now; turns = o.turns }
 
+-- how segments are fetched ahead by the order
+abbrev pub fetching_of : ThroughOrder → FetchHow
+fetching_of o = record { spool = o.spool.now; queue = o.queue }
+
+-- a sample cluster's size is at most 64 (the option's bounds)
+abbrev pub size_by : ℕ → ℕ
+size_by number = min number 64
+
 -- the order is what was asked for, with its words read
 abbrev pub IsOrder : Request → Text → Order → Type 0
 IsOrder create folder order.StanzaCreate = Unit {0}
@@ -85,12 +101,15 @@ IsOrder (push path) folder (order.ArchivePush o) = (o.folder.now ≡ folder) × 
 IsOrder (drain place) folder order.ArchivePushAsync = Unit {0}
 IsOrder (leave path how) folder order = ⊥
 IsOrder (get name path) folder (order.ArchiveGet o) = (o.folder.now ≡ folder) × (o.word.now ≡ name) × (o.path.now ≡ path)
+IsOrder (get_through name path how) folder (order.ArchiveGetThrough o) = (o.get.folder.now ≡ folder) × (o.get.word.now ≡ name) × (o.get.path.now ≡ path) × (fetching_of o ≡ how)
+IsOrder (fetch_ahead name how) folder (order.ArchiveGetAsync o) = (o.fetch.word.now ≡ name) × (o.queue ≡ how.queue) × IsSegment o.fetch.segment
 IsOrder (backup how) folder (order.Backup o) = (o.take.data_folder.now ≡ folder) × (taking_of o ≡ how)
 IsOrder (backup_running how) folder (order.BackupRunning o) = (o.later.take.data_folder.now ≡ folder) × (running_of o ≡ how)
 IsOrder (restore set how) folder (order.Restore o) = (o.data_folder.now ≡ folder) × (how_of o ≡ how) × TellsSet set o.set
 IsOrder (report form) folder (order.Info asked) = asked ≡ form
 IsOrder examine folder order.Verify = Unit {0}
 IsOrder (expire rules) folder (order.Expire asked) = asked ≡ rules
+IsOrder (rehearse how) folder (order.Rehearse o) = (o.take.data_folder.now ≡ folder) × (o.take.workers ≡ how.workers) × (o.number ≡ size_by how.number)
 IsOrder request folder other = ⊥
 
 -- a file is left to a drain, as was asked for

@@ -4,7 +4,7 @@ ghost use Rattle.pgb_options.specs.Commands.{IsCommand};
 ghost use Rattle.pgb_options.specs.Filled.{or_else};
 ghost use Rattle.pgb_table.specs.Values.{is_stanza};
 ghost use Rattle.pgb_options.specs.Settings.{Settled};
-ghost use Rattle.pgb_command.specs.Asked.{request_by, backup_by, push_by, expires_by, restore_by, recovery_for, first_of, second_of, requested, IsAsked};
+ghost use Rattle.pgb_command.specs.Asked.{request_by, backup_by, push_by, get_by, fetch_ahead, fetching_by, expires_by, restore_by, recovery_for, first_of, second_of, requested, IsAsked};
 ghost use Rattle.pgb_recover.specs.Fetching.{recovery_type};
 ghost use Rattle.pgb_command.specs.Tables.{plan_of, spool_of};
 ghost use Rattle.pgb_command.specs.Told.{request_of, asked_of, wanted_told};
@@ -88,6 +88,35 @@ fn push_request<'a>(options: &'a Options, path: &'a str) -> Request<'a>
     Request::ArchivePush { path }
 }
 
+// How the file of this name is to be served at the path: from the repository, or through the spool.
+fn get_request<'a>(options: &'a Options, name: &'a str, path: &'a str) -> Request<'a>
+    ensures { request_of result ≡ get_by (wanted_told options.now) name.now path.now }
+{
+    let spool: &str = &options.spool_path;
+    let queue = options.archive_get_queue_max;
+    if options.archive_async {
+        return Request::ArchiveGetThrough {
+            name,
+            path,
+            spool,
+            queue,
+        };
+    }
+    Request::ArchiveGet { name, path }
+}
+
+// How the segments that follow the one of this name are to be fetched ahead.
+fn ahead_request<'a>(options: &'a Options, name: &'a str) -> Request<'a>
+    ensures { request_of result ≡ fetch_ahead name.now (fetching_by (wanted_told options.now)) }
+{
+    let spool: &str = &options.spool_path;
+    Request::ArchiveGetAsync {
+        name,
+        spool,
+        queue: options.archive_get_queue_max,
+    }
+}
+
 // How the server is to recover.
 fn recovery_for(options: &Options) -> RecoveryType<'_>
     ensures { recovery_type result
@@ -140,13 +169,13 @@ fn request_of(command: &Command) -> Result<Request<'_>, Unbuilt>
             spool: &command.options.spool_path,
         }),
         Verb::ArchiveGet => {
-            if command.options.archive_async {
-                return Err(Unbuilt::Background);
-            }
-            Ok(Request::ArchiveGet {
-                name: first_of(&command.given),
-                path: second_of(&command.given),
-            })
+            let name = first_of(&command.given);
+            let path = second_of(&command.given);
+            Ok(get_request(&command.options, name, path))
+        }
+        Verb::ArchiveGetAsync => {
+            let name = first_of(&command.given);
+            Ok(ahead_request(&command.options, name))
         }
         Verb::Backup => backup_request(&command.options),
         Verb::Restore => Ok(restore_request(&command.options)),
@@ -157,7 +186,10 @@ fn request_of(command: &Command) -> Result<Request<'_>, Unbuilt>
         Verb::Expire => Ok(Request::Expire {
             rules: rules_of(&command.options),
         }),
-        verb => Err(Unbuilt::Command(verb)),
+        Verb::Rehearse => Ok(Request::Rehearse {
+            workers: command.options.process_max,
+            number: command.options.number.unwrap_or(0),
+        }),
     }
 }
 
@@ -201,6 +233,8 @@ pub(crate) fn spool_of<'a>(request: &Request<'a>) -> Option<&'a str>
 {
     match request {
         Request::ArchivePushLeft { spool, .. } | Request::ArchivePushAsync { spool } => Some(spool),
+        Request::ArchiveGetThrough { spool, .. } => Some(spool),
+        Request::ArchiveGetAsync { spool, .. } => Some(spool),
         _ => None,
     }
 }
@@ -247,7 +281,9 @@ pub(crate) fn plan_of(request: &Request<'_>) -> Plan
             pairs: Pairs::HealArchive,
             ..reading
         },
-        Request::ArchiveGet { .. } => Plan {
+        Request::ArchiveGet { .. }
+        | Request::ArchiveGetThrough { .. }
+        | Request::ArchiveGetAsync { .. } => Plan {
             settling: Settling::Looked,
             folder: true,
             control: true,
@@ -268,6 +304,13 @@ pub(crate) fn plan_of(request: &Request<'_>) -> Plan
         Request::Verify => reading,
         Request::Expire { .. } => Plan {
             backup_lock: true,
+            ..reading
+        },
+        Request::Rehearse { .. } => Plan {
+            folder: true,
+            backup_lock: true,
+            archive_lock: true,
+            pairs: Pairs::Unread,
             ..reading
         },
     }

@@ -1,7 +1,7 @@
 // What a command answers in place of Ok, by layers.
 ghost use Rattle.std.specs.Prelude.{◌≡◌};
 ghost use Rattle.pgb_command.specs.Answers.{status_of, usage_status, command_status};
-ghost use Rattle.pgb_command.specs.Faults.{lift, of_stage, of_create, of_push, of_leave, of_drain, of_get, of_take, of_take_online, of_recover, of_examine, of_prune};
+ghost use Rattle.pgb_command.specs.Faults.{lift, of_stage, of_create, of_push, of_leave, of_drain, of_get, of_take, of_take_online, of_recover, of_examine, of_prune, of_rehearse};
 
 use pgb_create::{CreateFault, create_status};
 use pgb_drained::drain_status;
@@ -12,6 +12,7 @@ use pgb_options::Usage;
 use pgb_prune::{BehindFault, PruneFault, behind_status, prune_status};
 use pgb_push::{PushFault, push_status};
 use pgb_recover::{RecoverFault, recover_status};
+use pgb_rehearse::{RehearseFault, rehearse_status};
 use pgb_stage::{Halt, Object, Outcome, StageFault, object_status, stage_status};
 use pgb_take_later::{LaterFault, later_status};
 use pgb_take_online::{OnlineTakeFault, online_take_status};
@@ -31,6 +32,7 @@ pub enum CommandFault {
     Recover(RecoverFault),
     Examine(ExamineFault),
     Prune(PruneFault),
+    Rehearse(RehearseFault),
 }
 
 /// Why a command is refused, in the order in which refusals come; or which object failed; or that there is no memory.
@@ -317,6 +319,18 @@ pub(crate) fn examine_end(ended: Result<Outcome, Halt<ExamineFault>>) -> Result<
     }
 }
 
+/// How rehearse ended.
+pub(crate) fn rehearse_end(ended: Result<Outcome, Halt<RehearseFault>>) -> Result<Outcome, Fault>
+    ensures { result ≡ lift of_rehearse ended }
+{
+    match ended {
+        Ok(outcome) => Ok(outcome),
+        Err(Halt::Refused(fault)) => Err(Fault::Command(CommandFault::Rehearse(fault))),
+        Err(Halt::Failed(object)) => Err(Fault::Failed(object)),
+        Err(Halt::NoMemory) => Err(Fault::NoMemory),
+    }
+}
+
 /// How expire ended.
 pub(crate) fn prune_end(ended: Result<Outcome, Halt<PruneFault>>) -> Result<Outcome, Fault>
     ensures { result ≡ lift of_prune ended }
@@ -360,6 +374,7 @@ fn command_status(fault: &CommandFault) -> u8
         CommandFault::Recover(fault) => recover_status(fault),
         CommandFault::Examine(fault) => examine_status(fault),
         CommandFault::Prune(fault) => prune_status(fault),
+        CommandFault::Rehearse(fault) => rehearse_status(fault),
     }
 }
 

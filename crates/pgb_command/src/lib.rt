@@ -8,6 +8,7 @@
 mod asking;
 mod config;
 mod fault;
+mod fetching;
 mod lines;
 mod order;
 mod output;

@@ -11,6 +11,7 @@ use pgb_options::Usage;
 use pgb_prune::{behind_message, prune_message};
 use pgb_push::push_message;
 use pgb_recover::recover_message;
+use pgb_rehearse::rehearse_message;
 use pgb_stage::{Object, bytes_of, object_message, push_shown, quoted, stage_message};
 use pgb_take_later::later_message;
 use pgb_take_online::online_take_message;
@@ -57,6 +58,7 @@ fn command_message(alloc: Global, fault: &CommandFault) -> Result<Vec<u8>, NoMem
         CommandFault::Recover(fault) => recover_message(alloc, fault),
         CommandFault::Examine(fault) => examine_message(alloc, fault),
         CommandFault::Prune(fault) => prune_message(alloc, fault),
+        CommandFault::Rehearse(fault) => rehearse_message(alloc, fault),
     }
 }
 

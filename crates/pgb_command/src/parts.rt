@@ -1,16 +1,15 @@
 // The commands' own parts, over all that is handed to the program: what the stages made ready goes to each.
 ghost use Rattle.std.specs.Prelude.{◌≡◌, ◌≤◌, ◌∷◌, [], None, OnOk, map, string_bytes};
-ghost use Rattle.pgb_stage.specs.Plans.{AreHeld, backup_lock};
-ghost use Rattle.pgb_prepare.specs.Readies.{IsReady};
+ghost use Rattle.pgb_stage.specs.Plans.{backup_lock};
 ghost use Rattle.pgb_command.specs.Asked.{alone, create as asks_create, push as asks_push, get as asks_get, report as asks_report, examine as asks_examine, expire as asks_expire};
 ghost use Rattle.pgb_command.specs.Did.{Acknowledges, Did, Followed, Ran, SamePlaces};
-ghost use Rattle.pgb_command.specs.Told.{request_of, asked_of, AreWorkers, IsLeft, IsOrder};
-ghost use Rattle.pgb_command.specs.declared.order.Order.TheVariants.{ArchivePushAsync as DrainOrder, Backup as BackupOrder, BackupRunning as BackupRunningOrder, Restore as RestoreOrder};
-ghost use Rattle.pgb_command.specs.Tables.{plan_of};
+ghost use Rattle.pgb_command.specs.Told.{request_of, asked_of, AreWorkers, IsLeft};
+ghost use Rattle.pgb_command.specs.declared.order.Order.TheVariants.{ArchivePushAsync as DrainOrder, Backup as BackupOrder, BackupRunning as BackupRunningOrder, Restore as RestoreOrder, Rehearse as RehearseOrderOf};
+ghost use Rattle.pgb_command.specs.Ranges.{AtOk, Between, HoldsLocks, IsOrderFor, IsReadyFor, OnTold};
 
 use crate::fault::{
     Fault, create_end, drain_end, examine_end, get_end, inform_end, leave_end, prune_end, push_end,
-    recover_end, take_end, take_online_end,
+    recover_end, rehearse_end, take_end, take_online_end,
 };
 use crate::order::{LeaveOrder, RunningOrder};
 use crate::outside::{Outside, Told};
@@ -28,6 +27,7 @@ use pgb_prepare::Ready;
 use pgb_prune::{prune_behind, prune_stanza};
 use pgb_push::{PushOrder, push_file};
 use pgb_recover::{RecoverOrder, recover_backup};
+use pgb_rehearse::{RehearseOrder, rehearse};
 use pgb_retain::Rules;
 use pgb_stage::Outcome;
 use pgb_take_later::{LaterOrder, take_later};
@@ -56,12 +56,9 @@ impl<
         ready: &Ready,
     ) -> Result<Outcome, Fault>
         requires request { request_of settings.now.request ≡ asks_create }
-        requires locked { AreHeld (plan_of (request_of settings.now.request)) settings.now.stanza.now
-            (K.state self.old.locks).taken }
-        requires ready { IsReady (plan_of (request_of settings.now.request)) settings.now.stanza.now
-            (D.state self.old.repo).view.now (T.state self.old.tree).nodes ready.now }
-        ensures ran { let told = ⟦<Self as Told>⟧.told in
-            Ran (alone (asked_of settings.now)) (told self.old) (told self.new) result }
+        requires locked { HoldsLocks settings.now (K.state self.old.locks).taken }
+        requires ready { IsReadyFor settings.now (⟦<Self as Told>⟧.told self.old) ready.now }
+        ensures ran { OnTold ⟦<Self as Told>⟧.told (Ran (alone (asked_of settings.now))) self.old self.new result }
         ensures quiet { settings.now.server ≡ None → self.new.server ≡ self.old.server }
         ensures rest { self.new ≡ record self.old { repo = self.new.repo; server = self.new.server } }
     {
@@ -88,13 +85,10 @@ impl<
         ready: &Ready,
     ) -> Result<Outcome, Fault>
         requires request { request_of settings.now.request ≡ asks_push order.path.now }
-        requires locked { AreHeld (plan_of (request_of settings.now.request)) settings.now.stanza.now
-            (K.state self.old.locks).taken }
+        requires locked { HoldsLocks settings.now (K.state self.old.locks).taken }
         requires folder { order.folder.now ≡ settings.now.pg1_path.now }
-        requires ready { IsReady (plan_of (request_of settings.now.request)) settings.now.stanza.now
-            (D.state self.old.repo).view.now (T.state self.old.tree).nodes ready.now }
-        ensures ran { let told = ⟦<Self as Told>⟧.told in
-            Ran (alone (asked_of settings.now)) (told self.old) (told self.new) result }
+        requires ready { IsReadyFor settings.now (⟦<Self as Told>⟧.told self.old) ready.now }
+        ensures ran { OnTold ⟦<Self as Told>⟧.told (Ran (alone (asked_of settings.now))) self.old self.new result }
         ensures rest { self.new ≡ record self.old { repo = self.new.repo; tree = self.new.tree } }
     {
         let (Some(control), Some(archive)) = (&ready.control, &ready.archive) else {
@@ -120,11 +114,9 @@ impl<
         order: LeaveOrder<'_>,
     ) -> Result<Outcome, Fault>
         requires order { IsLeft (request_of settings.now.request) settings.now.pg1_path.now order }
-        ensures did { let told = ⟦<Self as Told>⟧.told in
-            Did (asked_of settings.now) (told self.old) (told self.new) result }
-        ensures left { let told = ⟦<Self as Told>⟧.told in
-            OnOk result (Acknowledges (asked_of settings.now) (told self.old) (told self.new)) }
-        ensures places { let told = ⟦<Self as Told>⟧.told in SamePlaces (told self.old) (told self.new) }
+        ensures did { OnTold ⟦<Self as Told>⟧.told (Did (asked_of settings.now)) self.old self.new result }
+        ensures left { AtOk ⟦<Self as Told>⟧.told (Acknowledges (asked_of settings.now)) self.old self.new result }
+        ensures places { Between ⟦<Self as Told>⟧.told SamePlaces self.old self.new }
         ensures rest { self.new ≡ record self.old {
           repo = self.new.repo;
           spool = self.new.spool;
@@ -154,13 +146,10 @@ impl<
         settings: &Settings<'_>,
         ready: &Ready,
     ) -> Result<Outcome, Fault>
-        requires order { IsOrder (request_of settings.now.request) settings.now.pg1_path.now DrainOrder }
-        requires locked { AreHeld (plan_of (request_of settings.now.request)) settings.now.stanza.now
-            (K.state self.old.locks).taken }
-        requires ready { IsReady (plan_of (request_of settings.now.request)) settings.now.stanza.now
-            (D.state self.old.repo).view.now (T.state self.old.tree).nodes ready.now }
-        ensures ran { let told = ⟦<Outside<D, S, T, V, A, C, K, I, O, L, U> as Told>⟧.told in
-            Ran (alone (asked_of settings.now)) (told self.old) (told self.new) result }
+        requires order { IsOrderFor settings.now DrainOrder }
+        requires locked { HoldsLocks settings.now (K.state self.old.locks).taken }
+        requires ready { IsReadyFor settings.now (⟦<Self as Told>⟧.told self.old) ready.now }
+        ensures ran { OnTold ⟦<Self as Told>⟧.told (Ran (alone (asked_of settings.now))) self.old self.new result }
         ensures rest { self.new ≡ record self.old {
           repo = self.new.repo;
           spool = self.new.spool;
@@ -192,10 +181,8 @@ impl<
     ) -> Result<Outcome, Fault>
         requires request { request_of settings.now.request ≡ asks_get order.now.word.now order.now.path.now }
         requires folder { order.now.folder.now ≡ settings.now.pg1_path.now }
-        requires ready { IsReady (plan_of (request_of settings.now.request)) settings.now.stanza.now
-            (D.state self.old.repo).view.now (T.state self.old.tree).nodes ready.now }
-        ensures ran { let told = ⟦<Self as Told>⟧.told in
-            Ran (alone (asked_of settings.now)) (told self.old) (told self.new) result }
+        requires ready { IsReadyFor settings.now (⟦<Self as Told>⟧.told self.old) ready.now }
+        ensures ran { OnTold ⟦<Self as Told>⟧.told (Ran (alone (asked_of settings.now))) self.old self.new result }
         ensures rest { self.new ≡ record self.old { repo = self.new.repo; tree = self.new.tree } }
     {
         let (Some(control), Some(archive)) = (&ready.control, &ready.archive) else {
@@ -220,14 +207,11 @@ impl<
         order: LaterOrder<'_>,
         ready: Ready,
     ) -> Result<Outcome, Fault>
-        requires order { IsOrder (request_of settings.now.request) settings.now.pg1_path.now (BackupOrder order) }
-        requires locked { AreHeld (plan_of (request_of settings.now.request)) settings.now.stanza.now
-            (K.state self.old.locks).taken }
+        requires order { IsOrderFor settings.now (BackupOrder order) }
+        requires locked { HoldsLocks settings.now (K.state self.old.locks).taken }
         requires workers { AreWorkers (map L.link_state self.old.links.items) }
-        requires ready { IsReady (plan_of (request_of settings.now.request)) settings.now.stanza.now
-            (D.state self.old.repo).view.now (T.state self.old.tree).nodes ready }
-        ensures ran { let told = ⟦<Self as Told>⟧.told in
-            Ran (alone (asked_of settings.now)) (told self.old) (told self.new) result }
+        requires ready { IsReadyFor settings.now (⟦<Self as Told>⟧.told self.old) ready }
+        ensures ran { OnTold ⟦<Self as Told>⟧.told (Ran (alone (asked_of settings.now))) self.old self.new result }
         ensures least { (C.state self.old.clock).least ≤ (C.state self.new.clock).least }
         ensures rest { self.new ≡ record self.old {
           repo = self.new.repo;
@@ -268,15 +252,11 @@ impl<
         order: &RunningOrder<'_>,
         ready: Ready,
     ) -> Result<Outcome, Fault>
-        requires order { IsOrder (request_of settings.now.request) settings.now.pg1_path.now
-            (BackupRunningOrder order.now) }
-        requires locked { AreHeld (plan_of (request_of settings.now.request)) settings.now.stanza.now
-            (K.state self.old.locks).taken }
+        requires order { IsOrderFor settings.now (BackupRunningOrder order.now) }
+        requires locked { HoldsLocks settings.now (K.state self.old.locks).taken }
         requires workers { AreWorkers (map L.link_state self.old.links.items) }
-        requires ready { IsReady (plan_of (request_of settings.now.request)) settings.now.stanza.now
-            (D.state self.old.repo).view.now (T.state self.old.tree).nodes ready }
-        ensures ran { let told = ⟦<Self as Told>⟧.told in
-            Ran (alone (asked_of settings.now)) (told self.old) (told self.new) result }
+        requires ready { IsReadyFor settings.now (⟦<Self as Told>⟧.told self.old) ready }
+        ensures ran { OnTold ⟦<Self as Told>⟧.told (Ran (alone (asked_of settings.now))) self.old self.new result }
         ensures quiet { settings.now.server ≡ None → self.new.server ≡ self.old.server }
         ensures least { (C.state self.old.clock).least ≤ (C.state self.new.clock).least }
         ensures rest { self.new ≡ record self.old {
@@ -336,13 +316,10 @@ impl<
         order: &RecoverOrder<'_>,
         ready: &Ready,
     ) -> Result<Outcome, Fault>
-        requires order { IsOrder (request_of settings.now.request) settings.now.pg1_path.now
-            (RestoreOrder order.now) }
+        requires order { IsOrderFor settings.now (RestoreOrder order.now) }
         requires workers { AreWorkers (map L.link_state self.old.links.items) }
-        requires ready { IsReady (plan_of (request_of settings.now.request)) settings.now.stanza.now
-            (D.state self.old.repo).view.now (T.state self.old.tree).nodes ready.now }
-        ensures ran { let told = ⟦<Self as Told>⟧.told in
-            Ran (alone (asked_of settings.now)) (told self.old) (told self.new) result }
+        requires ready { IsReadyFor settings.now (⟦<Self as Told>⟧.told self.old) ready.now }
+        ensures ran { OnTold ⟦<Self as Told>⟧.told (Ran (alone (asked_of settings.now))) self.old self.new result }
         ensures rest { self.new ≡ record self.old {
           repo = self.new.repo;
           tree = self.new.tree;
@@ -374,10 +351,8 @@ impl<
         ready: &Ready,
     ) -> Result<Outcome, Fault>
         requires request { request_of settings.now.request ≡ asks_report form }
-        requires ready { IsReady (plan_of (request_of settings.now.request)) settings.now.stanza.now
-            (D.state self.old.repo).view.now (T.state self.old.tree).nodes ready.now }
-        ensures ran { let told = ⟦<Self as Told>⟧.told in
-            Ran (alone (asked_of settings.now)) (told self.old) (told self.new) result }
+        requires ready { IsReadyFor settings.now (⟦<Self as Told>⟧.told self.old) ready.now }
+        ensures ran { OnTold ⟦<Self as Told>⟧.told (Ran (alone (asked_of settings.now))) self.old self.new result }
         ensures rest { self.new ≡ record self.old { repo = self.new.repo } }
     {
         let (Some(archive), Some(backup)) = (&ready.archive, &ready.backup) else {
@@ -401,16 +376,48 @@ impl<
         ready: &Ready,
     ) -> Result<Outcome, Fault>
         requires request { request_of settings.now.request ≡ asks_examine }
-        requires ready { IsReady (plan_of (request_of settings.now.request)) settings.now.stanza.now
-            (D.state self.old.repo).view.now (T.state self.old.tree).nodes ready.now }
-        ensures ran { let told = ⟦<Self as Told>⟧.told in
-            Ran (alone (asked_of settings.now)) (told self.old) (told self.new) result }
+        requires ready { IsReadyFor settings.now (⟦<Self as Told>⟧.told self.old) ready.now }
+        ensures ran { OnTold ⟦<Self as Told>⟧.told (Ran (alone (asked_of settings.now))) self.old self.new result }
         ensures rest { self.new ≡ record self.old { repo = self.new.repo } }
     {
         let Some(backup) = &ready.backup else {
             unreachable!();
         };
         examine_end(examine_stanza(alloc, &mut self.repo, settings.stanza, backup))
+    }
+
+    /// rehearse.
+    pub(crate) fn rehearse(
+        &mut self,
+        alloc: Global,
+        settings: &Settings<'_>,
+        order: &RehearseOrder<'_>,
+    ) -> Result<Outcome, Fault>
+        requires order { IsOrderFor settings.now (RehearseOrderOf order.now) }
+        requires locked { HoldsLocks settings.now (K.state self.old.locks).taken }
+        requires workers { AreWorkers (map L.link_state self.old.links.items) }
+        ensures ran { OnTold ⟦<Self as Told>⟧.told (Ran (alone (asked_of settings.now))) self.old self.new result }
+        ensures least { (C.state self.old.clock).least ≤ (C.state self.new.clock).least }
+        ensures rest { self.new ≡ record self.old {
+          repo = self.new.repo;
+          tree = self.new.tree;
+          clock = self.new.clock;
+          links = self.new.links;
+          turns = self.new.turns;
+        } }
+    {
+        rehearse_end(rehearse(
+            alloc,
+            &mut self.repo,
+            &mut self.tree,
+            &mut self.server,
+            &mut self.clock,
+            &self.locks,
+            &mut self.links,
+            &mut self.turns,
+            settings.stanza,
+            order,
+        ))
     }
 
     /// The expiry that follows a backup that ended with these lines: what went is told behind them.
@@ -450,12 +457,9 @@ impl<
         ready: Ready,
     ) -> Result<Outcome, Fault>
         requires request { request_of settings.now.request ≡ asks_expire rules.now }
-        requires locked { AreHeld (plan_of (request_of settings.now.request)) settings.now.stanza.now
-            (K.state self.old.locks).taken }
-        requires ready { IsReady (plan_of (request_of settings.now.request)) settings.now.stanza.now
-            (D.state self.old.repo).view.now (T.state self.old.tree).nodes ready }
-        ensures ran { let told = ⟦<Self as Told>⟧.told in
-            Ran (alone (asked_of settings.now)) (told self.old) (told self.new) result }
+        requires locked { HoldsLocks settings.now (K.state self.old.locks).taken }
+        requires ready { IsReadyFor settings.now (⟦<Self as Told>⟧.told self.old) ready }
+        ensures ran { OnTold ⟦<Self as Told>⟧.told (Ran (alone (asked_of settings.now))) self.old self.new result }
         ensures rest { self.new ≡ record self.old { repo = self.new.repo; clock = self.new.clock } }
     {
         let (Some(archive), Some(backup)) = (ready.archive, ready.backup) else {

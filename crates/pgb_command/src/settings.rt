@@ -33,6 +33,20 @@ pub enum Request<'a> {
         name: &'a str,
         path: &'a str,
     },
+    /// The archived file that is to be served through the spool, and where; and as many segments that follow it are fetched
+    /// ahead as so many bytes hold.
+    ArchiveGetThrough {
+        name: &'a str,
+        path: &'a str,
+        spool: &'a str,
+        queue: u64,
+    },
+    /// The segments that follow this one are to be fetched into the spool, as many as so many bytes hold.
+    ArchiveGetAsync {
+        name: &'a str,
+        spool: &'a str,
+        queue: u64,
+    },
     /// A backup of this kind of a stopped server, with as many workers at most; whether a file is told from the prior
     /// backup's by its digest.
     Backup {
@@ -63,6 +77,11 @@ pub enum Request<'a> {
     },
     /// What deviates in the repository is told.
     Verify,
+    /// A sample cluster of this size lives its whole life, with as many workers at most for each of its steps.
+    Rehearse {
+        workers: u32,
+        number: u32,
+    },
     /// What these rules don't keep is removed.
     Expire {
         rules: Rules,

@@ -3,13 +3,13 @@ ghost use Rattle.std.specs.Prelude.{◌≡◌, ◌≤◌, true, false, Some, Non
 ghost use Rattle.pgb_stage.specs.Plans.{first_lock, second_lock, AreHeld};
 ghost use Rattle.pgb_stage.specs.Halts.{HaltCause, Never};
 ghost use Rattle.pgb_stage.specs.Seen.{Failed, AreRead};
-ghost use Rattle.pgb_prepare.specs.Readies.{IsReady};
 ghost use Rattle.pgb_prepare.specs.Taking.{AreNames, HoldsOnly};
 ghost use Rattle.pgb_command.specs.Asked.{alone};
 ghost use Rattle.pgb_command.specs.Did.{Acknowledges, Ran, Did, ComesBehind, Brackets, SamePlaces, OpensPlaces, ArePlacesOpened, TakesAll, OnlyLocked};
-ghost use Rattle.pgb_command.specs.Kept.{KeepsInAndOut, KeepsLocked};
-ghost use Rattle.pgb_command.specs.Told.{request_of, asked_of, AreWorkers, IsCourse, IsOrder};
-ghost use Rattle.pgb_command.specs.Tables.{OnBackup, plan_of, spool_of, uses_spool, uses_workers, is_on_repository};
+ghost use Rattle.pgb_command.specs.Kept.{KeepsFolder, KeepsInAndOut, KeepsLocked, KeepsSpool, KeepsWorkers};
+ghost use Rattle.pgb_command.specs.Ranges.{AtOk, Between, HoldsLocks, IsOnRepository, IsOrderFor, IsReadyFor, OnTold, OpensNoFolder, UsesNoSpool, UsesNoWorkers};
+ghost use Rattle.pgb_command.specs.Told.{request_of, asked_of, AreWorkers, IsCourse};
+ghost use Rattle.pgb_command.specs.Tables.{OnBackup, plan_of, spool_of};
 
 use crate::asking::{plan_of, spool_of};
 use crate::fault::Fault;
@@ -52,13 +52,10 @@ impl<
     // Opens the places of the command: the spool, the data folder and the repository.
     fn open(&mut self, settings: &Settings<'_>, plan: &Plan) -> Result<(), Halt<StageFault>>
         requires { plan.now ≡ plan_of (request_of settings.now.request) }
-        ensures read { let told = ⟦<Self as Told>⟧.told in AreRead (told self.old) (told self.new) }
-        ensures places { let told = ⟦<Self as Told>⟧.told in
-            OpensPlaces (asked_of settings.now) (told self.old) (told self.new) }
-        ensures opened { let told = ⟦<Self as Told>⟧.told in
-            OnOk result (ArePlacesOpened (asked_of settings.now) (told self.old) (told self.new)) }
-        ensures cause { let told = ⟦<Self as Told>⟧.told in
-            IfErr result (HaltCause Never (Failed (told self.old) (told self.new))) }
+        ensures read { Between ⟦<Self as Told>⟧.told AreRead self.old self.new }
+        ensures places { Between ⟦<Self as Told>⟧.told (OpensPlaces (asked_of settings.now)) self.old self.new }
+        ensures opened { AtOk ⟦<Self as Told>⟧.told (ArePlacesOpened (asked_of settings.now)) self.old self.new result }
+        ensures cause { IfErr result (HaltCause Never (OnTold ⟦<Self as Told>⟧.told Failed self.old self.new)) }
         ensures rest { self.new ≡ record self.old {
           repo = self.new.repo;
           spool = self.new.spool;
@@ -87,19 +84,14 @@ impl<
         requires free { (K.state self.old.locks).taken ≡ [] }
         requires plan { plan.now ≡ plan_of (request_of settings.now.request) }
         requires course { IsCourse (request_of settings.now.request) settings.now.pg1_path.now course }
-        ensures did { let told = ⟦<Self as Told>⟧.told in
-            Did (asked_of settings.now) (told self.old) (told self.new) result }
-        ensures left { let told = ⟦<Self as Told>⟧.told in
-            OnOk result (Acknowledges (asked_of settings.now) (told self.old) (told self.new)) }
-        ensures brackets { let told = ⟦<Self as Told>⟧.told in
-            Brackets (asked_of settings.now) (told self.old) (told self.new) result }
+        ensures did { OnTold ⟦<Self as Told>⟧.told (Did (asked_of settings.now)) self.old self.new result }
+        ensures left { AtOk ⟦<Self as Told>⟧.told (Acknowledges (asked_of settings.now)) self.old self.new result }
+        ensures brackets { OnTold ⟦<Self as Told>⟧.told (Brackets (asked_of settings.now)) self.old self.new result }
         ensures released { (K.state self.new.locks).taken ≡ [] }
         ensures tree { plan.now.folder ≡ false → self.new.tree ≡ self.old.tree }
         ensures quiet { settings.now.server ≡ None → self.new.server ≡ self.old.server }
-        ensures alone { uses_workers (request_of settings.now.request) ≡ false
-            → (self.new.links ≡ self.old.links) × (self.new.turns ≡ self.old.turns) }
-        ensures waits { uses_spool (request_of settings.now.request) ≡ false
-            → (self.new.spool ≡ self.old.spool) × (self.new.aside ≡ self.old.aside) }
+        ensures alone { UsesNoWorkers (request_of settings.now.request) → KeepsWorkers self.old self.new }
+        ensures waits { UsesNoSpool (request_of settings.now.request) → KeepsSpool self.old self.new }
         ensures idle { plan.now.backup_lock ≡ false → plan.now.archive_lock ≡ false → self.new.locks ≡ self.old.locks }
         ensures rest { KeepsInAndOut self.old self.new }
     {
@@ -114,22 +106,15 @@ impl<
     pub(crate) fn obey(&mut self, alloc: Global, settings: &Settings<'_>) -> Result<Outcome, Fault>
         requires workers { AreWorkers (map L.link_state self.old.links.items) }
         requires free { (K.state self.old.locks).taken ≡ [] }
-        ensures did { let told = ⟦<Self as Told>⟧.told in
-            Did (asked_of settings.now) (told self.old) (told self.new) result }
-        ensures left { let told = ⟦<Self as Told>⟧.told in
-            OnOk result (Acknowledges (asked_of settings.now) (told self.old) (told self.new)) }
-        ensures brackets { let told = ⟦<Self as Told>⟧.told in
-            Brackets (asked_of settings.now) (told self.old) (told self.new) result }
-        ensures words { let told = ⟦<Self as Told>⟧.told in
-            ComesBehind (asked_of settings.now) (told self.old) (told self.new) result }
+        ensures did { OnTold ⟦<Self as Told>⟧.told (Did (asked_of settings.now)) self.old self.new result }
+        ensures left { AtOk ⟦<Self as Told>⟧.told (Acknowledges (asked_of settings.now)) self.old self.new result }
+        ensures brackets { OnTold ⟦<Self as Told>⟧.told (Brackets (asked_of settings.now)) self.old self.new result }
+        ensures words { OnTold ⟦<Self as Told>⟧.told (ComesBehind (asked_of settings.now)) self.old self.new result }
         ensures released { (K.state self.new.locks).taken ≡ [] }
         ensures quiet { settings.now.server ≡ None → self.new.server ≡ self.old.server }
-        ensures alone { uses_workers (request_of settings.now.request) ≡ false
-            → (self.new.links ≡ self.old.links) × (self.new.turns ≡ self.old.turns) }
-        ensures waits { uses_spool (request_of settings.now.request) ≡ false
-            → (self.new.spool ≡ self.old.spool) × (self.new.aside ≡ self.old.aside) }
-        ensures unused { is_on_repository (request_of settings.now.request) ≡ true
-            → (self.new.tree ≡ self.old.tree) × (self.new.locks ≡ self.old.locks) }
+        ensures alone { UsesNoWorkers (request_of settings.now.request) → KeepsWorkers self.old self.new }
+        ensures waits { UsesNoSpool (request_of settings.now.request) → KeepsSpool self.old self.new }
+        ensures unused { IsOnRepository (request_of settings.now.request) → KeepsFolder self.old self.new }
         ensures rest { KeepsInAndOut self.old self.new }
     {
         let course = course_of(alloc, settings)?;
@@ -149,16 +134,13 @@ impl<
         requires workers { AreWorkers (map L.link_state self.old.links.items) }
         requires plan { plan.now ≡ plan_of (request_of settings.now.request) }
         requires locked { AreHeld plan.now settings.now.stanza.now (K.state self.old.locks).taken }
-        requires order { IsOrder (request_of settings.now.request) settings.now.pg1_path.now order }
-        ensures did { let told = ⟦<Self as Told>⟧.told in
-            Did (asked_of settings.now) (told self.old) (told self.new) result }
-        ensures places { let told = ⟦<Self as Told>⟧.told in SamePlaces (told self.old) (told self.new) }
+        requires order { IsOrderFor settings.now order }
+        ensures did { OnTold ⟦<Self as Told>⟧.told (Did (asked_of settings.now)) self.old self.new result }
+        ensures places { Between ⟦<Self as Told>⟧.told SamePlaces self.old self.new }
         ensures tree { plan.now.folder ≡ false → self.new.tree ≡ self.old.tree }
         ensures quiet { settings.now.server ≡ None → self.new.server ≡ self.old.server }
-        ensures alone { uses_workers (request_of settings.now.request) ≡ false
-            → (self.new.links ≡ self.old.links) × (self.new.turns ≡ self.old.turns) }
-        ensures waits { uses_spool (request_of settings.now.request) ≡ false
-            → (self.new.spool ≡ self.old.spool) × (self.new.aside ≡ self.old.aside) }
+        ensures alone { UsesNoWorkers (request_of settings.now.request) → KeepsWorkers self.old self.new }
+        ensures waits { UsesNoSpool (request_of settings.now.request) → KeepsSpool self.old self.new }
         ensures rest { KeepsLocked self.old self.new }
     {
         let ready = prepare(
@@ -185,22 +167,17 @@ impl<
         requires free { (K.state self.old.locks).taken ≡ [] }
         requires plan { plan.now ≡ plan_of (request_of settings.now.request) }
         requires names { AreNames names.now plan.now settings.now.stanza.now }
-        requires order { IsOrder (request_of settings.now.request) settings.now.pg1_path.now order }
-        ensures did { let told = ⟦<Self as Told>⟧.told in
-            Did (asked_of settings.now) (told self.old) (told self.new) result }
-        ensures places { let told = ⟦<Self as Told>⟧.told in SamePlaces (told self.old) (told self.new) }
+        requires order { IsOrderFor settings.now order }
+        ensures did { OnTold ⟦<Self as Told>⟧.told (Did (asked_of settings.now)) self.old self.new result }
+        ensures places { Between ⟦<Self as Told>⟧.told SamePlaces self.old self.new }
         ensures held { HoldsOnly (first_lock plan.now settings.now.stanza.now)
             (second_lock plan.now settings.now.stanza.now) (K.state self.new.locks).taken }
-        ensures took { let told = ⟦<Self as Told>⟧.told in
-            OnOk result (TakesAll (asked_of settings.now) (told self.old) (told self.new)) }
-        ensures only { let told = ⟦<Self as Told>⟧.told in
-            OnlyLocked (asked_of settings.now) (told self.old) (told self.new) }
+        ensures took { AtOk ⟦<Self as Told>⟧.told (TakesAll (asked_of settings.now)) self.old self.new result }
+        ensures only { Between ⟦<Self as Told>⟧.told (OnlyLocked (asked_of settings.now)) self.old self.new }
         ensures tree { plan.now.folder ≡ false → self.new.tree ≡ self.old.tree }
         ensures quiet { settings.now.server ≡ None → self.new.server ≡ self.old.server }
-        ensures alone { uses_workers (request_of settings.now.request) ≡ false
-            → (self.new.links ≡ self.old.links) × (self.new.turns ≡ self.old.turns) }
-        ensures waits { uses_spool (request_of settings.now.request) ≡ false
-            → (self.new.spool ≡ self.old.spool) × (self.new.aside ≡ self.old.aside) }
+        ensures alone { UsesNoWorkers (request_of settings.now.request) → KeepsWorkers self.old self.new }
+        ensures waits { UsesNoSpool (request_of settings.now.request) → KeepsSpool self.old self.new }
         ensures idle { plan.now.backup_lock ≡ false → plan.now.archive_lock ≡ false → self.new.locks ≡ self.old.locks }
         ensures rest { KeepsInAndOut self.old self.new }
     {
@@ -226,21 +203,16 @@ impl<
         requires workers { AreWorkers (map L.link_state self.old.links.items) }
         requires free { (K.state self.old.locks).taken ≡ [] }
         requires plan { plan.now ≡ plan_of (request_of settings.now.request) }
-        requires order { IsOrder (request_of settings.now.request) settings.now.pg1_path.now order }
-        ensures did { let told = ⟦<Self as Told>⟧.told in
-            Did (asked_of settings.now) (told self.old) (told self.new) result }
-        ensures places { let told = ⟦<Self as Told>⟧.told in SamePlaces (told self.old) (told self.new) }
+        requires order { IsOrderFor settings.now order }
+        ensures did { OnTold ⟦<Self as Told>⟧.told (Did (asked_of settings.now)) self.old self.new result }
+        ensures places { Between ⟦<Self as Told>⟧.told SamePlaces self.old self.new }
         ensures released { (K.state self.new.locks).taken ≡ [] }
-        ensures took { let told = ⟦<Self as Told>⟧.told in
-            OnOk result (TakesAll (asked_of settings.now) (told self.old) (told self.new)) }
-        ensures only { let told = ⟦<Self as Told>⟧.told in
-            OnlyLocked (asked_of settings.now) (told self.old) (told self.new) }
+        ensures took { AtOk ⟦<Self as Told>⟧.told (TakesAll (asked_of settings.now)) self.old self.new result }
+        ensures only { Between ⟦<Self as Told>⟧.told (OnlyLocked (asked_of settings.now)) self.old self.new }
         ensures tree { plan.now.folder ≡ false → self.new.tree ≡ self.old.tree }
         ensures quiet { settings.now.server ≡ None → self.new.server ≡ self.old.server }
-        ensures alone { uses_workers (request_of settings.now.request) ≡ false
-            → (self.new.links ≡ self.old.links) × (self.new.turns ≡ self.old.turns) }
-        ensures waits { uses_spool (request_of settings.now.request) ≡ false
-            → (self.new.spool ≡ self.old.spool) × (self.new.aside ≡ self.old.aside) }
+        ensures alone { UsesNoWorkers (request_of settings.now.request) → KeepsWorkers self.old self.new }
+        ensures waits { UsesNoSpool (request_of settings.now.request) → KeepsSpool self.old self.new }
         ensures idle { plan.now.backup_lock ≡ false → plan.now.archive_lock ≡ false → self.new.locks ≡ self.old.locks }
         ensures rest { KeepsInAndOut self.old self.new }
     {
@@ -259,19 +231,14 @@ impl<
         ready: Ready,
     ) -> Result<Outcome, Fault>
         requires workers { AreWorkers (map L.link_state self.old.links.items) }
-        requires locked { AreHeld (plan_of (request_of settings.now.request)) settings.now.stanza.now
-            (K.state self.old.locks).taken }
-        requires order { IsOrder (request_of settings.now.request) settings.now.pg1_path.now order }
-        requires ready { IsReady (plan_of (request_of settings.now.request)) settings.now.stanza.now
-            (D.state self.old.repo).view.now (T.state self.old.tree).nodes ready }
-        ensures ran { let told = ⟦<Self as Told>⟧.told in
-            Ran (asked_of settings.now) (told self.old) (told self.new) result }
-        ensures tree { (plan_of (request_of settings.now.request)).folder ≡ false → self.new.tree ≡ self.old.tree }
+        requires locked { HoldsLocks settings.now (K.state self.old.locks).taken }
+        requires order { IsOrderFor settings.now order }
+        requires ready { IsReadyFor settings.now (⟦<Self as Told>⟧.told self.old) ready }
+        ensures ran { OnTold ⟦<Self as Told>⟧.told (Ran (asked_of settings.now)) self.old self.new result }
+        ensures tree { OpensNoFolder (request_of settings.now.request) → self.new.tree ≡ self.old.tree }
         ensures quiet { settings.now.server ≡ None → self.new.server ≡ self.old.server }
-        ensures alone { uses_workers (request_of settings.now.request) ≡ false
-            → (self.new.links ≡ self.old.links) × (self.new.turns ≡ self.old.turns) }
-        ensures waits { uses_spool (request_of settings.now.request) ≡ false
-            → (self.new.spool ≡ self.old.spool) × (self.new.aside ≡ self.old.aside) }
+        ensures alone { UsesNoWorkers (request_of settings.now.request) → KeepsWorkers self.old self.new }
+        ensures waits { UsesNoSpool (request_of settings.now.request) → KeepsSpool self.old self.new }
         ensures rest { KeepsLocked self.old self.new }
     {
         let outcome = self.dispatch(alloc, settings, order, ready)?;
@@ -294,21 +261,16 @@ impl<
         ready: Ready,
     ) -> Result<Outcome, Fault>
         requires workers { AreWorkers (map L.link_state self.old.links.items) }
-        requires locked { AreHeld (plan_of (request_of settings.now.request)) settings.now.stanza.now
-            (K.state self.old.locks).taken }
-        requires order { IsOrder (request_of settings.now.request) settings.now.pg1_path.now order }
-        requires ready { IsReady (plan_of (request_of settings.now.request)) settings.now.stanza.now
-            (D.state self.old.repo).view.now (T.state self.old.tree).nodes ready }
-        ensures ran { let told = ⟦<Self as Told>⟧.told in
-            Ran (alone (asked_of settings.now)) (told self.old) (told self.new) result }
+        requires locked { HoldsLocks settings.now (K.state self.old.locks).taken }
+        requires order { IsOrderFor settings.now order }
+        requires ready { IsReadyFor settings.now (⟦<Self as Told>⟧.told self.old) ready }
+        ensures ran { OnTold ⟦<Self as Told>⟧.told (Ran (alone (asked_of settings.now))) self.old self.new result }
         ensures least { OnBackup (request_of settings.now.request)
             ((C.state self.old.clock).least ≤ (C.state self.new.clock).least) }
-        ensures tree { (plan_of (request_of settings.now.request)).folder ≡ false → self.new.tree ≡ self.old.tree }
+        ensures tree { OpensNoFolder (request_of settings.now.request) → self.new.tree ≡ self.old.tree }
         ensures quiet { settings.now.server ≡ None → self.new.server ≡ self.old.server }
-        ensures alone { uses_workers (request_of settings.now.request) ≡ false
-            → (self.new.links ≡ self.old.links) × (self.new.turns ≡ self.old.turns) }
-        ensures waits { uses_spool (request_of settings.now.request) ≡ false
-            → (self.new.spool ≡ self.old.spool) × (self.new.aside ≡ self.old.aside) }
+        ensures alone { UsesNoWorkers (request_of settings.now.request) → KeepsWorkers self.old self.new }
+        ensures waits { UsesNoSpool (request_of settings.now.request) → KeepsSpool self.old self.new }
         ensures rest { KeepsLocked self.old self.new }
     {
         match order {
@@ -316,12 +278,15 @@ impl<
             Order::ArchivePush(order) => self.push(alloc, settings, order, &ready),
             Order::ArchivePushAsync => self.drain(alloc, settings, &ready),
             Order::ArchiveGet(order) => self.get(alloc, settings, &order, &ready),
+            Order::ArchiveGetThrough(order) => self.get_through(alloc, settings, &order, &ready),
+            Order::ArchiveGetAsync(order) => self.fetch(alloc, settings, &order, &ready),
             Order::Backup(order) => self.take(alloc, settings, order, ready),
             Order::BackupRunning(order) => self.take_running(alloc, settings, &order, ready),
             Order::Restore(order) => self.recover(alloc, settings, &order, &ready),
             Order::Info(form) => self.inform(alloc, settings, form, &ready),
             Order::Verify => self.examine(alloc, settings, &ready),
             Order::Expire(rules) => self.prune(alloc, settings, &rules, ready),
+            Order::Rehearse(order) => self.rehearse(alloc, settings, &order),
         }
     }
 }

@@ -14,7 +14,7 @@ use Rattle.pgb_stage.specs.Cluster.{control_bytes, version_bytes, FolderTells}
 use Rattle.pgb_stage.specs.Runs.{Manner, each, one, On}
 use Rattle.pgb_push.specs.WalPath.{wal_path, IsPathOf, IsLastElement, HasWal}
 use Rattle.pgb_push.specs.Commands.{IsPushOf}
-use Rattle.pgb_command.specs.Asked.{Request, create, push, leave, drain, get, backup, backup_running, restore, report, examine, expire, Asked}
+use Rattle.pgb_command.specs.Asked.{Request, create, push, leave, drain, get, get_through, fetch_ahead, backup, backup_running, restore, report, examine, expire, rehearse, Asked}
 use Rattle.pgb_command.specs.Tables.{Known, TurnsTold, IsCreateOf, manner_of}
 use Rattle.pgb_headline.specs.Acts.{IsOf}
 use Rattle.pgb_headline.proofs.Bounded.{Decided, SomeOrNone, same_text, either_of, both_of, some_below, some_name}
@@ -112,9 +112,12 @@ some_command a (push path) old new P told turns on = push_there a.data_folder pa
 some_command a (leave path how) old new P told turns on = on turns
 some_command a (drain place) old new P told turns on = on told
 some_command a (get name path) old new P told turns on = (Reading, refl, on Reading refl)
+some_command a (get_through name path how) old new P told turns on = (Reading, refl, on Reading refl)
+some_command a (fetch_ahead name how) old new P told turns on = (Reading, refl, on Reading refl)
 some_command a (backup how) old new P told turns on = on
 some_command a (backup_running how) old new P told turns on = on turns
 some_command a (restore set how) old new P told turns on = (Reading, refl, on Reading refl)
 some_command a (report form) old new P told turns on = (Reading, refl, on Reading refl)
 some_command a examine old new P told turns on = (Reading, refl, on Reading refl)
 some_command a (expire rules) old new P told turns on = on
+some_command a (rehearse how) old new P told turns on = on

@@ -9,7 +9,7 @@ use Rattle.pgb_model.specs.Text.{Text}
 use Rattle.pgb_story.specs.Story.{Disks, Call, stopped, Does, AreStill, AreFair, KeepsAll, LeaveAll}
 use Rattle.pgb_story.proofs.Kept.{all_keep, all_leave, all_still, all_rest, opened_keep}
 use Rattle.pgb_turn.specs.Turns.{Account}
-use Rattle.pgb_command.specs.Asked.{Request, create, push, leave, drain, get, backup, backup_running, restore, report, examine, expire, Asked}
+use Rattle.pgb_command.specs.Asked.{Request, create, push, leave, drain, get, get_through, fetch_ahead, backup, backup_running, restore, report, examine, expire, rehearse, Asked}
 use Rattle.pgb_command.specs.Tables.{Known, TurnsTold, uses_turns}
 use Rattle.pgb_headline.specs.declared.playing.Act.{Act}
 use Rattle.pgb_headline.specs.Lists.{IsLeft, CallGoes, AreOthersOf, HaveOthers, files_of, stanza_of}
@@ -88,12 +88,15 @@ turns_told a (push path) new stanza is told = tt
 turns_told a (leave path how) new stanza is told = told_of new.others.account stanza a.stanza (is refl) told
 turns_told a (drain place) new stanza is told = tt
 turns_told a (get name path) new stanza is told = tt
+turns_told a (get_through name path how) new stanza is told = tt
+turns_told a (fetch_ahead name how) new stanza is told = tt
 turns_told a (backup workers) new stanza is told = tt
 turns_told a (backup_running how) new stanza is told = told_of new.others.account stanza a.stanza (is refl) told
 turns_told a (restore set how) new stanza is told = tt
 turns_told a (report form) new stanza is told = tt
 turns_told a examine new stanza is told = tt
 turns_told a (expire rules) new stanza is told = tt
+turns_told a (rehearse how) new stanza is told = tt
 
 -- of the words as they were given too
 pub others_of : {W : Type 0} (text_of : List W → List Text) (given words : List W) → given ≡ words → (files : Option Content) (stanza : Text) → AreOthersOf (text_of words) files stanza → AreOthersOf (text_of given) files stanza

@@ -5,6 +5,7 @@ use Rattle.pgb_stage.specs.Texts.{shown, long_text}
 use Rattle.pgb_leave.specs.declared.fault.LeaveFault.{LeaveFault}
 use Rattle.pgb_leave.specs.declared.fault.LeaveFault.TheVariants.{SegmentMissing, TooLong, Reported, NotYet}
 
+-- the status of each refusal
 abbrev pub leave_status : LeaveFault → ℕ
 leave_status (SegmentMissing path) = 37
 leave_status (TooLong name limit) = 70

@@ -5,6 +5,7 @@ use Rattle.pgb_sample.specs.Folder.{file_count, segment_count}
 use Rattle.pgb_rehearse.specs.declared.counting.Amount.{Amount}
 use Rattle.pgb_rehearse.specs.declared.telling.Summary.{Summary}
 
+-- a number behind its word
 abbrev pub count_line : Text → ℕ → Text
 count_line word n = word ++ (codes " " ++ (decimal n ++ codes "\n"))
 

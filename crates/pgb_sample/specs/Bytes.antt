@@ -4,9 +4,11 @@ use Rattle.pgb_model.specs.Text.{Text}
 
 -- ---- paths
 
+-- the file of the server's version (PostgreSQL documentation, "Database File Layout")
 abbrev pub version_path : Text
 version_path = codes "PG_VERSION"
 
+-- the control file (PostgreSQL documentation, "Database File Layout")
 abbrev pub control_path : Text
 control_path = codes "global/pg_control"
 
@@ -16,6 +18,7 @@ relation_path i = codes "base/5/" ++ decimal (16384 + i)
 
 -- ---- bytes
 
+-- this many bytes 0
 unfoldable pub zeros : ℕ → Text
 zeros n = replicate n 0
 

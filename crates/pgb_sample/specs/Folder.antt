@@ -4,6 +4,7 @@ use Rattle.pgb_outside.specs.Content.{Content, put, lengthened}
 use Rattle.pgb_model.specs.Text.{Text}
 use Rattle.pgb_sample.specs.Bytes.{version_path, control_path, relation_path, relation_bytes, version_bytes, control_bytes, zeros}
 
+-- its folders, each behind that in which it lies
 unfoldable pub sample_folders : List Text
 sample_folders = codes "base" ∷ codes "base/5" ∷ codes "global" ∷ []
 

@@ -19,7 +19,7 @@ pub(crate) fn file(
     ))
 }
 
-fn folder(alloc: Global, path: &str) -> Result<(String, MemNode), AllocError> {
+pub(crate) fn folder(alloc: Global, path: &str) -> Result<(String, MemNode), AllocError> {
     Ok((String::from_str(alloc, path)?, MemNode::Folder))
 }
 

@@ -4,6 +4,8 @@
 #[cfg(test)]
 mod acts;
 #[cfg(test)]
+mod leaving;
+#[cfg(test)]
 mod running;
 #[cfg(test)]
 mod same;

@@ -40,21 +40,16 @@ fn is_version(word: &str) -> bool {
 fn help_on(alloc: Global, word: &str) -> Result<String, AllocError> {
     for verb in VERBS {
         if verb_word(verb) == word {
-            if let Some(purpose) = purpose_of(verb) {
-                return help_of(alloc, verb, purpose);
-            }
+            return help_of(alloc, verb);
         }
     }
     help(alloc)
 }
 
 // A command, and the options that it uses.
-fn help_of(alloc: Global, verb: Verb, purpose: &str) -> Result<String, AllocError> {
+fn help_of(alloc: Global, verb: Verb) -> Result<String, AllocError> {
     let mut text = String::from_str(alloc, VERSION)?;
-    text.push_str(&format!(in alloc; "\n{}{purpose}\n", verb_word(verb))?)?;
-    if !is_built(verb) {
-        text.push_str("It is not built yet.\n")?;
-    }
+    text.push_str(&format!(in alloc; "\n{}{}\n", verb_word(verb), purpose_of(verb))?)?;
     text.push_str("\nOptions:\n")?;
     for option in TABLE {
         let row = row_for(option);
@@ -70,9 +65,7 @@ fn help(alloc: Global) -> Result<String, AllocError> {
     let mut text = String::from_str(alloc, VERSION)?;
     text.push_str(USAGE)?;
     text.push_str("\nCommands:\n")?;
-    add_commands(alloc, &mut text, true)?;
-    text.push_str("\nCommands that are not built yet:\n")?;
-    add_commands(alloc, &mut text, false)?;
+    add_commands(alloc, &mut text)?;
     text.push_str("\nOptions:\n")?;
     for option in TABLE {
         if has_effect(option) {
@@ -90,51 +83,29 @@ fn help(alloc: Global) -> Result<String, AllocError> {
     Ok(text)
 }
 
-// The commands that are built, or the others, a line each.
-fn add_commands(alloc: Global, text: &mut String, built: bool) -> Result<(), AllocError> {
+// The commands, a line each.
+fn add_commands(alloc: Global, text: &mut String) -> Result<(), AllocError> {
     for verb in VERBS {
-        if let Some(purpose) = purpose_of(verb) {
-            if is_built(verb) == built {
-                text.push_str(&format!(in alloc; "  {}{}\n", verb_word(verb), purpose)?)?;
-            }
-        }
+        text.push_str(&format!(in alloc; "  {}{}\n", verb_word(verb), purpose_of(verb))?)?;
     }
     Ok(())
 }
 
-fn is_built(verb: Verb) -> bool {
-    matches!(
-        verb,
-        Verb::StanzaCreate
-            | Verb::ArchivePush
-            | Verb::ArchivePushAsync
-            | Verb::ArchiveGet
-            | Verb::Backup
-            | Verb::Restore
-            | Verb::Expire
-            | Verb::Verify
-            | Verb::Info
-    )
-}
-
 // The parameters of a command and what it does.
-fn purpose_of(verb: Verb) -> Option<&'static str> {
+fn purpose_of(verb: Verb) -> &'static str {
     match verb {
-        Verb::StanzaCreate => Some(": makes a stanza in the repository"),
-        Verb::ArchivePush => Some(
-            " PATH: stores a file of the write-ahead log, for archive_command",
-        ),
-        Verb::ArchiveGet => Some(
+        Verb::StanzaCreate => ": makes a stanza in the repository",
+        Verb::ArchivePush => " PATH: stores a file of the write-ahead log, for archive_command",
+        Verb::ArchiveGet =>
             " NAME PATH: fetches a file of the write-ahead log, for restore_command",
-        ),
-        Verb::Backup => Some(": makes a backup of a server, running or stopped"),
-        Verb::Expire => Some(": removes what the retention no longer keeps"),
-        Verb::Restore => Some(": makes the data folder of a backup, where it is empty"),
-        Verb::Verify => Some(": looks for damage in the repository"),
-        Verb::Info => Some(": tells which backups and segments there are"),
-        Verb::Rehearse => Some(": tries all of it on empty folders"),
-        Verb::ArchivePushAsync => Some(": stores the files of the write-ahead log that are ready"),
-        Verb::ArchiveGetAsync => None,
+        Verb::Backup => ": makes a backup of a server, running or stopped",
+        Verb::Expire => ": removes what the retention no longer keeps",
+        Verb::Restore => ": makes the data folder of a backup, where it is empty",
+        Verb::Verify => ": looks for damage in the repository",
+        Verb::Info => ": tells which backups and segments there are",
+        Verb::Rehearse => ": tries all of it on empty folders",
+        Verb::ArchivePushAsync => ": stores the files of the write-ahead log that are ready",
+        Verb::ArchiveGetAsync => " NAME: fetches the segments that follow one into the spool",
     }
 }
 
@@ -161,10 +132,8 @@ fn add_option(alloc: Global, text: &mut String, row: Row) -> Result<(), AllocErr
     if row.commands.len() < VERBS.len() {
         text.push_str("; for")?;
         for verb in row.commands {
-            if purpose_of(*verb).is_some() {
-                text.push_str(" ")?;
-                text.push_str(verb_word(*verb))?;
-            }
+            text.push_str(" ")?;
+            text.push_str(verb_word(*verb))?;
         }
     }
     text.push_str("\n")

@@ -29,8 +29,8 @@ const NO_MEMORY: u8 = 90;
 // By which the program is a worker.
 const LOCAL: &'static str = "local";
 
-// A command uses at most so many workers.
-const WORKERS: usize = 64;
+// A command uses at most so many workers: a rehearsal four times as many as another.
+const WORKERS: usize = 256;
 
 fn main(rt: HostRuntime) -> ExitCode {
     let words = match words(&rt) {
@@ -89,7 +89,7 @@ fn worker(rt: HostRuntime, program: &str) -> io::Result<RealLink> {
 
 // All workers that a command may use.
 fn workers(rt: HostRuntime, program: &str) -> io::Result<Vec<RealLink>>
-    ensures { IfOk result (λ links. length links.items ≤ 64) }
+    ensures { IfOk result (λ links. length links.items ≤ 256) }
 {
     let mut links = Vec::new(rt.alloc());
     for number in 0..WORKERS {

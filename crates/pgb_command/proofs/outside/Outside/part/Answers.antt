@@ -1,8 +1,17 @@
-use Rattle.std.proofs.Common.{ap}
-use Rattle.pgb_command.specs.Told.{asked_of}
+use Rattle.std.proofs.Common.{◌≡◌, ◌∙◌, Option, ap, subst}
+use Rattle.pgb_retain.specs.declared.rules.Rules.{Rules}
+use Rattle.pgb_command.specs.Asked.{behind_backup}
+use Rattle.pgb_command.specs.Told.{asked_of, request_of}
 use Rattle.pgb_command.proofs.Served.{kept_behind}
-use Rattle.pgb_command.proofs.Behinds.{behind_ran, ended_ran, refused_ran}
+use Rattle.pgb_command.proofs.Behinds.{behind_ran, ended_ran, held_backup, refused_ran}
 use Rattle.pgb_command.proofs.outside.Outside.part.Goals as goal
+
+pub follow-requires : goal.follow-requires
+follow-requires g c =
+    let s = c.args.settings.now in
+    let follows = subst (λ (rules : Option Rules). behind_backup (request_of s.request) rules ≡ rules) c.in-Some.is (kept_behind s.request s.expires s.followed) in
+    let held = held_backup (request_of s.request) c.in-Some.rules s.stanza.now (g.K.Locks.state c.args.self.now.locks).taken follows c.requires.locked in
+    record { locked = ap (λ o. (g.K.Locks.state o.locks).taken) c.dispatch.ensures.rest ∙ held }
 
 pub returns-in_err-outcome-clause-ran : goal.returns-in_err-outcome-clause-ran
 returns-in_err-outcome-clause-ran g c = let s = c.args.settings.now in

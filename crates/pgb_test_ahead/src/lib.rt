@@ -1,0 +1,17 @@
+//! Tests of segments that are fetched ahead, over devices in memory.
+#![tactic(auto)]
+
+#[cfg(test)]
+mod behind;
+#[cfg(test)]
+mod devices;
+#[cfg(test)]
+mod failing;
+#[cfg(test)]
+mod fetches;
+#[cfg(test)]
+mod orders;
+#[cfg(test)]
+mod same;
+#[cfg(test)]
+mod takes;

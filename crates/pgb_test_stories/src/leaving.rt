@@ -1,0 +1,79 @@
+// A file of the log that is left to a drain, which is stopped.
+use crate::acts::{act, file, folder, nodes, played, stop_at};
+use crate::same::{same, well};
+use pgb_headline::{Act, PlayFault};
+use pgb_memory::MemTree;
+use std::alloc::{AllocError, Global};
+use std::process::Abort;
+
+const CREATE: &str =
+    "--stanza=demo --pg1-path=pg --repo1-path=repo --lock-path=lock --no-online stanza-create";
+
+const DRAIN: &str =
+    "--stanza=demo --pg1-path=pg --repo1-path=repo --lock-path=lock --spool-path=spool archive-push:async";
+
+const LEAVE: &str =
+    "--stanza=demo --pg1-path=pg --repo1-path=repo --lock-path=lock --spool-path=spool --archive-async --archive-timeout=1 archive-push pg_wal/00000002.history";
+
+const STORED: &str = "archive/demo/16-1/00000002.history";
+
+// The data folder, with a file that is ready.
+fn tree(alloc: Global) -> Result<MemTree, AllocError> {
+    let mut nodes = nodes(alloc)?;
+    nodes.push(folder(alloc, "pg_wal/archive_status")?)?;
+    nodes.push(file(alloc, "pg_wal/archive_status/00000002.history.ready", b"")?)?;
+    MemTree::new(alloc, nodes, Vec::new(alloc)).or(Err(AllocError))
+}
+
+// A call on it, with its stop.
+fn call(alloc: Global, words: &str, stop: Option<u64>) -> Result<Act, PlayFault> {
+    let halt = match stop {
+        Some(moment) => Some(stop_at(alloc, moment)),
+        None => None,
+    };
+    let mut done = act(alloc, words, 1704164645, halt)?;
+    done.tree = tree(alloc).or(Err(PlayFault::NoMemory))?;
+    Ok(done)
+}
+
+// A drain that is stopped at this moment, a push that finds no receipt, a drain, and two pushes.
+fn acts_of(alloc: Global, moment: u64) -> Result<Vec<Act>, PlayFault> {
+    let mut acts = Vec::new(alloc);
+    let all = [
+        call(alloc, CREATE, None)?,
+        call(alloc, DRAIN, Some(moment))?,
+        call(alloc, LEAVE, None)?,
+        call(alloc, DRAIN, None)?,
+        call(alloc, LEAVE, None)?,
+        call(alloc, LEAVE, None)?,
+    ];
+    for done in all {
+        acts.push(done).or(Err(PlayFault::NoMemory))?;
+    }
+    Ok(acts)
+}
+
+// Only behind the receipt of a whole drain is the file archived, and a receipt serves once.
+fn check(rt: &impl Abort, alloc: Global, moment: u64) {
+    let acts = well(rt, acts_of(alloc, moment));
+    let (disks, statuses) = well(rt, played(alloc, acts));
+    same(rt, statuses.as_slice(), &[0, 0, 38, 0, 0, 38]);
+    same(rt, disks.repo.bytes(STORED), Some(b"hello".as_slice()));
+    same(
+        rt,
+        disks.spool.bytes("archive/demo/out/00000002.history.ok"),
+        None,
+    );
+}
+
+#[test]
+fn a_file_is_left_to_a_drain_that_stops(rt: HostRuntime) {
+    let alloc = rt.alloc();
+    let made = well(&rt, call(alloc, CREATE, None));
+    let mut acts = Vec::new(alloc);
+    well(&rt, acts.push(made));
+    let first = well(&rt, played(alloc, acts)).0.repo.moment();
+    for number in 0..4 {
+        check(&rt, alloc, first.saturating_add(number));
+    }
+}
