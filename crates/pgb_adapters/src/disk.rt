@@ -175,13 +175,24 @@ fn begin_in_folders(
     }
 }
 
-// A file of the log is synced alone. Those of a backup are many, and synced together: the file system then has one place for
-// the bytes of many.
-fn begin_file(place: &Place, handles: &mut Handles, name: &str) -> io::Result<()> {
+// Whether a file is synced alone, as one of the log is. Those of a backup are many, and synced together: the file system then
+// has one place for the bytes of many. A segment that is fetched ahead isn't synced at all, and mostly goes before it is
+// written.
+fn is_synced_alone(name: &str) -> bool {
     if name.starts_with("backup/") {
-        return handles.begin(place, name);
+        return false;
     }
-    handles.begin_to_sync(place, name)
+    match name.split('/').nth(2) {
+        Some(folder) => folder != "in",
+        None => true,
+    }
+}
+
+fn begin_file(place: &Place, handles: &mut Handles, name: &str) -> io::Result<()> {
+    if is_synced_alone(name) {
+        return handles.begin_to_sync(place, name);
+    }
+    handles.begin(place, name)
 }
 
 fn rename_into_folders(
