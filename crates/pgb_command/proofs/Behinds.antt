@@ -1,11 +1,11 @@
 -- What a backup did with the expiry that follows it, told of all objects.
-use Rattle.std.proofs.Common.{◌≡◌, ◌∷◌, List, Option, Some, None, Result, Ok, Err, IfErr, refl, sym, subst, ◌∙◌, arith, Bool, true, false}
+use Rattle.std.proofs.Common.{◌≡◌, ◌∷◌, List, Option, Some, None, Result, Ok, Err, IfErr, refl, sym, subst, ◌∙◌, Bool, true, false}
 use Rattle.std.specs.Prelude.{ℕ, ◌≤◌, [], take, String, string_bytes, IfSome, IsErrAnd, IsSomeAnd}
 use Rattle.std.specs.declared.alloc.Global.{Global}
 use Rattle.pgb_outside.specs.Content.{Content}
 use Rattle.pgb_outside.specs.Links.{LinkState}
 use Rattle.pgb_outside.specs.Moments.{View}
-use Rattle.pgb_outside.specs.States.{ClockState, WireState}
+use Rattle.pgb_outside.specs.States.{WireState}
 use Rattle.pgb_turn.specs.Turns.{Account, OthersState, Turned}
 use Rattle.pgb_await.specs.Went.{turns_of}
 use Rattle.pgb_model.specs.declared.labels.Kind.{Kind}
@@ -34,13 +34,11 @@ use Rattle.pgb_take_online.specs.Doing.{TakesTurns, IsOnlineBy}
 use Rattle.pgb_take_later.specs.declared.order.LaterOrder.{LaterOrder}
 use Rattle.pgb_take_online.specs.Taken.{TakesOnline, IsTakenOnline}
 use Rattle.pgb_take_online.proofs.Spools.{one_turns}
-use Rattle.pgb_retain.specs.declared.rules.FullRule.{FullRule}
-use Rattle.pgb_retain.specs.declared.rules.FullRule.TheVariants.{Unset, Count, Days}
 use Rattle.pgb_retain.specs.declared.rules.Rules.{Rules}
 use Rattle.pgb_expire.specs.Expiry.{retention}
 use Rattle.pgb_prune.specs.declared.fault.BehindFault.{BehindFault}
-use Rattle.pgb_prune.specs.Behind.{StaysSound, WasTold, Follows, BehindCause}
-use Rattle.pgb_prune.specs.Pruning.{IsMoment, TellsMoment}
+use Rattle.pgb_prune.specs.Behind.{StaysSound, Follows, BehindCause}
+use Rattle.pgb_prune.specs.Pruning.{IsMoment}
 use Rattle.pgb_command.specs.declared.fault.CommandFault.{CommandFault}
 use Rattle.pgb_command.specs.declared.fault.CommandFault.TheVariants as commands
 use Rattle.pgb_command.specs.declared.fault.Fault.{Fault}
@@ -49,6 +47,7 @@ use Rattle.pgb_command.specs.Answers.{reached_of, ending_of, is_early}
 use Rattle.pgb_command.specs.Asked.{Request, create, push, leave, drain, get, get_through, fetch_ahead, backup, backup_running, restore, report, examine, expire, rehearse, BackupHow, RunningHow, Asked, behind_backup, alone}
 use Rattle.pgb_command.specs.Tables.{Known, known, plan_of, manner_of, ByOrder, OnCluster, TurnsTold, TellsLabel, IsRunningOf, heard_by, AsksBackup, WithExpiry, FolderGoes, OthersGo, CommandCause, OnBackup}
 use Rattle.pgb_command.specs.Did.{SamePlaces, Closes, OwnCause, Spares, Ran, Followed}
+use Rattle.pgb_command.proofs.Expiries.{earlier_moment, told_moment}
 use Rattle.pgb_command.proofs.Dids.{later_on}
 use Rattle.pgb_command.proofs.Ends.{expiry_as}
 use Rattle.pgb_command.proofs.Followings.{MakesBackup, stopped_steps, followed_steps, told_sound}
@@ -57,19 +56,6 @@ use Rattle.pgb_command.proofs.Rans.{all_none, any_some}
 -- the same, for this and with these rules
 abbrev pub asking : Asked → Request → Option Rules → Asked
 asking a q rules = record a { request = q; expires = rules }
-
--- ---- by which moment
-
--- what may be the moment may be it where the clock may tell less
-earlier_moment : (rule : FullRule) (first least moment : ℕ) → first ≤ least → IsMoment rule least moment → IsMoment rule first moment
-earlier_moment Unset first least moment le h = h
-earlier_moment (Count n) first least moment le h = h
-earlier_moment (Days n) first least moment le h = omega (arith, le, h)
-
-pub told_moment : (rule : FullRule) (old new : ClockState) (moment : ℕ) → TellsMoment rule old new moment → WasTold rule new moment
-told_moment Unset old new moment h = h
-told_moment (Count n) old new moment h = h
-told_moment (Days n) old new moment h = (h.in_range, h.least)
 
 -- ---- what it did
 

@@ -1,8 +1,9 @@
--- What an expiry is where nothing was done, and what it promises.
-use Rattle.std.proofs.Common.{Option, Some, Result, Ok, Err, IfOk, refl, sym, subst}
-use Rattle.std.specs.Prelude.{ℕ, IsSome, OnOk}
+-- By which moment an expiry goes, what it is where nothing was done, and what it promises.
+use Rattle.std.proofs.Common.{arith, Option, Some, Result, Ok, Err, IfOk, refl, sym, subst}
+use Rattle.std.specs.Prelude.{ℕ, ◌≤◌, IsSome, OnOk}
 use Rattle.pgb_outside.specs.Content.{Content}
 use Rattle.pgb_outside.specs.Moments.{View}
+use Rattle.pgb_outside.specs.States.{ClockState}
 use Rattle.pgb_disk.proofs.Changes.{only_rests, only_on}
 use Rattle.pgb_model.specs.Now.{NowStands}
 use Rattle.pgb_model.specs.Steps.{Command, Expire}
@@ -11,13 +12,29 @@ use Rattle.pgb_archive.specs.Still.{IsStill}
 use Rattle.pgb_stage.specs.declared.halt.Halt.{Halt}
 use Rattle.pgb_stage.specs.declared.outcome.Outcome.{Outcome}
 use Rattle.pgb_stage.specs.Reached.{OnFinished}
+use Rattle.pgb_retain.specs.declared.rules.FullRule.{FullRule}
+use Rattle.pgb_retain.specs.declared.rules.FullRule.TheVariants.{Unset, Count, Days}
 use Rattle.pgb_retain.specs.declared.rules.Rules.{Rules}
 use Rattle.pgb_expire.specs.Expiry.{IsTouched, retention}
 use Rattle.pgb_expire.specs.Losing.{MayExpire}
 use Rattle.pgb_prune.specs.declared.fault.PruneFault.{PruneFault}
-use Rattle.pgb_prune.specs.Pruning.{TellsMoment, IsExpiryBy, IsPruned}
+use Rattle.pgb_prune.specs.Behind.{WasTold}
+use Rattle.pgb_prune.specs.Pruning.{IsMoment, TellsMoment, IsExpiryBy, IsPruned}
 use Rattle.pgb_prune.proofs.Prunings.{some_moment}
 use Rattle.pgb_command.specs.Tables.{Expires, Removes, Known}
+
+-- ---- by which moment
+
+-- what may be the moment may be it where the clock may tell less
+pub earlier_moment : (rule : FullRule) (first least moment : ℕ) → first ≤ least → IsMoment rule least moment → IsMoment rule first moment
+earlier_moment Unset first least moment le h = h
+earlier_moment (Count n) first least moment le h = h
+earlier_moment (Days n) first least moment le h = omega (arith, le, h)
+
+pub told_moment : (rule : FullRule) (old new : ClockState) (moment : ℕ) → TellsMoment rule old new moment → WasTold rule new moment
+told_moment Unset old new moment h = h
+told_moment (Count n) old new moment h = h
+told_moment (Days n) old new moment h = (h.in_range, h.least)
 
 -- ---- nothing was done
 
